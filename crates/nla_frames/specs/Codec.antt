@@ -1,0 +1,27 @@
+-- What it is to read and write a thing: the meaning of its type, and the two laws that make the one the inverse
+-- of the other. `W` is what it is read from, a frame or bytes; `X` is what is read.
+use Rattle.std.specs.Prelude.{◌≡◌, ℕ, List, Ok, ◌↔◌}
+use Rattle.nla_frames.specs.Fault.{Outcome}
+
+pub record Codec (W X : Type 0) : Type 1 where
+  -- what is read under a kind
+  pub read : List ℕ → W → Outcome X
+  pub write : X → W
+  -- numbers lie in their types and texts are UTF-8, as of any value in hand
+  pub Typed : X → Type 0
+  -- it can be written
+  pub Fits : X → Type 0
+  -- it reads back under a kind as itself
+  pub Settled : List ℕ → X → Type 0
+
+pub record Laws {W X : Type 0} (IsWire : W → Type 0) (codec : Codec W X) (Canon : List ℕ → W → Type 0) : Type 0 where
+  -- what fits is written as something that can be read
+  pub makes : (x : X) → codec.Typed x → codec.Fits x → IsWire (codec.write x)
+  -- what is read is typed
+  pub typed : (kind : List ℕ) (w : W) (x : X) → IsWire w → codec.read kind w ≡ Ok x → codec.Typed x
+  -- what is written reads back as itself exactly if it is settled
+  pub back : (kind : List ℕ) (x : X) → codec.Typed x → codec.Fits x → (codec.read kind (codec.write x) ≡ Ok x) ↔ codec.Settled kind x
+  -- what is read and fits is written as it was exactly if it was canonical
+  pub same : (kind : List ℕ) (w : W) (x : X) → IsWire w → codec.read kind w ≡ Ok x → codec.Fits x → (codec.write x ≡ w) ↔ Canon kind w
+  -- what is canonical is read, as something that fits
+  pub reads : (kind : List ℕ) (w : W) → IsWire w → Canon kind w → (x : X) × (codec.read kind w ≡ Ok x) × codec.Fits x

@@ -1,0 +1,21 @@
+-- The bytes of a list of values, and when they can be written.
+use Rattle.std.specs.Prelude.{◌≡◌, ℕ, ◌≤◌, ◌<◌, ◌^◌, List, ◌++◌, length, drop}
+use Rattle.std.specs.List.{flat_map, AllByRecursion}
+use Rattle.nla_frames.specs.Frame.{Frame, frame_bytes}
+
+-- the frames of the values, one after the other
+unfoldable pub list_bytes : {X : Type 0} → (X → Frame) → List X → List ℕ
+list_bytes frame xs = flat_map (λ x. frame_bytes (frame x)) xs
+
+-- each value fits, and their bytes can be counted
+pub record ListFits {X : Type 0} (Fits : X → Type 0) (frame : X → Frame) (xs : List X) : Type 0 where
+  pub each : AllByRecursion Fits xs
+  pub whole : length (list_bytes frame xs) < 2 ^ 64
+
+-- these bytes stand at the front, and the rest is as it was
+abbrev pub Writes : List ℕ → List ℕ → List ℕ → Type 0
+Writes bytes old new = new ≡ bytes ++ drop (length bytes) old
+
+-- the bytes have room
+abbrev pub HasRoom : List ℕ → List ℕ → Type 0
+HasRoom bytes buffer = length bytes ≤ length buffer

@@ -1,0 +1,45 @@
+-- Refusals, and what a call that may want memory says of its answer.
+use Rattle.std.specs.Prelude.{◌≡◌, ℕ, List, Result, Ok, Err, codes}
+use Rattle.nla_frames.specs.declared.error.DecodeError.{DecodeError}
+use Rattle.nla_frames.specs.declared.error.DecodeError.TheVariants.{BufferTooSmall, FrameHeaderShort, FrameTooLong, FrameTooShort, WrongLength, NotUtf8, SelectorShort, XstatsShort, MissingKind, DuplicateKind, OutOfMemory}
+
+-- the name of a refusal
+abbrev pub name_of : DecodeError → List ℕ
+name_of (BufferTooSmall len needed) = codes "BufferTooSmall"
+name_of (FrameHeaderShort left) = codes "FrameHeaderShort"
+name_of (FrameTooLong length left) = codes "FrameTooLong"
+name_of (FrameTooShort length) = codes "FrameTooShort"
+name_of (WrongLength expected got) = codes "WrongLength"
+name_of NotUtf8 = codes "NotUtf8"
+name_of (SelectorShort len needed) = codes "SelectorShort"
+name_of (XstatsShort len) = codes "XstatsShort"
+name_of MissingKind = codes "MissingKind"
+name_of DuplicateKind = codes "DuplicateKind"
+name_of OutOfMemory = codes "OutOfMemory"
+
+-- what is read of bytes: a value, or the first fault
+abbrev pub Outcome : Type 0 → Type 0
+Outcome X = Result X DecodeError
+
+abbrev pub read_as : {X : Type 0} → X → Outcome X
+read_as x = Ok x
+
+abbrev pub refused : {X : Type 0} → DecodeError → Outcome X
+refused e = Err e
+
+-- the answer is this outcome, unless memory ran out
+abbrev pub Gives : {X : Type 0} → Outcome X → Outcome X → Type 0
+Gives (Ok x) outcome = outcome ≡ Ok x
+Gives (Err OutOfMemory) outcome = Unit {0}
+Gives (Err e) outcome = outcome ≡ Err e
+
+-- an answer, its value seen by a function
+abbrev pub seen : {X Y : Type 0} → (X → Y) → Outcome X → Outcome Y
+seen see (Ok x) = Ok (see x)
+seen see (Err e) = Err e
+
+infixl 10 ◌>>=◌
+-- the second reading begins where the first succeeded
+abbrev pub ◌>>=◌ : {X Y : Type 0} → Outcome X → (X → Outcome Y) → Outcome Y
+(Ok x) >>= next = next x
+(Err e) >>= next = Err e

@@ -1,0 +1,47 @@
+-- Lists of frames, as a grammar on whole texts.
+use Rattle.std.specs.Prelude.{◌≡◌, ℕ, ◌≤◌, ◌<◌, List, [], ◌∷◌, ◌++◌, length, take, Option, Some, None}
+use Rattle.nla_frames.specs.declared.error.DecodeError.{DecodeError}
+use Rattle.nla_frames.specs.declared.error.DecodeError.TheVariants.{FrameHeaderShort, FrameTooLong, FrameTooShort}
+use Rattle.nla_frames.specs.Value.{le_value}
+use Rattle.nla_frames.specs.Frame.{Frame, IsFrame, header, padding}
+
+-- a frame, its padding of any content in full, and what comes after
+pub record Begins (bytes : List ℕ) (f : Frame) (after : List ℕ) : Type 0 where
+  pub frame : IsFrame f
+  pub pad : List ℕ
+  pub full : length pad ≡ padding (length f.value)
+  pub parts : bytes ≡ header (length f.value) f.word ++ (f.value ++ (pad ++ after))
+
+-- the last frame, with any beginning of its padding
+pub record Ends (bytes : List ℕ) (f : Frame) : Type 0 where
+  pub frame : IsFrame f
+  pub pad : List ℕ
+  pub short : length pad ≤ padding (length f.value)
+  pub parts : bytes ≡ header (length f.value) f.word ++ (f.value ++ pad)
+
+-- the bytes are these frames
+abbrev pub Frames : List ℕ → List Frame → Type 0
+Frames bytes [] = bytes ≡ []
+Frames bytes (f ∷ []) = Ends bytes f
+Frames bytes (f ∷ g ∷ fs) = (after : List ℕ) × Begins bytes f after × Frames after (g ∷ fs)
+
+-- the bytes are these frames, each padded in full, and a rest
+abbrev pub Cut : List ℕ → List Frame → List ℕ → Type 0
+Cut bytes [] rest = bytes ≡ rest
+Cut bytes (f ∷ fs) rest = (after : List ℕ) × Begins bytes f after × Cut after fs rest
+
+-- the length that stands in front of a frame
+abbrev pub length_at : List ℕ → ℕ
+length_at rest = le_value (take 2 rest)
+
+-- at the front of the rest, where bytes are left, a frame is broken in this way
+abbrev pub Broken : List ℕ → DecodeError → Type 0
+Broken rest (FrameHeaderShort left) = (left ≡ length rest) × (0 < left) × (left < 4)
+Broken rest (FrameTooLong long left) = (left ≡ length rest) × (4 ≤ left) × (long ≡ length_at rest) × (left < long)
+Broken rest (FrameTooShort long) = (4 ≤ length rest) × (long ≡ length_at rest) × (long ≤ length rest) × (long < 4)
+Broken rest _ = ⊥
+
+-- the bytes are these frames, or these frames and a broken one
+abbrev pub CutsUp : List ℕ → List Frame → Option DecodeError → Type 0
+CutsUp bytes fs None = Frames bytes fs
+CutsUp bytes fs (Some e) = (rest : List ℕ) × Cut bytes fs rest × Broken rest e

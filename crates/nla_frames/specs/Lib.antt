@@ -1,0 +1,10 @@
+pub mod Fault
+pub mod Value
+pub mod Frame
+pub mod Grammar
+pub mod Cutting
+pub mod Place
+pub mod Reading
+pub mod ListGrammar
+pub mod Emission
+pub mod Codec

@@ -1,0 +1,49 @@
+-- What a list of frames reads as, and its first fault, in the words of the grammar: each frame is read under
+-- the kind in force at its place. `list_grammar` in src/laws.rt says that `read_list` is this.
+use Rattle.std.specs.Prelude.{◌≡◌, ℕ, ◌⊎◌, List, length, take, slice_get, Some, Result, Ok, Err, ◌↔◌}
+use Rattle.nla_frames.specs.declared.error.DecodeError.{DecodeError}
+use Rattle.nla_frames.specs.Frame.{Frame}
+use Rattle.nla_frames.specs.Grammar.{Begins, Ends, Frames, Cut, Broken}
+use Rattle.nla_frames.specs.Place.{Sets, InForce}
+use Rattle.nla_frames.specs.Reading.{Reads}
+
+-- at its place, the frame reads as this element
+pub record ReadsAt {X : Type 0} (reads : Reads X) (sets : Sets Frame) (first : List ℕ) (before : List Frame) (f : Frame) (x : X) : Type 0 where
+  pub kind : List ℕ
+  pub in_force : InForce sets first before kind
+  pub is_read : reads kind f ≡ Ok x
+
+-- each frame reads as the element at its place
+pub record ReadEach {X : Type 0} (reads : Reads X) (sets : Sets Frame) (first : List ℕ) (fs : List Frame) (xs : List X) : Type 0 where
+  pub as_many : length xs ≡ length fs
+  pub each : (i : ℕ) (f : Frame) (x : X) → slice_get fs i ≡ Some f → slice_get xs i ≡ Some x → ReadsAt reads sets first (take i fs) f x
+
+-- the bytes are frames, and these are their readings
+abbrev pub ListReads : {X : Type 0} → Reads X → Sets Frame → List ℕ → List ℕ → List X → Type 0
+ListReads reads sets first bytes xs = (fs : List Frame) × Frames bytes fs × ReadEach reads sets first fs xs
+
+-- a frame stands at the front: the last one, or one with others after it
+abbrev pub StartsWith : List ℕ → Frame → Type 0
+StartsWith bytes f = Ends bytes f ⊎ ((after : List ℕ) × Begins bytes f after)
+
+-- the frame at the front has this fault
+pub record FaultyFrame {X : Type 0} (reads : Reads X) (sets : Sets Frame) (first : List ℕ) (before : List Frame) (rest : List ℕ) (e : DecodeError) : Type 0 where
+  pub frame : Frame
+  pub kind : List ℕ
+  pub starts : StartsWith rest frame
+  pub in_force : InForce sets first before kind
+  pub is_refused : reads kind frame ≡ Err e
+
+-- frames that are read, and after them a broken frame or one that has the fault
+pub record ListFault {X : Type 0} (reads : Reads X) (sets : Sets Frame) (first : List ℕ) (bytes : List ℕ) (e : DecodeError) : Type 0 where
+  pub frames : List Frame
+  pub rest : List ℕ
+  pub values : List X
+  pub cut : Cut bytes frames rest
+  pub are_read : ReadEach reads sets first frames values
+  pub fault : Broken rest e ⊎ FaultyFrame reads sets first frames rest e
+
+-- the list has one reading and no fault, or no reading and one fault
+pub record OneOutcome {X : Type 0} (reads : Reads X) (sets : Sets Frame) (first : List ℕ) (bytes : List ℕ) (outcome : Result (List X) DecodeError) : Type 0 where
+  pub reading : (xs : List X) → (outcome ≡ Ok xs) ↔ ListReads reads sets first bytes xs
+  pub fault : (e : DecodeError) → (outcome ≡ Err e) ↔ ListFault reads sets first bytes e

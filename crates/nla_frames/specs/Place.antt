@@ -1,0 +1,16 @@
+-- The kind in force at a place of a list: a text that an earlier element set.
+use Rattle.std.specs.Prelude.{◌≡◌, ℕ, List, ◌∷◌, ◌++◌, Option, Some, None, unwrap_or}
+use Rattle.std.specs.List.{AllByRecursion}
+
+-- what an element does to the kind: it sets a text, or leaves the kind as it stands
+abbrev pub Sets : Type 0 → Type 0
+Sets X = X → Option (List ℕ)
+
+-- the kind after an element
+abbrev pub kind_then : {X : Type 0} → Sets X → List ℕ → X → List ℕ
+kind_then sets kind x = unwrap_or (sets x) kind
+
+-- the kind after some elements is the text set last, or the first kind where none sets one
+pub data InForce {X : Type 0} (sets : Sets X) (first : List ℕ) : List X → List ℕ → Type 0 where
+  none_set : (before : List X) → AllByRecursion (λ x. sets x ≡ None) before → InForce sets first before first
+  set_last : (front : List X) (x : X) (after : List X) (kind : List ℕ) → sets x ≡ Some kind → AllByRecursion (λ y. sets y ≡ None) after → InForce sets first (front ++ x ∷ after) kind

@@ -1,0 +1,97 @@
+//! Why bytes were refused.
+
+ghost use Rattle.std.specs.Prelude.{◌≡◌};
+ghost use Rattle.nla_frames.specs.declared.error.DecodeError.TheVariants.{OutOfMemory};
+
+use std::alloc::{AllocError, AllocFailed};
+use thiserror::Error;
+
+/// What a parser answers.
+pub type Res<T> = Result<T, DecodeError>;
+
+/// Why bytes can't be read: the first fault from left to right. All numbers count bytes.
+#[derive(Debug, Drop, PartialEq, Eq, Error)]
+pub enum DecodeError {
+    /// A header or fixed record is short.
+    #[error("buffer of {len} bytes, {needed} needed")]
+    BufferTooSmall { len: usize, needed: usize },
+
+    /// One to three bytes are left where a frame should begin.
+    #[error("frame header of {left} bytes")]
+    FrameHeaderShort { left: usize },
+
+    /// A frame's length exceeds what is left.
+    #[error("frame of {length} bytes, {left} left")]
+    FrameTooLong { length: usize, left: usize },
+
+    /// A frame's length doesn't cover its own header.
+    #[error("frame length {length} under 4")]
+    FrameTooShort { length: usize },
+
+    /// A value hasn't the exact width of its type.
+    #[error("value of {got} bytes, {expected} expected")]
+    WrongLength { expected: usize, got: usize },
+
+    /// A text isn't UTF-8.
+    #[error("text is not UTF-8")]
+    NotUtf8,
+
+    /// A u32 selector is shorter than its head, or than the keys that it counts.
+    #[error("selector of {len} bytes, {needed} needed")]
+    SelectorShort { len: usize, needed: usize },
+
+    /// Statistics of fq_codel don't even name their kind.
+    #[error("statistics of {len} bytes, 4 needed")]
+    XstatsShort { len: usize },
+
+    /// An action has no `Kind`.
+    #[error("action without kind")]
+    MissingKind,
+
+    /// An action has two or more.
+    #[error("action with several kinds")]
+    DuplicateKind,
+
+    /// A growth was refused.
+    #[error("out of memory")]
+    OutOfMemory,
+}
+
+impl From<AllocError> for DecodeError {
+    ghost from_gives = { λ _ e. e ≡ OutOfMemory };
+
+    fn from(_e: AllocError) -> DecodeError {
+        DecodeError::OutOfMemory
+    }
+}
+
+impl<T: Drop> From<AllocFailed<T>> for DecodeError {
+    ghost from_gives = { λ _ e. e ≡ OutOfMemory };
+
+    fn from(_e: AllocFailed<T>) -> DecodeError {
+        DecodeError::OutOfMemory
+    }
+}
+
+impl DecodeError {
+    ghost use Rattle.nla_frames.specs.Fault.{name_of};
+
+    /// The variant's name, as in the source.
+    pub fn name(&self) -> &'static str
+        ensures { result.now ≡ name_of self.now }
+    {
+        match self {
+            DecodeError::BufferTooSmall { .. } => "BufferTooSmall",
+            DecodeError::FrameHeaderShort { .. } => "FrameHeaderShort",
+            DecodeError::FrameTooLong { .. } => "FrameTooLong",
+            DecodeError::FrameTooShort { .. } => "FrameTooShort",
+            DecodeError::WrongLength { .. } => "WrongLength",
+            DecodeError::NotUtf8 => "NotUtf8",
+            DecodeError::SelectorShort { .. } => "SelectorShort",
+            DecodeError::XstatsShort { .. } => "XstatsShort",
+            DecodeError::MissingKind => "MissingKind",
+            DecodeError::DuplicateKind => "DuplicateKind",
+            DecodeError::OutOfMemory => "OutOfMemory",
+        }
+    }
+}
