@@ -3,6 +3,8 @@ pub mod Value
 pub mod Frame
 pub mod Grammar
 pub mod Cutting
+pub mod Buffer
+pub mod Iterator
 pub mod Place
 pub mod Reading
 pub mod ListGrammar

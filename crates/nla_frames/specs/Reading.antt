@@ -1,5 +1,5 @@
 -- Reading a list of frames, each under the kind in force at its place, as a function of what is cut.
-use Rattle.std.specs.Prelude.{ℕ, List, [], ◌∷◌, ◌++◌, None, Ok, Err}
+use Rattle.std.specs.Prelude.{map, ℕ, List, [], ◌∷◌, ◌++◌, None, Ok, Err}
 use Rattle.nla_frames.specs.Fault.{Outcome, ◌>>=◌}
 use Rattle.nla_frames.specs.Frame.{Frame}
 use Rattle.nla_frames.specs.Cutting.{cut, items_of}
@@ -26,3 +26,7 @@ read_list reads sets kind bytes = read_each reads sets kind (items_of (cut bytes
 -- nothing sets a kind
 abbrev pub keep : {X : Type 0} → Sets X
 keep x = None
+
+-- items none of which is a fault
+abbrev pub whole : List Frame → List (Outcome Frame)
+whole fs = map Ok fs

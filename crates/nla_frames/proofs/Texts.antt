@@ -1,0 +1,19 @@
+-- The test of a text against what std's test of UTF-8 says.
+use Rattle.std.proofs.Common.{◌≡◌, ℕ, List, Bool, true, false, Ok, Err, refl, cond}
+use Rattle.std.specs.Str.{IsUtf8, is_utf8}
+use Rattle.std.proofs.lemmas.Str.{IsUtf8-from_is_utf8, is_utf8-from_IsUtf8}
+use Rattle.nla_frames.specs.declared.error.DecodeError.TheVariants.{NotUtf8}
+use Rattle.nla_frames.specs.Fault.{Outcome, read_as, refused}
+use Rattle.nla_frames.specs.Value.{strip, text}
+
+-- the bytes before the NUL are UTF-8
+pub text-ok : (value front : List ℕ) → front ≡ strip value → IsUtf8 front → text value ≡ read_as front
+text-ok value front is_front is_text = rw (← is_front, is_utf8-from_IsUtf8 front is_text) refl
+
+-- they are not
+pub text-err : (value front : List ℕ) → front ≡ strip value → (IsUtf8 front → ⊥) → text value ≡ refused NotUtf8
+text-err value front is_front not = rw (← is_front) (go (is_utf8 front) refl)
+  where
+    go : (b : Bool) → is_utf8 front ≡ b → cond b (read_as front) (refused NotUtf8) ≡ refused NotUtf8
+    go true e = absurd (not (IsUtf8-from_is_utf8 front e))
+    go false e = refl

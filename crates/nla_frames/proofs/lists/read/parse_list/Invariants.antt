@@ -1,0 +1,8 @@
+use Rattle.std.proofs.Common.{◌≡◌, [], map}
+use Rattle.nla_frames.specs.Iterator.{items_left}
+use Rattle.nla_frames.specs.Reading.{before, read_each, read_list, keep}
+use Rattle.nla_frames.proofs.lists.read.parse_list.Given as goal
+
+abbrev pub invariant-loop-frame : goal.invariant-loop-frame
+invariant-loop-frame g l =
+    before (map g.T.FrameMeaning.see l.list.items) (read_each g.T.FrameMeaning.reads keep [] (items_left l.frame-iterator)) ≡ read_list g.T.FrameMeaning.reads keep [] l.bytes

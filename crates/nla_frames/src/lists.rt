@@ -1,0 +1,3 @@
+//! Lists of frames.
+
+pub mod read;

@@ -1,0 +1,3 @@
+//! Plain values: numbers, texts and addresses.
+
+pub mod read;
