@@ -1,7 +1,12 @@
 -- What it is to read and write a thing: the meaning of its type, and the two laws that make the one the inverse
 -- of the other. `W` is what it is read from, a frame or bytes; `X` is what is read.
-use Rattle.std.specs.Prelude.{◌≡◌, ℕ, List, Ok, ◌↔◌}
+use Rattle.std.specs.Prelude.{◌≡◌, ℕ, List, [], ◌∷◌, Ok, ◌↔◌}
+use Rattle.std.specs.List.{AllByRecursion}
 use Rattle.nla_frames.specs.Fault.{Outcome}
+use Rattle.nla_frames.specs.Frame.{Frame}
+use Rattle.nla_frames.specs.Place.{Sets, kind_then}
+use Rattle.nla_frames.specs.Reading.{read_list}
+use Rattle.nla_frames.specs.Emission.{list_bytes, ListFits}
 
 pub record Codec (W X : Type 0) : Type 1 where
   -- what is read under a kind
@@ -25,3 +30,18 @@ pub record Laws {W X : Type 0} (IsWire : W → Type 0) (codec : Codec W X) (Cano
   pub same : (kind : List ℕ) (w : W) (x : X) → IsWire w → codec.read kind w ≡ Ok x → codec.Fits x → (codec.write x ≡ w) ↔ Canon kind w
   -- what is canonical is read, as something that fits
   pub reads : (kind : List ℕ) (w : W) → IsWire w → Canon kind w → (x : X) × (codec.read kind w ≡ Ok x) × codec.Fits x
+
+-- each value is settled under the kind in force at its place
+abbrev pub SettledEach : {X : Type 0} → (List ℕ → X → Type 0) → Sets X → List ℕ → List X → Type 0
+SettledEach Settled sets kind [] = Unit {0}
+SettledEach Settled sets kind (x ∷ xs) = Settled kind x × SettledEach Settled sets (kind_then sets kind x) xs
+
+-- a list of frames, where frames and the values that they read as may set the kind for those after them
+abbrev pub list_codec : {X : Type 0} → Sets Frame → Sets X → Codec Frame X → Codec (List ℕ) (List X)
+list_codec by_frame by_value c = record {
+  read = λ kind bytes. read_list c.read by_frame kind bytes;
+  write = list_bytes c.write;
+  Typed = AllByRecursion c.Typed;
+  Fits = ListFits c.Fits c.write;
+  Settled = SettledEach c.Settled by_value;
+}

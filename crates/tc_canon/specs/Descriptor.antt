@@ -1,0 +1,73 @@
+-- The language of the tables: what stands in a frame's value, by the frame's type and the kind in force.
+use Rattle.std.specs.Prelude.{ℕ, ◌+◌, Bool, true, false, List, [], ◌∷◌, ◌&&◌, nat_le, if◌then◌else◌}
+use Rattle.std.specs.Str.{bytes_eq}
+
+-- a field of a fixed record; its place is the sum of the widths before it
+pub data Field : Type 0 where
+  -- a number of so many bytes, low byte first, and high byte first
+  little : ℕ → Field
+  big : ℕ → Field
+  -- a number, low byte first, of which these have names
+  named : ℕ → List ℕ → Field
+  -- so many bytes
+  octets : ℕ → Field
+  -- so many bytes of padding
+  pad : ℕ → Field
+
+mutual
+  -- what a value is
+  pub data Class : Type 0 where
+    -- a number of so many bytes, low byte first
+    le : ℕ → Class
+    -- a text, written with one NUL
+    text : Class
+    -- frames, each by a table under the kind in force
+    list_of : Table → Class
+
+  -- what a frame is
+  pub data Table : Type 0 where
+    -- by its type
+    table : Rows → Table
+    -- by the kind in force
+    by_kind : Kinds → Table
+
+  -- a table's rows, the first that fits counts
+  pub data Rows : Type 0 where
+    -- every other type is kept as it stands
+    others : Rows
+    -- types from one to another, the flags of their written words, their class
+    types : ℕ → ℕ → ℕ → Class → Rows → Rows
+    -- a message's options: a list under a known kind, kept as it stands under any other
+    options : ℕ → Kinds → Rows → Rows
+
+  -- the known kinds
+  pub data Kinds : Type 0 where
+    unknown : Kinds
+    kind : List ℕ → Rows → Kinds → Kinds
+
+-- the type is one of these
+abbrev pub is_within : ℕ → ℕ → ℕ → Bool
+is_within first last n = nat_le first n && nat_le n last
+
+-- the kind has a table
+abbrev pub is_known : Kinds → List ℕ → Bool
+is_known unknown k = false
+is_known (kind name rows kinds) k = if bytes_eq k name then true else is_known kinds k
+
+infixr 30 ◌▹◌
+
+-- rows one below the other
+abbrev pub ◌▹◌ : (Rows → Rows) → Rows → Rows
+row ▹ rows = row rows
+
+-- one type, written as it is
+abbrev pub at : ℕ → Class → Rows → Rows
+at n class rows = types n n 0 class rows
+
+-- a run of types, each written as it is
+abbrev pub from : ℕ → ℕ → Class → Rows → Rows
+from first last class rows = types first last 0 class rows
+
+-- one type, written with the nested flag
+abbrev pub nested : ℕ → Class → Rows → Rows
+nested n class rows = types n n 0x8000 class rows

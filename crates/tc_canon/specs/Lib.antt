@@ -1,0 +1,3 @@
+pub mod Descriptor
+pub mod Layouts
+pub mod Tables

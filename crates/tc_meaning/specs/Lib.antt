@@ -1,0 +1,5 @@
+pub mod Tree
+pub mod Layout
+pub mod Content
+pub mod Meaning
+pub mod Message
