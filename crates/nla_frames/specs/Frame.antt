@@ -1,7 +1,7 @@
 -- One frame of netlink: a length and a word, two bytes each and the low byte first, then the value, then
 -- padding up to a multiple of four bytes. The length counts the header and the value, not the padding.
 use Rattle.std.specs.Prelude.{ℕ, ◌+◌, ◌-◌, ◌%◌, ◌^◌, ◌<◌, ◌≤◌, List, ◌++◌, length, replicate}
-use Rattle.nla_frames.specs.Value.{le_bytes}
+use Rattle.nla_frames.specs.Value.{IsBytes, le_bytes}
 
 -- a frame without its length and its padding
 pub record Frame : Type 0 where
@@ -16,6 +16,11 @@ type_of word = word % 0x4000
 pub record IsFrame (f : Frame) : Type 0 where
   pub word : f.word < 2 ^ 16
   pub value : length f.value ≤ 65531
+
+-- the same of a frame that stands in bytes
+pub record IsWireFrame (f : Frame) : Type 0 where
+  pub frame : IsFrame f
+  pub bytes : IsBytes f.value
 
 -- how many bytes of padding follow that many bytes
 abbrev pub padding : ℕ → ℕ

@@ -10,3 +10,5 @@ pub mod Reading
 pub mod ListGrammar
 pub mod Emission
 pub mod Codec
+pub mod DefaultNla
+pub mod Family

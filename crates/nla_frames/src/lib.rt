@@ -3,8 +3,11 @@
 #![tactic(auto)]
 
 pub mod buffer;
+pub mod default_nla;
 pub mod error;
+pub mod family;
 pub mod iterator;
+pub mod laws;
 pub mod lists;
 pub mod meaning;
 pub mod nla;
@@ -12,9 +15,22 @@ pub mod parse;
 pub mod values;
 
 pub use buffer::NlaBuffer;
+pub use default_nla::DefaultNla;
 pub use error::{DecodeError, Res};
+pub use family::AddressFamily;
 pub use iterator::NlasIterator;
 pub use lists::read::{parse_frames_with, parse_list, parse_list_with};
+pub use lists::write::{emit_list, list_fits, list_len, put_list};
 pub use meaning::{BytesMeaning, FrameMeaning};
-pub use nla::{NLA_F_NESTED, NLA_F_NET_BYTEORDER, NLA_HEADER_SIZE, NLA_TYPE_MASK, Nla};
+pub use nla::{
+    NLA_F_NESTED, NLA_F_NET_BYTEORDER, NLA_HEADER_SIZE, NLA_TYPE_MASK, NLA_VALUE_MAX_SIZE, Nla,
+};
 pub use parse::{Emitable, Parseable, ParseableBytes, ParseableParametrized};
+pub use values::read::{
+    parse_ipv4_addr, parse_ipv6_addr, parse_mac, parse_string, parse_u8, parse_u16, parse_u16_be,
+    parse_u32, parse_u32_be, strip_nul,
+};
+pub use values::write::{
+    emit_u16, emit_u16_be, emit_u32, emit_u32_be, put_bytes, put_text, put_u8, put_u16, put_u16_be,
+    put_u32, put_u32_be, put_u64,
+};

@@ -1,3 +1,4 @@
-//! Lists of frames.
+//! Lists of attributes, one frame after the other.
 
 pub mod read;
+pub mod write;

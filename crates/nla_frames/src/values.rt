@@ -1,3 +1,4 @@
-//! Plain values: numbers, texts and addresses.
+//! Plain values: numbers of a width in either byte order, texts, addresses and bytes.
 
 pub mod read;
+pub mod write;

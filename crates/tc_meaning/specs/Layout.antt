@@ -1,6 +1,8 @@
 -- Fixed records, by their layout.
-use Rattle.std.specs.Prelude.{◌≡◌, ◌≢◌, ℕ, ◌+◌, ◌*◌, ◌^◌, ◌<◌, Bool, List, [], ◌∷◌, ◌++◌, length, take, drop, replicate, Contains, ◌==◌, if◌then◌else◌}
+use Rattle.std.specs.Prelude.{◌≡◌, ℕ, ◌+◌, false, List, [], ◌∷◌, ◌++◌, length, take, drop, replicate, Ok, Err, nat_lt, ◌==◌, if◌then◌else◌}
 use Rattle.std.specs.List.{list_any}
+use Rattle.nla_frames.specs.declared.error.DecodeError.TheVariants.{BufferTooSmall}
+use Rattle.nla_frames.specs.Fault.{Outcome}
 use Rattle.nla_frames.specs.Value.{le_bytes, le_value, be_bytes, be_value}
 use Rattle.tc_canon.specs.Descriptor.{Field, little, big, named, octets, pad}
 use Rattle.tc_meaning.specs.Tree.{Scalar, plain, unnamed, octets_of, blank}
@@ -44,3 +46,17 @@ abbrev pub fields_bytes : List Field → List Scalar → List ℕ
 fields_bytes [] xs = []
 fields_bytes (f ∷ fs) [] = replicate (width f) 0 ++ fields_bytes fs []
 fields_bytes (f ∷ fs) (x ∷ xs) = field_bytes f x ++ fields_bytes fs xs
+
+-- a record, of the front of some bytes
+abbrev pub read_record : List Field → List ℕ → Outcome (List Scalar)
+read_record fs bytes = if nat_lt (length bytes) (size_of fs) then Err (BufferTooSmall (length bytes) (size_of fs)) else Ok (read_fields fs bytes)
+
+-- no field has an unnamed number that has a name
+abbrev pub IsSettledField : Field → Scalar → Type 0
+IsSettledField (named n names) (unnamed x) = list_any (λ name. name == x) names ≡ false
+IsSettledField f x = Unit {0}
+
+abbrev pub IsSettledRecord : List Field → List Scalar → Type 0
+IsSettledRecord [] xs = Unit {0}
+IsSettledRecord (f ∷ fs) [] = Unit {0}
+IsSettledRecord (f ∷ fs) (x ∷ xs) = IsSettledField f x × IsSettledRecord fs xs

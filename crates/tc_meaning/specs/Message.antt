@@ -1,5 +1,5 @@
 -- Whole messages: their reading and their first fault in the words of the grammar, and their bytes.
-use Rattle.std.specs.Prelude.{◌≡◌, ◌⊎◌, ℕ, ◌+◌, ◌<◌, ◌≤◌, ◌^◌, List, [], ◌++◌, length, take, drop, suc, zero, Option, Some, None, Ok, Err, nat_lt, ◌==◌, if◌then◌else◌}
+use Rattle.std.specs.Prelude.{◌≡◌, ◌⊎◌, ℕ, ◌+◌, ◌<◌, ◌≤◌, ◌^◌, List, [], ◌++◌, length, drop, suc, zero, Some, None, Ok, ◌==◌, if◌then◌else◌}
 use Rattle.nla_frames.specs.declared.error.DecodeError.{DecodeError}
 use Rattle.nla_frames.specs.declared.error.DecodeError.TheVariants.{BufferTooSmall}
 use Rattle.nla_frames.specs.Fault.{Outcome, ◌>>=◌}
@@ -9,10 +9,10 @@ use Rattle.nla_frames.specs.Place.{Sets}
 use Rattle.nla_frames.specs.Reading.{read_list}
 use Rattle.nla_frames.specs.ListGrammar.{ListReads, ListFault}
 use Rattle.nla_frames.specs.Emission.{list_bytes, ListFits}
-use Rattle.nla_frames.specs.Codec.{Codec}
+use Rattle.nla_frames.specs.Codec.{SettledEach}
 use Rattle.tc_canon.specs.Descriptor.{Field, Rows, table}
 use Rattle.tc_meaning.specs.Tree.{Scalar, Attribute, known, is_bytes}
-use Rattle.tc_meaning.specs.Layout.{size_of, read_fields, fields_bytes}
+use Rattle.tc_meaning.specs.Layout.{size_of, read_fields, read_record, fields_bytes, IsSettledRecord}
 use Rattle.tc_meaning.specs.Meaning.{table_codec}
 
 -- a header, and the attributes after it
@@ -34,7 +34,7 @@ kind_of_attribute _ = None
 module _ (layout : List Field) (rows : Rows) where
   pub record ReadsMessage (bytes : List ℕ) (m : Message) : Type 0 where
     pub long : size_of layout ≤ length bytes
-    pub header : m.header ≡ read_fields layout (take (size_of layout) bytes)
+    pub header : m.header ≡ read_fields layout bytes
     pub body : ListReads (table_codec (table rows)).read kind_of_frame [] (drop (size_of layout) bytes) m.body
 
   -- the first fault: a short header, or that of the list
@@ -45,10 +45,10 @@ module _ (layout : List Field) (rows : Rows) where
 
   -- the same as a function
   unfoldable pub read_message : List ℕ → Outcome Message
-  read_message bytes =
-      if nat_lt (length bytes) (size_of layout) then Err (BufferTooSmall (length bytes) (size_of layout)) else
-      read_list (table_codec (table rows)).read kind_of_frame [] (drop (size_of layout) bytes) >>= λ body.
-      Ok (record { header = read_fields layout (take (size_of layout) bytes); body = body })
+  read_message bytes = do
+    header ← read_record layout bytes
+    body ← read_list (table_codec (table rows)).read kind_of_frame [] (drop (size_of layout) bytes)
+    Ok (record { header = header; body = body })
 
   -- the bytes of a message
   unfoldable pub message_bytes : Message → List ℕ
@@ -58,3 +58,8 @@ module _ (layout : List Field) (rows : Rows) where
   pub record FitsMessage (m : Message) : Type 0 where
     pub body : ListFits (table_codec (table rows)).Fits (table_codec (table rows)).write m.body
     pub whole : size_of layout + length (list_bytes (table_codec (table rows)).write m.body) < 2 ^ 64
+
+  -- the header and each attribute is settled, under the kind that is set last before its place
+  pub record IsSettledMessage (m : Message) : Type 0 where
+    pub header : IsSettledRecord layout m.header
+    pub body : SettledEach (table_codec (table rows)).Settled kind_of_attribute [] m.body

@@ -2,7 +2,7 @@ use Rattle.std.proofs.Common.{◌≡◌, [], length, ap, sym, ◌∙◌, arith}
 use Rattle.std.proofs.lemmas.Bool.{eqb-true}
 use Rattle.std.proofs.lemmas.List.{nil_from_length}
 use Rattle.nla_frames.specs.Cutting.{cut, items_of}
-use Rattle.nla_frames.proofs.CutSteps.{items-nil, items-ok, items-last}
+use Rattle.nla_frames.proofs.Items.{items-nil, items-next_frame, items_refused}
 use Rattle.nla_frames.proofs.iterator.NlasIteratorIterator.next.Goals as goal
 
 pub returns-then-is_empty-clause-steps : goal.returns-then-is_empty-clause-steps
@@ -12,17 +12,17 @@ returns-then-is_empty-clause-steps c =
     (nothing, nothing)
 
 pub returns-in-Ok-clause-steps : goal.returns-in-Ok-clause-steps
-returns-in-Ok-clause-steps c = items-ok _ _ (sym c.in-Ok.ensures)
+returns-in-Ok-clause-steps c = items-next_frame _ _ (sym c.in-Ok.ensures)
 
 pub returns-in-Ok-clause-goes : goal.returns-in-Ok-clause-goes
 returns-in-Ok-clause-goes c =
-    let more = ap length (items-ok _ _ (sym c.in-Ok.ensures)) in
+    let more = ap length (items-next_frame _ _ (sym c.in-Ok.ensures)) in
     record { on = λ _. (tt, tt, omega (arith, more)); keeps = tt; rests = λ _. tt }
 
 pub returns-in-Err-clause-steps : goal.returns-in-Err-clause-steps
-returns-in-Err-clause-steps c = items-last _ _ _ c.is_empty.ensures c.if-is_empty.false (sym c.in-Err.ensures)
+returns-in-Err-clause-steps c = items_refused _ _ _ c.is_empty.ensures c.if-is_empty.false (sym c.in-Err.ensures)
 
 pub returns-in-Err-clause-goes : goal.returns-in-Err-clause-goes
 returns-in-Err-clause-goes c =
-    let last = ap length (items-last _ _ _ c.is_empty.ensures c.if-is_empty.false (sym c.in-Err.ensures)) in
+    let last = ap length (items_refused _ _ _ c.is_empty.ensures c.if-is_empty.false (sym c.in-Err.ensures)) in
     record { on = λ _. (tt, tt, omega (arith, last)); keeps = tt; rests = λ _. tt }

@@ -1,0 +1,28 @@
+//! What the definitions promise of one another, as contracts of functions that do nothing.
+
+ghost use Rattle.std.specs.Prelude.{◌≡◌, List, Option};
+ghost use Rattle.nla_frames.specs.declared.error.DecodeError.{DecodeError};
+ghost use Rattle.nla_frames.specs.Frame.{Frame};
+ghost use Rattle.nla_frames.specs.Grammar.{CutsUp};
+ghost use Rattle.nla_frames.specs.Cutting.{cut};
+ghost use Rattle.nla_frames.specs.Place.{Sets};
+ghost use Rattle.nla_frames.specs.Reading.{read_list};
+ghost use Rattle.nla_frames.specs.ListGrammar.{OneOutcome};
+
+use crate::meaning::FrameMeaning;
+
+/// Cutting is the grammar of frames. Bytes are the frames that `cut` gives, and after them the broken frame of its
+/// fault, if it gives one; and where bytes are some frames, or some frames and a broken one, `cut` gives these.
+/// So all bytes are cut, and in one way.
+pub fn cutting(bytes: &[u8])
+    ensures cuts { CutsUp bytes.now (cut bytes.now).frames (cut bytes.now).fault }
+    ensures only { (fs : List Frame) (fault : Option DecodeError) → CutsUp bytes.now fs fault → cut bytes.now ≡ record { frames = fs; fault = fault } }
+{}
+
+/// Reading a list is the grammar of lists, whatever its elements are and whichever frames set a kind. `read_list`
+/// gives values exactly if the bytes are frames of which each reads as its value under the kind in force at its
+/// place; it gives a fault exactly if after frames that are read there stands a broken frame, or one that is
+/// refused, with this fault. So all bytes have one reading and no fault, or no reading and one fault.
+pub fn list_grammar<T: FrameMeaning>(bytes: &[u8], kind: &str)
+    ensures { (sets : Sets Frame) → OneOutcome T.reads sets kind.now bytes.now (read_list T.reads sets kind.now bytes.now) }
+{}

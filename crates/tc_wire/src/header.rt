@@ -1,0 +1,120 @@
+//! The header of a message.
+
+ghost use Rattle.std.specs.Prelude.{◌≡◌, List};
+ghost use Rattle.nla_frames.specs.Fault.{seen};
+ghost use Rattle.tc_canon.specs.Layouts.{tc_header};
+ghost use Rattle.tc_meaning.specs.Tree.{Scalar};
+ghost use Rattle.tc_meaning.specs.Layout.{read_record, fields_bytes, IsSettledRecord};
+
+use nla_frames::{AddressFamily, BytesMeaning, DecodeError, Emitable, Res};
+use std::fmt;
+
+/// The bytes of a header.
+pub const TC_HEADER_LEN: usize = 20;
+
+/// The handle of a queueing discipline, a class or a filter: a major and a minor number.
+#[derive(Debug, PartialEq, Eq, Clone, Copy, Default)]
+pub struct TcHandle {
+    pub major: u16,
+    pub minor: u16,
+}
+
+impl TcHandle {
+    /// `TC_H_UNSPEC` of `linux/pkt_sched.h`.
+    pub const UNSPEC: TcHandle = TcHandle { major: 0, minor: 0 };
+
+    /// `TC_H_ROOT`.
+    pub const ROOT: TcHandle = TcHandle {
+        major: 0xFFFF,
+        minor: 0xFFFF,
+    };
+
+    /// `TC_H_INGRESS`.
+    pub const INGRESS: TcHandle = TcHandle {
+        major: 0xFFFF,
+        minor: 0xFFF1,
+    };
+
+    /// `TC_H_CLSACT`, the same handle as `INGRESS`.
+    pub const CLSACT: TcHandle = TcHandle::INGRESS;
+
+    /// `TC_H_MIN_PRIORITY`, a minor number.
+    pub const MIN_PRIORITY: u16 = 0xFFE0;
+
+    /// `TC_H_MIN_INGRESS`, a minor number.
+    pub const MIN_INGRESS: u16 = 0xFFF2;
+
+    /// `TC_H_MIN_EGRESS`, a minor number.
+    pub const MIN_EGRESS: u16 = 0xFFF3;
+}
+
+impl From<u32> for TcHandle {
+    ghost use Rattle.tc_wire.specs.Header.{handle_of};
+
+    ghost from_gives = { λ number handle. handle ≡ handle_of number };
+
+    fn from(number: u32) -> TcHandle {
+        TcHandle {
+            major: (number / 0x10000) as u16,
+            minor: (number % 0x10000) as u16,
+        }
+    }
+}
+
+impl From<TcHandle> for u32 {
+    ghost use Rattle.tc_wire.specs.Header.{handle_number};
+
+    ghost from_gives = { λ handle number. number ≡ handle_number handle };
+
+    fn from(handle: TcHandle) -> u32 {
+        handle.major as u32 * 0x10000 + handle.minor as u32
+    }
+}
+
+impl fmt::Display for TcHandle {
+    fn fmt<W: fmt::Write>(&self, f: &mut fmt::Formatter<W>) -> fmt::Result {
+        let major = self.major;
+        let minor = self.minor;
+        write!(f, "{major}:{minor}")
+    }
+}
+
+/// The header of a message, `struct tcmsg` of `linux/rtnetlink.h`.
+#[derive(Debug, PartialEq, Eq, Clone, Default, Drop)]
+pub struct TcHeader {
+    pub family: AddressFamily,
+    /// The index of the interface; `TCM_IFINDEX_MAGIC_BLOCK` for a block.
+    pub index: i32,
+    /// The handle of what the message is about.
+    pub handle: TcHandle,
+    /// The handle of its parent.
+    pub parent: TcHandle,
+    /// Priority and protocol of a filter, a count of references, a block's index.
+    pub info: u32,
+}
+
+impl TcHeader {
+    ghost use Rattle.tc_wire.specs.Header.{header_scalars};
+
+    /// The index that stands for a block of filters in place of an interface.
+    pub const TCM_IFINDEX_MAGIC_BLOCK: u32 = 0xFFFF_FFFF;
+
+    /// The header that bytes begin with; what follows is dropped.
+    pub fn parse(payload: &[u8]) -> Res<TcHeader>
+        ensures { seen header_scalars result ≡ read_record tc_header payload.now }
+    {
+        if payload.len() < TC_HEADER_LEN {
+            return Err(DecodeError::BufferTooSmall {
+                len: payload.len(),
+                needed: TC_HEADER_LEN,
+            });
+        }
+        Ok(TcHeader {
+            family: AddressFamily::from(payload[0]),
+            index: i32::from_le_bytes([payload[4], payload[5], payload[6], payload[7]]),
+            handle: TcHandle::from(u32::from_le_bytes([payload[8], payload[9], payload[10], payload[11]])),
+            parent: TcHandle::from(u32::from_le_bytes([payload[12], payload[13], payload[14], payload[15]])),
+            info: u32::from_le_bytes([payload[16], payload[17], payload[18], payload[19]]),
+        })
+    }
+}
