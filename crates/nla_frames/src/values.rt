@@ -1,4 +1,5 @@
 //! Plain values: numbers of a width in either byte order, texts, addresses and bytes.
 
 pub mod read;
+pub mod split;
 pub mod write;

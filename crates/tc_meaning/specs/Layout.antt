@@ -23,7 +23,7 @@ size_of (f ∷ fs) = width f + size_of fs
 abbrev pub read_field : Field → List ℕ → Scalar
 read_field (little n) bytes = plain (le_value bytes)
 read_field (big n) bytes = plain (be_value bytes)
-read_field (named n names) bytes = if list_any (λ name. name == le_value bytes) names then plain (le_value bytes) else unnamed (le_value bytes)
+read_field (named n names) bytes = if list_any (λ name. le_value bytes == name) names then plain (le_value bytes) else unnamed (le_value bytes)
 read_field (octets n) bytes = octets_of bytes
 read_field (pad n) bytes = blank
 
@@ -53,7 +53,7 @@ read_record fs bytes = if nat_lt (length bytes) (size_of fs) then Err (BufferToo
 
 -- no field has an unnamed number that has a name
 abbrev pub IsSettledField : Field → Scalar → Type 0
-IsSettledField (named n names) (unnamed x) = list_any (λ name. name == x) names ≡ false
+IsSettledField (named n names) (unnamed x) = list_any (λ name. x == name) names ≡ false
 IsSettledField f x = Unit {0}
 
 abbrev pub IsSettledRecord : List Field → List Scalar → Type 0

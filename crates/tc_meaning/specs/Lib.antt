@@ -3,3 +3,4 @@ pub mod Layout
 pub mod Content
 pub mod Meaning
 pub mod Message
+pub mod Short

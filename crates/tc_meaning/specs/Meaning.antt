@@ -139,12 +139,16 @@ kind_frames name own rest = record {
     SettledKind k (of_kind m x) = MatchBool (bytes_eq m name) ((bytes_eq k name ≡ true) × own.Settled k x) (rest.Settled k (of_kind m x))
     SettledKind k x = MatchBool (bytes_eq k name) ⊥ (rest.Settled k x)
 
+-- a list of frames, each read under the kind in force
+abbrev pub list_contents : Codec Frame Attribute → Codec (List ℕ) Content
+list_contents c = via a_list (list_codec keep keep c)
+
 abbrev mutual
   -- the meaning of a class, of the bytes of a value
   pub class_codec : Class → Codec (List ℕ) Content
   class_codec (le n) = via a_number (le_codec n)
   class_codec text = via some_bytes text_codec
-  class_codec (list_of t) = via a_list (list_codec keep keep (table_codec t))
+  class_codec (list_of t) = list_contents (table_codec t)
 
   -- the meaning of a table
   pub table_codec : Table → Codec Frame Attribute
@@ -155,7 +159,7 @@ abbrev mutual
   pub rows_codec : Rows → ℕ → Codec Frame Attribute
   rows_codec others n = raw_frames
   rows_codec (types first last flags class rows) n = choose (is_within first last n) (row_frames (flags + n) n (class_codec class)) (rows_codec rows n)
-  rows_codec (options m kinds rows) n = choose (n == m) (options_frames m kinds (via a_list (list_codec keep keep (kinds_codec kinds)))) (rows_codec rows n)
+  rows_codec (options m kinds rows) n = choose (n == m) (options_frames m kinds (list_contents (kinds_codec kinds))) (rows_codec rows n)
 
   -- the meaning of an option under the kinds
   pub kinds_codec : Kinds → Codec Frame Attribute

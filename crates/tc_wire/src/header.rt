@@ -6,7 +6,9 @@ ghost use Rattle.tc_canon.specs.Layouts.{tc_header};
 ghost use Rattle.tc_meaning.specs.Tree.{Scalar};
 ghost use Rattle.tc_meaning.specs.Layout.{read_record, fields_bytes, IsSettledRecord};
 
-use nla_frames::{AddressFamily, BytesMeaning, DecodeError, Emitable, Res};
+use nla_frames::{
+    AddressFamily, BytesMeaning, DecodeError, Emitable, Res, i32_bytes, put_bytes, skip, split_i32, split_u8, split_u32, u32_bytes,
+};
 use std::fmt;
 
 /// The bytes of a header.
@@ -109,12 +111,60 @@ impl TcHeader {
                 needed: TC_HEADER_LEN,
             });
         }
+        let (family, rest) = split_u8(payload);
+        let (index, rest) = split_i32(skip(rest, 3));
+        let (handle, rest) = split_u32(rest);
+        let (parent, rest) = split_u32(rest);
+        let (info, _) = split_u32(rest);
         Ok(TcHeader {
-            family: AddressFamily::from(payload[0]),
-            index: i32::from_le_bytes([payload[4], payload[5], payload[6], payload[7]]),
-            handle: TcHandle::from(u32::from_le_bytes([payload[8], payload[9], payload[10], payload[11]])),
-            parent: TcHandle::from(u32::from_le_bytes([payload[12], payload[13], payload[14], payload[15]])),
-            info: u32::from_le_bytes([payload[16], payload[17], payload[18], payload[19]]),
+            family: AddressFamily::from(family),
+            index,
+            handle: TcHandle::from(handle),
+            parent: TcHandle::from(parent),
+            info,
         })
+    }
+
+    // The header's bytes, its padding zero.
+    fn to_bytes(&self) -> [u8; TC_HEADER_LEN]
+        ensures { result ≡ fields_bytes tc_header (header_scalars self.now) }
+    {
+        let [i0, i1, i2, i3] = i32_bytes(self.index);
+        let [h0, h1, h2, h3] = u32_bytes(u32::from(self.handle));
+        let [p0, p1, p2, p3] = u32_bytes(u32::from(self.parent));
+        let [n0, n1, n2, n3] = u32_bytes(self.info);
+        [
+            u8::from(self.family), 0, 0, 0, i0, i1, i2, i3, h0, h1, h2, h3, p0, p1, p2, p3, n0, n1, n2, n3,
+        ]
+    }
+}
+
+impl BytesMeaning for TcHeader {
+    ghost use Rattle.tc_wire.specs.Header.{header_scalars};
+
+    ghost Seen = { List Scalar };
+
+    ghost see = { header_scalars };
+
+    ghost reads = { read_record tc_header };
+
+    ghost bytes = { fields_bytes tc_header };
+
+    ghost Fits = { λ _. Unit {0} };
+
+    ghost Settled = { IsSettledRecord tc_header };
+}
+
+impl Emitable for TcHeader {
+    fn fits(&self) -> bool {
+        true
+    }
+
+    fn buffer_len(&self) -> usize {
+        TC_HEADER_LEN
+    }
+
+    fn emit(&self, buffer: &mut [u8]) {
+        put_bytes(buffer, &self.to_bytes());
     }
 }

@@ -1,6 +1,7 @@
 //! Writing plain values, each at the front of a buffer. What stands after it stays as it was.
 
 ghost use Rattle.std.specs.Prelude.{◌≡◌, ℕ, List, ◌∷◌, [], length};
+ghost use Rattle.std.specs.Int.{w32, cast_unsigned};
 ghost use Rattle.nla_frames.specs.Emission.{Writes, HasRoom};
 ghost use Rattle.nla_frames.specs.Value.{le_bytes, be_bytes, terminated};
 
@@ -114,4 +115,18 @@ pub fn put_u32_be(buffer: &mut [u8], value: u32) -> usize
 {
     emit_u32_be(buffer, value);
     4
+}
+
+/// The four bytes of a number, the low byte first.
+pub fn u32_bytes(value: u32) -> [u8; 4]
+    ensures { result ≡ le_bytes 4 value }
+{
+    value.to_le_bytes()
+}
+
+/// The four bytes of a signed number, the low byte first.
+pub fn i32_bytes(value: i32) -> [u8; 4]
+    ensures { result ≡ le_bytes 4 (cast_unsigned w32 value) }
+{
+    value.to_le_bytes()
 }

@@ -5,6 +5,7 @@ ghost use Rattle.tc_canon.specs.Descriptor.{table};
 ghost use Rattle.tc_canon.specs.Tables.{fq_codel_options};
 ghost use Rattle.tc_meaning.specs.Tree.{Attribute};
 ghost use Rattle.tc_meaning.specs.Meaning.{table_codec};
+ghost use Rattle.tc_meaning.specs.Short.{table_short};
 ghost use Rattle.tc_wire.specs.FqCodel.{fq_codel_option};
 
 use nla_frames::values::read::{parse_u8, parse_u32};
@@ -149,4 +150,6 @@ impl<A: Allocator> Nla for TcQdiscFqCodelOption<A> {
             TcQdiscFqCodelOption::Other(nla) => nla.put_value(buffer),
         }
     }
+
+    ghost is_short = { table_short (table fq_codel_options) };
 }

@@ -1,0 +1,48 @@
+-- A family of addresses as a field of a record.
+use Rattle.std.proofs.Common.{◌≡◌, ℕ, ◌<◌, Bool, true, false, List, [], ◌∷◌, refl, sym, ap, ◌∙◌, arith}
+use Rattle.std.proofs.lemmas.Bool.{eqb-true}
+use Rattle.std.specs.Prelude.{◌||◌, ◌==◌, if◌then◌else◌}
+use Rattle.std.specs.List.{list_any}
+use Rattle.nla_frames.specs.declared.family.AddressFamily.{AddressFamily}
+use Rattle.nla_frames.specs.declared.family.AddressFamily.TheVariants.{Unspec, Unix, Inet, Bridge, Inet6, Netlink, Packet, Mpls, Other}
+use Rattle.nla_frames.specs.Family.{family_of, number_of}
+use Rattle.nla_frames.specs.Value.{le_value}
+use Rattle.tc_canon.specs.Descriptor.{named}
+use Rattle.tc_canon.specs.Layouts.{address_families}
+use Rattle.tc_meaning.specs.Tree.{Scalar, plain, unnamed}
+use Rattle.tc_meaning.specs.Layout.{field_bytes}
+use Rattle.tc_wire.specs.Header.{family_scalar}
+
+-- a number that has a name, or another, beside the families that follow
+named_or : (n name : ℕ) (family others : AddressFamily) (any : Bool) → family_scalar family ≡ plain name
+    → (if any then plain n else unnamed n) ≡ family_scalar others
+    → (if (n == name) || any then plain n else unnamed n) ≡ family_scalar (if n == name then family else others)
+named_or n name family others any is rest = go (n == name) refl
+  where
+    go : (b : Bool) → (n == name) ≡ b → (if b || any then plain n else unnamed n) ≡ family_scalar (if b then family else others)
+    go true same = ap plain (eqb-true n name same) ∙ sym is
+    go false differ = rest
+
+-- a family's number has a name exactly where the family is no `Other`
+pub family_named : (n : ℕ) → (if list_any (λ name. n == name) address_families then plain n else unnamed n) ≡ family_scalar (family_of n)
+family_named n =
+    named_or n 0 Unspec _ _ refl
+    (named_or n 1 Unix _ _ refl
+    (named_or n 2 Inet _ _ refl
+    (named_or n 7 Bridge _ _ refl
+    (named_or n 10 Inet6 _ _ refl
+    (named_or n 16 Netlink _ _ refl
+    (named_or n 17 Packet _ _ refl
+    (named_or n 28 Mpls (Other n) false refl refl)))))))
+
+-- a family's byte
+pub family_bytes : (family : AddressFamily) → number_of family < 256 → field_bytes (named 1 address_families) (family_scalar family) ≡ number_of family ∷ []
+family_bytes (Other n) fits = ap (λ (b : ℕ). b ∷ []) (omega arith)
+family_bytes Unspec fits = refl
+family_bytes Unix fits = refl
+family_bytes Inet fits = refl
+family_bytes Bridge fits = refl
+family_bytes Inet6 fits = refl
+family_bytes Netlink fits = refl
+family_bytes Packet fits = refl
+family_bytes Mpls fits = refl
