@@ -20,7 +20,7 @@ pub use error::{DecodeError, Res};
 pub use family::AddressFamily;
 pub use iterator::NlasIterator;
 pub use lists::read::{parse_frames_with, parse_list, parse_list_with};
-pub use lists::write::{emit_list, list_fits, list_len, put_list};
+pub use lists::write::{emit_list, list_fits, list_len, nested_fits, put_list};
 pub use meaning::{BytesMeaning, FrameMeaning};
 pub use nla::{
     NLA_F_NESTED, NLA_F_NET_BYTEORDER, NLA_HEADER_SIZE, NLA_TYPE_MASK, NLA_VALUE_MAX_SIZE, Nla,

@@ -29,8 +29,8 @@ module _ (bytes : List ℕ) (long : 20 ≤ length bytes)
     (handle : TcHandle) (handle-is : handle ≡ handle_of (le_value (take 4 (drop 4 (drop 3 (drop 1 bytes))))))
     (parent : TcHandle) (parent-is : parent ≡ handle_of (le_value (take 4 (drop 4 (drop 4 (drop 3 (drop 1 bytes)))))))
     (info : ℕ) (info-is : info ≡ le_value (take 4 (drop 4 (drop 4 (drop 4 (drop 3 (drop 1 bytes)))))))
-    where
-  -- a header whose fields are the numbers at their places
-  pub header_read : read_as (header_scalars (record { family = family; index = to_z w32 (of_z w32 index); handle = handle; parent = parent; info = info })) ≡ read_record tc_header bytes
-  header_read =
-      rw (le-ltb _ _ long, family_named, family-is, signed_again index fits, index-is, handle-is, handle_number-handle_of, parent-is, handle_number-handle_of, info-is) refl
+  where
+    -- a header whose fields are the numbers at their places
+    pub header_read : read_as (header_scalars (record { family = family; index = to_z w32 (of_z w32 index); handle = handle; parent = parent; info = info })) ≡ read_record tc_header bytes
+    header_read =
+        rw (le-ltb _ _ long, family_named, family-is, signed_again index fits, index-is, handle-is, handle_number-handle_of, parent-is, handle_number-handle_of, info-is) refl

@@ -1,2 +1,4 @@
 pub mod Families
 pub mod Headers
+pub mod KindTexts
+pub mod NestedOptions

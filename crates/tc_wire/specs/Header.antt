@@ -22,9 +22,9 @@ family_scalar family = plain (number_of family)
 abbrev pub header_scalars : TcHeader → List Scalar
 header_scalars h =
     family_scalar h.family
-  ∷ blank
-  ∷ plain (cast_unsigned w32 h.index)
-  ∷ plain (handle_number h.handle)
-  ∷ plain (handle_number h.parent)
-  ∷ plain h.info
-  ∷ []
+    ∷ blank
+    ∷ plain (cast_unsigned w32 h.index)
+    ∷ plain (handle_number h.handle)
+    ∷ plain (handle_number h.parent)
+    ∷ plain h.info
+    ∷ []

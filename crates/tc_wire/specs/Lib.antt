@@ -1,2 +1,4 @@
 pub mod Header
 pub mod FqCodel
+pub mod Options
+pub mod Attribute

@@ -7,7 +7,8 @@ ghost use Rattle.tc_meaning.specs.Tree.{Scalar};
 ghost use Rattle.tc_meaning.specs.Layout.{read_record, fields_bytes, IsSettledRecord};
 
 use nla_frames::{
-    AddressFamily, BytesMeaning, DecodeError, Emitable, Res, i32_bytes, put_bytes, skip, split_i32, split_u8, split_u32, u32_bytes,
+    AddressFamily, BytesMeaning, DecodeError, Emitable, Res, i32_bytes, put_bytes, skip, split_i32,
+    split_u8, split_u32, u32_bytes,
 };
 use std::fmt;
 
@@ -134,7 +135,26 @@ impl TcHeader {
         let [p0, p1, p2, p3] = u32_bytes(u32::from(self.parent));
         let [n0, n1, n2, n3] = u32_bytes(self.info);
         [
-            u8::from(self.family), 0, 0, 0, i0, i1, i2, i3, h0, h1, h2, h3, p0, p1, p2, p3, n0, n1, n2, n3,
+            u8::from(self.family),
+            0,
+            0,
+            0,
+            i0,
+            i1,
+            i2,
+            i3,
+            h0,
+            h1,
+            h2,
+            h3,
+            p0,
+            p1,
+            p2,
+            p3,
+            n0,
+            n1,
+            n2,
+            n3,
         ]
     }
 }

@@ -1,9 +1,9 @@
 //! Writing a list of attributes, one frame after the other.
 
-ghost use Rattle.std.specs.Prelude.{◌≡◌, ◌↔◌, IsTrue, length, map};
+ghost use Rattle.std.specs.Prelude.{◌≡◌, ◌≤◌, ◌↔◌, IsTrue, length, map};
 ghost use Rattle.nla_frames.specs.Emission.{list_bytes, ListFits, Writes, HasRoom};
 
-use crate::nla::Nla;
+use crate::nla::{NLA_VALUE_MAX_SIZE, Nla};
 
 /// Whether the list can be written: each attribute fits, and a `usize` counts all their bytes.
 pub fn list_fits<T: Nla>(items: &[T]) -> bool
@@ -20,6 +20,13 @@ pub fn list_fits<T: Nla>(items: &[T]) -> bool
         }
     }
     true
+}
+
+/// Whether the list can be written as the value of an attribute: it can be written, in at most 65531 bytes.
+pub fn nested_fits<T: Nla>(items: &[T]) -> bool
+    ensures { IsTrue result ↔ (ListFits T.Fits T.frame (map T.see items.now) × (length (list_bytes T.frame (map T.see items.now)) ≤ 65531)) }
+{
+    list_fits(items) && list_len(items) <= NLA_VALUE_MAX_SIZE
 }
 
 /// How many bytes the frames have.

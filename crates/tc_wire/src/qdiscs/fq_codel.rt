@@ -128,7 +128,8 @@ impl<A: Allocator> Nla for TcQdiscFqCodelOption<A> {
             | TcQdiscFqCodelOption::CeThreshold(_)
             | TcQdiscFqCodelOption::DropBatchSize(_)
             | TcQdiscFqCodelOption::MemoryLimit(_) => 4,
-            TcQdiscFqCodelOption::CeThresholdSelector(_) | TcQdiscFqCodelOption::CeThresholdMask(_) => 1,
+            TcQdiscFqCodelOption::CeThresholdSelector(_)
+            | TcQdiscFqCodelOption::CeThresholdMask(_) => 1,
             TcQdiscFqCodelOption::Other(nla) => nla.value_len(),
         }
     }
@@ -144,9 +145,8 @@ impl<A: Allocator> Nla for TcQdiscFqCodelOption<A> {
             | TcQdiscFqCodelOption::CeThreshold(n)
             | TcQdiscFqCodelOption::DropBatchSize(n)
             | TcQdiscFqCodelOption::MemoryLimit(n) => put_u32(buffer, *n),
-            TcQdiscFqCodelOption::CeThresholdSelector(n) | TcQdiscFqCodelOption::CeThresholdMask(n) => {
-                put_u8(buffer, *n)
-            }
+            TcQdiscFqCodelOption::CeThresholdSelector(n)
+            | TcQdiscFqCodelOption::CeThresholdMask(n) => { put_u8(buffer, *n) }
             TcQdiscFqCodelOption::Other(nla) => nla.put_value(buffer),
         }
     }

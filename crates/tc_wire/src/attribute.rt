@@ -1,0 +1,164 @@
+//! The attributes of a message.
+
+ghost use Rattle.std.specs.Prelude.{◌≡◌, List, [], map, IsOk};
+ghost use Rattle.nla_frames.specs.Value.{text};
+ghost use Rattle.nla_frames.specs.Frame.{type_of};
+ghost use Rattle.nla_frames.specs.Buffer.{frame_of};
+ghost use Rattle.nla_frames.specs.Place.{kind_then};
+ghost use Rattle.nla_frames.specs.Reading.{read_list};
+ghost use Rattle.nla_frames.specs.Emission.{list_bytes, ListFits};
+ghost use Rattle.nla_frames.specs.Codec.{SettledEach};
+ghost use Rattle.tc_canon.specs.Descriptor.{table};
+ghost use Rattle.tc_canon.specs.Tables.{attributes};
+ghost use Rattle.tc_meaning.specs.Tree.{Attribute};
+ghost use Rattle.tc_meaning.specs.Meaning.{table_codec};
+ghost use Rattle.tc_meaning.specs.Message.{kind_of_frame, kind_of_attribute};
+ghost use Rattle.tc_meaning.specs.Short.{table_short};
+ghost use Rattle.tc_wire.specs.Attribute.{tc_attribute};
+
+use crate::options::{TcOption, VecTcOption, is_known_kind};
+use nla_frames::{
+    BytesMeaning, DefaultNla, FrameMeaning, NLA_VALUE_MAX_SIZE, Nla, NlaBuffer, NlasIterator,
+    Parseable, ParseableBytes, ParseableParametrized, Res, list_len, nested_fits, parse_string,
+    put_list, put_text, strip_nul,
+};
+use std::alloc::{Allocator, Global};
+
+/// An attribute of a message.
+///
+/// | Type | Attribute | Value |
+/// |---|---|---|
+/// | 1 | `Kind` | text |
+/// | 2 | `Options` under a known kind | a list of that kind's options |
+/// | 2 | `OptionsRaw` under any other kind | as it stands |
+#[derive(Drop)]
+#[derive_where(Debug, PartialEq, Eq)]
+#[derive_where(Clone; A)]
+pub enum TcAttribute<A: Allocator = Global> {
+    /// The name of the queueing discipline or filter, and of the options after it: `TCA_KIND` of
+    /// `linux/rtnetlink.h`.
+    Kind(String<A>),
+    /// The options under a known kind: `TCA_OPTIONS`.
+    Options(Vec<TcOption<A>, A>),
+    /// The options under any other kind, as they stand: `TCA_OPTIONS`.
+    OptionsRaw(DefaultNla<A>),
+    /// Any other type.
+    Other(DefaultNla<A>),
+}
+
+impl<A: Allocator> FrameMeaning for TcAttribute<A> {
+    ghost Seen = { Attribute };
+
+    ghost see = { tc_attribute };
+
+    ghost reads = { (table_codec (table attributes)).read };
+
+    ghost frame = { (table_codec (table attributes)).write };
+
+    ghost Fits = { (table_codec (table attributes)).Fits };
+
+    ghost Settled = { (table_codec (table attributes)).Settled };
+}
+
+impl<A: Allocator + Copy> ParseableParametrized<A> for TcAttribute<A> {
+    fn parse_with_param(alloc: A, buf: &NlaBuffer<'_>, kind: &str) -> Res<TcAttribute<A>> {
+        Ok(match buf.kind() {
+            1 => TcAttribute::Kind(parse_string(alloc, buf.value())?),
+            2 => {
+                if is_known_kind(kind) {
+                    TcAttribute::Options(VecTcOption::parse_with_param(alloc, buf, kind)?.0)
+                } else {
+                    TcAttribute::OptionsRaw(DefaultNla::parse(alloc, buf)?)
+                }
+            }
+            _ => TcAttribute::Other(DefaultNla::parse(alloc, buf)?),
+        })
+    }
+}
+
+#[tactic(auto, using(tc_meaning::proofs::Trees::attributes_again))]
+impl<A: Allocator> Nla for TcAttribute<A> {
+    fn kind(&self) -> u16 {
+        match self {
+            TcAttribute::Kind(_) => 1,
+            TcAttribute::Options(_) => 2,
+            TcAttribute::OptionsRaw(nla) => nla.kind(),
+            TcAttribute::Other(nla) => nla.kind(),
+        }
+    }
+
+    fn fits(&self) -> bool {
+        match self {
+            TcAttribute::Kind(kind) => kind.len() < NLA_VALUE_MAX_SIZE,
+            TcAttribute::Options(options) => nested_fits(options),
+            TcAttribute::OptionsRaw(nla) => nla.fits(),
+            TcAttribute::Other(nla) => nla.fits(),
+        }
+    }
+
+    fn value_len(&self) -> usize {
+        match self {
+            TcAttribute::Kind(kind) => kind.len() + 1,
+            TcAttribute::Options(options) => list_len(options),
+            TcAttribute::OptionsRaw(nla) => nla.value_len(),
+            TcAttribute::Other(nla) => nla.value_len(),
+        }
+    }
+
+    fn put_value(&self, buffer: &mut [u8]) -> usize {
+        match self {
+            TcAttribute::Kind(kind) => put_text(buffer, kind.as_str()),
+            TcAttribute::Options(options) => put_list(options, buffer),
+            TcAttribute::OptionsRaw(nla) => nla.put_value(buffer),
+            TcAttribute::Other(nla) => nla.put_value(buffer),
+        }
+    }
+
+    ghost is_short = { table_short (table attributes) };
+}
+
+/// The attributes that bytes are, each read under the kind that is set last before it.
+#[derive(Drop)]
+pub struct VecTcAttribute<A: Allocator = Global>(pub Vec<TcAttribute<A>, A>);
+
+impl<A: Allocator> BytesMeaning for VecTcAttribute<A> {
+    ghost Seen = { List Attribute };
+
+    ghost see = { λ list. map tc_attribute list.0.items };
+
+    ghost reads = { read_list (table_codec (table attributes)).read kind_of_frame [] };
+
+    ghost bytes = { list_bytes (table_codec (table attributes)).write };
+
+    ghost Fits = { ListFits (table_codec (table attributes)).Fits (table_codec (table attributes)).write };
+
+    ghost Settled = { SettledEach (table_codec (table attributes)).Settled kind_of_attribute [] };
+}
+
+impl<A: Allocator + Copy> ParseableBytes<A> for VecTcAttribute<A> {
+    fn parse(alloc: A, bytes: &[u8]) -> Res<VecTcAttribute<A>> {
+        let mut list = Vec::new(alloc);
+        let mut kind = "";
+        for frame in NlasIterator::new(bytes) {
+            let frame = frame?;
+            let item = TcAttribute::parse_with_param(alloc, &frame, kind)?;
+            kind = kind_after(kind, &frame);
+            list.push(item)?;
+        }
+        Ok(VecTcAttribute(list))
+    }
+}
+
+// The kind in force after a frame: the text of a frame of type 1, whatever its flags are. A value that is no text
+// leaves the kind; such a frame isn't read.
+fn kind_after<'a>(kind: &'a str, frame: &NlaBuffer<'a>) -> &'a str
+    ensures { (type_of (frame_of frame.now).word ≡ 1 → IsOk (text (frame_of frame.now).value)) → result.now ≡ kind_then kind_of_frame kind.now (frame_of frame.now) }
+{
+    if frame.kind() != 1 {
+        return kind;
+    }
+    match std::str::from_utf8(strip_nul(frame.value())) {
+        Ok(text) => text,
+        Err(_) => kind,
+    }
+}
