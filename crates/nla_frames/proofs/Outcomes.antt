@@ -1,8 +1,9 @@
 -- How an answer follows from the answer of a part.
-use Rattle.std.proofs.Common.{◌≡◌, Result, Ok, Err}
+use Rattle.std.proofs.Common.{◌≡◌, ◌≢◌, Ok, Err, refl}
+use Rattle.std.specs.Prelude.{IfOk}
 use Rattle.nla_frames.specs.declared.error.DecodeError.{DecodeError}
 use Rattle.nla_frames.specs.declared.error.DecodeError.TheVariants.{OutOfMemory}
-use Rattle.nla_frames.specs.Fault.{Outcome, Gives, refused}
+use Rattle.nla_frames.specs.Fault.{Outcome, Gives, IfRefused, read_as, refused, seen}
 
 -- the fault of a part is the fault of the whole, where the part's outcome says so
 pub Gives-err : {X Y : Type 0} (e : DecodeError) (part : Outcome X) (whole : Outcome Y) → Gives (refused e) part → (part ≡ refused e → whole ≡ refused e) → Gives (refused e) whole
@@ -13,3 +14,25 @@ Gives-err _ part whole given leads = leads given
 pub Gives-exact : {X : Type 0} (e : DecodeError) (outcome : Outcome X) → outcome ≡ refused e → Gives (refused e) outcome
 Gives-exact OutOfMemory outcome is = tt
 Gives-exact _ outcome is = is
+
+-- a refusal that isn't want of memory is the outcome
+pub Gives-refused : {X : Type 0} (e : DecodeError) (outcome : Outcome X) → e ≢ OutOfMemory → Gives (refused e) outcome → outcome ≡ refused e
+Gives-refused OutOfMemory outcome not given = absurd (not refl)
+Gives-refused _ outcome not given = given
+
+module _ {X Y : Type 0} (see : X → Y) (r : Outcome X) (outcome : Outcome Y) (given : Gives (seen see r) outcome) where
+  -- what holds of what is read holds of the answer
+  pub IfOk-Gives : (P : Y → Type 0) → ((y : Y) → outcome ≡ read_as y → P y) → IfOk r (λ x. P (see x))
+  IfOk-Gives P holds = answered r given
+    where
+      answered : (q : Outcome X) → Gives (seen see q) outcome → IfOk q (λ x. P (see x))
+      answered (Ok x) is = holds (see x) is
+      answered (Err e) is = tt
+
+  -- what holds of the fault holds of the refusal
+  pub IfRefused-Gives : (Q : DecodeError → Type 0) → ((e : DecodeError) → outcome ≡ refused e → Q e) → IfRefused r Q
+  IfRefused-Gives Q holds = answered r given
+    where
+      answered : (q : Outcome X) → Gives (seen see q) outcome → IfRefused q Q
+      answered (Ok x) is = tt
+      answered (Err e) is = λ not. holds e (Gives-refused e outcome not is)

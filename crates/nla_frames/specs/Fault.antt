@@ -1,5 +1,5 @@
 -- Refusals, and what a call that may want memory says of its answer.
-use Rattle.std.specs.Prelude.{◌≡◌, ℕ, List, Result, Ok, Err, codes}
+use Rattle.std.specs.Prelude.{◌≡◌, ◌≢◌, IfErr, ℕ, List, Result, Ok, Err, codes}
 use Rattle.nla_frames.specs.declared.error.DecodeError.{DecodeError}
 use Rattle.nla_frames.specs.declared.error.DecodeError.TheVariants.{BufferTooSmall, FrameHeaderShort, FrameTooLong, FrameTooShort, WrongLength, NotUtf8, SelectorShort, XstatsShort, MissingKind, DuplicateKind, OutOfMemory}
 
@@ -32,6 +32,10 @@ abbrev pub Gives : {X : Type 0} → Outcome X → Outcome X → Type 0
 Gives (Ok x) outcome = outcome ≡ Ok x
 Gives (Err OutOfMemory) outcome = Unit {0}
 Gives (Err e) outcome = outcome ≡ Err e
+
+-- a refusal that isn't want of memory is such
+abbrev pub IfRefused : {X : Type 0} → Outcome X → (DecodeError → Type 0) → Type 0
+IfRefused r Q = IfErr r (λ e. e ≢ OutOfMemory → Q e)
 
 -- an answer, its value seen by a function
 abbrev pub seen : {X Y : Type 0} → (X → Y) → Outcome X → Outcome Y

@@ -1,8 +1,9 @@
 //! Reading lists of frames.
 
-ghost use Rattle.std.specs.Prelude.{[], map};
-ghost use Rattle.nla_frames.specs.Fault.{Gives, seen};
+ghost use Rattle.std.specs.Prelude.{[], map, IfOk};
+ghost use Rattle.nla_frames.specs.Fault.{Gives, IfRefused, seen};
 ghost use Rattle.nla_frames.specs.Buffer.{frame_of};
+ghost use Rattle.nla_frames.specs.ListGrammar.{ListReads, ListFault};
 ghost use Rattle.nla_frames.specs.Reading.{read_list, read_each, whole, keep};
 
 use crate::buffer::NlaBuffer;
@@ -16,6 +17,14 @@ pub fn parse_list<A: Allocator + Copy, T: Parseable<A> + Drop>(
     alloc: A,
     bytes: &[u8],
 ) -> Res<Vec<T, A>>
+    ensures found { IfOk result (λ v. ListReads T.reads keep [] bytes.now (map T.see v.items)) }
+    ensures refused { IfRefused result (ListFault T.reads keep [] bytes.now) }
+    ensures exact { Gives (seen (λ v. map T.see v.items) result) (read_list T.reads keep [] bytes.now) }
+{
+    read_all(alloc, bytes)
+}
+
+fn read_all<A: Allocator + Copy, T: Parseable<A> + Drop>(alloc: A, bytes: &[u8]) -> Res<Vec<T, A>>
     ensures { Gives (seen (λ v. map T.see v.items) result) (read_list T.reads keep [] bytes.now) }
 {
     let mut list = Vec::new(alloc);
@@ -29,6 +38,18 @@ pub fn parse_list<A: Allocator + Copy, T: Parseable<A> + Drop>(
 
 /// The same, each frame read under one kind.
 pub fn parse_list_with<A: Allocator + Copy, T: ParseableParametrized<A> + Drop>(
+    alloc: A,
+    bytes: &[u8],
+    kind: &str,
+) -> Res<Vec<T, A>>
+    ensures found { IfOk result (λ v. ListReads T.reads keep kind.now bytes.now (map T.see v.items)) }
+    ensures refused { IfRefused result (ListFault T.reads keep kind.now bytes.now) }
+    ensures exact { Gives (seen (λ v. map T.see v.items) result) (read_list T.reads keep kind.now bytes.now) }
+{
+    read_all_with(alloc, bytes, kind)
+}
+
+fn read_all_with<A: Allocator + Copy, T: ParseableParametrized<A> + Drop>(
     alloc: A,
     bytes: &[u8],
     kind: &str,

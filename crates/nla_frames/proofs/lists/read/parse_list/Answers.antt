@@ -1,30 +1,21 @@
-use Rattle.std.proofs.Common.{ap, sym, ◌∙◌, map, []}
-use Rattle.std.proofs.lemmas.Result.{err_from_is_err_and}
-use Rattle.std.proofs.lemmas.List.{map_push}
-use Rattle.nla_frames.specs.Iterator.{items_left}
-use Rattle.nla_frames.specs.Reading.{keep}
-use Rattle.nla_frames.proofs.ReadingSteps.{starts, goes_on, breaks, refuses, is_done}
+use Rattle.std.proofs.Common.{map, []}
+use Rattle.nla_frames.specs.Reading.{keep, read_list}
+use Rattle.nla_frames.specs.ListGrammar.{ListReads, ListFault}
+use Rattle.nla_frames.proofs.Bytes.{IsBytes-slice}
+use Rattle.nla_frames.proofs.Outcomes.{IfOk-Gives, IfRefused-Gives}
+use Rattle.nla_frames.proofs.ListGrammarLaws.{ListReads-read_list, ListFault-read_list}
 use Rattle.nla_frames.proofs.lists.read.parse_list.Goals as goal
 
-pub loop-frame-init : goal.loop-frame-init
-loop-frame-init g c =
-    starts g.T.FrameMeaning.reads keep [] c.args.bytes.now _ _ (ap (map g.T.FrameMeaning.see) c.new-list.ensures.items)
-    (ap items_left c.into_iter-frame-iterator.ensures.into_iter_gives ∙ c.new-frame-items.ensures)
+pub returns-clause-found : goal.returns-clause-found
+returns-clause-found g c =
+    let reads = g.T.FrameMeaning.reads in
+    let are_bytes = IsBytes-slice c.args.bytes.now c.type_inv.bytes in
+    IfOk-Gives (λ v. map g.T.FrameMeaning.see v.items) c.read_all.result (read_list reads keep [] c.args.bytes.now) c.read_all.ensures
+    (ListReads reads keep [] c.args.bytes.now) (λ xs. ListReads-read_list reads keep [] c.args.bytes.now xs are_bytes)
 
-pub returns-in_err-frame : goal.returns-in_err-frame
-returns-in_err-frame g c =
-    let p = err_from_is_err_and c.from_residual.result c.from_residual.ensures.1 in
-    rw (p.1, p.2) (breaks g.T.FrameMeaning.reads keep [] _ _ _ c.loop-frame.invariant _ _ (rw c.in_err-frame.was at c.in-Some.ensures.steps))
-
-pub returns-in_err-item : goal.returns-in_err-item
-returns-in_err-item g c =
-    let p = err_from_is_err_and c.from_residual-in_err-item.result c.from_residual-in_err-item.ensures.1 in
-    rw (p.1, p.2) (refuses g.T.FrameMeaning.reads keep [] _ _ _ c.loop-frame.invariant _ _ _ (rw c.in_ok-frame.was at c.in-Some.ensures.steps) c.in_err-item.ensures)
-
-pub loop-frame-preserved : goal.loop-frame-preserved
-loop-frame-preserved g c =
-    rw (c.in_ok-push.ensures.items, map_push)
-    (goes_on g.T.FrameMeaning.reads keep [] _ _ _ c.loop-frame.invariant _ _ _ (rw c.in_ok-frame.was at c.in-Some.ensures.steps) c.in_ok-item.ensures)
-
-pub returns : goal.returns
-returns g c = is_done g.T.FrameMeaning.reads keep [] _ _ _ c.loop-frame.invariant c.in-None.ensures.steps.0
+pub returns-clause-refused : goal.returns-clause-refused
+returns-clause-refused g c =
+    let reads = g.T.FrameMeaning.reads in
+    let are_bytes = IsBytes-slice c.args.bytes.now c.type_inv.bytes in
+    IfRefused-Gives (λ v. map g.T.FrameMeaning.see v.items) c.read_all.result (read_list reads keep [] c.args.bytes.now) c.read_all.ensures
+    (ListFault reads keep [] c.args.bytes.now) (λ e. ListFault-read_list reads keep [] c.args.bytes.now e are_bytes)

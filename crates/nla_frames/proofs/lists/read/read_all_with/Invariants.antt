@@ -1,7 +1,7 @@
 use Rattle.std.proofs.Common.{◌≡◌, map}
 use Rattle.nla_frames.specs.Iterator.{items_left}
 use Rattle.nla_frames.specs.Reading.{before, read_each, read_list, keep}
-use Rattle.nla_frames.proofs.lists.read.parse_list_with.Given as goal
+use Rattle.nla_frames.proofs.lists.read.read_all_with.Given as goal
 
 abbrev pub invariant-loop-frame : goal.invariant-loop-frame
 invariant-loop-frame g l =
