@@ -1,5 +1,5 @@
 -- Whole messages: their reading and their first fault in the words of the grammar, and their bytes.
-use Rattle.std.specs.Prelude.{◌≡◌, ◌⊎◌, ℕ, ◌+◌, ◌<◌, ◌≤◌, ◌^◌, List, [], ◌++◌, length, drop, suc, zero, Some, None, Ok, ◌==◌, if◌then◌else◌}
+use Rattle.std.specs.Prelude.{◌≡◌, ◌⊎◌, ℕ, ◌+◌, ◌<◌, ◌≤◌, ◌^◌, List, [], ◌++◌, length, drop, suc, zero, Some, None, Ok, Err, ◌↔◌, ◌==◌, if◌then◌else◌}
 use Rattle.nla_frames.specs.declared.error.DecodeError.{DecodeError}
 use Rattle.nla_frames.specs.declared.error.DecodeError.TheVariants.{BufferTooSmall}
 use Rattle.nla_frames.specs.Fault.{Outcome, ◌>>=◌}
@@ -63,3 +63,8 @@ module _ (layout : List Field) (rows : Rows) where
   pub record IsSettledMessage (m : Message) : Type 0 where
     pub header : IsSettledRecord layout m.header
     pub body : SettledEach (table_codec (table rows)).Settled kind_of_attribute [] m.body
+
+  -- the outcome is the one reading, or the one fault
+  pub record IsOutcome (bytes : List ℕ) (outcome : Outcome Message) : Type 0 where
+    pub reading : (m : Message) → (outcome ≡ Ok m) ↔ ReadsMessage bytes m
+    pub fault : (e : DecodeError) → (outcome ≡ Err e) ↔ MessageFault bytes e
