@@ -4,15 +4,16 @@ use Rattle.std.proofs.lemmas.Bool.{ltb-true, ltb-false, lt-ltb, le-ltb}
 use Rattle.std.specs.Prelude.{nat_lt, if◌then◌else◌}
 use Rattle.nla_frames.specs.declared.error.DecodeError.{DecodeError}
 use Rattle.nla_frames.specs.declared.error.DecodeError.TheVariants.{BufferTooSmall}
-use Rattle.nla_frames.specs.Fault.{Outcome, read_as, refused, ◌>>=◌}
+use Rattle.nla_frames.specs.Fault.{Outcome, Gives, read_as, refused, ◌>>=◌}
 use Rattle.nla_frames.specs.Value.{IsBytes}
 use Rattle.nla_frames.specs.Reading.{read_list}
 use Rattle.nla_frames.specs.ListGrammar.{ListReads, ListFault, OneOutcome}
+use Rattle.nla_frames.proofs.Outcomes.{Gives-err}
 use Rattle.nla_frames.proofs.Bytes.{IsBytes-drop}
 use Rattle.nla_frames.proofs.ListGrammarLaws.{one_outcome}
 use Rattle.tc_canon.specs.Descriptor.{Field, Rows, table}
 use Rattle.tc_meaning.specs.Tree.{Scalar, Attribute}
-use Rattle.tc_meaning.specs.Layout.{size_of, read_fields}
+use Rattle.tc_meaning.specs.Layout.{size_of, read_fields, read_record}
 use Rattle.tc_meaning.specs.Meaning.{table_codec}
 use Rattle.tc_meaning.specs.Message.{Message, kind_of_frame, ReadsMessage, MessageFault, read_message, IsOutcome}
 
@@ -77,3 +78,17 @@ message_outcome layout rows bytes are_bytes = go (nat_lt (length bytes) (size_of
         → IsOutcome layout rows bytes (after_header layout rows bytes (if short then refused (BufferTooSmall (length bytes) (size_of layout)) else read_as (read_fields layout bytes)))
     go true is = outcome_short layout rows bytes (ltb-true _ _ is)
     go false is = outcome_whole layout rows bytes (ltb-false _ _ is) _ (one_outcome (table_codec (table rows)).read kind_of_frame [] (drop (size_of layout) bytes) (IsBytes-drop (size_of layout) bytes are_bytes))
+
+module _ (layout : List Field) (rows : Rows) (bytes : List ℕ) (header : List Scalar) (header-is : read_as header ≡ read_record layout bytes) where
+  -- a message whose header and list are read
+  pub read_message-ok : (body : List Attribute) → read_list (table_codec (table rows)).read kind_of_frame [] (drop (size_of layout) bytes) ≡ read_as body
+      → read_message layout rows bytes ≡ read_as (record { header = header; body = body })
+  unfolding read_message
+  read_message-ok body body-is = rw (← header-is, body-is) refl
+
+  -- a message whose list is refused
+  pub read_message-err : (e : DecodeError) → Gives (refused {X = List Attribute} e) (read_list (table_codec (table rows)).read kind_of_frame [] (drop (size_of layout) bytes))
+      → Gives (refused {X = Message} e) (read_message layout rows bytes)
+  unfolding read_message
+  read_message-err e given =
+      Gives-err e (read_list (table_codec (table rows)).read kind_of_frame [] (drop (size_of layout) bytes)) (read_message layout rows bytes) given (λ is. rw (← header-is, is) refl)

@@ -1,5 +1,5 @@
 -- A family of addresses as a field of a record.
-use Rattle.std.proofs.Common.{◌≡◌, ℕ, ◌<◌, Bool, true, false, List, [], ◌∷◌, refl, sym, ap, ◌∙◌, arith}
+use Rattle.std.proofs.Common.{◌≡◌, ℕ, ◌<◌, length, Bool, true, false, List, [], ◌∷◌, refl, sym, ap, ◌∙◌, arith}
 use Rattle.std.proofs.lemmas.Bool.{eqb-true}
 use Rattle.std.specs.Prelude.{◌||◌, ◌==◌, if◌then◌else◌}
 use Rattle.std.specs.List.{list_any}
@@ -46,3 +46,15 @@ family_bytes Inet6 fits = refl
 family_bytes Netlink fits = refl
 family_bytes Packet fits = refl
 family_bytes Mpls fits = refl
+
+-- a family has one byte
+pub family_length : (family : AddressFamily) → length (field_bytes (named 1 address_families) (family_scalar family)) ≡ 1
+family_length (Other n) = refl
+family_length Unspec = refl
+family_length Unix = refl
+family_length Inet = refl
+family_length Bridge = refl
+family_length Inet6 = refl
+family_length Netlink = refl
+family_length Packet = refl
+family_length Mpls = refl

@@ -1,4 +1,5 @@
 pub mod Families
 pub mod Headers
 pub mod KindTexts
+pub mod MessageBytes
 pub mod NestedOptions

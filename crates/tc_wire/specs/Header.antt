@@ -1,8 +1,8 @@
 -- What a header is, field by field.
-use Rattle.std.specs.Prelude.{ℕ, ◌+◌, ◌*◌, ◌/◌, ◌%◌, List, [], ◌∷◌}
+use Rattle.std.specs.Prelude.{pos, ℕ, ◌+◌, ◌*◌, ◌/◌, ◌%◌, List, [], ◌∷◌}
 use Rattle.std.specs.Int.{w32, cast_unsigned}
 use Rattle.nla_frames.specs.declared.family.AddressFamily.{AddressFamily}
-use Rattle.nla_frames.specs.declared.family.AddressFamily.TheVariants.{Other}
+use Rattle.nla_frames.specs.declared.family.AddressFamily.TheVariants.{Unspec, Other}
 use Rattle.nla_frames.specs.Family.{number_of}
 use Rattle.tc_meaning.specs.Tree.{Scalar, plain, unnamed, blank}
 use Rattle.tc_wire.specs.declared.header.TcHandle.{TcHandle}
@@ -28,3 +28,7 @@ header_scalars h =
     ∷ plain (handle_number h.parent)
     ∷ plain h.info
     ∷ []
+
+-- the default: no family, every number 0
+abbrev pub empty_header : TcHeader
+empty_header = record { family = Unspec; index = pos 0; handle = handle_of 0; parent = handle_of 0; info = 0 }

@@ -2,3 +2,4 @@ pub mod Header
 pub mod FqCodel
 pub mod Options
 pub mod Attribute
+pub mod Message

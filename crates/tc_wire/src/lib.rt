@@ -9,5 +9,6 @@ pub mod qdiscs;
 
 pub use attribute::{TcAttribute, VecTcAttribute};
 pub use header::{TcHandle, TcHeader};
+pub use message::TcMessage;
 pub use options::{TcOption, VecTcOption};
 pub use qdiscs::fq_codel::{TcQdiscFqCodel, TcQdiscFqCodelOption};

@@ -12,9 +12,11 @@ use Rattle.tc_wire.proofs.KindTexts.{kind_is_text}
 use Rattle.tc_wire.proofs.attribute.VecTcAttributeParseableBytes.parse.Goals as goal
 
 pub loop-frame-init : goal.loop-frame-init
-loop-frame-init g c =
-    (([], (refl, refl)), starts (table_codec (table attributes)).read kind_of_frame [] c.args.bytes.now _ _ (ap (map tc_attribute) c.new-list.ensures.items)
-    (ap items_left c.into_iter-frame-iterator.ensures.into_iter_gives ∙ c.new-frame-items.ensures))
+loop-frame-init g c = (
+  ([], (refl, refl)),
+  starts (table_codec (table attributes)).read kind_of_frame [] c.args.bytes.now _ _ (ap (map tc_attribute) c.new-list.ensures.items)
+      (ap items_left c.into_iter-frame-iterator.ensures.into_iter_gives ∙ c.new-frame-items.ensures),
+)
 
 pub returns-in_err-frame : goal.returns-in_err-frame
 returns-in_err-frame g c =
@@ -28,9 +30,11 @@ returns-in_err-item g c =
 
 pub loop-frame-preserved : goal.loop-frame-preserved
 loop-frame-preserved g c =
-    let kind = c.kind_after-kind.ensures (kind_is_text _ _ _ c.in_ok-item.ensures) in
-    (c.kind_after-kind.utf8, rw (c.in_ok-push.ensures.items, map_push, kind)
-    (goes_on (table_codec (table attributes)).read kind_of_frame _ _ _ _ c.loop-frame.invariant.1 _ _ _ (rw c.in_ok-frame.was at c.in-Some.ensures.steps) c.in_ok-item.ensures))
+    let kind = c.kind_after-kind.ensures (kind_is_text _ _ _ c.in_ok-item.ensures) in (
+      c.kind_after-kind.utf8,
+      rw (c.in_ok-push.ensures.items, map_push, kind)
+          (goes_on (table_codec (table attributes)).read kind_of_frame _ _ _ _ c.loop-frame.invariant.1 _ _ _ (rw c.in_ok-frame.was at c.in-Some.ensures.steps) c.in_ok-item.ensures),
+    )
 
 pub returns : goal.returns
 returns g c = is_done (table_codec (table attributes)).read kind_of_frame _ _ _ _ c.loop-frame.invariant.1 c.in-None.ensures.steps.0

@@ -14,4 +14,4 @@ abbrev pub invariant-loop-frame : goal.invariant-loop-frame
 invariant-loop-frame g l =
     shadow (Utf8 l.kind)
     × (before (map tc_attribute l.list.items) (read_each (table_codec (table attributes)).read kind_of_frame l.kind (items_left l.frame-iterator))
-        ≡ read_list (table_codec (table attributes)).read kind_of_frame [] l.bytes)
+    ≡ read_list (table_codec (table attributes)).read kind_of_frame [] l.bytes)
