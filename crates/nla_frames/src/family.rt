@@ -1,6 +1,6 @@
 //! Families of addresses.
 
-ghost use Rattle.std.specs.Prelude.{◌≡◌, ℕ};
+ghost use Rattle.std.specs.Prelude.{◌≡◌};
 ghost use Rattle.nla_frames.specs.Family.{family_of, number_of};
 
 /// A family of addresses, one byte in a message: `AF_*` of `linux/socket.h`.
@@ -70,8 +70,3 @@ impl From<AddressFamily> for u8 {
         }
     }
 }
-
-/// A number is the number of its family, so reading and writing a family loses nothing. It does nothing when it runs.
-pub fn family_numbers()
-    ensures { (n : ℕ) → number_of (family_of n) ≡ n }
-{}

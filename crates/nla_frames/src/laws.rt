@@ -1,6 +1,7 @@
 //! What the definitions promise of one another, as contracts of functions that do nothing.
 
-ghost use Rattle.std.specs.Prelude.{◌≡◌, List, Option};
+ghost use Rattle.std.specs.Prelude.{◌≡◌, ℕ, List, Option};
+ghost use Rattle.nla_frames.specs.Family.{family_of, number_of};
 ghost use Rattle.nla_frames.specs.declared.error.DecodeError.{DecodeError};
 ghost use Rattle.nla_frames.specs.Frame.{Frame};
 ghost use Rattle.nla_frames.specs.Grammar.{CutsUp};
@@ -25,4 +26,9 @@ pub fn cutting(bytes: &[u8])
 /// refused, with this fault. So all bytes have one reading and no fault, or no reading and one fault.
 pub fn list_grammar<T: FrameMeaning>(bytes: &[u8], kind: &str)
     ensures { (sets : Sets Frame) → OneOutcome T.reads sets kind.now bytes.now (read_list T.reads sets kind.now bytes.now) }
+{}
+
+/// A number is the number of its family, so reading and writing a family loses nothing.
+pub fn family_numbers()
+    ensures { (n : ℕ) → number_of (family_of n) ≡ n }
 {}

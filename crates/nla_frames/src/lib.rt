@@ -26,12 +26,13 @@ pub use nla::{
     NLA_F_NESTED, NLA_F_NET_BYTEORDER, NLA_HEADER_SIZE, NLA_TYPE_MASK, NLA_VALUE_MAX_SIZE, Nla,
 };
 pub use parse::{Emitable, Parseable, ParseableBytes, ParseableParametrized};
+pub use values::bytes::{i32_bytes, u16_be_bytes, u16_bytes, u32_be_bytes, u32_bytes, u64_bytes};
 pub use values::read::{
     parse_ipv4_addr, parse_ipv6_addr, parse_mac, parse_string, parse_u8, parse_u16, parse_u16_be,
     parse_u32, parse_u32_be, strip_nul,
 };
 pub use values::split::{skip, split_i32, split_u8, split_u32};
 pub use values::write::{
-    emit_u16, emit_u16_be, emit_u32, emit_u32_be, i32_bytes, put_bytes, put_text, put_u8, put_u16,
-    put_u16_be, put_u32, put_u32_be, put_u64, u32_bytes,
+    emit_u16, emit_u16_be, emit_u32, emit_u32_be, put_bytes, put_text, put_u8, put_u16, put_u16_be,
+    put_u32, put_u32_be, put_u64,
 };

@@ -3,3 +3,4 @@ pub mod FqCodel
 pub mod Options
 pub mod Attribute
 pub mod Message
+pub mod Facade

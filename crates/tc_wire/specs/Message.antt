@@ -3,7 +3,7 @@ use Rattle.std.specs.Prelude.{ℕ, List, map}
 use Rattle.nla_frames.specs.declared.error.DecodeError.{DecodeError}
 use Rattle.tc_canon.specs.Layouts.{tc_header}
 use Rattle.tc_canon.specs.Tables.{attributes}
-use Rattle.tc_meaning.specs.Message.{Message, ReadsMessage, MessageFault}
+use Rattle.tc_meaning.specs.Message.{Message, ReadsMessage, MessageFault, FitsMessage, message_bytes}
 use Rattle.tc_wire.specs.declared.message.TcMessage.{TcMessage}
 use Rattle.tc_wire.specs.Header.{header_scalars}
 use Rattle.tc_wire.specs.Attribute.{tc_attribute}
@@ -19,3 +19,11 @@ ReadsTc = ReadsMessage tc_header attributes
 -- the first fault of the bytes: a short header, or the broken or faulty frame that comes first
 abbrev pub FaultTc : List ℕ → DecodeError → Type 0
 FaultTc = MessageFault tc_header attributes
+
+-- it can be written: each value in it has at most 65531 bytes, and the whole can be counted
+abbrev pub FitsTc : Message → Type 0
+FitsTc = FitsMessage tc_header attributes
+
+-- its bytes: the header, and the frames of the attributes
+abbrev pub tc_bytes : Message → List ℕ
+tc_bytes = message_bytes tc_header attributes

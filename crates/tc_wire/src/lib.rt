@@ -10,5 +10,11 @@ pub mod qdiscs;
 pub use attribute::{TcAttribute, VecTcAttribute};
 pub use header::{TcHandle, TcHeader};
 pub use message::TcMessage;
+pub use nla_frames::{
+    AddressFamily, BytesMeaning, DecodeError, DefaultNla, Emitable, FrameMeaning, NLA_F_NESTED,
+    NLA_F_NET_BYTEORDER, NLA_HEADER_SIZE, NLA_TYPE_MASK, Nla, NlaBuffer, NlasIterator, Parseable,
+    ParseableBytes, ParseableParametrized, Res, emit_list, list_fits, list_len, parse_frames_with,
+    parse_list, parse_list_with, put_list,
+};
 pub use options::{TcOption, VecTcOption};
 pub use qdiscs::fq_codel::{TcQdiscFqCodel, TcQdiscFqCodelOption};

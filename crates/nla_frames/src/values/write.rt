@@ -1,9 +1,10 @@
 //! Writing plain values, each at the front of a buffer. What stands after it stays as it was.
 
 ghost use Rattle.std.specs.Prelude.{◌≡◌, ℕ, List, ◌∷◌, [], length};
-ghost use Rattle.std.specs.Int.{w32, cast_unsigned};
 ghost use Rattle.nla_frames.specs.Emission.{Writes, HasRoom};
 ghost use Rattle.nla_frames.specs.Value.{le_bytes, be_bytes, terminated};
+
+use crate::values::bytes::{u16_be_bytes, u16_bytes, u32_be_bytes, u32_bytes, u64_bytes};
 
 /// Writes bytes as they are, and answers how many.
 pub fn put_bytes(buffer: &mut [u8], bytes: &[u8]) -> usize
@@ -41,7 +42,7 @@ pub fn emit_u16(buffer: &mut [u8], value: u16)
     requires { HasRoom (le_bytes 2 value) buffer.old }
     ensures { Writes (le_bytes 2 value) buffer.old buffer.new }
 {
-    put_bytes(buffer, &u16::to_le_bytes(value));
+    put_bytes(buffer, &u16_bytes(value));
 }
 
 /// Writes a number of four bytes, the low byte first.
@@ -49,7 +50,7 @@ pub fn emit_u32(buffer: &mut [u8], value: u32)
     requires { HasRoom (le_bytes 4 value) buffer.old }
     ensures { Writes (le_bytes 4 value) buffer.old buffer.new }
 {
-    put_bytes(buffer, &u32::to_le_bytes(value));
+    put_bytes(buffer, &u32_bytes(value));
 }
 
 /// Writes a number of two bytes, the high byte first.
@@ -57,7 +58,7 @@ pub fn emit_u16_be(buffer: &mut [u8], value: u16)
     requires { HasRoom (be_bytes 2 value) buffer.old }
     ensures { Writes (be_bytes 2 value) buffer.old buffer.new }
 {
-    put_bytes(buffer, &u16::to_be_bytes(value));
+    put_bytes(buffer, &u16_be_bytes(value));
 }
 
 /// Writes a number of four bytes, the high byte first.
@@ -65,7 +66,7 @@ pub fn emit_u32_be(buffer: &mut [u8], value: u32)
     requires { HasRoom (be_bytes 4 value) buffer.old }
     ensures { Writes (be_bytes 4 value) buffer.old buffer.new }
 {
-    put_bytes(buffer, &u32::to_be_bytes(value));
+    put_bytes(buffer, &u32_be_bytes(value));
 }
 
 /// Writes a number of two bytes, the low byte first, and answers 2.
@@ -94,7 +95,7 @@ pub fn put_u64(buffer: &mut [u8], value: u64) -> usize
     ensures written { Writes (le_bytes 8 value) buffer.old buffer.new }
     ensures length { result ≡ 8 }
 {
-    put_bytes(buffer, &u64::to_le_bytes(value))
+    put_bytes(buffer, &u64_bytes(value))
 }
 
 /// Writes a number of two bytes, the high byte first, and answers 2.
@@ -115,18 +116,4 @@ pub fn put_u32_be(buffer: &mut [u8], value: u32) -> usize
 {
     emit_u32_be(buffer, value);
     4
-}
-
-/// The four bytes of a number, the low byte first.
-pub fn u32_bytes(value: u32) -> [u8; 4]
-    ensures { result ≡ le_bytes 4 value }
-{
-    value.to_le_bytes()
-}
-
-/// The four bytes of a signed number, the low byte first.
-pub fn i32_bytes(value: i32) -> [u8; 4]
-    ensures { result ≡ le_bytes 4 (cast_unsigned w32 value) }
-{
-    value.to_le_bytes()
 }
