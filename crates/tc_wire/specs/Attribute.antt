@@ -1,6 +1,12 @@
 -- A message's attribute as contracts see it.
-use Rattle.std.specs.Prelude.{map, string_bytes}
+use Rattle.std.specs.Prelude.{ℕ, List, [], map, string_bytes}
+use Rattle.nla_frames.specs.declared.error.DecodeError.{DecodeError}
+use Rattle.nla_frames.specs.ListGrammar.{ListReads, ListFault}
 use Rattle.nla_frames.specs.DefaultNla.{kept_frame}
+use Rattle.tc_canon.specs.Descriptor.{table}
+use Rattle.tc_canon.specs.Tables.{attributes}
+use Rattle.tc_meaning.specs.Meaning.{table_codec}
+use Rattle.tc_meaning.specs.Message.{kind_of_frame}
 use Rattle.tc_meaning.specs.Tree.{Attribute, known, kept, other, is_bytes, items, attributes_of}
 use Rattle.tc_wire.specs.declared.attribute.TcAttribute.{TcAttribute}
 use Rattle.tc_wire.specs.declared.attribute.TcAttribute.TheVariants.{Kind, Options, OptionsRaw, Other}
@@ -11,3 +17,11 @@ tc_attribute (Kind kind) = known 1 (is_bytes (string_bytes kind))
 tc_attribute (Options options) = known 2 (items (attributes_of (map tc_option options.items)))
 tc_attribute (OptionsRaw nla) = kept 2 (kept_frame nla).word (kept_frame nla).value
 tc_attribute (Other nla) = other (kept_frame nla).word (kept_frame nla).value
+
+-- the bytes are frames, and each reads as its attribute under the kind that is set last before its place
+abbrev pub ReadsAttributes : List ℕ → List Attribute → Type 0
+ReadsAttributes = ListReads (table_codec (table attributes)).read kind_of_frame []
+
+-- the first fault of a list of attributes
+abbrev pub AttributesFault : List ℕ → DecodeError → Type 0
+AttributesFault = ListFault (table_codec (table attributes)).read kind_of_frame []

@@ -1,6 +1,7 @@
 //! The attributes of a message.
 
-ghost use Rattle.std.specs.Prelude.{◌≡◌, List, [], map, IsOk};
+ghost use Rattle.std.specs.Prelude.{◌≡◌, List, [], map, IfOk, IsOk};
+ghost use Rattle.nla_frames.specs.Fault.{Gives, IfRefused, seen};
 ghost use Rattle.nla_frames.specs.Value.{text};
 ghost use Rattle.nla_frames.specs.Frame.{type_of};
 ghost use Rattle.nla_frames.specs.Buffer.{frame_of};
@@ -14,7 +15,7 @@ ghost use Rattle.tc_meaning.specs.Tree.{Attribute};
 ghost use Rattle.tc_meaning.specs.Meaning.{table_codec};
 ghost use Rattle.tc_meaning.specs.Message.{kind_of_frame, kind_of_attribute};
 ghost use Rattle.tc_meaning.specs.Short.{table_short};
-ghost use Rattle.tc_wire.specs.Attribute.{tc_attribute};
+ghost use Rattle.tc_wire.specs.Attribute.{tc_attribute, ReadsAttributes, AttributesFault};
 
 use crate::options::{TcOption, VecTcOption, is_known_kind};
 use nla_frames::{
@@ -136,17 +137,30 @@ impl<A: Allocator> BytesMeaning for VecTcAttribute<A> {
 }
 
 impl<A: Allocator + Copy> ParseableBytes<A> for VecTcAttribute<A> {
-    fn parse(alloc: A, bytes: &[u8]) -> Res<VecTcAttribute<A>> {
-        let mut list = Vec::new(alloc);
-        let mut kind = "";
-        for frame in NlasIterator::new(bytes) {
-            let frame = frame?;
-            let item = TcAttribute::parse_with_param(alloc, &frame, kind)?;
-            kind = kind_after(kind, &frame);
-            list.push(item)?;
-        }
-        Ok(VecTcAttribute(list))
+    fn parse(alloc: A, bytes: &[u8]) -> Res<VecTcAttribute<A>>
+        // What is read is what the grammar reads, each frame under the kind that is set last before it.
+        ensures found { IfOk result (λ list. ReadsAttributes bytes.now (map tc_attribute list.0.items)) }
+        // What is refused has this fault, and it is the first.
+        ensures refused { IfRefused result (AttributesFault bytes.now) }
+        // The same, by the function that computes both.
+        ensures exact { Gives (seen (λ list. map tc_attribute list.0.items) result) (read_list (table_codec (table attributes)).read kind_of_frame [] bytes.now) }
+    {
+        read_attributes(alloc, bytes)
     }
+}
+
+fn read_attributes<A: Allocator + Copy>(alloc: A, bytes: &[u8]) -> Res<VecTcAttribute<A>>
+    ensures { Gives (seen (λ list. map tc_attribute list.0.items) result) (read_list (table_codec (table attributes)).read kind_of_frame [] bytes.now) }
+{
+    let mut list = Vec::new(alloc);
+    let mut kind = "";
+    for frame in NlasIterator::new(bytes) {
+        let frame = frame?;
+        let item = TcAttribute::parse_with_param(alloc, &frame, kind)?;
+        kind = kind_after(kind, &frame);
+        list.push(item)?;
+    }
+    Ok(VecTcAttribute(list))
 }
 
 // The kind in force after a frame: the text of a frame of type 1, whatever its flags are. A value that is no text

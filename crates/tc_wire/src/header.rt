@@ -75,6 +75,11 @@ impl From<TcHandle> for u32 {
 }
 
 impl fmt::Display for TcHandle {
+    ghost use Rattle.std.specs.Prelude.{◌++◌, codes, Some};
+    ghost use Rattle.std.specs.Fmt.{decimal};
+
+    ghost output = { λ handle. Some (decimal handle.major ++ codes ":" ++ decimal handle.minor) };
+
     fn fmt<W: fmt::Write>(&self, f: &mut fmt::Formatter<W>) -> fmt::Result {
         let major = self.major;
         let minor = self.minor;

@@ -8,7 +8,7 @@ use Rattle.tc_canon.specs.Tables.{attributes}
 use Rattle.tc_meaning.specs.Meaning.{table_codec}
 use Rattle.tc_meaning.specs.Message.{kind_of_frame}
 use Rattle.tc_wire.specs.Attribute.{tc_attribute}
-use Rattle.tc_wire.proofs.attribute.VecTcAttributeParseableBytes.parse.Given as goal
+use Rattle.tc_wire.proofs.attribute.read_attributes.Given as goal
 
 abbrev pub invariant-loop-frame : goal.invariant-loop-frame
 invariant-loop-frame g l =
