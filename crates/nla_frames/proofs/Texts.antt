@@ -1,9 +1,9 @@
 -- The test of a text against what std's test of UTF-8 says.
-use Rattle.std.proofs.Common.{◌≡◌, ℕ, List, Bool, true, false, Ok, Err, refl, cond}
+use Rattle.std.proofs.Common.{◌≡◌, ℕ, List, Bool, true, false, refl, cond}
 use Rattle.std.specs.Str.{IsUtf8, is_utf8}
 use Rattle.std.proofs.lemmas.Str.{IsUtf8-from_is_utf8, is_utf8-from_IsUtf8}
 use Rattle.nla_frames.specs.declared.error.DecodeError.TheVariants.{NotUtf8}
-use Rattle.nla_frames.specs.Fault.{Outcome, read_as, refused}
+use Rattle.nla_frames.specs.Fault.{read_as, refused}
 use Rattle.nla_frames.specs.Value.{strip, text}
 
 -- the bytes before the NUL are UTF-8

@@ -1,5 +1,5 @@
 -- The frame that a buffer holds.
-use Rattle.std.specs.Prelude.{List, Ok, Err}
+use Rattle.std.specs.Prelude.{Ok, Err}
 use Rattle.nla_frames.specs.declared.buffer.NlaBuffer.{NlaBuffer}
 use Rattle.nla_frames.specs.Fault.{Outcome}
 use Rattle.nla_frames.specs.Frame.{Frame}

@@ -1,5 +1,5 @@
 -- The language of the tables: what stands in a frame's value, by the frame's type and the kind in force.
-use Rattle.std.specs.Prelude.{ℕ, ◌+◌, Bool, true, false, List, [], ◌∷◌, ◌&&◌, nat_le, if◌then◌else◌}
+use Rattle.std.specs.Prelude.{ℕ, Bool, true, false, List, ◌&&◌, nat_le, if◌then◌else◌}
 use Rattle.std.specs.Str.{bytes_eq}
 
 -- a field of a fixed record; its place is the sum of the widths before it
@@ -55,7 +55,6 @@ is_known unknown k = false
 is_known (kind name rows kinds) k = if bytes_eq k name then true else is_known kinds k
 
 infixr 30 ◌▹◌
-
 -- rows one below the other
 abbrev pub ◌▹◌ : (Rows → Rows) → Rows → Rows
 row ▹ rows = row rows

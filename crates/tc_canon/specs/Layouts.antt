@@ -9,10 +9,10 @@ address_families = 0 ∷ 1 ∷ 2 ∷ 7 ∷ 10 ∷ 16 ∷ 17 ∷ 28 ∷ []
 -- `struct tcmsg`
 abbrev pub tc_header : List Field
 tc_header =
-    named 1 address_families    -- tcm_family
-  ∷ pad 3
-  ∷ little 4                    -- tcm_ifindex
-  ∷ little 4                    -- tcm_handle
-  ∷ little 4                    -- tcm_parent
-  ∷ little 4                    -- tcm_info
-  ∷ []
+    named 1 address_families  -- tcm_family
+    ∷ pad 3
+    ∷ little 4  -- tcm_ifindex
+    ∷ little 4  -- tcm_handle
+    ∷ little 4  -- tcm_parent
+    ∷ little 4  -- tcm_info
+    ∷ []

@@ -1,13 +1,13 @@
 -- Reading a message is the grammar of messages.
-use Rattle.std.proofs.Common.{◌≡◌, ℕ, ◌<◌, ◌≤◌, List, [], length, drop, Bool, true, false, Result, Ok, Err, refl, sym, ap, subst, ◌∙◌, arith, inl, inr, cond, ◌⊎◌, ◌↔◌}
-use Rattle.std.proofs.lemmas.Bool.{ltb-true, ltb-false, lt-ltb, le-ltb}
+use Rattle.std.proofs.Common.{◌≡◌, ℕ, ◌<◌, ◌≤◌, List, [], length, drop, Bool, true, false, Ok, Err, refl, sym, ap, subst, arith, inl, inr}
+use Rattle.std.proofs.lemmas.Bool.{ltb-true, ltb-false}
 use Rattle.std.specs.Prelude.{nat_lt, if◌then◌else◌}
 use Rattle.nla_frames.specs.declared.error.DecodeError.{DecodeError}
 use Rattle.nla_frames.specs.declared.error.DecodeError.TheVariants.{BufferTooSmall}
 use Rattle.nla_frames.specs.Fault.{Outcome, Gives, read_as, refused, ◌>>=◌}
 use Rattle.nla_frames.specs.Value.{IsBytes}
 use Rattle.nla_frames.specs.Reading.{read_list}
-use Rattle.nla_frames.specs.ListGrammar.{ListReads, ListFault, OneOutcome}
+use Rattle.nla_frames.specs.ListGrammar.{OneOutcome}
 use Rattle.nla_frames.proofs.Outcomes.{Gives-err}
 use Rattle.nla_frames.proofs.Bytes.{IsBytes-drop}
 use Rattle.nla_frames.proofs.ListGrammarLaws.{one_outcome}

@@ -1,14 +1,11 @@
 -- Contents that hold no attributes, class by class.
-use Rattle.std.specs.Prelude.{◌≡◌, ℕ, ◌<◌, ◌≤◌, ◌^◌, ◌%◌, Bool, true, false, List, [], ◌∷◌, length, not, Ok, Err, nat_lt, ◌==◌, if◌then◌else◌}
+use Rattle.std.specs.Prelude.{◌≡◌, ℕ, ◌<◌, ◌^◌, ◌%◌, Bool, true, false, List, [], ◌∷◌, length, not, Ok, ◌==◌, if◌then◌else◌}
 use Rattle.std.specs.Str.{is_utf8}
-use Rattle.nla_frames.specs.declared.error.DecodeError.TheVariants.{BufferTooSmall}
 use Rattle.nla_frames.specs.Fault.{Outcome, seen}
 use Rattle.nla_frames.specs.Value as plain_values
 use Rattle.nla_frames.specs.Value.{IsBytes, le_bytes, le_number, be_bytes, be_number, exactly, strip, terminated}
 use Rattle.nla_frames.specs.Codec.{Codec}
-use Rattle.tc_canon.specs.Descriptor.{Field}
-use Rattle.tc_meaning.specs.Tree.{Scalar, Content, number, is_bytes, flag, record_of}
-use Rattle.tc_meaning.specs.Layout.{size_of, read_fields, fields_bytes}
+use Rattle.tc_meaning.specs.Tree.{Content, number, is_bytes, flag}
 
 -- the values of a type among all contents: `out` takes apart what `into` made
 pub record Shape (X : Type 0) : Type 0 where

@@ -1,15 +1,13 @@
 -- What the tables mean: each is a codec of frames.
-use Rattle.std.specs.Prelude.{◌≡◌, ℕ, ◌+◌, ◌<◌, ◌≤◌, ◌^◌, Bool, true, false, List, [], ◌∷◌, length, map, Option, Some, None, Ok, Err, ◌==◌, if◌then◌else◌, MatchBool, ⊤}
-use Rattle.std.specs.List.{AllByRecursion}
+use Rattle.std.specs.Prelude.{◌≡◌, ℕ, ◌+◌, ◌<◌, ◌≤◌, ◌^◌, Bool, true, false, List, [], length, Ok, ◌==◌, if◌then◌else◌, MatchBool}
 use Rattle.std.specs.Str.{bytes_eq}
 use Rattle.nla_frames.specs.Fault.{Outcome, seen}
 use Rattle.nla_frames.specs.Value.{IsBytes}
 use Rattle.nla_frames.specs.Frame.{Frame, type_of}
 use Rattle.nla_frames.specs.Reading.{keep}
 use Rattle.nla_frames.specs.Codec.{Codec, list_codec}
-use Rattle.tc_canon.specs.Descriptor as descriptor
 use Rattle.tc_canon.specs.Descriptor.{Class, le, text, list_of, Table, table, by_kind, Rows, others, types, options, Kinds, unknown, kind, is_within, is_known}
-use Rattle.tc_meaning.specs.Tree.{Content, items, Attribute, known, kept, other, of_kind, Attributes, none, attributes_of, list_of_attributes, number_of}
+use Rattle.tc_meaning.specs.Tree.{Content, items, Attribute, known, kept, other, of_kind, attributes_of, list_of_attributes, number_of}
 use Rattle.tc_meaning.specs.Content.{Shape, via, a_number, le_codec, some_bytes, text_codec}
 
 abbrev pub a_list : Shape (List Attribute)

@@ -41,7 +41,7 @@ module _ (layout : List Field) (rows : Rows) where
   abbrev pub MessageFault : List ℕ → DecodeError → Type 0
   MessageFault bytes e =
       ((length bytes < size_of layout) × (e ≡ BufferTooSmall (length bytes) (size_of layout)))
-    ⊎ ((size_of layout ≤ length bytes) × ListFault (table_codec (table rows)).read kind_of_frame [] (drop (size_of layout) bytes) e)
+      ⊎ ((size_of layout ≤ length bytes) × ListFault (table_codec (table rows)).read kind_of_frame [] (drop (size_of layout) bytes) e)
 
   -- the same as a function
   unfoldable pub read_message : List ℕ → Outcome Message

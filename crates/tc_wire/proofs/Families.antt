@@ -1,15 +1,14 @@
 -- A family of addresses as a field of a record.
-use Rattle.std.proofs.Common.{◌≡◌, ℕ, ◌<◌, length, Bool, true, false, List, [], ◌∷◌, refl, sym, ap, ◌∙◌, arith}
+use Rattle.std.proofs.Common.{◌≡◌, ℕ, ◌<◌, length, Bool, true, false, [], ◌∷◌, refl, sym, ap, ◌∙◌, arith}
 use Rattle.std.proofs.lemmas.Bool.{eqb-true}
 use Rattle.std.specs.Prelude.{◌||◌, ◌==◌, if◌then◌else◌}
 use Rattle.std.specs.List.{list_any}
 use Rattle.nla_frames.specs.declared.family.AddressFamily.{AddressFamily}
 use Rattle.nla_frames.specs.declared.family.AddressFamily.TheVariants.{Unspec, Unix, Inet, Bridge, Inet6, Netlink, Packet, Mpls, Other}
 use Rattle.nla_frames.specs.Family.{family_of, number_of}
-use Rattle.nla_frames.specs.Value.{le_value}
 use Rattle.tc_canon.specs.Descriptor.{named}
 use Rattle.tc_canon.specs.Layouts.{address_families}
-use Rattle.tc_meaning.specs.Tree.{Scalar, plain, unnamed}
+use Rattle.tc_meaning.specs.Tree.{plain, unnamed}
 use Rattle.tc_meaning.specs.Layout.{field_bytes}
 use Rattle.tc_wire.specs.Header.{family_scalar}
 

@@ -1,9 +1,7 @@
 -- The kind that a frame sets.
-use Rattle.std.proofs.Common.{◌≡◌, ℕ, List, Bool, true, false, Result, Ok, Err, IsOk, is_ok, refl, ap, ◌∙◌, sym}
-use Rattle.std.proofs.lemmas.Bool.{eqb-true}
-use Rattle.std.specs.Prelude.{◌==◌}
+use Rattle.std.proofs.Common.{◌≡◌, ℕ, List, true, false, Ok, Err, IsOk, refl}
 use Rattle.std.specs.Str.{IsUtf8}
-use Rattle.nla_frames.specs.Fault.{Outcome, read_as, refused, seen}
+use Rattle.nla_frames.specs.Fault.{Outcome, read_as, seen}
 use Rattle.nla_frames.specs.Value.{strip, text}
 use Rattle.nla_frames.specs.Frame.{Frame, type_of}
 use Rattle.nla_frames.proofs.Texts.{text-err}

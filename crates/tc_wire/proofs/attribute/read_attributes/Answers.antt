@@ -1,4 +1,4 @@
-use Rattle.std.proofs.Common.{◌≡◌, ap, sym, refl, ◌∙◌, map, []}
+use Rattle.std.proofs.Common.{ap, refl, ◌∙◌, map, []}
 use Rattle.std.proofs.lemmas.Result.{err_from_is_err_and}
 use Rattle.std.proofs.lemmas.List.{map_push}
 use Rattle.nla_frames.specs.Iterator.{items_left}

@@ -1,4 +1,4 @@
-use Rattle.std.proofs.Common.{Ok, ap, sym, ◌∙◌}
+use Rattle.std.proofs.Common.{ap, sym, ◌∙◌}
 use Rattle.nla_frames.proofs.Texts.{text-ok, text-err}
 use Rattle.nla_frames.specs.Fault.{read_as}
 use Rattle.nla_frames.proofs.values.read.parse_string.Goals as goal

@@ -1,4 +1,4 @@
-use Rattle.std.proofs.Common.{arith, rules}
+use Rattle.std.proofs.Common.{arith}
 use mir.Val.{SFits}
 use Rattle.std.specs.Int.{w32}
 use Rattle.tc_wire.proofs.Headers.{header_read}

@@ -1,7 +1,7 @@
-use Rattle.std.proofs.Common.{refl, subst, ◌<◌, rules, arith}
+use Rattle.std.proofs.Common.{refl, subst, ◌<◌}
 use mir.Val.{SFits}
 use Rattle.std.specs.Int.{w32}
-use Rattle.std.proofs.lemmas.Int.{to_z-of_z, ints}
+use Rattle.std.proofs.lemmas.Int.{to_z-of_z}
 use Rattle.tc_wire.proofs.Families.{family_bytes}
 use Rattle.tc_wire.proofs.header.TcHeader.to_bytes.Goals as goal
 
