@@ -6,7 +6,7 @@ use Rattle.nla_frames.specs.Value.{strip, text}
 use Rattle.nla_frames.specs.Frame.{Frame, type_of}
 use Rattle.nla_frames.proofs.Texts.{text-err}
 use Rattle.tc_canon.specs.Descriptor.{table}
-use Rattle.tc_canon.specs.Tables.{attributes}
+use Rattle.tc_wire.specs.Stage.{attributes}
 use Rattle.tc_meaning.specs.Tree.{Attribute, known, is_bytes}
 use Rattle.tc_meaning.specs.Meaning.{table_codec}
 

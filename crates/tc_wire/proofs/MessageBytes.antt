@@ -6,7 +6,7 @@ use Rattle.nla_frames.specs.Emission.{Writes, HasRoom, list_bytes}
 use Rattle.nla_frames.proofs.Writing.{back_and_front}
 use Rattle.tc_canon.specs.Descriptor.{table}
 use Rattle.tc_canon.specs.Layouts.{tc_header}
-use Rattle.tc_canon.specs.Tables.{attributes}
+use Rattle.tc_wire.specs.Stage.{attributes}
 use Rattle.tc_meaning.specs.Tree.{Attribute}
 use Rattle.tc_meaning.specs.Layout.{fields_bytes}
 use Rattle.tc_meaning.specs.Meaning.{table_codec}

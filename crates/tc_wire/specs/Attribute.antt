@@ -4,7 +4,7 @@ use Rattle.nla_frames.specs.declared.error.DecodeError.{DecodeError}
 use Rattle.nla_frames.specs.ListGrammar.{ListReads, ListFault}
 use Rattle.nla_frames.specs.DefaultNla.{kept_frame}
 use Rattle.tc_canon.specs.Descriptor.{table}
-use Rattle.tc_canon.specs.Tables.{attributes}
+use Rattle.tc_wire.specs.Stage.{attributes}
 use Rattle.tc_meaning.specs.Meaning.{table_codec}
 use Rattle.tc_meaning.specs.Message.{kind_of_frame}
 use Rattle.tc_meaning.specs.Tree.{Attribute, known, kept, other, is_bytes, items, attributes_of}

@@ -2,7 +2,7 @@
 use Rattle.std.specs.Prelude.{ℕ, List, map}
 use Rattle.nla_frames.specs.declared.error.DecodeError.{DecodeError}
 use Rattle.tc_canon.specs.Layouts.{tc_header}
-use Rattle.tc_canon.specs.Tables.{attributes}
+use Rattle.tc_wire.specs.Stage.{attributes}
 use Rattle.tc_meaning.specs.Message.{Message, ReadsMessage, MessageFault, FitsMessage, message_bytes}
 use Rattle.tc_wire.specs.declared.message.TcMessage.{TcMessage}
 use Rattle.tc_wire.specs.Header.{header_scalars}

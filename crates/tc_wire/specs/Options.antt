@@ -5,7 +5,7 @@ use Rattle.nla_frames.specs.Frame.{Frame}
 use Rattle.nla_frames.specs.Reading.{read_list, keep}
 use Rattle.nla_frames.specs.DefaultNla.{kept_frame}
 use Rattle.tc_canon.specs.Descriptor.{by_kind, is_known}
-use Rattle.tc_canon.specs.Tables.{option_kinds}
+use Rattle.tc_wire.specs.Stage.{option_kinds}
 use Rattle.tc_meaning.specs.Tree.{Attribute, other, of_kind}
 use Rattle.tc_meaning.specs.Meaning.{table_codec}
 use Rattle.tc_wire.specs.declared.options.TcOption.{TcOption}

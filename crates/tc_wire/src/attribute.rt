@@ -10,7 +10,7 @@ ghost use Rattle.nla_frames.specs.Reading.{read_list};
 ghost use Rattle.nla_frames.specs.Emission.{list_bytes, ListFits};
 ghost use Rattle.nla_frames.specs.Codec.{SettledEach};
 ghost use Rattle.tc_canon.specs.Descriptor.{table};
-ghost use Rattle.tc_canon.specs.Tables.{attributes};
+ghost use Rattle.tc_wire.specs.Stage.{attributes};
 ghost use Rattle.tc_meaning.specs.Tree.{Attribute};
 ghost use Rattle.tc_meaning.specs.Meaning.{table_codec};
 ghost use Rattle.tc_meaning.specs.Message.{kind_of_frame, kind_of_attribute};

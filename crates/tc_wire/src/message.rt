@@ -3,7 +3,7 @@
 ghost use Rattle.std.specs.Prelude.{◌≡◌, [], IfOk};
 ghost use Rattle.nla_frames.specs.Fault.{Gives, IfRefused, seen};
 ghost use Rattle.tc_canon.specs.Layouts.{tc_header};
-ghost use Rattle.tc_canon.specs.Tables.{attributes};
+ghost use Rattle.tc_wire.specs.Stage.{attributes};
 ghost use Rattle.tc_meaning.specs.Message.{Message, read_message, message_bytes, FitsMessage, IsSettledMessage};
 ghost use Rattle.tc_wire.specs.Header.{empty_header};
 ghost use Rattle.tc_wire.specs.Message.{tc_message, ReadsTc, FaultTc};

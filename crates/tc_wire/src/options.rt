@@ -4,7 +4,7 @@ ghost use Rattle.std.specs.Prelude.{◌≡◌, ◌↔◌, List, IsTrue, map};
 ghost use Rattle.nla_frames.specs.Fault.{Gives, seen};
 ghost use Rattle.nla_frames.specs.Buffer.{frame_of};
 ghost use Rattle.tc_canon.specs.Descriptor.{by_kind, is_known};
-ghost use Rattle.tc_canon.specs.Tables.{option_kinds};
+ghost use Rattle.tc_wire.specs.Stage.{option_kinds};
 ghost use Rattle.tc_meaning.specs.Tree.{Attribute};
 ghost use Rattle.tc_meaning.specs.Meaning.{table_codec};
 ghost use Rattle.tc_meaning.specs.Short.{table_short};

@@ -1,7 +1,7 @@
 use Rattle.nla_frames.proofs.Bytes.{IsBytes-slice}
 use Rattle.nla_frames.proofs.Outcomes.{IfOk-Gives, IfRefused-Gives}
 use Rattle.tc_canon.specs.Layouts.{tc_header}
-use Rattle.tc_canon.specs.Tables.{attributes}
+use Rattle.tc_wire.specs.Stage.{attributes}
 use Rattle.tc_meaning.specs.Message.{read_message}
 use Rattle.tc_meaning.proofs.Messages.{message_outcome}
 use Rattle.tc_wire.specs.Message.{tc_message, ReadsTc, FaultTc}

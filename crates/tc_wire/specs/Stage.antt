@@ -1,0 +1,17 @@
+-- The tables as far as the types of this crate go: every other type is `Other`, and every other kind unknown.
+use Rattle.std.specs.Prelude.{codes}
+use Rattle.tc_canon.specs.Descriptor.{Rows, Kinds, others, options, unknown, kind, text, ◌▹◌, at}
+use Rattle.tc_canon.specs.Tables.{fq_codel_options}
+
+-- `TcOption`
+abbrev pub option_kinds : Kinds
+option_kinds =
+    kind (codes "fq_codel") fq_codel_options
+    unknown
+
+-- `TcAttribute`
+abbrev pub attributes : Rows
+attributes =
+    at 1 text  -- Kind
+    ▹ options 2 option_kinds  -- Options, OptionsRaw
+    ▹ others
