@@ -7,9 +7,11 @@ pub mod Front
 pub mod FrameBytes
 pub mod Items
 pub mod ListGrammarLaws
+pub mod ListLaws
 pub mod ListWriting
 pub mod NextFrame
 pub mod Outcomes
+pub mod PlaceLaws
 pub mod Places
 pub mod ReadEach
 pub mod ReadingSteps

@@ -1,10 +1,11 @@
 -- What it is to read and write a thing: the meaning of its type, and the two laws that make the one the inverse
 -- of the other. `W` is what it is read from, a frame or bytes; `X` is what is read.
-use Rattle.std.specs.Prelude.{◌≡◌, ℕ, List, [], ◌∷◌, Ok, ◌↔◌}
+use Rattle.std.specs.Prelude.{◌≡◌, ℕ, ◌<◌, ◌≤◌, ◌^◌, List, [], ◌∷◌, length, take, slice_get, Some, Ok, ◌↔◌}
 use Rattle.std.specs.List.{AllByRecursion}
 use Rattle.nla_frames.specs.Fault.{Outcome}
+use Rattle.nla_frames.specs.Value.{IsBytes}
 use Rattle.nla_frames.specs.Frame.{Frame}
-use Rattle.nla_frames.specs.Place.{Sets, kind_then}
+use Rattle.nla_frames.specs.Place.{Sets, InForce, kind_then}
 use Rattle.nla_frames.specs.Reading.{read_list}
 use Rattle.nla_frames.specs.Emission.{list_bytes, ListFits}
 
@@ -31,10 +32,30 @@ pub record Laws {W X : Type 0} (IsWire : W → Type 0) (codec : Codec W X) (Cano
   -- what is canonical is read, as something that fits
   pub reads : (kind : List ℕ) (w : W) → IsWire w → Canon kind w → (x : X) × (codec.read kind w ≡ Ok x) × codec.Fits x
 
+-- bytes that can be counted, as of any slice in hand
+pub record IsWireBytes (bytes : List ℕ) : Type 0 where
+  pub are_bytes : IsBytes bytes
+  pub long : length bytes < 2 ^ 64
+
+-- bytes that can stand as a frame's value
+pub record IsWireValue (value : List ℕ) : Type 0 where
+  pub are_bytes : IsBytes value
+  pub short : length value ≤ 65531
+
 -- each value is settled under the kind in force at its place
 abbrev pub SettledEach : {X : Type 0} → (List ℕ → X → Type 0) → Sets X → List ℕ → List X → Type 0
 SettledEach Settled sets kind [] = Unit {0}
 SettledEach Settled sets kind (x ∷ xs) = Settled kind x × SettledEach Settled sets (kind_then sets kind x) xs
+
+-- after these values, under the kind that is set last among them, the value is settled
+pub record SettledAfter {X : Type 0} (Settled : List ℕ → X → Type 0) (sets : Sets X) (first : List ℕ) (before : List X) (x : X) : Type 0 where
+  pub kind : List ℕ
+  pub in_force : InForce sets first before kind
+  pub settled : Settled kind x
+
+-- the same said place by place, where a reader need not run through the list
+abbrev pub SettledAtEach : {X : Type 0} → (List ℕ → X → Type 0) → Sets X → List ℕ → List X → Type 0
+SettledAtEach Settled sets first xs = (i : ℕ) (x : _) → slice_get xs i ≡ Some x → SettledAfter Settled sets first (take i xs) x
 
 -- a list of frames, where frames and the values that they read as may set the kind for those after them
 abbrev pub list_codec : {X : Type 0} → Sets Frame → Sets X → Codec Frame X → Codec (List ℕ) (List X)

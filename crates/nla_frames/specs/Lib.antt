@@ -9,6 +9,7 @@ pub mod Place
 pub mod Reading
 pub mod ListGrammar
 pub mod Emission
+pub mod CanonList
 pub mod Codec
 pub mod DefaultNla
 pub mod Family

@@ -1,5 +1,5 @@
 -- The language of the tables: what stands in a frame's value, by the frame's type and the kind in force.
-use Rattle.std.specs.Prelude.{ℕ, Bool, true, false, List, ◌&&◌, nat_le, if◌then◌else◌}
+use Rattle.std.specs.Prelude.{ℕ, ◌+◌, Bool, true, false, List, [], ◌∷◌, ◌&&◌, nat_le, if◌then◌else◌}
 use Rattle.std.specs.Str.{bytes_eq}
 
 -- a field of a fixed record; its place is the sum of the widths before it
@@ -17,17 +17,40 @@ pub data Field : Type 0 where
 mutual
   -- what a value is
   pub data Class : Type 0 where
-    -- a number of so many bytes, low byte first
+    -- a number of so many bytes, low byte first, and high byte first
     le : ℕ → Class
-    -- a text, written with one NUL
+    be : ℕ → Class
+    -- a number of so many bytes, low byte first, of which so many bits are written
+    masked : ℕ → ℕ → Class
+    -- exactly so many bytes, and any bytes
+    array : ℕ → Class
+    raw : Class
+    -- a text, written with one NUL, and one written without
     text : Class
+    warning : Class
+    -- true whatever the value is, written empty
+    presence : Class
+    -- one byte, 0 or not, written as 0 or 1
+    truth : Class
+    -- a fixed record
+    fields : List Field → Class
+    -- the selector of u32: a head that counts its keys, and the keys
+    selector : Class
+    -- two words of flags
+    pair : Class
+    -- statistics, by the kind in force
+    xstats : Class
     -- frames, each by a table under the kind in force
     list_of : Table → Class
+    -- frames, each by these rows under the kind that they tell themselves
+    own_list : Rows → Class
 
   -- what a frame is
   pub data Table : Type 0 where
     -- by its type
     table : Rows → Table
+    -- the same whatever its type, which is the value's own
+    every : Class → Table
     -- by the kind in force
     by_kind : Kinds → Table
 
@@ -37,6 +60,8 @@ mutual
     others : Rows
     -- types from one to another, the flags of their written words, their class
     types : ℕ → ℕ → ℕ → Class → Rows → Rows
+    -- a type that is written and never read
+    unread : ℕ → Class → Rows → Rows
     -- a message's options: a list under a known kind, kept as it stands under any other
     options : ℕ → Kinds → Rows → Rows
 

@@ -1,3 +1,6 @@
 pub mod Descriptor
 pub mod Layouts
 pub mod Tables
+pub mod Kind
+pub mod Canonical
+pub mod Front

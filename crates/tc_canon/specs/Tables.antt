@@ -1,10 +1,8 @@
--- The tables, row by row: types, words and classes of value.
-use Rattle.tc_canon.specs.Descriptor.{Rows, others, le, ◌▹◌, at, from}
-
--- `TcQdiscFqCodelOption`
-abbrev pub fq_codel_options : Rows
-fq_codel_options =
-    from 1 9 (le 4)  -- Target, Limit, Interval, Ecn, Flows, Quantum, CeThreshold, DropBatchSize, MemoryLimit
-    ▹ at 10 (le 1)  -- CeThresholdSelector
-    ▹ at 11 (le 1)  -- CeThresholdMask
-    ▹ others
+-- The tables of attributes: types, words and classes of value. A comment beside a row names its attributes in
+-- order. What a row says of the written word is in its operator: `at` and `from` write the type itself, `nested`
+-- the type with the nested flag.
+pub mod Statistics
+pub mod Actions
+pub mod Flower
+pub mod Options
+pub mod Messages

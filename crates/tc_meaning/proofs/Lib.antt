@@ -1,2 +1,16 @@
-pub mod Messages
+pub mod Outcomes
+pub mod Shapes
+pub mod Numbers
+pub mod Texts
+pub mod Fields
+pub mod Selectors
+pub mod Xstats
+pub mod Rows
+pub mod KindLaws
+pub mod OwnLaws
+pub mod OwnGrammarLaws
+pub mod TableLaws
+pub mod MessageLaws
+pub mod Headline
+pub mod MessageReading
 pub mod Trees

@@ -1,11 +1,16 @@
 -- Contents that hold no attributes, class by class.
-use Rattle.std.specs.Prelude.{◌≡◌, ℕ, ◌<◌, ◌^◌, ◌%◌, Bool, true, false, List, [], ◌∷◌, length, not, Ok, ◌==◌, if◌then◌else◌}
-use Rattle.std.specs.Str.{is_utf8}
+use Rattle.std.specs.Prelude.{◌≡◌, ℕ, ◌<◌, ◌≤◌, ◌^◌, ◌%◌, Bool, true, false, List, [], ◌∷◌, length, not, Ok, Err, nat_lt, ◌==◌, if◌then◌else◌, zero, suc, ◌+◌, ◌*◌, ◌++◌, take, drop, codes}
+use Rattle.std.specs.Str.{is_utf8, bytes_eq}
+use Rattle.std.specs.List.{flat_map, AllByRecursion}
+use Rattle.nla_frames.specs.declared.error.DecodeError.TheVariants.{BufferTooSmall, SelectorShort, XstatsShort}
 use Rattle.nla_frames.specs.Fault.{Outcome, seen}
 use Rattle.nla_frames.specs.Value as plain_values
-use Rattle.nla_frames.specs.Value.{IsBytes, le_bytes, le_number, be_bytes, be_number, exactly, strip, terminated}
+use Rattle.nla_frames.specs.Value.{IsBytes, le_bytes, le_value, le_number, be_bytes, be_number, exactly, strip, terminated}
 use Rattle.nla_frames.specs.Codec.{Codec}
-use Rattle.tc_meaning.specs.Tree.{Content, number, is_bytes, flag}
+use Rattle.tc_canon.specs.Descriptor.{Field, little}
+use Rattle.tc_canon.specs.Layouts.{fq_codel_qd_stats, fq_codel_cl_stats, selector_head, selector_key}
+use Rattle.tc_meaning.specs.Tree.{Scalar, plain, Content, number, is_bytes, flag, record_of, keyed, statistics, unknown_statistics}
+use Rattle.tc_meaning.specs.Layout.{size_of, read_fields, fields_bytes, TypedFields, SettledFields}
 
 -- the values of a type among all contents: `out` takes apart what `into` made
 pub record Shape (X : Type 0) : Type 0 where
@@ -97,3 +102,117 @@ presence_codec = plainly (λ v. Ok true) (λ b. []) always (λ b. b ≡ true)
 
 abbrev pub truth_codec : Codec (List ℕ) Bool
 truth_codec = plainly (λ v. seen (λ x. not (x == 0)) (le_number 1 v)) (λ b. (if b then 1 else 0) ∷ []) always always
+
+-- ---- records
+
+abbrev pub a_record : Shape (List Scalar)
+a_record = record { into = record_of; out = record_in }
+  where
+    record_in : Content → List Scalar
+    record_in (record_of xs) = xs
+    record_in _ = []
+
+-- a record's fields stand in front, and what follows is dropped
+abbrev pub read_record : List Field → List ℕ → Outcome (List Scalar)
+read_record layout value = if nat_lt (length value) (size_of layout) then Err (BufferTooSmall (length value) (size_of layout)) else Ok (read_fields layout value)
+
+abbrev pub record_codec : List Field → Codec (List ℕ) (List Scalar)
+record_codec layout = plainly (read_record layout) (fields_bytes layout) (TypedFields layout) (SettledFields layout)
+
+-- two words of flags
+abbrev pub flags_pair : List Field
+flags_pair = little 4 ∷ little 4 ∷ []
+
+-- two words and nothing after them
+abbrev pub pair_codec : Codec (List ℕ) (List Scalar)
+pair_codec = plainly (λ v. seen (read_fields flags_pair) (exactly 8 v)) (fields_bytes flags_pair) (TypedFields flags_pair) (SettledFields flags_pair)
+
+-- ---- the selector of u32
+
+-- a selector's head and its keys
+pub record Selector : Type 0 where
+  pub head : List Scalar
+  pub keys : List (List Scalar)
+
+abbrev pub a_selector : Shape Selector
+a_selector = record { into = λ s. keyed s.head s.keys; out = selector_in }
+  where
+    selector_in : Content → Selector
+    selector_in (keyed head keys) = record { head = head; keys = keys }
+    selector_in _ = record { head = []; keys = [] }
+
+-- the number of keys that stands in a head
+abbrev pub key_count : List Scalar → ℕ
+key_count (flags ∷ offshift ∷ plain nkeys ∷ rest) = nkeys
+key_count _ = 0
+
+-- so many keys, one after the other
+abbrev pub read_keys : ℕ → List ℕ → List (List Scalar)
+read_keys zero bytes = []
+read_keys (suc n) bytes = read_fields selector_key bytes ∷ read_keys n (drop 16 bytes)
+
+-- a head and the keys that it counts, and what follows is dropped
+abbrev pub read_selector : List ℕ → Outcome Selector
+read_selector value =
+    let head = read_fields selector_head value in
+    let needed = 16 + 16 * key_count head in
+    if nat_lt (length value) 16 then Err (SelectorShort (length value) 16) else
+    if nat_lt (length value) needed then Err (SelectorShort (length value) needed) else
+    Ok (record { head = head; keys = read_keys (key_count head) (drop 16 value) })
+
+abbrev pub selector_codec : Codec (List ℕ) Selector
+selector_codec = record {
+  read = λ kind value. read_selector value;
+  write = λ s. fields_bytes selector_head s.head ++ flat_map (fields_bytes selector_key) s.keys;
+  Typed = λ s. TypedFields selector_head s.head × AllByRecursion (TypedFields selector_key) s.keys;
+  Fits = λ s. key_count s.head ≡ length s.keys;
+  Settled = λ kind s. Unit {0};
+}
+
+-- ---- statistics by kind
+
+-- the kind whose statistics are known
+abbrev pub is_fq_codel : List ℕ → Bool
+is_fq_codel kind = bytes_eq kind (codes "fq_codel")
+
+-- statistics of a number, after that number
+abbrev pub read_statistics : ℕ → List ℕ → List ℕ → Outcome Content
+read_statistics zero after value = seen (statistics 0) (read_record fq_codel_qd_stats after)
+read_statistics (suc zero) after value = seen (statistics 1) (read_record fq_codel_cl_stats after)
+read_statistics _ after value = Ok (unknown_statistics value)
+
+-- fq_codel's begin with the number of their record; those of any other kind are kept as they stand
+abbrev pub read_xstats : List ℕ → List ℕ → Outcome Content
+read_xstats kind value =
+    if is_fq_codel kind then
+    (if nat_lt (length value) 4 then Err (XstatsShort (length value)) else read_statistics (le_value (take 4 value)) (drop 4 value) value)
+    else Ok (is_bytes value)
+
+abbrev pub xstats_codec : Codec (List ℕ) Content
+xstats_codec = record {
+  read = read_xstats;
+  write = xstats_bytes;
+  Typed = TypedXstats;
+  Fits = λ x. Unit {0};
+  Settled = SettledXstats;
+}
+  where
+    xstats_bytes : Content → List ℕ
+    xstats_bytes (statistics zero xs) = le_bytes 4 0 ++ fields_bytes fq_codel_qd_stats xs
+    xstats_bytes (statistics (suc zero) xs) = le_bytes 4 1 ++ fields_bytes fq_codel_cl_stats xs
+    xstats_bytes (unknown_statistics value) = value
+    xstats_bytes (is_bytes value) = value
+    xstats_bytes _ = []
+
+    TypedXstats : Content → Type 0
+    TypedXstats (statistics zero xs) = TypedFields fq_codel_qd_stats xs
+    TypedXstats (statistics (suc zero) xs) = TypedFields fq_codel_cl_stats xs
+    TypedXstats (unknown_statistics value) = IsBytes value
+    TypedXstats (is_bytes value) = IsBytes value
+    TypedXstats _ = ⊥
+
+    SettledXstats : List ℕ → Content → Type 0
+    SettledXstats kind (statistics n xs) = is_fq_codel kind ≡ true
+    SettledXstats kind (unknown_statistics value) = (is_fq_codel kind ≡ true) × (4 ≤ length value) × (2 ≤ le_value (take 4 value))
+    SettledXstats kind (is_bytes value) = is_fq_codel kind ≡ false
+    SettledXstats kind _ = ⊥

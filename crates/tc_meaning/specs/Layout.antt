@@ -1,29 +1,16 @@
 -- Fixed records, by their layout.
-use Rattle.std.specs.Prelude.{◌≡◌, ℕ, ◌+◌, false, List, [], ◌∷◌, ◌++◌, length, take, drop, replicate, Ok, Err, nat_lt, ◌==◌, if◌then◌else◌}
+use Rattle.std.specs.Prelude.{◌≡◌, ℕ, ◌^◌, ◌<◌, Bool, true, false, List, [], ◌∷◌, ◌++◌, length, take, drop, replicate, ◌==◌, if◌then◌else◌}
 use Rattle.std.specs.List.{list_any}
-use Rattle.nla_frames.specs.declared.error.DecodeError.TheVariants.{BufferTooSmall}
-use Rattle.nla_frames.specs.Fault.{Outcome}
-use Rattle.nla_frames.specs.Value.{le_bytes, le_value, be_bytes, be_value}
+use Rattle.nla_frames.specs.Value.{IsBytes, le_bytes, le_value, be_bytes, be_value}
 use Rattle.tc_canon.specs.Descriptor.{Field, little, big, named, octets, pad}
+pub use Rattle.tc_canon.specs.Layouts.{width, size_of}
 use Rattle.tc_meaning.specs.Tree.{Scalar, plain, unnamed, octets_of, blank}
-
--- how many bytes a field has
-abbrev pub width : Field → ℕ
-width (little n) = n
-width (big n) = n
-width (named n names) = n
-width (octets n) = n
-width (pad n) = n
-
-abbrev pub size_of : List Field → ℕ
-size_of [] = 0
-size_of (f ∷ fs) = width f + size_of fs
 
 -- a field's value, of its bytes
 abbrev pub read_field : Field → List ℕ → Scalar
 read_field (little n) bytes = plain (le_value bytes)
 read_field (big n) bytes = plain (be_value bytes)
-read_field (named n names) bytes = if list_any (λ name. le_value bytes == name) names then plain (le_value bytes) else unnamed (le_value bytes)
+read_field (named n names) bytes = if list_any (λ name. name == le_value bytes) names then plain (le_value bytes) else unnamed (le_value bytes)
 read_field (octets n) bytes = octets_of bytes
 read_field (pad n) bytes = blank
 
@@ -47,16 +34,31 @@ fields_bytes [] xs = []
 fields_bytes (f ∷ fs) [] = replicate (width f) 0 ++ fields_bytes fs []
 fields_bytes (f ∷ fs) (x ∷ xs) = field_bytes f x ++ fields_bytes fs xs
 
--- a record, of the front of some bytes
-abbrev pub read_record : List Field → List ℕ → Outcome (List Scalar)
-read_record fs bytes = if nat_lt (length bytes) (size_of fs) then Err (BufferTooSmall (length bytes) (size_of fs)) else Ok (read_fields fs bytes)
+-- the number has a name among these
+abbrev pub has_name : List ℕ → ℕ → Bool
+has_name names x = list_any (λ name. name == x) names
 
--- no field has an unnamed number that has a name
-abbrev pub IsSettledField : Field → Scalar → Type 0
-IsSettledField (named n names) (unnamed x) = list_any (λ name. x == name) names ≡ false
-IsSettledField f x = Unit {0}
+-- the value is one of this field in hand: numbers of its width, `Other` or a name as the field has it
+abbrev pub TypedField : Field → Scalar → Type 0
+TypedField (little n) (plain x) = x < 256 ^ n
+TypedField (big n) (plain x) = x < 256 ^ n
+TypedField (named n names) (plain x) = (x < 256 ^ n) × (has_name names x ≡ true)
+TypedField (named n names) (unnamed x) = x < 256 ^ n
+TypedField (octets n) (octets_of bytes) = (length bytes ≡ n) × IsBytes bytes
+TypedField (pad n) blank = Unit {0}
+TypedField f x = ⊥
 
-abbrev pub IsSettledRecord : List Field → List Scalar → Type 0
-IsSettledRecord [] xs = Unit {0}
-IsSettledRecord (f ∷ fs) [] = Unit {0}
-IsSettledRecord (f ∷ fs) (x ∷ xs) = IsSettledField f x × IsSettledRecord fs xs
+abbrev pub TypedFields : List Field → List Scalar → Type 0
+TypedFields [] [] = Unit {0}
+TypedFields (f ∷ fs) (x ∷ xs) = TypedField f x × TypedFields fs xs
+TypedFields fs xs = ⊥
+
+-- it reads back as itself: no `Other` of a number that has a name
+abbrev pub SettledField : Field → Scalar → Type 0
+SettledField (named n names) (unnamed x) = has_name names x ≡ false
+SettledField f x = Unit {0}
+
+abbrev pub SettledFields : List Field → List Scalar → Type 0
+SettledFields [] xs = Unit {0}
+SettledFields (f ∷ fs) [] = Unit {0}
+SettledFields (f ∷ fs) (x ∷ xs) = SettledField f x × SettledFields fs xs

@@ -1,6 +1,10 @@
 pub mod Tree
 pub mod Layout
 pub mod Content
+pub mod Own
+pub mod OwnGrammar
 pub mod Meaning
+pub mod Sound
 pub mod Message
+pub mod Whole
 pub mod Short

@@ -6,9 +6,10 @@ use Rattle.nla_frames.specs.Value.{IsBytes}
 use Rattle.nla_frames.specs.Frame.{Frame, type_of}
 use Rattle.nla_frames.specs.Reading.{keep}
 use Rattle.nla_frames.specs.Codec.{Codec, list_codec}
-use Rattle.tc_canon.specs.Descriptor.{Class, le, text, list_of, Table, table, by_kind, Rows, others, types, options, Kinds, unknown, kind, is_within, is_known}
+use Rattle.tc_canon.specs.Descriptor.{Class, le, be, masked, array, raw, text, warning, presence, truth, fields, selector, pair, xstats, list_of, own_list, Table, table, every, by_kind, Rows, others, types, unread, options, Kinds, unknown, kind, is_within, is_known}
 use Rattle.tc_meaning.specs.Tree.{Content, items, Attribute, known, kept, other, of_kind, attributes_of, list_of_attributes, number_of}
-use Rattle.tc_meaning.specs.Content.{Shape, via, a_number, le_codec, some_bytes, text_codec}
+use Rattle.tc_meaning.specs.Content.{Shape, via, a_number, le_codec, be_codec, masked_codec, some_bytes, array_codec, raw_codec, text_codec, warning_codec, a_flag, presence_codec, truth_codec, a_record, record_codec, pair_codec, a_selector, selector_codec, xstats_codec}
+use Rattle.tc_meaning.specs.Own.{own_codec}
 
 abbrev pub a_list : Shape (List Attribute)
 a_list = record { into = λ xs. items (attributes_of xs); out = list_in }
@@ -29,6 +30,16 @@ IsRaw word value = (word < 2 ^ 16) × IsBytes value
 
 abbrev pub IsShort : List ℕ → Type 0
 IsShort value = length value ≤ 65531
+
+-- a codec of values that have to be short
+abbrev pub short : {X : Type 0} → Codec (List ℕ) X → Codec (List ℕ) X
+short c = record {
+  read = c.read;
+  write = c.write;
+  Typed = c.Typed;
+  Fits = λ x. c.Fits x × IsShort (c.write x);
+  Settled = c.Settled;
+}
 
 -- every type is kept as it stands
 abbrev pub raw_frames : Codec Frame Attribute
@@ -111,6 +122,49 @@ options_frames n kinds c = record {
     SettledOptions k (kept m word value) = (is_known kinds k ≡ false) × (type_of word ≡ n)
     SettledOptions k _ = ⊥
 
+-- a type that is written and never read: what stands there in bytes is kept as it stands
+abbrev pub unread_frames : ℕ → Codec (List ℕ) Content → Codec Frame Attribute
+unread_frames n c = record {
+  read = λ k f. Ok (other f.word f.value);
+  write = row.write;
+  Typed = row.Typed;
+  Fits = row.Fits;
+  Settled = SettledUnread;
+}
+  where
+    row : Codec Frame Attribute
+    row = row_frames n n c
+
+    SettledUnread : List ℕ → Attribute → Type 0
+    SettledUnread k (other word value) = Unit {0}
+    SettledUnread k _ = ⊥
+
+-- every type means the same, and the attribute stands under the type that was read; its word is written whole
+abbrev pub every_frame : Codec (List ℕ) Content → Codec Frame Attribute
+every_frame c = record {
+  read = λ k f. seen (known (type_of f.word)) (c.read k f.value);
+  write = write_any;
+  Typed = TypedAny;
+  Fits = FitsAny;
+  Settled = SettledAny;
+}
+  where
+    write_any : Attribute → Frame
+    write_any (known word content) = record { word = word; value = c.write content }
+    write_any x = as_it_stands x
+
+    TypedAny : Attribute → Type 0
+    TypedAny (known word content) = (word < 2 ^ 16) × c.Typed content
+    TypedAny _ = ⊥
+
+    FitsAny : Attribute → Type 0
+    FitsAny (known word content) = c.Fits content × IsShort (c.write content)
+    FitsAny _ = ⊥
+
+    SettledAny : List ℕ → Attribute → Type 0
+    SettledAny k (known word content) = (word ≤ 0x3FFF) × c.Settled k content
+    SettledAny k _ = ⊥
+
 -- an attribute of a kind, beside those of other kinds
 abbrev pub kind_frames : List ℕ → Codec Frame Attribute → Codec Frame Attribute → Codec Frame Attribute
 kind_frames name own rest = record {
@@ -137,27 +191,37 @@ kind_frames name own rest = record {
     SettledKind k (of_kind m x) = MatchBool (bytes_eq m name) ((bytes_eq k name ≡ true) × own.Settled k x) (rest.Settled k (of_kind m x))
     SettledKind k x = MatchBool (bytes_eq k name) ⊥ (rest.Settled k x)
 
--- a list of frames, each read under the kind in force
-abbrev pub list_contents : Codec Frame Attribute → Codec (List ℕ) Content
-list_contents c = via a_list (list_codec keep keep c)
-
 abbrev mutual
   -- the meaning of a class, of the bytes of a value
   pub class_codec : Class → Codec (List ℕ) Content
   class_codec (le n) = via a_number (le_codec n)
+  class_codec (be n) = via a_number (be_codec n)
+  class_codec (masked n bits) = via a_number (masked_codec n bits)
+  class_codec (array n) = via some_bytes (array_codec n)
+  class_codec raw = via some_bytes raw_codec
   class_codec text = via some_bytes text_codec
-  class_codec (list_of t) = list_contents (table_codec t)
+  class_codec warning = via some_bytes warning_codec
+  class_codec presence = via a_flag presence_codec
+  class_codec truth = via a_flag truth_codec
+  class_codec (fields layout) = via a_record (record_codec layout)
+  class_codec selector = via a_selector selector_codec
+  class_codec pair = via a_record pair_codec
+  class_codec xstats = xstats_codec
+  class_codec (list_of t) = via a_list (list_codec keep keep (table_codec t))
+  class_codec (own_list rows) = via a_list (own_codec (by_type (rows_codec rows)))
 
   -- the meaning of a table
   pub table_codec : Table → Codec Frame Attribute
   table_codec (table rows) = by_type (rows_codec rows)
+  table_codec (every class) = every_frame (class_codec class)
   table_codec (by_kind kinds) = kinds_codec kinds
 
   -- the meaning of a table's rows at a type
   pub rows_codec : Rows → ℕ → Codec Frame Attribute
   rows_codec others n = raw_frames
   rows_codec (types first last flags class rows) n = choose (is_within first last n) (row_frames (flags + n) n (class_codec class)) (rows_codec rows n)
-  rows_codec (options m kinds rows) n = choose (n == m) (options_frames m kinds (list_contents (kinds_codec kinds))) (rows_codec rows n)
+  rows_codec (unread m class rows) n = choose (n == m) (unread_frames m (class_codec class)) (rows_codec rows n)
+  rows_codec (options m kinds rows) n = choose (n == m) (options_frames m kinds (via a_list (list_codec keep keep (kinds_codec kinds)))) (rows_codec rows n)
 
   -- the meaning of an option under the kinds
   pub kinds_codec : Kinds → Codec Frame Attribute

@@ -1,18 +1,21 @@
 -- Whole messages: their reading and their first fault in the words of the grammar, and their bytes.
-use Rattle.std.specs.Prelude.{◌≡◌, ◌⊎◌, ℕ, ◌+◌, ◌<◌, ◌≤◌, ◌^◌, List, [], ◌++◌, length, drop, suc, zero, Some, None, Ok, Err, ◌↔◌, ◌==◌, if◌then◌else◌}
+use Rattle.std.specs.Prelude.{◌≡◌, ◌⊎◌, ℕ, ◌+◌, ◌<◌, ◌≤◌, ◌^◌, List, [], ◌++◌, length, take, drop, Ok, Err, nat_lt, if◌then◌else◌, ◌↔◌}
+use Rattle.std.specs.List.{AllByRecursion}
 use Rattle.nla_frames.specs.declared.error.DecodeError.{DecodeError}
 use Rattle.nla_frames.specs.declared.error.DecodeError.TheVariants.{BufferTooSmall}
 use Rattle.nla_frames.specs.Fault.{Outcome, ◌>>=◌}
-use Rattle.nla_frames.specs.Value.{strip}
-use Rattle.nla_frames.specs.Frame.{Frame, type_of}
+use Rattle.nla_frames.specs.Frame.{Frame}
 use Rattle.nla_frames.specs.Place.{Sets}
 use Rattle.nla_frames.specs.Reading.{read_list}
 use Rattle.nla_frames.specs.ListGrammar.{ListReads, ListFault}
 use Rattle.nla_frames.specs.Emission.{list_bytes, ListFits}
-use Rattle.nla_frames.specs.Codec.{SettledEach}
+use Rattle.nla_frames.specs.Codec.{Codec, SettledEach, SettledAtEach}
+use Rattle.nla_frames.specs.CanonList.{IsCanonList}
 use Rattle.tc_canon.specs.Descriptor.{Field, Rows, table}
-use Rattle.tc_meaning.specs.Tree.{Scalar, Attribute, known, is_bytes}
-use Rattle.tc_meaning.specs.Layout.{size_of, read_fields, read_record, fields_bytes, IsSettledRecord}
+use Rattle.tc_canon.specs.Canonical.{CanonFields, CanonTable}
+use Rattle.tc_meaning.specs.Tree.{Scalar, Attribute}
+use Rattle.tc_meaning.specs.Layout.{size_of, read_fields, fields_bytes, TypedFields, SettledFields}
+pub use Rattle.tc_meaning.specs.Own.{kind_of_frame, kind_of_attribute}
 use Rattle.tc_meaning.specs.Meaning.{table_codec}
 
 -- a header, and the attributes after it
@@ -20,35 +23,37 @@ pub record Message : Type 0 where
   pub header : List Scalar
   pub body : List Attribute
 
--- a frame of type 1 sets the kind, whatever its flags are
-abbrev pub kind_of_frame : Sets Frame
-kind_of_frame f = if type_of f.word == 1 then Some (strip f.value) else None
-
--- so does its value
-abbrev pub kind_of_attribute : Sets Attribute
-kind_of_attribute (known (suc zero) (is_bytes name)) = Some name
-kind_of_attribute _ = None
-
 -- a message of a table of attributes: its header by this layout, then a list of frames, each read under the kind
 -- that is set last before its place
-module _ (layout : List Field) (rows : Rows) where
-  pub record ReadsMessage (bytes : List ℕ) (m : Message) : Type 0 where
+module _ (sets : Sets Frame) (layout : List Field) (rows : Rows) where
+  pub record ReadsWith (bytes : List ℕ) (m : Message) : Type 0 where
     pub long : size_of layout ≤ length bytes
-    pub header : m.header ≡ read_fields layout bytes
-    pub body : ListReads (table_codec (table rows)).read kind_of_frame [] (drop (size_of layout) bytes) m.body
+    pub header : m.header ≡ read_fields layout (take (size_of layout) bytes)
+    pub body : ListReads (table_codec (table rows)).read sets [] (drop (size_of layout) bytes) m.body
 
   -- the first fault: a short header, or that of the list
-  abbrev pub MessageFault : List ℕ → DecodeError → Type 0
-  MessageFault bytes e =
+  abbrev pub FaultWith : List ℕ → DecodeError → Type 0
+  FaultWith bytes e =
       ((length bytes < size_of layout) × (e ≡ BufferTooSmall (length bytes) (size_of layout)))
-      ⊎ ((size_of layout ≤ length bytes) × ListFault (table_codec (table rows)).read kind_of_frame [] (drop (size_of layout) bytes) e)
+      ⊎ ((size_of layout ≤ length bytes) × ListFault (table_codec (table rows)).read sets [] (drop (size_of layout) bytes) e)
 
   -- the same as a function
-  unfoldable pub read_message : List ℕ → Outcome Message
-  read_message bytes = do
-    header ← read_record layout bytes
-    body ← read_list (table_codec (table rows)).read kind_of_frame [] (drop (size_of layout) bytes)
-    Ok (record { header = header; body = body })
+  unfoldable pub read_with : List ℕ → Outcome Message
+  read_with bytes =
+      if nat_lt (length bytes) (size_of layout) then Err (BufferTooSmall (length bytes) (size_of layout)) else
+      read_list (table_codec (table rows)).read sets [] (drop (size_of layout) bytes) >>= λ body.
+      Ok (record { header = read_fields layout (take (size_of layout) bytes); body = body })
+
+module _ (layout : List Field) (rows : Rows) where
+  -- frames of type 1 set the kind
+  abbrev pub ReadsMessage : List ℕ → Message → Type 0
+  ReadsMessage = ReadsWith kind_of_frame layout rows
+
+  abbrev pub MessageFault : List ℕ → DecodeError → Type 0
+  MessageFault = FaultWith kind_of_frame layout rows
+
+  abbrev pub read_message : List ℕ → Outcome Message
+  read_message = read_with kind_of_frame layout rows
 
   -- the bytes of a message
   unfoldable pub message_bytes : Message → List ℕ
@@ -59,12 +64,40 @@ module _ (layout : List Field) (rows : Rows) where
     pub body : ListFits (table_codec (table rows)).Fits (table_codec (table rows)).write m.body
     pub whole : size_of layout + length (list_bytes (table_codec (table rows)).write m.body) < 2 ^ 64
 
-  -- the header and each attribute is settled, under the kind that is set last before its place
-  pub record IsSettledMessage (m : Message) : Type 0 where
-    pub header : IsSettledRecord layout m.header
-    pub body : SettledEach (table_codec (table rows)).Settled kind_of_attribute [] m.body
+  -- as any message in hand: numbers lie in their types and texts are UTF-8
+  pub record TypedMessage (m : Message) : Type 0 where
+    pub header : TypedFields layout m.header
+    pub body : AllByRecursion (table_codec (table rows)).Typed m.body
 
-  -- the outcome is the one reading, or the one fault
-  pub record IsOutcome (bytes : List ℕ) (outcome : Outcome Message) : Type 0 where
-    pub reading : (m : Message) → (outcome ≡ Ok m) ↔ ReadsMessage bytes m
-    pub fault : (e : DecodeError) → (outcome ≡ Err e) ↔ MessageFault bytes e
+  -- the header is settled, and each attribute under the kind in force at its place
+  pub record SettledWith (sets : Sets Attribute) (m : Message) : Type 0 where
+    pub header : SettledFields layout m.header
+    pub body : SettledEach (table_codec (table rows)).Settled sets [] m.body
+
+  -- the same said place by place
+  pub record SettledByPlace (sets : Sets Attribute) (m : Message) : Type 0 where
+    pub header : SettledFields layout m.header
+    pub body : SettledAtEach (table_codec (table rows)).Settled sets [] m.body
+
+  abbrev pub SettledMessage : Message → Type 0
+  SettledMessage = SettledWith kind_of_attribute
+
+-- a message has one reading and no fault, or no reading and one fault
+pub record OneMessage (sets : Sets Frame) (layout : List Field) (rows : Rows) (bytes : List ℕ) (outcome : Outcome Message) : Type 0 where
+  pub reading : (m : Message) → (outcome ≡ Ok m) ↔ ReadsWith sets layout rows bytes m
+  pub fault : (e : DecodeError) → (outcome ≡ Err e) ↔ FaultWith sets layout rows bytes e
+
+-- canonical: the header's bytes with its padding zero, and frames that are canonical in the table
+pub record CanonWith (sets : Sets Frame) (layout : List Field) (rows : Rows) (bytes : List ℕ) : Type 0 where
+  pub header : CanonFields layout (take (size_of layout) bytes)
+  pub body : IsCanonList (CanonTable (table rows)) sets [] (drop (size_of layout) bytes)
+
+-- a message as it is read and written, whatever frames and values set a kind
+abbrev pub message_codec : Sets Frame → Sets Attribute → List Field → Rows → Codec (List ℕ) Message
+message_codec by_frame by_value layout rows = record {
+  read = λ kind bytes. read_with by_frame layout rows bytes;
+  write = message_bytes layout rows;
+  Typed = TypedMessage layout rows;
+  Fits = FitsMessage layout rows;
+  Settled = λ kind m. SettledWith layout rows by_value m;
+}

@@ -1,12 +1,76 @@
-//! What the definitions promise of one another, as contracts of functions that do nothing.
+//! The laws of both messages, as contracts of functions that do nothing.
 
-ghost use Rattle.std.specs.Prelude.{List};
-ghost use Rattle.tc_canon.specs.Descriptor.{Field, Rows};
-ghost use Rattle.tc_meaning.specs.Message.{read_message, IsOutcome};
+ghost use Rattle.std.specs.Prelude.{◌≡◌, ◌↔◌, List, ℕ, Ok, Err, true};
+ghost use Rattle.nla_frames.specs.declared.error.DecodeError.{DecodeError};
+ghost use Rattle.nla_frames.specs.Frame.{IsWireFrame};
+ghost use Rattle.nla_frames.specs.Codec.{Laws, IsWireValue};
+ghost use Rattle.tc_canon.specs.Descriptor.{Class, Table};
+ghost use Rattle.tc_canon.specs.Layouts.{tc_header};
+ghost use Rattle.tc_canon.specs.Tables.Statistics.{stats2};
+ghost use Rattle.tc_canon.specs.Tables.Actions.{actions, action_attributes, action_option_kinds};
+ghost use Rattle.tc_canon.specs.Tables.Flower.{flower_options, mpls_options, lse_options};
+ghost use Rattle.tc_canon.specs.Tables.Options.{option_kinds};
+ghost use Rattle.tc_canon.specs.Tables.Messages.{attributes, action_message_attributes};
+ghost use Rattle.tc_canon.specs.Canonical.{CanonClass, CanonTable, CanonTc, CanonAct};
+ghost use Rattle.tc_meaning.specs.Own.{kind_of_attribute, read_own};
+ghost use Rattle.tc_meaning.specs.OwnGrammar.{OneOwn};
+ghost use Rattle.tc_meaning.specs.Meaning.{short, class_codec, table_codec};
+ghost use Rattle.tc_meaning.specs.Sound.{is_sound_class, is_sound_table, is_sound_rows, is_sound_kinds};
+ghost use Rattle.tc_meaning.specs.Message.{Message, SettledByPlace};
+ghost use Rattle.tc_meaning.specs.Whole.{ReadsTc, FaultTc, read_tc, tc_bytes, TypedTc, FitsTc, SettledTc, ReadsAct, FaultAct, read_act, act_bytes, TypedAct, FitsAct, SettledAct};
 
-/// Reading a message is the grammar of messages, whatever its header and its attributes are: `read_message` gives the
-/// one reading of the bytes, or their one fault. So all bytes have one reading and no fault, or no reading and one
-/// fault.
-pub fn message_grammar(bytes: &[u8])
-    ensures { (layout : List Field) (rows : Rows) → IsOutcome layout rows bytes.now (read_message layout rows bytes.now) }
+use nla_frames::FrameMeaning;
+
+/// A traffic control message. Reading its bytes gives a message exactly if the grammar reads it so, and a fault
+/// exactly if that is the grammar's. A message that fits is written as bytes that read as it exactly if it is
+/// settled; bytes that read as a message that fits are its bytes exactly if they are canonical. Canonical bytes are
+/// read, as a message that fits and is settled, and the bytes of such a message are canonical: so these messages
+/// and these bytes correspond one to one.
+pub fn tc_message(bytes: &[u8])
+    ensures reading { (m : Message) → (read_tc bytes.now ≡ Ok m) ↔ ReadsTc bytes.now m }
+    ensures fault { (e : DecodeError) → (read_tc bytes.now ≡ Err e) ↔ FaultTc bytes.now e }
+    ensures typed { (m : Message) → ReadsTc bytes.now m → TypedTc m }
+    ensures back { (m : Message) → TypedTc m → FitsTc m → ReadsTc (tc_bytes m) m ↔ SettledTc m }
+    ensures same { (m : Message) → ReadsTc bytes.now m → FitsTc m → (tc_bytes m ≡ bytes.now) ↔ CanonTc bytes.now }
+    ensures canonical { CanonTc bytes.now → (m : Message) × ReadsTc bytes.now m × FitsTc m × SettledTc m }
+    ensures settled { (m : Message) → TypedTc m → FitsTc m → SettledTc m → CanonTc (tc_bytes m) }
+    ensures equal { (m n : Message) → TypedTc m → FitsTc m → SettledTc m → TypedTc n → FitsTc n → SettledTc n → tc_bytes m ≡ tc_bytes n → m ≡ n }
+    ensures places { (m : Message) → SettledTc m ↔ SettledByPlace tc_header attributes kind_of_attribute m }
+{}
+
+/// The same of an action message, which has no kind.
+pub fn action_message(bytes: &[u8])
+    ensures reading { (m : Message) → (read_act bytes.now ≡ Ok m) ↔ ReadsAct bytes.now m }
+    ensures fault { (e : DecodeError) → (read_act bytes.now ≡ Err e) ↔ FaultAct bytes.now e }
+    ensures typed { (m : Message) → ReadsAct bytes.now m → TypedAct m }
+    ensures back { (m : Message) → TypedAct m → FitsAct m → ReadsAct (act_bytes m) m ↔ SettledAct m }
+    ensures same { (m : Message) → ReadsAct bytes.now m → FitsAct m → (act_bytes m ≡ bytes.now) ↔ CanonAct bytes.now }
+    ensures canonical { CanonAct bytes.now → (m : Message) × ReadsAct bytes.now m × FitsAct m × SettledAct m }
+    ensures settled { (m : Message) → TypedAct m → FitsAct m → SettledAct m → CanonAct (act_bytes m) }
+    ensures equal { (m n : Message) → TypedAct m → FitsAct m → SettledAct m → TypedAct n → FitsAct n → SettledAct n → act_bytes m ≡ act_bytes n → m ≡ n }
+{}
+
+/// A list of frames that tell their kind themselves, as an action is. `read_own` gives values exactly if every frame
+/// of type 1 has a text, there is one such frame, and the frames are read under its text; it gives a fault exactly
+/// if that is the first: of a broken frame or of a text, of no kind or of several, of a frame that is refused.
+pub fn own_grammar<T: FrameMeaning>(bytes: &[u8])
+    ensures { OneOwn T.reads bytes.now (read_own T.reads bytes.now) }
+{}
+
+/// Every class, every table and every choice of kinds that passes its test is the inverse of itself both ways: what
+/// fits reads back exactly if it is settled, and what is read and fits is written as it was exactly if it was
+/// canonical. All tables pass their test.
+pub fn tables()
+    ensures classes { (c : Class) → is_sound_class c ≡ true → Laws IsWireValue (short (class_codec c)) (CanonClass c) }
+    ensures tables { (t : Table) → is_sound_table t ≡ true → Laws IsWireFrame (table_codec t) (CanonTable t) }
+    ensures sound_attributes { is_sound_rows attributes ≡ true }
+    ensures sound_action_message_attributes { is_sound_rows action_message_attributes ≡ true }
+    ensures sound_action_attributes { is_sound_rows action_attributes ≡ true }
+    ensures sound_action_option_kinds { is_sound_kinds action_option_kinds ≡ true }
+    ensures sound_option_kinds { is_sound_kinds option_kinds ≡ true }
+    ensures sound_actions { is_sound_class actions ≡ true }
+    ensures sound_stats2 { is_sound_rows stats2 ≡ true }
+    ensures sound_flower { is_sound_rows flower_options ≡ true }
+    ensures sound_mpls { is_sound_rows mpls_options ≡ true }
+    ensures sound_lse { is_sound_rows lse_options ≡ true }
 {}

@@ -1,6 +1,6 @@
 -- A family of addresses as a field of a record.
 use Rattle.std.proofs.Common.{◌≡◌, ℕ, ◌<◌, length, Bool, true, false, [], ◌∷◌, refl, sym, ap, ◌∙◌, arith}
-use Rattle.std.proofs.lemmas.Bool.{eqb-true}
+use Rattle.std.proofs.lemmas.Bool.{eqb-true, eqb-false}
 use Rattle.std.specs.Prelude.{◌||◌, ◌==◌, if◌then◌else◌}
 use Rattle.std.specs.List.{list_any}
 use Rattle.nla_frames.specs.declared.family.AddressFamily.{AddressFamily}
@@ -12,18 +12,28 @@ use Rattle.tc_meaning.specs.Tree.{plain, unnamed}
 use Rattle.tc_meaning.specs.Layout.{field_bytes}
 use Rattle.tc_wire.specs.Header.{family_scalar}
 
+-- a test of two numbers asks the same of either first
+eqb_comm : (a b : ℕ) → (a == b) ≡ (b == a)
+eqb_comm a b = go (a == b) (b == a) refl refl
+  where
+    go : (x y : Bool) → (a == b) ≡ x → (b == a) ≡ y → x ≡ y
+    go true true p q = refl
+    go false false p q = refl
+    go true false p q = absurd (eqb-false b a q (sym (eqb-true a b p)))
+    go false true p q = absurd (eqb-false a b p (sym (eqb-true b a q)))
+
 -- a number that has a name, or another, beside the families that follow
 named_or : (n name : ℕ) (family others : AddressFamily) (any : Bool) → family_scalar family ≡ plain name
     → (if any then plain n else unnamed n) ≡ family_scalar others
-    → (if (n == name) || any then plain n else unnamed n) ≡ family_scalar (if n == name then family else others)
-named_or n name family others any is rest = go (n == name) refl
+    → (if (name == n) || any then plain n else unnamed n) ≡ family_scalar (if n == name then family else others)
+named_or n name family others any is rest = rw (eqb_comm name n) (go (n == name) refl)
   where
     go : (b : Bool) → (n == name) ≡ b → (if b || any then plain n else unnamed n) ≡ family_scalar (if b then family else others)
     go true same = ap plain (eqb-true n name same) ∙ sym is
     go false differ = rest
 
 -- a family's number has a name exactly where the family is no `Other`
-pub family_named : (n : ℕ) → (if list_any (λ name. n == name) address_families then plain n else unnamed n) ≡ family_scalar (family_of n)
+pub family_named : (n : ℕ) → (if list_any (λ name. name == n) address_families then plain n else unnamed n) ≡ family_scalar (family_of n)
 family_named n =
     named_or n 0 Unspec _ _ refl
     (named_or n 1 Unix _ _ refl

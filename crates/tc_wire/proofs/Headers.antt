@@ -9,7 +9,7 @@ use Rattle.nla_frames.specs.Fault.{read_as}
 use Rattle.nla_frames.specs.Family.{family_of}
 use Rattle.nla_frames.specs.Value.{le_value}
 use Rattle.tc_canon.specs.Layouts.{tc_header}
-use Rattle.tc_meaning.specs.Layout.{read_record}
+use Rattle.tc_meaning.specs.Content.{read_record}
 use Rattle.nla_frames.specs.declared.family.AddressFamily.{AddressFamily}
 use Rattle.tc_wire.specs.declared.header.TcHandle.{TcHandle}
 use Rattle.tc_wire.specs.Header.{handle_of, handle_number, header_scalars}

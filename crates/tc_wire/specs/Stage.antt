@@ -1,7 +1,7 @@
 -- The tables as far as the types of this crate go: every other type is `Other`, and every other kind unknown.
 use Rattle.std.specs.Prelude.{codes}
 use Rattle.tc_canon.specs.Descriptor.{Rows, Kinds, others, options, unknown, kind, text, ◌▹◌, at}
-use Rattle.tc_canon.specs.Tables.{fq_codel_options}
+use Rattle.tc_canon.specs.Tables.Options.{fq_codel_options}
 
 -- `TcOption`
 abbrev pub option_kinds : Kinds

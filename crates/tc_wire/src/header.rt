@@ -4,7 +4,8 @@ ghost use Rattle.std.specs.Prelude.{◌≡◌, List};
 ghost use Rattle.nla_frames.specs.Fault.{seen};
 ghost use Rattle.tc_canon.specs.Layouts.{tc_header};
 ghost use Rattle.tc_meaning.specs.Tree.{Scalar};
-ghost use Rattle.tc_meaning.specs.Layout.{read_record, fields_bytes, IsSettledRecord};
+ghost use Rattle.tc_meaning.specs.Layout.{fields_bytes, SettledFields};
+ghost use Rattle.tc_meaning.specs.Content.{read_record};
 
 use nla_frames::{
     AddressFamily, BytesMeaning, DecodeError, Emitable, Res, i32_bytes, put_bytes, skip, split_i32,
@@ -177,7 +178,7 @@ impl BytesMeaning for TcHeader {
 
     ghost Fits = { λ _. Unit {0} };
 
-    ghost Settled = { IsSettledRecord tc_header };
+    ghost Settled = { SettledFields tc_header };
 }
 
 impl Emitable for TcHeader {

@@ -4,7 +4,7 @@ ghost use Rattle.std.specs.Prelude.{◌≡◌, [], IfOk};
 ghost use Rattle.nla_frames.specs.Fault.{Gives, IfRefused, seen};
 ghost use Rattle.tc_canon.specs.Layouts.{tc_header};
 ghost use Rattle.tc_wire.specs.Stage.{attributes};
-ghost use Rattle.tc_meaning.specs.Message.{Message, read_message, message_bytes, FitsMessage, IsSettledMessage};
+ghost use Rattle.tc_meaning.specs.Message.{Message, read_message, message_bytes, FitsMessage, SettledMessage};
 ghost use Rattle.tc_wire.specs.Header.{empty_header};
 ghost use Rattle.tc_wire.specs.Message.{tc_message, ReadsTc, FaultTc};
 
@@ -75,7 +75,7 @@ impl<A: Allocator> BytesMeaning for TcMessage<A> {
 
     ghost Fits = { FitsMessage tc_header attributes };
 
-    ghost Settled = { IsSettledMessage tc_header attributes };
+    ghost Settled = { SettledMessage tc_header attributes };
 }
 
 impl<A: Allocator + Copy> ParseableBytes<A> for TcMessage<A> {
@@ -91,7 +91,7 @@ impl<A: Allocator + Copy> ParseableBytes<A> for TcMessage<A> {
     }
 }
 
-#[tactic(auto, unfolding(tc_meaning::specs::Message::read_message))]
+#[tactic(auto, unfolding(tc_meaning::specs::Message::read_with))]
 fn read<A: Allocator + Copy>(alloc: A, bytes: &[u8]) -> Res<TcMessage<A>>
     ensures { Gives (seen tc_message result) (read_message tc_header attributes bytes.now) }
 {

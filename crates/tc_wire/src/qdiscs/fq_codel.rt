@@ -2,7 +2,7 @@
 
 ghost use Rattle.std.specs.Prelude.{◌≡◌, List};
 ghost use Rattle.tc_canon.specs.Descriptor.{table};
-ghost use Rattle.tc_canon.specs.Tables.{fq_codel_options};
+ghost use Rattle.tc_canon.specs.Tables.Options.{fq_codel_options};
 ghost use Rattle.tc_meaning.specs.Tree.{Attribute};
 ghost use Rattle.tc_meaning.specs.Meaning.{table_codec};
 ghost use Rattle.tc_meaning.specs.Short.{table_short};

@@ -1,0 +1,21 @@
+-- The kinds that frames tell: a frame of type 1 holds a text, and its flags don't matter.
+use Rattle.std.specs.Prelude.{◌≡◌, ℕ, ◌==◌, Bool, List, [], ◌∷◌, Option, Some, None, if◌then◌else◌}
+use Rattle.nla_frames.specs.Value.{strip}
+use Rattle.nla_frames.specs.Frame.{Frame, type_of}
+use Rattle.nla_frames.specs.Place.{Sets}
+
+abbrev pub tells_kind : Frame → Bool
+tells_kind f = type_of f.word == 1
+
+-- in a message, such a frame sets the kind for those after it
+abbrev pub kind_of_frame : Sets Frame
+kind_of_frame f = if tells_kind f then Some (strip f.value) else None
+
+-- all the kinds that frames tell, in order
+abbrev pub kinds_told : List Frame → List (List ℕ)
+kinds_told [] = []
+kinds_told (f ∷ fs) = if tells_kind f then strip f.value ∷ kinds_told fs else kinds_told fs
+
+-- the frames of an action tell one kind, wherever it stands
+abbrev pub TellsOne : List Frame → List ℕ → Type 0
+TellsOne fs own = kinds_told fs ≡ own ∷ []

@@ -1,0 +1,44 @@
+-- What a list of frames that tell their kind reads as, and its first fault, in the words of the grammar of lists.
+-- `own_grammar` in src/laws.rt says that `read_own` is this.
+use Rattle.std.specs.Prelude.{◌≡◌, ◌⊎◌, ℕ, List, [], ◌∷◌, Option, Some, None, Result, Ok, Err, if◌then◌else◌, ◌↔◌}
+use Rattle.nla_frames.specs.declared.error.DecodeError.{DecodeError}
+use Rattle.nla_frames.specs.declared.error.DecodeError.TheVariants.{MissingKind, DuplicateKind}
+use Rattle.nla_frames.specs.Fault.{seen}
+use Rattle.nla_frames.specs.Value.{text}
+use Rattle.nla_frames.specs.Reading.{Reads, keep}
+use Rattle.nla_frames.specs.ListGrammar.{ListReads, ListFault}
+use Rattle.tc_canon.specs.Kind.{tells_kind}
+use Rattle.tc_meaning.specs.Own.{kinds_set}
+
+-- the first look at a frame: the text of one of type 1, and nothing of any other
+abbrev pub first_look : Reads (Option (List ℕ))
+first_look kind f = if tells_kind f then seen Some (text f.value) else Ok None
+
+-- the texts that were found
+abbrev pub kinds_found : List (Option (List ℕ)) → List (List ℕ)
+kinds_found looks = kinds_set (λ look. look) looks
+
+-- every frame of type 1 has a text, there is one such frame, and each frame is read under its text
+pub record OwnReads {X : Type 0} (reads : Reads X) (bytes : List ℕ) (xs : List X) : Type 0 where
+  pub looks : List (Option (List ℕ))
+  pub own : List ℕ
+  pub looked : ListReads first_look keep [] bytes looks
+  pub one : kinds_found looks ≡ own ∷ []
+  pub each : ListReads reads keep own bytes xs
+
+-- the fault after the first look: of no kind, of the list under the one that was found, of several
+abbrev pub KindFault : {X : Type 0} → Reads X → List ℕ → List (List ℕ) → DecodeError → Type 0
+KindFault reads bytes [] e = e ≡ MissingKind
+KindFault reads bytes (own ∷ []) e = ListFault reads keep own bytes e
+KindFault reads bytes _ e = e ≡ DuplicateKind
+
+-- the first fault: that of the first look, a broken frame or one of type 1 that has no text; or the one after it
+abbrev pub OwnFault : {X : Type 0} → Reads X → List ℕ → DecodeError → Type 0
+OwnFault reads bytes e =
+    ListFault first_look keep [] bytes e
+    ⊎ ((looks : List (Option (List ℕ))) × ListReads first_look keep [] bytes looks × KindFault reads bytes (kinds_found looks) e)
+
+-- one reading and no fault, or no reading and one fault
+pub record OneOwn {X : Type 0} (reads : Reads X) (bytes : List ℕ) (outcome : Result (List X) DecodeError) : Type 0 where
+  pub reading : (xs : List X) → (outcome ≡ Ok xs) ↔ OwnReads reads bytes xs
+  pub fault : (e : DecodeError) → (outcome ≡ Err e) ↔ OwnFault reads bytes e
