@@ -1,5 +1,5 @@
 -- The language of the tables: what stands in a frame's value, by the frame's type and the kind in force.
-use Rattle.std.specs.Prelude.{ℕ, ◌+◌, Bool, true, false, List, [], ◌∷◌, ◌&&◌, nat_le, if◌then◌else◌}
+use Rattle.std.specs.Prelude.{ℕ, Bool, true, false, List, ◌&&◌, nat_le, if◌then◌else◌}
 use Rattle.std.specs.Str.{bytes_eq}
 
 -- a field of a fixed record; its place is the sum of the widths before it

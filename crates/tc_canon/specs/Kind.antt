@@ -1,5 +1,5 @@
 -- The kinds that frames tell: a frame of type 1 holds a text, and its flags don't matter.
-use Rattle.std.specs.Prelude.{◌≡◌, ℕ, ◌==◌, Bool, List, [], ◌∷◌, Option, Some, None, if◌then◌else◌}
+use Rattle.std.specs.Prelude.{◌≡◌, ℕ, ◌==◌, Bool, List, [], ◌∷◌, Some, None, if◌then◌else◌}
 use Rattle.nla_frames.specs.Value.{strip}
 use Rattle.nla_frames.specs.Frame.{Frame, type_of}
 use Rattle.nla_frames.specs.Place.{Sets}

@@ -17,8 +17,10 @@ use Rattle.tc_meaning.specs.Meaning.{table_codec}
 use Rattle.tc_meaning.specs.Message.{Message, ReadsWith, read_with, message_bytes, FitsMessage, TypedMessage, SettledWith, SettledByPlace, OneMessage, CanonWith, message_codec}
 use Rattle.tc_meaning.proofs.Outcomes.{ok-same}
 use Rattle.tc_meaning.proofs.OwnLaws.{TellsKind}
+use Rattle.tc_meaning.proofs.NoMemory.{message-memory}
+use Rattle.nla_frames.specs.declared.error.DecodeError.TheVariants.{OutOfMemory}
 use Rattle.tc_meaning.proofs.TableLaws.{table_laws, rows_laws, tells_rows}
-use Rattle.tc_meaning.specs.Whole.{ReadsTc, read_tc, tc_bytes, TypedTc, FitsTc, SettledTc, ReadsAct, read_act, act_bytes, TypedAct, FitsAct, SettledAct}
+use Rattle.tc_meaning.specs.Whole.{FaultTc, FaultAct, ReadsTc, read_tc, tc_bytes, TypedTc, FitsTc, SettledTc, ReadsAct, read_act, act_bytes, TypedAct, FitsAct, SettledAct}
 use Rattle.nla_frames.proofs.Bytes.{IsBytes-slice}
 use Rattle.tc_meaning.proofs.MessageLaws.{one_message, message_laws}
 
@@ -40,6 +42,7 @@ module _ (by_frame : Sets Frame) (by_value : Sets Attribute) (layout : List Fiel
       (λ g. law.0 (one.1 g), λ s. one.0 (law.1 s))
 
   module _ (bytes : List ℕ) (w : IsWireBytes bytes) where
+    -- the reading and the fault are the grammar's
     one : OneMessage by_frame layout rows bytes (read_with by_frame layout rows bytes)
     one = one_message by_frame layout rows bytes w.are_bytes
 
@@ -106,18 +109,23 @@ canon-places Canon sets first bytes = (from, to)
 
 -- ---- the two messages
 
+-- the tables pass their tests
 sound_attributes : is_sound_rows attributes ≡ true
 sound_attributes = refl
 
+-- the same of an action message
 sound_actions : is_sound_rows action_message_attributes ≡ true
 sound_actions = refl
 
+-- a frame and what it reads as set the same kind
 tells_attributes : TellsKind (table_codec (table attributes))
 tells_attributes = tells_rows attributes refl (λ n. rows_laws attributes sound_attributes n)
 
+-- the laws of a traffic control message
 pub tc_laws : Laws IsWireBytes (message_codec kind_of_frame kind_of_attribute tc_header attributes) (λ kind bytes. CanonWith kind_of_frame tc_header attributes bytes)
 tc_laws = message_laws kind_of_frame kind_of_attribute tc_header attributes (table_laws (table attributes) sound_attributes) (λ kind f x w e. tells_attributes.agree kind f x e)
 
+-- the laws of an action message
 pub act_laws : Laws IsWireBytes (message_codec keep keep action_message_header action_message_attributes) (λ kind bytes. CanonWith keep action_message_header action_message_attributes bytes)
 act_laws = message_laws keep keep action_message_header action_message_attributes (table_laws (table action_message_attributes) sound_actions) (λ kind f x w e. refl)
 
@@ -127,6 +135,7 @@ canon-tc bytes =
     let law = canon-places (CanonTable (table attributes)) kind_of_frame [] (drop 20 bytes) in
     (λ c. record { header = c.header; body = law.0 c.body }, λ c. record { header = c.header; body = law.1 c.body })
 
+-- the same of an action message
 pub canon-act : (bytes : List ℕ) → CanonWith keep action_message_header action_message_attributes bytes ↔ CanonAct bytes
 canon-act bytes = (λ c. record { header = c.header; body = c.body }, λ c. record { header = c.header; body = c.body })
 
@@ -136,51 +145,73 @@ canon-act bytes = (λ c. record { header = c.header; body = c.body }, λ c. reco
 pub wire_slice : (bytes : List ℕ) → ((i : ℕ) → Fits w8 (get_or bytes i 0)) → length bytes < 2 ^ 64 → IsWireBytes bytes
 wire_slice bytes fits long = record { are_bytes = IsBytes-slice bytes fits; long = long }
 
+-- reading a traffic control message is the grammar
 pub tc-reading : (bytes : List ℕ) → IsWireBytes bytes → OneMessage kind_of_frame tc_header attributes bytes (read_tc bytes)
 tc-reading bytes w = one_message kind_of_frame tc_header attributes bytes w.are_bytes
 
+-- the same of an action message
 pub act-reading : (bytes : List ℕ) → IsWireBytes bytes → OneMessage keep action_message_header action_message_attributes bytes (read_act bytes)
 act-reading bytes w = one_message keep action_message_header action_message_attributes bytes w.are_bytes
 
 module _ (bytes : List ℕ) (w : IsWireBytes bytes) where
+  -- what is read is typed
   pub tc-typed : (m : Message) → ReadsTc bytes m → TypedTc m
   tc-typed = typed kind_of_frame kind_of_attribute tc_header attributes tc_laws bytes w
 
+  -- what is read and fits comes back as the same bytes exactly if they were canonical
   pub tc-same : (m : Message) → ReadsTc bytes m → FitsTc m → (tc_bytes m ≡ bytes) ↔ CanonTc bytes
   tc-same m g f =
       let law = same kind_of_frame kind_of_attribute tc_header attributes tc_laws bytes w m g f in
       let words = canon-tc bytes in
       (λ s. words.0 (law.0 s), λ c. law.1 (words.1 c))
 
+  -- canonical bytes are read, as a value that fits and is settled
   pub tc-canonical : CanonTc bytes → (m : Message) × ReadsTc bytes m × FitsTc m × SettledTc m
   tc-canonical c = canonical kind_of_frame kind_of_attribute tc_header attributes tc_laws bytes w ((canon-tc bytes).1 c)
 
+  -- what is read is typed
   pub act-typed : (m : Message) → ReadsAct bytes m → TypedAct m
   act-typed = typed keep keep action_message_header action_message_attributes act_laws bytes w
 
+  -- what is read and fits comes back as the same bytes exactly if they were canonical
   pub act-same : (m : Message) → ReadsAct bytes m → FitsAct m → (act_bytes m ≡ bytes) ↔ CanonAct bytes
   act-same m g f =
       let law = same keep keep action_message_header action_message_attributes act_laws bytes w m g f in
       let words = canon-act bytes in
       (λ s. words.0 (law.0 s), λ c. law.1 (words.1 c))
 
+  -- canonical bytes are read, as a value that fits and is settled
   pub act-canonical : CanonAct bytes → (m : Message) × ReadsAct bytes m × FitsAct m × SettledAct m
   act-canonical c = canonical keep keep action_message_header action_message_attributes act_laws bytes w ((canon-act bytes).1 c)
 
+-- what fits reads back exactly if it is settled
 pub tc-back : (m : Message) → TypedTc m → FitsTc m → ReadsTc (tc_bytes m) m ↔ SettledTc m
 tc-back = back kind_of_frame kind_of_attribute tc_header attributes tc_laws
 
+-- the bytes of what is settled and fits are canonical
 pub tc-settled : (m : Message) → TypedTc m → FitsTc m → SettledTc m → CanonTc (tc_bytes m)
 tc-settled m t f s = (canon-tc (tc_bytes m)).0 (settled kind_of_frame kind_of_attribute tc_header attributes tc_laws m t f s)
 
+-- what fits reads back exactly if it is settled
 pub act-back : (m : Message) → TypedAct m → FitsAct m → ReadsAct (act_bytes m) m ↔ SettledAct m
 act-back = back keep keep action_message_header action_message_attributes act_laws
 
+-- the bytes of what is settled and fits are canonical
 pub act-settled : (m : Message) → TypedAct m → FitsAct m → SettledAct m → CanonAct (act_bytes m)
 act-settled m t f s = (canon-act (act_bytes m)).0 (settled keep keep action_message_header action_message_attributes act_laws m t f s)
 
+-- settled messages with the same bytes are the same
 pub tc-equal : (m n : Message) → TypedTc m → FitsTc m → SettledTc m → TypedTc n → FitsTc n → SettledTc n → tc_bytes m ≡ tc_bytes n → m ≡ n
 tc-equal = equal kind_of_frame kind_of_attribute tc_header attributes tc_laws
 
+-- settled messages with the same bytes are the same
 pub act-equal : (m n : Message) → TypedAct m → FitsAct m → SettledAct m → TypedAct n → FitsAct n → SettledAct n → act_bytes m ≡ act_bytes n → m ≡ n
 act-equal = equal keep keep action_message_header action_message_attributes act_laws
+
+-- no fault of a traffic control message is want of memory
+pub tc-memory : (bytes : List ℕ) → IsWireBytes bytes → FaultTc bytes OutOfMemory → ⊥
+tc-memory bytes w g = message-memory kind_of_frame tc_header attributes bytes (((tc-reading bytes w).fault OutOfMemory).1 g)
+
+-- no fault of an action message is want of memory
+pub act-memory : (bytes : List ℕ) → IsWireBytes bytes → FaultAct bytes OutOfMemory → ⊥
+act-memory bytes w g = message-memory keep action_message_header action_message_attributes bytes (((act-reading bytes w).fault OutOfMemory).1 g)

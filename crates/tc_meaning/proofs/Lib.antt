@@ -9,8 +9,10 @@ pub mod Rows
 pub mod KindLaws
 pub mod OwnLaws
 pub mod OwnGrammarLaws
+pub mod NoMemory
 pub mod TableLaws
 pub mod MessageLaws
 pub mod Headline
 pub mod MessageReading
 pub mod Trees
+pub mod FitTests

@@ -22,7 +22,7 @@ use Rattle.tc_canon.specs.Canonical.{CanonFields, CanonTable}
 use Rattle.tc_meaning.specs.Tree.{Scalar, Attribute}
 use Rattle.tc_meaning.specs.Layout.{read_fields, fields_bytes, TypedFields, SettledFields}
 use Rattle.tc_meaning.specs.Meaning.{table_codec}
-use Rattle.tc_meaning.specs.Message.{Message, ReadsWith, FaultWith, read_with, message_bytes, FitsMessage, TypedMessage, SettledWith, OneMessage, CanonWith, message_codec, kind_of_frame}
+use Rattle.tc_meaning.specs.Message.{Message, ReadsWith, FaultWith, read_with, message_bytes, FitsMessage, TypedMessage, SettledWith, OneMessage, CanonWith, message_codec}
 use Rattle.tc_meaning.proofs.Outcomes.{kept-ok, then-ok, then-err, ok-same, err-same}
 use Rattle.tc_meaning.proofs.Fields.{length-fields_bytes, IsBytes-fields_bytes, typed-fields, back-fields, same-fields}
 

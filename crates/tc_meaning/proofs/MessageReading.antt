@@ -1,5 +1,5 @@
 -- A message that is read in two steps: its header, and then its attributes.
-use Rattle.std.proofs.Common.{◌≡◌, ℕ, List, [], drop, Ok, refl, sym, ◌∙◌}
+use Rattle.std.proofs.Common.{◌≡◌, ℕ, List, [], drop, refl, sym, ◌∙◌}
 use Rattle.std.proofs.lemmas.Bool.{le-ltb}
 use Rattle.nla_frames.specs.declared.error.DecodeError.{DecodeError}
 use Rattle.nla_frames.specs.Fault.{Gives, read_as, refused}

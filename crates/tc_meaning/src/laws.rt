@@ -1,7 +1,8 @@
 //! The laws of both messages, as contracts of functions that do nothing.
 
-ghost use Rattle.std.specs.Prelude.{◌≡◌, ◌↔◌, List, ℕ, Ok, Err, true};
+ghost use Rattle.std.specs.Prelude.{◌≡◌, ◌↔◌, List, ℕ, Ok, Err, Bool, IsTrue, true};
 ghost use Rattle.nla_frames.specs.declared.error.DecodeError.{DecodeError};
+ghost use Rattle.nla_frames.specs.declared.error.DecodeError.TheVariants.{OutOfMemory};
 ghost use Rattle.nla_frames.specs.Frame.{IsWireFrame};
 ghost use Rattle.nla_frames.specs.Codec.{Laws, IsWireValue};
 ghost use Rattle.tc_canon.specs.Descriptor.{Class, Table};
@@ -22,13 +23,14 @@ ghost use Rattle.tc_meaning.specs.Whole.{ReadsTc, FaultTc, read_tc, tc_bytes, Ty
 use nla_frames::FrameMeaning;
 
 /// A traffic control message. Reading its bytes gives a message exactly if the grammar reads it so, and a fault
-/// exactly if that is the grammar's. A message that fits is written as bytes that read as it exactly if it is
-/// settled; bytes that read as a message that fits are its bytes exactly if they are canonical. Canonical bytes are
-/// read, as a message that fits and is settled, and the bytes of such a message are canonical: so these messages
-/// and these bytes correspond one to one.
+/// exactly if that is the grammar's, which is never want of memory. A message that fits is written as bytes that
+/// read as it exactly if it is settled; bytes that read as a message that fits are its bytes exactly if they are
+/// canonical. Canonical bytes are read, as a message that fits and is settled, and the bytes of such a message are
+/// canonical: so these messages and these bytes correspond one to one.
 pub fn tc_message(bytes: &[u8])
     ensures reading { (m : Message) → (read_tc bytes.now ≡ Ok m) ↔ ReadsTc bytes.now m }
     ensures fault { (e : DecodeError) → (read_tc bytes.now ≡ Err e) ↔ FaultTc bytes.now e }
+    ensures not_memory { FaultTc bytes.now OutOfMemory → ⊥ }
     ensures typed { (m : Message) → ReadsTc bytes.now m → TypedTc m }
     ensures back { (m : Message) → TypedTc m → FitsTc m → ReadsTc (tc_bytes m) m ↔ SettledTc m }
     ensures same { (m : Message) → ReadsTc bytes.now m → FitsTc m → (tc_bytes m ≡ bytes.now) ↔ CanonTc bytes.now }
@@ -42,12 +44,19 @@ pub fn tc_message(bytes: &[u8])
 pub fn action_message(bytes: &[u8])
     ensures reading { (m : Message) → (read_act bytes.now ≡ Ok m) ↔ ReadsAct bytes.now m }
     ensures fault { (e : DecodeError) → (read_act bytes.now ≡ Err e) ↔ FaultAct bytes.now e }
+    ensures not_memory { FaultAct bytes.now OutOfMemory → ⊥ }
     ensures typed { (m : Message) → ReadsAct bytes.now m → TypedAct m }
     ensures back { (m : Message) → TypedAct m → FitsAct m → ReadsAct (act_bytes m) m ↔ SettledAct m }
     ensures same { (m : Message) → ReadsAct bytes.now m → FitsAct m → (act_bytes m ≡ bytes.now) ↔ CanonAct bytes.now }
     ensures canonical { CanonAct bytes.now → (m : Message) × ReadsAct bytes.now m × FitsAct m × SettledAct m }
     ensures settled { (m : Message) → TypedAct m → FitsAct m → SettledAct m → CanonAct (act_bytes m) }
     ensures equal { (m n : Message) → TypedAct m → FitsAct m → SettledAct m → TypedAct n → FitsAct n → SettledAct n → act_bytes m ≡ act_bytes n → m ≡ n }
+{}
+
+/// A test tells of every message whether it fits.
+pub fn fits_or_not()
+    ensures tc { (m : Message) → (fits : Bool) × (IsTrue fits ↔ FitsTc m) }
+    ensures action { (m : Message) → (fits : Bool) × (IsTrue fits ↔ FitsAct m) }
 {}
 
 /// A list of frames that tell their kind themselves, as an action is. `read_own` gives values exactly if every frame

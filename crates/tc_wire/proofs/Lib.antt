@@ -3,3 +3,4 @@ pub mod Headers
 pub mod KindTexts
 pub mod MessageBytes
 pub mod NestedOptions
+pub mod Outcomes

@@ -3,6 +3,7 @@
 
 pub mod attribute;
 pub mod header;
+pub mod laws;
 pub mod message;
 pub mod options;
 pub mod qdiscs;

@@ -1,5 +1,4 @@
 -- The tables of flower.
-use Rattle.std.specs.Prelude.{ℕ}
 use Rattle.tc_canon.specs.Descriptor.{Class, Rows, others, unread, le, be, masked, array, text, list_of, table, ◌▹◌, at, from, nested}
 use Rattle.tc_canon.specs.Tables.Actions.{actions}
 

@@ -1,5 +1,4 @@
 -- The tables of both messages.
-use Rattle.std.specs.Prelude.{ℕ}
 use Rattle.tc_canon.specs.Descriptor.{Rows, others, options, le, raw, text, warning, presence, fields, pair, xstats, list_of, table, ◌▹◌, at, from}
 use Rattle.tc_canon.specs.Layouts.{stats}
 use Rattle.tc_canon.specs.Tables.Statistics.{stats2}

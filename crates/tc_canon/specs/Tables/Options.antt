@@ -1,5 +1,5 @@
 -- The tables of options, but flower's, and the known kinds of a message.
-use Rattle.std.specs.Prelude.{ℕ, codes}
+use Rattle.std.specs.Prelude.{codes}
 use Rattle.tc_canon.specs.Descriptor.{Rows, Kinds, others, unknown, kind, le, array, raw, text, selector, ◌▹◌, at, from}
 use Rattle.tc_canon.specs.Tables.Actions.{actions}
 use Rattle.tc_canon.specs.Tables.Flower.{flower_options}

@@ -1,5 +1,4 @@
 -- The table of statistics.
-use Rattle.std.specs.Prelude.{ℕ}
 use Rattle.tc_canon.specs.Descriptor.{Rows, others, fields, xstats, ◌▹◌, at}
 use Rattle.tc_canon.specs.Layouts.{stats_basic, stats_queue}
 

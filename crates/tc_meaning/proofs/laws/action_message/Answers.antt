@@ -1,6 +1,6 @@
 use Rattle.std.proofs.Common.{arith}
 use Rattle.nla_frames.specs.Codec.{IsWireBytes}
-use Rattle.tc_meaning.proofs.Headline.{wire_slice, act-reading, act-typed, act-back, act-same, act-canonical, act-settled, act-equal}
+use Rattle.tc_meaning.proofs.Headline.{wire_slice, act-reading, act-typed, act-back, act-same, act-canonical, act-settled, act-equal, act-memory}
 use Rattle.tc_meaning.proofs.laws.action_message.Goals as goal
 
 wire : (c : goal.Start) → IsWireBytes c.args.bytes.now
@@ -29,3 +29,6 @@ returns-clause-settled c = act-settled
 
 pub returns-clause-equal : goal.returns-clause-equal
 returns-clause-equal c = act-equal
+
+pub returns-clause-not_memory : goal.returns-clause-not_memory
+returns-clause-not_memory c = act-memory c.args.bytes.now (wire c)

@@ -1,6 +1,6 @@
 use Rattle.std.proofs.Common.{arith}
 use Rattle.nla_frames.specs.Codec.{IsWireBytes}
-use Rattle.tc_meaning.proofs.Headline.{wire_slice, tc-reading, tc-typed, tc-back, tc-same, tc-canonical, tc-settled, tc-equal, settled-places}
+use Rattle.tc_meaning.proofs.Headline.{wire_slice, tc-reading, tc-typed, tc-back, tc-same, tc-canonical, tc-settled, tc-equal, tc-memory, settled-places}
 use Rattle.tc_meaning.proofs.laws.tc_message.Goals as goal
 use Rattle.tc_meaning.specs.Own.{kind_of_attribute}
 use Rattle.tc_canon.specs.Layouts.{tc_header}
@@ -35,3 +35,6 @@ returns-clause-places c = settled-places tc_header attributes kind_of_attribute
 
 pub returns-clause-equal : goal.returns-clause-equal
 returns-clause-equal c = tc-equal
+
+pub returns-clause-not_memory : goal.returns-clause-not_memory
+returns-clause-not_memory c = tc-memory c.args.bytes.now (wire c)

@@ -1,0 +1,5 @@
+pub mod Word
+pub mod Text
+pub mod Report
+pub mod Answer
+pub mod Run

@@ -1,0 +1,23 @@
+//! What kind of message is read.
+
+ghost use Rattle.std.specs.Prelude.{◌≡◌, ◌↔◌, Some};
+ghost use Rattle.tcrewrite.specs.Word.{word_of};
+
+/// The kind of message that the text holds.
+#[derive(Debug, PartialEq, Eq, Clone, Copy)]
+pub enum Mode {
+    /// A whole `TcMessage`.
+    Tc,
+}
+
+impl Mode {
+    /// The mode that a word asks for.
+    pub fn from_word(word: &str) -> Option<Mode>
+        ensures { (mode : Mode) → (result ≡ Some mode) ↔ (word.now ≡ word_of mode) }
+    {
+        match word {
+            "tc" => Some(Mode::Tc),
+            _ => None,
+        }
+    }
+}
