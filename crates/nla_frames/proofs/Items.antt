@@ -15,7 +15,7 @@ pub items-next_frame : (bytes : List ℕ) (next : Frame × List ℕ) → next_fr
 items-next_frame bytes next is = ap items_of (cut-next_frame bytes next.0 next.1 is)
 
 -- bytes that a test found not empty
-some_bytes : (bytes : List ℕ) (empty : Bool) → empty ≡ (length bytes == 0) → empty ≡ false → 0 < length bytes
+pub some_bytes : (bytes : List ℕ) (empty : Bool) → empty ≡ (length bytes == 0) → empty ≡ false → 0 < length bytes
 some_bytes [] empty is not = absurd cc
 some_bytes (b ∷ bytes) empty is not = omega arith
 

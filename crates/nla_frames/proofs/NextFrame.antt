@@ -65,6 +65,19 @@ length-Broken bytes (FrameTooLong long left) b = omega arith
 length-Broken bytes (FrameTooShort long) b = omega arith
 length-Broken bytes _ b = elim b [ ]
 
+-- what a frame at the front is
+pub record IsNext (bytes : List ℕ) (next : Frame × List ℕ) : Type 0 where
+  pub whole : length_at bytes ≤ length bytes
+  pub long : 4 ≤ length_at bytes
+  pub frame : frame_of_length (length_at bytes) bytes ≡ next.0
+  pub rest : drop (padding (length_at bytes)) (drop (length_at bytes) bytes) ≡ next.1
+
+is_next : (bytes : List ℕ) (next : Frame × List ℕ) → Finds bytes (Ok next) → IsNext bytes next
+is_next bytes next (whole h k) = record { whole = k; long = h; frame = refl; rest = refl }
+
+pub next_frame-is : (bytes : List ℕ) (next : Frame × List ℕ) → next_frame bytes ≡ Ok next → IsNext bytes next
+next_frame-is bytes next e = is_next bytes next (Finds-is bytes (Ok next) e)
+
 -- no test finds that memory ran out
 no_memory : (bytes : List ℕ) → Finds bytes (Err OutOfMemory) → ⊥
 no_memory bytes h = elim h [ ]

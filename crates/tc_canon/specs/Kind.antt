@@ -4,6 +4,7 @@ use Rattle.nla_frames.specs.Value.{strip}
 use Rattle.nla_frames.specs.Frame.{Frame, type_of}
 use Rattle.nla_frames.specs.Place.{Sets}
 
+-- the frame is of type 1
 abbrev pub tells_kind : Frame → Bool
 tells_kind f = type_of f.word == 1
 

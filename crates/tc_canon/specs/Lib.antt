@@ -4,3 +4,4 @@ pub mod Tables
 pub mod Kind
 pub mod Canonical
 pub mod Front
+pub mod Widths

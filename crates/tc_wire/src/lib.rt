@@ -19,3 +19,6 @@ pub use nla_frames::{
 };
 pub use options::{TcOption, VecTcOption};
 pub use qdiscs::fq_codel::{TcQdiscFqCodel, TcQdiscFqCodelOption};
+
+#[cfg(test)]
+mod tests;

@@ -1,0 +1,37 @@
+//! Lists of frames.
+
+ghost use Rattle.std.specs.Prelude.{◌↔◌, List, ℕ, IsTrue};
+ghost use Rattle.nla_frames.specs.Buffer.{frame_of};
+ghost use Rattle.nla_frames.specs.Reading.{keep};
+ghost use Rattle.tc_canon.specs.Canonical.{IsCanonAt, IsCanonList};
+
+use crate::front::split_padded;
+use nla_frames::NlaBuffer;
+
+/// A table of frames.
+pub(crate) trait Table {
+    ghost Canon: { IsCanonAt };
+
+    /// Whether a frame is canonical in this table, under a kind.
+    fn is_canonical(kind: &[u8], frame: &NlaBuffer<'_>) -> bool
+        ensures { IsTrue result ↔ Self.Canon kind.now (frame_of frame.now) };
+}
+
+/// Whether the bytes are frames, each padded in full with zeros and canonical in its table, under a kind.
+pub(crate) fn is_canonical_list<T: Table>(bytes: &[u8], kind: &[u8]) -> bool
+    ensures { IsTrue result ↔ IsCanonList T.Canon keep kind.now bytes.now }
+{
+    let mut rest = bytes;
+    while !rest.is_empty() {
+        match split_padded(rest) {
+            Some((frame, after)) => {
+                if !T::is_canonical(kind, &frame) {
+                    return false;
+                }
+                rest = after;
+            }
+            None => return false,
+        }
+    }
+    true
+}

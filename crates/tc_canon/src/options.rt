@@ -1,0 +1,124 @@
+//! The options of a message, by its kind.
+
+ghost use Rattle.std.specs.Prelude.{◌≡◌, ◌↔◌, true, IsTrue};
+ghost use Rattle.tc_canon.specs.Descriptor.{table, by_kind, is_known};
+ghost use Rattle.tc_canon.specs.Tables.Options.{fq_codel_options, u32_options, matchall_options, bpf_options, option_kinds};
+ghost use Rattle.tc_canon.specs.Canonical.{CanonTable, CanonOptions};
+
+use crate::actions::Actions;
+use crate::contents::{is_plain, is_terminated};
+use crate::flower::FlowerOptions;
+use crate::lists::{Table, is_canonical_list};
+use crate::records::is_selector;
+use nla_frames::NlaBuffer;
+
+/// `TcQdiscFqCodelOption`.
+struct FqCodelOptions;
+
+impl Table for FqCodelOptions {
+    ghost Canon = { CanonTable (table fq_codel_options) };
+
+    fn is_canonical(_kind: &[u8], frame: &NlaBuffer<'_>) -> bool {
+        match frame.kind() {
+            1..=9 => is_plain(frame) && frame.value().len() == 4,
+            10 | 11 => is_plain(frame) && frame.value().len() == 1,
+            _ => true,
+        }
+    }
+}
+
+/// `TcFilterU32Option`.
+struct U32Options;
+
+impl Table for U32Options {
+    ghost Canon = { CanonTable (table u32_options) };
+
+    fn is_canonical(kind: &[u8], frame: &NlaBuffer<'_>) -> bool {
+        let value = frame.value();
+        match frame.kind() {
+            1..=4 | 11 => is_plain(frame) && value.len() == 4,
+            5 => is_plain(frame) && is_selector(value),
+            7 => is_plain(frame) && is_canonical_list::<Actions>(value, kind),
+            6 | 8 | 9 | 10 => is_plain(frame),
+            _ => true,
+        }
+    }
+}
+
+/// `TcFilterMatchAllOption`.
+struct MatchAllOptions;
+
+impl Table for MatchAllOptions {
+    ghost Canon = { CanonTable (table matchall_options) };
+
+    fn is_canonical(kind: &[u8], frame: &NlaBuffer<'_>) -> bool {
+        let value = frame.value();
+        match frame.kind() {
+            1 | 3 => is_plain(frame) && value.len() == 4,
+            2 => is_plain(frame) && is_canonical_list::<Actions>(value, kind),
+            4 => is_plain(frame),
+            _ => true,
+        }
+    }
+}
+
+/// `TcFilterBpfOption`.
+struct BpfOptions;
+
+impl Table for BpfOptions {
+    ghost Canon = { CanonTable (table bpf_options) };
+
+    fn is_canonical(_kind: &[u8], frame: &NlaBuffer<'_>) -> bool {
+        let value = frame.value();
+        match frame.kind() {
+            3 | 6 | 8 | 9 | 11 => is_plain(frame) && value.len() == 4,
+            7 => is_plain(frame) && is_terminated(value),
+            10 => is_plain(frame) && value.len() == 8,
+            _ => true,
+        }
+    }
+}
+
+/// The options of a message by its kind; ingress knows no type.
+pub(crate) struct Options;
+
+impl Table for Options {
+    ghost Canon = { CanonTable (by_kind option_kinds) };
+
+    fn is_canonical(kind: &[u8], frame: &NlaBuffer<'_>) -> bool {
+        if kind == b"fq_codel".as_slice() {
+            FqCodelOptions::is_canonical(kind, frame)
+        } else if kind == b"ingress".as_slice() {
+            true
+        } else if kind == b"flower".as_slice() {
+            FlowerOptions::is_canonical(kind, frame)
+        } else if kind == b"u32".as_slice() {
+            U32Options::is_canonical(kind, frame)
+        } else if kind == b"matchall".as_slice() {
+            MatchAllOptions::is_canonical(kind, frame)
+        } else if kind == b"bpf".as_slice() {
+            BpfOptions::is_canonical(kind, frame)
+        } else {
+            true
+        }
+    }
+}
+
+/// Whether the options of a message have a table under this kind.
+pub(crate) fn has_options(kind: &[u8]) -> bool
+    ensures { IsTrue result ↔ is_known option_kinds kind.now ≡ true }
+{
+    kind == b"fq_codel".as_slice()
+        || kind == b"ingress".as_slice()
+        || kind == b"flower".as_slice()
+        || kind == b"u32".as_slice()
+        || kind == b"matchall".as_slice()
+        || kind == b"bpf".as_slice()
+}
+
+/// Whether a value is a canonical list of options under a kind. Under an unknown kind no list stands there.
+pub fn canon_options(value: &[u8], kind: &[u8]) -> bool
+    ensures { IsTrue result ↔ CanonOptions kind.now value.now }
+{
+    has_options(kind) && is_canonical_list::<Options>(value, kind)
+}

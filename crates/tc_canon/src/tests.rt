@@ -1,0 +1,611 @@
+//! Messages whose answer is known: made by hand, sent by iproute2's tc, and written by Linux 6.1 and 6.18.
+
+ghost use Rattle.std.specs.Prelude.{◌<◌};
+
+use crate::{
+    canon_action, canon_action_options, canon_actions, canon_lse, canon_mpls, canon_options,
+    canon_stats2, is_canonical_action, is_canonical_tc,
+};
+use std::alloc::{AllocError, Allocator};
+use std::test::*;
+
+/// A message in hex, and whether it is canonical.
+struct Row {
+    name: &'static str,
+    hex: &'static str,
+    canonical: bool,
+}
+
+/// The kind fq_codel, and a limit of 10240.
+const LIMIT: &str =
+    "000000000200000000000100ffffffff000000000d00010066715f636f64656c000000000c0002000800020000280000";
+
+/// Traffic control messages.
+const TC: [Row; 68] = [
+    Row {
+        name: "fq_codel limit",
+        hex: LIMIT,
+        canonical: true,
+    },
+    Row {
+        name: "header alone",
+        hex: "0000000000000000000000000000000000000000",
+        canonical: true,
+    },
+    Row {
+        name: "19 bytes",
+        hex: "00000000000000000000000000000000000000",
+        canonical: false,
+    },
+    Row {
+        name: "no bytes",
+        hex: "",
+        canonical: false,
+    },
+    Row {
+        name: "header pad",
+        hex: "0007000000000000000000000000000000000000",
+        canonical: false,
+    },
+    Row {
+        name: "u32 then fq_codel",
+        hex: "000000000000000000000000000000000000000008000100753332000c00020008000200050000000d00010066715f636f64656c000000000c0002000800020005000000",
+        canonical: true,
+    },
+    Row {
+        name: "kind with a flag",
+        hex: "000000000000000000000000000000000000000008000180753332000c00020008000200050000000d00010066715f636f64656c000000000c0002000800020005000000",
+        canonical: false,
+    },
+    Row {
+        name: "options before any kind",
+        hex: "00000000000000000000000000000000000000000c0002000800020000280000",
+        canonical: true,
+    },
+    Row {
+        name: "kind with two nuls",
+        hex: "000000000200000000000100ffffffff000000000e00010066715f636f64656c000000000c0002000800020000280000",
+        canonical: true,
+    },
+    Row {
+        name: "options of an unknown kind with a flag",
+        hex: "000000000000000000000000000000000000000008000100736671000800028001020304",
+        canonical: true,
+    },
+    Row {
+        name: "raw options without padding",
+        hex: "00000000000000000000000000000000000000000500020001",
+        canonical: false,
+    },
+    Row {
+        name: "options that are no list under a known kind",
+        hex: "000000000000000000000000000000000000000008000100753332000800020001020304",
+        canonical: false,
+    },
+    Row {
+        name: "options with a flag under a known kind",
+        hex: "0000000000000000000000000000000000000000080001007533320004000280",
+        canonical: false,
+    },
+    Row {
+        name: "ingress without options",
+        hex: "00000000000000000000000000000000000000000c000100696e67726573730004000200",
+        canonical: true,
+    },
+    Row {
+        name: "matchall flags",
+        hex: "00000000000000000000000000000000000000000d0001006d61746368616c6c000000000c0002000800030001000000",
+        canonical: true,
+    },
+    Row {
+        name: "mpls bos of two bits",
+        hex: "00000000000000000000000000000000000000000b000100666c6f77657200000c0002000500440003000000",
+        canonical: false,
+    },
+    Row {
+        name: "mpls bos of one bit",
+        hex: "00000000000000000000000000000000000000000b000100666c6f77657200000c0002000500440001000000",
+        canonical: true,
+    },
+    Row {
+        name: "mpls tc of three bits",
+        hex: "00000000000000000000000000000000000000000b000100666c6f77657200000c0002000500450007000000",
+        canonical: true,
+    },
+    Row {
+        name: "mpls tc of four bits",
+        hex: "00000000000000000000000000000000000000000b000100666c6f77657200000c0002000500450008000000",
+        canonical: false,
+    },
+    Row {
+        name: "mpls label of 20 bits",
+        hex: "00000000000000000000000000000000000000000b000100666c6f77657200000c00020008004600ffff0f00",
+        canonical: true,
+    },
+    Row {
+        name: "mpls label of 21 bits",
+        hex: "00000000000000000000000000000000000000000b000100666c6f77657200000c0002000800460000001000",
+        canonical: false,
+    },
+    Row {
+        name: "mpls label stack entry",
+        hex: "00000000000000000000000000000000000000000b000100666c6f77657200001c000200180063801400018005000100010000000800050045230100",
+        canonical: true,
+    },
+    Row {
+        name: "mpls options without their flag",
+        hex: "00000000000000000000000000000000000000000b000100666c6f77657200001c000200180063001400018005000100010000000800050045230100",
+        canonical: false,
+    },
+    Row {
+        name: "flower class id",
+        hex: "00000000000000000000000000000000000000000b000100666c6f77657200000c0002000800010001000000",
+        canonical: true,
+    },
+    Row {
+        name: "ether type",
+        hex: "00000000000000000000000000000000000000000b000100666c6f77657200000c0002000600080008000000",
+        canonical: true,
+    },
+    Row {
+        name: "short mac",
+        hex: "00000000000000000000000000000000000000000b000100666c6f77657200000c0002000800040001020304",
+        canonical: false,
+    },
+    Row {
+        name: "type 84",
+        hex: "00000000000000000000000000000000000000000b000100666c6f77657200000c0002000500540001000000",
+        canonical: true,
+    },
+    Row {
+        name: "last frame without padding",
+        hex: "000000000000000000000000000000000000000005000c0001",
+        canonical: false,
+    },
+    Row {
+        name: "last frame with padding",
+        hex: "000000000000000000000000000000000000000005000c0001000000",
+        canonical: true,
+    },
+    Row {
+        name: "padding that is not zero",
+        hex: "000000000000000000000000000000000000000005000c0001000001",
+        canonical: false,
+    },
+    Row {
+        name: "two bytes after a frame",
+        hex: "000000000000000000000000000000000000000008000b0007000000aabb",
+        canonical: false,
+    },
+    Row {
+        name: "selector with its key",
+        hex: "000000000000000000000000000000000000000008000100753332002800020024000500010001000f0000000000000000000000ffffffff0a0000011000000000000000",
+        canonical: true,
+    },
+    Row {
+        name: "selector with more than its key",
+        hex: "00000000000000000000000000000000000000000800010075333200300002002c000500010001000f0000000000000000000000ffffffff0a00000110000000000000000000000000000000",
+        canonical: false,
+    },
+    Row {
+        name: "selector without its key",
+        hex: "00000000000000000000000000000000000000000800010075333200180002001400050000000100000000000000000000000000",
+        canonical: false,
+    },
+    Row {
+        name: "selector with a pad",
+        hex: "00000000000000000000000000000000000000000800010075333200180002001400050000000001000000000000000000000000",
+        canonical: false,
+    },
+    Row {
+        name: "three bytes of statistics",
+        hex: "00000000000000000000000000000000000000000d00010066715f636f64656c000000000700040001020300",
+        canonical: false,
+    },
+    Row {
+        name: "statistics without their record",
+        hex: "00000000000000000000000000000000000000000d00010066715f636f64656c000000000800040000000000",
+        canonical: false,
+    },
+    Row {
+        name: "statistics of the qdisc",
+        hex: "00000000000000000000000000000000000000000d00010066715f636f64656c000000002c00040000000000000000000000000000000000000000000000000000000000000000000000000000000000",
+        canonical: true,
+    },
+    Row {
+        name: "statistics of an unknown number",
+        hex: "00000000000000000000000000000000000000000d00010066715f636f64656c000000000800040002000000",
+        canonical: true,
+    },
+    Row {
+        name: "statistics of a class and 12 bytes more",
+        hex: "00000000000000000000000000000000000000000d00010066715f636f64656c000000002c00040001000000000000000000000000000000000000000000000000000000000000000000000000000000",
+        canonical: false,
+    },
+    Row {
+        name: "statistics of a class",
+        hex: "00000000000000000000000000000000000000000d00010066715f636f64656c000000002000040001000000000000000000000000000000000000000000000000000000",
+        canonical: true,
+    },
+    Row {
+        name: "statistics before any kind",
+        hex: "00000000000000000000000000000000000000000700040001020300",
+        canonical: true,
+    },
+    Row {
+        name: "kind that is no text",
+        hex: "000000000000000000000000000000000000000005000100ff000000",
+        canonical: false,
+    },
+    Row {
+        name: "short stats",
+        hex: "00000000000000000000000000000000000000000800030000000000",
+        canonical: false,
+    },
+    Row {
+        name: "stats with a pad",
+        hex: "00000000000000000000000000000000000000002c00030000000000000000000000000000000000000000000000000000000000000000000000000000000001",
+        canonical: false,
+    },
+    Row {
+        name: "stats",
+        hex: "00000000000000000000000000000000000000002c00030000000000000000000000000000000000000000000000000000000000000000000000000000000000",
+        canonical: true,
+    },
+    Row {
+        name: "basic stats with a pad",
+        hex: "0000000000000000000000000000000000000000180007001400010000000000000000000000000000000001",
+        canonical: false,
+    },
+    Row {
+        name: "unknown type with both flags",
+        hex: "0000000000000000000000000000000000000000080063c001020304",
+        canonical: true,
+    },
+    Row {
+        name: "chain with a flag",
+        hex: "000000000000000000000000000000000000000008000b8007000000",
+        canonical: false,
+    },
+    Row {
+        name: "kind without a nul",
+        hex: "00000000000000000000000000000000000000000700010075333200",
+        canonical: false,
+    },
+    Row {
+        name: "empty kind without a nul",
+        hex: "000000000000000000000000000000000000000004000100",
+        canonical: false,
+    },
+    Row {
+        name: "dump invisible",
+        hex: "000000000000000000000000000000000000000004000a00",
+        canonical: true,
+    },
+    Row {
+        name: "dump invisible with a value",
+        hex: "000000000000000000000000000000000000000005000a0001000000",
+        canonical: false,
+    },
+    Row {
+        name: "host618.send.newqdisc.fq_codel.001",
+        hex: "000000000300000000000000ffffffff000000000d00010066715f636f64656c0000000004000200",
+        canonical: true,
+    },
+    Row {
+        name: "uml61.dump.newqdisc.fq_codel.001",
+        hex: "000000000700000000001280ffffffff020000000d00010066715f636f64656c000000004400020008000100871300000800020000280000080003009f860100080004000100000008000600ea05000008000800400000000800090000000002080005000004000005000c0000000000200008001c0001000300ffff18000000020000004000000000080000000200000400090068000700040006002c00040000000000000000000000000000000000000000000000000000000000000000000000000000000000040006001400010000000000000000000000000000000000040006001800030000000000000000000000000000000000000000002c00030000000000000000000000000000000000000000000000000000000000000000000000000000000000040009002c00040000000000000000000000000000000000000000000000000000000000000000000000000000000000",
+        canonical: true,
+    },
+    Row {
+        name: "uml61.answer.newqdisc.fq_codel.001",
+        hex: "000000000700000000000180ffffffff020000000d00010066715f636f64656c000000004400020008000100871300000800020000280000080003009f860100080004000100000008000600ea05000008000800400000000800090000000002080005000004000005000c00000000000400090068000700040006002c000400000000000000000000000000000000000000000000000000000000000000000000000000000000000400060014000100080a0000000000000400000000000000040006001800030000000000000000000000000000000000000000002c000300080a0000000000000400000000000000000000000000000000000000000000000000000000000000040009002c00040000000000000000000000000000000000000000000000000000000000000000000000000000000000",
+        canonical: true,
+    },
+    Row {
+        name: "host618.answer.newqdisc.htb.001",
+        hex: "00000000030000000000cdabffffffff0500000008000100687462002400020018000200110003000a00000000000000000000000400000008000500e803000005000c00000000003000070014000100080a00000000000004000000000000001800030000000000000000000000000000000000000000002c000300080a0000000000000400000000000000000000000000000000000000000000000000000000000000",
+        canonical: true,
+    },
+    Row {
+        name: "host618.answer.newqdisc.clsact.001",
+        hex: "00000000030000000000fffff1ffffff010000000b000100636c7361637400000400020005000c00000000003000070014000100000000000000000000000000000000001800030000000000000000000000000000000000000000002c00030000000000000000000000000000000000000000000000000000000000000000000000000000000000",
+        canonical: true,
+    },
+    Row {
+        name: "host618.answer.newtfilter.u32.001",
+        hex: "0000000003000000000000000000010008000100080001007533320008000b0000000000",
+        canonical: true,
+    },
+    Row {
+        name: "uml61.answer.newtfilter.u32+mirred.002",
+        hex: "00000000070000000008d0800000010008000e00080001007533320008000b0000000000100102002400050001000100000000000000000000000000ffffffff010203070c00000000000000080002000000d08008000b0008000000b8000700b40001000b0001006d69727265640000500004000400060014000100000000000000000000000000000000000400060014000700000000000000000000000000000000000400060018000300000000000000000000000000000000000000000008000a00000000004c00020020000200010000000000000004000000010000000100000001000000080000000400030024000100400000000000000040000000000000000000000000000000000000000000000004000c001c000900000000000000000000000000000000000000000000000000",
+        canonical: false,
+    },
+    Row {
+        name: "host618.send.newtfilter.u32+mirred.001",
+        hex: "0000000003000000000000000000010008000e0008000100753332006000020038000700340001000b0001006d697272656400002400028020000200000000000000000004000000000000000000000001000000040000002400050001000100000000000000000000000000ffffffff010203070c00000000000000",
+        canonical: true,
+    },
+    Row {
+        name: "uml61.dump.newtfilter.flower.001",
+        hex: "000000000700000000000000f2ffffff080001000b000100666c6f776572000008000b0000000000",
+        canonical: true,
+    },
+    Row {
+        name: "uml61.dump.newtfilter.flower+tunnel_key.004",
+        hex: "000000000700000005000000f2ffffff080005000b000100666c6f776572000008000b000000000074000200080016000800000068000300640001000f00010074756e6e656c5f6b657900005000040004000600140001000000000000000000000000000000000004000600140007000000000000000000000000000000000004000600180003000000000000000000000000000000000000000000",
+        canonical: true,
+    },
+    Row {
+        name: "uml61.dump.newtfilter.flower+mpls.006",
+        hex: "000000000700000023000000f2ffffff810023000b000100666c6f776572000008000b00000000007000020008001600080000006400030060000100090001006d706c73000000005000040004000600140001000000000000000000000000000000000004000600140007000000000000000000000000000000000004000600180003000000000000000000000000000000000000000000",
+        canonical: true,
+    },
+    Row {
+        name: "uml61.dump.newtfilter.flower+nat.003",
+        hex: "000000000700000010000000f2ffffff080010000b000100666c6f776572000008000b00000000006c0002000800160008000000600003005c000100080001006e6174005000040004000600140001000000000000000000000000000000000004000600140007000000000000000000000000000000000004000600180003000000000000000000000000000000000000000000",
+        canonical: true,
+    },
+    Row {
+        name: "uml61.answer.newtfilter.matchall+gact.005",
+        hex: "000000000700000077000000f2ffffff0003f8010d0001006d61746368616c6c0000000008000b0000000000c800020008000300080000000c0004000000000000000000b0000200ac000100090001006761637400000000500004000400060014000100000000000000000000000000000000000400060014000700000000000000000000000000000000000400060018000300000000000000000000000000000000000000000008000a00000000004400020018000200250000000000000000000000010000000100000004000400240001004900000000000000490000000000000000000000000000000000000000000000",
+        canonical: false,
+    },
+    Row {
+        name: "host618.answer.newtfilter.bpf.001",
+        hex: "0000000003000000000000000000010000034600080001006270660008000b0000000000",
+        canonical: true,
+    },
+    Row {
+        name: "uml61.answer.newtfilter.bpf.001",
+        hex: "0000000007000000000000000000010000034600080001006270660008000b0000000000",
+        canonical: true,
+    },
+];
+
+/// Action messages.
+const ACTIONS: [Row; 30] = [
+    Row {
+        name: "index before the kind",
+        hex: "0000000018000100140001000800030005000000080001006e617400",
+        canonical: true,
+    },
+    Row {
+        name: "action with a flag",
+        hex: "0000000018000180140001000800030005000000080001006e617400",
+        canonical: false,
+    },
+    Row {
+        name: "no actions",
+        hex: "0000000004000100",
+        canonical: true,
+    },
+    Row {
+        name: "action without a kind",
+        hex: "000000000800010004000100",
+        canonical: false,
+    },
+    Row {
+        name: "frame of three bytes",
+        hex: "000000000c0001000800010003000100",
+        canonical: false,
+    },
+    Row {
+        name: "action with two kinds",
+        hex: "00000000200001001c000100080001006e617400080001006e6174000500030000000000",
+        canonical: false,
+    },
+    Row {
+        name: "frame of 99 bytes",
+        hex: "000000000800010063000000",
+        canonical: false,
+    },
+    Row {
+        name: "root count",
+        hex: "000000000800030006000000",
+        canonical: true,
+    },
+    Row {
+        name: "root time delta",
+        hex: "000000000800040063000000",
+        canonical: true,
+    },
+    Row {
+        name: "warning with one nul",
+        hex: "000000000600050061000000",
+        canonical: false,
+    },
+    Row {
+        name: "warning with two nuls",
+        hex: "000000000700050061000000",
+        canonical: false,
+    },
+    Row {
+        name: "warning with four bytes",
+        hex: "000000000800050061000000",
+        canonical: false,
+    },
+    Row {
+        name: "warning without a nul",
+        hex: "000000000500050061000000",
+        canonical: true,
+    },
+    Row {
+        name: "warning of one nul",
+        hex: "000000000500050000000000",
+        canonical: false,
+    },
+    Row {
+        name: "empty warning",
+        hex: "0000000004000500",
+        canonical: true,
+    },
+    Row {
+        name: "no checksum, as 2",
+        hex: "0000000024000100200001000f00010074756e6e656c5f6b657900000c00028005000a0002000000",
+        canonical: false,
+    },
+    Row {
+        name: "no checksum, as 1",
+        hex: "0000000024000100200001000f00010074756e6e656c5f6b657900000c00028005000a0001000000",
+        canonical: true,
+    },
+    Row {
+        name: "options before the kind",
+        hex: "0000000024000100200001000c00028005000c00070000000f00010074756e6e656c5f6b65790000",
+        canonical: true,
+    },
+    Row {
+        name: "options of a wrong width before the kind",
+        hex: "0000000024000100200001000c00028006000c00070000000f00010074756e6e656c5f6b65790000",
+        canonical: false,
+    },
+    Row {
+        name: "options of an unknown kind",
+        hex: "00000000200001001c0001000900010067616374000000000c0002800800010000000000",
+        canonical: true,
+    },
+    Row {
+        name: "options without their flag",
+        hex: "00000000200001001c0001000900010067616374000000000c0002000800010000000000",
+        canonical: false,
+    },
+    Row {
+        name: "statistics of an action of fq_codel",
+        hex: "0000000024000100200001000d00010066715f636f64656c000000000c0004000800040002000000",
+        canonical: true,
+    },
+    Row {
+        name: "flags without a selector",
+        hex: "000000000800020001000000",
+        canonical: false,
+    },
+    Row {
+        name: "flags with their selector",
+        hex: "000000000c0002000100000001000000",
+        canonical: true,
+    },
+    Row {
+        name: "header pad",
+        hex: "00000001",
+        canonical: false,
+    },
+    Row {
+        name: "three bytes",
+        hex: "000000",
+        canonical: false,
+    },
+    Row {
+        name: "uml61.dump.getaction.nat+nat+nat+nat.005",
+        hex: "000000000800030004000000a801010064000000080001006e6174005000040004000600140001000000000000000000000000000000000004000600140007000000000000000000000000000000000004000600180003000000000000000000000000000000000000000000080003000100000068000100080001006e617400040005005000040004000600140001000000000000000000000000000000000004000600140007000000000000000000000000000000000004000600180003000000000000000000000000000000000000000000080003000200000068000200080001006e617400040005005000040004000600140001000000000000000000000000000000000004000600140007000000000000000000000000000000000004000600180003000000000000000000000000000000000000000000080003000300000070000300080001006e617400040005005000040004000600140001000000000000000000000000000000000004000600140007000000000000000000000000000000000004000600180003000000000000000000000000000000000000000000080003002100000006000600cafe0000",
+        canonical: true,
+    },
+    Row {
+        name: "host618.send.newaction.mirred.001",
+        hex: "0000000038000100340001000b0001006d69727265640000240002802000020000000000000000000300000000000000000000000200000006000000",
+        canonical: true,
+    },
+    Row {
+        name: "host618.send.newaction.tunnel_key.001",
+        hex: "00000000400001003c0001000f00010074756e6e656c5f6b657900002800028005000a00000000001c000200000000000000000003000000000000000000000002000000",
+        canonical: true,
+    },
+    Row {
+        name: "uml61.note.newaction.gact.001",
+        hex: "00000000b4000100b000010009000100676163740000000004000500500004000400060014000100000000000000000000000000000000000400060014000700000000000000000000000000000000000400060018000300000000000000000000000000000000000000000008000a00000000004400020018000200010000000000000002000000010000000000000004000400240001000000000000000000000000000000000000000000000000000000000000000000",
+        canonical: false,
+    },
+];
+
+fn digit(letter: u8) -> u8
+    ensures { result < 16 }
+{
+    match letter {
+        b'0'..=b'9' => letter - b'0',
+        b'a'..=b'f' => letter - b'a' + 10,
+        _ => 0,
+    }
+}
+
+/// The bytes of a text in hex.
+fn bytes_of<A: Allocator>(alloc: A, hex: &str) -> Result<Vec<u8, A>, AllocError> {
+    let mut bytes = Vec::new(alloc);
+    for pair in hex.as_bytes().chunks(2) {
+        if let [high, low] = pair {
+            bytes.push(16 * digit(*high) + digit(*low))?;
+        }
+    }
+    Ok(bytes)
+}
+
+// The first traffic control message whose answer is another.
+fn misjudged_tc<A: Allocator + Copy>(
+    alloc: A,
+    rows: &[Row],
+) -> Result<Option<&'static str>, AllocError> {
+    for row in rows {
+        if is_canonical_tc(&bytes_of(alloc, row.hex)?) != row.canonical {
+            return Ok(Some(row.name));
+        }
+    }
+    Ok(None)
+}
+
+// The first action message whose answer is another.
+fn misjudged_action<A: Allocator + Copy>(
+    alloc: A,
+    rows: &[Row],
+) -> Result<Option<&'static str>, AllocError> {
+    for row in rows {
+        if is_canonical_action(&bytes_of(alloc, row.hex)?) != row.canonical {
+            return Ok(Some(row.name));
+        }
+    }
+    Ok(None)
+}
+
+#[test]
+fn messages(rt: HostRuntime) -> Result<(), Fail> {
+    assert_eq!(rt; misjudged_tc(rt.alloc(), &TC)?, None);
+    assert_eq!(rt; misjudged_action(rt.alloc(), &ACTIONS)?, None);
+    Ok(())
+}
+
+// What each list check says of one list.
+#[test]
+fn lists(rt: HostRuntime) {
+    let limit = [8, 0, 2, 0, 5, 0, 0, 0];
+    assert!(rt; canon_options(&limit, b"fq_codel"));
+    assert!(rt; !canon_options(&limit, b"sfq"));
+    assert!(rt; canon_options(&[], b"bpf"));
+    let kind = [8, 0, 1, 0, 110, 97, 116, 0];
+    assert!(rt; canon_action(&kind));
+    assert!(rt; !canon_action(&[]));
+    assert!(rt; canon_actions(&[]));
+    assert!(rt; !canon_actions(&kind));
+    assert!(rt; canon_action_options(&[5, 0, 10, 0, 1, 0, 0, 0], b"tunnel_key"));
+    assert!(rt; !canon_action_options(&[5, 0, 10, 0, 2, 0, 0, 0], b"tunnel_key"));
+    assert!(rt; canon_action_options(&[5, 0, 10, 0, 2, 0, 0, 0], b"gact"));
+    assert!(rt; canon_stats2(&[7, 0, 4, 0, 1, 2, 3, 0], b"htb"));
+    assert!(rt; !canon_stats2(&[7, 0, 4, 0, 1, 2, 3, 0], b"fq_codel"));
+    assert!(rt; canon_mpls(&[4, 0, 1, 128]));
+    assert!(rt; !canon_mpls(&[4, 0, 1, 0]));
+    assert!(rt; canon_lse(&[8, 0, 5, 0, 255, 255, 15, 0]));
+    assert!(rt; !canon_lse(&[8, 0, 5, 0, 0, 0, 16, 0]));
+}
+
+// A message cut off is canonical only between its attributes.
+#[test]
+fn cut_off(rt: HostRuntime) -> Result<(), Fail> {
+    let bytes = bytes_of(rt.alloc(), LIMIT)?;
+    for n in 0..=48 {
+        let front = bytes.get(..n).ok_or("the message has 48 bytes")?;
+        assert_eq!(rt;
+            is_canonical_tc(front),
+            n == 20 || n == 36 || n == 48,
+            "{n}"
+        );
+    }
+    Ok(())
+}
