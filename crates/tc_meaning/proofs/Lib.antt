@@ -16,3 +16,4 @@ pub mod Headline
 pub mod MessageReading
 pub mod Trees
 pub mod FitTests
+pub mod WorkedRows
