@@ -13,10 +13,11 @@ use Rattle.nla_frames.specs.Frame.{header, padded, frame_bytes}
 use Rattle.nla_frames.specs.Cutting.{next_frame, cut_up_to, cut}
 use Rattle.nla_frames.specs.Reading.{read_each, read_list}
 use Rattle.nla_frames.specs.Emission.{list_bytes}
-use Rattle.tc_meaning.specs.Tree.{plain, blank, Content, number, is_bytes, flag, record_of, statistics, unknown_statistics, items, Attribute, known, kept, of_kind, attributes_of}
+use Rattle.tc_meaning.specs.Tree.{plain, blank, Content, number, is_bytes, flag, record_of, keyed, statistics, unknown_statistics, items, Attribute, known, kept, of_kind, attributes_of}
 use Rattle.tc_meaning.specs.Own.{read_kinds, read_own}
 use Rattle.tc_meaning.specs.Content.{read_selector}
-use Rattle.tc_canon.specs.Descriptor.{truth}
+use Rattle.tc_canon.specs.Descriptor.{truth, selector}
+use Rattle.tc_canon.specs.Tables.Actions.{actions}
 use Rattle.tc_meaning.specs.Meaning.{class_codec}
 use Rattle.tc_meaning.specs.Message.{Message, read_with, message_bytes}
 use Rattle.tc_meaning.specs.Whole.{read_tc, tc_bytes, read_act, act_bytes}
@@ -161,6 +162,14 @@ basic_statistics_written : tc_bytes (tc (a_list 7 (known 1 (record_of (plain 1 �
 unfolding strip header padded frame_bytes next_frame cut_up_to cut read_each read_list list_bytes read_kinds read_own read_with message_bytes
 basic_statistics_written = refl
 
+rate_read : read_tc (tc_of (codes "0600050001020000")) ≡ Ok (tc (known 5 (is_bytes (hex (codes "0102"))) ∷ []))
+unfolding strip header padded frame_bytes next_frame cut_up_to cut read_each read_list list_bytes read_kinds read_own read_with message_bytes
+rate_read = refl
+
+rate_written : tc_bytes (tc (known 5 (is_bytes (hex (codes "0102"))) ∷ [])) ≡ tc_of (codes "0600050001020000")
+unfolding strip header padded frame_bytes next_frame cut_up_to cut read_each read_list list_bytes read_kinds read_own read_with message_bytes
+rate_written = refl
+
 -- ---- statistics by kind
 
 xstats_of_an_unknown_record_read : read_tc (tc_of (codes "0d00010066715f636f64656c000000000800040002000000")) ≡ Ok (tc (the_kind (codes "fq_codel") ∷ known 4 (unknown_statistics (hex (codes "02000000"))) ∷ []))
@@ -192,6 +201,9 @@ xstats_of_no_kind_written = refl
 one_key : read_selector (hex (codes "010001000f0000000000000000000000ffffffff0a0000011000000000000000")) ≡ Ok (record { head = plain 1 ∷ plain 0 ∷ plain 1 ∷ blank ∷ plain 0x0f00 ∷ plain 0 ∷ plain 0 ∷ plain 0 ∷ plain 0 ∷ []; keys = (plain 0xffffffff ∷ plain 0x0a000001 ∷ plain 16 ∷ plain 0 ∷ []) ∷ [] })
 unfolding strip header padded frame_bytes next_frame cut_up_to cut read_each read_list list_bytes read_kinds read_own read_with message_bytes
 one_key = refl
+
+one_key_written : (class_codec selector).write (keyed (plain 1 ∷ plain 0 ∷ plain 1 ∷ blank ∷ plain 0x0f00 ∷ plain 0 ∷ plain 0 ∷ plain 0 ∷ plain 0 ∷ []) ((plain 0xffffffff ∷ plain 0x0a000001 ∷ plain 16 ∷ plain 0 ∷ []) ∷ [])) ≡ hex (codes "010001000f0000000000000000000000ffffffff0a0000011000000000000000")
+one_key_written = refl
 
 key_missing : read_selector (hex (codes "00000100000000000000000000000000")) ≡ Err (SelectorShort 16 32)
 unfolding strip header padded frame_bytes next_frame cut_up_to cut read_each read_list list_bytes read_kinds read_own read_with message_bytes
@@ -230,6 +242,10 @@ flags_of_a_request_written = refl
 one_kind_written : act_bytes (act (a_list 1 (a_list 1 (the_kind (codes "nat") ∷ []) ∷ []) ∷ [])) ≡ act_of (codes "100001000c000100080001006e617400")
 unfolding strip header padded frame_bytes next_frame cut_up_to cut read_each read_list list_bytes read_kinds read_own read_with message_bytes
 one_kind_written = refl
+
+one_kind_read : (class_codec actions).read [] (hex (codes "0c000100080001006e617400")) ≡ Ok (items (attributes_of (a_list 1 (the_kind (codes "nat") ∷ []) ∷ [])))
+unfolding strip header padded frame_bytes next_frame cut_up_to cut read_each read_list list_bytes read_kinds read_own read_with message_bytes
+one_kind_read = rw (utf8 (codes "nat") refl) refl
 
 any_byte_but_zero_is_true : (class_codec truth).read [] (hex (codes "02")) ≡ Ok (flag true)
 any_byte_but_zero_is_true = refl
