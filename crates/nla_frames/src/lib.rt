@@ -31,7 +31,6 @@ pub use values::read::{
     parse_ipv4_addr, parse_ipv6_addr, parse_mac, parse_string, parse_u8, parse_u16, parse_u16_be,
     parse_u32, parse_u32_be, strip_nul,
 };
-pub use values::split::{skip, split_i32, split_u8, split_u32};
 pub use values::write::{
     emit_u16, emit_u16_be, emit_u32, emit_u32_be, put_bytes, put_text, put_u8, put_u16, put_u16_be,
     put_u32, put_u32_be, put_u64,

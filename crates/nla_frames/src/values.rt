@@ -2,5 +2,4 @@
 
 pub mod bytes;
 pub mod read;
-pub mod split;
 pub mod write;

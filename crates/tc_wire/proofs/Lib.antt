@@ -1,5 +1,3 @@
-pub mod Families
-pub mod Headers
 pub mod KindTexts
 pub mod MessageBytes
 pub mod NestedOptions

@@ -12,7 +12,7 @@ use Rattle.tc_meaning.specs.Layout.{fields_bytes}
 use Rattle.tc_meaning.specs.Meaning.{table_codec}
 use Rattle.tc_meaning.specs.Message.{Message, message_bytes}
 use Rattle.tc_wire.specs.declared.header.TcHeader.{TcHeader}
-use Rattle.tc_wire.specs.Header.{header_scalars}
+use Rattle.tc_records.specs.Header.{header_scalars}
 use Rattle.tc_wire.proofs.Families.{family_length}
 use borrow.Rule.Slice.PartMut.{put_mid}
 

@@ -1,5 +1,4 @@
 pub mod Stage
-pub mod Header
 pub mod FqCodel
 pub mod Options
 pub mod Attribute

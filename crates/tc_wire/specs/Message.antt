@@ -5,7 +5,7 @@ use Rattle.tc_canon.specs.Layouts.{tc_header}
 use Rattle.tc_wire.specs.Stage.{attributes}
 use Rattle.tc_meaning.specs.Message.{Message, ReadsMessage, MessageFault, FitsMessage, message_bytes}
 use Rattle.tc_wire.specs.declared.message.TcMessage.{TcMessage}
-use Rattle.tc_wire.specs.Header.{header_scalars}
+use Rattle.tc_records.specs.Header.{header_scalars}
 use Rattle.tc_wire.specs.Attribute.{tc_attribute}
 
 abbrev pub tc_message : {A : Type 0} → TcMessage A → Message

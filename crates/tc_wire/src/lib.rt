@@ -2,14 +2,12 @@
 #![tactic(auto)]
 
 pub mod attribute;
-pub mod header;
 pub mod laws;
 pub mod message;
 pub mod options;
 pub mod qdiscs;
 
 pub use attribute::{TcAttribute, VecTcAttribute};
-pub use header::{TcHandle, TcHeader};
 pub use message::TcMessage;
 pub use nla_frames::{
     AddressFamily, BytesMeaning, DecodeError, DefaultNla, Emitable, FrameMeaning, NLA_F_NESTED,
@@ -19,6 +17,7 @@ pub use nla_frames::{
 };
 pub use options::{TcOption, VecTcOption};
 pub use qdiscs::fq_codel::{TcQdiscFqCodel, TcQdiscFqCodelOption};
+pub use tc_records::{TcHandle, TcHeader};
 
 #[cfg(test)]
 mod tests;

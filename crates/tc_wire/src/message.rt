@@ -5,14 +5,14 @@ ghost use Rattle.nla_frames.specs.Fault.{Gives, IfRefused, seen};
 ghost use Rattle.tc_canon.specs.Layouts.{tc_header};
 ghost use Rattle.tc_wire.specs.Stage.{attributes};
 ghost use Rattle.tc_meaning.specs.Message.{Message, read_message, message_bytes, FitsMessage, SettledMessage};
-ghost use Rattle.tc_wire.specs.Header.{empty_header};
+ghost use Rattle.tc_records.specs.Header.{empty_header};
 ghost use Rattle.tc_wire.specs.Message.{tc_message, ReadsTc, FaultTc};
 
 use crate::attribute::{TcAttribute, VecTcAttribute};
-use crate::header::{TC_HEADER_LEN, TcHeader};
 use nla_frames::{
-    BytesMeaning, Emitable, ParseableBytes, Res, list_fits, list_len, put_list, skip,
+    BytesMeaning, Emitable, ParseableBytes, Res, list_fits, list_len, put_list,
 };
+use tc_records::{TC_HEADER_LEN, TcHeader};
 use std::alloc::{Allocator, Global};
 
 /// A message about a queueing discipline, a class, a filter or a chain: a header and attributes.
@@ -96,7 +96,7 @@ fn read<A: Allocator + Copy>(alloc: A, bytes: &[u8]) -> Res<TcMessage<A>>
     ensures { Gives (seen tc_message result) (read_message tc_header attributes bytes.now) }
 {
     let header = TcHeader::parse(bytes)?;
-    let attributes = VecTcAttribute::parse(alloc, skip(bytes, TC_HEADER_LEN))?.0;
+    let attributes = VecTcAttribute::parse(alloc, &bytes[TC_HEADER_LEN..])?.0;
     Ok(TcMessage { header, attributes })
 }
 

@@ -7,9 +7,10 @@ ghost use Rattle.tc_meaning.specs.Tree.{Scalar};
 ghost use Rattle.tc_meaning.specs.Layout.{fields_bytes, SettledFields};
 ghost use Rattle.tc_meaning.specs.Content.{read_record};
 
+use crate::family::{family_bytes, split_family};
+use crate::split::{skip, split_i32, split_u32};
 use nla_frames::{
-    AddressFamily, BytesMeaning, DecodeError, Emitable, Res, i32_bytes, put_bytes, skip, split_i32,
-    split_u8, split_u32, u32_bytes,
+    AddressFamily, BytesMeaning, DecodeError, Emitable, Res, i32_bytes, put_bytes, u32_bytes,
 };
 use std::fmt;
 
@@ -53,7 +54,7 @@ impl TcHandle {
 }
 
 impl From<u32> for TcHandle {
-    ghost use Rattle.tc_wire.specs.Header.{handle_of};
+    ghost use Rattle.tc_records.specs.Header.{handle_of};
 
     ghost from_gives = { λ number handle. handle ≡ handle_of number };
 
@@ -66,7 +67,7 @@ impl From<u32> for TcHandle {
 }
 
 impl From<TcHandle> for u32 {
-    ghost use Rattle.tc_wire.specs.Header.{handle_number};
+    ghost use Rattle.tc_records.specs.Header.{handle_number};
 
     ghost from_gives = { λ handle number. number ≡ handle_number handle };
 
@@ -103,7 +104,7 @@ pub struct TcHeader {
 }
 
 impl TcHeader {
-    ghost use Rattle.tc_wire.specs.Header.{header_scalars};
+    ghost use Rattle.tc_records.specs.Header.{header_scalars};
 
     /// The index that stands for a block of filters in place of an interface.
     pub const TCM_IFINDEX_MAGIC_BLOCK: u32 = 0xFFFF_FFFF;
@@ -118,13 +119,13 @@ impl TcHeader {
                 needed: TC_HEADER_LEN,
             });
         }
-        let (family, rest) = split_u8(payload);
+        let (family, rest) = split_family(payload);
         let (index, rest) = split_i32(skip(rest, 3));
         let (handle, rest) = split_u32(rest);
         let (parent, rest) = split_u32(rest);
         let (info, _) = split_u32(rest);
         Ok(TcHeader {
-            family: AddressFamily::from(family),
+            family,
             index,
             handle: TcHandle::from(handle),
             parent: TcHandle::from(parent),
@@ -136,37 +137,19 @@ impl TcHeader {
     fn to_bytes(&self) -> [u8; TC_HEADER_LEN]
         ensures { result ≡ fields_bytes tc_header (header_scalars self.now) }
     {
+        let [f0] = family_bytes(self.family);
         let [i0, i1, i2, i3] = i32_bytes(self.index);
         let [h0, h1, h2, h3] = u32_bytes(u32::from(self.handle));
         let [p0, p1, p2, p3] = u32_bytes(u32::from(self.parent));
         let [n0, n1, n2, n3] = u32_bytes(self.info);
         [
-            u8::from(self.family),
-            0,
-            0,
-            0,
-            i0,
-            i1,
-            i2,
-            i3,
-            h0,
-            h1,
-            h2,
-            h3,
-            p0,
-            p1,
-            p2,
-            p3,
-            n0,
-            n1,
-            n2,
-            n3,
+            f0, 0, 0, 0, i0, i1, i2, i3, h0, h1, h2, h3, p0, p1, p2, p3, n0, n1, n2, n3,
         ]
     }
 }
 
 impl BytesMeaning for TcHeader {
-    ghost use Rattle.tc_wire.specs.Header.{header_scalars};
+    ghost use Rattle.tc_records.specs.Header.{header_scalars};
 
     ghost Seen = { List Scalar };
 

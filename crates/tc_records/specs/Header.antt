@@ -1,12 +1,11 @@
 -- What a header is, field by field.
 use Rattle.std.specs.Prelude.{pos, ℕ, ◌+◌, ◌*◌, ◌/◌, ◌%◌, List, [], ◌∷◌}
 use Rattle.std.specs.Int.{w32, cast_unsigned}
-use Rattle.nla_frames.specs.declared.family.AddressFamily.{AddressFamily}
-use Rattle.nla_frames.specs.declared.family.AddressFamily.TheVariants.{Unspec, Other}
-use Rattle.nla_frames.specs.Family.{number_of}
-use Rattle.tc_meaning.specs.Tree.{Scalar, plain, unnamed, blank}
-use Rattle.tc_wire.specs.declared.header.TcHandle.{TcHandle}
-use Rattle.tc_wire.specs.declared.header.TcHeader.{TcHeader}
+use Rattle.nla_frames.specs.declared.family.AddressFamily.TheVariants.{Unspec}
+use Rattle.tc_meaning.specs.Tree.{Scalar, plain, blank}
+use Rattle.tc_records.specs.Numbers.{family_scalar}
+use Rattle.tc_records.specs.declared.header.TcHandle.{TcHandle}
+use Rattle.tc_records.specs.declared.header.TcHeader.{TcHeader}
 
 -- a handle's major number is the upper half of its word
 abbrev pub handle_of : ℕ → TcHandle
@@ -14,10 +13,6 @@ handle_of n = record { major = n / 0x10000; minor = n % 0x10000 }
 
 abbrev pub handle_number : TcHandle → ℕ
 handle_number h = h.major * 0x10000 + h.minor
-
-abbrev pub family_scalar : AddressFamily → Scalar
-family_scalar (Other n) = unnamed n
-family_scalar family = plain (number_of family)
 
 abbrev pub header_scalars : TcHeader → List Scalar
 header_scalars h =
