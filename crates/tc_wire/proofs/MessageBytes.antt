@@ -4,17 +4,31 @@ use Rattle.std.proofs.lemmas.List.{length-append, length-take, length-drop}
 use Rattle.std.proofs.lemmas.Grind.{common_steps}
 use Rattle.nla_frames.specs.Emission.{Writes, HasRoom, list_bytes}
 use Rattle.nla_frames.proofs.Writing.{back_and_front}
-use Rattle.tc_canon.specs.Descriptor.{table}
-use Rattle.tc_canon.specs.Layouts.{tc_header}
+use Rattle.nla_frames.specs.declared.family.AddressFamily.{AddressFamily}
+use Rattle.nla_frames.specs.declared.family.AddressFamily.TheVariants.{Unspec, Unix, Inet, Bridge, Inet6, Netlink, Packet, Mpls, Other}
+use Rattle.tc_canon.specs.Descriptor.{table, named}
+use Rattle.tc_canon.specs.Layouts.{tc_header, address_families}
 use Rattle.tc_wire.specs.Stage.{attributes}
 use Rattle.tc_meaning.specs.Tree.{Attribute}
-use Rattle.tc_meaning.specs.Layout.{fields_bytes}
+use Rattle.tc_meaning.specs.Layout.{fields_bytes, field_bytes}
 use Rattle.tc_meaning.specs.Meaning.{table_codec}
 use Rattle.tc_meaning.specs.Message.{Message, message_bytes}
-use Rattle.tc_wire.specs.declared.header.TcHeader.{TcHeader}
+use Rattle.tc_records.specs.declared.header.TcHeader.{TcHeader}
+use Rattle.tc_records.specs.Numbers.{family_scalar}
 use Rattle.tc_records.specs.Header.{header_scalars}
-use Rattle.tc_wire.proofs.Families.{family_length}
 use borrow.Rule.Slice.PartMut.{put_mid}
+
+-- a family has one byte
+family_length : (family : AddressFamily) → length (field_bytes (named 1 address_families) (family_scalar family)) ≡ 1
+family_length (Other n) = refl
+family_length Unspec = refl
+family_length Unix = refl
+family_length Inet = refl
+family_length Bridge = refl
+family_length Inet6 = refl
+family_length Netlink = refl
+family_length Packet = refl
+family_length Mpls = refl
 
 -- a header has 20 bytes
 pub header_length : (h : TcHeader) → length (fields_bytes tc_header (header_scalars h)) ≡ 20

@@ -1,6 +1,6 @@
 //! Whole messages.
 
-ghost use Rattle.std.specs.Prelude.{◌≡◌, [], IfOk};
+ghost use Rattle.std.specs.Prelude.{◌≡◌, ◌≤◌, [], length, drop, IfOk};
 ghost use Rattle.nla_frames.specs.Fault.{Gives, IfRefused, seen};
 ghost use Rattle.tc_canon.specs.Layouts.{tc_header};
 ghost use Rattle.tc_wire.specs.Stage.{attributes};
@@ -96,8 +96,16 @@ fn read<A: Allocator + Copy>(alloc: A, bytes: &[u8]) -> Res<TcMessage<A>>
     ensures { Gives (seen tc_message result) (read_message tc_header attributes bytes.now) }
 {
     let header = TcHeader::parse(bytes)?;
-    let attributes = VecTcAttribute::parse(alloc, &bytes[TC_HEADER_LEN..])?.0;
+    let attributes = VecTcAttribute::parse(alloc, after_header(bytes))?.0;
     Ok(TcMessage { header, attributes })
+}
+
+// What follows a header.
+fn after_header(bytes: &[u8]) -> &[u8]
+    requires { 20 ≤ length bytes.now }
+    ensures { result.now ≡ drop 20 bytes.now }
+{
+    &bytes[TC_HEADER_LEN..]
 }
 
 impl<A: Allocator> Emitable for TcMessage<A> {

@@ -1,4 +1,4 @@
-use Rattle.std.proofs.Common.{arith, map, ℕ, ◌+◌, ◌<◌, ◌^◌, length}
+use Rattle.std.proofs.Common.{arith, map, ◌+◌, ◌<◌, ◌^◌, length}
 use Rattle.tc_wire.specs.Attribute.{tc_attribute}
 use Rattle.tc_wire.proofs.MessageBytes.{body_bytes, message_length}
 use Rattle.tc_wire.proofs.message.TcMessageEmitable.buffer_len.Goals as goal
