@@ -7,15 +7,21 @@ use Rattle.tc_canon.specs.Descriptor.{table}
 use Rattle.tc_wire.specs.Stage.{attributes}
 use Rattle.tc_meaning.specs.Meaning.{table_codec}
 use Rattle.tc_meaning.specs.Message.{kind_of_frame}
-use Rattle.tc_meaning.specs.Tree.{Attribute, known, kept, other, is_bytes, items, attributes_of}
+use Rattle.tc_meaning.specs.Tree.{Attribute, known, kept, other, number, flag, is_bytes, items, attributes_of}
 use Rattle.tc_wire.specs.declared.attribute.TcAttribute.{TcAttribute}
-use Rattle.tc_wire.specs.declared.attribute.TcAttribute.TheVariants.{Kind, Options, OptionsRaw, Other}
+use Rattle.tc_wire.specs.declared.attribute.TcAttribute.TheVariants.{Kind, Options, OptionsRaw, Rate, Fcnt, Stab, DumpInvisible, Chain, HwOffload, Other}
 use Rattle.tc_wire.specs.Options.{tc_option}
 
 abbrev pub tc_attribute : {A : Type 0} → TcAttribute A → Attribute
 tc_attribute (Kind kind) = known 1 (is_bytes (string_bytes kind))
 tc_attribute (Options options) = known 2 (items (attributes_of (map tc_option options.items)))
 tc_attribute (OptionsRaw nla) = kept 2 (kept_frame nla).word (kept_frame nla).value
+tc_attribute (Rate bytes) = known 5 (is_bytes bytes.items)
+tc_attribute (Fcnt bytes) = known 6 (is_bytes bytes.items)
+tc_attribute (Stab bytes) = known 8 (is_bytes bytes.items)
+tc_attribute (DumpInvisible is_set) = known 10 (flag is_set)
+tc_attribute (Chain chain) = known 11 (number chain)
+tc_attribute (HwOffload offload) = known 12 (number offload)
 tc_attribute (Other nla) = other (kept_frame nla).word (kept_frame nla).value
 
 -- the bytes are frames, and each reads as its attribute under the kind that is set last before its place

@@ -1,6 +1,6 @@
 -- The tables as far as the types of this crate go: every other type is `Other`, and every other kind unknown.
 use Rattle.std.specs.Prelude.{codes}
-use Rattle.tc_canon.specs.Descriptor.{Rows, Kinds, others, options, unknown, kind, text, ◌▹◌, at}
+use Rattle.tc_canon.specs.Descriptor.{Rows, Kinds, others, options, unknown, kind, le, raw, text, presence, ◌▹◌, at, from}
 use Rattle.tc_canon.specs.Tables.Options.{fq_codel_options}
 
 -- `TcOption`
@@ -14,4 +14,9 @@ abbrev pub attributes : Rows
 attributes =
     at 1 text  -- Kind
     ▹ options 2 option_kinds  -- Options, OptionsRaw
+    ▹ from 5 6 raw  -- Rate, Fcnt
+    ▹ at 8 raw  -- Stab
+    ▹ at 10 presence  -- DumpInvisible
+    ▹ at 11 (le 4)  -- Chain
+    ▹ at 12 (le 1)  -- HwOffload
     ▹ others

@@ -21,7 +21,7 @@ use crate::options::{TcOption, VecTcOption, is_known_kind};
 use nla_frames::{
     BytesMeaning, DefaultNla, FrameMeaning, NLA_VALUE_MAX_SIZE, Nla, NlaBuffer, NlasIterator,
     Parseable, ParseableBytes, ParseableParametrized, Res, list_len, nested_fits, parse_string,
-    put_list, put_text, strip_nul,
+    parse_u8, parse_u32, put_bytes, put_list, put_text, put_u8, put_u32, strip_nul,
 };
 use std::alloc::{Allocator, Global};
 
@@ -32,6 +32,10 @@ use std::alloc::{Allocator, Global};
 /// | 1 | `Kind` | text |
 /// | 2 | `Options` under a known kind | a list of that kind's options |
 /// | 2 | `OptionsRaw` under any other kind | as it stands |
+/// | 5, 6, 8 | `Rate`, `Fcnt`, `Stab` | bytes |
+/// | 10 | `DumpInvisible` | any; written as no bytes |
+/// | 11 | `Chain` | u32 |
+/// | 12 | `HwOffload` | u8 |
 #[derive(Drop)]
 #[derive_where(Debug, PartialEq, Eq)]
 #[derive_where(Clone; A)]
@@ -43,6 +47,19 @@ pub enum TcAttribute<A: Allocator = Global> {
     Options(Vec<TcOption<A>, A>),
     /// The options under any other kind, as they stand: `TCA_OPTIONS`.
     OptionsRaw(DefaultNla<A>),
+    /// The estimate of a rate, as bytes: `TCA_RATE`.
+    Rate(Vec<u8, A>),
+    /// A counter of the forwarding path, as bytes: `TCA_FCNT`.
+    Fcnt(Vec<u8, A>),
+    /// A table of sizes, as bytes: `TCA_STAB`.
+    Stab(Vec<u8, A>),
+    /// That invisible disciplines are asked for too, which the attribute says by standing there:
+    /// `TCA_DUMP_INVISIBLE`. Written whether true or false.
+    DumpInvisible(bool),
+    /// The number of a chain of filters: `TCA_CHAIN`.
+    Chain(u32),
+    /// Whether the hardware does the work, a byte: `TCA_HW_OFFLOAD`.
+    HwOffload(u8),
     /// Any other type.
     Other(DefaultNla<A>),
 }
@@ -72,6 +89,12 @@ impl<A: Allocator + Copy> ParseableParametrized<A> for TcAttribute<A> {
                     TcAttribute::OptionsRaw(DefaultNla::parse(alloc, buf)?)
                 }
             }
+            5 => TcAttribute::Rate(Vec::from_slice(alloc, buf.value())?),
+            6 => TcAttribute::Fcnt(Vec::from_slice(alloc, buf.value())?),
+            8 => TcAttribute::Stab(Vec::from_slice(alloc, buf.value())?),
+            10 => TcAttribute::DumpInvisible(true),
+            11 => TcAttribute::Chain(parse_u32(buf.value())?),
+            12 => TcAttribute::HwOffload(parse_u8(buf.value())?),
             _ => TcAttribute::Other(DefaultNla::parse(alloc, buf)?),
         })
     }
@@ -84,6 +107,12 @@ impl<A: Allocator> Nla for TcAttribute<A> {
             TcAttribute::Kind(_) => 1,
             TcAttribute::Options(_) => 2,
             TcAttribute::OptionsRaw(nla) => nla.kind(),
+            TcAttribute::Rate(_) => 5,
+            TcAttribute::Fcnt(_) => 6,
+            TcAttribute::Stab(_) => 8,
+            TcAttribute::DumpInvisible(_) => 10,
+            TcAttribute::Chain(_) => 11,
+            TcAttribute::HwOffload(_) => 12,
             TcAttribute::Other(nla) => nla.kind(),
         }
     }
@@ -93,6 +122,11 @@ impl<A: Allocator> Nla for TcAttribute<A> {
             TcAttribute::Kind(kind) => kind.len() < NLA_VALUE_MAX_SIZE,
             TcAttribute::Options(options) => nested_fits(options),
             TcAttribute::OptionsRaw(nla) => nla.fits(),
+            TcAttribute::Rate(bytes) | TcAttribute::Fcnt(bytes) | TcAttribute::Stab(bytes) => {
+                bytes.len() <= NLA_VALUE_MAX_SIZE
+            }
+            TcAttribute::DumpInvisible(_) | TcAttribute::Chain(_) | TcAttribute::HwOffload(_) =>
+                true,
             TcAttribute::Other(nla) => nla.fits(),
         }
     }
@@ -102,6 +136,12 @@ impl<A: Allocator> Nla for TcAttribute<A> {
             TcAttribute::Kind(kind) => kind.len() + 1,
             TcAttribute::Options(options) => list_len(options),
             TcAttribute::OptionsRaw(nla) => nla.value_len(),
+            TcAttribute::Rate(bytes) | TcAttribute::Fcnt(bytes) | TcAttribute::Stab(bytes) => {
+                bytes.len()
+            }
+            TcAttribute::DumpInvisible(_) => 0,
+            TcAttribute::Chain(_) => 4,
+            TcAttribute::HwOffload(_) => 1,
             TcAttribute::Other(nla) => nla.value_len(),
         }
     }
@@ -111,6 +151,12 @@ impl<A: Allocator> Nla for TcAttribute<A> {
             TcAttribute::Kind(kind) => put_text(buffer, kind.as_str()),
             TcAttribute::Options(options) => put_list(options, buffer),
             TcAttribute::OptionsRaw(nla) => nla.put_value(buffer),
+            TcAttribute::Rate(bytes) | TcAttribute::Fcnt(bytes) | TcAttribute::Stab(bytes) => {
+                put_bytes(buffer, bytes)
+            }
+            TcAttribute::DumpInvisible(_) => 0,
+            TcAttribute::Chain(chain) => put_u32(buffer, *chain),
+            TcAttribute::HwOffload(offload) => put_u8(buffer, *offload),
             TcAttribute::Other(nla) => nla.put_value(buffer),
         }
     }

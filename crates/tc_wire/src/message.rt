@@ -9,11 +9,9 @@ ghost use Rattle.tc_records.specs.Header.{empty_header};
 ghost use Rattle.tc_wire.specs.Message.{tc_message, ReadsTc, FaultTc};
 
 use crate::attribute::{TcAttribute, VecTcAttribute};
-use nla_frames::{
-    BytesMeaning, Emitable, ParseableBytes, Res, list_fits, list_len, put_list,
-};
-use tc_records::{TC_HEADER_LEN, TcHeader};
+use nla_frames::{BytesMeaning, Emitable, ParseableBytes, Res, list_fits, list_len, put_list};
 use std::alloc::{Allocator, Global};
+use tc_records::{TC_HEADER_LEN, TcHeader};
 
 /// A message about a queueing discipline, a class, a filter or a chain: a header and attributes.
 #[derive(Drop)]
