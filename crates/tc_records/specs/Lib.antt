@@ -1,2 +1,4 @@
 pub mod Numbers
 pub mod Header
+pub mod Statistics
+pub mod Tcf

@@ -1,0 +1,3 @@
+//! The records of queueing disciplines.
+
+pub mod fq_codel;

@@ -1,0 +1,220 @@
+//! The statistics of the queueing discipline fq_codel.
+
+ghost use Rattle.std.specs.Prelude.{◌≡◌, List};
+ghost use Rattle.nla_frames.specs.Fault.{seen};
+ghost use Rattle.tc_canon.specs.Layouts.{fq_codel_qd_stats, fq_codel_cl_stats};
+ghost use Rattle.tc_meaning.specs.Tree.{Scalar};
+ghost use Rattle.tc_meaning.specs.Layout.{fields_bytes, SettledFields};
+ghost use Rattle.tc_meaning.specs.Content.{read_record};
+
+use crate::split::{split_i32, split_u32};
+use nla_frames::{BytesMeaning, DecodeError, Emitable, Res, i32_bytes, put_bytes, u32_bytes};
+
+/// The bytes of the statistics of a queueing discipline.
+pub const TC_FQ_CODEL_QD_STATS_LEN: usize = 36;
+
+/// The bytes of the statistics of a class.
+pub const TC_FQ_CODEL_CL_STATS_LEN: usize = 24;
+
+/// The statistics of a queueing discipline, `struct tc_fq_codel_qd_stats` of `linux/pkt_sched.h`: nine numbers,
+/// low byte first.
+#[derive(Debug, PartialEq, Eq, Clone, Copy, Default)]
+pub struct TcFqCodelQdStats {
+    /// The bytes of the largest packet that was seen.
+    pub maxpacket: u32,
+    /// Packets that were dropped, as the queue was full.
+    pub drop_overlimit: u32,
+    /// Packets that were marked in place of being dropped.
+    pub ecn_mark: u32,
+    /// How often a packet began a new flow.
+    pub new_flow_count: u32,
+    /// Flows in the list of new flows.
+    pub new_flows_len: u32,
+    /// Flows in the list of old flows.
+    pub old_flows_len: u32,
+    /// Packets that waited longer than the threshold of marking.
+    pub ce_mark: u32,
+    /// Memory in use, in bytes.
+    pub memory_usage: u32,
+    /// Packets that were dropped, as the memory was used up.
+    pub drop_overmemory: u32,
+}
+
+impl TcFqCodelQdStats {
+    ghost use Rattle.tc_records.specs.Statistics.{qd_stats_scalars};
+
+    /// The statistics that bytes begin with; what follows is dropped.
+    pub fn parse(payload: &[u8]) -> Res<TcFqCodelQdStats>
+        ensures { seen qd_stats_scalars result ≡ read_record fq_codel_qd_stats payload.now }
+    {
+        if payload.len() < TC_FQ_CODEL_QD_STATS_LEN {
+            return Err(DecodeError::BufferTooSmall {
+                len: payload.len(),
+                needed: TC_FQ_CODEL_QD_STATS_LEN,
+            });
+        }
+        let (maxpacket, rest) = split_u32(payload);
+        let (drop_overlimit, rest) = split_u32(rest);
+        let (ecn_mark, rest) = split_u32(rest);
+        let (new_flow_count, rest) = split_u32(rest);
+        let (new_flows_len, rest) = split_u32(rest);
+        let (old_flows_len, rest) = split_u32(rest);
+        let (ce_mark, rest) = split_u32(rest);
+        let (memory_usage, rest) = split_u32(rest);
+        let (drop_overmemory, _) = split_u32(rest);
+        Ok(TcFqCodelQdStats {
+            maxpacket,
+            drop_overlimit,
+            ecn_mark,
+            new_flow_count,
+            new_flows_len,
+            old_flows_len,
+            ce_mark,
+            memory_usage,
+            drop_overmemory,
+        })
+    }
+
+    // The bytes of the statistics.
+    fn to_bytes(&self) -> [u8; TC_FQ_CODEL_QD_STATS_LEN]
+        ensures { result ≡ fields_bytes fq_codel_qd_stats (qd_stats_scalars self.now) }
+    {
+        let [p0, p1, p2, p3] = u32_bytes(self.maxpacket);
+        let [d0, d1, d2, d3] = u32_bytes(self.drop_overlimit);
+        let [e0, e1, e2, e3] = u32_bytes(self.ecn_mark);
+        let [f0, f1, f2, f3] = u32_bytes(self.new_flow_count);
+        let [n0, n1, n2, n3] = u32_bytes(self.new_flows_len);
+        let [o0, o1, o2, o3] = u32_bytes(self.old_flows_len);
+        let [c0, c1, c2, c3] = u32_bytes(self.ce_mark);
+        let [m0, m1, m2, m3] = u32_bytes(self.memory_usage);
+        let [u0, u1, u2, u3] = u32_bytes(self.drop_overmemory);
+        [
+            p0, p1, p2, p3, d0, d1, d2, d3, e0, e1, e2, e3, f0, f1, f2, f3, n0, n1, n2, n3, o0, o1,
+            o2, o3, c0, c1, c2, c3, m0, m1, m2, m3, u0, u1, u2, u3,
+        ]
+    }
+}
+
+impl BytesMeaning for TcFqCodelQdStats {
+    ghost use Rattle.tc_records.specs.Statistics.{qd_stats_scalars};
+
+    ghost Seen = { List Scalar };
+
+    ghost see = { qd_stats_scalars };
+
+    ghost reads = { read_record fq_codel_qd_stats };
+
+    ghost bytes = { fields_bytes fq_codel_qd_stats };
+
+    ghost Fits = { λ _. Unit {0} };
+
+    ghost Settled = { SettledFields fq_codel_qd_stats };
+}
+
+impl Emitable for TcFqCodelQdStats {
+    fn fits(&self) -> bool {
+        true
+    }
+
+    fn buffer_len(&self) -> usize {
+        TC_FQ_CODEL_QD_STATS_LEN
+    }
+
+    fn emit(&self, buffer: &mut [u8]) {
+        put_bytes(buffer, &self.to_bytes());
+    }
+}
+
+/// The statistics of a class, which is one flow, `struct tc_fq_codel_cl_stats` of `linux/pkt_sched.h`: six numbers,
+/// low byte first. They are read and written, and shown by `Debug`.
+#[derive(Debug, PartialEq, Eq, Clone, Copy, Default)]
+pub struct TcFqCodelClStats {
+    // Bytes that the flow may send before the next one's turn; negative once it sent more.
+    deficit: i32,
+    // How long the last packet waited, in microseconds.
+    ldelay: u32,
+    // Packets that were dropped or marked since the flow began to drop.
+    count: u32,
+    // The same of the time before, once that ended.
+    lastcount: u32,
+    // 1 while the flow drops packets.
+    dropping: u32,
+    // When the next packet is to be dropped, in microseconds from now; negative for one that is due.
+    drop_next: i32,
+}
+
+impl TcFqCodelClStats {
+    ghost use Rattle.tc_records.specs.Statistics.{cl_stats_scalars};
+
+    /// The statistics that bytes begin with; what follows is dropped.
+    pub fn parse(payload: &[u8]) -> Res<TcFqCodelClStats>
+        ensures { seen cl_stats_scalars result ≡ read_record fq_codel_cl_stats payload.now }
+    {
+        if payload.len() < TC_FQ_CODEL_CL_STATS_LEN {
+            return Err(DecodeError::BufferTooSmall {
+                len: payload.len(),
+                needed: TC_FQ_CODEL_CL_STATS_LEN,
+            });
+        }
+        let (deficit, rest) = split_i32(payload);
+        let (ldelay, rest) = split_u32(rest);
+        let (count, rest) = split_u32(rest);
+        let (lastcount, rest) = split_u32(rest);
+        let (dropping, rest) = split_u32(rest);
+        let (drop_next, _) = split_i32(rest);
+        Ok(TcFqCodelClStats {
+            deficit,
+            ldelay,
+            count,
+            lastcount,
+            dropping,
+            drop_next,
+        })
+    }
+
+    // The bytes of the statistics.
+    fn to_bytes(&self) -> [u8; TC_FQ_CODEL_CL_STATS_LEN]
+        ensures { result ≡ fields_bytes fq_codel_cl_stats (cl_stats_scalars self.now) }
+    {
+        let [b0, b1, b2, b3] = i32_bytes(self.deficit);
+        let [l0, l1, l2, l3] = u32_bytes(self.ldelay);
+        let [c0, c1, c2, c3] = u32_bytes(self.count);
+        let [p0, p1, p2, p3] = u32_bytes(self.lastcount);
+        let [d0, d1, d2, d3] = u32_bytes(self.dropping);
+        let [n0, n1, n2, n3] = i32_bytes(self.drop_next);
+        [
+            b0, b1, b2, b3, l0, l1, l2, l3, c0, c1, c2, c3, p0, p1, p2, p3, d0, d1, d2, d3, n0, n1,
+            n2, n3,
+        ]
+    }
+}
+
+impl BytesMeaning for TcFqCodelClStats {
+    ghost use Rattle.tc_records.specs.Statistics.{cl_stats_scalars};
+
+    ghost Seen = { List Scalar };
+
+    ghost see = { cl_stats_scalars };
+
+    ghost reads = { read_record fq_codel_cl_stats };
+
+    ghost bytes = { fields_bytes fq_codel_cl_stats };
+
+    ghost Fits = { λ _. Unit {0} };
+
+    ghost Settled = { SettledFields fq_codel_cl_stats };
+}
+
+impl Emitable for TcFqCodelClStats {
+    fn fits(&self) -> bool {
+        true
+    }
+
+    fn buffer_len(&self) -> usize {
+        TC_FQ_CODEL_CL_STATS_LEN
+    }
+
+    fn emit(&self, buffer: &mut [u8]) {
+        put_bytes(buffer, &self.to_bytes());
+    }
+}

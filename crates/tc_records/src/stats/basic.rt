@@ -1,0 +1,84 @@
+//! What went through a queue.
+
+ghost use Rattle.std.specs.Prelude.{◌≡◌, List};
+ghost use Rattle.nla_frames.specs.Fault.{seen};
+ghost use Rattle.tc_canon.specs.Layouts.{stats_basic};
+ghost use Rattle.tc_meaning.specs.Tree.{Scalar};
+ghost use Rattle.tc_meaning.specs.Layout.{fields_bytes, SettledFields};
+ghost use Rattle.tc_meaning.specs.Content.{read_record};
+
+use crate::split::{split_u32, split_u64};
+use nla_frames::{BytesMeaning, DecodeError, Emitable, Res, put_bytes, u32_bytes, u64_bytes};
+
+/// The bytes of basic statistics.
+pub const TC_STATS_BASIC_LEN: usize = 16;
+
+/// What went through a queue, `struct gnet_stats_basic` of `linux/gen_stats.h`: two numbers, low byte first, and
+/// four bytes of padding.
+#[derive(Debug, PartialEq, Eq, Clone, Copy, Default)]
+pub struct TcStatsBasic {
+    /// Bytes that were seen.
+    pub bytes: u64,
+    /// Packets that were seen.
+    pub packets: u32,
+}
+
+impl TcStatsBasic {
+    ghost use Rattle.tc_records.specs.Statistics.{basic_scalars};
+
+    /// The statistics that bytes begin with; what follows is dropped.
+    pub fn parse(payload: &[u8]) -> Res<TcStatsBasic>
+        ensures { seen basic_scalars result ≡ read_record stats_basic payload.now }
+    {
+        if payload.len() < TC_STATS_BASIC_LEN {
+            return Err(DecodeError::BufferTooSmall {
+                len: payload.len(),
+                needed: TC_STATS_BASIC_LEN,
+            });
+        }
+        let (bytes, rest) = split_u64(payload);
+        let (packets, _) = split_u32(rest);
+        Ok(TcStatsBasic { bytes, packets })
+    }
+
+    // The bytes of the statistics, their padding zero.
+    fn to_bytes(&self) -> [u8; TC_STATS_BASIC_LEN]
+        ensures { result ≡ fields_bytes stats_basic (basic_scalars self.now) }
+    {
+        let [b0, b1, b2, b3, b4, b5, b6, b7] = u64_bytes(self.bytes);
+        let [p0, p1, p2, p3] = u32_bytes(self.packets);
+        [
+            b0, b1, b2, b3, b4, b5, b6, b7, p0, p1, p2, p3, 0, 0, 0, 0,
+        ]
+    }
+}
+
+impl BytesMeaning for TcStatsBasic {
+    ghost use Rattle.tc_records.specs.Statistics.{basic_scalars};
+
+    ghost Seen = { List Scalar };
+
+    ghost see = { basic_scalars };
+
+    ghost reads = { read_record stats_basic };
+
+    ghost bytes = { fields_bytes stats_basic };
+
+    ghost Fits = { λ _. Unit {0} };
+
+    ghost Settled = { SettledFields stats_basic };
+}
+
+impl Emitable for TcStatsBasic {
+    fn fits(&self) -> bool {
+        true
+    }
+
+    fn buffer_len(&self) -> usize {
+        TC_STATS_BASIC_LEN
+    }
+
+    fn emit(&self, buffer: &mut [u8]) {
+        put_bytes(buffer, &self.to_bytes());
+    }
+}

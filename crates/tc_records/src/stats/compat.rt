@@ -1,0 +1,118 @@
+//! The statistics of a queue as one record.
+
+ghost use Rattle.std.specs.Prelude.{◌≡◌, List};
+ghost use Rattle.nla_frames.specs.Fault.{seen};
+ghost use Rattle.tc_canon.specs.Layouts.{stats};
+ghost use Rattle.tc_meaning.specs.Tree.{Scalar};
+ghost use Rattle.tc_meaning.specs.Layout.{fields_bytes, SettledFields};
+ghost use Rattle.tc_meaning.specs.Content.{read_record};
+
+use crate::split::{split_u32, split_u64};
+use nla_frames::{BytesMeaning, DecodeError, Emitable, Res, put_bytes, u32_bytes, u64_bytes};
+
+/// The bytes of the statistics of a queue.
+pub const TC_STATS_LEN: usize = 40;
+
+/// The statistics of a queue, `struct tc_stats` of `linux/pkt_sched.h`: eight numbers, low byte first, and four
+/// bytes of padding.
+#[derive(Debug, PartialEq, Eq, Clone, Copy, Default)]
+pub struct TcStats {
+    /// Bytes that were queued.
+    pub bytes: u64,
+    /// Packets that were queued.
+    pub packets: u32,
+    /// Packets that were dropped, as there was no room for them.
+    pub drops: u32,
+    /// How often the queue was held back for its rate.
+    pub overlimits: u32,
+    /// The rate now, in bytes a second.
+    pub bps: u32,
+    /// The rate now, in packets a second.
+    pub pps: u32,
+    /// Packets in the queue.
+    pub qlen: u32,
+    /// Bytes in the queue.
+    pub backlog: u32,
+}
+
+impl TcStats {
+    ghost use Rattle.tc_records.specs.Statistics.{stats_scalars};
+
+    /// The statistics that bytes begin with; what follows is dropped.
+    pub fn parse(payload: &[u8]) -> Res<TcStats>
+        ensures { seen stats_scalars result ≡ read_record stats payload.now }
+    {
+        if payload.len() < TC_STATS_LEN {
+            return Err(DecodeError::BufferTooSmall {
+                len: payload.len(),
+                needed: TC_STATS_LEN,
+            });
+        }
+        let (bytes, rest) = split_u64(payload);
+        let (packets, rest) = split_u32(rest);
+        let (drops, rest) = split_u32(rest);
+        let (overlimits, rest) = split_u32(rest);
+        let (bps, rest) = split_u32(rest);
+        let (pps, rest) = split_u32(rest);
+        let (qlen, rest) = split_u32(rest);
+        let (backlog, _) = split_u32(rest);
+        Ok(TcStats {
+            bytes,
+            packets,
+            drops,
+            overlimits,
+            bps,
+            pps,
+            qlen,
+            backlog,
+        })
+    }
+
+    // The bytes of the statistics, their padding zero.
+    fn to_bytes(&self) -> [u8; TC_STATS_LEN]
+        ensures { result ≡ fields_bytes stats (stats_scalars self.now) }
+    {
+        let [a0, a1, a2, a3, a4, a5, a6, a7] = u64_bytes(self.bytes);
+        let [p0, p1, p2, p3] = u32_bytes(self.packets);
+        let [d0, d1, d2, d3] = u32_bytes(self.drops);
+        let [o0, o1, o2, o3] = u32_bytes(self.overlimits);
+        let [b0, b1, b2, b3] = u32_bytes(self.bps);
+        let [s0, s1, s2, s3] = u32_bytes(self.pps);
+        let [q0, q1, q2, q3] = u32_bytes(self.qlen);
+        let [l0, l1, l2, l3] = u32_bytes(self.backlog);
+        [
+            a0, a1, a2, a3, a4, a5, a6, a7, p0, p1, p2, p3, d0, d1, d2, d3, o0, o1, o2, o3, b0, b1,
+            b2, b3, s0, s1, s2, s3, q0, q1, q2, q3, l0, l1, l2, l3, 0, 0, 0, 0,
+        ]
+    }
+}
+
+impl BytesMeaning for TcStats {
+    ghost use Rattle.tc_records.specs.Statistics.{stats_scalars};
+
+    ghost Seen = { List Scalar };
+
+    ghost see = { stats_scalars };
+
+    ghost reads = { read_record stats };
+
+    ghost bytes = { fields_bytes stats };
+
+    ghost Fits = { λ _. Unit {0} };
+
+    ghost Settled = { SettledFields stats };
+}
+
+impl Emitable for TcStats {
+    fn fits(&self) -> bool {
+        true
+    }
+
+    fn buffer_len(&self) -> usize {
+        TC_STATS_LEN
+    }
+
+    fn emit(&self, buffer: &mut [u8]) {
+        put_bytes(buffer, &self.to_bytes());
+    }
+}

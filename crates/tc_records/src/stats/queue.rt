@@ -1,0 +1,102 @@
+//! What waits in a queue, and what it refused.
+
+ghost use Rattle.std.specs.Prelude.{◌≡◌, List};
+ghost use Rattle.nla_frames.specs.Fault.{seen};
+ghost use Rattle.tc_canon.specs.Layouts.{stats_queue};
+ghost use Rattle.tc_meaning.specs.Tree.{Scalar};
+ghost use Rattle.tc_meaning.specs.Layout.{fields_bytes, SettledFields};
+ghost use Rattle.tc_meaning.specs.Content.{read_record};
+
+use crate::split::split_u32;
+use nla_frames::{BytesMeaning, DecodeError, Emitable, Res, put_bytes, u32_bytes};
+
+/// The bytes of queue statistics.
+pub const TC_STATS_QUEUE_LEN: usize = 20;
+
+/// What waits in a queue and what it refused, `struct gnet_stats_queue` of `linux/gen_stats.h`: five numbers, low
+/// byte first.
+#[derive(Debug, PartialEq, Eq, Clone, Copy, Default)]
+pub struct TcStatsQueue {
+    /// Packets in the queue.
+    pub qlen: u32,
+    /// Bytes in the queue.
+    pub backlog: u32,
+    /// Packets that were dropped.
+    pub drops: u32,
+    /// Packets that were put back into the queue.
+    pub requeues: u32,
+    /// How often the queue was over its limit.
+    pub overlimits: u32,
+}
+
+impl TcStatsQueue {
+    ghost use Rattle.tc_records.specs.Statistics.{queue_scalars};
+
+    /// The statistics that bytes begin with; what follows is dropped.
+    pub fn parse(payload: &[u8]) -> Res<TcStatsQueue>
+        ensures { seen queue_scalars result ≡ read_record stats_queue payload.now }
+    {
+        if payload.len() < TC_STATS_QUEUE_LEN {
+            return Err(DecodeError::BufferTooSmall {
+                len: payload.len(),
+                needed: TC_STATS_QUEUE_LEN,
+            });
+        }
+        let (qlen, rest) = split_u32(payload);
+        let (backlog, rest) = split_u32(rest);
+        let (drops, rest) = split_u32(rest);
+        let (requeues, rest) = split_u32(rest);
+        let (overlimits, _) = split_u32(rest);
+        Ok(TcStatsQueue {
+            qlen,
+            backlog,
+            drops,
+            requeues,
+            overlimits,
+        })
+    }
+
+    // The bytes of the statistics.
+    fn to_bytes(&self) -> [u8; TC_STATS_QUEUE_LEN]
+        ensures { result ≡ fields_bytes stats_queue (queue_scalars self.now) }
+    {
+        let [q0, q1, q2, q3] = u32_bytes(self.qlen);
+        let [b0, b1, b2, b3] = u32_bytes(self.backlog);
+        let [d0, d1, d2, d3] = u32_bytes(self.drops);
+        let [r0, r1, r2, r3] = u32_bytes(self.requeues);
+        let [o0, o1, o2, o3] = u32_bytes(self.overlimits);
+        [
+            q0, q1, q2, q3, b0, b1, b2, b3, d0, d1, d2, d3, r0, r1, r2, r3, o0, o1, o2, o3,
+        ]
+    }
+}
+
+impl BytesMeaning for TcStatsQueue {
+    ghost use Rattle.tc_records.specs.Statistics.{queue_scalars};
+
+    ghost Seen = { List Scalar };
+
+    ghost see = { queue_scalars };
+
+    ghost reads = { read_record stats_queue };
+
+    ghost bytes = { fields_bytes stats_queue };
+
+    ghost Fits = { λ _. Unit {0} };
+
+    ghost Settled = { SettledFields stats_queue };
+}
+
+impl Emitable for TcStatsQueue {
+    fn fits(&self) -> bool {
+        true
+    }
+
+    fn buffer_len(&self) -> usize {
+        TC_STATS_QUEUE_LEN
+    }
+
+    fn emit(&self, buffer: &mut [u8]) {
+        put_bytes(buffer, &self.to_bytes());
+    }
+}

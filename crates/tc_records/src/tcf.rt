@@ -1,0 +1,97 @@
+//! The times of an action.
+
+ghost use Rattle.std.specs.Prelude.{◌≡◌, List};
+ghost use Rattle.nla_frames.specs.Fault.{seen};
+ghost use Rattle.tc_canon.specs.Layouts.{tcf};
+ghost use Rattle.tc_meaning.specs.Tree.{Scalar};
+ghost use Rattle.tc_meaning.specs.Layout.{fields_bytes, SettledFields};
+ghost use Rattle.tc_meaning.specs.Content.{read_record};
+
+use crate::split::split_u64;
+use nla_frames::{BytesMeaning, DecodeError, Emitable, Res, put_bytes, u64_bytes};
+
+/// The bytes of the times of an action.
+pub const TCF_LEN: usize = 32;
+
+/// The times of an action, `struct tcf_t` of `linux/pkt_cls.h`: four numbers of clock ticks, low byte first.
+#[derive(Debug, PartialEq, Eq, Clone, Default, Drop)]
+pub struct Tcf {
+    /// Since it was made.
+    pub install: u64,
+    /// Since it was last used.
+    pub lastuse: u64,
+    /// Until it ends.
+    pub expires: u64,
+    /// Since it was first used.
+    pub firstuse: u64,
+}
+
+impl Tcf {
+    ghost use Rattle.tc_records.specs.Tcf.{tcf_scalars};
+
+    /// The times that bytes begin with; what follows is dropped.
+    pub fn parse(payload: &[u8]) -> Res<Tcf>
+        ensures { seen tcf_scalars result ≡ read_record tcf payload.now }
+    {
+        if payload.len() < TCF_LEN {
+            return Err(DecodeError::BufferTooSmall {
+                len: payload.len(),
+                needed: TCF_LEN,
+            });
+        }
+        let (install, rest) = split_u64(payload);
+        let (lastuse, rest) = split_u64(rest);
+        let (expires, rest) = split_u64(rest);
+        let (firstuse, _) = split_u64(rest);
+        Ok(Tcf {
+            install,
+            lastuse,
+            expires,
+            firstuse,
+        })
+    }
+
+    // The bytes of the times.
+    fn to_bytes(&self) -> [u8; TCF_LEN]
+        ensures { result ≡ fields_bytes tcf (tcf_scalars self.now) }
+    {
+        let [i0, i1, i2, i3, i4, i5, i6, i7] = u64_bytes(self.install);
+        let [l0, l1, l2, l3, l4, l5, l6, l7] = u64_bytes(self.lastuse);
+        let [e0, e1, e2, e3, e4, e5, e6, e7] = u64_bytes(self.expires);
+        let [f0, f1, f2, f3, f4, f5, f6, f7] = u64_bytes(self.firstuse);
+        [
+            i0, i1, i2, i3, i4, i5, i6, i7, l0, l1, l2, l3, l4, l5, l6, l7, e0, e1, e2, e3, e4, e5,
+            e6, e7, f0, f1, f2, f3, f4, f5, f6, f7,
+        ]
+    }
+}
+
+impl BytesMeaning for Tcf {
+    ghost use Rattle.tc_records.specs.Tcf.{tcf_scalars};
+
+    ghost Seen = { List Scalar };
+
+    ghost see = { tcf_scalars };
+
+    ghost reads = { read_record tcf };
+
+    ghost bytes = { fields_bytes tcf };
+
+    ghost Fits = { λ _. Unit {0} };
+
+    ghost Settled = { SettledFields tcf };
+}
+
+impl Emitable for Tcf {
+    fn fits(&self) -> bool {
+        true
+    }
+
+    fn buffer_len(&self) -> usize {
+        TCF_LEN
+    }
+
+    fn emit(&self, buffer: &mut [u8]) {
+        put_bytes(buffer, &self.to_bytes());
+    }
+}
