@@ -3,12 +3,9 @@
 ghost use Rattle.std.specs.Prelude.{◌≡◌, ◌↔◌, ◌⊎◌, ◌≤◌, ℕ, List, [], ◌∷◌, ◌++◌, length, Ok, true};
 ghost use Rattle.nla_frames.specs.Frame.{Frame, type_of};
 ghost use Rattle.nla_frames.specs.Value.{IsBytes};
-ghost use Rattle.tc_canon.specs.Descriptor.{own_list, every};
-ghost use Rattle.tc_canon.specs.Tables.Actions.{action_attributes};
 ghost use Rattle.tc_canon.specs.Tables.Messages.{attributes, action_message_attributes};
 ghost use Rattle.tc_meaning.specs.Tree.{Attribute, known, items, attributes_of};
 ghost use Rattle.tc_meaning.specs.OwnGrammar.{OwnReads};
-ghost use Rattle.tc_meaning.specs.Meaning.{table_codec, by_type, rows_codec};
 ghost use Rattle.tc_meaning.specs.Whole.{ReadsTc, ReadsAct};
 ghost use Rattle.tc_meaning.specs.Order.{InFull, exchanged, Exchanges, read_action, read_action_attribute, ReadsAction};
 ghost use Rattle.tc_meaning.specs.Unknown.{is_outside, put_in, KeepsUnknown};
@@ -28,8 +25,8 @@ pub fn own_order<T: FrameMeaning>()
     ensures exchanged { (l r : List T.Seen) (x y : T.Seen) → exchanged (length l) (l ++ x ∷ y ∷ r) ≡ l ++ y ∷ x ∷ r }
 {}
 
-/// The same of an action, as it stands in a list of actions: the frame's value is that list, and what is read are its
-/// attributes under the frame's type. Any other reading of an action there isn't.
+/// The same of an action, whose frame's value is such a list: it reads as those attributes under the frame's type, and
+/// as nothing else.
 pub fn order_in_an_action()
     ensures order { (kind : List ℕ) (word : ℕ) → Exchanges (ReadsAction kind word) }
     ensures grammar { (kind : List ℕ) (word : ℕ) (value : List ℕ) (xs : List Attribute) → IsBytes value → ReadsAction kind word value xs ↔ OwnReads read_action_attribute value xs }
