@@ -14,6 +14,9 @@ pub mod TableLaws
 pub mod MessageLaws
 pub mod Headline
 pub mod MessageReading
+pub mod FramesInFull
+pub mod OrderLaws
+pub mod UnknownLaws
 pub mod Trees
 pub mod FitTests
 pub mod WorkedRows

@@ -60,7 +60,7 @@ told-read_kinds (f ∷ fs) all = go (tells_kind f) refl (told-read_kinds fs all.
     go false e others = others
 
 -- one kind was found
-only_kind-ok : (kinds : List (List ℕ)) (kind : List ℕ) → only_kind kinds ≡ Ok kind → kinds ≡ kind ∷ []
+pub only_kind-ok : (kinds : List (List ℕ)) (kind : List ℕ) → only_kind kinds ≡ Ok kind → kinds ≡ kind ∷ []
 only_kind-ok [] kind e = absurd cc
 only_kind-ok (a ∷ []) kind e = ap (λ (t : List ℕ). t ∷ []) (ok-same a kind e)
 only_kind-ok (a ∷ b ∷ kinds) kind e = absurd cc

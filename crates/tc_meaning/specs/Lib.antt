@@ -7,4 +7,6 @@ pub mod Meaning
 pub mod Sound
 pub mod Message
 pub mod Whole
+pub mod Order
+pub mod Unknown
 pub mod Short

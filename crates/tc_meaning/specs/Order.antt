@@ -1,0 +1,37 @@
+-- Two neighbouring frames of a list exchanged, where all frames are padded in full.
+use Rattle.std.specs.Prelude.{◌≡◌, ℕ, zero, suc, List, [], ◌∷◌, ◌++◌, length, Ok}
+use Rattle.nla_frames.specs.Frame.{Frame, type_of}
+use Rattle.nla_frames.specs.Grammar.{Cut}
+use Rattle.nla_frames.specs.Reading.{Reads}
+use Rattle.tc_canon.specs.Descriptor.{own_list, every}
+use Rattle.tc_canon.specs.Tables.Actions.{action_attributes}
+use Rattle.tc_meaning.specs.Tree.{items, Attribute, known, attributes_of}
+use Rattle.tc_meaning.specs.Meaning.{table_codec, by_type, rows_codec}
+
+-- the bytes are these frames, each with its padding in full, whatever it holds
+abbrev pub InFull : List ℕ → List Frame → Type 0
+InFull bytes fs = Cut bytes fs []
+
+-- the elements at a place and right after it, exchanged
+abbrev pub exchanged : {X : Type 0} → ℕ → List X → List X
+exchanged zero (x ∷ y ∷ xs) = y ∷ x ∷ xs
+exchanged (suc n) (x ∷ xs) = x ∷ exchanged n xs
+exchanged _ xs = xs
+
+-- neighbouring frames that are exchanged, with their padding, leave the bytes readable, and exchange what they read as
+abbrev pub Exchanges : {X : Type 0} → (List ℕ → List X → Type 0) → Type 0
+Exchanges ReadsAs =
+    (front one two back : List ℕ) (fs : List Frame) (f g : Frame) (gs : List Frame)
+    → InFull front fs → InFull one (f ∷ []) → InFull two (g ∷ []) → InFull back gs
+    → (xs : List _) → ReadsAs (front ++ (one ++ (two ++ back))) xs → ReadsAs (front ++ (two ++ (one ++ back))) (exchanged (length fs) xs)
+
+-- how an action is read of a frame of any type, and how an attribute of an action is
+abbrev pub read_action : Reads Attribute
+read_action = (table_codec (every (own_list action_attributes))).read
+
+abbrev pub read_action_attribute : Reads Attribute
+read_action_attribute = (by_type (rows_codec action_attributes)).read
+
+-- a frame of this word and value is read as an action with these attributes
+abbrev pub ReadsAction : List ℕ → ℕ → List ℕ → List Attribute → Type 0
+ReadsAction kind word value xs = read_action kind (record { word = word; value = value }) ≡ Ok (known (type_of word) (items (attributes_of xs)))
