@@ -7,15 +7,17 @@ use Rattle.tc_canon.specs.Descriptor.{table}
 use Rattle.tc_wire.specs.Stage.{attributes}
 use Rattle.tc_meaning.specs.Meaning.{table_codec}
 use Rattle.tc_meaning.specs.Message.{kind_of_frame}
-use Rattle.tc_meaning.specs.Tree.{Attribute, known, kept, other, number, flag, is_bytes, items, attributes_of}
+use Rattle.tc_meaning.specs.Tree.{Attribute, known, kept, other, record_of, number, flag, is_bytes, items, attributes_of}
+use Rattle.tc_records.specs.Statistics.{stats_scalars}
 use Rattle.tc_wire.specs.declared.attribute.TcAttribute.{TcAttribute}
-use Rattle.tc_wire.specs.declared.attribute.TcAttribute.TheVariants.{Kind, Options, OptionsRaw, Rate, Fcnt, Stab, DumpInvisible, Chain, HwOffload, Other}
+use Rattle.tc_wire.specs.declared.attribute.TcAttribute.TheVariants.{Kind, Options, OptionsRaw, Stats, Rate, Fcnt, Stab, DumpInvisible, Chain, HwOffload, Other}
 use Rattle.tc_wire.specs.Options.{tc_option}
 
 abbrev pub tc_attribute : {A : Type 0} → TcAttribute A → Attribute
 tc_attribute (Kind kind) = known 1 (is_bytes (string_bytes kind))
 tc_attribute (Options options) = known 2 (items (attributes_of (map tc_option options.items)))
 tc_attribute (OptionsRaw nla) = kept 2 (kept_frame nla).word (kept_frame nla).value
+tc_attribute (Stats stats) = known 3 (record_of (stats_scalars stats))
 tc_attribute (Rate bytes) = known 5 (is_bytes bytes.items)
 tc_attribute (Fcnt bytes) = known 6 (is_bytes bytes.items)
 tc_attribute (Stab bytes) = known 8 (is_bytes bytes.items)

@@ -19,11 +19,12 @@ ghost use Rattle.tc_wire.specs.Attribute.{tc_attribute, ReadsAttributes, Attribu
 
 use crate::options::{TcOption, VecTcOption, is_known_kind};
 use nla_frames::{
-    BytesMeaning, DefaultNla, FrameMeaning, NLA_VALUE_MAX_SIZE, Nla, NlaBuffer, NlasIterator,
-    Parseable, ParseableBytes, ParseableParametrized, Res, list_len, nested_fits, parse_string,
-    parse_u8, parse_u32, put_bytes, put_list, put_text, put_u8, put_u32, strip_nul,
+    BytesMeaning, DefaultNla, Emitable, FrameMeaning, NLA_VALUE_MAX_SIZE, Nla, NlaBuffer,
+    NlasIterator, Parseable, ParseableBytes, ParseableParametrized, Res, list_len, nested_fits,
+    parse_string, parse_u8, parse_u32, put_bytes, put_list, put_text, put_u8, put_u32, strip_nul,
 };
 use std::alloc::{Allocator, Global};
+use tc_records::{TC_STATS_LEN, TcStats};
 
 /// An attribute of a message.
 ///
@@ -32,6 +33,7 @@ use std::alloc::{Allocator, Global};
 /// | 1 | `Kind` | text |
 /// | 2 | `Options` under a known kind | a list of that kind's options |
 /// | 2 | `OptionsRaw` under any other kind | as it stands |
+/// | 3 | `Stats` | [`TcStats`] |
 /// | 5, 6, 8 | `Rate`, `Fcnt`, `Stab` | bytes |
 /// | 10 | `DumpInvisible` | any; written as no bytes |
 /// | 11 | `Chain` | u32 |
@@ -47,6 +49,8 @@ pub enum TcAttribute<A: Allocator = Global> {
     Options(Vec<TcOption<A>, A>),
     /// The options under any other kind, as they stand: `TCA_OPTIONS`.
     OptionsRaw(DefaultNla<A>),
+    /// Statistics: `TCA_STATS`.
+    Stats(TcStats),
     /// The estimate of a rate, as bytes: `TCA_RATE`.
     Rate(Vec<u8, A>),
     /// A counter of the forwarding path, as bytes: `TCA_FCNT`.
@@ -89,6 +93,7 @@ impl<A: Allocator + Copy> ParseableParametrized<A> for TcAttribute<A> {
                     TcAttribute::OptionsRaw(DefaultNla::parse(alloc, buf)?)
                 }
             }
+            3 => TcAttribute::Stats(TcStats::parse(buf.value())?),
             5 => TcAttribute::Rate(Vec::from_slice(alloc, buf.value())?),
             6 => TcAttribute::Fcnt(Vec::from_slice(alloc, buf.value())?),
             8 => TcAttribute::Stab(Vec::from_slice(alloc, buf.value())?),
@@ -107,6 +112,7 @@ impl<A: Allocator> Nla for TcAttribute<A> {
             TcAttribute::Kind(_) => 1,
             TcAttribute::Options(_) => 2,
             TcAttribute::OptionsRaw(nla) => nla.kind(),
+            TcAttribute::Stats(_) => 3,
             TcAttribute::Rate(_) => 5,
             TcAttribute::Fcnt(_) => 6,
             TcAttribute::Stab(_) => 8,
@@ -125,8 +131,10 @@ impl<A: Allocator> Nla for TcAttribute<A> {
             TcAttribute::Rate(bytes) | TcAttribute::Fcnt(bytes) | TcAttribute::Stab(bytes) => {
                 bytes.len() <= NLA_VALUE_MAX_SIZE
             }
-            TcAttribute::DumpInvisible(_) | TcAttribute::Chain(_) | TcAttribute::HwOffload(_) =>
-                true,
+            TcAttribute::Stats(_)
+            | TcAttribute::DumpInvisible(_)
+            | TcAttribute::Chain(_)
+            | TcAttribute::HwOffload(_) => true,
             TcAttribute::Other(nla) => nla.fits(),
         }
     }
@@ -139,6 +147,7 @@ impl<A: Allocator> Nla for TcAttribute<A> {
             TcAttribute::Rate(bytes) | TcAttribute::Fcnt(bytes) | TcAttribute::Stab(bytes) => {
                 bytes.len()
             }
+            TcAttribute::Stats(stats) => stats.buffer_len(),
             TcAttribute::DumpInvisible(_) => 0,
             TcAttribute::Chain(_) => 4,
             TcAttribute::HwOffload(_) => 1,
@@ -153,6 +162,10 @@ impl<A: Allocator> Nla for TcAttribute<A> {
             TcAttribute::OptionsRaw(nla) => nla.put_value(buffer),
             TcAttribute::Rate(bytes) | TcAttribute::Fcnt(bytes) | TcAttribute::Stab(bytes) => {
                 put_bytes(buffer, bytes)
+            }
+            TcAttribute::Stats(stats) => {
+                stats.emit(buffer);
+                TC_STATS_LEN
             }
             TcAttribute::DumpInvisible(_) => 0,
             TcAttribute::Chain(chain) => put_u32(buffer, *chain),
