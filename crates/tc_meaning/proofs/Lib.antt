@@ -16,4 +16,7 @@ pub mod Headline
 pub mod MessageReading
 pub mod Trees
 pub mod FitTests
+pub mod UpgradeLaws
+pub mod FirstVersionLaws
 pub mod WorkedRows
+pub mod UpgradeRows

@@ -8,3 +8,4 @@ pub mod Sound
 pub mod Message
 pub mod Whole
 pub mod Short
+pub mod FirstVersion
