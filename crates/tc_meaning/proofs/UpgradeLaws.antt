@@ -42,8 +42,8 @@ pub stays_or_changes : (kind : List ℕ) (x : Attribute) → (upgrade_attribute 
 stays_or_changes kind (known (suc (suc zero)) (items (and (other word value) none))) = go (are_unknown_options kind word) refl
   where
     go : (b : Bool) → are_unknown_options kind word ≡ b → (upgrade_attribute kind (lone_option word value) ≡ lone_option word value) ⊎ IsChanged kind (lone_option word value)
-    go true is = inr (record { word = word; value = value; unknown = is; was = refl; is = rw is refl })
-    go false is = inl (rw is refl)
+    go true is = inr (record { word = word; value = value; unknown = is; was = refl; is = ap (λ (b : Bool). cond b (kept 2 word value) (lone_option word value)) is })
+    go false is = inl (ap (λ (b : Bool). cond b (kept 2 word value) (lone_option word value)) is)
 stays_or_changes kind x = inl refl
 
 -- the kind of what is changed has no table

@@ -4,7 +4,7 @@ use Rattle.std.specs.Prelude.{codes}
 use Rattle.nla_frames.specs.Value.{strip}
 use Rattle.nla_frames.specs.Cutting.{next_frame, cut_up_to, cut}
 use Rattle.nla_frames.specs.Reading.{read_each, read_list}
-use Rattle.tc_meaning.specs.Tree.{number, kept, other}
+use Rattle.tc_meaning.specs.Tree.{number, known, kept, other}
 use Rattle.tc_meaning.specs.Message.{read_with}
 use Rattle.tc_meaning.specs.Whole.{read_tc}
 use Rattle.tc_meaning.specs.FirstVersion.{read_tc1, lone_option, upgrade}
@@ -49,6 +49,9 @@ option_of_its_kind = refl
 
 one_option_under_a_known_kind : upgrade (tc (the_kind (codes "u32") ∷ lone_option 2 (1 ∷ []) ∷ [])) ≡ tc (the_kind (codes "u32") ∷ lone_option 2 (1 ∷ []) ∷ [])
 one_option_under_a_known_kind = refl
+
+known_kind_stays_in_force : upgrade (tc (the_kind (codes "u32") ∷ known 12 (number 1) ∷ lone_option 2 (1 ∷ []) ∷ [])) ≡ tc (the_kind (codes "u32") ∷ known 12 (number 1) ∷ lone_option 2 (1 ∷ []) ∷ [])
+known_kind_stays_in_force = refl
 
 one_option_after_a_known_kind_is_gone : upgrade (tc (the_kind (codes "u32") ∷ the_kind (codes "sfq") ∷ lone_option 2 (1 ∷ []) ∷ [])) ≡ tc (the_kind (codes "u32") ∷ the_kind (codes "sfq") ∷ kept 2 2 (1 ∷ []) ∷ [])
 one_option_after_a_known_kind_is_gone = refl
