@@ -19,4 +19,7 @@ pub mod OrderLaws
 pub mod UnknownLaws
 pub mod Trees
 pub mod FitTests
+pub mod UpgradeLaws
+pub mod FirstVersionLaws
 pub mod WorkedRows
+pub mod UpgradeRows

@@ -8,7 +8,7 @@ use Rattle.nla_frames.specs.Fault.{read_as, refused, ◌>>=◌}
 use Rattle.nla_frames.specs.Value.{IsBytes}
 use Rattle.nla_frames.specs.Frame.{Frame, IsWireFrame}
 use Rattle.nla_frames.specs.Place.{Sets}
-use Rattle.nla_frames.specs.Reading.{read_list}
+use Rattle.nla_frames.specs.Reading.{Reads, read_list}
 use Rattle.nla_frames.specs.ListGrammar.{OneOutcome}
 use Rattle.nla_frames.specs.Emission.{list_bytes}
 use Rattle.nla_frames.specs.CanonList.{IsCanonList}
@@ -22,27 +22,27 @@ use Rattle.tc_canon.specs.Canonical.{CanonFields, CanonTable}
 use Rattle.tc_meaning.specs.Tree.{Scalar, Attribute}
 use Rattle.tc_meaning.specs.Layout.{read_fields, fields_bytes, TypedFields, SettledFields}
 use Rattle.tc_meaning.specs.Meaning.{table_codec}
-use Rattle.tc_meaning.specs.Message.{Message, ReadsWith, FaultWith, read_with, message_bytes, FitsMessage, TypedMessage, SettledWith, OneMessage, CanonWith, message_codec}
+use Rattle.tc_meaning.specs.Message.{Message, ReadsBy, FaultBy, read_by, read_with, message_bytes, FitsMessage, TypedMessage, SettledWith, OneReading, OneMessage, CanonWith, message_codec}
 use Rattle.tc_meaning.proofs.Outcomes.{kept-ok, then-ok, then-err, ok-same, err-same}
 use Rattle.tc_meaning.proofs.Fields.{length-fields_bytes, IsBytes-fields_bytes, typed-fields, back-fields, same-fields}
 
 -- ---- reading is the grammar
 
-module _ (sets : Sets Frame) (layout : List Field) (rows : Rows) where
+module _ (reads : Reads Attribute) (sets : Sets Frame) (layout : List Field) where
   -- what was read of a message
-  pub record IsRead (bytes : List ℕ) (m : Message) : Type 0 where
+  pub record IsReadBy (bytes : List ℕ) (m : Message) : Type 0 where
     pub long : size_of layout ≤ length bytes
     pub header : read_fields layout (take (size_of layout) bytes) ≡ m.header
-    pub body : read_list (table_codec (table rows)).read sets [] (drop (size_of layout) bytes) ≡ Ok m.body
+    pub body : read_list reads sets [] (drop (size_of layout) bytes) ≡ Ok m.body
 
   -- the header and the body, as a message
   made : List ℕ → List Attribute → Message
   made bytes body = record { header = read_fields layout (take (size_of layout) bytes); body = body }
 
-  pub read_with-ok : (bytes : List ℕ) (m : Message) → read_with sets layout rows bytes ≡ Ok m → IsRead bytes m
-  unfolding read_with made
-  read_with-ok bytes m e =
-      let body = read_list (table_codec (table rows)).read sets [] (drop (size_of layout) bytes) in
+  pub read_by-ok : (bytes : List ℕ) (m : Message) → read_by reads sets layout bytes ≡ Ok m → IsReadBy bytes m
+  unfolding made
+  read_by-ok bytes m e =
+      let body = read_list reads sets [] (drop (size_of layout) bytes) in
       let r = kept-ok (ltb (length bytes) (size_of layout)) (BufferTooSmall (length bytes) (size_of layout)) (body >>= λ xs. read_as (made bytes xs)) m e in
       let q = then-ok body (λ xs. read_as (made bytes xs)) m r.1 in
       let same = ok-same (made bytes q.0) m q.2 in
@@ -52,40 +52,56 @@ module _ (sets : Sets Frame) (layout : List Field) (rows : Rows) where
         body = q.1 ∙ ap (λ (n : Message). read_as n.body) same;
       }
 
-  pub ok-read_with : (bytes : List ℕ) (m : Message) → IsRead bytes m → read_with sets layout rows bytes ≡ Ok m
-  unfolding read_with
-  ok-read_with bytes m is =
+  pub ok-read_by : (bytes : List ℕ) (m : Message) → IsReadBy bytes m → read_by reads sets layout bytes ≡ Ok m
+  ok-read_by bytes m is =
       rw (le-ltb (length bytes) (size_of layout) is.long, is.body) (ap (λ (h : List Scalar). let n : Message = record { header = h; body = m.body } in read_as n) is.header)
 
   -- reading gives exactly what the grammar says
-  pub one_message : (bytes : List ℕ) → IsBytes bytes → OneMessage sets layout rows bytes (read_with sets layout rows bytes)
-  unfolding read_with made
-  one_message bytes w = record { reading = reading; fault = fault }
+  pub one_reading : (bytes : List ℕ) → IsBytes bytes → OneReading reads sets layout bytes (read_by reads sets layout bytes)
+  unfolding made
+  one_reading bytes w = record { reading = reading; fault = fault }
     where
-      list : OneOutcome (table_codec (table rows)).read sets [] (drop (size_of layout) bytes) (read_list (table_codec (table rows)).read sets [] (drop (size_of layout) bytes))
-      list = one_outcome (table_codec (table rows)).read sets [] (drop (size_of layout) bytes) (IsBytes-drop (size_of layout) bytes w)
+      list : OneOutcome reads sets [] (drop (size_of layout) bytes) (read_list reads sets [] (drop (size_of layout) bytes))
+      list = one_outcome reads sets [] (drop (size_of layout) bytes) (IsBytes-drop (size_of layout) bytes w)
 
-      reading : (m : Message) → (read_with sets layout rows bytes ≡ Ok m) ↔ ReadsWith sets layout rows bytes m
+      reading : (m : Message) → (read_by reads sets layout bytes ≡ Ok m) ↔ ReadsBy reads sets layout bytes m
       reading m = (
-        (λ e. let is = read_with-ok bytes m e in record { long = is.long; header = sym is.header; body = (list.reading m.body).0 is.body }),
-        (λ g. ok-read_with bytes m (record { long = g.long; header = sym g.header; body = (list.reading m.body).1 g.body })),
+        (λ e. let is = read_by-ok bytes m e in record { long = is.long; header = sym is.header; body = (list.reading m.body).0 is.body }),
+        (λ g. ok-read_by bytes m (record { long = g.long; header = sym g.header; body = (list.reading m.body).1 g.body })),
       )
 
-      faulty : (e : DecodeError) → read_with sets layout rows bytes ≡ Err e → (length bytes < size_of layout) ⊎ (size_of layout ≤ length bytes) → FaultWith sets layout rows bytes e
+      faulty : (e : DecodeError) → read_by reads sets layout bytes ≡ Err e → (length bytes < size_of layout) ⊎ (size_of layout ≤ length bytes) → FaultBy reads sets layout bytes e
       faulty e h (inl short) =
-          let is : read_with sets layout rows bytes ≡ refused (BufferTooSmall (length bytes) (size_of layout)) = rw (lt-ltb (length bytes) (size_of layout) short) refl in
+          let is : read_by reads sets layout bytes ≡ refused (BufferTooSmall (length bytes) (size_of layout)) = rw (lt-ltb (length bytes) (size_of layout) short) refl in
           inl (short, err-same Message e (BufferTooSmall (length bytes) (size_of layout)) (sym h ∙ is))
       faulty e h (inr long) =
-          let body = read_list (table_codec (table rows)).read sets [] (drop (size_of layout) bytes) in
-          let is : read_with sets layout rows bytes ≡ (body >>= λ xs. read_as (made bytes xs)) = rw (le-ltb (length bytes) (size_of layout) long) refl in
+          let body = read_list reads sets [] (drop (size_of layout) bytes) in
+          let is : read_by reads sets layout bytes ≡ (body >>= λ xs. read_as (made bytes xs)) = rw (le-ltb (length bytes) (size_of layout) long) refl in
           inr (long, (list.fault e).0 (then-err body (made bytes) e (sym is ∙ h)))
 
-      faults : (e : DecodeError) → FaultWith sets layout rows bytes e → read_with sets layout rows bytes ≡ Err e
+      faults : (e : DecodeError) → FaultBy reads sets layout bytes e → read_by reads sets layout bytes ≡ Err e
       faults e (inl h) = rw (lt-ltb (length bytes) (size_of layout) h.0) (ap (λ (d : DecodeError). refused d) (sym h.1))
       faults e (inr h) = rw (le-ltb (length bytes) (size_of layout) h.0, (list.fault e).1 h.1) refl
 
-      fault : (e : DecodeError) → (read_with sets layout rows bytes ≡ Err e) ↔ FaultWith sets layout rows bytes e
+      fault : (e : DecodeError) → (read_by reads sets layout bytes ≡ Err e) ↔ FaultBy reads sets layout bytes e
       fault e = (λ h. faulty e h (cases_lt (length bytes) (size_of layout)), faults e)
+
+-- of a table of attributes
+module _ (sets : Sets Frame) (layout : List Field) (rows : Rows) where
+  abbrev pub IsRead : List ℕ → Message → Type 0
+  IsRead = IsReadBy (table_codec (table rows)).read sets layout
+
+  pub read_with-ok : (bytes : List ℕ) (m : Message) → read_with sets layout rows bytes ≡ Ok m → IsRead bytes m
+  unfolding read_with
+  read_with-ok = read_by-ok (table_codec (table rows)).read sets layout
+
+  pub ok-read_with : (bytes : List ℕ) (m : Message) → IsRead bytes m → read_with sets layout rows bytes ≡ Ok m
+  unfolding read_with
+  ok-read_with = ok-read_by (table_codec (table rows)).read sets layout
+
+  pub one_message : (bytes : List ℕ) → IsBytes bytes → OneMessage sets layout rows bytes (read_with sets layout rows bytes)
+  unfolding read_with
+  one_message = one_reading (table_codec (table rows)).read sets layout
 
 -- ---- reading and writing
 

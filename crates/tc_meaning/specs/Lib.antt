@@ -10,3 +10,4 @@ pub mod Whole
 pub mod Order
 pub mod Unknown
 pub mod Short
+pub mod FirstVersion

@@ -6,7 +6,7 @@ use Rattle.nla_frames.specs.declared.error.DecodeError.TheVariants.{BufferTooSma
 use Rattle.nla_frames.specs.Fault.{Outcome, ◌>>=◌}
 use Rattle.nla_frames.specs.Frame.{Frame}
 use Rattle.nla_frames.specs.Place.{Sets}
-use Rattle.nla_frames.specs.Reading.{read_list}
+use Rattle.nla_frames.specs.Reading.{Reads, read_list}
 use Rattle.nla_frames.specs.ListGrammar.{ListReads, ListFault}
 use Rattle.nla_frames.specs.Emission.{list_bytes, ListFits}
 use Rattle.nla_frames.specs.Codec.{Codec, SettledEach, SettledAtEach}
@@ -23,26 +23,37 @@ pub record Message : Type 0 where
   pub header : List Scalar
   pub body : List Attribute
 
--- a message of a table of attributes: its header by this layout, then a list of frames, each read under the kind
--- that is set last before its place
-module _ (sets : Sets Frame) (layout : List Field) (rows : Rows) where
-  pub record ReadsWith (bytes : List ℕ) (m : Message) : Type 0 where
+-- a message, by the reading of one attribute: its header by this layout, then a list of frames, each read under the
+-- kind that is set last before its place
+module _ (reads : Reads Attribute) (sets : Sets Frame) (layout : List Field) where
+  pub record ReadsBy (bytes : List ℕ) (m : Message) : Type 0 where
     pub long : size_of layout ≤ length bytes
     pub header : m.header ≡ read_fields layout (take (size_of layout) bytes)
-    pub body : ListReads (table_codec (table rows)).read sets [] (drop (size_of layout) bytes) m.body
+    pub body : ListReads reads sets [] (drop (size_of layout) bytes) m.body
 
   -- the first fault: a short header, or that of the list
-  abbrev pub FaultWith : List ℕ → DecodeError → Type 0
-  FaultWith bytes e =
+  abbrev pub FaultBy : List ℕ → DecodeError → Type 0
+  FaultBy bytes e =
       ((length bytes < size_of layout) × (e ≡ BufferTooSmall (length bytes) (size_of layout)))
-      ⊎ ((size_of layout ≤ length bytes) × ListFault (table_codec (table rows)).read sets [] (drop (size_of layout) bytes) e)
+      ⊎ ((size_of layout ≤ length bytes) × ListFault reads sets [] (drop (size_of layout) bytes) e)
 
   -- the same as a function
-  unfoldable pub read_with : List ℕ → Outcome Message
-  read_with bytes =
+  abbrev pub read_by : List ℕ → Outcome Message
+  read_by bytes =
       if nat_lt (length bytes) (size_of layout) then Err (BufferTooSmall (length bytes) (size_of layout)) else
-      read_list (table_codec (table rows)).read sets [] (drop (size_of layout) bytes) >>= λ body.
+      read_list reads sets [] (drop (size_of layout) bytes) >>= λ body.
       Ok (record { header = read_fields layout (take (size_of layout) bytes); body = body })
+
+-- of a table of attributes
+module _ (sets : Sets Frame) (layout : List Field) (rows : Rows) where
+  abbrev pub ReadsWith : List ℕ → Message → Type 0
+  ReadsWith = ReadsBy (table_codec (table rows)).read sets layout
+
+  abbrev pub FaultWith : List ℕ → DecodeError → Type 0
+  FaultWith = FaultBy (table_codec (table rows)).read sets layout
+
+  unfoldable pub read_with : List ℕ → Outcome Message
+  read_with bytes = read_by (table_codec (table rows)).read sets layout bytes
 
 module _ (layout : List Field) (rows : Rows) where
   -- frames of type 1 set the kind
@@ -83,9 +94,12 @@ module _ (layout : List Field) (rows : Rows) where
   SettledMessage = SettledWith kind_of_attribute
 
 -- a message has one reading and no fault, or no reading and one fault
-pub record OneMessage (sets : Sets Frame) (layout : List Field) (rows : Rows) (bytes : List ℕ) (outcome : Outcome Message) : Type 0 where
-  pub reading : (m : Message) → (outcome ≡ Ok m) ↔ ReadsWith sets layout rows bytes m
-  pub fault : (e : DecodeError) → (outcome ≡ Err e) ↔ FaultWith sets layout rows bytes e
+pub record OneReading (reads : Reads Attribute) (sets : Sets Frame) (layout : List Field) (bytes : List ℕ) (outcome : Outcome Message) : Type 0 where
+  pub reading : (m : Message) → (outcome ≡ Ok m) ↔ ReadsBy reads sets layout bytes m
+  pub fault : (e : DecodeError) → (outcome ≡ Err e) ↔ FaultBy reads sets layout bytes e
+
+abbrev pub OneMessage : Sets Frame → List Field → Rows → List ℕ → Outcome Message → Type 0
+OneMessage sets layout rows = OneReading (table_codec (table rows)).read sets layout
 
 -- canonical: the header's bytes with its padding zero, and frames that are canonical in the table
 pub record CanonWith (sets : Sets Frame) (layout : List Field) (rows : Rows) (bytes : List ℕ) : Type 0 where
