@@ -1,13 +1,21 @@
 //! The fixed records of traffic control, the numbers and the flags in them.
 #![tactic(auto)]
 
+pub mod actions;
 mod family;
 pub mod header;
+pub mod laws;
 pub mod qdiscs;
 mod split;
 pub mod stats;
 pub mod tcf;
 
+pub use actions::action::{TC_ACTION_GENERIC_LEN, TcActionGeneric, TcActionType};
+pub use actions::header::{TCA_HEADER_LEN, TcActionMessageHeader};
+pub use actions::mirror::{TC_MIRROR_LEN, TcMirror, TcMirrorActionType};
+pub use actions::nat::{TC_NAT_LEN, TcNat};
+pub use actions::nat_flag::TcNatFlags;
+pub use actions::tunnel_key::{TC_TUNNEL_KEY_LEN, TcTunnelKey};
 pub use header::{TC_HEADER_LEN, TcHandle, TcHeader};
 pub use qdiscs::fq_codel::{
     TC_FQ_CODEL_CL_STATS_LEN, TC_FQ_CODEL_QD_STATS_LEN, TcFqCodelClStats, TcFqCodelQdStats,

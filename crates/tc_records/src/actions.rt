@@ -1,0 +1,8 @@
+//! The records of actions.
+
+pub mod action;
+pub mod header;
+pub mod mirror;
+pub mod nat;
+pub mod nat_flag;
+pub mod tunnel_key;
