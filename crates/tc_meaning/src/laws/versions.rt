@@ -9,8 +9,8 @@ ghost use Rattle.tc_meaning.specs.Whole.{ReadsTc, FaultTc, TypedTc, FitsTc, Sett
 ghost use Rattle.tc_meaning.specs.FirstVersion.{ReadsTc1, FaultTc1, read_tc1, upgrade_attribute, upgrade, WasRead, IsUpgrade};
 
 /// The same bytes in both versions. Version 1 gives a message exactly if its grammar reads it so, and a fault exactly if
-/// that is its grammar's. What version 1 reads, version 2 reads as the upgrade of that; what version 2 reads is the
-/// upgrade of what version 1 reads, and its own upgrade. The faults are the same.
+/// that is its grammar's; what it reads is typed. What version 1 reads, version 2 reads as the upgrade of that; what
+/// version 2 reads is the upgrade of what version 1 reads, and its own upgrade. The faults are the same.
 pub fn both_readings(bytes: &[u8])
     ensures reading { (m : Message) → (read_tc1 bytes.now ≡ Ok m) ↔ ReadsTc1 bytes.now m }
     ensures fault { (e : DecodeError) → (read_tc1 bytes.now ≡ Err e) ↔ FaultTc1 bytes.now e }
