@@ -137,7 +137,7 @@ pub struct TcActionGeneric {
 }
 
 impl TcActionGeneric {
-    ghost use Rattle.tc_records.specs.Actions.{generic_scalars};
+    ghost use Rattle.tc_records.specs.Actions.{generic_scalars, generic_then_scalars};
 
     /// The generic part that bytes begin with; what follows is dropped.
     pub fn parse(payload: &[u8]) -> Res<TcActionGeneric>
@@ -159,10 +159,6 @@ impl TcActionGeneric {
     {
         is_settled_action_type(self.action)
     }
-}
-
-impl TcActionGeneric {
-    ghost use Rattle.tc_records.specs.Actions.{generic_scalars, generic_then_scalars};
 
     /// The generic part at the front of a record, and the fields that follow it.
     pub(crate) fn split(bytes: &[u8]) -> (TcActionGeneric, &[u8])
