@@ -2,13 +2,20 @@
 #![tactic(auto)]
 
 mod family;
+pub mod filters;
+pub mod flag_words;
 pub mod header;
+pub mod message_flags;
 pub mod qdiscs;
 mod split;
 pub mod stats;
 pub mod tcf;
 
+pub use filters::bpf::TcBpfFlags;
+pub use filters::u32_flags::{TcU32OptionFlags, TcU32SelectorFlags};
+pub use filters::u32_selector::{TC_U32_KEY_LEN, TC_U32_SELECTOR_LEN, TcU32Key, TcU32Selector};
 pub use header::{TC_HEADER_LEN, TcHandle, TcHeader};
+pub use message_flags::TcActionMessageFlags;
 pub use qdiscs::fq_codel::{
     TC_FQ_CODEL_CL_STATS_LEN, TC_FQ_CODEL_QD_STATS_LEN, TcFqCodelClStats, TcFqCodelQdStats,
 };

@@ -1,0 +1,2 @@
+mod FlagWords
+mod Keys
