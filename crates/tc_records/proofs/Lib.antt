@@ -1,2 +1,3 @@
 mod FlagWords
+pub mod GenericPart
 mod Keys

@@ -1,7 +1,11 @@
 pub mod Numbers
 pub mod Header
-pub mod Statistics
+pub mod NatFlags
+pub mod ActionType
+pub mod MirrorActionType
+pub mod Actions
 pub mod Tcf
-pub mod FilterFlags
 pub mod MessageFlags
+pub mod Statistics
+pub mod FilterFlags
 pub mod Selector

@@ -1,6 +1,6 @@
 -- The flags of a message of actions: the word of a value, and the name and the bits of each flag; the last has all bits and no name.
 use Rattle.std.specs.Prelude.{ℕ, List, [], ◌∷◌, codes}
-use Rattle.tc_records.specs.declared.message_flags.TcActionMessageFlags.{TcActionMessageFlags}
+use Rattle.tc_records.specs.declared.actions.message_flags.TcActionMessageFlags.{TcActionMessageFlags}
 
 abbrev pub message_flags_word : TcActionMessageFlags → ℕ
 message_flags_word f = f.0

@@ -1,9 +1,9 @@
 //! A family of addresses as a field of a record.
 
-ghost use Rattle.std.specs.Prelude.{◌≡◌, ◌≤◌, ◌+◌, length, take, drop};
+ghost use Rattle.std.specs.Prelude.{◌≡◌, ◌≤◌, ◌+◌, ◌↔◌, IsTrue, length, take, drop};
 ghost use Rattle.tc_canon.specs.Descriptor.{named};
 ghost use Rattle.tc_canon.specs.Layouts.{address_families};
-ghost use Rattle.tc_meaning.specs.Layout.{read_field, field_bytes};
+ghost use Rattle.tc_meaning.specs.Layout.{read_field, field_bytes, SettledField};
 ghost use Rattle.tc_records.specs.Numbers.{family_scalar};
 
 use crate::split::split_u8;
@@ -25,4 +25,16 @@ pub(crate) fn family_bytes(family: AddressFamily) -> [u8; 1]
     ensures { result ≡ field_bytes (named 1 address_families) (family_scalar family) }
 {
     [u8::from(family)]
+}
+
+/// Whether it reads back as itself: no `Other` of a number that has a name.
+pub(crate) fn is_settled_family(family: AddressFamily) -> bool
+    ensures { IsTrue result ↔ SettledField (named 1 address_families) (family_scalar family) }
+{
+    match family {
+        AddressFamily::Other(number) => {
+            matches!(AddressFamily::from(number), AddressFamily::Other(_))
+        }
+        _ => true,
+    }
 }

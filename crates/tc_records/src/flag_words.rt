@@ -4,9 +4,9 @@ ghost use Rattle.std.specs.Prelude.{◌≡◌, Some, option_map};
 ghost use Rattle.tc_records.specs.FilterFlags.{bpf_flags_word, selector_flags_byte, option_flags_word};
 ghost use Rattle.tc_records.specs.MessageFlags.{message_flags_word};
 
+use crate::actions::message_flags::TcActionMessageFlags;
 use crate::filters::bpf::TcBpfFlags;
 use crate::filters::u32_flags::{TcU32OptionFlags, TcU32SelectorFlags};
-use crate::message_flags::TcActionMessageFlags;
 use bitflags::Flags;
 
 /// The flags of a bpf filter.

@@ -1,13 +1,13 @@
 //! The header of a message.
 
-ghost use Rattle.std.specs.Prelude.{◌≡◌, List};
+ghost use Rattle.std.specs.Prelude.{◌≡◌, ◌↔◌, IsTrue, List};
 ghost use Rattle.nla_frames.specs.Fault.{seen};
 ghost use Rattle.tc_canon.specs.Layouts.{tc_header};
 ghost use Rattle.tc_meaning.specs.Tree.{Scalar};
 ghost use Rattle.tc_meaning.specs.Layout.{fields_bytes, SettledFields};
 ghost use Rattle.tc_meaning.specs.Content.{read_record};
 
-use crate::family::{family_bytes, split_family};
+use crate::family::{family_bytes, is_settled_family, split_family};
 use crate::split::{skip, split_i32, split_u32};
 use nla_frames::{
     AddressFamily, BytesMeaning, DecodeError, Emitable, Res, i32_bytes, put_bytes, u32_bytes,
@@ -131,6 +131,13 @@ impl TcHeader {
             parent: TcHandle::from(parent),
             info,
         })
+    }
+
+    /// Whether it reads back as itself: the family is no `Other` of a number that has a name.
+    pub fn is_settled(&self) -> bool
+        ensures { IsTrue result ↔ SettledFields tc_header (header_scalars self.now) }
+    {
+        is_settled_family(self.family)
     }
 
     // The header's bytes, its padding zero.

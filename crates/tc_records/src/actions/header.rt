@@ -1,0 +1,83 @@
+//! The header of a message of actions.
+
+ghost use Rattle.std.specs.Prelude.{◌≡◌, ◌↔◌, IsTrue, List};
+ghost use Rattle.nla_frames.specs.Fault.{seen};
+ghost use Rattle.tc_canon.specs.Layouts.{action_message_header};
+ghost use Rattle.tc_meaning.specs.Tree.{Scalar};
+ghost use Rattle.tc_meaning.specs.Layout.{fields_bytes, SettledFields};
+ghost use Rattle.tc_meaning.specs.Content.{read_record};
+
+use crate::family::{family_bytes, is_settled_family, split_family};
+use nla_frames::{AddressFamily, BytesMeaning, DecodeError, Emitable, Res, put_bytes};
+
+/// The bytes of a header.
+pub const TCA_HEADER_LEN: usize = 4;
+
+/// The header of a message of actions, `struct tcamsg` of `linux/rtnetlink.h`: a family, then three bytes of padding.
+#[derive(Debug, PartialEq, Eq, Clone, Default, Drop)]
+pub struct TcActionMessageHeader {
+    pub family: AddressFamily,
+}
+
+impl TcActionMessageHeader {
+    ghost use Rattle.tc_records.specs.Actions.{action_message_header_scalars};
+
+    /// The header that bytes begin with; what follows is dropped.
+    pub fn parse(payload: &[u8]) -> Res<TcActionMessageHeader>
+        ensures { seen action_message_header_scalars result ≡ read_record action_message_header payload.now }
+    {
+        if payload.len() < TCA_HEADER_LEN {
+            return Err(DecodeError::BufferTooSmall {
+                len: payload.len(),
+                needed: TCA_HEADER_LEN,
+            });
+        }
+        let (family, _) = split_family(payload);
+        Ok(TcActionMessageHeader { family })
+    }
+
+    /// Whether it reads back as itself: the family is no `Other` of a number that has a name.
+    pub fn is_settled(&self) -> bool
+        ensures { IsTrue result ↔ SettledFields action_message_header (action_message_header_scalars self.now) }
+    {
+        is_settled_family(self.family)
+    }
+
+    // The header's bytes, its padding zero.
+    fn to_bytes(&self) -> [u8; TCA_HEADER_LEN]
+        ensures { result ≡ fields_bytes action_message_header (action_message_header_scalars self.now) }
+    {
+        let [f0] = family_bytes(self.family);
+        [f0, 0, 0, 0]
+    }
+}
+
+impl BytesMeaning for TcActionMessageHeader {
+    ghost use Rattle.tc_records.specs.Actions.{action_message_header_scalars};
+
+    ghost Seen = { List Scalar };
+
+    ghost see = { action_message_header_scalars };
+
+    ghost reads = { read_record action_message_header };
+
+    ghost bytes = { fields_bytes action_message_header };
+
+    ghost Fits = { λ _. Unit {0} };
+
+    ghost Settled = { SettledFields action_message_header };
+}
+
+impl Emitable for TcActionMessageHeader {
+    fn fits(&self) -> bool {
+        true
+    }
+
+    fn buffer_len(&self) -> usize {
+        TCA_HEADER_LEN
+    }
+
+    fn emit(&self, buffer: &mut [u8]) {
+        put_bytes(buffer, &self.to_bytes());
+    }
+}

@@ -1,0 +1,182 @@
+//! Packets that go to another interface.
+
+ghost use Rattle.std.specs.Prelude.{◌≡◌, ◌≤◌, ◌+◌, ◌↔◌, IsTrue, List, length, take, drop};
+ghost use Rattle.nla_frames.specs.Fault.{seen};
+ghost use Rattle.tc_canon.specs.Descriptor.{named};
+ghost use Rattle.tc_canon.specs.Layouts.{mirror, mirror_action_types};
+ghost use Rattle.tc_meaning.specs.Tree.{Scalar};
+ghost use Rattle.tc_meaning.specs.Layout.{read_field, field_bytes, fields_bytes, SettledField, SettledFields};
+ghost use Rattle.tc_meaning.specs.Content.{read_record};
+ghost use Rattle.tc_records.specs.MirrorActionType.{mirror_action_type_of, mirror_action_type_number, mirror_action_type_scalar};
+
+use crate::actions::action::{TC_ACTION_GENERIC_LEN, TcActionGeneric};
+use crate::split::{split_i32, split_u32};
+use nla_frames::{BytesMeaning, DecodeError, Emitable, Res, i32_bytes, put_bytes, u32_bytes};
+
+/// The bytes of a mirror's record.
+pub const TC_MIRROR_LEN: usize = 28;
+
+/// Where a packet or its copy goes, `TCA_EGRESS_REDIR` and its like of `linux/tc_act/tc_mirred.h`.
+#[derive(Debug, PartialEq, Eq, Clone, Copy, Default)]
+pub enum TcMirrorActionType {
+    /// `TCA_EGRESS_REDIR`, 1: the packet itself is sent out.
+    #[default]
+    EgressRedir,
+
+    /// `TCA_EGRESS_MIRROR`, 2: a copy is sent out.
+    EgressMirror,
+
+    /// `TCA_INGRESS_REDIR`, 3: the packet itself comes in.
+    IngressRedir,
+
+    /// `TCA_INGRESS_MIRROR`, 4: a copy comes in.
+    IngressMirror,
+
+    /// Any other number.
+    Other(i32),
+}
+
+impl From<i32> for TcMirrorActionType {
+    ghost from_gives = { λ number action. action ≡ mirror_action_type_of number };
+
+    fn from(number: i32) -> TcMirrorActionType {
+        match number {
+            1 => TcMirrorActionType::EgressRedir,
+            2 => TcMirrorActionType::EgressMirror,
+            3 => TcMirrorActionType::IngressRedir,
+            4 => TcMirrorActionType::IngressMirror,
+            other => TcMirrorActionType::Other(other),
+        }
+    }
+}
+
+impl From<TcMirrorActionType> for i32 {
+    ghost from_gives = { λ action number. number ≡ mirror_action_type_number action };
+
+    fn from(action: TcMirrorActionType) -> i32 {
+        match action {
+            TcMirrorActionType::EgressRedir => 1,
+            TcMirrorActionType::EgressMirror => 2,
+            TcMirrorActionType::IngressRedir => 3,
+            TcMirrorActionType::IngressMirror => 4,
+            TcMirrorActionType::Other(number) => number,
+        }
+    }
+}
+
+// The number in the first four bytes, and what follows it.
+fn split_mirror_action_type(bytes: &[u8]) -> (TcMirrorActionType, &[u8])
+    requires { 4 ≤ length bytes.now }
+    ensures value { mirror_action_type_scalar result.0 ≡ read_field (named 4 mirror_action_types) (take 4 bytes.now) }
+    ensures rest { result.1.now ≡ drop 4 bytes.now }
+    ensures left { length bytes.now ≡ 4 + length result.1.now }
+{
+    let (number, rest) = split_i32(bytes);
+    (TcMirrorActionType::from(number), rest)
+}
+
+// The bytes of its number.
+fn mirror_action_type_bytes(action: TcMirrorActionType) -> [u8; 4]
+    ensures { result ≡ field_bytes (named 4 mirror_action_types) (mirror_action_type_scalar action) }
+{
+    i32_bytes(i32::from(action))
+}
+
+// Whether it reads back as itself: no `Other` of a number that has a name.
+fn is_settled_mirror_action_type(action: TcMirrorActionType) -> bool
+    ensures { IsTrue result ↔ SettledField (named 4 mirror_action_types) (mirror_action_type_scalar action) }
+{
+    match action {
+        TcMirrorActionType::Other(number) => matches!(
+            TcMirrorActionType::from(number),
+            TcMirrorActionType::Other(_)
+        ),
+        _ => true,
+    }
+}
+
+/// Packets that are redirected or copied to an interface, `struct tc_mirred` of `linux/tc_act/tc_mirred.h`.
+#[derive(Debug, PartialEq, Eq, Clone, Default, Drop)]
+pub struct TcMirror {
+    pub generic: TcActionGeneric,
+    /// Which of both, and in which direction.
+    pub eaction: TcMirrorActionType,
+    /// The index of the interface.
+    pub ifindex: u32,
+}
+
+impl TcMirror {
+    ghost use Rattle.tc_records.specs.Actions.{mirror_scalars};
+
+    /// The record that bytes begin with; what follows is dropped.
+    pub fn parse(payload: &[u8]) -> Res<TcMirror>
+        ensures { seen mirror_scalars result ≡ read_record mirror payload.now }
+    {
+        if payload.len() < TC_MIRROR_LEN {
+            return Err(DecodeError::BufferTooSmall {
+                len: payload.len(),
+                needed: TC_MIRROR_LEN,
+            });
+        }
+        let (generic, rest) = TcActionGeneric::split(payload);
+        let (eaction, rest) = split_mirror_action_type(rest);
+        let (ifindex, _) = split_u32(rest);
+        Ok(TcMirror {
+            generic,
+            eaction,
+            ifindex,
+        })
+    }
+
+    /// Whether it reads back as itself: neither of its named numbers is an `Other` of a number that has a name.
+    pub fn is_settled(&self) -> bool
+        ensures { IsTrue result ↔ SettledFields mirror (mirror_scalars self.now) }
+    {
+        self.generic.is_settled() && is_settled_mirror_action_type(self.eaction)
+    }
+
+    // The record's bytes.
+    fn to_bytes(&self) -> [u8; TC_MIRROR_LEN]
+        ensures { result ≡ fields_bytes mirror (mirror_scalars self.now) }
+    {
+        let [e0, e1, e2, e3] = mirror_action_type_bytes(self.eaction);
+        let [i0, i1, i2, i3] = u32_bytes(self.ifindex);
+        let mut bytes = [0; TC_MIRROR_LEN];
+        put_bytes(&mut bytes, &self.generic.to_bytes());
+        put_bytes(
+            &mut bytes[TC_ACTION_GENERIC_LEN..],
+            &[e0, e1, e2, e3, i0, i1, i2, i3],
+        );
+        bytes
+    }
+}
+
+impl BytesMeaning for TcMirror {
+    ghost use Rattle.tc_records.specs.Actions.{mirror_scalars};
+
+    ghost Seen = { List Scalar };
+
+    ghost see = { mirror_scalars };
+
+    ghost reads = { read_record mirror };
+
+    ghost bytes = { fields_bytes mirror };
+
+    ghost Fits = { λ _. Unit {0} };
+
+    ghost Settled = { SettledFields mirror };
+}
+
+impl Emitable for TcMirror {
+    fn fits(&self) -> bool {
+        true
+    }
+
+    fn buffer_len(&self) -> usize {
+        TC_MIRROR_LEN
+    }
+
+    fn emit(&self, buffer: &mut [u8]) {
+        put_bytes(buffer, &self.to_bytes());
+    }
+}

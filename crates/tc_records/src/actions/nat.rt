@@ -1,0 +1,141 @@
+//! Network address translation.
+
+ghost use Rattle.std.specs.Prelude.{◌≡◌, ◌++◌, ◌↔◌, IsTrue, List};
+ghost use Rattle.std.specs.Net.Addr.{ipv4_octets};
+ghost use Rattle.nla_frames.specs.Value.{le_bytes};
+ghost use Rattle.nla_frames.specs.Fault.{seen};
+ghost use Rattle.tc_canon.specs.Layouts.{nat};
+ghost use Rattle.tc_meaning.specs.Tree.{Scalar};
+ghost use Rattle.tc_meaning.specs.Layout.{fields_bytes, SettledFields};
+ghost use Rattle.tc_meaning.specs.Content.{read_record};
+
+use crate::actions::action::{TC_ACTION_GENERIC_LEN, TcActionGeneric};
+use crate::actions::nat_flag::TcNatFlags;
+use crate::split::{split_ipv4_addr, split_u32};
+use bitflags::Flags;
+use nla_frames::{BytesMeaning, DecodeError, Emitable, Res, put_bytes, u32_bytes};
+use std::net::Ipv4Addr;
+
+/// The bytes of a translation's record.
+pub const TC_NAT_LEN: usize = 36;
+
+/// A translation of addresses, `struct tc_nat` of `linux/tc_act/tc_nat.h`. An address stands as its four bytes.
+#[derive(Debug, PartialEq, Eq, Clone, Drop)]
+pub struct TcNat {
+    pub generic: TcActionGeneric,
+    /// The addresses that are translated.
+    pub old_addr: Ipv4Addr,
+    /// The addresses that they become.
+    pub new_addr: Ipv4Addr,
+    /// Which bits of an address count.
+    pub mask: Ipv4Addr,
+    pub flags: TcNatFlags,
+}
+
+impl Default for TcNat {
+    ghost use Rattle.tc_records.specs.Actions.{IsEmptyNat};
+
+    ghost is_default = { IsEmptyNat };
+
+    fn default() -> TcNat {
+        TcNat {
+            generic: TcActionGeneric::default(),
+            old_addr: Ipv4Addr::UNSPECIFIED,
+            new_addr: Ipv4Addr::UNSPECIFIED,
+            mask: Ipv4Addr::UNSPECIFIED,
+            flags: TcNatFlags::empty(),
+        }
+    }
+}
+
+impl TcNat {
+    ghost use Rattle.tc_records.specs.Actions.{nat_scalars};
+    ghost use Rattle.tc_records.specs.NatFlags.{nat_flags_word};
+
+    /// The record that bytes begin with; what follows is dropped.
+    pub fn parse(payload: &[u8]) -> Res<TcNat>
+        ensures { seen nat_scalars result ≡ read_record nat payload.now }
+    {
+        if payload.len() < TC_NAT_LEN {
+            return Err(DecodeError::BufferTooSmall {
+                len: payload.len(),
+                needed: TC_NAT_LEN,
+            });
+        }
+        let (generic, rest) = TcActionGeneric::split(payload);
+        let (old_addr, rest) = split_ipv4_addr(rest);
+        let (new_addr, rest) = split_ipv4_addr(rest);
+        let (mask, rest) = split_ipv4_addr(rest);
+        let (flags, _) = split_u32(rest);
+        Ok(TcNat {
+            generic,
+            old_addr,
+            new_addr,
+            mask,
+            flags: TcNatFlags::from_bits_retain(flags),
+        })
+    }
+
+    /// Whether it reads back as itself: the outcome is no `Other` of a number that has a name.
+    pub fn is_settled(&self) -> bool
+        ensures { IsTrue result ↔ SettledFields nat (nat_scalars self.now) }
+    {
+        self.generic.is_settled()
+    }
+
+    // The bytes after the generic part.
+    fn own_bytes(&self) -> [u8; 16]
+        ensures { let nat = self.now in
+            result
+            ≡ ipv4_octets nat.old_addr
+            ++ (ipv4_octets nat.new_addr ++ (ipv4_octets nat.mask ++ le_bytes 4 (nat_flags_word nat.flags))) }
+    {
+        let [o0, o1, o2, o3] = self.old_addr.octets();
+        let [n0, n1, n2, n3] = self.new_addr.octets();
+        let [m0, m1, m2, m3] = self.mask.octets();
+        let [f0, f1, f2, f3] = u32_bytes(self.flags.bits());
+        [
+            o0, o1, o2, o3, n0, n1, n2, n3, m0, m1, m2, m3, f0, f1, f2, f3,
+        ]
+    }
+
+    // The record's bytes.
+    fn to_bytes(&self) -> [u8; TC_NAT_LEN]
+        ensures { result ≡ fields_bytes nat (nat_scalars self.now) }
+    {
+        let mut bytes = [0; TC_NAT_LEN];
+        put_bytes(&mut bytes, &self.generic.to_bytes());
+        put_bytes(&mut bytes[TC_ACTION_GENERIC_LEN..], &self.own_bytes());
+        bytes
+    }
+}
+
+impl BytesMeaning for TcNat {
+    ghost use Rattle.tc_records.specs.Actions.{nat_scalars};
+
+    ghost Seen = { List Scalar };
+
+    ghost see = { nat_scalars };
+
+    ghost reads = { read_record nat };
+
+    ghost bytes = { fields_bytes nat };
+
+    ghost Fits = { λ _. Unit {0} };
+
+    ghost Settled = { SettledFields nat };
+}
+
+impl Emitable for TcNat {
+    fn fits(&self) -> bool {
+        true
+    }
+
+    fn buffer_len(&self) -> usize {
+        self.to_bytes().len()
+    }
+
+    fn emit(&self, buffer: &mut [u8]) {
+        put_bytes(buffer, &self.to_bytes());
+    }
+}

@@ -1,0 +1,86 @@
+//! The flags of network address translation.
+
+use bitflags::{Flag, Flags};
+
+/// How a network address translation works: `TCA_NAT_FLAG_EGRESS` of `linux/tc_act/tc_nat.h`, and in the upper half
+/// the kernel's own flags of actions, `TCA_ACT_FLAGS_*` of `net/act_api.h`. Bits without a name are kept.
+#[derive(Debug, PartialEq, Eq, Clone, Copy, Default)]
+pub struct TcNatFlags(u32);
+
+#[allow(non_upper_case_globals)]
+impl TcNatFlags {
+    /// Source addresses are translated, on the way out; else destinations, on the way in.
+    pub const Egress: TcNatFlags = TcNatFlags(0x1);
+
+    /// Made as an action of a policer.
+    pub const Police: TcNatFlags = TcNatFlags(0x1_0000);
+
+    /// Bound to a filter.
+    pub const Bind: TcNatFlags = TcNatFlags(0x2_0000);
+
+    /// Takes the place of the action that has its index.
+    pub const Replace: TcNatFlags = TcNatFlags(0x4_0000);
+
+    /// Made without the lock of routing.
+    pub const NoRtnl: TcNatFlags = TcNatFlags(0x8_0000);
+
+    /// At ingress.
+    pub const AtIngress: TcNatFlags = TcNatFlags(0x10_0000);
+
+    // Every flag with its name, and one without that has all bits: so every bit is known.
+    const FLAGS: &'static [Flag<TcNatFlags>] = &[
+        Flag {
+            name: "Egress",
+            value: TcNatFlags::Egress,
+        },
+        Flag {
+            name: "Police",
+            value: TcNatFlags::Police,
+        },
+        Flag {
+            name: "Bind",
+            value: TcNatFlags::Bind,
+        },
+        Flag {
+            name: "Replace",
+            value: TcNatFlags::Replace,
+        },
+        Flag {
+            name: "NoRtnl",
+            value: TcNatFlags::NoRtnl,
+        },
+        Flag {
+            name: "AtIngress",
+            value: TcNatFlags::AtIngress,
+        },
+        Flag {
+            name: "",
+            value: TcNatFlags(0xFFFF_FFFF),
+        },
+    ];
+}
+
+impl Flags for TcNatFlags {
+    ghost use Rattle.std.specs.Prelude.{⊤};
+    ghost use Rattle.tc_records.specs.NatFlags.{nat_flags_word, nat_flags_table};
+
+    type Bits = u32;
+
+    ghost exact = { ⊤ };
+
+    ghost table = { nat_flags_table };
+
+    ghost set_of = { nat_flags_word };
+
+    fn flags<'a>() -> &'a [Flag<TcNatFlags>] {
+        TcNatFlags::FLAGS
+    }
+
+    fn bits(&self) -> u32 {
+        self.0
+    }
+
+    fn from_bits_retain(bits: u32) -> TcNatFlags {
+        TcNatFlags(bits)
+    }
+}

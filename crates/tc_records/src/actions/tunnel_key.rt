@@ -1,0 +1,92 @@
+//! The metadata of a tunnel.
+
+ghost use Rattle.std.specs.Prelude.{◌≡◌, ◌↔◌, IsTrue, List};
+ghost use Rattle.nla_frames.specs.Fault.{seen};
+ghost use Rattle.tc_canon.specs.Layouts.{tunnel_key};
+ghost use Rattle.tc_meaning.specs.Tree.{Scalar};
+ghost use Rattle.tc_meaning.specs.Layout.{fields_bytes, SettledFields};
+ghost use Rattle.tc_meaning.specs.Content.{read_record};
+
+use crate::actions::action::{TC_ACTION_GENERIC_LEN, TcActionGeneric};
+use crate::split::split_i32;
+use nla_frames::{BytesMeaning, DecodeError, Emitable, Res, i32_bytes, put_bytes};
+
+/// The bytes of a tunnel key's record.
+pub const TC_TUNNEL_KEY_LEN: usize = 24;
+
+/// A tunnel's metadata is set on packets or released, `struct tc_tunnel_key` of `linux/tc_act/tc_tunnel_key.h`.
+#[derive(Debug, PartialEq, Eq, Clone, Default, Drop)]
+pub struct TcTunnelKey {
+    pub generic: TcActionGeneric,
+    /// Which of both: `TCA_TUNNEL_KEY_ACT_SET`, 1, or `TCA_TUNNEL_KEY_ACT_RELEASE`, 2.
+    pub t_action: i32,
+}
+
+impl TcTunnelKey {
+    ghost use Rattle.tc_records.specs.Actions.{tunnel_key_scalars};
+
+    /// The record that bytes begin with; what follows is dropped.
+    pub fn parse(payload: &[u8]) -> Res<TcTunnelKey>
+        ensures { seen tunnel_key_scalars result ≡ read_record tunnel_key payload.now }
+    {
+        if payload.len() < TC_TUNNEL_KEY_LEN {
+            return Err(DecodeError::BufferTooSmall {
+                len: payload.len(),
+                needed: TC_TUNNEL_KEY_LEN,
+            });
+        }
+        let (generic, rest) = TcActionGeneric::split(payload);
+        let (t_action, _) = split_i32(rest);
+        Ok(TcTunnelKey { generic, t_action })
+    }
+
+    /// Whether it reads back as itself: the outcome is no `Other` of a number that has a name.
+    pub fn is_settled(&self) -> bool
+        ensures { IsTrue result ↔ SettledFields tunnel_key (tunnel_key_scalars self.now) }
+    {
+        self.generic.is_settled()
+    }
+
+    // The record's bytes.
+    fn to_bytes(&self) -> [u8; TC_TUNNEL_KEY_LEN]
+        ensures { result ≡ fields_bytes tunnel_key (tunnel_key_scalars self.now) }
+    {
+        let mut bytes = [0; TC_TUNNEL_KEY_LEN];
+        put_bytes(&mut bytes, &self.generic.to_bytes());
+        put_bytes(
+            &mut bytes[TC_ACTION_GENERIC_LEN..],
+            &i32_bytes(self.t_action),
+        );
+        bytes
+    }
+}
+
+impl BytesMeaning for TcTunnelKey {
+    ghost use Rattle.tc_records.specs.Actions.{tunnel_key_scalars};
+
+    ghost Seen = { List Scalar };
+
+    ghost see = { tunnel_key_scalars };
+
+    ghost reads = { read_record tunnel_key };
+
+    ghost bytes = { fields_bytes tunnel_key };
+
+    ghost Fits = { λ _. Unit {0} };
+
+    ghost Settled = { SettledFields tunnel_key };
+}
+
+impl Emitable for TcTunnelKey {
+    fn fits(&self) -> bool {
+        true
+    }
+
+    fn buffer_len(&self) -> usize {
+        TC_TUNNEL_KEY_LEN
+    }
+
+    fn emit(&self, buffer: &mut [u8]) {
+        put_bytes(buffer, &self.to_bytes());
+    }
+}

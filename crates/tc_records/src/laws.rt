@@ -1,0 +1,37 @@
+//! What the definitions promise of one another, as contracts of functions that do nothing.
+
+ghost use Rattle.std.specs.Prelude.{◌≡◌, ◌↔◌, ◌<◌, ◌^◌, ℕ, List, Ok, bit_and};
+ghost use Rattle.std.specs.Int.{w32, cast_unsigned};
+ghost use Rattle.nla_frames.specs.Value.{le_bytes};
+ghost use Rattle.bitflags.specs.Sets.{known_bits};
+ghost use Rattle.tc_canon.specs.Descriptor.{Field, named};
+ghost use Rattle.tc_canon.specs.Layouts.{action_types, mirror_action_types};
+ghost use Rattle.tc_canon.specs.Canonical.{CanonFields};
+ghost use Rattle.tc_meaning.specs.Tree.{Scalar};
+ghost use Rattle.tc_meaning.specs.Layout.{read_field, fields_bytes, TypedFields, SettledFields};
+ghost use Rattle.tc_meaning.specs.Content.{read_record};
+ghost use Rattle.tc_records.specs.ActionType.{action_type_of, action_type_number, action_type_scalar};
+ghost use Rattle.tc_records.specs.MirrorActionType.{mirror_action_type_of, mirror_action_type_number, mirror_action_type_scalar};
+ghost use Rattle.tc_records.specs.NatFlags.{nat_flags_table};
+
+/// A record of any layout. Its bytes read as it exactly if it is settled; and bytes that are read as a record are its
+/// bytes exactly if they are as long as the record and their padding is zero.
+pub fn records(bytes: &[u8])
+    ensures back { (layout : List Field) (xs : List Scalar) → TypedFields layout xs → (read_record layout (fields_bytes layout xs) ≡ Ok xs) ↔ SettledFields layout xs }
+    ensures typed { (layout : List Field) (xs : List Scalar) → read_record layout bytes.now ≡ Ok xs → TypedFields layout xs }
+    ensures same { (layout : List Field) (xs : List Scalar) → read_record layout bytes.now ≡ Ok xs → (fields_bytes layout xs ≡ bytes.now) ↔ CanonFields layout bytes.now }
+{}
+
+/// A number is the number of its name, so reading and writing one loses nothing; as a field it is named exactly if
+/// the layouts of records say so.
+pub fn action_numbers(number: i32)
+    ensures outcome { action_type_number (action_type_of number) ≡ number }
+    ensures outcome_field { action_type_scalar (action_type_of number) ≡ read_field (named 4 action_types) (le_bytes 4 (cast_unsigned w32 number)) }
+    ensures mirror { mirror_action_type_number (mirror_action_type_of number) ≡ number }
+    ensures mirror_field { mirror_action_type_scalar (mirror_action_type_of number) ≡ read_field (named 4 mirror_action_types) (le_bytes 4 (cast_unsigned w32 number)) }
+{}
+
+/// Every bit of a word belongs to a flag, so that `from_bits` refuses no word.
+pub fn flag_words()
+    ensures nat { (word : ℕ) → word < 2 ^ 32 → bit_and word (known_bits nat_flags_table) ≡ word }
+{}
