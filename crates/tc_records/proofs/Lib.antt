@@ -1,3 +1,2 @@
-mod FlagWords
 pub mod GenericPart
 mod Keys

@@ -1,5 +1,6 @@
 pub mod Numbers
 pub mod Header
+pub mod Flags
 pub mod NatFlags
 pub mod ActionType
 pub mod MirrorActionType

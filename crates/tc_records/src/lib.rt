@@ -4,7 +4,6 @@
 pub mod actions;
 mod family;
 pub mod filters;
-pub mod flag_words;
 pub mod header;
 pub mod laws;
 pub mod qdiscs;

@@ -1,9 +1,0 @@
-use Rattle.std.proofs.Common.{arith}
-use Rattle.bitflags.specs.Sets.{known_from}
-use Rattle.tc_records.specs.FilterFlags.{bpf_flags_word}
-use Rattle.tc_records.proofs.FlagWords.{every_word}
-use Rattle.tc_records.proofs.flag_words.bpf_flags.Goals as goal
-
-pub returns : goal.returns
-unfolding known_from
-returns c = every_word bpf_flags_word c.from_bits.result c.args.word 32 (omega arith) (c.from_bits.ensures.value tt) (c.from_bits.ensures.known tt)
