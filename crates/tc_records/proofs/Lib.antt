@@ -1,1 +1,2 @@
 pub mod GenericPart
+mod Keys

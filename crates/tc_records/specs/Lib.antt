@@ -2,7 +2,11 @@ pub mod Numbers
 pub mod Header
 pub mod Statistics
 pub mod Tcf
+pub mod Flags
 pub mod NatFlags
 pub mod ActionType
 pub mod MirrorActionType
 pub mod Actions
+pub mod MessageFlags
+pub mod FilterFlags
+pub mod Selector

@@ -1,9 +1,8 @@
 //! What the definitions promise of one another, as contracts of functions that do nothing.
 
-ghost use Rattle.std.specs.Prelude.{◌≡◌, ◌↔◌, ◌<◌, ◌^◌, ℕ, List, Ok, bit_and};
+ghost use Rattle.std.specs.Prelude.{◌≡◌, ◌↔◌, List, Ok};
 ghost use Rattle.std.specs.Int.{w32, cast_unsigned};
 ghost use Rattle.nla_frames.specs.Value.{le_bytes};
-ghost use Rattle.bitflags.specs.Sets.{known_bits};
 ghost use Rattle.tc_canon.specs.Descriptor.{Field, named};
 ghost use Rattle.tc_canon.specs.Layouts.{action_types, mirror_action_types};
 ghost use Rattle.tc_canon.specs.Canonical.{CanonFields};
@@ -12,7 +11,10 @@ ghost use Rattle.tc_meaning.specs.Layout.{read_field, fields_bytes, TypedFields,
 ghost use Rattle.tc_meaning.specs.Content.{read_record};
 ghost use Rattle.tc_records.specs.ActionType.{action_type_of, action_type_number, action_type_scalar};
 ghost use Rattle.tc_records.specs.MirrorActionType.{mirror_action_type_of, mirror_action_type_number, mirror_action_type_scalar};
+ghost use Rattle.tc_records.specs.Flags.{KnowsEvery};
 ghost use Rattle.tc_records.specs.NatFlags.{nat_flags_table};
+ghost use Rattle.tc_records.specs.MessageFlags.{message_flags_table};
+ghost use Rattle.tc_records.specs.FilterFlags.{bpf_flags_table, selector_flags_table, option_flags_table};
 
 /// A record of any layout. Its bytes read as it exactly if it is settled; and bytes that are read as a record are its
 /// bytes exactly if they are as long as the record and their padding is zero.
@@ -33,5 +35,9 @@ pub fn action_numbers(number: i32)
 
 /// Every bit of a word belongs to a flag, so that `from_bits` refuses no word.
 pub fn flag_words()
-    ensures nat { (word : ℕ) → word < 2 ^ 32 → bit_and word (known_bits nat_flags_table) ≡ word }
+    ensures nat { KnowsEvery 32 nat_flags_table }
+    ensures message { KnowsEvery 32 message_flags_table }
+    ensures bpf { KnowsEvery 32 bpf_flags_table }
+    ensures selector { KnowsEvery 8 selector_flags_table }
+    ensures option { KnowsEvery 32 option_flags_table }
 {}

@@ -47,9 +47,7 @@ impl TcStatsBasic {
     {
         let [b0, b1, b2, b3, b4, b5, b6, b7] = u64_bytes(self.bytes);
         let [p0, p1, p2, p3] = u32_bytes(self.packets);
-        [
-            b0, b1, b2, b3, b4, b5, b6, b7, p0, p1, p2, p3, 0, 0, 0, 0,
-        ]
+        [b0, b1, b2, b3, b4, b5, b6, b7, p0, p1, p2, p3, 0, 0, 0, 0]
     }
 }
 

@@ -1,0 +1,58 @@
+//! The flags of a message of actions.
+
+use bitflags::{Flag, Flags};
+
+/// What is asked of a dump of actions: `TCA_ACT_FLAG_*` of `linux/rtnetlink.h`. Bits without a name are kept; the
+/// order is that of the word.
+#[derive(Debug, PartialEq, Eq, PartialOrd, Ord, Hash, Clone, Copy, Default)]
+pub struct TcActionMessageFlags(u32);
+
+#[allow(non_upper_case_globals)]
+impl TcActionMessageFlags {
+    /// More than 32 actions in a message: `TCA_ACT_FLAG_LARGE_DUMP_ON`.
+    pub const LargeDump: TcActionMessageFlags = TcActionMessageFlags(0x1);
+
+    /// The chief attributes of an action alone: `TCA_ACT_FLAG_TERSE_DUMP`.
+    pub const TerseDump: TcActionMessageFlags = TcActionMessageFlags(0x2);
+
+    // Every flag with its name, and one without that has all bits: so every bit is known.
+    const FLAGS: &'static [Flag<TcActionMessageFlags>] = &[
+        Flag {
+            name: "LargeDump",
+            value: TcActionMessageFlags::LargeDump,
+        },
+        Flag {
+            name: "TerseDump",
+            value: TcActionMessageFlags::TerseDump,
+        },
+        Flag {
+            name: "",
+            value: TcActionMessageFlags(0xFFFF_FFFF),
+        },
+    ];
+}
+
+impl Flags for TcActionMessageFlags {
+    ghost use Rattle.std.specs.Prelude.{⊤};
+    ghost use Rattle.tc_records.specs.MessageFlags.{message_flags_word, message_flags_table};
+
+    type Bits = u32;
+
+    ghost exact = { ⊤ };
+
+    ghost table = { message_flags_table };
+
+    ghost set_of = { message_flags_word };
+
+    fn flags<'a>() -> &'a [Flag<TcActionMessageFlags>] {
+        TcActionMessageFlags::FLAGS
+    }
+
+    fn bits(&self) -> u32 {
+        self.0
+    }
+
+    fn from_bits_retain(bits: u32) -> TcActionMessageFlags {
+        TcActionMessageFlags(bits)
+    }
+}

@@ -1,0 +1,50 @@
+//! The flags of a bpf filter.
+
+use bitflags::{Flag, Flags};
+
+/// The flags of a bpf filter, `TCA_BPF_FLAG_*` of `linux/pkt_cls.h`. Bits without a name are kept.
+#[derive(Debug, PartialEq, Eq, Clone, Copy)]
+pub struct TcBpfFlags(u32);
+
+#[allow(non_upper_case_globals)]
+impl TcBpfFlags {
+    /// What the program answers is an action: `TCA_BPF_FLAG_ACT_DIRECT`.
+    pub const DirectAction: TcBpfFlags = TcBpfFlags(0x1);
+
+    // Every flag with its name, and one without that has all bits: so every bit is known.
+    const FLAGS: &'static [Flag<TcBpfFlags>] = &[
+        Flag {
+            name: "DirectAction",
+            value: TcBpfFlags::DirectAction,
+        },
+        Flag {
+            name: "",
+            value: TcBpfFlags(0xFFFF_FFFF),
+        },
+    ];
+}
+
+impl Flags for TcBpfFlags {
+    ghost use Rattle.std.specs.Prelude.{⊤};
+    ghost use Rattle.tc_records.specs.FilterFlags.{bpf_flags_word, bpf_flags_table};
+
+    type Bits = u32;
+
+    ghost exact = { ⊤ };
+
+    ghost table = { bpf_flags_table };
+
+    ghost set_of = { bpf_flags_word };
+
+    fn flags<'a>() -> &'a [Flag<TcBpfFlags>] {
+        TcBpfFlags::FLAGS
+    }
+
+    fn bits(&self) -> u32 {
+        self.0
+    }
+
+    fn from_bits_retain(bits: u32) -> TcBpfFlags {
+        TcBpfFlags(bits)
+    }
+}

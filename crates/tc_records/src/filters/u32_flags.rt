@@ -1,0 +1,146 @@
+//! The flags of a u32 filter.
+
+use bitflags::{Flag, Flags};
+
+/// The flags of a selector, one byte: `TC_U32_*` of `linux/pkt_cls.h`. Bits without a name are kept.
+#[derive(Debug, PartialEq, Eq, Clone, Copy, Default)]
+pub struct TcU32SelectorFlags(u8);
+
+#[allow(non_upper_case_globals)]
+impl TcU32SelectorFlags {
+    /// A match ends the search: `TC_U32_TERMINAL`.
+    pub const Terminal: TcU32SelectorFlags = TcU32SelectorFlags(0x1);
+
+    /// The next header stands `off` bytes further: `TC_U32_OFFSET`.
+    pub const Offset: TcU32SelectorFlags = TcU32SelectorFlags(0x2);
+
+    /// How much further it stands is read of the packet: `TC_U32_VAROFFSET`.
+    pub const VarOffset: TcU32SelectorFlags = TcU32SelectorFlags(0x4);
+
+    /// The keys that follow count from there: `TC_U32_EAT`.
+    pub const Eat: TcU32SelectorFlags = TcU32SelectorFlags(0x8);
+
+    // Every flag with its name, and one without that has all bits: so every bit is known.
+    const FLAGS: &'static [Flag<TcU32SelectorFlags>] = &[
+        Flag {
+            name: "Terminal",
+            value: TcU32SelectorFlags::Terminal,
+        },
+        Flag {
+            name: "Offset",
+            value: TcU32SelectorFlags::Offset,
+        },
+        Flag {
+            name: "VarOffset",
+            value: TcU32SelectorFlags::VarOffset,
+        },
+        Flag {
+            name: "Eat",
+            value: TcU32SelectorFlags::Eat,
+        },
+        Flag {
+            name: "",
+            value: TcU32SelectorFlags(0xFF),
+        },
+    ];
+}
+
+impl Flags for TcU32SelectorFlags {
+    ghost use Rattle.std.specs.Prelude.{⊤};
+    ghost use Rattle.tc_records.specs.FilterFlags.{selector_flags_byte, selector_flags_table};
+
+    type Bits = u8;
+
+    ghost exact = { ⊤ };
+
+    ghost table = { selector_flags_table };
+
+    ghost set_of = { selector_flags_byte };
+
+    fn flags<'a>() -> &'a [Flag<TcU32SelectorFlags>] {
+        TcU32SelectorFlags::FLAGS
+    }
+
+    fn bits(&self) -> u8 {
+        self.0
+    }
+
+    fn from_bits_retain(bits: u8) -> TcU32SelectorFlags {
+        TcU32SelectorFlags(bits)
+    }
+}
+
+/// Where a filter is to be, and where it is: `TCA_CLS_FLAGS_*` of `linux/pkt_cls.h`. Bits without a name are kept.
+#[derive(Debug, PartialEq, Eq, Clone, Copy)]
+pub struct TcU32OptionFlags(u32);
+
+#[allow(non_upper_case_globals)]
+impl TcU32OptionFlags {
+    /// Not to be put into hardware: `TCA_CLS_FLAGS_SKIP_HW`.
+    pub const SkipHw: TcU32OptionFlags = TcU32OptionFlags(0x1);
+
+    /// Not to be used in software: `TCA_CLS_FLAGS_SKIP_SW`.
+    pub const SkipSw: TcU32OptionFlags = TcU32OptionFlags(0x2);
+
+    /// It is in hardware: `TCA_CLS_FLAGS_IN_HW`.
+    pub const InHw: TcU32OptionFlags = TcU32OptionFlags(0x4);
+
+    /// It isn't in hardware: `TCA_CLS_FLAGS_NOT_IN_HW`.
+    pub const NotInHw: TcU32OptionFlags = TcU32OptionFlags(0x8);
+
+    /// Why it isn't is told in the log: `TCA_CLS_FLAGS_VERBOSE`.
+    pub const Verbose: TcU32OptionFlags = TcU32OptionFlags(0x10);
+
+    // Every flag with its name, and one without that has all bits: so every bit is known.
+    const FLAGS: &'static [Flag<TcU32OptionFlags>] = &[
+        Flag {
+            name: "SkipHw",
+            value: TcU32OptionFlags::SkipHw,
+        },
+        Flag {
+            name: "SkipSw",
+            value: TcU32OptionFlags::SkipSw,
+        },
+        Flag {
+            name: "InHw",
+            value: TcU32OptionFlags::InHw,
+        },
+        Flag {
+            name: "NotInHw",
+            value: TcU32OptionFlags::NotInHw,
+        },
+        Flag {
+            name: "Verbose",
+            value: TcU32OptionFlags::Verbose,
+        },
+        Flag {
+            name: "",
+            value: TcU32OptionFlags(0xFFFF_FFFF),
+        },
+    ];
+}
+
+impl Flags for TcU32OptionFlags {
+    ghost use Rattle.std.specs.Prelude.{⊤};
+    ghost use Rattle.tc_records.specs.FilterFlags.{option_flags_word, option_flags_table};
+
+    type Bits = u32;
+
+    ghost exact = { ⊤ };
+
+    ghost table = { option_flags_table };
+
+    ghost set_of = { option_flags_word };
+
+    fn flags<'a>() -> &'a [Flag<TcU32OptionFlags>] {
+        TcU32OptionFlags::FLAGS
+    }
+
+    fn bits(&self) -> u32 {
+        self.0
+    }
+
+    fn from_bits_retain(bits: u32) -> TcU32OptionFlags {
+        TcU32OptionFlags(bits)
+    }
+}

@@ -1,0 +1,295 @@
+//! The selector of a u32 filter, and its keys.
+
+ghost use Rattle.std.specs.Prelude.{◌≡◌, ◌≤◌, ◌+◌, ◌*◌, ℕ, List, [], length, drop, map, Ok};
+ghost use Rattle.std.specs.Int.{w16, cast_unsigned};
+ghost use Rattle.nla_frames.specs.Fault.{Gives, seen, read_as};
+ghost use Rattle.nla_frames.specs.Value.{le_bytes};
+ghost use Rattle.nla_frames.specs.Emission.{Writes, HasRoom};
+ghost use Rattle.tc_canon.specs.Layouts.{selector_head, selector_key};
+ghost use Rattle.tc_meaning.specs.Tree.{Scalar};
+ghost use Rattle.tc_meaning.specs.Layout.{read_fields, fields_bytes, SettledFields};
+ghost use Rattle.tc_meaning.specs.Content.{Selector, read_record, read_keys, read_selector, selector_codec};
+ghost use Rattle.tc_records.specs.FilterFlags.{selector_flags_byte};
+ghost use Rattle.tc_records.specs.Selector.{key_scalars, keys_bytes, head_scalars, selector_of, empty_selector};
+
+use crate::filters::u32_flags::TcU32SelectorFlags;
+use crate::split::{skip, split_i16, split_i32, split_u8, split_u16, split_u16_be, split_u32_be};
+use bitflags::Flags;
+use nla_frames::{
+    BytesMeaning, DecodeError, Emitable, Res, i32_bytes, put_bytes, u16_be_bytes, u16_bytes,
+    u32_be_bytes,
+};
+use std::alloc::{Allocator, Global};
+
+/// The bytes of a key.
+pub const TC_U32_KEY_LEN: usize = 16;
+
+/// The bytes of a selector without its keys.
+pub const TC_U32_SELECTOR_LEN: usize = 16;
+
+/// A word of a packet that is compared, `struct tc_u32_key` of `linux/pkt_cls.h`.
+#[derive(Debug, PartialEq, Eq, Clone, Default, Drop)]
+pub struct TcU32Key {
+    /// The bits that are compared, high byte first.
+    pub mask: u32,
+    /// What they are to be, high byte first.
+    pub val: u32,
+    /// Where the word stands, in bytes.
+    pub off: i32,
+    /// The bits of the offset read of the packet that count here.
+    pub offmask: i32,
+}
+
+impl TcU32Key {
+    /// The key that bytes begin with; what follows is dropped.
+    pub fn parse(payload: &[u8]) -> Res<TcU32Key>
+        ensures { seen key_scalars result ≡ read_record selector_key payload.now }
+    {
+        if payload.len() < TC_U32_KEY_LEN {
+            return Err(DecodeError::BufferTooSmall {
+                len: payload.len(),
+                needed: TC_U32_KEY_LEN,
+            });
+        }
+        let (key, _) = split_key(payload);
+        Ok(key)
+    }
+
+    // The bytes of the key.
+    fn to_bytes(&self) -> [u8; TC_U32_KEY_LEN]
+        ensures { result ≡ fields_bytes selector_key (key_scalars self.now) }
+    {
+        let [m0, m1, m2, m3] = u32_be_bytes(self.mask);
+        let [v0, v1, v2, v3] = u32_be_bytes(self.val);
+        let [o0, o1, o2, o3] = i32_bytes(self.off);
+        let [f0, f1, f2, f3] = i32_bytes(self.offmask);
+        [
+            m0, m1, m2, m3, v0, v1, v2, v3, o0, o1, o2, o3, f0, f1, f2, f3,
+        ]
+    }
+}
+
+impl BytesMeaning for TcU32Key {
+    ghost Seen = { List Scalar };
+
+    ghost see = { key_scalars };
+
+    ghost reads = { read_record selector_key };
+
+    ghost bytes = { fields_bytes selector_key };
+
+    ghost Fits = { λ _. Unit {0} };
+
+    ghost Settled = { SettledFields selector_key };
+}
+
+impl Emitable for TcU32Key {
+    fn fits(&self) -> bool {
+        true
+    }
+
+    fn buffer_len(&self) -> usize {
+        TC_U32_KEY_LEN
+    }
+
+    fn emit(&self, buffer: &mut [u8]) {
+        put_bytes(buffer, &self.to_bytes());
+    }
+}
+
+// The key in the first bytes, and what follows it.
+fn split_key(bytes: &[u8]) -> (TcU32Key, &[u8])
+    requires { 16 ≤ length bytes.now }
+    ensures value { key_scalars result.0 ≡ read_fields selector_key bytes.now }
+    ensures rest { result.1.now ≡ drop 16 bytes.now }
+    ensures left { length bytes.now ≡ 16 + length result.1.now }
+{
+    let (mask, rest) = split_u32_be(bytes);
+    let (val, rest) = split_u32_be(rest);
+    let (off, rest) = split_i32(rest);
+    let (offmask, rest) = split_i32(rest);
+    (
+        TcU32Key {
+            mask,
+            val,
+            off,
+            offmask,
+        },
+        rest,
+    )
+}
+
+// So many keys, one after the other.
+fn parse_keys<A: Allocator>(alloc: A, count: u8, bytes: &[u8]) -> Res<Vec<TcU32Key, A>>
+    requires { 16 * count ≤ length bytes.now }
+    ensures { Gives (seen (λ v. map key_scalars v.items) result) (read_as (read_keys count bytes.now)) }
+{
+    let mut keys = Vec::with_capacity(alloc, count as usize)?;
+    let mut left = bytes;
+    for _ in 0..count {
+        let (key, rest) = split_key(left);
+        keys.push(key)?;
+        left = rest;
+    }
+    Ok(keys)
+}
+
+// Writes the keys at the front of the buffer, one after the other.
+fn put_keys(buffer: &mut [u8], keys: &[TcU32Key])
+    requires { HasRoom (keys_bytes (map key_scalars keys.now)) buffer.old }
+    ensures { Writes (keys_bytes (map key_scalars keys.now)) buffer.old buffer.new }
+{
+    let mut at: usize = 0;
+    for key in keys {
+        key.emit(&mut buffer[at..]);
+        at += TC_U32_KEY_LEN;
+    }
+}
+
+/// What a u32 filter compares with a packet, `struct tc_u32_sel` of `linux/pkt_cls.h`. The filter matches where
+/// each of its keys does.
+#[derive(Drop)]
+#[derive_where(Debug, PartialEq, Eq)]
+#[derive_where(Clone; A)]
+pub struct TcU32Selector<A: Allocator = Global> {
+    pub flags: TcU32SelectorFlags,
+    /// How far an offset that is read of the packet is shifted to the right, in bits.
+    pub offshift: u8,
+    /// How many keys there are, which is to be the length of `keys`.
+    pub nkeys: u8,
+    /// The bits of the offset that is read of the packet, high byte first.
+    pub offmask: u16,
+    /// Where the next header stands, in bytes.
+    pub off: u16,
+    /// Where in the packet its offset is read, in bytes.
+    pub offoff: i16,
+    /// Where in the packet the word stands that is hashed, in bytes.
+    pub hoff: i16,
+    /// The bits of that word that are hashed, high byte first.
+    pub hmask: u32,
+    pub keys: Vec<TcU32Key, A>,
+}
+
+impl<A: Allocator> TcU32Selector<A> {
+    /// A selector of no keys, each of its numbers 0.
+    pub fn default_in(alloc: A) -> TcU32Selector<A>
+        ensures { selector_of result ≡ empty_selector }
+    {
+        TcU32Selector {
+            flags: TcU32SelectorFlags::default(),
+            offshift: 0,
+            nkeys: 0,
+            offmask: 0,
+            off: 0,
+            offoff: 0,
+            hoff: 0,
+            hmask: 0,
+            keys: Vec::new(alloc),
+        }
+    }
+
+    /// The selector that bytes begin with, and the keys that it counts; what follows is dropped.
+    pub fn parse(alloc: A, payload: &[u8]) -> Res<TcU32Selector<A>>
+        ensures { Gives (seen selector_of result) (read_selector payload.now) }
+    {
+        if payload.len() < TC_U32_SELECTOR_LEN {
+            return Err(DecodeError::SelectorShort {
+                len: payload.len(),
+                needed: TC_U32_SELECTOR_LEN,
+            });
+        }
+        let (flags, rest) = split_u8(payload);
+        let (offshift, rest) = split_u8(rest);
+        let (nkeys, rest) = split_u8(rest);
+        let (offmask, rest) = split_u16_be(skip(rest, 1));
+        let (off, rest) = split_u16(rest);
+        let (offoff, rest) = split_i16(rest);
+        let (hoff, rest) = split_i16(rest);
+        let (hmask, rest) = split_u32_be(rest);
+        let needed = TC_U32_SELECTOR_LEN + TC_U32_KEY_LEN * nkeys as usize;
+        if payload.len() < needed {
+            return Err(DecodeError::SelectorShort {
+                len: payload.len(),
+                needed,
+            });
+        }
+        let keys = parse_keys(alloc, nkeys, rest)?;
+        Ok(TcU32Selector {
+            flags: TcU32SelectorFlags::from_bits_retain(flags),
+            offshift,
+            nkeys,
+            offmask,
+            off,
+            offoff,
+            hoff,
+            hmask,
+            keys,
+        })
+    }
+
+    /// The bytes of the selector without its keys, its padding zero. `nkeys` stands in them as it is, also where it
+    /// isn't the number of keys.
+    pub fn head_bytes(&self) -> [u8; TC_U32_SELECTOR_LEN]
+        ensures { result ≡ fields_bytes selector_head (head_scalars self.now) }
+    {
+        let [f] = flags_bytes(self.flags);
+        let [s] = u8_bytes(self.offshift);
+        let [n] = u8_bytes(self.nkeys);
+        let [m0, m1] = u16_be_bytes(self.offmask);
+        let [o0, o1] = u16_bytes(self.off);
+        let [p0, p1] = i16_bytes(self.offoff);
+        let [h0, h1] = i16_bytes(self.hoff);
+        let [k0, k1, k2, k3] = u32_be_bytes(self.hmask);
+        [f, s, n, 0, m0, m1, o0, o1, p0, p1, h0, h1, k0, k1, k2, k3]
+    }
+}
+
+// The byte of the flags.
+fn flags_bytes(flags: TcU32SelectorFlags) -> [u8; 1]
+    ensures { result ≡ le_bytes 1 (selector_flags_byte flags) }
+{
+    u8_bytes(flags.bits())
+}
+
+// The byte of a number.
+fn u8_bytes(value: u8) -> [u8; 1]
+    ensures { result ≡ le_bytes 1 value }
+{
+    [value]
+}
+
+// The two bytes of a signed number, the low byte first.
+fn i16_bytes(value: i16) -> [u8; 2]
+    ensures { result ≡ le_bytes 2 (cast_unsigned w16 value) }
+{
+    i16::to_le_bytes(value)
+}
+
+impl<A: Allocator> BytesMeaning for TcU32Selector<A> {
+    ghost Seen = { Selector };
+
+    ghost see = { selector_of };
+
+    ghost reads = { read_selector };
+
+    ghost bytes = { selector_codec.write };
+
+    ghost Fits = { selector_codec.Fits };
+
+    ghost Settled = { λ _. Unit {0} };
+}
+
+impl<A: Allocator> Emitable for TcU32Selector<A> {
+    fn fits(&self) -> bool {
+        self.nkeys as usize == self.keys.len()
+    }
+
+    fn buffer_len(&self) -> usize {
+        TC_U32_SELECTOR_LEN + TC_U32_KEY_LEN * self.nkeys as usize
+    }
+
+    fn emit(&self, buffer: &mut [u8]) {
+        put_keys(&mut buffer[TC_U32_SELECTOR_LEN..], &self.keys);
+        put_bytes(buffer, &self.head_bytes());
+    }
+}
