@@ -17,3 +17,14 @@ pub mod MessageReading
 pub mod Trees
 pub mod FitTests
 pub mod WorkedRows
+pub mod TrailingNuls
+pub mod CutLaws
+pub mod NextValues
+pub mod NextLists
+pub mod NextRows
+pub mod NextKinds
+pub mod NextTables
+pub mod NoWarnings
+pub mod NextMessages
+pub mod Settling
+pub mod RewritingLaws

@@ -8,3 +8,6 @@ pub mod Sound
 pub mod Message
 pub mod Whole
 pub mod Short
+pub mod Loose
+pub mod Norm
+pub mod Rewriting

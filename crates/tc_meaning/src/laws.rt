@@ -22,6 +22,8 @@ ghost use Rattle.tc_meaning.specs.Whole.{ReadsTc, FaultTc, read_tc, tc_bytes, Ty
 
 use nla_frames::FrameMeaning;
 
+pub mod rewriting;
+
 /// A traffic control message. Reading its bytes gives a message exactly if the grammar reads it so, and a fault
 /// exactly if that is the grammar's, which is never want of memory. A message that fits is written as bytes that
 /// read as it exactly if it is settled; bytes that read as a message that fits are its bytes exactly if they are
