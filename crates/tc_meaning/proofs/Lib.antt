@@ -28,3 +28,4 @@ pub mod NoWarnings
 pub mod NextMessages
 pub mod Settling
 pub mod RewritingLaws
+pub mod WorkedRewrites

@@ -11,7 +11,7 @@ use Rattle.tc_canon.specs.Canonical.{CanonTc, CanonAct}
 use Rattle.tc_meaning.specs.Tree.{Attribute}
 use Rattle.tc_meaning.specs.Own.{kind_of_frame, kind_of_attribute}
 use Rattle.tc_meaning.specs.Message.{Message, ReadsWith, read_with, message_bytes, FitsMessage, TypedMessage, SettledWith, message_codec}
-use Rattle.tc_meaning.specs.Whole.{ReadsTc, FitsTc}
+use Rattle.tc_meaning.specs.Whole.{ReadsTc, tc_bytes, FitsTc}
 use Rattle.tc_meaning.specs.Loose.{message_parts, is_loose, nuls}
 use Rattle.tc_meaning.specs.Norm.{next, norm, norm_tc}
 use Rattle.tc_meaning.specs.Rewriting.{RewritesWith, SettlesAs, SettlesIn, TcSettlesIn}
@@ -23,7 +23,7 @@ use Rattle.tc_meaning.proofs.NoWarnings.{tc_whole}
 use Rattle.tc_meaning.proofs.NextValues.{NextLaws}
 use Rattle.tc_meaning.proofs.NextTables.{same_kind}
 use Rattle.tc_meaning.proofs.NextMessages.{message_next}
-use Rattle.tc_meaning.proofs.Settling.{none_loose, IsRead, canon-norm, norm-typed, norm-fits, norm-settled, rewrites-once, settles, settles-as, same-settled}
+use Rattle.tc_meaning.proofs.Settling.{none_loose, IsRead, canon-norm, canon-whole, is_read-next, norm-typed, norm-fits, norm-settled, rewrites-once, settles, settles-as, same-settled}
 
 -- the same laws, canonical said in other words
 in_words : (c : Codec (List ℕ) Message) (Canon Other : List ℕ → Type 0) → ((bytes : List ℕ) → Canon bytes ↔ Other bytes) → Laws IsWireBytes c (λ kind bytes. Canon bytes) → Laws IsWireBytes c (λ kind bytes. Other bytes)
@@ -64,6 +64,15 @@ module _ (by_frame : Sets Frame) (by_value : Sets Attribute) (layout : List Fiel
 
   pub settled-norm : (bytes : List ℕ) → IsWireBytes bytes → (m : Message) → ReadsWith by_frame layout rows bytes m → FitsMessage layout rows m → SettledWith layout rows by_value (norm rows m)
   settled-norm bytes w m g f = norm-settled (message_codec by_frame by_value layout rows) Canon laws (next rows) (norm rows) (message_parts rows) r (message_cuts rows) bytes m (is_read bytes m w g f)
+
+  -- one rewrite
+  pub next-read : (bytes : List ℕ) → IsWireBytes bytes → (m : Message) → ReadsWith by_frame layout rows bytes m → FitsMessage layout rows m → ReadsWith by_frame layout rows (message_bytes layout rows m) (next rows m)
+  next-read bytes w m g f =
+      let there = is_read-next (message_codec by_frame by_value layout rows) Canon laws (next rows) (norm rows) (message_parts rows) r (message_cuts rows) bytes m (is_read bytes m w g f) in
+      (reads-is (message_bytes layout rows m) (next rows m) there.wire).0 there.reads
+
+  pub canonical-next : (bytes : List ℕ) → IsWireBytes bytes → (m : Message) → ReadsWith by_frame layout rows bytes m → FitsMessage layout rows m → Canon (message_bytes layout rows m) ↔ (nuls rows m ≡ 0)
+  canonical-next bytes w m g f = canon-whole (message_codec by_frame by_value layout rows) Canon laws (next rows) (norm rows) (message_parts rows) r (message_cuts rows) bytes m (is_read bytes m w g f)
 
   pub canonical-norm : (bytes : List ℕ) → IsWireBytes bytes → (m : Message) → ReadsWith by_frame layout rows bytes m → FitsMessage layout rows m → Canon bytes → norm rows m ≡ m
   canonical-norm bytes w m g f h = canon-norm (message_codec by_frame by_value layout rows) Canon laws (next rows) (norm rows) (message_parts rows) r (message_cuts rows) bytes m (is_read bytes m w g f) h
@@ -117,3 +126,11 @@ pub tc-settles : (bytes : List ℕ) → IsWireBytes bytes → (m : Message) → 
 tc-settles bytes w m g f not =
     let one : nuls attributes m + 1 ≡ 1 = let none = tc_nuls m in omega (arith, none) in
     subst (λ (n : ℕ). TcSettlesIn n bytes (norm_tc m)) one (settles-in kind_of_frame kind_of_attribute tc_header attributes CanonTc tc_words tc_next bytes w m g f not)
+
+-- and what is written of it is canonical, and reads as its norm
+pub tc-written : (bytes : List ℕ) → IsWireBytes bytes → (m : Message) → ReadsTc bytes m → FitsTc m → CanonTc (tc_bytes m)
+tc-written bytes w m g f = (canonical-next kind_of_frame kind_of_attribute tc_header attributes CanonTc tc_words tc_next bytes w m g f).1 (tc_nuls m)
+
+pub tc-written_norm : (bytes : List ℕ) → IsWireBytes bytes → (m : Message) → ReadsTc bytes m → FitsTc m → ReadsTc (tc_bytes m) (norm_tc m)
+tc-written_norm bytes w m g f =
+    subst (ReadsTc (tc_bytes m)) ((message_cuts attributes).once m (tc_whole m)) (next-read kind_of_frame kind_of_attribute tc_header attributes CanonTc tc_words tc_next bytes w m g f)

@@ -42,7 +42,7 @@ module _ (c : Codec (List ℕ) Message) (Canon : List ℕ → Type 0) (laws : La
   typed bytes m is = laws.typed [] bytes m is.wire is.reads
 
   -- so do the bytes of that message, as the next one
-  is_read-next : (bytes : List ℕ) (m : Message) → IsRead bytes m → IsRead (c.write m) (next m)
+  pub is_read-next : (bytes : List ℕ) (m : Message) → IsRead bytes m → IsRead (c.write m) (next m)
   is_read-next bytes m is = record {
     wire = laws.makes m (typed bytes m is) is.fits;
     reads = r.again [] bytes m is.wire is.reads is.fits;
@@ -65,7 +65,7 @@ module _ (c : Codec (List ℕ) Message) (Canon : List ℕ → Type 0) (laws : La
   norm-after m (suc n) = cuts.twice (after m n) ∙ norm-after m n
 
   -- written bytes are canonical exactly if no warning ends in NUL
-  canon-whole : (bytes : List ℕ) (m : Message) → IsRead bytes m → Canon (c.write m) ↔ (most (parts m) ≡ 0)
+  pub canon-whole : (bytes : List ℕ) (m : Message) → IsRead bytes m → Canon (c.write m) ↔ (most (parts m) ≡ 0)
   canon-whole bytes m is =
       let there = is_read-next bytes m is in
       let law = laws.same [] (c.write m) (next m) there.wire there.reads there.fits in (

@@ -27,35 +27,35 @@ use Rattle.tc_meaning.specs.Whole.{read_tc, tc_bytes, read_act, act_bytes}
 abbrev digit : ℕ → ℕ
 digit c = if nat_lt c 58 then c % 16 else c % 16 + 9
 
-abbrev hex : List ℕ → List ℕ
+abbrev pub hex : List ℕ → List ℕ
 hex (high ∷ low ∷ text) = (16 * digit high + digit low) ∷ hex text
 hex _ = []
 
 -- a message whose header is zero
-abbrev tc : List Attribute → Message
+abbrev pub tc : List Attribute → Message
 tc body = record { header = plain 0 ∷ blank ∷ plain 0 ∷ plain 0 ∷ plain 0 ∷ plain 0 ∷ []; body = body }
 
-abbrev tc_of : List ℕ → List ℕ
+abbrev pub tc_of : List ℕ → List ℕ
 tc_of text = hex (codes "0000000000000000000000000000000000000000") ++ hex text
 
-abbrev act : List Attribute → Message
+abbrev pub act : List Attribute → Message
 act body = record { header = plain 0 ∷ blank ∷ []; body = body }
 
-abbrev act_of : List ℕ → List ℕ
+abbrev pub act_of : List ℕ → List ℕ
 act_of text = hex (codes "00000000") ++ hex text
 
-abbrev the_kind : List ℕ → Attribute
+abbrev pub the_kind : List ℕ → Attribute
 the_kind name = known 1 (is_bytes name)
 
-abbrev a_list : ℕ → List Attribute → Attribute
+abbrev pub a_list : ℕ → List Attribute → Attribute
 a_list n xs = known n (items (attributes_of xs))
 
 -- one option of a kind
-abbrev one_option : List ℕ → ℕ → Content → Attribute
+abbrev pub one_option : List ℕ → ℕ → Content → Attribute
 one_option name n content = a_list 2 (of_kind name (known n content) ∷ [])
 
 -- a text of ASCII is UTF-8
-abbrev below_128 : List ℕ → Bool
+abbrev pub below_128 : List ℕ → Bool
 below_128 [] = true
 below_128 (b ∷ bs) = ltb b 128 && below_128 bs
 
@@ -67,7 +67,7 @@ each_below : (text : List ℕ) → below_128 text ≡ true → AllByRecursion (�
 each_below [] e = tt
 each_below (b ∷ bs) e = let h = both (ltb b 128) (below_128 bs) e in (ltb-true b 128 h.0, each_below bs h.1)
 
-utf8 : (text : List ℕ) → below_128 text ≡ true → is_utf8 text ≡ true
+pub utf8 : (text : List ℕ) → below_128 text ≡ true → is_utf8 text ≡ true
 utf8 text e = is_utf8-from_IsUtf8 text (IsUtf8-from_ascii text (IsAscii-from_all text (All-from_recursion (λ b. b < 128) text (each_below text e))))
 
 -- ---- kinds and options

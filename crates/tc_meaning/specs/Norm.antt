@@ -72,3 +72,6 @@ norm_tc = norm attributes
 
 abbrev pub norm_act : Message → Message
 norm_act = norm action_message_attributes
+
+abbrev pub next_act : Message → Message
+next_act = next action_message_attributes

@@ -1,11 +1,11 @@
 //! The laws of rewriting, reading bytes and writing what was read, as contracts of functions that do nothing.
 
-ghost use Rattle.std.specs.Prelude.{◌≡◌, ◌↔◌, List, ℕ, ◌+◌, false};
+ghost use Rattle.std.specs.Prelude.{◌≡◌, ◌↔◌, List, ℕ, ◌+◌, ◌-◌, false};
 ghost use Rattle.tc_canon.specs.Canonical.{CanonTc, CanonAct};
 ghost use Rattle.tc_meaning.specs.Message.{Message};
 ghost use Rattle.tc_meaning.specs.Whole.{ReadsTc, tc_bytes, TypedTc, FitsTc, SettledTc, ReadsAct, act_bytes, TypedAct, FitsAct, SettledAct};
 ghost use Rattle.tc_meaning.specs.Loose.{is_loose_tc, is_loose_act, nuls_act};
-ghost use Rattle.tc_meaning.specs.Norm.{norm_tc, norm_act};
+ghost use Rattle.tc_meaning.specs.Norm.{norm_tc, norm_act, next_act};
 ghost use Rattle.tc_meaning.specs.Rewriting.{RewritesTc, RewritesAct, SettlesAs, TcSettlesIn, ActSettlesIn};
 
 /// Bytes that read as a traffic control message. It is unsettled exactly if it is loose. Its norm can be written and
@@ -17,6 +17,8 @@ pub fn tc_rewriting(bytes: &[u8])
     ensures norm_fits { (m : Message) → ReadsTc bytes.now m → FitsTc m → FitsTc (norm_tc m) }
     ensures norm_settled { (m : Message) → ReadsTc bytes.now m → FitsTc m → SettledTc (norm_tc m) }
     ensures canonical { (m : Message) → ReadsTc bytes.now m → FitsTc m → CanonTc bytes.now → norm_tc m ≡ m }
+    ensures written { (m : Message) → ReadsTc bytes.now m → FitsTc m → CanonTc (tc_bytes m) }
+    ensures written_norm { (m : Message) → ReadsTc bytes.now m → FitsTc m → ReadsTc (tc_bytes m) (norm_tc m) }
     ensures one_way { (c d : List ℕ) → RewritesTc bytes.now c → RewritesTc bytes.now d → c ≡ d }
     ensures settles { (m : Message) → ReadsTc bytes.now m → FitsTc m → (CanonTc bytes.now → ⊥) → TcSettlesIn 1 bytes.now (norm_tc m) }
     ensures last { (m : Message) → ReadsTc bytes.now m → FitsTc m → (c : List ℕ) × SettlesAs RewritesTc CanonTc bytes.now c × ReadsTc c (norm_tc m) }
@@ -33,6 +35,17 @@ pub fn action_rewriting(bytes: &[u8])
     ensures one_way { (c d : List ℕ) → RewritesAct bytes.now c → RewritesAct bytes.now d → c ≡ d }
     ensures settles { (m : Message) → ReadsAct bytes.now m → FitsAct m → (CanonAct bytes.now → ⊥) → ActSettlesIn (nuls_act m + 1) bytes.now (norm_act m) }
     ensures last { (m : Message) → ReadsAct bytes.now m → FitsAct m → (c : List ℕ) × SettlesAs RewritesAct CanonAct bytes.now c × ReadsAct c (norm_act m) }
+{}
+
+/// One rewrite of an action message: its bytes read as the message with one NUL less at the end of each warning. They
+/// are canonical exactly if there was none.
+pub fn action_step(bytes: &[u8])
+    ensures reads { (m : Message) → ReadsAct bytes.now m → FitsAct m → ReadsAct (act_bytes m) (next_act m) }
+    ensures fits { (m : Message) → FitsAct m → FitsAct (next_act m) }
+    ensures typed { (m : Message) → TypedAct m → TypedAct (next_act m) }
+    ensures nuls { (m : Message) → nuls_act (next_act m) ≡ nuls_act m - 1 }
+    ensures norm { (m : Message) → norm_act (next_act m) ≡ norm_act m }
+    ensures canonical { (m : Message) → ReadsAct bytes.now m → FitsAct m → CanonAct (act_bytes m) ↔ (nuls_act m ≡ 0) }
 {}
 
 /// Two byte lists become the same canonical bytes by rewriting exactly if their readings have the same norm.

@@ -5,7 +5,7 @@ use Rattle.tc_canon.specs.Tables.Messages.{attributes}
 use Rattle.tc_canon.specs.Canonical.{CanonTc}
 use Rattle.tc_meaning.specs.Own.{kind_of_frame, kind_of_attribute}
 use Rattle.tc_meaning.proofs.Headline.{wire_slice}
-use Rattle.tc_meaning.proofs.RewritingLaws.{loose, typed-norm, fits-norm, settled-norm, canonical-norm, one-way, tc-settles, final-norm, tc_words, tc_next}
+use Rattle.tc_meaning.proofs.RewritingLaws.{loose, typed-norm, fits-norm, settled-norm, canonical-norm, one-way, tc-settles, tc-written, tc-written_norm, final-norm, tc_words, tc_next}
 use Rattle.tc_meaning.proofs.laws.rewriting.tc_rewriting.Goals as goal
 
 wire : (c : goal.Start) → IsWireBytes c.args.bytes.now
@@ -34,3 +34,9 @@ returns-clause-settles c = tc-settles c.args.bytes.now (wire c)
 
 pub returns-clause-last : goal.returns-clause-last
 returns-clause-last c = final-norm kind_of_frame kind_of_attribute tc_header attributes CanonTc tc_words tc_next c.args.bytes.now (wire c)
+
+pub returns-clause-written : goal.returns-clause-written
+returns-clause-written c = tc-written c.args.bytes.now (wire c)
+
+pub returns-clause-written_norm : goal.returns-clause-written_norm
+returns-clause-written_norm c = tc-written_norm c.args.bytes.now (wire c)
