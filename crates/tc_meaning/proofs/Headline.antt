@@ -110,11 +110,11 @@ canon-places Canon sets first bytes = (from, to)
 -- ---- the two messages
 
 -- the tables pass their tests
-sound_attributes : is_sound_rows attributes ≡ true
+pub sound_attributes : is_sound_rows attributes ≡ true
 sound_attributes = refl
 
 -- the same of an action message
-sound_actions : is_sound_rows action_message_attributes ≡ true
+pub sound_actions : is_sound_rows action_message_attributes ≡ true
 sound_actions = refl
 
 -- a frame and what it reads as set the same kind

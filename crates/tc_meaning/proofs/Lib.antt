@@ -23,3 +23,15 @@ pub mod UpgradeLaws
 pub mod FirstVersionLaws
 pub mod WorkedRows
 pub mod UpgradeRows
+pub mod TrailingNuls
+pub mod CutLaws
+pub mod NextValues
+pub mod NextLists
+pub mod NextRows
+pub mod NextKinds
+pub mod NextTables
+pub mod NoWarnings
+pub mod NextMessages
+pub mod Settling
+pub mod RewritingLaws
+pub mod WorkedRewrites

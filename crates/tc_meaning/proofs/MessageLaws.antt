@@ -109,21 +109,21 @@ module _ (by_frame : Sets Frame) (by_value : Sets Attribute) (layout : List Fiel
     (laws : Laws IsWireFrame (table_codec (table rows)) (CanonTable (table rows)))
     (agree : (kind : List ℕ) (f : Frame) (x : Attribute) → IsWireFrame f → (table_codec (table rows)).read kind f ≡ Ok x → by_frame f ≡ by_value x) where
   -- the laws of the body
-  body_laws : Laws IsWireBytes (list_codec by_frame by_value (table_codec (table rows))) (λ kind bytes. IsCanonList (CanonTable (table rows)) by_frame kind bytes)
+  pub body_laws : Laws IsWireBytes (list_codec by_frame by_value (table_codec (table rows))) (λ kind bytes. IsCanonList (CanonTable (table rows)) by_frame kind bytes)
   body_laws = list_laws (table_codec (table rows)) (CanonTable (table rows)) laws by_frame by_value agree
 
-  wire-body : (bytes : List ℕ) → IsWireBytes bytes → IsWireBytes (drop (size_of layout) bytes)
+  pub wire-body : (bytes : List ℕ) → IsWireBytes bytes → IsWireBytes (drop (size_of layout) bytes)
   wire-body bytes w = record { are_bytes = IsBytes-drop (size_of layout) bytes w.are_bytes; long = rw length-drop (omega (arith, w.long)) }
 
-  front-message : (m : Message) → TypedMessage layout rows m → take (size_of layout) (message_bytes layout rows m) ≡ fields_bytes layout m.header
+  pub front-message : (m : Message) → TypedMessage layout rows m → take (size_of layout) (message_bytes layout rows m) ≡ fields_bytes layout m.header
   unfolding message_bytes
   front-message m t = take_at (fields_bytes layout m.header) _ (size_of layout) (length-fields_bytes layout m.header t.header)
 
-  rest-message : (m : Message) → TypedMessage layout rows m → drop (size_of layout) (message_bytes layout rows m) ≡ list_bytes (table_codec (table rows)).write m.body
+  pub rest-message : (m : Message) → TypedMessage layout rows m → drop (size_of layout) (message_bytes layout rows m) ≡ list_bytes (table_codec (table rows)).write m.body
   unfolding message_bytes
   rest-message m t = drop_at (fields_bytes layout m.header) _ (size_of layout) (length-fields_bytes layout m.header t.header)
 
-  length-message : (m : Message) → TypedMessage layout rows m → length (message_bytes layout rows m) ≡ size_of layout + length (list_bytes (table_codec (table rows)).write m.body)
+  pub length-message : (m : Message) → TypedMessage layout rows m → length (message_bytes layout rows m) ≡ size_of layout + length (list_bytes (table_codec (table rows)).write m.body)
   unfolding message_bytes
   length-message m t = rw (length-append, length-fields_bytes layout m.header t.header) refl
 
@@ -134,14 +134,14 @@ module _ (by_frame : Sets Frame) (by_value : Sets Attribute) (layout : List Fiel
       are_bytes : IsBytes (message_bytes layout rows m)
       are_bytes = IsBytes-append (fields_bytes layout m.header) _ (IsBytes-fields_bytes layout m.header t.header) (body_laws.makes m.body t.body f.body).are_bytes
 
-  typed-read : (bytes : List ℕ) (m : Message) → IsWireBytes bytes → IsRead by_frame layout rows bytes m → TypedMessage layout rows m
+  pub typed-read : (bytes : List ℕ) (m : Message) → IsWireBytes bytes → IsRead by_frame layout rows bytes m → TypedMessage layout rows m
   typed-read bytes m w is = record {
     header = subst (TypedFields layout) is.header (typed-fields layout (take (size_of layout) bytes) (IsBytes-take (size_of layout) bytes w.are_bytes) (rw (length-take-le (size_of layout) bytes is.long) (omega arith)));
     body = body_laws.typed [] (drop (size_of layout) bytes) m.body (wire-body bytes w) is.body;
   }
 
   -- a header in front of nothing reads back exactly if it is settled
-  header-back : (xs : List Scalar) → TypedFields layout xs → (read_fields layout (fields_bytes layout xs) ≡ xs) ↔ SettledFields layout xs
+  pub header-back : (xs : List Scalar) → TypedFields layout xs → (read_fields layout (fields_bytes layout xs) ≡ xs) ↔ SettledFields layout xs
   header-back xs t =
       let law = back-fields layout xs [] t in
       let same = ap (read_fields layout) (append-nil (fields_bytes layout xs)) in

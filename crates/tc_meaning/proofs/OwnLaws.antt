@@ -67,12 +67,12 @@ only_kind-ok (a ∷ b ∷ kinds) kind e = absurd cc
 
 module _ (c : Codec Frame Attribute) where
   -- what was read under the kind that its frames tell
-  record IsOwn (bytes : List ℕ) (xs : List Attribute) : Type 0 where
-    own : List ℕ
-    tells : kinds_told (cut bytes).frames ≡ own ∷ []
-    is_read : read_list c.read keep own bytes ≡ Ok xs
+  pub record IsOwn (bytes : List ℕ) (xs : List Attribute) : Type 0 where
+    pub own : List ℕ
+    pub tells : kinds_told (cut bytes).frames ≡ own ∷ []
+    pub is_read : read_list c.read keep own bytes ≡ Ok xs
 
-  read_own-ok : (bytes : List ℕ) (xs : List Attribute) → read_own c.read bytes ≡ Ok xs → IsOwn bytes xs
+  pub read_own-ok : (bytes : List ℕ) (xs : List Attribute) → read_own c.read bytes ≡ Ok xs → IsOwn bytes xs
   unfolding read_own
   read_own-ok bytes xs e =
       let r = then-ok (read_kinds (items_of (cut bytes)) >>= only_kind) (λ kind. read_list c.read keep kind bytes) xs e in
@@ -103,11 +103,11 @@ module _ (c : Codec Frame Attribute) where
     kinds-each k (f ∷ fs) (x ∷ xs) turn = ap₂ kind_before (tells.agree k f x turn.0) (kinds-each k fs xs turn.1)
 
     -- the kind of a list of which each value was read
-    told-set : (k bytes : List ℕ) (xs : List Attribute) → read_list c.read keep k bytes ≡ Ok xs → kinds_told (cut bytes).frames ≡ kinds_set kind_of_attribute xs
+    pub told-set : (k bytes : List ℕ) (xs : List Attribute) → read_list c.read keep k bytes ≡ Ok xs → kinds_told (cut bytes).frames ≡ kinds_set kind_of_attribute xs
     told-set k bytes xs e = kinds_told-set (cut bytes).frames ∙ kinds-each k (cut bytes).frames xs (ReadInTurn-read_list c.read keep k bytes xs e).1
 
     -- a list that is read under the one kind that its frames tell
-    read_own-is : (k bytes : List ℕ) (xs : List Attribute) → read_list c.read keep k bytes ≡ Ok xs → kinds_told (cut bytes).frames ≡ k ∷ [] → read_own c.read bytes ≡ Ok xs
+    pub read_own-is : (k bytes : List ℕ) (xs : List Attribute) → read_list c.read keep k bytes ≡ Ok xs → kinds_told (cut bytes).frames ≡ k ∷ [] → read_own c.read bytes ≡ Ok xs
     unfolding read_own
     read_own-is k bytes xs e told =
         let turn = ReadInTurn-read_list c.read keep k bytes xs e in
@@ -122,7 +122,7 @@ module _ (c : Codec Frame Attribute) where
       of_list = list_laws c Canon laws keep keep (λ kind f x w e. refl)
 
       -- settled one by one, or all
-      settled-all : (k : List ℕ) (xs : List Attribute) → SettledEach c.Settled keep k xs ↔ AllByRecursion (c.Settled k) xs
+      pub settled-all : (k : List ℕ) (xs : List Attribute) → SettledEach c.Settled keep k xs ↔ AllByRecursion (c.Settled k) xs
       settled-all k [] = (λ s. tt, λ s. tt)
       settled-all k (x ∷ xs) = let others = settled-all k xs in (λ s. (s.0, others.0 s.1), λ s. (s.0, others.1 s.1))
 

@@ -68,11 +68,11 @@ canon-free n (options m kinds rows) free k f =
     rw (not-true (eqb n m) p.0) (canon-free n rows p.1 k f)
 
 -- the word of a row
-record IsWord (flags n : ℕ) : Type 0 where
-  small : flags + n < 2 ^ 16
-  under : type_of (flags + n) ≡ n
+pub record IsWord (flags n : ℕ) : Type 0 where
+  pub small : flags + n < 2 ^ 16
+  pub under : type_of (flags + n) ≡ n
 
-row_word : (first last flags n : ℕ) → is_type last ≡ true → are_flags flags ≡ true → is_within first last n ≡ true → IsWord flags n
+pub row_word : (first last flags n : ℕ) → is_type last ≡ true → are_flags flags ≡ true → is_within first last n ≡ true → IsWord flags n
 row_word first last flags n l fl within =
     let below = ltb-true last 0x4000 l in
     let p = and_parts (eqb (flags % 0x4000) 0) _ fl in
@@ -82,12 +82,12 @@ row_word first last flags n l fl within =
     record { small = omega arith; under = omega arith }
 
 -- a type as a word
-type_word : (n : ℕ) → is_type n ≡ true → (n < 2 ^ 16) × (type_of n ≡ n)
+pub type_word : (n : ℕ) → is_type n ≡ true → (n < 2 ^ 16) × (type_of n ≡ n)
 type_word n e = let below = ltb-true n 0x4000 e in (omega arith, omega arith)
 
 -- ---- the kind that attributes tell
 
-not_kind : (x : Attribute) → (number_of x ≡ 1 → ⊥) → kind_of_attribute x ≡ None
+pub not_kind : (x : Attribute) → (number_of x ≡ 1 → ⊥) → kind_of_attribute x ≡ None
 not_kind (known zero content) far = refl
 not_kind (known (suc zero) content) far = absurd (far refl)
 not_kind (known (suc (suc n)) content) far = refl

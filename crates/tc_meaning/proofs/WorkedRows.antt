@@ -38,10 +38,10 @@ tc body = record { header = plain 0 ∷ blank ∷ plain 0 ∷ plain 0 ∷ plain 
 abbrev pub tc_of : List ℕ → List ℕ
 tc_of text = hex (codes "0000000000000000000000000000000000000000") ++ hex text
 
-abbrev act : List Attribute → Message
+abbrev pub act : List Attribute → Message
 act body = record { header = plain 0 ∷ blank ∷ []; body = body }
 
-abbrev act_of : List ℕ → List ℕ
+abbrev pub act_of : List ℕ → List ℕ
 act_of text = hex (codes "00000000") ++ hex text
 
 abbrev pub the_kind : List ℕ → Attribute
@@ -55,7 +55,7 @@ abbrev pub one_option : List ℕ → ℕ → Content → Attribute
 one_option name n content = a_list 2 (of_kind name (known n content) ∷ [])
 
 -- a text of ASCII is UTF-8
-abbrev below_128 : List ℕ → Bool
+abbrev pub below_128 : List ℕ → Bool
 below_128 [] = true
 below_128 (b ∷ bs) = ltb b 128 && below_128 bs
 

@@ -11,3 +11,6 @@ pub mod Order
 pub mod Unknown
 pub mod Short
 pub mod FirstVersion
+pub mod Loose
+pub mod Norm
+pub mod Rewriting

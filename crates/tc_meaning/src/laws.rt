@@ -23,6 +23,7 @@ ghost use Rattle.tc_meaning.specs.Whole.{ReadsTc, FaultTc, read_tc, tc_bytes, Ty
 use nla_frames::FrameMeaning;
 
 pub mod places;
+pub mod rewriting;
 pub mod versions;
 
 /// A traffic control message. Reading its bytes gives a message exactly if the grammar reads it so, and a fault
