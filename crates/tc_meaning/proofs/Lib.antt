@@ -29,3 +29,4 @@ pub mod NextMessages
 pub mod Settling
 pub mod RewritingLaws
 pub mod WorkedRewrites
+pub mod NormTables

@@ -23,7 +23,7 @@ of_row next = in_known (λ n. next)
 abbrev pub row_parts : (Content → List Part) → Attribute → List Part
 row_parts parts = parts_in_known (λ n. parts)
 
-wire_value : (f : Frame) → IsWireFrame f → IsWireValue f.value
+pub wire_value : (f : Frame) → IsWireFrame f → IsWireValue f.value
 wire_value f w = record { are_bytes = w.bytes; short = w.frame.value }
 
 -- what rewriting makes of what stands in a row at the type n

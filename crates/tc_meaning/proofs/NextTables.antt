@@ -46,13 +46,13 @@ settled-read (f ∷ fs) v = (one f (take (width f) v), settled-read fs (drop (wi
         go true e = tt
         go false e = e
 
-settled-presence : (k v : List ℕ) (x : Content) → (class_codec presence).read k v ≡ Ok x → (class_codec presence).Settled k x
+pub settled-presence : (k v : List ℕ) (x : Content) → (class_codec presence).read k v ≡ Ok x → (class_codec presence).Settled k x
 settled-presence k v x e = let q = seen-ok flag (read_as true) x e in ap a_flag.out (sym q.2) ∙ is q.0 q.1
   where
     is : (b : Bool) → ◌≡◌ {A = Outcome Bool} (read_as true) (read_as b) → b ≡ true
     is b e = cc
 
-settled-record : (layout : List Field) (k v : List ℕ) (x : Content) → (class_codec (fields layout)).read k v ≡ Ok x → SettledFields layout (a_record.out x)
+pub settled-record : (layout : List Field) (k v : List ℕ) (x : Content) → (class_codec (fields layout)).read k v ≡ Ok x → SettledFields layout (a_record.out x)
 settled-record layout k v x e =
     let q = seen-ok record_of (read_record layout v) x e in
     let r = read_record-ok layout v q.0 q.1 in
@@ -69,7 +69,7 @@ settled-statistics (suc (suc n)) k after value x fq long number e =
     let is : unknown_statistics value ≡ x = cc in
     subst (xstats_codec.Settled k) is (fq, long, omega arith)
 
-settled-xstats : (k v : List ℕ) (x : Content) → read_xstats k v ≡ Ok x → xstats_codec.Settled k x
+pub settled-xstats : (k v : List ℕ) (x : Content) → read_xstats k v ≡ Ok x → xstats_codec.Settled k x
 settled-xstats k v x e = go (is_fq_codel k) refl e
   where
     go : (b : Bool) → is_fq_codel k ≡ b → cond b (cond (ltb (length v) 4) (Err (XstatsShort (length v))) (read_statistics (le_value (take 4 v)) (drop 4 v) v)) (read_as (is_bytes v)) ≡ Ok x → xstats_codec.Settled k x
@@ -82,14 +82,14 @@ settled-xstats k v x e = go (is_fq_codel k) refl e
 
 -- ---- the kind that an attribute sets is the same afterwards
 
-pub same_kind : (rows : Rows) → starts_with_kind rows ≡ true → (x : Attribute) → kind_of_attribute (in_known (rows_cut strip rows) x) ≡ kind_of_attribute x
-same_kind (types first last flags text rows) starts (known zero content) = refl
-same_kind (types first last flags text rows) starts (known (suc zero) content) = rw starts refl
-same_kind (types first last flags text rows) starts (known (suc (suc n)) content) = refl
-same_kind (types first last flags text rows) starts (kept n word value) = refl
-same_kind (types first last flags text rows) starts (other word value) = refl
-same_kind (types first last flags text rows) starts (of_kind name x) = refl
-same_kind _ starts x = absurd cc
+pub same_kind : (change : List ℕ → List ℕ) (rows : Rows) → starts_with_kind rows ≡ true → (x : Attribute) → kind_of_attribute (in_known (rows_cut change rows) x) ≡ kind_of_attribute x
+same_kind change (types first last flags text rows) starts (known zero content) = refl
+same_kind change (types first last flags text rows) starts (known (suc zero) content) = rw starts refl
+same_kind change (types first last flags text rows) starts (known (suc (suc n)) content) = refl
+same_kind change (types first last flags text rows) starts (kept n word value) = refl
+same_kind change (types first last flags text rows) starts (other word value) = refl
+same_kind change (types first last flags text rows) starts (of_kind name x) = refl
+same_kind change _ starts x = absurd cc
 
 -- ---- everything
 
@@ -116,7 +116,7 @@ mutual
       next_items (own_codec (by_type (rows_codec rows))) (map (in_known (rows_cut strip rows))) (flat_map (parts_in_known (rows_parts rows)))
       (next_own (by_type (rows_codec rows)) (λ k f. CanonRows rows (type_of f.word) k f) (by_type_laws (rows_codec rows) (CanonRows rows) (λ n. rows_laws rows s.1 n))
       (tells_rows rows s.0 (λ n. rows_laws rows s.1 n)) (in_known (rows_cut strip rows)) (parts_in_known (rows_parts rows))
-      (by_type_next (rows_codec rows) (CanonRows rows) (λ n. rows_laws rows s.1 n) (rows_cut strip rows) (rows_parts rows) (λ n. rows_next rows s.1 n)) (same_kind rows s.0))
+      (by_type_next (rows_codec rows) (CanonRows rows) (λ n. rows_laws rows s.1 n) (rows_cut strip rows) (rows_parts rows) (λ n. rows_next rows s.1 n)) (same_kind strip rows s.0))
 
   pub table_next : (t : Table) → is_sound_table t ≡ true → NextLaws IsWireFrame frame_size (table_codec t) (table_cut strip t) (table_parts t)
   table_next (table rows) sound = by_type_next (rows_codec rows) (CanonRows rows) (λ n. rows_laws rows sound n) (rows_cut strip rows) (rows_parts rows) (λ n. rows_next rows sound n)

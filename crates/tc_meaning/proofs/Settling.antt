@@ -102,18 +102,22 @@ module _ (c : Codec (List ℕ) Message) (Canon : List ℕ → Type 0) (laws : La
   unfolding last
   last-read bytes m is = subst (IsRead (last bytes m)) (last-norm m) (is_read-after bytes m is (suc (most (parts m))))
 
-  -- the norm is one in hand, fits and is settled
-  pub norm-typed : (bytes : List ℕ) (m : Message) → IsRead bytes m → c.Typed (norm m)
-  norm-typed bytes m is = typed (last bytes m) (norm m) (last-read bytes m is)
+  -- the norm is one in hand where the message is, and fits where it does
+  pub norm-typed : (m : Message) → c.Typed m → c.Typed (norm m)
+  unfolding after
+  norm-typed m t = subst c.Typed (last-norm m) (go (suc (most (parts m))))
+    where
+      go : (n : ℕ) → c.Typed (after m n)
+      go zero = t
+      go (suc n) = r.typed (after m n) (go n)
 
-  pub norm-fits : (bytes : List ℕ) (m : Message) → IsRead bytes m → c.Fits (norm m)
-  norm-fits bytes m is = (last-read bytes m is).fits
-
-  pub norm-settled : (bytes : List ℕ) (m : Message) → IsRead bytes m → c.Settled [] (norm m)
-  norm-settled bytes m is =
-      let there = last-read bytes m is in
-      let whole = (laws.same [] (last bytes m) (norm m) there.wire there.reads there.fits).1 (last-canon bytes m is) in
-      (laws.back [] (norm m) (norm-typed bytes m is) there.fits).0 (ap (c.read []) whole ∙ there.reads)
+  pub norm-fits : (m : Message) → c.Fits m → c.Fits (norm m)
+  unfolding after
+  norm-fits m f = subst c.Fits (last-norm m) (go (suc (most (parts m))))
+    where
+      go : (n : ℕ) → c.Fits (after m n)
+      go zero = f
+      go (suc n) = r.fits (after m n) (go n)
 
   -- ---- rewriting
 
