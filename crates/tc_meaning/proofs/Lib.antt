@@ -18,7 +18,7 @@ pub mod Trees
 pub mod FitTests
 pub mod WorkedRows
 pub mod TrailingNuls
-pub mod CutLaws
+pub mod TrimLaws
 pub mod NextValues
 pub mod NextLists
 pub mod NextRows

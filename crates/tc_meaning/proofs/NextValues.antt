@@ -18,7 +18,7 @@ use Rattle.tc_meaning.proofs.Trees.{attributes_again}
 use Rattle.tc_meaning.proofs.Numbers.{masked_laws}
 use Rattle.tc_meaning.proofs.Texts.{strip-none, strip-same, IsBytes-strip, text-reads}
 use Rattle.tc_meaning.proofs.TrailingNuls.{strip-shorter, utf8-strip}
-use Rattle.tc_meaning.proofs.CutLaws.{IsWhole, mask-again}
+use Rattle.tc_meaning.proofs.TrimLaws.{IsWhole, mask-again}
 
 abbrev pub IsSettledPart : Part → Type 0
 IsSettledPart p = is_loose_part p ≡ false

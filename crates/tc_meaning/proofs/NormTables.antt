@@ -21,7 +21,7 @@ use Rattle.tc_meaning.specs.Own.{kind_of_attribute, kind_before, kinds_set, own_
 use Rattle.tc_meaning.specs.Meaning.{short, a_list, raw_frames, row_frames, unread_frames, options_frames, every_frame, kind_frames, choose, by_type, class_codec, table_codec, rows_codec, kinds_codec}
 use Rattle.tc_meaning.specs.Sound.{is_type, are_flags, is_free, starts_with_kind, is_sound_class, is_sound_table, is_sound_rows, is_sound_kinds}
 use Rattle.tc_meaning.specs.Loose.{without_nuls}
-use Rattle.tc_meaning.specs.Norm.{on, in_known, in_kind, class_cut, table_cut, rows_cut, kinds_cut}
+use Rattle.tc_meaning.specs.Norm.{on, in_known, in_kind, trimmed_class, trimmed_table, trimmed_rows, trimmed_kinds}
 use Rattle.tc_meaning.proofs.Outcomes.{seen-ok, ok-same}
 use Rattle.tc_meaning.proofs.Trees.{attributes_again}
 use Rattle.tc_meaning.proofs.Texts.{strip-none}
@@ -153,7 +153,7 @@ norm_kind name own rest CanonRest rest_laws all own_law all' rest_law k f x w e 
 -- ---- everything
 
 mutual
-  class_norm : (c : Class) → is_sound_class c ≡ true → NormSettled IsWireValue (short (class_codec c)) (class_cut without_nuls c)
+  class_norm : (c : Class) → is_sound_class c ≡ true → NormSettled IsWireValue (short (class_codec c)) (trimmed_class without_nuls c)
   class_norm (le n) sound = λ k v x w e. tt
   class_norm (be n) sound = λ k v x w e. tt
   class_norm (masked n bits) sound = λ k v x w e. mask-below bits (a_number.out x)
@@ -168,46 +168,46 @@ mutual
   class_norm pair sound = λ k v x w e. settled-fields flags_pair (a_record.out x) refl
   class_norm xstats sound = λ k v x w e. settled-xstats k v x e
   class_norm (list_of t) sound =
-      norm_items (list_codec keep keep (table_codec t)) (map (table_cut without_nuls t)) (norm_list (table_codec t) (table_cut without_nuls t) (table_norm t sound) keep keep (λ k f x w e. refl) (λ x. refl))
+      norm_items (list_codec keep keep (table_codec t)) (map (trimmed_table without_nuls t)) (norm_list (table_codec t) (trimmed_table without_nuls t) (table_norm t sound) keep keep (λ k f x w e. refl) (λ x. refl))
   class_norm (own_list rows) sound =
       let s = and_parts (starts_with_kind rows) (is_sound_rows rows) sound in
-      norm_items (own_codec (by_type (rows_codec rows))) (map (in_known (rows_cut without_nuls rows)))
-      (norm_own (by_type (rows_codec rows)) (tells_rows rows s.0 (λ n. rows_laws rows s.1 n)) (in_known (rows_cut without_nuls rows))
-      (norm_by_type (rows_codec rows) (CanonRows rows) (λ n. rows_laws rows s.1 n) (rows_cut without_nuls rows) (λ n. rows_norm rows s.1 n)) (same_kind without_nuls rows s.0))
+      norm_items (own_codec (by_type (rows_codec rows))) (map (in_known (trimmed_rows without_nuls rows)))
+      (norm_own (by_type (rows_codec rows)) (tells_rows rows s.0 (λ n. rows_laws rows s.1 n)) (in_known (trimmed_rows without_nuls rows))
+      (norm_by_type (rows_codec rows) (CanonRows rows) (λ n. rows_laws rows s.1 n) (trimmed_rows without_nuls rows) (λ n. rows_norm rows s.1 n)) (same_kind without_nuls rows s.0))
 
-  pub table_norm : (t : Table) → is_sound_table t ≡ true → NormSettled IsWireFrame (table_codec t) (table_cut without_nuls t)
-  table_norm (table rows) sound = norm_by_type (rows_codec rows) (CanonRows rows) (λ n. rows_laws rows sound n) (rows_cut without_nuls rows) (λ n. rows_norm rows sound n)
-  table_norm (every class) sound = norm_every (class_codec class) (class_cut without_nuls class) (class_norm class sound)
+  pub table_norm : (t : Table) → is_sound_table t ≡ true → NormSettled IsWireFrame (table_codec t) (trimmed_table without_nuls t)
+  table_norm (table rows) sound = norm_by_type (rows_codec rows) (CanonRows rows) (λ n. rows_laws rows sound n) (trimmed_rows without_nuls rows) (λ n. rows_norm rows sound n)
+  table_norm (every class) sound = norm_every (class_codec class) (trimmed_class without_nuls class) (class_norm class sound)
   table_norm (by_kind kinds) sound = kinds_norm kinds sound
 
-  rows_norm : (rows : Rows) → is_sound_rows rows ≡ true → (n : ℕ) → NormRow n (rows_codec rows n) (rows_cut without_nuls rows n)
+  rows_norm : (rows : Rows) → is_sound_rows rows ≡ true → (n : ℕ) → NormRow n (rows_codec rows n) (trimmed_rows without_nuls rows n)
   rows_norm others sound n = norm_raw n
   rows_norm (types first last flags class rows) sound n =
       let a = and_parts (is_type last) (are_flags flags && (is_sound_class class && is_sound_rows rows)) sound in
       let b = and_parts (are_flags flags) (is_sound_class class && is_sound_rows rows) a.1 in
       let c = and_parts (is_sound_class class) (is_sound_rows rows) b.1 in
-      norm_choose n (is_within first last n) (row_frames (flags + n) n (class_codec class)) (rows_codec rows n) (class_cut without_nuls class) (rows_cut without_nuls rows n)
-      (λ within. norm_row (flags + n) n (class_codec class) (class_cut without_nuls class) (class_norm class c.0)) (rows_norm rows c.1 n)
+      norm_choose n (is_within first last n) (row_frames (flags + n) n (class_codec class)) (rows_codec rows n) (trimmed_class without_nuls class) (trimmed_rows without_nuls rows n)
+      (λ within. norm_row (flags + n) n (class_codec class) (trimmed_class without_nuls class) (class_norm class c.0)) (rows_norm rows c.1 n)
   rows_norm (unread m class rows) sound n =
       let a = and_parts (is_type m) (is_free m rows && (is_sound_class class && is_sound_rows rows)) sound in
       let b = and_parts (is_free m rows) (is_sound_class class && is_sound_rows rows) a.1 in
       let c = and_parts (is_sound_class class) (is_sound_rows rows) b.1 in
-      norm_choose n (eqb n m) (unread_frames m (class_codec class)) (rows_codec rows n) (class_cut without_nuls class) (rows_cut without_nuls rows n)
-      (λ same. norm_unread n m (class_codec class) (class_cut without_nuls class)) (rows_norm rows c.1 n)
+      norm_choose n (eqb n m) (unread_frames m (class_codec class)) (rows_codec rows n) (trimmed_class without_nuls class) (trimmed_rows without_nuls rows n)
+      (λ same. norm_unread n m (class_codec class) (trimmed_class without_nuls class)) (rows_norm rows c.1 n)
   rows_norm (options m kinds rows) sound n =
       let a = and_parts (is_type m) (is_sound_kinds kinds && is_sound_rows rows) sound in
       let b = and_parts (is_sound_kinds kinds) (is_sound_rows rows) a.1 in
-      norm_choose n (eqb n m) (options_frames m kinds (via a_list (list_codec keep keep (kinds_codec kinds)))) (rows_codec rows n) (on a_list (map (in_kind (kinds_cut without_nuls kinds)))) (rows_cut without_nuls rows n)
-      (λ same. subst (λ (i : ℕ). NormRow i (options_frames m kinds (via a_list (list_codec keep keep (kinds_codec kinds)))) (on a_list (map (in_kind (kinds_cut without_nuls kinds))))) (sym (eqb-true n m same))
-      (norm_options m kinds (via a_list (list_codec keep keep (kinds_codec kinds))) (on a_list (map (in_kind (kinds_cut without_nuls kinds))))
-      (norm_items (list_codec keep keep (kinds_codec kinds)) (map (in_kind (kinds_cut without_nuls kinds)))
-      (norm_list (kinds_codec kinds) (in_kind (kinds_cut without_nuls kinds)) (kinds_norm kinds b.0) keep keep (λ k f x w e. refl) (λ x. refl)))))
+      norm_choose n (eqb n m) (options_frames m kinds (via a_list (list_codec keep keep (kinds_codec kinds)))) (rows_codec rows n) (on a_list (map (in_kind (trimmed_kinds without_nuls kinds)))) (trimmed_rows without_nuls rows n)
+      (λ same. subst (λ (i : ℕ). NormRow i (options_frames m kinds (via a_list (list_codec keep keep (kinds_codec kinds)))) (on a_list (map (in_kind (trimmed_kinds without_nuls kinds))))) (sym (eqb-true n m same))
+      (norm_options m kinds (via a_list (list_codec keep keep (kinds_codec kinds))) (on a_list (map (in_kind (trimmed_kinds without_nuls kinds))))
+      (norm_items (list_codec keep keep (kinds_codec kinds)) (map (in_kind (trimmed_kinds without_nuls kinds)))
+      (norm_list (kinds_codec kinds) (in_kind (trimmed_kinds without_nuls kinds)) (kinds_norm kinds b.0) keep keep (λ k f x w e. refl) (λ x. refl)))))
       (rows_norm rows b.1 n)
 
-  kinds_norm : (kinds : Kinds) → is_sound_kinds kinds ≡ true → NormSettled IsWireFrame (kinds_codec kinds) (in_kind (kinds_cut without_nuls kinds))
+  kinds_norm : (kinds : Kinds) → is_sound_kinds kinds ≡ true → NormSettled IsWireFrame (kinds_codec kinds) (in_kind (trimmed_kinds without_nuls kinds))
   kinds_norm unknown sound = λ k f x w e. tt
   kinds_norm (kind name rows kinds) sound =
       let a = and_parts (is_sound_rows rows) (is_sound_kinds kinds) sound in
       norm_kind name (by_type (rows_codec rows)) (kinds_codec kinds) (CanonKinds kinds) (kinds_laws kinds a.1)
-      (in_known (rows_cut without_nuls rows)) (norm_by_type (rows_codec rows) (CanonRows rows) (λ n. rows_laws rows a.0 n) (rows_cut without_nuls rows) (λ n. rows_norm rows a.0 n))
-      (kinds_cut without_nuls kinds) (kinds_norm kinds a.1)
+      (in_known (trimmed_rows without_nuls rows)) (norm_by_type (rows_codec rows) (CanonRows rows) (λ n. rows_laws rows a.0 n) (trimmed_rows without_nuls rows) (λ n. rows_norm rows a.0 n))
+      (trimmed_kinds without_nuls kinds) (kinds_norm kinds a.1)

@@ -18,7 +18,7 @@ use Rattle.tc_meaning.specs.Rewriting.{RewritesWith, SettlesAs, SettlesIn, TcSet
 use Rattle.tc_meaning.proofs.MessageLaws.{one_message}
 use Rattle.tc_meaning.proofs.TableLaws.{table_laws}
 use Rattle.tc_meaning.proofs.Headline.{sound_attributes, sound_actions, tells_attributes, tc_laws, act_laws, canon-tc, canon-act, tc-reading, act-reading, tc-typed, act-typed, tc-settled, act-settled}
-use Rattle.tc_meaning.proofs.CutLaws.{message_cuts, whole-most}
+use Rattle.tc_meaning.proofs.TrimLaws.{message_trims, whole-most}
 use Rattle.tc_meaning.proofs.NoWarnings.{tc_whole}
 use Rattle.tc_meaning.proofs.NextValues.{NextLaws}
 use Rattle.tc_meaning.proofs.NextTables.{same_kind}
@@ -47,7 +47,7 @@ module _ (by_frame : Sets Frame) (by_value : Sets Attribute) (layout : List Fiel
   rewrites-is bytes written = (λ h. (h.message, h.reads, h.fits, h.is), λ h. record { message = h.0; reads = h.1; fits = h.2; is = h.3 })
 
   is_read : (bytes : List ℕ) (m : Message) → IsWireBytes bytes → ReadsWith by_frame layout rows bytes m → FitsMessage layout rows m
-      → IsRead (message_codec by_frame by_value layout rows) Canon laws (next rows) (norm rows) (message_parts rows) r (message_cuts rows) bytes m
+      → IsRead (message_codec by_frame by_value layout rows) Canon laws (next rows) (norm rows) (message_parts rows) r (message_trims rows) bytes m
   is_read bytes m w g f = record { wire = w; reads = (reads-is bytes m w).1 g; fits = f }
 
   pub loose : (bytes : List ℕ) → IsWireBytes bytes → (m : Message) → ReadsWith by_frame layout rows bytes m → SettledWith layout rows by_value m ↔ (is_loose rows m ≡ false)
@@ -57,43 +57,43 @@ module _ (by_frame : Sets Frame) (by_value : Sets Attribute) (layout : List Fiel
       (λ s. none.0 (law.0 s), λ e. law.1 (none.1 e))
 
   pub typed-norm : (m : Message) → TypedMessage layout rows m → TypedMessage layout rows (norm rows m)
-  typed-norm = norm-typed (message_codec by_frame by_value layout rows) Canon laws (next rows) (norm rows) (message_parts rows) r (message_cuts rows)
+  typed-norm = norm-typed (message_codec by_frame by_value layout rows) Canon laws (next rows) (norm rows) (message_parts rows) r (message_trims rows)
 
   pub fits-norm : (m : Message) → FitsMessage layout rows m → FitsMessage layout rows (norm rows m)
-  fits-norm = norm-fits (message_codec by_frame by_value layout rows) Canon laws (next rows) (norm rows) (message_parts rows) r (message_cuts rows)
+  fits-norm = norm-fits (message_codec by_frame by_value layout rows) Canon laws (next rows) (norm rows) (message_parts rows) r (message_trims rows)
 
   -- one rewrite
   pub next-read : (bytes : List ℕ) → IsWireBytes bytes → (m : Message) → ReadsWith by_frame layout rows bytes m → FitsMessage layout rows m → ReadsWith by_frame layout rows (message_bytes layout rows m) (next rows m)
   next-read bytes w m g f =
-      let there = is_read-next (message_codec by_frame by_value layout rows) Canon laws (next rows) (norm rows) (message_parts rows) r (message_cuts rows) bytes m (is_read bytes m w g f) in
+      let there = is_read-next (message_codec by_frame by_value layout rows) Canon laws (next rows) (norm rows) (message_parts rows) r (message_trims rows) bytes m (is_read bytes m w g f) in
       (reads-is (message_bytes layout rows m) (next rows m) there.wire).0 there.reads
 
   pub canonical-next : (bytes : List ℕ) → IsWireBytes bytes → (m : Message) → ReadsWith by_frame layout rows bytes m → FitsMessage layout rows m → Canon (message_bytes layout rows m) ↔ (nuls rows m ≡ 0)
-  canonical-next bytes w m g f = canon-whole (message_codec by_frame by_value layout rows) Canon laws (next rows) (norm rows) (message_parts rows) r (message_cuts rows) bytes m (is_read bytes m w g f)
+  canonical-next bytes w m g f = canon-whole (message_codec by_frame by_value layout rows) Canon laws (next rows) (norm rows) (message_parts rows) r (message_trims rows) bytes m (is_read bytes m w g f)
 
   pub canonical-norm : (bytes : List ℕ) → IsWireBytes bytes → (m : Message) → ReadsWith by_frame layout rows bytes m → FitsMessage layout rows m → Canon bytes → norm rows m ≡ m
-  canonical-norm bytes w m g f h = canon-norm (message_codec by_frame by_value layout rows) Canon laws (next rows) (norm rows) (message_parts rows) r (message_cuts rows) bytes m (is_read bytes m w g f) h
+  canonical-norm bytes w m g f h = canon-norm (message_codec by_frame by_value layout rows) Canon laws (next rows) (norm rows) (message_parts rows) r (message_trims rows) bytes m (is_read bytes m w g f) h
 
   pub one-way : (bytes : List ℕ) → IsWireBytes bytes → (c d : List ℕ) → RewritesWith by_frame layout rows bytes c → RewritesWith by_frame layout rows bytes d → c ≡ d
   one-way bytes w c d h h' =
-      rewrites-once (message_codec by_frame by_value layout rows) Canon laws (next rows) (norm rows) (message_parts rows) r (message_cuts rows) (RewritesWith by_frame layout rows) (ReadsWith by_frame layout rows) reads-is rewrites-is bytes c d w h h'
+      rewrites-once (message_codec by_frame by_value layout rows) Canon laws (next rows) (norm rows) (message_parts rows) r (message_trims rows) (RewritesWith by_frame layout rows) (ReadsWith by_frame layout rows) reads-is rewrites-is bytes c d w h h'
 
   pub settles-in : (bytes : List ℕ) → IsWireBytes bytes → (m : Message) → ReadsWith by_frame layout rows bytes m → FitsMessage layout rows m → (Canon bytes → ⊥)
       → SettlesIn (RewritesWith by_frame layout rows) Canon (ReadsWith by_frame layout rows) (nuls rows m + 1) bytes (norm rows m)
   settles-in bytes w m g f not =
       let one : suc (nuls rows m) ≡ nuls rows m + 1 = omega arith in
       subst (λ (n : ℕ). SettlesIn (RewritesWith by_frame layout rows) Canon (ReadsWith by_frame layout rows) n bytes (norm rows m)) one
-      (settles (message_codec by_frame by_value layout rows) Canon laws (next rows) (norm rows) (message_parts rows) r (message_cuts rows) (RewritesWith by_frame layout rows) (ReadsWith by_frame layout rows) reads-is rewrites-is bytes m (is_read bytes m w g f) not)
+      (settles (message_codec by_frame by_value layout rows) Canon laws (next rows) (norm rows) (message_parts rows) r (message_trims rows) (RewritesWith by_frame layout rows) (ReadsWith by_frame layout rows) reads-is rewrites-is bytes m (is_read bytes m w g f) not)
 
   pub final-norm : (bytes : List ℕ) → IsWireBytes bytes → (m : Message) → ReadsWith by_frame layout rows bytes m → FitsMessage layout rows m
       → (final : List ℕ) × SettlesAs (RewritesWith by_frame layout rows) Canon bytes final × ReadsWith by_frame layout rows final (norm rows m)
   final-norm bytes w m g f =
-      settles-as (message_codec by_frame by_value layout rows) Canon laws (next rows) (norm rows) (message_parts rows) r (message_cuts rows) (RewritesWith by_frame layout rows) (ReadsWith by_frame layout rows) reads-is rewrites-is bytes m (is_read bytes m w g f)
+      settles-as (message_codec by_frame by_value layout rows) Canon laws (next rows) (norm rows) (message_parts rows) r (message_trims rows) (RewritesWith by_frame layout rows) (ReadsWith by_frame layout rows) reads-is rewrites-is bytes m (is_read bytes m w g f)
 
   pub same-norm : (bytes bytes' : List ℕ) → IsWireBytes bytes → IsWireBytes bytes' → (m m' : Message) (c d : List ℕ) → ReadsWith by_frame layout rows bytes m → FitsMessage layout rows m
       → ReadsWith by_frame layout rows bytes' m' → FitsMessage layout rows m' → SettlesAs (RewritesWith by_frame layout rows) Canon bytes c → SettlesAs (RewritesWith by_frame layout rows) Canon bytes' d → (c ≡ d) ↔ (norm rows m ≡ norm rows m')
   same-norm bytes bytes' w w' m m' c d g f g' f' s s' =
-      same-settled (message_codec by_frame by_value layout rows) Canon laws (next rows) (norm rows) (message_parts rows) r (message_cuts rows) (RewritesWith by_frame layout rows) (ReadsWith by_frame layout rows) reads-is rewrites-is
+      same-settled (message_codec by_frame by_value layout rows) Canon laws (next rows) (norm rows) (message_parts rows) r (message_trims rows) (RewritesWith by_frame layout rows) (ReadsWith by_frame layout rows) reads-is rewrites-is
       bytes bytes' c d m m' (is_read bytes m w g f) (is_read bytes' m' w' g' f') s s'
 
 -- ---- the two messages
@@ -152,4 +152,4 @@ tc-written bytes w m g f = (canonical-next kind_of_frame kind_of_attribute tc_he
 
 pub tc-written_norm : (bytes : List ℕ) → IsWireBytes bytes → (m : Message) → ReadsTc bytes m → FitsTc m → ReadsTc (tc_bytes m) (norm_tc m)
 tc-written_norm bytes w m g f =
-    subst (ReadsTc (tc_bytes m)) ((message_cuts attributes).once m (tc_whole m)) (next-read kind_of_frame kind_of_attribute tc_header attributes CanonTc tc_words tc_next bytes w m g f)
+    subst (ReadsTc (tc_bytes m)) ((message_trims attributes).once m (tc_whole m)) (next-read kind_of_frame kind_of_attribute tc_header attributes CanonTc tc_words tc_next bytes w m g f)
