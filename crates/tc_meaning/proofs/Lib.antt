@@ -24,7 +24,7 @@ pub mod FirstVersionLaws
 pub mod WorkedRows
 pub mod UpgradeRows
 pub mod TrailingNuls
-pub mod CutLaws
+pub mod TrimLaws
 pub mod NextValues
 pub mod NextLists
 pub mod NextRows
@@ -35,3 +35,4 @@ pub mod NextMessages
 pub mod Settling
 pub mod RewritingLaws
 pub mod WorkedRewrites
+pub mod NormTables

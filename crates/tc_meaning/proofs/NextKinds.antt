@@ -13,7 +13,7 @@ use Rattle.tc_meaning.specs.Loose.{Part, parts_in_kind}
 use Rattle.tc_meaning.specs.Norm.{in_kind}
 use Rattle.tc_meaning.proofs.Outcomes.{seen-ok, ok-seen, ok-same}
 use Rattle.tc_meaning.proofs.KindLaws.{KindLaws, bytes_eq-refl}
-use Rattle.tc_meaning.proofs.CutLaws.{IsWhole}
+use Rattle.tc_meaning.proofs.TrimLaws.{IsWhole}
 use Rattle.tc_meaning.proofs.NextValues.{NextLaws, IsSettledPart}
 use Rattle.tc_meaning.proofs.NextLists.{frame_size}
 

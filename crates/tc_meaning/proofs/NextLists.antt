@@ -16,7 +16,7 @@ use Rattle.tc_meaning.specs.Tree.{Attribute}
 use Rattle.tc_meaning.specs.Own.{kind_of_attribute, kind_before, kinds_set, read_own, SettledOwn, own_codec}
 use Rattle.tc_meaning.specs.Loose.{Part}
 use Rattle.tc_meaning.proofs.OwnLaws.{TellsKind, read_own-ok, told-set, read_own-is, settled-all}
-use Rattle.tc_meaning.proofs.CutLaws.{IsWhole, all-append, append-all}
+use Rattle.tc_meaning.proofs.TrimLaws.{IsWhole, all-append, append-all}
 use Rattle.tc_meaning.proofs.NextValues.{NextLaws, IsSettledPart}
 
 abbrev pub frame_size : Frame → ℕ

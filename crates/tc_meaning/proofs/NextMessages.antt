@@ -16,20 +16,21 @@ use Rattle.tc_meaning.specs.Layout.{read_fields, fields_bytes, SettledFields}
 use Rattle.tc_meaning.specs.Meaning.{table_codec}
 use Rattle.tc_meaning.specs.Sound.{is_sound_rows}
 use Rattle.tc_meaning.specs.Message.{Message, read_with, message_bytes, FitsMessage, TypedMessage, SettledWith, message_codec}
-use Rattle.tc_meaning.specs.Loose.{table_parts, message_parts}
-use Rattle.tc_meaning.specs.Norm.{table_cut, next}
+use Rattle.tc_meaning.specs.Loose.{without_nuls, table_parts, message_parts}
+use Rattle.tc_meaning.specs.Norm.{trimmed_table, next, norm}
 use Rattle.tc_meaning.proofs.MessageLaws.{read_with-ok, ok-read_with, wire-body, front-message, rest-message, length-message, typed-read, header-back}
-use Rattle.tc_meaning.proofs.CutLaws.{IsWhole}
+use Rattle.tc_meaning.proofs.TrimLaws.{IsWhole}
 use Rattle.tc_meaning.proofs.NextValues.{NextLaws, IsSettledPart}
 use Rattle.tc_meaning.proofs.NextLists.{next_list}
+use Rattle.tc_meaning.proofs.NormTables.{norm_list, table_norm}
 use Rattle.tc_meaning.proofs.NextTables.{table_next, settled-read}
 
 module _ (by_frame : Sets Frame) (by_value : Sets Attribute) (layout : List Field) (rows : Rows) (sound : is_sound_rows rows ≡ true)
     (laws : Laws IsWireFrame (table_codec (table rows)) (CanonTable (table rows)))
     (agree : (kind : List ℕ) (f : Frame) (x : Attribute) → IsWireFrame f → (table_codec (table rows)).read kind f ≡ Ok x → by_frame f ≡ by_value x)
-    (stays : (x : Attribute) → by_value (table_cut strip (table rows) x) ≡ by_value x) where
-  body_next : NextLaws IsWireBytes length (list_codec by_frame by_value (table_codec (table rows))) (map (table_cut strip (table rows))) (flat_map (table_parts (table rows)))
-  body_next = next_list (table_codec (table rows)) (CanonTable (table rows)) laws (table_cut strip (table rows)) (table_parts (table rows)) (table_next (table rows) sound) by_frame by_value agree stays
+    (stays : (change : List ℕ → List ℕ) (x : Attribute) → by_value (trimmed_table change (table rows) x) ≡ by_value x) where
+  body_next : NextLaws IsWireBytes length (list_codec by_frame by_value (table_codec (table rows))) (map (trimmed_table strip (table rows))) (flat_map (table_parts (table rows)))
+  body_next = next_list (table_codec (table rows)) (CanonTable (table rows)) laws (trimmed_table strip (table rows)) (table_parts (table rows)) (table_next (table rows) sound) by_frame by_value agree (stays strip)
 
   settled-message : (bytes : List ℕ) (m : Message) → IsWireBytes bytes → read_with by_frame layout rows bytes ≡ Ok m → SettledWith layout rows by_value m ↔ AllByRecursion IsSettledPart (message_parts rows m)
   settled-message bytes m w e =
@@ -60,7 +61,7 @@ module _ (by_frame : Sets Frame) (by_value : Sets Attribute) (layout : List Fiel
   unfolding message_bytes
   smaller-message m =
       let less = body_next.smaller m.body in
-      let a = length-append (fields_bytes layout m.header) (list_bytes (table_codec (table rows)).write (map (table_cut strip (table rows)) m.body)) in
+      let a = length-append (fields_bytes layout m.header) (list_bytes (table_codec (table rows)).write (map (trimmed_table strip (table rows)) m.body)) in
       let b = length-append (fields_bytes layout m.header) (list_bytes (table_codec (table rows)).write m.body) in
       omega (arith, less, a, b)
 
@@ -71,6 +72,14 @@ module _ (by_frame : Sets Frame) (by_value : Sets Attribute) (layout : List Fiel
   whole-message : (m : Message) → AllByRecursion IsWhole (message_parts rows m) → message_bytes layout rows (next rows m) ≡ message_bytes layout rows m
   unfolding message_bytes
   whole-message m all = ap (λ (body : List ℕ). fields_bytes layout m.header ++ body) (body_next.whole m.body all)
+
+  -- the norm of what was read is settled
+  pub message_norm : (bytes : List ℕ) (m : Message) → IsWireBytes bytes → read_with by_frame layout rows bytes ≡ Ok m → SettledWith layout rows by_value (norm rows m)
+  message_norm bytes m w e =
+      let is = read_with-ok by_frame layout rows bytes m e in
+      let body = norm_list (table_codec (table rows)) (trimmed_table without_nuls (table rows)) (table_norm (table rows) sound) by_frame by_value agree (stays without_nuls) in
+      let header = subst (SettledFields layout) is.header (settled-read layout (take (size_of layout) bytes)) in
+      record { header = header; body = body [] (drop (size_of layout) bytes) m.body (wire-body by_frame by_value layout rows laws agree bytes w) is.body }
 
   pub message_next : NextLaws IsWireBytes length (message_codec by_frame by_value layout rows) (next rows) (message_parts rows)
   message_next = record {

@@ -12,7 +12,7 @@ use Rattle.tc_meaning.specs.Loose.{Part, parts_in_known}
 use Rattle.tc_meaning.specs.Norm.{in_known}
 use Rattle.tc_meaning.proofs.Outcomes.{seen-ok, ok-seen, ok-same}
 use Rattle.tc_meaning.proofs.Rows.{RowLaws}
-use Rattle.tc_meaning.proofs.CutLaws.{IsWhole}
+use Rattle.tc_meaning.proofs.TrimLaws.{IsWhole}
 use Rattle.tc_meaning.proofs.NextValues.{NextLaws, IsSettledPart}
 use Rattle.tc_meaning.proofs.NextLists.{frame_size}
 
@@ -23,7 +23,7 @@ of_row next = in_known (λ n. next)
 abbrev pub row_parts : (Content → List Part) → Attribute → List Part
 row_parts parts = parts_in_known (λ n. parts)
 
-wire_value : (f : Frame) → IsWireFrame f → IsWireValue f.value
+pub wire_value : (f : Frame) → IsWireFrame f → IsWireValue f.value
 wire_value f w = record { are_bytes = w.bytes; short = w.frame.value }
 
 -- what rewriting makes of what stands in a row at the type n

@@ -18,7 +18,7 @@ use Rattle.tc_meaning.proofs.Trees.{attributes_again}
 use Rattle.tc_meaning.proofs.Numbers.{masked_laws}
 use Rattle.tc_meaning.proofs.Texts.{strip-none, strip-same, IsBytes-strip, text-reads}
 use Rattle.tc_meaning.proofs.TrailingNuls.{strip-shorter, utf8-strip}
-use Rattle.tc_meaning.proofs.CutLaws.{IsWhole, mask-again}
+use Rattle.tc_meaning.proofs.TrimLaws.{IsWhole, mask-again}
 
 abbrev pub IsSettledPart : Part → Type 0
 IsSettledPart p = is_loose_part p ≡ false
@@ -58,7 +58,7 @@ in_range bits x = (λ below. rw (lt-ltb x (2 ^ bits) below) refl, λ e. go (ltb 
     go true h e = ltb-true x (2 ^ bits) h
     go false h e = absurd cc
 
-mask-below : (bits x : ℕ) → x % 2 ^ bits < 2 ^ bits
+pub mask-below : (bits x : ℕ) → x % 2 ^ bits < 2 ^ bits
 mask-below bits x = let p : 0 < 2 ^ bits = pow_pos bits in omega arith
 
 mask-less : (m bits x : ℕ) → x < m → x % 2 ^ bits < m
@@ -103,7 +103,7 @@ next_warning laws = record {
     less t h = record { is_bytes = IsBytes-strip t h.is_bytes; is_text = utf8-strip t h.is_text }
 
 -- a value that can stand in a frame can be counted
-counted : (v : List ℕ) → IsWireValue v → IsWireBytes v
+pub counted : (v : List ℕ) → IsWireValue v → IsWireBytes v
 counted v w = record { are_bytes = w.are_bytes; long = omega (arith, w.short) }
 
 -- a list as a content

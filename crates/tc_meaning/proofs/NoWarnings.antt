@@ -9,7 +9,7 @@ use Rattle.tc_meaning.specs.Tree.{Content, Attribute, known, of_kind}
 use Rattle.tc_meaning.specs.Meaning.{a_list}
 use Rattle.tc_meaning.specs.Message.{Message}
 use Rattle.tc_meaning.specs.Loose.{Part, parts_in_known, parts_in_kind, class_parts, table_parts, rows_parts, kinds_parts, message_parts}
-use Rattle.tc_meaning.proofs.CutLaws.{IsWhole, append-all}
+use Rattle.tc_meaning.proofs.TrimLaws.{IsWhole, append-all}
 
 abbrev mutual
   no_warning_class : Class → Bool

@@ -11,19 +11,19 @@ use Rattle.tc_canon.specs.Canonical.{CanonTc, CanonAct}
 use Rattle.tc_meaning.specs.Tree.{Attribute}
 use Rattle.tc_meaning.specs.Own.{kind_of_frame, kind_of_attribute}
 use Rattle.tc_meaning.specs.Message.{Message, ReadsWith, read_with, message_bytes, FitsMessage, TypedMessage, SettledWith, message_codec}
-use Rattle.tc_meaning.specs.Whole.{ReadsTc, tc_bytes, FitsTc}
+use Rattle.tc_meaning.specs.Whole.{ReadsTc, tc_bytes, FitsTc, SettledTc, ReadsAct, act_bytes, FitsAct, SettledAct}
 use Rattle.tc_meaning.specs.Loose.{message_parts, is_loose, nuls}
-use Rattle.tc_meaning.specs.Norm.{next, norm, norm_tc}
+use Rattle.tc_meaning.specs.Norm.{next, norm, norm_tc, norm_act}
 use Rattle.tc_meaning.specs.Rewriting.{RewritesWith, SettlesAs, SettlesIn, TcSettlesIn}
 use Rattle.tc_meaning.proofs.MessageLaws.{one_message}
 use Rattle.tc_meaning.proofs.TableLaws.{table_laws}
-use Rattle.tc_meaning.proofs.Headline.{sound_attributes, sound_actions, tells_attributes, tc_laws, act_laws, canon-tc, canon-act}
-use Rattle.tc_meaning.proofs.CutLaws.{message_cuts, whole-most}
+use Rattle.tc_meaning.proofs.Headline.{sound_attributes, sound_actions, tells_attributes, tc_laws, act_laws, canon-tc, canon-act, tc-reading, act-reading, tc-typed, act-typed, tc-settled, act-settled}
+use Rattle.tc_meaning.proofs.TrimLaws.{message_trims, whole-most}
 use Rattle.tc_meaning.proofs.NoWarnings.{tc_whole}
 use Rattle.tc_meaning.proofs.NextValues.{NextLaws}
 use Rattle.tc_meaning.proofs.NextTables.{same_kind}
-use Rattle.tc_meaning.proofs.NextMessages.{message_next}
-use Rattle.tc_meaning.proofs.Settling.{none_loose, IsRead, canon-norm, canon-whole, is_read-next, norm-typed, norm-fits, norm-settled, rewrites-once, settles, settles-as, same-settled}
+use Rattle.tc_meaning.proofs.NextMessages.{message_next, message_norm}
+use Rattle.tc_meaning.proofs.Settling.{none_loose, IsRead, canon-norm, canon-whole, is_read-next, norm-typed, norm-fits, rewrites-once, settles, settles-as, same-settled}
 
 -- the same laws, canonical said in other words
 in_words : (c : Codec (List ℕ) Message) (Canon Other : List ℕ → Type 0) → ((bytes : List ℕ) → Canon bytes ↔ Other bytes) → Laws IsWireBytes c (λ kind bytes. Canon bytes) → Laws IsWireBytes c (λ kind bytes. Other bytes)
@@ -47,7 +47,7 @@ module _ (by_frame : Sets Frame) (by_value : Sets Attribute) (layout : List Fiel
   rewrites-is bytes written = (λ h. (h.message, h.reads, h.fits, h.is), λ h. record { message = h.0; reads = h.1; fits = h.2; is = h.3 })
 
   is_read : (bytes : List ℕ) (m : Message) → IsWireBytes bytes → ReadsWith by_frame layout rows bytes m → FitsMessage layout rows m
-      → IsRead (message_codec by_frame by_value layout rows) Canon laws (next rows) (norm rows) (message_parts rows) r (message_cuts rows) bytes m
+      → IsRead (message_codec by_frame by_value layout rows) Canon laws (next rows) (norm rows) (message_parts rows) r (message_trims rows) bytes m
   is_read bytes m w g f = record { wire = w; reads = (reads-is bytes m w).1 g; fits = f }
 
   pub loose : (bytes : List ℕ) → IsWireBytes bytes → (m : Message) → ReadsWith by_frame layout rows bytes m → SettledWith layout rows by_value m ↔ (is_loose rows m ≡ false)
@@ -56,47 +56,44 @@ module _ (by_frame : Sets Frame) (by_value : Sets Attribute) (layout : List Fiel
       let none = none_loose (message_parts rows m) in
       (λ s. none.0 (law.0 s), λ e. law.1 (none.1 e))
 
-  pub typed-norm : (bytes : List ℕ) → IsWireBytes bytes → (m : Message) → ReadsWith by_frame layout rows bytes m → FitsMessage layout rows m → TypedMessage layout rows (norm rows m)
-  typed-norm bytes w m g f = norm-typed (message_codec by_frame by_value layout rows) Canon laws (next rows) (norm rows) (message_parts rows) r (message_cuts rows) bytes m (is_read bytes m w g f)
+  pub typed-norm : (m : Message) → TypedMessage layout rows m → TypedMessage layout rows (norm rows m)
+  typed-norm = norm-typed (message_codec by_frame by_value layout rows) Canon laws (next rows) (norm rows) (message_parts rows) r (message_trims rows)
 
-  pub fits-norm : (bytes : List ℕ) → IsWireBytes bytes → (m : Message) → ReadsWith by_frame layout rows bytes m → FitsMessage layout rows m → FitsMessage layout rows (norm rows m)
-  fits-norm bytes w m g f = norm-fits (message_codec by_frame by_value layout rows) Canon laws (next rows) (norm rows) (message_parts rows) r (message_cuts rows) bytes m (is_read bytes m w g f)
-
-  pub settled-norm : (bytes : List ℕ) → IsWireBytes bytes → (m : Message) → ReadsWith by_frame layout rows bytes m → FitsMessage layout rows m → SettledWith layout rows by_value (norm rows m)
-  settled-norm bytes w m g f = norm-settled (message_codec by_frame by_value layout rows) Canon laws (next rows) (norm rows) (message_parts rows) r (message_cuts rows) bytes m (is_read bytes m w g f)
+  pub fits-norm : (m : Message) → FitsMessage layout rows m → FitsMessage layout rows (norm rows m)
+  fits-norm = norm-fits (message_codec by_frame by_value layout rows) Canon laws (next rows) (norm rows) (message_parts rows) r (message_trims rows)
 
   -- one rewrite
   pub next-read : (bytes : List ℕ) → IsWireBytes bytes → (m : Message) → ReadsWith by_frame layout rows bytes m → FitsMessage layout rows m → ReadsWith by_frame layout rows (message_bytes layout rows m) (next rows m)
   next-read bytes w m g f =
-      let there = is_read-next (message_codec by_frame by_value layout rows) Canon laws (next rows) (norm rows) (message_parts rows) r (message_cuts rows) bytes m (is_read bytes m w g f) in
+      let there = is_read-next (message_codec by_frame by_value layout rows) Canon laws (next rows) (norm rows) (message_parts rows) r (message_trims rows) bytes m (is_read bytes m w g f) in
       (reads-is (message_bytes layout rows m) (next rows m) there.wire).0 there.reads
 
   pub canonical-next : (bytes : List ℕ) → IsWireBytes bytes → (m : Message) → ReadsWith by_frame layout rows bytes m → FitsMessage layout rows m → Canon (message_bytes layout rows m) ↔ (nuls rows m ≡ 0)
-  canonical-next bytes w m g f = canon-whole (message_codec by_frame by_value layout rows) Canon laws (next rows) (norm rows) (message_parts rows) r (message_cuts rows) bytes m (is_read bytes m w g f)
+  canonical-next bytes w m g f = canon-whole (message_codec by_frame by_value layout rows) Canon laws (next rows) (norm rows) (message_parts rows) r (message_trims rows) bytes m (is_read bytes m w g f)
 
   pub canonical-norm : (bytes : List ℕ) → IsWireBytes bytes → (m : Message) → ReadsWith by_frame layout rows bytes m → FitsMessage layout rows m → Canon bytes → norm rows m ≡ m
-  canonical-norm bytes w m g f h = canon-norm (message_codec by_frame by_value layout rows) Canon laws (next rows) (norm rows) (message_parts rows) r (message_cuts rows) bytes m (is_read bytes m w g f) h
+  canonical-norm bytes w m g f h = canon-norm (message_codec by_frame by_value layout rows) Canon laws (next rows) (norm rows) (message_parts rows) r (message_trims rows) bytes m (is_read bytes m w g f) h
 
   pub one-way : (bytes : List ℕ) → IsWireBytes bytes → (c d : List ℕ) → RewritesWith by_frame layout rows bytes c → RewritesWith by_frame layout rows bytes d → c ≡ d
   one-way bytes w c d h h' =
-      rewrites-once (message_codec by_frame by_value layout rows) Canon laws (next rows) (norm rows) (message_parts rows) r (message_cuts rows) (RewritesWith by_frame layout rows) (ReadsWith by_frame layout rows) reads-is rewrites-is bytes c d w h h'
+      rewrites-once (message_codec by_frame by_value layout rows) Canon laws (next rows) (norm rows) (message_parts rows) r (message_trims rows) (RewritesWith by_frame layout rows) (ReadsWith by_frame layout rows) reads-is rewrites-is bytes c d w h h'
 
   pub settles-in : (bytes : List ℕ) → IsWireBytes bytes → (m : Message) → ReadsWith by_frame layout rows bytes m → FitsMessage layout rows m → (Canon bytes → ⊥)
       → SettlesIn (RewritesWith by_frame layout rows) Canon (ReadsWith by_frame layout rows) (nuls rows m + 1) bytes (norm rows m)
   settles-in bytes w m g f not =
       let one : suc (nuls rows m) ≡ nuls rows m + 1 = omega arith in
       subst (λ (n : ℕ). SettlesIn (RewritesWith by_frame layout rows) Canon (ReadsWith by_frame layout rows) n bytes (norm rows m)) one
-      (settles (message_codec by_frame by_value layout rows) Canon laws (next rows) (norm rows) (message_parts rows) r (message_cuts rows) (RewritesWith by_frame layout rows) (ReadsWith by_frame layout rows) reads-is rewrites-is bytes m (is_read bytes m w g f) not)
+      (settles (message_codec by_frame by_value layout rows) Canon laws (next rows) (norm rows) (message_parts rows) r (message_trims rows) (RewritesWith by_frame layout rows) (ReadsWith by_frame layout rows) reads-is rewrites-is bytes m (is_read bytes m w g f) not)
 
   pub final-norm : (bytes : List ℕ) → IsWireBytes bytes → (m : Message) → ReadsWith by_frame layout rows bytes m → FitsMessage layout rows m
       → (final : List ℕ) × SettlesAs (RewritesWith by_frame layout rows) Canon bytes final × ReadsWith by_frame layout rows final (norm rows m)
   final-norm bytes w m g f =
-      settles-as (message_codec by_frame by_value layout rows) Canon laws (next rows) (norm rows) (message_parts rows) r (message_cuts rows) (RewritesWith by_frame layout rows) (ReadsWith by_frame layout rows) reads-is rewrites-is bytes m (is_read bytes m w g f)
+      settles-as (message_codec by_frame by_value layout rows) Canon laws (next rows) (norm rows) (message_parts rows) r (message_trims rows) (RewritesWith by_frame layout rows) (ReadsWith by_frame layout rows) reads-is rewrites-is bytes m (is_read bytes m w g f)
 
   pub same-norm : (bytes bytes' : List ℕ) → IsWireBytes bytes → IsWireBytes bytes' → (m m' : Message) (c d : List ℕ) → ReadsWith by_frame layout rows bytes m → FitsMessage layout rows m
       → ReadsWith by_frame layout rows bytes' m' → FitsMessage layout rows m' → SettlesAs (RewritesWith by_frame layout rows) Canon bytes c → SettlesAs (RewritesWith by_frame layout rows) Canon bytes' d → (c ≡ d) ↔ (norm rows m ≡ norm rows m')
   same-norm bytes bytes' w w' m m' c d g f g' f' s s' =
-      same-settled (message_codec by_frame by_value layout rows) Canon laws (next rows) (norm rows) (message_parts rows) r (message_cuts rows) (RewritesWith by_frame layout rows) (ReadsWith by_frame layout rows) reads-is rewrites-is
+      same-settled (message_codec by_frame by_value layout rows) Canon laws (next rows) (norm rows) (message_parts rows) r (message_trims rows) (RewritesWith by_frame layout rows) (ReadsWith by_frame layout rows) reads-is rewrites-is
       bytes bytes' c d m m' (is_read bytes m w g f) (is_read bytes' m' w' g' f') s s'
 
 -- ---- the two messages
@@ -110,12 +107,34 @@ act_words = in_words (message_codec keep keep action_message_header action_messa
 pub tc_next : NextLaws IsWireBytes length (message_codec kind_of_frame kind_of_attribute tc_header attributes) (next attributes) (message_parts attributes)
 tc_next =
     message_next kind_of_frame kind_of_attribute tc_header attributes sound_attributes (table_laws (table attributes) sound_attributes)
-    (λ kind f x w e. tells_attributes.agree kind f x e) (same_kind attributes refl)
+    (λ kind f x w e. tells_attributes.agree kind f x e) (λ change. same_kind change attributes refl)
 
 pub act_next : NextLaws IsWireBytes length (message_codec keep keep action_message_header action_message_attributes) (next action_message_attributes) (message_parts action_message_attributes)
 act_next =
     message_next keep keep action_message_header action_message_attributes sound_actions (table_laws (table action_message_attributes) sound_actions)
-    (λ kind f x w e. refl) (λ x. refl)
+    (λ kind f x w e. refl) (λ change x. refl)
+
+-- the norm of what is read is settled
+pub tc-norm : (bytes : List ℕ) → IsWireBytes bytes → (m : Message) → ReadsTc bytes m → SettledTc (norm_tc m)
+tc-norm bytes w m g =
+    message_norm kind_of_frame kind_of_attribute tc_header attributes sound_attributes (table_laws (table attributes) sound_attributes)
+    (λ kind f x w e. tells_attributes.agree kind f x e) (λ change. same_kind change attributes refl) bytes m w (((tc-reading bytes w).reading m).1 g)
+
+pub act-norm : (bytes : List ℕ) → IsWireBytes bytes → (m : Message) → ReadsAct bytes m → SettledAct (norm_act m)
+act-norm bytes w m g =
+    message_norm keep keep action_message_header action_message_attributes sound_actions (table_laws (table action_message_attributes) sound_actions)
+    (λ kind f x w e. refl) (λ change x. refl) bytes m w (((act-reading bytes w).reading m).1 g)
+
+-- so its bytes are canonical
+pub tc-norm_canonical : (bytes : List ℕ) → IsWireBytes bytes → (m : Message) → ReadsTc bytes m → FitsTc m → CanonTc (tc_bytes (norm_tc m))
+tc-norm_canonical bytes w m g f =
+    let t = typed-norm kind_of_frame kind_of_attribute tc_header attributes CanonTc tc_words tc_next m (tc-typed bytes w m g) in
+    tc-settled (norm_tc m) t (fits-norm kind_of_frame kind_of_attribute tc_header attributes CanonTc tc_words tc_next m f) (tc-norm bytes w m g)
+
+pub act-norm_canonical : (bytes : List ℕ) → IsWireBytes bytes → (m : Message) → ReadsAct bytes m → FitsAct m → CanonAct (act_bytes (norm_act m))
+act-norm_canonical bytes w m g f =
+    let t = typed-norm keep keep action_message_header action_message_attributes CanonAct act_words act_next m (act-typed bytes w m g) in
+    act-settled (norm_act m) t (fits-norm keep keep action_message_header action_message_attributes CanonAct act_words act_next m f) (act-norm bytes w m g)
 
 -- no warning stands in a traffic control message
 pub tc_nuls : (m : Message) → nuls attributes m ≡ 0
@@ -133,4 +152,4 @@ tc-written bytes w m g f = (canonical-next kind_of_frame kind_of_attribute tc_he
 
 pub tc-written_norm : (bytes : List ℕ) → IsWireBytes bytes → (m : Message) → ReadsTc bytes m → FitsTc m → ReadsTc (tc_bytes m) (norm_tc m)
 tc-written_norm bytes w m g f =
-    subst (ReadsTc (tc_bytes m)) ((message_cuts attributes).once m (tc_whole m)) (next-read kind_of_frame kind_of_attribute tc_header attributes CanonTc tc_words tc_next bytes w m g f)
+    subst (ReadsTc (tc_bytes m)) ((message_trims attributes).once m (tc_whole m)) (next-read kind_of_frame kind_of_attribute tc_header attributes CanonTc tc_words tc_next bytes w m g f)

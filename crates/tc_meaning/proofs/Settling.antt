@@ -8,7 +8,7 @@ use Rattle.tc_meaning.specs.Message.{Message}
 use Rattle.tc_meaning.specs.Loose.{Part, is_loose_part}
 use Rattle.tc_meaning.specs.Rewriting.{Rewrites, Times, SettlesAs, SettlesIn}
 use Rattle.tc_meaning.proofs.Outcomes.{ok-same}
-use Rattle.tc_meaning.proofs.CutLaws.{CutLaws, most, most-whole, whole-most}
+use Rattle.tc_meaning.proofs.TrimLaws.{TrimLaws, most, most-whole, whole-most}
 use Rattle.tc_meaning.proofs.NextValues.{NextLaws, IsSettledPart}
 
 -- no part is loose
@@ -22,7 +22,7 @@ none_loose (p ∷ ps) = go (is_loose_part p) refl (none_loose ps)
     go false e later = (λ all. later.0 all.1, λ no. (e, later.1 no))
 
 module _ (c : Codec (List ℕ) Message) (Canon : List ℕ → Type 0) (laws : Laws IsWireBytes c (λ kind bytes. Canon bytes))
-    (next norm : Message → Message) (parts : Message → List Part) (r : NextLaws IsWireBytes length c next parts) (cuts : CutLaws next norm parts) where
+    (next norm : Message → Message) (parts : Message → List Part) (r : NextLaws IsWireBytes length c next parts) (trims : TrimLaws next norm parts) where
   -- after so many rewritings, the message and the bytes that read as it
   after : Message → ℕ → Message
   after m zero = m
@@ -57,12 +57,12 @@ module _ (c : Codec (List ℕ) Message) (Canon : List ℕ → Type 0) (laws : La
   left-after : (m : Message) (n : ℕ) → most (parts (after m n)) ≡ most (parts m) - n
   unfolding after
   left-after m zero = omega arith
-  left-after m (suc n) = let one = cuts.left (after m n) in let before = left-after m n in omega (arith, one, before)
+  left-after m (suc n) = let one = trims.left (after m n) in let before = left-after m n in omega (arith, one, before)
 
   norm-after : (m : Message) (n : ℕ) → norm (after m n) ≡ norm m
   unfolding after
   norm-after m zero = refl
-  norm-after m (suc n) = cuts.twice (after m n) ∙ norm-after m n
+  norm-after m (suc n) = trims.twice (after m n) ∙ norm-after m n
 
   -- written bytes are canonical exactly if no warning ends in NUL
   pub canon-whole : (bytes : List ℕ) (m : Message) → IsRead bytes m → Canon (c.write m) ↔ (most (parts m) ≡ 0)
@@ -79,7 +79,7 @@ module _ (c : Codec (List ℕ) Message) (Canon : List ℕ → Type 0) (laws : La
       let whole = (laws.same [] bytes m is.wire is.reads is.fits).1 canon in
       let none = (canon-whole bytes m is).0 (subst Canon (sym whole) canon) in
       let same : next m ≡ m = ok-same (next m) m (sym (r.again [] bytes m is.wire is.reads is.fits) ∙ ap (c.read []) whole ∙ is.reads) in
-      sym (cuts.once m (most-whole (parts m) none)) ∙ same
+      sym (trims.once m (most-whole (parts m) none)) ∙ same
 
   -- after all its NULs and one more the message is its norm, and the bytes are canonical
   last-norm : (m : Message) → after m (suc (most (parts m))) ≡ norm m
@@ -87,7 +87,7 @@ module _ (c : Codec (List ℕ) Message) (Canon : List ℕ → Type 0) (laws : La
   last-norm m =
       let n = most (parts m) in
       let none : most (parts (after m (most (parts m)))) ≡ 0 = let h = left-after m (most (parts m)) in omega (arith, h) in
-      cuts.once (after m (most (parts m))) (most-whole (parts (after m (most (parts m)))) none) ∙ norm-after m (most (parts m))
+      trims.once (after m (most (parts m))) (most-whole (parts (after m (most (parts m)))) none) ∙ norm-after m (most (parts m))
 
   last : List ℕ → Message → List ℕ
   last bytes m = bytes_after bytes m (suc (most (parts m)))
@@ -102,18 +102,22 @@ module _ (c : Codec (List ℕ) Message) (Canon : List ℕ → Type 0) (laws : La
   unfolding last
   last-read bytes m is = subst (IsRead (last bytes m)) (last-norm m) (is_read-after bytes m is (suc (most (parts m))))
 
-  -- the norm is one in hand, fits and is settled
-  pub norm-typed : (bytes : List ℕ) (m : Message) → IsRead bytes m → c.Typed (norm m)
-  norm-typed bytes m is = typed (last bytes m) (norm m) (last-read bytes m is)
+  -- the norm is one in hand where the message is, and fits where it does
+  pub norm-typed : (m : Message) → c.Typed m → c.Typed (norm m)
+  unfolding after
+  norm-typed m t = subst c.Typed (last-norm m) (go (suc (most (parts m))))
+    where
+      go : (n : ℕ) → c.Typed (after m n)
+      go zero = t
+      go (suc n) = r.typed (after m n) (go n)
 
-  pub norm-fits : (bytes : List ℕ) (m : Message) → IsRead bytes m → c.Fits (norm m)
-  norm-fits bytes m is = (last-read bytes m is).fits
-
-  pub norm-settled : (bytes : List ℕ) (m : Message) → IsRead bytes m → c.Settled [] (norm m)
-  norm-settled bytes m is =
-      let there = last-read bytes m is in
-      let whole = (laws.same [] (last bytes m) (norm m) there.wire there.reads there.fits).1 (last-canon bytes m is) in
-      (laws.back [] (norm m) (norm-typed bytes m is) there.fits).0 (ap (c.read []) whole ∙ there.reads)
+  pub norm-fits : (m : Message) → c.Fits m → c.Fits (norm m)
+  unfolding after
+  norm-fits m f = subst c.Fits (last-norm m) (go (suc (most (parts m))))
+    where
+      go : (n : ℕ) → c.Fits (after m n)
+      go zero = f
+      go (suc n) = r.fits (after m n) (go n)
 
   -- ---- rewriting
 

@@ -59,6 +59,19 @@ without-shorter (b ∷ text) = go (without_nuls text) (without-shorter text)
         at_end false = omega arith
     go (c ∷ w) h = omega arith
 
+-- what is left has no NUL at its end
+pub without-ends : (text : List ℕ) → ends_in_nul (without_nuls text) ≡ false
+without-ends [] = refl
+without-ends (b ∷ text) = go (without_nuls text) (without-ends text)
+  where
+    go : (w : List ℕ) → ends_in_nul w ≡ false → ends_in_nul (before_text b w) ≡ false
+    go [] e = at_end (eqb b 0) refl
+      where
+        at_end : (t : Bool) → eqb b 0 ≡ t → ends_in_nul (cond t [] (b ∷ [])) ≡ false
+        at_end true h = refl
+        at_end false h = h
+    go (c ∷ w) e = ends-cons b c w ∙ e
+
 -- a text that ends in NUL is one byte longer than it is without that
 pub length-strip : (text : List ℕ) → ends_in_nul text ≡ true → suc (length (strip text)) ≡ length text
 unfolding strip

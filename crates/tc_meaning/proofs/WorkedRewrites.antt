@@ -7,7 +7,7 @@ use Rattle.nla_frames.specs.Cutting.{next_frame, cut_up_to, cut}
 use Rattle.nla_frames.specs.Reading.{read_each, read_list}
 use Rattle.nla_frames.specs.Emission.{list_bytes}
 use Rattle.tc_canon.specs.Tables.Messages.{attributes}
-use Rattle.tc_meaning.specs.Tree.{number, is_bytes, items, Attribute, known, kept, of_kind, attributes_of}
+use Rattle.tc_meaning.specs.Tree.{number, is_bytes, items, Attribute, known, kept, attributes_of}
 use Rattle.tc_meaning.specs.Own.{read_kinds, read_own}
 use Rattle.tc_meaning.specs.Message.{Message, read_with, message_bytes}
 use Rattle.tc_meaning.specs.Whole.{read_act, act_bytes}

@@ -1,5 +1,5 @@
 -- What a value holds that is written otherwise than it may have been read: numbers that are written masked, and
--- texts of warnings, which are written without a NUL. A value is loose where one of them shows.
+-- texts of warnings, which are written without a NUL. A value is loose where one of them would not come back.
 use Rattle.std.specs.Prelude.{ℕ, ◌-◌, ◌^◌, Bool, List, [], ◌∷◌, length, map, not, nat_lt, ◌==◌, if◌then◌else◌}
 use Rattle.std.specs.Str.{bytes_eq}
 use Rattle.std.specs.List.{flat_map, list_any}
@@ -19,7 +19,7 @@ pub data Part : Type 0 where
 
 -- ---- the parts of a value
 
--- of a content that stands under a type, and none of what is kept as it stands
+-- of a content that stands under a type; what is kept as it stands has none
 abbrev pub parts_in_known : (ℕ → Content → List Part) → Attribute → List Part
 parts_in_known parts (known n content) = parts n content
 parts_in_known parts x = []

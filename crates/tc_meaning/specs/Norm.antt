@@ -1,4 +1,4 @@
--- A value with its masked numbers masked and its warnings cut.
+-- A value with its masked numbers masked and the ends of its warnings trimmed.
 use Rattle.std.specs.Prelude.{ℕ, ◌%◌, ◌^◌, List, map, ◌==◌, if◌then◌else◌}
 use Rattle.std.specs.Str.{bytes_eq}
 use Rattle.nla_frames.specs.Value.{strip}
@@ -26,46 +26,46 @@ abbrev pub in_kind : (List ℕ → Attribute → Attribute) → Attribute → At
 in_kind change (of_kind name x) = of_kind name (change name x)
 in_kind change x = x
 
--- ---- with warnings cut in a given way
+-- ---- with warnings trimmed in a given way
 
-module _ (cut : List ℕ → List ℕ) where
+module _ (trim : List ℕ → List ℕ) where
   abbrev mutual
-    pub class_cut : Class → Content → Content
-    class_cut (masked n bits) = on a_number (λ x. x % 2 ^ bits)
-    class_cut warning = on some_bytes cut
-    class_cut (list_of t) = on a_list (map (table_cut t))
-    class_cut (own_list rows) = on a_list (map (in_known (rows_cut rows)))
-    class_cut _ = λ x. x
+    pub trimmed_class : Class → Content → Content
+    trimmed_class (masked n bits) = on a_number (λ x. x % 2 ^ bits)
+    trimmed_class warning = on some_bytes trim
+    trimmed_class (list_of t) = on a_list (map (trimmed_table t))
+    trimmed_class (own_list rows) = on a_list (map (in_known (trimmed_rows rows)))
+    trimmed_class _ = λ x. x
 
-    pub table_cut : Table → Attribute → Attribute
-    table_cut (table rows) = in_known (rows_cut rows)
-    table_cut (every class) = in_known (λ n. class_cut class)
-    table_cut (by_kind kinds) = in_kind (kinds_cut kinds)
+    pub trimmed_table : Table → Attribute → Attribute
+    trimmed_table (table rows) = in_known (trimmed_rows rows)
+    trimmed_table (every class) = in_known (λ n. trimmed_class class)
+    trimmed_table (by_kind kinds) = in_kind (trimmed_kinds kinds)
 
     -- a content under a type of these rows
-    pub rows_cut : Rows → ℕ → Content → Content
-    rows_cut others n x = x
-    rows_cut (types first last flags class rows) n x = if is_within first last n then class_cut class x else rows_cut rows n x
-    rows_cut (unread m class rows) n x = if n == m then class_cut class x else rows_cut rows n x
-    rows_cut (options m kinds rows) n x = if n == m then on a_list (map (in_kind (kinds_cut kinds))) x else rows_cut rows n x
+    pub trimmed_rows : Rows → ℕ → Content → Content
+    trimmed_rows others n x = x
+    trimmed_rows (types first last flags class rows) n x = if is_within first last n then trimmed_class class x else trimmed_rows rows n x
+    trimmed_rows (unread m class rows) n x = if n == m then trimmed_class class x else trimmed_rows rows n x
+    trimmed_rows (options m kinds rows) n x = if n == m then on a_list (map (in_kind (trimmed_kinds kinds))) x else trimmed_rows rows n x
 
     -- an attribute in the variant of one of these kinds
-    pub kinds_cut : Kinds → List ℕ → Attribute → Attribute
-    kinds_cut unknown name x = x
-    kinds_cut (kind own rows kinds) name x = if bytes_eq name own then in_known (rows_cut rows) x else kinds_cut kinds name x
+    pub trimmed_kinds : Kinds → List ℕ → Attribute → Attribute
+    trimmed_kinds unknown name x = x
+    trimmed_kinds (kind own rows kinds) name x = if bytes_eq name own then in_known (trimmed_rows rows) x else trimmed_kinds kinds name x
 
-  abbrev pub message_cut : Rows → Message → Message
-  message_cut rows m = record { header = m.header; body = map (table_cut (table rows)) m.body }
+  abbrev pub trimmed_message : Rows → Message → Message
+  trimmed_message rows m = record { header = m.header; body = map (trimmed_table (table rows)) m.body }
 
 -- ---- a message
 
 -- every masked number masked, and no NUL at the end of a warning
 abbrev pub norm : Rows → Message → Message
-norm = message_cut without_nuls
+norm = trimmed_message without_nuls
 
 -- the same with one NUL less at the end of each warning: what the message's bytes are read as
 abbrev pub next : Rows → Message → Message
-next = message_cut strip
+next = trimmed_message strip
 
 abbrev pub norm_tc : Message → Message
 norm_tc = norm attributes

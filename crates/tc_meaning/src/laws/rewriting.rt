@@ -13,9 +13,10 @@ ghost use Rattle.tc_meaning.specs.Rewriting.{RewritesTc, RewritesAct, SettlesAs,
 /// aren't canonical are so after one rewrite, and read as the norm.
 pub fn tc_rewriting(bytes: &[u8])
     ensures loose { (m : Message) → ReadsTc bytes.now m → SettledTc m ↔ (is_loose_tc m ≡ false) }
-    ensures norm_typed { (m : Message) → ReadsTc bytes.now m → FitsTc m → TypedTc (norm_tc m) }
-    ensures norm_fits { (m : Message) → ReadsTc bytes.now m → FitsTc m → FitsTc (norm_tc m) }
-    ensures norm_settled { (m : Message) → ReadsTc bytes.now m → FitsTc m → SettledTc (norm_tc m) }
+    ensures norm_typed { (m : Message) → TypedTc m → TypedTc (norm_tc m) }
+    ensures norm_fits { (m : Message) → FitsTc m → FitsTc (norm_tc m) }
+    ensures norm_settled { (m : Message) → ReadsTc bytes.now m → SettledTc (norm_tc m) }
+    ensures norm_canonical { (m : Message) → ReadsTc bytes.now m → FitsTc m → CanonTc (tc_bytes (norm_tc m)) }
     ensures canonical { (m : Message) → ReadsTc bytes.now m → FitsTc m → CanonTc bytes.now → norm_tc m ≡ m }
     ensures written { (m : Message) → ReadsTc bytes.now m → FitsTc m → CanonTc (tc_bytes m) }
     ensures written_norm { (m : Message) → ReadsTc bytes.now m → FitsTc m → ReadsTc (tc_bytes m) (norm_tc m) }
@@ -28,9 +29,10 @@ pub fn tc_rewriting(bytes: &[u8])
 /// canonical are so after as many rewrites as NULs end one of its warnings, and one more, and no sooner.
 pub fn action_rewriting(bytes: &[u8])
     ensures loose { (m : Message) → ReadsAct bytes.now m → SettledAct m ↔ (is_loose_act m ≡ false) }
-    ensures norm_typed { (m : Message) → ReadsAct bytes.now m → FitsAct m → TypedAct (norm_act m) }
-    ensures norm_fits { (m : Message) → ReadsAct bytes.now m → FitsAct m → FitsAct (norm_act m) }
-    ensures norm_settled { (m : Message) → ReadsAct bytes.now m → FitsAct m → SettledAct (norm_act m) }
+    ensures norm_typed { (m : Message) → TypedAct m → TypedAct (norm_act m) }
+    ensures norm_fits { (m : Message) → FitsAct m → FitsAct (norm_act m) }
+    ensures norm_settled { (m : Message) → ReadsAct bytes.now m → SettledAct (norm_act m) }
+    ensures norm_canonical { (m : Message) → ReadsAct bytes.now m → FitsAct m → CanonAct (act_bytes (norm_act m)) }
     ensures canonical { (m : Message) → ReadsAct bytes.now m → FitsAct m → CanonAct bytes.now → norm_act m ≡ m }
     ensures one_way { (c d : List ℕ) → RewritesAct bytes.now c → RewritesAct bytes.now d → c ≡ d }
     ensures settles { (m : Message) → ReadsAct bytes.now m → FitsAct m → (CanonAct bytes.now → ⊥) → ActSettlesIn (nuls_act m + 1) bytes.now (norm_act m) }

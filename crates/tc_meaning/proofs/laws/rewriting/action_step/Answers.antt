@@ -4,7 +4,7 @@ use Rattle.nla_frames.specs.Reading.{keep}
 use Rattle.tc_canon.specs.Layouts.{action_message_header}
 use Rattle.tc_canon.specs.Tables.Messages.{action_message_attributes}
 use Rattle.tc_canon.specs.Canonical.{CanonAct}
-use Rattle.tc_meaning.proofs.CutLaws.{message_cuts}
+use Rattle.tc_meaning.proofs.TrimLaws.{message_trims}
 use Rattle.tc_meaning.proofs.Headline.{wire_slice}
 use Rattle.tc_meaning.proofs.RewritingLaws.{next-read, canonical-next, act_words, act_next}
 use Rattle.tc_meaning.proofs.laws.rewriting.action_step.Goals as goal
@@ -22,10 +22,10 @@ pub returns-clause-typed : goal.returns-clause-typed
 returns-clause-typed c = act_next.typed
 
 pub returns-clause-nuls : goal.returns-clause-nuls
-returns-clause-nuls c = (message_cuts action_message_attributes).left
+returns-clause-nuls c = (message_trims action_message_attributes).left
 
 pub returns-clause-norm : goal.returns-clause-norm
-returns-clause-norm c = (message_cuts action_message_attributes).twice
+returns-clause-norm c = (message_trims action_message_attributes).twice
 
 pub returns-clause-canonical : goal.returns-clause-canonical
 returns-clause-canonical c = canonical-next keep keep action_message_header action_message_attributes CanonAct act_words act_next c.args.bytes.now (wire c)

@@ -5,7 +5,7 @@ use Rattle.tc_canon.specs.Tables.Messages.{attributes}
 use Rattle.tc_canon.specs.Canonical.{CanonTc}
 use Rattle.tc_meaning.specs.Own.{kind_of_frame, kind_of_attribute}
 use Rattle.tc_meaning.proofs.Headline.{wire_slice}
-use Rattle.tc_meaning.proofs.RewritingLaws.{loose, typed-norm, fits-norm, settled-norm, canonical-norm, one-way, tc-settles, tc-written, tc-written_norm, final-norm, tc_words, tc_next}
+use Rattle.tc_meaning.proofs.RewritingLaws.{loose, typed-norm, fits-norm, tc-norm, tc-norm_canonical, canonical-norm, one-way, tc-settles, tc-written, tc-written_norm, final-norm, tc_words, tc_next}
 use Rattle.tc_meaning.proofs.laws.rewriting.tc_rewriting.Goals as goal
 
 wire : (c : goal.Start) → IsWireBytes c.args.bytes.now
@@ -15,13 +15,16 @@ pub returns-clause-loose : goal.returns-clause-loose
 returns-clause-loose c = loose kind_of_frame kind_of_attribute tc_header attributes CanonTc tc_words tc_next c.args.bytes.now (wire c)
 
 pub returns-clause-norm_typed : goal.returns-clause-norm_typed
-returns-clause-norm_typed c = typed-norm kind_of_frame kind_of_attribute tc_header attributes CanonTc tc_words tc_next c.args.bytes.now (wire c)
+returns-clause-norm_typed c = typed-norm kind_of_frame kind_of_attribute tc_header attributes CanonTc tc_words tc_next
 
 pub returns-clause-norm_fits : goal.returns-clause-norm_fits
-returns-clause-norm_fits c = fits-norm kind_of_frame kind_of_attribute tc_header attributes CanonTc tc_words tc_next c.args.bytes.now (wire c)
+returns-clause-norm_fits c = fits-norm kind_of_frame kind_of_attribute tc_header attributes CanonTc tc_words tc_next
 
 pub returns-clause-norm_settled : goal.returns-clause-norm_settled
-returns-clause-norm_settled c = settled-norm kind_of_frame kind_of_attribute tc_header attributes CanonTc tc_words tc_next c.args.bytes.now (wire c)
+returns-clause-norm_settled c = tc-norm c.args.bytes.now (wire c)
+
+pub returns-clause-norm_canonical : goal.returns-clause-norm_canonical
+returns-clause-norm_canonical c = tc-norm_canonical c.args.bytes.now (wire c)
 
 pub returns-clause-canonical : goal.returns-clause-canonical
 returns-clause-canonical c = canonical-norm kind_of_frame kind_of_attribute tc_header attributes CanonTc tc_words tc_next c.args.bytes.now (wire c)

@@ -10,7 +10,7 @@ use Rattle.tc_meaning.specs.Content.{a_number, some_bytes}
 use Rattle.tc_meaning.specs.Meaning.{a_list}
 use Rattle.tc_meaning.specs.Message.{Message}
 use Rattle.tc_meaning.specs.Loose.{Part, masked_number, warning_text, parts_in_known, parts_in_kind, class_parts, table_parts, rows_parts, kinds_parts, message_parts, without_nuls, trailing_nuls, part_nuls, greater, greatest}
-use Rattle.tc_meaning.specs.Norm.{on, in_known, in_kind, class_cut, table_cut, rows_cut, kinds_cut, norm, next}
+use Rattle.tc_meaning.specs.Norm.{on, in_known, in_kind, trimmed_class, trimmed_table, trimmed_rows, trimmed_kinds, norm, next}
 use Rattle.tc_meaning.proofs.Trees.{attributes_again}
 use Rattle.tc_meaning.proofs.TrailingNuls.{without-strip, without-none, none-ends, ends-none, trailing-strip}
 use Rattle.tc_meaning.proofs.Texts.{strip-none}
@@ -107,7 +107,7 @@ append-all P (x ∷ xs) ys a b = (a.0, append-all P xs ys a.1 b)
 -- ---- the laws
 
 -- one NUL taken off, and all
-pub record CutLaws {X : Type 0} (one all : X → X) (parts : X → List Part) : Type 0 where
+pub record TrimLaws {X : Type 0} (one all : X → X) (parts : X → List Part) : Type 0 where
   -- the same where no text has more than that
   pub once : (x : X) → AllByRecursion IsWhole (parts x) → one x ≡ all x
   -- one after the other
@@ -116,22 +116,22 @@ pub record CutLaws {X : Type 0} (one all : X → X) (parts : X → List Part) : 
   pub left : (x : X) → most (parts (one x)) ≡ most (parts x) - 1
 
 -- what has no such part stays
-same_cut : CutLaws {X = Content} (λ x. x) (λ x. x) (λ x. [])
-same_cut = record { once = λ x w. refl; twice = λ x. refl; left = λ x. refl }
+same_trim : TrimLaws {X = Content} (λ x. x) (λ x. x) (λ x. [])
+same_trim = record { once = λ x w. refl; twice = λ x. refl; left = λ x. refl }
 
-masked_cut : (bits : ℕ) → CutLaws (on a_number (λ x. x % 2 ^ bits)) (on a_number (λ x. x % 2 ^ bits)) (λ x. masked_number bits (a_number.out x) ∷ [])
-masked_cut bits = record { once = λ x w. refl; twice = λ x. ap number (mask-again bits (a_number.out x)); left = λ x. refl }
+masked_trim : (bits : ℕ) → TrimLaws (on a_number (λ x. x % 2 ^ bits)) (on a_number (λ x. x % 2 ^ bits)) (λ x. masked_number bits (a_number.out x) ∷ [])
+masked_trim bits = record { once = λ x w. refl; twice = λ x. ap number (mask-again bits (a_number.out x)); left = λ x. refl }
 
-warning_cut : CutLaws (on some_bytes strip) (on some_bytes without_nuls) (λ x. warning_text (some_bytes.out x) ∷ [])
-warning_cut = record {
+warning_trim : TrimLaws (on some_bytes strip) (on some_bytes without_nuls) (λ x. warning_text (some_bytes.out x) ∷ [])
+warning_trim = record {
   once = λ x w. ap is_bytes (strip-none (some_bytes.out x) w.0 ∙ sym (without-none (some_bytes.out x) w.0));
   twice = λ x. ap is_bytes (without-strip (some_bytes.out x));
   left = λ x. let t = some_bytes.out x in greater-nothing (trailing_nuls (strip t)) ∙ trailing-strip t ∙ ap (λ (n : ℕ). n - 1) (sym (greater-nothing (trailing_nuls t)));
 }
 
 -- each of a list
-each_cut : {X : Type 0} (one all : X → X) (parts : X → List Part) → CutLaws one all parts → CutLaws (map one) (map all) (flat_map parts)
-each_cut {X = X} one all parts laws = record { once = once_each; twice = twice_each; left = left_each }
+each_trim : {X : Type 0} (one all : X → X) (parts : X → List Part) → TrimLaws one all parts → TrimLaws (map one) (map all) (flat_map parts)
+each_trim {X = X} one all parts laws = record { once = once_each; twice = twice_each; left = left_each }
   where
     once_each : (xs : List X) → AllByRecursion IsWhole (flat_map parts xs) → map one xs ≡ map all xs
     once_each [] w = refl
@@ -152,10 +152,10 @@ each_cut {X = X} one all parts laws = record { once = once_each; twice = twice_e
         ∙ ap (λ (n : ℕ). n - 1) (sym (most-append (parts x) (flat_map parts xs)))
 
 -- a list as a content
-items_cut : (one all : Attribute → Attribute) (parts : Attribute → List Part) → CutLaws one all parts
-    → CutLaws (on a_list (map one)) (on a_list (map all)) (λ x. flat_map parts (a_list.out x))
-items_cut one all parts laws =
-    let each = each_cut one all parts laws in
+items_trim : (one all : Attribute → Attribute) (parts : Attribute → List Part) → TrimLaws one all parts
+    → TrimLaws (on a_list (map one)) (on a_list (map all)) (λ x. flat_map parts (a_list.out x))
+items_trim one all parts laws =
+    let each = each_trim one all parts laws in
     record {
       once = λ x w. ap a_list.into (each.once (a_list.out x) w);
       twice = λ x. ap (λ (xs : List Attribute). a_list.into (map all xs)) (attributes_again (map one (a_list.out x))) ∙ ap a_list.into (each.twice (a_list.out x));
@@ -163,13 +163,13 @@ items_cut one all parts laws =
     }
 
 -- one of two
-pick_cut : {X : Type 0} (b : Bool) (one all one' all' : X → X) (parts parts' : X → List Part) → CutLaws one all parts → CutLaws one' all' parts'
-    → CutLaws (λ x. cond b (one x) (one' x)) (λ x. cond b (all x) (all' x)) (λ x. cond b (parts x) (parts' x))
-pick_cut true one all one' all' parts parts' this that = this
-pick_cut false one all one' all' parts parts' this that = that
+pick_trim : {X : Type 0} (b : Bool) (one all one' all' : X → X) (parts parts' : X → List Part) → TrimLaws one all parts → TrimLaws one' all' parts'
+    → TrimLaws (λ x. cond b (one x) (one' x)) (λ x. cond b (all x) (all' x)) (λ x. cond b (parts x) (parts' x))
+pick_trim true one all one' all' parts parts' this that = this
+pick_trim false one all one' all' parts parts' this that = that
 
-known_cut : (one all : ℕ → Content → Content) (parts : ℕ → Content → List Part) → ((n : ℕ) → CutLaws (one n) (all n) (parts n)) → CutLaws (in_known one) (in_known all) (parts_in_known parts)
-known_cut one all parts laws = record { once = once_known; twice = twice_known; left = left_known }
+known_trim : (one all : ℕ → Content → Content) (parts : ℕ → Content → List Part) → ((n : ℕ) → TrimLaws (one n) (all n) (parts n)) → TrimLaws (in_known one) (in_known all) (parts_in_known parts)
+known_trim one all parts laws = record { once = once_known; twice = twice_known; left = left_known }
   where
     once_known : (x : Attribute) → AllByRecursion IsWhole (parts_in_known parts x) → in_known one x ≡ in_known all x
     once_known (known n content) w = ap (known n) ((laws n).once content w)
@@ -189,9 +189,9 @@ known_cut one all parts laws = record { once = once_known; twice = twice_known; 
     left_known (other word value) = refl
     left_known (of_kind name x) = refl
 
-kind_cut : (one all : List ℕ → Attribute → Attribute) (parts : List ℕ → Attribute → List Part) → ((name : List ℕ) → CutLaws (one name) (all name) (parts name))
-    → CutLaws (in_kind one) (in_kind all) (parts_in_kind parts)
-kind_cut one all parts laws = record { once = once_kind; twice = twice_kind; left = left_kind }
+kind_trim : (one all : List ℕ → Attribute → Attribute) (parts : List ℕ → Attribute → List Part) → ((name : List ℕ) → TrimLaws (one name) (all name) (parts name))
+    → TrimLaws (in_kind one) (in_kind all) (parts_in_kind parts)
+kind_trim one all parts laws = record { once = once_kind; twice = twice_kind; left = left_kind }
   where
     once_kind : (x : Attribute) → AllByRecursion IsWhole (parts_in_kind parts x) → in_kind one x ≡ in_kind all x
     once_kind (of_kind name x) w = ap (of_kind name) ((laws name).once x w)
@@ -212,60 +212,60 @@ kind_cut one all parts laws = record { once = once_kind; twice = twice_kind; lef
     left_kind (other word value) = refl
 
 mutual
-  class_cuts : (c : Class) → CutLaws (class_cut strip c) (class_cut without_nuls c) (class_parts c)
-  class_cuts (le n) = same_cut
-  class_cuts (be n) = same_cut
-  class_cuts (masked n bits) = masked_cut bits
-  class_cuts (array n) = same_cut
-  class_cuts raw = same_cut
-  class_cuts text = same_cut
-  class_cuts warning = warning_cut
-  class_cuts presence = same_cut
-  class_cuts truth = same_cut
-  class_cuts (fields layout) = same_cut
-  class_cuts selector = same_cut
-  class_cuts pair = same_cut
-  class_cuts xstats = same_cut
-  class_cuts (list_of t) = items_cut (table_cut strip t) (table_cut without_nuls t) (table_parts t) (table_cuts t)
-  class_cuts (own_list rows) =
-      items_cut (in_known (rows_cut strip rows)) (in_known (rows_cut without_nuls rows)) (parts_in_known (rows_parts rows)) (known_cut (rows_cut strip rows) (rows_cut without_nuls rows) (rows_parts rows) (λ n. rows_cuts rows n))
+  class_trims : (c : Class) → TrimLaws (trimmed_class strip c) (trimmed_class without_nuls c) (class_parts c)
+  class_trims (le n) = same_trim
+  class_trims (be n) = same_trim
+  class_trims (masked n bits) = masked_trim bits
+  class_trims (array n) = same_trim
+  class_trims raw = same_trim
+  class_trims text = same_trim
+  class_trims warning = warning_trim
+  class_trims presence = same_trim
+  class_trims truth = same_trim
+  class_trims (fields layout) = same_trim
+  class_trims selector = same_trim
+  class_trims pair = same_trim
+  class_trims xstats = same_trim
+  class_trims (list_of t) = items_trim (trimmed_table strip t) (trimmed_table without_nuls t) (table_parts t) (table_trims t)
+  class_trims (own_list rows) =
+      items_trim (in_known (trimmed_rows strip rows)) (in_known (trimmed_rows without_nuls rows)) (parts_in_known (rows_parts rows)) (known_trim (trimmed_rows strip rows) (trimmed_rows without_nuls rows) (rows_parts rows) (λ n. rows_trims rows n))
 
-  pub table_cuts : (t : Table) → CutLaws (table_cut strip t) (table_cut without_nuls t) (table_parts t)
-  table_cuts (table rows) = known_cut (rows_cut strip rows) (rows_cut without_nuls rows) (rows_parts rows) (λ n. rows_cuts rows n)
-  table_cuts (every class) = known_cut (λ n. class_cut strip class) (λ n. class_cut without_nuls class) (λ n. class_parts class) (λ n. class_cuts class)
-  table_cuts (by_kind kinds) = kind_cut (kinds_cut strip kinds) (kinds_cut without_nuls kinds) (kinds_parts kinds) (λ name. kinds_cuts kinds name)
+  pub table_trims : (t : Table) → TrimLaws (trimmed_table strip t) (trimmed_table without_nuls t) (table_parts t)
+  table_trims (table rows) = known_trim (trimmed_rows strip rows) (trimmed_rows without_nuls rows) (rows_parts rows) (λ n. rows_trims rows n)
+  table_trims (every class) = known_trim (λ n. trimmed_class strip class) (λ n. trimmed_class without_nuls class) (λ n. class_parts class) (λ n. class_trims class)
+  table_trims (by_kind kinds) = kind_trim (trimmed_kinds strip kinds) (trimmed_kinds without_nuls kinds) (kinds_parts kinds) (λ name. kinds_trims kinds name)
 
-  rows_cuts : (rows : Rows) (n : ℕ) → CutLaws (rows_cut strip rows n) (rows_cut without_nuls rows n) (rows_parts rows n)
-  rows_cuts others n = same_cut
-  rows_cuts (types first last flags class rows) n =
-      pick_cut (is_within first last n) (class_cut strip class) (class_cut without_nuls class) (rows_cut strip rows n) (rows_cut without_nuls rows n) (class_parts class) (rows_parts rows n) (class_cuts class) (rows_cuts rows n)
-  rows_cuts (unread m class rows) n =
-      pick_cut (eqb n m) (class_cut strip class) (class_cut without_nuls class) (rows_cut strip rows n) (rows_cut without_nuls rows n) (class_parts class) (rows_parts rows n) (class_cuts class) (rows_cuts rows n)
-  rows_cuts (options m kinds rows) n =
-      pick_cut (eqb n m) (on a_list (map (in_kind (kinds_cut strip kinds)))) (on a_list (map (in_kind (kinds_cut without_nuls kinds)))) (rows_cut strip rows n) (rows_cut without_nuls rows n)
+  rows_trims : (rows : Rows) (n : ℕ) → TrimLaws (trimmed_rows strip rows n) (trimmed_rows without_nuls rows n) (rows_parts rows n)
+  rows_trims others n = same_trim
+  rows_trims (types first last flags class rows) n =
+      pick_trim (is_within first last n) (trimmed_class strip class) (trimmed_class without_nuls class) (trimmed_rows strip rows n) (trimmed_rows without_nuls rows n) (class_parts class) (rows_parts rows n) (class_trims class) (rows_trims rows n)
+  rows_trims (unread m class rows) n =
+      pick_trim (eqb n m) (trimmed_class strip class) (trimmed_class without_nuls class) (trimmed_rows strip rows n) (trimmed_rows without_nuls rows n) (class_parts class) (rows_parts rows n) (class_trims class) (rows_trims rows n)
+  rows_trims (options m kinds rows) n =
+      pick_trim (eqb n m) (on a_list (map (in_kind (trimmed_kinds strip kinds)))) (on a_list (map (in_kind (trimmed_kinds without_nuls kinds)))) (trimmed_rows strip rows n) (trimmed_rows without_nuls rows n)
       (λ x. flat_map (parts_in_kind (kinds_parts kinds)) (a_list.out x)) (rows_parts rows n)
-      (items_cut (in_kind (kinds_cut strip kinds)) (in_kind (kinds_cut without_nuls kinds)) (parts_in_kind (kinds_parts kinds)) (kind_cut (kinds_cut strip kinds) (kinds_cut without_nuls kinds) (kinds_parts kinds) (λ name. kinds_cuts kinds name)))
-      (rows_cuts rows n)
+      (items_trim (in_kind (trimmed_kinds strip kinds)) (in_kind (trimmed_kinds without_nuls kinds)) (parts_in_kind (kinds_parts kinds)) (kind_trim (trimmed_kinds strip kinds) (trimmed_kinds without_nuls kinds) (kinds_parts kinds) (λ name. kinds_trims kinds name)))
+      (rows_trims rows n)
 
-  kinds_cuts : (kinds : Kinds) (name : List ℕ) → CutLaws (kinds_cut strip kinds name) (kinds_cut without_nuls kinds name) (kinds_parts kinds name)
-  kinds_cuts unknown name = record { once = λ x w. refl; twice = λ x. refl; left = λ x. refl }
-  kinds_cuts (kind own rows kinds) name =
-      pick_cut (bytes_eq name own) (in_known (rows_cut strip rows)) (in_known (rows_cut without_nuls rows)) (kinds_cut strip kinds name) (kinds_cut without_nuls kinds name) (parts_in_known (rows_parts rows)) (kinds_parts kinds name)
-      (known_cut (rows_cut strip rows) (rows_cut without_nuls rows) (rows_parts rows) (λ n. rows_cuts rows n)) (kinds_cuts kinds name)
+  kinds_trims : (kinds : Kinds) (name : List ℕ) → TrimLaws (trimmed_kinds strip kinds name) (trimmed_kinds without_nuls kinds name) (kinds_parts kinds name)
+  kinds_trims unknown name = record { once = λ x w. refl; twice = λ x. refl; left = λ x. refl }
+  kinds_trims (kind own rows kinds) name =
+      pick_trim (bytes_eq name own) (in_known (trimmed_rows strip rows)) (in_known (trimmed_rows without_nuls rows)) (trimmed_kinds strip kinds name) (trimmed_kinds without_nuls kinds name) (parts_in_known (rows_parts rows)) (kinds_parts kinds name)
+      (known_trim (trimmed_rows strip rows) (trimmed_rows without_nuls rows) (rows_parts rows) (λ n. rows_trims rows n)) (kinds_trims kinds name)
 
 -- ---- of a message
 
 module _ (rows : Rows) where
-  body_cuts : CutLaws (map (table_cut strip (table rows))) (map (table_cut without_nuls (table rows))) (flat_map (table_parts (table rows)))
-  body_cuts = each_cut (table_cut strip (table rows)) (table_cut without_nuls (table rows)) (table_parts (table rows)) (table_cuts (table rows))
+  body_trims : TrimLaws (map (trimmed_table strip (table rows))) (map (trimmed_table without_nuls (table rows))) (flat_map (table_parts (table rows)))
+  body_trims = each_trim (trimmed_table strip (table rows)) (trimmed_table without_nuls (table rows)) (table_parts (table rows)) (table_trims (table rows))
 
   message_of : Message → List Attribute → Message
   message_of m body = record { header = m.header; body = body }
 
-  pub message_cuts : CutLaws (next rows) (norm rows) (message_parts rows)
+  pub message_trims : TrimLaws (next rows) (norm rows) (message_parts rows)
   unfolding message_of
-  message_cuts = record {
-    once = λ m w. ap (message_of m) (body_cuts.once m.body w);
-    twice = λ m. ap (message_of m) (body_cuts.twice m.body);
-    left = λ m. body_cuts.left m.body;
+  message_trims = record {
+    once = λ m w. ap (message_of m) (body_trims.once m.body w);
+    twice = λ m. ap (message_of m) (body_trims.twice m.body);
+    left = λ m. body_trims.left m.body;
   }
