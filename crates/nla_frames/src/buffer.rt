@@ -12,7 +12,7 @@ use crate::nla::{NLA_F_NESTED, NLA_F_NET_BYTEORDER, NLA_HEADER_SIZE, NLA_TYPE_MA
 pub(crate) use front::split_first;
 
 /// A frame that stands in bytes: its word and its value, borrowed.
-#[derive(Debug, Clone, Copy, PartialEq, Eq)]
+#[derive(Clone, Copy, PartialEq, Eq, Debug)]
 pub struct NlaBuffer<'a> {
     word: u16,
     value: &'a [u8],

@@ -10,7 +10,7 @@ use thiserror::Error;
 pub type Res<T> = Result<T, DecodeError>;
 
 /// Why bytes can't be read: the first fault from left to right. All numbers count bytes.
-#[derive(Debug, Drop, PartialEq, Eq, Error)]
+#[derive(Drop, PartialEq, Eq, Error, Debug)]
 pub enum DecodeError {
     /// A header or fixed record is short.
     #[error("buffer of {len} bytes, {needed} needed")]

@@ -4,7 +4,7 @@ ghost use Rattle.std.specs.Prelude.{◌≡◌};
 ghost use Rattle.nla_frames.specs.Family.{family_of, number_of};
 
 /// A family of addresses, one byte in a message: `AF_*` of `linux/socket.h`.
-#[derive(Debug, PartialEq, Eq, Clone, Copy, Default)]
+#[derive(PartialEq, Eq, Clone, Copy, Default, Debug)]
 pub enum AddressFamily {
     /// `AF_UNSPEC`, 0: none is named.
     #[default]

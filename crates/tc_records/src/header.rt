@@ -18,7 +18,7 @@ use std::fmt;
 pub const TC_HEADER_LEN: usize = 20;
 
 /// The handle of a queueing discipline, a class or a filter: a major and a minor number.
-#[derive(Debug, PartialEq, Eq, Clone, Copy, Default)]
+#[derive(PartialEq, Eq, Clone, Copy, Default, Debug)]
 pub struct TcHandle {
     pub major: u16,
     pub minor: u16,
@@ -90,7 +90,7 @@ impl fmt::Display for TcHandle {
 }
 
 /// The header of a message, `struct tcmsg` of `linux/rtnetlink.h`.
-#[derive(Debug, PartialEq, Eq, Clone, Default, Drop)]
+#[derive(PartialEq, Eq, Clone, Default, Drop, Debug)]
 pub struct TcHeader {
     pub family: AddressFamily,
     /// The index of the interface; `TCM_IFINDEX_MAGIC_BLOCK` for a block.

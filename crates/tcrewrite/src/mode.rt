@@ -4,7 +4,7 @@ ghost use Rattle.std.specs.Prelude.{◌≡◌, ◌↔◌, Some};
 ghost use Rattle.tcrewrite.specs.Word.{word_of};
 
 /// The kind of message that the text holds.
-#[derive(Debug, PartialEq, Eq, Clone, Copy)]
+#[derive(PartialEq, Eq, Clone, Copy, Debug)]
 pub enum Mode {
     /// A whole `TcMessage`.
     Tc,

@@ -14,7 +14,7 @@ use std::alloc::Allocator;
 use std::io::{Read, Write};
 
 /// Why a run ended early.
-#[derive(Debug, Drop, PartialEq, Eq)]
+#[derive(Drop, PartialEq, Eq, Debug)]
 pub enum RunError {
     /// The reader failed.
     Read,

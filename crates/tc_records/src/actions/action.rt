@@ -16,7 +16,7 @@ use nla_frames::{BytesMeaning, DecodeError, Emitable, Res, i32_bytes, put_bytes,
 pub const TC_ACTION_GENERIC_LEN: usize = 20;
 
 /// What becomes of a packet after an action, `TC_ACT_*` of `linux/pkt_cls.h`.
-#[derive(Debug, PartialEq, Eq, Clone, Copy, Default)]
+#[derive(PartialEq, Eq, Clone, Copy, Default, Debug)]
 pub enum TcActionType {
     /// `TC_ACT_UNSPEC`, -1: what the action does by default.
     #[default]
@@ -122,7 +122,7 @@ pub(crate) fn is_settled_action_type(action: TcActionType) -> bool
 }
 
 /// What the record of every action begins with, `tc_gen` of `linux/pkt_cls.h`.
-#[derive(Debug, PartialEq, Eq, Clone, Copy, Default)]
+#[derive(PartialEq, Eq, Clone, Copy, Default, Debug)]
 pub struct TcActionGeneric {
     /// The number of the action among those of its kind; at 0 the kernel chooses one.
     pub index: u32,

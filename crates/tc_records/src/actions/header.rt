@@ -14,7 +14,7 @@ use nla_frames::{AddressFamily, BytesMeaning, DecodeError, Emitable, Res, put_by
 pub const TCA_HEADER_LEN: usize = 4;
 
 /// The header of a message of actions, `struct tcamsg` of `linux/rtnetlink.h`: a family, then three bytes of padding.
-#[derive(Debug, PartialEq, Eq, Clone, Default, Drop)]
+#[derive(PartialEq, Eq, Clone, Default, Drop, Debug)]
 pub struct TcActionMessageHeader {
     pub family: AddressFamily,
 }

@@ -4,7 +4,7 @@ use bitflags::{Flag, Flags};
 
 /// What is asked of a dump of actions: `TCA_ACT_FLAG_*` of `linux/rtnetlink.h`. Bits without a name are kept; the
 /// order is that of the word.
-#[derive(Debug, PartialEq, Eq, PartialOrd, Ord, Hash, Clone, Copy, Default)]
+#[derive(PartialEq, Eq, PartialOrd, Ord, Hash, Clone, Copy, Default, Debug)]
 pub struct TcActionMessageFlags(u32);
 
 #[allow(non_upper_case_globals)]

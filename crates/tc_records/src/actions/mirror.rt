@@ -17,7 +17,7 @@ use nla_frames::{BytesMeaning, DecodeError, Emitable, Res, i32_bytes, put_bytes,
 pub const TC_MIRROR_LEN: usize = 28;
 
 /// Where a packet or its copy goes, `TCA_EGRESS_REDIR` and its like of `linux/tc_act/tc_mirred.h`.
-#[derive(Debug, PartialEq, Eq, Clone, Copy, Default)]
+#[derive(PartialEq, Eq, Clone, Copy, Default, Debug)]
 pub enum TcMirrorActionType {
     /// `TCA_EGRESS_REDIR`, 1: the packet itself is sent out.
     #[default]
@@ -96,7 +96,7 @@ fn is_settled_mirror_action_type(action: TcMirrorActionType) -> bool
 }
 
 /// Packets that are redirected or copied to an interface, `struct tc_mirred` of `linux/tc_act/tc_mirred.h`.
-#[derive(Debug, PartialEq, Eq, Clone, Default, Drop)]
+#[derive(PartialEq, Eq, Clone, Default, Drop, Debug)]
 pub struct TcMirror {
     pub generic: TcActionGeneric,
     /// Which of both, and in which direction.

@@ -20,7 +20,7 @@ use std::net::Ipv4Addr;
 pub const TC_NAT_LEN: usize = 36;
 
 /// A translation of addresses, `struct tc_nat` of `linux/tc_act/tc_nat.h`. An address stands as its four bytes.
-#[derive(Debug, PartialEq, Eq, Clone, Drop)]
+#[derive(PartialEq, Eq, Clone, Drop, Debug)]
 pub struct TcNat {
     pub generic: TcActionGeneric,
     /// The addresses that are translated.

@@ -4,7 +4,7 @@ use bitflags::{Flag, Flags};
 
 /// How a network address translation works: `TCA_NAT_FLAG_EGRESS` of `linux/tc_act/tc_nat.h`, and in the upper half
 /// the kernel's own flags of actions, `TCA_ACT_FLAGS_*` of `net/act_api.h`. Bits without a name are kept.
-#[derive(Debug, PartialEq, Eq, Clone, Copy, Default)]
+#[derive(PartialEq, Eq, Clone, Copy, Default, Debug)]
 pub struct TcNatFlags(u32);
 
 #[allow(non_upper_case_globals)]

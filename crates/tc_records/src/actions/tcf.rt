@@ -14,7 +14,7 @@ use nla_frames::{BytesMeaning, DecodeError, Emitable, Res, put_bytes, u64_bytes}
 pub const TCF_LEN: usize = 32;
 
 /// The times of an action, `struct tcf_t` of `linux/pkt_cls.h`: four numbers of clock ticks, low byte first.
-#[derive(Debug, PartialEq, Eq, Clone, Default, Drop)]
+#[derive(PartialEq, Eq, Clone, Default, Drop, Debug)]
 pub struct Tcf {
     /// Since it was made.
     pub install: u64,

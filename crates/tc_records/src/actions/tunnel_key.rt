@@ -15,7 +15,7 @@ use nla_frames::{BytesMeaning, DecodeError, Emitable, Res, i32_bytes, put_bytes}
 pub const TC_TUNNEL_KEY_LEN: usize = 24;
 
 /// A tunnel's metadata is set on packets or released, `struct tc_tunnel_key` of `linux/tc_act/tc_tunnel_key.h`.
-#[derive(Debug, PartialEq, Eq, Clone, Default, Drop)]
+#[derive(PartialEq, Eq, Clone, Default, Drop, Debug)]
 pub struct TcTunnelKey {
     pub generic: TcActionGeneric,
     /// Which of both: `TCA_TUNNEL_KEY_ACT_SET`, 1, or `TCA_TUNNEL_KEY_ACT_RELEASE`, 2.

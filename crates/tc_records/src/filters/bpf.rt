@@ -3,7 +3,7 @@
 use bitflags::{Flag, Flags};
 
 /// The flags of a bpf filter, `TCA_BPF_FLAG_*` of `linux/pkt_cls.h`. Bits without a name are kept.
-#[derive(Debug, PartialEq, Eq, Clone, Copy)]
+#[derive(PartialEq, Eq, Clone, Copy, Debug)]
 pub struct TcBpfFlags(u32);
 
 #[allow(non_upper_case_globals)]

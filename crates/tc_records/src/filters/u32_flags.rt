@@ -3,7 +3,7 @@
 use bitflags::{Flag, Flags};
 
 /// The flags of a selector, one byte: `TC_U32_*` of `linux/pkt_cls.h`. Bits without a name are kept.
-#[derive(Debug, PartialEq, Eq, Clone, Copy, Default)]
+#[derive(PartialEq, Eq, Clone, Copy, Default, Debug)]
 pub struct TcU32SelectorFlags(u8);
 
 #[allow(non_upper_case_globals)]
@@ -71,7 +71,7 @@ impl Flags for TcU32SelectorFlags {
 }
 
 /// Where a filter is to be, and where it is: `TCA_CLS_FLAGS_*` of `linux/pkt_cls.h`. Bits without a name are kept.
-#[derive(Debug, PartialEq, Eq, Clone, Copy)]
+#[derive(PartialEq, Eq, Clone, Copy, Debug)]
 pub struct TcU32OptionFlags(u32);
 
 #[allow(non_upper_case_globals)]

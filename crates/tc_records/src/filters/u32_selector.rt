@@ -28,7 +28,7 @@ pub const TC_U32_KEY_LEN: usize = 16;
 pub const TC_U32_SELECTOR_LEN: usize = 16;
 
 /// A word of a packet that is compared, `struct tc_u32_key` of `linux/pkt_cls.h`.
-#[derive(Debug, PartialEq, Eq, Clone, Default, Drop)]
+#[derive(PartialEq, Eq, Clone, Default, Drop, Debug)]
 pub struct TcU32Key {
     /// The bits that are compared, high byte first.
     pub mask: u32,

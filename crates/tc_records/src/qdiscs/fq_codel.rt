@@ -18,7 +18,7 @@ pub const TC_FQ_CODEL_CL_STATS_LEN: usize = 24;
 
 /// The statistics of a queueing discipline, `struct tc_fq_codel_qd_stats` of `linux/pkt_sched.h`: nine numbers,
 /// low byte first.
-#[derive(Debug, PartialEq, Eq, Clone, Copy, Default)]
+#[derive(PartialEq, Eq, Clone, Copy, Default, Debug)]
 pub struct TcFqCodelQdStats {
     /// The bytes of the largest packet that was seen.
     pub maxpacket: u32,
@@ -127,7 +127,7 @@ impl Emitable for TcFqCodelQdStats {
 
 /// The statistics of a class, which is one flow, `struct tc_fq_codel_cl_stats` of `linux/pkt_sched.h`: six numbers,
 /// low byte first. They are read and written, and shown by `Debug`.
-#[derive(Debug, PartialEq, Eq, Clone, Copy, Default)]
+#[derive(PartialEq, Eq, Clone, Copy, Default, Debug)]
 pub struct TcFqCodelClStats {
     // Bytes that the flow may send before the next one's turn; negative once it sent more.
     deficit: i32,

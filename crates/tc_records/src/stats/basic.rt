@@ -15,7 +15,7 @@ pub const TC_STATS_BASIC_LEN: usize = 16;
 
 /// What went through a queue, `struct gnet_stats_basic` of `linux/gen_stats.h`: two numbers, low byte first, and
 /// four bytes of padding.
-#[derive(Debug, PartialEq, Eq, Clone, Copy, Default)]
+#[derive(PartialEq, Eq, Clone, Copy, Default, Debug)]
 pub struct TcStatsBasic {
     /// Bytes that were seen.
     pub bytes: u64,

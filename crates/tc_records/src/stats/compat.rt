@@ -15,7 +15,7 @@ pub const TC_STATS_LEN: usize = 40;
 
 /// The statistics of a queue, `struct tc_stats` of `linux/pkt_sched.h`: eight numbers, low byte first, and four
 /// bytes of padding.
-#[derive(Debug, PartialEq, Eq, Clone, Copy, Default)]
+#[derive(PartialEq, Eq, Clone, Copy, Default, Debug)]
 pub struct TcStats {
     /// Bytes that were queued.
     pub bytes: u64,

@@ -15,7 +15,7 @@ pub const TC_STATS_QUEUE_LEN: usize = 20;
 
 /// What waits in a queue and what it refused, `struct gnet_stats_queue` of `linux/gen_stats.h`: five numbers, low
 /// byte first.
-#[derive(Debug, PartialEq, Eq, Clone, Copy, Default)]
+#[derive(PartialEq, Eq, Clone, Copy, Default, Debug)]
 pub struct TcStatsQueue {
     /// Packets in the queue.
     pub qlen: u32,

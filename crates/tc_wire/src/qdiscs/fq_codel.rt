@@ -14,7 +14,7 @@ use nla_frames::{DefaultNla, FrameMeaning, Nla, NlaBuffer, Parseable, Res};
 use std::alloc::{Allocator, Global};
 
 /// The queueing discipline `fq_codel`.
-#[derive(Debug, PartialEq, Eq, Clone, Drop)]
+#[derive(PartialEq, Eq, Clone, Drop, Debug)]
 pub struct TcQdiscFqCodel {}
 
 impl TcQdiscFqCodel {
