@@ -127,11 +127,17 @@ impl BytesMeaning for TcNat {
 }
 
 impl Emitable for TcNat {
+    ghost use Rattle.std.specs.Prelude.{length};
+    ghost use Rattle.tc_records.specs.Actions.{nat_scalars};
+
     fn fits(&self) -> bool {
         true
     }
 
-    fn buffer_len(&self) -> usize {
+    fn buffer_len(&self) -> usize
+        ensures length { result ≡ length (fields_bytes nat (nat_scalars self.now)) }
+        ensures constant { result ≡ 36 }
+    {
         self.to_bytes().len()
     }
 

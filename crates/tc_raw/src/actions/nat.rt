@@ -1,0 +1,47 @@
+//! The bytes of the record of a translation.
+
+ghost use Rattle.std.specs.Prelude.{◌≡◌};
+ghost use Rattle.nla_frames.specs.Fault.{seen};
+ghost use Rattle.tc_canon.specs.Layouts.{size_of, nat};
+ghost use Rattle.tc_meaning.specs.Layout.{fields_bytes};
+ghost use Rattle.tc_records.specs.Actions.{nat_scalars};
+ghost use Rattle.tc_raw.specs.Buffers.{first_bytes, nat_bytes};
+
+use crate::raw::{first_bytes, record_bytes};
+use nla_frames::{Emitable, Res};
+use tc_records::{TC_NAT_LEN, TcNat};
+
+/// The bytes of the record of a network address translation, `struct tc_nat` of `linux/tc_act/tc_nat.h`.
+#[derive(Debug, PartialEq, Eq, Clone, Drop)]
+pub struct TcNatBuffer {
+    bytes: [u8; TC_NAT_LEN],
+}
+
+impl TcNatBuffer {
+    /// The first bytes of some, padding too; what follows is dropped.
+    pub fn read_from_prefix(bytes: &[u8]) -> Res<TcNatBuffer>
+        ensures { seen nat_bytes result ≡ first_bytes (size_of nat) bytes.now }
+    {
+        Ok(TcNatBuffer {
+            bytes: first_bytes(bytes)?,
+        })
+    }
+
+    /// The bytes.
+    pub fn as_bytes(&self) -> [u8; TC_NAT_LEN]
+        ensures { result ≡ nat_bytes self.now }
+    {
+        self.bytes
+    }
+}
+
+impl From<&TcNat> for TcNatBuffer {
+    ghost from_gives = { λ action buffer. nat_bytes buffer ≡ fields_bytes nat (nat_scalars action.now) };
+
+    fn from(action: &TcNat) -> TcNatBuffer {
+        prove!(action.buffer_len() == TC_NAT_LEN);
+        TcNatBuffer {
+            bytes: record_bytes(action),
+        }
+    }
+}

@@ -1,0 +1,3 @@
+//! The bytes of records of filters.
+
+pub mod u32_selector;

@@ -1,0 +1,3 @@
+//! The bytes of records of queueing disciplines.
+
+pub mod fq_codel;

@@ -1,0 +1,33 @@
+//! The bytes that a raw buffer holds: those at the front of some bytes, or those of a record.
+
+ghost use Rattle.std.specs.Prelude.{◌≡◌, length};
+ghost use Rattle.nla_frames.specs.Fault.{seen};
+ghost use Rattle.tc_raw.specs.Buffers.{first_bytes};
+
+use nla_frames::{DecodeError, Emitable, Res};
+
+/// The first bytes of some; what follows is dropped.
+pub(crate) fn first_bytes<const N: usize>(bytes: &[u8]) -> Res<[u8; N]>
+    ensures { result ≡ first_bytes N bytes.now }
+{
+    if bytes.len() < N {
+        return Err(DecodeError::BufferTooSmall {
+            len: bytes.len(),
+            needed: N,
+        });
+    }
+    let mut first = [0; N];
+    first.copy_from_slice(&bytes[..N]);
+    Ok(first)
+}
+
+/// The bytes of a record that has so many.
+pub(crate) fn record_bytes<R: Emitable, const N: usize>(record: &R) -> [u8; N]
+    requires fits { R.Fits (R.see record.now) }
+    requires whole { length (R.bytes (R.see record.now)) ≡ N }
+    ensures { result ≡ R.bytes (R.see record.now) }
+{
+    let mut bytes = [0; N];
+    record.emit(&mut bytes);
+    bytes
+}
