@@ -42,8 +42,8 @@ read_tc1 bytes = read_by read_attribute1 kind_of_frame tc_header bytes
 
 -- ---- the upgrade
 
--- one attribute under a kind: one option that is of the type of options, and whose kind no table knows, is kept in
--- their place; every other attribute stays
+-- one attribute under a kind: options that are one `Other` of type 2, under a kind that no table knows, are kept as that
+-- word and value; every other attribute stays
 abbrev pub upgrade_attribute : List ℕ → Attribute → Attribute
 upgrade_attribute kind (known (suc (suc zero)) (items (and (other word value) none))) =
     if are_unknown_options kind word then kept 2 word value else lone_option word value

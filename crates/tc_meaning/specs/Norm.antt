@@ -26,7 +26,7 @@ abbrev pub in_kind : (List ℕ → Attribute → Attribute) → Attribute → At
 in_kind change (of_kind name x) = of_kind name (change name x)
 in_kind change x = x
 
--- ---- with warnings trimmed in a given way
+-- ---- with masked numbers masked, and warnings trimmed in a given way
 
 module _ (trim : List ℕ → List ℕ) where
   abbrev mutual

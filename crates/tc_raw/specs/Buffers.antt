@@ -27,11 +27,11 @@ first_bytes n bytes = if nat_lt (length bytes) n then Err (BufferTooSmall (lengt
 abbrev pub checked_head : List ℕ → Outcome (List ℕ)
 checked_head bytes = seen (λ selector. take (size_of selector_head) bytes) (read_selector bytes)
 
-abbrev pub message_bytes : TcMessageBuffer → List ℕ
-message_bytes b = b.bytes
+abbrev pub header_bytes : TcMessageBuffer → List ℕ
+header_bytes b = b.bytes
 
-abbrev pub action_message_bytes : TcActionMessageBuffer → List ℕ
-action_message_bytes b = b.bytes
+abbrev pub action_header_bytes : TcActionMessageBuffer → List ℕ
+action_header_bytes b = b.bytes
 
 abbrev pub stats_bytes : TcStatsBuffer → List ℕ
 stats_bytes b = b.bytes

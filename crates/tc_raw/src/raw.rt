@@ -6,7 +6,7 @@ ghost use Rattle.tc_raw.specs.Buffers.{first_bytes};
 
 use nla_frames::{DecodeError, Emitable, Res};
 
-/// The first bytes of some; what follows is dropped.
+/// The bytes at the front; what follows is dropped.
 pub(crate) fn first_bytes<const N: usize>(bytes: &[u8]) -> Res<[u8; N]>
     ensures { result ≡ first_bytes N bytes.now }
 {
@@ -21,7 +21,7 @@ pub(crate) fn first_bytes<const N: usize>(bytes: &[u8]) -> Res<[u8; N]>
     Ok(first)
 }
 
-/// The bytes of a record that has so many.
+/// The bytes of a record that is N bytes long.
 pub(crate) fn record_bytes<R: Emitable, const N: usize>(record: &R) -> [u8; N]
     requires fits { R.Fits (R.see record.now) }
     requires whole { length (R.bytes (R.see record.now)) ≡ N }

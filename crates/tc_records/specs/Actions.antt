@@ -49,11 +49,11 @@ tunnel_key_scalars k = generic_then_scalars k.generic
     (plain (cast_unsigned w32 k.t_action)
     ∷ [])
 
--- the default: no outcome, every number 0
+-- the default: the outcome `Unspec`, every number 0
 abbrev pub empty_generic : TcActionGeneric
 empty_generic = record { index = 0; capab = 0; action = Unspec; refcnt = pos 0; bindcnt = pos 0 }
 
--- the default: no outcome, every number 0, every address 0.0.0.0, no flag
+-- the default: the outcome `Unspec`, every number 0, every address 0.0.0.0, no flag
 pub record IsEmptyNat (n : TcNat) : Type 0 where
   pub generic : n.generic ≡ empty_generic
   pub old_addr : IsUnspecifiedV4 n.old_addr

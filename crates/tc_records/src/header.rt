@@ -1,4 +1,4 @@
-//! The header of a message.
+//! The header of a traffic control message, and handles.
 
 ghost use Rattle.std.specs.Prelude.{◌≡◌, ◌↔◌, IsTrue, List};
 ghost use Rattle.nla_frames.specs.Fault.{seen};
@@ -14,13 +14,15 @@ use nla_frames::{
 };
 use std::fmt;
 
-/// The bytes of a header.
+/// How long a header is, in bytes.
 pub const TC_HEADER_LEN: usize = 20;
 
 /// The handle of a queueing discipline, a class or a filter: a major and a minor number.
 #[derive(PartialEq, Eq, Clone, Copy, Default, Debug)]
 pub struct TcHandle {
+    /// The upper half of its word, which names a queueing discipline.
     pub major: u16,
+    /// The lower half, which names a class of it, or is 0.
     pub minor: u16,
 }
 
@@ -44,13 +46,13 @@ impl TcHandle {
     pub const CLSACT: TcHandle = TcHandle::INGRESS;
 
     /// `TC_H_MIN_PRIORITY`, a minor number.
-    pub const MIN_PRIORITY: u16 = 0xFFE0;
+    pub const MIN_PRIORITY: u16 = 0xffe0;
 
     /// `TC_H_MIN_INGRESS`, a minor number.
-    pub const MIN_INGRESS: u16 = 0xFFF2;
+    pub const MIN_INGRESS: u16 = 0xfff2;
 
     /// `TC_H_MIN_EGRESS`, a minor number.
-    pub const MIN_EGRESS: u16 = 0xFFF3;
+    pub const MIN_EGRESS: u16 = 0xfff3;
 }
 
 impl From<u32> for TcHandle {
@@ -89,17 +91,20 @@ impl fmt::Display for TcHandle {
     }
 }
 
-/// The header of a message, `struct tcmsg` of `linux/rtnetlink.h`.
+/// The header of a traffic control message, `struct tcmsg` of `linux/rtnetlink.h`: a family, three bytes of padding,
+/// then four numbers, low byte first.
 #[derive(PartialEq, Eq, Clone, Default, Drop, Debug)]
 pub struct TcHeader {
+    /// The family of addresses, `Unspec` as a rule.
     pub family: AddressFamily,
-    /// The index of the interface; `TCM_IFINDEX_MAGIC_BLOCK` for a block.
+    /// The index of the interface; for a block of filters that of `TCM_IFINDEX_MAGIC_BLOCK`, which is -1 here.
     pub index: i32,
     /// The handle of what the message is about.
     pub handle: TcHandle,
-    /// The handle of its parent.
+    /// The handle of its parent; for a block of filters the number of the block.
     pub parent: TcHandle,
-    /// Priority and protocol of a filter, a count of references, a block's index.
+    /// Of a filter its priority, in the upper half, and its protocol, in network order; of a queueing discipline how
+    /// many references it has.
     pub info: u32,
 }
 
@@ -109,7 +114,7 @@ impl TcHeader {
     /// The index that stands for a block of filters in place of an interface.
     pub const TCM_IFINDEX_MAGIC_BLOCK: u32 = 0xFFFF_FFFF;
 
-    /// The header that bytes begin with; what follows is dropped.
+    /// The header that bytes begin with; what follows is dropped, and fewer bytes are `BufferTooSmall`.
     pub fn parse(payload: &[u8]) -> Res<TcHeader>
         ensures { seen header_scalars result ≡ read_record tc_header payload.now }
     {

@@ -8,9 +8,9 @@ ghost use Rattle.tc_meaning.specs.Loose.{is_loose_tc, is_loose_act, nuls_act};
 ghost use Rattle.tc_meaning.specs.Norm.{norm_tc, norm_act, next_act};
 ghost use Rattle.tc_meaning.specs.Rewriting.{RewritesTc, RewritesAct, SettlesAs, TcSettlesIn, ActSettlesIn};
 
-/// Bytes that read as a traffic control message. It is unsettled exactly if it is loose. Its norm can be written and
-/// read back, and is the message itself where the bytes are canonical. Bytes are rewritten in one way, and those that
-/// aren't canonical are so after one rewrite, and read as the norm.
+/// Bytes that read as a traffic control message. It is unsettled exactly if it is loose. Its norm can be written
+/// and read back where the message fits, and is the message itself where the bytes are canonical. Bytes are rewritten in
+/// at most one way, and those that aren't canonical are so after one rewrite, and read as the norm.
 pub fn tc_rewriting(bytes: &[u8])
     ensures loose { (m : Message) → ReadsTc bytes.now m → SettledTc m ↔ (is_loose_tc m ≡ false) }
     ensures norm_typed { (m : Message) → TypedTc m → TypedTc (norm_tc m) }
@@ -26,7 +26,7 @@ pub fn tc_rewriting(bytes: &[u8])
 {}
 
 /// The same of an action message. Each rewrite takes one NUL off the end of each warning, so that bytes which aren't
-/// canonical are so after as many rewrites as NULs end one of its warnings, and one more, and no sooner.
+/// canonical are so after one rewrite more than the most NULs that end one of its warnings as read, and no sooner.
 pub fn action_rewriting(bytes: &[u8])
     ensures loose { (m : Message) → ReadsAct bytes.now m → SettledAct m ↔ (is_loose_act m ≡ false) }
     ensures norm_typed { (m : Message) → TypedAct m → TypedAct (norm_act m) }

@@ -12,13 +12,13 @@ use nla_frames::Res;
 use tc_records::{TC_ACTION_GENERIC_LEN, TcActionGeneric};
 
 /// The bytes that every action's record begins with, `tc_gen` of `linux/pkt_cls.h`.
-#[derive(Debug, PartialEq, Eq, Clone, Copy)]
+#[derive(PartialEq, Eq, Clone, Copy, Debug)]
 pub struct TcActionGenericBuffer {
     bytes: [u8; TC_ACTION_GENERIC_LEN],
 }
 
 impl TcActionGenericBuffer {
-    /// The first bytes of some, padding too; what follows is dropped.
+    /// The bytes at the front, padding as it stands; what follows is dropped, and fewer bytes are `BufferTooSmall`.
     pub fn read_from_prefix(bytes: &[u8]) -> Res<TcActionGenericBuffer>
         ensures { seen generic_bytes result ≡ first_bytes (size_of action_generic) bytes.now }
     {
@@ -27,7 +27,7 @@ impl TcActionGenericBuffer {
         })
     }
 
-    /// The bytes.
+    /// The bytes as they were read; those of a record with zeros for padding.
     pub fn as_bytes(&self) -> [u8; TC_ACTION_GENERIC_LEN]
         ensures { result ≡ generic_bytes self.now }
     {

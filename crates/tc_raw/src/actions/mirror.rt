@@ -12,13 +12,13 @@ use nla_frames::Res;
 use tc_records::{TC_MIRROR_LEN, TcMirror};
 
 /// The bytes of a mirror's record, `struct tc_mirred` of `linux/tc_act/tc_mirred.h`.
-#[derive(Debug, PartialEq, Eq, Clone, Drop)]
+#[derive(PartialEq, Eq, Clone, Drop, Debug)]
 pub struct TcMirrorBuffer {
     bytes: [u8; TC_MIRROR_LEN],
 }
 
 impl TcMirrorBuffer {
-    /// The first bytes of some, padding too; what follows is dropped.
+    /// The bytes at the front, padding as it stands; what follows is dropped, and fewer bytes are `BufferTooSmall`.
     pub fn read_from_prefix(bytes: &[u8]) -> Res<TcMirrorBuffer>
         ensures { seen mirror_bytes result ≡ first_bytes (size_of mirror) bytes.now }
     {
@@ -27,7 +27,7 @@ impl TcMirrorBuffer {
         })
     }
 
-    /// The bytes.
+    /// The bytes as they were read; those of a record with zeros for padding.
     pub fn as_bytes(&self) -> [u8; TC_MIRROR_LEN]
         ensures { result ≡ mirror_bytes self.now }
     {

@@ -12,13 +12,13 @@ use nla_frames::{Emitable, Res};
 use tc_records::{TC_NAT_LEN, TcNat};
 
 /// The bytes of the record of a network address translation, `struct tc_nat` of `linux/tc_act/tc_nat.h`.
-#[derive(Debug, PartialEq, Eq, Clone, Drop)]
+#[derive(PartialEq, Eq, Clone, Drop, Debug)]
 pub struct TcNatBuffer {
     bytes: [u8; TC_NAT_LEN],
 }
 
 impl TcNatBuffer {
-    /// The first bytes of some, padding too; what follows is dropped.
+    /// The bytes at the front, padding as it stands; what follows is dropped, and fewer bytes are `BufferTooSmall`.
     pub fn read_from_prefix(bytes: &[u8]) -> Res<TcNatBuffer>
         ensures { seen nat_bytes result ≡ first_bytes (size_of nat) bytes.now }
     {
@@ -27,7 +27,7 @@ impl TcNatBuffer {
         })
     }
 
-    /// The bytes.
+    /// The bytes as they were read; those of a record with zeros for padding.
     pub fn as_bytes(&self) -> [u8; TC_NAT_LEN]
         ensures { result ≡ nat_bytes self.now }
     {

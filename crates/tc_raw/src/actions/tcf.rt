@@ -12,13 +12,13 @@ use nla_frames::Res;
 use tc_records::{TCF_LEN, Tcf};
 
 /// The bytes of the times of an action, `struct tcf_t` of `linux/pkt_cls.h`.
-#[derive(Debug, PartialEq, Eq, Clone, Drop)]
+#[derive(PartialEq, Eq, Clone, Drop, Debug)]
 pub struct TcfBuffer {
     bytes: [u8; TCF_LEN],
 }
 
 impl TcfBuffer {
-    /// The first bytes of some, padding too; what follows is dropped.
+    /// The bytes at the front, padding as it stands; what follows is dropped, and fewer bytes are `BufferTooSmall`.
     pub fn read_from_prefix(bytes: &[u8]) -> Res<TcfBuffer>
         ensures { seen tcf_bytes result ≡ first_bytes (size_of tcf) bytes.now }
     {
@@ -27,7 +27,7 @@ impl TcfBuffer {
         })
     }
 
-    /// The bytes.
+    /// The bytes as they were read; those of a record with zeros for padding.
     pub fn as_bytes(&self) -> [u8; TCF_LEN]
         ensures { result ≡ tcf_bytes self.now }
     {

@@ -12,13 +12,13 @@ use nla_frames::Res;
 use tc_records::{TC_TUNNEL_KEY_LEN, TcTunnelKey};
 
 /// The bytes of a tunnel key's record, `struct tc_tunnel_key` of `linux/tc_act/tc_tunnel_key.h`.
-#[derive(Debug, PartialEq, Eq, Clone, Drop)]
+#[derive(PartialEq, Eq, Clone, Drop, Debug)]
 pub struct TcTunnelKeyBuffer {
     bytes: [u8; TC_TUNNEL_KEY_LEN],
 }
 
 impl TcTunnelKeyBuffer {
-    /// The first bytes of some, padding too; what follows is dropped.
+    /// The bytes at the front, padding as it stands; what follows is dropped, and fewer bytes are `BufferTooSmall`.
     pub fn read_from_prefix(bytes: &[u8]) -> Res<TcTunnelKeyBuffer>
         ensures { seen tunnel_key_bytes result ≡ first_bytes (size_of tunnel_key) bytes.now }
     {
@@ -27,7 +27,7 @@ impl TcTunnelKeyBuffer {
         })
     }
 
-    /// The bytes.
+    /// The bytes as they were read; those of a record with zeros for padding.
     pub fn as_bytes(&self) -> [u8; TC_TUNNEL_KEY_LEN]
         ensures { result ≡ tunnel_key_bytes self.now }
     {

@@ -13,13 +13,13 @@ use std::alloc::Allocator;
 use tc_records::{TC_U32_KEY_LEN, TC_U32_SELECTOR_LEN, TcU32Key, TcU32Selector};
 
 /// The bytes of a key, `struct tc_u32_key` of `linux/pkt_cls.h`.
-#[derive(Debug, PartialEq, Eq, Clone, Drop)]
+#[derive(PartialEq, Eq, Clone, Drop, Debug)]
 pub struct TcU32KeyBuffer {
     bytes: [u8; TC_U32_KEY_LEN],
 }
 
 impl TcU32KeyBuffer {
-    /// The first bytes of some, padding too; what follows is dropped.
+    /// The bytes at the front, padding as it stands; what follows is dropped, and fewer bytes are `BufferTooSmall`.
     pub fn read_from_prefix(bytes: &[u8]) -> Res<TcU32KeyBuffer>
         ensures { seen key_bytes result ≡ first_bytes (size_of selector_key) bytes.now }
     {
@@ -28,7 +28,7 @@ impl TcU32KeyBuffer {
         })
     }
 
-    /// The bytes.
+    /// The bytes as they were read; those of a record with zeros for padding.
     pub fn as_bytes(&self) -> [u8; TC_U32_KEY_LEN]
         ensures { result ≡ key_bytes self.now }
     {
@@ -47,13 +47,13 @@ impl From<&TcU32Key> for TcU32KeyBuffer {
 }
 
 /// The bytes of a selector without its keys, `struct tc_u32_sel` of `linux/pkt_cls.h`, the padding as it stands.
-#[derive(Debug, PartialEq, Eq, Clone, Drop)]
+#[derive(PartialEq, Eq, Clone, Drop, Debug)]
 pub struct TcU32SelectorBuffer {
     bytes: [u8; TC_U32_SELECTOR_LEN],
 }
 
 impl TcU32SelectorBuffer {
-    /// The first bytes of some, padding too; what follows is dropped.
+    /// The bytes at the front, padding as it stands; what follows is dropped, and fewer bytes are `BufferTooSmall`.
     pub fn read_from_prefix(bytes: &[u8]) -> Res<TcU32SelectorBuffer>
         ensures { seen selector_bytes result ≡ first_bytes (size_of selector_head) bytes.now }
     {
@@ -62,7 +62,7 @@ impl TcU32SelectorBuffer {
         })
     }
 
-    /// The same where the keys that it counts follow.
+    /// The same where the keys that it counts follow; else `SelectorShort`.
     pub fn new_checked(bytes: &[u8]) -> Res<TcU32SelectorBuffer>
         ensures { seen selector_bytes result ≡ checked_head bytes.now }
     {
@@ -82,7 +82,7 @@ impl TcU32SelectorBuffer {
         TcU32SelectorBuffer::read_from_prefix(bytes)
     }
 
-    /// The bytes.
+    /// The bytes as they were read; those of a record with zeros for padding.
     pub fn as_bytes(&self) -> [u8; TC_U32_SELECTOR_LEN]
         ensures { result ≡ selector_bytes self.now }
     {

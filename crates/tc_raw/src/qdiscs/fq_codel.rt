@@ -14,13 +14,13 @@ use tc_records::{
 };
 
 /// The bytes of the statistics of a queueing discipline, `struct tc_fq_codel_qd_stats` of `linux/pkt_sched.h`.
-#[derive(Debug, PartialEq, Eq, Clone, Drop)]
+#[derive(PartialEq, Eq, Clone, Drop, Debug)]
 pub struct TcFqCodelQdStatsBuffer {
     bytes: [u8; TC_FQ_CODEL_QD_STATS_LEN],
 }
 
 impl TcFqCodelQdStatsBuffer {
-    /// The first bytes of some, padding too; what follows is dropped.
+    /// The bytes at the front, padding as it stands; what follows is dropped, and fewer bytes are `BufferTooSmall`.
     pub fn read_from_prefix(bytes: &[u8]) -> Res<TcFqCodelQdStatsBuffer>
         ensures { seen qd_stats_bytes result ≡ first_bytes (size_of fq_codel_qd_stats) bytes.now }
     {
@@ -29,7 +29,7 @@ impl TcFqCodelQdStatsBuffer {
         })
     }
 
-    /// The bytes.
+    /// The bytes as they were read; those of a record with zeros for padding.
     pub fn as_bytes(&self) -> [u8; TC_FQ_CODEL_QD_STATS_LEN]
         ensures { result ≡ qd_stats_bytes self.now }
     {
@@ -48,13 +48,13 @@ impl From<&TcFqCodelQdStats> for TcFqCodelQdStatsBuffer {
 }
 
 /// The bytes of the statistics of a class, `struct tc_fq_codel_cl_stats` of `linux/pkt_sched.h`.
-#[derive(Debug, PartialEq, Eq, Clone, Drop)]
+#[derive(PartialEq, Eq, Clone, Drop, Debug)]
 pub struct TcFqCodelClStatsBuffer {
     bytes: [u8; TC_FQ_CODEL_CL_STATS_LEN],
 }
 
 impl TcFqCodelClStatsBuffer {
-    /// The first bytes of some, padding too; what follows is dropped.
+    /// The bytes at the front, padding as it stands; what follows is dropped, and fewer bytes are `BufferTooSmall`.
     pub fn read_from_prefix(bytes: &[u8]) -> Res<TcFqCodelClStatsBuffer>
         ensures { seen cl_stats_bytes result ≡ first_bytes (size_of fq_codel_cl_stats) bytes.now }
     {
@@ -63,7 +63,7 @@ impl TcFqCodelClStatsBuffer {
         })
     }
 
-    /// The bytes.
+    /// The bytes as they were read; those of a record with zeros for padding.
     pub fn as_bytes(&self) -> [u8; TC_FQ_CODEL_CL_STATS_LEN]
         ensures { result ≡ cl_stats_bytes self.now }
     {

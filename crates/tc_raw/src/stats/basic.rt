@@ -12,13 +12,13 @@ use nla_frames::Res;
 use tc_records::{TC_STATS_BASIC_LEN, TcStatsBasic};
 
 /// The bytes of basic statistics, `struct gnet_stats_basic` of `linux/gen_stats.h`, the padding as it stands.
-#[derive(Debug, PartialEq, Eq, Clone, Drop)]
+#[derive(PartialEq, Eq, Clone, Drop, Debug)]
 pub struct TcStatsBasicBuffer {
     bytes: [u8; TC_STATS_BASIC_LEN],
 }
 
 impl TcStatsBasicBuffer {
-    /// The first bytes of some, padding too; what follows is dropped.
+    /// The bytes at the front, padding as it stands; what follows is dropped, and fewer bytes are `BufferTooSmall`.
     pub fn read_from_prefix(bytes: &[u8]) -> Res<TcStatsBasicBuffer>
         ensures { seen basic_bytes result ≡ first_bytes (size_of stats_basic) bytes.now }
     {
@@ -27,7 +27,7 @@ impl TcStatsBasicBuffer {
         })
     }
 
-    /// The bytes.
+    /// The bytes as they were read; those of a record with zeros for padding.
     pub fn as_bytes(&self) -> [u8; TC_STATS_BASIC_LEN]
         ensures { result ≡ basic_bytes self.now }
     {

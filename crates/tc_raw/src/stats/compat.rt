@@ -12,13 +12,13 @@ use nla_frames::Res;
 use tc_records::{TC_STATS_LEN, TcStats};
 
 /// The bytes of the statistics of a queue, `struct tc_stats` of `linux/pkt_sched.h`, the padding as it stands.
-#[derive(Debug, PartialEq, Eq, Clone, Drop)]
+#[derive(PartialEq, Eq, Clone, Drop, Debug)]
 pub struct TcStatsBuffer {
     bytes: [u8; TC_STATS_LEN],
 }
 
 impl TcStatsBuffer {
-    /// The first bytes of some, padding too; what follows is dropped.
+    /// The bytes at the front, padding as it stands; what follows is dropped, and fewer bytes are `BufferTooSmall`.
     pub fn read_from_prefix(bytes: &[u8]) -> Res<TcStatsBuffer>
         ensures { seen stats_bytes result ≡ first_bytes (size_of stats) bytes.now }
     {
@@ -27,7 +27,7 @@ impl TcStatsBuffer {
         })
     }
 
-    /// The bytes.
+    /// The bytes as they were read; those of a record with zeros for padding.
     pub fn as_bytes(&self) -> [u8; TC_STATS_LEN]
         ensures { result ≡ stats_bytes self.now }
     {

@@ -12,13 +12,13 @@ use nla_frames::Res;
 use tc_records::{TC_STATS_QUEUE_LEN, TcStatsQueue};
 
 /// The bytes of queue statistics, `struct gnet_stats_queue` of `linux/gen_stats.h`.
-#[derive(Debug, PartialEq, Eq, Clone, Drop)]
+#[derive(PartialEq, Eq, Clone, Drop, Debug)]
 pub struct TcStatsQueueBuffer {
     bytes: [u8; TC_STATS_QUEUE_LEN],
 }
 
 impl TcStatsQueueBuffer {
-    /// The first bytes of some, padding too; what follows is dropped.
+    /// The bytes at the front, padding as it stands; what follows is dropped, and fewer bytes are `BufferTooSmall`.
     pub fn read_from_prefix(bytes: &[u8]) -> Res<TcStatsQueueBuffer>
         ensures { seen queue_bytes result ≡ first_bytes (size_of stats_queue) bytes.now }
     {
@@ -27,7 +27,7 @@ impl TcStatsQueueBuffer {
         })
     }
 
-    /// The bytes.
+    /// The bytes as they were read; those of a record with zeros for padding.
     pub fn as_bytes(&self) -> [u8; TC_STATS_QUEUE_LEN]
         ensures { result ≡ queue_bytes self.now }
     {

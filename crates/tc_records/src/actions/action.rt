@@ -12,7 +12,7 @@ ghost use Rattle.tc_records.specs.ActionType.{action_type_of, action_type_number
 use crate::split::{split_i32, split_u32};
 use nla_frames::{BytesMeaning, DecodeError, Emitable, Res, i32_bytes, put_bytes, u32_bytes};
 
-/// The bytes of the generic part.
+/// How long the generic part is, in bytes.
 pub const TC_ACTION_GENERIC_LEN: usize = 20;
 
 /// What becomes of a packet after an action, `TC_ACT_*` of `linux/pkt_cls.h`.
@@ -121,7 +121,7 @@ pub(crate) fn is_settled_action_type(action: TcActionType) -> bool
     }
 }
 
-/// What the record of every action begins with, `tc_gen` of `linux/pkt_cls.h`.
+/// What the record of every action begins with, `tc_gen` of `linux/pkt_cls.h`: five numbers, low byte first.
 #[derive(PartialEq, Eq, Clone, Copy, Default, Debug)]
 pub struct TcActionGeneric {
     /// The number of the action among those of its kind; at 0 the kernel chooses one.
@@ -139,7 +139,7 @@ pub struct TcActionGeneric {
 impl TcActionGeneric {
     ghost use Rattle.tc_records.specs.Actions.{generic_scalars, generic_then_scalars};
 
-    /// The generic part that bytes begin with; what follows is dropped.
+    /// The generic part that bytes begin with; what follows is dropped, and fewer bytes are `BufferTooSmall`.
     pub fn parse(payload: &[u8]) -> Res<TcActionGeneric>
         ensures { seen generic_scalars result ≡ read_record action_generic payload.now }
     {

@@ -10,19 +10,20 @@ ghost use Rattle.tc_meaning.specs.Content.{read_record};
 use crate::family::{family_bytes, is_settled_family, split_family};
 use nla_frames::{AddressFamily, BytesMeaning, DecodeError, Emitable, Res, put_bytes};
 
-/// The bytes of a header.
+/// How long a header is, in bytes.
 pub const TCA_HEADER_LEN: usize = 4;
 
 /// The header of a message of actions, `struct tcamsg` of `linux/rtnetlink.h`: a family, then three bytes of padding.
 #[derive(PartialEq, Eq, Clone, Default, Drop, Debug)]
 pub struct TcActionMessageHeader {
+    /// The family of addresses, `Unspec` as a rule.
     pub family: AddressFamily,
 }
 
 impl TcActionMessageHeader {
     ghost use Rattle.tc_records.specs.Actions.{action_message_header_scalars};
 
-    /// The header that bytes begin with; what follows is dropped.
+    /// The header that bytes begin with; what follows is dropped, and fewer bytes are `BufferTooSmall`.
     pub fn parse(payload: &[u8]) -> Res<TcActionMessageHeader>
         ensures { seen action_message_header_scalars result ≡ read_record action_message_header payload.now }
     {

@@ -13,7 +13,7 @@ use crate::actions::action::{TC_ACTION_GENERIC_LEN, TcActionGeneric};
 use crate::split::{split_i32, split_u32};
 use nla_frames::{BytesMeaning, DecodeError, Emitable, Res, i32_bytes, put_bytes, u32_bytes};
 
-/// The bytes of a mirror's record.
+/// How long a mirror's record is, in bytes.
 pub const TC_MIRROR_LEN: usize = 28;
 
 /// Where a packet or its copy goes, `TCA_EGRESS_REDIR` and its like of `linux/tc_act/tc_mirred.h`.
@@ -95,9 +95,11 @@ fn is_settled_mirror_action_type(action: TcMirrorActionType) -> bool
     }
 }
 
-/// Packets that are redirected or copied to an interface, `struct tc_mirred` of `linux/tc_act/tc_mirred.h`.
+/// Packets that are redirected or copied to an interface, `struct tc_mirred` of `linux/tc_act/tc_mirred.h`: numbers, low
+/// byte first.
 #[derive(PartialEq, Eq, Clone, Default, Drop, Debug)]
 pub struct TcMirror {
+    /// What every action has.
     pub generic: TcActionGeneric,
     /// Which of both, and in which direction.
     pub eaction: TcMirrorActionType,
@@ -108,7 +110,7 @@ pub struct TcMirror {
 impl TcMirror {
     ghost use Rattle.tc_records.specs.Actions.{mirror_scalars};
 
-    /// The record that bytes begin with; what follows is dropped.
+    /// The record that bytes begin with; what follows is dropped, and fewer bytes are `BufferTooSmall`.
     pub fn parse(payload: &[u8]) -> Res<TcMirror>
         ensures { seen mirror_scalars result ≡ read_record mirror payload.now }
     {

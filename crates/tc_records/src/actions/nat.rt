@@ -16,12 +16,16 @@ use bitflags::Flags;
 use nla_frames::{BytesMeaning, DecodeError, Emitable, Res, put_bytes, u32_bytes};
 use std::net::Ipv4Addr;
 
-/// The bytes of a translation's record.
+/// How long a translation's record is, in bytes.
 pub const TC_NAT_LEN: usize = 36;
 
-/// A translation of addresses, `struct tc_nat` of `linux/tc_act/tc_nat.h`. An address stands as its four bytes.
+const NOWHERE: Ipv4Addr = Ipv4Addr::UNSPECIFIED;
+
+/// A translation of addresses, `struct tc_nat` of `linux/tc_act/tc_nat.h`. An address stands as its four bytes, a number
+/// with its low byte first.
 #[derive(PartialEq, Eq, Clone, Drop, Debug)]
 pub struct TcNat {
+    /// What every action has.
     pub generic: TcActionGeneric,
     /// The addresses that are translated.
     pub old_addr: Ipv4Addr,
@@ -29,6 +33,7 @@ pub struct TcNat {
     pub new_addr: Ipv4Addr,
     /// Which bits of an address count.
     pub mask: Ipv4Addr,
+    /// How it is translated.
     pub flags: TcNatFlags,
 }
 
@@ -40,10 +45,10 @@ impl Default for TcNat {
     fn default() -> TcNat {
         TcNat {
             generic: TcActionGeneric::default(),
-            old_addr: Ipv4Addr::UNSPECIFIED,
-            new_addr: Ipv4Addr::UNSPECIFIED,
-            mask: Ipv4Addr::UNSPECIFIED,
-            flags: TcNatFlags::empty(),
+            old_addr: NOWHERE,
+            new_addr: NOWHERE,
+            mask: NOWHERE,
+            flags: TcNatFlags::default(),
         }
     }
 }
@@ -52,7 +57,7 @@ impl TcNat {
     ghost use Rattle.tc_records.specs.Actions.{nat_scalars};
     ghost use Rattle.tc_records.specs.NatFlags.{nat_flags_word};
 
-    /// The record that bytes begin with; what follows is dropped.
+    /// The record that bytes begin with; what follows is dropped, and fewer bytes are `BufferTooSmall`.
     pub fn parse(payload: &[u8]) -> Res<TcNat>
         ensures { seen nat_scalars result ≡ read_record nat payload.now }
     {

@@ -9,22 +9,22 @@ pub struct TcNatFlags(u32);
 
 #[allow(non_upper_case_globals)]
 impl TcNatFlags {
-    /// Source addresses are translated, on the way out; else destinations, on the way in.
+    /// Source addresses are translated, on the way out; else destinations, on the way in: `TCA_NAT_FLAG_EGRESS`.
     pub const Egress: TcNatFlags = TcNatFlags(0x1);
 
-    /// Made as an action of a policer.
+    /// Made as an action of a policer: `TCA_ACT_FLAGS_POLICE`.
     pub const Police: TcNatFlags = TcNatFlags(0x1_0000);
 
-    /// Bound to a filter.
+    /// Bound to a filter: `TCA_ACT_FLAGS_BIND`.
     pub const Bind: TcNatFlags = TcNatFlags(0x2_0000);
 
-    /// Takes the place of the action that has its index.
+    /// Takes the place of the action that has its index: `TCA_ACT_FLAGS_REPLACE`.
     pub const Replace: TcNatFlags = TcNatFlags(0x4_0000);
 
-    /// Made without the lock of routing.
+    /// Made without the lock of routing: `TCA_ACT_FLAGS_NO_RTNL`.
     pub const NoRtnl: TcNatFlags = TcNatFlags(0x8_0000);
 
-    /// At ingress.
+    /// At ingress: `TCA_ACT_FLAGS_AT_INGRESS`.
     pub const AtIngress: TcNatFlags = TcNatFlags(0x10_0000);
 
     // Every flag with its name, and one without that has all bits: so every bit is known.

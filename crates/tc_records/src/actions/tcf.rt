@@ -10,7 +10,7 @@ ghost use Rattle.tc_meaning.specs.Content.{read_record};
 use crate::split::split_u64;
 use nla_frames::{BytesMeaning, DecodeError, Emitable, Res, put_bytes, u64_bytes};
 
-/// The bytes of the times of an action.
+/// How long the times of an action are, in bytes.
 pub const TCF_LEN: usize = 32;
 
 /// The times of an action, `struct tcf_t` of `linux/pkt_cls.h`: four numbers of clock ticks, low byte first.
@@ -29,7 +29,7 @@ pub struct Tcf {
 impl Tcf {
     ghost use Rattle.tc_records.specs.Tcf.{tcf_scalars};
 
-    /// The times that bytes begin with; what follows is dropped.
+    /// The times that bytes begin with; what follows is dropped, and fewer bytes are `BufferTooSmall`.
     pub fn parse(payload: &[u8]) -> Res<Tcf>
         ensures { seen tcf_scalars result ≡ read_record tcf payload.now }
     {

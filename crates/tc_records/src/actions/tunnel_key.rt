@@ -11,12 +11,14 @@ use crate::actions::action::{TC_ACTION_GENERIC_LEN, TcActionGeneric};
 use crate::split::split_i32;
 use nla_frames::{BytesMeaning, DecodeError, Emitable, Res, i32_bytes, put_bytes};
 
-/// The bytes of a tunnel key's record.
+/// How long a tunnel key's record is, in bytes.
 pub const TC_TUNNEL_KEY_LEN: usize = 24;
 
-/// A tunnel's metadata is set on packets or released, `struct tc_tunnel_key` of `linux/tc_act/tc_tunnel_key.h`.
+/// A tunnel's metadata is set on packets or released, `struct tc_tunnel_key` of
+/// `linux/tc_act/tc_tunnel_key.h`: numbers, low byte first.
 #[derive(PartialEq, Eq, Clone, Default, Drop, Debug)]
 pub struct TcTunnelKey {
+    /// What every action has.
     pub generic: TcActionGeneric,
     /// Which of both: `TCA_TUNNEL_KEY_ACT_SET`, 1, or `TCA_TUNNEL_KEY_ACT_RELEASE`, 2.
     pub t_action: i32,
@@ -25,7 +27,7 @@ pub struct TcTunnelKey {
 impl TcTunnelKey {
     ghost use Rattle.tc_records.specs.Actions.{tunnel_key_scalars};
 
-    /// The record that bytes begin with; what follows is dropped.
+    /// The record that bytes begin with; what follows is dropped, and fewer bytes are `BufferTooSmall`.
     pub fn parse(payload: &[u8]) -> Res<TcTunnelKey>
         ensures { seen tunnel_key_scalars result ≡ read_record tunnel_key payload.now }
     {

@@ -88,7 +88,7 @@ impl TcU32OptionFlags {
     /// It isn't in hardware: `TCA_CLS_FLAGS_NOT_IN_HW`.
     pub const NotInHw: TcU32OptionFlags = TcU32OptionFlags(0x8);
 
-    /// Why it isn't is told in the log: `TCA_CLS_FLAGS_VERBOSE`.
+    /// Where it can't be put into hardware, the reason is reported: `TCA_CLS_FLAGS_VERBOSE`.
     pub const Verbose: TcU32OptionFlags = TcU32OptionFlags(0x10);
 
     // Every flag with its name, and one without that has all bits: so every bit is known.

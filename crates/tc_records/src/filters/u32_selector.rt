@@ -21,10 +21,10 @@ use nla_frames::{
 };
 use std::alloc::{Allocator, Global};
 
-/// The bytes of a key.
+/// How long a key is, in bytes.
 pub const TC_U32_KEY_LEN: usize = 16;
 
-/// The bytes of a selector without its keys.
+/// How long a selector without its keys is, in bytes.
 pub const TC_U32_SELECTOR_LEN: usize = 16;
 
 /// A word of a packet that is compared, `struct tc_u32_key` of `linux/pkt_cls.h`.
@@ -34,14 +34,14 @@ pub struct TcU32Key {
     pub mask: u32,
     /// What they are to be, high byte first.
     pub val: u32,
-    /// Where the word stands, in bytes.
+    /// Where the word stands, in bytes; low byte first, as the field after it.
     pub off: i32,
     /// The bits of the offset read of the packet that count here.
     pub offmask: i32,
 }
 
 impl TcU32Key {
-    /// The key that bytes begin with; what follows is dropped.
+    /// The key that bytes begin with; what follows is dropped, and fewer bytes are `BufferTooSmall`.
     pub fn parse(payload: &[u8]) -> Res<TcU32Key>
         ensures { seen key_scalars result ≡ read_record selector_key payload.now }
     {
@@ -147,11 +147,12 @@ fn put_keys(buffer: &mut [u8], keys: &[TcU32Key])
 }
 
 /// What a u32 filter compares with a packet, `struct tc_u32_sel` of `linux/pkt_cls.h`. The filter matches where
-/// each of its keys does.
+/// each of its keys does. Numbers have their low byte first unless said otherwise; a byte of padding follows `nkeys`.
 #[derive(Drop)]
 #[derive_where(Debug, PartialEq, Eq)]
 #[derive_where(Clone; A)]
 pub struct TcU32Selector<A: Allocator = Global> {
+    /// What becomes of a match, and how the next header is found.
     pub flags: TcU32SelectorFlags,
     /// How far an offset that is read of the packet is shifted to the right, in bits.
     pub offshift: u8,
@@ -167,11 +168,12 @@ pub struct TcU32Selector<A: Allocator = Global> {
     pub hoff: i16,
     /// The bits of that word that are hashed, high byte first.
     pub hmask: u32,
+    /// What is compared.
     pub keys: Vec<TcU32Key, A>,
 }
 
 impl<A: Allocator> TcU32Selector<A> {
-    /// A selector of no keys, each of its numbers 0.
+    /// A selector of no keys, each of its numbers 0. It takes no memory.
     pub fn default_in(alloc: A) -> TcU32Selector<A>
         ensures { selector_of result ≡ empty_selector }
     {
@@ -188,7 +190,8 @@ impl<A: Allocator> TcU32Selector<A> {
         }
     }
 
-    /// The selector that bytes begin with, and the keys that it counts; what follows is dropped.
+    /// The selector that bytes begin with, and the keys that it counts; what follows is dropped. Where they aren't
+    /// all there, that is `SelectorShort`; it may be `OutOfMemory`.
     pub fn parse(alloc: A, payload: &[u8]) -> Res<TcU32Selector<A>>
         ensures { Gives (seen selector_of result) (read_selector payload.now) }
     {

@@ -10,10 +10,10 @@ ghost use Rattle.tc_meaning.specs.Content.{read_record};
 use crate::split::{split_i32, split_u32};
 use nla_frames::{BytesMeaning, DecodeError, Emitable, Res, i32_bytes, put_bytes, u32_bytes};
 
-/// The bytes of the statistics of a queueing discipline.
+/// How long the statistics of a queueing discipline are, in bytes.
 pub const TC_FQ_CODEL_QD_STATS_LEN: usize = 36;
 
-/// The bytes of the statistics of a class.
+/// How long the statistics of a class are, in bytes.
 pub const TC_FQ_CODEL_CL_STATS_LEN: usize = 24;
 
 /// The statistics of a queueing discipline, `struct tc_fq_codel_qd_stats` of `linux/pkt_sched.h`: nine numbers,
@@ -43,7 +43,7 @@ pub struct TcFqCodelQdStats {
 impl TcFqCodelQdStats {
     ghost use Rattle.tc_records.specs.Statistics.{qd_stats_scalars};
 
-    /// The statistics that bytes begin with; what follows is dropped.
+    /// The statistics that bytes begin with; what follows is dropped, and fewer bytes are `BufferTooSmall`.
     pub fn parse(payload: &[u8]) -> Res<TcFqCodelQdStats>
         ensures { seen qd_stats_scalars result ≡ read_record fq_codel_qd_stats payload.now }
     {
@@ -135,7 +135,7 @@ pub struct TcFqCodelClStats {
     ldelay: u32,
     // Packets that were dropped or marked since the flow began to drop.
     count: u32,
-    // The same of the time before, once that ended.
+    // What that count was when the flow last began to drop.
     lastcount: u32,
     // 1 while the flow drops packets.
     dropping: u32,
@@ -146,7 +146,7 @@ pub struct TcFqCodelClStats {
 impl TcFqCodelClStats {
     ghost use Rattle.tc_records.specs.Statistics.{cl_stats_scalars};
 
-    /// The statistics that bytes begin with; what follows is dropped.
+    /// The statistics that bytes begin with; what follows is dropped, and fewer bytes are `BufferTooSmall`.
     pub fn parse(payload: &[u8]) -> Res<TcFqCodelClStats>
         ensures { seen cl_stats_scalars result ≡ read_record fq_codel_cl_stats payload.now }
     {

@@ -10,7 +10,7 @@ ghost use Rattle.tc_meaning.specs.Content.{read_record};
 use crate::split::{split_u32, split_u64};
 use nla_frames::{BytesMeaning, DecodeError, Emitable, Res, put_bytes, u32_bytes, u64_bytes};
 
-/// The bytes of basic statistics.
+/// How long basic statistics are, in bytes.
 pub const TC_STATS_BASIC_LEN: usize = 16;
 
 /// What went through a queue, `struct gnet_stats_basic` of `linux/gen_stats.h`: two numbers, low byte first, and
@@ -26,7 +26,7 @@ pub struct TcStatsBasic {
 impl TcStatsBasic {
     ghost use Rattle.tc_records.specs.Statistics.{basic_scalars};
 
-    /// The statistics that bytes begin with; what follows is dropped.
+    /// The statistics that bytes begin with; what follows is dropped, and fewer bytes are `BufferTooSmall`.
     pub fn parse(payload: &[u8]) -> Res<TcStatsBasic>
         ensures { seen basic_scalars result ≡ read_record stats_basic payload.now }
     {

@@ -10,7 +10,7 @@ ghost use Rattle.tc_meaning.specs.Content.{read_record};
 use crate::split::{split_u32, split_u64};
 use nla_frames::{BytesMeaning, DecodeError, Emitable, Res, put_bytes, u32_bytes, u64_bytes};
 
-/// The bytes of the statistics of a queue.
+/// How long the statistics of a queue are, in bytes.
 pub const TC_STATS_LEN: usize = 40;
 
 /// The statistics of a queue, `struct tc_stats` of `linux/pkt_sched.h`: eight numbers, low byte first, and four
@@ -38,7 +38,7 @@ pub struct TcStats {
 impl TcStats {
     ghost use Rattle.tc_records.specs.Statistics.{stats_scalars};
 
-    /// The statistics that bytes begin with; what follows is dropped.
+    /// The statistics that bytes begin with; what follows is dropped, and fewer bytes are `BufferTooSmall`.
     pub fn parse(payload: &[u8]) -> Res<TcStats>
         ensures { seen stats_scalars result ≡ read_record stats payload.now }
     {

@@ -10,7 +10,7 @@ ghost use Rattle.tc_meaning.specs.Content.{read_record};
 use crate::split::split_u32;
 use nla_frames::{BytesMeaning, DecodeError, Emitable, Res, put_bytes, u32_bytes};
 
-/// The bytes of queue statistics.
+/// How long queue statistics are, in bytes.
 pub const TC_STATS_QUEUE_LEN: usize = 20;
 
 /// What waits in a queue and what it refused, `struct gnet_stats_queue` of `linux/gen_stats.h`: five numbers, low
@@ -32,7 +32,7 @@ pub struct TcStatsQueue {
 impl TcStatsQueue {
     ghost use Rattle.tc_records.specs.Statistics.{queue_scalars};
 
-    /// The statistics that bytes begin with; what follows is dropped.
+    /// The statistics that bytes begin with; what follows is dropped, and fewer bytes are `BufferTooSmall`.
     pub fn parse(payload: &[u8]) -> Res<TcStatsQueue>
         ensures { seen queue_scalars result ≡ read_record stats_queue payload.now }
     {
