@@ -6,7 +6,7 @@ ghost use Rattle.tc_meaning.specs.Message.{Message};
 ghost use Rattle.tc_meaning.specs.Whole.{ReadsTc, tc_bytes, TypedTc, FitsTc, SettledTc, ReadsAct, act_bytes, TypedAct, FitsAct, SettledAct};
 ghost use Rattle.tc_meaning.specs.Loose.{is_loose_tc, is_loose_act, nuls_act};
 ghost use Rattle.tc_meaning.specs.Norm.{norm_tc, norm_act, next_act};
-ghost use Rattle.tc_meaning.specs.Rewriting.{RewritesTc, RewritesAct, SettlesAs, TcSettlesIn, ActSettlesIn};
+ghost use Rattle.tc_meaning.specs.Rewriting.{RewritesTc, RewritesAct, SettlesAs, TcSettlesIn, ActSettlesIn, EndsTc, EndsAct};
 
 /// Bytes that read as a traffic control message. It is unsettled exactly if it is loose. Its norm can be written and
 /// read back, and is the message itself where the bytes are canonical. Bytes are rewritten in one way, and those that
@@ -52,12 +52,12 @@ pub fn action_step(bytes: &[u8])
 
 /// Two byte lists become the same canonical bytes by rewriting exactly if their readings have the same norm.
 pub fn tc_same_norm(first: &[u8], second: &[u8])
-    ensures { (m n : Message) (c d : List ℕ) → ReadsTc first.now m → FitsTc m → ReadsTc second.now n → FitsTc n → SettlesAs RewritesTc CanonTc first.now c → SettlesAs RewritesTc CanonTc second.now d → (c ≡ d) ↔ (norm_tc m ≡ norm_tc n) }
+    ensures { (m n : Message) (c d : List ℕ) → EndsTc first.now m c → EndsTc second.now n d → (c ≡ d) ↔ (norm_tc m ≡ norm_tc n) }
 {}
 
 /// The same of action messages.
 pub fn action_same_norm(first: &[u8], second: &[u8])
-    ensures { (m n : Message) (c d : List ℕ) → ReadsAct first.now m → FitsAct m → ReadsAct second.now n → FitsAct n → SettlesAs RewritesAct CanonAct first.now c → SettlesAs RewritesAct CanonAct second.now d → (c ≡ d) ↔ (norm_act m ≡ norm_act n) }
+    ensures { (m n : Message) (c d : List ℕ) → EndsAct first.now m c → EndsAct second.now n d → (c ≡ d) ↔ (norm_act m ≡ norm_act n) }
 {}
 
 /// Settled messages that fit are equal exactly if their bytes are.
