@@ -1,5 +1,5 @@
 -- The laws of rewriting of both messages.
-use Rattle.std.proofs.Common.{◌≡◌, ◌↔◌, ℕ, suc, ◌+◌, false, List, [], Ok, length, refl, subst, arith}
+use Rattle.std.proofs.Common.{◌≡◌, ◌↔◌, ℕ, suc, ◌+◌, false, List, [], Ok, length, refl, subst, arith, sym}
 use Rattle.nla_frames.specs.Frame.{Frame}
 use Rattle.nla_frames.specs.Place.{Sets}
 use Rattle.nla_frames.specs.Reading.{keep}
@@ -73,6 +73,16 @@ module _ (by_frame : Sets Frame) (by_value : Sets Attribute) (layout : List Fiel
 
   pub canonical-norm : (bytes : List ℕ) → IsWireBytes bytes → (m : Message) → ReadsWith by_frame layout rows bytes m → FitsMessage layout rows m → Canon bytes → norm rows m ≡ m
   canonical-norm bytes w m g f h = canon-norm (message_codec by_frame by_value layout rows) Canon laws (next rows) (norm rows) (message_parts rows) r (message_trims rows) bytes m (is_read bytes m w g f) h
+
+  pub at-once : (bytes : List ℕ) → IsWireBytes bytes → (m : Message) → ReadsWith by_frame layout rows bytes m → FitsMessage layout rows m → Canon bytes
+      → SettlesIn (RewritesWith by_frame layout rows) Canon (ReadsWith by_frame layout rows) 0 bytes (norm rows m)
+  at-once bytes w m g f canon = record {
+    final = bytes;
+    reached = refl;
+    canonical = canon;
+    reads = subst (ReadsWith by_frame layout rows bytes) (sym (canonical-norm bytes w m g f canon)) g;
+    no_sooner = λ n written less h c. absurd (omega (arith, less));
+  }
 
   pub one-way : (bytes : List ℕ) → IsWireBytes bytes → (c d : List ℕ) → RewritesWith by_frame layout rows bytes c → RewritesWith by_frame layout rows bytes d → c ≡ d
   one-way bytes w c d h h' =

@@ -21,6 +21,7 @@ pub fn tc_rewriting(bytes: &[u8])
     ensures written { (m : Message) → ReadsTc bytes.now m → FitsTc m → CanonTc (tc_bytes m) }
     ensures written_norm { (m : Message) → ReadsTc bytes.now m → FitsTc m → ReadsTc (tc_bytes m) (norm_tc m) }
     ensures one_way { (c d : List ℕ) → RewritesTc bytes.now c → RewritesTc bytes.now d → c ≡ d }
+    ensures at_once { (m : Message) → ReadsTc bytes.now m → FitsTc m → CanonTc bytes.now → TcSettlesIn 0 bytes.now (norm_tc m) }
     ensures settles { (m : Message) → ReadsTc bytes.now m → FitsTc m → (CanonTc bytes.now → ⊥) → TcSettlesIn 1 bytes.now (norm_tc m) }
     ensures last { (m : Message) → ReadsTc bytes.now m → FitsTc m → (c : List ℕ) × SettlesAs RewritesTc CanonTc bytes.now c × ReadsTc c (norm_tc m) }
 {}
@@ -35,6 +36,7 @@ pub fn action_rewriting(bytes: &[u8])
     ensures norm_canonical { (m : Message) → ReadsAct bytes.now m → FitsAct m → CanonAct (act_bytes (norm_act m)) }
     ensures canonical { (m : Message) → ReadsAct bytes.now m → FitsAct m → CanonAct bytes.now → norm_act m ≡ m }
     ensures one_way { (c d : List ℕ) → RewritesAct bytes.now c → RewritesAct bytes.now d → c ≡ d }
+    ensures at_once { (m : Message) → ReadsAct bytes.now m → FitsAct m → CanonAct bytes.now → ActSettlesIn 0 bytes.now (norm_act m) }
     ensures settles { (m : Message) → ReadsAct bytes.now m → FitsAct m → (CanonAct bytes.now → ⊥) → ActSettlesIn (nuls_act m + 1) bytes.now (norm_act m) }
     ensures last { (m : Message) → ReadsAct bytes.now m → FitsAct m → (c : List ℕ) × SettlesAs RewritesAct CanonAct bytes.now c × ReadsAct c (norm_act m) }
 {}
