@@ -1,5 +1,5 @@
 -- The laws of rewriting of both messages.
-use Rattle.std.proofs.Common.{◌≡◌, ◌↔◌, ℕ, suc, ◌+◌, false, List, [], Ok, length, refl, subst, arith}
+use Rattle.std.proofs.Common.{◌≡◌, ◌↔◌, ℕ, suc, ◌+◌, false, List, [], Ok, length, refl, subst, arith, sym}
 use Rattle.nla_frames.specs.Frame.{Frame}
 use Rattle.nla_frames.specs.Place.{Sets}
 use Rattle.nla_frames.specs.Reading.{keep}
@@ -14,7 +14,7 @@ use Rattle.tc_meaning.specs.Message.{Message, ReadsWith, read_with, message_byte
 use Rattle.tc_meaning.specs.Whole.{ReadsTc, tc_bytes, FitsTc, SettledTc, ReadsAct, act_bytes, FitsAct, SettledAct}
 use Rattle.tc_meaning.specs.Loose.{message_parts, is_loose, nuls}
 use Rattle.tc_meaning.specs.Norm.{next, norm, norm_tc, norm_act}
-use Rattle.tc_meaning.specs.Rewriting.{RewritesWith, SettlesAs, SettlesIn, TcSettlesIn}
+use Rattle.tc_meaning.specs.Rewriting.{RewritesWith, SettlesAs, SettlesIn, EndsWith, TcSettlesIn}
 use Rattle.tc_meaning.proofs.MessageLaws.{one_message}
 use Rattle.tc_meaning.proofs.TableLaws.{table_laws}
 use Rattle.tc_meaning.proofs.Headline.{sound_attributes, sound_actions, tells_attributes, tc_laws, act_laws, canon-tc, canon-act, tc-reading, act-reading, tc-typed, act-typed, tc-settled, act-settled}
@@ -74,6 +74,16 @@ module _ (by_frame : Sets Frame) (by_value : Sets Attribute) (layout : List Fiel
   pub canonical-norm : (bytes : List ℕ) → IsWireBytes bytes → (m : Message) → ReadsWith by_frame layout rows bytes m → FitsMessage layout rows m → Canon bytes → norm rows m ≡ m
   canonical-norm bytes w m g f h = canon-norm (message_codec by_frame by_value layout rows) Canon laws (next rows) (norm rows) (message_parts rows) r (message_trims rows) bytes m (is_read bytes m w g f) h
 
+  pub at-once : (bytes : List ℕ) → IsWireBytes bytes → (m : Message) → ReadsWith by_frame layout rows bytes m → FitsMessage layout rows m → Canon bytes
+      → SettlesIn (RewritesWith by_frame layout rows) Canon (ReadsWith by_frame layout rows) 0 bytes (norm rows m)
+  at-once bytes w m g f canon = record {
+    final = bytes;
+    reached = refl;
+    canonical = canon;
+    reads = subst (ReadsWith by_frame layout rows bytes) (sym (canonical-norm bytes w m g f canon)) g;
+    no_sooner = λ n written less h c. absurd (omega (arith, less));
+  }
+
   pub one-way : (bytes : List ℕ) → IsWireBytes bytes → (c d : List ℕ) → RewritesWith by_frame layout rows bytes c → RewritesWith by_frame layout rows bytes d → c ≡ d
   one-way bytes w c d h h' =
       rewrites-once (message_codec by_frame by_value layout rows) Canon laws (next rows) (norm rows) (message_parts rows) r (message_trims rows) (RewritesWith by_frame layout rows) (ReadsWith by_frame layout rows) reads-is rewrites-is bytes c d w h h'
@@ -90,11 +100,11 @@ module _ (by_frame : Sets Frame) (by_value : Sets Attribute) (layout : List Fiel
   final-norm bytes w m g f =
       settles-as (message_codec by_frame by_value layout rows) Canon laws (next rows) (norm rows) (message_parts rows) r (message_trims rows) (RewritesWith by_frame layout rows) (ReadsWith by_frame layout rows) reads-is rewrites-is bytes m (is_read bytes m w g f)
 
-  pub same-norm : (bytes bytes' : List ℕ) → IsWireBytes bytes → IsWireBytes bytes' → (m m' : Message) (c d : List ℕ) → ReadsWith by_frame layout rows bytes m → FitsMessage layout rows m
-      → ReadsWith by_frame layout rows bytes' m' → FitsMessage layout rows m' → SettlesAs (RewritesWith by_frame layout rows) Canon bytes c → SettlesAs (RewritesWith by_frame layout rows) Canon bytes' d → (c ≡ d) ↔ (norm rows m ≡ norm rows m')
-  same-norm bytes bytes' w w' m m' c d g f g' f' s s' =
-      same-settled (message_codec by_frame by_value layout rows) Canon laws (next rows) (norm rows) (message_parts rows) r (message_trims rows) (RewritesWith by_frame layout rows) (ReadsWith by_frame layout rows) reads-is rewrites-is
-      bytes bytes' c d m m' (is_read bytes m w g f) (is_read bytes' m' w' g' f') s s'
+  pub same-norm : (bytes bytes' : List ℕ) → IsWireBytes bytes → IsWireBytes bytes' → (m m' : Message) (final final' : List ℕ)
+      → EndsWith by_frame layout rows Canon bytes m final → EndsWith by_frame layout rows Canon bytes' m' final' → (final ≡ final') ↔ (norm rows m ≡ norm rows m')
+  same-norm bytes bytes' w w' m m' final final' e e' =
+      same-settled (message_codec by_frame by_value layout rows) Canon laws (next rows) (norm rows) (message_parts rows) r (message_trims rows)
+      (RewritesWith by_frame layout rows) (ReadsWith by_frame layout rows) reads-is rewrites-is bytes bytes' final final' m m' (is_read bytes m w e.reads e.fits) (is_read bytes' m' w' e'.reads e'.fits) e.settles e'.settles
 
 -- ---- the two messages
 

@@ -50,3 +50,15 @@ TcSettlesIn = SettlesIn RewritesTc CanonTc ReadsTc
 
 abbrev pub ActSettlesIn : ℕ → List ℕ → Message → Type 0
 ActSettlesIn = SettlesIn RewritesAct CanonAct ReadsAct
+
+-- the bytes read as this message, which fits, and by rewriting they end as those
+pub record EndsWith (sets : Sets Frame) (layout : List Field) (rows : Rows) (Canon : List ℕ → Type 0) (bytes : List ℕ) (m : Message) (final : List ℕ) : Type 0 where
+  pub reads : ReadsWith sets layout rows bytes m
+  pub fits : FitsMessage layout rows m
+  pub settles : SettlesAs (RewritesWith sets layout rows) Canon bytes final
+
+abbrev pub EndsTc : List ℕ → Message → List ℕ → Type 0
+EndsTc = EndsWith kind_of_frame tc_header attributes CanonTc
+
+abbrev pub EndsAct : List ℕ → Message → List ℕ → Type 0
+EndsAct = EndsWith keep action_message_header action_message_attributes CanonAct

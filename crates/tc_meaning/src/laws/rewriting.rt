@@ -6,7 +6,7 @@ ghost use Rattle.tc_meaning.specs.Message.{Message};
 ghost use Rattle.tc_meaning.specs.Whole.{ReadsTc, tc_bytes, TypedTc, FitsTc, SettledTc, ReadsAct, act_bytes, TypedAct, FitsAct, SettledAct};
 ghost use Rattle.tc_meaning.specs.Loose.{is_loose_tc, is_loose_act, nuls_act};
 ghost use Rattle.tc_meaning.specs.Norm.{norm_tc, norm_act, next_act};
-ghost use Rattle.tc_meaning.specs.Rewriting.{RewritesTc, RewritesAct, SettlesAs, TcSettlesIn, ActSettlesIn};
+ghost use Rattle.tc_meaning.specs.Rewriting.{RewritesTc, RewritesAct, SettlesAs, TcSettlesIn, ActSettlesIn, EndsTc, EndsAct};
 
 /// Bytes that read as a traffic control message. It is unsettled exactly if it is loose. Its norm can be written
 /// and read back where the message fits, and is the message itself where the bytes are canonical. Bytes are rewritten in
@@ -21,6 +21,7 @@ pub fn tc_rewriting(bytes: &[u8])
     ensures written { (m : Message) → ReadsTc bytes.now m → FitsTc m → CanonTc (tc_bytes m) }
     ensures written_norm { (m : Message) → ReadsTc bytes.now m → FitsTc m → ReadsTc (tc_bytes m) (norm_tc m) }
     ensures one_way { (c d : List ℕ) → RewritesTc bytes.now c → RewritesTc bytes.now d → c ≡ d }
+    ensures at_once { (m : Message) → ReadsTc bytes.now m → FitsTc m → CanonTc bytes.now → TcSettlesIn 0 bytes.now (norm_tc m) }
     ensures settles { (m : Message) → ReadsTc bytes.now m → FitsTc m → (CanonTc bytes.now → ⊥) → TcSettlesIn 1 bytes.now (norm_tc m) }
     ensures last { (m : Message) → ReadsTc bytes.now m → FitsTc m → (c : List ℕ) × SettlesAs RewritesTc CanonTc bytes.now c × ReadsTc c (norm_tc m) }
 {}
@@ -35,6 +36,7 @@ pub fn action_rewriting(bytes: &[u8])
     ensures norm_canonical { (m : Message) → ReadsAct bytes.now m → FitsAct m → CanonAct (act_bytes (norm_act m)) }
     ensures canonical { (m : Message) → ReadsAct bytes.now m → FitsAct m → CanonAct bytes.now → norm_act m ≡ m }
     ensures one_way { (c d : List ℕ) → RewritesAct bytes.now c → RewritesAct bytes.now d → c ≡ d }
+    ensures at_once { (m : Message) → ReadsAct bytes.now m → FitsAct m → CanonAct bytes.now → ActSettlesIn 0 bytes.now (norm_act m) }
     ensures settles { (m : Message) → ReadsAct bytes.now m → FitsAct m → (CanonAct bytes.now → ⊥) → ActSettlesIn (nuls_act m + 1) bytes.now (norm_act m) }
     ensures last { (m : Message) → ReadsAct bytes.now m → FitsAct m → (c : List ℕ) × SettlesAs RewritesAct CanonAct bytes.now c × ReadsAct c (norm_act m) }
 {}
@@ -52,12 +54,12 @@ pub fn action_step(bytes: &[u8])
 
 /// Two byte lists become the same canonical bytes by rewriting exactly if their readings have the same norm.
 pub fn tc_same_norm(first: &[u8], second: &[u8])
-    ensures { (m n : Message) (c d : List ℕ) → ReadsTc first.now m → FitsTc m → ReadsTc second.now n → FitsTc n → SettlesAs RewritesTc CanonTc first.now c → SettlesAs RewritesTc CanonTc second.now d → (c ≡ d) ↔ (norm_tc m ≡ norm_tc n) }
+    ensures { (m n : Message) (c d : List ℕ) → EndsTc first.now m c → EndsTc second.now n d → (c ≡ d) ↔ (norm_tc m ≡ norm_tc n) }
 {}
 
 /// The same of action messages.
 pub fn action_same_norm(first: &[u8], second: &[u8])
-    ensures { (m n : Message) (c d : List ℕ) → ReadsAct first.now m → FitsAct m → ReadsAct second.now n → FitsAct n → SettlesAs RewritesAct CanonAct first.now c → SettlesAs RewritesAct CanonAct second.now d → (c ≡ d) ↔ (norm_act m ≡ norm_act n) }
+    ensures { (m n : Message) (c d : List ℕ) → EndsAct first.now m c → EndsAct second.now n d → (c ≡ d) ↔ (norm_act m ≡ norm_act n) }
 {}
 
 /// Settled messages that fit are equal exactly if their bytes are.

@@ -5,7 +5,7 @@ use Rattle.tc_canon.specs.Layouts.{action_message_header}
 use Rattle.tc_canon.specs.Tables.Messages.{action_message_attributes}
 use Rattle.tc_canon.specs.Canonical.{CanonAct}
 use Rattle.tc_meaning.proofs.Headline.{wire_slice}
-use Rattle.tc_meaning.proofs.RewritingLaws.{loose, typed-norm, fits-norm, act-norm, act-norm_canonical, canonical-norm, one-way, settles-in, final-norm, act_words, act_next}
+use Rattle.tc_meaning.proofs.RewritingLaws.{loose, typed-norm, fits-norm, act-norm, act-norm_canonical, canonical-norm, one-way, at-once, settles-in, final-norm, act_words, act_next}
 use Rattle.tc_meaning.proofs.laws.rewriting.action_rewriting.Goals as goal
 
 wire : (c : goal.Start) → IsWireBytes c.args.bytes.now
@@ -31,6 +31,9 @@ returns-clause-canonical c = canonical-norm keep keep action_message_header acti
 
 pub returns-clause-one_way : goal.returns-clause-one_way
 returns-clause-one_way c = one-way keep keep action_message_header action_message_attributes CanonAct act_words act_next c.args.bytes.now (wire c)
+
+pub returns-clause-at_once : goal.returns-clause-at_once
+returns-clause-at_once c = at-once keep keep action_message_header action_message_attributes CanonAct act_words act_next c.args.bytes.now (wire c)
 
 pub returns-clause-settles : goal.returns-clause-settles
 returns-clause-settles c = settles-in keep keep action_message_header action_message_attributes CanonAct act_words act_next c.args.bytes.now (wire c)

@@ -5,7 +5,7 @@ use Rattle.tc_canon.specs.Tables.Messages.{attributes}
 use Rattle.tc_canon.specs.Canonical.{CanonTc}
 use Rattle.tc_meaning.specs.Own.{kind_of_frame, kind_of_attribute}
 use Rattle.tc_meaning.proofs.Headline.{wire_slice}
-use Rattle.tc_meaning.proofs.RewritingLaws.{loose, typed-norm, fits-norm, tc-norm, tc-norm_canonical, canonical-norm, one-way, tc-settles, tc-written, tc-written_norm, final-norm, tc_words, tc_next}
+use Rattle.tc_meaning.proofs.RewritingLaws.{loose, typed-norm, fits-norm, tc-norm, tc-norm_canonical, canonical-norm, one-way, at-once, tc-settles, tc-written, tc-written_norm, final-norm, tc_words, tc_next}
 use Rattle.tc_meaning.proofs.laws.rewriting.tc_rewriting.Goals as goal
 
 wire : (c : goal.Start) → IsWireBytes c.args.bytes.now
@@ -31,6 +31,9 @@ returns-clause-canonical c = canonical-norm kind_of_frame kind_of_attribute tc_h
 
 pub returns-clause-one_way : goal.returns-clause-one_way
 returns-clause-one_way c = one-way kind_of_frame kind_of_attribute tc_header attributes CanonTc tc_words tc_next c.args.bytes.now (wire c)
+
+pub returns-clause-at_once : goal.returns-clause-at_once
+returns-clause-at_once c = at-once kind_of_frame kind_of_attribute tc_header attributes CanonTc tc_words tc_next c.args.bytes.now (wire c)
 
 pub returns-clause-settles : goal.returns-clause-settles
 returns-clause-settles c = tc-settles c.args.bytes.now (wire c)
