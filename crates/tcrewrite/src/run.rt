@@ -38,8 +38,8 @@ fn prepare<A: Allocator + Copy, R: Read>(
     Ok(answer_text(alloc, mode, text)?)
 }
 
-/// Reads a text, writes the report on it, and answers the exit status. All memory is taken before the
-/// first byte is written. A call that was interrupted is tried again, 1,024 times at most.
+/// Reads a text, writes the report on it, and answers the exit status. No memory is asked for once it
+/// writes. A call that was interrupted is tried again, 1,024 times at most.
 pub fn run<A: Allocator + Copy, R: Read, W: Write>(
     alloc: A,
     mode: Mode,
