@@ -105,7 +105,6 @@ impl<A: Allocator + Copy> ParseableParametrized<A> for TcAttribute<A> {
     }
 }
 
-#[tactic(auto, using(tc_meaning::proofs::Trees::attributes_again))]
 impl<A: Allocator> Nla for TcAttribute<A> {
     fn kind(&self) -> u16 {
         match self {
