@@ -7,7 +7,8 @@ use Rattle.std.proofs.lemmas.List.Elements.{All-get_or, All-more, All-from_recur
 use Rattle.std.proofs.lemmas.Grind.{common_steps, take_at_read}
 use Rattle.nla_frames.specs.Frame.{Frame, frame_bytes, frame_length}
 use Rattle.nla_frames.specs.Emission.{Writes, HasRoom, ListFits, list_bytes}
-use Rattle.nla_frames.proofs.Writing.{length_frame_bytes, front_and_back}
+use Rattle.nla_frames.proofs.FrameBytes.{length_frame_bytes}
+use Rattle.nla_frames.proofs.Writing.{front_and_back}
 use borrow.Rule.Slice.PartMut.{put_mid}
 
 -- the item stands at this index

@@ -1,20 +1,11 @@
 -- Frames as they are written.
-use Rattle.std.proofs.Common.{◌≡◌, ℕ, ◌+◌, ◌-◌, ◌≤◌, List, ◌++◌, length, take, drop, [], refl, sym, ◌∙◌, ap, subst, arith, length-drop}
+use Rattle.std.proofs.Common.{◌≡◌, ℕ, ◌+◌, ◌-◌, ◌≤◌, List, ◌++◌, length, take, drop, [], sym, ◌∙◌, ap, subst, arith, length-drop}
 use Rattle.std.proofs.lemmas.List.{take_at, drop_at, drop_all}
 use Rattle.std.proofs.lemmas.Grind.{common_steps}
-use Rattle.nla_frames.specs.Frame.{Frame, header, padded, frame_bytes, frame_length}
+use Rattle.nla_frames.specs.Frame.{Frame, header, padded, frame_bytes}
 use Rattle.nla_frames.specs.Emission.{Writes, HasRoom}
+use Rattle.nla_frames.proofs.Front.{length-header}
 use borrow.Rule.Slice.PartMut.{put_mid}
-
--- a header has four bytes
-pub length_header : (n word : ℕ) → length (header n word) ≡ 4
-unfolding header
-length_header n word = refl
-
--- how many bytes a frame has
-pub length_frame_bytes : (f : Frame) → length (frame_bytes f) ≡ frame_length f
-unfolding frame_bytes padded
-length_frame_bytes f = grind (arith, common_steps, length_header)
 
 -- what is written after a front, and then the front
 pub back_and_front : (front back old after new : List ℕ) (n : ℕ) → n ≡ length front → length front + length back ≤ length old → Writes back (take (length old - n) (drop n old)) after → Writes front (put_mid n (length old - n) old after) new → Writes (front ++ back) old new
@@ -34,6 +25,6 @@ front_and_back front back old now after n is room written_front written_back =
 -- a frame is written if its value is, with the padding, and then its header
 pub frame_written : (f : Frame) (old after new : List ℕ) (len word : ℕ) → len ≡ length f.value → word ≡ f.word → HasRoom (frame_bytes f) old → Writes (padded f.value) (take (length old - 4) (drop 4 old)) after → Writes (header len word) (put_mid 4 (length old - 4) old after) new → Writes (frame_bytes f) old new
 unfolding frame_bytes
-frame_written f old after new len word is_len is_word room written_value written_header = grind (arith, common_steps, length_header, back_and_front)
+frame_written f old after new len word is_len is_word room written_value written_header = grind (arith, common_steps, length-header, back_and_front)
 
-pub ruleset parts = (common_steps, length_header)
+pub ruleset parts = (common_steps, length-header)

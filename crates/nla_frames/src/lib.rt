@@ -35,6 +35,3 @@ pub use values::write::{
     emit_u16, emit_u16_be, emit_u32, emit_u32_be, put_bytes, put_text, put_u8, put_u16, put_u16_be,
     put_u32, put_u32_be, put_u64,
 };
-
-#[cfg(test)]
-mod tests;

@@ -17,6 +17,3 @@ pub use flower::{canon_lse, canon_mpls};
 pub use messages::{is_canonical_action, is_canonical_tc};
 pub use options::canon_options;
 pub use statistics::canon_stats2;
-
-#[cfg(test)]
-mod tests;

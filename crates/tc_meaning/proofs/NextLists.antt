@@ -11,7 +11,7 @@ use Rattle.nla_frames.specs.Codec.{Codec, Laws, IsWireBytes, SettledEach, list_c
 use Rattle.nla_frames.proofs.CutFrames.{IsWireFrame-cut}
 use Rattle.nla_frames.proofs.ReadEach.{ReadInTurn}
 use Rattle.nla_frames.proofs.ListLaws.{ReadInTurn-read_list, read_list-ReadInTurn, cut-written, typed-each, kind_then-same}
-use Rattle.nla_frames.proofs.Writing.{length_frame_bytes}
+use Rattle.nla_frames.proofs.FrameBytes.{length_frame_bytes}
 use Rattle.tc_meaning.specs.Tree.{Attribute}
 use Rattle.tc_meaning.specs.Own.{kind_of_attribute, kind_before, kinds_set, read_own, SettledOwn, own_codec}
 use Rattle.tc_meaning.specs.Loose.{Part}

@@ -12,7 +12,7 @@ use Rattle.nla_frames.specs.Emission.{list_bytes}
 use Rattle.nla_frames.specs.Codec.{Codec, list_codec, SettledEach}
 use Rattle.nla_frames.proofs.ListLaws.{kind_then-same}
 use Rattle.nla_frames.proofs.Places.{kind_after, kind_after-InForce, InForce-kind_after}
-use Rattle.nla_frames.proofs.FrameBytes.{length-frame_bytes}
+use Rattle.nla_frames.proofs.FrameBytes.{length_frame_bytes}
 use Rattle.tc_canon.specs.Descriptor.{table, is_known}
 use Rattle.tc_canon.specs.Tables.Messages.{attributes}
 use Rattle.tc_canon.specs.Tables.Options.{option_kinds}
@@ -103,7 +103,7 @@ unfolding list_bytes
 size-llone_option word value =
     let inner : Frame = record { word = word; value = value } in
     let outer : Frame = record { word = 2; value = frame_bytes inner } in
-    let long : length (frame_bytes inner) ≤ length (frame_bytes outer) = omega (arith, length-frame_bytes outer) in
+    let long : length (frame_bytes inner) ≤ length (frame_bytes outer) = omega (arith, length_frame_bytes outer) in
     rw (append-nil (frame_bytes inner)) long
 
 pub upgrade-size : (kind : List ℕ) (x : Attribute) → frame_size (upgrade_attribute kind x) ≤ frame_size x

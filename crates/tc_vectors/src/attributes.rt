@@ -5,6 +5,7 @@ use std::test::Fail;
 use tc_wire::{TcAttribute, TcMessage};
 
 #[test]
+#[tactic(auto, using(nla_frames::proofs::FrameBytes::length_frame_bytes))]
 fn presence_is_written_whatever_it_says(rt: HostRuntime) -> Result<(), Fail> {
     let absent: TcAttribute = TcAttribute::DumpInvisible(false);
     let mut buffer = [0x55; 4];

@@ -1,8 +1,14 @@
-//! Tests that cross crates: records beside their raw buffers, and the attributes that hold them.
+//! Tests alone, of all crates but the program's: what no contract says, and worked bytes.
 #![tactic(auto)]
 
 #[cfg(test)]
 mod attributes;
+#[cfg(test)]
+mod canonical;
+#[cfg(test)]
+mod frames;
+#[cfg(test)]
+mod messages;
 #[cfg(test)]
 mod records;
 #[cfg(test)]

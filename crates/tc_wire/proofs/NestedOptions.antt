@@ -2,7 +2,8 @@
 use Rattle.std.proofs.Common.{◌≡◌, ℕ, ◌≤◌, List, Bool, IsTrue, length, ◌↔◌}
 use Rattle.nla_frames.specs.Emission.{ListFits, list_bytes, HasRoom, Writes}
 use Rattle.tc_canon.specs.Descriptor.{table, by_kind}
-use Rattle.tc_wire.specs.Stage.{attributes, option_kinds}
+use Rattle.tc_options.specs.Stage.{option_kinds}
+use Rattle.tc_wire.specs.Stage.{attributes}
 use Rattle.tc_meaning.specs.Tree.{Attribute, known, items, attributes_of}
 use Rattle.tc_meaning.specs.Meaning.{table_codec}
 use Rattle.tc_meaning.proofs.Trees.{attributes_again}

@@ -11,7 +11,7 @@ use Rattle.tc_meaning.specs.Tree.{Attribute, known, kept, other, record_of, numb
 use Rattle.tc_records.specs.Statistics.{stats_scalars}
 use Rattle.tc_wire.specs.declared.attribute.TcAttribute.{TcAttribute}
 use Rattle.tc_wire.specs.declared.attribute.TcAttribute.TheVariants.{Kind, Options, OptionsRaw, Stats, Rate, Fcnt, Stab, DumpInvisible, Chain, HwOffload, Other}
-use Rattle.tc_wire.specs.Options.{tc_option}
+use Rattle.tc_options.specs.Options.{tc_option}
 
 abbrev pub tc_attribute : {A : Type 0} → TcAttribute A → Attribute
 tc_attribute (Kind kind) = known 1 (is_bytes (string_bytes kind))

@@ -1,6 +1,4 @@
 pub mod Stage
-pub mod FqCodel
-pub mod Options
 pub mod Attribute
 pub mod Message
 pub mod Facade

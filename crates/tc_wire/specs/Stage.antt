@@ -1,14 +1,7 @@
--- The tables as far as the types of this crate go: every other type is `Other`, and every other kind unknown.
-use Rattle.std.specs.Prelude.{codes}
-use Rattle.tc_canon.specs.Descriptor.{Rows, Kinds, others, options, unknown, kind, le, raw, text, presence, fields, ◌▹◌, at, from}
+-- The attributes as far as the types of this crate go: every other type is `Other`.
+use Rattle.tc_canon.specs.Descriptor.{Rows, others, options, le, raw, text, presence, fields, ◌▹◌, at, from}
 use Rattle.tc_canon.specs.Layouts.{stats}
-use Rattle.tc_canon.specs.Tables.Options.{fq_codel_options}
-
--- `TcOption`
-abbrev pub option_kinds : Kinds
-option_kinds =
-    kind (codes "fq_codel") fq_codel_options
-    unknown
+use Rattle.tc_options.specs.Stage.{option_kinds}
 
 -- `TcAttribute`
 abbrev pub attributes : Rows

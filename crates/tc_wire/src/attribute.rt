@@ -17,13 +17,13 @@ ghost use Rattle.tc_meaning.specs.Message.{kind_of_frame, kind_of_attribute};
 ghost use Rattle.tc_meaning.specs.Short.{table_short};
 ghost use Rattle.tc_wire.specs.Attribute.{tc_attribute, ReadsAttributes, AttributesFault};
 
-use crate::options::{TcOption, VecTcOption, is_known_kind};
 use nla_frames::{
     BytesMeaning, DefaultNla, Emitable, FrameMeaning, NLA_VALUE_MAX_SIZE, Nla, NlaBuffer,
     NlasIterator, Parseable, ParseableBytes, ParseableParametrized, Res, list_len, nested_fits,
     parse_string, parse_u8, parse_u32, put_bytes, put_list, put_text, put_u8, put_u32, strip_nul,
 };
 use std::alloc::{Allocator, Global};
+use tc_options::{TcOption, VecTcOption, is_known_kind};
 use tc_records::{TC_STATS_LEN, TcStats};
 
 /// An attribute of a message.

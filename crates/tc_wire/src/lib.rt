@@ -4,8 +4,6 @@
 pub mod attribute;
 pub mod laws;
 pub mod message;
-pub mod options;
-pub mod qdiscs;
 
 pub use attribute::{TcAttribute, VecTcAttribute};
 pub use message::TcMessage;
@@ -17,12 +15,11 @@ pub use nla_frames::{
     parse_list, parse_list_with, parse_mac, parse_string, parse_u8, parse_u16, parse_u16_be,
     parse_u32, parse_u32_be, put_list,
 };
-pub use options::{TcOption, VecTcOption};
-pub use qdiscs::fq_codel::{TcQdiscFqCodel, TcQdiscFqCodelOption};
 pub use tc_canon::{
     canon_action, canon_action_options, canon_actions, canon_lse, canon_mpls, canon_options,
     canon_stats2, is_canonical_action, is_canonical_tc,
 };
+pub use tc_options::{TcOption, TcQdiscFqCodel, TcQdiscFqCodelOption, VecTcOption};
 pub use tc_raw::{
     TcActionGenericBuffer, TcActionMessageBuffer, TcFqCodelClStatsBuffer, TcFqCodelQdStatsBuffer,
     TcMessageBuffer, TcMirrorBuffer, TcNatBuffer, TcStatsBasicBuffer, TcStatsBuffer,
@@ -34,6 +31,3 @@ pub use tc_records::{
     TcNatFlags, TcStats, TcStatsBasic, TcStatsQueue, TcTunnelKey, TcU32Key, TcU32OptionFlags,
     TcU32Selector, TcU32SelectorFlags, Tcf,
 };
-
-#[cfg(test)]
-mod tests;

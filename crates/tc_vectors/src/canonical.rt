@@ -1,13 +1,13 @@
-//! Messages whose answer is known: made by hand, sent by iproute2's tc, and written by Linux 6.1 and 6.18.
+//! Messages of which it is known whether they are canonical: made by hand, sent by tc of iproute2, and written by Linux 6.1 and 6.18.
 
 ghost use Rattle.std.specs.Prelude.{◌<◌};
 
-use crate::{
+use std::alloc::{AllocError, Allocator};
+use std::test::*;
+use tc_canon::{
     canon_action, canon_action_options, canon_actions, canon_lse, canon_mpls, canon_options,
     canon_stats2, is_canonical_action, is_canonical_tc,
 };
-use std::alloc::{AllocError, Allocator};
-use std::test::*;
 
 /// A message in hex, and whether it is canonical.
 struct Row {

@@ -1,6 +1,6 @@
-//! What no clause says: printed texts, worked bytes, and each call that takes memory on its happy path.
+//! Frames: the texts of faults, worked bytes, and each call that takes memory.
 
-use crate::{
+use nla_frames::{
     DecodeError, DefaultNla, Nla, NlaBuffer, NlasIterator, Parseable, parse_list, parse_string,
 };
 use std::test::Fail;
@@ -81,7 +81,7 @@ fn faults_are_printed_and_named(rt: HostRuntime) -> Result<(), Fail> {
 }
 
 #[test]
-#[tactic(auto, using(crate::proofs::Writing::length_frame_bytes))]
+#[tactic(auto, using(nla_frames::proofs::FrameBytes::length_frame_bytes))]
 fn an_unknown_frame_is_kept(rt: HostRuntime) -> Result<(), Fail> {
     let frame = NlaBuffer::new_checked(&UNKNOWN)?;
     let kept = DefaultNla::parse(rt.alloc(), &frame)?;

@@ -5,12 +5,12 @@ use Rattle.nla_frames.specs.Frame.{Frame}
 use Rattle.nla_frames.specs.Reading.{read_list, keep}
 use Rattle.nla_frames.specs.DefaultNla.{kept_frame}
 use Rattle.tc_canon.specs.Descriptor.{by_kind, is_known}
-use Rattle.tc_wire.specs.Stage.{option_kinds}
+use Rattle.tc_options.specs.Stage.{option_kinds}
 use Rattle.tc_meaning.specs.Tree.{Attribute, other, of_kind}
 use Rattle.tc_meaning.specs.Meaning.{table_codec}
-use Rattle.tc_wire.specs.declared.options.TcOption.{TcOption}
-use Rattle.tc_wire.specs.declared.options.TcOption.TheVariants.{FqCodel, Other}
-use Rattle.tc_wire.specs.FqCodel.{fq_codel_option}
+use Rattle.tc_options.specs.declared.options.TcOption.{TcOption}
+use Rattle.tc_options.specs.declared.options.TcOption.TheVariants.{FqCodel, Other}
+use Rattle.tc_options.specs.FqCodel.{fq_codel_option}
 
 abbrev pub tc_option : {A : Type 0} → TcOption A → Attribute
 tc_option (FqCodel option) = of_kind (codes "fq_codel") (fq_codel_option option)

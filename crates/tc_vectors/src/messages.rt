@@ -1,14 +1,14 @@
-//! What no clause says: worked messages, and memory that is refused.
+//! Worked messages, and memory that is refused.
 
-use crate::{
-    AddressFamily, DecodeError, DefaultNla, Emitable, Nla, NlaBuffer, ParseableBytes,
-    ParseableParametrized, TcAttribute, TcHandle, TcHeader, TcMessage, TcOption,
-    TcQdiscFqCodelOption, VecTcAttribute, VecTcOption, parse_frames_with,
-};
 use failing::Failing;
 use std::alloc::Global;
 use std::process::Abort;
 use std::test::Fail;
+use tc_wire::{
+    AddressFamily, DecodeError, DefaultNla, Emitable, Nla, NlaBuffer, ParseableBytes,
+    ParseableParametrized, TcAttribute, TcHandle, TcHeader, TcMessage, TcOption,
+    TcQdiscFqCodelOption, VecTcAttribute, VecTcOption, parse_frames_with,
+};
 
 /// A message about a discipline `fq_codel` with a limit of 10240 packets: its header, its kind and its options.
 #[rattlefmt::skip]

@@ -4,11 +4,11 @@ ghost use Rattle.std.specs.Prelude.{◌≡◌, ◌↔◌, List, IsTrue, map};
 ghost use Rattle.nla_frames.specs.Fault.{Gives, seen};
 ghost use Rattle.nla_frames.specs.Buffer.{frame_of};
 ghost use Rattle.tc_canon.specs.Descriptor.{by_kind, is_known};
-ghost use Rattle.tc_wire.specs.Stage.{option_kinds};
+ghost use Rattle.tc_options.specs.Stage.{option_kinds};
 ghost use Rattle.tc_meaning.specs.Tree.{Attribute};
 ghost use Rattle.tc_meaning.specs.Meaning.{table_codec};
 ghost use Rattle.tc_meaning.specs.Short.{table_short};
-ghost use Rattle.tc_wire.specs.Options.{tc_option, read_options};
+ghost use Rattle.tc_options.specs.Options.{tc_option, read_options};
 
 use crate::qdiscs::fq_codel::{TcQdiscFqCodel, TcQdiscFqCodelOption};
 use nla_frames::{
@@ -29,7 +29,7 @@ pub enum TcOption<A: Allocator = Global> {
 }
 
 /// Whether the options of this kind are known.
-pub(crate) fn is_known_kind(kind: &str) -> bool
+pub fn is_known_kind(kind: &str) -> bool
     ensures { result ≡ is_known option_kinds kind.now }
 {
     kind == TcQdiscFqCodel::KIND

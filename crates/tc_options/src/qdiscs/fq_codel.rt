@@ -6,7 +6,7 @@ ghost use Rattle.tc_canon.specs.Tables.Options.{fq_codel_options};
 ghost use Rattle.tc_meaning.specs.Tree.{Attribute};
 ghost use Rattle.tc_meaning.specs.Meaning.{table_codec};
 ghost use Rattle.tc_meaning.specs.Short.{table_short};
-ghost use Rattle.tc_wire.specs.FqCodel.{fq_codel_option};
+ghost use Rattle.tc_options.specs.FqCodel.{fq_codel_option};
 
 use nla_frames::values::read::{parse_u8, parse_u32};
 use nla_frames::values::write::{put_u8, put_u32};
