@@ -539,26 +539,28 @@ fn bytes_of<A: Allocator>(alloc: A, hex: &str) -> Result<Vec<u8, A>, AllocError>
     Ok(bytes)
 }
 
-// The first traffic control message whose answer is another.
-fn misjudged_tc<A: Allocator + Copy>(
-    alloc: A,
-    rows: &[Row],
-) -> Result<Option<&'static str>, AllocError> {
-    for row in rows {
-        if is_canonical_tc(&bytes_of(alloc, row.hex)?) != row.canonical {
-            return Ok(Some(row.name));
-        }
-    }
-    Ok(None)
+/// Which of the two messages bytes are looked at as.
+#[derive(Clone, Copy)]
+enum Message {
+    Tc,
+    Action,
 }
 
-// The first action message whose answer is another.
-fn misjudged_action<A: Allocator + Copy>(
+fn is_canonical(message: Message, bytes: &[u8]) -> bool {
+    match message {
+        Message::Tc => is_canonical_tc(bytes),
+        Message::Action => is_canonical_action(bytes),
+    }
+}
+
+/// The first row whose answer is another.
+fn misjudged<A: Allocator + Copy>(
     alloc: A,
+    message: Message,
     rows: &[Row],
 ) -> Result<Option<&'static str>, AllocError> {
     for row in rows {
-        if is_canonical_action(&bytes_of(alloc, row.hex)?) != row.canonical {
+        if is_canonical(message, &bytes_of(alloc, row.hex)?) != row.canonical {
             return Ok(Some(row.name));
         }
     }
@@ -567,8 +569,8 @@ fn misjudged_action<A: Allocator + Copy>(
 
 #[test]
 fn messages(rt: HostRuntime) -> Result<(), Fail> {
-    assert_eq!(rt; misjudged_tc(rt.alloc(), &TC)?, None);
-    assert_eq!(rt; misjudged_action(rt.alloc(), &ACTIONS)?, None);
+    assert_eq!(rt; misjudged(rt.alloc(), Message::Tc, &TC)?, None);
+    assert_eq!(rt; misjudged(rt.alloc(), Message::Action, &ACTIONS)?, None);
     Ok(())
 }
 

@@ -46,19 +46,9 @@ fn kept(alloc: Global, word: u16, value: &[u8]) -> Result<DefaultNla, Fail> {
     Ok(DefaultNla::new(word, value.to_vec(alloc)?))
 }
 
-/// Asserts that bytes read as these attributes after a header, and that the message is written as `written`, over a
-/// longer buffer whose rest stays.
-fn reads_as(
-    rt: &impl Abort,
-    alloc: Global,
-    bytes: &[u8],
-    header: TcHeader,
-    attributes: Vec<TcAttribute>,
-    written: &[u8],
-) -> Result<(), Fail> {
-    let message = TcMessage::parse(alloc, bytes)?;
-    let same = message.clone()?;
-    assert_eq!(rt; message, same);
+/// Asserts that a message and its clone are written as `written`, over a longer buffer whose rest stays.
+fn is_written_as(rt: &impl Abort, message: &TcMessage, written: &[u8]) -> Result<(), Fail> {
+    assert_eq!(rt; *message, message.clone()?);
     let mut buffer = [0x55u8; 64];
     assert!(rt; written.len() < buffer.len());
     assert!(rt; message.fits());
@@ -68,6 +58,20 @@ fn reads_as(
     for byte in &buffer[written.len()..] {
         assert_eq!(rt; *byte, 0x55);
     }
+    Ok(())
+}
+
+/// Asserts that bytes read as these attributes after a header, and how the message is written.
+fn reads_as(
+    rt: &impl Abort,
+    alloc: Global,
+    bytes: &[u8],
+    header: TcHeader,
+    attributes: Vec<TcAttribute>,
+    written: &[u8],
+) -> Result<(), Fail> {
+    let message = TcMessage::parse(alloc, bytes)?;
+    is_written_as(rt, &message, written)?;
     assert_eq!(rt; message, TcMessage::from_parts(header, attributes));
     Ok(())
 }
@@ -154,28 +158,34 @@ fn broken_messages_are_refused(rt: HostRuntime) -> Result<(), Fail> {
     Ok(())
 }
 
+fn options_under(alloc: Global, kind: &str) -> Result<Vec<TcOption>, Fail> {
+    let frame = NlaBuffer::new_checked(&FQ_CODEL[36..])?;
+    Ok(VecTcOption::parse_with_param(alloc, &frame, kind)?.0)
+}
+
 #[test]
 fn options_go_by_the_kind(rt: HostRuntime) -> Result<(), Fail> {
     let alloc = rt.alloc();
-    let frame = NlaBuffer::new_checked(&FQ_CODEL[36..])?;
-    let options = VecTcOption::parse_with_param(alloc, &frame, "fq_codel")?.0;
     let limit = TcOption::FqCodel(TcQdiscFqCodelOption::Limit(10240));
-    assert_eq!(rt; options, vec![in alloc; limit]?);
-    let options = VecTcOption::parse_with_param(alloc, &frame, "sfq")?.0;
-    assert_eq!(rt;
-        options,
-        vec![in alloc; TcOption::Other(kept(alloc, 2, &LIMIT)?)]?
-    );
+    assert_eq!(rt; options_under(alloc, "fq_codel")?, vec![in alloc; limit]?);
+    let other = TcOption::Other(kept(alloc, 2, &LIMIT)?);
+    assert_eq!(rt; options_under(alloc, "sfq")?, vec![in alloc; other]?);
+    Ok(())
+}
 
+#[test]
+fn an_option_is_read_alone(rt: HostRuntime) -> Result<(), Fail> {
+    let alloc = rt.alloc();
     let frame = NlaBuffer::new_checked(&LIMIT)?;
     let option = TcOption::parse_with_param(alloc, &frame, "fq_codel")?;
-    assert_eq!(rt;
-        option,
-        TcOption::FqCodel(TcQdiscFqCodelOption::Limit(10240))
-    );
     let cut: Vec<TcOption> = parse_frames_with(alloc, &[frame], "fq_codel")?;
     assert_eq!(rt; cut, vec![in alloc; option]?);
+    Ok(())
+}
 
+#[test]
+fn attributes_are_read_alone(rt: HostRuntime) -> Result<(), Fail> {
+    let alloc = rt.alloc();
     let list = VecTcAttribute::parse(alloc, &FQ_CODEL[20..36])?.0;
     assert_eq!(rt; list, vec![in alloc; kind(alloc, "fq_codel")?]?);
     Ok(())
@@ -207,30 +217,38 @@ fn messages_are_made(rt: HostRuntime) -> Result<(), Fail> {
     Ok(())
 }
 
+/// Whether the message is read and written where the request of this number is refused; where it is not, it is for
+/// want of memory.
+fn is_read(rt: &impl Abort, alloc: Global, bytes: &[u8; 48], at: u64) -> Result<bool, Fail> {
+    let failing = Failing::new(alloc, at);
+    let result = TcMessage::parse(&failing, bytes);
+    if failing.has_refused() {
+        assert_eq!(rt; result.err(), Some(DecodeError::OutOfMemory), "at {at}");
+        return Ok(false);
+    }
+    let message = result?;
+    // what follows takes no memory
+    failing.refuse(1);
+    let mut buffer = [0; 48];
+    assert!(rt; message.fits());
+    assert_eq!(rt; message.buffer_len(), buffer.len());
+    message.emit(&mut buffer);
+    assert_eq!(rt; buffer, *bytes);
+    assert!(rt; !failing.has_refused());
+    Ok(true)
+}
+
 #[test]
 fn want_of_memory_is_told(rt: HostRuntime) -> Result<(), Fail> {
     for bytes in [FQ_CODEL, with_two_nuls()] {
-        let mut is_read = false;
+        let mut is_done = false;
         for at in 1..1000u64 {
-            let failing = Failing::new(rt.alloc(), at);
-            let result = TcMessage::parse(&failing, &bytes);
-            if failing.has_refused() {
-                assert_eq!(rt; result.err(), Some(DecodeError::OutOfMemory), "at {at}");
-                continue;
+            is_done = is_read(&rt, rt.alloc(), &bytes, at)?;
+            if is_done {
+                break;
             }
-            let message = result?;
-            // what follows takes no memory
-            failing.refuse(1);
-            let mut buffer = [0; 48];
-            assert!(rt; message.fits());
-            assert_eq!(rt; message.buffer_len(), buffer.len());
-            message.emit(&mut buffer);
-            assert_eq!(rt; buffer, bytes);
-            assert!(rt; !failing.has_refused());
-            is_read = true;
-            break;
         }
-        assert!(rt; is_read);
+        assert!(rt; is_done);
     }
     Ok(())
 }

@@ -5,6 +5,7 @@ use crate::run::{RunError, run};
 use failing::Failing;
 use std::alloc::{AllocError, Global};
 use std::io::{Cursor, Error, ErrorKind, Read, Result, Write};
+use std::process::Abort;
 use std::test::Fail;
 
 // A message with the kind fq_codel and a limit of 10240 packets.
@@ -124,6 +125,23 @@ fn writer(alloc: Global, interruptions: usize, calls: usize) -> OneByOne<Vec<u8>
     }
 }
 
+// Asserts what is written on a text, with which status, and how many of its bytes are left unread.
+fn reports(
+    rt: &impl Abort,
+    alloc: Global,
+    text: &[u8],
+    want: &str,
+    status: u8,
+    left: usize,
+) -> std::result::Result<(), Fail> {
+    let (mut from, mut to) = (text, Vec::new(alloc));
+    let ended = run(alloc, Mode::Tc, &mut from, &mut to);
+    assert_eq!(rt; to.as_slice(), want.as_bytes());
+    assert_eq!(rt; ended, Ok(status), "{want}");
+    assert_eq!(rt; from.len(), left);
+    Ok(())
+}
+
 #[test]
 fn rewrites_messages(rt: HostRuntime) -> std::result::Result<(), Fail> {
     for (text, bytes) in [
@@ -137,10 +155,7 @@ fn rewrites_messages(rt: HostRuntime) -> std::result::Result<(), Fail> {
         (SHORT_PADDING, FULL_PADDING),
     ] {
         let want = accepted(rt.alloc(), bytes)?;
-        let (mut from, mut to) = (text.as_bytes(), Vec::new(rt.alloc()));
-        let ended = run(rt.alloc(), Mode::Tc, &mut from, &mut to);
-        assert_eq!(rt; to.as_slice(), want.as_bytes(), "{text}");
-        assert_eq!(rt; ended, Ok(0), "{text}");
+        reports(&rt, rt.alloc(), text.as_bytes(), &want, 0, 0)?;
     }
     Ok(())
 }
@@ -157,10 +172,7 @@ fn refuses_texts(rt: HostRuntime) -> std::result::Result<(), Fail> {
         ("0g", "bad hex\n", 2),
         ("00\x0b", "bad hex\n", 2),
     ] {
-        let (mut from, mut to) = (text.as_bytes(), Vec::new(rt.alloc()));
-        let ended = run(rt.alloc(), Mode::Tc, &mut from, &mut to);
-        assert_eq!(rt; to.as_slice(), want.as_bytes(), "{text}");
-        assert_eq!(rt; ended, Ok(status), "{text}");
+        reports(&rt, rt.alloc(), text.as_bytes(), want, status, 0)?;
     }
     Ok(())
 }
@@ -204,11 +216,7 @@ fn reads_no_more_than_one_byte_too_much(rt: HostRuntime) -> std::result::Result<
         (1_048_579, 2, "too long\n", 2),
     ] {
         let text = spaces(rt.alloc(), count)?;
-        let (mut from, mut to) = (text.as_slice(), Vec::new(rt.alloc()));
-        let ended = run(rt.alloc(), Mode::Tc, &mut from, &mut to);
-        assert_eq!(rt; to.as_slice(), want.as_bytes());
-        assert_eq!(rt; ended, Ok(status));
-        assert_eq!(rt; from.len(), left);
+        reports(&rt, rt.alloc(), &text, want, status, left)?;
     }
     Ok(())
 }
