@@ -19,6 +19,8 @@ ghost use Rattle.tc_records.specs.NatFlags.{nat_flags_table};
 ghost use Rattle.tc_records.specs.MessageFlags.{message_flags_word, message_flags_table};
 ghost use Rattle.tc_records.specs.FilterFlags.{bpf_flags_table, selector_flags_table, option_flags_table};
 
+pub mod in_hand;
+
 use crate::actions::message_flags::TcActionMessageFlags;
 use std::cmp::Ordering;
 

@@ -2,7 +2,7 @@
 
 ghost use Rattle.std.specs.Prelude.{◌<◌};
 
-use std::alloc::{AllocError, Allocator};
+use std::alloc::{AllocError, Allocator, Global};
 use std::test::*;
 use tc_canon::{
     canon_action, canon_action_options, canon_actions, canon_lse, canon_mpls, canon_options,
@@ -553,14 +553,19 @@ fn is_canonical(message: Message, bytes: &[u8]) -> bool {
     }
 }
 
+fn is_judged_rightly(alloc: Global, message: Message, row: &Row) -> Result<bool, AllocError> {
+    let bytes = bytes_of(alloc, row.hex)?;
+    Ok(is_canonical(message, &bytes) == row.canonical)
+}
+
 /// The first row whose answer is another.
-fn misjudged<A: Allocator + Copy>(
-    alloc: A,
+fn misjudged(
+    alloc: Global,
     message: Message,
     rows: &[Row],
 ) -> Result<Option<&'static str>, AllocError> {
     for row in rows {
-        if is_canonical(message, &bytes_of(alloc, row.hex)?) != row.canonical {
+        if !is_judged_rightly(alloc, message, row)? {
             return Ok(Some(row.name));
         }
     }
