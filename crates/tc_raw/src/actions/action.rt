@@ -35,7 +35,7 @@ impl TcActionGenericBuffer {
     }
 }
 
-impl From<&TcActionGeneric> for TcActionGenericBuffer {
+impl From<&tc_records::TcActionGeneric> for TcActionGenericBuffer {
     ghost from_gives = { λ generic buffer. generic_bytes buffer ≡ fields_bytes action_generic (generic_scalars generic.now) };
 
     fn from(generic: &TcActionGeneric) -> TcActionGenericBuffer {

@@ -35,7 +35,7 @@ impl TcActionMessageBuffer {
     }
 }
 
-impl From<&TcActionMessageHeader> for TcActionMessageBuffer {
+impl From<&tc_records::TcActionMessageHeader> for TcActionMessageBuffer {
     ghost from_gives = { λ header buffer. action_header_bytes buffer ≡ fields_bytes action_message_header (action_message_header_scalars header.now) };
 
     fn from(header: &TcActionMessageHeader) -> TcActionMessageBuffer {

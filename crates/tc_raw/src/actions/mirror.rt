@@ -35,7 +35,7 @@ impl TcMirrorBuffer {
     }
 }
 
-impl From<&TcMirror> for TcMirrorBuffer {
+impl From<&tc_records::TcMirror> for TcMirrorBuffer {
     ghost from_gives = { λ action buffer. mirror_bytes buffer ≡ fields_bytes mirror (mirror_scalars action.now) };
 
     fn from(action: &TcMirror) -> TcMirrorBuffer {

@@ -35,7 +35,7 @@ impl TcNatBuffer {
     }
 }
 
-impl From<&TcNat> for TcNatBuffer {
+impl From<&tc_records::TcNat> for TcNatBuffer {
     ghost from_gives = { λ action buffer. nat_bytes buffer ≡ fields_bytes nat (nat_scalars action.now) };
 
     fn from(action: &TcNat) -> TcNatBuffer {

@@ -35,7 +35,7 @@ impl TcTunnelKeyBuffer {
     }
 }
 
-impl From<&TcTunnelKey> for TcTunnelKeyBuffer {
+impl From<&tc_records::TcTunnelKey> for TcTunnelKeyBuffer {
     ghost from_gives = { λ action buffer. tunnel_key_bytes buffer ≡ fields_bytes tunnel_key (tunnel_key_scalars action.now) };
 
     fn from(action: &TcTunnelKey) -> TcTunnelKeyBuffer {

@@ -36,7 +36,7 @@ impl TcU32KeyBuffer {
     }
 }
 
-impl From<&TcU32Key> for TcU32KeyBuffer {
+impl From<&tc_records::TcU32Key> for TcU32KeyBuffer {
     ghost from_gives = { λ key buffer. key_bytes buffer ≡ fields_bytes selector_key (key_scalars key.now) };
 
     fn from(key: &TcU32Key) -> TcU32KeyBuffer {
@@ -90,7 +90,7 @@ impl TcU32SelectorBuffer {
     }
 }
 
-impl<A: Allocator> From<&TcU32Selector<A>> for TcU32SelectorBuffer {
+impl<A: Allocator> From<&tc_records::TcU32Selector<A>> for TcU32SelectorBuffer {
     ghost from_gives = { λ selector buffer. selector_bytes buffer ≡ fields_bytes selector_head (head_scalars selector.now) };
 
     fn from(selector: &TcU32Selector<A>) -> TcU32SelectorBuffer {

@@ -35,7 +35,7 @@ impl TcStatsBuffer {
     }
 }
 
-impl From<&TcStats> for TcStatsBuffer {
+impl From<&tc_records::TcStats> for TcStatsBuffer {
     ghost from_gives = { λ statistics buffer. stats_bytes buffer ≡ fields_bytes stats (stats_scalars statistics.now) };
 
     fn from(statistics: &TcStats) -> TcStatsBuffer {

@@ -35,7 +35,7 @@ impl TcStatsQueueBuffer {
     }
 }
 
-impl From<&TcStatsQueue> for TcStatsQueueBuffer {
+impl From<&tc_records::TcStatsQueue> for TcStatsQueueBuffer {
     ghost from_gives = { λ statistics buffer. queue_bytes buffer ≡ fields_bytes stats_queue (queue_scalars statistics.now) };
 
     fn from(statistics: &TcStatsQueue) -> TcStatsQueueBuffer {
