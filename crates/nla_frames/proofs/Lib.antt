@@ -10,10 +10,12 @@ pub mod ListGrammarLaws
 pub mod ListLaws
 pub mod ListWriting
 pub mod NextFrame
+pub mod OwnKinds
 pub mod Outcomes
 pub mod PlaceLaws
 pub mod Places
 pub mod ReadEach
 pub mod ReadingSteps
+pub mod SettledSteps
 pub mod Texts
 pub mod Writing

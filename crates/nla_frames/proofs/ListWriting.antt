@@ -41,6 +41,10 @@ module _ {Y X : Type 0} (see : Y → X) (frame : X → Frame) (items : List Y) w
       let same = take_all n (map see items) long in
       record { each = subst (AllByRecursion P) same each; whole = rw same at whole }
 
+-- what each item before the end is, each is
+pub all_hold : {Y X : Type 0} (see : Y → X) (items : List Y) (P : X → Type 0) (n : ℕ) → length items ≤ n → AllByRecursion P (take n (map see items)) → AllByRecursion P (map see items)
+all_hold see items P n past each = subst (AllByRecursion P) (take_all n (map see items) (omega (arith, length-map items see))) each
+
 module _ {Y X : Type 0} (see : Y → X) {items : List Y} {i : ℕ} {item : Y} (here : IsAt items i item) where
   -- an item as it is seen
   seen_at : get_or (map see items) i (see item) ≡ see item

@@ -1,5 +1,6 @@
 -- The bytes of a list of values, and when they can be written.
-use Rattle.std.specs.Prelude.{◌≡◌, ℕ, ◌≤◌, ◌<◌, ◌^◌, List, ◌++◌, length, drop}
+use Rattle.std.specs.Prelude.{◌≡◌, ℕ, ◌≤◌, ◌<◌, ◌^◌, List, ◌++◌, length, drop, Option}
+use Rattle.std.specs.Option.{MatchOption}
 use Rattle.std.specs.List.{flat_map, AllByRecursion}
 use Rattle.nla_frames.specs.Frame.{Frame, frame_bytes}
 
@@ -19,3 +20,11 @@ Writes bytes old new = new ≡ bytes ++ drop (length bytes) old
 -- the bytes have room
 abbrev pub HasRoom : List ℕ → List ℕ → Type 0
 HasRoom bytes buffer = length bytes ≤ length buffer
+
+-- the length of these bytes where they can be written, and none where they can't
+abbrev pub Measures : Option ℕ → Type 0 → List ℕ → Type 0
+Measures measured Fits bytes = MatchOption measured (Fits → ⊥) (λ n. Fits × (n ≡ length bytes))
+
+-- each value fits, and together they have at most 65531 bytes
+abbrev pub NestedFits : {X : Type 0} → (X → Type 0) → (X → Frame) → List X → Type 0
+NestedFits Fits frame xs = ListFits Fits frame xs × (length (list_bytes frame xs) ≤ 65531)

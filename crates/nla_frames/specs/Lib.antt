@@ -13,3 +13,4 @@ pub mod CanonList
 pub mod Codec
 pub mod DefaultNla
 pub mod Family
+pub mod OnlyKind

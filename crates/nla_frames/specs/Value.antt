@@ -1,5 +1,5 @@
 -- Plain values: numbers of a width in either byte order, texts, and bytes of an exact width.
-use Rattle.std.specs.Prelude.{ℕ, zero, suc, ◌+◌, ◌-◌, ◌*◌, ◌/◌, ◌%◌, Bool, List, [], ◌∷◌, ◌++◌, length, take, reverse, slice_index_or, Ok, Err, ◌==◌, if◌then◌else◌, ◌<◌, slice_index}
+use Rattle.std.specs.Prelude.{◌≡◌, true, ℕ, zero, suc, ◌+◌, ◌-◌, ◌*◌, ◌/◌, ◌%◌, Bool, List, [], ◌∷◌, ◌++◌, length, take, reverse, slice_index_or, Ok, Err, ◌==◌, if◌then◌else◌, ◌<◌, slice_index}
 use Rattle.std.specs.Str.{is_utf8}
 use Rattle.nla_frames.specs.declared.error.DecodeError.TheVariants.{WrongLength, NotUtf8}
 use Rattle.nla_frames.specs.Fault.{Outcome}
@@ -7,6 +7,11 @@ use Rattle.nla_frames.specs.Fault.{Outcome}
 -- each is a byte
 pub record IsBytes (bytes : List ℕ) : Type 0 where
   pub each : (i : ℕ) → slice_index bytes i < 256
+
+-- a text: UTF-8
+pub record IsText (t : List ℕ) : Type 0 where
+  pub is_bytes : IsBytes t
+  pub is_text : is_utf8 t ≡ true
 
 -- a number's lowest bytes, the low byte first
 abbrev pub le_bytes : ℕ → ℕ → List ℕ

@@ -1,16 +1,17 @@
 //! An attribute that is kept as it stands.
 
-ghost use Rattle.std.specs.Prelude.{◌≡◌, ◌≤◌, length};
-ghost use Rattle.nla_frames.specs.DefaultNla.{kept_frame};
-ghost use Rattle.nla_frames.specs.Fault.{read_as};
+ghost use Rattle.std.specs.Prelude.{◌≡◌};
+ghost use Rattle.nla_frames.specs.DefaultNla.{kept_frame, kept_codec};
 ghost use Rattle.nla_frames.specs.Frame.{Frame};
 
 use crate::buffer::NlaBuffer;
 use crate::error::Res;
+use crate::laws::in_hand::{bytes_in_hand, u16_in_hand};
 use crate::meaning::FrameMeaning;
-use crate::nla::{NLA_VALUE_MAX_SIZE, Nla};
+use crate::nla::Nla;
 use crate::parse::Parseable;
-use crate::values::write::put_bytes;
+use crate::settle::Settle;
+use crate::values::write::{checked_value_len, put_bytes};
 use std::alloc::{Allocator, Global};
 
 /// An attribute of any type, kept as the word and the bytes of its frame.
@@ -36,13 +37,7 @@ impl<A: Allocator> FrameMeaning for DefaultNla<A> {
 
     ghost see = { kept_frame };
 
-    ghost reads = { λ _ f. read_as f };
-
-    ghost frame = { λ f. f };
-
-    ghost Fits = { λ f. length f.value ≤ 65531 };
-
-    ghost Settled = { λ _ _. Unit {0} };
+    ghost codec = { kept_codec };
 }
 
 impl<A: Allocator> Parseable<A> for DefaultNla<A> {
@@ -60,17 +55,22 @@ impl<A: Allocator> Nla for DefaultNla<A> {
         self.word
     }
 
-    fn fits(&self) -> bool {
-        self.value.len() <= NLA_VALUE_MAX_SIZE
-    }
-
-    fn value_len(&self) -> usize {
-        self.value.len()
+    fn checked_len(&self) -> Option<usize> {
+        checked_value_len(&self.value)
     }
 
     fn put_value(&self, buffer: &mut [u8]) -> usize {
+        u16_in_hand(self.word);
         put_bytes(buffer, &self.value)
     }
 
     ghost is_short = { λ _ fits. fits };
+}
+
+impl<A: Allocator> Settle for DefaultNla<A> {
+    fn is_settled_under(&self, _kind: &str) -> bool {
+        u16_in_hand(self.word);
+        bytes_in_hand(&self.value);
+        true
+    }
 }

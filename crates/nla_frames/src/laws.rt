@@ -10,6 +10,8 @@ ghost use Rattle.nla_frames.specs.Place.{Sets};
 ghost use Rattle.nla_frames.specs.Reading.{read_list};
 ghost use Rattle.nla_frames.specs.ListGrammar.{OneOutcome};
 
+pub mod in_hand;
+
 use crate::meaning::FrameMeaning;
 
 /// Cutting is the grammar of frames. Bytes are the frames that `cut` gives, and after them the broken frame of its
@@ -25,7 +27,7 @@ pub fn cutting(bytes: &[u8])
 /// place; it gives a fault exactly if after frames that are read there stands a broken frame, or one that is
 /// refused, with this fault. So all bytes have one reading and no fault, or no reading and one fault.
 pub fn list_grammar<T: FrameMeaning>(bytes: &[u8], kind: &str)
-    ensures { (sets : Sets Frame) → OneOutcome T.reads sets kind.now bytes.now (read_list T.reads sets kind.now bytes.now) }
+    ensures { (sets : Sets Frame) → OneOutcome T.codec.read sets kind.now bytes.now (read_list T.codec.read sets kind.now bytes.now) }
 {}
 
 /// A number is the number of its family, so reading and writing a family loses nothing.

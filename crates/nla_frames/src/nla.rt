@@ -1,8 +1,9 @@
 //! Writing an attribute.
 
 ghost use Rattle.std.specs.Prelude.{◌≡◌, ◌≤◌, ◌↔◌, ◌+◌, ◌++◌, length, replicate, IsTrue, IsBitSet};
+ghost use Rattle.std.specs.Option.{MatchOption};
 ghost use Rattle.nla_frames.specs.Frame.{Frame, header, padding, padded, frame_bytes, frame_length};
-ghost use Rattle.nla_frames.specs.Emission.{Writes, HasRoom};
+ghost use Rattle.nla_frames.specs.Emission.{Measures, Writes, HasRoom};
 
 use crate::meaning::FrameMeaning;
 use crate::values::write::emit_u16;
@@ -26,56 +27,79 @@ pub const NLA_VALUE_MAX_SIZE: usize = 65531;
 pub trait Nla: FrameMeaning {
     /// The word of its frame: the type and the two flags.
     fn kind(&self) -> u16
-        ensures { result ≡ (Self.frame (Self.see self.now)).word };
+        ensures { result ≡ (Self.codec.write (Self.see self.now)).word };
 
-    /// Whether it can be written: every value in it, its own too, has at most 65531 bytes.
-    fn fits(&self) -> bool
-        ensures { IsTrue result ↔ Self.Fits (Self.see self.now) };
+    /// How many bytes its value has, or `None` where it can't be written: where its value, or one that is nested in
+    /// it, has more than 65531 bytes.
+    fn checked_len(&self) -> Option<usize>
+        ensures { Measures result (Self.codec.Fits (Self.see self.now)) (Self.codec.write (Self.see self.now)).value };
+
+    /// Writes its value at the front of the buffer, and returns how many bytes that took.
+    fn put_value(&self, buffer: &mut [u8]) -> usize
+        requires fits { Self.codec.Fits (Self.see self.now) }
+        requires room { HasRoom (Self.codec.write (Self.see self.now)).value buffer.old }
+        ensures written { Writes (Self.codec.write (Self.see self.now)).value buffer.old buffer.new }
+        ensures length { result ≡ length (Self.codec.write (Self.see self.now)).value }
+        ensures typed { Self.codec.Typed (Self.see self.now) };
+
+    ghost is_short: { (x : Self.Seen) → Self.codec.Fits x → length (Self.codec.write x).value ≤ 65531 };
+
+    /// True if it can be written: its value and all values nested in it have at most 65531 bytes.
+    final fn fits(&self) -> bool
+        ensures { IsTrue result ↔ Self.codec.Fits (Self.see self.now) }
+    {
+        self.checked_len().is_some()
+    }
 
     /// How many bytes its value has.
-    fn value_len(&self) -> usize
-        requires { Self.Fits (Self.see self.now) }
-        ensures { result ≡ length (Self.frame (Self.see self.now)).value };
+    final fn value_len(&self) -> usize
+        requires { Self.codec.Fits (Self.see self.now) }
+        ensures { result ≡ length (Self.codec.write (Self.see self.now)).value }
+    {
+        self.checked_len().unwrap_or(0)
+    }
 
-    /// Writes its value at the front of the buffer, and answers how many bytes that took.
-    fn put_value(&self, buffer: &mut [u8]) -> usize
-        requires fits { Self.Fits (Self.see self.now) }
-        requires room { HasRoom (Self.frame (Self.see self.now)).value buffer.old }
-        ensures written { Writes (Self.frame (Self.see self.now)).value buffer.old buffer.new }
-        ensures length { result ≡ length (Self.frame (Self.see self.now)).value };
-
-    ghost is_short: { (x : Self.Seen) → Self.Fits x → length (Self.frame x).value ≤ 65531 };
-
-    /// Whether the word has the nested flag.
+    /// True if the word has the nested flag.
     final fn is_nested(&self) -> bool
-        ensures { IsTrue result ↔ IsBitSet (Self.frame (Self.see self.now)).word 15 }
+        ensures { IsTrue result ↔ IsBitSet (Self.codec.write (Self.see self.now)).word 15 }
     {
         self.kind() & NLA_F_NESTED != 0
     }
 
-    /// Whether the word has the network order flag.
+    /// True if the word has the network byte order flag.
     final fn is_network_byteorder(&self) -> bool
-        ensures { IsTrue result ↔ IsBitSet (Self.frame (Self.see self.now)).word 14 }
+        ensures { IsTrue result ↔ IsBitSet (Self.codec.write (Self.see self.now)).word 14 }
     {
         self.kind() & NLA_F_NET_BYTEORDER != 0
     }
 
     /// How many bytes its frame has, padding counted.
     final fn frame_len(&self) -> usize
-        requires { Self.Fits (Self.see self.now) }
-        ensures { result ≡ frame_length (Self.frame (Self.see self.now)) }
+        requires { Self.codec.Fits (Self.see self.now) }
+        ensures { result ≡ frame_length (Self.codec.write (Self.see self.now)) }
     {
         let len = self.value_len();
         NLA_HEADER_SIZE + len + padding_len(len)
     }
 
-    /// Writes its frame at the front of the buffer, padded with zeros, and answers how many bytes that took.
+    /// How many bytes its frame has, padding counted, or `None` where it can't be written.
+    final fn checked_frame_len(&self) -> Option<usize>
+        ensures { MatchOption result (Self.codec.Fits (Self.see self.now) → ⊥) (λ n. Self.codec.Fits (Self.see self.now) × (n ≡ frame_length (Self.codec.write (Self.see self.now)))) }
+    {
+        match self.checked_len() {
+            Some(len) => Some(NLA_HEADER_SIZE + len + padding_len(len)),
+            None => None,
+        }
+    }
+
+    /// Writes its frame at the front of the buffer, padded with zeros, and returns how many bytes that took.
     #[tactic(auto, using(crate::proofs::Writing::parts), unfolding(crate::specs::Frame::frame_bytes))]
     final fn put_frame(&self, buffer: &mut [u8]) -> usize
-        requires fits { Self.Fits (Self.see self.now) }
-        requires room { HasRoom (frame_bytes (Self.frame (Self.see self.now))) buffer.old }
-        ensures written { Writes (frame_bytes (Self.frame (Self.see self.now))) buffer.old buffer.new }
-        ensures length { result ≡ frame_length (Self.frame (Self.see self.now)) }
+        requires fits { Self.codec.Fits (Self.see self.now) }
+        requires room { HasRoom (frame_bytes (Self.codec.write (Self.see self.now))) buffer.old }
+        ensures written { Writes (frame_bytes (Self.codec.write (Self.see self.now))) buffer.old buffer.new }
+        ensures length { result ≡ frame_length (Self.codec.write (Self.see self.now)) }
+        ensures typed { Self.codec.Typed (Self.see self.now) }
     {
         let len = put_padded(&mut buffer[NLA_HEADER_SIZE..], self);
         put_header(buffer, len, self.kind());
@@ -84,30 +108,31 @@ pub trait Nla: FrameMeaning {
 
     /// Writes its value over a buffer of just its length.
     final fn emit_value(&self, buffer: &mut [u8])
-        requires fits { Self.Fits (Self.see self.now) }
-        requires whole { length buffer.old ≡ length (Self.frame (Self.see self.now)).value }
-        ensures { buffer.new ≡ (Self.frame (Self.see self.now)).value }
+        requires fits { Self.codec.Fits (Self.see self.now) }
+        requires whole { length buffer.old ≡ length (Self.codec.write (Self.see self.now)).value }
+        ensures { buffer.new ≡ (Self.codec.write (Self.see self.now)).value }
     {
         self.put_value(buffer);
     }
 
     /// Writes its frame at the front of the buffer, padded with zeros.
     final fn emit_frame(&self, buffer: &mut [u8])
-        requires fits { Self.Fits (Self.see self.now) }
-        requires room { HasRoom (frame_bytes (Self.frame (Self.see self.now))) buffer.old }
-        ensures { Writes (frame_bytes (Self.frame (Self.see self.now))) buffer.old buffer.new }
+        requires fits { Self.codec.Fits (Self.see self.now) }
+        requires room { HasRoom (frame_bytes (Self.codec.write (Self.see self.now))) buffer.old }
+        ensures { Writes (frame_bytes (Self.codec.write (Self.see self.now))) buffer.old buffer.new }
     {
         self.put_frame(buffer);
     }
 }
 
-/// Writes an attribute's value and its padding, and answers how many bytes the value has.
+/// Writes an attribute's value and its padding, and returns how many bytes the value has.
 #[tactic(auto, unfolding(crate::specs::Frame::padded))]
 fn put_padded<T: Nla>(buffer: &mut [u8], item: &T) -> usize
-    requires fits { T.Fits (T.see item.now) }
-    requires room { HasRoom (padded (T.frame (T.see item.now)).value) buffer.old }
-    ensures written { Writes (padded (T.frame (T.see item.now)).value) buffer.old buffer.new }
-    ensures length { result ≡ length (T.frame (T.see item.now)).value }
+    requires fits { T.codec.Fits (T.see item.now) }
+    requires room { HasRoom (padded (T.codec.write (T.see item.now)).value) buffer.old }
+    ensures written { Writes (padded (T.codec.write (T.see item.now)).value) buffer.old buffer.new }
+    ensures length { result ≡ length (T.codec.write (T.see item.now)).value }
+    ensures typed { T.codec.Typed (T.see item.now) }
 {
     let len = item.put_value(buffer);
     put_zeros(&mut buffer[len..], padding_len(len));
@@ -125,12 +150,25 @@ fn put_header(buffer: &mut [u8], len: usize, word: u16)
     emit_u16(buffer, (NLA_HEADER_SIZE + len) as u16);
 }
 
-/// Writes that many zeros.
+/// Writes that many zeros, without a call: there are at most three.
 fn put_zeros(buffer: &mut [u8], count: usize)
-    requires { HasRoom (replicate count 0) buffer.old }
+    requires few { count ≤ 3 }
+    requires room { HasRoom (replicate count 0) buffer.old }
     ensures { Writes (replicate count 0) buffer.old buffer.new }
 {
-    buffer[..count].fill(0);
+    match count {
+        0 => {}
+        1 => buffer[0] = 0,
+        2 => {
+            buffer[0] = 0;
+            buffer[1] = 0;
+        }
+        _ => {
+            buffer[0] = 0;
+            buffer[1] = 0;
+            buffer[2] = 0;
+        }
+    }
 }
 
 /// How many bytes of padding follow that many bytes.

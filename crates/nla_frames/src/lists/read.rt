@@ -1,6 +1,6 @@
 //! Reading lists of frames.
 
-ghost use Rattle.std.specs.Prelude.{[], map, IfOk};
+ghost use Rattle.std.specs.Prelude.{◌≤◌, [], map, length, IfOk};
 ghost use Rattle.nla_frames.specs.Fault.{Gives, IfRefused, seen};
 ghost use Rattle.nla_frames.specs.Buffer.{frame_of};
 ghost use Rattle.nla_frames.specs.ListGrammar.{ListReads, ListFault};
@@ -17,17 +17,17 @@ pub fn parse_list<A: Allocator + Copy, T: Parseable<A> + Drop>(
     alloc: A,
     bytes: &[u8],
 ) -> Res<Vec<T, A>>
-    ensures found { IfOk result (λ v. ListReads T.reads keep [] bytes.now (map T.see v.items)) }
-    ensures refused { IfRefused result (ListFault T.reads keep [] bytes.now) }
-    ensures exact { Gives (seen (λ v. map T.see v.items) result) (read_list T.reads keep [] bytes.now) }
+    ensures found { IfOk result (λ v. ListReads T.codec.read keep [] bytes.now (map T.see v.items)) }
+    ensures refused { IfRefused result (ListFault T.codec.read keep [] bytes.now) }
+    ensures exact { Gives (seen (λ v. map T.see v.items) result) (read_list T.codec.read keep [] bytes.now) }
 {
     read_all(alloc, bytes)
 }
 
 fn read_all<A: Allocator + Copy, T: Parseable<A> + Drop>(alloc: A, bytes: &[u8]) -> Res<Vec<T, A>>
-    ensures { Gives (seen (λ v. map T.see v.items) result) (read_list T.reads keep [] bytes.now) }
+    ensures { Gives (seen (λ v. map T.see v.items) result) (read_list T.codec.read keep [] bytes.now) }
 {
-    let mut list = Vec::new(alloc);
+    let mut list = Vec::with_capacity(alloc, first_capacity(bytes))?;
     for frame in NlasIterator::new(bytes) {
         let frame = frame?;
         let item = T::parse(alloc, &frame)?;
@@ -36,15 +36,15 @@ fn read_all<A: Allocator + Copy, T: Parseable<A> + Drop>(alloc: A, bytes: &[u8])
     Ok(list)
 }
 
-/// The same, each frame read under one kind.
+/// The values of the frames that the bytes are, each read under one kind, or the first fault.
 pub fn parse_list_with<A: Allocator + Copy, T: ParseableParametrized<A> + Drop>(
     alloc: A,
     bytes: &[u8],
     kind: &str,
 ) -> Res<Vec<T, A>>
-    ensures found { IfOk result (λ v. ListReads T.reads keep kind.now bytes.now (map T.see v.items)) }
-    ensures refused { IfRefused result (ListFault T.reads keep kind.now bytes.now) }
-    ensures exact { Gives (seen (λ v. map T.see v.items) result) (read_list T.reads keep kind.now bytes.now) }
+    ensures found { IfOk result (λ v. ListReads T.codec.read keep kind.now bytes.now (map T.see v.items)) }
+    ensures refused { IfRefused result (ListFault T.codec.read keep kind.now bytes.now) }
+    ensures exact { Gives (seen (λ v. map T.see v.items) result) (read_list T.codec.read keep kind.now bytes.now) }
 {
     read_all_with(alloc, bytes, kind)
 }
@@ -54,9 +54,9 @@ fn read_all_with<A: Allocator + Copy, T: ParseableParametrized<A> + Drop>(
     bytes: &[u8],
     kind: &str,
 ) -> Res<Vec<T, A>>
-    ensures { Gives (seen (λ v. map T.see v.items) result) (read_list T.reads keep kind.now bytes.now) }
+    ensures { Gives (seen (λ v. map T.see v.items) result) (read_list T.codec.read keep kind.now bytes.now) }
 {
-    let mut list = Vec::new(alloc);
+    let mut list = Vec::with_capacity(alloc, first_capacity(bytes))?;
     for frame in NlasIterator::new(bytes) {
         let frame = frame?;
         let item = T::parse_with_param(alloc, &frame, kind)?;
@@ -71,12 +71,21 @@ pub fn parse_frames_with<A: Allocator + Copy, T: ParseableParametrized<A> + Drop
     frames: &[NlaBuffer<'_>],
     kind: &str,
 ) -> Res<Vec<T, A>>
-    ensures { Gives (seen (λ v. map T.see v.items) result) (read_each T.reads keep kind.now (whole (map frame_of frames.now))) }
+    ensures { Gives (seen (λ v. map T.see v.items) result) (read_each T.codec.read keep kind.now (whole (map frame_of frames.now))) }
 {
-    let mut list = Vec::new(alloc);
+    let mut list = Vec::with_capacity(alloc, frames.len())?;
     for frame in frames {
         let item = T::parse_with_param(alloc, frame, kind)?;
         list.push(item)?;
     }
     Ok(list)
+}
+
+/// How many elements a list of frames gets room for at first: one for every eight bytes, and not more than 16, so
+/// that a short list takes one allocation and a wrong guess costs little.
+pub fn first_capacity(bytes: &[u8]) -> usize
+    ensures few { result ≤ 16 }
+    ensures by_the_bytes { result ≤ length bytes.now }
+{
+    (bytes.len() / 8).min(16)
 }

@@ -1,52 +1,69 @@
 //! Writing a list of attributes, one frame after the other.
 
-ghost use Rattle.std.specs.Prelude.{◌≡◌, ◌≤◌, ◌↔◌, IsTrue, length, map};
-ghost use Rattle.nla_frames.specs.Emission.{list_bytes, ListFits, Writes, HasRoom};
+ghost use Rattle.std.specs.Prelude.{◌≡◌, ◌↔◌, IsTrue, length, map};
+ghost use Rattle.std.specs.List.{AllByRecursion};
+ghost use Rattle.nla_frames.specs.Emission.{list_bytes, ListFits, NestedFits, Measures, Writes, HasRoom};
 
 use crate::nla::{NLA_VALUE_MAX_SIZE, Nla};
 
-/// Whether the list can be written: each attribute fits, and a `usize` counts all their bytes.
-pub fn list_fits<T: Nla>(items: &[T]) -> bool
-    ensures { IsTrue result ↔ ListFits T.Fits T.frame (map T.see items.now) }
+/// How many bytes the frames have, or `None` where the list can't be written: where an attribute doesn't fit, or no
+/// `usize` counts all their bytes.
+pub fn list_checked_len<T: Nla>(items: &[T]) -> Option<usize>
+    ensures { Measures result (ListFits T.codec.Fits T.codec.write (map T.see items.now)) (list_bytes T.codec.write (map T.see items.now)) }
 {
     let mut total: usize = 0;
     for item in items {
-        if !item.fits() {
-            return false;
-        }
-        match total.checked_add(item.frame_len()) {
-            Some(more) => total = more,
-            None => return false,
+        match item.checked_frame_len() {
+            None => return None,
+            Some(len) => match total.checked_add(len) {
+                None => return None,
+                Some(more) => total = more,
+            },
         }
     }
-    true
+    Some(total)
 }
 
-/// Whether the list can be written as the value of an attribute: it can be written, in at most 65531 bytes.
-pub fn nested_fits<T: Nla>(items: &[T]) -> bool
-    ensures { IsTrue result ↔ (ListFits T.Fits T.frame (map T.see items.now) × (length (list_bytes T.frame (map T.see items.now)) ≤ 65531)) }
+/// How many bytes the frames have, or `None` where they can't be written as the value of an attribute: where the list
+/// can't be written, or has more than 65531 bytes.
+pub fn nested_checked_len<T: Nla>(items: &[T]) -> Option<usize>
+    ensures { Measures result (NestedFits T.codec.Fits T.codec.write (map T.see items.now)) (list_bytes T.codec.write (map T.see items.now)) }
 {
-    list_fits(items) && list_len(items) <= NLA_VALUE_MAX_SIZE
+    match list_checked_len(items) {
+        Some(len) if len <= NLA_VALUE_MAX_SIZE => Some(len),
+        _ => None,
+    }
+}
+
+/// True if the list can be written: each attribute fits, and a `usize` counts all their bytes.
+pub fn list_fits<T: Nla>(items: &[T]) -> bool
+    ensures { IsTrue result ↔ ListFits T.codec.Fits T.codec.write (map T.see items.now) }
+{
+    list_checked_len(items).is_some()
+}
+
+/// True if the list can be written as the value of an attribute: it can be written, in at most 65531 bytes.
+pub fn nested_fits<T: Nla>(items: &[T]) -> bool
+    ensures { IsTrue result ↔ NestedFits T.codec.Fits T.codec.write (map T.see items.now) }
+{
+    nested_checked_len(items).is_some()
 }
 
 /// How many bytes the frames have.
 pub fn list_len<T: Nla>(items: &[T]) -> usize
-    requires { ListFits T.Fits T.frame (map T.see items.now) }
-    ensures { result ≡ length (list_bytes T.frame (map T.see items.now)) }
+    requires { ListFits T.codec.Fits T.codec.write (map T.see items.now) }
+    ensures { result ≡ length (list_bytes T.codec.write (map T.see items.now)) }
 {
-    let mut len: usize = 0;
-    for item in items {
-        len += item.frame_len();
-    }
-    len
+    list_checked_len(items).unwrap_or(0)
 }
 
-/// Writes the frames at the front of the buffer, each padded with zeros, and answers how many bytes that took.
+/// Writes the frames at the front of the buffer, each padded with zeros, and returns how many bytes that took.
 pub fn put_list<T: Nla>(items: &[T], buffer: &mut [u8]) -> usize
-    requires fits { ListFits T.Fits T.frame (map T.see items.now) }
-    requires room { HasRoom (list_bytes T.frame (map T.see items.now)) buffer.old }
-    ensures written { Writes (list_bytes T.frame (map T.see items.now)) buffer.old buffer.new }
-    ensures length { result ≡ length (list_bytes T.frame (map T.see items.now)) }
+    requires fits { ListFits T.codec.Fits T.codec.write (map T.see items.now) }
+    requires room { HasRoom (list_bytes T.codec.write (map T.see items.now)) buffer.old }
+    ensures written { Writes (list_bytes T.codec.write (map T.see items.now)) buffer.old buffer.new }
+    ensures length { result ≡ length (list_bytes T.codec.write (map T.see items.now)) }
+    ensures typed { AllByRecursion T.codec.Typed (map T.see items.now) }
 {
     let mut at: usize = 0;
     for item in items {
@@ -57,9 +74,9 @@ pub fn put_list<T: Nla>(items: &[T], buffer: &mut [u8]) -> usize
 
 /// Writes the frames at the front of the buffer, each padded with zeros.
 pub fn emit_list<T: Nla>(items: &[T], buffer: &mut [u8])
-    requires fits { ListFits T.Fits T.frame (map T.see items.now) }
-    requires room { HasRoom (list_bytes T.frame (map T.see items.now)) buffer.old }
-    ensures { Writes (list_bytes T.frame (map T.see items.now)) buffer.old buffer.new }
+    requires fits { ListFits T.codec.Fits T.codec.write (map T.see items.now) }
+    requires room { HasRoom (list_bytes T.codec.write (map T.see items.now)) buffer.old }
+    ensures { Writes (list_bytes T.codec.write (map T.see items.now)) buffer.old buffer.new }
 {
     put_list(items, buffer);
 }

@@ -8,14 +8,14 @@ use Rattle.nla_frames.proofs.lists.read.parse_list.Goals as goal
 
 pub returns-clause-found : goal.returns-clause-found
 returns-clause-found g c =
-    let reads = g.T.FrameMeaning.reads in
+    let reads = g.T.FrameMeaning.codec.read in
     let are_bytes = IsBytes-slice c.args.bytes.now c.type_inv.bytes in
     IfOk-Gives (λ v. map g.T.FrameMeaning.see v.items) c.read_all.result (read_list reads keep [] c.args.bytes.now) c.read_all.ensures
     (ListReads reads keep [] c.args.bytes.now) (λ xs. ListReads-read_list reads keep [] c.args.bytes.now xs are_bytes)
 
 pub returns-clause-refused : goal.returns-clause-refused
 returns-clause-refused g c =
-    let reads = g.T.FrameMeaning.reads in
+    let reads = g.T.FrameMeaning.codec.read in
     let are_bytes = IsBytes-slice c.args.bytes.now c.type_inv.bytes in
     IfRefused-Gives (λ v. map g.T.FrameMeaning.see v.items) c.read_all.result (read_list reads keep [] c.args.bytes.now) c.read_all.ensures
     (ListFault reads keep [] c.args.bytes.now) (λ e. ListFault-read_list reads keep [] c.args.bytes.now e are_bytes)
