@@ -31,7 +31,9 @@ pub use nla::{
 };
 pub use only_kind::{OnlyKind, SetsKind, only_kind_set};
 pub use parse::{Emitable, Parseable, ParseableBytes, ParseableParametrized};
-pub use settle::{Settle, list_settled_carrying, list_settled_own, list_settled_under};
+pub use settle::{
+    Settle, SettleBytes, list_settled_carrying, list_settled_own, list_settled_under,
+};
 pub use values::bytes::{i32_bytes, u16_be_bytes, u16_bytes, u32_be_bytes, u32_bytes, u64_bytes};
 pub use values::read::{
     parse_ipv4_addr, parse_ipv6_addr, parse_mac, parse_string, parse_u8, parse_u16, parse_u16_be,

@@ -7,7 +7,7 @@ ghost use Rattle.nla_frames.specs.Reading.{keep};
 ghost use Rattle.nla_frames.specs.Codec.{SettledEach};
 ghost use Rattle.nla_frames.specs.OnlyKind.{text_set, kind_after, SettledUnderOwn};
 
-use crate::meaning::FrameMeaning;
+use crate::meaning::{BytesMeaning, FrameMeaning};
 use crate::only_kind::{OnlyKind, SetsKind, only_kind_set};
 
 /// An attribute that tells whether it reads back as itself.
@@ -24,6 +24,14 @@ pub trait Settle: FrameMeaning {
     {
         self.is_settled_under("")
     }
+}
+
+/// What stands in bytes and tells whether it reads back as itself: a record, statistics.
+pub trait SettleBytes: BytesMeaning {
+    /// True if its bytes, read under this kind, are the value again.
+    fn is_settled_under(&self, kind: &str) -> bool
+        ensures settled { IsTrue result ↔ Self.codec.Settled kind.now (Self.see self.now) }
+        ensures typed { IsTrue result → Self.codec.Typed (Self.see self.now) };
 }
 
 /// True if each attribute is settled under one kind.

@@ -5,6 +5,7 @@ use Rattle.std.specs.List.{flat_map, AllByRecursion}
 use Rattle.nla_frames.specs.declared.error.DecodeError.TheVariants.{BufferTooSmall, SelectorShort, XstatsShort}
 use Rattle.nla_frames.specs.Fault.{Outcome, seen}
 use Rattle.nla_frames.specs.Value as plain_values
+pub use Rattle.nla_frames.specs.Value.{IsText}
 use Rattle.nla_frames.specs.Value.{IsBytes, le_bytes, le_value, le_number, be_bytes, be_number, exactly, strip, terminated}
 use Rattle.nla_frames.specs.Codec.{Codec}
 use Rattle.tc_canon.specs.Descriptor.{Field, little}
@@ -70,10 +71,6 @@ some_bytes = record { into = is_bytes; out = bytes_in }
     bytes_in : Content → List ℕ
     bytes_in (is_bytes v) = v
     bytes_in _ = []
-
-pub record IsText (t : List ℕ) : Type 0 where
-  pub is_bytes : IsBytes t
-  pub is_text : is_utf8 t ≡ true
 
 abbrev pub array_codec : ℕ → Codec (List ℕ) (List ℕ)
 array_codec n = plainly (exactly n) (λ v. v) (λ v. (length v ≡ n) × IsBytes v) always

@@ -6,7 +6,7 @@ use Rattle.nla_frames.specs.Fault.{Outcome, seen, ◌>>=◌}
 use Rattle.nla_frames.specs.Value.{text}
 use Rattle.nla_frames.specs.Frame.{Frame, type_of}
 use Rattle.nla_frames.specs.Cutting.{cut, items_of}
-use Rattle.nla_frames.specs.Place.{Sets}
+pub use Rattle.nla_frames.specs.Place.{Sets, kind_before, kinds_set}
 use Rattle.nla_frames.specs.Reading.{Reads, keep, read_list}
 use Rattle.nla_frames.specs.Emission.{list_bytes, ListFits}
 use Rattle.nla_frames.specs.Codec.{Codec}
@@ -17,16 +17,6 @@ use Rattle.tc_meaning.specs.Tree.{Attribute, known, is_bytes}
 abbrev pub kind_of_attribute : Sets Attribute
 kind_of_attribute (known (suc zero) (is_bytes name)) = Some name
 kind_of_attribute _ = None
-
--- a kind that may be set, before others
-abbrev pub kind_before : Option (List ℕ) → List (List ℕ) → List (List ℕ)
-kind_before (Some kind) kinds = kind ∷ kinds
-kind_before None kinds = kinds
-
--- all kinds that are set, in order
-abbrev pub kinds_set : {X : Type 0} → Sets X → List X → List (List ℕ)
-kinds_set sets [] = []
-kinds_set sets (x ∷ xs) = kind_before (sets x) (kinds_set sets xs)
 
 -- the texts of all frames of type 1, up to a broken frame or one that has no text
 unfoldable pub read_kinds : List (Outcome Frame) → Outcome (List (List ℕ))

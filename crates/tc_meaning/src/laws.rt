@@ -67,7 +67,7 @@ pub fn fits_or_not()
 /// of type 1 has a text, there is one such frame, and the frames are read under its text; it gives a fault exactly
 /// if that is the first: of a broken frame or of a text, of no kind or of several, of a frame that is refused.
 pub fn own_grammar<T: FrameMeaning>(bytes: &[u8])
-    ensures { OneOwn T.reads bytes.now (read_own T.reads bytes.now) }
+    ensures { OneOwn T.codec.read bytes.now (read_own T.codec.read bytes.now) }
 {}
 
 /// Every class, every table and every choice of kinds that passes its test is the inverse of itself both ways: what

@@ -21,7 +21,7 @@ pub fn frames_in_full()
 /// Order doesn't matter in a list of frames that tell their kind themselves: where all of them are padded in full,
 /// two neighbours can be exchanged, and what they read as is exchanged with them.
 pub fn own_order<T: FrameMeaning>()
-    ensures order { Exchanges (OwnReads T.reads) }
+    ensures order { Exchanges (OwnReads T.codec.read) }
     ensures exchanged { (l r : List T.Seen) (x y : T.Seen) → exchanged (length l) (l ++ x ∷ y ∷ r) ≡ l ++ y ∷ x ∷ r }
 {}
 
