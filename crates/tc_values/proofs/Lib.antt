@@ -1,0 +1,4 @@
+pub mod Bodies
+pub mod Rows
+mod Stripped
+pub mod Values

@@ -1,0 +1,4 @@
+pub mod Inner
+pub mod Value
+pub mod Row
+pub mod Bodies

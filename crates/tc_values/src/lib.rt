@@ -1,0 +1,9 @@
+//! The plain values that attributes hold, and what is nested in them: how each is measured, written and settled, said
+//! once for all enums of attributes.
+#![tactic(auto)]
+
+pub mod body;
+pub mod value;
+
+pub use body::{Body, Either, Items, NoBody, Record};
+pub use value::Value;

@@ -1,0 +1,163 @@
+//! The plain values of attributes.
+
+ghost use Rattle.std.specs.Prelude.{◌≡◌, ◌<◌, ◌↔◌, IsTrue, length};
+ghost use Rattle.nla_frames.specs.Emission.{Measures, Writes, HasRoom};
+ghost use Rattle.nla_frames.specs.Value.{terminated, strip};
+ghost use Rattle.tc_values.specs.Value.{value_bytes, ValueFits, TypedValue, SettledAs};
+
+use crate::body::{Body, NoBody};
+use nla_frames::laws::in_hand::{bytes_in_hand, text_in_hand, u8_in_hand, u16_in_hand, u32_in_hand};
+use nla_frames::{
+    NLA_VALUE_MAX_SIZE, checked_value_len, put_bytes, put_text, put_u8, put_u16, put_u16_be,
+    put_u32, put_u32_be, strip_nul,
+};
+
+/// The value of an attribute, as it is written; numbers are little-endian unless their name ends in `Be`.
+#[derive(Drop)]
+pub enum Value<'a, N = NoBody> {
+    /// No bytes: the attribute is there, and true.
+    Presence(bool),
+    /// One byte, 1 or 0.
+    Truth(bool),
+    /// A number of one byte.
+    U8(u8),
+    /// A number of two bytes.
+    U16(u16),
+    /// A number of four bytes.
+    U32(u32),
+    /// A number of two bytes, big-endian.
+    U16Be(u16),
+    /// A number of four bytes, big-endian.
+    U32Be(u32),
+    /// The lowest bit of a number of one byte.
+    Bits1(u8),
+    /// The lowest three bits of a number of one byte.
+    Bits3(u8),
+    /// The lowest twenty bits of a number of four bytes.
+    Bits20(u32),
+    /// Four bytes, an IPv4 address.
+    Octets4([u8; 4]),
+    /// Six bytes, a MAC address.
+    Octets6([u8; 6]),
+    /// Eight bytes.
+    Octets8([u8; 8]),
+    /// Sixteen bytes, an IPv6 address among them.
+    Octets16([u8; 16]),
+    /// Bytes.
+    Bytes(&'a [u8]),
+    /// A text, with one NUL after it.
+    Text(&'a str),
+    /// A text without a NUL after it.
+    Warning(&'a str),
+    /// Bytes of an attribute whose word and value are kept as they stand.
+    Kept(&'a [u8]),
+    /// What is nested in the attribute.
+    Nested(N),
+}
+
+impl<'a, N: Body> Value<'a, N> {
+    /// How many bytes it has, or `None` where it can't be written.
+    pub fn checked_len(&self) -> Option<usize>
+        ensures { Measures result (ValueFits N.Fits self.now) (value_bytes N.bytes self.now) }
+    {
+        match self {
+            Value::Presence(_) => Some(0),
+            Value::Truth(_) | Value::U8(_) | Value::Bits1(_) | Value::Bits3(_) => Some(1),
+            Value::U16(_) | Value::U16Be(_) => Some(2),
+            Value::U32(_) | Value::U32Be(_) | Value::Bits20(_) => Some(4),
+            Value::Octets4(octets) => checked_value_len(octets),
+            Value::Octets6(octets) => checked_value_len(octets),
+            Value::Octets8(octets) => checked_value_len(octets),
+            Value::Octets16(octets) => checked_value_len(octets),
+            Value::Bytes(bytes) | Value::Kept(bytes) => checked_value_len(bytes),
+            Value::Warning(text) => checked_value_len(text.as_bytes()),
+            Value::Text(text) => checked_text_len(text),
+            Value::Nested(nested) => nested.checked_len(),
+        }
+    }
+
+    /// Writes it at the front of the buffer, and returns how many bytes that took.
+    pub fn put(&self, buffer: &mut [u8]) -> usize
+        requires fits { ValueFits N.Fits self.now }
+        requires room { HasRoom (value_bytes N.bytes self.now) buffer.old }
+        ensures written { Writes (value_bytes N.bytes self.now) buffer.old buffer.new }
+        ensures length { result ≡ length (value_bytes N.bytes self.now) }
+        ensures typed { TypedValue N.Typed self.now }
+    {
+        self.in_hand();
+        match self {
+            Value::Presence(_) => 0,
+            Value::Truth(is_true) => put_u8(buffer, if *is_true { 1 } else { 0 }),
+            Value::U8(n) => put_u8(buffer, *n),
+            Value::U16(n) => put_u16(buffer, *n),
+            Value::U32(n) => put_u32(buffer, *n),
+            Value::U16Be(n) => put_u16_be(buffer, *n),
+            Value::U32Be(n) => put_u32_be(buffer, *n),
+            Value::Bits1(n) => put_u8(buffer, *n % 2),
+            Value::Bits3(n) => put_u8(buffer, *n % 8),
+            Value::Bits20(n) => put_u32(buffer, *n % 0x10_0000),
+            Value::Octets4(octets) => put_bytes(buffer, octets),
+            Value::Octets6(octets) => put_bytes(buffer, octets),
+            Value::Octets8(octets) => put_bytes(buffer, octets),
+            Value::Octets16(octets) => put_bytes(buffer, octets),
+            Value::Bytes(bytes) | Value::Kept(bytes) => put_bytes(buffer, bytes),
+            Value::Warning(text) => put_bytes(buffer, text.as_bytes()),
+            Value::Text(text) => put_text(buffer, text),
+            Value::Nested(nested) => nested.put(buffer),
+        }
+    }
+
+    /// True if it reads back as itself under a kind, at a type that is read or not.
+    pub fn is_settled_under(&self, is_read: bool, kind: &str) -> bool
+        ensures settled { IsTrue result ↔ SettledAs N.Settled is_read kind.now self.now }
+        ensures typed { IsTrue result → TypedValue N.Typed self.now }
+    {
+        self.in_hand();
+        match self {
+            Value::Kept(_) => !is_read,
+            Value::Presence(is_there) => is_read && *is_there,
+            Value::Bits1(n) => is_read && *n < 2,
+            Value::Bits3(n) => is_read && *n < 8,
+            Value::Bits20(n) => is_read && *n < 0x10_0000,
+            Value::Warning(text) => is_read && is_stripped(text.as_bytes()),
+            Value::Nested(nested) => is_read && nested.is_settled_under(kind),
+            _ => is_read,
+        }
+    }
+
+    // What is known of a plain value in hand.
+    fn in_hand(&self)
+        ensures { TypedValue (λ _. Unit {0}) self.now }
+    {
+        match self {
+            Value::U8(n) | Value::Bits1(n) | Value::Bits3(n) => u8_in_hand(*n),
+            Value::U16(n) | Value::U16Be(n) => u16_in_hand(*n),
+            Value::U32(n) | Value::U32Be(n) | Value::Bits20(n) => u32_in_hand(*n),
+            Value::Octets4(octets) => bytes_in_hand(octets),
+            Value::Octets6(octets) => bytes_in_hand(octets),
+            Value::Octets8(octets) => bytes_in_hand(octets),
+            Value::Octets16(octets) => bytes_in_hand(octets),
+            Value::Bytes(bytes) | Value::Kept(bytes) => bytes_in_hand(bytes),
+            Value::Text(text) | Value::Warning(text) => text_in_hand(text),
+            Value::Presence(_) | Value::Truth(_) | Value::Nested(_) => {}
+        }
+    }
+}
+
+// How many bytes a text and its NUL have, or `None` where they are too many for a value.
+fn checked_text_len(text: &str) -> Option<usize>
+    ensures { Measures result (length text.now < 65531) (terminated text.now) }
+{
+    if text.len() < NLA_VALUE_MAX_SIZE {
+        Some(text.len() + 1)
+    } else {
+        None
+    }
+}
+
+// True if no NUL ends the bytes.
+fn is_stripped(bytes: &[u8]) -> bool
+    ensures { IsTrue result ↔ strip bytes.now ≡ bytes.now }
+{
+    strip_nul(bytes).len() == bytes.len()
+}
