@@ -2,11 +2,12 @@
 use Rattle.std.proofs.Common.{◌≡◌, ℕ, suc, ◌+◌, ◌-◌, ◌*◌, ◌<◌, ◌≤◌, List, [], ◌∷◌, ◌++◌, length, map, take, drop, slice_index_or, refl, sym, ◌∙◌, ap, subst, arith, length-append, length-drop, append_assoc}
 use Rattle.std.proofs.lemmas.List.{map_push, length-take, take_all, append-nil}
 use Rattle.std.proofs.lemmas.Grind.{take_at_read, common_steps}
+use Rattle.std.specs.List.{AllByRecursion}
 use Rattle.nla_frames.specs.Emission.{Writes, HasRoom}
 use Rattle.nla_frames.proofs.Writing.{front_and_back}
 use Rattle.tc_canon.specs.Layouts.{selector_key}
 use Rattle.tc_meaning.specs.Tree.{Scalar}
-use Rattle.tc_meaning.specs.Layout.{read_fields, fields_bytes}
+use Rattle.tc_meaning.specs.Layout.{read_fields, fields_bytes, TypedFields}
 use Rattle.tc_meaning.specs.Content.{read_keys}
 use Rattle.tc_records.specs.declared.filters.u32_selector.TcU32Key.{TcU32Key}
 use Rattle.tc_records.specs.Selector.{key_scalars, keys_bytes}
@@ -76,3 +77,27 @@ next_written keys i d old now after at within is_at room written_before written_
     let before = length-before keys i (omega arith) in
     subst (λ bytes. Writes bytes old (put_mid at (length now - at) now after)) (sym (next_before keys i d within))
     (front_and_back (bytes_before keys i) (fields_bytes selector_key (key_scalars (slice_index_or keys i d))) old now after at (omega (arith, before)) (omega (arith, before, length-keys keys)) written_before written_next)
+
+-- ---- what holds of keys in hand
+
+-- the keys before an index are typed
+unfoldable pub TypedBefore : List TcU32Key → ℕ → Type 0
+TypedBefore keys i = AllByRecursion (TypedFields selector_key) (map key_scalars (take i keys))
+
+pub none_typed : (keys : List TcU32Key) → TypedBefore keys 0
+unfolding TypedBefore
+none_typed keys = tt
+
+all_and_one : (xs : List (List Scalar)) (x : List Scalar) → AllByRecursion (TypedFields selector_key) xs → TypedFields selector_key x → AllByRecursion (TypedFields selector_key) (xs ++ x ∷ [])
+all_and_one [] x each typed = (typed, tt)
+all_and_one (y ∷ ys) x each typed = (each.0, all_and_one ys x each.1 typed)
+
+pub next_typed : (keys : List TcU32Key) (i : ℕ) (d : TcU32Key) → i < length keys → TypedBefore keys i
+    → TypedFields selector_key (key_scalars (slice_index_or keys i d)) → TypedBefore keys (i + 1)
+unfolding TypedBefore
+next_typed keys i d within before typed =
+    rw ((take_at_read keys i d within).1, map_push) (all_and_one (map key_scalars (take i keys)) (key_scalars (slice_index_or keys i d)) before typed)
+
+pub all_typed : (keys : List TcU32Key) (i : ℕ) → length keys ≤ i → TypedBefore keys i → AllByRecursion (TypedFields selector_key) (map key_scalars keys)
+unfolding TypedBefore
+all_typed keys i past before = subst (λ ks. AllByRecursion (TypedFields selector_key) (map key_scalars ks)) (take_all i keys past) before

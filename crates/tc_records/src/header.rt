@@ -5,12 +5,13 @@ ghost use Rattle.nla_frames.specs.Fault.{seen};
 ghost use Rattle.tc_canon.specs.Layouts.{tc_header};
 ghost use Rattle.tc_meaning.specs.Tree.{Scalar};
 ghost use Rattle.tc_meaning.specs.Layout.{fields_bytes, SettledFields};
-ghost use Rattle.tc_meaning.specs.Content.{read_record};
+ghost use Rattle.tc_meaning.specs.Content.{read_record, record_codec};
 
 use crate::family::{family_bytes, is_settled_family, split_family};
-use crate::split::{skip, split_i32, split_u32};
+use crate::laws::in_hand::header_in_hand;
+use crate::split::{at_least, skip, split_i32, split_u32};
 use nla_frames::{
-    AddressFamily, BytesMeaning, DecodeError, Emitable, Res, i32_bytes, put_bytes, u32_bytes,
+    AddressFamily, BytesMeaning, Emitable, Res, SettleBytes, i32_bytes, put_bytes, u32_bytes,
 };
 use std::fmt;
 
@@ -118,12 +119,7 @@ impl TcHeader {
     pub fn parse(payload: &[u8]) -> Res<TcHeader>
         ensures { seen header_scalars result ≡ read_record tc_header payload.now }
     {
-        if payload.len() < TC_HEADER_LEN {
-            return Err(DecodeError::BufferTooSmall {
-                len: payload.len(),
-                needed: TC_HEADER_LEN,
-            });
-        }
+        at_least(payload, TC_HEADER_LEN)?;
         let (family, rest) = split_family(payload);
         let (index, rest) = split_i32(skip(rest, 3));
         let (handle, rest) = split_u32(rest);
@@ -167,25 +163,23 @@ impl BytesMeaning for TcHeader {
 
     ghost see = { header_scalars };
 
-    ghost reads = { read_record tc_header };
-
-    ghost bytes = { fields_bytes tc_header };
-
-    ghost Fits = { λ _. Unit {0} };
-
-    ghost Settled = { SettledFields tc_header };
+    ghost codec = { record_codec tc_header };
 }
 
 impl Emitable for TcHeader {
-    fn fits(&self) -> bool {
-        true
-    }
-
-    fn buffer_len(&self) -> usize {
-        TC_HEADER_LEN
+    fn checked_len(&self) -> Option<usize> {
+        Some(TC_HEADER_LEN)
     }
 
     fn emit(&self, buffer: &mut [u8]) {
+        header_in_hand(self);
         put_bytes(buffer, &self.to_bytes());
+    }
+}
+
+impl SettleBytes for TcHeader {
+    fn is_settled_under(&self, _kind: &str) -> bool {
+        header_in_hand(self);
+        self.is_settled()
     }
 }

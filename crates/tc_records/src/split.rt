@@ -1,11 +1,27 @@
 //! Taking the fields of a record off its front, one after the other. Each asks for as many bytes as it takes.
 
-ghost use Rattle.std.specs.Prelude.{◌≡◌, ◌≤◌, ◌+◌, length, take, drop};
+ghost use Rattle.std.specs.Prelude.{◌≡◌, ◌≤◌, ◌<◌, ◌+◌, length, take, drop};
+ghost use Rattle.std.specs.Result.{MatchResult};
 ghost use Rattle.std.specs.Int.{w16, w32, cast_unsigned};
 ghost use Rattle.std.specs.Net.Addr.{ipv4_octets};
+ghost use Rattle.nla_frames.specs.declared.error.DecodeError.TheVariants.{BufferTooSmall};
 ghost use Rattle.nla_frames.specs.Value.{le_value, be_value};
 
+use nla_frames::{DecodeError, Res};
 use std::net::Ipv4Addr;
+
+/// Refuses fewer bytes than a record needs.
+pub(crate) fn at_least(payload: &[u8], needed: usize) -> Res<()>
+    ensures { MatchResult result (λ _. needed ≤ length payload.now) (λ e. (length payload.now < needed) × (e ≡ BufferTooSmall (length payload.now) needed)) }
+{
+    if payload.len() < needed {
+        return Err(DecodeError::BufferTooSmall {
+            len: payload.len(),
+            needed,
+        });
+    }
+    Ok(())
+}
 
 /// One byte, and what follows it.
 pub(crate) fn split_u8(bytes: &[u8]) -> (u8, &[u8])
@@ -18,7 +34,7 @@ pub(crate) fn split_u8(bytes: &[u8]) -> (u8, &[u8])
     (front[0], rest)
 }
 
-/// A number of two bytes, low byte first, and what follows it.
+/// A number of two bytes, little-endian, and what follows it.
 pub(crate) fn split_u16(bytes: &[u8]) -> (u16, &[u8])
     requires { 2 ≤ length bytes.now }
     ensures value { result.0 ≡ le_value (take 2 bytes.now) }
@@ -29,7 +45,7 @@ pub(crate) fn split_u16(bytes: &[u8]) -> (u16, &[u8])
     (u16::from_le_bytes([front[0], front[1]]), rest)
 }
 
-/// A number of two bytes, high byte first, and what follows it.
+/// A number of two bytes, big-endian, and what follows it.
 pub(crate) fn split_u16_be(bytes: &[u8]) -> (u16, &[u8])
     requires { 2 ≤ length bytes.now }
     ensures value { result.0 ≡ be_value (take 2 bytes.now) }
@@ -40,7 +56,7 @@ pub(crate) fn split_u16_be(bytes: &[u8]) -> (u16, &[u8])
     (u16::from_be_bytes([front[0], front[1]]), rest)
 }
 
-/// A signed number of two bytes, low byte first, and what follows it.
+/// A signed number of two bytes, little-endian, and what follows it.
 pub(crate) fn split_i16(bytes: &[u8]) -> (i16, &[u8])
     requires { 2 ≤ length bytes.now }
     ensures value { cast_unsigned w16 result.0 ≡ le_value (take 2 bytes.now) }
@@ -51,7 +67,7 @@ pub(crate) fn split_i16(bytes: &[u8]) -> (i16, &[u8])
     (i16::from_le_bytes([front[0], front[1]]), rest)
 }
 
-/// A number of four bytes, low byte first, and what follows it.
+/// A number of four bytes, little-endian, and what follows it.
 pub(crate) fn split_u32(bytes: &[u8]) -> (u32, &[u8])
     requires { 4 ≤ length bytes.now }
     ensures value { result.0 ≡ le_value (take 4 bytes.now) }
@@ -65,7 +81,7 @@ pub(crate) fn split_u32(bytes: &[u8]) -> (u32, &[u8])
     )
 }
 
-/// A number of four bytes, high byte first, and what follows it.
+/// A number of four bytes, big-endian, and what follows it.
 pub(crate) fn split_u32_be(bytes: &[u8]) -> (u32, &[u8])
     requires { 4 ≤ length bytes.now }
     ensures value { result.0 ≡ be_value (take 4 bytes.now) }
@@ -79,7 +95,7 @@ pub(crate) fn split_u32_be(bytes: &[u8]) -> (u32, &[u8])
     )
 }
 
-/// A signed number of four bytes, low byte first, and what follows it.
+/// A signed number of four bytes, little-endian, and what follows it.
 pub(crate) fn split_i32(bytes: &[u8]) -> (i32, &[u8])
     requires { 4 ≤ length bytes.now }
     ensures value { cast_unsigned w32 result.0 ≡ le_value (take 4 bytes.now) }
@@ -93,7 +109,7 @@ pub(crate) fn split_i32(bytes: &[u8]) -> (i32, &[u8])
     )
 }
 
-/// A number of eight bytes, low byte first, and what follows it.
+/// A number of eight bytes, little-endian, and what follows it.
 pub(crate) fn split_u64(bytes: &[u8]) -> (u64, &[u8])
     requires { 8 ≤ length bytes.now }
     ensures value { result.0 ≡ le_value (take 8 bytes.now) }

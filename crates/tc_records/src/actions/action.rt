@@ -6,11 +6,12 @@ ghost use Rattle.tc_canon.specs.Descriptor.{Field, named};
 ghost use Rattle.tc_canon.specs.Layouts.{action_types, action_generic, generic_then};
 ghost use Rattle.tc_meaning.specs.Tree.{Scalar};
 ghost use Rattle.tc_meaning.specs.Layout.{read_field, read_fields, field_bytes, fields_bytes, SettledField, SettledFields};
-ghost use Rattle.tc_meaning.specs.Content.{read_record};
+ghost use Rattle.tc_meaning.specs.Content.{read_record, record_codec};
 ghost use Rattle.tc_records.specs.ActionType.{action_type_of, action_type_number, action_type_scalar};
 
-use crate::split::{split_i32, split_u32};
-use nla_frames::{BytesMeaning, DecodeError, Emitable, Res, i32_bytes, put_bytes, u32_bytes};
+use crate::laws::in_hand::generic_in_hand;
+use crate::split::{at_least, split_i32, split_u32};
+use nla_frames::{BytesMeaning, Emitable, Res, SettleBytes, i32_bytes, put_bytes, u32_bytes};
 
 /// How long the generic part is, in bytes.
 pub const TC_ACTION_GENERIC_LEN: usize = 20;
@@ -143,12 +144,7 @@ impl TcActionGeneric {
     pub fn parse(payload: &[u8]) -> Res<TcActionGeneric>
         ensures { seen generic_scalars result ≡ read_record action_generic payload.now }
     {
-        if payload.len() < TC_ACTION_GENERIC_LEN {
-            return Err(DecodeError::BufferTooSmall {
-                len: payload.len(),
-                needed: TC_ACTION_GENERIC_LEN,
-            });
-        }
+        at_least(payload, TC_ACTION_GENERIC_LEN)?;
         let (generic, _) = TcActionGeneric::split(payload);
         Ok(generic)
     }
@@ -206,25 +202,23 @@ impl BytesMeaning for TcActionGeneric {
 
     ghost see = { generic_scalars };
 
-    ghost reads = { read_record action_generic };
-
-    ghost bytes = { fields_bytes action_generic };
-
-    ghost Fits = { λ _. Unit {0} };
-
-    ghost Settled = { SettledFields action_generic };
+    ghost codec = { record_codec action_generic };
 }
 
 impl Emitable for TcActionGeneric {
-    fn fits(&self) -> bool {
-        true
-    }
-
-    fn buffer_len(&self) -> usize {
-        TC_ACTION_GENERIC_LEN
+    fn checked_len(&self) -> Option<usize> {
+        Some(TC_ACTION_GENERIC_LEN)
     }
 
     fn emit(&self, buffer: &mut [u8]) {
+        generic_in_hand(self);
         put_bytes(buffer, &self.to_bytes());
+    }
+}
+
+impl SettleBytes for TcActionGeneric {
+    fn is_settled_under(&self, _kind: &str) -> bool {
+        generic_in_hand(self);
+        self.is_settled()
     }
 }

@@ -5,10 +5,12 @@ ghost use Rattle.nla_frames.specs.Fault.{seen};
 ghost use Rattle.tc_canon.specs.Layouts.{action_message_header};
 ghost use Rattle.tc_meaning.specs.Tree.{Scalar};
 ghost use Rattle.tc_meaning.specs.Layout.{fields_bytes, SettledFields};
-ghost use Rattle.tc_meaning.specs.Content.{read_record};
+ghost use Rattle.tc_meaning.specs.Content.{read_record, record_codec};
 
 use crate::family::{family_bytes, is_settled_family, split_family};
-use nla_frames::{AddressFamily, BytesMeaning, DecodeError, Emitable, Res, put_bytes};
+use crate::laws::in_hand::action_message_header_in_hand;
+use crate::split::at_least;
+use nla_frames::{AddressFamily, BytesMeaning, Emitable, Res, SettleBytes, put_bytes};
 
 /// How long a header is, in bytes.
 pub const TCA_HEADER_LEN: usize = 4;
@@ -27,12 +29,7 @@ impl TcActionMessageHeader {
     pub fn parse(payload: &[u8]) -> Res<TcActionMessageHeader>
         ensures { seen action_message_header_scalars result ≡ read_record action_message_header payload.now }
     {
-        if payload.len() < TCA_HEADER_LEN {
-            return Err(DecodeError::BufferTooSmall {
-                len: payload.len(),
-                needed: TCA_HEADER_LEN,
-            });
-        }
+        at_least(payload, TCA_HEADER_LEN)?;
         let (family, _) = split_family(payload);
         Ok(TcActionMessageHeader { family })
     }
@@ -60,25 +57,23 @@ impl BytesMeaning for TcActionMessageHeader {
 
     ghost see = { action_message_header_scalars };
 
-    ghost reads = { read_record action_message_header };
-
-    ghost bytes = { fields_bytes action_message_header };
-
-    ghost Fits = { λ _. Unit {0} };
-
-    ghost Settled = { SettledFields action_message_header };
+    ghost codec = { record_codec action_message_header };
 }
 
 impl Emitable for TcActionMessageHeader {
-    fn fits(&self) -> bool {
-        true
-    }
-
-    fn buffer_len(&self) -> usize {
-        TCA_HEADER_LEN
+    fn checked_len(&self) -> Option<usize> {
+        Some(TCA_HEADER_LEN)
     }
 
     fn emit(&self, buffer: &mut [u8]) {
+        action_message_header_in_hand(self);
         put_bytes(buffer, &self.to_bytes());
+    }
+}
+
+impl SettleBytes for TcActionMessageHeader {
+    fn is_settled_under(&self, _kind: &str) -> bool {
+        action_message_header_in_hand(self);
+        self.is_settled()
     }
 }

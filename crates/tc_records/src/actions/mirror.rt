@@ -6,12 +6,13 @@ ghost use Rattle.tc_canon.specs.Descriptor.{named};
 ghost use Rattle.tc_canon.specs.Layouts.{mirror, mirror_action_types};
 ghost use Rattle.tc_meaning.specs.Tree.{Scalar};
 ghost use Rattle.tc_meaning.specs.Layout.{read_field, field_bytes, fields_bytes, SettledField, SettledFields};
-ghost use Rattle.tc_meaning.specs.Content.{read_record};
+ghost use Rattle.tc_meaning.specs.Content.{read_record, record_codec};
 ghost use Rattle.tc_records.specs.MirrorActionType.{mirror_action_type_of, mirror_action_type_number, mirror_action_type_scalar};
 
 use crate::actions::action::{TC_ACTION_GENERIC_LEN, TcActionGeneric};
-use crate::split::{split_i32, split_u32};
-use nla_frames::{BytesMeaning, DecodeError, Emitable, Res, i32_bytes, put_bytes, u32_bytes};
+use crate::laws::in_hand::mirror_in_hand;
+use crate::split::{at_least, split_i32, split_u32};
+use nla_frames::{BytesMeaning, Emitable, Res, SettleBytes, i32_bytes, put_bytes, u32_bytes};
 
 /// How long a mirror's record is, in bytes.
 pub const TC_MIRROR_LEN: usize = 28;
@@ -114,12 +115,7 @@ impl TcMirror {
     pub fn parse(payload: &[u8]) -> Res<TcMirror>
         ensures { seen mirror_scalars result ≡ read_record mirror payload.now }
     {
-        if payload.len() < TC_MIRROR_LEN {
-            return Err(DecodeError::BufferTooSmall {
-                len: payload.len(),
-                needed: TC_MIRROR_LEN,
-            });
-        }
+        at_least(payload, TC_MIRROR_LEN)?;
         let (generic, rest) = TcActionGeneric::split(payload);
         let (eaction, rest) = split_mirror_action_type(rest);
         let (ifindex, _) = split_u32(rest);
@@ -160,25 +156,23 @@ impl BytesMeaning for TcMirror {
 
     ghost see = { mirror_scalars };
 
-    ghost reads = { read_record mirror };
-
-    ghost bytes = { fields_bytes mirror };
-
-    ghost Fits = { λ _. Unit {0} };
-
-    ghost Settled = { SettledFields mirror };
+    ghost codec = { record_codec mirror };
 }
 
 impl Emitable for TcMirror {
-    fn fits(&self) -> bool {
-        true
-    }
-
-    fn buffer_len(&self) -> usize {
-        TC_MIRROR_LEN
+    fn checked_len(&self) -> Option<usize> {
+        Some(TC_MIRROR_LEN)
     }
 
     fn emit(&self, buffer: &mut [u8]) {
+        mirror_in_hand(self);
         put_bytes(buffer, &self.to_bytes());
+    }
+}
+
+impl SettleBytes for TcMirror {
+    fn is_settled_under(&self, _kind: &str) -> bool {
+        mirror_in_hand(self);
+        self.is_settled()
     }
 }

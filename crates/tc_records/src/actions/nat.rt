@@ -7,13 +7,14 @@ ghost use Rattle.nla_frames.specs.Fault.{seen};
 ghost use Rattle.tc_canon.specs.Layouts.{nat};
 ghost use Rattle.tc_meaning.specs.Tree.{Scalar};
 ghost use Rattle.tc_meaning.specs.Layout.{fields_bytes, SettledFields};
-ghost use Rattle.tc_meaning.specs.Content.{read_record};
+ghost use Rattle.tc_meaning.specs.Content.{read_record, record_codec};
 
 use crate::actions::action::{TC_ACTION_GENERIC_LEN, TcActionGeneric};
 use crate::actions::nat_flag::TcNatFlags;
-use crate::split::{split_ipv4_addr, split_u32};
+use crate::laws::in_hand::nat_in_hand;
+use crate::split::{at_least, split_ipv4_addr, split_u32};
 use bitflags::Flags;
-use nla_frames::{BytesMeaning, DecodeError, Emitable, Res, put_bytes, u32_bytes};
+use nla_frames::{BytesMeaning, Emitable, Res, SettleBytes, put_bytes, u32_bytes};
 use std::net::Ipv4Addr;
 
 /// How long a translation's record is, in bytes.
@@ -61,12 +62,7 @@ impl TcNat {
     pub fn parse(payload: &[u8]) -> Res<TcNat>
         ensures { seen nat_scalars result ≡ read_record nat payload.now }
     {
-        if payload.len() < TC_NAT_LEN {
-            return Err(DecodeError::BufferTooSmall {
-                len: payload.len(),
-                needed: TC_NAT_LEN,
-            });
-        }
+        at_least(payload, TC_NAT_LEN)?;
         let (generic, rest) = TcActionGeneric::split(payload);
         let (old_addr, rest) = split_ipv4_addr(rest);
         let (new_addr, rest) = split_ipv4_addr(rest);
@@ -122,31 +118,23 @@ impl BytesMeaning for TcNat {
 
     ghost see = { nat_scalars };
 
-    ghost reads = { read_record nat };
-
-    ghost bytes = { fields_bytes nat };
-
-    ghost Fits = { λ _. Unit {0} };
-
-    ghost Settled = { SettledFields nat };
+    ghost codec = { record_codec nat };
 }
 
 impl Emitable for TcNat {
-    ghost use Rattle.std.specs.Prelude.{length};
-    ghost use Rattle.tc_records.specs.Actions.{nat_scalars};
-
-    fn fits(&self) -> bool {
-        true
-    }
-
-    fn buffer_len(&self) -> usize
-        ensures length { result ≡ length (fields_bytes nat (nat_scalars self.now)) }
-        ensures constant { result ≡ 36 }
-    {
-        self.to_bytes().len()
+    fn checked_len(&self) -> Option<usize> {
+        Some(self.to_bytes().len())
     }
 
     fn emit(&self, buffer: &mut [u8]) {
+        nat_in_hand(self);
         put_bytes(buffer, &self.to_bytes());
+    }
+}
+
+impl SettleBytes for TcNat {
+    fn is_settled_under(&self, _kind: &str) -> bool {
+        nat_in_hand(self);
+        self.is_settled()
     }
 }

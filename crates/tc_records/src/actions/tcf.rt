@@ -4,11 +4,12 @@ ghost use Rattle.std.specs.Prelude.{◌≡◌, List};
 ghost use Rattle.nla_frames.specs.Fault.{seen};
 ghost use Rattle.tc_canon.specs.Layouts.{tcf};
 ghost use Rattle.tc_meaning.specs.Tree.{Scalar};
-ghost use Rattle.tc_meaning.specs.Layout.{fields_bytes, SettledFields};
-ghost use Rattle.tc_meaning.specs.Content.{read_record};
+ghost use Rattle.tc_meaning.specs.Layout.{fields_bytes};
+ghost use Rattle.tc_meaning.specs.Content.{read_record, record_codec};
 
-use crate::split::split_u64;
-use nla_frames::{BytesMeaning, DecodeError, Emitable, Res, put_bytes, u64_bytes};
+use crate::laws::in_hand::tcf_in_hand;
+use crate::split::{at_least, split_u64};
+use nla_frames::{BytesMeaning, Emitable, Res, SettleBytes, put_bytes, u64_bytes};
 
 /// How long the times of an action are, in bytes.
 pub const TCF_LEN: usize = 32;
@@ -33,12 +34,7 @@ impl Tcf {
     pub fn parse(payload: &[u8]) -> Res<Tcf>
         ensures { seen tcf_scalars result ≡ read_record tcf payload.now }
     {
-        if payload.len() < TCF_LEN {
-            return Err(DecodeError::BufferTooSmall {
-                len: payload.len(),
-                needed: TCF_LEN,
-            });
-        }
+        at_least(payload, TCF_LEN)?;
         let (install, rest) = split_u64(payload);
         let (lastuse, rest) = split_u64(rest);
         let (expires, rest) = split_u64(rest);
@@ -73,25 +69,23 @@ impl BytesMeaning for Tcf {
 
     ghost see = { tcf_scalars };
 
-    ghost reads = { read_record tcf };
-
-    ghost bytes = { fields_bytes tcf };
-
-    ghost Fits = { λ _. Unit {0} };
-
-    ghost Settled = { SettledFields tcf };
+    ghost codec = { record_codec tcf };
 }
 
 impl Emitable for Tcf {
-    fn fits(&self) -> bool {
-        true
-    }
-
-    fn buffer_len(&self) -> usize {
-        TCF_LEN
+    fn checked_len(&self) -> Option<usize> {
+        Some(TCF_LEN)
     }
 
     fn emit(&self, buffer: &mut [u8]) {
+        tcf_in_hand(self);
         put_bytes(buffer, &self.to_bytes());
+    }
+}
+
+impl SettleBytes for Tcf {
+    fn is_settled_under(&self, _kind: &str) -> bool {
+        tcf_in_hand(self);
+        true
     }
 }

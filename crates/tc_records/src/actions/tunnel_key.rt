@@ -5,11 +5,12 @@ ghost use Rattle.nla_frames.specs.Fault.{seen};
 ghost use Rattle.tc_canon.specs.Layouts.{tunnel_key};
 ghost use Rattle.tc_meaning.specs.Tree.{Scalar};
 ghost use Rattle.tc_meaning.specs.Layout.{fields_bytes, SettledFields};
-ghost use Rattle.tc_meaning.specs.Content.{read_record};
+ghost use Rattle.tc_meaning.specs.Content.{read_record, record_codec};
 
 use crate::actions::action::{TC_ACTION_GENERIC_LEN, TcActionGeneric};
-use crate::split::split_i32;
-use nla_frames::{BytesMeaning, DecodeError, Emitable, Res, i32_bytes, put_bytes};
+use crate::laws::in_hand::tunnel_key_in_hand;
+use crate::split::{at_least, split_i32};
+use nla_frames::{BytesMeaning, Emitable, Res, SettleBytes, i32_bytes, put_bytes};
 
 /// How long a tunnel key's record is, in bytes.
 pub const TC_TUNNEL_KEY_LEN: usize = 24;
@@ -31,12 +32,7 @@ impl TcTunnelKey {
     pub fn parse(payload: &[u8]) -> Res<TcTunnelKey>
         ensures { seen tunnel_key_scalars result ≡ read_record tunnel_key payload.now }
     {
-        if payload.len() < TC_TUNNEL_KEY_LEN {
-            return Err(DecodeError::BufferTooSmall {
-                len: payload.len(),
-                needed: TC_TUNNEL_KEY_LEN,
-            });
-        }
+        at_least(payload, TC_TUNNEL_KEY_LEN)?;
         let (generic, rest) = TcActionGeneric::split(payload);
         let (t_action, _) = split_i32(rest);
         Ok(TcTunnelKey { generic, t_action })
@@ -70,25 +66,23 @@ impl BytesMeaning for TcTunnelKey {
 
     ghost see = { tunnel_key_scalars };
 
-    ghost reads = { read_record tunnel_key };
-
-    ghost bytes = { fields_bytes tunnel_key };
-
-    ghost Fits = { λ _. Unit {0} };
-
-    ghost Settled = { SettledFields tunnel_key };
+    ghost codec = { record_codec tunnel_key };
 }
 
 impl Emitable for TcTunnelKey {
-    fn fits(&self) -> bool {
-        true
-    }
-
-    fn buffer_len(&self) -> usize {
-        TC_TUNNEL_KEY_LEN
+    fn checked_len(&self) -> Option<usize> {
+        Some(TC_TUNNEL_KEY_LEN)
     }
 
     fn emit(&self, buffer: &mut [u8]) {
+        tunnel_key_in_hand(self);
         put_bytes(buffer, &self.to_bytes());
+    }
+}
+
+impl SettleBytes for TcTunnelKey {
+    fn is_settled_under(&self, _kind: &str) -> bool {
+        tunnel_key_in_hand(self);
+        self.is_settled()
     }
 }

@@ -1,23 +1,27 @@
 //! The selector of a u32 filter, and its keys.
 
 ghost use Rattle.std.specs.Prelude.{◌≡◌, ◌≤◌, ◌+◌, ◌*◌, ℕ, List, [], length, drop, map, Ok};
+ghost use Rattle.std.specs.List.{AllByRecursion};
 ghost use Rattle.std.specs.Int.{w16, cast_unsigned};
 ghost use Rattle.nla_frames.specs.Fault.{Gives, seen, read_as};
 ghost use Rattle.nla_frames.specs.Value.{le_bytes};
 ghost use Rattle.nla_frames.specs.Emission.{Writes, HasRoom};
 ghost use Rattle.tc_canon.specs.Layouts.{selector_head, selector_key};
 ghost use Rattle.tc_meaning.specs.Tree.{Scalar};
-ghost use Rattle.tc_meaning.specs.Layout.{read_fields, fields_bytes, SettledFields};
-ghost use Rattle.tc_meaning.specs.Content.{Selector, read_record, read_keys, read_selector, selector_codec};
+ghost use Rattle.tc_meaning.specs.Layout.{read_fields, fields_bytes, TypedFields};
+ghost use Rattle.tc_meaning.specs.Content.{Selector, read_record, read_keys, read_selector, record_codec, selector_codec};
 ghost use Rattle.tc_records.specs.FilterFlags.{selector_flags_byte};
 ghost use Rattle.tc_records.specs.Selector.{key_scalars, keys_bytes, head_scalars, selector_of, empty_selector};
 
 use crate::filters::u32_flags::TcU32SelectorFlags;
-use crate::split::{skip, split_i16, split_i32, split_u8, split_u16, split_u16_be, split_u32_be};
+use crate::laws::in_hand::{key_in_hand, selector_head_in_hand, selector_in_hand};
+use crate::split::{
+    at_least, skip, split_i16, split_i32, split_u8, split_u16, split_u16_be, split_u32_be,
+};
 use bitflags::Flags;
 use nla_frames::{
-    BytesMeaning, DecodeError, Emitable, Res, i32_bytes, put_bytes, u16_be_bytes, u16_bytes,
-    u32_be_bytes,
+    BytesMeaning, DecodeError, Emitable, Res, SettleBytes, i32_bytes, put_bytes, u16_be_bytes,
+    u16_bytes, u32_be_bytes,
 };
 use std::alloc::{Allocator, Global};
 
@@ -45,12 +49,7 @@ impl TcU32Key {
     pub fn parse(payload: &[u8]) -> Res<TcU32Key>
         ensures { seen key_scalars result ≡ read_record selector_key payload.now }
     {
-        if payload.len() < TC_U32_KEY_LEN {
-            return Err(DecodeError::BufferTooSmall {
-                len: payload.len(),
-                needed: TC_U32_KEY_LEN,
-            });
-        }
+        at_least(payload, TC_U32_KEY_LEN)?;
         let (key, _) = split_key(payload);
         Ok(key)
     }
@@ -74,26 +73,24 @@ impl BytesMeaning for TcU32Key {
 
     ghost see = { key_scalars };
 
-    ghost reads = { read_record selector_key };
-
-    ghost bytes = { fields_bytes selector_key };
-
-    ghost Fits = { λ _. Unit {0} };
-
-    ghost Settled = { SettledFields selector_key };
+    ghost codec = { record_codec selector_key };
 }
 
 impl Emitable for TcU32Key {
-    fn fits(&self) -> bool {
-        true
-    }
-
-    fn buffer_len(&self) -> usize {
-        TC_U32_KEY_LEN
+    fn checked_len(&self) -> Option<usize> {
+        Some(TC_U32_KEY_LEN)
     }
 
     fn emit(&self, buffer: &mut [u8]) {
+        key_in_hand(self);
         put_bytes(buffer, &self.to_bytes());
+    }
+}
+
+impl SettleBytes for TcU32Key {
+    fn is_settled_under(&self, _kind: &str) -> bool {
+        key_in_hand(self);
+        true
     }
 }
 
@@ -137,7 +134,8 @@ fn parse_keys<A: Allocator>(alloc: A, count: u8, bytes: &[u8]) -> Res<Vec<TcU32K
 // Writes the keys at the front of the buffer, one after the other.
 fn put_keys(buffer: &mut [u8], keys: &[TcU32Key])
     requires { HasRoom (keys_bytes (map key_scalars keys.now)) buffer.old }
-    ensures { Writes (keys_bytes (map key_scalars keys.now)) buffer.old buffer.new }
+    ensures written { Writes (keys_bytes (map key_scalars keys.now)) buffer.old buffer.new }
+    ensures typed { AllByRecursion (TypedFields selector_key) (map key_scalars keys.now) }
 {
     let mut at: usize = 0;
     for key in keys {
@@ -273,26 +271,28 @@ impl<A: Allocator> BytesMeaning for TcU32Selector<A> {
 
     ghost see = { selector_of };
 
-    ghost reads = { read_selector };
-
-    ghost bytes = { selector_codec.write };
-
-    ghost Fits = { selector_codec.Fits };
-
-    ghost Settled = { λ _. Unit {0} };
+    ghost codec = { selector_codec };
 }
 
 impl<A: Allocator> Emitable for TcU32Selector<A> {
-    fn fits(&self) -> bool {
-        self.nkeys as usize == self.keys.len()
-    }
-
-    fn buffer_len(&self) -> usize {
-        TC_U32_SELECTOR_LEN + TC_U32_KEY_LEN * self.nkeys as usize
+    fn checked_len(&self) -> Option<usize> {
+        if self.nkeys as usize == self.keys.len() {
+            Some(TC_U32_SELECTOR_LEN + TC_U32_KEY_LEN * self.nkeys as usize)
+        } else {
+            None
+        }
     }
 
     fn emit(&self, buffer: &mut [u8]) {
+        selector_head_in_hand(self);
         put_keys(&mut buffer[TC_U32_SELECTOR_LEN..], &self.keys);
         put_bytes(buffer, &self.head_bytes());
+    }
+}
+
+impl<A: Allocator> SettleBytes for TcU32Selector<A> {
+    fn is_settled_under(&self, _kind: &str) -> bool {
+        selector_in_hand(self);
+        true
     }
 }

@@ -4,11 +4,12 @@ ghost use Rattle.std.specs.Prelude.{◌≡◌, List};
 ghost use Rattle.nla_frames.specs.Fault.{seen};
 ghost use Rattle.tc_canon.specs.Layouts.{fq_codel_qd_stats, fq_codel_cl_stats};
 ghost use Rattle.tc_meaning.specs.Tree.{Scalar};
-ghost use Rattle.tc_meaning.specs.Layout.{fields_bytes, SettledFields};
-ghost use Rattle.tc_meaning.specs.Content.{read_record};
+ghost use Rattle.tc_meaning.specs.Layout.{fields_bytes};
+ghost use Rattle.tc_meaning.specs.Content.{read_record, record_codec};
 
-use crate::split::{split_i32, split_u32};
-use nla_frames::{BytesMeaning, DecodeError, Emitable, Res, i32_bytes, put_bytes, u32_bytes};
+use crate::laws::in_hand::{cl_stats_in_hand, qd_stats_in_hand};
+use crate::split::{at_least, split_i32, split_u32};
+use nla_frames::{BytesMeaning, Emitable, Res, SettleBytes, i32_bytes, put_bytes, u32_bytes};
 
 /// How long the statistics of a queueing discipline are, in bytes.
 pub const TC_FQ_CODEL_QD_STATS_LEN: usize = 36;
@@ -47,12 +48,7 @@ impl TcFqCodelQdStats {
     pub fn parse(payload: &[u8]) -> Res<TcFqCodelQdStats>
         ensures { seen qd_stats_scalars result ≡ read_record fq_codel_qd_stats payload.now }
     {
-        if payload.len() < TC_FQ_CODEL_QD_STATS_LEN {
-            return Err(DecodeError::BufferTooSmall {
-                len: payload.len(),
-                needed: TC_FQ_CODEL_QD_STATS_LEN,
-            });
-        }
+        at_least(payload, TC_FQ_CODEL_QD_STATS_LEN)?;
         let (maxpacket, rest) = split_u32(payload);
         let (drop_overlimit, rest) = split_u32(rest);
         let (ecn_mark, rest) = split_u32(rest);
@@ -102,26 +98,24 @@ impl BytesMeaning for TcFqCodelQdStats {
 
     ghost see = { qd_stats_scalars };
 
-    ghost reads = { read_record fq_codel_qd_stats };
-
-    ghost bytes = { fields_bytes fq_codel_qd_stats };
-
-    ghost Fits = { λ _. Unit {0} };
-
-    ghost Settled = { SettledFields fq_codel_qd_stats };
+    ghost codec = { record_codec fq_codel_qd_stats };
 }
 
 impl Emitable for TcFqCodelQdStats {
-    fn fits(&self) -> bool {
-        true
-    }
-
-    fn buffer_len(&self) -> usize {
-        TC_FQ_CODEL_QD_STATS_LEN
+    fn checked_len(&self) -> Option<usize> {
+        Some(TC_FQ_CODEL_QD_STATS_LEN)
     }
 
     fn emit(&self, buffer: &mut [u8]) {
+        qd_stats_in_hand(self);
         put_bytes(buffer, &self.to_bytes());
+    }
+}
+
+impl SettleBytes for TcFqCodelQdStats {
+    fn is_settled_under(&self, _kind: &str) -> bool {
+        qd_stats_in_hand(self);
+        true
     }
 }
 
@@ -150,12 +144,7 @@ impl TcFqCodelClStats {
     pub fn parse(payload: &[u8]) -> Res<TcFqCodelClStats>
         ensures { seen cl_stats_scalars result ≡ read_record fq_codel_cl_stats payload.now }
     {
-        if payload.len() < TC_FQ_CODEL_CL_STATS_LEN {
-            return Err(DecodeError::BufferTooSmall {
-                len: payload.len(),
-                needed: TC_FQ_CODEL_CL_STATS_LEN,
-            });
-        }
+        at_least(payload, TC_FQ_CODEL_CL_STATS_LEN)?;
         let (deficit, rest) = split_i32(payload);
         let (ldelay, rest) = split_u32(rest);
         let (count, rest) = split_u32(rest);
@@ -196,25 +185,23 @@ impl BytesMeaning for TcFqCodelClStats {
 
     ghost see = { cl_stats_scalars };
 
-    ghost reads = { read_record fq_codel_cl_stats };
-
-    ghost bytes = { fields_bytes fq_codel_cl_stats };
-
-    ghost Fits = { λ _. Unit {0} };
-
-    ghost Settled = { SettledFields fq_codel_cl_stats };
+    ghost codec = { record_codec fq_codel_cl_stats };
 }
 
 impl Emitable for TcFqCodelClStats {
-    fn fits(&self) -> bool {
-        true
-    }
-
-    fn buffer_len(&self) -> usize {
-        TC_FQ_CODEL_CL_STATS_LEN
+    fn checked_len(&self) -> Option<usize> {
+        Some(TC_FQ_CODEL_CL_STATS_LEN)
     }
 
     fn emit(&self, buffer: &mut [u8]) {
+        cl_stats_in_hand(self);
         put_bytes(buffer, &self.to_bytes());
+    }
+}
+
+impl SettleBytes for TcFqCodelClStats {
+    fn is_settled_under(&self, _kind: &str) -> bool {
+        cl_stats_in_hand(self);
+        true
     }
 }

@@ -4,11 +4,12 @@ ghost use Rattle.std.specs.Prelude.{◌≡◌, List};
 ghost use Rattle.nla_frames.specs.Fault.{seen};
 ghost use Rattle.tc_canon.specs.Layouts.{stats_basic};
 ghost use Rattle.tc_meaning.specs.Tree.{Scalar};
-ghost use Rattle.tc_meaning.specs.Layout.{fields_bytes, SettledFields};
-ghost use Rattle.tc_meaning.specs.Content.{read_record};
+ghost use Rattle.tc_meaning.specs.Layout.{fields_bytes};
+ghost use Rattle.tc_meaning.specs.Content.{read_record, record_codec};
 
-use crate::split::{split_u32, split_u64};
-use nla_frames::{BytesMeaning, DecodeError, Emitable, Res, put_bytes, u32_bytes, u64_bytes};
+use crate::laws::in_hand::stats_basic_in_hand;
+use crate::split::{at_least, split_u32, split_u64};
+use nla_frames::{BytesMeaning, Emitable, Res, SettleBytes, put_bytes, u32_bytes, u64_bytes};
 
 /// How long basic statistics are, in bytes.
 pub const TC_STATS_BASIC_LEN: usize = 16;
@@ -30,12 +31,7 @@ impl TcStatsBasic {
     pub fn parse(payload: &[u8]) -> Res<TcStatsBasic>
         ensures { seen basic_scalars result ≡ read_record stats_basic payload.now }
     {
-        if payload.len() < TC_STATS_BASIC_LEN {
-            return Err(DecodeError::BufferTooSmall {
-                len: payload.len(),
-                needed: TC_STATS_BASIC_LEN,
-            });
-        }
+        at_least(payload, TC_STATS_BASIC_LEN)?;
         let (bytes, rest) = split_u64(payload);
         let (packets, _) = split_u32(rest);
         Ok(TcStatsBasic { bytes, packets })
@@ -58,25 +54,23 @@ impl BytesMeaning for TcStatsBasic {
 
     ghost see = { basic_scalars };
 
-    ghost reads = { read_record stats_basic };
-
-    ghost bytes = { fields_bytes stats_basic };
-
-    ghost Fits = { λ _. Unit {0} };
-
-    ghost Settled = { SettledFields stats_basic };
+    ghost codec = { record_codec stats_basic };
 }
 
 impl Emitable for TcStatsBasic {
-    fn fits(&self) -> bool {
-        true
-    }
-
-    fn buffer_len(&self) -> usize {
-        TC_STATS_BASIC_LEN
+    fn checked_len(&self) -> Option<usize> {
+        Some(TC_STATS_BASIC_LEN)
     }
 
     fn emit(&self, buffer: &mut [u8]) {
+        stats_basic_in_hand(self);
         put_bytes(buffer, &self.to_bytes());
+    }
+}
+
+impl SettleBytes for TcStatsBasic {
+    fn is_settled_under(&self, _kind: &str) -> bool {
+        stats_basic_in_hand(self);
+        true
     }
 }

@@ -4,11 +4,12 @@ ghost use Rattle.std.specs.Prelude.{◌≡◌, List};
 ghost use Rattle.nla_frames.specs.Fault.{seen};
 ghost use Rattle.tc_canon.specs.Layouts.{stats};
 ghost use Rattle.tc_meaning.specs.Tree.{Scalar};
-ghost use Rattle.tc_meaning.specs.Layout.{fields_bytes, SettledFields};
-ghost use Rattle.tc_meaning.specs.Content.{read_record};
+ghost use Rattle.tc_meaning.specs.Layout.{fields_bytes};
+ghost use Rattle.tc_meaning.specs.Content.{read_record, record_codec};
 
-use crate::split::{split_u32, split_u64};
-use nla_frames::{BytesMeaning, DecodeError, Emitable, Res, put_bytes, u32_bytes, u64_bytes};
+use crate::laws::in_hand::stats_in_hand;
+use crate::split::{at_least, split_u32, split_u64};
+use nla_frames::{BytesMeaning, Emitable, Res, SettleBytes, put_bytes, u32_bytes, u64_bytes};
 
 /// How long the statistics of a queue are, in bytes.
 pub const TC_STATS_LEN: usize = 40;
@@ -42,12 +43,7 @@ impl TcStats {
     pub fn parse(payload: &[u8]) -> Res<TcStats>
         ensures { seen stats_scalars result ≡ read_record stats payload.now }
     {
-        if payload.len() < TC_STATS_LEN {
-            return Err(DecodeError::BufferTooSmall {
-                len: payload.len(),
-                needed: TC_STATS_LEN,
-            });
-        }
+        at_least(payload, TC_STATS_LEN)?;
         let (bytes, rest) = split_u64(payload);
         let (packets, rest) = split_u32(rest);
         let (drops, rest) = split_u32(rest);
@@ -94,25 +90,23 @@ impl BytesMeaning for TcStats {
 
     ghost see = { stats_scalars };
 
-    ghost reads = { read_record stats };
-
-    ghost bytes = { fields_bytes stats };
-
-    ghost Fits = { λ _. Unit {0} };
-
-    ghost Settled = { SettledFields stats };
+    ghost codec = { record_codec stats };
 }
 
 impl Emitable for TcStats {
-    fn fits(&self) -> bool {
-        true
-    }
-
-    fn buffer_len(&self) -> usize {
-        TC_STATS_LEN
+    fn checked_len(&self) -> Option<usize> {
+        Some(TC_STATS_LEN)
     }
 
     fn emit(&self, buffer: &mut [u8]) {
+        stats_in_hand(self);
         put_bytes(buffer, &self.to_bytes());
+    }
+}
+
+impl SettleBytes for TcStats {
+    fn is_settled_under(&self, _kind: &str) -> bool {
+        stats_in_hand(self);
+        true
     }
 }

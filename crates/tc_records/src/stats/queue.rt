@@ -4,11 +4,12 @@ ghost use Rattle.std.specs.Prelude.{◌≡◌, List};
 ghost use Rattle.nla_frames.specs.Fault.{seen};
 ghost use Rattle.tc_canon.specs.Layouts.{stats_queue};
 ghost use Rattle.tc_meaning.specs.Tree.{Scalar};
-ghost use Rattle.tc_meaning.specs.Layout.{fields_bytes, SettledFields};
-ghost use Rattle.tc_meaning.specs.Content.{read_record};
+ghost use Rattle.tc_meaning.specs.Layout.{fields_bytes};
+ghost use Rattle.tc_meaning.specs.Content.{read_record, record_codec};
 
-use crate::split::split_u32;
-use nla_frames::{BytesMeaning, DecodeError, Emitable, Res, put_bytes, u32_bytes};
+use crate::laws::in_hand::stats_queue_in_hand;
+use crate::split::{at_least, split_u32};
+use nla_frames::{BytesMeaning, Emitable, Res, SettleBytes, put_bytes, u32_bytes};
 
 /// How long queue statistics are, in bytes.
 pub const TC_STATS_QUEUE_LEN: usize = 20;
@@ -36,12 +37,7 @@ impl TcStatsQueue {
     pub fn parse(payload: &[u8]) -> Res<TcStatsQueue>
         ensures { seen queue_scalars result ≡ read_record stats_queue payload.now }
     {
-        if payload.len() < TC_STATS_QUEUE_LEN {
-            return Err(DecodeError::BufferTooSmall {
-                len: payload.len(),
-                needed: TC_STATS_QUEUE_LEN,
-            });
-        }
+        at_least(payload, TC_STATS_QUEUE_LEN)?;
         let (qlen, rest) = split_u32(payload);
         let (backlog, rest) = split_u32(rest);
         let (drops, rest) = split_u32(rest);
@@ -78,25 +74,23 @@ impl BytesMeaning for TcStatsQueue {
 
     ghost see = { queue_scalars };
 
-    ghost reads = { read_record stats_queue };
-
-    ghost bytes = { fields_bytes stats_queue };
-
-    ghost Fits = { λ _. Unit {0} };
-
-    ghost Settled = { SettledFields stats_queue };
+    ghost codec = { record_codec stats_queue };
 }
 
 impl Emitable for TcStatsQueue {
-    fn fits(&self) -> bool {
-        true
-    }
-
-    fn buffer_len(&self) -> usize {
-        TC_STATS_QUEUE_LEN
+    fn checked_len(&self) -> Option<usize> {
+        Some(TC_STATS_QUEUE_LEN)
     }
 
     fn emit(&self, buffer: &mut [u8]) {
+        stats_queue_in_hand(self);
         put_bytes(buffer, &self.to_bytes());
+    }
+}
+
+impl SettleBytes for TcStatsQueue {
+    fn is_settled_under(&self, _kind: &str) -> bool {
+        stats_queue_in_hand(self);
+        true
     }
 }
