@@ -7,10 +7,4 @@ pub mod Meaning
 pub mod Sound
 pub mod Message
 pub mod Whole
-pub mod Order
-pub mod Unknown
 pub mod Short
-pub mod FirstVersion
-pub mod Loose
-pub mod Norm
-pub mod Rewriting

@@ -22,10 +22,6 @@ ghost use Rattle.tc_meaning.specs.Whole.{ReadsTc, FaultTc, read_tc, tc_bytes, Ty
 
 use nla_frames::FrameMeaning;
 
-pub mod places;
-pub mod rewriting;
-pub mod versions;
-
 /// A traffic control message. Reading its bytes gives a message exactly if the grammar reads it so, and a fault
 /// exactly if that is the grammar's, which is never want of memory. A message that fits is written as bytes that
 /// read as it exactly if it is settled; bytes that read as a message that fits are its bytes exactly if they are
@@ -44,7 +40,7 @@ pub fn tc_message(bytes: &[u8])
     ensures places { (m : Message) → SettledTc m ↔ SettledByPlace tc_header attributes kind_of_attribute m }
 {}
 
-/// The same of an action message, which has no kind.
+/// An action message, likewise; it has no kind.
 pub fn action_message(bytes: &[u8])
     ensures reading { (m : Message) → (read_act bytes.now ≡ Ok m) ↔ ReadsAct bytes.now m }
     ensures fault { (e : DecodeError) → (read_act bytes.now ≡ Err e) ↔ FaultAct bytes.now e }
