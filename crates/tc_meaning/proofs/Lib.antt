@@ -9,6 +9,7 @@ pub mod Rows
 pub mod KindLaws
 pub mod OwnLaws
 pub mod OwnGrammarLaws
+pub mod NestedLaws
 pub mod NoMemory
 pub mod TableLaws
 pub mod MessageLaws

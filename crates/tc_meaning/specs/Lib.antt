@@ -4,6 +4,7 @@ pub mod Content
 pub mod Own
 pub mod OwnGrammar
 pub mod Meaning
+pub mod Nested
 pub mod Sound
 pub mod Message
 pub mod Whole
