@@ -40,17 +40,22 @@ frame-chosen (kind name rows kinds) k f = go (bytes_eq k name) (frame-chosen kin
 pub list-chosen : (kinds : Kinds) (k v : List ℕ) → IsCanonList (CanonTable (table (rows_under kinds k))) keep k v ↔ IsCanonList (CanonKinds kinds) keep k v
 list-chosen kinds k v = list-same (CanonTable (table (rows_under kinds k))) (CanonKinds kinds) k k (frame-chosen kinds k) v
 
--- a test of a list by those rows
-pub chosen-by : (kinds : Kinds) (rows : Rows) (k v : List ℕ) (b : Bool) → rows_under kinds k ≡ rows → IsTrue b ↔ IsCanonList (CanonTable (table rows)) keep k v → IsTrue b ↔ IsCanonList (CanonKinds kinds) keep k v
-chosen-by kinds rows k v b is tested =
-    let list = list-chosen kinds k v in
-    let by_rows = subst (λ (r : Rows). IsTrue b ↔ IsCanonList (CanonTable (table r)) keep k v) (sym is) tested in
-    (λ t. list.0 (by_rows.0 t), λ p. by_rows.1 (list.1 p))
+-- a test that tells whether bytes are such a list, under a kind
+abbrev pub Tells : Bool → IsCanonAt → List ℕ → List ℕ → Type 0
+Tells b Canon k v = IsTrue b ↔ IsCanonList Canon keep k v
 
--- the same of a known kind
-pub known-by : (kinds : Kinds) (rows : Rows) (k v : List ℕ) (b : Bool) → is_known kinds k ≡ true → rows_under kinds k ≡ rows → IsTrue b ↔ IsCanonList (CanonTable (table rows)) keep k v
-    → IsTrue b ↔ ((is_known kinds k ≡ true) × IsCanonList (CanonKinds kinds) keep k v)
-known-by kinds rows k v b known is tested = let list = chosen-by kinds rows k v b is tested in (λ t. (known, list.0 t), λ p. list.1 p.1)
+module _ (kinds : Kinds) (rows : Rows) (k v : List ℕ) (b : Bool) where
+  -- a test by the rows of the kind
+  pub chosen-by : rows_under kinds k ≡ rows → Tells b (CanonTable (table rows)) k v → Tells b (CanonKinds kinds) k v
+  chosen-by is tested =
+      let list = list-chosen kinds k v in
+      let by_rows = subst (λ (r : Rows). Tells b (CanonTable (table r)) k v) (sym is) tested in
+      (λ t. list.0 (by_rows.0 t), λ p. by_rows.1 (list.1 p))
+
+  -- where the kind is known
+  pub known-by : is_known kinds k ≡ true → rows_under kinds k ≡ rows → Tells b (CanonTable (table rows)) k v
+      → IsTrue b ↔ ((is_known kinds k ≡ true) × IsCanonList (CanonKinds kinds) keep k v)
+  known-by known is tested = let list = chosen-by is tested in (λ t. (known, list.0 t), λ p. list.1 p.1)
 
 -- ---- tables that don't look at the kind
 
@@ -59,7 +64,7 @@ abbrev pub IgnoresKinds : IsCanonAt → Type 0
 IgnoresKinds Canon = (k l : List ℕ) (f : Frame) → Canon k f ↔ Canon l f
 
 -- so not to a list
-pub under-any : (Canon : IsCanonAt) → IgnoresKinds Canon → (k l v : List ℕ) (b : Bool) → IsTrue b ↔ IsCanonList Canon keep l v → IsTrue b ↔ IsCanonList Canon keep k v
+pub under-any : (Canon : IsCanonAt) → IgnoresKinds Canon → (k l v : List ℕ) (b : Bool) → Tells b Canon l v → Tells b Canon k v
 under-any Canon ignores k l v b tested = let list = list-same Canon Canon l k (ignores l k) v in (λ t. list.0 (tested.0 t), λ p. tested.1 (list.1 p))
 
 -- a row whose class doesn't

@@ -45,4 +45,5 @@ abbrev pub ReadsOptions : Kinds → Rows → List ℕ → Frame → Type 0
 ReadsOptions kinds rows kind f =
     let n = type_of f.word in
     let outcome = (table_codec (table (options n kinds rows))).read kind f in
-    MatchBool (is_known kinds kind) (outcome ≡ seen (known n) ((class_codec (list_of (by_kind kinds))).read kind f.value)) (outcome ≡ Ok (kept n f.word f.value))
+    let list = (class_codec (list_of (by_kind kinds))).read kind f.value in
+    MatchBool (is_known kinds kind) (outcome ≡ seen (known n) list) (outcome ≡ Ok (kept n f.word f.value))
