@@ -4,3 +4,4 @@ pub mod Decisions
 pub mod OwnKind
 pub mod FlowerWidths
 pub mod Places
+pub mod Choices

@@ -1,13 +1,13 @@
 //! Actions.
 
-ghost use Rattle.std.specs.Prelude.{◌↔◌, [], IsTrue};
+ghost use Rattle.std.specs.Prelude.{◌↔◌, List, ℕ, IsTrue};
 ghost use Rattle.tc_canon.specs.Descriptor.{table, by_kind, every, list_of, own_list};
 ghost use Rattle.tc_canon.specs.Tables.Actions.{mirror_options, nat_options, tunnel_key_options, action_option_kinds, action_attributes, actions};
 ghost use Rattle.tc_canon.specs.Canonical.{CanonTable, CanonClass, CanonAction};
 
 use crate::contents::{is_nested, is_plain, is_terminated, is_truth};
 use crate::kinds::own_kind;
-use crate::lists::{Table, is_canonical_list};
+use crate::lists::{NoTypes, Table, is_canonical_list};
 use crate::records::{is_mirror, is_nat, is_tcf, is_tunnel_key};
 use crate::statistics::canon_stats2;
 use nla_frames::NlaBuffer;
@@ -65,30 +65,19 @@ impl Table for TunnelKeyOptions {
     }
 }
 
-/// `TcActionOption`.
-struct ActionOptions;
-
-impl Table for ActionOptions {
-    ghost Canon = { CanonTable (by_kind action_option_kinds) };
-
-    fn is_canonical(kind: &[u8], frame: &NlaBuffer<'_>) -> bool {
-        if kind == b"mirred".as_slice() {
-            MirrorOptions::is_canonical(kind, frame)
-        } else if kind == b"nat".as_slice() {
-            NatOptions::is_canonical(kind, frame)
-        } else if kind == b"tunnel_key".as_slice() {
-            TunnelKeyOptions::is_canonical(kind, frame)
-        } else {
-            true
-        }
-    }
-}
-
 /// Whether a value is a canonical list of an action's options, under the action's kind.
 pub fn canon_action_options(value: &[u8], kind: &[u8]) -> bool
     ensures { IsTrue result ↔ CanonClass (list_of (by_kind action_option_kinds)) kind.now value.now }
 {
-    is_canonical_list::<ActionOptions>(value, kind)
+    if kind == b"mirred".as_slice() {
+        is_canonical_list::<MirrorOptions>(value, kind)
+    } else if kind == b"nat".as_slice() {
+        is_canonical_list::<NatOptions>(value, kind)
+    } else if kind == b"tunnel_key".as_slice() {
+        is_canonical_list::<TunnelKeyOptions>(value, kind)
+    } else {
+        is_canonical_list::<NoTypes>(value, kind)
+    }
 }
 
 /// `TcActionAttribute`.
@@ -131,9 +120,9 @@ impl Table for Actions {
     }
 }
 
-/// Whether a value is a canonical list of actions.
+/// Whether a value is a canonical list of actions, which is the same under every kind.
 pub fn canon_actions(value: &[u8]) -> bool
-    ensures { IsTrue result ↔ CanonClass actions [] value.now }
+    ensures { (kind : List ℕ) → IsTrue result ↔ CanonClass actions kind value.now }
 {
     is_canonical_list::<Actions>(value, &[])
 }

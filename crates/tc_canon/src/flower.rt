@@ -1,6 +1,6 @@
 //! The options of flower.
 
-ghost use Rattle.std.specs.Prelude.{◌≡◌, ◌↔◌, [], IsTrue};
+ghost use Rattle.std.specs.Prelude.{◌≡◌, ◌↔◌, List, ℕ, IsTrue};
 ghost use Rattle.tc_canon.specs.Widths.{width_at, look_up};
 ghost use Rattle.tc_canon.specs.Descriptor.{table, list_of};
 ghost use Rattle.tc_canon.specs.Tables.Flower.{lse_options, mpls_options, flower_options};
@@ -41,16 +41,16 @@ impl Table for MplsOptions {
     }
 }
 
-/// Whether a value is a canonical list of the options of one MPLS label stack entry.
+/// Whether a value is a canonical list of the options of one MPLS label stack entry, which is the same under every kind.
 pub fn canon_lse(value: &[u8]) -> bool
-    ensures { IsTrue result ↔ CanonClass (list_of (table lse_options)) [] value.now }
+    ensures { (kind : List ℕ) → IsTrue result ↔ CanonClass (list_of (table lse_options)) kind value.now }
 {
     is_canonical_list::<LseOptions>(value, &[])
 }
 
-/// Whether a value is a canonical list of MPLS options.
+/// Whether a value is a canonical list of MPLS options, which is the same under every kind.
 pub fn canon_mpls(value: &[u8]) -> bool
-    ensures { IsTrue result ↔ CanonClass (list_of (table mpls_options)) [] value.now }
+    ensures { (kind : List ℕ) → IsTrue result ↔ CanonClass (list_of (table mpls_options)) kind value.now }
 {
     is_canonical_list::<MplsOptions>(value, &[])
 }

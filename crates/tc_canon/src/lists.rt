@@ -3,7 +3,8 @@
 ghost use Rattle.std.specs.Prelude.{◌↔◌, List, ℕ, IsTrue};
 ghost use Rattle.nla_frames.specs.Buffer.{frame_of};
 ghost use Rattle.nla_frames.specs.Reading.{keep};
-ghost use Rattle.tc_canon.specs.Canonical.{IsCanonAt, IsCanonList};
+ghost use Rattle.tc_canon.specs.Descriptor.{table, others};
+ghost use Rattle.tc_canon.specs.Canonical.{IsCanonAt, IsCanonList, CanonTable};
 
 use crate::front::split_padded;
 use nla_frames::NlaBuffer;
@@ -15,6 +16,17 @@ pub(crate) trait Table {
     /// Whether a frame is canonical in this table, under a kind.
     fn is_canonical(kind: &[u8], frame: &NlaBuffer<'_>) -> bool
         ensures { IsTrue result ↔ Self.Canon kind.now (frame_of frame.now) };
+}
+
+/// A table that knows no type: every frame is canonical as it stands.
+pub(crate) struct NoTypes;
+
+impl Table for NoTypes {
+    ghost Canon = { CanonTable (table others) };
+
+    fn is_canonical(_kind: &[u8], _frame: &NlaBuffer<'_>) -> bool {
+        true
+    }
 }
 
 /// Whether the bytes are frames, each padded in full with zeros and canonical in its table, under a kind.

@@ -11,7 +11,7 @@ use crate::contents::{is_plain, is_terminated, is_unterminated};
 use crate::front::split_padded;
 use crate::kinds::kind_after;
 use crate::lists::{Table, is_canonical_list};
-use crate::options::{Options, has_options};
+use crate::options::{canon_options, has_options};
 use crate::records::{is_action_message_header, is_stats, is_tc_header};
 use crate::statistics::{Stats2, is_xstats};
 use nla_frames::NlaBuffer;
@@ -26,7 +26,7 @@ impl Table for Attributes {
         let value = frame.value();
         match frame.kind() {
             1 => is_plain(frame) && is_terminated(value),
-            2 => !has_options(kind) || is_plain(frame) && is_canonical_list::<Options>(value, kind),
+            2 => !has_options(kind) || is_plain(frame) && canon_options(value, kind),
             3 => is_plain(frame) && is_stats(value),
             4 => is_plain(frame) && is_xstats(value, kind),
             5 | 6 | 8 => is_plain(frame),

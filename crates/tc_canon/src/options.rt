@@ -1,14 +1,14 @@
 //! The options of a message, by its kind.
 
 ghost use Rattle.std.specs.Prelude.{◌≡◌, ◌↔◌, true, IsTrue};
-ghost use Rattle.tc_canon.specs.Descriptor.{table, by_kind, is_known};
+ghost use Rattle.tc_canon.specs.Descriptor.{table, is_known};
 ghost use Rattle.tc_canon.specs.Tables.Options.{fq_codel_options, u32_options, matchall_options, bpf_options, option_kinds};
 ghost use Rattle.tc_canon.specs.Canonical.{CanonTable, CanonOptions};
 
 use crate::actions::Actions;
 use crate::contents::{is_plain, is_terminated};
 use crate::flower::FlowerOptions;
-use crate::lists::{Table, is_canonical_list};
+use crate::lists::{NoTypes, Table, is_canonical_list};
 use crate::records::is_selector;
 use nla_frames::NlaBuffer;
 
@@ -79,31 +79,6 @@ impl Table for BpfOptions {
     }
 }
 
-/// The options of a message by its kind; ingress knows no type.
-pub(crate) struct Options;
-
-impl Table for Options {
-    ghost Canon = { CanonTable (by_kind option_kinds) };
-
-    fn is_canonical(kind: &[u8], frame: &NlaBuffer<'_>) -> bool {
-        if kind == b"fq_codel".as_slice() {
-            FqCodelOptions::is_canonical(kind, frame)
-        } else if kind == b"ingress".as_slice() {
-            true
-        } else if kind == b"flower".as_slice() {
-            FlowerOptions::is_canonical(kind, frame)
-        } else if kind == b"u32".as_slice() {
-            U32Options::is_canonical(kind, frame)
-        } else if kind == b"matchall".as_slice() {
-            MatchAllOptions::is_canonical(kind, frame)
-        } else if kind == b"bpf".as_slice() {
-            BpfOptions::is_canonical(kind, frame)
-        } else {
-            true
-        }
-    }
-}
-
 /// Whether the options of a message have a table under this kind.
 pub(crate) fn has_options(kind: &[u8]) -> bool
     ensures { IsTrue result ↔ is_known option_kinds kind.now ≡ true }
@@ -116,9 +91,24 @@ pub(crate) fn has_options(kind: &[u8]) -> bool
         || kind == b"bpf".as_slice()
 }
 
-/// Whether a value is a canonical list of options under a kind. Under an unknown kind no list stands there.
+/// Whether a value is a canonical list of options under a kind. Ingress knows no type; under an unknown kind no list
+/// stands there.
 pub fn canon_options(value: &[u8], kind: &[u8]) -> bool
     ensures { IsTrue result ↔ CanonOptions kind.now value.now }
 {
-    has_options(kind) && is_canonical_list::<Options>(value, kind)
+    if kind == b"fq_codel".as_slice() {
+        is_canonical_list::<FqCodelOptions>(value, kind)
+    } else if kind == b"ingress".as_slice() {
+        is_canonical_list::<NoTypes>(value, kind)
+    } else if kind == b"flower".as_slice() {
+        is_canonical_list::<FlowerOptions>(value, kind)
+    } else if kind == b"u32".as_slice() {
+        is_canonical_list::<U32Options>(value, kind)
+    } else if kind == b"matchall".as_slice() {
+        is_canonical_list::<MatchAllOptions>(value, kind)
+    } else if kind == b"bpf".as_slice() {
+        is_canonical_list::<BpfOptions>(value, kind)
+    } else {
+        false
+    }
 }

@@ -4,13 +4,8 @@ pub mod Content
 pub mod Own
 pub mod OwnGrammar
 pub mod Meaning
+pub mod Nested
 pub mod Sound
 pub mod Message
 pub mod Whole
-pub mod Order
-pub mod Unknown
 pub mod Short
-pub mod FirstVersion
-pub mod Loose
-pub mod Norm
-pub mod Rewriting

@@ -3,9 +3,10 @@
 ghost use Rattle.std.specs.Prelude.{◌≡◌, ◌↔◌, List, ℕ, Ok, Err, Bool, IsTrue, true};
 ghost use Rattle.nla_frames.specs.declared.error.DecodeError.{DecodeError};
 ghost use Rattle.nla_frames.specs.declared.error.DecodeError.TheVariants.{OutOfMemory};
-ghost use Rattle.nla_frames.specs.Frame.{IsWireFrame};
+ghost use Rattle.nla_frames.specs.Frame.{Frame, IsWireFrame};
+ghost use Rattle.nla_frames.specs.Value.{IsBytes};
 ghost use Rattle.nla_frames.specs.Codec.{Laws, IsWireValue};
-ghost use Rattle.tc_canon.specs.Descriptor.{Class, Table};
+ghost use Rattle.tc_canon.specs.Descriptor.{Class, Table, Rows, Kinds};
 ghost use Rattle.tc_canon.specs.Layouts.{tc_header};
 ghost use Rattle.tc_canon.specs.Tables.Statistics.{stats2};
 ghost use Rattle.tc_canon.specs.Tables.Actions.{actions, action_attributes, action_option_kinds};
@@ -16,15 +17,12 @@ ghost use Rattle.tc_canon.specs.Canonical.{CanonClass, CanonTable, CanonTc, Cano
 ghost use Rattle.tc_meaning.specs.Own.{kind_of_attribute, read_own};
 ghost use Rattle.tc_meaning.specs.OwnGrammar.{OneOwn};
 ghost use Rattle.tc_meaning.specs.Meaning.{short, class_codec, table_codec};
+ghost use Rattle.tc_meaning.specs.Nested.{ReadsNested, ReadsOwn, ReadsOptions};
 ghost use Rattle.tc_meaning.specs.Sound.{is_sound_class, is_sound_table, is_sound_rows, is_sound_kinds};
 ghost use Rattle.tc_meaning.specs.Message.{Message, SettledByPlace};
 ghost use Rattle.tc_meaning.specs.Whole.{ReadsTc, FaultTc, read_tc, tc_bytes, TypedTc, FitsTc, SettledTc, ReadsAct, FaultAct, read_act, act_bytes, TypedAct, FitsAct, SettledAct};
 
 use nla_frames::FrameMeaning;
-
-pub mod places;
-pub mod rewriting;
-pub mod versions;
 
 /// A traffic control message. Reading its bytes gives a message exactly if the grammar reads it so, and a fault
 /// exactly if that is the grammar's, which is never want of memory. A message that fits is written as bytes that
@@ -44,7 +42,7 @@ pub fn tc_message(bytes: &[u8])
     ensures places { (m : Message) → SettledTc m ↔ SettledByPlace tc_header attributes kind_of_attribute m }
 {}
 
-/// The same of an action message, which has no kind.
+/// An action message, likewise; it has no kind.
 pub fn action_message(bytes: &[u8])
     ensures reading { (m : Message) → (read_act bytes.now ≡ Ok m) ↔ ReadsAct bytes.now m }
     ensures fault { (e : DecodeError) → (read_act bytes.now ≡ Err e) ↔ FaultAct bytes.now e }
@@ -70,12 +68,17 @@ pub fn own_grammar<T: FrameMeaning>(bytes: &[u8])
     ensures { OneOwn T.codec.read bytes.now (read_own T.codec.read bytes.now) }
 {}
 
-/// Every class, every table and every choice of kinds that passes its test is the inverse of itself both ways: what
-/// fits reads back exactly if it is settled, and what is read and fits is written as it was exactly if it was
-/// canonical. All tables pass their test.
+/// Reading and writing are inverses for every class and every table that passes its test: what fits reads back exactly if
+/// it is settled, and what is read and fits is written as it was exactly if it was canonical. All tables pass their test.
+/// Of the value of a nested list, of whatever table, is read what the grammar of lists says, and so of a list that tells
+/// its own kind. A message's options are a list of its kind's table under a known kind, and kept as they stand under
+/// any other.
 pub fn tables()
     ensures classes { (c : Class) → is_sound_class c ≡ true → Laws IsWireValue (short (class_codec c)) (CanonClass c) }
     ensures tables { (t : Table) → is_sound_table t ≡ true → Laws IsWireFrame (table_codec t) (CanonTable t) }
+    ensures lists { (t : Table) (kind bytes : List ℕ) → IsBytes bytes → ReadsNested t kind bytes }
+    ensures own_lists { (rows : Rows) (kind bytes : List ℕ) → IsBytes bytes → ReadsOwn rows kind bytes }
+    ensures options { (kinds : Kinds) (rows : Rows) (kind : List ℕ) (f : Frame) → ReadsOptions kinds rows kind f }
     ensures sound_attributes { is_sound_rows attributes ≡ true }
     ensures sound_action_message_attributes { is_sound_rows action_message_attributes ≡ true }
     ensures sound_action_attributes { is_sound_rows action_attributes ≡ true }

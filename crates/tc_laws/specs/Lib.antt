@@ -1,0 +1,6 @@
+pub mod Order
+pub mod Unknown
+pub mod FirstVersion
+pub mod Loose
+pub mod Norm
+pub mod Rewriting

@@ -1,0 +1,30 @@
+-- A frame of a type that a message's table doesn't have, put in among frames that are padded in full.
+use Rattle.std.specs.Prelude.{◌≡◌, ℕ, Bool, true, List, [], ◌∷◌, ◌++◌, ◌&&◌, not, ◌==◌, length, take, drop}
+use Rattle.nla_frames.specs.Frame.{Frame, type_of}
+use Rattle.tc_canon.specs.Descriptor.{Rows, others, types, unread, options, is_within}
+use Rattle.tc_meaning.specs.Tree.{other}
+use Rattle.tc_meaning.specs.Message.{Message}
+use Rattle.tc_laws.specs.Order.{InFull}
+
+-- the type stands in no row
+abbrev pub is_outside : ℕ → Rows → Bool
+is_outside n others = true
+is_outside n (types first last flags class rows) = not (is_within first last n) && is_outside n rows
+is_outside n (unread m class rows) = not (n == m) && is_outside n rows
+is_outside n (options m kinds rows) = not (n == m) && is_outside n rows
+
+-- a list with one element more at a place
+abbrev pub put_in : {X : Type 0} → ℕ → X → List X → List X
+put_in n x xs = take n xs ++ x ∷ drop n xs
+
+-- a message with the frame's word and value, as they stand, at a place among its attributes
+abbrev pub with_other : ℕ → Frame → Message → Message
+with_other n f m = record { header = m.header; body = put_in n (other f.word f.value) m.body }
+
+-- after a header of this size, a frame of a type outside the table may be put in anywhere: it is kept there as it stands, and
+-- all else reads as before
+abbrev pub KeepsUnknown : ℕ → Rows → (List ℕ → Message → Type 0) → Type 0
+KeepsUnknown size rows ReadsAs =
+    (head front one back : List ℕ) (fs : List Frame) (f : Frame) (gs : List Frame)
+    → length head ≡ size → InFull front fs → InFull one (f ∷ []) → InFull back gs → is_outside (type_of f.word) rows ≡ true
+    → (m : Message) → ReadsAs (head ++ (front ++ back)) m → ReadsAs (head ++ (front ++ (one ++ back))) (with_other (length fs) f m)

@@ -1,8 +1,0 @@
-use Rattle.tc_meaning.proofs.OrderLaws.{action-exchanges, action-grammar}
-use Rattle.tc_meaning.proofs.laws.places.order_in_an_action.Goals as goal
-
-pub returns-clause-order : goal.returns-clause-order
-returns-clause-order c = action-exchanges
-
-pub returns-clause-grammar : goal.returns-clause-grammar
-returns-clause-grammar c = action-grammar

@@ -1,8 +1,0 @@
-use Rattle.tc_meaning.proofs.UnknownLaws.{tc-keeps_unknown, act-keeps_unknown}
-use Rattle.tc_meaning.proofs.laws.places.unknown_types.Goals as goal
-
-pub returns-clause-tc : goal.returns-clause-tc
-returns-clause-tc c = tc-keeps_unknown
-
-pub returns-clause-action : goal.returns-clause-action
-returns-clause-action c = act-keeps_unknown
