@@ -30,6 +30,13 @@ impl<A: Allocator> DefaultNla<A> {
     {
         DefaultNla { word, value }
     }
+
+    /// The bytes of its value.
+    pub fn value(&self) -> &[u8]
+        ensures { result.now ≡ (kept_frame self.now).value }
+    {
+        &self.value
+    }
 }
 
 impl<A: Allocator> FrameMeaning for DefaultNla<A> {

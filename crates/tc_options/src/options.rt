@@ -13,7 +13,7 @@ ghost use Rattle.tc_options.specs.Options.{tc_option, read_options};
 use crate::qdiscs::fq_codel::{TcQdiscFqCodel, TcQdiscFqCodelOption};
 use nla_frames::{
     DefaultNla, FrameMeaning, Nla, NlaBuffer, Parseable, ParseableParametrized, Res,
-    parse_list_with,
+    Settle, parse_list_with,
 };
 use std::alloc::{Allocator, Global};
 
@@ -40,13 +40,7 @@ impl<A: Allocator> FrameMeaning for TcOption<A> {
 
     ghost see = { tc_option };
 
-    ghost reads = { (table_codec (by_kind option_kinds)).read };
-
-    ghost frame = { (table_codec (by_kind option_kinds)).write };
-
-    ghost Fits = { (table_codec (by_kind option_kinds)).Fits };
-
-    ghost Settled = { (table_codec (by_kind option_kinds)).Settled };
+    ghost codec = { table_codec (by_kind option_kinds) };
 }
 
 impl<A: Allocator> ParseableParametrized<A> for TcOption<A> {
@@ -66,17 +60,10 @@ impl<A: Allocator> Nla for TcOption<A> {
         }
     }
 
-    fn fits(&self) -> bool {
+    fn checked_len(&self) -> Option<usize> {
         match self {
-            TcOption::FqCodel(option) => option.fits(),
-            TcOption::Other(nla) => nla.fits(),
-        }
-    }
-
-    fn value_len(&self) -> usize {
-        match self {
-            TcOption::FqCodel(option) => option.value_len(),
-            TcOption::Other(nla) => nla.value_len(),
+            TcOption::FqCodel(option) => option.checked_len(),
+            TcOption::Other(nla) => nla.checked_len(),
         }
     }
 
@@ -88,6 +75,17 @@ impl<A: Allocator> Nla for TcOption<A> {
     }
 
     ghost is_short = { table_short (by_kind option_kinds) };
+}
+
+impl<A: Allocator> Settle for TcOption<A> {
+    fn is_settled_under(&self, kind: &str) -> bool {
+        match self {
+            TcOption::FqCodel(option) => {
+                option.is_settled_under(kind) && kind == TcQdiscFqCodel::KIND
+            }
+            TcOption::Other(nla) => nla.is_settled_under(kind) && !is_known_kind(kind),
+        }
+    }
 }
 
 /// The options of a message, read of one frame: a list under a known kind; under any other the frame itself as one

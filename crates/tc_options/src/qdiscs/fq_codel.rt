@@ -1,17 +1,22 @@
 //! Fair queueing with controlled delay.
 
 ghost use Rattle.std.specs.Prelude.{◌≡◌, List};
+ghost use Rattle.nla_frames.specs.Frame.{type_of};
 ghost use Rattle.tc_canon.specs.Descriptor.{table};
 ghost use Rattle.tc_canon.specs.Tables.Options.{fq_codel_options};
 ghost use Rattle.tc_meaning.specs.Tree.{Attribute};
 ghost use Rattle.tc_meaning.specs.Meaning.{table_codec};
 ghost use Rattle.tc_meaning.specs.Short.{table_short};
+ghost use Rattle.tc_values.specs.Bodies.{nothing};
+ghost use Rattle.tc_values.specs.Row.{attribute_of, IsRow, ShownAs, reads_at};
 ghost use Rattle.tc_options.specs.FqCodel.{fq_codel_option};
 
-use nla_frames::values::read::{parse_u8, parse_u32};
-use nla_frames::values::write::{put_u8, put_u32};
-use nla_frames::{DefaultNla, FrameMeaning, Nla, NlaBuffer, Parseable, Res};
+use nla_frames::{
+    DefaultNla, FrameMeaning, NLA_TYPE_MASK, Nla, NlaBuffer, Parseable, Res, Settle, parse_u8,
+    parse_u32,
+};
 use std::alloc::{Allocator, Global};
+use tc_values::Value;
 
 /// The queueing discipline `fq_codel`.
 #[derive(PartialEq, Eq, Clone, Drop, Debug)]
@@ -22,7 +27,20 @@ impl TcQdiscFqCodel {
     pub const KIND: &'static str = "fq_codel";
 }
 
-/// An option of `fq_codel`, each a number, low byte first.
+// The types of its options, `linux/pkt_sched.h`.
+const TCA_FQ_CODEL_TARGET: u16 = 1;
+const TCA_FQ_CODEL_LIMIT: u16 = 2;
+const TCA_FQ_CODEL_INTERVAL: u16 = 3;
+const TCA_FQ_CODEL_ECN: u16 = 4;
+const TCA_FQ_CODEL_FLOWS: u16 = 5;
+const TCA_FQ_CODEL_QUANTUM: u16 = 6;
+const TCA_FQ_CODEL_CE_THRESHOLD: u16 = 7;
+const TCA_FQ_CODEL_DROP_BATCH_SIZE: u16 = 8;
+const TCA_FQ_CODEL_MEMORY_LIMIT: u16 = 9;
+const TCA_FQ_CODEL_CE_THRESHOLD_SELECTOR: u16 = 10;
+const TCA_FQ_CODEL_CE_THRESHOLD_MASK: u16 = 11;
+
+/// An option of `fq_codel`, each a little-endian number.
 ///
 /// | Type | Option | Value |
 /// |---|---|---|
@@ -63,93 +81,88 @@ impl<A: Allocator> FrameMeaning for TcQdiscFqCodelOption<A> {
 
     ghost see = { fq_codel_option };
 
-    ghost reads = { (table_codec (table fq_codel_options)).read };
-
-    ghost frame = { (table_codec (table fq_codel_options)).write };
-
-    ghost Fits = { (table_codec (table fq_codel_options)).Fits };
-
-    ghost Settled = { (table_codec (table fq_codel_options)).Settled };
+    ghost codec = { table_codec (table fq_codel_options) };
 }
 
 impl<A: Allocator> Parseable<A> for TcQdiscFqCodelOption<A> {
     fn parse(alloc: A, buf: &NlaBuffer<'_>) -> Res<TcQdiscFqCodelOption<A>> {
         let value = buf.value();
         Ok(match buf.kind() {
-            1 => TcQdiscFqCodelOption::Target(parse_u32(value)?),
-            2 => TcQdiscFqCodelOption::Limit(parse_u32(value)?),
-            3 => TcQdiscFqCodelOption::Interval(parse_u32(value)?),
-            4 => TcQdiscFqCodelOption::Ecn(parse_u32(value)?),
-            5 => TcQdiscFqCodelOption::Flows(parse_u32(value)?),
-            6 => TcQdiscFqCodelOption::Quantum(parse_u32(value)?),
-            7 => TcQdiscFqCodelOption::CeThreshold(parse_u32(value)?),
-            8 => TcQdiscFqCodelOption::DropBatchSize(parse_u32(value)?),
-            9 => TcQdiscFqCodelOption::MemoryLimit(parse_u32(value)?),
-            10 => TcQdiscFqCodelOption::CeThresholdSelector(parse_u8(value)?),
-            11 => TcQdiscFqCodelOption::CeThresholdMask(parse_u8(value)?),
+            TCA_FQ_CODEL_TARGET => TcQdiscFqCodelOption::Target(parse_u32(value)?),
+            TCA_FQ_CODEL_LIMIT => TcQdiscFqCodelOption::Limit(parse_u32(value)?),
+            TCA_FQ_CODEL_INTERVAL => TcQdiscFqCodelOption::Interval(parse_u32(value)?),
+            TCA_FQ_CODEL_ECN => TcQdiscFqCodelOption::Ecn(parse_u32(value)?),
+            TCA_FQ_CODEL_FLOWS => TcQdiscFqCodelOption::Flows(parse_u32(value)?),
+            TCA_FQ_CODEL_QUANTUM => TcQdiscFqCodelOption::Quantum(parse_u32(value)?),
+            TCA_FQ_CODEL_CE_THRESHOLD => TcQdiscFqCodelOption::CeThreshold(parse_u32(value)?),
+            TCA_FQ_CODEL_DROP_BATCH_SIZE => TcQdiscFqCodelOption::DropBatchSize(parse_u32(value)?),
+            TCA_FQ_CODEL_MEMORY_LIMIT => TcQdiscFqCodelOption::MemoryLimit(parse_u32(value)?),
+            TCA_FQ_CODEL_CE_THRESHOLD_SELECTOR => TcQdiscFqCodelOption::CeThresholdSelector(parse_u8(value)?),
+            TCA_FQ_CODEL_CE_THRESHOLD_MASK => TcQdiscFqCodelOption::CeThresholdMask(parse_u8(value)?),
             _ => TcQdiscFqCodelOption::Other(DefaultNla::parse(alloc, buf)?),
         })
     }
 }
 
+impl<A: Allocator> TcQdiscFqCodelOption<A> {
+    // Its word and its value, and what they are by the table.
+    fn view(&self) -> (u16, Value<'_>)
+        ensures { ShownAs nothing fq_codel_options (fq_codel_option self.now) result.0 result.1 }
+    {
+        self.row()
+    }
+
+    fn row(&self) -> (u16, Value<'_>)
+        ensures seen { fq_codel_option self.now ≡ attribute_of nothing result.0 result.1 }
+        ensures row { IsRow nothing fq_codel_options result.0 result.1 }
+    {
+        match self {
+            TcQdiscFqCodelOption::Target(n) => (TCA_FQ_CODEL_TARGET, Value::U32(*n)),
+            TcQdiscFqCodelOption::Limit(n) => (TCA_FQ_CODEL_LIMIT, Value::U32(*n)),
+            TcQdiscFqCodelOption::Interval(n) => (TCA_FQ_CODEL_INTERVAL, Value::U32(*n)),
+            TcQdiscFqCodelOption::Ecn(n) => (TCA_FQ_CODEL_ECN, Value::U32(*n)),
+            TcQdiscFqCodelOption::Flows(n) => (TCA_FQ_CODEL_FLOWS, Value::U32(*n)),
+            TcQdiscFqCodelOption::Quantum(n) => (TCA_FQ_CODEL_QUANTUM, Value::U32(*n)),
+            TcQdiscFqCodelOption::CeThreshold(n) => (TCA_FQ_CODEL_CE_THRESHOLD, Value::U32(*n)),
+            TcQdiscFqCodelOption::DropBatchSize(n) => (TCA_FQ_CODEL_DROP_BATCH_SIZE, Value::U32(*n)),
+            TcQdiscFqCodelOption::MemoryLimit(n) => (TCA_FQ_CODEL_MEMORY_LIMIT, Value::U32(*n)),
+            TcQdiscFqCodelOption::CeThresholdSelector(n) => {
+                (TCA_FQ_CODEL_CE_THRESHOLD_SELECTOR, Value::U8(*n))
+            }
+            TcQdiscFqCodelOption::CeThresholdMask(n) => {
+                (TCA_FQ_CODEL_CE_THRESHOLD_MASK, Value::U8(*n))
+            }
+            TcQdiscFqCodelOption::Other(nla) => (nla.kind(), Value::Kept(nla.value())),
+        }
+    }
+}
+
+// True if options of this word's type are read.
+fn is_read(word: u16) -> bool
+    ensures { result ≡ reads_at fq_codel_options (type_of word) }
+{
+    matches!(word & NLA_TYPE_MASK, TCA_FQ_CODEL_TARGET..=TCA_FQ_CODEL_CE_THRESHOLD_MASK)
+}
+
 impl<A: Allocator> Nla for TcQdiscFqCodelOption<A> {
     fn kind(&self) -> u16 {
-        match self {
-            TcQdiscFqCodelOption::Target(_) => 1,
-            TcQdiscFqCodelOption::Limit(_) => 2,
-            TcQdiscFqCodelOption::Interval(_) => 3,
-            TcQdiscFqCodelOption::Ecn(_) => 4,
-            TcQdiscFqCodelOption::Flows(_) => 5,
-            TcQdiscFqCodelOption::Quantum(_) => 6,
-            TcQdiscFqCodelOption::CeThreshold(_) => 7,
-            TcQdiscFqCodelOption::DropBatchSize(_) => 8,
-            TcQdiscFqCodelOption::MemoryLimit(_) => 9,
-            TcQdiscFqCodelOption::CeThresholdSelector(_) => 10,
-            TcQdiscFqCodelOption::CeThresholdMask(_) => 11,
-            TcQdiscFqCodelOption::Other(nla) => nla.kind(),
-        }
+        self.view().0
     }
 
-    fn fits(&self) -> bool {
-        match self {
-            TcQdiscFqCodelOption::Other(nla) => nla.fits(),
-            _ => true,
-        }
-    }
-
-    fn value_len(&self) -> usize {
-        match self {
-            TcQdiscFqCodelOption::Target(_)
-            | TcQdiscFqCodelOption::Limit(_)
-            | TcQdiscFqCodelOption::Interval(_)
-            | TcQdiscFqCodelOption::Ecn(_)
-            | TcQdiscFqCodelOption::Flows(_)
-            | TcQdiscFqCodelOption::Quantum(_)
-            | TcQdiscFqCodelOption::CeThreshold(_)
-            | TcQdiscFqCodelOption::DropBatchSize(_)
-            | TcQdiscFqCodelOption::MemoryLimit(_) => 4,
-            TcQdiscFqCodelOption::CeThresholdSelector(_)
-            | TcQdiscFqCodelOption::CeThresholdMask(_) => 1,
-            TcQdiscFqCodelOption::Other(nla) => nla.value_len(),
-        }
+    fn checked_len(&self) -> Option<usize> {
+        self.view().1.checked_len()
     }
 
     fn put_value(&self, buffer: &mut [u8]) -> usize {
-        match self {
-            TcQdiscFqCodelOption::Target(n)
-            | TcQdiscFqCodelOption::Limit(n)
-            | TcQdiscFqCodelOption::Interval(n)
-            | TcQdiscFqCodelOption::Ecn(n)
-            | TcQdiscFqCodelOption::Flows(n)
-            | TcQdiscFqCodelOption::Quantum(n)
-            | TcQdiscFqCodelOption::CeThreshold(n)
-            | TcQdiscFqCodelOption::DropBatchSize(n)
-            | TcQdiscFqCodelOption::MemoryLimit(n) => put_u32(buffer, *n),
-            TcQdiscFqCodelOption::CeThresholdSelector(n)
-            | TcQdiscFqCodelOption::CeThresholdMask(n) => { put_u8(buffer, *n) }
-            TcQdiscFqCodelOption::Other(nla) => nla.put_value(buffer),
-        }
+        self.view().1.put(buffer)
     }
 
     ghost is_short = { table_short (table fq_codel_options) };
+}
+
+impl<A: Allocator> Settle for TcQdiscFqCodelOption<A> {
+    fn is_settled_under(&self, kind: &str) -> bool {
+        let (word, value) = self.view();
+        value.is_settled_under(is_read(word), kind)
+    }
 }
