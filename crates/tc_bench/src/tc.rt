@@ -1,9 +1,8 @@
 //! The calls on messages about queueing disciplines, classes, filters and chains.
 
-ghost use Rattle.std.specs.Prelude.{◌≡◌, ◌≢◌, ◌≤◌, ◌<◌, ◌⊎◌, ◌↔◌, IsTrue, All, length};
-ghost use Rattle.tc_wire.specs.Facade.{DecodeError, Message, tc_message, FaultTc, FitsTc, tc_bytes, Writes};
+ghost use Rattle.std.specs.Prelude.{◌≡◌, ◌≢◌, ◌≤◌, ◌↔◌, IsTrue, All, length};
+ghost use Rattle.tc_wire.specs.Facade.{DecodeError, Message, ReadsTc, FaultTc, FitsTc, tc_bytes, Writes};
 ghost use Rattle.tc_bench.specs.Calls.{ReadsSome, NoRoom};
-ghost use Rattle.tc_wire.specs.Facade.{ReadsTc};
 ghost use Rattle.tc_canon.specs.Canonical.{CanonTc};
 
 use crate::repeat::{judge, measure, write};
