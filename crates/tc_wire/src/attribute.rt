@@ -73,104 +73,73 @@ impl<A: Allocator> FrameMeaning for TcAttribute<A> {
 
     ghost see = { tc_attribute };
 
-    ghost reads = { (table_codec (table attributes)).read };
-
-    ghost frame = { (table_codec (table attributes)).write };
-
-    ghost Fits = { (table_codec (table attributes)).Fits };
-
-    ghost Settled = { (table_codec (table attributes)).Settled };
+    ghost codec = { table_codec (table attributes) };
 }
 
 impl<A: Allocator + Copy> ParseableParametrized<A> for TcAttribute<A> {
     fn parse_with_param(alloc: A, buf: &NlaBuffer<'_>, kind: &str) -> Res<TcAttribute<A>> {
         Ok(match buf.kind() {
-            1 => TcAttribute::Kind(parse_string(alloc, buf.value())?),
-            2 => {
+            TCA_KIND => TcAttribute::Kind(parse_string(alloc, buf.value())?),
+            TCA_OPTIONS => {
                 if is_known_kind(kind) {
                     TcAttribute::Options(VecTcOption::parse_with_param(alloc, buf, kind)?.0)
                 } else {
                     TcAttribute::OptionsRaw(DefaultNla::parse(alloc, buf)?)
                 }
             }
-            3 => TcAttribute::Stats(TcStats::parse(buf.value())?),
-            5 => TcAttribute::Rate(Vec::from_slice(alloc, buf.value())?),
-            6 => TcAttribute::Fcnt(Vec::from_slice(alloc, buf.value())?),
-            8 => TcAttribute::Stab(Vec::from_slice(alloc, buf.value())?),
-            10 => TcAttribute::DumpInvisible(true),
-            11 => TcAttribute::Chain(parse_u32(buf.value())?),
-            12 => TcAttribute::HwOffload(parse_u8(buf.value())?),
+            TCA_STATS => TcAttribute::Stats(TcStats::parse(buf.value())?),
+            TCA_RATE => TcAttribute::Rate(Vec::from_slice(alloc, buf.value())?),
+            TCA_FCNT => TcAttribute::Fcnt(Vec::from_slice(alloc, buf.value())?),
+            TCA_STAB => TcAttribute::Stab(Vec::from_slice(alloc, buf.value())?),
+            TCA_DUMP_INVISIBLE => TcAttribute::DumpInvisible(true),
+            TCA_CHAIN => TcAttribute::Chain(parse_u32(buf.value())?),
+            TCA_HW_OFFLOAD => TcAttribute::HwOffload(parse_u8(buf.value())?),
             _ => TcAttribute::Other(DefaultNla::parse(alloc, buf)?),
         })
     }
 }
 
+// What an attribute nests.
+type Nested<'a, A> = Either<Items<'a, TcOption<A>>, Record<'a, TcStats>>;
+
+impl<A: Allocator> TcAttribute<A> {
+    // Its word and its value, and what they are by the table. Which attributes are settled is told beside it, since
+    // the one table of a choice by kind is this.
+    fn view(&self) -> (u16, Value<'_, Nested<'_, A>>)
+        ensures word { result.0 ≡ ((table_codec (table attributes)).write (tc_attribute self.now)).word }
+        ensures bytes { value_bytes nested.bytes result.1 ≡ ((table_codec (table attributes)).write (tc_attribute self.now)).value }
+        ensures fits { ValueFits nested.Fits result.1 ↔ (table_codec (table attributes)).Fits (tc_attribute self.now) }
+        ensures typed { TypedValue nested.Typed result.1 → (table_codec (table attributes)).Typed (tc_attribute self.now) }
+    {
+        match self {
+            TcAttribute::Kind(kind) => (TCA_KIND, Value::Text(kind.as_str())),
+            TcAttribute::Options(options) => {
+                (TCA_OPTIONS, Value::Nested(Either::Left(Items(options))))
+            }
+            TcAttribute::OptionsRaw(nla) => (nla.kind(), Value::Kept(nla.value())),
+            TcAttribute::Stats(stats) => (TCA_STATS, Value::Nested(Either::Right(Record(stats)))),
+            TcAttribute::Rate(bytes) => (TCA_RATE, Value::Bytes(bytes)),
+            TcAttribute::Fcnt(bytes) => (TCA_FCNT, Value::Bytes(bytes)),
+            TcAttribute::Stab(bytes) => (TCA_STAB, Value::Bytes(bytes)),
+            TcAttribute::DumpInvisible(is_set) => (TCA_DUMP_INVISIBLE, Value::Presence(*is_set)),
+            TcAttribute::Chain(chain) => (TCA_CHAIN, Value::U32(*chain)),
+            TcAttribute::HwOffload(offload) => (TCA_HW_OFFLOAD, Value::U8(*offload)),
+            TcAttribute::Other(nla) => (nla.kind(), Value::Kept(nla.value())),
+        }
+    }
+}
+
 impl<A: Allocator> Nla for TcAttribute<A> {
     fn kind(&self) -> u16 {
-        match self {
-            TcAttribute::Kind(_) => 1,
-            TcAttribute::Options(_) => 2,
-            TcAttribute::OptionsRaw(nla) => nla.kind(),
-            TcAttribute::Stats(_) => 3,
-            TcAttribute::Rate(_) => 5,
-            TcAttribute::Fcnt(_) => 6,
-            TcAttribute::Stab(_) => 8,
-            TcAttribute::DumpInvisible(_) => 10,
-            TcAttribute::Chain(_) => 11,
-            TcAttribute::HwOffload(_) => 12,
-            TcAttribute::Other(nla) => nla.kind(),
-        }
+        self.view().0
     }
 
-    fn fits(&self) -> bool {
-        match self {
-            TcAttribute::Kind(kind) => kind.len() < NLA_VALUE_MAX_SIZE,
-            TcAttribute::Options(options) => nested_fits(options),
-            TcAttribute::OptionsRaw(nla) => nla.fits(),
-            TcAttribute::Rate(bytes) | TcAttribute::Fcnt(bytes) | TcAttribute::Stab(bytes) => {
-                bytes.len() <= NLA_VALUE_MAX_SIZE
-            }
-            TcAttribute::Stats(_)
-            | TcAttribute::DumpInvisible(_)
-            | TcAttribute::Chain(_)
-            | TcAttribute::HwOffload(_) => true,
-            TcAttribute::Other(nla) => nla.fits(),
-        }
-    }
-
-    fn value_len(&self) -> usize {
-        match self {
-            TcAttribute::Kind(kind) => kind.len() + 1,
-            TcAttribute::Options(options) => list_len(options),
-            TcAttribute::OptionsRaw(nla) => nla.value_len(),
-            TcAttribute::Rate(bytes) | TcAttribute::Fcnt(bytes) | TcAttribute::Stab(bytes) => {
-                bytes.len()
-            }
-            TcAttribute::Stats(stats) => stats.buffer_len(),
-            TcAttribute::DumpInvisible(_) => 0,
-            TcAttribute::Chain(_) => 4,
-            TcAttribute::HwOffload(_) => 1,
-            TcAttribute::Other(nla) => nla.value_len(),
-        }
+    fn checked_len(&self) -> Option<usize> {
+        self.view().1.checked_len()
     }
 
     fn put_value(&self, buffer: &mut [u8]) -> usize {
-        match self {
-            TcAttribute::Kind(kind) => put_text(buffer, kind.as_str()),
-            TcAttribute::Options(options) => put_list(options, buffer),
-            TcAttribute::OptionsRaw(nla) => nla.put_value(buffer),
-            TcAttribute::Rate(bytes) | TcAttribute::Fcnt(bytes) | TcAttribute::Stab(bytes) => {
-                put_bytes(buffer, bytes)
-            }
-            TcAttribute::Stats(stats) => {
-                stats.emit(buffer);
-                TC_STATS_LEN
-            }
-            TcAttribute::DumpInvisible(_) => 0,
-            TcAttribute::Chain(chain) => put_u32(buffer, *chain),
-            TcAttribute::HwOffload(offload) => put_u8(buffer, *offload),
-            TcAttribute::Other(nla) => nla.put_value(buffer),
-        }
+        self.view().1.put(buffer)
     }
 
     ghost is_short = { table_short (table attributes) };
