@@ -29,7 +29,7 @@ pub use meaning::{BytesMeaning, FrameMeaning};
 pub use nla::{
     NLA_F_NESTED, NLA_F_NET_BYTEORDER, NLA_HEADER_SIZE, NLA_TYPE_MASK, NLA_VALUE_MAX_SIZE, Nla,
 };
-pub use only_kind::{OnlyKind, SetsKind, only_kind_set};
+pub use only_kind::{OnlyKind, SetsKind, kind_then, only_kind_set};
 pub use parse::{Emitable, Parseable, ParseableBytes, ParseableParametrized};
 pub use settle::{
     Settle, SettleBytes, list_settled_carrying, list_settled_own, list_settled_under,

@@ -1,7 +1,7 @@
 //! The kind that a list tells itself, as an action does: of exactly one attribute that sets it.
 
 ghost use Rattle.std.specs.Prelude.{◌≡◌, ◌++◌, List, ℕ, [], Option};
-ghost use Rattle.nla_frames.specs.OnlyKind.{text_set, Tells};
+ghost use Rattle.nla_frames.specs.OnlyKind.{text_set, kind_after, Tells};
 ghost use Rattle.nla_frames.specs.Place.{kind_before, kinds_set};
 
 /// An attribute that may set the kind of those around it.
@@ -46,4 +46,14 @@ pub fn only_kind_set<T: SetsKind>(items: &[T]) -> OnlyKind<'_>
         only = only.and(item.kind_set());
     }
     only
+}
+
+/// The kind after an element that sets this one, or none.
+pub fn kind_then<'a>(kind: &'a str, set: Option<&'a str>) -> &'a str
+    ensures { result.now ≡ kind_after kind.now (text_set set.entry) }
+{
+    match set {
+        Some(text) => text,
+        None => kind,
+    }
 }

@@ -5,10 +5,10 @@ ghost use Rattle.std.specs.Prelude.{◌≡◌, ◌↔◌, List, ℕ, [], Option,
 ghost use Rattle.std.specs.List.{AllByRecursion};
 ghost use Rattle.nla_frames.specs.Reading.{keep};
 ghost use Rattle.nla_frames.specs.Codec.{SettledEach};
-ghost use Rattle.nla_frames.specs.OnlyKind.{text_set, kind_after, SettledUnderOwn};
+ghost use Rattle.nla_frames.specs.OnlyKind.{SettledUnderOwn};
 
 use crate::meaning::{BytesMeaning, FrameMeaning};
-use crate::only_kind::{OnlyKind, SetsKind, only_kind_set};
+use crate::only_kind::{OnlyKind, SetsKind, kind_then, only_kind_set};
 
 /// An attribute that tells whether it reads back as itself.
 pub trait Settle: FrameMeaning {
@@ -71,15 +71,5 @@ pub fn list_settled_own<T: Settle + SetsKind>(items: &[T]) -> bool
     match only_kind_set(items) {
         OnlyKind::One(kind) => list_settled_under(items, kind),
         _ => false,
-    }
-}
-
-// The kind after an attribute that sets one, or none.
-fn kind_then<'a>(kind: &'a str, set: Option<&'a str>) -> &'a str
-    ensures { result.now ≡ kind_after kind.now (text_set set.entry) }
-{
-    match set {
-        Some(text) => text,
-        None => kind,
     }
 }

@@ -3,7 +3,7 @@ use Rattle.std.specs.Prelude.{ℕ, List, [], map, string_bytes}
 use Rattle.nla_frames.specs.declared.error.DecodeError.{DecodeError}
 use Rattle.nla_frames.specs.ListGrammar.{ListReads, ListFault}
 use Rattle.nla_frames.specs.DefaultNla.{kept_frame}
-use Rattle.tc_canon.specs.Descriptor.{table}
+use Rattle.tc_canon.specs.Descriptor.{table, by_kind, fields}
 use Rattle.tc_wire.specs.Stage.{attributes}
 use Rattle.tc_meaning.specs.Meaning.{table_codec}
 use Rattle.tc_meaning.specs.Message.{kind_of_frame}
@@ -12,6 +12,16 @@ use Rattle.tc_records.specs.Statistics.{stats_scalars}
 use Rattle.tc_wire.specs.declared.attribute.TcAttribute.{TcAttribute}
 use Rattle.tc_wire.specs.declared.attribute.TcAttribute.TheVariants.{Kind, Options, OptionsRaw, Stats, Rate, Fcnt, Stab, DumpInvisible, Chain, HwOffload, Other}
 use Rattle.tc_options.specs.Options.{tc_option}
+use Rattle.tc_options.specs.declared.options.TcOption.{TcOption}
+use Rattle.tc_options.specs.Stage.{option_kinds}
+use Rattle.tc_records.specs.declared.stats.compat.TcStats.{TcStats}
+use Rattle.tc_values.specs.Inner.{Inner}
+use Rattle.tc_values.specs.Bodies.{items_of, part_of, either}
+use Rattle.tc_values.specs.declared.body.Items.{Items}
+use Rattle.tc_values.specs.declared.body.Record.{Record}
+use Rattle.tc_values.specs.declared.body.Either.{Either}
+use Rattle.tc_meaning.specs.Content.{a_record, record_codec}
+use Rattle.tc_canon.specs.Layouts.{stats}
 
 abbrev pub tc_attribute : {A : Type 0} → TcAttribute A → Attribute
 tc_attribute (Kind kind) = known 1 (is_bytes (string_bytes kind))
@@ -33,3 +43,7 @@ ReadsAttributes = ListReads (table_codec (table attributes)).read kind_of_frame 
 -- the first fault of a list of attributes
 abbrev pub AttributesFault : List ℕ → DecodeError → Type 0
 AttributesFault = ListFault (table_codec (table attributes)).read kind_of_frame []
+
+-- what is nested in attributes: options, and statistics
+abbrev pub nested : {A : Type 0} → Inner (Either (Items (TcOption A)) (Record TcStats))
+nested = either (items_of tc_option (by_kind option_kinds)) (part_of stats_scalars a_record (record_codec stats) (fields stats))

@@ -3,7 +3,7 @@ use Rattle.std.specs.Prelude.{ℕ, List, map}
 use Rattle.nla_frames.specs.declared.error.DecodeError.{DecodeError}
 use Rattle.tc_canon.specs.Layouts.{tc_header}
 use Rattle.tc_wire.specs.Stage.{attributes}
-use Rattle.tc_meaning.specs.Message.{Message, ReadsMessage, MessageFault, FitsMessage, message_bytes}
+use Rattle.tc_meaning.specs.Message.{Message, ReadsMessage, MessageFault, FitsMessage, TypedMessage, SettledMessage, message_bytes}
 use Rattle.tc_wire.specs.declared.message.TcMessage.{TcMessage}
 use Rattle.tc_records.specs.Header.{header_scalars}
 use Rattle.tc_wire.specs.Attribute.{tc_attribute}
@@ -27,3 +27,11 @@ FitsTc = FitsMessage tc_header attributes
 -- its bytes: the header, and the frames of the attributes
 abbrev pub tc_bytes : Message → List ℕ
 tc_bytes = message_bytes tc_header attributes
+
+-- numbers lie in their types and texts are UTF-8, as of any message in hand
+abbrev pub TypedTc : Message → Type 0
+TypedTc = TypedMessage tc_header attributes
+
+-- its header is settled, and so is each attribute under the kind that is set last before its place
+abbrev pub SettledTc : Message → Type 0
+SettledTc = SettledMessage tc_header attributes

@@ -1,30 +1,44 @@
 //! The attributes of a message.
 
-ghost use Rattle.std.specs.Prelude.{◌≡◌, List, [], map, IfOk, IsOk};
-ghost use Rattle.nla_frames.specs.Fault.{Gives, IfRefused, seen};
-ghost use Rattle.nla_frames.specs.Value.{text};
+ghost use Rattle.std.specs.Prelude.{◌≡◌, ◌↔◌, List, ℕ, [], map, IfOk, IsTrue};
+ghost use Rattle.nla_frames.specs.Fault.{Gives, IfRefused, seen, read_as};
 ghost use Rattle.nla_frames.specs.Frame.{type_of};
 ghost use Rattle.nla_frames.specs.Buffer.{frame_of};
-ghost use Rattle.nla_frames.specs.Place.{kind_then};
 ghost use Rattle.nla_frames.specs.Reading.{read_list};
-ghost use Rattle.nla_frames.specs.Emission.{list_bytes, ListFits};
-ghost use Rattle.nla_frames.specs.Codec.{SettledEach};
+ghost use Rattle.nla_frames.specs.OnlyKind.{text_set};
+ghost use Rattle.nla_frames.specs.Codec.{list_codec};
 ghost use Rattle.tc_canon.specs.Descriptor.{table};
 ghost use Rattle.tc_wire.specs.Stage.{attributes};
 ghost use Rattle.tc_meaning.specs.Tree.{Attribute};
 ghost use Rattle.tc_meaning.specs.Meaning.{table_codec};
 ghost use Rattle.tc_meaning.specs.Message.{kind_of_frame, kind_of_attribute};
+ghost use Rattle.tc_meaning.specs.OwnGrammar.{first_look};
 ghost use Rattle.tc_meaning.specs.Short.{table_short};
-ghost use Rattle.tc_wire.specs.Attribute.{tc_attribute, ReadsAttributes, AttributesFault};
+ghost use Rattle.tc_values.specs.Value.{value_bytes, ValueFits, TypedValue};
+ghost use Rattle.tc_values.specs.Row.{reads_at};
+ghost use Rattle.tc_wire.specs.Attribute.{tc_attribute, nested, ReadsAttributes, AttributesFault};
 
+use nla_frames::laws::in_hand::{bytes_in_hand, text_in_hand, u8_in_hand, u32_in_hand};
 use nla_frames::{
-    BytesMeaning, DefaultNla, Emitable, FrameMeaning, NLA_VALUE_MAX_SIZE, Nla, NlaBuffer,
-    NlasIterator, Parseable, ParseableBytes, ParseableParametrized, Res, list_len, nested_fits,
-    parse_string, parse_u8, parse_u32, put_bytes, put_list, put_text, put_u8, put_u32, strip_nul,
+    BytesMeaning, DecodeError, DefaultNla, FrameMeaning, NLA_TYPE_MASK, Nla, NlaBuffer,
+    NlasIterator, Parseable, ParseableBytes, ParseableParametrized, Res, SetsKind, Settle,
+    SettleBytes, first_capacity, kind_then, list_settled_under, parse_string, parse_u8, parse_u32, strip_nul,
 };
 use std::alloc::{Allocator, Global};
 use tc_options::{TcOption, VecTcOption, is_known_kind};
-use tc_records::{TC_STATS_LEN, TcStats};
+use tc_records::TcStats;
+use tc_values::{Either, Items, Record, Value};
+
+// The types of a message's attributes, `linux/rtnetlink.h`.
+const TCA_KIND: u16 = 1;
+const TCA_OPTIONS: u16 = 2;
+const TCA_STATS: u16 = 3;
+const TCA_RATE: u16 = 5;
+const TCA_FCNT: u16 = 6;
+const TCA_STAB: u16 = 8;
+const TCA_DUMP_INVISIBLE: u16 = 10;
+const TCA_CHAIN: u16 = 11;
+const TCA_HW_OFFLOAD: u16 = 12;
 
 /// An attribute of a message.
 ///
@@ -145,6 +159,58 @@ impl<A: Allocator> Nla for TcAttribute<A> {
     ghost is_short = { table_short (table attributes) };
 }
 
+// True if attributes of this word's type are read.
+fn is_read(word: u16) -> bool
+    ensures { result ≡ reads_at attributes (type_of word) }
+{
+    matches!(word & NLA_TYPE_MASK, TCA_KIND..=TCA_STATS | TCA_RATE | TCA_FCNT | TCA_STAB | TCA_DUMP_INVISIBLE..=TCA_HW_OFFLOAD)
+}
+
+impl<A: Allocator> Settle for TcAttribute<A> {
+    fn is_settled_under(&self, kind: &str) -> bool {
+        match self {
+            TcAttribute::Kind(text) => {
+                text_in_hand(text.as_str());
+                true
+            }
+            TcAttribute::Options(options) => {
+                is_known_kind(kind) && list_settled_under(options, kind)
+            }
+            TcAttribute::OptionsRaw(nla) => {
+                nla.is_settled_under(kind)
+                    && !is_known_kind(kind)
+                    && nla.kind() & NLA_TYPE_MASK == TCA_OPTIONS
+            }
+            TcAttribute::Stats(stats) => stats.is_settled_under(kind),
+            TcAttribute::Rate(bytes) | TcAttribute::Fcnt(bytes) | TcAttribute::Stab(bytes) => {
+                bytes_in_hand(bytes);
+                true
+            }
+            TcAttribute::DumpInvisible(is_set) => *is_set,
+            TcAttribute::Chain(chain) => {
+                u32_in_hand(*chain);
+                true
+            }
+            TcAttribute::HwOffload(offload) => {
+                u8_in_hand(*offload);
+                true
+            }
+            TcAttribute::Other(nla) => nla.is_settled_under(kind) && !is_read(nla.kind()),
+        }
+    }
+}
+
+impl<A: Allocator> SetsKind for TcAttribute<A> {
+    ghost sets = { λ attribute. kind_of_attribute (tc_attribute attribute) };
+
+    fn kind_set(&self) -> Option<&str> {
+        match self {
+            TcAttribute::Kind(text) => Some(text.as_str()),
+            _ => None,
+        }
+    }
+}
+
 /// The attributes that bytes are, each read under the kind that is set last before it.
 #[derive(Drop)]
 pub struct VecTcAttribute<A: Allocator = Global>(pub Vec<TcAttribute<A>, A>);
@@ -154,13 +220,7 @@ impl<A: Allocator> BytesMeaning for VecTcAttribute<A> {
 
     ghost see = { λ list. map tc_attribute list.0.items };
 
-    ghost reads = { read_list (table_codec (table attributes)).read kind_of_frame [] };
-
-    ghost bytes = { list_bytes (table_codec (table attributes)).write };
-
-    ghost Fits = { ListFits (table_codec (table attributes)).Fits (table_codec (table attributes)).write };
-
-    ghost Settled = { SettledEach (table_codec (table attributes)).Settled kind_of_attribute [] };
+    ghost codec = { list_codec kind_of_frame kind_of_attribute (table_codec (table attributes)) };
 }
 
 impl<A: Allocator + Copy> ParseableBytes<A> for VecTcAttribute<A> {
@@ -169,7 +229,7 @@ impl<A: Allocator + Copy> ParseableBytes<A> for VecTcAttribute<A> {
         ensures found { IfOk result (λ list. ReadsAttributes bytes.now (map tc_attribute list.0.items)) }
         // What is refused has this fault, and it is the first.
         ensures refused { IfRefused result (AttributesFault bytes.now) }
-        // The same, by the function that computes both.
+        // The function that computes both gives what is returned, unless memory ran out.
         ensures exact { Gives (seen (λ list. map tc_attribute list.0.items) result) (read_list (table_codec (table attributes)).read kind_of_frame [] bytes.now) }
     {
         read_attributes(alloc, bytes)
@@ -179,27 +239,43 @@ impl<A: Allocator + Copy> ParseableBytes<A> for VecTcAttribute<A> {
 fn read_attributes<A: Allocator + Copy>(alloc: A, bytes: &[u8]) -> Res<VecTcAttribute<A>>
     ensures { Gives (seen (λ list. map tc_attribute list.0.items) result) (read_list (table_codec (table attributes)).read kind_of_frame [] bytes.now) }
 {
-    let mut list = Vec::new(alloc);
+    let mut list = Vec::with_capacity(alloc, first_capacity(bytes))?;
     let mut kind = "";
     for frame in NlasIterator::new(bytes) {
         let frame = frame?;
-        let item = TcAttribute::parse_with_param(alloc, &frame, kind)?;
-        kind = kind_after(kind, &frame);
+        let told = kind_told(&frame)?;
+        let item = read_attribute(alloc, &frame, told, kind)?;
+        kind = kind_then(kind, told);
         list.push(item)?;
     }
     Ok(VecTcAttribute(list))
 }
 
-// The kind in force after a frame: the text of a frame of type 1, whatever its flags are. A value that is no text
-// leaves the kind; such a frame isn't read.
-fn kind_after<'a>(kind: &'a str, frame: &NlaBuffer<'a>) -> &'a str
-    ensures { (type_of (frame_of frame.now).word ≡ 1 → IsOk (text (frame_of frame.now).value)) → result.now ≡ kind_then kind_of_frame kind.now (frame_of frame.now) }
+// The kind that a frame sets: the text of a frame of type 1, whatever its flags are.
+fn kind_told<'a>(frame: &NlaBuffer<'a>) -> Res<Option<&'a str>>
+    ensures { seen text_set result ≡ first_look [] (frame_of frame.now) }
 {
-    if frame.kind() != 1 {
-        return kind;
+    if frame.kind() != TCA_KIND {
+        return Ok(None);
     }
     match std::str::from_utf8(strip_nul(frame.value())) {
-        Ok(text) => text,
-        Err(_) => kind,
+        Ok(kind) => Ok(Some(kind)),
+        Err(_) => Err(DecodeError::NotUtf8),
+    }
+}
+
+// The attribute of a frame that sets this kind, or none: a text isn't decoded again.
+fn read_attribute<A: Allocator + Copy>(
+    alloc: A,
+    frame: &NlaBuffer<'_>,
+    told: Option<&str>,
+    kind: &str,
+) -> Res<TcAttribute<A>>
+    requires { first_look [] (frame_of frame.now) ≡ read_as (text_set told) }
+    ensures { Gives (seen tc_attribute result) ((table_codec (table attributes)).read kind.now (frame_of frame.now)) }
+{
+    match told {
+        Some(text) => Ok(TcAttribute::Kind(String::from_str(alloc, text)?)),
+        None => TcAttribute::parse_with_param(alloc, frame, kind),
     }
 }

@@ -1,16 +1,20 @@
 //! Whole messages.
 
-ghost use Rattle.std.specs.Prelude.{◌≡◌, ◌≤◌, [], length, drop, IfOk};
+ghost use Rattle.std.specs.Prelude.{◌≡◌, ◌≤◌, ◌↔◌, [], length, drop, IfOk, IsTrue};
 ghost use Rattle.nla_frames.specs.Fault.{Gives, IfRefused, seen};
 ghost use Rattle.tc_canon.specs.Layouts.{tc_header};
 ghost use Rattle.tc_wire.specs.Stage.{attributes};
-ghost use Rattle.tc_meaning.specs.Message.{Message, read_message, message_bytes, FitsMessage, SettledMessage};
+ghost use Rattle.tc_meaning.specs.Message.{Message, read_message, message_codec, kind_of_frame, kind_of_attribute};
 ghost use Rattle.tc_records.specs.Header.{empty_header};
-ghost use Rattle.tc_wire.specs.Message.{tc_message, ReadsTc, FaultTc};
+ghost use Rattle.tc_wire.specs.Message.{tc_message, ReadsTc, FaultTc, SettledTc, TypedTc};
 
 use crate::attribute::{TcAttribute, VecTcAttribute};
-use nla_frames::{BytesMeaning, Emitable, ParseableBytes, Res, list_fits, list_len, put_list};
+use nla_frames::{
+    BytesMeaning, Emitable, ParseableBytes, Res, SettleBytes, list_checked_len,
+    list_settled_carrying, put_list,
+};
 use std::alloc::{Allocator, Global};
+use tc_records::laws::in_hand::header_in_hand;
 use tc_records::{TC_HEADER_LEN, TcHeader};
 
 /// A message about a queueing discipline, a class, a filter or a chain: a header and attributes.
@@ -51,7 +55,7 @@ impl<A: Allocator> TcMessage<A> {
         }
     }
 
-    /// The same for an interface.
+    /// A message of the default header but for the index of an interface, and no attributes.
     pub fn with_index(alloc: A, index: i32) -> TcMessage<A>
         ensures header { result.header ≡ record empty_header { index = index } }
         ensures attributes { result.attributes.items ≡ [] }
@@ -67,13 +71,7 @@ impl<A: Allocator> BytesMeaning for TcMessage<A> {
 
     ghost see = { tc_message };
 
-    ghost reads = { read_message tc_header attributes };
-
-    ghost bytes = { message_bytes tc_header attributes };
-
-    ghost Fits = { FitsMessage tc_header attributes };
-
-    ghost Settled = { SettledMessage tc_header attributes };
+    ghost codec = { message_codec kind_of_frame kind_of_attribute tc_header attributes };
 }
 
 impl<A: Allocator + Copy> ParseableBytes<A> for TcMessage<A> {
@@ -82,7 +80,7 @@ impl<A: Allocator + Copy> ParseableBytes<A> for TcMessage<A> {
         ensures found { IfOk result (λ m. ReadsTc bytes.now (tc_message m)) }
         // What is refused has this fault, and it is the first.
         ensures refused { IfRefused result (FaultTc bytes.now) }
-        // The same, by the function that computes both.
+        // The function that computes both gives what is returned, unless memory ran out.
         ensures exact { Gives (seen tc_message result) (read_message tc_header attributes bytes.now) }
     {
         read(alloc, bytes)
@@ -107,16 +105,27 @@ fn after_header(bytes: &[u8]) -> &[u8]
 }
 
 impl<A: Allocator> Emitable for TcMessage<A> {
-    fn fits(&self) -> bool {
-        list_fits(&self.attributes) && list_len(&self.attributes) <= usize::MAX - TC_HEADER_LEN
-    }
-
-    fn buffer_len(&self) -> usize {
-        TC_HEADER_LEN + list_len(&self.attributes)
+    fn checked_len(&self) -> Option<usize> {
+        match list_checked_len(&self.attributes) {
+            Some(len) => len.checked_add(TC_HEADER_LEN),
+            None => None,
+        }
     }
 
     fn emit(&self, buffer: &mut [u8]) {
         put_list(&self.attributes, &mut buffer[TC_HEADER_LEN..]);
         self.header.emit(buffer);
+    }
+}
+
+impl<A: Allocator> TcMessage<A> {
+    /// True if its bytes, where it can be written, read back as itself: its header is settled, and each attribute is
+    /// under the kind that is set last before its place.
+    pub fn is_settled(&self) -> bool
+        ensures settled { IsTrue result ↔ SettledTc (tc_message self.now) }
+        ensures typed { IsTrue result → TypedTc (tc_message self.now) }
+    {
+        header_in_hand(&self.header);
+        self.header.is_settled() && list_settled_carrying(&self.attributes)
     }
 }
