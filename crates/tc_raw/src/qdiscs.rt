@@ -1,3 +1,3 @@
-//! The bytes of records of queueing disciplines.
+//! The bytes of records of qdiscs.
 
 pub mod fq_codel;

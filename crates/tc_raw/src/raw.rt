@@ -23,9 +23,9 @@ pub(crate) fn first_bytes<const N: usize>(bytes: &[u8]) -> Res<[u8; N]>
 
 /// The bytes of a record that is N bytes long.
 pub(crate) fn record_bytes<R: Emitable, const N: usize>(value: &R) -> [u8; N]
-    requires fits { R.Fits (R.see value.now) }
-    requires whole { length (R.bytes (R.see value.now)) ≡ N }
-    ensures { result ≡ R.bytes (R.see value.now) }
+    requires fits { R.codec.Fits (R.see value.now) }
+    requires whole { length (R.codec.write (R.see value.now)) ≡ N }
+    ensures { result ≡ R.codec.write (R.see value.now) }
 {
     let mut bytes = [0; N];
     value.emit(&mut bytes);

@@ -1,7 +1,7 @@
 -- Keys of a selector as they are read and written, one after the other.
-use Rattle.std.proofs.Common.{◌≡◌, ℕ, suc, ◌+◌, ◌-◌, ◌*◌, ◌<◌, ◌≤◌, List, [], ◌∷◌, ◌++◌, length, map, take, drop, slice_index_or, refl, sym, ◌∙◌, ap, subst, arith, length-append, length-drop, append_assoc}
+use Rattle.std.proofs.Common.{◌≡◌, ℕ, suc, ◌+◌, ◌-◌, ◌*◌, ◌<◌, ◌≤◌, List, [], ◌∷◌, ◌++◌, length, map, take, drop, slice_index_or, refl, sym, ◌∙◌, ap, subst, arith, append_assoc}
 use Rattle.std.proofs.lemmas.List.{map_push, length-take, take_all, append-nil}
-use Rattle.std.proofs.lemmas.Grind.{take_at_read, common_steps}
+use Rattle.std.proofs.lemmas.Grind.{take_at_read}
 use Rattle.std.specs.List.{AllByRecursion}
 use Rattle.nla_frames.specs.Emission.{Writes, HasRoom}
 use Rattle.nla_frames.proofs.Writing.{front_and_back}

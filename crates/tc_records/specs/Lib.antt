@@ -10,3 +10,4 @@ pub mod Actions
 pub mod MessageFlags
 pub mod FilterFlags
 pub mod Selector
+pub mod Defaults

@@ -27,7 +27,7 @@ pub(crate) fn family_bytes(family: AddressFamily) -> [u8; 1]
     [u8::from(family)]
 }
 
-/// Whether it reads back as itself: no `Other` of a number that has a name.
+/// True if it reads back as itself: no `Other` of a number that has a name.
 pub(crate) fn is_settled_family(family: AddressFamily) -> bool
     ensures { IsTrue result ↔ SettledField (named 1 address_families) (family_scalar family) }
 {

@@ -18,10 +18,10 @@ use std::fmt;
 /// How long a header is, in bytes.
 pub const TC_HEADER_LEN: usize = 20;
 
-/// The handle of a queueing discipline, a class or a filter: a major and a minor number.
+/// The handle of a qdisc, a class or a filter: a major and a minor number.
 #[derive(PartialEq, Eq, Clone, Copy, Default, Debug)]
 pub struct TcHandle {
-    /// The upper half of its word, which names a queueing discipline.
+    /// The upper half of its word, which names a qdisc.
     pub major: u16,
     /// The lower half, which names a class of it, or is 0.
     pub minor: u16,
@@ -93,7 +93,7 @@ impl fmt::Display for TcHandle {
 }
 
 /// The header of a traffic control message, `struct tcmsg` of `linux/rtnetlink.h`: a family, three bytes of padding,
-/// then four numbers, low byte first.
+/// then four numbers, little-endian.
 #[derive(PartialEq, Eq, Clone, Default, Drop, Debug)]
 pub struct TcHeader {
     /// The family of addresses, `Unspec` as a rule.
@@ -104,8 +104,8 @@ pub struct TcHeader {
     pub handle: TcHandle,
     /// The handle of its parent; for a block of filters the number of the block.
     pub parent: TcHandle,
-    /// Of a filter its priority, in the upper half, and its protocol, in network order; of a queueing discipline how
-    /// many references it has.
+    /// Of a filter its priority, in the upper half, and its protocol, in network order; of a qdisc how many references
+    /// it has.
     pub info: u32,
 }
 
@@ -134,7 +134,7 @@ impl TcHeader {
         })
     }
 
-    /// Whether it reads back as itself: the family is no `Other` of a number that has a name.
+    /// True if it reads back as itself: the family is no `Other` of a number that has a name.
     pub fn is_settled(&self) -> bool
         ensures { IsTrue result ↔ SettledFields tc_header (header_scalars self.now) }
     {

@@ -1,28 +1,48 @@
-//! What the definitions promise of one another, as contracts of functions that do nothing, and the order of flags.
+//! What the definitions promise of one another, as contracts of functions that do nothing; how flags compare and hash;
+//! and the defaults.
 
-ghost use Rattle.std.specs.Prelude.{◌≡◌, ◌↔◌, ◌<◌, ℕ, List, Ok};
-ghost use Rattle.std.specs.Ordering.{nat_cmp};
+ghost use Rattle.std.specs.Prelude.{◌≡◌, ◌↔◌, ◌<◌, ℕ, pos, negsuc, List, fold, Ok, Some, IsTrue};
+ghost use Rattle.std.specs.Ordering.{nat_cmp, is_eq};
+ghost use Rattle.std.specs.Hash as fed;
 ghost use Rattle.std.specs.Int.{w32, cast_unsigned};
 ghost use Rattle.nla_frames.specs.Value.{le_bytes};
 ghost use Rattle.tc_canon.specs.Descriptor.{Field, named};
 ghost use Rattle.tc_canon.specs.Layouts.{action_types, mirror_action_types};
+ghost use Rattle.tc_canon.specs.Layouts.{action_message_header, stats, stats_basic, stats_queue, fq_codel_qd_stats, fq_codel_cl_stats, tcf, selector_key};
 ghost use Rattle.tc_canon.specs.Canonical.{CanonFields};
 ghost use Rattle.tc_meaning.specs.Tree.{Scalar};
 ghost use Rattle.tc_meaning.specs.Layout.{read_field, fields_bytes, TypedFields, SettledFields};
 ghost use Rattle.tc_meaning.specs.Content.{read_record};
 ghost use Rattle.tc_records.specs.ActionType.{action_type_of, action_type_number, action_type_scalar};
 ghost use Rattle.tc_records.specs.MirrorActionType.{mirror_action_type_of, mirror_action_type_number, mirror_action_type_scalar};
-ghost use Rattle.tc_records.specs.declared.header.TcHandle.{TcHandle};
-ghost use Rattle.tc_records.specs.Header.{handle_of, handle_number};
+ghost use Rattle.tc_records.specs.Header.{handle_of, handle_number, empty_header};
+ghost use Rattle.tc_records.specs.Statistics.{stats_scalars, basic_scalars, queue_scalars, qd_stats_scalars, cl_stats_scalars};
+ghost use Rattle.tc_records.specs.Tcf.{tcf_scalars};
+ghost use Rattle.tc_records.specs.Actions.{action_message_header_scalars, mirror_scalars, tunnel_key_scalars, empty_generic, IsEmptyNat};
+ghost use Rattle.tc_records.specs.Selector.{key_scalars};
+ghost use Rattle.tc_records.specs.Defaults.{DefaultsTo, zeros, mirror_default, tunnel_key_default};
 ghost use Rattle.tc_records.specs.Flags.{KnowsEvery};
-ghost use Rattle.tc_records.specs.NatFlags.{nat_flags_table};
+ghost use Rattle.tc_records.specs.NatFlags.{nat_flags_word, nat_flags_table};
 ghost use Rattle.tc_records.specs.MessageFlags.{message_flags_word, message_flags_table};
-ghost use Rattle.tc_records.specs.FilterFlags.{bpf_flags_table, selector_flags_table, option_flags_table};
+ghost use Rattle.tc_records.specs.FilterFlags.{bpf_flags_table, selector_flags_byte, selector_flags_table, option_flags_table};
 
 pub mod in_hand;
 
+use crate::actions::action::{TcActionGeneric, TcActionType};
+use crate::actions::header::TcActionMessageHeader;
 use crate::actions::message_flags::TcActionMessageFlags;
+use crate::actions::mirror::{TcMirror, TcMirrorActionType};
+use crate::actions::nat::TcNat;
+use crate::actions::nat_flag::TcNatFlags;
+use crate::actions::tcf::Tcf;
+use crate::actions::tunnel_key::TcTunnelKey;
+use crate::filters::u32_flags::TcU32SelectorFlags;
+use crate::filters::u32_selector::TcU32Key;
+use crate::header::{TcHandle, TcHeader};
+use crate::qdiscs::fq_codel::{TcFqCodelClStats, TcFqCodelQdStats};
+use crate::stats::{TcStats, TcStatsBasic, TcStatsQueue};
 use std::cmp::Ordering;
+use std::hash::{Hash, Hasher};
 
 /// A record of any layout. Its bytes read as it exactly if it is settled; and bytes that are read as a record are its
 /// bytes exactly if they are as long as the record and their padding is zero. Such bytes are read, as a settled record,
@@ -59,9 +79,51 @@ pub fn flag_words()
     ensures option { KnowsEvery 32 option_flags_table }
 {}
 
-/// The flags of a message of actions compare as their words do.
-pub fn message_flags_order(first: TcActionMessageFlags, second: TcActionMessageFlags) -> Ordering
-    ensures { result ≡ nat_cmp (message_flags_word first) (message_flags_word second) }
+/// The flags of action messages compare as their words do, by `cmp` and `partial_cmp`; they are equal exactly if they
+/// compare as `Equal`.
+pub fn message_flags_order(
+    first: TcActionMessageFlags,
+    second: TcActionMessageFlags,
+) -> (Ordering, Option<Ordering>, bool)
+    ensures cmp { result.0 ≡ nat_cmp (message_flags_word first) (message_flags_word second) }
+    ensures partial_cmp { result.1 ≡ Some (nat_cmp (message_flags_word first) (message_flags_word second)) }
+    ensures eq { IsTrue result.2 ↔ first ≡ second }
+    ensures equal { result.2 ≡ is_eq result.0 }
 {
-    first.cmp(&second)
+    (
+        first.cmp(&second),
+        first.partial_cmp(&second),
+        first == second,
+    )
 }
+
+/// The flags of an action message hash as their word does, so equal flags hash alike.
+pub fn message_flags_hash<H: Hasher>(flags: TcActionMessageFlags, state: &mut H)
+    ensures { state.new ≡ fold H.write state.old (fed.u32 (message_flags_word flags)) }
+{
+    flags.hash(state);
+}
+
+/// The default of each type that has one: no flag, every number 0, and the family `Unspec`; but an action's outcome
+/// is `Unspec`, which is -1, and a mirror's direction is `EgressRedir`, which is 1.
+pub fn defaults()
+    ensures handle { DefaultsTo ⟦<TcHandle as Default>⟧.is_default (λ x. x) (handle_of 0) }
+    ensures header { DefaultsTo ⟦<TcHeader as Default>⟧.is_default (λ x. x) empty_header }
+    ensures action_header { DefaultsTo ⟦<TcActionMessageHeader as Default>⟧.is_default action_message_header_scalars (zeros action_message_header) }
+    ensures stats { DefaultsTo ⟦<TcStats as Default>⟧.is_default stats_scalars (zeros stats) }
+    ensures basic { DefaultsTo ⟦<TcStatsBasic as Default>⟧.is_default basic_scalars (zeros stats_basic) }
+    ensures queue { DefaultsTo ⟦<TcStatsQueue as Default>⟧.is_default queue_scalars (zeros stats_queue) }
+    ensures qdisc { DefaultsTo ⟦<TcFqCodelQdStats as Default>⟧.is_default qd_stats_scalars (zeros fq_codel_qd_stats) }
+    ensures class { DefaultsTo ⟦<TcFqCodelClStats as Default>⟧.is_default cl_stats_scalars (zeros fq_codel_cl_stats) }
+    ensures times { DefaultsTo ⟦<Tcf as Default>⟧.is_default tcf_scalars (zeros tcf) }
+    ensures key { DefaultsTo ⟦<TcU32Key as Default>⟧.is_default key_scalars (zeros selector_key) }
+    ensures outcome { DefaultsTo ⟦<TcActionType as Default>⟧.is_default action_type_number (negsuc 0) }
+    ensures direction { DefaultsTo ⟦<TcMirrorActionType as Default>⟧.is_default mirror_action_type_number (pos 1) }
+    ensures generic { DefaultsTo ⟦<TcActionGeneric as Default>⟧.is_default (λ x. x) empty_generic }
+    ensures mirror { DefaultsTo ⟦<TcMirror as Default>⟧.is_default mirror_scalars mirror_default }
+    ensures nat { (x : TcNat) → ⟦<TcNat as Default>⟧.is_default x → IsEmptyNat x }
+    ensures tunnel { DefaultsTo ⟦<TcTunnelKey as Default>⟧.is_default tunnel_key_scalars tunnel_key_default }
+    ensures nat_flags { DefaultsTo ⟦<TcNatFlags as Default>⟧.is_default nat_flags_word 0 }
+    ensures message_flags { DefaultsTo ⟦<TcActionMessageFlags as Default>⟧.is_default message_flags_word 0 }
+    ensures selector_flags { DefaultsTo ⟦<TcU32SelectorFlags as Default>⟧.is_default selector_flags_byte 0 }
+{}

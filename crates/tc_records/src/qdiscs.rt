@@ -1,3 +1,3 @@
-//! The records of queueing disciplines.
+//! The records of qdiscs.
 
 pub mod fq_codel;

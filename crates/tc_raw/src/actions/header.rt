@@ -1,4 +1,4 @@
-//! The bytes of the header of a message of actions.
+//! The bytes of the header of an action message.
 
 ghost use Rattle.std.specs.Prelude.{◌≡◌};
 ghost use Rattle.nla_frames.specs.Fault.{seen};
@@ -11,7 +11,7 @@ use crate::raw::{first_bytes, record_bytes};
 use nla_frames::Res;
 use tc_records::{TCA_HEADER_LEN, TcActionMessageHeader};
 
-/// The bytes of the header of a message of actions, `struct tcamsg` of `linux/rtnetlink.h`, the padding as it stands.
+/// The bytes of the header of an action message, `struct tcamsg` of `linux/rtnetlink.h`, the padding as it stands.
 #[derive(PartialEq, Eq, Clone, Drop, Debug)]
 pub struct TcActionMessageBuffer {
     bytes: [u8; TCA_HEADER_LEN],

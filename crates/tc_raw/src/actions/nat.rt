@@ -8,7 +8,8 @@ ghost use Rattle.tc_records.specs.Actions.{nat_scalars};
 ghost use Rattle.tc_raw.specs.Buffers.{first_bytes, nat_bytes};
 
 use crate::raw::{first_bytes, record_bytes};
-use nla_frames::{Emitable, Res};
+use nla_frames::Res;
+use tc_records::laws::in_hand::nat_in_hand;
 use tc_records::{TC_NAT_LEN, TcNat};
 
 /// The bytes of the record of a network address translation, `struct tc_nat` of `linux/tc_act/tc_nat.h`.
@@ -39,7 +40,7 @@ impl From<&tc_records::TcNat> for TcNatBuffer {
     ghost from_gives = { λ action buffer. nat_bytes buffer ≡ fields_bytes nat (nat_scalars action.now) };
 
     fn from(action: &TcNat) -> TcNatBuffer {
-        prove!(action.buffer_len() == TC_NAT_LEN);
+        nat_in_hand(action);
         TcNatBuffer {
             bytes: record_bytes(action),
         }

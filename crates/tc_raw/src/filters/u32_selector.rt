@@ -62,7 +62,7 @@ impl TcU32SelectorBuffer {
         })
     }
 
-    /// The same where the keys that it counts follow; else `SelectorShort`.
+    /// The bytes at the front, where the keys that they count follow; else `SelectorShort`.
     pub fn new_checked(bytes: &[u8]) -> Res<TcU32SelectorBuffer>
         ensures { seen selector_bytes result ≡ checked_head bytes.now }
     {

@@ -13,7 +13,7 @@ use tc_records::{
     TC_FQ_CODEL_CL_STATS_LEN, TC_FQ_CODEL_QD_STATS_LEN, TcFqCodelClStats, TcFqCodelQdStats,
 };
 
-/// The bytes of the statistics of a queueing discipline, `struct tc_fq_codel_qd_stats` of `linux/pkt_sched.h`.
+/// The bytes of the statistics of a qdisc, `struct tc_fq_codel_qd_stats` of `linux/pkt_sched.h`.
 #[derive(PartialEq, Eq, Clone, Drop, Debug)]
 pub struct TcFqCodelQdStatsBuffer {
     bytes: [u8; TC_FQ_CODEL_QD_STATS_LEN],

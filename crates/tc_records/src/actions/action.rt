@@ -112,7 +112,7 @@ pub(crate) fn action_type_bytes(action: TcActionType) -> [u8; 4]
     i32_bytes(i32::from(action))
 }
 
-/// Whether it reads back as itself: no `Other` of a number that has a name.
+/// True if it reads back as itself: no `Other` of a number that has a name.
 pub(crate) fn is_settled_action_type(action: TcActionType) -> bool
     ensures { IsTrue result ↔ SettledField (named 4 action_types) (action_type_scalar action) }
 {
@@ -122,7 +122,7 @@ pub(crate) fn is_settled_action_type(action: TcActionType) -> bool
     }
 }
 
-/// What the record of every action begins with, `tc_gen` of `linux/pkt_cls.h`: five numbers, low byte first.
+/// What the record of every action begins with, `tc_gen` of `linux/pkt_cls.h`: five numbers, little-endian.
 #[derive(PartialEq, Eq, Clone, Copy, Default, Debug)]
 pub struct TcActionGeneric {
     /// The number of the action among those of its kind; at 0 the kernel chooses one.
@@ -149,7 +149,7 @@ impl TcActionGeneric {
         Ok(generic)
     }
 
-    /// Whether it reads back as itself: the outcome is no `Other` of a number that has a name.
+    /// True if it reads back as itself: the outcome is no `Other` of a number that has a name.
     pub fn is_settled(&self) -> bool
         ensures { IsTrue result ↔ SettledFields action_generic (generic_scalars self.now) }
     {

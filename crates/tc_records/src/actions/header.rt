@@ -1,4 +1,4 @@
-//! The header of a message of actions.
+//! The header of an action message.
 
 ghost use Rattle.std.specs.Prelude.{◌≡◌, ◌↔◌, IsTrue, List};
 ghost use Rattle.nla_frames.specs.Fault.{seen};
@@ -15,7 +15,7 @@ use nla_frames::{AddressFamily, BytesMeaning, Emitable, Res, SettleBytes, put_by
 /// How long a header is, in bytes.
 pub const TCA_HEADER_LEN: usize = 4;
 
-/// The header of a message of actions, `struct tcamsg` of `linux/rtnetlink.h`: a family, then three bytes of padding.
+/// The header of an action message, `struct tcamsg` of `linux/rtnetlink.h`: a family, then three bytes of padding.
 #[derive(PartialEq, Eq, Clone, Default, Drop, Debug)]
 pub struct TcActionMessageHeader {
     /// The family of addresses, `Unspec` as a rule.
@@ -34,7 +34,7 @@ impl TcActionMessageHeader {
         Ok(TcActionMessageHeader { family })
     }
 
-    /// Whether it reads back as itself: the family is no `Other` of a number that has a name.
+    /// True if it reads back as itself: the family is no `Other` of a number that has a name.
     pub fn is_settled(&self) -> bool
         ensures { IsTrue result ↔ SettledFields action_message_header (action_message_header_scalars self.now) }
     {

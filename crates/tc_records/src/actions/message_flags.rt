@@ -1,4 +1,4 @@
-//! The flags of a message of actions.
+//! The flags of an action message.
 
 use bitflags::{Flag, Flags};
 

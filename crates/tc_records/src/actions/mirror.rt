@@ -83,7 +83,7 @@ fn mirror_action_type_bytes(action: TcMirrorActionType) -> [u8; 4]
     i32_bytes(i32::from(action))
 }
 
-// Whether it reads back as itself: no `Other` of a number that has a name.
+// True if it reads back as itself: no `Other` of a number that has a name.
 fn is_settled_mirror_action_type(action: TcMirrorActionType) -> bool
     ensures { IsTrue result ↔ SettledField (named 4 mirror_action_types) (mirror_action_type_scalar action) }
 {
@@ -96,8 +96,8 @@ fn is_settled_mirror_action_type(action: TcMirrorActionType) -> bool
     }
 }
 
-/// Packets that are redirected or copied to an interface, `struct tc_mirred` of `linux/tc_act/tc_mirred.h`: numbers, low
-/// byte first.
+/// Packets that are redirected or copied to an interface, `struct tc_mirred` of `linux/tc_act/tc_mirred.h`: numbers,
+/// little-endian.
 #[derive(PartialEq, Eq, Clone, Default, Drop, Debug)]
 pub struct TcMirror {
     /// What every action has.
@@ -126,7 +126,7 @@ impl TcMirror {
         })
     }
 
-    /// Whether it reads back as itself: neither of its named numbers is an `Other` of a number that has a name.
+    /// True if it reads back as itself: neither of its named numbers is an `Other` of a number that has a name.
     pub fn is_settled(&self) -> bool
         ensures { IsTrue result ↔ SettledFields mirror (mirror_scalars self.now) }
     {

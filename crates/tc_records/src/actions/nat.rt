@@ -22,8 +22,8 @@ pub const TC_NAT_LEN: usize = 36;
 
 const NOWHERE: Ipv4Addr = Ipv4Addr::UNSPECIFIED;
 
-/// A translation of addresses, `struct tc_nat` of `linux/tc_act/tc_nat.h`. An address stands as its four bytes, a number
-/// with its low byte first.
+/// A translation of addresses, `struct tc_nat` of `linux/tc_act/tc_nat.h`. An address stands as its four bytes; numbers
+/// are little-endian.
 #[derive(PartialEq, Eq, Clone, Drop, Debug)]
 pub struct TcNat {
     /// What every action has.
@@ -77,7 +77,7 @@ impl TcNat {
         })
     }
 
-    /// Whether it reads back as itself: the outcome is no `Other` of a number that has a name.
+    /// True if it reads back as itself: the outcome is no `Other` of a number that has a name.
     pub fn is_settled(&self) -> bool
         ensures { IsTrue result ↔ SettledFields nat (nat_scalars self.now) }
     {
@@ -123,7 +123,8 @@ impl BytesMeaning for TcNat {
 
 impl Emitable for TcNat {
     fn checked_len(&self) -> Option<usize> {
-        Some(self.to_bytes().len())
+        nat_in_hand(self);
+        Some(TC_NAT_LEN)
     }
 
     fn emit(&self, buffer: &mut [u8]) {

@@ -14,7 +14,7 @@ use nla_frames::{BytesMeaning, Emitable, Res, SettleBytes, put_bytes, u64_bytes}
 /// How long the times of an action are, in bytes.
 pub const TCF_LEN: usize = 32;
 
-/// The times of an action, `struct tcf_t` of `linux/pkt_cls.h`: four numbers of clock ticks, low byte first.
+/// The times of an action, `struct tcf_t` of `linux/pkt_cls.h`: four numbers of clock ticks, little-endian.
 #[derive(PartialEq, Eq, Clone, Default, Drop, Debug)]
 pub struct Tcf {
     /// Since it was made.

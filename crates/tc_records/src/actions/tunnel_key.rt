@@ -16,7 +16,7 @@ use nla_frames::{BytesMeaning, Emitable, Res, SettleBytes, i32_bytes, put_bytes}
 pub const TC_TUNNEL_KEY_LEN: usize = 24;
 
 /// A tunnel's metadata is set on packets or released, `struct tc_tunnel_key` of
-/// `linux/tc_act/tc_tunnel_key.h`: numbers, low byte first.
+/// `linux/tc_act/tc_tunnel_key.h`: numbers, little-endian.
 #[derive(PartialEq, Eq, Clone, Default, Drop, Debug)]
 pub struct TcTunnelKey {
     /// What every action has.
@@ -38,7 +38,7 @@ impl TcTunnelKey {
         Ok(TcTunnelKey { generic, t_action })
     }
 
-    /// Whether it reads back as itself: the outcome is no `Other` of a number that has a name.
+    /// True if it reads back as itself: the outcome is no `Other` of a number that has a name.
     pub fn is_settled(&self) -> bool
         ensures { IsTrue result ↔ SettledFields tunnel_key (tunnel_key_scalars self.now) }
     {

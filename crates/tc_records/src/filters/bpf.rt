@@ -8,7 +8,7 @@ pub struct TcBpfFlags(u32);
 
 #[allow(non_upper_case_globals)]
 impl TcBpfFlags {
-    /// What the program answers is an action: `TCA_BPF_FLAG_ACT_DIRECT`.
+    /// What the program returns is an action: `TCA_BPF_FLAG_ACT_DIRECT`.
     pub const DirectAction: TcBpfFlags = TcBpfFlags(0x1);
 
     // Every flag with its name, and one without that has all bits: so every bit is known.

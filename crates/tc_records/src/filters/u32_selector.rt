@@ -34,11 +34,11 @@ pub const TC_U32_SELECTOR_LEN: usize = 16;
 /// A word of a packet that is compared, `struct tc_u32_key` of `linux/pkt_cls.h`.
 #[derive(PartialEq, Eq, Clone, Default, Drop, Debug)]
 pub struct TcU32Key {
-    /// The bits that are compared, high byte first.
+    /// The bits that are compared, big-endian.
     pub mask: u32,
-    /// What they are to be, high byte first.
+    /// What they are to be, big-endian.
     pub val: u32,
-    /// Where the word stands, in bytes; low byte first, as the field after it.
+    /// Where the word stands, in bytes; little-endian, as the field after it.
     pub off: i32,
     /// The bits of the offset read of the packet that count here.
     pub offmask: i32,
@@ -145,7 +145,7 @@ fn put_keys(buffer: &mut [u8], keys: &[TcU32Key])
 }
 
 /// What a u32 filter compares with a packet, `struct tc_u32_sel` of `linux/pkt_cls.h`. The filter matches where
-/// each of its keys does. Numbers have their low byte first unless said otherwise; a byte of padding follows `nkeys`.
+/// each of its keys does. Numbers are little-endian unless said otherwise; a byte of padding follows `nkeys`.
 #[derive(Drop)]
 #[derive_where(Debug, PartialEq, Eq)]
 #[derive_where(Clone; A)]
@@ -156,7 +156,7 @@ pub struct TcU32Selector<A: Allocator = Global> {
     pub offshift: u8,
     /// How many keys there are, which is to be the length of `keys`.
     pub nkeys: u8,
-    /// The bits of the offset that is read of the packet, high byte first.
+    /// The bits of the offset that is read of the packet, big-endian.
     pub offmask: u16,
     /// Where the next header stands, in bytes.
     pub off: u16,
@@ -164,7 +164,7 @@ pub struct TcU32Selector<A: Allocator = Global> {
     pub offoff: i16,
     /// Where in the packet the word stands that is hashed, in bytes.
     pub hoff: i16,
-    /// The bits of that word that are hashed, high byte first.
+    /// The bits of that word that are hashed, big-endian.
     pub hmask: u32,
     /// What is compared.
     pub keys: Vec<TcU32Key, A>,
@@ -259,7 +259,7 @@ fn u8_bytes(value: u8) -> [u8; 1]
     [value]
 }
 
-// The two bytes of a signed number, the low byte first.
+// The two bytes of a signed number, little-endian.
 fn i16_bytes(value: i16) -> [u8; 2]
     ensures { result ≡ le_bytes 2 (cast_unsigned w16 value) }
 {

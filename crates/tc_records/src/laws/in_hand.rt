@@ -49,10 +49,10 @@ pub fn header_in_hand(header: &TcHeader)
 }
 
 /// The header of an action message.
-pub fn action_message_header_in_hand(header: &TcActionMessageHeader)
-    ensures { TypedFields action_message_header (action_message_header_scalars header.now) }
+pub fn action_message_header_in_hand(message: &TcActionMessageHeader)
+    ensures { TypedFields action_message_header (action_message_header_scalars message.now) }
 {
-    family_in_hand(header.family);
+    family_in_hand(message.family);
 }
 
 /// The statistics of a queue as one record.

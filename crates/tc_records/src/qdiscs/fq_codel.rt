@@ -1,4 +1,4 @@
-//! The statistics of the queueing discipline fq_codel.
+//! The statistics of the qdisc fq_codel.
 
 ghost use Rattle.std.specs.Prelude.{◌≡◌, List};
 ghost use Rattle.nla_frames.specs.Fault.{seen};
@@ -11,14 +11,13 @@ use crate::laws::in_hand::{cl_stats_in_hand, qd_stats_in_hand};
 use crate::split::{at_least, split_i32, split_u32};
 use nla_frames::{BytesMeaning, Emitable, Res, SettleBytes, i32_bytes, put_bytes, u32_bytes};
 
-/// How long the statistics of a queueing discipline are, in bytes.
+/// How long the statistics of a qdisc are, in bytes.
 pub const TC_FQ_CODEL_QD_STATS_LEN: usize = 36;
 
 /// How long the statistics of a class are, in bytes.
 pub const TC_FQ_CODEL_CL_STATS_LEN: usize = 24;
 
-/// The statistics of a queueing discipline, `struct tc_fq_codel_qd_stats` of `linux/pkt_sched.h`: nine numbers,
-/// low byte first.
+/// The statistics of a qdisc, `struct tc_fq_codel_qd_stats` of `linux/pkt_sched.h`: nine numbers, little-endian.
 #[derive(PartialEq, Eq, Clone, Copy, Default, Debug)]
 pub struct TcFqCodelQdStats {
     /// The bytes of the largest packet that was seen.
@@ -120,7 +119,7 @@ impl SettleBytes for TcFqCodelQdStats {
 }
 
 /// The statistics of a class, which is one flow, `struct tc_fq_codel_cl_stats` of `linux/pkt_sched.h`: six numbers,
-/// low byte first. They are read and written, and shown by `Debug`.
+/// little-endian. They are read and written, and shown by `Debug`.
 #[derive(PartialEq, Eq, Clone, Copy, Default, Debug)]
 pub struct TcFqCodelClStats {
     // Bytes that the flow may send before the next one's turn; negative once it sent more.

@@ -14,7 +14,7 @@ use nla_frames::{BytesMeaning, Emitable, Res, SettleBytes, put_bytes, u32_bytes,
 /// How long basic statistics are, in bytes.
 pub const TC_STATS_BASIC_LEN: usize = 16;
 
-/// What went through a queue, `struct gnet_stats_basic` of `linux/gen_stats.h`: two numbers, low byte first, and
+/// What went through a queue, `struct gnet_stats_basic` of `linux/gen_stats.h`: two numbers, little-endian, and
 /// four bytes of padding.
 #[derive(PartialEq, Eq, Clone, Copy, Default, Debug)]
 pub struct TcStatsBasic {

@@ -14,7 +14,7 @@ use nla_frames::{BytesMeaning, Emitable, Res, SettleBytes, put_bytes, u32_bytes,
 /// How long the statistics of a queue are, in bytes.
 pub const TC_STATS_LEN: usize = 40;
 
-/// The statistics of a queue, `struct tc_stats` of `linux/pkt_sched.h`: eight numbers, low byte first, and four
+/// The statistics of a queue, `struct tc_stats` of `linux/pkt_sched.h`: eight numbers, little-endian, and four
 /// bytes of padding.
 #[derive(PartialEq, Eq, Clone, Copy, Default, Debug)]
 pub struct TcStats {

@@ -14,8 +14,8 @@ use nla_frames::{BytesMeaning, Emitable, Res, SettleBytes, put_bytes, u32_bytes}
 /// How long queue statistics are, in bytes.
 pub const TC_STATS_QUEUE_LEN: usize = 20;
 
-/// What waits in a queue and what it refused, `struct gnet_stats_queue` of `linux/gen_stats.h`: five numbers, low
-/// byte first.
+/// What waits in a queue and what it refused, `struct gnet_stats_queue` of `linux/gen_stats.h`: five numbers,
+/// little-endian.
 #[derive(PartialEq, Eq, Clone, Copy, Default, Debug)]
 pub struct TcStatsQueue {
     /// Packets in the queue.
