@@ -1,6 +1,8 @@
 //! What no clause says: values from outside, and readers and writers that fail.
 
+use crate::arguments::{Request, read_arguments, request_of};
 use crate::mode::Mode;
+use crate::program::serve;
 use crate::run::{RunError, run};
 use failing::Failing;
 use std::alloc::{AllocError, Global};
