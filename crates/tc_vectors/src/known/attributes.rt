@@ -1,6 +1,8 @@
 //! The attributes of a message, type by type.
 
-use nla_frames::{DefaultNla, Nla, NlaBuffer, ParseableParametrized};
+use nla_frames::{
+    DefaultNla, Nla, NlaBuffer, ParseableParametrized, emit_list, list_fits, list_len,
+};
 use std::alloc::Global;
 use std::process::Abort;
 use std::test::Fail;
@@ -8,15 +10,14 @@ use tc_options::{TcOption, TcQdiscFqCodelOption};
 use tc_records::TcStats;
 use tc_wire::TcAttribute;
 
-/// Asserts that an attribute is written as a frame.
-pub(crate) fn is_written<T: Nla>(rt: &impl Abort, attribute: &T, frame: &[u8]) -> Result<(), Fail> {
+/// Asserts that a list of one attribute is written as its frame.
+pub(crate) fn are_written<T: Nla>(rt: &impl Abort, list: &[T], frame: &[u8]) {
     let mut buffer = [0x55; 64];
-    assert!(rt; attribute.fits());
-    assert_eq!(rt; attribute.frame_len(), frame.len());
+    assert!(rt; list_fits(list));
+    assert_eq!(rt; list_len(list), frame.len());
     assert!(rt; frame.len() <= buffer.len());
-    attribute.emit_frame(&mut buffer);
+    emit_list(list, &mut buffer);
     assert_eq!(rt; &buffer[..frame.len()], frame);
-    Ok(())
 }
 
 /// Asserts that a frame reads as an attribute under a kind, and that the attribute is written as the frame.
@@ -29,7 +30,8 @@ fn is_known(
 ) -> Result<(), Fail> {
     let read = TcAttribute::parse_with_param(alloc, &NlaBuffer::new_checked(frame)?, kind)?;
     assert_eq!(rt; read, attribute);
-    is_written(rt, &attribute, frame)
+    are_written(rt, &[attribute], frame);
+    Ok(())
 }
 
 fn bytes(alloc: Global) -> Result<Vec<u8>, Fail> {

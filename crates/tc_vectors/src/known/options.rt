@@ -1,6 +1,6 @@
 //! The options of fq_codel, type by type.
 
-use super::attributes::is_written;
+use super::attributes::are_written;
 use nla_frames::{NlaBuffer, Parseable};
 use std::alloc::Global;
 use std::process::Abort;
@@ -16,7 +16,8 @@ fn is_known(
 ) -> Result<(), Fail> {
     let read = TcQdiscFqCodelOption::parse(alloc, &NlaBuffer::new_checked(frame)?)?;
     assert_eq!(rt; read, option);
-    is_written(rt, &option, frame)
+    are_written(rt, &[option], frame);
+    Ok(())
 }
 
 #[test]
