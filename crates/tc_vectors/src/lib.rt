@@ -8,6 +8,8 @@ mod canonical;
 #[cfg(test)]
 mod frames;
 #[cfg(test)]
+mod known;
+#[cfg(test)]
 mod messages;
 #[cfg(test)]
 mod records;

@@ -1,7 +1,7 @@
 -- What an answer in memory stands for.
 use Rattle.std.specs.Prelude.{string_bytes}
 use Rattle.tcrewrite.specs.Report.{Report}
-use Rattle.tcrewrite.specs.declared.output.Answer.{Answer}
+use Rattle.tcrewrite.specs.declared.answer.Answer.{Answer}
 
 -- the report that an answer holds
 abbrev pub report_of : {A : Type 0} → Answer A → Report

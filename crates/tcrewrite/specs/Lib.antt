@@ -1,4 +1,5 @@
 pub mod Word
+pub mod Arguments
 pub mod Text
 pub mod Report
 pub mod Answer

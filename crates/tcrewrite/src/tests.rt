@@ -1,11 +1,15 @@
 //! What no clause says: values from outside, and readers and writers that fail.
 
+use crate::arguments::{Request, read_arguments};
 use crate::mode::Mode;
+use crate::program::serve;
 use crate::run::{RunError, run};
 use failing::Failing;
 use std::alloc::{AllocError, Global};
+use std::env::FillError;
 use std::io::{Cursor, Error, ErrorKind, Read, Result, Write};
 use std::process::Abort;
+use std::rt::Env;
 use std::test::Fail;
 
 // A message with the kind fq_codel and a limit of 10240 packets.
@@ -287,4 +291,108 @@ fn knows_one_word(rt: HostRuntime) {
     ] {
         assert_eq!(rt; Mode::from_word(word), mode, "{word}");
     }
+}
+
+// The arguments of a program.
+#[derive(Clone, Copy)]
+struct Words(&'static [&'static str]);
+
+impl Env for Words {
+    fn arg(&self, i: usize, buf: &mut [u8]) -> std::result::Result<usize, FillError> {
+        let Some(word) = self.0.get(i) else {
+            return Err(FillError::NotPresent);
+        };
+        if word.len() > buf.len() {
+            return Err(FillError::TooLong);
+        }
+        buf[..word.len()].copy_from_slice(word.as_bytes());
+        Ok(word.len())
+    }
+
+    fn var(&self, _name: &str, _buf: &mut [u8]) -> std::result::Result<usize, FillError> {
+        Err(FillError::NotPresent)
+    }
+
+    fn var_at(&self, _i: usize, _buf: &mut [u8]) -> std::result::Result<usize, FillError> {
+        Err(FillError::NotPresent)
+    }
+}
+
+// The program's name comes first.
+#[test]
+fn takes_one_word_at_most(rt: HostRuntime) {
+    let none: &'static [&'static str] = &[];
+    for (words, request) in [
+        (none, Request::Report(Mode::Tc)),
+        (&["tcrewrite"], Request::Report(Mode::Tc)),
+        (&["tcrewrite", "tc"], Request::Report(Mode::Tc)),
+        (&["tcrewrite", ""], Request::Usage),
+        (&["tcrewrite", "--help"], Request::Usage),
+        (&["tcrewrite", "tc", "tc"], Request::Usage),
+        (&["tc", "tc", "tc", "tc"], Request::Usage),
+    ] {
+        let read = read_arguments(&(Words(words), rt.alloc()));
+        assert_eq!(rt; read, request, "{} words", words.len());
+    }
+}
+
+// Where a request for memory is refused, that is told, or a smaller one serves; the words are never taken for others.
+#[test]
+fn arguments_take_memory(rt: HostRuntime) {
+    let words = Words(&["tcrewrite", "tc"]);
+    let mut refusals = 0;
+    for at in 1..1000u64 {
+        let failing = Failing::new(rt.alloc(), at);
+        let read = read_arguments(&(words, &failing));
+        if read != Request::NoMemory {
+            assert_eq!(rt; read, Request::Report(Mode::Tc), "request {at}");
+            if !failing.has_refused() {
+                break;
+            }
+        }
+        refusals = at;
+    }
+    assert!(rt; 2 < refusals && refusals < 999, "{refusals} requests");
+}
+
+// Asserts the status of a program over a reader and a writer that take so many calls, and what it wrote to both outputs.
+fn ends(
+    rt: &impl Abort,
+    alloc: Global,
+    request: Request,
+    calls: (usize, usize),
+    status: u8,
+    written: &str,
+    complaint: &str,
+) {
+    let (mut from, mut to) = (reader(0, calls.0), writer(alloc, 0, calls.1));
+    let mut errors = Vec::new(alloc);
+    let ended = serve(alloc, request, &mut from, &mut to, &mut errors);
+    assert_eq!(rt; ended, status);
+    assert_eq!(rt; to.inner.as_slice(), written.as_bytes());
+    assert_eq!(rt; errors.as_slice(), complaint.as_bytes());
+}
+
+#[test]
+fn exits_with_a_status(rt: HostRuntime) -> std::result::Result<(), Fail> {
+    let alloc = rt.alloc();
+    let report = accepted(alloc, LIMIT_OF_FQ_CODEL)?;
+    let request = Request::Report(Mode::Tc);
+    ends(&rt, alloc, request, (200, 200), 0, &report, "");
+    ends(&rt, alloc, request, (3, 200), 3, "", "read failed\n");
+    ends(&rt, alloc, request, (200, 0), 3, "", "write failed\n");
+    let memory = "refused OutOfMemory\n";
+    ends(&rt, alloc, Request::NoMemory, (0, 200), 1, memory, "");
+    ends(
+        &rt,
+        alloc,
+        Request::NoMemory,
+        (0, 0),
+        3,
+        "",
+        "write failed\n",
+    );
+    let usage = "usage: tcrewrite [tc|action]\n";
+    ends(&rt, alloc, Request::Usage, (0, 0), 2, "", usage);
+    Ok(())
 }

@@ -1,6 +1,6 @@
 use Rattle.std.proofs.Common.{◌+◌, ◌-◌, ◌≤◌, length}
 use Rattle.std.specs.Io.KnownBytes.{Consumes}
-use Rattle.tcrewrite.proofs.input.read_text.Given as goal
+use Rattle.tcrewrite.proofs.text.read_text.Given as goal
 
 -- what was read so far is the text, which isn't over the limit by more than one byte
 abbrev pub invariant-parts : goal.invariant-parts

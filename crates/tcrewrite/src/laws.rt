@@ -1,4 +1,4 @@
-//! What the report on a text is: the law of its definition.
+//! The law of the report's definition.
 
 ghost use Rattle.std.specs.Prelude.{◌≡◌};
 ghost use Rattle.tcrewrite.specs.Report.{Report, IsReport};

@@ -1,18 +1,15 @@
-//! The report's text, and writing it.
+//! The report on a text, in memory.
 
-ghost use Rattle.std.specs.Prelude.{◌≡◌, IfOk, IfErr, IsTrue, string_bytes};
+ghost use Rattle.std.specs.Prelude.{◌≡◌, IfOk, IsTrue, string_bytes};
 ghost use Rattle.tc_wire.specs.Facade.{tc_message, FitsTc, tc_bytes};
 ghost use Rattle.tcrewrite.specs.Answer.{report_of};
 ghost use Rattle.tcrewrite.specs.Report.{one_line, yes_or_no, bytes_line, accepted, ReportsBytes, IsReport};
-ghost use Rattle.tcrewrite.specs.Run.{Reports};
 ghost use Rattle.tcrewrite.specs.declared.mode.Mode.TheVariants.{Tc};
 
-use crate::input::{MOST_TEXT, Patience, drop_spaces};
 use crate::mode::Mode;
-use crate::run::RunError;
+use crate::text::{MOST_TEXT, drop_spaces};
 use hex::FromHexError;
 use std::alloc::{AllocError, Allocator};
-use std::io::Write;
 use tc_wire::{DecodeError, Emitable, ParseableBytes, TcMessage};
 
 /// A report in memory, ready to be written.
@@ -118,29 +115,4 @@ pub fn answer_text<A: Allocator + Copy>(
         Err(FromHexError::OutOfMemory) => Err(AllocError),
         Err(_) => one_line(alloc, "bad hex", 2),
     }
-}
-
-/// Writes a report that is ready, and answers its status.
-pub fn finish<W: Write>(
-    writer: &mut W,
-    text: &str,
-    status: u8,
-    patience: &mut Patience,
-) -> Result<u8, RunError>
-    ensures written { IfOk result (λ s. Reports (W.contents writer.old) (W.contents writer.new) s (record { text = text.now; status = status })) }
-    ensures fault { IfErr result (λ e. e ≡ RunError.Write) }
-{
-    let mut rest = text.as_bytes();
-    'parts: while !rest.is_empty() {
-        match writer.write(rest) {
-            Ok(0) => return Err(RunError::Write),
-            Ok(count) => rest = &rest[count..],
-            Err(fault) => {
-                if !patience.tries_again(&fault) {
-                    return Err(RunError::Write);
-                }
-            }
-        }
-    }
-    Ok(status)
 }

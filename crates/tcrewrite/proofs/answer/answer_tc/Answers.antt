@@ -1,6 +1,6 @@
 use Rattle.std.proofs.Common.{inl, inr, refl, rules}
 use Rattle.tc_wire.specs.Facade.{tc_message}
-use Rattle.tcrewrite.proofs.output.answer_tc.Goals as goal
+use Rattle.tcrewrite.proofs.answer.answer_tc.Goals as goal
 
 pub returns-in_ok-text-in-Ok : goal.returns-in_ok-text-in-Ok
 returns-in_ok-text-in-Ok g c = inl (record {

@@ -1,6 +1,6 @@
 use Rattle.std.proofs.Common.{◌+◌, length}
 use Rattle.std.specs.Io.KnownBytes.{Keeps, append_known}
-use Rattle.tcrewrite.proofs.output.finish.Given as goal
+use Rattle.tcrewrite.proofs.writing.write_text.Given as goal
 
 -- what is written, with what is left, is the whole text
 abbrev pub invariant-parts : goal.invariant-parts

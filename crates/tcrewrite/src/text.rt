@@ -1,72 +1,46 @@
-//! Reading the text.
+//! The text: reading it, and its spaces.
 
-ghost use Rattle.std.specs.Prelude.{◌≡◌, ◌+◌, ◌<◌, ◌≤◌, ◌⊎◌, ◌≢◌, ◌++◌, IfOk, IsTrue, IfSome, length, OnOk, ℕ, List, true, false};
+ghost use Rattle.std.specs.Prelude.{◌≡◌, ◌+◌, ◌<◌, ◌≤◌, IfOk, length, OnOk, true, false};
 ghost use Rattle.std.specs.Io.{appended_bytes, StartsWith};
 ghost use Rattle.std.specs.Io.KnownBytes.{Consumes, IsAtEnd};
-ghost use Rattle.std.specs.IoError.{error_kind};
 ghost use Rattle.tcrewrite.specs.Text.{is_space, without_spaces, most_text};
 ghost use Rattle.tcrewrite.specs.Run.{IsTextOf};
-ghost use Rattle.tcrewrite.specs.declared.input.InputError.TheVariants.{OutOfMemory};
+ghost use Rattle.tcrewrite.specs.declared.text.TextError.TheVariants.{OutOfMemory};
 
+use crate::patience::Patience;
 use std::alloc::{AllocError, Allocator};
-use std::io::{Error, ErrorKind, Read};
+use std::io::Read;
 
 /// The most bytes of text that are taken.
 pub const MOST_TEXT: usize = 1_048_576;
 
-// How often a run tries again after a call that was interrupted.
-const MOST_RETRIES: u16 = 1024;
-
 // The most bytes that one read asks for.
 const MOST_PART: usize = 4096;
 
-/// How often a run may still try again after a call that was interrupted.
-#[derive(Drop)]
-pub struct Patience {
-    left: u16,
-}
-
-impl Patience {
-    pub fn new() -> Patience
-        ensures { result.left ≡ 1024 }
-    {
-        Patience { left: MOST_RETRIES }
-    }
-
-    /// Whether a call that failed is tried again: if it was interrupted, and not too often.
-    pub fn tries_again(&mut self, fault: &Error) -> bool
-        ensures again { result ≡ true → (error_kind fault.now ≡ ErrorKind.Interrupted) × (self.new.left + 1 ≡ self.old.left) }
-        ensures ends { result ≡ false → ((error_kind fault.now ≢ ErrorKind.Interrupted) ⊎ (self.old.left ≡ 0)) × (self.new.left ≡ self.old.left) }
-    {
-        if fault.kind() != ErrorKind::Interrupted || self.left == 0 {
-            return false;
-        }
-        self.left -= 1;
-        true
-    }
-}
-
 /// Why there is no text.
 #[derive(Drop)]
-pub enum InputError {
+pub enum TextError {
+    /// The reader failed.
     Fault,
+
+    /// A growth was refused.
     OutOfMemory,
 }
 
-impl From<AllocError> for InputError {
+impl From<AllocError> for TextError {
     ghost from_gives = { λ _ e. e ≡ OutOfMemory };
 
-    fn from(_e: AllocError) -> InputError {
-        InputError::OutOfMemory
+    fn from(_e: AllocError) -> TextError {
+        TextError::OutOfMemory
     }
 }
 
-// One read, put at the end of the text. It answers whether there may be more.
+// One read, put at the end of the text. It returns whether there may be more.
 fn read_part<A: Allocator, R: Read>(
     reader: &mut R,
     text: &mut Vec<u8, A>,
     patience: &mut Patience,
-) -> Result<bool, InputError>
+) -> Result<bool, TextError>
     requires { length text.old.items ≤ most_text }
     ensures starts { StartsWith text.new.items text.old.items }
     ensures bytes { OnOk result (Consumes (R.remaining reader.old) (R.remaining reader.new) (appended_bytes text.old.items text.new.items)) }
@@ -86,7 +60,7 @@ fn read_part<A: Allocator, R: Read>(
             if patience.tries_again(&fault) {
                 Ok(true)
             } else {
-                Err(InputError::Fault)
+                Err(TextError::Fault)
             }
         }
     }
@@ -97,7 +71,7 @@ pub fn read_text<A: Allocator, R: Read>(
     alloc: A,
     reader: &mut R,
     patience: &mut Patience,
-) -> Result<Vec<u8, A>, InputError>
+) -> Result<Vec<u8, A>, TextError>
     ensures { IfOk result (λ text. IsTextOf (R.remaining reader.old) (R.remaining reader.new) text.items) }
 {
     let mut text = Vec::new(alloc);

@@ -1,0 +1,72 @@
+//! The public constants.
+
+use nla_frames::{
+    DecodeError, NLA_F_NESTED, NLA_F_NET_BYTEORDER, NLA_HEADER_SIZE, NLA_TYPE_MASK,
+    NLA_VALUE_MAX_SIZE,
+};
+use tc_options::TcQdiscFqCodel;
+use tc_records::{
+    TC_ACTION_GENERIC_LEN, TC_FQ_CODEL_CL_STATS_LEN, TC_FQ_CODEL_QD_STATS_LEN, TC_HEADER_LEN,
+    TC_MIRROR_LEN, TC_NAT_LEN, TC_STATS_BASIC_LEN, TC_STATS_LEN, TC_STATS_QUEUE_LEN,
+    TC_TUNNEL_KEY_LEN, TC_U32_KEY_LEN, TC_U32_SELECTOR_LEN, TCA_HEADER_LEN, TCF_LEN, TcHandle,
+    TcHeader,
+};
+
+#[test]
+fn frames(rt: HostRuntime) {
+    assert_eq!(rt; NLA_F_NESTED, 0x8000);
+    assert_eq!(rt; NLA_F_NET_BYTEORDER, 0x4000);
+    assert_eq!(rt; NLA_TYPE_MASK, 0x3fff);
+    assert_eq!(rt; NLA_HEADER_SIZE, 4);
+    assert_eq!(rt; NLA_VALUE_MAX_SIZE, 65531);
+}
+
+#[test]
+fn lengths(rt: HostRuntime) {
+    assert_eq!(rt; TC_HEADER_LEN, 20);
+    assert_eq!(rt; TCA_HEADER_LEN, 4);
+    assert_eq!(rt; TC_STATS_LEN, 40);
+    assert_eq!(rt; TC_STATS_BASIC_LEN, 16);
+    assert_eq!(rt; TC_STATS_QUEUE_LEN, 20);
+    assert_eq!(rt; TC_FQ_CODEL_QD_STATS_LEN, 36);
+    assert_eq!(rt; TC_FQ_CODEL_CL_STATS_LEN, 24);
+    assert_eq!(rt; TCF_LEN, 32);
+    assert_eq!(rt; TC_ACTION_GENERIC_LEN, 20);
+    assert_eq!(rt; TC_MIRROR_LEN, 28);
+    assert_eq!(rt; TC_NAT_LEN, 36);
+    assert_eq!(rt; TC_TUNNEL_KEY_LEN, 24);
+    assert_eq!(rt; TC_U32_KEY_LEN, 16);
+    assert_eq!(rt; TC_U32_SELECTOR_LEN, 16);
+}
+
+#[test]
+fn handles(rt: HostRuntime) {
+    for (handle, number, major, minor) in [
+        (TcHandle::UNSPEC, 0, 0, 0),
+        (TcHandle::ROOT, 0xffff_ffff, 0xffff, 0xffff),
+        (TcHandle::INGRESS, 0xffff_fff1, 0xffff, 0xfff1),
+        (TcHandle::CLSACT, 0xffff_fff1, 0xffff, 0xfff1),
+        (
+            TcHandle {
+                major: 0x0102,
+                minor: 0x0304,
+            },
+            0x0102_0304,
+            0x0102,
+            0x0304,
+        ),
+    ] {
+        assert_eq!(rt; handle, TcHandle { major, minor });
+        assert_eq!(rt; handle, TcHandle::from(number));
+        assert_eq!(rt; u32::from(handle), number);
+    }
+    assert_eq!(rt; TcHandle::MIN_PRIORITY, 0xffe0);
+    assert_eq!(rt; TcHandle::MIN_INGRESS, 0xfff2);
+    assert_eq!(rt; TcHandle::MIN_EGRESS, 0xfff3);
+    assert_eq!(rt; TcHeader::TCM_IFINDEX_MAGIC_BLOCK, 0xffff_ffff);
+}
+
+#[test]
+fn kinds(rt: HostRuntime) {
+    assert_eq!(rt; TcQdiscFqCodel::KIND, "fq_codel");
+}

@@ -1,0 +1,64 @@
+//! What the program's arguments ask for.
+
+ghost use Rattle.std.specs.Prelude.{◌≡◌, ◌≢◌, ◌↔◌, map, string_bytes};
+ghost use Rattle.std.specs.IoError.{error_kind};
+ghost use Rattle.tcrewrite.specs.Arguments.{AsksFor};
+ghost use Rattle.tcrewrite.specs.declared.mode.Mode.{Mode};
+ghost use Rattle.tcrewrite.specs.declared.arguments.Request.TheVariants.{Report, NoMemory};
+
+use crate::mode::Mode;
+use std::alloc::Allocator;
+use std::env;
+use std::io::{Error, ErrorKind};
+use std::rt::Env;
+
+/// What is asked for.
+#[derive(PartialEq, Eq, Clone, Copy, Debug)]
+pub enum Request {
+    /// A report on the text.
+    Report(Mode),
+
+    /// Nothing that the program knows: how it is called is said.
+    Usage,
+
+    /// Nothing that could be read, as there was no memory for it.
+    NoMemory,
+}
+
+/// What the arguments ask for, the program's name first.
+pub fn request_of<A: Allocator>(arguments: &[String<A>]) -> Request
+    ensures report { (mode : Mode) → (result ≡ Report mode) ↔ AsksFor (map string_bytes arguments.now) mode }
+    ensures read { result ≢ NoMemory }
+{
+    match arguments {
+        [] | [_] => Request::Report(Mode::Tc),
+        [_, word] => match Mode::from_word(word.as_str()) {
+            Some(mode) => Request::Report(mode),
+            None => Request::Usage,
+        },
+        _ => Request::Usage,
+    }
+}
+
+// What arguments ask for that couldn't be read: for want of memory, or as one isn't UTF-8 and so names no mode.
+fn request_of_fault(fault: &Error) -> Request
+    ensures memory { (result ≡ NoMemory) ↔ (error_kind fault.now ≡ ErrorKind.OutOfMemory) }
+    ensures no_report { (mode : Mode) → result ≢ Report mode }
+{
+    if fault.kind() == ErrorKind::OutOfMemory {
+        Request::NoMemory
+    } else {
+        Request::Usage
+    }
+}
+
+/// What the program's own arguments ask for.
+pub fn read_arguments<R: Env + Alloc>(rt: &R) -> Request {
+    match env::args(rt) {
+        Ok(arguments) => match Vec::from_iter(rt.alloc(), arguments) {
+            Ok(arguments) => request_of(&arguments),
+            Err(_) => Request::NoMemory,
+        },
+        Err(fault) => request_of_fault(&fault),
+    }
+}
