@@ -1,27 +1,52 @@
--- The kind that a frame sets.
-use Rattle.std.proofs.Common.{◌≡◌, ℕ, List, true, false, Ok, Err, IsOk, refl}
+-- The kind that a frame tells.
+use Rattle.std.proofs.Common.{◌≡◌, ℕ, List, [], Bool, true, false, Option, Some, None, Ok, Err, cond, refl, ap, sym, ◌==◌}
+use Rattle.std.proofs.lemmas.Bool.Decides.{Decides-eqb}
 use Rattle.std.specs.Str.{IsUtf8}
-use Rattle.nla_frames.specs.Fault.{Outcome, read_as, seen}
-use Rattle.nla_frames.specs.Value.{strip, text}
-use Rattle.nla_frames.specs.Frame.{Frame, type_of}
-use Rattle.nla_frames.proofs.Texts.{text-err}
+use Rattle.nla_frames.specs.declared.error.DecodeError.TheVariants.{NotUtf8}
+use Rattle.nla_frames.specs.declared.error.DecodeError.{DecodeError}
+use Rattle.nla_frames.specs.Fault.{Outcome, Gives, read_as, refused, seen}
+use Rattle.nla_frames.specs.Place.{kind_then}
+use Rattle.nla_frames.specs.OnlyKind.{kind_after}
+use Rattle.nla_frames.proofs.Outcomes.{Gives-exact}
+use Rattle.tc_canon.specs.Kind.{tells_kind, kind_of_frame}
 use Rattle.tc_canon.specs.Descriptor.{table}
 use Rattle.tc_wire.specs.Stage.{attributes}
-use Rattle.tc_meaning.specs.Tree.{Attribute, known, is_bytes}
+use Rattle.tc_meaning.specs.Tree.{known, is_bytes}
 use Rattle.tc_meaning.specs.Meaning.{table_codec}
+use Rattle.std.specs.Str.{is_utf8}
+use Rattle.nla_frames.specs.Value.{strip, text}
+use Rattle.nla_frames.specs.Frame.{Frame, type_of}
+use Rattle.nla_frames.proofs.Texts.{text-ok, text-err}
+use Rattle.tc_meaning.specs.OwnGrammar.{first_look}
 
--- a value that is no text isn't read
-pub no_text : (value front : List ℕ) → front ≡ strip value → (IsUtf8 front → ⊥) → IsOk (text value) → ⊥
-no_text value front is not ok = let differ : false ≡ true = rw (text-err value front is not) at ok in cc
+-- a text that a frame of type 1 has
+pub kind_found : (f : Frame) (front : List ℕ) → type_of f.word ≡ 1 → front ≡ strip f.value → IsUtf8 front → read_as (Some front) ≡ first_look [] f
+kind_found f front one is is_text = rw one (sym (ap (seen Some) (text-ok f.value front is is_text)))
 
--- the part of a value that was read was read
-seen_ok : {X Y : Type 0} (see : X → Y) (o : Outcome X) → IsOk (seen see o) → IsOk o
-seen_ok see (Ok x) ok = refl
-seen_ok see (Err e) ok = absurd cc
+-- it has none
+pub kind_not_text : (f : Frame) (front : List ℕ) → type_of f.word ≡ 1 → front ≡ strip f.value → (IsUtf8 front → ⊥) → refused NotUtf8 ≡ first_look [] f
+kind_not_text f front one is not = rw one (sym (ap (seen Some) (text-err f.value front is not)))
 
--- an attribute that was read of a frame of type 1 is a text
-pub kind_is_text : (k : List ℕ) (f : Frame) (x : Attribute) → (table_codec (table attributes)).read k f ≡ read_as x → type_of f.word ≡ 1 → IsOk (text f.value)
-kind_is_text k f x is one =
-    let of_text : seen (known 1) (seen is_bytes (text f.value)) ≡ read_as x = rw one at is in
-    let ok : IsOk (seen (known 1) (seen is_bytes (text f.value))) = rw of_text refl in
-    seen_ok is_bytes (text f.value) (seen_ok (known 1) (seen is_bytes (text f.value)) ok)
+-- where it has none, it isn't read as an attribute
+pub not_read : (kind : List ℕ) (f : Frame) (e : DecodeError) → refused e ≡ first_look [] f → Gives (refused e) ((table_codec (table attributes)).read kind f)
+not_read kind f e is = Gives-exact e _ (go (type_of f.word == 1) ((Decides-eqb (type_of f.word) 1).0) is)
+  where
+    of_text : (o : Outcome (List ℕ)) → refused e ≡ seen Some o → seen (known 1) (seen is_bytes o) ≡ refused e
+    of_text (Ok t) bad = absurd (cc bad)
+    of_text (Err d) same = cc
+
+    go : (b : Bool) → (b ≡ true → type_of f.word ≡ 1) → refused e ≡ cond b (seen Some (text f.value)) (Ok None) → (table_codec (table attributes)).read kind f ≡ refused e
+    go true one same = rw (one refl) (of_text (text f.value) same)
+    go false one bad = absurd (cc bad)
+
+-- the kind after it is the one that it tells
+pub kind_told_then : (kind : List ℕ) (f : Frame) (told : Option (List ℕ)) → read_as told ≡ first_look [] f → kind_after kind told ≡ kind_then kind_of_frame kind f
+kind_told_then kind f told is = go (tells_kind f) is
+  where
+    go : (b : Bool) → read_as told ≡ cond b (seen Some (text f.value)) (Ok None) → kind_after kind told ≡ kind_after kind (cond b (Some (strip f.value)) None)
+    go true same = of_test (is_utf8 (strip f.value)) same
+      where
+        of_test : (b : Bool) → read_as told ≡ seen Some (cond b (Ok (strip f.value)) (Err NotUtf8)) → kind_after kind told ≡ kind_after kind (Some (strip f.value))
+        of_test true same = cc
+        of_test false bad = absurd (cc bad)
+    go false same = cc

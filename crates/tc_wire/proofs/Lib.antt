@@ -1,4 +1,5 @@
-pub mod KindTexts
-pub mod MessageBytes
-pub mod NestedOptions
-pub mod Outcomes
+mod KindTexts
+mod Measured
+mod MessageBytes
+mod NestedOptions
+mod Outcomes

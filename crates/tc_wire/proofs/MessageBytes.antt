@@ -1,8 +1,9 @@
 -- The bytes of a message: its header, and then its attributes.
-use Rattle.std.proofs.Common.{◌≡◌, ℕ, ◌+◌, ◌-◌, ◌≤◌, List, ◌++◌, length, take, drop, refl, sym, ap, ◌∙◌, arith}
+use Rattle.std.proofs.Common.{◌≡◌, ℕ, ◌+◌, ◌-◌, ◌≤◌, ◌<◌, ◌^◌, Option, Some, None, List, ◌++◌, length, take, drop, refl, sym, ap, ◌∙◌, arith}
 use Rattle.std.proofs.lemmas.List.{length-append, length-take, length-drop}
 use Rattle.std.proofs.lemmas.Grind.{common_steps}
-use Rattle.nla_frames.specs.Emission.{Writes, HasRoom, list_bytes}
+use Rattle.std.specs.Option.{SomeIff}
+use Rattle.nla_frames.specs.Emission.{Measures, ListFits, Writes, HasRoom, list_bytes}
 use Rattle.nla_frames.proofs.Writing.{back_and_front}
 use Rattle.nla_frames.specs.declared.family.AddressFamily.{AddressFamily}
 use Rattle.nla_frames.specs.declared.family.AddressFamily.TheVariants.{Unspec, Unix, Inet, Bridge, Inet6, Netlink, Packet, Mpls, Other}
@@ -12,7 +13,7 @@ use Rattle.tc_wire.specs.Stage.{attributes}
 use Rattle.tc_meaning.specs.Tree.{Attribute}
 use Rattle.tc_meaning.specs.Layout.{fields_bytes, field_bytes}
 use Rattle.tc_meaning.specs.Meaning.{table_codec}
-use Rattle.tc_meaning.specs.Message.{Message, message_bytes}
+use Rattle.tc_meaning.specs.Message.{Message, FitsMessage, message_bytes}
 use Rattle.tc_records.specs.declared.header.TcHeader.{TcHeader}
 use Rattle.tc_records.specs.Numbers.{family_scalar}
 use Rattle.tc_records.specs.Header.{header_scalars}
@@ -75,3 +76,10 @@ pub header_before_part : (h : TcHeader) (buffer part : List ℕ) → 20 ≤ leng
 header_before_part h buffer part long same =
     let whole : length (put_mid 20 (length buffer - 20) buffer part) ≡ length buffer = grind (arith, common_steps) in
     omega (arith, header_length h, whole)
+
+-- a message is measured by its list and its header
+pub message_measured : (h : TcHeader) (body : List Attribute) (len : ℕ) (measured : Option ℕ)
+    → ListFits (table_codec (table attributes)).Fits (table_codec (table attributes)).write body × (len ≡ length (body_bytes body))
+    → SomeIff measured (len + 20 < 2 ^ 64) (len + 20) → Measures measured (FitsMessage tc_header attributes (of_parts h body)) (message_bytes tc_header attributes (of_parts h body))
+message_measured h body len None list over = λ fits. over (omega (arith, fits.whole, list.1))
+message_measured h body len (Some n) list sum = (record { body = list.0; whole = omega (arith, sum.0, list.1) }, omega (arith, sum.1, list.1, message_length h body))

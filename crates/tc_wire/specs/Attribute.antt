@@ -1,5 +1,5 @@
 -- A message's attribute as contracts see it.
-use Rattle.std.specs.Prelude.{ℕ, List, [], map, string_bytes}
+use Rattle.std.specs.Prelude.{◌≡◌, ◌↔◌, ℕ, List, [], map, string_bytes}
 use Rattle.nla_frames.specs.declared.error.DecodeError.{DecodeError}
 use Rattle.nla_frames.specs.ListGrammar.{ListReads, ListFault}
 use Rattle.nla_frames.specs.DefaultNla.{kept_frame}
@@ -16,6 +16,8 @@ use Rattle.tc_options.specs.declared.options.TcOption.{TcOption}
 use Rattle.tc_options.specs.Stage.{option_kinds}
 use Rattle.tc_records.specs.declared.stats.compat.TcStats.{TcStats}
 use Rattle.tc_values.specs.Inner.{Inner}
+use Rattle.tc_values.specs.Value.{value_bytes, ValueFits, TypedValue}
+use Rattle.tc_values.specs.declared.value.Value.{Value}
 use Rattle.tc_values.specs.Bodies.{items_of, part_of, either}
 use Rattle.tc_values.specs.declared.body.Items.{Items}
 use Rattle.tc_values.specs.declared.body.Record.{Record}
@@ -47,3 +49,10 @@ AttributesFault = ListFault (table_codec (table attributes)).read kind_of_frame 
 -- what is nested in attributes: options, and statistics
 abbrev pub nested : {A : Type 0} → Inner (Either (Items (TcOption A)) (Record TcStats))
 nested = either (items_of tc_option (by_kind option_kinds)) (part_of stats_scalars a_record (record_codec stats) (fields stats))
+
+-- an attribute is written as this word and this value
+pub record IsWritten {A : Type 0} (x : Attribute) (word : ℕ) (v : Value (Either (Items (TcOption A)) (Record TcStats))) : Type 0 where
+  pub same_word : word ≡ ((table_codec (table attributes)).write x).word
+  pub bytes : value_bytes nested.bytes v ≡ ((table_codec (table attributes)).write x).value
+  pub fits : ValueFits nested.Fits v ↔ (table_codec (table attributes)).Fits x
+  pub typed : TypedValue nested.Typed v → (table_codec (table attributes)).Typed x

@@ -16,7 +16,7 @@ ghost use Rattle.tc_meaning.specs.OwnGrammar.{first_look};
 ghost use Rattle.tc_meaning.specs.Short.{table_short};
 ghost use Rattle.tc_values.specs.Value.{value_bytes, ValueFits, TypedValue};
 ghost use Rattle.tc_values.specs.Row.{reads_at};
-ghost use Rattle.tc_wire.specs.Attribute.{tc_attribute, nested, ReadsAttributes, AttributesFault};
+ghost use Rattle.tc_wire.specs.Attribute.{tc_attribute, nested, IsWritten, ReadsAttributes, AttributesFault};
 
 use nla_frames::laws::in_hand::{bytes_in_hand, text_in_hand, u8_in_hand, u32_in_hand};
 use nla_frames::{
@@ -120,6 +120,12 @@ impl<A: Allocator> TcAttribute<A> {
     // Its word and its value, and what they are by the table. Which attributes are settled is told beside it, since
     // the one table of a choice by kind is this.
     fn view(&self) -> (u16, Value<'_, Nested<'_, A>>)
+        ensures { IsWritten (tc_attribute self.now) result.0 result.1 }
+    {
+        self.row()
+    }
+
+    fn row(&self) -> (u16, Value<'_, Nested<'_, A>>)
         ensures word { result.0 ≡ ((table_codec (table attributes)).write (tc_attribute self.now)).word }
         ensures bytes { value_bytes nested.bytes result.1 ≡ ((table_codec (table attributes)).write (tc_attribute self.now)).value }
         ensures fits { ValueFits nested.Fits result.1 ↔ (table_codec (table attributes)).Fits (tc_attribute self.now) }

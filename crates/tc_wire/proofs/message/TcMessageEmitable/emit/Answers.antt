@@ -20,7 +20,10 @@ emit-requires-clause-room g c =
     let room = room_for_header c.args.self.now.header (map tc_attribute c.args.self.now.attributes.items) c.args.buffer.now c.requires.room in
     header_before_part c.args.self.now.header c.args.buffer.now c.put_list.new.buffer room c.put_list.auto.buffer
 
-pub returns : goal.returns
-returns g c =
+pub returns-clause-written : goal.returns-clause-written
+returns-clause-written g c =
     let written = rw c.deref.ensures.value at c.put_list.ensures.written in
-    message_written c.args.self.now.header (map tc_attribute c.args.self.now.attributes.items) c.args.buffer.now _ _ c.requires.room written c.emit.ensures
+    message_written c.args.self.now.header (map tc_attribute c.args.self.now.attributes.items) c.args.buffer.now _ _ c.requires.room written c.emit.ensures.written
+
+pub returns-clause-typed : goal.returns-clause-typed
+returns-clause-typed g c = record { header = c.emit.ensures.typed; body = rw c.deref.ensures.value at c.put_list.ensures.typed }
