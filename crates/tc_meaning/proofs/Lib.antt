@@ -22,6 +22,7 @@ pub mod FitTests
 pub mod UpgradeLaws
 pub mod FirstVersionLaws
 pub mod WorkedRows
+pub mod KnownRows
 pub mod UpgradeRows
 pub mod TrailingNuls
 pub mod TrimLaws
