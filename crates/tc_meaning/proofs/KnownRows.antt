@@ -14,7 +14,8 @@ use Rattle.tc_canon.specs.Tables.Options.{fq_codel_options, u32_options, matchal
 use Rattle.tc_canon.specs.Tables.Actions.{mirror_options, nat_options, tunnel_key_options, action_attributes, action_option_kinds}
 use Rattle.tc_canon.specs.Tables.Messages.{attributes, action_message_attributes}
 use Rattle.tc_canon.specs.Tables.Statistics.{stats2}
-use Rattle.tc_meaning.specs.Tree.{Scalar, plain, unnamed, octets_of, blank, Content, number, is_bytes, flag, record_of, keyed, statistics, unknown_statistics, Attribute, known, other, of_kind}
+use Rattle.tc_meaning.specs.Tree.{Scalar, plain, unnamed, octets_of, blank, Content, number, is_bytes, flag, record_of, keyed, statistics, unknown_statistics}
+use Rattle.tc_meaning.specs.Tree.{Attribute, known, other, of_kind}
 use Rattle.tc_meaning.specs.Own.{read_kinds, read_own}
 use Rattle.tc_meaning.specs.Meaning.{table_codec}
 use Rattle.tc_meaning.proofs.WorkedRows.{hex, the_kind, a_list, utf8}
@@ -33,18 +34,25 @@ frame_of_row (n, bytes, content) = record { word = n; value = bytes }
 abbrev value_of_row : Row → Attribute
 value_of_row (n, bytes, content) = known n content
 
+-- what a table reads under no kind, and what it writes
+abbrev read_in : Rows → Frame → Outcome Attribute
+read_in rows f = (table_codec (table rows)).read [] f
+
+abbrev write_in : Rows → Attribute → Frame
+write_in rows x = (table_codec (table rows)).write x
+
 abbrev read_row : Rows → Row → Outcome Attribute
-read_row rows row = (table_codec (table rows)).read [] (frame_of_row row)
+read_row rows row = read_in rows (frame_of_row row)
 
 abbrev write_row : Rows → Row → Frame
-write_row rows row = (table_codec (table rows)).write (value_of_row row)
+write_row rows row = write_in rows (value_of_row row)
 
 -- bytes of a type, and what they are outside the table
 abbrev frame_of_type : ℕ → Frame
 frame_of_type n = record { word = n; value = hex (codes "01020304") }
 
 abbrev read_type : Rows → ℕ → Outcome Attribute
-read_type rows n = (table_codec (table rows)).read [] (frame_of_type n)
+read_type rows n = read_in rows (frame_of_type n)
 
 abbrev kept_type : ℕ → Outcome Attribute
 kept_type n = Ok (other n (hex (codes "01020304")))
@@ -279,7 +287,8 @@ mirror_others = refl
 abbrev nat_rows : List Row
 nat_rows =
     (1, hex (codes "0102030405060708090a0b0c0d0e0f101112131415161718191a1b1c1d1e1f2021222324"),
-        record_of (counted_generic (octets_of (hex (codes "15161718")) ∷ octets_of (hex (codes "191a1b1c")) ∷ octets_of (hex (codes "1d1e1f20")) ∷ plain 0x24232221 ∷ [])))  -- Parms
+        record_of (counted_generic (octets_of (hex (codes "15161718")) ∷ octets_of (hex (codes "191a1b1c")) ∷ octets_of (hex (codes "1d1e1f20"))
+            ∷ plain 0x24232221 ∷ [])))  -- Parms
     ∷ (2, hex (codes "0102030405060708090a0b0c0d0e0f101112131415161718191a1b1c1d1e1f20"),
         record_of (plain 0x0807060504030201 ∷ plain 0x100f0e0d0c0b0a09 ∷ plain 0x1817161514131211 ∷ plain 0x201f1e1d1c1b1a19 ∷ []))  -- Tm
     ∷ []
@@ -326,7 +335,8 @@ tunnel_key_others = refl
 abbrev message_rows : List Row
 message_rows =
     (3, hex (codes "0102030405060708090a0b0c0d0e0f101112131415161718191a1b1c1d1e1f202122232400000000"),
-        record_of (plain 0x0807060504030201 ∷ plain 0x0c0b0a09 ∷ plain 0x100f0e0d ∷ plain 0x14131211 ∷ plain 0x18171615 ∷ plain 0x1c1b1a19 ∷ plain 0x201f1e1d ∷ plain 0x24232221 ∷ blank ∷ []))  -- Stats
+        record_of (plain 0x0807060504030201 ∷ plain 0x0c0b0a09 ∷ plain 0x100f0e0d ∷ plain 0x14131211 ∷ plain 0x18171615
+            ∷ plain 0x1c1b1a19 ∷ plain 0x201f1e1d ∷ plain 0x24232221 ∷ blank ∷ []))  -- Stats
     ∷ octets_row 5 (codes "010203")  -- Rate
     ∷ octets_row 6 (codes "010203")  -- Fcnt
     ∷ octets_row 8 (codes "010203")  -- Stab
@@ -413,10 +423,11 @@ masked_rows =
 masked_rows_read : map (read_row flower_options) masked_rows ≡ map (λ row. Ok (value_of_row row)) masked_rows
 masked_rows_read = refl
 
-masked_rows_written : map (write_row flower_options) masked_rows ≡ map frame_of_row ((68, hex (codes "01"), number 0) ∷ (69, hex (codes "07"), number 0) ∷ (70, hex (codes "ff020300"), number 0) ∷ [])
+masked_rows_written : map (write_row flower_options) masked_rows
+    ≡ map frame_of_row ((68, hex (codes "01"), number 0) ∷ (69, hex (codes "07"), number 0) ∷ (70, hex (codes "ff020300"), number 0) ∷ [])
 masked_rows_written = refl
 
-class_id_written : (table_codec (table flower_options)).write (known 1 (number 0x04030201)) ≡ frame_of_type 1
+class_id_written : write_in flower_options (known 1 (number 0x04030201)) ≡ frame_of_type 1
 class_id_written = refl
 
 -- ---- labels of MPLS
@@ -436,7 +447,7 @@ lse_rows_read = refl
 lse_rows_written : map (write_row lse_options) lse_rows ≡ map frame_of_row lse_rows
 lse_rows_written = refl
 
-lse_label_written : (table_codec (table lse_options)).write (known 5 (number 0xffffffff)) ≡ record { word = 5; value = hex (codes "ffff0f00") }
+lse_label_written : write_in lse_options (known 5 (number 0xffffffff)) ≡ record { word = 5; value = hex (codes "ffff0f00") }
 lse_label_written = refl
 
 lse_others : map (read_type lse_options) (0 ∷ 6 ∷ []) ≡ map kept_type (0 ∷ 6 ∷ [])
@@ -452,11 +463,11 @@ labels = a_list 99 (a_list 1 (known 1 (number 1) ∷ known 5 (number 0x12345) �
 abbrev labels_frame : Frame
 labels_frame = record { word = 0x8063; value = hex (codes "1400018005000100010000000800050045230100") }
 
-labels_read : (table_codec (table flower_options)).read [] labels_frame ≡ Ok labels
+labels_read : read_in flower_options labels_frame ≡ Ok labels
 unfolding strip header padded frame_bytes next_frame cut_up_to cut read_each read_list list_bytes
 labels_read = refl
 
-labels_written : (table_codec (table flower_options)).write labels ≡ labels_frame
+labels_written : write_in flower_options labels ≡ labels_frame
 unfolding strip header padded frame_bytes next_frame cut_up_to cut read_each read_list list_bytes
 labels_written = refl
 
@@ -468,62 +479,67 @@ text_frame n = record { word = n; value = hex (codes "65746800") }
 abbrev a_text : ℕ → Attribute
 a_text n = known n (is_bytes (hex (codes "657468")))
 
-in_dev_read : (table_codec (table flower_options)).read [] (text_frame 2) ≡ Ok (a_text 2)
+in_dev_read : read_in flower_options (text_frame 2) ≡ Ok (a_text 2)
 unfolding strip
 in_dev_read = rw (utf8 (hex (codes "657468")) refl) refl
 
-in_dev_written : (table_codec (table flower_options)).write (a_text 2) ≡ text_frame 2
+in_dev_written : write_in flower_options (a_text 2) ≡ text_frame 2
 in_dev_written = refl
 
-prog_name_read : (table_codec (table bpf_options)).read [] (text_frame 7) ≡ Ok (a_text 7)
+prog_name_read : read_in bpf_options (text_frame 7) ≡ Ok (a_text 7)
 unfolding strip
 prog_name_read = rw (utf8 (hex (codes "657468")) refl) refl
 
-prog_name_written : (table_codec (table bpf_options)).write (a_text 7) ≡ text_frame 7
+prog_name_written : write_in bpf_options (a_text 7) ≡ text_frame 7
 prog_name_written = refl
 
-kind_read : (table_codec (table attributes)).read [] (text_frame 1) ≡ Ok (a_text 1)
+kind_read : read_in attributes (text_frame 1) ≡ Ok (a_text 1)
 unfolding strip
 kind_read = rw (utf8 (hex (codes "657468")) refl) refl
 
-kind_written : (table_codec (table attributes)).write (a_text 1) ≡ text_frame 1
+kind_written : write_in attributes (a_text 1) ≡ text_frame 1
 kind_written = refl
 
-kind_of_action_read : (table_codec (table action_attributes)).read [] (text_frame 1) ≡ Ok (a_text 1)
+kind_of_action_read : read_in action_attributes (text_frame 1) ≡ Ok (a_text 1)
 unfolding strip
 kind_of_action_read = rw (utf8 (hex (codes "657468")) refl) refl
 
-kind_of_action_written : (table_codec (table action_attributes)).write (a_text 1) ≡ text_frame 1
+kind_of_action_written : write_in action_attributes (a_text 1) ≡ text_frame 1
 kind_of_action_written = refl
 
 -- without a NUL
-warning_text_read : (table_codec (table action_message_attributes)).read [] (text_frame 5) ≡ Ok (a_text 5)
+warning_text_read : read_in action_message_attributes (text_frame 5) ≡ Ok (a_text 5)
 unfolding strip
 warning_text_read = rw (utf8 (hex (codes "657468")) refl) refl
 
-warning_text_written : (table_codec (table action_message_attributes)).write (a_text 5) ≡ record { word = 5; value = hex (codes "657468") }
+warning_text_written : write_in action_message_attributes (a_text 5) ≡ record { word = 5; value = hex (codes "657468") }
 warning_text_written = refl
 
 -- ---- flags
 
-no_csum_read : map (read_row tunnel_key_options) ((10, hex (codes "00"), flag false) ∷ (10, hex (codes "01"), flag true) ∷ (10, hex (codes "80"), flag true) ∷ [])
+no_csum_read :
+    map (read_row tunnel_key_options) ((10, hex (codes "00"), flag false) ∷ (10, hex (codes "01"), flag true) ∷ (10, hex (codes "80"), flag true) ∷ [])
     ≡ map (λ x. Ok (known 10 (flag x))) (false ∷ true ∷ true ∷ [])
 no_csum_read = refl
 
-no_csum_written : map (write_row tunnel_key_options) ((10, [], flag false) ∷ (10, [], flag true) ∷ []) ≡ map frame_of_row ((10, hex (codes "00"), flag false) ∷ (10, hex (codes "01"), flag true) ∷ [])
+no_csum_written : map (write_row tunnel_key_options) ((10, [], flag false) ∷ (10, [], flag true) ∷ [])
+    ≡ map frame_of_row ((10, hex (codes "00"), flag false) ∷ (10, hex (codes "01"), flag true) ∷ [])
 no_csum_written = refl
 
-dump_invisible_read : (table_codec (table attributes)).read [] (record { word = 10; value = hex (codes "0000") }) ≡ Ok (known 10 (flag true))
+dump_invisible_read : read_in attributes (record { word = 10; value = hex (codes "0000") }) ≡ Ok (known 10 (flag true))
 dump_invisible_read = refl
 
-dump_invisible_written : (table_codec (table attributes)).write (known 10 (flag true)) ≡ record { word = 10; value = [] }
+dump_invisible_written : write_in attributes (known 10 (flag true)) ≡ record { word = 10; value = [] }
 dump_invisible_written = refl
 
 -- the flags of an action message and their selector
-message_flags : map (read_row action_message_attributes) ((2, hex (codes "0102030405060708"), flag true) ∷ []) ≡ Ok (known 2 (record_of (plain 0x04030201 ∷ plain 0x08070605 ∷ []))) ∷ []
-message_flags = refl
+abbrev flags_row : Row
+flags_row = (2, hex (codes "0102030405060708"), record_of (plain 0x04030201 ∷ plain 0x08070605 ∷ []))
 
-message_flags_written : (table_codec (table action_message_attributes)).write (known 2 (record_of (plain 0x04030201 ∷ plain 0x08070605 ∷ []))) ≡ record { word = 2; value = hex (codes "0102030405060708") }
+message_flags_read : read_row action_message_attributes flags_row ≡ Ok (value_of_row flags_row)
+message_flags_read = refl
+
+message_flags_written : write_row action_message_attributes flags_row ≡ frame_of_row flags_row
 message_flags_written = refl
 
 -- ---- the selector of u32, with one key
@@ -548,23 +564,25 @@ one_action n = a_list n (a_list 1 (the_kind (codes "nat") ∷ []) ∷ [])
 abbrev action_frame : ℕ → Frame
 action_frame n = record { word = n; value = hex (codes "0c000100080001006e617400") }
 
-u32_action_read : (table_codec (table u32_options)).read [] (action_frame 7) ≡ Ok (one_action 7)
+u32_action_read : read_in u32_options (action_frame 7) ≡ Ok (one_action 7)
 unfolding strip next_frame cut_up_to cut read_each read_list read_kinds read_own
 u32_action_read = rw (utf8 (codes "nat") refl) refl
 
-matchall_action_read : (table_codec (table matchall_options)).read [] (action_frame 2) ≡ Ok (one_action 2)
+matchall_action_read : read_in matchall_options (action_frame 2) ≡ Ok (one_action 2)
 unfolding strip next_frame cut_up_to cut read_each read_list read_kinds read_own
 matchall_action_read = rw (utf8 (codes "nat") refl) refl
 
-flower_actions_read : (table_codec (table flower_options)).read [] (action_frame 3) ≡ Ok (one_action 3)
+flower_actions_read : read_in flower_options (action_frame 3) ≡ Ok (one_action 3)
 unfolding strip next_frame cut_up_to cut read_each read_list read_kinds read_own
 flower_actions_read = rw (utf8 (codes "nat") refl) refl
 
-message_actions_read : (table_codec (table action_message_attributes)).read [] (action_frame 1) ≡ Ok (one_action 1)
+message_actions_read : read_in action_message_attributes (action_frame 1) ≡ Ok (one_action 1)
 unfolding strip next_frame cut_up_to cut read_each read_list read_kinds read_own
 message_actions_read = rw (utf8 (codes "nat") refl) refl
 
-actions_written : (table_codec (table u32_options)).write (one_action 7) ∷ (table_codec (table matchall_options)).write (one_action 2) ∷ (table_codec (table flower_options)).write (one_action 3) ∷ (table_codec (table action_message_attributes)).write (one_action 1) ∷ []
+actions_written :
+    write_in u32_options (one_action 7) ∷ write_in matchall_options (one_action 2) ∷ write_in flower_options (one_action 3)
+    ∷ write_in action_message_attributes (one_action 1) ∷ []
     ≡ map action_frame (7 ∷ 2 ∷ 3 ∷ 1 ∷ [])
 unfolding strip header padded frame_bytes list_bytes
 actions_written = refl
@@ -597,7 +615,8 @@ kind_rows_written : map (write_kind option_kinds) kind_rows ≡ map (λ row. fra
 kind_rows_written = refl
 
 -- of ingress each option is kept
-ingress_read : (table_codec (by_kind option_kinds)).read (hex (codes "696e6772657373")) (frame_of_type 1) ≡ Ok (of_kind (hex (codes "696e6772657373")) (other 1 (hex (codes "01020304"))))
+ingress_read : (table_codec (by_kind option_kinds)).read (hex (codes "696e6772657373")) (frame_of_type 1)
+    ≡ Ok (of_kind (hex (codes "696e6772657373")) (other 1 (hex (codes "01020304"))))
 ingress_read = refl
 
 -- of no other kind one is known
@@ -637,7 +656,7 @@ options_read : (table_codec (table attributes)).read fq_codel options_frame ≡ 
 unfolding next_frame cut_up_to cut read_each read_list
 options_read = refl
 
-options_written : (table_codec (table attributes)).write options_of_limit ≡ options_frame
+options_written : write_in attributes options_of_limit ≡ options_frame
 unfolding header padded frame_bytes list_bytes
 options_written = refl
 
@@ -652,16 +671,19 @@ action_options_read : (table_codec (table action_attributes)).read (hex (codes "
 unfolding next_frame cut_up_to cut read_each read_list
 action_options_read = refl
 
-action_options_written : (table_codec (table action_attributes)).write options_of_key ≡ action_options_frame
+action_options_written : write_in action_attributes options_of_key ≡ action_options_frame
 unfolding header padded frame_bytes list_bytes
 action_options_written = refl
 
 -- the statistics of fq_codel, of a qdisc and of a class, and any of another kind
 abbrev qdisc_stats : Content
-qdisc_stats = statistics 0 (plain 0x04030201 ∷ plain 0x08070605 ∷ plain 0x0c0b0a09 ∷ plain 0x100f0e0d ∷ plain 0x14131211 ∷ plain 0x18171615 ∷ plain 0x1c1b1a19 ∷ plain 0x201f1e1d ∷ plain 0x24232221 ∷ [])
+qdisc_stats = statistics 0
+    (plain 0x04030201 ∷ plain 0x08070605 ∷ plain 0x0c0b0a09 ∷ plain 0x100f0e0d ∷ plain 0x14131211 ∷ plain 0x18171615
+        ∷ plain 0x1c1b1a19 ∷ plain 0x201f1e1d ∷ plain 0x24232221 ∷ [])
 
 abbrev class_stats : Content
-class_stats = statistics 1 (plain 0x04030201 ∷ plain 0x08070605 ∷ plain 0x0c0b0a09 ∷ plain 0x100f0e0d ∷ plain 0x14131211 ∷ plain 0x18171615 ∷ [])
+class_stats = statistics 1
+    (plain 0x04030201 ∷ plain 0x08070605 ∷ plain 0x0c0b0a09 ∷ plain 0x100f0e0d ∷ plain 0x14131211 ∷ plain 0x18171615 ∷ [])
 
 abbrev xstats_rows : ℕ → List Row
 xstats_rows n =
@@ -670,13 +692,15 @@ xstats_rows n =
     ∷ (n, hex (codes "0200000001"), unknown_statistics (hex (codes "0200000001")))
     ∷ []
 
-xstats_read : map (λ row. (table_codec (table attributes)).read fq_codel (frame_of_row row)) (xstats_rows 4) ≡ map (λ row. Ok (value_of_row row)) (xstats_rows 4)
+xstats_read : map (λ row. (table_codec (table attributes)).read fq_codel (frame_of_row row)) (xstats_rows 4)
+    ≡ map (λ row. Ok (value_of_row row)) (xstats_rows 4)
 xstats_read = refl
 
 xstats_written : map (write_row attributes) (xstats_rows 4) ≡ map frame_of_row (xstats_rows 4)
 xstats_written = refl
 
-app_read : map (λ row. (table_codec (table stats2)).read fq_codel (frame_of_row row)) (xstats_rows 4) ≡ map (λ row. Ok (value_of_row row)) (xstats_rows 4)
+app_read : map (λ row. (table_codec (table stats2)).read fq_codel (frame_of_row row)) (xstats_rows 4)
+    ≡ map (λ row. Ok (value_of_row row)) (xstats_rows 4)
 app_read = refl
 
 app_written : map (write_row stats2) (xstats_rows 4) ≡ map frame_of_row (xstats_rows 4)
@@ -689,10 +713,11 @@ basic_stats n = a_list n (known 7 (record_of (plain 0x0807060504030201 ∷ plain
 abbrev basic_stats_frame : ℕ → Frame
 basic_stats_frame n = record { word = n; value = hex (codes "140007000102030405060708090a0b0c00000000") }
 
-basic_stats_read : (table_codec (table attributes)).read [] (basic_stats_frame 7) ∷ (table_codec (table action_attributes)).read [] (basic_stats_frame 4) ∷ [] ≡ Ok (basic_stats 7) ∷ Ok (basic_stats 4) ∷ []
+basic_stats_read : read_in attributes (basic_stats_frame 7) ∷ read_in action_attributes (basic_stats_frame 4) ∷ []
+    ≡ Ok (basic_stats 7) ∷ Ok (basic_stats 4) ∷ []
 unfolding next_frame cut_up_to cut read_each read_list
 basic_stats_read = refl
 
-basic_stats_written : (table_codec (table attributes)).write (basic_stats 7) ∷ (table_codec (table action_attributes)).write (basic_stats 4) ∷ [] ≡ map basic_stats_frame (7 ∷ 4 ∷ [])
+basic_stats_written : write_in attributes (basic_stats 7) ∷ write_in action_attributes (basic_stats 4) ∷ [] ≡ map basic_stats_frame (7 ∷ 4 ∷ [])
 unfolding header padded frame_bytes list_bytes
 basic_stats_written = refl
