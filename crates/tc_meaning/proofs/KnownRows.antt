@@ -1,0 +1,723 @@
+-- Known rows of the tables: for each type of each table the bytes of a value, what they are, and that the types beside them are kept as they stand.
+-- Bytes are counted from 1, so that another width, another byte order or another place of a field is seen.
+use Rattle.std.proofs.Common.{◌≡◌, ℕ, List, [], ◌∷◌, true, false, Ok, refl, map}
+use Rattle.std.specs.Prelude.{codes}
+use Rattle.nla_frames.specs.Fault.{Outcome}
+use Rattle.nla_frames.specs.Value.{strip}
+use Rattle.nla_frames.specs.Frame.{Frame, header, padded, frame_bytes}
+use Rattle.nla_frames.specs.Cutting.{next_frame, cut_up_to, cut}
+use Rattle.nla_frames.specs.Reading.{read_each, read_list}
+use Rattle.nla_frames.specs.Emission.{list_bytes}
+use Rattle.tc_canon.specs.Descriptor.{Rows, Kinds, table, by_kind}
+use Rattle.tc_canon.specs.Tables.Flower.{flower_options, mpls_options, lse_options}
+use Rattle.tc_canon.specs.Tables.Options.{fq_codel_options, u32_options, matchall_options, bpf_options, option_kinds}
+use Rattle.tc_canon.specs.Tables.Actions.{mirror_options, nat_options, tunnel_key_options, action_attributes, action_option_kinds}
+use Rattle.tc_canon.specs.Tables.Messages.{attributes, action_message_attributes}
+use Rattle.tc_canon.specs.Tables.Statistics.{stats2}
+use Rattle.tc_meaning.specs.Tree.{Scalar, plain, unnamed, octets_of, blank, Content, number, is_bytes, flag, record_of, keyed, statistics, unknown_statistics}
+use Rattle.tc_meaning.specs.Tree.{Attribute, known, other, of_kind}
+use Rattle.tc_meaning.specs.Own.{read_kinds, read_own}
+use Rattle.tc_meaning.specs.Meaning.{table_codec}
+use Rattle.tc_meaning.proofs.WorkedRows.{hex, the_kind, a_list, utf8}
+
+-- a row: a type, which is its word, the value's bytes, and what they are
+abbrev Row : Type 0
+Row = ℕ × List ℕ × Content
+
+-- bytes that stand as they are
+abbrev octets_row : ℕ → List ℕ → Row
+octets_row n text = (n, hex text, is_bytes (hex text))
+
+abbrev frame_of_row : Row → Frame
+frame_of_row (n, bytes, content) = record { word = n; value = bytes }
+
+abbrev value_of_row : Row → Attribute
+value_of_row (n, bytes, content) = known n content
+
+-- what a table reads under no kind, and what it writes
+abbrev read_in : Rows → Frame → Outcome Attribute
+read_in rows f = (table_codec (table rows)).read [] f
+
+abbrev write_in : Rows → Attribute → Frame
+write_in rows x = (table_codec (table rows)).write x
+
+abbrev read_row : Rows → Row → Outcome Attribute
+read_row rows row = read_in rows (frame_of_row row)
+
+abbrev write_row : Rows → Row → Frame
+write_row rows row = write_in rows (value_of_row row)
+
+-- bytes of a type, and what they are outside the table
+abbrev frame_of_type : ℕ → Frame
+frame_of_type n = record { word = n; value = hex (codes "01020304") }
+
+abbrev read_type : Rows → ℕ → Outcome Attribute
+read_type rows n = read_in rows (frame_of_type n)
+
+abbrev kept_type : ℕ → Outcome Attribute
+kept_type n = Ok (other n (hex (codes "01020304")))
+
+-- the first 20 bytes of an action's record, counted
+abbrev counted_generic : List Scalar → List Scalar
+counted_generic fields = plain 0x04030201 ∷ plain 0x08070605 ∷ unnamed 0x0c0b0a09 ∷ plain 0x100f0e0d ∷ plain 0x14131211 ∷ fields
+
+-- ---- flower
+
+abbrev flower_rows : List Row
+flower_rows =
+    octets_row 4 (codes "010203040506")  -- EthDst
+    ∷ octets_row 5 (codes "010203040506")  -- EthDstMask
+    ∷ octets_row 6 (codes "010203040506")  -- EthSrc
+    ∷ octets_row 7 (codes "010203040506")  -- EthSrcMask
+    ∷ (8, hex (codes "0102"), number 0x0102)  -- EthType
+    ∷ (9, hex (codes "01"), number 0x01)  -- IpProto
+    ∷ octets_row 10 (codes "01020304")  -- Ipv4Src
+    ∷ octets_row 11 (codes "01020304")  -- Ipv4SrcMask
+    ∷ octets_row 12 (codes "01020304")  -- Ipv4Dst
+    ∷ octets_row 13 (codes "01020304")  -- Ipv4DstMask
+    ∷ octets_row 14 (codes "0102030405060708090a0b0c0d0e0f10")  -- Ipv6Src
+    ∷ octets_row 15 (codes "0102030405060708090a0b0c0d0e0f10")  -- Ipv6SrcMask
+    ∷ octets_row 16 (codes "0102030405060708090a0b0c0d0e0f10")  -- Ipv6Dst
+    ∷ octets_row 17 (codes "0102030405060708090a0b0c0d0e0f10")  -- Ipv6DstMask
+    ∷ (18, hex (codes "0102"), number 0x0102)  -- TcpSrc
+    ∷ (19, hex (codes "0102"), number 0x0102)  -- TcpDst
+    ∷ (20, hex (codes "0102"), number 0x0102)  -- UdpSrc
+    ∷ (21, hex (codes "0102"), number 0x0102)  -- UdpDst
+    ∷ (22, hex (codes "01020304"), number 0x04030201)  -- Flags
+    ∷ (23, hex (codes "0102"), number 0x0201)  -- VlanId
+    ∷ (24, hex (codes "01"), number 0x01)  -- VlanPrio
+    ∷ (25, hex (codes "0102"), number 0x0102)  -- VlanEthType
+    ∷ (26, hex (codes "01020304"), number 0x01020304)  -- EncKeyId
+    ∷ octets_row 27 (codes "01020304")  -- EncKeyIpv4Src
+    ∷ octets_row 28 (codes "01020304")  -- EncKeyIpv4SrcMask
+    ∷ octets_row 29 (codes "01020304")  -- EncKeyIpv4Dst
+    ∷ octets_row 30 (codes "01020304")  -- EncKeyIpv4DstMask
+    ∷ octets_row 31 (codes "0102030405060708090a0b0c0d0e0f10")  -- EncKeyIpv6Src
+    ∷ octets_row 32 (codes "0102030405060708090a0b0c0d0e0f10")  -- EncKeyIpv6SrcMask
+    ∷ octets_row 33 (codes "0102030405060708090a0b0c0d0e0f10")  -- EncKeyIpv6Dst
+    ∷ octets_row 34 (codes "0102030405060708090a0b0c0d0e0f10")  -- EncKeyIpv6DstMask
+    ∷ (35, hex (codes "0102"), number 0x0102)  -- TcpSrcMask
+    ∷ (36, hex (codes "0102"), number 0x0102)  -- TcpDstMask
+    ∷ (37, hex (codes "0102"), number 0x0102)  -- UdpSrcMask
+    ∷ (38, hex (codes "0102"), number 0x0102)  -- UdpDstMask
+    ∷ (39, hex (codes "0102"), number 0x0102)  -- SctpSrcMask
+    ∷ (40, hex (codes "0102"), number 0x0102)  -- SctpDstMask
+    ∷ (41, hex (codes "0102"), number 0x0102)  -- SctpSrc
+    ∷ (42, hex (codes "0102"), number 0x0102)  -- SctpDst
+    ∷ (43, hex (codes "0102"), number 0x0102)  -- EncKeyUdpSrcPort
+    ∷ (44, hex (codes "0102"), number 0x0102)  -- EncKeyUdpSrcPortMask
+    ∷ (45, hex (codes "0102"), number 0x0102)  -- EncKeyUdpDstPort
+    ∷ (46, hex (codes "0102"), number 0x0102)  -- EncKeyUdpDstPortMask
+    ∷ (47, hex (codes "01020304"), number 0x01020304)  -- KeyFlags
+    ∷ (48, hex (codes "01020304"), number 0x01020304)  -- KeyFlagsMask
+    ∷ (49, hex (codes "01"), number 0x01)  -- Icmpv4Code
+    ∷ (50, hex (codes "01"), number 0x01)  -- Icmpv4CodeMask
+    ∷ (51, hex (codes "01"), number 0x01)  -- Icmpv4Type
+    ∷ (52, hex (codes "01"), number 0x01)  -- Icmpv4TypeMask
+    ∷ (53, hex (codes "01"), number 0x01)  -- Icmpv6Code
+    ∷ (54, hex (codes "01"), number 0x01)  -- Icmpv6CodeMask
+    ∷ (55, hex (codes "01"), number 0x01)  -- Icmpv6Type
+    ∷ (56, hex (codes "01"), number 0x01)  -- Icmpv6TypeMask
+    ∷ octets_row 57 (codes "01020304")  -- ArpSip
+    ∷ octets_row 58 (codes "01020304")  -- ArpSipMask
+    ∷ octets_row 59 (codes "01020304")  -- ArpTip
+    ∷ octets_row 60 (codes "01020304")  -- ArpTipMask
+    ∷ (61, hex (codes "01"), number 0x01)  -- ArpOp
+    ∷ (62, hex (codes "01"), number 0x01)  -- ArpOpMask
+    ∷ octets_row 63 (codes "010203040506")  -- ArpSha
+    ∷ octets_row 64 (codes "010203040506")  -- ArpShaMask
+    ∷ octets_row 65 (codes "010203040506")  -- ArpTha
+    ∷ octets_row 66 (codes "010203040506")  -- ArpThaMask
+    ∷ (67, hex (codes "01"), number 0x01)  -- MplsTtl
+    ∷ (71, hex (codes "0102"), number 0x0102)  -- TcpFlags
+    ∷ (72, hex (codes "0102"), number 0x0102)  -- TcpFlagsMask
+    ∷ (73, hex (codes "01"), number 0x01)  -- IpTos
+    ∷ (74, hex (codes "01"), number 0x01)  -- IpTosMask
+    ∷ (75, hex (codes "01"), number 0x01)  -- IpTtl
+    ∷ (76, hex (codes "01"), number 0x01)  -- IpTtlMask
+    ∷ (77, hex (codes "0102"), number 0x0201)  -- CvlanId
+    ∷ (78, hex (codes "01"), number 0x01)  -- CvlanPrio
+    ∷ (79, hex (codes "0102"), number 0x0102)  -- CvlanEthType
+    ∷ (80, hex (codes "01"), number 0x01)  -- EncKeyIpTos
+    ∷ (81, hex (codes "01"), number 0x01)  -- EncKeyIpTosMask
+    ∷ (82, hex (codes "01"), number 0x01)  -- EncKeyIpTtl
+    ∷ (83, hex (codes "01"), number 0x01)  -- EncKeyIpTtlMask
+    ∷ (86, hex (codes "01020304"), number 0x04030201)  -- InHwCount
+    ∷ (87, hex (codes "0102"), number 0x0102)  -- PortSrcMin
+    ∷ (88, hex (codes "0102"), number 0x0102)  -- PortSrcMax
+    ∷ (89, hex (codes "0102"), number 0x0102)  -- PortDstMin
+    ∷ (90, hex (codes "0102"), number 0x0102)  -- PortDstMax
+    ∷ (91, hex (codes "0102"), number 0x0201)  -- CtState
+    ∷ (92, hex (codes "0102"), number 0x0201)  -- CtStateMask
+    ∷ (93, hex (codes "0102"), number 0x0201)  -- CtZone
+    ∷ (94, hex (codes "0102"), number 0x0201)  -- CtZoneMask
+    ∷ (95, hex (codes "01020304"), number 0x04030201)  -- CtMark
+    ∷ (96, hex (codes "01020304"), number 0x04030201)  -- CtMarkMask
+    ∷ octets_row 97 (codes "0102030405060708090a0b0c0d0e0f10")  -- CtLabels
+    ∷ octets_row 98 (codes "0102030405060708090a0b0c0d0e0f10")  -- CtLabelsMask
+    ∷ (100, hex (codes "01020304"), number 0x04030201)  -- KeyHash
+    ∷ (101, hex (codes "01020304"), number 0x04030201)  -- KeyHashMask
+    ∷ []
+
+flower_rows_read : map (read_row flower_options) flower_rows ≡ map (λ row. Ok (value_of_row row)) flower_rows
+flower_rows_read = refl
+
+flower_rows_written : map (write_row flower_options) flower_rows ≡ map frame_of_row flower_rows
+flower_rows_written = refl
+
+-- types outside the table
+flower_others : map (read_type flower_options) (0 ∷ 1 ∷ 84 ∷ 85 ∷ 102 ∷ 103 ∷ []) ≡ map kept_type (0 ∷ 1 ∷ 84 ∷ 85 ∷ 102 ∷ 103 ∷ [])
+flower_others = refl
+
+-- ---- fq_codel
+
+abbrev fq_codel_rows : List Row
+fq_codel_rows =
+    (1, hex (codes "01020304"), number 0x04030201)  -- Target
+    ∷ (2, hex (codes "01020304"), number 0x04030201)  -- Limit
+    ∷ (3, hex (codes "01020304"), number 0x04030201)  -- Interval
+    ∷ (4, hex (codes "01020304"), number 0x04030201)  -- Ecn
+    ∷ (5, hex (codes "01020304"), number 0x04030201)  -- Flows
+    ∷ (6, hex (codes "01020304"), number 0x04030201)  -- Quantum
+    ∷ (7, hex (codes "01020304"), number 0x04030201)  -- CeThreshold
+    ∷ (8, hex (codes "01020304"), number 0x04030201)  -- DropBatchSize
+    ∷ (9, hex (codes "01020304"), number 0x04030201)  -- MemoryLimit
+    ∷ (10, hex (codes "01"), number 0x01)  -- CeThresholdSelector
+    ∷ (11, hex (codes "01"), number 0x01)  -- CeThresholdMask
+    ∷ []
+
+fq_codel_rows_read : map (read_row fq_codel_options) fq_codel_rows ≡ map (λ row. Ok (value_of_row row)) fq_codel_rows
+fq_codel_rows_read = refl
+
+fq_codel_rows_written : map (write_row fq_codel_options) fq_codel_rows ≡ map frame_of_row fq_codel_rows
+fq_codel_rows_written = refl
+
+-- types outside the table
+fq_codel_others : map (read_type fq_codel_options) (0 ∷ 12 ∷ []) ≡ map kept_type (0 ∷ 12 ∷ [])
+fq_codel_others = refl
+
+-- ---- u32
+
+abbrev u32_rows : List Row
+u32_rows =
+    (1, hex (codes "01020304"), number 0x04030201)  -- ClassId
+    ∷ (2, hex (codes "01020304"), number 0x04030201)  -- Hash
+    ∷ (3, hex (codes "01020304"), number 0x04030201)  -- Link
+    ∷ (4, hex (codes "01020304"), number 0x04030201)  -- Divisor
+    ∷ octets_row 6 (codes "010203")  -- Police
+    ∷ octets_row 8 (codes "010203")  -- Indev
+    ∷ octets_row 9 (codes "010203")  -- Pnct
+    ∷ octets_row 10 (codes "010203")  -- Mark
+    ∷ (11, hex (codes "01020304"), number 0x04030201)  -- Flags
+    ∷ []
+
+u32_rows_read : map (read_row u32_options) u32_rows ≡ map (λ row. Ok (value_of_row row)) u32_rows
+u32_rows_read = refl
+
+u32_rows_written : map (write_row u32_options) u32_rows ≡ map frame_of_row u32_rows
+u32_rows_written = refl
+
+-- types outside the table
+u32_others : map (read_type u32_options) (0 ∷ 12 ∷ []) ≡ map kept_type (0 ∷ 12 ∷ [])
+u32_others = refl
+
+-- ---- matchall
+
+abbrev matchall_rows : List Row
+matchall_rows =
+    (1, hex (codes "01020304"), number 0x04030201)  -- ClassId
+    ∷ (3, hex (codes "01020304"), number 0x04030201)  -- Flags
+    ∷ octets_row 4 (codes "010203")  -- Pnct
+    ∷ []
+
+matchall_rows_read : map (read_row matchall_options) matchall_rows ≡ map (λ row. Ok (value_of_row row)) matchall_rows
+matchall_rows_read = refl
+
+matchall_rows_written : map (write_row matchall_options) matchall_rows ≡ map frame_of_row matchall_rows
+matchall_rows_written = refl
+
+-- types outside the table
+matchall_others : map (read_type matchall_options) (0 ∷ 5 ∷ []) ≡ map kept_type (0 ∷ 5 ∷ [])
+matchall_others = refl
+
+-- ---- bpf
+
+abbrev bpf_rows : List Row
+bpf_rows =
+    (3, hex (codes "01020304"), number 0x04030201)  -- ClassId
+    ∷ (6, hex (codes "01020304"), number 0x04030201)  -- ProgFd
+    ∷ (8, hex (codes "01020304"), number 0x04030201)  -- Flags
+    ∷ (9, hex (codes "01020304"), number 0x04030201)  -- FlagsGeneric
+    ∷ octets_row 10 (codes "0102030405060708")  -- ProgTag
+    ∷ (11, hex (codes "01020304"), number 0x04030201)  -- ProgId
+    ∷ []
+
+bpf_rows_read : map (read_row bpf_options) bpf_rows ≡ map (λ row. Ok (value_of_row row)) bpf_rows
+bpf_rows_read = refl
+
+bpf_rows_written : map (write_row bpf_options) bpf_rows ≡ map frame_of_row bpf_rows
+bpf_rows_written = refl
+
+-- types outside the table
+bpf_others : map (read_type bpf_options) (0 ∷ 1 ∷ 2 ∷ 4 ∷ 5 ∷ 12 ∷ []) ≡ map kept_type (0 ∷ 1 ∷ 2 ∷ 4 ∷ 5 ∷ 12 ∷ [])
+bpf_others = refl
+
+-- ---- mirror
+
+abbrev mirror_rows : List Row
+mirror_rows =
+    (1, hex (codes "0102030405060708090a0b0c0d0e0f101112131415161718191a1b1c1d1e1f20"),
+        record_of (plain 0x0807060504030201 ∷ plain 0x100f0e0d0c0b0a09 ∷ plain 0x1817161514131211 ∷ plain 0x201f1e1d1c1b1a19 ∷ []))  -- Tm
+    ∷ (2, hex (codes "0102030405060708090a0b0c0d0e0f101112131415161718191a1b1c"),
+        record_of (counted_generic (unnamed 0x18171615 ∷ plain 0x1c1b1a19 ∷ [])))  -- Parms
+    ∷ []
+
+mirror_rows_read : map (read_row mirror_options) mirror_rows ≡ map (λ row. Ok (value_of_row row)) mirror_rows
+mirror_rows_read = refl
+
+mirror_rows_written : map (write_row mirror_options) mirror_rows ≡ map frame_of_row mirror_rows
+mirror_rows_written = refl
+
+-- types outside the table
+mirror_others : map (read_type mirror_options) (0 ∷ 3 ∷ []) ≡ map kept_type (0 ∷ 3 ∷ [])
+mirror_others = refl
+
+-- ---- nat
+
+abbrev nat_rows : List Row
+nat_rows =
+    (1, hex (codes "0102030405060708090a0b0c0d0e0f101112131415161718191a1b1c1d1e1f2021222324"),
+        record_of (counted_generic (octets_of (hex (codes "15161718")) ∷ octets_of (hex (codes "191a1b1c")) ∷ octets_of (hex (codes "1d1e1f20"))
+            ∷ plain 0x24232221 ∷ [])))  -- Parms
+    ∷ (2, hex (codes "0102030405060708090a0b0c0d0e0f101112131415161718191a1b1c1d1e1f20"),
+        record_of (plain 0x0807060504030201 ∷ plain 0x100f0e0d0c0b0a09 ∷ plain 0x1817161514131211 ∷ plain 0x201f1e1d1c1b1a19 ∷ []))  -- Tm
+    ∷ []
+
+nat_rows_read : map (read_row nat_options) nat_rows ≡ map (λ row. Ok (value_of_row row)) nat_rows
+nat_rows_read = refl
+
+nat_rows_written : map (write_row nat_options) nat_rows ≡ map frame_of_row nat_rows
+nat_rows_written = refl
+
+-- types outside the table
+nat_others : map (read_type nat_options) (0 ∷ 3 ∷ []) ≡ map kept_type (0 ∷ 3 ∷ [])
+nat_others = refl
+
+-- ---- tunnel_key
+
+abbrev tunnel_key_rows : List Row
+tunnel_key_rows =
+    (1, hex (codes "0102030405060708090a0b0c0d0e0f101112131415161718191a1b1c1d1e1f20"),
+        record_of (plain 0x0807060504030201 ∷ plain 0x100f0e0d0c0b0a09 ∷ plain 0x1817161514131211 ∷ plain 0x201f1e1d1c1b1a19 ∷ []))  -- Tm
+    ∷ (2, hex (codes "0102030405060708090a0b0c0d0e0f101112131415161718"), record_of (counted_generic (plain 0x18171615 ∷ [])))  -- Parms
+    ∷ octets_row 3 (codes "01020304")  -- EncIpv4Src
+    ∷ octets_row 4 (codes "01020304")  -- EncIpv4Dst
+    ∷ octets_row 5 (codes "0102030405060708090a0b0c0d0e0f10")  -- EncIpv6Src
+    ∷ octets_row 6 (codes "0102030405060708090a0b0c0d0e0f10")  -- EncIpv6Dst
+    ∷ (7, hex (codes "01020304"), number 0x01020304)  -- EncKeyId
+    ∷ (9, hex (codes "0102"), number 0x0102)  -- EncDstPort
+    ∷ (12, hex (codes "01"), number 0x01)  -- EncTos
+    ∷ (13, hex (codes "01"), number 0x01)  -- EncTtl
+    ∷ []
+
+tunnel_key_rows_read : map (read_row tunnel_key_options) tunnel_key_rows ≡ map (λ row. Ok (value_of_row row)) tunnel_key_rows
+tunnel_key_rows_read = refl
+
+tunnel_key_rows_written : map (write_row tunnel_key_options) tunnel_key_rows ≡ map frame_of_row tunnel_key_rows
+tunnel_key_rows_written = refl
+
+-- types outside the table
+tunnel_key_others : map (read_type tunnel_key_options) (0 ∷ 8 ∷ 11 ∷ 14 ∷ []) ≡ map kept_type (0 ∷ 8 ∷ 11 ∷ 14 ∷ [])
+tunnel_key_others = refl
+
+-- ---- the attributes of a message
+
+abbrev message_rows : List Row
+message_rows =
+    (3, hex (codes "0102030405060708090a0b0c0d0e0f101112131415161718191a1b1c1d1e1f202122232400000000"),
+        record_of (plain 0x0807060504030201 ∷ plain 0x0c0b0a09 ∷ plain 0x100f0e0d ∷ plain 0x14131211 ∷ plain 0x18171615
+            ∷ plain 0x1c1b1a19 ∷ plain 0x201f1e1d ∷ plain 0x24232221 ∷ blank ∷ []))  -- Stats
+    ∷ octets_row 5 (codes "010203")  -- Rate
+    ∷ octets_row 6 (codes "010203")  -- Fcnt
+    ∷ octets_row 8 (codes "010203")  -- Stab
+    ∷ (11, hex (codes "01020304"), number 0x04030201)  -- Chain
+    ∷ (12, hex (codes "01"), number 0x01)  -- HwOffload
+    ∷ []
+
+message_rows_read : map (read_row attributes) message_rows ≡ map (λ row. Ok (value_of_row row)) message_rows
+message_rows_read = refl
+
+message_rows_written : map (write_row attributes) message_rows ≡ map frame_of_row message_rows
+message_rows_written = refl
+
+-- types outside the table
+message_others : map (read_type attributes) (0 ∷ 9 ∷ 13 ∷ 14 ∷ 15 ∷ []) ≡ map kept_type (0 ∷ 9 ∷ 13 ∷ 14 ∷ 15 ∷ [])
+message_others = refl
+
+-- ---- the attributes of an action
+
+abbrev action_rows : List Row
+action_rows =
+    (3, hex (codes "01020304"), number 0x04030201)  -- Index
+    ∷ octets_row 6 (codes "010203")  -- Cookie
+    ∷ (10, hex (codes "01020304"), number 0x04030201)  -- InHwCount
+    ∷ []
+
+action_rows_read : map (read_row action_attributes) action_rows ≡ map (λ row. Ok (value_of_row row)) action_rows
+action_rows_read = refl
+
+action_rows_written : map (write_row action_attributes) action_rows ≡ map frame_of_row action_rows
+action_rows_written = refl
+
+-- types outside the table
+action_others : map (read_type action_attributes) (0 ∷ 5 ∷ 7 ∷ 8 ∷ 9 ∷ 11 ∷ []) ≡ map kept_type (0 ∷ 5 ∷ 7 ∷ 8 ∷ 9 ∷ 11 ∷ [])
+action_others = refl
+
+-- ---- the attributes of an action message
+
+abbrev action_message_rows : List Row
+action_message_rows =
+    (3, hex (codes "01020304"), number 0x04030201)  -- RootCount
+    ∷ (4, hex (codes "01020304"), number 0x04030201)  -- RootTimeDelta
+    ∷ []
+
+action_message_rows_read : map (read_row action_message_attributes) action_message_rows ≡ map (λ row. Ok (value_of_row row)) action_message_rows
+action_message_rows_read = refl
+
+action_message_rows_written : map (write_row action_message_attributes) action_message_rows ≡ map frame_of_row action_message_rows
+action_message_rows_written = refl
+
+-- types outside the table
+action_message_others : map (read_type action_message_attributes) (0 ∷ 6 ∷ []) ≡ map kept_type (0 ∷ 6 ∷ [])
+action_message_others = refl
+
+-- ---- statistics
+
+abbrev stats2_rows : List Row
+stats2_rows =
+    (1, hex (codes "0102030405060708090a0b0c00000000"), record_of (plain 0x0807060504030201 ∷ plain 0x0c0b0a09 ∷ blank ∷ []))  -- Basic
+    ∷ (3, hex (codes "0102030405060708090a0b0c0d0e0f1011121314"),
+        record_of (plain 0x04030201 ∷ plain 0x08070605 ∷ plain 0x0c0b0a09 ∷ plain 0x100f0e0d ∷ plain 0x14131211 ∷ []))  -- Queue
+    ∷ (7, hex (codes "0102030405060708090a0b0c00000000"), record_of (plain 0x0807060504030201 ∷ plain 0x0c0b0a09 ∷ blank ∷ []))  -- BasicHw
+    ∷ []
+
+stats2_rows_read : map (read_row stats2) stats2_rows ≡ map (λ row. Ok (value_of_row row)) stats2_rows
+stats2_rows_read = refl
+
+stats2_rows_written : map (write_row stats2) stats2_rows ≡ map frame_of_row stats2_rows
+stats2_rows_written = refl
+
+-- types outside the table
+stats2_others : map (read_type stats2) (0 ∷ 2 ∷ 5 ∷ 6 ∷ 8 ∷ []) ≡ map kept_type (0 ∷ 2 ∷ 5 ∷ 6 ∷ 8 ∷ [])
+stats2_others = refl
+
+-- ---- values that lose bits, and a type that is never read
+
+abbrev masked_rows : List Row
+masked_rows =
+    (68, hex (codes "ff"), number 0xff)  -- MplsBos
+    ∷ (69, hex (codes "ff"), number 0xff)  -- MplsTc
+    ∷ (70, hex (codes "ff020304"), number 0x040302ff)  -- MplsLabel
+    ∷ []
+
+masked_rows_read : map (read_row flower_options) masked_rows ≡ map (λ row. Ok (value_of_row row)) masked_rows
+masked_rows_read = refl
+
+masked_rows_written : map (write_row flower_options) masked_rows
+    ≡ map frame_of_row ((68, hex (codes "01"), number 0) ∷ (69, hex (codes "07"), number 0) ∷ (70, hex (codes "ff020300"), number 0) ∷ [])
+masked_rows_written = refl
+
+class_id_written : write_in flower_options (known 1 (number 0x04030201)) ≡ frame_of_type 1
+class_id_written = refl
+
+-- ---- labels of MPLS
+
+abbrev lse_rows : List Row
+lse_rows =
+    (1, hex (codes "01"), number 0x01)  -- LseDepth
+    ∷ (2, hex (codes "01"), number 0x01)  -- LseTtl
+    ∷ (3, hex (codes "ff"), number 0xff)  -- LseBos, every bit of it
+    ∷ (4, hex (codes "ff"), number 0xff)  -- LseTc, every bit of it
+    ∷ (5, hex (codes "01020300"), number 0x00030201)  -- LseLabel
+    ∷ []
+
+lse_rows_read : map (read_row lse_options) lse_rows ≡ map (λ row. Ok (value_of_row row)) lse_rows
+lse_rows_read = refl
+
+lse_rows_written : map (write_row lse_options) lse_rows ≡ map frame_of_row lse_rows
+lse_rows_written = refl
+
+lse_label_written : write_in lse_options (known 5 (number 0xffffffff)) ≡ record { word = 5; value = hex (codes "ffff0f00") }
+lse_label_written = refl
+
+lse_others : map (read_type lse_options) (0 ∷ 6 ∷ []) ≡ map kept_type (0 ∷ 6 ∷ [])
+lse_others = refl
+
+mpls_others : map (read_type mpls_options) (0 ∷ 2 ∷ []) ≡ map kept_type (0 ∷ 2 ∷ [])
+mpls_others = refl
+
+-- MplsOpts with one Lse, each with its nested flag
+abbrev labels : Attribute
+labels = a_list 99 (a_list 1 (known 1 (number 1) ∷ known 5 (number 0x12345) ∷ []) ∷ [])
+
+abbrev labels_frame : Frame
+labels_frame = record { word = 0x8063; value = hex (codes "1400018005000100010000000800050045230100") }
+
+labels_read : read_in flower_options labels_frame ≡ Ok labels
+unfolding strip header padded frame_bytes next_frame cut_up_to cut read_each read_list list_bytes
+labels_read = refl
+
+labels_written : write_in flower_options labels ≡ labels_frame
+unfolding strip header padded frame_bytes next_frame cut_up_to cut read_each read_list list_bytes
+labels_written = refl
+
+-- ---- texts
+
+abbrev text_frame : ℕ → Frame
+text_frame n = record { word = n; value = hex (codes "65746800") }
+
+abbrev a_text : ℕ → Attribute
+a_text n = known n (is_bytes (hex (codes "657468")))
+
+in_dev_read : read_in flower_options (text_frame 2) ≡ Ok (a_text 2)
+unfolding strip
+in_dev_read = rw (utf8 (hex (codes "657468")) refl) refl
+
+in_dev_written : write_in flower_options (a_text 2) ≡ text_frame 2
+in_dev_written = refl
+
+prog_name_read : read_in bpf_options (text_frame 7) ≡ Ok (a_text 7)
+unfolding strip
+prog_name_read = rw (utf8 (hex (codes "657468")) refl) refl
+
+prog_name_written : write_in bpf_options (a_text 7) ≡ text_frame 7
+prog_name_written = refl
+
+kind_read : read_in attributes (text_frame 1) ≡ Ok (a_text 1)
+unfolding strip
+kind_read = rw (utf8 (hex (codes "657468")) refl) refl
+
+kind_written : write_in attributes (a_text 1) ≡ text_frame 1
+kind_written = refl
+
+kind_of_action_read : read_in action_attributes (text_frame 1) ≡ Ok (a_text 1)
+unfolding strip
+kind_of_action_read = rw (utf8 (hex (codes "657468")) refl) refl
+
+kind_of_action_written : write_in action_attributes (a_text 1) ≡ text_frame 1
+kind_of_action_written = refl
+
+-- without a NUL
+warning_text_read : read_in action_message_attributes (text_frame 5) ≡ Ok (a_text 5)
+unfolding strip
+warning_text_read = rw (utf8 (hex (codes "657468")) refl) refl
+
+warning_text_written : write_in action_message_attributes (a_text 5) ≡ record { word = 5; value = hex (codes "657468") }
+warning_text_written = refl
+
+-- ---- flags
+
+no_csum_read :
+    map (read_row tunnel_key_options) ((10, hex (codes "00"), flag false) ∷ (10, hex (codes "01"), flag true) ∷ (10, hex (codes "80"), flag true) ∷ [])
+    ≡ map (λ x. Ok (known 10 (flag x))) (false ∷ true ∷ true ∷ [])
+no_csum_read = refl
+
+no_csum_written : map (write_row tunnel_key_options) ((10, [], flag false) ∷ (10, [], flag true) ∷ [])
+    ≡ map frame_of_row ((10, hex (codes "00"), flag false) ∷ (10, hex (codes "01"), flag true) ∷ [])
+no_csum_written = refl
+
+dump_invisible_read : read_in attributes (record { word = 10; value = hex (codes "0000") }) ≡ Ok (known 10 (flag true))
+dump_invisible_read = refl
+
+dump_invisible_written : write_in attributes (known 10 (flag true)) ≡ record { word = 10; value = [] }
+dump_invisible_written = refl
+
+-- the flags of an action message and their selector
+abbrev flags_row : Row
+flags_row = (2, hex (codes "0102030405060708"), record_of (plain 0x04030201 ∷ plain 0x08070605 ∷ []))
+
+message_flags_read : read_row action_message_attributes flags_row ≡ Ok (value_of_row flags_row)
+message_flags_read = refl
+
+message_flags_written : write_row action_message_attributes flags_row ≡ frame_of_row flags_row
+message_flags_written = refl
+
+-- ---- the selector of u32, with one key
+
+abbrev counted_selector : Row
+counted_selector =
+    (5, hex (codes "0102010005060708090a0b0c0d0e0f101112131415161718191a1b1c1d1e1f20"),
+        keyed (plain 1 ∷ plain 2 ∷ plain 1 ∷ blank ∷ plain 0x0506 ∷ plain 0x0807 ∷ plain 0x0a09 ∷ plain 0x0c0b ∷ plain 0x0d0e0f10 ∷ [])
+            ((plain 0x11121314 ∷ plain 0x15161718 ∷ plain 0x1c1b1a19 ∷ plain 0x201f1e1d ∷ []) ∷ []))
+
+selector_read : read_row u32_options counted_selector ≡ Ok (value_of_row counted_selector)
+selector_read = refl
+
+selector_written : write_row u32_options counted_selector ≡ frame_of_row counted_selector
+selector_written = refl
+
+-- ---- lists of actions, wherever they stand
+
+abbrev one_action : ℕ → Attribute
+one_action n = a_list n (a_list 1 (the_kind (codes "nat") ∷ []) ∷ [])
+
+abbrev action_frame : ℕ → Frame
+action_frame n = record { word = n; value = hex (codes "0c000100080001006e617400") }
+
+u32_action_read : read_in u32_options (action_frame 7) ≡ Ok (one_action 7)
+unfolding strip next_frame cut_up_to cut read_each read_list read_kinds read_own
+u32_action_read = rw (utf8 (codes "nat") refl) refl
+
+matchall_action_read : read_in matchall_options (action_frame 2) ≡ Ok (one_action 2)
+unfolding strip next_frame cut_up_to cut read_each read_list read_kinds read_own
+matchall_action_read = rw (utf8 (codes "nat") refl) refl
+
+flower_actions_read : read_in flower_options (action_frame 3) ≡ Ok (one_action 3)
+unfolding strip next_frame cut_up_to cut read_each read_list read_kinds read_own
+flower_actions_read = rw (utf8 (codes "nat") refl) refl
+
+message_actions_read : read_in action_message_attributes (action_frame 1) ≡ Ok (one_action 1)
+unfolding strip next_frame cut_up_to cut read_each read_list read_kinds read_own
+message_actions_read = rw (utf8 (codes "nat") refl) refl
+
+actions_written :
+    write_in u32_options (one_action 7) ∷ write_in matchall_options (one_action 2) ∷ write_in flower_options (one_action 3)
+    ∷ write_in action_message_attributes (one_action 1) ∷ []
+    ≡ map action_frame (7 ∷ 2 ∷ 3 ∷ 1 ∷ [])
+unfolding strip header padded frame_bytes list_bytes
+actions_written = refl
+
+-- ---- the known kinds, by the bytes of their names
+
+-- an option of a kind: its type, the value's bytes, and what they are
+abbrev KindRow : Type 0
+KindRow = List ℕ × Row
+
+abbrev read_kind : Kinds → KindRow → Outcome Attribute
+read_kind kinds (name, row) = (table_codec (by_kind kinds)).read name (frame_of_row row)
+
+abbrev write_kind : Kinds → KindRow → Frame
+write_kind kinds (name, row) = (table_codec (by_kind kinds)).write (of_kind name (value_of_row row))
+
+abbrev kind_rows : List KindRow
+kind_rows =
+    (hex (codes "66715f636f64656c"), (2, hex (codes "01020304"), number 0x04030201))  -- fq_codel, Limit
+    ∷ (hex (codes "666c6f776572"), (8, hex (codes "0102"), number 0x0102))  -- flower, EthType
+    ∷ (hex (codes "753332"), (2, hex (codes "01020304"), number 0x04030201))  -- u32, Hash
+    ∷ (hex (codes "6d61746368616c6c"), (3, hex (codes "01020304"), number 0x04030201))  -- matchall, Flags
+    ∷ (hex (codes "627066"), (6, hex (codes "01020304"), number 0x04030201))  -- bpf, ProgFd
+    ∷ []
+
+kind_rows_read : map (read_kind option_kinds) kind_rows ≡ map (λ row. Ok (of_kind row.0 (value_of_row row.1))) kind_rows
+kind_rows_read = refl
+
+kind_rows_written : map (write_kind option_kinds) kind_rows ≡ map (λ row. frame_of_row row.1) kind_rows
+kind_rows_written = refl
+
+-- of ingress each option is kept
+ingress_read : (table_codec (by_kind option_kinds)).read (hex (codes "696e6772657373")) (frame_of_type 1)
+    ≡ Ok (of_kind (hex (codes "696e6772657373")) (other 1 (hex (codes "01020304"))))
+ingress_read = refl
+
+-- of no other kind one is known
+sfq_read : (table_codec (by_kind option_kinds)).read (hex (codes "736671")) (frame_of_type 2) ≡ kept_type 2
+sfq_read = refl
+
+abbrev action_kind_rows : List KindRow
+action_kind_rows =
+    (hex (codes "6d6972726564"), (2, hex (codes "0102030405060708090a0b0c0d0e0f101112131415161718191a1b1c"),
+        record_of (counted_generic (unnamed 0x18171615 ∷ plain 0x1c1b1a19 ∷ []))))  -- mirred, Parms
+    ∷ (hex (codes "6e6174"), (2, hex (codes "0102030405060708090a0b0c0d0e0f101112131415161718191a1b1c1d1e1f20"),
+        record_of (plain 0x0807060504030201 ∷ plain 0x100f0e0d0c0b0a09 ∷ plain 0x1817161514131211 ∷ plain 0x201f1e1d1c1b1a19 ∷ [])))  -- nat, Tm
+    ∷ (hex (codes "74756e6e656c5f6b6579"), (7, hex (codes "01020304"), number 0x01020304))  -- tunnel_key, EncKeyId
+    ∷ []
+
+action_kind_rows_read : map (read_kind action_option_kinds) action_kind_rows ≡ map (λ row. Ok (of_kind row.0 (value_of_row row.1))) action_kind_rows
+action_kind_rows_read = refl
+
+action_kind_rows_written : map (write_kind action_option_kinds) action_kind_rows ≡ map (λ row. frame_of_row row.1) action_kind_rows
+action_kind_rows_written = refl
+
+gact_read : (table_codec (by_kind action_option_kinds)).read (hex (codes "67616374")) (frame_of_type 2) ≡ kept_type 2
+gact_read = refl
+
+-- ---- options and statistics among attributes
+
+abbrev fq_codel : List ℕ
+fq_codel = hex (codes "66715f636f64656c")
+
+abbrev options_of_limit : Attribute
+options_of_limit = a_list 2 (of_kind fq_codel (known 2 (number 0x04030201)) ∷ [])
+
+abbrev options_frame : Frame
+options_frame = record { word = 2; value = hex (codes "0800020001020304") }
+
+options_read : (table_codec (table attributes)).read fq_codel options_frame ≡ Ok options_of_limit
+unfolding next_frame cut_up_to cut read_each read_list
+options_read = refl
+
+options_written : write_in attributes options_of_limit ≡ options_frame
+unfolding header padded frame_bytes list_bytes
+options_written = refl
+
+-- the options of an action have the nested flag
+abbrev options_of_key : Attribute
+options_of_key = a_list 2 (of_kind (hex (codes "74756e6e656c5f6b6579")) (known 7 (number 0x01020304)) ∷ [])
+
+abbrev action_options_frame : Frame
+action_options_frame = record { word = 0x8002; value = hex (codes "0800070001020304") }
+
+action_options_read : (table_codec (table action_attributes)).read (hex (codes "74756e6e656c5f6b6579")) action_options_frame ≡ Ok options_of_key
+unfolding next_frame cut_up_to cut read_each read_list
+action_options_read = refl
+
+action_options_written : write_in action_attributes options_of_key ≡ action_options_frame
+unfolding header padded frame_bytes list_bytes
+action_options_written = refl
+
+-- the statistics of fq_codel, of a qdisc and of a class, and any of another kind
+abbrev qdisc_stats : Content
+qdisc_stats = statistics 0
+    (plain 0x04030201 ∷ plain 0x08070605 ∷ plain 0x0c0b0a09 ∷ plain 0x100f0e0d ∷ plain 0x14131211 ∷ plain 0x18171615
+        ∷ plain 0x1c1b1a19 ∷ plain 0x201f1e1d ∷ plain 0x24232221 ∷ [])
+
+abbrev class_stats : Content
+class_stats = statistics 1
+    (plain 0x04030201 ∷ plain 0x08070605 ∷ plain 0x0c0b0a09 ∷ plain 0x100f0e0d ∷ plain 0x14131211 ∷ plain 0x18171615 ∷ [])
+
+abbrev xstats_rows : ℕ → List Row
+xstats_rows n =
+    (n, hex (codes "000000000102030405060708090a0b0c0d0e0f101112131415161718191a1b1c1d1e1f2021222324"), qdisc_stats)
+    ∷ (n, hex (codes "010000000102030405060708090a0b0c0d0e0f101112131415161718"), class_stats)
+    ∷ (n, hex (codes "0200000001"), unknown_statistics (hex (codes "0200000001")))
+    ∷ []
+
+xstats_read : map (λ row. (table_codec (table attributes)).read fq_codel (frame_of_row row)) (xstats_rows 4)
+    ≡ map (λ row. Ok (value_of_row row)) (xstats_rows 4)
+xstats_read = refl
+
+xstats_written : map (write_row attributes) (xstats_rows 4) ≡ map frame_of_row (xstats_rows 4)
+xstats_written = refl
+
+app_read : map (λ row. (table_codec (table stats2)).read fq_codel (frame_of_row row)) (xstats_rows 4)
+    ≡ map (λ row. Ok (value_of_row row)) (xstats_rows 4)
+app_read = refl
+
+app_written : map (write_row stats2) (xstats_rows 4) ≡ map frame_of_row (xstats_rows 4)
+app_written = refl
+
+-- a list of statistics, of a message and of an action
+abbrev basic_stats : ℕ → Attribute
+basic_stats n = a_list n (known 7 (record_of (plain 0x0807060504030201 ∷ plain 0x0c0b0a09 ∷ blank ∷ [])) ∷ [])
+
+abbrev basic_stats_frame : ℕ → Frame
+basic_stats_frame n = record { word = n; value = hex (codes "140007000102030405060708090a0b0c00000000") }
+
+basic_stats_read : read_in attributes (basic_stats_frame 7) ∷ read_in action_attributes (basic_stats_frame 4) ∷ []
+    ≡ Ok (basic_stats 7) ∷ Ok (basic_stats 4) ∷ []
+unfolding next_frame cut_up_to cut read_each read_list
+basic_stats_read = refl
+
+basic_stats_written : write_in attributes (basic_stats 7) ∷ write_in action_attributes (basic_stats 4) ∷ [] ≡ map basic_stats_frame (7 ∷ 4 ∷ [])
+unfolding header padded frame_bytes list_bytes
+basic_stats_written = refl
