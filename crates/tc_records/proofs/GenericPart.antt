@@ -16,7 +16,8 @@ use Rattle.tc_records.specs.ActionType.{action_type_number, action_type_scalar}
 use Rattle.tc_records.specs.Actions.{generic_then_scalars}
 
 -- an outcome's bytes are its number's, whether it has a name or not
-pub outcome_bytes : (names : List ℕ) (a : TcActionType) → field_bytes (named 4 names) (action_type_scalar a) ≡ le_bytes 4 (cast_unsigned w32 (action_type_number a))
+pub outcome_bytes : (names : List ℕ) (a : TcActionType)
+    → field_bytes (named 4 names) (action_type_scalar a) ≡ le_bytes 4 (cast_unsigned w32 (action_type_number a))
 outcome_bytes names (outcome.Other n) = refl
 outcome_bytes names outcome.Unspec = refl
 outcome_bytes names outcome.Ok = refl

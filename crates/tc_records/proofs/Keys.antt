@@ -1,5 +1,6 @@
 -- Keys of a selector as they are read and written, one after the other.
-use Rattle.std.proofs.Common.{◌≡◌, ℕ, suc, ◌+◌, ◌-◌, ◌*◌, ◌<◌, ◌≤◌, List, [], ◌∷◌, ◌++◌, length, map, take, drop, slice_index_or, refl, sym, ◌∙◌, ap, subst, arith, append_assoc}
+use Rattle.std.proofs.Common.{◌≡◌, ℕ, suc, ◌+◌, ◌-◌, ◌*◌, ◌<◌, ◌≤◌, List, [], ◌∷◌, ◌++◌, length, map, take, drop, slice_index_or}
+use Rattle.std.proofs.Common.{refl, sym, ◌∙◌, ap, subst, arith, append_assoc}
 use Rattle.std.proofs.lemmas.List.{map_push, length-take, take_all, append-nil}
 use Rattle.std.proofs.lemmas.Grind.{take_at_read}
 use Rattle.std.specs.List.{AllByRecursion}
@@ -22,12 +23,15 @@ no_keys_read n bytes =
     ap (λ m. read_keys m bytes) counted
 
 -- one key more is read
-pub one_key_more : (n i : ℕ) (left : List ℕ) (keys : List TcU32Key) (key : TcU32Key) (all : List (List Scalar)) → i < n → map key_scalars keys ++ read_keys (n - i) left ≡ all → key_scalars key ≡ read_fields selector_key left → map key_scalars (keys ++ key ∷ []) ++ read_keys (n - (i + 1)) (drop 16 left) ≡ all
+pub one_key_more : (n i : ℕ) (left : List ℕ) (keys : List TcU32Key) (key : TcU32Key) (all : List (List Scalar)) → i < n
+    → map key_scalars keys ++ read_keys (n - i) left ≡ all → key_scalars key ≡ read_fields selector_key left
+    → map key_scalars (keys ++ key ∷ []) ++ read_keys (n - (i + 1)) (drop 16 left) ≡ all
 one_key_more n i left keys key all within so_far is =
     let others = read_keys (n - (i + 1)) (drop 16 left) in
     let counted : n - i ≡ suc (n - (i + 1)) = omega arith in
     let first : read_keys (n - i) left ≡ key_scalars key ∷ others = ap (λ m. read_keys m left) counted ∙ ap (λ x. x ∷ others) (sym is) in
-    let moved : map key_scalars (keys ++ key ∷ []) ++ others ≡ map key_scalars keys ++ key_scalars key ∷ others = rw map_push (append_assoc (map key_scalars keys) (key_scalars key ∷ []) others) in
+    let moved : map key_scalars (keys ++ key ∷ []) ++ others ≡ map key_scalars keys ++ key_scalars key ∷ others =
+        rw map_push (append_assoc (map key_scalars keys) (key_scalars key ∷ []) others) in
     moved ∙ ap (λ xs. map key_scalars keys ++ xs) (sym first) ∙ so_far
 
 -- all keys are read
@@ -62,21 +66,31 @@ length-before keys i within = omega (arith, length-keys (take i keys), length-ta
 
 keys_bytes-append : (xs ys : List (List Scalar)) → keys_bytes (xs ++ ys) ≡ keys_bytes xs ++ keys_bytes ys
 keys_bytes-append [] ys = refl
-keys_bytes-append (x ∷ xs) ys = ap (λ bytes. fields_bytes selector_key x ++ bytes) (keys_bytes-append xs ys) ∙ sym (append_assoc (fields_bytes selector_key x) (keys_bytes xs) (keys_bytes ys))
+keys_bytes-append (x ∷ xs) ys =
+    let first = fields_bytes selector_key x in
+    ap (λ bytes. first ++ bytes) (keys_bytes-append xs ys) ∙ sym (append_assoc first (keys_bytes xs) (keys_bytes ys))
 
 -- a key's bytes follow those before it
-pub next_before : (keys : List TcU32Key) (i : ℕ) (d : TcU32Key) → i < length keys → bytes_before keys (i + 1) ≡ bytes_before keys i ++ fields_bytes selector_key (key_scalars (slice_index_or keys i d))
+pub next_before : (keys : List TcU32Key) (i : ℕ) (d : TcU32Key) → i < length keys
+    → bytes_before keys (i + 1) ≡ bytes_before keys i ++ fields_bytes selector_key (key_scalars (slice_index_or keys i d))
 unfolding bytes_before
 next_before keys i d within =
     let key = slice_index_or keys i d in
-    rw ((take_at_read keys i d within).1, map_push) (keys_bytes-append (map key_scalars (take i keys)) (key_scalars key ∷ []) ∙ ap (λ bytes. keys_bytes (map key_scalars (take i keys)) ++ bytes) (append-nil (fields_bytes selector_key (key_scalars key))))
+    let before = map key_scalars (take i keys) in
+    rw ((take_at_read keys i d within).1, map_push)
+    (keys_bytes-append before (key_scalars key ∷ [])
+    ∙ ap (λ bytes. keys_bytes before ++ bytes) (append-nil (fields_bytes selector_key (key_scalars key))))
 
 -- and are written there
-pub next_written : (keys : List TcU32Key) (i : ℕ) (d : TcU32Key) (old now after : List ℕ) (at : ℕ) → i < length keys → at ≡ 16 * i → HasRoom (keys_bytes (map key_scalars keys)) old → Writes (bytes_before keys i) old now → Writes (fields_bytes selector_key (key_scalars (slice_index_or keys i d))) (take (length now - at) (drop at now)) after → Writes (bytes_before keys (i + 1)) old (put_mid at (length now - at) now after)
+pub next_written : (keys : List TcU32Key) (i : ℕ) (d : TcU32Key) (old now after : List ℕ) (at : ℕ) → i < length keys → at ≡ 16 * i
+    → HasRoom (keys_bytes (map key_scalars keys)) old → Writes (bytes_before keys i) old now
+    → Writes (fields_bytes selector_key (key_scalars (slice_index_or keys i d))) (take (length now - at) (drop at now)) after
+    → Writes (bytes_before keys (i + 1)) old (put_mid at (length now - at) now after)
 next_written keys i d old now after at within is_at room written_before written_next =
     let before = length-before keys i (omega arith) in
     subst (λ bytes. Writes bytes old (put_mid at (length now - at) now after)) (sym (next_before keys i d within))
-    (front_and_back (bytes_before keys i) (fields_bytes selector_key (key_scalars (slice_index_or keys i d))) old now after at (omega (arith, before)) (omega (arith, before, length-keys keys)) written_before written_next)
+    (front_and_back (bytes_before keys i) (fields_bytes selector_key (key_scalars (slice_index_or keys i d))) old now after at
+    (omega (arith, before)) (omega (arith, before, length-keys keys)) written_before written_next)
 
 -- ---- what holds of keys in hand
 
@@ -88,7 +102,8 @@ pub none_typed : (keys : List TcU32Key) → TypedBefore keys 0
 unfolding TypedBefore
 none_typed keys = tt
 
-all_and_one : (xs : List (List Scalar)) (x : List Scalar) → AllByRecursion (TypedFields selector_key) xs → TypedFields selector_key x → AllByRecursion (TypedFields selector_key) (xs ++ x ∷ [])
+all_and_one : (xs : List (List Scalar)) (x : List Scalar) → AllByRecursion (TypedFields selector_key) xs → TypedFields selector_key x
+    → AllByRecursion (TypedFields selector_key) (xs ++ x ∷ [])
 all_and_one [] x each typed = (typed, tt)
 all_and_one (y ∷ ys) x each typed = (each.0, all_and_one ys x each.1 typed)
 

@@ -1,7 +1,7 @@
 //! Taking the fields of a record off its front, one after the other. Each asks for as many bytes as it takes.
 
 ghost use Rattle.std.specs.Prelude.{◌≡◌, ◌≤◌, ◌<◌, ◌+◌, length, take, drop};
-ghost use Rattle.std.specs.Result.{MatchResult};
+ghost use Rattle.std.specs.Result.{IfOk, IfErr};
 ghost use Rattle.std.specs.Int.{w16, w32, cast_unsigned};
 ghost use Rattle.std.specs.Net.Addr.{ipv4_octets};
 ghost use Rattle.nla_frames.specs.declared.error.DecodeError.TheVariants.{BufferTooSmall};
@@ -12,7 +12,9 @@ use std::net::Ipv4Addr;
 
 /// Refuses fewer bytes than a record needs.
 pub(crate) fn at_least(payload: &[u8], needed: usize) -> Res<()>
-    ensures { MatchResult result (λ _. needed ≤ length payload.now) (λ e. (length payload.now < needed) × (e ≡ BufferTooSmall (length payload.now) needed)) }
+    ensures enough { IfOk result (λ _. needed ≤ length payload.now) }
+    ensures short { IfErr result (λ _. length payload.now < needed) }
+    ensures fault { IfErr result (λ e. e ≡ BufferTooSmall (length payload.now) needed) }
 {
     if payload.len() < needed {
         return Err(DecodeError::BufferTooSmall {

@@ -21,14 +21,18 @@ emit-requires-clause-room c =
 
 pub loop-key-preserved : goal.loop-key-preserved
 loop-key-preserved c =
-    let written = next_written c.args.keys.now c.loop-key.key-index _ _ _ _ _ c.loop-key-test.true c.loop-key.invariant.0 c.requires c.loop-key.invariant.1 c.emit.ensures.written in
+    let at = c.loop-key.invariant.0 in
+    let before = c.loop-key.invariant.1 in
+    let written = next_written c.args.keys.now c.loop-key.key-index _ _ _ _ _ c.loop-key-test.true at c.requires before c.emit.ensures.written in
     (omega arith, written, next_typed c.args.keys.now c.loop-key.key-index _ c.loop-key-test.true c.loop-key.invariant.2 c.emit.ensures.typed)
 
 pub returns-clause-typed : goal.returns-clause-typed
 returns-clause-typed c = all_typed c.args.keys.now c.loop-key.key-index (omega arith) c.loop-key.invariant.2
 
 pub returns-clause-written : goal.returns-clause-written
-returns-clause-written c = subst (λ bytes. Writes bytes c.args.buffer.now c.loop-key.buffer) (all_before c.args.keys.now c.loop-key.key-index (omega arith)) c.loop-key.invariant.1
+returns-clause-written c =
+    let all = all_before c.args.keys.now c.loop-key.key-index (omega arith) in
+    subst (λ bytes. Writes bytes c.args.buffer.now c.loop-key.buffer) all c.loop-key.invariant.1
 
 pub slice_bounds-emit-start : goal.slice_bounds-emit-start
 slice_bounds-emit-start c = omega (arith, length-keys c.args.keys.now)

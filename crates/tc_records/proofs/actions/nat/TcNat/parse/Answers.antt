@@ -10,4 +10,13 @@ pub returns : goal.returns
 unfolding others
 returns c =
     generic-read others _ c.args.payload.now c.split.result.1.now c.split.result.0 (search rules) (c.split.ensures.value others)
-    (rw (c.from_bits_retain.ensures tt, c.split_ipv4_addr.ensures.value, c.split_ipv4_addr-2.ensures.value, c.split_ipv4_addr-3.ensures.value, c.split_u32-flags.ensures.value, c.split_ipv4_addr-3.ensures.rest, c.split_ipv4_addr-2.ensures.rest, c.split_ipv4_addr.ensures.rest) refl)
+    (rw (
+      c.from_bits_retain.ensures tt,
+      c.split_ipv4_addr.ensures.value,
+      c.split_ipv4_addr-2.ensures.value,
+      c.split_ipv4_addr-3.ensures.value,
+      c.split_u32-flags.ensures.value,
+      c.split_ipv4_addr-3.ensures.rest,
+      c.split_ipv4_addr-2.ensures.rest,
+      c.split_ipv4_addr.ensures.rest,
+    ) refl)

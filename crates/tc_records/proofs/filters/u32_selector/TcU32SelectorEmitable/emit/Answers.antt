@@ -16,7 +16,8 @@ returns-clause-written g c =
     let keys = λ (items : List TcU32Key). keys_bytes (map key_scalars items) in
     let behind = subst (λ items. Writes (keys items) (take (length old - 16) (drop 16 old)) after) c.deref.ensures.value c.put_keys.ensures.written in
     let before = subst (λ bytes. Writes bytes (put_mid 16 (length old - 16) old after) new) c.head_bytes.ensures c.put_bytes.ensures.written in
-    back_and_front (fields_bytes selector_head (head_scalars c.args.self.now)) (keys c.args.self.now.keys.items) old after new 16 refl (omega (arith, c.requires.room)) behind before
+    let head = fields_bytes selector_head (head_scalars c.args.self.now) in
+    back_and_front head (keys c.args.self.now.keys.items) old after new 16 refl (omega (arith, c.requires.room)) behind before
 
 pub returns-clause-typed : goal.returns-clause-typed
 returns-clause-typed g c = (c.selector_head_in_hand.ensures, rw c.deref.ensures.value at c.put_keys.ensures.typed)
