@@ -1,9 +1,6 @@
 -- Whether a message fits can be told by a test, whatever its tables are.
-use Rattle.std.proofs.Common.{◌≡◌, ℕ, ◌+◌, ◌<◌, ◌≤◌, ◌^◌, List, [], ◌∷◌, length, Bool, true, false, refl}
-use Rattle.std.proofs.lemmas.Bool.{leb-true, le-leb}
-use Rattle.std.proofs.lemmas.Bool.Decides.{Decides-ltb, Decides-eqb}
-use Rattle.std.specs.Prelude.{IsTrue, ◌↔◌, ◌==◌, nat_le, nat_lt, MatchBool}
-use Rattle.std.specs.List.{AllByRecursion}
+use Rattle.std.proofs.Common.{ℕ, ◌+◌, ◌^◌, List, [], length, Bool, true, false}
+use Rattle.std.specs.Prelude.{◌==◌}
 use Rattle.std.specs.Str.{bytes_eq}
 use Rattle.nla_frames.specs.Frame.{Frame}
 use Rattle.nla_frames.specs.Emission.{ListFits, list_bytes}
@@ -15,42 +12,7 @@ use Rattle.tc_meaning.specs.Tree.{Content, Attribute, known, kept, other, of_kin
 use Rattle.tc_meaning.specs.Content.{via, a_selector, key_count}
 use Rattle.tc_meaning.specs.Meaning.{a_list, as_it_stands, IsShort, raw_frames, row_frames, every_frame, choose, by_type, kind_frames, class_codec, table_codec, rows_codec, kinds_codec}
 use Rattle.tc_meaning.specs.Message.{Message, FitsMessage}
-
--- a test tells whether it is so
-abbrev pub Told : Type 0 → Type 0
-Told P = (b : Bool) × (IsTrue b ↔ P)
-
-told_always : Told (Unit {0})
-told_always = (true, (λ _. tt, λ _. refl))
-
-told_le : (m n : ℕ) → Told (m ≤ n)
-told_le m n = (nat_le m n, (leb-true m n, le-leb m n))
-
-told_lt : (m n : ℕ) → Told (m < n)
-told_lt m n = (nat_lt m n, Decides-ltb m n)
-
-told_eq : (m n : ℕ) → Told (m ≡ n)
-told_eq m n = (m == n, Decides-eqb m n)
-
--- two facts at once
-told_both : {P Q : Type 0} → Told P → Told Q → Told (P × Q)
-told_both (true, p) (true, q) = (true, (λ h. (p.0 refl, q.0 refl), λ h. refl))
-told_both (true, p) (false, q) = (false, (λ h. absurd cc, λ h. q.1 h.1))
-told_both (false, p) q = (false, (λ h. absurd cc, λ h. p.1 h.0))
-
--- the same fact in other words
-told_as : {P Q : Type 0} → P ↔ Q → Told P → Told Q
-told_as same (b, p) = (b, (λ h. same.0 (p.0 h), λ h. p.1 (same.1 h)))
-
--- of each element
-told_each : {X : Type 0} (P : X → Type 0) → ((x : X) → Told (P x)) → (xs : List X) → Told (AllByRecursion P xs)
-told_each P each [] = told_always
-told_each P each (x ∷ xs) = told_both (each x) (told_each P each xs)
-
--- one of two, by a test
-told_match : {P Q : Type 0} (b : Bool) → Told P → Told Q → Told (MatchBool b P Q)
-told_match true p q = p
-told_match false p q = q
+use Rattle.tc_meaning.proofs.Telling.{Told, told_always, told_never, told_le, told_lt, told_eq, told_both, told_as, told_each, told_match}
 
 -- a test tells what can be written
 abbrev Tells : {W X : Type 0} → Codec W X → Type 0
@@ -71,9 +33,9 @@ row_tells word n c each (of_kind name x) = short_told []
 
 every_tells : (c : Codec (List ℕ) Content) → Tells c → Tells (every_frame c)
 every_tells c each (known word content) = told_both (each content) (short_told (c.write content))
-every_tells c each (kept m w value) = (false, (λ h. absurd cc, λ h. absurd h))
-every_tells c each (other w value) = (false, (λ h. absurd cc, λ h. absurd h))
-every_tells c each (of_kind name x) = (false, (λ h. absurd cc, λ h. absurd h))
+every_tells c each (kept m w value) = told_never
+every_tells c each (other w value) = told_never
+every_tells c each (of_kind name x) = told_never
 
 raw_tells : Tells raw_frames
 raw_tells x = short_told (as_it_stands x).value

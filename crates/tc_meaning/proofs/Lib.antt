@@ -16,6 +16,8 @@ pub mod MessageLaws
 pub mod Headline
 pub mod MessageReading
 pub mod Trees
+pub mod Telling
 pub mod FitTests
+pub mod SettledTests
 pub mod WorkedRows
 pub mod KnownRows

@@ -61,6 +61,12 @@ pub fn fits_or_not()
     ensures action { (m : Message) → (fits : Bool) × (IsTrue fits ↔ FitsAct m) }
 {}
 
+/// A test tells of every message whether it is settled.
+pub fn settled_or_not()
+    ensures tc { (m : Message) → (settled : Bool) × (IsTrue settled ↔ SettledTc m) }
+    ensures action { (m : Message) → (settled : Bool) × (IsTrue settled ↔ SettledAct m) }
+{}
+
 /// A list of frames that tell their kind themselves, as an action is. `read_own` gives values exactly if every frame
 /// of type 1 has a text, there is one such frame, and the frames are read under its text; it gives a fault exactly
 /// if that is the first: of a broken frame or of a text, of no kind or of several, of a frame that is refused.

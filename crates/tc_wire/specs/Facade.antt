@@ -4,4 +4,4 @@ pub use Rattle.nla_frames.specs.declared.error.DecodeError.{DecodeError}
 pub use Rattle.nla_frames.specs.declared.error.DecodeError.TheVariants.{OutOfMemory}
 pub use Rattle.nla_frames.specs.Emission.{Writes, HasRoom}
 pub use Rattle.tc_meaning.specs.Message.{Message}
-pub use Rattle.tc_wire.specs.Message.{tc_message, ReadsTc, FaultTc, FitsTc, tc_bytes}
+pub use Rattle.tc_wire.specs.Message.{tc_message, ReadsTc, FaultTc, FitsTc, SettledTc, tc_bytes}

@@ -3,7 +3,7 @@
 ghost use Rattle.std.specs.Prelude.{◌≡◌, ◌⊎◌, ◌↔◌, Bool, IsTrue};
 ghost use Rattle.nla_frames.specs.declared.error.DecodeError.{DecodeError};
 ghost use Rattle.tc_meaning.specs.Message.{Message};
-ghost use Rattle.tc_wire.specs.Message.{ReadsTc, FaultTc, FitsTc};
+ghost use Rattle.tc_wire.specs.Message.{ReadsTc, FaultTc, FitsTc, SettledTc};
 
 /// All bytes read as one message and have no fault, or read as none and have one fault.
 pub fn one_outcome(bytes: &[u8])
@@ -16,4 +16,9 @@ pub fn one_outcome(bytes: &[u8])
 /// A test tells of every message whether it fits.
 pub fn fits_or_not()
     ensures { (m : Message) → (fits : Bool) × (IsTrue fits ↔ FitsTc m) }
+{}
+
+/// A test tells of every message whether it is settled.
+pub fn settled_or_not()
+    ensures { (m : Message) → (settled : Bool) × (IsTrue settled ↔ SettledTc m) }
 {}

@@ -5,18 +5,17 @@ use Rattle.std.proofs.lemmas.Bool.Decides.{same_from_decides}
 use Rattle.std.specs.Prelude.{IsTrue, ◌↔◌, ◌++◌, codes}
 use Rattle.hex.specs.Hex.{IsBytes, decode_of}
 use Rattle.hex.specs.declared.error.FromHexError.{FromHexError}
-use Rattle.tc_wire.specs.Facade.{DecodeError, name_of, Message, ReadsTc, FaultTc, FitsTc, tc_bytes}
-use Rattle.tc_wire.proofs.Outcomes.{some_outcome, one_reading, one_fault, not_both}
-use Rattle.tc_wire.proofs.Outcomes.{fits_told}
+use Rattle.tc_wire.specs.Facade.{DecodeError, name_of, Message, ReadsTc, FaultTc, FitsTc, SettledTc, tc_bytes}
+use Rattle.tc_wire.proofs.Outcomes.{some_outcome, one_reading, one_fault, not_both, fits_told, settled_told}
 use Rattle.tcrewrite.specs.Text.{most_text, without_spaces}
 use Rattle.tcrewrite.specs.Report.{Report, one_line, accepted, AcceptsTc, RefusesTc, ReportsBytes, ReportsDecoded, IsReport}
 use Rattle.tcrewrite.specs.declared.mode.Mode.{Mode}
 use Rattle.tcrewrite.specs.declared.mode.Mode.TheVariants.{Tc}
 use Rattle.tcrewrite.proofs.Decoding.{IsBytes-decode_of}
 
--- the report on a message whose fitting was told
-abbrev accepting : Bool → Message → Report
-accepting fits m = record { text = accepted fits (tc_bytes m); status = 0 }
+-- the report on a message of which was told whether it fits and is settled
+abbrev accepting : Bool → Bool → Message → Report
+accepting fits settled m = record { text = accepted fits settled (tc_bytes m); status = 0 }
 
 -- the report on a fault
 abbrev refusing : DecodeError → Report
@@ -26,16 +25,25 @@ module _ (bytes : List ℕ) (are_bytes : IsBytes bytes) where
   some_of_outcome : ((m : Message) × ReadsTc bytes m) ⊎ ((e : DecodeError) × FaultTc bytes e) → (r : Report) × ReportsBytes Tc bytes r
   some_of_outcome (inl (m, reads)) =
       let fits = fits_told m in
-      (accepting fits.0 m, inl (record { message = m; fits = fits.0; reads = reads; tells = fits.1; is = refl }))
+      let settled = settled_told m in (
+        accepting fits.0 settled.0 m,
+        inl (record { message = m; fits = fits.0; settled = settled.0; reads = reads; tells_fits = fits.1; tells_settled = settled.1; is = refl }),
+      )
   some_of_outcome (inr (e, first)) = (refusing e, inr (record { fault = e; first = first; is = refl }))
 
   -- two reports on a message are one
   one_accepts : (r s : Report) → AcceptsTc bytes r → AcceptsTc bytes s → r ≡ s
   one_accepts r s this that =
       let message : this.message ≡ that.message = one_reading bytes (record { each = are_bytes }) this.message that.message this.reads that.reads in
-      let tells : IsTrue that.fits ↔ FitsTc this.message = rw message that.tells in
-      let fits : this.fits ≡ that.fits = same_from_decides this.fits that.fits this.tells tells in
-      this.is ∙ ap (λ b. accepting b this.message) fits ∙ ap (λ m. accepting that.fits m) message ∙ sym that.is
+      let that_fits : IsTrue that.fits ↔ FitsTc this.message = rw message that.tells_fits in
+      let that_settled : IsTrue that.settled ↔ SettledTc this.message = rw message that.tells_settled in
+      let fits : this.fits ≡ that.fits = same_from_decides this.fits that.fits this.tells_fits that_fits in
+      let settled : this.settled ≡ that.settled = same_from_decides this.settled that.settled this.tells_settled that_settled in
+      this.is
+      ∙ ap (λ b. accepting b this.settled this.message) fits
+      ∙ ap (λ b. accepting that.fits b this.message) settled
+      ∙ ap (λ m. accepting that.fits that.settled m) message
+      ∙ sym that.is
 
   -- two reports on a fault are one
   one_refuses : (r s : Report) → RefusesTc bytes r → RefusesTc bytes s → r ≡ s

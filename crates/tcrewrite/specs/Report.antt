@@ -2,7 +2,7 @@
 use Rattle.std.specs.Prelude.{◌≡◌, ◌⊎◌, ◌↔◌, ℕ, ◌<◌, ◌≤◌, Bool, true, false, IsTrue, List, [], ◌++◌, length, codes, Result, Ok, Err}
 use Rattle.hex.specs.Hex.{decode_of, encode_lower}
 use Rattle.hex.specs.declared.error.FromHexError.{FromHexError}
-use Rattle.tc_wire.specs.Facade.{DecodeError, name_of, OutOfMemory, Message, ReadsTc, FaultTc, FitsTc, tc_bytes}
+use Rattle.tc_wire.specs.Facade.{DecodeError, name_of, OutOfMemory, Message, ReadsTc, FaultTc, FitsTc, SettledTc, tc_bytes}
 use Rattle.tcrewrite.specs.Text.{most_text, without_spaces}
 use Rattle.tcrewrite.specs.declared.mode.Mode.{Mode}
 use Rattle.tcrewrite.specs.declared.mode.Mode.TheVariants.{Tc}
@@ -30,17 +30,22 @@ abbrev pub bytes_line : Bool → List ℕ → List ℕ
 bytes_line true bytes = line (codes "bytes " ++ encode_lower bytes)
 bytes_line false bytes = []
 
--- the lines for an accepted message: whether it fits, and its bytes
-abbrev pub accepted : Bool → List ℕ → List ℕ
-accepted fits bytes = line (codes "fits " ++ yes_or_no fits) ++ bytes_line fits bytes
+-- the lines for an accepted message: whether it fits, whether it is settled, and its bytes
+abbrev pub accepted : Bool → Bool → List ℕ → List ℕ
+accepted fits settled bytes =
+    line (codes "fits " ++ yes_or_no fits)
+    ++ line (codes "settled " ++ yes_or_no settled)
+    ++ bytes_line fits bytes
 
--- the bytes read as a message: whether it fits is reported, and its bytes
+-- the bytes read as a message: whether it fits and whether it is settled is reported, and its bytes
 pub record AcceptsTc (bytes : List ℕ) (r : Report) : Type 0 where
   pub message : Message
   pub fits : Bool
+  pub settled : Bool
   pub reads : ReadsTc bytes message
-  pub tells : IsTrue fits ↔ FitsTc message
-  pub is : r ≡ record { text = accepted fits (tc_bytes message); status = 0 }
+  pub tells_fits : IsTrue fits ↔ FitsTc message
+  pub tells_settled : IsTrue settled ↔ SettledTc message
+  pub is : r ≡ record { text = accepted fits settled (tc_bytes message); status = 0 }
 
 -- the bytes have a first fault: its name is reported
 pub record RefusesTc (bytes : List ℕ) (r : Report) : Type 0 where

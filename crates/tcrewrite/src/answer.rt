@@ -68,13 +68,15 @@ fn accepted_tc<A: Allocator + Copy>(
     alloc: A,
     message: &TcMessage<A>,
     fits: bool,
+    settled: bool,
 ) -> Result<String<A>, AllocError>
     requires { IsTrue fits → FitsTc (tc_message message.now) }
-    ensures { IfOk result (λ text. string_bytes text ≡ accepted fits (tc_bytes (tc_message message.now))) }
+    ensures { IfOk result (λ text. string_bytes text ≡ accepted fits settled (tc_bytes (tc_message message.now))) }
 {
     let bytes = bytes_line(alloc, message, fits)?;
     let fits = yes_or_no(fits);
-    format!(in alloc; "fits {fits}\n{bytes}")
+    let settled = yes_or_no(settled);
+    format!(in alloc; "fits {fits}\nsettled {settled}\n{bytes}")
 }
 
 // The answer to the bytes of a message.
@@ -84,7 +86,8 @@ fn answer_tc<A: Allocator + Copy>(alloc: A, bytes: &[u8]) -> Result<Answer<A>, A
     match TcMessage::parse(alloc, bytes) {
         Ok(message) => {
             let fits = message.fits();
-            let text = accepted_tc(alloc, &message, fits)?;
+            let settled = message.is_settled();
+            let text = accepted_tc(alloc, &message, fits, settled)?;
             Ok(Answer { text, status: 0 })
         }
         Err(DecodeError::OutOfMemory) => Err(AllocError),

@@ -50,6 +50,32 @@ const TRAILING_BYTES: &str = "000000000000000000000000000000000000000008000b0007
 // A kind of one byte that begins no character.
 const KIND_NOT_UTF8: &str = "000000000000000000000000000000000000000005000100ff000000";
 
+// Messages about fq_codel as they were captured: what iproute2 sends to Linux 6.18 to add a qdisc, and what Linux 6.1 tells of one
+// when it is asked for all, with its statistics.
+const CAPTURED: [&str; 5] = [
+    // added without options
+    "000000000300000000000000ffffffff000000000d00010066715f636f64656c0000000004000200",
+    // added with a size table
+    "000000000300000000000000ffffffff000000000d00010066715f636f64656c0000000004000200200008001c000100\
+00000000fcffffff01000000000000000000000000000000",
+    // added with options about marks
+    "000000000300000000000000ffffffff000000000d00010066715f636f64656c000000001c00020008000700e8030000\
+05000b000300000005000a0001000000",
+    // added with eight options
+    "000000000300000000000100ffffffff000000000d00010066715f636f64656c00000000440002000800020000280000\
+080005000004000008000600ea05000008000300a0860100080001008813000008000400010000000800090000000002\
+0800080040000000",
+    // dumped
+    "000000000700000000001280ffffffff020000000d00010066715f636f64656c00000000440002000800010087130000\
+0800020000280000080003009f860100080004000100000008000600ea05000008000800400000000800090000000002\
+080005000004000005000c0000000000200008001c0001000300ffff1800000002000000400000000008000000020000\
+0400090068000700040006002c0004000000000000000000000000000000000000000000000000000000000000000000\
+000000000000000004000600140001000000000000000000000000000000000004000600180003000000000000000000\
+0000000000000000000000002c0003000000000000000000000000000000000000000000000000000000000000000000\
+0000000000000000040009002c0004000000000000000000000000000000000000000000000000000000000000000000\
+0000000000000000",
+];
+
 // Gives or takes one byte a call. It is interrupted so often first, and then takes so many calls.
 #[derive(Drop)]
 struct OneByOne<T> {
@@ -115,9 +141,9 @@ fn reader(interruptions: usize, calls: usize) -> OneByOne<&'static [u8]> {
     }
 }
 
-// The report on a message that fits and has these bytes.
+// The report on a settled message that fits and has these bytes.
 fn accepted(alloc: Global, bytes: &str) -> std::result::Result<String, AllocError> {
-    format!(in alloc; "fits yes\nbytes {bytes}\n")
+    format!(in alloc; "fits yes\nsettled yes\nbytes {bytes}\n")
 }
 
 fn writer(alloc: Global, interruptions: usize, calls: usize) -> OneByOne<Vec<u8>> {
@@ -159,6 +185,15 @@ fn rewrites_messages(rt: HostRuntime) -> std::result::Result<(), Fail> {
         (SHORT_PADDING, FULL_PADDING),
     ] {
         let want = accepted(rt.alloc(), bytes)?;
+        reports(&rt, rt.alloc(), text.as_bytes(), &want, 0, 0)?;
+    }
+    Ok(())
+}
+
+#[test]
+fn writes_captured_messages_as_they_came(rt: HostRuntime) -> std::result::Result<(), Fail> {
+    for text in CAPTURED {
+        let want = accepted(rt.alloc(), text)?;
         reports(&rt, rt.alloc(), text.as_bytes(), &want, 0, 0)?;
     }
     Ok(())
