@@ -72,15 +72,15 @@ impl<A: Allocator> FrameMeaning for TcActionAttribute<A> {
 impl<A: Allocator + Copy> ParseableParametrized<A> for TcActionAttribute<A> {
     fn parse_with_param(alloc: A, buf: &NlaBuffer<'_>, kind: &str) -> Res<TcActionAttribute<A>> {
         let value = buf.value();
-        Ok(match buf.kind() {
-            TCA_ACT_KIND => TcActionAttribute::Kind(parse_string(alloc, value)?),
-            TCA_ACT_OPTIONS => TcActionAttribute::Options(parse_list_with(alloc, value, kind)?),
-            TCA_ACT_INDEX => TcActionAttribute::Index(parse_u32(value)?),
-            TCA_ACT_STATS => TcActionAttribute::Stats(parse_list_with(alloc, value, kind)?),
-            TCA_ACT_COOKIE => TcActionAttribute::Cookie(Vec::from_slice(alloc, value)?),
-            TCA_ACT_IN_HW_COUNT => TcActionAttribute::InHwCount(parse_u32(value)?),
-            _ => TcActionAttribute::Other(DefaultNla::parse(alloc, buf)?),
-        })
+        match buf.kind() {
+            TCA_ACT_KIND => Ok(TcActionAttribute::Kind(parse_string(alloc, value)?)),
+            TCA_ACT_OPTIONS => Ok(TcActionAttribute::Options(parse_list_with(alloc, value, kind)?)),
+            TCA_ACT_INDEX => Ok(TcActionAttribute::Index(parse_u32(value)?)),
+            TCA_ACT_STATS => Ok(TcActionAttribute::Stats(parse_list_with(alloc, value, kind)?)),
+            TCA_ACT_COOKIE => Ok(TcActionAttribute::Cookie(Vec::from_slice(alloc, value)?)),
+            TCA_ACT_IN_HW_COUNT => Ok(TcActionAttribute::InHwCount(parse_u32(value)?)),
+            _ => Ok(TcActionAttribute::Other(DefaultNla::parse(alloc, buf)?)),
+        }
     }
 }
 
