@@ -1,7 +1,7 @@
 -- A list as the value of an attribute of an action.
 use Rattle.std.proofs.Common.{◌≡◌, ℕ, List, Ok, refl}
 use Rattle.nla_frames.specs.declared.error.DecodeError.{DecodeError}
-use Rattle.nla_frames.specs.Fault.{Outcome, Gives, seen, read_as, refused}
+use Rattle.nla_frames.specs.Fault.{Gives, seen, read_as, refused}
 use Rattle.nla_frames.specs.Frame.{Frame, type_of}
 use Rattle.nla_frames.specs.Reading.{read_list, keep}
 use Rattle.nla_frames.proofs.Outcomes.{Gives-err}

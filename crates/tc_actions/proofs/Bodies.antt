@@ -7,7 +7,6 @@ use Rattle.tc_canon.specs.Tables.Actions.{action_option_kinds}
 use Rattle.tc_meaning.specs.Tree.{Scalar}
 use Rattle.tc_meaning.specs.Content.{a_record, record_codec}
 use Rattle.tc_values.specs.Inner.{IsInner}
-use Rattle.tc_values.specs.Bodies.{items_of}
 use Rattle.tc_values.proofs.Bodies.{are_items, is_part, is_either}
 use Rattle.tc_records.specs.Statistics.{basic_scalars, queue_scalars}
 use Rattle.tc_records.specs.Tcf.{tcf_scalars}

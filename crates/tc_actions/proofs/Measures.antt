@@ -1,5 +1,5 @@
 -- The length of a value is that of what it shows.
-use Rattle.std.proofs.Common.{◌≡◌, ℕ, Option, Some, None, length, ap, ◌∙◌}
+use Rattle.std.proofs.Common.{ℕ, Option, Some, None, length, ap, ◌∙◌}
 use Rattle.nla_frames.specs.Emission.{Measures}
 use Rattle.tc_canon.specs.Descriptor.{Rows, table}
 use Rattle.tc_meaning.specs.Tree.{Attribute}

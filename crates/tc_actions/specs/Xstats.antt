@@ -1,5 +1,4 @@
 -- Statistics of a queueing discipline's own as contracts see them.
-use Rattle.std.specs.Prelude.{List}
 use Rattle.tc_canon.specs.Descriptor.{xstats}
 use Rattle.tc_meaning.specs.Tree.{Content, is_bytes}
 use Rattle.tc_meaning.specs.Content.{Shape, xstats_codec}

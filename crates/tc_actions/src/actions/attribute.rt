@@ -22,10 +22,15 @@ use tc_values::{Either, Items, Value};
 
 // The types of an action's attributes, `linux/pkt_cls.h`.
 pub(crate) const TCA_ACT_KIND: u16 = 1;
+
 const TCA_ACT_OPTIONS: u16 = 2;
+
 const TCA_ACT_INDEX: u16 = 3;
+
 const TCA_ACT_STATS: u16 = 4;
+
 const TCA_ACT_COOKIE: u16 = 6;
+
 const TCA_ACT_IN_HW_COUNT: u16 = 10;
 
 /// An attribute of an action.

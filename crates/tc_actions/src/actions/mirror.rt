@@ -10,9 +10,7 @@ ghost use Rattle.tc_meaning.specs.Short.{table_short};
 ghost use Rattle.tc_values.specs.Row.{attribute_of, IsRow, ShownAs, reads_at};
 ghost use Rattle.tc_actions.specs.Mirror.{mirror_option, mirror_body};
 
-use nla_frames::{
-    DefaultNla, FrameMeaning, NLA_TYPE_MASK, Nla, NlaBuffer, Parseable, Res, Settle,
-};
+use nla_frames::{DefaultNla, FrameMeaning, NLA_TYPE_MASK, Nla, NlaBuffer, Parseable, Res, Settle};
 use std::alloc::{Allocator, Global};
 use tc_records::{TcMirror, Tcf};
 use tc_values::{Either, Record, Value};
@@ -28,6 +26,7 @@ impl TcActionMirror {
 
 // The types of its options, `linux/tc_act/tc_mirred.h`.
 const TCA_MIRRED_TM: u16 = 1;
+
 const TCA_MIRRED_PARMS: u16 = 2;
 
 /// An option of the action `mirred`.
@@ -83,8 +82,14 @@ impl<A: Allocator> TcActionMirrorOption<A> {
         ensures row { IsRow mirror_body mirror_options result.0 result.1 }
     {
         match self {
-            TcActionMirrorOption::Tm(times) => (TCA_MIRRED_TM, Value::Nested(Either::Left(Record(times)))),
-            TcActionMirrorOption::Parms(parms) => (TCA_MIRRED_PARMS, Value::Nested(Either::Right(Record(parms)))),
+            TcActionMirrorOption::Tm(times) => (
+                TCA_MIRRED_TM,
+                Value::Nested(Either::Left(Record(times))),
+            ),
+            TcActionMirrorOption::Parms(parms) => (
+                TCA_MIRRED_PARMS,
+                Value::Nested(Either::Right(Record(parms))),
+            ),
             TcActionMirrorOption::Other(nla) => (nla.kind(), Value::Kept(nla.value())),
         }
     }

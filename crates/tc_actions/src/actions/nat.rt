@@ -10,9 +10,7 @@ ghost use Rattle.tc_meaning.specs.Short.{table_short};
 ghost use Rattle.tc_values.specs.Row.{attribute_of, IsRow, ShownAs, reads_at};
 ghost use Rattle.tc_actions.specs.Nat.{nat_option, nat_body};
 
-use nla_frames::{
-    DefaultNla, FrameMeaning, NLA_TYPE_MASK, Nla, NlaBuffer, Parseable, Res, Settle,
-};
+use nla_frames::{DefaultNla, FrameMeaning, NLA_TYPE_MASK, Nla, NlaBuffer, Parseable, Res, Settle};
 use std::alloc::{Allocator, Global};
 use tc_records::{TcNat, Tcf};
 use tc_values::{Either, Record, Value};
@@ -28,6 +26,7 @@ impl TcActionNat {
 
 // The types of its options, `linux/tc_act/tc_nat.h`.
 const TCA_NAT_PARMS: u16 = 1;
+
 const TCA_NAT_TM: u16 = 2;
 
 /// An option of the action `nat`.
@@ -83,8 +82,14 @@ impl<A: Allocator> TcActionNatOption<A> {
         ensures row { IsRow nat_body nat_options result.0 result.1 }
     {
         match self {
-            TcActionNatOption::Tm(times) => (TCA_NAT_TM, Value::Nested(Either::Left(Record(times)))),
-            TcActionNatOption::Parms(parms) => (TCA_NAT_PARMS, Value::Nested(Either::Right(Record(parms)))),
+            TcActionNatOption::Tm(times) => (
+                TCA_NAT_TM,
+                Value::Nested(Either::Left(Record(times))),
+            ),
+            TcActionNatOption::Parms(parms) => (
+                TCA_NAT_PARMS,
+                Value::Nested(Either::Right(Record(parms))),
+            ),
             TcActionNatOption::Other(nla) => (nla.kind(), Value::Kept(nla.value())),
         }
     }

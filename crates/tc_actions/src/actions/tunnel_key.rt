@@ -30,15 +30,25 @@ impl TcActionTunnelKey {
 
 // The types of its options, `linux/tc_act/tc_tunnel_key.h`.
 const TCA_TUNNEL_KEY_TM: u16 = 1;
+
 const TCA_TUNNEL_KEY_PARMS: u16 = 2;
+
 const TCA_TUNNEL_KEY_ENC_IPV4_SRC: u16 = 3;
+
 const TCA_TUNNEL_KEY_ENC_IPV4_DST: u16 = 4;
+
 const TCA_TUNNEL_KEY_ENC_IPV6_SRC: u16 = 5;
+
 const TCA_TUNNEL_KEY_ENC_IPV6_DST: u16 = 6;
+
 const TCA_TUNNEL_KEY_ENC_KEY_ID: u16 = 7;
+
 const TCA_TUNNEL_KEY_ENC_DST_PORT: u16 = 9;
+
 const TCA_TUNNEL_KEY_NO_CSUM: u16 = 10;
+
 const TCA_TUNNEL_KEY_ENC_TOS: u16 = 12;
+
 const TCA_TUNNEL_KEY_ENC_TTL: u16 = 13;
 
 /// An option of the action `tunnel_key`.
@@ -100,12 +110,22 @@ impl<A: Allocator> Parseable<A> for TcActionTunnelKeyOption<A> {
         Ok(match buf.kind() {
             TCA_TUNNEL_KEY_TM => TcActionTunnelKeyOption::Tm(Tcf::parse(value)?),
             TCA_TUNNEL_KEY_PARMS => TcActionTunnelKeyOption::Parms(TcTunnelKey::parse(value)?),
-            TCA_TUNNEL_KEY_ENC_IPV4_SRC => TcActionTunnelKeyOption::EncIpv4Src(parse_ipv4_addr(value)?),
-            TCA_TUNNEL_KEY_ENC_IPV4_DST => TcActionTunnelKeyOption::EncIpv4Dst(parse_ipv4_addr(value)?),
-            TCA_TUNNEL_KEY_ENC_IPV6_SRC => TcActionTunnelKeyOption::EncIpv6Src(parse_ipv6_addr(value)?),
-            TCA_TUNNEL_KEY_ENC_IPV6_DST => TcActionTunnelKeyOption::EncIpv6Dst(parse_ipv6_addr(value)?),
+            TCA_TUNNEL_KEY_ENC_IPV4_SRC => TcActionTunnelKeyOption::EncIpv4Src(parse_ipv4_addr(
+                value,
+            )?),
+            TCA_TUNNEL_KEY_ENC_IPV4_DST => TcActionTunnelKeyOption::EncIpv4Dst(parse_ipv4_addr(
+                value,
+            )?),
+            TCA_TUNNEL_KEY_ENC_IPV6_SRC => TcActionTunnelKeyOption::EncIpv6Src(parse_ipv6_addr(
+                value,
+            )?),
+            TCA_TUNNEL_KEY_ENC_IPV6_DST => TcActionTunnelKeyOption::EncIpv6Dst(parse_ipv6_addr(
+                value,
+            )?),
             TCA_TUNNEL_KEY_ENC_KEY_ID => TcActionTunnelKeyOption::EncKeyId(parse_u32_be(value)?),
-            TCA_TUNNEL_KEY_ENC_DST_PORT => TcActionTunnelKeyOption::EncDstPort(parse_u16_be(value)?),
+            TCA_TUNNEL_KEY_ENC_DST_PORT => TcActionTunnelKeyOption::EncDstPort(parse_u16_be(
+                value,
+            )?),
             TCA_TUNNEL_KEY_NO_CSUM => TcActionTunnelKeyOption::NoCsum(parse_u8(value)? != 0),
             TCA_TUNNEL_KEY_ENC_TOS => TcActionTunnelKeyOption::EncTos(parse_u8(value)?),
             TCA_TUNNEL_KEY_ENC_TTL => TcActionTunnelKeyOption::EncTtl(parse_u8(value)?),
@@ -127,15 +147,39 @@ impl<A: Allocator> TcActionTunnelKeyOption<A> {
         ensures row { IsRow tunnel_key_body tunnel_key_options result.0 result.1 }
     {
         match self {
-            TcActionTunnelKeyOption::Tm(times) => (TCA_TUNNEL_KEY_TM, Value::Nested(Either::Left(Record(times)))),
-            TcActionTunnelKeyOption::Parms(parms) => (TCA_TUNNEL_KEY_PARMS, Value::Nested(Either::Right(Record(parms)))),
-            TcActionTunnelKeyOption::EncIpv4Src(address) => (TCA_TUNNEL_KEY_ENC_IPV4_SRC, Value::Octets4(address.octets())),
-            TcActionTunnelKeyOption::EncIpv4Dst(address) => (TCA_TUNNEL_KEY_ENC_IPV4_DST, Value::Octets4(address.octets())),
-            TcActionTunnelKeyOption::EncIpv6Src(address) => (TCA_TUNNEL_KEY_ENC_IPV6_SRC, Value::Octets16(address.octets())),
-            TcActionTunnelKeyOption::EncIpv6Dst(address) => (TCA_TUNNEL_KEY_ENC_IPV6_DST, Value::Octets16(address.octets())),
+            TcActionTunnelKeyOption::Tm(times) => (
+                TCA_TUNNEL_KEY_TM,
+                Value::Nested(Either::Left(Record(times))),
+            ),
+            TcActionTunnelKeyOption::Parms(parms) => (
+                TCA_TUNNEL_KEY_PARMS,
+                Value::Nested(Either::Right(Record(parms))),
+            ),
+            TcActionTunnelKeyOption::EncIpv4Src(address) => (
+                TCA_TUNNEL_KEY_ENC_IPV4_SRC,
+                Value::Octets4(address.octets()),
+            ),
+            TcActionTunnelKeyOption::EncIpv4Dst(address) => (
+                TCA_TUNNEL_KEY_ENC_IPV4_DST,
+                Value::Octets4(address.octets()),
+            ),
+            TcActionTunnelKeyOption::EncIpv6Src(address) => (
+                TCA_TUNNEL_KEY_ENC_IPV6_SRC,
+                Value::Octets16(address.octets()),
+            ),
+            TcActionTunnelKeyOption::EncIpv6Dst(address) => (
+                TCA_TUNNEL_KEY_ENC_IPV6_DST,
+                Value::Octets16(address.octets()),
+            ),
             TcActionTunnelKeyOption::EncKeyId(n) => (TCA_TUNNEL_KEY_ENC_KEY_ID, Value::U32Be(*n)),
-            TcActionTunnelKeyOption::EncDstPort(n) => (TCA_TUNNEL_KEY_ENC_DST_PORT, Value::U16Be(*n)),
-            TcActionTunnelKeyOption::NoCsum(is_set) => (TCA_TUNNEL_KEY_NO_CSUM, Value::Truth(*is_set)),
+            TcActionTunnelKeyOption::EncDstPort(n) => (
+                TCA_TUNNEL_KEY_ENC_DST_PORT,
+                Value::U16Be(*n),
+            ),
+            TcActionTunnelKeyOption::NoCsum(is_set) => (
+                TCA_TUNNEL_KEY_NO_CSUM,
+                Value::Truth(*is_set),
+            ),
             TcActionTunnelKeyOption::EncTos(n) => (TCA_TUNNEL_KEY_ENC_TOS, Value::U8(*n)),
             TcActionTunnelKeyOption::EncTtl(n) => (TCA_TUNNEL_KEY_ENC_TTL, Value::U8(*n)),
             TcActionTunnelKeyOption::Other(nla) => (nla.kind(), Value::Kept(nla.value())),

@@ -26,6 +26,7 @@ impl TcQdiscFqCodel {
 
 // The numbers of its statistics, `linux/pkt_sched.h`.
 const TCA_FQ_CODEL_XSTATS_QDISC: u32 = 0;
+
 const TCA_FQ_CODEL_XSTATS_CLASS: u32 = 1;
 
 // The bytes of such a number.
@@ -128,7 +129,10 @@ fn split_number(bytes: &[u8]) -> (u32, &[u8])
     ensures rest { result.1.now ≡ drop 4 bytes.now }
 {
     let (front, rest) = bytes.split_at(XSTATS_NUMBER_LEN);
-    (u32::from_le_bytes([front[0], front[1], front[2], front[3]]), rest)
+    (
+        u32::from_le_bytes([front[0], front[1], front[2], front[3]]),
+        rest,
+    )
 }
 
 // True if bytes begin with a number that names no record.

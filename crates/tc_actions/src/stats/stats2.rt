@@ -21,8 +21,11 @@ use tc_values::{Either, Record, Value};
 
 // The types of statistics, `linux/gen_stats.h`.
 const TCA_STATS_BASIC: u16 = 1;
+
 const TCA_STATS_QUEUE: u16 = 3;
+
 const TCA_STATS_APP: u16 = 4;
+
 const TCA_STATS_BASIC_HW: u16 = 7;
 
 /// One of the statistics of a queue or of an action.
@@ -50,7 +53,10 @@ pub enum TcStats2<A: Allocator = Global> {
 }
 
 // What its attributes nest.
-type Body<'a, A> = Either<Record<'a, TcXstats<A>>, Either<Record<'a, TcStatsBasic>, Record<'a, TcStatsQueue>>>;
+type Body<'a, A> = Either<
+    Record<'a, TcXstats<A>>,
+    Either<Record<'a, TcStatsBasic>, Record<'a, TcStatsQueue>>,
+>;
 
 impl<A: Allocator> FrameMeaning for TcStats2<A> {
     ghost Seen = { Attribute };
