@@ -88,7 +88,7 @@ fn are_written<T: Nla>(rt: &impl Abort, list: &[T], frames: &[u8]) {
 }
 
 /// Asserts that a frame reads as an attribute, which is settled and is written as the frame.
-fn is_known<T: Parseable<Global> + Settle + Nla + PartialEq + Debug>(
+fn is_known<T: Parseable<Global> + Settle + Nla + PartialEq + Debug + Drop>(
     rt: &impl Abort,
     alloc: Global,
     frame: &[u8],
@@ -102,7 +102,7 @@ fn is_known<T: Parseable<Global> + Settle + Nla + PartialEq + Debug>(
 }
 
 /// Asserts that a frame reads as an attribute under a kind, where it is settled, and is written as the frame.
-fn is_known_under<T: ParseableParametrized<Global> + Settle + Nla + PartialEq + Debug>(
+fn is_known_under<T: ParseableParametrized<Global> + Settle + Nla + PartialEq + Debug + Drop>(
     rt: &impl Abort,
     alloc: Global,
     kind: &str,
@@ -432,11 +432,10 @@ fn the_default_tells_no_kind(rt: HostRuntime) -> Result<(), Fail> {
 
 #[test]
 fn a_cookie_has_at_most_65531_bytes(rt: HostRuntime) -> Result<(), Fail> {
-    let mut cookie = vec![in rt.alloc(); 0; 65531]?;
-    let fits: TcActionAttribute = TcActionAttribute::Cookie(cookie.try_clone()?);
+    let alloc = rt.alloc();
+    let fits: TcActionAttribute = TcActionAttribute::Cookie(vec![in alloc; 0; 65531]?);
     assert!(rt; fits.fits());
-    cookie.push(0)?;
-    let too_long: TcActionAttribute = TcActionAttribute::Cookie(cookie);
+    let too_long: TcActionAttribute = TcActionAttribute::Cookie(vec![in alloc; 0; 65532]?);
     assert!(rt; !too_long.fits());
     Ok(())
 }
