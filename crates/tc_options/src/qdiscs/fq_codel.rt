@@ -16,16 +16,8 @@ use nla_frames::{
     parse_u32,
 };
 use std::alloc::{Allocator, Global};
+pub use tc_actions::TcQdiscFqCodel;
 use tc_values::Value;
-
-/// The queueing discipline `fq_codel`.
-#[derive(PartialEq, Eq, Clone, Drop, Debug)]
-pub struct TcQdiscFqCodel {}
-
-impl TcQdiscFqCodel {
-    /// Its name in a `Kind`.
-    pub const KIND: &'static str = "fq_codel";
-}
 
 // The types of its options, `linux/pkt_sched.h`.
 const TCA_FQ_CODEL_TARGET: u16 = 1;
