@@ -5,5 +5,5 @@ pub mod attribute;
 pub mod mirror;
 pub mod nat;
 pub mod option;
-mod scan;
+pub mod scan;
 pub mod tunnel_key;

@@ -1,7 +1,6 @@
 -- The kind that a frame tells.
-use Rattle.std.proofs.Common.{◌≡◌, ℕ, List, [], Bool, true, false, Option, Some, None, Ok, Err, cond, refl, ap, sym, ◌==◌}
+use Rattle.std.proofs.Common.{◌≡◌, ℕ, List, [], Bool, true, false, Option, Some, None, Ok, Err, cond, refl, ◌==◌}
 use Rattle.std.proofs.lemmas.Bool.Decides.{Decides-eqb}
-use Rattle.std.specs.Str.{IsUtf8}
 use Rattle.nla_frames.specs.declared.error.DecodeError.TheVariants.{NotUtf8}
 use Rattle.nla_frames.specs.declared.error.DecodeError.{DecodeError}
 use Rattle.nla_frames.specs.Fault.{Outcome, Gives, read_as, refused, seen}
@@ -16,16 +15,7 @@ use Rattle.tc_meaning.specs.Meaning.{table_codec}
 use Rattle.std.specs.Str.{is_utf8}
 use Rattle.nla_frames.specs.Value.{strip, text}
 use Rattle.nla_frames.specs.Frame.{Frame, type_of}
-use Rattle.nla_frames.proofs.Texts.{text-ok, text-err}
 use Rattle.tc_meaning.specs.OwnGrammar.{first_look}
-
--- a text that a frame of type 1 has
-pub kind_found : (f : Frame) (front : List ℕ) → type_of f.word ≡ 1 → front ≡ strip f.value → IsUtf8 front → read_as (Some front) ≡ first_look [] f
-kind_found f front one is is_text = rw one (sym (ap (seen Some) (text-ok f.value front is is_text)))
-
--- it has none
-pub kind_not_text : (f : Frame) (front : List ℕ) → type_of f.word ≡ 1 → front ≡ strip f.value → (IsUtf8 front → ⊥) → refused NotUtf8 ≡ first_look [] f
-kind_not_text f front one is not = rw one (sym (ap (seen Some) (text-err f.value front is not)))
 
 -- where it has none, it isn't read as an attribute
 pub not_read : (kind : List ℕ) (f : Frame) (e : DecodeError) → refused e ≡ first_look [] f → Gives (refused e) ((table_codec (table attributes)).read kind f)

@@ -1,5 +1,3 @@
 mod KindTexts
-mod Measured
 mod MessageBytes
-mod NestedOptions
 mod Outcomes

@@ -20,11 +20,13 @@ ghost use Rattle.tc_wire.specs.Attribute.{tc_attribute, nested, IsWritten, Reads
 
 use nla_frames::laws::in_hand::{bytes_in_hand, text_in_hand, u8_in_hand, u32_in_hand};
 use nla_frames::{
-    BytesMeaning, DecodeError, DefaultNla, FrameMeaning, NLA_TYPE_MASK, Nla, NlaBuffer,
+    BytesMeaning, DefaultNla, FrameMeaning, NLA_TYPE_MASK, Nla, NlaBuffer,
     NlasIterator, Parseable, ParseableBytes, ParseableParametrized, Res, SetsKind, Settle,
-    SettleBytes, first_capacity, kind_then, list_settled_under, parse_string, parse_u8, parse_u32, strip_nul,
+    SettleBytes, first_capacity, kind_then, list_settled_under, parse_list_with, parse_string,
+    parse_u8, parse_u32,
 };
 use std::alloc::{Allocator, Global};
+use tc_actions::{TcStats2, TcXstats, kind_told};
 use tc_options::{TcOption, VecTcOption, is_known_kind};
 use tc_records::TcStats;
 use tc_values::{Either, Items, Record, Value};
@@ -33,8 +35,10 @@ use tc_values::{Either, Items, Record, Value};
 const TCA_KIND: u16 = 1;
 const TCA_OPTIONS: u16 = 2;
 const TCA_STATS: u16 = 3;
+const TCA_XSTATS: u16 = 4;
 const TCA_RATE: u16 = 5;
 const TCA_FCNT: u16 = 6;
+const TCA_STATS2: u16 = 7;
 const TCA_STAB: u16 = 8;
 const TCA_DUMP_INVISIBLE: u16 = 10;
 const TCA_CHAIN: u16 = 11;
@@ -48,7 +52,9 @@ const TCA_HW_OFFLOAD: u16 = 12;
 /// | 2 | `Options` under a known kind | a list of that kind's options |
 /// | 2 | `OptionsRaw` under any other kind | as it stands |
 /// | 3 | `Stats` | [`TcStats`] |
+/// | 4 | `Xstats` | [`TcXstats`], by the kind in force |
 /// | 5, 6, 8 | `Rate`, `Fcnt`, `Stab` | bytes |
+/// | 7 | `Stats2` | a list of [`TcStats2`], by the kind in force |
 /// | 10 | `DumpInvisible` | any; written as no bytes |
 /// | 11 | `Chain` | u32 |
 /// | 12 | `HwOffload` | u8 |
@@ -65,14 +71,17 @@ pub enum TcAttribute<A: Allocator = Global> {
     OptionsRaw(DefaultNla<A>),
     /// Statistics: `TCA_STATS`.
     Stats(TcStats),
+    /// Statistics of a qdisc's own: `TCA_XSTATS`.
+    Xstats(TcXstats<A>),
     /// The estimate of a rate, as bytes: `TCA_RATE`.
     Rate(Vec<u8, A>),
     /// A counter of the forwarding path, as bytes: `TCA_FCNT`.
     Fcnt(Vec<u8, A>),
+    /// Statistics, each an attribute: `TCA_STATS2`.
+    Stats2(Vec<TcStats2<A>, A>),
     /// A table of sizes, as bytes: `TCA_STAB`.
     Stab(Vec<u8, A>),
-    /// That invisible disciplines are asked for too, which the attribute says by standing there:
-    /// `TCA_DUMP_INVISIBLE`. Written whether true or false.
+    /// Presence flag: include invisible qdiscs, `TCA_DUMP_INVISIBLE`. Written whether true or false.
     DumpInvisible(bool),
     /// The number of a chain of filters: `TCA_CHAIN`.
     Chain(u32),
@@ -92,29 +101,35 @@ impl<A: Allocator> FrameMeaning for TcAttribute<A> {
 
 impl<A: Allocator + Copy> ParseableParametrized<A> for TcAttribute<A> {
     fn parse_with_param(alloc: A, buf: &NlaBuffer<'_>, kind: &str) -> Res<TcAttribute<A>> {
-        Ok(match buf.kind() {
-            TCA_KIND => TcAttribute::Kind(parse_string(alloc, buf.value())?),
+        match buf.kind() {
+            TCA_KIND => Ok(TcAttribute::Kind(parse_string(alloc, buf.value())?)),
             TCA_OPTIONS => {
                 if is_known_kind(kind) {
-                    TcAttribute::Options(VecTcOption::parse_with_param(alloc, buf, kind)?.0)
+                    let options = VecTcOption::parse_with_param(alloc, buf, kind)?.0;
+                    Ok(TcAttribute::Options(options))
                 } else {
-                    TcAttribute::OptionsRaw(DefaultNla::parse(alloc, buf)?)
+                    Ok(TcAttribute::OptionsRaw(DefaultNla::parse(alloc, buf)?))
                 }
             }
-            TCA_STATS => TcAttribute::Stats(TcStats::parse(buf.value())?),
-            TCA_RATE => TcAttribute::Rate(Vec::from_slice(alloc, buf.value())?),
-            TCA_FCNT => TcAttribute::Fcnt(Vec::from_slice(alloc, buf.value())?),
-            TCA_STAB => TcAttribute::Stab(Vec::from_slice(alloc, buf.value())?),
-            TCA_DUMP_INVISIBLE => TcAttribute::DumpInvisible(true),
-            TCA_CHAIN => TcAttribute::Chain(parse_u32(buf.value())?),
-            TCA_HW_OFFLOAD => TcAttribute::HwOffload(parse_u8(buf.value())?),
-            _ => TcAttribute::Other(DefaultNla::parse(alloc, buf)?),
-        })
+            TCA_STATS => Ok(TcAttribute::Stats(TcStats::parse(buf.value())?)),
+            TCA_XSTATS => Ok(TcAttribute::Xstats(TcXstats::parse_with_param(alloc, buf, kind)?)),
+            TCA_RATE => Ok(TcAttribute::Rate(Vec::from_slice(alloc, buf.value())?)),
+            TCA_FCNT => Ok(TcAttribute::Fcnt(Vec::from_slice(alloc, buf.value())?)),
+            TCA_STATS2 => Ok(TcAttribute::Stats2(parse_list_with(alloc, buf.value(), kind)?)),
+            TCA_STAB => Ok(TcAttribute::Stab(Vec::from_slice(alloc, buf.value())?)),
+            TCA_DUMP_INVISIBLE => Ok(TcAttribute::DumpInvisible(true)),
+            TCA_CHAIN => Ok(TcAttribute::Chain(parse_u32(buf.value())?)),
+            TCA_HW_OFFLOAD => Ok(TcAttribute::HwOffload(parse_u8(buf.value())?)),
+            _ => Ok(TcAttribute::Other(DefaultNla::parse(alloc, buf)?)),
+        }
     }
 }
 
 // What an attribute nests.
-type Nested<'a, A> = Either<Items<'a, TcOption<A>>, Record<'a, TcStats>>;
+type Nested<'a, A> = Either<
+    Either<Items<'a, TcOption<A>>, Items<'a, TcStats2<A>>>,
+    Either<Record<'a, TcStats>, Record<'a, TcXstats<A>>>,
+>;
 
 impl<A: Allocator> TcAttribute<A> {
     // Its word and its value, and what they are by the table. Which attributes are settled is told beside it, since
@@ -134,10 +149,18 @@ impl<A: Allocator> TcAttribute<A> {
         match self {
             TcAttribute::Kind(kind) => (TCA_KIND, Value::Text(kind.as_str())),
             TcAttribute::Options(options) => {
-                (TCA_OPTIONS, Value::Nested(Either::Left(Items(options))))
+                (TCA_OPTIONS, Value::Nested(Either::Left(Either::Left(Items(options)))))
             }
             TcAttribute::OptionsRaw(nla) => (nla.kind(), Value::Kept(nla.value())),
-            TcAttribute::Stats(stats) => (TCA_STATS, Value::Nested(Either::Right(Record(stats)))),
+            TcAttribute::Stats(stats) => {
+                (TCA_STATS, Value::Nested(Either::Right(Either::Left(Record(stats)))))
+            }
+            TcAttribute::Xstats(xstats) => {
+                (TCA_XSTATS, Value::Nested(Either::Right(Either::Right(Record(xstats)))))
+            }
+            TcAttribute::Stats2(stats) => {
+                (TCA_STATS2, Value::Nested(Either::Left(Either::Right(Items(stats)))))
+            }
             TcAttribute::Rate(bytes) => (TCA_RATE, Value::Bytes(bytes)),
             TcAttribute::Fcnt(bytes) => (TCA_FCNT, Value::Bytes(bytes)),
             TcAttribute::Stab(bytes) => (TCA_STAB, Value::Bytes(bytes)),
@@ -169,7 +192,7 @@ impl<A: Allocator> Nla for TcAttribute<A> {
 fn is_read(word: u16) -> bool
     ensures { result ≡ reads_at attributes (type_of word) }
 {
-    matches!(word & NLA_TYPE_MASK, TCA_KIND..=TCA_STATS | TCA_RATE | TCA_FCNT | TCA_STAB | TCA_DUMP_INVISIBLE..=TCA_HW_OFFLOAD)
+    matches!(word & NLA_TYPE_MASK, TCA_KIND..=TCA_STAB | TCA_DUMP_INVISIBLE..=TCA_HW_OFFLOAD)
 }
 
 impl<A: Allocator> Settle for TcAttribute<A> {
@@ -188,6 +211,8 @@ impl<A: Allocator> Settle for TcAttribute<A> {
                     && nla.kind() & NLA_TYPE_MASK == TCA_OPTIONS
             }
             TcAttribute::Stats(stats) => stats.is_settled_under(kind),
+            TcAttribute::Xstats(xstats) => xstats.is_settled_under(kind),
+            TcAttribute::Stats2(stats) => list_settled_under(stats, kind),
             TcAttribute::Rate(bytes) | TcAttribute::Fcnt(bytes) | TcAttribute::Stab(bytes) => {
                 bytes_in_hand(bytes);
                 true
@@ -255,19 +280,6 @@ fn read_attributes<A: Allocator + Copy>(alloc: A, bytes: &[u8]) -> Res<VecTcAttr
         list.push(item)?;
     }
     Ok(VecTcAttribute(list))
-}
-
-// The kind that a frame sets: the text of a frame of type 1, whatever its flags are.
-fn kind_told<'a>(frame: &NlaBuffer<'a>) -> Res<Option<&'a str>>
-    ensures { seen text_set result ≡ first_look [] (frame_of frame.now) }
-{
-    if frame.kind() != TCA_KIND {
-        return Ok(None);
-    }
-    match std::str::from_utf8(strip_nul(frame.value())) {
-        Ok(kind) => Ok(Some(kind)),
-        Err(_) => Err(DecodeError::NotUtf8),
-    }
 }
 
 // The attribute of a frame that sets this kind, or none: a text isn't decoded again.

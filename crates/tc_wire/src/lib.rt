@@ -15,6 +15,10 @@ pub use nla_frames::{
     parse_list, parse_list_with, parse_mac, parse_string, parse_u8, parse_u16, parse_u16_be,
     parse_u32, parse_u32_be, put_list,
 };
+pub use tc_actions::{
+    TcAction, TcActionAttribute, TcActionMirror, TcActionMirrorOption, TcActionNat, TcActionNatOption,
+    TcActionOption, TcActionTunnelKey, TcActionTunnelKeyOption, TcFqCodelXstats, TcStats2, TcXstats,
+};
 pub use tc_canon::{
     canon_action, canon_action_options, canon_actions, canon_lse, canon_mpls, canon_options,
     canon_stats2, is_canonical_action, is_canonical_tc,

@@ -1,4 +1,4 @@
-use Rattle.tc_wire.proofs.Measured.{same_measure}
+use Rattle.tc_values.proofs.Measures.{same_measure}
 use Rattle.tc_wire.proofs.attribute.TcAttributeNla.checked_len.Goals as goal
 
 pub returns : goal.returns

@@ -1,6 +1,6 @@
 use Rattle.tc_canon.specs.Tables.Actions.{nat_options}
 use Rattle.tc_actions.specs.Nat.{nat_body}
-use Rattle.tc_actions.proofs.Measures.{measured}
+use Rattle.tc_values.proofs.Measures.{measured}
 use Rattle.tc_actions.proofs.actions.nat.TcActionNatOptionNla.checked_len.Goals as goal
 
 pub returns : goal.returns

@@ -1,5 +1,5 @@
--- The length of a value is that of what it shows.
-use Rattle.std.proofs.Common.{ℕ, Option, Some, None, length, ap, ◌∙◌}
+-- Lengths that are measured of one thing and asked of another.
+use Rattle.std.proofs.Common.{◌≡◌, ◌↔◌, ℕ, List, Option, Some, None, length, ap, ◌∙◌}
 use Rattle.nla_frames.specs.Emission.{Measures}
 use Rattle.tc_canon.specs.Descriptor.{Rows, table}
 use Rattle.tc_meaning.specs.Tree.{Attribute}
@@ -9,7 +9,12 @@ use Rattle.tc_values.specs.Row.{ShownAs}
 use Rattle.tc_values.specs.Value.{value_bytes, ValueFits}
 use Rattle.tc_values.specs.declared.value.Value.{Value}
 
+-- of the same bytes, which fit where the others do
+pub same_measure : {Fits Same : Type 0} {bytes again : List ℕ} → Fits ↔ Same → bytes ≡ again → (measured : Option ℕ) → Measures measured Fits bytes → Measures measured Same again
+same_measure fits is None never = λ same. never (fits.1 same)
+same_measure fits is (Some n) told = (fits.0 told.0, told.1 ∙ ap length is)
+
+-- of a value, of the attribute that shows it
 pub measured : {N : Type 0} (inner : Inner N) (rows : Rows) (x : Attribute) (word : ℕ) (v : Value N) (len : Option ℕ) → ShownAs inner rows x word v
     → Measures len (ValueFits inner.Fits v) (value_bytes inner.bytes v) → Measures len ((table_codec (table rows)).Fits x) ((table_codec (table rows)).write x).value
-measured inner rows x word v None shown given = λ fits. given (shown.fits.1 fits)
-measured inner rows x word v (Some n) shown given = (shown.fits.0 given.0, given.1 ∙ ap length shown.bytes)
+measured inner rows x word v len shown given = same_measure shown.fits shown.bytes len given
