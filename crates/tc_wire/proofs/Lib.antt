@@ -2,4 +2,4 @@ mod KindTexts
 mod Measured
 mod MessageBytes
 mod NestedOptions
-mod Outcomes
+pub mod Outcomes
