@@ -1,3 +1,3 @@
 mod KindTexts
 mod MessageBytes
-mod Outcomes
+pub mod Outcomes

@@ -6,10 +6,10 @@ pub returns-in_ok-text-in-Ok : goal.returns-in_ok-text-in-Ok
 returns-in_ok-text-in-Ok g c = inl (record {
   message = tc_message c.in-Ok.message;
   fits = c.fits-fits.result;
-  settled = c.settled-is_settled.result;
+  settled = c.is_settled-settled.result;
   reads = c.in-Ok.ensures.found;
   tells_fits = c.fits-fits.ensures;
-  tells_settled = c.settled-is_settled.ensures.settled;
+  tells_settled = c.is_settled-settled.ensures.settled;
   is = rw c.in_ok-text-in-Ok.ensures refl;
 })
 
