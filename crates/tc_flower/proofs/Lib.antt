@@ -1,0 +1,5 @@
+pub mod Lists
+pub mod Thirds
+pub mod Spans
+pub mod FlowerSpans
+pub mod FlowerLists

@@ -1,0 +1,4 @@
+pub mod Mpls
+pub mod Flower
+pub mod Stage
+pub mod Thirds
