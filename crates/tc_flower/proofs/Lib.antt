@@ -2,4 +2,5 @@ pub mod Lists
 pub mod Thirds
 pub mod Spans
 pub mod FlowerSpans
-pub mod FlowerLists
+pub mod Bodies
+pub mod Measured

@@ -82,7 +82,7 @@ pub reads_as : (bound : ℕ) (rows : Rows) (test : ℕ → Bool) → agree_from 
 reads_as bound rows test below ends none n = go (nat_lt n bound) refl
   where
     go : (b : Bool) → nat_lt n bound ≡ b → test n ≡ reads_at rows n
-    go true low = agree_from-tells bound 0 test (reads_at rows) below n (omega arith) (ltb-true n bound low)
+    go true low = agree_from-tells bound 0 test (reads_at rows) below n (omega arith) (let under : n < bound = ltb-true n bound low in omega arith)
     go false high =
         let past : bound ≤ n = ltb-false n bound high in
         none n past ∙ sym (unread-beyond bound rows ends n past)

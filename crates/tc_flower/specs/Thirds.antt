@@ -1,6 +1,10 @@
 -- The table of flower in three, for the three matches that read it.
-use Rattle.std.specs.Prelude.{ℕ, nat_le, if◌then◌else◌}
+use Rattle.std.specs.Prelude.{ℕ, [], nat_le, if◌then◌else◌}
+use Rattle.nla_frames.specs.Fault.{Outcome}
+use Rattle.nla_frames.specs.Frame.{Frame, type_of}
 use Rattle.tc_canon.specs.Descriptor.{Rows, others, types, unread, options}
+use Rattle.tc_meaning.specs.Tree.{Attribute}
+use Rattle.tc_meaning.specs.Meaning.{rows_codec}
 use Rattle.tc_flower.specs.Stage.{flower_options}
 
 -- the rows that begin at a type or before it, and after them other rows
@@ -28,3 +32,7 @@ middle_rows = rows_to 66 (rows_past 34 flower_options) last_rows
 -- the types 1 to 34, and those after them
 unfoldable pub first_rows : Rows
 first_rows = rows_to 34 flower_options middle_rows
+
+-- what is read of a frame by these rows
+abbrev pub read_by : Rows → Frame → Outcome Attribute
+read_by rows f = (rows_codec rows (type_of f.word)).read [] f

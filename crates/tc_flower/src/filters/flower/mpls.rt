@@ -7,9 +7,9 @@ ghost use Rattle.tc_canon.specs.Tables.Flower.{lse_options, mpls_options};
 ghost use Rattle.tc_meaning.specs.Tree.{Attribute};
 ghost use Rattle.tc_meaning.specs.Meaning.{table_codec};
 ghost use Rattle.tc_meaning.specs.Short.{table_short};
-ghost use Rattle.tc_values.specs.Bodies.{nothing, items_of};
+ghost use Rattle.tc_values.specs.Bodies.{nothing};
 ghost use Rattle.tc_values.specs.Row.{attribute_of, IsRow, ShownAs, reads_at};
-ghost use Rattle.tc_flower.specs.Mpls.{lse_option, mpls_option};
+ghost use Rattle.tc_flower.specs.Mpls.{lse_option, mpls_option, lse_lists};
 
 use nla_frames::{
     DefaultNla, FrameMeaning, NLA_F_NESTED, NLA_TYPE_MASK, Nla, NlaBuffer, Parseable, Res, Settle,
@@ -65,20 +65,12 @@ impl<A: Allocator> Parseable<A> for TcFilterFlowerMplsLseOption<A> {
     fn parse(alloc: A, buf: &NlaBuffer<'_>) -> Res<TcFilterFlowerMplsLseOption<A>> {
         let value = buf.value();
         Ok(match buf.kind() {
-            TCA_FLOWER_KEY_MPLS_OPT_LSE_DEPTH => TcFilterFlowerMplsLseOption::LseDepth(parse_u8(
-                value,
-            )?),
-            TCA_FLOWER_KEY_MPLS_OPT_LSE_TTL => TcFilterFlowerMplsLseOption::LseTtl(parse_u8(
-                value,
-            )?),
-            TCA_FLOWER_KEY_MPLS_OPT_LSE_BOS => TcFilterFlowerMplsLseOption::LseBos(parse_u8(
-                value,
-            )?),
-            TCA_FLOWER_KEY_MPLS_OPT_LSE_TC => TcFilterFlowerMplsLseOption::LseTc(parse_u8(value)?),
-            TCA_FLOWER_KEY_MPLS_OPT_LSE_LABEL => TcFilterFlowerMplsLseOption::LseLabel(parse_u32(
-                value,
-            )?),
-            _ => TcFilterFlowerMplsLseOption::Other(DefaultNla::parse(alloc, buf)?),
+            TCA_FLOWER_KEY_MPLS_OPT_LSE_DEPTH => Self::LseDepth(parse_u8(value)?),
+            TCA_FLOWER_KEY_MPLS_OPT_LSE_TTL => Self::LseTtl(parse_u8(value)?),
+            TCA_FLOWER_KEY_MPLS_OPT_LSE_BOS => Self::LseBos(parse_u8(value)?),
+            TCA_FLOWER_KEY_MPLS_OPT_LSE_TC => Self::LseTc(parse_u8(value)?),
+            TCA_FLOWER_KEY_MPLS_OPT_LSE_LABEL => Self::LseLabel(parse_u32(value)?),
+            _ => Self::Other(DefaultNla::parse(alloc, buf)?),
         })
     }
 }
@@ -96,27 +88,12 @@ impl<A: Allocator> TcFilterFlowerMplsLseOption<A> {
         ensures row { IsRow nothing lse_options result.0 result.1 }
     {
         match self {
-            TcFilterFlowerMplsLseOption::LseDepth(n) => (
-                TCA_FLOWER_KEY_MPLS_OPT_LSE_DEPTH,
-                Value::U8(*n),
-            ),
-            TcFilterFlowerMplsLseOption::LseTtl(n) => (
-                TCA_FLOWER_KEY_MPLS_OPT_LSE_TTL,
-                Value::U8(*n),
-            ),
-            TcFilterFlowerMplsLseOption::LseBos(n) => (
-                TCA_FLOWER_KEY_MPLS_OPT_LSE_BOS,
-                Value::U8(*n),
-            ),
-            TcFilterFlowerMplsLseOption::LseTc(n) => (
-                TCA_FLOWER_KEY_MPLS_OPT_LSE_TC,
-                Value::U8(*n),
-            ),
-            TcFilterFlowerMplsLseOption::LseLabel(n) => (
-                TCA_FLOWER_KEY_MPLS_OPT_LSE_LABEL,
-                Value::Bits20(*n),
-            ),
-            TcFilterFlowerMplsLseOption::Other(nla) => (nla.kind(), Value::Kept(nla.value())),
+            Self::LseDepth(n) => (TCA_FLOWER_KEY_MPLS_OPT_LSE_DEPTH, Value::U8(*n)),
+            Self::LseTtl(n) => (TCA_FLOWER_KEY_MPLS_OPT_LSE_TTL, Value::U8(*n)),
+            Self::LseBos(n) => (TCA_FLOWER_KEY_MPLS_OPT_LSE_BOS, Value::U8(*n)),
+            Self::LseTc(n) => (TCA_FLOWER_KEY_MPLS_OPT_LSE_TC, Value::U8(*n)),
+            Self::LseLabel(n) => (TCA_FLOWER_KEY_MPLS_OPT_LSE_LABEL, Value::Bits20(*n)),
+            Self::Other(nla) => (nla.kind(), Value::Kept(nla.value())),
         }
     }
 }
@@ -183,11 +160,8 @@ impl<A: Allocator> FrameMeaning for TcFilterFlowerMplsOption<A> {
 impl<A: Allocator + Copy> Parseable<A> for TcFilterFlowerMplsOption<A> {
     fn parse(alloc: A, buf: &NlaBuffer<'_>) -> Res<TcFilterFlowerMplsOption<A>> {
         match buf.kind() {
-            TCA_FLOWER_KEY_MPLS_OPTS_LSE => Ok(TcFilterFlowerMplsOption::Lse(parse_list(
-                alloc,
-                buf.value(),
-            )?)),
-            _ => Ok(TcFilterFlowerMplsOption::Other(DefaultNla::parse(alloc, buf)?)),
+            TCA_FLOWER_KEY_MPLS_OPTS_LSE => Ok(Self::Lse(parse_list(alloc, buf.value())?)),
+            _ => Ok(Self::Other(DefaultNla::parse(alloc, buf)?)),
         }
     }
 }
@@ -195,23 +169,23 @@ impl<A: Allocator + Copy> Parseable<A> for TcFilterFlowerMplsOption<A> {
 impl<A: Allocator> TcFilterFlowerMplsOption<A> {
     // Its word and its value, and what they are by the table.
     fn view(&self) -> (u16, Value<'_, Items<'_, TcFilterFlowerMplsLseOption<A>>>)
-        ensures { ShownAs (items_of lse_option (table lse_options)) mpls_options (mpls_option self.now) result.0 result.1 }
+        ensures { ShownAs lse_lists mpls_options (mpls_option self.now) result.0 result.1 }
     {
         self.row()
     }
 
     fn row(&self) -> (u16, Value<'_, Items<'_, TcFilterFlowerMplsLseOption<A>>>)
-        ensures seen { mpls_option self.now ≡ attribute_of (items_of lse_option (table lse_options)) result.0 result.1 }
-        ensures row { IsRow (items_of lse_option (table lse_options)) mpls_options result.0 result.1 }
+        ensures seen { mpls_option self.now ≡ attribute_of lse_lists result.0 result.1 }
+        ensures row { IsRow lse_lists mpls_options result.0 result.1 }
     {
         match self {
-            TcFilterFlowerMplsOption::Lse(entries) => {
+            Self::Lse(entries) => {
                 (
                     TCA_FLOWER_KEY_MPLS_OPTS_LSE | NLA_F_NESTED,
                     Value::Nested(Items(entries)),
                 )
             }
-            TcFilterFlowerMplsOption::Other(nla) => (nla.kind(), Value::Kept(nla.value())),
+            Self::Other(nla) => (nla.kind(), Value::Kept(nla.value())),
         }
     }
 }

@@ -1,17 +1,17 @@
 //! The options of flower: which packets it matches, and what it does with them.
 
-ghost use Rattle.std.specs.Prelude.{◌≡◌, ◌||◌, List, []};
+ghost use Rattle.std.specs.Prelude.{◌≡◌, ◌||◌, List};
 ghost use Rattle.nla_frames.specs.Fault.{Gives, seen};
 ghost use Rattle.nla_frames.specs.Buffer.{frame_of};
 ghost use Rattle.nla_frames.specs.Frame.{type_of};
 ghost use Rattle.nla_frames.specs.Value.{exactly};
 ghost use Rattle.tc_canon.specs.Descriptor.{table, is_within};
 ghost use Rattle.tc_meaning.specs.Tree.{Attribute};
-ghost use Rattle.tc_meaning.specs.Meaning.{table_codec, rows_codec};
+ghost use Rattle.tc_meaning.specs.Meaning.{table_codec};
 ghost use Rattle.tc_meaning.specs.Short.{table_short};
 ghost use Rattle.tc_values.specs.Row.{attribute_of, IsRow, ShownAs, reads_at};
 ghost use Rattle.tc_flower.specs.Stage.{flower_options};
-ghost use Rattle.tc_flower.specs.Thirds.{first_rows, middle_rows, last_rows};
+ghost use Rattle.tc_flower.specs.Thirds.{first_rows, middle_rows, last_rows, read_by};
 ghost use Rattle.tc_flower.specs.Flower.{flower_option, flower_lists};
 
 use crate::filters::flower::mpls::TcFilterFlowerMplsOption;
@@ -20,7 +20,7 @@ use nla_frames::{
     Res, Settle, parse_ipv4_addr, parse_ipv6_addr, parse_list, parse_mac, parse_string, parse_u8,
     parse_u16, parse_u16_be, parse_u32, parse_u32_be,
 };
-use std::alloc::{Allocator, Global};
+use std::alloc::{AllocError, Allocator, Global};
 use std::net::{Ipv4Addr, Ipv6Addr};
 use tc_values::{Items, Value};
 
@@ -498,7 +498,7 @@ impl<A: Allocator + Copy> TcFilterFlowerOption<A> {
     // An option of the types up to 34, or of those after them.
     #[tactic(auto, unfolding(crate::specs::Thirds::first_rows))]
     fn parse_first(alloc: A, buf: &NlaBuffer<'_>) -> Res<TcFilterFlowerOption<A>>
-        ensures { Gives (seen flower_option result) ((rows_codec first_rows (type_of buf.now.word)).read [] (frame_of buf.now)) }
+        ensures { Gives (seen flower_option result) (read_by first_rows (frame_of buf.now)) }
     {
         let value = buf.value();
         match buf.kind() {
@@ -550,7 +550,7 @@ impl<A: Allocator + Copy> TcFilterFlowerOption<A> {
     // An option of the types 35 to 66, or of those after them.
     #[tactic(auto, unfolding(crate::specs::Thirds::middle_rows))]
     fn parse_middle(alloc: A, buf: &NlaBuffer<'_>) -> Res<TcFilterFlowerOption<A>>
-        ensures { Gives (seen flower_option result) ((rows_codec middle_rows (type_of buf.now.word)).read [] (frame_of buf.now)) }
+        ensures { Gives (seen flower_option result) (read_by middle_rows (frame_of buf.now)) }
     {
         let value = buf.value();
         match buf.kind() {
@@ -597,7 +597,7 @@ impl<A: Allocator + Copy> TcFilterFlowerOption<A> {
     // An option of the types from 67 on.
     #[tactic(auto, unfolding(crate::specs::Thirds::last_rows))]
     fn parse_last(alloc: A, buf: &NlaBuffer<'_>) -> Res<TcFilterFlowerOption<A>>
-        ensures { Gives (seen flower_option result) ((rows_codec last_rows (type_of buf.now.word)).read [] (frame_of buf.now)) }
+        ensures { Gives (seen flower_option result) (read_by last_rows (frame_of buf.now)) }
     {
         let value = buf.value();
         match buf.kind() {
@@ -824,5 +824,113 @@ impl<A: Allocator> Settle for TcFilterFlowerOption<A> {
     fn is_settled_under(&self, kind: &str) -> bool {
         let (word, value) = self.view();
         value.is_settled_under(is_read(word), kind)
+    }
+}
+
+impl<A: Allocator + Clone> Clone for TcFilterFlowerOption<A> {
+    ghost is_clone = { λ option copy. flower_option copy ≡ flower_option option };
+
+    fn clone(&self) -> Result<TcFilterFlowerOption<A>, AllocError> {
+        match self {
+            Self::ClassId(n) => Ok(Self::ClassId(*n)),
+            Self::InDev(name) => Ok(Self::InDev(name.clone()?)),
+            Self::EthDst(mac) => Ok(Self::EthDst(*mac)),
+            Self::EthDstMask(mac) => Ok(Self::EthDstMask(*mac)),
+            Self::EthSrc(mac) => Ok(Self::EthSrc(*mac)),
+            Self::EthSrcMask(mac) => Ok(Self::EthSrcMask(*mac)),
+            Self::EthType(n) => Ok(Self::EthType(*n)),
+            Self::IpProto(n) => Ok(Self::IpProto(*n)),
+            Self::Ipv4Src(ip) => Ok(Self::Ipv4Src(*ip)),
+            Self::Ipv4SrcMask(ip) => Ok(Self::Ipv4SrcMask(*ip)),
+            Self::Ipv4Dst(ip) => Ok(Self::Ipv4Dst(*ip)),
+            Self::Ipv4DstMask(ip) => Ok(Self::Ipv4DstMask(*ip)),
+            Self::Ipv6Src(ip) => Ok(Self::Ipv6Src(*ip)),
+            Self::Ipv6SrcMask(ip) => Ok(Self::Ipv6SrcMask(*ip)),
+            Self::Ipv6Dst(ip) => Ok(Self::Ipv6Dst(*ip)),
+            Self::Ipv6DstMask(ip) => Ok(Self::Ipv6DstMask(*ip)),
+            Self::TcpSrc(n) => Ok(Self::TcpSrc(*n)),
+            Self::TcpDst(n) => Ok(Self::TcpDst(*n)),
+            Self::UdpSrc(n) => Ok(Self::UdpSrc(*n)),
+            Self::UdpDst(n) => Ok(Self::UdpDst(*n)),
+            Self::Flags(n) => Ok(Self::Flags(*n)),
+            Self::VlanId(n) => Ok(Self::VlanId(*n)),
+            Self::VlanPrio(n) => Ok(Self::VlanPrio(*n)),
+            Self::VlanEthType(n) => Ok(Self::VlanEthType(*n)),
+            Self::EncKeyId(n) => Ok(Self::EncKeyId(*n)),
+            Self::EncKeyIpv4Src(ip) => Ok(Self::EncKeyIpv4Src(*ip)),
+            Self::EncKeyIpv4SrcMask(ip) => Ok(Self::EncKeyIpv4SrcMask(*ip)),
+            Self::EncKeyIpv4Dst(ip) => Ok(Self::EncKeyIpv4Dst(*ip)),
+            Self::EncKeyIpv4DstMask(ip) => Ok(Self::EncKeyIpv4DstMask(*ip)),
+            Self::EncKeyIpv6Src(ip) => Ok(Self::EncKeyIpv6Src(*ip)),
+            Self::EncKeyIpv6SrcMask(ip) => Ok(Self::EncKeyIpv6SrcMask(*ip)),
+            Self::EncKeyIpv6Dst(ip) => Ok(Self::EncKeyIpv6Dst(*ip)),
+            Self::EncKeyIpv6DstMask(ip) => Ok(Self::EncKeyIpv6DstMask(*ip)),
+            Self::TcpSrcMask(n) => Ok(Self::TcpSrcMask(*n)),
+            Self::TcpDstMask(n) => Ok(Self::TcpDstMask(*n)),
+            Self::UdpSrcMask(n) => Ok(Self::UdpSrcMask(*n)),
+            Self::UdpDstMask(n) => Ok(Self::UdpDstMask(*n)),
+            Self::SctpSrcMask(n) => Ok(Self::SctpSrcMask(*n)),
+            Self::SctpDstMask(n) => Ok(Self::SctpDstMask(*n)),
+            Self::SctpSrc(n) => Ok(Self::SctpSrc(*n)),
+            Self::SctpDst(n) => Ok(Self::SctpDst(*n)),
+            Self::EncKeyUdpSrcPort(n) => Ok(Self::EncKeyUdpSrcPort(*n)),
+            Self::EncKeyUdpSrcPortMask(n) => Ok(Self::EncKeyUdpSrcPortMask(*n)),
+            Self::EncKeyUdpDstPort(n) => Ok(Self::EncKeyUdpDstPort(*n)),
+            Self::EncKeyUdpDstPortMask(n) => Ok(Self::EncKeyUdpDstPortMask(*n)),
+            Self::KeyFlags(n) => Ok(Self::KeyFlags(*n)),
+            Self::KeyFlagsMask(n) => Ok(Self::KeyFlagsMask(*n)),
+            Self::Icmpv4Code(n) => Ok(Self::Icmpv4Code(*n)),
+            Self::Icmpv4CodeMask(n) => Ok(Self::Icmpv4CodeMask(*n)),
+            Self::Icmpv4Type(n) => Ok(Self::Icmpv4Type(*n)),
+            Self::Icmpv4TypeMask(n) => Ok(Self::Icmpv4TypeMask(*n)),
+            Self::Icmpv6Code(n) => Ok(Self::Icmpv6Code(*n)),
+            Self::Icmpv6CodeMask(n) => Ok(Self::Icmpv6CodeMask(*n)),
+            Self::Icmpv6Type(n) => Ok(Self::Icmpv6Type(*n)),
+            Self::Icmpv6TypeMask(n) => Ok(Self::Icmpv6TypeMask(*n)),
+            Self::ArpSip(ip) => Ok(Self::ArpSip(*ip)),
+            Self::ArpSipMask(ip) => Ok(Self::ArpSipMask(*ip)),
+            Self::ArpTip(ip) => Ok(Self::ArpTip(*ip)),
+            Self::ArpTipMask(ip) => Ok(Self::ArpTipMask(*ip)),
+            Self::ArpOp(n) => Ok(Self::ArpOp(*n)),
+            Self::ArpOpMask(n) => Ok(Self::ArpOpMask(*n)),
+            Self::ArpSha(mac) => Ok(Self::ArpSha(*mac)),
+            Self::ArpShaMask(mac) => Ok(Self::ArpShaMask(*mac)),
+            Self::ArpTha(mac) => Ok(Self::ArpTha(*mac)),
+            Self::ArpThaMask(mac) => Ok(Self::ArpThaMask(*mac)),
+            Self::MplsTtl(n) => Ok(Self::MplsTtl(*n)),
+            Self::MplsBos(n) => Ok(Self::MplsBos(*n)),
+            Self::MplsTc(n) => Ok(Self::MplsTc(*n)),
+            Self::MplsLabel(n) => Ok(Self::MplsLabel(*n)),
+            Self::TcpFlags(n) => Ok(Self::TcpFlags(*n)),
+            Self::TcpFlagsMask(n) => Ok(Self::TcpFlagsMask(*n)),
+            Self::IpTos(n) => Ok(Self::IpTos(*n)),
+            Self::IpTosMask(n) => Ok(Self::IpTosMask(*n)),
+            Self::IpTtl(n) => Ok(Self::IpTtl(*n)),
+            Self::IpTtlMask(n) => Ok(Self::IpTtlMask(*n)),
+            Self::CvlanId(n) => Ok(Self::CvlanId(*n)),
+            Self::CvlanPrio(n) => Ok(Self::CvlanPrio(*n)),
+            Self::CvlanEthType(n) => Ok(Self::CvlanEthType(*n)),
+            Self::EncKeyIpTos(n) => Ok(Self::EncKeyIpTos(*n)),
+            Self::EncKeyIpTosMask(n) => Ok(Self::EncKeyIpTosMask(*n)),
+            Self::EncKeyIpTtl(n) => Ok(Self::EncKeyIpTtl(*n)),
+            Self::EncKeyIpTtlMask(n) => Ok(Self::EncKeyIpTtlMask(*n)),
+            Self::InHwCount(n) => Ok(Self::InHwCount(*n)),
+            Self::PortSrcMin(n) => Ok(Self::PortSrcMin(*n)),
+            Self::PortSrcMax(n) => Ok(Self::PortSrcMax(*n)),
+            Self::PortDstMin(n) => Ok(Self::PortDstMin(*n)),
+            Self::PortDstMax(n) => Ok(Self::PortDstMax(*n)),
+            Self::CtState(n) => Ok(Self::CtState(*n)),
+            Self::CtStateMask(n) => Ok(Self::CtStateMask(*n)),
+            Self::CtZone(n) => Ok(Self::CtZone(*n)),
+            Self::CtZoneMask(n) => Ok(Self::CtZoneMask(*n)),
+            Self::CtMark(n) => Ok(Self::CtMark(*n)),
+            Self::CtMarkMask(n) => Ok(Self::CtMarkMask(*n)),
+            Self::CtLabels(labels) => Ok(Self::CtLabels(*labels)),
+            Self::CtLabelsMask(labels) => Ok(Self::CtLabelsMask(*labels)),
+            Self::MplsOpts(options) => Ok(Self::MplsOpts(options.clone()?)),
+            Self::KeyHash(n) => Ok(Self::KeyHash(*n)),
+            Self::KeyHashMask(n) => Ok(Self::KeyHashMask(*n)),
+            Self::Other(nla) => Ok(Self::Other(nla.clone()?)),
+        }
     }
 }
