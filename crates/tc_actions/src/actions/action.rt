@@ -1,0 +1,107 @@
+//! An action: one attribute, whose value is a list that tells its own kind.
+
+ghost use Rattle.std.specs.Prelude.{◌≡◌, [], IfOk};
+ghost use Rattle.nla_frames.specs.Fault.{Gives, IfRefused, seen};
+ghost use Rattle.nla_frames.specs.Frame.{type_of};
+ghost use Rattle.nla_frames.specs.Buffer.{frame_of};
+ghost use Rattle.tc_meaning.specs.Tree.{Attribute};
+ghost use Rattle.tc_meaning.specs.OwnGrammar.{OwnReads, OwnFault};
+ghost use Rattle.tc_meaning.specs.Meaning.{table_codec};
+ghost use Rattle.tc_meaning.specs.Short.{table_short};
+ghost use Rattle.tc_laws.specs.Order.{read_action_attribute};
+ghost use Rattle.tc_actions.specs.Action.{an_action, listed, tc_action, KeepsOrder};
+
+use crate::actions::attribute::TcActionAttribute;
+use crate::actions::scan::parse_list_own;
+use nla_frames::laws::in_hand::u16_in_hand;
+use nla_frames::{
+    FrameMeaning, NLA_TYPE_MASK, Nla, NlaBuffer, Parseable, Res, Settle, list_settled_own,
+    nested_checked_len, put_list,
+};
+use std::alloc::{Allocator, Global};
+use tc_laws::places::order_in_an_action;
+
+// The type of an action that stands alone, `linux/rtnetlink.h`.
+const TCA_ACT_TAB: u16 = 1;
+
+/// An action. Its kind is the text of its one [`Kind`](TcActionAttribute::Kind), wherever that stands, and its options
+/// and statistics are read under it.
+#[derive(Drop)]
+#[derive_where(Debug, PartialEq, Eq)]
+#[derive_where(Clone; A)]
+pub struct TcAction<A: Allocator = Global> {
+    /// The type of its frame, which in a list of actions is its place; the whole word when it is written.
+    pub tab: u16,
+    /// Its attributes.
+    pub attributes: Vec<TcActionAttribute<A>, A>,
+}
+
+impl<A: Allocator> TcAction<A> {
+    /// An action of type `TCA_ACT_TAB` with no attributes. It isn't settled, as it tells no kind.
+    pub fn default_in(alloc: A) -> TcAction<A>
+        ensures tab { result.tab ≡ 1 }
+        ensures attributes { result.attributes.items ≡ [] }
+    {
+        TcAction {
+            tab: TCA_ACT_TAB,
+            attributes: Vec::new(alloc),
+        }
+    }
+}
+
+impl<A: Allocator> FrameMeaning for TcAction<A> {
+    ghost Seen = { Attribute };
+
+    ghost see = { tc_action };
+
+    ghost codec = { table_codec an_action };
+}
+
+impl<A: Allocator + Copy> Parseable<A> for TcAction<A> {
+    /// The action of a frame of any type, or its first fault: of a broken frame or of a kind that isn't UTF-8, then
+    /// `MissingKind` or `DuplicateKind`, then of an attribute.
+    fn parse(alloc: A, buf: &NlaBuffer<'_>) -> Res<TcAction<A>>
+        ensures tab { IfOk result (λ action. action.tab ≡ type_of (frame_of buf.now).word) }
+        // Its attributes are what the grammar reads of the value.
+        ensures found { IfOk result (λ action. OwnReads read_action_attribute (frame_of buf.now).value (listed action)) }
+        // What is refused has this fault, and it is the first.
+        ensures refused { IfRefused result (OwnFault read_action_attribute (frame_of buf.now).value) }
+        // Two neighbours exchanged, where all are padded in full, exchange what they read as, and change nothing else.
+        ensures order { IfOk result (λ action. KeepsOrder (frame_of buf.now) (listed action)) }
+        // What is found and what is refused, by the function that computes both.
+        ensures exact { Gives (seen tc_action result) ((table_codec an_action).read [] (frame_of buf.now)) }
+    {
+        order_in_an_action();
+        let attributes = parse_list_own(alloc, buf.value())?;
+        Ok(TcAction {
+            tab: buf.kind(),
+            attributes,
+        })
+    }
+}
+
+impl<A: Allocator> Nla for TcAction<A> {
+    fn kind(&self) -> u16 {
+        self.tab
+    }
+
+    fn checked_len(&self) -> Option<usize> {
+        nested_checked_len(&self.attributes)
+    }
+
+    fn put_value(&self, buffer: &mut [u8]) -> usize {
+        u16_in_hand(self.tab);
+        put_list(&self.attributes, buffer)
+    }
+
+    ghost is_short = { table_short an_action };
+}
+
+impl<A: Allocator> Settle for TcAction<A> {
+    /// True if the type has no flags, one attribute tells the kind, and each is settled under it. The kind around the
+    /// action doesn't matter.
+    fn is_settled_under(&self, _kind: &str) -> bool {
+        u16_in_hand(self.tab);
+        self.tab <= NLA_TYPE_MASK && list_settled_own(&self.attributes)
+    }
+}

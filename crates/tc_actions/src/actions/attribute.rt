@@ -1,0 +1,158 @@
+//! The attributes of an action.
+
+ghost use Rattle.std.specs.Prelude.{◌≡◌};
+ghost use Rattle.nla_frames.specs.Frame.{type_of};
+ghost use Rattle.tc_canon.specs.Descriptor.{table};
+ghost use Rattle.tc_canon.specs.Tables.Actions.{action_attributes};
+ghost use Rattle.tc_meaning.specs.Tree.{Attribute};
+ghost use Rattle.tc_meaning.specs.Own.{kind_of_attribute};
+ghost use Rattle.tc_meaning.specs.Meaning.{table_codec};
+ghost use Rattle.tc_meaning.specs.Short.{table_short};
+ghost use Rattle.tc_values.specs.Row.{attribute_of, IsRow, ShownAs, reads_at};
+ghost use Rattle.tc_actions.specs.ActionAttribute.{action_attribute, attribute_body};
+
+use crate::actions::option::TcActionOption;
+use crate::stats::stats2::TcStats2;
+use nla_frames::{
+    DefaultNla, FrameMeaning, NLA_F_NESTED, NLA_TYPE_MASK, Nla, NlaBuffer, Parseable,
+    ParseableParametrized, Res, SetsKind, Settle, parse_list_with, parse_string, parse_u32,
+};
+use std::alloc::{Allocator, Global};
+use tc_values::{Either, Items, Value};
+
+// The types of an action's attributes, `linux/pkt_cls.h`.
+pub(crate) const TCA_ACT_KIND: u16 = 1;
+const TCA_ACT_OPTIONS: u16 = 2;
+const TCA_ACT_INDEX: u16 = 3;
+const TCA_ACT_STATS: u16 = 4;
+const TCA_ACT_COOKIE: u16 = 6;
+const TCA_ACT_IN_HW_COUNT: u16 = 10;
+
+/// An attribute of an action.
+///
+/// | Type | Attribute | Value |
+/// |---|---|---|
+/// | 1 | `Kind` | text |
+/// | 2, written with the nested flag | `Options` | a list of [`TcActionOption`], by the action's kind |
+/// | 3 | `Index` | u32 |
+/// | 4 | `Stats` | a list of [`TcStats2`], by the action's kind |
+/// | 6 | `Cookie` | bytes |
+/// | 10 | `InHwCount` | u32 |
+#[derive(Drop)]
+#[derive_where(Debug, PartialEq, Eq)]
+#[derive_where(Clone; A)]
+pub enum TcActionAttribute<A: Allocator = Global> {
+    /// The action's kind: `TCA_ACT_KIND` of `linux/pkt_cls.h`.
+    Kind(String<A>),
+    /// The options: `TCA_ACT_OPTIONS`.
+    Options(Vec<TcActionOption<A>, A>),
+    /// The number that tells the action from others of its kind: `TCA_ACT_INDEX`.
+    Index(u32),
+    /// Statistics: `TCA_ACT_STATS`.
+    Stats(Vec<TcStats2<A>, A>),
+    /// Bytes that the user keeps with the action: `TCA_ACT_COOKIE`.
+    Cookie(Vec<u8, A>),
+    /// How often the action stands in hardware: `TCA_ACT_IN_HW_COUNT`.
+    InHwCount(u32),
+    /// Any other type.
+    Other(DefaultNla<A>),
+}
+
+// What attributes nest.
+type Body<'a, A> = Either<Items<'a, TcActionOption<A>>, Items<'a, TcStats2<A>>>;
+
+impl<A: Allocator> FrameMeaning for TcActionAttribute<A> {
+    ghost Seen = { Attribute };
+
+    ghost see = { action_attribute };
+
+    ghost codec = { table_codec (table action_attributes) };
+}
+
+impl<A: Allocator + Copy> ParseableParametrized<A> for TcActionAttribute<A> {
+    fn parse_with_param(alloc: A, buf: &NlaBuffer<'_>, kind: &str) -> Res<TcActionAttribute<A>> {
+        let value = buf.value();
+        match buf.kind() {
+            TCA_ACT_KIND => Ok(TcActionAttribute::Kind(parse_string(alloc, value)?)),
+            TCA_ACT_OPTIONS => Ok(TcActionAttribute::Options(parse_list_with(alloc, value, kind)?)),
+            TCA_ACT_INDEX => Ok(TcActionAttribute::Index(parse_u32(value)?)),
+            TCA_ACT_STATS => Ok(TcActionAttribute::Stats(parse_list_with(alloc, value, kind)?)),
+            TCA_ACT_COOKIE => Ok(TcActionAttribute::Cookie(Vec::from_slice(alloc, value)?)),
+            TCA_ACT_IN_HW_COUNT => Ok(TcActionAttribute::InHwCount(parse_u32(value)?)),
+            _ => Ok(TcActionAttribute::Other(DefaultNla::parse(alloc, buf)?)),
+        }
+    }
+}
+
+impl<A: Allocator> TcActionAttribute<A> {
+    // Its word and its value, and what they are by the table.
+    fn view(&self) -> (u16, Value<'_, Body<'_, A>>)
+        ensures { ShownAs attribute_body action_attributes (action_attribute self.now) result.0 result.1 }
+    {
+        self.row()
+    }
+
+    fn row(&self) -> (u16, Value<'_, Body<'_, A>>)
+        ensures seen { action_attribute self.now ≡ attribute_of attribute_body result.0 result.1 }
+        ensures row { IsRow attribute_body action_attributes result.0 result.1 }
+    {
+        match self {
+            TcActionAttribute::Kind(kind) => (TCA_ACT_KIND, Value::Text(kind.as_str())),
+            TcActionAttribute::Options(options) => (
+                TCA_ACT_OPTIONS | NLA_F_NESTED,
+                Value::Nested(Either::Left(Items(options))),
+            ),
+            TcActionAttribute::Index(n) => (TCA_ACT_INDEX, Value::U32(*n)),
+            TcActionAttribute::Stats(stats) => {
+                (TCA_ACT_STATS, Value::Nested(Either::Right(Items(stats))))
+            }
+            TcActionAttribute::Cookie(bytes) => (TCA_ACT_COOKIE, Value::Bytes(bytes)),
+            TcActionAttribute::InHwCount(n) => (TCA_ACT_IN_HW_COUNT, Value::U32(*n)),
+            TcActionAttribute::Other(nla) => (nla.kind(), Value::Kept(nla.value())),
+        }
+    }
+}
+
+// True if attributes of this word's type are read.
+fn is_read(word: u16) -> bool
+    ensures { result ≡ reads_at action_attributes (type_of word) }
+{
+    matches!(
+        word & NLA_TYPE_MASK,
+        TCA_ACT_KIND..=TCA_ACT_STATS | TCA_ACT_COOKIE | TCA_ACT_IN_HW_COUNT
+    )
+}
+
+impl<A: Allocator> Nla for TcActionAttribute<A> {
+    fn kind(&self) -> u16 {
+        self.view().0
+    }
+
+    fn checked_len(&self) -> Option<usize> {
+        self.view().1.checked_len()
+    }
+
+    fn put_value(&self, buffer: &mut [u8]) -> usize {
+        self.view().1.put(buffer)
+    }
+
+    ghost is_short = { table_short (table action_attributes) };
+}
+
+impl<A: Allocator> Settle for TcActionAttribute<A> {
+    fn is_settled_under(&self, kind: &str) -> bool {
+        let (word, value) = self.view();
+        value.is_settled_under(is_read(word), kind)
+    }
+}
+
+impl<A: Allocator> SetsKind for TcActionAttribute<A> {
+    ghost sets = { λ attribute. kind_of_attribute (action_attribute attribute) };
+
+    fn kind_set(&self) -> Option<&str> {
+        match self {
+            TcActionAttribute::Kind(kind) => Some(kind.as_str()),
+            _ => None,
+        }
+    }
+}

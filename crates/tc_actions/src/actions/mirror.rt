@@ -1,0 +1,121 @@
+//! Packets that are redirected or copied to another interface.
+
+ghost use Rattle.std.specs.Prelude.{◌≡◌};
+ghost use Rattle.nla_frames.specs.Frame.{type_of};
+ghost use Rattle.tc_canon.specs.Descriptor.{table};
+ghost use Rattle.tc_canon.specs.Tables.Actions.{mirror_options};
+ghost use Rattle.tc_meaning.specs.Tree.{Attribute};
+ghost use Rattle.tc_meaning.specs.Meaning.{table_codec};
+ghost use Rattle.tc_meaning.specs.Short.{table_short};
+ghost use Rattle.tc_values.specs.Row.{attribute_of, IsRow, ShownAs, reads_at};
+ghost use Rattle.tc_actions.specs.Mirror.{mirror_option, mirror_body};
+
+use nla_frames::{
+    DefaultNla, FrameMeaning, NLA_TYPE_MASK, Nla, NlaBuffer, Parseable, Res, Settle,
+};
+use std::alloc::{Allocator, Global};
+use tc_records::{TcMirror, Tcf};
+use tc_values::{Either, Record, Value};
+
+/// The action `mirred`, which redirects or copies packets to another interface.
+#[derive(PartialEq, Eq, Clone, Drop, Debug)]
+pub struct TcActionMirror {}
+
+impl TcActionMirror {
+    /// Its name in a `Kind`.
+    pub const KIND: &'static str = "mirred";
+}
+
+// The types of its options, `linux/tc_act/tc_mirred.h`.
+const TCA_MIRRED_TM: u16 = 1;
+const TCA_MIRRED_PARMS: u16 = 2;
+
+/// An option of the action `mirred`.
+///
+/// | Type | Option | Value |
+/// |---|---|---|
+/// | 1 | `Tm` | [`Tcf`] |
+/// | 2 | `Parms` | [`TcMirror`] |
+#[derive(Drop)]
+#[derive_where(Debug, PartialEq, Eq)]
+#[derive_where(Clone; A)]
+pub enum TcActionMirrorOption<A: Allocator = Global> {
+    /// When it was made and used: `TCA_MIRRED_TM` of `linux/tc_act/tc_mirred.h`.
+    Tm(Tcf),
+    /// Where packets go: `TCA_MIRRED_PARMS`.
+    Parms(TcMirror),
+    /// Any other type.
+    Other(DefaultNla<A>),
+}
+
+// What its options nest.
+type Body<'a> = Either<Record<'a, Tcf>, Record<'a, TcMirror>>;
+
+impl<A: Allocator> FrameMeaning for TcActionMirrorOption<A> {
+    ghost Seen = { Attribute };
+
+    ghost see = { mirror_option };
+
+    ghost codec = { table_codec (table mirror_options) };
+}
+
+impl<A: Allocator> Parseable<A> for TcActionMirrorOption<A> {
+    fn parse(alloc: A, buf: &NlaBuffer<'_>) -> Res<TcActionMirrorOption<A>> {
+        let value = buf.value();
+        Ok(match buf.kind() {
+            TCA_MIRRED_TM => TcActionMirrorOption::Tm(Tcf::parse(value)?),
+            TCA_MIRRED_PARMS => TcActionMirrorOption::Parms(TcMirror::parse(value)?),
+            _ => TcActionMirrorOption::Other(DefaultNla::parse(alloc, buf)?),
+        })
+    }
+}
+
+impl<A: Allocator> TcActionMirrorOption<A> {
+    // Its word and its value, and what they are by the table.
+    fn view(&self) -> (u16, Value<'_, Body<'_>>)
+        ensures { ShownAs mirror_body mirror_options (mirror_option self.now) result.0 result.1 }
+    {
+        self.row()
+    }
+
+    fn row(&self) -> (u16, Value<'_, Body<'_>>)
+        ensures seen { mirror_option self.now ≡ attribute_of mirror_body result.0 result.1 }
+        ensures row { IsRow mirror_body mirror_options result.0 result.1 }
+    {
+        match self {
+            TcActionMirrorOption::Tm(times) => (TCA_MIRRED_TM, Value::Nested(Either::Left(Record(times)))),
+            TcActionMirrorOption::Parms(parms) => (TCA_MIRRED_PARMS, Value::Nested(Either::Right(Record(parms)))),
+            TcActionMirrorOption::Other(nla) => (nla.kind(), Value::Kept(nla.value())),
+        }
+    }
+}
+
+// True if options of this word's type are read.
+fn is_read(word: u16) -> bool
+    ensures { result ≡ reads_at mirror_options (type_of word) }
+{
+    matches!(word & NLA_TYPE_MASK, TCA_MIRRED_TM | TCA_MIRRED_PARMS)
+}
+
+impl<A: Allocator> Nla for TcActionMirrorOption<A> {
+    fn kind(&self) -> u16 {
+        self.view().0
+    }
+
+    fn checked_len(&self) -> Option<usize> {
+        self.view().1.checked_len()
+    }
+
+    fn put_value(&self, buffer: &mut [u8]) -> usize {
+        self.view().1.put(buffer)
+    }
+
+    ghost is_short = { table_short (table mirror_options) };
+}
+
+impl<A: Allocator> Settle for TcActionMirrorOption<A> {
+    fn is_settled_under(&self, kind: &str) -> bool {
+        let (word, value) = self.view();
+        value.is_settled_under(is_read(word), kind)
+    }
+}

@@ -1,0 +1,110 @@
+//! An action's options, by its kind.
+
+ghost use Rattle.std.specs.Prelude.{◌≡◌};
+ghost use Rattle.tc_canon.specs.Descriptor.{by_kind, is_known};
+ghost use Rattle.tc_canon.specs.Tables.Actions.{action_option_kinds};
+ghost use Rattle.tc_meaning.specs.Tree.{Attribute};
+ghost use Rattle.tc_meaning.specs.Meaning.{table_codec};
+ghost use Rattle.tc_meaning.specs.Short.{table_short};
+ghost use Rattle.tc_actions.specs.ActionOption.{action_option};
+
+use crate::actions::mirror::{TcActionMirror, TcActionMirrorOption};
+use crate::actions::nat::{TcActionNat, TcActionNatOption};
+use crate::actions::tunnel_key::{TcActionTunnelKey, TcActionTunnelKeyOption};
+use nla_frames::{
+    DefaultNla, FrameMeaning, Nla, NlaBuffer, Parseable, ParseableParametrized, Res, Settle,
+};
+use std::alloc::{Allocator, Global};
+
+/// One option of an action, in the variant of the action's kind.
+#[derive(Drop)]
+#[derive_where(Debug, PartialEq, Eq)]
+#[derive_where(Clone; A)]
+pub enum TcActionOption<A: Allocator = Global> {
+    /// Under the kind `mirred`.
+    Mirror(TcActionMirrorOption<A>),
+    /// Under the kind `nat`.
+    Nat(TcActionNatOption<A>),
+    /// Under the kind `tunnel_key`.
+    TunnelKey(TcActionTunnelKeyOption<A>),
+    /// Under any other kind, of any type.
+    Other(DefaultNla<A>),
+}
+
+impl<A: Allocator> FrameMeaning for TcActionOption<A> {
+    ghost Seen = { Attribute };
+
+    ghost see = { action_option };
+
+    ghost codec = { table_codec (by_kind action_option_kinds) };
+}
+
+impl<A: Allocator> ParseableParametrized<A> for TcActionOption<A> {
+    fn parse_with_param(alloc: A, buf: &NlaBuffer<'_>, kind: &str) -> Res<TcActionOption<A>> {
+        if kind == TcActionMirror::KIND {
+            return Ok(TcActionOption::Mirror(TcActionMirrorOption::parse(alloc, buf)?));
+        }
+        if kind == TcActionNat::KIND {
+            return Ok(TcActionOption::Nat(TcActionNatOption::parse(alloc, buf)?));
+        }
+        if kind == TcActionTunnelKey::KIND {
+            return Ok(TcActionOption::TunnelKey(TcActionTunnelKeyOption::parse(alloc, buf)?));
+        }
+        Ok(TcActionOption::Other(DefaultNla::parse(alloc, buf)?))
+    }
+}
+
+// True if the options of this kind are known.
+fn is_known_kind(kind: &str) -> bool
+    ensures { result ≡ is_known action_option_kinds kind.now }
+{
+    kind == TcActionMirror::KIND || kind == TcActionNat::KIND || kind == TcActionTunnelKey::KIND
+}
+
+impl<A: Allocator> Nla for TcActionOption<A> {
+    fn kind(&self) -> u16 {
+        match self {
+            TcActionOption::Mirror(option) => option.kind(),
+            TcActionOption::Nat(option) => option.kind(),
+            TcActionOption::TunnelKey(option) => option.kind(),
+            TcActionOption::Other(nla) => nla.kind(),
+        }
+    }
+
+    fn checked_len(&self) -> Option<usize> {
+        match self {
+            TcActionOption::Mirror(option) => option.checked_len(),
+            TcActionOption::Nat(option) => option.checked_len(),
+            TcActionOption::TunnelKey(option) => option.checked_len(),
+            TcActionOption::Other(nla) => nla.checked_len(),
+        }
+    }
+
+    fn put_value(&self, buffer: &mut [u8]) -> usize {
+        match self {
+            TcActionOption::Mirror(option) => option.put_value(buffer),
+            TcActionOption::Nat(option) => option.put_value(buffer),
+            TcActionOption::TunnelKey(option) => option.put_value(buffer),
+            TcActionOption::Other(nla) => nla.put_value(buffer),
+        }
+    }
+
+    ghost is_short = { table_short (by_kind action_option_kinds) };
+}
+
+impl<A: Allocator> Settle for TcActionOption<A> {
+    fn is_settled_under(&self, kind: &str) -> bool {
+        match self {
+            TcActionOption::Mirror(option) => {
+                option.is_settled_under(kind) && kind == TcActionMirror::KIND
+            }
+            TcActionOption::Nat(option) => {
+                option.is_settled_under(kind) && kind == TcActionNat::KIND
+            }
+            TcActionOption::TunnelKey(option) => {
+                option.is_settled_under(kind) && kind == TcActionTunnelKey::KIND
+            }
+            TcActionOption::Other(nla) => nla.is_settled_under(kind) && !is_known_kind(kind),
+        }
+    }
+}

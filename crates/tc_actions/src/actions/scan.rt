@@ -1,0 +1,73 @@
+//! A list of frames that tell their own kind, read with one scan: it cuts the frames, and meets the broken ones and the
+//! kinds that aren't UTF-8 in their order.
+
+ghost use Rattle.std.specs.Prelude.{◌≡◌, List, ℕ, [], Option, map, IfOk};
+ghost use Rattle.std.specs.Result.{MatchResult};
+ghost use Rattle.nla_frames.specs.Fault.{Gives, IfRefused, seen, refused};
+ghost use Rattle.nla_frames.specs.Buffer.{frame_of};
+ghost use Rattle.nla_frames.specs.Reading.{read_list, keep};
+ghost use Rattle.nla_frames.specs.OnlyKind.{text_set};
+ghost use Rattle.tc_meaning.specs.Own.{read_own};
+ghost use Rattle.tc_meaning.specs.OwnGrammar.{first_look, OwnReads, OwnFault};
+ghost use Rattle.tc_actions.specs.Scan.{Scanned};
+
+use crate::actions::attribute::TCA_ACT_KIND;
+use nla_frames::{
+    DecodeError, NlaBuffer, NlasIterator, OnlyKind, ParseableParametrized, Res, first_capacity,
+    parse_frames_with, strip_nul,
+};
+use std::alloc::Allocator;
+
+/// The values of the frames that the bytes are, each read under the kind that one of them tells, or the first fault: of
+/// a broken frame or of a kind that isn't UTF-8, of no kind or of several, of a frame that is refused.
+pub(crate) fn parse_list_own<A: Allocator + Copy, T: ParseableParametrized<A> + Drop>(
+    alloc: A,
+    bytes: &[u8],
+) -> Res<Vec<T, A>>
+    ensures found { IfOk result (λ v. OwnReads T.codec.read bytes.now (map T.see v.items)) }
+    ensures refused { IfRefused result (OwnFault T.codec.read bytes.now) }
+    ensures exact { Gives (seen (λ v. map T.see v.items) result) (read_own T.codec.read bytes.now) }
+{
+    parse_own(alloc, bytes)
+}
+
+fn parse_own<A: Allocator + Copy, T: ParseableParametrized<A> + Drop>(
+    alloc: A,
+    bytes: &[u8],
+) -> Res<Vec<T, A>>
+    ensures { Gives (seen (λ v. map T.see v.items) result) (read_own T.codec.read bytes.now) }
+{
+    let (frames, only) = scan(alloc, bytes)?;
+    match only {
+        OnlyKind::Missing => Err(DecodeError::MissingKind),
+        OnlyKind::One(kind) => parse_frames_with(alloc, &frames, kind),
+        OnlyKind::Several => Err(DecodeError::DuplicateKind),
+    }
+}
+
+// The frames that the bytes are, and the kinds that they tell; or the first broken frame or kind that isn't UTF-8.
+fn scan<'a, A: Allocator>(alloc: A, bytes: &'a [u8]) -> Res<(Vec<NlaBuffer<'a>, A>, OnlyKind<'a>)>
+    ensures { MatchResult result (λ found. Scanned bytes.now found.0.items found.1) (λ e. Gives (refused e) (read_list first_look keep [] bytes.now)) }
+{
+    let mut frames = Vec::with_capacity(alloc, first_capacity(bytes))?;
+    let mut only = OnlyKind::Missing;
+    for frame in NlasIterator::new(bytes) {
+        let frame = frame?;
+        only = only.and(kind_told(&frame)?);
+        frames.push(frame)?;
+    }
+    Ok((frames, only))
+}
+
+// The kind that a frame tells, if it is of type 1.
+fn kind_told<'a>(frame: &NlaBuffer<'a>) -> Res<Option<&'a str>>
+    ensures { seen text_set result ≡ first_look [] (frame_of frame.now) }
+{
+    if frame.kind() != TCA_ACT_KIND {
+        return Ok(None);
+    }
+    match std::str::from_utf8(strip_nul(frame.value())) {
+        Ok(kind) => Ok(Some(kind)),
+        Err(_) => Err(DecodeError::NotUtf8),
+    }
+}

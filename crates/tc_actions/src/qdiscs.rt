@@ -1,0 +1,3 @@
+//! Queueing disciplines.
+
+pub mod fq_codel;

@@ -1,0 +1,7 @@
+//! Statistics that are read under a kind.
+
+pub mod stats2;
+pub mod xstats;
+
+pub use stats2::TcStats2;
+pub use xstats::TcXstats;

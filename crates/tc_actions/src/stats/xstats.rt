@@ -1,0 +1,74 @@
+//! Statistics of a queueing discipline's own.
+
+ghost use Rattle.std.specs.Prelude.{◌≡◌, true};
+ghost use Rattle.nla_frames.specs.Fault.{Gives, seen};
+ghost use Rattle.nla_frames.specs.Buffer.{frame_of};
+ghost use Rattle.tc_meaning.specs.Tree.{Content};
+ghost use Rattle.tc_meaning.specs.Content.{xstats_codec};
+ghost use Rattle.tc_actions.specs.Xstats.{tc_xstats};
+
+use crate::qdiscs::fq_codel::{TcFqCodelXstats, TcQdiscFqCodel};
+use nla_frames::laws::in_hand::bytes_in_hand;
+use nla_frames::{BytesMeaning, Emitable, NlaBuffer, ParseableBytes, Res, SettleBytes, put_bytes};
+use std::alloc::{Allocator, Global};
+
+/// Statistics of a queueing discipline's own, in the form of the kind in force.
+#[derive(Drop)]
+#[derive_where(Debug, PartialEq, Eq)]
+#[derive_where(Clone; A)]
+pub enum TcXstats<A: Allocator = Global> {
+    /// Under the kind `fq_codel`.
+    FqCodel(TcFqCodelXstats<A>),
+    /// Under any other kind, as they stand.
+    Other(Vec<u8, A>),
+}
+
+impl<A: Allocator> BytesMeaning for TcXstats<A> {
+    ghost Seen = { Content };
+
+    ghost see = { tc_xstats };
+
+    ghost codec = { xstats_codec };
+}
+
+impl<A: Allocator> TcXstats<A> {
+    /// The statistics that are a frame's value, under a kind. Fails only under `fq_codel`, as [`TcFqCodelXstats`] does.
+    pub fn parse_with_param(alloc: A, buf: &NlaBuffer<'_>, kind: &str) -> Res<TcXstats<A>>
+        ensures { Gives (seen tc_xstats result) (xstats_codec.read kind.now (frame_of buf.now).value) }
+    {
+        if kind == TcQdiscFqCodel::KIND {
+            return Ok(TcXstats::FqCodel(TcFqCodelXstats::parse(alloc, buf.value())?));
+        }
+        Ok(TcXstats::Other(Vec::from_slice(alloc, buf.value())?))
+    }
+}
+
+impl<A: Allocator> Emitable for TcXstats<A> {
+    fn checked_len(&self) -> Option<usize> {
+        match self {
+            TcXstats::FqCodel(stats) => stats.checked_len(),
+            TcXstats::Other(bytes) => Some(bytes.len()),
+        }
+    }
+
+    fn emit(&self, buffer: &mut [u8]) {
+        match self {
+            TcXstats::FqCodel(stats) => stats.emit(buffer),
+            TcXstats::Other(bytes) => {
+                put_bytes(buffer, bytes);
+            }
+        }
+    }
+}
+
+impl<A: Allocator> SettleBytes for TcXstats<A> {
+    fn is_settled_under(&self, kind: &str) -> bool {
+        match self {
+            TcXstats::FqCodel(stats) => stats.is_settled() && kind == TcQdiscFqCodel::KIND,
+            TcXstats::Other(bytes) => {
+                bytes_in_hand(bytes);
+                kind != TcQdiscFqCodel::KIND
+            }
+        }
+    }
+}
