@@ -4,7 +4,7 @@ use Rattle.std.specs.Prelude.{◌||◌}
 use Rattle.std.proofs.lemmas.Bool.Decides.{nat_tests}
 use Rattle.tc_canon.specs.Descriptor.{is_within}
 use Rattle.tc_values.specs.Row.{reads_at}
-use Rattle.tc_flower.specs.Stage.{flower_options}
+use Rattle.tc_canon.specs.Tables.Flower.{flower_options}
 use Rattle.tc_flower.proofs.Spans.{reads_as}
 
 none_beyond : (n : ℕ) → 102 ≤ n → (is_within 2 83 n || is_within 86 101 n) ≡ false

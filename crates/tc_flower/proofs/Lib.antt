@@ -3,4 +3,3 @@ pub mod Thirds
 pub mod Spans
 pub mod FlowerSpans
 pub mod Bodies
-pub mod Measured

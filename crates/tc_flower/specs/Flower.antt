@@ -6,16 +6,20 @@ use Rattle.tc_canon.specs.Descriptor.{table}
 use Rattle.tc_canon.specs.Tables.Flower.{mpls_options}
 use Rattle.tc_meaning.specs.Tree.{Attribute, known, other, number, is_bytes, items, attributes_of}
 use Rattle.tc_values.specs.Inner.{Inner}
-use Rattle.tc_values.specs.Bodies.{items_of}
+use Rattle.tc_values.specs.Bodies.{items_of, either}
 use Rattle.tc_values.specs.declared.body.Items.{Items}
+use Rattle.tc_values.specs.declared.body.Either.{Either}
+use Rattle.tc_actions.specs.Action.{tc_action, an_action}
+use Rattle.tc_actions.specs.declared.actions.action.TcAction.{TcAction}
 use Rattle.tc_flower.specs.declared.filters.flower.mpls.TcFilterFlowerMplsOption.{TcFilterFlowerMplsOption}
 use Rattle.tc_flower.specs.declared.filters.flower.options.TcFilterFlowerOption.{TcFilterFlowerOption}
-use Rattle.tc_flower.specs.declared.filters.flower.options.TcFilterFlowerOption.TheVariants.{ClassId, InDev, EthDst, EthDstMask, EthSrc, EthSrcMask, EthType, IpProto, Ipv4Src, Ipv4SrcMask, Ipv4Dst, Ipv4DstMask, Ipv6Src, Ipv6SrcMask, Ipv6Dst, Ipv6DstMask, TcpSrc, TcpDst, UdpSrc, UdpDst, Flags, VlanId, VlanPrio, VlanEthType, EncKeyId, EncKeyIpv4Src, EncKeyIpv4SrcMask, EncKeyIpv4Dst, EncKeyIpv4DstMask, EncKeyIpv6Src, EncKeyIpv6SrcMask, EncKeyIpv6Dst, EncKeyIpv6DstMask, TcpSrcMask, TcpDstMask, UdpSrcMask, UdpDstMask, SctpSrcMask, SctpDstMask, SctpSrc, SctpDst, EncKeyUdpSrcPort, EncKeyUdpSrcPortMask, EncKeyUdpDstPort, EncKeyUdpDstPortMask, KeyFlags, KeyFlagsMask, Icmpv4Code, Icmpv4CodeMask, Icmpv4Type, Icmpv4TypeMask, Icmpv6Code, Icmpv6CodeMask, Icmpv6Type, Icmpv6TypeMask, ArpSip, ArpSipMask, ArpTip, ArpTipMask, ArpOp, ArpOpMask, ArpSha, ArpShaMask, ArpTha, ArpThaMask, MplsTtl, MplsBos, MplsTc, MplsLabel, TcpFlags, TcpFlagsMask, IpTos, IpTosMask, IpTtl, IpTtlMask, CvlanId, CvlanPrio, CvlanEthType, EncKeyIpTos, EncKeyIpTosMask, EncKeyIpTtl, EncKeyIpTtlMask, InHwCount, PortSrcMin, PortSrcMax, PortDstMin, PortDstMax, CtState, CtStateMask, CtZone, CtZoneMask, CtMark, CtMarkMask, CtLabels, CtLabelsMask, MplsOpts, KeyHash, KeyHashMask, Other}
+use Rattle.tc_flower.specs.declared.filters.flower.options.TcFilterFlowerOption.TheVariants.{ClassId, InDev, Actions, EthDst, EthDstMask, EthSrc, EthSrcMask, EthType, IpProto, Ipv4Src, Ipv4SrcMask, Ipv4Dst, Ipv4DstMask, Ipv6Src, Ipv6SrcMask, Ipv6Dst, Ipv6DstMask, TcpSrc, TcpDst, UdpSrc, UdpDst, Flags, VlanId, VlanPrio, VlanEthType, EncKeyId, EncKeyIpv4Src, EncKeyIpv4SrcMask, EncKeyIpv4Dst, EncKeyIpv4DstMask, EncKeyIpv6Src, EncKeyIpv6SrcMask, EncKeyIpv6Dst, EncKeyIpv6DstMask, TcpSrcMask, TcpDstMask, UdpSrcMask, UdpDstMask, SctpSrcMask, SctpDstMask, SctpSrc, SctpDst, EncKeyUdpSrcPort, EncKeyUdpSrcPortMask, EncKeyUdpDstPort, EncKeyUdpDstPortMask, KeyFlags, KeyFlagsMask, Icmpv4Code, Icmpv4CodeMask, Icmpv4Type, Icmpv4TypeMask, Icmpv6Code, Icmpv6CodeMask, Icmpv6Type, Icmpv6TypeMask, ArpSip, ArpSipMask, ArpTip, ArpTipMask, ArpOp, ArpOpMask, ArpSha, ArpShaMask, ArpTha, ArpThaMask, MplsTtl, MplsBos, MplsTc, MplsLabel, TcpFlags, TcpFlagsMask, IpTos, IpTosMask, IpTtl, IpTtlMask, CvlanId, CvlanPrio, CvlanEthType, EncKeyIpTos, EncKeyIpTosMask, EncKeyIpTtl, EncKeyIpTtlMask, InHwCount, PortSrcMin, PortSrcMax, PortDstMin, PortDstMax, CtState, CtStateMask, CtZone, CtZoneMask, CtMark, CtMarkMask, CtLabels, CtLabelsMask, MplsOpts, KeyHash, KeyHashMask, Other}
 use Rattle.tc_flower.specs.Mpls.{mpls_option}
 
 abbrev pub flower_option : {A : Type 0} → TcFilterFlowerOption A → Attribute
 flower_option (ClassId n) = known 1 (number n)
 flower_option (InDev name) = known 2 (is_bytes (string_bytes name))
+flower_option (Actions actions) = known 3 (items (attributes_of (map tc_action actions.items)))
 flower_option (EthDst mac) = known 4 (is_bytes mac)
 flower_option (EthDstMask mac) = known 5 (is_bytes mac)
 flower_option (EthSrc mac) = known 6 (is_bytes mac)
@@ -114,6 +118,6 @@ flower_option (KeyHash n) = known 100 (number n)
 flower_option (KeyHashMask n) = known 101 (number n)
 flower_option (Other nla) = other (kept_frame nla).word (kept_frame nla).value
 
--- what is nested in the options
-abbrev pub flower_lists : {A : Type 0} → Inner (Items (TcFilterFlowerMplsOption A))
-flower_lists = items_of mpls_option (table mpls_options)
+-- what is nested in the options: actions, or what MPLS is matched by
+abbrev pub flower_lists : {A : Type 0} → Inner (Either (Items (TcAction A)) (Items (TcFilterFlowerMplsOption A)))
+flower_lists = either (items_of tc_action an_action) (items_of mpls_option (table mpls_options))

@@ -1,4 +1,3 @@
 pub mod Mpls
 pub mod Flower
-pub mod Stage
 pub mod Thirds

@@ -3,9 +3,9 @@ use Rattle.std.specs.Prelude.{ℕ, [], nat_le, if◌then◌else◌}
 use Rattle.nla_frames.specs.Fault.{Outcome}
 use Rattle.nla_frames.specs.Frame.{Frame, type_of}
 use Rattle.tc_canon.specs.Descriptor.{Rows, others, types, unread, options}
+use Rattle.tc_canon.specs.Tables.Flower.{flower_options}
 use Rattle.tc_meaning.specs.Tree.{Attribute}
 use Rattle.tc_meaning.specs.Meaning.{rows_codec}
-use Rattle.tc_flower.specs.Stage.{flower_options}
 
 -- the rows that begin at a type or before it, and after them other rows
 abbrev rows_to : ℕ → Rows → Rows → Rows

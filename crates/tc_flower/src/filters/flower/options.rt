@@ -6,11 +6,11 @@ ghost use Rattle.nla_frames.specs.Buffer.{frame_of};
 ghost use Rattle.nla_frames.specs.Frame.{type_of};
 ghost use Rattle.nla_frames.specs.Value.{exactly};
 ghost use Rattle.tc_canon.specs.Descriptor.{table, is_within};
+ghost use Rattle.tc_canon.specs.Tables.Flower.{flower_options};
 ghost use Rattle.tc_meaning.specs.Tree.{Attribute};
 ghost use Rattle.tc_meaning.specs.Meaning.{table_codec};
 ghost use Rattle.tc_meaning.specs.Short.{table_short};
 ghost use Rattle.tc_values.specs.Row.{attribute_of, IsRow, ShownAs, reads_at};
-ghost use Rattle.tc_flower.specs.Stage.{flower_options};
 ghost use Rattle.tc_flower.specs.Thirds.{first_rows, middle_rows, last_rows, read_by};
 ghost use Rattle.tc_flower.specs.Flower.{flower_option, flower_lists};
 
@@ -22,7 +22,8 @@ use nla_frames::{
 };
 use std::alloc::{AllocError, Allocator, Global};
 use std::net::{Ipv4Addr, Ipv6Addr};
-use tc_values::{Items, Value};
+use tc_actions::TcAction;
+use tc_values::{Either, Items, Value};
 
 /// The filter `flower`.
 #[derive(PartialEq, Eq, Clone, Drop, Debug)]
@@ -37,6 +38,8 @@ impl TcFilterFlower {
 const TCA_FLOWER_CLASSID: u16 = 1;
 
 const TCA_FLOWER_INDEV: u16 = 2;
+
+const TCA_FLOWER_ACT: u16 = 3;
 
 const TCA_FLOWER_KEY_ETH_DST: u16 = 4;
 
@@ -236,7 +239,7 @@ const TCA_FLOWER_KEY_HASH_MASK: u16 = 101;
 /// |---|---|---|
 /// | 1, written and never read | `ClassId` | u32 |
 /// | 2 | `InDev` | text |
-/// | 3 | `Actions` | list of `TcAction` |
+/// | 3 | `Actions` | list of [`TcAction`] |
 /// | 4 to 7 | `EthDst`, `EthDstMask`, `EthSrc`, `EthSrcMask` | MAC address |
 /// | 8 | `EthType` | u16, big-endian |
 /// | 9 | `IpProto` | u8 |
@@ -283,6 +286,8 @@ pub enum TcFilterFlowerOption<A: Allocator = Global> {
     ClassId(u32),
     /// The name of the device that packets come in by: `TCA_FLOWER_INDEV`.
     InDev(String<A>),
+    /// The actions on packets that match: `TCA_FLOWER_ACT`.
+    Actions(Vec<TcAction<A>, A>),
     /// The destination MAC address: `TCA_FLOWER_KEY_ETH_DST`.
     EthDst([u8; 6]),
     /// The mask of the destination MAC address: `TCA_FLOWER_KEY_ETH_DST_MASK`.
@@ -479,6 +484,9 @@ pub enum TcFilterFlowerOption<A: Allocator = Global> {
     Other(DefaultNla<A>),
 }
 
+// What is nested in the options: actions, or what MPLS is matched by.
+type FlowerLists<'a, A> = Either<Items<'a, TcAction<A>>, Items<'a, TcFilterFlowerMplsOption<A>>>;
+
 impl<A: Allocator> FrameMeaning for TcFilterFlowerOption<A> {
     ghost Seen = { Attribute };
 
@@ -504,6 +512,7 @@ impl<A: Allocator + Copy> TcFilterFlowerOption<A> {
         match buf.kind() {
             TCA_FLOWER_CLASSID => Ok(Self::Other(DefaultNla::parse(alloc, buf)?)),
             TCA_FLOWER_INDEV => Ok(Self::InDev(parse_string(alloc, value)?)),
+            TCA_FLOWER_ACT => Ok(Self::Actions(parse_list(alloc, value)?)),
             TCA_FLOWER_KEY_ETH_DST => Ok(Self::EthDst(parse_mac(value)?)),
             TCA_FLOWER_KEY_ETH_DST_MASK => Ok(Self::EthDstMask(parse_mac(value)?)),
             TCA_FLOWER_KEY_ETH_SRC => Ok(Self::EthSrc(parse_mac(value)?)),
@@ -656,19 +665,20 @@ fn parse_labels(value: &[u8]) -> Res<[u8; 16]>
 
 impl<A: Allocator> TcFilterFlowerOption<A> {
     // Its word and its value, and what they are by the table.
-    fn view(&self) -> (u16, Value<'_, Items<'_, TcFilterFlowerMplsOption<A>>>)
+    fn view(&self) -> (u16, Value<'_, FlowerLists<'_, A>>)
         ensures { ShownAs flower_lists flower_options (flower_option self.now) result.0 result.1 }
     {
         self.row()
     }
 
-    fn row(&self) -> (u16, Value<'_, Items<'_, TcFilterFlowerMplsOption<A>>>)
+    fn row(&self) -> (u16, Value<'_, FlowerLists<'_, A>>)
         ensures seen { flower_option self.now ≡ attribute_of flower_lists result.0 result.1 }
         ensures row { IsRow flower_lists flower_options result.0 result.1 }
     {
         match self {
             Self::ClassId(n) => (TCA_FLOWER_CLASSID, Value::U32(*n)),
             Self::InDev(name) => (TCA_FLOWER_INDEV, Value::Text(name)),
+            Self::Actions(actions) => (TCA_FLOWER_ACT, Value::Nested(Either::Left(Items(actions)))),
             Self::EthDst(mac) => (TCA_FLOWER_KEY_ETH_DST, Value::Octets6(*mac)),
             Self::EthDstMask(mac) => (TCA_FLOWER_KEY_ETH_DST_MASK, Value::Octets6(*mac)),
             Self::EthSrc(mac) => (TCA_FLOWER_KEY_ETH_SRC, Value::Octets6(*mac)),
@@ -782,7 +792,7 @@ impl<A: Allocator> TcFilterFlowerOption<A> {
             Self::CtLabelsMask(labels) => (TCA_FLOWER_KEY_CT_LABELS_MASK, Value::Octets16(*labels)),
             Self::MplsOpts(options) => (
                 TCA_FLOWER_KEY_MPLS_OPTS | NLA_F_NESTED,
-                Value::Nested(Items(options)),
+                Value::Nested(Either::Right(Items(options))),
             ),
             Self::KeyHash(n) => (TCA_FLOWER_KEY_HASH, Value::U32(*n)),
             Self::KeyHashMask(n) => (TCA_FLOWER_KEY_HASH_MASK, Value::U32(*n)),
@@ -834,6 +844,7 @@ impl<A: Allocator + Clone> Clone for TcFilterFlowerOption<A> {
         match self {
             Self::ClassId(n) => Ok(Self::ClassId(*n)),
             Self::InDev(name) => Ok(Self::InDev(name.clone()?)),
+            Self::Actions(actions) => Ok(Self::Actions(actions.clone()?)),
             Self::EthDst(mac) => Ok(Self::EthDst(*mac)),
             Self::EthDstMask(mac) => Ok(Self::EthDstMask(*mac)),
             Self::EthSrc(mac) => Ok(Self::EthSrc(*mac)),

@@ -1,5 +1,5 @@
 use Rattle.tc_values.proofs.Rows.{shown_as}
-use Rattle.tc_flower.specs.Stage.{flower_options}
+use Rattle.tc_canon.specs.Tables.Flower.{flower_options}
 use Rattle.tc_flower.specs.Flower.{flower_lists}
 use Rattle.tc_flower.proofs.Bodies.{are_flower_lists}
 use Rattle.tc_flower.proofs.filters.flower.options.TcFilterFlowerOption.view.Goals as goal
