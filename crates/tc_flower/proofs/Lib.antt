@@ -3,3 +3,4 @@ pub mod Thirds
 pub mod Spans
 pub mod FlowerSpans
 pub mod Bodies
+pub mod Copies

@@ -1,5 +1,6 @@
 -- An option of flower as contracts see it.
-use Rattle.std.specs.Prelude.{map, string_bytes}
+use Rattle.std.specs.Prelude.{◌≡◌, map, string_bytes}
+use Rattle.std.specs.List.{AllZip}
 use Rattle.std.specs.Net.Addr.{ipv4_octets, ipv6_octets}
 use Rattle.nla_frames.specs.DefaultNla.{kept_frame}
 use Rattle.tc_canon.specs.Descriptor.{table}
@@ -121,3 +122,10 @@ flower_option (Other nla) = other (kept_frame nla).word (kept_frame nla).value
 -- what is nested in the options: actions, or what MPLS is matched by
 abbrev pub flower_lists : {A : Type 0} → Inner (Either (Items (TcAction A)) (Items (TcFilterFlowerMplsOption A)))
 flower_lists = either (items_of tc_action an_action) (items_of mpls_option (table mpls_options))
+
+-- a copy of an option: of a list, copies of its elements, place by place
+abbrev pub IsCopy : {A : Type 0} → (TcAction A → TcAction A → Type 0) → (TcFilterFlowerMplsOption A → TcFilterFlowerMplsOption A → Type 0) → TcFilterFlowerOption A
+    → TcFilterFlowerOption A → Type 0
+IsCopy ActionCopied MplsCopied (Actions actions) (Actions copies) = AllZip ActionCopied actions.items copies.items
+IsCopy ActionCopied MplsCopied (MplsOpts options) (MplsOpts copies) = AllZip MplsCopied options.items copies.items
+IsCopy ActionCopied MplsCopied option copy = flower_option copy ≡ flower_option option

@@ -12,7 +12,7 @@ ghost use Rattle.tc_meaning.specs.Meaning.{table_codec};
 ghost use Rattle.tc_meaning.specs.Short.{table_short};
 ghost use Rattle.tc_values.specs.Row.{attribute_of, IsRow, ShownAs, reads_at};
 ghost use Rattle.tc_flower.specs.Thirds.{first_rows, middle_rows, last_rows, read_by};
-ghost use Rattle.tc_flower.specs.Flower.{flower_option, flower_lists};
+ghost use Rattle.tc_flower.specs.Flower.{flower_option, flower_lists, IsCopy};
 
 use crate::filters::flower::mpls::TcFilterFlowerMplsOption;
 use nla_frames::{
@@ -838,7 +838,7 @@ impl<A: Allocator> Settle for TcFilterFlowerOption<A> {
 }
 
 impl<A: Allocator + Clone> Clone for TcFilterFlowerOption<A> {
-    ghost is_clone = { λ option copy. flower_option copy ≡ flower_option option };
+    ghost is_clone = { IsCopy ⟦<TcAction<A> as Clone>⟧.is_clone ⟦<TcFilterFlowerMplsOption<A> as Clone>⟧.is_clone };
 
     fn clone(&self) -> Result<TcFilterFlowerOption<A>, AllocError> {
         match self {
