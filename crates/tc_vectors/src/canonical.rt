@@ -529,7 +529,7 @@ fn digit(letter: u8) -> u8
 }
 
 /// The bytes of a text in hex.
-fn bytes_of<A: Allocator>(alloc: A, hex: &str) -> Result<Vec<u8, A>, AllocError> {
+pub(crate) fn bytes_of<A: Allocator>(alloc: A, hex: &str) -> Result<Vec<u8, A>, AllocError> {
     let mut bytes = Vec::new(alloc);
     for pair in hex.as_bytes().chunks(2) {
         if let [high, low] = pair {

@@ -6,6 +6,8 @@ mod attributes;
 #[cfg(test)]
 mod canonical;
 #[cfg(test)]
+mod flower;
+#[cfg(test)]
 mod frames;
 #[cfg(test)]
 mod known;

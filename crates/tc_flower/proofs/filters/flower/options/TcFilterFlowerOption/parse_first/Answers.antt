@@ -1,0 +1,17 @@
+use Rattle.std.proofs.Common.{[], refl, sym, ◌∙◌}
+use Rattle.std.proofs.lemmas.Result.{err_from_is_err_and}
+use Rattle.tc_actions.specs.Action.{an_action}
+use Rattle.tc_flower.specs.Thirds.{first_rows}
+use Rattle.tc_flower.proofs.Lists.{reads_items, refuses_items}
+use Rattle.tc_flower.proofs.filters.flower.options.TcFilterFlowerOption.parse_first.Goals as goal
+
+pub returns-in_ok-parse_list-in-3 : goal.returns-in_ok-parse_list-in-3
+unfolding first_rows
+returns-in_ok-parse_list-in-3 g c =
+    reads_items first_rows an_action 3 3 refl [] _ (sym c.kind.ensures ∙ c.in-3.is) _ (rw c.value-value.ensures.bytes at c.in_ok-parse_list-in-3.ensures.exact)
+
+pub returns-in_err-parse_list-in-3 : goal.returns-in_err-parse_list-in-3
+unfolding first_rows
+returns-in_err-parse_list-in-3 g c =
+    let p = err_from_is_err_and c.from_residual-in_err-parse_list-in-3.result c.from_residual-in_err-parse_list-in-3.ensures.1 in
+    rw (p.1, p.2) (refuses_items first_rows an_action 3 3 refl [] _ (sym c.kind.ensures ∙ c.in-3.is) _ (rw c.value-value.ensures.bytes at c.in_err-parse_list-in-3.ensures.exact))

@@ -1,0 +1,8 @@
+use Rattle.tc_values.proofs.Rows.{shown_as}
+use Rattle.tc_canon.specs.Tables.Flower.{flower_options}
+use Rattle.tc_flower.specs.Flower.{flower_lists}
+use Rattle.tc_flower.proofs.Bodies.{are_flower_lists}
+use Rattle.tc_flower.proofs.filters.flower.options.TcFilterFlowerOption.view.Goals as goal
+
+pub returns : goal.returns
+returns g c = shown_as flower_lists are_flower_lists flower_options _ _ _ c.row.ensures.seen c.row.ensures.row

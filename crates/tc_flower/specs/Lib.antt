@@ -1,0 +1,3 @@
+pub mod Mpls
+pub mod Flower
+pub mod Thirds
