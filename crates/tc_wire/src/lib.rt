@@ -23,6 +23,9 @@ pub use tc_canon::{
     canon_action, canon_action_options, canon_actions, canon_lse, canon_mpls, canon_options,
     canon_stats2, is_canonical_action, is_canonical_tc,
 };
+pub use tc_flower::{
+    TcFilterFlower, TcFilterFlowerMplsLseOption, TcFilterFlowerMplsOption, TcFilterFlowerOption,
+};
 pub use tc_options::{TcOption, TcQdiscFqCodel, TcQdiscFqCodelOption, VecTcOption};
 pub use tc_raw::{
     TcActionGenericBuffer, TcActionMessageBuffer, TcFqCodelClStatsBuffer, TcFqCodelQdStatsBuffer,

@@ -1,6 +1,6 @@
 use Rattle.tc_canon.specs.Tables.Flower.{flower_options}
 use Rattle.tc_flower.specs.Flower.{flower_lists}
-use Rattle.tc_actions.proofs.Measures.{measured}
+use Rattle.tc_values.proofs.Measures.{measured}
 use Rattle.tc_flower.proofs.filters.flower.options.TcFilterFlowerOptionNla.checked_len.Goals as goal
 
 pub returns : goal.returns
