@@ -19,3 +19,5 @@ mod messages;
 mod records;
 #[cfg(test)]
 mod selectors;
+#[cfg(test)]
+mod settled;
