@@ -87,32 +87,37 @@ fn are_written<T: Nla>(rt: &impl Abort, list: &[T], frames: &[u8]) {
     assert_eq!(rt; &buffer[..frames.len()], frames);
 }
 
-/// Asserts that a frame reads as an attribute, which is settled and is written as the frame.
+/// Asserts that a frame reads as the one attribute of a list, which is settled and is written as the frame.
 fn is_known<T: Parseable<Global> + Settle + Nla + PartialEq + Debug + Drop>(
     rt: &impl Abort,
     alloc: Global,
     frame: &[u8],
-    value: T,
+    list: &[T],
 ) -> Result<(), Fail> {
     let read = T::parse(alloc, &NlaBuffer::new_checked(frame)?)?;
-    assert_eq!(rt; read, value);
-    assert!(rt; value.is_settled());
-    are_written(rt, &[value], frame);
+    for value in list {
+        assert_eq!(rt; &read, value);
+        assert!(rt; value.is_settled());
+    }
+    are_written(rt, list, frame);
     Ok(())
 }
 
-/// Asserts that a frame reads as an attribute under a kind, where it is settled, and is written as the frame.
+/// Asserts that a frame reads as the one attribute of a list under a kind, where it is settled, and is written as the
+/// frame.
 fn is_known_under<T: ParseableParametrized<Global> + Settle + Nla + PartialEq + Debug + Drop>(
     rt: &impl Abort,
     alloc: Global,
     kind: &str,
     frame: &[u8],
-    value: T,
+    list: &[T],
 ) -> Result<(), Fail> {
     let read = T::parse_with_param(alloc, &NlaBuffer::new_checked(frame)?, kind)?;
-    assert_eq!(rt; read, value);
-    assert!(rt; value.is_settled_under(kind));
-    are_written(rt, &[value], frame);
+    for value in list {
+        assert_eq!(rt; &read, value);
+        assert!(rt; value.is_settled_under(kind));
+    }
+    are_written(rt, list, frame);
     Ok(())
 }
 
@@ -140,15 +145,15 @@ fn kept(alloc: Global, word: u16) -> Result<DefaultNla, Fail> {
 fn of_statistics(rt: HostRuntime) -> Result<(), Fail> {
     let alloc = rt.alloc();
     let basic = [20, 0, 1, 0, 1, 2, 3, 4, 5, 6, 7, 8, 9, 10, 11, 12, 0, 0, 0, 0];
-    is_known_under(&rt, alloc, "", &basic, TcStats2::Basic(TcStatsBasic::parse(&basic[4..])?))?;
+    is_known_under(&rt, alloc, "", &basic, &[TcStats2::Basic(TcStatsBasic::parse(&basic[4..])?)])?;
     let queue = [24, 0, 3, 0, 1, 2, 3, 4, 5, 6, 7, 8, 9, 10, 11, 12, 13, 14, 15, 16, 17, 18, 19, 20];
-    is_known_under(&rt, alloc, "", &queue, TcStats2::Queue(TcStatsQueue::parse(&queue[4..])?))?;
+    is_known_under(&rt, alloc, "", &queue, &[TcStats2::Queue(TcStatsQueue::parse(&queue[4..])?)])?;
     let hardware = [20, 0, 7, 0, 1, 2, 3, 4, 5, 6, 7, 8, 9, 10, 11, 12, 0, 0, 0, 0];
-    is_known_under(&rt, alloc, "", &hardware, TcStats2::BasicHw(TcStatsBasic::parse(&hardware[4..])?))?;
+    is_known_under(&rt, alloc, "", &hardware, &[TcStats2::BasicHw(TcStatsBasic::parse(&hardware[4..])?)])?;
     let own = [7, 0, 4, 0, 0xa1, 0xa2, 0xa3, 0];
-    is_known_under(&rt, alloc, "sfq", &own, TcStats2::App(TcXstats::Other(raw(alloc)?)))?;
+    is_known_under(&rt, alloc, "sfq", &own, &[TcStats2::App(TcXstats::Other(raw(alloc)?))])?;
     let other = [7, 0, 2, 0x80, 0xa1, 0xa2, 0xa3, 0];
-    is_known_under(&rt, alloc, "", &other, TcStats2::Other(kept(alloc, 0x8002)?))?;
+    is_known_under(&rt, alloc, "", &other, &[TcStats2::Other(kept(alloc, 0x8002)?)])?;
     Ok(())
 }
 
@@ -161,15 +166,15 @@ fn of_fq_codel(rt: HostRuntime) -> Result<(), Fail> {
         15, 16, 17, 18, 19, 20, 21, 22, 23, 24, 25, 26, 27, 28, 29, 30, 31, 32, 33, 34, 35, 36,
     ];
     let stats = TcFqCodelXstats::Qdisc(TcFqCodelQdStats::parse(&qdisc[8..])?);
-    is_known_under(&rt, alloc, "fq_codel", &qdisc, TcStats2::App(TcXstats::FqCodel(stats)))?;
+    is_known_under(&rt, alloc, "fq_codel", &qdisc, &[TcStats2::App(TcXstats::FqCodel(stats))])?;
     let class = [
         32, 0, 4, 0, 1, 0, 0, 0, 1, 2, 3, 4, 5, 6, 7, 8, 9, 10, 11, 12, 13, 14, 15, 16, 17, 18, 19, 20, 21, 22, 23, 24,
     ];
     let stats = TcFqCodelXstats::Class(TcFqCodelClStats::parse(&class[8..])?);
-    is_known_under(&rt, alloc, "fq_codel", &class, TcStats2::App(TcXstats::FqCodel(stats)))?;
+    is_known_under(&rt, alloc, "fq_codel", &class, &[TcStats2::App(TcXstats::FqCodel(stats))])?;
     let other = [8, 0, 4, 0, 2, 0, 0, 0];
     let stats = TcFqCodelXstats::Other([2, 0, 0, 0].to_vec(alloc)?);
-    is_known_under(&rt, alloc, "fq_codel", &other, TcStats2::App(TcXstats::FqCodel(stats)))?;
+    is_known_under(&rt, alloc, "fq_codel", &other, &[TcStats2::App(TcXstats::FqCodel(stats))])?;
     Ok(())
 }
 
@@ -235,22 +240,22 @@ fn of_mirrors_and_translations(rt: HostRuntime) -> Result<(), Fail> {
         36, 0, 1, 0, 1, 2, 3, 4, 5, 6, 7, 8, 9, 10, 11, 12, 13, 14, 15, 16,
         17, 18, 19, 20, 21, 22, 23, 24, 25, 26, 27, 28, 29, 30, 31, 32,
     ];
-    is_known(&rt, alloc, &times, TcActionMirrorOption::Tm(Tcf::parse(&times[4..])?))?;
-    is_known(&rt, alloc, &times, TcActionTunnelKeyOption::Tm(Tcf::parse(&times[4..])?))?;
+    is_known(&rt, alloc, &times, &[TcActionMirrorOption::Tm(Tcf::parse(&times[4..])?)])?;
+    is_known(&rt, alloc, &times, &[TcActionTunnelKeyOption::Tm(Tcf::parse(&times[4..])?)])?;
     times[2] = 2;
-    is_known(&rt, alloc, &times, TcActionNatOption::Tm(Tcf::parse(&times[4..])?))?;
+    is_known(&rt, alloc, &times, &[TcActionNatOption::Tm(Tcf::parse(&times[4..])?)])?;
     let mirror = [
         32, 0, 2, 0, 1, 2, 3, 4, 5, 6, 7, 8, 9, 10, 11, 12, 13, 14, 15, 16, 17, 18, 19, 20, 21, 22, 23, 24, 25, 26, 27, 28,
     ];
-    is_known(&rt, alloc, &mirror, TcActionMirrorOption::Parms(TcMirror::parse(&mirror[4..])?))?;
+    is_known(&rt, alloc, &mirror, &[TcActionMirrorOption::Parms(TcMirror::parse(&mirror[4..])?)])?;
     let nat = [
         40, 0, 1, 0, 1, 2, 3, 4, 5, 6, 7, 8, 9, 10, 11, 12, 13, 14, 15, 16, 17, 18, 19, 20,
         21, 22, 23, 24, 25, 26, 27, 28, 29, 30, 31, 32, 33, 34, 35, 36,
     ];
-    is_known(&rt, alloc, &nat, TcActionNatOption::Parms(TcNat::parse(&nat[4..])?))?;
+    is_known(&rt, alloc, &nat, &[TcActionNatOption::Parms(TcNat::parse(&nat[4..])?)])?;
     let other = [7, 0, 3, 0, 0xa1, 0xa2, 0xa3, 0];
-    is_known(&rt, alloc, &other, TcActionMirrorOption::Other(kept(alloc, 3)?))?;
-    is_known(&rt, alloc, &other, TcActionNatOption::Other(kept(alloc, 3)?))?;
+    is_known(&rt, alloc, &other, &[TcActionMirrorOption::Other(kept(alloc, 3)?)])?;
+    is_known(&rt, alloc, &other, &[TcActionNatOption::Other(kept(alloc, 3)?)])?;
     Ok(())
 }
 
@@ -261,22 +266,22 @@ fn of_tunnels(rt: HostRuntime) -> Result<(), Fail> {
     let key = [
         28, 0, 2, 0, 1, 2, 3, 4, 5, 6, 7, 8, 9, 10, 11, 12, 13, 14, 15, 16, 17, 18, 19, 20, 21, 22, 23, 24,
     ];
-    is_known(&rt, alloc, &key, TcActionTunnelKeyOption::Parms(TcTunnelKey::parse(&key[4..])?))?;
+    is_known(&rt, alloc, &key, &[TcActionTunnelKeyOption::Parms(TcTunnelKey::parse(&key[4..])?)])?;
     let four = Ipv4Addr::new(10, 1, 2, 3);
-    is_known(&rt, alloc, &[8, 0, 3, 0, 10, 1, 2, 3], TcActionTunnelKeyOption::EncIpv4Src(four))?;
-    is_known(&rt, alloc, &[8, 0, 4, 0, 10, 1, 2, 3], TcActionTunnelKeyOption::EncIpv4Dst(four))?;
+    is_known(&rt, alloc, &[8, 0, 3, 0, 10, 1, 2, 3], &[TcActionTunnelKeyOption::EncIpv4Src(four)])?;
+    is_known(&rt, alloc, &[8, 0, 4, 0, 10, 1, 2, 3], &[TcActionTunnelKeyOption::EncIpv4Dst(four)])?;
     let six = Ipv6Addr::from_octets([1, 2, 3, 4, 5, 6, 7, 8, 9, 10, 11, 12, 13, 14, 15, 16]);
     let source = [20, 0, 5, 0, 1, 2, 3, 4, 5, 6, 7, 8, 9, 10, 11, 12, 13, 14, 15, 16];
-    is_known(&rt, alloc, &source, TcActionTunnelKeyOption::EncIpv6Src(six))?;
+    is_known(&rt, alloc, &source, &[TcActionTunnelKeyOption::EncIpv6Src(six)])?;
     let destination = [20, 0, 6, 0, 1, 2, 3, 4, 5, 6, 7, 8, 9, 10, 11, 12, 13, 14, 15, 16];
-    is_known(&rt, alloc, &destination, TcActionTunnelKeyOption::EncIpv6Dst(six))?;
-    is_known(&rt, alloc, &[8, 0, 7, 0, 0x71, 0x72, 0x73, 0x74], TcActionTunnelKeyOption::EncKeyId(0x7172_7374))?;
-    is_known(&rt, alloc, &[6, 0, 9, 0, 0x91, 0x92, 0, 0], TcActionTunnelKeyOption::EncDstPort(0x9192))?;
-    is_known(&rt, alloc, &[5, 0, 10, 0, 1, 0, 0, 0], TcActionTunnelKeyOption::NoCsum(true))?;
-    is_known(&rt, alloc, &[5, 0, 10, 0, 0, 0, 0, 0], TcActionTunnelKeyOption::NoCsum(false))?;
-    is_known(&rt, alloc, &[5, 0, 12, 0, 0xc1, 0, 0, 0], TcActionTunnelKeyOption::EncTos(0xc1))?;
-    is_known(&rt, alloc, &[5, 0, 13, 0, 0xd1, 0, 0, 0], TcActionTunnelKeyOption::EncTtl(0xd1))?;
-    is_known(&rt, alloc, &[7, 0, 8, 0x40, 0xa1, 0xa2, 0xa3, 0], TcActionTunnelKeyOption::Other(kept(alloc, 0x4008)?))?;
+    is_known(&rt, alloc, &destination, &[TcActionTunnelKeyOption::EncIpv6Dst(six)])?;
+    is_known(&rt, alloc, &[8, 0, 7, 0, 0x71, 0x72, 0x73, 0x74], &[TcActionTunnelKeyOption::EncKeyId(0x7172_7374)])?;
+    is_known(&rt, alloc, &[6, 0, 9, 0, 0x91, 0x92, 0, 0], &[TcActionTunnelKeyOption::EncDstPort(0x9192)])?;
+    is_known(&rt, alloc, &[5, 0, 10, 0, 1, 0, 0, 0], &[TcActionTunnelKeyOption::NoCsum(true)])?;
+    is_known(&rt, alloc, &[5, 0, 10, 0, 0, 0, 0, 0], &[TcActionTunnelKeyOption::NoCsum(false)])?;
+    is_known(&rt, alloc, &[5, 0, 12, 0, 0xc1, 0, 0, 0], &[TcActionTunnelKeyOption::EncTos(0xc1)])?;
+    is_known(&rt, alloc, &[5, 0, 13, 0, 0xd1, 0, 0, 0], &[TcActionTunnelKeyOption::EncTtl(0xd1)])?;
+    is_known(&rt, alloc, &[7, 0, 8, 0x40, 0xa1, 0xa2, 0xa3, 0], &[TcActionTunnelKeyOption::Other(kept(alloc, 0x4008)?)])?;
     Ok(())
 }
 
@@ -286,17 +291,17 @@ fn of_tunnels(rt: HostRuntime) -> Result<(), Fail> {
 #[rattlefmt::skip]
 fn of_an_action(rt: HostRuntime) -> Result<(), Fail> {
     let alloc = rt.alloc();
-    is_known_under(&rt, alloc, "", &[8, 0, 1, 0, 0x6e, 0x61, 0x74, 0], kind(alloc, "nat")?)?;
+    is_known_under(&rt, alloc, "", &[8, 0, 1, 0, 0x6e, 0x61, 0x74, 0], &[kind(alloc, "nat")?])?;
     let tos = TcActionOption::TunnelKey(TcActionTunnelKeyOption::EncTos(7));
     let options = TcActionAttribute::Options(vec![in alloc; tos]?);
-    is_known_under(&rt, alloc, "tunnel_key", &[12, 0, 2, 0x80, 5, 0, 12, 0, 7, 0, 0, 0], options)?;
-    is_known_under(&rt, alloc, "", &[8, 0, 3, 0, 0x34, 0x33, 0x32, 0x31], TcActionAttribute::Index(0x3132_3334))?;
+    is_known_under(&rt, alloc, "tunnel_key", &[12, 0, 2, 0x80, 5, 0, 12, 0, 7, 0, 0, 0], &[options])?;
+    is_known_under(&rt, alloc, "", &[8, 0, 3, 0, 0x34, 0x33, 0x32, 0x31], &[TcActionAttribute::Index(0x3132_3334)])?;
     let stats = TcStats2::App(TcXstats::Other(raw(alloc)?));
     let stats = TcActionAttribute::Stats(vec![in alloc; stats]?);
-    is_known_under(&rt, alloc, "nat", &[12, 0, 4, 0, 7, 0, 4, 0, 0xa1, 0xa2, 0xa3, 0], stats)?;
-    is_known_under(&rt, alloc, "", &[7, 0, 6, 0, 0xa1, 0xa2, 0xa3, 0], TcActionAttribute::Cookie(raw(alloc)?))?;
-    is_known_under(&rt, alloc, "", &[8, 0, 10, 0, 0x24, 0x23, 0x22, 0x21], TcActionAttribute::InHwCount(0x2122_2324))?;
-    is_known_under(&rt, alloc, "", &[7, 0, 5, 0x80, 0xa1, 0xa2, 0xa3, 0], TcActionAttribute::Other(kept(alloc, 0x8005)?))?;
+    is_known_under(&rt, alloc, "nat", &[12, 0, 4, 0, 7, 0, 4, 0, 0xa1, 0xa2, 0xa3, 0], &[stats])?;
+    is_known_under(&rt, alloc, "", &[7, 0, 6, 0, 0xa1, 0xa2, 0xa3, 0], &[TcActionAttribute::Cookie(raw(alloc)?)])?;
+    is_known_under(&rt, alloc, "", &[8, 0, 10, 0, 0x24, 0x23, 0x22, 0x21], &[TcActionAttribute::InHwCount(0x2122_2324)])?;
+    is_known_under(&rt, alloc, "", &[7, 0, 5, 0x80, 0xa1, 0xa2, 0xa3, 0], &[TcActionAttribute::Other(kept(alloc, 0x8005)?)])?;
     Ok(())
 }
 
@@ -306,12 +311,12 @@ fn of_the_kinds_of_actions(rt: HostRuntime) -> Result<(), Fail> {
     let alloc = rt.alloc();
     let frame = [7, 0, 3, 0x80, 0xa1, 0xa2, 0xa3, 0];
     let mirror = TcActionMirrorOption::Other(kept(alloc, 0x8003)?);
-    is_known_under(&rt, alloc, "mirred", &frame, TcActionOption::Mirror(mirror))?;
+    is_known_under(&rt, alloc, "mirred", &frame, &[TcActionOption::Mirror(mirror)])?;
     let nat = TcActionNatOption::Other(kept(alloc, 0x8003)?);
-    is_known_under(&rt, alloc, "nat", &frame, TcActionOption::Nat(nat))?;
+    is_known_under(&rt, alloc, "nat", &frame, &[TcActionOption::Nat(nat)])?;
     let tos = TcActionTunnelKeyOption::EncTos(7);
-    is_known_under(&rt, alloc, "tunnel_key", &[5, 0, 12, 0, 7, 0, 0, 0], TcActionOption::TunnelKey(tos))?;
-    is_known_under(&rt, alloc, "gact", &frame, TcActionOption::Other(kept(alloc, 0x8003)?))?;
+    is_known_under(&rt, alloc, "tunnel_key", &[5, 0, 12, 0, 7, 0, 0, 0], &[TcActionOption::TunnelKey(tos)])?;
+    is_known_under(&rt, alloc, "gact", &frame, &[TcActionOption::Other(kept(alloc, 0x8003)?)])?;
     Ok(())
 }
 
@@ -326,7 +331,7 @@ fn statistics_are_read_under_the_kind_of_the_action(rt: HostRuntime) -> Result<(
     let other = TcFqCodelXstats::Other([2, 0, 0, 0].to_vec(alloc)?);
     let stats = vec![in alloc; TcStats2::App(TcXstats::FqCodel(other))]?;
     let attributes = vec![in alloc; kind(alloc, "fq_codel")?, TcActionAttribute::Stats(stats)]?;
-    is_known(&rt, alloc, &frame, TcAction { tab: 1, attributes })?;
+    is_known(&rt, alloc, &frame, &[TcAction { tab: 1, attributes }])?;
     #[rattlefmt::skip]
     let frame = [
         0x18, 0, 1, 0, 8, 0, 1, 0, 0x6e, 0x61, 0x74, 0, 12, 0, 4, 0, 8, 0, 4, 0, 2, 0, 0, 0,
@@ -334,7 +339,7 @@ fn statistics_are_read_under_the_kind_of_the_action(rt: HostRuntime) -> Result<(
     let other = TcXstats::Other([2, 0, 0, 0].to_vec(alloc)?);
     let stats = vec![in alloc; TcStats2::App(other)]?;
     let attributes = vec![in alloc; kind(alloc, "nat")?, TcActionAttribute::Stats(stats)]?;
-    is_known(&rt, alloc, &frame, TcAction { tab: 1, attributes })
+    is_known(&rt, alloc, &frame, &[TcAction { tab: 1, attributes }])
 }
 
 #[test]
@@ -347,7 +352,7 @@ fn options_of_an_unknown_kind_are_kept(rt: HostRuntime) -> Result<(), Fail> {
     let option = TcActionOption::Other(DefaultNla::new(1, [0; 4].to_vec(alloc)?));
     let options = TcActionAttribute::Options(vec![in alloc; option]?);
     let attributes = vec![in alloc; kind(alloc, "gact")?, options]?;
-    is_known(&rt, alloc, &frame, TcAction { tab: 1, attributes })
+    is_known(&rt, alloc, &frame, &[TcAction { tab: 1, attributes }])
 }
 
 #[test]
@@ -361,7 +366,7 @@ fn the_kind_may_stand_last(rt: HostRuntime) -> Result<(), Fail> {
     let tos = TcActionOption::TunnelKey(TcActionTunnelKeyOption::EncTos(7));
     let options = TcActionAttribute::Options(vec![in alloc; tos]?);
     let attributes = vec![in alloc; options, kind(alloc, "tunnel_key")?]?;
-    is_known(&rt, alloc, &frame, TcAction { tab: 1, attributes })
+    is_known(&rt, alloc, &frame, &[TcAction { tab: 1, attributes }])
 }
 
 #[test]
