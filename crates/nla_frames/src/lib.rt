@@ -40,6 +40,6 @@ pub use values::read::{
     parse_u32, parse_u32_be, strip_nul,
 };
 pub use values::write::{
-    checked_value_len, emit_u16, emit_u16_be, emit_u32, emit_u32_be, put_bytes, put_text, put_u8, put_u16, put_u16_be,
-    put_u32, put_u32_be, put_u64,
+    checked_value_len, emit_u16, emit_u16_be, emit_u32, emit_u32_be, put_bytes, put_text, put_u8,
+    put_u16, put_u16_be, put_u32, put_u32_be, put_u64,
 };

@@ -265,11 +265,16 @@ bpf_others = refl
 -- ---- mirror
 
 abbrev mirror_rows : List Row
-mirror_rows =
-    (1, hex (codes "0102030405060708090a0b0c0d0e0f101112131415161718191a1b1c1d1e1f20"),
-        record_of (plain 0x0807060504030201 ∷ plain 0x100f0e0d0c0b0a09 ∷ plain 0x1817161514131211 ∷ plain 0x201f1e1d1c1b1a19 ∷ []))  -- Tm
-    ∷ (2, hex (codes "0102030405060708090a0b0c0d0e0f101112131415161718191a1b1c"),
-        record_of (counted_generic (unnamed 0x18171615 ∷ plain 0x1c1b1a19 ∷ [])))  -- Parms
+mirror_rows = (
+  1,
+  hex (codes "0102030405060708090a0b0c0d0e0f101112131415161718191a1b1c1d1e1f20"),
+  record_of (plain 0x0807060504030201 ∷ plain 0x100f0e0d0c0b0a09 ∷ plain 0x1817161514131211 ∷ plain 0x201f1e1d1c1b1a19 ∷ []),
+)  -- Tm
+    ∷ (
+      2,
+      hex (codes "0102030405060708090a0b0c0d0e0f101112131415161718191a1b1c"),
+      record_of (counted_generic (unnamed 0x18171615 ∷ plain 0x1c1b1a19 ∷ [])),
+    )  -- Parms
     ∷ []
 
 mirror_rows_read : map (read_row mirror_options) mirror_rows ≡ map (λ row. Ok (value_of_row row)) mirror_rows
@@ -285,12 +290,17 @@ mirror_others = refl
 -- ---- nat
 
 abbrev nat_rows : List Row
-nat_rows =
-    (1, hex (codes "0102030405060708090a0b0c0d0e0f101112131415161718191a1b1c1d1e1f2021222324"),
-        record_of (counted_generic (octets_of (hex (codes "15161718")) ∷ octets_of (hex (codes "191a1b1c")) ∷ octets_of (hex (codes "1d1e1f20"))
-            ∷ plain 0x24232221 ∷ [])))  -- Parms
-    ∷ (2, hex (codes "0102030405060708090a0b0c0d0e0f101112131415161718191a1b1c1d1e1f20"),
-        record_of (plain 0x0807060504030201 ∷ plain 0x100f0e0d0c0b0a09 ∷ plain 0x1817161514131211 ∷ plain 0x201f1e1d1c1b1a19 ∷ []))  -- Tm
+nat_rows = (
+  1,
+  hex (codes "0102030405060708090a0b0c0d0e0f101112131415161718191a1b1c1d1e1f2021222324"),
+  record_of (counted_generic (octets_of (hex (codes "15161718")) ∷ octets_of (hex (codes "191a1b1c")) ∷ octets_of (hex (codes "1d1e1f20"))
+      ∷ plain 0x24232221 ∷ [])),
+)  -- Parms
+    ∷ (
+      2,
+      hex (codes "0102030405060708090a0b0c0d0e0f101112131415161718191a1b1c1d1e1f20"),
+      record_of (plain 0x0807060504030201 ∷ plain 0x100f0e0d0c0b0a09 ∷ plain 0x1817161514131211 ∷ plain 0x201f1e1d1c1b1a19 ∷ []),
+    )  -- Tm
     ∷ []
 
 nat_rows_read : map (read_row nat_options) nat_rows ≡ map (λ row. Ok (value_of_row row)) nat_rows
@@ -306,9 +316,11 @@ nat_others = refl
 -- ---- tunnel_key
 
 abbrev tunnel_key_rows : List Row
-tunnel_key_rows =
-    (1, hex (codes "0102030405060708090a0b0c0d0e0f101112131415161718191a1b1c1d1e1f20"),
-        record_of (plain 0x0807060504030201 ∷ plain 0x100f0e0d0c0b0a09 ∷ plain 0x1817161514131211 ∷ plain 0x201f1e1d1c1b1a19 ∷ []))  -- Tm
+tunnel_key_rows = (
+  1,
+  hex (codes "0102030405060708090a0b0c0d0e0f101112131415161718191a1b1c1d1e1f20"),
+  record_of (plain 0x0807060504030201 ∷ plain 0x100f0e0d0c0b0a09 ∷ plain 0x1817161514131211 ∷ plain 0x201f1e1d1c1b1a19 ∷ []),
+)  -- Tm
     ∷ (2, hex (codes "0102030405060708090a0b0c0d0e0f101112131415161718"), record_of (counted_generic (plain 0x18171615 ∷ [])))  -- Parms
     ∷ octets_row 3 (codes "01020304")  -- EncIpv4Src
     ∷ octets_row 4 (codes "01020304")  -- EncIpv4Dst
@@ -333,10 +345,12 @@ tunnel_key_others = refl
 -- ---- the attributes of a message
 
 abbrev message_rows : List Row
-message_rows =
-    (3, hex (codes "0102030405060708090a0b0c0d0e0f101112131415161718191a1b1c1d1e1f202122232400000000"),
-        record_of (plain 0x0807060504030201 ∷ plain 0x0c0b0a09 ∷ plain 0x100f0e0d ∷ plain 0x14131211 ∷ plain 0x18171615
-            ∷ plain 0x1c1b1a19 ∷ plain 0x201f1e1d ∷ plain 0x24232221 ∷ blank ∷ []))  -- Stats
+message_rows = (
+  3,
+  hex (codes "0102030405060708090a0b0c0d0e0f101112131415161718191a1b1c1d1e1f202122232400000000"),
+  record_of (plain 0x0807060504030201 ∷ plain 0x0c0b0a09 ∷ plain 0x100f0e0d ∷ plain 0x14131211 ∷ plain 0x18171615
+      ∷ plain 0x1c1b1a19 ∷ plain 0x201f1e1d ∷ plain 0x24232221 ∷ blank ∷ []),
+)  -- Stats
     ∷ octets_row 5 (codes "010203")  -- Rate
     ∷ octets_row 6 (codes "010203")  -- Fcnt
     ∷ octets_row 8 (codes "010203")  -- Stab
@@ -396,8 +410,11 @@ action_message_others = refl
 abbrev stats2_rows : List Row
 stats2_rows =
     (1, hex (codes "0102030405060708090a0b0c00000000"), record_of (plain 0x0807060504030201 ∷ plain 0x0c0b0a09 ∷ blank ∷ []))  -- Basic
-    ∷ (3, hex (codes "0102030405060708090a0b0c0d0e0f1011121314"),
-        record_of (plain 0x04030201 ∷ plain 0x08070605 ∷ plain 0x0c0b0a09 ∷ plain 0x100f0e0d ∷ plain 0x14131211 ∷ []))  -- Queue
+    ∷ (
+      3,
+      hex (codes "0102030405060708090a0b0c0d0e0f1011121314"),
+      record_of (plain 0x04030201 ∷ plain 0x08070605 ∷ plain 0x0c0b0a09 ∷ plain 0x100f0e0d ∷ plain 0x14131211 ∷ []),
+    )  -- Queue
     ∷ (7, hex (codes "0102030405060708090a0b0c00000000"), record_of (plain 0x0807060504030201 ∷ plain 0x0c0b0a09 ∷ blank ∷ []))  -- BasicHw
     ∷ []
 
@@ -545,10 +562,12 @@ message_flags_written = refl
 -- ---- the selector of u32, with one key
 
 abbrev counted_selector : Row
-counted_selector =
-    (5, hex (codes "0102010005060708090a0b0c0d0e0f101112131415161718191a1b1c1d1e1f20"),
-        keyed (plain 1 ∷ plain 2 ∷ plain 1 ∷ blank ∷ plain 0x0506 ∷ plain 0x0807 ∷ plain 0x0a09 ∷ plain 0x0c0b ∷ plain 0x0d0e0f10 ∷ [])
-            ((plain 0x11121314 ∷ plain 0x15161718 ∷ plain 0x1c1b1a19 ∷ plain 0x201f1e1d ∷ []) ∷ []))
+counted_selector = (
+  5,
+  hex (codes "0102010005060708090a0b0c0d0e0f101112131415161718191a1b1c1d1e1f20"),
+  keyed (plain 1 ∷ plain 2 ∷ plain 1 ∷ blank ∷ plain 0x0506 ∷ plain 0x0807 ∷ plain 0x0a09 ∷ plain 0x0c0b ∷ plain 0x0d0e0f10 ∷ [])
+      ((plain 0x11121314 ∷ plain 0x15161718 ∷ plain 0x1c1b1a19 ∷ plain 0x201f1e1d ∷ []) ∷ []),
+)
 
 selector_read : read_row u32_options counted_selector ≡ Ok (value_of_row counted_selector)
 selector_read = refl
@@ -624,11 +643,22 @@ sfq_read : (table_codec (by_kind option_kinds)).read (hex (codes "736671")) (fra
 sfq_read = refl
 
 abbrev action_kind_rows : List KindRow
-action_kind_rows =
-    (hex (codes "6d6972726564"), (2, hex (codes "0102030405060708090a0b0c0d0e0f101112131415161718191a1b1c"),
-        record_of (counted_generic (unnamed 0x18171615 ∷ plain 0x1c1b1a19 ∷ []))))  -- mirred, Parms
-    ∷ (hex (codes "6e6174"), (2, hex (codes "0102030405060708090a0b0c0d0e0f101112131415161718191a1b1c1d1e1f20"),
-        record_of (plain 0x0807060504030201 ∷ plain 0x100f0e0d0c0b0a09 ∷ plain 0x1817161514131211 ∷ plain 0x201f1e1d1c1b1a19 ∷ [])))  -- nat, Tm
+action_kind_rows = (
+  hex (codes "6d6972726564"),
+  (
+    2,
+    hex (codes "0102030405060708090a0b0c0d0e0f101112131415161718191a1b1c"),
+    record_of (counted_generic (unnamed 0x18171615 ∷ plain 0x1c1b1a19 ∷ [])),
+  ),
+)  -- mirred, Parms
+    ∷ (
+      hex (codes "6e6174"),
+      (
+        2,
+        hex (codes "0102030405060708090a0b0c0d0e0f101112131415161718191a1b1c1d1e1f20"),
+        record_of (plain 0x0807060504030201 ∷ plain 0x100f0e0d0c0b0a09 ∷ plain 0x1817161514131211 ∷ plain 0x201f1e1d1c1b1a19 ∷ []),
+      ),
+    )  -- nat, Tm
     ∷ (hex (codes "74756e6e656c5f6b6579"), (7, hex (codes "01020304"), number 0x01020304))  -- tunnel_key, EncKeyId
     ∷ []
 
@@ -679,7 +709,7 @@ action_options_written = refl
 abbrev qdisc_stats : Content
 qdisc_stats = statistics 0
     (plain 0x04030201 ∷ plain 0x08070605 ∷ plain 0x0c0b0a09 ∷ plain 0x100f0e0d ∷ plain 0x14131211 ∷ plain 0x18171615
-        ∷ plain 0x1c1b1a19 ∷ plain 0x201f1e1d ∷ plain 0x24232221 ∷ [])
+    ∷ plain 0x1c1b1a19 ∷ plain 0x201f1e1d ∷ plain 0x24232221 ∷ [])
 
 abbrev class_stats : Content
 class_stats = statistics 1

@@ -12,8 +12,8 @@ ghost use Rattle.tc_options.specs.Options.{tc_option, read_options};
 
 use crate::qdiscs::fq_codel::{TcQdiscFqCodel, TcQdiscFqCodelOption};
 use nla_frames::{
-    DefaultNla, FrameMeaning, Nla, NlaBuffer, Parseable, ParseableParametrized, Res,
-    Settle, parse_list_with,
+    DefaultNla, FrameMeaning, Nla, NlaBuffer, Parseable, ParseableParametrized, Res, Settle,
+    parse_list_with,
 };
 use std::alloc::{Allocator, Global};
 

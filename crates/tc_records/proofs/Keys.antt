@@ -31,7 +31,7 @@ one_key_more n i left keys key all within so_far is =
     let counted : n - i ≡ suc (n - (i + 1)) = omega arith in
     let first : read_keys (n - i) left ≡ key_scalars key ∷ others = ap (λ m. read_keys m left) counted ∙ ap (λ x. x ∷ others) (sym is) in
     let moved : map key_scalars (keys ++ key ∷ []) ++ others ≡ map key_scalars keys ++ key_scalars key ∷ others =
-        rw map_push (append_assoc (map key_scalars keys) (key_scalars key ∷ []) others) in
+    rw map_push (append_assoc (map key_scalars keys) (key_scalars key ∷ []) others) in
     moved ∙ ap (λ xs. map key_scalars keys ++ xs) (sym first) ∙ so_far
 
 -- all keys are read

@@ -6,7 +6,9 @@ ghost use Rattle.nla_frames.specs.Value.{terminated, strip};
 ghost use Rattle.tc_values.specs.Value.{value_bytes, ValueFits, TypedValue, SettledAs};
 
 use crate::body::{Body, NoBody};
-use nla_frames::laws::in_hand::{bytes_in_hand, text_in_hand, u8_in_hand, u16_in_hand, u32_in_hand};
+use nla_frames::laws::in_hand::{
+    bytes_in_hand, text_in_hand, u8_in_hand, u16_in_hand, u32_in_hand,
+};
 use nla_frames::{
     NLA_VALUE_MAX_SIZE, checked_value_len, put_bytes, put_text, put_u8, put_u16, put_u16_be,
     put_u32, put_u32_be, strip_nul,

@@ -185,7 +185,10 @@ fn short_statistics(rt: HostRuntime) -> Result<(), Fail> {
         ([].as_slice(), DecodeError::XstatsShort { len: 0 }),
         (&[1, 2, 3], DecodeError::XstatsShort { len: 3 }),
         (&[0; 4], DecodeError::BufferTooSmall { len: 0, needed: 36 }),
-        (&[1, 0, 0, 0, 7], DecodeError::BufferTooSmall { len: 1, needed: 24 }),
+        (
+            &[1, 0, 0, 0, 7],
+            DecodeError::BufferTooSmall { len: 1, needed: 24 },
+        ),
     ] {
         assert_eq!(rt; TcFqCodelXstats::parse(alloc, bytes).err(), Some(fault));
     }
@@ -381,9 +384,16 @@ fn flags_of_an_action_are_read_away(rt: HostRuntime) -> Result<(), Fail> {
     are_written(&rt, &[read], &frame);
     // made by hand, flags are written and not settled
     let attributes = vec![in alloc; kind(alloc, "nat")?]?;
-    let made: TcAction = TcAction { tab: 0x8001, attributes };
+    let made: TcAction = TcAction {
+        tab: 0x8001,
+        attributes,
+    };
     assert!(rt; !made.is_settled());
-    are_written(&rt, &[made], &[12, 0, 1, 0x80, 8, 0, 1, 0, 0x6e, 0x61, 0x74, 0]);
+    are_written(
+        &rt,
+        &[made],
+        &[12, 0, 1, 0x80, 8, 0, 1, 0, 0x6e, 0x61, 0x74, 0],
+    );
     Ok(())
 }
 
@@ -396,12 +406,21 @@ fn faults_of_an_action_have_their_order(rt: HostRuntime) -> Result<(), Fail> {
     ];
     for (frame, fault) in [
         ([4, 0, 1, 0].as_slice(), DecodeError::MissingKind),
-        (&[8, 0, 1, 0, 3, 0, 1, 0], DecodeError::FrameTooShort { length: 3 }),
+        (
+            &[8, 0, 1, 0, 3, 0, 1, 0],
+            DecodeError::FrameTooShort { length: 3 },
+        ),
         // though the index is a byte wide
         (&two_kinds, DecodeError::DuplicateKind),
         // a text before a broken frame, and after one
-        (&[16, 0, 1, 0, 5, 0, 1, 0, 0xff, 0, 0, 0, 3, 0, 1, 0], DecodeError::NotUtf8),
-        (&[16, 0, 1, 0, 3, 0, 1, 0, 5, 0, 1, 0, 0xff, 0, 0, 0], DecodeError::FrameTooShort { length: 3 }),
+        (
+            &[16, 0, 1, 0, 5, 0, 1, 0, 0xff, 0, 0, 0, 3, 0, 1, 0],
+            DecodeError::NotUtf8,
+        ),
+        (
+            &[16, 0, 1, 0, 3, 0, 1, 0, 5, 0, 1, 0, 0xff, 0, 0, 0],
+            DecodeError::FrameTooShort { length: 3 },
+        ),
     ] {
         assert_eq!(rt; action(alloc, frame).err(), Some(fault));
     }

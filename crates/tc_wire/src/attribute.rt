@@ -20,10 +20,9 @@ ghost use Rattle.tc_wire.specs.Attribute.{tc_attribute, nested, IsWritten, Reads
 
 use nla_frames::laws::in_hand::{bytes_in_hand, text_in_hand, u8_in_hand, u32_in_hand};
 use nla_frames::{
-    BytesMeaning, DefaultNla, FrameMeaning, NLA_TYPE_MASK, Nla, NlaBuffer,
-    NlasIterator, Parseable, ParseableBytes, ParseableParametrized, Res, SetsKind, Settle,
-    SettleBytes, first_capacity, kind_then, list_settled_under, parse_list_with, parse_string,
-    parse_u8, parse_u32,
+    BytesMeaning, DefaultNla, FrameMeaning, NLA_TYPE_MASK, Nla, NlaBuffer, NlasIterator, Parseable,
+    ParseableBytes, ParseableParametrized, Res, SetsKind, Settle, SettleBytes, first_capacity,
+    kind_then, list_settled_under, parse_list_with, parse_string, parse_u8, parse_u32,
 };
 use std::alloc::{Allocator, Global};
 use tc_actions::{TcStats2, TcXstats, kind_told};
@@ -33,15 +32,25 @@ use tc_values::{Either, Items, Record, Value};
 
 // The types of a message's attributes, `linux/rtnetlink.h`.
 const TCA_KIND: u16 = 1;
+
 const TCA_OPTIONS: u16 = 2;
+
 const TCA_STATS: u16 = 3;
+
 const TCA_XSTATS: u16 = 4;
+
 const TCA_RATE: u16 = 5;
+
 const TCA_FCNT: u16 = 6;
+
 const TCA_STATS2: u16 = 7;
+
 const TCA_STAB: u16 = 8;
+
 const TCA_DUMP_INVISIBLE: u16 = 10;
+
 const TCA_CHAIN: u16 = 11;
+
 const TCA_HW_OFFLOAD: u16 = 12;
 
 /// An attribute of a message.
@@ -149,17 +158,29 @@ impl<A: Allocator> TcAttribute<A> {
         match self {
             TcAttribute::Kind(kind) => (TCA_KIND, Value::Text(kind.as_str())),
             TcAttribute::Options(options) => {
-                (TCA_OPTIONS, Value::Nested(Either::Left(Either::Left(Items(options)))))
+                (
+                    TCA_OPTIONS,
+                    Value::Nested(Either::Left(Either::Left(Items(options)))),
+                )
             }
             TcAttribute::OptionsRaw(nla) => (nla.kind(), Value::Kept(nla.value())),
             TcAttribute::Stats(stats) => {
-                (TCA_STATS, Value::Nested(Either::Right(Either::Left(Record(stats)))))
+                (
+                    TCA_STATS,
+                    Value::Nested(Either::Right(Either::Left(Record(stats)))),
+                )
             }
             TcAttribute::Xstats(xstats) => {
-                (TCA_XSTATS, Value::Nested(Either::Right(Either::Right(Record(xstats)))))
+                (
+                    TCA_XSTATS,
+                    Value::Nested(Either::Right(Either::Right(Record(xstats)))),
+                )
             }
             TcAttribute::Stats2(stats) => {
-                (TCA_STATS2, Value::Nested(Either::Left(Either::Right(Items(stats)))))
+                (
+                    TCA_STATS2,
+                    Value::Nested(Either::Left(Either::Right(Items(stats)))),
+                )
             }
             TcAttribute::Rate(bytes) => (TCA_RATE, Value::Bytes(bytes)),
             TcAttribute::Fcnt(bytes) => (TCA_FCNT, Value::Bytes(bytes)),

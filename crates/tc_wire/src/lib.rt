@@ -5,36 +5,108 @@ pub mod attribute;
 pub mod laws;
 pub mod message;
 
-pub use attribute::{TcAttribute, VecTcAttribute};
+pub use attribute::TcAttribute;
+pub use attribute::VecTcAttribute;
 pub use message::TcMessage;
-pub use nla_frames::{
-    AddressFamily, BytesMeaning, DecodeError, DefaultNla, Emitable, FrameMeaning, NLA_F_NESTED,
-    NLA_F_NET_BYTEORDER, NLA_HEADER_SIZE, NLA_TYPE_MASK, Nla, NlaBuffer, NlasIterator, Parseable,
-    ParseableBytes, ParseableParametrized, Res, emit_list, emit_u16, emit_u16_be, emit_u32,
-    emit_u32_be, list_fits, list_len, parse_frames_with, parse_ipv4_addr, parse_ipv6_addr,
-    parse_list, parse_list_with, parse_mac, parse_string, parse_u8, parse_u16, parse_u16_be,
-    parse_u32, parse_u32_be, put_list,
-};
-pub use tc_actions::{
-    TcAction, TcActionAttribute, TcActionMirror, TcActionMirrorOption, TcActionNat, TcActionNatOption,
-    TcActionOption, TcActionTunnelKey, TcActionTunnelKeyOption, TcFqCodelXstats, TcStats2, TcXstats,
-};
-pub use tc_canon::{
-    canon_action, canon_action_options, canon_actions, canon_lse, canon_mpls, canon_options,
-    canon_stats2, is_canonical_action, is_canonical_tc,
-};
-pub use tc_flower::{
-    TcFilterFlower, TcFilterFlowerMplsLseOption, TcFilterFlowerMplsOption, TcFilterFlowerOption,
-};
-pub use tc_options::{TcOption, TcQdiscFqCodel, TcQdiscFqCodelOption, VecTcOption};
-pub use tc_raw::{
-    TcActionGenericBuffer, TcActionMessageBuffer, TcFqCodelClStatsBuffer, TcFqCodelQdStatsBuffer,
-    TcMessageBuffer, TcMirrorBuffer, TcNatBuffer, TcStatsBasicBuffer, TcStatsBuffer,
-    TcStatsQueueBuffer, TcTunnelKeyBuffer, TcU32KeyBuffer, TcU32SelectorBuffer, TcfBuffer,
-};
-pub use tc_records::{
-    TcActionGeneric, TcActionMessageFlags, TcActionMessageHeader, TcActionType, TcBpfFlags,
-    TcFqCodelClStats, TcFqCodelQdStats, TcHandle, TcHeader, TcMirror, TcMirrorActionType, TcNat,
-    TcNatFlags, TcStats, TcStatsBasic, TcStatsQueue, TcTunnelKey, TcU32Key, TcU32OptionFlags,
-    TcU32Selector, TcU32SelectorFlags, Tcf,
-};
+pub use nla_frames::AddressFamily;
+pub use nla_frames::BytesMeaning;
+pub use nla_frames::DecodeError;
+pub use nla_frames::DefaultNla;
+pub use nla_frames::Emitable;
+pub use nla_frames::FrameMeaning;
+pub use nla_frames::NLA_F_NESTED;
+pub use nla_frames::NLA_F_NET_BYTEORDER;
+pub use nla_frames::NLA_HEADER_SIZE;
+pub use nla_frames::NLA_TYPE_MASK;
+pub use nla_frames::Nla;
+pub use nla_frames::NlaBuffer;
+pub use nla_frames::NlasIterator;
+pub use nla_frames::Parseable;
+pub use nla_frames::ParseableBytes;
+pub use nla_frames::ParseableParametrized;
+pub use nla_frames::Res;
+pub use nla_frames::emit_list;
+pub use nla_frames::emit_u16;
+pub use nla_frames::emit_u16_be;
+pub use nla_frames::emit_u32;
+pub use nla_frames::emit_u32_be;
+pub use nla_frames::list_fits;
+pub use nla_frames::list_len;
+pub use nla_frames::parse_frames_with;
+pub use nla_frames::parse_ipv4_addr;
+pub use nla_frames::parse_ipv6_addr;
+pub use nla_frames::parse_list;
+pub use nla_frames::parse_list_with;
+pub use nla_frames::parse_mac;
+pub use nla_frames::parse_string;
+pub use nla_frames::parse_u8;
+pub use nla_frames::parse_u16;
+pub use nla_frames::parse_u16_be;
+pub use nla_frames::parse_u32;
+pub use nla_frames::parse_u32_be;
+pub use nla_frames::put_list;
+pub use tc_actions::TcAction;
+pub use tc_actions::TcActionAttribute;
+pub use tc_actions::TcActionMirror;
+pub use tc_actions::TcActionMirrorOption;
+pub use tc_actions::TcActionNat;
+pub use tc_actions::TcActionNatOption;
+pub use tc_actions::TcActionOption;
+pub use tc_actions::TcActionTunnelKey;
+pub use tc_actions::TcActionTunnelKeyOption;
+pub use tc_actions::TcFqCodelXstats;
+pub use tc_actions::TcStats2;
+pub use tc_actions::TcXstats;
+pub use tc_canon::canon_action;
+pub use tc_canon::canon_action_options;
+pub use tc_canon::canon_actions;
+pub use tc_canon::canon_lse;
+pub use tc_canon::canon_mpls;
+pub use tc_canon::canon_options;
+pub use tc_canon::canon_stats2;
+pub use tc_canon::is_canonical_action;
+pub use tc_canon::is_canonical_tc;
+pub use tc_flower::TcFilterFlower;
+pub use tc_flower::TcFilterFlowerMplsLseOption;
+pub use tc_flower::TcFilterFlowerMplsOption;
+pub use tc_flower::TcFilterFlowerOption;
+pub use tc_options::TcOption;
+pub use tc_options::TcQdiscFqCodel;
+pub use tc_options::TcQdiscFqCodelOption;
+pub use tc_options::VecTcOption;
+pub use tc_raw::TcActionGenericBuffer;
+pub use tc_raw::TcActionMessageBuffer;
+pub use tc_raw::TcFqCodelClStatsBuffer;
+pub use tc_raw::TcFqCodelQdStatsBuffer;
+pub use tc_raw::TcMessageBuffer;
+pub use tc_raw::TcMirrorBuffer;
+pub use tc_raw::TcNatBuffer;
+pub use tc_raw::TcStatsBasicBuffer;
+pub use tc_raw::TcStatsBuffer;
+pub use tc_raw::TcStatsQueueBuffer;
+pub use tc_raw::TcTunnelKeyBuffer;
+pub use tc_raw::TcU32KeyBuffer;
+pub use tc_raw::TcU32SelectorBuffer;
+pub use tc_raw::TcfBuffer;
+pub use tc_records::TcActionGeneric;
+pub use tc_records::TcActionMessageFlags;
+pub use tc_records::TcActionMessageHeader;
+pub use tc_records::TcActionType;
+pub use tc_records::TcBpfFlags;
+pub use tc_records::TcFqCodelClStats;
+pub use tc_records::TcFqCodelQdStats;
+pub use tc_records::TcHandle;
+pub use tc_records::TcHeader;
+pub use tc_records::TcMirror;
+pub use tc_records::TcMirrorActionType;
+pub use tc_records::TcNat;
+pub use tc_records::TcNatFlags;
+pub use tc_records::TcStats;
+pub use tc_records::TcStatsBasic;
+pub use tc_records::TcStatsQueue;
+pub use tc_records::TcTunnelKey;
+pub use tc_records::TcU32Key;
+pub use tc_records::TcU32OptionFlags;
+pub use tc_records::TcU32Selector;
+pub use tc_records::TcU32SelectorFlags;
+pub use tc_records::Tcf;

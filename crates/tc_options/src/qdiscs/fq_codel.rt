@@ -21,15 +21,25 @@ use tc_values::Value;
 
 // The types of its options, `linux/pkt_sched.h`.
 const TCA_FQ_CODEL_TARGET: u16 = 1;
+
 const TCA_FQ_CODEL_LIMIT: u16 = 2;
+
 const TCA_FQ_CODEL_INTERVAL: u16 = 3;
+
 const TCA_FQ_CODEL_ECN: u16 = 4;
+
 const TCA_FQ_CODEL_FLOWS: u16 = 5;
+
 const TCA_FQ_CODEL_QUANTUM: u16 = 6;
+
 const TCA_FQ_CODEL_CE_THRESHOLD: u16 = 7;
+
 const TCA_FQ_CODEL_DROP_BATCH_SIZE: u16 = 8;
+
 const TCA_FQ_CODEL_MEMORY_LIMIT: u16 = 9;
+
 const TCA_FQ_CODEL_CE_THRESHOLD_SELECTOR: u16 = 10;
+
 const TCA_FQ_CODEL_CE_THRESHOLD_MASK: u16 = 11;
 
 /// An option of `fq_codel`, each a little-endian number.
@@ -89,8 +99,12 @@ impl<A: Allocator> Parseable<A> for TcQdiscFqCodelOption<A> {
             TCA_FQ_CODEL_CE_THRESHOLD => TcQdiscFqCodelOption::CeThreshold(parse_u32(value)?),
             TCA_FQ_CODEL_DROP_BATCH_SIZE => TcQdiscFqCodelOption::DropBatchSize(parse_u32(value)?),
             TCA_FQ_CODEL_MEMORY_LIMIT => TcQdiscFqCodelOption::MemoryLimit(parse_u32(value)?),
-            TCA_FQ_CODEL_CE_THRESHOLD_SELECTOR => TcQdiscFqCodelOption::CeThresholdSelector(parse_u8(value)?),
-            TCA_FQ_CODEL_CE_THRESHOLD_MASK => TcQdiscFqCodelOption::CeThresholdMask(parse_u8(value)?),
+            TCA_FQ_CODEL_CE_THRESHOLD_SELECTOR => TcQdiscFqCodelOption::CeThresholdSelector(
+                parse_u8(value)?,
+            ),
+            TCA_FQ_CODEL_CE_THRESHOLD_MASK => TcQdiscFqCodelOption::CeThresholdMask(parse_u8(
+                value,
+            )?),
             _ => TcQdiscFqCodelOption::Other(DefaultNla::parse(alloc, buf)?),
         })
     }
@@ -116,7 +130,10 @@ impl<A: Allocator> TcQdiscFqCodelOption<A> {
             TcQdiscFqCodelOption::Flows(n) => (TCA_FQ_CODEL_FLOWS, Value::U32(*n)),
             TcQdiscFqCodelOption::Quantum(n) => (TCA_FQ_CODEL_QUANTUM, Value::U32(*n)),
             TcQdiscFqCodelOption::CeThreshold(n) => (TCA_FQ_CODEL_CE_THRESHOLD, Value::U32(*n)),
-            TcQdiscFqCodelOption::DropBatchSize(n) => (TCA_FQ_CODEL_DROP_BATCH_SIZE, Value::U32(*n)),
+            TcQdiscFqCodelOption::DropBatchSize(n) => (
+                TCA_FQ_CODEL_DROP_BATCH_SIZE,
+                Value::U32(*n),
+            ),
             TcQdiscFqCodelOption::MemoryLimit(n) => (TCA_FQ_CODEL_MEMORY_LIMIT, Value::U32(*n)),
             TcQdiscFqCodelOption::CeThresholdSelector(n) => {
                 (TCA_FQ_CODEL_CE_THRESHOLD_SELECTOR, Value::U8(*n))
@@ -133,7 +150,10 @@ impl<A: Allocator> TcQdiscFqCodelOption<A> {
 fn is_read(word: u16) -> bool
     ensures { result ≡ reads_at fq_codel_options (type_of word) }
 {
-    matches!(word & NLA_TYPE_MASK, TCA_FQ_CODEL_TARGET..=TCA_FQ_CODEL_CE_THRESHOLD_MASK)
+    matches!(
+        word & NLA_TYPE_MASK,
+        TCA_FQ_CODEL_TARGET..=TCA_FQ_CODEL_CE_THRESHOLD_MASK
+    )
 }
 
 impl<A: Allocator> Nla for TcQdiscFqCodelOption<A> {

@@ -23,7 +23,7 @@ loop-item-preserved g c =
     let here : IsAt c.args.items.now c.loop-item.item-index c.item-item.result = record { within = omega arith; is = c.item-item.is } in
     let yes = c.if-not-is_settled_under.false in
     let next = settled_next (λ y. m.codec.Typed (m.see y)) (λ k y. m.codec.Settled k (m.see y)) g.T.SetsKind.sets [] c.args.items.now here _ c.loop-item.invariant.1
-        (c.is_settled_under.ensures.typed yes) (c.is_settled_under.ensures.settled.0 yes) in
+    (c.is_settled_under.ensures.typed yes) (c.is_settled_under.ensures.settled.0 yes) in
     let kind = c.kind_then-in_force.ensures ∙ ap (kind_after c.loop-item.in_force.now) c.kind_set.ensures in
     (c.kind_then-in_force.utf8, rw kind next)
 

@@ -29,8 +29,7 @@ overflow_add-at g c =
 pub loop-item-preserved : goal.loop-item-preserved
 loop-item-preserved g c =
     let here : IsAt c.args.items.now c.loop-item.item-index c.item-item.result = record { within = omega arith; is = c.item-item.is } in
-    let written = next_written g.T.FrameMeaning.see g.T.FrameMeaning.codec.write here _ _ _ _ c.loop-item.invariant.0 c.requires.room c.loop-item.invariant.1 c.put_frame-at.ensures.written in
-    (
+    let written = next_written g.T.FrameMeaning.see g.T.FrameMeaning.codec.write here _ _ _ _ c.loop-item.invariant.0 c.requires.room c.loop-item.invariant.1 c.put_frame-at.ensures.written in (
       omega (arith, length_next g.T.FrameMeaning.see g.T.FrameMeaning.codec.write here),
       written,
       one_more g.T.FrameMeaning.see here g.T.FrameMeaning.codec.Typed c.loop-item.invariant.2 c.put_frame-at.ensures.typed,
