@@ -8,7 +8,7 @@ use std::process::Abort;
 use std::test::Fail;
 use tc_options::{TcOption, TcQdiscFqCodelOption};
 use tc_records::TcStats;
-use tc_wire::TcAttribute;
+use tc_wire::{TcAttribute, TcFqCodelXstats, TcStats2, TcXstats};
 
 /// Asserts that a list of one attribute is written as its frame.
 pub(crate) fn are_written<T: Nla>(rt: &impl Abort, list: &[T], frame: &[u8]) {
@@ -47,6 +47,10 @@ fn options(alloc: Global) -> Result<TcAttribute, Fail> {
     Ok(TcAttribute::Options(vec![in alloc; limit]?))
 }
 
+fn xstats(alloc: Global) -> Result<TcXstats, Fail> {
+    Ok(TcXstats::FqCodel(TcFqCodelXstats::Other([2, 0, 0, 0].to_vec(alloc)?)))
+}
+
 fn kept(alloc: Global, word: u16) -> Result<DefaultNla, Fail> {
     Ok(DefaultNla::new(word, bytes(alloc)?))
 }
@@ -58,8 +62,11 @@ fn of_a_message(rt: HostRuntime) -> Result<(), Fail> {
     is_known(&rt, alloc, "", &[8, 0, 1, 0, 0x73, 0x66, 0x71, 0], kind(alloc)?)?;
     is_known(&rt, alloc, "fq_codel", &[12, 0, 2, 0, 8, 0, 2, 0, 0x24, 0x23, 0x22, 0x21], options(alloc)?)?;
     is_known(&rt, alloc, "sfq", &[7, 0, 2, 0, 0xa1, 0xa2, 0xa3, 0], TcAttribute::OptionsRaw(kept(alloc, 2)?))?;
+    is_known(&rt, alloc, "sfq", &[7, 0, 4, 0, 0xa1, 0xa2, 0xa3, 0], TcAttribute::Xstats(TcXstats::Other(bytes(alloc)?)))?;
+    is_known(&rt, alloc, "fq_codel", &[8, 0, 4, 0, 2, 0, 0, 0], TcAttribute::Xstats(xstats(alloc)?))?;
     is_known(&rt, alloc, "", &[7, 0, 5, 0, 0xa1, 0xa2, 0xa3, 0], TcAttribute::Rate(bytes(alloc)?))?;
     is_known(&rt, alloc, "", &[7, 0, 6, 0, 0xa1, 0xa2, 0xa3, 0], TcAttribute::Fcnt(bytes(alloc)?))?;
+    is_known(&rt, alloc, "fq_codel", &[12, 0, 7, 0, 8, 0, 4, 0, 2, 0, 0, 0], TcAttribute::Stats2(vec![in alloc; TcStats2::App(xstats(alloc)?)]?))?;
     is_known(&rt, alloc, "", &[7, 0, 8, 0, 0xa1, 0xa2, 0xa3, 0], TcAttribute::Stab(bytes(alloc)?))?;
     is_known(&rt, alloc, "", &[4, 0, 10, 0], TcAttribute::DumpInvisible(true))?;
     is_known(&rt, alloc, "", &[8, 0, 11, 0, 0xb4, 0xb3, 0xb2, 0xb1], TcAttribute::Chain(0xb1b2_b3b4))?;
