@@ -3,9 +3,12 @@ pub mod Bytes
 pub mod CutFrames
 pub mod CutSteps
 pub mod CuttingLaws
+pub mod CutLists
+pub mod FirstFrames
 pub mod Front
 pub mod FrameBytes
 pub mod Items
+pub mod KeptLaws
 pub mod ListGrammarLaws
 pub mod ListLaws
 pub mod ListWriting

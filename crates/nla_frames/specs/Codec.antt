@@ -4,9 +4,9 @@ use Rattle.std.specs.Prelude.{◌≡◌, ℕ, ◌<◌, ◌≤◌, ◌^◌, List,
 use Rattle.std.specs.List.{AllByRecursion}
 use Rattle.nla_frames.specs.Fault.{Outcome}
 use Rattle.nla_frames.specs.Value.{IsBytes}
-use Rattle.nla_frames.specs.Frame.{Frame}
+use Rattle.nla_frames.specs.Frame.{Frame, IsWireFrame}
 use Rattle.nla_frames.specs.Place.{Sets, InForce, kind_then}
-use Rattle.nla_frames.specs.Reading.{read_list}
+use Rattle.nla_frames.specs.Reading.{Reads, read_list}
 use Rattle.nla_frames.specs.Emission.{list_bytes, ListFits}
 
 pub record Codec (W X : Type 0) : Type 1 where
@@ -56,6 +56,10 @@ pub record SettledAfter {X : Type 0} (Settled : List ℕ → X → Type 0) (sets
 -- the same said place by place, where a reader need not run through the list
 abbrev pub SettledAtEach : {X : Type 0} → (List ℕ → X → Type 0) → Sets X → List ℕ → List X → Type 0
 SettledAtEach Settled sets first xs = (i : ℕ) (x : _) → slice_get xs i ≡ Some x → SettledAfter Settled sets first (take i xs) x
+
+-- a frame that can stand in bytes sets the kind that what it reads as sets
+abbrev pub SetTheSame : {X : Type 0} → Reads X → Sets Frame → Sets X → Type 0
+SetTheSame reads by_frame by_value = (kind : List ℕ) (f : Frame) (x : _) → IsWireFrame f → reads kind f ≡ Ok x → by_frame f ≡ by_value x
 
 -- a list of frames, where frames and the values that they read as may set the kind for those after them
 abbrev pub list_codec : {X : Type 0} → Sets Frame → Sets X → Codec Frame X → Codec (List ℕ) (List X)

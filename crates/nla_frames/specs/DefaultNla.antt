@@ -1,5 +1,5 @@
 -- What contracts see of an attribute that is kept as it stands.
-use Rattle.std.specs.Prelude.{◌<◌, ◌≤◌, ◌^◌, length, Ok}
+use Rattle.std.specs.Prelude.{ℕ, ◌<◌, ◌≤◌, ◌^◌, List, length, Ok}
 use Rattle.nla_frames.specs.Value.{IsBytes}
 use Rattle.nla_frames.specs.Frame.{Frame}
 use Rattle.nla_frames.specs.Codec.{Codec}
@@ -19,3 +19,7 @@ kept_codec = record {
   Fits = λ f. length f.value ≤ 65531;
   Settled = λ kind f. Unit {0};
 }
+
+-- any frame is canonical
+abbrev pub any_frame : List ℕ → Frame → Type 0
+any_frame kind f = Unit {0}

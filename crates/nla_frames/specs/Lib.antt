@@ -8,6 +8,7 @@ pub mod Iterator
 pub mod Place
 pub mod Reading
 pub mod ListGrammar
+pub mod FirstFrame
 pub mod Emission
 pub mod CanonList
 pub mod Codec

@@ -1,11 +1,11 @@
 -- What a list of frames reads as, and its first fault, in the words of the grammar: each frame is read under
 -- the kind in force at its place. `list_grammar` in src/laws.rt says that `read_list` is this.
-use Rattle.std.specs.Prelude.{◌≡◌, ℕ, ◌⊎◌, List, length, take, slice_get, Some, Result, Ok, Err, ◌↔◌}
+use Rattle.std.specs.Prelude.{◌≡◌, ℕ, ◌⊎◌, List, ◌∷◌, ◌++◌, length, take, slice_get, Some, Result, Ok, Err, ◌↔◌}
 use Rattle.nla_frames.specs.declared.error.DecodeError.{DecodeError}
 use Rattle.nla_frames.specs.Frame.{Frame}
 use Rattle.nla_frames.specs.Grammar.{Begins, Ends, Frames, Cut, Broken}
 use Rattle.nla_frames.specs.Place.{Sets, InForce}
-use Rattle.nla_frames.specs.Reading.{Reads}
+use Rattle.nla_frames.specs.Reading.{Reads, keep}
 
 -- at its place, the frame reads as this element
 pub record ReadsAt {X : Type 0} (reads : Reads X) (sets : Sets Frame) (first : List ℕ) (before : List Frame) (f : Frame) (x : X) : Type 0 where
@@ -42,6 +42,16 @@ pub record ListFault {X : Type 0} (reads : Reads X) (sets : Sets Frame) (first :
   pub cut : Cut bytes frames rest
   pub are_read : ReadEach reads sets first frames values
   pub fault : Broken rest e ⊎ FaultyFrame reads sets first frames rest e
+
+-- frames that are cut already, each read under one kind: one is refused in this way, and all before it are read
+pub record FirstRefused {X : Type 0} (reads : Reads X) (kind : List ℕ) (fs : List Frame) (e : DecodeError) : Type 0 where
+  pub before : List Frame
+  pub frame : Frame
+  pub after : List Frame
+  pub values : List X
+  pub parts : fs ≡ before ++ frame ∷ after
+  pub are_read : ReadEach reads keep kind before values
+  pub is_refused : reads kind frame ≡ Err e
 
 -- the list has one reading and no fault, or no reading and one fault
 pub record OneOutcome {X : Type 0} (reads : Reads X) (sets : Sets Frame) (first : List ℕ) (bytes : List ℕ) (outcome : Result (List X) DecodeError) : Type 0 where

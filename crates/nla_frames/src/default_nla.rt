@@ -1,13 +1,13 @@
 //! An attribute that is kept as it stands.
 
 ghost use Rattle.std.specs.Prelude.{◌≡◌};
-ghost use Rattle.nla_frames.specs.DefaultNla.{kept_frame, kept_codec};
+ghost use Rattle.nla_frames.specs.DefaultNla.{kept_frame, kept_codec, any_frame};
 ghost use Rattle.nla_frames.specs.Frame.{Frame};
 
 use crate::buffer::NlaBuffer;
 use crate::error::Res;
 use crate::laws::in_hand::{bytes_in_hand, u16_in_hand};
-use crate::meaning::FrameMeaning;
+use crate::meaning::{CanonMeaning, FrameMeaning};
 use crate::nla::Nla;
 use crate::parse::Parseable;
 use crate::settle::Settle;
@@ -45,6 +45,10 @@ impl<A: Allocator> FrameMeaning for DefaultNla<A> {
     ghost see = { kept_frame };
 
     ghost codec = { kept_codec };
+}
+
+impl<A: Allocator> CanonMeaning for DefaultNla<A> {
+    ghost Canon = { any_frame };
 }
 
 impl<A: Allocator> Parseable<A> for DefaultNla<A> {

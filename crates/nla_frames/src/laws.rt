@@ -3,16 +3,19 @@
 ghost use Rattle.std.specs.Prelude.{◌≡◌, ℕ, List, Option};
 ghost use Rattle.nla_frames.specs.Family.{family_of, number_of};
 ghost use Rattle.nla_frames.specs.declared.error.DecodeError.{DecodeError};
-ghost use Rattle.nla_frames.specs.Frame.{Frame};
+ghost use Rattle.nla_frames.specs.Frame.{Frame, IsWireFrame};
 ghost use Rattle.nla_frames.specs.Grammar.{CutsUp};
 ghost use Rattle.nla_frames.specs.Cutting.{cut};
 ghost use Rattle.nla_frames.specs.Place.{Sets};
 ghost use Rattle.nla_frames.specs.Reading.{read_list};
 ghost use Rattle.nla_frames.specs.ListGrammar.{OneOutcome};
+ghost use Rattle.nla_frames.specs.Codec.{Laws, IsWireBytes, list_codec, SetTheSame};
+ghost use Rattle.nla_frames.specs.CanonList.{IsCanonList};
+ghost use Rattle.nla_frames.specs.DefaultNla.{kept_codec, any_frame};
 
 pub mod in_hand;
 
-use crate::meaning::FrameMeaning;
+use crate::meaning::{CanonMeaning, FrameMeaning};
 
 /// Cutting is the grammar of frames. Bytes are the frames that `cut` gives, and after them the broken frame of its
 /// fault, if it gives one; and where bytes are some frames, or some frames and a broken one, `cut` gives these.
@@ -28,6 +31,19 @@ pub fn cutting(bytes: &[u8])
 /// refused, with this fault. So all bytes have one reading and no fault, or no reading and one fault.
 pub fn list_grammar<T: FrameMeaning>(bytes: &[u8], kind: &str)
     ensures { (sets : Sets Frame) → OneOutcome T.codec.read sets kind.now bytes.now (read_list T.codec.read sets kind.now bytes.now) }
+{}
+
+/// Reading and writing are inverse for lists where they are for the elements, whichever frames set a kind: what is
+/// written reads back as itself exactly if each element is settled under the kind in force at its place, and what is read
+/// is written as it was exactly if the bytes are canonical frames in full.
+pub fn lists<T: CanonMeaning>()
+    ensures { (by_frame : Sets Frame) (by_value : Sets T.Seen) → SetTheSame T.codec.read by_frame by_value
+        → Laws IsWireFrame T.codec T.Canon → Laws IsWireBytes (list_codec by_frame by_value T.codec) (IsCanonList T.Canon by_frame) }
+{}
+
+/// They are inverse for what is kept as it stands, of which any frame is canonical.
+pub fn kept()
+    ensures { Laws IsWireFrame kept_codec any_frame }
 {}
 
 /// A number is the number of its family, so reading and writing a family loses nothing.

@@ -25,7 +25,7 @@ pub use lists::read::{first_capacity, parse_frames_with, parse_list, parse_list_
 pub use lists::write::{
     emit_list, list_checked_len, list_fits, list_len, nested_checked_len, nested_fits, put_list,
 };
-pub use meaning::{BytesMeaning, FrameMeaning};
+pub use meaning::{BytesMeaning, CanonMeaning, FrameMeaning};
 pub use nla::{
     NLA_F_NESTED, NLA_F_NET_BYTEORDER, NLA_HEADER_SIZE, NLA_TYPE_MASK, NLA_VALUE_MAX_SIZE, Nla,
 };

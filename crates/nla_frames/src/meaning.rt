@@ -14,6 +14,11 @@ pub trait FrameMeaning {
     ghost codec: { Codec Frame Seen };
 }
 
+/// A type of which it is said when a frame is canonical, which `laws::lists` lifts to lists of it.
+pub trait CanonMeaning: FrameMeaning {
+    ghost Canon: { List ℕ → Frame → Type 0 };
+}
+
 /// What a type that stands in bytes means: a record, statistics, a message.
 pub trait BytesMeaning {
     ghost Seen: { Type 0 };

@@ -1,9 +1,9 @@
 //! Reading lists of frames.
 
-ghost use Rattle.std.specs.Prelude.{◌≤◌, [], map, length, IfOk};
+ghost use Rattle.std.specs.Prelude.{◌≡◌, ◌/◌, min, [], map, length, IfOk};
 ghost use Rattle.nla_frames.specs.Fault.{Gives, IfRefused, seen};
 ghost use Rattle.nla_frames.specs.Buffer.{frame_of};
-ghost use Rattle.nla_frames.specs.ListGrammar.{ListReads, ListFault};
+ghost use Rattle.nla_frames.specs.ListGrammar.{ReadEach, ListReads, ListFault, FirstRefused};
 ghost use Rattle.nla_frames.specs.Reading.{read_list, read_each, whole, keep};
 
 use crate::buffer::NlaBuffer;
@@ -71,6 +71,18 @@ pub fn parse_frames_with<A: Allocator + Copy, T: ParseableParametrized<A> + Drop
     frames: &[NlaBuffer<'_>],
     kind: &str,
 ) -> Res<Vec<T, A>>
+    ensures found { IfOk result (λ v. ReadEach T.codec.read keep kind.now (map frame_of frames.now) (map T.see v.items)) }
+    ensures refused { IfRefused result (FirstRefused T.codec.read kind.now (map frame_of frames.now)) }
+    ensures exact { Gives (seen (λ v. map T.see v.items) result) (read_each T.codec.read keep kind.now (whole (map frame_of frames.now))) }
+{
+    read_frames(alloc, frames, kind)
+}
+
+fn read_frames<A: Allocator + Copy, T: ParseableParametrized<A> + Drop>(
+    alloc: A,
+    frames: &[NlaBuffer<'_>],
+    kind: &str,
+) -> Res<Vec<T, A>>
     ensures { Gives (seen (λ v. map T.see v.items) result) (read_each T.codec.read keep kind.now (whole (map frame_of frames.now))) }
 {
     let mut list = Vec::with_capacity(alloc, frames.len())?;
@@ -84,8 +96,7 @@ pub fn parse_frames_with<A: Allocator + Copy, T: ParseableParametrized<A> + Drop
 /// How many elements a list of frames gets room for at first: one for every eight bytes, and not more than 16, so
 /// that a short list takes one allocation and a wrong guess costs little.
 pub fn first_capacity(bytes: &[u8]) -> usize
-    ensures few { result ≤ 16 }
-    ensures by_the_bytes { result ≤ length bytes.now }
+    ensures { result ≡ min (length bytes.now / 8) 16 }
 {
     (bytes.len() / 8).min(16)
 }

@@ -1,21 +1,21 @@
-use Rattle.std.proofs.lemmas.Result.{err_from_is_err_and}
-use Rattle.std.proofs.lemmas.List.{map_push}
+use Rattle.std.proofs.Common.{map}
 use Rattle.nla_frames.specs.Buffer.{frame_of}
-use Rattle.nla_frames.specs.Reading.{keep}
-use Rattle.nla_frames.proofs.ReadingSteps.{goes_on, refuses, is_done, frames_more, frames_all}
+use Rattle.nla_frames.specs.ListGrammar.{ReadEach, FirstRefused}
+use Rattle.nla_frames.specs.Reading.{read_each, whole, keep}
+use Rattle.nla_frames.proofs.Outcomes.{IfOk-Gives, IfRefused-Gives}
+use Rattle.nla_frames.proofs.CutLists.{each_read, first_of_frames}
 use Rattle.nla_frames.proofs.lists.read.parse_frames_with.Goals as goal
 
-pub returns-in_err-item : goal.returns-in_err-item
-returns-in_err-item g c =
-    let p = err_from_is_err_and c.from_residual-in_err-item.result c.from_residual-in_err-item.ensures.1 in
-    let next = frames_more frame_of c.args.frames.now c.loop-frame.frame-index c.frame-item.result c.loop-frame-test.true c.frame-item.is in
-    rw (p.1, p.2) (refuses g.T.FrameMeaning.codec.read keep c.args.kind.now _ _ _ c.loop-frame.invariant _ _ _ next c.in_err-item.ensures)
+pub returns-clause-found : goal.returns-clause-found
+returns-clause-found g c =
+    let fs = map frame_of c.args.frames.now in
+    let kind = c.args.kind.now in
+    IfOk-Gives (λ v. map g.T.FrameMeaning.see v.items) c.read_frames.result (read_each g.T.FrameMeaning.codec.read keep kind (whole fs)) c.read_frames.ensures
+    (ReadEach g.T.FrameMeaning.codec.read keep kind fs) (each_read g.T.FrameMeaning.codec.read kind fs)
 
-pub loop-frame-preserved : goal.loop-frame-preserved
-loop-frame-preserved g c =
-    let next = frames_more frame_of c.args.frames.now c.loop-frame.frame-index c.frame-item.result c.loop-frame-test.true c.frame-item.is in
-    rw (c.in_ok-push.ensures.items, map_push)
-    (goes_on g.T.FrameMeaning.codec.read keep c.args.kind.now _ _ _ c.loop-frame.invariant _ _ _ next c.in_ok-item.ensures)
-
-pub returns : goal.returns
-returns g c = is_done g.T.FrameMeaning.codec.read keep c.args.kind.now _ _ _ c.loop-frame.invariant (frames_all frame_of c.args.frames.now c.loop-frame.frame-index c.loop-frame-test.false)
+pub returns-clause-refused : goal.returns-clause-refused
+returns-clause-refused g c =
+    let fs = map frame_of c.args.frames.now in
+    let kind = c.args.kind.now in
+    IfRefused-Gives (λ v. map g.T.FrameMeaning.see v.items) c.read_frames.result (read_each g.T.FrameMeaning.codec.read keep kind (whole fs)) c.read_frames.ensures
+    (FirstRefused g.T.FrameMeaning.codec.read kind fs) (first_of_frames g.T.FrameMeaning.codec.read kind fs)

@@ -1,7 +1,7 @@
 use Rattle.std.proofs.Common.{◌≡◌, map, drop}
 use Rattle.nla_frames.specs.Buffer.{frame_of}
 use Rattle.nla_frames.specs.Reading.{before, read_each, whole, keep}
-use Rattle.nla_frames.proofs.lists.read.parse_frames_with.Given as goal
+use Rattle.nla_frames.proofs.lists.read.read_frames.Given as goal
 
 abbrev pub invariant-loop-frame : goal.invariant-loop-frame
 invariant-loop-frame g l =
