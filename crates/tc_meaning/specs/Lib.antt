@@ -1,4 +1,5 @@
 pub mod Tree
+pub mod Equal
 pub mod Layout
 pub mod Content
 pub mod Own
