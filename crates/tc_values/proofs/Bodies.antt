@@ -1,6 +1,7 @@
 -- The things that attributes nest are what their classes have them to be.
 use Rattle.std.proofs.Common.{◌≡◌, ℕ, List, refl, arith}
 use Rattle.nla_frames.specs.Codec.{Codec}
+use Rattle.nla_frames.specs.Emission.{list_bytes}
 use Rattle.tc_canon.specs.Descriptor.{Class, Table}
 use Rattle.tc_meaning.specs.Tree.{Attribute}
 use Rattle.tc_meaning.specs.Content.{Shape, via}
@@ -11,10 +12,11 @@ use Rattle.tc_values.specs.Bodies.{nothing, items_of, part_of, either}
 use Rattle.tc_values.specs.declared.body.Either.TheVariants.{Left, Right}
 
 pub is_nothing : IsInner nothing
+unfolding list_bytes
 is_nothing = record {
   bytes = λ n. refl;
-  fits = λ n. (λ _. (tt, omega arith), λ _. tt);
-  typed = λ n _. (refl, record { each = λ i. omega arith });
+  fits = λ n. (λ _. (record { each = tt; whole = omega arith }, omega arith), λ _. tt);
+  typed = λ n _. (refl, tt);
   settled = λ kind n. (λ s. s, λ s. s);
 }
 

@@ -2,5 +2,6 @@ pub mod Bodies
 pub mod Lists
 pub mod Measures
 pub mod Rows
+pub mod SameRows
 mod Stripped
 pub mod Values

@@ -46,7 +46,7 @@ by_unread n class = record {
   settled = λ kind x. (λ s. absurd s, λ s. absurd (cc s.0));
 }
 
-some_pair : {n m : ℕ} {c d : Class} → ◌≡◌ {A = Option (ℕ × Class)} (Some (n, c)) (Some (m, d)) → (n ≡ m) × (c ≡ d)
+pub some_pair : {n m : ℕ} {c d : Class} → ◌≡◌ {A = Option (ℕ × Class)} (Some (n, c)) (Some (m, d)) → (n ≡ m) × (c ≡ d)
 some_pair {n = n} {c = c} e = (ap (λ (o : Option (ℕ × Class)). (unwrap_or {T = ℕ × Class} o (n, c)).0) e, ap (λ (o : Option (ℕ × Class)). (unwrap_or {T = ℕ × Class} o (n, c)).1) e)
 
 written_row : (rows : Rows) (n word : ℕ) (class : Class) → ◌≡◌ {A = Option (ℕ × Class)} (written_at rows n) (Some (word, class)) → WrittenAt (rows_codec rows n) (reads_at rows n) n word class

@@ -1,11 +1,11 @@
 -- What contracts see of the things that attributes nest: nothing, a list, a record, one of two.
-use Rattle.std.specs.Prelude.{◌≤◌, ℕ, List, [], map, length}
+use Rattle.std.specs.Prelude.{◌≤◌, ℕ, Bool, false, List, [], map, length}
 use Rattle.std.specs.List.{AllByRecursion}
 use Rattle.nla_frames.specs.Reading.{keep}
 use Rattle.nla_frames.specs.Emission.{list_bytes, NestedFits}
 use Rattle.nla_frames.specs.Codec.{Codec, SettledEach}
-use Rattle.tc_canon.specs.Descriptor.{Class, Table, raw, list_of}
-use Rattle.tc_meaning.specs.Tree.{Attribute, is_bytes, items, attributes_of}
+use Rattle.tc_canon.specs.Descriptor.{Class, Table, table, others, list_of}
+use Rattle.tc_meaning.specs.Tree.{Attribute, items, none, attributes_of}
 use Rattle.tc_meaning.specs.Content.{Shape}
 use Rattle.tc_meaning.specs.Meaning.{table_codec}
 use Rattle.tc_values.specs.Inner.{Inner}
@@ -15,11 +15,11 @@ use Rattle.tc_values.specs.declared.body.Record.{Record}
 use Rattle.tc_values.specs.declared.body.Either.{Either}
 use Rattle.tc_values.specs.declared.body.Either.TheVariants.{Left, Right}
 
--- nothing is nested in the attributes of the type
+-- nothing is nested in the attributes of the type: as it were, an empty list
 abbrev pub nothing : Inner NoBody
 nothing = record {
-  class = λ n. raw;
-  content = λ n. is_bytes [];
+  class = λ n. list_of (table others);
+  content = λ n. items none;
   bytes = λ n. [];
   Fits = λ n. Unit {0};
   Typed = λ n. Unit {0};
@@ -66,3 +66,8 @@ either left right = record {
   Typed = EitherHolds left.Typed right.Typed;
   Settled = λ kind. EitherHolds (left.Settled kind) (right.Settled kind);
 }
+
+abbrev pub same_of_either : {L R : Type 0} → (L → L → Bool) → (R → R → Bool) → Either L R → Either L R → Bool
+same_of_either left right (Left one) (Left another) = left one another
+same_of_either left right (Right one) (Right another) = right one another
+same_of_either left right one another = false

@@ -2,3 +2,4 @@ pub mod Inner
 pub mod Value
 pub mod Row
 pub mod Bodies
+pub mod Same

@@ -3,7 +3,9 @@
 #![tactic(auto)]
 
 pub mod body;
+pub mod same;
 pub mod value;
 
 pub use body::{Body, Either, Items, NoBody, Record};
+pub use same::{Same, same_row};
 pub use value::Value;

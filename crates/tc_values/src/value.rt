@@ -59,6 +59,7 @@ pub enum Value<'a, N = NoBody> {
 
 impl<'a, N: Body> Value<'a, N> {
     /// How many bytes it has, or `None` where it can't be written.
+    #[inline(always)]
     pub fn checked_len(&self) -> Option<usize>
         ensures { Measures result (ValueFits N.Fits self.now) (value_bytes N.bytes self.now) }
     {
@@ -79,6 +80,7 @@ impl<'a, N: Body> Value<'a, N> {
     }
 
     /// Writes it at the front of the buffer, and returns how many bytes that took.
+    #[inline(always)]
     pub fn put(&self, buffer: &mut [u8]) -> usize
         requires fits { ValueFits N.Fits self.now }
         requires room { HasRoom (value_bytes N.bytes self.now) buffer.old }
