@@ -1,9 +1,10 @@
 -- What the records of actions are, field by field.
-use Rattle.std.specs.Prelude.{◌≡◌, pos, List, [], ◌∷◌}
+use Rattle.std.specs.Prelude.{◌≡◌, pos, Bool, ◌&&◌, nat_eq, List, [], ◌∷◌}
 use Rattle.std.specs.Int.{w32, cast_unsigned}
 use Rattle.std.specs.Net.Addr.{ipv4_octets, IsUnspecifiedV4}
 use Rattle.tc_meaning.specs.Tree.{Scalar, plain, octets_of, blank}
 use Rattle.tc_records.specs.Numbers.{family_scalar}
+use Rattle.tc_meaning.specs.Equal.{same_scalar}
 use Rattle.tc_records.specs.NatFlags.{nat_flags_word}
 use Rattle.tc_records.specs.ActionType.{action_type_scalar}
 use Rattle.tc_records.specs.MirrorActionType.{mirror_action_type_scalar}
@@ -26,6 +27,16 @@ generic_then_scalars g others =
     ∷ plain (cast_unsigned w32 g.refcnt)
     ∷ plain (cast_unsigned w32 g.bindcnt)
     ∷ others
+
+-- two generic parts are equal, and what follows them is
+abbrev pub same_generic_then : TcActionGeneric → TcActionGeneric → Bool → Bool
+same_generic_then g h rest =
+    nat_eq g.index h.index
+    && (nat_eq g.capab h.capab
+    && (same_scalar (action_type_scalar g.action) (action_type_scalar h.action)
+    && (nat_eq (cast_unsigned w32 g.refcnt) (cast_unsigned w32 h.refcnt)
+    && (nat_eq (cast_unsigned w32 g.bindcnt) (cast_unsigned w32 h.bindcnt)
+    && rest))))
 
 abbrev pub generic_scalars : TcActionGeneric → List Scalar
 generic_scalars g = generic_then_scalars g []

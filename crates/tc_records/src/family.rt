@@ -5,6 +5,7 @@ ghost use Rattle.tc_canon.specs.Descriptor.{named};
 ghost use Rattle.tc_canon.specs.Layouts.{address_families};
 ghost use Rattle.tc_meaning.specs.Layout.{read_field, field_bytes, SettledField};
 ghost use Rattle.tc_records.specs.Numbers.{family_scalar};
+ghost use Rattle.tc_meaning.specs.Equal.{same_scalar};
 
 use crate::split::split_u8;
 use nla_frames::AddressFamily;
@@ -36,5 +37,16 @@ pub(crate) fn is_settled_family(family: AddressFamily) -> bool
             matches!(AddressFamily::from(number), AddressFamily::Other(_))
         }
         _ => true,
+    }
+}
+
+/// True if both are one family, or `Other` of one number.
+pub(crate) fn same_family(one: AddressFamily, other: AddressFamily) -> bool
+    ensures { result ≡ same_scalar (family_scalar one) (family_scalar other) }
+{
+    match (one, other) {
+        (AddressFamily::Other(number), AddressFamily::Other(another)) => number == another,
+        (AddressFamily::Other(_), _) | (_, AddressFamily::Other(_)) => false,
+        _ => u8::from(one) == u8::from(other),
     }
 }

@@ -7,8 +7,9 @@ ghost use Rattle.tc_meaning.specs.Tree.{Scalar};
 ghost use Rattle.tc_meaning.specs.Layout.{fields_bytes, SettledFields};
 ghost use Rattle.tc_meaning.specs.Content.{read_record, record_codec};
 
-use crate::family::{family_bytes, is_settled_family, split_family};
+use crate::family::{family_bytes, is_settled_family, same_family, split_family};
 use crate::laws::in_hand::header_in_hand;
+use crate::same::both;
 use crate::split::{at_least, skip, split_i32, split_u32};
 use nla_frames::{
     AddressFamily, BytesMeaning, Emitable, Res, SettleBytes, i32_bytes, put_bytes, u32_bytes,
@@ -19,12 +20,34 @@ use std::fmt;
 pub const TC_HEADER_LEN: usize = 20;
 
 /// The handle of a qdisc, a class or a filter: a major and a minor number.
-#[derive(PartialEq, Eq, Clone, Copy, Default, Debug)]
+#[derive(Clone, Copy, Default, Debug)]
 pub struct TcHandle {
     /// The upper half of its word, which names a qdisc.
     pub major: u16,
     /// The lower half, which names a class of it, or is 0.
     pub minor: u16,
+}
+
+impl PartialEq for TcHandle {
+    ghost use Rattle.std.specs.Prelude.{nat_eq};
+    ghost use Rattle.std.specs.Ordering.{on};
+    ghost use Rattle.std.specs.Cmp.{nat_eq_equiv, on_equiv, partial_equiv_from_equiv};
+    ghost use Rattle.tc_records.specs.Header.{handle_number};
+
+    ghost eq = { on handle_number nat_eq };
+
+    ghost laws = { partial_equiv_from_equiv (on_equiv handle_number nat_eq_equiv) };
+
+    fn eq(&self, other: &TcHandle) -> bool {
+        u32::from(*self) == u32::from(*other)
+    }
+}
+
+impl Eq for TcHandle {
+    ghost use Rattle.std.specs.Cmp.{nat_eq_equiv, on_equiv};
+    ghost use Rattle.tc_records.specs.Header.{handle_number};
+
+    ghost laws = { on_equiv handle_number nat_eq_equiv };
 }
 
 impl TcHandle {
@@ -94,7 +117,7 @@ impl fmt::Display for TcHandle {
 
 /// The header of a traffic control message, `struct tcmsg` of `linux/rtnetlink.h`: a family, three bytes of padding,
 /// then four numbers, little-endian.
-#[derive(PartialEq, Eq, Clone, Default, Drop, Debug)]
+#[derive(Clone, Default, Drop, Debug)]
 pub struct TcHeader {
     /// The family of addresses, `Unspec` as a rule.
     pub family: AddressFamily,
@@ -107,6 +130,39 @@ pub struct TcHeader {
     /// Of a filter its priority, in the upper half, and its protocol, in network order; of a qdisc how many references
     /// it has.
     pub info: u32,
+}
+
+impl PartialEq for TcHeader {
+    ghost use Rattle.std.specs.Ordering.{on};
+    ghost use Rattle.tc_meaning.specs.Equal.{same_scalars, scalars_per};
+    ghost use Rattle.tc_records.specs.Header.{header_scalars};
+
+    ghost eq = { on header_scalars same_scalars };
+
+    ghost laws = { scalars_per header_scalars };
+
+    fn eq(&self, other: &TcHeader) -> bool {
+        both(
+            same_family(self.family, other.family),
+            both(
+                self.index.cast_unsigned() == other.index.cast_unsigned(),
+                both(
+                    self.handle == other.handle,
+                    both(
+                        self.parent == other.parent,
+                        both(self.info == other.info, true),
+                    ),
+                ),
+            ),
+        )
+    }
+}
+
+impl Eq for TcHeader {
+    ghost use Rattle.tc_meaning.specs.Equal.{scalars_equiv};
+    ghost use Rattle.tc_records.specs.Header.{header_scalars};
+
+    ghost laws = { scalars_equiv header_scalars };
 }
 
 impl TcHeader {

@@ -26,6 +26,7 @@ ghost use Rattle.tc_records.specs.NatFlags.{nat_flags_word, nat_flags_table};
 ghost use Rattle.tc_records.specs.MessageFlags.{message_flags_word, message_flags_table};
 ghost use Rattle.tc_records.specs.FilterFlags.{bpf_flags_table, selector_flags_byte, selector_flags_table, option_flags_table};
 
+pub mod equal;
 pub mod in_hand;
 
 use crate::actions::action::{TcActionGeneric, TcActionType};

@@ -7,6 +7,7 @@ pub mod filters;
 pub mod header;
 pub mod laws;
 pub mod qdiscs;
+mod same;
 mod split;
 pub mod stats;
 

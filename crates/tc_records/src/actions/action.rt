@@ -10,6 +10,7 @@ ghost use Rattle.tc_meaning.specs.Content.{read_record, record_codec};
 ghost use Rattle.tc_records.specs.ActionType.{action_type_of, action_type_number, action_type_scalar};
 
 use crate::laws::in_hand::generic_in_hand;
+use crate::same::both;
 use crate::split::{at_least, split_i32, split_u32};
 use nla_frames::{BytesMeaning, Emitable, Res, SettleBytes, i32_bytes, put_bytes, u32_bytes};
 
@@ -17,7 +18,7 @@ use nla_frames::{BytesMeaning, Emitable, Res, SettleBytes, i32_bytes, put_bytes,
 pub const TC_ACTION_GENERIC_LEN: usize = 20;
 
 /// What becomes of a packet after an action, `TC_ACT_*` of `linux/pkt_cls.h`.
-#[derive(PartialEq, Eq, Clone, Copy, Default, Debug)]
+#[derive(Clone, Copy, Default, Debug)]
 pub enum TcActionType {
     /// `TC_ACT_UNSPEC`, -1: what the action does by default.
     #[default]
@@ -52,6 +53,31 @@ pub enum TcActionType {
 
     /// Any other number.
     Other(i32),
+}
+
+impl PartialEq for TcActionType {
+    ghost use Rattle.std.specs.Ordering.{on};
+    ghost use Rattle.tc_meaning.specs.Equal.{same_scalar, scalar_per};
+
+    ghost eq = { on action_type_scalar same_scalar };
+
+    ghost laws = { scalar_per action_type_scalar };
+
+    fn eq(&self, other: &TcActionType) -> bool {
+        match (self, other) {
+            (TcActionType::Other(number), TcActionType::Other(another)) => {
+                number.cast_unsigned() == another.cast_unsigned()
+            }
+            (TcActionType::Other(_), _) | (_, TcActionType::Other(_)) => false,
+            _ => i32::from(*self) == i32::from(*other),
+        }
+    }
+}
+
+impl Eq for TcActionType {
+    ghost use Rattle.tc_meaning.specs.Equal.{scalar_equiv};
+
+    ghost laws = { scalar_equiv action_type_scalar };
 }
 
 impl From<i32> for TcActionType {
@@ -123,7 +149,7 @@ pub(crate) fn is_settled_action_type(action: TcActionType) -> bool
 }
 
 /// What the record of every action begins with, `tc_gen` of `linux/pkt_cls.h`: five numbers, little-endian.
-#[derive(PartialEq, Eq, Clone, Copy, Default, Debug)]
+#[derive(Clone, Copy, Default, Debug)]
 pub struct TcActionGeneric {
     /// The number of the action among those of its kind; at 0 the kernel chooses one.
     pub index: u32,
@@ -137,8 +163,51 @@ pub struct TcActionGeneric {
     pub bindcnt: i32,
 }
 
+impl PartialEq for TcActionGeneric {
+    ghost use Rattle.std.specs.Ordering.{on};
+    ghost use Rattle.tc_meaning.specs.Equal.{same_scalars, scalars_per};
+    ghost use Rattle.tc_records.specs.Actions.{generic_scalars};
+
+    ghost eq = { on generic_scalars same_scalars };
+
+    ghost laws = { scalars_per generic_scalars };
+
+    fn eq(&self, other: &TcActionGeneric) -> bool {
+        self.same_then(other, true)
+    }
+}
+
+impl Eq for TcActionGeneric {
+    ghost use Rattle.tc_meaning.specs.Equal.{scalars_equiv};
+    ghost use Rattle.tc_records.specs.Actions.{generic_scalars};
+
+    ghost laws = { scalars_equiv generic_scalars };
+}
+
 impl TcActionGeneric {
-    ghost use Rattle.tc_records.specs.Actions.{generic_scalars, generic_then_scalars};
+    ghost use Rattle.tc_records.specs.Actions.{generic_scalars, generic_then_scalars, same_generic_then};
+
+    // True if both are equal, and what follows them is.
+    pub(crate) fn same_then(&self, other: &TcActionGeneric, rest: bool) -> bool
+        ensures { result ≡ same_generic_then self.now other.now rest }
+    {
+        both(
+            self.index == other.index,
+            both(
+                self.capab == other.capab,
+                both(
+                    self.action == other.action,
+                    both(
+                        self.refcnt.cast_unsigned() == other.refcnt.cast_unsigned(),
+                        both(
+                            self.bindcnt.cast_unsigned() == other.bindcnt.cast_unsigned(),
+                            rest,
+                        ),
+                    ),
+                ),
+            ),
+        )
+    }
 
     /// The generic part that bytes begin with; what follows is dropped, and fewer bytes are `BufferTooSmall`.
     pub fn parse(payload: &[u8]) -> Res<TcActionGeneric>

@@ -7,8 +7,9 @@ ghost use Rattle.tc_meaning.specs.Tree.{Scalar};
 ghost use Rattle.tc_meaning.specs.Layout.{fields_bytes, SettledFields};
 ghost use Rattle.tc_meaning.specs.Content.{read_record, record_codec};
 
-use crate::family::{family_bytes, is_settled_family, split_family};
+use crate::family::{family_bytes, is_settled_family, same_family, split_family};
 use crate::laws::in_hand::action_message_header_in_hand;
+use crate::same::both;
 use crate::split::at_least;
 use nla_frames::{AddressFamily, BytesMeaning, Emitable, Res, SettleBytes, put_bytes};
 
@@ -16,10 +17,31 @@ use nla_frames::{AddressFamily, BytesMeaning, Emitable, Res, SettleBytes, put_by
 pub const TCA_HEADER_LEN: usize = 4;
 
 /// The header of an action message, `struct tcamsg` of `linux/rtnetlink.h`: a family, then three bytes of padding.
-#[derive(PartialEq, Eq, Clone, Default, Drop, Debug)]
+#[derive(Clone, Default, Drop, Debug)]
 pub struct TcActionMessageHeader {
     /// The family of addresses, `Unspec` as a rule.
     pub family: AddressFamily,
+}
+
+impl PartialEq for TcActionMessageHeader {
+    ghost use Rattle.std.specs.Ordering.{on};
+    ghost use Rattle.tc_meaning.specs.Equal.{same_scalars, scalars_per};
+    ghost use Rattle.tc_records.specs.Actions.{action_message_header_scalars};
+
+    ghost eq = { on action_message_header_scalars same_scalars };
+
+    ghost laws = { scalars_per action_message_header_scalars };
+
+    fn eq(&self, other: &TcActionMessageHeader) -> bool {
+        both(same_family(self.family, other.family), true)
+    }
+}
+
+impl Eq for TcActionMessageHeader {
+    ghost use Rattle.tc_meaning.specs.Equal.{scalars_equiv};
+    ghost use Rattle.tc_records.specs.Actions.{action_message_header_scalars};
+
+    ghost laws = { scalars_equiv action_message_header_scalars };
 }
 
 impl TcActionMessageHeader {

@@ -11,6 +11,7 @@ ghost use Rattle.tc_records.specs.MirrorActionType.{mirror_action_type_of, mirro
 
 use crate::actions::action::{TC_ACTION_GENERIC_LEN, TcActionGeneric};
 use crate::laws::in_hand::mirror_in_hand;
+use crate::same::both;
 use crate::split::{at_least, split_i32, split_u32};
 use nla_frames::{BytesMeaning, Emitable, Res, SettleBytes, i32_bytes, put_bytes, u32_bytes};
 
@@ -18,7 +19,7 @@ use nla_frames::{BytesMeaning, Emitable, Res, SettleBytes, i32_bytes, put_bytes,
 pub const TC_MIRROR_LEN: usize = 28;
 
 /// Where a packet or its copy goes, `TCA_EGRESS_REDIR` and its like of `linux/tc_act/tc_mirred.h`.
-#[derive(PartialEq, Eq, Clone, Copy, Default, Debug)]
+#[derive(Clone, Copy, Default, Debug)]
 pub enum TcMirrorActionType {
     /// `TCA_EGRESS_REDIR`, 1: the packet itself is sent out.
     #[default]
@@ -35,6 +36,31 @@ pub enum TcMirrorActionType {
 
     /// Any other number.
     Other(i32),
+}
+
+impl PartialEq for TcMirrorActionType {
+    ghost use Rattle.std.specs.Ordering.{on};
+    ghost use Rattle.tc_meaning.specs.Equal.{same_scalar, scalar_per};
+
+    ghost eq = { on mirror_action_type_scalar same_scalar };
+
+    ghost laws = { scalar_per mirror_action_type_scalar };
+
+    fn eq(&self, other: &TcMirrorActionType) -> bool {
+        match (self, other) {
+            (TcMirrorActionType::Other(number), TcMirrorActionType::Other(another)) => {
+                number.cast_unsigned() == another.cast_unsigned()
+            }
+            (TcMirrorActionType::Other(_), _) | (_, TcMirrorActionType::Other(_)) => false,
+            _ => i32::from(*self) == i32::from(*other),
+        }
+    }
+}
+
+impl Eq for TcMirrorActionType {
+    ghost use Rattle.tc_meaning.specs.Equal.{scalar_equiv};
+
+    ghost laws = { scalar_equiv mirror_action_type_scalar };
 }
 
 impl From<i32> for TcMirrorActionType {
@@ -98,7 +124,7 @@ fn is_settled_mirror_action_type(action: TcMirrorActionType) -> bool
 
 /// Packets that are redirected or copied to an interface, `struct tc_mirred` of `linux/tc_act/tc_mirred.h`: numbers,
 /// little-endian.
-#[derive(PartialEq, Eq, Clone, Default, Drop, Debug)]
+#[derive(Clone, Default, Drop, Debug)]
 pub struct TcMirror {
     /// What every action has.
     pub generic: TcActionGeneric,
@@ -106,6 +132,31 @@ pub struct TcMirror {
     pub eaction: TcMirrorActionType,
     /// The index of the interface.
     pub ifindex: u32,
+}
+
+impl PartialEq for TcMirror {
+    ghost use Rattle.std.specs.Ordering.{on};
+    ghost use Rattle.tc_meaning.specs.Equal.{same_scalars, scalars_per};
+    ghost use Rattle.tc_records.specs.Actions.{mirror_scalars};
+
+    ghost eq = { on mirror_scalars same_scalars };
+
+    ghost laws = { scalars_per mirror_scalars };
+
+    fn eq(&self, other: &TcMirror) -> bool {
+        let rest = both(
+            self.eaction == other.eaction,
+            both(self.ifindex == other.ifindex, true),
+        );
+        self.generic.same_then(&other.generic, rest)
+    }
+}
+
+impl Eq for TcMirror {
+    ghost use Rattle.tc_meaning.specs.Equal.{scalars_equiv};
+    ghost use Rattle.tc_records.specs.Actions.{mirror_scalars};
+
+    ghost laws = { scalars_equiv mirror_scalars };
 }
 
 impl TcMirror {

@@ -12,6 +12,7 @@ ghost use Rattle.tc_meaning.specs.Content.{read_record, record_codec};
 use crate::actions::action::{TC_ACTION_GENERIC_LEN, TcActionGeneric};
 use crate::actions::nat_flag::TcNatFlags;
 use crate::laws::in_hand::nat_in_hand;
+use crate::same::both;
 use crate::split::{at_least, split_ipv4_addr, split_u32};
 use bitflags::Flags;
 use nla_frames::{BytesMeaning, Emitable, Res, SettleBytes, put_bytes, u32_bytes};
@@ -24,7 +25,7 @@ const NOWHERE: Ipv4Addr = Ipv4Addr::UNSPECIFIED;
 
 /// A translation of addresses, `struct tc_nat` of `linux/tc_act/tc_nat.h`. An address stands as its four bytes; numbers
 /// are little-endian.
-#[derive(PartialEq, Eq, Clone, Drop, Debug)]
+#[derive(Clone, Drop, Debug)]
 pub struct TcNat {
     /// What every action has.
     pub generic: TcActionGeneric,
@@ -36,6 +37,37 @@ pub struct TcNat {
     pub mask: Ipv4Addr,
     /// How it is translated.
     pub flags: TcNatFlags,
+}
+
+impl PartialEq for TcNat {
+    ghost use Rattle.std.specs.Ordering.{on};
+    ghost use Rattle.tc_meaning.specs.Equal.{same_scalars, scalars_per};
+    ghost use Rattle.tc_records.specs.Actions.{nat_scalars};
+
+    ghost eq = { on nat_scalars same_scalars };
+
+    ghost laws = { scalars_per nat_scalars };
+
+    fn eq(&self, other: &TcNat) -> bool {
+        let rest = both(
+            self.old_addr.octets() == other.old_addr.octets(),
+            both(
+                self.new_addr.octets() == other.new_addr.octets(),
+                both(
+                    self.mask.octets() == other.mask.octets(),
+                    both(self.flags == other.flags, true),
+                ),
+            ),
+        );
+        self.generic.same_then(&other.generic, rest)
+    }
+}
+
+impl Eq for TcNat {
+    ghost use Rattle.tc_meaning.specs.Equal.{scalars_equiv};
+    ghost use Rattle.tc_records.specs.Actions.{nat_scalars};
+
+    ghost laws = { scalars_equiv nat_scalars };
 }
 
 impl Default for TcNat {

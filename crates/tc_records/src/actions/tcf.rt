@@ -8,6 +8,7 @@ ghost use Rattle.tc_meaning.specs.Layout.{fields_bytes};
 ghost use Rattle.tc_meaning.specs.Content.{read_record, record_codec};
 
 use crate::laws::in_hand::tcf_in_hand;
+use crate::same::both;
 use crate::split::{at_least, split_u64};
 use nla_frames::{BytesMeaning, Emitable, Res, SettleBytes, put_bytes, u64_bytes};
 
@@ -15,7 +16,7 @@ use nla_frames::{BytesMeaning, Emitable, Res, SettleBytes, put_bytes, u64_bytes}
 pub const TCF_LEN: usize = 32;
 
 /// The times of an action, `struct tcf_t` of `linux/pkt_cls.h`: four numbers of clock ticks, little-endian.
-#[derive(PartialEq, Eq, Clone, Default, Drop, Debug)]
+#[derive(Clone, Default, Drop, Debug)]
 pub struct Tcf {
     /// Since it was made.
     pub install: u64,
@@ -25,6 +26,36 @@ pub struct Tcf {
     pub expires: u64,
     /// Since it was first used.
     pub firstuse: u64,
+}
+
+impl PartialEq for Tcf {
+    ghost use Rattle.std.specs.Ordering.{on};
+    ghost use Rattle.tc_meaning.specs.Equal.{same_scalars, scalars_per};
+    ghost use Rattle.tc_records.specs.Tcf.{tcf_scalars};
+
+    ghost eq = { on tcf_scalars same_scalars };
+
+    ghost laws = { scalars_per tcf_scalars };
+
+    fn eq(&self, other: &Tcf) -> bool {
+        both(
+            self.install == other.install,
+            both(
+                self.lastuse == other.lastuse,
+                both(
+                    self.expires == other.expires,
+                    both(self.firstuse == other.firstuse, true),
+                ),
+            ),
+        )
+    }
+}
+
+impl Eq for Tcf {
+    ghost use Rattle.tc_meaning.specs.Equal.{scalars_equiv};
+    ghost use Rattle.tc_records.specs.Tcf.{tcf_scalars};
+
+    ghost laws = { scalars_equiv tcf_scalars };
 }
 
 impl Tcf {

@@ -9,6 +9,7 @@ ghost use Rattle.tc_meaning.specs.Content.{read_record, record_codec};
 
 use crate::actions::action::{TC_ACTION_GENERIC_LEN, TcActionGeneric};
 use crate::laws::in_hand::tunnel_key_in_hand;
+use crate::same::both;
 use crate::split::{at_least, split_i32};
 use nla_frames::{BytesMeaning, Emitable, Res, SettleBytes, i32_bytes, put_bytes};
 
@@ -17,12 +18,37 @@ pub const TC_TUNNEL_KEY_LEN: usize = 24;
 
 /// A tunnel's metadata is set on packets or released, `struct tc_tunnel_key` of
 /// `linux/tc_act/tc_tunnel_key.h`: numbers, little-endian.
-#[derive(PartialEq, Eq, Clone, Default, Drop, Debug)]
+#[derive(Clone, Default, Drop, Debug)]
 pub struct TcTunnelKey {
     /// What every action has.
     pub generic: TcActionGeneric,
     /// Which of both: `TCA_TUNNEL_KEY_ACT_SET`, 1, or `TCA_TUNNEL_KEY_ACT_RELEASE`, 2.
     pub t_action: i32,
+}
+
+impl PartialEq for TcTunnelKey {
+    ghost use Rattle.std.specs.Ordering.{on};
+    ghost use Rattle.tc_meaning.specs.Equal.{same_scalars, scalars_per};
+    ghost use Rattle.tc_records.specs.Actions.{tunnel_key_scalars};
+
+    ghost eq = { on tunnel_key_scalars same_scalars };
+
+    ghost laws = { scalars_per tunnel_key_scalars };
+
+    fn eq(&self, other: &TcTunnelKey) -> bool {
+        let rest = both(
+            self.t_action.cast_unsigned() == other.t_action.cast_unsigned(),
+            true,
+        );
+        self.generic.same_then(&other.generic, rest)
+    }
+}
+
+impl Eq for TcTunnelKey {
+    ghost use Rattle.tc_meaning.specs.Equal.{scalars_equiv};
+    ghost use Rattle.tc_records.specs.Actions.{tunnel_key_scalars};
+
+    ghost laws = { scalars_equiv tunnel_key_scalars };
 }
 
 impl TcTunnelKey {

@@ -3,6 +3,7 @@
 ghost use Rattle.std.specs.Prelude.{◌≡◌, ◌≤◌, ◌+◌, ◌*◌, ℕ, List, [], length, drop, map, Ok};
 ghost use Rattle.std.specs.List.{AllByRecursion};
 ghost use Rattle.std.specs.Int.{w16, cast_unsigned};
+ghost use Rattle.std.specs.Ordering.{on};
 ghost use Rattle.nla_frames.specs.Fault.{Gives, seen, read_as};
 ghost use Rattle.nla_frames.specs.Value.{le_bytes};
 ghost use Rattle.nla_frames.specs.Emission.{Writes, HasRoom};
@@ -10,11 +11,13 @@ ghost use Rattle.tc_canon.specs.Layouts.{selector_head, selector_key};
 ghost use Rattle.tc_meaning.specs.Tree.{Scalar};
 ghost use Rattle.tc_meaning.specs.Layout.{read_fields, fields_bytes, TypedFields};
 ghost use Rattle.tc_meaning.specs.Content.{Selector, read_record, read_keys, read_selector, record_codec, selector_codec};
+ghost use Rattle.tc_meaning.specs.Equal.{same_scalars, same_selector, selector_equiv, selector_per};
 ghost use Rattle.tc_records.specs.FilterFlags.{selector_flags_byte};
 ghost use Rattle.tc_records.specs.Selector.{key_scalars, keys_bytes, head_scalars, selector_of, empty_selector};
 
 use crate::filters::u32_flags::TcU32SelectorFlags;
 use crate::laws::in_hand::{key_in_hand, selector_head_in_hand, selector_in_hand};
+use crate::same::both;
 use crate::split::{
     at_least, skip, split_i16, split_i32, split_u8, split_u16, split_u16_be, split_u32_be,
 };
@@ -32,7 +35,7 @@ pub const TC_U32_KEY_LEN: usize = 16;
 pub const TC_U32_SELECTOR_LEN: usize = 16;
 
 /// A word of a packet that is compared, `struct tc_u32_key` of `linux/pkt_cls.h`.
-#[derive(PartialEq, Eq, Clone, Default, Drop, Debug)]
+#[derive(Clone, Default, Drop, Debug)]
 pub struct TcU32Key {
     /// The bits that are compared, big-endian.
     pub mask: u32,
@@ -42,6 +45,35 @@ pub struct TcU32Key {
     pub off: i32,
     /// The bits of the offset read of the packet that count here.
     pub offmask: i32,
+}
+
+impl PartialEq for TcU32Key {
+    ghost use Rattle.std.specs.Ordering.{on};
+    ghost use Rattle.tc_meaning.specs.Equal.{same_scalars, scalars_per};
+
+    ghost eq = { on key_scalars same_scalars };
+
+    ghost laws = { scalars_per key_scalars };
+
+    fn eq(&self, other: &TcU32Key) -> bool {
+        [
+            self.mask,
+            self.val,
+            self.off.cast_unsigned(),
+            self.offmask.cast_unsigned(),
+        ] == [
+            other.mask,
+            other.val,
+            other.off.cast_unsigned(),
+            other.offmask.cast_unsigned(),
+        ]
+    }
+}
+
+impl Eq for TcU32Key {
+    ghost use Rattle.tc_meaning.specs.Equal.{scalars_equiv};
+
+    ghost laws = { scalars_equiv key_scalars };
 }
 
 impl TcU32Key {
@@ -147,7 +179,7 @@ fn put_keys(buffer: &mut [u8], keys: &[TcU32Key])
 /// What a u32 filter compares with a packet, `struct tc_u32_sel` of `linux/pkt_cls.h`. The filter matches where
 /// each of its keys does. Numbers are little-endian unless said otherwise; a byte of padding follows `nkeys`.
 #[derive(Drop)]
-#[derive_where(Debug, PartialEq, Eq)]
+#[derive_where(Debug)]
 #[derive_where(Clone; A)]
 pub struct TcU32Selector<A: Allocator = Global> {
     /// What becomes of a match, and how the next header is found.
@@ -168,6 +200,48 @@ pub struct TcU32Selector<A: Allocator = Global> {
     pub hmask: u32,
     /// What is compared.
     pub keys: Vec<TcU32Key, A>,
+}
+
+impl<A: Allocator> TcU32Selector<A> {
+    // True if the two are equal but for their keys.
+    fn same_head(&self, other: &TcU32Selector<A>) -> bool
+        ensures { result ≡ same_scalars (head_scalars self.now) (head_scalars other.now) }
+    {
+        let offsets = both(
+            self.off == other.off,
+            both(
+                self.offoff.cast_unsigned() == other.offoff.cast_unsigned(),
+                both(
+                    self.hoff.cast_unsigned() == other.hoff.cast_unsigned(),
+                    both(self.hmask == other.hmask, true),
+                ),
+            ),
+        );
+        both(
+            self.flags.bits() == other.flags.bits(),
+            both(
+                self.offshift == other.offshift,
+                both(
+                    self.nkeys == other.nkeys,
+                    both(self.offmask == other.offmask, offsets),
+                ),
+            ),
+        )
+    }
+}
+
+impl<A: Allocator> PartialEq for TcU32Selector<A> {
+    ghost eq = { on selector_of same_selector };
+
+    ghost laws = { selector_per selector_of };
+
+    fn eq(&self, other: &TcU32Selector<A>) -> bool {
+        both(self.same_head(other), self.keys == other.keys)
+    }
+}
+
+impl<A: Allocator> Eq for TcU32Selector<A> {
+    ghost laws = { selector_equiv selector_of };
 }
 
 impl<A: Allocator> TcU32Selector<A> {

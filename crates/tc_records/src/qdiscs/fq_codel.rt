@@ -120,7 +120,7 @@ impl SettleBytes for TcFqCodelQdStats {
 
 /// The statistics of a class, which is one flow, `struct tc_fq_codel_cl_stats` of `linux/pkt_sched.h`: six numbers,
 /// little-endian. They are read and written, and shown by `Debug`.
-#[derive(PartialEq, Eq, Clone, Copy, Default, Debug)]
+#[derive(Clone, Copy, Default, Debug)]
 pub struct TcFqCodelClStats {
     // Bytes that the flow may send before the next one's turn; negative once it sent more.
     deficit: i32,
@@ -134,6 +134,41 @@ pub struct TcFqCodelClStats {
     dropping: u32,
     // When the next packet is to be dropped, in microseconds from now; negative for one that is due.
     drop_next: i32,
+}
+
+impl PartialEq for TcFqCodelClStats {
+    ghost use Rattle.std.specs.Ordering.{on};
+    ghost use Rattle.tc_meaning.specs.Equal.{same_scalars, scalars_per};
+    ghost use Rattle.tc_records.specs.Statistics.{cl_stats_scalars};
+
+    ghost eq = { on cl_stats_scalars same_scalars };
+
+    ghost laws = { scalars_per cl_stats_scalars };
+
+    fn eq(&self, other: &TcFqCodelClStats) -> bool {
+        [
+            self.deficit.cast_unsigned(),
+            self.ldelay,
+            self.count,
+            self.lastcount,
+            self.dropping,
+            self.drop_next.cast_unsigned(),
+        ] == [
+            other.deficit.cast_unsigned(),
+            other.ldelay,
+            other.count,
+            other.lastcount,
+            other.dropping,
+            other.drop_next.cast_unsigned(),
+        ]
+    }
+}
+
+impl Eq for TcFqCodelClStats {
+    ghost use Rattle.tc_meaning.specs.Equal.{scalars_equiv};
+    ghost use Rattle.tc_records.specs.Statistics.{cl_stats_scalars};
+
+    ghost laws = { scalars_equiv cl_stats_scalars };
 }
 
 impl TcFqCodelClStats {

@@ -8,6 +8,7 @@ ghost use Rattle.tc_meaning.specs.Layout.{fields_bytes};
 ghost use Rattle.tc_meaning.specs.Content.{read_record, record_codec};
 
 use crate::laws::in_hand::stats_basic_in_hand;
+use crate::same::both;
 use crate::split::{at_least, split_u32, split_u64};
 use nla_frames::{BytesMeaning, Emitable, Res, SettleBytes, put_bytes, u32_bytes, u64_bytes};
 
@@ -16,12 +17,36 @@ pub const TC_STATS_BASIC_LEN: usize = 16;
 
 /// What went through a queue, `struct gnet_stats_basic` of `linux/gen_stats.h`: two numbers, little-endian, and
 /// four bytes of padding.
-#[derive(PartialEq, Eq, Clone, Copy, Default, Debug)]
+#[derive(Clone, Copy, Default, Debug)]
 pub struct TcStatsBasic {
     /// Bytes that were seen.
     pub bytes: u64,
     /// Packets that were seen.
     pub packets: u32,
+}
+
+impl PartialEq for TcStatsBasic {
+    ghost use Rattle.std.specs.Ordering.{on};
+    ghost use Rattle.tc_meaning.specs.Equal.{same_scalars, scalars_per};
+    ghost use Rattle.tc_records.specs.Statistics.{basic_scalars};
+
+    ghost eq = { on basic_scalars same_scalars };
+
+    ghost laws = { scalars_per basic_scalars };
+
+    fn eq(&self, other: &TcStatsBasic) -> bool {
+        both(
+            self.bytes == other.bytes,
+            both(self.packets == other.packets, true),
+        )
+    }
+}
+
+impl Eq for TcStatsBasic {
+    ghost use Rattle.tc_meaning.specs.Equal.{scalars_equiv};
+    ghost use Rattle.tc_records.specs.Statistics.{basic_scalars};
+
+    ghost laws = { scalars_equiv basic_scalars };
 }
 
 impl TcStatsBasic {

@@ -8,6 +8,7 @@ ghost use Rattle.tc_meaning.specs.Layout.{fields_bytes};
 ghost use Rattle.tc_meaning.specs.Content.{read_record, record_codec};
 
 use crate::laws::in_hand::stats_queue_in_hand;
+use crate::same::both;
 use crate::split::{at_least, split_u32};
 use nla_frames::{BytesMeaning, Emitable, Res, SettleBytes, put_bytes, u32_bytes};
 
@@ -16,7 +17,7 @@ pub const TC_STATS_QUEUE_LEN: usize = 20;
 
 /// What waits in a queue and what it refused, `struct gnet_stats_queue` of `linux/gen_stats.h`: five numbers,
 /// little-endian.
-#[derive(PartialEq, Eq, Clone, Copy, Default, Debug)]
+#[derive(Clone, Copy, Default, Debug)]
 pub struct TcStatsQueue {
     /// Packets in the queue.
     pub qlen: u32,
@@ -28,6 +29,39 @@ pub struct TcStatsQueue {
     pub requeues: u32,
     /// How often the queue was over its limit.
     pub overlimits: u32,
+}
+
+impl PartialEq for TcStatsQueue {
+    ghost use Rattle.std.specs.Ordering.{on};
+    ghost use Rattle.tc_meaning.specs.Equal.{same_scalars, scalars_per};
+    ghost use Rattle.tc_records.specs.Statistics.{queue_scalars};
+
+    ghost eq = { on queue_scalars same_scalars };
+
+    ghost laws = { scalars_per queue_scalars };
+
+    fn eq(&self, other: &TcStatsQueue) -> bool {
+        both(
+            self.qlen == other.qlen,
+            both(
+                self.backlog == other.backlog,
+                both(
+                    self.drops == other.drops,
+                    both(
+                        self.requeues == other.requeues,
+                        both(self.overlimits == other.overlimits, true),
+                    ),
+                ),
+            ),
+        )
+    }
+}
+
+impl Eq for TcStatsQueue {
+    ghost use Rattle.tc_meaning.specs.Equal.{scalars_equiv};
+    ghost use Rattle.tc_records.specs.Statistics.{queue_scalars};
+
+    ghost laws = { scalars_equiv queue_scalars };
 }
 
 impl TcStatsQueue {

@@ -1,0 +1,69 @@
+//! `==` says exactly whether contracts see two values as equal.
+
+ghost use Rattle.nla_frames.specs.DefaultNla.{kept_frame};
+ghost use Rattle.tc_records.specs.Numbers.{family_scalar};
+ghost use Rattle.tc_records.specs.Header.{handle_number, header_scalars};
+ghost use Rattle.tc_records.specs.Actions.{action_message_header_scalars, generic_scalars, mirror_scalars, nat_scalars, tunnel_key_scalars};
+ghost use Rattle.tc_records.specs.ActionType.{action_type_scalar};
+ghost use Rattle.tc_records.specs.MirrorActionType.{mirror_action_type_scalar};
+ghost use Rattle.tc_records.specs.Tcf.{tcf_scalars};
+ghost use Rattle.tc_records.specs.Statistics.{stats_scalars, basic_scalars, queue_scalars, qd_stats_scalars, cl_stats_scalars};
+ghost use Rattle.tc_records.specs.Selector.{key_scalars, selector_of};
+ghost use Rattle.tc_records.specs.NatFlags.{nat_flags_word};
+ghost use Rattle.tc_records.specs.MessageFlags.{message_flags_word};
+ghost use Rattle.tc_records.specs.FilterFlags.{bpf_flags_word, selector_flags_byte, option_flags_word};
+ghost use Rattle.tc_meaning.specs.Equal.{TellsSeen};
+
+use crate::actions::action::{TcActionGeneric, TcActionType};
+use crate::actions::header::TcActionMessageHeader;
+use crate::actions::message_flags::TcActionMessageFlags;
+use crate::actions::mirror::{TcMirror, TcMirrorActionType};
+use crate::actions::nat::TcNat;
+use crate::actions::nat_flag::TcNatFlags;
+use crate::actions::tcf::Tcf;
+use crate::actions::tunnel_key::TcTunnelKey;
+use crate::filters::bpf::TcBpfFlags;
+use crate::filters::u32_flags::{TcU32OptionFlags, TcU32SelectorFlags};
+use crate::filters::u32_selector::{TcU32Key, TcU32Selector};
+use crate::header::{TcHandle, TcHeader};
+use crate::qdiscs::fq_codel::{TcFqCodelClStats, TcFqCodelQdStats};
+use crate::stats::{TcStats, TcStatsBasic, TcStatsQueue};
+use nla_frames::{AddressFamily, DefaultNla};
+use std::alloc::Allocator;
+
+/// Headers and statistics are equal exactly if their fields are, padding aside.
+pub fn equal_statistics()
+    ensures family { TellsSeen ⟦<AddressFamily as PartialEq>⟧.eq family_scalar }
+    ensures handle { TellsSeen ⟦<TcHandle as PartialEq>⟧.eq handle_number }
+    ensures header { TellsSeen ⟦<TcHeader as PartialEq>⟧.eq header_scalars }
+    ensures action_header { TellsSeen ⟦<TcActionMessageHeader as PartialEq>⟧.eq action_message_header_scalars }
+    ensures stats { TellsSeen ⟦<TcStats as PartialEq>⟧.eq stats_scalars }
+    ensures basic { TellsSeen ⟦<TcStatsBasic as PartialEq>⟧.eq basic_scalars }
+    ensures queue { TellsSeen ⟦<TcStatsQueue as PartialEq>⟧.eq queue_scalars }
+    ensures qdisc { TellsSeen ⟦<TcFqCodelQdStats as PartialEq>⟧.eq qd_stats_scalars }
+    ensures class { TellsSeen ⟦<TcFqCodelClStats as PartialEq>⟧.eq cl_stats_scalars }
+{}
+
+/// Records of actions and keys of selectors are equal exactly if their fields are.
+pub fn equal_actions()
+    ensures times { TellsSeen ⟦<Tcf as PartialEq>⟧.eq tcf_scalars }
+    ensures outcome { TellsSeen ⟦<TcActionType as PartialEq>⟧.eq action_type_scalar }
+    ensures direction { TellsSeen ⟦<TcMirrorActionType as PartialEq>⟧.eq mirror_action_type_scalar }
+    ensures generic { TellsSeen ⟦<TcActionGeneric as PartialEq>⟧.eq generic_scalars }
+    ensures mirror { TellsSeen ⟦<TcMirror as PartialEq>⟧.eq mirror_scalars }
+    ensures nat { TellsSeen ⟦<TcNat as PartialEq>⟧.eq nat_scalars }
+    ensures tunnel { TellsSeen ⟦<TcTunnelKey as PartialEq>⟧.eq tunnel_key_scalars }
+    ensures key { TellsSeen ⟦<TcU32Key as PartialEq>⟧.eq key_scalars }
+{}
+
+/// Flags are equal exactly if their words are, kept attributes if their words and bytes are, and selectors if their
+/// fields and their keys are.
+pub fn equal_words<A: Allocator>()
+    ensures selected { TellsSeen ⟦<TcU32Selector<A> as PartialEq>⟧.eq selector_of }
+    ensures kept { TellsSeen ⟦<DefaultNla<A> as PartialEq>⟧.eq kept_frame }
+    ensures nat { TellsSeen ⟦<TcNatFlags as PartialEq>⟧.eq nat_flags_word }
+    ensures message { TellsSeen ⟦<TcActionMessageFlags as PartialEq>⟧.eq message_flags_word }
+    ensures bpf { TellsSeen ⟦<TcBpfFlags as PartialEq>⟧.eq bpf_flags_word }
+    ensures selector { TellsSeen ⟦<TcU32SelectorFlags as PartialEq>⟧.eq selector_flags_byte }
+    ensures option { TellsSeen ⟦<TcU32OptionFlags as PartialEq>⟧.eq option_flags_word }
+{}
