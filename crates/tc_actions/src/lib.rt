@@ -2,6 +2,7 @@
 #![tactic(auto)]
 
 pub mod actions;
+pub mod laws;
 pub mod qdiscs;
 pub mod stats;
 

@@ -1,6 +1,7 @@
 //! An action: one attribute, whose value is a list that tells its own kind.
 
 ghost use Rattle.std.specs.Prelude.{◌≡◌, [], IfOk};
+ghost use Rattle.std.specs.Ordering.{on};
 ghost use Rattle.nla_frames.specs.Fault.{Gives, IfRefused, seen};
 ghost use Rattle.nla_frames.specs.Frame.{type_of};
 ghost use Rattle.nla_frames.specs.Buffer.{frame_of};
@@ -8,6 +9,7 @@ ghost use Rattle.tc_meaning.specs.Tree.{Attribute};
 ghost use Rattle.tc_meaning.specs.OwnGrammar.{OwnReads, OwnFault};
 ghost use Rattle.tc_meaning.specs.Meaning.{table_codec};
 ghost use Rattle.tc_meaning.specs.Short.{table_short};
+ghost use Rattle.tc_meaning.specs.Equal.{same_attribute, attribute_equiv, attribute_per};
 ghost use Rattle.tc_laws.specs.Order.{read_action_attribute};
 ghost use Rattle.tc_actions.specs.Action.{an_action, listed, tc_action, KeepsOrder};
 
@@ -27,7 +29,7 @@ const TCA_ACT_TAB: u16 = 1;
 /// An action. Its kind is the text of its one [`Kind`](TcActionAttribute::Kind), wherever that stands, and its options
 /// and statistics are read under it.
 #[derive(Drop)]
-#[derive_where(Debug, PartialEq, Eq)]
+#[derive_where(Debug)]
 #[derive_where(Clone; A)]
 pub struct TcAction<A: Allocator = Global> {
     /// The type of its frame, which in a list of actions is its place; the whole word when it is written.
@@ -104,4 +106,18 @@ impl<A: Allocator> Settle for TcAction<A> {
         u16_in_hand(self.tab);
         self.tab <= NLA_TYPE_MASK && list_settled_own(&self.attributes)
     }
+}
+
+impl<A: Allocator> PartialEq for TcAction<A> {
+    ghost eq = { on tc_action same_attribute };
+
+    ghost laws = { attribute_per tc_action };
+
+    fn eq(&self, other: &TcAction<A>) -> bool {
+        self.tab == other.tab && self.attributes == other.attributes
+    }
+}
+
+impl<A: Allocator> Eq for TcAction<A> {
+    ghost laws = { attribute_equiv tc_action };
 }

@@ -1,6 +1,7 @@
 //! The attributes of an action.
 
 ghost use Rattle.std.specs.Prelude.{◌≡◌};
+ghost use Rattle.std.specs.Ordering.{on};
 ghost use Rattle.nla_frames.specs.Frame.{type_of};
 ghost use Rattle.tc_canon.specs.Descriptor.{table};
 ghost use Rattle.tc_canon.specs.Tables.Actions.{action_attributes};
@@ -8,6 +9,7 @@ ghost use Rattle.tc_meaning.specs.Tree.{Attribute};
 ghost use Rattle.tc_meaning.specs.Own.{kind_of_attribute};
 ghost use Rattle.tc_meaning.specs.Meaning.{table_codec};
 ghost use Rattle.tc_meaning.specs.Short.{table_short};
+ghost use Rattle.tc_meaning.specs.Equal.{same_attribute, attribute_equiv, attribute_per};
 ghost use Rattle.tc_values.specs.Row.{attribute_of, IsRow, ShownAs, reads_at};
 ghost use Rattle.tc_actions.specs.ActionAttribute.{action_attribute, attribute_body};
 
@@ -18,7 +20,7 @@ use nla_frames::{
     ParseableParametrized, Res, SetsKind, Settle, parse_list_with, parse_string, parse_u32,
 };
 use std::alloc::{Allocator, Global};
-use tc_values::{Either, Items, Value};
+use tc_values::{Either, Items, Value, same_row};
 
 // The types of an action's attributes, `linux/pkt_cls.h`.
 pub(crate) const TCA_ACT_KIND: u16 = 1;
@@ -44,7 +46,7 @@ const TCA_ACT_IN_HW_COUNT: u16 = 10;
 /// | 6 | `Cookie` | bytes |
 /// | 10 | `InHwCount` | u32 |
 #[derive(Drop)]
-#[derive_where(Debug, PartialEq, Eq)]
+#[derive_where(Debug)]
 #[derive_where(Clone; A)]
 pub enum TcActionAttribute<A: Allocator = Global> {
     /// The action's kind: `TCA_ACT_KIND` of `linux/pkt_cls.h`.
@@ -160,4 +162,18 @@ impl<A: Allocator> SetsKind for TcActionAttribute<A> {
             _ => None,
         }
     }
+}
+
+impl<A: Allocator> PartialEq for TcActionAttribute<A> {
+    ghost eq = { on action_attribute same_attribute };
+
+    ghost laws = { attribute_per action_attribute };
+
+    fn eq(&self, other: &TcActionAttribute<A>) -> bool {
+        same_row(&self.row(), &other.row())
+    }
+}
+
+impl<A: Allocator> Eq for TcActionAttribute<A> {
+    ghost laws = { attribute_equiv action_attribute };
 }

@@ -1,19 +1,21 @@
 //! Packets that are redirected or copied to another interface.
 
 ghost use Rattle.std.specs.Prelude.{◌≡◌};
+ghost use Rattle.std.specs.Ordering.{on};
 ghost use Rattle.nla_frames.specs.Frame.{type_of};
 ghost use Rattle.tc_canon.specs.Descriptor.{table};
 ghost use Rattle.tc_canon.specs.Tables.Actions.{mirror_options};
 ghost use Rattle.tc_meaning.specs.Tree.{Attribute};
 ghost use Rattle.tc_meaning.specs.Meaning.{table_codec};
 ghost use Rattle.tc_meaning.specs.Short.{table_short};
+ghost use Rattle.tc_meaning.specs.Equal.{same_attribute, attribute_equiv, attribute_per};
 ghost use Rattle.tc_values.specs.Row.{attribute_of, IsRow, ShownAs, reads_at};
 ghost use Rattle.tc_actions.specs.Mirror.{mirror_option, mirror_body};
 
 use nla_frames::{DefaultNla, FrameMeaning, NLA_TYPE_MASK, Nla, NlaBuffer, Parseable, Res, Settle};
 use std::alloc::{Allocator, Global};
 use tc_records::{TcMirror, Tcf};
-use tc_values::{Either, Record, Value};
+use tc_values::{Either, Record, Value, same_row};
 
 /// The action `mirred`, which redirects or copies packets to another interface.
 #[derive(PartialEq, Eq, Clone, Drop, Debug)]
@@ -36,7 +38,7 @@ const TCA_MIRRED_PARMS: u16 = 2;
 /// | 1 | `Tm` | [`Tcf`] |
 /// | 2 | `Parms` | [`TcMirror`] |
 #[derive(Drop)]
-#[derive_where(Debug, PartialEq, Eq)]
+#[derive_where(Debug)]
 #[derive_where(Clone; A)]
 pub enum TcActionMirrorOption<A: Allocator = Global> {
     /// When it was made and used: `TCA_MIRRED_TM` of `linux/tc_act/tc_mirred.h`.
@@ -123,4 +125,18 @@ impl<A: Allocator> Settle for TcActionMirrorOption<A> {
         let (word, value) = self.view();
         value.is_settled_under(is_read(word), kind)
     }
+}
+
+impl<A: Allocator> PartialEq for TcActionMirrorOption<A> {
+    ghost eq = { on mirror_option same_attribute };
+
+    ghost laws = { attribute_per mirror_option };
+
+    fn eq(&self, other: &TcActionMirrorOption<A>) -> bool {
+        same_row(&self.row(), &other.row())
+    }
+}
+
+impl<A: Allocator> Eq for TcActionMirrorOption<A> {
+    ghost laws = { attribute_equiv mirror_option };
 }

@@ -1,19 +1,21 @@
 //! Addresses that are translated.
 
 ghost use Rattle.std.specs.Prelude.{◌≡◌};
+ghost use Rattle.std.specs.Ordering.{on};
 ghost use Rattle.nla_frames.specs.Frame.{type_of};
 ghost use Rattle.tc_canon.specs.Descriptor.{table};
 ghost use Rattle.tc_canon.specs.Tables.Actions.{nat_options};
 ghost use Rattle.tc_meaning.specs.Tree.{Attribute};
 ghost use Rattle.tc_meaning.specs.Meaning.{table_codec};
 ghost use Rattle.tc_meaning.specs.Short.{table_short};
+ghost use Rattle.tc_meaning.specs.Equal.{same_attribute, attribute_equiv, attribute_per};
 ghost use Rattle.tc_values.specs.Row.{attribute_of, IsRow, ShownAs, reads_at};
 ghost use Rattle.tc_actions.specs.Nat.{nat_option, nat_body};
 
 use nla_frames::{DefaultNla, FrameMeaning, NLA_TYPE_MASK, Nla, NlaBuffer, Parseable, Res, Settle};
 use std::alloc::{Allocator, Global};
 use tc_records::{TcNat, Tcf};
-use tc_values::{Either, Record, Value};
+use tc_values::{Either, Record, Value, same_row};
 
 /// The action `nat`, which maps one prefix of IPv4 addresses to another.
 #[derive(PartialEq, Eq, Clone, Drop, Debug)]
@@ -36,7 +38,7 @@ const TCA_NAT_TM: u16 = 2;
 /// | 1 | `Parms` | [`TcNat`] |
 /// | 2 | `Tm` | [`Tcf`] |
 #[derive(Drop)]
-#[derive_where(Debug, PartialEq, Eq)]
+#[derive_where(Debug)]
 #[derive_where(Clone; A)]
 pub enum TcActionNatOption<A: Allocator = Global> {
     /// When it was made and used: `TCA_NAT_TM` of `linux/tc_act/tc_nat.h`.
@@ -123,4 +125,18 @@ impl<A: Allocator> Settle for TcActionNatOption<A> {
         let (word, value) = self.view();
         value.is_settled_under(is_read(word), kind)
     }
+}
+
+impl<A: Allocator> PartialEq for TcActionNatOption<A> {
+    ghost eq = { on nat_option same_attribute };
+
+    ghost laws = { attribute_per nat_option };
+
+    fn eq(&self, other: &TcActionNatOption<A>) -> bool {
+        same_row(&self.row(), &other.row())
+    }
+}
+
+impl<A: Allocator> Eq for TcActionNatOption<A> {
+    ghost laws = { attribute_equiv nat_option };
 }

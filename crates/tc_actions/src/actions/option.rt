@@ -1,11 +1,13 @@
 //! An action's options, by its kind.
 
+ghost use Rattle.std.specs.Ordering.{on};
 ghost use Rattle.std.specs.Prelude.{◌≡◌};
 ghost use Rattle.tc_canon.specs.Descriptor.{by_kind, is_known};
 ghost use Rattle.tc_canon.specs.Tables.Actions.{action_option_kinds};
 ghost use Rattle.tc_meaning.specs.Tree.{Attribute};
 ghost use Rattle.tc_meaning.specs.Meaning.{table_codec};
 ghost use Rattle.tc_meaning.specs.Short.{table_short};
+ghost use Rattle.tc_meaning.specs.Equal.{same_attribute, attribute_equiv, attribute_per};
 ghost use Rattle.tc_actions.specs.ActionOption.{action_option};
 
 use crate::actions::mirror::{TcActionMirror, TcActionMirrorOption};
@@ -18,7 +20,7 @@ use std::alloc::{Allocator, Global};
 
 /// One option of an action, in the variant of the action's kind.
 #[derive(Drop)]
-#[derive_where(Debug, PartialEq, Eq)]
+#[derive_where(Debug)]
 #[derive_where(Clone; A)]
 pub enum TcActionOption<A: Allocator = Global> {
     /// Under the kind `mirred`.
@@ -107,4 +109,24 @@ impl<A: Allocator> Settle for TcActionOption<A> {
             TcActionOption::Other(nla) => nla.is_settled_under(kind) && !is_known_kind(kind),
         }
     }
+}
+
+impl<A: Allocator> PartialEq for TcActionOption<A> {
+    ghost eq = { on action_option same_attribute };
+
+    ghost laws = { attribute_per action_option };
+
+    fn eq(&self, other: &TcActionOption<A>) -> bool {
+        match (self, other) {
+            (Self::Mirror(one), Self::Mirror(another)) => one == another,
+            (Self::Nat(one), Self::Nat(another)) => one == another,
+            (Self::TunnelKey(one), Self::TunnelKey(another)) => one == another,
+            (Self::Other(one), Self::Other(another)) => one == another,
+            _ => false,
+        }
+    }
+}
+
+impl<A: Allocator> Eq for TcActionOption<A> {
+    ghost laws = { attribute_equiv action_option };
 }

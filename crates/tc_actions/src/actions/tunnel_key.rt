@@ -1,12 +1,14 @@
 //! Packets that are sent through a tunnel.
 
 ghost use Rattle.std.specs.Prelude.{◌≡◌};
+ghost use Rattle.std.specs.Ordering.{on};
 ghost use Rattle.nla_frames.specs.Frame.{type_of};
 ghost use Rattle.tc_canon.specs.Descriptor.{table};
 ghost use Rattle.tc_canon.specs.Tables.Actions.{tunnel_key_options};
 ghost use Rattle.tc_meaning.specs.Tree.{Attribute};
 ghost use Rattle.tc_meaning.specs.Meaning.{table_codec};
 ghost use Rattle.tc_meaning.specs.Short.{table_short};
+ghost use Rattle.tc_meaning.specs.Equal.{same_attribute, attribute_equiv, attribute_per};
 ghost use Rattle.tc_values.specs.Row.{attribute_of, IsRow, ShownAs, reads_at};
 ghost use Rattle.tc_actions.specs.TunnelKey.{tunnel_key_option, tunnel_key_body};
 
@@ -17,7 +19,7 @@ use nla_frames::{
 use std::alloc::{Allocator, Global};
 use std::net::{Ipv4Addr, Ipv6Addr};
 use tc_records::{TcTunnelKey, Tcf};
-use tc_values::{Either, Record, Value};
+use tc_values::{Either, Record, Value, same_row};
 
 /// The action `tunnel_key`, which sets or unsets the header of a tunnel.
 #[derive(PartialEq, Eq, Clone, Drop, Debug)]
@@ -64,7 +66,7 @@ const TCA_TUNNEL_KEY_ENC_TTL: u16 = 13;
 /// | 10 | `NoCsum` | u8, 0 or not |
 /// | 12, 13 | `EncTos`, `EncTtl` | u8 |
 #[derive(Drop)]
-#[derive_where(Debug, PartialEq, Eq)]
+#[derive_where(Debug)]
 #[derive_where(Clone; A)]
 pub enum TcActionTunnelKeyOption<A: Allocator = Global> {
     /// When it was made and used: `TCA_TUNNEL_KEY_TM` of `linux/tc_act/tc_tunnel_key.h`.
@@ -222,4 +224,18 @@ impl<A: Allocator> Settle for TcActionTunnelKeyOption<A> {
         let (word, value) = self.view();
         value.is_settled_under(is_read(word), kind)
     }
+}
+
+impl<A: Allocator> PartialEq for TcActionTunnelKeyOption<A> {
+    ghost eq = { on tunnel_key_option same_attribute };
+
+    ghost laws = { attribute_per tunnel_key_option };
+
+    fn eq(&self, other: &TcActionTunnelKeyOption<A>) -> bool {
+        same_row(&self.row(), &other.row())
+    }
+}
+
+impl<A: Allocator> Eq for TcActionTunnelKeyOption<A> {
+    ghost laws = { attribute_equiv tunnel_key_option };
 }

@@ -1,9 +1,11 @@
 //! Fair queueing with controlled delay, and its statistics.
 
 ghost use Rattle.std.specs.Prelude.{◌≡◌, ◌≤◌, ◌↔◌, [], IsTrue, length, take, drop};
+ghost use Rattle.std.specs.Ordering.{on};
 ghost use Rattle.nla_frames.specs.Fault.{Gives, seen};
 ghost use Rattle.nla_frames.specs.Value.{IsBytes, le_value};
 ghost use Rattle.tc_meaning.specs.Tree.{Content};
+ghost use Rattle.tc_meaning.specs.Equal.{same_content, content_equiv, content_per};
 ghost use Rattle.tc_actions.specs.FqCodel.{fq_codel_xstats, fq_codel_xstats_codec, IsNoNumber};
 
 use nla_frames::laws::in_hand::bytes_in_hand;
@@ -40,7 +42,7 @@ const XSTATS_NUMBER_LEN: usize = 4;
 /// | 0 | `Qdisc` | [`TcFqCodelQdStats`] |
 /// | 1 | `Class` | [`TcFqCodelClStats`] |
 #[derive(Drop)]
-#[derive_where(Debug, PartialEq, Eq)]
+#[derive_where(Debug)]
 #[derive_where(Clone; A)]
 pub enum TcFqCodelXstats<A: Allocator = Global> {
     /// Of the queueing discipline: `TCA_FQ_CODEL_XSTATS_QDISC`.
@@ -142,4 +144,23 @@ fn is_no_number(bytes: &[u8]) -> bool
 {
     bytes_in_hand(bytes);
     bytes.len() >= XSTATS_NUMBER_LEN && split_number(bytes).0 > TCA_FQ_CODEL_XSTATS_CLASS
+}
+
+impl<A: Allocator> PartialEq for TcFqCodelXstats<A> {
+    ghost eq = { on fq_codel_xstats same_content };
+
+    ghost laws = { content_per fq_codel_xstats };
+
+    fn eq(&self, other: &TcFqCodelXstats<A>) -> bool {
+        match (self, other) {
+            (Self::Qdisc(one), Self::Qdisc(another)) => one == another,
+            (Self::Class(one), Self::Class(another)) => one == another,
+            (Self::Other(one), Self::Other(another)) => one == another,
+            _ => false,
+        }
+    }
+}
+
+impl<A: Allocator> Eq for TcFqCodelXstats<A> {
+    ghost laws = { content_equiv fq_codel_xstats };
 }

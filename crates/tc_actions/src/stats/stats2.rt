@@ -1,12 +1,14 @@
 //! Statistics as attributes, of a queue and of an action.
 
 ghost use Rattle.std.specs.Prelude.{◌≡◌};
+ghost use Rattle.std.specs.Ordering.{on};
 ghost use Rattle.nla_frames.specs.Frame.{type_of};
 ghost use Rattle.tc_canon.specs.Descriptor.{table};
 ghost use Rattle.tc_canon.specs.Tables.Statistics.{stats2};
 ghost use Rattle.tc_meaning.specs.Tree.{Attribute};
 ghost use Rattle.tc_meaning.specs.Meaning.{table_codec};
 ghost use Rattle.tc_meaning.specs.Short.{table_short};
+ghost use Rattle.tc_meaning.specs.Equal.{same_attribute, attribute_equiv, attribute_per};
 ghost use Rattle.tc_values.specs.Row.{attribute_of, IsRow, ShownAs, reads_at};
 ghost use Rattle.tc_actions.specs.Stats2.{tc_stats2, stats2_body};
 
@@ -17,7 +19,7 @@ use nla_frames::{
 };
 use std::alloc::{Allocator, Global};
 use tc_records::{TcStatsBasic, TcStatsQueue};
-use tc_values::{Either, Record, Value};
+use tc_values::{Either, Record, Value, same_row};
 
 // The types of statistics, `linux/gen_stats.h`.
 const TCA_STATS_BASIC: u16 = 1;
@@ -37,7 +39,7 @@ const TCA_STATS_BASIC_HW: u16 = 7;
 /// | 4 | `App` | [`TcXstats`], by the kind in force |
 /// | 7 | `BasicHw` | [`TcStatsBasic`] |
 #[derive(Drop)]
-#[derive_where(Debug, PartialEq, Eq)]
+#[derive_where(Debug)]
 #[derive_where(Clone; A)]
 pub enum TcStats2<A: Allocator = Global> {
     /// The kind's own: `TCA_STATS_APP` of `linux/gen_stats.h`.
@@ -141,4 +143,18 @@ impl<A: Allocator> Settle for TcStats2<A> {
         let (word, value) = self.view();
         value.is_settled_under(is_read(word), kind)
     }
+}
+
+impl<A: Allocator> PartialEq for TcStats2<A> {
+    ghost eq = { on tc_stats2 same_attribute };
+
+    ghost laws = { attribute_per tc_stats2 };
+
+    fn eq(&self, other: &TcStats2<A>) -> bool {
+        same_row(&self.row(), &other.row())
+    }
+}
+
+impl<A: Allocator> Eq for TcStats2<A> {
+    ghost laws = { attribute_equiv tc_stats2 };
 }

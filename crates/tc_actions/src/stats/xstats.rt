@@ -1,10 +1,12 @@
 //! Statistics of a queueing discipline's own.
 
 ghost use Rattle.std.specs.Prelude.{◌≡◌, true};
+ghost use Rattle.std.specs.Ordering.{on};
 ghost use Rattle.nla_frames.specs.Fault.{Gives, seen};
 ghost use Rattle.nla_frames.specs.Buffer.{frame_of};
 ghost use Rattle.tc_meaning.specs.Tree.{Content};
 ghost use Rattle.tc_meaning.specs.Content.{xstats_codec};
+ghost use Rattle.tc_meaning.specs.Equal.{same_content, content_equiv, content_per};
 ghost use Rattle.tc_actions.specs.Xstats.{tc_xstats};
 
 use crate::qdiscs::fq_codel::{TcFqCodelXstats, TcQdiscFqCodel};
@@ -14,7 +16,7 @@ use std::alloc::{Allocator, Global};
 
 /// Statistics of a queueing discipline's own, in the form of the kind in force.
 #[derive(Drop)]
-#[derive_where(Debug, PartialEq, Eq)]
+#[derive_where(Debug)]
 #[derive_where(Clone; A)]
 pub enum TcXstats<A: Allocator = Global> {
     /// Under the kind `fq_codel`.
@@ -71,4 +73,22 @@ impl<A: Allocator> SettleBytes for TcXstats<A> {
             }
         }
     }
+}
+
+impl<A: Allocator> PartialEq for TcXstats<A> {
+    ghost eq = { on tc_xstats same_content };
+
+    ghost laws = { content_per tc_xstats };
+
+    fn eq(&self, other: &TcXstats<A>) -> bool {
+        match (self, other) {
+            (Self::FqCodel(one), Self::FqCodel(another)) => one == another,
+            (Self::Other(one), Self::Other(another)) => one == another,
+            _ => false,
+        }
+    }
+}
+
+impl<A: Allocator> Eq for TcXstats<A> {
+    ghost laws = { content_equiv tc_xstats };
 }
