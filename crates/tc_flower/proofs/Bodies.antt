@@ -1,9 +1,17 @@
 -- What the options nest is what their classes have it to be.
+use Rattle.std.proofs.Common.{Bool}
+use Rattle.std.specs.Ordering.{on}
+use Rattle.std.specs.Cmp.Lexicographic.{pointwise}
 use Rattle.tc_canon.specs.Descriptor.{table}
 use Rattle.tc_canon.specs.Tables.Flower.{lse_options, mpls_options}
 use Rattle.tc_values.specs.Inner.{IsInner}
-use Rattle.tc_values.specs.Bodies.{items_of}
+use Rattle.tc_meaning.specs.Tree.{Attribute}
+use Rattle.tc_meaning.specs.Equal.{same_attribute}
+use Rattle.tc_values.specs.Bodies.{items_of, same_of_either}
+use Rattle.tc_values.specs.Same.{IsSame}
+use Rattle.tc_values.specs.declared.body.Items.{Items}
 use Rattle.tc_values.proofs.Bodies.{are_items, is_either}
+use Rattle.tc_values.proofs.SameRows.{same_list, same_items, same_either}
 use Rattle.tc_actions.specs.Action.{tc_action, an_action}
 use Rattle.tc_flower.specs.Mpls.{lse_option, mpls_option, lse_lists}
 use Rattle.tc_flower.specs.Flower.{flower_lists}
@@ -13,3 +21,11 @@ are_lse_lists = are_items lse_option (table lse_options)
 
 pub are_flower_lists : {A : Type 0} → IsInner (flower_lists {A = A})
 are_flower_lists = is_either (items_of tc_action an_action) (items_of mpls_option (table mpls_options)) (are_items tc_action an_action) (are_items mpls_option (table mpls_options))
+
+-- ---- and lists are compared as contracts see them
+
+pub same_lse_lists : {A : Type 0} → IsSame (lse_lists {A = A}) (same_list lse_option)
+same_lse_lists = same_items lse_option (table lse_options)
+
+pub same_flower_lists : {A : Type 0} → IsSame (flower_lists {A = A}) (same_of_either (same_list tc_action) (same_list mpls_option))
+same_flower_lists = same_either (λ l r e. absurd (cc e)) (same_items tc_action an_action) (same_items mpls_option (table mpls_options))

@@ -2,6 +2,7 @@
 #![tactic(auto)]
 
 pub mod filters;
+pub mod laws;
 
 pub use filters::flower::mpls::{TcFilterFlowerMplsLseOption, TcFilterFlowerMplsOption};
 pub use filters::flower::options::{TcFilterFlower, TcFilterFlowerOption};

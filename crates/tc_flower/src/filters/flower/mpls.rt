@@ -1,12 +1,14 @@
 //! What flower matches of a packet's MPLS label stack, entry by entry.
 
 ghost use Rattle.std.specs.Prelude.{◌≡◌, List};
+ghost use Rattle.std.specs.Ordering.{on};
 ghost use Rattle.nla_frames.specs.Frame.{type_of};
 ghost use Rattle.tc_canon.specs.Descriptor.{table};
 ghost use Rattle.tc_canon.specs.Tables.Flower.{lse_options, mpls_options};
 ghost use Rattle.tc_meaning.specs.Tree.{Attribute};
 ghost use Rattle.tc_meaning.specs.Meaning.{table_codec};
 ghost use Rattle.tc_meaning.specs.Short.{table_short};
+ghost use Rattle.tc_meaning.specs.Equal.{same_attribute, attribute_equiv, attribute_per};
 ghost use Rattle.tc_values.specs.Bodies.{nothing};
 ghost use Rattle.tc_values.specs.Row.{attribute_of, IsRow, ShownAs, reads_at};
 ghost use Rattle.tc_flower.specs.Mpls.{lse_option, mpls_option, lse_lists};
@@ -16,7 +18,7 @@ use nla_frames::{
     parse_list, parse_u8, parse_u32,
 };
 use std::alloc::{Allocator, Global};
-use tc_values::{Items, Value};
+use tc_values::{Items, Value, same_row};
 
 // The types of what a label stack entry is matched by, `linux/pkt_cls.h`.
 const TCA_FLOWER_KEY_MPLS_OPT_LSE_DEPTH: u16 = 1;
@@ -36,7 +38,7 @@ const TCA_FLOWER_KEY_MPLS_OPT_LSE_LABEL: u16 = 5;
 /// | 1 to 4 | `LseDepth`, `LseTtl`, `LseBos`, `LseTc` | u8 |
 /// | 5 | `LseLabel` | u32, little-endian, of which the lowest 20 bits are written |
 #[derive(Drop)]
-#[derive_where(Debug, PartialEq, Eq)]
+#[derive_where(Debug)]
 #[derive_where(Clone; A)]
 pub enum TcFilterFlowerMplsLseOption<A: Allocator = Global> {
     /// Which entry of the stack it is, 1 for the outermost: `TCA_FLOWER_KEY_MPLS_OPT_LSE_DEPTH` of `linux/pkt_cls.h`.
@@ -131,6 +133,20 @@ impl<A: Allocator> Settle for TcFilterFlowerMplsLseOption<A> {
     }
 }
 
+impl<A: Allocator> PartialEq for TcFilterFlowerMplsLseOption<A> {
+    ghost eq = { on lse_option same_attribute };
+
+    ghost laws = { attribute_per lse_option };
+
+    fn eq(&self, other: &TcFilterFlowerMplsLseOption<A>) -> bool {
+        same_row(&self.row(), &other.row())
+    }
+}
+
+impl<A: Allocator> Eq for TcFilterFlowerMplsLseOption<A> {
+    ghost laws = { attribute_equiv lse_option };
+}
+
 // The type of a label stack entry, `linux/pkt_cls.h`.
 const TCA_FLOWER_KEY_MPLS_OPTS_LSE: u16 = 1;
 
@@ -140,7 +156,7 @@ const TCA_FLOWER_KEY_MPLS_OPTS_LSE: u16 = 1;
 /// |---|---|---|
 /// | 1, with the nested flag when written | `Lse` | list of [`TcFilterFlowerMplsLseOption`] |
 #[derive(Drop)]
-#[derive_where(Debug, PartialEq, Eq)]
+#[derive_where(Debug)]
 #[derive_where(Clone; A)]
 pub enum TcFilterFlowerMplsOption<A: Allocator = Global> {
     /// A label stack entry, nested: `TCA_FLOWER_KEY_MPLS_OPTS_LSE` of `linux/pkt_cls.h`.
@@ -218,4 +234,18 @@ impl<A: Allocator> Settle for TcFilterFlowerMplsOption<A> {
         let (word, value) = self.view();
         value.is_settled_under(is_mpls_read(word), kind)
     }
+}
+
+impl<A: Allocator> PartialEq for TcFilterFlowerMplsOption<A> {
+    ghost eq = { on mpls_option same_attribute };
+
+    ghost laws = { attribute_per mpls_option };
+
+    fn eq(&self, other: &TcFilterFlowerMplsOption<A>) -> bool {
+        same_row(&self.row(), &other.row())
+    }
+}
+
+impl<A: Allocator> Eq for TcFilterFlowerMplsOption<A> {
+    ghost laws = { attribute_equiv mpls_option };
 }

@@ -1,6 +1,7 @@
 //! The options of flower: which packets it matches, and what it does with them.
 
 ghost use Rattle.std.specs.Prelude.{◌≡◌, ◌||◌, List};
+ghost use Rattle.std.specs.Ordering.{on};
 ghost use Rattle.nla_frames.specs.Fault.{Gives, seen};
 ghost use Rattle.nla_frames.specs.Buffer.{frame_of};
 ghost use Rattle.nla_frames.specs.Frame.{type_of};
@@ -10,6 +11,7 @@ ghost use Rattle.tc_canon.specs.Tables.Flower.{flower_options};
 ghost use Rattle.tc_meaning.specs.Tree.{Attribute};
 ghost use Rattle.tc_meaning.specs.Meaning.{table_codec};
 ghost use Rattle.tc_meaning.specs.Short.{table_short};
+ghost use Rattle.tc_meaning.specs.Equal.{same_attribute, attribute_equiv, attribute_per};
 ghost use Rattle.tc_values.specs.Row.{attribute_of, IsRow, ShownAs, reads_at};
 ghost use Rattle.tc_flower.specs.Thirds.{first_rows, middle_rows, last_rows, read_by};
 ghost use Rattle.tc_flower.specs.Flower.{flower_option, flower_lists, IsCopy};
@@ -23,7 +25,7 @@ use nla_frames::{
 use std::alloc::{AllocError, Allocator, Global};
 use std::net::{Ipv4Addr, Ipv6Addr};
 use tc_actions::TcAction;
-use tc_values::{Either, Items, Value};
+use tc_values::{Either, Items, Value, same_row};
 
 /// The filter `flower`.
 #[derive(PartialEq, Eq, Clone, Drop, Debug)]
@@ -280,7 +282,7 @@ const TCA_FLOWER_KEY_HASH_MASK: u16 = 101;
 /// | 99, with the nested flag when written | `MplsOpts` | list of [`TcFilterFlowerMplsOption`] |
 /// | 100, 101 | `KeyHash`, `KeyHashMask` | u32 |
 #[derive(Drop)]
-#[derive_where(Debug, PartialEq, Eq)]
+#[derive_where(Debug)]
 pub enum TcFilterFlowerOption<A: Allocator = Global> {
     /// The class that packets go to, little-endian; written and never read, as its type is kept as [`Self::Other`]: `TCA_FLOWER_CLASSID` of `linux/pkt_cls.h`.
     ClassId(u32),
@@ -835,6 +837,20 @@ impl<A: Allocator> Settle for TcFilterFlowerOption<A> {
         let (word, value) = self.view();
         value.is_settled_under(is_read(word), kind)
     }
+}
+
+impl<A: Allocator> PartialEq for TcFilterFlowerOption<A> {
+    ghost eq = { on flower_option same_attribute };
+
+    ghost laws = { attribute_per flower_option };
+
+    fn eq(&self, other: &TcFilterFlowerOption<A>) -> bool {
+        same_row(&self.row(), &other.row())
+    }
+}
+
+impl<A: Allocator> Eq for TcFilterFlowerOption<A> {
+    ghost laws = { attribute_equiv flower_option };
 }
 
 impl<A: Allocator + Clone> Clone for TcFilterFlowerOption<A> {
