@@ -1,38 +1,60 @@
 //! A message's options, by its kind.
 
-ghost use Rattle.std.specs.Prelude.{◌≡◌, ◌↔◌, List, IsTrue, map};
-ghost use Rattle.nla_frames.specs.Fault.{Gives, seen};
+ghost use Rattle.std.specs.Prelude.{◌≡◌, ◌↔◌, List, IsTrue, IfOk};
+ghost use Rattle.std.specs.Ordering.{on};
+ghost use Rattle.nla_frames.specs.Fault.{Gives, IfRefused, seen};
 ghost use Rattle.nla_frames.specs.Buffer.{frame_of};
 ghost use Rattle.tc_canon.specs.Descriptor.{by_kind, is_known};
-ghost use Rattle.tc_options.specs.Stage.{option_kinds};
+ghost use Rattle.tc_canon.specs.Tables.Options.{option_kinds};
 ghost use Rattle.tc_meaning.specs.Tree.{Attribute};
 ghost use Rattle.tc_meaning.specs.Meaning.{table_codec};
 ghost use Rattle.tc_meaning.specs.Short.{table_short};
-ghost use Rattle.tc_options.specs.Options.{tc_option, read_options};
+ghost use Rattle.tc_meaning.specs.Equal.{same_attribute, attribute_equiv, attribute_per};
+ghost use Rattle.tc_options.specs.Options.{tc_option, listed, read_options, ReadsOptions, OptionsFault};
 
+use crate::filters::bpf::{TcFilterBpf, TcFilterBpfOption};
+use crate::filters::cls_u32::{TcFilterU32, TcFilterU32Option};
+use crate::filters::matchall::{TcFilterMatchAll, TcFilterMatchAllOption};
 use crate::qdiscs::fq_codel::{TcQdiscFqCodel, TcQdiscFqCodelOption};
+use crate::qdiscs::ingress::{TcQdiscIngress, TcQdiscIngressOption};
 use nla_frames::{
     DefaultNla, FrameMeaning, Nla, NlaBuffer, Parseable, ParseableParametrized, Res, Settle,
     parse_list_with,
 };
 use std::alloc::{Allocator, Global};
+use tc_flower::{TcFilterFlower, TcFilterFlowerOption};
 
 /// One option of a message, in the variant of the message's kind.
 #[derive(Drop)]
-#[derive_where(Debug, PartialEq, Eq)]
+#[derive_where(Debug)]
 #[derive_where(Clone; A)]
 pub enum TcOption<A: Allocator = Global> {
     /// Under the kind `fq_codel`.
     FqCodel(TcQdiscFqCodelOption<A>),
+    /// Under the kind `ingress`.
+    Ingress(TcQdiscIngressOption<A>),
+    /// Under the kind `flower`.
+    Flower(TcFilterFlowerOption<A>),
+    /// Under the kind `u32`.
+    U32(TcFilterU32Option<A>),
+    /// Under the kind `matchall`.
+    MatchAll(TcFilterMatchAllOption<A>),
+    /// Under the kind `bpf`.
+    Bpf(TcFilterBpfOption<A>),
     /// Under any other kind.
     Other(DefaultNla<A>),
 }
 
-/// Whether the options of this kind are known.
+/// True if the options of this kind are known.
 pub fn is_known_kind(kind: &str) -> bool
     ensures { result ≡ is_known option_kinds kind.now }
 {
     kind == TcQdiscFqCodel::KIND
+        || kind == TcQdiscIngress::KIND
+        || kind == TcFilterFlower::KIND
+        || kind == TcFilterU32::KIND
+        || kind == TcFilterMatchAll::KIND
+        || kind == TcFilterBpf::KIND
 }
 
 impl<A: Allocator> FrameMeaning for TcOption<A> {
@@ -43,10 +65,25 @@ impl<A: Allocator> FrameMeaning for TcOption<A> {
     ghost codec = { table_codec (by_kind option_kinds) };
 }
 
-impl<A: Allocator> ParseableParametrized<A> for TcOption<A> {
+impl<A: Allocator + Copy> ParseableParametrized<A> for TcOption<A> {
     fn parse_with_param(alloc: A, buf: &NlaBuffer<'_>, kind: &str) -> Res<TcOption<A>> {
         if kind == TcQdiscFqCodel::KIND {
             return Ok(TcOption::FqCodel(TcQdiscFqCodelOption::parse(alloc, buf)?));
+        }
+        if kind == TcQdiscIngress::KIND {
+            return Ok(TcOption::Ingress(TcQdiscIngressOption::parse(alloc, buf)?));
+        }
+        if kind == TcFilterFlower::KIND {
+            return Ok(TcOption::Flower(TcFilterFlowerOption::parse(alloc, buf)?));
+        }
+        if kind == TcFilterU32::KIND {
+            return Ok(TcOption::U32(TcFilterU32Option::parse(alloc, buf)?));
+        }
+        if kind == TcFilterMatchAll::KIND {
+            return Ok(TcOption::MatchAll(TcFilterMatchAllOption::parse(alloc, buf)?));
+        }
+        if kind == TcFilterBpf::KIND {
+            return Ok(TcOption::Bpf(TcFilterBpfOption::parse(alloc, buf)?));
         }
         Ok(TcOption::Other(DefaultNla::parse(alloc, buf)?))
     }
@@ -56,6 +93,11 @@ impl<A: Allocator> Nla for TcOption<A> {
     fn kind(&self) -> u16 {
         match self {
             TcOption::FqCodel(option) => option.kind(),
+            TcOption::Ingress(option) => option.kind(),
+            TcOption::Flower(option) => option.kind(),
+            TcOption::U32(option) => option.kind(),
+            TcOption::MatchAll(option) => option.kind(),
+            TcOption::Bpf(option) => option.kind(),
             TcOption::Other(nla) => nla.kind(),
         }
     }
@@ -63,6 +105,11 @@ impl<A: Allocator> Nla for TcOption<A> {
     fn checked_len(&self) -> Option<usize> {
         match self {
             TcOption::FqCodel(option) => option.checked_len(),
+            TcOption::Ingress(option) => option.checked_len(),
+            TcOption::Flower(option) => option.checked_len(),
+            TcOption::U32(option) => option.checked_len(),
+            TcOption::MatchAll(option) => option.checked_len(),
+            TcOption::Bpf(option) => option.checked_len(),
             TcOption::Other(nla) => nla.checked_len(),
         }
     }
@@ -70,6 +117,11 @@ impl<A: Allocator> Nla for TcOption<A> {
     fn put_value(&self, buffer: &mut [u8]) -> usize {
         match self {
             TcOption::FqCodel(option) => option.put_value(buffer),
+            TcOption::Ingress(option) => option.put_value(buffer),
+            TcOption::Flower(option) => option.put_value(buffer),
+            TcOption::U32(option) => option.put_value(buffer),
+            TcOption::MatchAll(option) => option.put_value(buffer),
+            TcOption::Bpf(option) => option.put_value(buffer),
             TcOption::Other(nla) => nla.put_value(buffer),
         }
     }
@@ -83,9 +135,43 @@ impl<A: Allocator> Settle for TcOption<A> {
             TcOption::FqCodel(option) => {
                 option.is_settled_under(kind) && kind == TcQdiscFqCodel::KIND
             }
+            TcOption::Ingress(option) => {
+                option.is_settled_under(kind) && kind == TcQdiscIngress::KIND
+            }
+            TcOption::Flower(option) => {
+                option.is_settled_under(kind) && kind == TcFilterFlower::KIND
+            }
+            TcOption::U32(option) => option.is_settled_under(kind) && kind == TcFilterU32::KIND,
+            TcOption::MatchAll(option) => {
+                option.is_settled_under(kind) && kind == TcFilterMatchAll::KIND
+            }
+            TcOption::Bpf(option) => option.is_settled_under(kind) && kind == TcFilterBpf::KIND,
             TcOption::Other(nla) => nla.is_settled_under(kind) && !is_known_kind(kind),
         }
     }
+}
+
+impl<A: Allocator> PartialEq for TcOption<A> {
+    ghost eq = { on tc_option same_attribute };
+
+    ghost laws = { attribute_per tc_option };
+
+    fn eq(&self, other: &TcOption<A>) -> bool {
+        match (self, other) {
+            (Self::FqCodel(one), Self::FqCodel(another)) => one == another,
+            (Self::Ingress(one), Self::Ingress(another)) => one == another,
+            (Self::Flower(one), Self::Flower(another)) => one == another,
+            (Self::U32(one), Self::U32(another)) => one == another,
+            (Self::MatchAll(one), Self::MatchAll(another)) => one == another,
+            (Self::Bpf(one), Self::Bpf(another)) => one == another,
+            (Self::Other(one), Self::Other(another)) => one == another,
+            _ => false,
+        }
+    }
+}
+
+impl<A: Allocator> Eq for TcOption<A> {
+    ghost laws = { attribute_equiv tc_option };
 }
 
 /// The options of a message, read of one frame: a list under a known kind; under any other the frame itself as one
@@ -96,7 +182,11 @@ pub struct VecTcOption<A: Allocator = Global>(pub Vec<TcOption<A>, A>);
 impl<A: Allocator + Copy> VecTcOption<A> {
     /// The options of a frame under a kind, or their first fault.
     pub fn parse_with_param(alloc: A, buf: &NlaBuffer<'_>, kind: &str) -> Res<VecTcOption<A>>
-        ensures { Gives (seen (λ options. map tc_option options.0.items) result) (read_options kind.now (frame_of buf.now)) }
+        ensures found { IfOk result (λ options. ReadsOptions kind.now (frame_of buf.now) (listed options)) }
+        // What is refused has this fault, and it is the first.
+        ensures refused { IfRefused result (OptionsFault kind.now (frame_of buf.now)) }
+        // What is found and what is refused, by the function that computes both.
+        ensures exact { Gives (seen listed result) (read_options kind.now (frame_of buf.now)) }
     {
         if is_known_kind(kind) {
             return Ok(VecTcOption(parse_list_with(alloc, buf.value(), kind)?));

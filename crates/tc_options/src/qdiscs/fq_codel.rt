@@ -1,12 +1,14 @@
 //! Fair queueing with controlled delay.
 
 ghost use Rattle.std.specs.Prelude.{◌≡◌, List};
+ghost use Rattle.std.specs.Ordering.{on};
 ghost use Rattle.nla_frames.specs.Frame.{type_of};
 ghost use Rattle.tc_canon.specs.Descriptor.{table};
 ghost use Rattle.tc_canon.specs.Tables.Options.{fq_codel_options};
 ghost use Rattle.tc_meaning.specs.Tree.{Attribute};
 ghost use Rattle.tc_meaning.specs.Meaning.{table_codec};
 ghost use Rattle.tc_meaning.specs.Short.{table_short};
+ghost use Rattle.tc_meaning.specs.Equal.{same_attribute, attribute_equiv, attribute_per};
 ghost use Rattle.tc_values.specs.Bodies.{nothing};
 ghost use Rattle.tc_values.specs.Row.{attribute_of, IsRow, ShownAs, reads_at};
 ghost use Rattle.tc_options.specs.FqCodel.{fq_codel_option};
@@ -17,7 +19,7 @@ use nla_frames::{
 };
 use std::alloc::{Allocator, Global};
 pub use tc_actions::TcQdiscFqCodel;
-use tc_values::Value;
+use tc_values::{Value, same_row};
 
 // The types of its options, `linux/pkt_sched.h`.
 const TCA_FQ_CODEL_TARGET: u16 = 1;
@@ -49,7 +51,7 @@ const TCA_FQ_CODEL_CE_THRESHOLD_MASK: u16 = 11;
 /// | 1 to 9 | `Target`, `Limit`, `Interval`, `Ecn`, `Flows`, `Quantum`, `CeThreshold`, `DropBatchSize`, `MemoryLimit` | u32 |
 /// | 10, 11 | `CeThresholdSelector`, `CeThresholdMask` | u8 |
 #[derive(Drop)]
-#[derive_where(Debug, PartialEq, Eq)]
+#[derive_where(Debug)]
 #[derive_where(Clone; A)]
 pub enum TcQdiscFqCodelOption<A: Allocator = Global> {
     /// The delay to aim at, in microseconds: `TCA_FQ_CODEL_TARGET` of `linux/pkt_sched.h`.
@@ -177,4 +179,18 @@ impl<A: Allocator> Settle for TcQdiscFqCodelOption<A> {
         let (word, value) = self.view();
         value.is_settled_under(is_read(word), kind)
     }
+}
+
+impl<A: Allocator> PartialEq for TcQdiscFqCodelOption<A> {
+    ghost eq = { on fq_codel_option same_attribute };
+
+    ghost laws = { attribute_per fq_codel_option };
+
+    fn eq(&self, other: &TcQdiscFqCodelOption<A>) -> bool {
+        same_row(&self.row(), &other.row())
+    }
+}
+
+impl<A: Allocator> Eq for TcQdiscFqCodelOption<A> {
+    ghost laws = { attribute_equiv fq_codel_option };
 }

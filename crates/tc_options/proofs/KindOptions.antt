@@ -1,0 +1,45 @@
+-- An option under a known kind is what the kind's rows read.
+use Rattle.std.proofs.Common.{◌≡◌, ℕ, Bool, true, false, List, [], cond, refl, ap, ◌∙◌}
+use Rattle.std.specs.Prelude.{codes}
+use Rattle.std.specs.Str.{bytes_eq}
+use Rattle.nla_frames.specs.declared.error.DecodeError.{DecodeError}
+use Rattle.nla_frames.specs.Fault.{Gives, seen, read_as, refused}
+use Rattle.nla_frames.specs.Frame.{Frame, type_of}
+use Rattle.nla_frames.proofs.Outcomes.{Gives-err}
+use Rattle.tc_canon.specs.Descriptor.{Rows, table, Kinds, unknown, kind, is_known}
+use Rattle.tc_canon.specs.Tables.Options.{option_kinds}
+use Rattle.tc_meaning.specs.Tree.{Attribute, other, of_kind}
+use Rattle.tc_meaning.specs.Meaning.{table_codec, kinds_codec}
+use Rattle.tc_meaning.proofs.KindLaws.{bytes_eq-is}
+use Rattle.tc_options.specs.Options.{read_option}
+use Rattle.tc_options.proofs.AnyKind.{are_kindless, rows_same}
+
+module _ (name : List ℕ) (rows : Rows) (named : (f : Frame) → read_option name f ≡ seen (of_kind name) ((table_codec (table rows)).read name f))
+    (free : are_kindless rows ≡ true) (k : List ℕ) (f : Frame) (is : bytes_eq k name ≡ true) where
+  by_rows : read_option k f ≡ seen (of_kind name) ((table_codec (table rows)).read [] f)
+  by_rows = ap (λ j. read_option j f) (bytes_eq-is k name is) ∙ (named f ∙ ap (seen (of_kind name)) (rows_same rows free (type_of f.word) name [] f))
+
+  pub option_read : (x : Attribute) → (table_codec (table rows)).read [] f ≡ read_as x → read_option k f ≡ read_as (of_kind name x)
+  option_read x reads = by_rows ∙ ap (seen (of_kind name)) reads
+
+  pub option_refused : (e : DecodeError) → Gives (refused e) ((table_codec (table rows)).read [] f) → Gives (refused e) (read_option k f)
+  option_refused e given = Gives-err e _ _ given (λ refuses. by_rows ∙ ap (seen (of_kind name)) refuses)
+
+-- no table has the kind
+kinds_kept : (kinds : Kinds) (k : List ℕ) (f : Frame) → is_known kinds k ≡ false → (kinds_codec kinds).read k f ≡ read_as (other f.word f.value)
+kinds_kept unknown k f is = refl
+kinds_kept (kind name rows kinds) k f is = go (bytes_eq k name) is (kinds_kept kinds k f)
+  where
+    go : (b : Bool) → cond b true (is_known kinds k) ≡ false → (is_known kinds k ≡ false → (kinds_codec kinds).read k f ≡ read_as (other f.word f.value))
+        → cond b (seen (of_kind name) ((table_codec (table rows)).read k f)) ((kinds_codec kinds).read k f) ≡ read_as (other f.word f.value)
+    go true e rest = absurd (cc e)
+    go false e rest = rest e
+
+-- an option under it is kept as it stands
+pub option_kept : (k : List ℕ) (f kept : Frame) → is_known option_kinds k ≡ false → read_as f ≡ read_as kept
+    → read_option k f ≡ read_as (other kept.word kept.value)
+option_kept k f kept told same = kinds_kept option_kinds k f told ∙ ap (seen (λ (g : Frame). other g.word g.value)) same
+
+pub not_known : (k : List ℕ) → bytes_eq k (codes "fq_codel") ≡ false → bytes_eq k (codes "ingress") ≡ false → bytes_eq k (codes "flower") ≡ false
+    → bytes_eq k (codes "u32") ≡ false → bytes_eq k (codes "matchall") ≡ false → bytes_eq k (codes "bpf") ≡ false → is_known option_kinds k ≡ false
+not_known k fq_codel ingress flower u32 matchall bpf = rw (fq_codel, ingress, flower, u32, matchall, bpf) refl

@@ -1,0 +1,5 @@
+//! Filters.
+
+pub mod bpf;
+pub mod cls_u32;
+pub mod matchall;
