@@ -1,0 +1,98 @@
+-- The most NULs that end one of some parts, and lists of which each element so far is trimmed.
+use Rattle.std.proofs.Common.{◌≡◌, ◌⊎◌, ℕ, suc, ◌+◌, ◌<◌, ◌≤◌, List, [], ◌∷◌, ◌++◌, length, map, set, get_or, refl, sym, subst, ap, ap₂, ◌∙◌, arith, inl, inr}
+use Rattle.std.specs.List.{flat_map}
+use Rattle.std.proofs.lemmas.Bool.{cases_lt, lt-ltb, le-ltb}
+use Rattle.tc_laws.specs.Loose.{Part, part_nuls, greater}
+use Rattle.tc_action_messages.specs.ActionMessageAttribute.{most_nuls}
+
+-- ---- the greater of two numbers
+
+pub greater-less : (m n : ℕ) → m < n → greater m n ≡ n
+greater-less m n less = rw (lt-ltb m n less) refl
+
+pub greater-more : (m n : ℕ) → n ≤ m → greater m n ≡ m
+greater-more m n more = rw (le-ltb m n more) refl
+
+greater-cases : (m n : ℕ) → ((m < n) × (greater m n ≡ n)) ⊎ ((n ≤ m) × (greater m n ≡ m))
+greater-cases m n = go (cases_lt m n)
+  where
+    go : (m < n) ⊎ (n ≤ m) → ((m < n) × (greater m n ≡ n)) ⊎ ((n ≤ m) × (greater m n ≡ m))
+    go (inl less) = inl (less, greater-less m n less)
+    go (inr more) = inr (more, greater-more m n more)
+
+greater-nothing : (n : ℕ) → greater 0 n ≡ n
+greater-nothing n = go (greater-cases 0 n)
+  where
+    go : ((0 < n) × (greater 0 n ≡ n)) ⊎ ((n ≤ 0) × (greater 0 n ≡ 0)) → greater 0 n ≡ n
+    go (inl a) = a.1
+    go (inr a) = omega (arith, a.0, a.1)
+
+nothing-greater : (n : ℕ) → greater n 0 ≡ n
+nothing-greater n = go (greater-cases n 0)
+  where
+    go : ((n < 0) × (greater n 0 ≡ 0)) ⊎ ((0 ≤ n) × (greater n 0 ≡ n)) → greater n 0 ≡ n
+    go (inl a) = absurd (omega (arith, a.0))
+    go (inr a) = a.1
+
+-- of three
+greater-again : (k m n : ℕ) → greater k (greater m n) ≡ greater (greater k m) n
+greater-again k m n = go (greater-cases m n) (greater-cases k m)
+  where
+    go : ((m < n) × (greater m n ≡ n)) ⊎ ((n ≤ m) × (greater m n ≡ m)) → ((k < m) × (greater k m ≡ m)) ⊎ ((m ≤ k) × (greater k m ≡ k))
+        → greater k (greater m n) ≡ greater (greater k m) n
+    go (inl a) (inl b) = rw (a.1, b.1, a.1) (rw (lt-ltb k n (omega (arith, a.0, b.0))) refl)
+    go (inl a) (inr b) = rw (a.1, b.1) refl
+    go (inr a) (inl b) = rw (a.1, b.1, a.1) refl
+    go (inr a) (inr b) = rw (a.1, b.1) (rw (le-ltb k n (omega (arith, a.0, b.0))) refl)
+
+-- of two lists of parts
+most-append : (ps qs : List Part) → most_nuls (ps ++ qs) ≡ greater (most_nuls ps) (most_nuls qs)
+most-append [] qs = sym (greater-nothing (most_nuls qs))
+most-append (p ∷ ps) qs = ap (greater (part_nuls p)) (most-append ps qs) ∙ greater-again (part_nuls p) (most_nuls ps) (most_nuls qs)
+
+-- ---- a list whose elements are trimmed in turn
+
+module _ {Y X : Type 0} (see : Y → X) (change : X → X) (parts : X → List Part) where
+  -- the first so many elements are trimmed, the others as they were, and so many NULs at most ended one of the former
+  pub data TrimmedTo : ℕ → List Y → List Y → ℕ → Type 0 where
+    none_yet : (ys : List Y) → TrimmedTo 0 ys ys 0
+    one_more : (i : ℕ) (old now : List Y) (most : ℕ) (y z : Y) → see z ≡ change (see y) → TrimmedTo i old now most
+        → TrimmedTo (suc i) (y ∷ old) (z ∷ now) (greater (most_nuls (parts (see y))) most)
+
+  -- before the first
+  pub trim_start : (ys : List Y) → TrimmedTo 0 ys ys 0
+  trim_start = none_yet
+
+  next_of : (i : ℕ) (old now : List Y) (most : ℕ) → TrimmedTo i old now most → (y z : Y) → i < length now → y ≡ get_or now i y → see z ≡ change (see y)
+      → TrimmedTo (suc i) old (set now i z) (greater most (most_nuls (parts (see y))))
+  next_of i old now most (none_yet ys) y z below is trimmed = first ys below is
+    where
+      first : (ys : List Y) → 0 < length ys → y ≡ get_or ys 0 y → TrimmedTo 1 ys (set ys 0 z) (greater 0 (most_nuls (parts (see y))))
+      first [] less same = absurd (omega (arith, less))
+      first (x ∷ xs) less same =
+          let here = one_more 0 xs xs 0 x z (trimmed ∙ ap (λ (u : Y). change (see u)) same) (none_yet xs) in
+          subst (TrimmedTo 1 (x ∷ xs) (z ∷ xs)) (nothing-greater _ ∙ ap (λ (u : Y). most_nuls (parts (see u))) (sym same) ∙ sym (greater-nothing _)) here
+  next_of i old now most (one_more j before after some u v changed rest) y z below is trimmed =
+      let more = next_of j before after some rest y z (omega (arith, below)) is trimmed in
+      subst (TrimmedTo (suc (suc j)) (u ∷ before) (v ∷ set after j z)) (greater-again (most_nuls (parts (see u))) some (most_nuls (parts (see y))))
+      (one_more (suc j) before (set after j z) _ u v changed more)
+
+  -- the next element trimmed
+  pub trim_next : (i : ℕ) (old now : List Y) (most : ℕ) → TrimmedTo i old now most → (y z : Y) → i < length now → y ≡ get_or now i y → see z ≡ change (see y)
+      → TrimmedTo (i + 1) old (set now i z) (greater most (most_nuls (parts (see y))))
+  trim_next i old now most to y z below is trimmed =
+      subst (λ (n : ℕ). TrimmedTo n old (set now i z) (greater most (most_nuls (parts (see y))))) (omega arith) (next_of i old now most to y z below is trimmed)
+
+  -- after the last
+  pub all_trimmed : (i : ℕ) (old now : List Y) (most : ℕ) → TrimmedTo i old now most → length now ≤ i
+      → (map see now ≡ map change (map see old)) × (most ≡ most_nuls (flat_map parts (map see old)))
+  all_trimmed i old now most (none_yet ys) past = ended ys past
+    where
+      ended : (ys : List Y) → length ys ≤ 0 → (map see ys ≡ map change (map see ys)) × (0 ≡ most_nuls (flat_map parts (map see ys)))
+      ended [] less = (refl, refl)
+      ended (y ∷ ys) less = absurd (omega (arith, less))
+  all_trimmed i old now most (one_more j before after some u v changed rest) past =
+      let others = all_trimmed j before after some rest (omega (arith, past)) in (
+        ap₂ (λ (x : X) (xs : List X). x ∷ xs) changed others.0,
+        ap (greater (most_nuls (parts (see u)))) others.1 ∙ sym (most-append (parts (see u)) (flat_map parts (map see before))),
+      )

@@ -1,0 +1,4 @@
+pub mod Flags
+pub mod ActionMessageAttribute
+pub mod ActionMessage
+pub mod Inverse

@@ -1,0 +1,67 @@
+//! How action messages and their parts compare and hash, and their defaults, as contracts of functions.
+
+ghost use Rattle.std.specs.Prelude.{◌≡◌, ◌↔◌, fold, Some, IsTrue, [], ◌∷◌};
+ghost use Rattle.std.specs.Ordering.{is_eq};
+ghost use Rattle.tc_meaning.specs.Tree.{plain};
+ghost use Rattle.tc_meaning.specs.Whole.{act_bytes, FitsAct, SettledAct};
+ghost use Rattle.tc_meaning.specs.Equal.{TellsSeen};
+ghost use Rattle.tc_records.specs.Defaults.{DefaultsTo};
+ghost use Rattle.tc_action_messages.specs.Flags.{flags_words, flags_cmp, flags_fed};
+ghost use Rattle.tc_action_messages.specs.ActionMessageAttribute.{action_message_attribute};
+ghost use Rattle.tc_action_messages.specs.ActionMessage.{action_message};
+
+use crate::attribute::TcActionMessageAttribute;
+use crate::flags::TcActionMessageFlagsWithSelector;
+use crate::message::TcActionMessage;
+use std::alloc::Allocator;
+use std::cmp::Ordering;
+use std::hash::{Hash, Hasher};
+use tc_laws::rewriting;
+
+/// Flags with a selector compare by the flags first, by `cmp` and `partial_cmp`; they are equal exactly if they compare
+/// as `Equal`.
+pub fn flags_order(
+    first: TcActionMessageFlagsWithSelector,
+    second: TcActionMessageFlagsWithSelector,
+) -> (Ordering, Option<Ordering>, bool)
+    ensures cmp { result.0 ≡ flags_cmp first second }
+    ensures partial_cmp { result.1 ≡ Some (flags_cmp first second) }
+    ensures eq { IsTrue result.2 ↔ first ≡ second }
+    ensures equal { result.2 ≡ is_eq result.0 }
+{
+    (
+        first.cmp(&second),
+        first.partial_cmp(&second),
+        first == second,
+    )
+}
+
+/// Flags with a selector hash as their two words do, so equal ones hash alike.
+pub fn flags_hash<H: Hasher>(flags: TcActionMessageFlagsWithSelector, state: &mut H)
+    ensures { state.new ≡ fold H.write state.old (flags_fed flags) }
+{
+    flags.hash(state);
+}
+
+/// The default: no flag, and none that counts.
+pub fn defaults()
+    ensures { DefaultsTo ⟦<TcActionMessageFlagsWithSelector as Default>⟧.is_default flags_words (plain 0 ∷ plain 0 ∷ []) }
+{}
+
+/// `==` says exactly whether contracts see two action messages, or two parts of them, as equal.
+pub fn equal<A: Allocator>()
+    ensures flags { TellsSeen ⟦<TcActionMessageFlagsWithSelector as PartialEq>⟧.eq flags_words }
+    ensures attribute { TellsSeen ⟦<TcActionMessageAttribute<A> as PartialEq>⟧.eq action_message_attribute }
+    ensures message { TellsSeen ⟦<TcActionMessage<A> as PartialEq>⟧.eq action_message }
+{}
+
+/// Two settled messages that fit are `==` exactly if `emit` writes the same bytes for both.
+pub fn equal_bytes<A: Allocator>(one: &TcActionMessage<A>, other: &TcActionMessage<A>)
+    requires fits { FitsAct (action_message one.now) × FitsAct (action_message other.now) }
+    requires settled { SettledAct (action_message one.now) × SettledAct (action_message other.now) }
+    ensures { IsTrue (⟦<TcActionMessage<A> as PartialEq>⟧.eq one.now other.now) ↔ act_bytes (action_message one.now) ≡ act_bytes (action_message other.now) }
+{
+    rewriting::same_bytes();
+    one.is_settled();
+    other.is_settled();
+}
