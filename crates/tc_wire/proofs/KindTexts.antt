@@ -9,7 +9,7 @@ use Rattle.nla_frames.specs.OnlyKind.{kind_after}
 use Rattle.nla_frames.proofs.Outcomes.{Gives-exact}
 use Rattle.tc_canon.specs.Kind.{tells_kind, kind_of_frame}
 use Rattle.tc_canon.specs.Descriptor.{table}
-use Rattle.tc_wire.specs.Stage.{attributes}
+use Rattle.tc_canon.specs.Tables.Messages.{attributes}
 use Rattle.tc_meaning.specs.Tree.{known, is_bytes}
 use Rattle.tc_meaning.specs.Meaning.{table_codec}
 use Rattle.std.specs.Str.{is_utf8}

@@ -1,3 +1,6 @@
+mod KeptWords
 mod KindTexts
-mod MessageBytes
-pub mod Outcomes
+mod Outcomes
+mod Rewrites
+mod Trimmed
+mod Upgrades

@@ -1,16 +1,13 @@
--- All bytes have one outcome: one reading and no fault, or no reading and one fault; and a message fits or does not, and is settled or is not.
+-- All bytes have one outcome: one reading and no fault, or no reading and one fault.
 use Rattle.std.proofs.Common.{◌≡◌, ◌⊎◌, ℕ, List, Ok, Err, refl, inl, inr}
 use Rattle.nla_frames.specs.declared.error.DecodeError.{DecodeError}
 use Rattle.nla_frames.specs.Fault.{Outcome}
 use Rattle.nla_frames.specs.Value.{IsBytes}
 use Rattle.tc_canon.specs.Layouts.{tc_header}
-use Rattle.tc_meaning.specs.Message.{Message, OneMessage, read_message, kind_of_frame, kind_of_attribute}
+use Rattle.tc_meaning.specs.Message.{Message, OneMessage, read_message, kind_of_frame}
 use Rattle.tc_meaning.proofs.MessageLaws.{one_message}
-use Rattle.tc_meaning.proofs.Telling.{Told}
-use Rattle.tc_meaning.proofs.FitTests.{told_fits}
-use Rattle.tc_meaning.proofs.SettledTests.{told_settled}
-use Rattle.tc_wire.specs.Stage.{attributes}
-use Rattle.tc_wire.specs.Message.{ReadsTc, FaultTc, FitsTc, SettledTc}
+use Rattle.tc_canon.specs.Tables.Messages.{attributes}
+use Rattle.tc_meaning.specs.Whole.{ReadsTc, FaultTc}
 
 -- an outcome is a reading or a fault
 reading_or_fault : (bytes : List ℕ) (outcome : Outcome Message) → OneMessage kind_of_frame tc_header attributes bytes outcome → ((m : Message) × ReadsTc bytes m) ⊎ ((e : DecodeError) × FaultTc bytes e)
@@ -36,11 +33,3 @@ module _ (bytes : List ℕ) (are_bytes : IsBytes bytes) where
   -- what reads as a message has no fault
   pub not_both : (m : Message) (e : DecodeError) → ReadsTc bytes m → FaultTc bytes e → ⊥
   not_both m e reads fault = let p = (is_outcome.reading m).1 reads in let q = (is_outcome.fault e).1 fault in cc
-
--- a test tells whether a message fits
-pub fits_told : (m : Message) → Told (FitsTc m)
-fits_told = told_fits tc_header attributes
-
--- a test tells whether a message is settled
-pub settled_told : (m : Message) → Told (SettledTc m)
-settled_told = told_settled tc_header attributes kind_of_attribute

@@ -4,7 +4,7 @@ use Rattle.nla_frames.specs.declared.error.DecodeError.{DecodeError}
 use Rattle.nla_frames.specs.ListGrammar.{ListReads, ListFault}
 use Rattle.nla_frames.specs.DefaultNla.{kept_frame}
 use Rattle.tc_canon.specs.Descriptor.{table, by_kind}
-use Rattle.tc_wire.specs.Stage.{attributes}
+use Rattle.tc_canon.specs.Tables.Messages.{attributes}
 use Rattle.tc_meaning.specs.Meaning.{table_codec}
 use Rattle.tc_meaning.specs.Message.{kind_of_frame}
 use Rattle.tc_meaning.specs.Tree.{Attribute, known, kept, other, record_of, number, flag, is_bytes, items, attributes_of}
@@ -13,7 +13,7 @@ use Rattle.tc_wire.specs.declared.attribute.TcAttribute.{TcAttribute}
 use Rattle.tc_wire.specs.declared.attribute.TcAttribute.TheVariants.{Kind, Options, OptionsRaw, Stats, Xstats, Rate, Fcnt, Stats2, Stab, DumpInvisible, Chain, HwOffload, Other}
 use Rattle.tc_options.specs.Options.{tc_option}
 use Rattle.tc_options.specs.declared.options.TcOption.{TcOption}
-use Rattle.tc_options.specs.Stage.{option_kinds}
+use Rattle.tc_canon.specs.Tables.Options.{option_kinds}
 use Rattle.tc_records.specs.declared.stats.compat.TcStats.{TcStats}
 use Rattle.tc_values.specs.Inner.{Inner}
 use Rattle.tc_values.specs.Value.{value_bytes, ValueFits, TypedValue}

@@ -1,4 +1,5 @@
-pub mod Stage
 pub mod Attribute
 pub mod Message
+pub mod Rewriting
+pub mod Upgrade
 pub mod Facade

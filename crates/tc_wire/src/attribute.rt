@@ -1,6 +1,7 @@
 //! The attributes of a message.
 
 ghost use Rattle.std.specs.Prelude.{◌≡◌, ◌↔◌, List, ℕ, [], map, IfOk, IsTrue};
+ghost use Rattle.std.specs.Ordering.{on};
 ghost use Rattle.nla_frames.specs.Fault.{Gives, IfRefused, seen, read_as};
 ghost use Rattle.nla_frames.specs.Frame.{type_of};
 ghost use Rattle.nla_frames.specs.Buffer.{frame_of};
@@ -8,12 +9,13 @@ ghost use Rattle.nla_frames.specs.Reading.{read_list};
 ghost use Rattle.nla_frames.specs.OnlyKind.{text_set};
 ghost use Rattle.nla_frames.specs.Codec.{list_codec};
 ghost use Rattle.tc_canon.specs.Descriptor.{table};
-ghost use Rattle.tc_wire.specs.Stage.{attributes};
+ghost use Rattle.tc_canon.specs.Tables.Messages.{attributes};
 ghost use Rattle.tc_meaning.specs.Tree.{Attribute};
 ghost use Rattle.tc_meaning.specs.Meaning.{table_codec};
 ghost use Rattle.tc_meaning.specs.Message.{kind_of_frame, kind_of_attribute};
 ghost use Rattle.tc_meaning.specs.OwnGrammar.{first_look};
 ghost use Rattle.tc_meaning.specs.Short.{table_short};
+ghost use Rattle.tc_meaning.specs.Equal.{same_attribute, attribute_equiv, attribute_per};
 ghost use Rattle.tc_values.specs.Value.{value_bytes, ValueFits, TypedValue};
 ghost use Rattle.tc_values.specs.Row.{reads_at};
 ghost use Rattle.tc_wire.specs.Attribute.{tc_attribute, nested, IsWritten, ReadsAttributes, AttributesFault};
@@ -68,7 +70,7 @@ const TCA_HW_OFFLOAD: u16 = 12;
 /// | 11 | `Chain` | u32 |
 /// | 12 | `HwOffload` | u8 |
 #[derive(Drop)]
-#[derive_where(Debug, PartialEq, Eq)]
+#[derive_where(Debug)]
 #[derive_where(Clone; A)]
 pub enum TcAttribute<A: Allocator = Global> {
     /// The name of the queueing discipline or filter, and of the options after it: `TCA_KIND` of
@@ -317,4 +319,33 @@ fn read_attribute<A: Allocator + Copy>(
         Some(text) => Ok(TcAttribute::Kind(String::from_str(alloc, text)?)),
         None => TcAttribute::parse_with_param(alloc, frame, kind),
     }
+}
+
+impl<A: Allocator> PartialEq for TcAttribute<A> {
+    ghost eq = { on tc_attribute same_attribute };
+
+    ghost laws = { attribute_per tc_attribute };
+
+    fn eq(&self, other: &TcAttribute<A>) -> bool {
+        match (self, other) {
+            (Self::Kind(one), Self::Kind(another)) => one == another,
+            (Self::Options(one), Self::Options(another)) => one == another,
+            (Self::OptionsRaw(one), Self::OptionsRaw(another)) => one == another,
+            (Self::Stats(one), Self::Stats(another)) => one == another,
+            (Self::Xstats(one), Self::Xstats(another)) => one == another,
+            (Self::Rate(one), Self::Rate(another)) => one == another,
+            (Self::Fcnt(one), Self::Fcnt(another)) => one == another,
+            (Self::Stats2(one), Self::Stats2(another)) => one == another,
+            (Self::Stab(one), Self::Stab(another)) => one == another,
+            (Self::DumpInvisible(one), Self::DumpInvisible(another)) => one == another,
+            (Self::Chain(one), Self::Chain(another)) => one == another,
+            (Self::HwOffload(one), Self::HwOffload(another)) => one == another,
+            (Self::Other(one), Self::Other(another)) => one == another,
+            _ => false,
+        }
+    }
+}
+
+impl<A: Allocator> Eq for TcAttribute<A> {
+    ghost laws = { attribute_equiv tc_attribute };
 }

@@ -1,9 +1,17 @@
-//! What the definitions promise of one another, as contracts of functions that do nothing.
+//! What the definitions, and `==`, promise of one another, as contracts of functions that do nothing.
 
-ghost use Rattle.std.specs.Prelude.{◌≡◌, ◌⊎◌, ◌↔◌, Bool, IsTrue};
+ghost use Rattle.std.specs.Prelude.{◌≡◌, ◌⊎◌, ◌↔◌, IsTrue};
 ghost use Rattle.nla_frames.specs.declared.error.DecodeError.{DecodeError};
 ghost use Rattle.tc_meaning.specs.Message.{Message};
-ghost use Rattle.tc_wire.specs.Message.{ReadsTc, FaultTc, FitsTc, SettledTc};
+ghost use Rattle.tc_meaning.specs.Whole.{ReadsTc, FaultTc, tc_bytes, FitsTc, SettledTc};
+ghost use Rattle.tc_meaning.specs.Equal.{TellsSeen};
+ghost use Rattle.tc_wire.specs.Attribute.{tc_attribute};
+ghost use Rattle.tc_wire.specs.Message.{tc_message};
+
+use crate::attribute::TcAttribute;
+use crate::message::TcMessage;
+use std::alloc::Allocator;
+use tc_laws::rewriting;
 
 /// All bytes read as one message and have no fault, or read as none and have one fault.
 pub fn one_outcome(bytes: &[u8])
@@ -13,12 +21,19 @@ pub fn one_outcome(bytes: &[u8])
     ensures not_both { (m : Message) (e : DecodeError) → ReadsTc bytes.now m → FaultTc bytes.now e → ⊥ }
 {}
 
-/// A test tells of every message whether it fits.
-pub fn fits_or_not()
-    ensures { (m : Message) → (fits : Bool) × (IsTrue fits ↔ FitsTc m) }
+/// `==` says exactly whether contracts see two messages, or two of their attributes, as equal.
+pub fn equal<A: Allocator>()
+    ensures attribute { TellsSeen ⟦<TcAttribute<A> as PartialEq>⟧.eq tc_attribute }
+    ensures message { TellsSeen ⟦<TcMessage<A> as PartialEq>⟧.eq tc_message }
 {}
 
-/// A test tells of every message whether it is settled.
-pub fn settled_or_not()
-    ensures { (m : Message) → (settled : Bool) × (IsTrue settled ↔ SettledTc m) }
-{}
+/// Two settled messages that fit are `==` exactly if `emit` writes the same bytes for both.
+pub fn equal_bytes<A: Allocator>(one: &TcMessage<A>, other: &TcMessage<A>)
+    requires fits { FitsTc (tc_message one.now) × FitsTc (tc_message other.now) }
+    requires settled { SettledTc (tc_message one.now) × SettledTc (tc_message other.now) }
+    ensures { IsTrue (⟦<TcMessage<A> as PartialEq>⟧.eq one.now other.now) ↔ tc_bytes (tc_message one.now) ≡ tc_bytes (tc_message other.now) }
+{
+    rewriting::same_bytes();
+    one.is_settled();
+    other.is_settled();
+}

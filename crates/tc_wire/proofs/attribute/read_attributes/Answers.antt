@@ -4,7 +4,7 @@ use Rattle.std.proofs.lemmas.List.{map_push}
 use Rattle.nla_frames.specs.Iterator.{items_left}
 use Rattle.nla_frames.proofs.ReadingSteps.{starts, goes_on, breaks, refuses, is_done}
 use Rattle.tc_canon.specs.Descriptor.{table}
-use Rattle.tc_wire.specs.Stage.{attributes}
+use Rattle.tc_canon.specs.Tables.Messages.{attributes}
 use Rattle.tc_meaning.specs.Meaning.{table_codec}
 use Rattle.tc_meaning.specs.Message.{kind_of_frame}
 use Rattle.tc_wire.specs.Attribute.{tc_attribute}

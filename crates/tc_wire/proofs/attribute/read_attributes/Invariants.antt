@@ -4,7 +4,7 @@ use denote.Shadow.{shadow}
 use Rattle.nla_frames.specs.Iterator.{items_left}
 use Rattle.nla_frames.specs.Reading.{before, read_each, read_list}
 use Rattle.tc_canon.specs.Descriptor.{table}
-use Rattle.tc_wire.specs.Stage.{attributes}
+use Rattle.tc_canon.specs.Tables.Messages.{attributes}
 use Rattle.tc_meaning.specs.Meaning.{table_codec}
 use Rattle.tc_meaning.specs.Message.{kind_of_frame}
 use Rattle.tc_wire.specs.Attribute.{tc_attribute}

@@ -1,7 +1,7 @@
 use Rattle.std.proofs.Common.{map}
 use Rattle.std.proofs.lemmas.Result.{err_from_is_err_and}
 use Rattle.tc_canon.specs.Layouts.{tc_header}
-use Rattle.tc_wire.specs.Stage.{attributes}
+use Rattle.tc_canon.specs.Tables.Messages.{attributes}
 use Rattle.tc_meaning.proofs.MessageReading.{read_message-ok, read_message-err}
 use Rattle.tc_records.specs.Header.{header_scalars}
 use Rattle.tc_wire.specs.Attribute.{tc_attribute}

@@ -4,7 +4,7 @@ use Rattle.nla_frames.specs.Buffer.{frame_of}
 use Rattle.tc_canon.specs.Descriptor.{table}
 use Rattle.tc_canon.specs.Tables.Statistics.{stats2}
 use Rattle.tc_values.proofs.Lists.{list_read, list_refused}
-use Rattle.tc_wire.specs.Stage.{attributes}
+use Rattle.tc_canon.specs.Tables.Messages.{attributes}
 use Rattle.tc_wire.proofs.attribute.TcAttributeParseableParametrized.parse_with_param.Goals as goal
 
 pub returns-in_err-parse_list_with-in-7 : goal.returns-in_err-parse_list_with-in-7

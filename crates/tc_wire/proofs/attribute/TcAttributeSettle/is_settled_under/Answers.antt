@@ -3,7 +3,7 @@ use Rattle.tc_canon.specs.Descriptor.{table, by_kind}
 use Rattle.tc_canon.specs.Tables.Statistics.{stats2}
 use Rattle.tc_values.proofs.Lists.{list_settles, list_is_typed}
 use Rattle.tc_actions.specs.Stats2.{tc_stats2}
-use Rattle.tc_options.specs.Stage.{option_kinds}
+use Rattle.tc_canon.specs.Tables.Options.{option_kinds}
 use Rattle.tc_options.specs.Options.{tc_option}
 use Rattle.tc_wire.proofs.attribute.TcAttributeSettle.is_settled_under.Goals as goal
 

@@ -4,7 +4,7 @@ use Rattle.nla_frames.proofs.Bytes.{IsBytes-slice}
 use Rattle.nla_frames.proofs.Outcomes.{IfOk-Gives, IfRefused-Gives}
 use Rattle.nla_frames.proofs.ListGrammarLaws.{ListReads-read_list, ListFault-read_list}
 use Rattle.tc_canon.specs.Descriptor.{table}
-use Rattle.tc_wire.specs.Stage.{attributes}
+use Rattle.tc_canon.specs.Tables.Messages.{attributes}
 use Rattle.tc_meaning.specs.Meaning.{table_codec}
 use Rattle.tc_meaning.specs.Message.{kind_of_frame}
 use Rattle.tc_wire.specs.Attribute.{tc_attribute, ReadsAttributes, AttributesFault}
