@@ -1,0 +1,90 @@
+//! A row in parts.
+
+use crate::input::{Form, Input};
+use std::alloc::Global;
+use std::test::Fail;
+
+/// What has to be told of a message.
+#[derive(Drop)]
+pub enum Told {
+    /// It is refused for the fault of this name.
+    Refused(String),
+
+    /// It is read; whether that fits, is settled and came canonical, and the bytes that are emitted where it fits.
+    Accepted {
+        fits: bool,
+        settled: bool,
+        canonical: bool,
+        emitted: Vec<u8>,
+    },
+}
+
+/// A message, and what has to be told of it.
+#[derive(Drop)]
+pub struct Row {
+    pub input: Input,
+    pub told: Told,
+}
+
+/// The parts of a row.
+pub fn row_of(alloc: Global, row: &str) -> Result<Row, Fail> {
+    let (message, told) = row.split_once(" = ").ok_or("a row has an =")?;
+    let (form, message) = message.split_once(' ').unwrap_or((message, ""));
+    let form = match form {
+        "tc" => Form::Tc,
+        "action" => Form::Action,
+        _ => return Err(Fail::new("a row begins with its form")),
+    };
+    let bytes = spelled(alloc, form, message)?;
+    let told = match told.split_once(' ') {
+        None => Told::Refused(told.to_string(alloc)?),
+        Some((fits, told)) => accepted(alloc, form, &bytes, fits, told)?,
+    };
+    Ok(Row {
+        input: Input { form, bytes },
+        told,
+    })
+}
+
+// What is told of a message that is accepted, behind whether it fits.
+fn accepted(alloc: Global, form: Form, bytes: &[u8], fits: &str, told: &str) -> Result<Told, Fail> {
+    let (settled, told) = told.split_once(' ').unwrap_or((told, ""));
+    let (canonical, other) = told.split_once(' ').unwrap_or((told, ""));
+    let emitted = if other.is_empty() {
+        bytes.to_vec(alloc)?
+    } else {
+        spelled(alloc, form, other)?
+    };
+    Ok(Told::Accepted {
+        fits: fits == "yes",
+        settled: settled == "yes",
+        canonical: canonical == "yes",
+        emitted,
+    })
+}
+
+// The bytes that words stand for.
+fn spelled(alloc: Global, form: Form, words: &str) -> Result<Vec<u8>, Fail> {
+    let mut bytes = Vec::new(alloc);
+    for word in words.split(' ') {
+        if word == "zeros" {
+            bytes.extend_from_slice(form.header())?;
+        } else {
+            let digits = spelled_kind(word).as_bytes();
+            bytes.extend_from_slice(&hex::decode(alloc, digits)?)?;
+        }
+    }
+    Ok(bytes)
+}
+
+// The attribute of a kind in hex, or the digits themselves.
+fn spelled_kind(word: &str) -> &str {
+    match word {
+        "fq_codel" => "0d00010066715f636f64656c00000000",
+        "ingress" => "0c000100696e677265737300",
+        "flower" => "0b000100666c6f7765720000",
+        "u32" => "0800010075333200",
+        "matchall" => "0d0001006d61746368616c6c00000000",
+        _ => word,
+    }
+}

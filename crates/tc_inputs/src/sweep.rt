@@ -1,0 +1,61 @@
+//! Attributes of all types and many lengths, and the messages in which they may stand.
+
+use crate::input::{Form, Input};
+use std::alloc::{AllocError, Global};
+
+/// The last type that is swept over, from 0 on: behind all that are known.
+pub const LAST_TYPE: u16 = 110;
+
+/// How many bytes a swept attribute has.
+pub const LENGTHS: [usize; 10] = [0, 1, 2, 4, 6, 8, 16, 24, 36, 40];
+
+/// The kinds of a message whose options are known.
+pub const KINDS: [&str; 6] = ["fq_codel", "ingress", "flower", "u32", "matchall", "bpf"];
+
+/// The kinds of an action whose options are known.
+pub const ACTION_KINDS: [&str; 3] = ["mirred", "nat", "tunnel_key"];
+
+/// An attribute of a type with so many bytes, all 1.
+pub fn swept(alloc: Global, word: u16, length: usize) -> Result<Vec<u8>, AllocError> {
+    frame(alloc, word, &vec![in alloc; 1u8; length]?)
+}
+
+/// The messages in which an attribute stands alone, and as the one option of each known kind.
+pub fn around(alloc: Global, swept: &[u8]) -> Result<Vec<Input>, AllocError> {
+    let mut inputs = Vec::new(alloc);
+    for form in [Form::Tc, Form::Action] {
+        inputs.push(Input::of_frames(alloc, form, &[swept])?)?;
+    }
+    for kind in KINDS {
+        let options = frame(alloc, 2, swept)?;
+        let kind = kind_frame(alloc, kind)?;
+        inputs.push(Input::of_frames(alloc, Form::Tc, &[&kind, &options])?)?;
+    }
+    for kind in ACTION_KINDS {
+        let mut attributes = kind_frame(alloc, kind)?;
+        attributes.extend_from_slice(&frame(alloc, 0x8002, swept)?)?;
+        let actions = frame(alloc, 1, &frame(alloc, 1, &attributes)?)?;
+        inputs.push(Input::of_frames(alloc, Form::Action, &[&actions])?)?;
+    }
+    Ok(inputs)
+}
+
+// The attribute of a kind, whose text ends in a NUL.
+fn kind_frame(alloc: Global, kind: &str) -> Result<Vec<u8>, AllocError> {
+    let mut text = kind.as_bytes().to_vec(alloc)?;
+    text.push(0)?;
+    frame(alloc, 1, &text)
+}
+
+// An attribute, padded in full.
+fn frame(alloc: Global, word: u16, value: &[u8]) -> Result<Vec<u8>, AllocError> {
+    let length = u16::try_from(value.len().saturating_add(4)).unwrap_or(u16::MAX);
+    let mut bytes = Vec::new(alloc);
+    bytes.extend_from_slice(&length.to_le_bytes())?;
+    bytes.extend_from_slice(&word.to_le_bytes())?;
+    bytes.extend_from_slice(value)?;
+    for _ in 0..(4 - value.len() % 4) % 4 {
+        bytes.push(0)?;
+    }
+    Ok(bytes)
+}
