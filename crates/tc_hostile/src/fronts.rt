@@ -1,0 +1,106 @@
+//! The first of the worked messages, cut at every length, and with another length of its option.
+
+use crate::judge::emitted;
+use std::alloc::Global;
+use std::process::Abort;
+use std::test::Fail;
+use tc_inputs::made;
+use tc_wire::{
+    DecodeError, ParseableBytes, TcAttribute, TcMessage, VecTcAttribute, is_canonical_tc,
+};
+
+// The fault of so many of its first bytes.
+fn fault_of_front(count: usize) -> Option<DecodeError> {
+    match count {
+        0..=19 => Some(DecodeError::BufferTooSmall {
+            len: count,
+            needed: 20,
+        }),
+        21..=23 => Some(DecodeError::FrameHeaderShort { left: count - 20 }),
+        24..=32 => Some(DecodeError::FrameTooLong {
+            length: 13,
+            left: count - 20,
+        }),
+        37..=39 => Some(DecodeError::FrameHeaderShort { left: count - 36 }),
+        40..=47 => Some(DecodeError::FrameTooLong {
+            length: 12,
+            left: count - 36,
+        }),
+        _ => None,
+    }
+}
+
+// The bytes of the first of the worked messages.
+fn first(alloc: Global) -> Result<Vec<u8>, Fail> {
+    let rows = made(alloc)?;
+    Ok(rows.first().ok_or("no rows")?.input.bytes.to_vec(alloc)?)
+}
+
+// Asserts of so many of its first bytes that they are refused, or read as a header alone, or with the kind, whose padding may be cut.
+fn is_front(rt: &impl Abort, alloc: Global, bytes: &[u8], count: usize) -> Result<(), Fail> {
+    let (front, _) = bytes.split_at(count.min(bytes.len()));
+    let message = match TcMessage::parse(alloc, front) {
+        Ok(message) => message,
+        Err(fault) => {
+            assert_eq!(rt; Some(fault), fault_of_front(count));
+            return Ok(());
+        }
+    };
+    let (kinds, written) = if count == 20 { (0, 20) } else { (1, 36) };
+    assert_eq!(rt; fault_of_front(count), None);
+    assert_eq!(rt; message.attributes.len(), kinds);
+    for attribute in &message.attributes {
+        match attribute {
+            TcAttribute::Kind(text) => assert_eq!(rt; text.as_str(), "fq_codel"),
+            _ => assert!(rt; false, "another attribute"),
+        }
+    }
+    assert!(rt; message.is_settled());
+    assert_eq!(rt; is_canonical_tc(front), count == written);
+    let emitted = emitted(alloc, &message)?.ok_or("it fits")?;
+    assert_eq!(rt; Some(emitted.as_slice()), bytes.get(..written));
+    Ok(())
+}
+
+#[test]
+fn cut_at_every_length(rt: HostRuntime) -> Result<(), Fail> {
+    let bytes = first(rt.alloc())?;
+    assert_eq!(rt; bytes.len(), 48);
+    for count in 0..48usize {
+        is_front(&rt, rt.alloc(), &bytes, count)?;
+    }
+    Ok(())
+}
+
+#[test]
+fn with_another_length_of_its_option(rt: HostRuntime) -> Result<(), Fail> {
+    let alloc = rt.alloc();
+    for (length, fault) in [
+        (9, DecodeError::FrameTooLong { length: 9, left: 8 }),
+        (
+            7,
+            DecodeError::WrongLength {
+                expected: 4,
+                got: 3,
+            },
+        ),
+        (
+            4,
+            DecodeError::WrongLength {
+                expected: 4,
+                got: 0,
+            },
+        ),
+        (3, DecodeError::FrameTooShort { length: 3 }),
+    ] {
+        let mut bytes = first(alloc)?;
+        assert_eq!(rt; bytes.len(), 48);
+        bytes[40] = length;
+        assert_eq!(rt;
+            VecTcAttribute::parse(alloc, &bytes[20..]).err().as_ref(),
+            Some(&fault)
+        );
+        assert_eq!(rt; TcMessage::parse(alloc, &bytes).err(), Some(fault));
+    }
+    Ok(())
+}

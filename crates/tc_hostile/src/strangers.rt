@@ -1,0 +1,61 @@
+//! Messages that were cut short, changed, or made of attributes of all types.
+
+use crate::alone::had_for_attributes;
+use crate::judge::is_judged;
+use std::alloc::Global;
+use std::process::Abort;
+use std::test::Fail;
+use tc_inputs::{
+    Form, Input, LAST_TYPE, LENGTHS, around, captured, cut_and_changed, made, swept, too_long,
+};
+
+// Judges each of these messages, and returns how many they are.
+fn are_judged(rt: &impl Abort, alloc: Global, inputs: &[Input]) -> Result<usize, Fail> {
+    for input in inputs {
+        is_judged(rt, alloc, input)?;
+        assert!(rt; had_for_attributes(alloc, input), "{input:?}");
+    }
+    Ok(inputs.len())
+}
+
+#[test]
+fn rows(rt: HostRuntime) -> Result<(), Fail> {
+    let alloc = rt.alloc();
+    let mut count = 0usize;
+    for row in made(alloc)?.iter().chain(&captured(alloc)?) {
+        is_judged(&rt, alloc, &row.input)?;
+        count = count.wrapping_add(1);
+    }
+    for form in [Form::Tc, Form::Action] {
+        is_judged(&rt, alloc, &too_long(alloc, form)?)?;
+        count = count.wrapping_add(1);
+    }
+    assert_eq!(rt; count, 91);
+    Ok(())
+}
+
+#[test]
+fn cut_and_changed_rows(rt: HostRuntime) -> Result<(), Fail> {
+    let alloc = rt.alloc();
+    let mut count = 0usize;
+    for row in &made(alloc)? {
+        let inputs = cut_and_changed(alloc, &row.input)?;
+        count = count.wrapping_add(are_judged(&rt, alloc, &inputs)?);
+    }
+    assert_eq!(rt; count, 9_896);
+    Ok(())
+}
+
+#[test]
+fn attributes_of_all_types(rt: HostRuntime) -> Result<(), Fail> {
+    let alloc = rt.alloc();
+    let mut count = 0usize;
+    for word in 0..=LAST_TYPE {
+        for length in LENGTHS {
+            let inputs = around(alloc, &swept(alloc, word, length)?)?;
+            count = count.wrapping_add(are_judged(&rt, alloc, &inputs)?);
+        }
+    }
+    assert_eq!(rt; count, 12_210);
+    Ok(())
+}

@@ -1,0 +1,14 @@
+//! Tests alone, of the parts that messages are made of: frames, records and actions. The gate proves them while messages are
+//! proved.
+#![tactic(auto)]
+
+#[cfg(test)]
+mod actions;
+#[cfg(test)]
+mod frames;
+#[cfg(test)]
+mod known;
+#[cfg(test)]
+mod records;
+#[cfg(test)]
+mod selectors;
