@@ -1,8 +1,7 @@
 //! Messages of which it is known whether they are canonical: made by hand, sent by tc of iproute2, and written by Linux 6.1 and 6.18.
 
-ghost use Rattle.std.specs.Prelude.{◌<◌};
-
-use std::alloc::{AllocError, Allocator, Global};
+use crate::tables::bytes_of;
+use std::alloc::{AllocError, Global};
 use std::test::*;
 use tc_canon::{
     canon_action, canon_action_options, canon_actions, canon_lse, canon_mpls, canon_options,
@@ -517,27 +516,6 @@ const ACTIONS: [Row; 30] = [
         canonical: false,
     },
 ];
-
-fn digit(letter: u8) -> u8
-    ensures { result < 16 }
-{
-    match letter {
-        b'0'..=b'9' => letter - b'0',
-        b'a'..=b'f' => letter - b'a' + 10,
-        _ => 0,
-    }
-}
-
-/// The bytes of a text in hex.
-pub(crate) fn bytes_of<A: Allocator>(alloc: A, hex: &str) -> Result<Vec<u8, A>, AllocError> {
-    let mut bytes = Vec::new(alloc);
-    for pair in hex.as_bytes().chunks(2) {
-        if let [high, low] = pair {
-            bytes.push(16 * digit(*high) + digit(*low))?;
-        }
-    }
-    Ok(bytes)
-}
 
 /// Which of the two messages bytes are looked at as.
 #[derive(Clone, Copy)]

@@ -1,22 +1,16 @@
 //! Flower's options: the known answer of each, those that are written as other bytes, and filters as the kernel and tc send them.
 
-use crate::canonical::bytes_of;
-use nla_frames::{
-    DecodeError, DefaultNla, Nla, NlaBuffer, Parseable, Settle, emit_list, list_fits, list_len,
-    parse_list,
-};
+use crate::tables::{Row, are_written, bytes_of, misread, or_same};
+use nla_frames::{DecodeError, DefaultNla, NlaBuffer, Parseable, Settle, parse_list};
 use std::alloc::Global;
 use std::test::*;
 use tc_flower::{
     TcFilterFlower, TcFilterFlowerMplsLseOption, TcFilterFlowerMplsOption, TcFilterFlowerOption,
 };
 
-/// A frame in hex, what it is read as, and the frame that is written of that, empty where it is the same.
-type Row = (&'static str, &'static str, &'static str);
-
 /// Each option by a frame of bytes that differ, so that another width, byte order or type shows.
 #[rattlefmt::skip]
-const EACH: [Row; 100] = [
+pub(crate) const EACH: [Row; 100] = [
     ("090002006574683000000000", "InDev(\"eth0\")", ""),
     ("1400030010000100090001006761637400000000", "Actions([TcAction { tab: 1, attributes: [Kind(\"gact\")] }])", ""),
     ("0a0004002e4b6885a2bf0000", "EthDst([46, 75, 104, 133, 162, 191])", ""),
@@ -156,49 +150,18 @@ const SENT: [(&str, &str); 11] = [
     ("060008000800000008000a000a09001408000b00ffffffff08001600080000000800560000000000ec000300e80001000f00010074756e6e656c5f6b65790000500004000400060014000100000000000000000000000000000000000400060014000700000000000000000000000000000000000400060018000300000000000000000000000000000000000000000008000a00000000007c0002001c0002000c00000000000000030000000100000001000000010000000800070000000005080003000101010108000400020202020600090017c1000005000a000100000005000c001200000005000d0040000000240001005102000000000000510200000000000000000000000000000000000000000000", "060008000800000008000a000a09001408000b00ffffffff08001600080000000800560000000000ec000300e80001000f00010074756e6e656c5f6b65790000500004000400060014000100000000000000000000000000000000000400060014000700000000000000000000000000000000000400060018000300000000000000000000000000000000000000000008000a00000000007c0002801c0002000c00000000000000030000000100000001000000010000000800070000000005080003000101010108000400020202020600090017c1000005000a000100000005000c001200000005000d0040000000240001005102000000000000510200000000000000000000000000000000000000000000"),
 ];
 
-/// Whether a list is written as these bytes.
-fn are_written<T: Nla>(list: &[T], bytes: &[u8]) -> bool {
-    let mut buffer = [0x55; 640];
-    if !list_fits(list) || list_len(list) != bytes.len() || bytes.len() > buffer.len() {
-        return false;
-    }
-    emit_list(list, &mut buffer);
-    &buffer[..bytes.len()] == bytes
-}
-
-/// Whether a frame is read as an option of this text, and that written as it has to be.
-fn is_known(alloc: Global, row: &Row) -> Result<bool, Fail> {
-    let (frame, text, written) = *row;
-    let written = if written.is_empty() { frame } else { written };
-    let frame = bytes_of(alloc, frame)?;
-    let option = TcFilterFlowerOption::parse(alloc, &NlaBuffer::new_checked(&frame)?)?;
-    let shown = format!(in alloc; "{option:?}")?;
-    Ok(shown.as_str() == text && are_written(&[option], &bytes_of(alloc, written)?))
-}
-
-/// The first row that is read or written as another.
-fn misread(alloc: Global, rows: &[Row]) -> Result<Option<&'static str>, Fail> {
-    for row in rows {
-        if !is_known(alloc, row)? {
-            return Ok(Some(row.1));
-        }
-    }
-    Ok(None)
-}
-
 #[test]
 fn options(rt: HostRuntime) -> Result<(), Fail> {
-    assert_eq!(rt; misread(rt.alloc(), &EACH)?, None);
-    assert_eq!(rt; misread(rt.alloc(), &OTHERS)?, None);
+    assert_eq!(rt; misread::<TcFilterFlowerOption>(rt.alloc(), &EACH)?, None);
+    assert_eq!(rt; misread::<TcFilterFlowerOption>(rt.alloc(), &OTHERS)?, None);
     assert_eq!(rt; TcFilterFlower::KIND, "flower");
     Ok(())
 }
 
 /// Whether a list of options is written as it has to be.
-fn is_rewritten(alloc: Global, sent: &str, written: &str) -> Result<bool, Fail> {
-    let written = if written.is_empty() { sent } else { written };
+fn is_rewritten(alloc: Global, sent: &'static str, written: &'static str) -> Result<bool, Fail> {
     let options: Vec<TcFilterFlowerOption> = parse_list(alloc, &bytes_of(alloc, sent)?)?;
-    Ok(are_written(&options, &bytes_of(alloc, written)?))
+    Ok(are_written(&options, &bytes_of(alloc, or_same(sent, written))?))
 }
 
 #[test]

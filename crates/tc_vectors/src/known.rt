@@ -4,8 +4,4 @@
 mod attributes;
 mod constants;
 mod defaults;
-mod flags;
-mod numbers;
 mod options;
-mod raw;
-mod records;

@@ -1,8 +1,8 @@
-//! Tests alone, of all crates but the program's: what no contract says, and worked bytes.
+//! Tests alone, of messages, their attributes and their options: what no contract says, and worked bytes.
 #![tactic(auto)]
 
 #[cfg(test)]
-mod actions;
+mod action_messages;
 #[cfg(test)]
 mod attributes;
 #[cfg(test)]
@@ -10,14 +10,20 @@ mod canonical;
 #[cfg(test)]
 mod flower;
 #[cfg(test)]
-mod frames;
-#[cfg(test)]
 mod known;
 #[cfg(test)]
 mod messages;
 #[cfg(test)]
-mod records;
+mod readme;
 #[cfg(test)]
-mod selectors;
+mod rewriting;
+#[cfg(test)]
+mod rewriting_actions;
 #[cfg(test)]
 mod settled;
+#[cfg(test)]
+mod tables;
+#[cfg(test)]
+mod upgrade;
+#[cfg(test)]
+mod worked;

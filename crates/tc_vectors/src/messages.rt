@@ -1,13 +1,12 @@
-//! Worked messages, and memory that is refused.
+//! Worked messages.
 
-use failing::Failing;
 use std::alloc::Global;
 use std::process::Abort;
 use std::test::Fail;
 use tc_wire::{
     AddressFamily, DecodeError, DefaultNla, Emitable, Nla, NlaBuffer, ParseableBytes,
     ParseableParametrized, TcAttribute, TcHandle, TcHeader, TcMessage, TcOption,
-    TcQdiscFqCodelOption, VecTcAttribute, VecTcOption, parse_frames_with,
+    TcQdiscFqCodelOption, VecTcAttribute, VecTcOption, is_canonical_tc, parse_frames_with,
 };
 
 /// A message about a discipline `fq_codel` with a limit of 10240 packets: its header, its kind and its options.
@@ -73,6 +72,8 @@ fn reads_as(
     let message = TcMessage::parse(alloc, bytes)?;
     is_written_as(rt, &message, written)?;
     assert_eq!(rt; message, TcMessage::from_parts(header, attributes));
+    assert!(rt; message.is_settled());
+    assert_eq!(rt; is_canonical_tc(bytes), bytes == written);
     Ok(())
 }
 
@@ -214,41 +215,5 @@ fn messages_are_made(rt: HostRuntime) -> Result<(), Fail> {
     let (header, attributes) = message.into_parts();
     assert_eq!(rt; header, TcHeader::default());
     assert_eq!(rt; attributes.len(), 1);
-    Ok(())
-}
-
-/// Whether the message is read and written where the request of this number is refused; where it is not, it is for
-/// want of memory.
-fn is_read(rt: &impl Abort, alloc: Global, bytes: &[u8; 48], at: u64) -> Result<bool, Fail> {
-    let failing = Failing::new(alloc, at);
-    let result = TcMessage::parse(&failing, bytes);
-    if failing.has_refused() {
-        assert_eq!(rt; result.err(), Some(DecodeError::OutOfMemory), "at {at}");
-        return Ok(false);
-    }
-    let message = result?;
-    // what follows takes no memory
-    failing.refuse(1);
-    let mut buffer = [0; 48];
-    assert!(rt; message.fits());
-    assert_eq!(rt; message.buffer_len(), buffer.len());
-    message.emit(&mut buffer);
-    assert_eq!(rt; buffer, *bytes);
-    assert!(rt; !failing.has_refused());
-    Ok(true)
-}
-
-#[test]
-fn want_of_memory_is_told(rt: HostRuntime) -> Result<(), Fail> {
-    for bytes in [FQ_CODEL, with_two_nuls()] {
-        let mut is_done = false;
-        for at in 1..1000u64 {
-            is_done = is_read(&rt, rt.alloc(), &bytes, at)?;
-            if is_done {
-                break;
-            }
-        }
-        assert!(rt; is_done);
-    }
     Ok(())
 }

@@ -1,11 +1,15 @@
 //! Values made by hand: which of them read back as themselves, and as what the others do.
 
+use crate::tables::is_written;
 use nla_frames::{
     AddressFamily, DecodeError, DefaultNla, Emitable, ParseableBytes, Settle, SettleBytes,
 };
 use std::alloc::Global;
 use std::process::Abort;
 use std::test::Fail;
+use tc_action_messages::{TcActionMessage, TcActionMessageAttribute};
+use tc_actions::{TcAction, TcActionAttribute, TcFqCodelXstats, TcXstats};
+use tc_options::TcFilterU32Option;
 use tc_records::{
     TcActionMessageHeader, TcActionType, TcHeader, TcMirror, TcMirrorActionType, TcNat, TcTunnelKey,
 };
@@ -24,6 +28,11 @@ fn kind(alloc: Global, text: &str) -> Result<TcAttribute, Fail> {
 
 fn options(alloc: Global) -> Result<TcAttribute, Fail> {
     Ok(TcAttribute::Options(vec![in alloc; limit()]?))
+}
+
+fn hash(alloc: Global) -> Result<TcAttribute, Fail> {
+    let hash = TcOption::U32(TcFilterU32Option::Hash(5));
+    Ok(TcAttribute::Options(vec![in alloc; hash]?))
 }
 
 fn kept(alloc: Global, word: u16, value: &[u8]) -> Result<DefaultNla, Fail> {
@@ -103,6 +112,82 @@ fn of_messages(rt: HostRuntime) -> Result<(), Fail> {
     let made = vec![in alloc; TcAttribute::DumpInvisible(false)]?;
     let read = vec![in alloc; TcAttribute::DumpInvisible(true)]?;
     read_back_as(&rt, alloc, made, &[4, 0, 10, 0], Ok(read))
+}
+
+#[test]
+#[rattlefmt::skip]
+fn of_messages_of_a_known_kind(rt: HostRuntime) -> Result<(), Fail> {
+    let alloc = rt.alloc();
+    let frames = [8, 0, 1, 0, 0x75, 0x33, 0x32, 0, 12, 0, 2, 0, 8, 0, 2, 0, 5, 0, 0, 0];
+
+    // u32, and options of fq_codel
+    let made = vec![in alloc; kind(alloc, "u32")?, options(alloc)?]?;
+    let read = vec![in alloc; kind(alloc, "u32")?, hash(alloc)?]?;
+    read_back_as(&rt, alloc, made, &frames, Ok(read))?;
+
+    // u32, and its own options as they stand
+    let made = vec![in alloc; kind(alloc, "u32")?, raw(alloc, 2, &LIMIT)?]?;
+    let read = vec![in alloc; kind(alloc, "u32")?, hash(alloc)?]?;
+    read_back_as(&rt, alloc, made, &frames, Ok(read))?;
+
+    // u32, and its own options
+    let made = vec![in alloc; kind(alloc, "u32")?, hash(alloc)?]?;
+    let read = vec![in alloc; kind(alloc, "u32")?, hash(alloc)?]?;
+    read_back_as(&rt, alloc, made, &frames, Ok(read))?;
+
+    // fq_codel, and statistics without their number
+    let frames = [13, 0, 1, 0, 0x66, 0x71, 0x5f, 0x63, 0x6f, 0x64, 0x65, 0x6c, 0, 0, 0, 0, 7, 0, 4, 0, 1, 2, 3, 0];
+    let stats = TcXstats::FqCodel(TcFqCodelXstats::Other([1, 2, 3].to_vec(alloc)?));
+    let made = vec![in alloc; kind(alloc, "fq_codel")?, TcAttribute::Xstats(stats)]?;
+    read_back_as(&rt, alloc, made, &frames, Err(DecodeError::XstatsShort { len: 3 }))
+}
+
+/// An attribute of one action `nat`.
+fn nat(alloc: Global, tab: u16) -> Result<TcActionMessageAttribute, Fail> {
+    let attributes = vec![in alloc; TcActionAttribute::Kind("nat".to_string(alloc)?)]?;
+    let action = TcAction { tab, attributes };
+    Ok(TcActionMessageAttribute::Actions(vec![in alloc; action]?))
+}
+
+fn warning(alloc: Global, text: &str) -> Result<TcActionMessageAttribute, Fail> {
+    Ok(TcActionMessageAttribute::RootExtWarnMsg(text.to_string(alloc)?))
+}
+
+// Asserts that an attribute of an action message is written as this frame, what that reads back as, and that the message is settled exactly
+// where that is itself.
+fn action_reads_back_as(
+    rt: &impl Abort,
+    alloc: Global,
+    made: TcActionMessageAttribute,
+    frame: &[u8],
+    read: TcActionMessageAttribute,
+) -> Result<(), Fail> {
+    let mut message = TcActionMessage::default_in(alloc);
+    message.attributes.push(made)?;
+    let mut bytes = [0; 4].to_vec(alloc)?;
+    bytes.extend_from_slice(frame)?;
+    assert!(rt; is_written(&message, &bytes));
+    let again = TcActionMessage::parse(alloc, &bytes)?;
+    assert_eq!(rt; again.attributes, vec![in alloc; read]?);
+    assert_eq!(rt; message.is_settled(), again == message);
+    Ok(())
+}
+
+#[test]
+#[rattlefmt::skip]
+fn of_action_messages(rt: HostRuntime) -> Result<(), Fail> {
+    let alloc = rt.alloc();
+    let frame = [0x10, 0, 1, 0, 12, 0, 1, 0x80, 8, 0, 1, 0, 0x6e, 0x61, 0x74, 0];
+    action_reads_back_as(&rt, alloc, nat(alloc, 0x8001)?, &frame, nat(alloc, 1)?)?;
+    let frame = [0x10, 0, 1, 0, 12, 0, 3, 0, 8, 0, 1, 0, 0x6e, 0x61, 0x74, 0];
+    action_reads_back_as(&rt, alloc, nat(alloc, 3)?, &frame, nat(alloc, 3)?)?;
+    let frame = [6, 0, 5, 0, 0x61, 0, 0, 0];
+    action_reads_back_as(&rt, alloc, warning(alloc, "a\0")?, &frame, warning(alloc, "a")?)?;
+    let frame = [6, 0, 5, 0, 0x68, 0x69, 0, 0];
+    action_reads_back_as(&rt, alloc, warning(alloc, "hi")?, &frame, warning(alloc, "hi")?)?;
+    let frame = [8, 0, 3, 0, 6, 0, 0, 0];
+    let other = TcActionMessageAttribute::Other(kept(alloc, 3, &[6, 0, 0, 0])?);
+    action_reads_back_as(&rt, alloc, other, &frame, TcActionMessageAttribute::RootCount(6))
 }
 
 #[test]

@@ -1,10 +1,14 @@
--- What hex digits are decoded to is bytes.
-use Rattle.std.proofs.Common.{◌≡◌, ℕ, zero, suc, ◌+◌, ◌-◌, ◌*◌, ◌<◌, ◌%◌, List, [], ◌∷◌, length, Bool, true, false, Option, Some, None, Result, Ok, Err, refl, subst, arith}
+-- What a text is decoded to is bytes that can be counted.
+use Rattle.std.proofs.Common.{◌≡◌, ℕ, zero, suc, ◌+◌, ◌-◌, ◌*◌, ◌<◌, ◌≤◌, ◌%◌}
+use Rattle.std.proofs.Common.{List, [], ◌∷◌, length, Bool, true, false, Option, Some, None, Result, Ok, Err, not, refl, subst, arith}
 use Rattle.std.proofs.lemmas.Bool.{and_parts, leb-true}
+use Rattle.std.proofs.lemmas.List.Filters.{length-filter_both}
 use Rattle.std.specs.Prelude.{nat_le, ◌&&◌, ◌==◌, if◌then◌else◌}
 use Rattle.hex.specs.Hex.{IsBytes, hex_digit_value, digit_or_error, value_at, pair_value, decode_pairs, decode_of, ◌>>=◌}
 use Rattle.hex.specs.declared.error.FromHexError.{FromHexError}
 use Rattle.hex.specs.declared.error.FromHexError.TheVariants.{OddLength}
+use Rattle.nla_frames.specs.Codec.{IsWireBytes}
+use Rattle.tcrewrite.specs.Text.{most_text, is_space, without_spaces}
 
 IsBytes-nil : IsBytes []
 IsBytes-nil i = omega arith
@@ -44,21 +48,36 @@ pair_below high low i b = go (value_at high i) refl (value_at low (i + 1)) refl
     go (Ok x) h-is (Err e) l-is is = absurd cc
     go (Ok x) h-is (Ok y) l-is is = let e : x * 16 + y ≡ b = cc in omega (arith, value_below high i x h-is, value_below low (i + 1) y l-is)
 
-pairs_IsBytes : (i : ℕ) (text bytes : List ℕ) → decode_pairs i text ≡ Ok bytes → IsBytes bytes
+-- bytes, and no more than so many
+abbrev BytesUpTo : ℕ → List ℕ → Type 0
+BytesUpTo most bytes = IsBytes bytes × (length bytes ≤ most)
+
+pairs_within : (i : ℕ) (text bytes : List ℕ) → decode_pairs i text ≡ Ok bytes → BytesUpTo (length text) bytes
 unfolding decode_pairs
-pairs_IsBytes i [] bytes is = let e : [] ≡ bytes = cc in subst IsBytes e IsBytes-nil
-pairs_IsBytes i (digit ∷ []) bytes is = absurd cc
-pairs_IsBytes i (high ∷ low ∷ rest) bytes is = go (pairs_IsBytes (i + 2) rest) (pair_value high low i) refl (decode_pairs (i + 2) rest) refl is
+pairs_within i [] bytes is = let e : [] ≡ bytes = cc in subst (BytesUpTo 0) e (IsBytes-nil, omega arith)
+pairs_within i (digit ∷ []) bytes is = absurd cc
+pairs_within i (high ∷ low ∷ rest) bytes is = go (pairs_within (i + 2) rest) (pair_value high low i) refl (decode_pairs (i + 2) rest) refl is
   where
-    go : ((bs : List ℕ) → decode_pairs (i + 2) rest ≡ Ok bs → IsBytes bs) → (b : Decoded ℕ) → pair_value high low i ≡ b → (bs : Decoded (List ℕ)) → decode_pairs (i + 2) rest ≡ bs → (b >>= λ x. bs >>= λ xs. Ok (x ∷ xs)) ≡ Ok bytes → IsBytes bytes
+    go : ((bs : List ℕ) → decode_pairs (i + 2) rest ≡ Ok bs → BytesUpTo (length rest) bs)
+        → (b : Decoded ℕ) → pair_value high low i ≡ b → (bs : Decoded (List ℕ)) → decode_pairs (i + 2) rest ≡ bs
+        → (b >>= λ x. bs >>= λ xs. Ok (x ∷ xs)) ≡ Ok bytes → BytesUpTo (length (high ∷ low ∷ rest)) bytes
     go later (Err e) b-is bs bs-is is = absurd cc
     go later (Ok x) b-is (Err e) bs-is is = absurd cc
-    go later (Ok x) b-is (Ok xs) bs-is is = let e : x ∷ xs ≡ bytes = cc in subst IsBytes e (IsBytes-cons x xs (pair_below high low i x b-is) (later xs bs-is))
+    go later (Ok x) b-is (Ok xs) bs-is is =
+        let e : x ∷ xs ≡ bytes = cc in
+        let most = later xs bs-is in
+        subst (BytesUpTo (length (high ∷ low ∷ rest))) e (IsBytes-cons x xs (pair_below high low i x b-is) most.0, omega (arith, most.1))
 
--- what is decoded is bytes
-pub IsBytes-decode_of : (text bytes : List ℕ) → decode_of text ≡ Ok bytes → IsBytes bytes
-IsBytes-decode_of text bytes = go (length text % 2 == 1)
+decode_of_within : (text bytes : List ℕ) → decode_of text ≡ Ok bytes → BytesUpTo (length text) bytes
+decode_of_within text bytes = go (length text % 2 == 1)
   where
-    go : (odd : Bool) → (if odd then Err OddLength else decode_pairs 0 text) ≡ Ok bytes → IsBytes bytes
+    go : (odd : Bool) → (if odd then Err OddLength else decode_pairs 0 text) ≡ Ok bytes → BytesUpTo (length text) bytes
     go true is = absurd cc
-    go false is = pairs_IsBytes 0 text bytes is
+    go false is = pairs_within 0 text bytes is
+
+-- what is decoded of a text that isn't too long is bytes that can be counted
+pub wire_decoded : (text bytes : List ℕ) → length text ≤ most_text → decode_of (without_spaces text) ≡ Ok bytes → IsWireBytes bytes
+wire_decoded text bytes short is =
+    let within = decode_of_within (without_spaces text) bytes is in
+    let shorter = length-filter_both (λ c. not (is_space c)) (λ c. not (not (is_space c))) (λ c. refl) text in
+    record { are_bytes = record { each = within.0 }; long = omega (arith, within.1, shorter, short) }

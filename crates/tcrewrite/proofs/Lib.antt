@@ -1,3 +1,4 @@
 pub mod Decoding
+pub mod Outcomes
 pub mod Reports
 pub mod Streams

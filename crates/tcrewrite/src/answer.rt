@@ -1,16 +1,17 @@
 //! The report on a text, in memory.
 
 ghost use Rattle.std.specs.Prelude.{◌≡◌, IfOk, IsTrue, string_bytes};
-ghost use Rattle.tc_wire.specs.Facade.{tc_message, FitsTc, tc_bytes};
-ghost use Rattle.tcrewrite.specs.Answer.{report_of};
-ghost use Rattle.tcrewrite.specs.Report.{one_line, yes_or_no, bytes_line, accepted, ReportsBytes, IsReport};
-ghost use Rattle.tcrewrite.specs.declared.mode.Mode.TheVariants.{Tc};
+ghost use Rattle.tcrewrite.specs.Answer.{report_of, words_as_read};
+ghost use Rattle.tcrewrite.specs.Report.{one_line, yes_or_no, bytes_line, accepted, ReportsAs, ReportsBytes, IsReport};
 
 use crate::mode::Mode;
+use crate::reported::Reported;
 use crate::text::{MOST_TEXT, drop_spaces};
 use hex::FromHexError;
 use std::alloc::{AllocError, Allocator};
-use tc_wire::{DecodeError, Emitable, ParseableBytes, TcMessage};
+use tc_action_messages::TcActionMessage;
+use tc_meaning::laws;
+use tc_wire::{DecodeError, Emitable, TcMessage};
 
 /// A report in memory, ready to be written.
 #[derive(Drop)]
@@ -34,12 +35,9 @@ fn yes_or_no(holds: bool) -> &'static str
 }
 
 // The bytes of a message that fits.
-fn emitted_tc<A: Allocator + Copy>(
-    alloc: A,
-    message: &TcMessage<A>,
-) -> Result<Vec<u8, A>, AllocError>
-    requires { FitsTc (tc_message message.now) }
-    ensures { IfOk result (λ bytes. bytes.items ≡ tc_bytes (tc_message message.now)) }
+fn emitted<A: Allocator, M: Emitable>(alloc: A, message: &M) -> Result<Vec<u8, A>, AllocError>
+    requires { M.codec.Fits (M.see message.now) }
+    ensures { IfOk result (λ bytes. bytes.items ≡ M.codec.write (M.see message.now)) }
 {
     let mut bytes = vec![in alloc; 0u8; message.buffer_len()]?;
     message.emit(&mut bytes);
@@ -47,47 +45,53 @@ fn emitted_tc<A: Allocator + Copy>(
 }
 
 // The line of the emitted bytes, where the message fits.
-fn bytes_line<A: Allocator + Copy>(
+fn bytes_line<A: Allocator + Copy, M: Emitable>(
     alloc: A,
-    message: &TcMessage<A>,
+    message: &M,
     fits: bool,
 ) -> Result<String<A>, AllocError>
-    requires { IsTrue fits → FitsTc (tc_message message.now) }
-    ensures { IfOk result (λ text. string_bytes text ≡ bytes_line fits (tc_bytes (tc_message message.now))) }
+    requires { IsTrue fits → M.codec.Fits (M.see message.now) }
+    ensures { IfOk result (λ text. string_bytes text ≡ bytes_line fits (M.codec.write (M.see message.now))) }
 {
     if !fits {
         return Ok(String::new(alloc));
     }
-    let bytes = emitted_tc(alloc, message)?;
+    let bytes = emitted(alloc, message)?;
     let digits = hex::encode(alloc, bytes.as_slice())?;
     format!(in alloc; "bytes {digits}\n")
 }
 
 // The lines for an accepted message.
-fn accepted_tc<A: Allocator + Copy>(
+fn accepted<A: Allocator + Copy, M: Emitable>(
     alloc: A,
-    message: &TcMessage<A>,
+    message: &M,
     fits: bool,
     settled: bool,
+    canonical: bool,
 ) -> Result<String<A>, AllocError>
-    requires { IsTrue fits → FitsTc (tc_message message.now) }
-    ensures { IfOk result (λ text. string_bytes text ≡ accepted fits settled (tc_bytes (tc_message message.now))) }
+    requires { IsTrue fits → M.codec.Fits (M.see message.now) }
+    ensures { IfOk result (λ text. string_bytes text ≡ accepted fits settled canonical (M.codec.write (M.see message.now))) }
 {
     let bytes = bytes_line(alloc, message, fits)?;
     let fits = yes_or_no(fits);
     let settled = yes_or_no(settled);
-    format!(in alloc; "fits {fits}\nsettled {settled}\n{bytes}")
+    let canonical = yes_or_no(canonical);
+    format!(in alloc; "fits {fits}\nsettled {settled}\ncanonical {canonical}\n{bytes}")
 }
 
-// The answer to the bytes of a message.
-fn answer_tc<A: Allocator + Copy>(alloc: A, bytes: &[u8]) -> Result<Answer<A>, AllocError>
-    ensures { IfOk result (λ answer. ReportsBytes Tc bytes.now (report_of answer)) }
+// The answer to the bytes of a message of one type.
+fn answer_as<A: Allocator + Copy, M: Reported<A> + Drop>(
+    alloc: A,
+    bytes: &[u8],
+) -> Result<Answer<A>, AllocError>
+    ensures { IfOk result (λ answer. ReportsAs (words_as_read M.codec M.Canonical) bytes.now (report_of answer)) }
 {
-    match TcMessage::parse(alloc, bytes) {
+    match M::parse(alloc, bytes) {
         Ok(message) => {
             let fits = message.fits();
-            let settled = message.is_settled();
-            let text = accepted_tc(alloc, &message, fits, settled)?;
+            let settled = message.reads_back();
+            let canonical = M::are_canonical(bytes);
+            let text = accepted(alloc, &message, fits, settled, canonical)?;
             Ok(Answer { text, status: 0 })
         }
         Err(DecodeError::OutOfMemory) => Err(AllocError),
@@ -95,6 +99,26 @@ fn answer_tc<A: Allocator + Copy>(alloc: A, bytes: &[u8]) -> Result<Answer<A>, A
             let name = e.name();
             let text = format!(in alloc; "refused {name}\n")?;
             Ok(Answer { text, status: 1 })
+        }
+    }
+}
+
+// The answer to the bytes of a message.
+fn answer_bytes<A: Allocator + Copy>(
+    alloc: A,
+    mode: Mode,
+    bytes: &[u8],
+) -> Result<Answer<A>, AllocError>
+    ensures { IfOk result (λ answer. ReportsBytes mode bytes.now (report_of answer)) }
+{
+    match mode {
+        Mode::Tc => {
+            laws::tc_message(bytes);
+            answer_as::<A, TcMessage<A>>(alloc, bytes)
+        }
+        Mode::Action => {
+            laws::action_message(bytes);
+            answer_as::<A, TcActionMessage<A>>(alloc, bytes)
         }
     }
 }
@@ -112,9 +136,7 @@ pub fn answer_text<A: Allocator + Copy>(
     }
     drop_spaces(&mut text);
     match hex::decode(alloc, text.as_slice()) {
-        Ok(bytes) => match mode {
-            Mode::Tc => answer_tc(alloc, &bytes),
-        },
+        Ok(bytes) => answer_bytes(alloc, mode, &bytes),
         Err(FromHexError::OutOfMemory) => Err(AllocError),
         Err(_) => one_line(alloc, "bad hex", 2),
     }

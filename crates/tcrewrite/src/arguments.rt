@@ -1,6 +1,7 @@
 //! What the program's arguments ask for.
 
-ghost use Rattle.std.specs.Prelude.{◌≡◌, ◌≢◌, ◌↔◌, map, string_bytes};
+ghost use Rattle.std.specs.Prelude.{◌≡◌, ◌≢◌, ◌↔◌, ◌⊎◌, IfOk, IfErr, map, string_bytes};
+ghost use Rattle.std.specs.Vec.Iter.{into_iter_items};
 ghost use Rattle.std.specs.IoError.{error_kind};
 ghost use Rattle.tcrewrite.specs.Arguments.{AsksFor};
 ghost use Rattle.tcrewrite.specs.declared.mode.Mode.{Mode};
@@ -8,9 +9,8 @@ ghost use Rattle.tcrewrite.specs.declared.arguments.Request.TheVariants.{Report,
 
 use crate::mode::Mode;
 use std::alloc::Allocator;
-use std::env;
+use std::env::Args;
 use std::io::{Error, ErrorKind};
-use std::rt::Env;
 
 /// What is asked for.
 #[derive(PartialEq, Eq, Clone, Copy, Debug)]
@@ -52,11 +52,17 @@ fn request_of_fault(fault: &Error) -> Request
     }
 }
 
-/// What the program's own arguments ask for.
-pub fn read_arguments<R: Env + Alloc>(rt: &R) -> Request {
-    match env::args(rt) {
-        Ok(arguments) => match Vec::from_iter(rt.alloc(), arguments) {
-            Ok(arguments) => request_of(&arguments),
+/// What the program's own arguments ask for, as they were read: with memory enough, what they ask for, and where one
+/// isn't UTF-8, nothing that is known.
+pub fn request_from<A: Allocator>(alloc: A, arguments: Result<Args<A>, Error>) -> Request
+    ensures read { IfOk arguments (λ words. (result ≡ NoMemory)
+        ⊎ ((mode : Mode) → (result ≡ Report mode) ↔ AsksFor (map string_bytes (into_iter_items words)) mode)) }
+    ensures fault { IfErr arguments (λ fault. (result ≡ NoMemory) ↔ (error_kind fault ≡ ErrorKind.OutOfMemory)) }
+    ensures no_report { IfErr arguments (λ fault. (mode : Mode) → result ≢ Report mode) }
+{
+    match arguments {
+        Ok(words) => match Vec::from_iter(alloc, words) {
+            Ok(words) => request_of(&words),
             Err(_) => Request::NoMemory,
         },
         Err(fault) => request_of_fault(&fault),

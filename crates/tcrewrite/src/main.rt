@@ -7,19 +7,20 @@ mod laws;
 mod mode;
 mod patience;
 mod program;
+mod reported;
 mod run;
 #[cfg(test)]
 mod tests;
 mod text;
 mod writing;
 
-use crate::arguments::read_arguments;
+use crate::arguments::request_from;
 use crate::program::serve;
-use std::io;
 use std::process::ExitCode;
+use std::{env, io};
 
 fn main(rt: HostRuntime) -> ExitCode {
-    let request = read_arguments(&rt);
+    let request = request_from(rt.alloc(), env::args(&rt));
     let (mut writer, mut errors) = (io::writer(&rt), rt.stderr());
     ExitCode::from(serve(
         rt.alloc(),

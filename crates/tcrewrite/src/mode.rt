@@ -8,6 +8,9 @@ ghost use Rattle.tcrewrite.specs.Word.{word_of};
 pub enum Mode {
     /// A whole `TcMessage`.
     Tc,
+
+    /// A whole `TcActionMessage`.
+    Action,
 }
 
 impl Mode {
@@ -17,6 +20,7 @@ impl Mode {
     {
         match word {
             "tc" => Some(Mode::Tc),
+            "action" => Some(Mode::Action),
             _ => None,
         }
     }

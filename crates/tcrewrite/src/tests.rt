@@ -1,28 +1,23 @@
 //! What no clause says: values from outside, and readers and writers that fail.
 
-use crate::arguments::{Request, read_arguments};
+mod hostile;
+
+use crate::arguments::{Request, request_from};
 use crate::mode::Mode;
 use crate::program::serve;
 use crate::run::{RunError, run};
 use failing::Failing;
 use std::alloc::{AllocError, Global};
-use std::env::FillError;
+use std::env::{self, FillError};
 use std::io::{Cursor, Error, ErrorKind, Read, Result, Write};
 use std::process::Abort;
 use std::rt::Env;
 use std::test::Fail;
+use tc_inputs::{Form, Row, Told, captured, made, row_of, too_long};
 
 // A message with the kind fq_codel and a limit of 10240 packets.
 const LIMIT_OF_FQ_CODEL: &str = "000000000200000000000100ffffffff\
 000000000d00010066715f636f64656c000000000c0002000800020000280000";
-
-// The same with bytes in the header's padding.
-const BYTES_IN_PADDING: &str = "000708090200000000000100ffffffff\
-000000000d00010066715f636f64656c000000000c0002000800020000280000";
-
-// The same with a second NUL in the kind, which then is no known one.
-const KIND_WITH_TWO_NULS: &str = "000000000200000000000100ffffffff\
-000000000e00010066715f636f64656c000000000c0002000800020000280000";
 
 // A header alone.
 const ZEROS: &str = "0000000000000000000000000000000000000000";
@@ -34,47 +29,6 @@ const HEADER: &str = "000000000000000a000000000000000b00000000";
 
 // A header of zeros, with a space in the middle of each byte.
 const DIVIDED_ZEROS: &str = "0 00 00 00 00 00 00 00 00 00 00 00 00 00 00 00 00 00 00 00 0";
-
-// Options before any kind.
-const OPTIONS_FIRST: &str = "0000000000000000000000000000000000000000\
-0c0002000800020000280000";
-
-// A frame of one byte, without its padding and with it.
-const SHORT_PADDING: &str = "000000000000000000000000000000000000000005000c0001";
-
-const FULL_PADDING: &str = "000000000000000000000000000000000000000005000c0001000000";
-
-// Two bytes after a whole frame.
-const TRAILING_BYTES: &str = "000000000000000000000000000000000000000008000b0007000000aabb";
-
-// A kind of one byte that begins no character.
-const KIND_NOT_UTF8: &str = "000000000000000000000000000000000000000005000100ff000000";
-
-// Messages about fq_codel as they were captured: what iproute2 sends to Linux 6.18 to add a qdisc, and what Linux 6.1 tells of one
-// when it is asked for all, with its statistics.
-const CAPTURED: [&str; 5] = [
-    // added without options
-    "000000000300000000000000ffffffff000000000d00010066715f636f64656c0000000004000200",
-    // added with a size table
-    "000000000300000000000000ffffffff000000000d00010066715f636f64656c0000000004000200200008001c000100\
-00000000fcffffff01000000000000000000000000000000",
-    // added with options about marks
-    "000000000300000000000000ffffffff000000000d00010066715f636f64656c000000001c00020008000700e8030000\
-05000b000300000005000a0001000000",
-    // added with eight options
-    "000000000300000000000100ffffffff000000000d00010066715f636f64656c00000000440002000800020000280000\
-080005000004000008000600ea05000008000300a0860100080001008813000008000400010000000800090000000002\
-0800080040000000",
-    // dumped
-    "000000000700000000001280ffffffff020000000d00010066715f636f64656c00000000440002000800010087130000\
-0800020000280000080003009f860100080004000100000008000600ea05000008000800400000000800090000000002\
-080005000004000005000c0000000000200008001c0001000300ffff1800000002000000400000000008000000020000\
-0400090068000700040006002c0004000000000000000000000000000000000000000000000000000000000000000000\
-000000000000000004000600140001000000000000000000000000000000000004000600180003000000000000000000\
-0000000000000000000000002c0003000000000000000000000000000000000000000000000000000000000000000000\
-0000000000000000040009002c0004000000000000000000000000000000000000000000000000000000000000000000\
-0000000000000000",
-];
 
 // Gives or takes one byte a call. It is interrupted so often first, and then takes so many calls.
 #[derive(Drop)]
@@ -141,9 +95,9 @@ fn reader(interruptions: usize, calls: usize) -> OneByOne<&'static [u8]> {
     }
 }
 
-// The report on a settled message that fits and has these bytes.
+// The report on a message of these bytes that came canonical.
 fn accepted(alloc: Global, bytes: &str) -> std::result::Result<String, AllocError> {
-    format!(in alloc; "fits yes\nsettled yes\nbytes {bytes}\n")
+    format!(in alloc; "fits yes\nsettled yes\ncanonical yes\nbytes {bytes}\n")
 }
 
 fn writer(alloc: Global, interruptions: usize, calls: usize) -> OneByOne<Vec<u8>> {
@@ -159,83 +113,148 @@ fn writer(alloc: Global, interruptions: usize, calls: usize) -> OneByOne<Vec<u8>
 fn reports(
     rt: &impl Abort,
     alloc: Global,
+    mode: Mode,
     text: &[u8],
     want: &str,
     status: u8,
     left: usize,
 ) -> std::result::Result<(), Fail> {
     let (mut from, mut to) = (text, Vec::new(alloc));
-    let ended = run(alloc, Mode::Tc, &mut from, &mut to);
-    assert_eq!(rt; to.as_slice(), want.as_bytes());
+    let ended = run(alloc, mode, &mut from, &mut to);
+    assert_eq!(rt; to.as_slice(), want.as_bytes(), "{want}");
     assert_eq!(rt; ended, Ok(status), "{want}");
     assert_eq!(rt; from.len(), left);
     Ok(())
 }
 
+fn mode_of(form: Form) -> Mode {
+    match form {
+        Form::Tc => Mode::Tc,
+        Form::Action => Mode::Action,
+    }
+}
+
+fn word_of(holds: bool) -> &'static str {
+    if holds { "yes" } else { "no" }
+}
+
+// The report on a message of which this has to be told, and the status.
+fn report_of(alloc: Global, told: &Told) -> std::result::Result<(String, u8), AllocError> {
+    match told {
+        Told::Refused(name) => Ok((format!(in alloc; "refused {name}\n")?, 1)),
+        Told::Accepted {
+            fits,
+            settled,
+            canonical,
+            emitted,
+        } => {
+            let (fits, settled) = (word_of(*fits), word_of(*settled));
+            let canonical = word_of(*canonical);
+            let bytes = hex::encode(alloc, emitted)?;
+            let report = format!(in alloc;
+                "fits {fits}\nsettled {settled}\ncanonical {canonical}\nbytes {bytes}\n"
+            )?;
+            Ok((report, 0))
+        }
+    }
+}
+
+// Asserts the report on the message of a row.
+fn reports_as_told(rt: &impl Abort, alloc: Global, row: &Row) -> std::result::Result<(), Fail> {
+    let text = hex::encode(alloc, &row.input.bytes)?;
+    let (report, status) = report_of(alloc, &row.told)?;
+    let mode = mode_of(row.input.form);
+    reports(rt, alloc, mode, text.as_bytes(), &report, status, 0)
+}
+
 #[test]
-fn rewrites_messages(rt: HostRuntime) -> std::result::Result<(), Fail> {
-    for (text, bytes) in [
-        (LIMIT_OF_FQ_CODEL, LIMIT_OF_FQ_CODEL),
-        (BYTES_IN_PADDING, LIMIT_OF_FQ_CODEL),
-        (KIND_WITH_TWO_NULS, KIND_WITH_TWO_NULS),
-        (ZEROS, ZEROS),
-        (SPACED_HEADER, HEADER),
-        (DIVIDED_ZEROS, ZEROS),
-        (OPTIONS_FIRST, OPTIONS_FIRST),
-        (SHORT_PADDING, FULL_PADDING),
-    ] {
-        let want = accepted(rt.alloc(), bytes)?;
-        reports(&rt, rt.alloc(), text.as_bytes(), &want, 0, 0)?;
+fn reports_on_messages(rt: HostRuntime) -> std::result::Result<(), Fail> {
+    let mut count = 0usize;
+    for row in made(rt.alloc())?.iter().chain(&captured(rt.alloc())?) {
+        reports_as_told(&rt, rt.alloc(), row)?;
+        count = count.wrapping_add(1);
+    }
+    assert_eq!(rt; count, 89);
+    Ok(())
+}
+
+#[test]
+fn reports_what_does_not_fit(rt: HostRuntime) -> std::result::Result<(), Fail> {
+    let alloc = rt.alloc();
+    for form in [Form::Tc, Form::Action] {
+        let text = hex::encode(alloc, &too_long(alloc, form)?.bytes)?;
+        let want = "fits no\nsettled yes\ncanonical no\n";
+        reports(&rt, alloc, mode_of(form), text.as_bytes(), want, 0, 0)?;
     }
     Ok(())
 }
 
 #[test]
-fn writes_captured_messages_as_they_came(rt: HostRuntime) -> std::result::Result<(), Fail> {
-    for text in CAPTURED {
-        let want = accepted(rt.alloc(), text)?;
-        reports(&rt, rt.alloc(), text.as_bytes(), &want, 0, 0)?;
+fn reads_hex_with_spaces(rt: HostRuntime) -> std::result::Result<(), Fail> {
+    for (text, bytes) in [(SPACED_HEADER, HEADER), (DIVIDED_ZEROS, ZEROS)] {
+        let want = accepted(rt.alloc(), bytes)?;
+        reports(&rt, rt.alloc(), Mode::Tc, text.as_bytes(), &want, 0, 0)?;
     }
     Ok(())
 }
 
 #[test]
 fn refuses_texts(rt: HostRuntime) -> std::result::Result<(), Fail> {
-    for (text, want, status) in [
-        ("", "refused BufferTooSmall\n", 1),
-        ("00", "refused BufferTooSmall\n", 1),
-        (&ZEROS[2..], "refused BufferTooSmall\n", 1),
-        (TRAILING_BYTES, "refused FrameHeaderShort\n", 1),
-        (KIND_NOT_UTF8, "refused NotUtf8\n", 1),
-        ("0", "bad hex\n", 2),
-        ("0g", "bad hex\n", 2),
-        ("00\x0b", "bad hex\n", 2),
-    ] {
-        reports(&rt, rt.alloc(), text.as_bytes(), want, status, 0)?;
+    for mode in [Mode::Tc, Mode::Action] {
+        for text in ["0", "0g", "00\x0b"] {
+            reports(&rt, rt.alloc(), mode, text.as_bytes(), "bad hex\n", 2, 0)?;
+        }
+    }
+    Ok(())
+}
+
+// What is told of the first bytes of the stored message, of which there are so many.
+fn row_of_front(alloc: Global, count: usize) -> std::result::Result<Row, Fail> {
+    let message = LIMIT_OF_FQ_CODEL
+        .get(..count.saturating_mul(2))
+        .ok_or("48 bytes")?;
+    let told = match count {
+        0..=19 => "BufferTooSmall",
+        20 | 36 | 48 => "yes yes yes",
+        21..=23 | 37..=39 => "FrameHeaderShort",
+        33..=35 => "yes yes no 000000000200000000000100ffffffff00000000 fq_codel",
+        _ => "FrameTooLong",
+    };
+    row_of(alloc, &format!(in alloc; "tc {message} = {told}")?)
+}
+
+#[test]
+fn reports_on_the_front_of_a_message(rt: HostRuntime) -> std::result::Result<(), Fail> {
+    for count in 0..=48usize {
+        reports_as_told(&rt, rt.alloc(), &row_of_front(rt.alloc(), count)?)?;
     }
     Ok(())
 }
 
 // Whatever request for memory is refused, the report says so and nothing else.
-#[test]
-fn reports_refused_memory(rt: HostRuntime) -> std::result::Result<(), Fail> {
-    let report = accepted(rt.alloc(), LIMIT_OF_FQ_CODEL)?;
+fn reports_refused_memory(
+    rt: &impl Abort,
+    alloc: Global,
+    row: &Row,
+) -> std::result::Result<(), Fail> {
+    let text = hex::encode(alloc, &row.input.bytes)?;
+    let (report, told) = report_of(alloc, &row.told)?;
     for at in 1..1000u64 {
-        let failing = Failing::new(rt.alloc(), at);
-        let mut page = [0u8; 256];
-        let (mut from, mut to) = (LIMIT_OF_FQ_CODEL.as_bytes(), Cursor::new(&mut page[..]));
-        let ended = run(&failing, Mode::Tc, &mut from, &mut to);
+        let failing = Failing::new(alloc, at);
+        let mut page = [0u8; 512];
+        let (mut from, mut to) = (text.as_bytes(), Cursor::new(&mut page[..]));
+        let ended = run(&failing, mode_of(row.input.form), &mut from, &mut to);
         let end = to.position();
         let (want, status) = if failing.has_refused() {
             ("refused OutOfMemory\n", 1)
         } else {
-            (report.as_str(), 0)
+            (report.as_str(), told)
         };
         assert_eq!(rt; ended, Ok(status), "request {at}");
         assert_eq!(rt; end, want.len() as u64, "request {at}");
         assert!(rt; page.starts_with(want.as_bytes()), "request {at}");
-        if status == 0 {
-            assert!(rt; at > 10, "requests before {at}");
+        if !failing.has_refused() {
+            assert!(rt; at > 2, "requests before {at}");
             return Ok(());
         }
     }
@@ -243,19 +262,24 @@ fn reports_refused_memory(rt: HostRuntime) -> std::result::Result<(), Fail> {
     Ok(())
 }
 
-fn spaces(alloc: Global, count: usize) -> std::result::Result<Vec<u8>, AllocError> {
-    vec![in alloc; b' '; count]
+#[test]
+fn reports_refused_memory_of_each_message(rt: HostRuntime) -> std::result::Result<(), Fail> {
+    for row in &made(rt.alloc())? {
+        reports_refused_memory(&rt, rt.alloc(), row)?;
+    }
+    Ok(())
 }
 
 #[test]
 fn reads_no_more_than_one_byte_too_much(rt: HostRuntime) -> std::result::Result<(), Fail> {
-    for (count, left, want, status) in [
-        (1_048_576, 0, "refused BufferTooSmall\n", 1),
-        (1_048_577, 0, "too long\n", 2),
-        (1_048_579, 2, "too long\n", 2),
+    for (letter, count, left, want, status) in [
+        (b' ', 1_048_576, 0, "refused BufferTooSmall\n", 1),
+        (b' ', 1_048_577, 0, "too long\n", 2),
+        (b' ', 1_048_579, 2, "too long\n", 2),
+        (b'x', 1_048_577, 0, "too long\n", 2),
     ] {
-        let text = spaces(rt.alloc(), count)?;
-        reports(&rt, rt.alloc(), &text, want, status, left)?;
+        let text = vec![in rt.alloc(); letter; count]?;
+        reports(&rt, rt.alloc(), Mode::Tc, &text, want, status, left)?;
     }
     Ok(())
 }
@@ -317,10 +341,11 @@ fn tries_again_1024_times_in_all(rt: HostRuntime) -> std::result::Result<(), Fai
 }
 
 #[test]
-fn knows_one_word(rt: HostRuntime) {
+fn knows_two_words(rt: HostRuntime) {
     for (word, mode) in [
         ("tc", Some(Mode::Tc)),
-        ("action", None),
+        ("action", Some(Mode::Action)),
+        ("actions", None),
         ("TC", None),
         ("", None),
     ] {
@@ -361,12 +386,13 @@ fn takes_one_word_at_most(rt: HostRuntime) {
         (none, Request::Report(Mode::Tc)),
         (&["tcrewrite"], Request::Report(Mode::Tc)),
         (&["tcrewrite", "tc"], Request::Report(Mode::Tc)),
+        (&["tcrewrite", "action"], Request::Report(Mode::Action)),
         (&["tcrewrite", ""], Request::Usage),
         (&["tcrewrite", "--help"], Request::Usage),
-        (&["tcrewrite", "tc", "tc"], Request::Usage),
+        (&["tcrewrite", "tc", "action"], Request::Usage),
         (&["tc", "tc", "tc", "tc"], Request::Usage),
     ] {
-        let read = read_arguments(&(Words(words), rt.alloc()));
+        let read = request_from(rt.alloc(), env::args(&(Words(words), rt.alloc())));
         assert_eq!(rt; read, request, "{} words", words.len());
     }
 }
@@ -378,7 +404,7 @@ fn arguments_take_memory(rt: HostRuntime) {
     let mut refusals = 0;
     for at in 1..1000u64 {
         let failing = Failing::new(rt.alloc(), at);
-        let read = read_arguments(&(words, &failing));
+        let read = request_from(&failing, env::args(&(words, &failing)));
         if read != Request::NoMemory {
             assert_eq!(rt; read, Request::Report(Mode::Tc), "request {at}");
             if !failing.has_refused() {

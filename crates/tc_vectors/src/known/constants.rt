@@ -4,7 +4,11 @@ use nla_frames::{
     DecodeError, NLA_F_NESTED, NLA_F_NET_BYTEORDER, NLA_HEADER_SIZE, NLA_TYPE_MASK,
     NLA_VALUE_MAX_SIZE,
 };
-use tc_options::TcQdiscFqCodel;
+use tc_actions::{TcActionMirror, TcActionNat, TcActionTunnelKey};
+use tc_flower::TcFilterFlower;
+use tc_options::{
+    TcFilterBpf, TcFilterMatchAll, TcFilterU32, TcQdiscFqCodel, TcQdiscIngress, is_known_kind,
+};
 use tc_records::{
     TC_ACTION_GENERIC_LEN, TC_FQ_CODEL_CL_STATS_LEN, TC_FQ_CODEL_QD_STATS_LEN, TC_HEADER_LEN,
     TC_MIRROR_LEN, TC_NAT_LEN, TC_STATS_BASIC_LEN, TC_STATS_LEN, TC_STATS_QUEUE_LEN,
@@ -69,4 +73,23 @@ fn handles(rt: HostRuntime) {
 #[test]
 fn kinds(rt: HostRuntime) {
     assert_eq!(rt; TcQdiscFqCodel::KIND, "fq_codel");
+    assert_eq!(rt; TcQdiscIngress::KIND, "ingress");
+    assert_eq!(rt; TcFilterFlower::KIND, "flower");
+    assert_eq!(rt; TcFilterU32::KIND, "u32");
+    assert_eq!(rt; TcFilterMatchAll::KIND, "matchall");
+    assert_eq!(rt; TcFilterBpf::KIND, "bpf");
+    assert_eq!(rt; TcFilterBpf::BPF_TAG_SIZE, 8);
+    assert_eq!(rt; TcActionMirror::KIND, "mirred");
+    assert_eq!(rt; TcActionNat::KIND, "nat");
+    assert_eq!(rt; TcActionTunnelKey::KIND, "tunnel_key");
+}
+
+#[test]
+fn known_kinds(rt: HostRuntime) {
+    for kind in ["fq_codel", "ingress", "flower", "u32", "matchall", "bpf"] {
+        assert!(rt; is_known_kind(kind), "{kind}");
+    }
+    for kind in ["", "sfq", "U32", "u32\0", "bp", "bpfs", "nat"] {
+        assert!(rt; !is_known_kind(kind), "{kind}");
+    }
 }

@@ -1,39 +1,225 @@
-//! The options of fq_codel, type by type.
+//! The options of a message, type by type, by themselves and in the variant of their kind.
 
-use super::attributes::are_written;
-use nla_frames::{NlaBuffer, Parseable};
+use crate::flower;
+use crate::tables::{Row, are_written, bytes_of, is_shown, misread, or_same};
+use nla_frames::{NlaBuffer, Parseable, ParseableParametrized, Settle};
 use std::alloc::Global;
-use std::process::Abort;
 use std::test::Fail;
-use tc_options::TcQdiscFqCodelOption;
+use tc_options::{
+    TcFilterBpfOption, TcFilterMatchAllOption, TcFilterU32Option, TcOption, TcQdiscFqCodelOption,
+    TcQdiscIngressOption,
+};
 
-/// Asserts that a frame reads as an option, and that the option is written as the frame.
-fn is_known(
-    rt: &impl Abort,
-    alloc: Global,
-    frame: &[u8],
-    option: TcQdiscFqCodelOption,
-) -> Result<(), Fail> {
-    let read = TcQdiscFqCodelOption::parse(alloc, &NlaBuffer::new_checked(frame)?)?;
-    assert_eq!(rt; read, option);
-    are_written(rt, &[option], frame);
+#[rattlefmt::skip]
+const FQ_CODEL: [Row; 15] = [
+    ("08000100 14131211", "Target(286397204)", ""),
+    ("08000200 24232221", "Limit(555885348)", ""),
+    ("08000300 34333231", "Interval(825373492)", ""),
+    ("08000400 44434241", "Ecn(1094861636)", ""),
+    ("08000500 54535251", "Flows(1364349780)", ""),
+    ("08000600 64636261", "Quantum(1633837924)", ""),
+    ("08000700 74737271", "CeThreshold(1903326068)", ""),
+    ("08000800 84838281", "DropBatchSize(2172814212)", ""),
+    ("08000900 94939291", "MemoryLimit(2442302356)", ""),
+    ("05000a00 a1000000", "CeThresholdSelector(161)", ""),
+    ("05000b00 b1000000", "CeThresholdMask(177)", ""),
+    ("07000000 a1a2a300", "Other(DefaultNla { word: 0, value: [161, 162, 163] })", ""),
+    ("07000c00 a1a2a300", "Other(DefaultNla { word: 12, value: [161, 162, 163] })", ""),
+    ("070063c0 a1a2a300", "Other(DefaultNla { word: 49251, value: [161, 162, 163] })", ""),
+    ("08000280 24232221", "Limit(555885348)", "08000200 24232221"),
+];
+
+#[rattlefmt::skip]
+const INGRESS: [Row; 6] = [
+    ("07000000 a1a2a300", "Other(DefaultNla { word: 0, value: [161, 162, 163] })", ""),
+    ("07000100 a1a2a300", "Other(DefaultNla { word: 1, value: [161, 162, 163] })", ""),
+    ("07000200 a1a2a300", "Other(DefaultNla { word: 2, value: [161, 162, 163] })", ""),
+    ("07006300 a1a2a300", "Other(DefaultNla { word: 99, value: [161, 162, 163] })", ""),
+    ("07000180 a1a2a300", "Other(DefaultNla { word: 32769, value: [161, 162, 163] })", ""),
+    ("04000100", "Other(DefaultNla { word: 1, value: [] })", ""),
+];
+
+#[rattlefmt::skip]
+const U32: [Row; 20] = [
+    ("08000100 14131211", "ClassId(TcHandle { major: 4370, minor: 4884 })", ""),
+    ("08000200 24232221", "Hash(555885348)", ""),
+    ("08000300 34333231", "Link(825373492)", ""),
+    ("08000400 44434241", "Divisor(1094861636)", ""),
+    ("34000500 51520200535455565758595a5b5c5d5e 6162636465666768696a6b6c6d6e6f70 7172737475767778797a7b7c7d7e7f80", "Selector(TcU32Selector { flags: TcU32SelectorFlags(81), offshift: 82, nkeys: 2, offmask: 21332, off: 22101, offoff: 22615, hoff: 23129, hmask: 1532779870, keys: [TcU32Key { mask: 1633837924, val: 1701209960, off: 1818978921, offmask: 1886350957 }, TcU32Key { mask: 1903326068, val: 1970698104, off: 2088467065, offmask: -2139128195 }] })", ""),
+    ("07000600 a1a2a300", "Police([161, 162, 163])", ""),
+    ("14000700 10000100 09000100 6761637400000000", "Action([TcAction { tab: 1, attributes: [Kind(\"gact\")] }])", ""),
+    ("07000800 a1a2a300", "Indev([161, 162, 163])", ""),
+    ("07000900 a1a2a300", "Pnct([161, 162, 163])", ""),
+    ("07000a00 a1a2a300", "Mark([161, 162, 163])", ""),
+    ("08000b00 b4b3b2b1", "Flags(TcU32OptionFlags(2981278644))", ""),
+    ("07000000 a1a2a300", "Other(DefaultNla { word: 0, value: [161, 162, 163] })", ""),
+    ("07000c00 a1a2a300", "Other(DefaultNla { word: 12, value: [161, 162, 163] })", ""),
+    ("07006380 a1a2a300", "Other(DefaultNla { word: 32867, value: [161, 162, 163] })", ""),
+    ("080002c0 24232221", "Hash(555885348)", "08000200 24232221"),
+    ("14000780 10000100 09000100 6761637400000000", "Action([TcAction { tab: 1, attributes: [Kind(\"gact\")] }])", "14000700 10000100 09000100 6761637400000000"),
+    ("04000700", "Action([])", ""),
+    ("04000600", "Police([])", ""),
+    ("34000500 51520277535455565758595a5b5c5d5e 6162636465666768696a6b6c6d6e6f70 7172737475767778797a7b7c7d7e7f80", "Selector(TcU32Selector { flags: TcU32SelectorFlags(81), offshift: 82, nkeys: 2, offmask: 21332, off: 22101, offoff: 22615, hoff: 23129, hmask: 1532779870, keys: [TcU32Key { mask: 1633837924, val: 1701209960, off: 1818978921, offmask: 1886350957 }, TcU32Key { mask: 1903326068, val: 1970698104, off: 2088467065, offmask: -2139128195 }] })", "34000500 51520200535455565758595a5b5c5d5e 6162636465666768696a6b6c6d6e6f70 7172737475767778797a7b7c7d7e7f80"),
+    ("18000500 01000000000000000000000000000000 01020304", "Selector(TcU32Selector { flags: TcU32SelectorFlags(1), offshift: 0, nkeys: 0, offmask: 0, off: 0, offoff: 0, hoff: 0, hmask: 0, keys: [] })", "14000500 01000000000000000000000000000000"),
+];
+
+#[rattlefmt::skip]
+const MATCHALL: [Row; 9] = [
+    ("08000100 14131211", "ClassId(TcHandle { major: 4370, minor: 4884 })", ""),
+    ("14000200 10000100 09000100 6761637400000000", "Action([TcAction { tab: 1, attributes: [Kind(\"gact\")] }])", ""),
+    ("08000300 34333231", "Flags(825373492)", ""),
+    ("07000400 a1a2a300", "Pnct([161, 162, 163])", ""),
+    ("07000000 a1a2a300", "Other(DefaultNla { word: 0, value: [161, 162, 163] })", ""),
+    ("07000500 a1a2a300", "Other(DefaultNla { word: 5, value: [161, 162, 163] })", ""),
+    ("07000540 a1a2a300", "Other(DefaultNla { word: 16389, value: [161, 162, 163] })", ""),
+    ("08000380 34333231", "Flags(825373492)", "08000300 34333231"),
+    ("14000280 10000100 09000100 6761637400000000", "Action([TcAction { tab: 1, attributes: [Kind(\"gact\")] }])", "14000200 10000100 09000100 6761637400000000"),
+];
+
+#[rattlefmt::skip]
+const BPF: [Row; 17] = [
+    ("08000300 34333231", "ClassId(TcHandle { major: 12594, minor: 13108 })", ""),
+    ("08000600 64636261", "ProgFd(1633837924)", ""),
+    ("06000700 70000000", "ProgName(\"p\")", ""),
+    ("08000800 84838281", "Flags(TcBpfFlags(2172814212))", ""),
+    ("08000900 94939291", "FlagsGeneric(TcU32OptionFlags(2442302356))", ""),
+    ("0c000a00 a1a2a3a4a5a6a7a8", "ProgTag([161, 162, 163, 164, 165, 166, 167, 168])", ""),
+    ("08000b00 b4b3b2b1", "ProgId(2981278644)", ""),
+    ("07000000 a1a2a300", "Other(DefaultNla { word: 0, value: [161, 162, 163] })", ""),
+    ("07000100 a1a2a300", "Other(DefaultNla { word: 1, value: [161, 162, 163] })", ""),
+    ("07000200 a1a2a300", "Other(DefaultNla { word: 2, value: [161, 162, 163] })", ""),
+    ("07000400 a1a2a300", "Other(DefaultNla { word: 4, value: [161, 162, 163] })", ""),
+    ("07000500 a1a2a300", "Other(DefaultNla { word: 5, value: [161, 162, 163] })", ""),
+    ("07000c00 a1a2a300", "Other(DefaultNla { word: 12, value: [161, 162, 163] })", ""),
+    ("07000480 a1a2a300", "Other(DefaultNla { word: 32772, value: [161, 162, 163] })", ""),
+    ("05000700 70000000", "ProgName(\"p\")", "06000700 70000000"),
+    ("04000700", "ProgName(\"\")", "05000700 00000000"),
+    ("08000640 64636261", "ProgFd(1633837924)", "08000600 64636261"),
+];
+
+/// A kind, a frame in hex that isn't read under it, and why.
+#[rattlefmt::skip]
+const FAULTS: [Row; 15] = [
+    ("fq_codel", "06000a00 01020000", "WrongLength { expected: 1, got: 2 }"),
+    ("fq_codel", "07000200 01020300", "WrongLength { expected: 4, got: 3 }"),
+    ("u32", "05000200 01000000", "WrongLength { expected: 4, got: 1 }"),
+    ("u32", "0c000100 0102030405060708", "WrongLength { expected: 4, got: 8 }"),
+    ("u32", "13000500 00000100000000000000000000000000", "SelectorShort { len: 15, needed: 16 }"),
+    ("u32", "14000500 00000100000000000000000000000000", "SelectorShort { len: 16, needed: 32 }"),
+    ("u32", "08000700 04000100", "MissingKind"),
+    ("u32", "06000700 01020000", "FrameHeaderShort { left: 2 }"),
+    ("matchall", "08000200 03000100", "FrameTooShort { length: 3 }"),
+    ("matchall", "05000300 01000000", "WrongLength { expected: 4, got: 1 }"),
+    ("bpf", "0b000a00 0102030405060700", "WrongLength { expected: 8, got: 7 }"),
+    ("bpf", "0d000a00 010203040506070809000000", "WrongLength { expected: 8, got: 9 }"),
+    ("bpf", "06000700 ff000000", "NotUtf8"),
+    ("bpf", "04000600", "WrongLength { expected: 4, got: 0 }"),
+    ("flower", "08000400 01020304", "WrongLength { expected: 6, got: 4 }"),
+];
+/// The kinds that are known, and their variants.
+const KINDS: [(&str, &str); 6] = [
+    ("fq_codel", "FqCodel"),
+    ("ingress", "Ingress"),
+    ("flower", "Flower"),
+    ("u32", "U32"),
+    ("matchall", "MatchAll"),
+    ("bpf", "Bpf"),
+];
+
+#[test]
+fn by_themselves(rt: HostRuntime) -> Result<(), Fail> {
+    let alloc = rt.alloc();
+    assert_eq!(rt; misread::<TcQdiscFqCodelOption>(alloc, &FQ_CODEL)?, None);
+    assert_eq!(rt; misread::<TcQdiscIngressOption>(alloc, &INGRESS)?, None);
+    assert_eq!(rt; misread::<TcFilterU32Option>(alloc, &U32)?, None);
+    assert_eq!(rt; misread::<TcFilterMatchAllOption>(alloc, &MATCHALL)?, None);
+    assert_eq!(rt; misread::<TcFilterBpfOption>(alloc, &BPF)?, None);
     Ok(())
 }
 
+/// Whether a frame is read under a kind as an option of its variant and of this text, and that written as it has to be.
+fn is_known(alloc: Global, kind: &str, variant: &str, row: &Row) -> Result<bool, Fail> {
+    let (frame, text, written) = *row;
+    let bytes = bytes_of(alloc, frame)?;
+    let read = TcOption::parse_with_param(alloc, &NlaBuffer::new_checked(&bytes)?, kind)?;
+    let text = format!(in alloc; "{variant}({text})")?;
+    let written = bytes_of(alloc, or_same(frame, written))?;
+    Ok(is_shown(alloc, &read, text.as_str())? && are_written(&[read], &written))
+}
+
+/// The first row of a kind's table that is read or written as another.
+fn misread_under(
+    alloc: Global,
+    kind: &str,
+    variant: &str,
+    rows: &[Row],
+) -> Result<Option<&'static str>, Fail> {
+    for row in rows {
+        if !is_known(alloc, kind, variant, row)? {
+            return Ok(Some(row.0));
+        }
+    }
+    Ok(None)
+}
+
 #[test]
-#[rattlefmt::skip]
-fn of_fq_codel(rt: HostRuntime) -> Result<(), Fail> {
-    let alloc = rt.alloc();
-    is_known(&rt, alloc, &[8, 0, 1, 0, 0x14, 0x13, 0x12, 0x11], TcQdiscFqCodelOption::Target(0x1112_1314))?;
-    is_known(&rt, alloc, &[8, 0, 2, 0, 0x24, 0x23, 0x22, 0x21], TcQdiscFqCodelOption::Limit(0x2122_2324))?;
-    is_known(&rt, alloc, &[8, 0, 3, 0, 0x34, 0x33, 0x32, 0x31], TcQdiscFqCodelOption::Interval(0x3132_3334))?;
-    is_known(&rt, alloc, &[8, 0, 4, 0, 0x44, 0x43, 0x42, 0x41], TcQdiscFqCodelOption::Ecn(0x4142_4344))?;
-    is_known(&rt, alloc, &[8, 0, 5, 0, 0x54, 0x53, 0x52, 0x51], TcQdiscFqCodelOption::Flows(0x5152_5354))?;
-    is_known(&rt, alloc, &[8, 0, 6, 0, 0x64, 0x63, 0x62, 0x61], TcQdiscFqCodelOption::Quantum(0x6162_6364))?;
-    is_known(&rt, alloc, &[8, 0, 7, 0, 0x74, 0x73, 0x72, 0x71], TcQdiscFqCodelOption::CeThreshold(0x7172_7374))?;
-    is_known(&rt, alloc, &[8, 0, 8, 0, 0x84, 0x83, 0x82, 0x81], TcQdiscFqCodelOption::DropBatchSize(0x8182_8384))?;
-    is_known(&rt, alloc, &[8, 0, 9, 0, 0x94, 0x93, 0x92, 0x91], TcQdiscFqCodelOption::MemoryLimit(0x9192_9394))?;
-    is_known(&rt, alloc, &[5, 0, 10, 0, 0xa1, 0, 0, 0], TcQdiscFqCodelOption::CeThresholdSelector(0xa1))?;
-    is_known(&rt, alloc, &[5, 0, 11, 0, 0xb1, 0, 0, 0], TcQdiscFqCodelOption::CeThresholdMask(0xb1))?;
+fn under_their_kind(rt: HostRuntime) -> Result<(), Fail> {
+    for ((kind, variant), rows) in KINDS.iter().zip([
+        FQ_CODEL.as_slice(),
+        &INGRESS,
+        &flower::EACH,
+        &U32,
+        &MATCHALL,
+        &BPF,
+    ]) {
+        assert_eq!(rt;
+            misread_under(rt.alloc(), kind, variant, rows)?,
+            None,
+            "{kind}"
+        );
+    }
+    Ok(())
+}
+
+/// Whether a type that no table knows is kept under a kind, in its variant, and settled under that kind alone.
+fn is_kept(alloc: Global, kind: &str, variant: &str) -> Result<bool, Fail> {
+    let frame = NlaBuffer::new_checked(&[5, 0, 0xff, 0x40, 7, 0, 0, 0])?;
+    let read = TcOption::parse_with_param(alloc, &frame, kind)?;
+    let kept = "Other(DefaultNla { word: 16639, value: [7] })";
+    let text = format!(in alloc; "{variant}({kept})")?;
+    if !is_shown(alloc, &read, text.as_str())? {
+        return Ok(false);
+    }
+    for (other, _) in &KINDS {
+        if read.is_settled_under(other) != (*other == kind) {
+            return Ok(false);
+        }
+    }
+    Ok(!read.is_settled_under("sfq") && !read.is_settled_under(""))
+}
+
+#[test]
+fn settled_under_their_kind_alone(rt: HostRuntime) -> Result<(), Fail> {
+    for (kind, variant) in &KINDS {
+        assert!(rt; is_kept(rt.alloc(), kind, variant)?, "{kind}");
+    }
+    Ok(())
+}
+
+/// Whether a frame is refused under a kind with this fault.
+fn is_refused(alloc: Global, row: &Row) -> Result<bool, Fail> {
+    let (kind, frame, fault) = *row;
+    let bytes = bytes_of(alloc, frame)?;
+    match TcOption::parse_with_param(alloc, &NlaBuffer::new_checked(&bytes)?, kind) {
+        Ok(_) => Ok(false),
+        Err(found) => Ok(is_shown(alloc, &found, fault)?),
+    }
+}
+
+#[test]
+fn refused(rt: HostRuntime) -> Result<(), Fail> {
+    for row in &FAULTS {
+        assert!(rt; is_refused(rt.alloc(), row)?, "{}", row.1);
+    }
     Ok(())
 }

@@ -1,21 +1,23 @@
 use Rattle.std.proofs.Common.{inl, inr, refl, rules}
-use Rattle.tc_wire.specs.Facade.{tc_message}
-use Rattle.tcrewrite.proofs.answer.answer_tc.Goals as goal
+use Rattle.nla_frames.proofs.Outcomes.{Gives-refused}
+use Rattle.tcrewrite.proofs.answer.answer_as.Goals as goal
 
 pub returns-in_ok-text-in-Ok : goal.returns-in_ok-text-in-Ok
 returns-in_ok-text-in-Ok g c = inl (record {
-  message = tc_message c.in-Ok.message;
+  message = g.M.BytesMeaning.see c.in-Ok.message;
   fits = c.fits-fits.result;
-  settled = c.is_settled-settled.result;
-  reads = c.in-Ok.ensures.found;
+  settled = c.reads_back-settled.result;
+  canonical = c.are_canonical-canonical.result;
+  reads = c.in-Ok.ensures;
   tells_fits = c.fits-fits.ensures;
-  tells_settled = c.is_settled-settled.ensures.settled;
+  tells_settled = c.reads_back-settled.ensures;
+  tells_canonical = c.are_canonical-canonical.ensures;
   is = rw c.in_ok-text-in-Ok.ensures refl;
 })
 
 pub returns-in_ok-text-in-Err : goal.returns-in_ok-text-in-Err
 returns-in_ok-text-in-Err g c = inr (record {
   fault = c.in-Err.e;
-  first = c.in-Err.ensures.refused (search rules);
+  first = Gives-refused c.in-Err.e _ (search rules) c.in-Err.ensures;
   is = rw (c.in_ok-text-in-Err.ensures.ok, c.name-name.ensures) refl;
 })

@@ -1,0 +1,94 @@
+//! The worked action messages rewritten and settled: a warning loses one NUL a rewrite.
+
+use crate::rewriting::are_refused;
+use crate::tables::{after_zeros, or_same};
+use crate::worked::{ACTION_FAULTS, ACTIONS, Worked};
+use std::alloc::{AllocError, Global};
+use std::test::Fail;
+use tc_canon::is_canonical_action;
+use tc_inputs::{Form, too_long};
+use tc_wire::{rewrite_action, settle_action};
+
+/// Action messages with warnings in hex, what they are settled as, and after how many rewrites.
+#[rattlefmt::skip]
+const WARNINGS: [(&str, &str, usize); 6] = [
+    ("05000500 61000000", "05000500 61000000", 0),
+    ("05000500 00000000", "04000500", 1),
+    ("07000500 61000000", "05000500 61000000", 2),
+    ("08000500 61000000", "05000500 61000000", 3),
+    ("08000500 61000000 07000500 62000000", "05000500 61000000 05000500 62000000", 3),
+    ("08000380 06000000 07000500 61000000", "08000300 06000000 05000500 61000000", 2),
+];
+
+fn is_rewritten(alloc: Global, row: &Worked) -> Result<bool, Fail> {
+    let (frames, _, written, is_settled) = *row;
+    let bytes = after_zeros(alloc, 4, frames)?;
+    let written = after_zeros(alloc, 4, or_same(frames, written))?;
+    if rewrite_action(alloc, &bytes)? != written {
+        return Ok(false);
+    }
+    // what isn't settled takes further rewrites
+    let (settled, rewrites) = settle_action(alloc, &bytes)?;
+    Ok(!is_settled || settled == written && rewrites == usize::from(bytes != written))
+}
+
+#[test]
+fn worked(rt: HostRuntime) -> Result<(), Fail> {
+    for row in &ACTIONS {
+        assert!(rt; is_rewritten(rt.alloc(), row)?, "{}", row.0);
+    }
+    Ok(())
+}
+
+/// Whether so many rewrites, and no fewer, lead to what an action message is settled as.
+fn is_settled_after(alloc: Global, row: &(&str, &str, usize)) -> Result<bool, Fail> {
+    let mut bytes = after_zeros(alloc, 4, row.0)?;
+    let wanted = after_zeros(alloc, 4, row.1)?;
+    let (settled, rewrites) = settle_action(alloc, &bytes)?;
+    if settled != wanted || rewrites != row.2 {
+        return Ok(false);
+    }
+    for _ in 0..row.2 {
+        if is_canonical_action(&bytes) {
+            return Ok(false);
+        }
+        bytes = rewrite_action(alloc, &bytes)?;
+    }
+    Ok(bytes == wanted && is_canonical_action(&bytes))
+}
+
+#[test]
+fn warnings(rt: HostRuntime) -> Result<(), Fail> {
+    for row in &WARNINGS {
+        assert!(rt; is_settled_after(rt.alloc(), row)?, "{}", row.0);
+    }
+    Ok(())
+}
+
+fn is_refused(alloc: Global, bytes: &[u8], text: &str) -> Result<bool, AllocError> {
+    are_refused(
+        alloc,
+        rewrite_action(alloc, bytes),
+        settle_action(alloc, bytes),
+        text,
+    )
+}
+
+#[test]
+fn refused(rt: HostRuntime) -> Result<(), Fail> {
+    let alloc = rt.alloc();
+    for (frames, fault) in &ACTION_FAULTS {
+        let fault = format!(in alloc; "Decode({fault})")?;
+        let bytes = after_zeros(alloc, 4, frames)?;
+        assert!(rt; is_refused(alloc, &bytes, fault.as_str())?, "{frames}");
+    }
+    assert!(rt;
+        is_refused(
+            alloc,
+            &[0; 3],
+            "Decode(BufferTooSmall { len: 3, needed: 4 })"
+        )?
+    );
+    assert!(rt; is_refused(alloc, &too_long(alloc, Form::Action)?.bytes, "DoesNotFit")?);
+    Ok(())
+}

@@ -1,0 +1,103 @@
+//! Tables of known answers, one a line, and how a line is judged.
+
+ghost use Rattle.std.specs.Prelude.{◌<◌};
+
+use nla_frames::{Emitable, Nla, NlaBuffer, Parseable, emit_list, list_fits, list_len};
+use std::alloc::{AllocError, Allocator, Global};
+use std::fmt::Debug;
+use std::test::Fail;
+
+/// Bytes in hex, what they are read as, and what is written of that, empty where it is the same.
+pub(crate) type Row = (&'static str, &'static str, &'static str);
+
+fn digit(letter: u8) -> u8
+    ensures { result < 16 }
+{
+    match letter {
+        b'0'..=b'9' => letter - b'0',
+        b'a'..=b'f' => letter - b'a' + 10,
+        _ => 0,
+    }
+}
+
+/// The bytes of a text in hex, in which spaces may stand between bytes.
+pub(crate) fn bytes_of<A: Allocator>(alloc: A, hex: &str) -> Result<Vec<u8, A>, AllocError> {
+    let mut bytes = Vec::new(alloc);
+    for word in hex.split(' ') {
+        for pair in word.as_bytes().chunks(2) {
+            if let [high, low] = pair {
+                bytes.push(16 * digit(*high) + digit(*low))?;
+            }
+        }
+    }
+    Ok(bytes)
+}
+
+/// The bytes of frames in hex after a header of zeros.
+pub(crate) fn after_zeros(
+    alloc: Global,
+    header: usize,
+    frames: &str,
+) -> Result<Vec<u8>, AllocError> {
+    let mut bytes = vec![in alloc; 0; header]?;
+    bytes.extend_from_slice(&bytes_of(alloc, frames)?)?;
+    Ok(bytes)
+}
+
+/// What is written: the same bytes, where nothing else is told.
+pub(crate) fn or_same(bytes: &'static str, written: &'static str) -> &'static str {
+    if written.is_empty() { bytes } else { written }
+}
+
+/// Whether a value has this `Debug` text.
+pub(crate) fn is_shown<T: Debug>(alloc: Global, value: &T, text: &str) -> Result<bool, AllocError> {
+    Ok(format!(in alloc; "{value:?}")?.as_str() == text)
+}
+
+/// Whether a list is written as these bytes.
+pub(crate) fn are_written<T: Nla>(list: &[T], bytes: &[u8]) -> bool {
+    let mut buffer = [0x55; 640];
+    if !list_fits(list) || list_len(list) != bytes.len() || bytes.len() > buffer.len() {
+        return false;
+    }
+    emit_list(list, &mut buffer);
+    &buffer[..bytes.len()] == bytes
+}
+
+/// Whether a message is written as these bytes.
+pub(crate) fn is_written<M: Emitable>(message: &M, bytes: &[u8]) -> bool {
+    let mut buffer = [0x55; 640];
+    if !message.fits() || message.buffer_len() != bytes.len() || bytes.len() > buffer.len() {
+        return false;
+    }
+    message.emit(&mut buffer);
+    &buffer[..bytes.len()] == bytes
+}
+
+/// Whether a frame is read as an attribute of this text, and that written as it has to be.
+fn is_known<T: Parseable<Global> + Nla + Debug + Drop>(
+    alloc: Global,
+    row: &Row,
+) -> Result<bool, Fail> {
+    let (frame, text, written) = *row;
+    let bytes = bytes_of(alloc, frame)?;
+    let read = T::parse(alloc, &NlaBuffer::new_checked(&bytes)?)?;
+    let written = bytes_of(alloc, or_same(frame, written))?;
+    let is_shown = is_shown(alloc, &read, text)?;
+    let mut list = Vec::new(alloc);
+    list.push(read)?;
+    Ok(is_shown && are_written(&list, &written))
+}
+
+/// The first row that is read or written as another.
+pub(crate) fn misread<T: Parseable<Global> + Nla + Debug + Drop>(
+    alloc: Global,
+    rows: &[Row],
+) -> Result<Option<&'static str>, Fail> {
+    for row in rows {
+        if !is_known::<T>(alloc, row)? {
+            return Ok(Some(row.0));
+        }
+    }
+    Ok(None)
+}

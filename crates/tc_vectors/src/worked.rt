@@ -1,0 +1,246 @@
+//! Worked messages: what they are read as, what is written of them, and why others are refused.
+
+use crate::tables::{after_zeros, is_shown, is_written, or_same};
+use nla_frames::{AddressFamily, DecodeError, DefaultNla, Emitable, ParseableBytes};
+use std::alloc::Global;
+use std::test::Fail;
+use tc_action_messages::TcActionMessage;
+use tc_canon::{is_canonical_action, is_canonical_tc};
+use tc_inputs::{Form, too_long};
+use tc_options::TcQdiscIngressOption;
+use tc_records::{TcActionMessageHeader, TcHeader};
+use tc_wire::{TcAttribute, TcMessage, TcOption, TcQdiscFqCodelOption};
+
+/// Frames in hex, the attributes that they are read as, the frames that are written of these, empty where they are the same, which only
+/// canonical ones are, and whether the message is settled.
+pub(crate) type Worked = (&'static str, &'static str, &'static str, bool);
+
+/// Frames in hex, and the first fault in them.
+pub(crate) type Refused = (&'static str, &'static str);
+
+/// Messages, after a header of 20 zeros.
+#[rattlefmt::skip]
+pub(crate) const TC: [Worked; 25] = [
+    ("", "[]", "", true),
+    ("08000100 75333200 0c000200 08000200 05000000 0d000100 66715f636f64656c00000000 0c000200 08000200 05000000", "[Kind(\"u32\"), Options([U32(Hash(5))]), Kind(\"fq_codel\"), Options([FqCodel(Limit(5))])]", "", true),
+    ("08000180 75333200 0c000200 08000200 05000000 0d000100 66715f636f64656c00000000 0c000200 08000200 05000000", "[Kind(\"u32\"), Options([U32(Hash(5))]), Kind(\"fq_codel\"), Options([FqCodel(Limit(5))])]", "08000100 75333200 0c000200 08000200 05000000 0d000100 66715f636f64656c00000000 0c000200 08000200 05000000", true),
+    ("0c000200 08000200 00280000", "[OptionsRaw(DefaultNla { word: 2, value: [8, 0, 2, 0, 0, 40, 0, 0] })]", "", true),
+    ("08000100 73667100 08000280 01020304", "[Kind(\"sfq\"), OptionsRaw(DefaultNla { word: 32770, value: [1, 2, 3, 4] })]", "", true),
+    ("05000200 01", "[OptionsRaw(DefaultNla { word: 2, value: [1] })]", "05000200 01000000", true),
+    ("0e000100 66715f636f64656c00000000 0c000200 08000200 00280000", "[Kind(\"fq_codel\\0\"), OptionsRaw(DefaultNla { word: 2, value: [8, 0, 2, 0, 0, 40, 0, 0] })]", "", true),
+    ("0b000100 666c6f7765720000 0c000200 05004400 03000000", "[Kind(\"flower\"), Options([Flower(MplsBos(3))])]", "0b000100 666c6f7765720000 0c000200 05004400 01000000", false),
+    ("0b000100 666c6f7765720000 1c000200 18006380 14000180 05000100 01000000 08000500 45230100", "[Kind(\"flower\"), Options([Flower(MplsOpts([Lse([LseDepth(1), LseLabel(74565)])]))])]", "", true),
+    ("05000c00 01", "[HwOffload(1)]", "05000c00 01000000", true),
+    ("08000100 75333200 28000200 24000500 01000100 0f00000000000000 00000000 ffffffff 0a000001 10000000 00000000", "[Kind(\"u32\"), Options([U32(Selector(TcU32Selector { flags: TcU32SelectorFlags(1), offshift: 0, nkeys: 1, offmask: 3840, off: 0, offoff: 0, hoff: 0, hmask: 0, keys: [TcU32Key { mask: 4294967295, val: 167772161, off: 16, offmask: 0 }] }))])]", "", true),
+    ("08000100 75333200 30000200 2c000500 01000100 0f00000000000000 00000000 ffffffff 0a000001 10000000 00000000 0000000000000000", "[Kind(\"u32\"), Options([U32(Selector(TcU32Selector { flags: TcU32SelectorFlags(1), offshift: 0, nkeys: 1, offmask: 3840, off: 0, offoff: 0, hoff: 0, hmask: 0, keys: [TcU32Key { mask: 4294967295, val: 167772161, off: 16, offmask: 0 }] }))])]", "08000100 75333200 28000200 24000500 01000100 0f00000000000000 00000000 ffffffff 0a000001 10000000 00000000", true),
+    ("0d000100 66715f636f64656c00000000 08000400 02000000", "[Kind(\"fq_codel\"), Xstats(FqCodel(Other([2, 0, 0, 0])))]", "", true),
+    ("0d000100 66715f636f64656c00000000 2c000400 01000000 000000000000000000000000000000000000000000000000000000000000000000000000", "[Kind(\"fq_codel\"), Xstats(FqCodel(Class(TcFqCodelClStats { deficit: 0, ldelay: 0, count: 0, lastcount: 0, dropping: 0, drop_next: 0 })))]", "0d000100 66715f636f64656c00000000 20000400 01000000 000000000000000000000000000000000000000000000000", true),
+    ("0d000100 6d61746368616c6c00000000 0c000200 08000300 01000000", "[Kind(\"matchall\"), Options([MatchAll(Flags(1))])]", "", true),
+    ("0c000100 696e677265737300 04000200", "[Kind(\"ingress\"), Options([])]", "", true),
+    ("0c000100 696e677265737300 0c000200 08006300 01020304", "[Kind(\"ingress\"), Options([Ingress(Other(DefaultNla { word: 99, value: [1, 2, 3, 4] }))])]", "", true),
+    ("08000100 62706600 0c000200 06000700 70000000", "[Kind(\"bpf\"), Options([Bpf(ProgName(\"p\"))])]", "", true),
+    ("08000100 75333200 04000280", "[Kind(\"u32\"), Options([])]", "08000100 75333200 04000200", true),
+    ("2c000300 00000000000000000000000000000000000000000000000000000000000000000000000000000001", "[Stats(TcStats { bytes: 0, packets: 0, drops: 0, overlimits: 0, bps: 0, pps: 0, qlen: 0, backlog: 0 })]", "2c000300 00000000000000000000000000000000000000000000000000000000000000000000000000000000", true),
+    ("080063c0 01020304", "[Other(DefaultNla { word: 49251, value: [1, 2, 3, 4] })]", "", true),
+    ("08000b80 07000000", "[Chain(7)]", "08000b00 07000000", true),
+    ("07000100 75333200", "[Kind(\"u32\")]", "08000100 75333200", true),
+    ("05000a00 07000000", "[DumpInvisible(true)]", "04000a00", true),
+    ("08000100 75333200 60000200 38000700 34000100 0b000100 6d69727265640000 24000280 20000200 0000000000000000 04000000 0000000000000000 01000000 04000000 24000500 01000100 0000000000000000 00000000 ffffffff 01020307 0c000000 00000000", "[Kind(\"u32\"), Options([U32(Action([TcAction { tab: 1, attributes: [Kind(\"mirred\"), Options([Mirror(Parms(TcMirror { generic: TcActionGeneric { index: 0, capab: 0, action: Stolen, refcnt: 0, bindcnt: 0 }, eaction: EgressRedir, ifindex: 4 }))])] }])), U32(Selector(TcU32Selector { flags: TcU32SelectorFlags(1), offshift: 0, nkeys: 1, offmask: 0, off: 0, offoff: 0, hoff: 0, hmask: 0, keys: [TcU32Key { mask: 4294967295, val: 16909063, off: 12, offmask: 0 }] }))])]", "", true),
+];
+
+/// Messages that are refused.
+#[rattlefmt::skip]
+pub(crate) const TC_FAULTS: [Refused; 15] = [
+    ("05000100ff000000", "NotUtf8"),
+    ("08000300 00000000", "BufferTooSmall { len: 4, needed: 40 }"),
+    ("08000b00 07000000 aabb", "FrameHeaderShort { left: 2 }"),
+    ("0d000100 66715f636f64656c00000000 07000400 01020300", "XstatsShort { len: 3 }"),
+    ("0d000100 66715f636f64656c00000000 08000400 00000000", "BufferTooSmall { len: 0, needed: 36 }"),
+    ("08000100 75333200 18000200 13000500 000001000000000000000000 00000000", "SelectorShort { len: 15, needed: 16 }"),
+    ("08000100 75333200 18000200 14000500 000001000000000000000000 00000000", "SelectorShort { len: 16, needed: 32 }"),
+    ("08000100 75333200 18000200 14000500 0000ff000000000000000000 00000000", "SelectorShort { len: 16, needed: 4096 }"),
+    ("08000100 62706600 10000200 0b000a00 0102030405060700", "WrongLength { expected: 8, got: 7 }"),
+    ("0d000100 6d61746368616c6c00000000 1c000200 18000200 14000100 08000100 6e617400 08000280 ff006300", "FrameTooLong { length: 255, left: 4 }"),
+    ("0d000100 6d61746368616c6c00000000 1c000200 18000200 14000100 08000900 6e617400 08000280 ff006300", "MissingKind"),
+    ("0d000100 66715f636f64656c00000000 0c000200 09000200 00280000", "FrameTooLong { length: 9, left: 8 }"),
+    ("0d000100 66715f636f64656c00000000 0c000200 07000200 00280000", "WrongLength { expected: 4, got: 3 }"),
+    ("0d000100 66715f636f64656c00000000 0c000200 04000200 00280000", "WrongLength { expected: 4, got: 0 }"),
+    ("0d000100 66715f636f64656c00000000 0c000200 03000200 00280000", "FrameTooShort { length: 3 }"),
+];
+
+/// Action messages, after a header of 4 zeros.
+#[rattlefmt::skip]
+pub(crate) const ACTIONS: [Worked; 14] = [
+    ("", "[]", "", true),
+    ("18000100 14000100 08000300 05000000 08000100 6e617400", "[Actions([TcAction { tab: 1, attributes: [Index(5), Kind(\"nat\")] }])]", "", true),
+    ("18000100 14000180 08000300 05000000 08000100 6e617400", "[Actions([TcAction { tab: 1, attributes: [Index(5), Kind(\"nat\")] }])]", "18000100 14000100 08000300 05000000 08000100 6e617400", true),
+    ("08000300 06000000", "[RootCount(6)]", "", true),
+    ("08000400 63000000", "[RootTimeDelta(99)]", "", true),
+    ("24000100 20000100 0f000100 74756e6e656c5f6b65790000 0c000280 05000a00 02000000", "[Actions([TcAction { tab: 1, attributes: [Kind(\"tunnel_key\"), Options([TunnelKey(NoCsum(true))])] }])]", "24000100 20000100 0f000100 74756e6e656c5f6b65790000 0c000280 05000a00 01000000", true),
+    ("0c000200 01000000 01000000", "[Flags(TcActionMessageFlagsWithSelector { flags: TcActionMessageFlags(1), selector: TcActionMessageFlags(1) })]", "", true),
+    ("04000100", "[Actions([])]", "", true),
+    ("06000500 68690000", "[RootExtWarnMsg(\"hi\")]", "", true),
+    ("07000500 61000000", "[RootExtWarnMsg(\"a\\0\")]", "06000500 61000000", false),
+    ("08000500 61000000", "[RootExtWarnMsg(\"a\\0\\0\")]", "07000500 61000000", false),
+    ("06000500 61000000", "[RootExtWarnMsg(\"a\")]", "05000500 61000000", true),
+    ("05000500 00000000", "[RootExtWarnMsg(\"\")]", "04000500", true),
+    ("08000500 61000000 07000500 62000000", "[RootExtWarnMsg(\"a\\0\\0\"), RootExtWarnMsg(\"b\\0\")]", "07000500 61000000 06000500 62000000", false),
+];
+
+/// Action messages that are refused.
+#[rattlefmt::skip]
+pub(crate) const ACTION_FAULTS: [Refused; 7] = [
+    ("08000100 04000100", "MissingKind"),
+    ("0c000100 08000100 03000100", "FrameTooShort { length: 3 }"),
+    ("20000100 1c000100 08000100 6e617400 08000100 6e617400 05000300 00000000", "DuplicateKind"),
+    ("08000100 63000000", "FrameTooLong { length: 99, left: 4 }"),
+    ("08000200 01000000", "WrongLength { expected: 8, got: 4 }"),
+    ("05000500 ff000000", "NotUtf8"),
+    ("08000300 06000000 0000", "FrameHeaderShort { left: 2 }"),
+];
+
+fn is_known(alloc: Global, row: &Worked) -> Result<bool, Fail> {
+    let (frames, text, written, is_settled) = *row;
+    let bytes = after_zeros(alloc, 20, frames)?;
+    let message = TcMessage::parse(alloc, &bytes)?;
+    let written = after_zeros(alloc, 20, or_same(frames, written))?;
+    Ok(
+        message.header == TcHeader::default()
+            && is_shown(alloc, &message.attributes, text)?
+            && is_written(&message, &written)
+            && message.is_settled() == is_settled
+            && is_canonical_tc(&bytes) == (bytes == written)
+            && message.clone()? == message,
+    )
+}
+
+fn is_refused(alloc: Global, row: &Refused) -> Result<bool, Fail> {
+    match TcMessage::parse(alloc, &after_zeros(alloc, 20, row.0)?) {
+        Ok(_) => Ok(false),
+        Err(fault) => Ok(is_shown(alloc, &fault, row.1)?),
+    }
+}
+
+#[test]
+fn messages(rt: HostRuntime) -> Result<(), Fail> {
+    for row in &TC {
+        assert!(rt; is_known(rt.alloc(), row)?, "{}", row.0);
+    }
+    for row in &TC_FAULTS {
+        assert!(rt; is_refused(rt.alloc(), row)?, "{}", row.0);
+    }
+    Ok(())
+}
+
+fn is_known_action(alloc: Global, row: &Worked) -> Result<bool, Fail> {
+    let (frames, text, written, is_settled) = *row;
+    let bytes = after_zeros(alloc, 4, frames)?;
+    let message = TcActionMessage::parse(alloc, &bytes)?;
+    let written = after_zeros(alloc, 4, or_same(frames, written))?;
+    Ok(
+        message.header == TcActionMessageHeader::default()
+            && is_shown(alloc, &message.attributes, text)?
+            && is_written(&message, &written)
+            && message.is_settled() == is_settled
+            && is_canonical_action(&bytes) == (bytes == written)
+            && message.clone()? == message,
+    )
+}
+
+fn is_refused_action(alloc: Global, row: &Refused) -> Result<bool, Fail> {
+    match TcActionMessage::parse(alloc, &after_zeros(alloc, 4, row.0)?) {
+        Ok(_) => Ok(false),
+        Err(fault) => Ok(is_shown(alloc, &fault, row.1)?),
+    }
+}
+
+#[test]
+fn action_messages(rt: HostRuntime) -> Result<(), Fail> {
+    for row in &ACTIONS {
+        assert!(rt; is_known_action(rt.alloc(), row)?, "{}", row.0);
+    }
+    for row in &ACTION_FAULTS {
+        assert!(rt; is_refused_action(rt.alloc(), row)?, "{}", row.0);
+    }
+    Ok(())
+}
+
+// A header with a family, and with padding that isn't zero; and one that is short.
+#[test]
+fn headers_of_action_messages(rt: HostRuntime) -> Result<(), Fail> {
+    let alloc = rt.alloc();
+    let message = TcActionMessage::parse(alloc, &[2, 0, 0, 7])?;
+    assert!(rt;
+        is_shown(
+            alloc,
+            &message,
+            "TcActionMessage { header: TcActionMessageHeader { family: Inet }, attributes: [] }"
+        )?
+    );
+    assert!(rt; is_written(&message, &[2, 0, 0, 0]));
+    let mut message = TcActionMessage::default_in(alloc);
+    assert!(rt;
+        is_shown(
+            alloc,
+            &message,
+            "TcActionMessage { header: TcActionMessageHeader { family: Unspec }, attributes: [] }"
+        )?
+    );
+    assert!(rt; message.is_settled());
+    message.header.family = AddressFamily::Other(2);
+    assert!(rt; !message.is_settled());
+    assert!(rt; is_written(&message, &[2, 0, 0, 0]));
+    let fault = DecodeError::BufferTooSmall { len: 3, needed: 4 };
+    assert_eq!(rt; TcActionMessage::parse(alloc, &[0; 3]).err(), Some(fault));
+    Ok(())
+}
+
+// ---- what is too long
+
+/// `Options` of one attribute of this kind and of an unknown type with so many bytes.
+fn with_option(alloc: Global, kind: &str, length: usize) -> Result<TcMessage, Fail> {
+    let other = DefaultNla::new(99, vec![in alloc; 0xaa; length]?);
+    let option = match kind {
+        "ingress" => TcOption::Ingress(TcQdiscIngressOption::Other(other)),
+        _ => TcOption::FqCodel(TcQdiscFqCodelOption::Other(other)),
+    };
+    let options = TcAttribute::Options(vec![in alloc; option]?);
+    let attributes = vec![in alloc; TcAttribute::Kind(kind.to_string(alloc)?), options]?;
+    Ok(TcMessage::from_parts(TcHeader::default(), attributes))
+}
+
+#[test]
+fn long_messages(rt: HostRuntime) -> Result<(), Fail> {
+    let alloc = rt.alloc();
+    let bytes = too_long(alloc, Form::Tc)?.bytes;
+    assert_eq!(rt; bytes.len(), 65568);
+    let message = TcMessage::parse(alloc, &bytes)?;
+    assert_eq!(rt; message, with_option(alloc, "ingress", 65527)?);
+    assert!(rt; !message.fits());
+    assert!(rt; message.is_settled());
+    assert!(rt; !is_canonical_tc(&bytes));
+    for (length, fits) in [(65524, true), (65525, false)] {
+        assert_eq!(rt;
+            with_option(alloc, "fq_codel", length)?.fits(),
+            fits,
+            "{length}"
+        );
+    }
+    Ok(())
+}
+
+#[test]
+fn long_attributes(rt: HostRuntime) -> Result<(), Fail> {
+    let alloc = rt.alloc();
+    let mut message = TcMessage::default_in(alloc);
+    message
+        .attributes
+        .push(TcAttribute::Rate(vec![in alloc; 0; 65531]?))?;
+    assert!(rt; message.fits());
+    assert_eq!(rt; message.buffer_len(), 65556);
+    message
+        .attributes
+        .push(TcAttribute::Rate(vec![in alloc; 0; 65532]?))?;
+    assert!(rt; !message.fits());
+    Ok(())
+}
