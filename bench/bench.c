@@ -1,4 +1,4 @@
-// Times what libtc_bench.a does with messages: those of a file of lines `NAME HEX`, and longer ones that are made here.
+// Times what libtc_bench.a does with messages: those of files of lines `NAME MODE HEX`, and longer ones that are made here.
 #define _GNU_SOURCE
 #include <malloc.h>
 #include <stdbool.h>
@@ -9,14 +9,38 @@
 #include <time.h>
 
 // The exports of crates/tc_bench. A slice is a pointer and a length. A status of 0 says that it was done.
-uint8_t tc_bench_parse(const uint8_t *bytes, size_t len);
-uint8_t tc_bench_length(const uint8_t *bytes, size_t len, size_t *lengths, size_t count);
-uint8_t tc_bench_fits(const uint8_t *bytes, size_t len, bool *verdicts, size_t count);
-uint8_t tc_bench_emit(const uint8_t *bytes, size_t len, uint8_t *buffer, size_t room, size_t again);
-uint8_t tc_bench_rewrite(const uint8_t *bytes, size_t len, uint8_t *buffer, size_t room);
-bool tc_bench_canonical(const uint8_t *bytes, size_t len);
+#define DECLARE(TYPE)                                                                                                \
+    uint8_t TYPE##_bench_parse(const uint8_t *bytes, size_t len);                                                    \
+    uint8_t TYPE##_bench_length(const uint8_t *bytes, size_t len, size_t *lengths, size_t count);                    \
+    uint8_t TYPE##_bench_fits(const uint8_t *bytes, size_t len, bool *verdicts, size_t count);                       \
+    uint8_t TYPE##_bench_emit(const uint8_t *bytes, size_t len, uint8_t *buffer, size_t room, size_t again);         \
+    uint8_t TYPE##_bench_rewrite(const uint8_t *bytes, size_t len, uint8_t *buffer, size_t room);                    \
+    uint8_t TYPE##_bench_settle(const uint8_t *bytes, size_t len, size_t *rewrites);                                 \
+    bool TYPE##_bench_canonical(const uint8_t *bytes, size_t len);
 
-enum { PASSES = 8, SAMPLES = 10, MOST_TIMES = 1 << 20, MOST_MESSAGES = 64 };
+DECLARE(tc)
+DECLARE(action)
+
+// A type of message: the size of its header, and its calls.
+typedef struct {
+    const char *name;
+    size_t header;
+    uint8_t (*parse)(const uint8_t *, size_t);
+    uint8_t (*length)(const uint8_t *, size_t, size_t *, size_t);
+    uint8_t (*fits)(const uint8_t *, size_t, bool *, size_t);
+    uint8_t (*emit)(const uint8_t *, size_t, uint8_t *, size_t, size_t);
+    uint8_t (*rewrite)(const uint8_t *, size_t, uint8_t *, size_t);
+    uint8_t (*settle)(const uint8_t *, size_t, size_t *);
+    bool (*canonical)(const uint8_t *, size_t);
+} Mode;
+
+#define CALLS(TYPE)                                                                                                  \
+    TYPE##_bench_parse, TYPE##_bench_length, TYPE##_bench_fits, TYPE##_bench_emit, TYPE##_bench_rewrite,              \
+        TYPE##_bench_settle, TYPE##_bench_canonical
+
+static const Mode TC = {"tc", 20, CALLS(tc)}, ACTION = {"action", 4, CALLS(action)};
+
+enum { PASSES = 8, SAMPLES = 10, MOST_TIMES = 1 << 20, MOST_MESSAGES = 512, MOST_BYTES = 2 << 20, ACTIONS = 31 };
 
 // How long one sample takes at least.
 static const double SAMPLE_NS = 300e3;
@@ -26,88 +50,51 @@ static void fail(const char *name, const char *what) {
     exit(1);
 }
 
+// ---- What operations write to. The first length is watched: what is freed once it is written, a message owned.
+
+static uint8_t *buffer;
+static size_t *lengths;
+static bool *verdicts;
+
 // ---- Allocations, counted by the linker's --wrap.
 
-static size_t allocations;
+// Blocks that were asked for, that were asked to grow, and that were freed after the first length was written.
+typedef struct {
+    size_t taken, grown, owned;
+} Blocks;
+
+static Blocks blocks;
 
 void *__real_malloc(size_t size);
 void *__real_realloc(void *block, size_t size);
+void __real_free(void *block);
 
 void *__wrap_malloc(size_t size) {
-    allocations++;
+    blocks.taken++;
     return __real_malloc(size);
 }
 
 void *__wrap_realloc(void *block, size_t size) {
-    allocations++;
+    blocks.grown++;
     return __real_realloc(block, size);
+}
+
+void __wrap_free(void *block) {
+    blocks.owned += block && lengths[0];
+    __real_free(block);
 }
 
 // ---- Messages.
 
 typedef struct {
     const char *name;
+    const Mode *mode;
     uint8_t *bytes;
     size_t len;
-    size_t attributes;
+    bool is_canonical;
+    size_t rewrites; // that settle it
+    size_t owned;    // blocks that it owns once it is read
 } Message;
-
-static uint16_t u16_at(const uint8_t *at) { return (uint16_t)(at[0] | at[1] << 8); }
-
-// How many attributes there are, those in the options too.
-static size_t count_attributes(const uint8_t *at, size_t len, bool at_top) {
-    size_t count = 0;
-    while (len >= 4) {
-        size_t frame = u16_at(at), padded = (frame + 3) & ~(size_t)3;
-        count += 1 + (at_top && u16_at(at + 2) == 2 ? count_attributes(at + 4, frame - 4, false) : 0);
-        at += padded;
-        len -= padded;
-    }
-    return count;
-}
-
-static Message message_of(const char *name, uint8_t *bytes, size_t len) {
-    return (Message){name, bytes, len, count_attributes(bytes + 20, len - 20, true)};
-}
-
-static uint8_t *put_attribute(uint8_t *at, uint16_t type, const void *value, size_t len) {
-    size_t padded = (len + 3) & ~(size_t)3;
-    uint16_t head[2] = {(uint16_t)(len + 4), type};
-    memcpy(at, head, 4);
-    memset(at + 4, 0, padded);
-    if (len > 0) memcpy(at + 4, value, len);
-    return at + 4 + padded;
-}
-
-// The kind fq_codel, and so many options of four bytes.
-static Message make_options(const char *name, size_t count) {
-    uint8_t *bytes = calloc(1, 40 + 8 * count), *at = put_attribute(bytes + 20, 1, "fq_codel", 9);
-    uint8_t *options = at;
-    at += 4;
-    for (size_t i = 0; i < count; i++) {
-        uint32_t value = (uint32_t)(i * 2654435761u);
-        at = put_attribute(at, (uint16_t)(1 + i % 9), &value, 4);
-    }
-    uint16_t head[2] = {(uint16_t)(at - options), 2};
-    memcpy(options, head, 4);
-    return message_of(name, bytes, (size_t)(at - bytes));
-}
-
-// A header, and attributes until there are so many bytes: chains, statistics, and types outside the table by turns.
-static Message make_attributes(const char *name, size_t most, size_t len) {
-    uint8_t *bytes = calloc(1, len + 64), *at = bytes + 20, value[40];
-    for (size_t i = 0; i < most && (size_t)(at - bytes) < len; i++) {
-        memset(value, (int)(i & 0x7f), sizeof value);
-        memset(value + 36, 0, 4);
-        switch (i % 4) {
-        case 0: at = put_attribute(at, 11, value, 4); break;
-        case 1: at = put_attribute(at, 12, value, 1); break;
-        case 2: at = put_attribute(at, 3, value, 40); break;
-        default: at = put_attribute(at, 100, value, 18); break;
-        }
-    }
-    return message_of(name, bytes, (size_t)(at - bytes));
-}
 
 static int digit(char c) {
     const char *digits = "0123456789abcdef", *at = c ? strchr(digits, c) : NULL;
@@ -115,48 +102,105 @@ static int digit(char c) {
 }
 
 static Message read_line(char *line) {
-    char *space = strchr(line, ' ');
-    if (!space) fail(line, "a line is NAME HEX");
-    *space = 0;
-    char *hex = space + 1;
-    size_t len = strlen(hex) / 2;
-    uint8_t *bytes = malloc(len);
-    for (size_t i = 0; i < len; i++) {
+    char *name = strtok(line, " "), *mode = strtok(NULL, " "), *hex = strtok(NULL, " ");
+    if (!hex) fail(line, "a line is NAME MODE HEX");
+    Message m = {strdup(name), strcmp(mode, TC.name) == 0 ? &TC : &ACTION, malloc(strlen(hex) / 2), strlen(hex) / 2, 0, 0, 0};
+    for (size_t i = 0; i < m.len; i++) {
         int high = digit(hex[2 * i]), low = digit(hex[2 * i + 1]);
-        if (high < 0 || low < 0) fail(line, "bad hex");
-        bytes[i] = (uint8_t)(high << 4 | low);
+        if (high < 0 || low < 0) fail(name, "bad hex");
+        m.bytes[i] = (uint8_t)(high << 4 | low);
     }
-    if (len < 20) fail(line, "no header");
-    return message_of(strdup(line), bytes, len);
+    return m;
+}
+
+static uint8_t *put_attribute(uint8_t *at, uint16_t word, const void *value, size_t len) {
+    size_t padded = (len + 3) & ~(size_t)3;
+    uint16_t head[2] = {(uint16_t)(len + 4), word};
+    memcpy(at, head, 4);
+    memset(at + 4, 0, padded);
+    if (len > 0) memcpy(at + 4, value, len);
+    return at + 4 + padded;
+}
+
+// A chain, an offload byte, statistics and a type outside the table by turns.
+static uint8_t *put_mixed(uint8_t *at, size_t i) {
+    uint8_t value[40];
+    memset(value, (int)(i & 0x7f), sizeof value);
+    memset(value + 36, 0, 4);
+    static const struct {
+        uint16_t word;
+        size_t len;
+    } TURNS[] = {{11, 4}, {12, 1}, {3, 40}, {100, 18}};
+    return put_attribute(at, TURNS[i % 4].word, value, TURNS[i % 4].len);
+}
+
+// An option of fq_codel.
+static uint8_t *put_option(uint8_t *at, size_t i) {
+    uint32_t value = (uint32_t)(i * 2654435761u);
+    return put_attribute(at, (uint16_t)(1 + i % 9), &value, 4);
+}
+
+// An action of the kind nat: its kind, and its options, which are its parameters. Its type is its place.
+static uint8_t *put_action(uint8_t *at, size_t i) {
+    uint8_t value[52], options[40], parameters[36] = {(uint8_t)i};
+    put_attribute(options, 1, parameters, sizeof parameters);
+    put_attribute(put_attribute(value, 1, "nat", 4), 0x8002, options, sizeof options);
+    return put_attribute(at, (uint16_t)(1 + i % ACTIONS), value, sizeof value);
+}
+
+// An attribute of actions: 125 attributes, if those in it are counted.
+static uint8_t *put_actions(uint8_t *at, size_t i) {
+    (void)i;
+    uint8_t value[ACTIONS * 56], *end = value;
+    for (size_t k = 0; k < ACTIONS; k++) end = put_action(end, k);
+    return put_attribute(at, 1, value, sizeof value);
+}
+
+// So many attributes, or fewer where there are so many bytes before, after a header.
+static Message make_list(const char *name, const Mode *mode, uint8_t *(*put)(uint8_t *, size_t), size_t most, size_t len) {
+    uint8_t *bytes = calloc(1, len + 4096), *at = bytes + mode->header;
+    for (size_t i = 0; i < most && (size_t)(at - bytes) < len; i++) at = put(at, i);
+    return (Message){name, mode, bytes, (size_t)(at - bytes), 0, 0, 0};
+}
+
+// A kind, and so many of its options; where `list` isn't 0, they stand in one option of that type.
+static Message make_options(const char *name, const char *kind, uint16_t list, uint8_t *(*put)(uint8_t *, size_t), size_t count) {
+    uint8_t *bytes = calloc(1, MOST_BYTES), *options = put_attribute(bytes + 20, 1, kind, strlen(kind) + 1);
+    uint8_t *inner = options + 4, *at = inner + (list ? 4 : 0);
+    for (size_t i = 0; i < count; i++) at = put(at, i);
+    uint16_t head[2] = {(uint16_t)(at - inner), list}, outer[2] = {(uint16_t)(at - options), 2};
+    if (list) memcpy(inner, head, 4);
+    memcpy(options, outer, 4);
+    return (Message){name, &TC, bytes, (size_t)(at - bytes), 0, 0, 0};
 }
 
 // ---- Operations. Each does one thing to a message so many times.
-
-static uint8_t *buffer;
-static size_t *lengths;
-static bool *verdicts;
 
 static void done(const Message *m, uint8_t status) {
     if (status != 0) fail(m->name, status == 1 ? "refused" : status == 2 ? "no memory" : "no room");
 }
 
 static void parse(const Message *m, size_t times) {
-    for (size_t i = 0; i < times; i++) done(m, tc_bench_parse(m->bytes, m->len));
+    for (size_t i = 0; i < times; i++) done(m, m->mode->parse(m->bytes, m->len));
 }
 
-static void length(const Message *m, size_t times) { done(m, tc_bench_length(m->bytes, m->len, lengths, times)); }
+static void length(const Message *m, size_t times) { done(m, m->mode->length(m->bytes, m->len, lengths, times)); }
 
-static void fits(const Message *m, size_t times) { done(m, tc_bench_fits(m->bytes, m->len, verdicts, times)); }
+static void fits(const Message *m, size_t times) { done(m, m->mode->fits(m->bytes, m->len, verdicts, times)); }
 
-static void emit(const Message *m, size_t times) { done(m, tc_bench_emit(m->bytes, m->len, buffer, m->len, times)); }
+static void emit(const Message *m, size_t times) { done(m, m->mode->emit(m->bytes, m->len, buffer, MOST_BYTES, times)); }
 
 static void rewrite(const Message *m, size_t times) {
-    for (size_t i = 0; i < times; i++) done(m, tc_bench_rewrite(m->bytes, m->len, buffer, m->len));
+    for (size_t i = 0; i < times; i++) done(m, m->mode->rewrite(m->bytes, m->len, buffer, MOST_BYTES));
+}
+
+static void settle(const Message *m, size_t times) {
+    size_t rewrites;
+    for (size_t i = 0; i < times; i++) done(m, m->mode->settle(m->bytes, m->len, &rewrites));
 }
 
 static void canonical(const Message *m, size_t times) {
-    for (size_t i = 0; i < times; i++)
-        if (!tc_bench_canonical(m->bytes, m->len)) fail(m->name, "not canonical");
+    for (size_t i = 0; i < times; i++) verdicts[0] = m->mode->canonical(m->bytes, m->len);
 }
 
 static void copy(const Message *m, size_t times) {
@@ -170,25 +214,39 @@ static void allocate(const Message *m, size_t times) {
     (void)m;
     for (size_t i = 0; i < times; i++) {
         void *volatile block = __real_malloc(64);
-        free(block);
+        __real_free(block);
     }
 }
+
+// How many blocks the values of an operation own.
+static size_t none(const Message *m) { return (void)m, 0; }
+
+static size_t of_message(const Message *m) { return m->owned; }
+
+// Those of the bytes, and of the message where these aren't canonical as they came.
+static size_t of_settling(const Message *m) { return 1 + (m->is_canonical ? 0 : m->owned); }
 
 // An operation. Where it reads the message once, whatever the times, that is measured by no times at all and taken off.
 typedef struct {
     const char *name;
     void (*run)(const Message *, size_t);
     bool reads_once;
+    size_t (*owned)(const Message *);
 } Operation;
 
 static const Operation OPERATIONS[] = {
-    {"parse", parse, false},     {"length", length, true},    {"fits", fits, true},
-    {"emit", emit, true},        {"rewrite", rewrite, false}, {"canonical", canonical, false},
-    {"memcpy", copy, false},     {"malloc+free", allocate, false},
+    {"parse", parse, false, of_message}, {"length", length, true, none},
+    {"fits", fits, true, none},          {"emit", emit, true, none},
+    {"rewrite", rewrite, false, of_message}, {"settle", settle, false, of_settling},
+    {"canonical", canonical, false, none},   {"memcpy", copy, false, none},
+    {"malloc+free", allocate, false, none},
 };
 
 // The last two are what the others are compared to.
 enum { OPERATION_COUNT = sizeof OPERATIONS / sizeof OPERATIONS[0], TIMED = OPERATION_COUNT - 2, COPY = TIMED, ALLOCATE };
+
+// Which operation is the first, which judges, and which writes.
+enum { PARSE = 0, FITS = 2, EMIT = 3 };
 
 // ---- Measuring.
 
@@ -229,57 +287,127 @@ static void sample(Measure *measure, const Operation *op, const Message *m) {
 // How many nanoseconds one time takes.
 static double time_each(const Measure *measure) { return (measure->at_work - measure->at_rest) / (double)measure->times; }
 
-static size_t count_allocations(const Operation *op, const Message *m) {
-    size_t before = allocations;
-    if (op->reads_once) op->run(m, 0);
-    size_t reading = op->reads_once ? allocations - before : 0;
-    before = allocations;
-    op->run(m, 1);
-    return allocations - before - reading;
+static Blocks blocks_of(const Operation *op, const Message *m, size_t times) {
+    blocks = (Blocks){0, 0, 0};
+    op->run(m, times);
+    return blocks;
 }
 
-// What is timed is right: the lengths, the verdicts and the bytes of a canonical message.
-static void check(const Message *m) {
+// The blocks of one time.
+static Blocks count_blocks(const Operation *op, const Message *m) {
+    Blocks at_rest = op->reads_once ? blocks_of(op, m, 0) : (Blocks){0, 0, 0}, all = blocks_of(op, m, 1);
+    return (Blocks){all.taken - at_rest.taken, all.grown - at_rest.grown, 0};
+}
+
+// What is timed is right: the lengths, the verdicts, the bytes of a canonical message, and how many rewrites settle it. Finds
+// what the table says of the message itself.
+static void check(Message *m) {
     lengths[0] = 0;
-    verdicts[0] = false;
-    memset(buffer, 0x55, m->len);
+    blocks.owned = 0;
     length(m, 1);
-    if (lengths[0] != m->len) fail(m->name, "another length");
+    m->owned = blocks.owned;
+    verdicts[0] = false;
     fits(m, 1);
     if (!verdicts[0]) fail(m->name, "does not fit");
+    memset(buffer, 0x55, lengths[0] + 1);
     rewrite(m, 1);
-    if (memcmp(buffer, m->bytes, m->len) != 0) fail(m->name, "other bytes");
+    if (buffer[lengths[0]] != 0x55) fail(m->name, "more bytes than its length");
     canonical(m, 1);
+    m->is_canonical = verdicts[0];
+    bool same = lengths[0] == m->len && memcmp(buffer, m->bytes, m->len) == 0;
+    if (same != m->is_canonical) fail(m->name, same ? "rewritten as it was, but not canonical" : "canonical, but rewritten");
+    done(m, m->mode->settle(m->bytes, m->len, &m->rewrites));
+    if (m->rewrites == 0 ? !same : !m->mode->canonical(buffer, lengths[0])) fail(m->name, "not settled by so many rewrites");
+}
+
+// ---- Tables: a line for each message.
+
+static Message messages[MOST_MESSAGES];
+static Measure measures[MOST_MESSAGES][OPERATION_COUNT];
+
+static double ns_of(size_t i, size_t op) { return time_each(&measures[i][op]); }
+
+static double by_malloc(size_t i, size_t op) { return ns_of(i, op) / ns_of(0, ALLOCATE); }
+
+static double by_memcpy(size_t i, size_t op) { return ns_of(i, op) / ns_of(i, COPY); }
+
+static double megabytes(size_t i, size_t op) { return 1e3 * (double)messages[i].len / ns_of(i, op); }
+
+static void print_times(const char *title, double (*figure)(size_t, size_t), size_t n) {
+    printf("%s:\n\n| %-16s | %7s | %8s |", title, "message", "bytes", "rewrites");
+    for (size_t op = 0; op < TIMED; op++) printf(" %9s |", OPERATIONS[op].name);
+    printf("\n|---|---:|---:|");
+    for (size_t op = 0; op < TIMED; op++) printf("---:|");
+    printf("\n");
+    for (size_t i = 0; i < n; i++) {
+        printf("| %-16s | %7zu | %8zu |", messages[i].name, messages[i].len, messages[i].rewrites);
+        for (size_t op = 0; op < TIMED; op++) printf(" %9.1f |", figure(i, op));
+        printf("\n");
+    }
+    printf("\n");
+}
+
+// The blocks that each operation takes, and after + those of them that its values don't own.
+static void print_blocks(size_t n) {
+    printf("Blocks of memory that an operation takes, after + those of them that its values don't own; how often a parse has one\n"
+           "grow; and the time of `fits` over that of `emit`:\n\n| %-16s |", "message");
+    for (size_t op = 0; op < TIMED; op++) printf(" %13s |", OPERATIONS[op].name);
+    printf(" %5s | %11s |\n|---|", "grown", "fits / emit");
+    for (size_t op = 0; op < TIMED + 2; op++) printf("---:|");
+    printf("\n");
+    for (size_t i = 0; i < n; i++) {
+        const Message *m = &messages[i];
+        printf("| %-16s |", m->name);
+        for (size_t op = 0; op < TIMED; op++) {
+            size_t taken = count_blocks(&OPERATIONS[op], m).taken, owned = OPERATIONS[op].owned(m);
+            printf(taken > owned ? " %6zu +%5zu |" : " %6zu        |", taken, taken - owned);
+        }
+        printf(" %5zu | %11.2f |\n", count_blocks(&OPERATIONS[PARSE], m).grown, ns_of(i, FITS) / ns_of(i, EMIT));
+    }
 }
 
 int main(int count, char **words) {
-    if (count != 2) fail("usage", "bench MESSAGES");
+    if (count < 2) fail("usage", "bench MESSAGES..");
     // Freed memory is kept, so that no time goes into asking the system for it again.
     mallopt(M_MMAP_THRESHOLD, 1 << 28);
     mallopt(M_TRIM_THRESHOLD, 1 << 28);
 
-    static Message messages[MOST_MESSAGES];
-    size_t n = 0;
-    FILE *file = fopen(words[1], "r");
-    if (!file) fail(words[1], "no such file");
-    static char line[1 << 16];
-    while (fgets(line, sizeof line, file) && n < MOST_MESSAGES - 5) {
-        line[strcspn(line, "\n")] = 0;
-        if (line[0] && line[0] != '#') messages[n++] = read_line(line);
-    }
-    fclose(file);
-    messages[n++] = make_options("options_100", 100);
-    messages[n++] = make_options("options_1000", 1000);
-    size_t grown = n;
-    messages[n++] = make_attributes("attributes_1000", 1000, 64 << 10);
-    messages[n++] = make_attributes("64_KiB", SIZE_MAX, 64 << 10);
-    messages[n++] = make_attributes("1_MiB", SIZE_MAX, 1 << 20);
-
-    buffer = malloc(2 << 20);
+    buffer = malloc(MOST_BYTES);
     lengths = calloc(MOST_TIMES, sizeof *lengths);
     verdicts = calloc(MOST_TIMES, sizeof *verdicts);
 
-    static Measure measures[MOST_MESSAGES][OPERATION_COUNT];
+    size_t n = 0;
+    for (int i = 1; i < count; i++) {
+        FILE *file = fopen(words[i], "r");
+        if (!file) fail(words[i], "no such file");
+        static char line[1 << 16];
+        // A line that begins with a space is about the one before.
+        while (fgets(line, sizeof line, file) && n < MOST_MESSAGES - 16) {
+            line[strcspn(line, "\n")] = 0;
+            if (line[0] && !strchr("# ", line[0])) messages[n++] = read_line(line);
+        }
+        fclose(file);
+    }
+    messages[n++] = make_options("options_100", "fq_codel", 0, put_option, 100);
+    messages[n++] = make_options("options_1000", "fq_codel", 0, put_option, 1000);
+    messages[n++] = make_options("flower_500", "flower", 3, put_action, 500);
+    static const struct {
+        const Mode *mode;
+        uint8_t *(*put)(uint8_t *, size_t);
+        const char *names[3];
+            size_t first; // how many make 1,000 attributes
+    } GROWN[] = {
+        {&TC, put_mixed, {"tc_1000", "tc_64_KiB", "tc_1_MiB"}, 1000},
+        {&ACTION, put_actions, {"action_1000", "action_64_KiB", "action_1_MiB"}, 8},
+    };
+    enum { GROWN_COUNT = sizeof GROWN / sizeof GROWN[0] };
+    size_t grown = n;
+    for (size_t g = 0; g < GROWN_COUNT; g++) {
+        messages[n++] = make_list(GROWN[g].names[0], GROWN[g].mode, GROWN[g].put, GROWN[g].first, 64 << 10);
+        messages[n++] = make_list(GROWN[g].names[1], GROWN[g].mode, GROWN[g].put, SIZE_MAX, 64 << 10);
+        messages[n++] = make_list(GROWN[g].names[2], GROWN[g].mode, GROWN[g].put, SIZE_MAX, 1 << 20);
+    }
+
     for (size_t i = 0; i < n; i++) {
         check(&messages[i]);
         for (size_t op = 0; op < OPERATION_COUNT; op++) measures[i][op] = calibrate(&OPERATIONS[op], &messages[i]);
@@ -288,28 +416,23 @@ int main(int count, char **words) {
         for (size_t i = 0; i < n; i++)
             for (size_t op = 0; op < OPERATION_COUNT; op++) sample(&measures[i][op], &OPERATIONS[op], &messages[i]);
 
-    double block = time_each(&measures[0][ALLOCATE]);
-    printf("| %-15s | %7s | %10s | %-9s | %10s | %8s | %11s | %12s | %8s | %13s |\n", "message", "bytes", "attributes",
-           "operation", "ns", "MB/s", "allocations", "ns/attribute", "/ memcpy", "/ malloc+free");
-    printf("|---|---:|---:|---|---:|---:|---:|---:|---:|---:|\n");
-    for (size_t i = 0; i < n; i++) {
-        const Message *m = &messages[i];
-        for (size_t op = 0; op < TIMED; op++) {
-            double ns = time_each(&measures[i][op]), len = (double)m->len, attributes = (double)m->attributes;
-            printf("| %-15s | %7zu | %10zu | %-9s | %10.1f | %8.0f | %11zu | %12.1f | %8.1f | %13.1f |\n", m->name, m->len,
-                   m->attributes, OPERATIONS[op].name, ns, 1e3 * len / ns, count_allocations(&OPERATIONS[op], m),
-                   ns / attributes, ns / time_each(&measures[i][COPY]), ns / block);
-        }
-    }
-
-    printf("\nGrowth, as the time for an attribute over that at 1,000 attributes:\n\n| operation | 64 KiB | 1 MiB |\n|---|---:|---:|\n");
+    print_times("Nanoseconds", ns_of, n);
+    print_times("As multiples of one `malloc` and `free` of 64 bytes", by_malloc, n);
+    print_times("As multiples of a `memcpy` of the message's bytes", by_memcpy, n);
+    print_times("MB/s", megabytes, n);
+    print_blocks(n);
+    printf("\nGrowth, as the time for a byte over that at 1,000 attributes:\n\n| operation |");
+    for (size_t g = 0; g < GROWN_COUNT; g++) printf(" %s | %s |", GROWN[g].names[1], GROWN[g].names[2]);
+    printf("\n|---|---:|---:|---:|---:|\n");
     for (size_t op = 0; op < TIMED; op++) {
         printf("| %-9s |", OPERATIONS[op].name);
-        double first = time_each(&measures[grown][op]) / (double)messages[grown].attributes;
-        for (size_t i = grown + 1; i < n; i++)
-            printf(" %.2f |", time_each(&measures[i][op]) / (double)messages[i].attributes / first);
+        for (size_t i = grown; i < n; i++) {
+            size_t first = i - (i - grown) % 3;
+            double each = ns_of(i, op) / (double)messages[i].len;
+            if (i > first) printf(" %.2f |", each / (ns_of(first, op) / (double)messages[first].len));
+        }
         printf("\n");
     }
-    printf("\nA malloc and a free of 64 bytes took %.1f ns.\n", block);
+    printf("\nA malloc and a free of 64 bytes took %.1f ns.\n", ns_of(0, ALLOCATE));
     return 0;
 }

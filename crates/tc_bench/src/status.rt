@@ -19,9 +19,7 @@ pub const NO_ROOM: u8 = 3;
 
 /// The status of a refusal.
 pub fn status_of(fault: &DecodeError) -> u8
-    ensures refused { result ≡ 1 → fault.now ≢ OutOfMemory }
-    ensures no_memory { result ≡ 2 → fault.now ≡ OutOfMemory }
-    ensures status { (result ≡ 1) ⊎ (result ≡ 2) }
+    ensures { ((result ≡ 1) × (fault.now ≢ OutOfMemory)) ⊎ ((result ≡ 2) × (fault.now ≡ OutOfMemory)) }
 {
     if matches!(fault, DecodeError::OutOfMemory) {
         NO_MEMORY

@@ -1,101 +1,69 @@
 //! The calls on messages about queueing disciplines, classes, filters and chains.
 
-ghost use Rattle.std.specs.Prelude.{◌≡◌, ◌≢◌, ◌≤◌, ◌↔◌, IsTrue, All, length};
-ghost use Rattle.tc_wire.specs.Facade.{DecodeError, Message, ReadsTc, FaultTc, FitsTc, tc_bytes, Writes};
-ghost use Rattle.tc_bench.specs.Calls.{ReadsSome, NoRoom};
-ghost use Rattle.tc_canon.specs.Canonical.{CanonTc};
+ghost use Rattle.std.specs.Prelude.{◌≡◌, ◌≢◌, ◌↔◌, IsTrue};
+ghost use Rattle.tc_bench.specs.Words.{tc};
+ghost use Rattle.tc_bench.specs.Calls.{Parses, MeasuresEach, JudgesEach, Emits, SettlesAfter};
 
-use crate::repeat::{judge, measure, write};
-use crate::status::{DONE, NO_ROOM, status_of};
+use crate::calls;
+use crate::timed::Timed;
 use std::alloc::Global;
-use tc_wire::{Emitable, ParseableBytes, TcMessage, is_canonical_tc};
+use tc_wire::TcMessage;
 
 /// Reads a message, and drops it.
 #[unsafe(no_mangle)]
 pub extern "C" fn tc_bench_parse(alloc: Global, bytes: &[u8]) -> u8
-    ensures done { result ≡ 0 → (m : Message) × ReadsTc bytes.now m }
-    ensures refused { result ≡ 1 → (e : DecodeError) × FaultTc bytes.now e }
-    ensures status { result ≤ 2 }
+    ensures { Parses tc bytes.now result }
 {
-    match TcMessage::parse(alloc, bytes) {
-        Ok(_message) => DONE,
-        Err(e) => status_of(&e),
-    }
+    calls::parse::<TcMessage>(alloc, bytes)
 }
 
 /// Reads a message, and writes the length of its bytes into each slot.
 #[unsafe(no_mangle)]
 pub extern "C" fn tc_bench_length(alloc: Global, bytes: &[u8], lengths: &mut [usize]) -> u8
-    ensures done { result ≡ 0 → ReadsSome bytes.now (λ m. FitsTc m × All (λ n. n ≡ length (tc_bytes m)) lengths.new) }
-    ensures refused { result ≡ 1 → (e : DecodeError) × FaultTc bytes.now e }
-    ensures no_room { result ≡ 3 → ReadsSome bytes.now (λ m. FitsTc m → ⊥) }
-    ensures status { result ≤ 3 }
+    ensures { MeasuresEach tc bytes.now lengths.new result }
 {
-    match TcMessage::parse(alloc, bytes) {
-        Ok(message) => {
-            if !message.fits() {
-                return NO_ROOM;
-            }
-            measure(&message, lengths);
-            DONE
-        }
-        Err(e) => status_of(&e),
-    }
+    calls::length::<TcMessage>(alloc, bytes, lengths)
 }
 
 /// Reads a message, and writes into each slot whether it can be written.
 #[unsafe(no_mangle)]
 pub extern "C" fn tc_bench_fits(alloc: Global, bytes: &[u8], verdicts: &mut [bool]) -> u8
-    ensures done { result ≡ 0 → ReadsSome bytes.now (λ m. All (λ b. IsTrue b ↔ FitsTc m) verdicts.new) }
-    ensures refused { result ≡ 1 → (e : DecodeError) × FaultTc bytes.now e }
-    ensures status { result ≤ 2 }
+    ensures { JudgesEach tc bytes.now verdicts.new result }
 {
-    match TcMessage::parse(alloc, bytes) {
-        Ok(message) => {
-            judge(&message, verdicts);
-            DONE
-        }
-        Err(e) => status_of(&e),
-    }
+    calls::fits::<TcMessage>(alloc, bytes, verdicts)
 }
 
 /// Reads a message, writes it at the front of the buffer, and again so many times.
 #[unsafe(no_mangle)]
 pub extern "C" fn tc_bench_emit(alloc: Global, bytes: &[u8], buffer: &mut [u8], again: usize) -> u8
-    ensures done { result ≡ 0 → ReadsSome bytes.now (λ m. FitsTc m × Writes (tc_bytes m) buffer.old buffer.new) }
-    ensures refused { result ≡ 1 → (e : DecodeError) × FaultTc bytes.now e }
-    ensures no_room { result ≡ 3 → ReadsSome bytes.now (NoRoom buffer.old) }
-    ensures status { result ≤ 3 }
+    ensures emits { Emits tc bytes.now buffer.old buffer.new result }
     ensures kept { result ≢ 0 → buffer.new ≡ buffer.old }
 {
-    match TcMessage::parse(alloc, bytes) {
-        Ok(message) => {
-            if !message.fits() || buffer.len() < message.buffer_len() {
-                return NO_ROOM;
-            }
-            write(&message, buffer, again);
-            DONE
-        }
-        Err(e) => status_of(&e),
-    }
+    calls::emit::<TcMessage>(alloc, bytes, buffer, again)
 }
 
 /// Reads a message, writes it at the front of the buffer, and drops it.
 #[unsafe(no_mangle)]
 pub extern "C" fn tc_bench_rewrite(alloc: Global, bytes: &[u8], buffer: &mut [u8]) -> u8
-    ensures done { result ≡ 0 → ReadsSome bytes.now (λ m. FitsTc m × Writes (tc_bytes m) buffer.old buffer.new) }
-    ensures refused { result ≡ 1 → (e : DecodeError) × FaultTc bytes.now e }
-    ensures no_room { result ≡ 3 → ReadsSome bytes.now (NoRoom buffer.old) }
-    ensures status { result ≤ 3 }
+    ensures emits { Emits tc bytes.now buffer.old buffer.new result }
     ensures kept { result ≢ 0 → buffer.new ≡ buffer.old }
 {
-    tc_bench_emit(alloc, bytes, buffer, 0)
+    calls::emit::<TcMessage>(alloc, bytes, buffer, 0)
 }
 
-/// Whether the bytes are a canonical message.
+/// Settles a message, and writes after how many rewrites it is canonical.
+#[unsafe(no_mangle)]
+pub extern "C" fn tc_bench_settle(alloc: Global, bytes: &[u8], rewrites: &mut usize) -> u8
+    ensures settles { SettlesAfter tc bytes.now rewrites.new result }
+    ensures kept { result ≢ 0 → rewrites.new ≡ rewrites.old }
+{
+    calls::settle::<TcMessage>(alloc, bytes, rewrites)
+}
+
+/// True if the bytes are a canonical message.
 #[unsafe(no_mangle)]
 pub extern "C" fn tc_bench_canonical(bytes: &[u8]) -> bool
-    ensures { IsTrue result ↔ CanonTc bytes.now }
+    ensures { IsTrue result ↔ tc.Canon bytes.now }
 {
-    is_canonical_tc(bytes)
+    TcMessage::is_canonical(bytes)
 }
