@@ -1,6 +1,7 @@
 //! The laws of both messages, as contracts of functions that do nothing.
 
 ghost use Rattle.std.specs.Prelude.{◌≡◌, ◌↔◌, List, ℕ, Ok, Err, Bool, IsTrue, true};
+ghost use Rattle.std.specs.Bool.{Decides};
 ghost use Rattle.nla_frames.specs.declared.error.DecodeError.{DecodeError};
 ghost use Rattle.nla_frames.specs.declared.error.DecodeError.TheVariants.{OutOfMemory};
 ghost use Rattle.nla_frames.specs.Frame.{Frame, IsWireFrame};
@@ -19,7 +20,9 @@ ghost use Rattle.tc_meaning.specs.OwnGrammar.{OneOwn};
 ghost use Rattle.tc_meaning.specs.Meaning.{short, class_codec, table_codec};
 ghost use Rattle.tc_meaning.specs.Nested.{ReadsNested, ReadsOwn, ReadsOptions};
 ghost use Rattle.tc_meaning.specs.Sound.{is_sound_class, is_sound_table, is_sound_rows, is_sound_kinds};
+ghost use Rattle.tc_meaning.specs.Tree.{Content, Attribute};
 ghost use Rattle.tc_meaning.specs.Message.{Message, SettledByPlace};
+ghost use Rattle.tc_meaning.specs.Equal.{same_content, same_attribute, same_message};
 ghost use Rattle.tc_meaning.specs.Whole.{ReadsTc, FaultTc, read_tc, tc_bytes, TypedTc, FitsTc, SettledTc, ReadsAct, FaultAct, read_act, act_bytes, TypedAct, FitsAct, SettledAct};
 
 use nla_frames::FrameMeaning;
@@ -65,6 +68,13 @@ pub fn fits_or_not()
 pub fn settled_or_not()
     ensures tc { (m : Message) → (settled : Bool) × (IsTrue settled ↔ SettledTc m) }
     ensures action { (m : Message) → (settled : Bool) × (IsTrue settled ↔ SettledAct m) }
+{}
+
+/// A test tells of every two messages whether they are equal, of every two attributes, and of what two attributes hold.
+pub fn equal_or_not()
+    ensures messages { (m n : Message) → Decides (same_message m n) (m ≡ n) }
+    ensures attributes { (x y : Attribute) → Decides (same_attribute x y) (x ≡ y) }
+    ensures contents { (x y : Content) → Decides (same_content x y) (x ≡ y) }
 {}
 
 /// A list of frames that tell their kind themselves, as an action is. `read_own` gives values exactly if every frame
