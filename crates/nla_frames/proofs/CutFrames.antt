@@ -23,8 +23,10 @@ IsWireFrame-cut = by_frames (λ (bytes : List ℕ). IsBytes bytes → AllByRecur
     broken : (bytes : List ℕ) (e : DecodeError) → 0 < length bytes → next_frame bytes ≡ Err e → IsBytes bytes → AllByRecursion IsWireFrame (cut bytes).frames
     broken bytes e some refused is = rw (cut_refused bytes e some refused) tt
 
-    more : (bytes : List ℕ) (f : Frame) (after : List ℕ) → next_frame bytes ≡ Ok (f, after) → (IsBytes after → AllByRecursion IsWireFrame (cut after).frames) → IsBytes bytes → AllByRecursion IsWireFrame (cut bytes).frames
-    more bytes f after e later is = rw (cut-next_frame bytes f after e) (IsWireFrame-next_frame bytes f after is e, later (IsBytes-next_frame bytes f after is e).1)
+    more : (bytes : List ℕ) (f : Frame) (after : List ℕ) → next_frame bytes ≡ Ok (f, after) → (IsBytes after → AllByRecursion IsWireFrame (cut after).frames)
+        → IsBytes bytes → AllByRecursion IsWireFrame (cut bytes).frames
+    more bytes f after e later is =
+        rw (cut-next_frame bytes f after e) (IsWireFrame-next_frame bytes f after is e, later (IsBytes-next_frame bytes f after is e).1)
 
 -- no cutting ends for want of memory
 pub cut_not_memory : (bytes : List ℕ) → (cut bytes).fault ≡ Some OutOfMemory → ⊥
@@ -39,7 +41,8 @@ cut_not_memory = by_frames (λ (bytes : List ℕ). (cut bytes).fault ≡ Some Ou
         let g : e ≡ OutOfMemory = cc in
         next_frame_not_memory bytes (refused ∙ ap (λ (x : DecodeError). Err x) g)
 
-    more : (bytes : List ℕ) (f : Frame) (after : List ℕ) → next_frame bytes ≡ Ok (f, after) → ((cut after).fault ≡ Some OutOfMemory → ⊥) → (cut bytes).fault ≡ Some OutOfMemory → ⊥
+    more : (bytes : List ℕ) (f : Frame) (after : List ℕ) → next_frame bytes ≡ Ok (f, after) → ((cut after).fault ≡ Some OutOfMemory → ⊥)
+        → (cut bytes).fault ≡ Some OutOfMemory → ⊥
     more bytes f after e later is = later (rw (cut-next_frame bytes f after e) at is)
 
 -- a frame as it is written, and what follows
@@ -50,7 +53,8 @@ cut-frame_bytes f rest is = cut-next_frame (frame_bytes f ++ rest) f rest (next_
 pub cut-flat_map-append : (fs : List Frame) (rest : List ℕ) → AllByRecursion IsFrame fs → cut (flat_map frame_bytes fs ++ rest) ≡ all_before fs (cut rest)
 cut-flat_map-append [] rest is = refl
 cut-flat_map-append (f ∷ fs) rest is =
-    ap cut (append_assoc (frame_bytes f) (flat_map frame_bytes fs) rest) ∙ cut-frame_bytes f (flat_map frame_bytes fs ++ rest) is.0 ∙ ap (before_cut f) (cut-flat_map-append fs rest is.1)
+    ap cut (append_assoc (frame_bytes f) (flat_map frame_bytes fs) rest) ∙ cut-frame_bytes f (flat_map frame_bytes fs ++ rest) is.0
+        ∙ ap (before_cut f) (cut-flat_map-append fs rest is.1)
 
 -- frames as they are written
 pub cut-flat_map : (fs : List Frame) → AllByRecursion IsFrame fs → cut (flat_map frame_bytes fs) ≡ record { frames = fs; fault = None }
@@ -69,7 +73,8 @@ map_each P frame [] each = tt
 map_each P frame (x ∷ xs) each = (each.0, map_each P frame xs each.1)
 
 -- values as they are written
-pub cut-list_bytes : {X : Type 0} (frame : X → Frame) (xs : List X) → AllByRecursion (λ x. IsFrame (frame x)) xs → cut (list_bytes frame xs) ≡ record { frames = map frame xs; fault = None }
+pub cut-list_bytes : {X : Type 0} (frame : X → Frame) (xs : List X) → AllByRecursion (λ x. IsFrame (frame x)) xs
+    → cut (list_bytes frame xs) ≡ record { frames = map frame xs; fault = None }
 cut-list_bytes frame xs each = ap cut (list_bytes-map frame xs) ∙ cut-flat_map (map frame xs) (map_each IsFrame frame xs each)
 
 -- frames that can stand on the wire can be written

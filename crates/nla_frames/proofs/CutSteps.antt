@@ -15,9 +15,11 @@ enough_steps (suc n) zero [] h k = refl
 enough_steps (suc n) (suc m) [] h k = refl
 enough_steps zero m (b ∷ bytes) h k = absurd (omega arith)
 enough_steps (suc n) zero (b ∷ bytes) h k = absurd (omega arith)
-enough_steps (suc n) (suc m) (b ∷ bytes) h k = go (λ (after : List ℕ) (p : length after ≤ n) (q : length after ≤ m). enough_steps n m after p q) (next_frame (b ∷ bytes)) refl
+enough_steps (suc n) (suc m) (b ∷ bytes) h k =
+    go (λ (after : List ℕ) (p : length after ≤ n) (q : length after ≤ m). enough_steps n m after p q) (next_frame (b ∷ bytes)) refl
   where
-    go : ((after : List ℕ) → length after ≤ n → length after ≤ m → cut_up_to n after ≡ cut_up_to m after) → (next : Outcome (Frame × List ℕ)) → next_frame (b ∷ bytes) ≡ next → cut_after (cut_up_to n) next ≡ cut_after (cut_up_to m) next
+    go : ((after : List ℕ) → length after ≤ n → length after ≤ m → cut_up_to n after ≡ cut_up_to m after) → (next : Outcome (Frame × List ℕ))
+        → next_frame (b ∷ bytes) ≡ next → cut_after (cut_up_to n) next ≡ cut_after (cut_up_to m) next
     go same (Ok next) e =
         let shorter : length next.1 + 4 ≤ suc (length bytes) = length-next_frame (b ∷ bytes) next.0 next.1 e in
         ap (before_cut next.0) (same next.1 (omega arith) (omega arith))

@@ -33,13 +33,15 @@ Ends-Begins : (bytes : List ℕ) (f : Frame) → Begins bytes f [] → Ends byte
 Ends-Begins bytes f b = Ends-Front bytes f (Front-Begins bytes f [] b)
 
 -- a frame with its full padding before what is cut
-pub CutsUp-Begins : (bytes : List ℕ) (f : Frame) (after : List ℕ) (fs : List Frame) (fault : Option DecodeError) → Begins bytes f after → CutsUp after fs fault → CutsUp bytes (f ∷ fs) fault
+pub CutsUp-Begins : (bytes : List ℕ) (f : Frame) (after : List ℕ) (fs : List Frame) (fault : Option DecodeError) → Begins bytes f after → CutsUp after fs fault
+    → CutsUp bytes (f ∷ fs) fault
 CutsUp-Begins bytes f after [] None b c = Ends-Begins bytes f (subst (λ (t : List ℕ). Begins bytes f t) c b)
 CutsUp-Begins bytes f after (g ∷ fs) None b c = (after, b, c)
 CutsUp-Begins bytes f after fs (Some e) b c = (c.0, (after, b, c.1), c.2)
 
 -- any frame that stands at the front before what is cut
-CutsUp-Front : (bytes : List ℕ) (f : Frame) (after : List ℕ) (fs : List Frame) (fault : Option DecodeError) → Front bytes f after → CutsUp after fs fault → CutsUp bytes (f ∷ fs) fault
+CutsUp-Front : (bytes : List ℕ) (f : Frame) (after : List ℕ) (fs : List Frame) (fault : Option DecodeError) → Front bytes f after → CutsUp after fs fault
+    → CutsUp bytes (f ∷ fs) fault
 CutsUp-Front bytes f after fs fault front c = go front.full_or_last
   where
     go : ((length front.pad ≡ padding (length f.value)) ⊎ (after ≡ [])) → CutsUp bytes (f ∷ fs) fault
@@ -56,10 +58,13 @@ cuts = by_frames (λ (bytes : List ℕ). IsBytes bytes → CutsUp bytes (cut byt
     none : IsBytes [] → CutsUp [] (cut []).frames (cut []).fault
     none is = subst (λ (c : Cutting). CutsUp [] c.frames c.fault) (sym cut-nil) refl
 
-    broken : (bytes : List ℕ) (e : DecodeError) → 0 < length bytes → next_frame bytes ≡ Err e → IsBytes bytes → CutsUp bytes (cut bytes).frames (cut bytes).fault
-    broken bytes e some refused is = subst (λ (c : Cutting). CutsUp bytes c.frames c.fault) (sym (cut_refused bytes e some refused)) (bytes, refl, Broken-next_frame bytes e some refused)
+    broken : (bytes : List ℕ) (e : DecodeError) → 0 < length bytes → next_frame bytes ≡ Err e → IsBytes bytes
+        → CutsUp bytes (cut bytes).frames (cut bytes).fault
+    broken bytes e some refused is =
+        subst (λ (c : Cutting). CutsUp bytes c.frames c.fault) (sym (cut_refused bytes e some refused)) (bytes, refl, Broken-next_frame bytes e some refused)
 
-    more : (bytes : List ℕ) (f : Frame) (after : List ℕ) → next_frame bytes ≡ Ok (f, after) → (IsBytes after → CutsUp after (cut after).frames (cut after).fault) → IsBytes bytes → CutsUp bytes (cut bytes).frames (cut bytes).fault
+    more : (bytes : List ℕ) (f : Frame) (after : List ℕ) → next_frame bytes ≡ Ok (f, after)
+        → (IsBytes after → CutsUp after (cut after).frames (cut after).fault) → IsBytes bytes → CutsUp bytes (cut bytes).frames (cut bytes).fault
     more bytes f after e later is =
         let bytes_after = (IsBytes-next_frame bytes f after is e).1 in
         let whole = CutsUp-Front bytes f after (cut after).frames (cut after).fault (Front-next_frame bytes f after is e) (later bytes_after) in
@@ -97,4 +102,5 @@ cut-Frames bytes (f ∷ g ∷ fs) h = cut-Begins bytes f h.0 h.1 ∙ ap (before_
 -- what meets the grammar is what is cut
 pub cut-is : (bytes : List ℕ) (fs : List Frame) (fault : Option DecodeError) → CutsUp bytes fs fault → cut bytes ≡ record { frames = fs; fault = fault }
 cut-is bytes fs None c = cut-Frames bytes fs c
-cut-is bytes fs (Some e) c = cut-Cut bytes fs c.0 c.1 ∙ ap (all_before fs) (cut-Broken c.0 e c.2) ∙ ap (λ (gs : List Frame). record { frames = gs; fault = Some e }) (append-nil fs)
+cut-is bytes fs (Some e) c = cut-Cut bytes fs c.0 c.1 ∙ ap (all_before fs) (cut-Broken c.0 e c.2)
+    ∙ ap (λ (gs : List Frame). record { frames = gs; fault = Some e }) (append-nil fs)

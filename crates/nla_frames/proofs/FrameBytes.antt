@@ -11,12 +11,14 @@ use Rattle.nla_frames.proofs.Front.{length-header, next_frame_at}
 -- a padded value has the bytes of the value and of its padding
 pub length-padded : (value : List ℕ) → length (padded value) ≡ length value + padding (length value)
 unfolding padded
-length-padded value = length-append value (replicate (padding (length value)) 0) ∙ ap (λ (k : ℕ). length value + k) (length-replicate (padding (length value)) 0)
+length-padded value = length-append value (replicate (padding (length value)) 0)
+    ∙ ap (λ (k : ℕ). length value + k) (length-replicate (padding (length value)) 0)
 
 -- the bytes of a frame are as many as it is said to take
 pub length_frame_bytes : (f : Frame) → length (frame_bytes f) ≡ frame_length f
 unfolding frame_bytes
-length_frame_bytes f = omega (arith, length-append (header (length f.value) f.word) (padded f.value), length-header (length f.value) f.word, length-padded f.value)
+length_frame_bytes f = omega (arith, length-append (header (length f.value) f.word) (padded f.value), length-header (length f.value) f.word,
+    length-padded f.value)
 
 -- a frame that can be written takes 65536 bytes at most
 pub frame_length_bound : (f : Frame) → IsFrame f → frame_length f ≤ 65536

@@ -1,5 +1,6 @@
 -- A frame that stands at the front of bytes is the next one.
-use Rattle.std.proofs.Common.{◌≡◌, ◌⊎◌, ℕ, ◌+◌, ◌^◌, ◌<◌, ◌≤◌, false, ltb, List, [], ◌++◌, length, take, drop, Ok, refl, sym, subst, ◌∙◌, arith, inl, inr, append_assoc}
+use Rattle.std.proofs.Common.{◌≡◌, ◌⊎◌, ℕ, ◌+◌, ◌^◌, ◌<◌, ◌≤◌, false, ltb, List, [], ◌++◌, length, take, drop, Ok, refl, sym, subst, ◌∙◌, arith, inl, inr,
+    append_assoc}
 use Rattle.std.proofs.lemmas.Bool.{le-ltb}
 use Rattle.std.proofs.lemmas.List.{append-nil, length-append, take_at, drop_at, drop_all}
 use Rattle.nla_frames.specs.Value.{le_value}
@@ -31,7 +32,8 @@ unfolding header
 word-header n word after small = omega arith
 
 -- where the length at the front covers its header, and as many bytes are there, a frame is found
-pub next_frame_long : (bytes : List ℕ) (long : ℕ) → length_at bytes ≡ long → 4 ≤ long → long ≤ length bytes → next_frame bytes ≡ Ok (frame_of_length long bytes, drop (padding long) (drop long bytes))
+pub next_frame_long : (bytes : List ℕ) (long : ℕ) → length_at bytes ≡ long → 4 ≤ long → long ≤ length bytes
+    → next_frame bytes ≡ Ok (frame_of_length long bytes, drop (padding long) (drop long bytes))
 unfolding next_frame
 next_frame_long bytes long e h k =
     let a : ltb (length bytes) 4 ≡ false = le-ltb (length bytes) 4 (omega arith) in
@@ -60,7 +62,8 @@ skip_padding pad after n within (inr last) =
     rw last all
 
 -- a frame that stands at the front is the next one
-pub next_frame_at : (f : Frame) (pad after : List ℕ) → IsFrame f → length pad ≤ padding (length f.value) → (length pad ≡ padding (length f.value)) ⊎ (after ≡ [])
+pub next_frame_at : (f : Frame) (pad after : List ℕ) → IsFrame f → length pad ≤ padding (length f.value)
+    → (length pad ≡ padding (length f.value)) ⊎ (after ≡ [])
     → next_frame (header (length f.value) f.word ++ (f.value ++ (pad ++ after))) ≡ Ok (f, after)
 next_frame_at f pad after is within ends =
     let v = f.value in
@@ -74,7 +77,8 @@ next_frame_at f pad after is within ends =
     let word = word-header n f.word (v ++ more) is.word in
     let value = value_after head v more (4 + n) four refl in
     let rest = rest_after head v more (4 + n) four refl in
-    let skipped : drop (padding (4 + n)) (pad ++ after) ≡ after = subst (λ k. drop k (pad ++ after) ≡ after) same_padding (skip_padding pad after (padding n) within ends) in
+    let skipped : drop (padding (4 + n)) (pad ++ after) ≡ after =
+            subst (λ k. drop k (pad ++ after) ≡ after) same_padding (skip_padding pad after (padding n) within ends) in
     found ∙ rw (word, value, rest, skipped) refl
   where
     same_padding : padding (length f.value) ≡ padding (4 + length f.value)

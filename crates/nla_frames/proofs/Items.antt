@@ -20,6 +20,7 @@ some_bytes [] empty is not = absurd cc
 some_bytes (b ∷ bytes) empty is not = omega arith
 
 -- a broken frame, and nothing after it
-pub items_refused : (bytes : List ℕ) (empty : Bool) (e : DecodeError) → empty ≡ (length bytes == 0) → empty ≡ false → next_frame bytes ≡ Err e → items_of (cut bytes) ≡ Err e ∷ items_of (cut [])
+pub items_refused : (bytes : List ℕ) (empty : Bool) (e : DecodeError) → empty ≡ (length bytes == 0) → empty ≡ false → next_frame bytes ≡ Err e
+    → items_of (cut bytes) ≡ Err e ∷ items_of (cut [])
 items_refused bytes empty e is not h =
     ap items_of (cut_refused bytes e (some_bytes bytes empty is not) h) ∙ ap (λ (rest : List (Outcome Frame)). refused e ∷ rest) (sym items-nil)

@@ -14,7 +14,8 @@ use Rattle.nla_frames.specs.ListGrammar.{ReadEach, ListReads, StartsWith, Faulty
 use Rattle.nla_frames.proofs.CuttingLaws.{cuts, cut-is, cut-Begins, cut-Ends, cut-Broken, cut-Cut}
 use Rattle.nla_frames.proofs.CutFrames.{cut_not_memory}
 use Rattle.nla_frames.proofs.Places.{kind_after, kind_after-InForce, InForce-kind_after}
-use Rattle.nla_frames.proofs.ReadEach.{ReadInTurn-ReadEach, ReadEach-ReadInTurn, read_each-ReadInTurn, ReadInTurn-read_each, Refused, at_end, at_frame, Refused-read_each}
+use Rattle.nla_frames.proofs.ReadEach.{ReadInTurn-ReadEach, ReadEach-ReadInTurn, read_each-ReadInTurn, ReadInTurn-read_each, Refused, at_end, at_frame,
+    Refused-read_each}
 
 -- a frame that stands at the front is cut first
 cut-StartsWith : (rest : List ℕ) (f : Frame) → StartsWith rest f → (c : Cutting) × (cut rest ≡ before_cut f c)
@@ -22,7 +23,8 @@ cut-StartsWith rest f (inl ends) = (_, cut-Ends rest f ends)
 cut-StartsWith rest f (inr begins) = (_, cut-Begins rest f begins.0 begins.1)
 
 -- a frame in front of others is padded in full
-Begins-CutsUp : (bytes : List ℕ) (f g : Frame) (fs : List Frame) (fault : Option DecodeError) → CutsUp bytes (f ∷ g ∷ fs) fault → (after : List ℕ) × Begins bytes f after × CutsUp after (g ∷ fs) fault
+Begins-CutsUp : (bytes : List ℕ) (f g : Frame) (fs : List Frame) (fault : Option DecodeError) → CutsUp bytes (f ∷ g ∷ fs) fault
+    → (after : List ℕ) × Begins bytes f after × CutsUp after (g ∷ fs) fault
 Begins-CutsUp bytes f g fs None c = c
 Begins-CutsUp bytes f g fs (Some e) c = (c.1.0, c.1.1, (c.0, c.1.2, c.2))
 
@@ -33,7 +35,8 @@ StartsWith-CutsUp bytes f (g ∷ more) None c = inr (c.0, c.1)
 StartsWith-CutsUp bytes f more (Some e) c = inr (c.1.0, c.1.1)
 
 -- any frame stands at the front of what follows the frames before it
-Cut-CutsUp : (bytes : List ℕ) (done : List Frame) (f : Frame) (more : List Frame) (fault : Option DecodeError) → CutsUp bytes (done ++ f ∷ more) fault → (rest : List ℕ) × Cut bytes done rest × StartsWith rest f
+Cut-CutsUp : (bytes : List ℕ) (done : List Frame) (f : Frame) (more : List Frame) (fault : Option DecodeError) → CutsUp bytes (done ++ f ∷ more) fault
+    → (rest : List ℕ) × Cut bytes done rest × StartsWith rest f
 Cut-CutsUp bytes [] f more fault c = (bytes, refl, StartsWith-CutsUp bytes f more fault c)
 Cut-CutsUp bytes (d ∷ []) f more fault c =
     let front = Begins-CutsUp bytes d f more fault c in
@@ -53,7 +56,8 @@ module _ {X : Type 0} (reads : Reads X) (sets : Sets Frame) where
   read_list-Cut first bytes fs rest xs c each =
       let others = cut rest in
       let items : items_of (cut bytes) ≡ map Ok fs ++ items_of others =
-      ap items_of (cut-Cut bytes fs rest c) ∙ ap (λ (is : List (Outcome Frame)). is ++ fault_at_end others.fault) (map-append Ok fs others.frames) ∙ append_assoc (map Ok fs) (map Ok others.frames) (fault_at_end others.fault) in
+      ap items_of (cut-Cut bytes fs rest c) ∙ ap (λ (is : List (Outcome Frame)). is ++ fault_at_end others.fault) (map-append Ok fs others.frames)
+          ∙ append_assoc (map Ok fs) (map Ok others.frames) (fault_at_end others.fault) in
       ap (read_each reads sets first) items ∙ read_each-ReadInTurn reads sets first fs xs (items_of others) (ReadInTurn-ReadEach reads sets first fs xs each)
 
   -- what is read of a broken frame is its fault
@@ -62,7 +66,8 @@ module _ {X : Type 0} (reads : Reads X) (sets : Sets Frame) where
   read_list-Broken kind rest e b = ap (λ (c : Cutting). read_each reads sets kind (items_of c)) (cut-Broken rest e b)
 
   -- what is read of a frame that is refused, and of whatever follows it, is that fault
-  pub read_list-StartsWith : (kind : List ℕ) (rest : List ℕ) (f : Frame) (e : DecodeError) → StartsWith rest f → reads kind f ≡ Err e → read_list reads sets kind rest ≡ Err e
+  pub read_list-StartsWith : (kind : List ℕ) (rest : List ℕ) (f : Frame) (e : DecodeError) → StartsWith rest f → reads kind f ≡ Err e
+      → read_list reads sets kind rest ≡ Err e
   unfolding read_list read_each
   read_list-StartsWith kind rest f e starts refused =
       let c = cut-StartsWith rest f starts in
@@ -81,22 +86,27 @@ module _ {X : Type 0} (reads : Reads X) (sets : Sets Frame) where
   read_list-ListFault first bytes e fault =
       read_list-Cut first bytes fault.frames fault.rest fault.values fault.cut fault.are_read ∙ ap (before fault.values) (go fault.fault)
     where
-      go : (Broken fault.rest e ⊎ FaultyFrame reads sets first fault.frames fault.rest e) → read_list reads sets (kind_after sets first fault.frames) fault.rest ≡ Err e
+      go : (Broken fault.rest e ⊎ FaultyFrame reads sets first fault.frames fault.rest e)
+          → read_list reads sets (kind_after sets first fault.frames) fault.rest ≡ Err e
       go (inl broken) = read_list-Broken (kind_after sets first fault.frames) fault.rest e broken
-      go (inr faulty) = rw (kind_after-InForce sets first fault.frames faulty.kind faulty.in_force) (read_list-StartsWith faulty.kind fault.rest faulty.frame e faulty.starts faulty.is_refused)
+      go (inr faulty) = rw (kind_after-InForce sets first fault.frames faulty.kind faulty.in_force)
+          (read_list-StartsWith faulty.kind fault.rest faulty.frame e faulty.starts faulty.is_refused)
 
   -- ---- what is read meets the grammar
 
   -- what is read is a reading of the grammar
-  pub ListReads-read_list : (first : List ℕ) (bytes : List ℕ) (xs : List X) → IsBytes bytes → read_list reads sets first bytes ≡ Ok xs → ListReads reads sets first bytes xs
+  pub ListReads-read_list : (first : List ℕ) (bytes : List ℕ) (xs : List X) → IsBytes bytes → read_list reads sets first bytes ≡ Ok xs
+      → ListReads reads sets first bytes xs
   unfolding read_list
   ListReads-read_list first bytes xs is e =
       let frames = (cut bytes).frames in
       let turn = ReadInTurn-read_each reads sets first frames (cut bytes).fault xs e in
-      (frames, subst (λ (fault : Option DecodeError). CutsUp bytes (cut bytes).frames fault) turn.0 (cuts bytes is), ReadEach-ReadInTurn reads sets first frames xs turn.1)
+      (frames, subst (λ (fault : Option DecodeError). CutsUp bytes (cut bytes).frames fault) turn.0 (cuts bytes is),
+          ReadEach-ReadInTurn reads sets first frames xs turn.1)
 
   -- a first refusal among what is cut is a fault of the grammar
-  ListFault-Refused : (first : List ℕ) (bytes : List ℕ) (fs : List Frame) (fault : Option DecodeError) (e : DecodeError) → CutsUp bytes fs fault → Refused reads sets first fs fault e → ListFault reads sets first bytes e
+  ListFault-Refused : (first : List ℕ) (bytes : List ℕ) (fs : List Frame) (fault : Option DecodeError) (e : DecodeError) → CutsUp bytes fs fault
+      → Refused reads sets first fs fault e → ListFault reads sets first bytes e
   ListFault-Refused first bytes fs fault e c (at_end gs xs d turn) = record {
     frames = fs;
     rest = c.0;
@@ -113,11 +123,13 @@ module _ {X : Type 0} (reads : Reads X) (sets : Sets Frame) where
         values = xs;
         cut = place.1;
         are_read = ReadEach-ReadInTurn reads sets first done xs turn;
-        fault = inr (record { frame = f; kind = kind_after sets first done; starts = place.2; in_force = InForce-kind_after sets first done; is_refused = refused });
+        fault = inr (record { frame = f; kind = kind_after sets first done; starts = place.2; in_force = InForce-kind_after sets first done; is_refused =
+            refused });
       }
 
   -- what is refused has that fault in the grammar
-  pub ListFault-read_list : (first : List ℕ) (bytes : List ℕ) (e : DecodeError) → IsBytes bytes → read_list reads sets first bytes ≡ Err e → ListFault reads sets first bytes e
+  pub ListFault-read_list : (first : List ℕ) (bytes : List ℕ) (e : DecodeError) → IsBytes bytes → read_list reads sets first bytes ≡ Err e
+      → ListFault reads sets first bytes e
   unfolding read_list
   ListFault-read_list first bytes e is h =
       let c = cut bytes in
@@ -133,7 +145,8 @@ module _ {X : Type 0} (reads : Reads X) (sets : Sets Frame) where
   }
 
   -- no list has a reading and a fault
-  pub reading_or_fault : (first : List ℕ) (bytes : List ℕ) (xs : List X) (e : DecodeError) → ListReads reads sets first bytes xs → ListFault reads sets first bytes e → ⊥
+  pub reading_or_fault : (first : List ℕ) (bytes : List ℕ) (xs : List X) (e : DecodeError) → ListReads reads sets first bytes xs
+      → ListFault reads sets first bytes e → ⊥
   reading_or_fault first bytes xs e reading fault =
       let ok = read_list-ListReads first bytes xs reading in
       let err = read_list-ListFault first bytes e fault in
@@ -154,12 +167,15 @@ module _ {X : Type 0} (reads : Reads X) (sets : Sets Frame) where
       cc
 
   -- where no frame is refused for want of memory, no list is
-  pub read_list_not_memory : (first : List ℕ) (bytes : List ℕ) → ((kind : List ℕ) (f : Frame) → reads kind f ≡ Err OutOfMemory → ⊥) → read_list reads sets first bytes ≡ Err OutOfMemory → ⊥
+  pub read_list_not_memory : (first : List ℕ) (bytes : List ℕ) → ((kind : List ℕ) (f : Frame) → reads kind f ≡ Err OutOfMemory → ⊥)
+      → read_list reads sets first bytes ≡ Err OutOfMemory → ⊥
   unfolding read_list
   read_list_not_memory first bytes never h =
       let c = cut bytes in
       go c.frames c.fault OutOfMemory (Refused-read_each reads sets first c.frames c.fault OutOfMemory h) (cut_not_memory bytes) refl
     where
-      go : (fs : List Frame) (fault : Option DecodeError) (e : DecodeError) → Refused reads sets first fs fault e → (fault ≡ Some OutOfMemory → ⊥) → e ≡ OutOfMemory → ⊥
+      go : (fs : List Frame) (fault : Option DecodeError) (e : DecodeError) → Refused reads sets first fs fault e → (fault ≡ Some OutOfMemory → ⊥)
+          → e ≡ OutOfMemory → ⊥
       go fs fault e (at_end gs xs d turn) cut_never same = cut_never (ap (λ (x : DecodeError). Some x) same)
-      go fs fault e (at_frame done f more xs d b turn refused) cut_never same = never (kind_after sets first done) f (refused ∙ ap (λ (x : DecodeError). Err x) same)
+      go fs fault e (at_frame done f more xs d b turn refused) cut_never same =
+          never (kind_after sets first done) f (refused ∙ ap (λ (x : DecodeError). Err x) same)

@@ -40,7 +40,8 @@ module _ {X : Type 0} (reads : Reads X) (sets : Sets Frame) where
   ReadInTurn-read_list kind bytes xs e = ReadInTurn-read_each reads sets kind (cut bytes).frames (cut bytes).fault xs e
 
   -- frames that are read, and cut whole, are read as a list
-  pub read_list-ReadInTurn : (kind bytes : List ℕ) (fs : List Frame) (xs : List X) → cut bytes ≡ record { frames = fs; fault = None } → ReadInTurn reads sets kind fs xs
+  pub read_list-ReadInTurn : (kind bytes : List ℕ) (fs : List Frame) (xs : List X) → cut bytes ≡ record { frames = fs; fault = None }
+      → ReadInTurn reads sets kind fs xs
       → read_list reads sets kind bytes ≡ Ok xs
   unfolding read_list read_each
   read_list-ReadInTurn kind bytes fs xs e turn =
@@ -55,12 +56,14 @@ module _ {X : Type 0} (c : Codec Frame X) (Canon : List ℕ → Frame → Type 0
   makes-each (x ∷ xs) typed fits = (laws.makes x typed.0 fits.0, makes-each xs typed.1 fits.1)
 
   -- values that fit are cut as their frames
-  pub cut-written : (xs : List X) → AllByRecursion c.Typed xs → AllByRecursion c.Fits xs → cut (list_bytes c.write xs) ≡ record { frames = map c.write xs; fault = None }
+  pub cut-written : (xs : List X) → AllByRecursion c.Typed xs → AllByRecursion c.Fits xs
+      → cut (list_bytes c.write xs) ≡ record { frames = map c.write xs; fault = None }
   cut-written xs typed fits = ap cut (list_bytes-map c.write xs) ∙ cut-flat_map (map c.write xs) (wire-frames c.write xs (makes-each xs typed fits))
 
   module _ (by_frame : Sets Frame) where
     -- what is read is typed
-    pub typed-each : (kind : List ℕ) (fs : List Frame) (xs : List X) → AllByRecursion IsWireFrame fs → ReadInTurn c.read by_frame kind fs xs → AllByRecursion c.Typed xs
+    pub typed-each : (kind : List ℕ) (fs : List Frame) (xs : List X) → AllByRecursion IsWireFrame fs → ReadInTurn c.read by_frame kind fs xs
+        → AllByRecursion c.Typed xs
     typed-each kind [] [] wire turn = tt
     typed-each kind [] (x ∷ xs) wire turn = elim turn [ ]
     typed-each kind (f ∷ fs) [] wire turn = elim turn [ ]
@@ -76,7 +79,8 @@ module _ {X : Type 0} (c : Codec Frame X) (Canon : List ℕ → Frame → Type 0
     )
 
     -- canonical frames are written as they were
-    pub written-each : (kind : List ℕ) (fs : List Frame) (xs : List X) → AllByRecursion IsWireFrame fs → AllByRecursion c.Fits xs → ReadInTurn c.read by_frame kind fs xs
+    pub written-each : (kind : List ℕ) (fs : List Frame) (xs : List X) → AllByRecursion IsWireFrame fs → AllByRecursion c.Fits xs
+        → ReadInTurn c.read by_frame kind fs xs
         → CanonEach Canon by_frame kind fs → map c.write xs ≡ fs
     written-each kind [] [] wire fits turn canon = refl
     written-each kind [] (x ∷ xs) wire fits turn canon = elim turn [ ]
@@ -116,7 +120,8 @@ module _ {X : Type 0} (c : Codec Frame X) (Canon : List ℕ → Frame → Type 0
           let is_read = (laws.back kind x typed.0 fits.0).1 settled.0 in
           let next = kind_then-same by_frame by_value kind (c.write x) x (agree kind (c.write x) x wire is_read) in (
             is_read,
-            subst (λ (k : List ℕ). ReadInTurn c.read by_frame k (map c.write xs) xs) (sym next) (back-each (kind_then by_value kind x) xs typed.1 fits.1 settled.1),
+            subst (λ (k : List ℕ). ReadInTurn c.read by_frame k (map c.write xs) xs) (sym next)
+                (back-each (kind_then by_value kind x) xs typed.1 fits.1 settled.1),
           )
 
       -- the laws of the list
@@ -130,16 +135,19 @@ module _ {X : Type 0} (c : Codec Frame X) (Canon : List ℕ → Frame → Type 0
           typed_list kind bytes xs wire e =
               typed-each kind (cut bytes).frames xs (IsWireFrame-cut bytes wire.are_bytes) (ReadInTurn-read_list c.read by_frame kind bytes xs e).1
 
-          in_turn : (kind : List ℕ) (xs : List X) → AllByRecursion c.Typed xs → AllByRecursion c.Fits xs → read_list c.read by_frame kind (list_bytes c.write xs) ≡ Ok xs
+          in_turn : (kind : List ℕ) (xs : List X) → AllByRecursion c.Typed xs → AllByRecursion c.Fits xs
+              → read_list c.read by_frame kind (list_bytes c.write xs) ≡ Ok xs
               → ReadInTurn c.read by_frame kind (map c.write xs) xs
           in_turn kind xs typed fits e =
-              subst (λ (k : Cutting). ReadInTurn c.read by_frame kind k.frames xs) (cut-written xs typed fits) (ReadInTurn-read_list c.read by_frame kind (list_bytes c.write xs) xs e).1
+              subst (λ (k : Cutting). ReadInTurn c.read by_frame kind k.frames xs) (cut-written xs typed fits)
+                  (ReadInTurn-read_list c.read by_frame kind (list_bytes c.write xs) xs e).1
 
           back_list : (kind : List ℕ) (xs : List X) → AllByRecursion c.Typed xs → ListFits c.Fits c.write xs
               → (read_list c.read by_frame kind (list_bytes c.write xs) ≡ Ok xs) ↔ SettledEach c.Settled by_value kind xs
           back_list kind xs typed fits = (
             (λ e. settled-each kind xs typed fits.each (in_turn kind xs typed fits.each e)),
-            (λ s. read_list-ReadInTurn c.read by_frame kind (list_bytes c.write xs) (map c.write xs) xs (cut-written xs typed fits.each) (back-each kind xs typed fits.each s)),
+            (λ s. read_list-ReadInTurn c.read by_frame kind (list_bytes c.write xs) (map c.write xs) xs (cut-written xs typed fits.each)
+                (back-each kind xs typed fits.each s)),
           )
 
           same_list : (kind bytes : List ℕ) (xs : List X) → IsWireBytes bytes → read_list c.read by_frame kind bytes ≡ Ok xs → ListFits c.Fits c.write xs
@@ -160,17 +168,22 @@ module _ {X : Type 0} (c : Codec Frame X) (Canon : List ℕ → Frame → Type 0
               from_canon : IsCanonList Canon by_frame kind bytes → list_bytes c.write xs ≡ bytes
               from_canon canon =
                   let whole : cut bytes ≡ record { frames = canon.list; fault = None } = ap cut canon.whole ∙ cut-flat_map canon.list canon.frames in
-                  let turn : ReadInTurn c.read by_frame kind canon.list xs = subst (λ (k : Cutting). ReadInTurn c.read by_frame kind k.frames xs) whole (ReadInTurn-read_list c.read by_frame kind bytes xs e).1 in
-                  let are_wire : AllByRecursion IsWireFrame canon.list = subst (λ (k : Cutting). AllByRecursion IsWireFrame k.frames) whole (IsWireFrame-cut bytes wire.are_bytes) in
+                  let turn : ReadInTurn c.read by_frame kind canon.list xs =
+                          subst (λ (k : Cutting). ReadInTurn c.read by_frame kind k.frames xs) whole (ReadInTurn-read_list c.read by_frame kind bytes xs e).1 in
+                  let are_wire : AllByRecursion IsWireFrame canon.list =
+                          subst (λ (k : Cutting). AllByRecursion IsWireFrame k.frames) whole (IsWireFrame-cut bytes wire.are_bytes) in
                   list_bytes-map c.write xs ∙ ap (flat_map frame_bytes) (written-each kind canon.list xs are_wire fits.each turn canon.holds) ∙ sym canon.whole
 
           reads_list : (kind bytes : List ℕ) → IsWireBytes bytes → IsCanonList Canon by_frame kind bytes
               → (xs : List X) × (read_list c.read by_frame kind bytes ≡ Ok xs) × ListFits c.Fits c.write xs
           reads_list kind bytes wire canon =
               let whole : cut bytes ≡ record { frames = canon.list; fault = None } = ap cut canon.whole ∙ cut-flat_map canon.list canon.frames in
-              let are_wire : AllByRecursion IsWireFrame canon.list = subst (λ (k : Cutting). AllByRecursion IsWireFrame k.frames) whole (IsWireFrame-cut bytes wire.are_bytes) in
+              let are_wire : AllByRecursion IsWireFrame canon.list =
+                      subst (λ (k : Cutting). AllByRecursion IsWireFrame k.frames) whole (IsWireFrame-cut bytes wire.are_bytes) in
               let r = reads-each kind canon.list are_wire canon.holds in
-              let same : list_bytes c.write r.0 ≡ bytes = list_bytes-map c.write r.0 ∙ ap (flat_map frame_bytes) (written-each kind canon.list r.0 are_wire r.2 r.1 canon.holds) ∙ sym canon.whole in (
+              let same : list_bytes c.write r.0 ≡ bytes =
+                      list_bytes-map c.write r.0 ∙ ap (flat_map frame_bytes) (written-each kind canon.list r.0 are_wire r.2 r.1 canon.holds)
+                      ∙ sym canon.whole in (
                 r.0,
                 read_list-ReadInTurn c.read by_frame kind bytes canon.list r.0 whole r.1,
                 record { each = r.2; whole = rw same wire.long },

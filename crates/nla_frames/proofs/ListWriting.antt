@@ -1,5 +1,6 @@
 -- Lists as they are written, one item after the other.
-use Rattle.std.proofs.Common.{◌≡◌, ℕ, ◌+◌, ◌-◌, ◌<◌, ◌≤◌, ◌^◌, List, [], ◌++◌, length, map, take, drop, get_or, refl, sym, ◌∙◌, ap, subst, arith, length-append, length-drop}
+use Rattle.std.proofs.Common.{◌≡◌, ℕ, ◌+◌, ◌-◌, ◌<◌, ◌≤◌, ◌^◌, List, [], ◌++◌, length, map, take, drop, get_or, refl, sym, ◌∙◌, ap, subst, arith, length-append,
+    length-drop}
 use Rattle.std.specs.List.{flat_map, AllByRecursion}
 use Rattle.std.proofs.lemmas.List.{get_or-map, length-map, length-take, take_all}
 use Rattle.std.proofs.lemmas.List.Folds.{length-flat_map-take}
@@ -34,7 +35,8 @@ module _ {Y X : Type 0} (see : Y → X) (frame : X → Frame) (items : List Y) w
       ap (list_bytes frame) (take_all n (map see items) long)
 
   -- a list fits where each item before the end does and their bytes can be counted
-  pub all_fit : (n : ℕ) → length items ≤ n → (P : X → Type 0) → AllByRecursion P (take n (map see items)) → length (bytes_before n) < 2 ^ 64 → ListFits P frame (map see items)
+  pub all_fit : (n : ℕ) → length items ≤ n → (P : X → Type 0) → AllByRecursion P (take n (map see items)) → length (bytes_before n) < 2 ^ 64
+      → ListFits P frame (map see items)
   unfolding bytes_before
   all_fit n past P each whole =
       let long : length (map see items) ≤ n = omega (arith, length-map items see) in
@@ -42,7 +44,8 @@ module _ {Y X : Type 0} (see : Y → X) (frame : X → Frame) (items : List Y) w
       record { each = subst (AllByRecursion P) same each; whole = rw same at whole }
 
 -- what each item before the end is, each is
-pub all_hold : {Y X : Type 0} (see : Y → X) (items : List Y) (P : X → Type 0) (n : ℕ) → length items ≤ n → AllByRecursion P (take n (map see items)) → AllByRecursion P (map see items)
+pub all_hold : {Y X : Type 0} (see : Y → X) (items : List Y) (P : X → Type 0) (n : ℕ) → length items ≤ n → AllByRecursion P (take n (map see items))
+    → AllByRecursion P (map see items)
 all_hold see items P n past each = subst (AllByRecursion P) (take_all n (map see items) (omega (arith, length-map items see))) each
 
 module _ {Y X : Type 0} (see : Y → X) {items : List Y} {i : ℕ} {item : Y} (here : IsAt items i item) where
@@ -63,7 +66,8 @@ module _ {Y X : Type 0} (see : Y → X) (frame : X → Frame) {items : List Y} {
 
   -- how many bytes they have together
   pub length_next : length (bytes_before see frame items (i + 1)) ≡ length (bytes_before see frame items i) + frame_length (frame (see item))
-  length_next = omega (arith, ap length next_before, length-append (bytes_before see frame items i) (frame_bytes (frame (see item))), length_frame_bytes (frame (see item)))
+  length_next = omega (arith, ap length next_before, length-append (bytes_before see frame items i) (frame_bytes (frame (see item))),
+      length_frame_bytes (frame (see item)))
 
   -- they are part of the whole
   pub next_within : length (bytes_before see frame items i) + frame_length (frame (see item)) ≤ length (list_bytes frame (map see items))
@@ -71,18 +75,25 @@ module _ {Y X : Type 0} (see : Y → X) (frame : X → Frame) {items : List Y} {
   next_within =
       let bytes = λ (x : X). frame_bytes (frame x) in
       let part = length-flat_map-take bytes (map see items) i (see item) (seen_within see here) in
-      let whole : length (flat_map bytes (take i (map see items))) + length (frame_bytes (frame (see item))) ≤ length (flat_map bytes (map see items)) = rw (seen_at see here) at part in
+      let whole : length (flat_map bytes (take i (map see items))) + length (frame_bytes (frame (see item))) ≤ length (flat_map bytes (map see items)) =
+              rw (seen_at see here) at part in
       omega (arith, length_frame_bytes (frame (see item)))
 
   -- so the frame has room after what is written
-  pub next_room : (old now : List ℕ) (at : ℕ) → at ≡ length (bytes_before see frame items i) → HasRoom (list_bytes frame (map see items)) old → length now ≡ length old → HasRoom (frame_bytes (frame (see item))) (take (length now - at) (drop at now))
-  next_room old now at is_at room same_length = omega (arith, next_within, length_frame_bytes (frame (see item)), length-take (length now - at) (drop at now), length-drop at now)
+  pub next_room : (old now : List ℕ) (at : ℕ) → at ≡ length (bytes_before see frame items i) → HasRoom (list_bytes frame (map see items)) old
+      → length now ≡ length old → HasRoom (frame_bytes (frame (see item))) (take (length now - at) (drop at now))
+  next_room old now at is_at room same_length =
+      omega (arith, next_within, length_frame_bytes (frame (see item)), length-take (length now - at) (drop at now), length-drop at now)
 
   -- and is written there
-  pub next_written : (old now after : List ℕ) (at : ℕ) → at ≡ length (bytes_before see frame items i) → HasRoom (list_bytes frame (map see items)) old → Writes (bytes_before see frame items i) old now → Writes (frame_bytes (frame (see item))) (take (length now - at) (drop at now)) after → Writes (bytes_before see frame items (i + 1)) old (put_mid at (length now - at) now after)
+  pub next_written : (old now after : List ℕ) (at : ℕ) → at ≡ length (bytes_before see frame items i) → HasRoom (list_bytes frame (map see items)) old
+      → Writes (bytes_before see frame items i) old now → Writes (frame_bytes (frame (see item))) (take (length now - at) (drop at now)) after
+      → Writes (bytes_before see frame items (i + 1)) old (put_mid at (length now - at) now after)
   next_written old now after at is_at room written_before written_next =
-      let fits : length (bytes_before see frame items i) + length (frame_bytes (frame (see item))) ≤ length old = omega (arith, next_within, length_frame_bytes (frame (see item))) in
-      subst (λ bytes. Writes bytes old (put_mid at (length now - at) now after)) (sym next_before) (front_and_back (bytes_before see frame items i) (frame_bytes (frame (see item))) old now after at is_at fits written_before written_next)
+      let fits : length (bytes_before see frame items i) + length (frame_bytes (frame (see item))) ≤ length old =
+              omega (arith, next_within, length_frame_bytes (frame (see item))) in
+      subst (λ bytes. Writes bytes old (put_mid at (length now - at) now after)) (sym next_before)
+          (front_and_back (bytes_before see frame items i) (frame_bytes (frame (see item))) old now after at is_at fits written_before written_next)
 
 module _ {Y X : Type 0} (see : Y → X) {items : List Y} {i : ℕ} {item : Y} (here : IsAt items i item) (P : X → Type 0) where
   -- what each item is, this one is
@@ -91,4 +102,5 @@ module _ {Y X : Type 0} (see : Y → X) {items : List Y} {i : ℕ} {item : Y} (h
 
   -- what each item before it and it are, each before the next one is
   pub one_more : AllByRecursion P (take i (map see items)) → P (see item) → AllByRecursion P (take (i + 1) (map see items))
-  one_more before it = recursion_from_All P _ (All-more P (map see items) i (see item) (seen_within see here) (All-from_recursion P _ before) (subst P (sym (seen_at see here)) it))
+  one_more before it = recursion_from_All P _
+      (All-more P (map see items) i (see item) (seen_within see here) (All-from_recursion P _ before) (subst P (sym (seen_at see here)) it))

@@ -1,5 +1,6 @@
 -- What `next_frame` finds: a frame that stands at the front, or a broken one.
-use Rattle.std.proofs.Common.{◌≡◌, ◌⊎◌, ℕ, ◌+◌, ◌^◌, ◌<◌, ◌≤◌, List, [], ◌++◌, length, take, drop, Ok, Err, refl, sym, ap, ap₂, subst, ◌∙◌, arith, inl, inr, append_assoc, take-add}
+use Rattle.std.proofs.Common.{◌≡◌, ◌⊎◌, ℕ, ◌+◌, ◌^◌, ◌<◌, ◌≤◌, List, [], ◌++◌, length, take, drop, Ok, Err, refl, sym, ap, ap₂, subst, ◌∙◌, arith, inl, inr,
+    append_assoc, take-add}
 use Rattle.std.proofs.lemmas.Bool.{cases_lt, lt-ltb, le-ltb}
 use Rattle.std.proofs.lemmas.List.{length-take, length-drop, take-append-drop, take-take, drop_all}
 use Rattle.nla_frames.specs.declared.error.DecodeError.{DecodeError}
@@ -17,7 +18,8 @@ data Finds (bytes : List ℕ) : Outcome (Frame × List ℕ) → Type 0 where
   header_short : length bytes < 4 → Finds bytes (Err (FrameHeaderShort (length bytes)))
   too_long : 4 ≤ length bytes → length bytes < length_at bytes → Finds bytes (Err (FrameTooLong (length_at bytes) (length bytes)))
   too_short : 4 ≤ length bytes → length_at bytes ≤ length bytes → length_at bytes < 4 → Finds bytes (Err (FrameTooShort (length_at bytes)))
-  whole : 4 ≤ length_at bytes → length_at bytes ≤ length bytes → Finds bytes (Ok (frame_of_length (length_at bytes) bytes, drop (padding (length_at bytes)) (drop (length_at bytes) bytes)))
+  whole : 4 ≤ length_at bytes → length_at bytes ≤ length bytes
+      → Finds bytes (Ok (frame_of_length (length_at bytes) bytes, drop (padding (length_at bytes)) (drop (length_at bytes) bytes)))
 
 -- the tests find what `next_frame` answers
 Finds-next_frame : (bytes : List ℕ) → Finds bytes (next_frame bytes)
@@ -54,8 +56,10 @@ Broken-next_frame bytes e some is = Broken-Finds bytes e some (Finds-is bytes (E
 pub next_frame-Broken : (bytes : List ℕ) (e : DecodeError) → Broken bytes e → next_frame bytes ≡ Err e
 unfolding next_frame
 next_frame-Broken bytes (FrameHeaderShort left) b = rw (lt-ltb (length bytes) 4 (omega arith), b.0) refl
-next_frame-Broken bytes (FrameTooLong long left) b = rw (b.0, b.2, le-ltb (length bytes) 4 (omega arith), lt-ltb (length bytes) (length_at bytes) (omega arith)) refl
-next_frame-Broken bytes (FrameTooShort long) b = rw (b.1, le-ltb (length bytes) 4 b.0, le-ltb (length bytes) (length_at bytes) (omega arith), lt-ltb (length_at bytes) 4 (omega arith)) refl
+next_frame-Broken bytes (FrameTooLong long left) b =
+    rw (b.0, b.2, le-ltb (length bytes) 4 (omega arith), lt-ltb (length bytes) (length_at bytes) (omega arith)) refl
+next_frame-Broken bytes (FrameTooShort long) b =
+    rw (b.1, le-ltb (length bytes) 4 b.0, le-ltb (length bytes) (length_at bytes) (omega arith), lt-ltb (length_at bytes) 4 (omega arith)) refl
 next_frame-Broken bytes _ b = elim b [ ]
 
 -- a broken frame has a byte at least
@@ -98,14 +102,17 @@ length-next_frame bytes f after e = shorter bytes f after (Finds-is bytes (Ok (f
 header_is : (n : ℕ) (bytes : List ℕ) → IsBytes bytes → 4 ≤ length bytes → length_at bytes ≡ 4 + n → header n (le_value (take 2 (drop 2 bytes))) ≡ take 4 bytes
 unfolding header
 header_is n bytes is long e =
-    let first : le_bytes 2 (le_value (take 2 bytes)) ≡ take 2 bytes = le_bytes-le_value 2 (take 2 bytes) (omega (arith, length-take 2 bytes)) (IsBytes-take 2 bytes is) in
+    let first : le_bytes 2 (le_value (take 2 bytes)) ≡ take 2 bytes =
+            le_bytes-le_value 2 (take 2 bytes) (omega (arith, length-take 2 bytes)) (IsBytes-take 2 bytes is) in
     let second : le_bytes 2 (le_value (take 2 (drop 2 bytes))) ≡ take 2 (drop 2 bytes) =
-    le_bytes-le_value 2 (take 2 (drop 2 bytes)) (omega (arith, length-take 2 (drop 2 bytes), length-drop 2 bytes)) (IsBytes-take 2 (drop 2 bytes) (IsBytes-drop 2 bytes is)) in
+    le_bytes-le_value 2 (take 2 (drop 2 bytes)) (omega (arith, length-take 2 (drop 2 bytes), length-drop 2 bytes))
+        (IsBytes-take 2 (drop 2 bytes) (IsBytes-drop 2 bytes is)) in
     let first_so : le_bytes 2 (4 + n) ≡ take 2 bytes = subst (λ (k : ℕ). le_bytes 2 k ≡ take 2 bytes) e first in
     ap₂ (λ (a b : List ℕ). a ++ b) first_so second ∙ sym (take-add 2 2 bytes)
 
 -- the frame of the first bytes stands at the front
-front_of : (long : ℕ) (bytes : List ℕ) → IsBytes bytes → length_at bytes ≡ long → 4 ≤ long → long ≤ length bytes → Front bytes (frame_of_length long bytes) (drop (padding long) (drop long bytes))
+front_of : (long : ℕ) (bytes : List ℕ) → IsBytes bytes → length_at bytes ≡ long → 4 ≤ long → long ≤ length bytes
+    → Front bytes (frame_of_length long bytes) (drop (padding long) (drop long bytes))
 front_of long bytes is e h k =
     let value = drop 4 (take long bytes) in
     let rest = drop long bytes in
@@ -115,7 +122,8 @@ front_of long bytes is e h k =
     let whole : take 4 bytes ++ value ≡ take long bytes = rw (← take-take 4 long bytes h) (take-append-drop 4 (take long bytes)) in
     let below : le_value (take 2 bytes) < 256 ^ length (take 2 bytes) = le_value_below (take 2 bytes) (IsBytes-take 2 bytes is) in
     let two : length (take 2 bytes) ≡ 2 = omega (arith, length-take 2 bytes) in
-    let below_word : le_value (take 2 (drop 2 bytes)) < 256 ^ length (take 2 (drop 2 bytes)) = le_value_below (take 2 (drop 2 bytes)) (IsBytes-take 2 (drop 2 bytes) (IsBytes-drop 2 bytes is)) in
+    let below_word : le_value (take 2 (drop 2 bytes)) < 256 ^ length (take 2 (drop 2 bytes)) =
+            le_value_below (take 2 (drop 2 bytes)) (IsBytes-take 2 (drop 2 bytes) (IsBytes-drop 2 bytes is)) in
     let two_word : length (take 2 (drop 2 bytes)) ≡ 2 = omega (arith, length-take 2 (drop 2 bytes), length-drop 2 bytes) in
     let long_below : le_value (take 2 bytes) < 65536 = rw two at below in
     let word_below : le_value (take 2 (drop 2 bytes)) < 65536 = rw two_word at below_word in
@@ -125,7 +133,8 @@ front_of long bytes is e h k =
       pad = take p rest;
       within = rw same (omega (arith, length-take p rest));
       full_or_last = rw same (full_or_last p rest (cases_lt (length rest) p));
-      parts = rw (front, take-append-drop p rest) (sym (sym (append_assoc (take 4 bytes) value rest) ∙ ap (λ (t : List ℕ). t ++ rest) whole ∙ take-append-drop long bytes));
+      parts = rw (front, take-append-drop p rest)
+          (sym (sym (append_assoc (take 4 bytes) value rest) ∙ ap (λ (t : List ℕ). t ++ rest) whole ∙ take-append-drop long bytes));
     }
   where
     full_or_last : (p : ℕ) (rest : List ℕ) → ((length rest < p) ⊎ (p ≤ length rest)) → (length (take p rest) ≡ p) ⊎ (drop p rest ≡ [])
@@ -143,7 +152,8 @@ Front-next_frame bytes f after is e = found_front bytes f after is (Finds-is byt
 -- what is found are bytes
 found_bytes : (bytes : List ℕ) (f : Frame) (after : List ℕ) → IsBytes bytes → Finds bytes (Ok (f, after)) → IsBytes f.value × IsBytes after
 found_bytes bytes f after is (whole h k) =
-    (IsBytes-drop 4 (take (length_at bytes) bytes) (IsBytes-take (length_at bytes) bytes is), IsBytes-drop (padding (length_at bytes)) (drop (length_at bytes) bytes) (IsBytes-drop (length_at bytes) bytes is))
+    (IsBytes-drop 4 (take (length_at bytes) bytes) (IsBytes-take (length_at bytes) bytes is),
+        IsBytes-drop (padding (length_at bytes)) (drop (length_at bytes) bytes) (IsBytes-drop (length_at bytes) bytes is))
 
 -- the next frame's value and what comes after it are bytes
 pub IsBytes-next_frame : (bytes : List ℕ) (f : Frame) (after : List ℕ) → IsBytes bytes → next_frame bytes ≡ Ok (f, after) → IsBytes f.value × IsBytes after

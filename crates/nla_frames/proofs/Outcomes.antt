@@ -6,7 +6,8 @@ use Rattle.nla_frames.specs.declared.error.DecodeError.TheVariants.{OutOfMemory}
 use Rattle.nla_frames.specs.Fault.{Outcome, Gives, IfRefused, read_as, refused, seen}
 
 -- the fault of a part is the fault of the whole, where the part's outcome says so
-pub Gives-err : {X Y : Type 0} (e : DecodeError) (part : Outcome X) (whole : Outcome Y) → Gives (refused e) part → (part ≡ refused e → whole ≡ refused e) → Gives (refused e) whole
+pub Gives-err : {X Y : Type 0} (e : DecodeError) (part : Outcome X) (whole : Outcome Y) → Gives (refused e) part → (part ≡ refused e → whole ≡ refused e)
+    → Gives (refused e) whole
 Gives-err OutOfMemory part whole given leads = tt
 Gives-err _ part whole given leads = leads given
 

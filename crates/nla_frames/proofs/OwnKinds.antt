@@ -15,11 +15,13 @@ kinds_set-map see sets [] = refl
 kinds_set-map see sets (y ∷ items) = ap (kind_before (sets (see y))) (kinds_set-map see sets items)
 
 -- of one list after another
-pub kinds_set-append : {Y : Type 0} (sets : Sets Y) (front : List Y) (y : Y) → kinds_set sets (front ++ y ∷ []) ≡ kinds_set sets front ++ kind_before (sets y) []
+pub kinds_set-append : {Y : Type 0} (sets : Sets Y) (front : List Y) (y : Y)
+    → kinds_set sets (front ++ y ∷ []) ≡ kinds_set sets front ++ kind_before (sets y) []
 kinds_set-append sets [] y = refl
 kinds_set-append sets (x ∷ front) y = ap (kind_before (sets x)) (kinds_set-append sets front y) ∙ before_append (sets x) (kinds_set sets front)
   where
-    before_append : (set : Option (List ℕ)) (kinds : List (List ℕ)) → kind_before set (kinds ++ kind_before (sets y) []) ≡ kind_before set kinds ++ kind_before (sets y) []
+    before_append : (set : Option (List ℕ)) (kinds : List (List ℕ))
+        → kind_before set (kinds ++ kind_before (sets y) []) ≡ kind_before set kinds ++ kind_before (sets y) []
     before_append None kinds = refl
     before_append (Some kind) kinds = refl
 
@@ -33,16 +35,19 @@ module _ {Y : Type 0} (sets : Sets Y) (items : List Y) where
       subst (Tells next) (sym (ap (kinds_set sets) again ∙ kinds_set-append sets (take i items) item)) (and_told _ told)
 
 -- under one kind that nothing changes, each element is settled under it
-pub settled_keeping : {X : Type 0} (Settled : List ℕ → X → Type 0) (kind : List ℕ) (xs : List X) → SettledEach Settled keep kind xs ≡ AllByRecursion (Settled kind) xs
+pub settled_keeping : {X : Type 0} (Settled : List ℕ → X → Type 0) (kind : List ℕ) (xs : List X)
+    → SettledEach Settled keep kind xs ≡ AllByRecursion (Settled kind) xs
 settled_keeping Settled kind [] = refl
 settled_keeping Settled kind (x ∷ xs) = ap (λ rest. Settled kind x × rest) (settled_keeping Settled kind xs)
 
 -- where the list sets one kind, it is settled exactly if each element is settled under that one
 pub settled_own : {Y X : Type 0} (see : Y → X) (Settled : List ℕ → X → Type 0) (sets : Sets Y) (items : List Y) (kind : List ℕ) (is_settled : Bool)
-    → kinds_set sets items ≡ kind ∷ [] → IsTrue is_settled ↔ SettledEach Settled keep kind (map see items) → IsTrue is_settled ↔ SettledUnderOwn see Settled sets items
+    → kinds_set sets items ≡ kind ∷ [] → IsTrue is_settled ↔ SettledEach Settled keep kind (map see items)
+        → IsTrue is_settled ↔ SettledUnderOwn see Settled sets items
 settled_own see Settled sets items kind is_settled told is = (
   λ yes. (kind, told, subst (λ t. t) (settled_keeping Settled kind (map see items)) (is.0 yes)),
-  λ own. is.1 (subst (λ t. t) (sym (settled_keeping Settled kind (map see items))) (subst (λ k. AllByRecursion (Settled k) (map see items)) (same own.0 own.1) own.2)),
+  λ own. is.1 (subst (λ t. t) (sym (settled_keeping Settled kind (map see items)))
+      (subst (λ k. AllByRecursion (Settled k) (map see items)) (same own.0 own.1) own.2)),
 )
   where
     same : (k : List ℕ) → kinds_set sets items ≡ k ∷ [] → k ≡ kind

@@ -10,7 +10,8 @@ kind_after sets kind [] = kind
 kind_after sets kind (x ∷ xs) = kind_after sets (kind_then sets kind x) xs
 
 -- after more elements
-pub kind_after-append : {X : Type 0} (sets : Sets X) (kind : List ℕ) (xs ys : List X) → kind_after sets kind (xs ++ ys) ≡ kind_after sets (kind_after sets kind xs) ys
+pub kind_after-append : {X : Type 0} (sets : Sets X) (kind : List ℕ) (xs ys : List X)
+    → kind_after sets kind (xs ++ ys) ≡ kind_after sets (kind_after sets kind xs) ys
 kind_after-append sets kind [] ys = refl
 kind_after-append sets kind (x ∷ xs) ys = kind_after-append sets (kind_then sets kind x) xs ys
 
@@ -20,13 +21,16 @@ kind_after_none sets kind [] none = refl
 kind_after_none sets kind (x ∷ xs) none = rw (none.0) (kind_after_none sets kind xs none.1)
 
 -- the kind in force is the one that the elements leave
-pub kind_after-InForce : {X : Type 0} (sets : Sets X) (first : List ℕ) (before : List X) (kind : List ℕ) → InForce sets first before kind → kind_after sets first before ≡ kind
+pub kind_after-InForce : {X : Type 0} (sets : Sets X) (first : List ℕ) (before : List X) (kind : List ℕ) → InForce sets first before kind
+    → kind_after sets first before ≡ kind
 kind_after-InForce sets first before kind (none_set xs none) = kind_after_none sets first before none
 kind_after-InForce sets first before kind (set_last front x after k is none) =
-    kind_after-append sets first front (x ∷ after) ∙ ap (λ (o : Option (List ℕ)). kind_after sets (unwrap_or o (kind_after sets first front)) after) is ∙ kind_after_none sets kind after none
+    kind_after-append sets first front (x ∷ after) ∙ ap (λ (o : Option (List ℕ)). kind_after sets (unwrap_or o (kind_after sets first front)) after) is
+        ∙ kind_after_none sets kind after none
 
 -- one element more in front
-InForce-cons : {X : Type 0} (sets : Sets X) (first : List ℕ) (x : X) (before : List X) (kind : List ℕ) → InForce sets (kind_then sets first x) before kind → InForce sets first (x ∷ before) kind
+InForce-cons : {X : Type 0} (sets : Sets X) (first : List ℕ) (x : X) (before : List X) (kind : List ℕ) → InForce sets (kind_then sets first x) before kind
+    → InForce sets first (x ∷ before) kind
 InForce-cons sets first x before kind (none_set xs none) = go (sets x) refl
   where
     go : (o : Option (List ℕ)) → sets x ≡ o → InForce sets first (x ∷ before) (kind_then sets first x)
@@ -37,4 +41,5 @@ InForce-cons sets first x before kind (set_last front y after k is none) = set_l
 -- the kind that the elements leave is in force
 pub InForce-kind_after : {X : Type 0} (sets : Sets X) (first : List ℕ) (before : List X) → InForce sets first before (kind_after sets first before)
 InForce-kind_after sets first [] = none_set [] tt
-InForce-kind_after sets first (x ∷ xs) = InForce-cons sets first x xs (kind_after sets (kind_then sets first x) xs) (InForce-kind_after sets (kind_then sets first x) xs)
+InForce-kind_after sets first (x ∷ xs) =
+    InForce-cons sets first x xs (kind_after sets (kind_then sets first x) xs) (InForce-kind_after sets (kind_then sets first x) xs)

@@ -1,5 +1,7 @@
--- Frames are each read under the kind in force at their place exactly if they are read in turn, each under the kind that the frames before it leave. So reads the function.
-use Rattle.std.proofs.Common.{◌≡◌, ◌⊎◌, ℕ, zero, suc, List, [], ◌∷◌, ◌++◌, length, map, take, slice_get, Option, Some, None, Ok, Err, refl, sym, ap, subst, arith, inl, inr}
+-- Frames are each read under the kind in force at their place exactly if they are read in turn, each under the kind that the frames before it leave. So reads
+-- the function.
+use Rattle.std.proofs.Common.{◌≡◌, ◌⊎◌, ℕ, zero, suc, List, [], ◌∷◌, ◌++◌, length, map, take, slice_get, Option, Some, None, Ok, Err, refl, sym, ap, subst,
+    arith, inl, inr}
 use Rattle.nla_frames.specs.declared.error.DecodeError.{DecodeError}
 use Rattle.nla_frames.specs.Fault.{Outcome, ◌>>=◌}
 use Rattle.nla_frames.specs.Frame.{Frame}
@@ -17,12 +19,14 @@ ReadInTurn reads sets kind _ _ = ⊥
 
 -- the same, by its place
 abbrev EachAfter : {X : Type 0} → Reads X → Sets Frame → List ℕ → List Frame → List X → Type 0
-EachAfter reads sets first fs xs = (i : ℕ) (f : Frame) (x : _) → slice_get fs i ≡ Some f → slice_get xs i ≡ Some x → reads (kind_after sets first (take i fs)) f ≡ Ok x
+EachAfter reads sets first fs xs =
+    (i : ℕ) (f : Frame) (x : _) → slice_get fs i ≡ Some f → slice_get xs i ≡ Some x → reads (kind_after sets first (take i fs)) f ≡ Ok x
 
 -- the first refusal: of the fault after frames that are read, or of a frame among them
 pub data Refused {X : Type 0} (reads : Reads X) (sets : Sets Frame) (first : List ℕ) : List Frame → Option DecodeError → DecodeError → Type 0 where
   at_end : (fs : List Frame) (xs : List X) (e : DecodeError) → ReadInTurn reads sets first fs xs → Refused reads sets first fs (Some e) e
-  at_frame : (done : List Frame) (f : Frame) (more : List Frame) (xs : List X) (fault : Option DecodeError) (e : DecodeError) → ReadInTurn reads sets first done xs → reads (kind_after sets first done) f ≡ Err e → Refused reads sets first (done ++ f ∷ more) fault e
+  at_frame : (done : List Frame) (f : Frame) (more : List Frame) (xs : List X) (fault : Option DecodeError) (e : DecodeError)
+      → ReadInTurn reads sets first done xs → reads (kind_after sets first done) f ≡ Err e → Refused reads sets first (done ++ f ∷ more) fault e
 
 -- no values in front
 before-nil : {X : Type 0} (r : Outcome (List X)) → before [] r ≡ r
@@ -35,13 +39,15 @@ before-before x xs (Ok ys) = refl
 before-before x xs (Err e) = refl
 
 -- a value and others after it were read
-first_read : {X : Type 0} (r : Outcome X) (others : Outcome (List X)) (xs : List X) → (r >>= λ x. before (x ∷ []) others) ≡ Ok xs → (x : X) × (ys : List X) × (r ≡ Ok x) × (others ≡ Ok ys) × (x ∷ ys ≡ xs)
+first_read : {X : Type 0} (r : Outcome X) (others : Outcome (List X)) (xs : List X) → (r >>= λ x. before (x ∷ []) others) ≡ Ok xs
+    → (x : X) × (ys : List X) × (r ≡ Ok x) × (others ≡ Ok ys) × (x ∷ ys ≡ xs)
 first_read (Ok x) (Ok ys) xs e = (x, ys, refl, refl, cc)
 first_read (Ok x) (Err d) xs e = absurd cc
 first_read (Err d) others xs e = absurd cc
 
 -- the value was refused, or the others were
-first_refused : {X : Type 0} (r : Outcome X) (others : Outcome (List X)) (e : DecodeError) → (r >>= λ x. before (x ∷ []) others) ≡ Err e → (r ≡ Err e) ⊎ ((x : X) × (r ≡ Ok x) × (others ≡ Err e))
+first_refused : {X : Type 0} (r : Outcome X) (others : Outcome (List X)) (e : DecodeError) → (r >>= λ x. before (x ∷ []) others) ≡ Err e
+    → (r ≡ Err e) ⊎ ((x : X) × (r ≡ Ok x) × (others ≡ Err e))
 first_refused (Ok x) (Ok ys) e h = absurd cc
 first_refused (Ok x) (Err d) e h = inr (x, refl, h)
 first_refused (Err d) others e h = inl cc
@@ -49,7 +55,8 @@ first_refused (Err d) others e h = inl cc
 module _ {X : Type 0} (reads : Reads X) (sets : Sets Frame) where
   -- ---- in turn and by place
 
-  turn_from_each : (first : List ℕ) (fs : List Frame) (xs : List X) → length xs ≡ length fs → EachAfter reads sets first fs xs → ReadInTurn reads sets first fs xs
+  turn_from_each : (first : List ℕ) (fs : List Frame) (xs : List X) → length xs ≡ length fs → EachAfter reads sets first fs xs
+      → ReadInTurn reads sets first fs xs
   turn_from_each first [] [] same each = tt
   turn_from_each first [] (x ∷ xs) same each = absurd (omega arith)
   turn_from_each first (f ∷ fs) [] same each = absurd (omega arith)
@@ -103,7 +110,8 @@ module _ {X : Type 0} (reads : Reads X) (sets : Sets Frame) where
       rw (turn.0, read_each-ReadInTurn kind fs xs items turn.1) (before-before x xs (read_each reads sets (kind_after sets kind fs) items))
 
   -- what is read, is read in turn and has no fault at its end
-  pub ReadInTurn-read_each : (first : List ℕ) (fs : List Frame) (fault : Option DecodeError) (xs : List X) → read_each reads sets first (map Ok fs ++ fault_at_end fault) ≡ Ok xs
+  pub ReadInTurn-read_each : (first : List ℕ) (fs : List Frame) (fault : Option DecodeError) (xs : List X)
+      → read_each reads sets first (map Ok fs ++ fault_at_end fault) ≡ Ok xs
       → (fault ≡ None) × ReadInTurn reads sets first fs xs
   unfolding read_each
   ReadInTurn-read_each first [] None [] e = (refl, tt)
@@ -115,13 +123,15 @@ module _ {X : Type 0} (reads : Reads X) (sets : Sets Frame) where
       (others.0, subst (λ ys. ReadInTurn reads sets first (f ∷ fs) ys) r.4 (r.2, others.1))
 
   -- a frame that is read, in front
-  Refused-cons : (first : List ℕ) (f : Frame) (x : X) (fs : List Frame) (fault : Option DecodeError) (e : DecodeError) → reads first f ≡ Ok x → Refused reads sets (kind_then sets first f) fs fault e
+  Refused-cons : (first : List ℕ) (f : Frame) (x : X) (fs : List Frame) (fault : Option DecodeError) (e : DecodeError) → reads first f ≡ Ok x
+      → Refused reads sets (kind_then sets first f) fs fault e
       → Refused reads sets first (f ∷ fs) fault e
   Refused-cons first f x fs fault e is (at_end gs xs d turn) = at_end (f ∷ gs) (x ∷ xs) d (is, turn)
   Refused-cons first f x fs fault e is (at_frame done g more xs c d turn refused) = at_frame (f ∷ done) g more (x ∷ xs) c d (is, turn) refused
 
   -- what is refused, is refused at a first place
-  pub Refused-read_each : (first : List ℕ) (fs : List Frame) (fault : Option DecodeError) (e : DecodeError) → read_each reads sets first (map Ok fs ++ fault_at_end fault) ≡ Err e
+  pub Refused-read_each : (first : List ℕ) (fs : List Frame) (fault : Option DecodeError) (e : DecodeError)
+      → read_each reads sets first (map Ok fs ++ fault_at_end fault) ≡ Err e
       → Refused reads sets first fs fault e
   unfolding read_each
   Refused-read_each first [] None e h = absurd cc
@@ -131,7 +141,8 @@ module _ {X : Type 0} (reads : Reads X) (sets : Sets Frame) where
       let others = read_each reads sets kind (map Ok fs ++ fault_at_end fault) in
       go others (λ d. Refused-read_each kind fs fault e d) (first_refused (reads first f) others e h)
     where
-      go : (others : Outcome (List X)) → (others ≡ Err e → Refused reads sets (kind_then sets first f) fs fault e) → ((reads first f ≡ Err e) ⊎ ((x : X) × (reads first f ≡ Ok x) × (others ≡ Err e)))
+      go : (others : Outcome (List X)) → (others ≡ Err e → Refused reads sets (kind_then sets first f) fs fault e)
+          → ((reads first f ≡ Err e) ⊎ ((x : X) × (reads first f ≡ Ok x) × (others ≡ Err e)))
           → Refused reads sets first (f ∷ fs) fault e
       go others later (inl refused) = at_frame [] f fs [] fault e tt refused
       go others later (inr r) = Refused-cons first f r.0 fs fault e r.1 (later r.2)

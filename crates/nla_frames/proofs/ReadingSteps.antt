@@ -25,7 +25,8 @@ module _ {X : Type 0} (reads : Reads X) (sets : Sets Frame) where
   unfolding read_list
   starts kind bytes front items none all = rw (none, all) (before-nil (read_each reads sets kind (items_of (cut bytes))))
 
-  module _ (kind : List ℕ) (front : List X) (items : List (Outcome Frame)) (total : Outcome (List X)) (so_far : before front (read_each reads sets kind items) ≡ total) where
+  module _ (kind : List ℕ) (front : List X) (items : List (Outcome Frame)) (total : Outcome (List X))
+      (so_far : before front (read_each reads sets kind items) ≡ total) where
     -- one value more
     pub goes_on : (f : Frame) (rest : List (Outcome Frame)) (x : X) → items ≡ Ok f ∷ rest → reads kind f ≡ Ok x
         → before (front ++ x ∷ []) (read_each reads sets (kind_then sets kind f) rest) ≡ total
@@ -51,7 +52,8 @@ module _ {X : Type 0} (reads : Reads X) (sets : Sets Frame) where
     is_done none = sym so_far ∙ rw none (ap (λ (xs : List X). read_as xs) (append-nil front))
 
 -- the frames from a place on, where the place has one, and where it has none
-pub frames_more : {B : Type 0} (frame_of : B → Frame) (bs : List B) (i : ℕ) (b : B) → i < length bs → b ≡ get_or bs i b → whole (map frame_of (drop i bs)) ≡ Ok (frame_of b) ∷ whole (map frame_of (drop (i + 1) bs))
+pub frames_more : {B : Type 0} (frame_of : B → Frame) (bs : List B) (i : ℕ) (b : B) → i < length bs → b ≡ get_or bs i b
+    → whole (map frame_of (drop i bs)) ≡ Ok (frame_of b) ∷ whole (map frame_of (drop (i + 1) bs))
 frames_more frame_of bs i b inside is = rw (drop_more bs i b inside, ← is) refl
 
 pub frames_all : {B : Type 0} (frame_of : B → Frame) (bs : List B) (i : ℕ) → length bs ≤ i → whole (map frame_of (drop i bs)) ≡ []

@@ -27,7 +27,8 @@ abbrev pub StartsWith : List ℕ → Frame → Type 0
 StartsWith bytes f = Ends bytes f ⊎ ((after : List ℕ) × Begins bytes f after)
 
 -- the frame at the front has this fault
-pub record FaultyFrame {X : Type 0} (reads : Reads X) (sets : Sets Frame) (first : List ℕ) (before : List Frame) (rest : List ℕ) (e : DecodeError) : Type 0 where
+pub record FaultyFrame {X : Type 0} (reads : Reads X) (sets : Sets Frame) (first : List ℕ) (before : List Frame) (rest : List ℕ)
+    (e : DecodeError) : Type 0 where
   pub frame : Frame
   pub kind : List ℕ
   pub starts : StartsWith rest frame
@@ -54,6 +55,7 @@ pub record FirstRefused {X : Type 0} (reads : Reads X) (kind : List ℕ) (fs : L
   pub is_refused : reads kind frame ≡ Err e
 
 -- the list has one reading and no fault, or no reading and one fault
-pub record OneOutcome {X : Type 0} (reads : Reads X) (sets : Sets Frame) (first : List ℕ) (bytes : List ℕ) (outcome : Result (List X) DecodeError) : Type 0 where
+pub record OneOutcome {X : Type 0} (reads : Reads X) (sets : Sets Frame) (first : List ℕ) (bytes : List ℕ)
+    (outcome : Result (List X) DecodeError) : Type 0 where
   pub reading : (xs : List X) → (outcome ≡ Ok xs) ↔ ListReads reads sets first bytes xs
   pub fault : (e : DecodeError) → (outcome ≡ Err e) ↔ ListFault reads sets first bytes e

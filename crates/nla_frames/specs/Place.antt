@@ -13,7 +13,8 @@ kind_then sets kind x = unwrap_or (sets x) kind
 -- the kind after some elements is the text set last, or the first kind where none sets one
 pub data InForce {X : Type 0} (sets : Sets X) (first : List ℕ) : List X → List ℕ → Type 0 where
   none_set : (before : List X) → AllByRecursion (λ x. sets x ≡ None) before → InForce sets first before first
-  set_last : (front : List X) (x : X) (after : List X) (kind : List ℕ) → sets x ≡ Some kind → AllByRecursion (λ y. sets y ≡ None) after → InForce sets first (front ++ x ∷ after) kind
+  set_last : (front : List X) (x : X) (after : List X) (kind : List ℕ) → sets x ≡ Some kind → AllByRecursion (λ y. sets y ≡ None) after
+      → InForce sets first (front ++ x ∷ after) kind
 
 -- a kind that may be set, before others
 abbrev pub kind_before : Option (List ℕ) → List (List ℕ) → List (List ℕ)

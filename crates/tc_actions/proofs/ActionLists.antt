@@ -20,7 +20,8 @@ use Rattle.tc_actions.specs.Action.{an_action, KeepsOrder}
 use Rattle.tc_actions.specs.declared.actions.attribute.TcActionAttribute.{TcActionAttribute}
 
 -- the fault of the list is that of the action
-pub action_refused : (e : DecodeError) (f : Frame) → Gives (refused e) (read_own read_action_attribute f.value) → Gives (refused e) ((table_codec an_action).read [] f)
+pub action_refused : (e : DecodeError) (f : Frame) → Gives (refused e) (read_own read_action_attribute f.value)
+    → Gives (refused e) ((table_codec an_action).read [] f)
 action_refused e f given = Gives-err e _ _ given (λ is. rw is refl)
 
 -- an action that is read keeps the order of its frames
@@ -31,8 +32,10 @@ keeps_order f xs law is front one two back fs g h gs p q r s same =
 
 -- the action fits exactly if its list does, and is as long
 pub action_measured : (tab : ℕ) (xs : List Attribute) (len : Option ℕ)
-    → Measures len (NestedFits (table_codec (table action_attributes)).Fits (table_codec (table action_attributes)).write xs) (list_bytes (table_codec (table action_attributes)).write xs)
-    → Measures len ((table_codec an_action).Fits (known tab (items (attributes_of xs)))) ((table_codec an_action).write (known tab (items (attributes_of xs)))).value
+    → Measures len (NestedFits (table_codec (table action_attributes)).Fits (table_codec (table action_attributes)).write xs)
+        (list_bytes (table_codec (table action_attributes)).write xs)
+    → Measures len ((table_codec an_action).Fits (known tab (items (attributes_of xs))))
+        ((table_codec an_action).write (known tab (items (attributes_of xs)))).value
 action_measured tab xs len is = rw attributes_again is
 
 -- where the action fits, its list can be written
@@ -41,11 +44,13 @@ pub action_listed : (tab : ℕ) (xs : List Attribute) → (table_codec an_action
 action_listed tab xs fits = (rw attributes_again at fits).0
 
 -- its value is the list's bytes
-pub action_value : (tab : ℕ) (xs : List Attribute) → ((table_codec an_action).write (known tab (items (attributes_of xs)))).value ≡ list_bytes (table_codec (table action_attributes)).write xs
+pub action_value : (tab : ℕ) (xs : List Attribute)
+    → ((table_codec an_action).write (known tab (items (attributes_of xs)))).value ≡ list_bytes (table_codec (table action_attributes)).write xs
 action_value tab xs = rw attributes_again refl
 
 -- it is typed where the attributes of its list are
-pub action_typed : (tab : ℕ) (xs : List Attribute) → tab < 256 ^ 2 → AllByRecursion (table_codec (table action_attributes)).Typed xs → (table_codec an_action).Typed (known tab (items (attributes_of xs)))
+pub action_typed : (tab : ℕ) (xs : List Attribute) → tab < 256 ^ 2 → AllByRecursion (table_codec (table action_attributes)).Typed xs
+    → (table_codec an_action).Typed (known tab (items (attributes_of xs)))
 action_typed tab xs low typed = rw attributes_again (low, (refl, typed))
 
 -- the list is settled under its own kind exactly if the action is, where the type has no flags

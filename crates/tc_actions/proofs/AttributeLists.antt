@@ -17,7 +17,8 @@ module _ (kind : List ℕ) (f : Frame) where
       → (table_codec (table action_attributes)).read kind f ≡ read_as (known 2 (items (attributes_of xs)))
   options_read two = list_read action_attributes 2 (by_kind action_option_kinds) kind f (rw two refl)
 
-  pub options_refused : type_of f.word ≡ 2 → (e : DecodeError) → Gives (refused e) (read_list (table_codec (by_kind action_option_kinds)).read keep kind f.value)
+  pub options_refused : type_of f.word ≡ 2 → (e : DecodeError)
+      → Gives (refused e) (read_list (table_codec (by_kind action_option_kinds)).read keep kind f.value)
       → Gives (refused e) ((table_codec (table action_attributes)).read kind f)
   options_refused two = list_refused action_attributes 2 (by_kind action_option_kinds) kind f (rw two refl)
 

@@ -38,7 +38,8 @@ whole-more : (frames : List NlaBuffer) (frame : NlaBuffer) (rest : List (Outcome
 whole-more [] frame rest = refl
 whole-more (f ∷ frames) frame rest = ap (λ (items : List (Outcome Frame)). Ok (frame_of f) ∷ items) (whole-more frames frame rest)
 
-pub scan_starts : (bytes : List ℕ) (frames : List NlaBuffer) (left : List (Outcome Frame)) → frames ≡ [] → left ≡ items_of (cut bytes) → ScannedSoFar bytes left frames Missing
+pub scan_starts : (bytes : List ℕ) (frames : List NlaBuffer) (left : List (Outcome Frame)) → frames ≡ [] → left ≡ items_of (cut bytes)
+    → ScannedSoFar bytes left frames Missing
 scan_starts bytes frames left none all = record {
   looks = [];
   looked = starts first_look keep [] bytes [] left refl all;
@@ -52,7 +53,8 @@ module _ (bytes : List ℕ) (left : List (Outcome Frame)) (frames : List NlaBuff
   scan_breaks e rest next = breaks first_look keep [] so_far.looks left _ so_far.looked e rest next
 
   -- a kind that isn't UTF-8
-  pub scan_refuses : (e : DecodeError) (f : Frame) (rest : List (Outcome Frame)) → left ≡ Ok f ∷ rest → refused e ≡ first_look [] f → Gives (refused e) (read_list first_look keep [] bytes)
+  pub scan_refuses : (e : DecodeError) (f : Frame) (rest : List (Outcome Frame)) → left ≡ Ok f ∷ rest → refused e ≡ first_look [] f
+      → Gives (refused e) (read_list first_look keep [] bytes)
   scan_refuses e f rest next is = refuses first_look keep [] so_far.looks left _ so_far.looked e f rest next (Gives-exact e (first_look [] f) (sym is))
 
   -- a frame more
@@ -64,7 +66,8 @@ module _ (bytes : List ℕ) (left : List (Outcome Frame)) (frames : List NlaBuff
     looks = so_far.looks ++ text_set set ∷ [];
     looked = goes_on first_look keep [] so_far.looks left _ so_far.looked (frame_of frame) rest (text_set set) first look;
     told = subst (Tells next) (sym (kinds_set-append (λ look. look) so_far.looks (text_set set))) (and_told _ so_far.told);
-    parts = so_far.parts ∙ ap (λ items. whole (map frame_of frames) ++ items) first ∙ whole-more frames frame rest ∙ ap (λ (fs : List NlaBuffer). whole (map frame_of fs) ++ rest) (sym pushed);
+    parts = so_far.parts ∙ ap (λ items. whole (map frame_of frames) ++ items) first ∙ whole-more frames frame rest
+        ∙ ap (λ (fs : List NlaBuffer). whole (map frame_of fs) ++ rest) (sym pushed);
   }
 
   -- no frame more

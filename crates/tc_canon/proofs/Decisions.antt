@@ -1,5 +1,6 @@
 -- What some tests tell.
-use Rattle.std.proofs.Common.{◌≡◌, ℕ, ◌-◌, Bool, true, List, [], ◌∷◌, length, take, drop, Result, Ok, Err, MatchResult, ◌↔◌, IsTrue, sym, ap, ◌∙◌, bytes_eq, is_ok}
+use Rattle.std.proofs.Common.{◌≡◌, ℕ, ◌-◌, Bool, true, List, [], ◌∷◌, length, take, drop, Result, Ok, Err, MatchResult, ◌↔◌, IsTrue, sym, ap, ◌∙◌, bytes_eq,
+    is_ok}
 use Rattle.std.specs.Str.{IsUtf8, is_utf8}
 use Rattle.std.specs.Cmp.Lexicographic.{bytes_decides}
 use Rattle.std.proofs.lemmas.List.{drop-drop}
@@ -14,7 +15,8 @@ text-decides P Q (Ok s) b bytes is cases = (λ t. is_utf8-from_IsUtf8 bytes case
 text-decides P Q (Err e) b bytes is cases = (λ t. absurd cc, λ u. absurd (cases.0 (IsUtf8-from_is_utf8 bytes u)))
 
 -- the last four bytes of statistics are their padding
-pub stats-decides : (v : List ℕ) (b : Bool) → length v ≡ 40 → b ≡ bytes_eq (take (length v - 36) (drop 36 v)) (0 ∷ 0 ∷ 0 ∷ 0 ∷ []) → IsTrue b ↔ CanonFields stats v
+pub stats-decides : (v : List ℕ) (b : Bool) → length v ≡ 40 → b ≡ bytes_eq (take (length v - 36) (drop 36 v)) (0 ∷ 0 ∷ 0 ∷ 0 ∷ [])
+    → IsTrue b ↔ CanonFields stats v
 stats-decides v b long is =
     let pad = take 4 (drop 4 (drop 4 (drop 4 (drop 4 (drop 4 (drop 4 (drop 4 (drop 8 v)))))))) in
     let same : take (length v - 36) (drop 36 v) ≡ pad = rw long (simp drop-drop) in

@@ -1,5 +1,6 @@
 -- The widths of flower's options, looked up in a list of ranges, against the table.
-use Rattle.std.proofs.Common.{◌≡◌, ℕ, suc, zero, ◌+◌, ◌<◌, ◌≤◌, Bool, true, false, cond, List, [], ◌∷◌, length, refl, sym, ap, ◌∙◌, arith, Option, Some, None, ◌↔◌, is_some, eq-eqb}
+use Rattle.std.proofs.Common.{◌≡◌, ℕ, suc, zero, ◌+◌, ◌<◌, ◌≤◌, Bool, true, false, cond, List, [], ◌∷◌, length, refl, sym, ap, ◌∙◌, arith, Option, Some, None,
+    ◌↔◌, is_some, eq-eqb}
 use Rattle.std.specs.Prelude.{◌==◌, IsTrue, nat_le, nat_lt, if◌then◌else◌, MatchBool, ⊤}
 use Rattle.std.proofs.lemmas.Bool.{eqb-true, eqb-false, ne_eqb, leb-false, ltb-true, ltb-false}
 use Rattle.std.proofs.lemmas.Bool.Decides.{nat_tests}
@@ -110,12 +111,14 @@ class-width (array n) k v w e = let same : n ≡ w = cc in rw same (λ x. x, λ 
 class-width _ k v w e = absurd cc
 
 -- a row that is known by its width
-pub width-canon : (rows : Rows) (n : ℕ) (k : List ℕ) (f : Frame) (w : ℕ) → width_at rows n ≡ Some w → CanonRows rows n k f ↔ ((f.word ≡ n) × (length f.value ≡ w))
+pub width-canon : (rows : Rows) (n : ℕ) (k : List ℕ) (f : Frame) (w : ℕ) → width_at rows n ≡ Some w
+    → CanonRows rows n k f ↔ ((f.word ≡ n) × (length f.value ≡ w))
 unfolding width_at
 width-canon others n k f w e = absurd cc
 width-canon (types first last flags class rows) n k f w e = go (is_within first last n) e (λ h. width-canon rows n k f w h)
   where
-    plain : (b : Bool) → (flags == 0) ≡ b → cond b (width_of_class class) None ≡ Some w → ((f.word ≡ flags + n) × CanonClass class k f.value) ↔ ((f.word ≡ n) × (length f.value ≡ w))
+    plain : (b : Bool) → (flags == 0) ≡ b → cond b (width_of_class class) None ≡ Some w
+        → ((f.word ≡ flags + n) × CanonClass class k f.value) ↔ ((f.word ≡ n) × (length f.value ≡ w))
     plain true is h =
         let none : flags ≡ 0 = eqb-true flags 0 is in
         let same : flags + n ≡ n = omega arith in
@@ -123,7 +126,8 @@ width-canon (types first last flags class rows) n k f w e = go (is_within first 
         (λ p. (p.0 ∙ same, c.0 p.1), λ p. (p.0 ∙ sym same, c.1 p.1))
     plain false is h = absurd cc
 
-    go : (b : Bool) → cond b (cond (flags == 0) (width_of_class class) None) (width_at rows n) ≡ Some w → (width_at rows n ≡ Some w → CanonRows rows n k f ↔ ((f.word ≡ n) × (length f.value ≡ w)))
+    go : (b : Bool) → cond b (cond (flags == 0) (width_of_class class) None) (width_at rows n) ≡ Some w
+        → (width_at rows n ≡ Some w → CanonRows rows n k f ↔ ((f.word ≡ n) × (length f.value ≡ w)))
         → MatchBool b ((f.word ≡ flags + n) × CanonClass class k f.value) (CanonRows rows n k f) ↔ ((f.word ≡ n) × (length f.value ≡ w))
     go true h rest = plain (flags == 0) refl h
     go false h rest = rest h
@@ -131,7 +135,8 @@ width-canon (unread m class rows) n k f w e = width-canon rows n k f w e
 width-canon (options m kinds rows) n k f w e = go (n == m) e (λ h. width-canon rows n k f w h)
   where
     go : (b : Bool) → cond b None (width_at rows n) ≡ Some w → (width_at rows n ≡ Some w → CanonRows rows n k f ↔ ((f.word ≡ n) × (length f.value ≡ w)))
-        → MatchBool b (MatchBool (is_known kinds k) ((f.word ≡ n) × IsCanonList (CanonKinds kinds) keep k f.value) ⊤) (CanonRows rows n k f) ↔ ((f.word ≡ n) × (length f.value ≡ w))
+        → MatchBool b (MatchBool (is_known kinds k) ((f.word ≡ n) × IsCanonList (CanonKinds kinds) keep k f.value) ⊤) (CanonRows rows n k f)
+            ↔ ((f.word ≡ n) × (length f.value ≡ w))
     go true h rest = absurd cc
     go false h rest = rest h
 
@@ -164,7 +169,8 @@ ranges-agree ws e n = go (nat_lt n 102) refl
     both = holds (all_from 102 0 (λ n. same_option (look_up ws n) (width_at flower_options n))) (ranges_below 102 ws) e
 
     go : (b : Bool) → nat_lt n 102 ≡ b → look_up ws n ≡ width_at flower_options n
-    go true low = same_option-tells _ _ (all_from-tells 102 0 (λ n. same_option (look_up ws n) (width_at flower_options n)) both.0 n (omega arith) (ltb-true n 102 low))
+    go true low = same_option-tells _ _
+        (all_from-tells 102 0 (λ n. same_option (look_up ws n) (width_at flower_options n)) both.0 n (omega arith) (ltb-true n 102 low))
     go false high =
         let past : 102 ≤ n = ltb-false n 102 high in
         look_up-beyond 102 ws both.1 n past ∙ sym (width-beyond flower_options n (unlisted-beyond 102 flower_options refl n past))
@@ -175,7 +181,8 @@ found-width ws n r is e = is ∙ ranges-agree ws e n
 
 -- a type that has no width, and is none of the six that are more than that, is in no row
 abbrev told : ℕ → Bool
-told n = if n == 2 then true else if n == 3 then true else if n == 68 then true else if n == 69 then true else if n == 70 then true else if n == 99 then true else if is_some (width_at flower_options n) then true else unlisted flower_options n
+told n = if n == 2 then true else if n == 3 then true else if n == 68 then true else if n == 69 then true else if n == 70 then true else if n == 99 then true
+    else if is_some (width_at flower_options n) then true else unlisted flower_options n
 
 -- each type below 102 is told
 told-all : all_from 102 0 told ≡ true
@@ -183,7 +190,8 @@ unfolding width_at
 told-all = refl
 
 -- a type other than these six, without a width, is in no row
-other-unlisted : (n : ℕ) → (n ≡ 2 → ⊥) → (n ≡ 3 → ⊥) → (n ≡ 68 → ⊥) → (n ≡ 69 → ⊥) → (n ≡ 70 → ⊥) → (n ≡ 99 → ⊥) → width_at flower_options n ≡ None → unlisted flower_options n ≡ true
+other-unlisted : (n : ℕ) → (n ≡ 2 → ⊥) → (n ≡ 3 → ⊥) → (n ≡ 68 → ⊥) → (n ≡ 69 → ⊥) → (n ≡ 70 → ⊥) → (n ≡ 99 → ⊥) → width_at flower_options n ≡ None
+    → unlisted flower_options n ≡ true
 other-unlisted n a b c d e f none = go (nat_lt n 102) refl
   where
     go : (t : Bool) → nat_lt n 102 ≡ t → unlisted flower_options n ≡ true
@@ -196,17 +204,20 @@ other-unlisted n a b c d e f none = go (nat_lt n 102) refl
 
 module _ (k : List ℕ) (f : Frame) (n : ℕ) (is : n ≡ type_of f.word) where
   -- an option of a width
-  pub width-decides : (w : ℕ) (v : List ℕ) → Some w ≡ width_at flower_options n → v ≡ f.value → (IsTrue true ↔ (f.word ≡ type_of f.word)) → IsTrue (length v == w) ↔ CanonRows flower_options (type_of f.word) k f
+  pub width-decides : (w : ℕ) (v : List ℕ) → Some w ≡ width_at flower_options n → v ≡ f.value → (IsTrue true ↔ (f.word ≡ type_of f.word))
+      → IsTrue (length v == w) ↔ CanonRows flower_options (type_of f.word) k f
   width-decides w v row value plain =
       let c = width-canon flower_options (type_of f.word) k f w (rw (← is) (sym row)) in
       (λ t. c.1 (plain.0 refl, rw (← value) (eqb-true (length v) w t)), λ p. eq-eqb (length v) w (rw value (c.0 p).1))
 
   -- with a word that has flags
-  pub width-flags : (w : ℕ) (b : Bool) → Some w ≡ width_at flower_options n → b ≡ false → (IsTrue false ↔ (f.word ≡ type_of f.word)) → IsTrue b ↔ CanonRows flower_options (type_of f.word) k f
+  pub width-flags : (w : ℕ) (b : Bool) → Some w ≡ width_at flower_options n → b ≡ false → (IsTrue false ↔ (f.word ≡ type_of f.word))
+      → IsTrue b ↔ CanonRows flower_options (type_of f.word) k f
   width-flags w b row none plain =
       let c = width-canon flower_options (type_of f.word) k f w (rw (← is) (sym row)) in
       (λ t. absurd cc, λ p. absurd (let no : false ≡ true = plain.1 (c.0 p).0 in cc))
 
   -- an option of an unknown type
-  pub other-decides : (n ≡ 2 → ⊥) → (n ≡ 3 → ⊥) → (n ≡ 68 → ⊥) → (n ≡ 69 → ⊥) → (n ≡ 70 → ⊥) → (n ≡ 99 → ⊥) → None ≡ width_at flower_options n → IsTrue true ↔ CanonRows flower_options (type_of f.word) k f
+  pub other-decides : (n ≡ 2 → ⊥) → (n ≡ 3 → ⊥) → (n ≡ 68 → ⊥) → (n ≡ 69 → ⊥) → (n ≡ 70 → ⊥) → (n ≡ 99 → ⊥) → None ≡ width_at flower_options n
+      → IsTrue true ↔ CanonRows flower_options (type_of f.word) k f
   other-decides a b c d e g none = (λ t. rw (← is) (unlisted-canon flower_options n k f (other-unlisted n a b c d e g (sym none))), λ p. refl)

@@ -1,5 +1,6 @@
 -- A frame that is padded with zeros at the front of bytes, against the cutting of frames.
-use Rattle.std.proofs.Common.{◌≡◌, ℕ, suc, ◌+◌, ◌-◌, ◌*◌, ◌/◌, ◌%◌, ◌≤◌, ◌<◌, List, [], ◌∷◌, ◌++◌, length, take, drop, replicate, get_or, Ok, Err, refl, sym, ap, ◌∙◌, arith, append_assoc, length-append, nat_lt, false}
+use Rattle.std.proofs.Common.{◌≡◌, ℕ, suc, ◌+◌, ◌-◌, ◌*◌, ◌/◌, ◌%◌, ◌≤◌, ◌<◌, List, [], ◌∷◌, ◌++◌, length, take, drop, replicate, get_or, Ok, Err, refl, sym,
+    ap, ◌∙◌, arith, append_assoc, length-append, nat_lt, false}
 use Rattle.std.proofs.lemmas.Bool.{le-ltb}
 use Rattle.std.proofs.lemmas.List.{length-drop, length-replicate, take-append-drop, length-take-le, drop-take, drop-drop, take_at}
 use Rattle.std.proofs.Math.Seq.{drop-append_seam, take-append_seam}
@@ -32,7 +33,8 @@ cells-word : (w : ℕ) → w < 65536 → w % 256 + 256 * (w / 256 % 256 + 0) ≡
 cells-word w short = omega arith
 
 -- the first four bytes are the header of the frame that they begin
-front-cells : (bytes : List ℕ) (n : ℕ) → ((k : ℕ) → get_or bytes k 0 < 256) → 4 ≤ length bytes → 4 + n ≡ length_at bytes → take 4 bytes ≡ header n (le_value (take 2 (drop 2 bytes)))
+front-cells : (bytes : List ℕ) (n : ℕ) → ((k : ℕ) → get_or bytes k 0 < 256) → 4 ≤ length bytes → 4 + n ≡ length_at bytes
+    → take 4 bytes ≡ header n (le_value (take 2 (drop 2 bytes)))
 front-cells [] n below long is = absurd (omega arith)
 front-cells (a ∷ []) n below long is = absurd (omega arith)
 front-cells (a ∷ b ∷ []) n below long is = absurd (omega arith)
@@ -68,7 +70,8 @@ is_first bytes f e = go (next_frame bytes) refl e
 first-length : (bytes : List ℕ) (f : Frame) → IsFirst bytes f → 4 + length f.value ≡ length_at bytes
 first-length bytes f first =
     let n : length (drop 4 (take (length_at bytes) bytes)) ≡ length f.value = ap length first.value in
-    let m : length (drop 4 (take (length_at bytes) bytes)) ≡ length_at bytes - 4 = length-drop 4 (take (length_at bytes) bytes) ∙ ap (λ (x : ℕ). x - 4) (length-take-le (length_at bytes) bytes first.whole) in
+    let m : length (drop 4 (take (length_at bytes) bytes)) ≡ length_at bytes - 4 =
+            length-drop 4 (take (length_at bytes) bytes) ∙ ap (λ (x : ℕ). x - 4) (length-take-le (length_at bytes) bytes first.whole) in
     omega (arith, first.long)
 
 -- the frame lies within the bytes
@@ -105,7 +108,8 @@ padded-front bytes rest f below e short zeros =
     }
 
 -- how many bytes there are
-pub starts-length : (bytes after : List ℕ) (f : Frame) → StartsPadded bytes f after → length bytes ≡ 4 + length f.value + padding (length f.value) + length after
+pub starts-length : (bytes after : List ℕ) (f : Frame) → StartsPadded bytes f after
+    → length bytes ≡ 4 + length f.value + padding (length f.value) + length after
 unfolding frame_bytes header padded
 starts-length bytes after f starts =
     let n = length f.value in
@@ -118,7 +122,8 @@ starts-within : (bytes after : List ℕ) (f : Frame) → StartsPadded bytes f af
 starts-within bytes after f starts = omega (arith, starts-length bytes after f starts)
 
 -- where these facts hold, the frame is the next one
-next-is : (bytes : List ℕ) (n : ℕ) (f : Frame) → length_at bytes ≡ n → 4 ≤ n → n ≤ length bytes → le_value (take 2 (drop 2 bytes)) ≡ f.word → drop 4 (take n bytes) ≡ f.value → read_as f ≡ first_of (next_frame bytes)
+next-is : (bytes : List ℕ) (n : ℕ) (f : Frame) → length_at bytes ≡ n → 4 ≤ n → n ≤ length bytes → le_value (take 2 (drop 2 bytes)) ≡ f.word
+    → drop 4 (take n bytes) ≡ f.value → read_as f ≡ first_of (next_frame bytes)
 unfolding next_frame
 next-is bytes n f is long within word value =
     let a : nat_lt (length bytes) 4 ≡ false = le-ltb (length bytes) 4 (omega arith) in
@@ -136,7 +141,8 @@ front-padded bytes after f starts =
     (drop-take 4 n bytes ∙ rw (starts.parts, append_assoc) (take-append_seam f.value _))
 
 -- what follows the value of a frame that is padded in full
-after-value : (bytes after : List ℕ) (f : Frame) → StartsPadded bytes f after → drop (4 + length f.value) bytes ≡ replicate (padding (length f.value)) 0 ++ after
+after-value : (bytes after : List ℕ) (f : Frame) → StartsPadded bytes f after
+    → drop (4 + length f.value) bytes ≡ replicate (padding (length f.value)) 0 ++ after
 unfolding frame_bytes header padded
 after-value bytes after f starts = sym (drop-drop (length f.value) 4 bytes) ∙ rw (starts.parts, append_assoc) (drop-append_seam f.value _)
 
@@ -150,7 +156,8 @@ no-front bytes after f e none starts = let one = front-padded bytes after f star
 same-front : (bytes after : List ℕ) (f g : Frame) → read_as f ≡ first_of (next_frame bytes) → StartsPadded bytes g after → f ≡ g
 same-front bytes after f g is starts = let one = front-padded bytes after g starts in cc
 
-module _ (bytes : List ℕ) (f : Frame) (n : ℕ) (back : List ℕ) (is : read_as f ≡ first_of (next_frame bytes)) (long : n ≡ 4 + length f.value) (is_back : back ≡ drop n bytes) where
+module _ (bytes : List ℕ) (f : Frame) (n : ℕ) (back : List ℕ) (is : read_as f ≡ first_of (next_frame bytes)) (long : n ≡ 4 + length f.value)
+    (is_back : back ≡ drop n bytes) where
   -- its padding, counted from its length and from its value's
   pads-of : padding n ≡ padding (length f.value)
   pads-of = omega arith
@@ -178,5 +185,6 @@ module _ (bytes : List ℕ) (f : Frame) (n : ℕ) (back : List ℕ) (is : read_a
       let same = same-front bytes after f g is starts in
       let rest : drop n bytes ≡ replicate (padding (length f.value)) 0 ++ after = rw long (after-value bytes after f (rw same starts)) in
       let whole : back ≡ replicate (padding n) 0 ++ after = is_back ∙ rest ∙ ap (λ (k : ℕ). replicate k 0 ++ after) (sym pads-of) in
-      let front : pad ≡ replicate (padding n) 0 = is_pad ∙ rw whole (take_at (replicate (padding n) 0) after (padding n) (length-replicate {A = ℕ} (padding n) 0)) in
+      let front : pad ≡ replicate (padding n) 0 =
+              is_pad ∙ rw whole (take_at (replicate (padding n) 0) after (padding n) (length-replicate {A = ℕ} (padding n) 0)) in
       not (front ∙ ap (λ (k : ℕ). replicate k 0) (sym (ap length front ∙ length-replicate (padding n) 0)))

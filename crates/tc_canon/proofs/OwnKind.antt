@@ -1,5 +1,6 @@
 -- The one kind that the frames of an action tell, found in a loop.
-use Rattle.std.proofs.Common.{◌≡◌, ℕ, ◌<◌, Bool, true, false, List, [], ◌∷◌, ◌++◌, length, refl, sym, ap, ◌∙◌, ◌↔◌, Bor, Option, Some, None, MatchOption, IsTrue}
+use Rattle.std.proofs.Common.{◌≡◌, ℕ, ◌<◌, Bool, true, false, List, [], ◌∷◌, ◌++◌, length, refl, sym, ap, ◌∙◌, ◌↔◌, Bor, Option, Some, None, MatchOption,
+    IsTrue}
 use Rattle.std.proofs.lemmas.Bool.{ne_eqb}
 use Rattle.std.proofs.Common.{eq-eqb, is_some}
 use Rattle.nla_frames.specs.Value.{strip}
@@ -59,7 +60,8 @@ module _ (Whole : List ℕ → Type 0) (o : Option (Bor (List ℕ))) (rest : Lis
     tells-one one = eq-eqb (type_of f.word) 1 (sym is ∙ one)
 
     -- the first frame that tells a kind
-    pub own-found : (value text : List ℕ) → false ≡ is_some o → n ≡ 1 → value ≡ f.value → text ≡ strip value → (own : List ℕ) → Whole own ↔ TellsAfter (text ∷ []) own after
+    pub own-found : (value text : List ℕ) → false ≡ is_some o → n ≡ 1 → value ≡ f.value → text ≡ strip value → (own : List ℕ)
+        → Whole own ↔ TellsAfter (text ∷ []) own after
     own-found value text none one is_value is_text own =
         let more = list-more (λ fs. told_of o ++ kinds_told fs ≡ own ∷ []) rest after f starts in
         let same = λ (fs : List Frame). kinds-one value text none one is_value is_text fs in (
@@ -67,7 +69,8 @@ module _ (Whole : List ℕ → Type 0) (o : Option (Bor (List ℕ))) (rest : Lis
           λ p. (so_far own).1 (more.1 (change after (λ fs e. same fs ∙ e) p)),
         )
       where
-        kinds-one : (value text : List ℕ) → false ≡ is_some o → n ≡ 1 → value ≡ f.value → text ≡ strip value → (fs : List Frame) → told_of o ++ kinds_told (f ∷ fs) ≡ text ∷ kinds_told fs
+        kinds-one : (value text : List ℕ) → false ≡ is_some o → n ≡ 1 → value ≡ f.value → text ≡ strip value → (fs : List Frame)
+            → told_of o ++ kinds_told (f ∷ fs) ≡ text ∷ kinds_told fs
         kinds-one value text none one is_value is_text fs =
             let told : kinds_told (f ∷ fs) ≡ strip f.value ∷ kinds_told fs = told-more f fs (tells-one one) in
             let texts : strip f.value ≡ text = ap strip (sym is_value) ∙ sym is_text in
@@ -77,14 +80,16 @@ module _ (Whole : List ℕ → Type 0) (o : Option (Bor (List ℕ))) (rest : Lis
     pub own-twice : true ≡ is_some o → n ≡ 1 → (own : List ℕ) → Whole own → ⊥
     own-twice some one own w =
         let p = (list-more (λ fs. told_of o ++ kinds_told fs ≡ own ∷ []) rest after f starts).0 ((so_far own).0 w) in
-        two-kinds o (strip f.value) own (kinds_told p.list) some (ap (λ (ts : List (List ℕ)). told_of o ++ ts) (sym (told-more f p.list (tells-one one))) ∙ p.holds)
+        two-kinds o (strip f.value) own (kinds_told p.list) some
+            (ap (λ (ts : List (List ℕ)). told_of o ++ ts) (sym (told-more f p.list (tells-one one))) ∙ p.holds)
 
   -- no frame
   pub own-breaks : 0 < length rest → ((f : Frame) (after : List ℕ) → StartsPadded rest f after → ⊥) → (own : List ℕ) → Whole own → ⊥
   own-breaks some none own w = list-stuck (λ fs. told_of o ++ kinds_told fs ≡ own ∷ []) rest some none ((so_far own).0 w)
 
 -- nothing is left: what was told is all
-pub own-ends : (Whole : List ℕ → Type 0) (o : Option (Bor (List ℕ))) (rest : List ℕ) → ((own : List ℕ) → Whole own ↔ TellsAfter (told_of o) own rest) → rest ≡ []
+pub own-ends : (Whole : List ℕ → Type 0) (o : Option (Bor (List ℕ))) (rest : List ℕ) → ((own : List ℕ) → Whole own ↔ TellsAfter (told_of o) own rest)
+    → rest ≡ []
     → MatchOption o ((own : List ℕ) → Whole own → ⊥) (λ own. Whole own.now)
 own-ends Whole None rest so_far none = λ own w. no-kinds own ((list-end (λ fs. kinds_told fs ≡ own ∷ [])).0 (rw none at ((so_far own).0 w)))
   where

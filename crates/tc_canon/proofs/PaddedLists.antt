@@ -14,12 +14,16 @@ same-frame bytes after rest f g one other = let a = front-padded bytes after f o
 
 -- so is what comes after
 same-after : (bytes after rest : List ℕ) (f : Frame) → StartsPadded bytes f after → StartsPadded bytes f rest → after ≡ rest
-same-after bytes after rest f one other = sym (drop-append_seam (frame_bytes f) after) ∙ ap (drop (length (frame_bytes f))) (sym one.parts ∙ other.parts) ∙ drop-append_seam (frame_bytes f) rest
+same-after bytes after rest f one other =
+    sym (drop-append_seam (frame_bytes f) after) ∙ ap (drop (length (frame_bytes f))) (sym one.parts ∙ other.parts) ∙ drop-append_seam (frame_bytes f) rest
 
 module _ (Holds : List Frame → Type 0) where
   -- one frame more
   pub list-more : (bytes after : List ℕ) (f : Frame) → StartsPadded bytes f after → IsPaddedList Holds bytes ↔ IsPaddedList (λ fs. Holds (f ∷ fs)) after
-  list-more bytes after f starts = (λ p. go p.list p.frames p.whole p.holds, λ q. record { list = f ∷ q.list; frames = (starts.frame, q.frames); whole = starts.parts ∙ ap (λ (x : List ℕ). frame_bytes f ++ x) q.whole; holds = q.holds })
+  list-more bytes after f starts =
+      (λ p. go p.list p.frames p.whole p.holds,
+      λ q. record { list = f ∷ q.list; frames = (starts.frame, q.frames); whole = starts.parts ∙ ap (λ (x : List ℕ). frame_bytes f ++ x) q.whole; holds =
+      q.holds })
     where
       go : (fs : List Frame) → AllByRecursion IsFrame fs → bytes ≡ flat_map frame_bytes fs → Holds fs → IsPaddedList (λ gs. Holds (f ∷ gs)) after
       go [] frames whole holds = absurd (omega (arith, starts-length bytes after f starts, ap length whole))

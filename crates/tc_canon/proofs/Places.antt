@@ -18,7 +18,8 @@ module _ {X : Type 0} (sets : Sets X) where
   stays k (x ∷ xs) none = rw none.0 (stays k xs none.1)
 
   -- where one sets it and none after it, it is that one's
-  sets-last : (k : List ℕ) (front : List X) (x : X) (after : List X) (kind : List ℕ) → sets x ≡ Some kind → AllByRecursion (λ y. sets y ≡ None) after → kind_after_all sets k (front ++ x ∷ after) ≡ kind
+  sets-last : (k : List ℕ) (front : List X) (x : X) (after : List X) (kind : List ℕ) → sets x ≡ Some kind → AllByRecursion (λ y. sets y ≡ None) after
+      → kind_after_all sets k (front ++ x ∷ after) ≡ kind
   sets-last k [] x after kind is none = ap (λ (o : Option (List ℕ)). kind_after_all sets (unwrap_or o k) after) is ∙ stays kind after none
   sets-last k (y ∷ front) x after kind is none = sets-last (kind_then sets k y) front x after kind is none
 
@@ -44,13 +45,15 @@ module _ {X : Type 0} (sets : Sets X) where
 
 module _ (Canon : IsCanonAt) (sets : Sets Frame) where
   -- canonical as it runs, so at each place
-  at-each : (k : List ℕ) (fs : List Frame) → CanonEach Canon sets k fs → (i : ℕ) (f : Frame) → slice_get fs i ≡ Some f → Canon (kind_after_all sets k (take i fs)) f
+  at-each : (k : List ℕ) (fs : List Frame) → CanonEach Canon sets k fs → (i : ℕ) (f : Frame) → slice_get fs i ≡ Some f
+      → Canon (kind_after_all sets k (take i fs)) f
   at-each k [] each i f e = absurd cc
   at-each k (x ∷ fs) each zero f e = let same : x ≡ f = cc in rw (← same) each.0
   at-each k (x ∷ fs) each (suc i) f e = at-each (kind_then sets k x) fs each.1 i f e
 
   -- canonical at each place, so as it runs
-  as-it-runs : (k : List ℕ) (fs : List Frame) → ((i : ℕ) (f : Frame) → slice_get fs i ≡ Some f → Canon (kind_after_all sets k (take i fs)) f) → CanonEach Canon sets k fs
+  as-it-runs : (k : List ℕ) (fs : List Frame) → ((i : ℕ) (f : Frame) → slice_get fs i ≡ Some f → Canon (kind_after_all sets k (take i fs)) f)
+      → CanonEach Canon sets k fs
   as-it-runs k [] each = tt
   as-it-runs k (x ∷ fs) each = (each zero x refl, as-it-runs (kind_then sets k x) fs (λ i f e. each (suc i) f e))
 

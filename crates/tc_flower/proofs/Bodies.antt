@@ -20,7 +20,8 @@ pub are_lse_lists : {A : Type 0} → IsInner (lse_lists {A = A})
 are_lse_lists = are_items lse_option (table lse_options)
 
 pub are_flower_lists : {A : Type 0} → IsInner (flower_lists {A = A})
-are_flower_lists = is_either (items_of tc_action an_action) (items_of mpls_option (table mpls_options)) (are_items tc_action an_action) (are_items mpls_option (table mpls_options))
+are_flower_lists = is_either (items_of tc_action an_action) (items_of mpls_option (table mpls_options)) (are_items tc_action an_action)
+    (are_items mpls_option (table mpls_options))
 
 -- ---- and lists are compared as contracts see them
 

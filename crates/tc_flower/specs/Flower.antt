@@ -14,7 +14,15 @@ use Rattle.tc_actions.specs.Action.{tc_action, an_action}
 use Rattle.tc_actions.specs.declared.actions.action.TcAction.{TcAction}
 use Rattle.tc_flower.specs.declared.filters.flower.mpls.TcFilterFlowerMplsOption.{TcFilterFlowerMplsOption}
 use Rattle.tc_flower.specs.declared.filters.flower.options.TcFilterFlowerOption.{TcFilterFlowerOption}
-use Rattle.tc_flower.specs.declared.filters.flower.options.TcFilterFlowerOption.TheVariants.{ClassId, InDev, Actions, EthDst, EthDstMask, EthSrc, EthSrcMask, EthType, IpProto, Ipv4Src, Ipv4SrcMask, Ipv4Dst, Ipv4DstMask, Ipv6Src, Ipv6SrcMask, Ipv6Dst, Ipv6DstMask, TcpSrc, TcpDst, UdpSrc, UdpDst, Flags, VlanId, VlanPrio, VlanEthType, EncKeyId, EncKeyIpv4Src, EncKeyIpv4SrcMask, EncKeyIpv4Dst, EncKeyIpv4DstMask, EncKeyIpv6Src, EncKeyIpv6SrcMask, EncKeyIpv6Dst, EncKeyIpv6DstMask, TcpSrcMask, TcpDstMask, UdpSrcMask, UdpDstMask, SctpSrcMask, SctpDstMask, SctpSrc, SctpDst, EncKeyUdpSrcPort, EncKeyUdpSrcPortMask, EncKeyUdpDstPort, EncKeyUdpDstPortMask, KeyFlags, KeyFlagsMask, Icmpv4Code, Icmpv4CodeMask, Icmpv4Type, Icmpv4TypeMask, Icmpv6Code, Icmpv6CodeMask, Icmpv6Type, Icmpv6TypeMask, ArpSip, ArpSipMask, ArpTip, ArpTipMask, ArpOp, ArpOpMask, ArpSha, ArpShaMask, ArpTha, ArpThaMask, MplsTtl, MplsBos, MplsTc, MplsLabel, TcpFlags, TcpFlagsMask, IpTos, IpTosMask, IpTtl, IpTtlMask, CvlanId, CvlanPrio, CvlanEthType, EncKeyIpTos, EncKeyIpTosMask, EncKeyIpTtl, EncKeyIpTtlMask, InHwCount, PortSrcMin, PortSrcMax, PortDstMin, PortDstMax, CtState, CtStateMask, CtZone, CtZoneMask, CtMark, CtMarkMask, CtLabels, CtLabelsMask, MplsOpts, KeyHash, KeyHashMask, Other}
+use Rattle.tc_flower.specs.declared.filters.flower.options.TcFilterFlowerOption.TheVariants.{ClassId, InDev, Actions, EthDst, EthDstMask, EthSrc, EthSrcMask,
+    EthType, IpProto, Ipv4Src, Ipv4SrcMask, Ipv4Dst, Ipv4DstMask, Ipv6Src, Ipv6SrcMask, Ipv6Dst, Ipv6DstMask, TcpSrc, TcpDst, UdpSrc, UdpDst, Flags, VlanId,
+    VlanPrio, VlanEthType, EncKeyId, EncKeyIpv4Src, EncKeyIpv4SrcMask, EncKeyIpv4Dst, EncKeyIpv4DstMask, EncKeyIpv6Src, EncKeyIpv6SrcMask, EncKeyIpv6Dst,
+    EncKeyIpv6DstMask, TcpSrcMask, TcpDstMask, UdpSrcMask, UdpDstMask, SctpSrcMask, SctpDstMask, SctpSrc, SctpDst, EncKeyUdpSrcPort, EncKeyUdpSrcPortMask,
+    EncKeyUdpDstPort, EncKeyUdpDstPortMask, KeyFlags, KeyFlagsMask, Icmpv4Code, Icmpv4CodeMask, Icmpv4Type, Icmpv4TypeMask, Icmpv6Code, Icmpv6CodeMask,
+    Icmpv6Type, Icmpv6TypeMask, ArpSip, ArpSipMask, ArpTip, ArpTipMask, ArpOp, ArpOpMask, ArpSha, ArpShaMask, ArpTha, ArpThaMask, MplsTtl, MplsBos, MplsTc,
+    MplsLabel, TcpFlags, TcpFlagsMask, IpTos, IpTosMask, IpTtl, IpTtlMask, CvlanId, CvlanPrio, CvlanEthType, EncKeyIpTos, EncKeyIpTosMask, EncKeyIpTtl,
+    EncKeyIpTtlMask, InHwCount, PortSrcMin, PortSrcMax, PortDstMin, PortDstMax, CtState, CtStateMask, CtZone, CtZoneMask, CtMark, CtMarkMask, CtLabels,
+    CtLabelsMask, MplsOpts, KeyHash, KeyHashMask, Other}
 use Rattle.tc_flower.specs.Mpls.{mpls_option}
 
 abbrev pub flower_option : {A : Type 0} → TcFilterFlowerOption A → Attribute
@@ -124,7 +132,8 @@ abbrev pub flower_lists : {A : Type 0} → Inner (Either (Items (TcAction A)) (I
 flower_lists = either (items_of tc_action an_action) (items_of mpls_option (table mpls_options))
 
 -- a copy of an option: of a list, copies of its elements, place by place
-abbrev pub IsCopy : {A : Type 0} → (TcAction A → TcAction A → Type 0) → (TcFilterFlowerMplsOption A → TcFilterFlowerMplsOption A → Type 0) → TcFilterFlowerOption A
+abbrev pub IsCopy : {A : Type 0} → (TcAction A → TcAction A → Type 0) → (TcFilterFlowerMplsOption A → TcFilterFlowerMplsOption A → Type 0)
+    → TcFilterFlowerOption A
     → TcFilterFlowerOption A → Type 0
 IsCopy ActionCopied MplsCopied (Actions actions) (Actions copies) = AllZip ActionCopied actions.items copies.items
 IsCopy ActionCopied MplsCopied (MplsOpts options) (MplsOpts copies) = AllZip MplsCopied options.items copies.items

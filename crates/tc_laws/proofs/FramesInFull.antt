@@ -32,7 +32,8 @@ Cut-append bytes [] rest more c = ap (λ (t : List ℕ). t ++ more) c
 Cut-append bytes (f ∷ fs) rest more c = (c.0 ++ more, Begins-append bytes f c.0 more c.1, Cut-append c.0 fs rest more c.2)
 
 -- frames, and the frames of their rest
-Cut-Cut : (bytes : List ℕ) (fs : List Frame) (rest : List ℕ) (gs : List Frame) (last : List ℕ) → Cut bytes fs rest → Cut rest gs last → Cut bytes (fs ++ gs) last
+Cut-Cut : (bytes : List ℕ) (fs : List Frame) (rest : List ℕ) (gs : List Frame) (last : List ℕ) → Cut bytes fs rest → Cut rest gs last
+    → Cut bytes (fs ++ gs) last
 Cut-Cut bytes [] rest gs last c d = subst (λ (t : List ℕ). Cut t gs last) (sym c) d
 Cut-Cut bytes (f ∷ fs) rest gs last c d = (c.0, c.1, Cut-Cut c.0 fs rest gs last c.2 d)
 
@@ -41,7 +42,8 @@ pub InFull-append : (front back : List ℕ) (fs gs : List Frame) → InFull fron
 InFull-append front back fs gs c d = Cut-Cut (front ++ back) fs back gs [] (Cut-append front fs [] back c) d
 
 -- a frame in full before others and a rest
-Begins-parts : (bytes : List ℕ) (f : Frame) (front back : List ℕ) → Begins bytes f (front ++ back) → (whole : List ℕ) × (bytes ≡ whole ++ back) × Begins whole f front
+Begins-parts : (bytes : List ℕ) (f : Frame) (front back : List ℕ) → Begins bytes f (front ++ back)
+    → (whole : List ℕ) × (bytes ≡ whole ++ back) × Begins whole f front
 Begins-parts bytes f front back b =
     let head = header (length f.value) f.word in (
       head ++ (f.value ++ (b.pad ++ front)),
@@ -50,7 +52,8 @@ Begins-parts bytes f front back b =
     )
 
 -- and the first of them, and the others
-pub InFull-parts : (bytes : List ℕ) (fs gs : List Frame) → InFull bytes (fs ++ gs) → (front back : List ℕ) × (bytes ≡ front ++ back) × InFull front fs × InFull back gs
+pub InFull-parts : (bytes : List ℕ) (fs gs : List Frame) → InFull bytes (fs ++ gs)
+    → (front back : List ℕ) × (bytes ≡ front ++ back) × InFull front fs × InFull back gs
 InFull-parts bytes [] gs c = ([], bytes, refl, refl, c)
 InFull-parts bytes (f ∷ fs) gs c =
     let others = InFull-parts c.0 fs gs c.2 in

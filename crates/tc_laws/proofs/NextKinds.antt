@@ -19,13 +19,18 @@ use Rattle.tc_laws.proofs.NextLists.{frame_size}
 
 -- no kind is known
 pub unknown_next : NextLaws IsWireFrame frame_size raw_frames (in_kind (λ name x. x)) (parts_in_kind (λ name x. []))
-unknown_next = record { settled = settled_raw; again = again_raw; typed = typed_raw; fits = fits_raw; smaller = smaller_raw; same = same_raw; whole = whole_raw }
+unknown_next = record { settled = settled_raw; again = again_raw; typed = typed_raw; fits = fits_raw; smaller = smaller_raw; same = same_raw; whole =
+    whole_raw }
   where
-    settled_raw : (k : List ℕ) (f : Frame) (x : Attribute) → IsWireFrame f → read_as (other f.word f.value) ≡ Ok x → Unit {0} ↔ AllByRecursion IsSettledPart (parts_in_kind (λ name y. []) x)
-    settled_raw k f x w e = subst (λ (y : Attribute). Unit {0} ↔ AllByRecursion IsSettledPart (parts_in_kind (λ name z. []) y)) (ok-same (other f.word f.value) x e) (λ s. tt, λ s. tt)
+    settled_raw : (k : List ℕ) (f : Frame) (x : Attribute) → IsWireFrame f → read_as (other f.word f.value) ≡ Ok x
+        → Unit {0} ↔ AllByRecursion IsSettledPart (parts_in_kind (λ name y. []) x)
+    settled_raw k f x w e = subst (λ (y : Attribute). Unit {0} ↔ AllByRecursion IsSettledPart (parts_in_kind (λ name z. []) y))
+        (ok-same (other f.word f.value) x e) (λ s. tt, λ s. tt)
 
-    again_raw : (k : List ℕ) (f : Frame) (x : Attribute) → IsWireFrame f → read_as (other f.word f.value) ≡ Ok x → raw_frames.Fits x → raw_frames.read k (raw_frames.write x) ≡ Ok (in_kind (λ name y. y) x)
-    again_raw k f x w e fits = subst (λ (y : Attribute). raw_frames.read k (raw_frames.write y) ≡ Ok (in_kind (λ name z. z) y)) (ok-same (other f.word f.value) x e) refl
+    again_raw : (k : List ℕ) (f : Frame) (x : Attribute) → IsWireFrame f → read_as (other f.word f.value) ≡ Ok x → raw_frames.Fits x
+        → raw_frames.read k (raw_frames.write x) ≡ Ok (in_kind (λ name y. y) x)
+    again_raw k f x w e fits = subst (λ (y : Attribute). raw_frames.read k (raw_frames.write y) ≡ Ok (in_kind (λ name z. z) y))
+        (ok-same (other f.word f.value) x e) refl
 
     typed_raw : (x : Attribute) → raw_frames.Typed x → raw_frames.Typed (in_kind (λ name y. y) x)
     typed_raw (of_kind name x) t = t
@@ -39,7 +44,8 @@ unknown_next = record { settled = settled_raw; again = again_raw; typed = typed_
     smaller_raw (of_kind name x) = omega arith
     smaller_raw x = omega arith
 
-    same_raw : (x : Attribute) → raw_frames.Typed x → raw_frames.Fits x → raw_frames.write (in_kind (λ name y. y) x) ≡ raw_frames.write x → AllByRecursion IsWhole (parts_in_kind (λ name y. []) x)
+    same_raw : (x : Attribute) → raw_frames.Typed x → raw_frames.Fits x → raw_frames.write (in_kind (λ name y. y) x) ≡ raw_frames.write x
+        → AllByRecursion IsWhole (parts_in_kind (λ name y. []) x)
     same_raw (of_kind name x) t f s = tt
     same_raw x t f s = tt
 
@@ -50,7 +56,8 @@ unknown_next = record { settled = settled_raw; again = again_raw; typed = typed_
 -- a kind before the others
 module _ (name : List ℕ) (own rest : Codec Frame Attribute) (CanonRest : IsCanonAt) (rest_laws : KindLaws rest CanonRest)
     (next : Attribute → Attribute) (parts : Attribute → List Part) (own_next : NextLaws IsWireFrame frame_size own next parts)
-    (next' : List ℕ → Attribute → Attribute) (parts' : List ℕ → Attribute → List Part) (rest_next : NextLaws IsWireFrame frame_size rest (in_kind next') (parts_in_kind parts')) where
+    (next' : List ℕ → Attribute → Attribute) (parts' : List ℕ → Attribute → List Part)
+        (rest_next : NextLaws IsWireFrame frame_size rest (in_kind next') (parts_in_kind parts')) where
   -- the first kind, or another
   abbrev next_of : List ℕ → Attribute → Attribute
   next_of m x = cond (bytes_eq m name) (next x) (next' m x)
@@ -79,7 +86,8 @@ module _ (name : List ℕ) (own rest : Codec Frame Attribute) (CanonRest : IsCan
   settled-kind false k f (kept n word value) h w e = rw h (rest_next.settled k f (kept n word value) w e)
   settled-kind false k f (other word value) h w e = rw h (rest_next.settled k f (other word value) w e)
 
-  again-kind : (b : Bool) (k : List ℕ) (f : Frame) (x : Attribute) → bytes_eq k name ≡ b → IsWireFrame f → kind_by b k f ≡ Ok x → (kind_frames name own rest).Fits x
+  again-kind : (b : Bool) (k : List ℕ) (f : Frame) (x : Attribute) → bytes_eq k name ≡ b → IsWireFrame f → kind_by b k f ≡ Ok x
+      → (kind_frames name own rest).Fits x
       → kind_by b k ((kind_frames name own rest).write x) ≡ Ok (in_kind next_of x)
   unfolding kind_by
   again-kind true k f x h w e fits =
@@ -99,7 +107,8 @@ module _ (name : List ℕ) (own rest : Codec Frame Attribute) (CanonRest : IsCan
   typed-kind : (x : Attribute) → (kind_frames name own rest).Typed x → (kind_frames name own rest).Typed (in_kind next_of x)
   typed-kind (of_kind m x) t = go (bytes_eq m name) t
     where
-      go : (b : Bool) → MatchBool b (own.Typed x) (rest.Typed (of_kind m x)) → MatchBool b (own.Typed (cond b (next x) (next' m x))) (rest.Typed (of_kind m (cond b (next x) (next' m x))))
+      go : (b : Bool) → MatchBool b (own.Typed x) (rest.Typed (of_kind m x))
+          → MatchBool b (own.Typed (cond b (next x) (next' m x))) (rest.Typed (of_kind m (cond b (next x) (next' m x))))
       go true t = own_next.typed x t
       go false t = rest_next.typed (of_kind m x) t
   typed-kind (known n content) t = rest_next.typed (known n content) t
@@ -109,7 +118,8 @@ module _ (name : List ℕ) (own rest : Codec Frame Attribute) (CanonRest : IsCan
   fits-kind : (x : Attribute) → (kind_frames name own rest).Fits x → (kind_frames name own rest).Fits (in_kind next_of x)
   fits-kind (of_kind m x) f = go (bytes_eq m name) f
     where
-      go : (b : Bool) → MatchBool b (own.Fits x) (rest.Fits (of_kind m x)) → MatchBool b (own.Fits (cond b (next x) (next' m x))) (rest.Fits (of_kind m (cond b (next x) (next' m x))))
+      go : (b : Bool) → MatchBool b (own.Fits x) (rest.Fits (of_kind m x))
+          → MatchBool b (own.Fits (cond b (next x) (next' m x))) (rest.Fits (of_kind m (cond b (next x) (next' m x))))
       go true f = own_next.fits x f
       go false f = rest_next.fits (of_kind m x) f
   fits-kind (known n content) f = rest_next.fits (known n content) f
@@ -130,7 +140,8 @@ module _ (name : List ℕ) (own rest : Codec Frame Attribute) (CanonRest : IsCan
   smaller-kind (kept n word value) = rest_next.smaller (kept n word value)
   smaller-kind (other word value) = rest_next.smaller (other word value)
 
-  same-kind : (x : Attribute) → (kind_frames name own rest).Typed x → (kind_frames name own rest).Fits x → (kind_frames name own rest).write (in_kind next_of x) ≡ (kind_frames name own rest).write x
+  same-kind : (x : Attribute) → (kind_frames name own rest).Typed x → (kind_frames name own rest).Fits x
+      → (kind_frames name own rest).write (in_kind next_of x) ≡ (kind_frames name own rest).write x
       → AllByRecursion IsWhole (parts_in_kind parts_of x)
   same-kind (of_kind m x) t f s = go (bytes_eq m name) t f s
     where
@@ -142,7 +153,8 @@ module _ (name : List ℕ) (own rest : Codec Frame Attribute) (CanonRest : IsCan
   same-kind (kept n word value) t f s = tt
   same-kind (other word value) t f s = tt
 
-  whole-kind : (x : Attribute) → AllByRecursion IsWhole (parts_in_kind parts_of x) → (kind_frames name own rest).write (in_kind next_of x) ≡ (kind_frames name own rest).write x
+  whole-kind : (x : Attribute) → AllByRecursion IsWhole (parts_in_kind parts_of x)
+      → (kind_frames name own rest).write (in_kind next_of x) ≡ (kind_frames name own rest).write x
   whole-kind (of_kind m x) all = go (bytes_eq m name) all
     where
       go : (b : Bool) → AllByRecursion IsWhole (cond b (parts x) (parts' m x)) → written_by b m (cond b (next x) (next' m x)) ≡ written_by b m x
@@ -152,7 +164,8 @@ module _ (name : List ℕ) (own rest : Codec Frame Attribute) (CanonRest : IsCan
   whole-kind (kept n word value) all = refl
   whole-kind (other word value) all = refl
 
-  pub kind_next : NextLaws IsWireFrame frame_size (kind_frames name own rest) (in_kind (λ m x. cond (bytes_eq m name) (next x) (next' m x))) (parts_in_kind (λ m x. cond (bytes_eq m name) (parts x) (parts' m x)))
+  pub kind_next : NextLaws IsWireFrame frame_size (kind_frames name own rest) (in_kind (λ m x. cond (bytes_eq m name) (next x) (next' m x)))
+      (parts_in_kind (λ m x. cond (bytes_eq m name) (parts x) (parts' m x)))
   unfolding kind_by
   kind_next = record {
     settled = λ k f x w e. settled-kind (bytes_eq k name) k f x refl w e;

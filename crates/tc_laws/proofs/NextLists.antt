@@ -36,7 +36,8 @@ through p q = (λ h. q.0 (p.0 h), λ h. p.1 (q.1 h))
 all-parts : {X : Type 0} (P : X → Type 0) (xs ys : List X) → (AllByRecursion P xs × AllByRecursion P ys) ↔ AllByRecursion P (xs ++ ys)
 all-parts P xs ys = (λ h. append-all P xs ys h.0 h.1, λ h. all-append P xs ys h)
 
-module _ {X : Type 0} (c : Codec Frame X) (Canon : IsCanonAt) (laws : Laws IsWireFrame c Canon) (next : X → X) (parts : X → List Part) (r : NextLaws IsWireFrame frame_size c next parts) where
+module _ {X : Type 0} (c : Codec Frame X) (Canon : IsCanonAt) (laws : Laws IsWireFrame c Canon) (next : X → X) (parts : X → List Part)
+    (r : NextLaws IsWireFrame frame_size c next parts) where
   typed-next : (xs : List X) → AllByRecursion c.Typed xs → AllByRecursion c.Typed (map next xs)
   typed-next [] t = tt
   typed-next (x ∷ xs) t = (r.typed x t.0, typed-next xs t.1)
@@ -65,21 +66,24 @@ module _ {X : Type 0} (c : Codec Frame X) (Canon : IsCanonAt) (laws : Laws IsWir
       let h = all-append IsWhole (parts x) (flat_map parts xs) all in
       ap₂ (λ (f : Frame) (bytes : List ℕ). frame_bytes f ++ bytes) (r.whole x h.0) (whole-next xs h.1)
 
-  same-each : (xs : List X) → AllByRecursion c.Typed xs → AllByRecursion c.Fits xs → map c.write (map next xs) ≡ map c.write xs → AllByRecursion IsWhole (flat_map parts xs)
+  same-each : (xs : List X) → AllByRecursion c.Typed xs → AllByRecursion c.Fits xs → map c.write (map next xs) ≡ map c.write xs
+      → AllByRecursion IsWhole (flat_map parts xs)
   same-each [] t f e = tt
   same-each (x ∷ xs) t f e =
       let first : c.write (next x) ≡ c.write x = cc e in
       let rest : map c.write (map next xs) ≡ map c.write xs = cc e in
       append-all IsWhole (parts x) (flat_map parts xs) (r.same x t.0 f.0 first) (same-each xs t.1 f.1 rest)
 
-  same-next : (xs : List X) → AllByRecursion c.Typed xs → ListFits c.Fits c.write xs → list_bytes c.write (map next xs) ≡ list_bytes c.write xs → AllByRecursion IsWhole (flat_map parts xs)
+  same-next : (xs : List X) → AllByRecursion c.Typed xs → ListFits c.Fits c.write xs → list_bytes c.write (map next xs) ≡ list_bytes c.write xs
+      → AllByRecursion IsWhole (flat_map parts xs)
   same-next xs t f e =
       let here = cut-written c Canon laws xs t f.each in
       let there = cut-written c Canon laws (map next xs) (typed-next xs t) (fits-next xs f.each) in
       same-each xs t f.each (ap (λ (k : Cutting). k.frames) (sym there ∙ ap cut e ∙ here))
 
   -- under the kind that is set last before each place
-  module _ (by_frame : Sets Frame) (by_value : Sets X) (agree : (kind : List ℕ) (f : Frame) (x : X) → IsWireFrame f → c.read kind f ≡ Ok x → by_frame f ≡ by_value x)
+  module _ (by_frame : Sets Frame) (by_value : Sets X)
+      (agree : (kind : List ℕ) (f : Frame) (x : X) → IsWireFrame f → c.read kind f ≡ Ok x → by_frame f ≡ by_value x)
       (stays : (x : X) → by_value (next x) ≡ by_value x) where
     settled-each : (kind : List ℕ) (fs : List Frame) (xs : List X) → AllByRecursion IsWireFrame fs → ReadInTurn c.read by_frame kind fs xs
         → SettledEach c.Settled by_value kind xs ↔ AllByRecursion IsSettledPart (flat_map parts xs)
@@ -92,7 +96,8 @@ module _ {X : Type 0} (c : Codec Frame X) (Canon : IsCanonAt) (laws : Laws IsWir
         let rest_there = subst (λ (k : List ℕ). SettledEach c.Settled by_value k xs ↔ AllByRecursion IsSettledPart (flat_map parts xs)) then_same rest in
         through (both (r.settled kind f x wire.0 turn.0) rest_there) (all-parts IsSettledPart (parts x) (flat_map parts xs))
 
-    again-each : (kind : List ℕ) (fs : List Frame) (xs : List X) → AllByRecursion IsWireFrame fs → AllByRecursion c.Typed xs → AllByRecursion c.Fits xs → ReadInTurn c.read by_frame kind fs xs
+    again-each : (kind : List ℕ) (fs : List Frame) (xs : List X) → AllByRecursion IsWireFrame fs → AllByRecursion c.Typed xs → AllByRecursion c.Fits xs
+        → ReadInTurn c.read by_frame kind fs xs
         → ReadInTurn c.read by_frame kind (map c.write xs) (map next xs)
     again-each kind [] [] wire t fits turn = tt
     again-each kind [] (x ∷ xs) wire t fits turn = elim turn [ ]
@@ -103,7 +108,8 @@ module _ {X : Type 0} (c : Codec Frame X) (Canon : IsCanonAt) (laws : Laws IsWir
         let there = agree kind (c.write x) (next x) (laws.makes x t.0 fits.0) first in
         let sets_same : by_frame f ≡ by_frame (c.write x) = here ∙ sym (stays x) ∙ sym there in
         let kinds_same : kind_then by_frame kind f ≡ kind_then by_frame kind (c.write x) = kind_then-same by_frame by_frame kind f (c.write x) sets_same in
-        (first, subst (λ (k : List ℕ). ReadInTurn c.read by_frame k (map c.write xs) (map next xs)) kinds_same (again-each (kind_then by_frame kind f) fs xs wire.1 t.1 fits.1 turn.1))
+        (first, subst (λ (k : List ℕ). ReadInTurn c.read by_frame k (map c.write xs) (map next xs)) kinds_same
+            (again-each (kind_then by_frame kind f) fs xs wire.1 t.1 fits.1 turn.1))
 
     again-list : (kind bytes : List ℕ) (xs : List X) → IsWireBytes bytes → read_list c.read by_frame kind bytes ≡ Ok xs → ListFits c.Fits c.write xs
         → read_list c.read by_frame kind (list_bytes c.write xs) ≡ Ok (map next xs)
@@ -117,7 +123,8 @@ module _ {X : Type 0} (c : Codec Frame X) (Canon : IsCanonAt) (laws : Laws IsWir
     -- the laws of the list
     pub next_list : NextLaws IsWireBytes length (list_codec by_frame by_value c) (map next) (flat_map parts)
     next_list = record {
-      settled = λ kind bytes xs w e. settled-each kind (cut bytes).frames xs (IsWireFrame-cut bytes w.are_bytes) (ReadInTurn-read_list c.read by_frame kind bytes xs e).1;
+      settled = λ kind bytes xs w e.
+          settled-each kind (cut bytes).frames xs (IsWireFrame-cut bytes w.are_bytes) (ReadInTurn-read_list c.read by_frame kind bytes xs e).1;
       again = again-list;
       typed = typed-next;
       fits = list_fits-next;
@@ -128,7 +135,8 @@ module _ {X : Type 0} (c : Codec Frame X) (Canon : IsCanonAt) (laws : Laws IsWir
 
 -- ---- a list that tells its kind
 
-module _ (c : Codec Frame Attribute) (Canon : IsCanonAt) (laws : Laws IsWireFrame c Canon) (tells : TellsKind c) (next : Attribute → Attribute) (parts : Attribute → List Part)
+module _ (c : Codec Frame Attribute) (Canon : IsCanonAt) (laws : Laws IsWireFrame c Canon) (tells : TellsKind c) (next : Attribute → Attribute)
+    (parts : Attribute → List Part)
     (r : NextLaws IsWireFrame frame_size c next parts) (stays : (x : Attribute) → kind_of_attribute (next x) ≡ kind_of_attribute x) where
   list_laws : NextLaws IsWireBytes length (list_codec keep keep c) (map next) (flat_map parts)
   list_laws = next_list c Canon laws next parts r keep keep (λ k f x w e. refl) (λ x. refl)
@@ -138,7 +146,8 @@ module _ (c : Codec Frame Attribute) (Canon : IsCanonAt) (laws : Laws IsWireFram
   kinds-next [] = refl
   kinds-next (x ∷ xs) = ap₂ kind_before (stays x) (kinds-next xs)
 
-  settled-own : (k bytes : List ℕ) (xs : List Attribute) → IsWireBytes bytes → read_own c.read bytes ≡ Ok xs → SettledOwn c.Settled xs ↔ AllByRecursion IsSettledPart (flat_map parts xs)
+  settled-own : (k bytes : List ℕ) (xs : List Attribute) → IsWireBytes bytes → read_own c.read bytes ≡ Ok xs
+      → SettledOwn c.Settled xs ↔ AllByRecursion IsSettledPart (flat_map parts xs)
   settled-own k bytes xs w e =
       let own = read_own-ok c bytes xs e in
       let told = sym (told-set c tells own.own bytes xs own.is_read) ∙ own.tells in
@@ -151,11 +160,13 @@ module _ (c : Codec Frame Attribute) (Canon : IsCanonAt) (laws : Laws IsWireFram
         (λ all. (own.own, told, each.0 (law.1 all))),
       )
 
-  again-own : (k bytes : List ℕ) (xs : List Attribute) → IsWireBytes bytes → read_own c.read bytes ≡ Ok xs → ListFits c.Fits c.write xs → read_own c.read (list_bytes c.write xs) ≡ Ok (map next xs)
+  again-own : (k bytes : List ℕ) (xs : List Attribute) → IsWireBytes bytes → read_own c.read bytes ≡ Ok xs → ListFits c.Fits c.write xs
+      → read_own c.read (list_bytes c.write xs) ≡ Ok (map next xs)
   again-own k bytes xs w e f =
       let own = read_own-ok c bytes xs e in
       let is_read = list_laws.again own.own bytes xs w own.is_read f in
-      let told = told-set c tells own.own (list_bytes c.write xs) (map next xs) is_read ∙ kinds-next xs ∙ sym (told-set c tells own.own bytes xs own.is_read) ∙ own.tells in
+      let told = told-set c tells own.own (list_bytes c.write xs) (map next xs) is_read ∙ kinds-next xs ∙ sym (told-set c tells own.own bytes xs own.is_read)
+              ∙ own.tells in
       read_own-is c tells own.own (list_bytes c.write xs) (map next xs) is_read told
 
   pub next_own : NextLaws IsWireBytes length (own_codec c) (map next) (flat_map parts)

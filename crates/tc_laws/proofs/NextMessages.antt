@@ -29,10 +29,13 @@ module _ (by_frame : Sets Frame) (by_value : Sets Attribute) (layout : List Fiel
     (laws : Laws IsWireFrame (table_codec (table rows)) (CanonTable (table rows)))
     (agree : (kind : List ℕ) (f : Frame) (x : Attribute) → IsWireFrame f → (table_codec (table rows)).read kind f ≡ Ok x → by_frame f ≡ by_value x)
     (stays : (change : List ℕ → List ℕ) (x : Attribute) → by_value (trimmed_table change (table rows) x) ≡ by_value x) where
-  body_next : NextLaws IsWireBytes length (list_codec by_frame by_value (table_codec (table rows))) (map (trimmed_table strip (table rows))) (flat_map (table_parts (table rows)))
-  body_next = next_list (table_codec (table rows)) (CanonTable (table rows)) laws (trimmed_table strip (table rows)) (table_parts (table rows)) (table_next (table rows) sound) by_frame by_value agree (stays strip)
+  body_next : NextLaws IsWireBytes length (list_codec by_frame by_value (table_codec (table rows))) (map (trimmed_table strip (table rows)))
+      (flat_map (table_parts (table rows)))
+  body_next = next_list (table_codec (table rows)) (CanonTable (table rows)) laws (trimmed_table strip (table rows)) (table_parts (table rows))
+      (table_next (table rows) sound) by_frame by_value agree (stays strip)
 
-  settled-message : (bytes : List ℕ) (m : Message) → IsWireBytes bytes → read_with by_frame layout rows bytes ≡ Ok m → SettledWith layout rows by_value m ↔ AllByRecursion IsSettledPart (message_parts rows m)
+  settled-message : (bytes : List ℕ) (m : Message) → IsWireBytes bytes → read_with by_frame layout rows bytes ≡ Ok m
+      → SettledWith layout rows by_value m ↔ AllByRecursion IsSettledPart (message_parts rows m)
   settled-message bytes m w e =
       let is = read_with-ok by_frame layout rows bytes m e in
       let law = body_next.settled [] (drop (size_of layout) bytes) m.body (wire-body by_frame by_value layout rows laws agree bytes w) is.body in
@@ -48,7 +51,8 @@ module _ (by_frame : Sets Frame) (by_value : Sets Attribute) (layout : List Fiel
       let body = body_next.again [] (drop (size_of layout) bytes) m.body (wire-body by_frame by_value layout rows laws agree bytes w) is.body f.body in
       ok-read_with by_frame layout rows (message_bytes layout rows m) (next rows m) (record {
         long = rw (length-message by_frame by_value layout rows laws agree m t) (omega arith);
-        header = ap (read_fields layout) (front-message by_frame by_value layout rows laws agree m t) ∙ (header-back by_frame by_value layout rows laws agree m.header t.header).1 header;
+        header = ap (read_fields layout) (front-message by_frame by_value layout rows laws agree m t)
+            ∙ (header-back by_frame by_value layout rows laws agree m.header t.header).1 header;
         body = ap (read_list (table_codec (table rows)).read by_frame []) (rest-message by_frame by_value layout rows laws agree m t) ∙ body;
       })
 
@@ -65,7 +69,8 @@ module _ (by_frame : Sets Frame) (by_value : Sets Attribute) (layout : List Fiel
       let b = length-append (fields_bytes layout m.header) (list_bytes (table_codec (table rows)).write m.body) in
       omega (arith, less, a, b)
 
-  same-message : (m : Message) → TypedMessage layout rows m → FitsMessage layout rows m → message_bytes layout rows (next rows m) ≡ message_bytes layout rows m → AllByRecursion IsWhole (message_parts rows m)
+  same-message : (m : Message) → TypedMessage layout rows m → FitsMessage layout rows m → message_bytes layout rows (next rows m) ≡ message_bytes layout rows m
+      → AllByRecursion IsWhole (message_parts rows m)
   unfolding message_bytes
   same-message m t f e = body_next.same m.body t.body f.body (append_cancel_left (fields_bytes layout m.header) _ _ e)
 
@@ -74,10 +79,12 @@ module _ (by_frame : Sets Frame) (by_value : Sets Attribute) (layout : List Fiel
   whole-message m all = ap (λ (body : List ℕ). fields_bytes layout m.header ++ body) (body_next.whole m.body all)
 
   -- the norm of what was read is settled
-  pub message_norm : (bytes : List ℕ) (m : Message) → IsWireBytes bytes → read_with by_frame layout rows bytes ≡ Ok m → SettledWith layout rows by_value (norm rows m)
+  pub message_norm : (bytes : List ℕ) (m : Message) → IsWireBytes bytes → read_with by_frame layout rows bytes ≡ Ok m
+      → SettledWith layout rows by_value (norm rows m)
   message_norm bytes m w e =
       let is = read_with-ok by_frame layout rows bytes m e in
-      let body = norm_list (table_codec (table rows)) (trimmed_table without_nuls (table rows)) (table_norm (table rows) sound) by_frame by_value agree (stays without_nuls) in
+      let body = norm_list (table_codec (table rows)) (trimmed_table without_nuls (table rows)) (table_norm (table rows) sound) by_frame by_value agree
+              (stays without_nuls) in
       let header = subst (SettledFields layout) is.header (settled-read layout (take (size_of layout) bytes)) in
       record { header = header; body = body [] (drop (size_of layout) bytes) m.body (wire-body by_frame by_value layout rows laws agree bytes w) is.body }
 

@@ -28,8 +28,10 @@ wire_value f w = record { are_bytes = w.bytes; short = w.frame.value }
 
 -- what rewriting makes of what stands in a row at the type n
 pub record RowNext (n : ℕ) (c : Codec Frame Attribute) (next : Content → Content) (parts : Content → List Part) : Type 0 where
-  pub settled : (k : List ℕ) (f : Frame) (x : Attribute) → IsWireFrame f → type_of f.word ≡ n → c.read k f ≡ Ok x → c.Settled k x ↔ AllByRecursion IsSettledPart (row_parts parts x)
-  pub again : (k : List ℕ) (f : Frame) (x : Attribute) → IsWireFrame f → type_of f.word ≡ n → c.read k f ≡ Ok x → c.Fits x → c.read k (c.write x) ≡ Ok (of_row next x)
+  pub settled : (k : List ℕ) (f : Frame) (x : Attribute) → IsWireFrame f → type_of f.word ≡ n → c.read k f ≡ Ok x
+      → c.Settled k x ↔ AllByRecursion IsSettledPart (row_parts parts x)
+  pub again : (k : List ℕ) (f : Frame) (x : Attribute) → IsWireFrame f → type_of f.word ≡ n → c.read k f ≡ Ok x → c.Fits x
+      → c.read k (c.write x) ≡ Ok (of_row next x)
   -- what was read is written under the same type
   pub under : (k : List ℕ) (f : Frame) (x : Attribute) → type_of f.word ≡ n → c.read k f ≡ Ok x → type_of (c.write x).word ≡ n
   pub typed : (x : Attribute) → c.Typed x → c.Typed (of_row next x)
@@ -41,13 +43,18 @@ pub record RowNext (n : ℕ) (c : Codec Frame Attribute) (next : Content → Con
 -- ---- kept as it stands
 
 pub raw_next : (n : ℕ) → RowNext n raw_frames (λ x. x) (λ x. [])
-raw_next n = record { settled = settled_raw; again = again_raw; under = under_raw; typed = typed_raw; fits = fits_raw; smaller = smaller_raw; same = same_raw; whole = whole_raw }
+raw_next n = record { settled = settled_raw; again = again_raw; under = under_raw; typed = typed_raw; fits = fits_raw; smaller = smaller_raw; same = same_raw;
+    whole = whole_raw }
   where
-    settled_raw : (k : List ℕ) (f : Frame) (x : Attribute) → IsWireFrame f → type_of f.word ≡ n → read_as (other f.word f.value) ≡ Ok x → Unit {0} ↔ AllByRecursion IsSettledPart (row_parts (λ y. []) x)
-    settled_raw k f x w at e = subst (λ (y : Attribute). Unit {0} ↔ AllByRecursion IsSettledPart (row_parts (λ z. []) y)) (ok-same (other f.word f.value) x e) (λ s. tt, λ s. tt)
+    settled_raw : (k : List ℕ) (f : Frame) (x : Attribute) → IsWireFrame f → type_of f.word ≡ n → read_as (other f.word f.value) ≡ Ok x
+        → Unit {0} ↔ AllByRecursion IsSettledPart (row_parts (λ y. []) x)
+    settled_raw k f x w at e = subst (λ (y : Attribute). Unit {0} ↔ AllByRecursion IsSettledPart (row_parts (λ z. []) y)) (ok-same (other f.word f.value) x e)
+        (λ s. tt, λ s. tt)
 
-    again_raw : (k : List ℕ) (f : Frame) (x : Attribute) → IsWireFrame f → type_of f.word ≡ n → read_as (other f.word f.value) ≡ Ok x → raw_frames.Fits x → raw_frames.read k (raw_frames.write x) ≡ Ok (of_row (λ y. y) x)
-    again_raw k f x w at e fits = subst (λ (y : Attribute). raw_frames.read k (raw_frames.write y) ≡ Ok (of_row (λ z. z) y)) (ok-same (other f.word f.value) x e) refl
+    again_raw : (k : List ℕ) (f : Frame) (x : Attribute) → IsWireFrame f → type_of f.word ≡ n → read_as (other f.word f.value) ≡ Ok x → raw_frames.Fits x
+        → raw_frames.read k (raw_frames.write x) ≡ Ok (of_row (λ y. y) x)
+    again_raw k f x w at e fits = subst (λ (y : Attribute). raw_frames.read k (raw_frames.write y) ≡ Ok (of_row (λ z. z) y))
+        (ok-same (other f.word f.value) x e) refl
 
     under_raw : (k : List ℕ) (f : Frame) (x : Attribute) → type_of f.word ≡ n → read_as (other f.word f.value) ≡ Ok x → type_of (raw_frames.write x).word ≡ n
     under_raw k f x at e = subst (λ (y : Attribute). type_of (raw_frames.write y).word ≡ n) (ok-same (other f.word f.value) x e) at
@@ -64,7 +71,8 @@ raw_next n = record { settled = settled_raw; again = again_raw; under = under_ra
     smaller_raw (known m content) = omega arith
     smaller_raw x = omega arith
 
-    same_raw : (x : Attribute) → raw_frames.Typed x → raw_frames.Fits x → raw_frames.write (of_row (λ y. y) x) ≡ raw_frames.write x → AllByRecursion IsWhole (row_parts (λ y. []) x)
+    same_raw : (x : Attribute) → raw_frames.Typed x → raw_frames.Fits x → raw_frames.write (of_row (λ y. y) x) ≡ raw_frames.write x
+        → AllByRecursion IsWhole (row_parts (λ y. []) x)
     same_raw (known m content) t f s = tt
     same_raw x t f s = tt
 
@@ -74,11 +82,14 @@ raw_next n = record { settled = settled_raw; again = again_raw; under = under_ra
 
 -- ---- one row
 
-module _ (word n : ℕ) (c : Codec (List ℕ) Content) (next : Content → Content) (parts : Content → List Part) (r : NextLaws IsWireValue length (short c) next parts) (under : type_of word ≡ n) where
-  settled-row : (k : List ℕ) (f : Frame) (x : Attribute) → IsWireFrame f → seen (known n) (c.read k f.value) ≡ Ok x → (row_frames word n c).Settled k x ↔ AllByRecursion IsSettledPart (row_parts parts x)
+module _ (word n : ℕ) (c : Codec (List ℕ) Content) (next : Content → Content) (parts : Content → List Part)
+    (r : NextLaws IsWireValue length (short c) next parts) (under : type_of word ≡ n) where
+  settled-row : (k : List ℕ) (f : Frame) (x : Attribute) → IsWireFrame f → seen (known n) (c.read k f.value) ≡ Ok x
+      → (row_frames word n c).Settled k x ↔ AllByRecursion IsSettledPart (row_parts parts x)
   settled-row k f x w e =
       let q = seen-ok (known n) (c.read k f.value) x e in
-      subst (λ (y : Attribute). (row_frames word n c).Settled k y ↔ AllByRecursion IsSettledPart (row_parts parts y)) q.2 (r.settled k f.value q.0 (wire_value f w) q.1)
+      subst (λ (y : Attribute). (row_frames word n c).Settled k y ↔ AllByRecursion IsSettledPart (row_parts parts y)) q.2
+          (r.settled k f.value q.0 (wire_value f w) q.1)
 
   again-row : (k : List ℕ) (f : Frame) (x : Attribute) → IsWireFrame f → seen (known n) (c.read k f.value) ≡ Ok x → (row_frames word n c).Fits x
       → (row_frames word n c).read k ((row_frames word n c).write x) ≡ Ok (of_row next x)
@@ -105,7 +116,8 @@ module _ (word n : ℕ) (c : Codec (List ℕ) Content) (next : Content → Conte
   smaller-row (known m content) = r.smaller content
   smaller-row x = omega arith
 
-  same-row : (x : Attribute) → (row_frames word n c).Typed x → (row_frames word n c).Fits x → (row_frames word n c).write (of_row next x) ≡ (row_frames word n c).write x → AllByRecursion IsWhole (row_parts parts x)
+  same-row : (x : Attribute) → (row_frames word n c).Typed x → (row_frames word n c).Fits x
+      → (row_frames word n c).write (of_row next x) ≡ (row_frames word n c).write x → AllByRecursion IsWhole (row_parts parts x)
   same-row (known m content) t f s = r.same content t.1 f (ap (λ (g : Frame). g.value) s)
   same-row x t f s = tt
 
@@ -127,7 +139,8 @@ module _ (word n : ℕ) (c : Codec (List ℕ) Content) (next : Content → Conte
 
 -- ---- a type that is written and never read
 
-pub unread_next : (n : ℕ) (c : Codec (List ℕ) Content) (next : Content → Content) (parts : Content → List Part) → NextLaws IsWireValue length (short c) next parts → type_of n ≡ n
+pub unread_next : (n : ℕ) (c : Codec (List ℕ) Content) (next : Content → Content) (parts : Content → List Part)
+    → NextLaws IsWireValue length (short c) next parts → type_of n ≡ n
     → RowNext n (unread_frames n c) next parts
 unread_next n c next parts r under = record {
   settled = settled_unread;
@@ -143,20 +156,25 @@ unread_next n c next parts r under = record {
     row : RowNext n (row_frames n n c) next parts
     row = row_next n n c next parts r under
 
-    settled_unread : (k : List ℕ) (f : Frame) (x : Attribute) → IsWireFrame f → type_of f.word ≡ n → read_as (other f.word f.value) ≡ Ok x → (unread_frames n c).Settled k x ↔ AllByRecursion IsSettledPart (row_parts parts x)
-    settled_unread k f x w at e = subst (λ (y : Attribute). (unread_frames n c).Settled k y ↔ AllByRecursion IsSettledPart (row_parts parts y)) (ok-same (other f.word f.value) x e) (λ s. tt, λ s. tt)
+    settled_unread : (k : List ℕ) (f : Frame) (x : Attribute) → IsWireFrame f → type_of f.word ≡ n → read_as (other f.word f.value) ≡ Ok x
+        → (unread_frames n c).Settled k x ↔ AllByRecursion IsSettledPart (row_parts parts x)
+    settled_unread k f x w at e = subst (λ (y : Attribute). (unread_frames n c).Settled k y ↔ AllByRecursion IsSettledPart (row_parts parts y))
+        (ok-same (other f.word f.value) x e) (λ s. tt, λ s. tt)
 
-    again_unread : (k : List ℕ) (f : Frame) (x : Attribute) → IsWireFrame f → type_of f.word ≡ n → read_as (other f.word f.value) ≡ Ok x → (unread_frames n c).Fits x
+    again_unread : (k : List ℕ) (f : Frame) (x : Attribute) → IsWireFrame f → type_of f.word ≡ n → read_as (other f.word f.value) ≡ Ok x
+        → (unread_frames n c).Fits x
         → (unread_frames n c).read k ((unread_frames n c).write x) ≡ Ok (of_row next x)
     again_unread k f x w at e fits =
         subst (λ (y : Attribute). (unread_frames n c).read k ((unread_frames n c).write y) ≡ Ok (of_row next y)) (ok-same (other f.word f.value) x e) refl
 
-    under_unread : (k : List ℕ) (f : Frame) (x : Attribute) → type_of f.word ≡ n → read_as (other f.word f.value) ≡ Ok x → type_of ((unread_frames n c).write x).word ≡ n
+    under_unread : (k : List ℕ) (f : Frame) (x : Attribute) → type_of f.word ≡ n → read_as (other f.word f.value) ≡ Ok x
+        → type_of ((unread_frames n c).write x).word ≡ n
     under_unread k f x at e = subst (λ (y : Attribute). type_of ((unread_frames n c).write y).word ≡ n) (ok-same (other f.word f.value) x e) at
 
 -- ---- a message's options
 
-module _ (n : ℕ) (ks : Kinds) (c : Codec (List ℕ) Content) (next : Content → Content) (parts : Content → List Part) (r : NextLaws IsWireValue length (short c) next parts) (under : type_of n ≡ n) where
+module _ (n : ℕ) (ks : Kinds) (c : Codec (List ℕ) Content) (next : Content → Content) (parts : Content → List Part)
+    (r : NextLaws IsWireValue length (short c) next parts) (under : type_of n ≡ n) where
   -- as they are read where it is known whether the kind is
   options_by : Bool → List ℕ → Frame → Outcome Attribute
   options_by b k f = cond b (seen (known n) (c.read k f.value)) (read_as (kept n f.word f.value))
@@ -167,18 +185,22 @@ module _ (n : ℕ) (ks : Kinds) (c : Codec (List ℕ) Content) (next : Content �
   settled-options true k is f x w at e =
       let q = seen-ok (known n) (c.read k f.value) x e in
       let law = r.settled k f.value q.0 (wire_value f w) q.1 in
-      subst (λ (y : Attribute). (options_frames n ks c).Settled k y ↔ AllByRecursion IsSettledPart (row_parts parts y)) q.2 (λ s. law.0 s.1, λ all. (is, law.1 all))
+      subst (λ (y : Attribute). (options_frames n ks c).Settled k y ↔ AllByRecursion IsSettledPart (row_parts parts y)) q.2
+          (λ s. law.0 s.1, λ all. (is, law.1 all))
   settled-options false k is f x w at e =
-      subst (λ (y : Attribute). (options_frames n ks c).Settled k y ↔ AllByRecursion IsSettledPart (row_parts parts y)) (ok-same (kept n f.word f.value) x e) (λ s. tt, λ all. (is, at))
+      subst (λ (y : Attribute). (options_frames n ks c).Settled k y ↔ AllByRecursion IsSettledPart (row_parts parts y)) (ok-same (kept n f.word f.value) x e)
+          (λ s. tt, λ all. (is, at))
 
   again-options : (b : Bool) (k : List ℕ) (f : Frame) (x : Attribute) → IsWireFrame f → options_by b k f ≡ Ok x → (options_frames n ks c).Fits x
       → options_by b k ((options_frames n ks c).write x) ≡ Ok (of_row next x)
   unfolding options_by
   again-options true k f x w e fits = again-row n n c next parts r under k f x w e fits
   again-options false k f x w e fits =
-      subst (λ (y : Attribute). read_as (kept n ((options_frames n ks c).write y).word ((options_frames n ks c).write y).value) ≡ Ok (of_row next y)) (ok-same (kept n f.word f.value) x e) refl
+      subst (λ (y : Attribute). read_as (kept n ((options_frames n ks c).write y).word ((options_frames n ks c).write y).value) ≡ Ok (of_row next y))
+          (ok-same (kept n f.word f.value) x e) refl
 
-  under-options : (b : Bool) (k : List ℕ) (f : Frame) (x : Attribute) → type_of f.word ≡ n → options_by b k f ≡ Ok x → type_of ((options_frames n ks c).write x).word ≡ n
+  under-options : (b : Bool) (k : List ℕ) (f : Frame) (x : Attribute) → type_of f.word ≡ n → options_by b k f ≡ Ok x
+      → type_of ((options_frames n ks c).write x).word ≡ n
   unfolding options_by
   under-options true k f x at e = under-row n n c next parts r under k f x e
   under-options false k f x at e = subst (λ (y : Attribute). type_of ((options_frames n ks c).write y).word ≡ n) (ok-same (kept n f.word f.value) x e) at
@@ -187,7 +209,8 @@ module _ (n : ℕ) (ks : Kinds) (c : Codec (List ℕ) Content) (next : Content �
   typed-options (known m content) t = (t.0, r.typed content t.1)
   typed-options x t = t
 
-  same-options : (x : Attribute) → (options_frames n ks c).Typed x → (options_frames n ks c).Fits x → (options_frames n ks c).write (of_row next x) ≡ (options_frames n ks c).write x → AllByRecursion IsWhole (row_parts parts x)
+  same-options : (x : Attribute) → (options_frames n ks c).Typed x → (options_frames n ks c).Fits x
+      → (options_frames n ks c).write (of_row next x) ≡ (options_frames n ks c).write x → AllByRecursion IsWhole (row_parts parts x)
   same-options (known m content) t f s = r.same content t.1 f (ap (λ (g : Frame). g.value) s)
   same-options x t f s = tt
 
@@ -206,14 +229,16 @@ module _ (n : ℕ) (ks : Kinds) (c : Codec (List ℕ) Content) (next : Content �
 
 -- ---- one of two rows
 
-pub choose_next : (n : ℕ) (b : Bool) (chosen rest : Codec Frame Attribute) (next next' : Content → Content) (parts parts' : Content → List Part) → (b ≡ true → RowNext n chosen next parts) → RowNext n rest next' parts'
+pub choose_next : (n : ℕ) (b : Bool) (chosen rest : Codec Frame Attribute) (next next' : Content → Content) (parts parts' : Content → List Part)
+    → (b ≡ true → RowNext n chosen next parts) → RowNext n rest next' parts'
     → RowNext n (choose b chosen rest) (λ x. cond b (next x) (next' x)) (λ x. cond b (parts x) (parts' x))
 choose_next n true chosen rest next next' parts parts' this that = this refl
 choose_next n false chosen rest next next' parts parts' this that = that
 
 -- ---- a table by the types of its frames
 
-module _ (at : ℕ → Codec Frame Attribute) (Canon : ℕ → IsCanonAt) (laws : (n : ℕ) → RowLaws n (at n) (Canon n)) (next : ℕ → Content → Content) (parts : ℕ → Content → List Part)
+module _ (at : ℕ → Codec Frame Attribute) (Canon : ℕ → IsCanonAt) (laws : (n : ℕ) → RowLaws n (at n) (Canon n)) (next : ℕ → Content → Content)
+    (parts : ℕ → Content → List Part)
     (rows : (n : ℕ) → RowNext n (at n) (next n) (parts n)) where
   same_next : (x : Attribute) → of_row (next (number_of x)) x ≡ in_known next x
   same_next (known n content) = refl
@@ -223,14 +248,16 @@ module _ (at : ℕ → Codec Frame Attribute) (Canon : ℕ → IsCanonAt) (laws 
   same_parts (known n content) = refl
   same_parts x = refl
 
-  settled-table : (k : List ℕ) (f : Frame) (x : Attribute) → IsWireFrame f → (by_type at).read k f ≡ Ok x → (by_type at).Settled k x ↔ AllByRecursion IsSettledPart (parts_in_known parts x)
+  settled-table : (k : List ℕ) (f : Frame) (x : Attribute) → IsWireFrame f → (by_type at).read k f ≡ Ok x
+      → (by_type at).Settled k x ↔ AllByRecursion IsSettledPart (parts_in_known parts x)
   settled-table k f x w e =
       let number = (laws (type_of f.word)).stands k f x refl e in
       let here = (rows (type_of f.word)).settled k f x w refl e in
       subst (λ (ps : List Part). (by_type at).Settled k x ↔ AllByRecursion IsSettledPart ps) (same_parts x)
       (subst (λ (m : ℕ). (at m).Settled k x ↔ AllByRecursion IsSettledPart (row_parts (parts m) x)) (sym number) here)
 
-  again-table : (k : List ℕ) (f : Frame) (x : Attribute) → IsWireFrame f → (by_type at).read k f ≡ Ok x → (by_type at).Fits x → (by_type at).read k ((by_type at).write x) ≡ Ok (in_known next x)
+  again-table : (k : List ℕ) (f : Frame) (x : Attribute) → IsWireFrame f → (by_type at).read k f ≡ Ok x → (by_type at).Fits x
+      → (by_type at).read k ((by_type at).write x) ≡ Ok (in_known next x)
   again-table k f x w e fits =
       let n = type_of f.word in
       let row = rows (type_of f.word) in
@@ -253,7 +280,8 @@ module _ (at : ℕ → Codec Frame Attribute) (Canon : ℕ → IsCanonAt) (laws 
   smaller-table (known n content) = (rows n).smaller (known n content)
   smaller-table x = omega arith
 
-  same-table : (x : Attribute) → (by_type at).Typed x → (by_type at).Fits x → (by_type at).write (in_known next x) ≡ (by_type at).write x → AllByRecursion IsWhole (parts_in_known parts x)
+  same-table : (x : Attribute) → (by_type at).Typed x → (by_type at).Fits x → (by_type at).write (in_known next x) ≡ (by_type at).write x
+      → AllByRecursion IsWhole (parts_in_known parts x)
   same-table (known n content) t f s = (rows n).same (known n content) t f s
   same-table x t f s = tt
 
@@ -262,7 +290,8 @@ module _ (at : ℕ → Codec Frame Attribute) (Canon : ℕ → IsCanonAt) (laws 
   whole-table x all = refl
 
   pub by_type_next : NextLaws IsWireFrame frame_size (by_type at) (in_known next) (parts_in_known parts)
-  by_type_next = record { settled = settled-table; again = again-table; typed = typed-table; fits = fits-table; smaller = smaller-table; same = same-table; whole = whole-table }
+  by_type_next = record { settled = settled-table; again = again-table; typed = typed-table; fits = fits-table; smaller = smaller-table; same = same-table;
+      whole = whole-table }
 
 -- ---- a table whose types all mean the same
 
@@ -273,13 +302,16 @@ module _ (c : Codec (List ℕ) Content) (next : Content → Content) (parts : Co
   twice : (m : ℕ) → m % 0x4000 % 0x4000 ≡ m % 0x4000
   twice m = omega arith
 
-  settled-every : (k : List ℕ) (f : Frame) (x : Attribute) → IsWireFrame f → (every_frame c).read k f ≡ Ok x → (every_frame c).Settled k x ↔ AllByRecursion IsSettledPart (row_parts parts x)
+  settled-every : (k : List ℕ) (f : Frame) (x : Attribute) → IsWireFrame f → (every_frame c).read k f ≡ Ok x
+      → (every_frame c).Settled k x ↔ AllByRecursion IsSettledPart (row_parts parts x)
   settled-every k f x w e =
       let q = seen-ok (known (type_of f.word)) (c.read k f.value) x e in
       let law = r.settled k f.value q.0 (wire_value f w) q.1 in
-      subst (λ (y : Attribute). (every_frame c).Settled k y ↔ AllByRecursion IsSettledPart (row_parts parts y)) q.2 (λ s. law.0 s.1, λ all. (below f.word, law.1 all))
+      subst (λ (y : Attribute). (every_frame c).Settled k y ↔ AllByRecursion IsSettledPart (row_parts parts y)) q.2
+          (λ s. law.0 s.1, λ all. (below f.word, law.1 all))
 
-  again-every : (k : List ℕ) (f : Frame) (x : Attribute) → IsWireFrame f → (every_frame c).read k f ≡ Ok x → (every_frame c).Fits x → (every_frame c).read k ((every_frame c).write x) ≡ Ok (of_row next x)
+  again-every : (k : List ℕ) (f : Frame) (x : Attribute) → IsWireFrame f → (every_frame c).read k f ≡ Ok x → (every_frame c).Fits x
+      → (every_frame c).read k ((every_frame c).write x) ≡ Ok (of_row next x)
   again-every k f x w e fits =
       let q = seen-ok (known (type_of f.word)) (c.read k f.value) x e in
       let fits_there : (every_frame c).Fits (known (type_of f.word) q.0) = subst (every_frame c).Fits (sym q.2) fits in
@@ -299,7 +331,8 @@ module _ (c : Codec (List ℕ) Content) (next : Content → Content) (parts : Co
   smaller-every (known m content) = r.smaller content
   smaller-every x = omega arith
 
-  same-every : (x : Attribute) → (every_frame c).Typed x → (every_frame c).Fits x → (every_frame c).write (of_row next x) ≡ (every_frame c).write x → AllByRecursion IsWhole (row_parts parts x)
+  same-every : (x : Attribute) → (every_frame c).Typed x → (every_frame c).Fits x → (every_frame c).write (of_row next x) ≡ (every_frame c).write x
+      → AllByRecursion IsWhole (row_parts parts x)
   same-every (known m content) t f s = r.same content t.1 f (ap (λ (g : Frame). g.value) s)
   same-every x t f s = tt
 
@@ -308,4 +341,5 @@ module _ (c : Codec (List ℕ) Content) (next : Content → Content) (parts : Co
   whole-every x all = refl
 
   pub every_next : NextLaws IsWireFrame frame_size (every_frame c) (of_row next) (row_parts parts)
-  every_next = record { settled = settled-every; again = again-every; typed = typed-every; fits = fits-every; smaller = smaller-every; same = same-every; whole = whole-every }
+  every_next = record { settled = settled-every; again = again-every; typed = typed-every; fits = fits-every; smaller = smaller-every; same = same-every;
+      whole = whole-every }

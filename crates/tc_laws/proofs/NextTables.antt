@@ -1,5 +1,6 @@
 -- Every class and every table, written and read again: by induction over the tables.
-use Rattle.std.proofs.Common.{◌≡◌, ℕ, zero, suc, ◌+◌, ◌≤◌, Bool, true, false, ◌&&◌, List, [], ◌∷◌, length, map, take, drop, Ok, Err, cond, eqb, ltb, refl, sym, ap, subst, ◌∙◌, arith}
+use Rattle.std.proofs.Common.{◌≡◌, ℕ, zero, suc, ◌+◌, ◌≤◌, Bool, true, false, ◌&&◌, List, [], ◌∷◌, length, map, take, drop, Ok, Err, cond, eqb, ltb, refl, sym,
+    ap, subst, ◌∙◌, arith}
 use Rattle.std.specs.List.{flat_map}
 use Rattle.std.proofs.lemmas.Bool.{and_parts, eqb-true, ltb-false}
 use Rattle.nla_frames.specs.Fault.{read_as, Outcome}
@@ -8,7 +9,8 @@ use Rattle.nla_frames.specs.Reading.{keep}
 use Rattle.nla_frames.specs.Value.{le_value, strip}
 use Rattle.nla_frames.specs.Codec.{IsWireValue, list_codec}
 use Rattle.nla_frames.specs.declared.error.DecodeError.TheVariants.{XstatsShort}
-use Rattle.tc_canon.specs.Descriptor.{Field, little, big, named, octets, pad, Class, le, be, masked, array, raw, text, warning, presence, truth, fields, selector, pair, xstats, list_of, own_list, Table, table, every, by_kind, Rows, others, types, unread, options, Kinds, unknown, kind, is_within}
+use Rattle.tc_canon.specs.Descriptor.{Field, little, big, named, octets, pad, Class, le, be, masked, array, raw, text, warning, presence, truth, fields,
+    selector, pair, xstats, list_of, own_list, Table, table, every, by_kind, Rows, others, types, unread, options, Kinds, unknown, kind, is_within}
 use Rattle.tc_canon.specs.Layouts.{width, fq_codel_qd_stats, fq_codel_cl_stats}
 use Rattle.tc_canon.specs.Canonical.{CanonClass, CanonTable, CanonRows, CanonKinds}
 use Rattle.tc_meaning.specs.Tree.{Scalar, Content, is_bytes, flag, record_of, statistics, unknown_statistics, Attribute, known, kept, other, of_kind}
@@ -58,7 +60,8 @@ settled-record layout k v x e =
     let r = read_record-ok layout v q.0 q.1 in
     subst (λ (y : Content). SettledFields layout (a_record.out y)) q.2 (subst (SettledFields layout) r.1 (settled-read layout v))
 
-settled-statistics : (n : ℕ) (k after value : List ℕ) (x : Content) → is_fq_codel k ≡ true → 4 ≤ length value → le_value (take 4 value) ≡ n → read_statistics n after value ≡ Ok x → xstats_codec.Settled k x
+settled-statistics : (n : ℕ) (k after value : List ℕ) (x : Content) → is_fq_codel k ≡ true → 4 ≤ length value → le_value (take 4 value) ≡ n
+    → read_statistics n after value ≡ Ok x → xstats_codec.Settled k x
 settled-statistics zero k after value x fq long number e =
     let q = seen-ok (statistics 0) (read_record fq_codel_qd_stats after) x e in
     subst (xstats_codec.Settled k) q.2 fq
@@ -72,7 +75,9 @@ settled-statistics (suc (suc n)) k after value x fq long number e =
 pub settled-xstats : (k v : List ℕ) (x : Content) → read_xstats k v ≡ Ok x → xstats_codec.Settled k x
 settled-xstats k v x e = go (is_fq_codel k) refl e
   where
-    go : (b : Bool) → is_fq_codel k ≡ b → cond b (cond (ltb (length v) 4) (Err (XstatsShort (length v))) (read_statistics (le_value (take 4 v)) (drop 4 v) v)) (read_as (is_bytes v)) ≡ Ok x → xstats_codec.Settled k x
+    go : (b : Bool) → is_fq_codel k ≡ b
+        → cond b (cond (ltb (length v) 4) (Err (XstatsShort (length v))) (read_statistics (le_value (take 4 v)) (drop 4 v) v)) (read_as (is_bytes v)) ≡ Ok x
+        → xstats_codec.Settled k x
     go true fq h =
         let r = kept-ok (ltb (length v) 4) (XstatsShort (length v)) (read_statistics (le_value (take 4 v)) (drop 4 v) v) x h in
         settled-statistics (le_value (take 4 v)) k (drop 4 v) v x fq (ltb-false (length v) 4 r.0) refl r.1
@@ -82,7 +87,8 @@ settled-xstats k v x e = go (is_fq_codel k) refl e
 
 -- ---- the kind that an attribute sets is the same afterwards
 
-pub same_kind : (change : List ℕ → List ℕ) (rows : Rows) → starts_with_kind rows ≡ true → (x : Attribute) → kind_of_attribute (in_known (trimmed_rows change rows) x) ≡ kind_of_attribute x
+pub same_kind : (change : List ℕ → List ℕ) (rows : Rows) → starts_with_kind rows ≡ true → (x : Attribute)
+    → kind_of_attribute (in_known (trimmed_rows change rows) x) ≡ kind_of_attribute x
 same_kind change (types first last flags text rows) starts (known zero content) = refl
 same_kind change (types first last flags text rows) starts (known (suc zero) content) = rw starts refl
 same_kind change (types first last flags text rows) starts (known (suc (suc n)) content) = refl
@@ -110,16 +116,20 @@ mutual
   class_next xstats sound = still xstats_codec (CanonClass xstats) (class_laws xstats sound) settled-xstats
   class_next (list_of t) sound =
       next_items (list_codec keep keep (table_codec t)) (map (trimmed_table strip t)) (flat_map (table_parts t))
-      (next_list (table_codec t) (CanonTable t) (table_laws t sound) (trimmed_table strip t) (table_parts t) (table_next t sound) keep keep (λ k f x w e. refl) (λ x. refl))
+      (next_list (table_codec t) (CanonTable t) (table_laws t sound) (trimmed_table strip t) (table_parts t) (table_next t sound) keep keep (λ k f x w e. refl)
+          (λ x. refl))
   class_next (own_list rows) sound =
       let s = and_parts (starts_with_kind rows) (is_sound_rows rows) sound in
       next_items (own_codec (by_type (rows_codec rows))) (map (in_known (trimmed_rows strip rows))) (flat_map (parts_in_known (rows_parts rows)))
-      (next_own (by_type (rows_codec rows)) (λ k f. CanonRows rows (type_of f.word) k f) (by_type_laws (rows_codec rows) (CanonRows rows) (λ n. rows_laws rows s.1 n))
+      (next_own (by_type (rows_codec rows)) (λ k f. CanonRows rows (type_of f.word) k f)
+          (by_type_laws (rows_codec rows) (CanonRows rows) (λ n. rows_laws rows s.1 n))
       (tells_rows rows s.0 (λ n. rows_laws rows s.1 n)) (in_known (trimmed_rows strip rows)) (parts_in_known (rows_parts rows))
-      (by_type_next (rows_codec rows) (CanonRows rows) (λ n. rows_laws rows s.1 n) (trimmed_rows strip rows) (rows_parts rows) (λ n. rows_next rows s.1 n)) (same_kind strip rows s.0))
+      (by_type_next (rows_codec rows) (CanonRows rows) (λ n. rows_laws rows s.1 n) (trimmed_rows strip rows) (rows_parts rows) (λ n. rows_next rows s.1 n))
+          (same_kind strip rows s.0))
 
   pub table_next : (t : Table) → is_sound_table t ≡ true → NextLaws IsWireFrame frame_size (table_codec t) (trimmed_table strip t) (table_parts t)
-  table_next (table rows) sound = by_type_next (rows_codec rows) (CanonRows rows) (λ n. rows_laws rows sound n) (trimmed_rows strip rows) (rows_parts rows) (λ n. rows_next rows sound n)
+  table_next (table rows) sound =
+      by_type_next (rows_codec rows) (CanonRows rows) (λ n. rows_laws rows sound n) (trimmed_rows strip rows) (rows_parts rows) (λ n. rows_next rows sound n)
   table_next (every class) sound = every_next (class_codec class) (trimmed_class strip class) (class_parts class) (class_next class sound)
   table_next (by_kind kinds) sound = kinds_next kinds sound
 
@@ -129,14 +139,17 @@ mutual
       let a = and_parts (is_type last) (are_flags flags && (is_sound_class class && is_sound_rows rows)) sound in
       let b = and_parts (are_flags flags) (is_sound_class class && is_sound_rows rows) a.1 in
       let c = and_parts (is_sound_class class) (is_sound_rows rows) b.1 in
-      choose_next n (is_within first last n) (row_frames (flags + n) n (class_codec class)) (rows_codec rows n) (trimmed_class strip class) (trimmed_rows strip rows n) (class_parts class) (rows_parts rows n)
-      (λ within. row_next (flags + n) n (class_codec class) (trimmed_class strip class) (class_parts class) (class_next class c.0) (row_word first last flags n a.0 b.0 within).under)
+      choose_next n (is_within first last n) (row_frames (flags + n) n (class_codec class)) (rows_codec rows n) (trimmed_class strip class)
+          (trimmed_rows strip rows n) (class_parts class) (rows_parts rows n)
+      (λ within. row_next (flags + n) n (class_codec class) (trimmed_class strip class) (class_parts class) (class_next class c.0)
+          (row_word first last flags n a.0 b.0 within).under)
       (rows_next rows c.1 n)
   rows_next (unread m class rows) sound n =
       let a = and_parts (is_type m) (is_free m rows && (is_sound_class class && is_sound_rows rows)) sound in
       let b = and_parts (is_free m rows) (is_sound_class class && is_sound_rows rows) a.1 in
       let c = and_parts (is_sound_class class) (is_sound_rows rows) b.1 in
-      choose_next n (eqb n m) (unread_frames m (class_codec class)) (rows_codec rows n) (trimmed_class strip class) (trimmed_rows strip rows n) (class_parts class) (rows_parts rows n)
+      choose_next n (eqb n m) (unread_frames m (class_codec class)) (rows_codec rows n) (trimmed_class strip class) (trimmed_rows strip rows n)
+          (class_parts class) (rows_parts rows n)
       (λ same. subst (λ (i : ℕ). RowNext i (unread_frames m (class_codec class)) (trimmed_class strip class) (class_parts class)) (sym (eqb-true n m same))
       (unread_next m (class_codec class) (trimmed_class strip class) (class_parts class) (class_next class c.0) (type_word m a.0).1))
       (rows_next rows c.1 n)
@@ -145,15 +158,20 @@ mutual
       let b = and_parts (is_sound_kinds kinds) (is_sound_rows rows) a.1 in
       let laws = (kinds_laws kinds b.0).laws in
       choose_next n (eqb n m) (options_frames m kinds (via a_list (list_codec keep keep (kinds_codec kinds)))) (rows_codec rows n)
-      (on a_list (map (in_kind (trimmed_kinds strip kinds)))) (trimmed_rows strip rows n) (λ x. flat_map (parts_in_kind (kinds_parts kinds)) (a_list.out x)) (rows_parts rows n)
-      (λ same. subst (λ (i : ℕ). RowNext i (options_frames m kinds (via a_list (list_codec keep keep (kinds_codec kinds)))) (on a_list (map (in_kind (trimmed_kinds strip kinds)))) (λ x. flat_map (parts_in_kind (kinds_parts kinds)) (a_list.out x))) (sym (eqb-true n m same))
-      (options_next m kinds (via a_list (list_codec keep keep (kinds_codec kinds))) (on a_list (map (in_kind (trimmed_kinds strip kinds)))) (λ x. flat_map (parts_in_kind (kinds_parts kinds)) (a_list.out x))
+      (on a_list (map (in_kind (trimmed_kinds strip kinds)))) (trimmed_rows strip rows n) (λ x. flat_map (parts_in_kind (kinds_parts kinds)) (a_list.out x))
+          (rows_parts rows n)
+      (λ same. subst (λ (i : ℕ). RowNext i (options_frames m kinds (via a_list (list_codec keep keep (kinds_codec kinds))))
+          (on a_list (map (in_kind (trimmed_kinds strip kinds)))) (λ x. flat_map (parts_in_kind (kinds_parts kinds)) (a_list.out x))) (sym (eqb-true n m same))
+      (options_next m kinds (via a_list (list_codec keep keep (kinds_codec kinds))) (on a_list (map (in_kind (trimmed_kinds strip kinds))))
+          (λ x. flat_map (parts_in_kind (kinds_parts kinds)) (a_list.out x))
       (next_items (list_codec keep keep (kinds_codec kinds)) (map (in_kind (trimmed_kinds strip kinds))) (flat_map (parts_in_kind (kinds_parts kinds)))
-      (next_list (kinds_codec kinds) (CanonKinds kinds) laws (in_kind (trimmed_kinds strip kinds)) (parts_in_kind (kinds_parts kinds)) (kinds_next kinds b.0) keep keep (λ k f x w e. refl) (λ x. refl)))
+      (next_list (kinds_codec kinds) (CanonKinds kinds) laws (in_kind (trimmed_kinds strip kinds)) (parts_in_kind (kinds_parts kinds))
+          (kinds_next kinds b.0) keep keep (λ k f x w e. refl) (λ x. refl)))
       (type_word m a.0).1))
       (rows_next rows b.1 n)
 
-  pub kinds_next : (kinds : Kinds) → is_sound_kinds kinds ≡ true → NextLaws IsWireFrame frame_size (kinds_codec kinds) (in_kind (trimmed_kinds strip kinds)) (parts_in_kind (kinds_parts kinds))
+  pub kinds_next : (kinds : Kinds) → is_sound_kinds kinds ≡ true
+      → NextLaws IsWireFrame frame_size (kinds_codec kinds) (in_kind (trimmed_kinds strip kinds)) (parts_in_kind (kinds_parts kinds))
   kinds_next unknown sound = unknown_next
   kinds_next (kind name rows kinds) sound =
       let a = and_parts (is_sound_rows rows) (is_sound_kinds kinds) sound in

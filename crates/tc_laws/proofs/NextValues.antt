@@ -1,5 +1,6 @@
 -- Values that are written and read again: as themselves, or with a number masked or one NUL less.
-use Rattle.std.proofs.Common.{◌≡◌, ◌↔◌, ℕ, ◌%◌, ◌^◌, ◌<◌, ◌≤◌, Bool, true, false, not, List, [], ◌∷◌, length, Ok, ltb, refl, sym, ap, subst, ◌∙◌, arith, pow_pos}
+use Rattle.std.proofs.Common.{◌≡◌, ◌↔◌, ℕ, ◌%◌, ◌^◌, ◌<◌, ◌≤◌, Bool, true, false, not, List, [], ◌∷◌, length, Ok, ltb, refl, sym, ap, subst, ◌∙◌, arith,
+    pow_pos}
 use Rattle.std.specs.List.{AllByRecursion}
 use Rattle.std.proofs.lemmas.Bool.{lt-ltb, ltb-true}
 use Rattle.nla_frames.specs.Fault.{seen, read_as}
@@ -38,7 +39,8 @@ pub record NextLaws {W X : Type 0} (IsWire : W → Type 0) (size : W → ℕ) (c
   pub whole : (x : X) → AllByRecursion IsWhole (parts x) → c.write (next x) ≡ c.write x
 
 -- what is always read as something settled stays
-pub still : (c : Codec (List ℕ) Content) (Canon : List ℕ → List ℕ → Type 0) → Laws IsWireValue (short c) Canon → ((k v : List ℕ) (x : Content) → c.read k v ≡ Ok x → c.Settled k x)
+pub still : (c : Codec (List ℕ) Content) (Canon : List ℕ → List ℕ → Type 0) → Laws IsWireValue (short c) Canon
+    → ((k v : List ℕ) (x : Content) → c.read k v ≡ Ok x → c.Settled k x)
     → NextLaws IsWireValue length (short c) (λ x. x) (λ x. [])
 still c Canon laws settled = record {
   settled = λ k v x w e. (λ s. tt, λ all. settled k v x e);
@@ -107,12 +109,15 @@ pub counted : (v : List ℕ) → IsWireValue v → IsWireBytes v
 counted v w = record { are_bytes = w.are_bytes; long = omega (arith, w.short) }
 
 -- a list as a content
-pub next_items : (c : Codec (List ℕ) (List Attribute)) (next : List Attribute → List Attribute) (parts : List Attribute → List Part) → NextLaws IsWireBytes length c next parts
+pub next_items : (c : Codec (List ℕ) (List Attribute)) (next : List Attribute → List Attribute) (parts : List Attribute → List Part)
+    → NextLaws IsWireBytes length c next parts
     → NextLaws IsWireValue length (short (via a_list c)) (on a_list next) (λ x. parts (a_list.out x))
 next_items c next parts r = record {
   settled = λ k v x w e. r.settled k v (a_list.out x) (counted v w) (read_out k v x e);
-  again = λ k v x w e f. ok-seen a_list.into (c.read k (c.write (a_list.out x))) (next (a_list.out x)) (r.again k v (a_list.out x) (counted v w) (read_out k v x e) f.0);
-  typed = λ x t. (ap (λ (xs : List Attribute). a_list.into xs) (again (next (a_list.out x))), subst c.Typed (sym (again (next (a_list.out x)))) (r.typed (a_list.out x) t.1));
+  again = λ k v x w e f. ok-seen a_list.into (c.read k (c.write (a_list.out x))) (next (a_list.out x))
+      (r.again k v (a_list.out x) (counted v w) (read_out k v x e) f.0);
+  typed = λ x t. (ap (λ (xs : List Attribute). a_list.into xs) (again (next (a_list.out x))),
+      subst c.Typed (sym (again (next (a_list.out x)))) (r.typed (a_list.out x) t.1));
   fits = λ x f. (subst c.Fits (sym (again (next (a_list.out x)))) (r.fits (a_list.out x) f.0), short_next x f.1);
   smaller = λ x. rw (again (next (a_list.out x))) (r.smaller (a_list.out x));
   same = λ x t f s. r.same (a_list.out x) t.1 f.0 (ap c.write (sym (again (next (a_list.out x)))) ∙ s);

@@ -58,7 +58,8 @@ module _ {X : Type 0} (reads : Reads X) (kind : List ℕ) where
   turn-exchanged (h ∷ fs) f g gs (x ∷ xs) turn = (turn.0, turn-exchanged fs f g gs xs turn.1)
 
 -- frames in full, with two among them
-InFull-two : (front one two back : List ℕ) (fs : List Frame) (f g : Frame) (gs : List Frame) → InFull front fs → InFull one (f ∷ []) → InFull two (g ∷ []) → InFull back gs
+InFull-two : (front one two back : List ℕ) (fs : List Frame) (f g : Frame) (gs : List Frame) → InFull front fs → InFull one (f ∷ []) → InFull two (g ∷ [])
+    → InFull back gs
     → InFull (front ++ (one ++ (two ++ back))) (fs ++ f ∷ g ∷ gs)
 InFull-two front one two back fs f g gs a b c d =
     InFull-append front (one ++ (two ++ back)) fs (f ∷ g ∷ gs) a
@@ -67,8 +68,10 @@ InFull-two front one two back fs f g gs a b c d =
 -- a list whose kind stays
 list-exchanges : {X : Type 0} (reads : Reads X) (kind : List ℕ) → Exchanges (ListReads reads keep kind)
 list-exchanges reads kind front one two back fs f g gs a b c d xs is =
-    let turn = ReadInTurn-ListReads reads keep kind (front ++ (one ++ (two ++ back))) (fs ++ f ∷ g ∷ gs) (InFull-two front one two back fs f g gs a b c d) xs is in
-    ListReads-ReadInTurn reads keep kind (front ++ (two ++ (one ++ back))) (fs ++ g ∷ f ∷ gs) (InFull-two front two one back fs g f gs a c b d) (exchanged (length fs) xs)
+    let turn = ReadInTurn-ListReads reads keep kind (front ++ (one ++ (two ++ back))) (fs ++ f ∷ g ∷ gs)
+            (InFull-two front one two back fs f g gs a b c d) xs is in
+    ListReads-ReadInTurn reads keep kind (front ++ (two ++ (one ++ back))) (fs ++ g ∷ f ∷ gs) (InFull-two front two one back fs g f gs a c b d)
+        (exchanged (length fs) xs)
     (turn-exchanged reads kind fs f g gs xs turn)
 
 -- ---- lists under their own kind
@@ -94,7 +97,8 @@ OwnReads-InFull reads bytes fs xs full = (from, to)
 
     from : read_own reads bytes ≡ Ok xs → OwnReads reads bytes xs
     from e =
-        let r = then-ok (seen kinds_found (read_list first_look keep [] bytes) >>= only_kind) (λ kind. read_list reads keep kind bytes) xs (sym (read_own-look reads bytes) ∙ e) in
+        let r = then-ok (seen kinds_found (read_list first_look keep [] bytes) >>= only_kind) (λ kind. read_list reads keep kind bytes) xs
+                (sym (read_own-look reads bytes) ∙ e) in
         let q = then-ok (seen kinds_found (read_list first_look keep [] bytes)) only_kind r.0 r.1 in
         let p = seen-ok kinds_found (read_list first_look keep [] bytes) q.0 q.1 in
         record {
@@ -155,8 +159,10 @@ action-attributes kind f x e = let s = seen_list (type_of f.word) (read_own read
 pub action-exchanges : (kind : List ℕ) (word : ℕ) → Exchanges (ReadsAction kind word)
 action-exchanges kind word front one two back fs f g gs a b c d xs is =
     let read = read_own read_action_attribute in
-    let before = OwnReads-InFull read_action_attribute (front ++ (one ++ (two ++ back))) (fs ++ f ∷ g ∷ gs) xs (InFull-two front one two back fs f g gs a b c d) in
-    let after = OwnReads-InFull read_action_attribute (front ++ (two ++ (one ++ back))) (fs ++ g ∷ f ∷ gs) (exchanged (length fs) xs) (InFull-two front two one back fs g f gs a c b d) in
+    let before = OwnReads-InFull read_action_attribute (front ++ (one ++ (two ++ back))) (fs ++ f ∷ g ∷ gs) xs
+            (InFull-two front one two back fs f g gs a b c d) in
+    let after = OwnReads-InFull read_action_attribute (front ++ (two ++ (one ++ back))) (fs ++ g ∷ f ∷ gs) (exchanged (length fs) xs)
+            (InFull-two front two one back fs g f gs a c b d) in
     let own = before.0 ((read_of_seen (type_of word) (read (front ++ (one ++ (two ++ back)))) xs).0 is) in
     (read_of_seen (type_of word) (read (front ++ (two ++ (one ++ back)))) (exchanged (length fs) xs)).1
     (after.1 (own-exchanges read_action_attribute front one two back fs f g gs a b c d xs own))

@@ -121,7 +121,8 @@ module _ (c : Codec (List ℕ) Message) (Canon : List ℕ → Type 0) (laws : La
 
   -- ---- rewriting
 
-  module _ (rewrites : Rewrites) (Reads : List ℕ → Message → Type 0) (reads-is : (bytes : List ℕ) (m : Message) → IsWireBytes bytes → (c.read [] bytes ≡ Ok m) ↔ Reads bytes m)
+  module _ (rewrites : Rewrites) (Reads : List ℕ → Message → Type 0)
+      (reads-is : (bytes : List ℕ) (m : Message) → IsWireBytes bytes → (c.read [] bytes ≡ Ok m) ↔ Reads bytes m)
       (rewrites-is : (bytes written : List ℕ) → rewrites bytes written ↔ ((m : Message) × Reads bytes m × c.Fits m × (written ≡ c.write m))) where
     -- bytes are rewritten in one way at most
     pub rewrites-once : (bytes written written' : List ℕ) → IsWireBytes bytes → rewrites bytes written → rewrites bytes written' → written ≡ written'
@@ -174,7 +175,8 @@ module _ (c : Codec (List ℕ) Message) (Canon : List ℕ → Type 0) (laws : La
     unfolding last
     settles-as bytes m is =
         let there = last-read bytes m is in
-        (last bytes m, record { count = suc (most (parts m)); reached = reached bytes m is (suc (most (parts m))); canonical = last-canon bytes m is }, (reads-is (last bytes m) (norm m) there.wire).0 there.reads)
+        (last bytes m, record { count = suc (most (parts m)); reached = reached bytes m is (suc (most (parts m))); canonical = last-canon bytes m is },
+            (reads-is (last bytes m) (norm m) there.wire).0 there.reads)
 
     -- what bytes settle as is the bytes of the norm, and reads as it
     pub record IsFinal (final : List ℕ) (m : Message) : Type 0 where
@@ -191,7 +193,8 @@ module _ (c : Codec (List ℕ) Message) (Canon : List ℕ → Type 0) (laws : La
         record { reads = ap (c.read []) same ∙ here.reads ∙ ap (λ (y : Message). read_as y) own; whole = ap c.write (sym own) ∙ whole ∙ sym same }
 
     -- two byte lists settle as the same bytes exactly if their readings have the same norm
-    pub same-settled : (bytes bytes' final final' : List ℕ) (m m' : Message) → IsRead bytes m → IsRead bytes' m' → SettlesAs rewrites Canon bytes final → SettlesAs rewrites Canon bytes' final'
+    pub same-settled : (bytes bytes' final final' : List ℕ) (m m' : Message) → IsRead bytes m → IsRead bytes' m' → SettlesAs rewrites Canon bytes final
+        → SettlesAs rewrites Canon bytes' final'
         → (final ≡ final') ↔ (norm m ≡ norm m')
     same-settled bytes bytes' final final' m m' is is' s s' =
         let a = settled-is bytes final m is s in

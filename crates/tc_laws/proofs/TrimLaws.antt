@@ -1,15 +1,18 @@
 -- What one rewriting and all rewritings make of a value: one NUL less at the end of each warning, and none.
-use Rattle.std.proofs.Common.{◌≡◌, ◌⊎◌, ℕ, ◌-◌, ◌%◌, ◌^◌, ◌<◌, ◌≤◌, Bool, true, false, List, [], ◌∷◌, ◌++◌, map, cond, eqb, refl, sym, ap, ap₂, ◌∙◌, arith, inl, inr, pow_pos, mod-eq_of_lt}
+use Rattle.std.proofs.Common.{◌≡◌, ◌⊎◌, ℕ, ◌-◌, ◌%◌, ◌^◌, ◌<◌, ◌≤◌, Bool, true, false, List, [], ◌∷◌, ◌++◌, map, cond, eqb, refl, sym, ap, ap₂, ◌∙◌, arith, inl,
+    inr, pow_pos, mod-eq_of_lt}
 use Rattle.std.specs.List.{flat_map, AllByRecursion}
 use Rattle.std.specs.Str.{bytes_eq}
 use Rattle.std.proofs.lemmas.Bool.{cases_lt, lt-ltb, le-ltb}
 use Rattle.nla_frames.specs.Value.{ends_in_nul, strip}
-use Rattle.tc_canon.specs.Descriptor.{Class, le, be, masked, array, raw, text, warning, presence, truth, fields, selector, pair, xstats, list_of, own_list, Table, table, every, by_kind, Rows, others, types, unread, options, Kinds, unknown, kind, is_within}
+use Rattle.tc_canon.specs.Descriptor.{Class, le, be, masked, array, raw, text, warning, presence, truth, fields, selector, pair, xstats, list_of, own_list,
+    Table, table, every, by_kind, Rows, others, types, unread, options, Kinds, unknown, kind, is_within}
 use Rattle.tc_meaning.specs.Tree.{Content, number, is_bytes, Attribute, known, kept, other, of_kind}
 use Rattle.tc_meaning.specs.Content.{a_number, some_bytes}
 use Rattle.tc_meaning.specs.Meaning.{a_list}
 use Rattle.tc_meaning.specs.Message.{Message}
-use Rattle.tc_laws.specs.Loose.{Part, masked_number, warning_text, parts_in_known, parts_in_kind, class_parts, table_parts, rows_parts, kinds_parts, message_parts, without_nuls, trailing_nuls, part_nuls, greater, greatest}
+use Rattle.tc_laws.specs.Loose.{Part, masked_number, warning_text, parts_in_known, parts_in_kind, class_parts, table_parts, rows_parts, kinds_parts,
+    message_parts, without_nuls, trailing_nuls, part_nuls, greater, greatest}
 use Rattle.tc_laws.specs.Norm.{on, in_known, in_kind, trimmed_class, trimmed_table, trimmed_rows, trimmed_kinds, norm, next}
 use Rattle.tc_meaning.proofs.Trees.{attributes_again}
 use Rattle.tc_laws.proofs.TrailingNuls.{without-strip, without-none, none-ends, ends-none, trailing-strip}
@@ -28,7 +31,8 @@ greater-cases m n = go (cases_lt m n)
 greater-less : (m n : ℕ) → greater (m - 1) (n - 1) ≡ greater m n - 1
 greater-less m n = go (greater-cases m n) (greater-cases (m - 1) (n - 1))
   where
-    go : ((m < n) × (greater m n ≡ n)) ⊎ ((n ≤ m) × (greater m n ≡ m)) → ((m - 1 < n - 1) × (greater (m - 1) (n - 1) ≡ n - 1)) ⊎ ((n - 1 ≤ m - 1) × (greater (m - 1) (n - 1) ≡ m - 1))
+    go : ((m < n) × (greater m n ≡ n)) ⊎ ((n ≤ m) × (greater m n ≡ m))
+        → ((m - 1 < n - 1) × (greater (m - 1) (n - 1) ≡ n - 1)) ⊎ ((n - 1 ≤ m - 1) × (greater (m - 1) (n - 1) ≡ m - 1))
         → greater (m - 1) (n - 1) ≡ greater m n - 1
     go (inl a) (inl b) = omega (arith, a.0, a.1, b.0, b.1)
     go (inl a) (inr b) = omega (arith, a.0, a.1, b.0, b.1)
@@ -46,7 +50,8 @@ greater-nothing n = go (greater-cases n 0)
 greater-again : (k m n : ℕ) → greater k (greater m n) ≡ greater (greater k m) n
 greater-again k m n = go (greater-cases m n) (greater-cases k m)
   where
-    go : ((m < n) × (greater m n ≡ n)) ⊎ ((n ≤ m) × (greater m n ≡ m)) → ((k < m) × (greater k m ≡ m)) ⊎ ((m ≤ k) × (greater k m ≡ k)) → greater k (greater m n) ≡ greater (greater k m) n
+    go : ((m < n) × (greater m n ≡ n)) ⊎ ((n ≤ m) × (greater m n ≡ m)) → ((k < m) × (greater k m ≡ m)) ⊎ ((m ≤ k) × (greater k m ≡ k))
+        → greater k (greater m n) ≡ greater (greater k m) n
     go (inl a) (inl b) = rw (a.1, b.1, a.1) (rw (lt-ltb k n (omega (arith, a.0, b.0))) refl)
     go (inl a) (inr b) = rw (a.1, b.1) refl
     go (inr a) (inl b) = rw (a.1, b.1, a.1) refl
@@ -83,7 +88,9 @@ most-whole (p ∷ ps) e = go (λ h. most-whole ps h) (greater-cases (part_nuls p
     one (masked_number bits x) h = tt
     one (warning_text t) h = ends-none t h
 
-    go : (most ps ≡ 0 → AllByRecursion IsWhole ps) → ((part_nuls p < most ps) × (greater (part_nuls p) (most ps) ≡ most ps)) ⊎ ((most ps ≤ part_nuls p) × (greater (part_nuls p) (most ps) ≡ part_nuls p)) → AllByRecursion IsWhole (p ∷ ps)
+    go : (most ps ≡ 0 → AllByRecursion IsWhole ps)
+        → ((part_nuls p < most ps) × (greater (part_nuls p) (most ps) ≡ most ps)) ⊎ ((most ps ≤ part_nuls p) × (greater (part_nuls p) (most ps) ≡ part_nuls p))
+        → AllByRecursion IsWhole (p ∷ ps)
     go rest (inl a) = absurd (omega (arith, a.0, a.1, e))
     go rest (inr a) = (one p (omega (arith, a.1, e)), rest (omega (arith, a.0, a.1, e)))
 
@@ -126,7 +133,8 @@ warning_trim : TrimLaws (on some_bytes strip) (on some_bytes without_nuls) (λ x
 warning_trim = record {
   once = λ x w. ap is_bytes (strip-none (some_bytes.out x) w.0 ∙ sym (without-none (some_bytes.out x) w.0));
   twice = λ x. ap is_bytes (without-strip (some_bytes.out x));
-  left = λ x. let t = some_bytes.out x in greater-nothing (trailing_nuls (strip t)) ∙ trailing-strip t ∙ ap (λ (n : ℕ). n - 1) (sym (greater-nothing (trailing_nuls t)));
+  left = λ x. let t = some_bytes.out x in
+      greater-nothing (trailing_nuls (strip t)) ∙ trailing-strip t ∙ ap (λ (n : ℕ). n - 1) (sym (greater-nothing (trailing_nuls t)));
 }
 
 -- each of a list
@@ -158,7 +166,8 @@ items_trim one all parts laws =
     let each = each_trim one all parts laws in
     record {
       once = λ x w. ap a_list.into (each.once (a_list.out x) w);
-      twice = λ x. ap (λ (xs : List Attribute). a_list.into (map all xs)) (attributes_again (map one (a_list.out x))) ∙ ap a_list.into (each.twice (a_list.out x));
+      twice = λ x. ap (λ (xs : List Attribute). a_list.into (map all xs)) (attributes_again (map one (a_list.out x)))
+          ∙ ap a_list.into (each.twice (a_list.out x));
       left = λ x. ap (λ (xs : List Attribute). most (flat_map parts xs)) (attributes_again (map one (a_list.out x))) ∙ each.left (a_list.out x);
     }
 
@@ -168,7 +177,8 @@ pick_trim : {X : Type 0} (b : Bool) (one all one' all' : X → X) (parts parts' 
 pick_trim true one all one' all' parts parts' this that = this
 pick_trim false one all one' all' parts parts' this that = that
 
-known_trim : (one all : ℕ → Content → Content) (parts : ℕ → Content → List Part) → ((n : ℕ) → TrimLaws (one n) (all n) (parts n)) → TrimLaws (in_known one) (in_known all) (parts_in_known parts)
+known_trim : (one all : ℕ → Content → Content) (parts : ℕ → Content → List Part) → ((n : ℕ) → TrimLaws (one n) (all n) (parts n))
+    → TrimLaws (in_known one) (in_known all) (parts_in_known parts)
 known_trim one all parts laws = record { once = once_known; twice = twice_known; left = left_known }
   where
     once_known : (x : Attribute) → AllByRecursion IsWhole (parts_in_known parts x) → in_known one x ≡ in_known all x
@@ -189,7 +199,8 @@ known_trim one all parts laws = record { once = once_known; twice = twice_known;
     left_known (other word value) = refl
     left_known (of_kind name x) = refl
 
-kind_trim : (one all : List ℕ → Attribute → Attribute) (parts : List ℕ → Attribute → List Part) → ((name : List ℕ) → TrimLaws (one name) (all name) (parts name))
+kind_trim : (one all : List ℕ → Attribute → Attribute) (parts : List ℕ → Attribute → List Part)
+    → ((name : List ℕ) → TrimLaws (one name) (all name) (parts name))
     → TrimLaws (in_kind one) (in_kind all) (parts_in_kind parts)
 kind_trim one all parts laws = record { once = once_kind; twice = twice_kind; left = left_kind }
   where
@@ -228,29 +239,36 @@ mutual
   class_trims xstats = same_trim
   class_trims (list_of t) = items_trim (trimmed_table strip t) (trimmed_table without_nuls t) (table_parts t) (table_trims t)
   class_trims (own_list rows) =
-      items_trim (in_known (trimmed_rows strip rows)) (in_known (trimmed_rows without_nuls rows)) (parts_in_known (rows_parts rows)) (known_trim (trimmed_rows strip rows) (trimmed_rows without_nuls rows) (rows_parts rows) (λ n. rows_trims rows n))
+      items_trim (in_known (trimmed_rows strip rows)) (in_known (trimmed_rows without_nuls rows)) (parts_in_known (rows_parts rows))
+          (known_trim (trimmed_rows strip rows) (trimmed_rows without_nuls rows) (rows_parts rows) (λ n. rows_trims rows n))
 
   pub table_trims : (t : Table) → TrimLaws (trimmed_table strip t) (trimmed_table without_nuls t) (table_parts t)
   table_trims (table rows) = known_trim (trimmed_rows strip rows) (trimmed_rows without_nuls rows) (rows_parts rows) (λ n. rows_trims rows n)
-  table_trims (every class) = known_trim (λ n. trimmed_class strip class) (λ n. trimmed_class without_nuls class) (λ n. class_parts class) (λ n. class_trims class)
+  table_trims (every class) = known_trim (λ n. trimmed_class strip class) (λ n. trimmed_class without_nuls class) (λ n. class_parts class)
+      (λ n. class_trims class)
   table_trims (by_kind kinds) = kind_trim (trimmed_kinds strip kinds) (trimmed_kinds without_nuls kinds) (kinds_parts kinds) (λ name. kinds_trims kinds name)
 
   rows_trims : (rows : Rows) (n : ℕ) → TrimLaws (trimmed_rows strip rows n) (trimmed_rows without_nuls rows n) (rows_parts rows n)
   rows_trims others n = same_trim
   rows_trims (types first last flags class rows) n =
-      pick_trim (is_within first last n) (trimmed_class strip class) (trimmed_class without_nuls class) (trimmed_rows strip rows n) (trimmed_rows without_nuls rows n) (class_parts class) (rows_parts rows n) (class_trims class) (rows_trims rows n)
+      pick_trim (is_within first last n) (trimmed_class strip class) (trimmed_class without_nuls class) (trimmed_rows strip rows n)
+          (trimmed_rows without_nuls rows n) (class_parts class) (rows_parts rows n) (class_trims class) (rows_trims rows n)
   rows_trims (unread m class rows) n =
-      pick_trim (eqb n m) (trimmed_class strip class) (trimmed_class without_nuls class) (trimmed_rows strip rows n) (trimmed_rows without_nuls rows n) (class_parts class) (rows_parts rows n) (class_trims class) (rows_trims rows n)
+      pick_trim (eqb n m) (trimmed_class strip class) (trimmed_class without_nuls class) (trimmed_rows strip rows n) (trimmed_rows without_nuls rows n)
+          (class_parts class) (rows_parts rows n) (class_trims class) (rows_trims rows n)
   rows_trims (options m kinds rows) n =
-      pick_trim (eqb n m) (on a_list (map (in_kind (trimmed_kinds strip kinds)))) (on a_list (map (in_kind (trimmed_kinds without_nuls kinds)))) (trimmed_rows strip rows n) (trimmed_rows without_nuls rows n)
+      pick_trim (eqb n m) (on a_list (map (in_kind (trimmed_kinds strip kinds)))) (on a_list (map (in_kind (trimmed_kinds without_nuls kinds))))
+          (trimmed_rows strip rows n) (trimmed_rows without_nuls rows n)
       (λ x. flat_map (parts_in_kind (kinds_parts kinds)) (a_list.out x)) (rows_parts rows n)
-      (items_trim (in_kind (trimmed_kinds strip kinds)) (in_kind (trimmed_kinds without_nuls kinds)) (parts_in_kind (kinds_parts kinds)) (kind_trim (trimmed_kinds strip kinds) (trimmed_kinds without_nuls kinds) (kinds_parts kinds) (λ name. kinds_trims kinds name)))
+      (items_trim (in_kind (trimmed_kinds strip kinds)) (in_kind (trimmed_kinds without_nuls kinds)) (parts_in_kind (kinds_parts kinds))
+          (kind_trim (trimmed_kinds strip kinds) (trimmed_kinds without_nuls kinds) (kinds_parts kinds) (λ name. kinds_trims kinds name)))
       (rows_trims rows n)
 
   kinds_trims : (kinds : Kinds) (name : List ℕ) → TrimLaws (trimmed_kinds strip kinds name) (trimmed_kinds without_nuls kinds name) (kinds_parts kinds name)
   kinds_trims unknown name = record { once = λ x w. refl; twice = λ x. refl; left = λ x. refl }
   kinds_trims (kind own rows kinds) name =
-      pick_trim (bytes_eq name own) (in_known (trimmed_rows strip rows)) (in_known (trimmed_rows without_nuls rows)) (trimmed_kinds strip kinds name) (trimmed_kinds without_nuls kinds name) (parts_in_known (rows_parts rows)) (kinds_parts kinds name)
+      pick_trim (bytes_eq name own) (in_known (trimmed_rows strip rows)) (in_known (trimmed_rows without_nuls rows)) (trimmed_kinds strip kinds name)
+          (trimmed_kinds without_nuls kinds name) (parts_in_known (rows_parts rows)) (kinds_parts kinds name)
       (known_trim (trimmed_rows strip rows) (trimmed_rows without_nuls rows) (rows_parts rows) (λ n. rows_trims rows n)) (kinds_trims kinds name)
 
 -- ---- of a message

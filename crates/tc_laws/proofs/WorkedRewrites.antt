@@ -74,7 +74,8 @@ a_nul_at_its_end_is_loose = refl
 a_nul_within_is_not : is_loose_act (act (warning_of (hex (codes "610062")) ∷ [])) ≡ false
 a_nul_within_is_not = refl
 
-all_nuls_go : norm_act (act (warning_of (hex (codes "6100620000")) ∷ warning_of (hex (codes "000000")) ∷ [])) ≡ act (warning_of (hex (codes "610062")) ∷ warning_of [] ∷ [])
+all_nuls_go : norm_act (act (warning_of (hex (codes "6100620000")) ∷ warning_of (hex (codes "000000")) ∷ []))
+    ≡ act (warning_of (hex (codes "610062")) ∷ warning_of [] ∷ [])
 all_nuls_go = refl
 
 -- in a traffic control message a text that ends in NUL is no warning

@@ -38,7 +38,8 @@ pub record SettlesAs (rewrites : Rewrites) (Canon : List ℕ → Type 0) (bytes 
   pub canonical : Canon final
 
 -- after so many rewrites, and no sooner, the bytes are canonical, and they read as this message
-pub record SettlesIn (rewrites : Rewrites) (Canon : List ℕ → Type 0) (Reads : List ℕ → Message → Type 0) (count : ℕ) (bytes : List ℕ) (m : Message) : Type 0 where
+pub record SettlesIn (rewrites : Rewrites) (Canon : List ℕ → Type 0) (Reads : List ℕ → Message → Type 0) (count : ℕ) (bytes : List ℕ)
+    (m : Message) : Type 0 where
   pub final : List ℕ
   pub reached : Times rewrites count bytes final
   pub canonical : Canon final
@@ -52,7 +53,8 @@ abbrev pub ActSettlesIn : ℕ → List ℕ → Message → Type 0
 ActSettlesIn = SettlesIn RewritesAct CanonAct ReadsAct
 
 -- the bytes read as this message, which fits, and by rewriting they end as those
-pub record EndsWith (sets : Sets Frame) (layout : List Field) (rows : Rows) (Canon : List ℕ → Type 0) (bytes : List ℕ) (m : Message) (final : List ℕ) : Type 0 where
+pub record EndsWith (sets : Sets Frame) (layout : List Field) (rows : Rows) (Canon : List ℕ → Type 0) (bytes : List ℕ) (m : Message)
+    (final : List ℕ) : Type 0 where
   pub reads : ReadsWith sets layout rows bytes m
   pub fits : FitsMessage layout rows m
   pub settles : SettlesAs (RewritesWith sets layout rows) Canon bytes final

@@ -14,20 +14,23 @@ use Rattle.tc_meaning.specs.Tree.{Attribute}
 use Rattle.tc_meaning.specs.Own.{kind_of_frame, kind_of_attribute}
 use Rattle.tc_meaning.specs.Sound.{is_sound_rows}
 use Rattle.tc_meaning.specs.Meaning.{table_codec}
-use Rattle.tc_meaning.specs.Message.{Message, ReadsWith, read_with, message_bytes, FitsMessage, TypedMessage, SettledWith, SettledByPlace, OneMessage, CanonWith, message_codec}
+use Rattle.tc_meaning.specs.Message.{Message, ReadsWith, read_with, message_bytes, FitsMessage, TypedMessage, SettledWith, SettledByPlace, OneMessage,
+    CanonWith, message_codec}
 use Rattle.tc_meaning.proofs.Outcomes.{ok-same}
 use Rattle.tc_meaning.proofs.OwnLaws.{TellsKind}
 use Rattle.tc_meaning.proofs.NoMemory.{message-memory}
 use Rattle.nla_frames.specs.declared.error.DecodeError.TheVariants.{OutOfMemory}
 use Rattle.tc_meaning.proofs.TableLaws.{table_laws, rows_laws, tells_rows}
-use Rattle.tc_meaning.specs.Whole.{FaultTc, FaultAct, ReadsTc, read_tc, tc_bytes, TypedTc, FitsTc, SettledTc, ReadsAct, read_act, act_bytes, TypedAct, FitsAct, SettledAct}
+use Rattle.tc_meaning.specs.Whole.{FaultTc, FaultAct, ReadsTc, read_tc, tc_bytes, TypedTc, FitsTc, SettledTc, ReadsAct, read_act, act_bytes, TypedAct, FitsAct,
+    SettledAct}
 use Rattle.nla_frames.proofs.Bytes.{IsBytes-slice}
 use Rattle.tc_meaning.proofs.MessageLaws.{one_message, message_laws}
 
 -- ---- for any table
 
 -- settled as the list runs, and place by place
-pub settled-places : (layout : List Field) (rows : Rows) (sets : Sets Attribute) (m : Message) → SettledWith layout rows sets m ↔ SettledByPlace layout rows sets m
+pub settled-places : (layout : List Field) (rows : Rows) (sets : Sets Attribute) (m : Message)
+    → SettledWith layout rows sets m ↔ SettledByPlace layout rows sets m
 settled-places layout rows sets m =
     let law = each-at_each (table_codec (table rows)).Settled sets [] m.body in
     (λ s. record { header = s.header; body = law.0 s.body }, λ s. record { header = s.header; body = law.1 s.body })
@@ -35,7 +38,8 @@ settled-places layout rows sets m =
 module _ (by_frame : Sets Frame) (by_value : Sets Attribute) (layout : List Field) (rows : Rows)
     (laws : Laws IsWireBytes (message_codec by_frame by_value layout rows) (λ kind bytes. CanonWith by_frame layout rows bytes)) where
   -- what fits reads back exactly if it is settled
-  pub back : (m : Message) → TypedMessage layout rows m → FitsMessage layout rows m → ReadsWith by_frame layout rows (message_bytes layout rows m) m ↔ SettledWith layout rows by_value m
+  pub back : (m : Message) → TypedMessage layout rows m → FitsMessage layout rows m
+      → ReadsWith by_frame layout rows (message_bytes layout rows m) m ↔ SettledWith layout rows by_value m
   back m t f =
       let one = (one_message by_frame layout rows (message_bytes layout rows m) (laws.makes m t f).are_bytes).reading m in
       let law = laws.back [] m t f in
@@ -51,11 +55,13 @@ module _ (by_frame : Sets Frame) (by_value : Sets Attribute) (layout : List Fiel
     typed m g = laws.typed [] bytes m w ((one.reading m).1 g)
 
     -- what is read and fits comes back as the same bytes exactly if they were canonical
-    pub same : (m : Message) → ReadsWith by_frame layout rows bytes m → FitsMessage layout rows m → (message_bytes layout rows m ≡ bytes) ↔ CanonWith by_frame layout rows bytes
+    pub same : (m : Message) → ReadsWith by_frame layout rows bytes m → FitsMessage layout rows m
+        → (message_bytes layout rows m ≡ bytes) ↔ CanonWith by_frame layout rows bytes
     same m g f = laws.same [] bytes m w ((one.reading m).1 g) f
 
     -- canonical bytes are read, as a value that fits and is settled
-    pub canonical : CanonWith by_frame layout rows bytes → (m : Message) × ReadsWith by_frame layout rows bytes m × FitsMessage layout rows m × SettledWith layout rows by_value m
+    pub canonical : CanonWith by_frame layout rows bytes
+        → (m : Message) × ReadsWith by_frame layout rows bytes m × FitsMessage layout rows m × SettledWith layout rows by_value m
     canonical c =
         let r = laws.reads [] bytes w c in
         let t = laws.typed [] bytes r.0 w r.1 in
@@ -63,13 +69,15 @@ module _ (by_frame : Sets Frame) (by_value : Sets Attribute) (layout : List Fiel
         (r.0, (one.reading r.0).0 r.1, r.2, (laws.back [] r.0 t r.2).0 (ap (read_with by_frame layout rows) whole ∙ r.1))
 
   -- the bytes of what is settled and fits are canonical
-  pub settled : (m : Message) → TypedMessage layout rows m → FitsMessage layout rows m → SettledWith layout rows by_value m → CanonWith by_frame layout rows (message_bytes layout rows m)
+  pub settled : (m : Message) → TypedMessage layout rows m → FitsMessage layout rows m → SettledWith layout rows by_value m
+      → CanonWith by_frame layout rows (message_bytes layout rows m)
   settled m t f s =
       let wire = laws.makes m t f in
       (laws.same [] (message_bytes layout rows m) m wire ((laws.back [] m t f).1 s) f).0 refl
 
   -- settled values with the same bytes are the same
-  pub equal : (m n : Message) → TypedMessage layout rows m → FitsMessage layout rows m → SettledWith layout rows by_value m → TypedMessage layout rows n → FitsMessage layout rows n → SettledWith layout rows by_value n
+  pub equal : (m n : Message) → TypedMessage layout rows m → FitsMessage layout rows m → SettledWith layout rows by_value m → TypedMessage layout rows n
+      → FitsMessage layout rows n → SettledWith layout rows by_value n
       → message_bytes layout rows m ≡ message_bytes layout rows n → m ≡ n
   equal m n tm fm sm tn fn sn same_bytes =
       let is_m = (laws.back [] m tm fm).1 sm in
@@ -79,7 +87,8 @@ module _ (by_frame : Sets Frame) (by_value : Sets Attribute) (layout : List Fiel
 -- canonical as the list runs is settled in another word
 canon-settled : (Canon : IsCanonAt) (sets : Sets Frame) (first : List ℕ) (fs : List Frame) → CanonEach Canon sets first fs ↔ SettledEach Canon sets first fs
 canon-settled Canon sets first [] = (λ c. tt, λ c. tt)
-canon-settled Canon sets first (f ∷ fs) = let others = canon-settled Canon sets (kind_then sets first f) fs in (λ c. (c.0, others.0 c.1), λ c. (c.0, others.1 c.1))
+canon-settled Canon sets first (f ∷ fs) = let others = canon-settled Canon sets (kind_then sets first f) fs in
+    (λ c. (c.0, others.0 c.1), λ c. (c.0, others.1 c.1))
 
 -- canonical as the list runs, and place by place
 pub canon-places : (Canon : IsCanonAt) (sets : Sets Frame) (first bytes : List ℕ) → IsCanonList Canon sets first bytes ↔ IsCanonAtEach Canon sets first bytes
@@ -122,12 +131,16 @@ pub tells_attributes : TellsKind (table_codec (table attributes))
 tells_attributes = tells_rows attributes refl (λ n. rows_laws attributes sound_attributes n)
 
 -- the laws of a traffic control message
-pub tc_laws : Laws IsWireBytes (message_codec kind_of_frame kind_of_attribute tc_header attributes) (λ kind bytes. CanonWith kind_of_frame tc_header attributes bytes)
-tc_laws = message_laws kind_of_frame kind_of_attribute tc_header attributes (table_laws (table attributes) sound_attributes) (λ kind f x w e. tells_attributes.agree kind f x e)
+pub tc_laws : Laws IsWireBytes (message_codec kind_of_frame kind_of_attribute tc_header attributes)
+    (λ kind bytes. CanonWith kind_of_frame tc_header attributes bytes)
+tc_laws = message_laws kind_of_frame kind_of_attribute tc_header attributes (table_laws (table attributes) sound_attributes)
+    (λ kind f x w e. tells_attributes.agree kind f x e)
 
 -- the laws of an action message
-pub act_laws : Laws IsWireBytes (message_codec keep keep action_message_header action_message_attributes) (λ kind bytes. CanonWith keep action_message_header action_message_attributes bytes)
-act_laws = message_laws keep keep action_message_header action_message_attributes (table_laws (table action_message_attributes) sound_actions) (λ kind f x w e. refl)
+pub act_laws : Laws IsWireBytes (message_codec keep keep action_message_header action_message_attributes)
+    (λ kind bytes. CanonWith keep action_message_header action_message_attributes bytes)
+act_laws = message_laws keep keep action_message_header action_message_attributes (table_laws (table action_message_attributes) sound_actions)
+    (λ kind f x w e. refl)
 
 -- the canonical grammars in their own words
 pub canon-tc : (bytes : List ℕ) → CanonWith kind_of_frame tc_header attributes bytes ↔ CanonTc bytes

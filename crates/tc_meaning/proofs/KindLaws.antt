@@ -39,15 +39,18 @@ unknown_kind Canon all = record {
     typed_raw : (k : List ℕ) (f : Frame) (x : Attribute) → IsWireFrame f → read_as (other f.word f.value) ≡ Ok x → raw_frames.Typed x
     typed_raw k f x w e = subst raw_frames.Typed (ok-same (other f.word f.value) x e) (w.frame.word, w.bytes)
 
-    back_raw : (k : List ℕ) (x : Attribute) → raw_frames.Typed x → raw_frames.Fits x → (read_as (other (as_it_stands x).word (as_it_stands x).value) ≡ Ok x) ↔ Unit {0}
+    back_raw : (k : List ℕ) (x : Attribute) → raw_frames.Typed x → raw_frames.Fits x
+        → (read_as (other (as_it_stands x).word (as_it_stands x).value) ≡ Ok x) ↔ Unit {0}
     back_raw k (other word value) t f = (λ e. tt, λ s. refl)
     back_raw k x t f = elim t [ ]
 
-    same_raw : (k : List ℕ) (f : Frame) (x : Attribute) → IsWireFrame f → read_as (other f.word f.value) ≡ Ok x → raw_frames.Fits x → (as_it_stands x ≡ f) ↔ Canon k f
+    same_raw : (k : List ℕ) (f : Frame) (x : Attribute) → IsWireFrame f → read_as (other f.word f.value) ≡ Ok x → raw_frames.Fits x
+        → (as_it_stands x ≡ f) ↔ Canon k f
     same_raw k f x w e fits = (λ s. all k f, λ c. ap as_it_stands (sym (ok-same (other f.word f.value) x e)))
 
 -- a kind before the others
-module _ (name : List ℕ) (own rest : Codec Frame Attribute) (CanonOwn CanonRest : IsCanonAt) (own_laws : Laws IsWireFrame own CanonOwn) (rest_laws : KindLaws rest CanonRest) where
+module _ (name : List ℕ) (own rest : Codec Frame Attribute) (CanonOwn CanonRest : IsCanonAt) (own_laws : Laws IsWireFrame own CanonOwn)
+    (rest_laws : KindLaws rest CanonRest) where
   -- of another kind, or of none
   abbrev IsElsewhere : Attribute → Type 0
   IsElsewhere (of_kind m x) = bytes_eq m name ≡ false
@@ -94,14 +97,16 @@ module _ (name : List ℕ) (own rest : Codec Frame Attribute) (CanonOwn CanonRes
   makes-kind : (x : Attribute) → (kind_frames name own rest).Typed x → (kind_frames name own rest).Fits x → IsWireFrame ((kind_frames name own rest).write x)
   makes-kind (of_kind m x) t f = go (bytes_eq m name) t f
     where
-      go : (b : Bool) → MatchBool b (own.Typed x) (rest.Typed (of_kind m x)) → MatchBool b (own.Fits x) (rest.Fits (of_kind m x)) → IsWireFrame (cond b (own.write x) (rest.write (of_kind m x)))
+      go : (b : Bool) → MatchBool b (own.Typed x) (rest.Typed (of_kind m x)) → MatchBool b (own.Fits x) (rest.Fits (of_kind m x))
+          → IsWireFrame (cond b (own.write x) (rest.write (of_kind m x)))
       go true t f = own_laws.makes x t f
       go false t f = rest_laws.laws.makes (of_kind m x) t f
   makes-kind (known n content) t f = rest_laws.laws.makes (known n content) t f
   makes-kind (kept n word value) t f = rest_laws.laws.makes (kept n word value) t f
   makes-kind (other word value) t f = rest_laws.laws.makes (other word value) t f
 
-  typed-kind : (b : Bool) (k : List ℕ) (f : Frame) (x : Attribute) → bytes_eq k name ≡ b → IsWireFrame f → kind_by b k f ≡ Ok x → (kind_frames name own rest).Typed x
+  typed-kind : (b : Bool) (k : List ℕ) (f : Frame) (x : Attribute) → bytes_eq k name ≡ b → IsWireFrame f → kind_by b k f ≡ Ok x
+      → (kind_frames name own rest).Typed x
   unfolding kind_by
   typed-kind true k f x h w e =
       let r = seen-ok (of_kind name) (own.read k f) x e in
@@ -109,8 +114,10 @@ module _ (name : List ℕ) (own rest : Codec Frame Attribute) (CanonOwn CanonRes
   typed-kind false k f x h w e = typed-rest x (read-elsewhere k f x h e) (rest_laws.laws.typed k f x w e)
 
   -- an attribute of a kind reads back, or not
-  back-of_kind : (b d : Bool) (k m : List ℕ) (x : Attribute) → bytes_eq k name ≡ b → bytes_eq m name ≡ d → MatchBool d (own.Typed x) (rest.Typed (of_kind m x)) → MatchBool d (own.Fits x) (rest.Fits (of_kind m x))
-      → (kind_by b k (cond d (own.write x) (rest.write (of_kind m x))) ≡ Ok (of_kind m x)) ↔ MatchBool d ((bytes_eq k name ≡ true) × own.Settled k x) (rest.Settled k (of_kind m x))
+  back-of_kind : (b d : Bool) (k m : List ℕ) (x : Attribute) → bytes_eq k name ≡ b → bytes_eq m name ≡ d → MatchBool d (own.Typed x) (rest.Typed (of_kind m x))
+      → MatchBool d (own.Fits x) (rest.Fits (of_kind m x))
+      → (kind_by b k (cond d (own.write x) (rest.write (of_kind m x))) ≡ Ok (of_kind m x))
+          ↔ MatchBool d ((bytes_eq k name ≡ true) × own.Settled k x) (rest.Settled k (of_kind m x))
   unfolding kind_by
   back-of_kind true true k m x kb md t f = (from, to)
     where
@@ -121,7 +128,8 @@ module _ (name : List ℕ) (own rest : Codec Frame Attribute) (CanonOwn CanonRes
           (kb, (own_laws.back k x t f).0 (r.1 ∙ ap (λ (y : Attribute). read_as y) same))
 
       to : (bytes_eq k name ≡ true) × own.Settled k x → seen (of_kind name) (own.read k (own.write x)) ≡ Ok (of_kind m x)
-      to s = ok-seen (of_kind name) (own.read k (own.write x)) x ((own_laws.back k x t f).1 s.1) ∙ ap (λ (i : List ℕ). read_as (of_kind i x)) (sym (bytes_eq-is m name md))
+      to s = ok-seen (of_kind name) (own.read k (own.write x)) x ((own_laws.back k x t f).1 s.1)
+          ∙ ap (λ (i : List ℕ). read_as (of_kind i x)) (sym (bytes_eq-is m name md))
   back-of_kind false true k m x kb md t f = (
     (λ e.
         let same = rest_laws.reads_kind k (own.write x) m x e in
@@ -160,7 +168,8 @@ module _ (name : List ℕ) (own rest : Codec Frame Attribute) (CanonOwn CanonRes
   back-kind k (kept n word value) t f = back-plain (bytes_eq k name) k (kept n word value) (λ y e. cc e) t f
   back-kind k (other word value) t f = back-plain (bytes_eq k name) k (other word value) (λ y e. cc e) t f
 
-  same-kind : (b : Bool) (k : List ℕ) (f : Frame) (x : Attribute) → bytes_eq k name ≡ b → IsWireFrame f → kind_by b k f ≡ Ok x → (kind_frames name own rest).Fits x
+  same-kind : (b : Bool) (k : List ℕ) (f : Frame) (x : Attribute) → bytes_eq k name ≡ b → IsWireFrame f → kind_by b k f ≡ Ok x
+      → (kind_frames name own rest).Fits x
       → ((kind_frames name own rest).write x ≡ f) ↔ MatchBool b (CanonOwn k f) (CanonRest k f)
   unfolding kind_by
   same-kind true k f x h w e fits =

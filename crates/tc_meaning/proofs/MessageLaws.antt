@@ -1,5 +1,6 @@
 -- The laws of whole messages.
-use Rattle.std.proofs.Common.{◌≡◌, ◌⊎◌, ◌↔◌, ℕ, ◌+◌, ◌<◌, ◌≤◌, List, [], ◌++◌, length, take, drop, Ok, Err, ltb, refl, sym, ap, ap₂, subst, ◌∙◌, arith, inl, inr}
+use Rattle.std.proofs.Common.{◌≡◌, ◌⊎◌, ◌↔◌, ℕ, ◌+◌, ◌<◌, ◌≤◌, List, [], ◌++◌, length, take, drop, Ok, Err, ltb, refl, sym, ap, ap₂, subst, ◌∙◌, arith, inl,
+    inr}
 use Rattle.std.proofs.lemmas.List.{length-append, length-drop, length-take-le, take_at, drop_at, take-append-drop, append-nil, length-take}
 use Rattle.std.proofs.lemmas.Bool.{ltb-false, lt-ltb, le-ltb, cases_lt}
 use Rattle.nla_frames.specs.declared.error.DecodeError.{DecodeError}
@@ -22,7 +23,8 @@ use Rattle.tc_canon.specs.Canonical.{CanonFields, CanonTable}
 use Rattle.tc_meaning.specs.Tree.{Scalar, Attribute}
 use Rattle.tc_meaning.specs.Layout.{read_fields, fields_bytes, TypedFields, SettledFields}
 use Rattle.tc_meaning.specs.Meaning.{table_codec}
-use Rattle.tc_meaning.specs.Message.{Message, ReadsBy, FaultBy, read_by, read_with, message_bytes, FitsMessage, TypedMessage, SettledWith, OneReading, OneMessage, CanonWith, message_codec}
+use Rattle.tc_meaning.specs.Message.{Message, ReadsBy, FaultBy, read_by, read_with, message_bytes, FitsMessage, TypedMessage, SettledWith, OneReading,
+    OneMessage, CanonWith, message_codec}
 use Rattle.tc_meaning.proofs.Outcomes.{kept-ok, then-ok, then-err, ok-same, err-same}
 use Rattle.tc_meaning.proofs.Fields.{length-fields_bytes, IsBytes-fields_bytes, typed-fields, back-fields, same-fields}
 
@@ -54,7 +56,8 @@ module _ (reads : Reads Attribute) (sets : Sets Frame) (layout : List Field) whe
 
   pub ok-read_by : (bytes : List ℕ) (m : Message) → IsReadBy bytes m → read_by reads sets layout bytes ≡ Ok m
   ok-read_by bytes m is =
-      rw (le-ltb (length bytes) (size_of layout) is.long, is.body) (ap (λ (h : List Scalar). let n : Message = record { header = h; body = m.body } in read_as n) is.header)
+      rw (le-ltb (length bytes) (size_of layout) is.long, is.body)
+          (ap (λ (h : List Scalar). let n : Message = record { header = h; body = m.body } in read_as n) is.header)
 
   -- reading gives exactly what the grammar says
   pub one_reading : (bytes : List ℕ) → IsBytes bytes → OneReading reads sets layout bytes (read_by reads sets layout bytes)
@@ -70,9 +73,11 @@ module _ (reads : Reads Attribute) (sets : Sets Frame) (layout : List Field) whe
         (λ g. ok-read_by bytes m (record { long = g.long; header = sym g.header; body = (list.reading m.body).1 g.body })),
       )
 
-      faulty : (e : DecodeError) → read_by reads sets layout bytes ≡ Err e → (length bytes < size_of layout) ⊎ (size_of layout ≤ length bytes) → FaultBy reads sets layout bytes e
+      faulty : (e : DecodeError) → read_by reads sets layout bytes ≡ Err e → (length bytes < size_of layout) ⊎ (size_of layout ≤ length bytes)
+          → FaultBy reads sets layout bytes e
       faulty e h (inl short) =
-          let is : read_by reads sets layout bytes ≡ refused (BufferTooSmall (length bytes) (size_of layout)) = rw (lt-ltb (length bytes) (size_of layout) short) refl in
+          let is : read_by reads sets layout bytes ≡ refused (BufferTooSmall (length bytes) (size_of layout)) =
+                  rw (lt-ltb (length bytes) (size_of layout) short) refl in
           inl (short, err-same Message e (BufferTooSmall (length bytes) (size_of layout)) (sym h ∙ is))
       faulty e h (inr long) =
           let body = read_list reads sets [] (drop (size_of layout) bytes) in
@@ -109,7 +114,8 @@ module _ (by_frame : Sets Frame) (by_value : Sets Attribute) (layout : List Fiel
     (laws : Laws IsWireFrame (table_codec (table rows)) (CanonTable (table rows)))
     (agree : (kind : List ℕ) (f : Frame) (x : Attribute) → IsWireFrame f → (table_codec (table rows)).read kind f ≡ Ok x → by_frame f ≡ by_value x) where
   -- the laws of the body
-  pub body_laws : Laws IsWireBytes (list_codec by_frame by_value (table_codec (table rows))) (λ kind bytes. IsCanonList (CanonTable (table rows)) by_frame kind bytes)
+  pub body_laws : Laws IsWireBytes (list_codec by_frame by_value (table_codec (table rows)))
+      (λ kind bytes. IsCanonList (CanonTable (table rows)) by_frame kind bytes)
   body_laws = list_laws (table_codec (table rows)) (CanonTable (table rows)) laws by_frame by_value agree
 
   pub wire-body : (bytes : List ℕ) → IsWireBytes bytes → IsWireBytes (drop (size_of layout) bytes)
@@ -119,11 +125,13 @@ module _ (by_frame : Sets Frame) (by_value : Sets Attribute) (layout : List Fiel
   unfolding message_bytes
   front-message m t = take_at (fields_bytes layout m.header) _ (size_of layout) (length-fields_bytes layout m.header t.header)
 
-  pub rest-message : (m : Message) → TypedMessage layout rows m → drop (size_of layout) (message_bytes layout rows m) ≡ list_bytes (table_codec (table rows)).write m.body
+  pub rest-message : (m : Message) → TypedMessage layout rows m
+      → drop (size_of layout) (message_bytes layout rows m) ≡ list_bytes (table_codec (table rows)).write m.body
   unfolding message_bytes
   rest-message m t = drop_at (fields_bytes layout m.header) _ (size_of layout) (length-fields_bytes layout m.header t.header)
 
-  pub length-message : (m : Message) → TypedMessage layout rows m → length (message_bytes layout rows m) ≡ size_of layout + length (list_bytes (table_codec (table rows)).write m.body)
+  pub length-message : (m : Message) → TypedMessage layout rows m
+      → length (message_bytes layout rows m) ≡ size_of layout + length (list_bytes (table_codec (table rows)).write m.body)
   unfolding message_bytes
   length-message m t = rw (length-append, length-fields_bytes layout m.header t.header) refl
 
@@ -132,11 +140,14 @@ module _ (by_frame : Sets Frame) (by_value : Sets Attribute) (layout : List Fiel
   makes-message m t f = record { are_bytes = are_bytes; long = rw (length-message m t) f.whole }
     where
       are_bytes : IsBytes (message_bytes layout rows m)
-      are_bytes = IsBytes-append (fields_bytes layout m.header) _ (IsBytes-fields_bytes layout m.header t.header) (body_laws.makes m.body t.body f.body).are_bytes
+      are_bytes = IsBytes-append (fields_bytes layout m.header) _ (IsBytes-fields_bytes layout m.header t.header)
+          (body_laws.makes m.body t.body f.body).are_bytes
 
   pub typed-read : (bytes : List ℕ) (m : Message) → IsWireBytes bytes → IsRead by_frame layout rows bytes m → TypedMessage layout rows m
   typed-read bytes m w is = record {
-    header = subst (TypedFields layout) is.header (typed-fields layout (take (size_of layout) bytes) (IsBytes-take (size_of layout) bytes w.are_bytes) (rw (length-take-le (size_of layout) bytes is.long) (omega arith)));
+    header = subst (TypedFields layout) is.header
+        (typed-fields layout (take (size_of layout) bytes) (IsBytes-take (size_of layout) bytes w.are_bytes)
+        (rw (length-take-le (size_of layout) bytes is.long) (omega arith)));
     body = body_laws.typed [] (drop (size_of layout) bytes) m.body (wire-body bytes w) is.body;
   }
 
@@ -147,7 +158,8 @@ module _ (by_frame : Sets Frame) (by_value : Sets Attribute) (layout : List Fiel
       let same = ap (read_fields layout) (append-nil (fields_bytes layout xs)) in
       (λ e. law.0 (same ∙ e), λ s. sym same ∙ law.1 s)
 
-  back-message : (m : Message) → TypedMessage layout rows m → FitsMessage layout rows m → (read_with by_frame layout rows (message_bytes layout rows m) ≡ Ok m) ↔ SettledWith layout rows by_value m
+  back-message : (m : Message) → TypedMessage layout rows m → FitsMessage layout rows m
+      → (read_with by_frame layout rows (message_bytes layout rows m) ≡ Ok m) ↔ SettledWith layout rows by_value m
   back-message m t f = (from, to)
     where
       from : read_with by_frame layout rows (message_bytes layout rows m) ≡ Ok m → SettledWith layout rows by_value m
@@ -165,7 +177,8 @@ module _ (by_frame : Sets Frame) (by_value : Sets Attribute) (layout : List Fiel
         body = ap (read_list (table_codec (table rows)).read by_frame []) (rest-message m t) ∙ (body_laws.back [] m.body t.body f.body).1 s.body;
       })
 
-  same-message : (bytes : List ℕ) (m : Message) → IsWireBytes bytes → read_with by_frame layout rows bytes ≡ Ok m → FitsMessage layout rows m → (message_bytes layout rows m ≡ bytes) ↔ CanonWith by_frame layout rows bytes
+  same-message : (bytes : List ℕ) (m : Message) → IsWireBytes bytes → read_with by_frame layout rows bytes ≡ Ok m → FitsMessage layout rows m
+      → (message_bytes layout rows m ≡ bytes) ↔ CanonWith by_frame layout rows bytes
   unfolding message_bytes
   same-message bytes m w e f = (from, to)
     where
@@ -185,7 +198,8 @@ module _ (by_frame : Sets Frame) (by_value : Sets Attribute) (layout : List Fiel
             (λ c. ap (fields_bytes layout) (sym is.header) ∙ law.1 c.1),
           )
 
-      body_law : (list_bytes (table_codec (table rows)).write m.body ≡ drop (size_of layout) bytes) ↔ IsCanonList (CanonTable (table rows)) by_frame [] (drop (size_of layout) bytes)
+      body_law : (list_bytes (table_codec (table rows)).write m.body ≡ drop (size_of layout) bytes)
+          ↔ IsCanonList (CanonTable (table rows)) by_frame [] (drop (size_of layout) bytes)
       body_law = body_laws.same [] (drop (size_of layout) bytes) m.body (wire-body bytes w) is.body f.body
 
       from : message_bytes layout rows m ≡ bytes → CanonWith by_frame layout rows bytes
@@ -197,7 +211,8 @@ module _ (by_frame : Sets Frame) (by_value : Sets Attribute) (layout : List Fiel
       to : CanonWith by_frame layout rows bytes → message_bytes layout rows m ≡ bytes
       to c = ap₂ (λ (a b : List ℕ). a ++ b) (header_law.1 c.header) (body_law.1 c.body) ∙ take-append-drop (size_of layout) bytes
 
-  reads-message : (bytes : List ℕ) → IsWireBytes bytes → CanonWith by_frame layout rows bytes → (m : Message) × (read_with by_frame layout rows bytes ≡ Ok m) × FitsMessage layout rows m
+  reads-message : (bytes : List ℕ) → IsWireBytes bytes → CanonWith by_frame layout rows bytes
+      → (m : Message) × (read_with by_frame layout rows bytes ≡ Ok m) × FitsMessage layout rows m
   reads-message bytes w c =
       let wire = wire-body bytes w in
       let r = body_laws.reads [] (drop (size_of layout) bytes) wire c.body in

@@ -27,7 +27,8 @@ module _ (layout : List Field) (rows : Rows) (bytes : List ℕ) (header : List S
       })
 
   -- a message whose list is refused
-  pub read_message-err : (e : DecodeError) → Gives (refused {X = List Attribute} e) (read_list (table_codec (table rows)).read kind_of_frame [] (drop (size_of layout) bytes))
+  pub read_message-err : (e : DecodeError)
+      → Gives (refused {X = List Attribute} e) (read_list (table_codec (table rows)).read kind_of_frame [] (drop (size_of layout) bytes))
       → Gives (refused {X = Message} e) (read_message layout rows bytes)
   unfolding read_with
   read_message-err e given =

@@ -1,5 +1,6 @@
 -- The laws of numbers, bytes and flags.
-use Rattle.std.proofs.Common.{◌≡◌, ◌⊎◌, ℕ, ◌%◌, ◌^◌, ◌<◌, ◌≤◌, Bool, true, false, not, List, [], ◌∷◌, length, reverse, get_or, Ok, cond, eqb, refl, sym, ap, ◌∙◌, arith, inl, inr, mod-eq_of_lt, pow_pos}
+use Rattle.std.proofs.Common.{◌≡◌, ◌⊎◌, ℕ, ◌%◌, ◌^◌, ◌<◌, ◌≤◌, Bool, true, false, not, List, [], ◌∷◌, length, reverse, get_or, Ok, cond, eqb, refl, sym, ap,
+    ◌∙◌, arith, inl, inr, mod-eq_of_lt, pow_pos}
 use Rattle.std.proofs.lemmas.Bool.{eqb-true, eq-eqb, cases_lt}
 use Rattle.std.proofs.lemmas.List.{reverse-reverse, length-reverse, get_or-reverse, get_or_past}
 use Rattle.std.specs.Prelude.{◌==◌}
@@ -26,7 +27,8 @@ pub exact : {X : Type 0} (n : ℕ) (v : List ℕ) (x : X) → length v ≡ n →
 exact n v x e = rw (eq-eqb (length v) n e) refl
 
 -- what was read has the right length
-pub exact-length : {X : Type 0} (n : ℕ) (v : List ℕ) (y x : X) → cond (eqb (length v) n) (read_as y) (refused (WrongLength n (length v))) ≡ read_as x → (length v ≡ n) × (y ≡ x)
+pub exact-length : {X : Type 0} (n : ℕ) (v : List ℕ) (y x : X) → cond (eqb (length v) n) (read_as y) (refused (WrongLength n (length v))) ≡ read_as x
+    → (length v ≡ n) × (y ≡ x)
 exact-length n v y x e = let r = passed-ok (eqb (length v) n) (WrongLength n (length v)) y x e in (eqb-true (length v) n r.0, r.1)
 
 -- a number that a value of a width makes

@@ -64,7 +64,8 @@ module _ {X : Type 0} (reads : Reads X) (bytes : List ℕ) (w : IsBytes bytes) w
   under-err (a ∷ b ∷ kinds) e = (λ h. sym (err-same (List X) DuplicateKind e h), λ h. ap (λ (d : DecodeError). refused d) (sym h))
 
   -- reading gives exactly what the grammar says, where it is known what the first look gives
-  reading-by : (looks : Outcome (List (Option (List ℕ)))) → read_list first_look keep [] bytes ≡ looks → (xs : List X) → (after_look reads bytes looks ≡ Ok xs) ↔ OwnReads reads bytes xs
+  reading-by : (looks : Outcome (List (Option (List ℕ)))) → read_list first_look keep [] bytes ≡ looks → (xs : List X)
+      → (after_look reads bytes looks ≡ Ok xs) ↔ OwnReads reads bytes xs
   unfolding under
   reading-by (Ok looks) is xs = (from, to)
     where
@@ -80,7 +81,8 @@ module _ {X : Type 0} (reads : Reads X) (bytes : List ℕ) (w : IsBytes bytes) w
           ap under found ∙ ((list g.own).reading xs).1 g.each
   reading-by (Err d) is xs = (λ e. absurd cc, λ g. let h : read_as g.looks ≡ refused d = sym ((look.reading g.looks).1 g.looked) ∙ is in absurd cc)
 
-  fault-by : (looks : Outcome (List (Option (List ℕ)))) → read_list first_look keep [] bytes ≡ looks → (e : DecodeError) → (after_look reads bytes looks ≡ Err e) ↔ OwnFault reads bytes e
+  fault-by : (looks : Outcome (List (Option (List ℕ)))) → read_list first_look keep [] bytes ≡ looks → (e : DecodeError)
+      → (after_look reads bytes looks ≡ Err e) ↔ OwnFault reads bytes e
   unfolding under
   fault-by (Ok looks) is e = (from, to)
     where
@@ -103,6 +105,8 @@ module _ {X : Type 0} (reads : Reads X) (bytes : List ℕ) (w : IsBytes bytes) w
 
   pub one_own : OneOwn reads bytes (read_own reads bytes)
   one_own = record {
-    reading = λ xs. subst (λ (o : Outcome (List X)). (o ≡ Ok xs) ↔ OwnReads reads bytes xs) (sym (read_own-look reads bytes)) (reading-by (read_list first_look keep [] bytes) refl xs);
-    fault = λ e. subst (λ (o : Outcome (List X)). (o ≡ Err e) ↔ OwnFault reads bytes e) (sym (read_own-look reads bytes)) (fault-by (read_list first_look keep [] bytes) refl e);
+    reading = λ xs. subst (λ (o : Outcome (List X)). (o ≡ Ok xs) ↔ OwnReads reads bytes xs) (sym (read_own-look reads bytes))
+        (reading-by (read_list first_look keep [] bytes) refl xs);
+    fault = λ e. subst (λ (o : Outcome (List X)). (o ≡ Err e) ↔ OwnFault reads bytes e) (sym (read_own-look reads bytes))
+        (fault-by (read_list first_look keep [] bytes) refl e);
   }

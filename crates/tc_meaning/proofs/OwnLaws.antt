@@ -28,19 +28,22 @@ pub kinds_told-set : (fs : List Frame) → kinds_told fs ≡ kinds_set kind_of_f
 kinds_told-set [] = refl
 kinds_told-set (f ∷ fs) = go (tells_kind f) (kinds_told-set fs)
   where
-    go : (b : Bool) → kinds_told fs ≡ kinds_set kind_of_frame fs → cond b (strip f.value ∷ kinds_told fs) (kinds_told fs) ≡ kind_before (cond b (Some (strip f.value)) None) (kinds_set kind_of_frame fs)
+    go : (b : Bool) → kinds_told fs ≡ kinds_set kind_of_frame fs
+        → cond b (strip f.value ∷ kinds_told fs) (kinds_told fs) ≡ kind_before (cond b (Some (strip f.value)) None) (kinds_set kind_of_frame fs)
     go true others = ap (λ (ks : List (List ℕ)). strip f.value ∷ ks) others
     go false others = others
 
 -- what the first look finds is what the frames tell
-read_kinds-told : (fs : List Frame) (fault : Option DecodeError) (kinds : List (List ℕ)) → read_kinds (map Ok fs ++ fault_at_end fault) ≡ Ok kinds → kinds_told fs ≡ kinds
+read_kinds-told : (fs : List Frame) (fault : Option DecodeError) (kinds : List (List ℕ)) → read_kinds (map Ok fs ++ fault_at_end fault) ≡ Ok kinds
+    → kinds_told fs ≡ kinds
 unfolding read_kinds
 read_kinds-told [] None kinds e = ok-same [] kinds e
 read_kinds-told [] (Some d) kinds e = absurd cc
 read_kinds-told (f ∷ fs) fault kinds e = go (tells_kind f) (λ ks h. read_kinds-told fs fault ks h) e
   where
     go : (b : Bool) → ((ks : List (List ℕ)) → read_kinds (map Ok fs ++ fault_at_end fault) ≡ Ok ks → kinds_told fs ≡ ks)
-        → cond b (plain_values.text f.value >>= λ kind. seen (λ ks. kind ∷ ks) (read_kinds (map Ok fs ++ fault_at_end fault))) (read_kinds (map Ok fs ++ fault_at_end fault)) ≡ Ok kinds
+        → cond b (plain_values.text f.value >>= λ kind. seen (λ ks. kind ∷ ks) (read_kinds (map Ok fs ++ fault_at_end fault)))
+            (read_kinds (map Ok fs ++ fault_at_end fault)) ≡ Ok kinds
         → cond b (strip f.value ∷ kinds_told fs) (kinds_told fs) ≡ kinds
     go true later h =
         let r = then-ok (plain_values.text f.value) (λ kind. seen (λ ks. kind ∷ ks) (read_kinds (map Ok fs ++ fault_at_end fault))) kinds h in
@@ -49,13 +52,15 @@ read_kinds-told (f ∷ fs) fault kinds e = go (tells_kind f) (λ ks h. read_kind
     go false later h = later kinds h
 
 -- frames of type 1 that have a text are found
-told-read_kinds : (fs : List Frame) → AllByRecursion (λ f. tells_kind f ≡ true → is_utf8 (strip f.value) ≡ true) fs → read_kinds (map Ok fs) ≡ Ok (kinds_told fs)
+told-read_kinds : (fs : List Frame) → AllByRecursion (λ f. tells_kind f ≡ true → is_utf8 (strip f.value) ≡ true) fs
+    → read_kinds (map Ok fs) ≡ Ok (kinds_told fs)
 unfolding read_kinds
 told-read_kinds [] all = refl
 told-read_kinds (f ∷ fs) all = go (tells_kind f) refl (told-read_kinds fs all.1)
   where
     go : (b : Bool) → tells_kind f ≡ b → read_kinds (map Ok fs) ≡ Ok (kinds_told fs)
-        → cond b (plain_values.text f.value >>= λ kind. seen (λ ks. kind ∷ ks) (read_kinds (map Ok fs))) (read_kinds (map Ok fs)) ≡ Ok (cond b (strip f.value ∷ kinds_told fs) (kinds_told fs))
+        → cond b (plain_values.text f.value >>= λ kind. seen (λ ks. kind ∷ ks) (read_kinds (map Ok fs))) (read_kinds (map Ok fs))
+            ≡ Ok (cond b (strip f.value ∷ kinds_told fs) (kinds_told fs))
     go true e others = rw (text-reads f.value (all.0 e), others) refl
     go false e others = others
 
@@ -89,29 +94,34 @@ module _ (c : Codec Frame Attribute) where
     pub has_text : (k : List ℕ) (f : Frame) (x : Attribute) → c.read k f ≡ Ok x → tells_kind f ≡ true → is_utf8 (strip f.value) ≡ true
 
   module _ (tells : TellsKind) where
-    texts-each : (k : List ℕ) (fs : List Frame) (xs : List Attribute) → ReadInTurn c.read keep k fs xs → AllByRecursion (λ f. tells_kind f ≡ true → is_utf8 (strip f.value) ≡ true) fs
+    texts-each : (k : List ℕ) (fs : List Frame) (xs : List Attribute) → ReadInTurn c.read keep k fs xs
+        → AllByRecursion (λ f. tells_kind f ≡ true → is_utf8 (strip f.value) ≡ true) fs
     texts-each k [] [] turn = tt
     texts-each k [] (x ∷ xs) turn = tt
     texts-each k (f ∷ fs) [] turn = elim turn [ ]
     texts-each k (f ∷ fs) (x ∷ xs) turn = (tells.has_text k f x turn.0, texts-each k fs xs turn.1)
 
     -- the kinds that are set are the same in the frames and in the values
-    kinds-each : (k : List ℕ) (fs : List Frame) (xs : List Attribute) → ReadInTurn c.read keep k fs xs → kinds_set kind_of_frame fs ≡ kinds_set kind_of_attribute xs
+    kinds-each : (k : List ℕ) (fs : List Frame) (xs : List Attribute) → ReadInTurn c.read keep k fs xs
+        → kinds_set kind_of_frame fs ≡ kinds_set kind_of_attribute xs
     kinds-each k [] [] turn = refl
     kinds-each k [] (x ∷ xs) turn = elim turn [ ]
     kinds-each k (f ∷ fs) [] turn = elim turn [ ]
     kinds-each k (f ∷ fs) (x ∷ xs) turn = ap₂ kind_before (tells.agree k f x turn.0) (kinds-each k fs xs turn.1)
 
     -- the kind of a list of which each value was read
-    pub told-set : (k bytes : List ℕ) (xs : List Attribute) → read_list c.read keep k bytes ≡ Ok xs → kinds_told (cut bytes).frames ≡ kinds_set kind_of_attribute xs
+    pub told-set : (k bytes : List ℕ) (xs : List Attribute) → read_list c.read keep k bytes ≡ Ok xs
+        → kinds_told (cut bytes).frames ≡ kinds_set kind_of_attribute xs
     told-set k bytes xs e = kinds_told-set (cut bytes).frames ∙ kinds-each k (cut bytes).frames xs (ReadInTurn-read_list c.read keep k bytes xs e).1
 
     -- a list that is read under the one kind that its frames tell
-    pub read_own-is : (k bytes : List ℕ) (xs : List Attribute) → read_list c.read keep k bytes ≡ Ok xs → kinds_told (cut bytes).frames ≡ k ∷ [] → read_own c.read bytes ≡ Ok xs
+    pub read_own-is : (k bytes : List ℕ) (xs : List Attribute) → read_list c.read keep k bytes ≡ Ok xs → kinds_told (cut bytes).frames ≡ k ∷ []
+        → read_own c.read bytes ≡ Ok xs
     unfolding read_own
     read_own-is k bytes xs e told =
         let turn = ReadInTurn-read_list c.read keep k bytes xs e in
-        let items : items_of (cut bytes) ≡ map Ok (cut bytes).frames = ap (λ (d : Option DecodeError). map Ok (cut bytes).frames ++ fault_at_end d) turn.0 ∙ append-nil (map Ok (cut bytes).frames) in
+        let items : items_of (cut bytes) ≡ map Ok (cut bytes).frames =
+                ap (λ (d : Option DecodeError). map Ok (cut bytes).frames ++ fault_at_end d) turn.0 ∙ append-nil (map Ok (cut bytes).frames) in
         let found : read_kinds (items_of (cut bytes)) ≡ Ok (k ∷ []) =
         ap read_kinds items ∙ told-read_kinds (cut bytes).frames (texts-each k (cut bytes).frames xs turn.1) ∙ ap (λ (ks : List (List ℕ)). read_as ks) told in
         ap (λ (r : Outcome (List (List ℕ))). r >>= only_kind >>= λ kind. read_list c.read keep kind bytes) found ∙ e
@@ -135,7 +145,8 @@ module _ (c : Codec Frame Attribute) where
         reads = λ k bytes w canon. reads bytes w canon;
       }
         where
-          back_from : (xs : List Attribute) → AllByRecursion c.Typed xs → ListFits c.Fits c.write xs → read_own c.read (list_bytes c.write xs) ≡ Ok xs → SettledOwn c.Settled xs
+          back_from : (xs : List Attribute) → AllByRecursion c.Typed xs → ListFits c.Fits c.write xs → read_own c.read (list_bytes c.write xs) ≡ Ok xs
+              → SettledOwn c.Settled xs
           back_from xs t f e =
               let own = read_own-ok (list_bytes c.write xs) xs e in (
                 own.own,
@@ -143,7 +154,8 @@ module _ (c : Codec Frame Attribute) where
                 (settled-all own.own xs).0 ((of_list.back own.own xs t f).0 own.is_read),
               )
 
-          back_to : (xs : List Attribute) → AllByRecursion c.Typed xs → ListFits c.Fits c.write xs → SettledOwn c.Settled xs → read_own c.read (list_bytes c.write xs) ≡ Ok xs
+          back_to : (xs : List Attribute) → AllByRecursion c.Typed xs → ListFits c.Fits c.write xs → SettledOwn c.Settled xs
+              → read_own c.read (list_bytes c.write xs) ≡ Ok xs
           back_to xs t f s =
               let is_read = (of_list.back s.0 xs t f).1 ((settled-all s.0 xs).1 s.2) in
               read_own-is s.0 (list_bytes c.write xs) xs is_read (told-set s.0 (list_bytes c.write xs) xs is_read ∙ s.1)
@@ -156,21 +168,24 @@ module _ (c : Codec Frame Attribute) where
           one_of : (own : List ℕ) (bytes : List ℕ) → IsPaddedList (λ fs. TellsOne fs own × CanonEach Canon keep own fs) bytes → IsCanonList Canon keep own bytes
           one_of own bytes canon = record { list = canon.list; frames = canon.frames; whole = canon.whole; holds = canon.holds.1 }
 
-          same_from : (bytes : List ℕ) (xs : List Attribute) → IsWireBytes bytes → read_own c.read bytes ≡ Ok xs → ListFits c.Fits c.write xs → list_bytes c.write xs ≡ bytes → IsCanonOwn Canon bytes
+          same_from : (bytes : List ℕ) (xs : List Attribute) → IsWireBytes bytes → read_own c.read bytes ≡ Ok xs → ListFits c.Fits c.write xs
+              → list_bytes c.write xs ≡ bytes → IsCanonOwn Canon bytes
           same_from bytes xs w e f s =
               let own = read_own-ok bytes xs e in
               let canon = (of_list.same own.own bytes xs w own.is_read f).0 s in
               let told = ap kinds_told (sym (cut-padded (CanonEach Canon keep own.own) bytes canon)) ∙ own.tells in
               (own.own, record { list = canon.list; frames = canon.frames; whole = canon.whole; holds = (told, canon.holds) })
 
-          same_to : (bytes : List ℕ) (xs : List Attribute) → IsWireBytes bytes → read_own c.read bytes ≡ Ok xs → ListFits c.Fits c.write xs → IsCanonOwn Canon bytes → list_bytes c.write xs ≡ bytes
+          same_to : (bytes : List ℕ) (xs : List Attribute) → IsWireBytes bytes → read_own c.read bytes ≡ Ok xs → ListFits c.Fits c.write xs
+              → IsCanonOwn Canon bytes → list_bytes c.write xs ≡ bytes
           same_to bytes xs w e f canon =
               let own = read_own-ok bytes xs e in
               let one : canon.0 ∷ [] ≡ own.own ∷ [] = sym canon.1.holds.0 ∙ ap kinds_told (sym (cut-padded _ bytes canon.1)) ∙ own.tells in
               let same : canon.0 ≡ own.own = cc one in
               (of_list.same own.own bytes xs w own.is_read f).1 (subst (λ (k : List ℕ). IsCanonList Canon keep k bytes) same (one_of canon.0 bytes canon.1))
 
-          reads : (bytes : List ℕ) → IsWireBytes bytes → IsCanonOwn Canon bytes → (xs : List Attribute) × (read_own c.read bytes ≡ Ok xs) × ListFits c.Fits c.write xs
+          reads : (bytes : List ℕ) → IsWireBytes bytes → IsCanonOwn Canon bytes
+              → (xs : List Attribute) × (read_own c.read bytes ≡ Ok xs) × ListFits c.Fits c.write xs
           reads bytes w canon =
               let r = of_list.reads canon.0 bytes w (one_of canon.0 bytes canon.1) in
               (r.0, read_own-is canon.0 bytes r.0 r.1 (ap kinds_told (cut-padded _ bytes canon.1) ∙ canon.1.holds.0), r.2)

@@ -18,7 +18,8 @@ pub record RowLaws (n : ℕ) (c : Codec Frame Attribute) (Canon : IsCanonAt) : T
   pub typed : (k : List ℕ) (f : Frame) (x : Attribute) → IsWireFrame f → type_of f.word ≡ n → c.read k f ≡ Ok x → c.Typed x
   -- what is read stands under the type of its frame
   pub stands : (k : List ℕ) (f : Frame) (x : Attribute) → type_of f.word ≡ n → c.read k f ≡ Ok x → number_of x ≡ n
-  pub back : (k : List ℕ) (x : Attribute) → c.Typed x → number_of x ≡ n → c.Fits x → type_of (c.write x).word ≡ n → (c.read k (c.write x) ≡ Ok x) ↔ c.Settled k x
+  pub back : (k : List ℕ) (x : Attribute) → c.Typed x → number_of x ≡ n → c.Fits x → type_of (c.write x).word ≡ n
+      → (c.read k (c.write x) ≡ Ok x) ↔ c.Settled k x
   -- what is written under another type isn't settled
   pub away : (k : List ℕ) (x : Attribute) → c.Typed x → number_of x ≡ n → (type_of (c.write x).word ≡ n → ⊥) → c.Settled k x → ⊥
   pub same : (k : List ℕ) (f : Frame) (x : Attribute) → IsWireFrame f → type_of f.word ≡ n → c.read k f ≡ Ok x → c.Fits x → (c.write x ≡ f) ↔ Canon k f
@@ -37,7 +38,8 @@ wire_value f w = record { are_bytes = w.bytes; short = w.frame.value }
 
 -- every type kept as it stands
 pub raw_rows : (n : ℕ) (Canon : IsCanonAt) → ((k : List ℕ) (f : Frame) → Canon k f) → RowLaws n raw_frames Canon
-raw_rows n Canon all = record { makes = makes_raw; typed = typed_raw; stands = stands_raw; back = back_raw; away = away_raw; same = same_raw; reads = λ k f w at c. (other f.word f.value, refl, w.frame.value) }
+raw_rows n Canon all = record { makes = makes_raw; typed = typed_raw; stands = stands_raw; back = back_raw; away = away_raw; same = same_raw; reads =
+    λ k f w at c. (other f.word f.value, refl, w.frame.value) }
   where
     makes_raw : (x : Attribute) → raw_frames.Typed x → number_of x ≡ n → raw_frames.Fits x → IsWireFrame (as_it_stands x)
     makes_raw (other word value) t at f = wire_raw word value t.0 t.1 f
@@ -58,11 +60,13 @@ raw_rows n Canon all = record { makes = makes_raw; typed = typed_raw; stands = s
     away_raw k (other word value) t at far s = far at
     away_raw k x t at far s = elim t [ ]
 
-    same_raw : (k : List ℕ) (f : Frame) (x : Attribute) → IsWireFrame f → type_of f.word ≡ n → read_as (other f.word f.value) ≡ Ok x → raw_frames.Fits x → (as_it_stands x ≡ f) ↔ Canon k f
+    same_raw : (k : List ℕ) (f : Frame) (x : Attribute) → IsWireFrame f → type_of f.word ≡ n → read_as (other f.word f.value) ≡ Ok x → raw_frames.Fits x
+        → (as_it_stands x ≡ f) ↔ Canon k f
     same_raw k f x w at e fits = (λ s. all k f, λ c. ap as_it_stands (sym (ok-same (other f.word f.value) x e)))
 
 -- a row: one type with its word and its class
-module _ (word n : ℕ) (c : Codec (List ℕ) Content) (Canon : List ℕ → List ℕ → Type 0) (laws : Laws IsWireValue (short c) Canon) (small : word < 2 ^ 16) (under : type_of word ≡ n) where
+module _ (word n : ℕ) (c : Codec (List ℕ) Content) (Canon : List ℕ → List ℕ → Type 0) (laws : Laws IsWireValue (short c) Canon) (small : word < 2 ^ 16)
+    (under : type_of word ≡ n) where
   pub makes-row : (x : Attribute) → (row_frames word n c).Typed x → (row_frames word n c).Fits x → IsWireFrame ((row_frames word n c).write x)
   makes-row (known m content) t f = let w = laws.makes content t.1 f in wire_raw word (c.write content) small w.are_bytes w.short
   makes-row (other word' value) t f = wire_raw word' value t.0 t.1 f
@@ -79,7 +83,8 @@ module _ (word n : ℕ) (c : Codec (List ℕ) Content) (Canon : List ℕ → Lis
       let r = seen-ok (known n) (c.read k f.value) x e in
       subst (λ (y : Attribute). number_of y ≡ n) r.2 refl
 
-  back-row : (k : List ℕ) (x : Attribute) → (row_frames word n c).Typed x → (row_frames word n c).Fits x → ((row_frames word n c).read k ((row_frames word n c).write x) ≡ Ok x) ↔ (row_frames word n c).Settled k x
+  back-row : (k : List ℕ) (x : Attribute) → (row_frames word n c).Typed x → (row_frames word n c).Fits x
+      → ((row_frames word n c).read k ((row_frames word n c).write x) ≡ Ok x) ↔ (row_frames word n c).Settled k x
   back-row k (known m content) t f = (from, to)
     where
       from : seen (known n) (c.read k (c.write content)) ≡ Ok (known m content) → c.Settled k content
@@ -94,7 +99,8 @@ module _ (word n : ℕ) (c : Codec (List ℕ) Content) (Canon : List ℕ → Lis
   back-row k (kept m word' value) t f = elim t [ ]
   back-row k (of_kind name x) t f = elim t [ ]
 
-  away-row : (k : List ℕ) (x : Attribute) → (row_frames word n c).Typed x → (type_of ((row_frames word n c).write x).word ≡ n → ⊥) → (row_frames word n c).Settled k x → ⊥
+  away-row : (k : List ℕ) (x : Attribute) → (row_frames word n c).Typed x → (type_of ((row_frames word n c).write x).word ≡ n → ⊥)
+      → (row_frames word n c).Settled k x → ⊥
   away-row k (known m content) t far s = far under
   away-row k (other word' value) t far s = s
   away-row k (kept m word' value) t far s = s
@@ -117,7 +123,8 @@ module _ (word n : ℕ) (c : Codec (List ℕ) Content) (Canon : List ℕ → Lis
       go (kept m word' value) r fits = absurd (cc r.2)
       go (of_kind name x) r fits = absurd (cc r.2)
 
-  reads-row : (k : List ℕ) (f : Frame) → IsWireFrame f → Canon k f.value → (x : Attribute) × (seen (known n) (c.read k f.value) ≡ Ok x) × (row_frames word n c).Fits x
+  reads-row : (k : List ℕ) (f : Frame) → IsWireFrame f → Canon k f.value
+      → (x : Attribute) × (seen (known n) (c.read k f.value) ≡ Ok x) × (row_frames word n c).Fits x
   reads-row k f w canon =
       let r = laws.reads k f.value (wire_value f w) canon in
       (known n r.0, ok-seen (known n) (c.read k f.value) r.0 r.1, r.2)
@@ -134,7 +141,8 @@ module _ (word n : ℕ) (c : Codec (List ℕ) Content) (Canon : List ℕ → Lis
   }
 
 -- a type that is written and never read
-pub unread_rows : (n : ℕ) (c : Codec (List ℕ) Content) (Canon : List ℕ → List ℕ → Type 0) (Any : IsCanonAt) → Laws IsWireValue (short c) Canon → n < 2 ^ 16 → type_of n ≡ n
+pub unread_rows : (n : ℕ) (c : Codec (List ℕ) Content) (Canon : List ℕ → List ℕ → Type 0) (Any : IsCanonAt) → Laws IsWireValue (short c) Canon → n < 2 ^ 16
+    → type_of n ≡ n
     → ((k : List ℕ) (f : Frame) → Any k f) → RowLaws n (unread_frames n c) Any
 unread_rows n c Canon Any laws small under all = record {
   makes = λ x t at f. makes-row n n c Canon laws small under x t f;
@@ -160,7 +168,8 @@ unread_rows n c Canon Any laws small under all = record {
     away_unread k (of_kind name x) at far s = s
 
 -- a message's options
-module _ (n : ℕ) (ks : Kinds) (c : Codec (List ℕ) Content) (Canon : List ℕ → List ℕ → Type 0) (laws : Laws IsWireValue (short c) Canon) (small : n < 2 ^ 16) (under : type_of n ≡ n) where
+module _ (n : ℕ) (ks : Kinds) (c : Codec (List ℕ) Content) (Canon : List ℕ → List ℕ → Type 0) (laws : Laws IsWireValue (short c) Canon) (small : n < 2 ^ 16)
+    (under : type_of n ≡ n) where
   -- as they are read where it is known whether the kind is
   options_by : Bool → List ℕ → Frame → Outcome Attribute
   options_by b k f = cond b (seen (known n) (c.read k f.value)) (read_as (kept n f.word f.value))
@@ -188,7 +197,8 @@ module _ (n : ℕ) (ks : Kinds) (c : Codec (List ℕ) Content) (Canon : List ℕ
   stands-options true k f x e = stands-row n n c Canon laws small under k f x e
   stands-options false k f x e = subst (λ (y : Attribute). number_of y ≡ n) (ok-same (kept n f.word f.value) x e) refl
 
-  back-options : (b : Bool) (k : List ℕ) → is_known ks k ≡ b → (x : Attribute) → (options_frames n ks c).Typed x → (options_frames n ks c).Fits x → type_of ((options_frames n ks c).write x).word ≡ n
+  back-options : (b : Bool) (k : List ℕ) → is_known ks k ≡ b → (x : Attribute) → (options_frames n ks c).Typed x → (options_frames n ks c).Fits x
+      → type_of ((options_frames n ks c).write x).word ≡ n
       → (options_by b k ((options_frames n ks c).write x) ≡ Ok x) ↔ (options_frames n ks c).Settled k x
   unfolding options_by
   back-options true k is (known m content) t f at =
@@ -203,7 +213,8 @@ module _ (n : ℕ) (ks : Kinds) (c : Codec (List ℕ) Content) (Canon : List ℕ
   back-options false k is (other word value) t f at = (λ e. absurd cc, λ s. elim s [ ])
   back-options b k is (of_kind name x) t f at = elim t [ ]
 
-  away-options : (k : List ℕ) (x : Attribute) → (options_frames n ks c).Typed x → (type_of ((options_frames n ks c).write x).word ≡ n → ⊥) → (options_frames n ks c).Settled k x → ⊥
+  away-options : (k : List ℕ) (x : Attribute) → (options_frames n ks c).Typed x → (type_of ((options_frames n ks c).write x).word ≡ n → ⊥)
+      → (options_frames n ks c).Settled k x → ⊥
   away-options k (known m content) t far s = far under
   away-options k (kept m word value) t far s = far s.1
   away-options k (other word value) t far s = s
@@ -240,12 +251,14 @@ choose_rows n true chosen rest A B this that = this refl
 choose_rows n false chosen rest A B this that = that refl
 
 -- the same where both have one canonical form
-pub choose_same : (n : ℕ) (b : Bool) (chosen rest : Codec Frame Attribute) (A : IsCanonAt) → (b ≡ true → RowLaws n chosen A) → (b ≡ false → RowLaws n rest A) → RowLaws n (choose b chosen rest) A
+pub choose_same : (n : ℕ) (b : Bool) (chosen rest : Codec Frame Attribute) (A : IsCanonAt) → (b ≡ true → RowLaws n chosen A) → (b ≡ false → RowLaws n rest A)
+    → RowLaws n (choose b chosen rest) A
 choose_same n true chosen rest A this that = this refl
 choose_same n false chosen rest A this that = that refl
 
 -- a table by the types of its frames
-pub by_type_laws : (at : ℕ → Codec Frame Attribute) (Canon : ℕ → IsCanonAt) → ((n : ℕ) → RowLaws n (at n) (Canon n)) → Laws IsWireFrame (by_type at) (λ k f. Canon (type_of f.word) k f)
+pub by_type_laws : (at : ℕ → Codec Frame Attribute) (Canon : ℕ → IsCanonAt) → ((n : ℕ) → RowLaws n (at n) (Canon n))
+    → Laws IsWireFrame (by_type at) (λ k f. Canon (type_of f.word) k f)
 by_type_laws at Canon rows = record { makes = makes_table; typed = typed_table; back = back_table; same = same_table; reads = reads_table }
   where
     makes_table : (x : Attribute) → (by_type at).Typed x → (by_type at).Fits x → IsWireFrame ((by_type at).write x)
@@ -256,21 +269,25 @@ by_type_laws at Canon rows = record { makes = makes_table; typed = typed_table; 
         let row = rows (type_of f.word) in
         subst (λ (m : ℕ). (at m).Typed x) (sym (row.stands k f x refl e)) (row.typed k f x w refl e)
 
-    back_table : (k : List ℕ) (x : Attribute) → (by_type at).Typed x → (by_type at).Fits x → ((by_type at).read k ((by_type at).write x) ≡ Ok x) ↔ (by_type at).Settled k x
+    back_table : (k : List ℕ) (x : Attribute) → (by_type at).Typed x → (by_type at).Fits x
+        → ((by_type at).read k ((by_type at).write x) ≡ Ok x) ↔ (by_type at).Settled k x
     back_table k x t f = go (type_of ((at (number_of x)).write x).word) refl (cases_eq (type_of ((at (number_of x)).write x).word) (number_of x))
       where
         row : RowLaws (number_of x) (at (number_of x)) (Canon (number_of x))
         row = rows (number_of x)
 
-        go : (m : ℕ) → type_of ((at (number_of x)).write x).word ≡ m → (m ≡ number_of x) ⊎ (m ≡ number_of x → ⊥) → ((at m).read k ((at (number_of x)).write x) ≡ Ok x) ↔ (at (number_of x)).Settled k x
+        go : (m : ℕ) → type_of ((at (number_of x)).write x).word ≡ m → (m ≡ number_of x) ⊎ (m ≡ number_of x → ⊥)
+            → ((at m).read k ((at (number_of x)).write x) ≡ Ok x) ↔ (at (number_of x)).Settled k x
         go m is (inl same) =
-            subst (λ (i : ℕ). ((at i).read k ((at (number_of x)).write x) ≡ Ok x) ↔ (at (number_of x)).Settled k x) (sym same) (row.back k x t refl f (is ∙ same))
+            subst (λ (i : ℕ). ((at i).read k ((at (number_of x)).write x) ≡ Ok x) ↔ (at (number_of x)).Settled k x) (sym same)
+                (row.back k x t refl f (is ∙ same))
         go m is (inr far) = (
           (λ e. absurd (far (sym ((rows m).stands k ((at (number_of x)).write x) x is e)))),
           (λ s. absurd (row.away k x t refl (λ here. far (sym is ∙ here)) s)),
         )
 
-    same_table : (k : List ℕ) (f : Frame) (x : Attribute) → IsWireFrame f → (by_type at).read k f ≡ Ok x → (by_type at).Fits x → ((by_type at).write x ≡ f) ↔ Canon (type_of f.word) k f
+    same_table : (k : List ℕ) (f : Frame) (x : Attribute) → IsWireFrame f → (by_type at).read k f ≡ Ok x → (by_type at).Fits x
+        → ((by_type at).write x ≡ f) ↔ Canon (type_of f.word) k f
     same_table k f x w e fits =
         let row = rows (type_of f.word) in
         let number = row.stands k f x refl e in
@@ -289,7 +306,8 @@ module _ (c : Codec (List ℕ) Content) (Canon : List ℕ → List ℕ → Type 
   makes-every (known word content) t f = let w = laws.makes content t.1 f in wire_raw word (c.write content) t.0 w.are_bytes w.short
   makes-every x t f = elim t [ ]
 
-  back-every : (k : List ℕ) (x : Attribute) → (every_frame c).Typed x → (every_frame c).Fits x → ((every_frame c).read k ((every_frame c).write x) ≡ Ok x) ↔ (every_frame c).Settled k x
+  back-every : (k : List ℕ) (x : Attribute) → (every_frame c).Typed x → (every_frame c).Fits x
+      → ((every_frame c).read k ((every_frame c).write x) ≡ Ok x) ↔ (every_frame c).Settled k x
   back-every k (known word content) t f = (from, to)
     where
       from : seen (known (type_of word)) (c.read k (c.write content)) ≡ Ok (known word content) → (word ≤ 0x3FFF) × c.Settled k content
@@ -305,7 +323,8 @@ module _ (c : Codec (List ℕ) Content) (Canon : List ℕ → List ℕ → Type 
       to : (word ≤ 0x3FFF) × c.Settled k content → seen (known (type_of word)) (c.read k (c.write content)) ≡ Ok (known word content)
       to s =
           let number : type_of word ≡ word = whole word s.0 in
-          ok-seen (known (type_of word)) (c.read k (c.write content)) content ((laws.back k content t.1 f).1 s.1) ∙ ap (λ (i : ℕ). read_as (known i content)) number
+          ok-seen (known (type_of word)) (c.read k (c.write content)) content ((laws.back k content t.1 f).1 s.1)
+              ∙ ap (λ (i : ℕ). read_as (known i content)) number
         where
           whole : (m : ℕ) → m ≤ 0x3FFF → m % 0x4000 ≡ m
           whole m e = omega arith
@@ -346,7 +365,8 @@ module _ (c : Codec (List ℕ) Content) (Canon : List ℕ → List ℕ → Type 
           let r = seen-ok (known (type_of f.word)) (c.read k f.value) x e in
           subst (every_frame c).Typed r.2 (below f.word w.frame.word, laws.typed k f.value r.0 (wire_value f w) r.1)
 
-      reads_every : (k : List ℕ) (f : Frame) → IsWireFrame f → (f.word < 0x4000) × Canon k f.value → (x : Attribute) × ((every_frame c).read k f ≡ Ok x) × (every_frame c).Fits x
+      reads_every : (k : List ℕ) (f : Frame) → IsWireFrame f → (f.word < 0x4000) × Canon k f.value
+          → (x : Attribute) × ((every_frame c).read k f ≡ Ok x) × (every_frame c).Fits x
       reads_every k f w q =
           let r = laws.reads k f.value (wire_value f w) q.1 in
           (known (type_of f.word) r.0, ok-seen (known (type_of f.word)) (c.read k f.value) r.0 r.1, r.2)

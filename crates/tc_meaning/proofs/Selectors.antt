@@ -1,5 +1,6 @@
 -- The laws of pairs of flag words and of selectors.
-use Rattle.std.proofs.Common.{◌≡◌, ℕ, zero, suc, ◌+◌, ◌-◌, ◌*◌, ◌≤◌, Bool, true, false, List, [], ◌∷◌, ◌++◌, length, take, drop, get_or, Ok, refl, sym, ap, ap₂, subst, ◌∙◌, arith, ltb, cond}
+use Rattle.std.proofs.Common.{◌≡◌, ℕ, zero, suc, ◌+◌, ◌-◌, ◌*◌, ◌≤◌, Bool, true, false, List, [], ◌∷◌, ◌++◌, length, take, drop, get_or, Ok, refl, sym, ap, ap₂,
+    subst, ◌∙◌, arith, ltb, cond}
 use Rattle.std.specs.List.{flat_map, AllByRecursion}
 use Rattle.std.proofs.lemmas.List.{length-append, length-drop, length-take-le, take_at, drop_at, take-append-drop, append-nil}
 use Rattle.std.proofs.lemmas.Bool.{ltb-false, le-ltb}
@@ -54,18 +55,22 @@ pair_laws = record {
     back : (x : List Scalar) → TypedFields flags_pair x → seen (read_fields flags_pair) (exactly 8 (fields_bytes flags_pair x)) ≡ Ok x
     back x t =
         let v = fields_bytes flags_pair x in
-        let again : read_fields flags_pair v ≡ x = ap (read_fields flags_pair) (sym (append-nil v)) ∙ (back-fields flags_pair x [] t).1 (settled-fields flags_pair x refl) in
+        let again : read_fields flags_pair v ≡ x =
+                ap (read_fields flags_pair) (sym (append-nil v)) ∙ (back-fields flags_pair x [] t).1 (settled-fields flags_pair x refl) in
         ok-seen (read_fields flags_pair) (exactly 8 v) v (exact 8 v v (length-fields_bytes flags_pair x t)) ∙ ap (λ (y : List Scalar). read_as y) again
 
 -- ---- keys
 
-length-keys_bytes : (keys : List (List Scalar)) → AllByRecursion (TypedFields selector_key) keys → length (flat_map (fields_bytes selector_key) keys) ≡ 16 * length keys
+length-keys_bytes : (keys : List (List Scalar)) → AllByRecursion (TypedFields selector_key) keys
+    → length (flat_map (fields_bytes selector_key) keys) ≡ 16 * length keys
 length-keys_bytes [] t = refl
 length-keys_bytes (x ∷ keys) t = rw length-append (omega (arith, length-fields_bytes selector_key x t.0, length-keys_bytes keys t.1))
 
 IsBytes-keys_bytes : (keys : List (List Scalar)) → AllByRecursion (TypedFields selector_key) keys → IsBytes (flat_map (fields_bytes selector_key) keys)
 IsBytes-keys_bytes [] t = IsBytes-nil
-IsBytes-keys_bytes (x ∷ keys) t = IsBytes-append (fields_bytes selector_key x) (flat_map (fields_bytes selector_key) keys) (IsBytes-fields_bytes selector_key x t.0) (IsBytes-keys_bytes keys t.1)
+IsBytes-keys_bytes (x ∷ keys) t =
+    IsBytes-append (fields_bytes selector_key x) (flat_map (fields_bytes selector_key) keys) (IsBytes-fields_bytes selector_key x t.0)
+    (IsBytes-keys_bytes keys t.1)
 
 length-read_keys : (n : ℕ) (v : List ℕ) → length (read_keys n v) ≡ n
 length-read_keys zero v = refl
@@ -75,7 +80,8 @@ typed-keys : (n : ℕ) (v : List ℕ) → IsBytes v → 16 * n ≤ length v → 
 typed-keys zero v w long = tt
 typed-keys (suc n) v w long = (typed-fields selector_key v w (omega arith), typed-keys n (drop 16 v) (IsBytes-drop 16 v w) (rw length-drop (omega arith)))
 
-back-keys : (keys : List (List Scalar)) → AllByRecursion (TypedFields selector_key) keys → read_keys (length keys) (flat_map (fields_bytes selector_key) keys) ≡ keys
+back-keys : (keys : List (List Scalar)) → AllByRecursion (TypedFields selector_key) keys
+    → read_keys (length keys) (flat_map (fields_bytes selector_key) keys) ≡ keys
 back-keys [] t = refl
 back-keys (x ∷ keys) t =
     let more = flat_map (fields_bytes selector_key) keys in
@@ -92,7 +98,8 @@ same-keys zero v w len = go v len
 same-keys (suc n) v w len =
     let inside : 16 ≤ length v = omega arith in
     let first : fields_bytes selector_key (read_fields selector_key v) ≡ take 16 v =
-    ap (fields_bytes selector_key) (read_fields-take selector_key v inside) ∙ (same-fields selector_key (take 16 v) (IsBytes-take 16 v w) (length-take-le 16 v inside)).1 tt in
+    ap (fields_bytes selector_key) (read_fields-take selector_key v inside)
+        ∙ (same-fields selector_key (take 16 v) (IsBytes-take 16 v w) (length-take-le 16 v inside)).1 tt in
     let others = same-keys n (drop 16 v) (IsBytes-drop 16 v w) (rw length-drop (omega arith)) in
     ap₂ (λ (a b : List ℕ). a ++ b) first others ∙ take-append-drop 16 v
 
@@ -135,10 +142,12 @@ with_head v head =
     (cond (ltb (length v) (16 + 16 * key_count head)) (refused (SelectorShort (length v) (16 + 16 * key_count head)))
     (read_as (record { head = head; keys = read_keys (key_count head) (drop 16 v) })))
 
-with_head-ok : (v : List ℕ) (x : Selector) → 16 ≤ length v → 16 + 16 * key_count x.head ≤ length v → read_keys (key_count x.head) (drop 16 v) ≡ x.keys → with_head v x.head ≡ Ok x
+with_head-ok : (v : List ℕ) (x : Selector) → 16 ≤ length v → 16 + 16 * key_count x.head ≤ length v → read_keys (key_count x.head) (drop 16 v) ≡ x.keys
+    → with_head v x.head ≡ Ok x
 unfolding with_head
 with_head-ok v x long keys_long keys =
-    rw (le-ltb (length v) 16 long, le-ltb (length v) (16 + 16 * key_count x.head) keys_long) (ap (λ (ks : List (List Scalar)). read_as (record { head = x.head; keys = ks })) keys)
+    rw (le-ltb (length v) 16 long, le-ltb (length v) (16 + 16 * key_count x.head) keys_long)
+        (ap (λ (ks : List (List Scalar)). read_as (record { head = x.head; keys = ks })) keys)
 
 read_selector-is : (v : List ℕ) (x : Selector) → IsSelector v x → read_selector v ≡ Ok x
 unfolding with_head
@@ -146,7 +155,8 @@ read_selector-is v x is = ap (with_head v) is.head ∙ with_head-ok v x is.long 
 
 pub selector_laws : Laws IsBytes selector_codec (CanonClass selector)
 selector_laws = record {
-  makes = λ x t f. IsBytes-append (fields_bytes selector_head x.head) (keys_bytes_of x) (IsBytes-fields_bytes selector_head x.head t.0) (IsBytes-keys_bytes x.keys t.1);
+  makes = λ x t f. IsBytes-append (fields_bytes selector_head x.head) (keys_bytes_of x) (IsBytes-fields_bytes selector_head x.head t.0)
+      (IsBytes-keys_bytes x.keys t.1);
   typed = λ k v x w e. typed v x w (read_selector-ok v x e);
   back = λ k x t f. (λ e. tt, λ s. read_selector-is (written x) x (back x t f));
   same = λ k v x w e f. (λ s. same_from v x w (read_selector-ok v x e) f s, λ c. same_to v x w (read_selector-ok v x e) c);
@@ -165,7 +175,8 @@ selector_laws = record {
     typed : (v : List ℕ) (x : Selector) → IsBytes v → IsSelector v x → IsTyped x
     typed v x w is = (
       subst (TypedFields selector_head) is.head (typed-fields selector_head v w is.long),
-      subst (AllByRecursion (TypedFields selector_key)) is.keys (typed-keys (key_count x.head) (drop 16 v) (IsBytes-drop 16 v w) (rw length-drop (omega (arith, is.keys_long)))),
+      subst (AllByRecursion (TypedFields selector_key)) is.keys
+          (typed-keys (key_count x.head) (drop 16 v) (IsBytes-drop 16 v w) (rw length-drop (omega (arith, is.keys_long)))),
     )
 
     length-written : (x : Selector) → IsTyped x → length (written x) ≡ 16 + 16 * length x.keys
@@ -174,7 +185,8 @@ selector_laws = record {
     back : (x : Selector) → IsTyped x → key_count x.head ≡ length x.keys → IsSelector (written x) x
     back x t f =
         let len = length-written x t in
-        let rest : drop 16 (written x) ≡ keys_bytes_of x = drop_at (fields_bytes selector_head x.head) (keys_bytes_of x) 16 (length-fields_bytes selector_head x.head t.0) in
+        let rest : drop 16 (written x) ≡ keys_bytes_of x =
+                drop_at (fields_bytes selector_head x.head) (keys_bytes_of x) 16 (length-fields_bytes selector_head x.head t.0) in
         record {
           long = omega (arith, len);
           keys_long = omega (arith, len, f);
@@ -207,7 +219,8 @@ selector_laws = record {
         ap (fields_bytes selector_head) (sym (same_head v x is)) ∙ (same-fields selector_head (take 16 v) (IsBytes-take 16 v w) c.0.0).1 c.0.1 in
         let total : length v ≡ 16 + 16 * key_count x.head = c.1 ∙ ap (λ (n : ℕ). 16 + 16 * n) (sym (counted v x is)) in
         let rest : keys_bytes_of x ≡ drop 16 v =
-        ap (flat_map (fields_bytes selector_key)) (sym is.keys) ∙ same-keys (key_count x.head) (drop 16 v) (IsBytes-drop 16 v w) (length-drop 16 v ∙ after (length v) (key_count x.head) total) in
+        ap (flat_map (fields_bytes selector_key)) (sym is.keys)
+            ∙ same-keys (key_count x.head) (drop 16 v) (IsBytes-drop 16 v w) (length-drop 16 v ∙ after (length v) (key_count x.head) total) in
         ap₂ (λ (a b : List ℕ). a ++ b) front rest ∙ take-append-drop 16 v
       where
         after : (len n : ℕ) → len ≡ 16 + 16 * n → len - 16 ≡ 16 * n

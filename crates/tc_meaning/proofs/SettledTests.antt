@@ -8,14 +8,17 @@ use Rattle.nla_frames.specs.Value.{strip, le_value}
 use Rattle.nla_frames.specs.Place.{Sets, kind_then, kinds_set}
 use Rattle.nla_frames.specs.Codec.{Codec, SettledEach, list_codec}
 use Rattle.nla_frames.specs.Reading.{keep}
-use Rattle.tc_canon.specs.Descriptor.{Class, le, be, masked, array, raw, text, warning, presence, truth, fields, selector, pair, xstats, list_of, own_list, Table, table, every, by_kind, Rows, others, types, unread, options, Kinds, unknown, kind, is_within, is_known, Field, named}
+use Rattle.tc_canon.specs.Descriptor.{Class, le, be, masked, array, raw, text, warning, presence, truth, fields, selector, pair, xstats, list_of, own_list,
+    Table, table, every, by_kind, Rows, others, types, unread, options, Kinds, unknown, kind, is_within, is_known, Field, named}
 use Rattle.tc_meaning.specs.Tree.{Scalar, unnamed, Content, is_bytes, statistics, unknown_statistics, Attribute, known, kept, other, of_kind, number_of}
 use Rattle.tc_meaning.specs.Layout.{has_name, SettledField, SettledFields}
 use Rattle.tc_meaning.specs.Content.{via, a_number, some_bytes, a_flag, a_record, flags_pair, xstats_codec, is_fq_codel}
 use Rattle.tc_meaning.specs.Own.{kind_of_attribute}
-use Rattle.tc_meaning.specs.Meaning.{a_list, raw_frames, row_frames, options_frames, unread_frames, every_frame, choose, by_type, kind_frames, class_codec, table_codec, rows_codec, kinds_codec}
+use Rattle.tc_meaning.specs.Meaning.{a_list, raw_frames, row_frames, options_frames, unread_frames, every_frame, choose, by_type, kind_frames, class_codec,
+    table_codec, rows_codec, kinds_codec}
 use Rattle.tc_meaning.specs.Message.{Message, SettledWith}
-use Rattle.tc_meaning.proofs.Telling.{Told, told_always, told_never, told_true, told_false, told_le, told_lt, told_eq, told_same_bytes, told_both, told_as, told_each, told_match}
+use Rattle.tc_meaning.proofs.Telling.{Told, told_always, told_never, told_true, told_false, told_le, told_lt, told_eq, told_same_bytes, told_both, told_as,
+    told_each, told_match}
 
 -- of a field, and of a record
 told_field : (f : Field) (x : Scalar) → Told (SettledField f x)
@@ -32,7 +35,8 @@ abbrev Tells : {W X : Type 0} → Codec W X → Type 0
 Tells {X = X} c = (k : List ℕ) (x : X) → Told (c.Settled k x)
 
 -- of a list, of which some set the kind
-told_list : {X : Type 0} (Settled : List ℕ → X → Type 0) (sets : Sets X) → ((k : List ℕ) (x : X) → Told (Settled k x)) → (k : List ℕ) (xs : List X) → Told (SettledEach Settled sets k xs)
+told_list : {X : Type 0} (Settled : List ℕ → X → Type 0) (sets : Sets X) → ((k : List ℕ) (x : X) → Told (Settled k x)) → (k : List ℕ) (xs : List X)
+    → Told (SettledEach Settled sets k xs)
 told_list Settled sets each k [] = told_always
 told_list Settled sets each k (x ∷ xs) = told_both (each k x) (told_list Settled sets each (kind_then sets k x) xs)
 
@@ -109,16 +113,19 @@ mutual
 
   rows_tells : (rows : Rows) (n : ℕ) → Tells (rows_codec rows n)
   rows_tells others n = raw_tells
-  rows_tells (types first last flags class rows) n = choose_tells (is_within first last n) _ _ (row_tells (flags + n) n (class_codec class) (class_tells class)) (rows_tells rows n)
+  rows_tells (types first last flags class rows) n =
+      choose_tells (is_within first last n) _ _ (row_tells (flags + n) n (class_codec class) (class_tells class)) (rows_tells rows n)
   rows_tells (unread m class rows) n = choose_tells (n == m) _ _ (unread_tells m (class_codec class)) (rows_tells rows n)
   rows_tells (options m kinds rows) n =
       choose_tells (n == m) _ _
-      (options_tells m kinds (via a_list (list_codec keep keep (kinds_codec kinds))) (λ k x. told_list (kinds_codec kinds).Settled keep (kinds_tells kinds) k (a_list.out x)))
+      (options_tells m kinds (via a_list (list_codec keep keep (kinds_codec kinds)))
+          (λ k x. told_list (kinds_codec kinds).Settled keep (kinds_tells kinds) k (a_list.out x)))
       (rows_tells rows n)
 
   kinds_tells : (kinds : Kinds) → Tells (kinds_codec kinds)
   kinds_tells unknown = raw_tells
-  kinds_tells (kind name rows kinds) = kind_tells name (by_type (rows_codec rows)) (kinds_codec kinds) (λ k x. rows_tells rows (number_of x) k x) (kinds_tells kinds)
+  kinds_tells (kind name rows kinds) =
+      kind_tells name (by_type (rows_codec rows)) (kinds_codec kinds) (λ k x. rows_tells rows (number_of x) k x) (kinds_tells kinds)
 
 -- a test tells whether a message is settled
 pub told_settled : (layout : List Field) (rows : Rows) (sets : Sets Attribute) (m : Message) → Told (SettledWith layout rows sets m)

@@ -1,5 +1,6 @@
 -- The laws of every class and every table, by induction over the tables.
-use Rattle.std.proofs.Common.{◌≡◌, ◌⊎◌, ℕ, zero, suc, ◌+◌, ◌%◌, ◌^◌, ◌<◌, Bool, true, not, ◌&&◌, List, [], ◌∷◌, Some, None, Ok, cond, eqb, leb, refl, sym, ap, subst, ◌∙◌, arith, inl, inr}
+use Rattle.std.proofs.Common.{◌≡◌, ◌⊎◌, ℕ, zero, suc, ◌+◌, ◌%◌, ◌^◌, ◌<◌, Bool, true, not, ◌&&◌, List, [], ◌∷◌, Some, None, Ok, cond, eqb, leb, refl, sym, ap,
+    subst, ◌∙◌, arith, inl, inr}
 use Rattle.std.specs.Prelude.{MatchBool}
 use Rattle.std.specs.Str.{is_utf8}
 use Rattle.std.proofs.lemmas.Bool.{and_parts, ltb-true, leb-true, eqb-true, eq-eqb, ne_eqb, not-true, cases_eq}
@@ -12,12 +13,15 @@ use Rattle.nla_frames.specs.CanonList.{IsCanonAt, IsCanonList}
 use Rattle.nla_frames.specs.Codec.{Codec, Laws, IsWireValue, IsWireBytes, list_codec}
 use Rattle.nla_frames.proofs.ListLaws.{list_laws}
 use Rattle.tc_canon.specs.Kind.{tells_kind}
-use Rattle.tc_canon.specs.Descriptor.{Class, le, be, masked, array, raw, text, warning, presence, truth, fields, selector, pair, xstats, list_of, own_list, Table, table, every, by_kind, Rows, others, types, unread, options, Kinds, unknown, kind, is_within, is_known}
+use Rattle.tc_canon.specs.Descriptor.{Class, le, be, masked, array, raw, text, warning, presence, truth, fields, selector, pair, xstats, list_of, own_list,
+    Table, table, every, by_kind, Rows, others, types, unread, options, Kinds, unknown, kind, is_within, is_known}
 use Rattle.tc_canon.specs.Canonical.{CanonClass, CanonTable, CanonRows, CanonKinds, IsCanonOwn}
 use Rattle.tc_meaning.specs.Tree.{is_bytes, Attribute, known, kept, other, of_kind, attributes_of, list_of_attributes, number_of}
-use Rattle.tc_meaning.specs.Content.{Shape, via, a_number, some_bytes, a_flag, a_record, a_selector, le_codec, be_codec, masked_codec, array_codec, raw_codec, text_codec, warning_codec, presence_codec, truth_codec, record_codec, pair_codec, selector_codec, xstats_codec}
+use Rattle.tc_meaning.specs.Content.{Shape, via, a_number, some_bytes, a_flag, a_record, a_selector, le_codec, be_codec, masked_codec, array_codec, raw_codec,
+    text_codec, warning_codec, presence_codec, truth_codec, record_codec, pair_codec, selector_codec, xstats_codec}
 use Rattle.tc_meaning.specs.Own.{kind_of_frame, kind_of_attribute, own_codec}
-use Rattle.tc_meaning.specs.Meaning.{short, a_list, choose, row_frames, unread_frames, options_frames, by_type, class_codec, table_codec, rows_codec, kinds_codec}
+use Rattle.tc_meaning.specs.Meaning.{short, a_list, choose, row_frames, unread_frames, options_frames, by_type, class_codec, table_codec, rows_codec,
+    kinds_codec}
 use Rattle.tc_meaning.specs.Sound.{is_type, are_flags, is_free, starts_with_kind, is_sound_class, is_sound_table, is_sound_rows, is_sound_kinds}
 use Rattle.tc_meaning.proofs.Outcomes.{seen-ok}
 use Rattle.tc_meaning.proofs.Shapes.{short_laws, via_laws}
@@ -38,7 +42,8 @@ list-again [] = refl
 list-again (x ∷ xs) = ap (λ (ys : List Attribute). x ∷ ys) (list-again xs)
 
 -- the laws of a plain value's contents
-plain_laws : {X : Type 0} (shape : Shape X) (c : Codec (List ℕ) X) (Canon : List ℕ → List ℕ → Type 0) → ((x : X) → shape.out (shape.into x) ≡ x) → Laws IsBytes c Canon
+plain_laws : {X : Type 0} (shape : Shape X) (c : Codec (List ℕ) X) (Canon : List ℕ → List ℕ → Type 0) → ((x : X) → shape.out (shape.into x) ≡ x)
+    → Laws IsBytes c Canon
     → Laws IsWireValue (short (via shape c)) Canon
 plain_laws shape c Canon again laws = short_laws IsBytes (via shape c) Canon (λ v w. w.are_bytes) (λ v w. w) (via_laws shape IsBytes c Canon again laws)
 
@@ -51,7 +56,8 @@ items_laws : (c : Codec (List ℕ) (List Attribute)) (Canon : List ℕ → List 
 items_laws c Canon laws = short_laws IsWireBytes (via a_list c) Canon counted (λ v w. w.are_bytes) (via_laws a_list IsWireBytes c Canon list-again laws)
 
 -- the laws of a plain list's contents
-list_items_laws : (c : Codec Frame Attribute) (Canon : IsCanonAt) → Laws IsWireFrame c Canon → Laws IsWireValue (short (via a_list (list_codec keep keep c))) (λ k v. IsCanonList Canon keep k v)
+list_items_laws : (c : Codec Frame Attribute) (Canon : IsCanonAt) → Laws IsWireFrame c Canon
+    → Laws IsWireValue (short (via a_list (list_codec keep keep c))) (λ k v. IsCanonList Canon keep k v)
 list_items_laws c Canon laws = items_laws (list_codec keep keep c) (λ k v. IsCanonList Canon keep k v) (list_laws c Canon laws keep keep (λ k f x w e. refl))
 
 -- ---- rows
@@ -96,32 +102,39 @@ not_kind (other word value) far = refl
 not_kind (of_kind name x) far = refl
 
 -- what a text of type 1 is read as
-read-kind : (n word : ℕ) (k : List ℕ) (f : Frame) (x : Attribute) → n ≡ 1 → (row_frames word n (class_codec text)).read k f ≡ Ok x → (is_utf8 (strip f.value) ≡ true) × (kind_of_attribute x ≡ Some (strip f.value))
+read-kind : (n word : ℕ) (k : List ℕ) (f : Frame) (x : Attribute) → n ≡ 1 → (row_frames word n (class_codec text)).read k f ≡ Ok x
+    → (is_utf8 (strip f.value) ≡ true) × (kind_of_attribute x ≡ Some (strip f.value))
 read-kind n word k f x one e =
     let r = seen-ok (known n) (seen is_bytes (plain_values.text f.value)) x e in
     let q = seen-ok is_bytes (plain_values.text f.value) r.0 r.1 in
     let t = text-ok f.value q.0 q.1 in
-    let is : known 1 (is_bytes (strip f.value)) ≡ x = ap (λ (i : ℕ). known i (is_bytes (strip f.value))) (sym one) ∙ ap (λ (u : List ℕ). known n (is_bytes u)) t.1 ∙ ap (known n) q.2 ∙ r.2 in
+    let is : known 1 (is_bytes (strip f.value)) ≡ x =
+            ap (λ (i : ℕ). known i (is_bytes (strip f.value))) (sym one) ∙ ap (λ (u : List ℕ). known n (is_bytes u)) t.1 ∙ ap (known n) q.2 ∙ r.2 in
     (t.0, ap kind_of_attribute (sym is))
 
 -- rows that begin with the kind's tell the kind of their frames
-pub tells_rows : (rows : Rows) → starts_with_kind rows ≡ true → ((n : ℕ) → RowLaws n (rows_codec rows n) (CanonRows rows n)) → TellsKind (by_type (rows_codec rows))
+pub tells_rows : (rows : Rows) → starts_with_kind rows ≡ true → ((n : ℕ) → RowLaws n (rows_codec rows n) (CanonRows rows n))
+    → TellsKind (by_type (rows_codec rows))
 tells_rows (types first last flags text rows) starts laws = record { agree = agree; has_text = has_text }
   where
-    is_row : (n : ℕ) (k : List ℕ) (f : Frame) (x : Attribute) → n ≡ 1 → (choose (is_within first last n) (row_frames (flags + n) n (class_codec text)) (rows_codec rows n)).read k f ≡ Ok x
+    is_row : (n : ℕ) (k : List ℕ) (f : Frame) (x : Attribute) → n ≡ 1
+        → (choose (is_within first last n) (row_frames (flags + n) n (class_codec text)) (rows_codec rows n)).read k f ≡ Ok x
         → (is_utf8 (strip f.value) ≡ true) × (kind_of_attribute x ≡ Some (strip f.value))
     is_row n k f x one e =
         let within : is_within first last n ≡ true = ap (is_within first last) one ∙ starts in
-        read-kind n (flags + n) k f x one (sym (ap (λ (b : Bool). (choose b (row_frames (flags + n) n (class_codec text)) (rows_codec rows n)).read k f) within) ∙ e)
+        read-kind n (flags + n) k f x one
+            (sym (ap (λ (b : Bool). (choose b (row_frames (flags + n) n (class_codec text)) (rows_codec rows n)).read k f) within) ∙ e)
 
-    agree : (k : List ℕ) (f : Frame) (x : Attribute) → (by_type (rows_codec (types first last flags text rows))).read k f ≡ Ok x → kind_of_frame f ≡ kind_of_attribute x
+    agree : (k : List ℕ) (f : Frame) (x : Attribute) → (by_type (rows_codec (types first last flags text rows))).read k f ≡ Ok x
+        → kind_of_frame f ≡ kind_of_attribute x
     agree k f x e = go (cases_eq (type_of f.word) 1)
       where
         go : (type_of f.word ≡ 1) ⊎ (type_of f.word ≡ 1 → ⊥) → cond (eqb (type_of f.word) 1) (Some (strip f.value)) None ≡ kind_of_attribute x
         go (inl one) = rw (eq-eqb (type_of f.word) 1 one) (sym (is_row (type_of f.word) k f x one e).1)
         go (inr far) = rw (ne_eqb (type_of f.word) 1 far) (sym (not_kind x (λ at. far (sym ((laws (type_of f.word)).stands k f x refl e) ∙ at))))
 
-    has_text : (k : List ℕ) (f : Frame) (x : Attribute) → (by_type (rows_codec (types first last flags text rows))).read k f ≡ Ok x → tells_kind f ≡ true → is_utf8 (strip f.value) ≡ true
+    has_text : (k : List ℕ) (f : Frame) (x : Attribute) → (by_type (rows_codec (types first last flags text rows))).read k f ≡ Ok x → tells_kind f ≡ true
+        → is_utf8 (strip f.value) ≡ true
     has_text k f x e tells = (is_row (type_of f.word) k f x (eqb-true (type_of f.word) 1 tells) e).0
 tells_rows _ starts laws = absurd cc
 
@@ -131,7 +144,8 @@ types_rows : (first last flags : ℕ) (class : Class) (rows : Rows) (n : ℕ) �
     → Laws IsWireValue (short (class_codec class)) (CanonClass class) → RowLaws n (rows_codec rows n) (CanonRows rows n)
     → RowLaws n (rows_codec (types first last flags class rows) n) (CanonRows (types first last flags class rows) n)
 types_rows first last flags class rows n l fl laws rest =
-    choose_rows n (is_within first last n) (row_frames (flags + n) n (class_codec class)) (rows_codec rows n) (λ k f. (f.word ≡ flags + n) × CanonClass class k f.value) (CanonRows rows n)
+    choose_rows n (is_within first last n) (row_frames (flags + n) n (class_codec class)) (rows_codec rows n)
+        (λ k f. (f.word ≡ flags + n) × CanonClass class k f.value) (CanonRows rows n)
     (λ within. let word = row_word first last flags n l fl within in row_rows (flags + n) n (class_codec class) (CanonClass class) laws word.small word.under)
     (λ outside. rest)
 
@@ -150,8 +164,10 @@ options_then : (m : ℕ) (kinds : Kinds) (rows : Rows) (n : ℕ) → is_type m �
 options_then m kinds rows n ty laws rest =
     choose_rows n (eqb n m) (options_frames m kinds (via a_list (list_codec keep keep (kinds_codec kinds)))) (rows_codec rows n)
     (λ k f. MatchBool (is_known kinds k) ((f.word ≡ n) × IsCanonList (CanonKinds kinds) keep k f.value) (Unit {0})) (CanonRows rows n)
-    (λ same. subst (λ (i : ℕ). RowLaws i (options_frames m kinds (via a_list (list_codec keep keep (kinds_codec kinds)))) (λ k f. MatchBool (is_known kinds k) ((f.word ≡ i) × IsCanonList (CanonKinds kinds) keep k f.value) (Unit {0}))) (sym (eqb-true n m same))
-    (let word = type_word m ty in options_rows m kinds (via a_list (list_codec keep keep (kinds_codec kinds))) (λ k v. IsCanonList (CanonKinds kinds) keep k v) (list_items_laws (kinds_codec kinds) (CanonKinds kinds) laws) word.0 word.1))
+    (λ same. subst (λ (i : ℕ). RowLaws i (options_frames m kinds (via a_list (list_codec keep keep (kinds_codec kinds))))
+        (λ k f. MatchBool (is_known kinds k) ((f.word ≡ i) × IsCanonList (CanonKinds kinds) keep k f.value) (Unit {0}))) (sym (eqb-true n m same))
+    (let word = type_word m ty in options_rows m kinds (via a_list (list_codec keep keep (kinds_codec kinds))) (λ k v. IsCanonList (CanonKinds kinds) keep k v)
+        (list_items_laws (kinds_codec kinds) (CanonKinds kinds) laws) word.0 word.1))
     (λ outside. rest)
 
 -- the contents of a list that tells its kind
@@ -159,7 +175,8 @@ own_items : (rows : Rows) → starts_with_kind rows ≡ true → ((n : ℕ) → 
     → Laws IsWireValue (short (class_codec (own_list rows))) (CanonClass (own_list rows))
 own_items rows starts laws =
     items_laws (own_codec (by_type (rows_codec rows))) (λ k v. IsCanonOwn (λ own f. CanonRows rows (type_of f.word) own f) v)
-    (own_laws (by_type (rows_codec rows)) (tells_rows rows starts laws) (λ own f. CanonRows rows (type_of f.word) own f) (by_type_laws (rows_codec rows) (CanonRows rows) laws))
+    (own_laws (by_type (rows_codec rows)) (tells_rows rows starts laws) (λ own f. CanonRows rows (type_of f.word) own f)
+        (by_type_laws (rows_codec rows) (CanonRows rows) laws))
 
 -- ---- everything
 

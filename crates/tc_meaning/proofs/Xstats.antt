@@ -1,5 +1,6 @@
 -- The laws of statistics by kind.
-use Rattle.std.proofs.Common.{◌≡◌, ◌⊎◌, ◌↔◌, ℕ, zero, suc, ◌^◌, ◌<◌, ◌≤◌, Bool, true, false, List, [], ◌++◌, length, take, drop, Ok, refl, sym, ap, ap₂, subst, ◌∙◌, arith, ltb, cond, inl, inr}
+use Rattle.std.proofs.Common.{◌≡◌, ◌⊎◌, ◌↔◌, ℕ, zero, suc, ◌^◌, ◌<◌, ◌≤◌, Bool, true, false, List, [], ◌++◌, length, take, drop, Ok, refl, sym, ap, ap₂, subst,
+    ◌∙◌, arith, ltb, cond, inl, inr}
 use Rattle.std.specs.Prelude.{MatchBool}
 use Rattle.std.proofs.lemmas.List.{length-append, length-take-le, take_at, drop_at, take-append-drop}
 use Rattle.std.proofs.lemmas.Bool.{ltb-false, le-ltb}
@@ -84,8 +85,10 @@ any-statistics v (suc zero) more = absurd (omega arith)
 any-statistics v (suc (suc n)) more = refl
 
 statistics-is : (v : List ℕ) (x : Content) → IsFq v x → read_statistics (le_value (take 4 v)) (drop 4 v) v ≡ Ok x
-statistics-is v (statistics zero xs) is = ap (λ (n : ℕ). read_statistics n (drop 4 v) v) is.0 ∙ ok-seen (statistics 0) (read_record fq_codel_qd_stats (drop 4 v)) xs is.1
-statistics-is v (statistics (suc zero) xs) is = ap (λ (n : ℕ). read_statistics n (drop 4 v) v) is.0 ∙ ok-seen (statistics 1) (read_record fq_codel_cl_stats (drop 4 v)) xs is.1
+statistics-is v (statistics zero xs) is =
+    ap (λ (n : ℕ). read_statistics n (drop 4 v) v) is.0 ∙ ok-seen (statistics 0) (read_record fq_codel_qd_stats (drop 4 v)) xs is.1
+statistics-is v (statistics (suc zero) xs) is =
+    ap (λ (n : ℕ). read_statistics n (drop 4 v) v) is.0 ∙ ok-seen (statistics 1) (read_record fq_codel_cl_stats (drop 4 v)) xs is.1
 statistics-is v (unknown_statistics u) is = any-statistics v (le_value (take 4 v)) is.0 ∙ ap (λ (t : List ℕ). read_as (unknown_statistics t)) (sym is.1)
 statistics-is v _ is = elim is [ ]
 
@@ -145,15 +148,18 @@ fq-same v _ w long is = elim is [ ]
 
 fq-back : (k : List ℕ) → is_fq_codel k ≡ true → (x : Content) → xstats_codec.Typed x → (read_fq (xstats_codec.write x) ≡ Ok x) ↔ xstats_codec.Settled k x
 fq-back k fq (statistics zero xs) t =
-    (λ e. fq, λ s. fq-is _ (statistics zero xs) (numbered-long 0 qd_small fq_codel_qd_stats refl xs) (numbered-value 0 qd_small fq_codel_qd_stats refl xs, numbered-back 0 qd_small fq_codel_qd_stats refl xs t))
+    (λ e. fq, λ s. fq-is _ (statistics zero xs) (numbered-long 0 qd_small fq_codel_qd_stats refl xs)
+        (numbered-value 0 qd_small fq_codel_qd_stats refl xs, numbered-back 0 qd_small fq_codel_qd_stats refl xs t))
 fq-back k fq (statistics (suc zero) xs) t =
-    (λ e. fq, λ s. fq-is _ (statistics (suc zero) xs) (numbered-long 1 cl_small fq_codel_cl_stats refl xs) (numbered-value 1 cl_small fq_codel_cl_stats refl xs, numbered-back 1 cl_small fq_codel_cl_stats refl xs t))
+    (λ e. fq, λ s. fq-is _ (statistics (suc zero) xs) (numbered-long 1 cl_small fq_codel_cl_stats refl xs)
+        (numbered-value 1 cl_small fq_codel_cl_stats refl xs, numbered-back 1 cl_small fq_codel_cl_stats refl xs t))
 fq-back k fq (unknown_statistics u) t = (λ e. let r = fq-ok u (unknown_statistics u) e in (fq, r.0, r.1.0), λ s. fq-is u (unknown_statistics u) s.1 (s.2, refl))
 fq-back k fq (is_bytes u) t = (λ e. elim (fq-ok u (is_bytes u) e).1 [ ], λ s. absurd cc)
 fq-back k fq x t = elim t [ ]
 
 -- the same under another kind
-other-back : (k : List ℕ) → is_fq_codel k ≡ false → (x : Content) → xstats_codec.Typed x → (read_as (is_bytes (xstats_codec.write x)) ≡ read_as x) ↔ xstats_codec.Settled k x
+other-back : (k : List ℕ) → is_fq_codel k ≡ false → (x : Content) → xstats_codec.Typed x
+    → (read_as (is_bytes (xstats_codec.write x)) ≡ read_as x) ↔ xstats_codec.Settled k x
 other-back k not_fq (statistics zero xs) t = (λ e. absurd cc, λ s. absurd cc)
 other-back k not_fq (statistics (suc zero) xs) t = (λ e. absurd cc, λ s. absurd cc)
 other-back k not_fq (unknown_statistics u) t = (λ e. absurd cc, λ s. let f = s.0 in absurd cc)
@@ -190,7 +196,8 @@ unfolding by_test
 typed-by true v x w e = fq-typed v x w (fq-ok v x e).1
 typed-by false v x w e = subst xstats_codec.Typed (ok-same (is_bytes v) x e) w
 
-back-by : (b : Bool) (k : List ℕ) → is_fq_codel k ≡ b → (x : Content) → xstats_codec.Typed x → (by_test b (xstats_codec.write x) ≡ Ok x) ↔ xstats_codec.Settled k x
+back-by : (b : Bool) (k : List ℕ) → is_fq_codel k ≡ b → (x : Content) → xstats_codec.Typed x
+    → (by_test b (xstats_codec.write x) ≡ Ok x) ↔ xstats_codec.Settled k x
 unfolding by_test
 back-by true k is x t = fq-back k is x t
 back-by false k is x t = other-back k is x t

@@ -1,5 +1,6 @@
 -- Contents that hold no attributes, class by class.
-use Rattle.std.specs.Prelude.{◌≡◌, ℕ, ◌<◌, ◌≤◌, ◌^◌, ◌%◌, Bool, true, false, List, [], ◌∷◌, length, not, Ok, Err, nat_lt, ◌==◌, if◌then◌else◌, zero, suc, ◌+◌, ◌*◌, ◌++◌, take, drop, codes}
+use Rattle.std.specs.Prelude.{◌≡◌, ℕ, ◌<◌, ◌≤◌, ◌^◌, ◌%◌, Bool, true, false, List, [], ◌∷◌, length, not, Ok, Err, nat_lt, ◌==◌, if◌then◌else◌, zero, suc, ◌+◌,
+    ◌*◌, ◌++◌, take, drop, codes}
 use Rattle.std.specs.Str.{bytes_eq}
 use Rattle.std.specs.List.{flat_map, AllByRecursion}
 use Rattle.nla_frames.specs.declared.error.DecodeError.TheVariants.{BufferTooSmall, SelectorShort, XstatsShort}
@@ -111,7 +112,8 @@ a_record = record { into = record_of; out = record_in }
 
 -- a record's fields stand in front, and what follows is dropped
 abbrev pub read_record : List Field → List ℕ → Outcome (List Scalar)
-read_record layout value = if nat_lt (length value) (size_of layout) then Err (BufferTooSmall (length value) (size_of layout)) else Ok (read_fields layout value)
+read_record layout value = if nat_lt (length value) (size_of layout) then Err (BufferTooSmall (length value) (size_of layout)) else Ok
+    (read_fields layout value)
 
 abbrev pub record_codec : List Field → Codec (List ℕ) (List Scalar)
 record_codec layout = plainly (read_record layout) (fields_bytes layout) (TypedFields layout) (SettledFields layout)

@@ -20,7 +20,8 @@ module _ (rows : Rows) (n : ℕ) (t : Table) (kind : List ℕ) (f : Frame)
       → (table_codec (table rows)).read kind f ≡ read_as (known n (items (attributes_of xs)))
   list_read xs is = rw (row, is) refl
 
-  pub list_refused : (e : DecodeError) → Gives (refused e) (read_list (table_codec t).read keep kind f.value) → Gives (refused e) ((table_codec (table rows)).read kind f)
+  pub list_refused : (e : DecodeError) → Gives (refused e) (read_list (table_codec t).read keep kind f.value)
+      → Gives (refused e) ((table_codec (table rows)).read kind f)
   list_refused e given = Gives-err e _ _ given (λ is. rw (row, is) refl)
 
 -- what is known of a list in hand, of the content that it is seen as
@@ -29,7 +30,8 @@ module _ {T : Type 0} (see : T → Attribute) (t : Table) (slice list : List T) 
   list_bytes_are = rw (same, attributes_again) refl
 
   pub list_fits_as : NestedFits (table_codec t).Fits (table_codec t).write (map see slice)
-      ↔ ((class_codec (list_of t)).Fits (items (attributes_of (map see list))) × IsShort ((class_codec (list_of t)).write (items (attributes_of (map see list)))))
+      ↔ ((class_codec (list_of t)).Fits (items (attributes_of (map see list)))
+          × IsShort ((class_codec (list_of t)).write (items (attributes_of (map see list)))))
   list_fits_as = rw (same, attributes_again) (λ fits. fits, λ fits. fits)
 
   pub list_is_typed : AllByRecursion (table_codec t).Typed (map see slice) → (class_codec (list_of t)).Typed (items (attributes_of (map see list)))

@@ -13,7 +13,8 @@ use Rattle.tc_values.specs.Inner.{Inner, IsInner}
 use Rattle.tc_values.specs.Value.{value_class, value_content, SettledValue, SettledAs}
 use Rattle.tc_values.specs.Row.{reads_at, written_at, attribute_of, IsRow, ShownAs}
 use Rattle.tc_values.specs.declared.value.Value.{Value}
-use Rattle.tc_values.specs.declared.value.Value.TheVariants.{Presence, Truth, U8, U16, U32, U16Be, U32Be, Bits1, Bits3, Bits20, Octets4, Octets6, Octets8, Octets16, Bytes, Text, Warning, Kept, Nested}
+use Rattle.tc_values.specs.declared.value.Value.TheVariants.{Presence, Truth, U8, U16, U32, U16Be, U32Be, Bits1, Bits3, Bits20, Octets4, Octets6, Octets8,
+    Octets16, Bytes, Text, Warning, Kept, Nested}
 use Rattle.tc_values.proofs.Values.{value_written, value_fits, value_typed, value_settled}
 
 -- a typed value at its type, in a codec that writes it by this word and this class
@@ -47,9 +48,11 @@ by_unread n class = record {
 }
 
 pub some_pair : {n m : ℕ} {c d : Class} → ◌≡◌ {A = Option (ℕ × Class)} (Some (n, c)) (Some (m, d)) → (n ≡ m) × (c ≡ d)
-some_pair {n = n} {c = c} e = (ap (λ (o : Option (ℕ × Class)). (unwrap_or {T = ℕ × Class} o (n, c)).0) e, ap (λ (o : Option (ℕ × Class)). (unwrap_or {T = ℕ × Class} o (n, c)).1) e)
+some_pair {n = n} {c = c} e = (ap (λ (o : Option (ℕ × Class)). (unwrap_or {T = ℕ × Class} o (n, c)).0) e,
+    ap (λ (o : Option (ℕ × Class)). (unwrap_or {T = ℕ × Class} o (n, c)).1) e)
 
-written_row : (rows : Rows) (n word : ℕ) (class : Class) → ◌≡◌ {A = Option (ℕ × Class)} (written_at rows n) (Some (word, class)) → WrittenAt (rows_codec rows n) (reads_at rows n) n word class
+written_row : (rows : Rows) (n word : ℕ) (class : Class) → ◌≡◌ {A = Option (ℕ × Class)} (written_at rows n) (Some (word, class))
+    → WrittenAt (rows_codec rows n) (reads_at rows n) n word class
 written_row others n word class e = absurd (cc e)
 written_row (types first last flags c rows) n word class e = go (is_within first last n) e (written_row rows n word class)
   where
@@ -77,7 +80,8 @@ written_row (options m kinds rows) n word class e = go (n == m) e (written_row r
   where
     go : (b : Bool) → ◌≡◌ {A = Option (ℕ × Class)} (cond b None (written_at rows n)) (Some (word, class))
         → (written_at rows n ≡ Some (word, class) → WrittenAt (rows_codec rows n) (reads_at rows n) n word class)
-        → WrittenAt (choose b (options_frames m kinds (via a_list (list_codec keep keep (kinds_codec kinds)))) (rows_codec rows n)) (cond b true (reads_at rows n)) n word class
+        → WrittenAt (choose b (options_frames m kinds (via a_list (list_codec keep keep (kinds_codec kinds)))) (rows_codec rows n))
+            (cond b true (reads_at rows n)) n word class
     go true e rest = absurd (cc e)
     go false e rest = rest e
 
@@ -90,18 +94,21 @@ kept_unread write fits typed settled = record { write = write; fits = fits; type
 kept_read : {codec : Codec Frame Attribute} → ((w : ℕ) (v : List ℕ) → codec.write (other w v) ≡ record { word = w; value = v })
     → ((w : ℕ) (v : List ℕ) → codec.Fits (other w v) ↔ IsShort v) → ((w : ℕ) (v : List ℕ) → IsRaw w v → codec.Typed (other w v))
     → ((kind : List ℕ) (w : ℕ) (v : List ℕ) → codec.Settled kind (other w v) → ⊥) → KeptAt codec true
-kept_read write fits typed never = record { write = write; fits = fits; typed = typed; settled = λ kind w v. (λ s. absurd (never kind w v s), λ s. absurd (cc s)) }
+kept_read write fits typed never =
+    record { write = write; fits = fits; typed = typed; settled = λ kind w v. (λ s. absurd (never kind w v s), λ s. absurd (cc s)) }
 
 kept_row : (rows : Rows) (n : ℕ) → KeptAt (rows_codec rows n) (reads_at rows n)
 kept_row others n = kept_unread (λ w v. refl) (λ w v. (λ f. f, λ f. f)) (λ w v t. t) (λ kind w v. tt)
 kept_row (types first last flags c rows) n = go (is_within first last n) (kept_row rows n)
   where
-    go : (b : Bool) → KeptAt (rows_codec rows n) (reads_at rows n) → KeptAt (choose b (row_frames (flags + n) n (class_codec c)) (rows_codec rows n)) (cond b true (reads_at rows n))
+    go : (b : Bool) → KeptAt (rows_codec rows n) (reads_at rows n)
+        → KeptAt (choose b (row_frames (flags + n) n (class_codec c)) (rows_codec rows n)) (cond b true (reads_at rows n))
     go true rest = kept_read (λ w v. refl) (λ w v. (λ f. f, λ f. f)) (λ w v t. t) (λ kind w v s. s)
     go false rest = rest
 kept_row (unread m c rows) n = go (n == m) (kept_row rows n)
   where
-    go : (b : Bool) → KeptAt (rows_codec rows n) (reads_at rows n) → KeptAt (choose b (unread_frames m (class_codec c)) (rows_codec rows n)) (cond b false (reads_at rows n))
+    go : (b : Bool) → KeptAt (rows_codec rows n) (reads_at rows n)
+        → KeptAt (choose b (unread_frames m (class_codec c)) (rows_codec rows n)) (cond b false (reads_at rows n))
     go true rest = kept_unread (λ w v. refl) (λ w v. (λ f. f, λ f. f)) (λ w v t. t) (λ kind w v. tt)
     go false rest = rest
 kept_row (options m kinds rows) n = go (n == m) (kept_row rows n)
@@ -114,7 +121,8 @@ kept_row (options m kinds rows) n = go (n == m) (kept_row rows n)
 module _ {N : Type 0} (inner : Inner N) (is : IsInner inner) (rows : Rows) (word : ℕ) where
   -- a typed value, of a class that the table has for its word
   shown_known : (v : Value N) → written_at rows (type_of word) ≡ Some (word, value_class inner v)
-      → ((kind : List ℕ) → SettledAs inner.Settled (reads_at rows (type_of word)) kind v ≡ ((reads_at rows (type_of word) ≡ true) × SettledValue inner.Settled kind v))
+      → ((kind : List ℕ) → SettledAs inner.Settled (reads_at rows (type_of word)) kind v
+          ≡ ((reads_at rows (type_of word) ≡ true) × SettledValue inner.Settled kind v))
       → ShownAs inner rows (known (type_of word) (value_content inner v)) word v
   shown_known v row same =
       let x = value_content inner v in

@@ -25,18 +25,21 @@ not_read kind f e is = Gives-exact e _ (go (type_of f.word == 1) ((Decides-eqb (
     of_text (Ok t) bad = absurd (cc bad)
     of_text (Err d) same = cc
 
-    go : (b : Bool) → (b ≡ true → type_of f.word ≡ 1) → refused e ≡ cond b (seen Some (text f.value)) (Ok None) → (table_codec (table attributes)).read kind f ≡ refused e
+    go : (b : Bool) → (b ≡ true → type_of f.word ≡ 1) → refused e ≡ cond b (seen Some (text f.value)) (Ok None)
+        → (table_codec (table attributes)).read kind f ≡ refused e
     go true one same = rw (one refl) (of_text (text f.value) same)
     go false one bad = absurd (cc bad)
 
 -- the kind after it is the one that it tells
-pub kind_told_then : (kind : List ℕ) (f : Frame) (told : Option (List ℕ)) → read_as told ≡ first_look [] f → kind_after kind told ≡ kind_then kind_of_frame kind f
+pub kind_told_then : (kind : List ℕ) (f : Frame) (told : Option (List ℕ)) → read_as told ≡ first_look [] f
+    → kind_after kind told ≡ kind_then kind_of_frame kind f
 kind_told_then kind f told is = go (tells_kind f) is
   where
     go : (b : Bool) → read_as told ≡ cond b (seen Some (text f.value)) (Ok None) → kind_after kind told ≡ kind_after kind (cond b (Some (strip f.value)) None)
     go true same = of_test (is_utf8 (strip f.value)) same
       where
-        of_test : (b : Bool) → read_as told ≡ seen Some (cond b (Ok (strip f.value)) (Err NotUtf8)) → kind_after kind told ≡ kind_after kind (Some (strip f.value))
+        of_test : (b : Bool) → read_as told ≡ seen Some (cond b (Ok (strip f.value)) (Err NotUtf8))
+            → kind_after kind told ≡ kind_after kind (Some (strip f.value))
         of_test true same = cc
         of_test false bad = absurd (cc bad)
     go false same = cc

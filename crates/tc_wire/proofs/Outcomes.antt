@@ -10,7 +10,8 @@ use Rattle.tc_canon.specs.Tables.Messages.{attributes}
 use Rattle.tc_meaning.specs.Whole.{ReadsTc, FaultTc}
 
 -- an outcome is a reading or a fault
-reading_or_fault : (bytes : List ℕ) (outcome : Outcome Message) → OneMessage kind_of_frame tc_header attributes bytes outcome → ((m : Message) × ReadsTc bytes m) ⊎ ((e : DecodeError) × FaultTc bytes e)
+reading_or_fault : (bytes : List ℕ) (outcome : Outcome Message) → OneMessage kind_of_frame tc_header attributes bytes outcome
+    → ((m : Message) × ReadsTc bytes m) ⊎ ((e : DecodeError) × FaultTc bytes e)
 reading_or_fault bytes (Ok m) is = inl (m, (is.reading m).0 refl)
 reading_or_fault bytes (Err e) is = inr (e, (is.fault e).0 refl)
 

@@ -24,16 +24,19 @@ refused_by codec outcome Reads Fault reading fault OutOfMemory why = tt
 -- what is written of what is read is a rewrite
 pub rewritten : (sets : Sets Frame) (by_value : Sets Attribute) (layout : List Field) (rows : Rows) (bytes : List ℕ)
     → ((m : Message) → (read_with sets layout rows bytes ≡ Ok m) ↔ ReadsWith sets layout rows bytes m)
-    → (written : List ℕ) → WrittenOf (message_codec sets by_value layout rows) (read_with sets layout rows bytes) written → RewritesWith sets layout rows bytes written
+    → (written : List ℕ) → WrittenOf (message_codec sets by_value layout rows) (read_with sets layout rows bytes) written
+        → RewritesWith sets layout rows bytes written
 rewritten sets by_value layout rows bytes reading written w = record { message = w.value; reads = (reading w.value).0 w.is_read; fits = w.fits; is = w.is }
 
 -- a test that fails refutes what it tests
 pub refuted : {P : Type 0} (test : Bool) → (test ≡ true) ↔ P → test ≡ false → P → ⊥
 refuted test tells fails p = let holds : test ≡ true = tells.1 p in absurd (cc (fails, holds))
 
-module _ (rewrites : Rewrites) (Canon : List ℕ → Type 0) (Reads : List ℕ → Message → Type 0) (norm : Message → Message) (bytes : List ℕ) (m : Message) (reads : Reads bytes m) where
+module _ (rewrites : Rewrites) (Canon : List ℕ → Type 0) (Reads : List ℕ → Message → Type 0) (norm : Message → Message) (bytes : List ℕ) (m : Message)
+    (reads : Reads bytes m) where
   -- bytes that are those to which so many rewrites lead
-  pub settles_to : (count : ℕ) (s : SettlesIn rewrites Canon Reads count bytes (norm m)) (settled : List ℕ) → s.final ≡ settled → Settles rewrites Canon Reads norm bytes settled count
+  pub settles_to : (count : ℕ) (s : SettlesIn rewrites Canon Reads count bytes (norm m)) (settled : List ℕ) → s.final ≡ settled
+      → Settles rewrites Canon Reads norm bytes settled count
   settles_to count s settled is = record {
     reached = subst (Times rewrites count bytes) is s.reached;
     canonical = subst Canon is s.canonical;
@@ -44,7 +47,8 @@ module _ (rewrites : Rewrites) (Canon : List ℕ → Type 0) (Reads : List ℕ �
   }
 
   -- canonical bytes are those themselves
-  pub settles_at_once : (s : SettlesIn rewrites Canon Reads 0 bytes (norm m)) (settled : List ℕ) → settled ≡ bytes → Settles rewrites Canon Reads norm bytes settled 0
+  pub settles_at_once : (s : SettlesIn rewrites Canon Reads 0 bytes (norm m)) (settled : List ℕ) → settled ≡ bytes
+      → Settles rewrites Canon Reads norm bytes settled 0
   settles_at_once s settled same = settles_to 0 s settled (s.reached ∙ sym same)
 
   -- after one rewrite they are those that it gives

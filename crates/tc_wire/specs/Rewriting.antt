@@ -46,7 +46,8 @@ RefusedOf codec outcome = RefusedBy (λ x. outcome ≡ Ok x) (λ e. outcome ≡ 
 
 -- ---- as many rewrites as lead to canonical bytes
 
-pub record Settles (rewrites : Rewrites) (Canon : List ℕ → Type 0) (Reads : List ℕ → Message → Type 0) (norm : Message → Message) (bytes settled : List ℕ) (count : ℕ) : Type 0 where
+pub record Settles (rewrites : Rewrites) (Canon : List ℕ → Type 0) (Reads : List ℕ → Message → Type 0) (norm : Message → Message) (bytes settled : List ℕ)
+    (count : ℕ) : Type 0 where
   -- so many rewrites of the bytes give these
   pub reached : Times rewrites count bytes settled
   -- which are canonical, as those that fewer rewrites give aren't

@@ -22,7 +22,8 @@ IsBytes-cons b bytes below rest (suc i) = rest i
 digit_below : (c v : ℕ) → hex_digit_value c ≡ Some v → v < 16
 digit_below c v = go (nat_le 65 c && nat_le c 70) refl (nat_le 97 c && nat_le c 102) refl (nat_le 48 c && nat_le c 57) refl
   where
-    go : (upper : Bool) → (nat_le 65 c && nat_le c 70) ≡ upper → (lower : Bool) → (nat_le 97 c && nat_le c 102) ≡ lower → (figure : Bool) → (nat_le 48 c && nat_le c 57) ≡ figure
+    go : (upper : Bool) → (nat_le 65 c && nat_le c 70) ≡ upper → (lower : Bool) → (nat_le 97 c && nat_le c 102) ≡ lower → (figure : Bool)
+        → (nat_le 48 c && nat_le c 57) ≡ figure
         → (if upper then Some (c - 55) else if lower then Some (c - 87) else if figure then Some (c - 48) else None) ≡ Some v → v < 16
     go true u lower l figure f is = let e : c - 55 ≡ v = cc in omega (arith, leb-true c 70 (and_parts _ _ u).1)
     go false u true l figure f is = let e : c - 87 ≡ v = cc in omega (arith, leb-true c 102 (and_parts _ _ l).1)

@@ -9,7 +9,8 @@ use Rattle.tcrewrite.specs.Text.{looked_at}
 use Rattle.tcrewrite.specs.Run.{IsTextOf}
 
 -- a text that grew by what was taken next is all that was taken
-pub Consumes-next : (a b c : Option (List ℕ)) (old new : List ℕ) → Consumes a b old → StartsWith new old → Consumes b c (appended_bytes old new) → Consumes a c new
+pub Consumes-next : (a b c : Option (List ℕ)) (old new : List ℕ) → Consumes a b old → StartsWith new old → Consumes b c (appended_bytes old new)
+    → Consumes a c new
 Consumes-next a b c old new first grown next =
     let P : List ℕ → Type 0 = λ l. Consumes a c l in
     subst P (sym (starts_with_rest new old grown)) (Consumes-trans a b c old (appended_bytes old new) first next)
@@ -22,7 +23,8 @@ looked_at-full text ys full =
     sym (take-append-le 1048577 text ys fits ∙ take_all 1048577 text bound)
 
 -- what was taken up to the reader's end, or up to the limit, is the text
-pub IsTextOf-taken : (a b : Option (List ℕ)) (text : List ℕ) → Consumes a b text → length text ≤ 1048577 → (length text ≡ 1048577) ⊎ IsAtEnd b → IsTextOf a b text
+pub IsTextOf-taken : (a b : Option (List ℕ)) (text : List ℕ) → Consumes a b text → length text ≤ 1048577 → (length text ≡ 1048577) ⊎ IsAtEnd b
+    → IsTextOf a b text
 IsTextOf-taken None b text taken bound ended = tt
 IsTextOf-taken (Some xs) None text taken bound ended = absurd taken
 IsTextOf-taken (Some xs) (Some ys) text taken bound (inl full) = (looked_at-full text ys full ∙ ap looked_at (sym taken), taken)

@@ -13,7 +13,9 @@ pub loop-rest-smaller-else-is_some : goal.loop-rest-smaller-else-is_some
 loop-rest-smaller-else-is_some c = front-shorter _ _ _ c.in-Some.ensures
 
 pub loop-rest-preserved-else-is_some : goal.loop-rest-preserved-else-is_some
-loop-rest-preserved-else-is_some c own = own-found _ c.loop-rest.own _ c.loop-rest.invariant _ _ c.in-Some.ensures _ c.kind.ensures _ _ c.if-is_some.ensures c.if-kind-eq1.true c.value.ensures.bytes c.strip_nul.ensures own
+loop-rest-preserved-else-is_some c own =
+    own-found _ c.loop-rest.own _ c.loop-rest.invariant _ _ c.in-Some.ensures _ c.kind.ensures _ _ c.if-is_some.ensures c.if-kind-eq1.true
+    c.value.ensures.bytes c.strip_nul.ensures own
 
 pub loop-rest-smaller : goal.loop-rest-smaller
 loop-rest-smaller c = front-shorter _ _ _ c.in-Some.ensures

@@ -15,4 +15,5 @@ second : (c : goal.Start) → IsWireBytes c.args.second.now
 second c = wire_slice c.args.second.now c.type_inv.second (omega arith)
 
 pub returns : goal.returns
-returns c = same-norm keep keep action_message_header action_message_attributes CanonAct act_words act_next c.args.first.now c.args.second.now (first c) (second c)
+returns c = same-norm keep keep action_message_header action_message_attributes CanonAct act_words act_next c.args.first.now c.args.second.now (first c)
+    (second c)

@@ -17,5 +17,6 @@ pub returns-clause-refused : goal.returns-clause-refused
 returns-clause-refused g c =
     let fs = map frame_of c.args.frames.now in
     let kind = c.args.kind.now in
-    IfRefused-Gives (λ v. map g.T.FrameMeaning.see v.items) c.read_frames.result (read_each g.T.FrameMeaning.codec.read keep kind (whole fs)) c.read_frames.ensures
+    IfRefused-Gives (λ v. map g.T.FrameMeaning.see v.items) c.read_frames.result
+        (read_each g.T.FrameMeaning.codec.read keep kind (whole fs)) c.read_frames.ensures
     (FirstRefused g.T.FrameMeaning.codec.read kind fs) (first_of_frames g.T.FrameMeaning.codec.read kind fs)

@@ -18,4 +18,5 @@ loop-frame-preserved g c =
     (goes_on g.T.FrameMeaning.codec.read keep c.args.kind.now _ _ _ c.loop-frame.invariant _ _ _ next c.in_ok-item.ensures)
 
 pub returns : goal.returns
-returns g c = is_done g.T.FrameMeaning.codec.read keep c.args.kind.now _ _ _ c.loop-frame.invariant (frames_all frame_of c.args.frames.now c.loop-frame.frame-index c.loop-frame-test.false)
+returns g c = is_done g.T.FrameMeaning.codec.read keep c.args.kind.now _ _ _ c.loop-frame.invariant
+    (frames_all frame_of c.args.frames.now c.loop-frame.frame-index c.loop-frame-test.false)

@@ -10,7 +10,8 @@ pub returns-clause-value : goal.returns-clause-value
 returns-clause-value g c = ap (with_body (tc_message c.args.self).header) c.upgraded_list-attributes.ensures
 
 pub returns-clause-upgraded : goal.returns-clause-upgraded
-returns-clause-upgraded g c = λ bytes are_bytes reads. subst (ReadsTc bytes) (sym (returns-clause-value g c)) (tc1-upgraded bytes are_bytes (tc_message c.args.self) reads)
+returns-clause-upgraded g c = λ bytes are_bytes reads.
+    subst (ReadsTc bytes) (sym (returns-clause-value g c)) (tc1-upgraded bytes are_bytes (tc_message c.args.self) reads)
 
 pub returns-clause-twice : goal.returns-clause-twice
 returns-clause-twice g c =

@@ -7,4 +7,5 @@ returns-then-self-le-NLA_TYPE_MASK-clause-settled g c =
     action_settled c.args._kind.now c.args.self.now.tab _ _ (omega arith) (rw c.deref.ensures.value at c.list_settled_own.ensures.settled)
 
 pub returns-then-self-le-NLA_TYPE_MASK-clause-typed : goal.returns-then-self-le-NLA_TYPE_MASK-clause-typed
-returns-then-self-le-NLA_TYPE_MASK-clause-typed g c = λ yes. action_typed c.args.self.now.tab _ c.u16_in_hand.ensures (rw c.deref.ensures.value at (c.list_settled_own.ensures.typed yes))
+returns-then-self-le-NLA_TYPE_MASK-clause-typed g c =
+    λ yes. action_typed c.args.self.now.tab _ c.u16_in_hand.ensures (rw c.deref.ensures.value at (c.list_settled_own.ensures.typed yes))

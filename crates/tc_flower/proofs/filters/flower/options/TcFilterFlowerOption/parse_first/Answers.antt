@@ -14,4 +14,5 @@ pub returns-in_err-parse_list-in-3 : goal.returns-in_err-parse_list-in-3
 unfolding first_rows
 returns-in_err-parse_list-in-3 g c =
     let p = err_from_is_err_and c.from_residual-in_err-parse_list-in-3.result c.from_residual-in_err-parse_list-in-3.ensures.1 in
-    rw (p.1, p.2) (refuses_items first_rows an_action 3 3 refl [] _ (sym c.kind.ensures ∙ c.in-3.is) _ (rw c.value-value.ensures.bytes at c.in_err-parse_list-in-3.ensures.exact))
+    rw (p.1, p.2) (refuses_items first_rows an_action 3 3 refl [] _ (sym c.kind.ensures ∙ c.in-3.is) _
+        (rw c.value-value.ensures.bytes at c.in_err-parse_list-in-3.ensures.exact))
