@@ -2,7 +2,7 @@
 use Rattle.std.proofs.Common.{◌≡◌, ℕ, List, refl}
 use Rattle.std.specs.List.{AllZip}
 use Rattle.std.proofs.lemmas.List.Elements.{same_from_all_zip}
-use Rattle.tc_meaning.specs.Tree.{Attribute, other}
+use Rattle.tc_meaning.specs.Tree.{other}
 
 pub kept_copied : (word copy : ℕ) (xs ys : List ℕ) (Copied : ℕ → ℕ → Type 0) → copy ≡ word → AllZip Copied xs ys → ((x y : ℕ) → Copied x y → y ≡ x)
     → other copy ys ≡ other word xs
