@@ -37,20 +37,21 @@ fn first(alloc: Global) -> Result<Vec<u8>, Fail> {
 // Asserts of so many of its first bytes that they are refused, or read as a header alone, or with the kind, whose padding may be cut.
 fn is_front(rt: &impl Abort, alloc: Global, bytes: &[u8], count: usize) -> Result<(), Fail> {
     let (front, _) = bytes.split_at(count.min(bytes.len()));
-    let message = match TcMessage::parse(alloc, front) {
-        Ok(message) => message,
-        Err(fault) => {
-            assert_eq!(rt; Some(fault), fault_of_front(count));
-            return Ok(());
+    let fault = fault_of_front(count);
+    match TcMessage::parse(alloc, front) {
+        Err(found) => assert!(rt; fault == Some(found), "{count}"),
+        Ok(message) => {
+            let (kinds, written) = if count == 20 { (0, 20) } else { (1, 36) };
+            assert!(rt;
+                fault.is_none() && message.attributes.len() == kinds,
+                "{count}"
+            );
+            assert!(rt; message.is_settled(), "{count}");
+            assert!(rt; is_canonical_tc(front) == (count == written), "{count}");
+            let emitted = emitted(alloc, &message)?.ok_or("it fits")?;
+            assert!(rt; bytes.get(..written) == Some(emitted.as_slice()), "{count}");
         }
-    };
-    let (kinds, written) = if count == 20 { (0, 20) } else { (1, 36) };
-    assert_eq!(rt; fault_of_front(count), None);
-    assert_eq!(rt; message.attributes.len(), kinds);
-    assert!(rt; message.is_settled());
-    assert_eq!(rt; is_canonical_tc(front), count == written);
-    let emitted = emitted(alloc, &message)?.ok_or("it fits")?;
-    assert_eq!(rt; Some(emitted.as_slice()), bytes.get(..written));
+    }
     Ok(())
 }
 

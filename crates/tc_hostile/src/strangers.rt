@@ -1,13 +1,20 @@
 //! Messages that were cut short, changed, or made of attributes of all types.
 
 use crate::alone::had_for_attributes;
-use crate::judge::is_judged;
+use crate::judge::judge;
 use std::alloc::Global;
 use std::process::Abort;
 use std::test::Fail;
 use tc_inputs::{
     Form, Input, LAST_TYPE, LENGTHS, around, captured, cut_and_changed, made, swept, too_long,
 };
+
+// Asserts of a message that nothing is wrong with what is answered.
+fn is_judged(rt: &impl Abort, alloc: Global, input: &Input) -> Result<(), Fail> {
+    let complaint = judge(alloc, input)?;
+    assert!(rt; complaint.is_none(), "{complaint:?}: {input:?}");
+    Ok(())
+}
 
 // Judges each of these messages, and returns how many they are.
 fn are_judged(rt: &impl Abort, alloc: Global, inputs: &[Input]) -> Result<usize, Fail> {
