@@ -5,6 +5,7 @@ pub mod UpgradeLaws
 pub mod FirstVersionLaws
 pub mod UpgradeRows
 pub mod TrailingNuls
+pub mod MostNuls
 pub mod TrimLaws
 pub mod RewriteValues
 pub mod RewriteLists

@@ -8,7 +8,8 @@ use Rattle.tc_meaning.specs.Message.{Message}
 use Rattle.tc_laws.specs.Loose.{Part, is_loose_part}
 use Rattle.tc_laws.specs.Rewriting.{Rewrites, RewritesTimes, SettlesAs, SettlesIn}
 use Rattle.tc_meaning.proofs.Outcomes.{ok-same}
-use Rattle.tc_laws.proofs.TrimLaws.{TrimLaws, most, most-whole, whole-most}
+use Rattle.tc_laws.proofs.MostNuls.{most}
+use Rattle.tc_laws.proofs.TrimLaws.{TrimLaws, most-whole, whole-most}
 use Rattle.tc_laws.proofs.RewriteValues.{RewriteLaws, IsSettledPart}
 
 -- no part is loose
