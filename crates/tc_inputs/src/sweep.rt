@@ -25,8 +25,8 @@ pub fn swept(alloc: Global, word: u16, length: usize) -> Result<Vec<u8>, AllocEr
     frame(alloc, word, &vec![in alloc; 1u8; length]?)
 }
 
-/// The messages in which an attribute stands alone, and as the one option of each known kind.
-pub fn around(alloc: Global, swept: &[u8]) -> Result<Vec<Input>, AllocError>
+// The messages in which an attribute stands alone, and as the one option of each known kind.
+fn around(alloc: Global, swept: &[u8]) -> Result<Vec<Input>, AllocError>
     ensures { IfOk result (λ inputs. vec_len inputs ≡ 11) }
 {
     let mut inputs = Vec::new(alloc);
@@ -43,6 +43,19 @@ pub fn around(alloc: Global, swept: &[u8]) -> Result<Vec<Input>, AllocError>
         attributes.extend_from_slice(&frame(alloc, 0x8002, swept)?)?;
         let actions = frame(alloc, 1, &frame(alloc, 1, &attributes)?)?;
         inputs.push(Input::of_frames(alloc, Form::Action, &[&actions])?)?;
+    }
+    Ok(inputs)
+}
+
+/// The messages in which an attribute of each type and each length stands so.
+pub fn all_around(alloc: Global) -> Result<Vec<Input>, AllocError>
+    ensures { IfOk result (λ inputs. vec_len inputs ≡ 12210) }
+{
+    let mut inputs = Vec::new(alloc);
+    for word in 0..LAST_TYPE + 1 {
+        for length in LENGTHS {
+            inputs.append(&mut around(alloc, &swept(alloc, word, length)?)?)?;
+        }
     }
     Ok(inputs)
 }
