@@ -33,9 +33,9 @@ use Rattle.tc_meaning.proofs.KindLaws.{KindLaws, bytes_eq-refl}
 use Rattle.tc_meaning.proofs.OwnLaws.{TellsKind, read_own-ok, told-set}
 use Rattle.tc_meaning.proofs.TableLaws.{rows_laws, kinds_laws, tells_rows}
 use Rattle.tc_laws.proofs.TrailingNuls.{without-ends}
-use Rattle.tc_laws.proofs.NextValues.{counted, mask-below}
-use Rattle.tc_laws.proofs.NextRows.{of_row, wire_value}
-use Rattle.tc_laws.proofs.NextTables.{settled-presence, settled-record, settled-xstats, same_kind}
+use Rattle.tc_laws.proofs.RewriteValues.{counted, mask-below}
+use Rattle.tc_laws.proofs.RewriteRows.{of_row, wire_value}
+use Rattle.tc_laws.proofs.RewriteTables.{settled-presence, settled-record, settled-xstats, same_kind}
 
 -- what is read is settled after the change
 abbrev pub NormSettled : {W X : Type 0} → (W → Type 0) → Codec W X → (X → X) → Type 0

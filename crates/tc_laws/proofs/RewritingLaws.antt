@@ -17,13 +17,14 @@ use Rattle.tc_laws.specs.Norm.{next, norm, norm_tc, norm_act}
 use Rattle.tc_laws.specs.Rewriting.{RewritesWith, SettlesAs, SettlesIn, EndsWith, TcSettlesIn}
 use Rattle.tc_meaning.proofs.MessageLaws.{one_message}
 use Rattle.tc_meaning.proofs.TableLaws.{table_laws}
-use Rattle.tc_meaning.proofs.Headline.{sound_attributes, sound_actions, tells_attributes, tc_laws, act_laws, canon-tc, canon-act, tc-reading, act-reading,
+use Rattle.tc_meaning.proofs.MessageTheorems.{sound_attributes, sound_actions, tells_attributes, tc_laws, act_laws, canon-tc, canon-act, tc-reading,
+    act-reading,
     tc-typed, act-typed, tc-settled, act-settled}
 use Rattle.tc_laws.proofs.TrimLaws.{message_trims, whole-most}
 use Rattle.tc_laws.proofs.NoWarnings.{tc_whole}
-use Rattle.tc_laws.proofs.NextValues.{NextLaws}
-use Rattle.tc_laws.proofs.NextTables.{same_kind}
-use Rattle.tc_laws.proofs.NextMessages.{message_next, message_norm}
+use Rattle.tc_laws.proofs.RewriteValues.{RewriteLaws}
+use Rattle.tc_laws.proofs.RewriteTables.{same_kind}
+use Rattle.tc_laws.proofs.RewriteMessages.{message_next, message_norm}
 use Rattle.tc_laws.proofs.Settling.{none_loose, IsRead, canon-norm, canon-whole, is_read-next, norm-typed, norm-fits, rewrites-once, settles, settles-as,
     same-settled}
 
@@ -40,7 +41,7 @@ in_words c Canon Other words laws = record {
 
 module _ (by_frame : Sets Frame) (by_value : Sets Attribute) (layout : List Field) (rows : Rows) (Canon : List ℕ → Type 0)
     (laws : Laws IsWireBytes (message_codec by_frame by_value layout rows) (λ kind bytes. Canon bytes))
-    (r : NextLaws IsWireBytes length (message_codec by_frame by_value layout rows) (next rows) (message_parts rows)) where
+    (r : RewriteLaws IsWireBytes length (message_codec by_frame by_value layout rows) (next rows) (message_parts rows)) where
   -- reading is the grammar
   reads-is : (bytes : List ℕ) (m : Message) → IsWireBytes bytes → (read_with by_frame layout rows bytes ≡ Ok m) ↔ ReadsWith by_frame layout rows bytes m
   reads-is bytes m w = (one_message by_frame layout rows bytes w.are_bytes).reading m
@@ -132,12 +133,12 @@ tc_words = in_words (message_codec kind_of_frame kind_of_attribute tc_header att
 pub act_words : Laws IsWireBytes (message_codec keep keep action_message_header action_message_attributes) (λ kind bytes. CanonAct bytes)
 act_words = in_words (message_codec keep keep action_message_header action_message_attributes) _ CanonAct canon-act act_laws
 
-pub tc_next : NextLaws IsWireBytes length (message_codec kind_of_frame kind_of_attribute tc_header attributes) (next attributes) (message_parts attributes)
+pub tc_next : RewriteLaws IsWireBytes length (message_codec kind_of_frame kind_of_attribute tc_header attributes) (next attributes) (message_parts attributes)
 tc_next =
     message_next kind_of_frame kind_of_attribute tc_header attributes sound_attributes (table_laws (table attributes) sound_attributes)
     (λ kind f x w e. tells_attributes.agree kind f x e) (λ change. same_kind change attributes refl)
 
-pub act_next : NextLaws IsWireBytes length (message_codec keep keep action_message_header action_message_attributes) (next action_message_attributes)
+pub act_next : RewriteLaws IsWireBytes length (message_codec keep keep action_message_header action_message_attributes) (next action_message_attributes)
     (message_parts action_message_attributes)
 act_next =
     message_next keep keep action_message_header action_message_attributes sound_actions (table_laws (table action_message_attributes) sound_actions)

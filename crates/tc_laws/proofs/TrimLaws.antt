@@ -3,7 +3,6 @@ use Rattle.std.proofs.Common.{◌≡◌, ◌⊎◌, ℕ, ◌-◌, ◌%◌, ◌^�
     inr, pow_pos, mod-eq_of_lt}
 use Rattle.std.specs.List.{flat_map, AllByRecursion}
 use Rattle.std.specs.Str.{bytes_eq}
-use Rattle.std.proofs.lemmas.Bool.{cases_lt, lt-ltb, le-ltb}
 use Rattle.nla_frames.specs.Value.{ends_in_nul, strip}
 use Rattle.tc_canon.specs.Descriptor.{Class, le, be, masked, array, raw, text, warning, presence, truth, fields, selector, pair, xstats, list_of, own_list,
     Table, table, every, by_kind, Rows, others, types, unread, options, Kinds, unknown, kind, is_within}
@@ -12,24 +11,18 @@ use Rattle.tc_meaning.specs.Content.{a_number, some_bytes}
 use Rattle.tc_meaning.specs.Meaning.{a_list}
 use Rattle.tc_meaning.specs.Message.{Message}
 use Rattle.tc_laws.specs.Loose.{Part, masked_number, warning_text, parts_in_known, parts_in_kind, class_parts, table_parts, rows_parts, kinds_parts,
-    message_parts, without_nuls, trailing_nuls, part_nuls, greater, greatest}
+    message_parts, without_nuls, trailing_nuls, part_nuls, greater}
 use Rattle.tc_laws.specs.Norm.{on, in_known, in_kind, trimmed_class, trimmed_table, trimmed_rows, trimmed_kinds, norm, next}
 use Rattle.tc_meaning.proofs.Trees.{attributes_again}
+use Rattle.tc_laws.proofs.MostNuls.{greater-cases, greater-nothing, most, most-append}
 use Rattle.tc_laws.proofs.TrailingNuls.{without-strip, without-none, none-ends, ends-none, trailing-strip}
 use Rattle.tc_meaning.proofs.Texts.{strip-none}
 
 -- ---- numbers
 
-greater-cases : (m n : ℕ) → ((m < n) × (greater m n ≡ n)) ⊎ ((n ≤ m) × (greater m n ≡ m))
-greater-cases m n = go (cases_lt m n)
-  where
-    go : (m < n) ⊎ (n ≤ m) → ((m < n) × (greater m n ≡ n)) ⊎ ((n ≤ m) × (greater m n ≡ m))
-    go (inl less) = inl (less, rw (lt-ltb m n less) refl)
-    go (inr more) = inr (more, rw (le-ltb m n more) refl)
-
 -- both one less
-greater-less : (m n : ℕ) → greater (m - 1) (n - 1) ≡ greater m n - 1
-greater-less m n = go (greater-cases m n) (greater-cases (m - 1) (n - 1))
+greater-one_less : (m n : ℕ) → greater (m - 1) (n - 1) ≡ greater m n - 1
+greater-one_less m n = go (greater-cases m n) (greater-cases (m - 1) (n - 1))
   where
     go : ((m < n) × (greater m n ≡ n)) ⊎ ((n ≤ m) × (greater m n ≡ m))
         → ((m - 1 < n - 1) × (greater (m - 1) (n - 1) ≡ n - 1)) ⊎ ((n - 1 ≤ m - 1) × (greater (m - 1) (n - 1) ≡ m - 1))
@@ -38,24 +31,6 @@ greater-less m n = go (greater-cases m n) (greater-cases (m - 1) (n - 1))
     go (inl a) (inr b) = omega (arith, a.0, a.1, b.0, b.1)
     go (inr a) (inl b) = omega (arith, a.0, a.1, b.0, b.1)
     go (inr a) (inr b) = omega (arith, a.0, a.1, b.0, b.1)
-
-greater-nothing : (n : ℕ) → greater n 0 ≡ n
-greater-nothing n = go (greater-cases n 0)
-  where
-    go : ((n < 0) × (greater n 0 ≡ 0)) ⊎ ((0 ≤ n) × (greater n 0 ≡ n)) → greater n 0 ≡ n
-    go (inl a) = absurd (omega (arith, a.0))
-    go (inr a) = a.1
-
--- of several, two by two
-greater-again : (k m n : ℕ) → greater k (greater m n) ≡ greater (greater k m) n
-greater-again k m n = go (greater-cases m n) (greater-cases k m)
-  where
-    go : ((m < n) × (greater m n ≡ n)) ⊎ ((n ≤ m) × (greater m n ≡ m)) → ((k < m) × (greater k m ≡ m)) ⊎ ((m ≤ k) × (greater k m ≡ k))
-        → greater k (greater m n) ≡ greater (greater k m) n
-    go (inl a) (inl b) = rw (a.1, b.1, a.1) (rw (lt-ltb k n (omega (arith, a.0, b.0))) refl)
-    go (inl a) (inr b) = rw (a.1, b.1) refl
-    go (inr a) (inl b) = rw (a.1, b.1, a.1) refl
-    go (inr a) (inr b) = rw (a.1, b.1) (rw (le-ltb k n (omega (arith, a.0, b.0))) refl)
 
 pub mask-again : (bits x : ℕ) → (x % 2 ^ bits) % 2 ^ bits ≡ x % 2 ^ bits
 mask-again bits x = let p : 0 < 2 ^ bits = pow_pos bits in let below : x % 2 ^ bits < 2 ^ bits = omega arith in mod-eq_of_lt below
@@ -66,18 +41,6 @@ mask-again bits x = let p : 0 < 2 ^ bits = pow_pos bits in let below : x % 2 ^ b
 abbrev pub IsWhole : Part → Type 0
 IsWhole (masked_number bits x) = Unit {0}
 IsWhole (warning_text t) = ends_in_nul t ≡ false
-
--- the most NULs that end one of these
-abbrev pub most : List Part → ℕ
-most parts = greatest (map part_nuls parts)
-
-most-append : (ps qs : List Part) → most (ps ++ qs) ≡ greater (most ps) (most qs)
-most-append [] qs = go (greater-cases 0 (most qs))
-  where
-    go : ((0 < most qs) × (greater 0 (most qs) ≡ most qs)) ⊎ ((most qs ≤ 0) × (greater 0 (most qs) ≡ 0)) → most qs ≡ greater 0 (most qs)
-    go (inl a) = sym a.1
-    go (inr a) = omega (arith, a.0, a.1)
-most-append (p ∷ ps) qs = ap (greater (part_nuls p)) (most-append ps qs) ∙ greater-again (part_nuls p) (most ps) (most qs)
 
 -- no NUL is left exactly if each is whole
 pub most-whole : (ps : List Part) → most ps ≡ 0 → AllByRecursion IsWhole ps
@@ -156,7 +119,7 @@ each_trim {X = X} one all parts laws = record { once = once_each; twice = twice_
     left_each (x ∷ xs) =
         most-append (parts (one x)) (flat_map parts (map one xs))
         ∙ ap₂ greater (laws.left x) (left_each xs)
-        ∙ greater-less (most (parts x)) (most (flat_map parts xs))
+        ∙ greater-one_less (most (parts x)) (most (flat_map parts xs))
         ∙ ap (λ (n : ℕ). n - 1) (sym (most-append (parts x) (flat_map parts xs)))
 
 -- a list as a content

@@ -26,7 +26,7 @@ use Rattle.tc_meaning.specs.Whole.{TypedTc, FitsTc, SettledTc}
 use Rattle.tc_laws.specs.FirstVersion.{are_unknown_options, lone_option, read_attribute1, upgrade_attribute, upgrade_each, upgrade, WasRead, IsUpgrade}
 use Rattle.tc_meaning.proofs.Outcomes.{ok-same}
 use Rattle.tc_meaning.proofs.TableLaws.{rows_laws}
-use Rattle.tc_meaning.proofs.Headline.{tells_attributes}
+use Rattle.tc_meaning.proofs.MessageTheorems.{tells_attributes}
 
 -- an attribute of a message, as version 2 reads and writes it
 abbrev pub attribute : Codec Frame Attribute

@@ -8,7 +8,7 @@ use Rattle.nla_frames.specs.Codec.{Codec}
 use Rattle.tc_canon.specs.Descriptor.{Field, Rows}
 use Rattle.tc_meaning.specs.Tree.{Attribute}
 use Rattle.tc_meaning.specs.Message.{Message, ReadsWith, read_with, message_codec}
-use Rattle.tc_laws.specs.Rewriting.{Rewrites, Times, RewritesWith, SettlesIn}
+use Rattle.tc_laws.specs.Rewriting.{Rewrites, RewritesTimes, RewritesWith, SettlesIn}
 use Rattle.tc_wire.specs.Rewriting.{RefusedBy, RefusedOf, WrittenOf, Settles}
 use Rattle.tc_wire.specs.declared.rewriting.RewriteError.{RewriteError}
 use Rattle.tc_wire.specs.declared.rewriting.RewriteError.TheVariants.{Decode, DoesNotFit, OutOfMemory}
@@ -38,7 +38,7 @@ module _ (rewrites : Rewrites) (Canon : List ℕ → Type 0) (Reads : List ℕ �
   pub settles_to : (count : ℕ) (s : SettlesIn rewrites Canon Reads count bytes (norm m)) (settled : List ℕ) → s.final ≡ settled
       → Settles rewrites Canon Reads norm bytes settled count
   settles_to count s settled is = record {
-    reached = subst (Times rewrites count bytes) is s.reached;
+    reached = subst (RewritesTimes rewrites count bytes) is s.reached;
     canonical = subst Canon is s.canonical;
     no_sooner = s.no_sooner;
     message = m;

@@ -3,7 +3,6 @@ use Rattle.std.proofs.Common.{◌≡◌, ◌↔◌, ◌+◌, ℕ, List, Ok, refl
 use Rattle.tc_canon.specs.Canonical.{CanonAct}
 use Rattle.tc_meaning.specs.Message.{Message}
 use Rattle.tc_meaning.specs.Whole.{ReadsAct, read_act, FitsAct}
-use Rattle.tc_meaning.proofs.Outcomes.{ok-same}
 use Rattle.tc_laws.specs.Loose.{nuls_act}
 use Rattle.tc_laws.specs.Norm.{norm_act}
 use Rattle.tc_laws.specs.Rewriting.{RewritesAct, ActSettlesIn, EndsAct}
@@ -28,5 +27,5 @@ module _ (bytes settled : List ℕ) (nuls : ℕ) (t : TrimmedOf bytes settled nu
   -- it is that of whatever the bytes read as
   pub counted : ((m : Message) → (read_act bytes ≡ Ok m) ↔ ReadsAct bytes m) → (m : Message) → ReadsAct bytes m → nuls + 1 ≡ nuls_act m + 1
   counted reading m reads =
-      let same : t.message ≡ m = ok-same t.message m (sym ((reading t.message).1 t.reads) ∙ (reading m).1 reads) in
+      let same : t.message ≡ m = cc ((reading t.message).1 t.reads, (reading m).1 reads) in
       ap (λ (n : ℕ). n + 1) (t.most ∙ ap nuls_act same)
