@@ -10,7 +10,7 @@ use Rattle.nla_frames.specs.Value.{IsBytes}
 use Rattle.nla_frames.specs.Frame.{Frame, IsWireFrame}
 use Rattle.nla_frames.specs.Place.{Sets}
 use Rattle.nla_frames.specs.Reading.{Reads, read_list}
-use Rattle.nla_frames.specs.ListGrammar.{OneOutcome}
+use Rattle.nla_frames.specs.ListGrammar.{HasOneOutcome}
 use Rattle.nla_frames.specs.Emission.{list_bytes}
 use Rattle.nla_frames.specs.CanonList.{IsCanonList}
 use Rattle.nla_frames.specs.Codec.{Laws, IsWireBytes, list_codec}
@@ -64,7 +64,7 @@ module _ (reads : Reads Attribute) (sets : Sets Frame) (layout : List Field) whe
   unfolding made
   one_reading bytes w = record { reading = reading; fault = fault }
     where
-      list : OneOutcome reads sets [] (drop (size_of layout) bytes) (read_list reads sets [] (drop (size_of layout) bytes))
+      list : HasOneOutcome reads sets [] (drop (size_of layout) bytes) (read_list reads sets [] (drop (size_of layout) bytes))
       list = one_outcome reads sets [] (drop (size_of layout) bytes) (IsBytes-drop (size_of layout) bytes w)
 
       reading : (m : Message) → (read_by reads sets layout bytes ≡ Ok m) ↔ ReadsBy reads sets layout bytes m

@@ -1,7 +1,7 @@
 -- A message's attribute as contracts see it.
 use Rattle.std.specs.Prelude.{◌≡◌, ◌↔◌, ℕ, List, [], map, string_bytes}
 use Rattle.nla_frames.specs.declared.error.DecodeError.{DecodeError}
-use Rattle.nla_frames.specs.ListGrammar.{ListReads, ListFault}
+use Rattle.nla_frames.specs.ListGrammar.{ListReads, IsListFault}
 use Rattle.nla_frames.specs.DefaultNla.{kept_frame}
 use Rattle.tc_canon.specs.Descriptor.{table, by_kind}
 use Rattle.tc_canon.specs.Tables.Messages.{attributes}
@@ -52,7 +52,7 @@ ReadsAttributes = ListReads (table_codec (table attributes)).read kind_of_frame 
 
 -- the first fault of a list of attributes
 abbrev pub AttributesFault : List ℕ → DecodeError → Type 0
-AttributesFault = ListFault (table_codec (table attributes)).read kind_of_frame []
+AttributesFault = IsListFault (table_codec (table attributes)).read kind_of_frame []
 
 abbrev pub Nested : Type 0 → Type 0
 Nested A = Either (Either (Items (TcOption A)) (Items (TcStats2 A))) (Either (Record TcStats) (Record (TcXstats A)))
