@@ -1,15 +1,9 @@
 -- What the options nest is what their classes have it to be.
-use Rattle.std.proofs.Common.{Bool}
-use Rattle.std.specs.Ordering.{on}
-use Rattle.std.specs.Cmp.Lexicographic.{pointwise}
 use Rattle.tc_canon.specs.Descriptor.{table}
 use Rattle.tc_canon.specs.Tables.Flower.{lse_options, mpls_options}
 use Rattle.tc_values.specs.Inner.{IsInner}
-use Rattle.tc_meaning.specs.Tree.{Attribute}
-use Rattle.tc_meaning.specs.Equal.{same_attribute}
 use Rattle.tc_values.specs.Bodies.{items_of, same_of_either}
 use Rattle.tc_values.specs.Same.{IsSame}
-use Rattle.tc_values.specs.declared.body.Items.{Items}
 use Rattle.tc_values.proofs.Bodies.{are_items, is_either}
 use Rattle.tc_values.proofs.SameRows.{same_list, same_items, same_either}
 use Rattle.tc_actions.specs.Action.{tc_action, an_action}

@@ -1,6 +1,7 @@
 pub mod Lists
-pub mod Thirds
 pub mod Spans
 pub mod FlowerSpans
+pub mod Classes
+pub mod FlowerReads
 pub mod Bodies
 pub mod Copies

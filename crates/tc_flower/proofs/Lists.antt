@@ -1,11 +1,11 @@
 -- A list that is read at its row is what the table reads.
-use Rattle.std.proofs.Common.{◌≡◌, ℕ, ◌+◌, List, Ok, refl}
+use Rattle.std.proofs.Common.{◌≡◌, ℕ, List, Ok, refl}
 use Rattle.nla_frames.specs.declared.error.DecodeError.{DecodeError}
 use Rattle.nla_frames.specs.Fault.{Outcome, Gives, refused}
 use Rattle.nla_frames.specs.Frame.{Frame, type_of}
 use Rattle.nla_frames.specs.Reading.{read_list, keep}
 use Rattle.nla_frames.proofs.Outcomes.{Gives-err}
-use Rattle.tc_canon.specs.Descriptor.{Table, Rows, list_of, table}
+use Rattle.tc_canon.specs.Descriptor.{Table, Rows, list_of}
 use Rattle.tc_meaning.specs.Tree.{Attribute, known, items, attributes_of}
 use Rattle.tc_meaning.specs.Meaning.{class_codec, table_codec, rows_codec, row_frames}
 

@@ -36,7 +36,7 @@ abbrev pub agree_from : ℕ → ℕ → (ℕ → Bool) → (ℕ → Bool) → Bo
 agree_from zero a test other = true
 agree_from (suc c) a test other = if same (test a) (other a) then agree_from c (suc a) test other else false
 
-agree_from-tells : (c a : ℕ) (test other : ℕ → Bool) → agree_from c a test other ≡ true → (n : ℕ) → a ≤ n → n < a + c → test n ≡ other n
+pub agree_from-tells : (c a : ℕ) (test other : ℕ → Bool) → agree_from c a test other ≡ true → (n : ℕ) → a ≤ n → n < a + c → test n ≡ other n
 agree_from-tells zero a test other all n low high = absurd (omega arith)
 agree_from-tells (suc c) a test other all n low high =
     let both = both_hold (same (test a) (other a)) (agree_from c (suc a) test other) all in

@@ -1,3 +1,4 @@
 pub mod Mpls
 pub mod Flower
-pub mod Thirds
+pub mod Held
+pub mod Reading

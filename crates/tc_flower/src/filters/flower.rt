@@ -2,3 +2,4 @@
 
 pub mod mpls;
 pub mod options;
+mod types;

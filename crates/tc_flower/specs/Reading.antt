@@ -1,0 +1,11 @@
+-- What flower's table reads of a frame.
+use Rattle.std.specs.Prelude.{[]}
+use Rattle.nla_frames.specs.Fault.{Outcome}
+use Rattle.nla_frames.specs.Frame.{Frame}
+use Rattle.tc_canon.specs.Descriptor.{table}
+use Rattle.tc_canon.specs.Tables.Flower.{flower_options}
+use Rattle.tc_meaning.specs.Tree.{Attribute}
+use Rattle.tc_meaning.specs.Meaning.{table_codec}
+
+unfoldable pub flower_read : Frame → Outcome Attribute
+flower_read f = (table_codec (table flower_options)).read [] f

@@ -1,0 +1,142 @@
+//! Options as text, as a derived `Debug` shows them.
+
+use crate::filters::flower::options::TcFilterFlowerOption;
+use crate::filters::flower::options::held::Held;
+use std::alloc::Allocator;
+use std::fmt::{Debug, Formatter, Result, Write};
+
+// The names of the options, by their types; no option has the types 0, 84 and 85.
+const NAMES: [&'static str; 102] = [
+    "",
+    "ClassId",
+    "InDev",
+    "Actions",
+    "EthDst",
+    "EthDstMask",
+    "EthSrc",
+    "EthSrcMask",
+    "EthType",
+    "IpProto",
+    "Ipv4Src",
+    "Ipv4SrcMask",
+    "Ipv4Dst",
+    "Ipv4DstMask",
+    "Ipv6Src",
+    "Ipv6SrcMask",
+    "Ipv6Dst",
+    "Ipv6DstMask",
+    "TcpSrc",
+    "TcpDst",
+    "UdpSrc",
+    "UdpDst",
+    "Flags",
+    "VlanId",
+    "VlanPrio",
+    "VlanEthType",
+    "EncKeyId",
+    "EncKeyIpv4Src",
+    "EncKeyIpv4SrcMask",
+    "EncKeyIpv4Dst",
+    "EncKeyIpv4DstMask",
+    "EncKeyIpv6Src",
+    "EncKeyIpv6SrcMask",
+    "EncKeyIpv6Dst",
+    "EncKeyIpv6DstMask",
+    "TcpSrcMask",
+    "TcpDstMask",
+    "UdpSrcMask",
+    "UdpDstMask",
+    "SctpSrcMask",
+    "SctpDstMask",
+    "SctpSrc",
+    "SctpDst",
+    "EncKeyUdpSrcPort",
+    "EncKeyUdpSrcPortMask",
+    "EncKeyUdpDstPort",
+    "EncKeyUdpDstPortMask",
+    "KeyFlags",
+    "KeyFlagsMask",
+    "Icmpv4Code",
+    "Icmpv4CodeMask",
+    "Icmpv4Type",
+    "Icmpv4TypeMask",
+    "Icmpv6Code",
+    "Icmpv6CodeMask",
+    "Icmpv6Type",
+    "Icmpv6TypeMask",
+    "ArpSip",
+    "ArpSipMask",
+    "ArpTip",
+    "ArpTipMask",
+    "ArpOp",
+    "ArpOpMask",
+    "ArpSha",
+    "ArpShaMask",
+    "ArpTha",
+    "ArpThaMask",
+    "MplsTtl",
+    "MplsBos",
+    "MplsTc",
+    "MplsLabel",
+    "TcpFlags",
+    "TcpFlagsMask",
+    "IpTos",
+    "IpTosMask",
+    "IpTtl",
+    "IpTtlMask",
+    "CvlanId",
+    "CvlanPrio",
+    "CvlanEthType",
+    "EncKeyIpTos",
+    "EncKeyIpTosMask",
+    "EncKeyIpTtl",
+    "EncKeyIpTtlMask",
+    "",
+    "",
+    "InHwCount",
+    "PortSrcMin",
+    "PortSrcMax",
+    "PortDstMin",
+    "PortDstMax",
+    "CtState",
+    "CtStateMask",
+    "CtZone",
+    "CtZoneMask",
+    "CtMark",
+    "CtMarkMask",
+    "CtLabels",
+    "CtLabelsMask",
+    "MplsOpts",
+    "KeyHash",
+    "KeyHashMask",
+];
+
+fn name_of(kind: u16) -> &'static str {
+    match NAMES.get(usize::from(kind)) {
+        Some(name) => name,
+        None => "",
+    }
+}
+
+impl<A: Allocator> Debug for TcFilterFlowerOption<A> {
+    fn fmt<W: Write>(&self, f: &mut Formatter<W>) -> Result {
+        let (kind, held) = self.parts();
+        let name = name_of(kind);
+        match held {
+            Held::Name(device) => f.debug_tuple(name).field(device).finish(),
+            Held::Actions(actions) => f.debug_tuple(name).field(actions).finish(),
+            Held::Mac(mac) => f.debug_tuple(name).field(&mac).finish(),
+            Held::Ipv4(ip) => f.debug_tuple(name).field(&ip).finish(),
+            Held::Ipv6(ip) => f.debug_tuple(name).field(&ip).finish(),
+            Held::Labels(labels) => f.debug_tuple(name).field(&labels).finish(),
+            Held::U8(n) | Held::Bits1(n) | Held::Bits3(n) => f.debug_tuple(name).field(&n).finish(),
+            Held::U16(n) | Held::U16Be(n) => f.debug_tuple(name).field(&n).finish(),
+            Held::ClassId(n) | Held::U32(n) | Held::U32Be(n) | Held::Bits20(n) => f
+                .debug_tuple(name)
+                .field(&n)
+                .finish(),
+            Held::MplsOpts(options) => f.debug_tuple(name).field(options).finish(),
+            Held::Other(nla) => f.debug_tuple("Other").field(nla).finish(),
+        }
+    }
+}

@@ -1,0 +1,275 @@
+//! An option taken apart: its type, and what it holds.
+
+ghost use Rattle.std.specs.Prelude.{◌≡◌, IsTrue};
+ghost use Rattle.tc_meaning.specs.Tree.{number_of};
+ghost use Rattle.tc_flower.specs.Flower.{flower_option};
+ghost use Rattle.tc_flower.specs.Held.{held_at, is_held_at, IsListHeld};
+
+use crate::filters::flower::mpls::TcFilterFlowerMplsOption;
+use crate::filters::flower::options::TcFilterFlowerOption;
+use crate::filters::flower::types::*;
+use nla_frames::{DefaultNla, NLA_TYPE_MASK, Nla};
+use std::alloc::Allocator;
+use std::net::{Ipv4Addr, Ipv6Addr};
+use tc_actions::TcAction;
+
+// What an option holds.
+#[derive(Drop)]
+pub(crate) enum Held<'a, A: Allocator> {
+    // The class that packets go to.
+    ClassId(u32),
+    // The name of a device.
+    Name(&'a String<A>),
+    Actions(&'a Vec<TcAction<A>, A>),
+    // A MAC address.
+    Mac([u8; 6]),
+    // An IPv4 address.
+    Ipv4(Ipv4Addr),
+    // An IPv6 address.
+    Ipv6(Ipv6Addr),
+    // Labels in connection tracking.
+    Labels([u8; 16]),
+    // A number of one byte.
+    U8(u8),
+    // A number of two bytes.
+    U16(u16),
+    // A number of two bytes, big-endian.
+    U16Be(u16),
+    // A number of four bytes.
+    U32(u32),
+    // A number of four bytes, big-endian.
+    U32Be(u32),
+    // The lowest bit of a number of one byte.
+    Bits1(u8),
+    // The lowest three bits of a number of one byte.
+    Bits3(u8),
+    // The lowest twenty bits of a number of four bytes.
+    Bits20(u32),
+    MplsOpts(&'a Vec<TcFilterFlowerMplsOption<A>, A>),
+    // What is kept as it stands.
+    Other(&'a DefaultNla<A>),
+}
+
+impl<A: Allocator> TcFilterFlowerOption<A> {
+    // Its type, and what it holds.
+    pub(crate) fn parts(&self) -> (u16, Held<'_, A>)
+        ensures seen { flower_option self.now ≡ held_at result.0 result.1 }
+        ensures typed { IsTrue (is_held_at result.1 result.0) }
+        ensures list { IsListHeld self.now result.1 }
+    {
+        (self.number(), self.held())
+    }
+
+    fn number(&self) -> u16
+        ensures { result ≡ number_of (flower_option self.now) }
+    {
+        match self {
+            Self::ClassId(_) => TCA_FLOWER_CLASSID,
+            Self::InDev(_) => TCA_FLOWER_INDEV,
+            Self::Actions(_) => TCA_FLOWER_ACT,
+            Self::EthDst(_) => TCA_FLOWER_KEY_ETH_DST,
+            Self::EthDstMask(_) => TCA_FLOWER_KEY_ETH_DST_MASK,
+            Self::EthSrc(_) => TCA_FLOWER_KEY_ETH_SRC,
+            Self::EthSrcMask(_) => TCA_FLOWER_KEY_ETH_SRC_MASK,
+            Self::EthType(_) => TCA_FLOWER_KEY_ETH_TYPE,
+            Self::IpProto(_) => TCA_FLOWER_KEY_IP_PROTO,
+            Self::Ipv4Src(_) => TCA_FLOWER_KEY_IPV4_SRC,
+            Self::Ipv4SrcMask(_) => TCA_FLOWER_KEY_IPV4_SRC_MASK,
+            Self::Ipv4Dst(_) => TCA_FLOWER_KEY_IPV4_DST,
+            Self::Ipv4DstMask(_) => TCA_FLOWER_KEY_IPV4_DST_MASK,
+            Self::Ipv6Src(_) => TCA_FLOWER_KEY_IPV6_SRC,
+            Self::Ipv6SrcMask(_) => TCA_FLOWER_KEY_IPV6_SRC_MASK,
+            Self::Ipv6Dst(_) => TCA_FLOWER_KEY_IPV6_DST,
+            Self::Ipv6DstMask(_) => TCA_FLOWER_KEY_IPV6_DST_MASK,
+            Self::TcpSrc(_) => TCA_FLOWER_KEY_TCP_SRC,
+            Self::TcpDst(_) => TCA_FLOWER_KEY_TCP_DST,
+            Self::UdpSrc(_) => TCA_FLOWER_KEY_UDP_SRC,
+            Self::UdpDst(_) => TCA_FLOWER_KEY_UDP_DST,
+            Self::Flags(_) => TCA_FLOWER_FLAGS,
+            Self::VlanId(_) => TCA_FLOWER_KEY_VLAN_ID,
+            Self::VlanPrio(_) => TCA_FLOWER_KEY_VLAN_PRIO,
+            Self::VlanEthType(_) => TCA_FLOWER_KEY_VLAN_ETH_TYPE,
+            Self::EncKeyId(_) => TCA_FLOWER_KEY_ENC_KEY_ID,
+            Self::EncKeyIpv4Src(_) => TCA_FLOWER_KEY_ENC_IPV4_SRC,
+            Self::EncKeyIpv4SrcMask(_) => TCA_FLOWER_KEY_ENC_IPV4_SRC_MASK,
+            Self::EncKeyIpv4Dst(_) => TCA_FLOWER_KEY_ENC_IPV4_DST,
+            Self::EncKeyIpv4DstMask(_) => TCA_FLOWER_KEY_ENC_IPV4_DST_MASK,
+            Self::EncKeyIpv6Src(_) => TCA_FLOWER_KEY_ENC_IPV6_SRC,
+            Self::EncKeyIpv6SrcMask(_) => TCA_FLOWER_KEY_ENC_IPV6_SRC_MASK,
+            Self::EncKeyIpv6Dst(_) => TCA_FLOWER_KEY_ENC_IPV6_DST,
+            Self::EncKeyIpv6DstMask(_) => TCA_FLOWER_KEY_ENC_IPV6_DST_MASK,
+            Self::TcpSrcMask(_) => TCA_FLOWER_KEY_TCP_SRC_MASK,
+            Self::TcpDstMask(_) => TCA_FLOWER_KEY_TCP_DST_MASK,
+            Self::UdpSrcMask(_) => TCA_FLOWER_KEY_UDP_SRC_MASK,
+            Self::UdpDstMask(_) => TCA_FLOWER_KEY_UDP_DST_MASK,
+            Self::SctpSrcMask(_) => TCA_FLOWER_KEY_SCTP_SRC_MASK,
+            Self::SctpDstMask(_) => TCA_FLOWER_KEY_SCTP_DST_MASK,
+            Self::SctpSrc(_) => TCA_FLOWER_KEY_SCTP_SRC,
+            Self::SctpDst(_) => TCA_FLOWER_KEY_SCTP_DST,
+            Self::EncKeyUdpSrcPort(_) => TCA_FLOWER_KEY_ENC_UDP_SRC_PORT,
+            Self::EncKeyUdpSrcPortMask(_) => TCA_FLOWER_KEY_ENC_UDP_SRC_PORT_MASK,
+            Self::EncKeyUdpDstPort(_) => TCA_FLOWER_KEY_ENC_UDP_DST_PORT,
+            Self::EncKeyUdpDstPortMask(_) => TCA_FLOWER_KEY_ENC_UDP_DST_PORT_MASK,
+            Self::KeyFlags(_) => TCA_FLOWER_KEY_FLAGS,
+            Self::KeyFlagsMask(_) => TCA_FLOWER_KEY_FLAGS_MASK,
+            Self::Icmpv4Code(_) => TCA_FLOWER_KEY_ICMPV4_CODE,
+            Self::Icmpv4CodeMask(_) => TCA_FLOWER_KEY_ICMPV4_CODE_MASK,
+            Self::Icmpv4Type(_) => TCA_FLOWER_KEY_ICMPV4_TYPE,
+            Self::Icmpv4TypeMask(_) => TCA_FLOWER_KEY_ICMPV4_TYPE_MASK,
+            Self::Icmpv6Code(_) => TCA_FLOWER_KEY_ICMPV6_CODE,
+            Self::Icmpv6CodeMask(_) => TCA_FLOWER_KEY_ICMPV6_CODE_MASK,
+            Self::Icmpv6Type(_) => TCA_FLOWER_KEY_ICMPV6_TYPE,
+            Self::Icmpv6TypeMask(_) => TCA_FLOWER_KEY_ICMPV6_TYPE_MASK,
+            Self::ArpSip(_) => TCA_FLOWER_KEY_ARP_SIP,
+            Self::ArpSipMask(_) => TCA_FLOWER_KEY_ARP_SIP_MASK,
+            Self::ArpTip(_) => TCA_FLOWER_KEY_ARP_TIP,
+            Self::ArpTipMask(_) => TCA_FLOWER_KEY_ARP_TIP_MASK,
+            Self::ArpOp(_) => TCA_FLOWER_KEY_ARP_OP,
+            Self::ArpOpMask(_) => TCA_FLOWER_KEY_ARP_OP_MASK,
+            Self::ArpSha(_) => TCA_FLOWER_KEY_ARP_SHA,
+            Self::ArpShaMask(_) => TCA_FLOWER_KEY_ARP_SHA_MASK,
+            Self::ArpTha(_) => TCA_FLOWER_KEY_ARP_THA,
+            Self::ArpThaMask(_) => TCA_FLOWER_KEY_ARP_THA_MASK,
+            Self::MplsTtl(_) => TCA_FLOWER_KEY_MPLS_TTL,
+            Self::MplsBos(_) => TCA_FLOWER_KEY_MPLS_BOS,
+            Self::MplsTc(_) => TCA_FLOWER_KEY_MPLS_TC,
+            Self::MplsLabel(_) => TCA_FLOWER_KEY_MPLS_LABEL,
+            Self::TcpFlags(_) => TCA_FLOWER_KEY_TCP_FLAGS,
+            Self::TcpFlagsMask(_) => TCA_FLOWER_KEY_TCP_FLAGS_MASK,
+            Self::IpTos(_) => TCA_FLOWER_KEY_IP_TOS,
+            Self::IpTosMask(_) => TCA_FLOWER_KEY_IP_TOS_MASK,
+            Self::IpTtl(_) => TCA_FLOWER_KEY_IP_TTL,
+            Self::IpTtlMask(_) => TCA_FLOWER_KEY_IP_TTL_MASK,
+            Self::CvlanId(_) => TCA_FLOWER_KEY_CVLAN_ID,
+            Self::CvlanPrio(_) => TCA_FLOWER_KEY_CVLAN_PRIO,
+            Self::CvlanEthType(_) => TCA_FLOWER_KEY_CVLAN_ETH_TYPE,
+            Self::EncKeyIpTos(_) => TCA_FLOWER_KEY_ENC_IP_TOS,
+            Self::EncKeyIpTosMask(_) => TCA_FLOWER_KEY_ENC_IP_TOS_MASK,
+            Self::EncKeyIpTtl(_) => TCA_FLOWER_KEY_ENC_IP_TTL,
+            Self::EncKeyIpTtlMask(_) => TCA_FLOWER_KEY_ENC_IP_TTL_MASK,
+            Self::InHwCount(_) => TCA_FLOWER_IN_HW_COUNT,
+            Self::PortSrcMin(_) => TCA_FLOWER_KEY_PORT_SRC_MIN,
+            Self::PortSrcMax(_) => TCA_FLOWER_KEY_PORT_SRC_MAX,
+            Self::PortDstMin(_) => TCA_FLOWER_KEY_PORT_DST_MIN,
+            Self::PortDstMax(_) => TCA_FLOWER_KEY_PORT_DST_MAX,
+            Self::CtState(_) => TCA_FLOWER_KEY_CT_STATE,
+            Self::CtStateMask(_) => TCA_FLOWER_KEY_CT_STATE_MASK,
+            Self::CtZone(_) => TCA_FLOWER_KEY_CT_ZONE,
+            Self::CtZoneMask(_) => TCA_FLOWER_KEY_CT_ZONE_MASK,
+            Self::CtMark(_) => TCA_FLOWER_KEY_CT_MARK,
+            Self::CtMarkMask(_) => TCA_FLOWER_KEY_CT_MARK_MASK,
+            Self::CtLabels(_) => TCA_FLOWER_KEY_CT_LABELS,
+            Self::CtLabelsMask(_) => TCA_FLOWER_KEY_CT_LABELS_MASK,
+            Self::MplsOpts(_) => TCA_FLOWER_KEY_MPLS_OPTS,
+            Self::KeyHash(_) => TCA_FLOWER_KEY_HASH,
+            Self::KeyHashMask(_) => TCA_FLOWER_KEY_HASH_MASK,
+            Self::Other(nla) => nla.kind() & NLA_TYPE_MASK,
+        }
+    }
+
+    fn held(&self) -> Held<'_, A>
+        ensures seen { flower_option self.now ≡ held_at (number_of (flower_option self.now)) result }
+        ensures typed { IsTrue (is_held_at result (number_of (flower_option self.now))) }
+        ensures list { IsListHeld self.now result }
+    {
+        match self {
+            Self::ClassId(n) => Held::ClassId(*n),
+            Self::InDev(name) => Held::Name(name),
+            Self::Actions(actions) => Held::Actions(actions),
+            Self::EthDst(mac)
+            | Self::EthDstMask(mac)
+            | Self::EthSrc(mac)
+            | Self::EthSrcMask(mac)
+            | Self::ArpSha(mac)
+            | Self::ArpShaMask(mac)
+            | Self::ArpTha(mac)
+            | Self::ArpThaMask(mac) => Held::Mac(*mac),
+            Self::Ipv4Src(ip)
+            | Self::Ipv4SrcMask(ip)
+            | Self::Ipv4Dst(ip)
+            | Self::Ipv4DstMask(ip)
+            | Self::EncKeyIpv4Src(ip)
+            | Self::EncKeyIpv4SrcMask(ip)
+            | Self::EncKeyIpv4Dst(ip)
+            | Self::EncKeyIpv4DstMask(ip)
+            | Self::ArpSip(ip)
+            | Self::ArpSipMask(ip)
+            | Self::ArpTip(ip)
+            | Self::ArpTipMask(ip) => Held::Ipv4(*ip),
+            Self::Ipv6Src(ip)
+            | Self::Ipv6SrcMask(ip)
+            | Self::Ipv6Dst(ip)
+            | Self::Ipv6DstMask(ip)
+            | Self::EncKeyIpv6Src(ip)
+            | Self::EncKeyIpv6SrcMask(ip)
+            | Self::EncKeyIpv6Dst(ip)
+            | Self::EncKeyIpv6DstMask(ip) => Held::Ipv6(*ip),
+            Self::CtLabels(labels) | Self::CtLabelsMask(labels) => Held::Labels(*labels),
+            Self::IpProto(n)
+            | Self::VlanPrio(n)
+            | Self::Icmpv4Code(n)
+            | Self::Icmpv4CodeMask(n)
+            | Self::Icmpv4Type(n)
+            | Self::Icmpv4TypeMask(n)
+            | Self::Icmpv6Code(n)
+            | Self::Icmpv6CodeMask(n)
+            | Self::Icmpv6Type(n)
+            | Self::Icmpv6TypeMask(n)
+            | Self::ArpOp(n)
+            | Self::ArpOpMask(n)
+            | Self::MplsTtl(n)
+            | Self::IpTos(n)
+            | Self::IpTosMask(n)
+            | Self::IpTtl(n)
+            | Self::IpTtlMask(n)
+            | Self::CvlanPrio(n)
+            | Self::EncKeyIpTos(n)
+            | Self::EncKeyIpTosMask(n)
+            | Self::EncKeyIpTtl(n)
+            | Self::EncKeyIpTtlMask(n) => Held::U8(*n),
+            Self::VlanId(n)
+            | Self::CvlanId(n)
+            | Self::CtState(n)
+            | Self::CtStateMask(n)
+            | Self::CtZone(n)
+            | Self::CtZoneMask(n) => Held::U16(*n),
+            Self::EthType(n)
+            | Self::TcpSrc(n)
+            | Self::TcpDst(n)
+            | Self::UdpSrc(n)
+            | Self::UdpDst(n)
+            | Self::VlanEthType(n)
+            | Self::TcpSrcMask(n)
+            | Self::TcpDstMask(n)
+            | Self::UdpSrcMask(n)
+            | Self::UdpDstMask(n)
+            | Self::SctpSrcMask(n)
+            | Self::SctpDstMask(n)
+            | Self::SctpSrc(n)
+            | Self::SctpDst(n)
+            | Self::EncKeyUdpSrcPort(n)
+            | Self::EncKeyUdpSrcPortMask(n)
+            | Self::EncKeyUdpDstPort(n)
+            | Self::EncKeyUdpDstPortMask(n)
+            | Self::TcpFlags(n)
+            | Self::TcpFlagsMask(n)
+            | Self::CvlanEthType(n)
+            | Self::PortSrcMin(n)
+            | Self::PortSrcMax(n)
+            | Self::PortDstMin(n)
+            | Self::PortDstMax(n) => Held::U16Be(*n),
+            Self::Flags(n)
+            | Self::InHwCount(n)
+            | Self::CtMark(n)
+            | Self::CtMarkMask(n)
+            | Self::KeyHash(n)
+            | Self::KeyHashMask(n) => Held::U32(*n),
+            Self::EncKeyId(n) | Self::KeyFlags(n) | Self::KeyFlagsMask(n) => Held::U32Be(*n),
+            Self::MplsBos(n) => Held::Bits1(*n),
+            Self::MplsTc(n) => Held::Bits3(*n),
+            Self::MplsLabel(n) => Held::Bits20(*n),
+            Self::MplsOpts(options) => Held::MplsOpts(options),
+            Self::Other(nla) => Held::Other(nla),
+        }
+    }
+}

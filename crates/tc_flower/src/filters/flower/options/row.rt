@@ -1,0 +1,71 @@
+//! Options as rows of flower's table: a word and a value.
+
+ghost use Rattle.std.specs.Prelude.{◌≡◌, ◌||◌};
+ghost use Rattle.nla_frames.specs.Frame.{type_of};
+ghost use Rattle.tc_canon.specs.Descriptor.{is_within};
+ghost use Rattle.tc_canon.specs.Tables.Flower.{flower_options};
+ghost use Rattle.tc_values.specs.Row.{attribute_of, IsRow, ShownAs, reads_at};
+ghost use Rattle.tc_flower.specs.Flower.{flower_option, flower_lists};
+
+use crate::filters::flower::mpls::TcFilterFlowerMplsOption;
+use crate::filters::flower::options::TcFilterFlowerOption;
+use crate::filters::flower::options::held::Held;
+use crate::filters::flower::types::*;
+use nla_frames::{NLA_F_NESTED, NLA_TYPE_MASK, Nla};
+use std::alloc::Allocator;
+use tc_actions::TcAction;
+use tc_values::{Either, Items, Value};
+
+// What is nested in the options: actions, or what MPLS is matched by.
+type FlowerLists<'a, A> = Either<Items<'a, TcAction<A>>, Items<'a, TcFilterFlowerMplsOption<A>>>;
+
+impl<A: Allocator> TcFilterFlowerOption<A> {
+    // Its word and its value, and what they are by the table.
+    pub(crate) fn view(&self) -> (u16, Value<'_, FlowerLists<'_, A>>)
+        ensures { ShownAs flower_lists flower_options (flower_option self.now) result.0 result.1 }
+    {
+        self.row()
+    }
+
+    pub(crate) fn row(&self) -> (u16, Value<'_, FlowerLists<'_, A>>)
+        ensures seen { flower_option self.now ≡ attribute_of flower_lists result.0 result.1 }
+        ensures row { IsRow flower_lists flower_options result.0 result.1 }
+    {
+        let (kind, held) = self.parts();
+        match held {
+            Held::ClassId(n) => (kind, Value::U32(n)),
+            Held::Name(name) => (kind, Value::Text(name)),
+            Held::Actions(actions) => (kind, Value::Nested(Either::Left(Items(actions)))),
+            Held::Mac(mac) => (kind, Value::Octets6(mac)),
+            Held::Ipv4(ip) => (kind, Value::Octets4(ip.octets())),
+            Held::Ipv6(ip) => (kind, Value::Octets16(ip.octets())),
+            Held::Labels(labels) => (kind, Value::Octets16(labels)),
+            Held::U8(n) => (kind, Value::U8(n)),
+            Held::U16(n) => (kind, Value::U16(n)),
+            Held::U16Be(n) => (kind, Value::U16Be(n)),
+            Held::U32(n) => (kind, Value::U32(n)),
+            Held::U32Be(n) => (kind, Value::U32Be(n)),
+            Held::Bits1(n) => (kind, Value::Bits1(n)),
+            Held::Bits3(n) => (kind, Value::Bits3(n)),
+            Held::Bits20(n) => (kind, Value::Bits20(n)),
+            Held::MplsOpts(options) => (
+                TCA_FLOWER_KEY_MPLS_OPTS | NLA_F_NESTED,
+                Value::Nested(Either::Right(Items(options))),
+            ),
+            Held::Other(nla) => (nla.kind(), Value::Kept(nla.value())),
+        }
+    }
+}
+
+// True if options of this word's type are read.
+pub(crate) fn is_read(word: u16) -> bool
+    ensures { result ≡ reads_at flower_options (type_of word) }
+{
+    is_in_spans(word)
+}
+
+fn is_in_spans(word: u16) -> bool
+    ensures { result ≡ (is_within 2 83 (type_of word) || is_within 86 101 (type_of word)) }
+{
+    matches!(word & NLA_TYPE_MASK, TCA_FLOWER_INDEV..=TCA_FLOWER_KEY_ENC_IP_TTL_MASK | TCA_FLOWER_IN_HW_COUNT..=TCA_FLOWER_KEY_HASH_MASK)
+}
