@@ -14,8 +14,16 @@ use Rattle.nla_frames.specs.ListGrammar.{ReadEach, ListReads, StartsWith, HasFau
 use Rattle.nla_frames.proofs.CuttingLaws.{cuts, cut-is, cut-Begins, cut-Ends, cut-IsBroken, cut-AreFramesAndRest}
 use Rattle.nla_frames.proofs.CutFrames.{cut_not_memory}
 use Rattle.nla_frames.proofs.Places.{kind_after, kind_after-InForce, InForce-kind_after}
-use Rattle.nla_frames.proofs.ReadEach.{ReadInTurn-ReadEach, ReadEach-ReadInTurn, read_each-ReadInTurn, ReadInTurn-read_each, Refused, at_end, at_frame,
-    Refused-read_each}
+use Rattle.nla_frames.proofs.ReadEach.{
+  ReadInTurn-ReadEach,
+  ReadEach-ReadInTurn,
+  read_each-ReadInTurn,
+  ReadInTurn-read_each,
+  Refused,
+  at_end,
+  at_frame,
+  Refused-read_each,
+}
 
 -- a frame that stands at the front is cut first
 cut-StartsWith : (rest : List ℕ) (f : Frame) → StartsWith rest f → (c : Cutting) × (cut rest ≡ before_cut f c)
@@ -59,7 +67,7 @@ module _ {X : Type 0} (reads : Reads X) (sets : Sets Frame) where
       let others = cut rest in
       let items : items_of (cut bytes) ≡ map Ok fs ++ items_of others =
       ap items_of (cut-AreFramesAndRest bytes fs rest c) ∙ ap (λ (is : List (Outcome Frame)). is ++ fault_at_end others.fault) (map-append Ok fs others.frames)
-          ∙ append_assoc (map Ok fs) (map Ok others.frames) (fault_at_end others.fault) in
+      ∙ append_assoc (map Ok fs) (map Ok others.frames) (fault_at_end others.fault) in
       ap (read_each reads sets first) items ∙ read_each-ReadInTurn reads sets first fs xs (items_of others) (ReadInTurn-ReadEach reads sets first fs xs each)
 
   -- what is read of a broken frame is its fault
@@ -103,9 +111,11 @@ module _ {X : Type 0} (reads : Reads X) (sets : Sets Frame) where
   unfolding read_list
   ListReads-read_list first bytes xs is e =
       let frames = (cut bytes).frames in
-      let turn = ReadInTurn-read_each reads sets first frames (cut bytes).fault xs e in
-      (frames, subst (λ (fault : Option DecodeError). CutsUp bytes (cut bytes).frames fault) turn.0 (cuts bytes is),
-          ReadEach-ReadInTurn reads sets first frames xs turn.1)
+      let turn = ReadInTurn-read_each reads sets first frames (cut bytes).fault xs e in (
+        frames,
+        subst (λ (fault : Option DecodeError). CutsUp bytes (cut bytes).frames fault) turn.0 (cuts bytes is),
+        ReadEach-ReadInTurn reads sets first frames xs turn.1,
+      )
 
   -- a first refusal among what is cut is a fault of the grammar
   IsListFault-Refused : (first : List ℕ) (bytes : List ℕ) (fs : List Frame) (fault : Option DecodeError) (e : DecodeError) → CutsUp bytes fs fault
@@ -126,8 +136,14 @@ module _ {X : Type 0} (reads : Reads X) (sets : Sets Frame) where
         values = xs;
         cut = place.1;
         are_read = ReadEach-ReadInTurn reads sets first done xs turn;
-        fault = inr (record { frame = f; kind = kind_after sets first done; starts = place.2; in_force = InForce-kind_after sets first done; is_refused =
-            refused });
+        fault = inr (record {
+          frame = f;
+          kind = kind_after sets first done;
+          starts = place.2;
+          in_force = InForce-kind_after sets first done;
+          is_refused =
+              refused;
+        });
       }
 
   -- what is refused has that fault in the grammar

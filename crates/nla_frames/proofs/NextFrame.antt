@@ -1,6 +1,32 @@
 -- What `next_frame` finds: a frame that stands at the front, or a broken one.
-use Rattle.std.proofs.Common.{◌≡◌, ◌⊎◌, ℕ, ◌+◌, ◌^◌, ◌<◌, ◌≤◌, List, [], ◌++◌, length, take, drop, Ok, Err, refl, sym, ap, ap₂, subst, ◌∙◌, arith, inl, inr,
-    append_assoc, take-add}
+use Rattle.std.proofs.Common.{
+  ◌≡◌,
+  ◌⊎◌,
+  ℕ,
+  ◌+◌,
+  ◌^◌,
+  ◌<◌,
+  ◌≤◌,
+  List,
+  [],
+  ◌++◌,
+  length,
+  take,
+  drop,
+  Ok,
+  Err,
+  refl,
+  sym,
+  ap,
+  ap₂,
+  subst,
+  ◌∙◌,
+  arith,
+  inl,
+  inr,
+  append_assoc,
+  take-add,
+}
 use Rattle.std.proofs.lemmas.Bool.{cases_lt, lt-ltb, le-ltb}
 use Rattle.std.proofs.lemmas.List.{length-take, length-drop, take-append-drop, take-take, drop_all}
 use Rattle.nla_frames.specs.declared.error.DecodeError.{DecodeError}
@@ -103,10 +129,10 @@ header_is : (n : ℕ) (bytes : List ℕ) → IsBytes bytes → 4 ≤ length byte
 unfolding header
 header_is n bytes is long e =
     let first : le_bytes 2 (le_value (take 2 bytes)) ≡ take 2 bytes =
-            le_bytes-le_value 2 (take 2 bytes) (omega (arith, length-take 2 bytes)) (IsBytes-take 2 bytes is) in
+    le_bytes-le_value 2 (take 2 bytes) (omega (arith, length-take 2 bytes)) (IsBytes-take 2 bytes is) in
     let second : le_bytes 2 (le_value (take 2 (drop 2 bytes))) ≡ take 2 (drop 2 bytes) =
     le_bytes-le_value 2 (take 2 (drop 2 bytes)) (omega (arith, length-take 2 (drop 2 bytes), length-drop 2 bytes))
-        (IsBytes-take 2 (drop 2 bytes) (IsBytes-drop 2 bytes is)) in
+    (IsBytes-take 2 (drop 2 bytes) (IsBytes-drop 2 bytes is)) in
     let first_so : le_bytes 2 (4 + n) ≡ take 2 bytes = subst (λ (k : ℕ). le_bytes 2 k ≡ take 2 bytes) e first in
     ap₂ (λ (a b : List ℕ). a ++ b) first_so second ∙ sym (take-add 2 2 bytes)
 
@@ -123,7 +149,7 @@ front_of long bytes is e h k =
     let below : le_value (take 2 bytes) < 256 ^ length (take 2 bytes) = le_value_below (take 2 bytes) (IsBytes-take 2 bytes is) in
     let two : length (take 2 bytes) ≡ 2 = omega (arith, length-take 2 bytes) in
     let below_word : le_value (take 2 (drop 2 bytes)) < 256 ^ length (take 2 (drop 2 bytes)) =
-            le_value_below (take 2 (drop 2 bytes)) (IsBytes-take 2 (drop 2 bytes) (IsBytes-drop 2 bytes is)) in
+    le_value_below (take 2 (drop 2 bytes)) (IsBytes-take 2 (drop 2 bytes) (IsBytes-drop 2 bytes is)) in
     let two_word : length (take 2 (drop 2 bytes)) ≡ 2 = omega (arith, length-take 2 (drop 2 bytes), length-drop 2 bytes) in
     let long_below : le_value (take 2 bytes) < 65536 = rw two at below in
     let word_below : le_value (take 2 (drop 2 bytes)) < 65536 = rw two_word at below_word in
@@ -151,9 +177,10 @@ Front-next_frame bytes f after is e = found_front bytes f after is (Finds-is byt
 
 -- what is found are bytes
 found_bytes : (bytes : List ℕ) (f : Frame) (after : List ℕ) → IsBytes bytes → Finds bytes (Ok (f, after)) → IsBytes f.value × IsBytes after
-found_bytes bytes f after is (whole h k) =
-    (IsBytes-drop 4 (take (length_at bytes) bytes) (IsBytes-take (length_at bytes) bytes is),
-        IsBytes-drop (padding (length_at bytes)) (drop (length_at bytes) bytes) (IsBytes-drop (length_at bytes) bytes is))
+found_bytes bytes f after is (whole h k) = (
+  IsBytes-drop 4 (take (length_at bytes) bytes) (IsBytes-take (length_at bytes) bytes is),
+  IsBytes-drop (padding (length_at bytes)) (drop (length_at bytes) bytes) (IsBytes-drop (length_at bytes) bytes is),
+)
 
 -- the next frame's value and what comes after it are bytes
 pub IsBytes-next_frame : (bytes : List ℕ) (f : Frame) (after : List ℕ) → IsBytes bytes → next_frame bytes ≡ Ok (f, after) → IsBytes f.value × IsBytes after

@@ -19,8 +19,16 @@ use Rattle.tc_laws.proofs.RewriteLists.{frame_size}
 
 -- no kind is known
 pub unknown_next : RewriteLaws IsWireFrame frame_size raw_frames (in_kind (λ name x. x)) (parts_in_kind (λ name x. []))
-unknown_next = record { settled = settled_raw; again = again_raw; typed = typed_raw; fits = fits_raw; smaller = smaller_raw; same = same_raw; whole =
-    whole_raw }
+unknown_next = record {
+  settled = settled_raw;
+  again = again_raw;
+  typed = typed_raw;
+  fits = fits_raw;
+  smaller = smaller_raw;
+  same = same_raw;
+  whole =
+      whole_raw;
+}
   where
     settled_raw : (k : List ℕ) (f : Frame) (x : Attribute) → IsWireFrame f → read_as (other f.word f.value) ≡ Ok x
         → Unit {0} ↔ AllByRecursion IsSettledPart (parts_in_kind (λ name y. []) x)
@@ -57,7 +65,7 @@ unknown_next = record { settled = settled_raw; again = again_raw; typed = typed_
 module _ (name : List ℕ) (own rest : Codec Frame Attribute) (CanonRest : IsCanonAt) (rest_laws : KindLaws rest CanonRest)
     (next : Attribute → Attribute) (parts : Attribute → List Part) (own_next : RewriteLaws IsWireFrame frame_size own next parts)
     (next' : List ℕ → Attribute → Attribute) (parts' : List ℕ → Attribute → List Part)
-        (rest_next : RewriteLaws IsWireFrame frame_size rest (in_kind next') (parts_in_kind parts')) where
+    (rest_next : RewriteLaws IsWireFrame frame_size rest (in_kind next') (parts_in_kind parts')) where
   -- the first kind, or another
   abbrev next_of : List ℕ → Attribute → Attribute
   next_of m x = cond (bytes_eq m name) (next x) (next' m x)

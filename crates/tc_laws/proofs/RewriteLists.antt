@@ -107,9 +107,11 @@ module _ {X : Type 0} (c : Codec Frame X) (Canon : IsCanonAt) (laws : Laws IsWir
         let here = agree kind f x wire.0 turn.0 in
         let there = agree kind (c.write x) (next x) (laws.makes x t.0 fits.0) first in
         let sets_same : by_frame f ≡ by_frame (c.write x) = here ∙ sym (stays x) ∙ sym there in
-        let kinds_same : kind_then by_frame kind f ≡ kind_then by_frame kind (c.write x) = kind_then-same by_frame by_frame kind f (c.write x) sets_same in
-        (first, subst (λ (k : List ℕ). ReadInTurn c.read by_frame k (map c.write xs) (map next xs)) kinds_same
-            (again-each (kind_then by_frame kind f) fs xs wire.1 t.1 fits.1 turn.1))
+        let kinds_same : kind_then by_frame kind f ≡ kind_then by_frame kind (c.write x) = kind_then-same by_frame by_frame kind f (c.write x) sets_same in (
+          first,
+          subst (λ (k : List ℕ). ReadInTurn c.read by_frame k (map c.write xs) (map next xs)) kinds_same
+              (again-each (kind_then by_frame kind f) fs xs wire.1 t.1 fits.1 turn.1),
+        )
 
     again-list : (kind bytes : List ℕ) (xs : List X) → IsWireBytes bytes → read_list c.read by_frame kind bytes ≡ Ok xs → ListFits c.Fits c.write xs
         → read_list c.read by_frame kind (list_bytes c.write xs) ≡ Ok (map next xs)
@@ -166,7 +168,7 @@ module _ (c : Codec Frame Attribute) (Canon : IsCanonAt) (laws : Laws IsWireFram
       let own = read_own-ok c bytes xs e in
       let is_read = list_laws.again own.own bytes xs w own.is_read f in
       let told = told-set c tells own.own (list_bytes c.write xs) (map next xs) is_read ∙ kinds-next xs ∙ sym (told-set c tells own.own bytes xs own.is_read)
-              ∙ own.tells in
+      ∙ own.tells in
       read_own-is c tells own.own (list_bytes c.write xs) (map next xs) is_read told
 
   pub next_own : RewriteLaws IsWireBytes length (own_codec c) (map next) (flat_map parts)

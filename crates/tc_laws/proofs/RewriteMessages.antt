@@ -84,7 +84,7 @@ module _ (by_frame : Sets Frame) (by_value : Sets Attribute) (layout : List Fiel
   message_norm bytes m w e =
       let is = read_with-ok by_frame layout rows bytes m e in
       let body = norm_list (table_codec (table rows)) (trimmed_table without_nuls (table rows)) (table_norm (table rows) sound) by_frame by_value agree
-              (stays without_nuls) in
+      (stays without_nuls) in
       let header = subst (SettledFields layout) is.header (settled-read layout (take (size_of layout) bytes)) in
       record { header = header; body = body [] (drop (size_of layout) bytes) m.body (wire-body by_frame by_value layout rows laws agree bytes w) is.body }
 

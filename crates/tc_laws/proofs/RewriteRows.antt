@@ -43,8 +43,16 @@ pub record RowRewriteLaws (n : ℕ) (c : Codec Frame Attribute) (next : Content 
 -- ---- kept as it stands
 
 pub raw_next : (n : ℕ) → RowRewriteLaws n raw_frames (λ x. x) (λ x. [])
-raw_next n = record { settled = settled_raw; again = again_raw; under = under_raw; typed = typed_raw; fits = fits_raw; smaller = smaller_raw; same = same_raw;
-    whole = whole_raw }
+raw_next n = record {
+  settled = settled_raw;
+  again = again_raw;
+  under = under_raw;
+  typed = typed_raw;
+  fits = fits_raw;
+  smaller = smaller_raw;
+  same = same_raw;
+  whole = whole_raw;
+}
   where
     settled_raw : (k : List ℕ) (f : Frame) (x : Attribute) → IsWireFrame f → type_of f.word ≡ n → read_as (other f.word f.value) ≡ Ok x
         → Unit {0} ↔ AllByRecursion IsSettledPart (row_parts (λ y. []) x)
@@ -89,7 +97,7 @@ module _ (word n : ℕ) (c : Codec (List ℕ) Content) (next : Content → Conte
   settled-row k f x w e =
       let q = seen-ok (known n) (c.read k f.value) x e in
       subst (λ (y : Attribute). (row_frames word n c).Settled k y ↔ AllByRecursion IsSettledPart (row_parts parts y)) q.2
-          (r.settled k f.value q.0 (wire_value f w) q.1)
+      (r.settled k f.value q.0 (wire_value f w) q.1)
 
   again-row : (k : List ℕ) (f : Frame) (x : Attribute) → IsWireFrame f → seen (known n) (c.read k f.value) ≡ Ok x → (row_frames word n c).Fits x
       → (row_frames word n c).read k ((row_frames word n c).write x) ≡ Ok (of_row next x)
@@ -186,10 +194,10 @@ module _ (n : ℕ) (ks : Kinds) (c : Codec (List ℕ) Content) (next : Content �
       let q = seen-ok (known n) (c.read k f.value) x e in
       let law = r.settled k f.value q.0 (wire_value f w) q.1 in
       subst (λ (y : Attribute). (options_frames n ks c).Settled k y ↔ AllByRecursion IsSettledPart (row_parts parts y)) q.2
-          (λ s. law.0 s.1, λ all. (is, law.1 all))
+      (λ s. law.0 s.1, λ all. (is, law.1 all))
   settled-options false k is f x w at e =
       subst (λ (y : Attribute). (options_frames n ks c).Settled k y ↔ AllByRecursion IsSettledPart (row_parts parts y)) (ok-same (kept n f.word f.value) x e)
-          (λ s. tt, λ all. (is, at))
+      (λ s. tt, λ all. (is, at))
 
   again-options : (b : Bool) (k : List ℕ) (f : Frame) (x : Attribute) → IsWireFrame f → options_by b k f ≡ Ok x → (options_frames n ks c).Fits x
       → options_by b k ((options_frames n ks c).write x) ≡ Ok (of_row next x)
@@ -197,7 +205,7 @@ module _ (n : ℕ) (ks : Kinds) (c : Codec (List ℕ) Content) (next : Content �
   again-options true k f x w e fits = again-row n n c next parts r under k f x w e fits
   again-options false k f x w e fits =
       subst (λ (y : Attribute). read_as (kept n ((options_frames n ks c).write y).word ((options_frames n ks c).write y).value) ≡ Ok (of_row next y))
-          (ok-same (kept n f.word f.value) x e) refl
+      (ok-same (kept n f.word f.value) x e) refl
 
   under-options : (b : Bool) (k : List ℕ) (f : Frame) (x : Attribute) → type_of f.word ≡ n → options_by b k f ≡ Ok x
       → type_of ((options_frames n ks c).write x).word ≡ n
@@ -290,8 +298,15 @@ module _ (at : ℕ → Codec Frame Attribute) (Canon : ℕ → IsCanonAt) (laws 
   whole-table x all = refl
 
   pub by_type_next : RewriteLaws IsWireFrame frame_size (by_type at) (in_known next) (parts_in_known parts)
-  by_type_next = record { settled = settled-table; again = again-table; typed = typed-table; fits = fits-table; smaller = smaller-table; same = same-table;
-      whole = whole-table }
+  by_type_next = record {
+    settled = settled-table;
+    again = again-table;
+    typed = typed-table;
+    fits = fits-table;
+    smaller = smaller-table;
+    same = same-table;
+    whole = whole-table;
+  }
 
 -- ---- a table whose types all mean the same
 
@@ -308,7 +323,7 @@ module _ (c : Codec (List ℕ) Content) (next : Content → Content) (parts : Co
       let q = seen-ok (known (type_of f.word)) (c.read k f.value) x e in
       let law = r.settled k f.value q.0 (wire_value f w) q.1 in
       subst (λ (y : Attribute). (every_frame c).Settled k y ↔ AllByRecursion IsSettledPart (row_parts parts y)) q.2
-          (λ s. law.0 s.1, λ all. (below f.word, law.1 all))
+      (λ s. law.0 s.1, λ all. (below f.word, law.1 all))
 
   again-every : (k : List ℕ) (f : Frame) (x : Attribute) → IsWireFrame f → (every_frame c).read k f ≡ Ok x → (every_frame c).Fits x
       → (every_frame c).read k ((every_frame c).write x) ≡ Ok (of_row next x)
@@ -341,5 +356,12 @@ module _ (c : Codec (List ℕ) Content) (next : Content → Content) (parts : Co
   whole-every x all = refl
 
   pub every_next : RewriteLaws IsWireFrame frame_size (every_frame c) (of_row next) (row_parts parts)
-  every_next = record { settled = settled-every; again = again-every; typed = typed-every; fits = fits-every; smaller = smaller-every; same = same-every;
-      whole = whole-every }
+  every_next = record {
+    settled = settled-every;
+    again = again-every;
+    typed = typed-every;
+    fits = fits-every;
+    smaller = smaller-every;
+    same = same-every;
+    whole = whole-every;
+  }

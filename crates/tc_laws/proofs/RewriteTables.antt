@@ -1,6 +1,34 @@
 -- Every class and every table, written and read again: by induction over the tables.
-use Rattle.std.proofs.Common.{◌≡◌, ℕ, zero, suc, ◌+◌, ◌≤◌, Bool, true, false, ◌&&◌, List, [], ◌∷◌, length, map, take, drop, Ok, Err, cond, eqb, ltb, refl, sym,
-    ap, subst, ◌∙◌, arith}
+use Rattle.std.proofs.Common.{
+  ◌≡◌,
+  ℕ,
+  zero,
+  suc,
+  ◌+◌,
+  ◌≤◌,
+  Bool,
+  true,
+  false,
+  ◌&&◌,
+  List,
+  [],
+  ◌∷◌,
+  length,
+  map,
+  take,
+  drop,
+  Ok,
+  Err,
+  cond,
+  eqb,
+  ltb,
+  refl,
+  sym,
+  ap,
+  subst,
+  ◌∙◌,
+  arith,
+}
 use Rattle.std.specs.List.{flat_map}
 use Rattle.std.proofs.lemmas.Bool.{and_parts, eqb-true, ltb-false}
 use Rattle.nla_frames.specs.Fault.{read_as, Outcome}
@@ -9,8 +37,43 @@ use Rattle.nla_frames.specs.Reading.{keep}
 use Rattle.nla_frames.specs.Value.{le_value, strip}
 use Rattle.nla_frames.specs.Codec.{IsWireValue, list_codec}
 use Rattle.nla_frames.specs.declared.error.DecodeError.TheVariants.{XstatsShort}
-use Rattle.tc_canon.specs.Descriptor.{Field, little, big, named, octets, pad, Class, le, be, masked, array, raw, text, warning, presence, truth, fields,
-    selector, pair, xstats, list_of, own_list, Table, table, every, by_kind, Rows, others, types, unread, options, Kinds, unknown, kind, is_within}
+use Rattle.tc_canon.specs.Descriptor.{
+  Field,
+  little,
+  big,
+  named,
+  octets,
+  pad,
+  Class,
+  le,
+  be,
+  masked,
+  array,
+  raw,
+  text,
+  warning,
+  presence,
+  truth,
+  fields,
+  selector,
+  pair,
+  xstats,
+  list_of,
+  own_list,
+  Table,
+  table,
+  every,
+  by_kind,
+  Rows,
+  others,
+  types,
+  unread,
+  options,
+  Kinds,
+  unknown,
+  kind,
+  is_within,
+}
 use Rattle.tc_canon.specs.Layouts.{width, fq_codel_qd_stats, fq_codel_cl_stats}
 use Rattle.tc_canon.specs.Canonical.{CanonClass, CanonTable, CanonRows, CanonKinds}
 use Rattle.tc_meaning.specs.Tree.{Scalar, Content, is_bytes, flag, record_of, statistics, unknown_statistics, Attribute, known, kept, other, of_kind}
@@ -117,15 +180,15 @@ mutual
   class_next (list_of t) sound =
       next_items (list_codec keep keep (table_codec t)) (map (trimmed_table strip t)) (flat_map (table_parts t))
       (next_list (table_codec t) (CanonTable t) (table_laws t sound) (trimmed_table strip t) (table_parts t) (table_next t sound) keep keep (λ k f x w e. refl)
-          (λ x. refl))
+      (λ x. refl))
   class_next (own_list rows) sound =
       let s = and_parts (starts_with_kind rows) (is_sound_rows rows) sound in
       next_items (own_codec (by_type (rows_codec rows))) (map (in_known (trimmed_rows strip rows))) (flat_map (parts_in_known (rows_parts rows)))
       (next_own (by_type (rows_codec rows)) (λ k f. CanonRows rows (type_of f.word) k f)
-          (by_type_laws (rows_codec rows) (CanonRows rows) (λ n. rows_laws rows s.1 n))
+      (by_type_laws (rows_codec rows) (CanonRows rows) (λ n. rows_laws rows s.1 n))
       (tells_rows rows s.0 (λ n. rows_laws rows s.1 n)) (in_known (trimmed_rows strip rows)) (parts_in_known (rows_parts rows))
       (by_type_next (rows_codec rows) (CanonRows rows) (λ n. rows_laws rows s.1 n) (trimmed_rows strip rows) (rows_parts rows) (λ n. rows_next rows s.1 n))
-          (same_kind strip rows s.0))
+      (same_kind strip rows s.0))
 
   pub table_next : (t : Table) → is_sound_table t ≡ true → RewriteLaws IsWireFrame frame_size (table_codec t) (trimmed_table strip t) (table_parts t)
   table_next (table rows) sound =
@@ -140,18 +203,18 @@ mutual
       let b = and_parts (are_flags flags) (is_sound_class class && is_sound_rows rows) a.1 in
       let c = and_parts (is_sound_class class) (is_sound_rows rows) b.1 in
       choose_next n (is_within first last n) (row_frames (flags + n) n (class_codec class)) (rows_codec rows n) (trimmed_class strip class)
-          (trimmed_rows strip rows n) (class_parts class) (rows_parts rows n)
+      (trimmed_rows strip rows n) (class_parts class) (rows_parts rows n)
       (λ within. row_next (flags + n) n (class_codec class) (trimmed_class strip class) (class_parts class) (class_next class c.0)
-          (row_word first last flags n a.0 b.0 within).under)
+      (row_word first last flags n a.0 b.0 within).under)
       (rows_next rows c.1 n)
   rows_next (unread m class rows) sound n =
       let a = and_parts (is_type m) (is_free m rows && (is_sound_class class && is_sound_rows rows)) sound in
       let b = and_parts (is_free m rows) (is_sound_class class && is_sound_rows rows) a.1 in
       let c = and_parts (is_sound_class class) (is_sound_rows rows) b.1 in
       choose_next n (eqb n m) (unread_frames m (class_codec class)) (rows_codec rows n) (trimmed_class strip class) (trimmed_rows strip rows n)
-          (class_parts class) (rows_parts rows n)
+      (class_parts class) (rows_parts rows n)
       (λ same. subst (λ (i : ℕ). RowRewriteLaws i (unread_frames m (class_codec class)) (trimmed_class strip class) (class_parts class))
-          (sym (eqb-true n m same))
+      (sym (eqb-true n m same))
       (unread_next m (class_codec class) (trimmed_class strip class) (class_parts class) (class_next class c.0) (type_word m a.0).1))
       (rows_next rows c.1 n)
   rows_next (options m kinds rows) sound n =
@@ -160,14 +223,14 @@ mutual
       let laws = (kinds_laws kinds b.0).laws in
       choose_next n (eqb n m) (options_frames m kinds (via a_list (list_codec keep keep (kinds_codec kinds)))) (rows_codec rows n)
       (on a_list (map (in_kind (trimmed_kinds strip kinds)))) (trimmed_rows strip rows n) (λ x. flat_map (parts_in_kind (kinds_parts kinds)) (a_list.out x))
-          (rows_parts rows n)
+      (rows_parts rows n)
       (λ same. subst (λ (i : ℕ). RowRewriteLaws i (options_frames m kinds (via a_list (list_codec keep keep (kinds_codec kinds))))
-          (on a_list (map (in_kind (trimmed_kinds strip kinds)))) (λ x. flat_map (parts_in_kind (kinds_parts kinds)) (a_list.out x))) (sym (eqb-true n m same))
+      (on a_list (map (in_kind (trimmed_kinds strip kinds)))) (λ x. flat_map (parts_in_kind (kinds_parts kinds)) (a_list.out x))) (sym (eqb-true n m same))
       (options_next m kinds (via a_list (list_codec keep keep (kinds_codec kinds))) (on a_list (map (in_kind (trimmed_kinds strip kinds))))
-          (λ x. flat_map (parts_in_kind (kinds_parts kinds)) (a_list.out x))
+      (λ x. flat_map (parts_in_kind (kinds_parts kinds)) (a_list.out x))
       (next_items (list_codec keep keep (kinds_codec kinds)) (map (in_kind (trimmed_kinds strip kinds))) (flat_map (parts_in_kind (kinds_parts kinds)))
       (next_list (kinds_codec kinds) (CanonKinds kinds) laws (in_kind (trimmed_kinds strip kinds)) (parts_in_kind (kinds_parts kinds))
-          (kinds_next kinds b.0) keep keep (λ k f x w e. refl) (λ x. refl)))
+      (kinds_next kinds b.0) keep keep (λ k f x w e. refl) (λ x. refl)))
       (type_word m a.0).1))
       (rows_next rows b.1 n)
 

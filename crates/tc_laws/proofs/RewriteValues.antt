@@ -1,6 +1,30 @@
 -- Values that are written and read again: as themselves, or with a number masked or one NUL less.
-use Rattle.std.proofs.Common.{◌≡◌, ◌↔◌, ℕ, ◌%◌, ◌^◌, ◌<◌, ◌≤◌, Bool, true, false, not, List, [], ◌∷◌, length, Ok, ltb, refl, sym, ap, subst, ◌∙◌, arith,
-    pow_pos}
+use Rattle.std.proofs.Common.{
+  ◌≡◌,
+  ◌↔◌,
+  ℕ,
+  ◌%◌,
+  ◌^◌,
+  ◌<◌,
+  ◌≤◌,
+  Bool,
+  true,
+  false,
+  not,
+  List,
+  [],
+  ◌∷◌,
+  length,
+  Ok,
+  ltb,
+  refl,
+  sym,
+  ap,
+  subst,
+  ◌∙◌,
+  arith,
+  pow_pos,
+}
 use Rattle.std.specs.List.{AllByRecursion}
 use Rattle.std.proofs.lemmas.Bool.{lt-ltb, ltb-true}
 use Rattle.nla_frames.specs.Fault.{seen, read_as}
@@ -116,8 +140,10 @@ next_items c next parts r = record {
   settled = λ k v x w e. r.settled k v (a_list.out x) (counted v w) (read_out k v x e);
   again = λ k v x w e f. ok-seen a_list.into (c.read k (c.write (a_list.out x))) (next (a_list.out x))
       (r.again k v (a_list.out x) (counted v w) (read_out k v x e) f.0);
-  typed = λ x t. (ap (λ (xs : List Attribute). a_list.into xs) (again (next (a_list.out x))),
-      subst c.Typed (sym (again (next (a_list.out x)))) (r.typed (a_list.out x) t.1));
+  typed = λ x t. (
+    ap (λ (xs : List Attribute). a_list.into xs) (again (next (a_list.out x))),
+    subst c.Typed (sym (again (next (a_list.out x)))) (r.typed (a_list.out x) t.1),
+  );
   fits = λ x f. (subst c.Fits (sym (again (next (a_list.out x)))) (r.fits (a_list.out x) f.0), short_next x f.1);
   smaller = λ x. rw (again (next (a_list.out x))) (r.smaller (a_list.out x));
   same = λ x t f s. r.same (a_list.out x) t.1 f.0 (ap c.write (sym (again (next (a_list.out x)))) ∙ s);

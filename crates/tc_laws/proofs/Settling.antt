@@ -176,9 +176,11 @@ module _ (c : Codec (List ℕ) Message) (Canon : List ℕ → Type 0) (laws : La
     pub settles-as : (bytes : List ℕ) (m : Message) → IsRead bytes m → (final : List ℕ) × SettlesAs rewrites Canon bytes final × Reads final (norm m)
     unfolding last
     settles-as bytes m is =
-        let there = last-read bytes m is in
-        (last bytes m, record { count = suc (most (parts m)); reached = reached bytes m is (suc (most (parts m))); canonical = last-canon bytes m is },
-            (reads-is (last bytes m) (norm m) there.wire).0 there.reads)
+        let there = last-read bytes m is in (
+          last bytes m,
+          record { count = suc (most (parts m)); reached = reached bytes m is (suc (most (parts m))); canonical = last-canon bytes m is },
+          (reads-is (last bytes m) (norm m) there.wire).0 there.reads,
+        )
 
     -- what bytes settle as is the bytes of the norm, and reads as it
     pub record IsFinal (final : List ℕ) (m : Message) : Type 0 where

@@ -1,17 +1,88 @@
 -- What one rewriting and all rewritings make of a value: one NUL less at the end of each warning, and none.
-use Rattle.std.proofs.Common.{◌≡◌, ◌⊎◌, ℕ, ◌-◌, ◌%◌, ◌^◌, ◌<◌, ◌≤◌, Bool, true, false, List, [], ◌∷◌, ◌++◌, map, cond, eqb, refl, sym, ap, ap₂, ◌∙◌, arith, inl,
-    inr, pow_pos, mod-eq_of_lt}
+use Rattle.std.proofs.Common.{
+  ◌≡◌,
+  ◌⊎◌,
+  ℕ,
+  ◌-◌,
+  ◌%◌,
+  ◌^◌,
+  ◌<◌,
+  ◌≤◌,
+  Bool,
+  true,
+  false,
+  List,
+  [],
+  ◌∷◌,
+  ◌++◌,
+  map,
+  cond,
+  eqb,
+  refl,
+  sym,
+  ap,
+  ap₂,
+  ◌∙◌,
+  arith,
+  inl,
+  inr,
+  pow_pos,
+  mod-eq_of_lt,
+}
 use Rattle.std.specs.List.{flat_map, AllByRecursion}
 use Rattle.std.specs.Str.{bytes_eq}
 use Rattle.nla_frames.specs.Value.{ends_in_nul, strip}
-use Rattle.tc_canon.specs.Descriptor.{Class, le, be, masked, array, raw, text, warning, presence, truth, fields, selector, pair, xstats, list_of, own_list,
-    Table, table, every, by_kind, Rows, others, types, unread, options, Kinds, unknown, kind, is_within}
+use Rattle.tc_canon.specs.Descriptor.{
+  Class,
+  le,
+  be,
+  masked,
+  array,
+  raw,
+  text,
+  warning,
+  presence,
+  truth,
+  fields,
+  selector,
+  pair,
+  xstats,
+  list_of,
+  own_list,
+  Table,
+  table,
+  every,
+  by_kind,
+  Rows,
+  others,
+  types,
+  unread,
+  options,
+  Kinds,
+  unknown,
+  kind,
+  is_within,
+}
 use Rattle.tc_meaning.specs.Tree.{Content, number, is_bytes, Attribute, known, kept, other, of_kind}
 use Rattle.tc_meaning.specs.Content.{a_number, some_bytes}
 use Rattle.tc_meaning.specs.Meaning.{a_list}
 use Rattle.tc_meaning.specs.Message.{Message}
-use Rattle.tc_laws.specs.Loose.{Part, masked_number, warning_text, parts_in_known, parts_in_kind, class_parts, table_parts, rows_parts, kinds_parts,
-    message_parts, without_nuls, trailing_nuls, part_nuls, greater}
+use Rattle.tc_laws.specs.Loose.{
+  Part,
+  masked_number,
+  warning_text,
+  parts_in_known,
+  parts_in_kind,
+  class_parts,
+  table_parts,
+  rows_parts,
+  kinds_parts,
+  message_parts,
+  without_nuls,
+  trailing_nuls,
+  part_nuls,
+  greater,
+}
 use Rattle.tc_laws.specs.Norm.{on, in_known, in_kind, trimmed_class, trimmed_table, trimmed_rows, trimmed_kinds, norm, next}
 use Rattle.tc_meaning.proofs.Trees.{attributes_again}
 use Rattle.tc_laws.proofs.MostNuls.{greater-cases, greater-nothing, most, most-append}
@@ -203,7 +274,7 @@ mutual
   class_trims (list_of t) = items_trim (trimmed_table strip t) (trimmed_table without_nuls t) (table_parts t) (table_trims t)
   class_trims (own_list rows) =
       items_trim (in_known (trimmed_rows strip rows)) (in_known (trimmed_rows without_nuls rows)) (parts_in_known (rows_parts rows))
-          (known_trim (trimmed_rows strip rows) (trimmed_rows without_nuls rows) (rows_parts rows) (λ n. rows_trims rows n))
+      (known_trim (trimmed_rows strip rows) (trimmed_rows without_nuls rows) (rows_parts rows) (λ n. rows_trims rows n))
 
   pub table_trims : (t : Table) → TrimLaws (trimmed_table strip t) (trimmed_table without_nuls t) (table_parts t)
   table_trims (table rows) = known_trim (trimmed_rows strip rows) (trimmed_rows without_nuls rows) (rows_parts rows) (λ n. rows_trims rows n)
@@ -215,23 +286,23 @@ mutual
   rows_trims others n = same_trim
   rows_trims (types first last flags class rows) n =
       pick_trim (is_within first last n) (trimmed_class strip class) (trimmed_class without_nuls class) (trimmed_rows strip rows n)
-          (trimmed_rows without_nuls rows n) (class_parts class) (rows_parts rows n) (class_trims class) (rows_trims rows n)
+      (trimmed_rows without_nuls rows n) (class_parts class) (rows_parts rows n) (class_trims class) (rows_trims rows n)
   rows_trims (unread m class rows) n =
       pick_trim (eqb n m) (trimmed_class strip class) (trimmed_class without_nuls class) (trimmed_rows strip rows n) (trimmed_rows without_nuls rows n)
-          (class_parts class) (rows_parts rows n) (class_trims class) (rows_trims rows n)
+      (class_parts class) (rows_parts rows n) (class_trims class) (rows_trims rows n)
   rows_trims (options m kinds rows) n =
       pick_trim (eqb n m) (on a_list (map (in_kind (trimmed_kinds strip kinds)))) (on a_list (map (in_kind (trimmed_kinds without_nuls kinds))))
-          (trimmed_rows strip rows n) (trimmed_rows without_nuls rows n)
+      (trimmed_rows strip rows n) (trimmed_rows without_nuls rows n)
       (λ x. flat_map (parts_in_kind (kinds_parts kinds)) (a_list.out x)) (rows_parts rows n)
       (items_trim (in_kind (trimmed_kinds strip kinds)) (in_kind (trimmed_kinds without_nuls kinds)) (parts_in_kind (kinds_parts kinds))
-          (kind_trim (trimmed_kinds strip kinds) (trimmed_kinds without_nuls kinds) (kinds_parts kinds) (λ name. kinds_trims kinds name)))
+      (kind_trim (trimmed_kinds strip kinds) (trimmed_kinds without_nuls kinds) (kinds_parts kinds) (λ name. kinds_trims kinds name)))
       (rows_trims rows n)
 
   kinds_trims : (kinds : Kinds) (name : List ℕ) → TrimLaws (trimmed_kinds strip kinds name) (trimmed_kinds without_nuls kinds name) (kinds_parts kinds name)
   kinds_trims unknown name = record { once = λ x w. refl; twice = λ x. refl; left = λ x. refl }
   kinds_trims (kind own rows kinds) name =
       pick_trim (bytes_eq name own) (in_known (trimmed_rows strip rows)) (in_known (trimmed_rows without_nuls rows)) (trimmed_kinds strip kinds name)
-          (trimmed_kinds without_nuls kinds name) (parts_in_known (rows_parts rows)) (kinds_parts kinds name)
+      (trimmed_kinds without_nuls kinds name) (parts_in_known (rows_parts rows)) (kinds_parts kinds name)
       (known_trim (trimmed_rows strip rows) (trimmed_rows without_nuls rows) (rows_parts rows) (λ n. rows_trims rows n)) (kinds_trims kinds name)
 
 -- ---- of a message

@@ -25,7 +25,7 @@ refused_by codec outcome Reads Fault reading fault OutOfMemory why = tt
 pub rewritten : (sets : Sets Frame) (by_value : Sets Attribute) (layout : List Field) (rows : Rows) (bytes : List ℕ)
     → ((m : Message) → (read_with sets layout rows bytes ≡ Ok m) ↔ ReadsWith sets layout rows bytes m)
     → (written : List ℕ) → WrittenOf (message_codec sets by_value layout rows) (read_with sets layout rows bytes) written
-        → RewritesWith sets layout rows bytes written
+    → RewritesWith sets layout rows bytes written
 rewritten sets by_value layout rows bytes reading written w = record { message = w.value; reads = (reading w.value).0 w.is_read; fits = w.fits; is = w.is }
 
 -- a test that fails refutes what it tests

@@ -19,7 +19,7 @@ module _ (bytes settled : List ℕ) (nuls : ℕ) (t : TrimmedOf bytes settled nu
       let from : EndsAct bytes t.message s.final =
       record { reads = t.reads; fits = t.fits; settles = record { count = nuls_act t.message + 1; reached = s.reached; canonical = s.canonical } } in
       let here : EndsAct settled (norm_act t.message) settled =
-              record { reads = reads; fits = fits; settles = record { count = 0; reached = refl; canonical = canonical } } in
+      record { reads = reads; fits = fits; settles = record { count = 0; reached = refl; canonical = canonical } } in
       let is : s.final ≡ settled = (same_norm t.message (norm_act t.message) s.final settled from here).1 (sym twice) in
       subst (λ (n : ℕ). SettlesAct bytes settled (n + 1)) (sym t.most)
       (settles_to RewritesAct CanonAct ReadsAct norm_act bytes t.message t.reads (nuls_act t.message + 1) s settled is)

@@ -18,5 +18,5 @@ returns-clause-refused g c =
     let fs = map frame_of c.args.frames.now in
     let kind = c.args.kind.now in
     IfRefused-Gives (λ v. map g.T.FrameMeaning.see v.items) c.read_frames.result
-        (read_each g.T.FrameMeaning.codec.read keep kind (whole fs)) c.read_frames.ensures
+    (read_each g.T.FrameMeaning.codec.read keep kind (whole fs)) c.read_frames.ensures
     (IsFirstRefusal g.T.FrameMeaning.codec.read kind fs) (first_of_frames g.T.FrameMeaning.codec.read kind fs)

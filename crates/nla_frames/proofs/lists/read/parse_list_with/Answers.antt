@@ -18,5 +18,5 @@ returns-clause-refused g c =
     let reads = g.T.FrameMeaning.codec.read in
     let are_bytes = IsBytes-slice c.args.bytes.now c.type_inv.bytes in
     IfRefused-Gives (λ v. map g.T.FrameMeaning.see v.items) c.read_all_with.result
-        (read_list reads keep c.args.kind.now c.args.bytes.now) c.read_all_with.ensures
+    (read_list reads keep c.args.kind.now c.args.bytes.now) c.read_all_with.ensures
     (IsListFault reads keep c.args.kind.now c.args.bytes.now) (λ e. IsListFault-read_list reads keep c.args.kind.now c.args.bytes.now e are_bytes)

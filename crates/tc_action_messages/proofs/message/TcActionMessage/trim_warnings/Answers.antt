@@ -25,8 +25,10 @@ abbrev message_of : TcActionMessageHeader → List Attribute → Message
 message_of header body = record { header = action_message_header_scalars header; body = body }
 
 pub loop-attribute-init : goal.loop-attribute-init
-loop-attribute-init g c = (omega arith,
-    rw c.deref_mut-attribute-items.ensures.value (trim_start action_message_attribute change parts c.args.self.now.attributes.items))
+loop-attribute-init g c = (
+  omega arith,
+  rw c.deref_mut-attribute-items.ensures.value (trim_start action_message_attribute change parts c.args.self.now.attributes.items),
+)
 
 pub loop-attribute-preserved : goal.loop-attribute-preserved
 loop-attribute-preserved g c =

@@ -22,5 +22,5 @@ returns-clause-refused g c =
     let reads = (table_codec (table attributes)).read in
     let are_bytes = IsBytes-slice c.args.bytes.now c.type_inv.bytes in
     IfRefused-Gives (λ list. map tc_attribute list.0.items) c.read_attributes.result
-        (read_list reads kind_of_frame [] c.args.bytes.now) c.read_attributes.ensures
+    (read_list reads kind_of_frame [] c.args.bytes.now) c.read_attributes.ensures
     (AttributesFault c.args.bytes.now) (λ e. IsListFault-read_list reads kind_of_frame [] c.args.bytes.now e are_bytes)
