@@ -1,30 +1,6 @@
 -- A frame that stands at the front of bytes is the next one.
-use Rattle.std.proofs.Common.{
-  ◌≡◌,
-  ◌⊎◌,
-  ℕ,
-  ◌+◌,
-  ◌^◌,
-  ◌<◌,
-  ◌≤◌,
-  false,
-  ltb,
-  List,
-  [],
-  ◌++◌,
-  length,
-  take,
-  drop,
-  Ok,
-  refl,
-  sym,
-  subst,
-  ◌∙◌,
-  arith,
-  inl,
-  inr,
-  append_assoc,
-}
+use Rattle.std.proofs.Common.{◌≡◌, ◌⊎◌, ℕ, ◌+◌, ◌^◌, ◌<◌, ◌≤◌, false, ltb, List, [], ◌++◌, length, take, drop, Ok, refl, sym, subst, ◌∙◌, arith, inl, inr}
+use Rattle.std.proofs.Common.{append_assoc}
 use Rattle.std.proofs.lemmas.Bool.{le-ltb}
 use Rattle.std.proofs.lemmas.List.{append-nil, length-append, take_at, drop_at, drop_all}
 use Rattle.nla_frames.specs.Value.{le_value}

@@ -14,16 +14,8 @@ use Rattle.nla_frames.specs.ListGrammar.{ReadEach, ListReads, StartsWith, HasFau
 use Rattle.nla_frames.proofs.CuttingLaws.{cuts, cut-is, cut-Begins, cut-Ends, cut-IsBroken, cut-AreFramesAndRest}
 use Rattle.nla_frames.proofs.CutFrames.{cut_not_memory}
 use Rattle.nla_frames.proofs.Places.{kind_after, kind_after-InForce, InForce-kind_after}
-use Rattle.nla_frames.proofs.ReadEach.{
-  ReadInTurn-ReadEach,
-  ReadEach-ReadInTurn,
-  read_each-ReadInTurn,
-  ReadInTurn-read_each,
-  Refused,
-  at_end,
-  at_frame,
-  Refused-read_each,
-}
+use Rattle.nla_frames.proofs.ReadEach.{ReadInTurn-ReadEach, ReadEach-ReadInTurn, read_each-ReadInTurn, ReadInTurn-read_each, Refused, at_end, at_frame}
+use Rattle.nla_frames.proofs.ReadEach.{Refused-read_each}
 
 -- a frame that stands at the front is cut first
 cut-StartsWith : (rest : List ℕ) (f : Frame) → StartsWith rest f → (c : Cutting) × (cut rest ≡ before_cut f c)

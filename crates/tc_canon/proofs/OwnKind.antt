@@ -1,28 +1,6 @@
 -- The one kind that the frames of an action tell, found in a loop.
-use Rattle.std.proofs.Common.{
-  ◌≡◌,
-  ℕ,
-  ◌<◌,
-  Bool,
-  true,
-  false,
-  List,
-  [],
-  ◌∷◌,
-  ◌++◌,
-  length,
-  refl,
-  sym,
-  ap,
-  ◌∙◌,
-  ◌↔◌,
-  Bor,
-  Option,
-  Some,
-  None,
-  MatchOption,
-  IsTrue,
-}
+use Rattle.std.proofs.Common.{◌≡◌, ℕ, ◌<◌, Bool, true, false, List, [], ◌∷◌, ◌++◌, length, refl, sym, ap, ◌∙◌, ◌↔◌, Bor, Option, Some, None, MatchOption}
+use Rattle.std.proofs.Common.{IsTrue}
 use Rattle.std.proofs.lemmas.Bool.{ne_eqb}
 use Rattle.std.proofs.Common.{eq-eqb, is_some}
 use Rattle.nla_frames.specs.Value.{strip}

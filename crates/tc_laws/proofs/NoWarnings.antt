@@ -3,37 +3,8 @@ use Rattle.std.proofs.Common.{◌≡◌, ℕ, Bool, true, false, ◌&&◌, List,
 use Rattle.std.specs.List.{flat_map, AllByRecursion}
 use Rattle.std.specs.Str.{bytes_eq}
 use Rattle.std.proofs.lemmas.Bool.{and_parts}
-use Rattle.tc_canon.specs.Descriptor.{
-  Class,
-  le,
-  be,
-  masked,
-  array,
-  raw,
-  text,
-  warning,
-  presence,
-  truth,
-  fields,
-  selector,
-  pair,
-  xstats,
-  list_of,
-  own_list,
-  Table,
-  table,
-  every,
-  by_kind,
-  Rows,
-  others,
-  types,
-  unread,
-  options,
-  Kinds,
-  unknown,
-  kind,
-  is_within,
-}
+use Rattle.tc_canon.specs.Descriptor.{Class, le, be, masked, array, raw, text, warning, presence, truth, fields, selector, pair, xstats, list_of, own_list}
+use Rattle.tc_canon.specs.Descriptor.{Table, table, every, by_kind, Rows, others, types, unread, options, Kinds, unknown, kind, is_within}
 use Rattle.tc_canon.specs.Tables.Messages.{attributes}
 use Rattle.tc_meaning.specs.Tree.{Content, Attribute, known, of_kind}
 use Rattle.tc_meaning.specs.Meaning.{a_list}

@@ -13,58 +13,14 @@ use Rattle.nla_frames.specs.Codec.{Codec, IsWireValue, IsWireBytes, SettledEach,
 use Rattle.nla_frames.proofs.CutFrames.{IsWireFrame-cut}
 use Rattle.nla_frames.proofs.ReadEach.{ReadInTurn}
 use Rattle.nla_frames.proofs.ListLaws.{ReadInTurn-read_list, kind_then-same}
-use Rattle.tc_canon.specs.Descriptor.{
-  Class,
-  le,
-  be,
-  masked,
-  array,
-  raw,
-  text,
-  warning,
-  presence,
-  truth,
-  fields,
-  selector,
-  pair,
-  xstats,
-  list_of,
-  own_list,
-  Table,
-  table,
-  every,
-  by_kind,
-  Rows,
-  others,
-  types,
-  unread,
-  options,
-  Kinds,
-  unknown,
-  kind,
-  is_within,
-  is_known,
-}
+use Rattle.tc_canon.specs.Descriptor.{Class, le, be, masked, array, raw, text, warning, presence, truth, fields, selector, pair, xstats, list_of, own_list}
+use Rattle.tc_canon.specs.Descriptor.{Table, table, every, by_kind, Rows, others, types, unread, options, Kinds, unknown, kind, is_within, is_known}
 use Rattle.tc_canon.specs.Canonical.{CanonRows, CanonKinds}
 use Rattle.tc_meaning.specs.Tree.{Content, Attribute, known, kept, other, of_kind, number_of}
 use Rattle.tc_meaning.specs.Content.{via, a_number, some_bytes, a_record, flags_pair}
 use Rattle.tc_meaning.specs.Own.{kind_of_attribute, kind_before, kinds_set, own_codec}
-use Rattle.tc_meaning.specs.Meaning.{
-  short,
-  a_list,
-  raw_frames,
-  row_frames,
-  unread_frames,
-  options_frames,
-  every_frame,
-  kind_frames,
-  choose,
-  by_type,
-  class_codec,
-  table_codec,
-  rows_codec,
-  kinds_codec,
-}
+use Rattle.tc_meaning.specs.Meaning.{short, a_list, raw_frames, row_frames, unread_frames, options_frames, every_frame, kind_frames, choose, by_type}
+use Rattle.tc_meaning.specs.Meaning.{class_codec, table_codec, rows_codec, kinds_codec}
 use Rattle.tc_meaning.specs.Sound.{is_type, are_flags, is_free, starts_with_kind, is_sound_class, is_sound_table, is_sound_rows, is_sound_kinds}
 use Rattle.tc_laws.specs.Loose.{without_nuls}
 use Rattle.tc_laws.specs.Norm.{on, in_known, in_kind, trimmed_class, trimmed_table, trimmed_rows, trimmed_kinds}

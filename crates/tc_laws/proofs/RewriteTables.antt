@@ -1,34 +1,6 @@
 -- Every class and every table, written and read again: by induction over the tables.
-use Rattle.std.proofs.Common.{
-  ◌≡◌,
-  ℕ,
-  zero,
-  suc,
-  ◌+◌,
-  ◌≤◌,
-  Bool,
-  true,
-  false,
-  ◌&&◌,
-  List,
-  [],
-  ◌∷◌,
-  length,
-  map,
-  take,
-  drop,
-  Ok,
-  Err,
-  cond,
-  eqb,
-  ltb,
-  refl,
-  sym,
-  ap,
-  subst,
-  ◌∙◌,
-  arith,
-}
+use Rattle.std.proofs.Common.{◌≡◌, ℕ, zero, suc, ◌+◌, ◌≤◌, Bool, true, false, ◌&&◌, List, [], ◌∷◌, length, map, take, drop, Ok, Err, cond, eqb, ltb, refl, sym}
+use Rattle.std.proofs.Common.{ap, subst, ◌∙◌, arith}
 use Rattle.std.specs.List.{flat_map}
 use Rattle.std.proofs.lemmas.Bool.{and_parts, eqb-true, ltb-false}
 use Rattle.nla_frames.specs.Fault.{read_as, Outcome}
@@ -37,43 +9,9 @@ use Rattle.nla_frames.specs.Reading.{keep}
 use Rattle.nla_frames.specs.Value.{le_value, strip}
 use Rattle.nla_frames.specs.Codec.{IsWireValue, list_codec}
 use Rattle.nla_frames.specs.declared.error.DecodeError.TheVariants.{XstatsShort}
-use Rattle.tc_canon.specs.Descriptor.{
-  Field,
-  little,
-  big,
-  named,
-  octets,
-  pad,
-  Class,
-  le,
-  be,
-  masked,
-  array,
-  raw,
-  text,
-  warning,
-  presence,
-  truth,
-  fields,
-  selector,
-  pair,
-  xstats,
-  list_of,
-  own_list,
-  Table,
-  table,
-  every,
-  by_kind,
-  Rows,
-  others,
-  types,
-  unread,
-  options,
-  Kinds,
-  unknown,
-  kind,
-  is_within,
-}
+use Rattle.tc_canon.specs.Descriptor.{Field, little, big, named, octets, pad, Class, le, be, masked, array, raw, text, warning, presence, truth, fields}
+use Rattle.tc_canon.specs.Descriptor.{selector, pair, xstats, list_of, own_list, Table, table, every, by_kind, Rows, others, types, unread, options, Kinds}
+use Rattle.tc_canon.specs.Descriptor.{unknown, kind, is_within}
 use Rattle.tc_canon.specs.Layouts.{width, fq_codel_qd_stats, fq_codel_cl_stats}
 use Rattle.tc_canon.specs.Canonical.{CanonClass, CanonTable, CanonRows, CanonKinds}
 use Rattle.tc_meaning.specs.Tree.{Scalar, Content, is_bytes, flag, record_of, statistics, unknown_statistics, Attribute, known, kept, other, of_kind}

@@ -17,39 +17,15 @@ use Rattle.tc_laws.specs.Norm.{next, norm, norm_tc, norm_act}
 use Rattle.tc_laws.specs.Rewriting.{RewritesWith, SettlesAs, SettlesIn, EndsWith, TcSettlesIn}
 use Rattle.tc_meaning.proofs.MessageLaws.{one_message}
 use Rattle.tc_meaning.proofs.TableLaws.{table_laws}
-use Rattle.tc_meaning.proofs.MessageTheorems.{
-  sound_attributes,
-  sound_actions,
-  tells_attributes,
-  tc_laws,
-  act_laws,
-  canon-tc,
-  canon-act,
-  tc-reading,
-  act-reading,
-  tc-typed,
-  act-typed,
-  tc-settled,
-  act-settled,
-}
+use Rattle.tc_meaning.proofs.MessageTheorems.{sound_attributes, sound_actions, tells_attributes, tc_laws, act_laws, canon-tc, canon-act, tc-reading}
+use Rattle.tc_meaning.proofs.MessageTheorems.{act-reading, tc-typed, act-typed, tc-settled, act-settled}
 use Rattle.tc_laws.proofs.TrimLaws.{message_trims, whole-most}
 use Rattle.tc_laws.proofs.NoWarnings.{tc_whole}
 use Rattle.tc_laws.proofs.RewriteValues.{RewriteLaws}
 use Rattle.tc_laws.proofs.RewriteTables.{same_kind}
 use Rattle.tc_laws.proofs.RewriteMessages.{message_next, message_norm}
-use Rattle.tc_laws.proofs.Settling.{
-  none_loose,
-  IsRead,
-  canon-norm,
-  canon-whole,
-  is_read-next,
-  norm-typed,
-  norm-fits,
-  rewrites-once,
-  settles,
-  settles-as,
-  same-settled,
-}
+use Rattle.tc_laws.proofs.Settling.{none_loose, IsRead, canon-norm, canon-whole, is_read-next, norm-typed, norm-fits, rewrites-once, settles, settles-as}
+use Rattle.tc_laws.proofs.Settling.{same-settled}
 
 -- the same laws, canonical said in other words
 in_words : (c : Codec (List ℕ) Message) (Canon Other : List ℕ → Type 0) → ((bytes : List ℕ) → Canon bytes ↔ Other bytes)

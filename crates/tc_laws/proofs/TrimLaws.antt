@@ -1,88 +1,17 @@
 -- What one rewriting and all rewritings make of a value: one NUL less at the end of each warning, and none.
-use Rattle.std.proofs.Common.{
-  ◌≡◌,
-  ◌⊎◌,
-  ℕ,
-  ◌-◌,
-  ◌%◌,
-  ◌^◌,
-  ◌<◌,
-  ◌≤◌,
-  Bool,
-  true,
-  false,
-  List,
-  [],
-  ◌∷◌,
-  ◌++◌,
-  map,
-  cond,
-  eqb,
-  refl,
-  sym,
-  ap,
-  ap₂,
-  ◌∙◌,
-  arith,
-  inl,
-  inr,
-  pow_pos,
-  mod-eq_of_lt,
-}
+use Rattle.std.proofs.Common.{◌≡◌, ◌⊎◌, ℕ, ◌-◌, ◌%◌, ◌^◌, ◌<◌, ◌≤◌, Bool, true, false, List, [], ◌∷◌, ◌++◌, map, cond, eqb, refl, sym, ap, ap₂, ◌∙◌, arith, inl}
+use Rattle.std.proofs.Common.{inr, pow_pos, mod-eq_of_lt}
 use Rattle.std.specs.List.{flat_map, AllByRecursion}
 use Rattle.std.specs.Str.{bytes_eq}
 use Rattle.nla_frames.specs.Value.{ends_in_nul, strip}
-use Rattle.tc_canon.specs.Descriptor.{
-  Class,
-  le,
-  be,
-  masked,
-  array,
-  raw,
-  text,
-  warning,
-  presence,
-  truth,
-  fields,
-  selector,
-  pair,
-  xstats,
-  list_of,
-  own_list,
-  Table,
-  table,
-  every,
-  by_kind,
-  Rows,
-  others,
-  types,
-  unread,
-  options,
-  Kinds,
-  unknown,
-  kind,
-  is_within,
-}
+use Rattle.tc_canon.specs.Descriptor.{Class, le, be, masked, array, raw, text, warning, presence, truth, fields, selector, pair, xstats, list_of, own_list}
+use Rattle.tc_canon.specs.Descriptor.{Table, table, every, by_kind, Rows, others, types, unread, options, Kinds, unknown, kind, is_within}
 use Rattle.tc_meaning.specs.Tree.{Content, number, is_bytes, Attribute, known, kept, other, of_kind}
 use Rattle.tc_meaning.specs.Content.{a_number, some_bytes}
 use Rattle.tc_meaning.specs.Meaning.{a_list}
 use Rattle.tc_meaning.specs.Message.{Message}
-use Rattle.tc_laws.specs.Loose.{
-  Part,
-  masked_number,
-  warning_text,
-  parts_in_known,
-  parts_in_kind,
-  class_parts,
-  table_parts,
-  rows_parts,
-  kinds_parts,
-  message_parts,
-  without_nuls,
-  trailing_nuls,
-  part_nuls,
-  greater,
-}
+use Rattle.tc_laws.specs.Loose.{Part, masked_number, warning_text, parts_in_known, parts_in_kind, class_parts, table_parts, rows_parts, kinds_parts}
+use Rattle.tc_laws.specs.Loose.{message_parts, without_nuls, trailing_nuls, part_nuls, greater}
 use Rattle.tc_laws.specs.Norm.{on, in_known, in_kind, trimmed_class, trimmed_table, trimmed_rows, trimmed_kinds, norm, next}
 use Rattle.tc_meaning.proofs.Trees.{attributes_again}
 use Rattle.tc_laws.proofs.MostNuls.{greater-cases, greater-nothing, most, most-append}

@@ -1,67 +1,15 @@
 -- The laws of records, for every layout at once.
-use Rattle.std.proofs.Common.{
-  ◌≡◌,
-  ◌↔◌,
-  ℕ,
-  ◌+◌,
-  ◌^◌,
-  ◌<◌,
-  ◌≤◌,
-  Bool,
-  true,
-  false,
-  List,
-  [],
-  ◌∷◌,
-  ◌++◌,
-  length,
-  take,
-  drop,
-  replicate,
-  reverse,
-  Ok,
-  cond,
-  ltb,
-  refl,
-  sym,
-  ap,
-  subst,
-  ◌∙◌,
-  arith,
-  append_assoc,
-}
-use Rattle.std.proofs.lemmas.List.{
-  length-append,
-  length-replicate,
-  length-reverse,
-  reverse-reverse,
-  length-drop,
-  take_at,
-  drop_at,
-  take-append-drop,
-  length-take-le,
-  take-append-le,
-  drop-append-le,
-  append-nil,
-  nil_from_length,
-}
+use Rattle.std.proofs.Common.{◌≡◌, ◌↔◌, ℕ, ◌+◌, ◌^◌, ◌<◌, ◌≤◌, Bool, true, false, List, [], ◌∷◌, ◌++◌, length, take, drop, replicate, reverse, Ok, cond, ltb}
+use Rattle.std.proofs.Common.{refl, sym, ap, subst, ◌∙◌, arith, append_assoc}
+use Rattle.std.proofs.lemmas.List.{length-append, length-replicate, length-reverse, reverse-reverse, length-drop, take_at, drop_at, take-append-drop}
+use Rattle.std.proofs.lemmas.List.{length-take-le, take-append-le, drop-append-le, append-nil, nil_from_length}
 use Rattle.std.proofs.lemmas.Bool.{ltb-false, le-ltb}
 use Rattle.nla_frames.specs.Fault.{read_as}
 use Rattle.nla_frames.specs.declared.error.DecodeError.TheVariants.{BufferTooSmall}
 use Rattle.nla_frames.specs.Value.{IsBytes, le_bytes, le_value}
 use Rattle.nla_frames.specs.Codec.{Laws}
-use Rattle.nla_frames.proofs.Bytes.{
-  IsBytes-nil,
-  IsBytes-append,
-  IsBytes-take,
-  IsBytes-drop,
-  IsBytes-replicate,
-  IsBytes-le_bytes,
-  length-le_bytes,
-  le_value-le_bytes,
-  le_value_below,
-  le_bytes-le_value,
-}
+use Rattle.nla_frames.proofs.Bytes.{IsBytes-nil, IsBytes-append, IsBytes-take, IsBytes-drop, IsBytes-replicate, IsBytes-le_bytes, length-le_bytes}
+use Rattle.nla_frames.proofs.Bytes.{le_value-le_bytes, le_value_below, le_bytes-le_value}
 use Rattle.tc_canon.specs.Descriptor.{Field, little, big, named, octets, pad, fields}
 use Rattle.tc_canon.specs.Canonical.{PadsZero, CanonFields, CanonClass}
 use Rattle.tc_canon.specs.Layouts.{width, size_of}

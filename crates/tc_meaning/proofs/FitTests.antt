@@ -6,56 +6,13 @@ use Rattle.nla_frames.specs.Frame.{Frame}
 use Rattle.nla_frames.specs.Emission.{ListFits, list_bytes}
 use Rattle.nla_frames.specs.Codec.{Codec, list_codec}
 use Rattle.nla_frames.specs.Reading.{keep}
-use Rattle.tc_canon.specs.Descriptor.{
-  Class,
-  le,
-  be,
-  masked,
-  array,
-  raw,
-  text,
-  warning,
-  presence,
-  truth,
-  fields,
-  selector,
-  pair,
-  xstats,
-  list_of,
-  own_list,
-  Table,
-  table,
-  every,
-  by_kind,
-  Rows,
-  others,
-  types,
-  unread,
-  options,
-  Kinds,
-  unknown,
-  kind,
-  is_within,
-  Field,
-}
+use Rattle.tc_canon.specs.Descriptor.{Class, le, be, masked, array, raw, text, warning, presence, truth, fields, selector, pair, xstats, list_of, own_list}
+use Rattle.tc_canon.specs.Descriptor.{Table, table, every, by_kind, Rows, others, types, unread, options, Kinds, unknown, kind, is_within, Field}
 use Rattle.tc_canon.specs.Layouts.{size_of}
 use Rattle.tc_meaning.specs.Tree.{Content, Attribute, known, kept, other, of_kind, number_of}
 use Rattle.tc_meaning.specs.Content.{via, a_selector, key_count}
-use Rattle.tc_meaning.specs.Meaning.{
-  a_list,
-  as_it_stands,
-  IsShort,
-  raw_frames,
-  row_frames,
-  every_frame,
-  choose,
-  by_type,
-  kind_frames,
-  class_codec,
-  table_codec,
-  rows_codec,
-  kinds_codec,
-}
+use Rattle.tc_meaning.specs.Meaning.{a_list, as_it_stands, IsShort, raw_frames, row_frames, every_frame, choose, by_type, kind_frames, class_codec, table_codec}
+use Rattle.tc_meaning.specs.Meaning.{rows_codec, kinds_codec}
 use Rattle.tc_meaning.specs.Message.{Message, FitsMessage}
 use Rattle.tc_meaning.proofs.Telling.{Told, told_always, told_never, told_le, told_lt, told_eq, told_both, told_as, told_each, told_match}
 

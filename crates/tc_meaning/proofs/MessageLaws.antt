@@ -1,31 +1,6 @@
 -- The laws of whole messages.
-use Rattle.std.proofs.Common.{
-  ◌≡◌,
-  ◌⊎◌,
-  ◌↔◌,
-  ℕ,
-  ◌+◌,
-  ◌<◌,
-  ◌≤◌,
-  List,
-  [],
-  ◌++◌,
-  length,
-  take,
-  drop,
-  Ok,
-  Err,
-  ltb,
-  refl,
-  sym,
-  ap,
-  ap₂,
-  subst,
-  ◌∙◌,
-  arith,
-  inl,
-  inr,
-}
+use Rattle.std.proofs.Common.{◌≡◌, ◌⊎◌, ◌↔◌, ℕ, ◌+◌, ◌<◌, ◌≤◌, List, [], ◌++◌, length, take, drop, Ok, Err, ltb, refl, sym, ap, ap₂, subst, ◌∙◌, arith, inl}
+use Rattle.std.proofs.Common.{inr}
 use Rattle.std.proofs.lemmas.List.{length-append, length-drop, length-take-le, take_at, drop_at, take-append-drop, append-nil, length-take}
 use Rattle.std.proofs.lemmas.Bool.{ltb-false, lt-ltb, le-ltb, cases_lt}
 use Rattle.nla_frames.specs.declared.error.DecodeError.{DecodeError}
@@ -48,21 +23,8 @@ use Rattle.tc_canon.specs.Canonical.{CanonFields, CanonTable}
 use Rattle.tc_meaning.specs.Tree.{Scalar, Attribute}
 use Rattle.tc_meaning.specs.Layout.{read_fields, fields_bytes, TypedFields, SettledFields}
 use Rattle.tc_meaning.specs.Meaning.{table_codec}
-use Rattle.tc_meaning.specs.Message.{
-  Message,
-  ReadsBy,
-  FaultBy,
-  read_by,
-  read_with,
-  message_bytes,
-  FitsMessage,
-  TypedMessage,
-  SettledWith,
-  OneReading,
-  OneMessage,
-  CanonWith,
-  message_codec,
-}
+use Rattle.tc_meaning.specs.Message.{Message, ReadsBy, FaultBy, read_by, read_with, message_bytes, FitsMessage, TypedMessage, SettledWith, OneReading}
+use Rattle.tc_meaning.specs.Message.{OneMessage, CanonWith, message_codec}
 use Rattle.tc_meaning.proofs.Outcomes.{kept-ok, then-ok, then-err, ok-same, err-same}
 use Rattle.tc_meaning.proofs.Fields.{length-fields_bytes, IsBytes-fields_bytes, typed-fields, back-fields, same-fields}
 

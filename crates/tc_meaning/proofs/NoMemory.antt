@@ -1,31 +1,6 @@
 -- No reading is refused for want of memory: that is the answer of a call, never of the grammar.
-use Rattle.std.proofs.Common.{
-  ◌≡◌,
-  ℕ,
-  zero,
-  suc,
-  ◌+◌,
-  ◌*◌,
-  Bool,
-  true,
-  false,
-  List,
-  [],
-  ◌∷◌,
-  length,
-  take,
-  drop,
-  Some,
-  None,
-  Ok,
-  Err,
-  cond,
-  eqb,
-  ltb,
-  sym,
-  ap,
-  ◌∙◌,
-}
+use Rattle.std.proofs.Common.{◌≡◌, ℕ, zero, suc, ◌+◌, ◌*◌, Bool, true, false, List, [], ◌∷◌, length, take, drop, Some, None, Ok, Err, cond, eqb, ltb, sym, ap}
+use Rattle.std.proofs.Common.{◌∙◌}
 use Rattle.std.specs.Prelude.{◌==◌, not}
 use Rattle.std.specs.Str.{is_utf8, bytes_eq}
 use Rattle.nla_frames.specs.declared.error.DecodeError.{DecodeError}
@@ -40,53 +15,12 @@ use Rattle.nla_frames.specs.Codec.{Codec}
 use Rattle.nla_frames.proofs.ListGrammarLaws.{read_list_not_memory}
 use Rattle.tc_canon.specs.Kind.{tells_kind}
 use Rattle.tc_canon.specs.Layouts.{size_of, fq_codel_qd_stats, fq_codel_cl_stats, selector_head}
-use Rattle.tc_canon.specs.Descriptor.{
-  Field,
-  Class,
-  le,
-  be,
-  masked,
-  array,
-  raw,
-  text,
-  warning,
-  presence,
-  truth,
-  fields,
-  selector,
-  pair,
-  xstats,
-  list_of,
-  own_list,
-  Table,
-  table,
-  every,
-  by_kind,
-  Rows,
-  others,
-  types,
-  unread,
-  options,
-  Kinds,
-  unknown,
-  kind,
-  is_within,
-  is_known,
-}
+use Rattle.tc_canon.specs.Descriptor.{Field, Class, le, be, masked, array, raw, text, warning, presence, truth, fields, selector, pair, xstats, list_of}
+use Rattle.tc_canon.specs.Descriptor.{own_list, Table, table, every, by_kind, Rows, others, types, unread, options, Kinds, unknown, kind, is_within, is_known}
 use Rattle.tc_meaning.specs.Tree.{number, is_bytes, flag, record_of, statistics, unknown_statistics, Attribute, known, of_kind}
 use Rattle.tc_meaning.specs.Layout.{read_fields}
-use Rattle.tc_meaning.specs.Content.{
-  a_selector,
-  read_record,
-  flags_pair,
-  Selector,
-  key_count,
-  read_keys,
-  read_selector,
-  is_fq_codel,
-  read_statistics,
-  read_xstats,
-}
+use Rattle.tc_meaning.specs.Content.{a_selector, read_record, flags_pair, Selector, key_count, read_keys, read_selector, is_fq_codel, read_statistics}
+use Rattle.tc_meaning.specs.Content.{read_xstats}
 use Rattle.tc_meaning.specs.Own.{only_kind, read_own}
 use Rattle.tc_meaning.specs.OwnGrammar.{first_look, kinds_found}
 use Rattle.tc_meaning.specs.Meaning.{a_list, choose, by_type, class_codec, table_codec, rows_codec, kinds_codec}

@@ -1,36 +1,6 @@
 -- The laws of every class and every table, by induction over the tables.
-use Rattle.std.proofs.Common.{
-  ◌≡◌,
-  ◌⊎◌,
-  ℕ,
-  zero,
-  suc,
-  ◌+◌,
-  ◌%◌,
-  ◌^◌,
-  ◌<◌,
-  Bool,
-  true,
-  not,
-  ◌&&◌,
-  List,
-  [],
-  ◌∷◌,
-  Some,
-  None,
-  Ok,
-  cond,
-  eqb,
-  leb,
-  refl,
-  sym,
-  ap,
-  subst,
-  ◌∙◌,
-  arith,
-  inl,
-  inr,
-}
+use Rattle.std.proofs.Common.{◌≡◌, ◌⊎◌, ℕ, zero, suc, ◌+◌, ◌%◌, ◌^◌, ◌<◌, Bool, true, not, ◌&&◌, List, [], ◌∷◌, Some, None, Ok, cond, eqb, leb, refl, sym, ap}
+use Rattle.std.proofs.Common.{subst, ◌∙◌, arith, inl, inr}
 use Rattle.std.specs.Prelude.{MatchBool}
 use Rattle.std.specs.Str.{is_utf8}
 use Rattle.std.proofs.lemmas.Bool.{and_parts, ltb-true, leb-true, eqb-true, eq-eqb, ne_eqb, not-true, cases_eq}
@@ -43,76 +13,15 @@ use Rattle.nla_frames.specs.CanonList.{IsCanonAt, IsCanonList}
 use Rattle.nla_frames.specs.Codec.{Codec, Laws, IsWireValue, IsWireBytes, list_codec}
 use Rattle.nla_frames.proofs.ListLaws.{list_laws}
 use Rattle.tc_canon.specs.Kind.{tells_kind}
-use Rattle.tc_canon.specs.Descriptor.{
-  Class,
-  le,
-  be,
-  masked,
-  array,
-  raw,
-  text,
-  warning,
-  presence,
-  truth,
-  fields,
-  selector,
-  pair,
-  xstats,
-  list_of,
-  own_list,
-  Table,
-  table,
-  every,
-  by_kind,
-  Rows,
-  others,
-  types,
-  unread,
-  options,
-  Kinds,
-  unknown,
-  kind,
-  is_within,
-  is_known,
-}
+use Rattle.tc_canon.specs.Descriptor.{Class, le, be, masked, array, raw, text, warning, presence, truth, fields, selector, pair, xstats, list_of, own_list}
+use Rattle.tc_canon.specs.Descriptor.{Table, table, every, by_kind, Rows, others, types, unread, options, Kinds, unknown, kind, is_within, is_known}
 use Rattle.tc_canon.specs.Canonical.{CanonClass, CanonTable, CanonRows, CanonKinds, IsCanonOwn}
 use Rattle.tc_meaning.specs.Tree.{is_bytes, Attribute, known, kept, other, of_kind, attributes_of, list_of_attributes, number_of}
-use Rattle.tc_meaning.specs.Content.{
-  Shape,
-  via,
-  a_number,
-  some_bytes,
-  a_flag,
-  a_record,
-  a_selector,
-  le_codec,
-  be_codec,
-  masked_codec,
-  array_codec,
-  raw_codec,
-  text_codec,
-  warning_codec,
-  presence_codec,
-  truth_codec,
-  record_codec,
-  pair_codec,
-  selector_codec,
-  xstats_codec,
-}
+use Rattle.tc_meaning.specs.Content.{Shape, via, a_number, some_bytes, a_flag, a_record, a_selector, le_codec, be_codec, masked_codec, array_codec, raw_codec}
+use Rattle.tc_meaning.specs.Content.{text_codec, warning_codec, presence_codec, truth_codec, record_codec, pair_codec, selector_codec, xstats_codec}
 use Rattle.tc_meaning.specs.Own.{kind_of_frame, kind_of_attribute, own_codec}
-use Rattle.tc_meaning.specs.Meaning.{
-  short,
-  a_list,
-  choose,
-  row_frames,
-  unread_frames,
-  options_frames,
-  by_type,
-  class_codec,
-  table_codec,
-  rows_codec,
-  kinds_codec,
-}
+use Rattle.tc_meaning.specs.Meaning.{short, a_list, choose, row_frames, unread_frames, options_frames, by_type, class_codec, table_codec, rows_codec}
+use Rattle.tc_meaning.specs.Meaning.{kinds_codec}
 use Rattle.tc_meaning.specs.Sound.{is_type, are_flags, is_free, starts_with_kind, is_sound_class, is_sound_table, is_sound_rows, is_sound_kinds}
 use Rattle.tc_meaning.proofs.Outcomes.{seen-ok}
 use Rattle.tc_meaning.proofs.Shapes.{short_laws, via_laws}

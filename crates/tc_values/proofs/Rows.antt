@@ -13,27 +13,8 @@ use Rattle.tc_values.specs.Inner.{Inner, IsInner}
 use Rattle.tc_values.specs.Value.{value_class, value_content, SettledValue, SettledAs}
 use Rattle.tc_values.specs.Row.{reads_at, written_at, attribute_of, IsRow, ShownAs}
 use Rattle.tc_values.specs.declared.value.Value.{Value}
-use Rattle.tc_values.specs.declared.value.Value.TheVariants.{
-  Presence,
-  Truth,
-  U8,
-  U16,
-  U32,
-  U16Be,
-  U32Be,
-  Bits1,
-  Bits3,
-  Bits20,
-  Octets4,
-  Octets6,
-  Octets8,
-  Octets16,
-  Bytes,
-  Text,
-  Warning,
-  Kept,
-  Nested,
-}
+use Rattle.tc_values.specs.declared.value.Value.TheVariants.{Presence, Truth, U8, U16, U32, U16Be, U32Be, Bits1, Bits3, Bits20, Octets4, Octets6, Octets8}
+use Rattle.tc_values.specs.declared.value.Value.TheVariants.{Octets16, Bytes, Text, Warning, Kept, Nested}
 use Rattle.tc_values.proofs.Values.{value_written, value_fits, value_typed, value_settled}
 
 -- a typed value at its type, in a codec that writes it by this word and this class

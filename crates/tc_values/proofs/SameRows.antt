@@ -19,27 +19,8 @@ use Rattle.tc_values.specs.declared.body.Items.{Items}
 use Rattle.tc_values.specs.declared.body.Either.{Either}
 use Rattle.tc_values.specs.declared.body.Either.TheVariants.{Left, Right}
 use Rattle.tc_values.specs.declared.value.Value.{Value}
-use Rattle.tc_values.specs.declared.value.Value.TheVariants.{
-  Presence,
-  Truth,
-  U8,
-  U16,
-  U32,
-  U16Be,
-  U32Be,
-  Bits1,
-  Bits3,
-  Bits20,
-  Octets4,
-  Octets6,
-  Octets8,
-  Octets16,
-  Bytes,
-  Text,
-  Warning,
-  Kept,
-  Nested,
-}
+use Rattle.tc_values.specs.declared.value.Value.TheVariants.{Presence, Truth, U8, U16, U32, U16Be, U32Be, Bits1, Bits3, Bits20, Octets4, Octets6, Octets8}
+use Rattle.tc_values.specs.declared.value.Value.TheVariants.{Octets16, Bytes, Text, Warning, Kept, Nested}
 use Rattle.tc_values.proofs.Rows.{some_pair}
 
 -- ---- the things that attributes nest

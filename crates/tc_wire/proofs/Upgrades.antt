@@ -1,38 +1,6 @@
 -- The upgrade of a list, attribute by attribute.
-use Rattle.std.proofs.Common.{
-  ◌≡◌,
-  ◌==◌,
-  ◌&&◌,
-  ℕ,
-  zero,
-  suc,
-  ◌+◌,
-  ◌<◌,
-  Bool,
-  true,
-  false,
-  not,
-  cond,
-  refl,
-  inl,
-  inr,
-  List,
-  [],
-  ◌∷◌,
-  ◌++◌,
-  length,
-  map,
-  take,
-  drop,
-  get_or,
-  slice_set,
-  sym,
-  ap,
-  subst,
-  ◌∙◌,
-  add-one,
-  arith,
-}
+use Rattle.std.proofs.Common.{◌≡◌, ◌==◌, ◌&&◌, ℕ, zero, suc, ◌+◌, ◌<◌, Bool, true, false, not, cond, refl, inl, inr, List, [], ◌∷◌, ◌++◌, length, map, take}
+use Rattle.std.proofs.Common.{drop, get_or, slice_set, sym, ap, subst, ◌∙◌, add-one, arith}
 use Rattle.nla_frames.specs.Place.{kind_then}
 use Rattle.tc_canon.specs.Descriptor.{is_known}
 use Rattle.tc_canon.specs.Tables.Options.{option_kinds}

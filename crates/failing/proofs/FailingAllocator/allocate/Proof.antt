@@ -1,23 +1,8 @@
 -- It refuses where the countdown ends, and otherwise answers what the inner allocator answers. Assumes `Logic`.
 use Rattle.std.proofs.Common.{◌≡◌, ℕ, Bool, true, false, ◌^◌, ◌<◌, List, [], ◌∷◌, Ok, Err, refl, w64, Bor}
 use Rattle.std.proofs.raw_atomic.Walks.{proved}
-use Rattle.std.proofs.alloc.Calls.{
-  Al,
-  token,
-  seen,
-  Answer,
-  answer_val,
-  Answer-typed,
-  Answer-Ok,
-  Answer-err,
-  takes_key,
-  Takes,
-  at_takes,
-  Answered,
-  Takes-goes,
-  Takes-gives,
-  answers,
-}
+use Rattle.std.proofs.alloc.Calls.{Al, token, seen, Answer, answer_val, Answer-typed, Answer-Ok, Answer-err, takes_key, Takes, at_takes, Answered, Takes-goes}
+use Rattle.std.proofs.alloc.Calls.{Takes-gives, answers}
 use Rattle.std.proofs.VecSteps.Shapes.{after}
 use seplogic.Ra.Ura.{Ura}
 use mir.Syntax.{Ty, Fn}
@@ -32,37 +17,8 @@ use contract.BorrowLft.{◌⊑◌, ⊑_trans}
 use contract.Monad.{fact}
 use contract.Running.{Running, MachineTables, tables}
 use types.Logic.{Logic}
-use types.Kit.{
-  Item,
-  ‵,
-  raw,
-  prop,
-  at_ret,
-  Sq,
-  ◌⊛◌,
-  some,
-  later,
-  given,
-  ◌$◌,
-  ◌∵◌,
-  !,
-  qed,
-  done,
-  move,
-  keep,
-  drop,
-  use0,
-  use1,
-  use2,
-  split,
-  join,
-  fsplit,
-  fjoin,
-  learn,
-  pick,
-  await,
-  suffices,
-}
+use types.Kit.{Item, ‵, raw, prop, at_ret, Sq, ◌⊛◌, some, later, given, ◌$◌, ◌∵◌, !, qed, done, move, keep, drop, use0, use1, use2, split, join, fsplit, fjoin}
+use types.Kit.{learn, pick, await, suffices}
 use types.Part.{agg}
 use types.Run.{lit, addr, stop, fld, no_more, and_then, first, branches, skips, exec, returns, returns_within, enter}
 use types.ByLocal.{alloc_all, pass_all, free_all, look_at, get, through, sets, lands_as, env}

@@ -15,33 +15,8 @@ use contract.BorrowLft.{◌⊑◌, ⊑_trans}
 use contract.Monad.{fact}
 use contract.Running.{Running, MachineTables, tables}
 use types.Logic.{Logic, sem}
-use types.Kit.{
-  ‵,
-  raw,
-  prop,
-  ◌⊛◌,
-  later,
-  given,
-  ◌$◌,
-  ◌∵◌,
-  !,
-  qed,
-  done,
-  move,
-  keep,
-  use1,
-  split,
-  split3,
-  join,
-  fsplit,
-  fjoin,
-  feq_i,
-  learn,
-  await,
-  regoal,
-  suffices,
-  group,
-}
+use types.Kit.{‵, raw, prop, ◌⊛◌, later, given, ◌$◌, ◌∵◌, !, qed, done, move, keep, use1, split, split3, join, fsplit, fjoin, feq_i, learn, await, regoal}
+use types.Kit.{suffices, group}
 use types.Run.{of_opd, unit_lit, addr, stop, fld, no_more, and_then, returns, enter}
 use types.ByLocal.{alloc_all, pass_all, free_all, look_at, get, through, sets, lands_as}
 use denote.Builtin.{usize, RawPtr}

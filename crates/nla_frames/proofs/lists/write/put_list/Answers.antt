@@ -1,19 +1,8 @@
 use Rattle.std.proofs.Common.{◌≡◌, length, arith, ap, subst, ◌∙◌}
 use Rattle.std.proofs.lemmas.Grind.{common_steps}
 use Rattle.nla_frames.specs.Emission.{Writes}
-use Rattle.nla_frames.proofs.ListWriting.{
-  IsAt,
-  bytes_before,
-  nothing_before,
-  all_before,
-  length_next,
-  next_within,
-  next_room,
-  next_written,
-  one_of,
-  one_more,
-  all_hold,
-}
+use Rattle.nla_frames.proofs.ListWriting.{IsAt, bytes_before, nothing_before, all_before, length_next, next_within, next_room, next_written, one_of, one_more}
+use Rattle.nla_frames.proofs.ListWriting.{all_hold}
 use Rattle.nla_frames.proofs.lists.write.put_list.Goals as goal
 
 pub loop-item-init : goal.loop-item-init

@@ -11,17 +11,20 @@ returns-in-Mac g c = record {
 
 pub returns-in-Ipv4 : goal.returns-in-Ipv4
 returns-in-Ipv4 g c = record {
-  cases = plain_copied _ _ (known c.parts-kind.result.0 (is_bytes (ipv4_octets c.in-Ipv4.ip))) refl _ _ (rw c.in-Ipv4.is at c.parts-kind.ensures.seen) c.of_ipv4.ensures;
+  cases = plain_copied _ _ (known c.parts-kind.result.0 (is_bytes (ipv4_octets c.in-Ipv4.ip))) refl _ _
+      (rw c.in-Ipv4.is at c.parts-kind.ensures.seen) c.of_ipv4.ensures;
 }
 
 pub returns-in-Ipv6 : goal.returns-in-Ipv6
 returns-in-Ipv6 g c = record {
-  cases = plain_copied _ _ (known c.parts-kind.result.0 (is_bytes (ipv6_octets c.in-Ipv6.ip))) refl _ _ (rw c.in-Ipv6.is at c.parts-kind.ensures.seen) c.of_ipv6.ensures;
+  cases = plain_copied _ _ (known c.parts-kind.result.0 (is_bytes (ipv6_octets c.in-Ipv6.ip))) refl _ _
+      (rw c.in-Ipv6.is at c.parts-kind.ensures.seen) c.of_ipv6.ensures;
 }
 
 pub returns-in-Labels : goal.returns-in-Labels
 returns-in-Labels g c = record {
-  cases = plain_copied _ _ (known c.parts-kind.result.0 (is_bytes c.in-Labels.labels)) refl _ _ (rw c.in-Labels.is at c.parts-kind.ensures.seen) c.of_labels.ensures;
+  cases = plain_copied _ _ (known c.parts-kind.result.0 (is_bytes c.in-Labels.labels)) refl _ _
+      (rw c.in-Labels.is at c.parts-kind.ensures.seen) c.of_labels.ensures;
 }
 
 pub returns-in-U8 : goal.returns-in-U8
