@@ -7,8 +7,12 @@ use base.Fml.{Lft, Share, Fml, ftrue, fsep, flft}
 use prog.Memory.{Memory}
 use prog.Routine.{Routine}
 use types.Logic.{Logic, sem}
-use types.Kit.{‵, ◌⊛◌, raw, some, later, ◌$◌, ◌∵◌, !, qed, move, keep, use1, split, join, pick, show, check, fjoin, feq_i, feq_l, await, updating, now as
-    at_once, done}
+use types.Kit.{‵, ◌⊛◌, raw, some, later, ◌$◌, ◌∵◌, !, qed, move, keep, use1, split, join, pick, show, check, fjoin, feq_i, feq_l, await, updating}
+use types.Kit.{
+  now as
+      at_once,
+  done,
+}
 use contract.Monad.{Fun}
 use denote.Builtin.{bool}
 use denote.Memory.{hidden_shr}

@@ -54,7 +54,7 @@ pub cut-flat_map-append : (fs : List Frame) (rest : List ℕ) → AllByRecursion
 cut-flat_map-append [] rest is = refl
 cut-flat_map-append (f ∷ fs) rest is =
     ap cut (append_assoc (frame_bytes f) (flat_map frame_bytes fs) rest) ∙ cut-frame_bytes f (flat_map frame_bytes fs ++ rest) is.0
-        ∙ ap (before_cut f) (cut-flat_map-append fs rest is.1)
+    ∙ ap (before_cut f) (cut-flat_map-append fs rest is.1)
 
 -- frames as they are written
 pub cut-flat_map : (fs : List Frame) → AllByRecursion IsFrame fs → cut (flat_map frame_bytes fs) ≡ record { frames = fs; fault = None }

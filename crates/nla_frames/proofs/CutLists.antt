@@ -4,7 +4,7 @@ use Rattle.nla_frames.specs.declared.error.DecodeError.{DecodeError}
 use Rattle.nla_frames.specs.Fault.{Outcome}
 use Rattle.nla_frames.specs.Frame.{Frame}
 use Rattle.nla_frames.specs.Reading.{Reads, read_each, whole, keep}
-use Rattle.nla_frames.specs.ListGrammar.{ReadEach, FirstRefused}
+use Rattle.nla_frames.specs.ListGrammar.{ReadEach, IsFirstRefusal}
 use Rattle.nla_frames.proofs.Places.{kind_after}
 use Rattle.nla_frames.proofs.ReadEach.{ReadEach-ReadInTurn, ReadInTurn-read_each, Refused, at_end, at_frame, Refused-read_each}
 
@@ -23,10 +23,10 @@ module _ {X : Type 0} (reads : Reads X) (kind : List ℕ) (fs : List Frame) wher
   each_read xs is = ReadEach-ReadInTurn reads keep kind fs xs (ReadInTurn-read_each reads keep kind fs None xs (ended (Ok xs) is)).1
 
   -- what is refused, a first frame is
-  pub first_of_frames : (e : DecodeError) → read_each reads keep kind (whole fs) ≡ Err e → FirstRefused reads kind fs e
+  pub first_of_frames : (e : DecodeError) → read_each reads keep kind (whole fs) ≡ Err e → IsFirstRefusal reads kind fs e
   first_of_frames e is = go fs None e refl (Refused-read_each reads keep kind fs None e (ended (Err e) is))
     where
-      go : (gs : List Frame) (fault : Option DecodeError) (d : DecodeError) → fault ≡ None → Refused reads keep kind gs fault d → FirstRefused reads kind gs d
+      go : (gs : List Frame) (fault : Option DecodeError) (d : DecodeError) → fault ≡ None → Refused reads keep kind gs fault d → IsFirstRefusal reads kind gs d
       go gs fault d none (at_end hs xs c turn) = absurd (cc none)
       go gs fault d none (at_frame done f more xs c b turn refused) = record {
         before = done;

@@ -4,10 +4,10 @@ use Rattle.std.proofs.lemmas.List.{append-nil, length-append}
 use Rattle.nla_frames.specs.declared.error.DecodeError.{DecodeError}
 use Rattle.nla_frames.specs.Value.{IsBytes}
 use Rattle.nla_frames.specs.Frame.{Frame, padding}
-use Rattle.nla_frames.specs.Grammar.{Begins, Ends, Frames, Cut, Broken, CutsUp}
+use Rattle.nla_frames.specs.Grammar.{Begins, Ends, AreFrames, AreFramesAndRest, IsBroken, CutsUp}
 use Rattle.nla_frames.specs.Cutting.{Cutting, nothing_cut, cut_ended, before_cut, cut, next_frame}
 use Rattle.nla_frames.proofs.Front.{Front, Front-Begins, Front-Ends, Ends-Front, next_frame-Front, length-header}
-use Rattle.nla_frames.proofs.NextFrame.{Front-next_frame, IsBytes-next_frame, next_frame-Broken, Broken-next_frame, length-Broken}
+use Rattle.nla_frames.proofs.NextFrame.{Front-next_frame, IsBytes-next_frame, next_frame-IsBroken, IsBroken-next_frame, length-IsBroken}
 use Rattle.nla_frames.proofs.CutSteps.{cut-nil, cut-next_frame, cut_refused, by_frames}
 
 -- ---- the grammar holds
@@ -23,7 +23,7 @@ length-Ends bytes f e = omega (arith, ap length e.parts, length-header (length f
 -- no bytes are no frames
 CutsUp-nil : (fs : List Frame) (fault : Option DecodeError) → CutsUp [] fs fault → (fs ≡ []) × (fault ≡ None)
 CutsUp-nil [] None c = (refl, refl)
-CutsUp-nil [] (Some e) c = absurd (omega (arith, length-Broken c.0 e c.2, ap length c.1))
+CutsUp-nil [] (Some e) c = absurd (omega (arith, length-IsBroken c.0 e c.2, ap length c.1))
 CutsUp-nil (f ∷ []) None c = absurd (omega (arith, length-Ends [] f c))
 CutsUp-nil (f ∷ g ∷ fs) None c = absurd (omega (arith, length-Begins [] f c.0 c.1))
 CutsUp-nil (f ∷ fs) (Some e) c = absurd (omega (arith, length-Begins [] f c.1.0 c.1.1))
@@ -61,7 +61,7 @@ cuts = by_frames (λ (bytes : List ℕ). IsBytes bytes → CutsUp bytes (cut byt
     broken : (bytes : List ℕ) (e : DecodeError) → 0 < length bytes → next_frame bytes ≡ Err e → IsBytes bytes
         → CutsUp bytes (cut bytes).frames (cut bytes).fault
     broken bytes e some refused is =
-        subst (λ (c : Cutting). CutsUp bytes c.frames c.fault) (sym (cut_refused bytes e some refused)) (bytes, refl, Broken-next_frame bytes e some refused)
+        subst (λ (c : Cutting). CutsUp bytes c.frames c.fault) (sym (cut_refused bytes e some refused)) (bytes, refl, IsBroken-next_frame bytes e some refused)
 
     more : (bytes : List ℕ) (f : Frame) (after : List ℕ) → next_frame bytes ≡ Ok (f, after)
         → (IsBytes after → CutsUp after (cut after).frames (cut after).fault) → IsBytes bytes → CutsUp bytes (cut bytes).frames (cut bytes).fault
@@ -81,26 +81,26 @@ pub cut-Ends : (bytes : List ℕ) (f : Frame) → Ends bytes f → cut bytes ≡
 cut-Ends bytes f e = cut-next_frame bytes f [] (next_frame-Front bytes f [] (Front-Ends bytes f e)) ∙ ap (before_cut f) cut-nil
 
 -- of a broken frame nothing is cut
-pub cut-Broken : (rest : List ℕ) (e : DecodeError) → Broken rest e → cut rest ≡ cut_ended e
-cut-Broken rest e b = cut_refused rest e (length-Broken rest e b) (next_frame-Broken rest e b)
+pub cut-IsBroken : (rest : List ℕ) (e : DecodeError) → IsBroken rest e → cut rest ≡ cut_ended e
+cut-IsBroken rest e b = cut_refused rest e (length-IsBroken rest e b) (next_frame-IsBroken rest e b)
 
 -- frames before a cutting
 abbrev pub all_before : List Frame → Cutting → Cutting
 all_before fs c = record { frames = fs ++ c.frames; fault = c.fault }
 
 -- what is cut after frames that are padded in full
-pub cut-Cut : (bytes : List ℕ) (fs : List Frame) (rest : List ℕ) → Cut bytes fs rest → cut bytes ≡ all_before fs (cut rest)
-cut-Cut bytes [] rest c = ap cut c
-cut-Cut bytes (f ∷ fs) rest c = cut-Begins bytes f c.0 c.1 ∙ ap (before_cut f) (cut-Cut c.0 fs rest c.2)
+pub cut-AreFramesAndRest : (bytes : List ℕ) (fs : List Frame) (rest : List ℕ) → AreFramesAndRest bytes fs rest → cut bytes ≡ all_before fs (cut rest)
+cut-AreFramesAndRest bytes [] rest c = ap cut c
+cut-AreFramesAndRest bytes (f ∷ fs) rest c = cut-Begins bytes f c.0 c.1 ∙ ap (before_cut f) (cut-AreFramesAndRest c.0 fs rest c.2)
 
 -- of frames all are cut, with no fault
-cut-Frames : (bytes : List ℕ) (fs : List Frame) → Frames bytes fs → cut bytes ≡ record { frames = fs; fault = None }
-cut-Frames bytes [] h = ap cut h ∙ cut-nil
-cut-Frames bytes (f ∷ []) h = cut-Ends bytes f h
-cut-Frames bytes (f ∷ g ∷ fs) h = cut-Begins bytes f h.0 h.1 ∙ ap (before_cut f) (cut-Frames h.0 (g ∷ fs) h.2)
+cut-AreFrames : (bytes : List ℕ) (fs : List Frame) → AreFrames bytes fs → cut bytes ≡ record { frames = fs; fault = None }
+cut-AreFrames bytes [] h = ap cut h ∙ cut-nil
+cut-AreFrames bytes (f ∷ []) h = cut-Ends bytes f h
+cut-AreFrames bytes (f ∷ g ∷ fs) h = cut-Begins bytes f h.0 h.1 ∙ ap (before_cut f) (cut-AreFrames h.0 (g ∷ fs) h.2)
 
 -- what meets the grammar is what is cut
 pub cut-is : (bytes : List ℕ) (fs : List Frame) (fault : Option DecodeError) → CutsUp bytes fs fault → cut bytes ≡ record { frames = fs; fault = fault }
-cut-is bytes fs None c = cut-Frames bytes fs c
-cut-is bytes fs (Some e) c = cut-Cut bytes fs c.0 c.1 ∙ ap (all_before fs) (cut-Broken c.0 e c.2)
+cut-is bytes fs None c = cut-AreFrames bytes fs c
+cut-is bytes fs (Some e) c = cut-AreFramesAndRest bytes fs c.0 c.1 ∙ ap (all_before fs) (cut-IsBroken c.0 e c.2)
     ∙ ap (λ (gs : List Frame). record { frames = gs; fault = Some e }) (append-nil fs)

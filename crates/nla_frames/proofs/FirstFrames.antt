@@ -4,9 +4,9 @@ use Rattle.nla_frames.specs.declared.error.DecodeError.{DecodeError}
 use Rattle.nla_frames.specs.Value.{IsBytes}
 use Rattle.nla_frames.specs.Frame.{Frame, padding}
 use Rattle.nla_frames.specs.Cutting.{next_frame}
-use Rattle.nla_frames.specs.FirstFrame.{StartsWith, BrokenFront}
+use Rattle.nla_frames.specs.FirstFrame.{StartsWith, HasBrokenFront}
 use Rattle.nla_frames.proofs.Front.{Front, Ends-Front}
-use Rattle.nla_frames.proofs.NextFrame.{Front-next_frame, Broken-next_frame}
+use Rattle.nla_frames.proofs.NextFrame.{Front-next_frame, IsBroken-next_frame}
 
 -- a frame and what comes after it: it is the last one, or its padding is full
 StartsWith-Front : (bytes : List ℕ) (f : Frame) (after : List ℕ) → Front bytes f after → StartsWith bytes f
@@ -21,7 +21,7 @@ pub first_found : (bytes : List ℕ) (f : Frame) (after : List ℕ) → IsBytes 
 first_found bytes f after is found = StartsWith-Front bytes f after (Front-next_frame bytes f after is found)
 
 -- what is refused is how the front is broken
-pub first_refused : (bytes : List ℕ) (e : DecodeError) → next_frame bytes ≡ Err e → BrokenFront bytes e
+pub first_refused : (bytes : List ℕ) (e : DecodeError) → next_frame bytes ≡ Err e → HasBrokenFront bytes e
 unfolding next_frame
 first_refused [] e refused = cc
-first_refused (b ∷ bytes) e refused = Broken-next_frame (b ∷ bytes) e (omega arith) refused
+first_refused (b ∷ bytes) e refused = IsBroken-next_frame (b ∷ bytes) e (omega arith) refused

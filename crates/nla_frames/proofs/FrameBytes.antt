@@ -17,8 +17,12 @@ length-padded value = length-append value (replicate (padding (length value)) 0)
 -- the bytes of a frame are as many as it is said to take
 pub length_frame_bytes : (f : Frame) → length (frame_bytes f) ≡ frame_length f
 unfolding frame_bytes
-length_frame_bytes f = omega (arith, length-append (header (length f.value) f.word) (padded f.value), length-header (length f.value) f.word,
-    length-padded f.value)
+length_frame_bytes f = omega (
+  arith,
+  length-append (header (length f.value) f.word) (padded f.value),
+  length-header (length f.value) f.word,
+  length-padded f.value,
+)
 
 -- a frame that can be written takes 65536 bytes at most
 pub frame_length_bound : (f : Frame) → IsFrame f → frame_length f ≤ 65536

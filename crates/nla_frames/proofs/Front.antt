@@ -1,6 +1,6 @@
 -- A frame that stands at the front of bytes is the next one.
-use Rattle.std.proofs.Common.{◌≡◌, ◌⊎◌, ℕ, ◌+◌, ◌^◌, ◌<◌, ◌≤◌, false, ltb, List, [], ◌++◌, length, take, drop, Ok, refl, sym, subst, ◌∙◌, arith, inl, inr,
-    append_assoc}
+use Rattle.std.proofs.Common.{◌≡◌, ◌⊎◌, ℕ, ◌+◌, ◌^◌, ◌<◌, ◌≤◌, false, ltb, List, [], ◌++◌, length, take, drop, Ok, refl, sym, subst, ◌∙◌, arith, inl, inr}
+use Rattle.std.proofs.Common.{append_assoc}
 use Rattle.std.proofs.lemmas.Bool.{le-ltb}
 use Rattle.std.proofs.lemmas.List.{append-nil, length-append, take_at, drop_at, drop_all}
 use Rattle.nla_frames.specs.Value.{le_value}
@@ -78,7 +78,7 @@ next_frame_at f pad after is within ends =
     let value = value_after head v more (4 + n) four refl in
     let rest = rest_after head v more (4 + n) four refl in
     let skipped : drop (padding (4 + n)) (pad ++ after) ≡ after =
-            subst (λ k. drop k (pad ++ after) ≡ after) same_padding (skip_padding pad after (padding n) within ends) in
+    subst (λ k. drop k (pad ++ after) ≡ after) same_padding (skip_padding pad after (padding n) within ends) in
     found ∙ rw (word, value, rest, skipped) refl
   where
     same_padding : padding (length f.value) ≡ padding (4 + length f.value)

@@ -6,16 +6,16 @@ use Rattle.nla_frames.specs.declared.error.DecodeError.TheVariants.{OutOfMemory}
 use Rattle.nla_frames.specs.Fault.{Outcome}
 use Rattle.nla_frames.specs.Value.{IsBytes}
 use Rattle.nla_frames.specs.Frame.{Frame}
-use Rattle.nla_frames.specs.Grammar.{Begins, Cut, Broken, CutsUp}
+use Rattle.nla_frames.specs.Grammar.{Begins, AreFramesAndRest, IsBroken, CutsUp}
 use Rattle.nla_frames.specs.Cutting.{Cutting, before_cut, cut, items_of, fault_at_end}
 use Rattle.nla_frames.specs.Place.{Sets}
 use Rattle.nla_frames.specs.Reading.{Reads, before, read_each, read_list}
-use Rattle.nla_frames.specs.ListGrammar.{ReadEach, ListReads, StartsWith, FaultyFrame, ListFault, OneOutcome}
-use Rattle.nla_frames.proofs.CuttingLaws.{cuts, cut-is, cut-Begins, cut-Ends, cut-Broken, cut-Cut}
+use Rattle.nla_frames.specs.ListGrammar.{ReadEach, ListReads, StartsWith, HasFaultyFrame, IsListFault, HasOneOutcome}
+use Rattle.nla_frames.proofs.CuttingLaws.{cuts, cut-is, cut-Begins, cut-Ends, cut-IsBroken, cut-AreFramesAndRest}
 use Rattle.nla_frames.proofs.CutFrames.{cut_not_memory}
 use Rattle.nla_frames.proofs.Places.{kind_after, kind_after-InForce, InForce-kind_after}
-use Rattle.nla_frames.proofs.ReadEach.{ReadInTurn-ReadEach, ReadEach-ReadInTurn, read_each-ReadInTurn, ReadInTurn-read_each, Refused, at_end, at_frame,
-    Refused-read_each}
+use Rattle.nla_frames.proofs.ReadEach.{ReadInTurn-ReadEach, ReadEach-ReadInTurn, read_each-ReadInTurn, ReadInTurn-read_each, Refused, at_end, at_frame}
+use Rattle.nla_frames.proofs.ReadEach.{Refused-read_each}
 
 -- a frame that stands at the front is cut first
 cut-StartsWith : (rest : List ℕ) (f : Frame) → StartsWith rest f → (c : Cutting) × (cut rest ≡ before_cut f c)
@@ -35,35 +35,37 @@ StartsWith-CutsUp bytes f (g ∷ more) None c = inr (c.0, c.1)
 StartsWith-CutsUp bytes f more (Some e) c = inr (c.1.0, c.1.1)
 
 -- any frame stands at the front of what follows the frames before it
-Cut-CutsUp : (bytes : List ℕ) (done : List Frame) (f : Frame) (more : List Frame) (fault : Option DecodeError) → CutsUp bytes (done ++ f ∷ more) fault
-    → (rest : List ℕ) × Cut bytes done rest × StartsWith rest f
-Cut-CutsUp bytes [] f more fault c = (bytes, refl, StartsWith-CutsUp bytes f more fault c)
-Cut-CutsUp bytes (d ∷ []) f more fault c =
+AreFramesAndRest-CutsUp : (bytes : List ℕ) (done : List Frame) (f : Frame) (more : List Frame) (fault : Option DecodeError)
+    → CutsUp bytes (done ++ f ∷ more) fault
+    → (rest : List ℕ) × AreFramesAndRest bytes done rest × StartsWith rest f
+AreFramesAndRest-CutsUp bytes [] f more fault c = (bytes, refl, StartsWith-CutsUp bytes f more fault c)
+AreFramesAndRest-CutsUp bytes (d ∷ []) f more fault c =
     let front = Begins-CutsUp bytes d f more fault c in
     (front.0, (front.0, front.1, refl), StartsWith-CutsUp front.0 f more fault front.2)
-Cut-CutsUp bytes (d ∷ g ∷ done) f more fault c =
+AreFramesAndRest-CutsUp bytes (d ∷ g ∷ done) f more fault c =
     let front = Begins-CutsUp bytes d g (done ++ f ∷ more) fault c in
-    let later = Cut-CutsUp front.0 (g ∷ done) f more fault front.2 in
+    let later = AreFramesAndRest-CutsUp front.0 (g ∷ done) f more fault front.2 in
     (later.0, (front.0, front.1, later.1), later.2)
 
 module _ {X : Type 0} (reads : Reads X) (sets : Sets Frame) where
   -- ---- what meets the grammar is what is read
 
   -- what is read after frames that are padded in full and read
-  pub read_list-Cut : (first : List ℕ) (bytes : List ℕ) (fs : List Frame) (rest : List ℕ) (xs : List X) → Cut bytes fs rest → ReadEach reads sets first fs xs
+  pub read_list-AreFramesAndRest : (first : List ℕ) (bytes : List ℕ) (fs : List Frame) (rest : List ℕ) (xs : List X) → AreFramesAndRest bytes fs rest
+      → ReadEach reads sets first fs xs
       → read_list reads sets first bytes ≡ before xs (read_list reads sets (kind_after sets first fs) rest)
   unfolding read_list
-  read_list-Cut first bytes fs rest xs c each =
+  read_list-AreFramesAndRest first bytes fs rest xs c each =
       let others = cut rest in
       let items : items_of (cut bytes) ≡ map Ok fs ++ items_of others =
-      ap items_of (cut-Cut bytes fs rest c) ∙ ap (λ (is : List (Outcome Frame)). is ++ fault_at_end others.fault) (map-append Ok fs others.frames)
-          ∙ append_assoc (map Ok fs) (map Ok others.frames) (fault_at_end others.fault) in
+      ap items_of (cut-AreFramesAndRest bytes fs rest c) ∙ ap (λ (is : List (Outcome Frame)). is ++ fault_at_end others.fault) (map-append Ok fs others.frames)
+      ∙ append_assoc (map Ok fs) (map Ok others.frames) (fault_at_end others.fault) in
       ap (read_each reads sets first) items ∙ read_each-ReadInTurn reads sets first fs xs (items_of others) (ReadInTurn-ReadEach reads sets first fs xs each)
 
   -- what is read of a broken frame is its fault
-  pub read_list-Broken : (kind : List ℕ) (rest : List ℕ) (e : DecodeError) → Broken rest e → read_list reads sets kind rest ≡ Err e
+  pub read_list-IsBroken : (kind : List ℕ) (rest : List ℕ) (e : DecodeError) → IsBroken rest e → read_list reads sets kind rest ≡ Err e
   unfolding read_list read_each
-  read_list-Broken kind rest e b = ap (λ (c : Cutting). read_each reads sets kind (items_of c)) (cut-Broken rest e b)
+  read_list-IsBroken kind rest e b = ap (λ (c : Cutting). read_each reads sets kind (items_of c)) (cut-IsBroken rest e b)
 
   -- what is read of a frame that is refused, and of whatever follows it, is that fault
   pub read_list-StartsWith : (kind : List ℕ) (rest : List ℕ) (f : Frame) (e : DecodeError) → StartsWith rest f → reads kind f ≡ Err e
@@ -82,13 +84,14 @@ module _ {X : Type 0} (reads : Reads X) (sets : Sets Frame) where
       ∙ ap (λ (ys : List X). Ok ys) (append-nil xs)
 
   -- a fault of the grammar
-  pub read_list-ListFault : (first : List ℕ) (bytes : List ℕ) (e : DecodeError) → ListFault reads sets first bytes e → read_list reads sets first bytes ≡ Err e
-  read_list-ListFault first bytes e fault =
-      read_list-Cut first bytes fault.frames fault.rest fault.values fault.cut fault.are_read ∙ ap (before fault.values) (go fault.fault)
+  pub read_list-IsListFault : (first : List ℕ) (bytes : List ℕ) (e : DecodeError) → IsListFault reads sets first bytes e
+      → read_list reads sets first bytes ≡ Err e
+  read_list-IsListFault first bytes e fault =
+      read_list-AreFramesAndRest first bytes fault.frames fault.rest fault.values fault.cut fault.are_read ∙ ap (before fault.values) (go fault.fault)
     where
-      go : (Broken fault.rest e ⊎ FaultyFrame reads sets first fault.frames fault.rest e)
+      go : (IsBroken fault.rest e ⊎ HasFaultyFrame reads sets first fault.frames fault.rest e)
           → read_list reads sets (kind_after sets first fault.frames) fault.rest ≡ Err e
-      go (inl broken) = read_list-Broken (kind_after sets first fault.frames) fault.rest e broken
+      go (inl broken) = read_list-IsBroken (kind_after sets first fault.frames) fault.rest e broken
       go (inr faulty) = rw (kind_after-InForce sets first fault.frames faulty.kind faulty.in_force)
           (read_list-StartsWith faulty.kind fault.rest faulty.frame e faulty.starts faulty.is_refused)
 
@@ -100,14 +103,16 @@ module _ {X : Type 0} (reads : Reads X) (sets : Sets Frame) where
   unfolding read_list
   ListReads-read_list first bytes xs is e =
       let frames = (cut bytes).frames in
-      let turn = ReadInTurn-read_each reads sets first frames (cut bytes).fault xs e in
-      (frames, subst (λ (fault : Option DecodeError). CutsUp bytes (cut bytes).frames fault) turn.0 (cuts bytes is),
-          ReadEach-ReadInTurn reads sets first frames xs turn.1)
+      let turn = ReadInTurn-read_each reads sets first frames (cut bytes).fault xs e in (
+        frames,
+        subst (λ (fault : Option DecodeError). CutsUp bytes (cut bytes).frames fault) turn.0 (cuts bytes is),
+        ReadEach-ReadInTurn reads sets first frames xs turn.1,
+      )
 
   -- a first refusal among what is cut is a fault of the grammar
-  ListFault-Refused : (first : List ℕ) (bytes : List ℕ) (fs : List Frame) (fault : Option DecodeError) (e : DecodeError) → CutsUp bytes fs fault
-      → Refused reads sets first fs fault e → ListFault reads sets first bytes e
-  ListFault-Refused first bytes fs fault e c (at_end gs xs d turn) = record {
+  IsListFault-Refused : (first : List ℕ) (bytes : List ℕ) (fs : List Frame) (fault : Option DecodeError) (e : DecodeError) → CutsUp bytes fs fault
+      → Refused reads sets first fs fault e → IsListFault reads sets first bytes e
+  IsListFault-Refused first bytes fs fault e c (at_end gs xs d turn) = record {
     frames = fs;
     rest = c.0;
     values = xs;
@@ -115,41 +120,47 @@ module _ {X : Type 0} (reads : Reads X) (sets : Sets Frame) where
     are_read = ReadEach-ReadInTurn reads sets first fs xs turn;
     fault = inl c.2;
   }
-  ListFault-Refused first bytes fs fault e c (at_frame done f more xs d b turn refused) =
-      let place = Cut-CutsUp bytes done f more fault c in
+  IsListFault-Refused first bytes fs fault e c (at_frame done f more xs d b turn refused) =
+      let place = AreFramesAndRest-CutsUp bytes done f more fault c in
       record {
         frames = done;
         rest = place.0;
         values = xs;
         cut = place.1;
         are_read = ReadEach-ReadInTurn reads sets first done xs turn;
-        fault = inr (record { frame = f; kind = kind_after sets first done; starts = place.2; in_force = InForce-kind_after sets first done; is_refused =
-            refused });
+        fault = inr (record {
+          frame = f;
+          kind = kind_after sets first done;
+          starts = place.2;
+          in_force = InForce-kind_after sets first done;
+          is_refused =
+              refused;
+        });
       }
 
   -- what is refused has that fault in the grammar
-  pub ListFault-read_list : (first : List ℕ) (bytes : List ℕ) (e : DecodeError) → IsBytes bytes → read_list reads sets first bytes ≡ Err e
-      → ListFault reads sets first bytes e
+  pub IsListFault-read_list : (first : List ℕ) (bytes : List ℕ) (e : DecodeError) → IsBytes bytes → read_list reads sets first bytes ≡ Err e
+      → IsListFault reads sets first bytes e
   unfolding read_list
-  ListFault-read_list first bytes e is h =
+  IsListFault-read_list first bytes e is h =
       let c = cut bytes in
-      ListFault-Refused first bytes c.frames c.fault e (cuts bytes is) (Refused-read_each reads sets first c.frames c.fault e h)
+      IsListFault-Refused first bytes c.frames c.fault e (cuts bytes is) (Refused-read_each reads sets first c.frames c.fault e h)
 
   -- ---- the law
 
   -- `read_list` gives the reading or the fault that the grammar gives
-  pub one_outcome : (first : List ℕ) (bytes : List ℕ) → IsBytes bytes → OneOutcome reads sets first bytes (read_list reads sets first bytes)
+  pub one_outcome : (first : List ℕ) (bytes : List ℕ) → IsBytes bytes → HasOneOutcome reads sets first bytes (read_list reads sets first bytes)
   one_outcome first bytes is = record {
     reading = λ xs. (ListReads-read_list first bytes xs is, read_list-ListReads first bytes xs);
-    fault = λ e. (ListFault-read_list first bytes e is, read_list-ListFault first bytes e);
+    fault = λ e. (IsListFault-read_list first bytes e is, read_list-IsListFault first bytes e);
   }
 
   -- no list has a reading and a fault
   pub reading_or_fault : (first : List ℕ) (bytes : List ℕ) (xs : List X) (e : DecodeError) → ListReads reads sets first bytes xs
-      → ListFault reads sets first bytes e → ⊥
+      → IsListFault reads sets first bytes e → ⊥
   reading_or_fault first bytes xs e reading fault =
       let ok = read_list-ListReads first bytes xs reading in
-      let err = read_list-ListFault first bytes e fault in
+      let err = read_list-IsListFault first bytes e fault in
       cc
 
   -- a list has one reading
@@ -160,10 +171,10 @@ module _ {X : Type 0} (reads : Reads X) (sets : Sets Frame) where
       cc
 
   -- a list has one fault
-  pub one_fault : (first : List ℕ) (bytes : List ℕ) (d e : DecodeError) → ListFault reads sets first bytes d → ListFault reads sets first bytes e → d ≡ e
+  pub one_fault : (first : List ℕ) (bytes : List ℕ) (d e : DecodeError) → IsListFault reads sets first bytes d → IsListFault reads sets first bytes e → d ≡ e
   one_fault first bytes d e one other =
-      let this = read_list-ListFault first bytes d one in
-      let that = read_list-ListFault first bytes e other in
+      let this = read_list-IsListFault first bytes d one in
+      let that = read_list-IsListFault first bytes e other in
       cc
 
   -- where no frame is refused for want of memory, no list is

@@ -140,7 +140,7 @@ module _ {X : Type 0} (c : Codec Frame X) (Canon : List ℕ → Frame → Type 0
               → ReadInTurn c.read by_frame kind (map c.write xs) xs
           in_turn kind xs typed fits e =
               subst (λ (k : Cutting). ReadInTurn c.read by_frame kind k.frames xs) (cut-written xs typed fits)
-                  (ReadInTurn-read_list c.read by_frame kind (list_bytes c.write xs) xs e).1
+              (ReadInTurn-read_list c.read by_frame kind (list_bytes c.write xs) xs e).1
 
           back_list : (kind : List ℕ) (xs : List X) → AllByRecursion c.Typed xs → ListFits c.Fits c.write xs
               → (read_list c.read by_frame kind (list_bytes c.write xs) ≡ Ok xs) ↔ SettledEach c.Settled by_value kind xs
@@ -169,9 +169,9 @@ module _ {X : Type 0} (c : Codec Frame X) (Canon : List ℕ → Frame → Type 0
               from_canon canon =
                   let whole : cut bytes ≡ record { frames = canon.list; fault = None } = ap cut canon.whole ∙ cut-flat_map canon.list canon.frames in
                   let turn : ReadInTurn c.read by_frame kind canon.list xs =
-                          subst (λ (k : Cutting). ReadInTurn c.read by_frame kind k.frames xs) whole (ReadInTurn-read_list c.read by_frame kind bytes xs e).1 in
+                  subst (λ (k : Cutting). ReadInTurn c.read by_frame kind k.frames xs) whole (ReadInTurn-read_list c.read by_frame kind bytes xs e).1 in
                   let are_wire : AllByRecursion IsWireFrame canon.list =
-                          subst (λ (k : Cutting). AllByRecursion IsWireFrame k.frames) whole (IsWireFrame-cut bytes wire.are_bytes) in
+                  subst (λ (k : Cutting). AllByRecursion IsWireFrame k.frames) whole (IsWireFrame-cut bytes wire.are_bytes) in
                   list_bytes-map c.write xs ∙ ap (flat_map frame_bytes) (written-each kind canon.list xs are_wire fits.each turn canon.holds) ∙ sym canon.whole
 
           reads_list : (kind bytes : List ℕ) → IsWireBytes bytes → IsCanonList Canon by_frame kind bytes
@@ -179,11 +179,11 @@ module _ {X : Type 0} (c : Codec Frame X) (Canon : List ℕ → Frame → Type 0
           reads_list kind bytes wire canon =
               let whole : cut bytes ≡ record { frames = canon.list; fault = None } = ap cut canon.whole ∙ cut-flat_map canon.list canon.frames in
               let are_wire : AllByRecursion IsWireFrame canon.list =
-                      subst (λ (k : Cutting). AllByRecursion IsWireFrame k.frames) whole (IsWireFrame-cut bytes wire.are_bytes) in
+              subst (λ (k : Cutting). AllByRecursion IsWireFrame k.frames) whole (IsWireFrame-cut bytes wire.are_bytes) in
               let r = reads-each kind canon.list are_wire canon.holds in
               let same : list_bytes c.write r.0 ≡ bytes =
-                      list_bytes-map c.write r.0 ∙ ap (flat_map frame_bytes) (written-each kind canon.list r.0 are_wire r.2 r.1 canon.holds)
-                      ∙ sym canon.whole in (
+              list_bytes-map c.write r.0 ∙ ap (flat_map frame_bytes) (written-each kind canon.list r.0 are_wire r.2 r.1 canon.holds)
+              ∙ sym canon.whole in (
                 r.0,
                 read_list-ReadInTurn c.read by_frame kind bytes canon.list r.0 whole r.1,
                 record { each = r.2; whole = rw same wire.long },

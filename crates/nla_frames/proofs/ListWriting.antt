@@ -1,6 +1,6 @@
 -- Lists as they are written, one item after the other.
-use Rattle.std.proofs.Common.{◌≡◌, ℕ, ◌+◌, ◌-◌, ◌<◌, ◌≤◌, ◌^◌, List, [], ◌++◌, length, map, take, drop, get_or, refl, sym, ◌∙◌, ap, subst, arith, length-append,
-    length-drop}
+use Rattle.std.proofs.Common.{◌≡◌, ℕ, ◌+◌, ◌-◌, ◌<◌, ◌≤◌, ◌^◌, List, [], ◌++◌, length, map, take, drop, get_or, refl, sym, ◌∙◌, ap, subst, arith, length-append}
+use Rattle.std.proofs.Common.{length-drop}
 use Rattle.std.specs.List.{flat_map, AllByRecursion}
 use Rattle.std.proofs.lemmas.List.{get_or-map, length-map, length-take, take_all}
 use Rattle.std.proofs.lemmas.List.Folds.{length-flat_map-take}
@@ -66,8 +66,12 @@ module _ {Y X : Type 0} (see : Y → X) (frame : X → Frame) {items : List Y} {
 
   -- how many bytes they have together
   pub length_next : length (bytes_before see frame items (i + 1)) ≡ length (bytes_before see frame items i) + frame_length (frame (see item))
-  length_next = omega (arith, ap length next_before, length-append (bytes_before see frame items i) (frame_bytes (frame (see item))),
-      length_frame_bytes (frame (see item)))
+  length_next = omega (
+    arith,
+    ap length next_before,
+    length-append (bytes_before see frame items i) (frame_bytes (frame (see item))),
+    length_frame_bytes (frame (see item)),
+  )
 
   -- they are part of the whole
   pub next_within : length (bytes_before see frame items i) + frame_length (frame (see item)) ≤ length (list_bytes frame (map see items))
@@ -76,7 +80,7 @@ module _ {Y X : Type 0} (see : Y → X) (frame : X → Frame) {items : List Y} {
       let bytes = λ (x : X). frame_bytes (frame x) in
       let part = length-flat_map-take bytes (map see items) i (see item) (seen_within see here) in
       let whole : length (flat_map bytes (take i (map see items))) + length (frame_bytes (frame (see item))) ≤ length (flat_map bytes (map see items)) =
-              rw (seen_at see here) at part in
+      rw (seen_at see here) at part in
       omega (arith, length_frame_bytes (frame (see item)))
 
   -- so the frame has room after what is written
@@ -91,9 +95,9 @@ module _ {Y X : Type 0} (see : Y → X) (frame : X → Frame) {items : List Y} {
       → Writes (bytes_before see frame items (i + 1)) old (put_mid at (length now - at) now after)
   next_written old now after at is_at room written_before written_next =
       let fits : length (bytes_before see frame items i) + length (frame_bytes (frame (see item))) ≤ length old =
-              omega (arith, next_within, length_frame_bytes (frame (see item))) in
+      omega (arith, next_within, length_frame_bytes (frame (see item))) in
       subst (λ bytes. Writes bytes old (put_mid at (length now - at) now after)) (sym next_before)
-          (front_and_back (bytes_before see frame items i) (frame_bytes (frame (see item))) old now after at is_at fits written_before written_next)
+      (front_and_back (bytes_before see frame items i) (frame_bytes (frame (see item))) old now after at is_at fits written_before written_next)
 
 module _ {Y X : Type 0} (see : Y → X) {items : List Y} {i : ℕ} {item : Y} (here : IsAt items i item) (P : X → Type 0) where
   -- what each item is, this one is

@@ -1,6 +1,6 @@
 -- What `next_frame` finds: a frame that stands at the front, or a broken one.
-use Rattle.std.proofs.Common.{◌≡◌, ◌⊎◌, ℕ, ◌+◌, ◌^◌, ◌<◌, ◌≤◌, List, [], ◌++◌, length, take, drop, Ok, Err, refl, sym, ap, ap₂, subst, ◌∙◌, arith, inl, inr,
-    append_assoc, take-add}
+use Rattle.std.proofs.Common.{◌≡◌, ◌⊎◌, ℕ, ◌+◌, ◌^◌, ◌<◌, ◌≤◌, List, [], ◌++◌, length, take, drop, Ok, Err, refl, sym, ap, ap₂, subst, ◌∙◌, arith, inl, inr}
+use Rattle.std.proofs.Common.{append_assoc, take-add}
 use Rattle.std.proofs.lemmas.Bool.{cases_lt, lt-ltb, le-ltb}
 use Rattle.std.proofs.lemmas.List.{length-take, length-drop, take-append-drop, take-take, drop_all}
 use Rattle.nla_frames.specs.declared.error.DecodeError.{DecodeError}
@@ -8,7 +8,7 @@ use Rattle.nla_frames.specs.declared.error.DecodeError.TheVariants.{FrameHeaderS
 use Rattle.nla_frames.specs.Fault.{Outcome}
 use Rattle.nla_frames.specs.Value.{IsBytes, le_bytes, le_value}
 use Rattle.nla_frames.specs.Frame.{Frame, IsWireFrame, padding, header}
-use Rattle.nla_frames.specs.Grammar.{length_at, Broken}
+use Rattle.nla_frames.specs.Grammar.{length_at, IsBroken}
 use Rattle.nla_frames.specs.Cutting.{frame_of_length, next_frame}
 use Rattle.nla_frames.proofs.Bytes.{le_bytes-le_value, le_value_below, IsBytes-take, IsBytes-drop}
 use Rattle.nla_frames.proofs.Front.{Front}
@@ -43,31 +43,31 @@ Finds-is : (bytes : List ℕ) (outcome : Outcome (Frame × List ℕ)) → next_f
 Finds-is bytes outcome e = subst (λ (o : Outcome (Frame × List ℕ)). Finds bytes o) e (Finds-next_frame bytes)
 
 -- a refusal is a broken frame, where bytes are left
-Broken-Finds : (bytes : List ℕ) (e : DecodeError) → 0 < length bytes → Finds bytes (Err e) → Broken bytes e
-Broken-Finds bytes e some (header_short h) = (refl, some, h)
-Broken-Finds bytes e some (too_long h k) = (refl, h, refl, k)
-Broken-Finds bytes e some (too_short h k l) = (h, refl, k, l)
+IsBroken-Finds : (bytes : List ℕ) (e : DecodeError) → 0 < length bytes → Finds bytes (Err e) → IsBroken bytes e
+IsBroken-Finds bytes e some (header_short h) = (refl, some, h)
+IsBroken-Finds bytes e some (too_long h k) = (refl, h, refl, k)
+IsBroken-Finds bytes e some (too_short h k l) = (h, refl, k, l)
 
 -- what is refused is broken in that way
-pub Broken-next_frame : (bytes : List ℕ) (e : DecodeError) → 0 < length bytes → next_frame bytes ≡ Err e → Broken bytes e
-Broken-next_frame bytes e some is = Broken-Finds bytes e some (Finds-is bytes (Err e) is)
+pub IsBroken-next_frame : (bytes : List ℕ) (e : DecodeError) → 0 < length bytes → next_frame bytes ≡ Err e → IsBroken bytes e
+IsBroken-next_frame bytes e some is = IsBroken-Finds bytes e some (Finds-is bytes (Err e) is)
 
 -- a broken frame is refused
-pub next_frame-Broken : (bytes : List ℕ) (e : DecodeError) → Broken bytes e → next_frame bytes ≡ Err e
+pub next_frame-IsBroken : (bytes : List ℕ) (e : DecodeError) → IsBroken bytes e → next_frame bytes ≡ Err e
 unfolding next_frame
-next_frame-Broken bytes (FrameHeaderShort left) b = rw (lt-ltb (length bytes) 4 (omega arith), b.0) refl
-next_frame-Broken bytes (FrameTooLong long left) b =
+next_frame-IsBroken bytes (FrameHeaderShort left) b = rw (lt-ltb (length bytes) 4 (omega arith), b.0) refl
+next_frame-IsBroken bytes (FrameTooLong long left) b =
     rw (b.0, b.2, le-ltb (length bytes) 4 (omega arith), lt-ltb (length bytes) (length_at bytes) (omega arith)) refl
-next_frame-Broken bytes (FrameTooShort long) b =
+next_frame-IsBroken bytes (FrameTooShort long) b =
     rw (b.1, le-ltb (length bytes) 4 b.0, le-ltb (length bytes) (length_at bytes) (omega arith), lt-ltb (length_at bytes) 4 (omega arith)) refl
-next_frame-Broken bytes _ b = elim b [ ]
+next_frame-IsBroken bytes _ b = elim b [ ]
 
 -- a broken frame has a byte at least
-pub length-Broken : (bytes : List ℕ) (e : DecodeError) → Broken bytes e → 0 < length bytes
-length-Broken bytes (FrameHeaderShort left) b = omega arith
-length-Broken bytes (FrameTooLong long left) b = omega arith
-length-Broken bytes (FrameTooShort long) b = omega arith
-length-Broken bytes _ b = elim b [ ]
+pub length-IsBroken : (bytes : List ℕ) (e : DecodeError) → IsBroken bytes e → 0 < length bytes
+length-IsBroken bytes (FrameHeaderShort left) b = omega arith
+length-IsBroken bytes (FrameTooLong long left) b = omega arith
+length-IsBroken bytes (FrameTooShort long) b = omega arith
+length-IsBroken bytes _ b = elim b [ ]
 
 -- what a frame at the front is
 pub record IsNext (bytes : List ℕ) (next : Frame × List ℕ) : Type 0 where
@@ -103,10 +103,10 @@ header_is : (n : ℕ) (bytes : List ℕ) → IsBytes bytes → 4 ≤ length byte
 unfolding header
 header_is n bytes is long e =
     let first : le_bytes 2 (le_value (take 2 bytes)) ≡ take 2 bytes =
-            le_bytes-le_value 2 (take 2 bytes) (omega (arith, length-take 2 bytes)) (IsBytes-take 2 bytes is) in
+    le_bytes-le_value 2 (take 2 bytes) (omega (arith, length-take 2 bytes)) (IsBytes-take 2 bytes is) in
     let second : le_bytes 2 (le_value (take 2 (drop 2 bytes))) ≡ take 2 (drop 2 bytes) =
     le_bytes-le_value 2 (take 2 (drop 2 bytes)) (omega (arith, length-take 2 (drop 2 bytes), length-drop 2 bytes))
-        (IsBytes-take 2 (drop 2 bytes) (IsBytes-drop 2 bytes is)) in
+    (IsBytes-take 2 (drop 2 bytes) (IsBytes-drop 2 bytes is)) in
     let first_so : le_bytes 2 (4 + n) ≡ take 2 bytes = subst (λ (k : ℕ). le_bytes 2 k ≡ take 2 bytes) e first in
     ap₂ (λ (a b : List ℕ). a ++ b) first_so second ∙ sym (take-add 2 2 bytes)
 
@@ -123,7 +123,7 @@ front_of long bytes is e h k =
     let below : le_value (take 2 bytes) < 256 ^ length (take 2 bytes) = le_value_below (take 2 bytes) (IsBytes-take 2 bytes is) in
     let two : length (take 2 bytes) ≡ 2 = omega (arith, length-take 2 bytes) in
     let below_word : le_value (take 2 (drop 2 bytes)) < 256 ^ length (take 2 (drop 2 bytes)) =
-            le_value_below (take 2 (drop 2 bytes)) (IsBytes-take 2 (drop 2 bytes) (IsBytes-drop 2 bytes is)) in
+    le_value_below (take 2 (drop 2 bytes)) (IsBytes-take 2 (drop 2 bytes) (IsBytes-drop 2 bytes is)) in
     let two_word : length (take 2 (drop 2 bytes)) ≡ 2 = omega (arith, length-take 2 (drop 2 bytes), length-drop 2 bytes) in
     let long_below : le_value (take 2 bytes) < 65536 = rw two at below in
     let word_below : le_value (take 2 (drop 2 bytes)) < 65536 = rw two_word at below_word in
@@ -151,9 +151,10 @@ Front-next_frame bytes f after is e = found_front bytes f after is (Finds-is byt
 
 -- what is found are bytes
 found_bytes : (bytes : List ℕ) (f : Frame) (after : List ℕ) → IsBytes bytes → Finds bytes (Ok (f, after)) → IsBytes f.value × IsBytes after
-found_bytes bytes f after is (whole h k) =
-    (IsBytes-drop 4 (take (length_at bytes) bytes) (IsBytes-take (length_at bytes) bytes is),
-        IsBytes-drop (padding (length_at bytes)) (drop (length_at bytes) bytes) (IsBytes-drop (length_at bytes) bytes is))
+found_bytes bytes f after is (whole h k) = (
+  IsBytes-drop 4 (take (length_at bytes) bytes) (IsBytes-take (length_at bytes) bytes is),
+  IsBytes-drop (padding (length_at bytes)) (drop (length_at bytes) bytes) (IsBytes-drop (length_at bytes) bytes is),
+)
 
 -- the next frame's value and what comes after it are bytes
 pub IsBytes-next_frame : (bytes : List ℕ) (f : Frame) (after : List ℕ) → IsBytes bytes → next_frame bytes ≡ Ok (f, after) → IsBytes f.value × IsBytes after

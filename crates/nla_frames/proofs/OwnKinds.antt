@@ -43,7 +43,7 @@ settled_keeping Settled kind (x ∷ xs) = ap (λ rest. Settled kind x × rest) (
 -- where the list sets one kind, it is settled exactly if each element is settled under that one
 pub settled_own : {Y X : Type 0} (see : Y → X) (Settled : List ℕ → X → Type 0) (sets : Sets Y) (items : List Y) (kind : List ℕ) (is_settled : Bool)
     → kinds_set sets items ≡ kind ∷ [] → IsTrue is_settled ↔ SettledEach Settled keep kind (map see items)
-        → IsTrue is_settled ↔ SettledUnderOwn see Settled sets items
+    → IsTrue is_settled ↔ SettledUnderOwn see Settled sets items
 settled_own see Settled sets items kind is_settled told is = (
   λ yes. (kind, told, subst (λ t. t) (settled_keeping Settled kind (map see items)) (is.0 yes)),
   λ own. is.1 (subst (λ t. t) (sym (settled_keeping Settled kind (map see items)))

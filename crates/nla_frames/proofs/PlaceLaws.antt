@@ -22,7 +22,11 @@ module _ {X : Type 0} (P : List ℕ → X → Type 0) (sets : Sets X) where
   -- as the list runs, and place by place
   pub each-at_each : (first : List ℕ) (xs : List X) → SettledEach P sets first xs ↔ SettledAtEach P sets first xs
   each-at_each first xs = (
-    (λ each i x e. record { kind = kind_after sets first (take i xs); in_force = InForce-kind_after sets first (take i xs); settled =
-        places-from_each first xs each i x e }),
+    (λ each i x e. record {
+      kind = kind_after sets first (take i xs);
+      in_force = InForce-kind_after sets first (take i xs);
+      settled =
+          places-from_each first xs each i x e;
+    }),
     (λ at. each-from_places first xs (λ i x e. let here = at i x e in rw (kind_after-InForce sets first (take i xs) here.kind here.in_force) here.settled)),
   )

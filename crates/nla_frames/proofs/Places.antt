@@ -26,7 +26,7 @@ pub kind_after-InForce : {X : Type 0} (sets : Sets X) (first : List ℕ) (before
 kind_after-InForce sets first before kind (none_set xs none) = kind_after_none sets first before none
 kind_after-InForce sets first before kind (set_last front x after k is none) =
     kind_after-append sets first front (x ∷ after) ∙ ap (λ (o : Option (List ℕ)). kind_after sets (unwrap_or o (kind_after sets first front)) after) is
-        ∙ kind_after_none sets kind after none
+    ∙ kind_after_none sets kind after none
 
 -- one element more in front
 InForce-cons : {X : Type 0} (sets : Sets X) (first : List ℕ) (x : X) (before : List X) (kind : List ℕ) → InForce sets (kind_then sets first x) before kind

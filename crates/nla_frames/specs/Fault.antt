@@ -1,8 +1,8 @@
 -- Refusals, and what a call that may want memory says of its answer.
 use Rattle.std.specs.Prelude.{◌≡◌, ◌≢◌, IfErr, ℕ, List, Result, Ok, Err, codes}
 use Rattle.nla_frames.specs.declared.error.DecodeError.{DecodeError}
-use Rattle.nla_frames.specs.declared.error.DecodeError.TheVariants.{BufferTooSmall, FrameHeaderShort, FrameTooLong, FrameTooShort, WrongLength, NotUtf8,
-    SelectorShort, XstatsShort, MissingKind, DuplicateKind, OutOfMemory}
+use Rattle.nla_frames.specs.declared.error.DecodeError.TheVariants.{BufferTooSmall, FrameHeaderShort, FrameTooLong, FrameTooShort, WrongLength, NotUtf8}
+use Rattle.nla_frames.specs.declared.error.DecodeError.TheVariants.{SelectorShort, XstatsShort, MissingKind, DuplicateKind, OutOfMemory}
 
 -- the name of a refusal
 abbrev pub name_of : DecodeError → List ℕ

@@ -2,10 +2,10 @@
 use Rattle.std.specs.Prelude.{◌≡◌, ℕ, List, [], ◌∷◌}
 use Rattle.nla_frames.specs.declared.error.DecodeError.{DecodeError}
 use Rattle.nla_frames.specs.declared.error.DecodeError.TheVariants.{FrameHeaderShort}
-use Rattle.nla_frames.specs.Grammar.{Broken}
+use Rattle.nla_frames.specs.Grammar.{IsBroken}
 pub use Rattle.nla_frames.specs.ListGrammar.{StartsWith}
 
 -- no frame stands at the front, in this way; of no bytes the header is short
-abbrev pub BrokenFront : List ℕ → DecodeError → Type 0
-BrokenFront [] e = e ≡ FrameHeaderShort 0
-BrokenFront (b ∷ bytes) e = Broken (b ∷ bytes) e
+abbrev pub HasBrokenFront : List ℕ → DecodeError → Type 0
+HasBrokenFront [] e = e ≡ FrameHeaderShort 0
+HasBrokenFront (b ∷ bytes) e = IsBroken (b ∷ bytes) e

@@ -20,28 +20,28 @@ pub record Ends (bytes : List ℕ) (f : Frame) : Type 0 where
   pub parts : bytes ≡ header (length f.value) f.word ++ (f.value ++ pad)
 
 -- the bytes are these frames
-abbrev pub Frames : List ℕ → List Frame → Type 0
-Frames bytes [] = bytes ≡ []
-Frames bytes (f ∷ []) = Ends bytes f
-Frames bytes (f ∷ g ∷ fs) = (after : List ℕ) × Begins bytes f after × Frames after (g ∷ fs)
+abbrev pub AreFrames : List ℕ → List Frame → Type 0
+AreFrames bytes [] = bytes ≡ []
+AreFrames bytes (f ∷ []) = Ends bytes f
+AreFrames bytes (f ∷ g ∷ fs) = (after : List ℕ) × Begins bytes f after × AreFrames after (g ∷ fs)
 
 -- the bytes are these frames, each padded in full, and a rest
-abbrev pub Cut : List ℕ → List Frame → List ℕ → Type 0
-Cut bytes [] rest = bytes ≡ rest
-Cut bytes (f ∷ fs) rest = (after : List ℕ) × Begins bytes f after × Cut after fs rest
+abbrev pub AreFramesAndRest : List ℕ → List Frame → List ℕ → Type 0
+AreFramesAndRest bytes [] rest = bytes ≡ rest
+AreFramesAndRest bytes (f ∷ fs) rest = (after : List ℕ) × Begins bytes f after × AreFramesAndRest after fs rest
 
 -- the length that stands in front of a frame
 abbrev pub length_at : List ℕ → ℕ
 length_at rest = le_value (take 2 rest)
 
 -- at the front of the rest, where bytes are left, a frame is broken in this way
-abbrev pub Broken : List ℕ → DecodeError → Type 0
-Broken rest (FrameHeaderShort left) = (left ≡ length rest) × (0 < left) × (left < 4)
-Broken rest (FrameTooLong long left) = (left ≡ length rest) × (4 ≤ left) × (long ≡ length_at rest) × (left < long)
-Broken rest (FrameTooShort long) = (4 ≤ length rest) × (long ≡ length_at rest) × (long ≤ length rest) × (long < 4)
-Broken rest _ = ⊥
+abbrev pub IsBroken : List ℕ → DecodeError → Type 0
+IsBroken rest (FrameHeaderShort left) = (left ≡ length rest) × (0 < left) × (left < 4)
+IsBroken rest (FrameTooLong long left) = (left ≡ length rest) × (4 ≤ left) × (long ≡ length_at rest) × (left < long)
+IsBroken rest (FrameTooShort long) = (4 ≤ length rest) × (long ≡ length_at rest) × (long ≤ length rest) × (long < 4)
+IsBroken rest _ = ⊥
 
 -- the bytes are these frames, or these frames and a broken one
 abbrev pub CutsUp : List ℕ → List Frame → Option DecodeError → Type 0
-CutsUp bytes fs None = Frames bytes fs
-CutsUp bytes fs (Some e) = (rest : List ℕ) × Cut bytes fs rest × Broken rest e
+CutsUp bytes fs None = AreFrames bytes fs
+CutsUp bytes fs (Some e) = (rest : List ℕ) × AreFramesAndRest bytes fs rest × IsBroken rest e

@@ -3,7 +3,7 @@
 use Rattle.std.specs.Prelude.{◌≡◌, ℕ, ◌⊎◌, List, ◌∷◌, ◌++◌, length, take, slice_get, Some, Result, Ok, Err, ◌↔◌}
 use Rattle.nla_frames.specs.declared.error.DecodeError.{DecodeError}
 use Rattle.nla_frames.specs.Frame.{Frame}
-use Rattle.nla_frames.specs.Grammar.{Begins, Ends, Frames, Cut, Broken}
+use Rattle.nla_frames.specs.Grammar.{Begins, Ends, AreFrames, AreFramesAndRest, IsBroken}
 use Rattle.nla_frames.specs.Place.{Sets, InForce}
 use Rattle.nla_frames.specs.Reading.{Reads, keep}
 
@@ -20,14 +20,14 @@ pub record ReadEach {X : Type 0} (reads : Reads X) (sets : Sets Frame) (first : 
 
 -- the bytes are frames, and these are their readings
 abbrev pub ListReads : {X : Type 0} → Reads X → Sets Frame → List ℕ → List ℕ → List X → Type 0
-ListReads reads sets first bytes xs = (fs : List Frame) × Frames bytes fs × ReadEach reads sets first fs xs
+ListReads reads sets first bytes xs = (fs : List Frame) × AreFrames bytes fs × ReadEach reads sets first fs xs
 
 -- a frame stands at the front: the last one, or one with others after it
 abbrev pub StartsWith : List ℕ → Frame → Type 0
 StartsWith bytes f = Ends bytes f ⊎ ((after : List ℕ) × Begins bytes f after)
 
 -- the frame at the front has this fault
-pub record FaultyFrame {X : Type 0} (reads : Reads X) (sets : Sets Frame) (first : List ℕ) (before : List Frame) (rest : List ℕ)
+pub record HasFaultyFrame {X : Type 0} (reads : Reads X) (sets : Sets Frame) (first : List ℕ) (before : List Frame) (rest : List ℕ)
     (e : DecodeError) : Type 0 where
   pub frame : Frame
   pub kind : List ℕ
@@ -36,16 +36,16 @@ pub record FaultyFrame {X : Type 0} (reads : Reads X) (sets : Sets Frame) (first
   pub is_refused : reads kind frame ≡ Err e
 
 -- frames that are read, and after them a broken frame or one that has the fault
-pub record ListFault {X : Type 0} (reads : Reads X) (sets : Sets Frame) (first : List ℕ) (bytes : List ℕ) (e : DecodeError) : Type 0 where
+pub record IsListFault {X : Type 0} (reads : Reads X) (sets : Sets Frame) (first : List ℕ) (bytes : List ℕ) (e : DecodeError) : Type 0 where
   pub frames : List Frame
   pub rest : List ℕ
   pub values : List X
-  pub cut : Cut bytes frames rest
+  pub cut : AreFramesAndRest bytes frames rest
   pub are_read : ReadEach reads sets first frames values
-  pub fault : Broken rest e ⊎ FaultyFrame reads sets first frames rest e
+  pub fault : IsBroken rest e ⊎ HasFaultyFrame reads sets first frames rest e
 
 -- frames that are cut already, each read under one kind: one is refused in this way, and all before it are read
-pub record FirstRefused {X : Type 0} (reads : Reads X) (kind : List ℕ) (fs : List Frame) (e : DecodeError) : Type 0 where
+pub record IsFirstRefusal {X : Type 0} (reads : Reads X) (kind : List ℕ) (fs : List Frame) (e : DecodeError) : Type 0 where
   pub before : List Frame
   pub frame : Frame
   pub after : List Frame
@@ -55,7 +55,7 @@ pub record FirstRefused {X : Type 0} (reads : Reads X) (kind : List ℕ) (fs : L
   pub is_refused : reads kind frame ≡ Err e
 
 -- the list has one reading and no fault, or no reading and one fault
-pub record OneOutcome {X : Type 0} (reads : Reads X) (sets : Sets Frame) (first : List ℕ) (bytes : List ℕ)
+pub record HasOneOutcome {X : Type 0} (reads : Reads X) (sets : Sets Frame) (first : List ℕ) (bytes : List ℕ)
     (outcome : Result (List X) DecodeError) : Type 0 where
   pub reading : (xs : List X) → (outcome ≡ Ok xs) ↔ ListReads reads sets first bytes xs
-  pub fault : (e : DecodeError) → (outcome ≡ Err e) ↔ ListFault reads sets first bytes e
+  pub fault : (e : DecodeError) → (outcome ≡ Err e) ↔ IsListFault reads sets first bytes e

@@ -1,6 +1,6 @@
 -- Plain values: numbers of a width in either byte order, texts, and bytes of an exact width.
-use Rattle.std.specs.Prelude.{◌≡◌, true, ℕ, zero, suc, ◌+◌, ◌-◌, ◌*◌, ◌/◌, ◌%◌, Bool, List, [], ◌∷◌, ◌++◌, length, take, reverse, slice_index_or, Ok, Err, ◌==◌,
-    if◌then◌else◌, ◌<◌, slice_index}
+use Rattle.std.specs.Prelude.{◌≡◌, true, ℕ, zero, suc, ◌+◌, ◌-◌, ◌*◌, ◌/◌, ◌%◌, Bool, List, [], ◌∷◌, ◌++◌, length, take, reverse, slice_index_or, Ok, Err, ◌==◌}
+use Rattle.std.specs.Prelude.{if◌then◌else◌, ◌<◌, slice_index}
 use Rattle.std.specs.Str.{is_utf8}
 use Rattle.nla_frames.specs.declared.error.DecodeError.TheVariants.{WrongLength, NotUtf8}
 use Rattle.nla_frames.specs.Fault.{Outcome}

@@ -22,13 +22,13 @@ pub struct NlaBuffer<'a> {
 impl<'a> NlaBuffer<'a> {
     ghost use Rattle.std.specs.Prelude.{IfOk, IfErr};
     ghost use Rattle.nla_frames.specs.Buffer.{frame_of, first_of};
-    ghost use Rattle.nla_frames.specs.FirstFrame.{StartsWith, BrokenFront};
+    ghost use Rattle.nla_frames.specs.FirstFrame.{StartsWith, HasBrokenFront};
 
     /// The frame at the front of the bytes; what follows it is dropped. Fails where the bytes, or none, begin no
     /// whole frame.
     pub fn new_checked(bytes: &'a [u8]) -> Res<Self>
         ensures found { IfOk result (λ frame. StartsWith bytes.now (frame_of frame)) }
-        ensures refused { IfErr result (BrokenFront bytes.now) }
+        ensures refused { IfErr result (HasBrokenFront bytes.now) }
         ensures exact { seen frame_of result ≡ first_of (next_frame bytes.now) }
     {
         let (frame, _) = split_first(bytes)?;

@@ -8,7 +8,7 @@ ghost use Rattle.nla_frames.specs.Grammar.{CutsUp};
 ghost use Rattle.nla_frames.specs.Cutting.{cut};
 ghost use Rattle.nla_frames.specs.Place.{Sets};
 ghost use Rattle.nla_frames.specs.Reading.{read_list};
-ghost use Rattle.nla_frames.specs.ListGrammar.{OneOutcome};
+ghost use Rattle.nla_frames.specs.ListGrammar.{HasOneOutcome};
 ghost use Rattle.nla_frames.specs.Codec.{Laws, IsWireBytes, list_codec, SetTheSame};
 ghost use Rattle.nla_frames.specs.CanonList.{IsCanonList};
 ghost use Rattle.nla_frames.specs.DefaultNla.{kept_codec, any_frame};
@@ -30,7 +30,7 @@ pub fn cutting(bytes: &[u8])
 /// place; it gives a fault exactly if after frames that are read there stands a broken frame, or one that is
 /// refused, with this fault. So all bytes have one reading and no fault, or no reading and one fault.
 pub fn list_grammar<T: FrameMeaning>(bytes: &[u8], kind: &str)
-    ensures { (sets : Sets Frame) → OneOutcome T.codec.read sets kind.now bytes.now (read_list T.codec.read sets kind.now bytes.now) }
+    ensures { (sets : Sets Frame) → HasOneOutcome T.codec.read sets kind.now bytes.now (read_list T.codec.read sets kind.now bytes.now) }
 {}
 
 /// Reading and writing are inverse for lists where they are for the elements, whichever frames set a kind: what is

@@ -4,14 +4,13 @@ use Rattle.nla_frames.specs.declared.error.DecodeError.TheVariants.{OutOfMemory}
 use Rattle.nla_frames.specs.Fault.{Outcome, Gives, seen, read_as}
 use Rattle.tc_canon.specs.Descriptor.{Rows}
 use Rattle.tc_meaning.specs.Message.{Message}
-use Rattle.tc_meaning.proofs.Outcomes.{ok-same}
 use Rattle.tc_laws.specs.Unknown.{KeepsUnknown}
 use Rattle.tc_action_messages.specs.Inverse.{UnlessMemory, TakesUnknown}
 
 -- where something is read, what holds of it holds of the answer, unless memory ran out
 pub UnlessMemory-Gives : {X Y : Type 0} (see : X → Y) (r : Outcome X) (outcome : Outcome Y) → Gives (seen see r) outcome → (y : Y) → outcome ≡ read_as y
     → (P : Y → Type 0) → P y → UnlessMemory r (λ x. P (see x))
-UnlessMemory-Gives see (Ok x) outcome given y is P holds = subst P (ok-same y (see x) (sym is ∙ given)) holds
+UnlessMemory-Gives see (Ok x) outcome given y is P holds = let same : y ≡ see x = cc (given, is) in subst P same holds
 UnlessMemory-Gives see (Err OutOfMemory) outcome given y is P holds = refl
 UnlessMemory-Gives see (Err _) outcome given y is P holds = absurd (cc (given, is))
 

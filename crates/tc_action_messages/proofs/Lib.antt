@@ -4,4 +4,4 @@ pub mod MessageBytes
 pub mod Nuls
 pub mod Trimming
 pub mod Inverse
-pub mod Most
+pub mod TrimmedLists

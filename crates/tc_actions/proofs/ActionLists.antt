@@ -33,9 +33,9 @@ keeps_order f xs law is front one two back fs g h gs p q r s same =
 -- the action fits exactly if its list does, and is as long
 pub action_measured : (tab : ℕ) (xs : List Attribute) (len : Option ℕ)
     → Measures len (NestedFits (table_codec (table action_attributes)).Fits (table_codec (table action_attributes)).write xs)
-        (list_bytes (table_codec (table action_attributes)).write xs)
+    (list_bytes (table_codec (table action_attributes)).write xs)
     → Measures len ((table_codec an_action).Fits (known tab (items (attributes_of xs))))
-        ((table_codec an_action).write (known tab (items (attributes_of xs)))).value
+    ((table_codec an_action).write (known tab (items (attributes_of xs)))).value
 action_measured tab xs len is = rw attributes_again is
 
 -- where the action fits, its list can be written

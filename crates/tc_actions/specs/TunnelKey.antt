@@ -13,8 +13,8 @@ use Rattle.tc_records.specs.Tcf.{tcf_scalars}
 use Rattle.tc_records.specs.Actions.{tunnel_key_scalars}
 use Rattle.tc_actions.specs.Records.{record_part}
 use Rattle.tc_actions.specs.declared.actions.tunnel_key.TcActionTunnelKeyOption.{TcActionTunnelKeyOption}
-use Rattle.tc_actions.specs.declared.actions.tunnel_key.TcActionTunnelKeyOption.TheVariants.{Tm, Parms, EncIpv4Src, EncIpv4Dst, EncIpv6Src, EncIpv6Dst,
-    EncKeyId, EncDstPort, NoCsum, EncTos, EncTtl, Other}
+use Rattle.tc_actions.specs.declared.actions.tunnel_key.TcActionTunnelKeyOption.TheVariants.{Tm, Parms, EncIpv4Src, EncIpv4Dst, EncIpv6Src, EncIpv6Dst}
+use Rattle.tc_actions.specs.declared.actions.tunnel_key.TcActionTunnelKeyOption.TheVariants.{EncKeyId, EncDstPort, NoCsum, EncTos, EncTtl, Other}
 
 abbrev pub tunnel_key_option : {A : Type 0} → TcActionTunnelKeyOption A → Attribute
 tunnel_key_option (Tm times) = known 1 (record_of (tcf_scalars times))

@@ -7,3 +7,4 @@ pub mod nat;
 pub mod option;
 pub mod scan;
 pub mod tunnel_key;
+mod types;

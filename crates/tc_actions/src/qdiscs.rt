@@ -1,3 +1,4 @@
 //! Queueing disciplines.
 
 pub mod fq_codel;
+mod types;

@@ -1,6 +1,6 @@
 -- What some tests tell.
-use Rattle.std.proofs.Common.{◌≡◌, ℕ, ◌-◌, Bool, true, List, [], ◌∷◌, length, take, drop, Result, Ok, Err, MatchResult, ◌↔◌, IsTrue, sym, ap, ◌∙◌, bytes_eq,
-    is_ok}
+use Rattle.std.proofs.Common.{◌≡◌, ℕ, ◌-◌, Bool, true, List, [], ◌∷◌, length, take, drop, Result, Ok, Err, MatchResult, ◌↔◌, IsTrue, sym, ap, ◌∙◌, bytes_eq}
+use Rattle.std.proofs.Common.{is_ok}
 use Rattle.std.specs.Str.{IsUtf8, is_utf8}
 use Rattle.std.specs.Cmp.Lexicographic.{bytes_decides}
 use Rattle.std.proofs.lemmas.List.{drop-drop}

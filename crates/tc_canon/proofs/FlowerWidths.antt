@@ -1,6 +1,6 @@
 -- The widths of flower's options, looked up in a list of ranges, against the table.
-use Rattle.std.proofs.Common.{◌≡◌, ℕ, suc, zero, ◌+◌, ◌<◌, ◌≤◌, Bool, true, false, cond, List, [], ◌∷◌, length, refl, sym, ap, ◌∙◌, arith, Option, Some, None,
-    ◌↔◌, is_some, eq-eqb}
+use Rattle.std.proofs.Common.{◌≡◌, ℕ, suc, zero, ◌+◌, ◌<◌, ◌≤◌, Bool, true, false, cond, List, [], ◌∷◌, length, refl, sym, ap, ◌∙◌, arith, Option, Some, None}
+use Rattle.std.proofs.Common.{◌↔◌, is_some, eq-eqb}
 use Rattle.std.specs.Prelude.{◌==◌, IsTrue, nat_le, nat_lt, if◌then◌else◌, MatchBool, ⊤}
 use Rattle.std.proofs.lemmas.Bool.{eqb-true, eqb-false, ne_eqb, leb-false, ltb-true, ltb-false}
 use Rattle.std.proofs.lemmas.Bool.Decides.{nat_tests}
@@ -136,7 +136,7 @@ width-canon (options m kinds rows) n k f w e = go (n == m) e (λ h. width-canon 
   where
     go : (b : Bool) → cond b None (width_at rows n) ≡ Some w → (width_at rows n ≡ Some w → CanonRows rows n k f ↔ ((f.word ≡ n) × (length f.value ≡ w)))
         → MatchBool b (MatchBool (is_known kinds k) ((f.word ≡ n) × IsCanonList (CanonKinds kinds) keep k f.value) ⊤) (CanonRows rows n k f)
-            ↔ ((f.word ≡ n) × (length f.value ≡ w))
+        ↔ ((f.word ≡ n) × (length f.value ≡ w))
     go true h rest = absurd cc
     go false h rest = rest h
 

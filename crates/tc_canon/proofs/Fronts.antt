@@ -1,6 +1,6 @@
 -- A frame that is padded with zeros at the front of bytes, against the cutting of frames.
-use Rattle.std.proofs.Common.{◌≡◌, ℕ, suc, ◌+◌, ◌-◌, ◌*◌, ◌/◌, ◌%◌, ◌≤◌, ◌<◌, List, [], ◌∷◌, ◌++◌, length, take, drop, replicate, get_or, Ok, Err, refl, sym,
-    ap, ◌∙◌, arith, append_assoc, length-append, nat_lt, false}
+use Rattle.std.proofs.Common.{◌≡◌, ℕ, suc, ◌+◌, ◌-◌, ◌*◌, ◌/◌, ◌%◌, ◌≤◌, ◌<◌, List, [], ◌∷◌, ◌++◌, length, take, drop, replicate, get_or, Ok, Err, refl, sym}
+use Rattle.std.proofs.Common.{ap, ◌∙◌, arith, append_assoc, length-append, nat_lt, false}
 use Rattle.std.proofs.lemmas.Bool.{le-ltb}
 use Rattle.std.proofs.lemmas.List.{length-drop, length-replicate, take-append-drop, length-take-le, drop-take, drop-drop, take_at}
 use Rattle.std.proofs.Math.Seq.{drop-append_seam, take-append_seam}
@@ -71,7 +71,7 @@ first-length : (bytes : List ℕ) (f : Frame) → IsFirst bytes f → 4 + length
 first-length bytes f first =
     let n : length (drop 4 (take (length_at bytes) bytes)) ≡ length f.value = ap length first.value in
     let m : length (drop 4 (take (length_at bytes) bytes)) ≡ length_at bytes - 4 =
-            length-drop 4 (take (length_at bytes) bytes) ∙ ap (λ (x : ℕ). x - 4) (length-take-le (length_at bytes) bytes first.whole) in
+    length-drop 4 (take (length_at bytes) bytes) ∙ ap (λ (x : ℕ). x - 4) (length-take-le (length_at bytes) bytes first.whole) in
     omega (arith, first.long)
 
 -- the frame lies within the bytes
@@ -186,5 +186,5 @@ module _ (bytes : List ℕ) (f : Frame) (n : ℕ) (back : List ℕ) (is : read_a
       let rest : drop n bytes ≡ replicate (padding (length f.value)) 0 ++ after = rw long (after-value bytes after f (rw same starts)) in
       let whole : back ≡ replicate (padding n) 0 ++ after = is_back ∙ rest ∙ ap (λ (k : ℕ). replicate k 0 ++ after) (sym pads-of) in
       let front : pad ≡ replicate (padding n) 0 =
-              is_pad ∙ rw whole (take_at (replicate (padding n) 0) after (padding n) (length-replicate {A = ℕ} (padding n) 0)) in
+      is_pad ∙ rw whole (take_at (replicate (padding n) 0) after (padding n) (length-replicate {A = ℕ} (padding n) 0)) in
       not (front ∙ ap (λ (k : ℕ). replicate k 0) (sym (ap length front ∙ length-replicate (padding n) 0)))

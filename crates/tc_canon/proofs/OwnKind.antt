@@ -1,6 +1,6 @@
 -- The one kind that the frames of an action tell, found in a loop.
-use Rattle.std.proofs.Common.{◌≡◌, ℕ, ◌<◌, Bool, true, false, List, [], ◌∷◌, ◌++◌, length, refl, sym, ap, ◌∙◌, ◌↔◌, Bor, Option, Some, None, MatchOption,
-    IsTrue}
+use Rattle.std.proofs.Common.{◌≡◌, ℕ, ◌<◌, Bool, true, false, List, [], ◌∷◌, ◌++◌, length, refl, sym, ap, ◌∙◌, ◌↔◌, Bor, Option, Some, None, MatchOption}
+use Rattle.std.proofs.Common.{IsTrue}
 use Rattle.std.proofs.lemmas.Bool.{ne_eqb}
 use Rattle.std.proofs.Common.{eq-eqb, is_some}
 use Rattle.nla_frames.specs.Value.{strip}
@@ -81,7 +81,7 @@ module _ (Whole : List ℕ → Type 0) (o : Option (Bor (List ℕ))) (rest : Lis
     own-twice some one own w =
         let p = (list-more (λ fs. told_of o ++ kinds_told fs ≡ own ∷ []) rest after f starts).0 ((so_far own).0 w) in
         two-kinds o (strip f.value) own (kinds_told p.list) some
-            (ap (λ (ts : List (List ℕ)). told_of o ++ ts) (sym (told-more f p.list (tells-one one))) ∙ p.holds)
+        (ap (λ (ts : List (List ℕ)). told_of o ++ ts) (sym (told-more f p.list (tells-one one))) ∙ p.holds)
 
   -- no frame
   pub own-breaks : 0 < length rest → ((f : Frame) (after : List ℕ) → StartsPadded rest f after → ⊥) → (own : List ℕ) → Whole own → ⊥

@@ -20,10 +20,16 @@ same-after bytes after rest f one other =
 module _ (Holds : List Frame → Type 0) where
   -- one frame more
   pub list-more : (bytes after : List ℕ) (f : Frame) → StartsPadded bytes f after → IsPaddedList Holds bytes ↔ IsPaddedList (λ fs. Holds (f ∷ fs)) after
-  list-more bytes after f starts =
-      (λ p. go p.list p.frames p.whole p.holds,
-      λ q. record { list = f ∷ q.list; frames = (starts.frame, q.frames); whole = starts.parts ∙ ap (λ (x : List ℕ). frame_bytes f ++ x) q.whole; holds =
-      q.holds })
+  list-more bytes after f starts = (
+    λ p. go p.list p.frames p.whole p.holds,
+    λ q. record {
+      list = f ∷ q.list;
+      frames = (starts.frame, q.frames);
+      whole = starts.parts ∙ ap (λ (x : List ℕ). frame_bytes f ++ x) q.whole;
+      holds =
+          q.holds;
+    },
+  )
     where
       go : (fs : List Frame) → AllByRecursion IsFrame fs → bytes ≡ flat_map frame_bytes fs → Holds fs → IsPaddedList (λ gs. Holds (f ∷ gs)) after
       go [] frames whole holds = absurd (omega (arith, starts-length bytes after f starts, ap length whole))

@@ -1,13 +1,13 @@
 -- Canonical bytes: a grammar of its own, which speaks of no reading and no writing.
-use Rattle.std.specs.Prelude.{◌≡◌, ◌⊎◌, ℕ, ◌+◌, ◌*◌, ◌<◌, ◌≤◌, ◌^◌, ◌==◌, true, false, List, [], ◌∷◌, length, take, drop, replicate, slice_index, slice_get,
-    codes, Some, MatchBool, ⊤}
+use Rattle.std.specs.Prelude.{◌≡◌, ◌⊎◌, ℕ, ◌+◌, ◌*◌, ◌<◌, ◌≤◌, ◌^◌, ◌==◌, true, false, List, [], ◌∷◌, length, take, drop, replicate, slice_index, slice_get}
+use Rattle.std.specs.Prelude.{codes, Some, MatchBool, ⊤}
 use Rattle.std.specs.Str.{is_utf8, bytes_eq}
 use Rattle.nla_frames.specs.Value.{le_value, ends_in_nul, terminated}
 use Rattle.nla_frames.specs.Frame.{Frame, type_of}
 use Rattle.nla_frames.specs.Place.{Sets, InForce}
 use Rattle.nla_frames.specs.Reading.{keep}
-use Rattle.tc_canon.specs.Descriptor.{Field, pad, Class, le, be, masked, array, raw, text, warning, presence, truth, fields, selector, pair, xstats, list_of,
-    own_list, Table, table, every, by_kind, Rows, others, types, unread, options, Kinds, unknown, kind, is_within, is_known}
+use Rattle.tc_canon.specs.Descriptor.{Field, pad, Class, le, be, masked, array, raw, text, warning, presence, truth, fields, selector, pair, xstats, list_of}
+use Rattle.tc_canon.specs.Descriptor.{own_list, Table, table, every, by_kind, Rows, others, types, unread, options, Kinds, unknown, kind, is_within, is_known}
 use Rattle.tc_canon.specs.Layouts.{width, size_of, tc_header, action_message_header, fq_codel_qd_stats, fq_codel_cl_stats, selector_head, selector_key}
 pub use Rattle.nla_frames.specs.CanonList.{IsCanonAt, IsPaddedList, CanonEach, IsCanonList}
 use Rattle.tc_canon.specs.Kind.{kind_of_frame, TellsOne}

@@ -44,7 +44,7 @@ pub mac_read : (f : Frame) → IsTrue (holds_mac (type_of f.word)) → flower_re
 unfolding flower_read
 mac_read f here =
     let at : HasClass (type_of f.word) (array 6) (rows_codec flower_options (type_of f.word)) =
-            has_class (is_array 6) (array 6) (is_array-tells 6) flower_options (type_of f.word)
+    has_class (is_array 6) (array 6) (is_array-tells 6) flower_options (type_of f.word)
     (within_table holds_mac (is_array 6) refl none_mac (type_of f.word) here) in
     at.read [] f ∙ seen_twice (known (type_of f.word)) is_bytes (exactly 6 f.value)
 
@@ -55,7 +55,7 @@ pub ipv4_read : (f : Frame) → IsTrue (holds_ipv4 (type_of f.word)) → flower_
 unfolding flower_read
 ipv4_read f here =
     let at : HasClass (type_of f.word) (array 4) (rows_codec flower_options (type_of f.word)) =
-            has_class (is_array 4) (array 4) (is_array-tells 4) flower_options (type_of f.word)
+    has_class (is_array 4) (array 4) (is_array-tells 4) flower_options (type_of f.word)
     (within_table holds_ipv4 (is_array 4) refl none_ipv4 (type_of f.word) here) in
     at.read [] f ∙ seen_twice (known (type_of f.word)) is_bytes (exactly 4 f.value)
 
@@ -66,7 +66,7 @@ pub ipv6_read : (f : Frame) → IsTrue (holds_ipv6 (type_of f.word)) → flower_
 unfolding flower_read
 ipv6_read f here =
     let at : HasClass (type_of f.word) (array 16) (rows_codec flower_options (type_of f.word)) =
-            has_class (is_array 16) (array 16) (is_array-tells 16) flower_options (type_of f.word)
+    has_class (is_array 16) (array 16) (is_array-tells 16) flower_options (type_of f.word)
     (within_table holds_ipv6 (is_array 16) refl none_ipv6 (type_of f.word) here) in
     at.read [] f ∙ seen_twice (known (type_of f.word)) is_bytes (exactly 16 f.value)
 
@@ -77,7 +77,7 @@ pub labels_read : (f : Frame) → IsTrue (holds_labels (type_of f.word)) → flo
 unfolding flower_read
 labels_read f here =
     let at : HasClass (type_of f.word) (array 16) (rows_codec flower_options (type_of f.word)) =
-            has_class (is_array 16) (array 16) (is_array-tells 16) flower_options (type_of f.word)
+    has_class (is_array 16) (array 16) (is_array-tells 16) flower_options (type_of f.word)
     (within_table holds_labels (is_array 16) refl none_labels (type_of f.word) here) in
     at.read [] f ∙ seen_twice (known (type_of f.word)) is_bytes (exactly 16 f.value)
 
@@ -88,7 +88,7 @@ pub u8_read : (f : Frame) → IsTrue (holds_u8 (type_of f.word)) → flower_read
 unfolding flower_read
 u8_read f here =
     let at : HasClass (type_of f.word) (le 1) (rows_codec flower_options (type_of f.word)) =
-            has_class (is_le 1) (le 1) (is_le-tells 1) flower_options (type_of f.word)
+    has_class (is_le 1) (le 1) (is_le-tells 1) flower_options (type_of f.word)
     (within_table holds_u8 (is_le 1) refl none_u8 (type_of f.word) here) in
     at.read [] f ∙ seen_twice (known (type_of f.word)) number (le_number 1 f.value)
 
@@ -99,7 +99,7 @@ pub u16_read : (f : Frame) → IsTrue (holds_u16 (type_of f.word)) → flower_re
 unfolding flower_read
 u16_read f here =
     let at : HasClass (type_of f.word) (le 2) (rows_codec flower_options (type_of f.word)) =
-            has_class (is_le 2) (le 2) (is_le-tells 2) flower_options (type_of f.word)
+    has_class (is_le 2) (le 2) (is_le-tells 2) flower_options (type_of f.word)
     (within_table holds_u16 (is_le 2) refl none_u16 (type_of f.word) here) in
     at.read [] f ∙ seen_twice (known (type_of f.word)) number (le_number 2 f.value)
 
@@ -110,7 +110,7 @@ pub u16_be_read : (f : Frame) → IsTrue (holds_u16_be (type_of f.word)) → flo
 unfolding flower_read
 u16_be_read f here =
     let at : HasClass (type_of f.word) (be 2) (rows_codec flower_options (type_of f.word)) =
-            has_class (is_be 2) (be 2) (is_be-tells 2) flower_options (type_of f.word)
+    has_class (is_be 2) (be 2) (is_be-tells 2) flower_options (type_of f.word)
     (within_table holds_u16_be (is_be 2) refl none_u16_be (type_of f.word) here) in
     at.read [] f ∙ seen_twice (known (type_of f.word)) number (be_number 2 f.value)
 
@@ -121,7 +121,7 @@ pub u32_read : (f : Frame) → IsTrue (holds_u32 (type_of f.word)) → flower_re
 unfolding flower_read
 u32_read f here =
     let at : HasClass (type_of f.word) (le 4) (rows_codec flower_options (type_of f.word)) =
-            has_class (is_le 4) (le 4) (is_le-tells 4) flower_options (type_of f.word)
+    has_class (is_le 4) (le 4) (is_le-tells 4) flower_options (type_of f.word)
     (within_table holds_u32 (is_le 4) refl none_u32 (type_of f.word) here) in
     at.read [] f ∙ seen_twice (known (type_of f.word)) number (le_number 4 f.value)
 
@@ -132,7 +132,7 @@ pub u32_be_read : (f : Frame) → IsTrue (holds_u32_be (type_of f.word)) → flo
 unfolding flower_read
 u32_be_read f here =
     let at : HasClass (type_of f.word) (be 4) (rows_codec flower_options (type_of f.word)) =
-            has_class (is_be 4) (be 4) (is_be-tells 4) flower_options (type_of f.word)
+    has_class (is_be 4) (be 4) (is_be-tells 4) flower_options (type_of f.word)
     (within_table holds_u32_be (is_be 4) refl none_u32_be (type_of f.word) here) in
     at.read [] f ∙ seen_twice (known (type_of f.word)) number (be_number 4 f.value)
 
@@ -140,25 +140,25 @@ pub in_dev_read : (f : Frame) → type_of f.word ≡ 2 → flower_read f ≡ see
 unfolding flower_read
 in_dev_read f here =
     subst (λ n. (rows_codec flower_options n).read [] f ≡ seen (λ x. known 2 (is_bytes x)) (text f.value)) (sym here)
-        (seen_twice (known 2) is_bytes (text f.value))
+    (seen_twice (known 2) is_bytes (text f.value))
 
 pub bos_read : (f : Frame) → type_of f.word ≡ 68 → flower_read f ≡ seen (λ x. known 68 (number x)) (le_number 1 f.value)
 unfolding flower_read
 bos_read f here =
     subst (λ n. (rows_codec flower_options n).read [] f ≡ seen (λ x. known 68 (number x)) (le_number 1 f.value)) (sym here)
-        (seen_twice (known 68) number (le_number 1 f.value))
+    (seen_twice (known 68) number (le_number 1 f.value))
 
 pub tc_read : (f : Frame) → type_of f.word ≡ 69 → flower_read f ≡ seen (λ x. known 69 (number x)) (le_number 1 f.value)
 unfolding flower_read
 tc_read f here =
     subst (λ n. (rows_codec flower_options n).read [] f ≡ seen (λ x. known 69 (number x)) (le_number 1 f.value)) (sym here)
-        (seen_twice (known 69) number (le_number 1 f.value))
+    (seen_twice (known 69) number (le_number 1 f.value))
 
 pub label_read : (f : Frame) → type_of f.word ≡ 70 → flower_read f ≡ seen (λ x. known 70 (number x)) (le_number 4 f.value)
 unfolding flower_read
 label_read f here =
     subst (λ n. (rows_codec flower_options n).read [] f ≡ seen (λ x. known 70 (number x)) (le_number 4 f.value)) (sym here)
-        (seen_twice (known 70) number (le_number 4 f.value))
+    (seen_twice (known 70) number (le_number 4 f.value))
 
 pub other_read : (f : Frame) → (is_within 2 83 (type_of f.word) || is_within 86 101 (type_of f.word)) ≡ false → flower_read f ≡ Ok (other f.word f.value)
 unfolding flower_read

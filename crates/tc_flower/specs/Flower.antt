@@ -14,15 +14,25 @@ use Rattle.tc_actions.specs.Action.{tc_action, an_action}
 use Rattle.tc_actions.specs.declared.actions.action.TcAction.{TcAction}
 use Rattle.tc_flower.specs.declared.filters.flower.mpls.TcFilterFlowerMplsOption.{TcFilterFlowerMplsOption}
 use Rattle.tc_flower.specs.declared.filters.flower.options.TcFilterFlowerOption.{TcFilterFlowerOption}
-use Rattle.tc_flower.specs.declared.filters.flower.options.TcFilterFlowerOption.TheVariants.{ClassId, InDev, Actions, EthDst, EthDstMask, EthSrc, EthSrcMask,
-    EthType, IpProto, Ipv4Src, Ipv4SrcMask, Ipv4Dst, Ipv4DstMask, Ipv6Src, Ipv6SrcMask, Ipv6Dst, Ipv6DstMask, TcpSrc, TcpDst, UdpSrc, UdpDst, Flags, VlanId,
-    VlanPrio, VlanEthType, EncKeyId, EncKeyIpv4Src, EncKeyIpv4SrcMask, EncKeyIpv4Dst, EncKeyIpv4DstMask, EncKeyIpv6Src, EncKeyIpv6SrcMask, EncKeyIpv6Dst,
-    EncKeyIpv6DstMask, TcpSrcMask, TcpDstMask, UdpSrcMask, UdpDstMask, SctpSrcMask, SctpDstMask, SctpSrc, SctpDst, EncKeyUdpSrcPort, EncKeyUdpSrcPortMask,
-    EncKeyUdpDstPort, EncKeyUdpDstPortMask, KeyFlags, KeyFlagsMask, Icmpv4Code, Icmpv4CodeMask, Icmpv4Type, Icmpv4TypeMask, Icmpv6Code, Icmpv6CodeMask,
-    Icmpv6Type, Icmpv6TypeMask, ArpSip, ArpSipMask, ArpTip, ArpTipMask, ArpOp, ArpOpMask, ArpSha, ArpShaMask, ArpTha, ArpThaMask, MplsTtl, MplsBos, MplsTc,
-    MplsLabel, TcpFlags, TcpFlagsMask, IpTos, IpTosMask, IpTtl, IpTtlMask, CvlanId, CvlanPrio, CvlanEthType, EncKeyIpTos, EncKeyIpTosMask, EncKeyIpTtl,
-    EncKeyIpTtlMask, InHwCount, PortSrcMin, PortSrcMax, PortDstMin, PortDstMax, CtState, CtStateMask, CtZone, CtZoneMask, CtMark, CtMarkMask, CtLabels,
-    CtLabelsMask, MplsOpts, KeyHash, KeyHashMask, Other}
+use Rattle.tc_flower.specs.declared.filters.flower.options.TcFilterFlowerOption.TheVariants.{ClassId, InDev, Actions, EthDst, EthDstMask, EthSrc, EthSrcMask}
+use Rattle.tc_flower.specs.declared.filters.flower.options.TcFilterFlowerOption.TheVariants.{EthType, IpProto, Ipv4Src, Ipv4SrcMask, Ipv4Dst, Ipv4DstMask}
+use Rattle.tc_flower.specs.declared.filters.flower.options.TcFilterFlowerOption.TheVariants.{Ipv6Src, Ipv6SrcMask, Ipv6Dst, Ipv6DstMask, TcpSrc, TcpDst, UdpSrc}
+use Rattle.tc_flower.specs.declared.filters.flower.options.TcFilterFlowerOption.TheVariants.{UdpDst, Flags, VlanId, VlanPrio, VlanEthType, EncKeyId}
+use Rattle.tc_flower.specs.declared.filters.flower.options.TcFilterFlowerOption.TheVariants.{EncKeyIpv4Src, EncKeyIpv4SrcMask, EncKeyIpv4Dst, EncKeyIpv4DstMask}
+use Rattle.tc_flower.specs.declared.filters.flower.options.TcFilterFlowerOption.TheVariants.{EncKeyIpv6Src, EncKeyIpv6SrcMask, EncKeyIpv6Dst, EncKeyIpv6DstMask}
+use Rattle.tc_flower.specs.declared.filters.flower.options.TcFilterFlowerOption.TheVariants.{TcpSrcMask, TcpDstMask, UdpSrcMask, UdpDstMask, SctpSrcMask}
+use Rattle.tc_flower.specs.declared.filters.flower.options.TcFilterFlowerOption.TheVariants.{SctpDstMask, SctpSrc, SctpDst, EncKeyUdpSrcPort}
+use Rattle.tc_flower.specs.declared.filters.flower.options.TcFilterFlowerOption.TheVariants.{EncKeyUdpSrcPortMask, EncKeyUdpDstPort, EncKeyUdpDstPortMask}
+use Rattle.tc_flower.specs.declared.filters.flower.options.TcFilterFlowerOption.TheVariants.{KeyFlags, KeyFlagsMask, Icmpv4Code, Icmpv4CodeMask, Icmpv4Type}
+use Rattle.tc_flower.specs.declared.filters.flower.options.TcFilterFlowerOption.TheVariants.{Icmpv4TypeMask, Icmpv6Code, Icmpv6CodeMask, Icmpv6Type}
+use Rattle.tc_flower.specs.declared.filters.flower.options.TcFilterFlowerOption.TheVariants.{Icmpv6TypeMask, ArpSip, ArpSipMask, ArpTip, ArpTipMask, ArpOp}
+use Rattle.tc_flower.specs.declared.filters.flower.options.TcFilterFlowerOption.TheVariants.{ArpOpMask, ArpSha, ArpShaMask, ArpTha, ArpThaMask, MplsTtl}
+use Rattle.tc_flower.specs.declared.filters.flower.options.TcFilterFlowerOption.TheVariants.{MplsBos, MplsTc, MplsLabel, TcpFlags, TcpFlagsMask, IpTos}
+use Rattle.tc_flower.specs.declared.filters.flower.options.TcFilterFlowerOption.TheVariants.{IpTosMask, IpTtl, IpTtlMask, CvlanId, CvlanPrio, CvlanEthType}
+use Rattle.tc_flower.specs.declared.filters.flower.options.TcFilterFlowerOption.TheVariants.{EncKeyIpTos, EncKeyIpTosMask, EncKeyIpTtl, EncKeyIpTtlMask}
+use Rattle.tc_flower.specs.declared.filters.flower.options.TcFilterFlowerOption.TheVariants.{InHwCount, PortSrcMin, PortSrcMax, PortDstMin, PortDstMax, CtState}
+use Rattle.tc_flower.specs.declared.filters.flower.options.TcFilterFlowerOption.TheVariants.{CtStateMask, CtZone, CtZoneMask, CtMark, CtMarkMask, CtLabels}
+use Rattle.tc_flower.specs.declared.filters.flower.options.TcFilterFlowerOption.TheVariants.{CtLabelsMask, MplsOpts, KeyHash, KeyHashMask, Other}
 use Rattle.tc_flower.specs.Mpls.{mpls_option}
 
 abbrev pub flower_option : {A : Type 0} → TcFilterFlowerOption A → Attribute

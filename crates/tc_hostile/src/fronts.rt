@@ -5,9 +5,7 @@ use std::alloc::Global;
 use std::process::Abort;
 use std::test::Fail;
 use tc_inputs::made;
-use tc_wire::{
-    DecodeError, ParseableBytes, TcAttribute, TcMessage, VecTcAttribute, is_canonical_tc,
-};
+use tc_wire::{DecodeError, ParseableBytes, TcMessage, VecTcAttribute, is_canonical_tc};
 
 // The fault of so many of its first bytes.
 fn fault_of_front(count: usize) -> Option<DecodeError> {
@@ -39,26 +37,21 @@ fn first(alloc: Global) -> Result<Vec<u8>, Fail> {
 // Asserts of so many of its first bytes that they are refused, or read as a header alone, or with the kind, whose padding may be cut.
 fn is_front(rt: &impl Abort, alloc: Global, bytes: &[u8], count: usize) -> Result<(), Fail> {
     let (front, _) = bytes.split_at(count.min(bytes.len()));
-    let message = match TcMessage::parse(alloc, front) {
-        Ok(message) => message,
-        Err(fault) => {
-            assert_eq!(rt; Some(fault), fault_of_front(count));
-            return Ok(());
-        }
-    };
-    let (kinds, written) = if count == 20 { (0, 20) } else { (1, 36) };
-    assert_eq!(rt; fault_of_front(count), None);
-    assert_eq!(rt; message.attributes.len(), kinds);
-    for attribute in &message.attributes {
-        match attribute {
-            TcAttribute::Kind(text) => assert_eq!(rt; text.as_str(), "fq_codel"),
-            _ => assert!(rt; false, "another attribute"),
+    let fault = fault_of_front(count);
+    match TcMessage::parse(alloc, front) {
+        Err(found) => assert!(rt; fault == Some(found), "{count}"),
+        Ok(message) => {
+            let (kinds, written) = if count == 20 { (0, 20) } else { (1, 36) };
+            assert!(rt;
+                fault.is_none() && message.attributes.len() == kinds,
+                "{count}"
+            );
+            assert!(rt; message.is_settled(), "{count}");
+            assert!(rt; is_canonical_tc(front) == (count == written), "{count}");
+            let emitted = emitted(alloc, &message)?.ok_or("it fits")?;
+            assert!(rt; bytes.get(..written) == Some(emitted.as_slice()), "{count}");
         }
     }
-    assert!(rt; message.is_settled());
-    assert_eq!(rt; is_canonical_tc(front), count == written);
-    let emitted = emitted(alloc, &message)?.ok_or("it fits")?;
-    assert_eq!(rt; Some(emitted.as_slice()), bytes.get(..written));
     Ok(())
 }
 

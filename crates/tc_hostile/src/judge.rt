@@ -3,73 +3,61 @@
 use crate::whole::Whole;
 use nla_frames::Emitable;
 use std::alloc::{AllocError, Allocator, Global};
-use std::process::Abort;
 use std::test::Fail;
 use tc_inputs::{Form, Input};
 use tc_wire::{DecodeError, RewriteError, TcActionMessage, TcMessage};
 
-/// Asserts that a message is refused for a fault of its bytes, or is read and written as it has to be.
-pub(crate) fn is_judged(rt: &impl Abort, alloc: Global, input: &Input) -> Result<(), Fail> {
+/// What is wrong with an answer, if anything is.
+pub(crate) type Complaint = Option<&'static str>;
+
+/// What is wrong with how a message is refused, or read and written.
+pub(crate) fn judge(alloc: Global, input: &Input) -> Result<Complaint, Fail> {
     match input.form {
-        Form::Tc => is_judged_as::<TcMessage>(rt, alloc, &input.bytes),
-        Form::Action => is_judged_as::<TcActionMessage>(rt, alloc, &input.bytes),
+        Form::Tc => judge_as::<TcMessage>(alloc, &input.bytes),
+        Form::Action => judge_as::<TcActionMessage>(alloc, &input.bytes),
     }
 }
 
-fn is_judged_as<M: Whole<Global> + Drop>(
-    rt: &impl Abort,
-    alloc: Global,
-    bytes: &[u8],
-) -> Result<(), Fail> {
+fn judge_as<M: Whole<Global> + Drop>(alloc: Global, bytes: &[u8]) -> Result<Complaint, Fail> {
     match M::parse(alloc, bytes) {
-        Ok(message) => is_accepted(rt, alloc, bytes, &message),
-        Err(fault) => {
-            is_refused::<M>(rt, alloc, bytes, fault);
-            Ok(())
-        }
+        Ok(message) => judge_accepted(alloc, bytes, &message),
+        Err(DecodeError::OutOfMemory) => Ok(Some("parsing wants memory")),
+        Err(fault) => Ok(judge_refused::<M>(alloc, bytes, RewriteError::Decode(fault))),
     }
 }
 
-// For a fault of the bytes, which all calls name, and not for want of memory.
-fn is_refused<M: Whole<Global> + Drop>(
-    rt: &impl Abort,
-    alloc: Global,
-    bytes: &[u8],
-    fault: DecodeError,
-) {
-    assert!(rt; fault != DecodeError::OutOfMemory, "{bytes:?}");
-    refuse_both::<M>(rt, alloc, bytes, RewriteError::Decode(fault));
-}
-
-// Asserts that bytes aren't rewritten nor settled for this cause; then they aren't canonical.
-fn refuse_both<M: Whole<Global> + Drop>(
-    rt: &impl Abort,
+// Bytes that aren't rewritten nor settled for this cause, and so aren't canonical.
+fn judge_refused<M: Whole<Global> + Drop>(
     alloc: Global,
     bytes: &[u8],
     cause: RewriteError,
-) {
+) -> Complaint {
     let cause = Some(cause);
-    assert_eq!(rt; M::rewritten(alloc, bytes).err(), cause, "{bytes:?}");
-    assert_eq!(rt; M::settled(alloc, bytes).err(), cause, "{bytes:?}");
-    assert!(rt; !M::are_canonical(bytes), "{bytes:?}");
+    if M::rewritten(alloc, bytes).err() != cause {
+        Some("rewriting has another cause")
+    } else if M::settled(alloc, bytes).err() != cause {
+        Some("settling has another cause")
+    } else if M::are_canonical(bytes) {
+        Some("canonical bytes are refused")
+    } else {
+        None
+    }
 }
 
-fn is_accepted<M: Whole<Global> + Drop>(
-    rt: &impl Abort,
+fn judge_accepted<M: Whole<Global> + Drop>(
     alloc: Global,
     bytes: &[u8],
     message: &M,
-) -> Result<(), Fail> {
-    assert!(rt; message.copied()? == *message, "{bytes:?}");
+) -> Result<Complaint, Fail> {
+    if message.copied()? != *message {
+        return Ok(Some("a clone differs"));
+    }
     match emitted(alloc, message)? {
-        Some(emitted) => {
-            is_written(rt, alloc, bytes, message, &emitted)?;
-            is_settled::<M>(rt, alloc, bytes)
-        }
-        None => {
-            refuse_both::<M>(rt, alloc, bytes, RewriteError::DoesNotFit);
-            Ok(())
-        }
+        Some(emitted) => match judge_written(alloc, bytes, message, &emitted)? {
+            None => judge_settled::<M>(alloc, bytes),
+            complaint => Ok(complaint),
+        },
+        None => Ok(judge_refused::<M>(alloc, bytes, RewriteError::DoesNotFit)),
     }
 }
 
@@ -87,43 +75,45 @@ pub(crate) fn emitted<A: Allocator, M: Emitable>(
 }
 
 // Its bytes are those that came exactly if these are canonical, and read as itself exactly if it is settled.
-fn is_written<M: Whole<Global> + Drop>(
-    rt: &impl Abort,
+fn judge_written<M: Whole<Global> + Drop>(
     alloc: Global,
     bytes: &[u8],
     message: &M,
     emitted: &[u8],
-) -> Result<(), Fail> {
-    assert_eq!(rt; emitted == bytes, M::are_canonical(bytes), "{bytes:?}");
-    assert_eq!(rt;
-        M::rewritten(alloc, bytes)?.as_slice(),
-        emitted,
-        "{bytes:?}"
-    );
-    let same = match M::parse(alloc, emitted) {
+) -> Result<Complaint, Fail> {
+    if (emitted == bytes) != M::are_canonical(bytes) {
+        return Ok(Some("canonical isn't what is written as it came"));
+    }
+    if M::rewritten(alloc, bytes)?.as_slice() != emitted {
+        return Ok(Some("rewriting isn't reading and writing"));
+    }
+    let reads_back = match M::parse(alloc, emitted) {
         Ok(again) => again == *message,
-        Err(fault) => {
-            assert!(rt; fault != DecodeError::OutOfMemory, "{bytes:?}");
-            false
-        }
+        Err(DecodeError::OutOfMemory) => return Ok(Some("parsing again wants memory")),
+        Err(_) => false,
     };
-    assert_eq!(rt; same, message.reads_back(), "{bytes:?}");
-    Ok(())
+    if reads_back != message.reads_back() {
+        return Ok(Some("settled isn't what reads back"));
+    }
+    Ok(None)
 }
 
 // So many rewrites as are counted, and no fewer, lead to canonical bytes, which are those that it is settled as.
-fn is_settled<M: Whole<Global> + Drop>(
-    rt: &impl Abort,
-    alloc: Global,
-    bytes: &[u8],
-) -> Result<(), Fail> {
+fn judge_settled<M: Whole<Global> + Drop>(alloc: Global, bytes: &[u8]) -> Result<Complaint, Fail> {
     let (settled, rewrites) = M::settled(alloc, bytes)?;
     let mut last = bytes.to_vec(alloc)?;
     for _ in 0..rewrites {
-        assert!(rt; !M::are_canonical(&last), "{bytes:?}");
+        if M::are_canonical(&last) {
+            return Ok(Some("fewer rewrites would do"));
+        }
         last = M::rewritten(alloc, &last)?;
     }
-    assert!(rt; M::are_canonical(&last), "{bytes:?}");
-    assert_eq!(rt; settled, last, "{bytes:?}");
-    Ok(())
+    if !M::are_canonical(&last) {
+        return Ok(Some("settling ends too early"));
+    }
+    Ok(if settled == last {
+        None
+    } else {
+        Some("settling isn't rewriting to the end")
+    })
 }

@@ -37,15 +37,14 @@ fn is_done(
     wanted: &Settled<Global>,
 ) -> bool {
     if failing.has_refused() {
-        assert_eq!(rt; answer.err(), Some(RewriteError::OutOfMemory));
+        assert!(rt; answer.err() == Some(RewriteError::OutOfMemory));
         return false;
     }
     match (answer, wanted) {
         (Ok((bytes, rewrites)), Ok((wanted, wanted_rewrites))) => {
-            assert_eq!(rt; bytes.as_slice(), wanted.as_slice());
-            assert_eq!(rt; rewrites, *wanted_rewrites);
+            assert!(rt; bytes.as_slice() == wanted.as_slice() && rewrites == *wanted_rewrites);
         }
-        (Err(cause), Err(wanted)) => assert_eq!(rt; cause, *wanted),
+        (Err(cause), Err(wanted)) => assert!(rt; cause == *wanted, "{cause}"),
         _ => assert!(rt; false, "refused with or without memory"),
     }
     true
@@ -67,15 +66,20 @@ fn is_told<'f, M: Whole<&'f Failing<Global>> + Drop>(
             canonical,
             emitted,
         } => {
-            assert_eq!(rt; message.fits(), *fits);
-            assert_eq!(rt; message.reads_back(), *settled);
-            assert_eq!(rt; M::are_canonical(&row.input.bytes), *canonical);
+            assert!(rt; message.fits() == *fits, "fits");
+            assert!(rt; message.reads_back() == *settled, "settled");
+            assert!(rt;
+                M::are_canonical(&row.input.bytes) == *canonical,
+                "canonical"
+            );
             let mut page = [0; 1024];
-            assert!(rt; message.fits());
-            assert_eq!(rt; message.buffer_len(), emitted.len());
+            assert!(rt;
+                message.fits() && message.buffer_len() == emitted.len(),
+                "length"
+            );
             assert!(rt; emitted.len() <= page.len());
             message.emit(&mut page);
-            assert_eq!(rt; &page[..emitted.len()], emitted.as_slice());
+            assert!(rt; &page[..emitted.len()] == emitted.as_slice(), "emitted");
             assert!(rt; *message == *message);
         }
     }
@@ -122,7 +126,7 @@ fn is_read<'f, M: Whole<&'f Failing<Global>> + Drop>(
         Err(fault) => {
             assert!(rt; !failing.has_refused());
             match &row.told {
-                Told::Refused(name) => assert_eq!(rt; fault.name(), name.as_str()),
+                Told::Refused(name) => assert!(rt; fault.name() == name.as_str(), "{name}"),
                 Told::Accepted { .. } => assert!(rt; false, "{fault}"),
             }
             true

@@ -1,5 +1,9 @@
 //! A message, whatever bytes it is.
 
+ghost use Rattle.std.specs.Prelude.{◌≡◌, IfOk, replicate};
+ghost use Rattle.std.specs.List.{flat_map};
+ghost use Rattle.tc_inputs.specs.Inputs.{header_len, behind_zeros};
+
 use std::alloc::{AllocError, Global};
 
 /// Which of the two messages bytes are taken for.
@@ -14,7 +18,9 @@ pub enum Form {
 
 impl Form {
     /// A header of zeros.
-    pub fn header(self) -> &'static [u8] {
+    pub fn header(self) -> &'static [u8]
+        ensures { result.now ≡ replicate (header_len self) 0 }
+    {
         match self {
             Form::Tc => &[0; 20],
             Form::Action => &[0; 4],
@@ -31,7 +37,10 @@ pub struct Input {
 
 impl Input {
     /// A header of zeros, and attributes behind it.
-    pub fn of_frames(alloc: Global, form: Form, frames: &[&[u8]]) -> Result<Input, AllocError> {
+    pub fn of_frames(alloc: Global, form: Form, frames: &[&[u8]]) -> Result<Input, AllocError>
+        ensures form { IfOk result (λ input. input.form ≡ form) }
+        ensures bytes { IfOk result (λ input. input.bytes.items ≡ behind_zeros form (flat_map (λ frame. frame.now) frames.now)) }
+    {
         let mut bytes = form.header().to_vec(alloc)?;
         for frame in frames {
             bytes.extend_from_slice(frame)?;

@@ -14,4 +14,4 @@ pub use input::{Form, Input};
 pub use long::too_long;
 pub use row::{Row, Told, row_of};
 pub use rows::{captured, made};
-pub use sweep::{ACTION_KINDS, KINDS, LAST_TYPE, LENGTHS, around, swept};
+pub use sweep::{ACTION_KINDS, KINDS, LAST_TYPE, LENGTHS, all_around, swept};

@@ -1,5 +1,7 @@
 //! Messages that are read and can't be written.
 
+ghost use Rattle.std.specs.Prelude.{◌≡◌, ◌<◌, IfOk, vec_len};
+
 use crate::input::{Form, Input};
 use std::alloc::{AllocError, Global};
 
@@ -18,7 +20,10 @@ const NAT: [u8; 20] = [
 ];
 
 /// A message that would be written with one value too long: the last attribute in it, with bytes aa, isn't padded in full.
-pub fn too_long(alloc: Global, form: Form) -> Result<Input, AllocError> {
+pub fn too_long(alloc: Global, form: Form) -> Result<Input, AllocError>
+    ensures form { IfOk result (λ input. input.form ≡ form) }
+    ensures long { IfOk result (λ input. 65535 < vec_len input.bytes) }
+{
     let (frames, length) = match form {
         Form::Tc => (INGRESS, 65527),
         Form::Action => (NAT, 65515),

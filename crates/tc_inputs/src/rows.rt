@@ -1,21 +1,29 @@
 //! Messages, and what has to be told of them. A row is the form of a message and its bytes, and behind `=` the name of its fault, or whether it
 //! fits, is settled and came canonical, with the bytes that are emitted where these aren't those that came.
 
+ghost use Rattle.std.specs.Prelude.{◌≡◌, IfOk, length, vec_len};
+
 use crate::row::{Row, row_of};
 use std::alloc::Global;
 use std::test::Fail;
 
 /// The messages that were made by hand; the first is that of the program's stored run.
-pub fn made(alloc: Global) -> Result<Vec<Row>, Fail> {
+pub fn made(alloc: Global) -> Result<Vec<Row>, Fail>
+    ensures { IfOk result (λ rows. vec_len rows ≡ 69) }
+{
     rows_of(alloc, &MADE)
 }
 
 /// The messages that were captured, between iproute2 and Linux.
-pub fn captured(alloc: Global) -> Result<Vec<Row>, Fail> {
+pub fn captured(alloc: Global) -> Result<Vec<Row>, Fail>
+    ensures { IfOk result (λ rows. vec_len rows ≡ 20) }
+{
     rows_of(alloc, &CAPTURED)
 }
 
-fn rows_of(alloc: Global, table: &[&str]) -> Result<Vec<Row>, Fail> {
+fn rows_of(alloc: Global, table: &[&str]) -> Result<Vec<Row>, Fail>
+    ensures { IfOk result (λ rows. vec_len rows ≡ length table.now) }
+{
     let mut rows = Vec::new(alloc);
     for row in table {
         rows.push(row_of(alloc, row)?)?;

@@ -1,5 +1,8 @@
 //! Attributes of all types and many lengths, and the messages in which they may stand.
 
+ghost use Rattle.std.specs.Prelude.{◌≡◌, ◌≤◌, IfOk, length, replicate, vec_len};
+ghost use Rattle.tc_inputs.specs.Inputs.{attribute};
+
 use crate::input::{Form, Input};
 use std::alloc::{AllocError, Global};
 
@@ -16,12 +19,16 @@ pub const KINDS: [&str; 6] = ["fq_codel", "ingress", "flower", "u32", "matchall"
 pub const ACTION_KINDS: [&str; 3] = ["mirred", "nat", "tunnel_key"];
 
 /// An attribute of a type with so many bytes, all 1.
-pub fn swept(alloc: Global, word: u16, length: usize) -> Result<Vec<u8>, AllocError> {
+pub fn swept(alloc: Global, word: u16, length: usize) -> Result<Vec<u8>, AllocError>
+    ensures { IfOk result (λ bytes. length ≤ 65531 → bytes.items ≡ attribute word (replicate length 1)) }
+{
     frame(alloc, word, &vec![in alloc; 1u8; length]?)
 }
 
-/// The messages in which an attribute stands alone, and as the one option of each known kind.
-pub fn around(alloc: Global, swept: &[u8]) -> Result<Vec<Input>, AllocError> {
+// The messages in which an attribute stands alone, and as the one option of each known kind.
+fn around(alloc: Global, swept: &[u8]) -> Result<Vec<Input>, AllocError>
+    ensures { IfOk result (λ inputs. vec_len inputs ≡ 11) }
+{
     let mut inputs = Vec::new(alloc);
     for form in [Form::Tc, Form::Action] {
         inputs.push(Input::of_frames(alloc, form, &[swept])?)?;
@@ -40,6 +47,19 @@ pub fn around(alloc: Global, swept: &[u8]) -> Result<Vec<Input>, AllocError> {
     Ok(inputs)
 }
 
+/// The messages in which an attribute of each type and each length stands so.
+pub fn all_around(alloc: Global) -> Result<Vec<Input>, AllocError>
+    ensures { IfOk result (λ inputs. vec_len inputs ≡ 12210) }
+{
+    let mut inputs = Vec::new(alloc);
+    for word in 0..LAST_TYPE + 1 {
+        for length in LENGTHS {
+            inputs.append(&mut around(alloc, &swept(alloc, word, length)?)?)?;
+        }
+    }
+    Ok(inputs)
+}
+
 // The attribute of a kind, whose text ends in a NUL.
 fn kind_frame(alloc: Global, kind: &str) -> Result<Vec<u8>, AllocError> {
     let mut text = kind.as_bytes().to_vec(alloc)?;
@@ -48,14 +68,14 @@ fn kind_frame(alloc: Global, kind: &str) -> Result<Vec<u8>, AllocError> {
 }
 
 // An attribute, padded in full.
-fn frame(alloc: Global, word: u16, value: &[u8]) -> Result<Vec<u8>, AllocError> {
+fn frame(alloc: Global, word: u16, value: &[u8]) -> Result<Vec<u8>, AllocError>
+    ensures { IfOk result (λ bytes. length value.now ≤ 65531 → bytes.items ≡ attribute word value.now) }
+{
     let length = u16::try_from(value.len().saturating_add(4)).unwrap_or(u16::MAX);
     let mut bytes = Vec::new(alloc);
     bytes.extend_from_slice(&length.to_le_bytes())?;
     bytes.extend_from_slice(&word.to_le_bytes())?;
     bytes.extend_from_slice(value)?;
-    for _ in 0..(4 - value.len() % 4) % 4 {
-        bytes.push(0)?;
-    }
+    bytes.extend_from_slice(&[0; 3][..(4 - value.len() % 4) % 4])?;
     Ok(bytes)
 }

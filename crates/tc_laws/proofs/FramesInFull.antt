@@ -1,7 +1,7 @@
 -- Frames that are padded in full: such bytes one after the other are their frames one after the other.
 use Rattle.std.proofs.Common.{◌≡◌, ℕ, List, [], ◌∷◌, ◌++◌, length, None, Ok, refl, sym, ap, subst, ◌∙◌, append_assoc}
 use Rattle.nla_frames.specs.Frame.{Frame, header}
-use Rattle.nla_frames.specs.Grammar.{Begins, Frames, Cut}
+use Rattle.nla_frames.specs.Grammar.{Begins, AreFrames, AreFramesAndRest}
 use Rattle.nla_frames.specs.Cutting.{Cutting, cut}
 use Rattle.nla_frames.specs.Place.{Sets}
 use Rattle.nla_frames.specs.Reading.{Reads, read_list}
@@ -27,19 +27,21 @@ Begins-append bytes f after more b = record {
 }
 
 -- more bytes after frames and a rest
-Cut-append : (bytes : List ℕ) (fs : List Frame) (rest more : List ℕ) → Cut bytes fs rest → Cut (bytes ++ more) fs (rest ++ more)
-Cut-append bytes [] rest more c = ap (λ (t : List ℕ). t ++ more) c
-Cut-append bytes (f ∷ fs) rest more c = (c.0 ++ more, Begins-append bytes f c.0 more c.1, Cut-append c.0 fs rest more c.2)
+AreFramesAndRest-append : (bytes : List ℕ) (fs : List Frame) (rest more : List ℕ) → AreFramesAndRest bytes fs rest
+    → AreFramesAndRest (bytes ++ more) fs (rest ++ more)
+AreFramesAndRest-append bytes [] rest more c = ap (λ (t : List ℕ). t ++ more) c
+AreFramesAndRest-append bytes (f ∷ fs) rest more c = (c.0 ++ more, Begins-append bytes f c.0 more c.1, AreFramesAndRest-append c.0 fs rest more c.2)
 
 -- frames, and the frames of their rest
-Cut-Cut : (bytes : List ℕ) (fs : List Frame) (rest : List ℕ) (gs : List Frame) (last : List ℕ) → Cut bytes fs rest → Cut rest gs last
-    → Cut bytes (fs ++ gs) last
-Cut-Cut bytes [] rest gs last c d = subst (λ (t : List ℕ). Cut t gs last) (sym c) d
-Cut-Cut bytes (f ∷ fs) rest gs last c d = (c.0, c.1, Cut-Cut c.0 fs rest gs last c.2 d)
+AreFramesAndRest-AreFramesAndRest : (bytes : List ℕ) (fs : List Frame) (rest : List ℕ) (gs : List Frame) (last : List ℕ) → AreFramesAndRest bytes fs rest
+    → AreFramesAndRest rest gs last
+    → AreFramesAndRest bytes (fs ++ gs) last
+AreFramesAndRest-AreFramesAndRest bytes [] rest gs last c d = subst (λ (t : List ℕ). AreFramesAndRest t gs last) (sym c) d
+AreFramesAndRest-AreFramesAndRest bytes (f ∷ fs) rest gs last c d = (c.0, c.1, AreFramesAndRest-AreFramesAndRest c.0 fs rest gs last c.2 d)
 
 -- one after the other
 pub InFull-append : (front back : List ℕ) (fs gs : List Frame) → InFull front fs → InFull back gs → InFull (front ++ back) (fs ++ gs)
-InFull-append front back fs gs c d = Cut-Cut (front ++ back) fs back gs [] (Cut-append front fs [] back c) d
+InFull-append front back fs gs c d = AreFramesAndRest-AreFramesAndRest (front ++ back) fs back gs [] (AreFramesAndRest-append front fs [] back c) d
 
 -- a frame in full before others and a rest
 Begins-parts : (bytes : List ℕ) (f : Frame) (front back : List ℕ) → Begins bytes f (front ++ back)
@@ -61,13 +63,13 @@ InFull-parts bytes (f ∷ fs) gs c =
     (first.0, others.1, first.1, (others.0, first.2, others.3), others.4)
 
 -- they are frames
-pub Frames-InFull : (bytes : List ℕ) (fs : List Frame) → InFull bytes fs → Frames bytes fs
-Frames-InFull bytes [] c = c
-Frames-InFull bytes (f ∷ fs) c = CutsUp-Begins bytes f c.0 fs None c.1 (Frames-InFull c.0 fs c.2)
+pub AreFrames-InFull : (bytes : List ℕ) (fs : List Frame) → InFull bytes fs → AreFrames bytes fs
+AreFrames-InFull bytes [] c = c
+AreFrames-InFull bytes (f ∷ fs) c = CutsUp-Begins bytes f c.0 fs None c.1 (AreFrames-InFull c.0 fs c.2)
 
 -- and all that is cut
 cut-InFull : (bytes : List ℕ) (fs : List Frame) → InFull bytes fs → cut bytes ≡ record { frames = fs; fault = None }
-cut-InFull bytes fs full = cut-is bytes fs None (Frames-InFull bytes fs full)
+cut-InFull bytes fs full = cut-is bytes fs None (AreFrames-InFull bytes fs full)
 
 -- a list of such frames reads as values exactly if the frames read as them in turn
 module _ {X : Type 0} (reads : Reads X) (sets : Sets Frame) (first bytes : List ℕ) (fs : List Frame) (full : InFull bytes fs) (xs : List X) where
@@ -77,7 +79,7 @@ module _ {X : Type 0} (reads : Reads X) (sets : Sets Frame) (first bytes : List 
       subst (λ (hs : List Frame). ReadInTurn reads sets first hs xs) same (ReadInTurn-ReadEach reads sets first gs xs each)
 
   pub ListReads-ReadInTurn : ReadInTurn reads sets first fs xs → ListReads reads sets first bytes xs
-  ListReads-ReadInTurn turn = (fs, Frames-InFull bytes fs full, ReadEach-ReadInTurn reads sets first fs xs turn)
+  ListReads-ReadInTurn turn = (fs, AreFrames-InFull bytes fs full, ReadEach-ReadInTurn reads sets first fs xs turn)
 
   -- what the function reads is in the grammar
   pub ListReads-function : read_list reads sets first bytes ≡ Ok xs → ListReads reads sets first bytes xs

@@ -3,8 +3,8 @@ use Rattle.std.proofs.Common.{◌≡◌, ℕ, Bool, true, false, ◌&&◌, List,
 use Rattle.std.specs.List.{flat_map, AllByRecursion}
 use Rattle.std.specs.Str.{bytes_eq}
 use Rattle.std.proofs.lemmas.Bool.{and_parts}
-use Rattle.tc_canon.specs.Descriptor.{Class, le, be, masked, array, raw, text, warning, presence, truth, fields, selector, pair, xstats, list_of, own_list,
-    Table, table, every, by_kind, Rows, others, types, unread, options, Kinds, unknown, kind, is_within}
+use Rattle.tc_canon.specs.Descriptor.{Class, le, be, masked, array, raw, text, warning, presence, truth, fields, selector, pair, xstats, list_of, own_list}
+use Rattle.tc_canon.specs.Descriptor.{Table, table, every, by_kind, Rows, others, types, unread, options, Kinds, unknown, kind, is_within}
 use Rattle.tc_canon.specs.Tables.Messages.{attributes}
 use Rattle.tc_meaning.specs.Tree.{Content, Attribute, known, of_kind}
 use Rattle.tc_meaning.specs.Meaning.{a_list}
@@ -95,7 +95,7 @@ mutual
   kinds_whole (kind own rows kinds) none name x =
       let a = and_parts (no_warning_rows rows) (no_warning_kinds kinds) none in
       pick_whole (bytes_eq name own) (parts_in_known (rows_parts rows) x) (kinds_parts kinds name x) (known_whole (rows_parts rows) (rows_whole rows a.0) x)
-          (kinds_whole kinds a.1 name x)
+      (kinds_whole kinds a.1 name x)
 
 -- the attributes of a traffic control message hold no warning
 none_in_attributes : no_warning_rows attributes ≡ true

@@ -13,14 +13,14 @@ use Rattle.nla_frames.specs.Codec.{Codec, IsWireValue, IsWireBytes, SettledEach,
 use Rattle.nla_frames.proofs.CutFrames.{IsWireFrame-cut}
 use Rattle.nla_frames.proofs.ReadEach.{ReadInTurn}
 use Rattle.nla_frames.proofs.ListLaws.{ReadInTurn-read_list, kind_then-same}
-use Rattle.tc_canon.specs.Descriptor.{Class, le, be, masked, array, raw, text, warning, presence, truth, fields, selector, pair, xstats, list_of, own_list,
-    Table, table, every, by_kind, Rows, others, types, unread, options, Kinds, unknown, kind, is_within, is_known}
+use Rattle.tc_canon.specs.Descriptor.{Class, le, be, masked, array, raw, text, warning, presence, truth, fields, selector, pair, xstats, list_of, own_list}
+use Rattle.tc_canon.specs.Descriptor.{Table, table, every, by_kind, Rows, others, types, unread, options, Kinds, unknown, kind, is_within, is_known}
 use Rattle.tc_canon.specs.Canonical.{CanonRows, CanonKinds}
 use Rattle.tc_meaning.specs.Tree.{Content, Attribute, known, kept, other, of_kind, number_of}
 use Rattle.tc_meaning.specs.Content.{via, a_number, some_bytes, a_record, flags_pair}
 use Rattle.tc_meaning.specs.Own.{kind_of_attribute, kind_before, kinds_set, own_codec}
-use Rattle.tc_meaning.specs.Meaning.{short, a_list, raw_frames, row_frames, unread_frames, options_frames, every_frame, kind_frames, choose, by_type,
-    class_codec, table_codec, rows_codec, kinds_codec}
+use Rattle.tc_meaning.specs.Meaning.{short, a_list, raw_frames, row_frames, unread_frames, options_frames, every_frame, kind_frames, choose, by_type}
+use Rattle.tc_meaning.specs.Meaning.{class_codec, table_codec, rows_codec, kinds_codec}
 use Rattle.tc_meaning.specs.Sound.{is_type, are_flags, is_free, starts_with_kind, is_sound_class, is_sound_table, is_sound_rows, is_sound_kinds}
 use Rattle.tc_laws.specs.Loose.{without_nuls}
 use Rattle.tc_laws.specs.Norm.{on, in_known, in_kind, trimmed_class, trimmed_table, trimmed_rows, trimmed_kinds}
@@ -33,9 +33,9 @@ use Rattle.tc_meaning.proofs.KindLaws.{KindLaws, bytes_eq-refl}
 use Rattle.tc_meaning.proofs.OwnLaws.{TellsKind, read_own-ok, told-set}
 use Rattle.tc_meaning.proofs.TableLaws.{rows_laws, kinds_laws, tells_rows}
 use Rattle.tc_laws.proofs.TrailingNuls.{without-ends}
-use Rattle.tc_laws.proofs.NextValues.{counted, mask-below}
-use Rattle.tc_laws.proofs.NextRows.{of_row, wire_value}
-use Rattle.tc_laws.proofs.NextTables.{settled-presence, settled-record, settled-xstats, same_kind}
+use Rattle.tc_laws.proofs.RewriteValues.{counted, mask-below}
+use Rattle.tc_laws.proofs.RewriteRows.{of_row, wire_value}
+use Rattle.tc_laws.proofs.RewriteTables.{settled-presence, settled-record, settled-xstats, same_kind}
 
 -- what is read is settled after the change
 abbrev pub NormSettled : {W X : Type 0} → (W → Type 0) → Codec W X → (X → X) → Type 0
@@ -57,16 +57,18 @@ norm_items c all law k v x w e =
 
 module _ {X : Type 0} (c : Codec Frame X) (all : X → X) (law : NormSettled IsWireFrame c all) (by_frame : Sets Frame) (by_value : Sets X)
     (agree : (kind : List ℕ) (f : Frame) (x : X) → IsWireFrame f → c.read kind f ≡ Ok x → by_frame f ≡ by_value x)
-        (stays : (x : X) → by_value (all x) ≡ by_value x) where
+    (stays : (x : X) → by_value (all x) ≡ by_value x) where
   norm-each : (k : List ℕ) (fs : List Frame) (xs : List X) → AllByRecursion IsWireFrame fs → ReadInTurn c.read by_frame k fs xs
       → SettledEach c.Settled by_value k (map all xs)
   norm-each k [] [] wire turn = tt
   norm-each k [] (x ∷ xs) wire turn = elim turn [ ]
   norm-each k (f ∷ fs) [] wire turn = elim turn [ ]
   norm-each k (f ∷ fs) (x ∷ xs) wire turn =
-      let then_same = kind_then-same by_frame by_value k f (all x) (agree k f x wire.0 turn.0 ∙ sym (stays x)) in
-      (law k f x wire.0 turn.0, subst (λ (name : List ℕ). SettledEach c.Settled by_value name (map all xs)) then_same
-          (norm-each (kind_then by_frame k f) fs xs wire.1 turn.1))
+      let then_same = kind_then-same by_frame by_value k f (all x) (agree k f x wire.0 turn.0 ∙ sym (stays x)) in (
+        law k f x wire.0 turn.0,
+        subst (λ (name : List ℕ). SettledEach c.Settled by_value name (map all xs)) then_same
+            (norm-each (kind_then by_frame k f) fs xs wire.1 turn.1),
+      )
 
   pub norm_list : NormSettled IsWireBytes (list_codec by_frame by_value c) (map all)
   norm_list k bytes xs w e = norm-each k (cut bytes).frames xs (IsWireFrame-cut bytes w.are_bytes) (ReadInTurn-read_list c.read by_frame k bytes xs e).1
@@ -161,7 +163,7 @@ norm_kind name own rest CanonRest rest_laws all own_law all' rest_law k f x w e 
     go true h e =
         let q = seen-ok (of_kind name) (own.read k f) x e in
         subst (λ (y : Attribute). (kind_frames name own rest).Settled k (in_kind (kind_or name all all') y)) q.2
-            (rw (bytes_eq-refl name) (h, own_law k f q.0 w q.1))
+        (rw (bytes_eq-refl name) (h, own_law k f q.0 w q.1))
     go false h e = elsewhere x h e
 
 -- ---- everything
@@ -183,13 +185,13 @@ mutual
   class_norm xstats sound = λ k v x w e. settled-xstats k v x e
   class_norm (list_of t) sound =
       norm_items (list_codec keep keep (table_codec t)) (map (trimmed_table without_nuls t))
-          (norm_list (table_codec t) (trimmed_table without_nuls t) (table_norm t sound) keep keep (λ k f x w e. refl) (λ x. refl))
+      (norm_list (table_codec t) (trimmed_table without_nuls t) (table_norm t sound) keep keep (λ k f x w e. refl) (λ x. refl))
   class_norm (own_list rows) sound =
       let s = and_parts (starts_with_kind rows) (is_sound_rows rows) sound in
       norm_items (own_codec (by_type (rows_codec rows))) (map (in_known (trimmed_rows without_nuls rows)))
       (norm_own (by_type (rows_codec rows)) (tells_rows rows s.0 (λ n. rows_laws rows s.1 n)) (in_known (trimmed_rows without_nuls rows))
       (norm_by_type (rows_codec rows) (CanonRows rows) (λ n. rows_laws rows s.1 n) (trimmed_rows without_nuls rows) (λ n. rows_norm rows s.1 n))
-          (same_kind without_nuls rows s.0))
+      (same_kind without_nuls rows s.0))
 
   pub table_norm : (t : Table) → is_sound_table t ≡ true → NormSettled IsWireFrame (table_codec t) (trimmed_table without_nuls t)
   table_norm (table rows) sound =
@@ -204,7 +206,7 @@ mutual
       let b = and_parts (are_flags flags) (is_sound_class class && is_sound_rows rows) a.1 in
       let c = and_parts (is_sound_class class) (is_sound_rows rows) b.1 in
       norm_choose n (is_within first last n) (row_frames (flags + n) n (class_codec class)) (rows_codec rows n) (trimmed_class without_nuls class)
-          (trimmed_rows without_nuls rows n)
+      (trimmed_rows without_nuls rows n)
       (λ within. norm_row (flags + n) n (class_codec class) (trimmed_class without_nuls class) (class_norm class c.0)) (rows_norm rows c.1 n)
   rows_norm (unread m class rows) sound n =
       let a = and_parts (is_type m) (is_free m rows && (is_sound_class class && is_sound_rows rows)) sound in
@@ -216,9 +218,9 @@ mutual
       let a = and_parts (is_type m) (is_sound_kinds kinds && is_sound_rows rows) sound in
       let b = and_parts (is_sound_kinds kinds) (is_sound_rows rows) a.1 in
       norm_choose n (eqb n m) (options_frames m kinds (via a_list (list_codec keep keep (kinds_codec kinds)))) (rows_codec rows n)
-          (on a_list (map (in_kind (trimmed_kinds without_nuls kinds)))) (trimmed_rows without_nuls rows n)
+      (on a_list (map (in_kind (trimmed_kinds without_nuls kinds)))) (trimmed_rows without_nuls rows n)
       (λ same. subst (λ (i : ℕ). NormRow i (options_frames m kinds (via a_list (list_codec keep keep (kinds_codec kinds))))
-          (on a_list (map (in_kind (trimmed_kinds without_nuls kinds))))) (sym (eqb-true n m same))
+      (on a_list (map (in_kind (trimmed_kinds without_nuls kinds))))) (sym (eqb-true n m same))
       (norm_options m kinds (via a_list (list_codec keep keep (kinds_codec kinds))) (on a_list (map (in_kind (trimmed_kinds without_nuls kinds))))
       (norm_items (list_codec keep keep (kinds_codec kinds)) (map (in_kind (trimmed_kinds without_nuls kinds)))
       (norm_list (kinds_codec kinds) (in_kind (trimmed_kinds without_nuls kinds)) (kinds_norm kinds b.0) keep keep (λ k f x w e. refl) (λ x. refl)))))
@@ -230,5 +232,5 @@ mutual
       let a = and_parts (is_sound_rows rows) (is_sound_kinds kinds) sound in
       norm_kind name (by_type (rows_codec rows)) (kinds_codec kinds) (CanonKinds kinds) (kinds_laws kinds a.1)
       (in_known (trimmed_rows without_nuls rows))
-          (norm_by_type (rows_codec rows) (CanonRows rows) (λ n. rows_laws rows a.0 n) (trimmed_rows without_nuls rows) (λ n. rows_norm rows a.0 n))
+      (norm_by_type (rows_codec rows) (CanonRows rows) (λ n. rows_laws rows a.0 n) (trimmed_rows without_nuls rows) (λ n. rows_norm rows a.0 n))
       (trimmed_kinds without_nuls kinds) (kinds_norm kinds a.1)

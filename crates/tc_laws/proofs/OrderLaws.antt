@@ -69,9 +69,9 @@ InFull-two front one two back fs f g gs a b c d =
 list-exchanges : {X : Type 0} (reads : Reads X) (kind : List ℕ) → Exchanges (ListReads reads keep kind)
 list-exchanges reads kind front one two back fs f g gs a b c d xs is =
     let turn = ReadInTurn-ListReads reads keep kind (front ++ (one ++ (two ++ back))) (fs ++ f ∷ g ∷ gs)
-            (InFull-two front one two back fs f g gs a b c d) xs is in
+    (InFull-two front one two back fs f g gs a b c d) xs is in
     ListReads-ReadInTurn reads keep kind (front ++ (two ++ (one ++ back))) (fs ++ g ∷ f ∷ gs) (InFull-two front two one back fs g f gs a c b d)
-        (exchanged (length fs) xs)
+    (exchanged (length fs) xs)
     (turn-exchanged reads kind fs f g gs xs turn)
 
 -- ---- lists under their own kind
@@ -98,7 +98,7 @@ OwnReads-InFull reads bytes fs xs full = (from, to)
     from : read_own reads bytes ≡ Ok xs → OwnReads reads bytes xs
     from e =
         let r = then-ok (seen kinds_found (read_list first_look keep [] bytes) >>= only_kind) (λ kind. read_list reads keep kind bytes) xs
-                (sym (read_own-look reads bytes) ∙ e) in
+        (sym (read_own-look reads bytes) ∙ e) in
         let q = then-ok (seen kinds_found (read_list first_look keep [] bytes)) only_kind r.0 r.1 in
         let p = seen-ok kinds_found (read_list first_look keep [] bytes) q.0 q.1 in
         record {
@@ -160,9 +160,9 @@ pub action-exchanges : (kind : List ℕ) (word : ℕ) → Exchanges (ReadsAction
 action-exchanges kind word front one two back fs f g gs a b c d xs is =
     let read = read_own read_action_attribute in
     let before = OwnReads-InFull read_action_attribute (front ++ (one ++ (two ++ back))) (fs ++ f ∷ g ∷ gs) xs
-            (InFull-two front one two back fs f g gs a b c d) in
+    (InFull-two front one two back fs f g gs a b c d) in
     let after = OwnReads-InFull read_action_attribute (front ++ (two ++ (one ++ back))) (fs ++ g ∷ f ∷ gs) (exchanged (length fs) xs)
-            (InFull-two front two one back fs g f gs a c b d) in
+    (InFull-two front two one back fs g f gs a c b d) in
     let own = before.0 ((read_of_seen (type_of word) (read (front ++ (one ++ (two ++ back)))) xs).0 is) in
     (read_of_seen (type_of word) (read (front ++ (two ++ (one ++ back)))) (exchanged (length fs) xs)).1
     (after.1 (own-exchanges read_action_attribute front one two back fs f g gs a b c d xs own))

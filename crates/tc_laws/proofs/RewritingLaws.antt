@@ -17,15 +17,15 @@ use Rattle.tc_laws.specs.Norm.{next, norm, norm_tc, norm_act}
 use Rattle.tc_laws.specs.Rewriting.{RewritesWith, SettlesAs, SettlesIn, EndsWith, TcSettlesIn}
 use Rattle.tc_meaning.proofs.MessageLaws.{one_message}
 use Rattle.tc_meaning.proofs.TableLaws.{table_laws}
-use Rattle.tc_meaning.proofs.Headline.{sound_attributes, sound_actions, tells_attributes, tc_laws, act_laws, canon-tc, canon-act, tc-reading, act-reading,
-    tc-typed, act-typed, tc-settled, act-settled}
+use Rattle.tc_meaning.proofs.MessageTheorems.{sound_attributes, sound_actions, tells_attributes, tc_laws, act_laws, canon-tc, canon-act, tc-reading}
+use Rattle.tc_meaning.proofs.MessageTheorems.{act-reading, tc-typed, act-typed, tc-settled, act-settled}
 use Rattle.tc_laws.proofs.TrimLaws.{message_trims, whole-most}
 use Rattle.tc_laws.proofs.NoWarnings.{tc_whole}
-use Rattle.tc_laws.proofs.NextValues.{NextLaws}
-use Rattle.tc_laws.proofs.NextTables.{same_kind}
-use Rattle.tc_laws.proofs.NextMessages.{message_next, message_norm}
-use Rattle.tc_laws.proofs.Settling.{none_loose, IsRead, canon-norm, canon-whole, is_read-next, norm-typed, norm-fits, rewrites-once, settles, settles-as,
-    same-settled}
+use Rattle.tc_laws.proofs.RewriteValues.{RewriteLaws}
+use Rattle.tc_laws.proofs.RewriteTables.{same_kind}
+use Rattle.tc_laws.proofs.RewriteMessages.{message_next, message_norm}
+use Rattle.tc_laws.proofs.Settling.{none_loose, IsRead, canon-norm, canon-whole, is_read-next, norm-typed, norm-fits, rewrites-once, settles, settles-as}
+use Rattle.tc_laws.proofs.Settling.{same-settled}
 
 -- the same laws, canonical said in other words
 in_words : (c : Codec (List ℕ) Message) (Canon Other : List ℕ → Type 0) → ((bytes : List ℕ) → Canon bytes ↔ Other bytes)
@@ -40,7 +40,7 @@ in_words c Canon Other words laws = record {
 
 module _ (by_frame : Sets Frame) (by_value : Sets Attribute) (layout : List Field) (rows : Rows) (Canon : List ℕ → Type 0)
     (laws : Laws IsWireBytes (message_codec by_frame by_value layout rows) (λ kind bytes. Canon bytes))
-    (r : NextLaws IsWireBytes length (message_codec by_frame by_value layout rows) (next rows) (message_parts rows)) where
+    (r : RewriteLaws IsWireBytes length (message_codec by_frame by_value layout rows) (next rows) (message_parts rows)) where
   -- reading is the grammar
   reads-is : (bytes : List ℕ) (m : Message) → IsWireBytes bytes → (read_with by_frame layout rows bytes ≡ Ok m) ↔ ReadsWith by_frame layout rows bytes m
   reads-is bytes m w = (one_message by_frame layout rows bytes w.are_bytes).reading m
@@ -71,7 +71,7 @@ module _ (by_frame : Sets Frame) (by_value : Sets Attribute) (layout : List Fiel
       → ReadsWith by_frame layout rows (message_bytes layout rows m) (next rows m)
   next-read bytes w m g f =
       let there = is_read-next (message_codec by_frame by_value layout rows) Canon laws (next rows) (norm rows) (message_parts rows) r
-              (message_trims rows) bytes m (is_read bytes m w g f) in
+      (message_trims rows) bytes m (is_read bytes m w g f) in
       (reads-is (message_bytes layout rows m) (next rows m) there.wire).0 there.reads
 
   pub canonical-next : (bytes : List ℕ) → IsWireBytes bytes → (m : Message) → ReadsWith by_frame layout rows bytes m → FitsMessage layout rows m
@@ -100,7 +100,7 @@ module _ (by_frame : Sets Frame) (by_value : Sets Attribute) (layout : List Fiel
       → c ≡ d
   one-way bytes w c d h h' =
       rewrites-once (message_codec by_frame by_value layout rows) Canon laws (next rows) (norm rows) (message_parts rows) r (message_trims rows)
-          (RewritesWith by_frame layout rows) (ReadsWith by_frame layout rows) reads-is rewrites-is bytes c d w h h'
+      (RewritesWith by_frame layout rows) (ReadsWith by_frame layout rows) reads-is rewrites-is bytes c d w h h'
 
   pub settles-in : (bytes : List ℕ) → IsWireBytes bytes → (m : Message) → ReadsWith by_frame layout rows bytes m → FitsMessage layout rows m → (Canon bytes → ⊥)
       → SettlesIn (RewritesWith by_frame layout rows) Canon (ReadsWith by_frame layout rows) (nuls rows m + 1) bytes (norm rows m)
@@ -108,21 +108,21 @@ module _ (by_frame : Sets Frame) (by_value : Sets Attribute) (layout : List Fiel
       let one : suc (nuls rows m) ≡ nuls rows m + 1 = omega arith in
       subst (λ (n : ℕ). SettlesIn (RewritesWith by_frame layout rows) Canon (ReadsWith by_frame layout rows) n bytes (norm rows m)) one
       (settles (message_codec by_frame by_value layout rows) Canon laws (next rows) (norm rows) (message_parts rows) r (message_trims rows)
-          (RewritesWith by_frame layout rows) (ReadsWith by_frame layout rows) reads-is rewrites-is bytes m (is_read bytes m w g f) not)
+      (RewritesWith by_frame layout rows) (ReadsWith by_frame layout rows) reads-is rewrites-is bytes m (is_read bytes m w g f) not)
 
   pub final-norm : (bytes : List ℕ) → IsWireBytes bytes → (m : Message) → ReadsWith by_frame layout rows bytes m → FitsMessage layout rows m
       → (final : List ℕ) × SettlesAs (RewritesWith by_frame layout rows) Canon bytes final × ReadsWith by_frame layout rows final (norm rows m)
   final-norm bytes w m g f =
       settles-as (message_codec by_frame by_value layout rows) Canon laws (next rows) (norm rows) (message_parts rows) r (message_trims rows)
-          (RewritesWith by_frame layout rows) (ReadsWith by_frame layout rows) reads-is rewrites-is bytes m (is_read bytes m w g f)
+      (RewritesWith by_frame layout rows) (ReadsWith by_frame layout rows) reads-is rewrites-is bytes m (is_read bytes m w g f)
 
   pub same-norm : (bytes bytes' : List ℕ) → IsWireBytes bytes → IsWireBytes bytes' → (m m' : Message) (final final' : List ℕ)
       → EndsWith by_frame layout rows Canon bytes m final → EndsWith by_frame layout rows Canon bytes' m' final'
-          → (final ≡ final') ↔ (norm rows m ≡ norm rows m')
+      → (final ≡ final') ↔ (norm rows m ≡ norm rows m')
   same-norm bytes bytes' w w' m m' final final' e e' =
       same-settled (message_codec by_frame by_value layout rows) Canon laws (next rows) (norm rows) (message_parts rows) r (message_trims rows)
       (RewritesWith by_frame layout rows) (ReadsWith by_frame layout rows) reads-is rewrites-is bytes bytes' final final' m m'
-          (is_read bytes m w e.reads e.fits) (is_read bytes' m' w' e'.reads e'.fits) e.settles e'.settles
+      (is_read bytes m w e.reads e.fits) (is_read bytes' m' w' e'.reads e'.fits) e.settles e'.settles
 
 -- ---- the two messages
 
@@ -132,12 +132,12 @@ tc_words = in_words (message_codec kind_of_frame kind_of_attribute tc_header att
 pub act_words : Laws IsWireBytes (message_codec keep keep action_message_header action_message_attributes) (λ kind bytes. CanonAct bytes)
 act_words = in_words (message_codec keep keep action_message_header action_message_attributes) _ CanonAct canon-act act_laws
 
-pub tc_next : NextLaws IsWireBytes length (message_codec kind_of_frame kind_of_attribute tc_header attributes) (next attributes) (message_parts attributes)
+pub tc_next : RewriteLaws IsWireBytes length (message_codec kind_of_frame kind_of_attribute tc_header attributes) (next attributes) (message_parts attributes)
 tc_next =
     message_next kind_of_frame kind_of_attribute tc_header attributes sound_attributes (table_laws (table attributes) sound_attributes)
     (λ kind f x w e. tells_attributes.agree kind f x e) (λ change. same_kind change attributes refl)
 
-pub act_next : NextLaws IsWireBytes length (message_codec keep keep action_message_header action_message_attributes) (next action_message_attributes)
+pub act_next : RewriteLaws IsWireBytes length (message_codec keep keep action_message_header action_message_attributes) (next action_message_attributes)
     (message_parts action_message_attributes)
 act_next =
     message_next keep keep action_message_header action_message_attributes sound_actions (table_laws (table action_message_attributes) sound_actions)
@@ -174,7 +174,7 @@ pub tc-settles : (bytes : List ℕ) → IsWireBytes bytes → (m : Message) → 
 tc-settles bytes w m g f not =
     let one : nuls attributes m + 1 ≡ 1 = let none = tc_nuls m in omega (arith, none) in
     subst (λ (n : ℕ). TcSettlesIn n bytes (norm_tc m)) one
-        (settles-in kind_of_frame kind_of_attribute tc_header attributes CanonTc tc_words tc_next bytes w m g f not)
+    (settles-in kind_of_frame kind_of_attribute tc_header attributes CanonTc tc_words tc_next bytes w m g f not)
 
 -- and what is written of it is canonical, and reads as its norm
 pub tc-written : (bytes : List ℕ) → IsWireBytes bytes → (m : Message) → ReadsTc bytes m → FitsTc m → CanonTc (tc_bytes m)
@@ -183,4 +183,4 @@ tc-written bytes w m g f = (canonical-next kind_of_frame kind_of_attribute tc_he
 pub tc-written_norm : (bytes : List ℕ) → IsWireBytes bytes → (m : Message) → ReadsTc bytes m → FitsTc m → ReadsTc (tc_bytes m) (norm_tc m)
 tc-written_norm bytes w m g f =
     subst (ReadsTc (tc_bytes m)) ((message_trims attributes).once m (tc_whole m))
-        (next-read kind_of_frame kind_of_attribute tc_header attributes CanonTc tc_words tc_next bytes w m g f)
+    (next-read kind_of_frame kind_of_attribute tc_header attributes CanonTc tc_words tc_next bytes w m g f)

@@ -6,10 +6,11 @@ use Rattle.nla_frames.specs.Fault.{read_as}
 use Rattle.nla_frames.specs.Codec.{Codec, Laws, IsWireBytes}
 use Rattle.tc_meaning.specs.Message.{Message}
 use Rattle.tc_laws.specs.Loose.{Part, is_loose_part}
-use Rattle.tc_laws.specs.Rewriting.{Rewrites, Times, SettlesAs, SettlesIn}
+use Rattle.tc_laws.specs.Rewriting.{Rewrites, RewritesTimes, SettlesAs, SettlesIn}
 use Rattle.tc_meaning.proofs.Outcomes.{ok-same}
-use Rattle.tc_laws.proofs.TrimLaws.{TrimLaws, most, most-whole, whole-most}
-use Rattle.tc_laws.proofs.NextValues.{NextLaws, IsSettledPart}
+use Rattle.tc_laws.proofs.MostNuls.{most}
+use Rattle.tc_laws.proofs.TrimLaws.{TrimLaws, most-whole, whole-most}
+use Rattle.tc_laws.proofs.RewriteValues.{RewriteLaws, IsSettledPart}
 
 -- no part is loose
 pub none_loose : (ps : List Part) → AllByRecursion IsSettledPart ps ↔ (list_any is_loose_part ps ≡ false)
@@ -22,7 +23,7 @@ none_loose (p ∷ ps) = go (is_loose_part p) refl (none_loose ps)
     go false e later = (λ all. later.0 all.1, λ no. (e, later.1 no))
 
 module _ (c : Codec (List ℕ) Message) (Canon : List ℕ → Type 0) (laws : Laws IsWireBytes c (λ kind bytes. Canon bytes))
-    (next norm : Message → Message) (parts : Message → List Part) (r : NextLaws IsWireBytes length c next parts) (trims : TrimLaws next norm parts) where
+    (next norm : Message → Message) (parts : Message → List Part) (r : RewriteLaws IsWireBytes length c next parts) (trims : TrimLaws next norm parts) where
   -- after so many rewritings, the message and the bytes that read as it
   after : Message → ℕ → Message
   after m zero = m
@@ -132,7 +133,7 @@ module _ (c : Codec (List ℕ) Message) (Canon : List ℕ → Type 0) (laws : La
         let same : a.0 ≡ b.0 = ok-same a.0 b.0 (sym ((reads-is bytes a.0 w).1 a.1) ∙ (reads-is bytes b.0 w).1 b.1) in
         a.3 ∙ ap c.write same ∙ sym b.3
 
-    reached : (bytes : List ℕ) (m : Message) → IsRead bytes m → (n : ℕ) → Times rewrites n bytes (bytes_after bytes m n)
+    reached : (bytes : List ℕ) (m : Message) → IsRead bytes m → (n : ℕ) → RewritesTimes rewrites n bytes (bytes_after bytes m n)
     unfolding bytes_after
     reached bytes m is zero = refl
     reached bytes m is (suc n) =
@@ -140,7 +141,8 @@ module _ (c : Codec (List ℕ) Message) (Canon : List ℕ → Type 0) (laws : La
         let reads = (reads-is (bytes_after bytes m n) (after m n) here.wire).0 here.reads in
         (bytes_after bytes m n, reached bytes m is n, (rewrites-is (bytes_after bytes m n) (c.write (after m n))).1 (after m n, reads, here.fits, refl))
 
-    reached-is : (bytes : List ℕ) (m : Message) → IsRead bytes m → (n : ℕ) (written : List ℕ) → Times rewrites n bytes written → written ≡ bytes_after bytes m n
+    reached-is : (bytes : List ℕ) (m : Message) → IsRead bytes m → (n : ℕ) (written : List ℕ) → RewritesTimes rewrites n bytes written
+        → written ≡ bytes_after bytes m n
     unfolding bytes_after reached
     reached-is bytes m is zero written h = h
     reached-is bytes m is (suc n) written h =
@@ -174,9 +176,11 @@ module _ (c : Codec (List ℕ) Message) (Canon : List ℕ → Type 0) (laws : La
     pub settles-as : (bytes : List ℕ) (m : Message) → IsRead bytes m → (final : List ℕ) × SettlesAs rewrites Canon bytes final × Reads final (norm m)
     unfolding last
     settles-as bytes m is =
-        let there = last-read bytes m is in
-        (last bytes m, record { count = suc (most (parts m)); reached = reached bytes m is (suc (most (parts m))); canonical = last-canon bytes m is },
-            (reads-is (last bytes m) (norm m) there.wire).0 there.reads)
+        let there = last-read bytes m is in (
+          last bytes m,
+          record { count = suc (most (parts m)); reached = reached bytes m is (suc (most (parts m))); canonical = last-canon bytes m is },
+          (reads-is (last bytes m) (norm m) there.wire).0 there.reads,
+        )
 
     -- what bytes settle as is the bytes of the norm, and reads as it
     pub record IsFinal (final : List ℕ) (m : Message) : Type 0 where

@@ -1,6 +1,6 @@
 -- The NULs at the end of a text: one taken off, and all.
-use Rattle.std.proofs.Common.{◌≡◌, ℕ, zero, suc, ◌-◌, ◌<◌, ◌≤◌, Bool, true, false, List, [], ◌∷◌, ◌++◌, length, take, get_or, cond, eqb, refl, sym, ap, subst,
-    ◌∙◌, arith}
+use Rattle.std.proofs.Common.{◌≡◌, ℕ, zero, suc, ◌-◌, ◌<◌, ◌≤◌, Bool, true, false, List, [], ◌∷◌, ◌++◌, length, take, get_or, cond, eqb, refl, sym, ap, subst}
+use Rattle.std.proofs.Common.{◌∙◌, arith}
 use Rattle.std.specs.Str.{is_utf8, IsUtf8}
 use Rattle.std.proofs.lemmas.Bool.{eqb-true}
 use Rattle.std.proofs.lemmas.List.{length-take, take_at}
@@ -129,6 +129,6 @@ utf8-strip text u = go (ends_in_nul text) refl
         let seam = ends-seam text e in
         let edge = IsCharBoundary-at_seam text (strip text) (0 ∷ []) seam nul_utf8 in
         let front : take (length (strip text)) text ≡ strip text =
-                ap (take (length (strip text))) seam ∙ take_at (strip text) (0 ∷ []) (length (strip text)) refl in
+        ap (take (length (strip text))) seam ∙ take_at (strip text) (0 ∷ []) (length (strip text)) refl in
         is_utf8-from_IsUtf8 (strip text) (subst IsUtf8 front (IsUtf8-take text (length (strip text)) (IsUtf8-from_is_utf8 text u) edge))
     go false e = rw (strip-none text e) u

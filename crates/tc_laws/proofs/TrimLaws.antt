@@ -1,35 +1,28 @@
 -- What one rewriting and all rewritings make of a value: one NUL less at the end of each warning, and none.
-use Rattle.std.proofs.Common.{◌≡◌, ◌⊎◌, ℕ, ◌-◌, ◌%◌, ◌^◌, ◌<◌, ◌≤◌, Bool, true, false, List, [], ◌∷◌, ◌++◌, map, cond, eqb, refl, sym, ap, ap₂, ◌∙◌, arith, inl,
-    inr, pow_pos, mod-eq_of_lt}
+use Rattle.std.proofs.Common.{◌≡◌, ◌⊎◌, ℕ, ◌-◌, ◌%◌, ◌^◌, ◌<◌, ◌≤◌, Bool, true, false, List, [], ◌∷◌, ◌++◌, map, cond, eqb, refl, sym, ap, ap₂, ◌∙◌, arith, inl}
+use Rattle.std.proofs.Common.{inr, pow_pos, mod-eq_of_lt}
 use Rattle.std.specs.List.{flat_map, AllByRecursion}
 use Rattle.std.specs.Str.{bytes_eq}
-use Rattle.std.proofs.lemmas.Bool.{cases_lt, lt-ltb, le-ltb}
 use Rattle.nla_frames.specs.Value.{ends_in_nul, strip}
-use Rattle.tc_canon.specs.Descriptor.{Class, le, be, masked, array, raw, text, warning, presence, truth, fields, selector, pair, xstats, list_of, own_list,
-    Table, table, every, by_kind, Rows, others, types, unread, options, Kinds, unknown, kind, is_within}
+use Rattle.tc_canon.specs.Descriptor.{Class, le, be, masked, array, raw, text, warning, presence, truth, fields, selector, pair, xstats, list_of, own_list}
+use Rattle.tc_canon.specs.Descriptor.{Table, table, every, by_kind, Rows, others, types, unread, options, Kinds, unknown, kind, is_within}
 use Rattle.tc_meaning.specs.Tree.{Content, number, is_bytes, Attribute, known, kept, other, of_kind}
 use Rattle.tc_meaning.specs.Content.{a_number, some_bytes}
 use Rattle.tc_meaning.specs.Meaning.{a_list}
 use Rattle.tc_meaning.specs.Message.{Message}
-use Rattle.tc_laws.specs.Loose.{Part, masked_number, warning_text, parts_in_known, parts_in_kind, class_parts, table_parts, rows_parts, kinds_parts,
-    message_parts, without_nuls, trailing_nuls, part_nuls, greater, greatest}
+use Rattle.tc_laws.specs.Loose.{Part, masked_number, warning_text, parts_in_known, parts_in_kind, class_parts, table_parts, rows_parts, kinds_parts}
+use Rattle.tc_laws.specs.Loose.{message_parts, without_nuls, trailing_nuls, part_nuls, greater}
 use Rattle.tc_laws.specs.Norm.{on, in_known, in_kind, trimmed_class, trimmed_table, trimmed_rows, trimmed_kinds, norm, next}
 use Rattle.tc_meaning.proofs.Trees.{attributes_again}
+use Rattle.tc_laws.proofs.MostNuls.{greater-cases, greater-nothing, most, most-append}
 use Rattle.tc_laws.proofs.TrailingNuls.{without-strip, without-none, none-ends, ends-none, trailing-strip}
 use Rattle.tc_meaning.proofs.Texts.{strip-none}
 
 -- ---- numbers
 
-greater-cases : (m n : ℕ) → ((m < n) × (greater m n ≡ n)) ⊎ ((n ≤ m) × (greater m n ≡ m))
-greater-cases m n = go (cases_lt m n)
-  where
-    go : (m < n) ⊎ (n ≤ m) → ((m < n) × (greater m n ≡ n)) ⊎ ((n ≤ m) × (greater m n ≡ m))
-    go (inl less) = inl (less, rw (lt-ltb m n less) refl)
-    go (inr more) = inr (more, rw (le-ltb m n more) refl)
-
 -- both one less
-greater-less : (m n : ℕ) → greater (m - 1) (n - 1) ≡ greater m n - 1
-greater-less m n = go (greater-cases m n) (greater-cases (m - 1) (n - 1))
+greater-one_less : (m n : ℕ) → greater (m - 1) (n - 1) ≡ greater m n - 1
+greater-one_less m n = go (greater-cases m n) (greater-cases (m - 1) (n - 1))
   where
     go : ((m < n) × (greater m n ≡ n)) ⊎ ((n ≤ m) × (greater m n ≡ m))
         → ((m - 1 < n - 1) × (greater (m - 1) (n - 1) ≡ n - 1)) ⊎ ((n - 1 ≤ m - 1) × (greater (m - 1) (n - 1) ≡ m - 1))
@@ -38,24 +31,6 @@ greater-less m n = go (greater-cases m n) (greater-cases (m - 1) (n - 1))
     go (inl a) (inr b) = omega (arith, a.0, a.1, b.0, b.1)
     go (inr a) (inl b) = omega (arith, a.0, a.1, b.0, b.1)
     go (inr a) (inr b) = omega (arith, a.0, a.1, b.0, b.1)
-
-greater-nothing : (n : ℕ) → greater n 0 ≡ n
-greater-nothing n = go (greater-cases n 0)
-  where
-    go : ((n < 0) × (greater n 0 ≡ 0)) ⊎ ((0 ≤ n) × (greater n 0 ≡ n)) → greater n 0 ≡ n
-    go (inl a) = absurd (omega (arith, a.0))
-    go (inr a) = a.1
-
--- of several, two by two
-greater-again : (k m n : ℕ) → greater k (greater m n) ≡ greater (greater k m) n
-greater-again k m n = go (greater-cases m n) (greater-cases k m)
-  where
-    go : ((m < n) × (greater m n ≡ n)) ⊎ ((n ≤ m) × (greater m n ≡ m)) → ((k < m) × (greater k m ≡ m)) ⊎ ((m ≤ k) × (greater k m ≡ k))
-        → greater k (greater m n) ≡ greater (greater k m) n
-    go (inl a) (inl b) = rw (a.1, b.1, a.1) (rw (lt-ltb k n (omega (arith, a.0, b.0))) refl)
-    go (inl a) (inr b) = rw (a.1, b.1) refl
-    go (inr a) (inl b) = rw (a.1, b.1, a.1) refl
-    go (inr a) (inr b) = rw (a.1, b.1) (rw (le-ltb k n (omega (arith, a.0, b.0))) refl)
 
 pub mask-again : (bits x : ℕ) → (x % 2 ^ bits) % 2 ^ bits ≡ x % 2 ^ bits
 mask-again bits x = let p : 0 < 2 ^ bits = pow_pos bits in let below : x % 2 ^ bits < 2 ^ bits = omega arith in mod-eq_of_lt below
@@ -66,18 +41,6 @@ mask-again bits x = let p : 0 < 2 ^ bits = pow_pos bits in let below : x % 2 ^ b
 abbrev pub IsWhole : Part → Type 0
 IsWhole (masked_number bits x) = Unit {0}
 IsWhole (warning_text t) = ends_in_nul t ≡ false
-
--- the most NULs that end one of these
-abbrev pub most : List Part → ℕ
-most parts = greatest (map part_nuls parts)
-
-most-append : (ps qs : List Part) → most (ps ++ qs) ≡ greater (most ps) (most qs)
-most-append [] qs = go (greater-cases 0 (most qs))
-  where
-    go : ((0 < most qs) × (greater 0 (most qs) ≡ most qs)) ⊎ ((most qs ≤ 0) × (greater 0 (most qs) ≡ 0)) → most qs ≡ greater 0 (most qs)
-    go (inl a) = sym a.1
-    go (inr a) = omega (arith, a.0, a.1)
-most-append (p ∷ ps) qs = ap (greater (part_nuls p)) (most-append ps qs) ∙ greater-again (part_nuls p) (most ps) (most qs)
 
 -- no NUL is left exactly if each is whole
 pub most-whole : (ps : List Part) → most ps ≡ 0 → AllByRecursion IsWhole ps
@@ -156,7 +119,7 @@ each_trim {X = X} one all parts laws = record { once = once_each; twice = twice_
     left_each (x ∷ xs) =
         most-append (parts (one x)) (flat_map parts (map one xs))
         ∙ ap₂ greater (laws.left x) (left_each xs)
-        ∙ greater-less (most (parts x)) (most (flat_map parts xs))
+        ∙ greater-one_less (most (parts x)) (most (flat_map parts xs))
         ∙ ap (λ (n : ℕ). n - 1) (sym (most-append (parts x) (flat_map parts xs)))
 
 -- a list as a content
@@ -240,7 +203,7 @@ mutual
   class_trims (list_of t) = items_trim (trimmed_table strip t) (trimmed_table without_nuls t) (table_parts t) (table_trims t)
   class_trims (own_list rows) =
       items_trim (in_known (trimmed_rows strip rows)) (in_known (trimmed_rows without_nuls rows)) (parts_in_known (rows_parts rows))
-          (known_trim (trimmed_rows strip rows) (trimmed_rows without_nuls rows) (rows_parts rows) (λ n. rows_trims rows n))
+      (known_trim (trimmed_rows strip rows) (trimmed_rows without_nuls rows) (rows_parts rows) (λ n. rows_trims rows n))
 
   pub table_trims : (t : Table) → TrimLaws (trimmed_table strip t) (trimmed_table without_nuls t) (table_parts t)
   table_trims (table rows) = known_trim (trimmed_rows strip rows) (trimmed_rows without_nuls rows) (rows_parts rows) (λ n. rows_trims rows n)
@@ -252,23 +215,23 @@ mutual
   rows_trims others n = same_trim
   rows_trims (types first last flags class rows) n =
       pick_trim (is_within first last n) (trimmed_class strip class) (trimmed_class without_nuls class) (trimmed_rows strip rows n)
-          (trimmed_rows without_nuls rows n) (class_parts class) (rows_parts rows n) (class_trims class) (rows_trims rows n)
+      (trimmed_rows without_nuls rows n) (class_parts class) (rows_parts rows n) (class_trims class) (rows_trims rows n)
   rows_trims (unread m class rows) n =
       pick_trim (eqb n m) (trimmed_class strip class) (trimmed_class without_nuls class) (trimmed_rows strip rows n) (trimmed_rows without_nuls rows n)
-          (class_parts class) (rows_parts rows n) (class_trims class) (rows_trims rows n)
+      (class_parts class) (rows_parts rows n) (class_trims class) (rows_trims rows n)
   rows_trims (options m kinds rows) n =
       pick_trim (eqb n m) (on a_list (map (in_kind (trimmed_kinds strip kinds)))) (on a_list (map (in_kind (trimmed_kinds without_nuls kinds))))
-          (trimmed_rows strip rows n) (trimmed_rows without_nuls rows n)
+      (trimmed_rows strip rows n) (trimmed_rows without_nuls rows n)
       (λ x. flat_map (parts_in_kind (kinds_parts kinds)) (a_list.out x)) (rows_parts rows n)
       (items_trim (in_kind (trimmed_kinds strip kinds)) (in_kind (trimmed_kinds without_nuls kinds)) (parts_in_kind (kinds_parts kinds))
-          (kind_trim (trimmed_kinds strip kinds) (trimmed_kinds without_nuls kinds) (kinds_parts kinds) (λ name. kinds_trims kinds name)))
+      (kind_trim (trimmed_kinds strip kinds) (trimmed_kinds without_nuls kinds) (kinds_parts kinds) (λ name. kinds_trims kinds name)))
       (rows_trims rows n)
 
   kinds_trims : (kinds : Kinds) (name : List ℕ) → TrimLaws (trimmed_kinds strip kinds name) (trimmed_kinds without_nuls kinds name) (kinds_parts kinds name)
   kinds_trims unknown name = record { once = λ x w. refl; twice = λ x. refl; left = λ x. refl }
   kinds_trims (kind own rows kinds) name =
       pick_trim (bytes_eq name own) (in_known (trimmed_rows strip rows)) (in_known (trimmed_rows without_nuls rows)) (trimmed_kinds strip kinds name)
-          (trimmed_kinds without_nuls kinds name) (parts_in_known (rows_parts rows)) (kinds_parts kinds name)
+      (trimmed_kinds without_nuls kinds name) (parts_in_known (rows_parts rows)) (kinds_parts kinds name)
       (known_trim (trimmed_rows strip rows) (trimmed_rows without_nuls rows) (rows_parts rows) (λ n. rows_trims rows n)) (kinds_trims kinds name)
 
 -- ---- of a message

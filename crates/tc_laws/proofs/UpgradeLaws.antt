@@ -1,6 +1,6 @@
 -- The upgrade of one attribute, of a list and of a message, and what version 1 and version 2 read of the same bytes.
-use Rattle.std.proofs.Common.{◌≡◌, ◌⊎◌, ◌↔◌, ℕ, zero, suc, ◌≤◌, Bool, true, false, not, List, [], ◌∷◌, ◌++◌, length, take, slice_get, Some, Ok, Err, cond, eqb,
-    refl, sym, ap, ap₂, subst, ◌∙◌, arith, inl, inr}
+use Rattle.std.proofs.Common.{◌≡◌, ◌⊎◌, ◌↔◌, ℕ, zero, suc, ◌≤◌, Bool, true, false, not, List, [], ◌∷◌, ◌++◌, length, take, slice_get, Some, Ok, Err, cond, eqb}
+use Rattle.std.proofs.Common.{refl, sym, ap, ap₂, subst, ◌∙◌, arith, inl, inr}
 use Rattle.std.proofs.lemmas.Bool.{and_parts, eqb-true, not-true}
 use Rattle.std.proofs.lemmas.List.{length-append, append-nil}
 use Rattle.std.specs.List.{AllByRecursion}
@@ -26,7 +26,7 @@ use Rattle.tc_meaning.specs.Whole.{TypedTc, FitsTc, SettledTc}
 use Rattle.tc_laws.specs.FirstVersion.{are_unknown_options, lone_option, read_attribute1, upgrade_attribute, upgrade_each, upgrade, WasRead, IsUpgrade}
 use Rattle.tc_meaning.proofs.Outcomes.{ok-same}
 use Rattle.tc_meaning.proofs.TableLaws.{rows_laws}
-use Rattle.tc_meaning.proofs.Headline.{tells_attributes}
+use Rattle.tc_meaning.proofs.MessageTheorems.{tells_attributes}
 
 -- an attribute of a message, as version 2 reads and writes it
 abbrev pub attribute : Codec Frame Attribute

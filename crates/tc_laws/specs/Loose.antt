@@ -4,8 +4,8 @@ use Rattle.std.specs.Prelude.{ℕ, ◌-◌, ◌^◌, Bool, List, [], ◌∷◌, 
 use Rattle.std.specs.Str.{bytes_eq}
 use Rattle.std.specs.List.{flat_map, list_any}
 use Rattle.nla_frames.specs.Value.{ends_in_nul}
-use Rattle.tc_canon.specs.Descriptor.{Class, masked, warning, list_of, own_list, Table, table, every, by_kind, Rows, others, types, unread, options, Kinds,
-    unknown, kind, is_within}
+use Rattle.tc_canon.specs.Descriptor.{Class, masked, warning, list_of, own_list, Table, table, every, by_kind, Rows, others, types, unread, options, Kinds}
+use Rattle.tc_canon.specs.Descriptor.{unknown, kind, is_within}
 use Rattle.tc_canon.specs.Tables.Messages.{attributes, action_message_attributes}
 use Rattle.tc_meaning.specs.Tree.{Content, Attribute, known, of_kind}
 use Rattle.tc_meaning.specs.Content.{a_number, some_bytes}

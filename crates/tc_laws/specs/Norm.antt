@@ -2,8 +2,8 @@
 use Rattle.std.specs.Prelude.{ℕ, ◌%◌, ◌^◌, List, map, ◌==◌, if◌then◌else◌}
 use Rattle.std.specs.Str.{bytes_eq}
 use Rattle.nla_frames.specs.Value.{strip}
-use Rattle.tc_canon.specs.Descriptor.{Class, masked, warning, list_of, own_list, Table, table, every, by_kind, Rows, others, types, unread, options, Kinds,
-    unknown, kind, is_within}
+use Rattle.tc_canon.specs.Descriptor.{Class, masked, warning, list_of, own_list, Table, table, every, by_kind, Rows, others, types, unread, options, Kinds}
+use Rattle.tc_canon.specs.Descriptor.{unknown, kind, is_within}
 use Rattle.tc_canon.specs.Tables.Messages.{attributes, action_message_attributes}
 use Rattle.tc_meaning.specs.Tree.{Content, Attribute, known, of_kind}
 use Rattle.tc_meaning.specs.Content.{Shape, a_number, some_bytes}

@@ -1,7 +1,7 @@
 -- Two neighbouring frames of a list exchanged, where all frames are padded in full.
 use Rattle.std.specs.Prelude.{◌≡◌, ℕ, zero, suc, List, [], ◌∷◌, ◌++◌, length, Ok}
 use Rattle.nla_frames.specs.Frame.{Frame, type_of}
-use Rattle.nla_frames.specs.Grammar.{Cut}
+use Rattle.nla_frames.specs.Grammar.{AreFramesAndRest}
 use Rattle.nla_frames.specs.Reading.{Reads}
 use Rattle.tc_canon.specs.Descriptor.{own_list, every}
 use Rattle.tc_canon.specs.Tables.Actions.{action_attributes}
@@ -10,7 +10,7 @@ use Rattle.tc_meaning.specs.Meaning.{table_codec, by_type, rows_codec}
 
 -- the bytes are these frames, each with its padding in full, whatever it holds
 abbrev pub InFull : List ℕ → List Frame → Type 0
-InFull bytes fs = Cut bytes fs []
+InFull bytes fs = AreFramesAndRest bytes fs []
 
 -- the elements at a place and right after it, exchanged
 abbrev pub exchanged : {X : Type 0} → ℕ → List X → List X

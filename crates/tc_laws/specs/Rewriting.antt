@@ -21,9 +21,9 @@ abbrev pub Rewrites : Type 1
 Rewrites = List ℕ → List ℕ → Type 0
 
 -- so many times, one after the other
-abbrev pub Times : Rewrites → ℕ → List ℕ → List ℕ → Type 0
-Times rewrites zero bytes written = written ≡ bytes
-Times rewrites (suc n) bytes written = (between : List ℕ) × Times rewrites n bytes between × rewrites between written
+abbrev pub RewritesTimes : Rewrites → ℕ → List ℕ → List ℕ → Type 0
+RewritesTimes rewrites zero bytes written = written ≡ bytes
+RewritesTimes rewrites (suc n) bytes written = (between : List ℕ) × RewritesTimes rewrites n bytes between × rewrites between written
 
 abbrev pub RewritesTc : Rewrites
 RewritesTc = RewritesWith kind_of_frame tc_header attributes
@@ -34,17 +34,17 @@ RewritesAct = RewritesWith keep action_message_header action_message_attributes
 -- after some rewrites the bytes are canonical, and these are they
 pub record SettlesAs (rewrites : Rewrites) (Canon : List ℕ → Type 0) (bytes final : List ℕ) : Type 0 where
   pub count : ℕ
-  pub reached : Times rewrites count bytes final
+  pub reached : RewritesTimes rewrites count bytes final
   pub canonical : Canon final
 
 -- after so many rewrites, and no sooner, the bytes are canonical, and they read as this message
 pub record SettlesIn (rewrites : Rewrites) (Canon : List ℕ → Type 0) (Reads : List ℕ → Message → Type 0) (count : ℕ) (bytes : List ℕ)
     (m : Message) : Type 0 where
   pub final : List ℕ
-  pub reached : Times rewrites count bytes final
+  pub reached : RewritesTimes rewrites count bytes final
   pub canonical : Canon final
   pub reads : Reads final m
-  pub no_sooner : (n : ℕ) (written : List ℕ) → n < count → Times rewrites n bytes written → Canon written → ⊥
+  pub no_sooner : (n : ℕ) (written : List ℕ) → n < count → RewritesTimes rewrites n bytes written → Canon written → ⊥
 
 abbrev pub TcSettlesIn : ℕ → List ℕ → Message → Type 0
 TcSettlesIn = SettlesIn RewritesTc CanonTc ReadsTc

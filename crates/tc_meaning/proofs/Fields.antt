@@ -1,15 +1,15 @@
 -- The laws of records, for every layout at once.
-use Rattle.std.proofs.Common.{◌≡◌, ◌↔◌, ℕ, ◌+◌, ◌^◌, ◌<◌, ◌≤◌, Bool, true, false, List, [], ◌∷◌, ◌++◌, length, take, drop, replicate, reverse, Ok, cond, ltb,
-    refl, sym, ap, subst, ◌∙◌, arith, append_assoc}
-use Rattle.std.proofs.lemmas.List.{length-append, length-replicate, length-reverse, reverse-reverse, length-drop, take_at, drop_at, take-append-drop,
-    length-take-le, take-append-le, drop-append-le, append-nil, nil_from_length}
+use Rattle.std.proofs.Common.{◌≡◌, ◌↔◌, ℕ, ◌+◌, ◌^◌, ◌<◌, ◌≤◌, Bool, true, false, List, [], ◌∷◌, ◌++◌, length, take, drop, replicate, reverse, Ok, cond, ltb}
+use Rattle.std.proofs.Common.{refl, sym, ap, subst, ◌∙◌, arith, append_assoc}
+use Rattle.std.proofs.lemmas.List.{length-append, length-replicate, length-reverse, reverse-reverse, length-drop, take_at, drop_at, take-append-drop}
+use Rattle.std.proofs.lemmas.List.{length-take-le, take-append-le, drop-append-le, append-nil, nil_from_length}
 use Rattle.std.proofs.lemmas.Bool.{ltb-false, le-ltb}
 use Rattle.nla_frames.specs.Fault.{read_as}
 use Rattle.nla_frames.specs.declared.error.DecodeError.TheVariants.{BufferTooSmall}
 use Rattle.nla_frames.specs.Value.{IsBytes, le_bytes, le_value}
 use Rattle.nla_frames.specs.Codec.{Laws}
-use Rattle.nla_frames.proofs.Bytes.{IsBytes-nil, IsBytes-append, IsBytes-take, IsBytes-drop, IsBytes-replicate, IsBytes-le_bytes, length-le_bytes,
-    le_value-le_bytes, le_value_below, le_bytes-le_value}
+use Rattle.nla_frames.proofs.Bytes.{IsBytes-nil, IsBytes-append, IsBytes-take, IsBytes-drop, IsBytes-replicate, IsBytes-le_bytes, length-le_bytes}
+use Rattle.nla_frames.proofs.Bytes.{le_value-le_bytes, le_value_below, le_bytes-le_value}
 use Rattle.tc_canon.specs.Descriptor.{Field, little, big, named, octets, pad, fields}
 use Rattle.tc_canon.specs.Canonical.{PadsZero, CanonFields, CanonClass}
 use Rattle.tc_canon.specs.Layouts.{width, size_of}
@@ -113,9 +113,10 @@ rest-long f m v long = rw length-drop (omega arith)
 
 pub typed-fields : (fs : List Field) (v : List ℕ) → IsBytes v → size_of fs ≤ length v → TypedFields fs (read_fields fs v)
 typed-fields [] v w long = tt
-typed-fields (f ∷ fs) v w long =
-    (typed-field f (take (width f) v) (front-wire f (size_of fs) v w long),
-        typed-fields fs (drop (width f) v) (IsBytes-drop (width f) v w) (rest-long f (size_of fs) v long))
+typed-fields (f ∷ fs) v w long = (
+  typed-field f (take (width f) v) (front-wire f (size_of fs) v w long),
+  typed-fields fs (drop (width f) v) (IsBytes-drop (width f) v w) (rest-long f (size_of fs) v long),
+)
 
 -- two lists that begin the same
 cons-parts : {X : Type 0} (x y : X) (xs ys : List X) → x ∷ xs ≡ y ∷ ys → (x ≡ y) × (xs ≡ ys)
@@ -146,7 +147,7 @@ back-fields (f ∷ fs) (x ∷ xs) more t = go (back-field f x t.0) (back-fields 
 
     go : (read_field f front ≡ x) ↔ SettledField f x → (read_fields fs (others ++ more) ≡ xs) ↔ SettledFields fs xs
         → (read_field f (take (width f) ((front ++ others) ++ more)) ∷ read_fields fs (drop (width f) ((front ++ others) ++ more)) ≡ x ∷ xs)
-            ↔ (SettledField f x × SettledFields fs xs)
+        ↔ (SettledField f x × SettledFields fs xs)
     go one others_back = (
       (λ e.
           let parts = cons-parts _ _ _ _ e in
@@ -216,7 +217,7 @@ read_fields-append (f ∷ fs) v more long =
 pub read_fields-take : (fs : List Field) (v : List ℕ) → size_of fs ≤ length v → read_fields fs v ≡ read_fields fs (take (size_of fs) v)
 read_fields-take fs v long =
     ap (read_fields fs) (sym (take-append-drop (size_of fs) v))
-        ∙ read_fields-append fs (take (size_of fs) v) (drop (size_of fs) v) (rw (length-take-le (size_of fs) v long) (omega arith))
+    ∙ read_fields-append fs (take (size_of fs) v) (drop (size_of fs) v) (rw (length-take-le (size_of fs) v long) (omega arith))
 
 -- ---- records
 
@@ -246,7 +247,7 @@ fields_laws fs = record {
     back_to : (x : List Scalar) → TypedFields fs x → SettledFields fs x → read_record fs (fields_bytes fs x) ≡ Ok x
     back_to x t s =
         read_record-long fs (fields_bytes fs x) (omega (arith, length-fields_bytes fs x t))
-            ∙ ap (λ (y : List Scalar). read_as y) (again x ((back-fields fs x [] t).1 s))
+        ∙ ap (λ (y : List Scalar). read_as y) (again x ((back-fields fs x [] t).1 s))
 
     same_from : (v : List ℕ) (x : List Scalar) → IsBytes v → read_record fs v ≡ Ok x → fields_bytes fs x ≡ v → CanonFields fs v
     same_from v x w e s =

@@ -6,13 +6,13 @@ use Rattle.nla_frames.specs.Frame.{Frame}
 use Rattle.nla_frames.specs.Emission.{ListFits, list_bytes}
 use Rattle.nla_frames.specs.Codec.{Codec, list_codec}
 use Rattle.nla_frames.specs.Reading.{keep}
-use Rattle.tc_canon.specs.Descriptor.{Class, le, be, masked, array, raw, text, warning, presence, truth, fields, selector, pair, xstats, list_of, own_list,
-    Table, table, every, by_kind, Rows, others, types, unread, options, Kinds, unknown, kind, is_within, Field}
+use Rattle.tc_canon.specs.Descriptor.{Class, le, be, masked, array, raw, text, warning, presence, truth, fields, selector, pair, xstats, list_of, own_list}
+use Rattle.tc_canon.specs.Descriptor.{Table, table, every, by_kind, Rows, others, types, unread, options, Kinds, unknown, kind, is_within, Field}
 use Rattle.tc_canon.specs.Layouts.{size_of}
 use Rattle.tc_meaning.specs.Tree.{Content, Attribute, known, kept, other, of_kind, number_of}
 use Rattle.tc_meaning.specs.Content.{via, a_selector, key_count}
-use Rattle.tc_meaning.specs.Meaning.{a_list, as_it_stands, IsShort, raw_frames, row_frames, every_frame, choose, by_type, kind_frames, class_codec, table_codec,
-    rows_codec, kinds_codec}
+use Rattle.tc_meaning.specs.Meaning.{a_list, as_it_stands, IsShort, raw_frames, row_frames, every_frame, choose, by_type, kind_frames, class_codec, table_codec}
+use Rattle.tc_meaning.specs.Meaning.{rows_codec, kinds_codec}
 use Rattle.tc_meaning.specs.Message.{Message, FitsMessage}
 use Rattle.tc_meaning.proofs.Telling.{Told, told_always, told_never, told_le, told_lt, told_eq, told_both, told_as, told_each, told_match}
 
@@ -26,7 +26,7 @@ short_told value = told_le (length value) 65531
 list_told : (c : Codec Frame Attribute) → Tells c → (xs : List Attribute) → Told (ListFits c.Fits c.write xs)
 list_told c each xs =
     told_as (λ h. record { each = h.0; whole = h.1 }, λ h. (h.each, h.whole))
-        (told_both (told_each c.Fits each xs) (told_lt (length (list_bytes c.write xs)) (2 ^ 64)))
+    (told_both (told_each c.Fits each xs) (told_lt (length (list_bytes c.write xs)) (2 ^ 64)))
 
 row_tells : (word n : ℕ) (c : Codec (List ℕ) Content) → Tells c → Tells (row_frames word n c)
 row_tells word n c each (known m content) = told_both (each content) (short_told (c.write content))
@@ -83,7 +83,7 @@ mutual
   rows_tells (unread m class rows) n = choose_tells (n == m) _ _ (row_tells m m (class_codec class) (class_tells class)) (rows_tells rows n)
   rows_tells (options m kinds rows) n =
       choose_tells (n == m) _ _ (row_tells m m (via a_list (list_codec keep keep (kinds_codec kinds)))
-          (λ x. list_told (kinds_codec kinds) (kinds_tells kinds) (a_list.out x))) (rows_tells rows n)
+      (λ x. list_told (kinds_codec kinds) (kinds_tells kinds) (a_list.out x))) (rows_tells rows n)
 
   kinds_tells : (kinds : Kinds) → Tells (kinds_codec kinds)
   kinds_tells unknown = raw_tells
@@ -95,4 +95,4 @@ pub told_fits : (layout : List Field) (rows : Rows) (m : Message) → Told (Fits
 told_fits layout rows m =
     told_as (λ h. record { body = h.0; whole = h.1 }, λ h. (h.body, h.whole))
     (told_both (list_told (table_codec (table rows)) (table_tells (table rows)) m.body)
-        (told_lt (size_of layout + length (list_bytes (table_codec (table rows)).write m.body)) (2 ^ 64)))
+    (told_lt (size_of layout + length (list_bytes (table_codec (table rows)).write m.body)) (2 ^ 64)))

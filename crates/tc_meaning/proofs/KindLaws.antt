@@ -117,7 +117,7 @@ module _ (name : List ℕ) (own rest : Codec Frame Attribute) (CanonOwn CanonRes
   back-of_kind : (b d : Bool) (k m : List ℕ) (x : Attribute) → bytes_eq k name ≡ b → bytes_eq m name ≡ d → MatchBool d (own.Typed x) (rest.Typed (of_kind m x))
       → MatchBool d (own.Fits x) (rest.Fits (of_kind m x))
       → (kind_by b k (cond d (own.write x) (rest.write (of_kind m x))) ≡ Ok (of_kind m x))
-          ↔ MatchBool d ((bytes_eq k name ≡ true) × own.Settled k x) (rest.Settled k (of_kind m x))
+      ↔ MatchBool d ((bytes_eq k name ≡ true) × own.Settled k x) (rest.Settled k (of_kind m x))
   unfolding kind_by
   back-of_kind true true k m x kb md t f = (from, to)
     where

@@ -13,7 +13,7 @@ pub mod NestedLaws
 pub mod NoMemory
 pub mod TableLaws
 pub mod MessageLaws
-pub mod Headline
+pub mod MessageTheorems
 pub mod MessageReading
 pub mod Trees
 pub mod Telling

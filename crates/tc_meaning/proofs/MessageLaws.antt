@@ -1,6 +1,6 @@
 -- The laws of whole messages.
-use Rattle.std.proofs.Common.{◌≡◌, ◌⊎◌, ◌↔◌, ℕ, ◌+◌, ◌<◌, ◌≤◌, List, [], ◌++◌, length, take, drop, Ok, Err, ltb, refl, sym, ap, ap₂, subst, ◌∙◌, arith, inl,
-    inr}
+use Rattle.std.proofs.Common.{◌≡◌, ◌⊎◌, ◌↔◌, ℕ, ◌+◌, ◌<◌, ◌≤◌, List, [], ◌++◌, length, take, drop, Ok, Err, ltb, refl, sym, ap, ap₂, subst, ◌∙◌, arith, inl}
+use Rattle.std.proofs.Common.{inr}
 use Rattle.std.proofs.lemmas.List.{length-append, length-drop, length-take-le, take_at, drop_at, take-append-drop, append-nil, length-take}
 use Rattle.std.proofs.lemmas.Bool.{ltb-false, lt-ltb, le-ltb, cases_lt}
 use Rattle.nla_frames.specs.declared.error.DecodeError.{DecodeError}
@@ -10,7 +10,7 @@ use Rattle.nla_frames.specs.Value.{IsBytes}
 use Rattle.nla_frames.specs.Frame.{Frame, IsWireFrame}
 use Rattle.nla_frames.specs.Place.{Sets}
 use Rattle.nla_frames.specs.Reading.{Reads, read_list}
-use Rattle.nla_frames.specs.ListGrammar.{OneOutcome}
+use Rattle.nla_frames.specs.ListGrammar.{HasOneOutcome}
 use Rattle.nla_frames.specs.Emission.{list_bytes}
 use Rattle.nla_frames.specs.CanonList.{IsCanonList}
 use Rattle.nla_frames.specs.Codec.{Laws, IsWireBytes, list_codec}
@@ -23,8 +23,8 @@ use Rattle.tc_canon.specs.Canonical.{CanonFields, CanonTable}
 use Rattle.tc_meaning.specs.Tree.{Scalar, Attribute}
 use Rattle.tc_meaning.specs.Layout.{read_fields, fields_bytes, TypedFields, SettledFields}
 use Rattle.tc_meaning.specs.Meaning.{table_codec}
-use Rattle.tc_meaning.specs.Message.{Message, ReadsBy, FaultBy, read_by, read_with, message_bytes, FitsMessage, TypedMessage, SettledWith, OneReading,
-    OneMessage, CanonWith, message_codec}
+use Rattle.tc_meaning.specs.Message.{Message, ReadsBy, FaultBy, read_by, read_with, message_bytes, FitsMessage, TypedMessage, SettledWith, OneReading}
+use Rattle.tc_meaning.specs.Message.{OneMessage, CanonWith, message_codec}
 use Rattle.tc_meaning.proofs.Outcomes.{kept-ok, then-ok, then-err, ok-same, err-same}
 use Rattle.tc_meaning.proofs.Fields.{length-fields_bytes, IsBytes-fields_bytes, typed-fields, back-fields, same-fields}
 
@@ -57,14 +57,14 @@ module _ (reads : Reads Attribute) (sets : Sets Frame) (layout : List Field) whe
   pub ok-read_by : (bytes : List ℕ) (m : Message) → IsReadBy bytes m → read_by reads sets layout bytes ≡ Ok m
   ok-read_by bytes m is =
       rw (le-ltb (length bytes) (size_of layout) is.long, is.body)
-          (ap (λ (h : List Scalar). let n : Message = record { header = h; body = m.body } in read_as n) is.header)
+      (ap (λ (h : List Scalar). let n : Message = record { header = h; body = m.body } in read_as n) is.header)
 
   -- reading gives exactly what the grammar says
   pub one_reading : (bytes : List ℕ) → IsBytes bytes → OneReading reads sets layout bytes (read_by reads sets layout bytes)
   unfolding made
   one_reading bytes w = record { reading = reading; fault = fault }
     where
-      list : OneOutcome reads sets [] (drop (size_of layout) bytes) (read_list reads sets [] (drop (size_of layout) bytes))
+      list : HasOneOutcome reads sets [] (drop (size_of layout) bytes) (read_list reads sets [] (drop (size_of layout) bytes))
       list = one_outcome reads sets [] (drop (size_of layout) bytes) (IsBytes-drop (size_of layout) bytes w)
 
       reading : (m : Message) → (read_by reads sets layout bytes ≡ Ok m) ↔ ReadsBy reads sets layout bytes m
@@ -77,7 +77,7 @@ module _ (reads : Reads Attribute) (sets : Sets Frame) (layout : List Field) whe
           → FaultBy reads sets layout bytes e
       faulty e h (inl short) =
           let is : read_by reads sets layout bytes ≡ refused (BufferTooSmall (length bytes) (size_of layout)) =
-                  rw (lt-ltb (length bytes) (size_of layout) short) refl in
+          rw (lt-ltb (length bytes) (size_of layout) short) refl in
           inl (short, err-same Message e (BufferTooSmall (length bytes) (size_of layout)) (sym h ∙ is))
       faulty e h (inr long) =
           let body = read_list reads sets [] (drop (size_of layout) bytes) in

@@ -1,6 +1,6 @@
 -- No reading is refused for want of memory: that is the answer of a call, never of the grammar.
-use Rattle.std.proofs.Common.{◌≡◌, ℕ, zero, suc, ◌+◌, ◌*◌, Bool, true, false, List, [], ◌∷◌, length, take, drop, Some, None, Ok, Err, cond, eqb, ltb, sym, ap,
-    ◌∙◌}
+use Rattle.std.proofs.Common.{◌≡◌, ℕ, zero, suc, ◌+◌, ◌*◌, Bool, true, false, List, [], ◌∷◌, length, take, drop, Some, None, Ok, Err, cond, eqb, ltb, sym, ap}
+use Rattle.std.proofs.Common.{◌∙◌}
 use Rattle.std.specs.Prelude.{◌==◌, not}
 use Rattle.std.specs.Str.{is_utf8, bytes_eq}
 use Rattle.nla_frames.specs.declared.error.DecodeError.{DecodeError}
@@ -15,12 +15,12 @@ use Rattle.nla_frames.specs.Codec.{Codec}
 use Rattle.nla_frames.proofs.ListGrammarLaws.{read_list_not_memory}
 use Rattle.tc_canon.specs.Kind.{tells_kind}
 use Rattle.tc_canon.specs.Layouts.{size_of, fq_codel_qd_stats, fq_codel_cl_stats, selector_head}
-use Rattle.tc_canon.specs.Descriptor.{Field, Class, le, be, masked, array, raw, text, warning, presence, truth, fields, selector, pair, xstats, list_of,
-    own_list, Table, table, every, by_kind, Rows, others, types, unread, options, Kinds, unknown, kind, is_within, is_known}
+use Rattle.tc_canon.specs.Descriptor.{Field, Class, le, be, masked, array, raw, text, warning, presence, truth, fields, selector, pair, xstats, list_of}
+use Rattle.tc_canon.specs.Descriptor.{own_list, Table, table, every, by_kind, Rows, others, types, unread, options, Kinds, unknown, kind, is_within, is_known}
 use Rattle.tc_meaning.specs.Tree.{number, is_bytes, flag, record_of, statistics, unknown_statistics, Attribute, known, of_kind}
 use Rattle.tc_meaning.specs.Layout.{read_fields}
-use Rattle.tc_meaning.specs.Content.{a_selector, read_record, flags_pair, Selector, key_count, read_keys, read_selector, is_fq_codel, read_statistics,
-    read_xstats}
+use Rattle.tc_meaning.specs.Content.{a_selector, read_record, flags_pair, Selector, key_count, read_keys, read_selector, is_fq_codel, read_statistics}
+use Rattle.tc_meaning.specs.Content.{read_xstats}
 use Rattle.tc_meaning.specs.Own.{only_kind, read_own}
 use Rattle.tc_meaning.specs.OwnGrammar.{first_look, kinds_found}
 use Rattle.tc_meaning.specs.Meaning.{a_list, choose, by_type, class_codec, table_codec, rows_codec, kinds_codec}
@@ -64,7 +64,7 @@ text-memory v = either-memory (is_utf8 (strip v)) (read_as (strip v)) (refused N
 record-memory : (layout : List Field) (v : List ℕ) → NotMemory (read_record layout v)
 record-memory layout v =
     either-memory (ltb (length v) (size_of layout)) (refused (BufferTooSmall (length v) (size_of layout))) (read_as (read_fields layout v)) (λ e. cc e)
-        (value-memory (read_fields layout v))
+    (value-memory (read_fields layout v))
 
 -- a selector
 selector-memory : (v : List ℕ) → NotMemory (read_selector v)
@@ -73,7 +73,7 @@ selector-memory v =
     let needed = 16 + 16 * key_count head in
     let made : Selector = record { head = head; keys = read_keys (key_count head) (drop 16 v) } in
     either-memory (ltb (length v) 16) (refused (SelectorShort (length v) 16))
-        (cond (ltb (length v) needed) (refused (SelectorShort (length v) needed)) (read_as made)) (λ e. cc e)
+    (cond (ltb (length v) needed) (refused (SelectorShort (length v) needed)) (read_as made)) (λ e. cc e)
     (either-memory (ltb (length v) needed) (refused (SelectorShort (length v) needed)) (read_as made) (λ e. cc e) (value-memory made))
 
 -- statistics of a number
@@ -109,7 +109,7 @@ own-memory reads bytes never e =
     let looks = read_list first_look keep [] bytes in
     then-memory (seen kinds_found looks >>= only_kind) (λ kind. read_list reads keep kind bytes)
     (then-memory (seen kinds_found looks) only_kind
-        (seen-memory kinds_found looks (read_list_not_memory first_look keep [] bytes look-memory)) only_kind-memory)
+    (seen-memory kinds_found looks (read_list_not_memory first_look keep [] bytes look-memory)) only_kind-memory)
     (λ kind. read_list_not_memory reads keep kind bytes never)
     (sym (read_own-look reads bytes) ∙ e)
 
@@ -155,8 +155,8 @@ mutual
   rows-memory (options m kinds rows) n k f =
       chosen-memory (eqb n m) _ _ k f
       (either-memory (is_known kinds k) _ _
-          (seen-memory (known m) _ (seen-memory a_list.into _ (read_list_not_memory (kinds_codec kinds).read keep k f.value (λ j g. kinds-memory kinds j g))))
-          (value-memory _))
+      (seen-memory (known m) _ (seen-memory a_list.into _ (read_list_not_memory (kinds_codec kinds).read keep k f.value (λ j g. kinds-memory kinds j g))))
+      (value-memory _))
       (rows-memory rows n k f)
 
   -- all kinds
@@ -172,7 +172,7 @@ message-memory sets layout rows bytes =
     let body = read_list (table_codec (table rows)).read sets [] (drop (size_of layout) bytes) in
     let made : List Attribute → Message = λ xs. record { header = read_fields layout (take (size_of layout) bytes); body = xs } in
     either-memory (ltb (length bytes) (size_of layout)) (refused (BufferTooSmall (length bytes) (size_of layout))) (body >>= λ xs. read_as (made xs))
-        (λ e. cc e)
+    (λ e. cc e)
     (then-memory body (λ xs. read_as (made xs))
-        (read_list_not_memory (table_codec (table rows)).read sets [] (drop (size_of layout) bytes) (λ k f. rows-memory rows (type_of f.word) k f))
-        (λ xs. value-memory (made xs)))
+    (read_list_not_memory (table_codec (table rows)).read sets [] (drop (size_of layout) bytes) (λ k f. rows-memory rows (type_of f.word) k f))
+    (λ xs. value-memory (made xs)))

@@ -1,6 +1,6 @@
 -- The laws of numbers, bytes and flags.
-use Rattle.std.proofs.Common.{◌≡◌, ◌⊎◌, ℕ, ◌%◌, ◌^◌, ◌<◌, ◌≤◌, Bool, true, false, not, List, [], ◌∷◌, length, reverse, get_or, Ok, cond, eqb, refl, sym, ap,
-    ◌∙◌, arith, inl, inr, mod-eq_of_lt, pow_pos}
+use Rattle.std.proofs.Common.{◌≡◌, ◌⊎◌, ℕ, ◌%◌, ◌^◌, ◌<◌, ◌≤◌, Bool, true, false, not, List, [], ◌∷◌, length, reverse, get_or, Ok, cond, eqb, refl, sym, ap}
+use Rattle.std.proofs.Common.{◌∙◌, arith, inl, inr, mod-eq_of_lt, pow_pos}
 use Rattle.std.proofs.lemmas.Bool.{eqb-true, eq-eqb, cases_lt}
 use Rattle.std.proofs.lemmas.List.{reverse-reverse, length-reverse, get_or-reverse, get_or_past}
 use Rattle.std.specs.Prelude.{◌==◌}

@@ -7,7 +7,7 @@ use Rattle.nla_frames.specs.Value.{IsBytes, text}
 use Rattle.nla_frames.specs.Frame.{Frame}
 use Rattle.nla_frames.specs.Cutting.{cut, items_of}
 use Rattle.nla_frames.specs.Reading.{Reads, keep, before, read_each, read_list}
-use Rattle.nla_frames.specs.ListGrammar.{ListReads, OneOutcome}
+use Rattle.nla_frames.specs.ListGrammar.{ListReads, HasOneOutcome}
 use Rattle.nla_frames.proofs.ListGrammarLaws.{one_outcome}
 use Rattle.tc_canon.specs.Kind.{tells_kind}
 use Rattle.tc_meaning.specs.Own.{read_kinds, only_kind, read_own}
@@ -41,10 +41,10 @@ module _ {X : Type 0} (reads : Reads X) (bytes : List ℕ) where
 
 module _ {X : Type 0} (reads : Reads X) (bytes : List ℕ) (w : IsBytes bytes) where
   -- the grammar of the first look, and of the list under a kind
-  look : OneOutcome first_look keep [] bytes (read_list first_look keep [] bytes)
+  look : HasOneOutcome first_look keep [] bytes (read_list first_look keep [] bytes)
   look = one_outcome first_look keep [] bytes w
 
-  list : (own : List ℕ) → OneOutcome reads keep own bytes (read_list reads keep own bytes)
+  list : (own : List ℕ) → HasOneOutcome reads keep own bytes (read_list reads keep own bytes)
   list own = one_outcome reads keep own bytes w
 
   -- what is read under the kinds that were found

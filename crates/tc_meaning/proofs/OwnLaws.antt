@@ -43,7 +43,7 @@ read_kinds-told (f ∷ fs) fault kinds e = go (tells_kind f) (λ ks h. read_kind
   where
     go : (b : Bool) → ((ks : List (List ℕ)) → read_kinds (map Ok fs ++ fault_at_end fault) ≡ Ok ks → kinds_told fs ≡ ks)
         → cond b (plain_values.text f.value >>= λ kind. seen (λ ks. kind ∷ ks) (read_kinds (map Ok fs ++ fault_at_end fault)))
-            (read_kinds (map Ok fs ++ fault_at_end fault)) ≡ Ok kinds
+        (read_kinds (map Ok fs ++ fault_at_end fault)) ≡ Ok kinds
         → cond b (strip f.value ∷ kinds_told fs) (kinds_told fs) ≡ kinds
     go true later h =
         let r = then-ok (plain_values.text f.value) (λ kind. seen (λ ks. kind ∷ ks) (read_kinds (map Ok fs ++ fault_at_end fault))) kinds h in
@@ -60,7 +60,7 @@ told-read_kinds (f ∷ fs) all = go (tells_kind f) refl (told-read_kinds fs all.
   where
     go : (b : Bool) → tells_kind f ≡ b → read_kinds (map Ok fs) ≡ Ok (kinds_told fs)
         → cond b (plain_values.text f.value >>= λ kind. seen (λ ks. kind ∷ ks) (read_kinds (map Ok fs))) (read_kinds (map Ok fs))
-            ≡ Ok (cond b (strip f.value ∷ kinds_told fs) (kinds_told fs))
+        ≡ Ok (cond b (strip f.value ∷ kinds_told fs) (kinds_told fs))
     go true e others = rw (text-reads f.value (all.0 e), others) refl
     go false e others = others
 
@@ -121,7 +121,7 @@ module _ (c : Codec Frame Attribute) where
     read_own-is k bytes xs e told =
         let turn = ReadInTurn-read_list c.read keep k bytes xs e in
         let items : items_of (cut bytes) ≡ map Ok (cut bytes).frames =
-                ap (λ (d : Option DecodeError). map Ok (cut bytes).frames ++ fault_at_end d) turn.0 ∙ append-nil (map Ok (cut bytes).frames) in
+        ap (λ (d : Option DecodeError). map Ok (cut bytes).frames ++ fault_at_end d) turn.0 ∙ append-nil (map Ok (cut bytes).frames) in
         let found : read_kinds (items_of (cut bytes)) ≡ Ok (k ∷ []) =
         ap read_kinds items ∙ told-read_kinds (cut bytes).frames (texts-each k (cut bytes).frames xs turn.1) ∙ ap (λ (ks : List (List ℕ)). read_as ks) told in
         ap (λ (r : Outcome (List (List ℕ))). r >>= only_kind >>= λ kind. read_list c.read keep kind bytes) found ∙ e

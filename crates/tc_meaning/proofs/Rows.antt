@@ -38,8 +38,16 @@ wire_value f w = record { are_bytes = w.bytes; short = w.frame.value }
 
 -- every type kept as it stands
 pub raw_rows : (n : ℕ) (Canon : IsCanonAt) → ((k : List ℕ) (f : Frame) → Canon k f) → RowLaws n raw_frames Canon
-raw_rows n Canon all = record { makes = makes_raw; typed = typed_raw; stands = stands_raw; back = back_raw; away = away_raw; same = same_raw; reads =
-    λ k f w at c. (other f.word f.value, refl, w.frame.value) }
+raw_rows n Canon all = record {
+  makes = makes_raw;
+  typed = typed_raw;
+  stands = stands_raw;
+  back = back_raw;
+  away = away_raw;
+  same = same_raw;
+  reads =
+      λ k f w at c. (other f.word f.value, refl, w.frame.value);
+}
   where
     makes_raw : (x : Attribute) → raw_frames.Typed x → number_of x ≡ n → raw_frames.Fits x → IsWireFrame (as_it_stands x)
     makes_raw (other word value) t at f = wire_raw word value t.0 t.1 f
@@ -280,7 +288,7 @@ by_type_laws at Canon rows = record { makes = makes_table; typed = typed_table; 
             → ((at m).read k ((at (number_of x)).write x) ≡ Ok x) ↔ (at (number_of x)).Settled k x
         go m is (inl same) =
             subst (λ (i : ℕ). ((at i).read k ((at (number_of x)).write x) ≡ Ok x) ↔ (at (number_of x)).Settled k x) (sym same)
-                (row.back k x t refl f (is ∙ same))
+            (row.back k x t refl f (is ∙ same))
         go m is (inr far) = (
           (λ e. absurd (far (sym ((rows m).stands k ((at (number_of x)).write x) x is e)))),
           (λ s. absurd (row.away k x t refl (λ here. far (sym is ∙ here)) s)),
@@ -324,7 +332,7 @@ module _ (c : Codec (List ℕ) Content) (Canon : List ℕ → List ℕ → Type 
       to s =
           let number : type_of word ≡ word = whole word s.0 in
           ok-seen (known (type_of word)) (c.read k (c.write content)) content ((laws.back k content t.1 f).1 s.1)
-              ∙ ap (λ (i : ℕ). read_as (known i content)) number
+          ∙ ap (λ (i : ℕ). read_as (known i content)) number
         where
           whole : (m : ℕ) → m ≤ 0x3FFF → m % 0x4000 ≡ m
           whole m e = omega arith

@@ -1,6 +1,6 @@
 -- The laws of pairs of flag words and of selectors.
-use Rattle.std.proofs.Common.{◌≡◌, ℕ, zero, suc, ◌+◌, ◌-◌, ◌*◌, ◌≤◌, Bool, true, false, List, [], ◌∷◌, ◌++◌, length, take, drop, get_or, Ok, refl, sym, ap, ap₂,
-    subst, ◌∙◌, arith, ltb, cond}
+use Rattle.std.proofs.Common.{◌≡◌, ℕ, zero, suc, ◌+◌, ◌-◌, ◌*◌, ◌≤◌, Bool, true, false, List, [], ◌∷◌, ◌++◌, length, take, drop, get_or, Ok, refl, sym, ap, ap₂}
+use Rattle.std.proofs.Common.{subst, ◌∙◌, arith, ltb, cond}
 use Rattle.std.specs.List.{flat_map, AllByRecursion}
 use Rattle.std.proofs.lemmas.List.{length-append, length-drop, length-take-le, take_at, drop_at, take-append-drop, append-nil}
 use Rattle.std.proofs.lemmas.Bool.{ltb-false, le-ltb}
@@ -56,7 +56,7 @@ pair_laws = record {
     back x t =
         let v = fields_bytes flags_pair x in
         let again : read_fields flags_pair v ≡ x =
-                ap (read_fields flags_pair) (sym (append-nil v)) ∙ (back-fields flags_pair x [] t).1 (settled-fields flags_pair x refl) in
+        ap (read_fields flags_pair) (sym (append-nil v)) ∙ (back-fields flags_pair x [] t).1 (settled-fields flags_pair x refl) in
         ok-seen (read_fields flags_pair) (exactly 8 v) v (exact 8 v v (length-fields_bytes flags_pair x t)) ∙ ap (λ (y : List Scalar). read_as y) again
 
 -- ---- keys
@@ -99,7 +99,7 @@ same-keys (suc n) v w len =
     let inside : 16 ≤ length v = omega arith in
     let first : fields_bytes selector_key (read_fields selector_key v) ≡ take 16 v =
     ap (fields_bytes selector_key) (read_fields-take selector_key v inside)
-        ∙ (same-fields selector_key (take 16 v) (IsBytes-take 16 v w) (length-take-le 16 v inside)).1 tt in
+    ∙ (same-fields selector_key (take 16 v) (IsBytes-take 16 v w) (length-take-le 16 v inside)).1 tt in
     let others = same-keys n (drop 16 v) (IsBytes-drop 16 v w) (rw length-drop (omega arith)) in
     ap₂ (λ (a b : List ℕ). a ++ b) first others ∙ take-append-drop 16 v
 
@@ -147,7 +147,7 @@ with_head-ok : (v : List ℕ) (x : Selector) → 16 ≤ length v → 16 + 16 * k
 unfolding with_head
 with_head-ok v x long keys_long keys =
     rw (le-ltb (length v) 16 long, le-ltb (length v) (16 + 16 * key_count x.head) keys_long)
-        (ap (λ (ks : List (List Scalar)). read_as (record { head = x.head; keys = ks })) keys)
+    (ap (λ (ks : List (List Scalar)). read_as (record { head = x.head; keys = ks })) keys)
 
 read_selector-is : (v : List ℕ) (x : Selector) → IsSelector v x → read_selector v ≡ Ok x
 unfolding with_head
@@ -186,7 +186,7 @@ selector_laws = record {
     back x t f =
         let len = length-written x t in
         let rest : drop 16 (written x) ≡ keys_bytes_of x =
-                drop_at (fields_bytes selector_head x.head) (keys_bytes_of x) 16 (length-fields_bytes selector_head x.head t.0) in
+        drop_at (fields_bytes selector_head x.head) (keys_bytes_of x) 16 (length-fields_bytes selector_head x.head t.0) in
         record {
           long = omega (arith, len);
           keys_long = omega (arith, len, f);
@@ -220,7 +220,7 @@ selector_laws = record {
         let total : length v ≡ 16 + 16 * key_count x.head = c.1 ∙ ap (λ (n : ℕ). 16 + 16 * n) (sym (counted v x is)) in
         let rest : keys_bytes_of x ≡ drop 16 v =
         ap (flat_map (fields_bytes selector_key)) (sym is.keys)
-            ∙ same-keys (key_count x.head) (drop 16 v) (IsBytes-drop 16 v w) (length-drop 16 v ∙ after (length v) (key_count x.head) total) in
+        ∙ same-keys (key_count x.head) (drop 16 v) (IsBytes-drop 16 v w) (length-drop 16 v ∙ after (length v) (key_count x.head) total) in
         ap₂ (λ (a b : List ℕ). a ++ b) front rest ∙ take-append-drop 16 v
       where
         after : (len n : ℕ) → len ≡ 16 + 16 * n → len - 16 ≡ 16 * n

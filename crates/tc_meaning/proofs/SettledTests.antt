@@ -8,17 +8,18 @@ use Rattle.nla_frames.specs.Value.{strip, le_value}
 use Rattle.nla_frames.specs.Place.{Sets, kind_then, kinds_set}
 use Rattle.nla_frames.specs.Codec.{Codec, SettledEach, list_codec}
 use Rattle.nla_frames.specs.Reading.{keep}
-use Rattle.tc_canon.specs.Descriptor.{Class, le, be, masked, array, raw, text, warning, presence, truth, fields, selector, pair, xstats, list_of, own_list,
-    Table, table, every, by_kind, Rows, others, types, unread, options, Kinds, unknown, kind, is_within, is_known, Field, named}
+use Rattle.tc_canon.specs.Descriptor.{Class, le, be, masked, array, raw, text, warning, presence, truth, fields, selector, pair, xstats, list_of, own_list}
+use Rattle.tc_canon.specs.Descriptor.{Table, table, every, by_kind, Rows, others, types, unread, options, Kinds, unknown, kind, is_within, is_known, Field}
+use Rattle.tc_canon.specs.Descriptor.{named}
 use Rattle.tc_meaning.specs.Tree.{Scalar, unnamed, Content, is_bytes, statistics, unknown_statistics, Attribute, known, kept, other, of_kind, number_of}
 use Rattle.tc_meaning.specs.Layout.{has_name, SettledField, SettledFields}
 use Rattle.tc_meaning.specs.Content.{via, a_number, some_bytes, a_flag, a_record, flags_pair, xstats_codec, is_fq_codel}
 use Rattle.tc_meaning.specs.Own.{kind_of_attribute}
-use Rattle.tc_meaning.specs.Meaning.{a_list, raw_frames, row_frames, options_frames, unread_frames, every_frame, choose, by_type, kind_frames, class_codec,
-    table_codec, rows_codec, kinds_codec}
+use Rattle.tc_meaning.specs.Meaning.{a_list, raw_frames, row_frames, options_frames, unread_frames, every_frame, choose, by_type, kind_frames, class_codec}
+use Rattle.tc_meaning.specs.Meaning.{table_codec, rows_codec, kinds_codec}
 use Rattle.tc_meaning.specs.Message.{Message, SettledWith}
-use Rattle.tc_meaning.proofs.Telling.{Told, told_always, told_never, told_true, told_false, told_le, told_lt, told_eq, told_same_bytes, told_both, told_as,
-    told_each, told_match}
+use Rattle.tc_meaning.proofs.Telling.{Told, told_always, told_never, told_true, told_false, told_le, told_lt, told_eq, told_same_bytes, told_both, told_as}
+use Rattle.tc_meaning.proofs.Telling.{told_each, told_match}
 
 -- of a field, and of a record
 told_field : (f : Field) (x : Scalar) → Told (SettledField f x)
@@ -119,7 +120,7 @@ mutual
   rows_tells (options m kinds rows) n =
       choose_tells (n == m) _ _
       (options_tells m kinds (via a_list (list_codec keep keep (kinds_codec kinds)))
-          (λ k x. told_list (kinds_codec kinds).Settled keep (kinds_tells kinds) k (a_list.out x)))
+      (λ k x. told_list (kinds_codec kinds).Settled keep (kinds_tells kinds) k (a_list.out x)))
       (rows_tells rows n)
 
   kinds_tells : (kinds : Kinds) → Tells (kinds_codec kinds)

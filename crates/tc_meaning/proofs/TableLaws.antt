@@ -1,6 +1,6 @@
 -- The laws of every class and every table, by induction over the tables.
-use Rattle.std.proofs.Common.{◌≡◌, ◌⊎◌, ℕ, zero, suc, ◌+◌, ◌%◌, ◌^◌, ◌<◌, Bool, true, not, ◌&&◌, List, [], ◌∷◌, Some, None, Ok, cond, eqb, leb, refl, sym, ap,
-    subst, ◌∙◌, arith, inl, inr}
+use Rattle.std.proofs.Common.{◌≡◌, ◌⊎◌, ℕ, zero, suc, ◌+◌, ◌%◌, ◌^◌, ◌<◌, Bool, true, not, ◌&&◌, List, [], ◌∷◌, Some, None, Ok, cond, eqb, leb, refl, sym, ap}
+use Rattle.std.proofs.Common.{subst, ◌∙◌, arith, inl, inr}
 use Rattle.std.specs.Prelude.{MatchBool}
 use Rattle.std.specs.Str.{is_utf8}
 use Rattle.std.proofs.lemmas.Bool.{and_parts, ltb-true, leb-true, eqb-true, eq-eqb, ne_eqb, not-true, cases_eq}
@@ -13,15 +13,15 @@ use Rattle.nla_frames.specs.CanonList.{IsCanonAt, IsCanonList}
 use Rattle.nla_frames.specs.Codec.{Codec, Laws, IsWireValue, IsWireBytes, list_codec}
 use Rattle.nla_frames.proofs.ListLaws.{list_laws}
 use Rattle.tc_canon.specs.Kind.{tells_kind}
-use Rattle.tc_canon.specs.Descriptor.{Class, le, be, masked, array, raw, text, warning, presence, truth, fields, selector, pair, xstats, list_of, own_list,
-    Table, table, every, by_kind, Rows, others, types, unread, options, Kinds, unknown, kind, is_within, is_known}
+use Rattle.tc_canon.specs.Descriptor.{Class, le, be, masked, array, raw, text, warning, presence, truth, fields, selector, pair, xstats, list_of, own_list}
+use Rattle.tc_canon.specs.Descriptor.{Table, table, every, by_kind, Rows, others, types, unread, options, Kinds, unknown, kind, is_within, is_known}
 use Rattle.tc_canon.specs.Canonical.{CanonClass, CanonTable, CanonRows, CanonKinds, IsCanonOwn}
 use Rattle.tc_meaning.specs.Tree.{is_bytes, Attribute, known, kept, other, of_kind, attributes_of, list_of_attributes, number_of}
-use Rattle.tc_meaning.specs.Content.{Shape, via, a_number, some_bytes, a_flag, a_record, a_selector, le_codec, be_codec, masked_codec, array_codec, raw_codec,
-    text_codec, warning_codec, presence_codec, truth_codec, record_codec, pair_codec, selector_codec, xstats_codec}
+use Rattle.tc_meaning.specs.Content.{Shape, via, a_number, some_bytes, a_flag, a_record, a_selector, le_codec, be_codec, masked_codec, array_codec, raw_codec}
+use Rattle.tc_meaning.specs.Content.{text_codec, warning_codec, presence_codec, truth_codec, record_codec, pair_codec, selector_codec, xstats_codec}
 use Rattle.tc_meaning.specs.Own.{kind_of_frame, kind_of_attribute, own_codec}
-use Rattle.tc_meaning.specs.Meaning.{short, a_list, choose, row_frames, unread_frames, options_frames, by_type, class_codec, table_codec, rows_codec,
-    kinds_codec}
+use Rattle.tc_meaning.specs.Meaning.{short, a_list, choose, row_frames, unread_frames, options_frames, by_type, class_codec, table_codec, rows_codec}
+use Rattle.tc_meaning.specs.Meaning.{kinds_codec}
 use Rattle.tc_meaning.specs.Sound.{is_type, are_flags, is_free, starts_with_kind, is_sound_class, is_sound_table, is_sound_rows, is_sound_kinds}
 use Rattle.tc_meaning.proofs.Outcomes.{seen-ok}
 use Rattle.tc_meaning.proofs.Shapes.{short_laws, via_laws}
@@ -109,7 +109,7 @@ read-kind n word k f x one e =
     let q = seen-ok is_bytes (plain_values.text f.value) r.0 r.1 in
     let t = text-ok f.value q.0 q.1 in
     let is : known 1 (is_bytes (strip f.value)) ≡ x =
-            ap (λ (i : ℕ). known i (is_bytes (strip f.value))) (sym one) ∙ ap (λ (u : List ℕ). known n (is_bytes u)) t.1 ∙ ap (known n) q.2 ∙ r.2 in
+    ap (λ (i : ℕ). known i (is_bytes (strip f.value))) (sym one) ∙ ap (λ (u : List ℕ). known n (is_bytes u)) t.1 ∙ ap (known n) q.2 ∙ r.2 in
     (t.0, ap kind_of_attribute (sym is))
 
 -- rows that begin with the kind's tell the kind of their frames
@@ -123,7 +123,7 @@ tells_rows (types first last flags text rows) starts laws = record { agree = agr
     is_row n k f x one e =
         let within : is_within first last n ≡ true = ap (is_within first last) one ∙ starts in
         read-kind n (flags + n) k f x one
-            (sym (ap (λ (b : Bool). (choose b (row_frames (flags + n) n (class_codec text)) (rows_codec rows n)).read k f) within) ∙ e)
+        (sym (ap (λ (b : Bool). (choose b (row_frames (flags + n) n (class_codec text)) (rows_codec rows n)).read k f) within) ∙ e)
 
     agree : (k : List ℕ) (f : Frame) (x : Attribute) → (by_type (rows_codec (types first last flags text rows))).read k f ≡ Ok x
         → kind_of_frame f ≡ kind_of_attribute x
@@ -145,7 +145,7 @@ types_rows : (first last flags : ℕ) (class : Class) (rows : Rows) (n : ℕ) �
     → RowLaws n (rows_codec (types first last flags class rows) n) (CanonRows (types first last flags class rows) n)
 types_rows first last flags class rows n l fl laws rest =
     choose_rows n (is_within first last n) (row_frames (flags + n) n (class_codec class)) (rows_codec rows n)
-        (λ k f. (f.word ≡ flags + n) × CanonClass class k f.value) (CanonRows rows n)
+    (λ k f. (f.word ≡ flags + n) × CanonClass class k f.value) (CanonRows rows n)
     (λ within. let word = row_word first last flags n l fl within in row_rows (flags + n) n (class_codec class) (CanonClass class) laws word.small word.under)
     (λ outside. rest)
 
@@ -165,9 +165,9 @@ options_then m kinds rows n ty laws rest =
     choose_rows n (eqb n m) (options_frames m kinds (via a_list (list_codec keep keep (kinds_codec kinds)))) (rows_codec rows n)
     (λ k f. MatchBool (is_known kinds k) ((f.word ≡ n) × IsCanonList (CanonKinds kinds) keep k f.value) (Unit {0})) (CanonRows rows n)
     (λ same. subst (λ (i : ℕ). RowLaws i (options_frames m kinds (via a_list (list_codec keep keep (kinds_codec kinds))))
-        (λ k f. MatchBool (is_known kinds k) ((f.word ≡ i) × IsCanonList (CanonKinds kinds) keep k f.value) (Unit {0}))) (sym (eqb-true n m same))
+    (λ k f. MatchBool (is_known kinds k) ((f.word ≡ i) × IsCanonList (CanonKinds kinds) keep k f.value) (Unit {0}))) (sym (eqb-true n m same))
     (let word = type_word m ty in options_rows m kinds (via a_list (list_codec keep keep (kinds_codec kinds))) (λ k v. IsCanonList (CanonKinds kinds) keep k v)
-        (list_items_laws (kinds_codec kinds) (CanonKinds kinds) laws) word.0 word.1))
+    (list_items_laws (kinds_codec kinds) (CanonKinds kinds) laws) word.0 word.1))
     (λ outside. rest)
 
 -- the contents of a list that tells its kind
@@ -176,7 +176,7 @@ own_items : (rows : Rows) → starts_with_kind rows ≡ true → ((n : ℕ) → 
 own_items rows starts laws =
     items_laws (own_codec (by_type (rows_codec rows))) (λ k v. IsCanonOwn (λ own f. CanonRows rows (type_of f.word) own f) v)
     (own_laws (by_type (rows_codec rows)) (tells_rows rows starts laws) (λ own f. CanonRows rows (type_of f.word) own f)
-        (by_type_laws (rows_codec rows) (CanonRows rows) laws))
+    (by_type_laws (rows_codec rows) (CanonRows rows) laws))
 
 -- ---- everything
 

@@ -7,15 +7,15 @@ use Rattle.std.specs.Prelude.{codes, nat_lt, ◌%◌, ◌&&◌, if◌then◌else
 use Rattle.std.specs.List.{AllByRecursion}
 use Rattle.std.specs.Str.{is_utf8}
 use Rattle.std.proofs.lemmas.Str.{IsUtf8-from_ascii, is_utf8-from_IsUtf8}
-use Rattle.nla_frames.specs.declared.error.DecodeError.TheVariants.{BufferTooSmall, FrameHeaderShort, FrameTooLong, FrameTooShort, WrongLength, SelectorShort,
-    XstatsShort, MissingKind}
+use Rattle.nla_frames.specs.declared.error.DecodeError.TheVariants.{BufferTooSmall, FrameHeaderShort, FrameTooLong, FrameTooShort, WrongLength, SelectorShort}
+use Rattle.nla_frames.specs.declared.error.DecodeError.TheVariants.{XstatsShort, MissingKind}
 use Rattle.nla_frames.specs.Value.{strip}
 use Rattle.nla_frames.specs.Frame.{header, padded, frame_bytes}
 use Rattle.nla_frames.specs.Cutting.{next_frame, cut_up_to, cut}
 use Rattle.nla_frames.specs.Reading.{read_each, read_list}
 use Rattle.nla_frames.specs.Emission.{list_bytes}
-use Rattle.tc_meaning.specs.Tree.{plain, blank, Content, number, is_bytes, flag, record_of, keyed, statistics, unknown_statistics, items, Attribute, known,
-    kept, of_kind, attributes_of}
+use Rattle.tc_meaning.specs.Tree.{plain, blank, Content, number, is_bytes, flag, record_of, keyed, statistics, unknown_statistics, items, Attribute, known}
+use Rattle.tc_meaning.specs.Tree.{kept, of_kind, attributes_of}
 use Rattle.tc_meaning.specs.Own.{read_kinds, read_own}
 use Rattle.tc_meaning.specs.Content.{read_selector}
 use Rattle.tc_canon.specs.Descriptor.{truth, selector}
@@ -221,8 +221,11 @@ xstats_of_no_kind_written = refl
 -- ---- the selector of u32
 
 one_key : read_selector (hex (codes "010001000f0000000000000000000000ffffffff0a0000011000000000000000"))
-    ≡ Ok (record { head = plain 1 ∷ plain 0 ∷ plain 1 ∷ blank ∷ plain 0x0f00 ∷ plain 0 ∷ plain 0 ∷ plain 0 ∷ plain 0 ∷ []; keys =
-    (plain 0xffffffff ∷ plain 0x0a000001 ∷ plain 16 ∷ plain 0 ∷ []) ∷ [] })
+    ≡ Ok (record {
+      head = plain 1 ∷ plain 0 ∷ plain 1 ∷ blank ∷ plain 0x0f00 ∷ plain 0 ∷ plain 0 ∷ plain 0 ∷ plain 0 ∷ [];
+      keys =
+          (plain 0xffffffff ∷ plain 0x0a000001 ∷ plain 16 ∷ plain 0 ∷ []) ∷ [];
+    })
 unfolding strip header padded frame_bytes next_frame cut_up_to cut read_each read_list list_bytes read_kinds read_own read_with message_bytes
 one_key = refl
 

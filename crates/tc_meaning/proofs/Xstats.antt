@@ -1,6 +1,6 @@
 -- The laws of statistics by kind.
-use Rattle.std.proofs.Common.{◌≡◌, ◌⊎◌, ◌↔◌, ℕ, zero, suc, ◌^◌, ◌<◌, ◌≤◌, Bool, true, false, List, [], ◌++◌, length, take, drop, Ok, refl, sym, ap, ap₂, subst,
-    ◌∙◌, arith, ltb, cond, inl, inr}
+use Rattle.std.proofs.Common.{◌≡◌, ◌⊎◌, ◌↔◌, ℕ, zero, suc, ◌^◌, ◌<◌, ◌≤◌, Bool, true, false, List, [], ◌++◌, length, take, drop, Ok, refl, sym, ap, ap₂, subst}
+use Rattle.std.proofs.Common.{◌∙◌, arith, ltb, cond, inl, inr}
 use Rattle.std.specs.Prelude.{MatchBool}
 use Rattle.std.proofs.lemmas.List.{length-append, length-take-le, take_at, drop_at, take-append-drop}
 use Rattle.std.proofs.lemmas.Bool.{ltb-false, le-ltb}
@@ -147,12 +147,16 @@ fq-same v (unknown_statistics u) w long is =
 fq-same v _ w long is = elim is [ ]
 
 fq-back : (k : List ℕ) → is_fq_codel k ≡ true → (x : Content) → xstats_codec.Typed x → (read_fq (xstats_codec.write x) ≡ Ok x) ↔ xstats_codec.Settled k x
-fq-back k fq (statistics zero xs) t =
-    (λ e. fq, λ s. fq-is _ (statistics zero xs) (numbered-long 0 qd_small fq_codel_qd_stats refl xs)
-        (numbered-value 0 qd_small fq_codel_qd_stats refl xs, numbered-back 0 qd_small fq_codel_qd_stats refl xs t))
-fq-back k fq (statistics (suc zero) xs) t =
-    (λ e. fq, λ s. fq-is _ (statistics (suc zero) xs) (numbered-long 1 cl_small fq_codel_cl_stats refl xs)
-        (numbered-value 1 cl_small fq_codel_cl_stats refl xs, numbered-back 1 cl_small fq_codel_cl_stats refl xs t))
+fq-back k fq (statistics zero xs) t = (
+  λ e. fq,
+  λ s. fq-is _ (statistics zero xs) (numbered-long 0 qd_small fq_codel_qd_stats refl xs)
+      (numbered-value 0 qd_small fq_codel_qd_stats refl xs, numbered-back 0 qd_small fq_codel_qd_stats refl xs t),
+)
+fq-back k fq (statistics (suc zero) xs) t = (
+  λ e. fq,
+  λ s. fq-is _ (statistics (suc zero) xs) (numbered-long 1 cl_small fq_codel_cl_stats refl xs)
+      (numbered-value 1 cl_small fq_codel_cl_stats refl xs, numbered-back 1 cl_small fq_codel_cl_stats refl xs t),
+)
 fq-back k fq (unknown_statistics u) t = (λ e. let r = fq-ok u (unknown_statistics u) e in (fq, r.0, r.1.0), λ s. fq-is u (unknown_statistics u) s.1 (s.2, refl))
 fq-back k fq (is_bytes u) t = (λ e. elim (fq-ok u (is_bytes u) e).1 [ ], λ s. absurd cc)
 fq-back k fq x t = elim t [ ]

@@ -1,6 +1,6 @@
 -- Contents that hold no attributes, class by class.
-use Rattle.std.specs.Prelude.{◌≡◌, ℕ, ◌<◌, ◌≤◌, ◌^◌, ◌%◌, Bool, true, false, List, [], ◌∷◌, length, not, Ok, Err, nat_lt, ◌==◌, if◌then◌else◌, zero, suc, ◌+◌,
-    ◌*◌, ◌++◌, take, drop, codes}
+use Rattle.std.specs.Prelude.{◌≡◌, ℕ, ◌<◌, ◌≤◌, ◌^◌, ◌%◌, Bool, true, false, List, [], ◌∷◌, length, not, Ok, Err, nat_lt, ◌==◌, if◌then◌else◌, zero, suc, ◌+◌}
+use Rattle.std.specs.Prelude.{◌*◌, ◌++◌, take, drop, codes}
 use Rattle.std.specs.Str.{bytes_eq}
 use Rattle.std.specs.List.{flat_map, AllByRecursion}
 use Rattle.nla_frames.specs.declared.error.DecodeError.TheVariants.{BufferTooSmall, SelectorShort, XstatsShort}

@@ -2,14 +2,14 @@
 use Rattle.std.proofs.Common.{◌≡◌, ◌↔◌, ◌&&◌, ℕ, Bool, true, false, IsTrue, List, [], ◌∷◌, map, nat_eq, refl, ap, subst}
 use Rattle.std.specs.Bool.{Decides}
 use Rattle.std.specs.Ordering.{on}
-use Rattle.std.specs.Cmp.{IsEquivalence, IsPartialEquivalence, partial_equiv_from_equiv, decided, on_equiv, unsigned_Decides, booleans_Decides, first_so,
-    second_so}
+use Rattle.std.specs.Cmp.{IsEquivalence, IsPartialEquivalence, partial_equiv_from_equiv, decided, on_equiv, unsigned_Decides, booleans_Decides, first_so}
+use Rattle.std.specs.Cmp.{second_so}
 use Rattle.std.specs.Bool.{beq}
 use Rattle.std.specs.Cmp.Lexicographic.{pointwise, pointwise_decides, bytes_decides}
 use Rattle.tc_meaning.specs.Content.{Selector}
 use Rattle.tc_meaning.specs.Message.{Message}
-use Rattle.tc_meaning.specs.Tree.{Scalar, plain, unnamed, octets_of, blank, Content, number, is_bytes, flag, record_of, keyed, statistics, unknown_statistics,
-    items, Attribute, known, kept, other, of_kind, Attributes, none, and, attributes_of}
+use Rattle.tc_meaning.specs.Tree.{Scalar, plain, unnamed, octets_of, blank, Content, number, is_bytes, flag, record_of, keyed, statistics, unknown_statistics}
+use Rattle.tc_meaning.specs.Tree.{items, Attribute, known, kept, other, of_kind, Attributes, none, and, attributes_of}
 
 -- `==` of two values is true exactly if contracts see them as equal
 abbrev pub TellsSeen : {T X : Type 0} → (T → T → Bool) → (T → X) → Type 0

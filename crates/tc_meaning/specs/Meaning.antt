@@ -6,11 +6,11 @@ use Rattle.nla_frames.specs.Value.{IsBytes}
 use Rattle.nla_frames.specs.Frame.{Frame, type_of}
 use Rattle.nla_frames.specs.Reading.{keep}
 use Rattle.nla_frames.specs.Codec.{Codec, list_codec}
-use Rattle.tc_canon.specs.Descriptor.{Class, le, be, masked, array, raw, text, warning, presence, truth, fields, selector, pair, xstats, list_of, own_list,
-    Table, table, every, by_kind, Rows, others, types, unread, options, Kinds, unknown, kind, is_within, is_known}
+use Rattle.tc_canon.specs.Descriptor.{Class, le, be, masked, array, raw, text, warning, presence, truth, fields, selector, pair, xstats, list_of, own_list}
+use Rattle.tc_canon.specs.Descriptor.{Table, table, every, by_kind, Rows, others, types, unread, options, Kinds, unknown, kind, is_within, is_known}
 use Rattle.tc_meaning.specs.Tree.{Content, items, Attribute, known, kept, other, of_kind, attributes_of, list_of_attributes, number_of}
-use Rattle.tc_meaning.specs.Content.{Shape, via, a_number, le_codec, be_codec, masked_codec, some_bytes, array_codec, raw_codec, text_codec, warning_codec,
-    a_flag, presence_codec, truth_codec, a_record, record_codec, pair_codec, a_selector, selector_codec, xstats_codec}
+use Rattle.tc_meaning.specs.Content.{Shape, via, a_number, le_codec, be_codec, masked_codec, some_bytes, array_codec, raw_codec, text_codec, warning_codec}
+use Rattle.tc_meaning.specs.Content.{a_flag, presence_codec, truth_codec, a_record, record_codec, pair_codec, a_selector, selector_codec, xstats_codec}
 use Rattle.tc_meaning.specs.Own.{own_codec}
 
 abbrev pub a_list : Shape (List Attribute)

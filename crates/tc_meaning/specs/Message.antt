@@ -7,7 +7,7 @@ use Rattle.nla_frames.specs.Fault.{Outcome, ◌>>=◌}
 use Rattle.nla_frames.specs.Frame.{Frame}
 use Rattle.nla_frames.specs.Place.{Sets}
 use Rattle.nla_frames.specs.Reading.{Reads, read_list}
-use Rattle.nla_frames.specs.ListGrammar.{ListReads, ListFault}
+use Rattle.nla_frames.specs.ListGrammar.{ListReads, IsListFault}
 use Rattle.nla_frames.specs.Emission.{list_bytes, ListFits}
 use Rattle.nla_frames.specs.Codec.{Codec, SettledEach, SettledAtEach}
 use Rattle.nla_frames.specs.CanonList.{IsCanonList}
@@ -35,7 +35,7 @@ module _ (reads : Reads Attribute) (sets : Sets Frame) (layout : List Field) whe
   abbrev pub FaultBy : List ℕ → DecodeError → Type 0
   FaultBy bytes e =
       ((length bytes < size_of layout) × (e ≡ BufferTooSmall (length bytes) (size_of layout)))
-      ⊎ ((size_of layout ≤ length bytes) × ListFault reads sets [] (drop (size_of layout) bytes) e)
+      ⊎ ((size_of layout ≤ length bytes) × IsListFault reads sets [] (drop (size_of layout) bytes) e)
 
   -- the same as a function
   abbrev pub read_by : List ℕ → Outcome Message

@@ -5,7 +5,7 @@ use Rattle.nla_frames.specs.declared.error.DecodeError.{DecodeError}
 use Rattle.nla_frames.specs.Fault.{Outcome, seen}
 use Rattle.nla_frames.specs.Frame.{Frame, type_of}
 use Rattle.nla_frames.specs.Reading.{keep}
-use Rattle.nla_frames.specs.ListGrammar.{ListReads, ListFault}
+use Rattle.nla_frames.specs.ListGrammar.{ListReads, IsListFault}
 use Rattle.tc_canon.specs.Descriptor.{Table, table, by_kind, Rows, options, Kinds, list_of, own_list, is_known}
 use Rattle.tc_meaning.specs.Tree.{Content, items, Attribute, known, kept, attributes_of}
 use Rattle.tc_meaning.specs.OwnGrammar.{OwnReads, OwnFault}
@@ -26,7 +26,7 @@ abbrev pub ReadsNested : Table → List ℕ → List ℕ → Type 0
 ReadsNested t kind bytes =
     GivesList
     (ListReads (table_codec t).read keep kind bytes)
-    (ListFault (table_codec t).read keep kind bytes)
+    (IsListFault (table_codec t).read keep kind bytes)
     ((class_codec (list_of t)).read kind bytes)
 
 -- a list that tells its own kind: every frame of type 1 has a text, there is one such frame, and each frame is read by

@@ -6,7 +6,7 @@ use Rattle.nla_frames.specs.declared.error.DecodeError.TheVariants.{MissingKind,
 use Rattle.nla_frames.specs.Fault.{seen}
 use Rattle.nla_frames.specs.Value.{text}
 use Rattle.nla_frames.specs.Reading.{Reads, keep}
-use Rattle.nla_frames.specs.ListGrammar.{ListReads, ListFault}
+use Rattle.nla_frames.specs.ListGrammar.{ListReads, IsListFault}
 use Rattle.tc_canon.specs.Kind.{tells_kind}
 use Rattle.tc_meaning.specs.Own.{kinds_set}
 
@@ -29,13 +29,13 @@ pub record OwnReads {X : Type 0} (reads : Reads X) (bytes : List ℕ) (xs : List
 -- the fault after the first look: of no kind, of the list under the one that was found, of several
 abbrev pub KindFault : {X : Type 0} → Reads X → List ℕ → List (List ℕ) → DecodeError → Type 0
 KindFault reads bytes [] e = e ≡ MissingKind
-KindFault reads bytes (own ∷ []) e = ListFault reads keep own bytes e
+KindFault reads bytes (own ∷ []) e = IsListFault reads keep own bytes e
 KindFault reads bytes _ e = e ≡ DuplicateKind
 
 -- the first fault: that of the first look, a broken frame or one of type 1 that has no text; or the one after it
 abbrev pub OwnFault : {X : Type 0} → Reads X → List ℕ → DecodeError → Type 0
 OwnFault reads bytes e =
-    ListFault first_look keep [] bytes e
+    IsListFault first_look keep [] bytes e
     ⊎ ((looks : List (Option (List ℕ))) × ListReads first_look keep [] bytes looks × KindFault reads bytes (kinds_found looks) e)
 
 -- one reading and no fault, or no reading and one fault

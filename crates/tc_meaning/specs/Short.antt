@@ -7,8 +7,8 @@ use Rattle.nla_frames.specs.Codec.{Codec, list_codec}
 use Rattle.tc_canon.specs.Descriptor.{Table, table, every, by_kind, Rows, others, types, unread, options, Kinds, unknown, kind, is_within}
 use Rattle.tc_meaning.specs.Tree.{Content, Attribute, known, kept, other, of_kind, number_of}
 use Rattle.tc_meaning.specs.Content.{via}
-use Rattle.tc_meaning.specs.Meaning.{IsShort, a_list, choose, row_frames, unread_frames, every_frame, options_frames, class_codec, table_codec, rows_codec,
-    kinds_codec}
+use Rattle.tc_meaning.specs.Meaning.{IsShort, a_list, choose, row_frames, unread_frames, every_frame, options_frames, class_codec, table_codec, rows_codec}
+use Rattle.tc_meaning.specs.Meaning.{kinds_codec}
 
 -- what fits by a codec is short
 abbrev pub MakesShort : Codec Frame Attribute → Type 0
@@ -34,7 +34,7 @@ pub rows_short : (rows : Rows) (n : ℕ) → MakesShort (rows_codec rows n)
 rows_short others n = λ x fits. fits
 rows_short (types first last flags class rows) n =
     choose_short (is_within first last n) (row_frames (flags + n) n (class_codec class)) (rows_codec rows n) (row_short (flags + n) n (class_codec class))
-        (rows_short rows n)
+    (rows_short rows n)
 rows_short (unread m class rows) n =
     choose_short (n == m) (unread_frames m (class_codec class)) (rows_codec rows n) (row_short m m (class_codec class)) (rows_short rows n)
 rows_short (options m kinds rows) n =

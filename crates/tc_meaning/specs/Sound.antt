@@ -1,7 +1,7 @@
 -- What tables have to keep so that the laws hold of them: tests that are computed.
 use Rattle.std.specs.Prelude.{ℕ, ◌%◌, Bool, true, false, ◌&&◌, not, nat_lt, ◌==◌}
-use Rattle.tc_canon.specs.Descriptor.{Class, text, list_of, own_list, Table, table, every, by_kind, Rows, others, types, unread, options, Kinds, unknown, kind,
-    is_within}
+use Rattle.tc_canon.specs.Descriptor.{Class, text, list_of, own_list, Table, table, every, by_kind, Rows, others, types, unread, options, Kinds, unknown, kind}
+use Rattle.tc_canon.specs.Descriptor.{is_within}
 
 -- a type lies in its fourteen bits
 abbrev pub is_type : ℕ → Bool

@@ -6,8 +6,8 @@ use Rattle.nla_frames.specs.Fault.{Outcome}
 use Rattle.nla_frames.specs.Reading.{keep}
 use Rattle.tc_canon.specs.Layouts.{tc_header, action_message_header}
 use Rattle.tc_canon.specs.Tables.Messages.{attributes, action_message_attributes}
-use Rattle.tc_meaning.specs.Message.{Message, ReadsMessage, MessageFault, read_message, ReadsWith, FaultWith, read_with, message_bytes, FitsMessage,
-    TypedMessage, SettledWith, SettledMessage}
+use Rattle.tc_meaning.specs.Message.{Message, ReadsMessage, MessageFault, read_message, ReadsWith, FaultWith, read_with, message_bytes, FitsMessage}
+use Rattle.tc_meaning.specs.Message.{TypedMessage, SettledWith, SettledMessage}
 
 -- ---- a traffic control message
 

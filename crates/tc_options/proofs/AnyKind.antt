@@ -6,8 +6,8 @@ use Rattle.nla_frames.specs.Frame.{Frame, type_of}
 use Rattle.nla_frames.specs.Cutting.{cut, items_of}
 use Rattle.nla_frames.specs.Reading.{Reads, keep, read_each, read_list}
 use Rattle.nla_frames.specs.Codec.{Codec}
-use Rattle.tc_canon.specs.Descriptor.{Class, le, be, masked, array, raw, text, warning, presence, truth, fields, selector, pair, xstats, list_of, own_list,
-    Table, table, every, by_kind, Rows, others, types, unread, options, is_within}
+use Rattle.tc_canon.specs.Descriptor.{Class, le, be, masked, array, raw, text, warning, presence, truth, fields, selector, pair, xstats, list_of, own_list}
+use Rattle.tc_canon.specs.Descriptor.{Table, table, every, by_kind, Rows, others, types, unread, options, is_within}
 use Rattle.tc_meaning.specs.Tree.{Attribute, known}
 use Rattle.tc_meaning.specs.Meaning.{a_list, choose, class_codec, table_codec, rows_codec}
 

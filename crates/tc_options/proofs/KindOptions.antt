@@ -2,6 +2,7 @@
 use Rattle.std.proofs.Common.{◌≡◌, ℕ, Bool, true, false, List, [], cond, refl, ap, ◌∙◌}
 use Rattle.std.specs.Prelude.{codes}
 use Rattle.std.specs.Str.{bytes_eq}
+use Rattle.std.proofs.lemmas.Slice.Eq.{bytes_eq-Decides}
 use Rattle.nla_frames.specs.declared.error.DecodeError.{DecodeError}
 use Rattle.nla_frames.specs.Fault.{Gives, seen, read_as, refused}
 use Rattle.nla_frames.specs.Frame.{Frame, type_of}
@@ -10,14 +11,13 @@ use Rattle.tc_canon.specs.Descriptor.{Rows, table, Kinds, unknown, kind, is_know
 use Rattle.tc_canon.specs.Tables.Options.{option_kinds}
 use Rattle.tc_meaning.specs.Tree.{Attribute, other, of_kind}
 use Rattle.tc_meaning.specs.Meaning.{table_codec, kinds_codec}
-use Rattle.tc_meaning.proofs.KindLaws.{bytes_eq-is}
 use Rattle.tc_options.specs.Options.{read_option}
 use Rattle.tc_options.proofs.AnyKind.{are_kindless, rows_same}
 
 module _ (name : List ℕ) (rows : Rows) (named : (f : Frame) → read_option name f ≡ seen (of_kind name) ((table_codec (table rows)).read name f))
     (free : are_kindless rows ≡ true) (k : List ℕ) (f : Frame) (is : bytes_eq k name ≡ true) where
   by_rows : read_option k f ≡ seen (of_kind name) ((table_codec (table rows)).read [] f)
-  by_rows = ap (λ j. read_option j f) (bytes_eq-is k name is) ∙ (named f ∙ ap (seen (of_kind name)) (rows_same rows free (type_of f.word) name [] f))
+  by_rows = ap (λ j. read_option j f) ((bytes_eq-Decides k name).0 is) ∙ (named f ∙ ap (seen (of_kind name)) (rows_same rows free (type_of f.word) name [] f))
 
   pub option_read : (x : Attribute) → (table_codec (table rows)).read [] f ≡ read_as x → read_option k f ≡ read_as (of_kind name x)
   option_read x reads = by_rows ∙ ap (seen (of_kind name)) reads

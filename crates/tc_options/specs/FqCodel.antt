@@ -2,8 +2,8 @@
 use Rattle.nla_frames.specs.DefaultNla.{kept_frame}
 use Rattle.tc_meaning.specs.Tree.{Attribute, known, other, number}
 use Rattle.tc_options.specs.declared.qdiscs.fq_codel.TcQdiscFqCodelOption.{TcQdiscFqCodelOption}
-use Rattle.tc_options.specs.declared.qdiscs.fq_codel.TcQdiscFqCodelOption.TheVariants.{Target, Limit, Interval, Ecn, Flows, Quantum, CeThreshold, DropBatchSize,
-    MemoryLimit, CeThresholdSelector, CeThresholdMask, Other}
+use Rattle.tc_options.specs.declared.qdiscs.fq_codel.TcQdiscFqCodelOption.TheVariants.{Target, Limit, Interval, Ecn, Flows, Quantum, CeThreshold, DropBatchSize}
+use Rattle.tc_options.specs.declared.qdiscs.fq_codel.TcQdiscFqCodelOption.TheVariants.{MemoryLimit, CeThresholdSelector, CeThresholdMask, Other}
 
 abbrev pub fq_codel_option : {A : Type 0} → TcQdiscFqCodelOption A → Attribute
 fq_codel_option (Target n) = known 1 (number n)

@@ -4,7 +4,7 @@ use Rattle.nla_frames.specs.declared.error.DecodeError.{DecodeError}
 use Rattle.nla_frames.specs.Fault.{Outcome}
 use Rattle.nla_frames.specs.Frame.{Frame}
 use Rattle.nla_frames.specs.Reading.{Reads, read_list, keep}
-use Rattle.nla_frames.specs.ListGrammar.{ListReads, ListFault}
+use Rattle.nla_frames.specs.ListGrammar.{ListReads, IsListFault}
 use Rattle.nla_frames.specs.DefaultNla.{kept_frame}
 use Rattle.tc_canon.specs.Descriptor.{by_kind, is_known}
 use Rattle.tc_canon.specs.Tables.Options.{option_kinds}
@@ -47,4 +47,4 @@ ReadsOptions kind f xs =
 
 -- the first fault of the list, a broken frame or one that is refused under the kind; under an unknown kind there is none
 abbrev pub OptionsFault : List ℕ → Frame → DecodeError → Type 0
-OptionsFault kind f e = MatchBool (is_known option_kinds kind) (ListFault read_option keep kind f.value e) ⊥
+OptionsFault kind f e = MatchBool (is_known option_kinds kind) (IsListFault read_option keep kind f.value e) ⊥

@@ -17,8 +17,8 @@ use Rattle.tc_actions.specs.Action.{tc_action}
 use Rattle.tc_actions.specs.declared.actions.action.TcAction.{TcAction}
 use Rattle.tc_options.specs.MatchAll.{action_list}
 use Rattle.tc_options.specs.declared.filters.cls_u32.TcFilterU32Option.{TcFilterU32Option}
-use Rattle.tc_options.specs.declared.filters.cls_u32.TcFilterU32Option.TheVariants.{ClassId, Hash, Link, Divisor, Selector, Police, Action, Indev, Pnct, Mark,
-    Flags, Other}
+use Rattle.tc_options.specs.declared.filters.cls_u32.TcFilterU32Option.TheVariants.{ClassId, Hash, Link, Divisor, Selector, Police, Action, Indev, Pnct, Mark}
+use Rattle.tc_options.specs.declared.filters.cls_u32.TcFilterU32Option.TheVariants.{Flags, Other}
 
 abbrev pub u32_option : {A : Type 0} → TcFilterU32Option A → Attribute
 u32_option (ClassId handle) = known 1 (number (handle_number handle))

@@ -3,3 +3,4 @@
 pub mod bpf;
 pub mod cls_u32;
 pub mod matchall;
+mod types;

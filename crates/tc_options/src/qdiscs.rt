@@ -2,3 +2,4 @@
 
 pub mod fq_codel;
 pub mod ingress;
+mod types;

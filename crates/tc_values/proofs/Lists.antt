@@ -31,7 +31,7 @@ module _ {T : Type 0} (see : T → Attribute) (t : Table) (slice list : List T) 
 
   pub list_fits_as : NestedFits (table_codec t).Fits (table_codec t).write (map see slice)
       ↔ ((class_codec (list_of t)).Fits (items (attributes_of (map see list)))
-          × IsShort ((class_codec (list_of t)).write (items (attributes_of (map see list)))))
+      × IsShort ((class_codec (list_of t)).write (items (attributes_of (map see list)))))
   list_fits_as = rw (same, attributes_again) (λ fits. fits, λ fits. fits)
 
   pub list_is_typed : AllByRecursion (table_codec t).Typed (map see slice) → (class_codec (list_of t)).Typed (items (attributes_of (map see list)))

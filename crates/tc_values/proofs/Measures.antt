@@ -18,5 +18,5 @@ same_measure fits is (Some n) told = (fits.0 told.0, told.1 ∙ ap length is)
 -- of a value, of the attribute that shows it
 pub measured : {N : Type 0} (inner : Inner N) (rows : Rows) (x : Attribute) (word : ℕ) (v : Value N) (len : Option ℕ) → ShownAs inner rows x word v
     → Measures len (ValueFits inner.Fits v) (value_bytes inner.bytes v)
-        → Measures len ((table_codec (table rows)).Fits x) ((table_codec (table rows)).write x).value
+    → Measures len ((table_codec (table rows)).Fits x) ((table_codec (table rows)).write x).value
 measured inner rows x word v len shown given = same_measure shown.fits shown.bytes len given

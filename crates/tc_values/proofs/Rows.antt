@@ -13,8 +13,8 @@ use Rattle.tc_values.specs.Inner.{Inner, IsInner}
 use Rattle.tc_values.specs.Value.{value_class, value_content, SettledValue, SettledAs}
 use Rattle.tc_values.specs.Row.{reads_at, written_at, attribute_of, IsRow, ShownAs}
 use Rattle.tc_values.specs.declared.value.Value.{Value}
-use Rattle.tc_values.specs.declared.value.Value.TheVariants.{Presence, Truth, U8, U16, U32, U16Be, U32Be, Bits1, Bits3, Bits20, Octets4, Octets6, Octets8,
-    Octets16, Bytes, Text, Warning, Kept, Nested}
+use Rattle.tc_values.specs.declared.value.Value.TheVariants.{Presence, Truth, U8, U16, U32, U16Be, U32Be, Bits1, Bits3, Bits20, Octets4, Octets6, Octets8}
+use Rattle.tc_values.specs.declared.value.Value.TheVariants.{Octets16, Bytes, Text, Warning, Kept, Nested}
 use Rattle.tc_values.proofs.Values.{value_written, value_fits, value_typed, value_settled}
 
 -- a typed value at its type, in a codec that writes it by this word and this class
@@ -48,8 +48,10 @@ by_unread n class = record {
 }
 
 pub some_pair : {n m : ℕ} {c d : Class} → ◌≡◌ {A = Option (ℕ × Class)} (Some (n, c)) (Some (m, d)) → (n ≡ m) × (c ≡ d)
-some_pair {n = n} {c = c} e = (ap (λ (o : Option (ℕ × Class)). (unwrap_or {T = ℕ × Class} o (n, c)).0) e,
-    ap (λ (o : Option (ℕ × Class)). (unwrap_or {T = ℕ × Class} o (n, c)).1) e)
+some_pair {n = n} {c = c} e = (
+  ap (λ (o : Option (ℕ × Class)). (unwrap_or {T = ℕ × Class} o (n, c)).0) e,
+  ap (λ (o : Option (ℕ × Class)). (unwrap_or {T = ℕ × Class} o (n, c)).1) e,
+)
 
 written_row : (rows : Rows) (n word : ℕ) (class : Class) → ◌≡◌ {A = Option (ℕ × Class)} (written_at rows n) (Some (word, class))
     → WrittenAt (rows_codec rows n) (reads_at rows n) n word class
@@ -81,7 +83,7 @@ written_row (options m kinds rows) n word class e = go (n == m) e (written_row r
     go : (b : Bool) → ◌≡◌ {A = Option (ℕ × Class)} (cond b None (written_at rows n)) (Some (word, class))
         → (written_at rows n ≡ Some (word, class) → WrittenAt (rows_codec rows n) (reads_at rows n) n word class)
         → WrittenAt (choose b (options_frames m kinds (via a_list (list_codec keep keep (kinds_codec kinds)))) (rows_codec rows n))
-            (cond b true (reads_at rows n)) n word class
+        (cond b true (reads_at rows n)) n word class
     go true e rest = absurd (cc e)
     go false e rest = rest e
 
@@ -122,7 +124,7 @@ module _ {N : Type 0} (inner : Inner N) (is : IsInner inner) (rows : Rows) (word
   -- a typed value, of a class that the table has for its word
   shown_known : (v : Value N) → written_at rows (type_of word) ≡ Some (word, value_class inner v)
       → ((kind : List ℕ) → SettledAs inner.Settled (reads_at rows (type_of word)) kind v
-          ≡ ((reads_at rows (type_of word) ≡ true) × SettledValue inner.Settled kind v))
+      ≡ ((reads_at rows (type_of word) ≡ true) × SettledValue inner.Settled kind v))
       → ShownAs inner rows (known (type_of word) (value_content inner v)) word v
   shown_known v row same =
       let x = value_content inner v in

@@ -19,8 +19,8 @@ use Rattle.tc_values.specs.declared.body.Items.{Items}
 use Rattle.tc_values.specs.declared.body.Either.{Either}
 use Rattle.tc_values.specs.declared.body.Either.TheVariants.{Left, Right}
 use Rattle.tc_values.specs.declared.value.Value.{Value}
-use Rattle.tc_values.specs.declared.value.Value.TheVariants.{Presence, Truth, U8, U16, U32, U16Be, U32Be, Bits1, Bits3, Bits20, Octets4, Octets6, Octets8,
-    Octets16, Bytes, Text, Warning, Kept, Nested}
+use Rattle.tc_values.specs.declared.value.Value.TheVariants.{Presence, Truth, U8, U16, U32, U16Be, U32Be, Bits1, Bits3, Bits20, Octets4, Octets6, Octets8}
+use Rattle.tc_values.specs.declared.value.Value.TheVariants.{Octets16, Bytes, Text, Warning, Kept, Nested}
 use Rattle.tc_values.proofs.Rows.{some_pair}
 
 -- ---- the things that attributes nest
@@ -146,7 +146,7 @@ module _ {N : Type 0} (inner : Inner N) (same : N → N → Bool) (is : IsSame i
 
     typed_same : IsTyped v → IsTyped w → IsRow inner rows word v → IsRow inner rows another w
         → (nat_eq word another && same_value same v w)
-            ≡ (nat_eq (type_of word) (type_of another) && same_content (value_content inner v) (value_content inner w))
+        ≡ (nat_eq (type_of word) (type_of another) && same_content (value_content inner v) (value_content inner w))
     typed_same t u row row' = by_word (nat_eq word another) refl
       where
         rest : Bool
@@ -158,7 +158,7 @@ module _ {N : Type 0} (inner : Inner N) (same : N → N → Bool) (is : IsSame i
             let class = (one_row t u row row' types).1 in
             let held = held_same (holding v) (holding w) (value_class inner v) t.held (subst (IsHeld (holding w)) (sym class) u.held) in
             held ∙ (λ i. same_content (sym t.content i) (sym u.content i))
-                ∙ ap (λ b. b && rest) (sym ((unsigned_Decides (type_of word) (type_of another)).1 types))
+            ∙ ap (λ b. b && rest) (sym ((unsigned_Decides (type_of word) (type_of another)).1 types))
         by_word false e = by_type (nat_eq (type_of word) (type_of another)) refl
           where
             by_type : (b : Bool) → nat_eq (type_of word) (type_of another) ≡ b → false ≡ (b && rest)
@@ -192,7 +192,7 @@ module _ {N : Type 0} (inner : Inner N) (same : N → N → Bool) (is : IsSame i
             (never (holding v) (bytes_kept y) refl held' (unlike_kept y (holding v) t.held.unkept).1)
         go (as_typed t) (as_typed u) =
             seen_as (known (type_of word) (value_content inner v)) (known (type_of another) (value_content inner w)) (t.seen word) (u.seen another)
-                (typed_same t u row row')
+            (typed_same t u row row')
 
 -- a test of two attributes as they are shown is one of what contracts see
 pub same_shown : {N : Type 0} {inner : Inner N} {same : N → N → Bool} → IsSame inner same → (rows : Rows)

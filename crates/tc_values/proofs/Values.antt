@@ -4,8 +4,8 @@ use Rattle.tc_meaning.specs.Meaning.{class_codec, IsShort}
 use Rattle.tc_values.specs.Inner.{Inner, IsInner}
 use Rattle.tc_values.specs.Value.{value_class, value_content, value_bytes, ValueFits, TypedValue, SettledValue}
 use Rattle.tc_values.specs.declared.value.Value.{Value}
-use Rattle.tc_values.specs.declared.value.Value.TheVariants.{Presence, Truth, U8, U16, U32, U16Be, U32Be, Bits1, Bits3, Bits20, Octets4, Octets6, Octets8,
-    Octets16, Bytes, Text, Warning, Kept, Nested}
+use Rattle.tc_values.specs.declared.value.Value.TheVariants.{Presence, Truth, U8, U16, U32, U16Be, U32Be, Bits1, Bits3, Bits20, Octets4, Octets6, Octets8}
+use Rattle.tc_values.specs.declared.value.Value.TheVariants.{Octets16, Bytes, Text, Warning, Kept, Nested}
 
 module _ {N : Type 0} (inner : Inner N) (is : IsInner inner) where
   pub value_written : (v : Value N) → (class_codec (value_class inner v)).write (value_content inner v) ≡ value_bytes inner.bytes v
@@ -31,7 +31,7 @@ module _ {N : Type 0} (inner : Inner N) (is : IsInner inner) where
 
   pub value_fits : (v : Value N)
       → ValueFits inner.Fits v ↔ ((class_codec (value_class inner v)).Fits (value_content inner v)
-          × IsShort ((class_codec (value_class inner v)).write (value_content inner v)))
+      × IsShort ((class_codec (value_class inner v)).write (value_content inner v)))
   value_fits (Presence b) = (λ _. (tt, omega arith), λ _. tt)
   value_fits (Truth b) = (λ _. (tt, omega arith), λ _. tt)
   value_fits (U8 n) = (λ _. (tt, omega arith), λ _. tt)

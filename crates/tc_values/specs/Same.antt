@@ -9,8 +9,8 @@ use Rattle.tc_values.specs.Inner.{Inner}
 use Rattle.tc_values.specs.declared.same.Held.{Held}
 use Rattle.tc_values.specs.declared.same.Held.TheVariants as held
 use Rattle.tc_values.specs.declared.value.Value.{Value}
-use Rattle.tc_values.specs.declared.value.Value.TheVariants.{Presence, Truth, U8, U16, U32, U16Be, U32Be, Bits1, Bits3, Bits20, Octets4, Octets6, Octets8,
-    Octets16, Bytes, Text, Warning, Kept, Nested}
+use Rattle.tc_values.specs.declared.value.Value.TheVariants.{Presence, Truth, U8, U16, U32, U16Be, U32Be, Bits1, Bits3, Bits20, Octets4, Octets6, Octets8}
+use Rattle.tc_values.specs.declared.value.Value.TheVariants.{Octets16, Bytes, Text, Warning, Kept, Nested}
 
 -- what a value holds
 pub data Holding (N : Type 0) : Type 0 where

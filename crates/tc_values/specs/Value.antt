@@ -5,8 +5,8 @@ use Rattle.tc_canon.specs.Descriptor.{Class, le, be, masked, array, raw, text, w
 use Rattle.tc_meaning.specs.Tree.{Content, number, is_bytes, flag}
 use Rattle.tc_values.specs.Inner.{Inner}
 use Rattle.tc_values.specs.declared.value.Value.{Value}
-use Rattle.tc_values.specs.declared.value.Value.TheVariants.{Presence, Truth, U8, U16, U32, U16Be, U32Be, Bits1, Bits3, Bits20, Octets4, Octets6, Octets8,
-    Octets16, Bytes, Text, Warning, Kept, Nested}
+use Rattle.tc_values.specs.declared.value.Value.TheVariants.{Presence, Truth, U8, U16, U32, U16Be, U32Be, Bits1, Bits3, Bits20, Octets4, Octets6, Octets8}
+use Rattle.tc_values.specs.declared.value.Value.TheVariants.{Octets16, Bytes, Text, Warning, Kept, Nested}
 
 -- the class of a value that isn't kept as it stands
 abbrev pub value_class : {N : Type 0} → Inner N → Value N → Class

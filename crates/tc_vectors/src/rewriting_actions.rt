@@ -1,12 +1,12 @@
 //! The worked action messages rewritten and settled: a warning loses one NUL a rewrite.
 
-use crate::rewriting::are_refused;
+use crate::rewriting::faults_are_told;
 use crate::tables::{after_zeros, or_same};
 use crate::worked::{ACTION_FAULTS, ACTIONS, Worked};
-use std::alloc::{AllocError, Global};
+use std::alloc::Global;
 use std::test::Fail;
 use tc_canon::is_canonical_action;
-use tc_inputs::{Form, too_long};
+use tc_inputs::Form;
 use tc_wire::{rewrite_action, settle_action};
 
 /// Action messages with warnings in hex, what they are settled as, and after how many rewrites.
@@ -65,30 +65,7 @@ fn warnings(rt: HostRuntime) -> Result<(), Fail> {
     Ok(())
 }
 
-fn is_refused(alloc: Global, bytes: &[u8], text: &str) -> Result<bool, AllocError> {
-    are_refused(
-        alloc,
-        rewrite_action(alloc, bytes),
-        settle_action(alloc, bytes),
-        text,
-    )
-}
-
 #[test]
 fn refused(rt: HostRuntime) -> Result<(), Fail> {
-    let alloc = rt.alloc();
-    for (frames, fault) in &ACTION_FAULTS {
-        let fault = format!(in alloc; "Decode({fault})")?;
-        let bytes = after_zeros(alloc, 4, frames)?;
-        assert!(rt; is_refused(alloc, &bytes, fault.as_str())?, "{frames}");
-    }
-    assert!(rt;
-        is_refused(
-            alloc,
-            &[0; 3],
-            "Decode(BufferTooSmall { len: 3, needed: 4 })"
-        )?
-    );
-    assert!(rt; is_refused(alloc, &too_long(alloc, Form::Action)?.bytes, "DoesNotFit")?);
-    Ok(())
+    faults_are_told(&rt, rt.alloc(), Form::Action, &ACTION_FAULTS)
 }

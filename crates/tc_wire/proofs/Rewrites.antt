@@ -8,7 +8,7 @@ use Rattle.nla_frames.specs.Codec.{Codec}
 use Rattle.tc_canon.specs.Descriptor.{Field, Rows}
 use Rattle.tc_meaning.specs.Tree.{Attribute}
 use Rattle.tc_meaning.specs.Message.{Message, ReadsWith, read_with, message_codec}
-use Rattle.tc_laws.specs.Rewriting.{Rewrites, Times, RewritesWith, SettlesIn}
+use Rattle.tc_laws.specs.Rewriting.{Rewrites, RewritesTimes, RewritesWith, SettlesIn}
 use Rattle.tc_wire.specs.Rewriting.{RefusedBy, RefusedOf, WrittenOf, Settles}
 use Rattle.tc_wire.specs.declared.rewriting.RewriteError.{RewriteError}
 use Rattle.tc_wire.specs.declared.rewriting.RewriteError.TheVariants.{Decode, DoesNotFit, OutOfMemory}
@@ -25,7 +25,7 @@ refused_by codec outcome Reads Fault reading fault OutOfMemory why = tt
 pub rewritten : (sets : Sets Frame) (by_value : Sets Attribute) (layout : List Field) (rows : Rows) (bytes : List ℕ)
     → ((m : Message) → (read_with sets layout rows bytes ≡ Ok m) ↔ ReadsWith sets layout rows bytes m)
     → (written : List ℕ) → WrittenOf (message_codec sets by_value layout rows) (read_with sets layout rows bytes) written
-        → RewritesWith sets layout rows bytes written
+    → RewritesWith sets layout rows bytes written
 rewritten sets by_value layout rows bytes reading written w = record { message = w.value; reads = (reading w.value).0 w.is_read; fits = w.fits; is = w.is }
 
 -- a test that fails refutes what it tests
@@ -38,7 +38,7 @@ module _ (rewrites : Rewrites) (Canon : List ℕ → Type 0) (Reads : List ℕ �
   pub settles_to : (count : ℕ) (s : SettlesIn rewrites Canon Reads count bytes (norm m)) (settled : List ℕ) → s.final ≡ settled
       → Settles rewrites Canon Reads norm bytes settled count
   settles_to count s settled is = record {
-    reached = subst (Times rewrites count bytes) is s.reached;
+    reached = subst (RewritesTimes rewrites count bytes) is s.reached;
     canonical = subst Canon is s.canonical;
     no_sooner = s.no_sooner;
     message = m;

@@ -3,7 +3,6 @@ use Rattle.std.proofs.Common.{◌≡◌, ◌↔◌, ◌+◌, ℕ, List, Ok, refl
 use Rattle.tc_canon.specs.Canonical.{CanonAct}
 use Rattle.tc_meaning.specs.Message.{Message}
 use Rattle.tc_meaning.specs.Whole.{ReadsAct, read_act, FitsAct}
-use Rattle.tc_meaning.proofs.Outcomes.{ok-same}
 use Rattle.tc_laws.specs.Loose.{nuls_act}
 use Rattle.tc_laws.specs.Norm.{norm_act}
 use Rattle.tc_laws.specs.Rewriting.{RewritesAct, ActSettlesIn, EndsAct}
@@ -20,7 +19,7 @@ module _ (bytes settled : List ℕ) (nuls : ℕ) (t : TrimmedOf bytes settled nu
       let from : EndsAct bytes t.message s.final =
       record { reads = t.reads; fits = t.fits; settles = record { count = nuls_act t.message + 1; reached = s.reached; canonical = s.canonical } } in
       let here : EndsAct settled (norm_act t.message) settled =
-              record { reads = reads; fits = fits; settles = record { count = 0; reached = refl; canonical = canonical } } in
+      record { reads = reads; fits = fits; settles = record { count = 0; reached = refl; canonical = canonical } } in
       let is : s.final ≡ settled = (same_norm t.message (norm_act t.message) s.final settled from here).1 (sym twice) in
       subst (λ (n : ℕ). SettlesAct bytes settled (n + 1)) (sym t.most)
       (settles_to RewritesAct CanonAct ReadsAct norm_act bytes t.message t.reads (nuls_act t.message + 1) s settled is)
@@ -28,5 +27,5 @@ module _ (bytes settled : List ℕ) (nuls : ℕ) (t : TrimmedOf bytes settled nu
   -- it is that of whatever the bytes read as
   pub counted : ((m : Message) → (read_act bytes ≡ Ok m) ↔ ReadsAct bytes m) → (m : Message) → ReadsAct bytes m → nuls + 1 ≡ nuls_act m + 1
   counted reading m reads =
-      let same : t.message ≡ m = ok-same t.message m (sym ((reading t.message).1 t.reads) ∙ (reading m).1 reads) in
+      let same : t.message ≡ m = cc ((reading t.message).1 t.reads, (reading m).1 reads) in
       ap (λ (n : ℕ). n + 1) (t.most ∙ ap nuls_act same)

@@ -1,6 +1,6 @@
 -- The upgrade of a list, attribute by attribute.
-use Rattle.std.proofs.Common.{◌≡◌, ◌==◌, ◌&&◌, ℕ, zero, suc, ◌+◌, ◌<◌, Bool, true, false, not, cond, refl, inl, inr, List, [], ◌∷◌, ◌++◌, length, map, take,
-    drop, get_or, slice_set, sym, ap, subst, ◌∙◌, add-one, arith}
+use Rattle.std.proofs.Common.{◌≡◌, ◌==◌, ◌&&◌, ℕ, zero, suc, ◌+◌, ◌<◌, Bool, true, false, not, cond, refl, inl, inr, List, [], ◌∷◌, ◌++◌, length, map, take}
+use Rattle.std.proofs.Common.{drop, get_or, slice_set, sym, ap, subst, ◌∙◌, add-one, arith}
 use Rattle.nla_frames.specs.Place.{kind_then}
 use Rattle.tc_canon.specs.Descriptor.{is_known}
 use Rattle.tc_canon.specs.Tables.Options.{option_kinds}
@@ -93,7 +93,7 @@ raw_upgraded x word value same raw kind unknown =
     let two : (type_of word == 2) ≡ true = sym (ap is_raw same) ∙ raw in
     let changed : are_unknown_options kind word ≡ true = both_hold (type_of word == 2) (is_known option_kinds kind) two unknown in
     sym (ap (λ (y : Attribute). upgrade_attribute kind (options_of (y ∷ []))) same
-        ∙ ap (λ (b : Bool). cond b (kept 2 word value) (lone_option word value)) changed)
+    ∙ ap (λ (b : Bool). cond b (kept 2 word value) (lone_option word value)) changed)
 
 -- a list of one, by its first
 pub lone_first : {Y : Type 0} (see : Y → Attribute) (ys : List Y) (y : Y) → length ys ≡ 1 → y ≡ get_or ys 0 y → is_raw (see y) ≡ is_lone (map see ys)

@@ -1,7 +1,7 @@
 -- A message's attribute as contracts see it.
 use Rattle.std.specs.Prelude.{◌≡◌, ◌↔◌, ℕ, List, [], map, string_bytes}
 use Rattle.nla_frames.specs.declared.error.DecodeError.{DecodeError}
-use Rattle.nla_frames.specs.ListGrammar.{ListReads, ListFault}
+use Rattle.nla_frames.specs.ListGrammar.{ListReads, IsListFault}
 use Rattle.nla_frames.specs.DefaultNla.{kept_frame}
 use Rattle.tc_canon.specs.Descriptor.{table, by_kind}
 use Rattle.tc_canon.specs.Tables.Messages.{attributes}
@@ -10,8 +10,8 @@ use Rattle.tc_meaning.specs.Message.{kind_of_frame}
 use Rattle.tc_meaning.specs.Tree.{Attribute, known, kept, other, record_of, number, flag, is_bytes, items, attributes_of}
 use Rattle.tc_records.specs.Statistics.{stats_scalars}
 use Rattle.tc_wire.specs.declared.attribute.TcAttribute.{TcAttribute}
-use Rattle.tc_wire.specs.declared.attribute.TcAttribute.TheVariants.{Kind, Options, OptionsRaw, Stats, Xstats, Rate, Fcnt, Stats2, Stab, DumpInvisible, Chain,
-    HwOffload, Other}
+use Rattle.tc_wire.specs.declared.attribute.TcAttribute.TheVariants.{Kind, Options, OptionsRaw, Stats, Xstats, Rate, Fcnt, Stats2, Stab, DumpInvisible, Chain}
+use Rattle.tc_wire.specs.declared.attribute.TcAttribute.TheVariants.{HwOffload, Other}
 use Rattle.tc_options.specs.Options.{tc_option}
 use Rattle.tc_options.specs.declared.options.TcOption.{TcOption}
 use Rattle.tc_canon.specs.Tables.Options.{option_kinds}
@@ -52,7 +52,7 @@ ReadsAttributes = ListReads (table_codec (table attributes)).read kind_of_frame 
 
 -- the first fault of a list of attributes
 abbrev pub AttributesFault : List ℕ → DecodeError → Type 0
-AttributesFault = ListFault (table_codec (table attributes)).read kind_of_frame []
+AttributesFault = IsListFault (table_codec (table attributes)).read kind_of_frame []
 
 abbrev pub Nested : Type 0 → Type 0
 Nested A = Either (Either (Items (TcOption A)) (Items (TcStats2 A))) (Either (Record TcStats) (Record (TcXstats A)))

@@ -9,7 +9,7 @@ use Rattle.tc_meaning.specs.Message.{Message}
 use Rattle.tc_meaning.specs.Whole.{ReadsTc, FaultTc, FitsTc, ReadsAct, FaultAct, FitsAct, act_bytes}
 use Rattle.tc_laws.specs.Loose.{nuls_act}
 use Rattle.tc_laws.specs.Norm.{norm_tc, norm_act}
-use Rattle.tc_laws.specs.Rewriting.{Rewrites, Times, RewritesTc, RewritesAct}
+use Rattle.tc_laws.specs.Rewriting.{Rewrites, RewritesTimes, RewritesTc, RewritesAct}
 use Rattle.tc_wire.specs.declared.rewriting.RewriteError.{RewriteError}
 use Rattle.tc_wire.specs.declared.rewriting.RewriteError.TheVariants.{Decode, DoesNotFit, OutOfMemory}
 
@@ -49,10 +49,10 @@ RefusedOf codec outcome = RefusedBy (λ x. outcome ≡ Ok x) (λ e. outcome ≡ 
 pub record Settles (rewrites : Rewrites) (Canon : List ℕ → Type 0) (Reads : List ℕ → Message → Type 0) (norm : Message → Message) (bytes settled : List ℕ)
     (count : ℕ) : Type 0 where
   -- so many rewrites of the bytes give these
-  pub reached : Times rewrites count bytes settled
+  pub reached : RewritesTimes rewrites count bytes settled
   -- which are canonical, as those that fewer rewrites give aren't
   pub canonical : Canon settled
-  pub no_sooner : (n : ℕ) (written : List ℕ) → n < count → Times rewrites n bytes written → Canon written → ⊥
+  pub no_sooner : (n : ℕ) (written : List ℕ) → n < count → RewritesTimes rewrites n bytes written → Canon written → ⊥
   -- and read as the norm of what the bytes read as
   pub message : Message
   pub reads : Reads bytes message

@@ -20,6 +20,10 @@ ghost use Rattle.tc_values.specs.Value.{value_bytes, ValueFits, TypedValue};
 ghost use Rattle.tc_values.specs.Row.{reads_at};
 ghost use Rattle.tc_wire.specs.Attribute.{tc_attribute, nested, IsWritten, ReadsAttributes, AttributesFault};
 
+use crate::types::{
+    TCA_CHAIN, TCA_DUMP_INVISIBLE, TCA_FCNT, TCA_HW_OFFLOAD, TCA_KIND, TCA_OPTIONS, TCA_RATE,
+    TCA_STAB, TCA_STATS, TCA_STATS2, TCA_XSTATS,
+};
 use nla_frames::laws::in_hand::{bytes_in_hand, text_in_hand, u8_in_hand, u32_in_hand};
 use nla_frames::{
     BytesMeaning, DefaultNla, FrameMeaning, NLA_TYPE_MASK, Nla, NlaBuffer, NlasIterator, Parseable,
@@ -31,29 +35,6 @@ use tc_actions::{TcStats2, TcXstats, kind_told};
 use tc_options::{TcOption, VecTcOption, is_known_kind};
 use tc_records::TcStats;
 use tc_values::{Either, Items, Record, Value};
-
-// The types of a message's attributes, `linux/rtnetlink.h`.
-const TCA_KIND: u16 = 1;
-
-const TCA_OPTIONS: u16 = 2;
-
-const TCA_STATS: u16 = 3;
-
-const TCA_XSTATS: u16 = 4;
-
-const TCA_RATE: u16 = 5;
-
-const TCA_FCNT: u16 = 6;
-
-const TCA_STATS2: u16 = 7;
-
-const TCA_STAB: u16 = 8;
-
-const TCA_DUMP_INVISIBLE: u16 = 10;
-
-const TCA_CHAIN: u16 = 11;
-
-const TCA_HW_OFFLOAD: u16 = 12;
 
 /// An attribute of a message.
 ///

@@ -5,6 +5,7 @@ pub mod attribute;
 pub mod laws;
 pub mod message;
 pub mod rewriting;
+mod types;
 pub mod upgrade;
 
 pub use attribute::TcAttribute;

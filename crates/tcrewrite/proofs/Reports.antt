@@ -11,7 +11,7 @@ use Rattle.tc_canon.specs.Layouts.{tc_header, action_message_header}
 use Rattle.tc_canon.specs.Tables.Messages.{attributes, action_message_attributes}
 use Rattle.tc_meaning.specs.Own.{kind_of_attribute}
 use Rattle.tc_meaning.specs.Whole.{ReadsTc, read_tc, FitsTc, SettledTc, tc_bytes, ReadsAct, read_act, FitsAct, SettledAct, act_bytes}
-use Rattle.tc_meaning.proofs.Headline.{tc-reading, tc-same, tc-canonical, act-reading, act-same, act-canonical}
+use Rattle.tc_meaning.proofs.MessageTheorems.{tc-reading, tc-same, tc-canonical, act-reading, act-same, act-canonical}
 use Rattle.tc_meaning.proofs.FitTests.{told_fits}
 use Rattle.tc_meaning.proofs.SettledTests.{told_settled}
 use Rattle.tcrewrite.specs.Text.{most_text, without_spaces}

@@ -3,7 +3,7 @@
 ghost use Rattle.std.specs.Prelude.{◌≡◌, ◌/◌, min, [], map, length, IfOk};
 ghost use Rattle.nla_frames.specs.Fault.{Gives, IfRefused, seen};
 ghost use Rattle.nla_frames.specs.Buffer.{frame_of};
-ghost use Rattle.nla_frames.specs.ListGrammar.{ReadEach, ListReads, ListFault, FirstRefused};
+ghost use Rattle.nla_frames.specs.ListGrammar.{ReadEach, ListReads, IsListFault, IsFirstRefusal};
 ghost use Rattle.nla_frames.specs.Reading.{read_list, read_each, whole, keep};
 
 use crate::buffer::NlaBuffer;
@@ -18,7 +18,7 @@ pub fn parse_list<A: Allocator + Copy, T: Parseable<A> + Drop>(
     bytes: &[u8],
 ) -> Res<Vec<T, A>>
     ensures found { IfOk result (λ v. ListReads T.codec.read keep [] bytes.now (map T.see v.items)) }
-    ensures refused { IfRefused result (ListFault T.codec.read keep [] bytes.now) }
+    ensures refused { IfRefused result (IsListFault T.codec.read keep [] bytes.now) }
     ensures exact { Gives (seen (λ v. map T.see v.items) result) (read_list T.codec.read keep [] bytes.now) }
 {
     read_all(alloc, bytes)
@@ -43,7 +43,7 @@ pub fn parse_list_with<A: Allocator + Copy, T: ParseableParametrized<A> + Drop>(
     kind: &str,
 ) -> Res<Vec<T, A>>
     ensures found { IfOk result (λ v. ListReads T.codec.read keep kind.now bytes.now (map T.see v.items)) }
-    ensures refused { IfRefused result (ListFault T.codec.read keep kind.now bytes.now) }
+    ensures refused { IfRefused result (IsListFault T.codec.read keep kind.now bytes.now) }
     ensures exact { Gives (seen (λ v. map T.see v.items) result) (read_list T.codec.read keep kind.now bytes.now) }
 {
     read_all_with(alloc, bytes, kind)
@@ -72,7 +72,7 @@ pub fn parse_frames_with<A: Allocator + Copy, T: ParseableParametrized<A> + Drop
     kind: &str,
 ) -> Res<Vec<T, A>>
     ensures found { IfOk result (λ v. ReadEach T.codec.read keep kind.now (map frame_of frames.now) (map T.see v.items)) }
-    ensures refused { IfRefused result (FirstRefused T.codec.read kind.now (map frame_of frames.now)) }
+    ensures refused { IfRefused result (IsFirstRefusal T.codec.read kind.now (map frame_of frames.now)) }
     ensures exact { Gives (seen (λ v. map T.see v.items) result) (read_each T.codec.read keep kind.now (whole (map frame_of frames.now))) }
 {
     read_frames(alloc, frames, kind)

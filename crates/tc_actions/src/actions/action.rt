@@ -15,6 +15,7 @@ ghost use Rattle.tc_actions.specs.Action.{an_action, listed, tc_action, KeepsOrd
 
 use crate::actions::attribute::TcActionAttribute;
 use crate::actions::scan::parse_list_own;
+use crate::actions::types::TCA_ACT_TAB;
 use nla_frames::laws::in_hand::u16_in_hand;
 use nla_frames::{
     FrameMeaning, NLA_TYPE_MASK, Nla, NlaBuffer, Parseable, Res, Settle, list_settled_own,
@@ -22,9 +23,6 @@ use nla_frames::{
 };
 use std::alloc::{Allocator, Global};
 use tc_laws::places::order_in_an_action;
-
-// The type of an action that stands alone, `linux/rtnetlink.h`.
-const TCA_ACT_TAB: u16 = 1;
 
 /// An action. Its kind is the text of its one [`Kind`](TcActionAttribute::Kind), wherever that stands, and its options
 /// and statistics are read under it.

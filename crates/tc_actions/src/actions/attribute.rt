@@ -14,6 +14,10 @@ ghost use Rattle.tc_values.specs.Row.{attribute_of, IsRow, ShownAs, reads_at};
 ghost use Rattle.tc_actions.specs.ActionAttribute.{action_attribute, attribute_body};
 
 use crate::actions::option::TcActionOption;
+use crate::actions::types::{
+    TCA_ACT_COOKIE, TCA_ACT_IN_HW_COUNT, TCA_ACT_INDEX, TCA_ACT_KIND, TCA_ACT_OPTIONS,
+    TCA_ACT_STATS,
+};
 use crate::stats::stats2::TcStats2;
 use nla_frames::{
     DefaultNla, FrameMeaning, NLA_F_NESTED, NLA_TYPE_MASK, Nla, NlaBuffer, Parseable,
@@ -21,19 +25,6 @@ use nla_frames::{
 };
 use std::alloc::{Allocator, Global};
 use tc_values::{Either, Items, Value, same_row};
-
-// The types of an action's attributes, `linux/pkt_cls.h`.
-pub(crate) const TCA_ACT_KIND: u16 = 1;
-
-const TCA_ACT_OPTIONS: u16 = 2;
-
-const TCA_ACT_INDEX: u16 = 3;
-
-const TCA_ACT_STATS: u16 = 4;
-
-const TCA_ACT_COOKIE: u16 = 6;
-
-const TCA_ACT_IN_HW_COUNT: u16 = 10;
 
 /// An attribute of an action.
 ///

@@ -12,6 +12,7 @@ ghost use Rattle.tc_meaning.specs.Equal.{same_attribute, attribute_equiv, attrib
 ghost use Rattle.tc_values.specs.Row.{attribute_of, IsRow, ShownAs, reads_at};
 ghost use Rattle.tc_actions.specs.Mirror.{mirror_option, mirror_body};
 
+use crate::actions::types::{TCA_MIRRED_PARMS, TCA_MIRRED_TM};
 use nla_frames::{DefaultNla, FrameMeaning, NLA_TYPE_MASK, Nla, NlaBuffer, Parseable, Res, Settle};
 use std::alloc::{Allocator, Global};
 use tc_records::{TcMirror, Tcf};
@@ -25,11 +26,6 @@ impl TcActionMirror {
     /// Its name in a `Kind`.
     pub const KIND: &'static str = "mirred";
 }
-
-// The types of its options, `linux/tc_act/tc_mirred.h`.
-const TCA_MIRRED_TM: u16 = 1;
-
-const TCA_MIRRED_PARMS: u16 = 2;
 
 /// An option of the action `mirred`.
 ///

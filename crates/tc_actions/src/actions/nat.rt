@@ -12,6 +12,7 @@ ghost use Rattle.tc_meaning.specs.Equal.{same_attribute, attribute_equiv, attrib
 ghost use Rattle.tc_values.specs.Row.{attribute_of, IsRow, ShownAs, reads_at};
 ghost use Rattle.tc_actions.specs.Nat.{nat_option, nat_body};
 
+use crate::actions::types::{TCA_NAT_PARMS, TCA_NAT_TM};
 use nla_frames::{DefaultNla, FrameMeaning, NLA_TYPE_MASK, Nla, NlaBuffer, Parseable, Res, Settle};
 use std::alloc::{Allocator, Global};
 use tc_records::{TcNat, Tcf};
@@ -25,11 +26,6 @@ impl TcActionNat {
     /// Its name in a `Kind`.
     pub const KIND: &'static str = "nat";
 }
-
-// The types of its options, `linux/tc_act/tc_nat.h`.
-const TCA_NAT_PARMS: u16 = 1;
-
-const TCA_NAT_TM: u16 = 2;
 
 /// An option of the action `nat`.
 ///

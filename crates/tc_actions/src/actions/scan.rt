@@ -11,7 +11,7 @@ ghost use Rattle.tc_meaning.specs.Own.{read_own};
 ghost use Rattle.tc_meaning.specs.OwnGrammar.{first_look, OwnReads, OwnFault};
 ghost use Rattle.tc_actions.specs.Scan.{Scanned};
 
-use crate::actions::attribute::TCA_ACT_KIND;
+use crate::actions::types::TCA_ACT_KIND;
 use nla_frames::{
     DecodeError, NlaBuffer, NlasIterator, OnlyKind, ParseableParametrized, Res, first_capacity,
     parse_frames_with, strip_nul,

@@ -12,6 +12,12 @@ ghost use Rattle.tc_meaning.specs.Equal.{same_attribute, attribute_equiv, attrib
 ghost use Rattle.tc_values.specs.Row.{attribute_of, IsRow, ShownAs, reads_at};
 ghost use Rattle.tc_actions.specs.TunnelKey.{tunnel_key_option, tunnel_key_body};
 
+use crate::actions::types::{
+    TCA_TUNNEL_KEY_ENC_DST_PORT, TCA_TUNNEL_KEY_ENC_IPV4_DST, TCA_TUNNEL_KEY_ENC_IPV4_SRC,
+    TCA_TUNNEL_KEY_ENC_IPV6_DST, TCA_TUNNEL_KEY_ENC_IPV6_SRC, TCA_TUNNEL_KEY_ENC_KEY_ID,
+    TCA_TUNNEL_KEY_ENC_TOS, TCA_TUNNEL_KEY_ENC_TTL, TCA_TUNNEL_KEY_NO_CSUM, TCA_TUNNEL_KEY_PARMS,
+    TCA_TUNNEL_KEY_TM,
+};
 use nla_frames::{
     DefaultNla, FrameMeaning, NLA_TYPE_MASK, Nla, NlaBuffer, Parseable, Res, Settle,
     parse_ipv4_addr, parse_ipv6_addr, parse_u8, parse_u16_be, parse_u32_be,
@@ -29,29 +35,6 @@ impl TcActionTunnelKey {
     /// Its name in a `Kind`.
     pub const KIND: &'static str = "tunnel_key";
 }
-
-// The types of its options, `linux/tc_act/tc_tunnel_key.h`.
-const TCA_TUNNEL_KEY_TM: u16 = 1;
-
-const TCA_TUNNEL_KEY_PARMS: u16 = 2;
-
-const TCA_TUNNEL_KEY_ENC_IPV4_SRC: u16 = 3;
-
-const TCA_TUNNEL_KEY_ENC_IPV4_DST: u16 = 4;
-
-const TCA_TUNNEL_KEY_ENC_IPV6_SRC: u16 = 5;
-
-const TCA_TUNNEL_KEY_ENC_IPV6_DST: u16 = 6;
-
-const TCA_TUNNEL_KEY_ENC_KEY_ID: u16 = 7;
-
-const TCA_TUNNEL_KEY_ENC_DST_PORT: u16 = 9;
-
-const TCA_TUNNEL_KEY_NO_CSUM: u16 = 10;
-
-const TCA_TUNNEL_KEY_ENC_TOS: u16 = 12;
-
-const TCA_TUNNEL_KEY_ENC_TTL: u16 = 13;
 
 /// An option of the action `tunnel_key`.
 ///

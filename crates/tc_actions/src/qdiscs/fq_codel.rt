@@ -8,6 +8,7 @@ ghost use Rattle.tc_meaning.specs.Tree.{Content};
 ghost use Rattle.tc_meaning.specs.Equal.{same_content, content_equiv, content_per};
 ghost use Rattle.tc_actions.specs.FqCodel.{fq_codel_xstats, fq_codel_xstats_codec, IsNoNumber};
 
+use crate::qdiscs::types::{TCA_FQ_CODEL_XSTATS_CLASS, TCA_FQ_CODEL_XSTATS_QDISC};
 use nla_frames::laws::in_hand::bytes_in_hand;
 use nla_frames::{
     BytesMeaning, DecodeError, Emitable, ParseableBytes, Res, SettleBytes, emit_u32, put_bytes,
@@ -25,11 +26,6 @@ impl TcQdiscFqCodel {
     /// Its name in a `Kind`.
     pub const KIND: &'static str = "fq_codel";
 }
-
-// The numbers of its statistics, `linux/pkt_sched.h`.
-const TCA_FQ_CODEL_XSTATS_QDISC: u32 = 0;
-
-const TCA_FQ_CODEL_XSTATS_CLASS: u32 = 1;
 
 // The bytes of such a number.
 const XSTATS_NUMBER_LEN: usize = 4;

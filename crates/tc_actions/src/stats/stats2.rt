@@ -12,6 +12,7 @@ ghost use Rattle.tc_meaning.specs.Equal.{same_attribute, attribute_equiv, attrib
 ghost use Rattle.tc_values.specs.Row.{attribute_of, IsRow, ShownAs, reads_at};
 ghost use Rattle.tc_actions.specs.Stats2.{tc_stats2, stats2_body};
 
+use crate::stats::types::{TCA_STATS_APP, TCA_STATS_BASIC, TCA_STATS_BASIC_HW, TCA_STATS_QUEUE};
 use crate::stats::xstats::TcXstats;
 use nla_frames::{
     DefaultNla, FrameMeaning, NLA_TYPE_MASK, Nla, NlaBuffer, Parseable, ParseableParametrized, Res,
@@ -20,15 +21,6 @@ use nla_frames::{
 use std::alloc::{Allocator, Global};
 use tc_records::{TcStatsBasic, TcStatsQueue};
 use tc_values::{Either, Record, Value, same_row};
-
-// The types of statistics, `linux/gen_stats.h`.
-const TCA_STATS_BASIC: u16 = 1;
-
-const TCA_STATS_QUEUE: u16 = 3;
-
-const TCA_STATS_APP: u16 = 4;
-
-const TCA_STATS_BASIC_HW: u16 = 7;
 
 /// One of the statistics of a queue or of an action.
 ///

@@ -1,7 +1,7 @@
 -- The tables of actions.
 use Rattle.std.specs.Prelude.{codes}
-use Rattle.tc_canon.specs.Descriptor.{Class, Rows, Kinds, others, unknown, kind, le, be, array, raw, text, truth, fields, list_of, own_list, table, every,
-    by_kind, ◌▹◌, at, from, nested}
+use Rattle.tc_canon.specs.Descriptor.{Class, Rows, Kinds, others, unknown, kind, le, be, array, raw, text, truth, fields, list_of, own_list, table, every}
+use Rattle.tc_canon.specs.Descriptor.{by_kind, ◌▹◌, at, from, nested}
 use Rattle.tc_canon.specs.Layouts.{tcf, mirror, nat, tunnel_key}
 use Rattle.tc_canon.specs.Tables.Statistics.{stats2}
 

@@ -14,6 +14,10 @@ ghost use Rattle.tc_values.specs.Bodies.{nothing};
 ghost use Rattle.tc_values.specs.Row.{attribute_of, IsRow, ShownAs, reads_at};
 ghost use Rattle.tc_options.specs.Bpf.{bpf_option};
 
+use crate::filters::types::{
+    TCA_BPF_CLASSID, TCA_BPF_FD, TCA_BPF_FLAGS, TCA_BPF_FLAGS_GEN, TCA_BPF_ID, TCA_BPF_NAME,
+    TCA_BPF_TAG,
+};
 use bitflags::Flags;
 use nla_frames::{
     DecodeError, DefaultNla, FrameMeaning, NLA_TYPE_MASK, Nla, NlaBuffer, Parseable, Res, Settle,
@@ -34,21 +38,6 @@ impl TcFilterBpf {
     /// The bytes of a program's tag: `BPF_TAG_SIZE` of `linux/bpf.h`.
     pub const BPF_TAG_SIZE: usize = 8;
 }
-
-// The types of its options, `linux/pkt_cls.h`.
-const TCA_BPF_CLASSID: u16 = 3;
-
-const TCA_BPF_FD: u16 = 6;
-
-const TCA_BPF_NAME: u16 = 7;
-
-const TCA_BPF_FLAGS: u16 = 8;
-
-const TCA_BPF_FLAGS_GEN: u16 = 9;
-
-const TCA_BPF_TAG: u16 = 10;
-
-const TCA_BPF_ID: u16 = 11;
 
 /// An option of `bpf`; numbers are little-endian.
 ///

@@ -12,6 +12,10 @@ ghost use Rattle.tc_meaning.specs.Equal.{same_attribute, attribute_equiv, attrib
 ghost use Rattle.tc_values.specs.Row.{attribute_of, IsRow, ShownAs, reads_at};
 ghost use Rattle.tc_options.specs.U32.{u32_option, u32_body};
 
+use crate::filters::types::{
+    TCA_U32_ACT, TCA_U32_CLASSID, TCA_U32_DIVISOR, TCA_U32_FLAGS, TCA_U32_HASH, TCA_U32_INDEV,
+    TCA_U32_LINK, TCA_U32_MARK, TCA_U32_PCNT, TCA_U32_POLICE, TCA_U32_SEL,
+};
 use bitflags::Flags;
 use nla_frames::{
     DefaultNla, FrameMeaning, NLA_TYPE_MASK, Nla, NlaBuffer, Parseable, Res, Settle, parse_list,
@@ -30,29 +34,6 @@ impl TcFilterU32 {
     /// Its name in a `Kind`.
     pub const KIND: &'static str = "u32";
 }
-
-// The types of its options, `linux/pkt_cls.h`.
-const TCA_U32_CLASSID: u16 = 1;
-
-const TCA_U32_HASH: u16 = 2;
-
-const TCA_U32_LINK: u16 = 3;
-
-const TCA_U32_DIVISOR: u16 = 4;
-
-const TCA_U32_SEL: u16 = 5;
-
-const TCA_U32_POLICE: u16 = 6;
-
-const TCA_U32_ACT: u16 = 7;
-
-const TCA_U32_INDEV: u16 = 8;
-
-const TCA_U32_PCNT: u16 = 9;
-
-const TCA_U32_MARK: u16 = 10;
-
-const TCA_U32_FLAGS: u16 = 11;
 
 /// An option of `u32`; numbers are little-endian.
 ///

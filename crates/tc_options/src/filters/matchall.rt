@@ -12,6 +12,9 @@ ghost use Rattle.tc_meaning.specs.Equal.{same_attribute, attribute_equiv, attrib
 ghost use Rattle.tc_values.specs.Row.{attribute_of, IsRow, ShownAs, reads_at};
 ghost use Rattle.tc_options.specs.MatchAll.{matchall_option, action_list};
 
+use crate::filters::types::{
+    TCA_MATCHALL_ACT, TCA_MATCHALL_CLASSID, TCA_MATCHALL_FLAGS, TCA_MATCHALL_PCNT,
+};
 use nla_frames::{
     DefaultNla, FrameMeaning, NLA_TYPE_MASK, Nla, NlaBuffer, Parseable, Res, Settle, parse_list,
     parse_u32,
@@ -29,15 +32,6 @@ impl TcFilterMatchAll {
     /// Its name in a `Kind`.
     pub const KIND: &'static str = "matchall";
 }
-
-// The types of its options, `linux/pkt_cls.h`.
-const TCA_MATCHALL_CLASSID: u16 = 1;
-
-const TCA_MATCHALL_ACT: u16 = 2;
-
-const TCA_MATCHALL_FLAGS: u16 = 3;
-
-const TCA_MATCHALL_PCNT: u16 = 4;
 
 /// An option of `matchall`; numbers are little-endian.
 ///

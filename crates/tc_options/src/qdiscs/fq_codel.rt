@@ -13,6 +13,11 @@ ghost use Rattle.tc_values.specs.Bodies.{nothing};
 ghost use Rattle.tc_values.specs.Row.{attribute_of, IsRow, ShownAs, reads_at};
 ghost use Rattle.tc_options.specs.FqCodel.{fq_codel_option};
 
+use crate::qdiscs::types::{
+    TCA_FQ_CODEL_CE_THRESHOLD, TCA_FQ_CODEL_CE_THRESHOLD_MASK, TCA_FQ_CODEL_CE_THRESHOLD_SELECTOR,
+    TCA_FQ_CODEL_DROP_BATCH_SIZE, TCA_FQ_CODEL_ECN, TCA_FQ_CODEL_FLOWS, TCA_FQ_CODEL_INTERVAL,
+    TCA_FQ_CODEL_LIMIT, TCA_FQ_CODEL_MEMORY_LIMIT, TCA_FQ_CODEL_QUANTUM, TCA_FQ_CODEL_TARGET,
+};
 use nla_frames::{
     DefaultNla, FrameMeaning, NLA_TYPE_MASK, Nla, NlaBuffer, Parseable, Res, Settle, parse_u8,
     parse_u32,
@@ -20,29 +25,6 @@ use nla_frames::{
 use std::alloc::{Allocator, Global};
 pub use tc_actions::TcQdiscFqCodel;
 use tc_values::{Value, same_row};
-
-// The types of its options, `linux/pkt_sched.h`.
-const TCA_FQ_CODEL_TARGET: u16 = 1;
-
-const TCA_FQ_CODEL_LIMIT: u16 = 2;
-
-const TCA_FQ_CODEL_INTERVAL: u16 = 3;
-
-const TCA_FQ_CODEL_ECN: u16 = 4;
-
-const TCA_FQ_CODEL_FLOWS: u16 = 5;
-
-const TCA_FQ_CODEL_QUANTUM: u16 = 6;
-
-const TCA_FQ_CODEL_CE_THRESHOLD: u16 = 7;
-
-const TCA_FQ_CODEL_DROP_BATCH_SIZE: u16 = 8;
-
-const TCA_FQ_CODEL_MEMORY_LIMIT: u16 = 9;
-
-const TCA_FQ_CODEL_CE_THRESHOLD_SELECTOR: u16 = 10;
-
-const TCA_FQ_CODEL_CE_THRESHOLD_MASK: u16 = 11;
 
 /// An option of `fq_codel`, each a little-endian number.
 ///

@@ -5,7 +5,7 @@ use crate::run::run;
 use std::alloc::Global;
 use std::process::Abort;
 use std::test::Fail;
-use tc_inputs::{Input, LAST_TYPE, LENGTHS, around, cut_and_changed, made, swept};
+use tc_inputs::{Input, all_around, cut_and_changed, made};
 
 // Asserts that the report on a message names its fault, which isn't want of memory, or says that it came canonical exactly where its bytes
 // are emitted as they came.
@@ -53,13 +53,7 @@ fn cut_and_changed_messages(rt: HostRuntime) -> Result<(), Fail> {
 #[test]
 fn attributes_of_all_types_and_lengths(rt: HostRuntime) -> Result<(), Fail> {
     let alloc = rt.alloc();
-    let mut count = 0usize;
-    for word in 0..=LAST_TYPE {
-        for length in LENGTHS {
-            let inputs = around(alloc, &swept(alloc, word, length)?)?;
-            count = count.wrapping_add(are_judged(&rt, alloc, &inputs)?);
-        }
-    }
+    let count = are_judged(&rt, alloc, &all_around(alloc)?)?;
     assert_eq!(rt; count, 12_210);
     Ok(())
 }

@@ -1,8 +1,8 @@
 -- It refuses where the countdown ends, and otherwise answers what the inner allocator answers. Assumes `Logic`.
 use Rattle.std.proofs.Common.{◌≡◌, ℕ, Bool, true, false, ◌^◌, ◌<◌, List, [], ◌∷◌, Ok, Err, refl, w64, Bor}
 use Rattle.std.proofs.raw_atomic.Walks.{proved}
-use Rattle.std.proofs.alloc.Calls.{Al, token, seen, Answer, answer_val, Answer-typed, Answer-Ok, Answer-err, takes_key, Takes, at_takes, Answered, Takes-goes,
-    Takes-gives, answers}
+use Rattle.std.proofs.alloc.Calls.{Al, token, seen, Answer, answer_val, Answer-typed, Answer-Ok, Answer-err, takes_key, Takes, at_takes, Answered, Takes-goes}
+use Rattle.std.proofs.alloc.Calls.{Takes-gives, answers}
 use Rattle.std.proofs.VecSteps.Shapes.{after}
 use seplogic.Ra.Ura.{Ura}
 use mir.Syntax.{Ty, Fn}
@@ -17,8 +17,8 @@ use contract.BorrowLft.{◌⊑◌, ⊑_trans}
 use contract.Monad.{fact}
 use contract.Running.{Running, MachineTables, tables}
 use types.Logic.{Logic}
-use types.Kit.{Item, ‵, raw, prop, at_ret, Sq, ◌⊛◌, some, later, given, ◌$◌, ◌∵◌, !, qed, done, move, keep, drop, use0, use1, use2, split, join, fsplit, fjoin,
-    learn, pick, await, suffices}
+use types.Kit.{Item, ‵, raw, prop, at_ret, Sq, ◌⊛◌, some, later, given, ◌$◌, ◌∵◌, !, qed, done, move, keep, drop, use0, use1, use2, split, join, fsplit, fjoin}
+use types.Kit.{learn, pick, await, suffices}
 use types.Part.{agg}
 use types.Run.{lit, addr, stop, fld, no_more, and_then, first, branches, skips, exec, returns, returns_within, enter}
 use types.ByLocal.{alloc_all, pass_all, free_all, look_at, get, through, sets, lands_as, env}
@@ -140,7 +140,7 @@ module _ (Z : Al) {M : Type 1} {𝓤 : Ura M} (𝓛 : Logic 𝓤) (𝓜 : Model 
         n al τ sizes.0 sizes.1 n_fits al_fits) $
         calls_at ! (framed 𝓤 𝓛.H 𝓜 𝓣) G takes z (and_then ! (get ! refl) (and_then ! (get ! refl) (and_then ! (get ! refl) (no_more !)))) (λ v.
         use1 𝓛 (later (raw (Answered Z 𝓛 𝓜.mem 𝓡.returns r.now.inner τ v) ⊛ ‵ (flft κ q)))
-            (Takes-gives Z 𝓛 𝓜.mem 𝓡.returns κ q (inner_at Z r) r.now.inner n al τ v) $
+        (Takes-gives Z 𝓛 𝓜.mem 𝓡.returns κ q (inner_at Z r) r.now.inner n al τ v) $
         await ! tt $ split ! $ answers Z ! 𝓜.mem 𝓡.returns r.now.inner τ v
         (λ b o is_block. lands_as ! is_block refl (Answer-typed true b o) $ returns ! (look_at ! 0 refl) $ free_all ! refl $ gives b o)
         (λ is_none. lands_as ! is_none refl (Answer-typed false 0 0) $ returns ! (look_at ! 0 refl) $ free_all ! refl $ refuses)))))))))

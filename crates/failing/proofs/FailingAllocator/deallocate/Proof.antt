@@ -15,8 +15,8 @@ use contract.BorrowLft.{◌⊑◌, ⊑_trans}
 use contract.Monad.{fact}
 use contract.Running.{Running, MachineTables, tables}
 use types.Logic.{Logic, sem}
-use types.Kit.{‵, raw, prop, ◌⊛◌, later, given, ◌$◌, ◌∵◌, !, qed, done, move, keep, use1, split, split3, join, fsplit, fjoin, feq_i, learn, await, regoal,
-    suffices, group}
+use types.Kit.{‵, raw, prop, ◌⊛◌, later, given, ◌$◌, ◌∵◌, !, qed, done, move, keep, use1, split, split3, join, fsplit, fjoin, feq_i, learn, await, regoal}
+use types.Kit.{suffices, group}
 use types.Run.{of_opd, unit_lit, addr, stop, fld, no_more, and_then, returns, enter}
 use types.ByLocal.{alloc_all, pass_all, free_all, look_at, get, through, sets, lands_as}
 use denote.Builtin.{usize, RawPtr}
@@ -47,8 +47,10 @@ module _ (Z : Al) where
 
   -- nothing is wanted of the parameters at the end
   abbrev stayed : Stays promise.signature.params promise.kept
-  stayed = (stay_dropped (self Z) yes,
-      (stay_dropped (plain (λ _. RawPtr)) yes, (stay_dropped (plain (λ _. usize)) yes, (stay_dropped (plain (λ _. usize)) yes, tt))))
+  stayed = (
+    stay_dropped (self Z) yes,
+    (stay_dropped (plain (λ _. RawPtr)) yes, (stay_dropped (plain (λ _. usize)) yes, (stay_dropped (plain (λ _. usize)) yes, tt))),
+  )
 
   -- the code, at the inner allocator's type
   abbrev here : Fn
@@ -101,7 +103,7 @@ module _ (Z : Al) {M : Type 1} {𝓤 : Ura M} (𝓛 : Logic 𝓤) (𝓜 : Model 
         use1 𝓛 (raw (G.pre (z b o))) (Gives-goes Z 𝓛 𝓜.mem 𝓡.returns κ q (inner_at Z r) r.now.inner (⊑_trans κ ρ Z.row.lives inn lives)
         b o n al τ sizes.0 sizes.1 n_fits al_fits) $
         calls_at ! (framed 𝓤 𝓛.H 𝓜 𝓣) G frees (z b o)
-            (and_then ! (get ! refl) (and_then ! (get ! refl) (and_then ! (get ! refl) (and_then ! (get ! refl) (no_more !))))) (λ v.
+        (and_then ! (get ! refl) (and_then ! (get ! refl) (and_then ! (get ! refl) (and_then ! (get ! refl) (no_more !))))) (λ v.
         use1 𝓛 (later (given (v ≡ vunit) (‵ (flft κ q)))) (Gives-Gives Z 𝓛 𝓜.mem 𝓡.returns κ q (inner_at Z r) r.now.inner b o n al τ v) $
         await ! tt $ learn ! (λ is_unit. lands_as ! is_unit refl (tt, tt) $
         sets ! (of_opd ! (unit_lit !)) refl (tt, tt) $ returns ! (look_at ! 0 refl) $ free_all ! refl $

@@ -10,7 +10,7 @@ pub loop-item-preserved : goal.loop-item-preserved
 loop-item-preserved g c =
     let here : IsAt c.args.items.now c.loop-item.item-index c.item-item.result = record { within = omega arith; is = c.item-item.is } in
     tells_next g.T.SetsKind.sets c.args.items.now _ _ c.loop-item.item-index c.item-item.result here c.loop-item.invariant
-        (rw c.kind_set.ensures at c.and-only.ensures)
+    (rw c.kind_set.ensures at c.and-only.ensures)
 
 pub returns : goal.returns
 returns g c =

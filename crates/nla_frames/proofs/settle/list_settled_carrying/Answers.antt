@@ -14,9 +14,9 @@ returns-then-not-is_settled_under-clause-settled g c =
     let m = g.T.FrameMeaning in
     let here : IsAt c.args.items.now c.loop-item.item-index c.item-item.result = record { within = omega arith; is = c.item-item.is } in
     let not : m.codec.Settled c.loop-item.in_force.now (m.see c.item-item.result) → ⊥ =
-            λ s. absurd (cc (c.is_settled_under.ensures.settled.1 s, c.if-not-is_settled_under.true)) in
+    λ s. absurd (cc (c.is_settled_under.ensures.settled.1 s, c.if-not-is_settled_under.true)) in
     let never = unsettled (λ y. m.codec.Typed (m.see y))
-            (λ k y. m.codec.Settled k (m.see y)) g.T.SetsKind.sets [] c.args.items.now here _ c.loop-item.invariant.1 not in
+    (λ k y. m.codec.Settled k (m.see y)) g.T.SetsKind.sets [] c.args.items.now here _ c.loop-item.invariant.1 not in
     (λ yes. absurd (cc yes), λ all. absurd (never all))
 
 pub loop-item-preserved : goal.loop-item-preserved
@@ -25,7 +25,7 @@ loop-item-preserved g c =
     let here : IsAt c.args.items.now c.loop-item.item-index c.item-item.result = record { within = omega arith; is = c.item-item.is } in
     let yes = c.if-not-is_settled_under.false in
     let next = settled_next (λ y. m.codec.Typed (m.see y))
-            (λ k y. m.codec.Settled k (m.see y)) g.T.SetsKind.sets [] c.args.items.now here _ c.loop-item.invariant.1
+    (λ k y. m.codec.Settled k (m.see y)) g.T.SetsKind.sets [] c.args.items.now here _ c.loop-item.invariant.1
     (c.is_settled_under.ensures.typed yes) (c.is_settled_under.ensures.settled.0 yes) in
     let kind = c.kind_then-in_force.ensures ∙ ap (kind_after c.loop-item.in_force.now) c.kind_set.ensures in
     (c.kind_then-in_force.utf8, rw kind next)
@@ -34,12 +34,12 @@ pub returns-clause-settled : goal.returns-clause-settled
 returns-clause-settled g c =
     let m = g.T.FrameMeaning in
     let end = settled_end (λ y. m.codec.Typed (m.see y)) (λ k y. m.codec.Settled k (m.see y)) g.T.SetsKind.sets [] c.args.items.now _ c.loop-item.item-index
-            (omega arith) c.loop-item.invariant.1 in
+    (omega arith) c.loop-item.invariant.1 in
     (λ _. end.0, λ _. refl)
 
 pub returns-clause-typed : goal.returns-clause-typed
 returns-clause-typed g c =
     let m = g.T.FrameMeaning in
     let end = settled_end (λ y. m.codec.Typed (m.see y)) (λ k y. m.codec.Settled k (m.see y)) g.T.SetsKind.sets [] c.args.items.now _ c.loop-item.item-index
-            (omega arith) c.loop-item.invariant.1 in
+    (omega arith) c.loop-item.invariant.1 in
     λ _. subst (λ t. t) (sym (all_seen m.see m.codec.Typed c.args.items.now)) end.1

@@ -9,4 +9,4 @@ abbrev pub invariant-loop-item : goal.invariant-loop-item
 invariant-loop-item g l =
     let m = g.T.FrameMeaning in
     shadow (Utf8 l.in_force) × SettledSoFar (λ y. m.codec.Typed (m.see y))
-        (λ k y. m.codec.Settled k (m.see y)) g.T.SetsKind.sets [] l.items l.in_force l.item-index
+    (λ k y. m.codec.Settled k (m.see y)) g.T.SetsKind.sets [] l.items l.in_force l.item-index

@@ -4,9 +4,9 @@ use Rattle.nla_frames.specs.Reading.{keep}
 use Rattle.tc_canon.specs.Layouts.{action_message_header}
 use Rattle.tc_canon.specs.Tables.Messages.{action_message_attributes}
 use Rattle.tc_canon.specs.Canonical.{CanonAct}
-use Rattle.tc_meaning.proofs.Headline.{wire_slice}
-use Rattle.tc_laws.proofs.RewritingLaws.{loose, typed-norm, fits-norm, act-norm, act-norm_canonical, canonical-norm, one-way, at-once, settles-in, final-norm,
-    act_words, act_next}
+use Rattle.tc_meaning.proofs.MessageTheorems.{wire_slice}
+use Rattle.tc_laws.proofs.RewritingLaws.{loose, typed-norm, fits-norm, act-norm, act-norm_canonical, canonical-norm, one-way, at-once, settles-in, final-norm}
+use Rattle.tc_laws.proofs.RewritingLaws.{act_words, act_next}
 use Rattle.tc_laws.proofs.rewriting.action_rewriting.Goals as goal
 
 wire : (c : goal.Start) → IsWireBytes c.args.bytes.now

@@ -4,7 +4,7 @@ use Rattle.nla_frames.specs.Reading.{keep}
 use Rattle.tc_canon.specs.Layouts.{action_message_header}
 use Rattle.tc_canon.specs.Tables.Messages.{action_message_attributes}
 use Rattle.tc_canon.specs.Canonical.{CanonAct}
-use Rattle.tc_meaning.proofs.Headline.{wire_slice}
+use Rattle.tc_meaning.proofs.MessageTheorems.{wire_slice}
 use Rattle.tc_laws.proofs.RewritingLaws.{same-norm, act_words, act_next}
 use Rattle.tc_laws.proofs.rewriting.action_same_norm.Goals as goal
 

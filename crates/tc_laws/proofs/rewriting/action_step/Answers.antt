@@ -5,7 +5,7 @@ use Rattle.tc_canon.specs.Layouts.{action_message_header}
 use Rattle.tc_canon.specs.Tables.Messages.{action_message_attributes}
 use Rattle.tc_canon.specs.Canonical.{CanonAct}
 use Rattle.tc_laws.proofs.TrimLaws.{message_trims}
-use Rattle.tc_meaning.proofs.Headline.{wire_slice}
+use Rattle.tc_meaning.proofs.MessageTheorems.{wire_slice}
 use Rattle.tc_laws.proofs.RewritingLaws.{next-read, canonical-next, act_words, act_next}
 use Rattle.tc_laws.proofs.rewriting.action_step.Goals as goal
 

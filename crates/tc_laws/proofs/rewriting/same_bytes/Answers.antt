@@ -1,6 +1,6 @@
 use Rattle.std.proofs.Common.{ap}
 use Rattle.tc_meaning.specs.Whole.{tc_bytes, act_bytes}
-use Rattle.tc_meaning.proofs.Headline.{tc-equal, act-equal}
+use Rattle.tc_meaning.proofs.MessageTheorems.{tc-equal, act-equal}
 use Rattle.tc_laws.proofs.rewriting.same_bytes.Goals as goal
 
 pub returns-clause-tc : goal.returns-clause-tc

@@ -4,9 +4,9 @@ use Rattle.tc_canon.specs.Layouts.{tc_header}
 use Rattle.tc_canon.specs.Tables.Messages.{attributes}
 use Rattle.tc_canon.specs.Canonical.{CanonTc}
 use Rattle.tc_meaning.specs.Own.{kind_of_frame, kind_of_attribute}
-use Rattle.tc_meaning.proofs.Headline.{wire_slice}
-use Rattle.tc_laws.proofs.RewritingLaws.{loose, typed-norm, fits-norm, tc-norm, tc-norm_canonical, canonical-norm, one-way, at-once, tc-settles, tc-written,
-    tc-written_norm, final-norm, tc_words, tc_next}
+use Rattle.tc_meaning.proofs.MessageTheorems.{wire_slice}
+use Rattle.tc_laws.proofs.RewritingLaws.{loose, typed-norm, fits-norm, tc-norm, tc-norm_canonical, canonical-norm, one-way, at-once, tc-settles, tc-written}
+use Rattle.tc_laws.proofs.RewritingLaws.{tc-written_norm, final-norm, tc_words, tc_next}
 use Rattle.tc_laws.proofs.rewriting.tc_rewriting.Goals as goal
 
 wire : (c : goal.Start) → IsWireBytes c.args.bytes.now

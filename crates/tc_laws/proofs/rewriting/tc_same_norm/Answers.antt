@@ -4,7 +4,7 @@ use Rattle.tc_canon.specs.Layouts.{tc_header}
 use Rattle.tc_canon.specs.Tables.Messages.{attributes}
 use Rattle.tc_canon.specs.Canonical.{CanonTc}
 use Rattle.tc_meaning.specs.Own.{kind_of_frame, kind_of_attribute}
-use Rattle.tc_meaning.proofs.Headline.{wire_slice}
+use Rattle.tc_meaning.proofs.MessageTheorems.{wire_slice}
 use Rattle.tc_laws.proofs.RewritingLaws.{same-norm, tc_words, tc_next}
 use Rattle.tc_laws.proofs.rewriting.tc_same_norm.Goals as goal
 

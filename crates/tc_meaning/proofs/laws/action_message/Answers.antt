@@ -1,6 +1,6 @@
 use Rattle.std.proofs.Common.{arith}
 use Rattle.nla_frames.specs.Codec.{IsWireBytes}
-use Rattle.tc_meaning.proofs.Headline.{wire_slice, act-reading, act-typed, act-back, act-same, act-canonical, act-settled, act-equal, act-memory}
+use Rattle.tc_meaning.proofs.MessageTheorems.{wire_slice, act-reading, act-typed, act-back, act-same, act-canonical, act-settled, act-equal, act-memory}
 use Rattle.tc_meaning.proofs.laws.action_message.Goals as goal
 
 wire : (c : goal.Start) → IsWireBytes c.args.bytes.now

@@ -1,6 +1,6 @@
 use Rattle.std.proofs.Common.{arith}
 use Rattle.nla_frames.specs.Codec.{IsWireBytes}
-use Rattle.tc_meaning.proofs.Headline.{wire_slice, tc-reading, tc-typed, tc-back, tc-same, tc-canonical, tc-settled, tc-equal, tc-memory, settled-places}
+use Rattle.tc_meaning.proofs.MessageTheorems.{wire_slice, tc-reading, tc-typed, tc-back, tc-same, tc-canonical, tc-settled, tc-equal, tc-memory, settled-places}
 use Rattle.tc_meaning.proofs.laws.tc_message.Goals as goal
 use Rattle.tc_meaning.specs.Own.{kind_of_attribute}
 use Rattle.tc_canon.specs.Layouts.{tc_header}

@@ -22,19 +22,19 @@ pub returns-in_err-frame : goal.returns-in_err-frame
 returns-in_err-frame g c =
     let p = err_from_is_err_and c.from_residual-in_err-frame.result c.from_residual-in_err-frame.ensures.1 in
     rw (p.1, p.2) (breaks (table_codec (table attributes)).read kind_of_frame _ _ _ _ c.loop-frame.invariant.1 _ _
-        (rw c.in_err-frame.was at c.in-Some.ensures.steps))
+    (rw c.in_err-frame.was at c.in-Some.ensures.steps))
 
 pub returns-in_err-item : goal.returns-in_err-item
 returns-in_err-item g c =
     let p = err_from_is_err_and c.from_residual-in_err-item.result c.from_residual-in_err-item.ensures.1 in
     rw (p.1, p.2) (refuses (table_codec (table attributes)).read kind_of_frame _ _ _ _ c.loop-frame.invariant.1 _ _ _
-        (rw c.in_ok-frame.was at c.in-Some.ensures.steps) c.in_err-item.ensures)
+    (rw c.in_ok-frame.was at c.in-Some.ensures.steps) c.in_err-item.ensures)
 
 pub returns-in_err-told : goal.returns-in_err-told
 returns-in_err-told g c =
     let p = err_from_is_err_and c.from_residual-in_err-told.result c.from_residual-in_err-told.ensures.1 in
     rw (p.1, p.2) (refuses (table_codec (table attributes)).read kind_of_frame _ _ _ _ c.loop-frame.invariant.1 _ _ _
-        (rw c.in_ok-frame.was at c.in-Some.ensures.steps)
+    (rw c.in_ok-frame.was at c.in-Some.ensures.steps)
     (not_read _ _ _ c.in_err-told.ensures))
 
 pub loop-frame-preserved : goal.loop-frame-preserved
@@ -43,7 +43,7 @@ loop-frame-preserved g c =
       c.kind_then-kind.utf8,
       rw (c.in_ok-push.ensures.items, map_push, kind)
           (goes_on (table_codec (table attributes)).read kind_of_frame _ _ _ _ c.loop-frame.invariant.1 _ _ _
-              (rw c.in_ok-frame.was at c.in-Some.ensures.steps) c.in_ok-item.ensures),
+          (rw c.in_ok-frame.was at c.in-Some.ensures.steps) c.in_ok-item.ensures),
     )
 
 pub returns : goal.returns

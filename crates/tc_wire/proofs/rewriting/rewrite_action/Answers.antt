@@ -10,13 +10,13 @@ use Rattle.tc_wire.proofs.rewriting.rewrite_action.Goals as goal
 pub returns-clause-written : goal.returns-clause-written
 returns-clause-written g c =
     IfOk-weaker c.rewrite.result _ _
-        (λ w. rewritten keep keep action_message_header action_message_attributes c.args.bytes.now c.action_message.ensures.reading w.items)
-        c.rewrite.ensures.written
+    (λ w. rewritten keep keep action_message_header action_message_attributes c.args.bytes.now c.action_message.ensures.reading w.items)
+    c.rewrite.ensures.written
 
 pub returns-clause-refused : goal.returns-clause-refused
 returns-clause-refused g c =
     let codec = message_codec keep keep action_message_header action_message_attributes in
     let bytes = c.args.bytes.now in
     IfErr-weaker c.rewrite.result _ _
-        (refused_by codec (read_act bytes) (ReadsAct bytes) (FaultAct bytes) c.action_message.ensures.reading c.action_message.ensures.fault)
-        c.rewrite.ensures.refused
+    (refused_by codec (read_act bytes) (ReadsAct bytes) (FaultAct bytes) c.action_message.ensures.reading c.action_message.ensures.fault)
+    c.rewrite.ensures.refused

@@ -12,7 +12,7 @@ returns-then-is_canonical_action-clause-settled g c =
     let canonical = c.is_canonical_action.ensures.0 c.if-is_canonical_action.true in
     let m = c.action_message.ensures.canonical canonical in
     settles_at_once RewritesAct CanonAct ReadsAct norm_act c.args.bytes.now m.0 m.1
-        (c.action_rewriting.ensures.at_once m.0 m.1 m.2 canonical) _ c.in_ok-copy.ensures.items
+    (c.action_rewriting.ensures.at_once m.0 m.1 m.2 canonical) _ c.in_ok-copy.ensures.items
 
 pub returns-clause-settled : goal.returns-clause-settled
 returns-clause-settled g c =
@@ -26,11 +26,14 @@ returns-clause-settled g c =
     let canonical = subst CanonAct (sym t.is) (laws.norm_canonical t.message t.reads t.fits) in
     let twice = (rw c.deref.ensures.value at c.action_rewriting-2.ensures.canonical) (norm_act t.message) reads fits canonical in
     settles_trimmed c.args.bytes.now c.in_ok-settled.settled.items c.in_ok-settled.nuls t (laws.settles t.message t.reads t.fits not)
-        (rw c.deref-2.ensures.value at c.action_same_norm.ensures)
+    (rw c.deref-2.ensures.value at c.action_same_norm.ensures)
     reads fits canonical twice
 
 pub returns-clause-count : goal.returns-clause-count
 returns-clause-count g c = λ m reads.
     let not = refuted c.is_canonical_action.result c.is_canonical_action.ensures c.if-is_canonical_action.false in
-    inr (not, counted c.args.bytes.now c.in_ok-settled.settled.items c.in_ok-settled.nuls c.in_ok-settled.ensures.trimmed c.action_message.ensures.reading m
-        reads)
+    inr (
+      not,
+      counted c.args.bytes.now c.in_ok-settled.settled.items c.in_ok-settled.nuls c.in_ok-settled.ensures.trimmed c.action_message.ensures.reading m
+          reads,
+    )

@@ -15,17 +15,17 @@ returns-in_err-message-clause-refused g c =
     let bytes = c.args.bytes.now in
     let p = err_from_is_err_and c.from_residual.result c.from_residual.ensures.1 in
     rw (p.1, p.2) (refused_by codec (read_act bytes) (ReadsAct bytes)
-        (FaultAct bytes) c.action_message.ensures.reading c.action_message.ensures.fault _ c.in_err-message.ensures.refused)
+    (FaultAct bytes) c.action_message.ensures.reading c.action_message.ensures.fault _ c.in_err-message.ensures.refused)
 
 pub buffer_len-len-requires : goal.buffer_len-len-requires
 buffer_len-len-requires g c =
     subst FitsAct (sym c.trim_warnings-nuls.ensures.trimmed)
-        (c.action_rewriting.ensures.norm_fits (action_message c.in_ok-message.message) c.in_ok-message.ensures.fits)
+    (c.action_rewriting.ensures.norm_fits (action_message c.in_ok-message.message) c.in_ok-message.ensures.fits)
 
 pub emitted-requires-clause-fits : goal.emitted-requires-clause-fits
 emitted-requires-clause-fits g c =
     subst FitsAct (sym c.trim_warnings-nuls.ensures.trimmed)
-        (c.action_rewriting.ensures.norm_fits (action_message c.in_ok-message.message) c.in_ok-message.ensures.fits)
+    (c.action_rewriting.ensures.norm_fits (action_message c.in_ok-message.message) c.in_ok-message.ensures.fits)
 
 pub returns-clause-trimmed : goal.returns-clause-trimmed
 returns-clause-trimmed g c = record {

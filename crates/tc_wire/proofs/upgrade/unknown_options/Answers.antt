@@ -17,9 +17,9 @@ returns-in-Some-unread g c =
     let last = rw c.in-Some.ensures.items at (sym lone ∙ c.if-not-is_lone_option.false) in
     let one = lone_popped tc_option c.pop.new.self.items c.in-Some.option last in
     let upgraded = raw_upgraded (tc_option c.in-Some.option) (kept_frame c.in-Some-unread.nla).word
-            (kept_frame c.in-Some-unread.nla).value c.in-Some-unread.ensures one.1 in
+    (kept_frame c.in-Some-unread.nla).value c.in-Some-unread.ensures one.1 in
     subst (λ (xs : List Attribute). UpgradesAs false (options_of xs) (kept 2 (kept_frame c.in-Some-unread.nla).word (kept_frame c.in-Some-unread.nla).value))
-        (sym (ap (map tc_option) c.in-Some.ensures.items ∙ one.0)) upgraded
+    (sym (ap (map tc_option) c.in-Some.ensures.items ∙ one.0)) upgraded
 
 pub returns-in-None-unread : goal.returns-in-None-unread
 returns-in-None-unread g c =

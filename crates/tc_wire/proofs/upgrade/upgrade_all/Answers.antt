@@ -6,5 +6,5 @@ use Rattle.tc_wire.proofs.upgrade.upgrade_all.Goals as goal
 pub loop-i-preserved : goal.loop-i-preserved
 loop-i-preserved g c =
     goes_on tc_attribute c.index-list-i.result c.upgrade_one-is_known.new.attribute
-        (map tc_attribute c.args.list.now) c.loop-i.list c.loop-i.i _ _ c.loop-i.invariant (omega arith)
+    (map tc_attribute c.args.list.now) c.loop-i.list c.loop-i.i _ _ c.loop-i.invariant (omega arith)
     c.upgrade_one-is_known.ensures.upgraded c.upgrade_one-is_known.ensures.known

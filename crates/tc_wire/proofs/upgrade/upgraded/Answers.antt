@@ -11,4 +11,4 @@ returns-then-is_known g c = rw c.in-Options.is (stays_if_known c.args.is_known (
 pub returns-else-is_known : goal.returns-else-is_known
 returns-else-is_known g c =
     rw c.in-Options.is (subst (λ (b : Bool). UpgradesAs b (options_of (map tc_option c.in-Options.options.items)) (tc_attribute c.unknown_options.result))
-        (sym c.if-is_known.false) c.unknown_options.ensures)
+    (sym c.if-is_known.false) c.unknown_options.ensures)

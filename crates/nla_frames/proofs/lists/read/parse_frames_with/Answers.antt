@@ -1,6 +1,6 @@
 use Rattle.std.proofs.Common.{map}
 use Rattle.nla_frames.specs.Buffer.{frame_of}
-use Rattle.nla_frames.specs.ListGrammar.{ReadEach, FirstRefused}
+use Rattle.nla_frames.specs.ListGrammar.{ReadEach, IsFirstRefusal}
 use Rattle.nla_frames.specs.Reading.{read_each, whole, keep}
 use Rattle.nla_frames.proofs.Outcomes.{IfOk-Gives, IfRefused-Gives}
 use Rattle.nla_frames.proofs.CutLists.{each_read, first_of_frames}
@@ -18,5 +18,5 @@ returns-clause-refused g c =
     let fs = map frame_of c.args.frames.now in
     let kind = c.args.kind.now in
     IfRefused-Gives (λ v. map g.T.FrameMeaning.see v.items) c.read_frames.result
-        (read_each g.T.FrameMeaning.codec.read keep kind (whole fs)) c.read_frames.ensures
-    (FirstRefused g.T.FrameMeaning.codec.read kind fs) (first_of_frames g.T.FrameMeaning.codec.read kind fs)
+    (read_each g.T.FrameMeaning.codec.read keep kind (whole fs)) c.read_frames.ensures
+    (IsFirstRefusal g.T.FrameMeaning.codec.read kind fs) (first_of_frames g.T.FrameMeaning.codec.read kind fs)

@@ -1,9 +1,9 @@
 use Rattle.std.proofs.Common.{map, []}
 use Rattle.nla_frames.specs.Reading.{keep, read_list}
-use Rattle.nla_frames.specs.ListGrammar.{ListReads, ListFault}
+use Rattle.nla_frames.specs.ListGrammar.{ListReads, IsListFault}
 use Rattle.nla_frames.proofs.Bytes.{IsBytes-slice}
 use Rattle.nla_frames.proofs.Outcomes.{IfOk-Gives, IfRefused-Gives}
-use Rattle.nla_frames.proofs.ListGrammarLaws.{ListReads-read_list, ListFault-read_list}
+use Rattle.nla_frames.proofs.ListGrammarLaws.{ListReads-read_list, IsListFault-read_list}
 use Rattle.nla_frames.proofs.lists.read.parse_list.Goals as goal
 
 pub returns-clause-found : goal.returns-clause-found
@@ -18,4 +18,4 @@ returns-clause-refused g c =
     let reads = g.T.FrameMeaning.codec.read in
     let are_bytes = IsBytes-slice c.args.bytes.now c.type_inv.bytes in
     IfRefused-Gives (λ v. map g.T.FrameMeaning.see v.items) c.read_all.result (read_list reads keep [] c.args.bytes.now) c.read_all.ensures
-    (ListFault reads keep [] c.args.bytes.now) (λ e. ListFault-read_list reads keep [] c.args.bytes.now e are_bytes)
+    (IsListFault reads keep [] c.args.bytes.now) (λ e. IsListFault-read_list reads keep [] c.args.bytes.now e are_bytes)

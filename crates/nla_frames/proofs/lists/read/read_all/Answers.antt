@@ -20,7 +20,7 @@ pub returns-in_err-item : goal.returns-in_err-item
 returns-in_err-item g c =
     let p = err_from_is_err_and c.from_residual-in_err-item.result c.from_residual-in_err-item.ensures.1 in
     rw (p.1, p.2) (refuses g.T.FrameMeaning.codec.read keep [] _ _ _ c.loop-frame.invariant _ _ _
-        (rw c.in_ok-frame.was at c.in-Some.ensures.steps) c.in_err-item.ensures)
+    (rw c.in_ok-frame.was at c.in-Some.ensures.steps) c.in_err-item.ensures)
 
 pub loop-frame-preserved : goal.loop-frame-preserved
 loop-frame-preserved g c =

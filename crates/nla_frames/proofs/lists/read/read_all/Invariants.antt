@@ -6,4 +6,4 @@ use Rattle.nla_frames.proofs.lists.read.read_all.Given as goal
 abbrev pub invariant-loop-frame : goal.invariant-loop-frame
 invariant-loop-frame g l =
     before (map g.T.FrameMeaning.see l.list.items) (read_each g.T.FrameMeaning.codec.read keep [] (items_left l.frame-iterator))
-        ≡ read_list g.T.FrameMeaning.codec.read keep [] l.bytes
+    ≡ read_list g.T.FrameMeaning.codec.read keep [] l.bytes

@@ -20,13 +20,13 @@ pub returns-in_err-item : goal.returns-in_err-item
 returns-in_err-item g c =
     let p = err_from_is_err_and c.from_residual-in_err-item.result c.from_residual-in_err-item.ensures.1 in
     rw (p.1, p.2) (refuses g.T.FrameMeaning.codec.read keep c.args.kind.now _ _ _ c.loop-frame.invariant _ _ _
-        (rw c.in_ok-frame.was at c.in-Some.ensures.steps) c.in_err-item.ensures)
+    (rw c.in_ok-frame.was at c.in-Some.ensures.steps) c.in_err-item.ensures)
 
 pub loop-frame-preserved : goal.loop-frame-preserved
 loop-frame-preserved g c =
     rw (c.in_ok-push.ensures.items, map_push)
     (goes_on g.T.FrameMeaning.codec.read keep c.args.kind.now _ _ _ c.loop-frame.invariant _ _ _
-        (rw c.in_ok-frame.was at c.in-Some.ensures.steps) c.in_ok-item.ensures)
+    (rw c.in_ok-frame.was at c.in-Some.ensures.steps) c.in_ok-item.ensures)
 
 pub returns : goal.returns
 returns g c = is_done g.T.FrameMeaning.codec.read keep c.args.kind.now _ _ _ c.loop-frame.invariant c.in-None.ensures.steps.0

@@ -6,4 +6,4 @@ use Rattle.nla_frames.proofs.lists.read.read_frames.Given as goal
 abbrev pub invariant-loop-frame : goal.invariant-loop-frame
 invariant-loop-frame g l =
     before (map g.T.FrameMeaning.see l.list.items) (read_each g.T.FrameMeaning.codec.read keep l.kind (whole (map frame_of (drop l.frame-index l.frames))))
-        ≡ read_each g.T.FrameMeaning.codec.read keep l.kind (whole (map frame_of l.frames))
+    ≡ read_each g.T.FrameMeaning.codec.read keep l.kind (whole (map frame_of l.frames))

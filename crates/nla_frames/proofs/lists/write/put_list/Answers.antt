@@ -1,8 +1,8 @@
 use Rattle.std.proofs.Common.{◌≡◌, length, arith, ap, subst, ◌∙◌}
 use Rattle.std.proofs.lemmas.Grind.{common_steps}
 use Rattle.nla_frames.specs.Emission.{Writes}
-use Rattle.nla_frames.proofs.ListWriting.{IsAt, bytes_before, nothing_before, all_before, length_next, next_within, next_room, next_written, one_of, one_more,
-    all_hold}
+use Rattle.nla_frames.proofs.ListWriting.{IsAt, bytes_before, nothing_before, all_before, length_next, next_within, next_room, next_written, one_of, one_more}
+use Rattle.nla_frames.proofs.ListWriting.{all_hold}
 use Rattle.nla_frames.proofs.lists.write.put_list.Goals as goal
 
 pub loop-item-init : goal.loop-item-init
@@ -31,7 +31,7 @@ pub loop-item-preserved : goal.loop-item-preserved
 loop-item-preserved g c =
     let here : IsAt c.args.items.now c.loop-item.item-index c.item-item.result = record { within = omega arith; is = c.item-item.is } in
     let written = next_written g.T.FrameMeaning.see g.T.FrameMeaning.codec.write here _ _ _ _ c.loop-item.invariant.0 c.requires.room c.loop-item.invariant.1
-            c.put_frame-at.ensures.written in (
+    c.put_frame-at.ensures.written in (
       omega (arith, length_next g.T.FrameMeaning.see g.T.FrameMeaning.codec.write here),
       written,
       one_more g.T.FrameMeaning.see here g.T.FrameMeaning.codec.Typed c.loop-item.invariant.2 c.put_frame-at.ensures.typed,

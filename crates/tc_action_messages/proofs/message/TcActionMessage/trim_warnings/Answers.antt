@@ -6,11 +6,12 @@ use Rattle.tc_meaning.specs.Tree.{Attribute}
 use Rattle.tc_meaning.specs.Message.{Message}
 use Rattle.tc_laws.specs.Loose.{Part, without_nuls, table_parts, greater}
 use Rattle.tc_laws.specs.Norm.{trimmed_table}
+use Rattle.tc_laws.proofs.MostNuls.{greater-less, greater-more}
 use Rattle.tc_records.specs.Actions.{action_message_header_scalars}
 use Rattle.tc_records.specs.declared.actions.header.TcActionMessageHeader.{TcActionMessageHeader}
 use Rattle.tc_action_messages.specs.ActionMessageAttribute.{action_message_attribute, most_nuls}
 use Rattle.tc_action_messages.specs.declared.attribute.TcActionMessageAttribute.{TcActionMessageAttribute}
-use Rattle.tc_action_messages.proofs.Most.{TrimmedTo, trim_start, trim_next, all_trimmed, greater-less, greater-more}
+use Rattle.tc_action_messages.proofs.TrimmedLists.{TrimmedTo, trim_start, trim_next, all_trimmed}
 use Rattle.tc_action_messages.proofs.message.TcActionMessage.trim_warnings.Goals.{then-most-count, else-most-count}
 use Rattle.tc_action_messages.proofs.message.TcActionMessage.trim_warnings.Goals as goal
 
@@ -24,8 +25,10 @@ abbrev message_of : TcActionMessageHeader → List Attribute → Message
 message_of header body = record { header = action_message_header_scalars header; body = body }
 
 pub loop-attribute-init : goal.loop-attribute-init
-loop-attribute-init g c = (omega arith,
-    rw c.deref_mut-attribute-items.ensures.value (trim_start action_message_attribute change parts c.args.self.now.attributes.items))
+loop-attribute-init g c = (
+  omega arith,
+  rw c.deref_mut-attribute-items.ensures.value (trim_start action_message_attribute change parts c.args.self.now.attributes.items),
+)
 
 pub loop-attribute-preserved : goal.loop-attribute-preserved
 loop-attribute-preserved g c =

@@ -4,7 +4,7 @@ use Rattle.tc_canon.specs.Tables.Messages.{action_message_attributes}
 use Rattle.tc_laws.specs.Loose.{without_nuls, table_parts}
 use Rattle.tc_laws.specs.Norm.{trimmed_table}
 use Rattle.tc_action_messages.specs.ActionMessageAttribute.{action_message_attribute}
-use Rattle.tc_action_messages.proofs.Most.{TrimmedTo}
+use Rattle.tc_action_messages.proofs.TrimmedLists.{TrimmedTo}
 use Rattle.tc_action_messages.proofs.message.TcActionMessage.trim_warnings.Given as goal
 
 abbrev pub invariant-loop-attribute : goal.invariant-loop-attribute

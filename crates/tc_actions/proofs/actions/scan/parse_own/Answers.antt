@@ -13,7 +13,7 @@ returns-in-Missing g c = own_missing g.T.FrameMeaning.codec.read c.args.bytes.no
 pub returns-in-One : goal.returns-in-One
 returns-in-One g c =
     rw (own_one g.T.FrameMeaning.codec.read c.args.bytes.now _ _ c.in_ok-frames.ensures c.in-One.kind c.in-One.is)
-        (rw c.deref.ensures.value at c.parse_frames_with.ensures.exact)
+    (rw c.deref.ensures.value at c.parse_frames_with.ensures.exact)
 
 pub returns : goal.returns
 returns g c = own_several g.T.FrameMeaning.codec.read c.args.bytes.now _ _ c.in_ok-frames.ensures c.in-Several.is

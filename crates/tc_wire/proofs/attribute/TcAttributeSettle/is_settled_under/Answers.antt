@@ -20,9 +20,11 @@ returns-then-is_known_kind-clause-typed g c =
 pub returns-in-Stats2-clause-settled : goal.returns-in-Stats2-clause-settled
 returns-in-Stats2-clause-settled g c =
     rw c.in-Stats2.is (list_settles tc_stats2
-        (table stats2) _ _ c.deref-in-Stats2.ensures.value c.args.kind.now _ c.list_settled_under-in-Stats2.ensures.settled)
+    (table stats2) _ _ c.deref-in-Stats2.ensures.value c.args.kind.now _ c.list_settled_under-in-Stats2.ensures.settled)
 
 pub returns-in-Stats2-clause-typed : goal.returns-in-Stats2-clause-typed
 returns-in-Stats2-clause-typed g c =
-    λ yes. rw c.in-Stats2.is (refl,
-        list_is_typed tc_stats2 (table stats2) _ _ c.deref-in-Stats2.ensures.value (c.list_settled_under-in-Stats2.ensures.typed yes))
+    λ yes. rw c.in-Stats2.is (
+      refl,
+      list_is_typed tc_stats2 (table stats2) _ _ c.deref-in-Stats2.ensures.value (c.list_settled_under-in-Stats2.ensures.typed yes),
+    )

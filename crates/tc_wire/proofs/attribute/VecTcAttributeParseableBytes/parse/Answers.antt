@@ -2,7 +2,7 @@ use Rattle.std.proofs.Common.{map, []}
 use Rattle.nla_frames.specs.Reading.{read_list}
 use Rattle.nla_frames.proofs.Bytes.{IsBytes-slice}
 use Rattle.nla_frames.proofs.Outcomes.{IfOk-Gives, IfRefused-Gives}
-use Rattle.nla_frames.proofs.ListGrammarLaws.{ListReads-read_list, ListFault-read_list}
+use Rattle.nla_frames.proofs.ListGrammarLaws.{ListReads-read_list, IsListFault-read_list}
 use Rattle.tc_canon.specs.Descriptor.{table}
 use Rattle.tc_canon.specs.Tables.Messages.{attributes}
 use Rattle.tc_meaning.specs.Meaning.{table_codec}
@@ -22,5 +22,5 @@ returns-clause-refused g c =
     let reads = (table_codec (table attributes)).read in
     let are_bytes = IsBytes-slice c.args.bytes.now c.type_inv.bytes in
     IfRefused-Gives (λ list. map tc_attribute list.0.items) c.read_attributes.result
-        (read_list reads kind_of_frame [] c.args.bytes.now) c.read_attributes.ensures
-    (AttributesFault c.args.bytes.now) (λ e. ListFault-read_list reads kind_of_frame [] c.args.bytes.now e are_bytes)
+    (read_list reads kind_of_frame [] c.args.bytes.now) c.read_attributes.ensures
+    (AttributesFault c.args.bytes.now) (λ e. IsListFault-read_list reads kind_of_frame [] c.args.bytes.now e are_bytes)

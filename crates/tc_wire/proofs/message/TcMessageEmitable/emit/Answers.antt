@@ -32,7 +32,7 @@ pub returns-clause-written : goal.returns-clause-written
 returns-clause-written g c =
     let written = rw c.deref.ensures.value at c.put_list.ensures.written in
     message_written tc_header attributes
-        (tc_message c.args.self.now) c.header_in_hand.ensures c.args.buffer.now _ _ c.requires.room written c.emit.ensures.written
+    (tc_message c.args.self.now) c.header_in_hand.ensures c.args.buffer.now _ _ c.requires.room written c.emit.ensures.written
 
 pub returns-clause-typed : goal.returns-clause-typed
 returns-clause-typed g c = record { header = c.emit.ensures.typed; body = rw c.deref.ensures.value at c.put_list.ensures.typed }

@@ -17,4 +17,4 @@ returns-in_err-attributes-clause-exact g c =
 pub returns-clause-order : goal.returns-clause-order
 returns-clause-order g c =
     keeps_order (frame_of c.args.buf.now) _ (c.order_in_an_action.ensures.order [] (frame_of c.args.buf.now).word)
-        (rw c.value.ensures.bytes at c.in_ok-attributes.ensures.exact)
+    (rw c.value.ensures.bytes at c.in_ok-attributes.ensures.exact)

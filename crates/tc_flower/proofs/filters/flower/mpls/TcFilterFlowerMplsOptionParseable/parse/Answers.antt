@@ -7,4 +7,4 @@ use Rattle.tc_flower.proofs.filters.flower.mpls.TcFilterFlowerMplsOptionParseabl
 pub returns-in_ok-parse_list-in-1 : goal.returns-in_ok-parse_list-in-1
 returns-in_ok-parse_list-in-1 g c =
     reads_items mpls_options (table lse_options) 1 0x8001 refl [] _ (sym c.kind.ensures ∙ c.in-1.is) _
-        (rw c.value.ensures.bytes at c.in_ok-parse_list-in-1.ensures.exact)
+    (rw c.value.ensures.bytes at c.in_ok-parse_list-in-1.ensures.exact)

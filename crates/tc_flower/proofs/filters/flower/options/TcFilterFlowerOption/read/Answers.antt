@@ -11,7 +11,7 @@ pub returns-in_ok-parse_list-in-3 : goal.returns-in_ok-parse_list-in-3
 unfolding flower_read
 returns-in_ok-parse_list-in-3 g c =
     reads_items flower_options an_action 3 3 refl [] _ (sym c.kind.ensures ∙ c.in-3.is) _
-        (rw c.value-in-3.ensures.bytes at c.in_ok-parse_list-in-3.ensures.exact)
+    (rw c.value-in-3.ensures.bytes at c.in_ok-parse_list-in-3.ensures.exact)
 
 pub returns-in_err-parse_list-in-3 : goal.returns-in_err-parse_list-in-3
 unfolding flower_read
@@ -24,7 +24,7 @@ pub returns-in_ok-parse_list-in-99 : goal.returns-in_ok-parse_list-in-99
 unfolding flower_read
 returns-in_ok-parse_list-in-99 g c =
     reads_items flower_options (table mpls_options) 99 0x8063 refl [] _ (sym c.kind.ensures ∙ c.in-99.is) _
-        (rw c.value-in-99.ensures.bytes at c.in_ok-parse_list-in-99.ensures.exact)
+    (rw c.value-in-99.ensures.bytes at c.in_ok-parse_list-in-99.ensures.exact)
 
 pub returns-in_err-parse_list-in-99 : goal.returns-in_err-parse_list-in-99
 unfolding flower_read

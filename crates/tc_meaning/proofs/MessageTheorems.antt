@@ -14,15 +14,15 @@ use Rattle.tc_meaning.specs.Tree.{Attribute}
 use Rattle.tc_meaning.specs.Own.{kind_of_frame, kind_of_attribute}
 use Rattle.tc_meaning.specs.Sound.{is_sound_rows}
 use Rattle.tc_meaning.specs.Meaning.{table_codec}
-use Rattle.tc_meaning.specs.Message.{Message, ReadsWith, read_with, message_bytes, FitsMessage, TypedMessage, SettledWith, SettledByPlace, OneMessage,
-    CanonWith, message_codec}
+use Rattle.tc_meaning.specs.Message.{Message, ReadsWith, read_with, message_bytes, FitsMessage, TypedMessage, SettledWith, SettledByPlace, OneMessage}
+use Rattle.tc_meaning.specs.Message.{CanonWith, message_codec}
 use Rattle.tc_meaning.proofs.Outcomes.{ok-same}
 use Rattle.tc_meaning.proofs.OwnLaws.{TellsKind}
 use Rattle.tc_meaning.proofs.NoMemory.{message-memory}
 use Rattle.nla_frames.specs.declared.error.DecodeError.TheVariants.{OutOfMemory}
 use Rattle.tc_meaning.proofs.TableLaws.{table_laws, rows_laws, tells_rows}
-use Rattle.tc_meaning.specs.Whole.{FaultTc, FaultAct, ReadsTc, read_tc, tc_bytes, TypedTc, FitsTc, SettledTc, ReadsAct, read_act, act_bytes, TypedAct, FitsAct,
-    SettledAct}
+use Rattle.tc_meaning.specs.Whole.{FaultTc, FaultAct, ReadsTc, read_tc, tc_bytes, TypedTc, FitsTc, SettledTc, ReadsAct, read_act, act_bytes, TypedAct, FitsAct}
+use Rattle.tc_meaning.specs.Whole.{SettledAct}
 use Rattle.nla_frames.proofs.Bytes.{IsBytes-slice}
 use Rattle.tc_meaning.proofs.MessageLaws.{one_message, message_laws}
 

@@ -1,6 +1,6 @@
 -- Every class and every table, written and read again: by induction over the tables.
-use Rattle.std.proofs.Common.{◌≡◌, ℕ, zero, suc, ◌+◌, ◌≤◌, Bool, true, false, ◌&&◌, List, [], ◌∷◌, length, map, take, drop, Ok, Err, cond, eqb, ltb, refl, sym,
-    ap, subst, ◌∙◌, arith}
+use Rattle.std.proofs.Common.{◌≡◌, ℕ, zero, suc, ◌+◌, ◌≤◌, Bool, true, false, ◌&&◌, List, [], ◌∷◌, length, map, take, drop, Ok, Err, cond, eqb, ltb, refl, sym}
+use Rattle.std.proofs.Common.{ap, subst, ◌∙◌, arith}
 use Rattle.std.specs.List.{flat_map}
 use Rattle.std.proofs.lemmas.Bool.{and_parts, eqb-true, ltb-false}
 use Rattle.nla_frames.specs.Fault.{read_as, Outcome}
@@ -9,8 +9,9 @@ use Rattle.nla_frames.specs.Reading.{keep}
 use Rattle.nla_frames.specs.Value.{le_value, strip}
 use Rattle.nla_frames.specs.Codec.{IsWireValue, list_codec}
 use Rattle.nla_frames.specs.declared.error.DecodeError.TheVariants.{XstatsShort}
-use Rattle.tc_canon.specs.Descriptor.{Field, little, big, named, octets, pad, Class, le, be, masked, array, raw, text, warning, presence, truth, fields,
-    selector, pair, xstats, list_of, own_list, Table, table, every, by_kind, Rows, others, types, unread, options, Kinds, unknown, kind, is_within}
+use Rattle.tc_canon.specs.Descriptor.{Field, little, big, named, octets, pad, Class, le, be, masked, array, raw, text, warning, presence, truth, fields}
+use Rattle.tc_canon.specs.Descriptor.{selector, pair, xstats, list_of, own_list, Table, table, every, by_kind, Rows, others, types, unread, options, Kinds}
+use Rattle.tc_canon.specs.Descriptor.{unknown, kind, is_within}
 use Rattle.tc_canon.specs.Layouts.{width, fq_codel_qd_stats, fq_codel_cl_stats}
 use Rattle.tc_canon.specs.Canonical.{CanonClass, CanonTable, CanonRows, CanonKinds}
 use Rattle.tc_meaning.specs.Tree.{Scalar, Content, is_bytes, flag, record_of, statistics, unknown_statistics, Attribute, known, kept, other, of_kind}
@@ -26,10 +27,10 @@ use Rattle.tc_meaning.proofs.Fields.{read_record-ok}
 use Rattle.tc_meaning.proofs.Selectors.{settled-fields}
 use Rattle.tc_meaning.proofs.Rows.{by_type_laws}
 use Rattle.tc_meaning.proofs.TableLaws.{class_laws, table_laws, rows_laws, kinds_laws, tells_rows, row_word, type_word}
-use Rattle.tc_laws.proofs.NextValues.{NextLaws, still, next_masked, next_warning, next_items}
-use Rattle.tc_laws.proofs.NextLists.{frame_size, next_list, next_own}
-use Rattle.tc_laws.proofs.NextRows.{RowNext, raw_next, row_next, unread_next, options_next, choose_next, by_type_next, every_next}
-use Rattle.tc_laws.proofs.NextKinds.{unknown_next, kind_next}
+use Rattle.tc_laws.proofs.RewriteValues.{RewriteLaws, still, next_masked, next_warning, next_items}
+use Rattle.tc_laws.proofs.RewriteLists.{frame_size, next_list, next_own}
+use Rattle.tc_laws.proofs.RewriteRows.{RowRewriteLaws, raw_next, row_next, unread_next, options_next, choose_next, by_type_next, every_next}
+use Rattle.tc_laws.proofs.RewriteKinds.{unknown_next, kind_next}
 
 -- ---- what is read of plain values is settled
 
@@ -100,7 +101,7 @@ same_kind change _ starts x = absurd cc
 -- ---- everything
 
 mutual
-  pub class_next : (c : Class) → is_sound_class c ≡ true → NextLaws IsWireValue length (short (class_codec c)) (trimmed_class strip c) (class_parts c)
+  pub class_next : (c : Class) → is_sound_class c ≡ true → RewriteLaws IsWireValue length (short (class_codec c)) (trimmed_class strip c) (class_parts c)
   class_next (le n) sound = still (class_codec (le n)) (CanonClass (le n)) (class_laws (le n) sound) (λ k v x e. tt)
   class_next (be n) sound = still (class_codec (be n)) (CanonClass (be n)) (class_laws (be n) sound) (λ k v x e. tt)
   class_next (masked n bits) sound = next_masked n bits (class_laws (masked n bits) sound)
@@ -117,40 +118,41 @@ mutual
   class_next (list_of t) sound =
       next_items (list_codec keep keep (table_codec t)) (map (trimmed_table strip t)) (flat_map (table_parts t))
       (next_list (table_codec t) (CanonTable t) (table_laws t sound) (trimmed_table strip t) (table_parts t) (table_next t sound) keep keep (λ k f x w e. refl)
-          (λ x. refl))
+      (λ x. refl))
   class_next (own_list rows) sound =
       let s = and_parts (starts_with_kind rows) (is_sound_rows rows) sound in
       next_items (own_codec (by_type (rows_codec rows))) (map (in_known (trimmed_rows strip rows))) (flat_map (parts_in_known (rows_parts rows)))
       (next_own (by_type (rows_codec rows)) (λ k f. CanonRows rows (type_of f.word) k f)
-          (by_type_laws (rows_codec rows) (CanonRows rows) (λ n. rows_laws rows s.1 n))
+      (by_type_laws (rows_codec rows) (CanonRows rows) (λ n. rows_laws rows s.1 n))
       (tells_rows rows s.0 (λ n. rows_laws rows s.1 n)) (in_known (trimmed_rows strip rows)) (parts_in_known (rows_parts rows))
       (by_type_next (rows_codec rows) (CanonRows rows) (λ n. rows_laws rows s.1 n) (trimmed_rows strip rows) (rows_parts rows) (λ n. rows_next rows s.1 n))
-          (same_kind strip rows s.0))
+      (same_kind strip rows s.0))
 
-  pub table_next : (t : Table) → is_sound_table t ≡ true → NextLaws IsWireFrame frame_size (table_codec t) (trimmed_table strip t) (table_parts t)
+  pub table_next : (t : Table) → is_sound_table t ≡ true → RewriteLaws IsWireFrame frame_size (table_codec t) (trimmed_table strip t) (table_parts t)
   table_next (table rows) sound =
       by_type_next (rows_codec rows) (CanonRows rows) (λ n. rows_laws rows sound n) (trimmed_rows strip rows) (rows_parts rows) (λ n. rows_next rows sound n)
   table_next (every class) sound = every_next (class_codec class) (trimmed_class strip class) (class_parts class) (class_next class sound)
   table_next (by_kind kinds) sound = kinds_next kinds sound
 
-  pub rows_next : (rows : Rows) → is_sound_rows rows ≡ true → (n : ℕ) → RowNext n (rows_codec rows n) (trimmed_rows strip rows n) (rows_parts rows n)
+  pub rows_next : (rows : Rows) → is_sound_rows rows ≡ true → (n : ℕ) → RowRewriteLaws n (rows_codec rows n) (trimmed_rows strip rows n) (rows_parts rows n)
   rows_next others sound n = raw_next n
   rows_next (types first last flags class rows) sound n =
       let a = and_parts (is_type last) (are_flags flags && (is_sound_class class && is_sound_rows rows)) sound in
       let b = and_parts (are_flags flags) (is_sound_class class && is_sound_rows rows) a.1 in
       let c = and_parts (is_sound_class class) (is_sound_rows rows) b.1 in
       choose_next n (is_within first last n) (row_frames (flags + n) n (class_codec class)) (rows_codec rows n) (trimmed_class strip class)
-          (trimmed_rows strip rows n) (class_parts class) (rows_parts rows n)
+      (trimmed_rows strip rows n) (class_parts class) (rows_parts rows n)
       (λ within. row_next (flags + n) n (class_codec class) (trimmed_class strip class) (class_parts class) (class_next class c.0)
-          (row_word first last flags n a.0 b.0 within).under)
+      (row_word first last flags n a.0 b.0 within).under)
       (rows_next rows c.1 n)
   rows_next (unread m class rows) sound n =
       let a = and_parts (is_type m) (is_free m rows && (is_sound_class class && is_sound_rows rows)) sound in
       let b = and_parts (is_free m rows) (is_sound_class class && is_sound_rows rows) a.1 in
       let c = and_parts (is_sound_class class) (is_sound_rows rows) b.1 in
       choose_next n (eqb n m) (unread_frames m (class_codec class)) (rows_codec rows n) (trimmed_class strip class) (trimmed_rows strip rows n)
-          (class_parts class) (rows_parts rows n)
-      (λ same. subst (λ (i : ℕ). RowNext i (unread_frames m (class_codec class)) (trimmed_class strip class) (class_parts class)) (sym (eqb-true n m same))
+      (class_parts class) (rows_parts rows n)
+      (λ same. subst (λ (i : ℕ). RowRewriteLaws i (unread_frames m (class_codec class)) (trimmed_class strip class) (class_parts class))
+      (sym (eqb-true n m same))
       (unread_next m (class_codec class) (trimmed_class strip class) (class_parts class) (class_next class c.0) (type_word m a.0).1))
       (rows_next rows c.1 n)
   rows_next (options m kinds rows) sound n =
@@ -159,19 +161,19 @@ mutual
       let laws = (kinds_laws kinds b.0).laws in
       choose_next n (eqb n m) (options_frames m kinds (via a_list (list_codec keep keep (kinds_codec kinds)))) (rows_codec rows n)
       (on a_list (map (in_kind (trimmed_kinds strip kinds)))) (trimmed_rows strip rows n) (λ x. flat_map (parts_in_kind (kinds_parts kinds)) (a_list.out x))
-          (rows_parts rows n)
-      (λ same. subst (λ (i : ℕ). RowNext i (options_frames m kinds (via a_list (list_codec keep keep (kinds_codec kinds))))
-          (on a_list (map (in_kind (trimmed_kinds strip kinds)))) (λ x. flat_map (parts_in_kind (kinds_parts kinds)) (a_list.out x))) (sym (eqb-true n m same))
+      (rows_parts rows n)
+      (λ same. subst (λ (i : ℕ). RowRewriteLaws i (options_frames m kinds (via a_list (list_codec keep keep (kinds_codec kinds))))
+      (on a_list (map (in_kind (trimmed_kinds strip kinds)))) (λ x. flat_map (parts_in_kind (kinds_parts kinds)) (a_list.out x))) (sym (eqb-true n m same))
       (options_next m kinds (via a_list (list_codec keep keep (kinds_codec kinds))) (on a_list (map (in_kind (trimmed_kinds strip kinds))))
-          (λ x. flat_map (parts_in_kind (kinds_parts kinds)) (a_list.out x))
+      (λ x. flat_map (parts_in_kind (kinds_parts kinds)) (a_list.out x))
       (next_items (list_codec keep keep (kinds_codec kinds)) (map (in_kind (trimmed_kinds strip kinds))) (flat_map (parts_in_kind (kinds_parts kinds)))
       (next_list (kinds_codec kinds) (CanonKinds kinds) laws (in_kind (trimmed_kinds strip kinds)) (parts_in_kind (kinds_parts kinds))
-          (kinds_next kinds b.0) keep keep (λ k f x w e. refl) (λ x. refl)))
+      (kinds_next kinds b.0) keep keep (λ k f x w e. refl) (λ x. refl)))
       (type_word m a.0).1))
       (rows_next rows b.1 n)
 
   pub kinds_next : (kinds : Kinds) → is_sound_kinds kinds ≡ true
-      → NextLaws IsWireFrame frame_size (kinds_codec kinds) (in_kind (trimmed_kinds strip kinds)) (parts_in_kind (kinds_parts kinds))
+      → RewriteLaws IsWireFrame frame_size (kinds_codec kinds) (in_kind (trimmed_kinds strip kinds)) (parts_in_kind (kinds_parts kinds))
   kinds_next unknown sound = unknown_next
   kinds_next (kind name rows kinds) sound =
       let a = and_parts (is_sound_rows rows) (is_sound_kinds kinds) sound in

@@ -17,7 +17,7 @@ use Rattle.tc_meaning.specs.Own.{kind_of_attribute, kind_before, kinds_set, read
 use Rattle.tc_laws.specs.Loose.{Part}
 use Rattle.tc_meaning.proofs.OwnLaws.{TellsKind, read_own-ok, told-set, read_own-is, settled-all}
 use Rattle.tc_laws.proofs.TrimLaws.{IsWhole, all-append, append-all}
-use Rattle.tc_laws.proofs.NextValues.{NextLaws, IsSettledPart}
+use Rattle.tc_laws.proofs.RewriteValues.{RewriteLaws, IsSettledPart}
 
 abbrev pub frame_size : Frame → ℕ
 frame_size f = length f.value
@@ -37,7 +37,7 @@ all-parts : {X : Type 0} (P : X → Type 0) (xs ys : List X) → (AllByRecursion
 all-parts P xs ys = (λ h. append-all P xs ys h.0 h.1, λ h. all-append P xs ys h)
 
 module _ {X : Type 0} (c : Codec Frame X) (Canon : IsCanonAt) (laws : Laws IsWireFrame c Canon) (next : X → X) (parts : X → List Part)
-    (r : NextLaws IsWireFrame frame_size c next parts) where
+    (r : RewriteLaws IsWireFrame frame_size c next parts) where
   typed-next : (xs : List X) → AllByRecursion c.Typed xs → AllByRecursion c.Typed (map next xs)
   typed-next [] t = tt
   typed-next (x ∷ xs) t = (r.typed x t.0, typed-next xs t.1)
@@ -107,9 +107,11 @@ module _ {X : Type 0} (c : Codec Frame X) (Canon : IsCanonAt) (laws : Laws IsWir
         let here = agree kind f x wire.0 turn.0 in
         let there = agree kind (c.write x) (next x) (laws.makes x t.0 fits.0) first in
         let sets_same : by_frame f ≡ by_frame (c.write x) = here ∙ sym (stays x) ∙ sym there in
-        let kinds_same : kind_then by_frame kind f ≡ kind_then by_frame kind (c.write x) = kind_then-same by_frame by_frame kind f (c.write x) sets_same in
-        (first, subst (λ (k : List ℕ). ReadInTurn c.read by_frame k (map c.write xs) (map next xs)) kinds_same
-            (again-each (kind_then by_frame kind f) fs xs wire.1 t.1 fits.1 turn.1))
+        let kinds_same : kind_then by_frame kind f ≡ kind_then by_frame kind (c.write x) = kind_then-same by_frame by_frame kind f (c.write x) sets_same in (
+          first,
+          subst (λ (k : List ℕ). ReadInTurn c.read by_frame k (map c.write xs) (map next xs)) kinds_same
+              (again-each (kind_then by_frame kind f) fs xs wire.1 t.1 fits.1 turn.1),
+        )
 
     again-list : (kind bytes : List ℕ) (xs : List X) → IsWireBytes bytes → read_list c.read by_frame kind bytes ≡ Ok xs → ListFits c.Fits c.write xs
         → read_list c.read by_frame kind (list_bytes c.write xs) ≡ Ok (map next xs)
@@ -121,7 +123,7 @@ module _ {X : Type 0} (c : Codec Frame X) (Canon : IsCanonAt) (laws : Laws IsWir
         (again-each kind (cut bytes).frames xs wire t f.each turn)
 
     -- the laws of the list
-    pub next_list : NextLaws IsWireBytes length (list_codec by_frame by_value c) (map next) (flat_map parts)
+    pub next_list : RewriteLaws IsWireBytes length (list_codec by_frame by_value c) (map next) (flat_map parts)
     next_list = record {
       settled = λ kind bytes xs w e.
           settled-each kind (cut bytes).frames xs (IsWireFrame-cut bytes w.are_bytes) (ReadInTurn-read_list c.read by_frame kind bytes xs e).1;
@@ -137,8 +139,8 @@ module _ {X : Type 0} (c : Codec Frame X) (Canon : IsCanonAt) (laws : Laws IsWir
 
 module _ (c : Codec Frame Attribute) (Canon : IsCanonAt) (laws : Laws IsWireFrame c Canon) (tells : TellsKind c) (next : Attribute → Attribute)
     (parts : Attribute → List Part)
-    (r : NextLaws IsWireFrame frame_size c next parts) (stays : (x : Attribute) → kind_of_attribute (next x) ≡ kind_of_attribute x) where
-  list_laws : NextLaws IsWireBytes length (list_codec keep keep c) (map next) (flat_map parts)
+    (r : RewriteLaws IsWireFrame frame_size c next parts) (stays : (x : Attribute) → kind_of_attribute (next x) ≡ kind_of_attribute x) where
+  list_laws : RewriteLaws IsWireBytes length (list_codec keep keep c) (map next) (flat_map parts)
   list_laws = next_list c Canon laws next parts r keep keep (λ k f x w e. refl) (λ x. refl)
 
   -- the same kinds are set
@@ -166,10 +168,10 @@ module _ (c : Codec Frame Attribute) (Canon : IsCanonAt) (laws : Laws IsWireFram
       let own = read_own-ok c bytes xs e in
       let is_read = list_laws.again own.own bytes xs w own.is_read f in
       let told = told-set c tells own.own (list_bytes c.write xs) (map next xs) is_read ∙ kinds-next xs ∙ sym (told-set c tells own.own bytes xs own.is_read)
-              ∙ own.tells in
+      ∙ own.tells in
       read_own-is c tells own.own (list_bytes c.write xs) (map next xs) is_read told
 
-  pub next_own : NextLaws IsWireBytes length (own_codec c) (map next) (flat_map parts)
+  pub next_own : RewriteLaws IsWireBytes length (own_codec c) (map next) (flat_map parts)
   next_own = record {
     settled = settled-own;
     again = again-own;

@@ -13,8 +13,8 @@ use Rattle.tc_laws.specs.Norm.{in_known}
 use Rattle.tc_meaning.proofs.Outcomes.{seen-ok, ok-seen, ok-same}
 use Rattle.tc_meaning.proofs.Rows.{RowLaws}
 use Rattle.tc_laws.proofs.TrimLaws.{IsWhole}
-use Rattle.tc_laws.proofs.NextValues.{NextLaws, IsSettledPart}
-use Rattle.tc_laws.proofs.NextLists.{frame_size}
+use Rattle.tc_laws.proofs.RewriteValues.{RewriteLaws, IsSettledPart}
+use Rattle.tc_laws.proofs.RewriteLists.{frame_size}
 
 -- a change and parts of a content, whatever type it stands under
 abbrev pub of_row : (Content → Content) → Attribute → Attribute
@@ -27,7 +27,7 @@ pub wire_value : (f : Frame) → IsWireFrame f → IsWireValue f.value
 wire_value f w = record { are_bytes = w.bytes; short = w.frame.value }
 
 -- what rewriting makes of what stands in a row at the type n
-pub record RowNext (n : ℕ) (c : Codec Frame Attribute) (next : Content → Content) (parts : Content → List Part) : Type 0 where
+pub record RowRewriteLaws (n : ℕ) (c : Codec Frame Attribute) (next : Content → Content) (parts : Content → List Part) : Type 0 where
   pub settled : (k : List ℕ) (f : Frame) (x : Attribute) → IsWireFrame f → type_of f.word ≡ n → c.read k f ≡ Ok x
       → c.Settled k x ↔ AllByRecursion IsSettledPart (row_parts parts x)
   pub again : (k : List ℕ) (f : Frame) (x : Attribute) → IsWireFrame f → type_of f.word ≡ n → c.read k f ≡ Ok x → c.Fits x
@@ -42,9 +42,17 @@ pub record RowNext (n : ℕ) (c : Codec Frame Attribute) (next : Content → Con
 
 -- ---- kept as it stands
 
-pub raw_next : (n : ℕ) → RowNext n raw_frames (λ x. x) (λ x. [])
-raw_next n = record { settled = settled_raw; again = again_raw; under = under_raw; typed = typed_raw; fits = fits_raw; smaller = smaller_raw; same = same_raw;
-    whole = whole_raw }
+pub raw_next : (n : ℕ) → RowRewriteLaws n raw_frames (λ x. x) (λ x. [])
+raw_next n = record {
+  settled = settled_raw;
+  again = again_raw;
+  under = under_raw;
+  typed = typed_raw;
+  fits = fits_raw;
+  smaller = smaller_raw;
+  same = same_raw;
+  whole = whole_raw;
+}
   where
     settled_raw : (k : List ℕ) (f : Frame) (x : Attribute) → IsWireFrame f → type_of f.word ≡ n → read_as (other f.word f.value) ≡ Ok x
         → Unit {0} ↔ AllByRecursion IsSettledPart (row_parts (λ y. []) x)
@@ -83,13 +91,13 @@ raw_next n = record { settled = settled_raw; again = again_raw; under = under_ra
 -- ---- one row
 
 module _ (word n : ℕ) (c : Codec (List ℕ) Content) (next : Content → Content) (parts : Content → List Part)
-    (r : NextLaws IsWireValue length (short c) next parts) (under : type_of word ≡ n) where
+    (r : RewriteLaws IsWireValue length (short c) next parts) (under : type_of word ≡ n) where
   settled-row : (k : List ℕ) (f : Frame) (x : Attribute) → IsWireFrame f → seen (known n) (c.read k f.value) ≡ Ok x
       → (row_frames word n c).Settled k x ↔ AllByRecursion IsSettledPart (row_parts parts x)
   settled-row k f x w e =
       let q = seen-ok (known n) (c.read k f.value) x e in
       subst (λ (y : Attribute). (row_frames word n c).Settled k y ↔ AllByRecursion IsSettledPart (row_parts parts y)) q.2
-          (r.settled k f.value q.0 (wire_value f w) q.1)
+      (r.settled k f.value q.0 (wire_value f w) q.1)
 
   again-row : (k : List ℕ) (f : Frame) (x : Attribute) → IsWireFrame f → seen (known n) (c.read k f.value) ≡ Ok x → (row_frames word n c).Fits x
       → (row_frames word n c).read k ((row_frames word n c).write x) ≡ Ok (of_row next x)
@@ -125,7 +133,7 @@ module _ (word n : ℕ) (c : Codec (List ℕ) Content) (next : Content → Conte
   whole-row (known m content) all = ap (λ (v : List ℕ). let g : Frame = record { word = word; value = v } in g) (r.whole content all)
   whole-row x all = refl
 
-  pub row_next : RowNext n (row_frames word n c) next parts
+  pub row_next : RowRewriteLaws n (row_frames word n c) next parts
   row_next = record {
     settled = λ k f x w at e. settled-row k f x w e;
     again = λ k f x w at e fits. again-row k f x w e fits;
@@ -140,8 +148,8 @@ module _ (word n : ℕ) (c : Codec (List ℕ) Content) (next : Content → Conte
 -- ---- a type that is written and never read
 
 pub unread_next : (n : ℕ) (c : Codec (List ℕ) Content) (next : Content → Content) (parts : Content → List Part)
-    → NextLaws IsWireValue length (short c) next parts → type_of n ≡ n
-    → RowNext n (unread_frames n c) next parts
+    → RewriteLaws IsWireValue length (short c) next parts → type_of n ≡ n
+    → RowRewriteLaws n (unread_frames n c) next parts
 unread_next n c next parts r under = record {
   settled = settled_unread;
   again = again_unread;
@@ -153,7 +161,7 @@ unread_next n c next parts r under = record {
   whole = row.whole;
 }
   where
-    row : RowNext n (row_frames n n c) next parts
+    row : RowRewriteLaws n (row_frames n n c) next parts
     row = row_next n n c next parts r under
 
     settled_unread : (k : List ℕ) (f : Frame) (x : Attribute) → IsWireFrame f → type_of f.word ≡ n → read_as (other f.word f.value) ≡ Ok x
@@ -174,7 +182,7 @@ unread_next n c next parts r under = record {
 -- ---- a message's options
 
 module _ (n : ℕ) (ks : Kinds) (c : Codec (List ℕ) Content) (next : Content → Content) (parts : Content → List Part)
-    (r : NextLaws IsWireValue length (short c) next parts) (under : type_of n ≡ n) where
+    (r : RewriteLaws IsWireValue length (short c) next parts) (under : type_of n ≡ n) where
   -- as they are read where it is known whether the kind is
   options_by : Bool → List ℕ → Frame → Outcome Attribute
   options_by b k f = cond b (seen (known n) (c.read k f.value)) (read_as (kept n f.word f.value))
@@ -186,10 +194,10 @@ module _ (n : ℕ) (ks : Kinds) (c : Codec (List ℕ) Content) (next : Content �
       let q = seen-ok (known n) (c.read k f.value) x e in
       let law = r.settled k f.value q.0 (wire_value f w) q.1 in
       subst (λ (y : Attribute). (options_frames n ks c).Settled k y ↔ AllByRecursion IsSettledPart (row_parts parts y)) q.2
-          (λ s. law.0 s.1, λ all. (is, law.1 all))
+      (λ s. law.0 s.1, λ all. (is, law.1 all))
   settled-options false k is f x w at e =
       subst (λ (y : Attribute). (options_frames n ks c).Settled k y ↔ AllByRecursion IsSettledPart (row_parts parts y)) (ok-same (kept n f.word f.value) x e)
-          (λ s. tt, λ all. (is, at))
+      (λ s. tt, λ all. (is, at))
 
   again-options : (b : Bool) (k : List ℕ) (f : Frame) (x : Attribute) → IsWireFrame f → options_by b k f ≡ Ok x → (options_frames n ks c).Fits x
       → options_by b k ((options_frames n ks c).write x) ≡ Ok (of_row next x)
@@ -197,7 +205,7 @@ module _ (n : ℕ) (ks : Kinds) (c : Codec (List ℕ) Content) (next : Content �
   again-options true k f x w e fits = again-row n n c next parts r under k f x w e fits
   again-options false k f x w e fits =
       subst (λ (y : Attribute). read_as (kept n ((options_frames n ks c).write y).word ((options_frames n ks c).write y).value) ≡ Ok (of_row next y))
-          (ok-same (kept n f.word f.value) x e) refl
+      (ok-same (kept n f.word f.value) x e) refl
 
   under-options : (b : Bool) (k : List ℕ) (f : Frame) (x : Attribute) → type_of f.word ≡ n → options_by b k f ≡ Ok x
       → type_of ((options_frames n ks c).write x).word ≡ n
@@ -214,7 +222,7 @@ module _ (n : ℕ) (ks : Kinds) (c : Codec (List ℕ) Content) (next : Content �
   same-options (known m content) t f s = r.same content t.1 f (ap (λ (g : Frame). g.value) s)
   same-options x t f s = tt
 
-  pub options_next : RowNext n (options_frames n ks c) next parts
+  pub options_next : RowRewriteLaws n (options_frames n ks c) next parts
   unfolding options_by
   options_next = record {
     settled = λ k f x w at e. settled-options (is_known ks k) k refl f x w at e;
@@ -230,8 +238,8 @@ module _ (n : ℕ) (ks : Kinds) (c : Codec (List ℕ) Content) (next : Content �
 -- ---- one of two rows
 
 pub choose_next : (n : ℕ) (b : Bool) (chosen rest : Codec Frame Attribute) (next next' : Content → Content) (parts parts' : Content → List Part)
-    → (b ≡ true → RowNext n chosen next parts) → RowNext n rest next' parts'
-    → RowNext n (choose b chosen rest) (λ x. cond b (next x) (next' x)) (λ x. cond b (parts x) (parts' x))
+    → (b ≡ true → RowRewriteLaws n chosen next parts) → RowRewriteLaws n rest next' parts'
+    → RowRewriteLaws n (choose b chosen rest) (λ x. cond b (next x) (next' x)) (λ x. cond b (parts x) (parts' x))
 choose_next n true chosen rest next next' parts parts' this that = this refl
 choose_next n false chosen rest next next' parts parts' this that = that
 
@@ -239,7 +247,7 @@ choose_next n false chosen rest next next' parts parts' this that = that
 
 module _ (at : ℕ → Codec Frame Attribute) (Canon : ℕ → IsCanonAt) (laws : (n : ℕ) → RowLaws n (at n) (Canon n)) (next : ℕ → Content → Content)
     (parts : ℕ → Content → List Part)
-    (rows : (n : ℕ) → RowNext n (at n) (next n) (parts n)) where
+    (rows : (n : ℕ) → RowRewriteLaws n (at n) (next n) (parts n)) where
   same_next : (x : Attribute) → of_row (next (number_of x)) x ≡ in_known next x
   same_next (known n content) = refl
   same_next x = refl
@@ -289,13 +297,20 @@ module _ (at : ℕ → Codec Frame Attribute) (Canon : ℕ → IsCanonAt) (laws 
   whole-table (known n content) all = (rows n).whole (known n content) all
   whole-table x all = refl
 
-  pub by_type_next : NextLaws IsWireFrame frame_size (by_type at) (in_known next) (parts_in_known parts)
-  by_type_next = record { settled = settled-table; again = again-table; typed = typed-table; fits = fits-table; smaller = smaller-table; same = same-table;
-      whole = whole-table }
+  pub by_type_next : RewriteLaws IsWireFrame frame_size (by_type at) (in_known next) (parts_in_known parts)
+  by_type_next = record {
+    settled = settled-table;
+    again = again-table;
+    typed = typed-table;
+    fits = fits-table;
+    smaller = smaller-table;
+    same = same-table;
+    whole = whole-table;
+  }
 
 -- ---- a table whose types all mean the same
 
-module _ (c : Codec (List ℕ) Content) (next : Content → Content) (parts : Content → List Part) (r : NextLaws IsWireValue length (short c) next parts) where
+module _ (c : Codec (List ℕ) Content) (next : Content → Content) (parts : Content → List Part) (r : RewriteLaws IsWireValue length (short c) next parts) where
   below : (m : ℕ) → m % 0x4000 ≤ 0x3FFF
   below m = omega arith
 
@@ -308,7 +323,7 @@ module _ (c : Codec (List ℕ) Content) (next : Content → Content) (parts : Co
       let q = seen-ok (known (type_of f.word)) (c.read k f.value) x e in
       let law = r.settled k f.value q.0 (wire_value f w) q.1 in
       subst (λ (y : Attribute). (every_frame c).Settled k y ↔ AllByRecursion IsSettledPart (row_parts parts y)) q.2
-          (λ s. law.0 s.1, λ all. (below f.word, law.1 all))
+      (λ s. law.0 s.1, λ all. (below f.word, law.1 all))
 
   again-every : (k : List ℕ) (f : Frame) (x : Attribute) → IsWireFrame f → (every_frame c).read k f ≡ Ok x → (every_frame c).Fits x
       → (every_frame c).read k ((every_frame c).write x) ≡ Ok (of_row next x)
@@ -340,6 +355,13 @@ module _ (c : Codec (List ℕ) Content) (next : Content → Content) (parts : Co
   whole-every (known m content) all = ap (λ (v : List ℕ). let g : Frame = record { word = m; value = v } in g) (r.whole content all)
   whole-every x all = refl
 
-  pub every_next : NextLaws IsWireFrame frame_size (every_frame c) (of_row next) (row_parts parts)
-  every_next = record { settled = settled-every; again = again-every; typed = typed-every; fits = fits-every; smaller = smaller-every; same = same-every;
-      whole = whole-every }
+  pub every_next : RewriteLaws IsWireFrame frame_size (every_frame c) (of_row next) (row_parts parts)
+  every_next = record {
+    settled = settled-every;
+    again = again-every;
+    typed = typed-every;
+    fits = fits-every;
+    smaller = smaller-every;
+    same = same-every;
+    whole = whole-every;
+  }

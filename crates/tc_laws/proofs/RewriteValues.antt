@@ -1,6 +1,6 @@
 -- Values that are written and read again: as themselves, or with a number masked or one NUL less.
-use Rattle.std.proofs.Common.{◌≡◌, ◌↔◌, ℕ, ◌%◌, ◌^◌, ◌<◌, ◌≤◌, Bool, true, false, not, List, [], ◌∷◌, length, Ok, ltb, refl, sym, ap, subst, ◌∙◌, arith,
-    pow_pos}
+use Rattle.std.proofs.Common.{◌≡◌, ◌↔◌, ℕ, ◌%◌, ◌^◌, ◌<◌, ◌≤◌, Bool, true, false, not, List, [], ◌∷◌, length, Ok, ltb, refl, sym, ap, subst, ◌∙◌, arith}
+use Rattle.std.proofs.Common.{pow_pos}
 use Rattle.std.specs.List.{AllByRecursion}
 use Rattle.std.proofs.lemmas.Bool.{lt-ltb, ltb-true}
 use Rattle.nla_frames.specs.Fault.{seen, read_as}
@@ -25,7 +25,7 @@ abbrev pub IsSettledPart : Part → Type 0
 IsSettledPart p = is_loose_part p ≡ false
 
 -- what rewriting makes of the values of a codec
-pub record NextLaws {W X : Type 0} (IsWire : W → Type 0) (size : W → ℕ) (c : Codec W X) (next : X → X) (parts : X → List Part) : Type 0 where
+pub record RewriteLaws {W X : Type 0} (IsWire : W → Type 0) (size : W → ℕ) (c : Codec W X) (next : X → X) (parts : X → List Part) : Type 0 where
   -- what was read is settled exactly if no part of it is loose
   pub settled : (k : List ℕ) (w : W) (x : X) → IsWire w → c.read k w ≡ Ok x → c.Settled k x ↔ AllByRecursion IsSettledPart (parts x)
   -- what was read, and is written, is read as the next value
@@ -41,7 +41,7 @@ pub record NextLaws {W X : Type 0} (IsWire : W → Type 0) (size : W → ℕ) (c
 -- what is always read as something settled stays
 pub still : (c : Codec (List ℕ) Content) (Canon : List ℕ → List ℕ → Type 0) → Laws IsWireValue (short c) Canon
     → ((k v : List ℕ) (x : Content) → c.read k v ≡ Ok x → c.Settled k x)
-    → NextLaws IsWireValue length (short c) (λ x. x) (λ x. [])
+    → RewriteLaws IsWireValue length (short c) (λ x. x) (λ x. [])
 still c Canon laws settled = record {
   settled = λ k v x w e. (λ s. tt, λ all. settled k v x e);
   again = λ k v x w e f. (laws.back k x (laws.typed k v x w e) f).1 (settled k v x e);
@@ -67,7 +67,7 @@ mask-less : (m bits x : ℕ) → x < m → x % 2 ^ bits < m
 mask-less m bits x below = omega arith
 
 pub next_masked : (n bits : ℕ) → Laws IsWireValue (short (class_codec (masked n bits))) (CanonClass (masked n bits))
-    → NextLaws IsWireValue length (short (class_codec (masked n bits))) (on a_number (λ x. x % 2 ^ bits)) (λ x. masked_number bits (a_number.out x) ∷ [])
+    → RewriteLaws IsWireValue length (short (class_codec (masked n bits))) (on a_number (λ x. x % 2 ^ bits)) (λ x. masked_number bits (a_number.out x) ∷ [])
 next_masked n bits laws = record {
   settled = λ k v x w e. let law = in_range bits (a_number.out x) in (λ s. (law.0 s, tt), λ all. law.1 all.0);
   again = λ k v x w e f. again k (a_number.out x) (laws.typed k v x w e).1;
@@ -87,7 +87,7 @@ next_masked n bits laws = record {
         ok-seen number (le_number n (le_bytes n (y % 2 ^ bits))) (y % 2 ^ bits) (ap (le_number n) (sym (written y)) ∙ back)
 
 pub next_warning : Laws IsWireValue (short (class_codec warning)) (CanonClass warning)
-    → NextLaws IsWireValue length (short (class_codec warning)) (on some_bytes strip) (λ x. warning_text (some_bytes.out x) ∷ [])
+    → RewriteLaws IsWireValue length (short (class_codec warning)) (on some_bytes strip) (λ x. warning_text (some_bytes.out x) ∷ [])
 next_warning laws = record {
   settled = λ k v x w e. (λ s. (strip-same (some_bytes.out x) s, tt), λ all. strip-none (some_bytes.out x) all.0);
   again = λ k v x w e f. again (some_bytes.out x) (laws.typed k v x w e).1;
@@ -110,14 +110,16 @@ counted v w = record { are_bytes = w.are_bytes; long = omega (arith, w.short) }
 
 -- a list as a content
 pub next_items : (c : Codec (List ℕ) (List Attribute)) (next : List Attribute → List Attribute) (parts : List Attribute → List Part)
-    → NextLaws IsWireBytes length c next parts
-    → NextLaws IsWireValue length (short (via a_list c)) (on a_list next) (λ x. parts (a_list.out x))
+    → RewriteLaws IsWireBytes length c next parts
+    → RewriteLaws IsWireValue length (short (via a_list c)) (on a_list next) (λ x. parts (a_list.out x))
 next_items c next parts r = record {
   settled = λ k v x w e. r.settled k v (a_list.out x) (counted v w) (read_out k v x e);
   again = λ k v x w e f. ok-seen a_list.into (c.read k (c.write (a_list.out x))) (next (a_list.out x))
       (r.again k v (a_list.out x) (counted v w) (read_out k v x e) f.0);
-  typed = λ x t. (ap (λ (xs : List Attribute). a_list.into xs) (again (next (a_list.out x))),
-      subst c.Typed (sym (again (next (a_list.out x)))) (r.typed (a_list.out x) t.1));
+  typed = λ x t. (
+    ap (λ (xs : List Attribute). a_list.into xs) (again (next (a_list.out x))),
+    subst c.Typed (sym (again (next (a_list.out x)))) (r.typed (a_list.out x) t.1),
+  );
   fits = λ x f. (subst c.Fits (sym (again (next (a_list.out x)))) (r.fits (a_list.out x) f.0), short_next x f.1);
   smaller = λ x. rw (again (next (a_list.out x))) (r.smaller (a_list.out x));
   same = λ x t f s. r.same (a_list.out x) t.1 f.0 (ap c.write (sym (again (next (a_list.out x)))) ∙ s);

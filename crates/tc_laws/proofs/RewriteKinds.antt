@@ -14,13 +14,21 @@ use Rattle.tc_laws.specs.Norm.{in_kind}
 use Rattle.tc_meaning.proofs.Outcomes.{seen-ok, ok-seen, ok-same}
 use Rattle.tc_meaning.proofs.KindLaws.{KindLaws, bytes_eq-refl}
 use Rattle.tc_laws.proofs.TrimLaws.{IsWhole}
-use Rattle.tc_laws.proofs.NextValues.{NextLaws, IsSettledPart}
-use Rattle.tc_laws.proofs.NextLists.{frame_size}
+use Rattle.tc_laws.proofs.RewriteValues.{RewriteLaws, IsSettledPart}
+use Rattle.tc_laws.proofs.RewriteLists.{frame_size}
 
 -- no kind is known
-pub unknown_next : NextLaws IsWireFrame frame_size raw_frames (in_kind (λ name x. x)) (parts_in_kind (λ name x. []))
-unknown_next = record { settled = settled_raw; again = again_raw; typed = typed_raw; fits = fits_raw; smaller = smaller_raw; same = same_raw; whole =
-    whole_raw }
+pub unknown_next : RewriteLaws IsWireFrame frame_size raw_frames (in_kind (λ name x. x)) (parts_in_kind (λ name x. []))
+unknown_next = record {
+  settled = settled_raw;
+  again = again_raw;
+  typed = typed_raw;
+  fits = fits_raw;
+  smaller = smaller_raw;
+  same = same_raw;
+  whole =
+      whole_raw;
+}
   where
     settled_raw : (k : List ℕ) (f : Frame) (x : Attribute) → IsWireFrame f → read_as (other f.word f.value) ≡ Ok x
         → Unit {0} ↔ AllByRecursion IsSettledPart (parts_in_kind (λ name y. []) x)
@@ -55,9 +63,9 @@ unknown_next = record { settled = settled_raw; again = again_raw; typed = typed_
 
 -- a kind before the others
 module _ (name : List ℕ) (own rest : Codec Frame Attribute) (CanonRest : IsCanonAt) (rest_laws : KindLaws rest CanonRest)
-    (next : Attribute → Attribute) (parts : Attribute → List Part) (own_next : NextLaws IsWireFrame frame_size own next parts)
+    (next : Attribute → Attribute) (parts : Attribute → List Part) (own_next : RewriteLaws IsWireFrame frame_size own next parts)
     (next' : List ℕ → Attribute → Attribute) (parts' : List ℕ → Attribute → List Part)
-        (rest_next : NextLaws IsWireFrame frame_size rest (in_kind next') (parts_in_kind parts')) where
+    (rest_next : RewriteLaws IsWireFrame frame_size rest (in_kind next') (parts_in_kind parts')) where
   -- the first kind, or another
   abbrev next_of : List ℕ → Attribute → Attribute
   next_of m x = cond (bytes_eq m name) (next x) (next' m x)
@@ -164,7 +172,7 @@ module _ (name : List ℕ) (own rest : Codec Frame Attribute) (CanonRest : IsCan
   whole-kind (kept n word value) all = refl
   whole-kind (other word value) all = refl
 
-  pub kind_next : NextLaws IsWireFrame frame_size (kind_frames name own rest) (in_kind (λ m x. cond (bytes_eq m name) (next x) (next' m x)))
+  pub kind_next : RewriteLaws IsWireFrame frame_size (kind_frames name own rest) (in_kind (λ m x. cond (bytes_eq m name) (next x) (next' m x)))
       (parts_in_kind (λ m x. cond (bytes_eq m name) (parts x) (parts' m x)))
   unfolding kind_by
   kind_next = record {

@@ -20,16 +20,16 @@ use Rattle.tc_laws.specs.Loose.{without_nuls, table_parts, message_parts}
 use Rattle.tc_laws.specs.Norm.{trimmed_table, next, norm}
 use Rattle.tc_meaning.proofs.MessageLaws.{read_with-ok, ok-read_with, wire-body, front-message, rest-message, length-message, typed-read, header-back}
 use Rattle.tc_laws.proofs.TrimLaws.{IsWhole}
-use Rattle.tc_laws.proofs.NextValues.{NextLaws, IsSettledPart}
-use Rattle.tc_laws.proofs.NextLists.{next_list}
+use Rattle.tc_laws.proofs.RewriteValues.{RewriteLaws, IsSettledPart}
+use Rattle.tc_laws.proofs.RewriteLists.{next_list}
 use Rattle.tc_laws.proofs.NormTables.{norm_list, table_norm}
-use Rattle.tc_laws.proofs.NextTables.{table_next, settled-read}
+use Rattle.tc_laws.proofs.RewriteTables.{table_next, settled-read}
 
 module _ (by_frame : Sets Frame) (by_value : Sets Attribute) (layout : List Field) (rows : Rows) (sound : is_sound_rows rows ≡ true)
     (laws : Laws IsWireFrame (table_codec (table rows)) (CanonTable (table rows)))
     (agree : (kind : List ℕ) (f : Frame) (x : Attribute) → IsWireFrame f → (table_codec (table rows)).read kind f ≡ Ok x → by_frame f ≡ by_value x)
     (stays : (change : List ℕ → List ℕ) (x : Attribute) → by_value (trimmed_table change (table rows) x) ≡ by_value x) where
-  body_next : NextLaws IsWireBytes length (list_codec by_frame by_value (table_codec (table rows))) (map (trimmed_table strip (table rows)))
+  body_next : RewriteLaws IsWireBytes length (list_codec by_frame by_value (table_codec (table rows))) (map (trimmed_table strip (table rows)))
       (flat_map (table_parts (table rows)))
   body_next = next_list (table_codec (table rows)) (CanonTable (table rows)) laws (trimmed_table strip (table rows)) (table_parts (table rows))
       (table_next (table rows) sound) by_frame by_value agree (stays strip)
@@ -84,11 +84,11 @@ module _ (by_frame : Sets Frame) (by_value : Sets Attribute) (layout : List Fiel
   message_norm bytes m w e =
       let is = read_with-ok by_frame layout rows bytes m e in
       let body = norm_list (table_codec (table rows)) (trimmed_table without_nuls (table rows)) (table_norm (table rows) sound) by_frame by_value agree
-              (stays without_nuls) in
+      (stays without_nuls) in
       let header = subst (SettledFields layout) is.header (settled-read layout (take (size_of layout) bytes)) in
       record { header = header; body = body [] (drop (size_of layout) bytes) m.body (wire-body by_frame by_value layout rows laws agree bytes w) is.body }
 
-  pub message_next : NextLaws IsWireBytes length (message_codec by_frame by_value layout rows) (next rows) (message_parts rows)
+  pub message_next : RewriteLaws IsWireBytes length (message_codec by_frame by_value layout rows) (next rows) (message_parts rows)
   message_next = record {
     settled = λ k bytes m w e. settled-message bytes m w e;
     again = λ k bytes m w e f. again-message bytes m w e f;

@@ -1,56 +1,9 @@
--- The most NULs that end one of some parts, and lists of which each element so far is trimmed.
+-- Lists of which each element so far is trimmed.
 use Rattle.std.proofs.Common.{◌≡◌, ◌⊎◌, ℕ, suc, ◌+◌, ◌<◌, ◌≤◌, List, [], ◌∷◌, ◌++◌, length, map, set, get_or, refl, sym, subst, ap, ap₂, ◌∙◌, arith, inl, inr}
 use Rattle.std.specs.List.{flat_map}
-use Rattle.std.proofs.lemmas.Bool.{cases_lt, lt-ltb, le-ltb}
-use Rattle.tc_laws.specs.Loose.{Part, part_nuls, greater}
+use Rattle.tc_laws.specs.Loose.{Part, greater}
+use Rattle.tc_laws.proofs.MostNuls.{greater-nothing, nothing-greater, greater-again, most-append}
 use Rattle.tc_action_messages.specs.ActionMessageAttribute.{most_nuls}
-
--- ---- the greater of two numbers
-
-pub greater-less : (m n : ℕ) → m < n → greater m n ≡ n
-greater-less m n less = rw (lt-ltb m n less) refl
-
-pub greater-more : (m n : ℕ) → n ≤ m → greater m n ≡ m
-greater-more m n more = rw (le-ltb m n more) refl
-
-greater-cases : (m n : ℕ) → ((m < n) × (greater m n ≡ n)) ⊎ ((n ≤ m) × (greater m n ≡ m))
-greater-cases m n = go (cases_lt m n)
-  where
-    go : (m < n) ⊎ (n ≤ m) → ((m < n) × (greater m n ≡ n)) ⊎ ((n ≤ m) × (greater m n ≡ m))
-    go (inl less) = inl (less, greater-less m n less)
-    go (inr more) = inr (more, greater-more m n more)
-
-greater-nothing : (n : ℕ) → greater 0 n ≡ n
-greater-nothing n = go (greater-cases 0 n)
-  where
-    go : ((0 < n) × (greater 0 n ≡ n)) ⊎ ((n ≤ 0) × (greater 0 n ≡ 0)) → greater 0 n ≡ n
-    go (inl a) = a.1
-    go (inr a) = omega (arith, a.0, a.1)
-
-nothing-greater : (n : ℕ) → greater n 0 ≡ n
-nothing-greater n = go (greater-cases n 0)
-  where
-    go : ((n < 0) × (greater n 0 ≡ 0)) ⊎ ((0 ≤ n) × (greater n 0 ≡ n)) → greater n 0 ≡ n
-    go (inl a) = absurd (omega (arith, a.0))
-    go (inr a) = a.1
-
--- of three
-greater-again : (k m n : ℕ) → greater k (greater m n) ≡ greater (greater k m) n
-greater-again k m n = go (greater-cases m n) (greater-cases k m)
-  where
-    go : ((m < n) × (greater m n ≡ n)) ⊎ ((n ≤ m) × (greater m n ≡ m)) → ((k < m) × (greater k m ≡ m)) ⊎ ((m ≤ k) × (greater k m ≡ k))
-        → greater k (greater m n) ≡ greater (greater k m) n
-    go (inl a) (inl b) = rw (a.1, b.1, a.1) (rw (lt-ltb k n (omega (arith, a.0, b.0))) refl)
-    go (inl a) (inr b) = rw (a.1, b.1) refl
-    go (inr a) (inl b) = rw (a.1, b.1, a.1) refl
-    go (inr a) (inr b) = rw (a.1, b.1) (rw (le-ltb k n (omega (arith, a.0, b.0))) refl)
-
--- of two lists of parts
-most-append : (ps qs : List Part) → most_nuls (ps ++ qs) ≡ greater (most_nuls ps) (most_nuls qs)
-most-append [] qs = sym (greater-nothing (most_nuls qs))
-most-append (p ∷ ps) qs = ap (greater (part_nuls p)) (most-append ps qs) ∙ greater-again (part_nuls p) (most_nuls ps) (most_nuls qs)
-
--- ---- a list whose elements are trimmed in turn
 
 module _ {Y X : Type 0} (see : Y → X) (change : X → X) (parts : X → List Part) where
   -- the first so many elements are trimmed, the others as they were, and so many NULs at most ended one of the former
@@ -71,7 +24,7 @@ module _ {Y X : Type 0} (see : Y → X) (change : X → X) (parts : X → List P
       first [] less same = absurd (omega (arith, less))
       first (x ∷ xs) less same =
           let here = one_more 0 xs xs 0 x z (trimmed ∙ ap (λ (u : Y). change (see u)) same) (none_yet xs) in
-          subst (TrimmedTo 1 (x ∷ xs) (z ∷ xs)) (nothing-greater _ ∙ ap (λ (u : Y). most_nuls (parts (see u))) (sym same) ∙ sym (greater-nothing _)) here
+          subst (TrimmedTo 1 (x ∷ xs) (z ∷ xs)) (greater-nothing _ ∙ ap (λ (u : Y). most_nuls (parts (see u))) (sym same) ∙ sym (nothing-greater _)) here
   next_of i old now most (one_more j before after some u v changed rest) y z below is trimmed =
       let more = next_of j before after some rest y z (omega (arith, below)) is trimmed in
       subst (TrimmedTo (suc (suc j)) (u ∷ before) (v ∷ set after j z)) (greater-again (most_nuls (parts (see u))) some (most_nuls (parts (see y))))
