@@ -52,6 +52,7 @@ pub(crate) enum Held<'a, A: Allocator> {
 
 impl<A: Allocator> TcFilterFlowerOption<A> {
     // Its type, and what it holds.
+    #[inline(always)]
     pub(crate) fn parts(&self) -> (u16, Held<'_, A>)
         ensures seen { flower_option self.now ≡ held_at result.0 result.1 }
         ensures typed { IsTrue (is_held_at result.1 result.0) }
@@ -60,6 +61,7 @@ impl<A: Allocator> TcFilterFlowerOption<A> {
         (self.number(), self.held())
     }
 
+    #[inline(always)]
     fn number(&self) -> u16
         ensures { result ≡ number_of (flower_option self.now) }
     {
@@ -167,6 +169,7 @@ impl<A: Allocator> TcFilterFlowerOption<A> {
         }
     }
 
+    #[inline(always)]
     fn held(&self) -> Held<'_, A>
         ensures seen { flower_option self.now ≡ held_at (number_of (flower_option self.now)) result }
         ensures typed { IsTrue (is_held_at result (number_of (flower_option self.now))) }

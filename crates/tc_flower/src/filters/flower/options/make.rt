@@ -13,6 +13,7 @@ use std::net::{Ipv4Addr, Ipv6Addr};
 
 impl<A: Allocator> TcFilterFlowerOption<A> {
     // The option of a type that holds a MAC address.
+    #[inline(always)]
     pub(crate) fn of_mac(kind: u16, mac: [u8; 6]) -> Self
         requires { IsTrue (holds_mac kind) }
         ensures { flower_option result ≡ known kind (is_bytes mac) }
@@ -30,6 +31,7 @@ impl<A: Allocator> TcFilterFlowerOption<A> {
     }
 
     // The option of a type that holds an IPv4 address.
+    #[inline(always)]
     pub(crate) fn of_ipv4(kind: u16, ip: Ipv4Addr) -> Self
         requires { IsTrue (holds_ipv4 kind) }
         ensures { flower_option result ≡ known kind (is_bytes (ipv4_octets ip)) }
@@ -51,6 +53,7 @@ impl<A: Allocator> TcFilterFlowerOption<A> {
     }
 
     // The option of a type that holds an IPv6 address.
+    #[inline(always)]
     pub(crate) fn of_ipv6(kind: u16, ip: Ipv6Addr) -> Self
         requires { IsTrue (holds_ipv6 kind) }
         ensures { flower_option result ≡ known kind (is_bytes (ipv6_octets ip)) }
@@ -68,6 +71,7 @@ impl<A: Allocator> TcFilterFlowerOption<A> {
     }
 
     // The option of a type that holds labels in connection tracking.
+    #[inline(always)]
     pub(crate) fn of_labels(kind: u16, labels: [u8; 16]) -> Self
         requires { IsTrue (holds_labels kind) }
         ensures { flower_option result ≡ known kind (is_bytes labels) }
@@ -79,6 +83,7 @@ impl<A: Allocator> TcFilterFlowerOption<A> {
     }
 
     // The option of a type that holds a number of one byte.
+    #[inline(always)]
     pub(crate) fn of_u8(kind: u16, n: u8) -> Self
         requires { IsTrue (holds_u8 kind) }
         ensures { flower_option result ≡ known kind (number n) }
@@ -110,6 +115,7 @@ impl<A: Allocator> TcFilterFlowerOption<A> {
     }
 
     // The option of a type that holds a number of two bytes.
+    #[inline(always)]
     pub(crate) fn of_u16(kind: u16, n: u16) -> Self
         requires { IsTrue (holds_u16 kind) }
         ensures { flower_option result ≡ known kind (number n) }
@@ -125,6 +131,7 @@ impl<A: Allocator> TcFilterFlowerOption<A> {
     }
 
     // The option of a type that holds a number of two bytes, big-endian.
+    #[inline(always)]
     pub(crate) fn of_u16_be(kind: u16, n: u16) -> Self
         requires { IsTrue (holds_u16_be kind) }
         ensures { flower_option result ≡ known kind (number n) }
@@ -159,6 +166,7 @@ impl<A: Allocator> TcFilterFlowerOption<A> {
     }
 
     // The option of a type that holds a number of four bytes.
+    #[inline(always)]
     pub(crate) fn of_u32(kind: u16, n: u32) -> Self
         requires { IsTrue (holds_u32 kind) }
         ensures { flower_option result ≡ known kind (number n) }
@@ -174,6 +182,7 @@ impl<A: Allocator> TcFilterFlowerOption<A> {
     }
 
     // The option of a type that holds a number of four bytes, big-endian.
+    #[inline(always)]
     pub(crate) fn of_u32_be(kind: u16, n: u32) -> Self
         requires { IsTrue (holds_u32_be kind) }
         ensures { flower_option result ≡ known kind (number n) }

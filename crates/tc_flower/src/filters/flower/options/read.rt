@@ -20,6 +20,7 @@ use nla_frames::{
 use std::alloc::Allocator;
 
 impl<A: Allocator + Copy> Parseable<A> for TcFilterFlowerOption<A> {
+    #[inline(always)]
     fn parse(alloc: A, buf: &NlaBuffer<'_>) -> Res<TcFilterFlowerOption<A>> {
         Self::read(alloc, buf)
     }
@@ -27,6 +28,7 @@ impl<A: Allocator + Copy> Parseable<A> for TcFilterFlowerOption<A> {
 
 impl<A: Allocator + Copy> TcFilterFlowerOption<A> {
     #[tactic(auto, using(crate::proofs::FlowerReads::in_dev_read, crate::proofs::FlowerReads::bos_read, crate::proofs::FlowerReads::tc_read, crate::proofs::FlowerReads::label_read))]
+    #[inline(always)]
     fn read(alloc: A, buf: &NlaBuffer<'_>) -> Res<Self>
         ensures { Gives (seen flower_option result) (flower_read (frame_of buf.now)) }
     {
@@ -77,6 +79,7 @@ impl<A: Allocator + Copy> TcFilterFlowerOption<A> {
 
     // An option that is kept as it stands.
     #[tactic(auto, using(crate::proofs::FlowerReads::other_read))]
+    #[inline(always)]
     fn read_other(alloc: A, buf: &NlaBuffer<'_>) -> Res<Self>
         requires { (is_within 2 83 (type_of (frame_of buf.now).word) || is_within 86 101 (type_of (frame_of buf.now).word)) ≡ false }
         ensures { Gives (seen flower_option result) (flower_read (frame_of buf.now)) }
@@ -89,6 +92,7 @@ impl<A: Allocator + Copy> TcFilterFlowerOption<A> {
 impl<A: Allocator> TcFilterFlowerOption<A> {
     // An option that holds a MAC address.
     #[tactic(auto, using(crate::proofs::FlowerReads::mac_read))]
+    #[inline(always)]
     fn read_mac(buf: &NlaBuffer<'_>) -> Res<Self>
         requires { IsTrue (holds_mac (type_of (frame_of buf.now).word)) }
         ensures { Gives (seen flower_option result) (flower_read (frame_of buf.now)) }
@@ -98,6 +102,7 @@ impl<A: Allocator> TcFilterFlowerOption<A> {
 
     // An option that holds an IPv4 address.
     #[tactic(auto, using(crate::proofs::FlowerReads::ipv4_read))]
+    #[inline(always)]
     fn read_ipv4(buf: &NlaBuffer<'_>) -> Res<Self>
         requires { IsTrue (holds_ipv4 (type_of (frame_of buf.now).word)) }
         ensures { Gives (seen flower_option result) (flower_read (frame_of buf.now)) }
@@ -107,6 +112,7 @@ impl<A: Allocator> TcFilterFlowerOption<A> {
 
     // An option that holds an IPv6 address.
     #[tactic(auto, using(crate::proofs::FlowerReads::ipv6_read))]
+    #[inline(always)]
     fn read_ipv6(buf: &NlaBuffer<'_>) -> Res<Self>
         requires { IsTrue (holds_ipv6 (type_of (frame_of buf.now).word)) }
         ensures { Gives (seen flower_option result) (flower_read (frame_of buf.now)) }
@@ -116,6 +122,7 @@ impl<A: Allocator> TcFilterFlowerOption<A> {
 
     // An option that holds labels in connection tracking.
     #[tactic(auto, using(crate::proofs::FlowerReads::labels_read))]
+    #[inline(always)]
     fn read_labels(buf: &NlaBuffer<'_>) -> Res<Self>
         requires { IsTrue (holds_labels (type_of (frame_of buf.now).word)) }
         ensures { Gives (seen flower_option result) (flower_read (frame_of buf.now)) }
@@ -125,6 +132,7 @@ impl<A: Allocator> TcFilterFlowerOption<A> {
 
     // An option that holds a number of one byte.
     #[tactic(auto, using(crate::proofs::FlowerReads::u8_read))]
+    #[inline(always)]
     fn read_u8(buf: &NlaBuffer<'_>) -> Res<Self>
         requires { IsTrue (holds_u8 (type_of (frame_of buf.now).word)) }
         ensures { Gives (seen flower_option result) (flower_read (frame_of buf.now)) }
@@ -134,6 +142,7 @@ impl<A: Allocator> TcFilterFlowerOption<A> {
 
     // An option that holds a number of two bytes.
     #[tactic(auto, using(crate::proofs::FlowerReads::u16_read))]
+    #[inline(always)]
     fn read_u16(buf: &NlaBuffer<'_>) -> Res<Self>
         requires { IsTrue (holds_u16 (type_of (frame_of buf.now).word)) }
         ensures { Gives (seen flower_option result) (flower_read (frame_of buf.now)) }
@@ -143,6 +152,7 @@ impl<A: Allocator> TcFilterFlowerOption<A> {
 
     // An option that holds a number of two bytes, big-endian.
     #[tactic(auto, using(crate::proofs::FlowerReads::u16_be_read))]
+    #[inline(always)]
     fn read_u16_be(buf: &NlaBuffer<'_>) -> Res<Self>
         requires { IsTrue (holds_u16_be (type_of (frame_of buf.now).word)) }
         ensures { Gives (seen flower_option result) (flower_read (frame_of buf.now)) }
@@ -152,6 +162,7 @@ impl<A: Allocator> TcFilterFlowerOption<A> {
 
     // An option that holds a number of four bytes.
     #[tactic(auto, using(crate::proofs::FlowerReads::u32_read))]
+    #[inline(always)]
     fn read_u32(buf: &NlaBuffer<'_>) -> Res<Self>
         requires { IsTrue (holds_u32 (type_of (frame_of buf.now).word)) }
         ensures { Gives (seen flower_option result) (flower_read (frame_of buf.now)) }
@@ -161,6 +172,7 @@ impl<A: Allocator> TcFilterFlowerOption<A> {
 
     // An option that holds a number of four bytes, big-endian.
     #[tactic(auto, using(crate::proofs::FlowerReads::u32_be_read))]
+    #[inline(always)]
     fn read_u32_be(buf: &NlaBuffer<'_>) -> Res<Self>
         requires { IsTrue (holds_u32_be (type_of (frame_of buf.now).word)) }
         ensures { Gives (seen flower_option result) (flower_read (frame_of buf.now)) }

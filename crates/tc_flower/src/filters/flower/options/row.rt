@@ -21,12 +21,14 @@ type FlowerLists<'a, A> = Either<Items<'a, TcAction<A>>, Items<'a, TcFilterFlowe
 
 impl<A: Allocator> TcFilterFlowerOption<A> {
     // Its word and its value, and what they are by the table.
+    #[inline(always)]
     pub(crate) fn view(&self) -> (u16, Value<'_, FlowerLists<'_, A>>)
         ensures { ShownAs flower_lists flower_options (flower_option self.now) result.0 result.1 }
     {
         self.row()
     }
 
+    #[inline(always)]
     pub(crate) fn row(&self) -> (u16, Value<'_, FlowerLists<'_, A>>)
         ensures seen { flower_option self.now ≡ attribute_of flower_lists result.0 result.1 }
         ensures row { IsRow flower_lists flower_options result.0 result.1 }
