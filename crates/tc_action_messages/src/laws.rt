@@ -57,7 +57,8 @@ pub fn equal<A: Allocator>()
 
 /// Two settled messages that fit are `==` exactly if `emit` writes the same bytes for both.
 pub fn equal_bytes<A: Allocator>(one: &TcActionMessage<A>, other: &TcActionMessage<A>)
-    ensures { FitsAct (action_message one.now) → SettledAct (action_message one.now) → FitsAct (action_message other.now) → SettledAct (action_message other.now)
+    ensures { FitsAct (action_message one.now) → SettledAct (action_message one.now)
+        → FitsAct (action_message other.now) → SettledAct (action_message other.now)
         → IsTrue (⟦<TcActionMessage<A> as PartialEq>⟧.eq one.now other.now) ↔ act_bytes (action_message one.now) ≡ act_bytes (action_message other.now) }
 {
     rewriting::same_bytes();

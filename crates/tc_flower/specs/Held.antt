@@ -47,6 +47,7 @@ holds_u32 n = n == 22 || n == 86 || is_within 95 96 n || is_within 100 101 n
 abbrev pub holds_u32_be : ℕ → Bool
 holds_u32_be n = n == 26 || is_within 47 48 n
 
+-- the types under which an option holds it
 abbrev pub is_held_at : {A : Type 0} → Held A → ℕ → Bool
 is_held_at (held.ClassId m) n = n == 1
 is_held_at (held.Name name) n = n == 2

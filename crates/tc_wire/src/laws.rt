@@ -29,7 +29,8 @@ pub fn equal<A: Allocator>()
 
 /// Two settled messages that fit are `==` exactly if `emit` writes the same bytes for both.
 pub fn equal_bytes<A: Allocator>(one: &TcMessage<A>, other: &TcMessage<A>)
-    ensures { FitsTc (tc_message one.now) → SettledTc (tc_message one.now) → FitsTc (tc_message other.now) → SettledTc (tc_message other.now)
+    ensures { FitsTc (tc_message one.now) → SettledTc (tc_message one.now)
+        → FitsTc (tc_message other.now) → SettledTc (tc_message other.now)
         → IsTrue (⟦<TcMessage<A> as PartialEq>⟧.eq one.now other.now) ↔ tc_bytes (tc_message one.now) ≡ tc_bytes (tc_message other.now) }
 {
     rewriting::same_bytes();

@@ -21,15 +21,15 @@ use std::alloc::{Allocator, Global};
 use tc_values::{Items, Value, same_row};
 
 // The types of what a label stack entry is matched by, `linux/pkt_cls.h`.
-const TCA_FLOWER_KEY_MPLS_OPT_LSE_DEPTH: u16 = 1;
+pub(crate) const TCA_FLOWER_KEY_MPLS_OPT_LSE_DEPTH: u16 = 1;
 
-const TCA_FLOWER_KEY_MPLS_OPT_LSE_TTL: u16 = 2;
+pub(crate) const TCA_FLOWER_KEY_MPLS_OPT_LSE_TTL: u16 = 2;
 
-const TCA_FLOWER_KEY_MPLS_OPT_LSE_BOS: u16 = 3;
+pub(crate) const TCA_FLOWER_KEY_MPLS_OPT_LSE_BOS: u16 = 3;
 
-const TCA_FLOWER_KEY_MPLS_OPT_LSE_TC: u16 = 4;
+pub(crate) const TCA_FLOWER_KEY_MPLS_OPT_LSE_TC: u16 = 4;
 
-const TCA_FLOWER_KEY_MPLS_OPT_LSE_LABEL: u16 = 5;
+pub(crate) const TCA_FLOWER_KEY_MPLS_OPT_LSE_LABEL: u16 = 5;
 
 /// What one label stack entry is matched by.
 ///
@@ -148,7 +148,7 @@ impl<A: Allocator> Eq for TcFilterFlowerMplsLseOption<A> {
 }
 
 // The type of a label stack entry, `linux/pkt_cls.h`.
-const TCA_FLOWER_KEY_MPLS_OPTS_LSE: u16 = 1;
+pub(crate) const TCA_FLOWER_KEY_MPLS_OPTS_LSE: u16 = 1;
 
 /// An option of MPLS.
 ///

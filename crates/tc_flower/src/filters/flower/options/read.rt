@@ -27,6 +27,7 @@ impl<A: Allocator + Copy> Parseable<A> for TcFilterFlowerOption<A> {
 }
 
 impl<A: Allocator + Copy> TcFilterFlowerOption<A> {
+    // By its type: alone, or with the other types that hold the same.
     #[tactic(auto, using(crate::proofs::FlowerReads::in_dev_read, crate::proofs::FlowerReads::bos_read, crate::proofs::FlowerReads::tc_read, crate::proofs::FlowerReads::label_read))]
     #[inline(always)]
     fn read(alloc: A, buf: &NlaBuffer<'_>) -> Res<Self>
