@@ -1,6 +1,2 @@
-mod KeptWords
-mod KindTexts
-mod Outcomes
 mod Rewrites
 mod Trimmed
-mod Upgrades

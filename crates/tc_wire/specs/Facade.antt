@@ -10,4 +10,4 @@ pub use Rattle.tc_meaning.specs.Whole.{ReadsTc, FaultTc, read_tc, tc_bytes, Type
 pub use Rattle.tc_meaning.specs.Whole.{ReadsAct, FaultAct, read_act, act_bytes, TypedAct, FitsAct, SettledAct}
 pub use Rattle.tc_action_messages.specs.Inverse.{UnlessMemory}
 pub use Rattle.tc_action_messages.specs.ActionMessage.{action_message}
-pub use Rattle.tc_wire.specs.Message.{tc_message}
+pub use Rattle.tc_messages.specs.Message.{tc_message}

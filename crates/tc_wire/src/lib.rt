@@ -1,16 +1,8 @@
-//! Messages of Linux traffic control.
+//! Messages of Linux traffic control, by all their public names, with rewriting and settling.
 #![tactic(auto)]
 
-pub mod attribute;
-pub mod laws;
-pub mod message;
 pub mod rewriting;
-mod types;
-pub mod upgrade;
 
-pub use attribute::TcAttribute;
-pub use attribute::VecTcAttribute;
-pub use message::TcMessage;
 pub use nla_frames::AddressFamily;
 pub use nla_frames::BytesMeaning;
 pub use nla_frames::DecodeError;
@@ -108,23 +100,26 @@ pub use tc_canon::canon_options;
 pub use tc_canon::canon_stats2;
 pub use tc_canon::is_canonical_action;
 pub use tc_canon::is_canonical_tc;
+pub use tc_filters::TcFilterBpf;
+pub use tc_filters::TcFilterBpfOption;
+pub use tc_filters::TcFilterMatchAll;
+pub use tc_filters::TcFilterMatchAllOption;
+pub use tc_filters::TcFilterU32;
+pub use tc_filters::TcFilterU32Option;
 pub use tc_flower::TcFilterFlower;
 pub use tc_flower::TcFilterFlowerMplsLseOption;
 pub use tc_flower::TcFilterFlowerMplsOption;
 pub use tc_flower::TcFilterFlowerOption;
-pub use tc_options::TcFilterBpf;
-pub use tc_options::TcFilterBpfOption;
-pub use tc_options::TcFilterMatchAll;
-pub use tc_options::TcFilterMatchAllOption;
-pub use tc_options::TcFilterU32;
-pub use tc_options::TcFilterU32Option;
+pub use tc_messages::TcAttribute;
+pub use tc_messages::TcMessage;
+pub use tc_messages::VecTcAttribute;
 pub use tc_options::TcOption;
-pub use tc_options::TcQdiscFqCodel;
-pub use tc_options::TcQdiscFqCodelOption;
-pub use tc_options::TcQdiscIngress;
-pub use tc_options::TcQdiscIngressOption;
 pub use tc_options::VecTcOption;
 pub use tc_options::is_known_kind;
+pub use tc_qdiscs::TcQdiscFqCodel;
+pub use tc_qdiscs::TcQdiscFqCodelOption;
+pub use tc_qdiscs::TcQdiscIngress;
+pub use tc_qdiscs::TcQdiscIngressOption;
 pub use tc_raw::TcActionGenericBuffer;
 pub use tc_raw::TcActionMessageBuffer;
 pub use tc_raw::TcFqCodelClStatsBuffer;

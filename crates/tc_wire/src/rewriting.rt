@@ -9,13 +9,13 @@ ghost use Rattle.tc_laws.specs.Rewriting.{RewritesTc, RewritesAct};
 ghost use Rattle.tc_wire.specs.Rewriting.{refusal, RefusedTc, RefusedAct, WrittenOf, RefusedOf, SettlesTc, SettlesAct, CountIs, TrimmedOf};
 ghost use Rattle.tc_wire.specs.declared.rewriting.RewriteError.TheVariants.{OutOfMemory};
 
-use crate::message::TcMessage;
 use nla_frames::{DecodeError, Emitable, ParseableBytes};
 use std::alloc::{AllocError, Allocator};
 use tc_action_messages::TcActionMessage;
 use tc_canon::{is_canonical_action, is_canonical_tc};
 use tc_laws::rewriting::{action_rewriting, action_same_norm, tc_rewriting};
 use tc_meaning::laws::{action_message, tc_message};
+use tc_messages::TcMessage;
 use thiserror::Error;
 
 /// Why bytes aren't rewritten. The causes are looked for in this order, but memory may run out at any growth.

@@ -1,0 +1,2 @@
+pub mod ActionLists
+pub mod Bodies

@@ -1,0 +1,3 @@
+pub mod Bpf
+pub mod MatchAll
+pub mod U32

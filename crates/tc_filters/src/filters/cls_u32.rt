@@ -1,0 +1,189 @@
+//! Packets whose words are compared.
+
+ghost use Rattle.std.specs.Prelude.{◌≡◌};
+ghost use Rattle.std.specs.Ordering.{on};
+ghost use Rattle.nla_frames.specs.Frame.{type_of};
+ghost use Rattle.tc_canon.specs.Descriptor.{table};
+ghost use Rattle.tc_canon.specs.Tables.Options.{u32_options};
+ghost use Rattle.tc_meaning.specs.Tree.{Attribute};
+ghost use Rattle.tc_meaning.specs.Meaning.{table_codec};
+ghost use Rattle.tc_meaning.specs.Short.{table_short};
+ghost use Rattle.tc_meaning.specs.Equal.{same_attribute, attribute_equiv, attribute_per};
+ghost use Rattle.tc_values.specs.Row.{attribute_of, IsRow, ShownAs, reads_at};
+ghost use Rattle.tc_filters.specs.U32.{u32_option, u32_body};
+
+use crate::filters::types::{
+    TCA_U32_ACT, TCA_U32_CLASSID, TCA_U32_DIVISOR, TCA_U32_FLAGS, TCA_U32_HASH, TCA_U32_INDEV,
+    TCA_U32_LINK, TCA_U32_MARK, TCA_U32_PCNT, TCA_U32_POLICE, TCA_U32_SEL,
+};
+use bitflags::Flags;
+use nla_frames::{
+    DefaultNla, FrameMeaning, NLA_TYPE_MASK, Nla, NlaBuffer, Parseable, Res, Settle, parse_list,
+    parse_u32,
+};
+use std::alloc::{Allocator, Global};
+use tc_actions::TcAction;
+use tc_records::{TcHandle, TcU32OptionFlags, TcU32Selector};
+use tc_values::{Either, Items, Record, Value, same_row};
+
+/// The filter `u32`, which compares words of a packet.
+#[derive(PartialEq, Eq, Clone, Drop, Debug)]
+pub struct TcFilterU32 {}
+
+impl TcFilterU32 {
+    /// Its name in a `Kind`.
+    pub const KIND: &'static str = "u32";
+}
+
+/// An option of `u32`; numbers are little-endian.
+///
+/// | Type | Option | Value |
+/// |---|---|---|
+/// | 1 | `ClassId` | u32, a [`TcHandle`] |
+/// | 2 to 4 | `Hash`, `Link`, `Divisor` | u32 |
+/// | 5 | `Selector` | [`TcU32Selector`] |
+/// | 6 | `Police` | bytes |
+/// | 7 | `Action` | a list of [`TcAction`] |
+/// | 8 to 10 | `Indev`, `Pnct`, `Mark` | bytes |
+/// | 11 | `Flags` | u32, [`TcU32OptionFlags`] |
+#[derive(Drop)]
+#[derive_where(Debug)]
+#[derive_where(Clone; A)]
+pub enum TcFilterU32Option<A: Allocator = Global> {
+    /// The class that packets are put into: `TCA_U32_CLASSID` of `linux/pkt_cls.h`.
+    ClassId(TcHandle),
+    /// The hash table that the filter stands in, and its place there: `TCA_U32_HASH`.
+    Hash(u32),
+    /// The hash table where the search goes on: `TCA_U32_LINK`.
+    Link(u32),
+    /// How many buckets a hash table has: `TCA_U32_DIVISOR`.
+    Divisor(u32),
+    /// What is compared with a packet: `TCA_U32_SEL`.
+    Selector(TcU32Selector<A>),
+    /// A limit of the rate, nested attributes of the kernel's own: `TCA_U32_POLICE`.
+    Police(Vec<u8, A>),
+    /// What is done with packets: `TCA_U32_ACT`.
+    Action(Vec<TcAction<A>, A>),
+    /// The interface that packets come in by, a name: `TCA_U32_INDEV`.
+    Indev(Vec<u8, A>),
+    /// How often the filter and its keys matched, `struct tc_u32_pcnt`: `TCA_U32_PCNT`.
+    Pnct(Vec<u8, A>),
+    /// The mark that packets bear, `struct tc_u32_mark`: `TCA_U32_MARK`.
+    Mark(Vec<u8, A>),
+    /// Where the filter is to be, and where it is: `TCA_U32_FLAGS`.
+    Flags(TcU32OptionFlags),
+    /// Any other type.
+    Other(DefaultNla<A>),
+}
+
+// What its options nest.
+type Body<'a, A> = Either<Record<'a, TcU32Selector<A>>, Items<'a, TcAction<A>>>;
+
+impl<A: Allocator> FrameMeaning for TcFilterU32Option<A> {
+    ghost Seen = { Attribute };
+
+    ghost see = { u32_option };
+
+    ghost codec = { table_codec (table u32_options) };
+}
+
+impl<A: Allocator + Copy> Parseable<A> for TcFilterU32Option<A> {
+    fn parse(alloc: A, buf: &NlaBuffer<'_>) -> Res<TcFilterU32Option<A>> {
+        let value = buf.value();
+        match buf.kind() {
+            TCA_U32_CLASSID => Ok(TcFilterU32Option::ClassId(TcHandle::from(parse_u32(value)?))),
+            TCA_U32_HASH => Ok(TcFilterU32Option::Hash(parse_u32(value)?)),
+            TCA_U32_LINK => Ok(TcFilterU32Option::Link(parse_u32(value)?)),
+            TCA_U32_DIVISOR => Ok(TcFilterU32Option::Divisor(parse_u32(value)?)),
+            TCA_U32_SEL => Ok(TcFilterU32Option::Selector(TcU32Selector::parse(alloc, value)?)),
+            TCA_U32_POLICE => Ok(TcFilterU32Option::Police(Vec::from_slice(alloc, value)?)),
+            TCA_U32_ACT => Ok(TcFilterU32Option::Action(parse_list(alloc, value)?)),
+            TCA_U32_INDEV => Ok(TcFilterU32Option::Indev(Vec::from_slice(alloc, value)?)),
+            TCA_U32_PCNT => Ok(TcFilterU32Option::Pnct(Vec::from_slice(alloc, value)?)),
+            TCA_U32_MARK => Ok(TcFilterU32Option::Mark(Vec::from_slice(alloc, value)?)),
+            TCA_U32_FLAGS => Ok(TcFilterU32Option::Flags(TcU32OptionFlags::from_bits_retain(
+                parse_u32(value)?,
+            ))),
+            _ => Ok(TcFilterU32Option::Other(DefaultNla::parse(alloc, buf)?)),
+        }
+    }
+}
+
+impl<A: Allocator> TcFilterU32Option<A> {
+    // Its word and its value, and what they are by the table.
+    fn view(&self) -> (u16, Value<'_, Body<'_, A>>)
+        ensures { ShownAs u32_body u32_options (u32_option self.now) result.0 result.1 }
+    {
+        self.row()
+    }
+
+    fn row(&self) -> (u16, Value<'_, Body<'_, A>>)
+        ensures seen { u32_option self.now ≡ attribute_of u32_body result.0 result.1 }
+        ensures row { IsRow u32_body u32_options result.0 result.1 }
+    {
+        match self {
+            TcFilterU32Option::ClassId(handle) => (TCA_U32_CLASSID, Value::U32(u32::from(*handle))),
+            TcFilterU32Option::Hash(n) => (TCA_U32_HASH, Value::U32(*n)),
+            TcFilterU32Option::Link(n) => (TCA_U32_LINK, Value::U32(*n)),
+            TcFilterU32Option::Divisor(n) => (TCA_U32_DIVISOR, Value::U32(*n)),
+            TcFilterU32Option::Selector(selector) => (
+                TCA_U32_SEL,
+                Value::Nested(Either::Left(Record(selector))),
+            ),
+            TcFilterU32Option::Police(bytes) => (TCA_U32_POLICE, Value::Bytes(bytes)),
+            TcFilterU32Option::Action(actions) => (
+                TCA_U32_ACT,
+                Value::Nested(Either::Right(Items(actions))),
+            ),
+            TcFilterU32Option::Indev(bytes) => (TCA_U32_INDEV, Value::Bytes(bytes)),
+            TcFilterU32Option::Pnct(bytes) => (TCA_U32_PCNT, Value::Bytes(bytes)),
+            TcFilterU32Option::Mark(bytes) => (TCA_U32_MARK, Value::Bytes(bytes)),
+            TcFilterU32Option::Flags(flags) => (TCA_U32_FLAGS, Value::U32(flags.bits())),
+            TcFilterU32Option::Other(nla) => (nla.kind(), Value::Kept(nla.value())),
+        }
+    }
+}
+
+// True if options of this word's type are read.
+fn is_read(word: u16) -> bool
+    ensures { result ≡ reads_at u32_options (type_of word) }
+{
+    matches!(word & NLA_TYPE_MASK, TCA_U32_CLASSID..=TCA_U32_FLAGS)
+}
+
+impl<A: Allocator> Nla for TcFilterU32Option<A> {
+    fn kind(&self) -> u16 {
+        self.view().0
+    }
+
+    fn checked_len(&self) -> Option<usize> {
+        self.view().1.checked_len()
+    }
+
+    fn put_value(&self, buffer: &mut [u8]) -> usize {
+        self.view().1.put(buffer)
+    }
+
+    ghost is_short = { table_short (table u32_options) };
+}
+
+impl<A: Allocator> Settle for TcFilterU32Option<A> {
+    fn is_settled_under(&self, kind: &str) -> bool {
+        let (word, value) = self.view();
+        value.is_settled_under(is_read(word), kind)
+    }
+}
+
+impl<A: Allocator> PartialEq for TcFilterU32Option<A> {
+    ghost eq = { on u32_option same_attribute };
+
+    ghost laws = { attribute_per u32_option };
+
+    fn eq(&self, other: &TcFilterU32Option<A>) -> bool {
+        same_row(&self.row(), &other.row())
+    }
+}
+
+impl<A: Allocator> Eq for TcFilterU32Option<A> {
+    ghost laws = { attribute_equiv u32_option };
+}

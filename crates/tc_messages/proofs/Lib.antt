@@ -1,0 +1,4 @@
+mod KeptWords
+mod KindTexts
+mod Outcomes
+mod Upgrades

@@ -1,0 +1,185 @@
+//! Whole messages.
+
+ghost use Rattle.std.specs.Prelude.{◌≡◌, ◌≤◌, ◌↔◌, [], length, drop, false, IfOk, IsTrue};
+ghost use Rattle.std.specs.Ordering.{on};
+ghost use Rattle.nla_frames.specs.Fault.{Gives, IfRefused, seen};
+ghost use Rattle.nla_frames.specs.Emission.{Writes, HasRoom};
+ghost use Rattle.tc_canon.specs.Layouts.{tc_header};
+ghost use Rattle.tc_canon.specs.Tables.Messages.{attributes};
+ghost use Rattle.tc_canon.specs.Canonical.{CanonTc};
+ghost use Rattle.tc_meaning.specs.Message.{Message, message_codec, kind_of_frame, kind_of_attribute};
+ghost use Rattle.tc_meaning.specs.Whole.{ReadsTc, FaultTc, read_tc, tc_bytes, TypedTc, FitsTc, SettledTc};
+ghost use Rattle.tc_meaning.specs.Equal.{same_message, message_equiv, message_per};
+ghost use Rattle.tc_laws.specs.Loose.{is_loose_tc};
+ghost use Rattle.tc_records.specs.Header.{empty_header};
+ghost use Rattle.tc_action_messages.specs.Inverse.{UnlessMemory};
+ghost use Rattle.tc_messages.specs.Message.{tc_message, TakesUnknownTc};
+
+use crate::attribute::{TcAttribute, VecTcAttribute};
+use nla_frames::{
+    BytesMeaning, Emitable, ParseableBytes, Res, SettleBytes, list_checked_len,
+    list_settled_carrying, put_list,
+};
+use std::alloc::{Allocator, Global};
+use tc_laws::{places, rewriting};
+use tc_meaning::laws;
+use tc_records::laws::in_hand::header_in_hand;
+use tc_records::{TC_HEADER_LEN, TcHeader};
+
+/// A message about a queueing discipline, a class, a filter or a chain: a header and attributes.
+#[derive(Drop)]
+#[derive_where(Debug)]
+#[derive_where(Clone; A)]
+pub struct TcMessage<A: Allocator = Global> {
+    pub header: TcHeader,
+    pub attributes: Vec<TcAttribute<A>, A>,
+}
+
+impl<A: Allocator> TcMessage<A> {
+    /// The header and the attributes.
+    pub fn into_parts(self) -> (TcHeader, Vec<TcAttribute<A>, A>)
+        ensures { result ≡ (self.header, self.attributes) }
+    {
+        let TcMessage { header, attributes } = self;
+        (header, attributes)
+    }
+
+    /// A message of a header and attributes.
+    pub fn from_parts(header: TcHeader, attributes: Vec<TcAttribute<A>, A>) -> TcMessage<A>
+        ensures { result ≡ record { header = header; attributes = attributes } }
+    {
+        TcMessage { header, attributes }
+    }
+}
+
+impl<A: Allocator> TcMessage<A> {
+    /// A message of the default header and no attributes.
+    pub fn default_in(alloc: A) -> TcMessage<A>
+        ensures header { result.header ≡ empty_header }
+        ensures attributes { result.attributes.items ≡ [] }
+    {
+        TcMessage {
+            header: TcHeader::default(),
+            attributes: Vec::new(alloc),
+        }
+    }
+
+    /// A message of the default header but for the index of an interface, and no attributes.
+    pub fn with_index(alloc: A, index: i32) -> TcMessage<A>
+        ensures header { result.header ≡ record empty_header { index = index } }
+        ensures attributes { result.attributes.items ≡ [] }
+    {
+        let mut message = TcMessage::default_in(alloc);
+        message.header.index = index;
+        message
+    }
+}
+
+impl<A: Allocator> BytesMeaning for TcMessage<A> {
+    ghost Seen = { Message };
+
+    ghost see = { tc_message };
+
+    ghost codec = { message_codec kind_of_frame kind_of_attribute tc_header attributes };
+}
+
+impl<A: Allocator + Copy> ParseableBytes<A> for TcMessage<A> {
+    fn parse(alloc: A, bytes: &[u8]) -> Res<TcMessage<A>>
+        // What is read is what the grammar reads.
+        ensures found { IfOk result (λ m. ReadsTc bytes.now (tc_message m)) }
+        // What is refused has this fault, and it is the first.
+        ensures refused { IfRefused result (FaultTc bytes.now) }
+        // The function that computes both gives what is returned, unless memory ran out.
+        ensures exact { Gives (seen tc_message result) (read_tc bytes.now) }
+        // What fits is written as the same bytes exactly if these are canonical.
+        ensures same { IfOk result (λ m. FitsTc (tc_message m) → (tc_bytes (tc_message m) ≡ bytes.now) ↔ CanonTc bytes.now) }
+        // Canonical bytes are refused for want of memory alone, and read as what fits and is settled.
+        ensures canonical { CanonTc bytes.now → UnlessMemory result (λ m. FitsTc (tc_message m) × SettledTc (tc_message m)) }
+        // What is read is unsettled exactly if it is loose: if a part of it is written otherwise than it may have been read.
+        ensures loose { IfOk result (λ m. SettledTc (tc_message m) ↔ (is_loose_tc (tc_message m) ≡ false)) }
+        // A frame of an unknown type may stand anywhere, and is kept there as it stands.
+        ensures unknown { IfOk result (λ m. TakesUnknownTc bytes.now (tc_message m)) }
+    {
+        laws::tc_message(bytes);
+        rewriting::tc_rewriting(bytes);
+        places::unknown_types();
+        read(alloc, bytes)
+    }
+}
+
+#[tactic(auto, unfolding(tc_meaning::specs::Message::read_with))]
+fn read<A: Allocator + Copy>(alloc: A, bytes: &[u8]) -> Res<TcMessage<A>>
+    ensures { Gives (seen tc_message result) (read_tc bytes.now) }
+{
+    let header = TcHeader::parse(bytes)?;
+    let attributes = VecTcAttribute::parse(alloc, after_header(bytes))?.0;
+    Ok(TcMessage { header, attributes })
+}
+
+// What follows a header.
+fn after_header(bytes: &[u8]) -> &[u8]
+    requires { 20 ≤ length bytes.now }
+    ensures { result.now ≡ drop 20 bytes.now }
+{
+    &bytes[TC_HEADER_LEN..]
+}
+
+impl<A: Allocator> Emitable for TcMessage<A> {
+    fn checked_len(&self) -> Option<usize> {
+        header_in_hand(&self.header);
+        match list_checked_len(&self.attributes) {
+            Some(len) => len.checked_add(TC_HEADER_LEN),
+            None => None,
+        }
+    }
+
+    fn emit(&self, buffer: &mut [u8])
+        requires fits { FitsTc (tc_message self.now) }
+        requires room { HasRoom (tc_bytes (tc_message self.now)) buffer.old }
+        ensures written { Writes (tc_bytes (tc_message self.now)) buffer.old buffer.new }
+        ensures typed { TypedTc (tc_message self.now) }
+        // What is written reads back as the message exactly if it is settled.
+        ensures back { ReadsTc (tc_bytes (tc_message self.now)) (tc_message self.now) ↔ SettledTc (tc_message self.now) }
+    {
+        laws::tc_message(&[]);
+        header_in_hand(&self.header);
+        put_list(&self.attributes, &mut buffer[TC_HEADER_LEN..]);
+        self.header.emit(buffer);
+    }
+}
+
+impl<A: Allocator> TcMessage<A> {
+    /// True if its bytes, where it can be written, read back as itself: its header is settled, and each attribute is
+    /// under the kind that is set last before its place.
+    pub fn is_settled(&self) -> bool
+        ensures settled { IsTrue result ↔ SettledTc (tc_message self.now) }
+        ensures typed { IsTrue result → TypedTc (tc_message self.now) }
+        // Its bytes are canonical.
+        ensures canonical { IsTrue result → FitsTc (tc_message self.now) → CanonTc (tc_bytes (tc_message self.now)) }
+    {
+        laws::tc_message(&[]);
+        self.has_settled_parts()
+    }
+
+    fn has_settled_parts(&self) -> bool
+        ensures settled { IsTrue result ↔ SettledTc (tc_message self.now) }
+        ensures typed { IsTrue result → TypedTc (tc_message self.now) }
+    {
+        header_in_hand(&self.header);
+        self.header.is_settled() && list_settled_carrying(&self.attributes)
+    }
+}
+
+impl<A: Allocator> PartialEq for TcMessage<A> {
+    ghost eq = { on tc_message same_message };
+
+    ghost laws = { message_per tc_message };
+
+    fn eq(&self, other: &TcMessage<A>) -> bool {
+        self.header == other.header && self.attributes == other.attributes
+    }
+}
+
+impl<A: Allocator> Eq for TcMessage<A> {
+    ghost laws = { message_equiv tc_message };
+}

@@ -1,0 +1,2 @@
+pub mod FqCodel
+pub mod Ingress
