@@ -22,7 +22,8 @@ use crate::meaning::{CanonMeaning, FrameMeaning};
 /// So all bytes are cut, and in one way.
 pub fn cutting(bytes: &[u8])
     ensures cuts { CutsUp bytes.now (cut bytes.now).frames (cut bytes.now).fault }
-    ensures only { (fs : List Frame) (fault : Option DecodeError) → CutsUp bytes.now fs fault → cut bytes.now ≡ record { frames = fs; fault = fault } }
+    ensures only { (fs : List Frame) (fault : Option DecodeError) → CutsUp bytes.now fs fault
+        → cut bytes.now ≡ record { frames = fs; fault = fault } }
 {}
 
 /// Reading a list is the grammar of lists, whatever its elements are and whichever frames set a kind. `read_list`
@@ -30,15 +31,18 @@ pub fn cutting(bytes: &[u8])
 /// place; it gives a fault exactly if after frames that are read there stands a broken frame, or one that is
 /// refused, with this fault. So all bytes have one reading and no fault, or no reading and one fault.
 pub fn list_grammar<T: FrameMeaning>(bytes: &[u8], kind: &str)
-    ensures { (sets : Sets Frame) → HasOneOutcome T.codec.read sets kind.now bytes.now (read_list T.codec.read sets kind.now bytes.now) }
+    ensures { (sets : Sets Frame)
+        → HasOneOutcome T.codec.read sets kind.now bytes.now
+        (read_list T.codec.read sets kind.now bytes.now) }
 {}
 
 /// Reading and writing are inverse for lists where they are for the elements, whichever frames set a kind: what is
 /// written reads back as itself exactly if each element is settled under the kind in force at its place, and what is read
 /// is written as it was exactly if the bytes are canonical frames in full.
 pub fn lists<T: CanonMeaning>()
-    ensures { (by_frame : Sets Frame) (by_value : Sets T.Seen) → SetTheSame T.codec.read by_frame by_value
-        → Laws IsWireFrame T.codec T.Canon → Laws IsWireBytes (list_codec by_frame by_value T.codec) (IsCanonList T.Canon by_frame) }
+    ensures { (by_frame : Sets Frame) (by_value : Sets T.Seen)
+        → SetTheSame T.codec.read by_frame by_value → Laws IsWireFrame T.codec T.Canon
+        → Laws IsWireBytes (list_codec by_frame by_value T.codec) (IsCanonList T.Canon by_frame) }
 {}
 
 /// They are inverse for what is kept as it stands, of which any frame is canonical.

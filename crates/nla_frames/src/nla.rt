@@ -32,17 +32,20 @@ pub trait Nla: FrameMeaning {
     /// How many bytes its value has, or `None` where it can't be written: where its value, or one that is nested in
     /// it, has more than 65531 bytes.
     fn checked_len(&self) -> Option<usize>
-        ensures { Measures result (Self.codec.Fits (Self.see self.now)) (Self.codec.write (Self.see self.now)).value };
+        ensures { Measures result (Self.codec.Fits (Self.see self.now))
+            (Self.codec.write (Self.see self.now)).value };
 
     /// Writes its value at the front of the buffer, and returns how many bytes that took.
     fn put_value(&self, buffer: &mut [u8]) -> usize
         requires fits { Self.codec.Fits (Self.see self.now) }
         requires room { HasRoom (Self.codec.write (Self.see self.now)).value buffer.old }
-        ensures written { Writes (Self.codec.write (Self.see self.now)).value buffer.old buffer.new }
+        ensures written { Writes (Self.codec.write (Self.see self.now)).value
+            buffer.old buffer.new }
         ensures length { result ≡ length (Self.codec.write (Self.see self.now)).value }
         ensures typed { Self.codec.Typed (Self.see self.now) };
 
-    ghost is_short: { (x : Self.Seen) → Self.codec.Fits x → length (Self.codec.write x).value ≤ 65531 };
+    ghost is_short: { (x : Self.Seen) → Self.codec.Fits x
+        → length (Self.codec.write x).value ≤ 65531 };
 
     /// True if it can be written: its value and all values nested in it have at most 65531 bytes.
     final fn fits(&self) -> bool
@@ -84,7 +87,9 @@ pub trait Nla: FrameMeaning {
 
     /// How many bytes its frame has, padding counted, or `None` where it can't be written.
     final fn checked_frame_len(&self) -> Option<usize>
-        ensures { MatchOption result (Self.codec.Fits (Self.see self.now) → ⊥) (λ n. Self.codec.Fits (Self.see self.now) × (n ≡ frame_length (Self.codec.write (Self.see self.now)))) }
+        ensures { MatchOption result (Self.codec.Fits (Self.see self.now) → ⊥) (λ n.
+            Self.codec.Fits (Self.see self.now)
+            × (n ≡ frame_length (Self.codec.write (Self.see self.now)))) }
     {
         match self.checked_len() {
             Some(len) => Some(NLA_HEADER_SIZE + len + padding_len(len)),
@@ -97,7 +102,8 @@ pub trait Nla: FrameMeaning {
     final fn put_frame(&self, buffer: &mut [u8]) -> usize
         requires fits { Self.codec.Fits (Self.see self.now) }
         requires room { HasRoom (frame_bytes (Self.codec.write (Self.see self.now))) buffer.old }
-        ensures written { Writes (frame_bytes (Self.codec.write (Self.see self.now))) buffer.old buffer.new }
+        ensures written { Writes (frame_bytes (Self.codec.write (Self.see self.now)))
+            buffer.old buffer.new }
         ensures length { result ≡ frame_length (Self.codec.write (Self.see self.now)) }
         ensures typed { Self.codec.Typed (Self.see self.now) }
     {
@@ -119,7 +125,8 @@ pub trait Nla: FrameMeaning {
     final fn emit_frame(&self, buffer: &mut [u8])
         requires fits { Self.codec.Fits (Self.see self.now) }
         requires room { HasRoom (frame_bytes (Self.codec.write (Self.see self.now))) buffer.old }
-        ensures { Writes (frame_bytes (Self.codec.write (Self.see self.now))) buffer.old buffer.new }
+        ensures { Writes (frame_bytes (Self.codec.write (Self.see self.now)))
+            buffer.old buffer.new }
     {
         self.put_frame(buffer);
     }

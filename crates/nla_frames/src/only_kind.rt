@@ -27,7 +27,8 @@ pub enum OnlyKind<'a> {
 impl<'a> OnlyKind<'a> {
     /// The kinds after one more attribute, which sets this kind, or none.
     pub fn and(self, set: Option<&'a str>) -> OnlyKind<'a>
-        ensures { (kinds : List (List ℕ)) → Tells self.entry kinds → Tells result (kinds ++ kind_before (text_set set.entry) []) }
+        ensures { (kinds : List (List ℕ)) → Tells self.entry kinds
+            → Tells result (kinds ++ kind_before (text_set set.entry) []) }
     {
         match (self, set) {
             (only, None) => only,

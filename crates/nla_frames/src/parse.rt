@@ -36,7 +36,8 @@ pub trait Emitable: BytesMeaning {
     /// How many bytes it has, or `None` where it can't be written: where an attribute's value in it has more than
     /// 65531 bytes, or the whole length is no `usize`.
     fn checked_len(&self) -> Option<usize>
-        ensures { Measures result (Self.codec.Fits (Self.see self.now)) (Self.codec.write (Self.see self.now)) };
+        ensures { Measures result (Self.codec.Fits (Self.see self.now))
+            (Self.codec.write (Self.see self.now)) };
 
     /// Writes it at the front of the buffer; what follows stays.
     fn emit(&self, buffer: &mut [u8])

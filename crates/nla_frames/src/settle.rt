@@ -36,7 +36,8 @@ pub trait SettleBytes: BytesMeaning {
 
 /// True if each attribute is settled under one kind.
 pub fn list_settled_under<T: Settle>(items: &[T], kind: &str) -> bool
-    ensures settled { IsTrue result ↔ SettledEach T.codec.Settled keep kind.now (map T.see items.now) }
+    ensures settled { IsTrue result
+        ↔ SettledEach T.codec.Settled keep kind.now (map T.see items.now) }
     ensures typed { IsTrue result → AllByRecursion T.codec.Typed (map T.see items.now) }
 {
     for item in items {
@@ -50,7 +51,8 @@ pub fn list_settled_under<T: Settle>(items: &[T], kind: &str) -> bool
 /// True if each attribute is settled under the kind that is set last before its place, or under the empty kind where
 /// none is.
 pub fn list_settled_carrying<T: Settle + SetsKind>(items: &[T]) -> bool
-    ensures settled { IsTrue result ↔ SettledEach (λ kind item. T.codec.Settled kind (T.see item)) T.sets [] items.now }
+    ensures settled { IsTrue result
+        ↔ SettledEach (λ kind item. T.codec.Settled kind (T.see item)) T.sets [] items.now }
     ensures typed { IsTrue result → AllByRecursion T.codec.Typed (map T.see items.now) }
 {
     let mut in_force = "";

@@ -133,13 +133,15 @@ impl<A: Allocator + Copy> Parseable<A> for TcActionMessageAttribute<A> {
 impl<A: Allocator> TcActionMessageAttribute<A> {
     // Its word and its value, and what they are by the table.
     fn view(&self) -> (u16, Value<'_, Nested<'_, A>>)
-        ensures { ShownAs attribute_body action_message_attributes (action_message_attribute self.now) result.0 result.1 }
+        ensures { ShownAs attribute_body action_message_attributes
+            (action_message_attribute self.now) result.0 result.1 }
     {
         self.row()
     }
 
     fn row(&self) -> (u16, Value<'_, Nested<'_, A>>)
-        ensures seen { action_message_attribute self.now ≡ attribute_of attribute_body result.0 result.1 }
+        ensures seen { action_message_attribute self.now
+            ≡ attribute_of attribute_body result.0 result.1 }
         ensures row { IsRow attribute_body action_message_attributes result.0 result.1 }
     {
         match self {
@@ -162,8 +164,11 @@ impl<A: Allocator> TcActionMessageAttribute<A> {
 impl<A: Allocator> TcActionMessageAttribute<A> {
     // Takes all NULs off the end of a warning, and returns how many there were; of any other attribute there are none.
     pub(crate) fn trim_warning(&mut self) -> usize
-        ensures trimmed { action_message_attribute self.new ≡ trimmed_table without_nuls (table action_message_attributes) (action_message_attribute self.old) }
-        ensures most { result ≡ most_nuls (table_parts (table action_message_attributes) (action_message_attribute self.old)) }
+        ensures trimmed { action_message_attribute self.new
+            ≡ trimmed_table without_nuls (table action_message_attributes)
+            (action_message_attribute self.old) }
+        ensures most { result ≡ most_nuls
+            (table_parts (table action_message_attributes) (action_message_attribute self.old)) }
         ensures bound { result < 2 ^ 63 }
     {
         match self {

@@ -45,13 +45,15 @@ pub fn flags_hash<H: Hasher>(flags: TcActionMessageFlagsWithSelector, state: &mu
 
 /// The default: no flag, and none that counts.
 pub fn defaults()
-    ensures { DefaultsTo ⟦<TcActionMessageFlagsWithSelector as Default>⟧.is_default flags_words (plain 0 ∷ plain 0 ∷ []) }
+    ensures { DefaultsTo ⟦<TcActionMessageFlagsWithSelector as Default>⟧.is_default flags_words
+        (plain 0 ∷ plain 0 ∷ []) }
 {}
 
 /// `==` says exactly whether contracts see two action messages, or two parts of them, as equal.
 pub fn equal<A: Allocator>()
     ensures flags { TellsSeen ⟦<TcActionMessageFlagsWithSelector as PartialEq>⟧.eq flags_words }
-    ensures attribute { TellsSeen ⟦<TcActionMessageAttribute<A> as PartialEq>⟧.eq action_message_attribute }
+    ensures attribute { TellsSeen ⟦<TcActionMessageAttribute<A> as PartialEq>⟧.eq
+        action_message_attribute }
     ensures message { TellsSeen ⟦<TcActionMessage<A> as PartialEq>⟧.eq action_message }
 {}
 
@@ -59,7 +61,8 @@ pub fn equal<A: Allocator>()
 pub fn equal_bytes<A: Allocator>(one: &TcActionMessage<A>, other: &TcActionMessage<A>)
     ensures { FitsAct (action_message one.now) → SettledAct (action_message one.now)
         → FitsAct (action_message other.now) → SettledAct (action_message other.now)
-        → IsTrue (⟦<TcActionMessage<A> as PartialEq>⟧.eq one.now other.now) ↔ act_bytes (action_message one.now) ≡ act_bytes (action_message other.now) }
+        → IsTrue (⟦<TcActionMessage<A> as PartialEq>⟧.eq one.now other.now)
+        ↔ act_bytes (action_message one.now) ≡ act_bytes (action_message other.now) }
 {
     rewriting::same_bytes();
     one.is_settled();

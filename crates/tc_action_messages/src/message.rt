@@ -67,11 +67,16 @@ impl<A: Allocator + Copy> ParseableBytes<A> for TcActionMessage<A> {
         // The function that computes both gives what is returned, unless memory ran out.
         ensures exact { Gives (seen action_message result) (read_act bytes.now) }
         // What fits is written as the same bytes exactly if these are canonical.
-        ensures same { IfOk result (λ m. FitsAct (action_message m) → (act_bytes (action_message m) ≡ bytes.now) ↔ CanonAct bytes.now) }
+        ensures same { IfOk result (λ m.
+            FitsAct (action_message m)
+            → (act_bytes (action_message m) ≡ bytes.now) ↔ CanonAct bytes.now) }
         // Canonical bytes are refused for want of memory alone, and read as what fits and is settled.
-        ensures canonical { CanonAct bytes.now → UnlessMemory result (λ m. FitsAct (action_message m) × SettledAct (action_message m)) }
+        ensures canonical { CanonAct bytes.now
+            → UnlessMemory result (λ m.
+            FitsAct (action_message m) × SettledAct (action_message m)) }
         // What is read is unsettled exactly if it is loose: if a part of it is written otherwise than it may have been read.
-        ensures loose { IfOk result (λ m. SettledAct (action_message m) ↔ is_loose_act (action_message m) ≡ false) }
+        ensures loose { IfOk result (λ m.
+            SettledAct (action_message m) ↔ is_loose_act (action_message m) ≡ false) }
         // A frame of an unknown type may stand anywhere, and is kept there as it stands.
         ensures unknown { IfOk result (λ m. TakesUnknownAct bytes.now (action_message m)) }
     {
@@ -114,7 +119,8 @@ impl<A: Allocator> Emitable for TcActionMessage<A> {
         ensures written { Writes (act_bytes (action_message self.now)) buffer.old buffer.new }
         ensures typed { TypedAct (action_message self.now) }
         // What is written reads back as the message exactly if it is settled.
-        ensures back { ReadsAct (act_bytes (action_message self.now)) (action_message self.now) ↔ SettledAct (action_message self.now) }
+        ensures back { ReadsAct (act_bytes (action_message self.now)) (action_message self.now)
+            ↔ SettledAct (action_message self.now) }
     {
         laws::action_message(&[]);
         action_message_header_in_hand(&self.header);
@@ -129,7 +135,8 @@ impl<A: Allocator> TcActionMessage<A> {
         ensures settled { IsTrue result ↔ SettledAct (action_message self.now) }
         ensures typed { IsTrue result → TypedAct (action_message self.now) }
         // Its bytes are canonical.
-        ensures canonical { IsTrue result → FitsAct (action_message self.now) → CanonAct (act_bytes (action_message self.now)) }
+        ensures canonical { IsTrue result → FitsAct (action_message self.now)
+            → CanonAct (act_bytes (action_message self.now)) }
     {
         laws::action_message(&[]);
         action_message_header_in_hand(&self.header);

@@ -25,7 +25,8 @@ use std::alloc::Allocator;
 pub fn equal<A: Allocator>()
     ensures mirror { TellsSeen ⟦<TcActionMirrorOption<A> as PartialEq>⟧.eq mirror_option }
     ensures nat { TellsSeen ⟦<TcActionNatOption<A> as PartialEq>⟧.eq nat_option }
-    ensures tunnel_key { TellsSeen ⟦<TcActionTunnelKeyOption<A> as PartialEq>⟧.eq tunnel_key_option }
+    ensures tunnel_key { TellsSeen ⟦<TcActionTunnelKeyOption<A> as PartialEq>⟧.eq
+        tunnel_key_option }
     ensures option { TellsSeen ⟦<TcActionOption<A> as PartialEq>⟧.eq action_option }
     ensures attribute { TellsSeen ⟦<TcActionAttribute<A> as PartialEq>⟧.eq action_attribute }
     ensures action { TellsSeen ⟦<TcAction<A> as PartialEq>⟧.eq tc_action }

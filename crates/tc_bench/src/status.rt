@@ -19,7 +19,8 @@ pub const NO_ROOM: u8 = 3;
 
 /// The status of a refusal.
 pub fn status_of(fault: &DecodeError) -> u8
-    ensures { ((result ≡ 1) × (fault.now ≢ OutOfMemory)) ⊎ ((result ≡ 2) × (fault.now ≡ OutOfMemory)) }
+    ensures { ((result ≡ 1) × (fault.now ≢ OutOfMemory))
+        ⊎ ((result ≡ 2) × (fault.now ≡ OutOfMemory)) }
 {
     if matches!(fault, DecodeError::OutOfMemory) {
         NO_MEMORY

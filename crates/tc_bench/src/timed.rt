@@ -38,7 +38,8 @@ pub trait Timed: Drop {
 
     /// The canonical bytes to which rewriting leads, and after how many rewrites.
     fn settle(alloc: Global, bytes: &[u8]) -> Result<(Vec<u8>, usize), RewriteError>
-        ensures settled { IfOk result (λ settled. words.Settles bytes.now settled.0.items settled.1) }
+        ensures settled { IfOk result (λ settled.
+            words.Settles bytes.now settled.0.items settled.1) }
         ensures refused { IfErr result (RefusedAs words bytes.now) };
 
     /// True if the bytes are a canonical message.

@@ -67,7 +67,8 @@ impl Table for TunnelKeyOptions {
 
 /// Whether a value is a canonical list of an action's options, under the action's kind.
 pub fn canon_action_options(value: &[u8], kind: &[u8]) -> bool
-    ensures { IsTrue result ↔ CanonClass (list_of (by_kind action_option_kinds)) kind.now value.now }
+    ensures { IsTrue result
+        ↔ CanonClass (list_of (by_kind action_option_kinds)) kind.now value.now }
 {
     if kind == b"mirred".as_slice() {
         is_canonical_list::<MirrorOptions>(value, kind)

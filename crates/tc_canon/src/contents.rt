@@ -18,7 +18,8 @@ pub(crate) fn is_plain(frame: &NlaBuffer<'_>) -> bool
 
 /// The word has the nested flag, and no other.
 pub(crate) fn is_nested(frame: &NlaBuffer<'_>) -> bool
-    ensures { IsTrue result ↔ (frame_of frame.now).word ≡ 0x8000 + type_of (frame_of frame.now).word }
+    ensures { IsTrue result
+        ↔ (frame_of frame.now).word ≡ 0x8000 + type_of (frame_of frame.now).word }
 {
     frame.word() == NLA_F_NESTED + frame.kind()
 }

@@ -9,7 +9,8 @@ use nla_frames::NlaBuffer;
 
 /// The first frame, and what follows it, where it is padded in full with zeros.
 pub(crate) fn split_padded(bytes: &[u8]) -> Option<(NlaBuffer<'_>, &[u8])>
-    ensures { MatchOption result ((f : Frame) (after : List ℕ) → StartsPadded bytes.now f after → ⊥) (λ x. StartsPadded bytes.now (frame_of x.0) x.1.now) }
+    ensures { MatchOption result ((f : Frame) (after : List ℕ) → StartsPadded bytes.now f after → ⊥)
+        (λ x. StartsPadded bytes.now (frame_of x.0) x.1.now) }
 {
     let frame = match NlaBuffer::new_checked(bytes) {
         Ok(frame) => frame,

@@ -13,7 +13,9 @@ use nla_frames::values::read::strip_nul;
 /// The one kind that the frames of an action tell, wherever it stands. None where they tell no kind or several, or
 /// the bytes are no frames that are padded with zeros.
 pub(crate) fn own_kind(value: &[u8]) -> Option<&[u8]>
-    ensures { MatchOption result ((own : List ℕ) → IsPaddedList (λ fs. TellsOne fs own) value.now → ⊥) (λ own. IsPaddedList (λ fs. TellsOne fs own.now) value.now) }
+    ensures { MatchOption result
+        ((own : List ℕ) → IsPaddedList (λ fs. TellsOne fs own) value.now → ⊥)
+        (λ own. IsPaddedList (λ fs. TellsOne fs own.now) value.now) }
 {
     let mut own = None;
     let mut rest = value;

@@ -60,7 +60,8 @@ impl Table for ActionMessageAttributes {
 /// Whether the bytes are the canonical attributes of a traffic control message, each under the kind that is set last
 /// before it.
 fn is_canonical_body(bytes: &[u8]) -> bool
-    ensures { IsTrue result ↔ IsCanonAtEach (CanonTable (table attributes)) kind_of_frame [] bytes.now }
+    ensures { IsTrue result
+        ↔ IsCanonAtEach (CanonTable (table attributes)) kind_of_frame [] bytes.now }
 {
     let mut kind: &[u8] = &[];
     let mut rest = bytes;

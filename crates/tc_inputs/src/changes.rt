@@ -23,7 +23,8 @@ fn with_byte(alloc: Global, input: &Input, at: usize, byte: u8) -> Result<Input,
 /// A message cut at every length, and with each of its bytes set to 0, to 255, and to itself with its top bit turned.
 pub fn cut_and_changed(alloc: Global, input: &Input) -> Result<Vec<Input>, AllocError>
     ensures count { IfOk result (λ inputs. vec_len inputs ≡ 4 * vec_len input.now.bytes) }
-    ensures form { IfOk result (λ inputs. All (λ changed. changed.form ≡ input.now.form) inputs.items) }
+    ensures form { IfOk result
+        (λ inputs. All (λ changed. changed.form ≡ input.now.form) inputs.items) }
 {
     let mut inputs = Vec::new(alloc);
     for (at, byte) in input.bytes.iter().enumerate() {

@@ -39,7 +39,8 @@ impl Input {
     /// A header of zeros, and attributes behind it.
     pub fn of_frames(alloc: Global, form: Form, frames: &[&[u8]]) -> Result<Input, AllocError>
         ensures form { IfOk result (λ input. input.form ≡ form) }
-        ensures bytes { IfOk result (λ input. input.bytes.items ≡ behind_zeros form (flat_map (λ frame. frame.now) frames.now)) }
+        ensures bytes { IfOk result (λ input.
+            input.bytes.items ≡ behind_zeros form (flat_map (λ frame. frame.now) frames.now)) }
     {
         let mut bytes = form.header().to_vec(alloc)?;
         for frame in frames {

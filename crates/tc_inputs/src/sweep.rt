@@ -20,7 +20,8 @@ pub const ACTION_KINDS: [&str; 3] = ["mirred", "nat", "tunnel_key"];
 
 /// An attribute of a type with so many bytes, all 1.
 pub fn swept(alloc: Global, word: u16, length: usize) -> Result<Vec<u8>, AllocError>
-    ensures { IfOk result (λ bytes. length ≤ 65531 → bytes.items ≡ attribute word (replicate length 1)) }
+    ensures { IfOk result (λ bytes.
+        length ≤ 65531 → bytes.items ≡ attribute word (replicate length 1)) }
 {
     frame(alloc, word, &vec![in alloc; 1u8; length]?)
 }
@@ -69,7 +70,8 @@ fn kind_frame(alloc: Global, kind: &str) -> Result<Vec<u8>, AllocError> {
 
 // An attribute, padded in full.
 fn frame(alloc: Global, word: u16, value: &[u8]) -> Result<Vec<u8>, AllocError>
-    ensures { IfOk result (λ bytes. length value.now ≤ 65531 → bytes.items ≡ attribute word value.now) }
+    ensures { IfOk result (λ bytes.
+        length value.now ≤ 65531 → bytes.items ≡ attribute word value.now) }
 {
     let length = u16::try_from(value.len().saturating_add(4)).unwrap_or(u16::MAX);
     let mut bytes = Vec::new(alloc);

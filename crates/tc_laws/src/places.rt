@@ -14,23 +14,28 @@ use nla_frames::FrameMeaning;
 
 /// Bytes that are frames, each padded in full, can be cut behind any of them, and put together again.
 pub fn frames_in_full()
-    ensures joined { (front back : List ℕ) (fs gs : List Frame) → InFull front fs → InFull back gs → InFull (front ++ back) (fs ++ gs) }
-    ensures parted { (bytes : List ℕ) (fs gs : List Frame) → InFull bytes (fs ++ gs) → (front back : List ℕ) × (bytes ≡ front ++ back) × InFull front fs × InFull back gs }
+    ensures joined { (front back : List ℕ) (fs gs : List Frame) → InFull front fs → InFull back gs
+        → InFull (front ++ back) (fs ++ gs) }
+    ensures parted { (bytes : List ℕ) (fs gs : List Frame) → InFull bytes (fs ++ gs)
+        → (front back : List ℕ) × (bytes ≡ front ++ back) × InFull front fs × InFull back gs }
 {}
 
 /// Order doesn't matter in a list of frames that tell their kind themselves: where all of them are padded in full,
 /// two neighbours can be exchanged, and what they read as is exchanged with them.
 pub fn own_order<T: FrameMeaning>()
     ensures order { Exchanges (OwnReads T.codec.read) }
-    ensures exchanged { (l r : List T.Seen) (x y : T.Seen) → exchanged (length l) (l ++ x ∷ y ∷ r) ≡ l ++ y ∷ x ∷ r }
+    ensures exchanged { (l r : List T.Seen) (x y : T.Seen)
+        → exchanged (length l) (l ++ x ∷ y ∷ r) ≡ l ++ y ∷ x ∷ r }
 {}
 
 /// Nor does it in an action, whose frame's value is such a list: it reads as those attributes under the frame's type, and
 /// as nothing else.
 pub fn order_in_an_action()
     ensures order { (kind : List ℕ) (word : ℕ) → Exchanges (ReadsAction kind word) }
-    ensures grammar { (kind : List ℕ) (word : ℕ) (value : List ℕ) (xs : List Attribute) → IsBytes value → ReadsAction kind word value xs ↔ OwnReads read_action_attribute value xs }
-    ensures attributes { (kind : List ℕ) (f : Frame) (x : Attribute) → read_action kind f ≡ Ok x → (xs : List Attribute) × (x ≡ known (type_of f.word) (items (attributes_of xs))) }
+    ensures grammar { (kind : List ℕ) (word : ℕ) (value : List ℕ) (xs : List Attribute)
+        → IsBytes value → ReadsAction kind word value xs ↔ OwnReads read_action_attribute value xs }
+    ensures attributes { (kind : List ℕ) (f : Frame) (x : Attribute) → read_action kind f ≡ Ok x
+        → (xs : List Attribute) × (x ≡ known (type_of f.word) (items (attributes_of xs))) }
 {}
 
 /// A frame of a type that the message's table doesn't have can be put at any place among the attributes of either
@@ -38,7 +43,10 @@ pub fn order_in_an_action()
 pub fn unknown_types()
     ensures tc { KeepsUnknown 20 attributes ReadsTc }
     ensures action { KeepsUnknown 4 action_message_attributes ReadsAct }
-    ensures outside_tc { (n : ℕ) → (is_outside n attributes ≡ true) ↔ ((n ≡ 0) ⊎ ((n ≡ 9) ⊎ (13 ≤ n))) }
-    ensures outside_action { (n : ℕ) → (is_outside n action_message_attributes ≡ true) ↔ ((n ≡ 0) ⊎ (6 ≤ n)) }
-    ensures put_in { (l r : List Attribute) (x : Attribute) → put_in (length l) x (l ++ r) ≡ l ++ x ∷ r }
+    ensures outside_tc { (n : ℕ)
+        → (is_outside n attributes ≡ true) ↔ ((n ≡ 0) ⊎ ((n ≡ 9) ⊎ (13 ≤ n))) }
+    ensures outside_action { (n : ℕ)
+        → (is_outside n action_message_attributes ≡ true) ↔ ((n ≡ 0) ⊎ (6 ≤ n)) }
+    ensures put_in { (l r : List Attribute) (x : Attribute)
+        → put_in (length l) x (l ++ r) ≡ l ++ x ∷ r }
 {}

@@ -16,7 +16,8 @@ pub fn both_readings(bytes: &[u8])
     ensures fault { (e : DecodeError) → (read_tc1 bytes.now ≡ Err e) ↔ FaultTc1 bytes.now e }
     ensures typed { (m : Message) → ReadsTc1 bytes.now m → TypedTc m }
     ensures upgraded { (m : Message) → ReadsTc1 bytes.now m → ReadsTc bytes.now (upgrade m) }
-    ensures all_upgraded { (n : Message) → ReadsTc bytes.now n → (m : Message) × ReadsTc1 bytes.now m × (upgrade m ≡ n) }
+    ensures all_upgraded { (n : Message) → ReadsTc bytes.now n
+        → (m : Message) × ReadsTc1 bytes.now m × (upgrade m ≡ n) }
     ensures nothing_left { (n : Message) → ReadsTc bytes.now n → upgrade n ≡ n }
     ensures same_faults { (e : DecodeError) → FaultTc1 bytes.now e ↔ FaultTc bytes.now e }
 {}
@@ -26,7 +27,8 @@ pub fn both_readings(bytes: &[u8])
 /// upgrade. The upgrade is its own upgrade; it is typed and fits where the message is and does; and what is settled
 /// stays as it is.
 pub fn upgrading()
-    ensures each { (kind : List ℕ) (x : Attribute) → (upgrade_attribute kind x ≡ x) ⊎ WasRead kind x }
+    ensures each { (kind : List ℕ) (x : Attribute)
+        → (upgrade_attribute kind x ≡ x) ⊎ WasRead kind x }
     ensures place_by_place { (m n : Message) → (upgrade m ≡ n) ↔ IsUpgrade m n }
     ensures twice { (m : Message) → upgrade (upgrade m) ≡ upgrade m }
     ensures typed { (m : Message) → TypedTc m → TypedTc (upgrade m) }

@@ -38,11 +38,15 @@ pub fn tc_message(bytes: &[u8])
     ensures not_memory { FaultTc bytes.now OutOfMemory → ⊥ }
     ensures typed { (m : Message) → ReadsTc bytes.now m → TypedTc m }
     ensures back { (m : Message) → TypedTc m → FitsTc m → ReadsTc (tc_bytes m) m ↔ SettledTc m }
-    ensures same { (m : Message) → ReadsTc bytes.now m → FitsTc m → (tc_bytes m ≡ bytes.now) ↔ CanonTc bytes.now }
-    ensures canonical { CanonTc bytes.now → (m : Message) × ReadsTc bytes.now m × FitsTc m × SettledTc m }
+    ensures same { (m : Message) → ReadsTc bytes.now m → FitsTc m
+        → (tc_bytes m ≡ bytes.now) ↔ CanonTc bytes.now }
+    ensures canonical { CanonTc bytes.now
+        → (m : Message) × ReadsTc bytes.now m × FitsTc m × SettledTc m }
     ensures settled { (m : Message) → TypedTc m → FitsTc m → SettledTc m → CanonTc (tc_bytes m) }
-    ensures equal { (m n : Message) → TypedTc m → FitsTc m → SettledTc m → TypedTc n → FitsTc n → SettledTc n → tc_bytes m ≡ tc_bytes n → m ≡ n }
-    ensures places { (m : Message) → SettledTc m ↔ SettledByPlace tc_header attributes kind_of_attribute m }
+    ensures equal { (m n : Message) → TypedTc m → FitsTc m → SettledTc m → TypedTc n → FitsTc n
+        → SettledTc n → tc_bytes m ≡ tc_bytes n → m ≡ n }
+    ensures places { (m : Message)
+        → SettledTc m ↔ SettledByPlace tc_header attributes kind_of_attribute m }
 {}
 
 /// An action message, likewise; it has no kind.
@@ -51,11 +55,16 @@ pub fn action_message(bytes: &[u8])
     ensures fault { (e : DecodeError) → (read_act bytes.now ≡ Err e) ↔ FaultAct bytes.now e }
     ensures not_memory { FaultAct bytes.now OutOfMemory → ⊥ }
     ensures typed { (m : Message) → ReadsAct bytes.now m → TypedAct m }
-    ensures back { (m : Message) → TypedAct m → FitsAct m → ReadsAct (act_bytes m) m ↔ SettledAct m }
-    ensures same { (m : Message) → ReadsAct bytes.now m → FitsAct m → (act_bytes m ≡ bytes.now) ↔ CanonAct bytes.now }
-    ensures canonical { CanonAct bytes.now → (m : Message) × ReadsAct bytes.now m × FitsAct m × SettledAct m }
-    ensures settled { (m : Message) → TypedAct m → FitsAct m → SettledAct m → CanonAct (act_bytes m) }
-    ensures equal { (m n : Message) → TypedAct m → FitsAct m → SettledAct m → TypedAct n → FitsAct n → SettledAct n → act_bytes m ≡ act_bytes n → m ≡ n }
+    ensures back { (m : Message) → TypedAct m → FitsAct m
+        → ReadsAct (act_bytes m) m ↔ SettledAct m }
+    ensures same { (m : Message) → ReadsAct bytes.now m → FitsAct m
+        → (act_bytes m ≡ bytes.now) ↔ CanonAct bytes.now }
+    ensures canonical { CanonAct bytes.now
+        → (m : Message) × ReadsAct bytes.now m × FitsAct m × SettledAct m }
+    ensures settled { (m : Message) → TypedAct m → FitsAct m → SettledAct m
+        → CanonAct (act_bytes m) }
+    ensures equal { (m n : Message) → TypedAct m → FitsAct m → SettledAct m → TypedAct n → FitsAct n
+        → SettledAct n → act_bytes m ≡ act_bytes n → m ≡ n }
 {}
 
 /// A test tells of every message whether it fits.
@@ -90,11 +99,15 @@ pub fn own_grammar<T: FrameMeaning>(bytes: &[u8])
 /// its own kind. A message's options are a list of its kind's table under a known kind, and kept as they stand under
 /// any other.
 pub fn tables()
-    ensures classes { (c : Class) → is_sound_class c ≡ true → Laws IsWireValue (short (class_codec c)) (CanonClass c) }
-    ensures tables { (t : Table) → is_sound_table t ≡ true → Laws IsWireFrame (table_codec t) (CanonTable t) }
+    ensures classes { (c : Class) → is_sound_class c ≡ true
+        → Laws IsWireValue (short (class_codec c)) (CanonClass c) }
+    ensures tables { (t : Table) → is_sound_table t ≡ true
+        → Laws IsWireFrame (table_codec t) (CanonTable t) }
     ensures lists { (t : Table) (kind bytes : List ℕ) → IsBytes bytes → ReadsNested t kind bytes }
-    ensures own_lists { (rows : Rows) (kind bytes : List ℕ) → IsBytes bytes → ReadsOwn rows kind bytes }
-    ensures options { (kinds : Kinds) (rows : Rows) (kind : List ℕ) (f : Frame) → ReadsOptions kinds rows kind f }
+    ensures own_lists { (rows : Rows) (kind bytes : List ℕ) → IsBytes bytes
+        → ReadsOwn rows kind bytes }
+    ensures options { (kinds : Kinds) (rows : Rows) (kind : List ℕ) (f : Frame)
+        → ReadsOptions kinds rows kind f }
     ensures sound_attributes { is_sound_rows attributes ≡ true }
     ensures sound_action_message_attributes { is_sound_rows action_message_attributes ≡ true }
     ensures sound_action_attributes { is_sound_rows action_attributes ≡ true }

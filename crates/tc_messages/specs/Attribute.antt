@@ -1,6 +1,8 @@
 -- A message's attribute as contracts see it.
 use Rattle.std.specs.Prelude.{◌≡◌, ◌↔◌, ℕ, List, [], map, string_bytes}
 use Rattle.nla_frames.specs.declared.error.DecodeError.{DecodeError}
+use Rattle.nla_frames.specs.Codec.{Codec}
+use Rattle.nla_frames.specs.Frame.{Frame}
 use Rattle.nla_frames.specs.ListGrammar.{ListReads, IsListFault}
 use Rattle.nla_frames.specs.DefaultNla.{kept_frame}
 use Rattle.tc_canon.specs.Descriptor.{table, by_kind}
@@ -46,13 +48,17 @@ tc_attribute (Chain chain) = known 11 (number chain)
 tc_attribute (HwOffload offload) = known 12 (number offload)
 tc_attribute (Other nla) = other (kept_frame nla).word (kept_frame nla).value
 
+-- how an attribute is read and written: by the table of the message's attributes
+abbrev pub attribute_codec : Codec Frame Attribute
+attribute_codec = table_codec (table attributes)
+
 -- the bytes are frames, and each reads as its attribute under the kind that is set last before its place
 abbrev pub ReadsAttributes : List ℕ → List Attribute → Type 0
-ReadsAttributes = ListReads (table_codec (table attributes)).read kind_of_frame []
+ReadsAttributes = ListReads attribute_codec.read kind_of_frame []
 
 -- the first fault of a list of attributes
 abbrev pub AttributesFault : List ℕ → DecodeError → Type 0
-AttributesFault = IsListFault (table_codec (table attributes)).read kind_of_frame []
+AttributesFault = IsListFault attribute_codec.read kind_of_frame []
 
 abbrev pub Nested : Type 0 → Type 0
 Nested A = Either (Either (Items (TcOption A)) (Items (TcStats2 A))) (Either (Record TcStats) (Record (TcXstats A)))
@@ -63,7 +69,7 @@ nested = either (either (items_of tc_option (by_kind option_kinds)) (items_of tc
 
 -- an attribute is written as this word and this value
 pub record IsWritten {A : Type 0} (x : Attribute) (word : ℕ) (v : Value (Nested A)) : Type 0 where
-  pub same_word : word ≡ ((table_codec (table attributes)).write x).word
-  pub bytes : value_bytes nested.bytes v ≡ ((table_codec (table attributes)).write x).value
-  pub fits : ValueFits nested.Fits v ↔ (table_codec (table attributes)).Fits x
-  pub typed : TypedValue nested.Typed v → (table_codec (table attributes)).Typed x
+  pub same_word : word ≡ (attribute_codec.write x).word
+  pub bytes : value_bytes nested.bytes v ≡ (attribute_codec.write x).value
+  pub fits : ValueFits nested.Fits v ↔ attribute_codec.Fits x
+  pub typed : TypedValue nested.Typed v → attribute_codec.Typed x

@@ -11,14 +11,14 @@ ghost use Rattle.nla_frames.specs.Codec.{list_codec};
 ghost use Rattle.tc_canon.specs.Descriptor.{table};
 ghost use Rattle.tc_canon.specs.Tables.Messages.{attributes};
 ghost use Rattle.tc_meaning.specs.Tree.{Attribute};
-ghost use Rattle.tc_meaning.specs.Meaning.{table_codec};
 ghost use Rattle.tc_meaning.specs.Message.{kind_of_frame, kind_of_attribute};
 ghost use Rattle.tc_meaning.specs.OwnGrammar.{first_look};
 ghost use Rattle.tc_meaning.specs.Short.{table_short};
 ghost use Rattle.tc_meaning.specs.Equal.{same_attribute, attribute_equiv, attribute_per};
 ghost use Rattle.tc_values.specs.Value.{value_bytes, ValueFits, TypedValue};
 ghost use Rattle.tc_values.specs.Row.{reads_at};
-ghost use Rattle.tc_messages.specs.Attribute.{tc_attribute, nested, IsWritten, ReadsAttributes, AttributesFault};
+ghost use Rattle.tc_messages.specs.Attribute.{tc_attribute, attribute_codec, nested, IsWritten};
+ghost use Rattle.tc_messages.specs.Attribute.{ReadsAttributes, AttributesFault};
 
 use crate::types::{
     TCA_CHAIN, TCA_DUMP_INVISIBLE, TCA_FCNT, TCA_HW_OFFLOAD, TCA_KIND, TCA_OPTIONS, TCA_RATE,
@@ -88,7 +88,7 @@ impl<A: Allocator> FrameMeaning for TcAttribute<A> {
 
     ghost see = { tc_attribute };
 
-    ghost codec = { table_codec (table attributes) };
+    ghost codec = { attribute_codec };
 }
 
 impl<A: Allocator + Copy> ParseableParametrized<A> for TcAttribute<A> {
@@ -133,10 +133,13 @@ impl<A: Allocator> TcAttribute<A> {
     }
 
     fn row(&self) -> (u16, Value<'_, Nested<'_, A>>)
-        ensures word { result.0 ≡ ((table_codec (table attributes)).write (tc_attribute self.now)).word }
-        ensures bytes { value_bytes nested.bytes result.1 ≡ ((table_codec (table attributes)).write (tc_attribute self.now)).value }
-        ensures fits { ValueFits nested.Fits result.1 ↔ (table_codec (table attributes)).Fits (tc_attribute self.now) }
-        ensures typed { TypedValue nested.Typed result.1 → (table_codec (table attributes)).Typed (tc_attribute self.now) }
+        ensures word { result.0 ≡ (attribute_codec.write (tc_attribute self.now)).word }
+        ensures bytes { value_bytes nested.bytes result.1
+            ≡ (attribute_codec.write (tc_attribute self.now)).value }
+        ensures fits { ValueFits nested.Fits result.1
+            ↔ attribute_codec.Fits (tc_attribute self.now) }
+        ensures typed { TypedValue nested.Typed result.1
+            → attribute_codec.Typed (tc_attribute self.now) }
     {
         match self {
             TcAttribute::Kind(kind) => (TCA_KIND, Value::Text(kind.as_str())),
@@ -255,24 +258,27 @@ impl<A: Allocator> BytesMeaning for VecTcAttribute<A> {
 
     ghost see = { λ list. map tc_attribute list.0.items };
 
-    ghost codec = { list_codec kind_of_frame kind_of_attribute (table_codec (table attributes)) };
+    ghost codec = { list_codec kind_of_frame kind_of_attribute attribute_codec };
 }
 
 impl<A: Allocator + Copy> ParseableBytes<A> for VecTcAttribute<A> {
     fn parse(alloc: A, bytes: &[u8]) -> Res<VecTcAttribute<A>>
         // What is read is what the grammar reads, each frame under the kind that is set last before it.
-        ensures found { IfOk result (λ list. ReadsAttributes bytes.now (map tc_attribute list.0.items)) }
+        ensures found { IfOk result (λ list.
+            ReadsAttributes bytes.now (map tc_attribute list.0.items)) }
         // What is refused has this fault, and it is the first.
         ensures refused { IfRefused result (AttributesFault bytes.now) }
         // The function that computes both gives what is returned, unless memory ran out.
-        ensures exact { Gives (seen (λ list. map tc_attribute list.0.items) result) (read_list (table_codec (table attributes)).read kind_of_frame [] bytes.now) }
+        ensures exact { Gives (seen (λ list. map tc_attribute list.0.items) result)
+            (read_list attribute_codec.read kind_of_frame [] bytes.now) }
     {
         read_attributes(alloc, bytes)
     }
 }
 
 fn read_attributes<A: Allocator + Copy>(alloc: A, bytes: &[u8]) -> Res<VecTcAttribute<A>>
-    ensures { Gives (seen (λ list. map tc_attribute list.0.items) result) (read_list (table_codec (table attributes)).read kind_of_frame [] bytes.now) }
+    ensures { Gives (seen (λ list. map tc_attribute list.0.items) result)
+        (read_list attribute_codec.read kind_of_frame [] bytes.now) }
 {
     let mut list = Vec::with_capacity(alloc, first_capacity(bytes))?;
     let mut kind = "";
@@ -294,7 +300,8 @@ fn read_attribute<A: Allocator + Copy>(
     kind: &str,
 ) -> Res<TcAttribute<A>>
     requires { first_look [] (frame_of frame.now) ≡ read_as (text_set told) }
-    ensures { Gives (seen tc_attribute result) ((table_codec (table attributes)).read kind.now (frame_of frame.now)) }
+    ensures { Gives (seen tc_attribute result)
+        (attribute_codec.read kind.now (frame_of frame.now)) }
 {
     match told {
         Some(text) => Ok(TcAttribute::Kind(String::from_str(alloc, text)?)),

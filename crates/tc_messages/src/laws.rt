@@ -15,10 +15,12 @@ use tc_laws::rewriting;
 
 /// All bytes read as one message and have no fault, or read as none and have one fault.
 pub fn one_outcome(bytes: &[u8])
-    ensures some { ((m : Message) × ReadsTc bytes.now m) ⊎ ((e : DecodeError) × FaultTc bytes.now e) }
+    ensures some { ((m : Message) × ReadsTc bytes.now m)
+        ⊎ ((e : DecodeError) × FaultTc bytes.now e) }
     ensures one_reading { (m n : Message) → ReadsTc bytes.now m → ReadsTc bytes.now n → m ≡ n }
     ensures one_fault { (d e : DecodeError) → FaultTc bytes.now d → FaultTc bytes.now e → d ≡ e }
-    ensures not_both { (m : Message) (e : DecodeError) → ReadsTc bytes.now m → FaultTc bytes.now e → ⊥ }
+    ensures not_both { (m : Message) (e : DecodeError) → ReadsTc bytes.now m
+        → FaultTc bytes.now e → ⊥ }
 {}
 
 /// `==` says exactly whether contracts see two messages, or two of their attributes, as equal.
@@ -31,7 +33,8 @@ pub fn equal<A: Allocator>()
 pub fn equal_bytes<A: Allocator>(one: &TcMessage<A>, other: &TcMessage<A>)
     ensures { FitsTc (tc_message one.now) → SettledTc (tc_message one.now)
         → FitsTc (tc_message other.now) → SettledTc (tc_message other.now)
-        → IsTrue (⟦<TcMessage<A> as PartialEq>⟧.eq one.now other.now) ↔ tc_bytes (tc_message one.now) ≡ tc_bytes (tc_message other.now) }
+        → IsTrue (⟦<TcMessage<A> as PartialEq>⟧.eq one.now other.now)
+        ↔ tc_bytes (tc_message one.now) ≡ tc_bytes (tc_message other.now) }
 {
     rewriting::same_bytes();
     one.is_settled();

@@ -92,11 +92,14 @@ impl<A: Allocator + Copy> ParseableBytes<A> for TcMessage<A> {
         // The function that computes both gives what is returned, unless memory ran out.
         ensures exact { Gives (seen tc_message result) (read_tc bytes.now) }
         // What fits is written as the same bytes exactly if these are canonical.
-        ensures same { IfOk result (λ m. FitsTc (tc_message m) → (tc_bytes (tc_message m) ≡ bytes.now) ↔ CanonTc bytes.now) }
+        ensures same { IfOk result (λ m.
+            FitsTc (tc_message m) → (tc_bytes (tc_message m) ≡ bytes.now) ↔ CanonTc bytes.now) }
         // Canonical bytes are refused for want of memory alone, and read as what fits and is settled.
-        ensures canonical { CanonTc bytes.now → UnlessMemory result (λ m. FitsTc (tc_message m) × SettledTc (tc_message m)) }
+        ensures canonical { CanonTc bytes.now
+            → UnlessMemory result (λ m. FitsTc (tc_message m) × SettledTc (tc_message m)) }
         // What is read is unsettled exactly if it is loose: if a part of it is written otherwise than it may have been read.
-        ensures loose { IfOk result (λ m. SettledTc (tc_message m) ↔ (is_loose_tc (tc_message m) ≡ false)) }
+        ensures loose { IfOk result (λ m.
+            SettledTc (tc_message m) ↔ (is_loose_tc (tc_message m) ≡ false)) }
         // A frame of an unknown type may stand anywhere, and is kept there as it stands.
         ensures unknown { IfOk result (λ m. TakesUnknownTc bytes.now (tc_message m)) }
     {
@@ -139,7 +142,8 @@ impl<A: Allocator> Emitable for TcMessage<A> {
         ensures written { Writes (tc_bytes (tc_message self.now)) buffer.old buffer.new }
         ensures typed { TypedTc (tc_message self.now) }
         // What is written reads back as the message exactly if it is settled.
-        ensures back { ReadsTc (tc_bytes (tc_message self.now)) (tc_message self.now) ↔ SettledTc (tc_message self.now) }
+        ensures back { ReadsTc (tc_bytes (tc_message self.now)) (tc_message self.now)
+            ↔ SettledTc (tc_message self.now) }
     {
         laws::tc_message(&[]);
         header_in_hand(&self.header);
@@ -155,7 +159,8 @@ impl<A: Allocator> TcMessage<A> {
         ensures settled { IsTrue result ↔ SettledTc (tc_message self.now) }
         ensures typed { IsTrue result → TypedTc (tc_message self.now) }
         // Its bytes are canonical.
-        ensures canonical { IsTrue result → FitsTc (tc_message self.now) → CanonTc (tc_bytes (tc_message self.now)) }
+        ensures canonical { IsTrue result → FitsTc (tc_message self.now)
+            → CanonTc (tc_bytes (tc_message self.now)) }
     {
         laws::tc_message(&[]);
         self.has_settled_parts()

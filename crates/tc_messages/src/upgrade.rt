@@ -26,7 +26,8 @@ impl<A: Allocator> TcMessage<A> {
     pub fn upgrade(self) -> TcMessage<A>
         ensures value { tc_message result ≡ upgrade (tc_message self) }
         // What version 1 reads as the message, version 2 reads as the upgrade.
-        ensures upgraded { (bytes : List ℕ) → IsBytes bytes → ReadsTc1 bytes (tc_message self) → ReadsTc bytes (tc_message result) }
+        ensures upgraded { (bytes : List ℕ) → IsBytes bytes → ReadsTc1 bytes (tc_message self)
+            → ReadsTc bytes (tc_message result) }
         // The upgrade is its own upgrade.
         ensures twice { upgrade (tc_message result) ≡ tc_message result }
         ensures fits { FitsTc (tc_message self) → FitsTc (tc_message result) }
@@ -57,7 +58,8 @@ fn upgrade_all<A: Allocator>(list: &mut [TcAttribute<A>])
 
 // An attribute under a kind that is known or not, and whether the kind after it is known.
 fn upgrade_one<A: Allocator>(attribute: &mut TcAttribute<A>, is_known: bool) -> bool
-    ensures upgraded { UpgradesAs is_known (tc_attribute attribute.old) (tc_attribute attribute.new) }
+    ensures upgraded { UpgradesAs is_known (tc_attribute attribute.old)
+        (tc_attribute attribute.new) }
     ensures known { KnownAfter is_known (kind_of_attribute (tc_attribute attribute.old)) result }
 {
     let after = is_known_after(attribute, is_known);
@@ -109,7 +111,8 @@ fn unknown_options<A: Allocator>(mut options: Vec<TcOption<A>, A>) -> TcAttribut
 
 // An option as it stands, unless it is one of a known kind.
 fn unread<A: Allocator>(option: TcOption<A>) -> Option<DefaultNla<A>>
-    ensures { MatchOption result (IsRead (tc_option option)) (λ nla. tc_option option ≡ other (kept_frame nla).word (kept_frame nla).value) }
+    ensures { MatchOption result (IsRead (tc_option option)) (λ nla.
+        tc_option option ≡ other (kept_frame nla).word (kept_frame nla).value) }
 {
     match option {
         TcOption::Other(nla) => Some(nla),

@@ -182,7 +182,8 @@ pub struct VecTcOption<A: Allocator = Global>(pub Vec<TcOption<A>, A>);
 impl<A: Allocator + Copy> VecTcOption<A> {
     /// The options of a frame under a kind, or their first fault.
     pub fn parse_with_param(alloc: A, buf: &NlaBuffer<'_>, kind: &str) -> Res<VecTcOption<A>>
-        ensures found { IfOk result (λ options. ReadsOptions kind.now (frame_of buf.now) (listed options)) }
+        ensures found { IfOk result (λ options.
+            ReadsOptions kind.now (frame_of buf.now) (listed options)) }
         // What is refused has this fault, and it is the first.
         ensures refused { IfRefused result (OptionsFault kind.now (frame_of buf.now)) }
         // What is found and what is refused, by the function that computes both.

@@ -36,7 +36,8 @@ impl TcMessageBuffer {
 }
 
 impl From<&tc_records::TcHeader> for TcMessageBuffer {
-    ghost from_gives = { λ header buffer. header_bytes buffer ≡ fields_bytes tc_header (header_scalars header.now) };
+    ghost from_gives = { λ header buffer. header_bytes buffer
+        ≡ fields_bytes tc_header (header_scalars header.now) };
 
     fn from(header: &TcHeader) -> TcMessageBuffer {
         TcMessageBuffer {

@@ -13,7 +13,8 @@ use nla_frames::AddressFamily;
 /// The family in the first byte, and what follows it.
 pub(crate) fn split_family(bytes: &[u8]) -> (AddressFamily, &[u8])
     requires { 1 ≤ length bytes.now }
-    ensures value { family_scalar result.0 ≡ read_field (named 1 address_families) (take 1 bytes.now) }
+    ensures value { family_scalar result.0
+        ≡ read_field (named 1 address_families) (take 1 bytes.now) }
     ensures rest { result.1.now ≡ drop 1 bytes.now }
     ensures left { length bytes.now ≡ 1 + length result.1.now }
 {

@@ -49,11 +49,16 @@ use std::hash::{Hash, Hasher};
 /// bytes exactly if they are as long as the record and their padding is zero. Such bytes are read, as a settled record,
 /// and the bytes of a settled record are such.
 pub fn records(bytes: &[u8])
-    ensures back { (layout : List Field) (xs : List Scalar) → TypedFields layout xs → (read_record layout (fields_bytes layout xs) ≡ Ok xs) ↔ SettledFields layout xs }
-    ensures typed { (layout : List Field) (xs : List Scalar) → read_record layout bytes.now ≡ Ok xs → TypedFields layout xs }
-    ensures same { (layout : List Field) (xs : List Scalar) → read_record layout bytes.now ≡ Ok xs → (fields_bytes layout xs ≡ bytes.now) ↔ CanonFields layout bytes.now }
-    ensures canonical { (layout : List Field) → CanonFields layout bytes.now → (xs : List Scalar) × (read_record layout bytes.now ≡ Ok xs) × SettledFields layout xs }
-    ensures settled { (layout : List Field) (xs : List Scalar) → TypedFields layout xs → SettledFields layout xs → CanonFields layout (fields_bytes layout xs) }
+    ensures back { (layout : List Field) (xs : List Scalar) → TypedFields layout xs
+        → (read_record layout (fields_bytes layout xs) ≡ Ok xs) ↔ SettledFields layout xs }
+    ensures typed { (layout : List Field) (xs : List Scalar) → read_record layout bytes.now ≡ Ok xs
+        → TypedFields layout xs }
+    ensures same { (layout : List Field) (xs : List Scalar) → read_record layout bytes.now ≡ Ok xs
+        → (fields_bytes layout xs ≡ bytes.now) ↔ CanonFields layout bytes.now }
+    ensures canonical { (layout : List Field) → CanonFields layout bytes.now
+        → (xs : List Scalar) × (read_record layout bytes.now ≡ Ok xs) × SettledFields layout xs }
+    ensures settled { (layout : List Field) (xs : List Scalar) → TypedFields layout xs
+        → SettledFields layout xs → CanonFields layout (fields_bytes layout xs) }
 {}
 
 /// A handle and its word are one and the same.
@@ -66,9 +71,11 @@ pub fn handle_numbers()
 /// the layouts of records say so.
 pub fn action_numbers(number: i32)
     ensures outcome { action_type_number (action_type_of number) ≡ number }
-    ensures outcome_field { action_type_scalar (action_type_of number) ≡ read_field (named 4 action_types) (le_bytes 4 (cast_unsigned w32 number)) }
+    ensures outcome_field { action_type_scalar (action_type_of number)
+        ≡ read_field (named 4 action_types) (le_bytes 4 (cast_unsigned w32 number)) }
     ensures mirror { mirror_action_type_number (mirror_action_type_of number) ≡ number }
-    ensures mirror_field { mirror_action_type_scalar (mirror_action_type_of number) ≡ read_field (named 4 mirror_action_types) (le_bytes 4 (cast_unsigned w32 number)) }
+    ensures mirror_field { mirror_action_type_scalar (mirror_action_type_of number)
+        ≡ read_field (named 4 mirror_action_types) (le_bytes 4 (cast_unsigned w32 number)) }
 {}
 
 /// Every bit of a word belongs to a flag, so that `from_bits` refuses no word.
@@ -87,7 +94,8 @@ pub fn message_flags_order(
     second: TcActionMessageFlags,
 ) -> (Ordering, Option<Ordering>, bool)
     ensures cmp { result.0 ≡ nat_cmp (message_flags_word first) (message_flags_word second) }
-    ensures partial_cmp { result.1 ≡ Some (nat_cmp (message_flags_word first) (message_flags_word second)) }
+    ensures partial_cmp { result.1
+        ≡ Some (nat_cmp (message_flags_word first) (message_flags_word second)) }
     ensures eq { IsTrue result.2 ↔ first ≡ second }
     ensures equal { result.2 ≡ is_eq result.0 }
 {
@@ -110,21 +118,31 @@ pub fn message_flags_hash<H: Hasher>(flags: TcActionMessageFlags, state: &mut H)
 pub fn defaults()
     ensures handle { DefaultsTo ⟦<TcHandle as Default>⟧.is_default (λ x. x) (handle_of 0) }
     ensures header { DefaultsTo ⟦<TcHeader as Default>⟧.is_default (λ x. x) empty_header }
-    ensures action_header { DefaultsTo ⟦<TcActionMessageHeader as Default>⟧.is_default action_message_header_scalars (zeros action_message_header) }
+    ensures action_header { DefaultsTo ⟦<TcActionMessageHeader as Default>⟧.is_default
+        action_message_header_scalars (zeros action_message_header) }
     ensures stats { DefaultsTo ⟦<TcStats as Default>⟧.is_default stats_scalars (zeros stats) }
-    ensures basic { DefaultsTo ⟦<TcStatsBasic as Default>⟧.is_default basic_scalars (zeros stats_basic) }
-    ensures queue { DefaultsTo ⟦<TcStatsQueue as Default>⟧.is_default queue_scalars (zeros stats_queue) }
-    ensures qdisc { DefaultsTo ⟦<TcFqCodelQdStats as Default>⟧.is_default qd_stats_scalars (zeros fq_codel_qd_stats) }
-    ensures class { DefaultsTo ⟦<TcFqCodelClStats as Default>⟧.is_default cl_stats_scalars (zeros fq_codel_cl_stats) }
+    ensures basic { DefaultsTo ⟦<TcStatsBasic as Default>⟧.is_default basic_scalars
+        (zeros stats_basic) }
+    ensures queue { DefaultsTo ⟦<TcStatsQueue as Default>⟧.is_default queue_scalars
+        (zeros stats_queue) }
+    ensures qdisc { DefaultsTo ⟦<TcFqCodelQdStats as Default>⟧.is_default qd_stats_scalars
+        (zeros fq_codel_qd_stats) }
+    ensures class { DefaultsTo ⟦<TcFqCodelClStats as Default>⟧.is_default cl_stats_scalars
+        (zeros fq_codel_cl_stats) }
     ensures times { DefaultsTo ⟦<Tcf as Default>⟧.is_default tcf_scalars (zeros tcf) }
     ensures key { DefaultsTo ⟦<TcU32Key as Default>⟧.is_default key_scalars (zeros selector_key) }
-    ensures outcome { DefaultsTo ⟦<TcActionType as Default>⟧.is_default action_type_number (negsuc 0) }
-    ensures direction { DefaultsTo ⟦<TcMirrorActionType as Default>⟧.is_default mirror_action_type_number (pos 1) }
+    ensures outcome { DefaultsTo ⟦<TcActionType as Default>⟧.is_default action_type_number
+        (negsuc 0) }
+    ensures direction { DefaultsTo ⟦<TcMirrorActionType as Default>⟧.is_default
+        mirror_action_type_number (pos 1) }
     ensures generic { DefaultsTo ⟦<TcActionGeneric as Default>⟧.is_default (λ x. x) empty_generic }
     ensures mirror { DefaultsTo ⟦<TcMirror as Default>⟧.is_default mirror_scalars mirror_default }
     ensures nat { (x : TcNat) → ⟦<TcNat as Default>⟧.is_default x → IsEmptyNat x }
-    ensures tunnel { DefaultsTo ⟦<TcTunnelKey as Default>⟧.is_default tunnel_key_scalars tunnel_key_default }
+    ensures tunnel { DefaultsTo ⟦<TcTunnelKey as Default>⟧.is_default tunnel_key_scalars
+        tunnel_key_default }
     ensures nat_flags { DefaultsTo ⟦<TcNatFlags as Default>⟧.is_default nat_flags_word 0 }
-    ensures message_flags { DefaultsTo ⟦<TcActionMessageFlags as Default>⟧.is_default message_flags_word 0 }
-    ensures selector_flags { DefaultsTo ⟦<TcU32SelectorFlags as Default>⟧.is_default selector_flags_byte 0 }
+    ensures message_flags { DefaultsTo ⟦<TcActionMessageFlags as Default>⟧.is_default
+        message_flags_word 0 }
+    ensures selector_flags { DefaultsTo ⟦<TcU32SelectorFlags as Default>⟧.is_default
+        selector_flags_byte 0 }
 {}

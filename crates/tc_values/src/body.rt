@@ -99,7 +99,8 @@ pub struct Record<'a, R>(pub &'a R);
 impl<'a, R: Emitable + SettleBytes> Body for Record<'a, R> {
     ghost bytes = { λ r. R.codec.write (R.see r.0.now) };
 
-    ghost Fits = { λ r. R.codec.Fits (R.see r.0.now) × (length (R.codec.write (R.see r.0.now)) ≤ 65531) };
+    ghost Fits = { λ r. R.codec.Fits (R.see r.0.now)
+        × (length (R.codec.write (R.see r.0.now)) ≤ 65531) };
 
     ghost Typed = { λ r. R.codec.Typed (R.see r.0.now) };
 

@@ -90,7 +90,8 @@ fn rewrite<A: Allocator + Copy, M: ParseableBytes<A> + Emitable + Drop>(
     alloc: A,
     bytes: &[u8],
 ) -> Result<Vec<u8, A>, RewriteError>
-    ensures written { IfOk result (λ written. WrittenOf M.codec (M.codec.read [] bytes.now) written.items) }
+    ensures written { IfOk result (λ written.
+        WrittenOf M.codec (M.codec.read [] bytes.now) written.items) }
     ensures refused { IfErr result (RefusedOf M.codec (M.codec.read [] bytes.now)) }
 {
     let (value, len): (M, usize) = read(alloc, bytes)?;
@@ -143,7 +144,9 @@ pub fn settle_action<A: Allocator + Copy>(
     bytes: &[u8],
 ) -> Result<(Vec<u8, A>, usize), RewriteError>
     ensures settled { IfOk result (λ settled. SettlesAct bytes.now settled.0.items settled.1) }
-    ensures count { IfOk result (λ settled. (m : Message) → ReadsAct bytes.now m → CountIs (CanonAct bytes.now) (nuls_act m + 1) settled.1) }
+    ensures count { IfOk result (λ settled.
+        (m : Message) → ReadsAct bytes.now m
+        → CountIs (CanonAct bytes.now) (nuls_act m + 1) settled.1) }
     ensures refused { IfErr result (RefusedAct bytes.now) }
 {
     action_message(bytes);

@@ -51,7 +51,8 @@ fn bytes_line<A: Allocator + Copy, M: Emitable>(
     fits: bool,
 ) -> Result<String<A>, AllocError>
     requires { IsTrue fits → M.codec.Fits (M.see message.now) }
-    ensures { IfOk result (λ text. string_bytes text ≡ bytes_line fits (M.codec.write (M.see message.now))) }
+    ensures { IfOk result (λ text.
+        string_bytes text ≡ bytes_line fits (M.codec.write (M.see message.now))) }
 {
     if !fits {
         return Ok(String::new(alloc));
@@ -70,7 +71,8 @@ fn accepted<A: Allocator + Copy, M: Emitable>(
     canonical: bool,
 ) -> Result<String<A>, AllocError>
     requires { IsTrue fits → M.codec.Fits (M.see message.now) }
-    ensures { IfOk result (λ text. string_bytes text ≡ accepted fits settled canonical (M.codec.write (M.see message.now))) }
+    ensures { IfOk result (λ text.
+        string_bytes text ≡ accepted fits settled canonical (M.codec.write (M.see message.now))) }
 {
     let bytes = bytes_line(alloc, message, fits)?;
     let fits = yes_or_no(fits);
@@ -84,7 +86,8 @@ fn answer_as<A: Allocator + Copy, M: Reported<A> + Drop>(
     alloc: A,
     bytes: &[u8],
 ) -> Result<Answer<A>, AllocError>
-    ensures { IfOk result (λ answer. ReportsAs (words_as_read M.codec M.Canonical) bytes.now (report_of answer)) }
+    ensures { IfOk result (λ answer.
+        ReportsAs (words_as_read M.codec M.Canonical) bytes.now (report_of answer)) }
 {
     match M::parse(alloc, bytes) {
         Ok(message) => {

@@ -27,7 +27,8 @@ pub enum Request {
 
 /// What the arguments ask for, the program's name first.
 pub fn request_of<A: Allocator>(arguments: &[String<A>]) -> Request
-    ensures report { (mode : Mode) → (result ≡ Report mode) ↔ AsksFor (map string_bytes arguments.now) mode }
+    ensures report { (mode : Mode)
+        → (result ≡ Report mode) ↔ AsksFor (map string_bytes arguments.now) mode }
     ensures read { result ≢ NoMemory }
 {
     match arguments {
@@ -56,8 +57,10 @@ fn request_of_fault(fault: &Error) -> Request
 /// isn't UTF-8, nothing that is known.
 pub fn request_from<A: Allocator>(alloc: A, arguments: Result<Args<A>, Error>) -> Request
     ensures read { IfOk arguments (λ words. (result ≡ NoMemory)
-        ⊎ ((mode : Mode) → (result ≡ Report mode) ↔ AsksFor (map string_bytes (into_iter_items words)) mode)) }
-    ensures fault { IfErr arguments (λ fault. (result ≡ NoMemory) ↔ (error_kind fault ≡ ErrorKind.OutOfMemory)) }
+        ⊎ ((mode : Mode) → (result ≡ Report mode)
+        ↔ AsksFor (map string_bytes (into_iter_items words)) mode)) }
+    ensures fault { IfErr arguments (λ fault.
+        (result ≡ NoMemory) ↔ (error_kind fault ≡ ErrorKind.OutOfMemory)) }
     ensures no_report { IfErr arguments (λ fault. (mode : Mode) → result ≢ Report mode) }
 {
     match arguments {

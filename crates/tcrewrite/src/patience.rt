@@ -24,8 +24,11 @@ impl Patience {
 
     /// Whether a call that failed is tried again: if it was interrupted, and not too often.
     pub fn tries_again(&mut self, fault: &Error) -> bool
-        ensures again { result ≡ true → (error_kind fault.now ≡ ErrorKind.Interrupted) × (self.new.left + 1 ≡ self.old.left) }
-        ensures ends { result ≡ false → ((error_kind fault.now ≢ ErrorKind.Interrupted) ⊎ (self.old.left ≡ 0)) × (self.new.left ≡ self.old.left) }
+        ensures again { result ≡ true
+            → (error_kind fault.now ≡ ErrorKind.Interrupted) × (self.new.left + 1 ≡ self.old.left) }
+        ensures ends { result ≡ false
+            → ((error_kind fault.now ≢ ErrorKind.Interrupted) ⊎ (self.old.left ≡ 0))
+            × (self.new.left ≡ self.old.left) }
     {
         if fault.kind() != ErrorKind::Interrupted || self.left == 0 {
             return false;

@@ -24,11 +24,13 @@ pub fn serve<A: Allocator + Copy, R: Read, W: Write, E: Write>(
     writer: &mut W,
     errors: &mut E,
 ) -> u8
-    ensures report { (mode : Mode) → request ≡ Report mode → (result ≡ 3) ⊎ IfSome (R.remaining reader.old) (λ all.
+    ensures report { (mode : Mode) → request ≡ Report mode
+        → (result ≡ 3) ⊎ IfSome (R.remaining reader.old) (λ all.
         (Consumes (R.remaining reader.old) (R.remaining reader.new) (looked_at all)
         × ReportsOn mode (looked_at all) (W.contents writer.old) (W.contents writer.new) result)
         ⊎ Reports (W.contents writer.old) (W.contents writer.new) result no_memory) }
-    ensures no_memory { request ≡ NoMemory → (result ≡ 3) ⊎ Reports (W.contents writer.old) (W.contents writer.new) result no_memory }
+    ensures no_memory { request ≡ NoMemory
+        → (result ≡ 3) ⊎ Reports (W.contents writer.old) (W.contents writer.new) result no_memory }
     ensures usage { request ≡ Usage → (result ≡ 2) × (writer.new ≡ writer.old) }
 {
     match request {

@@ -47,7 +47,9 @@ fn finish<W: Write>(
     status: u8,
     patience: &mut Patience,
 ) -> Result<u8, RunError>
-    ensures written { IfOk result (λ s. Reports (W.contents writer.old) (W.contents writer.new) s (record { text = text.now; status = status })) }
+    ensures written { IfOk result (λ s.
+        Reports (W.contents writer.old) (W.contents writer.new) s
+        (record { text = text.now; status = status })) }
     ensures fault { IfErr result (λ e. e ≡ RunError.Write) }
 {
     if write_text(writer, text, patience) {
@@ -59,7 +61,8 @@ fn finish<W: Write>(
 
 // Writes that a growth was refused, and returns the status of that.
 fn finish_without_memory<W: Write>(writer: &mut W, patience: &mut Patience) -> Result<u8, RunError>
-    ensures written { IfOk result (λ status. Reports (W.contents writer.old) (W.contents writer.new) status no_memory) }
+    ensures written { IfOk result (λ status.
+        Reports (W.contents writer.old) (W.contents writer.new) status no_memory) }
     ensures fault { IfErr result (λ e. e ≡ RunError.Write) }
 {
     finish(writer, "refused OutOfMemory\n", 1, patience)
@@ -89,7 +92,8 @@ pub fn run<A: Allocator + Copy, R: Read, W: Write>(
 
 /// Writes that a growth was refused before there was a text, and returns the exit status.
 pub fn without_memory<W: Write>(writer: &mut W) -> Result<u8, RunError>
-    ensures { IfOk result (λ status. Reports (W.contents writer.old) (W.contents writer.new) status no_memory) }
+    ensures { IfOk result (λ status.
+        Reports (W.contents writer.old) (W.contents writer.new) status no_memory) }
 {
     finish_without_memory(writer, &mut Patience::new())
 }

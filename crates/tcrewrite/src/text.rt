@@ -43,10 +43,14 @@ fn read_part<A: Allocator, R: Read>(
 ) -> Result<bool, TextError>
     requires { length text.old.items ≤ most_text }
     ensures starts { StartsWith text.new.items text.old.items }
-    ensures bytes { OnOk result (Consumes (R.remaining reader.old) (R.remaining reader.new) (appended_bytes text.old.items text.new.items)) }
+    ensures bytes { OnOk result (Consumes (R.remaining reader.old) (R.remaining reader.new)
+        (appended_bytes text.old.items text.new.items)) }
     ensures bound { length text.new.items ≤ most_text + 1 }
     ensures end { IfOk result (λ more. more ≡ false → IsAtEnd (R.remaining reader.new)) }
-    ensures falls { IfOk result (λ more. more ≡ true → length text.old.items + patience.new.left < length text.new.items + patience.old.left) }
+    ensures falls { IfOk result (λ more.
+        more ≡ true
+        → length text.old.items + patience.new.left
+        < length text.new.items + patience.old.left) }
 {
     let mut part = [0u8; MOST_PART];
     let room = MOST_PART.min(MOST_TEXT + 1 - text.len());
@@ -72,7 +76,8 @@ pub fn read_text<A: Allocator, R: Read>(
     reader: &mut R,
     patience: &mut Patience,
 ) -> Result<Vec<u8, A>, TextError>
-    ensures { IfOk result (λ text. IsTextOf (R.remaining reader.old) (R.remaining reader.new) text.items) }
+    ensures { IfOk result (λ text.
+        IsTextOf (R.remaining reader.old) (R.remaining reader.new) text.items) }
 {
     let mut text = Vec::new(alloc);
     'parts: while text.len() <= MOST_TEXT {

@@ -17,15 +17,18 @@ pub fn parse_list<A: Allocator + Copy, T: Parseable<A> + Drop>(
     alloc: A,
     bytes: &[u8],
 ) -> Res<Vec<T, A>>
-    ensures found { IfOk result (λ v. ListReads T.codec.read keep [] bytes.now (map T.see v.items)) }
+    ensures found { IfOk result (λ v.
+        ListReads T.codec.read keep [] bytes.now (map T.see v.items)) }
     ensures refused { IfRefused result (IsListFault T.codec.read keep [] bytes.now) }
-    ensures exact { Gives (seen (λ v. map T.see v.items) result) (read_list T.codec.read keep [] bytes.now) }
+    ensures exact { Gives (seen (λ v. map T.see v.items) result)
+        (read_list T.codec.read keep [] bytes.now) }
 {
     read_all(alloc, bytes)
 }
 
 fn read_all<A: Allocator + Copy, T: Parseable<A> + Drop>(alloc: A, bytes: &[u8]) -> Res<Vec<T, A>>
-    ensures { Gives (seen (λ v. map T.see v.items) result) (read_list T.codec.read keep [] bytes.now) }
+    ensures { Gives (seen (λ v. map T.see v.items) result)
+        (read_list T.codec.read keep [] bytes.now) }
 {
     let mut list = Vec::with_capacity(alloc, first_capacity(bytes))?;
     for frame in NlasIterator::new(bytes) {
@@ -42,9 +45,11 @@ pub fn parse_list_with<A: Allocator + Copy, T: ParseableParametrized<A> + Drop>(
     bytes: &[u8],
     kind: &str,
 ) -> Res<Vec<T, A>>
-    ensures found { IfOk result (λ v. ListReads T.codec.read keep kind.now bytes.now (map T.see v.items)) }
+    ensures found { IfOk result (λ v.
+        ListReads T.codec.read keep kind.now bytes.now (map T.see v.items)) }
     ensures refused { IfRefused result (IsListFault T.codec.read keep kind.now bytes.now) }
-    ensures exact { Gives (seen (λ v. map T.see v.items) result) (read_list T.codec.read keep kind.now bytes.now) }
+    ensures exact { Gives (seen (λ v. map T.see v.items) result)
+        (read_list T.codec.read keep kind.now bytes.now) }
 {
     read_all_with(alloc, bytes, kind)
 }
@@ -54,7 +59,8 @@ fn read_all_with<A: Allocator + Copy, T: ParseableParametrized<A> + Drop>(
     bytes: &[u8],
     kind: &str,
 ) -> Res<Vec<T, A>>
-    ensures { Gives (seen (λ v. map T.see v.items) result) (read_list T.codec.read keep kind.now bytes.now) }
+    ensures { Gives (seen (λ v. map T.see v.items) result)
+        (read_list T.codec.read keep kind.now bytes.now) }
 {
     let mut list = Vec::with_capacity(alloc, first_capacity(bytes))?;
     for frame in NlasIterator::new(bytes) {
@@ -71,9 +77,12 @@ pub fn parse_frames_with<A: Allocator + Copy, T: ParseableParametrized<A> + Drop
     frames: &[NlaBuffer<'_>],
     kind: &str,
 ) -> Res<Vec<T, A>>
-    ensures found { IfOk result (λ v. ReadEach T.codec.read keep kind.now (map frame_of frames.now) (map T.see v.items)) }
-    ensures refused { IfRefused result (IsFirstRefusal T.codec.read kind.now (map frame_of frames.now)) }
-    ensures exact { Gives (seen (λ v. map T.see v.items) result) (read_each T.codec.read keep kind.now (whole (map frame_of frames.now))) }
+    ensures found { IfOk result (λ v.
+        ReadEach T.codec.read keep kind.now (map frame_of frames.now) (map T.see v.items)) }
+    ensures refused { IfRefused result
+        (IsFirstRefusal T.codec.read kind.now (map frame_of frames.now)) }
+    ensures exact { Gives (seen (λ v. map T.see v.items) result)
+        (read_each T.codec.read keep kind.now (whole (map frame_of frames.now))) }
 {
     read_frames(alloc, frames, kind)
 }
@@ -83,7 +92,8 @@ fn read_frames<A: Allocator + Copy, T: ParseableParametrized<A> + Drop>(
     frames: &[NlaBuffer<'_>],
     kind: &str,
 ) -> Res<Vec<T, A>>
-    ensures { Gives (seen (λ v. map T.see v.items) result) (read_each T.codec.read keep kind.now (whole (map frame_of frames.now))) }
+    ensures { Gives (seen (λ v. map T.see v.items) result)
+        (read_each T.codec.read keep kind.now (whole (map frame_of frames.now))) }
 {
     let mut list = Vec::with_capacity(alloc, frames.len())?;
     for frame in frames {

@@ -9,7 +9,8 @@ use crate::nla::{NLA_VALUE_MAX_SIZE, Nla};
 /// How many bytes the frames have, or `None` where the list can't be written: where an attribute doesn't fit, or no
 /// `usize` counts all their bytes.
 pub fn list_checked_len<T: Nla>(items: &[T]) -> Option<usize>
-    ensures { Measures result (ListFits T.codec.Fits T.codec.write (map T.see items.now)) (list_bytes T.codec.write (map T.see items.now)) }
+    ensures { Measures result (ListFits T.codec.Fits T.codec.write (map T.see items.now))
+        (list_bytes T.codec.write (map T.see items.now)) }
 {
     let mut total: usize = 0;
     for item in items {
@@ -27,7 +28,8 @@ pub fn list_checked_len<T: Nla>(items: &[T]) -> Option<usize>
 /// How many bytes the frames have, or `None` where they can't be written as the value of an attribute: where the list
 /// can't be written, or has more than 65531 bytes.
 pub fn nested_checked_len<T: Nla>(items: &[T]) -> Option<usize>
-    ensures { Measures result (NestedFits T.codec.Fits T.codec.write (map T.see items.now)) (list_bytes T.codec.write (map T.see items.now)) }
+    ensures { Measures result (NestedFits T.codec.Fits T.codec.write (map T.see items.now))
+        (list_bytes T.codec.write (map T.see items.now)) }
 {
     match list_checked_len(items) {
         Some(len) if len <= NLA_VALUE_MAX_SIZE => Some(len),
@@ -61,7 +63,8 @@ pub fn list_len<T: Nla>(items: &[T]) -> usize
 pub fn put_list<T: Nla>(items: &[T], buffer: &mut [u8]) -> usize
     requires fits { ListFits T.codec.Fits T.codec.write (map T.see items.now) }
     requires room { HasRoom (list_bytes T.codec.write (map T.see items.now)) buffer.old }
-    ensures written { Writes (list_bytes T.codec.write (map T.see items.now)) buffer.old buffer.new }
+    ensures written { Writes (list_bytes T.codec.write (map T.see items.now))
+        buffer.old buffer.new }
     ensures length { result ≡ length (list_bytes T.codec.write (map T.see items.now)) }
     ensures typed { AllByRecursion T.codec.Typed (map T.see items.now) }
 {

@@ -63,13 +63,16 @@ impl<A: Allocator + Copy> Parseable<A> for TcAction<A> {
     fn parse(alloc: A, buf: &NlaBuffer<'_>) -> Res<TcAction<A>>
         ensures tab { IfOk result (λ action. action.tab ≡ type_of (frame_of buf.now).word) }
         // Its attributes are what the grammar reads of the value.
-        ensures found { IfOk result (λ action. OwnReads read_action_attribute (frame_of buf.now).value (listed action)) }
+        ensures found { IfOk result (λ action.
+            OwnReads read_action_attribute (frame_of buf.now).value (listed action)) }
         // What is refused has this fault, and it is the first.
-        ensures refused { IfRefused result (OwnFault read_action_attribute (frame_of buf.now).value) }
+        ensures refused { IfRefused result
+            (OwnFault read_action_attribute (frame_of buf.now).value) }
         // Two neighbours exchanged, where all are padded in full, exchange what they read as, and change nothing else.
         ensures order { IfOk result (λ action. KeepsOrder (frame_of buf.now) (listed action)) }
         // What is found and what is refused, by the function that computes both.
-        ensures exact { Gives (seen tc_action result) ((table_codec an_action).read [] (frame_of buf.now)) }
+        ensures exact { Gives (seen tc_action result)
+            ((table_codec an_action).read [] (frame_of buf.now)) }
     {
         order_in_an_action();
         let attributes = parse_list_own(alloc, buf.value())?;

@@ -85,7 +85,8 @@ impl<A: Allocator + Copy> ParseableParametrized<A> for TcActionAttribute<A> {
 impl<A: Allocator> TcActionAttribute<A> {
     // Its word and its value, and what they are by the table.
     fn view(&self) -> (u16, Value<'_, Body<'_, A>>)
-        ensures { ShownAs attribute_body action_attributes (action_attribute self.now) result.0 result.1 }
+        ensures { ShownAs attribute_body action_attributes (action_attribute self.now)
+            result.0 result.1 }
     {
         self.row()
     }

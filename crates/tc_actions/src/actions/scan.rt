@@ -47,7 +47,8 @@ fn parse_own<A: Allocator + Copy, T: ParseableParametrized<A> + Drop>(
 
 // The frames that the bytes are, and the kinds that they tell; or the first broken frame or kind that isn't UTF-8.
 fn scan<'a, A: Allocator>(alloc: A, bytes: &'a [u8]) -> Res<(Vec<NlaBuffer<'a>, A>, OnlyKind<'a>)>
-    ensures { MatchResult result (λ found. Scanned bytes.now found.0.items found.1) (λ e. Gives (refused e) (read_list first_look keep [] bytes.now)) }
+    ensures { MatchResult result (λ found. Scanned bytes.now found.0.items found.1) (λ e.
+        Gives (refused e) (read_list first_look keep [] bytes.now)) }
 {
     let mut frames = Vec::with_capacity(alloc, first_capacity(bytes))?;
     let mut only = OnlyKind::Missing;

@@ -122,7 +122,8 @@ impl<A: Allocator> Parseable<A> for TcActionTunnelKeyOption<A> {
 impl<A: Allocator> TcActionTunnelKeyOption<A> {
     // Its word and its value, and what they are by the table.
     fn view(&self) -> (u16, Value<'_, Body<'_>>)
-        ensures { ShownAs tunnel_key_body tunnel_key_options (tunnel_key_option self.now) result.0 result.1 }
+        ensures { ShownAs tunnel_key_body tunnel_key_options (tunnel_key_option self.now)
+            result.0 result.1 }
     {
         self.row()
     }

@@ -113,7 +113,8 @@ impl<A: Allocator> TcFqCodelXstats<A> {
     /// True if its bytes read as the statistics again: an `Other` has at least four bytes, and begins with neither of
     /// the two numbers.
     pub fn is_settled(&self) -> bool
-        ensures settled { IsTrue result ↔ fq_codel_xstats_codec.Settled [] (fq_codel_xstats self.now) }
+        ensures settled { IsTrue result
+            ↔ fq_codel_xstats_codec.Settled [] (fq_codel_xstats self.now) }
         ensures typed { IsTrue result → fq_codel_xstats_codec.Typed (fq_codel_xstats self.now) }
     {
         self.is_settled_under("")

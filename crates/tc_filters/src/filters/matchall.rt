@@ -83,7 +83,8 @@ impl<A: Allocator + Copy> Parseable<A> for TcFilterMatchAllOption<A> {
 impl<A: Allocator> TcFilterMatchAllOption<A> {
     // Its word and its value, and what they are by the table.
     fn view(&self) -> (u16, Value<'_, Items<'_, TcAction<A>>>)
-        ensures { ShownAs action_list matchall_options (matchall_option self.now) result.0 result.1 }
+        ensures { ShownAs action_list matchall_options (matchall_option self.now)
+            result.0 result.1 }
     {
         self.row()
     }

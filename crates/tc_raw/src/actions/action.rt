@@ -36,7 +36,8 @@ impl TcActionGenericBuffer {
 }
 
 impl From<&tc_records::TcActionGeneric> for TcActionGenericBuffer {
-    ghost from_gives = { λ generic buffer. generic_bytes buffer ≡ fields_bytes action_generic (generic_scalars generic.now) };
+    ghost from_gives = { λ generic buffer. generic_bytes buffer
+        ≡ fields_bytes action_generic (generic_scalars generic.now) };
 
     fn from(generic: &TcActionGeneric) -> TcActionGenericBuffer {
         TcActionGenericBuffer {

@@ -20,7 +20,8 @@ pub struct TcActionMessageBuffer {
 impl TcActionMessageBuffer {
     /// The bytes at the front, padding as it stands; what follows is dropped, and fewer bytes are `BufferTooSmall`.
     pub fn read_from_prefix(bytes: &[u8]) -> Res<TcActionMessageBuffer>
-        ensures { seen action_header_bytes result ≡ first_bytes (size_of action_message_header) bytes.now }
+        ensures { seen action_header_bytes result
+            ≡ first_bytes (size_of action_message_header) bytes.now }
     {
         Ok(TcActionMessageBuffer {
             bytes: first_bytes(bytes)?,
@@ -36,7 +37,8 @@ impl TcActionMessageBuffer {
 }
 
 impl From<&tc_records::TcActionMessageHeader> for TcActionMessageBuffer {
-    ghost from_gives = { λ header buffer. action_header_bytes buffer ≡ fields_bytes action_message_header (action_message_header_scalars header.now) };
+    ghost from_gives = { λ header buffer. action_header_bytes buffer
+        ≡ fields_bytes action_message_header (action_message_header_scalars header.now) };
 
     fn from(header: &TcActionMessageHeader) -> TcActionMessageBuffer {
         TcActionMessageBuffer {

@@ -36,7 +36,8 @@ impl TcMirrorBuffer {
 }
 
 impl From<&tc_records::TcMirror> for TcMirrorBuffer {
-    ghost from_gives = { λ action buffer. mirror_bytes buffer ≡ fields_bytes mirror (mirror_scalars action.now) };
+    ghost from_gives = { λ action buffer. mirror_bytes buffer
+        ≡ fields_bytes mirror (mirror_scalars action.now) };
 
     fn from(action: &TcMirror) -> TcMirrorBuffer {
         TcMirrorBuffer {

@@ -37,7 +37,8 @@ impl TcNatBuffer {
 }
 
 impl From<&tc_records::TcNat> for TcNatBuffer {
-    ghost from_gives = { λ action buffer. nat_bytes buffer ≡ fields_bytes nat (nat_scalars action.now) };
+    ghost from_gives = { λ action buffer. nat_bytes buffer
+        ≡ fields_bytes nat (nat_scalars action.now) };
 
     fn from(action: &TcNat) -> TcNatBuffer {
         nat_in_hand(action);

@@ -36,7 +36,8 @@ impl TcfBuffer {
 }
 
 impl From<&tc_records::Tcf> for TcfBuffer {
-    ghost from_gives = { λ times buffer. tcf_bytes buffer ≡ fields_bytes tcf (tcf_scalars times.now) };
+    ghost from_gives = { λ times buffer. tcf_bytes buffer
+        ≡ fields_bytes tcf (tcf_scalars times.now) };
 
     fn from(times: &Tcf) -> TcfBuffer {
         TcfBuffer {

@@ -36,7 +36,8 @@ impl TcTunnelKeyBuffer {
 }
 
 impl From<&tc_records::TcTunnelKey> for TcTunnelKeyBuffer {
-    ghost from_gives = { λ action buffer. tunnel_key_bytes buffer ≡ fields_bytes tunnel_key (tunnel_key_scalars action.now) };
+    ghost from_gives = { λ action buffer. tunnel_key_bytes buffer
+        ≡ fields_bytes tunnel_key (tunnel_key_scalars action.now) };
 
     fn from(action: &TcTunnelKey) -> TcTunnelKeyBuffer {
         TcTunnelKeyBuffer {

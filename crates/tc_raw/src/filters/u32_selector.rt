@@ -37,7 +37,8 @@ impl TcU32KeyBuffer {
 }
 
 impl From<&tc_records::TcU32Key> for TcU32KeyBuffer {
-    ghost from_gives = { λ key buffer. key_bytes buffer ≡ fields_bytes selector_key (key_scalars key.now) };
+    ghost from_gives = { λ key buffer. key_bytes buffer
+        ≡ fields_bytes selector_key (key_scalars key.now) };
 
     fn from(key: &TcU32Key) -> TcU32KeyBuffer {
         TcU32KeyBuffer {
@@ -91,7 +92,8 @@ impl TcU32SelectorBuffer {
 }
 
 impl<A: Allocator> From<&tc_records::TcU32Selector<A>> for TcU32SelectorBuffer {
-    ghost from_gives = { λ selector buffer. selector_bytes buffer ≡ fields_bytes selector_head (head_scalars selector.now) };
+    ghost from_gives = { λ selector buffer. selector_bytes buffer
+        ≡ fields_bytes selector_head (head_scalars selector.now) };
 
     fn from(selector: &TcU32Selector<A>) -> TcU32SelectorBuffer {
         TcU32SelectorBuffer {

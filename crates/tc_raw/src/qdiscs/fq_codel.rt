@@ -38,7 +38,8 @@ impl TcFqCodelQdStatsBuffer {
 }
 
 impl From<&tc_records::TcFqCodelQdStats> for TcFqCodelQdStatsBuffer {
-    ghost from_gives = { λ statistics buffer. qd_stats_bytes buffer ≡ fields_bytes fq_codel_qd_stats (qd_stats_scalars statistics.now) };
+    ghost from_gives = { λ statistics buffer. qd_stats_bytes buffer
+        ≡ fields_bytes fq_codel_qd_stats (qd_stats_scalars statistics.now) };
 
     fn from(statistics: &TcFqCodelQdStats) -> TcFqCodelQdStatsBuffer {
         TcFqCodelQdStatsBuffer {
@@ -72,7 +73,8 @@ impl TcFqCodelClStatsBuffer {
 }
 
 impl From<&tc_records::TcFqCodelClStats> for TcFqCodelClStatsBuffer {
-    ghost from_gives = { λ statistics buffer. cl_stats_bytes buffer ≡ fields_bytes fq_codel_cl_stats (cl_stats_scalars statistics.now) };
+    ghost from_gives = { λ statistics buffer. cl_stats_bytes buffer
+        ≡ fields_bytes fq_codel_cl_stats (cl_stats_scalars statistics.now) };
 
     fn from(statistics: &TcFqCodelClStats) -> TcFqCodelClStatsBuffer {
         TcFqCodelClStatsBuffer {

@@ -36,7 +36,8 @@ impl TcStatsBasicBuffer {
 }
 
 impl From<&tc_records::TcStatsBasic> for TcStatsBasicBuffer {
-    ghost from_gives = { λ statistics buffer. basic_bytes buffer ≡ fields_bytes stats_basic (basic_scalars statistics.now) };
+    ghost from_gives = { λ statistics buffer. basic_bytes buffer
+        ≡ fields_bytes stats_basic (basic_scalars statistics.now) };
 
     fn from(statistics: &TcStatsBasic) -> TcStatsBasicBuffer {
         TcStatsBasicBuffer {

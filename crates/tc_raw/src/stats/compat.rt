@@ -36,7 +36,8 @@ impl TcStatsBuffer {
 }
 
 impl From<&tc_records::TcStats> for TcStatsBuffer {
-    ghost from_gives = { λ statistics buffer. stats_bytes buffer ≡ fields_bytes stats (stats_scalars statistics.now) };
+    ghost from_gives = { λ statistics buffer. stats_bytes buffer
+        ≡ fields_bytes stats (stats_scalars statistics.now) };
 
     fn from(statistics: &TcStats) -> TcStatsBuffer {
         TcStatsBuffer {

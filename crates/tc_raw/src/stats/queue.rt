@@ -36,7 +36,8 @@ impl TcStatsQueueBuffer {
 }
 
 impl From<&tc_records::TcStatsQueue> for TcStatsQueueBuffer {
-    ghost from_gives = { λ statistics buffer. queue_bytes buffer ≡ fields_bytes stats_queue (queue_scalars statistics.now) };
+    ghost from_gives = { λ statistics buffer. queue_bytes buffer
+        ≡ fields_bytes stats_queue (queue_scalars statistics.now) };
 
     fn from(statistics: &TcStatsQueue) -> TcStatsQueueBuffer {
         TcStatsQueueBuffer {

@@ -123,7 +123,8 @@ impl From<TcActionType> for i32 {
 /// The outcome in the first four bytes, and what follows it.
 pub(crate) fn split_action_type(bytes: &[u8]) -> (TcActionType, &[u8])
     requires { 4 ≤ length bytes.now }
-    ensures value { action_type_scalar result.0 ≡ read_field (named 4 action_types) (take 4 bytes.now) }
+    ensures value { action_type_scalar result.0
+        ≡ read_field (named 4 action_types) (take 4 bytes.now) }
     ensures rest { result.1.now ≡ drop 4 bytes.now }
     ensures left { length bytes.now ≡ 4 + length result.1.now }
 {
@@ -228,7 +229,9 @@ impl TcActionGeneric {
     /// The generic part at the front of a record, and the fields that follow it.
     pub(crate) fn split(bytes: &[u8]) -> (TcActionGeneric, &[u8])
         requires { 20 ≤ length bytes.now }
-        ensures value { (others : List Field) → generic_then_scalars result.0 (read_fields others result.1.now) ≡ read_fields (generic_then others) bytes.now }
+        ensures value { (others : List Field)
+            → generic_then_scalars result.0 (read_fields others result.1.now)
+            ≡ read_fields (generic_then others) bytes.now }
         ensures left { length bytes.now ≡ 20 + length result.1.now }
     {
         let (index, rest) = split_u32(bytes);

@@ -49,7 +49,8 @@ impl TcActionMessageHeader {
 
     /// The header that bytes begin with; what follows is dropped, and fewer bytes are `BufferTooSmall`.
     pub fn parse(payload: &[u8]) -> Res<TcActionMessageHeader>
-        ensures { seen action_message_header_scalars result ≡ read_record action_message_header payload.now }
+        ensures { seen action_message_header_scalars result
+            ≡ read_record action_message_header payload.now }
     {
         at_least(payload, TCA_HEADER_LEN)?;
         let (family, _) = split_family(payload);
@@ -58,14 +59,16 @@ impl TcActionMessageHeader {
 
     /// True if it reads back as itself: the family is no `Other` of a number that has a name.
     pub fn is_settled(&self) -> bool
-        ensures { IsTrue result ↔ SettledFields action_message_header (action_message_header_scalars self.now) }
+        ensures { IsTrue result
+            ↔ SettledFields action_message_header (action_message_header_scalars self.now) }
     {
         is_settled_family(self.family)
     }
 
     // The header's bytes, its padding zero.
     fn to_bytes(&self) -> [u8; TCA_HEADER_LEN]
-        ensures { result ≡ fields_bytes action_message_header (action_message_header_scalars self.now) }
+        ensures { result
+            ≡ fields_bytes action_message_header (action_message_header_scalars self.now) }
     {
         let [f0] = family_bytes(self.family);
         [f0, 0, 0, 0]

@@ -94,7 +94,8 @@ impl From<TcMirrorActionType> for i32 {
 // The number in the first four bytes, and what follows it.
 fn split_mirror_action_type(bytes: &[u8]) -> (TcMirrorActionType, &[u8])
     requires { 4 ≤ length bytes.now }
-    ensures value { mirror_action_type_scalar result.0 ≡ read_field (named 4 mirror_action_types) (take 4 bytes.now) }
+    ensures value { mirror_action_type_scalar result.0
+        ≡ read_field (named 4 mirror_action_types) (take 4 bytes.now) }
     ensures rest { result.1.now ≡ drop 4 bytes.now }
     ensures left { length bytes.now ≡ 4 + length result.1.now }
 {
@@ -104,14 +105,16 @@ fn split_mirror_action_type(bytes: &[u8]) -> (TcMirrorActionType, &[u8])
 
 // The bytes of its number.
 fn mirror_action_type_bytes(action: TcMirrorActionType) -> [u8; 4]
-    ensures { result ≡ field_bytes (named 4 mirror_action_types) (mirror_action_type_scalar action) }
+    ensures { result
+        ≡ field_bytes (named 4 mirror_action_types) (mirror_action_type_scalar action) }
 {
     i32_bytes(i32::from(action))
 }
 
 // True if it reads back as itself: no `Other` of a number that has a name.
 fn is_settled_mirror_action_type(action: TcMirrorActionType) -> bool
-    ensures { IsTrue result ↔ SettledField (named 4 mirror_action_types) (mirror_action_type_scalar action) }
+    ensures { IsTrue result
+        ↔ SettledField (named 4 mirror_action_types) (mirror_action_type_scalar action) }
 {
     match action {
         TcMirrorActionType::Other(number) => matches!(

@@ -121,7 +121,8 @@ impl TcNat {
         ensures { let nat = self.now in
             result
             ≡ ipv4_octets nat.old_addr
-            ++ (ipv4_octets nat.new_addr ++ (ipv4_octets nat.mask ++ le_bytes 4 (nat_flags_word nat.flags))) }
+            ++ (ipv4_octets nat.new_addr
+            ++ (ipv4_octets nat.mask ++ le_bytes 4 (nat_flags_word nat.flags))) }
     {
         let [o0, o1, o2, o3] = self.old_addr.octets();
         let [n0, n1, n2, n3] = self.new_addr.octets();

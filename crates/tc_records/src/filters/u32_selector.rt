@@ -151,7 +151,8 @@ fn split_key(bytes: &[u8]) -> (TcU32Key, &[u8])
 // So many keys, one after the other.
 fn parse_keys<A: Allocator>(alloc: A, count: u8, bytes: &[u8]) -> Res<Vec<TcU32Key, A>>
     requires { 16 * count ≤ length bytes.now }
-    ensures { Gives (seen (λ v. map key_scalars v.items) result) (read_as (read_keys count bytes.now)) }
+    ensures { Gives (seen (λ v. map key_scalars v.items) result)
+        (read_as (read_keys count bytes.now)) }
 {
     let mut keys = Vec::with_capacity(alloc, count as usize)?;
     let mut left = bytes;

@@ -36,7 +36,8 @@ pub fn equal_statistics()
     ensures family { TellsSeen ⟦<AddressFamily as PartialEq>⟧.eq family_scalar }
     ensures handle { TellsSeen ⟦<TcHandle as PartialEq>⟧.eq handle_number }
     ensures header { TellsSeen ⟦<TcHeader as PartialEq>⟧.eq header_scalars }
-    ensures action_header { TellsSeen ⟦<TcActionMessageHeader as PartialEq>⟧.eq action_message_header_scalars }
+    ensures action_header { TellsSeen ⟦<TcActionMessageHeader as PartialEq>⟧.eq
+        action_message_header_scalars }
     ensures stats { TellsSeen ⟦<TcStats as PartialEq>⟧.eq stats_scalars }
     ensures basic { TellsSeen ⟦<TcStatsBasic as PartialEq>⟧.eq basic_scalars }
     ensures queue { TellsSeen ⟦<TcStatsQueue as PartialEq>⟧.eq queue_scalars }

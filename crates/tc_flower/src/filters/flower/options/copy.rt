@@ -9,7 +9,8 @@ use std::alloc::{AllocError, Allocator};
 use tc_actions::TcAction;
 
 impl<A: Allocator + Clone> Clone for TcFilterFlowerOption<A> {
-    ghost is_clone = { IsCopy ⟦<TcAction<A> as Clone>⟧.is_clone ⟦<TcFilterFlowerMplsOption<A> as Clone>⟧.is_clone };
+    ghost is_clone = { IsCopy ⟦<TcAction<A> as Clone>⟧.is_clone
+        ⟦<TcFilterFlowerMplsOption<A> as Clone>⟧.is_clone };
 
     fn clone(&self) -> Result<TcFilterFlowerOption<A>, AllocError> {
         let (kind, held) = self.parts();

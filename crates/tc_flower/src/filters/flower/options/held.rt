@@ -171,7 +171,8 @@ impl<A: Allocator> TcFilterFlowerOption<A> {
 
     #[inline(always)]
     fn held(&self) -> Held<'_, A>
-        ensures seen { flower_option self.now ≡ held_at (number_of (flower_option self.now)) result }
+        ensures seen { flower_option self.now
+            ≡ held_at (number_of (flower_option self.now)) result }
         ensures typed { IsTrue (is_held_at result (number_of (flower_option self.now))) }
         ensures list { IsListHeld self.now result }
     {

@@ -82,7 +82,8 @@ impl<A: Allocator + Copy> TcFilterFlowerOption<A> {
     #[tactic(auto, using(crate::proofs::FlowerReads::other_read))]
     #[inline(always)]
     fn read_other(alloc: A, buf: &NlaBuffer<'_>) -> Res<Self>
-        requires { (is_within 2 83 (type_of (frame_of buf.now).word) || is_within 86 101 (type_of (frame_of buf.now).word)) ≡ false }
+        requires { (is_within 2 83 (type_of (frame_of buf.now).word)
+            || is_within 86 101 (type_of (frame_of buf.now).word)) ≡ false }
         ensures { Gives (seen flower_option result) (flower_read (frame_of buf.now)) }
     {
         Ok(Self::Other(DefaultNla::parse(alloc, buf)?))
