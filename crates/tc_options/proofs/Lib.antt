@@ -1,3 +1,2 @@
-pub mod AnyKind
-pub mod KindOptions
 pub mod OptionLists
+pub mod UnknownKinds

@@ -23,6 +23,7 @@ use tc_filters::{
 };
 use tc_flower::{TcFilterFlower, TcFilterFlowerOption};
 use tc_qdiscs::{TcQdiscFqCodel, TcQdiscFqCodelOption, TcQdiscIngress, TcQdiscIngressOption};
+use tc_values::is_settled_of_kind;
 
 /// One option of a message, in the variant of the message's kind.
 #[derive(Drop)]
@@ -132,20 +133,12 @@ impl<A: Allocator> Nla for TcOption<A> {
 impl<A: Allocator> Settle for TcOption<A> {
     fn is_settled_under(&self, kind: &str) -> bool {
         match self {
-            TcOption::FqCodel(option) => {
-                option.is_settled_under(kind) && kind == TcQdiscFqCodel::KIND
-            }
-            TcOption::Ingress(option) => {
-                option.is_settled_under(kind) && kind == TcQdiscIngress::KIND
-            }
-            TcOption::Flower(option) => {
-                option.is_settled_under(kind) && kind == TcFilterFlower::KIND
-            }
-            TcOption::U32(option) => option.is_settled_under(kind) && kind == TcFilterU32::KIND,
-            TcOption::MatchAll(option) => {
-                option.is_settled_under(kind) && kind == TcFilterMatchAll::KIND
-            }
-            TcOption::Bpf(option) => option.is_settled_under(kind) && kind == TcFilterBpf::KIND,
+            TcOption::FqCodel(option) => is_settled_of_kind(option, TcQdiscFqCodel::KIND, kind),
+            TcOption::Ingress(option) => is_settled_of_kind(option, TcQdiscIngress::KIND, kind),
+            TcOption::Flower(option) => is_settled_of_kind(option, TcFilterFlower::KIND, kind),
+            TcOption::U32(option) => is_settled_of_kind(option, TcFilterU32::KIND, kind),
+            TcOption::MatchAll(option) => is_settled_of_kind(option, TcFilterMatchAll::KIND, kind),
+            TcOption::Bpf(option) => is_settled_of_kind(option, TcFilterBpf::KIND, kind),
             TcOption::Other(nla) => nla.is_settled_under(kind) && !is_known_kind(kind),
         }
     }

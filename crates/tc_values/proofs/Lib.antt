@@ -1,6 +1,8 @@
+pub mod AnyKind
 pub mod Bodies
 pub mod Lists
 pub mod Measures
+pub mod OfKinds
 pub mod Rows
 pub mod SameRows
 mod Stripped

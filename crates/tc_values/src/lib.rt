@@ -3,9 +3,11 @@
 #![tactic(auto)]
 
 pub mod body;
+pub mod kind;
 pub mod same;
 pub mod value;
 
 pub use body::{Body, Either, Items, NoBody, Record};
+pub use kind::is_settled_of_kind;
 pub use same::{Same, same_row};
 pub use value::Value;

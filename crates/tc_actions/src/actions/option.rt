@@ -17,6 +17,7 @@ use nla_frames::{
     DefaultNla, FrameMeaning, Nla, NlaBuffer, Parseable, ParseableParametrized, Res, Settle,
 };
 use std::alloc::{Allocator, Global};
+use tc_values::is_settled_of_kind;
 
 /// One option of an action, in the variant of the action's kind.
 #[derive(Drop)]
@@ -98,13 +99,11 @@ impl<A: Allocator> Settle for TcActionOption<A> {
     fn is_settled_under(&self, kind: &str) -> bool {
         match self {
             TcActionOption::Mirror(option) => {
-                option.is_settled_under(kind) && kind == TcActionMirror::KIND
+                is_settled_of_kind(option, TcActionMirror::KIND, kind)
             }
-            TcActionOption::Nat(option) => {
-                option.is_settled_under(kind) && kind == TcActionNat::KIND
-            }
+            TcActionOption::Nat(option) => is_settled_of_kind(option, TcActionNat::KIND, kind),
             TcActionOption::TunnelKey(option) => {
-                option.is_settled_under(kind) && kind == TcActionTunnelKey::KIND
+                is_settled_of_kind(option, TcActionTunnelKey::KIND, kind)
             }
             TcActionOption::Other(nla) => nla.is_settled_under(kind) && !is_known_kind(kind),
         }
