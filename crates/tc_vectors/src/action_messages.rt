@@ -1,8 +1,9 @@
 //! Action messages: their attributes, type by type, and flags.
 
-use crate::tables::{Row, are_written, misread};
+use crate::tables::{Row, are_known, are_written, is_shown};
 use bitflags::Flags;
-use nla_frames::{DecodeError, NlaBuffer, Parseable, Settle};
+use nla_frames::{NlaBuffer, Parseable, Settle};
+use std::alloc::Global;
 use std::hash::{DefaultHasher, Hash, Hasher};
 use std::test::Fail;
 use tc_action_messages::{TcActionMessageAttribute, TcActionMessageFlagsWithSelector};
@@ -29,11 +30,7 @@ const ATTRIBUTES: [Row; 14] = [
 
 #[test]
 fn attributes(rt: HostRuntime) -> Result<(), Fail> {
-    assert_eq!(rt;
-        misread::<TcActionMessageAttribute>(rt.alloc(), &ATTRIBUTES)?,
-        None
-    );
-    Ok(())
+    are_known::<TcActionMessageAttribute>(rt.alloc(), &ATTRIBUTES)
 }
 
 fn hash_of(flags: TcActionMessageFlagsWithSelector) -> u64 {
@@ -50,47 +47,55 @@ fn pair(flags: u32, selector: u32) -> TcActionMessageFlagsWithSelector {
     )
 }
 
+/// Frames of any type, and of eight bytes alone, and what they are read as.
+#[rattlefmt::skip]
+const PAIRS: [(&[u8], &str); 6] = [
+    (&[12, 0, 1, 0, 1, 0, 0, 0, 0, 0, 0, 2], "Ok(TcActionMessageFlagsWithSelector { flags: TcActionMessageFlags(1), selector: TcActionMessageFlags(33554432) })"),
+    (&[12, 0, 2, 0, 1, 0, 0, 0, 0, 0, 0, 2], "Ok(TcActionMessageFlagsWithSelector { flags: TcActionMessageFlags(1), selector: TcActionMessageFlags(33554432) })"),
+    (&[12, 0, 2, 0x80, 1, 0, 0, 0, 0, 0, 0, 2], "Ok(TcActionMessageFlagsWithSelector { flags: TcActionMessageFlags(1), selector: TcActionMessageFlags(33554432) })"),
+    (&[12, 0, 99, 0x40, 1, 0, 0, 0, 0, 0, 0, 2], "Ok(TcActionMessageFlagsWithSelector { flags: TcActionMessageFlags(1), selector: TcActionMessageFlags(33554432) })"),
+    (&[11, 0, 2, 0, 1, 0, 0, 0, 0, 0, 0, 2, 3], "Err(WrongLength { expected: 8, got: 7 })"),
+    (&[13, 0, 2, 0, 1, 0, 0, 0, 0, 0, 0, 2, 3], "Err(WrongLength { expected: 8, got: 9 })"),
+];
+
+/// Whether a frame is read as a pair or refused with a fault of this text.
+fn is_read(alloc: Global, frame: &[u8], text: &str) -> Result<bool, Fail> {
+    let frame = NlaBuffer::new_checked(frame)?;
+    let read = TcActionMessageFlagsWithSelector::parse(alloc, &frame);
+    Ok(is_shown(alloc, &read, text)?)
+}
+
 #[test]
 fn flags(rt: HostRuntime) -> Result<(), Fail> {
     let large = TcActionMessageFlagsWithSelector::new(TcActionMessageFlags::LargeDump);
-    assert_eq!(rt; large, pair(1, 1));
+    assert!(rt; large == pair(1, 1));
     assert!(rt; are_written(&[large], &[12, 0, 2, 0, 1, 0, 0, 0, 1, 0, 0, 0]));
     assert!(rt; large.is_settled());
-    assert_eq!(rt; TcActionMessageFlagsWithSelector::default(), pair(0, 0));
-    // of a frame of any type
-    for word in [[1, 0], [2, 0], [2, 0x80], [99, 0x40]] {
-        let frame = [12, 0, word[0], word[1], 1, 0, 0, 0, 0, 0, 0, 2];
-        let read = TcActionMessageFlagsWithSelector::parse(
-            rt.alloc(),
-            &NlaBuffer::new_checked(&frame)?,
-        )?;
-        assert_eq!(rt; read, pair(1, 0x0200_0000));
-    }
-    // of eight bytes alone
-    for (length, got) in [(11, 7), (13, 9)] {
-        let frame = [length, 0, 2, 0, 1, 0, 0, 0, 0, 0, 0, 2, 3];
-        let read = TcActionMessageFlagsWithSelector::parse(
-            rt.alloc(),
-            &NlaBuffer::new_checked(&frame)?,
-        );
-        assert_eq!(rt; read, Err(DecodeError::WrongLength { expected: 8, got }));
+    assert!(rt; TcActionMessageFlagsWithSelector::default() == pair(0, 0));
+    for (frame, text) in &PAIRS {
+        assert!(rt; is_read(rt.alloc(), frame, text)?, "{frame:?}");
     }
     Ok(())
 }
 
-#[test]
-fn flags_are_ordered_and_hashed(rt: HostRuntime) {
-    let ordered = [
+/// Pairs in their order.
+fn ordered() -> [TcActionMessageFlagsWithSelector; 5] {
+    [
         pair(0, 9),
         pair(1, 0),
         pair(1, 0x8000_0000),
         pair(0x100, 0),
         pair(0x8000_0000, 0),
-    ];
+    ]
+}
+
+#[test]
+fn flags_are_ordered_and_hashed(rt: HostRuntime) {
+    let ordered = ordered();
     for (i, a) in ordered.iter().enumerate() {
         for (j, b) in ordered.iter().enumerate() {
-            assert_eq!(rt; a.cmp(b), i.cmp(&j));
-            assert_eq!(rt; hash_of(*a) == hash_of(*b), i == j);
+            assert!(rt; a.cmp(b) == i.cmp(&j), "{i} and {j}");
+            assert!(rt; (hash_of(*a) == hash_of(*b)) == (i == j), "{i} and {j}");
         }
     }
 }

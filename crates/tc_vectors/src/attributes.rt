@@ -1,9 +1,9 @@
 //! A message's attributes by their classes.
 
-use nla_frames::{DecodeError, Emitable, Nla, NlaBuffer, ParseableBytes, ParseableParametrized};
-use std::alloc::Global;
+use crate::worked::{Refused, Worked, are_read, are_refused};
+use nla_frames::{Nla, NlaBuffer, ParseableParametrized};
 use std::test::Fail;
-use tc_wire::{TcAttribute, TcMessage};
+use tc_wire::TcAttribute;
 
 #[test]
 #[tactic(auto, using(nla_frames::proofs::FrameBytes::length_frame_bytes))]
@@ -13,104 +13,52 @@ fn presence_is_written_whatever_it_says(rt: HostRuntime) -> Result<(), Fail> {
     assert!(rt; absent.fits());
     assert!(rt; absent.frame_len() <= buffer.len());
     absent.emit_frame(&mut buffer);
-    assert_eq!(rt; buffer, [4, 0, 10, 0]);
+    assert!(rt; buffer == [4, 0, 10, 0]);
     let frame = NlaBuffer::new_checked(&buffer)?;
-    let read: TcAttribute = TcAttribute::parse_with_param(rt.alloc(), &frame, "")?;
-    assert_eq!(rt; read, TcAttribute::DumpInvisible(true));
+    let read = TcAttribute::parse_with_param(rt.alloc(), &frame, "")?;
+    assert!(rt; read == TcAttribute::DumpInvisible(true));
     Ok(())
 }
+
+/// An attribute whose padding is cut off.
+const SHORT_PADDING: [Worked; 1] = [("05000c00 01", "[HwOffload(1)]", "05000c00 01000000", true)];
 
 #[test]
 fn short_padding_is_filled(rt: HostRuntime) -> Result<(), Fail> {
-    let alloc = rt.alloc();
-    let mut bytes = [0; 20].to_vec(alloc)?;
-    bytes.extend_from_slice(&[5, 0, 12, 0, 1])?;
-    let message = TcMessage::parse(alloc, &bytes)?;
-    assert_eq!(rt;
-        message.attributes,
-        vec![in alloc; TcAttribute::HwOffload(1)]?
-    );
-    assert!(rt; message.fits());
-    assert_eq!(rt; message.buffer_len(), 28);
-    let mut buffer = [0x55; 28];
-    message.emit(&mut buffer);
-    assert_eq!(rt; &buffer[20..], &[5, 0, 12, 0, 1, 0, 0, 0][..]);
-    Ok(())
+    are_read(rt.alloc(), &SHORT_PADDING)
 }
+
+#[rattlefmt::skip]
+const BROKEN_AND_SHORT: [Refused; 2] = [
+    ("08000b00 07000000 aabb", "FrameHeaderShort { left: 2 }"),
+    ("08000300 00000000", "BufferTooSmall { len: 4, needed: 40 }"),
+];
 
 #[test]
 fn broken_frames_and_short_records_are_refused(rt: HostRuntime) -> Result<(), Fail> {
-    let alloc = rt.alloc();
-    for (frames, fault) in [
-        (
-            [8, 0, 11, 0, 7, 0, 0, 0, 0xaa, 0xbb].as_slice(),
-            DecodeError::FrameHeaderShort { left: 2 },
-        ),
-        (
-            &[8, 0, 3, 0, 0, 0, 0, 0],
-            DecodeError::BufferTooSmall { len: 4, needed: 40 },
-        ),
-    ] {
-        let mut bytes = [0; 20].to_vec(alloc)?;
-        bytes.extend_from_slice(frames)?;
-        assert_eq!(rt; TcMessage::parse(alloc, &bytes).err(), Some(fault));
-    }
-    Ok(())
+    are_refused(rt.alloc(), &BROKEN_AND_SHORT)
 }
 
-/// A kind `fq_codel`, under which statistics are read.
+/// Statistics under the kind `fq_codel`.
 #[rattlefmt::skip]
-const FQ_CODEL: [u8; 16] = [0x0d, 0, 0x01, 0, 0x66, 0x71, 0x5f, 0x63, 0x6f, 0x64, 0x65, 0x6c, 0, 0, 0, 0];
-
-/// A message of an empty header, the kind and one frame of statistics.
-fn with_statistics(alloc: Global, frame: &[u8]) -> Result<Vec<u8>, Fail> {
-    let mut bytes = [0; 20].to_vec(alloc)?;
-    bytes.extend_from_slice(&FQ_CODEL)?;
-    bytes.extend_from_slice(frame)?;
-    Ok(bytes)
-}
+const SHORT_STATISTICS: [Refused; 2] = [
+    ("0d000100 66715f636f64656c00000000 07000400 01020300", "XstatsShort { len: 3 }"),
+    ("0d000100 66715f636f64656c00000000 08000400 00000000", "BufferTooSmall { len: 0, needed: 36 }"),
+];
 
 #[test]
 fn short_statistics_of_fq_codel_are_refused(rt: HostRuntime) -> Result<(), Fail> {
-    let alloc = rt.alloc();
-    for (frame, fault) in [
-        (
-            [7, 0, 4, 0, 1, 2, 3, 0],
-            DecodeError::XstatsShort { len: 3 },
-        ),
-        (
-            [8, 0, 4, 0, 0, 0, 0, 0],
-            DecodeError::BufferTooSmall { len: 0, needed: 36 },
-        ),
-    ] {
-        let bytes = with_statistics(alloc, &frame)?;
-        assert_eq!(rt; TcMessage::parse(alloc, &bytes).err(), Some(fault));
-    }
-    Ok(())
+    are_refused(rt.alloc(), &SHORT_STATISTICS)
 }
 
-/// The bytes that a message is written as.
-fn rewritten(alloc: Global, bytes: &[u8]) -> Result<Vec<u8>, Fail> {
-    let message = TcMessage::parse(alloc, bytes)?;
-    let mut written = vec![in alloc; 0; 128]?;
-    if message.fits() && message.buffer_len() <= written.len() {
-        message.emit(&mut written);
-        written.truncate(message.buffer_len());
-    }
-    Ok(written)
-}
+/// Statistics of another number stay; of a class, twelve bytes after its record are dropped.
+#[rattlefmt::skip]
+const STATISTICS: [Worked; 2] = [
+    ("0d000100 66715f636f64656c00000000 08000400 02000000", "[Kind(\"fq_codel\"), Xstats(FqCodel(Other([2, 0, 0, 0])))]", "", true),
+    ("0d000100 66715f636f64656c00000000 2c000400 01000000 000000000000000000000000000000000000000000000000000000000000000000000000", "[Kind(\"fq_codel\"), Xstats(FqCodel(Class(TcFqCodelClStats { deficit: 0, ldelay: 0, count: 0, lastcount: 0, dropping: 0, drop_next: 0 })))]", "0d000100 66715f636f64656c00000000 20000400 01000000 000000000000000000000000000000000000000000000000", true),
+];
 
-// Of a class, twelve bytes after its record are dropped; statistics of another number stay.
 #[test]
 fn statistics_of_fq_codel_are_rewritten(rt: HostRuntime) -> Result<(), Fail> {
-    let alloc = rt.alloc();
-    let other = with_statistics(alloc, &[8, 0, 4, 0, 2, 0, 0, 0])?;
-    assert_eq!(rt; rewritten(alloc, &other)?, other);
-    let mut class = [0; 44];
-    class[..8].copy_from_slice(&[0x2c, 0, 4, 0, 1, 0, 0, 0]);
-    let mut whole = [0; 32];
-    whole[..8].copy_from_slice(&[0x20, 0, 4, 0, 1, 0, 0, 0]);
-    let bytes = with_statistics(alloc, &class)?;
-    assert_eq!(rt; rewritten(alloc, &bytes)?, with_statistics(alloc, &whole)?);
-    Ok(())
+    are_read(rt.alloc(), &STATISTICS)
 }

@@ -536,25 +536,20 @@ fn is_judged_rightly(alloc: Global, message: Message, row: &Row) -> Result<bool,
     Ok(is_canonical(message, &bytes) == row.canonical)
 }
 
-/// The first row whose answer is another.
-fn misjudged(
-    alloc: Global,
-    message: Message,
-    rows: &[Row],
-) -> Result<Option<&'static str>, AllocError> {
+/// Judges each row, and tells the first whose answer is another.
+fn are_judged_rightly(alloc: Global, message: Message, rows: &[Row]) -> Result<(), Fail> {
     for row in rows {
         if !is_judged_rightly(alloc, message, row)? {
-            return Ok(Some(row.name));
+            return Err(Fail::new(row.name));
         }
     }
-    Ok(None)
+    Ok(())
 }
 
 #[test]
 fn messages(rt: HostRuntime) -> Result<(), Fail> {
-    assert_eq!(rt; misjudged(rt.alloc(), Message::Tc, &TC)?, None);
-    assert_eq!(rt; misjudged(rt.alloc(), Message::Action, &ACTIONS)?, None);
-    Ok(())
+    are_judged_rightly(rt.alloc(), Message::Tc, &TC)?;
+    are_judged_rightly(rt.alloc(), Message::Action, &ACTIONS)
 }
 
 // What each list check says of one list.
@@ -586,9 +581,8 @@ fn cut_off(rt: HostRuntime) -> Result<(), Fail> {
     let bytes = bytes_of(rt.alloc(), LIMIT)?;
     for n in 0..=48 {
         let front = bytes.get(..n).ok_or("the message has 48 bytes")?;
-        assert_eq!(rt;
-            is_canonical_tc(front),
-            n == 20 || n == 36 || n == 48,
+        assert!(rt;
+            is_canonical_tc(front) == (n == 20 || n == 36 || n == 48),
             "{n}"
         );
     }

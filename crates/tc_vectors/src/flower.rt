@@ -1,6 +1,6 @@
 //! Flower's options: the known answer of each, those that are written as other bytes, and filters as the kernel and tc send them.
 
-use crate::tables::{Row, are_written, bytes_of, misread, or_same};
+use crate::tables::{Row, are_known, are_written, bytes_of, or_same};
 use nla_frames::{DecodeError, DefaultNla, NlaBuffer, Parseable, Settle, parse_list};
 use std::alloc::Global;
 use std::test::*;
@@ -152,22 +152,25 @@ const SENT: [(&str, &str); 11] = [
 
 #[test]
 fn options(rt: HostRuntime) -> Result<(), Fail> {
-    assert_eq!(rt; misread::<TcFilterFlowerOption>(rt.alloc(), &EACH)?, None);
-    assert_eq!(rt; misread::<TcFilterFlowerOption>(rt.alloc(), &OTHERS)?, None);
-    assert_eq!(rt; TcFilterFlower::KIND, "flower");
-    Ok(())
+    assert!(rt; TcFilterFlower::KIND == "flower");
+    are_known::<TcFilterFlowerOption>(rt.alloc(), &EACH)?;
+    are_known::<TcFilterFlowerOption>(rt.alloc(), &OTHERS)
 }
 
 /// Whether a list of options is written as it has to be.
-fn is_rewritten(alloc: Global, sent: &'static str, written: &'static str) -> Result<bool, Fail> {
-    let options: Vec<TcFilterFlowerOption> = parse_list(alloc, &bytes_of(alloc, sent)?)?;
-    Ok(are_written(&options, &bytes_of(alloc, or_same(sent, written))?))
+fn is_rewritten(alloc: Global, sent: &str, written: &str) -> Result<bool, Fail> {
+    let sent = bytes_of(alloc, sent)?;
+    let written = bytes_of(alloc, written)?;
+    let options = parse_list::<Global, TcFilterFlowerOption>(alloc, &sent)?;
+    Ok(are_written(&options, &written))
 }
 
 #[test]
 fn filters(rt: HostRuntime) -> Result<(), Fail> {
     for (sent, written) in &SENT {
-        assert!(rt; is_rewritten(rt.alloc(), sent, written)?, "{sent}");
+        if !is_rewritten(rt.alloc(), sent, or_same(sent, written))? {
+            return Err(Fail::new(*sent));
+        }
     }
     Ok(())
 }
@@ -184,23 +187,22 @@ fn class_id(rt: HostRuntime) -> Result<(), Fail> {
 #[test]
 fn wrong_width(rt: HostRuntime) -> Result<(), Fail> {
     let frame = [8, 0, 4, 0, 1, 2, 3, 4];
-    let read: Result<TcFilterFlowerOption, DecodeError> = TcFilterFlowerOption::parse(
-        rt.alloc(),
-        &NlaBuffer::new_checked(&frame)?,
-    );
-    assert_eq!(rt;
-        read,
-        Err(DecodeError::WrongLength {
-            expected: 6,
-            got: 4
-        })
-    );
+    let read = TcFilterFlowerOption::parse(rt.alloc(), &NlaBuffer::new_checked(&frame)?);
+    let fault = DecodeError::WrongLength {
+        expected: 6,
+        got: 4,
+    };
+    assert!(rt; read.err() == Some(fault));
     Ok(())
 }
 
+/// Whether an option is settled that is kept as it stands, of this type.
+fn is_settled_of_type(alloc: Global, word: u16) -> bool {
+    TcFilterFlowerOption::Other(DefaultNla::new(word, Vec::new(alloc))).is_settled()
+}
+
 #[test]
-fn settled(rt: HostRuntime) -> Result<(), Fail> {
-    let alloc = rt.alloc();
+fn settled(rt: HostRuntime) {
     assert!(rt; TcFilterFlowerOption::<Global>::MplsBos(1).is_settled());
     assert!(rt; !TcFilterFlowerOption::<Global>::MplsBos(2).is_settled());
     assert!(rt; TcFilterFlowerOption::<Global>::MplsTc(7).is_settled());
@@ -210,9 +212,10 @@ fn settled(rt: HostRuntime) -> Result<(), Fail> {
     assert!(rt; TcFilterFlowerMplsLseOption::<Global>::LseBos(255).is_settled());
     assert!(rt; TcFilterFlowerMplsLseOption::<Global>::LseTc(255).is_settled());
     assert!(rt; !TcFilterFlowerMplsLseOption::<Global>::LseLabel(0x10_0000).is_settled());
-    assert!(rt; TcFilterFlowerOption::Other(DefaultNla::new(84, Vec::new(alloc))).is_settled());
-    assert!(rt; TcFilterFlowerOption::Other(DefaultNla::new(1, Vec::new(alloc))).is_settled());
-    assert!(rt; !TcFilterFlowerOption::Other(DefaultNla::new(101, Vec::new(alloc))).is_settled());
-    assert!(rt; !TcFilterFlowerMplsOption::Other(DefaultNla::new(1, Vec::new(alloc))).is_settled());
-    Ok(())
+    assert!(rt; is_settled_of_type(rt.alloc(), 84));
+    assert!(rt; is_settled_of_type(rt.alloc(), 1));
+    assert!(rt; !is_settled_of_type(rt.alloc(), 101));
+    assert!(rt;
+        !TcFilterFlowerMplsOption::Other(DefaultNla::new(1, Vec::new(rt.alloc()))).is_settled()
+    );
 }

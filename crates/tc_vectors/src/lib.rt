@@ -12,6 +12,8 @@ mod flower;
 #[cfg(test)]
 mod known;
 #[cfg(test)]
+mod made;
+#[cfg(test)]
 mod messages;
 #[cfg(test)]
 mod readme;

@@ -1,12 +1,13 @@
 //! Worked messages.
 
-use std::alloc::Global;
-use std::process::Abort;
+use crate::made::{kept, with};
+use crate::tables::{after_zeros, is_shown, is_written};
+use crate::worked::{Worked, are_read, fault_of, is_read_as};
+use std::alloc::{AllocError, Global};
 use std::test::Fail;
 use tc_wire::{
-    AddressFamily, DecodeError, DefaultNla, Emitable, Nla, NlaBuffer, ParseableBytes,
-    ParseableParametrized, TcAttribute, TcHandle, TcHeader, TcMessage, TcOption,
-    TcQdiscFqCodelOption, VecTcAttribute, VecTcOption, is_canonical_tc, parse_frames_with,
+    AddressFamily, DecodeError, NlaBuffer, ParseableBytes, ParseableParametrized, TcAttribute,
+    TcHandle, TcHeader, TcMessage, TcOption, VecTcAttribute, VecTcOption, parse_frames_with,
 };
 
 /// A message about a discipline `fq_codel` with a limit of 10240 packets: its header, its kind and its options.
@@ -37,183 +38,131 @@ fn first_header() -> TcHeader {
     }
 }
 
-fn kind(alloc: Global, text: &str) -> Result<TcAttribute, Fail> {
-    Ok(TcAttribute::Kind(text.to_string(alloc)?))
-}
+/// What the attributes of these two are.
+const LIMITED: &str = "[Kind(\"fq_codel\"), Options([FqCodel(Limit(10240))])]";
 
-fn kept(alloc: Global, word: u16, value: &[u8]) -> Result<DefaultNla, Fail> {
-    Ok(DefaultNla::new(word, value.to_vec(alloc)?))
-}
-
-/// Asserts that a message and its clone are written as `written`, over a longer buffer whose rest stays.
-fn is_written_as(rt: &impl Abort, message: &TcMessage, written: &[u8]) -> Result<(), Fail> {
-    assert_eq!(rt; *message, message.clone()?);
-    let mut buffer = [0x55u8; 64];
-    assert!(rt; written.len() < buffer.len());
-    assert!(rt; message.fits());
-    assert_eq!(rt; message.buffer_len(), written.len());
-    message.emit(&mut buffer);
-    assert_eq!(rt; &buffer[..written.len()], written);
-    for byte in &buffer[written.len()..] {
-        assert_eq!(rt; *byte, 0x55);
-    }
-    Ok(())
-}
-
-/// Asserts that bytes read as these attributes after a header, and how the message is written.
-fn reads_as(
-    rt: &impl Abort,
-    alloc: Global,
-    bytes: &[u8],
-    header: TcHeader,
-    attributes: Vec<TcAttribute>,
-    written: &[u8],
-) -> Result<(), Fail> {
-    let message = TcMessage::parse(alloc, bytes)?;
-    is_written_as(rt, &message, written)?;
-    assert_eq!(rt; message, TcMessage::from_parts(header, attributes));
-    assert!(rt; message.is_settled());
-    assert_eq!(rt; is_canonical_tc(bytes), bytes == written);
-    Ok(())
-}
-
-/// Asserts the same of an empty header and the frames after it.
-fn frames_read_as(
-    rt: &impl Abort,
-    alloc: Global,
-    frames: &[u8],
-    attributes: Vec<TcAttribute>,
-    written: &[u8],
-) -> Result<(), Fail> {
-    let bytes = after_empty_header(alloc, frames)?;
-    let written = after_empty_header(alloc, written)?;
-    reads_as(rt, alloc, &bytes, TcHeader::default(), attributes, &written)
-}
-
-fn after_empty_header(alloc: Global, frames: &[u8]) -> Result<Vec<u8>, Fail> {
-    let mut bytes = [0u8; 20].to_vec(alloc)?;
-    bytes.extend_from_slice(frames)?;
-    Ok(bytes)
-}
+const LIMITED_RAW: &str =
+    "[Kind(\"fq_codel\\0\"), OptionsRaw(DefaultNla { word: 2, value: [8, 0, 2, 0, 0, 40, 0, 0] })]";
 
 #[test]
 fn messages_are_read_and_written(rt: HostRuntime) -> Result<(), Fail> {
     let alloc = rt.alloc();
-    let limit = TcOption::FqCodel(TcQdiscFqCodelOption::Limit(10240));
-    let options = TcAttribute::Options(vec![in alloc; limit]?);
-    let attributes = vec![in alloc; kind(alloc, "fq_codel")?, options]?;
-    reads_as(&rt, alloc, &FQ_CODEL, first_header(), attributes, &FQ_CODEL)?;
-
+    assert!(rt; is_read_as(alloc, &FQ_CODEL, first_header(), LIMITED, &FQ_CODEL, true)?);
     let two_nuls = with_two_nuls();
-    let raw = TcAttribute::OptionsRaw(kept(alloc, 2, &LIMIT)?);
-    let attributes = vec![in alloc; kind(alloc, "fq_codel\0")?, raw]?;
-    reads_as(&rt, alloc, &two_nuls, first_header(), attributes, &two_nuls)?;
+    assert!(rt;
+        is_read_as(
+            alloc,
+            &two_nuls,
+            first_header(),
+            LIMITED_RAW,
+            &two_nuls,
+            true
+        )?
+    );
     Ok(())
 }
 
+/// No attributes; options with no kind before them; an unknown kind, and options with the nested flag.
+#[rattlefmt::skip]
+const UNKNOWN: [Worked; 3] = [
+    ("", "[]", "", true),
+    ("0c000200 08000200 00280000", "[OptionsRaw(DefaultNla { word: 2, value: [8, 0, 2, 0, 0, 40, 0, 0] })]", "", true),
+    ("08000100 73667100 08000280 01020304", "[Kind(\"sfq\"), OptionsRaw(DefaultNla { word: 32770, value: [1, 2, 3, 4] })]", "", true),
+];
+
 #[test]
 fn unknown_attributes_stay(rt: HostRuntime) -> Result<(), Fail> {
-    let alloc = rt.alloc();
-    frames_read_as(&rt, alloc, &[], Vec::new(alloc), &[])?;
-
     let mut padded = [0; 20];
     padded[1] = 7;
-    reads_as(
-        &rt,
-        alloc,
-        &padded,
-        TcHeader::default(),
-        Vec::new(alloc),
-        &[0; 20],
-    )?;
+    assert!(rt;
+        is_read_as(
+            rt.alloc(),
+            &padded,
+            TcHeader::default(),
+            "[]",
+            &[0; 20],
+            true
+        )?
+    );
+    are_read(rt.alloc(), &UNKNOWN)
+}
 
-    // options with no kind before them
-    let options = [0x0c, 0, 0x02, 0, 0x08, 0, 0x02, 0, 0, 0x28, 0, 0];
-    let attributes = vec![in alloc; TcAttribute::OptionsRaw(kept(alloc, 2, &LIMIT)?)]?;
-    frames_read_as(&rt, alloc, &options, attributes, &options)?;
-
-    // an unknown kind, and options with the nested flag
-    let sfq = [
-        0x08, 0, 0x01, 0, 0x73, 0x66, 0x71, 0, 0x08, 0, 0x02, 0x80, 1, 2, 3, 4,
-    ];
-    let raw = TcAttribute::OptionsRaw(kept(alloc, 0x8002, &[1, 2, 3, 4])?);
-    let attributes = vec![in alloc; kind(alloc, "sfq")?, raw]?;
-    frames_read_as(&rt, alloc, &sfq, attributes, &sfq)
+fn too_small(len: usize) -> Option<DecodeError> {
+    Some(DecodeError::BufferTooSmall { len, needed: 20 })
 }
 
 #[test]
 fn broken_messages_are_refused(rt: HostRuntime) -> Result<(), Fail> {
     let alloc = rt.alloc();
-    for len in [0, 19] {
-        let fault = TcMessage::parse(alloc, &[0; 20][..len]).err();
-        assert_eq!(rt;
-            fault,
-            Some(DecodeError::BufferTooSmall { len, needed: 20 })
-        );
-    }
-    let bytes = after_empty_header(alloc, &[0x05, 0, 0x01, 0, 0xff, 0, 0, 0])?;
-    assert_eq!(rt;
-        TcMessage::parse(alloc, &bytes).err(),
-        Some(DecodeError::NotUtf8)
-    );
+    assert!(rt; fault_of(alloc, &[]) == too_small(0));
+    assert!(rt; fault_of(alloc, &[0; 19]) == too_small(19));
+    let bytes = after_zeros(alloc, 20, "05000100 ff000000")?;
+    assert!(rt; fault_of(alloc, &bytes) == Some(DecodeError::NotUtf8));
     Ok(())
 }
 
-fn options_under(alloc: Global, kind: &str) -> Result<Vec<TcOption>, Fail> {
+/// Whether the options of the message are of this text under a kind.
+fn are_options(alloc: Global, kind: &str, text: &str) -> Result<bool, Fail> {
     let frame = NlaBuffer::new_checked(&FQ_CODEL[36..])?;
-    Ok(VecTcOption::parse_with_param(alloc, &frame, kind)?.0)
+    let options = VecTcOption::parse_with_param(alloc, &frame, kind)?;
+    Ok(is_shown(alloc, &options.0, text)?)
 }
+
+const KEPT: &str = "[Other(DefaultNla { word: 2, value: [8, 0, 2, 0, 0, 40, 0, 0] })]";
 
 #[test]
 fn options_go_by_the_kind(rt: HostRuntime) -> Result<(), Fail> {
-    let alloc = rt.alloc();
-    let limit = TcOption::FqCodel(TcQdiscFqCodelOption::Limit(10240));
-    assert_eq!(rt; options_under(alloc, "fq_codel")?, vec![in alloc; limit]?);
-    let other = TcOption::Other(kept(alloc, 2, &LIMIT)?);
-    assert_eq!(rt; options_under(alloc, "sfq")?, vec![in alloc; other]?);
+    assert!(rt; are_options(rt.alloc(), "fq_codel", "[FqCodel(Limit(10240))]")?);
+    assert!(rt; are_options(rt.alloc(), "sfq", KEPT)?);
     Ok(())
+}
+
+/// Whether a frame is read under `fq_codel` as the option of this text.
+fn is_option(alloc: Global, frame: &NlaBuffer<'_>, text: &str) -> Result<bool, Fail> {
+    let option = TcOption::parse_with_param(alloc, frame, "fq_codel")?;
+    Ok(is_shown(alloc, &option, text)?)
+}
+
+/// Whether frames that were cut are read under `fq_codel` as the options of this text.
+fn are_cut(alloc: Global, frames: &[NlaBuffer<'_>], text: &str) -> Result<bool, Fail> {
+    let options: Vec<TcOption> = parse_frames_with(alloc, frames, "fq_codel")?;
+    Ok(is_shown(alloc, &options, text)?)
 }
 
 #[test]
 fn an_option_is_read_alone(rt: HostRuntime) -> Result<(), Fail> {
-    let alloc = rt.alloc();
     let frame = NlaBuffer::new_checked(&LIMIT)?;
-    let option = TcOption::parse_with_param(alloc, &frame, "fq_codel")?;
-    let cut: Vec<TcOption> = parse_frames_with(alloc, &[frame], "fq_codel")?;
-    assert_eq!(rt; cut, vec![in alloc; option]?);
+    assert!(rt; is_option(rt.alloc(), &frame, "FqCodel(Limit(10240))")?);
+    assert!(rt; are_cut(rt.alloc(), &[frame], "[FqCodel(Limit(10240))]")?);
     Ok(())
 }
 
 #[test]
 fn attributes_are_read_alone(rt: HostRuntime) -> Result<(), Fail> {
-    let alloc = rt.alloc();
-    let list = VecTcAttribute::parse(alloc, &FQ_CODEL[20..36])?.0;
-    assert_eq!(rt; list, vec![in alloc; kind(alloc, "fq_codel")?]?);
+    let list = VecTcAttribute::parse(rt.alloc(), &FQ_CODEL[20..36])?;
+    assert!(rt; is_shown(rt.alloc(), &list.0, "[Kind(\"fq_codel\")]")?);
     Ok(())
+}
+
+/// A message made by hand: an attribute of a known type that is kept as it stands.
+fn with_kept(alloc: Global, message: TcMessage) -> Result<TcMessage, AllocError> {
+    let kept = kept(alloc, 0x8001, &[0xab])?;
+    with(message, Ok(TcAttribute::Other(kept)))
 }
 
 #[test]
 fn messages_are_made(rt: HostRuntime) -> Result<(), Fail> {
     let alloc = rt.alloc();
     let mut message = TcMessage::with_index(alloc, 7);
-    assert_eq!(rt; message.header.index, 7);
+    assert!(rt; message.header.index == 7);
     message.header.index = 0;
-    assert_eq!(rt; message, TcMessage::default_in(alloc));
+    assert!(rt; message == TcMessage::default_in(alloc));
 
-    // made by hand: an attribute of a known type that is kept as it stands
-    message
-        .attributes
-        .push(TcAttribute::Other(kept(alloc, 0x8001, &[0xab])?))?;
-    let mut buffer = [0x55; 28];
-    assert!(rt; message.fits());
-    assert!(rt; message.buffer_len() <= buffer.len());
-    message.emit(&mut buffer);
-    assert_eq!(rt;
-        &buffer[20..],
-        [0x05, 0, 0x01, 0x80, 0xab, 0, 0, 0].as_slice()
-    );
+    let message = with_kept(alloc, message)?;
+    let written = after_zeros(alloc, 20, "05000180 ab000000")?;
+    assert!(rt; is_written(&message, &written));
     let (header, attributes) = message.into_parts();
-    assert_eq!(rt; header, TcHeader::default());
-    assert_eq!(rt; attributes.len(), 1);
+    assert!(rt; header == TcHeader::default());
+    assert!(rt; attributes.len() == 1);
     Ok(())
 }

@@ -4,7 +4,6 @@ use crate::tables::{after_zeros, is_shown, or_same};
 use crate::worked::{Refused, TC, TC_FAULTS, Worked};
 use nla_frames::DecodeError;
 use std::alloc::{AllocError, Global};
-use std::process::Abort;
 use std::test::Fail;
 use tc_canon::is_canonical_tc;
 use tc_inputs::{Form, too_long};
@@ -26,82 +25,78 @@ fn is_rewritten(alloc: Global, row: &Worked) -> Result<bool, Fail> {
 #[test]
 fn worked(rt: HostRuntime) -> Result<(), Fail> {
     for row in &TC {
-        assert!(rt; is_rewritten(rt.alloc(), row)?, "{}", row.0);
+        if !is_rewritten(rt.alloc(), row)? {
+            return Err(Fail::new(row.0));
+        }
     }
     Ok(())
 }
 
-// Whether both calls tell this cause.
-fn are_refused<T: Drop, U: Drop>(
-    alloc: Global,
+// The cause that both calls tell, if it is the same.
+fn same_cause<T: Drop, U: Drop>(
     rewritten: Result<T, RewriteError>,
     settled: Result<U, RewriteError>,
-    text: &str,
-) -> Result<bool, AllocError> {
-    let text = format!(in alloc; "Some({text})")?;
-    Ok(
-        is_shown(alloc, &rewritten.err(), text.as_str())?
-            && is_shown(alloc, &settled.err(), text.as_str())?,
-    )
+) -> Option<RewriteError> {
+    let cause = rewritten.err();
+    if settled.err() == cause { cause } else { None }
+}
+
+/// Why bytes are neither rewritten nor settled, where both calls tell the same cause.
+pub(crate) fn cause_of(alloc: Global, form: Form, bytes: &[u8]) -> Option<RewriteError> {
+    match form {
+        Form::Tc => same_cause(rewrite_tc(alloc, bytes), settle_tc(alloc, bytes)),
+        Form::Action => same_cause(rewrite_action(alloc, bytes), settle_action(alloc, bytes)),
+    }
+}
+
+/// The cause where bytes are no header.
+pub(crate) fn too_small(len: usize, needed: usize) -> Option<RewriteError> {
+    Some(RewriteError::Decode(DecodeError::BufferTooSmall { len, needed }))
 }
 
 fn is_refused(alloc: Global, form: Form, bytes: &[u8], text: &str) -> Result<bool, AllocError> {
-    match form {
-        Form::Tc => are_refused(
-            alloc,
-            rewrite_tc(alloc, bytes),
-            settle_tc(alloc, bytes),
-            text,
-        ),
-        Form::Action => are_refused(
-            alloc,
-            rewrite_action(alloc, bytes),
-            settle_action(alloc, bytes),
-            text,
-        ),
+    match cause_of(alloc, form, bytes) {
+        Some(RewriteError::Decode(fault)) => is_shown(alloc, &fault, text),
+        _ => Ok(false),
     }
 }
 
-/// Asserts that what can't be read, or not be written, is neither rewritten nor settled.
-pub(crate) fn faults_are_told(
-    rt: &impl Abort,
+/// Judges each row of messages of a form, and tells the first that isn't refused with its fault.
+pub(crate) fn are_refused(
     alloc: Global,
     form: Form,
+    header: usize,
     faults: &[Refused],
 ) -> Result<(), Fail> {
-    let (header, short) = match form {
-        Form::Tc => (20, "Decode(BufferTooSmall { len: 19, needed: 20 })"),
-        Form::Action => (4, "Decode(BufferTooSmall { len: 3, needed: 4 })"),
-    };
     for (frames, fault) in faults {
-        let fault = format!(in alloc; "Decode({fault})")?;
         let bytes = after_zeros(alloc, header, frames)?;
-        assert!(rt;
-            is_refused(alloc, form, &bytes, fault.as_str())?,
-            "{frames}"
-        );
+        if !is_refused(alloc, form, &bytes, fault)? {
+            return Err(Fail::new(*frames));
+        }
     }
-    assert!(rt; is_refused(alloc, form, &vec![in alloc; 0; header - 1]?, short)?);
-    assert!(rt; is_refused(alloc, form, &too_long(alloc, form)?.bytes, "DoesNotFit")?);
     Ok(())
 }
 
 #[test]
 fn refused(rt: HostRuntime) -> Result<(), Fail> {
-    faults_are_told(&rt, rt.alloc(), Form::Tc, &TC_FAULTS)
+    let alloc = rt.alloc();
+    assert!(rt; cause_of(alloc, Form::Tc, &[0; 19]) == too_small(19, 20));
+    let long = too_long(alloc, Form::Tc)?.bytes;
+    assert!(rt; cause_of(alloc, Form::Tc, &long) == Some(RewriteError::DoesNotFit));
+    are_refused(alloc, Form::Tc, 20, &TC_FAULTS)
+}
+
+/// Whether a cause is printed as this text.
+fn is_printed(alloc: Global, cause: RewriteError, text: &str) -> Result<bool, AllocError> {
+    Ok(format!(in alloc; "{cause}")?.as_str() == text)
 }
 
 #[test]
 fn causes_are_printed(rt: HostRuntime) -> Result<(), Fail> {
-    for (cause, text) in [
-        (
-            RewriteError::Decode(DecodeError::XstatsShort { len: 1 }),
-            "statistics of 1 bytes, 4 needed",
-        ),
-        (RewriteError::DoesNotFit, "value does not fit"),
-        (RewriteError::OutOfMemory, "out of memory"),
-    ] {
-        assert_eq!(rt; format!(in rt.alloc(); "{cause}")?.as_str(), text);
-    }
+    let alloc = rt.alloc();
+    let fault = RewriteError::Decode(DecodeError::XstatsShort { len: 1 });
+    assert!(rt; is_printed(alloc, fault, "statistics of 1 bytes, 4 needed")?);
+    assert!(rt; is_printed(alloc, RewriteError::DoesNotFit, "value does not fit")?);
+    assert!(rt; is_printed(alloc, RewriteError::OutOfMemory, "out of memory")?);
     Ok(())
 }

@@ -1,13 +1,13 @@
 //! The worked action messages rewritten and settled: a warning loses one NUL a rewrite.
 
-use crate::rewriting::faults_are_told;
+use crate::rewriting::{are_refused, cause_of, too_small};
 use crate::tables::{after_zeros, or_same};
 use crate::worked::{ACTION_FAULTS, ACTIONS, Worked};
 use std::alloc::Global;
 use std::test::Fail;
 use tc_canon::is_canonical_action;
-use tc_inputs::Form;
-use tc_wire::{rewrite_action, settle_action};
+use tc_inputs::{Form, too_long};
+use tc_wire::{RewriteError, rewrite_action, settle_action};
 
 /// Action messages with warnings in hex, what they are settled as, and after how many rewrites.
 #[rattlefmt::skip]
@@ -35,13 +35,18 @@ fn is_rewritten(alloc: Global, row: &Worked) -> Result<bool, Fail> {
 #[test]
 fn worked(rt: HostRuntime) -> Result<(), Fail> {
     for row in &ACTIONS {
-        assert!(rt; is_rewritten(rt.alloc(), row)?, "{}", row.0);
+        if !is_rewritten(rt.alloc(), row)? {
+            return Err(Fail::new(row.0));
+        }
     }
     Ok(())
 }
 
 /// Whether so many rewrites, and no fewer, lead to what an action message is settled as.
-fn is_settled_after(alloc: Global, row: &(&str, &str, usize)) -> Result<bool, Fail> {
+fn is_settled_after(
+    alloc: Global,
+    row: &(&'static str, &'static str, usize),
+) -> Result<bool, Fail> {
     let mut bytes = after_zeros(alloc, 4, row.0)?;
     let wanted = after_zeros(alloc, 4, row.1)?;
     let (settled, rewrites) = settle_action(alloc, &bytes)?;
@@ -60,12 +65,18 @@ fn is_settled_after(alloc: Global, row: &(&str, &str, usize)) -> Result<bool, Fa
 #[test]
 fn warnings(rt: HostRuntime) -> Result<(), Fail> {
     for row in &WARNINGS {
-        assert!(rt; is_settled_after(rt.alloc(), row)?, "{}", row.0);
+        if !is_settled_after(rt.alloc(), row)? {
+            return Err(Fail::new(row.0));
+        }
     }
     Ok(())
 }
 
 #[test]
 fn refused(rt: HostRuntime) -> Result<(), Fail> {
-    faults_are_told(&rt, rt.alloc(), Form::Action, &ACTION_FAULTS)
+    let alloc = rt.alloc();
+    assert!(rt; cause_of(alloc, Form::Action, &[0; 3]) == too_small(3, 4));
+    let long = too_long(alloc, Form::Action)?.bytes;
+    assert!(rt; cause_of(alloc, Form::Action, &long) == Some(RewriteError::DoesNotFit));
+    are_refused(alloc, Form::Action, 4, &ACTION_FAULTS)
 }

@@ -1,11 +1,9 @@
 //! Values made by hand: which of them read back as themselves, and as what the others do.
 
-use crate::tables::is_written;
-use nla_frames::{
-    AddressFamily, DecodeError, DefaultNla, Emitable, ParseableBytes, Settle, SettleBytes,
-};
-use std::alloc::Global;
-use std::process::Abort;
+use crate::made::{kept, kind, options, raw, with};
+use crate::tables::{after_zeros, is_shown, is_written};
+use nla_frames::{AddressFamily, ParseableBytes, Settle, SettleBytes};
+use std::alloc::{AllocError, Global};
 use std::test::Fail;
 use tc_action_messages::{TcActionMessage, TcActionMessageAttribute};
 use tc_actions::{TcAction, TcActionAttribute, TcFqCodelXstats, TcXstats};
@@ -22,172 +20,230 @@ fn limit() -> TcOption {
     TcOption::FqCodel(TcQdiscFqCodelOption::Limit(5))
 }
 
-fn kind(alloc: Global, text: &str) -> Result<TcAttribute, Fail> {
-    Ok(TcAttribute::Kind(text.to_string(alloc)?))
+/// An attribute made by hand.
+enum Made {
+    Kind(&'static str),
+    /// A limit, as an option of `fq_codel`.
+    Limit,
+    /// A hash, as an option of `u32`.
+    Hash,
+    NoOptions,
+    Raw(u16, &'static [u8]),
+    /// A kind that is kept as it stands.
+    Kept,
+    /// Statistics of `fq_codel` without their number.
+    Short,
+    /// Presence that says that it is absent.
+    Absent,
 }
 
-fn options(alloc: Global) -> Result<TcAttribute, Fail> {
-    Ok(TcAttribute::Options(vec![in alloc; limit()]?))
+fn short(alloc: Global) -> Result<TcAttribute, AllocError> {
+    let stats = TcFqCodelXstats::Other([1, 2, 3].to_vec(alloc)?);
+    Ok(TcAttribute::Xstats(TcXstats::FqCodel(stats)))
 }
 
-fn hash(alloc: Global) -> Result<TcAttribute, Fail> {
-    let hash = TcOption::U32(TcFilterU32Option::Hash(5));
-    Ok(TcAttribute::Options(vec![in alloc; hash]?))
+fn kept_kind(alloc: Global) -> Result<TcAttribute, AllocError> {
+    Ok(TcAttribute::Other(kept(alloc, 0x8001, b"u32\0")?))
 }
 
-fn kept(alloc: Global, word: u16, value: &[u8]) -> Result<DefaultNla, Fail> {
-    Ok(DefaultNla::new(word, value.to_vec(alloc)?))
+fn attribute(alloc: Global, made: &Made) -> Result<TcAttribute, AllocError> {
+    match made {
+        Made::Kind(text) => kind(alloc, text),
+        Made::Limit => options(alloc, limit()),
+        Made::Hash => options(alloc, TcOption::U32(TcFilterU32Option::Hash(5))),
+        Made::NoOptions => Ok(TcAttribute::Options(Vec::new(alloc))),
+        Made::Raw(word, value) => raw(alloc, *word, value),
+        Made::Kept => kept_kind(alloc),
+        Made::Short => short(alloc),
+        Made::Absent => Ok(TcAttribute::DumpInvisible(false)),
+    }
 }
 
-fn raw(alloc: Global, word: u16, value: &[u8]) -> Result<TcAttribute, Fail> {
-    Ok(TcAttribute::OptionsRaw(kept(alloc, word, value)?))
+/// The attributes of a message made by hand, the frames in hex that they are written as after an empty header, and the attributes that these
+/// are read as, or their fault.
+type Row = (&'static [Made], &'static str, &'static str);
+
+#[rattlefmt::skip]
+const MESSAGES: [Row; 7] = [
+    // an unknown kind, and options of fq_codel
+    (&[Made::Kind("sfq"), Made::Limit], "08000100 73667100 0c000200 08000200 05000000", "[Kind(\"sfq\"), OptionsRaw(DefaultNla { word: 2, value: [8, 0, 2, 0, 5, 0, 0, 0] })]"),
+    // no kind, and options
+    (&[Made::NoOptions], "04000200", "[OptionsRaw(DefaultNla { word: 2, value: [] })]"),
+    // fq_codel without options
+    (&[Made::Kind("fq_codel"), Made::NoOptions], "0d000100 66715f636f64656c00000000 04000200", "[Kind(\"fq_codel\"), Options([])]"),
+    // a kind that is kept as it stands
+    (&[Made::Kept], "08000180 75333200", "[Kind(\"u32\")]"),
+    // a kind that ends in a NUL
+    (&[Made::Kind("a\0")], "07000100 61000000", "[Kind(\"a\\0\")]"),
+    // raw options of another type
+    (&[Made::Raw(3, &[])], "04000300", "BufferTooSmall { len: 0, needed: 40 }"),
+    // presence that says that it is absent
+    (&[Made::Absent], "04000a00", "[DumpInvisible(true)]"),
+];
+
+#[rattlefmt::skip]
+const MESSAGES_OF_A_KNOWN_KIND: [Row; 4] = [
+    // u32, and options of fq_codel
+    (&[Made::Kind("u32"), Made::Limit], "08000100 75333200 0c000200 08000200 05000000", "[Kind(\"u32\"), Options([U32(Hash(5))])]"),
+    // u32, and its own options as they stand
+    (&[Made::Kind("u32"), Made::Raw(2, &LIMIT)], "08000100 75333200 0c000200 08000200 05000000", "[Kind(\"u32\"), Options([U32(Hash(5))])]"),
+    // u32, and its own options
+    (&[Made::Kind("u32"), Made::Hash], "08000100 75333200 0c000200 08000200 05000000", "[Kind(\"u32\"), Options([U32(Hash(5))])]"),
+    // fq_codel, and statistics without their number
+    (&[Made::Kind("fq_codel"), Made::Short], "0d000100 66715f636f64656c00000000 07000400 01020300", "XstatsShort { len: 3 }"),
+];
+
+fn message_of(alloc: Global, attributes: &[Made]) -> Result<TcMessage, AllocError> {
+    let mut message = TcMessage::default_in(alloc);
+    for made in attributes {
+        message = with(message, attribute(alloc, made))?;
+    }
+    Ok(message)
 }
 
-// Asserts that attributes are written as these frames after an empty header, what these read back as, and that the message is settled
-// exactly where that is itself.
-fn read_back_as(
-    rt: &impl Abort,
+// Whether a message reads back as another of an empty header and attributes of this text, and is settled exactly where that is itself.
+fn is_again(
     alloc: Global,
-    attributes: Vec<TcAttribute>,
-    frames: &[u8],
-    want: Result<Vec<TcAttribute>, DecodeError>,
-) -> Result<(), Fail> {
-    let message = TcMessage::from_parts(TcHeader::default(), attributes);
-    let mut buffer = [0x55; 64];
-    assert!(rt; message.fits());
-    assert_eq!(rt; message.buffer_len(), 20 + frames.len());
-    assert!(rt; 20 + frames.len() <= buffer.len());
-    message.emit(&mut buffer);
-    assert_eq!(rt; &buffer[20..20 + frames.len()], frames);
-    let read = TcMessage::parse(alloc, &buffer[..20 + frames.len()]);
-    let want = want.map(|attributes| TcMessage::from_parts(TcHeader::default(), attributes));
-    assert_eq!(rt; read, want);
-    let same = match &want {
-        Ok(again) => *again == message,
-        Err(_) => false,
-    };
-    assert_eq!(rt; message.is_settled(), same);
+    message: &TcMessage,
+    again: &TcMessage,
+    text: &str,
+) -> Result<bool, AllocError> {
+    Ok(
+        again.header == TcHeader::default()
+            && message.is_settled() == (*again == *message)
+            && is_shown(alloc, &again.attributes, text)?,
+    )
+}
+
+// The same, or that it isn't settled and has a fault of this text.
+fn reads_back(
+    alloc: Global,
+    message: &TcMessage,
+    bytes: &[u8],
+    text: &str,
+) -> Result<bool, AllocError> {
+    match TcMessage::parse(alloc, bytes) {
+        Ok(again) => is_again(alloc, message, &again, text),
+        Err(fault) => Ok(!message.is_settled() && is_shown(alloc, &fault, text)?),
+    }
+}
+
+/// Whether a message is written and read back as these, and is settled exactly where it reads back as itself.
+pub(crate) fn reads_back_as(
+    alloc: Global,
+    message: &TcMessage,
+    bytes: &[u8],
+    text: &str,
+) -> Result<bool, AllocError> {
+    Ok(is_written(message, bytes) && reads_back(alloc, message, bytes, text)?)
+}
+
+fn is_read_back(alloc: Global, row: &Row) -> Result<bool, AllocError> {
+    let (attributes, frames, text) = *row;
+    let bytes = after_zeros(alloc, 20, frames)?;
+    reads_back_as(alloc, &message_of(alloc, attributes)?, &bytes, text)
+}
+
+fn are_read_back(alloc: Global, rows: &[Row]) -> Result<(), Fail> {
+    for row in rows {
+        if !is_read_back(alloc, row)? {
+            return Err(Fail::new(format_args!("{} as {}", row.1, row.2)));
+        }
+    }
     Ok(())
 }
 
 #[test]
-#[rattlefmt::skip]
 fn of_messages(rt: HostRuntime) -> Result<(), Fail> {
-    let alloc = rt.alloc();
-
-    // an unknown kind, and options of fq_codel
-    let frames = [8, 0, 1, 0, 0x73, 0x66, 0x71, 0, 12, 0, 2, 0, 8, 0, 2, 0, 5, 0, 0, 0];
-    let made = vec![in alloc; kind(alloc, "sfq")?, options(alloc)?]?;
-    let read = vec![in alloc; kind(alloc, "sfq")?, raw(alloc, 2, &LIMIT)?]?;
-    read_back_as(&rt, alloc, made, &frames, Ok(read))?;
-
-    // no kind, and options
-    let made = vec![in alloc; TcAttribute::Options(Vec::new(alloc))]?;
-    let read = vec![in alloc; raw(alloc, 2, &[])?]?;
-    read_back_as(&rt, alloc, made, &[4, 0, 2, 0], Ok(read))?;
-
-    // fq_codel without options
-    let frames = [13, 0, 1, 0, 0x66, 0x71, 0x5f, 0x63, 0x6f, 0x64, 0x65, 0x6c, 0, 0, 0, 0, 4, 0, 2, 0];
-    let made = vec![in alloc; kind(alloc, "fq_codel")?, TcAttribute::Options(Vec::new(alloc))]?;
-    let read = vec![in alloc; kind(alloc, "fq_codel")?, TcAttribute::Options(Vec::new(alloc))]?;
-    read_back_as(&rt, alloc, made, &frames, Ok(read))?;
-
-    // a kind that is kept as it stands
-    let frames = [8, 0, 1, 0x80, 0x75, 0x33, 0x32, 0];
-    let made = vec![in alloc; TcAttribute::Other(kept(alloc, 0x8001, b"u32\0")?)]?;
-    let read = vec![in alloc; kind(alloc, "u32")?]?;
-    read_back_as(&rt, alloc, made, &frames, Ok(read))?;
-
-    // a kind that ends in a NUL
-    let made = vec![in alloc; kind(alloc, "a\0")?]?;
-    let read = vec![in alloc; kind(alloc, "a\0")?]?;
-    read_back_as(&rt, alloc, made, &[7, 0, 1, 0, 0x61, 0, 0, 0], Ok(read))?;
-
-    // raw options of another type
-    let made = vec![in alloc; raw(alloc, 3, &[])?]?;
-    let fault = DecodeError::BufferTooSmall { len: 0, needed: 40 };
-    read_back_as(&rt, alloc, made, &[4, 0, 3, 0], Err(fault))?;
-
-    // presence that says that it is absent
-    let made = vec![in alloc; TcAttribute::DumpInvisible(false)]?;
-    let read = vec![in alloc; TcAttribute::DumpInvisible(true)]?;
-    read_back_as(&rt, alloc, made, &[4, 0, 10, 0], Ok(read))
+    are_read_back(rt.alloc(), &MESSAGES)
 }
 
 #[test]
-#[rattlefmt::skip]
 fn of_messages_of_a_known_kind(rt: HostRuntime) -> Result<(), Fail> {
-    let alloc = rt.alloc();
-    let frames = [8, 0, 1, 0, 0x75, 0x33, 0x32, 0, 12, 0, 2, 0, 8, 0, 2, 0, 5, 0, 0, 0];
-
-    // u32, and options of fq_codel
-    let made = vec![in alloc; kind(alloc, "u32")?, options(alloc)?]?;
-    let read = vec![in alloc; kind(alloc, "u32")?, hash(alloc)?]?;
-    read_back_as(&rt, alloc, made, &frames, Ok(read))?;
-
-    // u32, and its own options as they stand
-    let made = vec![in alloc; kind(alloc, "u32")?, raw(alloc, 2, &LIMIT)?]?;
-    let read = vec![in alloc; kind(alloc, "u32")?, hash(alloc)?]?;
-    read_back_as(&rt, alloc, made, &frames, Ok(read))?;
-
-    // u32, and its own options
-    let made = vec![in alloc; kind(alloc, "u32")?, hash(alloc)?]?;
-    let read = vec![in alloc; kind(alloc, "u32")?, hash(alloc)?]?;
-    read_back_as(&rt, alloc, made, &frames, Ok(read))?;
-
-    // fq_codel, and statistics without their number
-    let frames = [13, 0, 1, 0, 0x66, 0x71, 0x5f, 0x63, 0x6f, 0x64, 0x65, 0x6c, 0, 0, 0, 0, 7, 0, 4, 0, 1, 2, 3, 0];
-    let stats = TcXstats::FqCodel(TcFqCodelXstats::Other([1, 2, 3].to_vec(alloc)?));
-    let made = vec![in alloc; kind(alloc, "fq_codel")?, TcAttribute::Xstats(stats)]?;
-    read_back_as(&rt, alloc, made, &frames, Err(DecodeError::XstatsShort { len: 3 }))
+    are_read_back(rt.alloc(), &MESSAGES_OF_A_KNOWN_KIND)
 }
 
-/// An attribute of one action `nat`.
-fn nat(alloc: Global, tab: u16) -> Result<TcActionMessageAttribute, Fail> {
-    let attributes = vec![in alloc; TcActionAttribute::Kind("nat".to_string(alloc)?)]?;
+/// An attribute of an action message, made by hand.
+enum MadeAction {
+    /// One action `nat` with this word.
+    Nat(u16),
+    Warning(&'static str),
+    /// A count that is kept as it stands.
+    KeptCount,
+}
+
+fn nat(alloc: Global, tab: u16) -> Result<TcActionMessageAttribute, AllocError> {
+    let kind = TcActionAttribute::Kind("nat".to_string(alloc)?);
+    let attributes = vec![in alloc; kind]?;
     let action = TcAction { tab, attributes };
     Ok(TcActionMessageAttribute::Actions(vec![in alloc; action]?))
 }
 
-fn warning(alloc: Global, text: &str) -> Result<TcActionMessageAttribute, Fail> {
+fn warning(alloc: Global, text: &str) -> Result<TcActionMessageAttribute, AllocError> {
     Ok(TcActionMessageAttribute::RootExtWarnMsg(text.to_string(alloc)?))
 }
 
-// Asserts that an attribute of an action message is written as this frame, what that reads back as, and that the message is settled exactly
-// where that is itself.
-fn action_reads_back_as(
-    rt: &impl Abort,
+fn kept_count(alloc: Global) -> Result<TcActionMessageAttribute, AllocError> {
+    Ok(TcActionMessageAttribute::Other(kept(alloc, 3, &[6, 0, 0, 0])?))
+}
+
+fn action_attribute(
     alloc: Global,
-    made: TcActionMessageAttribute,
-    frame: &[u8],
-    read: TcActionMessageAttribute,
-) -> Result<(), Fail> {
+    made: &MadeAction,
+) -> Result<TcActionMessageAttribute, AllocError> {
+    match made {
+        MadeAction::Nat(tab) => nat(alloc, *tab),
+        MadeAction::Warning(text) => warning(alloc, text),
+        MadeAction::KeptCount => kept_count(alloc),
+    }
+}
+
+/// An attribute made by hand, the frame in hex that it is written as, and the attributes that this is read as.
+type ActionRow = (MadeAction, &'static str, &'static str);
+
+#[rattlefmt::skip]
+const ACTION_MESSAGES: [ActionRow; 5] = [
+    (MadeAction::Nat(0x8001), "10000100 0c000180 08000100 6e617400", "[Actions([TcAction { tab: 1, attributes: [Kind(\"nat\")] }])]"),
+    (MadeAction::Nat(3), "10000100 0c000300 08000100 6e617400", "[Actions([TcAction { tab: 3, attributes: [Kind(\"nat\")] }])]"),
+    (MadeAction::Warning("a\0"), "06000500 61000000", "[RootExtWarnMsg(\"a\")]"),
+    (MadeAction::Warning("hi"), "06000500 68690000", "[RootExtWarnMsg(\"hi\")]"),
+    (MadeAction::KeptCount, "08000300 06000000", "[RootCount(6)]"),
+];
+
+fn action_message_of(alloc: Global, made: &MadeAction) -> Result<TcActionMessage, AllocError> {
     let mut message = TcActionMessage::default_in(alloc);
-    message.attributes.push(made)?;
-    let mut bytes = [0; 4].to_vec(alloc)?;
-    bytes.extend_from_slice(frame)?;
-    assert!(rt; is_written(&message, &bytes));
-    let again = TcActionMessage::parse(alloc, &bytes)?;
-    assert_eq!(rt; again.attributes, vec![in alloc; read]?);
-    assert_eq!(rt; message.is_settled(), again == message);
-    Ok(())
+    message.attributes.push(action_attribute(alloc, made)?)?;
+    Ok(message)
+}
+
+// Whether an action message is written and read back as these, and is settled exactly where that is itself.
+fn action_reads_back_as(
+    alloc: Global,
+    message: &TcActionMessage,
+    bytes: &[u8],
+    text: &str,
+) -> Result<bool, Fail> {
+    let again = TcActionMessage::parse(alloc, bytes)?;
+    Ok(
+        is_written(message, bytes)
+            && message.is_settled() == (again == *message)
+            && is_shown(alloc, &again.attributes, text)?,
+    )
+}
+
+fn is_action_read_back(alloc: Global, row: &ActionRow) -> Result<bool, Fail> {
+    let bytes = after_zeros(alloc, 4, row.1)?;
+    action_reads_back_as(alloc, &action_message_of(alloc, &row.0)?, &bytes, row.2)
 }
 
 #[test]
-#[rattlefmt::skip]
 fn of_action_messages(rt: HostRuntime) -> Result<(), Fail> {
-    let alloc = rt.alloc();
-    let frame = [0x10, 0, 1, 0, 12, 0, 1, 0x80, 8, 0, 1, 0, 0x6e, 0x61, 0x74, 0];
-    action_reads_back_as(&rt, alloc, nat(alloc, 0x8001)?, &frame, nat(alloc, 1)?)?;
-    let frame = [0x10, 0, 1, 0, 12, 0, 3, 0, 8, 0, 1, 0, 0x6e, 0x61, 0x74, 0];
-    action_reads_back_as(&rt, alloc, nat(alloc, 3)?, &frame, nat(alloc, 3)?)?;
-    let frame = [6, 0, 5, 0, 0x61, 0, 0, 0];
-    action_reads_back_as(&rt, alloc, warning(alloc, "a\0")?, &frame, warning(alloc, "a")?)?;
-    let frame = [6, 0, 5, 0, 0x68, 0x69, 0, 0];
-    action_reads_back_as(&rt, alloc, warning(alloc, "hi")?, &frame, warning(alloc, "hi")?)?;
-    let frame = [8, 0, 3, 0, 6, 0, 0, 0];
-    let other = TcActionMessageAttribute::Other(kept(alloc, 3, &[6, 0, 0, 0])?);
-    action_reads_back_as(&rt, alloc, other, &frame, TcActionMessageAttribute::RootCount(6))
+    for row in &ACTION_MESSAGES {
+        if !is_action_read_back(rt.alloc(), row)? {
+            return Err(Fail::new(row.1));
+        }
+    }
+    Ok(())
 }
 
 #[test]
@@ -196,81 +252,101 @@ fn of_a_header(rt: HostRuntime) -> Result<(), Fail> {
     let mut message = TcMessage::default_in(alloc);
     message.header.family = AddressFamily::Other(2);
     assert!(rt; !message.is_settled());
-    let mut buffer = [0x55; 20];
-    assert!(rt; message.fits());
-    assert_eq!(rt; message.buffer_len(), 20);
-    message.emit(&mut buffer);
-    let read = TcMessage::parse(alloc, &buffer)?;
-    assert_eq!(rt; read.header.family, AddressFamily::Inet);
+    let mut bytes = [0; 20];
+    bytes[0] = 2;
+    assert!(rt; is_written(&message, &bytes));
+    let read = TcMessage::parse(alloc, &bytes)?;
+    assert!(rt; read.header.family == AddressFamily::Inet);
     assert!(rt; read.is_settled());
     Ok(())
+}
+
+/// Whether an option, and options of it alone, are settled under a kind.
+fn is_limit_settled(alloc: Global, kind: &str, is_settled: bool) -> Result<bool, AllocError> {
+    let options = options(alloc, limit())?;
+    Ok(limit().is_settled_under(kind) == is_settled && options.is_settled_under(kind) == is_settled)
+}
+
+/// The same of an option that no table knows.
+fn is_other_settled(alloc: Global, kind: &str, is_settled: bool) -> Result<bool, AllocError> {
+    let other = TcOption::Other(kept(alloc, 2, &[5, 0, 0, 0])?);
+    Ok(other.is_settled_under(kind) == is_settled)
+}
+
+/// The same of options that are kept as they stand.
+fn is_raw_settled(alloc: Global, kind: &str, is_settled: bool) -> Result<bool, AllocError> {
+    Ok(raw(alloc, 2, &LIMIT)?.is_settled_under(kind) == is_settled)
+}
+
+/// Whether options are settled under a kind that is known, or else as they stand.
+fn are_settled_under(alloc: Global, kind: &str, is_known: bool) -> Result<bool, AllocError> {
+    Ok(
+        is_limit_settled(alloc, kind, is_known)?
+            && is_other_settled(alloc, kind, !is_known)?
+            && is_raw_settled(alloc, kind, !is_known)?,
+    )
+}
+
+/// Whether an option of `fq_codel` is settled that is kept as it stands, of this type.
+fn is_settled_of_type(alloc: Global, word: u16) -> Result<bool, AllocError> {
+    let kept = kept(alloc, word, &[5])?;
+    Ok(TcQdiscFqCodelOption::Other(kept).is_settled())
 }
 
 // Options are settled under their own kind.
 #[test]
 fn of_options_under_a_kind(rt: HostRuntime) -> Result<(), Fail> {
     let alloc = rt.alloc();
-    for (kind, is_known) in [
-        ("fq_codel", true),
-        ("fq_codel\0", false),
-        ("sfq", false),
-        ("", false),
-    ] {
-        assert_eq!(rt; limit().is_settled_under(kind), is_known, "{kind}");
-        assert_eq!(rt; options(alloc)?.is_settled_under(kind), is_known, "{kind}");
-        assert_eq!(rt;
-            raw(alloc, 2, &LIMIT)?.is_settled_under(kind),
-            !is_known,
-            "{kind}"
-        );
-        let other = TcOption::Other(kept(alloc, 2, &[5, 0, 0, 0])?);
-        assert_eq!(rt; other.is_settled_under(kind), !is_known, "{kind}");
-    }
-    for (word, is_settled) in [(2, false), (0x8002, false), (99, true), (0xc063, true)] {
-        let other: TcQdiscFqCodelOption = TcQdiscFqCodelOption::Other(kept(alloc, word, &[5])?);
-        assert_eq!(rt; other.is_settled(), is_settled, "{word}");
-    }
+    assert!(rt; are_settled_under(alloc, "fq_codel", true)?);
+    assert!(rt; are_settled_under(alloc, "fq_codel\0", false)?);
+    assert!(rt; are_settled_under(alloc, "sfq", false)?);
+    assert!(rt; are_settled_under(alloc, "", false)?);
+    assert!(rt; !is_settled_of_type(alloc, 2)?);
+    assert!(rt; !is_settled_of_type(alloc, 0x8002)?);
+    assert!(rt; is_settled_of_type(alloc, 99)?);
+    assert!(rt; is_settled_of_type(alloc, 0xc063)?);
     Ok(())
+}
+
+/// Whether both headers of this family are settled as told.
+fn is_family(family: AddressFamily, is_settled: bool) -> bool {
+    let mut header = TcHeader::default();
+    header.family = family;
+    header.is_settled() == is_settled && TcActionMessageHeader { family }.is_settled() == is_settled
+}
+
+/// Whether the records of this outcome are settled as told.
+fn is_outcome(action: TcActionType, is_settled: bool) -> bool {
+    let mut mirror = TcMirror::default();
+    mirror.generic.action = action;
+    let mut nat = TcNat::default();
+    nat.generic.action = action;
+    let mut key = TcTunnelKey::default();
+    key.generic.action = action;
+    mirror.generic.is_settled() == is_settled
+        && mirror.is_settled_under("mirred") == is_settled
+        && nat.is_settled() == is_settled
+        && key.is_settled() == is_settled
+}
+
+/// Whether a mirror of this direction is settled.
+fn is_direction_settled(eaction: TcMirrorActionType) -> bool {
+    let mut mirror = TcMirror::default();
+    mirror.eaction = eaction;
+    mirror.is_settled()
 }
 
 // A number that has a name is settled under its name.
 #[test]
 fn of_records(rt: HostRuntime) {
-    for (family, is_settled) in [
-        (AddressFamily::Inet, true),
-        (AddressFamily::Other(2), false),
-        (AddressFamily::Other(3), true),
-    ] {
-        let mut header = TcHeader::default();
-        header.family = family;
-        assert_eq!(rt; header.is_settled(), is_settled, "{family:?}");
-        let header = TcActionMessageHeader { family };
-        assert_eq!(rt; header.is_settled(), is_settled, "{family:?}");
-    }
-    for (action, is_settled) in [
-        (TcActionType::Shot, true),
-        (TcActionType::Other(-1), false),
-        (TcActionType::Other(2), false),
-        (TcActionType::Other(9), true),
-    ] {
-        let mut mirror = TcMirror::default();
-        mirror.generic.action = action;
-        assert_eq!(rt; mirror.generic.is_settled(), is_settled, "{action:?}");
-        assert_eq!(rt; mirror.is_settled_under("mirred"), is_settled, "{action:?}");
-        let mut nat = TcNat::default();
-        nat.generic.action = action;
-        assert_eq!(rt; nat.is_settled(), is_settled, "{action:?}");
-        let mut key = TcTunnelKey::default();
-        key.generic.action = action;
-        assert_eq!(rt; key.is_settled(), is_settled, "{action:?}");
-    }
-    for (eaction, is_settled) in [
-        (TcMirrorActionType::IngressMirror, true),
-        (TcMirrorActionType::Other(4), false),
-        (TcMirrorActionType::Other(0), true),
-    ] {
-        let mut mirror = TcMirror::default();
-        mirror.eaction = eaction;
-        assert_eq!(rt; mirror.is_settled(), is_settled, "{eaction:?}");
-    }
+    assert!(rt; is_family(AddressFamily::Inet, true));
+    assert!(rt; is_family(AddressFamily::Other(2), false));
+    assert!(rt; is_family(AddressFamily::Other(3), true));
+    assert!(rt; is_outcome(TcActionType::Shot, true));
+    assert!(rt; is_outcome(TcActionType::Other(-1), false));
+    assert!(rt; is_outcome(TcActionType::Other(2), false));
+    assert!(rt; is_outcome(TcActionType::Other(9), true));
+    assert!(rt; is_direction_settled(TcMirrorActionType::IngressMirror));
+    assert!(rt; !is_direction_settled(TcMirrorActionType::Other(4)));
+    assert!(rt; is_direction_settled(TcMirrorActionType::Other(0)));
 }

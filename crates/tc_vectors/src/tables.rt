@@ -2,7 +2,9 @@
 
 ghost use Rattle.std.specs.Prelude.{◌<◌};
 
-use nla_frames::{Emitable, Nla, NlaBuffer, Parseable, emit_list, list_fits, list_len};
+use nla_frames::{
+    Emitable, Nla, NlaBuffer, Parseable, ParseableParametrized, emit_list, list_fits, list_len,
+};
 use std::alloc::{AllocError, Allocator, Global};
 use std::fmt::Debug;
 use std::test::Fail;
@@ -45,7 +47,7 @@ pub(crate) fn after_zeros(
 }
 
 /// What is written: the same bytes, where nothing else is told.
-pub(crate) fn or_same(bytes: &'static str, written: &'static str) -> &'static str {
+pub(crate) fn or_same<'a>(bytes: &'a str, written: &'a str) -> &'a str {
     if written.is_empty() { bytes } else { written }
 }
 
@@ -64,14 +66,28 @@ pub(crate) fn are_written<T: Nla>(list: &[T], bytes: &[u8]) -> bool {
     &buffer[..bytes.len()] == bytes
 }
 
-/// Whether a message is written as these bytes.
+/// Whether a message is written as these bytes, over a longer buffer whose rest stays.
 pub(crate) fn is_written<M: Emitable>(message: &M, bytes: &[u8]) -> bool {
     let mut buffer = [0x55; 640];
     if !message.fits() || message.buffer_len() != bytes.len() || bytes.len() > buffer.len() {
         return false;
     }
     message.emit(&mut buffer);
-    &buffer[..bytes.len()] == bytes
+    &buffer[..bytes.len()] == bytes && &buffer[bytes.len()..] == &[0x55; 640][bytes.len()..]
+}
+
+/// Whether a value has this text, and is written as these bytes in hex.
+fn is_as_told<T: Nla + Debug + Drop>(
+    alloc: Global,
+    value: T,
+    text: &str,
+    written: &str,
+) -> Result<bool, AllocError> {
+    let written = bytes_of(alloc, written)?;
+    let is_shown = is_shown(alloc, &value, text)?;
+    let mut list = Vec::new(alloc);
+    list.push(value)?;
+    Ok(is_shown && are_written(&list, &written))
 }
 
 /// Whether a frame is read as an attribute of this text, and that written as it has to be.
@@ -82,22 +98,31 @@ fn is_known<T: Parseable<Global> + Nla + Debug + Drop>(
     let (frame, text, written) = *row;
     let bytes = bytes_of(alloc, frame)?;
     let read = T::parse(alloc, &NlaBuffer::new_checked(&bytes)?)?;
-    let written = bytes_of(alloc, or_same(frame, written))?;
-    let is_shown = is_shown(alloc, &read, text)?;
-    let mut list = Vec::new(alloc);
-    list.push(read)?;
-    Ok(is_shown && are_written(&list, &written))
+    Ok(is_as_told(alloc, read, text, or_same(frame, written))?)
 }
 
-/// The first row that is read or written as another.
-pub(crate) fn misread<T: Parseable<Global> + Nla + Debug + Drop>(
+/// Judges each row, and tells the first that is read or written as another.
+pub(crate) fn are_known<T: Parseable<Global> + Nla + Debug + Drop>(
     alloc: Global,
     rows: &[Row],
-) -> Result<Option<&'static str>, Fail> {
+) -> Result<(), Fail> {
     for row in rows {
         if !is_known::<T>(alloc, row)? {
-            return Ok(Some(row.0));
+            return Err(Fail::new(row.0));
         }
     }
-    Ok(None)
+    Ok(())
+}
+
+/// Whether a frame is read under a kind as an attribute of this text, and that written as these bytes in hex.
+pub(crate) fn is_known_under<T: ParseableParametrized<Global> + Nla + Debug + Drop>(
+    alloc: Global,
+    kind: &str,
+    frame: &str,
+    text: &str,
+    written: &str,
+) -> Result<bool, Fail> {
+    let bytes = bytes_of(alloc, frame)?;
+    let read = T::parse_with_param(alloc, &NlaBuffer::new_checked(&bytes)?, kind)?;
+    Ok(is_as_told(alloc, read, text, written)?)
 }

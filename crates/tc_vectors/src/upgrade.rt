@@ -1,8 +1,9 @@
 //! Messages that the first version read, and what they are now.
 
-use crate::tables::{is_shown, is_written};
+use crate::made::{kept, kind, options, with};
+use crate::settled::reads_back_as;
+use crate::tables::{after_zeros, is_shown};
 use failing::Failing;
-use nla_frames::{DefaultNla, ParseableBytes};
 use std::alloc::{AllocError, Allocator, Global};
 use std::test::Fail;
 use tc_options::{TcOption, TcQdiscFqCodelOption};
@@ -25,39 +26,61 @@ const ROWS: [Row; 8] = [
     ("fq_codel\0", &[(2, &[1])], "[Kind(\"fq_codel\\0\"), OptionsRaw(DefaultNla { word: 2, value: [1] })]"),
 ];
 
+/// Options that no table knows.
+fn unknown<A: Allocator + Copy>(
+    alloc: A,
+    rows: &[(u16, &[u8])],
+) -> Result<TcAttribute<A>, AllocError> {
+    let mut options = Vec::new(alloc);
+    for (word, value) in rows {
+        options.push(TcOption::Other(kept(alloc, *word, value)?))?;
+    }
+    Ok(TcAttribute::Options(options))
+}
+
 /// The message of a row.
 fn made<A: Allocator + Copy>(alloc: A, row: &Row) -> Result<TcMessage<A>, AllocError> {
-    let mut message = TcMessage::default_in(alloc);
-    if !row.0.is_empty() {
+    let message = TcMessage::default_in(alloc);
+    let message = if row.0.is_empty() {
         message
-            .attributes
-            .push(TcAttribute::Kind(row.0.to_string(alloc)?))?;
-    }
-    let mut options = Vec::new(alloc);
-    for (word, value) in row.1 {
-        options.push(TcOption::Other(DefaultNla::new(*word, value.to_vec(alloc)?)))?;
-    }
-    message.attributes.push(TcAttribute::Options(options))?;
-    Ok(message)
+    } else {
+        with(message, kind(alloc, row.0))?
+    };
+    with(message, unknown(alloc, row.1))
+}
+
+/// Whether a message has an empty header and attributes of this text.
+fn has_attributes(alloc: Global, message: &TcMessage, text: &str) -> Result<bool, AllocError> {
+    Ok(is_shown(alloc, &message.attributes, text)? && message.header == TcHeader::default())
 }
 
 /// Whether a message becomes what it has to, once and twice.
-fn is_upgraded(alloc: Global, message: TcMessage, text: &str) -> Result<bool, Fail> {
+fn is_upgraded(alloc: Global, message: TcMessage, text: &str) -> Result<bool, AllocError> {
     let once = message.upgrade();
-    let is_first = once.header == TcHeader::default() && is_shown(alloc, &once.attributes, text)?;
-    let twice = once.upgrade();
-    let is_second = twice.header == TcHeader::default()
-        && is_shown(alloc, &twice.attributes, text)?;
-    Ok(is_first && is_second)
+    if !has_attributes(alloc, &once, text)? {
+        return Ok(false);
+    }
+    has_attributes(alloc, &once.upgrade(), text)
 }
 
 #[test]
 fn worked(rt: HostRuntime) -> Result<(), Fail> {
     let alloc = rt.alloc();
     for row in &ROWS {
-        assert!(rt; is_upgraded(alloc, made(alloc, row)?, row.2)?, "{}", row.2);
+        if !is_upgraded(alloc, made(alloc, row)?, row.2)? {
+            return Err(Fail::new(row.2));
+        }
     }
     Ok(())
+}
+
+/// Whether a message becomes another with an empty header, and asks for no memory.
+fn is_upgraded_without_memory(failing: &Failing<Global>, row: &Row) -> Result<bool, AllocError> {
+    failing.refuse(0);
+    let message = made(failing, row)?;
+    failing.refuse(1);
+    let upgraded = message.upgrade().upgrade();
+    Ok(!failing.has_refused() && upgraded.header == TcHeader::default())
 }
 
 // The next request for memory is refused, and none is made.
@@ -65,64 +88,48 @@ fn worked(rt: HostRuntime) -> Result<(), Fail> {
 fn without_memory(rt: HostRuntime) -> Result<(), Fail> {
     let failing = Failing::new(rt.alloc(), 0);
     for row in &ROWS {
-        failing.refuse(0);
-        let message = made(&failing, row)?;
-        failing.refuse(1);
-        let upgraded = message.upgrade().upgrade();
-        assert!(rt; !failing.has_refused(), "{}", row.2);
-        assert_eq!(rt; upgraded.header, TcHeader::default());
+        if !is_upgraded_without_memory(&failing, row)? {
+            return Err(Fail::new(row.2));
+        }
     }
     Ok(())
 }
 
+/// A message of two kinds, options of `fq_codel`, and options that no table knows.
+fn of_two_kinds(alloc: Global, first: &str, second: &str) -> Result<TcMessage, AllocError> {
+    let limit = TcOption::FqCodel(TcQdiscFqCodelOption::Limit(5));
+    let message = with(TcMessage::default_in(alloc), kind(alloc, first))?;
+    let message = with(message, kind(alloc, second))?;
+    let message = with(message, options(alloc, limit))?;
+    with(message, unknown(alloc, &[(2, &[7])]))
+}
+
+/// Whether the attributes of such a message become these.
+fn becomes(alloc: Global, first: &str, second: &str, text: &str) -> Result<bool, AllocError> {
+    let upgraded = of_two_kinds(alloc, first, second)?.upgrade();
+    is_shown(alloc, &upgraded.attributes, text)
+}
+
+const FQ_CODEL_LAST: &str =
+    "[Kind(\"sfq\"), Kind(\"fq_codel\"), Options([FqCodel(Limit(5))]), Options([Other(DefaultNla { word: 2, value: [7] })])]";
+
+const SFQ_LAST: &str =
+    "[Kind(\"fq_codel\"), Kind(\"sfq\"), Options([FqCodel(Limit(5))]), OptionsRaw(DefaultNla { word: 2, value: [7] })]";
+
 // Options of their own kind stay; the kind that counts is the last before them.
 #[test]
 fn the_last_kind_counts(rt: HostRuntime) -> Result<(), Fail> {
-    let alloc = rt.alloc();
-    let limit = TcOption::FqCodel(TcQdiscFqCodelOption::Limit(5));
-    for (first, second, text) in [
-        (
-            "sfq",
-            "fq_codel",
-            "[Kind(\"sfq\"), Kind(\"fq_codel\"), Options([FqCodel(Limit(5))]), Options([Other(DefaultNla { word: 2, value: [7] })])]",
-        ),
-        (
-            "fq_codel",
-            "sfq",
-            "[Kind(\"fq_codel\"), Kind(\"sfq\"), Options([FqCodel(Limit(5))]), OptionsRaw(DefaultNla { word: 2, value: [7] })]",
-        ),
-    ] {
-        let mut message = TcMessage::default_in(alloc);
-        message
-            .attributes
-            .push(TcAttribute::Kind(first.to_string(alloc)?))?;
-        message
-            .attributes
-            .push(TcAttribute::Kind(second.to_string(alloc)?))?;
-        message
-            .attributes
-            .push(TcAttribute::Options(vec![in alloc; limit.clone()?]?))?;
-        let other = TcOption::Other(DefaultNla::new(2, [7].to_vec(alloc)?));
-        message
-            .attributes
-            .push(TcAttribute::Options(vec![in alloc; other]?))?;
-        assert!(rt;
-            is_shown(alloc, &message.upgrade().attributes, text)?,
-            "{first}"
-        );
-    }
+    assert!(rt; becomes(rt.alloc(), "sfq", "fq_codel", FQ_CODEL_LAST)?);
+    assert!(rt; becomes(rt.alloc(), "fq_codel", "sfq", SFQ_LAST)?);
     Ok(())
 }
 
 // What the first version made of options without a kind is written as they came.
 #[test]
 fn written_as_they_came(rt: HostRuntime) -> Result<(), Fail> {
-    let alloc = rt.alloc();
-    let message = made(alloc, &ROWS[0])?.upgrade();
-    let mut bytes = [0; 20].to_vec(alloc)?;
-    bytes.extend_from_slice(&[12, 0, 2, 0, 8, 0, 2, 0, 0, 0x28, 0, 0])?;
-    assert!(rt; is_written(&message, &bytes));
-    assert_eq!(rt; TcMessage::parse(alloc, &bytes)?, message);
+    let bytes = after_zeros(rt.alloc(), 20, "0c000200 08000200 00280000")?;
+    let message = made(rt.alloc(), &ROWS[0])?.upgrade();
     assert!(rt; message.is_settled());
+    assert!(rt; reads_back_as(rt.alloc(), &message, &bytes, ROWS[0].2)?);
     Ok(())
 }

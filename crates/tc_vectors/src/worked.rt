@@ -1,8 +1,9 @@
 //! Worked messages: what they are read as, what is written of them, and why others are refused.
 
+use crate::made::{kind, options, with};
 use crate::tables::{after_zeros, is_shown, is_written, or_same};
 use nla_frames::{AddressFamily, DecodeError, DefaultNla, Emitable, ParseableBytes};
-use std::alloc::Global;
+use std::alloc::{AllocError, Global};
 use std::test::Fail;
 use tc_action_messages::TcActionMessage;
 use tc_canon::{is_canonical_action, is_canonical_tc};
@@ -99,44 +100,89 @@ pub(crate) const ACTION_FAULTS: [Refused; 7] = [
     ("08000300 06000000 0000", "FrameHeaderShort { left: 2 }"),
 ];
 
-fn is_known(alloc: Global, row: &Worked) -> Result<bool, Fail> {
-    let (frames, text, written, is_settled) = *row;
-    let bytes = after_zeros(alloc, 20, frames)?;
-    let message = TcMessage::parse(alloc, &bytes)?;
-    let written = after_zeros(alloc, 20, or_same(frames, written))?;
+/// Whether bytes are read as a message of this header and of attributes of this text, which its clone is too, and it is written, settled and
+/// canonical as it has to be.
+pub(crate) fn is_read_as(
+    alloc: Global,
+    bytes: &[u8],
+    header: TcHeader,
+    text: &str,
+    written: &[u8],
+    is_settled: bool,
+) -> Result<bool, Fail> {
+    let message = TcMessage::parse(alloc, bytes)?;
     Ok(
-        message.header == TcHeader::default()
+        message.header == header
             && is_shown(alloc, &message.attributes, text)?
-            && is_written(&message, &written)
+            && is_written(&message, written)
             && message.is_settled() == is_settled
-            && is_canonical_tc(&bytes) == (bytes == written)
+            && is_canonical_tc(bytes) == (bytes == written)
             && message.clone()? == message,
     )
 }
 
-fn is_refused(alloc: Global, row: &Refused) -> Result<bool, Fail> {
-    match TcMessage::parse(alloc, &after_zeros(alloc, 20, row.0)?) {
-        Ok(_) => Ok(false),
-        Err(fault) => Ok(is_shown(alloc, &fault, row.1)?),
-    }
+fn is_read(alloc: Global, row: &Worked) -> Result<bool, Fail> {
+    let (frames, text, written, is_settled) = *row;
+    let bytes = after_zeros(alloc, 20, frames)?;
+    let written = after_zeros(alloc, 20, or_same(frames, written))?;
+    is_read_as(
+        alloc,
+        &bytes,
+        TcHeader::default(),
+        text,
+        &written,
+        is_settled,
+    )
 }
 
-#[test]
-fn messages(rt: HostRuntime) -> Result<(), Fail> {
-    for row in &TC {
-        assert!(rt; is_known(rt.alloc(), row)?, "{}", row.0);
-    }
-    for row in &TC_FAULTS {
-        assert!(rt; is_refused(rt.alloc(), row)?, "{}", row.0);
+/// Judges each row of messages, and tells the first that is read or written as another.
+pub(crate) fn are_read(alloc: Global, rows: &[Worked]) -> Result<(), Fail> {
+    for row in rows {
+        if !is_read(alloc, row)? {
+            return Err(Fail::new(row.0));
+        }
     }
     Ok(())
 }
 
-fn is_known_action(alloc: Global, row: &Worked) -> Result<bool, Fail> {
+pub(crate) fn fault_of(alloc: Global, bytes: &[u8]) -> Option<DecodeError> {
+    TcMessage::parse(alloc, bytes).err()
+}
+
+/// Whether there is a fault of this text.
+fn is_fault(alloc: Global, fault: &Option<DecodeError>, text: &str) -> Result<bool, AllocError> {
+    match fault {
+        None => Ok(false),
+        Some(fault) => is_shown(alloc, fault, text),
+    }
+}
+
+fn is_refused(alloc: Global, row: &Refused) -> Result<bool, AllocError> {
+    let bytes = after_zeros(alloc, 20, row.0)?;
+    is_fault(alloc, &fault_of(alloc, &bytes), row.1)
+}
+
+/// Judges each row of messages, and tells the first that isn't refused with its fault.
+pub(crate) fn are_refused(alloc: Global, rows: &[Refused]) -> Result<(), Fail> {
+    for row in rows {
+        if !is_refused(alloc, row)? {
+            return Err(Fail::new(row.0));
+        }
+    }
+    Ok(())
+}
+
+#[test]
+fn messages(rt: HostRuntime) -> Result<(), Fail> {
+    are_read(rt.alloc(), &TC)?;
+    are_refused(rt.alloc(), &TC_FAULTS)
+}
+
+fn is_action_read(alloc: Global, row: &Worked) -> Result<bool, Fail> {
     let (frames, text, written, is_settled) = *row;
     let bytes = after_zeros(alloc, 4, frames)?;
-    let message = TcActionMessage::parse(alloc, &bytes)?;
     let written = after_zeros(alloc, 4, or_same(frames, written))?;
+    let message = TcActionMessage::parse(alloc, &bytes)?;
     Ok(
         message.header == TcActionMessageHeader::default()
             && is_shown(alloc, &message.attributes, text)?
@@ -147,100 +193,106 @@ fn is_known_action(alloc: Global, row: &Worked) -> Result<bool, Fail> {
     )
 }
 
-fn is_refused_action(alloc: Global, row: &Refused) -> Result<bool, Fail> {
-    match TcActionMessage::parse(alloc, &after_zeros(alloc, 4, row.0)?) {
-        Ok(_) => Ok(false),
-        Err(fault) => Ok(is_shown(alloc, &fault, row.1)?),
-    }
+fn is_action_refused(alloc: Global, row: &Refused) -> Result<bool, AllocError> {
+    let bytes = after_zeros(alloc, 4, row.0)?;
+    is_fault(alloc, &TcActionMessage::parse(alloc, &bytes).err(), row.1)
 }
 
 #[test]
 fn action_messages(rt: HostRuntime) -> Result<(), Fail> {
     for row in &ACTIONS {
-        assert!(rt; is_known_action(rt.alloc(), row)?, "{}", row.0);
+        if !is_action_read(rt.alloc(), row)? {
+            return Err(Fail::new(row.0));
+        }
     }
     for row in &ACTION_FAULTS {
-        assert!(rt; is_refused_action(rt.alloc(), row)?, "{}", row.0);
+        if !is_action_refused(rt.alloc(), row)? {
+            return Err(Fail::new(row.0));
+        }
     }
     Ok(())
 }
+
+const INET: &str =
+    "TcActionMessage { header: TcActionMessageHeader { family: Inet }, attributes: [] }";
+
+const UNSPEC: &str =
+    "TcActionMessage { header: TcActionMessageHeader { family: Unspec }, attributes: [] }";
 
 // A header with a family, and with padding that isn't zero; and one that is short.
 #[test]
 fn headers_of_action_messages(rt: HostRuntime) -> Result<(), Fail> {
     let alloc = rt.alloc();
     let message = TcActionMessage::parse(alloc, &[2, 0, 0, 7])?;
-    assert!(rt;
-        is_shown(
-            alloc,
-            &message,
-            "TcActionMessage { header: TcActionMessageHeader { family: Inet }, attributes: [] }"
-        )?
-    );
+    assert!(rt; is_shown(alloc, &message, INET)?);
     assert!(rt; is_written(&message, &[2, 0, 0, 0]));
     let mut message = TcActionMessage::default_in(alloc);
-    assert!(rt;
-        is_shown(
-            alloc,
-            &message,
-            "TcActionMessage { header: TcActionMessageHeader { family: Unspec }, attributes: [] }"
-        )?
-    );
+    assert!(rt; is_shown(alloc, &message, UNSPEC)?);
     assert!(rt; message.is_settled());
     message.header.family = AddressFamily::Other(2);
     assert!(rt; !message.is_settled());
     assert!(rt; is_written(&message, &[2, 0, 0, 0]));
     let fault = DecodeError::BufferTooSmall { len: 3, needed: 4 };
-    assert_eq!(rt; TcActionMessage::parse(alloc, &[0; 3]).err(), Some(fault));
+    assert!(rt; TcActionMessage::parse(alloc, &[0; 3]).err() == Some(fault));
     Ok(())
 }
 
 // ---- what is too long
 
-/// `Options` of one attribute of this kind and of an unknown type with so many bytes.
-fn with_option(alloc: Global, kind: &str, length: usize) -> Result<TcMessage, Fail> {
-    let other = DefaultNla::new(99, vec![in alloc; 0xaa; length]?);
-    let option = match kind {
-        "ingress" => TcOption::Ingress(TcQdiscIngressOption::Other(other)),
-        _ => TcOption::FqCodel(TcQdiscFqCodelOption::Other(other)),
-    };
-    let options = TcAttribute::Options(vec![in alloc; option]?);
-    let attributes = vec![in alloc; TcAttribute::Kind(kind.to_string(alloc)?), options]?;
-    Ok(TcMessage::from_parts(TcHeader::default(), attributes))
+/// An attribute of an unknown type with so many bytes.
+fn long(alloc: Global, length: usize) -> Result<DefaultNla, AllocError> {
+    Ok(DefaultNla::new(99, vec![in alloc; 0xaa; length]?))
+}
+
+/// A message of a kind and of this one option.
+fn with_option(alloc: Global, name: &str, option: TcOption) -> Result<TcMessage, AllocError> {
+    let message = with(TcMessage::default_in(alloc), kind(alloc, name))?;
+    with(message, options(alloc, option))
+}
+
+fn with_ingress_option(alloc: Global, length: usize) -> Result<TcMessage, AllocError> {
+    let option = TcQdiscIngressOption::Other(long(alloc, length)?);
+    with_option(alloc, "ingress", TcOption::Ingress(option))
+}
+
+/// Whether a message fits that has an option `fq_codel` of so many bytes.
+fn fits(alloc: Global, length: usize) -> Result<bool, AllocError> {
+    let option = TcQdiscFqCodelOption::Other(long(alloc, length)?);
+    Ok(with_option(alloc, "fq_codel", TcOption::FqCodel(option))?.fits())
 }
 
 #[test]
 fn long_messages(rt: HostRuntime) -> Result<(), Fail> {
     let alloc = rt.alloc();
     let bytes = too_long(alloc, Form::Tc)?.bytes;
-    assert_eq!(rt; bytes.len(), 65568);
+    assert!(rt; bytes.len() == 65568);
+    assert!(rt; !is_canonical_tc(&bytes));
     let message = TcMessage::parse(alloc, &bytes)?;
-    assert_eq!(rt; message, with_option(alloc, "ingress", 65527)?);
     assert!(rt; !message.fits());
     assert!(rt; message.is_settled());
-    assert!(rt; !is_canonical_tc(&bytes));
-    for (length, fits) in [(65524, true), (65525, false)] {
-        assert_eq!(rt;
-            with_option(alloc, "fq_codel", length)?.fits(),
-            fits,
-            "{length}"
-        );
-    }
+    assert!(rt; message == with_ingress_option(alloc, 65527)?);
+    assert!(rt; fits(alloc, 65524)?);
+    assert!(rt; !fits(alloc, 65525)?);
     Ok(())
+}
+
+/// The length of a message of rates of these lengths, if it fits.
+fn length_of(alloc: Global, rates: &[usize]) -> Result<Option<usize>, AllocError> {
+    let mut message = TcMessage::default_in(alloc);
+    for length in rates {
+        let rate = vec![in alloc; 0; *length]?;
+        message = with(message, Ok(TcAttribute::Rate(rate)))?;
+    }
+    Ok(if message.fits() {
+        Some(message.buffer_len())
+    } else {
+        None
+    })
 }
 
 #[test]
 fn long_attributes(rt: HostRuntime) -> Result<(), Fail> {
-    let alloc = rt.alloc();
-    let mut message = TcMessage::default_in(alloc);
-    message
-        .attributes
-        .push(TcAttribute::Rate(vec![in alloc; 0; 65531]?))?;
-    assert!(rt; message.fits());
-    assert_eq!(rt; message.buffer_len(), 65556);
-    message
-        .attributes
-        .push(TcAttribute::Rate(vec![in alloc; 0; 65532]?))?;
-    assert!(rt; !message.fits());
+    assert!(rt; length_of(rt.alloc(), &[65531])? == Some(65556));
+    assert!(rt; length_of(rt.alloc(), &[65531, 65532])? == None);
     Ok(())
 }

@@ -1,98 +1,61 @@
 //! The attributes of a message, type by type.
 
-use nla_frames::{
-    DefaultNla, Nla, NlaBuffer, ParseableParametrized, emit_list, list_fits, list_len,
-};
+use crate::tables::is_known_under;
+use nla_frames::{NlaBuffer, ParseableParametrized};
 use std::alloc::Global;
-use std::process::Abort;
 use std::test::Fail;
-use tc_options::{TcOption, TcQdiscFqCodelOption};
-use tc_records::TcStats;
-use tc_wire::{TcAttribute, TcFqCodelXstats, TcStats2, TcXstats};
+use tc_wire::TcAttribute;
 
-/// Asserts that a list of one attribute is written as its frame.
-pub(crate) fn are_written<T: Nla>(rt: &impl Abort, list: &[T], frame: &[u8]) {
-    let mut buffer = [0x55; 64];
-    assert!(rt; list_fits(list));
-    assert_eq!(rt; list_len(list), frame.len());
-    assert!(rt; frame.len() <= buffer.len());
-    emit_list(list, &mut buffer);
-    assert_eq!(rt; &buffer[..frame.len()], frame);
-}
+/// A kind, a frame in hex, and the attribute that it is read as under the kind.
+type Row = (&'static str, &'static str, &'static str);
 
-/// Asserts that a frame reads as an attribute under a kind, and that the attribute is written as the frame.
-fn is_known(
-    rt: &impl Abort,
-    alloc: Global,
-    kind: &str,
-    frame: &[u8],
-    attribute: TcAttribute,
-) -> Result<(), Fail> {
-    let read = TcAttribute::parse_with_param(alloc, &NlaBuffer::new_checked(frame)?, kind)?;
-    assert_eq!(rt; read, attribute);
-    are_written(rt, &[attribute], frame);
+#[rattlefmt::skip]
+const ATTRIBUTES: [Row; 13] = [
+    ("", "08000100 73667100", "Kind(\"sfq\")"),
+    ("fq_codel", "0c000200 08000200 24232221", "Options([FqCodel(Limit(555885348))])"),
+    ("sfq", "07000200 a1a2a300", "OptionsRaw(DefaultNla { word: 2, value: [161, 162, 163] })"),
+    ("sfq", "07000400 a1a2a300", "Xstats(Other([161, 162, 163]))"),
+    ("fq_codel", "08000400 02000000", "Xstats(FqCodel(Other([2, 0, 0, 0])))"),
+    ("", "07000500 a1a2a300", "Rate([161, 162, 163])"),
+    ("", "07000600 a1a2a300", "Fcnt([161, 162, 163])"),
+    ("fq_codel", "0c000700 08000400 02000000", "Stats2([App(FqCodel(Other([2, 0, 0, 0])))])"),
+    ("", "07000800 a1a2a300", "Stab([161, 162, 163])"),
+    ("", "04000a00", "DumpInvisible(true)"),
+    ("", "08000b00 b4b3b2b1", "Chain(2981278644)"),
+    ("", "05000c00 c1000000", "HwOffload(193)"),
+    ("", "07000980 a1a2a300", "Other(DefaultNla { word: 32777, value: [161, 162, 163] })"),
+];
+
+#[rattlefmt::skip]
+const STATISTICS: [Row; 1] = [
+    ("", "2c000300 0102030405060708 090a0b0c 0d0e0f10 11121314 15161718 191a1b1c 1d1e1f20 21222324 00000000", "Stats(TcStats { bytes: 578437695752307201, packets: 202050057, drops: 269422093, overlimits: 336794129, bps: 404166165, pps: 471538201, qlen: 538910237, backlog: 606282273 })"),
+];
+
+/// Judges each row, and tells the first that is read as another, or isn't written as it came.
+fn are_known(alloc: Global, rows: &[Row]) -> Result<(), Fail> {
+    for (kind, frame, text) in rows {
+        if !is_known_under::<TcAttribute>(alloc, kind, frame, text, frame)? {
+            return Err(Fail::new(*frame));
+        }
+    }
     Ok(())
-}
-
-fn bytes(alloc: Global) -> Result<Vec<u8>, Fail> {
-    Ok([0xa1, 0xa2, 0xa3].to_vec(alloc)?)
-}
-
-fn kind(alloc: Global) -> Result<TcAttribute, Fail> {
-    Ok(TcAttribute::Kind("sfq".to_string(alloc)?))
-}
-
-fn options(alloc: Global) -> Result<TcAttribute, Fail> {
-    let limit = TcOption::FqCodel(TcQdiscFqCodelOption::Limit(0x2122_2324));
-    Ok(TcAttribute::Options(vec![in alloc; limit]?))
-}
-
-fn xstats(alloc: Global) -> Result<TcXstats, Fail> {
-    Ok(TcXstats::FqCodel(TcFqCodelXstats::Other([2, 0, 0, 0].to_vec(alloc)?)))
-}
-
-fn kept(alloc: Global, word: u16) -> Result<DefaultNla, Fail> {
-    Ok(DefaultNla::new(word, bytes(alloc)?))
 }
 
 #[test]
-#[rattlefmt::skip]
 fn of_a_message(rt: HostRuntime) -> Result<(), Fail> {
-    let alloc = rt.alloc();
-    is_known(&rt, alloc, "", &[8, 0, 1, 0, 0x73, 0x66, 0x71, 0], kind(alloc)?)?;
-    is_known(&rt, alloc, "fq_codel", &[12, 0, 2, 0, 8, 0, 2, 0, 0x24, 0x23, 0x22, 0x21], options(alloc)?)?;
-    is_known(&rt, alloc, "sfq", &[7, 0, 2, 0, 0xa1, 0xa2, 0xa3, 0], TcAttribute::OptionsRaw(kept(alloc, 2)?))?;
-    is_known(&rt, alloc, "sfq", &[7, 0, 4, 0, 0xa1, 0xa2, 0xa3, 0], TcAttribute::Xstats(TcXstats::Other(bytes(alloc)?)))?;
-    is_known(&rt, alloc, "fq_codel", &[8, 0, 4, 0, 2, 0, 0, 0], TcAttribute::Xstats(xstats(alloc)?))?;
-    is_known(&rt, alloc, "", &[7, 0, 5, 0, 0xa1, 0xa2, 0xa3, 0], TcAttribute::Rate(bytes(alloc)?))?;
-    is_known(&rt, alloc, "", &[7, 0, 6, 0, 0xa1, 0xa2, 0xa3, 0], TcAttribute::Fcnt(bytes(alloc)?))?;
-    is_known(&rt, alloc, "fq_codel", &[12, 0, 7, 0, 8, 0, 4, 0, 2, 0, 0, 0], TcAttribute::Stats2(vec![in alloc; TcStats2::App(xstats(alloc)?)]?))?;
-    is_known(&rt, alloc, "", &[7, 0, 8, 0, 0xa1, 0xa2, 0xa3, 0], TcAttribute::Stab(bytes(alloc)?))?;
-    is_known(&rt, alloc, "", &[4, 0, 10, 0], TcAttribute::DumpInvisible(true))?;
-    is_known(&rt, alloc, "", &[8, 0, 11, 0, 0xb4, 0xb3, 0xb2, 0xb1], TcAttribute::Chain(0xb1b2_b3b4))?;
-    is_known(&rt, alloc, "", &[5, 0, 12, 0, 0xc1, 0, 0, 0], TcAttribute::HwOffload(0xc1))?;
-    is_known(&rt, alloc, "", &[7, 0, 9, 0x80, 0xa1, 0xa2, 0xa3, 0], TcAttribute::Other(kept(alloc, 0x8009)?))?;
-    Ok(())
+    are_known(rt.alloc(), &ATTRIBUTES)
 }
 
 #[test]
 fn statistics_of_a_message(rt: HostRuntime) -> Result<(), Fail> {
-    #[rattlefmt::skip]
-    let frame = [
-        44, 0, 3, 0,
-        1, 2, 3, 4, 5, 6, 7, 8, 9, 10, 11, 12, 13, 14, 15, 16, 17, 18, 19, 20,
-        21, 22, 23, 24, 25, 26, 27, 28, 29, 30, 31, 32, 33, 34, 35, 36, 0, 0, 0, 0,
-    ];
-    let stats = TcStats::parse(&frame[4..])?;
-    is_known(&rt, rt.alloc(), "", &frame, TcAttribute::Stats(stats))
+    are_known(rt.alloc(), &STATISTICS)
 }
 
 // The flags of a word are not looked at where the type is in the table.
 #[test]
 fn flags_of_a_word(rt: HostRuntime) -> Result<(), Fail> {
-    let alloc = rt.alloc();
     let frame = NlaBuffer::new_checked(&[8, 0, 11, 0xc0, 0xb4, 0xb3, 0xb2, 0xb1])?;
-    let read = TcAttribute::parse_with_param(alloc, &frame, "")?;
-    assert_eq!(rt; read, TcAttribute::Chain(0xb1b2_b3b4));
+    let read = TcAttribute::parse_with_param(rt.alloc(), &frame, "")?;
+    assert!(rt; read == TcAttribute::Chain(0xb1b2_b3b4));
     Ok(())
 }

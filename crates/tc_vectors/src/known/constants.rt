@@ -18,70 +18,68 @@ use tc_records::{
 
 #[test]
 fn frames(rt: HostRuntime) {
-    assert_eq!(rt; NLA_F_NESTED, 0x8000);
-    assert_eq!(rt; NLA_F_NET_BYTEORDER, 0x4000);
-    assert_eq!(rt; NLA_TYPE_MASK, 0x3fff);
-    assert_eq!(rt; NLA_HEADER_SIZE, 4);
-    assert_eq!(rt; NLA_VALUE_MAX_SIZE, 65531);
+    assert!(rt; NLA_F_NESTED == 0x8000);
+    assert!(rt; NLA_F_NET_BYTEORDER == 0x4000);
+    assert!(rt; NLA_TYPE_MASK == 0x3fff);
+    assert!(rt; NLA_HEADER_SIZE == 4);
+    assert!(rt; NLA_VALUE_MAX_SIZE == 65531);
 }
 
 #[test]
 fn lengths(rt: HostRuntime) {
-    assert_eq!(rt; TC_HEADER_LEN, 20);
-    assert_eq!(rt; TCA_HEADER_LEN, 4);
-    assert_eq!(rt; TC_STATS_LEN, 40);
-    assert_eq!(rt; TC_STATS_BASIC_LEN, 16);
-    assert_eq!(rt; TC_STATS_QUEUE_LEN, 20);
-    assert_eq!(rt; TC_FQ_CODEL_QD_STATS_LEN, 36);
-    assert_eq!(rt; TC_FQ_CODEL_CL_STATS_LEN, 24);
-    assert_eq!(rt; TCF_LEN, 32);
-    assert_eq!(rt; TC_ACTION_GENERIC_LEN, 20);
-    assert_eq!(rt; TC_MIRROR_LEN, 28);
-    assert_eq!(rt; TC_NAT_LEN, 36);
-    assert_eq!(rt; TC_TUNNEL_KEY_LEN, 24);
-    assert_eq!(rt; TC_U32_KEY_LEN, 16);
-    assert_eq!(rt; TC_U32_SELECTOR_LEN, 16);
+    assert!(rt; TC_HEADER_LEN == 20);
+    assert!(rt; TCA_HEADER_LEN == 4);
+    assert!(rt; TC_STATS_LEN == 40);
+    assert!(rt; TC_STATS_BASIC_LEN == 16);
+    assert!(rt; TC_STATS_QUEUE_LEN == 20);
+    assert!(rt; TC_FQ_CODEL_QD_STATS_LEN == 36);
+    assert!(rt; TC_FQ_CODEL_CL_STATS_LEN == 24);
+    assert!(rt; TCF_LEN == 32);
+    assert!(rt; TC_ACTION_GENERIC_LEN == 20);
+    assert!(rt; TC_MIRROR_LEN == 28);
+    assert!(rt; TC_NAT_LEN == 36);
+    assert!(rt; TC_TUNNEL_KEY_LEN == 24);
+    assert!(rt; TC_U32_KEY_LEN == 16);
+    assert!(rt; TC_U32_SELECTOR_LEN == 16);
 }
+
+/// Whether a handle is this number, and of these halves.
+fn is_handle(handle: TcHandle, number: u32, major: u16, minor: u16) -> bool {
+    handle == TcHandle { major, minor }
+        && handle == TcHandle::from(number)
+        && u32::from(handle) == number
+}
+
+const MIXED: TcHandle = TcHandle {
+    major: 0x0102,
+    minor: 0x0304,
+};
 
 #[test]
 fn handles(rt: HostRuntime) {
-    for (handle, number, major, minor) in [
-        (TcHandle::UNSPEC, 0, 0, 0),
-        (TcHandle::ROOT, 0xffff_ffff, 0xffff, 0xffff),
-        (TcHandle::INGRESS, 0xffff_fff1, 0xffff, 0xfff1),
-        (TcHandle::CLSACT, 0xffff_fff1, 0xffff, 0xfff1),
-        (
-            TcHandle {
-                major: 0x0102,
-                minor: 0x0304,
-            },
-            0x0102_0304,
-            0x0102,
-            0x0304,
-        ),
-    ] {
-        assert_eq!(rt; handle, TcHandle { major, minor });
-        assert_eq!(rt; handle, TcHandle::from(number));
-        assert_eq!(rt; u32::from(handle), number);
-    }
-    assert_eq!(rt; TcHandle::MIN_PRIORITY, 0xffe0);
-    assert_eq!(rt; TcHandle::MIN_INGRESS, 0xfff2);
-    assert_eq!(rt; TcHandle::MIN_EGRESS, 0xfff3);
-    assert_eq!(rt; TcHeader::TCM_IFINDEX_MAGIC_BLOCK, 0xffff_ffff);
+    assert!(rt; is_handle(TcHandle::UNSPEC, 0, 0, 0));
+    assert!(rt; is_handle(TcHandle::ROOT, 0xffff_ffff, 0xffff, 0xffff));
+    assert!(rt; is_handle(TcHandle::INGRESS, 0xffff_fff1, 0xffff, 0xfff1));
+    assert!(rt; is_handle(TcHandle::CLSACT, 0xffff_fff1, 0xffff, 0xfff1));
+    assert!(rt; is_handle(MIXED, 0x0102_0304, 0x0102, 0x0304));
+    assert!(rt; TcHandle::MIN_PRIORITY == 0xffe0);
+    assert!(rt; TcHandle::MIN_INGRESS == 0xfff2);
+    assert!(rt; TcHandle::MIN_EGRESS == 0xfff3);
+    assert!(rt; TcHeader::TCM_IFINDEX_MAGIC_BLOCK == 0xffff_ffff);
 }
 
 #[test]
 fn kinds(rt: HostRuntime) {
-    assert_eq!(rt; TcQdiscFqCodel::KIND, "fq_codel");
-    assert_eq!(rt; TcQdiscIngress::KIND, "ingress");
-    assert_eq!(rt; TcFilterFlower::KIND, "flower");
-    assert_eq!(rt; TcFilterU32::KIND, "u32");
-    assert_eq!(rt; TcFilterMatchAll::KIND, "matchall");
-    assert_eq!(rt; TcFilterBpf::KIND, "bpf");
-    assert_eq!(rt; TcFilterBpf::BPF_TAG_SIZE, 8);
-    assert_eq!(rt; TcActionMirror::KIND, "mirred");
-    assert_eq!(rt; TcActionNat::KIND, "nat");
-    assert_eq!(rt; TcActionTunnelKey::KIND, "tunnel_key");
+    assert!(rt; TcQdiscFqCodel::KIND == "fq_codel");
+    assert!(rt; TcQdiscIngress::KIND == "ingress");
+    assert!(rt; TcFilterFlower::KIND == "flower");
+    assert!(rt; TcFilterU32::KIND == "u32");
+    assert!(rt; TcFilterMatchAll::KIND == "matchall");
+    assert!(rt; TcFilterBpf::KIND == "bpf");
+    assert!(rt; TcFilterBpf::BPF_TAG_SIZE == 8);
+    assert!(rt; TcActionMirror::KIND == "mirred");
+    assert!(rt; TcActionNat::KIND == "nat");
+    assert!(rt; TcActionTunnelKey::KIND == "tunnel_key");
 }
 
 #[test]

@@ -1,9 +1,9 @@
 //! The options of a message, type by type, by themselves and in the variant of their kind.
 
 use crate::flower;
-use crate::tables::{Row, are_written, bytes_of, is_shown, misread, or_same};
-use nla_frames::{NlaBuffer, Parseable, ParseableParametrized, Settle};
-use std::alloc::Global;
+use crate::tables::{Row, are_known, bytes_of, is_known_under, is_shown, or_same};
+use nla_frames::{NlaBuffer, ParseableParametrized, Settle};
+use std::alloc::{AllocError, Global};
 use std::test::Fail;
 use tc_options::{
     TcFilterBpfOption, TcFilterMatchAllOption, TcFilterU32Option, TcOption, TcQdiscFqCodelOption,
@@ -129,79 +129,75 @@ const KINDS: [(&str, &str); 6] = [
 #[test]
 fn by_themselves(rt: HostRuntime) -> Result<(), Fail> {
     let alloc = rt.alloc();
-    assert_eq!(rt; misread::<TcQdiscFqCodelOption>(alloc, &FQ_CODEL)?, None);
-    assert_eq!(rt; misread::<TcQdiscIngressOption>(alloc, &INGRESS)?, None);
-    assert_eq!(rt; misread::<TcFilterU32Option>(alloc, &U32)?, None);
-    assert_eq!(rt; misread::<TcFilterMatchAllOption>(alloc, &MATCHALL)?, None);
-    assert_eq!(rt; misread::<TcFilterBpfOption>(alloc, &BPF)?, None);
-    Ok(())
+    are_known::<TcQdiscFqCodelOption>(alloc, &FQ_CODEL)?;
+    are_known::<TcQdiscIngressOption>(alloc, &INGRESS)?;
+    are_known::<TcFilterU32Option>(alloc, &U32)?;
+    are_known::<TcFilterMatchAllOption>(alloc, &MATCHALL)?;
+    are_known::<TcFilterBpfOption>(alloc, &BPF)
+}
+
+/// The text of an option in the variant of its kind.
+fn in_variant(alloc: Global, variant: &str, text: &str) -> Result<String, AllocError> {
+    format!(in alloc; "{variant}({text})")
 }
 
 /// Whether a frame is read under a kind as an option of its variant and of this text, and that written as it has to be.
 fn is_known(alloc: Global, kind: &str, variant: &str, row: &Row) -> Result<bool, Fail> {
     let (frame, text, written) = *row;
-    let bytes = bytes_of(alloc, frame)?;
-    let read = TcOption::parse_with_param(alloc, &NlaBuffer::new_checked(&bytes)?, kind)?;
-    let text = format!(in alloc; "{variant}({text})")?;
-    let written = bytes_of(alloc, or_same(frame, written))?;
-    Ok(is_shown(alloc, &read, text.as_str())? && are_written(&[read], &written))
+    let text = in_variant(alloc, variant, text)?;
+    let written = or_same(frame, written);
+    is_known_under::<TcOption>(alloc, kind, frame, text.as_str(), written)
 }
 
-/// The first row of a kind's table that is read or written as another.
-fn misread_under(
-    alloc: Global,
-    kind: &str,
-    variant: &str,
-    rows: &[Row],
-) -> Result<Option<&'static str>, Fail> {
+/// Judges each row of a kind's table, and tells the first that is read or written as another.
+fn are_known_under(alloc: Global, kind: &str, variant: &str, rows: &[Row]) -> Result<(), Fail> {
     for row in rows {
         if !is_known(alloc, kind, variant, row)? {
-            return Ok(Some(row.0));
+            return Err(Fail::new(format_args!("{kind}: {}", row.0)));
         }
     }
-    Ok(None)
+    Ok(())
 }
 
 #[test]
 fn under_their_kind(rt: HostRuntime) -> Result<(), Fail> {
-    for ((kind, variant), rows) in KINDS.iter().zip([
-        FQ_CODEL.as_slice(),
-        &INGRESS,
-        &flower::EACH,
-        &U32,
-        &MATCHALL,
-        &BPF,
-    ]) {
-        assert_eq!(rt;
-            misread_under(rt.alloc(), kind, variant, rows)?,
-            None,
-            "{kind}"
-        );
+    let alloc = rt.alloc();
+    are_known_under(alloc, "fq_codel", "FqCodel", &FQ_CODEL)?;
+    are_known_under(alloc, "ingress", "Ingress", &INGRESS)?;
+    are_known_under(alloc, "flower", "Flower", &flower::EACH)?;
+    are_known_under(alloc, "u32", "U32", &U32)?;
+    are_known_under(alloc, "matchall", "MatchAll", &MATCHALL)?;
+    are_known_under(alloc, "bpf", "Bpf", &BPF)
+}
+
+const KEPT: &str = "Other(DefaultNla { word: 16639, value: [7] })";
+
+/// Whether an option is settled under this of the kinds alone.
+fn is_settled_under_alone(option: &TcOption, kind: &str) -> bool {
+    for (other, _) in &KINDS {
+        if option.is_settled_under(other) != (*other == kind) {
+            return false;
+        }
     }
-    Ok(())
+    !option.is_settled_under("sfq") && !option.is_settled_under("")
 }
 
 /// Whether a type that no table knows is kept under a kind, in its variant, and settled under that kind alone.
 fn is_kept(alloc: Global, kind: &str, variant: &str) -> Result<bool, Fail> {
     let frame = NlaBuffer::new_checked(&[5, 0, 0xff, 0x40, 7, 0, 0, 0])?;
     let read = TcOption::parse_with_param(alloc, &frame, kind)?;
-    let kept = "Other(DefaultNla { word: 16639, value: [7] })";
-    let text = format!(in alloc; "{variant}({kept})")?;
-    if !is_shown(alloc, &read, text.as_str())? {
-        return Ok(false);
-    }
-    for (other, _) in &KINDS {
-        if read.is_settled_under(other) != (*other == kind) {
-            return Ok(false);
-        }
-    }
-    Ok(!read.is_settled_under("sfq") && !read.is_settled_under(""))
+    Ok(
+        is_settled_under_alone(&read, kind)
+            && is_shown(alloc, &read, in_variant(alloc, variant, KEPT)?.as_str())?,
+    )
 }
 
 #[test]
 fn settled_under_their_kind_alone(rt: HostRuntime) -> Result<(), Fail> {
     for (kind, variant) in &KINDS {
-        assert!(rt; is_kept(rt.alloc(), kind, variant)?, "{kind}");
+        if !is_kept(rt.alloc(), kind, variant)? {
+            return Err(Fail::new(*kind));
+        }
     }
     Ok(())
 }
@@ -219,7 +215,9 @@ fn is_refused(alloc: Global, row: &Row) -> Result<bool, Fail> {
 #[test]
 fn refused(rt: HostRuntime) -> Result<(), Fail> {
     for row in &FAULTS {
-        assert!(rt; is_refused(rt.alloc(), row)?, "{}", row.1);
+        if !is_refused(rt.alloc(), row)? {
+            return Err(Fail::new(row.1));
+        }
     }
     Ok(())
 }

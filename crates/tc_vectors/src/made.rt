@@ -1,0 +1,42 @@
+//! Attributes and messages made by hand.
+
+use nla_frames::DefaultNla;
+use std::alloc::{AllocError, Allocator, Global};
+use tc_wire::{TcAttribute, TcMessage, TcOption};
+
+pub(crate) fn kind<A: Allocator>(alloc: A, text: &str) -> Result<TcAttribute<A>, AllocError> {
+    Ok(TcAttribute::Kind(text.to_string(alloc)?))
+}
+
+/// An attribute that is kept as it stands.
+pub(crate) fn kept<A: Allocator>(
+    alloc: A,
+    word: u16,
+    value: &[u8],
+) -> Result<DefaultNla<A>, AllocError> {
+    Ok(DefaultNla::new(word, value.to_vec(alloc)?))
+}
+
+/// Options that are kept as they stand.
+pub(crate) fn raw<A: Allocator>(
+    alloc: A,
+    word: u16,
+    value: &[u8],
+) -> Result<TcAttribute<A>, AllocError> {
+    Ok(TcAttribute::OptionsRaw(kept(alloc, word, value)?))
+}
+
+/// Options of this one alone.
+pub(crate) fn options(alloc: Global, option: TcOption) -> Result<TcAttribute, AllocError> {
+    Ok(TcAttribute::Options(vec![in alloc; option]?))
+}
+
+/// A message with one attribute more.
+pub(crate) fn with<A: Allocator>(
+    message: TcMessage<A>,
+    attribute: Result<TcAttribute<A>, AllocError>,
+) -> Result<TcMessage<A>, AllocError> {
+    let mut message = message;
+    message.attributes.push(attribute?)?;
+    Ok(message)
+}
