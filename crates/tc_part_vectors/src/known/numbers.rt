@@ -1,7 +1,6 @@
 //! The numbers that have names.
 
 use nla_frames::AddressFamily;
-use std::test::Fail;
 use tc_records::{TcActionType, TcMirrorActionType};
 
 const FAMILIES: [(u8, AddressFamily); 8] = [
@@ -49,8 +48,10 @@ fn named<N: PartialEq + Copy, T: Copy>(rows: &[(N, T)], number: N, other: T) -> 
 fn address_families(rt: HostRuntime) {
     for number in 0..=255u8 {
         let family = named(&FAMILIES, number, AddressFamily::Other(number));
-        assert_eq!(rt; AddressFamily::from(number), family);
-        assert_eq!(rt; u8::from(family), number);
+        assert!(rt;
+            AddressFamily::from(number) == family && u8::from(family) == number,
+            "{number}"
+        );
     }
 }
 
@@ -58,8 +59,10 @@ fn address_families(rt: HostRuntime) {
 fn outcomes_of_actions(rt: HostRuntime) {
     for number in -300..=300i32 {
         let action = named(&OUTCOMES, number, TcActionType::Other(number));
-        assert_eq!(rt; TcActionType::from(number), action);
-        assert_eq!(rt; i32::from(action), number);
+        assert!(rt;
+            TcActionType::from(number) == action && i32::from(action) == number,
+            "{number}"
+        );
     }
 }
 
@@ -67,7 +70,9 @@ fn outcomes_of_actions(rt: HostRuntime) {
 fn directions_of_mirrors(rt: HostRuntime) {
     for number in -300..=300i32 {
         let action = named(&DIRECTIONS, number, TcMirrorActionType::Other(number));
-        assert_eq!(rt; TcMirrorActionType::from(number), action);
-        assert_eq!(rt; i32::from(action), number);
+        assert!(rt;
+            TcMirrorActionType::from(number) == action && i32::from(action) == number,
+            "{number}"
+        );
     }
 }
