@@ -21,7 +21,7 @@ const FQ_CODEL: [u8; 48] = [
 /// The value of its options.
 const LIMIT: [u8; 8] = [0x08, 0, 0x02, 0, 0, 0x28, 0, 0];
 
-/// The same message with a second NUL in its kind, which then is no known one.
+/// That message with a second NUL in its kind, which then is no known one.
 fn with_two_nuls() -> [u8; 48] {
     let mut bytes = FQ_CODEL;
     bytes[20] = 0x0e;

@@ -267,13 +267,13 @@ fn is_limit_settled(alloc: Global, kind: &str, is_settled: bool) -> Result<bool,
     Ok(limit().is_settled_under(kind) == is_settled && options.is_settled_under(kind) == is_settled)
 }
 
-/// The same of an option that no table knows.
+/// Whether an option that no table knows is settled as told under a kind.
 fn is_other_settled(alloc: Global, kind: &str, is_settled: bool) -> Result<bool, AllocError> {
     let other = TcOption::Other(kept(alloc, 2, &[5, 0, 0, 0])?);
     Ok(other.is_settled_under(kind) == is_settled)
 }
 
-/// The same of options that are kept as they stand.
+/// Whether options that are kept as they stand are settled as told under a kind.
 fn is_raw_settled(alloc: Global, kind: &str, is_settled: bool) -> Result<bool, AllocError> {
     Ok(raw(alloc, 2, &LIMIT)?.is_settled_under(kind) == is_settled)
 }
