@@ -49,7 +49,7 @@ fn action_messages(rt: HostRuntime) {
     assert!(rt; is_flag(TcActionMessageFlags::TerseDump, "TerseDump", 0x2));
 }
 
-/// Whether a flag byte is what its bits say, as above.
+/// Whether a flag of a selector has this name and these bits.
 fn is_byte(flag: TcU32SelectorFlags, name: &str, byte: u8) -> bool {
     flag.bits() == byte && TcU32SelectorFlags::from_name(name) == Some(flag)
 }
