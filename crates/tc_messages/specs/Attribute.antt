@@ -12,8 +12,8 @@ use Rattle.tc_meaning.specs.Message.{kind_of_frame}
 use Rattle.tc_meaning.specs.Tree.{Attribute, known, kept, other, record_of, number, flag, is_bytes, items, attributes_of}
 use Rattle.tc_records.specs.Statistics.{stats_scalars}
 use Rattle.tc_messages.specs.declared.attribute.TcAttribute.{TcAttribute}
-use Rattle.tc_messages.specs.declared.attribute.TcAttribute.TheVariants.{Kind, Options, OptionsRaw, Stats, Xstats, Rate, Fcnt, Stats2, Stab, DumpInvisible, Chain}
-use Rattle.tc_messages.specs.declared.attribute.TcAttribute.TheVariants.{HwOffload, Other}
+use Rattle.tc_messages.specs.declared.attribute.TcAttribute.TheVariants.{Kind, Options, OptionsRaw, Stats, Xstats, Rate, Fcnt, Stats2, Stab, DumpInvisible}
+use Rattle.tc_messages.specs.declared.attribute.TcAttribute.TheVariants.{Chain, HwOffload, Other}
 use Rattle.tc_options.specs.Options.{tc_option}
 use Rattle.tc_options.specs.declared.options.TcOption.{TcOption}
 use Rattle.tc_canon.specs.Tables.Options.{option_kinds}

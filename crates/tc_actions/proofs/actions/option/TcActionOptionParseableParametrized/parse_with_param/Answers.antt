@@ -38,7 +38,8 @@ returns-in_err-parse-3 g c =
     let p = err_from_is_err_and c.from_residual-in_err-parse-3.result c.from_residual-in_err-parse-3.ensures.1 in
     let f = frame_of c.args.buf.now in
     let told = sym c.eq-3.ensures ∙ c.if-eq-3.true in
-    rw (p.1, p.2) (option_refused action_option_kinds (codes "tunnel_key") tunnel_key_options (λ g. refl) refl c.args.kind.now f told _ c.in_err-parse-3.ensures)
+    rw (p.1, p.2) (option_refused action_option_kinds (codes "tunnel_key") tunnel_key_options (λ g. refl) refl c.args.kind.now f told _
+    c.in_err-parse-3.ensures)
 
 pub returns-then-eq-3 : goal.returns-then-eq-3
 returns-then-eq-3 g c =
