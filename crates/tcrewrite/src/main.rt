@@ -1,23 +1,13 @@
 //! Reads a traffic control message as hex text on standard input, and writes a report on it.
 #![tactic(auto)]
 
-mod answer;
-mod arguments;
-mod laws;
-mod mode;
-mod patience;
-mod program;
-mod reported;
-mod run;
 #[cfg(test)]
 mod tests;
-mod text;
-mod writing;
 
-use crate::arguments::request_from;
-use crate::program::serve;
 use std::process::ExitCode;
 use std::{env, io};
+use tc_report::arguments::request_from;
+use tc_report::program::serve;
 
 fn main(rt: HostRuntime) -> ExitCode {
     let request = request_from(rt.alloc(), env::args(&rt));

@@ -2,10 +2,6 @@
 
 mod hostile;
 
-use crate::arguments::{Request, request_from};
-use crate::mode::Mode;
-use crate::program::serve;
-use crate::run::{RunError, run};
 use failing::Failing;
 use std::alloc::{AllocError, Global};
 use std::env::{self, FillError};
@@ -13,6 +9,10 @@ use std::io::{Cursor, Error, ErrorKind, Read, Result, Write};
 use std::rt::Env;
 use std::test::Fail;
 use tc_inputs::{Form, Row, Told, captured, made, row_of, too_long};
+use tc_report::arguments::{Request, request_from};
+use tc_report::mode::Mode;
+use tc_report::program::serve;
+use tc_report::run::{RunError, run};
 
 // A message with the kind fq_codel and a limit of 10240 packets.
 const LIMIT_OF_FQ_CODEL: &str = "000000000200000000000100ffffffff\

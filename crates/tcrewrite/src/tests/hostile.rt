@@ -1,11 +1,11 @@
 //! Messages that were cut short or changed, and attributes of all types and lengths.
 
 use super::mode_of;
-use crate::run::run;
 use std::alloc::{AllocError, Global};
 use std::process::Abort;
 use std::test::Fail;
 use tc_inputs::{Input, all_around, cut_and_changed, made};
+use tc_report::run::run;
 
 // What is wrong with a report, if anything is.
 type Complaint = Option<&'static str>;

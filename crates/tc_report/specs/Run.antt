@@ -1,0 +1,18 @@
+-- A whole run: what is read, what is written, and the status.
+use Rattle.std.specs.Prelude.{◌≡◌, ℕ, List, Option, IfSome}
+use Rattle.std.specs.Io.KnownBytes.{Appends, Consumes}
+use Rattle.tc_report.specs.Text.{looked_at}
+use Rattle.tc_report.specs.Report.{Report, IsReport}
+use Rattle.tc_report.specs.declared.mode.Mode.{Mode}
+
+-- where the reader's bytes are known, the text is all of them, or their beginning up to the byte that makes it too long, and no more was read
+abbrev pub IsTextOf : Option (List ℕ) → Option (List ℕ) → List ℕ → Type 0
+IsTextOf old new text = IfSome old (λ all. (text ≡ looked_at all) × Consumes old new text)
+
+-- the report's text was appended to what was written before, and its status is answered
+abbrev pub Reports : Option (List ℕ) → Option (List ℕ) → ℕ → Report → Type 0
+Reports old new status r = Appends old new r.text × (status ≡ r.status)
+
+-- what was appended and the status are a report on the text
+abbrev pub ReportsOn : Mode → List ℕ → Option (List ℕ) → Option (List ℕ) → ℕ → Type 0
+ReportsOn mode text old new status = (r : Report) × IsReport mode text r × Reports old new status r

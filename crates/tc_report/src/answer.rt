@@ -1,0 +1,157 @@
+//! The report on a text, in memory.
+
+ghost use Rattle.std.specs.Prelude.{◌≡◌, ◌≢◌, IfOk, IsTrue, codes, string_bytes};
+ghost use Rattle.hex.specs.declared.error.FromHexError.TheVariants.{OutOfMemory};
+ghost use Rattle.tc_report.specs.Answer.{report_of, words_as_read};
+ghost use Rattle.tc_report.specs.Report.{one_line, yes_or_no, bytes_line, accepted, ReportsAs, ReportsBytes, IsReport};
+
+use crate::mode::Mode;
+use crate::reported::Reported;
+use crate::text::{MOST_TEXT, drop_spaces};
+use hex::FromHexError;
+use std::alloc::{AllocError, Allocator};
+use tc_action_messages::TcActionMessage;
+use tc_meaning::laws;
+use tc_wire::{DecodeError, Emitable, TcMessage};
+
+/// A report in memory, ready to be written.
+#[derive(Drop)]
+pub(crate) struct Answer<A: Allocator> {
+    pub(crate) text: String<A>,
+    pub(crate) status: u8,
+}
+
+// An answer of one line.
+fn one_line<A: Allocator>(alloc: A, text: &str, status: u8) -> Result<Answer<A>, AllocError>
+    ensures { IfOk result (λ answer. report_of answer ≡ one_line text.now status) }
+{
+    let text = format!(in alloc; "{text}\n")?;
+    Ok(Answer { text, status })
+}
+
+fn yes_or_no(holds: bool) -> &'static str
+    ensures { result.now ≡ yes_or_no holds }
+{
+    if holds { "yes" } else { "no" }
+}
+
+// The bytes of a message that fits.
+fn emitted<A: Allocator, M: Emitable>(alloc: A, message: &M) -> Result<Vec<u8, A>, AllocError>
+    requires { M.codec.Fits (M.see message.now) }
+    ensures { IfOk result (λ bytes. bytes.items ≡ M.codec.write (M.see message.now)) }
+{
+    let mut bytes = vec![in alloc; 0u8; message.buffer_len()]?;
+    message.emit(&mut bytes);
+    Ok(bytes)
+}
+
+// The line of the emitted bytes, where the message fits.
+fn bytes_line<A: Allocator + Copy, M: Emitable>(
+    alloc: A,
+    message: &M,
+    fits: bool,
+) -> Result<String<A>, AllocError>
+    requires { IsTrue fits → M.codec.Fits (M.see message.now) }
+    ensures { IfOk result (λ text.
+        string_bytes text ≡ bytes_line fits (M.codec.write (M.see message.now))) }
+{
+    if !fits {
+        return Ok(String::new(alloc));
+    }
+    let bytes = emitted(alloc, message)?;
+    let digits = hex::encode(alloc, bytes.as_slice())?;
+    format!(in alloc; "bytes {digits}\n")
+}
+
+// The lines for an accepted message.
+fn accepted<A: Allocator + Copy, M: Emitable>(
+    alloc: A,
+    message: &M,
+    fits: bool,
+    settled: bool,
+    canonical: bool,
+) -> Result<String<A>, AllocError>
+    requires { IsTrue fits → M.codec.Fits (M.see message.now) }
+    ensures { IfOk result (λ text.
+        string_bytes text ≡ accepted fits settled canonical (M.codec.write (M.see message.now))) }
+{
+    let bytes = bytes_line(alloc, message, fits)?;
+    let fits = yes_or_no(fits);
+    let settled = yes_or_no(settled);
+    let canonical = yes_or_no(canonical);
+    format!(in alloc; "fits {fits}\nsettled {settled}\ncanonical {canonical}\n{bytes}")
+}
+
+// The answer to the bytes of a message of one type.
+fn answer_as<A: Allocator + Copy, M: Reported<A> + Drop>(
+    alloc: A,
+    bytes: &[u8],
+) -> Result<Answer<A>, AllocError>
+    ensures { IfOk result (λ answer.
+        ReportsAs (words_as_read M.codec M.Canonical) bytes.now (report_of answer)) }
+{
+    match M::parse(alloc, bytes) {
+        Ok(message) => {
+            let fits = message.fits();
+            let settled = message.reads_back();
+            let canonical = M::are_canonical(bytes);
+            let text = accepted(alloc, &message, fits, settled, canonical)?;
+            Ok(Answer { text, status: 0 })
+        }
+        Err(DecodeError::OutOfMemory) => Err(AllocError),
+        Err(e) => {
+            let name = e.name();
+            let text = format!(in alloc; "refused {name}\n")?;
+            Ok(Answer { text, status: 1 })
+        }
+    }
+}
+
+// The answer to the bytes of a message.
+fn answer_bytes<A: Allocator + Copy>(
+    alloc: A,
+    mode: Mode,
+    bytes: &[u8],
+) -> Result<Answer<A>, AllocError>
+    ensures { IfOk result (λ answer. ReportsBytes mode bytes.now (report_of answer)) }
+{
+    match mode {
+        Mode::Tc => {
+            laws::tc_message(bytes);
+            answer_as::<A, TcMessage<A>>(alloc, bytes)
+        }
+        Mode::Action => {
+            laws::action_message(bytes);
+            answer_as::<A, TcActionMessage<A>>(alloc, bytes)
+        }
+    }
+}
+
+/// The answer to a text.
+pub(crate) fn answer_text<A: Allocator + Copy>(
+    alloc: A,
+    mode: Mode,
+    mut text: Vec<u8, A>,
+) -> Result<Answer<A>, AllocError>
+    ensures { IfOk result (λ answer. IsReport mode text.items (report_of answer)) }
+{
+    if text.len() > MOST_TEXT {
+        return one_line(alloc, "too long", 2);
+    }
+    drop_spaces(&mut text);
+    match hex::decode(alloc, text.as_slice()) {
+        Ok(bytes) => answer_bytes(alloc, mode, &bytes),
+        Err(fault) => answer_fault(alloc, &fault),
+    }
+}
+
+// The answer to a text that is no bytes in hex, where it isn't memory that was wanting.
+fn answer_fault<A: Allocator>(alloc: A, fault: &FromHexError) -> Result<Answer<A>, AllocError>
+    ensures { IfOk result (λ answer. (fault.now ≢ OutOfMemory)
+        × report_of answer ≡ one_line (codes "bad hex") 2) }
+{
+    match fault {
+        FromHexError::OutOfMemory => Err(AllocError),
+        _ => one_line(alloc, "bad hex", 2),
+    }
+}
