@@ -20,4 +20,3 @@ pub mod Telling
 pub mod FitTests
 pub mod SettledTests
 pub mod WorkedRows
-pub mod KnownRows
