@@ -1,5 +1,5 @@
--- A type whose row has a class is read by that class, and one that is not read is kept as it stands.
-use Rattle.std.proofs.Common.{◌≡◌, ℕ, ◌+◌, List, Bool, true, false, Ok, cond, refl, subst}
+-- A type whose row has a class is read by that class.
+use Rattle.std.proofs.Common.{◌≡◌, ℕ, ◌+◌, List, Bool, true, false, cond, refl, subst}
 use Rattle.std.specs.Prelude.{◌==◌}
 use Rattle.std.proofs.lemmas.Bool.{eqb-true}
 use Rattle.nla_frames.specs.Fault.{seen}
@@ -7,10 +7,9 @@ use Rattle.nla_frames.specs.Frame.{Frame}
 use Rattle.nla_frames.specs.Codec.{Codec, list_codec}
 use Rattle.nla_frames.specs.Reading.{keep}
 use Rattle.tc_canon.specs.Descriptor.{Class, le, be, array, Rows, others, types, unread, options, is_within}
-use Rattle.tc_meaning.specs.Tree.{Attribute, known, other}
+use Rattle.tc_meaning.specs.Tree.{Attribute, known}
 use Rattle.tc_meaning.specs.Content.{via}
 use Rattle.tc_meaning.specs.Meaning.{a_list, class_codec, rows_codec, kinds_codec, choose, row_frames, unread_frames, options_frames}
-use Rattle.tc_values.specs.Row.{reads_at}
 
 -- ---- the classes of numbers and of bytes
 
@@ -69,27 +68,5 @@ has_class test class tells (options m kinds rows) n e = go (n == m) e (has_class
   where
     go : (b : Bool) → cond b false (passes_at test rows n) ≡ true → (passes_at test rows n ≡ true → HasClass n class (rows_codec rows n))
         → HasClass n class (choose b (options_frames m kinds (via a_list (list_codec keep keep (kinds_codec kinds)))) (rows_codec rows n))
-    go true e rest = absurd (cc e)
-    go false e rest = rest e
-
--- a type that isn't read is kept as it stands
-pub unread_as_it_stands : (rows : Rows) (n : ℕ) → reads_at rows n ≡ false → (k : List ℕ) (f : Frame) → (rows_codec rows n).read k f ≡ Ok (other f.word f.value)
-unread_as_it_stands others n e k f = refl
-unread_as_it_stands (types first last flags c rows) n e k f = go (is_within first last n) e (λ e. unread_as_it_stands rows n e k f)
-  where
-    go : (b : Bool) → cond b true (reads_at rows n) ≡ false → (reads_at rows n ≡ false → (rows_codec rows n).read k f ≡ Ok (other f.word f.value))
-        → (choose b (row_frames (flags + n) n (class_codec c)) (rows_codec rows n)).read k f ≡ Ok (other f.word f.value)
-    go true e rest = absurd (cc e)
-    go false e rest = rest e
-unread_as_it_stands (unread m c rows) n e k f = go (n == m) e (λ e. unread_as_it_stands rows n e k f)
-  where
-    go : (b : Bool) → cond b false (reads_at rows n) ≡ false → (reads_at rows n ≡ false → (rows_codec rows n).read k f ≡ Ok (other f.word f.value))
-        → (choose b (unread_frames m (class_codec c)) (rows_codec rows n)).read k f ≡ Ok (other f.word f.value)
-    go true e rest = refl
-    go false e rest = rest e
-unread_as_it_stands (options m kinds rows) n e k f = go (n == m) e (λ e. unread_as_it_stands rows n e k f)
-  where
-    go : (b : Bool) → cond b true (reads_at rows n) ≡ false → (reads_at rows n ≡ false → (rows_codec rows n).read k f ≡ Ok (other f.word f.value))
-        → (choose b (options_frames m kinds (via a_list (list_codec keep keep (kinds_codec kinds)))) (rows_codec rows n)).read k f ≡ Ok (other f.word f.value)
     go true e rest = absurd (cc e)
     go false e rest = rest e

@@ -14,7 +14,8 @@ use Rattle.tc_flower.specs.Held.{holds_mac, holds_ipv4, holds_ipv6, holds_labels
 use Rattle.tc_flower.specs.Reading.{flower_read}
 use Rattle.tc_flower.proofs.Spans.{agree_from, agree_from-tells}
 use Rattle.tc_flower.proofs.FlowerSpans.{spans_read}
-use Rattle.tc_flower.proofs.Classes.{is_le, is_be, is_array, is_le-tells, is_be-tells, is_array-tells, passes_at, HasClass, has_class, unread_as_it_stands}
+use Rattle.tc_flower.proofs.Classes.{is_le, is_be, is_array, is_le-tells, is_be-tells, is_array-tells, passes_at, HasClass, has_class}
+use Rattle.tc_values.proofs.Unread.{rows_kept}
 
 seen_twice : {X : Type 0} (after : Content → Attribute) (into : X → Content) (r : Outcome X) → seen after (seen into r) ≡ seen (λ x. after (into x)) r
 seen_twice after into (Ok x) = refl
@@ -124,4 +125,4 @@ label_read = read_alone 70 number (le_number 4) (λ f. refl)
 
 pub other_read : (f : Frame) → (is_within 2 83 (type_of f.word) || is_within 86 101 (type_of f.word)) ≡ false → flower_read f ≡ Ok (other f.word f.value)
 unfolding flower_read
-other_read f none = unread_as_it_stands flower_options (type_of f.word) (sym (spans_read (type_of f.word)) ∙ none) [] f
+other_read f none = rows_kept [] f flower_options (type_of f.word) (sym (spans_read (type_of f.word)) ∙ none)

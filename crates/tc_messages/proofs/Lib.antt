@@ -1,4 +1,4 @@
-mod KeptWords
+mod Kept
 mod KindTexts
 mod Outcomes
 mod Upgrades

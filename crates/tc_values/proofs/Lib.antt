@@ -6,4 +6,5 @@ pub mod OfKinds
 pub mod Rows
 pub mod SameRows
 mod Stripped
+pub mod Unread
 pub mod Values

@@ -1,4 +1,4 @@
-use Rattle.std.proofs.Common.{refl, sym, ◌∙◌}
+use Rattle.std.proofs.Common.{rules, refl, ◌∙◌}
 use Rattle.nla_frames.specs.DefaultNla.{kept_frame}
 use Rattle.tc_canon.specs.Descriptor.{table, by_kind}
 use Rattle.tc_canon.specs.Tables.Messages.{attributes}
@@ -7,7 +7,7 @@ use Rattle.tc_values.proofs.Lists.{list_bytes_are, list_fits_as, list_is_typed}
 use Rattle.tc_actions.specs.Stats2.{tc_stats2}
 use Rattle.tc_canon.specs.Tables.Options.{option_kinds}
 use Rattle.tc_options.specs.Options.{tc_option}
-use Rattle.tc_messages.proofs.KeptWords.{kept_word}
+use Rattle.tc_messages.proofs.Kept.{kept_shown}
 use Rattle.tc_messages.proofs.attribute.TcAttribute.row.Goals as goal
 
 pub returns-in-Options-clause-word : goal.returns-in-Options-clause-word
@@ -34,4 +34,19 @@ returns-in-Stats2-clause-typed g c = rw c.in-Stats2.is (λ typed. (refl, list_is
 pub returns-in-Other-clause-word : goal.returns-in-Other-clause-word
 returns-in-Other-clause-word g c =
     let kept = kept_frame c.in-Other.nla in
-    rw c.in-Other.is (c.kind-in-Other.ensures ∙ sym (kept_word attributes kept.word kept.value))
+    rw c.in-Other.is (c.kind-in-Other.ensures ∙ (kept_shown attributes kept.word kept.value).same_word)
+
+pub returns-in-Other-clause-bytes : goal.returns-in-Other-clause-bytes
+returns-in-Other-clause-bytes g c =
+    let kept = kept_frame c.in-Other.nla in
+    rw c.in-Other.is (c.value-in-Other.ensures ∙ (kept_shown attributes kept.word kept.value).bytes)
+
+pub returns-in-Other-clause-fits : goal.returns-in-Other-clause-fits
+returns-in-Other-clause-fits g c =
+    let kept = kept_frame c.in-Other.nla in
+    rw (c.in-Other.is, c.value-in-Other.ensures) (kept_shown attributes kept.word kept.value).fits
+
+pub returns-in-Other-clause-typed : goal.returns-in-Other-clause-typed
+returns-in-Other-clause-typed g c =
+    let kept = kept_frame c.in-Other.nla in
+    rw (c.in-Other.is, c.value-in-Other.ensures) (λ typed. (kept_shown attributes kept.word kept.value).typed (search rules) typed)
