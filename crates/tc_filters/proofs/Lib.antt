@@ -1,2 +1,3 @@
 pub mod ActionLists
 pub mod Bodies
+pub mod Values
