@@ -26,6 +26,21 @@ pub fn swept(alloc: Global, word: u16, length: usize) -> Result<Vec<u8>, AllocEr
     frame(alloc, word, &vec![in alloc; 1u8; length]?)
 }
 
+// The message in which an attribute is the one option of a kind.
+fn as_option(alloc: Global, kind: &str, swept: &[u8]) -> Result<Input, AllocError> {
+    let kind = kind_frame(alloc, kind)?;
+    let options = frame(alloc, 2, swept)?;
+    Input::of_frames(alloc, Form::Tc, &[&kind, &options])
+}
+
+// The message in which an attribute is the one option of an action of a kind.
+fn as_action_option(alloc: Global, kind: &str, swept: &[u8]) -> Result<Input, AllocError> {
+    let mut action = kind_frame(alloc, kind)?;
+    action.extend_from_slice(&frame(alloc, 0x8002, swept)?)?;
+    let actions = frame(alloc, 1, &frame(alloc, 1, &action)?)?;
+    Input::of_frames(alloc, Form::Action, &[&actions])
+}
+
 // The messages in which an attribute stands alone, and as the one option of each known kind.
 fn around(alloc: Global, swept: &[u8]) -> Result<Vec<Input>, AllocError>
     ensures { IfOk result (λ inputs. vec_len inputs ≡ 11) }
@@ -35,15 +50,10 @@ fn around(alloc: Global, swept: &[u8]) -> Result<Vec<Input>, AllocError>
         inputs.push(Input::of_frames(alloc, form, &[swept])?)?;
     }
     for kind in KINDS {
-        let options = frame(alloc, 2, swept)?;
-        let kind = kind_frame(alloc, kind)?;
-        inputs.push(Input::of_frames(alloc, Form::Tc, &[&kind, &options])?)?;
+        inputs.push(as_option(alloc, kind, swept)?)?;
     }
     for kind in ACTION_KINDS {
-        let mut attributes = kind_frame(alloc, kind)?;
-        attributes.extend_from_slice(&frame(alloc, 0x8002, swept)?)?;
-        let actions = frame(alloc, 1, &frame(alloc, 1, &attributes)?)?;
-        inputs.push(Input::of_frames(alloc, Form::Action, &[&actions])?)?;
+        inputs.push(as_action_option(alloc, kind, swept)?)?;
     }
     Ok(inputs)
 }

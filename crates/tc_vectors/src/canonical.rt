@@ -19,8 +19,8 @@ struct Row {
 const LIMIT: &str =
     "000000000200000000000100ffffffff000000000d00010066715f636f64656c000000000c0002000800020000280000";
 
-/// Traffic control messages.
-const TC: [Row; 68] = [
+/// The kinds of messages, and options.
+const KINDS_AND_OPTIONS: [Row; 15] = [
     Row {
         name: "fq_codel limit",
         hex: LIMIT,
@@ -96,6 +96,10 @@ const TC: [Row; 68] = [
         hex: "00000000000000000000000000000000000000000d0001006d61746368616c6c000000000c0002000800030001000000",
         canonical: true,
     },
+];
+
+/// Options of flower.
+const FLOWER: [Row; 12] = [
     Row {
         name: "mpls bos of two bits",
         hex: "00000000000000000000000000000000000000000b000100666c6f77657200000c0002000500440003000000",
@@ -156,6 +160,10 @@ const TC: [Row; 68] = [
         hex: "00000000000000000000000000000000000000000b000100666c6f77657200000c0002000500540001000000",
         canonical: true,
     },
+];
+
+/// Frames and what pads them, selectors, statistics.
+const FRAMES_AND_RECORDS: [Row; 20] = [
     Row {
         name: "last frame without padding",
         hex: "000000000000000000000000000000000000000005000c0001",
@@ -256,6 +264,10 @@ const TC: [Row; 68] = [
         hex: "0000000000000000000000000000000000000000180007001400010000000000000000000000000000000001",
         canonical: false,
     },
+];
+
+/// Other attributes.
+const ATTRIBUTES: [Row; 6] = [
     Row {
         name: "unknown type with both flags",
         hex: "0000000000000000000000000000000000000000080063c001020304",
@@ -286,6 +298,10 @@ const TC: [Row; 68] = [
         hex: "000000000000000000000000000000000000000005000a0001000000",
         canonical: false,
     },
+];
+
+/// What tc of iproute2 sent, and what Linux wrote.
+const CAPTURED: [Row; 15] = [
     Row {
         name: "host618.send.newqdisc.fq_codel.001",
         hex: "000000000300000000000000ffffffff000000000d00010066715f636f64656c0000000004000200",
@@ -548,7 +564,11 @@ fn are_judged_rightly(alloc: Global, message: Message, rows: &[Row]) -> Result<(
 
 #[test]
 fn messages(rt: HostRuntime) -> Result<(), Fail> {
-    are_judged_rightly(rt.alloc(), Message::Tc, &TC)?;
+    are_judged_rightly(rt.alloc(), Message::Tc, &KINDS_AND_OPTIONS)?;
+    are_judged_rightly(rt.alloc(), Message::Tc, &FLOWER)?;
+    are_judged_rightly(rt.alloc(), Message::Tc, &FRAMES_AND_RECORDS)?;
+    are_judged_rightly(rt.alloc(), Message::Tc, &ATTRIBUTES)?;
+    are_judged_rightly(rt.alloc(), Message::Tc, &CAPTURED)?;
     are_judged_rightly(rt.alloc(), Message::Action, &ACTIONS)
 }
 

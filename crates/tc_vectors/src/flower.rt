@@ -8,9 +8,8 @@ use tc_flower::{
     TcFilterFlower, TcFilterFlowerMplsLseOption, TcFilterFlowerMplsOption, TcFilterFlowerOption,
 };
 
-/// Each option by a frame of bytes that differ, so that another width, byte order or type shows.
 #[rattlefmt::skip]
-pub(crate) const EACH: [Row; 100] = [
+const TYPES_1_TO_25: [Row; 24] = [
     ("090002006574683000000000", "InDev(\"eth0\")", ""),
     ("1400030010000100090001006761637400000000", "Actions([TcAction { tab: 1, attributes: [Kind(\"gact\")] }])", ""),
     ("0a0004002e4b6885a2bf0000", "EthDst([46, 75, 104, 133, 162, 191])", ""),
@@ -35,6 +34,10 @@ pub(crate) const EACH: [Row; 100] = [
     ("06001700b3d00000", "VlanId(53427)", ""),
     ("05001800ba000000", "VlanPrio(186)", ""),
     ("06001900c1de0000", "VlanEthType(49630)", ""),
+];
+
+#[rattlefmt::skip]
+const TYPES_26_TO_56: [Row; 31] = [
     ("08001a00c8e50320", "EncKeyId(3370451744)", ""),
     ("08001b00cfec0a27", "EncKeyIpv4Src(207.236.10.39)", ""),
     ("08001c00d6f3112e", "EncKeyIpv4SrcMask(214.243.17.46)", ""),
@@ -66,6 +69,10 @@ pub(crate) const EACH: [Row; 100] = [
     ("050036008d000000", "Icmpv6CodeMask(141)", ""),
     ("0500370094000000", "Icmpv6Type(148)", ""),
     ("050038009b000000", "Icmpv6TypeMask(155)", ""),
+];
+
+#[rattlefmt::skip]
+const TYPES_57_TO_83: [Row; 27] = [
     ("08003900a2bfdcf9", "ArpSip(162.191.220.249)", ""),
     ("08003a00a9c6e301", "ArpSipMask(169.198.227.1)", ""),
     ("08003b00b0cdea08", "ArpTip(176.205.234.8)", ""),
@@ -93,6 +100,10 @@ pub(crate) const EACH: [Row; 100] = [
     ("050051004b000000", "EncKeyIpTosMask(75)", ""),
     ("0500520052000000", "EncKeyIpTtl(82)", ""),
     ("0500530059000000", "EncKeyIpTtlMask(89)", ""),
+];
+
+#[rattlefmt::skip]
+const TYPES_86_TO_101: [Row; 18] = [
     ("080056006e8ba8c5", "InHwCount(3316157294)", ""),
     ("0600570075920000", "PortSrcMin(30098)", ""),
     ("060058007c990000", "PortSrcMax(31897)", ""),
@@ -112,6 +123,16 @@ pub(crate) const EACH: [Row; 100] = [
     ("08006400d0ed0b28", "KeyHash(671870416)", ""),
     ("08006500d7f4122f", "KeyHashMask(789771479)", ""),
 ];
+
+/// Each option of flower by a frame of bytes that differ, so that another width, byte order or type shows.
+pub(crate) fn each() -> [&'static [Row]; 4] {
+    [
+        &TYPES_1_TO_25,
+        &TYPES_26_TO_56,
+        &TYPES_57_TO_83,
+        &TYPES_86_TO_101,
+    ]
+}
 
 /// Types that aren't read, words with another flag, and numbers of which not every bit is written.
 #[rattlefmt::skip]
@@ -153,7 +174,9 @@ const SENT: [(&str, &str); 11] = [
 #[test]
 fn options(rt: HostRuntime) -> Result<(), Fail> {
     assert!(rt; TcFilterFlower::KIND == "flower");
-    are_known::<TcFilterFlowerOption>(rt.alloc(), &EACH)?;
+    for rows in each() {
+        are_known::<TcFilterFlowerOption>(rt.alloc(), rows)?;
+    }
     are_known::<TcFilterFlowerOption>(rt.alloc(), &OTHERS)
 }
 

@@ -164,7 +164,9 @@ fn under_their_kind(rt: HostRuntime) -> Result<(), Fail> {
     let alloc = rt.alloc();
     are_known_under(alloc, "fq_codel", "FqCodel", &FQ_CODEL)?;
     are_known_under(alloc, "ingress", "Ingress", &INGRESS)?;
-    are_known_under(alloc, "flower", "Flower", &flower::EACH)?;
+    for rows in flower::each() {
+        are_known_under(alloc, "flower", "Flower", rows)?;
+    }
     are_known_under(alloc, "u32", "U32", &U32)?;
     are_known_under(alloc, "matchall", "MatchAll", &MATCHALL)?;
     are_known_under(alloc, "bpf", "Bpf", &BPF)
