@@ -53,6 +53,3 @@ unsafe impl<B: Allocator> Allocator for Failing<B> {
         self.inner.deallocate(ptr, size, align);
     }
 }
-
-#[cfg(test)]
-mod tests;

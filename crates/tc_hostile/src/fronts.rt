@@ -65,35 +65,26 @@ fn cut_at_every_length(rt: HostRuntime) -> Result<(), Fail> {
     Ok(())
 }
 
+// Whether the message is refused for this fault, with another length of its option.
+fn is_refused(alloc: Global, length: u8, fault: &DecodeError) -> Result<bool, Fail> {
+    let mut bytes = first(alloc)?;
+    if let Some(place) = bytes.get_mut(40) {
+        *place = length;
+    }
+    let attributes = bytes.get(20..).ok_or("48 bytes")?;
+    Ok(
+        VecTcAttribute::parse(alloc, attributes).err().as_ref() == Some(fault)
+            && TcMessage::parse(alloc, &bytes).err().as_ref() == Some(fault),
+    )
+}
+
 #[test]
 fn with_another_length_of_its_option(rt: HostRuntime) -> Result<(), Fail> {
     let alloc = rt.alloc();
-    for (length, fault) in [
-        (9, DecodeError::FrameTooLong { length: 9, left: 8 }),
-        (
-            7,
-            DecodeError::WrongLength {
-                expected: 4,
-                got: 3,
-            },
-        ),
-        (
-            4,
-            DecodeError::WrongLength {
-                expected: 4,
-                got: 0,
-            },
-        ),
-        (3, DecodeError::FrameTooShort { length: 3 }),
-    ] {
-        let mut bytes = first(alloc)?;
-        assert_eq!(rt; bytes.len(), 48);
-        bytes[40] = length;
-        assert_eq!(rt;
-            VecTcAttribute::parse(alloc, &bytes[20..]).err().as_ref(),
-            Some(&fault)
-        );
-        assert_eq!(rt; TcMessage::parse(alloc, &bytes).err(), Some(fault));
-    }
+    let (expected, left) = (4, 8);
+    assert!(rt; is_refused(alloc, 9, &DecodeError::FrameTooLong { length: 9, left })?);
+    assert!(rt; is_refused(alloc, 7, &DecodeError::WrongLength { expected, got: 3 })?);
+    assert!(rt; is_refused(alloc, 4, &DecodeError::WrongLength { expected, got: 0 })?);
+    assert!(rt; is_refused(alloc, 3, &DecodeError::FrameTooShort { length: 3 })?);
     Ok(())
 }

@@ -1,4 +1,4 @@
-//! Tests alone, of bytes that nobody vouches for, and of memory that is refused.
+//! Tests alone, of bytes that nobody vouches for, of memory that is refused, and of runs of the program.
 #![tactic(auto)]
 
 #[cfg(test)]
@@ -10,6 +10,10 @@ mod judge;
 #[cfg(test)]
 mod memory;
 #[cfg(test)]
+mod runs;
+#[cfg(test)]
 mod strangers;
+#[cfg(test)]
+mod swept_runs;
 #[cfg(test)]
 mod whole;

@@ -3,10 +3,9 @@
 use crate::whole::Whole;
 use failing::Failing;
 use std::alloc::{Allocator, Global};
-use std::process::Abort;
 use std::test::Fail;
 use tc_inputs::{Form, Row, Told, made};
-use tc_wire::{DecodeError, RewriteError, TcActionMessage, TcMessage};
+use tc_wire::{DecodeError, Emitable, RewriteError, TcActionMessage, TcMessage};
 
 /// What rewriting or settling answers: the bytes, and after how many rewrites.
 type Settled<A> = Result<(Vec<u8, A>, usize), RewriteError>;
@@ -29,157 +28,213 @@ fn make_wanted<M: Whole<Global>>(alloc: Global, bytes: &[u8]) -> Wanted {
     }
 }
 
-// Whether a call was given all its memory; where it was not, it has to say so, and else to answer as it does with memory enough.
+/// What is wrong with an answer.
+#[derive(Clone, Copy, Debug)]
+enum Wrong {
+    /// Memory that was refused isn't missed, or memory is that wasn't.
+    Memory,
+    /// Another fault.
+    Fault,
+    Fits,
+    Settled,
+    Canonical,
+    Emitted,
+    /// The message or its clone is another.
+    Equality,
+    /// What is rewritten or settled is another.
+    Answer,
+    /// It ends for no number of requests.
+    Requests,
+}
+
+/// Whether a call was given all its memory, or what is wrong with its answer.
+type Ended = Result<bool, Wrong>;
+
+// A call that was refused memory has to say so, and any other to answer as it does with memory enough.
 fn is_done(
-    rt: &impl Abort,
     failing: &Failing<Global>,
     answer: Settled<&Failing<Global>>,
     wanted: &Settled<Global>,
-) -> bool {
+) -> Ended {
     if failing.has_refused() {
-        assert!(rt; answer.err() == Some(RewriteError::OutOfMemory));
-        return false;
+        return if answer.err() == Some(RewriteError::OutOfMemory) {
+            Ok(false)
+        } else {
+            Err(Wrong::Memory)
+        };
     }
-    match (answer, wanted) {
+    let is_same = match (answer, wanted) {
         (Ok((bytes, rewrites)), Ok((wanted, wanted_rewrites))) => {
-            assert!(rt; bytes.as_slice() == wanted.as_slice() && rewrites == *wanted_rewrites);
+            bytes.as_slice() == wanted.as_slice() && rewrites == *wanted_rewrites
         }
-        (Err(cause), Err(wanted)) => assert!(rt; cause == *wanted, "{cause}"),
-        _ => assert!(rt; false, "refused with or without memory"),
+        (Err(cause), Err(wanted)) => cause == *wanted,
+        _ => false,
+    };
+    if is_same {
+        Ok(true)
+    } else {
+        Err(Wrong::Answer)
     }
-    true
 }
 
-// Asserts of a message that was read what is told of it, while the next request would be refused: none is made.
-fn is_told<'f, M: Whole<&'f Failing<Global>> + Drop>(
-    rt: &impl Abort,
-    failing: &'f Failing<Global>,
-    row: &Row,
-    message: &M,
-) {
-    failing.refuse(1);
+// Whether a message is emitted as these bytes.
+fn is_emitted<M: Emitable>(message: &M, emitted: &[u8]) -> bool {
+    let mut page = [0; 1024];
+    if !message.fits() || message.buffer_len() != emitted.len() || emitted.len() > page.len() {
+        return false;
+    }
+    message.emit(&mut page);
+    &page[..emitted.len()] == emitted
+}
+
+// What is wrong with a message that was read, if anything is.
+fn judge_read<'f, M: Whole<&'f Failing<Global>> + Drop>(row: &Row, message: &M) -> Option<Wrong> {
     match &row.told {
-        Told::Refused(name) => assert!(rt; false, "{name}"),
+        Told::Refused(_) => Some(Wrong::Fault),
         Told::Accepted {
             fits,
             settled,
             canonical,
             emitted,
         } => {
-            assert!(rt; message.fits() == *fits, "fits");
-            assert!(rt; message.reads_back() == *settled, "settled");
-            assert!(rt;
-                M::are_canonical(&row.input.bytes) == *canonical,
-                "canonical"
-            );
-            let mut page = [0; 1024];
-            assert!(rt;
-                message.fits() && message.buffer_len() == emitted.len(),
-                "length"
-            );
-            assert!(rt; emitted.len() <= page.len());
-            message.emit(&mut page);
-            assert!(rt; &page[..emitted.len()] == emitted.as_slice(), "emitted");
-            assert!(rt; *message == *message);
+            if message.fits() != *fits {
+                Some(Wrong::Fits)
+            } else if message.reads_back() != *settled {
+                Some(Wrong::Settled)
+            } else if M::are_canonical(&row.input.bytes) != *canonical {
+                Some(Wrong::Canonical)
+            } else if !is_emitted(message, emitted) {
+                Some(Wrong::Emitted)
+            } else if *message != *message {
+                Some(Wrong::Equality)
+            } else {
+                None
+            }
         }
     }
-    assert!(rt; !failing.has_refused());
 }
 
-// Asserts that a clone tells as well that it wants memory, and else is the same.
-fn is_copied<'f, M: Whole<&'f Failing<Global>> + Drop>(
-    rt: &impl Abort,
+// The same, while the next request would be refused: none is made.
+fn judge_told<'f, M: Whole<&'f Failing<Global>> + Drop>(
+    failing: &'f Failing<Global>,
+    row: &Row,
+    message: &M,
+) -> Option<Wrong> {
+    failing.refuse(1);
+    match judge_read(row, message) {
+        None if failing.has_refused() => Some(Wrong::Memory),
+        wrong => wrong,
+    }
+}
+
+// What is wrong with a clone, if anything is: it tells as well that it wants memory, and else is the same.
+fn judge_copy<'f, M: Whole<&'f Failing<Global>> + Drop>(
     failing: &'f Failing<Global>,
     message: &M,
-) {
+) -> Option<Wrong> {
     for at in 1..1000u64 {
         failing.refuse(at);
         match message.copied() {
             Ok(copy) => {
-                assert!(rt; !failing.has_refused());
-                assert!(rt; copy == *message);
-                return;
+                return if failing.has_refused() {
+                    Some(Wrong::Memory)
+                } else if copy != *message {
+                    Some(Wrong::Equality)
+                } else {
+                    None
+                };
             }
-            Err(_) => assert!(rt; failing.has_refused()),
+            Err(_) => {
+                if !failing.has_refused() {
+                    return Some(Wrong::Memory);
+                }
+            }
         }
     }
-    assert!(rt; false, "each request was refused");
+    Some(Wrong::Requests)
+}
+
+// What is wrong with a fault that isn't want of memory, if anything is.
+fn judge_fault(failing: &Failing<Global>, row: &Row, fault: &DecodeError) -> Option<Wrong> {
+    match &row.told {
+        Told::Refused(name) if fault.name() == name.as_str() && !failing.has_refused() => None,
+        _ => Some(Wrong::Fault),
+    }
 }
 
 // Whether a message was read with all its memory, and as it has to be.
 fn is_read<'f, M: Whole<&'f Failing<Global>> + Drop>(
-    rt: &impl Abort,
     failing: &'f Failing<Global>,
     row: &Row,
-) -> bool {
-    match M::parse(failing, &row.input.bytes) {
+) -> Ended {
+    let wrong = match M::parse(failing, &row.input.bytes) {
         Ok(message) => {
-            assert!(rt; !failing.has_refused());
-            is_told(rt, failing, row, &message);
-            is_copied(rt, failing, &message);
-            true
+            if failing.has_refused() {
+                return Err(Wrong::Memory);
+            }
+            match judge_told(failing, row, &message) {
+                None => judge_copy(failing, &message),
+                wrong => wrong,
+            }
         }
         Err(DecodeError::OutOfMemory) => {
-            assert!(rt; failing.has_refused());
-            false
+            return if failing.has_refused() {
+                Ok(false)
+            } else {
+                Err(Wrong::Memory)
+            };
         }
-        Err(fault) => {
-            assert!(rt; !failing.has_refused());
-            match &row.told {
-                Told::Refused(name) => assert!(rt; fault.name() == name.as_str(), "{name}"),
-                Told::Accepted { .. } => assert!(rt; false, "{fault}"),
-            }
-            true
-        }
+        Err(fault) => judge_fault(failing, row, &fault),
+    };
+    match wrong {
+        None => Ok(true),
+        Some(wrong) => Err(wrong),
     }
 }
 
 // Whether the three calls are done where the request of this number is refused in each.
 fn are_done<'f, M: Whole<&'f Failing<Global>> + Drop>(
-    rt: &impl Abort,
     failing: &'f Failing<Global>,
     at: u64,
     row: &Row,
     wanted: &Wanted,
-) -> bool {
+) -> Ended {
     let bytes = row.input.bytes.as_slice();
     failing.refuse(at);
-    let is_read = is_read::<M>(rt, failing, row);
+    let is_read = is_read::<M>(failing, row)?;
     failing.refuse(at);
     let rewritten = rewritten::<&'f Failing<Global>, M>(failing, bytes);
-    let is_rewritten = is_done(rt, failing, rewritten, &wanted.rewritten);
+    let is_rewritten = is_done(failing, rewritten, &wanted.rewritten)?;
     failing.refuse(at);
-    let is_settled = is_done(rt, failing, M::settled(failing, bytes), &wanted.settled);
-    is_read && is_rewritten && is_settled
+    let is_settled = is_done(failing, M::settled(failing, bytes), &wanted.settled)?;
+    Ok(is_read && is_rewritten && is_settled)
 }
 
 // How many requests were refused, one after the other, until none was.
 fn refusals<'f, M: Whole<&'f Failing<Global>> + Drop>(
-    rt: &impl Abort,
     failing: &'f Failing<Global>,
     row: &Row,
     wanted: &Wanted,
-) -> u64 {
+) -> Result<u64, Wrong> {
     for at in 1..1000u64 {
-        if are_done::<M>(rt, failing, at, row, wanted) {
-            return at - 1;
+        if are_done::<M>(failing, at, row, wanted)? {
+            return Ok(at - 1);
         }
     }
-    assert!(rt; false, "each request was refused");
-    0
+    Err(Wrong::Requests)
 }
 
 // The same, of the message that the row is.
-fn refusals_of(rt: &impl Abort, alloc: Global, row: &Row) -> u64 {
+fn refusals_of(alloc: Global, row: &Row) -> Result<u64, Wrong> {
     let failing = Failing::new(alloc, 0);
     match row.input.form {
         Form::Tc => {
             let wanted = make_wanted::<TcMessage>(alloc, &row.input.bytes);
-            refusals::<TcMessage<&Failing<Global>>>(rt, &failing, row, &wanted)
+            refusals::<TcMessage<&Failing<Global>>>(&failing, row, &wanted)
         }
         Form::Action => {
             let wanted = make_wanted::<TcActionMessage>(alloc, &row.input.bytes);
-            refusals::<TcActionMessage<&Failing<Global>>>(rt, &failing, row, &wanted)
+            refusals::<TcActionMessage<&Failing<Global>>>(&failing, row, &wanted)
         }
     }
 }
@@ -189,8 +244,10 @@ fn want_of_memory_is_told(rt: HostRuntime) -> Result<(), Fail> {
     let alloc = rt.alloc();
     let mut count = 0u64;
     for row in &made(alloc)? {
-        count = count.wrapping_add(refusals_of(&rt, alloc, row));
+        let refusals = refusals_of(alloc, row);
+        assert!(rt; refusals.is_ok(), "{refusals:?}: {:?}", row.input);
+        count = count.wrapping_add(refusals.unwrap_or(0));
     }
-    assert_eq!(rt; count, 248);
+    assert!(rt; count == 248, "{count} refusals");
     Ok(())
 }

@@ -11,4 +11,6 @@ mod known;
 #[cfg(test)]
 mod records;
 #[cfg(test)]
+mod refusals;
+#[cfg(test)]
 mod selectors;

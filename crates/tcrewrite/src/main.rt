@@ -1,9 +1,6 @@
 //! Reads a traffic control message as hex text on standard input, and writes a report on it.
 #![tactic(auto)]
 
-#[cfg(test)]
-mod tests;
-
 use std::process::ExitCode;
 use std::{env, io};
 use tc_report::arguments::request_from;

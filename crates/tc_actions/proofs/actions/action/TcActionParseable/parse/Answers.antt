@@ -1,4 +1,4 @@
-use Rattle.std.proofs.Common.{[]}
+use Rattle.std.proofs.Common.{[], rules}
 use Rattle.std.proofs.lemmas.Result.{err_from_is_err_and}
 use Rattle.nla_frames.specs.Buffer.{frame_of}
 use Rattle.tc_actions.proofs.ActionLists.{action_refused, keeps_order}
@@ -18,3 +18,9 @@ pub returns-clause-order : goal.returns-clause-order
 returns-clause-order g c =
     keeps_order (frame_of c.args.buf.now) _ (c.order_in_an_action.ensures.order [] (frame_of c.args.buf.now).word)
     (rw c.value.ensures.bytes at c.in_ok-attributes.ensures.exact)
+
+pub returns-clause-tab : goal.returns-clause-tab
+returns-clause-tab g c = search rules
+
+pub returns-clause-exact : goal.returns-clause-exact
+returns-clause-exact g c = search rules

@@ -1,4 +1,4 @@
-use Rattle.std.proofs.Common.{refl}
+use Rattle.std.proofs.Common.{refl, rules}
 use Rattle.tc_actions.proofs.actions.attribute.TcActionAttribute.row.Goals as goal
 
 pub returns-in-Options-clause-seen : goal.returns-in-Options-clause-seen
@@ -9,3 +9,6 @@ returns-in-Stats-clause-seen g c = rw (c.in-Stats.is, c.deref-in-Stats.ensures.v
 
 pub returns-in-Cookie-clause-seen : goal.returns-in-Cookie-clause-seen
 returns-in-Cookie-clause-seen g c = rw (c.in-Cookie.is, c.deref-in-Cookie.ensures.value) refl
+
+pub returns-in-Options-clause-row : goal.returns-in-Options-clause-row
+returns-in-Options-clause-row g c = search rules

@@ -1,3 +1,4 @@
+use Rattle.std.proofs.Common.{rules}
 use Rattle.tc_actions.proofs.actions.option.TcActionOptionSettle.is_settled_under.Goals as goal
 
 pub returns-in-Mirror-clause-settled : goal.returns-in-Mirror-clause-settled
@@ -11,3 +12,6 @@ returns-in-TunnelKey-clause-settled g c = rw c.in-TunnelKey.is c.is_settled_of_k
 
 pub returns-in-TunnelKey-clause-typed : goal.returns-in-TunnelKey-clause-typed
 returns-in-TunnelKey-clause-typed g c = rw c.in-TunnelKey.is c.is_settled_of_kind-in-TunnelKey.ensures.typed
+
+pub returns-in-Nat-clause-settled : goal.returns-in-Nat-clause-settled
+returns-in-Nat-clause-settled g c = search rules

@@ -1,6 +1,4 @@
-//! What no clause says: values from outside, and readers and writers that fail.
-
-mod hostile;
+//! Runs of the program: what no clause says of them, values from outside, and readers and writers that fail.
 
 use failing::Failing;
 use std::alloc::{AllocError, Global};
@@ -115,7 +113,7 @@ fn reports(alloc: Global, mode: Mode, text: &[u8], want: &str, status: u8, left:
     ended == Ok(status) && to.as_slice() == want.as_bytes() && from.len() == left
 }
 
-fn mode_of(form: Form) -> Mode {
+pub(crate) fn mode_of(form: Form) -> Mode {
     match form {
         Form::Tc => Mode::Tc,
         Form::Action => Mode::Action,

@@ -1,14 +1,12 @@
-//! Messages that were cut short or changed, and attributes of all types and lengths.
+//! Reports on messages that were cut short or changed, and on attributes of all types and lengths.
 
-use super::mode_of;
+use crate::judge::Complaint;
+use crate::runs::mode_of;
 use std::alloc::{AllocError, Global};
 use std::process::Abort;
 use std::test::Fail;
 use tc_inputs::{Input, all_around, cut_and_changed, made};
 use tc_report::run::run;
-
-// What is wrong with a report, if anything is.
-type Complaint = Option<&'static str>;
 
 fn judge_refused(report: &str) -> Complaint {
     if !report.starts_with("refused ") {
