@@ -1,4 +1,4 @@
-use Rattle.std.proofs.Common.{refl}
+use Rattle.std.proofs.Common.{refl, rules}
 use Rattle.tc_filters.proofs.filters.cls_u32.TcFilterU32Option.row.Goals as goal
 
 pub returns-in-Selector-clause-seen : goal.returns-in-Selector-clause-seen
@@ -18,3 +18,6 @@ returns-in-Pnct-clause-seen g c = rw (c.in-Pnct.is, c.deref-in-Pnct.ensures.valu
 
 pub returns-in-Mark-clause-seen : goal.returns-in-Mark-clause-seen
 returns-in-Mark-clause-seen g c = rw (c.in-Mark.is, c.deref-in-Mark.ensures.value) refl
+
+pub returns-in-Action-clause-row : goal.returns-in-Action-clause-row
+returns-in-Action-clause-row g c = search rules
