@@ -1,36 +1,37 @@
 //! Action messages: their attributes, type by type, and flags.
 
-use crate::tables::{Row, are_known, are_written, is_shown};
+use crate::tables::{are_known, are_written, has_text, settles};
 use bitflags::Flags;
-use nla_frames::{NlaBuffer, Parseable, Settle};
+use nla_frames::{DecodeError, NlaBuffer, Parseable};
 use std::alloc::Global;
+use std::fmt::Debug;
 use std::hash::{DefaultHasher, Hash, Hasher};
+use std::slice::from_ref;
 use std::test::Fail;
 use tc_action_messages::{TcActionMessageAttribute, TcActionMessageFlagsWithSelector};
 use tc_records::TcActionMessageFlags;
 
 /// Each attribute, types that aren't known, and what is written as other bytes.
-#[rattlefmt::skip]
-const ATTRIBUTES: [Row; 14] = [
-    ("14000100 10000100 09000100 6761637400000000", "Actions([TcAction { tab: 1, attributes: [Kind(\"gact\")] }])", ""),
-    ("04000100", "Actions([])", ""),
-    ("0c000200 24232221 28272625", "Flags(TcActionMessageFlagsWithSelector { flags: TcActionMessageFlags(555885348), selector: TcActionMessageFlags(623257384) })", ""),
-    ("08000300 34333231", "RootCount(825373492)", ""),
-    ("08000400 44434241", "RootTimeDelta(1094861636)", ""),
-    ("06000500 68690000", "RootExtWarnMsg(\"hi\")", ""),
-    ("04000500", "RootExtWarnMsg(\"\")", ""),
-    ("07000000 a1a2a300", "Other(DefaultNla { word: 0, value: [161, 162, 163] })", ""),
-    ("07000680 a1a2a300", "Other(DefaultNla { word: 32774, value: [161, 162, 163] })", ""),
-    ("080003c0 34333231", "RootCount(825373492)", "08000300 34333231"),
-    ("14000180 10000300 09000100 6761637400000000", "Actions([TcAction { tab: 3, attributes: [Kind(\"gact\")] }])", "14000100 10000300 09000100 6761637400000000"),
-    ("0c000240 24232221 28272625", "Flags(TcActionMessageFlagsWithSelector { flags: TcActionMessageFlags(555885348), selector: TcActionMessageFlags(623257384) })", "0c000200 24232221 28272625"),
-    ("07000500 68690000", "RootExtWarnMsg(\"hi\")", "06000500 68690000"),
-    ("07000500 61000000", "RootExtWarnMsg(\"a\\0\")", "06000500 61000000"),
-];
+const ATTRIBUTES: &str = r#"
+14000100 10000100 09000100 6761637400000000 | Actions([TcAction { tab: 1, attributes: [Kind("gact")] }])
+04000100 | Actions([])
+0c000200 24232221 28272625 | Flags(TcActionMessageFlagsWithSelector { flags: TcActionMessageFlags(555885348), selector: TcActionMessageFlags(623257384) })
+08000300 34333231 | RootCount(825373492)
+08000400 44434241 | RootTimeDelta(1094861636)
+06000500 68690000 | RootExtWarnMsg("hi")
+04000500 | RootExtWarnMsg("")
+07000000 a1a2a300 | Other(DefaultNla { word: 0, value: [161, 162, 163] })
+07000680 a1a2a300 | Other(DefaultNla { word: 32774, value: [161, 162, 163] })
+080003c0 34333231 | RootCount(825373492) | 08000300 34333231
+14000180 10000300 09000100 6761637400000000 | Actions([TcAction { tab: 3, attributes: [Kind("gact")] }]) | 14000100 10000300 09000100 6761637400000000
+0c000240 24232221 28272625 | Flags(TcActionMessageFlagsWithSelector { flags: TcActionMessageFlags(555885348), selector: TcActionMessageFlags(623257384) }) | 0c000200 24232221 28272625
+07000500 68690000 | RootExtWarnMsg("hi") | 06000500 68690000
+07000500 61000000 | RootExtWarnMsg("a\0") | 06000500 61000000
+"#;
 
 #[test]
 fn attributes(rt: HostRuntime) -> Result<(), Fail> {
-    are_known::<TcActionMessageAttribute>(rt.alloc(), &ATTRIBUTES)
+    are_known::<TcActionMessageAttribute>(rt.alloc(), ATTRIBUTES)
 }
 
 fn hash_of(flags: TcActionMessageFlagsWithSelector) -> u64 {
@@ -59,21 +60,26 @@ const PAIRS: [(&[u8], &str); 6] = [
 ];
 
 /// Whether a frame is read as a pair or refused with a fault of this text.
-fn is_read(alloc: Global, frame: &[u8], text: &str) -> Result<bool, Fail> {
-    let frame = NlaBuffer::new_checked(frame)?;
-    let read = TcActionMessageFlagsWithSelector::parse(alloc, &frame);
-    Ok(is_shown(alloc, &read, text)?)
+fn is_read<T: Parseable<Global> + Debug + Drop>(
+    alloc: Global,
+    frame: &[u8],
+    text: &str,
+) -> Result<bool, Fail> {
+    let read: Result<T, DecodeError> = T::parse(alloc, &NlaBuffer::new_checked(frame)?);
+    Ok(has_text(alloc, read, text)?)
 }
 
 #[test]
 fn flags(rt: HostRuntime) -> Result<(), Fail> {
     let large = TcActionMessageFlagsWithSelector::new(TcActionMessageFlags::LargeDump);
     assert!(rt; large == pair(1, 1));
-    assert!(rt; are_written(&[large], &[12, 0, 2, 0, 1, 0, 0, 0, 1, 0, 0, 0]));
-    assert!(rt; large.is_settled());
+    assert!(rt; are_written(from_ref(&large), &[12, 0, 2, 0, 1, 0, 0, 0, 1, 0, 0, 0]));
+    assert!(rt; settles(large));
     assert!(rt; TcActionMessageFlagsWithSelector::default() == pair(0, 0));
     for (frame, text) in &PAIRS {
-        assert!(rt; is_read(rt.alloc(), frame, text)?, "{frame:?}");
+        if !is_read::<TcActionMessageFlagsWithSelector>(rt.alloc(), frame, text)? {
+            return Err(Fail::new(format_args!("{frame:?}")));
+        }
     }
     Ok(())
 }
@@ -90,12 +96,14 @@ fn ordered() -> [TcActionMessageFlagsWithSelector; 5] {
 }
 
 #[test]
-fn flags_are_ordered_and_hashed(rt: HostRuntime) {
+fn flags_are_ordered_and_hashed(_rt: HostRuntime) -> Result<(), Fail> {
     let ordered = ordered();
     for (i, a) in ordered.iter().enumerate() {
         for (j, b) in ordered.iter().enumerate() {
-            assert!(rt; a.cmp(b) == i.cmp(&j), "{i} and {j}");
-            assert!(rt; (hash_of(*a) == hash_of(*b)) == (i == j), "{i} and {j}");
+            if a.cmp(b) != i.cmp(&j) || (hash_of(*a) == hash_of(*b)) != (i == j) {
+                return Err(Fail::new(format_args!("{i} and {j}")));
+            }
         }
     }
+    Ok(())
 }

@@ -31,6 +31,16 @@ pub(crate) fn options(alloc: Global, option: TcOption) -> Result<TcAttribute, Al
     Ok(TcAttribute::Options(vec![in alloc; option]?))
 }
 
+/// A list with one item more.
+pub(crate) fn pushed<T: Drop, A: Allocator>(
+    list: Vec<T, A>,
+    item: Result<T, AllocError>,
+) -> Result<Vec<T, A>, AllocError> {
+    let mut list = list;
+    list.push(item?)?;
+    Ok(list)
+}
+
 /// A message with one attribute more.
 pub(crate) fn with<A: Allocator>(
     message: TcMessage<A>,

@@ -1,9 +1,11 @@
 //! Worked messages.
 
 use crate::made::{kept, with};
-use crate::tables::{after_zeros, is_shown, is_written};
-use crate::worked::{Worked, are_read, fault_of, is_read_as};
+use crate::tables::{after_zeros, has_text, is_read_under, is_written};
+use crate::worked::{are_read, fault_of, is_read_as};
 use std::alloc::{AllocError, Global};
+use std::fmt::Debug;
+use std::slice::from_ref;
 use std::test::Fail;
 use tc_wire::{
     AddressFamily, DecodeError, NlaBuffer, ParseableBytes, ParseableParametrized, TcAttribute,
@@ -63,12 +65,11 @@ fn messages_are_read_and_written(rt: HostRuntime) -> Result<(), Fail> {
 }
 
 /// No attributes; options with no kind before them; an unknown kind, and options with the nested flag.
-#[rattlefmt::skip]
-const UNKNOWN: [Worked; 3] = [
-    ("", "[]", "", true),
-    ("0c000200 08000200 00280000", "[OptionsRaw(DefaultNla { word: 2, value: [8, 0, 2, 0, 0, 40, 0, 0] })]", "", true),
-    ("08000100 73667100 08000280 01020304", "[Kind(\"sfq\"), OptionsRaw(DefaultNla { word: 32770, value: [1, 2, 3, 4] })]", "", true),
-];
+const UNKNOWN: &str = r#"
+ | []
+0c000200 08000200 00280000 | [OptionsRaw(DefaultNla { word: 2, value: [8, 0, 2, 0, 0, 40, 0, 0] })]
+08000100 73667100 08000280 01020304 | [Kind("sfq"), OptionsRaw(DefaultNla { word: 32770, value: [1, 2, 3, 4] })]
+"#;
 
 #[test]
 fn unknown_attributes_stay(rt: HostRuntime) -> Result<(), Fail> {
@@ -84,7 +85,7 @@ fn unknown_attributes_stay(rt: HostRuntime) -> Result<(), Fail> {
             true
         )?
     );
-    are_read(rt.alloc(), &UNKNOWN)
+    are_read(rt.alloc(), UNKNOWN, true)
 }
 
 fn too_small(len: usize) -> Option<DecodeError> {
@@ -104,8 +105,11 @@ fn broken_messages_are_refused(rt: HostRuntime) -> Result<(), Fail> {
 /// Whether the options of the message are of this text under a kind.
 fn are_options(alloc: Global, kind: &str, text: &str) -> Result<bool, Fail> {
     let frame = NlaBuffer::new_checked(&FQ_CODEL[36..])?;
-    let options = VecTcOption::parse_with_param(alloc, &frame, kind)?;
-    Ok(is_shown(alloc, &options.0, text)?)
+    Ok(has_text(
+        alloc,
+        VecTcOption::parse_with_param(alloc, &frame, kind)?.0,
+        text,
+    )?)
 }
 
 const KEPT: &str = "[Other(DefaultNla { word: 2, value: [8, 0, 2, 0, 0, 40, 0, 0] })]";
@@ -117,52 +121,62 @@ fn options_go_by_the_kind(rt: HostRuntime) -> Result<(), Fail> {
     Ok(())
 }
 
-/// Whether a frame is read under `fq_codel` as the option of this text.
-fn is_option(alloc: Global, frame: &NlaBuffer<'_>, text: &str) -> Result<bool, Fail> {
-    let option = TcOption::parse_with_param(alloc, frame, "fq_codel")?;
-    Ok(is_shown(alloc, &option, text)?)
-}
-
 /// Whether frames that were cut are read under `fq_codel` as the options of this text.
-fn are_cut(alloc: Global, frames: &[NlaBuffer<'_>], text: &str) -> Result<bool, Fail> {
-    let options: Vec<TcOption> = parse_frames_with(alloc, frames, "fq_codel")?;
-    Ok(is_shown(alloc, &options, text)?)
+fn are_cut<T: ParseableParametrized<Global> + Debug + Drop>(
+    alloc: Global,
+    frames: &[NlaBuffer<'_>],
+    text: &str,
+) -> Result<bool, Fail> {
+    let options: Vec<T> = parse_frames_with(alloc, frames, "fq_codel")?;
+    Ok(has_text(alloc, options, text)?)
 }
 
 #[test]
 fn an_option_is_read_alone(rt: HostRuntime) -> Result<(), Fail> {
     let frame = NlaBuffer::new_checked(&LIMIT)?;
-    assert!(rt; is_option(rt.alloc(), &frame, "FqCodel(Limit(10240))")?);
-    assert!(rt; are_cut(rt.alloc(), &[frame], "[FqCodel(Limit(10240))]")?);
+    assert!(rt;
+        is_read_under::<TcOption>(rt.alloc(), "fq_codel", &frame, "FqCodel(Limit(10240))")?
+    );
+    assert!(rt; are_cut::<TcOption>(rt.alloc(), from_ref(&frame), "[FqCodel(Limit(10240))]")?);
     Ok(())
 }
 
 #[test]
 fn attributes_are_read_alone(rt: HostRuntime) -> Result<(), Fail> {
-    let list = VecTcAttribute::parse(rt.alloc(), &FQ_CODEL[20..36])?;
-    assert!(rt; is_shown(rt.alloc(), &list.0, "[Kind(\"fq_codel\")]")?);
+    let list = VecTcAttribute::parse(rt.alloc(), &FQ_CODEL[20..36])?.0;
+    assert!(rt; has_text(rt.alloc(), list, "[Kind(\"fq_codel\")]")?);
     Ok(())
 }
 
 /// A message made by hand: an attribute of a known type that is kept as it stands.
-fn with_kept(alloc: Global, message: TcMessage) -> Result<TcMessage, AllocError> {
+fn with_kept(alloc: Global) -> Result<TcMessage, AllocError> {
     let kept = kept(alloc, 0x8001, &[0xab])?;
-    with(message, Ok(TcAttribute::Other(kept)))
+    with(without_index(alloc), Ok(TcAttribute::Other(kept)))
+}
+
+fn without_index(alloc: Global) -> TcMessage {
+    let mut message = TcMessage::with_index(alloc, 7);
+    message.header.index = 0;
+    message
+}
+
+/// Whether a message with an index has nothing else.
+fn has_index_alone(alloc: Global) -> bool {
+    TcMessage::with_index(alloc, 7).header.index == 7
+        && without_index(alloc) == TcMessage::default_in(alloc)
+}
+
+/// Whether a message is written as these bytes, and has an empty header and one attribute.
+fn is_made(message: TcMessage, written: &[u8]) -> bool {
+    let is_written = is_written(&message, written);
+    let (header, attributes) = message.into_parts();
+    is_written && header == TcHeader::default() && attributes.len() == 1
 }
 
 #[test]
 fn messages_are_made(rt: HostRuntime) -> Result<(), Fail> {
-    let alloc = rt.alloc();
-    let mut message = TcMessage::with_index(alloc, 7);
-    assert!(rt; message.header.index == 7);
-    message.header.index = 0;
-    assert!(rt; message == TcMessage::default_in(alloc));
-
-    let message = with_kept(alloc, message)?;
-    let written = after_zeros(alloc, 20, "05000180 ab000000")?;
-    assert!(rt; is_written(&message, &written));
-    let (header, attributes) = message.into_parts();
-    assert!(rt; header == TcHeader::default());
-    assert!(rt; attributes.len() == 1);
+    let written = after_zeros(rt.alloc(), 20, "05000180 ab000000")?;
+    assert!(rt; has_index_alone(rt.alloc()));
+    assert!(rt; is_made(with_kept(rt.alloc())?, &written));
     Ok(())
 }

@@ -1,7 +1,7 @@
 //! The worked messages rewritten and settled, and messages of both types that can't be.
 
-use crate::tables::{after_zeros, is_shown, or_same};
-use crate::worked::{Refused, TC, TC_FAULTS, Worked};
+use crate::tables::{after_zeros, cells, is_shown, or_same, pair, rows};
+use crate::worked::{TC, TC_FAULTS, TC_UNSETTLED};
 use nla_frames::DecodeError;
 use std::alloc::{AllocError, Global};
 use std::test::Fail;
@@ -9,8 +9,10 @@ use tc_canon::is_canonical_tc;
 use tc_inputs::{Form, too_long};
 use tc_wire::{RewriteError, rewrite_action, rewrite_tc, settle_action, settle_tc};
 
-fn is_rewritten(alloc: Global, row: &Worked) -> Result<bool, Fail> {
-    let (frames, _, written, _) = *row;
+fn is_rewritten(alloc: Global, row: &str) -> Result<bool, Fail> {
+    let Some((frames, _, written)) = cells(row) else {
+        return Ok(false);
+    };
     let bytes = after_zeros(alloc, 20, frames)?;
     let written = after_zeros(alloc, 20, or_same(frames, written))?;
     let (settled, rewrites) = settle_tc(alloc, &bytes)?;
@@ -22,14 +24,19 @@ fn is_rewritten(alloc: Global, row: &Worked) -> Result<bool, Fail> {
     )
 }
 
-#[test]
-fn worked(rt: HostRuntime) -> Result<(), Fail> {
-    for row in &TC {
-        if !is_rewritten(rt.alloc(), row)? {
-            return Err(Fail::new(row.0));
+fn are_rewritten(alloc: Global, table: &str) -> Result<(), Fail> {
+    for row in rows(table) {
+        if !is_rewritten(alloc, row)? {
+            return Err(Fail::new(row));
         }
     }
     Ok(())
+}
+
+#[test]
+fn worked(rt: HostRuntime) -> Result<(), Fail> {
+    are_rewritten(rt.alloc(), TC)?;
+    are_rewritten(rt.alloc(), TC_UNSETTLED)
 }
 
 // The cause that both calls tell, if it is the same.
@@ -54,8 +61,12 @@ pub(crate) fn too_small(len: usize, needed: usize) -> Option<RewriteError> {
     Some(RewriteError::Decode(DecodeError::BufferTooSmall { len, needed }))
 }
 
-fn is_refused(alloc: Global, form: Form, bytes: &[u8], text: &str) -> Result<bool, AllocError> {
-    match cause_of(alloc, form, bytes) {
+fn is_refused(alloc: Global, form: Form, header: usize, row: &str) -> Result<bool, AllocError> {
+    let Some((frames, text)) = pair(row) else {
+        return Ok(false);
+    };
+    let bytes = after_zeros(alloc, header, frames)?;
+    match cause_of(alloc, form, &bytes) {
         Some(RewriteError::Decode(fault)) => is_shown(alloc, &fault, text),
         _ => Ok(false),
     }
@@ -66,12 +77,11 @@ pub(crate) fn are_refused(
     alloc: Global,
     form: Form,
     header: usize,
-    faults: &[Refused],
+    table: &str,
 ) -> Result<(), Fail> {
-    for (frames, fault) in faults {
-        let bytes = after_zeros(alloc, header, frames)?;
-        if !is_refused(alloc, form, &bytes, fault)? {
-            return Err(Fail::new(*frames));
+    for row in rows(table) {
+        if !is_refused(alloc, form, header, row)? {
+            return Err(Fail::new(row));
         }
     }
     Ok(())
@@ -83,7 +93,7 @@ fn refused(rt: HostRuntime) -> Result<(), Fail> {
     assert!(rt; cause_of(alloc, Form::Tc, &[0; 19]) == too_small(19, 20));
     let long = too_long(alloc, Form::Tc)?.bytes;
     assert!(rt; cause_of(alloc, Form::Tc, &long) == Some(RewriteError::DoesNotFit));
-    are_refused(alloc, Form::Tc, 20, &TC_FAULTS)
+    are_refused(alloc, Form::Tc, 20, TC_FAULTS)
 }
 
 /// Whether a cause is printed as this text.

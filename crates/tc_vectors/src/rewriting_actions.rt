@@ -1,8 +1,8 @@
 //! The worked action messages rewritten and settled: a warning loses one NUL a rewrite.
 
 use crate::rewriting::{are_refused, cause_of, too_small};
-use crate::tables::{after_zeros, or_same};
-use crate::worked::{ACTION_FAULTS, ACTIONS, Worked};
+use crate::tables::{after_zeros, cells, or_same, rows};
+use crate::worked::{ACTION_FAULTS, ACTIONS, ACTIONS_UNSETTLED};
 use std::alloc::Global;
 use std::test::Fail;
 use tc_canon::is_canonical_action;
@@ -20,8 +20,10 @@ const WARNINGS: [(&str, &str, usize); 6] = [
     ("08000380 06000000 07000500 61000000", "08000300 06000000 05000500 61000000", 2),
 ];
 
-fn is_rewritten(alloc: Global, row: &Worked) -> Result<bool, Fail> {
-    let (frames, _, written, is_settled) = *row;
+fn is_rewritten(alloc: Global, row: &str, is_settled: bool) -> Result<bool, Fail> {
+    let Some((frames, _, written)) = cells(row) else {
+        return Ok(false);
+    };
     let bytes = after_zeros(alloc, 4, frames)?;
     let written = after_zeros(alloc, 4, or_same(frames, written))?;
     if rewrite_action(alloc, &bytes)? != written {
@@ -32,14 +34,19 @@ fn is_rewritten(alloc: Global, row: &Worked) -> Result<bool, Fail> {
     Ok(!is_settled || settled == written && rewrites == usize::from(bytes != written))
 }
 
-#[test]
-fn worked(rt: HostRuntime) -> Result<(), Fail> {
-    for row in &ACTIONS {
-        if !is_rewritten(rt.alloc(), row)? {
-            return Err(Fail::new(row.0));
+fn are_rewritten(alloc: Global, table: &str, is_settled: bool) -> Result<(), Fail> {
+    for row in rows(table) {
+        if !is_rewritten(alloc, row, is_settled)? {
+            return Err(Fail::new(row));
         }
     }
     Ok(())
+}
+
+#[test]
+fn worked(rt: HostRuntime) -> Result<(), Fail> {
+    are_rewritten(rt.alloc(), ACTIONS, true)?;
+    are_rewritten(rt.alloc(), ACTIONS_UNSETTLED, false)
 }
 
 /// Whether so many rewrites, and no fewer, lead to what an action message is settled as.
@@ -78,5 +85,5 @@ fn refused(rt: HostRuntime) -> Result<(), Fail> {
     assert!(rt; cause_of(alloc, Form::Action, &[0; 3]) == too_small(3, 4));
     let long = too_long(alloc, Form::Action)?.bytes;
     assert!(rt; cause_of(alloc, Form::Action, &long) == Some(RewriteError::DoesNotFit));
-    are_refused(alloc, Form::Action, 4, &ACTION_FAULTS)
+    are_refused(alloc, Form::Action, 4, ACTION_FAULTS)
 }

@@ -1,7 +1,7 @@
 //! Values made by hand: which of them read back as themselves, and as what the others do.
 
 use crate::made::{kept, kind, options, raw, with};
-use crate::tables::{after_zeros, is_shown, is_written};
+use crate::tables::{after_zeros, is_shown, is_written, settles, settles_under};
 use nla_frames::{AddressFamily, ParseableBytes, Settle, SettleBytes};
 use std::alloc::{AllocError, Global};
 use std::test::Fail;
@@ -155,11 +155,7 @@ fn are_read_back(alloc: Global, rows: &[Row]) -> Result<(), Fail> {
 
 #[test]
 fn of_messages(rt: HostRuntime) -> Result<(), Fail> {
-    are_read_back(rt.alloc(), &MESSAGES)
-}
-
-#[test]
-fn of_messages_of_a_known_kind(rt: HostRuntime) -> Result<(), Fail> {
+    are_read_back(rt.alloc(), &MESSAGES)?;
     are_read_back(rt.alloc(), &MESSAGES_OF_A_KNOWN_KIND)
 }
 
@@ -246,36 +242,45 @@ fn of_action_messages(rt: HostRuntime) -> Result<(), Fail> {
     Ok(())
 }
 
+/// Whether a message of this family, which has a name, isn't settled and is written as these bytes.
+fn is_header_written(alloc: Global, family: AddressFamily, bytes: &[u8]) -> bool {
+    let mut message = TcMessage::default_in(alloc);
+    message.header.family = family;
+    !message.is_settled() && is_written(&message, bytes)
+}
+
+/// Whether bytes are read as a settled message of this family.
+fn is_header_read(alloc: Global, family: AddressFamily, bytes: &[u8]) -> Result<bool, Fail> {
+    let message = TcMessage::parse(alloc, bytes)?;
+    Ok(message.header.family == family && message.is_settled())
+}
+
 #[test]
 fn of_a_header(rt: HostRuntime) -> Result<(), Fail> {
-    let alloc = rt.alloc();
-    let mut message = TcMessage::default_in(alloc);
-    message.header.family = AddressFamily::Other(2);
-    assert!(rt; !message.is_settled());
     let mut bytes = [0; 20];
     bytes[0] = 2;
-    assert!(rt; is_written(&message, &bytes));
-    let read = TcMessage::parse(alloc, &bytes)?;
-    assert!(rt; read.header.family == AddressFamily::Inet);
-    assert!(rt; read.is_settled());
+    assert!(rt; is_header_written(rt.alloc(), AddressFamily::Other(2), &bytes));
+    assert!(rt; is_header_read(rt.alloc(), AddressFamily::Inet, &bytes)?);
     Ok(())
 }
 
 /// Whether an option, and options of it alone, are settled under a kind.
 fn is_limit_settled(alloc: Global, kind: &str, is_settled: bool) -> Result<bool, AllocError> {
-    let options = options(alloc, limit())?;
-    Ok(limit().is_settled_under(kind) == is_settled && options.is_settled_under(kind) == is_settled)
+    Ok(
+        settles_under(options(alloc, limit())?, kind, is_settled)
+            && settles_under(limit(), kind, is_settled),
+    )
 }
 
 /// Whether an option that no table knows is settled as told under a kind.
 fn is_other_settled(alloc: Global, kind: &str, is_settled: bool) -> Result<bool, AllocError> {
-    let other = TcOption::Other(kept(alloc, 2, &[5, 0, 0, 0])?);
-    Ok(other.is_settled_under(kind) == is_settled)
+    let kept = kept(alloc, 2, &[5, 0, 0, 0])?;
+    Ok(settles_under(TcOption::Other(kept), kind, is_settled))
 }
 
 /// Whether options that are kept as they stand are settled as told under a kind.
 fn is_raw_settled(alloc: Global, kind: &str, is_settled: bool) -> Result<bool, AllocError> {
-    Ok(raw(alloc, 2, &LIMIT)?.is_settled_under(kind) == is_settled)
+    Ok(settles_under(raw(alloc, 2, &LIMIT)?, kind, is_settled))
 }
 
 /// Whether options are settled under a kind that is known, or else as they stand.
@@ -290,7 +295,7 @@ fn are_settled_under(alloc: Global, kind: &str, is_known: bool) -> Result<bool, 
 /// Whether an option of `fq_codel` is settled that is kept as it stands, of this type.
 fn is_settled_of_type(alloc: Global, word: u16) -> Result<bool, AllocError> {
     let kept = kept(alloc, word, &[5])?;
-    Ok(TcQdiscFqCodelOption::Other(kept).is_settled())
+    Ok(settles(TcQdiscFqCodelOption::Other(kept)))
 }
 
 // Options are settled under their own kind.

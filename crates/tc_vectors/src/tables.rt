@@ -1,16 +1,39 @@
-//! Tables of known answers, one a line, and how a line is judged.
+//! Tables of known answers, a row a line and its cells parted by bars, and how a row is judged.
 
 ghost use Rattle.std.specs.Prelude.{◌<◌};
 
 use nla_frames::{
-    Emitable, Nla, NlaBuffer, Parseable, ParseableParametrized, emit_list, list_fits, list_len,
+    Emitable, Nla, NlaBuffer, Parseable, ParseableParametrized, Settle, emit_list, list_fits,
+    list_len,
 };
 use std::alloc::{AllocError, Allocator, Global};
 use std::fmt::Debug;
+use std::str::Split;
 use std::test::Fail;
 
-/// Bytes in hex, what they are read as, and what is written of that, empty where it is the same.
-pub(crate) type Row = (&'static str, &'static str, &'static str);
+/// The rows of a table: one at least, since no text at all is a row that can't be cut.
+pub(crate) fn rows(table: &str) -> Split<'_, char> {
+    table.trim().split('\n')
+}
+
+/// The cells of a row: two, and a third that is empty where it isn't told. A row of fewer or more can't be cut.
+pub(crate) fn cells(row: &str) -> Option<(&str, &str, &str)> {
+    let mut cells = row.split('|');
+    match (cells.next(), cells.next(), cells.next(), cells.next()) {
+        (Some(first), Some(second), third, None) => {
+            Some((first.trim(), second.trim(), third.unwrap_or("").trim()))
+        }
+        _ => None,
+    }
+}
+
+/// The cells of a row of two.
+pub(crate) fn pair(row: &str) -> Option<(&str, &str)> {
+    match cells(row) {
+        Some((first, second, third)) if third.is_empty() => Some((first, second)),
+        _ => None,
+    }
+}
 
 fn digit(letter: u8) -> u8
     ensures { result < 16 }
@@ -76,8 +99,27 @@ pub(crate) fn is_written<M: Emitable>(message: &M, bytes: &[u8]) -> bool {
     &buffer[..bytes.len()] == bytes && &buffer[bytes.len()..] == &[0x55; 640][bytes.len()..]
 }
 
+/// Whether a value is settled.
+pub(crate) fn settles<T: Settle + Drop>(value: T) -> bool {
+    value.is_settled()
+}
+
+/// Whether a value is settled as told under a kind.
+pub(crate) fn settles_under<T: Settle + Drop>(value: T, kind: &str, is_settled: bool) -> bool {
+    value.is_settled_under(kind) == is_settled
+}
+
+/// Whether a value has this `Debug` text.
+pub(crate) fn has_text<T: Debug + Drop>(
+    alloc: Global,
+    value: T,
+    text: &str,
+) -> Result<bool, AllocError> {
+    is_shown(alloc, &value, text)
+}
+
 /// Whether a value has this text, and is written as these bytes in hex.
-fn is_as_told<T: Nla + Debug + Drop>(
+pub(crate) fn is_as_told<T: Nla + Debug + Drop>(
     alloc: Global,
     value: T,
     text: &str,
@@ -90,12 +132,14 @@ fn is_as_told<T: Nla + Debug + Drop>(
     Ok(is_shown && are_written(&list, &written))
 }
 
-/// Whether a frame is read as an attribute of this text, and that written as it has to be.
+/// Whether a frame is read as an attribute of the second cell's text, and that written as the third cell, or as it came where that is empty.
 fn is_known<T: Parseable<Global> + Nla + Debug + Drop>(
     alloc: Global,
-    row: &Row,
+    row: &str,
 ) -> Result<bool, Fail> {
-    let (frame, text, written) = *row;
+    let Some((frame, text, written)) = cells(row) else {
+        return Ok(false);
+    };
     let bytes = bytes_of(alloc, frame)?;
     let read = T::parse(alloc, &NlaBuffer::new_checked(&bytes)?)?;
     Ok(is_as_told(alloc, read, text, or_same(frame, written))?)
@@ -104,14 +148,34 @@ fn is_known<T: Parseable<Global> + Nla + Debug + Drop>(
 /// Judges each row, and tells the first that is read or written as another.
 pub(crate) fn are_known<T: Parseable<Global> + Nla + Debug + Drop>(
     alloc: Global,
-    rows: &[Row],
+    table: &str,
 ) -> Result<(), Fail> {
-    for row in rows {
+    for row in rows(table) {
         if !is_known::<T>(alloc, row)? {
-            return Err(Fail::new(row.0));
+            return Err(Fail::new(row));
         }
     }
     Ok(())
+}
+
+/// Whether a frame is read under no kind as this value.
+pub(crate) fn is_read<T: ParseableParametrized<Global> + PartialEq + Drop>(
+    alloc: Global,
+    frame: &[u8],
+    value: T,
+) -> Result<bool, Fail> {
+    let frame = NlaBuffer::new_checked(frame)?;
+    Ok(T::parse_with_param(alloc, &frame, "")? == value)
+}
+
+/// Whether a frame is read under a kind as a value of this text.
+pub(crate) fn is_read_under<T: ParseableParametrized<Global> + Debug + Drop>(
+    alloc: Global,
+    kind: &str,
+    frame: &NlaBuffer<'_>,
+    text: &str,
+) -> Result<bool, Fail> {
+    Ok(is_shown(alloc, &T::parse_with_param(alloc, frame, kind)?, text)?)
 }
 
 /// Whether a frame is read under a kind as an attribute of this text, and that written as these bytes in hex.

@@ -1,6 +1,6 @@
 //! Messages that the first version read, and what they are now.
 
-use crate::made::{kept, kind, options, with};
+use crate::made::{kept, kind, options, pushed, with};
 use crate::settled::reads_back_as;
 use crate::tables::{after_zeros, is_shown};
 use failing::Failing;
@@ -13,10 +13,15 @@ use tc_wire::{TcAttribute, TcMessage};
 /// A kind, empty for none, the other options after it, each a word and its value, and what the attributes are now.
 type Row = (&'static str, &'static [(u16, &'static [u8])], &'static str);
 
+/// Options without a kind.
+#[rattlefmt::skip]
+const WITHOUT_KIND: Row =
+    ("", &[(2, &[8, 0, 2, 0, 0, 0x28, 0, 0])], "[OptionsRaw(DefaultNla { word: 2, value: [8, 0, 2, 0, 0, 40, 0, 0] })]");
+
 /// What changes: one option alone, of type 2 with any flags, under a kind that isn't known.
 #[rattlefmt::skip]
 const ROWS: [Row; 8] = [
-    ("", &[(2, &[8, 0, 2, 0, 0, 0x28, 0, 0])], "[OptionsRaw(DefaultNla { word: 2, value: [8, 0, 2, 0, 0, 40, 0, 0] })]"),
+    WITHOUT_KIND,
     ("sfq", &[(0x8002, &[1, 2, 3, 4])], "[Kind(\"sfq\"), OptionsRaw(DefaultNla { word: 32770, value: [1, 2, 3, 4] })]"),
     ("u32", &[(2, &[1])], "[Kind(\"u32\"), Options([Other(DefaultNla { word: 2, value: [1] })])]"),
     ("", &[], "[Options([])]"),
@@ -26,14 +31,18 @@ const ROWS: [Row; 8] = [
     ("fq_codel\0", &[(2, &[1])], "[Kind(\"fq_codel\\0\"), OptionsRaw(DefaultNla { word: 2, value: [1] })]"),
 ];
 
+fn other<A: Allocator>(alloc: A, row: &(u16, &[u8])) -> Result<TcOption<A>, AllocError> {
+    Ok(TcOption::Other(kept(alloc, row.0, row.1)?))
+}
+
 /// Options that no table knows.
 fn unknown<A: Allocator + Copy>(
     alloc: A,
     rows: &[(u16, &[u8])],
 ) -> Result<TcAttribute<A>, AllocError> {
     let mut options = Vec::new(alloc);
-    for (word, value) in rows {
-        options.push(TcOption::Other(kept(alloc, *word, value)?))?;
+    for row in rows {
+        options = pushed(options, other(alloc, row))?;
     }
     Ok(TcAttribute::Options(options))
 }
@@ -63,17 +72,6 @@ fn is_upgraded(alloc: Global, message: TcMessage, text: &str) -> Result<bool, Al
     has_attributes(alloc, &once.upgrade(), text)
 }
 
-#[test]
-fn worked(rt: HostRuntime) -> Result<(), Fail> {
-    let alloc = rt.alloc();
-    for row in &ROWS {
-        if !is_upgraded(alloc, made(alloc, row)?, row.2)? {
-            return Err(Fail::new(row.2));
-        }
-    }
-    Ok(())
-}
-
 /// Whether a message becomes another with an empty header, and asks for no memory.
 fn is_upgraded_without_memory(failing: &Failing<Global>, row: &Row) -> Result<bool, AllocError> {
     failing.refuse(0);
@@ -83,12 +81,16 @@ fn is_upgraded_without_memory(failing: &Failing<Global>, row: &Row) -> Result<bo
     Ok(!failing.has_refused() && upgraded.header == TcHeader::default())
 }
 
-// The next request for memory is refused, and none is made.
+/// Whether the message of a row becomes what it has to, and that where the next request for memory is refused, and none is made.
+fn is_right(alloc: Global, failing: &Failing<Global>, row: &Row) -> Result<bool, AllocError> {
+    Ok(is_upgraded(alloc, made(alloc, row)?, row.2)? && is_upgraded_without_memory(failing, row)?)
+}
+
 #[test]
-fn without_memory(rt: HostRuntime) -> Result<(), Fail> {
+fn worked(rt: HostRuntime) -> Result<(), Fail> {
     let failing = Failing::new(rt.alloc(), 0);
     for row in &ROWS {
-        if !is_upgraded_without_memory(&failing, row)? {
+        if !is_right(rt.alloc(), &failing, row)? {
             return Err(Fail::new(row.2));
         }
     }
@@ -124,12 +126,16 @@ fn the_last_kind_counts(rt: HostRuntime) -> Result<(), Fail> {
     Ok(())
 }
 
+/// Whether the message of a row becomes a settled one, which is written and read back as these.
+fn is_settled_as(alloc: Global, row: &Row, bytes: &[u8]) -> Result<bool, AllocError> {
+    let message = made(alloc, row)?.upgrade();
+    Ok(message.is_settled() && reads_back_as(alloc, &message, bytes, row.2)?)
+}
+
 // What the first version made of options without a kind is written as they came.
 #[test]
 fn written_as_they_came(rt: HostRuntime) -> Result<(), Fail> {
     let bytes = after_zeros(rt.alloc(), 20, "0c000200 08000200 00280000")?;
-    let message = made(rt.alloc(), &ROWS[0])?.upgrade();
-    assert!(rt; message.is_settled());
-    assert!(rt; reads_back_as(rt.alloc(), &message, &bytes, ROWS[0].2)?);
+    assert!(rt; is_settled_as(rt.alloc(), &WITHOUT_KIND, &bytes)?);
     Ok(())
 }

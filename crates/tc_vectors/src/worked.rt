@@ -1,7 +1,7 @@
 //! Worked messages: what they are read as, what is written of them, and why others are refused.
 
 use crate::made::{kind, options, with};
-use crate::tables::{after_zeros, is_shown, is_written, or_same};
+use crate::tables::{after_zeros, cells, is_shown, is_written, or_same, pair, rows};
 use nla_frames::{AddressFamily, DecodeError, DefaultNla, Emitable, ParseableBytes};
 use std::alloc::{AllocError, Global};
 use std::test::Fail;
@@ -12,93 +12,93 @@ use tc_options::TcQdiscIngressOption;
 use tc_records::{TcActionMessageHeader, TcHeader};
 use tc_wire::{TcAttribute, TcMessage, TcOption, TcQdiscFqCodelOption};
 
-/// Frames in hex, the attributes that they are read as, the frames that are written of these, empty where they are the same, which only
-/// canonical ones are, and whether the message is settled.
-pub(crate) type Worked = (&'static str, &'static str, &'static str, bool);
+// A row of messages that are read: frames in hex, the attributes that they are read as, and the frames that are written of these, where they
+// aren't the same, which only canonical ones are. A row of those that are refused: frames in hex, and the first fault in them.
 
-/// Frames in hex, and the first fault in them.
-pub(crate) type Refused = (&'static str, &'static str);
+/// Messages that are settled, after a header of 20 zeros.
+pub(crate) const TC: &str = r#"
+ | []
+08000100 75333200 0c000200 08000200 05000000 0d000100 66715f636f64656c00000000 0c000200 08000200 05000000 | [Kind("u32"), Options([U32(Hash(5))]), Kind("fq_codel"), Options([FqCodel(Limit(5))])]
+08000180 75333200 0c000200 08000200 05000000 0d000100 66715f636f64656c00000000 0c000200 08000200 05000000 | [Kind("u32"), Options([U32(Hash(5))]), Kind("fq_codel"), Options([FqCodel(Limit(5))])] | 08000100 75333200 0c000200 08000200 05000000 0d000100 66715f636f64656c00000000 0c000200 08000200 05000000
+0c000200 08000200 00280000 | [OptionsRaw(DefaultNla { word: 2, value: [8, 0, 2, 0, 0, 40, 0, 0] })]
+08000100 73667100 08000280 01020304 | [Kind("sfq"), OptionsRaw(DefaultNla { word: 32770, value: [1, 2, 3, 4] })]
+05000200 01 | [OptionsRaw(DefaultNla { word: 2, value: [1] })] | 05000200 01000000
+0e000100 66715f636f64656c00000000 0c000200 08000200 00280000 | [Kind("fq_codel\0"), OptionsRaw(DefaultNla { word: 2, value: [8, 0, 2, 0, 0, 40, 0, 0] })]
+0b000100 666c6f7765720000 1c000200 18006380 14000180 05000100 01000000 08000500 45230100 | [Kind("flower"), Options([Flower(MplsOpts([Lse([LseDepth(1), LseLabel(74565)])]))])]
+05000c00 01 | [HwOffload(1)] | 05000c00 01000000
+08000100 75333200 28000200 24000500 01000100 0f00000000000000 00000000 ffffffff 0a000001 10000000 00000000 | [Kind("u32"), Options([U32(Selector(TcU32Selector { flags: TcU32SelectorFlags(1), offshift: 0, nkeys: 1, offmask: 3840, off: 0, offoff: 0, hoff: 0, hmask: 0, keys: [TcU32Key { mask: 4294967295, val: 167772161, off: 16, offmask: 0 }] }))])]
+08000100 75333200 30000200 2c000500 01000100 0f00000000000000 00000000 ffffffff 0a000001 10000000 00000000 0000000000000000 | [Kind("u32"), Options([U32(Selector(TcU32Selector { flags: TcU32SelectorFlags(1), offshift: 0, nkeys: 1, offmask: 3840, off: 0, offoff: 0, hoff: 0, hmask: 0, keys: [TcU32Key { mask: 4294967295, val: 167772161, off: 16, offmask: 0 }] }))])] | 08000100 75333200 28000200 24000500 01000100 0f00000000000000 00000000 ffffffff 0a000001 10000000 00000000
+0d000100 66715f636f64656c00000000 08000400 02000000 | [Kind("fq_codel"), Xstats(FqCodel(Other([2, 0, 0, 0])))]
+0d000100 66715f636f64656c00000000 2c000400 01000000 000000000000000000000000000000000000000000000000000000000000000000000000 | [Kind("fq_codel"), Xstats(FqCodel(Class(TcFqCodelClStats { deficit: 0, ldelay: 0, count: 0, lastcount: 0, dropping: 0, drop_next: 0 })))] | 0d000100 66715f636f64656c00000000 20000400 01000000 000000000000000000000000000000000000000000000000
+0d000100 6d61746368616c6c00000000 0c000200 08000300 01000000 | [Kind("matchall"), Options([MatchAll(Flags(1))])]
+0c000100 696e677265737300 04000200 | [Kind("ingress"), Options([])]
+0c000100 696e677265737300 0c000200 08006300 01020304 | [Kind("ingress"), Options([Ingress(Other(DefaultNla { word: 99, value: [1, 2, 3, 4] }))])]
+08000100 62706600 0c000200 06000700 70000000 | [Kind("bpf"), Options([Bpf(ProgName("p"))])]
+08000100 75333200 04000280 | [Kind("u32"), Options([])] | 08000100 75333200 04000200
+2c000300 00000000000000000000000000000000000000000000000000000000000000000000000000000001 | [Stats(TcStats { bytes: 0, packets: 0, drops: 0, overlimits: 0, bps: 0, pps: 0, qlen: 0, backlog: 0 })] | 2c000300 00000000000000000000000000000000000000000000000000000000000000000000000000000000
+080063c0 01020304 | [Other(DefaultNla { word: 49251, value: [1, 2, 3, 4] })]
+08000b80 07000000 | [Chain(7)] | 08000b00 07000000
+07000100 75333200 | [Kind("u32")] | 08000100 75333200
+05000a00 07000000 | [DumpInvisible(true)] | 04000a00
+08000100 75333200 60000200 38000700 34000100 0b000100 6d69727265640000 24000280 20000200 0000000000000000 04000000 0000000000000000 01000000 04000000 24000500 01000100 0000000000000000 00000000 ffffffff 01020307 0c000000 00000000 | [Kind("u32"), Options([U32(Action([TcAction { tab: 1, attributes: [Kind("mirred"), Options([Mirror(Parms(TcMirror { generic: TcActionGeneric { index: 0, capab: 0, action: Stolen, refcnt: 0, bindcnt: 0 }, eaction: EgressRedir, ifindex: 4 }))])] }])), U32(Selector(TcU32Selector { flags: TcU32SelectorFlags(1), offshift: 0, nkeys: 1, offmask: 0, off: 0, offoff: 0, hoff: 0, hmask: 0, keys: [TcU32Key { mask: 4294967295, val: 16909063, off: 12, offmask: 0 }] }))])]
+"#;
 
-/// Messages, after a header of 20 zeros.
-#[rattlefmt::skip]
-pub(crate) const TC: [Worked; 25] = [
-    ("", "[]", "", true),
-    ("08000100 75333200 0c000200 08000200 05000000 0d000100 66715f636f64656c00000000 0c000200 08000200 05000000", "[Kind(\"u32\"), Options([U32(Hash(5))]), Kind(\"fq_codel\"), Options([FqCodel(Limit(5))])]", "", true),
-    ("08000180 75333200 0c000200 08000200 05000000 0d000100 66715f636f64656c00000000 0c000200 08000200 05000000", "[Kind(\"u32\"), Options([U32(Hash(5))]), Kind(\"fq_codel\"), Options([FqCodel(Limit(5))])]", "08000100 75333200 0c000200 08000200 05000000 0d000100 66715f636f64656c00000000 0c000200 08000200 05000000", true),
-    ("0c000200 08000200 00280000", "[OptionsRaw(DefaultNla { word: 2, value: [8, 0, 2, 0, 0, 40, 0, 0] })]", "", true),
-    ("08000100 73667100 08000280 01020304", "[Kind(\"sfq\"), OptionsRaw(DefaultNla { word: 32770, value: [1, 2, 3, 4] })]", "", true),
-    ("05000200 01", "[OptionsRaw(DefaultNla { word: 2, value: [1] })]", "05000200 01000000", true),
-    ("0e000100 66715f636f64656c00000000 0c000200 08000200 00280000", "[Kind(\"fq_codel\\0\"), OptionsRaw(DefaultNla { word: 2, value: [8, 0, 2, 0, 0, 40, 0, 0] })]", "", true),
-    ("0b000100 666c6f7765720000 0c000200 05004400 03000000", "[Kind(\"flower\"), Options([Flower(MplsBos(3))])]", "0b000100 666c6f7765720000 0c000200 05004400 01000000", false),
-    ("0b000100 666c6f7765720000 1c000200 18006380 14000180 05000100 01000000 08000500 45230100", "[Kind(\"flower\"), Options([Flower(MplsOpts([Lse([LseDepth(1), LseLabel(74565)])]))])]", "", true),
-    ("05000c00 01", "[HwOffload(1)]", "05000c00 01000000", true),
-    ("08000100 75333200 28000200 24000500 01000100 0f00000000000000 00000000 ffffffff 0a000001 10000000 00000000", "[Kind(\"u32\"), Options([U32(Selector(TcU32Selector { flags: TcU32SelectorFlags(1), offshift: 0, nkeys: 1, offmask: 3840, off: 0, offoff: 0, hoff: 0, hmask: 0, keys: [TcU32Key { mask: 4294967295, val: 167772161, off: 16, offmask: 0 }] }))])]", "", true),
-    ("08000100 75333200 30000200 2c000500 01000100 0f00000000000000 00000000 ffffffff 0a000001 10000000 00000000 0000000000000000", "[Kind(\"u32\"), Options([U32(Selector(TcU32Selector { flags: TcU32SelectorFlags(1), offshift: 0, nkeys: 1, offmask: 3840, off: 0, offoff: 0, hoff: 0, hmask: 0, keys: [TcU32Key { mask: 4294967295, val: 167772161, off: 16, offmask: 0 }] }))])]", "08000100 75333200 28000200 24000500 01000100 0f00000000000000 00000000 ffffffff 0a000001 10000000 00000000", true),
-    ("0d000100 66715f636f64656c00000000 08000400 02000000", "[Kind(\"fq_codel\"), Xstats(FqCodel(Other([2, 0, 0, 0])))]", "", true),
-    ("0d000100 66715f636f64656c00000000 2c000400 01000000 000000000000000000000000000000000000000000000000000000000000000000000000", "[Kind(\"fq_codel\"), Xstats(FqCodel(Class(TcFqCodelClStats { deficit: 0, ldelay: 0, count: 0, lastcount: 0, dropping: 0, drop_next: 0 })))]", "0d000100 66715f636f64656c00000000 20000400 01000000 000000000000000000000000000000000000000000000000", true),
-    ("0d000100 6d61746368616c6c00000000 0c000200 08000300 01000000", "[Kind(\"matchall\"), Options([MatchAll(Flags(1))])]", "", true),
-    ("0c000100 696e677265737300 04000200", "[Kind(\"ingress\"), Options([])]", "", true),
-    ("0c000100 696e677265737300 0c000200 08006300 01020304", "[Kind(\"ingress\"), Options([Ingress(Other(DefaultNla { word: 99, value: [1, 2, 3, 4] }))])]", "", true),
-    ("08000100 62706600 0c000200 06000700 70000000", "[Kind(\"bpf\"), Options([Bpf(ProgName(\"p\"))])]", "", true),
-    ("08000100 75333200 04000280", "[Kind(\"u32\"), Options([])]", "08000100 75333200 04000200", true),
-    ("2c000300 00000000000000000000000000000000000000000000000000000000000000000000000000000001", "[Stats(TcStats { bytes: 0, packets: 0, drops: 0, overlimits: 0, bps: 0, pps: 0, qlen: 0, backlog: 0 })]", "2c000300 00000000000000000000000000000000000000000000000000000000000000000000000000000000", true),
-    ("080063c0 01020304", "[Other(DefaultNla { word: 49251, value: [1, 2, 3, 4] })]", "", true),
-    ("08000b80 07000000", "[Chain(7)]", "08000b00 07000000", true),
-    ("07000100 75333200", "[Kind(\"u32\")]", "08000100 75333200", true),
-    ("05000a00 07000000", "[DumpInvisible(true)]", "04000a00", true),
-    ("08000100 75333200 60000200 38000700 34000100 0b000100 6d69727265640000 24000280 20000200 0000000000000000 04000000 0000000000000000 01000000 04000000 24000500 01000100 0000000000000000 00000000 ffffffff 01020307 0c000000 00000000", "[Kind(\"u32\"), Options([U32(Action([TcAction { tab: 1, attributes: [Kind(\"mirred\"), Options([Mirror(Parms(TcMirror { generic: TcActionGeneric { index: 0, capab: 0, action: Stolen, refcnt: 0, bindcnt: 0 }, eaction: EgressRedir, ifindex: 4 }))])] }])), U32(Selector(TcU32Selector { flags: TcU32SelectorFlags(1), offshift: 0, nkeys: 1, offmask: 0, off: 0, offoff: 0, hoff: 0, hmask: 0, keys: [TcU32Key { mask: 4294967295, val: 16909063, off: 12, offmask: 0 }] }))])]", "", true),
-];
+/// Messages that aren't settled.
+pub(crate) const TC_UNSETTLED: &str = r#"
+0b000100 666c6f7765720000 0c000200 05004400 03000000 | [Kind("flower"), Options([Flower(MplsBos(3))])] | 0b000100 666c6f7765720000 0c000200 05004400 01000000
+"#;
 
 /// Messages that are refused.
-#[rattlefmt::skip]
-pub(crate) const TC_FAULTS: [Refused; 15] = [
-    ("05000100ff000000", "NotUtf8"),
-    ("08000300 00000000", "BufferTooSmall { len: 4, needed: 40 }"),
-    ("08000b00 07000000 aabb", "FrameHeaderShort { left: 2 }"),
-    ("0d000100 66715f636f64656c00000000 07000400 01020300", "XstatsShort { len: 3 }"),
-    ("0d000100 66715f636f64656c00000000 08000400 00000000", "BufferTooSmall { len: 0, needed: 36 }"),
-    ("08000100 75333200 18000200 13000500 000001000000000000000000 00000000", "SelectorShort { len: 15, needed: 16 }"),
-    ("08000100 75333200 18000200 14000500 000001000000000000000000 00000000", "SelectorShort { len: 16, needed: 32 }"),
-    ("08000100 75333200 18000200 14000500 0000ff000000000000000000 00000000", "SelectorShort { len: 16, needed: 4096 }"),
-    ("08000100 62706600 10000200 0b000a00 0102030405060700", "WrongLength { expected: 8, got: 7 }"),
-    ("0d000100 6d61746368616c6c00000000 1c000200 18000200 14000100 08000100 6e617400 08000280 ff006300", "FrameTooLong { length: 255, left: 4 }"),
-    ("0d000100 6d61746368616c6c00000000 1c000200 18000200 14000100 08000900 6e617400 08000280 ff006300", "MissingKind"),
-    ("0d000100 66715f636f64656c00000000 0c000200 09000200 00280000", "FrameTooLong { length: 9, left: 8 }"),
-    ("0d000100 66715f636f64656c00000000 0c000200 07000200 00280000", "WrongLength { expected: 4, got: 3 }"),
-    ("0d000100 66715f636f64656c00000000 0c000200 04000200 00280000", "WrongLength { expected: 4, got: 0 }"),
-    ("0d000100 66715f636f64656c00000000 0c000200 03000200 00280000", "FrameTooShort { length: 3 }"),
-];
+pub(crate) const TC_FAULTS: &str = r#"
+05000100ff000000 | NotUtf8
+08000300 00000000 | BufferTooSmall { len: 4, needed: 40 }
+08000b00 07000000 aabb | FrameHeaderShort { left: 2 }
+0d000100 66715f636f64656c00000000 07000400 01020300 | XstatsShort { len: 3 }
+0d000100 66715f636f64656c00000000 08000400 00000000 | BufferTooSmall { len: 0, needed: 36 }
+08000100 75333200 18000200 13000500 000001000000000000000000 00000000 | SelectorShort { len: 15, needed: 16 }
+08000100 75333200 18000200 14000500 000001000000000000000000 00000000 | SelectorShort { len: 16, needed: 32 }
+08000100 75333200 18000200 14000500 0000ff000000000000000000 00000000 | SelectorShort { len: 16, needed: 4096 }
+08000100 62706600 10000200 0b000a00 0102030405060700 | WrongLength { expected: 8, got: 7 }
+0d000100 6d61746368616c6c00000000 1c000200 18000200 14000100 08000100 6e617400 08000280 ff006300 | FrameTooLong { length: 255, left: 4 }
+0d000100 6d61746368616c6c00000000 1c000200 18000200 14000100 08000900 6e617400 08000280 ff006300 | MissingKind
+0d000100 66715f636f64656c00000000 0c000200 09000200 00280000 | FrameTooLong { length: 9, left: 8 }
+0d000100 66715f636f64656c00000000 0c000200 07000200 00280000 | WrongLength { expected: 4, got: 3 }
+0d000100 66715f636f64656c00000000 0c000200 04000200 00280000 | WrongLength { expected: 4, got: 0 }
+0d000100 66715f636f64656c00000000 0c000200 03000200 00280000 | FrameTooShort { length: 3 }
+"#;
 
-/// Action messages, after a header of 4 zeros.
-#[rattlefmt::skip]
-pub(crate) const ACTIONS: [Worked; 14] = [
-    ("", "[]", "", true),
-    ("18000100 14000100 08000300 05000000 08000100 6e617400", "[Actions([TcAction { tab: 1, attributes: [Index(5), Kind(\"nat\")] }])]", "", true),
-    ("18000100 14000180 08000300 05000000 08000100 6e617400", "[Actions([TcAction { tab: 1, attributes: [Index(5), Kind(\"nat\")] }])]", "18000100 14000100 08000300 05000000 08000100 6e617400", true),
-    ("08000300 06000000", "[RootCount(6)]", "", true),
-    ("08000400 63000000", "[RootTimeDelta(99)]", "", true),
-    ("24000100 20000100 0f000100 74756e6e656c5f6b65790000 0c000280 05000a00 02000000", "[Actions([TcAction { tab: 1, attributes: [Kind(\"tunnel_key\"), Options([TunnelKey(NoCsum(true))])] }])]", "24000100 20000100 0f000100 74756e6e656c5f6b65790000 0c000280 05000a00 01000000", true),
-    ("0c000200 01000000 01000000", "[Flags(TcActionMessageFlagsWithSelector { flags: TcActionMessageFlags(1), selector: TcActionMessageFlags(1) })]", "", true),
-    ("04000100", "[Actions([])]", "", true),
-    ("06000500 68690000", "[RootExtWarnMsg(\"hi\")]", "", true),
-    ("07000500 61000000", "[RootExtWarnMsg(\"a\\0\")]", "06000500 61000000", false),
-    ("08000500 61000000", "[RootExtWarnMsg(\"a\\0\\0\")]", "07000500 61000000", false),
-    ("06000500 61000000", "[RootExtWarnMsg(\"a\")]", "05000500 61000000", true),
-    ("05000500 00000000", "[RootExtWarnMsg(\"\")]", "04000500", true),
-    ("08000500 61000000 07000500 62000000", "[RootExtWarnMsg(\"a\\0\\0\"), RootExtWarnMsg(\"b\\0\")]", "07000500 61000000 06000500 62000000", false),
-];
+/// Action messages that are settled, after a header of 4 zeros.
+pub(crate) const ACTIONS: &str = r#"
+ | []
+18000100 14000100 08000300 05000000 08000100 6e617400 | [Actions([TcAction { tab: 1, attributes: [Index(5), Kind("nat")] }])]
+18000100 14000180 08000300 05000000 08000100 6e617400 | [Actions([TcAction { tab: 1, attributes: [Index(5), Kind("nat")] }])] | 18000100 14000100 08000300 05000000 08000100 6e617400
+08000300 06000000 | [RootCount(6)]
+08000400 63000000 | [RootTimeDelta(99)]
+24000100 20000100 0f000100 74756e6e656c5f6b65790000 0c000280 05000a00 02000000 | [Actions([TcAction { tab: 1, attributes: [Kind("tunnel_key"), Options([TunnelKey(NoCsum(true))])] }])] | 24000100 20000100 0f000100 74756e6e656c5f6b65790000 0c000280 05000a00 01000000
+0c000200 01000000 01000000 | [Flags(TcActionMessageFlagsWithSelector { flags: TcActionMessageFlags(1), selector: TcActionMessageFlags(1) })]
+04000100 | [Actions([])]
+06000500 68690000 | [RootExtWarnMsg("hi")]
+06000500 61000000 | [RootExtWarnMsg("a")] | 05000500 61000000
+05000500 00000000 | [RootExtWarnMsg("")] | 04000500
+"#;
+
+/// Action messages that aren't settled.
+pub(crate) const ACTIONS_UNSETTLED: &str = r#"
+07000500 61000000 | [RootExtWarnMsg("a\0")] | 06000500 61000000
+08000500 61000000 | [RootExtWarnMsg("a\0\0")] | 07000500 61000000
+08000500 61000000 07000500 62000000 | [RootExtWarnMsg("a\0\0"), RootExtWarnMsg("b\0")] | 07000500 61000000 06000500 62000000
+"#;
 
 /// Action messages that are refused.
-#[rattlefmt::skip]
-pub(crate) const ACTION_FAULTS: [Refused; 7] = [
-    ("08000100 04000100", "MissingKind"),
-    ("0c000100 08000100 03000100", "FrameTooShort { length: 3 }"),
-    ("20000100 1c000100 08000100 6e617400 08000100 6e617400 05000300 00000000", "DuplicateKind"),
-    ("08000100 63000000", "FrameTooLong { length: 99, left: 4 }"),
-    ("08000200 01000000", "WrongLength { expected: 8, got: 4 }"),
-    ("05000500 ff000000", "NotUtf8"),
-    ("08000300 06000000 0000", "FrameHeaderShort { left: 2 }"),
-];
+pub(crate) const ACTION_FAULTS: &str = r#"
+08000100 04000100 | MissingKind
+0c000100 08000100 03000100 | FrameTooShort { length: 3 }
+20000100 1c000100 08000100 6e617400 08000100 6e617400 05000300 00000000 | DuplicateKind
+08000100 63000000 | FrameTooLong { length: 99, left: 4 }
+08000200 01000000 | WrongLength { expected: 8, got: 4 }
+05000500 ff000000 | NotUtf8
+08000300 06000000 0000 | FrameHeaderShort { left: 2 }
+"#;
 
 /// Whether bytes are read as a message of this header and of attributes of this text, which its clone is too, and it is written, settled and
 /// canonical as it has to be.
@@ -121,8 +121,10 @@ pub(crate) fn is_read_as(
     )
 }
 
-fn is_read(alloc: Global, row: &Worked) -> Result<bool, Fail> {
-    let (frames, text, written, is_settled) = *row;
+fn is_read(alloc: Global, row: &str, is_settled: bool) -> Result<bool, Fail> {
+    let Some((frames, text, written)) = cells(row) else {
+        return Ok(false);
+    };
     let bytes = after_zeros(alloc, 20, frames)?;
     let written = after_zeros(alloc, 20, or_same(frames, written))?;
     is_read_as(
@@ -135,11 +137,11 @@ fn is_read(alloc: Global, row: &Worked) -> Result<bool, Fail> {
     )
 }
 
-/// Judges each row of messages, and tells the first that is read or written as another.
-pub(crate) fn are_read(alloc: Global, rows: &[Worked]) -> Result<(), Fail> {
-    for row in rows {
-        if !is_read(alloc, row)? {
-            return Err(Fail::new(row.0));
+/// Judges each row of messages, and tells the first that is read or written as another, or settled otherwise.
+pub(crate) fn are_read(alloc: Global, table: &str, is_settled: bool) -> Result<(), Fail> {
+    for row in rows(table) {
+        if !is_read(alloc, row, is_settled)? {
+            return Err(Fail::new(row));
         }
     }
     Ok(())
@@ -157,16 +159,19 @@ fn is_fault(alloc: Global, fault: &Option<DecodeError>, text: &str) -> Result<bo
     }
 }
 
-fn is_refused(alloc: Global, row: &Refused) -> Result<bool, AllocError> {
-    let bytes = after_zeros(alloc, 20, row.0)?;
-    is_fault(alloc, &fault_of(alloc, &bytes), row.1)
+fn is_refused(alloc: Global, row: &str) -> Result<bool, AllocError> {
+    let Some((frames, fault)) = pair(row) else {
+        return Ok(false);
+    };
+    let bytes = after_zeros(alloc, 20, frames)?;
+    is_fault(alloc, &fault_of(alloc, &bytes), fault)
 }
 
 /// Judges each row of messages, and tells the first that isn't refused with its fault.
-pub(crate) fn are_refused(alloc: Global, rows: &[Refused]) -> Result<(), Fail> {
-    for row in rows {
+pub(crate) fn are_refused(alloc: Global, table: &str) -> Result<(), Fail> {
+    for row in rows(table) {
         if !is_refused(alloc, row)? {
-            return Err(Fail::new(row.0));
+            return Err(Fail::new(row));
         }
     }
     Ok(())
@@ -174,40 +179,63 @@ pub(crate) fn are_refused(alloc: Global, rows: &[Refused]) -> Result<(), Fail> {
 
 #[test]
 fn messages(rt: HostRuntime) -> Result<(), Fail> {
-    are_read(rt.alloc(), &TC)?;
-    are_refused(rt.alloc(), &TC_FAULTS)
+    are_read(rt.alloc(), TC, true)?;
+    are_read(rt.alloc(), TC_UNSETTLED, false)?;
+    are_refused(rt.alloc(), TC_FAULTS)
 }
 
-fn is_action_read(alloc: Global, row: &Worked) -> Result<bool, Fail> {
-    let (frames, text, written, is_settled) = *row;
-    let bytes = after_zeros(alloc, 4, frames)?;
-    let written = after_zeros(alloc, 4, or_same(frames, written))?;
-    let message = TcActionMessage::parse(alloc, &bytes)?;
+/// The same of an action message, with an empty header.
+fn is_action_read_as(
+    alloc: Global,
+    bytes: &[u8],
+    text: &str,
+    written: &[u8],
+    is_settled: bool,
+) -> Result<bool, Fail> {
+    let message = TcActionMessage::parse(alloc, bytes)?;
     Ok(
         message.header == TcActionMessageHeader::default()
             && is_shown(alloc, &message.attributes, text)?
-            && is_written(&message, &written)
+            && is_written(&message, written)
             && message.is_settled() == is_settled
-            && is_canonical_action(&bytes) == (bytes == written)
+            && is_canonical_action(bytes) == (bytes == written)
             && message.clone()? == message,
     )
 }
 
-fn is_action_refused(alloc: Global, row: &Refused) -> Result<bool, AllocError> {
-    let bytes = after_zeros(alloc, 4, row.0)?;
-    is_fault(alloc, &TcActionMessage::parse(alloc, &bytes).err(), row.1)
+fn is_action_read(alloc: Global, row: &str, is_settled: bool) -> Result<bool, Fail> {
+    let Some((frames, text, written)) = cells(row) else {
+        return Ok(false);
+    };
+    let bytes = after_zeros(alloc, 4, frames)?;
+    let written = after_zeros(alloc, 4, or_same(frames, written))?;
+    is_action_read_as(alloc, &bytes, text, &written, is_settled)
+}
+
+fn are_actions_read(alloc: Global, table: &str, is_settled: bool) -> Result<(), Fail> {
+    for row in rows(table) {
+        if !is_action_read(alloc, row, is_settled)? {
+            return Err(Fail::new(row));
+        }
+    }
+    Ok(())
+}
+
+fn is_action_refused(alloc: Global, row: &str) -> Result<bool, AllocError> {
+    let Some((frames, fault)) = pair(row) else {
+        return Ok(false);
+    };
+    let bytes = after_zeros(alloc, 4, frames)?;
+    is_fault(alloc, &TcActionMessage::parse(alloc, &bytes).err(), fault)
 }
 
 #[test]
 fn action_messages(rt: HostRuntime) -> Result<(), Fail> {
-    for row in &ACTIONS {
-        if !is_action_read(rt.alloc(), row)? {
-            return Err(Fail::new(row.0));
-        }
-    }
-    for row in &ACTION_FAULTS {
+    are_actions_read(rt.alloc(), ACTIONS, true)?;
+    are_actions_read(rt.alloc(), ACTIONS_UNSETTLED, false)?;
+    for row in rows(ACTION_FAULTS) {
         if !is_action_refused(rt.alloc(), row)? {
-            return Err(Fail::new(row.0));
+            return Err(Fail::new(row));
         }
     }
     Ok(())
@@ -261,33 +289,43 @@ fn fits(alloc: Global, length: usize) -> Result<bool, AllocError> {
     Ok(with_option(alloc, "fq_codel", TcOption::FqCodel(option))?.fits())
 }
 
+/// Whether bytes are read as a message that is settled, and doesn't fit since its one option has so many bytes.
+fn is_read_as_long(alloc: Global, bytes: &[u8], length: usize) -> Result<bool, Fail> {
+    let message = TcMessage::parse(alloc, bytes)?;
+    Ok(!message.fits() && message.is_settled() && message == with_ingress_option(alloc, length)?)
+}
+
 #[test]
 fn long_messages(rt: HostRuntime) -> Result<(), Fail> {
     let alloc = rt.alloc();
     let bytes = too_long(alloc, Form::Tc)?.bytes;
     assert!(rt; bytes.len() == 65568);
     assert!(rt; !is_canonical_tc(&bytes));
-    let message = TcMessage::parse(alloc, &bytes)?;
-    assert!(rt; !message.fits());
-    assert!(rt; message.is_settled());
-    assert!(rt; message == with_ingress_option(alloc, 65527)?);
+    assert!(rt; is_read_as_long(alloc, &bytes, 65527)?);
     assert!(rt; fits(alloc, 65524)?);
     assert!(rt; !fits(alloc, 65525)?);
     Ok(())
+}
+
+fn rate(alloc: Global, length: usize) -> Result<TcAttribute, AllocError> {
+    Ok(TcAttribute::Rate(vec![in alloc; 0; length]?))
+}
+
+fn length_if_it_fits<M: Emitable>(message: &M) -> Option<usize> {
+    if message.fits() {
+        Some(message.buffer_len())
+    } else {
+        None
+    }
 }
 
 /// The length of a message of rates of these lengths, if it fits.
 fn length_of(alloc: Global, rates: &[usize]) -> Result<Option<usize>, AllocError> {
     let mut message = TcMessage::default_in(alloc);
     for length in rates {
-        let rate = vec![in alloc; 0; *length]?;
-        message = with(message, Ok(TcAttribute::Rate(rate)))?;
+        message = with(message, rate(alloc, *length))?;
     }
-    Ok(if message.fits() {
-        Some(message.buffer_len())
-    } else {
-        None
-    })
+    Ok(length_if_it_fits(&message))
 }
 
 #[test]

@@ -1,41 +1,45 @@
 //! The attributes of a message, type by type.
 
-use crate::tables::is_known_under;
-use nla_frames::{NlaBuffer, ParseableParametrized};
+use crate::tables::{cells, is_known_under, is_read, rows};
 use std::alloc::Global;
 use std::test::Fail;
 use tc_wire::TcAttribute;
 
-/// A kind, a frame in hex, and the attribute that it is read as under the kind.
-type Row = (&'static str, &'static str, &'static str);
+// In each table: a kind, a frame in hex, and the attribute that it is read as under the kind.
 
-#[rattlefmt::skip]
-const ATTRIBUTES: [Row; 13] = [
-    ("", "08000100 73667100", "Kind(\"sfq\")"),
-    ("fq_codel", "0c000200 08000200 24232221", "Options([FqCodel(Limit(555885348))])"),
-    ("sfq", "07000200 a1a2a300", "OptionsRaw(DefaultNla { word: 2, value: [161, 162, 163] })"),
-    ("sfq", "07000400 a1a2a300", "Xstats(Other([161, 162, 163]))"),
-    ("fq_codel", "08000400 02000000", "Xstats(FqCodel(Other([2, 0, 0, 0])))"),
-    ("", "07000500 a1a2a300", "Rate([161, 162, 163])"),
-    ("", "07000600 a1a2a300", "Fcnt([161, 162, 163])"),
-    ("fq_codel", "0c000700 08000400 02000000", "Stats2([App(FqCodel(Other([2, 0, 0, 0])))])"),
-    ("", "07000800 a1a2a300", "Stab([161, 162, 163])"),
-    ("", "04000a00", "DumpInvisible(true)"),
-    ("", "08000b00 b4b3b2b1", "Chain(2981278644)"),
-    ("", "05000c00 c1000000", "HwOffload(193)"),
-    ("", "07000980 a1a2a300", "Other(DefaultNla { word: 32777, value: [161, 162, 163] })"),
-];
+const ATTRIBUTES: &str = r#"
+ | 08000100 73667100 | Kind("sfq")
+fq_codel | 0c000200 08000200 24232221 | Options([FqCodel(Limit(555885348))])
+sfq | 07000200 a1a2a300 | OptionsRaw(DefaultNla { word: 2, value: [161, 162, 163] })
+sfq | 07000400 a1a2a300 | Xstats(Other([161, 162, 163]))
+fq_codel | 08000400 02000000 | Xstats(FqCodel(Other([2, 0, 0, 0])))
+ | 07000500 a1a2a300 | Rate([161, 162, 163])
+ | 07000600 a1a2a300 | Fcnt([161, 162, 163])
+fq_codel | 0c000700 08000400 02000000 | Stats2([App(FqCodel(Other([2, 0, 0, 0])))])
+ | 07000800 a1a2a300 | Stab([161, 162, 163])
+ | 04000a00 | DumpInvisible(true)
+ | 08000b00 b4b3b2b1 | Chain(2981278644)
+ | 05000c00 c1000000 | HwOffload(193)
+ | 07000980 a1a2a300 | Other(DefaultNla { word: 32777, value: [161, 162, 163] })
+"#;
 
-#[rattlefmt::skip]
-const STATISTICS: [Row; 1] = [
-    ("", "2c000300 0102030405060708 090a0b0c 0d0e0f10 11121314 15161718 191a1b1c 1d1e1f20 21222324 00000000", "Stats(TcStats { bytes: 578437695752307201, packets: 202050057, drops: 269422093, overlimits: 336794129, bps: 404166165, pps: 471538201, qlen: 538910237, backlog: 606282273 })"),
-];
+const STATISTICS: &str = r#"
+ | 2c000300 0102030405060708 090a0b0c 0d0e0f10 11121314 15161718 191a1b1c 1d1e1f20 21222324 00000000 | Stats(TcStats { bytes: 578437695752307201, packets: 202050057, drops: 269422093, overlimits: 336794129, bps: 404166165, pps: 471538201, qlen: 538910237, backlog: 606282273 })
+"#;
+
+/// Whether a row's frame is read as told, and written as it came.
+fn is_known(alloc: Global, row: &str) -> Result<bool, Fail> {
+    let Some((kind, frame, text)) = cells(row) else {
+        return Ok(false);
+    };
+    is_known_under::<TcAttribute>(alloc, kind, frame, text, frame)
+}
 
 /// Judges each row, and tells the first that is read as another, or isn't written as it came.
-fn are_known(alloc: Global, rows: &[Row]) -> Result<(), Fail> {
-    for (kind, frame, text) in rows {
-        if !is_known_under::<TcAttribute>(alloc, kind, frame, text, frame)? {
-            return Err(Fail::new(*frame));
+fn are_known(alloc: Global, table: &str) -> Result<(), Fail> {
+    for row in rows(table) {
+        if !is_known(alloc, row)? {
+            return Err(Fail::new(row));
         }
     }
     Ok(())
@@ -43,19 +47,14 @@ fn are_known(alloc: Global, rows: &[Row]) -> Result<(), Fail> {
 
 #[test]
 fn of_a_message(rt: HostRuntime) -> Result<(), Fail> {
-    are_known(rt.alloc(), &ATTRIBUTES)
-}
-
-#[test]
-fn statistics_of_a_message(rt: HostRuntime) -> Result<(), Fail> {
-    are_known(rt.alloc(), &STATISTICS)
+    are_known(rt.alloc(), ATTRIBUTES)?;
+    are_known(rt.alloc(), STATISTICS)
 }
 
 // The flags of a word are not looked at where the type is in the table.
 #[test]
 fn flags_of_a_word(rt: HostRuntime) -> Result<(), Fail> {
-    let frame = NlaBuffer::new_checked(&[8, 0, 11, 0xc0, 0xb4, 0xb3, 0xb2, 0xb1])?;
-    let read = TcAttribute::parse_with_param(rt.alloc(), &frame, "")?;
-    assert!(rt; read == TcAttribute::Chain(0xb1b2_b3b4));
+    let chain = TcAttribute::Chain(0xb1b2_b3b4);
+    assert!(rt; is_read(rt.alloc(), &[8, 0, 11, 0xc0, 0xb4, 0xb3, 0xb2, 0xb1], chain)?);
     Ok(())
 }

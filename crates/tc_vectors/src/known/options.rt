@@ -1,139 +1,137 @@
 //! The options of a message, type by type, by themselves and in the variant of their kind.
 
 use crate::flower;
-use crate::tables::{Row, are_known, bytes_of, is_known_under, is_shown, or_same};
+use crate::tables::{are_known, bytes_of, cells, is_known_under, is_shown, or_same, pair, rows};
 use nla_frames::{NlaBuffer, ParseableParametrized, Settle};
 use std::alloc::{AllocError, Global};
+use std::fmt::Debug;
 use std::test::Fail;
 use tc_options::{
     TcFilterBpfOption, TcFilterMatchAllOption, TcFilterU32Option, TcOption, TcQdiscFqCodelOption,
     TcQdiscIngressOption,
 };
 
-#[rattlefmt::skip]
-const FQ_CODEL: [Row; 15] = [
-    ("08000100 14131211", "Target(286397204)", ""),
-    ("08000200 24232221", "Limit(555885348)", ""),
-    ("08000300 34333231", "Interval(825373492)", ""),
-    ("08000400 44434241", "Ecn(1094861636)", ""),
-    ("08000500 54535251", "Flows(1364349780)", ""),
-    ("08000600 64636261", "Quantum(1633837924)", ""),
-    ("08000700 74737271", "CeThreshold(1903326068)", ""),
-    ("08000800 84838281", "DropBatchSize(2172814212)", ""),
-    ("08000900 94939291", "MemoryLimit(2442302356)", ""),
-    ("05000a00 a1000000", "CeThresholdSelector(161)", ""),
-    ("05000b00 b1000000", "CeThresholdMask(177)", ""),
-    ("07000000 a1a2a300", "Other(DefaultNla { word: 0, value: [161, 162, 163] })", ""),
-    ("07000c00 a1a2a300", "Other(DefaultNla { word: 12, value: [161, 162, 163] })", ""),
-    ("070063c0 a1a2a300", "Other(DefaultNla { word: 49251, value: [161, 162, 163] })", ""),
-    ("08000280 24232221", "Limit(555885348)", "08000200 24232221"),
-];
+// In each table: a frame in hex, what it is read as, and what is written of that, where it isn't the same.
 
-#[rattlefmt::skip]
-const INGRESS: [Row; 6] = [
-    ("07000000 a1a2a300", "Other(DefaultNla { word: 0, value: [161, 162, 163] })", ""),
-    ("07000100 a1a2a300", "Other(DefaultNla { word: 1, value: [161, 162, 163] })", ""),
-    ("07000200 a1a2a300", "Other(DefaultNla { word: 2, value: [161, 162, 163] })", ""),
-    ("07006300 a1a2a300", "Other(DefaultNla { word: 99, value: [161, 162, 163] })", ""),
-    ("07000180 a1a2a300", "Other(DefaultNla { word: 32769, value: [161, 162, 163] })", ""),
-    ("04000100", "Other(DefaultNla { word: 1, value: [] })", ""),
-];
+const FQ_CODEL: &str = r#"
+08000100 14131211 | Target(286397204)
+08000200 24232221 | Limit(555885348)
+08000300 34333231 | Interval(825373492)
+08000400 44434241 | Ecn(1094861636)
+08000500 54535251 | Flows(1364349780)
+08000600 64636261 | Quantum(1633837924)
+08000700 74737271 | CeThreshold(1903326068)
+08000800 84838281 | DropBatchSize(2172814212)
+08000900 94939291 | MemoryLimit(2442302356)
+05000a00 a1000000 | CeThresholdSelector(161)
+05000b00 b1000000 | CeThresholdMask(177)
+07000000 a1a2a300 | Other(DefaultNla { word: 0, value: [161, 162, 163] })
+07000c00 a1a2a300 | Other(DefaultNla { word: 12, value: [161, 162, 163] })
+070063c0 a1a2a300 | Other(DefaultNla { word: 49251, value: [161, 162, 163] })
+08000280 24232221 | Limit(555885348) | 08000200 24232221
+"#;
 
-#[rattlefmt::skip]
-const U32: [Row; 20] = [
-    ("08000100 14131211", "ClassId(TcHandle { major: 4370, minor: 4884 })", ""),
-    ("08000200 24232221", "Hash(555885348)", ""),
-    ("08000300 34333231", "Link(825373492)", ""),
-    ("08000400 44434241", "Divisor(1094861636)", ""),
-    ("34000500 51520200535455565758595a5b5c5d5e 6162636465666768696a6b6c6d6e6f70 7172737475767778797a7b7c7d7e7f80", "Selector(TcU32Selector { flags: TcU32SelectorFlags(81), offshift: 82, nkeys: 2, offmask: 21332, off: 22101, offoff: 22615, hoff: 23129, hmask: 1532779870, keys: [TcU32Key { mask: 1633837924, val: 1701209960, off: 1818978921, offmask: 1886350957 }, TcU32Key { mask: 1903326068, val: 1970698104, off: 2088467065, offmask: -2139128195 }] })", ""),
-    ("07000600 a1a2a300", "Police([161, 162, 163])", ""),
-    ("14000700 10000100 09000100 6761637400000000", "Action([TcAction { tab: 1, attributes: [Kind(\"gact\")] }])", ""),
-    ("07000800 a1a2a300", "Indev([161, 162, 163])", ""),
-    ("07000900 a1a2a300", "Pnct([161, 162, 163])", ""),
-    ("07000a00 a1a2a300", "Mark([161, 162, 163])", ""),
-    ("08000b00 b4b3b2b1", "Flags(TcU32OptionFlags(2981278644))", ""),
-    ("07000000 a1a2a300", "Other(DefaultNla { word: 0, value: [161, 162, 163] })", ""),
-    ("07000c00 a1a2a300", "Other(DefaultNla { word: 12, value: [161, 162, 163] })", ""),
-    ("07006380 a1a2a300", "Other(DefaultNla { word: 32867, value: [161, 162, 163] })", ""),
-    ("080002c0 24232221", "Hash(555885348)", "08000200 24232221"),
-    ("14000780 10000100 09000100 6761637400000000", "Action([TcAction { tab: 1, attributes: [Kind(\"gact\")] }])", "14000700 10000100 09000100 6761637400000000"),
-    ("04000700", "Action([])", ""),
-    ("04000600", "Police([])", ""),
-    ("34000500 51520277535455565758595a5b5c5d5e 6162636465666768696a6b6c6d6e6f70 7172737475767778797a7b7c7d7e7f80", "Selector(TcU32Selector { flags: TcU32SelectorFlags(81), offshift: 82, nkeys: 2, offmask: 21332, off: 22101, offoff: 22615, hoff: 23129, hmask: 1532779870, keys: [TcU32Key { mask: 1633837924, val: 1701209960, off: 1818978921, offmask: 1886350957 }, TcU32Key { mask: 1903326068, val: 1970698104, off: 2088467065, offmask: -2139128195 }] })", "34000500 51520200535455565758595a5b5c5d5e 6162636465666768696a6b6c6d6e6f70 7172737475767778797a7b7c7d7e7f80"),
-    ("18000500 01000000000000000000000000000000 01020304", "Selector(TcU32Selector { flags: TcU32SelectorFlags(1), offshift: 0, nkeys: 0, offmask: 0, off: 0, offoff: 0, hoff: 0, hmask: 0, keys: [] })", "14000500 01000000000000000000000000000000"),
-];
+const INGRESS: &str = r#"
+07000000 a1a2a300 | Other(DefaultNla { word: 0, value: [161, 162, 163] })
+07000100 a1a2a300 | Other(DefaultNla { word: 1, value: [161, 162, 163] })
+07000200 a1a2a300 | Other(DefaultNla { word: 2, value: [161, 162, 163] })
+07006300 a1a2a300 | Other(DefaultNla { word: 99, value: [161, 162, 163] })
+07000180 a1a2a300 | Other(DefaultNla { word: 32769, value: [161, 162, 163] })
+04000100 | Other(DefaultNla { word: 1, value: [] })
+"#;
 
-#[rattlefmt::skip]
-const MATCHALL: [Row; 9] = [
-    ("08000100 14131211", "ClassId(TcHandle { major: 4370, minor: 4884 })", ""),
-    ("14000200 10000100 09000100 6761637400000000", "Action([TcAction { tab: 1, attributes: [Kind(\"gact\")] }])", ""),
-    ("08000300 34333231", "Flags(825373492)", ""),
-    ("07000400 a1a2a300", "Pnct([161, 162, 163])", ""),
-    ("07000000 a1a2a300", "Other(DefaultNla { word: 0, value: [161, 162, 163] })", ""),
-    ("07000500 a1a2a300", "Other(DefaultNla { word: 5, value: [161, 162, 163] })", ""),
-    ("07000540 a1a2a300", "Other(DefaultNla { word: 16389, value: [161, 162, 163] })", ""),
-    ("08000380 34333231", "Flags(825373492)", "08000300 34333231"),
-    ("14000280 10000100 09000100 6761637400000000", "Action([TcAction { tab: 1, attributes: [Kind(\"gact\")] }])", "14000200 10000100 09000100 6761637400000000"),
-];
+const U32: &str = r#"
+08000100 14131211 | ClassId(TcHandle { major: 4370, minor: 4884 })
+08000200 24232221 | Hash(555885348)
+08000300 34333231 | Link(825373492)
+08000400 44434241 | Divisor(1094861636)
+34000500 51520200535455565758595a5b5c5d5e 6162636465666768696a6b6c6d6e6f70 7172737475767778797a7b7c7d7e7f80 | Selector(TcU32Selector { flags: TcU32SelectorFlags(81), offshift: 82, nkeys: 2, offmask: 21332, off: 22101, offoff: 22615, hoff: 23129, hmask: 1532779870, keys: [TcU32Key { mask: 1633837924, val: 1701209960, off: 1818978921, offmask: 1886350957 }, TcU32Key { mask: 1903326068, val: 1970698104, off: 2088467065, offmask: -2139128195 }] })
+07000600 a1a2a300 | Police([161, 162, 163])
+14000700 10000100 09000100 6761637400000000 | Action([TcAction { tab: 1, attributes: [Kind("gact")] }])
+07000800 a1a2a300 | Indev([161, 162, 163])
+07000900 a1a2a300 | Pnct([161, 162, 163])
+07000a00 a1a2a300 | Mark([161, 162, 163])
+08000b00 b4b3b2b1 | Flags(TcU32OptionFlags(2981278644))
+07000000 a1a2a300 | Other(DefaultNla { word: 0, value: [161, 162, 163] })
+07000c00 a1a2a300 | Other(DefaultNla { word: 12, value: [161, 162, 163] })
+07006380 a1a2a300 | Other(DefaultNla { word: 32867, value: [161, 162, 163] })
+080002c0 24232221 | Hash(555885348) | 08000200 24232221
+14000780 10000100 09000100 6761637400000000 | Action([TcAction { tab: 1, attributes: [Kind("gact")] }]) | 14000700 10000100 09000100 6761637400000000
+04000700 | Action([])
+04000600 | Police([])
+34000500 51520277535455565758595a5b5c5d5e 6162636465666768696a6b6c6d6e6f70 7172737475767778797a7b7c7d7e7f80 | Selector(TcU32Selector { flags: TcU32SelectorFlags(81), offshift: 82, nkeys: 2, offmask: 21332, off: 22101, offoff: 22615, hoff: 23129, hmask: 1532779870, keys: [TcU32Key { mask: 1633837924, val: 1701209960, off: 1818978921, offmask: 1886350957 }, TcU32Key { mask: 1903326068, val: 1970698104, off: 2088467065, offmask: -2139128195 }] }) | 34000500 51520200535455565758595a5b5c5d5e 6162636465666768696a6b6c6d6e6f70 7172737475767778797a7b7c7d7e7f80
+18000500 01000000000000000000000000000000 01020304 | Selector(TcU32Selector { flags: TcU32SelectorFlags(1), offshift: 0, nkeys: 0, offmask: 0, off: 0, offoff: 0, hoff: 0, hmask: 0, keys: [] }) | 14000500 01000000000000000000000000000000
+"#;
 
-#[rattlefmt::skip]
-const BPF: [Row; 17] = [
-    ("08000300 34333231", "ClassId(TcHandle { major: 12594, minor: 13108 })", ""),
-    ("08000600 64636261", "ProgFd(1633837924)", ""),
-    ("06000700 70000000", "ProgName(\"p\")", ""),
-    ("08000800 84838281", "Flags(TcBpfFlags(2172814212))", ""),
-    ("08000900 94939291", "FlagsGeneric(TcU32OptionFlags(2442302356))", ""),
-    ("0c000a00 a1a2a3a4a5a6a7a8", "ProgTag([161, 162, 163, 164, 165, 166, 167, 168])", ""),
-    ("08000b00 b4b3b2b1", "ProgId(2981278644)", ""),
-    ("07000000 a1a2a300", "Other(DefaultNla { word: 0, value: [161, 162, 163] })", ""),
-    ("07000100 a1a2a300", "Other(DefaultNla { word: 1, value: [161, 162, 163] })", ""),
-    ("07000200 a1a2a300", "Other(DefaultNla { word: 2, value: [161, 162, 163] })", ""),
-    ("07000400 a1a2a300", "Other(DefaultNla { word: 4, value: [161, 162, 163] })", ""),
-    ("07000500 a1a2a300", "Other(DefaultNla { word: 5, value: [161, 162, 163] })", ""),
-    ("07000c00 a1a2a300", "Other(DefaultNla { word: 12, value: [161, 162, 163] })", ""),
-    ("07000480 a1a2a300", "Other(DefaultNla { word: 32772, value: [161, 162, 163] })", ""),
-    ("05000700 70000000", "ProgName(\"p\")", "06000700 70000000"),
-    ("04000700", "ProgName(\"\")", "05000700 00000000"),
-    ("08000640 64636261", "ProgFd(1633837924)", "08000600 64636261"),
-];
+const MATCHALL: &str = r#"
+08000100 14131211 | ClassId(TcHandle { major: 4370, minor: 4884 })
+14000200 10000100 09000100 6761637400000000 | Action([TcAction { tab: 1, attributes: [Kind("gact")] }])
+08000300 34333231 | Flags(825373492)
+07000400 a1a2a300 | Pnct([161, 162, 163])
+07000000 a1a2a300 | Other(DefaultNla { word: 0, value: [161, 162, 163] })
+07000500 a1a2a300 | Other(DefaultNla { word: 5, value: [161, 162, 163] })
+07000540 a1a2a300 | Other(DefaultNla { word: 16389, value: [161, 162, 163] })
+08000380 34333231 | Flags(825373492) | 08000300 34333231
+14000280 10000100 09000100 6761637400000000 | Action([TcAction { tab: 1, attributes: [Kind("gact")] }]) | 14000200 10000100 09000100 6761637400000000
+"#;
+
+const BPF: &str = r#"
+08000300 34333231 | ClassId(TcHandle { major: 12594, minor: 13108 })
+08000600 64636261 | ProgFd(1633837924)
+06000700 70000000 | ProgName("p")
+08000800 84838281 | Flags(TcBpfFlags(2172814212))
+08000900 94939291 | FlagsGeneric(TcU32OptionFlags(2442302356))
+0c000a00 a1a2a3a4a5a6a7a8 | ProgTag([161, 162, 163, 164, 165, 166, 167, 168])
+08000b00 b4b3b2b1 | ProgId(2981278644)
+07000000 a1a2a300 | Other(DefaultNla { word: 0, value: [161, 162, 163] })
+07000100 a1a2a300 | Other(DefaultNla { word: 1, value: [161, 162, 163] })
+07000200 a1a2a300 | Other(DefaultNla { word: 2, value: [161, 162, 163] })
+07000400 a1a2a300 | Other(DefaultNla { word: 4, value: [161, 162, 163] })
+07000500 a1a2a300 | Other(DefaultNla { word: 5, value: [161, 162, 163] })
+07000c00 a1a2a300 | Other(DefaultNla { word: 12, value: [161, 162, 163] })
+07000480 a1a2a300 | Other(DefaultNla { word: 32772, value: [161, 162, 163] })
+05000700 70000000 | ProgName("p") | 06000700 70000000
+04000700 | ProgName("") | 05000700 00000000
+08000640 64636261 | ProgFd(1633837924) | 08000600 64636261
+"#;
 
 /// A kind, a frame in hex that isn't read under it, and why.
-#[rattlefmt::skip]
-const FAULTS: [Row; 15] = [
-    ("fq_codel", "06000a00 01020000", "WrongLength { expected: 1, got: 2 }"),
-    ("fq_codel", "07000200 01020300", "WrongLength { expected: 4, got: 3 }"),
-    ("u32", "05000200 01000000", "WrongLength { expected: 4, got: 1 }"),
-    ("u32", "0c000100 0102030405060708", "WrongLength { expected: 4, got: 8 }"),
-    ("u32", "13000500 00000100000000000000000000000000", "SelectorShort { len: 15, needed: 16 }"),
-    ("u32", "14000500 00000100000000000000000000000000", "SelectorShort { len: 16, needed: 32 }"),
-    ("u32", "08000700 04000100", "MissingKind"),
-    ("u32", "06000700 01020000", "FrameHeaderShort { left: 2 }"),
-    ("matchall", "08000200 03000100", "FrameTooShort { length: 3 }"),
-    ("matchall", "05000300 01000000", "WrongLength { expected: 4, got: 1 }"),
-    ("bpf", "0b000a00 0102030405060700", "WrongLength { expected: 8, got: 7 }"),
-    ("bpf", "0d000a00 010203040506070809000000", "WrongLength { expected: 8, got: 9 }"),
-    ("bpf", "06000700 ff000000", "NotUtf8"),
-    ("bpf", "04000600", "WrongLength { expected: 4, got: 0 }"),
-    ("flower", "08000400 01020304", "WrongLength { expected: 6, got: 4 }"),
-];
+const FAULTS: &str = r#"
+fq_codel | 06000a00 01020000 | WrongLength { expected: 1, got: 2 }
+fq_codel | 07000200 01020300 | WrongLength { expected: 4, got: 3 }
+u32 | 05000200 01000000 | WrongLength { expected: 4, got: 1 }
+u32 | 0c000100 0102030405060708 | WrongLength { expected: 4, got: 8 }
+u32 | 13000500 00000100000000000000000000000000 | SelectorShort { len: 15, needed: 16 }
+u32 | 14000500 00000100000000000000000000000000 | SelectorShort { len: 16, needed: 32 }
+u32 | 08000700 04000100 | MissingKind
+u32 | 06000700 01020000 | FrameHeaderShort { left: 2 }
+matchall | 08000200 03000100 | FrameTooShort { length: 3 }
+matchall | 05000300 01000000 | WrongLength { expected: 4, got: 1 }
+bpf | 0b000a00 0102030405060700 | WrongLength { expected: 8, got: 7 }
+bpf | 0d000a00 010203040506070809000000 | WrongLength { expected: 8, got: 9 }
+bpf | 06000700 ff000000 | NotUtf8
+bpf | 04000600 | WrongLength { expected: 4, got: 0 }
+flower | 08000400 01020304 | WrongLength { expected: 6, got: 4 }
+"#;
+
 /// The kinds that are known, and their variants.
-const KINDS: [(&str, &str); 6] = [
-    ("fq_codel", "FqCodel"),
-    ("ingress", "Ingress"),
-    ("flower", "Flower"),
-    ("u32", "U32"),
-    ("matchall", "MatchAll"),
-    ("bpf", "Bpf"),
-];
+const KINDS: &str = r#"
+fq_codel | FqCodel
+ingress | Ingress
+flower | Flower
+u32 | U32
+matchall | MatchAll
+bpf | Bpf
+"#;
 
 #[test]
 fn by_themselves(rt: HostRuntime) -> Result<(), Fail> {
     let alloc = rt.alloc();
-    are_known::<TcQdiscFqCodelOption>(alloc, &FQ_CODEL)?;
-    are_known::<TcQdiscIngressOption>(alloc, &INGRESS)?;
-    are_known::<TcFilterU32Option>(alloc, &U32)?;
-    are_known::<TcFilterMatchAllOption>(alloc, &MATCHALL)?;
-    are_known::<TcFilterBpfOption>(alloc, &BPF)
+    are_known::<TcQdiscFqCodelOption>(alloc, FQ_CODEL)?;
+    are_known::<TcQdiscIngressOption>(alloc, INGRESS)?;
+    are_known::<TcFilterU32Option>(alloc, U32)?;
+    are_known::<TcFilterMatchAllOption>(alloc, MATCHALL)?;
+    are_known::<TcFilterBpfOption>(alloc, BPF)
 }
 
 /// The text of an option in the variant of its kind.
@@ -142,18 +140,20 @@ fn in_variant(alloc: Global, variant: &str, text: &str) -> Result<String, AllocE
 }
 
 /// Whether a frame is read under a kind as an option of its variant and of this text, and that written as it has to be.
-fn is_known(alloc: Global, kind: &str, variant: &str, row: &Row) -> Result<bool, Fail> {
-    let (frame, text, written) = *row;
+fn is_known(alloc: Global, kind: &str, variant: &str, row: &str) -> Result<bool, Fail> {
+    let Some((frame, text, written)) = cells(row) else {
+        return Ok(false);
+    };
     let text = in_variant(alloc, variant, text)?;
     let written = or_same(frame, written);
     is_known_under::<TcOption>(alloc, kind, frame, text.as_str(), written)
 }
 
 /// Judges each row of a kind's table, and tells the first that is read or written as another.
-fn are_known_under(alloc: Global, kind: &str, variant: &str, rows: &[Row]) -> Result<(), Fail> {
-    for row in rows {
+fn are_known_under(alloc: Global, kind: &str, variant: &str, table: &str) -> Result<(), Fail> {
+    for row in rows(table) {
         if !is_known(alloc, kind, variant, row)? {
-            return Err(Fail::new(format_args!("{kind}: {}", row.0)));
+            return Err(Fail::new(format_args!("{kind}: {row}")));
         }
     }
     Ok(())
@@ -164,9 +164,7 @@ fn under_their_kind(rt: HostRuntime) -> Result<(), Fail> {
     let alloc = rt.alloc();
     are_known_under(alloc, "fq_codel", "FqCodel", &FQ_CODEL)?;
     are_known_under(alloc, "ingress", "Ingress", &INGRESS)?;
-    for rows in flower::each() {
-        are_known_under(alloc, "flower", "Flower", rows)?;
-    }
+    are_known_under(alloc, "flower", "Flower", flower::EACH)?;
     are_known_under(alloc, "u32", "U32", &U32)?;
     are_known_under(alloc, "matchall", "MatchAll", &MATCHALL)?;
     are_known_under(alloc, "bpf", "Bpf", &BPF)
@@ -175,9 +173,12 @@ fn under_their_kind(rt: HostRuntime) -> Result<(), Fail> {
 const KEPT: &str = "Other(DefaultNla { word: 16639, value: [7] })";
 
 /// Whether an option is settled under this of the kinds alone.
-fn is_settled_under_alone(option: &TcOption, kind: &str) -> bool {
-    for (other, _) in &KINDS {
-        if option.is_settled_under(other) != (*other == kind) {
+fn is_settled_under_alone<T: Settle>(option: &T, kind: &str) -> bool {
+    for row in rows(KINDS) {
+        let Some((other, _)) = pair(row) else {
+            return false;
+        };
+        if option.is_settled_under(other) != (other == kind) {
             return false;
         }
     }
@@ -185,40 +186,50 @@ fn is_settled_under_alone(option: &TcOption, kind: &str) -> bool {
 }
 
 /// Whether a type that no table knows is kept under a kind, in its variant, and settled under that kind alone.
-fn is_kept(alloc: Global, kind: &str, variant: &str) -> Result<bool, Fail> {
+fn is_kept<T: ParseableParametrized<Global> + Settle + Debug + Drop>(
+    alloc: Global,
+    row: &str,
+) -> Result<bool, Fail> {
+    let Some((kind, variant)) = pair(row) else {
+        return Ok(false);
+    };
+    let text = in_variant(alloc, variant, KEPT)?;
     let frame = NlaBuffer::new_checked(&[5, 0, 0xff, 0x40, 7, 0, 0, 0])?;
-    let read = TcOption::parse_with_param(alloc, &frame, kind)?;
-    Ok(
-        is_settled_under_alone(&read, kind)
-            && is_shown(alloc, &read, in_variant(alloc, variant, KEPT)?.as_str())?,
-    )
+    let read = T::parse_with_param(alloc, &frame, kind)?;
+    Ok(is_settled_under_alone(&read, kind) && is_shown(alloc, &read, text.as_str())?)
 }
 
 #[test]
 fn settled_under_their_kind_alone(rt: HostRuntime) -> Result<(), Fail> {
-    for (kind, variant) in &KINDS {
-        if !is_kept(rt.alloc(), kind, variant)? {
-            return Err(Fail::new(*kind));
+    for row in rows(KINDS) {
+        if !is_kept::<TcOption>(rt.alloc(), row)? {
+            return Err(Fail::new(row));
         }
     }
     Ok(())
 }
 
 /// Whether a frame is refused under a kind with this fault.
-fn is_refused(alloc: Global, row: &Row) -> Result<bool, Fail> {
-    let (kind, frame, fault) = *row;
+fn is_refused<T: ParseableParametrized<Global> + Drop>(
+    alloc: Global,
+    row: &str,
+) -> Result<bool, Fail> {
+    let Some((kind, frame, fault)) = cells(row) else {
+        return Ok(false);
+    };
     let bytes = bytes_of(alloc, frame)?;
-    match TcOption::parse_with_param(alloc, &NlaBuffer::new_checked(&bytes)?, kind) {
-        Ok(_) => Ok(false),
-        Err(found) => Ok(is_shown(alloc, &found, fault)?),
+    let read = T::parse_with_param(alloc, &NlaBuffer::new_checked(&bytes)?, kind);
+    match read.err() {
+        None => Ok(false),
+        Some(found) => Ok(is_shown(alloc, &found, fault)?),
     }
 }
 
 #[test]
 fn refused(rt: HostRuntime) -> Result<(), Fail> {
-    for row in &FAULTS {
-        if !is_refused(rt.alloc(), row)? {
-            return Err(Fail::new(row.1));
+    for row in rows(FAULTS) {
+        if !is_refused::<TcOption>(rt.alloc(), row)? {
+            return Err(Fail::new(row));
         }
     }
     Ok(())
