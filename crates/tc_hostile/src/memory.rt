@@ -31,9 +31,9 @@ fn make_wanted<M: Whole<Global>>(alloc: Global, bytes: &[u8]) -> Wanted {
 /// What is wrong with an answer.
 #[derive(Clone, Copy, Debug)]
 enum Wrong {
-    /// Memory that was refused isn't missed, or memory is that wasn't.
+    /// A request was refused and the answer doesn't say so, or it says so and none was.
     Memory,
-    /// Another fault.
+    /// A message is read that has to be refused, refused that has to be read, or refused for another fault.
     Fault,
     Fits,
     Settled,
@@ -43,7 +43,7 @@ enum Wrong {
     Equality,
     /// What is rewritten or settled is another.
     Answer,
-    /// It ends for no number of requests.
+    /// Each of the first 999 requests was refused in turn, and the call never had its memory.
     Requests,
 }
 
