@@ -4,16 +4,20 @@
 #[cfg(test)]
 mod alone;
 #[cfg(test)]
+mod arguments;
+#[cfg(test)]
 mod fronts;
 #[cfg(test)]
 mod judge;
 #[cfg(test)]
 mod memory;
 #[cfg(test)]
-mod runs;
+mod reports;
 #[cfg(test)]
 mod strangers;
 #[cfg(test)]
-mod swept_runs;
+mod streams;
+#[cfg(test)]
+mod swept_reports;
 #[cfg(test)]
 mod whole;

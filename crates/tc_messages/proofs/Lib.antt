@@ -1,4 +1,2 @@
-mod Kept
-mod KindTexts
 mod Outcomes
 mod Upgrades

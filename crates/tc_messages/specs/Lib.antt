@@ -1,3 +1,2 @@
-pub mod Attribute
 pub mod Message
 pub mod Upgrade

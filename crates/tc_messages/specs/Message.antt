@@ -5,7 +5,7 @@ use Rattle.tc_meaning.specs.Message.{Message}
 use Rattle.tc_meaning.specs.Whole.{ReadsTc}
 use Rattle.tc_records.specs.Header.{header_scalars}
 use Rattle.tc_messages.specs.declared.message.TcMessage.{TcMessage}
-use Rattle.tc_messages.specs.Attribute.{tc_attribute}
+use Rattle.tc_attributes.specs.Attribute.{tc_attribute}
 use Rattle.tc_action_messages.specs.Inverse.{TakesUnknown}
 
 abbrev pub tc_message : {A : Type 0} → TcMessage A → Message

@@ -5,12 +5,12 @@ ghost use Rattle.nla_frames.specs.declared.error.DecodeError.{DecodeError};
 ghost use Rattle.tc_meaning.specs.Message.{Message};
 ghost use Rattle.tc_meaning.specs.Whole.{ReadsTc, FaultTc, tc_bytes, FitsTc, SettledTc};
 ghost use Rattle.tc_meaning.specs.Equal.{TellsSeen};
-ghost use Rattle.tc_messages.specs.Attribute.{tc_attribute};
+ghost use Rattle.tc_attributes.specs.Attribute.{tc_attribute};
 ghost use Rattle.tc_messages.specs.Message.{tc_message};
 
-use crate::attribute::TcAttribute;
 use crate::message::TcMessage;
 use std::alloc::Allocator;
+use tc_attributes::TcAttribute;
 use tc_laws::rewriting;
 
 /// All bytes read as one message and have no fault, or read as none and have one fault.

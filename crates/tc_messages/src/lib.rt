@@ -1,11 +1,9 @@
-//! Traffic control messages: a header and attributes, of which one tells the kind under which those after it are read.
+//! Traffic control messages, whole: how they are read, written and upgraded, and what reading and writing promise of
+//! one another.
 #![tactic(auto)]
 
-pub mod attribute;
 pub mod laws;
 pub mod message;
-mod types;
 mod upgrade;
 
-pub use attribute::{TcAttribute, VecTcAttribute};
 pub use message::TcMessage;

@@ -4,7 +4,7 @@ use Rattle.tc_canon.specs.Layouts.{tc_header}
 use Rattle.tc_canon.specs.Tables.Messages.{attributes}
 use Rattle.tc_meaning.proofs.MessageReading.{read_message-ok, read_message-err}
 use Rattle.tc_records.specs.Header.{header_scalars}
-use Rattle.tc_messages.specs.Attribute.{tc_attribute}
+use Rattle.tc_attributes.specs.Attribute.{tc_attribute}
 use Rattle.tc_messages.proofs.message.read.Goals as goal
 
 pub returns-in_err-attributes : goal.returns-in_err-attributes

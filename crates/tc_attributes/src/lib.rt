@@ -1,0 +1,7 @@
+//! The attributes of traffic control messages, of which one tells the kind under which those after it are read.
+#![tactic(auto)]
+
+pub mod attribute;
+mod types;
+
+pub use attribute::{TcAttribute, VecTcAttribute};
