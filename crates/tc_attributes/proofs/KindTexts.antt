@@ -1,5 +1,5 @@
 -- The kind that a frame tells.
-use Rattle.std.proofs.Common.{◌≡◌, ℕ, List, [], Bool, true, false, Option, Some, None, Ok, Err, cond, refl, ◌==◌}
+use Rattle.std.proofs.Common.{◌≡◌, ℕ, List, [], Bool, true, false, Option, Some, None, Ok, Err, cond, refl, sym, ◌==◌}
 use Rattle.std.proofs.lemmas.Bool.Decides.{Decides-eqb}
 use Rattle.nla_frames.specs.declared.error.DecodeError.TheVariants.{NotUtf8}
 use Rattle.nla_frames.specs.declared.error.DecodeError.{DecodeError}
@@ -17,18 +17,30 @@ use Rattle.nla_frames.specs.Value.{strip, text}
 use Rattle.nla_frames.specs.Frame.{Frame, type_of}
 use Rattle.tc_meaning.specs.OwnGrammar.{first_look}
 
--- where it has none, it isn't read as an attribute
-pub not_read : (kind : List ℕ) (f : Frame) (e : DecodeError) → refused e ≡ first_look [] f → Gives (refused e) ((table_codec (table attributes)).read kind f)
-not_read kind f e is = Gives-exact e _ (go (type_of f.word == 1) ((Decides-eqb (type_of f.word) 1).0) is)
+-- where it has a text, or one that is refused, that is what is read
+pub text_read : (kind : List ℕ) (f : Frame) (o : Outcome (List ℕ)) → first_look [] f ≡ seen Some o
+    → (table_codec (table attributes)).read kind f ≡ seen (λ t. known 1 (is_bytes t)) o
+text_read kind f o is = go (type_of f.word == 1) ((Decides-eqb (type_of f.word) 1).0) is
   where
-    of_text : (o : Outcome (List ℕ)) → refused e ≡ seen Some o → seen (known 1) (seen is_bytes o) ≡ refused e
-    of_text (Ok t) bad = absurd (cc bad)
-    of_text (Err d) same = cc
+    of_text : (found o : Outcome (List ℕ)) → seen Some found ≡ seen Some o → seen (known 1) (seen is_bytes found) ≡ seen (λ t. known 1 (is_bytes t)) o
+    of_text (Ok s) (Ok t) same = cc
+    of_text (Ok s) (Err d) bad = absurd (cc bad)
+    of_text (Err d) (Ok t) bad = absurd (cc bad)
+    of_text (Err d) (Err e) same = cc
 
-    go : (b : Bool) → (b ≡ true → type_of f.word ≡ 1) → refused e ≡ cond b (seen Some (text f.value)) (Ok None)
-        → (table_codec (table attributes)).read kind f ≡ refused e
-    go true one same = rw (one refl) (of_text (text f.value) same)
-    go false one bad = absurd (cc bad)
+    of_none : (o : Outcome (List ℕ)) → ◌≡◌ {A = Outcome (Option (List ℕ))} (Ok None) (seen Some o) → ⊥
+    of_none (Ok t) bad = cc bad
+    of_none (Err d) bad = cc bad
+
+    go : (b : Bool) → (b ≡ true → type_of f.word ≡ 1) → cond b (seen Some (text f.value)) (Ok None) ≡ seen Some o
+        → (table_codec (table attributes)).read kind f ≡ seen (λ t. known 1 (is_bytes t)) o
+    go true one same = rw (one refl) (of_text (text f.value) o same)
+    go false one bad = absurd (of_none o bad)
+
+-- where it has none, it isn't read as an attribute
+pub not_read : (kind : List ℕ) (f : Frame) (e : DecodeError) → refused e ≡ first_look [] f
+    → Gives (refused e) ((table_codec (table attributes)).read kind f)
+not_read kind f e is = Gives-exact e _ (text_read kind f (Err e) (sym is))
 
 -- the kind after it is the one that it tells
 pub kind_told_then : (kind : List ℕ) (f : Frame) (told : Option (List ℕ)) → read_as told ≡ first_look [] f
