@@ -17,7 +17,7 @@ use Rattle.nla_frames.specs.Value.{strip, text}
 use Rattle.nla_frames.specs.Frame.{Frame, type_of}
 use Rattle.tc_meaning.specs.OwnGrammar.{first_look}
 
--- where it has a text, or one that is refused, that is what is read
+-- a frame that tells a kind is read as its text, or refused as its text is
 pub text_read : (kind : List ℕ) (f : Frame) (o : Outcome (List ℕ)) → first_look [] f ≡ seen Some o
     → (table_codec (table attributes)).read kind f ≡ seen (λ t. known 1 (is_bytes t)) o
 text_read kind f o is = go (type_of f.word == 1) ((Decides-eqb (type_of f.word) 1).0) is
@@ -37,7 +37,7 @@ text_read kind f o is = go (type_of f.word == 1) ((Decides-eqb (type_of f.word) 
     go true one same = rw (one refl) (of_text (text f.value) o same)
     go false one bad = absurd (of_none o bad)
 
--- where it has none, it isn't read as an attribute
+-- where its text is refused, so is the attribute
 pub not_read : (kind : List ℕ) (f : Frame) (e : DecodeError) → refused e ≡ first_look [] f
     → Gives (refused e) ((table_codec (table attributes)).read kind f)
 not_read kind f e is = Gives-exact e _ (text_read kind f (Err e) (sym is))
