@@ -29,10 +29,10 @@ use Rattle.tc_actions.specs.TunnelKey.{tunnel_key_body}
 use Rattle.tc_actions.specs.ActionOption.{action_option}
 use Rattle.tc_actions.specs.ActionAttribute.{attribute_body}
 
-is_record : {R : Type 0} (see : R → List Scalar) (layout : List Field) → IsInner (record_part see layout)
+pub is_record : {R : Type 0} (see : R → List Scalar) (layout : List Field) → IsInner (record_part see layout)
 is_record see layout = is_part see a_record (record_codec layout) (fields layout) refl (λ x. refl)
 
-is_xstats : {A : Type 0} → IsInner (xstats_part {A = A})
+pub is_xstats : {A : Type 0} → IsInner (xstats_part {A = A})
 is_xstats = record {
   bytes = λ r. refl;
   fits = λ r. (λ f. f, λ f. f);

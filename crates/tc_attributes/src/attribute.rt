@@ -1,6 +1,6 @@
 //! The attributes of a message.
 
-ghost use Rattle.std.specs.Prelude.{◌≡◌, ◌↔◌, List, ℕ, [], map, IfOk, IsTrue};
+ghost use Rattle.std.specs.Prelude.{◌≡◌, List, ℕ, [], map, IfOk, IsTrue};
 ghost use Rattle.std.specs.Ordering.{on};
 ghost use Rattle.nla_frames.specs.Fault.{Gives, IfRefused, seen, read_as};
 ghost use Rattle.nla_frames.specs.Frame.{type_of};
@@ -10,14 +10,13 @@ ghost use Rattle.nla_frames.specs.OnlyKind.{text_set};
 ghost use Rattle.nla_frames.specs.Codec.{list_codec};
 ghost use Rattle.tc_canon.specs.Descriptor.{table};
 ghost use Rattle.tc_canon.specs.Tables.Messages.{attributes};
-ghost use Rattle.tc_meaning.specs.Tree.{Attribute};
+ghost use Rattle.tc_meaning.specs.Tree.{Attribute, other};
 ghost use Rattle.tc_meaning.specs.Message.{kind_of_frame, kind_of_attribute};
 ghost use Rattle.tc_meaning.specs.OwnGrammar.{first_look};
 ghost use Rattle.tc_meaning.specs.Short.{table_short};
 ghost use Rattle.tc_meaning.specs.Equal.{same_attribute, attribute_equiv, attribute_per};
-ghost use Rattle.tc_values.specs.Value.{value_bytes, ValueFits, TypedValue};
 ghost use Rattle.tc_values.specs.Row.{reads_at};
-ghost use Rattle.tc_attributes.specs.Attribute.{tc_attribute, attribute_codec, nested, IsWritten};
+ghost use Rattle.tc_attributes.specs.Attribute.{tc_attribute, attribute_codec, IsWritten};
 ghost use Rattle.tc_attributes.specs.Attribute.{ReadsAttributes, AttributesFault};
 
 use crate::types::{
@@ -95,14 +94,7 @@ impl<A: Allocator + Copy> ParseableParametrized<A> for TcAttribute<A> {
     fn parse_with_param(alloc: A, buf: &NlaBuffer<'_>, kind: &str) -> Res<TcAttribute<A>> {
         match buf.kind() {
             TCA_KIND => Ok(TcAttribute::Kind(parse_string(alloc, buf.value())?)),
-            TCA_OPTIONS => {
-                if is_known_kind(kind) {
-                    let options = VecTcOption::parse_with_param(alloc, buf, kind)?.0;
-                    Ok(TcAttribute::Options(options))
-                } else {
-                    Ok(TcAttribute::OptionsRaw(DefaultNla::parse(alloc, buf)?))
-                }
-            }
+            TCA_OPTIONS => Self::read_options(alloc, buf, kind),
             TCA_STATS => Ok(TcAttribute::Stats(TcStats::parse(buf.value())?)),
             TCA_XSTATS => Ok(TcAttribute::Xstats(TcXstats::parse_with_param(alloc, buf, kind)?)),
             TCA_RATE => Ok(TcAttribute::Rate(Vec::from_slice(alloc, buf.value())?)),
@@ -112,8 +104,35 @@ impl<A: Allocator + Copy> ParseableParametrized<A> for TcAttribute<A> {
             TCA_DUMP_INVISIBLE => Ok(TcAttribute::DumpInvisible(true)),
             TCA_CHAIN => Ok(TcAttribute::Chain(parse_u32(buf.value())?)),
             TCA_HW_OFFLOAD => Ok(TcAttribute::HwOffload(parse_u8(buf.value())?)),
-            _ => Ok(TcAttribute::Other(DefaultNla::parse(alloc, buf)?)),
+            _ => Self::read_other(alloc, buf),
         }
+    }
+}
+
+// What is read in more than one way.
+impl<A: Allocator + Copy> TcAttribute<A> {
+    // Options: a list under a known kind, under any other the attribute as it stands.
+    #[inline(always)]
+    fn read_options(alloc: A, buf: &NlaBuffer<'_>, kind: &str) -> Res<TcAttribute<A>>
+        requires { type_of (frame_of buf.now).word ≡ 2 }
+        ensures { Gives (seen tc_attribute result)
+            (attribute_codec.read kind.now (frame_of buf.now)) }
+    {
+        if is_known_kind(kind) {
+            let options = VecTcOption::parse_with_param(alloc, buf, kind)?.0;
+            Ok(TcAttribute::Options(options))
+        } else {
+            Ok(TcAttribute::OptionsRaw(DefaultNla::parse(alloc, buf)?))
+        }
+    }
+
+    // An attribute that is kept as it stands.
+    #[inline(always)]
+    fn read_other(alloc: A, buf: &NlaBuffer<'_>) -> Res<TcAttribute<A>>
+        ensures { Gives (seen tc_attribute result)
+            (read_as (other (frame_of buf.now).word (frame_of buf.now).value)) }
+    {
+        Ok(TcAttribute::Other(DefaultNla::parse(alloc, buf)?))
     }
 }
 
@@ -126,20 +145,8 @@ type Nested<'a, A> = Either<
 impl<A: Allocator> TcAttribute<A> {
     // Its word and its value, and what they are by the table. Which attributes are settled is told beside it, since
     // the one table of a choice by kind is this.
-    fn view(&self) -> (u16, Value<'_, Nested<'_, A>>)
-        ensures { IsWritten (tc_attribute self.now) result.0 result.1 }
-    {
-        self.row()
-    }
-
     fn row(&self) -> (u16, Value<'_, Nested<'_, A>>)
-        ensures word { result.0 ≡ (attribute_codec.write (tc_attribute self.now)).word }
-        ensures bytes { value_bytes nested.bytes result.1
-            ≡ (attribute_codec.write (tc_attribute self.now)).value }
-        ensures fits { ValueFits nested.Fits result.1
-            ↔ attribute_codec.Fits (tc_attribute self.now) }
-        ensures typed { TypedValue nested.Typed result.1
-            → attribute_codec.Typed (tc_attribute self.now) }
+        ensures { IsWritten (tc_attribute self.now) result.0 result.1 }
     {
         match self {
             TcAttribute::Kind(kind) => (TCA_KIND, Value::Text(kind.as_str())),
@@ -181,15 +188,15 @@ impl<A: Allocator> TcAttribute<A> {
 
 impl<A: Allocator> Nla for TcAttribute<A> {
     fn kind(&self) -> u16 {
-        self.view().0
+        self.row().0
     }
 
     fn checked_len(&self) -> Option<usize> {
-        self.view().1.checked_len()
+        self.row().1.checked_len()
     }
 
     fn put_value(&self, buffer: &mut [u8]) -> usize {
-        self.view().1.put(buffer)
+        self.row().1.put(buffer)
     }
 
     ghost is_short = { table_short (table attributes) };
