@@ -3,7 +3,7 @@ use Rattle.std.specs.Prelude.{codes}
 use Rattle.std.proofs.lemmas.Result.{err_from_is_err_and}
 use Rattle.nla_frames.specs.Buffer.{frame_of}
 use Rattle.tc_canon.specs.Tables.Flower.{flower_options}
-use Rattle.tc_canon.specs.Tables.Options.{option_kinds, fq_codel_options, u32_options, matchall_options, bpf_options}
+use Rattle.tc_canon.specs.Tables.Options.{option_kinds, fq_codel_options, ingress_options, u32_options, matchall_options, bpf_options}
 use Rattle.tc_values.proofs.OfKinds.{option_read, option_refused, option_kept}
 use Rattle.tc_options.proofs.UnknownKinds.{not_known}
 use Rattle.tc_options.proofs.options.TcOptionParseableParametrized.parse_with_param.Goals as goal
@@ -14,6 +14,25 @@ returns-in_err-parse g c =
     let f = frame_of c.args.buf.now in
     let told = sym c.eq.ensures ∙ c.if-eq.true in
     rw (p.1, p.2) (option_refused option_kinds (codes "fq_codel") fq_codel_options (λ g. refl) refl c.args.kind.now f told _ c.in_err-parse.ensures)
+
+pub returns-then-eq : goal.returns-then-eq
+returns-then-eq g c =
+    let f = frame_of c.args.buf.now in
+    let told = sym c.eq.ensures ∙ c.if-eq.true in
+    option_read option_kinds (codes "fq_codel") fq_codel_options (λ g. refl) refl c.args.kind.now f told _ c.in_ok-parse.ensures
+
+pub returns-in_err-parse-2 : goal.returns-in_err-parse-2
+returns-in_err-parse-2 g c =
+    let p = err_from_is_err_and c.from_residual-in_err-parse-2.result c.from_residual-in_err-parse-2.ensures.1 in
+    let f = frame_of c.args.buf.now in
+    let told = sym c.eq-2.ensures ∙ c.if-eq-2.true in
+    rw (p.1, p.2) (option_refused option_kinds (codes "ingress") ingress_options (λ g. refl) refl c.args.kind.now f told _ c.in_err-parse-2.ensures)
+
+pub returns-then-eq-2 : goal.returns-then-eq-2
+returns-then-eq-2 g c =
+    let f = frame_of c.args.buf.now in
+    let told = sym c.eq-2.ensures ∙ c.if-eq-2.true in
+    option_read option_kinds (codes "ingress") ingress_options (λ g. refl) refl c.args.kind.now f told _ c.in_ok-parse-2.ensures
 
 pub returns-in_err-parse-3 : goal.returns-in_err-parse-3
 returns-in_err-parse-3 g c =
