@@ -18,9 +18,6 @@ returns-in-Flower-clause-written g c = rw c.in-Flower.is c.put_value-in-Flower.e
 pub returns-in-Flower-clause-typed : goal.returns-in-Flower-clause-typed
 returns-in-Flower-clause-typed g c = rw c.in-Flower.is c.put_value-in-Flower.ensures.typed
 
-pub returns-in-U32-clause-typed : goal.returns-in-U32-clause-typed
-returns-in-U32-clause-typed g c = rw c.in-U32.is c.put_value-in-U32.ensures.typed
-
 pub returns-in-MatchAll-clause-written : goal.returns-in-MatchAll-clause-written
 returns-in-MatchAll-clause-written g c = rw c.in-MatchAll.is c.put_value-in-MatchAll.ensures.written
 

@@ -12,9 +12,6 @@ returns-in-Ingress-clause-settled g c = rw c.in-Ingress.is c.is_settled_of_kind-
 pub returns-in-Ingress-clause-typed : goal.returns-in-Ingress-clause-typed
 returns-in-Ingress-clause-typed g c = rw c.in-Ingress.is c.is_settled_of_kind-in-Ingress.ensures.typed
 
-pub returns-in-Flower-clause-typed : goal.returns-in-Flower-clause-typed
-returns-in-Flower-clause-typed g c = rw c.in-Flower.is c.is_settled_of_kind-in-Flower.ensures.typed
-
 pub returns-in-U32-clause-settled : goal.returns-in-U32-clause-settled
 returns-in-U32-clause-settled g c = rw c.in-U32.is c.is_settled_of_kind-in-U32.ensures.settled
 
