@@ -109,7 +109,7 @@ impl<A: Allocator + Copy> ParseableParametrized<A> for TcAttribute<A> {
     }
 }
 
-// What is read in more than one way.
+// Reading of options, and of what the table has no row for.
 impl<A: Allocator + Copy> TcAttribute<A> {
     // Options: a list under a known kind, under any other the attribute as it stands.
     #[inline(always)]
