@@ -143,8 +143,8 @@ type Nested<'a, A> = Either<
 >;
 
 impl<A: Allocator> TcAttribute<A> {
-    // Its word and its value, and what they are by the table. Which attributes are settled is told beside it, since
-    // the one table of a choice by kind is this.
+    // Its word and its value, as the table has them. They don't tell whether it is settled, as those of other enums do:
+    // this table alone has a choice by kind, so `is_settled_under` tells it by itself.
     fn row(&self) -> (u16, Value<'_, Nested<'_, A>>)
         ensures { IsWritten (tc_attribute self.now) result.0 result.1 }
     {
