@@ -1,4 +1,4 @@
--- Bytes below 256, and numbers as their bytes, the low byte first.
+-- Bytes below 256, and numbers as their bytes, little-endian.
 use Rattle.std.proofs.Common.{◌≡◌, ℕ, zero, suc, ◌+◌, ◌*◌, ◌/◌, ◌%◌, ◌^◌, ◌<◌, List, [], ◌∷◌, ◌++◌, length, get_or, take, drop, replicate, refl, ap, arith}
 use Rattle.std.proofs.Common.{pow-suc, Fits, w8}
 use Rattle.std.specs.List.{flat_map, AllByRecursion}

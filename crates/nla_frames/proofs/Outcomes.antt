@@ -1,9 +1,9 @@
 -- How an answer follows from the answer of a part.
-use Rattle.std.proofs.Common.{◌≡◌, ◌≢◌, Ok, Err, refl}
+use Rattle.std.proofs.Common.{◌≡◌, ◌≢◌, Ok, Err, refl, subst}
 use Rattle.std.specs.Prelude.{IfOk}
 use Rattle.nla_frames.specs.declared.error.DecodeError.{DecodeError}
 use Rattle.nla_frames.specs.declared.error.DecodeError.TheVariants.{OutOfMemory}
-use Rattle.nla_frames.specs.Fault.{Outcome, Gives, IfRefused, read_as, refused, seen}
+use Rattle.nla_frames.specs.Fault.{Outcome, Gives, IfRefused, UnlessMemory, read_as, refused, seen}
 
 -- the fault of a part is the fault of the whole, where the part's outcome says so
 pub Gives-err : {X Y : Type 0} (e : DecodeError) (part : Outcome X) (whole : Outcome Y) → Gives (refused e) part → (part ≡ refused e → whole ≡ refused e)
@@ -20,6 +20,13 @@ Gives-exact _ outcome is = is
 pub Gives-refused : {X : Type 0} (e : DecodeError) (outcome : Outcome X) → e ≢ OutOfMemory → Gives (refused e) outcome → outcome ≡ refused e
 Gives-refused OutOfMemory outcome not given = absurd (not refl)
 Gives-refused _ outcome not given = given
+
+-- where something is read, what holds of it holds of the answer, unless memory ran out
+pub UnlessMemory-Gives : {X Y : Type 0} (see : X → Y) (r : Outcome X) (outcome : Outcome Y) → Gives (seen see r) outcome → (y : Y) → outcome ≡ read_as y
+    → (P : Y → Type 0) → P y → UnlessMemory r (λ x. P (see x))
+UnlessMemory-Gives see (Ok x) outcome given y is P holds = let same : y ≡ see x = cc (given, is) in subst P same holds
+UnlessMemory-Gives see (Err OutOfMemory) outcome given y is P holds = refl
+UnlessMemory-Gives see (Err _) outcome given y is P holds = absurd (cc (given, is))
 
 module _ {X Y : Type 0} (see : X → Y) (r : Outcome X) (outcome : Outcome Y) (given : Gives (seen see r) outcome) where
   -- what holds of what is read holds of the answer

@@ -1,5 +1,5 @@
 -- Refusals, and what a call that may want memory says of its answer.
-use Rattle.std.specs.Prelude.{◌≡◌, ◌≢◌, IfErr, ℕ, List, Result, Ok, Err, codes}
+use Rattle.std.specs.Prelude.{◌≡◌, ◌≢◌, IfErr, ℕ, List, Result, Ok, Err, codes, MatchResult}
 use Rattle.nla_frames.specs.declared.error.DecodeError.{DecodeError}
 use Rattle.nla_frames.specs.declared.error.DecodeError.TheVariants.{BufferTooSmall, FrameHeaderShort, FrameTooLong, FrameTooShort, WrongLength, NotUtf8}
 use Rattle.nla_frames.specs.declared.error.DecodeError.TheVariants.{SelectorShort, XstatsShort, MissingKind, DuplicateKind, OutOfMemory}
@@ -37,6 +37,10 @@ Gives (Err e) outcome = outcome ≡ Err e
 -- a refusal that isn't want of memory is such
 abbrev pub IfRefused : {X : Type 0} → Outcome X → (DecodeError → Type 0) → Type 0
 IfRefused r Q = IfErr r (λ e. e ≢ OutOfMemory → Q e)
+
+-- a value of which this holds, or want of memory
+abbrev pub UnlessMemory : {X : Type 0} → Outcome X → (X → Type 0) → Type 0
+UnlessMemory r P = MatchResult r P (λ e. e ≡ OutOfMemory)
 
 -- an answer, its value seen by a function
 abbrev pub seen : {X Y : Type 0} → (X → Y) → Outcome X → Outcome Y

@@ -1,4 +1,4 @@
--- One frame of netlink: a length and a word, two bytes each and the low byte first, then the value, then
+-- One frame of netlink: a length and a word, two bytes each and little-endian, then the value, then
 -- padding up to a multiple of four bytes. The length counts the header and the value, not the padding.
 use Rattle.std.specs.Prelude.{ℕ, ◌+◌, ◌-◌, ◌%◌, ◌^◌, ◌<◌, ◌≤◌, List, ◌++◌, length, replicate}
 use Rattle.nla_frames.specs.Value.{IsBytes, le_bytes}

@@ -14,17 +14,17 @@ pub record IsText (t : List ℕ) : Type 0 where
   pub is_bytes : IsBytes t
   pub is_text : is_utf8 t ≡ true
 
--- a number's lowest bytes, the low byte first
+-- a number's lowest bytes, little-endian
 abbrev pub le_bytes : ℕ → ℕ → List ℕ
 le_bytes zero x = []
 le_bytes (suc n) x = x % 256 ∷ le_bytes n (x / 256)
 
--- the number that bytes make, the low byte first
+-- the number that bytes make, little-endian
 abbrev pub le_value : List ℕ → ℕ
 le_value [] = 0
 le_value (b ∷ bytes) = b + 256 * le_value bytes
 
--- the same with the high byte first
+-- the same, big-endian
 abbrev pub be_bytes : ℕ → ℕ → List ℕ
 be_bytes n x = reverse (le_bytes n x)
 

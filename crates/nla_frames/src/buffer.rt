@@ -24,8 +24,8 @@ impl<'a> NlaBuffer<'a> {
     ghost use Rattle.nla_frames.specs.Buffer.{frame_of, first_of};
     ghost use Rattle.nla_frames.specs.FirstFrame.{StartsWith, HasBrokenFront};
 
-    /// The frame at the front of the bytes; what follows it is dropped. Fails where the bytes, or none, begin no
-    /// whole frame.
+    /// The frame at the front of the bytes; what follows it is dropped. `FrameHeaderShort`, of no bytes too,
+    /// `FrameTooLong` or `FrameTooShort` where no whole frame stands there.
     pub fn new_checked(bytes: &'a [u8]) -> Res<Self>
         ensures found { IfOk result (λ frame. StartsWith bytes.now (frame_of frame)) }
         ensures refused { IfErr result (HasBrokenFront bytes.now) }

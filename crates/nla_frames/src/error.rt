@@ -6,29 +6,29 @@ ghost use Rattle.nla_frames.specs.declared.error.DecodeError.TheVariants.{OutOfM
 use std::alloc::{AllocError, AllocFailed};
 use thiserror::Error;
 
-/// What a parser answers.
+/// What a parser returns.
 pub type Res<T> = Result<T, DecodeError>;
 
 /// Why bytes can't be read: the first fault from left to right. All numbers count bytes.
 #[derive(Drop, PartialEq, Eq, Error, Debug)]
 pub enum DecodeError {
-    /// A header or fixed record is short.
+    /// A header or fixed record is short: it has `len` bytes, and takes `needed`.
     #[error("buffer of {len} bytes, {needed} needed")]
     BufferTooSmall { len: usize, needed: usize },
 
-    /// One to three bytes are left where a frame should begin.
+    /// One to three bytes are left where a frame should begin; none, where one is asked for by itself.
     #[error("frame header of {left} bytes")]
     FrameHeaderShort { left: usize },
 
-    /// A frame's length exceeds what is left.
+    /// A frame's `length` exceeds what is left.
     #[error("frame of {length} bytes, {left} left")]
     FrameTooLong { length: usize, left: usize },
 
-    /// A frame's length doesn't cover its own header.
+    /// A frame's `length` doesn't cover its own header of four bytes.
     #[error("frame length {length} under 4")]
     FrameTooShort { length: usize },
 
-    /// A value hasn't the exact width of its type.
+    /// A value hasn't the exact width of its type: it has `got` bytes.
     #[error("value of {got} bytes, {expected} expected")]
     WrongLength { expected: usize, got: usize },
 
@@ -36,11 +36,11 @@ pub enum DecodeError {
     #[error("text is not UTF-8")]
     NotUtf8,
 
-    /// A u32 selector is shorter than its head, or than the keys that it counts.
+    /// A u32 selector has `len` bytes, fewer than its head or than the keys that it counts take.
     #[error("selector of {len} bytes, {needed} needed")]
     SelectorShort { len: usize, needed: usize },
 
-    /// Statistics of fq_codel don't even name their kind.
+    /// Statistics of fq_codel have `len` bytes, fewer than the number that says which they are.
     #[error("statistics of {len} bytes, 4 needed")]
     XstatsShort { len: usize },
 
@@ -48,7 +48,7 @@ pub enum DecodeError {
     #[error("action without kind")]
     MissingKind,
 
-    /// An action has two or more.
+    /// An action has two `Kind`s or more.
     #[error("action with several kinds")]
     DuplicateKind,
 

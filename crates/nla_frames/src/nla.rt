@@ -30,7 +30,7 @@ pub trait Nla: FrameMeaning {
         ensures { result ≡ (Self.codec.write (Self.see self.now)).word };
 
     /// How many bytes its value has, or `None` where it can't be written: where its value, or one that is nested in
-    /// it, has more than 65531 bytes.
+    /// it, has more than 65531 bytes, or a u32 selector in it hasn't as many keys as it counts.
     fn checked_len(&self) -> Option<usize>
         ensures { Measures result (Self.codec.Fits (Self.see self.now))
             (Self.codec.write (Self.see self.now)).value };
@@ -47,7 +47,8 @@ pub trait Nla: FrameMeaning {
     ghost is_short: { (x : Self.Seen) → Self.codec.Fits x
         → length (Self.codec.write x).value ≤ 65531 };
 
-    /// True if it can be written: its value and all values nested in it have at most 65531 bytes.
+    /// True if it can be written: its value and all values nested in it have at most 65531 bytes, and each u32 selector
+    /// in it has as many keys as it counts.
     final fn fits(&self) -> bool
         ensures { IsTrue result ↔ Self.codec.Fits (Self.see self.now) }
     {
@@ -77,9 +78,11 @@ pub trait Nla: FrameMeaning {
     }
 
     /// How many bytes its frame has, padding counted.
+    #[tactic(auto, using(crate::proofs::FrameBytes::length_frame_bytes))]
     final fn frame_len(&self) -> usize
         requires { Self.codec.Fits (Self.see self.now) }
-        ensures { result ≡ frame_length (Self.codec.write (Self.see self.now)) }
+        ensures parts { result ≡ frame_length (Self.codec.write (Self.see self.now)) }
+        ensures bytes { result ≡ length (frame_bytes (Self.codec.write (Self.see self.now))) }
     {
         let len = self.value_len();
         NLA_HEADER_SIZE + len + padding_len(len)

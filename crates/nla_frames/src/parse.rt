@@ -34,7 +34,7 @@ pub trait ParseableBytes<A: Allocator>: BytesMeaning {
 /// What is written as bytes.
 pub trait Emitable: BytesMeaning {
     /// How many bytes it has, or `None` where it can't be written: where an attribute's value in it has more than
-    /// 65531 bytes, or the whole length is no `usize`.
+    /// 65531 bytes, a u32 selector in it hasn't as many keys as it counts, or the whole length is no `usize`.
     fn checked_len(&self) -> Option<usize>
         ensures { Measures result (Self.codec.Fits (Self.see self.now))
             (Self.codec.write (Self.see self.now)) };
@@ -46,8 +46,8 @@ pub trait Emitable: BytesMeaning {
         ensures written { Writes (Self.codec.write (Self.see self.now)) buffer.old buffer.new }
         ensures typed { Self.codec.Typed (Self.see self.now) };
 
-    /// True if it can be written: every attribute's value in it has at most 65531 bytes, and the whole length is a
-    /// `usize`.
+    /// True if it can be written: every attribute's value in it has at most 65531 bytes, each u32 selector in it has as
+    /// many keys as it counts, and the whole length is a `usize`.
     final fn fits(&self) -> bool
         ensures { IsTrue result ↔ Self.codec.Fits (Self.see self.now) }
     {

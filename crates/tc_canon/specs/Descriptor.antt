@@ -4,10 +4,10 @@ use Rattle.std.specs.Str.{bytes_eq}
 
 -- a field of a fixed record; its place is the sum of the widths before it
 pub data Field : Type 0 where
-  -- a number of so many bytes, low byte first, and high byte first
+  -- a number of so many bytes, little-endian, and big-endian
   little : ℕ → Field
   big : ℕ → Field
-  -- a number, low byte first, of which these have names
+  -- a number, little-endian, of which these have names
   named : ℕ → List ℕ → Field
   -- so many bytes
   octets : ℕ → Field
@@ -17,10 +17,10 @@ pub data Field : Type 0 where
 mutual
   -- what a value is
   pub data Class : Type 0 where
-    -- a number of so many bytes, low byte first, and high byte first
+    -- a number of so many bytes, little-endian, and big-endian
     le : ℕ → Class
     be : ℕ → Class
-    -- a number of so many bytes, low byte first, of which so many bits are written
+    -- a number of so many bytes, little-endian, of which so many bits are written
     masked : ℕ → ℕ → Class
     -- exactly so many bytes, and any bytes
     array : ℕ → Class

@@ -2,7 +2,7 @@
 use Rattle.std.specs.Prelude.{◌≡◌, ℕ, ◌==◌, Bool, List, [], ◌∷◌, Some, None, if◌then◌else◌}
 use Rattle.nla_frames.specs.Value.{strip}
 use Rattle.nla_frames.specs.Frame.{Frame, type_of}
-use Rattle.nla_frames.specs.Place.{Sets}
+use Rattle.nla_frames.specs.Place.{Sets, kinds_set}
 
 -- the frame is of type 1
 abbrev pub tells_kind : Frame → Bool
@@ -14,8 +14,7 @@ kind_of_frame f = if tells_kind f then Some (strip f.value) else None
 
 -- all the kinds that frames tell, in order
 abbrev pub kinds_told : List Frame → List (List ℕ)
-kinds_told [] = []
-kinds_told (f ∷ fs) = if tells_kind f then strip f.value ∷ kinds_told fs else kinds_told fs
+kinds_told fs = kinds_set kind_of_frame fs
 
 -- the frames of an action tell one kind, wherever it stands
 abbrev pub TellsOne : List Frame → List ℕ → Type 0

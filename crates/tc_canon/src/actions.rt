@@ -21,8 +21,8 @@ impl Table for MirrorOptions {
     fn is_canonical(_kind: &[u8], frame: &NlaBuffer<'_>) -> bool {
         let value = frame.value();
         match frame.kind() {
-            1 => is_plain(frame) && is_tcf(value),
-            2 => is_plain(frame) && is_mirror(value),
+            1 => is_plain(frame) && is_tcf(value), // Tm
+            2 => is_plain(frame) && is_mirror(value), // Parms
             _ => true,
         }
     }
@@ -37,8 +37,8 @@ impl Table for NatOptions {
     fn is_canonical(_kind: &[u8], frame: &NlaBuffer<'_>) -> bool {
         let value = frame.value();
         match frame.kind() {
-            1 => is_plain(frame) && is_nat(value),
-            2 => is_plain(frame) && is_tcf(value),
+            1 => is_plain(frame) && is_nat(value), // Parms
+            2 => is_plain(frame) && is_tcf(value), // Tm
             _ => true,
         }
     }
@@ -53,13 +53,13 @@ impl Table for TunnelKeyOptions {
     fn is_canonical(_kind: &[u8], frame: &NlaBuffer<'_>) -> bool {
         let value = frame.value();
         match frame.kind() {
-            1 => is_plain(frame) && is_tcf(value),
-            2 => is_plain(frame) && is_tunnel_key(value),
-            3 | 4 | 7 => is_plain(frame) && value.len() == 4,
-            5 | 6 => is_plain(frame) && value.len() == 16,
-            9 => is_plain(frame) && value.len() == 2,
-            10 => is_plain(frame) && is_truth(value),
-            12 | 13 => is_plain(frame) && value.len() == 1,
+            1 => is_plain(frame) && is_tcf(value), // Tm
+            2 => is_plain(frame) && is_tunnel_key(value), // Parms
+            3 | 4 | 7 => is_plain(frame) && value.len() == 4, // EncIpv4Src, EncIpv4Dst, EncKeyId
+            5 | 6 => is_plain(frame) && value.len() == 16, // EncIpv6Src, EncIpv6Dst
+            9 => is_plain(frame) && value.len() == 2, // EncDstPort
+            10 => is_plain(frame) && is_truth(value), // NoCsum
+            12 | 13 => is_plain(frame) && value.len() == 1, // EncTos, EncTtl
             _ => true,
         }
     }
@@ -90,11 +90,11 @@ impl Table for ActionAttributes {
     fn is_canonical(kind: &[u8], frame: &NlaBuffer<'_>) -> bool {
         let value = frame.value();
         match frame.kind() {
-            1 => is_plain(frame) && is_terminated(value),
-            2 => is_nested(frame) && canon_action_options(value, kind),
-            3 | 10 => is_plain(frame) && value.len() == 4,
-            4 => is_plain(frame) && canon_stats2(value, kind),
-            6 => is_plain(frame),
+            1 => is_plain(frame) && is_terminated(value), // Kind
+            2 => is_nested(frame) && canon_action_options(value, kind), // Options
+            3 | 10 => is_plain(frame) && value.len() == 4, // Index, InHwCount
+            4 => is_plain(frame) && canon_stats2(value, kind), // Stats
+            6 => is_plain(frame), // Cookie
             _ => true,
         }
     }

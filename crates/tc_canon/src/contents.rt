@@ -61,7 +61,7 @@ pub(crate) fn is_u8_below(value: &[u8], bound: u8) -> bool
     }
 }
 
-/// Four bytes, low byte first, whose number is below a bound.
+/// Four bytes, little-endian, whose number is below a bound.
 pub(crate) fn is_u32_below(value: &[u8], bound: u32) -> bool
     ensures { IsTrue result ↔ ((length value.now ≡ 4) × (le_value value.now < bound)) }
 {

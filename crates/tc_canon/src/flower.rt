@@ -20,8 +20,8 @@ impl Table for LseOptions {
     fn is_canonical(_kind: &[u8], frame: &NlaBuffer<'_>) -> bool {
         let value = frame.value();
         match frame.kind() {
-            1..=4 => is_plain(frame) && value.len() == 1,
-            5 => is_plain(frame) && is_u32_below(value, 1 << 20),
+            1..=4 => is_plain(frame) && value.len() == 1, // LseDepth, LseTtl, LseBos, LseTc
+            5 => is_plain(frame) && is_u32_below(value, 1 << 20), // LseLabel
             _ => true,
         }
     }
@@ -35,7 +35,7 @@ impl Table for MplsOptions {
 
     fn is_canonical(kind: &[u8], frame: &NlaBuffer<'_>) -> bool {
         match frame.kind() {
-            1 => is_nested(frame) && is_canonical_list::<LseOptions>(frame.value(), kind),
+            1 => is_nested(frame) && is_canonical_list::<LseOptions>(frame.value(), kind), // Lse
             _ => true,
         }
     }
@@ -120,12 +120,12 @@ impl Table for FlowerOptions {
     fn is_canonical(kind: &[u8], frame: &NlaBuffer<'_>) -> bool {
         let value = frame.value();
         match frame.kind() {
-            2 => is_plain(frame) && is_terminated(value),
-            3 => is_plain(frame) && is_canonical_list::<Actions>(value, kind),
-            68 => is_plain(frame) && is_u8_below(value, 1 << 1),
-            69 => is_plain(frame) && is_u8_below(value, 1 << 3),
-            70 => is_plain(frame) && is_u32_below(value, 1 << 20),
-            99 => is_nested(frame) && is_canonical_list::<MplsOptions>(value, kind),
+            2 => is_plain(frame) && is_terminated(value), // InDev
+            3 => is_plain(frame) && is_canonical_list::<Actions>(value, kind), // Actions
+            68 => is_plain(frame) && is_u8_below(value, 1 << 1), // MplsBos
+            69 => is_plain(frame) && is_u8_below(value, 1 << 3), // MplsTc
+            70 => is_plain(frame) && is_u32_below(value, 1 << 20), // MplsLabel
+            99 => is_nested(frame) && is_canonical_list::<MplsOptions>(value, kind), // MplsOpts
             other => match width_of(other) {
                 Some(bytes) => is_plain(frame) && value.len() == bytes,
                 None => true,

@@ -25,15 +25,15 @@ impl Table for Attributes {
     fn is_canonical(kind: &[u8], frame: &NlaBuffer<'_>) -> bool {
         let value = frame.value();
         match frame.kind() {
-            1 => is_plain(frame) && is_terminated(value),
-            2 => !has_options(kind) || is_plain(frame) && canon_options(value, kind),
-            3 => is_plain(frame) && is_stats(value),
-            4 => is_plain(frame) && is_xstats(value, kind),
-            5 | 6 | 8 => is_plain(frame),
-            7 => is_plain(frame) && is_canonical_list::<Stats2>(value, kind),
-            10 => is_plain(frame) && value.is_empty(),
-            11 => is_plain(frame) && value.len() == 4,
-            12 => is_plain(frame) && value.len() == 1,
+            1 => is_plain(frame) && is_terminated(value), // Kind
+            2 => !has_options(kind) || is_plain(frame) && canon_options(value, kind), // Options, OptionsRaw
+            3 => is_plain(frame) && is_stats(value), // Stats
+            4 => is_plain(frame) && is_xstats(value, kind), // Xstats
+            5 | 6 | 8 => is_plain(frame), // Rate, Fcnt, Stab
+            7 => is_plain(frame) && is_canonical_list::<Stats2>(value, kind), // Stats2
+            10 => is_plain(frame) && value.is_empty(), // DumpInvisible
+            11 => is_plain(frame) && value.len() == 4, // Chain
+            12 => is_plain(frame) && value.len() == 1, // HwOffload
             _ => true,
         }
     }
@@ -48,10 +48,10 @@ impl Table for ActionMessageAttributes {
     fn is_canonical(kind: &[u8], frame: &NlaBuffer<'_>) -> bool {
         let value = frame.value();
         match frame.kind() {
-            1 => is_plain(frame) && is_canonical_list::<Actions>(value, kind),
-            2 => is_plain(frame) && value.len() == 8,
-            3 | 4 => is_plain(frame) && value.len() == 4,
-            5 => is_plain(frame) && is_unterminated(value),
+            1 => is_plain(frame) && is_canonical_list::<Actions>(value, kind), // Actions
+            2 => is_plain(frame) && value.len() == 8, // Flags
+            3 | 4 => is_plain(frame) && value.len() == 4, // RootCount, RootTimeDelta
+            5 => is_plain(frame) && is_unterminated(value), // RootExtWarnMsg
             _ => true,
         }
     }

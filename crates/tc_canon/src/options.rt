@@ -20,8 +20,8 @@ impl Table for FqCodelOptions {
 
     fn is_canonical(_kind: &[u8], frame: &NlaBuffer<'_>) -> bool {
         match frame.kind() {
-            1..=9 => is_plain(frame) && frame.value().len() == 4,
-            10 | 11 => is_plain(frame) && frame.value().len() == 1,
+            1..=9 => is_plain(frame) && frame.value().len() == 4, // Target to MemoryLimit
+            10 | 11 => is_plain(frame) && frame.value().len() == 1, // CeThresholdSelector, CeThresholdMask
             _ => true,
         }
     }
@@ -36,10 +36,10 @@ impl Table for U32Options {
     fn is_canonical(kind: &[u8], frame: &NlaBuffer<'_>) -> bool {
         let value = frame.value();
         match frame.kind() {
-            1..=4 | 11 => is_plain(frame) && value.len() == 4,
-            5 => is_plain(frame) && is_selector(value),
-            7 => is_plain(frame) && is_canonical_list::<Actions>(value, kind),
-            6 | 8 | 9 | 10 => is_plain(frame),
+            1..=4 | 11 => is_plain(frame) && value.len() == 4, // ClassId, Hash, Link, Divisor, Flags
+            5 => is_plain(frame) && is_selector(value), // Selector
+            7 => is_plain(frame) && is_canonical_list::<Actions>(value, kind), // Action
+            6 | 8 | 9 | 10 => is_plain(frame), // Police, Indev, Pnct, Mark
             _ => true,
         }
     }
@@ -54,9 +54,9 @@ impl Table for MatchAllOptions {
     fn is_canonical(kind: &[u8], frame: &NlaBuffer<'_>) -> bool {
         let value = frame.value();
         match frame.kind() {
-            1 | 3 => is_plain(frame) && value.len() == 4,
-            2 => is_plain(frame) && is_canonical_list::<Actions>(value, kind),
-            4 => is_plain(frame),
+            1 | 3 => is_plain(frame) && value.len() == 4, // ClassId, Flags
+            2 => is_plain(frame) && is_canonical_list::<Actions>(value, kind), // Action
+            4 => is_plain(frame), // Pnct
             _ => true,
         }
     }
@@ -71,9 +71,9 @@ impl Table for BpfOptions {
     fn is_canonical(_kind: &[u8], frame: &NlaBuffer<'_>) -> bool {
         let value = frame.value();
         match frame.kind() {
-            3 | 6 | 8 | 9 | 11 => is_plain(frame) && value.len() == 4,
-            7 => is_plain(frame) && is_terminated(value),
-            10 => is_plain(frame) && value.len() == 8,
+            3 | 6 | 8 | 9 | 11 => is_plain(frame) && value.len() == 4, // ClassId, ProgFd, Flags, FlagsGeneric, ProgId
+            7 => is_plain(frame) && is_terminated(value), // ProgName
+            10 => is_plain(frame) && value.len() == 8, // ProgTag
             _ => true,
         }
     }

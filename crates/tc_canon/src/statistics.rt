@@ -34,9 +34,9 @@ impl Table for Stats2 {
     fn is_canonical(kind: &[u8], frame: &NlaBuffer<'_>) -> bool {
         let value = frame.value();
         match frame.kind() {
-            1 | 7 => is_plain(frame) && is_stats_basic(value),
-            3 => is_plain(frame) && is_stats_queue(value),
-            4 => is_plain(frame) && is_xstats(value, kind),
+            1 | 7 => is_plain(frame) && is_stats_basic(value), // Basic, BasicHw
+            3 => is_plain(frame) && is_stats_queue(value), // Queue
+            4 => is_plain(frame) && is_xstats(value, kind), // App
             _ => true,
         }
     }

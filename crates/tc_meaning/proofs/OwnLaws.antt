@@ -23,16 +23,6 @@ use Rattle.tc_meaning.specs.Own.{kind_of_frame, kind_of_attribute, kind_before, 
 use Rattle.tc_meaning.proofs.Outcomes.{seen-ok, then-ok, ok-same}
 use Rattle.tc_meaning.proofs.Texts.{text-ok, text-reads}
 
--- the kinds that frames tell are those that they set
-pub kinds_told-set : (fs : List Frame) → kinds_told fs ≡ kinds_set kind_of_frame fs
-kinds_told-set [] = refl
-kinds_told-set (f ∷ fs) = go (tells_kind f) (kinds_told-set fs)
-  where
-    go : (b : Bool) → kinds_told fs ≡ kinds_set kind_of_frame fs
-        → cond b (strip f.value ∷ kinds_told fs) (kinds_told fs) ≡ kind_before (cond b (Some (strip f.value)) None) (kinds_set kind_of_frame fs)
-    go true others = ap (λ (ks : List (List ℕ)). strip f.value ∷ ks) others
-    go false others = others
-
 -- what the first look finds is what the frames tell
 read_kinds-told : (fs : List Frame) (fault : Option DecodeError) (kinds : List (List ℕ)) → read_kinds (map Ok fs ++ fault_at_end fault) ≡ Ok kinds
     → kinds_told fs ≡ kinds
@@ -44,7 +34,7 @@ read_kinds-told (f ∷ fs) fault kinds e = go (tells_kind f) (λ ks h. read_kind
     go : (b : Bool) → ((ks : List (List ℕ)) → read_kinds (map Ok fs ++ fault_at_end fault) ≡ Ok ks → kinds_told fs ≡ ks)
         → cond b (plain_values.text f.value >>= λ kind. seen (λ ks. kind ∷ ks) (read_kinds (map Ok fs ++ fault_at_end fault)))
         (read_kinds (map Ok fs ++ fault_at_end fault)) ≡ Ok kinds
-        → cond b (strip f.value ∷ kinds_told fs) (kinds_told fs) ≡ kinds
+        → kind_before (cond b (Some (strip f.value)) None) (kinds_told fs) ≡ kinds
     go true later h =
         let r = then-ok (plain_values.text f.value) (λ kind. seen (λ ks. kind ∷ ks) (read_kinds (map Ok fs ++ fault_at_end fault))) kinds h in
         let q = seen-ok (λ ks. r.0 ∷ ks) (read_kinds (map Ok fs ++ fault_at_end fault)) kinds r.2 in
@@ -60,7 +50,7 @@ told-read_kinds (f ∷ fs) all = go (tells_kind f) refl (told-read_kinds fs all.
   where
     go : (b : Bool) → tells_kind f ≡ b → read_kinds (map Ok fs) ≡ Ok (kinds_told fs)
         → cond b (plain_values.text f.value >>= λ kind. seen (λ ks. kind ∷ ks) (read_kinds (map Ok fs))) (read_kinds (map Ok fs))
-        ≡ Ok (cond b (strip f.value ∷ kinds_told fs) (kinds_told fs))
+        ≡ Ok (kind_before (cond b (Some (strip f.value)) None) (kinds_told fs))
     go true e others = rw (text-reads f.value (all.0 e), others) refl
     go false e others = others
 
@@ -112,7 +102,7 @@ module _ (c : Codec Frame Attribute) where
     -- the kind of a list of which each value was read
     pub told-set : (k bytes : List ℕ) (xs : List Attribute) → read_list c.read keep k bytes ≡ Ok xs
         → kinds_told (cut bytes).frames ≡ kinds_set kind_of_attribute xs
-    told-set k bytes xs e = kinds_told-set (cut bytes).frames ∙ kinds-each k (cut bytes).frames xs (ReadInTurn-read_list c.read keep k bytes xs e).1
+    told-set k bytes xs e = kinds-each k (cut bytes).frames xs (ReadInTurn-read_list c.read keep k bytes xs e).1
 
     -- a list that is read under the one kind that its frames tell
     pub read_own-is : (k bytes : List ℕ) (xs : List Attribute) → read_list c.read keep k bytes ≡ Ok xs → kinds_told (cut bytes).frames ≡ k ∷ []

@@ -1,4 +1,5 @@
-//! Reading plain values. A number, an address or an array takes its exact width.
+//! Reading plain values. A number, an address or an array takes its exact width, and any other is refused as
+//! `WrongLength`.
 
 ghost use Rattle.std.specs.Prelude.{◌≡◌, string_bytes, length};
 ghost use Rattle.nla_frames.specs.Fault.{Gives, seen};
@@ -10,7 +11,7 @@ use crate::error::{DecodeError, Res};
 use std::alloc::Allocator;
 use std::net::{Ipv4Addr, Ipv6Addr};
 
-/// One byte.
+/// A number of one byte; `WrongLength` of any other width.
 pub fn parse_u8(value: &[u8]) -> Res<u8>
     ensures { result ≡ le_number 1 value.now }
 {
@@ -20,7 +21,7 @@ pub fn parse_u8(value: &[u8]) -> Res<u8>
     }
 }
 
-/// Two bytes, low byte first.
+/// A number of two bytes, little-endian; `WrongLength` of any other width.
 pub fn parse_u16(value: &[u8]) -> Res<u16>
     ensures { result ≡ le_number 2 value.now }
 {
@@ -30,7 +31,7 @@ pub fn parse_u16(value: &[u8]) -> Res<u16>
     }
 }
 
-/// Four bytes, low byte first.
+/// A number of four bytes, little-endian; `WrongLength` of any other width.
 pub fn parse_u32(value: &[u8]) -> Res<u32>
     ensures { result ≡ le_number 4 value.now }
 {
@@ -40,7 +41,7 @@ pub fn parse_u32(value: &[u8]) -> Res<u32>
     }
 }
 
-/// Two bytes, high byte first.
+/// A number of two bytes, big-endian; `WrongLength` of any other width.
 pub fn parse_u16_be(value: &[u8]) -> Res<u16>
     ensures { result ≡ be_number 2 value.now }
 {
@@ -50,7 +51,7 @@ pub fn parse_u16_be(value: &[u8]) -> Res<u16>
     }
 }
 
-/// Four bytes, high byte first.
+/// A number of four bytes, big-endian; `WrongLength` of any other width.
 pub fn parse_u32_be(value: &[u8]) -> Res<u32>
     ensures { result ≡ be_number 4 value.now }
 {
@@ -60,7 +61,7 @@ pub fn parse_u32_be(value: &[u8]) -> Res<u32>
     }
 }
 
-/// The six bytes of a MAC address.
+/// A MAC address of six bytes; `WrongLength` of any other width.
 pub fn parse_mac(value: &[u8]) -> Res<[u8; 6]>
     ensures { result ≡ exactly 6 value.now }
 {
@@ -72,7 +73,7 @@ pub fn parse_mac(value: &[u8]) -> Res<[u8; 6]>
     Ok(mac)
 }
 
-/// The four bytes of an IPv4 address.
+/// An IPv4 address of four bytes; `WrongLength` of any other width.
 pub fn parse_ipv4_addr(value: &[u8]) -> Res<Ipv4Addr>
     ensures { seen ipv4_octets result ≡ exactly 4 value.now }
 {
@@ -82,7 +83,7 @@ pub fn parse_ipv4_addr(value: &[u8]) -> Res<Ipv4Addr>
     }
 }
 
-/// The sixteen bytes of an IPv6 address.
+/// An IPv6 address of sixteen bytes; `WrongLength` of any other width.
 #[tactic(auto, using(crate::proofs::Addresses::octets_again))]
 pub fn parse_ipv6_addr(value: &[u8]) -> Res<Ipv6Addr>
     ensures { seen ipv6_octets result ≡ exactly 16 value.now }
@@ -95,7 +96,7 @@ pub fn parse_ipv6_addr(value: &[u8]) -> Res<Ipv6Addr>
     Ok(Ipv6Addr::from_octets(octets))
 }
 
-/// A text, without the one NUL that may end it.
+/// A text, without the one NUL that may end it; `NotUtf8` where the rest is none, and `OutOfMemory`.
 pub fn parse_string<A: Allocator>(alloc: A, value: &[u8]) -> Res<String<A>>
     ensures { Gives (seen string_bytes result) (text value.now) }
 {
