@@ -1,4 +1,3 @@
 pub mod Flags
 pub mod ActionMessageAttribute
 pub mod ActionMessage
-pub mod Inverse

@@ -59,7 +59,7 @@ pub enum TcActionMessageAttribute<A: Allocator = Global> {
     RootCount(u32),
     /// Actions used within so many milliseconds alone are dumped: `TCA_ROOT_TIME_DELTA`.
     RootTimeDelta(u32),
-    /// A warning of the kernel's: `TCA_ROOT_EXT_WARN_MSG`. Of several NULs at its end one is not read.
+    /// A warning of the kernel's: `TCA_ROOT_EXT_WARN_MSG`. One NUL at its end is dropped when it is read, and none is written.
     RootExtWarnMsg(String<A>),
     /// Any other type.
     Other(DefaultNla<A>),

@@ -2,7 +2,7 @@
 
 ghost use Rattle.std.specs.Prelude.{◌<◌, ◌^◌, ◌≡◌, ◌≤◌, ◌↔◌, [], length, drop, false, IfOk, IsTrue};
 ghost use Rattle.std.specs.Ordering.{on};
-ghost use Rattle.nla_frames.specs.Fault.{Gives, IfRefused, seen};
+ghost use Rattle.nla_frames.specs.Fault.{Gives, IfRefused, UnlessMemory, seen};
 ghost use Rattle.nla_frames.specs.Reading.{keep};
 ghost use Rattle.nla_frames.specs.Emission.{HasRoom, Writes};
 ghost use Rattle.nla_frames.specs.declared.family.AddressFamily.TheVariants.{Unspec};
@@ -15,7 +15,6 @@ ghost use Rattle.tc_meaning.specs.Equal.{same_message, message_equiv, message_pe
 ghost use Rattle.tc_laws.specs.Loose.{is_loose_act, nuls_act};
 ghost use Rattle.tc_laws.specs.Norm.{norm_act};
 ghost use Rattle.tc_action_messages.specs.ActionMessage.{action_message, TakesUnknownAct};
-ghost use Rattle.tc_action_messages.specs.Inverse.{UnlessMemory};
 
 use crate::attribute::TcActionMessageAttribute;
 use nla_frames::{
@@ -33,7 +32,9 @@ use tc_records::{TCA_HEADER_LEN, TcActionMessageHeader};
 #[derive_where(Debug)]
 #[derive_where(Clone; A)]
 pub struct TcActionMessage<A: Allocator = Global> {
+    /// The header, 4 bytes.
     pub header: TcActionMessageHeader,
+    /// The attributes, in order.
     pub attributes: Vec<TcActionMessageAttribute<A>, A>,
 }
 

@@ -1,4 +1,5 @@
 pub mod FramesInFull
+pub mod MessageBytes
 pub mod OrderLaws
 pub mod UnknownLaws
 pub mod UpgradeLaws

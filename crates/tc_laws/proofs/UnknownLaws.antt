@@ -73,12 +73,15 @@ module _ {X : Type 0} (reads : Reads X) (sets : Sets Frame) (f : Frame) (x : X) 
 -- a message whose unknown types set no kind
 keeps_unknown : (sets : Sets Frame) (layout : List Field) (rows : Rows) → ((f : Frame) → is_outside (type_of f.word) rows ≡ true → sets f ≡ None)
     → KeepsUnknown (size_of layout) rows (ReadsWith sets layout rows)
-keeps_unknown sets layout rows none head front one back fs f gs size a b c out m is = record {
+keeps_unknown sets layout rows none bytes m reads_as head front one back fs f gs same size a b c out = record {
   long = rw (length-append {A = ℕ}, size) (omega arith);
   header = is.header ∙ ap (read_fields layout) (take_at head (front ++ back) n size ∙ sym (take_at head (front ++ (one ++ back)) n size));
   body = subst (λ (t : List ℕ). ListReads reads sets [] t (put_in (length fs) x m.body)) (sym (drop_at head (front ++ (one ++ back)) n size)) body;
 }
   where
+    is : ReadsWith sets layout rows (head ++ (front ++ back)) m
+    is = subst (λ (t : List ℕ). ReadsWith sets layout rows t m) same reads_as
+
     n : ℕ
     n = size_of layout
 

@@ -21,10 +21,15 @@ put_in n x xs = take n xs ++ x ∷ drop n xs
 abbrev pub with_other : ℕ → Frame → Message → Message
 with_other n f m = record { header = m.header; body = put_in n (other f.word f.value) m.body }
 
--- after a header of this size, a frame of a type outside the table may be put in anywhere: it is kept there as it stands, and
--- all else reads as before
-abbrev pub KeepsUnknown : ℕ → Rows → (List ℕ → Message → Type 0) → Type 0
-KeepsUnknown size rows ReadsAs =
+-- the bytes read as this message, and where they are a header of this size and frames that are padded in full, they may have one
+-- frame more of a type outside the table, anywhere: it is kept there as it stands, and all else reads as before
+abbrev pub TakesUnknown : ℕ → Rows → (List ℕ → Message → Type 0) → List ℕ → Message → Type 0
+TakesUnknown size rows ReadsAs bytes m =
     (head front one back : List ℕ) (fs : List Frame) (f : Frame) (gs : List Frame)
-    → length head ≡ size → InFull front fs → InFull one (f ∷ []) → InFull back gs → is_outside (type_of f.word) rows ≡ true
-    → (m : Message) → ReadsAs (head ++ (front ++ back)) m → ReadsAs (head ++ (front ++ (one ++ back))) (with_other (length fs) f m)
+    → bytes ≡ head ++ (front ++ back) → length head ≡ size
+    → InFull front fs → InFull one (f ∷ []) → InFull back gs → is_outside (type_of f.word) rows ≡ true
+    → ReadsAs (head ++ (front ++ (one ++ back))) (with_other (length fs) f m)
+
+-- all bytes that read as a message may have one
+abbrev pub KeepsUnknown : ℕ → Rows → (List ℕ → Message → Type 0) → Type 0
+KeepsUnknown size rows ReadsAs = (bytes : List ℕ) (m : Message) → ReadsAs bytes m → TakesUnknown size rows ReadsAs bytes m

@@ -2,7 +2,7 @@
 
 ghost use Rattle.std.specs.Prelude.{◌≡◌, ◌≤◌, ◌↔◌, [], length, drop, false, IfOk, IsTrue};
 ghost use Rattle.std.specs.Ordering.{on};
-ghost use Rattle.nla_frames.specs.Fault.{Gives, IfRefused, seen};
+ghost use Rattle.nla_frames.specs.Fault.{Gives, IfRefused, UnlessMemory, seen};
 ghost use Rattle.nla_frames.specs.Emission.{Writes, HasRoom};
 ghost use Rattle.tc_canon.specs.Layouts.{tc_header};
 ghost use Rattle.tc_canon.specs.Tables.Messages.{attributes};
@@ -12,7 +12,6 @@ ghost use Rattle.tc_meaning.specs.Whole.{ReadsTc, FaultTc, read_tc, tc_bytes, Ty
 ghost use Rattle.tc_meaning.specs.Equal.{same_message, message_equiv, message_per};
 ghost use Rattle.tc_laws.specs.Loose.{is_loose_tc};
 ghost use Rattle.tc_records.specs.Header.{empty_header};
-ghost use Rattle.tc_action_messages.specs.Inverse.{UnlessMemory};
 ghost use Rattle.tc_messages.specs.Message.{tc_message, TakesUnknownTc};
 
 use nla_frames::{
@@ -31,7 +30,9 @@ use tc_records::{TC_HEADER_LEN, TcHeader};
 #[derive_where(Debug)]
 #[derive_where(Clone; A)]
 pub struct TcMessage<A: Allocator = Global> {
+    /// The header, 20 bytes.
     pub header: TcHeader,
+    /// The attributes, in order: a `Kind` governs those after it.
     pub attributes: Vec<TcAttribute<A>, A>,
 }
 

@@ -16,7 +16,7 @@ use crate::message::TcMessage;
 use nla_frames::{DefaultNla, NLA_TYPE_MASK, Nla, SetsKind};
 use std::alloc::Allocator;
 use std::mem;
-use tc_attributes::TcAttribute;
+use tc_attributes::{TCA_OPTIONS, TcAttribute};
 use tc_laws::versions::upgrading;
 use tc_options::{TcOption, is_known_kind};
 
@@ -63,6 +63,7 @@ fn upgrade_one<A: Allocator>(attribute: &mut TcAttribute<A>, is_known: bool) -> 
     ensures known { KnownAfter is_known (kind_of_attribute (tc_attribute attribute.old)) result }
 {
     let after = is_known_after(attribute, is_known);
+    // A placeholder that owns no memory.
     let old = mem::replace(attribute, TcAttribute::HwOffload(0));
     *attribute = upgraded(old, is_known);
     after
@@ -134,7 +135,7 @@ fn is_raw_option<A: Allocator>(option: &TcOption<A>) -> bool
     ensures { result ≡ is_raw (tc_option option.now) }
 {
     match option {
-        TcOption::Other(nla) => nla.kind() & NLA_TYPE_MASK == 2,
+        TcOption::Other(nla) => nla.kind() & NLA_TYPE_MASK == TCA_OPTIONS,
         _ => false,
     }
 }

@@ -1,7 +1,7 @@
 use Rattle.tc_canon.specs.Layouts.{action_message_header}
 use Rattle.tc_canon.specs.Tables.Messages.{action_message_attributes}
 use Rattle.tc_action_messages.specs.ActionMessage.{action_message}
-use Rattle.tc_action_messages.proofs.MessageBytes.{message_measured}
+use Rattle.tc_laws.proofs.MessageBytes.{message_measured}
 use Rattle.tc_action_messages.proofs.message.TcActionMessageEmitable.checked_len.Goals as goal
 
 pub returns-in-Some : goal.returns-in-Some

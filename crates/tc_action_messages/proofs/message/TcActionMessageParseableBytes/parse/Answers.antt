@@ -1,11 +1,9 @@
 use Rattle.std.proofs.Common.{◌≡◌, ◌↔◌, false}
-use Rattle.nla_frames.proofs.Outcomes.{IfOk-Gives, IfRefused-Gives}
-use Rattle.tc_canon.specs.Tables.Messages.{action_message_attributes}
+use Rattle.nla_frames.proofs.Outcomes.{IfOk-Gives, IfRefused-Gives, UnlessMemory-Gives}
 use Rattle.tc_canon.specs.Canonical.{CanonAct}
 use Rattle.tc_meaning.specs.Whole.{ReadsAct, FaultAct, read_act, act_bytes, FitsAct, SettledAct}
 use Rattle.tc_laws.specs.Loose.{is_loose_act}
 use Rattle.tc_action_messages.specs.ActionMessage.{action_message, TakesUnknownAct}
-use Rattle.tc_action_messages.proofs.Inverse.{UnlessMemory-Gives, takes_unknown}
 use Rattle.tc_action_messages.proofs.message.TcActionMessageParseableBytes.parse.Goals as goal
 
 pub returns-clause-found : goal.returns-clause-found
@@ -38,4 +36,4 @@ returns-clause-loose g c =
 pub returns-clause-unknown : goal.returns-clause-unknown
 returns-clause-unknown g c =
     IfOk-Gives action_message c.read.result (read_act c.args.bytes.now) c.read.ensures (TakesUnknownAct c.args.bytes.now)
-    (λ m is. takes_unknown 4 action_message_attributes ReadsAct c.unknown_types.ensures.action c.args.bytes.now m ((c.action_message.ensures.reading m).0 is))
+    (λ m is. c.unknown_types.ensures.action c.args.bytes.now m ((c.action_message.ensures.reading m).0 is))

@@ -1,7 +1,7 @@
 use Rattle.tc_canon.specs.Layouts.{tc_header}
 use Rattle.tc_canon.specs.Tables.Messages.{attributes}
 use Rattle.tc_messages.specs.Message.{tc_message}
-use Rattle.tc_action_messages.proofs.MessageBytes.{message_measured}
+use Rattle.tc_laws.proofs.MessageBytes.{message_measured}
 use Rattle.tc_messages.proofs.message.TcMessageEmitable.checked_len.Goals as goal
 
 pub returns-in-Some : goal.returns-in-Some

@@ -2,7 +2,7 @@ use Rattle.std.proofs.Common.{◌≤◌, length, rules}
 use Rattle.tc_canon.specs.Layouts.{tc_header}
 use Rattle.tc_canon.specs.Tables.Messages.{attributes}
 use Rattle.tc_messages.specs.Message.{tc_message}
-use Rattle.tc_action_messages.proofs.MessageBytes.{room_for_header, room_for_body, header_before_part, message_written}
+use Rattle.tc_laws.proofs.MessageBytes.{room_for_header, room_for_body, header_before_part, message_written}
 use Rattle.tc_messages.proofs.message.TcMessageEmitable.emit.Goals as goal
 
 pub slice_bounds-put_list-count : goal.slice_bounds-put_list-count

@@ -1,11 +1,9 @@
 use Rattle.std.proofs.Common.{◌≡◌, ◌↔◌, false}
-use Rattle.nla_frames.proofs.Outcomes.{IfOk-Gives, IfRefused-Gives}
+use Rattle.nla_frames.proofs.Outcomes.{IfOk-Gives, IfRefused-Gives, UnlessMemory-Gives}
 use Rattle.tc_canon.specs.Canonical.{CanonTc}
-use Rattle.tc_canon.specs.Tables.Messages.{attributes}
 use Rattle.tc_meaning.specs.Whole.{ReadsTc, FaultTc, read_tc, tc_bytes, FitsTc, SettledTc}
 use Rattle.tc_laws.specs.Loose.{is_loose_tc}
 use Rattle.tc_messages.specs.Message.{tc_message, TakesUnknownTc}
-use Rattle.tc_action_messages.proofs.Inverse.{UnlessMemory-Gives, takes_unknown}
 use Rattle.tc_messages.proofs.message.TcMessageParseableBytes.parse.Goals as goal
 
 pub returns-clause-found : goal.returns-clause-found
@@ -36,4 +34,4 @@ returns-clause-loose g c =
 pub returns-clause-unknown : goal.returns-clause-unknown
 returns-clause-unknown g c =
     IfOk-Gives tc_message c.read.result (read_tc c.args.bytes.now) c.read.ensures (TakesUnknownTc c.args.bytes.now)
-    (λ m is. takes_unknown 20 attributes ReadsTc c.unknown_types.ensures.tc c.args.bytes.now m ((c.tc_message.ensures.reading m).0 is))
+    (λ m is. c.unknown_types.ensures.tc c.args.bytes.now m ((c.tc_message.ensures.reading m).0 is))
