@@ -117,6 +117,15 @@ impl fmt::Display for TcHandle {
 
 /// The header of a traffic control message, `struct tcmsg` of `linux/rtnetlink.h`: a family, three bytes of padding,
 /// then four numbers, little-endian.
+///
+/// | Offset | Field | Type |
+/// |---|---|---|
+/// | 0 | `family` | u8 |
+/// | 1 | padding | 3 bytes |
+/// | 4 | `index` | i32 |
+/// | 8 | `handle` | u32 |
+/// | 12 | `parent` | u32 |
+/// | 16 | `info` | u32 |
 #[derive(Clone, Default, Drop, Debug)]
 pub struct TcHeader {
     /// The family of addresses, `Unspec` as a rule.

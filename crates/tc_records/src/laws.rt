@@ -6,6 +6,7 @@ ghost use Rattle.std.specs.Ordering.{nat_cmp, is_eq};
 ghost use Rattle.std.specs.Hash as fed;
 ghost use Rattle.std.specs.Int.{w32, cast_unsigned};
 ghost use Rattle.nla_frames.specs.Value.{le_bytes};
+ghost use Rattle.nla_frames.specs.declared.family.AddressFamily.TheVariants.{Unspec};
 ghost use Rattle.tc_canon.specs.Descriptor.{Field, named};
 ghost use Rattle.tc_canon.specs.Layouts.{action_types, mirror_action_types};
 ghost use Rattle.tc_canon.specs.Layouts.{action_message_header, stats, stats_basic, stats_queue, fq_codel_qd_stats, fq_codel_cl_stats, tcf, selector_key};
@@ -42,6 +43,7 @@ use crate::filters::u32_selector::TcU32Key;
 use crate::header::{TcHandle, TcHeader};
 use crate::qdiscs::fq_codel::{TcFqCodelClStats, TcFqCodelQdStats};
 use crate::stats::{TcStats, TcStatsBasic, TcStatsQueue};
+use nla_frames::AddressFamily;
 use std::cmp::Ordering;
 use std::hash::{Hash, Hasher};
 
@@ -116,6 +118,7 @@ pub fn message_flags_hash<H: Hasher>(flags: TcActionMessageFlags, state: &mut H)
 /// The default of each type that has one: no flag, every number 0, and the family `Unspec`; but an action's outcome
 /// is `Unspec`, which is -1, and a mirror's direction is `EgressRedir`, which is 1.
 pub fn defaults()
+    ensures family { DefaultsTo ⟦<AddressFamily as Default>⟧.is_default (λ x. x) Unspec }
     ensures handle { DefaultsTo ⟦<TcHandle as Default>⟧.is_default (λ x. x) (handle_of 0) }
     ensures header { DefaultsTo ⟦<TcHeader as Default>⟧.is_default (λ x. x) empty_header }
     ensures action_header { DefaultsTo ⟦<TcActionMessageHeader as Default>⟧.is_default

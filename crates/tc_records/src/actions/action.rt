@@ -150,6 +150,14 @@ pub(crate) fn is_settled_action_type(action: TcActionType) -> bool
 }
 
 /// What the record of every action begins with, `tc_gen` of `linux/pkt_cls.h`: five numbers, little-endian.
+///
+/// | Offset | Field | Type |
+/// |---|---|---|
+/// | 0 | `index` | u32 |
+/// | 4 | `capab` | u32 |
+/// | 8 | `action` | i32 |
+/// | 12 | `refcnt` | i32 |
+/// | 16 | `bindcnt` | i32 |
 #[derive(Clone, Copy, Default, Debug)]
 pub struct TcActionGeneric {
     /// The number of the action among those of its kind; at 0 the kernel chooses one.

@@ -17,6 +17,11 @@ use nla_frames::{AddressFamily, BytesMeaning, Emitable, Res, SettleBytes, put_by
 pub const TCA_HEADER_LEN: usize = 4;
 
 /// The header of an action message, `struct tcamsg` of `linux/rtnetlink.h`: a family, then three bytes of padding.
+///
+/// | Offset | Field | Type |
+/// |---|---|---|
+/// | 0 | `family` | u8 |
+/// | 1 | padding | 3 bytes |
 #[derive(Clone, Default, Drop, Debug)]
 pub struct TcActionMessageHeader {
     /// The family of addresses, `Unspec` as a rule.

@@ -127,6 +127,12 @@ fn is_settled_mirror_action_type(action: TcMirrorActionType) -> bool
 
 /// Packets that are redirected or copied to an interface, `struct tc_mirred` of `linux/tc_act/tc_mirred.h`: numbers,
 /// little-endian.
+///
+/// | Offset | Field | Type |
+/// |---|---|---|
+/// | 0 | `generic` | 20 bytes |
+/// | 20 | `eaction` | i32 |
+/// | 24 | `ifindex` | u32 |
 #[derive(Clone, Default, Drop, Debug)]
 pub struct TcMirror {
     /// What every action has.

@@ -25,6 +25,14 @@ const NOWHERE: Ipv4Addr = Ipv4Addr::UNSPECIFIED;
 
 /// A translation of addresses, `struct tc_nat` of `linux/tc_act/tc_nat.h`. An address stands as its four bytes; numbers
 /// are little-endian.
+///
+/// | Offset | Field | Type |
+/// |---|---|---|
+/// | 0 | `generic` | 20 bytes |
+/// | 20 | `old_addr` | IPv4 address |
+/// | 24 | `new_addr` | IPv4 address |
+/// | 28 | `mask` | IPv4 address |
+/// | 32 | `flags` | u32 |
 #[derive(Clone, Drop, Debug)]
 pub struct TcNat {
     /// What every action has.

@@ -16,13 +16,20 @@ use nla_frames::{BytesMeaning, Emitable, Res, SettleBytes, put_bytes, u64_bytes}
 pub const TCF_LEN: usize = 32;
 
 /// The times of an action, `struct tcf_t` of `linux/pkt_cls.h`: four numbers of clock ticks, little-endian.
+///
+/// | Offset | Field | Type |
+/// |---|---|---|
+/// | 0 | `install` | u64 |
+/// | 8 | `lastuse` | u64 |
+/// | 16 | `expires` | u64 |
+/// | 24 | `firstuse` | u64 |
 #[derive(Clone, Default, Drop, Debug)]
 pub struct Tcf {
-    /// Since it was made.
+    /// Since it was installed.
     pub install: u64,
     /// Since it was last used.
     pub lastuse: u64,
-    /// Until it ends.
+    /// Until it expires, as the kernel has it.
     pub expires: u64,
     /// Since it was first used.
     pub firstuse: u64,

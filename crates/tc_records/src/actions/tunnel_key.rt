@@ -18,6 +18,11 @@ pub const TC_TUNNEL_KEY_LEN: usize = 24;
 
 /// A tunnel's metadata is set on packets or released, `struct tc_tunnel_key` of
 /// `linux/tc_act/tc_tunnel_key.h`: numbers, little-endian.
+///
+/// | Offset | Field | Type |
+/// |---|---|---|
+/// | 0 | `generic` | 20 bytes |
+/// | 20 | `t_action` | i32 |
 #[derive(Clone, Default, Drop, Debug)]
 pub struct TcTunnelKey {
     /// What every action has.

@@ -35,6 +35,13 @@ pub const TC_U32_KEY_LEN: usize = 16;
 pub const TC_U32_SELECTOR_LEN: usize = 16;
 
 /// A word of a packet that is compared, `struct tc_u32_key` of `linux/pkt_cls.h`.
+///
+/// | Offset | Field | Type |
+/// |---|---|---|
+/// | 0 | `mask` | u32, big-endian |
+/// | 4 | `val` | u32, big-endian |
+/// | 8 | `off` | i32 |
+/// | 12 | `offmask` | i32 |
 #[derive(Clone, Default, Drop, Debug)]
 pub struct TcU32Key {
     /// The bits that are compared, big-endian.
@@ -179,6 +186,19 @@ fn put_keys(buffer: &mut [u8], keys: &[TcU32Key])
 
 /// What a u32 filter compares with a packet, `struct tc_u32_sel` of `linux/pkt_cls.h`. The filter matches where
 /// each of its keys does. Numbers are little-endian unless said otherwise; a byte of padding follows `nkeys`.
+///
+/// | Offset | Field | Type |
+/// |---|---|---|
+/// | 0 | `flags` | u8 |
+/// | 1 | `offshift` | u8 |
+/// | 2 | `nkeys` | u8 |
+/// | 3 | padding | 1 byte |
+/// | 4 | `offmask` | u16, big-endian |
+/// | 6 | `off` | u16 |
+/// | 8 | `offoff` | i16 |
+/// | 10 | `hoff` | i16 |
+/// | 12 | `hmask` | u32, big-endian |
+/// | 16 | `keys` | 16 bytes each |
 #[derive(Drop)]
 #[derive_where(Debug)]
 #[derive_where(Clone; A)]

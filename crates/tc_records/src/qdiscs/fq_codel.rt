@@ -18,6 +18,18 @@ pub const TC_FQ_CODEL_QD_STATS_LEN: usize = 36;
 pub const TC_FQ_CODEL_CL_STATS_LEN: usize = 24;
 
 /// The statistics of a qdisc, `struct tc_fq_codel_qd_stats` of `linux/pkt_sched.h`: nine numbers, little-endian.
+///
+/// | Offset | Field | Type |
+/// |---|---|---|
+/// | 0 | `maxpacket` | u32 |
+/// | 4 | `drop_overlimit` | u32 |
+/// | 8 | `ecn_mark` | u32 |
+/// | 12 | `new_flow_count` | u32 |
+/// | 16 | `new_flows_len` | u32 |
+/// | 20 | `old_flows_len` | u32 |
+/// | 24 | `ce_mark` | u32 |
+/// | 28 | `memory_usage` | u32 |
+/// | 32 | `drop_overmemory` | u32 |
 #[derive(PartialEq, Eq, Clone, Copy, Default, Debug)]
 pub struct TcFqCodelQdStats {
     /// The bytes of the largest packet that was seen.
@@ -120,6 +132,15 @@ impl SettleBytes for TcFqCodelQdStats {
 
 /// The statistics of a class, which is one flow, `struct tc_fq_codel_cl_stats` of `linux/pkt_sched.h`: six numbers,
 /// little-endian. They are read and written, and shown by `Debug`.
+///
+/// | Offset | Field | Type |
+/// |---|---|---|
+/// | 0 | `deficit` | i32 |
+/// | 4 | `ldelay` | u32 |
+/// | 8 | `count` | u32 |
+/// | 12 | `lastcount` | u32 |
+/// | 16 | `dropping` | u32 |
+/// | 20 | `drop_next` | i32 |
 #[derive(Clone, Copy, Default, Debug)]
 pub struct TcFqCodelClStats {
     // Bytes that the flow may send before the next one's turn; negative once it sent more.

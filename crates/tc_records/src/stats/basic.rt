@@ -17,6 +17,12 @@ pub const TC_STATS_BASIC_LEN: usize = 16;
 
 /// What went through a queue, `struct gnet_stats_basic` of `linux/gen_stats.h`: two numbers, little-endian, and
 /// four bytes of padding.
+///
+/// | Offset | Field | Type |
+/// |---|---|---|
+/// | 0 | `bytes` | u64 |
+/// | 8 | `packets` | u32 |
+/// | 12 | padding | 4 bytes |
 #[derive(Clone, Copy, Default, Debug)]
 pub struct TcStatsBasic {
     /// Bytes that were seen.

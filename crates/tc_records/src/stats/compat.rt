@@ -16,6 +16,18 @@ pub const TC_STATS_LEN: usize = 40;
 
 /// The statistics of a queue, `struct tc_stats` of `linux/pkt_sched.h`: eight numbers, little-endian, and four
 /// bytes of padding.
+///
+/// | Offset | Field | Type |
+/// |---|---|---|
+/// | 0 | `bytes` | u64 |
+/// | 8 | `packets` | u32 |
+/// | 12 | `drops` | u32 |
+/// | 16 | `overlimits` | u32 |
+/// | 20 | `bps` | u32 |
+/// | 24 | `pps` | u32 |
+/// | 28 | `qlen` | u32 |
+/// | 32 | `backlog` | u32 |
+/// | 36 | padding | 4 bytes |
 #[derive(PartialEq, Eq, Clone, Copy, Default, Debug)]
 pub struct TcStats {
     /// Bytes that were queued.

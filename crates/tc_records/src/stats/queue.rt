@@ -17,6 +17,14 @@ pub const TC_STATS_QUEUE_LEN: usize = 20;
 
 /// What waits in a queue and what it refused, `struct gnet_stats_queue` of `linux/gen_stats.h`: five numbers,
 /// little-endian.
+///
+/// | Offset | Field | Type |
+/// |---|---|---|
+/// | 0 | `qlen` | u32 |
+/// | 4 | `backlog` | u32 |
+/// | 8 | `drops` | u32 |
+/// | 12 | `requeues` | u32 |
+/// | 16 | `overlimits` | u32 |
 #[derive(Clone, Copy, Default, Debug)]
 pub struct TcStatsQueue {
     /// Packets in the queue.
