@@ -64,9 +64,9 @@ pub enum TcAttribute<A: Allocator = Global> {
     Stats(TcStats),
     /// Statistics of a qdisc's own: `TCA_XSTATS`.
     Xstats(TcXstats<A>),
-    /// The estimate of a rate, as bytes: `TCA_RATE`.
+    /// How a rate is estimated, `struct tc_estimator` as bytes: `TCA_RATE`.
     Rate(Vec<u8, A>),
-    /// A counter of the forwarding path, as bytes: `TCA_FCNT`.
+    /// A count, as bytes; kernels send one where actions are flushed: `TCA_FCNT`.
     Fcnt(Vec<u8, A>),
     /// Statistics, each an attribute: `TCA_STATS2`.
     Stats2(Vec<TcStats2<A>, A>),

@@ -5,3 +5,4 @@ pub mod attribute;
 mod types;
 
 pub use attribute::{TcAttribute, VecTcAttribute};
+pub use types::TCA_OPTIONS;

@@ -3,7 +3,8 @@
 // `linux/rtnetlink.h`.
 pub(crate) const TCA_KIND: u16 = 1;
 
-pub(crate) const TCA_OPTIONS: u16 = 2;
+/// The type of options, `TCA_OPTIONS`.
+pub const TCA_OPTIONS: u16 = 2;
 
 pub(crate) const TCA_STATS: u16 = 3;
 

@@ -46,7 +46,7 @@ pub enum TcOption<A: Allocator = Global> {
     Other(DefaultNla<A>),
 }
 
-/// True if the options of this kind are known.
+/// True of the kinds whose options are known: `fq_codel`, `ingress`, `flower`, `u32`, `matchall` and `bpf`.
 pub fn is_known_kind(kind: &str) -> bool
     ensures { result ≡ is_known option_kinds kind.now }
 {

@@ -60,8 +60,8 @@ fn scan<'a, A: Allocator>(alloc: A, bytes: &'a [u8]) -> Res<(Vec<NlaBuffer<'a>, 
     Ok((frames, only))
 }
 
-/// The kind that a frame tells: the text of a frame of type 1, whatever its flags are, and none of any other. Fails
-/// where that is no text.
+/// The kind that a frame tells: the text of a frame of type 1, whatever its flags are, and none of any other; `NotUtf8`
+/// where it is no text.
 pub fn kind_told<'a>(frame: &NlaBuffer<'a>) -> Res<Option<&'a str>>
     ensures { seen text_set result ≡ first_look [] (frame_of frame.now) }
 {
