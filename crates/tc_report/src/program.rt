@@ -1,10 +1,8 @@
 //! The program over its streams: a run, and what is said where there is none.
 
-ghost use Rattle.std.specs.Prelude.{◌≡◌, ◌⊎◌, IfSome};
-ghost use Rattle.std.specs.Io.KnownBytes.{Consumes};
-ghost use Rattle.tc_report.specs.Text.{looked_at};
+ghost use Rattle.std.specs.Prelude.{◌≡◌, ◌⊎◌};
 ghost use Rattle.tc_report.specs.Report.{no_memory};
-ghost use Rattle.tc_report.specs.Run.{Reports, ReportsOn};
+ghost use Rattle.tc_report.specs.Run.{Reports, RunReports};
 ghost use Rattle.tc_report.specs.declared.mode.Mode.{Mode};
 ghost use Rattle.tc_report.specs.declared.arguments.Request.TheVariants.{Report, Usage, NoMemory};
 
@@ -25,10 +23,8 @@ pub fn serve<A: Allocator + Copy, R: Read, W: Write, E: Write>(
     errors: &mut E,
 ) -> u8
     ensures report { (mode : Mode) → request ≡ Report mode
-        → (result ≡ 3) ⊎ IfSome (R.remaining reader.old) (λ all.
-        (Consumes (R.remaining reader.old) (R.remaining reader.new) (looked_at all)
-        × ReportsOn mode (looked_at all) (W.contents writer.old) (W.contents writer.new) result)
-        ⊎ Reports (W.contents writer.old) (W.contents writer.new) result no_memory) }
+        → (result ≡ 3) ⊎ RunReports mode (R.remaining reader.old) (R.remaining reader.new)
+        (W.contents writer.old) (W.contents writer.new) result }
     ensures no_memory { request ≡ NoMemory
         → (result ≡ 3) ⊎ Reports (W.contents writer.old) (W.contents writer.new) result no_memory }
     ensures usage { request ≡ Usage → (result ≡ 2) × (writer.new ≡ writer.old) }

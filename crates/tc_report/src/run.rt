@@ -1,11 +1,11 @@
 //! A whole run: a text is read, and a report on it is written.
 
-ghost use Rattle.std.specs.Prelude.{◌≡◌, ◌⊎◌, Err, IfOk, IfErr, IfSome};
+ghost use Rattle.std.specs.Prelude.{◌≡◌, Err, IfOk, IfErr, IfSome};
 ghost use Rattle.std.specs.Io.KnownBytes.{Consumes};
 ghost use Rattle.tc_report.specs.Answer.{report_of};
 ghost use Rattle.tc_report.specs.Text.{looked_at};
 ghost use Rattle.tc_report.specs.Report.{IsReport, no_memory};
-ghost use Rattle.tc_report.specs.Run.{Reports, ReportsOn};
+ghost use Rattle.tc_report.specs.Run.{Reports, RunReports};
 
 use crate::answer::{Answer, answer_text};
 use crate::mode::Mode;
@@ -76,10 +76,9 @@ pub fn run<A: Allocator + Copy, R: Read, W: Write>(
     reader: &mut R,
     writer: &mut W,
 ) -> Result<u8, RunError>
-    ensures report { IfOk result (λ status. IfSome (R.remaining reader.old) (λ all.
-        (Consumes (R.remaining reader.old) (R.remaining reader.new) (looked_at all)
-        × ReportsOn mode (looked_at all) (W.contents writer.old) (W.contents writer.new) status)
-        ⊎ Reports (W.contents writer.old) (W.contents writer.new) status no_memory)) }
+    ensures report { IfOk result (λ status.
+        RunReports mode (R.remaining reader.old) (R.remaining reader.new)
+        (W.contents writer.old) (W.contents writer.new) status) }
     ensures nothing_written { result ≡ Err RunError.Read → writer.new ≡ writer.old }
 {
     let mut patience = Patience::new();
