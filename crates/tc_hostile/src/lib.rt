@@ -1,4 +1,4 @@
-//! Tests alone, of bytes that nobody vouches for, of memory that is refused, and of runs of the program.
+//! Tests alone: of untrusted bytes, of memory that is refused, and of runs of the program.
 #![tactic(auto)]
 
 #[cfg(test)]
@@ -14,10 +14,10 @@ mod memory;
 #[cfg(test)]
 mod reports;
 #[cfg(test)]
-mod strangers;
-#[cfg(test)]
 mod streams;
 #[cfg(test)]
 mod swept_reports;
+#[cfg(test)]
+mod untrusted;
 #[cfg(test)]
 mod whole;

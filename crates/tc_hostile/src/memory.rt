@@ -240,7 +240,7 @@ fn refusals_of(alloc: Global, row: &Row) -> Result<u64, Wrong> {
 }
 
 #[test]
-fn want_of_memory_is_told(rt: HostRuntime) -> Result<(), Fail> {
+fn every_refused_allocation_is_reported(rt: HostRuntime) -> Result<(), Fail> {
     let alloc = rt.alloc();
     let mut count = 0u64;
     for row in &made(alloc)? {

@@ -46,7 +46,6 @@ fn faults_are_printed_and_named(rt: HostRuntime) -> Result<(), Fail> {
 }
 
 #[test]
-#[tactic(auto, using(nla_frames::proofs::FrameBytes::length_frame_bytes))]
 fn an_unknown_frame_is_kept(rt: HostRuntime) -> Result<(), Fail> {
     let frame = NlaBuffer::new_checked(&UNKNOWN)?;
     let kept = DefaultNla::parse(rt.alloc(), &frame)?;

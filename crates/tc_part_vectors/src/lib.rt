@@ -3,7 +3,11 @@
 #![tactic(auto)]
 
 #[cfg(test)]
+mod action_options;
+#[cfg(test)]
 mod actions;
+#[cfg(test)]
+mod captured;
 #[cfg(test)]
 mod frames;
 #[cfg(test)]
@@ -14,3 +18,7 @@ mod records;
 mod refusals;
 #[cfg(test)]
 mod selectors;
+#[cfg(test)]
+mod statistics;
+#[cfg(test)]
+mod told;
