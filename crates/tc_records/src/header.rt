@@ -9,11 +9,10 @@ ghost use Rattle.tc_meaning.specs.Content.{read_record, record_codec};
 
 use crate::family::{family_bytes, is_settled_family, same_family, split_family};
 use crate::laws::in_hand::header_in_hand;
+use crate::octets::{i32_octets, u32_octets};
 use crate::same::both;
 use crate::split::{at_least, skip, split_i32, split_u32};
-use nla_frames::{
-    AddressFamily, BytesMeaning, Emitable, Res, SettleBytes, i32_bytes, put_bytes, u32_bytes,
-};
+use nla_frames::{AddressFamily, BytesMeaning, Emitable, Res, SettleBytes, put_bytes};
 use std::fmt;
 
 /// How long a header is, in bytes.
@@ -211,10 +210,10 @@ impl TcHeader {
         ensures { result ≡ fields_bytes tc_header (header_scalars self.now) }
     {
         let [f0] = family_bytes(self.family);
-        let [i0, i1, i2, i3] = i32_bytes(self.index);
-        let [h0, h1, h2, h3] = u32_bytes(u32::from(self.handle));
-        let [p0, p1, p2, p3] = u32_bytes(u32::from(self.parent));
-        let [n0, n1, n2, n3] = u32_bytes(self.info);
+        let (i0, i1, i2, i3) = i32_octets(self.index);
+        let (h0, h1, h2, h3) = u32_octets(u32::from(self.handle));
+        let (p0, p1, p2, p3) = u32_octets(u32::from(self.parent));
+        let (n0, n1, n2, n3) = u32_octets(self.info);
         [
             f0, 0, 0, 0, i0, i1, i2, i3, h0, h1, h2, h3, p0, p1, p2, p3, n0, n1, n2, n3,
         ]

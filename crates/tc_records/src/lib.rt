@@ -6,6 +6,7 @@ mod family;
 pub mod filters;
 pub mod header;
 pub mod laws;
+mod octets;
 pub mod qdiscs;
 mod same;
 mod split;

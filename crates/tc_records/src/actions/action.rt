@@ -10,9 +10,10 @@ ghost use Rattle.tc_meaning.specs.Content.{read_record, record_codec};
 ghost use Rattle.tc_records.specs.ActionType.{action_type_of, action_type_number, action_type_scalar};
 
 use crate::laws::in_hand::generic_in_hand;
+use crate::octets::{i32_octets, u32_octets};
 use crate::same::both;
 use crate::split::{at_least, split_i32, split_u32};
-use nla_frames::{BytesMeaning, Emitable, Res, SettleBytes, i32_bytes, put_bytes, u32_bytes};
+use nla_frames::{BytesMeaning, Emitable, Res, SettleBytes, i32_bytes, put_bytes};
 
 /// How long the generic part is, in bytes.
 pub const TC_ACTION_GENERIC_LEN: usize = 20;
@@ -264,11 +265,11 @@ impl TcActionGeneric {
     pub(crate) fn to_bytes(&self) -> [u8; TC_ACTION_GENERIC_LEN]
         ensures { result ≡ fields_bytes action_generic (generic_scalars self.now) }
     {
-        let [i0, i1, i2, i3] = u32_bytes(self.index);
-        let [c0, c1, c2, c3] = u32_bytes(self.capab);
+        let (i0, i1, i2, i3) = u32_octets(self.index);
+        let (c0, c1, c2, c3) = u32_octets(self.capab);
         let [a0, a1, a2, a3] = action_type_bytes(self.action);
-        let [r0, r1, r2, r3] = i32_bytes(self.refcnt);
-        let [b0, b1, b2, b3] = i32_bytes(self.bindcnt);
+        let (r0, r1, r2, r3) = i32_octets(self.refcnt);
+        let (b0, b1, b2, b3) = i32_octets(self.bindcnt);
         [
             i0, i1, i2, i3, c0, c1, c2, c3, a0, a1, a2, a3, r0, r1, r2, r3, b0, b1, b2, b3,
         ]

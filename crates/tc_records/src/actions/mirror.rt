@@ -1,7 +1,8 @@
 //! Packets that go to another interface.
 
-ghost use Rattle.std.specs.Prelude.{◌≡◌, ◌≤◌, ◌+◌, ◌↔◌, IsTrue, List, length, take, drop};
+ghost use Rattle.std.specs.Prelude.{◌≡◌, ◌≤◌, ◌+◌, ◌++◌, ◌↔◌, IsTrue, List, length, take, drop};
 ghost use Rattle.nla_frames.specs.Fault.{seen};
+ghost use Rattle.nla_frames.specs.Value.{le_bytes};
 ghost use Rattle.tc_canon.specs.Descriptor.{named};
 ghost use Rattle.tc_canon.specs.Layouts.{mirror, mirror_action_types};
 ghost use Rattle.tc_meaning.specs.Tree.{Scalar};
@@ -11,9 +12,10 @@ ghost use Rattle.tc_records.specs.MirrorActionType.{mirror_action_type_of, mirro
 
 use crate::actions::action::{TC_ACTION_GENERIC_LEN, TcActionGeneric};
 use crate::laws::in_hand::mirror_in_hand;
+use crate::octets::u32_octets;
 use crate::same::both;
 use crate::split::{at_least, split_i32, split_u32};
-use nla_frames::{BytesMeaning, Emitable, Res, SettleBytes, i32_bytes, put_bytes, u32_bytes};
+use nla_frames::{BytesMeaning, Emitable, Res, SettleBytes, i32_bytes, put_bytes};
 
 /// How long a mirror's record is, in bytes.
 pub const TC_MIRROR_LEN: usize = 28;
@@ -193,18 +195,25 @@ impl TcMirror {
         self.generic.is_settled() && is_settled_mirror_action_type(self.eaction)
     }
 
+    // The bytes after the generic part.
+    fn own_bytes(&self) -> [u8; 8]
+        ensures { let mirror = self.now in
+            result
+            ≡ field_bytes (named 4 mirror_action_types) (mirror_action_type_scalar mirror.eaction)
+            ++ le_bytes 4 mirror.ifindex }
+    {
+        let [e0, e1, e2, e3] = mirror_action_type_bytes(self.eaction);
+        let (i0, i1, i2, i3) = u32_octets(self.ifindex);
+        [e0, e1, e2, e3, i0, i1, i2, i3]
+    }
+
     // The record's bytes.
     fn to_bytes(&self) -> [u8; TC_MIRROR_LEN]
         ensures { result ≡ fields_bytes mirror (mirror_scalars self.now) }
     {
-        let [e0, e1, e2, e3] = mirror_action_type_bytes(self.eaction);
-        let [i0, i1, i2, i3] = u32_bytes(self.ifindex);
         let mut bytes = [0; TC_MIRROR_LEN];
         put_bytes(&mut bytes, &self.generic.to_bytes());
-        put_bytes(
-            &mut bytes[TC_ACTION_GENERIC_LEN..],
-            &[e0, e1, e2, e3, i0, i1, i2, i3],
-        );
+        put_bytes(&mut bytes[TC_ACTION_GENERIC_LEN..], &self.own_bytes());
         bytes
     }
 }

@@ -8,9 +8,10 @@ ghost use Rattle.tc_meaning.specs.Layout.{fields_bytes};
 ghost use Rattle.tc_meaning.specs.Content.{read_record, record_codec};
 
 use crate::laws::in_hand::tcf_in_hand;
+use crate::octets::u64_octets;
 use crate::same::both;
 use crate::split::{at_least, split_u64};
-use nla_frames::{BytesMeaning, Emitable, Res, SettleBytes, put_bytes, u64_bytes};
+use nla_frames::{BytesMeaning, Emitable, Res, SettleBytes, put_bytes};
 
 /// How long the times of an action are, in bytes.
 pub const TCF_LEN: usize = 32;
@@ -89,10 +90,10 @@ impl Tcf {
     fn to_bytes(&self) -> [u8; TCF_LEN]
         ensures { result ≡ fields_bytes tcf (tcf_scalars self.now) }
     {
-        let [i0, i1, i2, i3, i4, i5, i6, i7] = u64_bytes(self.install);
-        let [l0, l1, l2, l3, l4, l5, l6, l7] = u64_bytes(self.lastuse);
-        let [e0, e1, e2, e3, e4, e5, e6, e7] = u64_bytes(self.expires);
-        let [f0, f1, f2, f3, f4, f5, f6, f7] = u64_bytes(self.firstuse);
+        let (i0, i1, i2, i3, i4, i5, i6, i7) = u64_octets(self.install);
+        let (l0, l1, l2, l3, l4, l5, l6, l7) = u64_octets(self.lastuse);
+        let (e0, e1, e2, e3, e4, e5, e6, e7) = u64_octets(self.expires);
+        let (f0, f1, f2, f3, f4, f5, f6, f7) = u64_octets(self.firstuse);
         [
             i0, i1, i2, i3, i4, i5, i6, i7, l0, l1, l2, l3, l4, l5, l6, l7, e0, e1, e2, e3, e4, e5,
             e6, e7, f0, f1, f2, f3, f4, f5, f6, f7,

@@ -8,8 +8,9 @@ ghost use Rattle.tc_meaning.specs.Layout.{fields_bytes};
 ghost use Rattle.tc_meaning.specs.Content.{read_record, record_codec};
 
 use crate::laws::in_hand::{cl_stats_in_hand, qd_stats_in_hand};
+use crate::octets::{i32_octets, u32_octets};
 use crate::split::{at_least, split_i32, split_u32};
-use nla_frames::{BytesMeaning, Emitable, Res, SettleBytes, i32_bytes, put_bytes, u32_bytes};
+use nla_frames::{BytesMeaning, Emitable, Res, SettleBytes, put_bytes};
 
 /// How long the statistics of a qdisc are, in bytes.
 pub const TC_FQ_CODEL_QD_STATS_LEN: usize = 36;
@@ -86,15 +87,15 @@ impl TcFqCodelQdStats {
     fn to_bytes(&self) -> [u8; TC_FQ_CODEL_QD_STATS_LEN]
         ensures { result ≡ fields_bytes fq_codel_qd_stats (qd_stats_scalars self.now) }
     {
-        let [p0, p1, p2, p3] = u32_bytes(self.maxpacket);
-        let [d0, d1, d2, d3] = u32_bytes(self.drop_overlimit);
-        let [e0, e1, e2, e3] = u32_bytes(self.ecn_mark);
-        let [f0, f1, f2, f3] = u32_bytes(self.new_flow_count);
-        let [n0, n1, n2, n3] = u32_bytes(self.new_flows_len);
-        let [o0, o1, o2, o3] = u32_bytes(self.old_flows_len);
-        let [c0, c1, c2, c3] = u32_bytes(self.ce_mark);
-        let [m0, m1, m2, m3] = u32_bytes(self.memory_usage);
-        let [u0, u1, u2, u3] = u32_bytes(self.drop_overmemory);
+        let (p0, p1, p2, p3) = u32_octets(self.maxpacket);
+        let (d0, d1, d2, d3) = u32_octets(self.drop_overlimit);
+        let (e0, e1, e2, e3) = u32_octets(self.ecn_mark);
+        let (f0, f1, f2, f3) = u32_octets(self.new_flow_count);
+        let (n0, n1, n2, n3) = u32_octets(self.new_flows_len);
+        let (o0, o1, o2, o3) = u32_octets(self.old_flows_len);
+        let (c0, c1, c2, c3) = u32_octets(self.ce_mark);
+        let (m0, m1, m2, m3) = u32_octets(self.memory_usage);
+        let (u0, u1, u2, u3) = u32_octets(self.drop_overmemory);
         [
             p0, p1, p2, p3, d0, d1, d2, d3, e0, e1, e2, e3, f0, f1, f2, f3, n0, n1, n2, n3, o0, o1,
             o2, o3, c0, c1, c2, c3, m0, m1, m2, m3, u0, u1, u2, u3,
@@ -220,12 +221,12 @@ impl TcFqCodelClStats {
     fn to_bytes(&self) -> [u8; TC_FQ_CODEL_CL_STATS_LEN]
         ensures { result ≡ fields_bytes fq_codel_cl_stats (cl_stats_scalars self.now) }
     {
-        let [b0, b1, b2, b3] = i32_bytes(self.deficit);
-        let [l0, l1, l2, l3] = u32_bytes(self.ldelay);
-        let [c0, c1, c2, c3] = u32_bytes(self.count);
-        let [p0, p1, p2, p3] = u32_bytes(self.lastcount);
-        let [d0, d1, d2, d3] = u32_bytes(self.dropping);
-        let [n0, n1, n2, n3] = i32_bytes(self.drop_next);
+        let (b0, b1, b2, b3) = i32_octets(self.deficit);
+        let (l0, l1, l2, l3) = u32_octets(self.ldelay);
+        let (c0, c1, c2, c3) = u32_octets(self.count);
+        let (p0, p1, p2, p3) = u32_octets(self.lastcount);
+        let (d0, d1, d2, d3) = u32_octets(self.dropping);
+        let (n0, n1, n2, n3) = i32_octets(self.drop_next);
         [
             b0, b1, b2, b3, l0, l1, l2, l3, c0, c1, c2, c3, p0, p1, p2, p3, d0, d1, d2, d3, n0, n1,
             n2, n3,

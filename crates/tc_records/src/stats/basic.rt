@@ -8,9 +8,10 @@ ghost use Rattle.tc_meaning.specs.Layout.{fields_bytes};
 ghost use Rattle.tc_meaning.specs.Content.{read_record, record_codec};
 
 use crate::laws::in_hand::stats_basic_in_hand;
+use crate::octets::{u32_octets, u64_octets};
 use crate::same::both;
 use crate::split::{at_least, split_u32, split_u64};
-use nla_frames::{BytesMeaning, Emitable, Res, SettleBytes, put_bytes, u32_bytes, u64_bytes};
+use nla_frames::{BytesMeaning, Emitable, Res, SettleBytes, put_bytes};
 
 /// How long basic statistics are, in bytes.
 pub const TC_STATS_BASIC_LEN: usize = 16;
@@ -72,8 +73,8 @@ impl TcStatsBasic {
     fn to_bytes(&self) -> [u8; TC_STATS_BASIC_LEN]
         ensures { result ≡ fields_bytes stats_basic (basic_scalars self.now) }
     {
-        let [b0, b1, b2, b3, b4, b5, b6, b7] = u64_bytes(self.bytes);
-        let [p0, p1, p2, p3] = u32_bytes(self.packets);
+        let (b0, b1, b2, b3, b4, b5, b6, b7) = u64_octets(self.bytes);
+        let (p0, p1, p2, p3) = u32_octets(self.packets);
         [b0, b1, b2, b3, b4, b5, b6, b7, p0, p1, p2, p3, 0, 0, 0, 0]
     }
 }

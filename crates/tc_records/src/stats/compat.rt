@@ -8,8 +8,9 @@ ghost use Rattle.tc_meaning.specs.Layout.{fields_bytes};
 ghost use Rattle.tc_meaning.specs.Content.{read_record, record_codec};
 
 use crate::laws::in_hand::stats_in_hand;
+use crate::octets::{u32_octets, u64_octets};
 use crate::split::{at_least, split_u32, split_u64};
-use nla_frames::{BytesMeaning, Emitable, Res, SettleBytes, put_bytes, u32_bytes, u64_bytes};
+use nla_frames::{BytesMeaning, Emitable, Res, SettleBytes, put_bytes};
 
 /// How long the statistics of a queue are, in bytes.
 pub const TC_STATS_LEN: usize = 40;
@@ -80,14 +81,14 @@ impl TcStats {
     fn to_bytes(&self) -> [u8; TC_STATS_LEN]
         ensures { result ≡ fields_bytes stats (stats_scalars self.now) }
     {
-        let [a0, a1, a2, a3, a4, a5, a6, a7] = u64_bytes(self.bytes);
-        let [p0, p1, p2, p3] = u32_bytes(self.packets);
-        let [d0, d1, d2, d3] = u32_bytes(self.drops);
-        let [o0, o1, o2, o3] = u32_bytes(self.overlimits);
-        let [b0, b1, b2, b3] = u32_bytes(self.bps);
-        let [s0, s1, s2, s3] = u32_bytes(self.pps);
-        let [q0, q1, q2, q3] = u32_bytes(self.qlen);
-        let [l0, l1, l2, l3] = u32_bytes(self.backlog);
+        let (a0, a1, a2, a3, a4, a5, a6, a7) = u64_octets(self.bytes);
+        let (p0, p1, p2, p3) = u32_octets(self.packets);
+        let (d0, d1, d2, d3) = u32_octets(self.drops);
+        let (o0, o1, o2, o3) = u32_octets(self.overlimits);
+        let (b0, b1, b2, b3) = u32_octets(self.bps);
+        let (s0, s1, s2, s3) = u32_octets(self.pps);
+        let (q0, q1, q2, q3) = u32_octets(self.qlen);
+        let (l0, l1, l2, l3) = u32_octets(self.backlog);
         [
             a0, a1, a2, a3, a4, a5, a6, a7, p0, p1, p2, p3, d0, d1, d2, d3, o0, o1, o2, o3, b0, b1,
             b2, b3, s0, s1, s2, s3, q0, q1, q2, q3, l0, l1, l2, l3, 0, 0, 0, 0,

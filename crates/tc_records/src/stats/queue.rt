@@ -8,9 +8,10 @@ ghost use Rattle.tc_meaning.specs.Layout.{fields_bytes};
 ghost use Rattle.tc_meaning.specs.Content.{read_record, record_codec};
 
 use crate::laws::in_hand::stats_queue_in_hand;
+use crate::octets::u32_octets;
 use crate::same::both;
 use crate::split::{at_least, split_u32};
-use nla_frames::{BytesMeaning, Emitable, Res, SettleBytes, put_bytes, u32_bytes};
+use nla_frames::{BytesMeaning, Emitable, Res, SettleBytes, put_bytes};
 
 /// How long queue statistics are, in bytes.
 pub const TC_STATS_QUEUE_LEN: usize = 20;
@@ -98,11 +99,11 @@ impl TcStatsQueue {
     fn to_bytes(&self) -> [u8; TC_STATS_QUEUE_LEN]
         ensures { result ≡ fields_bytes stats_queue (queue_scalars self.now) }
     {
-        let [q0, q1, q2, q3] = u32_bytes(self.qlen);
-        let [b0, b1, b2, b3] = u32_bytes(self.backlog);
-        let [d0, d1, d2, d3] = u32_bytes(self.drops);
-        let [r0, r1, r2, r3] = u32_bytes(self.requeues);
-        let [o0, o1, o2, o3] = u32_bytes(self.overlimits);
+        let (q0, q1, q2, q3) = u32_octets(self.qlen);
+        let (b0, b1, b2, b3) = u32_octets(self.backlog);
+        let (d0, d1, d2, d3) = u32_octets(self.drops);
+        let (r0, r1, r2, r3) = u32_octets(self.requeues);
+        let (o0, o1, o2, o3) = u32_octets(self.overlimits);
         [
             q0, q1, q2, q3, b0, b1, b2, b3, d0, d1, d2, d3, r0, r1, r2, r3, o0, o1, o2, o3,
         ]

@@ -21,3 +21,6 @@ returns-in-Mark-clause-seen g c = rw (c.in-Mark.is, c.deref-in-Mark.ensures.valu
 
 pub returns-in-Action-clause-row : goal.returns-in-Action-clause-row
 returns-in-Action-clause-row g c = search rules
+
+pub returns-in-Selector-clause-row : goal.returns-in-Selector-clause-row
+returns-in-Selector-clause-row g c = search rules

@@ -1,0 +1,8 @@
+use Rattle.std.proofs.Common.{rules}
+use Rattle.tc_filters.proofs.filters.matchall.TcFilterMatchAllOption.row.Goals as goal
+
+pub returns-in-Action-clause-seen : goal.returns-in-Action-clause-seen
+returns-in-Action-clause-seen g c = search rules
+
+pub returns-in-Action-clause-row : goal.returns-in-Action-clause-row
+returns-in-Action-clause-row g c = search rules

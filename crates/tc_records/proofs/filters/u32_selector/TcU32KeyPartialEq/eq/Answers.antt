@@ -1,0 +1,5 @@
+use Rattle.std.proofs.Common.{rules}
+use Rattle.tc_records.proofs.filters.u32_selector.TcU32KeyPartialEq.eq.Goals as goal
+
+pub returns : goal.returns
+returns c = search rules

@@ -1,0 +1,5 @@
+use Rattle.std.proofs.Common.{rules}
+use Rattle.tc_values.proofs.value.Value.is_settled_under.Goals as goal
+
+pub returns-in-Kept-clause-settled : goal.returns-in-Kept-clause-settled
+returns-in-Kept-clause-settled g c = search rules

@@ -1,0 +1,5 @@
+use Rattle.std.proofs.Common.{rules}
+use Rattle.tc_values.proofs.value.Value.put.Goals as goal
+
+pub returns-in-U16Be-clause-written : goal.returns-in-U16Be-clause-written
+returns-in-U16Be-clause-written g c = search rules
