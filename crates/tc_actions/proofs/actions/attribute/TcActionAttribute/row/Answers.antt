@@ -12,3 +12,6 @@ returns-in-Cookie-clause-seen g c = rw (c.in-Cookie.is, c.deref-in-Cookie.ensure
 
 pub returns-in-Options-clause-row : goal.returns-in-Options-clause-row
 returns-in-Options-clause-row g c = search rules
+
+pub returns-in-Stats-clause-row : goal.returns-in-Stats-clause-row
+returns-in-Stats-clause-row g c = search rules

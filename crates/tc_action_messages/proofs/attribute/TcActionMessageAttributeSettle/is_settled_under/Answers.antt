@@ -1,0 +1,5 @@
+use Rattle.std.proofs.Common.{rules}
+use Rattle.tc_action_messages.proofs.attribute.TcActionMessageAttributeSettle.is_settled_under.Goals as goal
+
+pub returns-clause-settled : goal.returns-clause-settled
+returns-clause-settled g c = search rules
