@@ -1,15 +1,18 @@
 //! The attributes of a message.
 
-ghost use Rattle.std.specs.Prelude.{◌≡◌, List, ℕ, [], map, IfOk, IsTrue};
+ghost use Rattle.std.specs.Prelude.{◌≡◌, ◌↔◌, false, List, ℕ, [], map, IfOk, IsTrue};
 ghost use Rattle.std.specs.Ordering.{on};
 ghost use Rattle.nla_frames.specs.Fault.{Gives, IfRefused, seen, read_as};
 ghost use Rattle.nla_frames.specs.Frame.{type_of};
 ghost use Rattle.nla_frames.specs.Buffer.{frame_of};
+ghost use Rattle.nla_frames.specs.DefaultNla.{kept_frame};
 ghost use Rattle.nla_frames.specs.Reading.{read_list};
 ghost use Rattle.nla_frames.specs.OnlyKind.{text_set};
 ghost use Rattle.nla_frames.specs.Codec.{list_codec};
-ghost use Rattle.tc_canon.specs.Descriptor.{table};
+ghost use Rattle.tc_canon.specs.Descriptor.{table, is_known};
 ghost use Rattle.tc_canon.specs.Tables.Messages.{attributes};
+ghost use Rattle.tc_canon.specs.Tables.Options.{option_kinds};
+ghost use Rattle.tc_meaning.specs.Meaning.{IsRaw};
 ghost use Rattle.tc_meaning.specs.Tree.{Attribute, other};
 ghost use Rattle.tc_meaning.specs.Message.{kind_of_frame, kind_of_attribute};
 ghost use Rattle.tc_meaning.specs.OwnGrammar.{first_look};
@@ -209,6 +212,19 @@ fn is_read(word: u16) -> bool
     matches!(word & NLA_TYPE_MASK, TCA_KIND..=TCA_STAB | TCA_DUMP_INVISIBLE..=TCA_HW_OFFLOAD)
 }
 
+// True if options that stand as they came are kept so: under an unknown kind, at the type of options.
+fn is_settled_raw<A: Allocator>(nla: &DefaultNla<A>, kind: &str) -> bool
+    ensures settled { IsTrue result ↔ (is_known option_kinds kind.now ≡ false)
+        × (type_of (kept_frame nla.now).word ≡ 2) }
+    ensures typed { IsTrue result
+        → IsRaw (kept_frame nla.now).word (kept_frame nla.now).value }
+{
+    if is_known_kind(kind) {
+        return false;
+    }
+    nla.is_settled_under(kind) && nla.kind() & NLA_TYPE_MASK == TCA_OPTIONS
+}
+
 impl<A: Allocator> Settle for TcAttribute<A> {
     fn is_settled_under(&self, kind: &str) -> bool {
         match self {
@@ -219,11 +235,7 @@ impl<A: Allocator> Settle for TcAttribute<A> {
             TcAttribute::Options(options) => {
                 is_known_kind(kind) && list_settled_under(options, kind)
             }
-            TcAttribute::OptionsRaw(nla) => {
-                nla.is_settled_under(kind)
-                    && !is_known_kind(kind)
-                    && nla.kind() & NLA_TYPE_MASK == TCA_OPTIONS
-            }
+            TcAttribute::OptionsRaw(nla) => is_settled_raw(nla, kind),
             TcAttribute::Stats(stats) => stats.is_settled_under(kind),
             TcAttribute::Xstats(xstats) => xstats.is_settled_under(kind),
             TcAttribute::Stats2(stats) => list_settled_under(stats, kind),

@@ -4,11 +4,11 @@ use Rattle.std.proofs.lemmas.Bool.Decides.{Decides-eqb}
 use Rattle.nla_frames.specs.Frame.{type_of}
 use Rattle.nla_frames.specs.Codec.{Codec, list_codec}
 use Rattle.nla_frames.specs.Frame.{Frame}
-use Rattle.tc_canon.specs.Descriptor.{Class, Rows, others, types, unread, options, is_within}
+use Rattle.tc_canon.specs.Descriptor.{Class, Rows, others, types, unread, options, is_within, table}
 use Rattle.tc_meaning.specs.Tree.{Attribute, Content, known, other}
 use Rattle.nla_frames.specs.Reading.{keep}
 use Rattle.tc_meaning.specs.Content.{via}
-use Rattle.tc_meaning.specs.Meaning.{a_list, class_codec, rows_codec, kinds_codec, choose, row_frames, unread_frames, options_frames, IsShort, IsRaw}
+use Rattle.tc_meaning.specs.Meaning.{table_codec, a_list, class_codec, rows_codec, kinds_codec, choose, row_frames, unread_frames, options_frames, IsShort, IsRaw}
 use Rattle.tc_values.specs.Inner.{Inner, IsInner}
 use Rattle.tc_values.specs.Value.{value_class, value_content, SettledValue, SettledAs}
 use Rattle.tc_values.specs.Row.{reads_at, written_at, attribute_of, IsRow, ShownAs}
@@ -169,3 +169,12 @@ module _ {N : Type 0} (inner : Inner N) (is : IsInner inner) (rows : Rows) (word
   shown_as x (Text t) seen row = subst (λ y. ShownAs inner rows y word (Text t)) (sym seen) (shown_known (Text t) row (λ kind. refl))
   shown_as x (Warning t) seen row = subst (λ y. ShownAs inner rows y word (Warning t)) (sym seen) (shown_known (Warning t) row (λ kind. refl))
   shown_as x (Nested n) seen row = subst (λ y. ShownAs inner rows y word (Nested n)) (sym seen) (shown_known (Nested n) row (λ kind. refl))
+
+-- what is told of a value, at a type that is read or not, is told of the attribute that shows it
+pub settled_shown : {N : Type 0} {inner : Inner N} {rows : Rows} {x : Attribute} {word : ℕ} {v : Value N} {is_read : Bool} {P : Type 0}
+    → ShownAs inner rows x word v → is_read ≡ reads_at rows (type_of word) → (kind : List ℕ)
+    → P ↔ SettledAs inner.Settled is_read kind v → P ↔ (table_codec (table rows)).Settled kind x
+settled_shown shown here kind told =
+    let here = rw here at told in
+    let attribute = shown.settled kind in
+    (λ p. attribute.0 (here.0 p), λ s. here.1 (attribute.1 s))

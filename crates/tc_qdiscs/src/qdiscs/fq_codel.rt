@@ -1,11 +1,11 @@
 //! Fair queueing with controlled delay.
 
-ghost use Rattle.std.specs.Prelude.{◌≡◌, List};
+ghost use Rattle.std.specs.Prelude.{◌≡◌, IsTrue, List};
 ghost use Rattle.std.specs.Ordering.{on};
 ghost use Rattle.nla_frames.specs.Frame.{type_of};
-ghost use Rattle.tc_canon.specs.Descriptor.{table};
+ghost use Rattle.tc_canon.specs.Descriptor.{is_within, table};
 ghost use Rattle.tc_canon.specs.Tables.Options.{fq_codel_options};
-ghost use Rattle.tc_meaning.specs.Tree.{Attribute};
+ghost use Rattle.tc_meaning.specs.Tree.{Attribute, known, number};
 ghost use Rattle.tc_meaning.specs.Meaning.{table_codec};
 ghost use Rattle.tc_meaning.specs.Short.{table_short};
 ghost use Rattle.tc_meaning.specs.Equal.{same_attribute, attribute_equiv, attribute_per};
@@ -74,15 +74,10 @@ impl<A: Allocator> Parseable<A> for TcQdiscFqCodelOption<A> {
     fn parse(alloc: A, buf: &NlaBuffer<'_>) -> Res<TcQdiscFqCodelOption<A>> {
         let value = buf.value();
         Ok(match buf.kind() {
-            TCA_FQ_CODEL_TARGET => TcQdiscFqCodelOption::Target(parse_u32(value)?),
-            TCA_FQ_CODEL_LIMIT => TcQdiscFqCodelOption::Limit(parse_u32(value)?),
-            TCA_FQ_CODEL_INTERVAL => TcQdiscFqCodelOption::Interval(parse_u32(value)?),
-            TCA_FQ_CODEL_ECN => TcQdiscFqCodelOption::Ecn(parse_u32(value)?),
-            TCA_FQ_CODEL_FLOWS => TcQdiscFqCodelOption::Flows(parse_u32(value)?),
-            TCA_FQ_CODEL_QUANTUM => TcQdiscFqCodelOption::Quantum(parse_u32(value)?),
-            TCA_FQ_CODEL_CE_THRESHOLD => TcQdiscFqCodelOption::CeThreshold(parse_u32(value)?),
-            TCA_FQ_CODEL_DROP_BATCH_SIZE => TcQdiscFqCodelOption::DropBatchSize(parse_u32(value)?),
-            TCA_FQ_CODEL_MEMORY_LIMIT => TcQdiscFqCodelOption::MemoryLimit(parse_u32(value)?),
+            kind @ TCA_FQ_CODEL_TARGET..=TCA_FQ_CODEL_MEMORY_LIMIT => Self::of_u32(
+                kind,
+                parse_u32(value)?,
+            ),
             TCA_FQ_CODEL_CE_THRESHOLD_SELECTOR => TcQdiscFqCodelOption::CeThresholdSelector(
                 parse_u8(value)?,
             ),
@@ -95,6 +90,25 @@ impl<A: Allocator> Parseable<A> for TcQdiscFqCodelOption<A> {
 }
 
 impl<A: Allocator> TcQdiscFqCodelOption<A> {
+    // The option of a type that holds a number of four bytes.
+    #[inline(always)]
+    fn of_u32(kind: u16, n: u32) -> Self
+        requires { IsTrue (is_within 1 9 kind) }
+        ensures { fq_codel_option result ≡ known kind (number n) }
+    {
+        match kind {
+            TCA_FQ_CODEL_TARGET => TcQdiscFqCodelOption::Target(n),
+            TCA_FQ_CODEL_LIMIT => TcQdiscFqCodelOption::Limit(n),
+            TCA_FQ_CODEL_INTERVAL => TcQdiscFqCodelOption::Interval(n),
+            TCA_FQ_CODEL_ECN => TcQdiscFqCodelOption::Ecn(n),
+            TCA_FQ_CODEL_FLOWS => TcQdiscFqCodelOption::Flows(n),
+            TCA_FQ_CODEL_QUANTUM => TcQdiscFqCodelOption::Quantum(n),
+            TCA_FQ_CODEL_CE_THRESHOLD => TcQdiscFqCodelOption::CeThreshold(n),
+            TCA_FQ_CODEL_DROP_BATCH_SIZE => TcQdiscFqCodelOption::DropBatchSize(n),
+            _ => TcQdiscFqCodelOption::MemoryLimit(n),
+        }
+    }
+
     // Its word and its value, and what they are by the table.
     fn view(&self) -> (u16, Value<'_>)
         ensures { ShownAs nothing fq_codel_options (fq_codel_option self.now) result.0 result.1 }

@@ -24,3 +24,27 @@ returns-in-Stats2 g c = rw (c.in-Stats2.is, c.deref-in-Stats2.ensures.value) (wr
 
 pub returns-in-Other : goal.returns-in-Other
 returns-in-Other g c = rw (c.in-Other.is, c.kind-in-Other.ensures, c.value-in-Other.ensures) (written _ _ _ refl tt (search rules))
+
+pub returns-in-Stats : goal.returns-in-Stats
+returns-in-Stats g c = rw c.in-Stats.is (written _ _ _ refl refl (omega arith))
+
+pub returns-in-Xstats : goal.returns-in-Xstats
+returns-in-Xstats g c = rw c.in-Xstats.is (written _ _ _ refl refl (omega arith))
+
+pub returns-in-DumpInvisible : goal.returns-in-DumpInvisible
+returns-in-DumpInvisible g c = rw c.in-DumpInvisible.is (written _ _ _ refl refl (omega arith))
+
+pub returns-in-Chain : goal.returns-in-Chain
+returns-in-Chain g c = rw c.in-Chain.is (written _ _ _ refl refl (omega arith))
+
+pub returns-in-HwOffload : goal.returns-in-HwOffload
+returns-in-HwOffload g c = rw c.in-HwOffload.is (written _ _ _ refl refl (omega arith))
+
+pub returns-in-Rate : goal.returns-in-Rate
+returns-in-Rate g c = rw (c.in-Rate.is, c.deref-in-Rate.ensures.value) (written _ _ _ refl refl (omega arith))
+
+pub returns-in-Fcnt : goal.returns-in-Fcnt
+returns-in-Fcnt g c = rw (c.in-Fcnt.is, c.deref-in-Fcnt.ensures.value) (written _ _ _ refl refl (omega arith))
+
+pub returns-in-Stab : goal.returns-in-Stab
+returns-in-Stab g c = rw (c.in-Stab.is, c.deref-in-Stab.ensures.value) (written _ _ _ refl refl (omega arith))

@@ -33,15 +33,21 @@ returns-in-Stats2-clause-typed g c =
       list_is_typed tc_stats2 (table stats2) _ _ c.deref-in-Stats2.ensures.value (c.list_settled_under-in-Stats2.ensures.typed yes),
     )
 
-pub returns-then-is_settled_under-2-clause-settled : goal.returns-then-is_settled_under-2-clause-settled
-returns-then-is_settled_under-2-clause-settled g c =
+pub returns-then-is_settled_under-clause-settled : goal.returns-then-is_settled_under-clause-settled
+returns-then-is_settled_under-clause-settled g c =
     let kept = kept_frame c.in-Other.nla in
     let settles = (kept_shown attributes kept.word kept.value).settled c.args.kind.now in
-    rw (c.in-Other.is, c.is_read.ensures, c.kind-then-is_settled_under-2.ensures)
+    rw (c.in-Other.is, c.is_read.ensures, c.kind.ensures)
     (λ yes. settles.0 (not-true _ yes), λ settled. ap not (settles.1 settled))
 
-pub returns-then-is_settled_under-2-clause-typed : goal.returns-then-is_settled_under-2-clause-typed
-returns-then-is_settled_under-2-clause-typed g c =
+pub returns-then-is_settled_under-clause-typed : goal.returns-then-is_settled_under-clause-typed
+returns-then-is_settled_under-clause-typed g c =
     let kept = kept_frame c.in-Other.nla in
-    let raw = c.is_settled_under-in-Other.ensures.typed c.if-is_settled_under-2.true in
+    let raw = c.is_settled_under-in-Other.ensures.typed c.if-is_settled_under.true in
     λ yes. rw c.in-Other.is ((kept_shown attributes kept.word kept.value).typed raw.0 raw.1)
+
+pub returns-in-OptionsRaw-clause-settled : goal.returns-in-OptionsRaw-clause-settled
+returns-in-OptionsRaw-clause-settled g c = rw c.in-OptionsRaw.is c.is_settled_raw.ensures.settled
+
+pub returns-in-OptionsRaw-clause-typed : goal.returns-in-OptionsRaw-clause-typed
+returns-in-OptionsRaw-clause-typed g c = λ yes. rw c.in-OptionsRaw.is (refl, c.is_settled_raw.ensures.typed yes)

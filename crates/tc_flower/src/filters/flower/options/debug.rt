@@ -118,25 +118,29 @@ fn name_of(kind: u16) -> &'static str {
     }
 }
 
+// A variant of this name that holds this.
+fn variant<W: Write, T: Debug>(f: &mut Formatter<W>, name: &str, held: &T) -> Result {
+    f.debug_tuple(name).field(held).finish()
+}
+
 impl<A: Allocator> Debug for TcFilterFlowerOption<A> {
     fn fmt<W: Write>(&self, f: &mut Formatter<W>) -> Result {
         let (kind, held) = self.parts();
         let name = name_of(kind);
         match held {
-            Held::Name(device) => f.debug_tuple(name).field(device).finish(),
-            Held::Actions(actions) => f.debug_tuple(name).field(actions).finish(),
-            Held::Mac(mac) => f.debug_tuple(name).field(&mac).finish(),
-            Held::Ipv4(ip) => f.debug_tuple(name).field(&ip).finish(),
-            Held::Ipv6(ip) => f.debug_tuple(name).field(&ip).finish(),
-            Held::Labels(labels) => f.debug_tuple(name).field(&labels).finish(),
-            Held::U8(n) | Held::Bits1(n) | Held::Bits3(n) => f.debug_tuple(name).field(&n).finish(),
-            Held::U16(n) | Held::U16Be(n) => f.debug_tuple(name).field(&n).finish(),
-            Held::ClassId(n) | Held::U32(n) | Held::U32Be(n) | Held::Bits20(n) => f
-                .debug_tuple(name)
-                .field(&n)
-                .finish(),
-            Held::MplsOpts(options) => f.debug_tuple(name).field(options).finish(),
-            Held::Other(nla) => f.debug_tuple("Other").field(nla).finish(),
+            Held::Name(device) => variant(f, name, device),
+            Held::Actions(actions) => variant(f, name, actions),
+            Held::Mac(mac) => variant(f, name, &mac),
+            Held::Ipv4(ip) => variant(f, name, &ip),
+            Held::Ipv6(ip) => variant(f, name, &ip),
+            Held::Labels(labels) => variant(f, name, &labels),
+            Held::U8(n) | Held::Bits1(n) | Held::Bits3(n) => variant(f, name, &n),
+            Held::U16(n) | Held::U16Be(n) => variant(f, name, &n),
+            Held::ClassId(n) | Held::U32(n) | Held::U32Be(n) | Held::Bits20(n) => variant(
+                f, name, &n,
+            ),
+            Held::MplsOpts(options) => variant(f, name, options),
+            Held::Other(nla) => variant(f, "Other", nla),
         }
     }
 }
