@@ -1,0 +1,350 @@
+// The first process of a User Mode Linux guest: it sends the requests of $DIR/script over route netlink, writes to
+// $DIR/answers what comes back, and powers the guest off. Each try of the script gets a process and a network
+// namespace of its own.
+//
+// script:   try NAME                    what follows up to the next try belongs to NAME
+//           link NUMBER                 makes the dummy link dNUMBER, which stays down, so that no packet is
+//           counted send TYPE FLAGS PAYLOAD     a request: message type and flags in decimal, the payload after
+//           nlmsghdr in hex
+// answers:  try NAME
+//           got TYPE PAYLOAD            a message that came back, masked (see `mask`)
+//           ack ERRNO OFFSET SENTENCE   how the request ended: offset is that of the attribute at fault in the
+//           payload, or - end ERRNO                   the end of a dump died STATUS                 the process of
+//           the try ended otherwise than by itself
+// The last line is `finished`. One eBPF program, which lets every packet through, is open as descriptor 100 in all
+// tries.
+#define _GNU_SOURCE
+#include <errno.h>
+#include <fcntl.h>
+#include <linux/bpf.h>
+#include <linux/if.h>
+#include <linux/netlink.h>
+#include <linux/pkt_cls.h>
+#include <linux/rtnetlink.h>
+#include <sched.h>
+#include <stdio.h>
+#include <stdlib.h>
+#include <string.h>
+#include <sys/reboot.h>
+#include <sys/socket.h>
+#include <sys/syscall.h>
+#include <sys/time.h>
+#include <sys/utsname.h>
+#include <sys/wait.h>
+#include <unistd.h>
+
+enum { PROGRAM = 100, ANSWERS = 101 };
+
+static FILE *answers;
+
+// ---- Modules
+
+static char modules[512];
+
+static void insert(const char *file) {
+    char path[1024];
+
+    snprintf(path, sizeof path, "%s/%s", modules, file);
+    int fd = open(path, O_RDONLY | O_CLOEXEC);
+    if (fd < 0)
+        return;
+    syscall(SYS_finit_module, fd, "", 0);
+    close(fd);
+}
+
+// Loads each module whose path starts as one of `wanted`, what it depends on first. A line of modules.dep is
+// `FILE: FILE FILE ..`, the dependencies from the last to be loaded to the first. A module that is already there
+// fails quietly.
+static void load_modules(void) {
+    static const char *wanted[] = {"kernel/drivers/net/dummy.ko", "kernel/net/sched/sch_", "kernel/net/sched/cls_",
+                                   "kernel/net/sched/act_", "kernel/net/sched/em_"};
+    char path[1024], *line = NULL;
+    size_t room = 0;
+
+    snprintf(path, sizeof path, "%s/modules.dep", modules);
+    FILE *list = fopen(path, "r");
+    while (list && getline(&line, &room, list) > 0) {
+        char *words[64], *word;
+        int count = 0, is_wanted = 0;
+        for (size_t i = 0; i < sizeof wanted / sizeof *wanted; i++)
+            is_wanted |= !strncmp(line, wanted[i], strlen(wanted[i]));
+        for (word = strtok(line, ": \n"); is_wanted && word && count < 64; word = strtok(NULL, ": \n"))
+            words[count++] = word;
+        while (count)
+            insert(words[--count]);
+    }
+    free(line);
+    if (list)
+        fclose(list);
+}
+
+// ---- What differs from one run to the next is set to 0 before it is written
+
+// Returns the attribute at `p`, of at most `left` bytes, or NULL where there is none.
+static struct nlattr *attribute(unsigned char *p, int left) {
+    struct nlattr *a = (struct nlattr *)p;
+
+    return left >= NLA_HDRLEN && a->nla_len >= NLA_HDRLEN && a->nla_len <= left ? a : NULL;
+}
+
+#define FOR_EACH(a, p, n)                                                                                          \
+    for (struct nlattr * a; (a = attribute(p, n)); n -= NLA_ALIGN(a->nla_len), p += NLA_ALIGN(a->nla_len))
+#define TYPE(a) ((a)->nla_type & NLA_TYPE_MASK)
+#define PAYLOAD(a) ((unsigned char *)(a) + NLA_HDRLEN)
+#define LENGTH(a) ((a)->nla_len - NLA_HDRLEN)
+
+// The times of an action are the attribute of 32 bytes among its options (`struct tcf_t`), whatever its kind.
+static void mask_times(unsigned char *p, int n) {
+    FOR_EACH(option, p, n)
+        if (LENGTH(option) == 32)
+            memset(PAYLOAD(option), 0, 32);
+}
+
+static void mask_actions(unsigned char *p, int n) {
+    FOR_EACH(action, p, n) {
+        unsigned char *q = PAYLOAD(action);
+        int left = LENGTH(action);
+        FOR_EACH(a, q, left)
+            if (TYPE(a) == TCA_ACT_OPTIONS)
+                mask_times(PAYLOAD(a), LENGTH(a));
+    }
+}
+
+// The options of a filter that hold actions, and the options of an action of the kind police alone.
+static void mask_filter(unsigned char *p, int n) {
+    static const struct {
+        const char *kind;
+        int actions, police;
+    } filters[] = {{"flower", TCA_FLOWER_ACT, 0},
+                   {"u32", TCA_U32_ACT, TCA_U32_POLICE},
+                   {"matchall", TCA_MATCHALL_ACT, 0},
+                   {"bpf", TCA_BPF_ACT, TCA_BPF_POLICE},
+                   {"basic", TCA_BASIC_ACT, TCA_BASIC_POLICE}};
+    int actions = 0, police = 0;
+
+    FOR_EACH(a, p, n) {
+        unsigned char *q = PAYLOAD(a);
+        int left = LENGTH(a);
+        if (TYPE(a) == TCA_KIND)
+            for (size_t i = 0; i < sizeof filters / sizeof *filters; i++)
+                if (!strncmp((char *)q, filters[i].kind, left))
+                    actions = filters[i].actions, police = filters[i].police;
+        if (TYPE(a) != TCA_OPTIONS)
+            continue;
+        FOR_EACH(option, q, left) {
+            if (actions && TYPE(option) == actions)
+                mask_actions(PAYLOAD(option), LENGTH(option));
+            if (police && TYPE(option) == police)
+                mask_times(PAYLOAD(option), LENGTH(option));
+        }
+    }
+}
+
+// Handles that the kernel chose for a qdisc are 8000: and more, counted over all namespaces.
+static void mask_handle(__u32 *handle) {
+    if (*handle >> 16 >= 0x8000 && *handle >> 16 < 0xffff)
+        *handle = 0;
+}
+
+static void mask(int type, unsigned char *p, int n) {
+    struct tcmsg *header = (struct tcmsg *)p;
+
+    if (type >= RTM_NEWACTION && type <= RTM_GETACTION && n >= (int)sizeof(struct tcamsg)) {
+        p += sizeof(struct tcamsg), n -= sizeof(struct tcamsg);
+        FOR_EACH(a, p, n)
+            if (TYPE(a) == TCA_ACT_TAB)
+                mask_actions(PAYLOAD(a), LENGTH(a));
+    } else if (n >= (int)sizeof *header) {
+        mask_handle(&header->tcm_parent);
+        if (type >= RTM_NEWQDISC && type <= RTM_GETQDISC)
+            mask_handle(&header->tcm_handle);
+        mask_filter(p + sizeof *header, n - sizeof *header);
+    }
+}
+
+// ---- Requests
+
+static int netlink;
+static unsigned char request[1 << 17], reply[1 << 19];
+
+static void write_ack(struct nlmsghdr *h) {
+    struct nlmsgerr *e = NLMSG_DATA(h);
+    unsigned char *p = (unsigned char *)(e + 1);
+    int left = h->nlmsg_len - NLMSG_LENGTH(sizeof *e);
+    const char *sentence = "";
+    long offset = -1;
+
+    if (h->nlmsg_flags & NLM_F_ACK_TLVS)
+        FOR_EACH(a, p, left) {
+            if (TYPE(a) == NLMSGERR_ATTR_MSG)
+                sentence = (char *)PAYLOAD(a);
+            if (TYPE(a) == NLMSGERR_ATTR_OFFS)
+                offset = *(__u32 *)PAYLOAD(a) - NLMSG_HDRLEN;
+        }
+    fprintf(answers, "ack %d ", -e->error);
+    fprintf(answers, offset < 0 ? "-" : "%ld", offset);
+    fprintf(answers, " %s\n", sentence);
+}
+
+// Sends a request, and reads until it is acknowledged or its dump ends.
+static void talk(int type, int flags, const void *payload, int n, int is_quiet) {
+    struct nlmsghdr *h = (struct nlmsghdr *)request;
+
+    *h = (struct nlmsghdr){.nlmsg_len = NLMSG_LENGTH(n), .nlmsg_type = type, .nlmsg_flags = flags, .nlmsg_seq = 1};
+    memcpy(NLMSG_DATA(h), payload, n);
+    if (send(netlink, h, h->nlmsg_len, 0) < 0) {
+        fprintf(answers, "ack %d - not sent\n", errno);
+        return;
+    }
+    for (;;) {
+        ssize_t got = recv(netlink, reply, sizeof reply, 0);
+        if (got < 0) {
+            fprintf(answers, "ack %d - no answer\n", errno);
+            return;
+        }
+        for (h = (struct nlmsghdr *)reply; NLMSG_OK(h, got); h = NLMSG_NEXT(h, got)) {
+            unsigned char *p = NLMSG_DATA(h);
+            int length = h->nlmsg_len - NLMSG_HDRLEN;
+            if (h->nlmsg_type == NLMSG_ERROR && is_quiet)
+                return;
+            if (h->nlmsg_type == NLMSG_ERROR) {
+                write_ack(h);
+                return;
+            }
+            if (h->nlmsg_type == NLMSG_DONE) {
+                fprintf(answers, "end %d\n", -*(int *)p);
+                return;
+            }
+            mask(h->nlmsg_type, p, length);
+            fprintf(answers, "got %d ", h->nlmsg_type);
+            while (length-- > 0)
+                fprintf(answers, "%02x", *p++);
+            fputc('\n', answers);
+        }
+    }
+}
+
+static void make_link(int number) {
+    struct {
+        struct ifinfomsg header;
+        struct nlattr name;
+        char text[16];
+        struct nlattr info, kind;
+        char dummy[8];
+    } m = {.header = {.ifi_index = number},
+           .name = {NLA_HDRLEN + 16, IFLA_IFNAME},
+           .info = {2 * NLA_HDRLEN + 8, IFLA_LINKINFO},
+           .kind = {NLA_HDRLEN + 6, IFLA_INFO_KIND},
+           .dummy = "dummy"};
+
+    snprintf(m.text, sizeof m.text, "d%d", number);
+    talk(RTM_NEWLINK, NLM_F_REQUEST | NLM_F_ACK | NLM_F_CREATE | NLM_F_EXCL, &m, sizeof m, 1);
+}
+
+static void open_namespace(void) {
+    int one = 1, size = 1 << 21;
+    struct timeval wait = {.tv_sec = 5};
+
+    if (unshare(CLONE_NEWNET))
+        fprintf(answers, "ack %d - no namespace\n", errno);
+    netlink = socket(AF_NETLINK, SOCK_RAW, NETLINK_ROUTE);
+    setsockopt(netlink, SOL_NETLINK, NETLINK_EXT_ACK, &one, sizeof one);
+    setsockopt(netlink, SOL_NETLINK, NETLINK_CAP_ACK, &one, sizeof one);
+    setsockopt(netlink, SOL_SOCKET, SO_RCVBUFFORCE, &size, sizeof size);
+    setsockopt(netlink, SOL_SOCKET, SO_RCVTIMEO, &wait, sizeof wait);
+}
+
+static void open_program(void) {
+    struct bpf_insn code[] = {{.code = BPF_ALU64 | BPF_MOV | BPF_K}, {.code = BPF_JMP | BPF_EXIT}};
+    union bpf_attr a = {.prog_type = BPF_PROG_TYPE_SCHED_CLS,
+                        .insn_cnt = 2,
+                        .insns = (unsigned long)code,
+                        .license = (unsigned long)"GPL"};
+    int fd = syscall(SYS_bpf, BPF_PROG_LOAD, &a, sizeof a);
+
+    if (fd >= 0) {
+        dup2(fd, PROGRAM);
+        close(fd);
+    }
+}
+
+// ---- The script
+
+static int from_hex(const char *text, unsigned char *bytes) {
+    int n = 0, byte, taken;
+
+    while (sscanf(text, "%2x%n", &byte, &taken) == 1 && taken == 2)
+        bytes[n++] = byte, text += 2;
+    return n;
+}
+
+static void try(char *line) {
+    static unsigned char payload[1 << 16];
+    char *rest;
+
+    open_namespace();
+    for (line = strtok_r(line, "\n", &rest); line; line = strtok_r(NULL, "\n", &rest)) {
+        int type, flags, at, number;
+        if (sscanf(line, "link %d", &number) == 1)
+            make_link(number);
+        else if (sscanf(line, "send %d %d %n", &type, &flags, &at) == 2)
+            talk(type, flags, payload, from_hex(line + at, payload), 0);
+        else
+            fprintf(answers, "%s\n", line);
+    }
+}
+
+static char *whole_file(const char *folder, const char *name) {
+    char path[1024], *text = NULL;
+    size_t room = 0;
+
+    snprintf(path, sizeof path, "%s/%s", folder, name);
+    FILE *file = fopen(path, "r");
+    if (!file || getdelim(&text, &room, 0, file) < 0)
+        return NULL;
+    fclose(file);
+    return text;
+}
+
+int main(void) {
+    const char *folder = getenv("DIR");
+    char path[1024], *from, *to;
+    struct utsname system;
+
+    if (getpid() != 1 || !folder) {
+        fputs("guest: this is the first process of a guest, and nothing else\n", stderr);
+        return 1;
+    }
+    uname(&system);
+    snprintf(modules, sizeof modules, "/usr/lib/uml/modules/%s", system.release);
+    snprintf(path, sizeof path, "%s/answers", folder);
+    int fd = open(path, O_WRONLY | O_CREAT | O_TRUNC, 0644);
+    answers = fdopen(dup2(fd, ANSWERS), "w");
+    char *script = whole_file(folder, "script");
+    if (answers && script) {
+        fprintf(answers, "kernel %s\n", system.release);
+        load_modules();
+        open_program();
+        for (from = script; *from; from = to) {
+            int status;
+            to = strstr(from, "\ntry ");
+            if (to)
+                *to++ = 0;
+            else
+                to = from + strlen(from);
+            fflush(answers);
+            pid_t child = fork();
+            if (!child) {
+                try(from);
+                fflush(answers);
+                _exit(0);
+            }
+            if (waitpid(child, &status, 0) != child || status)
+                fprintf(answers, "died %d\n", status);
+        }
+        fprintf(answers, "finished\n");
+        fclose(answers);
+    }
+    sync();
+    reboot(RB_POWER_OFF);
+}
