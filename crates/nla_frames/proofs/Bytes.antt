@@ -1,7 +1,6 @@
 -- Bytes below 256, and numbers as their bytes, little-endian.
 use Rattle.std.proofs.Common.{◌≡◌, ℕ, zero, suc, ◌+◌, ◌*◌, ◌/◌, ◌%◌, ◌^◌, ◌<◌, List, [], ◌∷◌, ◌++◌, length, get_or, take, drop, replicate, refl, ap, arith}
 use Rattle.std.proofs.Common.{pow-suc, Fits, w8}
-use Rattle.std.specs.List.{flat_map, AllByRecursion}
 use Rattle.std.proofs.lemmas.List.{get_or-drop}
 use Rattle.nla_frames.specs.Value.{IsBytes, le_bytes, le_value}
 
@@ -44,11 +43,6 @@ IsBytes-take (suc n) (b ∷ bytes) h = IsBytes-cons b (take n bytes) (h.each 0) 
 pub IsBytes-replicate : (n b : ℕ) → b < 256 → IsBytes (replicate n b)
 IsBytes-replicate zero b h = IsBytes-nil
 IsBytes-replicate (suc n) b h = IsBytes-cons b (replicate n b) h (IsBytes-replicate n b h)
-
--- the bytes of each element, one after the other
-pub IsBytes-flat_map : {X : Type 0} (f : X → List ℕ) (xs : List X) → AllByRecursion (λ x. IsBytes (f x)) xs → IsBytes (flat_map f xs)
-IsBytes-flat_map f [] each = IsBytes-nil
-IsBytes-flat_map f (x ∷ xs) each = IsBytes-append (f x) (flat_map f xs) each.0 (IsBytes-flat_map f xs each.1)
 
 -- a number's bytes
 pub IsBytes-le_bytes : (n x : ℕ) → IsBytes (le_bytes n x)

@@ -1,5 +1,5 @@
 -- The frames that are cut, and the cutting of frames as they are written.
-use Rattle.std.proofs.Common.{◌≡◌, ℕ, ◌<◌, List, [], ◌∷◌, ◌++◌, length, map, Some, None, Ok, Err, refl, ap, ◌∙◌, append_assoc}
+use Rattle.std.proofs.Common.{◌≡◌, ℕ, ◌<◌, List, [], ◌∷◌, ◌++◌, length, map, Some, None, Ok, Err, refl, ap, ◌∙◌}
 use Rattle.std.specs.List.{flat_map, AllByRecursion}
 use Rattle.nla_frames.specs.declared.error.DecodeError.{DecodeError}
 use Rattle.nla_frames.specs.declared.error.DecodeError.TheVariants.{OutOfMemory}
@@ -11,7 +11,6 @@ use Rattle.nla_frames.proofs.NextFrame.{IsBytes-next_frame, IsWireFrame-next_fra
 use Rattle.nla_frames.proofs.FrameBytes.{IsBytes-frame_bytes, next_frame-frame_bytes}
 use Rattle.nla_frames.proofs.Bytes.{IsBytes-nil, IsBytes-append}
 use Rattle.nla_frames.proofs.CutSteps.{cut-nil, cut-next_frame, cut_refused, by_frames}
-use Rattle.nla_frames.proofs.CuttingLaws.{all_before}
 
 -- each frame that is cut could stand on the wire
 pub IsWireFrame-cut : (bytes : List ℕ) → IsBytes bytes → AllByRecursion IsWireFrame (cut bytes).frames
@@ -49,20 +48,13 @@ cut_not_memory = by_frames (λ (bytes : List ℕ). (cut bytes).fault ≡ Some Ou
 pub cut-frame_bytes : (f : Frame) (rest : List ℕ) → IsFrame f → cut (frame_bytes f ++ rest) ≡ before_cut f (cut rest)
 cut-frame_bytes f rest is = cut-next_frame (frame_bytes f ++ rest) f rest (next_frame-frame_bytes f rest is)
 
--- frames as they are written, and what follows
-pub cut-flat_map-append : (fs : List Frame) (rest : List ℕ) → AllByRecursion IsFrame fs → cut (flat_map frame_bytes fs ++ rest) ≡ all_before fs (cut rest)
-cut-flat_map-append [] rest is = refl
-cut-flat_map-append (f ∷ fs) rest is =
-    ap cut (append_assoc (frame_bytes f) (flat_map frame_bytes fs) rest) ∙ cut-frame_bytes f (flat_map frame_bytes fs ++ rest) is.0
-    ∙ ap (before_cut f) (cut-flat_map-append fs rest is.1)
-
 -- frames as they are written
 pub cut-flat_map : (fs : List Frame) → AllByRecursion IsFrame fs → cut (flat_map frame_bytes fs) ≡ record { frames = fs; fault = None }
 cut-flat_map [] is = cut-nil
 cut-flat_map (f ∷ fs) is = cut-frame_bytes f (flat_map frame_bytes fs) is.0 ∙ ap (before_cut f) (cut-flat_map fs is.1)
 
 -- the frames of values
-list_bytes-map : {X : Type 0} (frame : X → Frame) (xs : List X) → list_bytes frame xs ≡ flat_map frame_bytes (map frame xs)
+pub list_bytes-map : {X : Type 0} (frame : X → Frame) (xs : List X) → list_bytes frame xs ≡ flat_map frame_bytes (map frame xs)
 unfolding list_bytes
 list_bytes-map frame [] = refl
 list_bytes-map frame (x ∷ xs) = ap (λ (t : List ℕ). frame_bytes (frame x) ++ t) (list_bytes-map frame xs)
@@ -72,17 +64,7 @@ map_each : {X : Type 0} (P : Frame → Type 0) (frame : X → Frame) (xs : List 
 map_each P frame [] each = tt
 map_each P frame (x ∷ xs) each = (each.0, map_each P frame xs each.1)
 
--- values as they are written
-pub cut-list_bytes : {X : Type 0} (frame : X → Frame) (xs : List X) → AllByRecursion (λ x. IsFrame (frame x)) xs
-    → cut (list_bytes frame xs) ≡ record { frames = map frame xs; fault = None }
-cut-list_bytes frame xs each = ap cut (list_bytes-map frame xs) ∙ cut-flat_map (map frame xs) (map_each IsFrame frame xs each)
-
--- frames that can stand on the wire can be written
-pub IsFrame-each : (fs : List Frame) → AllByRecursion IsWireFrame fs → AllByRecursion IsFrame fs
-IsFrame-each [] is = tt
-IsFrame-each (f ∷ fs) is = (is.0.frame, IsFrame-each fs is.1)
-
--- and are written as bytes
+-- frames from a buffer are written as bytes
 pub IsBytes-frames : (fs : List Frame) → AllByRecursion IsWireFrame fs → IsBytes (flat_map frame_bytes fs)
 IsBytes-frames [] is = IsBytes-nil
 IsBytes-frames (f ∷ fs) is = IsBytes-append (frame_bytes f) (flat_map frame_bytes fs) (IsBytes-frame_bytes f is.0.bytes) (IsBytes-frames fs is.1)

@@ -1,5 +1,5 @@
 -- The bytes of a frame: how many they are, and that the frame is read back of them.
-use Rattle.std.proofs.Common.{◌≡◌, ℕ, ◌+◌, ◌%◌, ◌≤◌, List, ◌++◌, length, replicate, Ok, ap, ◌∙◌, arith, inl, append_assoc}
+use Rattle.std.proofs.Common.{◌≡◌, ℕ, ◌+◌, List, ◌++◌, length, replicate, Ok, ap, ◌∙◌, arith, inl, append_assoc}
 use Rattle.std.proofs.lemmas.List.{length-append, length-replicate}
 use Rattle.nla_frames.specs.Value.{IsBytes, le_bytes}
 use Rattle.nla_frames.specs.Frame.{Frame, IsFrame, padding, header, padded, frame_bytes, frame_length}
@@ -23,14 +23,6 @@ length_frame_bytes f = omega (
   length-header (length f.value) f.word,
   length-padded f.value,
 )
-
--- a frame that can be written takes 65536 bytes at most
-pub frame_length_bound : (f : Frame) → IsFrame f → frame_length f ≤ 65536
-frame_length_bound f is = omega (arith, is.value)
-
--- a frame takes a multiple of four bytes
-pub frame_length_aligned : (f : Frame) → frame_length f % 4 ≡ 0
-frame_length_aligned f = omega arith
 
 -- a padded value is bytes
 pub IsBytes-padded : (value : List ℕ) → IsBytes value → IsBytes (padded value)

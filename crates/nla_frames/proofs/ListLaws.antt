@@ -1,5 +1,5 @@
 -- The laws of a list of frames, from those of its elements.
-use Rattle.std.proofs.Common.{◌≡◌, ◌↔◌, ℕ, List, [], ◌∷◌, ◌++◌, map, None, Option, Ok, refl, sym, ap, subst, ◌∙◌, unwrap_or}
+use Rattle.std.proofs.Common.{◌≡◌, ◌↔◌, ℕ, List, [], ◌∷◌, map, None, Option, Ok, refl, sym, ap, subst, ◌∙◌, unwrap_or}
 use Rattle.std.specs.List.{flat_map, AllByRecursion}
 use Rattle.std.proofs.lemmas.List.{append-nil}
 use Rattle.nla_frames.specs.Frame.{Frame, IsFrame, IsWireFrame, frame_bytes}
@@ -9,14 +9,8 @@ use Rattle.nla_frames.specs.Reading.{read_list, read_each, Reads}
 use Rattle.nla_frames.specs.Emission.{list_bytes, ListFits}
 use Rattle.nla_frames.specs.CanonList.{CanonEach, IsCanonList}
 use Rattle.nla_frames.specs.Codec.{Codec, Laws, IsWireBytes, SettledEach, list_codec}
-use Rattle.nla_frames.proofs.CutFrames.{IsWireFrame-cut, cut-flat_map, IsBytes-list_bytes}
+use Rattle.nla_frames.proofs.CutFrames.{IsWireFrame-cut, cut-flat_map, IsBytes-list_bytes, list_bytes-map}
 use Rattle.nla_frames.proofs.ReadEach.{ReadInTurn, read_each-ReadInTurn, ReadInTurn-read_each}
-
--- the frames of values, as frames
-pub list_bytes-map : {X : Type 0} (frame : X → Frame) (xs : List X) → list_bytes frame xs ≡ flat_map frame_bytes (map frame xs)
-unfolding list_bytes
-list_bytes-map frame [] = refl
-list_bytes-map frame (x ∷ xs) = ap (λ (t : List ℕ). frame_bytes (frame x) ++ t) (list_bytes-map frame xs)
 
 -- the kind after two things that set the same
 pub kind_then-same : {X Y : Type 0} (f : Sets X) (g : Sets Y) (kind : List ℕ) (x : X) (y : Y) → f x ≡ g y → kind_then f kind x ≡ kind_then g kind y

@@ -25,9 +25,9 @@ pub record Laws {W X : Type 0} (IsWire : W → Type 0) (codec : Codec W X) (Cano
   pub makes : (x : X) → codec.Typed x → codec.Fits x → IsWire (codec.write x)
   -- what is read is typed
   pub typed : (kind : List ℕ) (w : W) (x : X) → IsWire w → codec.read kind w ≡ Ok x → codec.Typed x
-  -- what is written reads back as itself exactly if it is settled
+  -- what is written reads back as itself if and only if it is settled
   pub back : (kind : List ℕ) (x : X) → codec.Typed x → codec.Fits x → (codec.read kind (codec.write x) ≡ Ok x) ↔ codec.Settled kind x
-  -- what is read and fits is written as it was exactly if it was canonical
+  -- what is read and fits is written as the same bytes if and only if these are canonical
   pub same : (kind : List ℕ) (w : W) (x : X) → IsWire w → codec.read kind w ≡ Ok x → codec.Fits x → (codec.write x ≡ w) ↔ Canon kind w
   -- what is canonical is read, as something that fits
   pub reads : (kind : List ℕ) (w : W) → IsWire w → Canon kind w → (x : X) × (codec.read kind w ≡ Ok x) × codec.Fits x
@@ -37,7 +37,7 @@ pub record IsWireBytes (bytes : List ℕ) : Type 0 where
   pub are_bytes : IsBytes bytes
   pub long : length bytes < 2 ^ 64
 
--- bytes that can stand as a frame's value
+-- bytes that can be a frame's value
 pub record IsWireValue (value : List ℕ) : Type 0 where
   pub are_bytes : IsBytes value
   pub short : length value ≤ 65531
@@ -57,7 +57,7 @@ pub record SettledAfter {X : Type 0} (Settled : List ℕ → X → Type 0) (sets
 abbrev pub SettledAtEach : {X : Type 0} → (List ℕ → X → Type 0) → Sets X → List ℕ → List X → Type 0
 SettledAtEach Settled sets first xs = (i : ℕ) (x : _) → slice_get xs i ≡ Some x → SettledAfter Settled sets first (take i xs) x
 
--- a frame that can stand in bytes sets the kind that what it reads as sets
+-- a frame sets the kind that the attribute sets as which it is read
 abbrev pub SetTheSame : {X : Type 0} → Reads X → Sets Frame → Sets X → Type 0
 SetTheSame reads by_frame by_value = (kind : List ℕ) (f : Frame) (x : _) → IsWireFrame f → reads kind f ≡ Ok x → by_frame f ≡ by_value x
 

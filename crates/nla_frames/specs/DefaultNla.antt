@@ -1,4 +1,4 @@
--- What contracts see of an attribute that is kept as it stands.
+-- What contracts see of an attribute that is kept raw.
 use Rattle.std.specs.Prelude.{ℕ, ◌<◌, ◌≤◌, ◌^◌, List, length, Ok}
 use Rattle.nla_frames.specs.Value.{IsBytes}
 use Rattle.nla_frames.specs.Frame.{Frame}
@@ -10,7 +10,7 @@ module _ {A : Type 0} where
   abbrev pub kept_frame : DefaultNla A → Frame
   kept_frame nla = record { word = nla.word; value = nla.value.items }
 
--- it is read and written as it stands
+-- it is read and written unchanged
 abbrev pub kept_codec : Codec Frame Frame
 kept_codec = record {
   read = λ kind f. Ok f;

@@ -13,7 +13,7 @@ pub record ListFits {X : Type 0} (Fits : X → Type 0) (frame : X → Frame) (xs
   pub each : AllByRecursion Fits xs
   pub whole : length (list_bytes frame xs) < 2 ^ 64
 
--- these bytes stand at the front, and the rest is as it was
+-- these bytes are at the front, and the rest is unchanged
 abbrev pub Writes : List ℕ → List ℕ → List ℕ → Type 0
 Writes bytes old new = new ≡ bytes ++ drop (length bytes) old
 

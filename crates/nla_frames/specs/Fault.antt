@@ -1,4 +1,4 @@
--- Refusals, and what a call that may want memory says of its answer.
+-- Refusals, and what a call that may run out of memory ensures of its result.
 use Rattle.std.specs.Prelude.{◌≡◌, ◌≢◌, IfErr, ℕ, List, Result, Ok, Err, codes, MatchResult}
 use Rattle.nla_frames.specs.declared.error.DecodeError.{DecodeError}
 use Rattle.nla_frames.specs.declared.error.DecodeError.TheVariants.{BufferTooSmall, FrameHeaderShort, FrameTooLong, FrameTooShort, WrongLength, NotUtf8}
@@ -28,21 +28,21 @@ read_as x = Ok x
 abbrev pub refused : {X : Type 0} → DecodeError → Outcome X
 refused e = Err e
 
--- the answer is this outcome, unless memory ran out
+-- the result is this outcome, unless memory ran out
 abbrev pub Gives : {X : Type 0} → Outcome X → Outcome X → Type 0
 Gives (Ok x) outcome = outcome ≡ Ok x
 Gives (Err OutOfMemory) outcome = Unit {0}
 Gives (Err e) outcome = outcome ≡ Err e
 
--- a refusal that isn't want of memory is such
+-- a refusal other than `OutOfMemory` is such
 abbrev pub IfRefused : {X : Type 0} → Outcome X → (DecodeError → Type 0) → Type 0
 IfRefused r Q = IfErr r (λ e. e ≢ OutOfMemory → Q e)
 
--- a value of which this holds, or want of memory
+-- a value of which this holds, or `OutOfMemory`
 abbrev pub UnlessMemory : {X : Type 0} → Outcome X → (X → Type 0) → Type 0
 UnlessMemory r P = MatchResult r P (λ e. e ≡ OutOfMemory)
 
--- an answer, its value seen by a function
+-- a result, its value seen by a function
 abbrev pub seen : {X Y : Type 0} → (X → Y) → Outcome X → Outcome Y
 seen see (Ok x) = Ok (see x)
 seen see (Err e) = Err e

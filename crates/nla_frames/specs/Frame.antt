@@ -17,7 +17,7 @@ pub record IsFrame (f : Frame) : Type 0 where
   pub word : f.word < 2 ^ 16
   pub value : length f.value ≤ 65531
 
--- the same of a frame that stands in bytes
+-- a frame cut from bytes: its value consists of bytes too
 pub record IsWireFrame (f : Frame) : Type 0 where
   pub frame : IsFrame f
   pub bytes : IsBytes f.value

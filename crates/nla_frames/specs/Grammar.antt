@@ -30,7 +30,7 @@ abbrev pub AreFramesAndRest : List ℕ → List Frame → List ℕ → Type 0
 AreFramesAndRest bytes [] rest = bytes ≡ rest
 AreFramesAndRest bytes (f ∷ fs) rest = (after : List ℕ) × Begins bytes f after × AreFramesAndRest after fs rest
 
--- the length that stands in front of a frame
+-- the length at the front of a frame, `nla_len`
 abbrev pub length_at : List ℕ → ℕ
 length_at rest = le_value (take 2 rest)
 

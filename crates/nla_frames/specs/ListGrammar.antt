@@ -22,7 +22,7 @@ pub record ReadEach {X : Type 0} (reads : Reads X) (sets : Sets Frame) (first : 
 abbrev pub ListReads : {X : Type 0} → Reads X → Sets Frame → List ℕ → List ℕ → List X → Type 0
 ListReads reads sets first bytes xs = (fs : List Frame) × AreFrames bytes fs × ReadEach reads sets first fs xs
 
--- a frame stands at the front: the last one, or one with others after it
+-- a frame is at the front: the last one, or one with others after it
 abbrev pub StartsWith : List ℕ → Frame → Type 0
 StartsWith bytes f = Ends bytes f ⊎ ((after : List ℕ) × Begins bytes f after)
 

@@ -1,8 +1,8 @@
--- The kind in force at a place of a list: a text that an earlier element set.
+-- The kind in force at a place of a list: the text that was set last before it.
 use Rattle.std.specs.Prelude.{◌≡◌, ℕ, List, [], ◌∷◌, ◌++◌, Option, Some, None, unwrap_or}
 use Rattle.std.specs.List.{AllByRecursion}
 
--- what an element does to the kind: it sets a text, or leaves the kind as it stands
+-- what an element does to the kind: it sets a text, or leaves the kind unchanged
 abbrev pub Sets : Type 0 → Type 0
 Sets X = X → Option (List ℕ)
 

@@ -11,7 +11,8 @@ use crate::error::Res;
 use crate::nla::{NLA_F_NESTED, NLA_F_NET_BYTEORDER, NLA_HEADER_SIZE, NLA_TYPE_MASK};
 pub(crate) use front::split_first;
 
-/// A frame that stands in bytes: its word and its value, borrowed.
+/// A netlink attribute in a buffer, `struct nlattr` of `linux/netlink.h`: its word (`nla_type`) and its value (the
+/// payload), borrowed.
 #[derive(Clone, Copy, PartialEq, Eq, Debug)]
 pub struct NlaBuffer<'a> {
     word: u16,
@@ -25,7 +26,7 @@ impl<'a> NlaBuffer<'a> {
     ghost use Rattle.nla_frames.specs.FirstFrame.{StartsWith, HasBrokenFront};
 
     /// The frame at the front of the bytes; what follows it is dropped. `FrameHeaderShort`, of no bytes too,
-    /// `FrameTooLong` or `FrameTooShort` where no whole frame stands there.
+    /// `FrameTooLong` or `FrameTooShort` where they don't begin with a whole frame.
     pub fn new_checked(bytes: &'a [u8]) -> Res<Self>
         ensures found { IfOk result (λ frame. StartsWith bytes.now (frame_of frame)) }
         ensures refused { IfErr result (HasBrokenFront bytes.now) }
@@ -35,35 +36,35 @@ impl<'a> NlaBuffer<'a> {
         Ok(frame)
     }
 
-    /// The frame's length as it stands in front of it: four and the bytes of the value.
+    /// `nla_len`: four, and the bytes of the value.
     pub fn length(&self) -> u16
         ensures { result ≡ 4 + length (frame_of self.now).value }
     {
         self.value.len() as u16 + NLA_HEADER_SIZE as u16
     }
 
-    /// The type: the word without its two flags.
+    /// The type: the word without its two flags, `nla_type & NLA_TYPE_MASK`.
     pub fn kind(&self) -> u16
         ensures { result ≡ type_of (frame_of self.now).word }
     {
         self.word & NLA_TYPE_MASK
     }
 
-    /// The whole word: the type and the two flags.
+    /// `nla_type`: the type and the two flags.
     pub fn word(&self) -> u16
         ensures { result ≡ (frame_of self.now).word }
     {
         self.word
     }
 
-    /// Whether the word has the nested flag.
+    /// True if the word has `NLA_F_NESTED`.
     pub fn nested_flag(&self) -> bool
         ensures { IsTrue result ↔ IsBitSet (frame_of self.now).word 15 }
     {
         self.word & NLA_F_NESTED != 0
     }
 
-    /// Whether the word has the network order flag.
+    /// True if the word has `NLA_F_NET_BYTEORDER`.
     pub fn network_byte_order_flag(&self) -> bool
         ensures { IsTrue result ↔ IsBitSet (frame_of self.now).word 14 }
     {

@@ -1,4 +1,4 @@
-//! An attribute that is kept as it stands.
+//! An attribute of any type, kept raw.
 
 ghost use Rattle.std.specs.Prelude.{◌≡◌};
 ghost use Rattle.nla_frames.specs.DefaultNla.{kept_frame, kept_codec, any_frame};
@@ -14,7 +14,7 @@ use crate::settle::Settle;
 use crate::values::write::{checked_value_len, put_bytes};
 use std::alloc::{Allocator, Global};
 
-/// An attribute of any type, kept as the word and the bytes of its frame.
+/// An attribute of any type, kept raw: its `nla_type` with both flags, and its payload.
 #[derive(Drop)]
 #[derive_where(PartialEq, Eq, Debug)]
 #[derive_where(Clone; A)]
@@ -24,14 +24,14 @@ pub struct DefaultNla<A: Allocator = Global> {
 }
 
 impl<A: Allocator> DefaultNla<A> {
-    /// An attribute of this word, its type and the two flags, and these bytes.
+    /// An attribute with this `nla_type`, flags included, and this payload.
     pub fn new(word: u16, value: Vec<u8, A>) -> DefaultNla<A>
         ensures { kept_frame result ≡ record { word = word; value = value.items } }
     {
         DefaultNla { word, value }
     }
 
-    /// The bytes of its value.
+    /// The payload.
     pub fn value(&self) -> &[u8]
         ensures { result.now ≡ (kept_frame self.now).value }
     {

@@ -28,7 +28,7 @@ pub enum DecodeError {
     #[error("frame length {length} under 4")]
     FrameTooShort { length: usize },
 
-    /// A value hasn't the exact width of its type: it has `got` bytes.
+    /// A payload of the wrong length: it has `got` bytes, and its type takes `expected`.
     #[error("value of {got} bytes, {expected} expected")]
     WrongLength { expected: usize, got: usize },
 
@@ -52,7 +52,7 @@ pub enum DecodeError {
     #[error("action with several kinds")]
     DuplicateKind,
 
-    /// A growth was refused.
+    /// The allocator failed.
     #[error("out of memory")]
     OutOfMemory,
 }
@@ -76,7 +76,7 @@ impl<T: Drop> From<AllocFailed<T>> for DecodeError {
 impl DecodeError {
     ghost use Rattle.nla_frames.specs.Fault.{name_of};
 
-    /// The variant's name, as in the source.
+    /// The variant's name, such as `FrameTooLong`.
     pub fn name(&self) -> &'static str
         ensures { result.now ≡ name_of self.now }
     {

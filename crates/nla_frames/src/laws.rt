@@ -1,4 +1,4 @@
-//! What the definitions promise of one another, as contracts of functions that do nothing.
+//! Laws of the definitions, each the contract of a function that does nothing at run time.
 
 ghost use Rattle.std.specs.Prelude.{◌≡◌, ℕ, List, Option};
 ghost use Rattle.nla_frames.specs.Family.{family_of, number_of};
@@ -19,7 +19,7 @@ use crate::meaning::{CanonMeaning, FrameMeaning};
 
 /// Cutting is the grammar of frames. Bytes are the frames that `cut` gives, and after them the broken frame of its
 /// fault, if it gives one; and where bytes are some frames, or some frames and a broken one, `cut` gives these.
-/// So all bytes are cut, and in one way.
+/// So all bytes can be cut, in exactly one way.
 pub fn cutting(bytes: &[u8])
     ensures cuts { CutsUp bytes.now (cut bytes.now).frames (cut bytes.now).fault }
     ensures only { (fs : List Frame) (fault : Option DecodeError) → CutsUp bytes.now fs fault
@@ -27,9 +27,10 @@ pub fn cutting(bytes: &[u8])
 {}
 
 /// Reading a list is the grammar of lists, whatever its elements are and whichever frames set a kind. `read_list`
-/// gives values exactly if the bytes are frames of which each reads as its value under the kind in force at its
-/// place; it gives a fault exactly if after frames that are read there stands a broken frame, or one that is
-/// refused, with this fault. So all bytes have one reading and no fault, or no reading and one fault.
+/// gives values if and only if the bytes are frames of which each reads as its value under the kind in force at its
+/// place: the text that was set last before it. It gives a fault if and only if, after frames that can be read, comes a
+/// broken frame or one that is refused, with this fault. So all bytes have one reading and no fault, or no reading and
+/// one fault.
 pub fn list_grammar<T: FrameMeaning>(bytes: &[u8], kind: &str)
     ensures { (sets : Sets Frame)
         → HasOneOutcome T.codec.read sets kind.now bytes.now
@@ -37,15 +38,15 @@ pub fn list_grammar<T: FrameMeaning>(bytes: &[u8], kind: &str)
 {}
 
 /// Reading and writing are inverse for lists where they are for the elements, whichever frames set a kind: what is
-/// written reads back as itself exactly if each element is settled under the kind in force at its place, and what is read
-/// is written as it was exactly if the bytes are canonical frames in full.
+/// written reads back as itself if and only if each element is settled under the kind in force at its place, and what is
+/// read is written as the same bytes if and only if these are canonical frames, padded in full.
 pub fn lists<T: CanonMeaning>()
     ensures { (by_frame : Sets Frame) (by_value : Sets T.Seen)
         → SetTheSame T.codec.read by_frame by_value → Laws IsWireFrame T.codec T.Canon
         → Laws IsWireBytes (list_codec by_frame by_value T.codec) (IsCanonList T.Canon by_frame) }
 {}
 
-/// They are inverse for what is kept as it stands, of which any frame is canonical.
+/// Reading and writing are inverse for attributes that are kept raw, for which any frame is canonical.
 pub fn kept()
     ensures { Laws IsWireFrame kept_codec any_frame }
 {}

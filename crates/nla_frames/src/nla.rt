@@ -8,24 +8,24 @@ ghost use Rattle.nla_frames.specs.Emission.{Measures, Writes, HasRoom};
 use crate::meaning::FrameMeaning;
 use crate::values::write::emit_u16;
 
-/// The nested flag of a word, `NLA_F_NESTED` of `linux/netlink.h`.
+/// `NLA_F_NESTED` of `linux/netlink.h`: the payload is a list of attributes.
 pub const NLA_F_NESTED: u16 = 0x8000;
 
-/// The network order flag of a word, `NLA_F_NET_BYTEORDER`.
+/// `NLA_F_NET_BYTEORDER` of `linux/netlink.h`: the payload is big-endian.
 pub const NLA_F_NET_BYTEORDER: u16 = 0x4000;
 
-/// The bits of a word that are its type, `NLA_TYPE_MASK`.
+/// `NLA_TYPE_MASK` of `linux/netlink.h`: the bits of `nla_type` that are the type.
 pub const NLA_TYPE_MASK: u16 = 0x3FFF;
 
-/// The bytes of a frame's length and word, `NLA_HDRLEN`.
+/// `NLA_HDRLEN` of `linux/netlink.h`: the bytes of `nla_len` and `nla_type`.
 pub const NLA_HEADER_SIZE: usize = 4;
 
-/// The most bytes that a value has: its frame's length is a `u16`, and counts the header too.
+/// The most bytes that a value has: `nla_len` is a `u16`, and counts the header too.
 pub const NLA_VALUE_MAX_SIZE: usize = 65531;
 
 /// An attribute that can be written as a frame.
 pub trait Nla: FrameMeaning {
-    /// The word of its frame: the type and the two flags.
+    /// `nla_type`: the type and the two flags.
     fn kind(&self) -> u16
         ensures { result ≡ (Self.codec.write (Self.see self.now)).word };
 
@@ -47,8 +47,8 @@ pub trait Nla: FrameMeaning {
     ghost is_short: { (x : Self.Seen) → Self.codec.Fits x
         → length (Self.codec.write x).value ≤ 65531 };
 
-    /// True if it can be written: its value and all values nested in it have at most 65531 bytes, and each u32 selector
-    /// in it has as many keys as it counts.
+    /// True if the value and all nested values have at most 65531 bytes, and each u32 selector in them has as many keys
+    /// as its `nkeys` says: then it can be written.
     final fn fits(&self) -> bool
         ensures { IsTrue result ↔ Self.codec.Fits (Self.see self.now) }
     {
@@ -63,14 +63,14 @@ pub trait Nla: FrameMeaning {
         self.checked_len().unwrap_or(0)
     }
 
-    /// True if the word has the nested flag.
+    /// True if the word has `NLA_F_NESTED`.
     final fn is_nested(&self) -> bool
         ensures { IsTrue result ↔ IsBitSet (Self.codec.write (Self.see self.now)).word 15 }
     {
         self.kind() & NLA_F_NESTED != 0
     }
 
-    /// True if the word has the network byte order flag.
+    /// True if the word has `NLA_F_NET_BYTEORDER`.
     final fn is_network_byteorder(&self) -> bool
         ensures { IsTrue result ↔ IsBitSet (Self.codec.write (Self.see self.now)).word 14 }
     {

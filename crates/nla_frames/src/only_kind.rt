@@ -1,4 +1,4 @@
-//! The kind that a list tells itself, as an action does: of exactly one attribute that sets it.
+//! The kind that a list sets itself, as an action does: the text of its one attribute that sets a kind.
 
 ghost use Rattle.std.specs.Prelude.{◌≡◌, ◌++◌, List, ℕ, [], Option};
 ghost use Rattle.nla_frames.specs.OnlyKind.{text_set, kind_after, Tells};
@@ -13,14 +13,14 @@ pub trait SetsKind {
         ensures { text_set result ≡ Self.sets self.now };
 }
 
-/// The kinds that are set in a list, as far as it matters how many they are.
+/// How many kinds a list sets: none, one, or more.
 #[derive(Clone, Copy, PartialEq, Eq, Debug)]
 pub enum OnlyKind<'a> {
     /// None is set.
     Missing,
     /// This one is set, and no other.
     One(&'a str),
-    /// Two or more are set, be they the same or not.
+    /// Two or more are set, whether or not they are equal.
     Several,
 }
 

@@ -10,14 +10,14 @@ use crate::error::Res;
 use crate::meaning::{BytesMeaning, FrameMeaning};
 use std::alloc::Allocator;
 
-/// What is read of a frame, whatever kind is in force.
+/// What is read of a frame, under any kind.
 pub trait Parseable<A: Allocator>: FrameMeaning {
     /// The value of a frame, or its first fault.
     fn parse(alloc: A, buf: &NlaBuffer<'_>) -> Res<Self>
         ensures { Gives (seen Self.see result) (Self.codec.read [] (frame_of buf.now)) };
 }
 
-/// What is read of a frame under the kind in force.
+/// What is read of a frame under a kind: the `TCA_KIND` text that was set last before it.
 pub trait ParseableParametrized<A: Allocator>: FrameMeaning {
     /// The value of a frame under a kind, or its first fault.
     fn parse_with_param(alloc: A, buf: &NlaBuffer<'_>, kind: &str) -> Res<Self>

@@ -1,5 +1,5 @@
 //! Which values read back as themselves: of one attribute under a kind, and of lists, under one kind, under the kind
-//! that is set last before each place, and under the one kind that a list tells itself.
+//! that is set last before each place, and under the one kind that a list sets itself.
 
 ghost use Rattle.std.specs.Prelude.{◌≡◌, ◌↔◌, List, ℕ, [], Option, map, IsTrue};
 ghost use Rattle.std.specs.List.{AllByRecursion};
@@ -10,14 +10,14 @@ ghost use Rattle.nla_frames.specs.OnlyKind.{SettledUnderOwn};
 use crate::meaning::{BytesMeaning, FrameMeaning};
 use crate::only_kind::{OnlyKind, SetsKind, kind_then, only_kind_set};
 
-/// An attribute that tells whether it reads back as itself.
+/// An attribute that can be tested for settledness: whether its bytes read back as it.
 pub trait Settle: FrameMeaning {
     /// True if the attribute's frame, read under this kind, is the attribute again.
     fn is_settled_under(&self, kind: &str) -> bool
         ensures settled { IsTrue result ↔ Self.codec.Settled kind.now (Self.see self.now) }
         ensures typed { IsTrue result → Self.codec.Typed (Self.see self.now) };
 
-    /// True if the attribute's frame, read where no kind is in force, is the attribute again.
+    /// True if the attribute's frame, read where no kind is set, is the attribute again.
     final fn is_settled(&self) -> bool
         ensures settled { IsTrue result ↔ Self.codec.Settled [] (Self.see self.now) }
         ensures typed { IsTrue result → Self.codec.Typed (Self.see self.now) }
@@ -26,7 +26,7 @@ pub trait Settle: FrameMeaning {
     }
 }
 
-/// What stands in bytes and tells whether it reads back as itself: a record, statistics.
+/// A value without a frame of its own, a record or statistics, that can be tested for settledness.
 pub trait SettleBytes: BytesMeaning {
     /// True if its bytes, read under this kind, are the value again.
     fn is_settled_under(&self, kind: &str) -> bool

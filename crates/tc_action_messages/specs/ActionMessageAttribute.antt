@@ -1,5 +1,5 @@
 -- An attribute of an action message as contracts see it.
-use Rattle.std.specs.Prelude.{ℕ, List, map, string_bytes}
+use Rattle.std.specs.Prelude.{◌≡◌, ℕ, List, map, string_bytes}
 use Rattle.nla_frames.specs.DefaultNla.{kept_frame}
 use Rattle.tc_canon.specs.Descriptor.{pair}
 use Rattle.tc_meaning.specs.Tree.{Attribute, known, other, number, is_bytes, record_of, items, attributes_of}
@@ -23,6 +23,14 @@ action_message_attribute (RootCount n) = known 3 (number n)
 action_message_attribute (RootTimeDelta n) = known 4 (number n)
 action_message_attribute (RootExtWarnMsg text) = known 5 (is_bytes (string_bytes text))
 action_message_attribute (Other nla) = other (kept_frame nla).word (kept_frame nla).value
+
+-- two attributes hold the same: actions that are seen alike one by one, the same text; one that is kept raw the same word
+-- and payload; all others are equal
+abbrev pub SameActionMessageAttribute : {A : Type 0} → TcActionMessageAttribute A → TcActionMessageAttribute A → Type 0
+SameActionMessageAttribute (Actions v) (Actions w) = map tc_action v.items ≡ map tc_action w.items
+SameActionMessageAttribute (RootExtWarnMsg s) (RootExtWarnMsg t) = string_bytes s ≡ string_bytes t
+SameActionMessageAttribute (Other x) (Other y) = kept_frame x ≡ kept_frame y
+SameActionMessageAttribute a b = a ≡ b
 
 -- the most NULs that end one of these parts
 abbrev pub most_nuls : List Part → ℕ

@@ -65,9 +65,9 @@ pub enum TcActionMessageAttribute<A: Allocator = Global> {
     Other(DefaultNla<A>),
 }
 
-// Flags with a selector as the value of an attribute.
+/// Flags with a selector as the value of an attribute: 8 bytes, the flags and then the selector.
 #[derive(Drop)]
-struct Pair<'a>(&'a TcActionMessageFlagsWithSelector);
+pub struct Pair<'a>(pub &'a TcActionMessageFlagsWithSelector);
 
 impl<'a> Body for Pair<'a> {
     ghost bytes = { λ p. pair_codec.write (flags_words p.0.now) };
@@ -131,7 +131,7 @@ impl<A: Allocator + Copy> Parseable<A> for TcActionMessageAttribute<A> {
 }
 
 impl<A: Allocator> TcActionMessageAttribute<A> {
-    // Its word and its value, and what they are by the table.
+    // The row, with what it says of the attribute: how it is written, that it fits and is settled.
     fn view(&self) -> (u16, Value<'_, Nested<'_, A>>)
         ensures { ShownAs attribute_body action_message_attributes
             (action_message_attribute self.now) result.0 result.1 }
@@ -139,7 +139,9 @@ impl<A: Allocator> TcActionMessageAttribute<A> {
         self.row()
     }
 
-    fn row(&self) -> (u16, Value<'_, Nested<'_, A>>)
+    /// The attribute's `nla_type` (type and flags) and its value, in the form that the row of its type in the table says; of
+    /// `Other` the word and the payload that it keeps.
+    pub fn row(&self) -> (u16, Value<'_, Nested<'_, A>>)
         ensures seen { action_message_attribute self.now
             ≡ attribute_of attribute_body result.0 result.1 }
         ensures row { IsRow attribute_body action_message_attributes result.0 result.1 }
@@ -203,7 +205,7 @@ fn before_nuls(bytes: &[u8]) -> &[u8]
     kept
 }
 
-// True if attributes of this word's type are read.
+// True if the table reads attributes of the type of this `nla_type`.
 fn is_read(word: u16) -> bool
     ensures { result ≡ reads_at action_message_attributes (type_of word) }
 {

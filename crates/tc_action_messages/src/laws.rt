@@ -3,11 +3,12 @@
 ghost use Rattle.std.specs.Prelude.{◌≡◌, ◌↔◌, fold, Some, IsTrue, [], ◌∷◌};
 ghost use Rattle.std.specs.Ordering.{is_eq};
 ghost use Rattle.tc_meaning.specs.Tree.{plain};
-ghost use Rattle.tc_meaning.specs.Whole.{act_bytes, FitsAct, SettledAct};
+ghost use Rattle.tc_meaning.specs.Whole.{OneOutcome, action_words, act_bytes, FitsAct, SettledAct};
 ghost use Rattle.tc_meaning.specs.Equal.{TellsSeen};
+ghost use Rattle.tc_values.specs.Forgets.{ForgetsNothing};
 ghost use Rattle.tc_records.specs.Defaults.{DefaultsTo};
 ghost use Rattle.tc_action_messages.specs.Flags.{flags_words, flags_cmp, flags_fed};
-ghost use Rattle.tc_action_messages.specs.ActionMessageAttribute.{action_message_attribute};
+ghost use Rattle.tc_action_messages.specs.ActionMessageAttribute.{action_message_attribute, SameActionMessageAttribute};
 ghost use Rattle.tc_action_messages.specs.ActionMessage.{action_message};
 
 use crate::attribute::TcActionMessageAttribute;
@@ -17,6 +18,7 @@ use std::alloc::Allocator;
 use std::cmp::Ordering;
 use std::hash::{Hash, Hasher};
 use tc_laws::rewriting;
+use tc_meaning::laws;
 
 /// Flags with a selector compare by the flags first, by `cmp` and `partial_cmp`; they are equal exactly if they compare
 /// as `Equal`.
@@ -49,7 +51,15 @@ pub fn defaults()
         (plain 0 ∷ plain 0 ∷ []) }
 {}
 
-/// `==` says exactly whether contracts see two action messages, or two parts of them, as equal.
+/// All bytes read as one message and have no fault, or read as none and have one fault.
+pub fn one_outcome(bytes: &[u8])
+    ensures { OneOutcome action_words bytes.now }
+{
+    // A law, which does nothing: reading gives the one or the other.
+    laws::action_message(bytes);
+}
+
+/// `==` holds exactly where contracts see two action messages, or two parts of them, as equal.
 pub fn equal<A: Allocator>()
     ensures flags { TellsSeen ⟦<TcActionMessageFlagsWithSelector as PartialEq>⟧.eq flags_words }
     ensures attribute { TellsSeen ⟦<TcActionMessageAttribute<A> as PartialEq>⟧.eq
@@ -57,13 +67,20 @@ pub fn equal<A: Allocator>()
     ensures message { TellsSeen ⟦<TcActionMessage<A> as PartialEq>⟧.eq action_message }
 {}
 
-/// Two settled messages that fit are `==` exactly if `emit` writes the same bytes for both.
+/// What contracts see of an attribute forgets nothing that it holds.
+#[tactic(auto, using(tc_values::proofs::Lists::attributes_once))]
+pub fn forgets_nothing<A: Allocator>()
+    ensures { ForgetsNothing (action_message_attribute {A = A}) SameActionMessageAttribute }
+{}
+
+/// Two settled messages that fit are `==` if and only if `emit` writes the same bytes for both.
 pub fn equal_bytes<A: Allocator>(one: &TcActionMessage<A>, other: &TcActionMessage<A>)
     ensures { FitsAct (action_message one.now) → SettledAct (action_message one.now)
         → FitsAct (action_message other.now) → SettledAct (action_message other.now)
         → IsTrue (⟦<TcActionMessage<A> as PartialEq>⟧.eq one.now other.now)
         ↔ act_bytes (action_message one.now) ≡ act_bytes (action_message other.now) }
 {
+    // A law, which does nothing, and two calls that say that both messages are typed; their results aren't used.
     rewriting::same_bytes();
     one.is_settled();
     other.is_settled();

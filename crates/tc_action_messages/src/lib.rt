@@ -7,6 +7,6 @@ pub mod flags;
 pub mod laws;
 pub mod message;
 
-pub use attribute::TcActionMessageAttribute;
+pub use attribute::{Pair, TcActionMessageAttribute};
 pub use flags::TcActionMessageFlagsWithSelector;
 pub use message::TcActionMessage;

@@ -67,20 +67,21 @@ impl<A: Allocator + Copy> ParseableBytes<A> for TcActionMessage<A> {
         ensures refused { IfRefused result (FaultAct bytes.now) }
         // The function that computes both gives what is returned, unless memory ran out.
         ensures exact { Gives (seen action_message result) (read_act bytes.now) }
-        // What fits is written as the same bytes exactly if these are canonical.
+        // What fits is written as the same bytes if and only if these are canonical.
         ensures same { IfOk result (λ m.
             FitsAct (action_message m)
             → (act_bytes (action_message m) ≡ bytes.now) ↔ CanonAct bytes.now) }
-        // Canonical bytes are refused for want of memory alone, and read as what fits and is settled.
+        // Canonical bytes fail only with OutOfMemory, and read as what fits and is settled.
         ensures canonical { CanonAct bytes.now
             → UnlessMemory result (λ m.
             FitsAct (action_message m) × SettledAct (action_message m)) }
-        // What is read is unsettled exactly if it is loose: if a part of it is written otherwise than it may have been read.
+        // What is read is unsettled if and only if it is loose: if encoding would change a part of it.
         ensures loose { IfOk result (λ m.
             SettledAct (action_message m) ↔ is_loose_act (action_message m) ≡ false) }
-        // A frame of an unknown type may stand anywhere, and is kept there as it stands.
+        // An attribute of an unknown type may be at any place, and is kept raw there.
         ensures unknown { IfOk result (λ m. TakesUnknownAct bytes.now (action_message m)) }
     {
+        // Laws, which do nothing: what the grammar says of these bytes, what is loose, and where a frame may be put in.
         laws::action_message(bytes);
         rewriting::action_rewriting(bytes);
         places::unknown_types();
@@ -107,6 +108,7 @@ fn after_header(bytes: &[u8]) -> &[u8]
 
 impl<A: Allocator> Emitable for TcActionMessage<A> {
     fn checked_len(&self) -> Option<usize> {
+        // A law, which does nothing: the header is typed, so it has its length in bytes.
         action_message_header_in_hand(&self.header);
         match list_checked_len(&self.attributes) {
             Some(len) => len.checked_add(TCA_HEADER_LEN),
@@ -119,10 +121,11 @@ impl<A: Allocator> Emitable for TcActionMessage<A> {
         requires room { HasRoom (act_bytes (action_message self.now)) buffer.old }
         ensures written { Writes (act_bytes (action_message self.now)) buffer.old buffer.new }
         ensures typed { TypedAct (action_message self.now) }
-        // What is written reads back as the message exactly if it is settled.
+        // What is written reads back as the message if and only if it is settled.
         ensures back { ReadsAct (act_bytes (action_message self.now)) (action_message self.now)
             ↔ SettledAct (action_message self.now) }
     {
+        // Laws, which do nothing: what is written reads back if settled, and the header is typed.
         laws::action_message(&[]);
         action_message_header_in_hand(&self.header);
         put_list(&self.attributes, &mut buffer[TCA_HEADER_LEN..]);
@@ -139,6 +142,7 @@ impl<A: Allocator> TcActionMessage<A> {
         ensures canonical { IsTrue result → FitsAct (action_message self.now)
             → CanonAct (act_bytes (action_message self.now)) }
     {
+        // Laws, which do nothing: the bytes of a settled message are canonical, and the header is typed.
         laws::action_message(&[]);
         action_message_header_in_hand(&self.header);
         self.header.is_settled() && list_settled_under(&self.attributes, "")

@@ -1,4 +1,4 @@
--- A list that tells its own kind, as the value of an action.
+-- A list that holds its own kind, as the value of an action.
 use Rattle.std.proofs.Common.{◌≡◌, ℕ, ◌≤◌, ◌<◌, ◌^◌, Option, ◌↔◌, List, [], Bool, IsTrue, Ok, refl, sym, subst, ◌∙◌, map}
 use Rattle.std.specs.List.{AllByRecursion}
 use Rattle.nla_frames.specs.declared.error.DecodeError.{DecodeError}
@@ -30,7 +30,7 @@ keeps_order f xs law is front one two back fs g h gs p q r s same =
     let reads : ReadsAction [] f.word f.value xs = rw is refl in
     law front one two back fs g h gs p q r s xs (subst (λ v. ReadsAction [] f.word v xs) same reads)
 
--- the action fits exactly if its list does, and is as long
+-- the action fits if and only if its list does, and is as long
 pub action_measured : (tab : ℕ) (xs : List Attribute) (len : Option ℕ)
     → Measures len (NestedFits (table_codec (table action_attributes)).Fits (table_codec (table action_attributes)).write xs)
     (list_bytes (table_codec (table action_attributes)).write xs)
@@ -53,7 +53,7 @@ pub action_typed : (tab : ℕ) (xs : List Attribute) → tab < 256 ^ 2 → AllBy
     → (table_codec an_action).Typed (known tab (items (attributes_of xs)))
 action_typed tab xs low typed = rw attributes_again (low, (refl, typed))
 
--- the list is settled under its own kind exactly if the action is, where the type has no flags
+-- the list is settled under its own kind if and only if the action is, where the type has no flags
 pub action_settled : {A : Type 0} (kind : List ℕ) (tab : ℕ) (list : List (TcActionAttribute A)) (b : Bool) → tab ≤ 0x3FFF
     → IsTrue b ↔ SettledUnderOwn action_attribute (table_codec (table action_attributes)).Settled (λ x. kind_of_attribute (action_attribute x)) list
     → IsTrue b ↔ (table_codec an_action).Settled kind (known tab (items (attributes_of (map action_attribute list))))

@@ -1,4 +1,4 @@
--- A scan of a list of frames that tell their own kind, and what is read after it.
+-- A scan of a list of frames that holds its own kind, and what is read after it.
 use Rattle.std.proofs.Common.{◌≡◌, ℕ, ◌≤◌, List, [], ◌∷◌, ◌++◌, map, length, Option, Some, Ok, Err, refl, sym, ap, subst, ◌∙◌, arith}
 use Rattle.std.specs.Borrow.{Bor}
 use Rattle.std.specs.Str.{IsUtf8}

@@ -15,6 +15,10 @@ listed action = map action_attribute action.attributes.items
 abbrev pub tc_action : {A : Type 0} → TcAction A → Attribute
 tc_action action = known action.tab (items (attributes_of (listed action)))
 
+-- two actions hold the same: attributes that are seen alike one by one, and nothing else but their `tab`
+abbrev pub SameAction : {A : Type 0} → TcAction A → TcAction A → Type 0
+SameAction a b = (listed a ≡ listed b) × (a.attributes ≡ b.attributes → a ≡ b)
+
 -- the table of a frame that is an action, whatever its type
 abbrev pub an_action : Table
 an_action = every (own_list action_attributes)

@@ -1,5 +1,5 @@
 -- An attribute of an action as contracts see it.
-use Rattle.std.specs.Prelude.{map, string_bytes}
+use Rattle.std.specs.Prelude.{◌≡◌, map, string_bytes}
 use Rattle.nla_frames.specs.DefaultNla.{kept_frame}
 use Rattle.tc_canon.specs.Descriptor.{table, by_kind}
 use Rattle.tc_canon.specs.Tables.Statistics.{stats2}
@@ -24,6 +24,16 @@ action_attribute (Stats stats) = known 4 (items (attributes_of (map tc_stats2 st
 action_attribute (Cookie bytes) = known 6 (is_bytes bytes.items)
 action_attribute (InHwCount n) = known 10 (number n)
 action_attribute (Other nla) = other (kept_frame nla).word (kept_frame nla).value
+
+-- two attributes hold the same: the same text or bytes, options or statistics that are seen alike one by one; one that
+-- is kept raw the same word and payload; all others are equal
+abbrev pub SameActionAttribute : {A : Type 0} → TcActionAttribute A → TcActionAttribute A → Type 0
+SameActionAttribute (Kind s) (Kind t) = string_bytes s ≡ string_bytes t
+SameActionAttribute (Options v) (Options w) = map action_option v.items ≡ map action_option w.items
+SameActionAttribute (Stats v) (Stats w) = map tc_stats2 v.items ≡ map tc_stats2 w.items
+SameActionAttribute (Cookie v) (Cookie w) = v.items ≡ w.items
+SameActionAttribute (Other x) (Other y) = kept_frame x ≡ kept_frame y
+SameActionAttribute a b = a ≡ b
 
 -- what attributes nest
 abbrev pub attribute_body : {A : Type 0} → Inner (Either (Items (TcActionOption A)) (Items (TcStats2 A)))

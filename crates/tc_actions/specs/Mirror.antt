@@ -1,4 +1,5 @@
 -- An option of the action mirred as contracts see it.
+use Rattle.std.specs.Prelude.{◌≡◌}
 use Rattle.nla_frames.specs.DefaultNla.{kept_frame}
 use Rattle.tc_canon.specs.Layouts.{tcf, mirror}
 use Rattle.tc_meaning.specs.Tree.{Attribute, known, other, record_of}
@@ -22,3 +23,10 @@ mirror_option (Other nla) = other (kept_frame nla).word (kept_frame nla).value
 -- what its options nest
 abbrev pub mirror_body : Inner (Either (Record Tcf) (Record TcMirror))
 mirror_body = either (record_part tcf_scalars tcf) (record_part mirror_scalars mirror)
+
+-- two options hold the same: `Parms`, which has signed numbers, the same fields; one that is kept raw the same word and
+-- payload; all others are equal
+abbrev pub SameMirror : {A : Type 0} → TcActionMirrorOption A → TcActionMirrorOption A → Type 0
+SameMirror (Parms x) (Parms y) = mirror_scalars x ≡ mirror_scalars y
+SameMirror (Other x) (Other y) = kept_frame x ≡ kept_frame y
+SameMirror a b = a ≡ b

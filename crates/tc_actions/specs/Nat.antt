@@ -1,4 +1,5 @@
 -- An option of the action nat as contracts see it.
+use Rattle.std.specs.Prelude.{◌≡◌}
 use Rattle.nla_frames.specs.DefaultNla.{kept_frame}
 use Rattle.tc_canon.specs.Layouts.{tcf, nat}
 use Rattle.tc_meaning.specs.Tree.{Attribute, known, other, record_of}
@@ -22,3 +23,10 @@ nat_option (Other nla) = other (kept_frame nla).word (kept_frame nla).value
 -- what its options nest
 abbrev pub nat_body : Inner (Either (Record Tcf) (Record TcNat))
 nat_body = either (record_part tcf_scalars tcf) (record_part nat_scalars nat)
+
+-- two options hold the same: `Parms`, which has signed numbers, the same fields; one that is kept raw the same word and
+-- payload; all others are equal
+abbrev pub SameNat : {A : Type 0} → TcActionNatOption A → TcActionNatOption A → Type 0
+SameNat (Parms x) (Parms y) = nat_scalars x ≡ nat_scalars y
+SameNat (Other x) (Other y) = kept_frame x ≡ kept_frame y
+SameNat a b = a ≡ b

@@ -1,4 +1,4 @@
--- What a scan finds of a list of frames that tell their own kind.
+-- What a scan finds of a list of frames that holds its own kind.
 use Rattle.std.specs.Prelude.{◌≡◌, ℕ, List, [], Option, Ok, map}
 use Rattle.nla_frames.specs.declared.buffer.NlaBuffer.{NlaBuffer}
 use Rattle.nla_frames.specs.declared.only_kind.OnlyKind.{OnlyKind}
@@ -8,7 +8,7 @@ use Rattle.nla_frames.specs.Reading.{read_list, keep, whole}
 use Rattle.nla_frames.specs.OnlyKind.{Tells}
 use Rattle.tc_meaning.specs.OwnGrammar.{first_look, kinds_found}
 
--- the bytes are these frames, and the kinds that are found in them are as told
+-- the bytes are these frames, and set no kind, one, or several, as `only` says
 pub record Scanned (bytes : List ℕ) (frames : List NlaBuffer) (only : OnlyKind) : Type 0 where
   pub looks : List (Option (List ℕ))
   pub looked : read_list first_look keep [] bytes ≡ Ok looks

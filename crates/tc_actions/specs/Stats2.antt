@@ -1,4 +1,5 @@
 -- One of several statistics as contracts see it.
+use Rattle.std.specs.Prelude.{◌≡◌}
 use Rattle.nla_frames.specs.DefaultNla.{kept_frame}
 use Rattle.tc_canon.specs.Layouts.{stats_basic, stats_queue}
 use Rattle.tc_meaning.specs.Tree.{Attribute, known, other, record_of}
@@ -25,3 +26,10 @@ tc_stats2 (Other nla) = other (kept_frame nla).word (kept_frame nla).value
 -- what its attributes nest
 abbrev pub stats2_body : {A : Type 0} → Inner (Either (Record (TcXstats A)) (Either (Record TcStatsBasic) (Record TcStatsQueue)))
 stats2_body = either xstats_part (either (record_part basic_scalars stats_basic) (record_part queue_scalars stats_queue))
+
+-- two of them hold the same: a qdisc's own statistics that are seen alike; one that is kept raw the same word and
+-- payload; all others are equal
+abbrev pub SameStats2 : {A : Type 0} → TcStats2 A → TcStats2 A → Type 0
+SameStats2 (App x) (App y) = tc_xstats x ≡ tc_xstats y
+SameStats2 (Other x) (Other y) = kept_frame x ≡ kept_frame y
+SameStats2 a b = a ≡ b

@@ -1,4 +1,5 @@
 -- An option of the action tunnel_key as contracts see it.
+use Rattle.std.specs.Prelude.{◌≡◌}
 use Rattle.std.specs.Net.Addr.{ipv4_octets, ipv6_octets}
 use Rattle.nla_frames.specs.DefaultNla.{kept_frame}
 use Rattle.tc_canon.specs.Layouts.{tcf, tunnel_key}
@@ -33,3 +34,12 @@ tunnel_key_option (Other nla) = other (kept_frame nla).word (kept_frame nla).val
 -- what its options nest
 abbrev pub tunnel_key_body : Inner (Either (Record Tcf) (Record TcTunnelKey))
 tunnel_key_body = either (record_part tcf_scalars tcf) (record_part tunnel_key_scalars tunnel_key)
+
+-- two options hold the same: `Parms`, which has signed numbers, the same fields; an IPv6 address the same octets; one that
+-- is kept raw the same word and payload; all others are equal
+abbrev pub SameTunnelKey : {A : Type 0} → TcActionTunnelKeyOption A → TcActionTunnelKeyOption A → Type 0
+SameTunnelKey (Parms x) (Parms y) = tunnel_key_scalars x ≡ tunnel_key_scalars y
+SameTunnelKey (EncIpv6Src a) (EncIpv6Src b) = ipv6_octets a ≡ ipv6_octets b
+SameTunnelKey (EncIpv6Dst a) (EncIpv6Dst b) = ipv6_octets a ≡ ipv6_octets b
+SameTunnelKey (Other x) (Other y) = kept_frame x ≡ kept_frame y
+SameTunnelKey a b = a ≡ b

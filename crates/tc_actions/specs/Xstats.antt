@@ -1,4 +1,5 @@
--- Statistics of a queueing discipline's own as contracts see them.
+-- A qdisc's own statistics as contracts see them.
+use Rattle.std.specs.Prelude.{◌≡◌}
 use Rattle.tc_canon.specs.Descriptor.{xstats}
 use Rattle.tc_meaning.specs.Tree.{Content, is_bytes}
 use Rattle.tc_meaning.specs.Content.{Shape, xstats_codec}
@@ -12,6 +13,12 @@ use Rattle.tc_actions.specs.declared.stats.xstats.TcXstats.TheVariants.{FqCodel,
 abbrev pub tc_xstats : {A : Type 0} → TcXstats A → Content
 tc_xstats (FqCodel stats) = fq_codel_xstats stats
 tc_xstats (Other bytes) = is_bytes bytes.items
+
+-- two of them hold the same: those of fq_codel are seen alike, all others have the same bytes
+abbrev pub SameXstats : {A : Type 0} → TcXstats A → TcXstats A → Type 0
+SameXstats (FqCodel x) (FqCodel y) = fq_codel_xstats x ≡ fq_codel_xstats y
+SameXstats (Other v) (Other w) = v.items ≡ w.items
+SameXstats a b = ⊥
 
 -- contents as they are
 abbrev pub as_it_is : Shape Content

@@ -1,4 +1,4 @@
--- What is kept as it stands is shown whole, whatever the rows of the table are.
+-- What is kept raw is shown whole, whatever the rows of the table are.
 use Rattle.std.proofs.Common.{ℕ, List, refl}
 use Rattle.tc_canon.specs.Descriptor.{Rows}
 use Rattle.tc_meaning.specs.Tree.{other}

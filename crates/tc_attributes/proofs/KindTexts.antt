@@ -1,4 +1,4 @@
--- The kind that a frame tells.
+-- The kind that a frame sets.
 use Rattle.std.proofs.Common.{◌≡◌, ℕ, List, [], Bool, true, false, Option, Some, None, Ok, Err, cond, refl, sym, ◌==◌}
 use Rattle.std.proofs.lemmas.Bool.Decides.{Decides-eqb}
 use Rattle.nla_frames.specs.declared.error.DecodeError.TheVariants.{NotUtf8}
@@ -17,7 +17,7 @@ use Rattle.nla_frames.specs.Value.{strip, text}
 use Rattle.nla_frames.specs.Frame.{Frame, type_of}
 use Rattle.tc_meaning.specs.OwnGrammar.{first_look}
 
--- a frame that tells a kind is read as its text, or refused as its text is
+-- a frame that sets a kind is read as its text, or refused as its text is
 pub text_read : (kind : List ℕ) (f : Frame) (o : Outcome (List ℕ)) → first_look [] f ≡ seen Some o
     → (table_codec (table attributes)).read kind f ≡ seen (λ t. known 1 (is_bytes t)) o
 text_read kind f o is = go (type_of f.word == 1) ((Decides-eqb (type_of f.word) 1).0) is
@@ -42,7 +42,7 @@ pub not_read : (kind : List ℕ) (f : Frame) (e : DecodeError) → refused e ≡
     → Gives (refused e) ((table_codec (table attributes)).read kind f)
 not_read kind f e is = Gives-exact e _ (text_read kind f (Err e) (sym is))
 
--- the kind after it is the one that it tells
+-- the kind after it is the one that it sets
 pub kind_told_then : (kind : List ℕ) (f : Frame) (told : Option (List ℕ)) → read_as told ≡ first_look [] f
     → kind_after kind told ≡ kind_then kind_of_frame kind f
 kind_told_then kind f told is = go (tells_kind f) is

@@ -48,6 +48,25 @@ tc_attribute (Chain chain) = known 11 (number chain)
 tc_attribute (HwOffload offload) = known 12 (number offload)
 tc_attribute (Other nla) = other (kept_frame nla).word (kept_frame nla).value
 
+-- two attributes hold the same: the same text or bytes, options or statistics that are seen alike; one that is kept raw
+-- the same word and payload; all others are equal
+abbrev pub SameAttribute : {A : Type 0} → TcAttribute A → TcAttribute A → Type 0
+SameAttribute (Kind s) (Kind t) = string_bytes s ≡ string_bytes t
+SameAttribute (Options v) (Options w) = map tc_option v.items ≡ map tc_option w.items
+SameAttribute (OptionsRaw x) (OptionsRaw y) = kept_frame x ≡ kept_frame y
+SameAttribute (Xstats x) (Xstats y) = tc_xstats x ≡ tc_xstats y
+SameAttribute (Rate v) (Rate w) = v.items ≡ w.items
+SameAttribute (Fcnt v) (Fcnt w) = v.items ≡ w.items
+SameAttribute (Stats2 v) (Stats2 w) = map tc_stats2 v.items ≡ map tc_stats2 w.items
+SameAttribute (Stab v) (Stab w) = v.items ≡ w.items
+SameAttribute (Other x) (Other y) = kept_frame x ≡ kept_frame y
+SameAttribute a b = a ≡ b
+
+-- options that are kept raw as any other attribute that is kept raw
+abbrev pub as_other : Attribute → Attribute
+as_other (kept n word value) = other word value
+as_other x = x
+
 -- how an attribute is read and written: by the table of the message's attributes
 abbrev pub attribute_codec : Codec Frame Attribute
 attribute_codec = table_codec (table attributes)

@@ -18,8 +18,8 @@ ghost use Rattle.tc_meaning.specs.Message.{kind_of_frame, kind_of_attribute};
 ghost use Rattle.tc_meaning.specs.OwnGrammar.{first_look};
 ghost use Rattle.tc_meaning.specs.Short.{table_short};
 ghost use Rattle.tc_meaning.specs.Equal.{same_attribute, attribute_equiv, attribute_per};
-ghost use Rattle.tc_values.specs.Row.{reads_at};
-ghost use Rattle.tc_attributes.specs.Attribute.{tc_attribute, attribute_codec, IsWritten};
+ghost use Rattle.tc_values.specs.Row.{attribute_of, reads_at};
+ghost use Rattle.tc_attributes.specs.Attribute.{tc_attribute, as_other, attribute_codec, nested, IsWritten};
 ghost use Rattle.tc_attributes.specs.Attribute.{ReadsAttributes, AttributesFault};
 
 use crate::types::{
@@ -27,6 +27,7 @@ use crate::types::{
     TCA_STAB, TCA_STATS, TCA_STATS2, TCA_XSTATS,
 };
 use nla_frames::laws::in_hand::{bytes_in_hand, text_in_hand, u8_in_hand, u32_in_hand};
+use nla_frames::laws::list_grammar;
 use nla_frames::{
     BytesMeaning, DefaultNla, FrameMeaning, NLA_TYPE_MASK, Nla, NlaBuffer, NlasIterator, Parseable,
     ParseableBytes, ParseableParametrized, Res, SetsKind, Settle, SettleBytes, first_capacity,
@@ -44,7 +45,7 @@ use tc_values::{Either, Items, Record, Value};
 /// |---|---|---|
 /// | 1 | `Kind` | text |
 /// | 2 | `Options` under a known kind | a list of that kind's options |
-/// | 2 | `OptionsRaw` under any other kind | as it stands |
+/// | 2 | `OptionsRaw` under any other kind | bytes, kept raw |
 /// | 3 | `Stats` | [`TcStats`] |
 /// | 4 | `Xstats` | [`TcXstats`], by the kind in force |
 /// | 5, 6, 8 | `Rate`, `Fcnt`, `Stab` | bytes |
@@ -56,16 +57,16 @@ use tc_values::{Either, Items, Record, Value};
 #[derive_where(Debug)]
 #[derive_where(Clone; A)]
 pub enum TcAttribute<A: Allocator = Global> {
-    /// The name of the queueing discipline or filter, and of the options after it: `TCA_KIND` of
+    /// The name of the qdisc or filter, which selects the format of the options and statistics after it: `TCA_KIND` of
     /// `linux/rtnetlink.h`.
     Kind(String<A>),
     /// The options under a known kind: `TCA_OPTIONS`.
     Options(Vec<TcOption<A>, A>),
-    /// The options under any other kind, as they stand: `TCA_OPTIONS`.
+    /// The options under any other kind, kept raw: `TCA_OPTIONS`.
     OptionsRaw(DefaultNla<A>),
     /// Statistics: `TCA_STATS`.
     Stats(TcStats),
-    /// Statistics of a qdisc's own: `TCA_XSTATS`.
+    /// The qdisc's own statistics: `TCA_XSTATS`.
     Xstats(TcXstats<A>),
     /// How a rate is estimated, `struct tc_estimator` as bytes: `TCA_RATE`.
     Rate(Vec<u8, A>),
@@ -79,7 +80,7 @@ pub enum TcAttribute<A: Allocator = Global> {
     DumpInvisible(bool),
     /// The number of a chain of filters: `TCA_CHAIN`.
     Chain(u32),
-    /// Whether the hardware does the work, a byte: `TCA_HW_OFFLOAD`.
+    /// Whether it is offloaded to hardware, a byte: `TCA_HW_OFFLOAD`.
     HwOffload(u8),
     /// Any other type.
     Other(DefaultNla<A>),
@@ -114,7 +115,7 @@ impl<A: Allocator + Copy> ParseableParametrized<A> for TcAttribute<A> {
 
 // Reading of options, and of what the table has no row for.
 impl<A: Allocator + Copy> TcAttribute<A> {
-    // Options: a list under a known kind, under any other the attribute as it stands.
+    // Options: a list under a known kind, kept raw under any other.
     #[inline(always)]
     fn read_options(alloc: A, buf: &NlaBuffer<'_>, kind: &str) -> Res<TcAttribute<A>>
         requires { type_of (frame_of buf.now).word ≡ 2 }
@@ -129,7 +130,7 @@ impl<A: Allocator + Copy> TcAttribute<A> {
         }
     }
 
-    // An attribute that is kept as it stands.
+    // An attribute that is kept raw.
     #[inline(always)]
     fn read_other(alloc: A, buf: &NlaBuffer<'_>) -> Res<TcAttribute<A>>
         ensures { Gives (seen tc_attribute result)
@@ -146,10 +147,11 @@ type Nested<'a, A> = Either<
 >;
 
 impl<A: Allocator> TcAttribute<A> {
-    // Its word and its value, as the table has them. They don't tell whether it is settled, as those of other enums do:
-    // this table alone has a choice by kind, so `is_settled_under` tells it by itself.
-    fn row(&self) -> (u16, Value<'_, Nested<'_, A>>)
-        ensures { IsWritten (tc_attribute self.now) result.0 result.1 }
+    /// The attribute's `nla_type` (type and flags) and its value, in the form that the row of its type in the table says;
+    /// of `Other` and `OptionsRaw` the word and the payload that they keep.
+    pub fn row(&self) -> (u16, Value<'_, Nested<'_, A>>)
+        ensures seen { as_other (tc_attribute self.now) ≡ attribute_of nested result.0 result.1 }
+        ensures written { IsWritten (tc_attribute self.now) result.0 result.1 }
     {
         match self {
             TcAttribute::Kind(kind) => (TCA_KIND, Value::Text(kind.as_str())),
@@ -205,14 +207,14 @@ impl<A: Allocator> Nla for TcAttribute<A> {
     ghost is_short = { table_short (table attributes) };
 }
 
-// True if attributes of this word's type are read.
+// True if the table reads attributes of the type of this `nla_type`.
 fn is_read(word: u16) -> bool
     ensures { result ≡ reads_at attributes (type_of word) }
 {
     matches!(word & NLA_TYPE_MASK, TCA_KIND..=TCA_STAB | TCA_DUMP_INVISIBLE..=TCA_HW_OFFLOAD)
 }
 
-// True if options that stand as they came are kept so: under an unknown kind, at the type of options.
+// True if options that are kept raw are settled: under an unknown kind, at the type of options.
 fn is_settled_raw<A: Allocator>(nla: &DefaultNla<A>, kind: &str) -> bool
     ensures settled { IsTrue result ↔ (is_known option_kinds kind.now ≡ false)
         × (type_of (kept_frame nla.now).word ≡ 2) }
@@ -227,6 +229,8 @@ fn is_settled_raw<A: Allocator>(nla: &DefaultNla<A>, kind: &str) -> bool
 
 impl<A: Allocator> Settle for TcAttribute<A> {
     fn is_settled_under(&self, kind: &str) -> bool {
+        // What ends in `_in_hand` does nothing at run time: it says that a number is in the range of its type, bytes are below
+        // 256, a text is UTF-8.
         match self {
             TcAttribute::Kind(text) => {
                 text_in_hand(text.as_str());
@@ -291,6 +295,9 @@ impl<A: Allocator + Copy> ParseableBytes<A> for VecTcAttribute<A> {
         ensures exact { Gives (seen (λ list. map tc_attribute list.0.items) result)
             (read_list attribute_codec.read kind_of_frame [] bytes.now) }
     {
+        // Does nothing at run time: its law, that `read_list` is what the grammar reads, gives the clauses `found` and
+        // `refused`.
+        list_grammar::<TcAttribute<A>>(bytes, "");
         read_attributes(alloc, bytes)
     }
 }

@@ -1,7 +1,8 @@
-//! The attributes of traffic control messages, of which one tells the kind under which those after it are read.
+//! The attributes of traffic control messages, of which one sets the kind under which those after it are read.
 #![tactic(auto)]
 
 pub mod attribute;
+pub mod laws;
 mod types;
 
 pub use attribute::{TcAttribute, VecTcAttribute};

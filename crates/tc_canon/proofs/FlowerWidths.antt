@@ -1,55 +1,16 @@
 -- The widths of flower's options, looked up in a list of ranges, against the table.
 use Rattle.std.proofs.Common.{◌≡◌, ℕ, suc, zero, ◌+◌, ◌<◌, ◌≤◌, Bool, true, false, cond, List, [], ◌∷◌, length, refl, sym, ap, ◌∙◌, arith, Option, Some, None}
 use Rattle.std.proofs.Common.{◌↔◌, is_some, eq-eqb}
-use Rattle.std.specs.Prelude.{◌==◌, IsTrue, nat_le, nat_lt, if◌then◌else◌, MatchBool, ⊤}
-use Rattle.std.proofs.lemmas.Bool.{eqb-true, eqb-false, ne_eqb, leb-false, ltb-true, ltb-false}
+use Rattle.std.specs.Prelude.{◌==◌, ◌&&◌, ◌||◌, IsTrue, nat_le, nat_lt, if◌then◌else◌, MatchBool, ⊤}
+use Rattle.std.proofs.lemmas.Bool.{and_parts, eqb-true, ne_eqb, leb-true}
 use Rattle.std.proofs.lemmas.Bool.Decides.{nat_tests}
 use Rattle.nla_frames.specs.Frame.{Frame, type_of}
 use Rattle.nla_frames.specs.Reading.{keep}
 use Rattle.tc_canon.specs.Descriptor.{Class, le, be, array, Rows, others, types, unread, options, is_within, is_known}
+use Rattle.tc_canon.specs.Order.{in_order}
 use Rattle.tc_canon.specs.Tables.Flower.{flower_options}
 use Rattle.tc_canon.specs.Widths.{width_of_class, width_at, look_up}
 use Rattle.tc_canon.specs.Canonical.{CanonClass, CanonRows, CanonKinds, IsCanonList}
-
--- a type past the last one
-beyond : (first last n : ℕ) → last < n → is_within first last n ≡ false
-beyond first last n past = grind (arith, nat_tests)
-
--- ---- what a table says, tested at each type
-
--- a test at so many numbers from one on
-abbrev pub all_from : ℕ → ℕ → (ℕ → Bool) → Bool
-all_from zero a test = true
-all_from (suc c) a test = if test a then all_from c (suc a) test else false
-
--- a test of two is passed by both
-holds : (b c : Bool) → cond b c false ≡ true → (b ≡ true) × (c ≡ true)
-holds true c e = (refl, e)
-holds false c e = absurd cc
-
--- a test that is passed at each of them
-all_from-tells : (c a : ℕ) (test : ℕ → Bool) → all_from c a test ≡ true → (n : ℕ) → a ≤ n → n < a + c → test n ≡ true
-all_from-tells zero a test all n low high = absurd (omega arith)
-all_from-tells (suc c) a test all n low high =
-    let both = holds (test a) (all_from c (suc a) test) all in
-    go (n == a) refl both.0 (λ l. all_from-tells c (suc a) test both.1 n l (omega arith))
-  where
-    go : (b : Bool) → (n == a) ≡ b → test a ≡ true → (suc a ≤ n → test n ≡ true) → test n ≡ true
-    go true e here later = rw (eqb-true n a e) here
-    go false e here later = let other : n ≡ a → ⊥ = eqb-false n a e in later (omega arith)
-
--- the same width, or none on both sides
-abbrev pub same_option : Option ℕ → Option ℕ → Bool
-same_option None None = true
-same_option (Some a) (Some b) = a == b
-same_option _ _ = false
-
--- what that test tells
-same_option-tells : (a b : Option ℕ) → same_option a b ≡ true → a ≡ b
-same_option-tells None None e = refl
-same_option-tells (Some a) (Some b) e = ap (λ (x : ℕ). Some x) (eqb-true a b e)
-same_option-tells None (Some b) e = absurd cc
-same_option-tells (Some a) None e = absurd cc
 
 -- no row has the type
 abbrev unlisted : Rows → ℕ → Bool
@@ -58,39 +19,10 @@ unlisted (types first last flags class rows) n = if is_within first last n then 
 unlisted (unread m class rows) n = unlisted rows n
 unlisted (options m kinds rows) n = if n == m then false else unlisted rows n
 
--- each row ends below a bound
-abbrev ends_below : ℕ → Rows → Bool
-ends_below bound others = true
-ends_below bound (types first last flags class rows) = if nat_le bound last then false else ends_below bound rows
-ends_below bound (unread m class rows) = ends_below bound rows
-ends_below bound (options m kinds rows) = false
-
 -- where a test must fail for the next to count
 fails : (b c : Bool) → cond b false c ≡ true → (b ≡ false) × (c ≡ true)
 fails false c e = (refl, e)
 fails true c e = absurd cc
-
--- a type from the bound on is in no row
-unlisted-beyond : (bound : ℕ) (rows : Rows) → ends_below bound rows ≡ true → (n : ℕ) → bound ≤ n → unlisted rows n ≡ true
-unlisted-beyond bound others e n past = refl
-unlisted-beyond bound (types first last flags class rows) e n past =
-    let both = fails (nat_le bound last) (ends_below bound rows) e in
-    let below : last < bound = leb-false bound last both.0 in
-    rw (beyond first last n (omega arith)) (unlisted-beyond bound rows both.1 n past)
-unlisted-beyond bound (unread m class rows) e n past = unlisted-beyond bound rows e n past
-unlisted-beyond bound (options m kinds rows) e n past = absurd cc
-
--- a type in no row has no width
-width-beyond : (rows : Rows) (n : ℕ) → unlisted rows n ≡ true → width_at rows n ≡ None
-unfolding width_at
-width-beyond others n e = refl
-width-beyond (types first last flags class rows) n e =
-    let both = fails (is_within first last n) (unlisted rows n) e in
-    rw both.0 (width-beyond rows n both.1)
-width-beyond (unread m class rows) n e = width-beyond rows n e
-width-beyond (options m kinds rows) n e =
-    let both = fails (n == m) (unlisted rows n) e in
-    rw both.0 (width-beyond rows n both.1)
 
 -- a type of no row is canonical as it stands
 unlisted-canon : (rows : Rows) (n : ℕ) (k : List ℕ) (f : Frame) → unlisted rows n ≡ true → CanonRows rows n k f
@@ -140,65 +72,155 @@ width-canon (options m kinds rows) n k f w e = go (n == m) e (λ h. width-canon 
     go true h rest = absurd cc
     go false h rest = rest h
 
--- ---- flower's table: below 102 by a test at each type, and from there on no row has the type
+-- ---- the ranges that a table in order says, neighbours of one width joined
 
--- each range ends below a bound
-abbrev pub ranges_below : ℕ → List (ℕ × ℕ × ℕ) → Bool
-ranges_below n [] = true
-ranges_below n (w ∷ ws) = if nat_le n w.1 then false else ranges_below n ws
+-- a range before others, joined to the next one where that has its width and begins at the type after its last
+abbrev pub join : ℕ → ℕ → ℕ → List (ℕ × ℕ × ℕ) → List (ℕ × ℕ × ℕ)
+join first last w [] = (first, last, w) ∷ []
+join first last w (r ∷ ws) = if (suc last == r.0 && w == r.2) then (first, r.1, w) ∷ ws else (first, last, w) ∷ r ∷ ws
 
--- a type from the bound on is in no range
-look_up-beyond : (n : ℕ) (ws : List (ℕ × ℕ × ℕ)) → ranges_below n ws ≡ true → (m : ℕ) → n ≤ m → look_up ws m ≡ None
+-- the range of a row, where its types have a width
+abbrev pub with_range : ℕ → ℕ → Option ℕ → List (ℕ × ℕ × ℕ) → List (ℕ × ℕ × ℕ)
+with_range first last (Some w) ws = join first last w ws
+with_range first last None ws = ws
+
+abbrev pub width_of_row : ℕ → Class → Option ℕ
+width_of_row flags class = if flags == 0 then width_of_class class else None
+
+abbrev pub ranges : Rows → List (ℕ × ℕ × ℕ)
+ranges others = []
+ranges (types first last flags class rows) = with_range first last (width_of_row flags class) (ranges rows)
+ranges (unread m class rows) = ranges rows
+ranges (options m kinds rows) = ranges rows
+
+-- the first range isn't empty
+abbrev starts : List (ℕ × ℕ × ℕ) → Bool
+starts [] = true
+starts (r ∷ ws) = nat_le r.0 r.1
+
+join_starts : (first last w : ℕ) (ws : List (ℕ × ℕ × ℕ)) → first ≤ last → starts ws ≡ true → starts (join first last w ws) ≡ true
+join_starts first last w [] l e = grind (arith, nat_tests)
+join_starts first last w (r ∷ ws) l e = go (suc last == r.0 && w == r.2) refl
+  where
+    go : (b : Bool) → (suc last == r.0 && w == r.2) ≡ b → starts (cond b ((first, r.1, w) ∷ ws) ((first, last, w) ∷ r ∷ ws)) ≡ true
+    go true is = grind (arith, nat_tests)
+    go false is = grind (arith, nat_tests)
+
+ranges_start : (rows : Rows) (low : ℕ) → in_order low rows ≡ true → starts (ranges rows) ≡ true
+ranges_start others low ok = refl
+ranges_start (types first last flags class rows) low ok =
+    let order = and_parts (nat_le first last) _ (and_parts (nat_le low first) _ ok).1 in
+    go (width_of_row flags class) (leb-true first last order.0) (ranges_start rows (suc last) order.1)
+  where
+    go : (r : Option ℕ) → first ≤ last → starts (ranges rows) ≡ true → starts (with_range first last r (ranges rows)) ≡ true
+    go (Some w) l e = join_starts first last w (ranges rows) l e
+    go None l e = e
+ranges_start (unread m class rows) low ok = ranges_start rows (suc m) (and_parts (nat_le low m) _ ok).1
+ranges_start (options m kinds rows) low ok = ranges_start rows (suc m) (and_parts (nat_le low m) _ ok).1
+
+join_look_up : (first last w n : ℕ) (ws : List (ℕ × ℕ × ℕ)) → first ≤ last → starts ws ≡ true
+    → look_up (join first last w ws) n ≡ cond (is_within first last n) (Some w) (look_up ws n)
 unfolding look_up
-look_up-beyond n [] e m past = refl
-look_up-beyond n (w ∷ ws) e m past =
-    let both = fails (nat_le n w.1) (ranges_below n ws) e in
-    let below : w.1 < n = leb-false n w.1 both.0 in
-    rw (beyond w.0 w.1 m (omega arith)) (look_up-beyond n ws both.1 m past)
-
--- the ranges tell what the table tells
-unfoldable pub agrees : List (ℕ × ℕ × ℕ) → Bool
-agrees ws = if all_from 102 0 (λ n. same_option (look_up ws n) (width_at flower_options n)) then ranges_below 102 ws else false
-
--- so at every type, where the test is passed
-pub ranges-agree : (ws : List (ℕ × ℕ × ℕ)) → agrees ws ≡ true → (n : ℕ) → look_up ws n ≡ width_at flower_options n
-unfolding agrees
-ranges-agree ws e n = go (nat_lt n 102) refl
+join_look_up first last w n [] l e = refl
+join_look_up first last w n (r ∷ ws) l e = go (suc last == r.0 && w == r.2) refl
   where
-    both : (all_from 102 0 (λ n. same_option (look_up ws n) (width_at flower_options n)) ≡ true) × (ranges_below 102 ws ≡ true)
-    both = holds (all_from 102 0 (λ n. same_option (look_up ws n) (width_at flower_options n))) (ranges_below 102 ws) e
+    joined : suc last ≡ r.0 → is_within first r.1 n ≡ (is_within first last n || is_within r.0 r.1 n)
+    joined is = grind (arith, nat_tests)
 
-    go : (b : Bool) → nat_lt n 102 ≡ b → look_up ws n ≡ width_at flower_options n
-    go true low = same_option-tells _ _
-        (all_from-tells 102 0 (λ n. same_option (look_up ws n) (width_at flower_options n)) both.0 n (omega arith) (ltb-true n 102 low))
-    go false high =
-        let past : 102 ≤ n = ltb-false n 102 high in
-        look_up-beyond 102 ws both.1 n past ∙ sym (width-beyond flower_options n (unlisted-beyond 102 flower_options refl n past))
+    cond_or : (a b : Bool) (x y : Option ℕ) → cond (a || b) x y ≡ cond a x (cond b x y)
+    cond_or true b x y = refl
+    cond_or false b x y = refl
 
--- what was found in such ranges is the table's width
-pub found-width : (ws : List (ℕ × ℕ × ℕ)) (n : ℕ) (r : Option ℕ) → r ≡ look_up ws n → agrees ws ≡ true → r ≡ width_at flower_options n
-found-width ws n r is e = is ∙ ranges-agree ws e n
+    go : (b : Bool) → (suc last == r.0 && w == r.2) ≡ b
+        → look_up (cond b ((first, r.1, w) ∷ ws) ((first, last, w) ∷ r ∷ ws)) n ≡ cond (is_within first last n) (Some w) (look_up (r ∷ ws) n)
+    go true is =
+        let both = and_parts (suc last == r.0) (w == r.2) is in
+        rw (joined (eqb-true (suc last) r.0 both.0), ← eqb-true w r.2 both.1) (cond_or (is_within first last n) (is_within r.0 r.1 n) (Some w) (look_up ws n))
+    go false is = refl
 
--- a type that has no width, and is none of the six that are more than that, is in no row
-abbrev told : ℕ → Bool
-told n = if n == 2 then true else if n == 3 then true else if n == 68 then true else if n == 69 then true else if n == 70 then true else if n == 99 then true
-    else if is_some (width_at flower_options n) then true else unlisted flower_options n
-
--- each type below 102 is told
-told-all : all_from 102 0 told ≡ true
+-- a type before the first row has no width
+none_before : (rows : Rows) (low n : ℕ) → in_order low rows ≡ true → n < low → width_at rows n ≡ None
 unfolding width_at
-told-all = refl
-
--- a type other than these six, without a width, is in no row
-other-unlisted : (n : ℕ) → (n ≡ 2 → ⊥) → (n ≡ 3 → ⊥) → (n ≡ 68 → ⊥) → (n ≡ 69 → ⊥) → (n ≡ 70 → ⊥) → (n ≡ 99 → ⊥) → width_at flower_options n ≡ None
-    → unlisted flower_options n ≡ true
-other-unlisted n a b c d e f none = go (nat_lt n 102) refl
+none_before others low n ok under = refl
+none_before (types first last flags class rows) low n ok under =
+    let start = and_parts (nat_le low first) _ ok in
+    let order = and_parts (nat_le first last) _ start.1 in
+    let l : low ≤ first = leb-true low first start.0 in
+    let m : first ≤ last = leb-true first last order.0 in
+    rw (before first last n (omega (arith, l))) (none_before rows (suc last) n order.1 (omega (arith, l, m)))
   where
-    go : (t : Bool) → nat_lt n 102 ≡ t → unlisted flower_options n ≡ true
-    go true low =
-        let all : told n ≡ true = all_from-tells 102 0 told told-all n (omega arith) (ltb-true n 102 low) in
-        rw (ne_eqb n 2 a, ne_eqb n 3 b, ne_eqb n 68 c, ne_eqb n 69 d, ne_eqb n 70 e, ne_eqb n 99 f, none) at all
-    go false high = unlisted-beyond 102 flower_options refl n (ltb-false n 102 high)
+    before : (first last n : ℕ) → n < first → is_within first last n ≡ false
+    before first last n l = grind (arith, nat_tests)
+none_before (unread m class rows) low n ok under =
+    let start = and_parts (nat_le low m) _ ok in
+    let l : low ≤ m = leb-true low m start.0 in
+    none_before rows (suc m) n start.1 (omega (arith, l))
+none_before (options m kinds rows) low n ok under =
+    let start = and_parts (nat_le low m) _ ok in
+    let l : low ≤ m = leb-true low m start.0 in
+    rw (ne_eqb n m (λ is. omega (arith, is, l))) (none_before rows (suc m) n start.1 (omega (arith, l)))
+
+-- they say what the table says
+ranges_tell : (rows : Rows) (low n : ℕ) → in_order low rows ≡ true → look_up (ranges rows) n ≡ width_at rows n
+unfolding look_up width_at
+ranges_tell others low n ok = refl
+ranges_tell (types first last flags class rows) low n ok =
+    let order = and_parts (nat_le first last) _ (and_parts (nat_le low first) _ ok).1 in
+    go (width_of_row flags class) (leb-true first last order.0) (ranges_start rows (suc last) order.1) (ranges_tell rows (suc last) n order.1)
+    (none_before rows (suc last) n order.1)
+  where
+    go : (r : Option ℕ) → first ≤ last → starts (ranges rows) ≡ true → look_up (ranges rows) n ≡ width_at rows n → (n < suc last → width_at rows n ≡ None)
+        → look_up (with_range first last r (ranges rows)) n ≡ cond (is_within first last n) r (width_at rows n)
+    go (Some w) l e rest none = join_look_up first last w n (ranges rows) l e ∙ ap (cond (is_within first last n) (Some w)) rest
+    go None l e rest none = rest ∙ sym (at (is_within first last n) refl)
+      where
+        at : (b : Bool) → is_within first last n ≡ b → cond b None (width_at rows n) ≡ width_at rows n
+        at true is = let within : n ≤ last = leb-true n last (and_parts (nat_le first n) _ is).1 in sym (none (omega arith))
+        at false is = refl
+ranges_tell (unread m class rows) low n ok = ranges_tell rows (suc m) n (and_parts (nat_le low m) _ ok).1
+ranges_tell (options m kinds rows) low n ok =
+    let later = (and_parts (nat_le low m) _ ok).1 in
+    ranges_tell rows (suc m) n later ∙ sym (at (n == m) refl (none_before rows (suc m) n later))
+  where
+    at : (b : Bool) → (n == m) ≡ b → (n < suc m → width_at rows n ≡ None) → cond b None (width_at rows n) ≡ width_at rows n
+    at true is none = let same : n ≡ m = eqb-true n m is in sym (none (omega (arith, same)))
+    at false is none = refl
+
+-- what was found in the ranges of flower's table is its width
+pub found-width : (n : ℕ) (r : Option ℕ) → r ≡ look_up (ranges flower_options) n → r ≡ width_at flower_options n
+found-width n r is = is ∙ ranges_tell flower_options 0 n refl
+
+-- the types of the rows without a width
+abbrev without_width : Rows → ℕ → Bool
+without_width others n = false
+without_width (types first last flags class rows) n =
+    if is_some (width_of_row flags class) then without_width rows n else (is_within first last n || without_width rows n)
+without_width (unread m class rows) n = without_width rows n
+without_width (options m kinds rows) n = n == m || without_width rows n
+
+-- a type that has no width, and is none of these, is in no row
+other-unlisted : (rows : Rows) (n : ℕ) → width_at rows n ≡ None → without_width rows n ≡ false → unlisted rows n ≡ true
+unfolding width_at
+other-unlisted others n none e = refl
+other-unlisted (types first last flags class rows) n none e = go (width_of_row flags class) (is_within first last n) none e (other-unlisted rows n)
+  where
+    go : (r : Option ℕ) (b : Bool) → cond b r (width_at rows n) ≡ None → cond (is_some r) (without_width rows n) (b || without_width rows n) ≡ false
+        → (width_at rows n ≡ None → without_width rows n ≡ false → unlisted rows n ≡ true) → cond b false (unlisted rows n) ≡ true
+    go (Some w) true none e rest = absurd (cc none)
+    go (Some w) false none e rest = rest none e
+    go None true none e rest = absurd (cc e)
+    go None false none e rest = rest none e
+other-unlisted (unread m class rows) n none e = other-unlisted rows n none e
+other-unlisted (options m kinds rows) n none e = go (n == m) none e (other-unlisted rows n)
+  where
+    go : (b : Bool) → cond b None (width_at rows n) ≡ None → (b || without_width rows n) ≡ false
+        → (width_at rows n ≡ None → without_width rows n ≡ false → unlisted rows n ≡ true) → cond b false (unlisted rows n) ≡ true
+    go true none e rest = absurd (cc e)
+    go false none e rest = rest none e
+
+-- the six types of flower's table without a width
+special : (n : ℕ) → (n ≡ 2 → ⊥) → (n ≡ 3 → ⊥) → (n ≡ 68 → ⊥) → (n ≡ 69 → ⊥) → (n ≡ 70 → ⊥) → (n ≡ 99 → ⊥) → without_width flower_options n ≡ false
+special n a b c d e f = grind (arith, nat_tests)
 
 -- ---- the steps of flower's check
 
@@ -220,4 +242,4 @@ module _ (k : List ℕ) (f : Frame) (n : ℕ) (is : n ≡ type_of f.word) where
   -- an option of an unknown type
   pub other-decides : (n ≡ 2 → ⊥) → (n ≡ 3 → ⊥) → (n ≡ 68 → ⊥) → (n ≡ 69 → ⊥) → (n ≡ 70 → ⊥) → (n ≡ 99 → ⊥) → None ≡ width_at flower_options n
       → IsTrue true ↔ CanonRows flower_options (type_of f.word) k f
-  other-decides a b c d e g none = (λ t. rw (← is) (unlisted-canon flower_options n k f (other-unlisted n a b c d e g (sym none))), λ p. refl)
+  other-decides a b c d e g none = (λ t. rw (← is) (unlisted-canon flower_options n k f (other-unlisted flower_options n (sym none) (special n a b c d e g))), λ p. refl)

@@ -70,7 +70,7 @@ CanonAtEach Canon sets first fs = (i : ℕ) (f : Frame) → slice_get fs i ≡ S
 abbrev pub IsCanonAtEach : IsCanonAt → Sets Frame → List ℕ → List ℕ → Type 0
 IsCanonAtEach Canon sets first bytes = IsPaddedList (CanonAtEach Canon sets first) bytes
 
--- a list whose frames tell one kind, and are canonical under it
+-- a list whose frames set one kind, and are canonical under it
 abbrev pub IsCanonOwn : IsCanonAt → List ℕ → Type 0
 IsCanonOwn Canon bytes = (own : List ℕ) × IsPaddedList (λ fs. TellsOne fs own × CanonEach Canon keep own fs) bytes
 
@@ -102,7 +102,7 @@ abbrev mutual
   CanonTable (by_kind kinds) k f = CanonKinds kinds k f
 
   -- a frame of a type is canonical in the rows: it has the row's word and a canonical value; where no row has its
-  -- type, it is canonical as it stands
+  -- type, any word and any value are canonical
   pub CanonRows : Rows → ℕ → List ℕ → Frame → Type 0
   CanonRows others n k f = ⊤
   CanonRows (types first last flags class rows) n k f =
@@ -111,7 +111,7 @@ abbrev mutual
   CanonRows (options m kinds rows) n k f =
       MatchBool (n == m) (MatchBool (is_known kinds k) ((f.word ≡ n) × IsCanonList (CanonKinds kinds) keep k f.value) ⊤) (CanonRows rows n k f)
 
-  -- a frame is canonical in the table of its kind, and as it stands under an unknown kind
+  -- a frame is canonical in the table of its kind; under an unknown kind any frame is
   pub CanonKinds : Kinds → List ℕ → Frame → Type 0
   CanonKinds unknown k f = ⊤
   CanonKinds (kind name rows kinds) k f = MatchBool (bytes_eq k name) (CanonRows rows (type_of f.word) k f) (CanonKinds kinds k f)

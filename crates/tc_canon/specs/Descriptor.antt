@@ -1,4 +1,4 @@
--- The language of the tables: what stands in a frame's value, by the frame's type and the kind in force.
+-- The language of the tables: what a frame's value is, by the frame's type and the kind in force.
 use Rattle.std.specs.Prelude.{ℕ, Bool, true, false, List, ◌&&◌, nat_le, if◌then◌else◌}
 use Rattle.std.specs.Str.{bytes_eq}
 
@@ -42,7 +42,7 @@ mutual
     xstats : Class
     -- frames, each by a table under the kind in force
     list_of : Table → Class
-    -- frames, each by these rows under the kind that they tell themselves
+    -- frames, each by these rows under the kind that they set themselves
     own_list : Rows → Class
 
   -- what a frame is
@@ -56,13 +56,13 @@ mutual
 
   -- a table's rows, the first that fits counts
   pub data Rows : Type 0 where
-    -- every other type is kept as it stands
+    -- every other type is kept raw
     others : Rows
     -- types from one to another, the flags of their written words, their class
     types : ℕ → ℕ → ℕ → Class → Rows → Rows
     -- a type that is written and never read
     unread : ℕ → Class → Rows → Rows
-    -- a message's options: a list under a known kind, kept as it stands under any other
+    -- a message's options: a list under a known kind, kept raw under any other
     options : ℕ → Kinds → Rows → Rows
 
   -- the known kinds

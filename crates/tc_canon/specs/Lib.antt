@@ -4,4 +4,5 @@ pub mod Tables
 pub mod Kind
 pub mod Canonical
 pub mod Front
+pub mod Order
 pub mod Widths

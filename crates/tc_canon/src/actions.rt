@@ -65,7 +65,7 @@ impl Table for TunnelKeyOptions {
     }
 }
 
-/// Whether a value is a canonical list of an action's options, under the action's kind.
+/// True if a value is a canonical list of an action's options, under the action's kind.
 pub fn canon_action_options(value: &[u8], kind: &[u8]) -> bool
     ensures { IsTrue result
         ↔ CanonClass (list_of (by_kind action_option_kinds)) kind.now value.now }
@@ -100,7 +100,7 @@ impl Table for ActionAttributes {
     }
 }
 
-/// Whether a value is that of a canonical action: frames that tell one kind, and are canonical under it.
+/// True if a value is that of a canonical action: frames that set one kind, and are canonical under it.
 pub fn canon_action(value: &[u8]) -> bool
     ensures { IsTrue result ↔ CanonAction value.now }
 {
@@ -121,7 +121,7 @@ impl Table for Actions {
     }
 }
 
-/// Whether a value is a canonical list of actions, which is the same under every kind.
+/// True if a value is a canonical list of actions, which is the same under every kind.
 pub fn canon_actions(value: &[u8]) -> bool
     ensures { (kind : List ℕ) → IsTrue result ↔ CanonClass actions kind value.now }
 {

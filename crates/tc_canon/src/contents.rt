@@ -9,14 +9,14 @@ ghost use Rattle.tc_canon.specs.Canonical.{IsTerminated, IsUnterminated};
 
 use nla_frames::{NLA_F_NESTED, NlaBuffer};
 
-/// The word is the type: it has no flags.
+/// True if the word has no flags.
 pub(crate) fn is_plain(frame: &NlaBuffer<'_>) -> bool
     ensures { IsTrue result ↔ (frame_of frame.now).word ≡ type_of (frame_of frame.now).word }
 {
     frame.word() == frame.kind()
 }
 
-/// The word has the nested flag, and no other.
+/// True if the word has `NLA_F_NESTED` and not `NLA_F_NET_BYTEORDER`.
 pub(crate) fn is_nested(frame: &NlaBuffer<'_>) -> bool
     ensures { IsTrue result
         ↔ (frame_of frame.now).word ≡ 0x8000 + type_of (frame_of frame.now).word }

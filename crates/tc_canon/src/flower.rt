@@ -41,7 +41,7 @@ impl Table for MplsOptions {
     }
 }
 
-/// Whether a value is a canonical list of the options of one MPLS label stack entry, which is the same under every kind.
+/// True if a value is a canonical list of the options of one MPLS label stack entry, which is the same under every kind.
 pub fn canon_lse(value: &[u8]) -> bool
     ensures { (kind : List ℕ)
         → IsTrue result ↔ CanonClass (list_of (table lse_options)) kind value.now }
@@ -49,7 +49,7 @@ pub fn canon_lse(value: &[u8]) -> bool
     is_canonical_list::<LseOptions>(value, &[])
 }
 
-/// Whether a value is a canonical list of MPLS options, which is the same under every kind.
+/// True if a value is a canonical list of MPLS options, which is the same under every kind.
 pub fn canon_mpls(value: &[u8]) -> bool
     ensures { (kind : List ℕ)
         → IsTrue result ↔ CanonClass (list_of (table mpls_options)) kind value.now }

@@ -1,4 +1,4 @@
-//! The kinds that frames tell.
+//! The kinds that frames set.
 
 ghost use Rattle.std.specs.Prelude.{◌≡◌, List, ℕ, MatchOption};
 ghost use Rattle.nla_frames.specs.Buffer.{frame_of};
@@ -10,8 +10,8 @@ use crate::front::split_padded;
 use nla_frames::NlaBuffer;
 use nla_frames::values::read::strip_nul;
 
-/// The one kind that the frames of an action tell, wherever it stands. None where they tell no kind or several, or
-/// the bytes are no frames that are padded with zeros.
+/// The one kind that the frames of an action set, at any place among them; `None` where they set no kind or several, or
+/// the bytes aren't frames padded with zeros.
 pub(crate) fn own_kind(value: &[u8]) -> Option<&[u8]>
     ensures { MatchOption result
         ((own : List ℕ) → IsPaddedList (λ fs. TellsOne fs own) value.now → ⊥)
@@ -36,7 +36,7 @@ pub(crate) fn own_kind(value: &[u8]) -> Option<&[u8]>
     own
 }
 
-/// The kind in force after a frame.
+/// The kind after a frame: its text where it is a `TCA_KIND`, and else the kind before it.
 pub(crate) fn kind_after<'a>(kind: &'a [u8], frame: &NlaBuffer<'a>) -> &'a [u8]
     ensures { result.now ≡ kind_then kind_of_frame kind.now (frame_of frame.now) }
 {

@@ -13,12 +13,12 @@ use nla_frames::NlaBuffer;
 pub(crate) trait Table {
     ghost Canon: { IsCanonAt };
 
-    /// Whether a frame is canonical in this table, under a kind.
+    /// True if a frame is canonical in this table, under a kind.
     fn is_canonical(kind: &[u8], frame: &NlaBuffer<'_>) -> bool
         ensures { IsTrue result ↔ Self.Canon kind.now (frame_of frame.now) };
 }
 
-/// A table that knows no type: every frame is canonical as it stands.
+/// A table that knows no type: every frame is canonical.
 pub(crate) struct NoTypes;
 
 impl Table for NoTypes {
@@ -29,7 +29,7 @@ impl Table for NoTypes {
     }
 }
 
-/// Whether the bytes are frames, each padded in full with zeros and canonical in its table, under a kind.
+/// True if the bytes are frames, each padded in full with zeros and canonical in its table, under a kind.
 pub(crate) fn is_canonical_list<T: Table>(bytes: &[u8], kind: &[u8]) -> bool
     ensures { IsTrue result ↔ IsCanonList T.Canon keep kind.now bytes.now }
 {

@@ -57,7 +57,7 @@ impl Table for ActionMessageAttributes {
     }
 }
 
-/// Whether the bytes are the canonical attributes of a traffic control message, each under the kind that is set last
+/// True if the bytes are the canonical attributes of a traffic control message, each under the kind that is set last
 /// before it.
 fn is_canonical_body(bytes: &[u8]) -> bool
     ensures { IsTrue result
@@ -80,7 +80,7 @@ fn is_canonical_body(bytes: &[u8]) -> bool
     true
 }
 
-/// Whether the bytes are a canonical traffic control message.
+/// True if the bytes are a canonical traffic control message.
 pub fn is_canonical_tc(bytes: &[u8]) -> bool
     ensures { IsTrue result ↔ CanonTc bytes.now }
 {
@@ -91,7 +91,7 @@ pub fn is_canonical_tc(bytes: &[u8]) -> bool
     is_tc_header(header) && is_canonical_body(body)
 }
 
-/// Whether the bytes are a canonical action message.
+/// True if the bytes are a canonical action message.
 pub fn is_canonical_action(bytes: &[u8]) -> bool
     ensures { IsTrue result ↔ CanonAct bytes.now }
 {

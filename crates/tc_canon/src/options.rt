@@ -79,7 +79,7 @@ impl Table for BpfOptions {
     }
 }
 
-/// Whether the options of a message have a table under this kind.
+/// True if the options of a message have a table under this kind.
 pub(crate) fn has_options(kind: &[u8]) -> bool
     ensures { IsTrue result ↔ is_known option_kinds kind.now ≡ true }
 {
@@ -91,8 +91,8 @@ pub(crate) fn has_options(kind: &[u8]) -> bool
         || kind == b"bpf".as_slice()
 }
 
-/// Whether a value is a canonical list of options under a kind. Ingress knows no type; under an unknown kind no list
-/// stands there.
+/// True if a value is a canonical list of options under a kind. Ingress knows no type; under an unknown kind options are
+/// no list.
 pub fn canon_options(value: &[u8], kind: &[u8]) -> bool
     ensures { IsTrue result ↔ CanonOptions kind.now value.now }
 {

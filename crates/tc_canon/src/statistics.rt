@@ -42,7 +42,7 @@ impl Table for Stats2 {
     }
 }
 
-/// Whether a value is a canonical list of statistics, under a kind.
+/// True if a value is a canonical list of statistics, under a kind.
 pub fn canon_stats2(value: &[u8], kind: &[u8]) -> bool
     ensures { IsTrue result ↔ CanonClass (list_of (table stats2)) kind.now value.now }
 {

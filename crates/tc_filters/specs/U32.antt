@@ -1,5 +1,5 @@
 -- An option of u32 as contracts see it.
-use Rattle.std.specs.Prelude.{map}
+use Rattle.std.specs.Prelude.{◌≡◌, map}
 use Rattle.nla_frames.specs.DefaultNla.{kept_frame}
 use Rattle.tc_canon.specs.Descriptor.{selector}
 use Rattle.tc_meaning.specs.Tree.{Attribute, known, other, number, is_bytes, items, attributes_of}
@@ -33,6 +33,19 @@ u32_option (Pnct bytes) = known 9 (is_bytes bytes.items)
 u32_option (Mark bytes) = known 10 (is_bytes bytes.items)
 u32_option (Flags flags) = known 11 (number (option_flags_word flags))
 u32_option (Other nla) = other (kept_frame nla).word (kept_frame nla).value
+
+-- two options hold the same: the same handle's number, a selector with the same fields and keys, actions that are seen
+-- alike one by one, the same bytes; one that is kept raw the same word and payload; all others are equal
+abbrev pub SameU32 : {A : Type 0} → TcFilterU32Option A → TcFilterU32Option A → Type 0
+SameU32 (ClassId h) (ClassId k) = handle_number h ≡ handle_number k
+SameU32 (Selector s) (Selector t) = selector_of s ≡ selector_of t
+SameU32 (Police v) (Police w) = v.items ≡ w.items
+SameU32 (Action v) (Action w) = map tc_action v.items ≡ map tc_action w.items
+SameU32 (Indev v) (Indev w) = v.items ≡ w.items
+SameU32 (Pnct v) (Pnct w) = v.items ≡ w.items
+SameU32 (Mark v) (Mark w) = v.items ≡ w.items
+SameU32 (Other x) (Other y) = kept_frame x ≡ kept_frame y
+SameU32 a b = a ≡ b
 
 -- a selector as the value of an attribute
 abbrev pub selector_part : {A : Type 0} → Inner (Record (TcU32Selector A))

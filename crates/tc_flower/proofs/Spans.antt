@@ -1,88 +1,127 @@
--- A test of types that agrees with a table at each type below a bound, and fails from there on, agrees with it everywhere.
-use Rattle.std.proofs.Common.{◌≡◌, ℕ, suc, zero, ◌+◌, ◌<◌, ◌≤◌, Bool, true, false, cond, refl, sym, ◌∙◌, arith}
-use Rattle.std.specs.Prelude.{◌==◌, nat_le, nat_lt, if◌then◌else◌}
-use Rattle.std.proofs.lemmas.Bool.{eqb-true, eqb-false, leb-false, ltb-true, ltb-false}
+-- What a table reads is what its spans say, where its rows are in order.
+use Rattle.std.proofs.Common.{◌≡◌, ℕ, suc, ◌+◌, ◌≤◌, ◌<◌, List, [], ◌∷◌, Bool, true, false, cond, refl, arith}
+use Rattle.std.specs.Prelude.{◌==◌, ◌||◌, nat_le}
+use Rattle.std.proofs.Math.Bool.{or_assoc}
+use Rattle.std.proofs.lemmas.Bool.{and_parts, eqb-true, leb-true, ne_eqb}
 use Rattle.std.proofs.lemmas.Bool.Decides.{nat_tests}
-use Rattle.tc_canon.specs.Descriptor.{Rows, others, types, unread, options, is_within}
+use Rattle.nla_frames.specs.Fault.{seen}
+use Rattle.nla_frames.specs.Frame.{Frame}
+use Rattle.tc_canon.specs.Descriptor.{Class, le, be, array, Rows, others, types, unread, options, is_within}
+use Rattle.tc_canon.specs.Order.{in_order}
+use Rattle.tc_meaning.specs.Tree.{known}
+use Rattle.tc_meaning.specs.Meaning.{class_codec, rows_codec, choose, row_frames}
 use Rattle.tc_values.specs.Row.{reads_at}
+use Rattle.tc_flower.specs.Spans.{same_class, holds, join, spans, is_in}
 
--- a type past the last one of a row
-beyond : (first last n : ℕ) → last < n → is_within first last n ≡ false
-beyond first last n past = grind (arith, nat_tests)
+same_class-tells : (a b : Class) → same_class a b ≡ true → a ≡ b
+same_class-tells (le m) (le n) e = rw (eqb-true m n e) refl
+same_class-tells (be m) (be n) e = rw (eqb-true m n e) refl
+same_class-tells (array m) (array n) e = rw (eqb-true m n e) refl
+same_class-tells a b e = absurd (cc e)
 
--- one answer
-abbrev same : Bool → Bool → Bool
-same true b = b
-same false true = false
-same false false = true
+-- so later rows have later types
+holds_above : (class : Class) (rows : Rows) (low n : ℕ) → in_order low rows ≡ true → holds class rows n ≡ true → low ≤ n
+holds_above class others low n ok e = absurd (cc e)
+holds_above class (types first last flags c rows) low n ok e = grind (arith, nat_tests, holds_above class rows (suc last) n)
+holds_above class (unread m c rows) low n ok e = grind (arith, nat_tests, holds_above class rows (suc m) n)
+holds_above class (options m kinds rows) low n ok e = grind (arith, nat_tests, holds_above class rows (suc m) n)
 
-same-tells : (a b : Bool) → same a b ≡ true → a ≡ b
-same-tells true true e = refl
-same-tells true false e = absurd (cc e)
-same-tells false true e = absurd (cc e)
-same-tells false false e = refl
+reads_above : (rows : Rows) (low n : ℕ) → in_order low rows ≡ true → reads_at rows n ≡ true → low ≤ n
+reads_above others low n ok e = absurd (cc e)
+reads_above (types first last flags c rows) low n ok e = grind (arith, nat_tests, reads_above rows (suc last) n)
+reads_above (unread m c rows) low n ok e = grind (arith, nat_tests, reads_above rows (suc m) n)
+reads_above (options m kinds rows) low n ok e = grind (arith, nat_tests, reads_above rows (suc m) n)
 
--- a test of two is passed by both
-both_hold : (b c : Bool) → cond b c false ≡ true → (b ≡ true) × (c ≡ true)
-both_hold true c e = (refl, e)
-both_hold false c e = absurd (cc e)
+-- ---- what a table reads at a type of a span of a class
 
-first_fails : (b c : Bool) → cond b false c ≡ true → (b ≡ false) × (c ≡ true)
-first_fails false c e = (refl, e)
-first_fails true c e = absurd (cc e)
-
--- two tests agree at so many types from one on
-abbrev pub agree_from : ℕ → ℕ → (ℕ → Bool) → (ℕ → Bool) → Bool
-agree_from zero a test other = true
-agree_from (suc c) a test other = if same (test a) (other a) then agree_from c (suc a) test other else false
-
-pub agree_from-tells : (c a : ℕ) (test other : ℕ → Bool) → agree_from c a test other ≡ true → (n : ℕ) → a ≤ n → n < a + c → test n ≡ other n
-agree_from-tells zero a test other all n low high = absurd (omega arith)
-agree_from-tells (suc c) a test other all n low high =
-    let both = both_hold (same (test a) (other a)) (agree_from c (suc a) test other) all in
-    go (n == a) refl (same-tells (test a) (other a) both.0) (λ l. agree_from-tells c (suc a) test other both.1 n l (omega arith))
+pub class_read : (class : Class) (rows : Rows) (low n : ℕ) → in_order low rows ≡ true → holds class rows n ≡ true → (k : List ℕ) (f : Frame)
+    → (rows_codec rows n).read k f ≡ seen (known n) ((class_codec class).read k f.value)
+class_read class others low n ok e k f = absurd (cc e)
+class_read class (types first last flags c rows) low n ok e k f =
+    let later = (and_parts (nat_le first last) _ (and_parts (nat_le low first) _ ok).1).1 in
+    go (same_class class c) (is_within first last n) refl refl e (λ h. holds_above class rows (suc last) n later h)
+    (λ h. class_read class rows (suc last) n later h k f)
   where
-    go : (b : Bool) → (n == a) ≡ b → test a ≡ other a → (suc a ≤ n → test n ≡ other n) → test n ≡ other n
-    go true e here later = rw (eqb-true n a e) here
-    go false e here later = let apart : n ≡ a → ⊥ = eqb-false n a e in later (omega arith)
+    go : (s b : Bool) → same_class class c ≡ s → is_within first last n ≡ b → cond s (b || holds class rows n) (holds class rows n) ≡ true
+        → (holds class rows n ≡ true → last < n)
+        → (holds class rows n ≡ true → (rows_codec rows n).read k f ≡ seen (known n) ((class_codec class).read k f.value))
+        → (choose b (row_frames (flags + n) n (class_codec c)) (rows_codec rows n)).read k f ≡ seen (known n) ((class_codec class).read k f.value)
+    go true true same here e above rest = rw (same_class-tells class c same) refl
+    go true false same here e above rest = rest e
+    go false false same here e above rest = rest e
+    go false true same here e above rest =
+        let past : last < n = above e in
+        let within : n ≤ last = leb-true n last (and_parts (nat_le first n) _ here).1 in
+        absurd (omega arith)
+class_read class (unread m c rows) low n ok e k f =
+    let later = (and_parts (nat_le low m) _ ok).1 in
+    let past : m < n = holds_above class rows (suc m) n later e in
+    rw (ne_eqb n m (λ is. omega (arith, is, past))) (class_read class rows (suc m) n later e k f)
+class_read class (options m kinds rows) low n ok e k f =
+    let later = (and_parts (nat_le low m) _ ok).1 in
+    let past : m < n = holds_above class rows (suc m) n later e in
+    rw (ne_eqb n m (λ is. omega (arith, is, past))) (class_read class rows (suc m) n later e k f)
 
--- each row ends below a bound
-abbrev pub ends_below : ℕ → Rows → Bool
-ends_below bound others = true
-ends_below bound (types first last flags class rows) = if nat_le bound last then false else ends_below bound rows
-ends_below bound (unread m class rows) = if nat_le bound m then false else ends_below bound rows
-ends_below bound (options m kinds rows) = if nat_le bound m then false else ends_below bound rows
+-- ---- what a table reads at all
 
--- a type from the bound on isn't read
-unread-beyond : (bound : ℕ) (rows : Rows) → ends_below bound rows ≡ true → (n : ℕ) → bound ≤ n → reads_at rows n ≡ false
-unread-beyond bound others e n past = refl
-unread-beyond bound (types first last flags class rows) e n past =
-    let both = first_fails (nat_le bound last) (ends_below bound rows) e in
-    let below : last < bound = leb-false bound last both.0 in
-    rw (beyond first last n (omega arith)) (unread-beyond bound rows both.1 n past)
-unread-beyond bound (unread m class rows) e n past =
-    let both = first_fails (nat_le bound m) (ends_below bound rows) e in
-    let below : m < bound = leb-false bound m both.0 in
-    go (n == m) (unread-beyond bound rows both.1 n past)
-  where
-    go : (b : Bool) → reads_at rows n ≡ false → cond b false (reads_at rows n) ≡ false
-    go true rest = refl
-    go false rest = rest
-unread-beyond bound (options m kinds rows) e n past =
-    let both = first_fails (nat_le bound m) (ends_below bound rows) e in
-    let below : m < bound = leb-false bound m both.0 in
-    go (n == m) refl below (unread-beyond bound rows both.1 n past)
-  where
-    go : (b : Bool) → (n == m) ≡ b → m < bound → reads_at rows n ≡ false → cond b true (reads_at rows n) ≡ false
-    go true is below rest = let here : n ≡ m = eqb-true n m is in absurd (omega arith)
-    go false is below rest = rest
+-- the first span isn't empty
+abbrev starts : List (ℕ × ℕ) → Bool
+starts [] = true
+starts (s ∷ ss) = nat_le s.0 s.1
 
-pub reads_as : (bound : ℕ) (rows : Rows) (test : ℕ → Bool) → agree_from bound 0 test (reads_at rows) ≡ true → ends_below bound rows ≡ true
-    → ((n : ℕ) → bound ≤ n → test n ≡ false) → (n : ℕ) → test n ≡ reads_at rows n
-reads_as bound rows test below ends none n = go (nat_lt n bound) refl
+join_starts : (first last : ℕ) (ss : List (ℕ × ℕ)) → first ≤ last → starts ss ≡ true → starts (join first last ss) ≡ true
+join_starts first last [] l e = grind (arith, nat_tests)
+join_starts first last (s ∷ ss) l e = go (suc last == s.0) refl
   where
-    go : (b : Bool) → nat_lt n bound ≡ b → test n ≡ reads_at rows n
-    go true low = agree_from-tells bound 0 test (reads_at rows) below n (omega arith) (let under : n < bound = ltb-true n bound low in omega arith)
-    go false high =
-        let past : bound ≤ n = ltb-false n bound high in
-        none n past ∙ sym (unread-beyond bound rows ends n past)
+    go : (b : Bool) → (suc last == s.0) ≡ b → starts (cond b ((first, s.1) ∷ ss) ((first, last) ∷ s ∷ ss)) ≡ true
+    go true is = grind (arith, nat_tests)
+    go false is = grind (arith, nat_tests)
+
+spans_start : (rows : Rows) (low : ℕ) → in_order low rows ≡ true → starts (spans rows) ≡ true
+spans_start others low ok = refl
+spans_start (types first last flags c rows) low ok =
+    let order = and_parts (nat_le first last) _ (and_parts (nat_le low first) _ ok).1 in
+    join_starts first last (spans rows) (leb-true first last order.0) (spans_start rows (suc last) order.1)
+spans_start (unread m c rows) low ok = spans_start rows (suc m) (and_parts (nat_le low m) _ ok).1
+spans_start (options m kinds rows) low ok = join_starts m m (spans rows) (omega arith) (spans_start rows (suc m) (and_parts (nat_le low m) _ ok).1)
+
+join_in : (first last n : ℕ) (ss : List (ℕ × ℕ)) → first ≤ last → starts ss ≡ true → is_in (join first last ss) n ≡ (is_within first last n || is_in ss n)
+join_in first last n [] l e = refl
+join_in first last n (s ∷ ss) l e = go (suc last == s.0) refl
+  where
+    joined : suc last ≡ s.0 → is_within first s.1 n ≡ (is_within first last n || is_within s.0 s.1 n)
+    joined is = grind (arith, nat_tests)
+
+    go : (b : Bool) → (suc last == s.0) ≡ b
+        → is_in (cond b ((first, s.1) ∷ ss) ((first, last) ∷ s ∷ ss)) n ≡ (is_within first last n || is_in (s ∷ ss) n)
+    go true is = rw (joined (eqb-true (suc last) s.0 is), or_assoc (is_within first last n)) refl
+    go false is = refl
+
+or_cond : (a b : Bool) → (a || b) ≡ cond a true b
+or_cond true b = refl
+or_cond false b = refl
+
+pub spans_read : (rows : Rows) (low n : ℕ) → in_order low rows ≡ true → is_in (spans rows) n ≡ reads_at rows n
+spans_read others low n ok = refl
+spans_read (types first last flags c rows) low n ok =
+    let order = and_parts (nat_le first last) _ (and_parts (nat_le low first) _ ok).1 in
+    rw (join_in first last n (spans rows) (leb-true first last order.0) (spans_start rows (suc last) order.1), spans_read rows (suc last) n order.1)
+    (or_cond (is_within first last n) (reads_at rows n))
+spans_read (unread m c rows) low n ok =
+    let later = (and_parts (nat_le low m) _ ok).1 in
+    rw (spans_read rows (suc m) n later) (go (reads_at rows n) (reads_above rows (suc m) n later))
+  where
+    both_ways : (c : Bool) → false ≡ cond c false false
+    both_ways true = refl
+    both_ways false = refl
+
+    go : (b : Bool) → (b ≡ true → m < n) → b ≡ cond (n == m) false b
+    go true above = let past : m < n = above refl in rw (ne_eqb n m (λ is. omega (arith, is, past))) refl
+    go false above = both_ways (n == m)
+spans_read (options m kinds rows) low n ok =
+    let later = (and_parts (nat_le low m) _ ok).1 in
+    rw (join_in m m n (spans rows) (omega arith) (spans_start rows (suc m) later), spans_read rows (suc m) n later, alone)
+    (or_cond (n == m) (reads_at rows n))
+  where
+    alone : is_within m m n ≡ (n == m)
+    alone = grind (arith, nat_tests)

@@ -1,8 +1,9 @@
 -- What an option of flower holds, and the types under which it does.
-use Rattle.std.specs.Prelude.{◌≡◌, ◌||◌, ◌==◌, ℕ, Bool, true, map, string_bytes}
+use Rattle.std.specs.Prelude.{◌≡◌, ◌&&◌, ◌==◌, not, ℕ, Bool, true, map, string_bytes}
 use Rattle.std.specs.Net.Addr.{ipv4_octets, ipv6_octets}
 use Rattle.nla_frames.specs.DefaultNla.{kept_frame}
-use Rattle.tc_canon.specs.Descriptor.{is_within}
+use Rattle.tc_canon.specs.Descriptor.{le, be, array, is_within}
+use Rattle.tc_canon.specs.Tables.Flower.{flower_options}
 use Rattle.tc_meaning.specs.Tree.{Attribute, known, other, number, is_bytes, items, attributes_of}
 use Rattle.tc_actions.specs.Action.{tc_action}
 use Rattle.tc_flower.specs.declared.filters.flower.options.TcFilterFlowerOption.{TcFilterFlowerOption}
@@ -10,57 +11,26 @@ use Rattle.tc_flower.specs.declared.filters.flower.options.TcFilterFlowerOption.
 use Rattle.tc_flower.specs.declared.filters.flower.options.held.Held.{Held}
 use Rattle.tc_flower.specs.declared.filters.flower.options.held.Held.TheVariants as held
 use Rattle.tc_flower.specs.Mpls.{mpls_option}
+use Rattle.tc_flower.specs.Spans.{holds}
 
--- the types of options that hold a MAC address
-abbrev pub holds_mac : ℕ → Bool
-holds_mac n = is_within 4 7 n || is_within 63 66 n
-
--- the types of options that hold an IPv4 address
-abbrev pub holds_ipv4 : ℕ → Bool
-holds_ipv4 n = is_within 10 13 n || is_within 27 30 n || is_within 57 60 n
-
--- the types of options that hold an IPv6 address
-abbrev pub holds_ipv6 : ℕ → Bool
-holds_ipv6 n = is_within 14 17 n || is_within 31 34 n
-
--- the types of options that hold labels in connection tracking
-abbrev pub holds_labels : ℕ → Bool
-holds_labels n = is_within 97 98 n
-
--- the types of options that hold a number of one byte
-abbrev pub holds_u8 : ℕ → Bool
-holds_u8 n = n == 9 || n == 24 || is_within 49 56 n || is_within 61 62 n || n == 67 || is_within 73 76 n || n == 78 || is_within 80 83 n
-
--- the types of options that hold a number of two bytes
-abbrev pub holds_u16 : ℕ → Bool
-holds_u16 n = n == 23 || n == 77 || is_within 91 94 n
-
--- the types of options that hold a number of two bytes, big-endian
-abbrev pub holds_u16_be : ℕ → Bool
-holds_u16_be n = n == 8 || is_within 18 21 n || n == 25 || is_within 35 46 n || is_within 71 72 n || n == 79 || is_within 87 90 n
-
--- the types of options that hold a number of four bytes
-abbrev pub holds_u32 : ℕ → Bool
-holds_u32 n = n == 22 || n == 86 || is_within 95 96 n || is_within 100 101 n
-
--- the types of options that hold a number of four bytes, big-endian
-abbrev pub holds_u32_be : ℕ → Bool
-holds_u32_be n = n == 26 || is_within 47 48 n
+-- the types of labels in connection tracking, which have as many bytes as an IPv6 address
+abbrev pub are_labels : ℕ → Bool
+are_labels n = is_within 97 98 n
 
 -- the types under which an option holds it
 abbrev pub is_held_at : {A : Type 0} → Held A → ℕ → Bool
 is_held_at (held.ClassId m) n = n == 1
 is_held_at (held.Name name) n = n == 2
 is_held_at (held.Actions actions) n = n == 3
-is_held_at (held.Mac mac) n = holds_mac n
-is_held_at (held.Ipv4 ip) n = holds_ipv4 n
-is_held_at (held.Ipv6 ip) n = holds_ipv6 n
-is_held_at (held.Labels labels) n = holds_labels n
-is_held_at (held.U8 m) n = holds_u8 n
-is_held_at (held.U16 m) n = holds_u16 n
-is_held_at (held.U16Be m) n = holds_u16_be n
-is_held_at (held.U32 m) n = holds_u32 n
-is_held_at (held.U32Be m) n = holds_u32_be n
+is_held_at (held.Mac mac) n = holds (array 6) flower_options n
+is_held_at (held.Ipv4 ip) n = holds (array 4) flower_options n
+is_held_at (held.Ipv6 ip) n = holds (array 16) flower_options n && not (are_labels n)
+is_held_at (held.Labels labels) n = are_labels n
+is_held_at (held.U8 m) n = holds (le 1) flower_options n
+is_held_at (held.U16 m) n = holds (le 2) flower_options n
+is_held_at (held.U16Be m) n = holds (be 2) flower_options n
+is_held_at (held.U32 m) n = holds (le 4) flower_options n
+is_held_at (held.U32Be m) n = holds (be 4) flower_options n
 is_held_at (held.Bits1 m) n = n == 68
 is_held_at (held.Bits3 m) n = n == 69
 is_held_at (held.Bits20 m) n = n == 70

@@ -1,4 +1,5 @@
 pub mod Mpls
 pub mod Flower
+pub mod Spans
 pub mod Held
 pub mod Reading

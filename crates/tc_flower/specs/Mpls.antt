@@ -1,5 +1,5 @@
 -- What flower matches of a label stack, as contracts see it.
-use Rattle.std.specs.Prelude.{map}
+use Rattle.std.specs.Prelude.{◌≡◌, map}
 use Rattle.nla_frames.specs.DefaultNla.{kept_frame}
 use Rattle.tc_canon.specs.Descriptor.{table}
 use Rattle.tc_canon.specs.Tables.Flower.{lse_options}
@@ -20,9 +20,21 @@ lse_option (lse.LseTc n) = known 4 (number n)
 lse_option (lse.LseLabel n) = known 5 (number n)
 lse_option (lse.Other nla) = other (kept_frame nla).word (kept_frame nla).value
 
+-- two of them hold the same: one that is kept raw the same word and payload; all others are equal
+abbrev pub SameLse : {A : Type 0} → TcFilterFlowerMplsLseOption A → TcFilterFlowerMplsLseOption A → Type 0
+SameLse (lse.Other x) (lse.Other y) = kept_frame x ≡ kept_frame y
+SameLse a b = a ≡ b
+
 abbrev pub mpls_option : {A : Type 0} → TcFilterFlowerMplsOption A → Attribute
 mpls_option (mpls.Lse entries) = known 1 (items (attributes_of (map lse_option entries.items)))
 mpls_option (mpls.Other nla) = other (kept_frame nla).word (kept_frame nla).value
+
+-- two options hold the same: what is matched of an entry is seen alike one by one; one that is kept raw the same word
+-- and payload
+abbrev pub SameMpls : {A : Type 0} → TcFilterFlowerMplsOption A → TcFilterFlowerMplsOption A → Type 0
+SameMpls (mpls.Lse v) (mpls.Lse w) = map lse_option v.items ≡ map lse_option w.items
+SameMpls (mpls.Other x) (mpls.Other y) = kept_frame x ≡ kept_frame y
+SameMpls a b = ⊥
 
 -- what is nested in the options of MPLS
 abbrev pub lse_lists : {A : Type 0} → Inner (Items (TcFilterFlowerMplsLseOption A))

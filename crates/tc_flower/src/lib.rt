@@ -1,4 +1,4 @@
-//! The flower filter: the options that say which packets it matches and what it does with them, MPLS among them.
+//! The flower filter: its options, and those of MPLS in them.
 #![tactic(auto)]
 
 pub mod filters;

@@ -1,15 +1,23 @@
--- How bytes become canonical by rewriting them.
+-- How bytes become canonical by rewriting them: the laws of rewriting, for any table.
 use Rattle.std.proofs.Common.{◌≡◌, ◌↔◌, ℕ, zero, suc, ◌-◌, ◌<◌, Bool, true, false, List, [], ◌∷◌, length, Ok, refl, sym, ap, subst, ◌∙◌, arith}
 use Rattle.std.specs.List.{AllByRecursion, list_any}
 use Rattle.std.specs.Prelude.{◌||◌}
 use Rattle.nla_frames.specs.Fault.{read_as}
 use Rattle.nla_frames.specs.Codec.{Codec, Laws, IsWireBytes}
-use Rattle.tc_meaning.specs.Message.{Message}
-use Rattle.tc_laws.specs.Loose.{Part, is_loose_part}
-use Rattle.tc_laws.specs.Rewriting.{Rewrites, RewritesTimes, SettlesAs, SettlesIn}
+use Rattle.nla_frames.specs.Frame.{Frame}
+use Rattle.nla_frames.specs.Place.{Sets}
+use Rattle.tc_canon.specs.Descriptor.{Field, Rows}
+use Rattle.tc_meaning.specs.Tree.{Attribute}
+use Rattle.tc_meaning.specs.Message.{Message, message_codec}
+use Rattle.tc_meaning.specs.Whole.{Words, words_of}
+use Rattle.tc_meaning.proofs.MessageLaws.{one_message}
+use Rattle.tc_meaning.proofs.MessageTheorems.{correspond}
+use Rattle.tc_laws.specs.Norm.{next as next_of, norm as norm_of}
+use Rattle.tc_laws.specs.Loose.{Part, is_loose_part, is_loose, message_parts}
+use Rattle.tc_laws.specs.Rewriting.{Rewrites, RewritesTimes, SettlesAs, SettlesIn, Ends, Rewriting}
 use Rattle.tc_meaning.proofs.Outcomes.{ok-same}
 use Rattle.tc_laws.proofs.MostNuls.{most}
-use Rattle.tc_laws.proofs.TrimLaws.{TrimLaws, most-whole, whole-most}
+use Rattle.tc_laws.proofs.TrimLaws.{TrimLaws, most-whole, whole-most, message_trims}
 use Rattle.tc_laws.proofs.RewriteValues.{RewriteLaws, IsSettledPart}
 
 -- no part is loose
@@ -22,8 +30,31 @@ none_loose (p ∷ ps) = go (is_loose_part p) refl (none_loose ps)
     go true e later = (λ all. let no : true ≡ false = sym e ∙ all.0 in absurd cc, λ no. absurd cc)
     go false e later = (λ all. later.0 all.1, λ no. (e, later.1 no))
 
-module _ (c : Codec (List ℕ) Message) (Canon : List ℕ → Type 0) (laws : Laws IsWireBytes c (λ kind bytes. Canon bytes))
-    (next norm : Message → Message) (parts : Message → List Part) (r : RewriteLaws IsWireBytes length c next parts) (trims : TrimLaws next norm parts) where
+module _ (by_frame : Sets Frame) (by_value : Sets Attribute) (layout : List Field) (rows : Rows) (Canon : List ℕ → Type 0)
+    (laws : Laws IsWireBytes (message_codec by_frame by_value layout rows) (λ kind bytes. Canon bytes))
+    (r : RewriteLaws IsWireBytes length (message_codec by_frame by_value layout rows) (next_of rows) (message_parts rows)) where
+  abbrev c : Codec (List ℕ) Message
+  c = message_codec by_frame by_value layout rows
+
+  abbrev words : Words Message
+  words = words_of by_frame by_value layout rows Canon
+
+  abbrev next : Message → Message
+  next = next_of rows
+
+  abbrev norm : Message → Message
+  norm = norm_of rows
+
+  abbrev parts : Message → List Part
+  parts = message_parts rows
+
+  trims : TrimLaws next norm parts
+  trims = message_trims rows
+
+  -- reading is the grammar
+  reads-is : (bytes : List ℕ) (m : Message) → IsWireBytes bytes → (c.read [] bytes ≡ Ok m) ↔ words.Reads bytes m
+  reads-is bytes m w = (one_message by_frame layout rows bytes w.are_bytes).reading m
+
   -- after so many rewritings, the message and the bytes that read as it
   after : Message → ℕ → Message
   after m zero = m
@@ -34,16 +65,19 @@ module _ (c : Codec (List ℕ) Message) (Canon : List ℕ → Type 0) (laws : La
   bytes_after bytes m (suc n) = c.write (after m n)
 
   -- bytes in hand that read as a message that fits
-  pub record IsRead (bytes : List ℕ) (m : Message) : Type 0 where
+  record IsRead (bytes : List ℕ) (m : Message) : Type 0 where
     pub wire : IsWireBytes bytes
     pub reads : c.read [] bytes ≡ Ok m
     pub fits : c.Fits m
+
+  is_read : (bytes : List ℕ) (m : Message) → IsWireBytes bytes → words.Reads bytes m → c.Fits m → IsRead bytes m
+  is_read bytes m w g f = record { wire = w; reads = (reads-is bytes m w).1 g; fits = f }
 
   typed : (bytes : List ℕ) (m : Message) → IsRead bytes m → c.Typed m
   typed bytes m is = laws.typed [] bytes m is.wire is.reads
 
   -- so do the bytes of that message, as the next one
-  pub is_read-next : (bytes : List ℕ) (m : Message) → IsRead bytes m → IsRead (c.write m) (next m)
+  is_read-next : (bytes : List ℕ) (m : Message) → IsRead bytes m → IsRead (c.write m) (next m)
   is_read-next bytes m is = record {
     wire = laws.makes m (typed bytes m is) is.fits;
     reads = r.again [] bytes m is.wire is.reads is.fits;
@@ -66,7 +100,7 @@ module _ (c : Codec (List ℕ) Message) (Canon : List ℕ → Type 0) (laws : La
   norm-after m (suc n) = trims.twice (after m n) ∙ norm-after m n
 
   -- written bytes are canonical exactly if no warning ends in NUL
-  pub canon-whole : (bytes : List ℕ) (m : Message) → IsRead bytes m → Canon (c.write m) ↔ (most (parts m) ≡ 0)
+  canon-whole : (bytes : List ℕ) (m : Message) → IsRead bytes m → Canon (c.write m) ↔ (most (parts m) ≡ 0)
   canon-whole bytes m is =
       let there = is_read-next bytes m is in
       let law = laws.same [] (c.write m) (next m) there.wire there.reads there.fits in (
@@ -75,7 +109,7 @@ module _ (c : Codec (List ℕ) Message) (Canon : List ℕ → Type 0) (laws : La
       )
 
   -- canonical bytes read as a message that is its own norm
-  pub canon-norm : (bytes : List ℕ) (m : Message) → IsRead bytes m → Canon bytes → norm m ≡ m
+  canon-norm : (bytes : List ℕ) (m : Message) → IsRead bytes m → Canon bytes → norm m ≡ m
   canon-norm bytes m is canon =
       let whole = (laws.same [] bytes m is.wire is.reads is.fits).1 canon in
       let none = (canon-whole bytes m is).0 (subst Canon (sym whole) canon) in
@@ -104,7 +138,7 @@ module _ (c : Codec (List ℕ) Message) (Canon : List ℕ → Type 0) (laws : La
   last-read bytes m is = subst (IsRead (last bytes m)) (last-norm m) (is_read-after bytes m is (suc (most (parts m))))
 
   -- the norm is one in hand where the message is, and fits where it does
-  pub norm-typed : (m : Message) → c.Typed m → c.Typed (norm m)
+  norm-typed : (m : Message) → c.Typed m → c.Typed (norm m)
   unfolding after
   norm-typed m t = subst c.Typed (last-norm m) (go (suc (most (parts m))))
     where
@@ -112,7 +146,7 @@ module _ (c : Codec (List ℕ) Message) (Canon : List ℕ → Type 0) (laws : La
       go zero = t
       go (suc n) = r.typed (after m n) (go n)
 
-  pub norm-fits : (m : Message) → c.Fits m → c.Fits (norm m)
+  norm-fits : (m : Message) → c.Fits m → c.Fits (norm m)
   unfolding after
   norm-fits m f = subst c.Fits (last-norm m) (go (suc (most (parts m))))
     where
@@ -122,87 +156,124 @@ module _ (c : Codec (List ℕ) Message) (Canon : List ℕ → Type 0) (laws : La
 
   -- ---- rewriting
 
-  module _ (rewrites : Rewrites) (Reads : List ℕ → Message → Type 0)
-      (reads-is : (bytes : List ℕ) (m : Message) → IsWireBytes bytes → (c.read [] bytes ≡ Ok m) ↔ Reads bytes m)
-      (rewrites-is : (bytes written : List ℕ) → rewrites bytes written ↔ ((m : Message) × Reads bytes m × c.Fits m × (written ≡ c.write m))) where
-    -- bytes are rewritten in one way at most
-    pub rewrites-once : (bytes written written' : List ℕ) → IsWireBytes bytes → rewrites bytes written → rewrites bytes written' → written ≡ written'
-    rewrites-once bytes written written' w h h' =
-        let a = (rewrites-is bytes written).0 h in
-        let b = (rewrites-is bytes written').0 h' in
-        let same : a.0 ≡ b.0 = ok-same a.0 b.0 (sym ((reads-is bytes a.0 w).1 a.1) ∙ (reads-is bytes b.0 w).1 b.1) in
-        a.3 ∙ ap c.write same ∙ sym b.3
+  -- bytes are rewritten in one way at most
+  rewrites-once : (bytes written written' : List ℕ) → IsWireBytes bytes → Rewrites words bytes written → Rewrites words bytes written' → written ≡ written'
+  rewrites-once bytes written written' w a b =
+      let same : a.message ≡ b.message = ok-same a.message b.message (sym ((reads-is bytes a.message w).1 a.reads) ∙ (reads-is bytes b.message w).1 b.reads) in
+      a.is ∙ ap c.write same ∙ sym b.is
 
-    reached : (bytes : List ℕ) (m : Message) → IsRead bytes m → (n : ℕ) → RewritesTimes rewrites n bytes (bytes_after bytes m n)
-    unfolding bytes_after
-    reached bytes m is zero = refl
-    reached bytes m is (suc n) =
-        let here = is_read-after bytes m is n in
-        let reads = (reads-is (bytes_after bytes m n) (after m n) here.wire).0 here.reads in
-        (bytes_after bytes m n, reached bytes m is n, (rewrites-is (bytes_after bytes m n) (c.write (after m n))).1 (after m n, reads, here.fits, refl))
+  -- what is read and fits is rewritten as its bytes
+  rewrites : (bytes : List ℕ) (m : Message) → IsRead bytes m → Rewrites words bytes (c.write m)
+  rewrites bytes m is = record { message = m; reads = (reads-is bytes m is.wire).0 is.reads; fits = is.fits; is = refl }
 
-    reached-is : (bytes : List ℕ) (m : Message) → IsRead bytes m → (n : ℕ) (written : List ℕ) → RewritesTimes rewrites n bytes written
-        → written ≡ bytes_after bytes m n
-    unfolding bytes_after reached
-    reached-is bytes m is zero written h = h
-    reached-is bytes m is (suc n) written h =
-        let between : h.0 ≡ bytes_after bytes m n = reached-is bytes m is n h.0 h.1 in
-        let here = is_read-after bytes m is n in
-        let ours = (reached bytes m is (suc n)).2 in
-        rewrites-once (bytes_after bytes m n) written (c.write (after m n)) here.wire (subst (λ (b : List ℕ). rewrites b written) between h.2) ours
+  reached : (bytes : List ℕ) (m : Message) → IsRead bytes m → (n : ℕ) → RewritesTimes words n bytes (bytes_after bytes m n)
+  unfolding bytes_after
+  reached bytes m is zero = refl
+  reached bytes m is (suc n) = (bytes_after bytes m n, reached bytes m is n, rewrites (bytes_after bytes m n) (after m n) (is_read-after bytes m is n))
 
-    no-sooner : (bytes : List ℕ) (m : Message) → IsRead bytes m → (Canon bytes → ⊥) → (n : ℕ) → n < suc (most (parts m)) → Canon (bytes_after bytes m n) → ⊥
-    unfolding bytes_after
-    no-sooner bytes m is not zero less canon = not canon
-    no-sooner bytes m is not (suc n) less canon =
-        let none = (canon-whole (bytes_after bytes m n) (after m n) (is_read-after bytes m is n)).0 canon in
-        let left = left-after m n in
-        omega (arith, less, none, left)
+  reached-is : (bytes : List ℕ) (m : Message) → IsRead bytes m → (n : ℕ) (written : List ℕ) → RewritesTimes words n bytes written
+      → written ≡ bytes_after bytes m n
+  unfolding bytes_after reached
+  reached-is bytes m is zero written h = h
+  reached-is bytes m is (suc n) written h =
+      let between : h.0 ≡ bytes_after bytes m n = reached-is bytes m is n h.0 h.1 in
+      let here = is_read-after bytes m is n in
+      let ours = (reached bytes m is (suc n)).2 in
+      rewrites-once (bytes_after bytes m n) written (c.write (after m n)) here.wire (subst (λ (b : List ℕ). Rewrites words b written) between h.2) ours
 
-    -- bytes that aren't canonical become so after as many rewrites as NULs end a warning and one more, and no sooner
-    pub settles : (bytes : List ℕ) (m : Message) → IsRead bytes m → (Canon bytes → ⊥) → SettlesIn rewrites Canon Reads (suc (most (parts m))) bytes (norm m)
-    unfolding last
-    settles bytes m is not =
-        let there = last-read bytes m is in
-        record {
-          final = last bytes m;
-          reached = reached bytes m is (suc (most (parts m)));
-          canonical = last-canon bytes m is;
-          reads = (reads-is (last bytes m) (norm m) there.wire).0 there.reads;
-          no_sooner = λ n written less h canon. no-sooner bytes m is not n less (subst Canon (reached-is bytes m is n written h) canon);
-        }
+  no-sooner : (bytes : List ℕ) (m : Message) → IsRead bytes m → (Canon bytes → ⊥) → (n : ℕ) → n < suc (most (parts m)) → Canon (bytes_after bytes m n) → ⊥
+  unfolding bytes_after
+  no-sooner bytes m is not zero less canon = not canon
+  no-sooner bytes m is not (suc n) less canon =
+      let none = (canon-whole (bytes_after bytes m n) (after m n) (is_read-after bytes m is n)).0 canon in
+      let left = left-after m n in
+      omega (arith, less, none, left)
 
-    -- at last they do
-    pub settles-as : (bytes : List ℕ) (m : Message) → IsRead bytes m → (final : List ℕ) × SettlesAs rewrites Canon bytes final × Reads final (norm m)
-    unfolding last
-    settles-as bytes m is =
-        let there = last-read bytes m is in (
-          last bytes m,
-          record { count = suc (most (parts m)); reached = reached bytes m is (suc (most (parts m))); canonical = last-canon bytes m is },
-          (reads-is (last bytes m) (norm m) there.wire).0 there.reads,
-        )
+  -- bytes that aren't canonical become so after as many rewrites as NULs end a warning and one more, and no sooner
+  settles : (bytes : List ℕ) (m : Message) → IsRead bytes m → (Canon bytes → ⊥) → SettlesIn words (suc (most (parts m))) bytes (last bytes m) (norm m)
+  unfolding last
+  settles bytes m is not =
+      let there = last-read bytes m is in
+      record {
+        reached = reached bytes m is (suc (most (parts m)));
+        canonical = last-canon bytes m is;
+        reads = (reads-is (last bytes m) (norm m) there.wire).0 there.reads;
+        no_sooner = λ n written less h canon. no-sooner bytes m is not n less (subst Canon (reached-is bytes m is n written h) canon);
+      }
 
-    -- what bytes settle as is the bytes of the norm, and reads as it
-    pub record IsFinal (final : List ℕ) (m : Message) : Type 0 where
-      pub reads : c.read [] final ≡ Ok m
-      pub whole : c.write m ≡ final
+  -- canonical bytes are so after none
+  settles-at_once : (bytes : List ℕ) (m : Message) → IsRead bytes m → Canon bytes → SettlesIn words 0 bytes bytes (norm m)
+  settles-at_once bytes m is canon = record {
+    reached = refl;
+    canonical = canon;
+    reads = subst (words.Reads bytes) (sym (canon-norm bytes m is canon)) ((reads-is bytes m is.wire).0 is.reads);
+    no_sooner = λ n written less h c. absurd (omega (arith, less));
+  }
 
-    settled-is : (bytes final : List ℕ) (m : Message) → IsRead bytes m → SettlesAs rewrites Canon bytes final → IsFinal final (norm m)
-    settled-is bytes final m is s =
-        let here = is_read-after bytes m is s.count in
-        let same = reached-is bytes m is s.count final s.reached in
-        let canon = subst Canon same s.canonical in
-        let own : after m s.count ≡ norm m = sym (canon-norm (bytes_after bytes m s.count) (after m s.count) here canon) ∙ norm-after m s.count in
-        let whole = (laws.same [] (bytes_after bytes m s.count) (after m s.count) here.wire here.reads here.fits).1 canon in
-        record { reads = ap (c.read []) same ∙ here.reads ∙ ap (λ (y : Message). read_as y) own; whole = ap c.write (sym own) ∙ whole ∙ sym same }
+  -- at last they do
+  settles-as : (bytes : List ℕ) (m : Message) → IsRead bytes m → (final : List ℕ) × SettlesAs words bytes final × words.Reads final (norm m)
+  unfolding last
+  settles-as bytes m is =
+      let there = last-read bytes m is in (
+        last bytes m,
+        record { count = suc (most (parts m)); reached = reached bytes m is (suc (most (parts m))); canonical = last-canon bytes m is },
+        (reads-is (last bytes m) (norm m) there.wire).0 there.reads,
+      )
 
-    -- two byte lists settle as the same bytes exactly if their readings have the same norm
-    pub same-settled : (bytes bytes' final final' : List ℕ) (m m' : Message) → IsRead bytes m → IsRead bytes' m' → SettlesAs rewrites Canon bytes final
-        → SettlesAs rewrites Canon bytes' final'
-        → (final ≡ final') ↔ (norm m ≡ norm m')
-    same-settled bytes bytes' final final' m m' is is' s s' =
-        let a = settled-is bytes final m is s in
-        let b = settled-is bytes' final' m' is' s' in (
-          (λ same. ok-same (norm m) (norm m') (sym a.reads ∙ ap (c.read []) same ∙ b.reads)),
-          (λ same. sym a.whole ∙ ap c.write same ∙ b.whole),
-        )
+  -- what bytes settle as is the bytes of the norm, and reads as it
+  record IsFinal (final : List ℕ) (m : Message) : Type 0 where
+    reads : c.read [] final ≡ Ok m
+    whole : c.write m ≡ final
+
+  settled-is : (bytes final : List ℕ) (m : Message) → IsRead bytes m → SettlesAs words bytes final → IsFinal final (norm m)
+  settled-is bytes final m is s =
+      let here = is_read-after bytes m is s.count in
+      let same = reached-is bytes m is s.count final s.reached in
+      let canon = subst Canon same s.canonical in
+      let own : after m s.count ≡ norm m = sym (canon-norm (bytes_after bytes m s.count) (after m s.count) here canon) ∙ norm-after m s.count in
+      let whole = (laws.same [] (bytes_after bytes m s.count) (after m s.count) here.wire here.reads here.fits).1 canon in
+      record { reads = ap (c.read []) same ∙ here.reads ∙ ap (λ (y : Message). read_as y) own; whole = ap c.write (sym own) ∙ whole ∙ sym same }
+
+  -- two byte lists settle as the same bytes exactly if their readings have the same norm
+  pub same-norm : (bytes bytes' : List ℕ) → IsWireBytes bytes → IsWireBytes bytes' → (m m' : Message) (final final' : List ℕ)
+      → Ends words bytes m final → Ends words bytes' m' final'
+      → (final ≡ final') ↔ (norm m ≡ norm m')
+  same-norm bytes bytes' w w' m m' final final' e e' =
+      let a = settled-is bytes final m (is_read bytes m w e.reads e.fits) e.settles in
+      let b = settled-is bytes' final' m' (is_read bytes' m' w' e'.reads e'.fits) e'.settles in (
+        (λ same. ok-same (norm m) (norm m') (sym a.reads ∙ ap (c.read []) same ∙ b.reads)),
+        (λ same. sym a.whole ∙ ap c.write same ∙ b.whole),
+      )
+
+  -- what is written reads as the next message
+  pub next-read : (bytes : List ℕ) → IsWireBytes bytes → (m : Message) → words.Reads bytes m → c.Fits m → words.Reads (c.write m) (next m)
+  next-read bytes w m g f =
+      let there = is_read-next bytes m (is_read bytes m w g f) in
+      (reads-is (c.write m) (next m) there.wire).0 there.reads
+
+  -- it is canonical exactly if no warning ended in NUL
+  pub canonical-next : (bytes : List ℕ) → IsWireBytes bytes → (m : Message) → words.Reads bytes m → c.Fits m → Canon (c.write m) ↔ (most (parts m) ≡ 0)
+  canonical-next bytes w m g f = canon-whole bytes m (is_read bytes m w g f)
+
+  -- all that is promised of rewriting
+  pub rewriting : (count : Message → ℕ) → ((m : Message) → suc (most (parts m)) ≡ count m)
+      → ((bytes : List ℕ) → IsWireBytes bytes → (m : Message) → words.Reads bytes m → words.Settled (norm m))
+      → (bytes : List ℕ) → IsWireBytes bytes → Rewriting words (is_loose rows) norm count bytes
+  rewriting count is norm-settled bytes w = record {
+    loose = λ m g.
+        let law = r.settled [] bytes m w ((reads-is bytes m w).1 g) in
+        let none = none_loose (parts m) in
+        (λ s. none.0 (law.0 s), λ e. law.1 (none.1 e));
+    norm_typed = norm-typed;
+    norm_fits = norm-fits;
+    norm_settled = norm-settled bytes w;
+    norm_canonical = λ m g f.
+        (correspond by_frame by_value layout rows Canon laws bytes w).settled (norm m)
+        (norm-typed m (typed bytes m (is_read bytes m w g f))) (norm-fits m f) (norm-settled bytes w m g);
+    canonical = λ m g f canon. canon-norm bytes m (is_read bytes m w g f) canon;
+    one_way = λ c d. rewrites-once bytes c d w;
+    at_once = λ m g f canon. settles-at_once bytes m (is_read bytes m w g f) canon;
+    settles = λ m g f not.
+        (last bytes m, subst (λ (n : ℕ). SettlesIn words n bytes (last bytes m) (norm m)) (is m) (settles bytes m (is_read bytes m w g f) not));
+    last = λ m g f. settles-as bytes m (is_read bytes m w g f);
+  }

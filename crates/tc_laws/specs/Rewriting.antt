@@ -1,66 +1,60 @@
 -- Rewriting: bytes are read and written again, once or many times.
-use Rattle.std.specs.Prelude.{◌≡◌, ℕ, zero, suc, ◌<◌, List}
-use Rattle.nla_frames.specs.Frame.{Frame}
-use Rattle.nla_frames.specs.Place.{Sets}
-use Rattle.nla_frames.specs.Reading.{keep}
-use Rattle.tc_canon.specs.Descriptor.{Field, Rows}
-use Rattle.tc_canon.specs.Layouts.{tc_header, action_message_header}
-use Rattle.tc_canon.specs.Tables.Messages.{attributes, action_message_attributes}
-use Rattle.tc_canon.specs.Canonical.{CanonTc, CanonAct}
-use Rattle.tc_meaning.specs.Message.{Message, ReadsWith, FitsMessage, message_bytes, kind_of_frame}
-use Rattle.tc_meaning.specs.Whole.{ReadsTc, ReadsAct}
+use Rattle.std.specs.Prelude.{◌≡◌, ◌↔◌, ℕ, zero, suc, ◌<◌, List, Bool, false}
+use Rattle.tc_meaning.specs.Message.{Message}
+use Rattle.tc_meaning.specs.Whole.{Words, tc_words, action_words}
 
--- the bytes read as a message that fits, and these are its bytes
-pub record RewritesWith (sets : Sets Frame) (layout : List Field) (rows : Rows) (bytes written : List ℕ) : Type 0 where
-  pub message : Message
-  pub reads : ReadsWith sets layout rows bytes message
-  pub fits : FitsMessage layout rows message
-  pub is : written ≡ message_bytes layout rows message
+module _ (w : Words Message) where
+  -- the bytes read as a message that fits, and these are its bytes
+  pub record Rewrites (bytes written : List ℕ) : Type 0 where
+    pub message : Message
+    pub reads : w.Reads bytes message
+    pub fits : w.Fits message
+    pub is : written ≡ w.bytes message
 
-abbrev pub Rewrites : Type 1
-Rewrites = List ℕ → List ℕ → Type 0
+  -- so many times, one after the other
+  abbrev pub RewritesTimes : ℕ → List ℕ → List ℕ → Type 0
+  RewritesTimes zero bytes written = written ≡ bytes
+  RewritesTimes (suc n) bytes written = (between : List ℕ) × RewritesTimes n bytes between × Rewrites between written
 
--- so many times, one after the other
-abbrev pub RewritesTimes : Rewrites → ℕ → List ℕ → List ℕ → Type 0
-RewritesTimes rewrites zero bytes written = written ≡ bytes
-RewritesTimes rewrites (suc n) bytes written = (between : List ℕ) × RewritesTimes rewrites n bytes between × rewrites between written
+  -- after some rewrites the bytes are canonical, and these are they
+  pub record SettlesAs (bytes final : List ℕ) : Type 0 where
+    pub count : ℕ
+    pub reached : RewritesTimes count bytes final
+    pub canonical : w.Canonical final
 
-abbrev pub RewritesTc : Rewrites
-RewritesTc = RewritesWith kind_of_frame tc_header attributes
+  -- after so many rewrites, and no sooner, the bytes are canonical; these are they, and they read as this message
+  pub record SettlesIn (count : ℕ) (bytes final : List ℕ) (m : Message) : Type 0 where
+    pub reached : RewritesTimes count bytes final
+    pub canonical : w.Canonical final
+    pub no_sooner : (n : ℕ) (written : List ℕ) → n < count → RewritesTimes n bytes written → w.Canonical written → ⊥
+    pub reads : w.Reads final m
 
-abbrev pub RewritesAct : Rewrites
-RewritesAct = RewritesWith keep action_message_header action_message_attributes
+  -- the bytes read as this message, which fits, and by rewriting they end as those
+  pub record Ends (bytes : List ℕ) (m : Message) (final : List ℕ) : Type 0 where
+    pub reads : w.Reads bytes m
+    pub fits : w.Fits m
+    pub settles : SettlesAs bytes final
 
--- after some rewrites the bytes are canonical, and these are they
-pub record SettlesAs (rewrites : Rewrites) (Canon : List ℕ → Type 0) (bytes final : List ℕ) : Type 0 where
-  pub count : ℕ
-  pub reached : RewritesTimes rewrites count bytes final
-  pub canonical : Canon final
+  -- what rewriting promises of any bytes: what is loose, the norm, and after how many rewrites bytes that aren't canonical are so
+  pub record Rewriting (is_loose : Message → Bool) (norm : Message → Message) (count : Message → ℕ) (bytes : List ℕ) : Type 0 where
+    -- what is read is unsettled exactly if it is loose
+    pub loose : (m : Message) → w.Reads bytes m → w.Settled m ↔ (is_loose m ≡ false)
+    -- the norm can be written and read back where the message fits, and is the message itself where the bytes are canonical
+    pub norm_typed : (m : Message) → w.Typed m → w.Typed (norm m)
+    pub norm_fits : (m : Message) → w.Fits m → w.Fits (norm m)
+    pub norm_settled : (m : Message) → w.Reads bytes m → w.Settled (norm m)
+    pub norm_canonical : (m : Message) → w.Reads bytes m → w.Fits m → w.Canonical (w.bytes (norm m))
+    pub canonical : (m : Message) → w.Reads bytes m → w.Fits m → w.Canonical bytes → norm m ≡ m
+    -- bytes are rewritten in at most one way
+    pub one_way : (c d : List ℕ) → Rewrites bytes c → Rewrites bytes d → c ≡ d
+    -- canonical bytes are settled, and those that aren't become so after that many rewrites, and no sooner: they read as the norm
+    pub at_once : (m : Message) → w.Reads bytes m → w.Fits m → w.Canonical bytes → SettlesIn 0 bytes bytes (norm m)
+    pub settles : (m : Message) → w.Reads bytes m → w.Fits m → (w.Canonical bytes → ⊥)
+        → (c : List ℕ) × SettlesIn (count m) bytes c (norm m)
+    pub last : (m : Message) → w.Reads bytes m → w.Fits m → (c : List ℕ) × SettlesAs bytes c × w.Reads c (norm m)
 
--- after so many rewrites, and no sooner, the bytes are canonical, and they read as this message
-pub record SettlesIn (rewrites : Rewrites) (Canon : List ℕ → Type 0) (Reads : List ℕ → Message → Type 0) (count : ℕ) (bytes : List ℕ)
-    (m : Message) : Type 0 where
-  pub final : List ℕ
-  pub reached : RewritesTimes rewrites count bytes final
-  pub canonical : Canon final
-  pub reads : Reads final m
-  pub no_sooner : (n : ℕ) (written : List ℕ) → n < count → RewritesTimes rewrites n bytes written → Canon written → ⊥
+abbrev pub RewritesTc : List ℕ → List ℕ → Type 0
+RewritesTc = Rewrites tc_words
 
-abbrev pub TcSettlesIn : ℕ → List ℕ → Message → Type 0
-TcSettlesIn = SettlesIn RewritesTc CanonTc ReadsTc
-
-abbrev pub ActSettlesIn : ℕ → List ℕ → Message → Type 0
-ActSettlesIn = SettlesIn RewritesAct CanonAct ReadsAct
-
--- the bytes read as this message, which fits, and by rewriting they end as those
-pub record EndsWith (sets : Sets Frame) (layout : List Field) (rows : Rows) (Canon : List ℕ → Type 0) (bytes : List ℕ) (m : Message)
-    (final : List ℕ) : Type 0 where
-  pub reads : ReadsWith sets layout rows bytes m
-  pub fits : FitsMessage layout rows m
-  pub settles : SettlesAs (RewritesWith sets layout rows) Canon bytes final
-
-abbrev pub EndsTc : List ℕ → Message → List ℕ → Type 0
-EndsTc = EndsWith kind_of_frame tc_header attributes CanonTc
-
-abbrev pub EndsAct : List ℕ → Message → List ℕ → Type 0
-EndsAct = EndsWith keep action_message_header action_message_attributes CanonAct
+abbrev pub RewritesAct : List ℕ → List ℕ → Type 0
+RewritesAct = Rewrites action_words

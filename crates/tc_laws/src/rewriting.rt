@@ -1,55 +1,29 @@
 //! The laws of rewriting, reading bytes and writing what was read, as contracts of functions that do nothing.
 
-ghost use Rattle.std.specs.Prelude.{◌≡◌, ◌↔◌, List, ℕ, ◌+◌, ◌-◌, false};
+ghost use Rattle.std.specs.Prelude.{◌≡◌, ◌↔◌, List, ℕ, ◌+◌, ◌-◌};
 ghost use Rattle.tc_canon.specs.Canonical.{CanonTc, CanonAct};
 ghost use Rattle.tc_meaning.specs.Message.{Message};
-ghost use Rattle.tc_meaning.specs.Whole.{ReadsTc, tc_bytes, TypedTc, FitsTc, SettledTc, ReadsAct, act_bytes, TypedAct, FitsAct, SettledAct};
+ghost use Rattle.tc_meaning.specs.Whole.{tc_words, ReadsTc, tc_bytes, TypedTc, FitsTc, SettledTc, action_words, ReadsAct, act_bytes, TypedAct, FitsAct, SettledAct};
 ghost use Rattle.tc_laws.specs.Loose.{is_loose_tc, is_loose_act, nuls_act};
 ghost use Rattle.tc_laws.specs.Norm.{norm_tc, norm_act, next_act};
-ghost use Rattle.tc_laws.specs.Rewriting.{RewritesTc, RewritesAct, SettlesAs, TcSettlesIn, ActSettlesIn, EndsTc, EndsAct};
+ghost use Rattle.tc_laws.specs.Rewriting.{Rewriting, Ends};
 
-/// Bytes that read as a traffic control message. It is unsettled exactly if it is loose. Its norm can be written
-/// and read back where the message fits, and is the message itself where the bytes are canonical. Bytes are rewritten in
-/// at most one way, and those that aren't canonical are so after one rewrite, and read as the norm.
+/// Rewriting of bytes as a traffic control message: those that aren't canonical are so after one rewrite.
 pub fn tc_rewriting(bytes: &[u8])
-    ensures loose { (m : Message) → ReadsTc bytes.now m → SettledTc m ↔ (is_loose_tc m ≡ false) }
-    ensures norm_typed { (m : Message) → TypedTc m → TypedTc (norm_tc m) }
-    ensures norm_fits { (m : Message) → FitsTc m → FitsTc (norm_tc m) }
-    ensures norm_settled { (m : Message) → ReadsTc bytes.now m → SettledTc (norm_tc m) }
-    ensures norm_canonical { (m : Message) → ReadsTc bytes.now m → FitsTc m
-        → CanonTc (tc_bytes (norm_tc m)) }
-    ensures canonical { (m : Message) → ReadsTc bytes.now m → FitsTc m → CanonTc bytes.now
-        → norm_tc m ≡ m }
+    ensures { Rewriting tc_words is_loose_tc norm_tc (λ m. 1) bytes.now }
+{}
+
+/// Rewriting of bytes as an action message. Each rewrite takes one NUL off the end of each warning, so that bytes which
+/// aren't canonical are so after one rewrite more than the longest run of NULs that ends a warning as read.
+pub fn action_rewriting(bytes: &[u8])
+    ensures { Rewriting action_words is_loose_act norm_act (λ m. nuls_act m + 1) bytes.now }
+{}
+
+/// One rewrite of a traffic control message: its bytes are canonical, and read as the norm.
+pub fn tc_step(bytes: &[u8])
     ensures written { (m : Message) → ReadsTc bytes.now m → FitsTc m → CanonTc (tc_bytes m) }
     ensures written_norm { (m : Message) → ReadsTc bytes.now m → FitsTc m
         → ReadsTc (tc_bytes m) (norm_tc m) }
-    ensures one_way { (c d : List ℕ) → RewritesTc bytes.now c → RewritesTc bytes.now d → c ≡ d }
-    ensures at_once { (m : Message) → ReadsTc bytes.now m → FitsTc m → CanonTc bytes.now
-        → TcSettlesIn 0 bytes.now (norm_tc m) }
-    ensures settles { (m : Message) → ReadsTc bytes.now m → FitsTc m → (CanonTc bytes.now → ⊥)
-        → TcSettlesIn 1 bytes.now (norm_tc m) }
-    ensures last { (m : Message) → ReadsTc bytes.now m → FitsTc m
-        → (c : List ℕ) × SettlesAs RewritesTc CanonTc bytes.now c × ReadsTc c (norm_tc m) }
-{}
-
-/// Bytes that read as an action message, likewise. Each rewrite takes one NUL off the end of each warning, so that bytes which aren't
-/// canonical are so after one rewrite more than the most NULs that end one of its warnings as read, and no sooner.
-pub fn action_rewriting(bytes: &[u8])
-    ensures loose { (m : Message) → ReadsAct bytes.now m → SettledAct m ↔ (is_loose_act m ≡ false) }
-    ensures norm_typed { (m : Message) → TypedAct m → TypedAct (norm_act m) }
-    ensures norm_fits { (m : Message) → FitsAct m → FitsAct (norm_act m) }
-    ensures norm_settled { (m : Message) → ReadsAct bytes.now m → SettledAct (norm_act m) }
-    ensures norm_canonical { (m : Message) → ReadsAct bytes.now m → FitsAct m
-        → CanonAct (act_bytes (norm_act m)) }
-    ensures canonical { (m : Message) → ReadsAct bytes.now m → FitsAct m → CanonAct bytes.now
-        → norm_act m ≡ m }
-    ensures one_way { (c d : List ℕ) → RewritesAct bytes.now c → RewritesAct bytes.now d → c ≡ d }
-    ensures at_once { (m : Message) → ReadsAct bytes.now m → FitsAct m → CanonAct bytes.now
-        → ActSettlesIn 0 bytes.now (norm_act m) }
-    ensures settles { (m : Message) → ReadsAct bytes.now m → FitsAct m → (CanonAct bytes.now → ⊥)
-        → ActSettlesIn (nuls_act m + 1) bytes.now (norm_act m) }
-    ensures last { (m : Message) → ReadsAct bytes.now m → FitsAct m
-        → (c : List ℕ) × SettlesAs RewritesAct CanonAct bytes.now c × ReadsAct c (norm_act m) }
 {}
 
 /// One rewrite of an action message: its bytes read as the message with one NUL less at the end of each warning. They
@@ -67,14 +41,14 @@ pub fn action_step(bytes: &[u8])
 
 /// Two byte lists become the same canonical bytes by rewriting exactly if their readings have the same norm.
 pub fn tc_same_norm(first: &[u8], second: &[u8])
-    ensures { (m n : Message) (c d : List ℕ) → EndsTc first.now m c → EndsTc second.now n d
-        → (c ≡ d) ↔ (norm_tc m ≡ norm_tc n) }
+    ensures { (m n : Message) (c d : List ℕ) → Ends tc_words first.now m c
+        → Ends tc_words second.now n d → (c ≡ d) ↔ (norm_tc m ≡ norm_tc n) }
 {}
 
-/// Two byte lists as action messages, likewise.
+/// The same law of two byte lists as action messages.
 pub fn action_same_norm(first: &[u8], second: &[u8])
-    ensures { (m n : Message) (c d : List ℕ) → EndsAct first.now m c → EndsAct second.now n d
-        → (c ≡ d) ↔ (norm_act m ≡ norm_act n) }
+    ensures { (m n : Message) (c d : List ℕ) → Ends action_words first.now m c
+        → Ends action_words second.now n d → (c ≡ d) ↔ (norm_act m ≡ norm_act n) }
 {}
 
 /// Settled messages that fit are equal exactly if their bytes are.

@@ -1,56 +1,125 @@
--- The two messages: a traffic control message, whose kinds are set by its frames of type 1, and an action message,
+-- The two messages, each in the same words: a traffic control message, whose kinds are set by its frames of type 1, and an action message,
 -- which has no kind.
-use Rattle.std.specs.Prelude.{List, ℕ}
+use Rattle.std.specs.Prelude.{◌≡◌, ◌↔◌, ◌⊎◌, List, ℕ, Ok, Err}
 use Rattle.nla_frames.specs.declared.error.DecodeError.{DecodeError}
+use Rattle.nla_frames.specs.declared.error.DecodeError.TheVariants.{OutOfMemory}
 use Rattle.nla_frames.specs.Fault.{Outcome}
+use Rattle.nla_frames.specs.Frame.{Frame}
+use Rattle.nla_frames.specs.Place.{Sets}
 use Rattle.nla_frames.specs.Reading.{keep}
+use Rattle.tc_canon.specs.Descriptor.{Field, Rows}
 use Rattle.tc_canon.specs.Layouts.{tc_header, action_message_header}
+use Rattle.tc_canon.specs.Canonical.{CanonTc, CanonAct}
 use Rattle.tc_canon.specs.Tables.Messages.{attributes, action_message_attributes}
-use Rattle.tc_meaning.specs.Message.{Message, ReadsMessage, MessageFault, read_message, ReadsWith, FaultWith, read_with, message_bytes, FitsMessage}
-use Rattle.tc_meaning.specs.Message.{TypedMessage, SettledWith, SettledMessage}
+use Rattle.tc_meaning.specs.Tree.{Attribute}
+use Rattle.tc_meaning.specs.Message.{Message, ReadsWith, FaultWith, read_with, message_bytes, TypedMessage, FitsMessage, SettledWith, SettledByPlace}
+use Rattle.tc_meaning.specs.Message.{kind_of_frame, kind_of_attribute}
+
+-- the grammar's words for one type of message
+pub record Words (X : Type 0) : Type 1 where
+  -- the bytes read as this message
+  pub Reads : List ℕ → X → Type 0
+  -- the bytes have this fault first
+  pub Fault : List ℕ → DecodeError → Type 0
+  -- the function that gives the one or the other
+  pub read : List ℕ → Outcome X
+  -- what is written of a message
+  pub bytes : X → List ℕ
+  pub Typed : X → Type 0
+  pub Fits : X → Type 0
+  pub Settled : X → Type 0
+  -- settled, said of each attribute at its place
+  pub SettledPlaces : X → Type 0
+  pub Canonical : List ℕ → Type 0
+
+-- a header and a table of attributes, where these frames and these attributes set a kind
+abbrev pub words_of : Sets Frame → Sets Attribute → List Field → Rows → (List ℕ → Type 0) → Words Message
+words_of by_frame by_value layout rows Canonical = record {
+  Reads = ReadsWith by_frame layout rows;
+  Fault = FaultWith by_frame layout rows;
+  read = read_with by_frame layout rows;
+  bytes = message_bytes layout rows;
+  Typed = TypedMessage layout rows;
+  Fits = FitsMessage layout rows;
+  Settled = SettledWith layout rows by_value;
+  SettledPlaces = SettledByPlace layout rows by_value;
+  Canonical = Canonical;
+}
+
+-- what these words promise of one another, over any bytes
+pub record Correspond {X : Type 0} (w : Words X) (bytes : List ℕ) : Type 0 where
+  -- reading gives a message exactly if the grammar reads it so, and a fault exactly if that is the grammar's first, which is never that memory ran out
+  pub reading : (m : X) → (w.read bytes ≡ Ok m) ↔ w.Reads bytes m
+  pub fault : (e : DecodeError) → (w.read bytes ≡ Err e) ↔ w.Fault bytes e
+  pub not_memory : w.Fault bytes OutOfMemory → ⊥
+  -- what is read has its numbers in their types, and UTF-8 for texts
+  pub typed : (m : X) → w.Reads bytes m → w.Typed m
+  -- a message that fits is written as bytes that read as it exactly if it is settled
+  pub back : (m : X) → w.Typed m → w.Fits m → w.Reads (w.bytes m) m ↔ w.Settled m
+  -- a message that was read and fits is written as the same bytes exactly if they are canonical
+  pub same : (m : X) → w.Reads bytes m → w.Fits m → (w.bytes m ≡ bytes) ↔ w.Canonical bytes
+  -- canonical bytes read as a settled message that fits, the bytes of such a message are canonical, and the same bytes are of the same message
+  pub canonical : w.Canonical bytes → (m : X) × w.Reads bytes m × w.Fits m × w.Settled m
+  pub settled : (m : X) → w.Typed m → w.Fits m → w.Settled m → w.Canonical (w.bytes m)
+  pub equal : (m n : X) → w.Typed m → w.Fits m → w.Settled m → w.Typed n → w.Fits n → w.Settled n → w.bytes m ≡ w.bytes n → m ≡ n
+  -- settled is the same as settled place by place
+  pub places : (m : X) → w.Settled m ↔ w.SettledPlaces m
+
+-- all bytes read as one message and have no fault, or read as none and have one fault
+pub record OneOutcome {X : Type 0} (w : Words X) (bytes : List ℕ) : Type 0 where
+  pub some : ((m : X) × w.Reads bytes m) ⊎ ((e : DecodeError) × w.Fault bytes e)
+  pub one_reading : (m n : X) → w.Reads bytes m → w.Reads bytes n → m ≡ n
+  pub one_fault : (d e : DecodeError) → w.Fault bytes d → w.Fault bytes e → d ≡ e
+  pub not_both : (m : X) (e : DecodeError) → w.Reads bytes m → w.Fault bytes e → ⊥
 
 -- ---- a traffic control message
 
+abbrev pub tc_words : Words Message
+tc_words = words_of kind_of_frame kind_of_attribute tc_header attributes CanonTc
+
 abbrev pub ReadsTc : List ℕ → Message → Type 0
-ReadsTc = ReadsMessage tc_header attributes
+ReadsTc = tc_words.Reads
 
 abbrev pub FaultTc : List ℕ → DecodeError → Type 0
-FaultTc = MessageFault tc_header attributes
+FaultTc = tc_words.Fault
 
 abbrev pub read_tc : List ℕ → Outcome Message
-read_tc = read_message tc_header attributes
+read_tc = tc_words.read
 
 abbrev pub tc_bytes : Message → List ℕ
-tc_bytes = message_bytes tc_header attributes
+tc_bytes = tc_words.bytes
 
 abbrev pub TypedTc : Message → Type 0
-TypedTc = TypedMessage tc_header attributes
+TypedTc = tc_words.Typed
 
 abbrev pub FitsTc : Message → Type 0
-FitsTc = FitsMessage tc_header attributes
+FitsTc = tc_words.Fits
 
 abbrev pub SettledTc : Message → Type 0
-SettledTc = SettledMessage tc_header attributes
+SettledTc = tc_words.Settled
 
 -- ---- an action message
 
+abbrev pub action_words : Words Message
+action_words = words_of keep keep action_message_header action_message_attributes CanonAct
+
 abbrev pub ReadsAct : List ℕ → Message → Type 0
-ReadsAct = ReadsWith keep action_message_header action_message_attributes
+ReadsAct = action_words.Reads
 
 abbrev pub FaultAct : List ℕ → DecodeError → Type 0
-FaultAct = FaultWith keep action_message_header action_message_attributes
+FaultAct = action_words.Fault
 
 abbrev pub read_act : List ℕ → Outcome Message
-read_act = read_with keep action_message_header action_message_attributes
+read_act = action_words.read
 
 abbrev pub act_bytes : Message → List ℕ
-act_bytes = message_bytes action_message_header action_message_attributes
+act_bytes = action_words.bytes
 
 abbrev pub TypedAct : Message → Type 0
-TypedAct = TypedMessage action_message_header action_message_attributes
+TypedAct = action_words.Typed
 
 abbrev pub FitsAct : Message → Type 0
-FitsAct = FitsMessage action_message_header action_message_attributes
+FitsAct = action_words.Fits
 
 abbrev pub SettledAct : Message → Type 0
-SettledAct = SettledWith action_message_header action_message_attributes keep
+SettledAct = action_words.Settled

@@ -14,57 +14,28 @@ ghost use Rattle.tc_canon.specs.Tables.Actions.{actions, action_attributes, acti
 ghost use Rattle.tc_canon.specs.Tables.Flower.{flower_options, mpls_options, lse_options};
 ghost use Rattle.tc_canon.specs.Tables.Options.{option_kinds};
 ghost use Rattle.tc_canon.specs.Tables.Messages.{attributes, action_message_attributes};
-ghost use Rattle.tc_canon.specs.Canonical.{CanonClass, CanonTable, CanonTc, CanonAct};
+ghost use Rattle.tc_canon.specs.Canonical.{CanonClass, CanonTable};
 ghost use Rattle.tc_meaning.specs.Own.{kind_of_attribute, read_own};
 ghost use Rattle.tc_meaning.specs.OwnGrammar.{OneOwn};
 ghost use Rattle.tc_meaning.specs.Meaning.{short, class_codec, table_codec};
 ghost use Rattle.tc_meaning.specs.Nested.{ReadsNested, ReadsOwn, ReadsOptions};
 ghost use Rattle.tc_meaning.specs.Sound.{is_sound_class, is_sound_table, is_sound_rows, is_sound_kinds};
 ghost use Rattle.tc_meaning.specs.Tree.{Content, Attribute};
-ghost use Rattle.tc_meaning.specs.Message.{Message, SettledByPlace};
+ghost use Rattle.tc_meaning.specs.Message.{Message};
 ghost use Rattle.tc_meaning.specs.Equal.{same_content, same_attribute, same_message};
-ghost use Rattle.tc_meaning.specs.Whole.{ReadsTc, FaultTc, read_tc, tc_bytes, TypedTc, FitsTc, SettledTc, ReadsAct, FaultAct, read_act, act_bytes, TypedAct, FitsAct, SettledAct};
+ghost use Rattle.tc_meaning.specs.Whole.{Correspond, tc_words, action_words, FitsTc, SettledTc, FitsAct, SettledAct};
 
 use nla_frames::FrameMeaning;
 
-/// A traffic control message. Reading its bytes gives a message exactly if the grammar reads it so, and a fault
-/// exactly if that is the grammar's, which is never want of memory. A message that fits is written as bytes that
-/// read as it exactly if it is settled; bytes that read as a message that fits are its bytes exactly if they are
-/// canonical. Canonical bytes are read, as a message that fits and is settled, and the bytes of such a message are
-/// canonical: so these messages and these bytes correspond one to one.
+/// A traffic control message: reading is the grammar, what fits reads back exactly if it is settled, and settled
+/// messages that fit and canonical bytes correspond one to one.
 pub fn tc_message(bytes: &[u8])
-    ensures reading { (m : Message) → (read_tc bytes.now ≡ Ok m) ↔ ReadsTc bytes.now m }
-    ensures fault { (e : DecodeError) → (read_tc bytes.now ≡ Err e) ↔ FaultTc bytes.now e }
-    ensures not_memory { FaultTc bytes.now OutOfMemory → ⊥ }
-    ensures typed { (m : Message) → ReadsTc bytes.now m → TypedTc m }
-    ensures back { (m : Message) → TypedTc m → FitsTc m → ReadsTc (tc_bytes m) m ↔ SettledTc m }
-    ensures same { (m : Message) → ReadsTc bytes.now m → FitsTc m
-        → (tc_bytes m ≡ bytes.now) ↔ CanonTc bytes.now }
-    ensures canonical { CanonTc bytes.now
-        → (m : Message) × ReadsTc bytes.now m × FitsTc m × SettledTc m }
-    ensures settled { (m : Message) → TypedTc m → FitsTc m → SettledTc m → CanonTc (tc_bytes m) }
-    ensures equal { (m n : Message) → TypedTc m → FitsTc m → SettledTc m → TypedTc n → FitsTc n
-        → SettledTc n → tc_bytes m ≡ tc_bytes n → m ≡ n }
-    ensures places { (m : Message)
-        → SettledTc m ↔ SettledByPlace tc_header attributes kind_of_attribute m }
+    ensures { Correspond tc_words bytes.now }
 {}
 
-/// An action message, likewise; it has no kind.
+/// An action message: the same laws.
 pub fn action_message(bytes: &[u8])
-    ensures reading { (m : Message) → (read_act bytes.now ≡ Ok m) ↔ ReadsAct bytes.now m }
-    ensures fault { (e : DecodeError) → (read_act bytes.now ≡ Err e) ↔ FaultAct bytes.now e }
-    ensures not_memory { FaultAct bytes.now OutOfMemory → ⊥ }
-    ensures typed { (m : Message) → ReadsAct bytes.now m → TypedAct m }
-    ensures back { (m : Message) → TypedAct m → FitsAct m
-        → ReadsAct (act_bytes m) m ↔ SettledAct m }
-    ensures same { (m : Message) → ReadsAct bytes.now m → FitsAct m
-        → (act_bytes m ≡ bytes.now) ↔ CanonAct bytes.now }
-    ensures canonical { CanonAct bytes.now
-        → (m : Message) × ReadsAct bytes.now m × FitsAct m × SettledAct m }
-    ensures settled { (m : Message) → TypedAct m → FitsAct m → SettledAct m
-        → CanonAct (act_bytes m) }
-    ensures equal { (m n : Message) → TypedAct m → FitsAct m → SettledAct m → TypedAct n → FitsAct n
-        → SettledAct n → act_bytes m ≡ act_bytes n → m ≡ n }
+    ensures { Correspond action_words bytes.now }
 {}
 
 /// A test tells of every message whether it fits.

@@ -92,18 +92,19 @@ impl<A: Allocator + Copy> ParseableBytes<A> for TcMessage<A> {
         ensures refused { IfRefused result (FaultTc bytes.now) }
         // The function that computes both gives what is returned, unless memory ran out.
         ensures exact { Gives (seen tc_message result) (read_tc bytes.now) }
-        // What fits is written as the same bytes exactly if these are canonical.
+        // What fits is written as the same bytes if and only if these are canonical.
         ensures same { IfOk result (λ m.
             FitsTc (tc_message m) → (tc_bytes (tc_message m) ≡ bytes.now) ↔ CanonTc bytes.now) }
-        // Canonical bytes are refused for want of memory alone, and read as what fits and is settled.
+        // Canonical bytes fail only with OutOfMemory, and read as what fits and is settled.
         ensures canonical { CanonTc bytes.now
             → UnlessMemory result (λ m. FitsTc (tc_message m) × SettledTc (tc_message m)) }
-        // What is read is unsettled exactly if it is loose: if a part of it is written otherwise than it may have been read.
+        // What is read is unsettled if and only if it is loose: if encoding would change a part of it.
         ensures loose { IfOk result (λ m.
             SettledTc (tc_message m) ↔ (is_loose_tc (tc_message m) ≡ false)) }
-        // A frame of an unknown type may stand anywhere, and is kept there as it stands.
+        // An attribute of an unknown type may be at any place, and is kept raw there.
         ensures unknown { IfOk result (λ m. TakesUnknownTc bytes.now (tc_message m)) }
     {
+        // Laws, which do nothing: what the grammar says of these bytes, what is loose, and where a frame may be put in.
         laws::tc_message(bytes);
         rewriting::tc_rewriting(bytes);
         places::unknown_types();
@@ -130,6 +131,7 @@ fn after_header(bytes: &[u8]) -> &[u8]
 
 impl<A: Allocator> Emitable for TcMessage<A> {
     fn checked_len(&self) -> Option<usize> {
+        // A law, which does nothing: the header is typed, so it has its length in bytes.
         header_in_hand(&self.header);
         match list_checked_len(&self.attributes) {
             Some(len) => len.checked_add(TC_HEADER_LEN),
@@ -142,10 +144,11 @@ impl<A: Allocator> Emitable for TcMessage<A> {
         requires room { HasRoom (tc_bytes (tc_message self.now)) buffer.old }
         ensures written { Writes (tc_bytes (tc_message self.now)) buffer.old buffer.new }
         ensures typed { TypedTc (tc_message self.now) }
-        // What is written reads back as the message exactly if it is settled.
+        // What is written reads back as the message if and only if it is settled.
         ensures back { ReadsTc (tc_bytes (tc_message self.now)) (tc_message self.now)
             ↔ SettledTc (tc_message self.now) }
     {
+        // Laws, which do nothing: what is written reads back if settled, and the header is typed.
         laws::tc_message(&[]);
         header_in_hand(&self.header);
         put_list(&self.attributes, &mut buffer[TC_HEADER_LEN..]);
@@ -163,6 +166,7 @@ impl<A: Allocator> TcMessage<A> {
         ensures canonical { IsTrue result → FitsTc (tc_message self.now)
             → CanonTc (tc_bytes (tc_message self.now)) }
     {
+        // A law, which does nothing: the bytes of a settled message are canonical.
         laws::tc_message(&[]);
         self.has_settled_parts()
     }
@@ -171,6 +175,7 @@ impl<A: Allocator> TcMessage<A> {
         ensures settled { IsTrue result ↔ SettledTc (tc_message self.now) }
         ensures typed { IsTrue result → TypedTc (tc_message self.now) }
     {
+        // A law, which does nothing: the header is typed.
         header_in_hand(&self.header);
         self.header.is_settled() && list_settled_carrying(&self.attributes)
     }

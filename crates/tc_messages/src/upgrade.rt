@@ -32,6 +32,7 @@ impl<A: Allocator> TcMessage<A> {
         ensures twice { upgrade (tc_message result) ≡ tc_message result }
         ensures fits { FitsTc (tc_message self) → FitsTc (tc_message result) }
     {
+        // A law, which does nothing: what the upgrade of any message is read as, and that it is its own upgrade.
         upgrading();
         let TcMessage { header, attributes } = self;
         let attributes = upgraded_list(attributes);
@@ -110,7 +111,7 @@ fn unknown_options<A: Allocator>(mut options: Vec<TcOption<A>, A>) -> TcAttribut
     }
 }
 
-// An option as it stands, unless it is one of a known kind.
+// The raw option, unless the option is one of a known kind.
 fn unread<A: Allocator>(option: TcOption<A>) -> Option<DefaultNla<A>>
     ensures { MatchOption result (IsRead (tc_option option)) (λ nla.
         tc_option option ≡ other (kept_frame nla).word (kept_frame nla).value) }

@@ -29,6 +29,17 @@ tc_option (MatchAll option) = of_kind (codes "matchall") (matchall_option option
 tc_option (Bpf option) = of_kind (codes "bpf") (bpf_option option)
 tc_option (Other nla) = other (kept_frame nla).word (kept_frame nla).value
 
+-- two options hold the same: options of one kind that are seen alike, or the same word and payload
+abbrev pub SameOption : {A : Type 0} → TcOption A → TcOption A → Type 0
+SameOption (FqCodel x) (FqCodel y) = fq_codel_option x ≡ fq_codel_option y
+SameOption (Ingress x) (Ingress y) = ingress_option x ≡ ingress_option y
+SameOption (Flower x) (Flower y) = flower_option x ≡ flower_option y
+SameOption (U32 x) (U32 y) = u32_option x ≡ u32_option y
+SameOption (MatchAll x) (MatchAll y) = matchall_option x ≡ matchall_option y
+SameOption (Bpf x) (Bpf y) = bpf_option x ≡ bpf_option y
+SameOption (Other x) (Other y) = kept_frame x ≡ kept_frame y
+SameOption a b = ⊥
+
 abbrev pub listed : {A : Type 0} → VecTcOption A → List Attribute
 listed options = map tc_option options.0.items
 

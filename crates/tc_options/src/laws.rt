@@ -1,12 +1,18 @@
-//! `==` says exactly whether contracts see two values as equal.
+//! What contracts see of a type is all that it holds, and what `==` compares.
 
-ghost use Rattle.tc_options.specs.Options.{tc_option};
+ghost use Rattle.tc_options.specs.Options.{tc_option, SameOption};
 ghost use Rattle.tc_meaning.specs.Equal.{TellsSeen};
+ghost use Rattle.tc_values.specs.Forgets.{ForgetsNothing};
 
 use crate::options::TcOption;
 use std::alloc::Allocator;
 
-/// Options are equal exactly if contracts see them as equal.
+/// `==` of options is true if and only if contracts see both alike.
 pub fn equal<A: Allocator>()
     ensures { TellsSeen ⟦<TcOption<A> as PartialEq>⟧.eq tc_option }
+{}
+
+/// What contracts see of an option forgets nothing that it holds.
+pub fn forgets_nothing<A: Allocator>()
+    ensures { ForgetsNothing (tc_option {A = A}) SameOption }
 {}

@@ -1,4 +1,4 @@
-//! The options of queueing disciplines and filters, each list in the form of the message's kind.
+//! The options of qdiscs and filters, each list in the format of the message's kind.
 #![tactic(auto)]
 
 pub mod laws;

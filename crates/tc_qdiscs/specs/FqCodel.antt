@@ -1,4 +1,5 @@
 -- An option of fq_codel as contracts see it.
+use Rattle.std.specs.Prelude.{◌≡◌}
 use Rattle.nla_frames.specs.DefaultNla.{kept_frame}
 use Rattle.tc_meaning.specs.Tree.{Attribute, known, other, number}
 use Rattle.tc_qdiscs.specs.declared.qdiscs.fq_codel.TcQdiscFqCodelOption.{TcQdiscFqCodelOption}
@@ -18,3 +19,8 @@ fq_codel_option (MemoryLimit n) = known 9 (number n)
 fq_codel_option (CeThresholdSelector n) = known 10 (number n)
 fq_codel_option (CeThresholdMask n) = known 11 (number n)
 fq_codel_option (Other nla) = other (kept_frame nla).word (kept_frame nla).value
+
+-- two options hold the same: one that is kept raw the same word and payload; all others are equal
+abbrev pub SameFqCodel : {A : Type 0} → TcQdiscFqCodelOption A → TcQdiscFqCodelOption A → Type 0
+SameFqCodel (Other x) (Other y) = kept_frame x ≡ kept_frame y
+SameFqCodel a b = a ≡ b

@@ -1,4 +1,4 @@
-//! The options of queueing disciplines: fq_codel's and ingress's.
+//! The options of qdiscs: of fq_codel and of ingress.
 #![tactic(auto)]
 
 pub mod laws;

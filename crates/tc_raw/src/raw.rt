@@ -1,33 +1,71 @@
-//! The bytes that a raw buffer holds: those at the front of some bytes, or those of a record.
+//! The bytes of a fixed record, with its padding.
 
 ghost use Rattle.std.specs.Prelude.{◌≡◌, length};
 ghost use Rattle.nla_frames.specs.Fault.{seen};
-ghost use Rattle.tc_raw.specs.Buffers.{first_bytes};
+ghost use Rattle.tc_meaning.specs.Layout.{fields_bytes};
+ghost use Rattle.tc_raw.specs.Buffers.{first_bytes, raw_bytes};
 
-use nla_frames::{DecodeError, Emitable, Res};
+use nla_frames::{DecodeError, Res};
+use std::marker::PhantomData;
+use tc_records::{FixedRecord, emit_record};
 
-/// The bytes at the front; what follows is dropped.
-pub(crate) fn first_bytes<const N: usize>(bytes: &[u8]) -> Res<[u8; N]>
-    ensures { result ≡ first_bytes N bytes.now }
-{
-    if bytes.len() < N {
-        return Err(DecodeError::BufferTooSmall {
-            len: bytes.len(),
-            needed: N,
-        });
-    }
-    let mut first = [0; N];
-    first.copy_from_slice(&bytes[..N]);
-    Ok(first)
+/// The N bytes of a record R, padding included.
+#[derive(Drop)]
+#[derive_where(PartialEq, Eq, Clone, Debug)]
+pub struct Raw<R, const N: usize> {
+    bytes: [u8; N],
+    of: PhantomData<R>,
 }
 
-/// The bytes of a record that is N bytes long.
-pub(crate) fn record_bytes<R: Emitable, const N: usize>(value: &R) -> [u8; N]
-    requires fits { R.codec.Fits (R.see value.now) }
-    requires whole { length (R.codec.write (R.see value.now)) ≡ N }
-    ensures { result ≡ R.codec.write (R.see value.now) }
+impl<R, const N: usize> Raw<R, N> {
+    /// The bytes at the front; what follows is dropped, and fewer bytes are `BufferTooSmall`.
+    pub fn read_from_prefix(bytes: &[u8]) -> Res<Raw<R, N>>
+        ensures { seen raw_bytes result ≡ first_bytes N bytes.now }
+    {
+        if bytes.len() < N {
+            return Err(DecodeError::BufferTooSmall {
+                len: bytes.len(),
+                needed: N,
+            });
+        }
+        let mut first = [0; N];
+        first.copy_from_slice(&bytes[..N]);
+        Ok(Raw::of_bytes(first))
+    }
+
+    // These bytes.
+    pub(crate) fn of_bytes(bytes: [u8; N]) -> Raw<R, N>
+        ensures { raw_bytes result ≡ bytes.entry }
+    {
+        Raw {
+            bytes,
+            of: PhantomData,
+        }
+    }
+
+    /// The bytes as they were read; those of a record with zeros for padding.
+    pub fn as_bytes(&self) -> [u8; N]
+        ensures { result ≡ raw_bytes self.now }
+    {
+        self.bytes
+    }
+}
+
+impl<R: FixedRecord<N>, const N: usize> From<&R> for Raw<R, N> {
+    ghost from_gives = { λ value raw. raw_bytes raw ≡ fields_bytes R.layout (R.scalars value.now) };
+
+    fn from(value: &R) -> Raw<R, N> {
+        value.held();
+        Raw::of_bytes(record_bytes(value))
+    }
+}
+
+// The bytes of a record that is N bytes long.
+fn record_bytes<R: FixedRecord<N>, const N: usize>(value: &R) -> [u8; N]
+    requires { length (fields_bytes R.layout (R.scalars value.now)) ≡ N }
+    ensures { result ≡ fields_bytes R.layout (R.scalars value.now) }
 {
     let mut bytes = [0; N];
-    value.emit(&mut bytes);
+    emit_record(value, &mut bytes);
     bytes
 }

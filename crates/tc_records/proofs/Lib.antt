@@ -1,2 +1,1 @@
-pub mod GenericPart
 mod Keys

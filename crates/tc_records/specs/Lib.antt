@@ -11,3 +11,4 @@ pub mod MessageFlags
 pub mod FilterFlags
 pub mod Selector
 pub mod Defaults
+pub mod Record

@@ -1,18 +1,20 @@
 //! The header of a traffic control message, and handles.
 
-ghost use Rattle.std.specs.Prelude.{◌≡◌, ◌↔◌, IsTrue, List};
+ghost use Rattle.std.specs.Prelude.{◌≡◌, ◌∷◌, ◌↔◌, [], IsTrue, List, refl};
 ghost use Rattle.nla_frames.specs.Fault.{seen};
+ghost use Rattle.tc_canon.specs.Descriptor.{little};
 ghost use Rattle.tc_canon.specs.Layouts.{tc_header};
-ghost use Rattle.tc_meaning.specs.Tree.{Scalar};
-ghost use Rattle.tc_meaning.specs.Layout.{fields_bytes, SettledFields};
+ghost use Rattle.tc_meaning.specs.Tree.{Scalar, plain};
+ghost use Rattle.tc_meaning.specs.Layout.{SettledFields};
 ghost use Rattle.tc_meaning.specs.Content.{read_record, record_codec};
+ghost use Rattle.tc_records.specs.Header.{handle_of, handle_number, header_scalars};
 
-use crate::family::{family_bytes, is_settled_family, same_family, split_family};
-use crate::laws::in_hand::header_in_hand;
-use crate::octets::{i32_octets, u32_octets};
+use crate::family::same_family;
+use crate::fields::Fields;
+use crate::octets::Octets;
+use crate::record::{FixedRecord, emit_record, is_settled_record, parse_record, record_len};
 use crate::same::both;
-use crate::split::{at_least, skip, split_i32, split_u32};
-use nla_frames::{AddressFamily, BytesMeaning, Emitable, Res, SettleBytes, put_bytes};
+use nla_frames::{AddressFamily, BytesMeaning, Emitable, Res, SettleBytes};
 use std::fmt;
 
 /// How long a header is, in bytes.
@@ -31,7 +33,6 @@ impl PartialEq for TcHandle {
     ghost use Rattle.std.specs.Prelude.{nat_eq};
     ghost use Rattle.std.specs.Ordering.{on};
     ghost use Rattle.std.specs.Cmp.{nat_eq_equiv, on_equiv, partial_equiv_from_equiv};
-    ghost use Rattle.tc_records.specs.Header.{handle_number};
 
     ghost eq = { on handle_number nat_eq };
 
@@ -44,7 +45,6 @@ impl PartialEq for TcHandle {
 
 impl Eq for TcHandle {
     ghost use Rattle.std.specs.Cmp.{nat_eq_equiv, on_equiv};
-    ghost use Rattle.tc_records.specs.Header.{handle_number};
 
     ghost laws = { on_equiv handle_number nat_eq_equiv };
 }
@@ -79,8 +79,6 @@ impl TcHandle {
 }
 
 impl From<u32> for TcHandle {
-    ghost use Rattle.tc_records.specs.Header.{handle_of};
-
     ghost from_gives = { λ number handle. handle ≡ handle_of number };
 
     fn from(number: u32) -> TcHandle {
@@ -92,8 +90,6 @@ impl From<u32> for TcHandle {
 }
 
 impl From<TcHandle> for u32 {
-    ghost use Rattle.tc_records.specs.Header.{handle_number};
-
     ghost from_gives = { λ handle number. number ≡ handle_number handle };
 
     fn from(handle: TcHandle) -> u32 {
@@ -112,6 +108,32 @@ impl fmt::Display for TcHandle {
         let minor = self.minor;
         write!(f, "{major}:{minor}")
     }
+}
+
+impl FixedRecord<4> for TcHandle {
+    ghost layout = { little 4 ∷ [] };
+
+    ghost scalars = { λ handle. plain (handle_number handle) ∷ [] };
+
+    fn read(fields: &mut Fields<'_>) -> TcHandle {
+        TcHandle::from(fields.u32())
+    }
+
+    fn write(&self, out: &mut Octets) {
+        out.u32(u32::from(*self));
+    }
+
+    fn is_settled(&self) -> bool {
+        true
+    }
+
+    fn again(&self) -> TcHandle {
+        *self
+    }
+
+    fn in_hand(self, _other: Self) {}
+
+    ghost whole = { refl };
 }
 
 /// The header of a traffic control message, `struct tcmsg` of `linux/rtnetlink.h`: a family, three bytes of padding,
@@ -143,39 +165,66 @@ pub struct TcHeader {
 impl PartialEq for TcHeader {
     ghost use Rattle.std.specs.Ordering.{on};
     ghost use Rattle.tc_meaning.specs.Equal.{same_scalars, scalars_per};
-    ghost use Rattle.tc_records.specs.Header.{header_scalars};
 
     ghost eq = { on header_scalars same_scalars };
 
     ghost laws = { scalars_per header_scalars };
 
     fn eq(&self, other: &TcHeader) -> bool {
-        both(
-            same_family(self.family, other.family),
-            both(
-                self.index.cast_unsigned() == other.index.cast_unsigned(),
-                both(
-                    self.handle == other.handle,
-                    both(
-                        self.parent == other.parent,
-                        both(self.info == other.info, true),
-                    ),
-                ),
-            ),
-        )
+        let rest = both(self.info == other.info, true);
+        let rest = both(self.parent == other.parent, rest);
+        let rest = both(self.handle == other.handle, rest);
+        let index = self.index.cast_unsigned() == other.index.cast_unsigned();
+        both(same_family(self.family, other.family), both(index, rest))
     }
 }
 
 impl Eq for TcHeader {
     ghost use Rattle.tc_meaning.specs.Equal.{scalars_equiv};
-    ghost use Rattle.tc_records.specs.Header.{header_scalars};
 
     ghost laws = { scalars_equiv header_scalars };
 }
 
-impl TcHeader {
-    ghost use Rattle.tc_records.specs.Header.{header_scalars};
+impl FixedRecord<TC_HEADER_LEN> for TcHeader {
+    ghost layout = { tc_header };
 
+    ghost scalars = { header_scalars };
+
+    fn read(fields: &mut Fields<'_>) -> TcHeader {
+        let family = AddressFamily::read(fields);
+        fields.octets(3);
+        TcHeader {
+            family,
+            index: fields.i32(),
+            handle: TcHandle::read(fields),
+            parent: TcHandle::read(fields),
+            info: fields.u32(),
+        }
+    }
+
+    fn write(&self, out: &mut Octets) {
+        self.family.write(out);
+        out.pad(3);
+        out.i32(self.index);
+        self.handle.write(out);
+        self.parent.write(out);
+        out.u32(self.info);
+    }
+
+    fn is_settled(&self) -> bool {
+        self.family.is_settled()
+    }
+
+    fn again(&self) -> TcHeader {
+        TcHeader { ..*self }
+    }
+
+    fn in_hand(self, _other: Self) {}
+
+    ghost whole = { refl };
+}
+
+impl TcHeader {
     /// The index that stands for a block of filters in place of an interface.
     pub const TCM_IFINDEX_MAGIC_BLOCK: u32 = 0xFFFF_FFFF;
 
@@ -183,46 +232,18 @@ impl TcHeader {
     pub fn parse(payload: &[u8]) -> Res<TcHeader>
         ensures { seen header_scalars result ≡ read_record tc_header payload.now }
     {
-        at_least(payload, TC_HEADER_LEN)?;
-        let (family, rest) = split_family(payload);
-        let (index, rest) = split_i32(skip(rest, 3));
-        let (handle, rest) = split_u32(rest);
-        let (parent, rest) = split_u32(rest);
-        let (info, _) = split_u32(rest);
-        Ok(TcHeader {
-            family,
-            index,
-            handle: TcHandle::from(handle),
-            parent: TcHandle::from(parent),
-            info,
-        })
+        parse_record(payload)
     }
 
     /// True if it reads back as itself: the family is no `Other` of a number that has a name.
     pub fn is_settled(&self) -> bool
         ensures { IsTrue result ↔ SettledFields tc_header (header_scalars self.now) }
     {
-        is_settled_family(self.family)
-    }
-
-    // The header's bytes, its padding zero.
-    fn to_bytes(&self) -> [u8; TC_HEADER_LEN]
-        ensures { result ≡ fields_bytes tc_header (header_scalars self.now) }
-    {
-        let [f0] = family_bytes(self.family);
-        let (i0, i1, i2, i3) = i32_octets(self.index);
-        let (h0, h1, h2, h3) = u32_octets(u32::from(self.handle));
-        let (p0, p1, p2, p3) = u32_octets(u32::from(self.parent));
-        let (n0, n1, n2, n3) = u32_octets(self.info);
-        [
-            f0, 0, 0, 0, i0, i1, i2, i3, h0, h1, h2, h3, p0, p1, p2, p3, n0, n1, n2, n3,
-        ]
+        is_settled_record(self)
     }
 }
 
 impl BytesMeaning for TcHeader {
-    ghost use Rattle.tc_records.specs.Header.{header_scalars};
-
     ghost Seen = { List Scalar };
 
     ghost see = { header_scalars };
@@ -232,18 +253,16 @@ impl BytesMeaning for TcHeader {
 
 impl Emitable for TcHeader {
     fn checked_len(&self) -> Option<usize> {
-        Some(TC_HEADER_LEN)
+        record_len(self)
     }
 
     fn emit(&self, buffer: &mut [u8]) {
-        header_in_hand(self);
-        put_bytes(buffer, &self.to_bytes());
+        emit_record(self, buffer);
     }
 }
 
 impl SettleBytes for TcHeader {
     fn is_settled_under(&self, _kind: &str) -> bool {
-        header_in_hand(self);
-        self.is_settled()
+        is_settled_record(self)
     }
 }

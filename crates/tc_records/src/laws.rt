@@ -20,12 +20,13 @@ ghost use Rattle.tc_records.specs.Header.{handle_of, handle_number, empty_header
 ghost use Rattle.tc_records.specs.Statistics.{stats_scalars, basic_scalars, queue_scalars, qd_stats_scalars, cl_stats_scalars};
 ghost use Rattle.tc_records.specs.Tcf.{tcf_scalars};
 ghost use Rattle.tc_records.specs.Actions.{action_message_header_scalars, mirror_scalars, tunnel_key_scalars, empty_generic, IsEmptyNat};
+ghost use Rattle.tc_records.specs.Record.{ForgetsNothing};
 ghost use Rattle.tc_records.specs.Selector.{key_scalars};
 ghost use Rattle.tc_records.specs.Defaults.{DefaultsTo, zeros, mirror_default, tunnel_key_default};
 ghost use Rattle.tc_records.specs.Flags.{KnowsEvery};
 ghost use Rattle.tc_records.specs.NatFlags.{nat_flags_word, nat_flags_table};
 ghost use Rattle.tc_records.specs.MessageFlags.{message_flags_word, message_flags_table};
-ghost use Rattle.tc_records.specs.FilterFlags.{bpf_flags_table, selector_flags_byte, selector_flags_table, option_flags_table};
+ghost use Rattle.tc_records.specs.FilterFlags.{bpf_flags_word, bpf_flags_table, selector_flags_byte, selector_flags_table, option_flags_word, option_flags_table};
 
 pub mod equal;
 pub mod in_hand;
@@ -87,6 +88,15 @@ pub fn flag_words()
     ensures bpf { KnowsEvery 32 bpf_flags_table }
     ensures selector { KnowsEvery 8 selector_flags_table }
     ensures option { KnowsEvery 32 option_flags_table }
+{}
+
+/// What contracts see of flags, their word, forgets nothing.
+pub fn flags_forget_nothing()
+    ensures nat { ForgetsNothing nat_flags_word }
+    ensures message { ForgetsNothing message_flags_word }
+    ensures bpf { ForgetsNothing bpf_flags_word }
+    ensures selector { ForgetsNothing selector_flags_byte }
+    ensures option { ForgetsNothing option_flags_word }
 {}
 
 /// The flags of action messages compare as their words do, by `cmp` and `partial_cmp`; they are equal exactly if they

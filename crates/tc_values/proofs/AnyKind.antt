@@ -11,7 +11,7 @@ use Rattle.tc_canon.specs.Descriptor.{Table, table, every, by_kind, Rows, others
 use Rattle.tc_meaning.specs.Tree.{Attribute, known}
 use Rattle.tc_meaning.specs.Meaning.{a_list, choose, class_codec, table_codec, rows_codec}
 
--- nothing in it is by kind but what tells its kind itself
+-- nothing in it depends on the kind but what holds its own
 abbrev mutual
   pub is_kindless_class : Class → Bool
   is_kindless_class xstats = false

@@ -1,5 +1,5 @@
 -- A list as the value of an attribute: how it is read, measured, written and settled.
-use Rattle.std.proofs.Common.{◌≡◌, ◌↔◌, ℕ, List, Bool, IsTrue, Ok, map, refl}
+use Rattle.std.proofs.Common.{◌≡◌, ◌↔◌, ℕ, List, Bool, IsTrue, Ok, map, refl, sym, ap, ◌∙◌}
 use Rattle.std.specs.List.{AllByRecursion}
 use Rattle.nla_frames.specs.declared.error.DecodeError.{DecodeError}
 use Rattle.nla_frames.specs.Fault.{Gives, seen, read_as, refused}
@@ -9,9 +9,13 @@ use Rattle.nla_frames.specs.Emission.{list_bytes, NestedFits}
 use Rattle.nla_frames.specs.Codec.{SettledEach}
 use Rattle.nla_frames.proofs.Outcomes.{Gives-err}
 use Rattle.tc_canon.specs.Descriptor.{Table, Rows, table, list_of}
-use Rattle.tc_meaning.specs.Tree.{Attribute, known, items, attributes_of}
+use Rattle.tc_meaning.specs.Tree.{Attribute, known, items, attributes_of, list_of_attributes}
 use Rattle.tc_meaning.specs.Meaning.{a_list, class_codec, table_codec, IsShort}
 use Rattle.tc_meaning.proofs.Trees.{attributes_again}
+
+-- lists that are alike as contents are alike
+pub attributes_once : {xs ys : List Attribute} → attributes_of xs ≡ attributes_of ys → xs ≡ ys
+attributes_once {xs = xs} {ys = ys} e = sym (attributes_again xs) ∙ ap list_of_attributes e ∙ attributes_again ys
 
 -- an attribute of this type holds a list of this table
 module _ (rows : Rows) (n : ℕ) (t : Table) (kind : List ℕ) (f : Frame)

@@ -1,4 +1,4 @@
--- An option under a known kind is what the kind's rows read; under any other it is kept as it stands.
+-- An option under a known kind is what the kind's rows read; under any other it is kept raw.
 use Rattle.std.proofs.Common.{◌≡◌, ℕ, Bool, true, false, List, [], cond, refl, ap, ◌∙◌}
 use Rattle.std.specs.Str.{bytes_eq}
 use Rattle.std.proofs.lemmas.Slice.Eq.{bytes_eq-Decides}
@@ -40,7 +40,7 @@ kinds_kept (kind name rows kinds) k f is = go (bytes_eq k name) is (kinds_kept k
     go true e rest = absurd (cc e)
     go false e rest = rest e
 
--- an option under it is kept as it stands
+-- an option under it is kept raw
 pub option_kept : (kinds : Kinds) (k : List ℕ) (f kept : Frame) → is_known kinds k ≡ false → read_as f ≡ read_as kept
     → read_option kinds k f ≡ read_as (other kept.word kept.value)
 option_kept kinds k f kept told same = kinds_kept kinds k f told ∙ ap (seen (λ (g : Frame). other g.word g.value)) same

@@ -24,7 +24,7 @@ record WrittenAt (codec : Codec Frame Attribute) (is_read : Bool) (n word : ℕ)
   pub typed : (x : Content) → (class_codec class).Typed x → codec.Typed (known n x)
   pub settled : (kind : List ℕ) (x : Content) → codec.Settled kind (known n x) ↔ ((is_read ≡ true) × (class_codec class).Settled kind x)
 
--- what is kept as it stands, in a codec whose type is read or not
+-- what is kept raw, in a codec whose type is read or not
 record KeptAt (codec : Codec Frame Attribute) (is_read : Bool) : Type 0 where
   pub write : (w : ℕ) (v : List ℕ) → codec.write (other w v) ≡ record { word = w; value = v }
   pub fits : (w : ℕ) (v : List ℕ) → codec.Fits (other w v) ↔ IsShort v
@@ -170,7 +170,7 @@ module _ {N : Type 0} (inner : Inner N) (is : IsInner inner) (rows : Rows) (word
   shown_as x (Warning t) seen row = subst (λ y. ShownAs inner rows y word (Warning t)) (sym seen) (shown_known (Warning t) row (λ kind. refl))
   shown_as x (Nested n) seen row = subst (λ y. ShownAs inner rows y word (Nested n)) (sym seen) (shown_known (Nested n) row (λ kind. refl))
 
--- what is told of a value, at a type that is read or not, is told of the attribute that shows it
+-- a test that says of a value whether it is settled, at a type that is read or not, says it of the attribute
 pub settled_shown : {N : Type 0} {inner : Inner N} {rows : Rows} {x : Attribute} {word : ℕ} {v : Value N} {is_read : Bool} {P : Type 0}
     → ShownAs inner rows x word v → is_read ≡ reads_at rows (type_of word) → (kind : List ℕ)
     → P ↔ SettledAs inner.Settled is_read kind v → P ↔ (table_codec (table rows)).Settled kind x

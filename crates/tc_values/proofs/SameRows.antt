@@ -1,4 +1,4 @@
--- The test of two attributes, each shown as its word and its value, tells whether contracts see them as equal.
+-- The test of two attributes, each given by its word and its value, says whether contracts see them as equal.
 use Rattle.std.proofs.Common.{◌≡◌, ◌&&◌, ℕ, Bool, true, false, List, Option, Some, refl, sym, ap, subst, ◌∙◌, nat_eq}
 use Rattle.std.specs.Ordering.{on}
 use Rattle.std.specs.Bool.{Decides}
@@ -82,7 +82,7 @@ module _ {N : Type 0} (inner : Inner N) (same : N → N → Bool) (is : IsSame i
   is_held_kept (bytes_kept v) = true
   is_held_kept h = false
 
-  -- a holding of a value that isn't kept as it stands, in its class
+  -- a holding of a value that isn't kept raw, in its class
   record IsHeld (h : Holding N) (class : Class) : Type 0 where
     pub nested : class ≡ class_held h class
     pub plain : is_plain class ≡ is_held_plain h
@@ -101,7 +101,7 @@ module _ {N : Type 0} (inner : Inner N) (same : N → N → Bool) (is : IsSame i
   unlike_kept v (bytes_kept w) e = absurd (cc e)
   unlike_kept v h e = (refl, refl)
 
-  -- a value that isn't kept as it stands, as an attribute
+  -- a value that isn't kept raw, as an attribute
   record IsTyped (v : Value N) : Type 0 where
     pub seen : (word : ℕ) → attribute_of inner word v ≡ known (type_of word) (value_content inner v)
     pub row : (rows : Rows) (word : ℕ) → IsRow inner rows word v → written_at rows (type_of word) ≡ Some (word, value_class inner v)

@@ -15,7 +15,7 @@ use Rattle.tc_values.specs.declared.body.Record.{Record}
 use Rattle.tc_values.specs.declared.body.Either.{Either}
 use Rattle.tc_values.specs.declared.body.Either.TheVariants.{Left, Right}
 
--- nothing is nested in the attributes of the type: as it were, an empty list
+-- nothing is nested in the attributes of the type: seen as an empty list
 abbrev pub nothing : Inner NoBody
 nothing = record {
   class = λ n. list_of (table others);
@@ -37,7 +37,7 @@ items_of see t = record {
   Settled = λ kind xs. SettledEach (table_codec t).Settled keep kind (map see xs.0.now);
 }
 
--- something that stands in bytes, as contents of this class
+-- a record, a selector or statistics, as contents of this class
 abbrev pub part_of : {R X : Type 0} → (R → X) → Shape X → Codec (List ℕ) X → Class → Inner (Record R)
 part_of see shape codec class = record {
   class = λ r. class;

@@ -8,13 +8,13 @@ pub record Inner (N : Type 0) : Type 1 where
   -- its class in a table, and what it is there
   pub class : N → Class
   pub content : N → Content
-  -- as its own methods have it
+  -- what its own methods say of it
   pub bytes : N → List ℕ
   pub Fits : N → Type 0
   pub Typed : N → Type 0
   pub Settled : List ℕ → N → Type 0
 
--- its methods have it as its class does
+-- its methods say what its class says
 pub record IsInner {N : Type 0} (inner : Inner N) : Type 0 where
   pub bytes : (n : N) → (class_codec (inner.class n)).write (inner.content n) ≡ inner.bytes n
   pub fits : (n : N) → inner.Fits n ↔ ((class_codec (inner.class n)).Fits (inner.content n) × IsShort ((class_codec (inner.class n)).write (inner.content n)))

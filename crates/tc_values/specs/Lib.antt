@@ -3,3 +3,4 @@ pub mod Value
 pub mod Row
 pub mod Bodies
 pub mod Same
+pub mod Forgets

@@ -1,4 +1,4 @@
--- What an enum shows of an attribute, a word and a value, as a row of its table.
+-- What an enum shows of an attribute by a row of its table: its `nla_type`, here the word, and a value.
 use Rattle.std.specs.Prelude.{◌≡◌, ◌↔◌, ℕ, ◌<◌, ◌^◌, ◌+◌, Bool, true, false, List, Option, Some, None, ◌==◌, if◌then◌else◌}
 use Rattle.nla_frames.specs.Frame.{type_of}
 use Rattle.tc_canon.specs.Descriptor.{Class, Rows, others, types, unread, options, is_within, table}
@@ -28,12 +28,12 @@ abbrev pub attribute_of : {N : Type 0} → Inner N → ℕ → Value N → Attri
 attribute_of inner word (Kept v) = other word v.now
 attribute_of inner word v = known (type_of word) (value_content inner v)
 
--- they are written as the table has it
+-- the table writes an attribute of this type by this word and this class of values
 abbrev pub IsRow : {N : Type 0} → Inner N → Rows → ℕ → Value N → Type 0
 IsRow inner rows word (Kept v) = Unit {0}
 IsRow inner rows word v = written_at rows (type_of word) ≡ Some (word, value_class inner v)
 
--- an attribute is written as this word and this value, as far as its table says
+-- what the table says of an attribute, said of its word and its value: how it is written, that it fits, is typed, is settled
 pub record ShownAs {N : Type 0} (inner : Inner N) (rows : Rows) (x : Attribute) (word : ℕ) (v : Value N) : Type 0 where
   pub same_word : word ≡ ((table_codec (table rows)).write x).word
   pub bytes : value_bytes inner.bytes v ≡ ((table_codec (table rows)).write x).value

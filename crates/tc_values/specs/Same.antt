@@ -74,7 +74,7 @@ is_plain presence = true
 is_plain truth = true
 is_plain class = false
 
--- the test tells whether what is nested is seen as equal, where it is of one class
+-- the test says whether what is nested is seen as equal, where it is of one class
 pub record IsSame {N : Type 0} (inner : Inner N) (same : N → N → Bool) : Type 0 where
   pub tells : (m n : N) → inner.class m ≡ inner.class n → same m n ≡ same_content (inner.content m) (inner.content n)
   pub nested : (n : N) → is_plain (inner.class n) ≡ false

@@ -8,7 +8,7 @@ use Rattle.tc_values.specs.declared.value.Value.{Value}
 use Rattle.tc_values.specs.declared.value.Value.TheVariants.{Presence, Truth, U8, U16, U32, U16Be, U32Be, Bits1, Bits3, Bits20, Octets4, Octets6, Octets8}
 use Rattle.tc_values.specs.declared.value.Value.TheVariants.{Octets16, Bytes, Text, Warning, Kept, Nested}
 
--- the class of a value that isn't kept as it stands
+-- the class of a value that isn't kept raw
 abbrev pub value_class : {N : Type 0} → Inner N → Value N → Class
 value_class inner (Presence b) = presence
 value_class inner (Truth b) = truth
@@ -118,7 +118,7 @@ SettledValue SettledIn kind (Warning t) = strip t.now ≡ t.now
 SettledValue SettledIn kind (Nested n) = SettledIn kind n
 SettledValue SettledIn kind v = Unit {0}
 
--- at a type that is read, or isn't: what is kept as it stands is of a type that isn't read; any other value is of one
+-- at a type that is read, or isn't: what is kept raw is of a type that isn't read; any other value is of one
 -- that is, and no part of it is lost
 abbrev pub SettledAs : {N : Type 0} → (List ℕ → N → Type 0) → Bool → List ℕ → Value N → Type 0
 SettledAs SettledIn is_read kind (Kept v) = is_read ≡ false

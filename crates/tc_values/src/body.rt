@@ -12,14 +12,18 @@ use nla_frames::{
     put_list,
 };
 
-/// Something that stands as the value of an attribute.
+/// What an attribute nests: a list of attributes, a record, or one of two such things.
 pub trait Body {
+    // Its bytes.
     ghost bytes: { Self → List ℕ };
 
+    // It can be written.
     ghost Fits: { Self → Type 0 };
 
+    // Each number in it is in the range of its type, each text is UTF-8.
     ghost Typed: { Self → Type 0 };
 
+    // Written and read again under this kind, it is the same.
     ghost Settled: { List ℕ → Self → Type 0 };
 
     /// How many bytes it has, or `None` where it can't be written.
@@ -34,13 +38,13 @@ pub trait Body {
         ensures length { result ≡ length (Self.bytes self.now) }
         ensures typed { Self.Typed self.now };
 
-    /// True if it reads back as itself under a kind.
+    /// True if, written and read again under this kind, it is the same.
     fn is_settled_under(&self, kind: &str) -> bool
         ensures settled { IsTrue result ↔ Self.Settled kind.now self.now }
         ensures typed { IsTrue result → Self.Typed self.now };
 }
 
-/// What an enum nests that nests nothing.
+/// What the attributes of an enum nest that nests nothing.
 #[derive(Drop)]
 pub struct NoBody {}
 
@@ -92,7 +96,7 @@ impl<'a, T: Nla + Settle> Body for Items<'a, T> {
     }
 }
 
-/// A record, a selector, statistics: what stands in bytes.
+/// A record, a selector or statistics: bytes in which no attributes are nested.
 #[derive(Drop)]
 pub struct Record<'a, R>(pub &'a R);
 

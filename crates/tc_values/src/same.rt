@@ -8,7 +8,7 @@ ghost use Rattle.tc_values.specs.Bodies.{same_of_either};
 use crate::body::{Either, Items, NoBody, Record};
 use crate::value::Value;
 
-/// What can be compared where it stands as the value of an attribute.
+/// What an attribute nests, if it can be compared.
 pub trait Same {
     ghost same: { Self → Self → Bool };
 
@@ -99,7 +99,7 @@ impl<'a, N: Same> Value<'a, N> {
     }
 }
 
-/// True if two attributes of one enum are equal, each shown as its word and its value.
+/// True if two attributes of one enum are equal, each given by its `nla_type` and its value.
 pub fn same_row<N: Same>(one: &(u16, Value<'_, N>), other: &(u16, Value<'_, N>)) -> bool
     ensures { result ≡ (nat_eq one.now.0 other.now.0 && same_value N.same one.now.1 other.now.1) }
 {

@@ -14,7 +14,7 @@ use nla_frames::{
     put_u32, put_u32_be, strip_nul,
 };
 
-/// The value of an attribute, as it is written; numbers are little-endian unless their name ends in `Be`.
+/// The value of an attribute in the form in which it is written; numbers are little-endian unless their name ends in `Be`.
 #[derive(Drop)]
 pub enum Value<'a, N = NoBody> {
     /// No bytes: the attribute is there, and true.
@@ -51,7 +51,7 @@ pub enum Value<'a, N = NoBody> {
     Text(&'a str),
     /// A text without a NUL after it.
     Warning(&'a str),
-    /// Bytes of an attribute whose word and value are kept as they stand.
+    /// The payload of an attribute that is kept raw.
     Kept(&'a [u8]),
     /// What is nested in the attribute.
     Nested(N),
@@ -88,6 +88,7 @@ impl<'a, N: Body> Value<'a, N> {
         ensures length { result ≡ length (value_bytes N.bytes self.now) }
         ensures typed { TypedValue N.Typed self.now }
     {
+        // Does nothing at run time: it says that each number is in the range of its type, for the clause `typed`.
         self.in_hand();
         match self {
             Value::Presence(_) => 0,
@@ -111,11 +112,13 @@ impl<'a, N: Body> Value<'a, N> {
         }
     }
 
-    /// True if it reads back as itself under a kind, at a type that is read or not.
+    /// True if, written and read again under this kind, it is the same; `is_read` says whether the attribute is of a type
+    /// that its table reads.
     pub fn is_settled_under(&self, is_read: bool, kind: &str) -> bool
         ensures settled { IsTrue result ↔ SettledAs N.Settled is_read kind.now self.now }
         ensures typed { IsTrue result → TypedValue N.Typed self.now }
     {
+        // Does nothing at run time: it says that each number is in the range of its type, for the clause `typed`.
         self.in_hand();
         match self {
             Value::Kept(_) => !is_read,
@@ -129,7 +132,7 @@ impl<'a, N: Body> Value<'a, N> {
         }
     }
 
-    // What is known of a plain value in hand.
+    // Does nothing at run time. Each number of a value in hand is in the range of its type, and each text is UTF-8.
     fn in_hand(&self)
         ensures { TypedValue (λ _. Unit {0}) self.now }
     {

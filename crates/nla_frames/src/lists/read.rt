@@ -71,7 +71,7 @@ fn read_all_with<A: Allocator + Copy, T: ParseableParametrized<A> + Drop>(
     Ok(list)
 }
 
-/// The values of frames that are cut already, each read under one kind, or the first fault.
+/// The values of frames that are already cut, each read under one kind, or the first fault.
 pub fn parse_frames_with<A: Allocator + Copy, T: ParseableParametrized<A> + Drop>(
     alloc: A,
     frames: &[NlaBuffer<'_>],

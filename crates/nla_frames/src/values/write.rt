@@ -1,4 +1,4 @@
-//! Writing plain values, each at the front of a buffer. What stands after it stays as it was.
+//! Writing plain values, each at the front of a buffer. The rest of the buffer stays unchanged.
 
 ghost use Rattle.std.specs.Prelude.{◌≡◌, ℕ, List, ◌∷◌, [], length};
 ghost use Rattle.std.specs.Prelude.{◌≤◌, ◌<◌, ◌^◌};

@@ -1,4 +1,4 @@
-//! An action: one attribute, whose value is a list that tells its own kind.
+//! An action: one attribute, whose payload is a list of attributes that holds its own kind.
 
 ghost use Rattle.std.specs.Prelude.{◌≡◌, [], IfOk};
 ghost use Rattle.std.specs.Ordering.{on};
@@ -24,20 +24,21 @@ use nla_frames::{
 use std::alloc::{Allocator, Global};
 use tc_laws::places::order_in_an_action;
 
-/// An action. Its kind is the text of its one [`Kind`](TcActionAttribute::Kind), wherever that stands, and its options
-/// and statistics are read under it.
+/// An action. Its kind is the text of its one [`Kind`](TcActionAttribute::Kind), at whatever place in the list, and its
+/// options and statistics are read under it.
 #[derive(Drop)]
 #[derive_where(Debug)]
 #[derive_where(Clone; A)]
 pub struct TcAction<A: Allocator = Global> {
-    /// The type of its frame, which in a list of actions is its place; the whole word when it is written.
+    /// The type of its attribute, which in a list of actions is its place, counted from 1. It is written as the whole
+    /// `nla_type`.
     pub tab: u16,
     /// Its attributes.
     pub attributes: Vec<TcActionAttribute<A>, A>,
 }
 
 impl<A: Allocator> TcAction<A> {
-    /// An action of type `TCA_ACT_TAB` with no attributes. It isn't settled, as it tells no kind.
+    /// An action of type `TCA_ACT_TAB` with no attributes. It isn't settled, as it has no kind.
     pub fn default_in(alloc: A) -> TcAction<A>
         ensures tab { result.tab ≡ 1 }
         ensures attributes { result.attributes.items ≡ [] }
@@ -58,14 +59,14 @@ impl<A: Allocator> FrameMeaning for TcAction<A> {
 }
 
 impl<A: Allocator + Copy> Parseable<A> for TcAction<A> {
-    /// The action of a frame of any type, or its first fault: of a broken frame or of a kind that isn't UTF-8, then
-    /// `MissingKind` or `DuplicateKind`, then of an attribute.
+    /// The action that is the payload of a frame of any type, or its first fault: a broken frame or a kind that isn't
+    /// UTF-8, then `MissingKind` or `DuplicateKind`, then a fault of an attribute.
     fn parse(alloc: A, buf: &NlaBuffer<'_>) -> Res<TcAction<A>>
         ensures tab { IfOk result (λ action. action.tab ≡ type_of (frame_of buf.now).word) }
         // Its attributes are what the grammar reads of the value.
         ensures found { IfOk result (λ action.
             OwnReads read_action_attribute (frame_of buf.now).value (listed action)) }
-        // What is refused has this fault, and it is the first.
+        // What is refused has this fault, which is the first.
         ensures refused { IfRefused result
             (OwnFault read_action_attribute (frame_of buf.now).value) }
         // Two neighbours exchanged, where all are padded in full, exchange what they read as, and change nothing else.
@@ -74,6 +75,7 @@ impl<A: Allocator + Copy> Parseable<A> for TcAction<A> {
         ensures exact { Gives (seen tc_action result)
             ((table_codec an_action).read [] (frame_of buf.now)) }
     {
+        // Does nothing at run time: its law gives the clause `order`.
         order_in_an_action();
         let attributes = parse_list_own(alloc, buf.value())?;
         Ok(TcAction {
@@ -93,6 +95,7 @@ impl<A: Allocator> Nla for TcAction<A> {
     }
 
     fn put_value(&self, buffer: &mut [u8]) -> usize {
+        // Does nothing at run time: it says that `tab` is below 2^16, for the clause `typed`.
         u16_in_hand(self.tab);
         put_list(&self.attributes, buffer)
     }
@@ -101,9 +104,10 @@ impl<A: Allocator> Nla for TcAction<A> {
 }
 
 impl<A: Allocator> Settle for TcAction<A> {
-    /// True if the type has no flags, one attribute tells the kind, and each is settled under it. The kind around the
-    /// action doesn't matter.
+    /// True if `tab` has no flags, exactly one attribute is a kind, and each attribute is settled under it. The kind
+    /// around the action doesn't matter.
     fn is_settled_under(&self, _kind: &str) -> bool {
+        // Does nothing at run time: it says that `tab` is below 2^16, for the clause `typed`.
         u16_in_hand(self.tab);
         self.tab <= NLA_TYPE_MASK && list_settled_own(&self.attributes)
     }

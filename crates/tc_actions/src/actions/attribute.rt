@@ -31,7 +31,7 @@ use tc_values::{Either, Items, Value, same_row};
 /// | Type | Attribute | Value |
 /// |---|---|---|
 /// | 1 | `Kind` | text |
-/// | 2, written with the nested flag | `Options` | a list of [`TcActionOption`], by the action's kind |
+/// | 2, written with `NLA_F_NESTED` | `Options` | a list of [`TcActionOption`], by the action's kind |
 /// | 3 | `Index` | u32 |
 /// | 4 | `Stats` | a list of [`TcStats2`], by the action's kind |
 /// | 6 | `Cookie` | bytes |
@@ -44,13 +44,13 @@ pub enum TcActionAttribute<A: Allocator = Global> {
     Kind(String<A>),
     /// The options: `TCA_ACT_OPTIONS`.
     Options(Vec<TcActionOption<A>, A>),
-    /// The number that tells the action from others of its kind: `TCA_ACT_INDEX`.
+    /// The number of the action among those of its kind: `TCA_ACT_INDEX`.
     Index(u32),
     /// Statistics: `TCA_ACT_STATS`.
     Stats(Vec<TcStats2<A>, A>),
     /// Bytes that the user keeps with the action: `TCA_ACT_COOKIE`.
     Cookie(Vec<u8, A>),
-    /// How often the action stands in hardware: `TCA_ACT_IN_HW_COUNT`.
+    /// How many times the action is offloaded to hardware: `TCA_ACT_IN_HW_COUNT`.
     InHwCount(u32),
     /// Any other type.
     Other(DefaultNla<A>),
@@ -83,7 +83,7 @@ impl<A: Allocator + Copy> ParseableParametrized<A> for TcActionAttribute<A> {
 }
 
 impl<A: Allocator> TcActionAttribute<A> {
-    // Its word and its value, and what they are by the table.
+    // The row, with what it says of the attribute: how it is written, that it fits and is settled.
     fn view(&self) -> (u16, Value<'_, Body<'_, A>>)
         ensures { ShownAs attribute_body action_attributes (action_attribute self.now)
             result.0 result.1 }
@@ -91,7 +91,9 @@ impl<A: Allocator> TcActionAttribute<A> {
         self.row()
     }
 
-    fn row(&self) -> (u16, Value<'_, Body<'_, A>>)
+    /// The attribute's `nla_type` (type and flags) and its value, in the form that the row of its type in the table says; of
+    /// `Other` the word and the payload that it keeps.
+    pub fn row(&self) -> (u16, Value<'_, Body<'_, A>>)
         ensures seen { action_attribute self.now ≡ attribute_of attribute_body result.0 result.1 }
         ensures row { IsRow attribute_body action_attributes result.0 result.1 }
     {
@@ -112,7 +114,7 @@ impl<A: Allocator> TcActionAttribute<A> {
     }
 }
 
-// True if attributes of this word's type are read.
+// True if the table reads attributes of the type of this `nla_type`.
 fn is_read(word: u16) -> bool
     ensures { result ≡ reads_at action_attributes (type_of word) }
 {

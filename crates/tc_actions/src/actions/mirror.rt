@@ -59,23 +59,25 @@ impl<A: Allocator> FrameMeaning for TcActionMirrorOption<A> {
 impl<A: Allocator> Parseable<A> for TcActionMirrorOption<A> {
     fn parse(alloc: A, buf: &NlaBuffer<'_>) -> Res<TcActionMirrorOption<A>> {
         let value = buf.value();
-        Ok(match buf.kind() {
-            TCA_MIRRED_TM => TcActionMirrorOption::Tm(Tcf::parse(value)?),
-            TCA_MIRRED_PARMS => TcActionMirrorOption::Parms(TcMirror::parse(value)?),
-            _ => TcActionMirrorOption::Other(DefaultNla::parse(alloc, buf)?),
-        })
+        match buf.kind() {
+            TCA_MIRRED_TM => Ok(TcActionMirrorOption::Tm(Tcf::parse(value)?)),
+            TCA_MIRRED_PARMS => Ok(TcActionMirrorOption::Parms(TcMirror::parse(value)?)),
+            _ => Ok(TcActionMirrorOption::Other(DefaultNla::parse(alloc, buf)?)),
+        }
     }
 }
 
 impl<A: Allocator> TcActionMirrorOption<A> {
-    // Its word and its value, and what they are by the table.
+    // The row, with what it says of the attribute: how it is written, that it fits and is settled.
     fn view(&self) -> (u16, Value<'_, Body<'_>>)
         ensures { ShownAs mirror_body mirror_options (mirror_option self.now) result.0 result.1 }
     {
         self.row()
     }
 
-    fn row(&self) -> (u16, Value<'_, Body<'_>>)
+    /// The option's `nla_type` (type and flags) and its value, in the form that the row of its type in the table says; of
+    /// `Other` the word and the payload that it keeps.
+    pub fn row(&self) -> (u16, Value<'_, Body<'_>>)
         ensures seen { mirror_option self.now ≡ attribute_of mirror_body result.0 result.1 }
         ensures row { IsRow mirror_body mirror_options result.0 result.1 }
     {
@@ -93,7 +95,7 @@ impl<A: Allocator> TcActionMirrorOption<A> {
     }
 }
 
-// True if options of this word's type are read.
+// True if the table reads options of the type of this `nla_type`.
 fn is_read(word: u16) -> bool
     ensures { result ≡ reads_at mirror_options (type_of word) }
 {

@@ -59,23 +59,25 @@ impl<A: Allocator> FrameMeaning for TcActionNatOption<A> {
 impl<A: Allocator> Parseable<A> for TcActionNatOption<A> {
     fn parse(alloc: A, buf: &NlaBuffer<'_>) -> Res<TcActionNatOption<A>> {
         let value = buf.value();
-        Ok(match buf.kind() {
-            TCA_NAT_PARMS => TcActionNatOption::Parms(TcNat::parse(value)?),
-            TCA_NAT_TM => TcActionNatOption::Tm(Tcf::parse(value)?),
-            _ => TcActionNatOption::Other(DefaultNla::parse(alloc, buf)?),
-        })
+        match buf.kind() {
+            TCA_NAT_PARMS => Ok(TcActionNatOption::Parms(TcNat::parse(value)?)),
+            TCA_NAT_TM => Ok(TcActionNatOption::Tm(Tcf::parse(value)?)),
+            _ => Ok(TcActionNatOption::Other(DefaultNla::parse(alloc, buf)?)),
+        }
     }
 }
 
 impl<A: Allocator> TcActionNatOption<A> {
-    // Its word and its value, and what they are by the table.
+    // The row, with what it says of the attribute: how it is written, that it fits and is settled.
     fn view(&self) -> (u16, Value<'_, Body<'_>>)
         ensures { ShownAs nat_body nat_options (nat_option self.now) result.0 result.1 }
     {
         self.row()
     }
 
-    fn row(&self) -> (u16, Value<'_, Body<'_>>)
+    /// The option's `nla_type` (type and flags) and its value, in the form that the row of its type in the table says; of
+    /// `Other` the word and the payload that it keeps.
+    pub fn row(&self) -> (u16, Value<'_, Body<'_>>)
         ensures seen { nat_option self.now ≡ attribute_of nat_body result.0 result.1 }
         ensures row { IsRow nat_body nat_options result.0 result.1 }
     {
@@ -93,7 +95,7 @@ impl<A: Allocator> TcActionNatOption<A> {
     }
 }
 
-// True if options of this word's type are read.
+// True if the table reads options of the type of this `nla_type`.
 fn is_read(word: u16) -> bool
     ensures { result ≡ reads_at nat_options (type_of word) }
 {

@@ -1,4 +1,4 @@
-//! A list of frames that tell their own kind, read with one scan: it cuts the frames, and meets the broken ones and the
+//! A list of frames that holds its own kind, read with one scan: it cuts the frames, and meets the broken ones and the
 //! kinds that aren't UTF-8 in their order.
 
 ghost use Rattle.std.specs.Prelude.{◌≡◌, List, ℕ, [], Option, map, IfOk};
@@ -17,8 +17,9 @@ use nla_frames::{
     parse_frames_with, strip_nul,
 };
 use std::alloc::Allocator;
+use tc_meaning::laws::own_grammar;
 
-/// The values of the frames that the bytes are, each read under the kind that one of them tells, or the first fault: of
+/// The values of the frames that the bytes are, each read under the kind that one of them sets, or the first fault: of
 /// a broken frame or of a kind that isn't UTF-8, of no kind or of several, of a frame that is refused.
 pub(crate) fn parse_list_own<A: Allocator + Copy, T: ParseableParametrized<A> + Drop>(
     alloc: A,
@@ -28,6 +29,8 @@ pub(crate) fn parse_list_own<A: Allocator + Copy, T: ParseableParametrized<A> + 
     ensures refused { IfRefused result (OwnFault T.codec.read bytes.now) }
     ensures exact { Gives (seen (λ v. map T.see v.items) result) (read_own T.codec.read bytes.now) }
 {
+    // Does nothing at run time: its law, that `read_own` is what the grammar reads, gives the clauses `found` and `refused`.
+    own_grammar::<T>(bytes);
     parse_own(alloc, bytes)
 }
 
@@ -45,7 +48,7 @@ fn parse_own<A: Allocator + Copy, T: ParseableParametrized<A> + Drop>(
     }
 }
 
-// The frames that the bytes are, and the kinds that they tell; or the first broken frame or kind that isn't UTF-8.
+// The frames that the bytes are, and the kinds that they set; or the first broken frame or kind that isn't UTF-8.
 fn scan<'a, A: Allocator>(alloc: A, bytes: &'a [u8]) -> Res<(Vec<NlaBuffer<'a>, A>, OnlyKind<'a>)>
     ensures { MatchResult result (λ found. Scanned bytes.now found.0.items found.1) (λ e.
         Gives (refused e) (read_list first_look keep [] bytes.now)) }
@@ -60,8 +63,8 @@ fn scan<'a, A: Allocator>(alloc: A, bytes: &'a [u8]) -> Res<(Vec<NlaBuffer<'a>, 
     Ok((frames, only))
 }
 
-/// The kind that a frame tells: the text of a frame of type 1, whatever its flags are, and none of any other; `NotUtf8`
-/// where it is no text.
+/// The kind that a frame sets: the text of a frame of type 1, whatever its flags are, and `None` for any other frame;
+/// `NotUtf8` if the payload is no text.
 pub fn kind_told<'a>(frame: &NlaBuffer<'a>) -> Res<Option<&'a str>>
     ensures { seen text_set result ≡ first_look [] (frame_of frame.now) }
 {

@@ -92,35 +92,37 @@ impl<A: Allocator> FrameMeaning for TcActionTunnelKeyOption<A> {
 impl<A: Allocator> Parseable<A> for TcActionTunnelKeyOption<A> {
     fn parse(alloc: A, buf: &NlaBuffer<'_>) -> Res<TcActionTunnelKeyOption<A>> {
         let value = buf.value();
-        Ok(match buf.kind() {
-            TCA_TUNNEL_KEY_TM => TcActionTunnelKeyOption::Tm(Tcf::parse(value)?),
-            TCA_TUNNEL_KEY_PARMS => TcActionTunnelKeyOption::Parms(TcTunnelKey::parse(value)?),
-            TCA_TUNNEL_KEY_ENC_IPV4_SRC => TcActionTunnelKeyOption::EncIpv4Src(parse_ipv4_addr(
+        match buf.kind() {
+            TCA_TUNNEL_KEY_TM => Ok(TcActionTunnelKeyOption::Tm(Tcf::parse(value)?)),
+            TCA_TUNNEL_KEY_PARMS => Ok(TcActionTunnelKeyOption::Parms(TcTunnelKey::parse(value)?)),
+            TCA_TUNNEL_KEY_ENC_IPV4_SRC => Ok(TcActionTunnelKeyOption::EncIpv4Src(parse_ipv4_addr(
                 value,
-            )?),
-            TCA_TUNNEL_KEY_ENC_IPV4_DST => TcActionTunnelKeyOption::EncIpv4Dst(parse_ipv4_addr(
+            )?)),
+            TCA_TUNNEL_KEY_ENC_IPV4_DST => Ok(TcActionTunnelKeyOption::EncIpv4Dst(parse_ipv4_addr(
                 value,
-            )?),
-            TCA_TUNNEL_KEY_ENC_IPV6_SRC => TcActionTunnelKeyOption::EncIpv6Src(parse_ipv6_addr(
+            )?)),
+            TCA_TUNNEL_KEY_ENC_IPV6_SRC => Ok(TcActionTunnelKeyOption::EncIpv6Src(parse_ipv6_addr(
                 value,
-            )?),
-            TCA_TUNNEL_KEY_ENC_IPV6_DST => TcActionTunnelKeyOption::EncIpv6Dst(parse_ipv6_addr(
+            )?)),
+            TCA_TUNNEL_KEY_ENC_IPV6_DST => Ok(TcActionTunnelKeyOption::EncIpv6Dst(parse_ipv6_addr(
                 value,
-            )?),
-            TCA_TUNNEL_KEY_ENC_KEY_ID => TcActionTunnelKeyOption::EncKeyId(parse_u32_be(value)?),
-            TCA_TUNNEL_KEY_ENC_DST_PORT => TcActionTunnelKeyOption::EncDstPort(parse_u16_be(
+            )?)),
+            TCA_TUNNEL_KEY_ENC_KEY_ID => Ok(TcActionTunnelKeyOption::EncKeyId(parse_u32_be(
                 value,
-            )?),
-            TCA_TUNNEL_KEY_NO_CSUM => TcActionTunnelKeyOption::NoCsum(parse_u8(value)? != 0),
-            TCA_TUNNEL_KEY_ENC_TOS => TcActionTunnelKeyOption::EncTos(parse_u8(value)?),
-            TCA_TUNNEL_KEY_ENC_TTL => TcActionTunnelKeyOption::EncTtl(parse_u8(value)?),
-            _ => TcActionTunnelKeyOption::Other(DefaultNla::parse(alloc, buf)?),
-        })
+            )?)),
+            TCA_TUNNEL_KEY_ENC_DST_PORT => Ok(TcActionTunnelKeyOption::EncDstPort(parse_u16_be(
+                value,
+            )?)),
+            TCA_TUNNEL_KEY_NO_CSUM => Ok(TcActionTunnelKeyOption::NoCsum(parse_u8(value)? != 0)),
+            TCA_TUNNEL_KEY_ENC_TOS => Ok(TcActionTunnelKeyOption::EncTos(parse_u8(value)?)),
+            TCA_TUNNEL_KEY_ENC_TTL => Ok(TcActionTunnelKeyOption::EncTtl(parse_u8(value)?)),
+            _ => Ok(TcActionTunnelKeyOption::Other(DefaultNla::parse(alloc, buf)?)),
+        }
     }
 }
 
 impl<A: Allocator> TcActionTunnelKeyOption<A> {
-    // Its word and its value, and what they are by the table.
+    // The row, with what it says of the attribute: how it is written, that it fits and is settled.
     fn view(&self) -> (u16, Value<'_, Body<'_>>)
         ensures { ShownAs tunnel_key_body tunnel_key_options (tunnel_key_option self.now)
             result.0 result.1 }
@@ -128,7 +130,9 @@ impl<A: Allocator> TcActionTunnelKeyOption<A> {
         self.row()
     }
 
-    fn row(&self) -> (u16, Value<'_, Body<'_>>)
+    /// The option's `nla_type` (type and flags) and its value, in the form that the row of its type in the table says; of
+    /// `Other` the word and the payload that it keeps.
+    pub fn row(&self) -> (u16, Value<'_, Body<'_>>)
         ensures seen { tunnel_key_option self.now ≡ attribute_of tunnel_key_body result.0 result.1 }
         ensures row { IsRow tunnel_key_body tunnel_key_options result.0 result.1 }
     {
@@ -173,7 +177,7 @@ impl<A: Allocator> TcActionTunnelKeyOption<A> {
     }
 }
 
-// True if options of this word's type are read.
+// True if the table reads options of the type of this `nla_type`.
 fn is_read(word: u16) -> bool
     ensures { result ≡ reads_at tunnel_key_options (type_of word) }
 {

@@ -1,6 +1,6 @@
 //! The types of actions, of their attributes and of their options.
 
-// Of an action that stands alone, `linux/rtnetlink.h`.
+// Of a single action, `linux/rtnetlink.h`.
 pub(crate) const TCA_ACT_TAB: u16 = 1;
 
 // Of an action's attributes, `linux/pkt_cls.h`.

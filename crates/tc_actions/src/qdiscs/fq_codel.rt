@@ -18,7 +18,7 @@ use tc_records::{
     TC_FQ_CODEL_CL_STATS_LEN, TC_FQ_CODEL_QD_STATS_LEN, TcFqCodelClStats, TcFqCodelQdStats,
 };
 
-/// The queueing discipline `fq_codel`.
+/// The qdisc `fq_codel`.
 #[derive(PartialEq, Eq, Clone, Drop, Debug)]
 pub struct TcQdiscFqCodel {}
 
@@ -41,7 +41,7 @@ const XSTATS_NUMBER_LEN: usize = 4;
 #[derive_where(Debug)]
 #[derive_where(Clone; A)]
 pub enum TcFqCodelXstats<A: Allocator = Global> {
-    /// Of the queueing discipline: `TCA_FQ_CODEL_XSTATS_QDISC`.
+    /// Of the qdisc: `TCA_FQ_CODEL_XSTATS_QDISC`.
     Qdisc(TcFqCodelQdStats),
     /// Of one class, which is a flow: `TCA_FQ_CODEL_XSTATS_CLASS`.
     Class(TcFqCodelClStats),
@@ -65,21 +65,25 @@ impl<A: Allocator> ParseableBytes<A> for TcFqCodelXstats<A> {
             return Err(DecodeError::XstatsShort { len: bytes.len() });
         }
         let (number, payload) = split_number(bytes);
-        Ok(match number {
-            TCA_FQ_CODEL_XSTATS_QDISC => TcFqCodelXstats::Qdisc(TcFqCodelQdStats::parse(payload)?),
-            TCA_FQ_CODEL_XSTATS_CLASS => TcFqCodelXstats::Class(TcFqCodelClStats::parse(payload)?),
-            _ => TcFqCodelXstats::Other(Vec::from_slice(alloc, bytes)?),
-        })
+        match number {
+            TCA_FQ_CODEL_XSTATS_QDISC => Ok(TcFqCodelXstats::Qdisc(TcFqCodelQdStats::parse(
+                payload,
+            )?)),
+            TCA_FQ_CODEL_XSTATS_CLASS => Ok(TcFqCodelXstats::Class(TcFqCodelClStats::parse(
+                payload,
+            )?)),
+            _ => Ok(TcFqCodelXstats::Other(Vec::from_slice(alloc, bytes)?)),
+        }
     }
 }
 
 impl<A: Allocator> Emitable for TcFqCodelXstats<A> {
     fn checked_len(&self) -> Option<usize> {
-        Some(match self {
-            TcFqCodelXstats::Qdisc(_) => XSTATS_NUMBER_LEN + TC_FQ_CODEL_QD_STATS_LEN,
-            TcFqCodelXstats::Class(_) => XSTATS_NUMBER_LEN + TC_FQ_CODEL_CL_STATS_LEN,
-            TcFqCodelXstats::Other(bytes) => bytes.len(),
-        })
+        match self {
+            TcFqCodelXstats::Qdisc(_) => Some(XSTATS_NUMBER_LEN + TC_FQ_CODEL_QD_STATS_LEN),
+            TcFqCodelXstats::Class(_) => Some(XSTATS_NUMBER_LEN + TC_FQ_CODEL_CL_STATS_LEN),
+            TcFqCodelXstats::Other(bytes) => Some(bytes.len()),
+        }
     }
 
     fn emit(&self, buffer: &mut [u8]) {
@@ -139,6 +143,7 @@ fn is_no_number(bytes: &[u8]) -> bool
     ensures settled { IsTrue result ↔ IsNoNumber bytes.now }
     ensures typed { IsBytes bytes.now }
 {
+    // Does nothing at run time: it says that each byte is below 256.
     bytes_in_hand(bytes);
     bytes.len() >= XSTATS_NUMBER_LEN && split_number(bytes).0 > TCA_FQ_CODEL_XSTATS_CLASS
 }

@@ -34,7 +34,7 @@ use tc_values::{Either, Record, Value, same_row};
 #[derive_where(Debug)]
 #[derive_where(Clone; A)]
 pub enum TcStats2<A: Allocator = Global> {
-    /// The kind's own: `TCA_STATS_APP` of `linux/gen_stats.h`.
+    /// The qdisc's own: `TCA_STATS_APP` of `linux/gen_stats.h`.
     App(TcXstats<A>),
     /// Bytes and packets: `TCA_STATS_BASIC`.
     Basic(TcStatsBasic),
@@ -63,25 +63,27 @@ impl<A: Allocator> FrameMeaning for TcStats2<A> {
 impl<A: Allocator> ParseableParametrized<A> for TcStats2<A> {
     fn parse_with_param(alloc: A, buf: &NlaBuffer<'_>, kind: &str) -> Res<TcStats2<A>> {
         let value = buf.value();
-        Ok(match buf.kind() {
-            TCA_STATS_BASIC => TcStats2::Basic(TcStatsBasic::parse(value)?),
-            TCA_STATS_QUEUE => TcStats2::Queue(TcStatsQueue::parse(value)?),
-            TCA_STATS_APP => TcStats2::App(TcXstats::parse_with_param(alloc, buf, kind)?),
-            TCA_STATS_BASIC_HW => TcStats2::BasicHw(TcStatsBasic::parse(value)?),
-            _ => TcStats2::Other(DefaultNla::parse(alloc, buf)?),
-        })
+        match buf.kind() {
+            TCA_STATS_BASIC => Ok(TcStats2::Basic(TcStatsBasic::parse(value)?)),
+            TCA_STATS_QUEUE => Ok(TcStats2::Queue(TcStatsQueue::parse(value)?)),
+            TCA_STATS_APP => Ok(TcStats2::App(TcXstats::parse_with_param(alloc, buf, kind)?)),
+            TCA_STATS_BASIC_HW => Ok(TcStats2::BasicHw(TcStatsBasic::parse(value)?)),
+            _ => Ok(TcStats2::Other(DefaultNla::parse(alloc, buf)?)),
+        }
     }
 }
 
 impl<A: Allocator> TcStats2<A> {
-    // Its word and its value, and what they are by the table.
+    // The row, with what it says of the attribute: how it is written, that it fits and is settled.
     fn view(&self) -> (u16, Value<'_, Body<'_, A>>)
         ensures { ShownAs stats2_body stats2 (tc_stats2 self.now) result.0 result.1 }
     {
         self.row()
     }
 
-    fn row(&self) -> (u16, Value<'_, Body<'_, A>>)
+    /// The attribute's `nla_type` (type and flags) and its value, in the form that the row of its type in the table says; of
+    /// `Other` the word and the payload that it keeps.
+    pub fn row(&self) -> (u16, Value<'_, Body<'_, A>>)
         ensures seen { tc_stats2 self.now ≡ attribute_of stats2_body result.0 result.1 }
         ensures row { IsRow stats2_body stats2 result.0 result.1 }
     {
@@ -104,7 +106,7 @@ impl<A: Allocator> TcStats2<A> {
     }
 }
 
-// True if statistics of this word's type are read.
+// True if the table reads statistics of the type of this `nla_type`.
 fn is_read(word: u16) -> bool
     ensures { result ≡ reads_at stats2 (type_of word) }
 {

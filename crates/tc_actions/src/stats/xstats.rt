@@ -1,4 +1,4 @@
-//! Statistics of a queueing discipline's own.
+//! A qdisc's own statistics.
 
 ghost use Rattle.std.specs.Prelude.{◌≡◌, true};
 ghost use Rattle.std.specs.Ordering.{on};
@@ -14,14 +14,14 @@ use nla_frames::laws::in_hand::bytes_in_hand;
 use nla_frames::{BytesMeaning, Emitable, NlaBuffer, ParseableBytes, Res, SettleBytes, put_bytes};
 use std::alloc::{Allocator, Global};
 
-/// Statistics of a queueing discipline's own, in the form of the kind in force.
+/// A qdisc's own statistics, in the format of the kind in force: the last `TCA_KIND` before them.
 #[derive(Drop)]
 #[derive_where(Debug)]
 #[derive_where(Clone; A)]
 pub enum TcXstats<A: Allocator = Global> {
     /// Under the kind `fq_codel`.
     FqCodel(TcFqCodelXstats<A>),
-    /// Under any other kind, as they stand.
+    /// Under any other kind, as raw bytes.
     Other(Vec<u8, A>),
 }
 
@@ -70,6 +70,7 @@ impl<A: Allocator> SettleBytes for TcXstats<A> {
         match self {
             TcXstats::FqCodel(stats) => stats.is_settled() && kind == TcQdiscFqCodel::KIND,
             TcXstats::Other(bytes) => {
+                // Does nothing at run time: it says that each byte is below 256.
                 bytes_in_hand(bytes);
                 kind != TcQdiscFqCodel::KIND
             }

@@ -116,14 +116,16 @@ fn parse_tag(value: &[u8]) -> Res<[u8; TcFilterBpf::BPF_TAG_SIZE]>
 }
 
 impl<A: Allocator> TcFilterBpfOption<A> {
-    // Its word and its value, and what they are by the table.
+    // The row, with what it says of the attribute: how it is written, that it fits and is settled.
     fn view(&self) -> (u16, Value<'_>)
         ensures { ShownAs nothing bpf_options (bpf_option self.now) result.0 result.1 }
     {
         self.row()
     }
 
-    fn row(&self) -> (u16, Value<'_>)
+    /// The option's `nla_type` (type and flags) and its value, in the form that the row of its type in the table says; of
+    /// `Other` the word and the payload that it keeps.
+    pub fn row(&self) -> (u16, Value<'_>)
         ensures seen { bpf_option self.now ≡ attribute_of nothing result.0 result.1 }
         ensures row { IsRow nothing bpf_options result.0 result.1 }
     {
@@ -140,7 +142,7 @@ impl<A: Allocator> TcFilterBpfOption<A> {
     }
 }
 
-// True if options of this word's type are read.
+// True if the table reads options of the type of this `nla_type`.
 fn is_read(word: u16) -> bool
     ensures { result ≡ reads_at bpf_options (type_of word) }
 {

@@ -52,7 +52,7 @@ impl TcFilterU32 {
 pub enum TcFilterU32Option<A: Allocator = Global> {
     /// The class that packets are put into: `TCA_U32_CLASSID` of `linux/pkt_cls.h`.
     ClassId(TcHandle),
-    /// The hash table that the filter stands in, and its place there: `TCA_U32_HASH`.
+    /// The hash table that the filter is in, and its place there: `TCA_U32_HASH`.
     Hash(u32),
     /// The hash table where the search goes on: `TCA_U32_LINK`.
     Link(u32),
@@ -110,14 +110,16 @@ impl<A: Allocator + Copy> Parseable<A> for TcFilterU32Option<A> {
 }
 
 impl<A: Allocator> TcFilterU32Option<A> {
-    // Its word and its value, and what they are by the table.
+    // The row, with what it says of the attribute: how it is written, that it fits and is settled.
     fn view(&self) -> (u16, Value<'_, Body<'_, A>>)
         ensures { ShownAs u32_body u32_options (u32_option self.now) result.0 result.1 }
     {
         self.row()
     }
 
-    fn row(&self) -> (u16, Value<'_, Body<'_, A>>)
+    /// The option's `nla_type` (type and flags) and its value, in the form that the row of its type in the table says; of
+    /// `Other` the word and the payload that it keeps.
+    pub fn row(&self) -> (u16, Value<'_, Body<'_, A>>)
         ensures seen { u32_option self.now ≡ attribute_of u32_body result.0 result.1 }
         ensures row { IsRow u32_body u32_options result.0 result.1 }
     {
@@ -144,7 +146,7 @@ impl<A: Allocator> TcFilterU32Option<A> {
     }
 }
 
-// True if options of this word's type are read.
+// True if the table reads options of the type of this `nla_type`.
 fn is_read(word: u16) -> bool
     ensures { result ≡ reads_at u32_options (type_of word) }
 {

@@ -81,7 +81,7 @@ impl<A: Allocator + Copy> Parseable<A> for TcFilterMatchAllOption<A> {
 }
 
 impl<A: Allocator> TcFilterMatchAllOption<A> {
-    // Its word and its value, and what they are by the table.
+    // The row, with what it says of the attribute: how it is written, that it fits and is settled.
     fn view(&self) -> (u16, Value<'_, Items<'_, TcAction<A>>>)
         ensures { ShownAs action_list matchall_options (matchall_option self.now)
             result.0 result.1 }
@@ -89,7 +89,9 @@ impl<A: Allocator> TcFilterMatchAllOption<A> {
         self.row()
     }
 
-    fn row(&self) -> (u16, Value<'_, Items<'_, TcAction<A>>>)
+    /// The option's `nla_type` (type and flags) and its value, in the form that the row of its type in the table says; of
+    /// `Other` the word and the payload that it keeps.
+    pub fn row(&self) -> (u16, Value<'_, Items<'_, TcAction<A>>>)
         ensures seen { matchall_option self.now ≡ attribute_of action_list result.0 result.1 }
         ensures row { IsRow action_list matchall_options result.0 result.1 }
     {
@@ -107,7 +109,7 @@ impl<A: Allocator> TcFilterMatchAllOption<A> {
     }
 }
 
-// True if options of this word's type are read.
+// True if the table reads options of the type of this `nla_type`.
 fn is_read(word: u16) -> bool
     ensures { result ≡ reads_at matchall_options (type_of word) }
 {

@@ -2,4 +2,3 @@
 
 pub mod mpls;
 pub mod options;
-mod types;

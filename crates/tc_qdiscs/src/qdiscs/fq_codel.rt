@@ -73,19 +73,19 @@ impl<A: Allocator> FrameMeaning for TcQdiscFqCodelOption<A> {
 impl<A: Allocator> Parseable<A> for TcQdiscFqCodelOption<A> {
     fn parse(alloc: A, buf: &NlaBuffer<'_>) -> Res<TcQdiscFqCodelOption<A>> {
         let value = buf.value();
-        Ok(match buf.kind() {
-            kind @ TCA_FQ_CODEL_TARGET..=TCA_FQ_CODEL_MEMORY_LIMIT => Self::of_u32(
+        match buf.kind() {
+            kind @ TCA_FQ_CODEL_TARGET..=TCA_FQ_CODEL_MEMORY_LIMIT => Ok(Self::of_u32(
                 kind,
                 parse_u32(value)?,
-            ),
-            TCA_FQ_CODEL_CE_THRESHOLD_SELECTOR => TcQdiscFqCodelOption::CeThresholdSelector(
+            )),
+            TCA_FQ_CODEL_CE_THRESHOLD_SELECTOR => Ok(TcQdiscFqCodelOption::CeThresholdSelector(
                 parse_u8(value)?,
-            ),
-            TCA_FQ_CODEL_CE_THRESHOLD_MASK => TcQdiscFqCodelOption::CeThresholdMask(parse_u8(
+            )),
+            TCA_FQ_CODEL_CE_THRESHOLD_MASK => Ok(TcQdiscFqCodelOption::CeThresholdMask(parse_u8(
                 value,
-            )?),
-            _ => TcQdiscFqCodelOption::Other(DefaultNla::parse(alloc, buf)?),
-        })
+            )?)),
+            _ => Ok(TcQdiscFqCodelOption::Other(DefaultNla::parse(alloc, buf)?)),
+        }
     }
 }
 
@@ -109,14 +109,16 @@ impl<A: Allocator> TcQdiscFqCodelOption<A> {
         }
     }
 
-    // Its word and its value, and what they are by the table.
+    // The row, with what it says of the attribute: how it is written, that it fits and is settled.
     fn view(&self) -> (u16, Value<'_>)
         ensures { ShownAs nothing fq_codel_options (fq_codel_option self.now) result.0 result.1 }
     {
         self.row()
     }
 
-    fn row(&self) -> (u16, Value<'_>)
+    /// The option's `nla_type` (type and flags) and its value, in the form that the row of its type in the table says; of
+    /// `Other` the word and the payload that it keeps.
+    pub fn row(&self) -> (u16, Value<'_>)
         ensures seen { fq_codel_option self.now ≡ attribute_of nothing result.0 result.1 }
         ensures row { IsRow nothing fq_codel_options result.0 result.1 }
     {
@@ -144,7 +146,7 @@ impl<A: Allocator> TcQdiscFqCodelOption<A> {
     }
 }
 
-// True if options of this word's type are read.
+// True if the table reads options of the type of this `nla_type`.
 fn is_read(word: u16) -> bool
     ensures { result ≡ reads_at fq_codel_options (type_of word) }
 {

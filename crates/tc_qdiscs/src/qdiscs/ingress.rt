@@ -12,7 +12,7 @@ ghost use Rattle.tc_qdiscs.specs.Ingress.{ingress_option};
 use nla_frames::{DefaultNla, FrameMeaning, Nla, NlaBuffer, Parseable, Res, Settle};
 use std::alloc::{Allocator, Global};
 
-/// The queueing discipline `ingress`, to which filters of incoming packets are attached; it queues nothing.
+/// The qdisc `ingress`, to which filters of incoming packets are attached; it queues nothing.
 #[derive(PartialEq, Eq, Clone, Drop, Debug)]
 pub struct TcQdiscIngress {}
 
@@ -21,7 +21,7 @@ impl TcQdiscIngress {
     pub const KIND: &'static str = "ingress";
 }
 
-/// An option of `ingress`. The kernel names none, so each is kept as it stands.
+/// An option of `ingress`. The kernel names none, so each is kept raw.
 #[derive(Drop)]
 #[derive_where(Debug)]
 #[derive_where(Clone; A)]

@@ -1,4 +1,4 @@
-//! The types of the options of queueing disciplines.
+//! The types of the options of qdiscs.
 
 // Of `fq_codel`, `linux/pkt_sched.h`.
 pub(crate) const TCA_FQ_CODEL_TARGET: u16 = 1;

@@ -1,19 +1,20 @@
 //! What every action's record begins with.
 
-ghost use Rattle.std.specs.Prelude.{◌≡◌, ◌≤◌, ◌+◌, ◌↔◌, IsTrue, List, length, take, drop};
+ghost use Rattle.std.specs.Prelude.{◌≡◌, ◌∷◌, ◌↔◌, [], IsTrue, List, refl};
 ghost use Rattle.nla_frames.specs.Fault.{seen};
-ghost use Rattle.tc_canon.specs.Descriptor.{Field, named};
-ghost use Rattle.tc_canon.specs.Layouts.{action_types, action_generic, generic_then};
+ghost use Rattle.tc_canon.specs.Descriptor.{named};
+ghost use Rattle.tc_canon.specs.Layouts.{action_types, action_generic};
 ghost use Rattle.tc_meaning.specs.Tree.{Scalar};
-ghost use Rattle.tc_meaning.specs.Layout.{read_field, read_fields, field_bytes, fields_bytes, SettledField, SettledFields};
+ghost use Rattle.tc_meaning.specs.Layout.{SettledFields};
 ghost use Rattle.tc_meaning.specs.Content.{read_record, record_codec};
 ghost use Rattle.tc_records.specs.ActionType.{action_type_of, action_type_number, action_type_scalar};
+ghost use Rattle.tc_records.specs.Actions.{generic_scalars, same_generic_then};
 
-use crate::laws::in_hand::generic_in_hand;
-use crate::octets::{i32_octets, u32_octets};
+use crate::fields::Fields;
+use crate::octets::Octets;
+use crate::record::{FixedRecord, emit_record, is_settled_record, parse_record, record_len};
 use crate::same::both;
-use crate::split::{at_least, split_i32, split_u32};
-use nla_frames::{BytesMeaning, Emitable, Res, SettleBytes, i32_bytes, put_bytes};
+use nla_frames::{BytesMeaning, Emitable, Res, SettleBytes};
 
 /// How long the generic part is, in bytes.
 pub const TC_ACTION_GENERIC_LEN: usize = 20;
@@ -121,33 +122,35 @@ impl From<TcActionType> for i32 {
     }
 }
 
-/// The outcome in the first four bytes, and what follows it.
-pub(crate) fn split_action_type(bytes: &[u8]) -> (TcActionType, &[u8])
-    requires { 4 ≤ length bytes.now }
-    ensures value { action_type_scalar result.0
-        ≡ read_field (named 4 action_types) (take 4 bytes.now) }
-    ensures rest { result.1.now ≡ drop 4 bytes.now }
-    ensures left { length bytes.now ≡ 4 + length result.1.now }
-{
-    let (number, rest) = split_i32(bytes);
-    (TcActionType::from(number), rest)
-}
+impl FixedRecord<4> for TcActionType {
+    ghost layout = { named 4 action_types ∷ [] };
 
-/// The bytes of an outcome.
-pub(crate) fn action_type_bytes(action: TcActionType) -> [u8; 4]
-    ensures { result ≡ field_bytes (named 4 action_types) (action_type_scalar action) }
-{
-    i32_bytes(i32::from(action))
-}
+    ghost scalars = { λ action. action_type_scalar action ∷ [] };
 
-/// True if it reads back as itself: no `Other` of a number that has a name.
-pub(crate) fn is_settled_action_type(action: TcActionType) -> bool
-    ensures { IsTrue result ↔ SettledField (named 4 action_types) (action_type_scalar action) }
-{
-    match action {
-        TcActionType::Other(number) => matches!(TcActionType::from(number), TcActionType::Other(_)),
-        _ => true,
+    fn read(fields: &mut Fields<'_>) -> TcActionType {
+        TcActionType::from(fields.i32())
     }
+
+    fn write(&self, out: &mut Octets) {
+        out.i32(i32::from(*self));
+    }
+
+    fn is_settled(&self) -> bool {
+        match *self {
+            TcActionType::Other(number) => {
+                matches!(TcActionType::from(number), TcActionType::Other(_))
+            }
+            _ => true,
+        }
+    }
+
+    fn again(&self) -> TcActionType {
+        *self
+    }
+
+    fn in_hand(self, _other: Self) {}
+
+    ghost whole = { refl };
 }
 
 /// What the record of every action begins with, `tc_gen` of `linux/pkt_cls.h`: five numbers, little-endian.
@@ -176,7 +179,6 @@ pub struct TcActionGeneric {
 impl PartialEq for TcActionGeneric {
     ghost use Rattle.std.specs.Ordering.{on};
     ghost use Rattle.tc_meaning.specs.Equal.{same_scalars, scalars_per};
-    ghost use Rattle.tc_records.specs.Actions.{generic_scalars};
 
     ghost eq = { on generic_scalars same_scalars };
 
@@ -189,33 +191,60 @@ impl PartialEq for TcActionGeneric {
 
 impl Eq for TcActionGeneric {
     ghost use Rattle.tc_meaning.specs.Equal.{scalars_equiv};
-    ghost use Rattle.tc_records.specs.Actions.{generic_scalars};
 
     ghost laws = { scalars_equiv generic_scalars };
 }
 
-impl TcActionGeneric {
-    ghost use Rattle.tc_records.specs.Actions.{generic_scalars, generic_then_scalars, same_generic_then};
+impl FixedRecord<TC_ACTION_GENERIC_LEN> for TcActionGeneric {
+    ghost layout = { action_generic };
 
+    ghost scalars = { generic_scalars };
+
+    fn read(fields: &mut Fields<'_>) -> TcActionGeneric {
+        TcActionGeneric {
+            index: fields.u32(),
+            capab: fields.u32(),
+            action: TcActionType::read(fields),
+            refcnt: fields.i32(),
+            bindcnt: fields.i32(),
+        }
+    }
+
+    fn write(&self, out: &mut Octets) {
+        out.u32(self.index);
+        out.u32(self.capab);
+        self.action.write(out);
+        out.i32(self.refcnt);
+        out.i32(self.bindcnt);
+    }
+
+    fn is_settled(&self) -> bool {
+        self.action.is_settled()
+    }
+
+    fn again(&self) -> TcActionGeneric {
+        *self
+    }
+
+    fn in_hand(self, _other: Self) {}
+
+    ghost whole = { refl };
+}
+
+impl TcActionGeneric {
     // True if both are equal, and what follows them is.
     pub(crate) fn same_then(&self, other: &TcActionGeneric, rest: bool) -> bool
         ensures { result ≡ same_generic_then self.now other.now rest }
     {
+        let bindcnt = self.bindcnt.cast_unsigned() == other.bindcnt.cast_unsigned();
+        let refcnt = self.refcnt.cast_unsigned() == other.refcnt.cast_unsigned();
+        let rest = both(
+            self.action == other.action,
+            both(refcnt, both(bindcnt, rest)),
+        );
         both(
             self.index == other.index,
-            both(
-                self.capab == other.capab,
-                both(
-                    self.action == other.action,
-                    both(
-                        self.refcnt.cast_unsigned() == other.refcnt.cast_unsigned(),
-                        both(
-                            self.bindcnt.cast_unsigned() == other.bindcnt.cast_unsigned(),
-                            rest,
-                        ),
-                    ),
-                ),
-            ),
+            both(self.capab == other.capab, rest),
         )
     }
 
@@ -223,62 +252,18 @@ impl TcActionGeneric {
     pub fn parse(payload: &[u8]) -> Res<TcActionGeneric>
         ensures { seen generic_scalars result ≡ read_record action_generic payload.now }
     {
-        at_least(payload, TC_ACTION_GENERIC_LEN)?;
-        let (generic, _) = TcActionGeneric::split(payload);
-        Ok(generic)
+        parse_record(payload)
     }
 
     /// True if it reads back as itself: the outcome is no `Other` of a number that has a name.
     pub fn is_settled(&self) -> bool
         ensures { IsTrue result ↔ SettledFields action_generic (generic_scalars self.now) }
     {
-        is_settled_action_type(self.action)
-    }
-
-    /// The generic part at the front of a record, and the fields that follow it.
-    pub(crate) fn split(bytes: &[u8]) -> (TcActionGeneric, &[u8])
-        requires { 20 ≤ length bytes.now }
-        ensures value { (others : List Field)
-            → generic_then_scalars result.0 (read_fields others result.1.now)
-            ≡ read_fields (generic_then others) bytes.now }
-        ensures left { length bytes.now ≡ 20 + length result.1.now }
-    {
-        let (index, rest) = split_u32(bytes);
-        let (capab, rest) = split_u32(rest);
-        let (action, rest) = split_action_type(rest);
-        let (refcnt, rest) = split_i32(rest);
-        let (bindcnt, rest) = split_i32(rest);
-        (
-            TcActionGeneric {
-                index,
-                capab,
-                action,
-                refcnt,
-                bindcnt,
-            },
-            rest,
-        )
-    }
-
-    /// The bytes of the generic part.
-    #[tactic(auto, using(crate::proofs::GenericPart::outcome_bytes))]
-    pub(crate) fn to_bytes(&self) -> [u8; TC_ACTION_GENERIC_LEN]
-        ensures { result ≡ fields_bytes action_generic (generic_scalars self.now) }
-    {
-        let (i0, i1, i2, i3) = u32_octets(self.index);
-        let (c0, c1, c2, c3) = u32_octets(self.capab);
-        let [a0, a1, a2, a3] = action_type_bytes(self.action);
-        let (r0, r1, r2, r3) = i32_octets(self.refcnt);
-        let (b0, b1, b2, b3) = i32_octets(self.bindcnt);
-        [
-            i0, i1, i2, i3, c0, c1, c2, c3, a0, a1, a2, a3, r0, r1, r2, r3, b0, b1, b2, b3,
-        ]
+        is_settled_record(self)
     }
 }
 
 impl BytesMeaning for TcActionGeneric {
-    ghost use Rattle.tc_records.specs.Actions.{generic_scalars};
-
     ghost Seen = { List Scalar };
 
     ghost see = { generic_scalars };
@@ -288,18 +273,16 @@ impl BytesMeaning for TcActionGeneric {
 
 impl Emitable for TcActionGeneric {
     fn checked_len(&self) -> Option<usize> {
-        Some(TC_ACTION_GENERIC_LEN)
+        record_len(self)
     }
 
     fn emit(&self, buffer: &mut [u8]) {
-        generic_in_hand(self);
-        put_bytes(buffer, &self.to_bytes());
+        emit_record(self, buffer);
     }
 }
 
 impl SettleBytes for TcActionGeneric {
     fn is_settled_under(&self, _kind: &str) -> bool {
-        generic_in_hand(self);
-        self.is_settled()
+        is_settled_record(self)
     }
 }

@@ -1,17 +1,19 @@
 //! The header of an action message.
 
-ghost use Rattle.std.specs.Prelude.{◌≡◌, ◌↔◌, IsTrue, List};
+ghost use Rattle.std.specs.Prelude.{◌≡◌, ◌↔◌, IsTrue, List, refl};
 ghost use Rattle.nla_frames.specs.Fault.{seen};
 ghost use Rattle.tc_canon.specs.Layouts.{action_message_header};
 ghost use Rattle.tc_meaning.specs.Tree.{Scalar};
-ghost use Rattle.tc_meaning.specs.Layout.{fields_bytes, SettledFields};
+ghost use Rattle.tc_meaning.specs.Layout.{SettledFields};
 ghost use Rattle.tc_meaning.specs.Content.{read_record, record_codec};
+ghost use Rattle.tc_records.specs.Actions.{action_message_header_scalars};
 
-use crate::family::{family_bytes, is_settled_family, same_family, split_family};
-use crate::laws::in_hand::action_message_header_in_hand;
+use crate::family::same_family;
+use crate::fields::Fields;
+use crate::octets::Octets;
+use crate::record::{FixedRecord, emit_record, is_settled_record, parse_record, record_len};
 use crate::same::both;
-use crate::split::at_least;
-use nla_frames::{AddressFamily, BytesMeaning, Emitable, Res, SettleBytes, put_bytes};
+use nla_frames::{AddressFamily, BytesMeaning, Emitable, Res, SettleBytes};
 
 /// How long a header is, in bytes.
 pub const TCA_HEADER_LEN: usize = 4;
@@ -31,7 +33,6 @@ pub struct TcActionMessageHeader {
 impl PartialEq for TcActionMessageHeader {
     ghost use Rattle.std.specs.Ordering.{on};
     ghost use Rattle.tc_meaning.specs.Equal.{same_scalars, scalars_per};
-    ghost use Rattle.tc_records.specs.Actions.{action_message_header_scalars};
 
     ghost eq = { on action_message_header_scalars same_scalars };
 
@@ -44,45 +45,56 @@ impl PartialEq for TcActionMessageHeader {
 
 impl Eq for TcActionMessageHeader {
     ghost use Rattle.tc_meaning.specs.Equal.{scalars_equiv};
-    ghost use Rattle.tc_records.specs.Actions.{action_message_header_scalars};
 
     ghost laws = { scalars_equiv action_message_header_scalars };
 }
 
-impl TcActionMessageHeader {
-    ghost use Rattle.tc_records.specs.Actions.{action_message_header_scalars};
+impl FixedRecord<TCA_HEADER_LEN> for TcActionMessageHeader {
+    ghost layout = { action_message_header };
 
+    ghost scalars = { action_message_header_scalars };
+
+    fn read(fields: &mut Fields<'_>) -> TcActionMessageHeader {
+        let family = AddressFamily::read(fields);
+        fields.octets(3);
+        TcActionMessageHeader { family }
+    }
+
+    fn write(&self, out: &mut Octets) {
+        self.family.write(out);
+        out.pad(3);
+    }
+
+    fn is_settled(&self) -> bool {
+        self.family.is_settled()
+    }
+
+    fn again(&self) -> TcActionMessageHeader {
+        TcActionMessageHeader { ..*self }
+    }
+
+    fn in_hand(self, _other: Self) {}
+
+    ghost whole = { refl };
+}
+
+impl TcActionMessageHeader {
     /// The header that bytes begin with; what follows is dropped, and fewer bytes are `BufferTooSmall`.
     pub fn parse(payload: &[u8]) -> Res<TcActionMessageHeader>
-        ensures { seen action_message_header_scalars result
-            ≡ read_record action_message_header payload.now }
+        ensures { seen action_message_header_scalars result ≡ read_record action_message_header payload.now }
     {
-        at_least(payload, TCA_HEADER_LEN)?;
-        let (family, _) = split_family(payload);
-        Ok(TcActionMessageHeader { family })
+        parse_record(payload)
     }
 
     /// True if it reads back as itself: the family is no `Other` of a number that has a name.
     pub fn is_settled(&self) -> bool
-        ensures { IsTrue result
-            ↔ SettledFields action_message_header (action_message_header_scalars self.now) }
+        ensures { IsTrue result ↔ SettledFields action_message_header (action_message_header_scalars self.now) }
     {
-        is_settled_family(self.family)
-    }
-
-    // The header's bytes, its padding zero.
-    fn to_bytes(&self) -> [u8; TCA_HEADER_LEN]
-        ensures { result
-            ≡ fields_bytes action_message_header (action_message_header_scalars self.now) }
-    {
-        let [f0] = family_bytes(self.family);
-        [f0, 0, 0, 0]
+        is_settled_record(self)
     }
 }
 
 impl BytesMeaning for TcActionMessageHeader {
-    ghost use Rattle.tc_records.specs.Actions.{action_message_header_scalars};
-
     ghost Seen = { List Scalar };
 
     ghost see = { action_message_header_scalars };
@@ -92,18 +104,16 @@ impl BytesMeaning for TcActionMessageHeader {
 
 impl Emitable for TcActionMessageHeader {
     fn checked_len(&self) -> Option<usize> {
-        Some(TCA_HEADER_LEN)
+        record_len(self)
     }
 
     fn emit(&self, buffer: &mut [u8]) {
-        action_message_header_in_hand(self);
-        put_bytes(buffer, &self.to_bytes());
+        emit_record(self, buffer);
     }
 }
 
 impl SettleBytes for TcActionMessageHeader {
     fn is_settled_under(&self, _kind: &str) -> bool {
-        action_message_header_in_hand(self);
-        self.is_settled()
+        is_settled_record(self)
     }
 }

@@ -1,21 +1,21 @@
 //! Packets that go to another interface.
 
-ghost use Rattle.std.specs.Prelude.{◌≡◌, ◌≤◌, ◌+◌, ◌++◌, ◌↔◌, IsTrue, List, length, take, drop};
+ghost use Rattle.std.specs.Prelude.{◌≡◌, ◌∷◌, ◌↔◌, [], IsTrue, List, refl};
 ghost use Rattle.nla_frames.specs.Fault.{seen};
-ghost use Rattle.nla_frames.specs.Value.{le_bytes};
 ghost use Rattle.tc_canon.specs.Descriptor.{named};
 ghost use Rattle.tc_canon.specs.Layouts.{mirror, mirror_action_types};
 ghost use Rattle.tc_meaning.specs.Tree.{Scalar};
-ghost use Rattle.tc_meaning.specs.Layout.{read_field, field_bytes, fields_bytes, SettledField, SettledFields};
+ghost use Rattle.tc_meaning.specs.Layout.{SettledFields};
 ghost use Rattle.tc_meaning.specs.Content.{read_record, record_codec};
 ghost use Rattle.tc_records.specs.MirrorActionType.{mirror_action_type_of, mirror_action_type_number, mirror_action_type_scalar};
+ghost use Rattle.tc_records.specs.Actions.{mirror_scalars};
 
-use crate::actions::action::{TC_ACTION_GENERIC_LEN, TcActionGeneric};
-use crate::laws::in_hand::mirror_in_hand;
-use crate::octets::u32_octets;
+use crate::actions::action::TcActionGeneric;
+use crate::fields::Fields;
+use crate::octets::Octets;
+use crate::record::{FixedRecord, emit_record, is_settled_record, parse_record, record_len};
 use crate::same::both;
-use crate::split::{at_least, split_i32, split_u32};
-use nla_frames::{BytesMeaning, Emitable, Res, SettleBytes, i32_bytes, put_bytes};
+use nla_frames::{BytesMeaning, Emitable, Res, SettleBytes};
 
 /// How long a mirror's record is, in bytes.
 pub const TC_MIRROR_LEN: usize = 28;
@@ -93,38 +93,38 @@ impl From<TcMirrorActionType> for i32 {
     }
 }
 
-// The number in the first four bytes, and what follows it.
-fn split_mirror_action_type(bytes: &[u8]) -> (TcMirrorActionType, &[u8])
-    requires { 4 ≤ length bytes.now }
-    ensures value { mirror_action_type_scalar result.0
-        ≡ read_field (named 4 mirror_action_types) (take 4 bytes.now) }
-    ensures rest { result.1.now ≡ drop 4 bytes.now }
-    ensures left { length bytes.now ≡ 4 + length result.1.now }
-{
-    let (number, rest) = split_i32(bytes);
-    (TcMirrorActionType::from(number), rest)
-}
+impl FixedRecord<4> for TcMirrorActionType {
+    ghost layout = { named 4 mirror_action_types ∷ [] };
 
-// The bytes of its number.
-fn mirror_action_type_bytes(action: TcMirrorActionType) -> [u8; 4]
-    ensures { result
-        ≡ field_bytes (named 4 mirror_action_types) (mirror_action_type_scalar action) }
-{
-    i32_bytes(i32::from(action))
-}
+    ghost scalars = { λ action. mirror_action_type_scalar action ∷ [] };
 
-// True if it reads back as itself: no `Other` of a number that has a name.
-fn is_settled_mirror_action_type(action: TcMirrorActionType) -> bool
-    ensures { IsTrue result
-        ↔ SettledField (named 4 mirror_action_types) (mirror_action_type_scalar action) }
-{
-    match action {
-        TcMirrorActionType::Other(number) => matches!(
-            TcMirrorActionType::from(number),
-            TcMirrorActionType::Other(_)
-        ),
-        _ => true,
+    fn read(fields: &mut Fields<'_>) -> TcMirrorActionType {
+        TcMirrorActionType::from(fields.i32())
     }
+
+    fn write(&self, out: &mut Octets) {
+        out.i32(i32::from(*self));
+    }
+
+    fn is_settled(&self) -> bool {
+        match *self {
+            TcMirrorActionType::Other(number) => {
+                matches!(
+                    TcMirrorActionType::from(number),
+                    TcMirrorActionType::Other(_)
+                )
+            }
+            _ => true,
+        }
+    }
+
+    fn again(&self) -> TcMirrorActionType {
+        *self
+    }
+
+    fn in_hand(self, _other: Self) {}
+
+    ghost whole = { refl };
 }
 
 /// Packets that are redirected or copied to an interface, `struct tc_mirred` of `linux/tc_act/tc_mirred.h`: numbers,
@@ -148,7 +148,6 @@ pub struct TcMirror {
 impl PartialEq for TcMirror {
     ghost use Rattle.std.specs.Ordering.{on};
     ghost use Rattle.tc_meaning.specs.Equal.{same_scalars, scalars_per};
-    ghost use Rattle.tc_records.specs.Actions.{mirror_scalars};
 
     ghost eq = { on mirror_scalars same_scalars };
 
@@ -165,62 +164,62 @@ impl PartialEq for TcMirror {
 
 impl Eq for TcMirror {
     ghost use Rattle.tc_meaning.specs.Equal.{scalars_equiv};
-    ghost use Rattle.tc_records.specs.Actions.{mirror_scalars};
 
     ghost laws = { scalars_equiv mirror_scalars };
 }
 
-impl TcMirror {
-    ghost use Rattle.tc_records.specs.Actions.{mirror_scalars};
+impl FixedRecord<TC_MIRROR_LEN> for TcMirror {
+    ghost layout = { mirror };
 
+    ghost scalars = { mirror_scalars };
+
+    fn read(fields: &mut Fields<'_>) -> TcMirror {
+        TcMirror {
+            generic: TcActionGeneric::read(fields),
+            eaction: TcMirrorActionType::read(fields),
+            ifindex: fields.u32(),
+        }
+    }
+
+    fn write(&self, out: &mut Octets) {
+        self.generic.write(out);
+        self.eaction.write(out);
+        out.u32(self.ifindex);
+    }
+
+    fn is_settled(&self) -> bool {
+        self.generic.is_settled() && self.eaction.is_settled()
+    }
+
+    fn again(&self) -> TcMirror {
+        TcMirror { ..*self }
+    }
+
+    fn in_hand(self, other: Self) {
+        self.eaction.in_hand(other.eaction);
+        self.generic.in_hand(other.generic);
+    }
+
+    ghost whole = { refl };
+}
+
+impl TcMirror {
     /// The record that bytes begin with; what follows is dropped, and fewer bytes are `BufferTooSmall`.
     pub fn parse(payload: &[u8]) -> Res<TcMirror>
         ensures { seen mirror_scalars result ≡ read_record mirror payload.now }
     {
-        at_least(payload, TC_MIRROR_LEN)?;
-        let (generic, rest) = TcActionGeneric::split(payload);
-        let (eaction, rest) = split_mirror_action_type(rest);
-        let (ifindex, _) = split_u32(rest);
-        Ok(TcMirror {
-            generic,
-            eaction,
-            ifindex,
-        })
+        parse_record(payload)
     }
 
     /// True if it reads back as itself: neither of its named numbers is an `Other` of a number that has a name.
     pub fn is_settled(&self) -> bool
         ensures { IsTrue result ↔ SettledFields mirror (mirror_scalars self.now) }
     {
-        self.generic.is_settled() && is_settled_mirror_action_type(self.eaction)
-    }
-
-    // The bytes after the generic part.
-    fn own_bytes(&self) -> [u8; 8]
-        ensures { let mirror = self.now in
-            result
-            ≡ field_bytes (named 4 mirror_action_types) (mirror_action_type_scalar mirror.eaction)
-            ++ le_bytes 4 mirror.ifindex }
-    {
-        let [e0, e1, e2, e3] = mirror_action_type_bytes(self.eaction);
-        let (i0, i1, i2, i3) = u32_octets(self.ifindex);
-        [e0, e1, e2, e3, i0, i1, i2, i3]
-    }
-
-    // The record's bytes.
-    fn to_bytes(&self) -> [u8; TC_MIRROR_LEN]
-        ensures { result ≡ fields_bytes mirror (mirror_scalars self.now) }
-    {
-        let mut bytes = [0; TC_MIRROR_LEN];
-        put_bytes(&mut bytes, &self.generic.to_bytes());
-        put_bytes(&mut bytes[TC_ACTION_GENERIC_LEN..], &self.own_bytes());
-        bytes
+        is_settled_record(self)
     }
 }
 
 impl BytesMeaning for TcMirror {
-    ghost use Rattle.tc_records.specs.Actions.{mirror_scalars};
-
     ghost Seen = { List Scalar };
 
     ghost see = { mirror_scalars };
@@ -230,18 +229,16 @@ impl BytesMeaning for TcMirror {
 
 impl Emitable for TcMirror {
     fn checked_len(&self) -> Option<usize> {
-        Some(TC_MIRROR_LEN)
+        record_len(self)
     }
 
     fn emit(&self, buffer: &mut [u8]) {
-        mirror_in_hand(self);
-        put_bytes(buffer, &self.to_bytes());
+        emit_record(self, buffer);
     }
 }
 
 impl SettleBytes for TcMirror {
     fn is_settled_under(&self, _kind: &str) -> bool {
-        mirror_in_hand(self);
-        self.is_settled()
+        is_settled_record(self)
     }
 }

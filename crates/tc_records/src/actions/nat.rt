@@ -1,21 +1,21 @@
 //! Network address translation.
 
-ghost use Rattle.std.specs.Prelude.{◌≡◌, ◌++◌, ◌↔◌, IsTrue, List};
-ghost use Rattle.std.specs.Net.Addr.{ipv4_octets};
-ghost use Rattle.nla_frames.specs.Value.{le_bytes};
+ghost use Rattle.std.specs.Prelude.{◌≡◌, ◌↔◌, IsTrue, List, refl};
 ghost use Rattle.nla_frames.specs.Fault.{seen};
 ghost use Rattle.tc_canon.specs.Layouts.{nat};
 ghost use Rattle.tc_meaning.specs.Tree.{Scalar};
-ghost use Rattle.tc_meaning.specs.Layout.{fields_bytes, SettledFields};
+ghost use Rattle.tc_meaning.specs.Layout.{SettledFields};
 ghost use Rattle.tc_meaning.specs.Content.{read_record, record_codec};
+ghost use Rattle.tc_records.specs.Actions.{nat_scalars};
 
-use crate::actions::action::{TC_ACTION_GENERIC_LEN, TcActionGeneric};
+use crate::actions::action::TcActionGeneric;
 use crate::actions::nat_flag::TcNatFlags;
-use crate::laws::in_hand::nat_in_hand;
+use crate::fields::Fields;
+use crate::octets::Octets;
+use crate::record::{FixedRecord, emit_record, is_settled_record, parse_record, record_len};
 use crate::same::both;
-use crate::split::{at_least, split_ipv4_addr, split_u32};
 use bitflags::Flags;
-use nla_frames::{BytesMeaning, Emitable, Res, SettleBytes, put_bytes, u32_bytes};
+use nla_frames::{BytesMeaning, Emitable, Res, SettleBytes};
 use std::net::Ipv4Addr;
 
 /// How long a translation's record is, in bytes.
@@ -50,30 +50,22 @@ pub struct TcNat {
 impl PartialEq for TcNat {
     ghost use Rattle.std.specs.Ordering.{on};
     ghost use Rattle.tc_meaning.specs.Equal.{same_scalars, scalars_per};
-    ghost use Rattle.tc_records.specs.Actions.{nat_scalars};
 
     ghost eq = { on nat_scalars same_scalars };
 
     ghost laws = { scalars_per nat_scalars };
 
     fn eq(&self, other: &TcNat) -> bool {
-        let rest = both(
-            self.old_addr.octets() == other.old_addr.octets(),
-            both(
-                self.new_addr.octets() == other.new_addr.octets(),
-                both(
-                    self.mask.octets() == other.mask.octets(),
-                    both(self.flags == other.flags, true),
-                ),
-            ),
-        );
+        let rest = both(self.flags == other.flags, true);
+        let rest = both(self.mask.octets() == other.mask.octets(), rest);
+        let rest = both(self.new_addr.octets() == other.new_addr.octets(), rest);
+        let rest = both(self.old_addr.octets() == other.old_addr.octets(), rest);
         self.generic.same_then(&other.generic, rest)
     }
 }
 
 impl Eq for TcNat {
     ghost use Rattle.tc_meaning.specs.Equal.{scalars_equiv};
-    ghost use Rattle.tc_records.specs.Actions.{nat_scalars};
 
     ghost laws = { scalars_equiv nat_scalars };
 }
@@ -94,67 +86,59 @@ impl Default for TcNat {
     }
 }
 
-impl TcNat {
-    ghost use Rattle.tc_records.specs.Actions.{nat_scalars};
-    ghost use Rattle.tc_records.specs.NatFlags.{nat_flags_word};
+impl FixedRecord<TC_NAT_LEN> for TcNat {
+    ghost layout = { nat };
 
+    ghost scalars = { nat_scalars };
+
+    fn read(fields: &mut Fields<'_>) -> TcNat {
+        TcNat {
+            generic: TcActionGeneric::read(fields),
+            old_addr: fields.ipv4_addr(),
+            new_addr: fields.ipv4_addr(),
+            mask: fields.ipv4_addr(),
+            flags: TcNatFlags::from_bits_retain(fields.u32()),
+        }
+    }
+
+    fn write(&self, out: &mut Octets) {
+        self.generic.write(out);
+        out.ipv4_addr(self.old_addr);
+        out.ipv4_addr(self.new_addr);
+        out.ipv4_addr(self.mask);
+        out.u32(self.flags.bits());
+    }
+
+    fn is_settled(&self) -> bool {
+        self.generic.is_settled()
+    }
+
+    fn again(&self) -> TcNat {
+        TcNat { ..*self }
+    }
+
+    fn in_hand(self, _other: Self) {}
+
+    ghost whole = { refl };
+}
+
+impl TcNat {
     /// The record that bytes begin with; what follows is dropped, and fewer bytes are `BufferTooSmall`.
     pub fn parse(payload: &[u8]) -> Res<TcNat>
         ensures { seen nat_scalars result ≡ read_record nat payload.now }
     {
-        at_least(payload, TC_NAT_LEN)?;
-        let (generic, rest) = TcActionGeneric::split(payload);
-        let (old_addr, rest) = split_ipv4_addr(rest);
-        let (new_addr, rest) = split_ipv4_addr(rest);
-        let (mask, rest) = split_ipv4_addr(rest);
-        let (flags, _) = split_u32(rest);
-        Ok(TcNat {
-            generic,
-            old_addr,
-            new_addr,
-            mask,
-            flags: TcNatFlags::from_bits_retain(flags),
-        })
+        parse_record(payload)
     }
 
     /// True if it reads back as itself: the outcome is no `Other` of a number that has a name.
     pub fn is_settled(&self) -> bool
         ensures { IsTrue result ↔ SettledFields nat (nat_scalars self.now) }
     {
-        self.generic.is_settled()
-    }
-
-    // The bytes after the generic part.
-    fn own_bytes(&self) -> [u8; 16]
-        ensures { let nat = self.now in
-            result
-            ≡ ipv4_octets nat.old_addr
-            ++ (ipv4_octets nat.new_addr
-            ++ (ipv4_octets nat.mask ++ le_bytes 4 (nat_flags_word nat.flags))) }
-    {
-        let [o0, o1, o2, o3] = self.old_addr.octets();
-        let [n0, n1, n2, n3] = self.new_addr.octets();
-        let [m0, m1, m2, m3] = self.mask.octets();
-        let [f0, f1, f2, f3] = u32_bytes(self.flags.bits());
-        [
-            o0, o1, o2, o3, n0, n1, n2, n3, m0, m1, m2, m3, f0, f1, f2, f3,
-        ]
-    }
-
-    // The record's bytes.
-    fn to_bytes(&self) -> [u8; TC_NAT_LEN]
-        ensures { result ≡ fields_bytes nat (nat_scalars self.now) }
-    {
-        let mut bytes = [0; TC_NAT_LEN];
-        put_bytes(&mut bytes, &self.generic.to_bytes());
-        put_bytes(&mut bytes[TC_ACTION_GENERIC_LEN..], &self.own_bytes());
-        bytes
+        is_settled_record(self)
     }
 }
 
 impl BytesMeaning for TcNat {
-    ghost use Rattle.tc_records.specs.Actions.{nat_scalars};
-
     ghost Seen = { List Scalar };
 
     ghost see = { nat_scalars };
@@ -164,19 +148,16 @@ impl BytesMeaning for TcNat {
 
 impl Emitable for TcNat {
     fn checked_len(&self) -> Option<usize> {
-        nat_in_hand(self);
-        Some(TC_NAT_LEN)
+        record_len(self)
     }
 
     fn emit(&self, buffer: &mut [u8]) {
-        nat_in_hand(self);
-        put_bytes(buffer, &self.to_bytes());
+        emit_record(self, buffer);
     }
 }
 
 impl SettleBytes for TcNat {
     fn is_settled_under(&self, _kind: &str) -> bool {
-        nat_in_hand(self);
-        self.is_settled()
+        is_settled_record(self)
     }
 }

@@ -1,17 +1,19 @@
 //! The metadata of a tunnel.
 
-ghost use Rattle.std.specs.Prelude.{◌≡◌, ◌↔◌, IsTrue, List};
+ghost use Rattle.std.specs.Prelude.{◌≡◌, ◌↔◌, IsTrue, List, refl};
 ghost use Rattle.nla_frames.specs.Fault.{seen};
 ghost use Rattle.tc_canon.specs.Layouts.{tunnel_key};
 ghost use Rattle.tc_meaning.specs.Tree.{Scalar};
-ghost use Rattle.tc_meaning.specs.Layout.{fields_bytes, SettledFields};
+ghost use Rattle.tc_meaning.specs.Layout.{SettledFields};
 ghost use Rattle.tc_meaning.specs.Content.{read_record, record_codec};
+ghost use Rattle.tc_records.specs.Actions.{tunnel_key_scalars};
 
-use crate::actions::action::{TC_ACTION_GENERIC_LEN, TcActionGeneric};
-use crate::laws::in_hand::tunnel_key_in_hand;
+use crate::actions::action::TcActionGeneric;
+use crate::fields::Fields;
+use crate::octets::Octets;
+use crate::record::{FixedRecord, emit_record, is_settled_record, parse_record, record_len};
 use crate::same::both;
-use crate::split::{at_least, split_i32};
-use nla_frames::{BytesMeaning, Emitable, Res, SettleBytes, i32_bytes, put_bytes};
+use nla_frames::{BytesMeaning, Emitable, Res, SettleBytes};
 
 /// How long a tunnel key's record is, in bytes.
 pub const TC_TUNNEL_KEY_LEN: usize = 24;
@@ -34,7 +36,6 @@ pub struct TcTunnelKey {
 impl PartialEq for TcTunnelKey {
     ghost use Rattle.std.specs.Ordering.{on};
     ghost use Rattle.tc_meaning.specs.Equal.{same_scalars, scalars_per};
-    ghost use Rattle.tc_records.specs.Actions.{tunnel_key_scalars};
 
     ghost eq = { on tunnel_key_scalars same_scalars };
 
@@ -51,48 +52,57 @@ impl PartialEq for TcTunnelKey {
 
 impl Eq for TcTunnelKey {
     ghost use Rattle.tc_meaning.specs.Equal.{scalars_equiv};
-    ghost use Rattle.tc_records.specs.Actions.{tunnel_key_scalars};
 
     ghost laws = { scalars_equiv tunnel_key_scalars };
 }
 
-impl TcTunnelKey {
-    ghost use Rattle.tc_records.specs.Actions.{tunnel_key_scalars};
+impl FixedRecord<TC_TUNNEL_KEY_LEN> for TcTunnelKey {
+    ghost layout = { tunnel_key };
 
+    ghost scalars = { tunnel_key_scalars };
+
+    fn read(fields: &mut Fields<'_>) -> TcTunnelKey {
+        TcTunnelKey {
+            generic: TcActionGeneric::read(fields),
+            t_action: fields.i32(),
+        }
+    }
+
+    fn write(&self, out: &mut Octets) {
+        self.generic.write(out);
+        out.i32(self.t_action);
+    }
+
+    fn is_settled(&self) -> bool {
+        self.generic.is_settled()
+    }
+
+    fn again(&self) -> TcTunnelKey {
+        TcTunnelKey { ..*self }
+    }
+
+    fn in_hand(self, _other: Self) {}
+
+    ghost whole = { refl };
+}
+
+impl TcTunnelKey {
     /// The record that bytes begin with; what follows is dropped, and fewer bytes are `BufferTooSmall`.
     pub fn parse(payload: &[u8]) -> Res<TcTunnelKey>
         ensures { seen tunnel_key_scalars result ≡ read_record tunnel_key payload.now }
     {
-        at_least(payload, TC_TUNNEL_KEY_LEN)?;
-        let (generic, rest) = TcActionGeneric::split(payload);
-        let (t_action, _) = split_i32(rest);
-        Ok(TcTunnelKey { generic, t_action })
+        parse_record(payload)
     }
 
     /// True if it reads back as itself: the outcome is no `Other` of a number that has a name.
     pub fn is_settled(&self) -> bool
         ensures { IsTrue result ↔ SettledFields tunnel_key (tunnel_key_scalars self.now) }
     {
-        self.generic.is_settled()
-    }
-
-    // The record's bytes.
-    fn to_bytes(&self) -> [u8; TC_TUNNEL_KEY_LEN]
-        ensures { result ≡ fields_bytes tunnel_key (tunnel_key_scalars self.now) }
-    {
-        let mut bytes = [0; TC_TUNNEL_KEY_LEN];
-        put_bytes(&mut bytes, &self.generic.to_bytes());
-        put_bytes(
-            &mut bytes[TC_ACTION_GENERIC_LEN..],
-            &i32_bytes(self.t_action),
-        );
-        bytes
+        is_settled_record(self)
     }
 }
 
 impl BytesMeaning for TcTunnelKey {
-    ghost use Rattle.tc_records.specs.Actions.{tunnel_key_scalars};
-
     ghost Seen = { List Scalar };
 
     ghost see = { tunnel_key_scalars };
@@ -102,18 +112,16 @@ impl BytesMeaning for TcTunnelKey {
 
 impl Emitable for TcTunnelKey {
     fn checked_len(&self) -> Option<usize> {
-        Some(TC_TUNNEL_KEY_LEN)
+        record_len(self)
     }
 
     fn emit(&self, buffer: &mut [u8]) {
-        tunnel_key_in_hand(self);
-        put_bytes(buffer, &self.to_bytes());
+        emit_record(self, buffer);
     }
 }
 
 impl SettleBytes for TcTunnelKey {
     fn is_settled_under(&self, _kind: &str) -> bool {
-        tunnel_key_in_hand(self);
-        self.is_settled()
+        is_settled_record(self)
     }
 }

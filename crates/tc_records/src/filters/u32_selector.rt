@@ -1,31 +1,26 @@
 //! The selector of a u32 filter, and its keys.
 
-ghost use Rattle.std.specs.Prelude.{◌≡◌, ◌≤◌, ◌+◌, ◌*◌, ℕ, List, [], length, drop, map, Ok};
+ghost use Rattle.std.specs.Prelude.{◌≡◌, ◌≤◌, ◌<◌, ◌^◌, ◌*◌, List, length, map, refl};
 ghost use Rattle.std.specs.List.{AllByRecursion};
 ghost use Rattle.std.specs.Int.{w16, cast_unsigned};
 ghost use Rattle.std.specs.Ordering.{on};
 ghost use Rattle.nla_frames.specs.Fault.{Gives, seen, read_as};
-ghost use Rattle.nla_frames.specs.Value.{le_bytes};
 ghost use Rattle.nla_frames.specs.Emission.{Writes, HasRoom};
 ghost use Rattle.tc_canon.specs.Layouts.{selector_head, selector_key};
 ghost use Rattle.tc_meaning.specs.Tree.{Scalar};
-ghost use Rattle.tc_meaning.specs.Layout.{read_fields, fields_bytes, TypedFields};
+ghost use Rattle.tc_meaning.specs.Layout.{fields_bytes, TypedFields};
 ghost use Rattle.tc_meaning.specs.Content.{Selector, read_record, read_keys, read_selector, record_codec, selector_codec};
 ghost use Rattle.tc_meaning.specs.Equal.{same_scalars, same_selector, selector_equiv, selector_per};
-ghost use Rattle.tc_records.specs.FilterFlags.{selector_flags_byte};
 ghost use Rattle.tc_records.specs.Selector.{key_scalars, keys_bytes, head_scalars, selector_of, empty_selector};
 
+use crate::fields::Fields;
 use crate::filters::u32_flags::TcU32SelectorFlags;
-use crate::laws::in_hand::{key_in_hand, selector_head_in_hand, selector_in_hand};
+use crate::octets::Octets;
+use crate::record::{FixedRecord, emit_record, is_settled_record, parse_record, record_len};
 use crate::same::both;
-use crate::split::{
-    at_least, skip, split_i16, split_i32, split_u8, split_u16, split_u16_be, split_u32_be,
-};
 use bitflags::Flags;
-use nla_frames::{
-    BytesMeaning, DecodeError, Emitable, Res, SettleBytes, i32_bytes, put_bytes, u16_be_bytes,
-    u16_bytes, u32_be_bytes,
-};
+use nla_frames::laws::in_hand::{u8_in_hand, u16_in_hand, u32_in_hand};
+use nla_frames::{BytesMeaning, DecodeError, Emitable, Res, SettleBytes, put_bytes};
 use std::alloc::{Allocator, Global};
 
 /// How long a key is, in bytes.
@@ -83,27 +78,46 @@ impl Eq for TcU32Key {
     ghost laws = { scalars_equiv key_scalars };
 }
 
+impl FixedRecord<TC_U32_KEY_LEN> for TcU32Key {
+    ghost layout = { selector_key };
+
+    ghost scalars = { key_scalars };
+
+    fn read(fields: &mut Fields<'_>) -> TcU32Key {
+        TcU32Key {
+            mask: fields.u32_be(),
+            val: fields.u32_be(),
+            off: fields.i32(),
+            offmask: fields.i32(),
+        }
+    }
+
+    fn write(&self, out: &mut Octets) {
+        out.u32_be(self.mask);
+        out.u32_be(self.val);
+        out.i32(self.off);
+        out.i32(self.offmask);
+    }
+
+    fn is_settled(&self) -> bool {
+        true
+    }
+
+    fn again(&self) -> TcU32Key {
+        TcU32Key { ..*self }
+    }
+
+    fn in_hand(self, _other: Self) {}
+
+    ghost whole = { refl };
+}
+
 impl TcU32Key {
     /// The key that bytes begin with; what follows is dropped, and fewer bytes are `BufferTooSmall`.
     pub fn parse(payload: &[u8]) -> Res<TcU32Key>
         ensures { seen key_scalars result ≡ read_record selector_key payload.now }
     {
-        at_least(payload, TC_U32_KEY_LEN)?;
-        let (key, _) = split_key(payload);
-        Ok(key)
-    }
-
-    // The bytes of the key.
-    fn to_bytes(&self) -> [u8; TC_U32_KEY_LEN]
-        ensures { result ≡ fields_bytes selector_key (key_scalars self.now) }
-    {
-        let [m0, m1, m2, m3] = u32_be_bytes(self.mask);
-        let [v0, v1, v2, v3] = u32_be_bytes(self.val);
-        let [o0, o1, o2, o3] = i32_bytes(self.off);
-        let [f0, f1, f2, f3] = i32_bytes(self.offmask);
-        [
-            m0, m1, m2, m3, v0, v1, v2, v3, o0, o1, o2, o3, f0, f1, f2, f3,
-        ]
+        parse_record(payload)
     }
 }
 
@@ -117,56 +131,30 @@ impl BytesMeaning for TcU32Key {
 
 impl Emitable for TcU32Key {
     fn checked_len(&self) -> Option<usize> {
-        Some(TC_U32_KEY_LEN)
+        record_len(self)
     }
 
     fn emit(&self, buffer: &mut [u8]) {
-        key_in_hand(self);
-        put_bytes(buffer, &self.to_bytes());
+        emit_record(self, buffer);
     }
 }
 
 impl SettleBytes for TcU32Key {
     fn is_settled_under(&self, _kind: &str) -> bool {
-        key_in_hand(self);
-        true
+        is_settled_record(self)
     }
 }
 
-// The key in the first bytes, and what follows it.
-fn split_key(bytes: &[u8]) -> (TcU32Key, &[u8])
-    requires { 16 ≤ length bytes.now }
-    ensures value { key_scalars result.0 ≡ read_fields selector_key bytes.now }
-    ensures rest { result.1.now ≡ drop 16 bytes.now }
-    ensures left { length bytes.now ≡ 16 + length result.1.now }
-{
-    let (mask, rest) = split_u32_be(bytes);
-    let (val, rest) = split_u32_be(rest);
-    let (off, rest) = split_i32(rest);
-    let (offmask, rest) = split_i32(rest);
-    (
-        TcU32Key {
-            mask,
-            val,
-            off,
-            offmask,
-        },
-        rest,
-    )
-}
-
 // So many keys, one after the other.
-fn parse_keys<A: Allocator>(alloc: A, count: u8, bytes: &[u8]) -> Res<Vec<TcU32Key, A>>
-    requires { 16 * count ≤ length bytes.now }
+fn parse_keys<A: Allocator>(alloc: A, count: u8, fields: Fields<'_>) -> Res<Vec<TcU32Key, A>>
+    requires { 16 * count ≤ length fields.0.now }
     ensures { Gives (seen (λ v. map key_scalars v.items) result)
-        (read_as (read_keys count bytes.now)) }
+        (read_as (read_keys count fields.entry.0.now)) }
 {
     let mut keys = Vec::with_capacity(alloc, count as usize)?;
-    let mut left = bytes;
+    let mut fields = fields;
     for _ in 0..count {
-        let (key, rest) = split_key(left);
-        keys.push(key)?;
-        left = rest;
+        keys.push(TcU32Key::read(&mut fields))?;
     }
     Ok(keys)
 }
@@ -294,14 +282,16 @@ impl<A: Allocator> TcU32Selector<A> {
                 needed: TC_U32_SELECTOR_LEN,
             });
         }
-        let (flags, rest) = split_u8(payload);
-        let (offshift, rest) = split_u8(rest);
-        let (nkeys, rest) = split_u8(rest);
-        let (offmask, rest) = split_u16_be(skip(rest, 1));
-        let (off, rest) = split_u16(rest);
-        let (offoff, rest) = split_i16(rest);
-        let (hoff, rest) = split_i16(rest);
-        let (hmask, rest) = split_u32_be(rest);
+        let mut fields = Fields(payload);
+        let flags = TcU32SelectorFlags::from_bits_retain(fields.u8());
+        let offshift = fields.u8();
+        let nkeys = fields.u8();
+        fields.octets(1);
+        let offmask = fields.u16_be();
+        let off = fields.u16();
+        let offoff = fields.i16();
+        let hoff = fields.i16();
+        let hmask = fields.u32_be();
         let needed = TC_U32_SELECTOR_LEN + TC_U32_KEY_LEN * nkeys as usize;
         if payload.len() < needed {
             return Err(DecodeError::SelectorShort {
@@ -309,9 +299,9 @@ impl<A: Allocator> TcU32Selector<A> {
                 needed,
             });
         }
-        let keys = parse_keys(alloc, nkeys, rest)?;
+        let keys = parse_keys(alloc, nkeys, fields)?;
         Ok(TcU32Selector {
-            flags: TcU32SelectorFlags::from_bits_retain(flags),
+            flags,
             offshift,
             nkeys,
             offmask,
@@ -328,37 +318,20 @@ impl<A: Allocator> TcU32Selector<A> {
     pub fn head_bytes(&self) -> [u8; TC_U32_SELECTOR_LEN]
         ensures { result ≡ fields_bytes selector_head (head_scalars self.now) }
     {
-        let [f] = flags_bytes(self.flags);
-        let [s] = u8_bytes(self.offshift);
-        let [n] = u8_bytes(self.nkeys);
-        let [m0, m1] = u16_be_bytes(self.offmask);
-        let [o0, o1] = u16_bytes(self.off);
-        let [p0, p1] = i16_bytes(self.offoff);
-        let [h0, h1] = i16_bytes(self.hoff);
-        let [k0, k1, k2, k3] = u32_be_bytes(self.hmask);
-        [f, s, n, 0, m0, m1, o0, o1, p0, p1, h0, h1, k0, k1, k2, k3]
+        let mut out = Octets::new();
+        out.u8(self.flags.bits());
+        out.u8(self.offshift);
+        out.u8(self.nkeys);
+        out.pad(1);
+        out.u16_be(self.offmask);
+        out.u16(self.off);
+        out.i16(self.offoff);
+        out.i16(self.hoff);
+        out.u32_be(self.hmask);
+        let mut bytes = [0; TC_U32_SELECTOR_LEN];
+        put_bytes(&mut bytes, out.as_slice());
+        bytes
     }
-}
-
-// The byte of the flags.
-fn flags_bytes(flags: TcU32SelectorFlags) -> [u8; 1]
-    ensures { result ≡ le_bytes 1 (selector_flags_byte flags) }
-{
-    u8_bytes(flags.bits())
-}
-
-// The byte of a number.
-fn u8_bytes(value: u8) -> [u8; 1]
-    ensures { result ≡ le_bytes 1 value }
-{
-    [value]
-}
-
-// The two bytes of a signed number, little-endian.
-fn i16_bytes(value: i16) -> [u8; 2]
-    ensures { result ≡ le_bytes 2 (cast_unsigned w16 value) }
-{
-    i16::to_le_bytes(value)
 }
 
 impl<A: Allocator> BytesMeaning for TcU32Selector<A> {
@@ -391,3 +364,39 @@ impl<A: Allocator> SettleBytes for TcU32Selector<A> {
         true
     }
 }
+
+/// Does nothing. The fields of a selector in hand and of its keys have the widths of their layouts.
+pub fn selector_in_hand<A: Allocator>(selector: &TcU32Selector<A>)
+    ensures { selector_codec.Typed (selector_of selector.now) }
+{
+    selector_head_in_hand(selector);
+    keys_in_hand(&selector.keys);
+}
+
+// A selector of a u32 filter without its keys.
+fn selector_head_in_hand<A: Allocator>(selector: &TcU32Selector<A>)
+    ensures { TypedFields selector_head (head_scalars selector.now) }
+{
+    u8_in_hand(selector.flags.bits());
+    u8_in_hand(selector.offshift);
+    u8_in_hand(selector.nkeys);
+    u16_in_hand(selector.offmask);
+    u16_in_hand(selector.off);
+    i16_in_hand(selector.offoff);
+    i16_in_hand(selector.hoff);
+    u32_in_hand(selector.hmask);
+}
+
+// Keys of a selector.
+fn keys_in_hand(keys: &[TcU32Key])
+    ensures { AllByRecursion (TypedFields selector_key) (map key_scalars keys.now) }
+{
+    for key in keys {
+        key.held();
+    }
+}
+
+// A signed number of two bytes.
+fn i16_in_hand(number: i16)
+    ensures { cast_unsigned w16 number < 256 ^ 2 }
+{}

@@ -1,16 +1,16 @@
 //! The statistics of the qdisc fq_codel.
 
-ghost use Rattle.std.specs.Prelude.{◌≡◌, List};
+ghost use Rattle.std.specs.Prelude.{◌≡◌, List, refl};
 ghost use Rattle.nla_frames.specs.Fault.{seen};
 ghost use Rattle.tc_canon.specs.Layouts.{fq_codel_qd_stats, fq_codel_cl_stats};
 ghost use Rattle.tc_meaning.specs.Tree.{Scalar};
-ghost use Rattle.tc_meaning.specs.Layout.{fields_bytes};
 ghost use Rattle.tc_meaning.specs.Content.{read_record, record_codec};
+ghost use Rattle.tc_records.specs.Statistics.{qd_stats_scalars, cl_stats_scalars};
 
-use crate::laws::in_hand::{cl_stats_in_hand, qd_stats_in_hand};
-use crate::octets::{i32_octets, u32_octets};
-use crate::split::{at_least, split_i32, split_u32};
-use nla_frames::{BytesMeaning, Emitable, Res, SettleBytes, put_bytes};
+use crate::fields::Fields;
+use crate::octets::Octets;
+use crate::record::{FixedRecord, emit_record, is_settled_record, parse_record, record_len};
+use nla_frames::{BytesMeaning, Emitable, Res, SettleBytes};
 
 /// How long the statistics of a qdisc are, in bytes.
 pub const TC_FQ_CODEL_QD_STATS_LEN: usize = 36;
@@ -53,59 +53,60 @@ pub struct TcFqCodelQdStats {
     pub drop_overmemory: u32,
 }
 
-impl TcFqCodelQdStats {
-    ghost use Rattle.tc_records.specs.Statistics.{qd_stats_scalars};
+impl FixedRecord<TC_FQ_CODEL_QD_STATS_LEN> for TcFqCodelQdStats {
+    ghost layout = { fq_codel_qd_stats };
 
+    ghost scalars = { qd_stats_scalars };
+
+    fn read(fields: &mut Fields<'_>) -> TcFqCodelQdStats {
+        TcFqCodelQdStats {
+            maxpacket: fields.u32(),
+            drop_overlimit: fields.u32(),
+            ecn_mark: fields.u32(),
+            new_flow_count: fields.u32(),
+            new_flows_len: fields.u32(),
+            old_flows_len: fields.u32(),
+            ce_mark: fields.u32(),
+            memory_usage: fields.u32(),
+            drop_overmemory: fields.u32(),
+        }
+    }
+
+    fn write(&self, out: &mut Octets) {
+        out.u32(self.maxpacket);
+        out.u32(self.drop_overlimit);
+        out.u32(self.ecn_mark);
+        out.u32(self.new_flow_count);
+        out.u32(self.new_flows_len);
+        out.u32(self.old_flows_len);
+        out.u32(self.ce_mark);
+        out.u32(self.memory_usage);
+        out.u32(self.drop_overmemory);
+    }
+
+    fn is_settled(&self) -> bool {
+        true
+    }
+
+    fn again(&self) -> TcFqCodelQdStats {
+        *self
+    }
+
+    fn in_hand(self, _other: Self) {}
+
+    ghost whole = { refl };
+}
+
+impl TcFqCodelQdStats {
     /// The statistics that bytes begin with; what follows is dropped, and fewer bytes are `BufferTooSmall`.
     pub fn parse(payload: &[u8]) -> Res<TcFqCodelQdStats>
         ensures { seen qd_stats_scalars result ≡ read_record fq_codel_qd_stats payload.now }
     {
-        at_least(payload, TC_FQ_CODEL_QD_STATS_LEN)?;
-        let (maxpacket, rest) = split_u32(payload);
-        let (drop_overlimit, rest) = split_u32(rest);
-        let (ecn_mark, rest) = split_u32(rest);
-        let (new_flow_count, rest) = split_u32(rest);
-        let (new_flows_len, rest) = split_u32(rest);
-        let (old_flows_len, rest) = split_u32(rest);
-        let (ce_mark, rest) = split_u32(rest);
-        let (memory_usage, rest) = split_u32(rest);
-        let (drop_overmemory, _) = split_u32(rest);
-        Ok(TcFqCodelQdStats {
-            maxpacket,
-            drop_overlimit,
-            ecn_mark,
-            new_flow_count,
-            new_flows_len,
-            old_flows_len,
-            ce_mark,
-            memory_usage,
-            drop_overmemory,
-        })
-    }
-
-    // The bytes of the statistics.
-    fn to_bytes(&self) -> [u8; TC_FQ_CODEL_QD_STATS_LEN]
-        ensures { result ≡ fields_bytes fq_codel_qd_stats (qd_stats_scalars self.now) }
-    {
-        let (p0, p1, p2, p3) = u32_octets(self.maxpacket);
-        let (d0, d1, d2, d3) = u32_octets(self.drop_overlimit);
-        let (e0, e1, e2, e3) = u32_octets(self.ecn_mark);
-        let (f0, f1, f2, f3) = u32_octets(self.new_flow_count);
-        let (n0, n1, n2, n3) = u32_octets(self.new_flows_len);
-        let (o0, o1, o2, o3) = u32_octets(self.old_flows_len);
-        let (c0, c1, c2, c3) = u32_octets(self.ce_mark);
-        let (m0, m1, m2, m3) = u32_octets(self.memory_usage);
-        let (u0, u1, u2, u3) = u32_octets(self.drop_overmemory);
-        [
-            p0, p1, p2, p3, d0, d1, d2, d3, e0, e1, e2, e3, f0, f1, f2, f3, n0, n1, n2, n3, o0, o1,
-            o2, o3, c0, c1, c2, c3, m0, m1, m2, m3, u0, u1, u2, u3,
-        ]
+        parse_record(payload)
     }
 }
 
 impl BytesMeaning for TcFqCodelQdStats {
-    ghost use Rattle.tc_records.specs.Statistics.{qd_stats_scalars};
-
     ghost Seen = { List Scalar };
 
     ghost see = { qd_stats_scalars };
@@ -115,19 +116,17 @@ impl BytesMeaning for TcFqCodelQdStats {
 
 impl Emitable for TcFqCodelQdStats {
     fn checked_len(&self) -> Option<usize> {
-        Some(TC_FQ_CODEL_QD_STATS_LEN)
+        record_len(self)
     }
 
     fn emit(&self, buffer: &mut [u8]) {
-        qd_stats_in_hand(self);
-        put_bytes(buffer, &self.to_bytes());
+        emit_record(self, buffer);
     }
 }
 
 impl SettleBytes for TcFqCodelQdStats {
     fn is_settled_under(&self, _kind: &str) -> bool {
-        qd_stats_in_hand(self);
-        true
+        is_settled_record(self)
     }
 }
 
@@ -161,7 +160,6 @@ pub struct TcFqCodelClStats {
 impl PartialEq for TcFqCodelClStats {
     ghost use Rattle.std.specs.Ordering.{on};
     ghost use Rattle.tc_meaning.specs.Equal.{same_scalars, scalars_per};
-    ghost use Rattle.tc_records.specs.Statistics.{cl_stats_scalars};
 
     ghost eq = { on cl_stats_scalars same_scalars };
 
@@ -188,55 +186,58 @@ impl PartialEq for TcFqCodelClStats {
 
 impl Eq for TcFqCodelClStats {
     ghost use Rattle.tc_meaning.specs.Equal.{scalars_equiv};
-    ghost use Rattle.tc_records.specs.Statistics.{cl_stats_scalars};
 
     ghost laws = { scalars_equiv cl_stats_scalars };
 }
 
-impl TcFqCodelClStats {
-    ghost use Rattle.tc_records.specs.Statistics.{cl_stats_scalars};
+impl FixedRecord<TC_FQ_CODEL_CL_STATS_LEN> for TcFqCodelClStats {
+    ghost layout = { fq_codel_cl_stats };
 
+    ghost scalars = { cl_stats_scalars };
+
+    fn read(fields: &mut Fields<'_>) -> TcFqCodelClStats {
+        TcFqCodelClStats {
+            deficit: fields.i32(),
+            ldelay: fields.u32(),
+            count: fields.u32(),
+            lastcount: fields.u32(),
+            dropping: fields.u32(),
+            drop_next: fields.i32(),
+        }
+    }
+
+    fn write(&self, out: &mut Octets) {
+        out.i32(self.deficit);
+        out.u32(self.ldelay);
+        out.u32(self.count);
+        out.u32(self.lastcount);
+        out.u32(self.dropping);
+        out.i32(self.drop_next);
+    }
+
+    fn is_settled(&self) -> bool {
+        true
+    }
+
+    fn again(&self) -> TcFqCodelClStats {
+        *self
+    }
+
+    fn in_hand(self, _other: Self) {}
+
+    ghost whole = { refl };
+}
+
+impl TcFqCodelClStats {
     /// The statistics that bytes begin with; what follows is dropped, and fewer bytes are `BufferTooSmall`.
     pub fn parse(payload: &[u8]) -> Res<TcFqCodelClStats>
         ensures { seen cl_stats_scalars result ≡ read_record fq_codel_cl_stats payload.now }
     {
-        at_least(payload, TC_FQ_CODEL_CL_STATS_LEN)?;
-        let (deficit, rest) = split_i32(payload);
-        let (ldelay, rest) = split_u32(rest);
-        let (count, rest) = split_u32(rest);
-        let (lastcount, rest) = split_u32(rest);
-        let (dropping, rest) = split_u32(rest);
-        let (drop_next, _) = split_i32(rest);
-        Ok(TcFqCodelClStats {
-            deficit,
-            ldelay,
-            count,
-            lastcount,
-            dropping,
-            drop_next,
-        })
-    }
-
-    // The bytes of the statistics.
-    fn to_bytes(&self) -> [u8; TC_FQ_CODEL_CL_STATS_LEN]
-        ensures { result ≡ fields_bytes fq_codel_cl_stats (cl_stats_scalars self.now) }
-    {
-        let (b0, b1, b2, b3) = i32_octets(self.deficit);
-        let (l0, l1, l2, l3) = u32_octets(self.ldelay);
-        let (c0, c1, c2, c3) = u32_octets(self.count);
-        let (p0, p1, p2, p3) = u32_octets(self.lastcount);
-        let (d0, d1, d2, d3) = u32_octets(self.dropping);
-        let (n0, n1, n2, n3) = i32_octets(self.drop_next);
-        [
-            b0, b1, b2, b3, l0, l1, l2, l3, c0, c1, c2, c3, p0, p1, p2, p3, d0, d1, d2, d3, n0, n1,
-            n2, n3,
-        ]
+        parse_record(payload)
     }
 }
 
 impl BytesMeaning for TcFqCodelClStats {
-    ghost use Rattle.tc_records.specs.Statistics.{cl_stats_scalars};
-
     ghost Seen = { List Scalar };
 
     ghost see = { cl_stats_scalars };
@@ -246,18 +247,16 @@ impl BytesMeaning for TcFqCodelClStats {
 
 impl Emitable for TcFqCodelClStats {
     fn checked_len(&self) -> Option<usize> {
-        Some(TC_FQ_CODEL_CL_STATS_LEN)
+        record_len(self)
     }
 
     fn emit(&self, buffer: &mut [u8]) {
-        cl_stats_in_hand(self);
-        put_bytes(buffer, &self.to_bytes());
+        emit_record(self, buffer);
     }
 }
 
 impl SettleBytes for TcFqCodelClStats {
     fn is_settled_under(&self, _kind: &str) -> bool {
-        cl_stats_in_hand(self);
-        true
+        is_settled_record(self)
     }
 }

@@ -1,17 +1,17 @@
 //! What went through a queue.
 
-ghost use Rattle.std.specs.Prelude.{◌≡◌, List};
+ghost use Rattle.std.specs.Prelude.{◌≡◌, List, refl};
 ghost use Rattle.nla_frames.specs.Fault.{seen};
 ghost use Rattle.tc_canon.specs.Layouts.{stats_basic};
 ghost use Rattle.tc_meaning.specs.Tree.{Scalar};
-ghost use Rattle.tc_meaning.specs.Layout.{fields_bytes};
 ghost use Rattle.tc_meaning.specs.Content.{read_record, record_codec};
+ghost use Rattle.tc_records.specs.Statistics.{basic_scalars};
 
-use crate::laws::in_hand::stats_basic_in_hand;
-use crate::octets::{u32_octets, u64_octets};
+use crate::fields::Fields;
+use crate::octets::Octets;
+use crate::record::{FixedRecord, emit_record, is_settled_record, parse_record, record_len};
 use crate::same::both;
-use crate::split::{at_least, split_u32, split_u64};
-use nla_frames::{BytesMeaning, Emitable, Res, SettleBytes, put_bytes};
+use nla_frames::{BytesMeaning, Emitable, Res, SettleBytes};
 
 /// How long basic statistics are, in bytes.
 pub const TC_STATS_BASIC_LEN: usize = 16;
@@ -35,7 +35,6 @@ pub struct TcStatsBasic {
 impl PartialEq for TcStatsBasic {
     ghost use Rattle.std.specs.Ordering.{on};
     ghost use Rattle.tc_meaning.specs.Equal.{same_scalars, scalars_per};
-    ghost use Rattle.tc_records.specs.Statistics.{basic_scalars};
 
     ghost eq = { on basic_scalars same_scalars };
 
@@ -51,37 +50,51 @@ impl PartialEq for TcStatsBasic {
 
 impl Eq for TcStatsBasic {
     ghost use Rattle.tc_meaning.specs.Equal.{scalars_equiv};
-    ghost use Rattle.tc_records.specs.Statistics.{basic_scalars};
 
     ghost laws = { scalars_equiv basic_scalars };
 }
 
-impl TcStatsBasic {
-    ghost use Rattle.tc_records.specs.Statistics.{basic_scalars};
+impl FixedRecord<TC_STATS_BASIC_LEN> for TcStatsBasic {
+    ghost layout = { stats_basic };
 
+    ghost scalars = { basic_scalars };
+
+    fn read(fields: &mut Fields<'_>) -> TcStatsBasic {
+        let bytes = fields.u64();
+        let packets = fields.u32();
+        fields.octets(4);
+        TcStatsBasic { bytes, packets }
+    }
+
+    fn write(&self, out: &mut Octets) {
+        out.u64(self.bytes);
+        out.u32(self.packets);
+        out.pad(4);
+    }
+
+    fn is_settled(&self) -> bool {
+        true
+    }
+
+    fn again(&self) -> TcStatsBasic {
+        *self
+    }
+
+    fn in_hand(self, _other: Self) {}
+
+    ghost whole = { refl };
+}
+
+impl TcStatsBasic {
     /// The statistics that bytes begin with; what follows is dropped, and fewer bytes are `BufferTooSmall`.
     pub fn parse(payload: &[u8]) -> Res<TcStatsBasic>
         ensures { seen basic_scalars result ≡ read_record stats_basic payload.now }
     {
-        at_least(payload, TC_STATS_BASIC_LEN)?;
-        let (bytes, rest) = split_u64(payload);
-        let (packets, _) = split_u32(rest);
-        Ok(TcStatsBasic { bytes, packets })
-    }
-
-    // The bytes of the statistics, their padding zero.
-    fn to_bytes(&self) -> [u8; TC_STATS_BASIC_LEN]
-        ensures { result ≡ fields_bytes stats_basic (basic_scalars self.now) }
-    {
-        let (b0, b1, b2, b3, b4, b5, b6, b7) = u64_octets(self.bytes);
-        let (p0, p1, p2, p3) = u32_octets(self.packets);
-        [b0, b1, b2, b3, b4, b5, b6, b7, p0, p1, p2, p3, 0, 0, 0, 0]
+        parse_record(payload)
     }
 }
 
 impl BytesMeaning for TcStatsBasic {
-    ghost use Rattle.tc_records.specs.Statistics.{basic_scalars};
-
     ghost Seen = { List Scalar };
 
     ghost see = { basic_scalars };
@@ -91,18 +104,16 @@ impl BytesMeaning for TcStatsBasic {
 
 impl Emitable for TcStatsBasic {
     fn checked_len(&self) -> Option<usize> {
-        Some(TC_STATS_BASIC_LEN)
+        record_len(self)
     }
 
     fn emit(&self, buffer: &mut [u8]) {
-        stats_basic_in_hand(self);
-        put_bytes(buffer, &self.to_bytes());
+        emit_record(self, buffer);
     }
 }
 
 impl SettleBytes for TcStatsBasic {
     fn is_settled_under(&self, _kind: &str) -> bool {
-        stats_basic_in_hand(self);
-        true
+        is_settled_record(self)
     }
 }

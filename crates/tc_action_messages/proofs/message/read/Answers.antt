@@ -5,7 +5,7 @@ use Rattle.tc_canon.specs.Layouts.{action_message_header}
 use Rattle.tc_canon.specs.Tables.Messages.{action_message_attributes}
 use Rattle.tc_records.specs.Actions.{action_message_header_scalars}
 use Rattle.tc_action_messages.specs.ActionMessageAttribute.{action_message_attribute}
-use Rattle.tc_action_messages.proofs.MessageReading.{message_read, message_refused}
+use Rattle.tc_meaning.proofs.MessageReading.{message_read, message_refused}
 use Rattle.tc_action_messages.proofs.message.read.Goals as goal
 
 pub returns-in_err-attributes : goal.returns-in_err-attributes

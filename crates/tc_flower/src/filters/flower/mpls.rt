@@ -1,4 +1,4 @@
-//! What flower matches of a packet's MPLS label stack, entry by entry.
+//! Options of flower that match the MPLS label stack, entry by entry.
 
 ghost use Rattle.std.specs.Prelude.{◌≡◌, List};
 ghost use Rattle.std.specs.Ordering.{on};
@@ -20,7 +20,7 @@ use nla_frames::{
 use std::alloc::{Allocator, Global};
 use tc_values::{Items, Value, same_row};
 
-// The types of what a label stack entry is matched by, `linux/pkt_cls.h`.
+// The types of the options of a label stack entry (LSE), `linux/pkt_cls.h`.
 pub(crate) const TCA_FLOWER_KEY_MPLS_OPT_LSE_DEPTH: u16 = 1;
 
 pub(crate) const TCA_FLOWER_KEY_MPLS_OPT_LSE_TTL: u16 = 2;
@@ -31,7 +31,7 @@ pub(crate) const TCA_FLOWER_KEY_MPLS_OPT_LSE_TC: u16 = 4;
 
 pub(crate) const TCA_FLOWER_KEY_MPLS_OPT_LSE_LABEL: u16 = 5;
 
-/// What one label stack entry is matched by.
+/// An option that matches one label stack entry.
 ///
 /// | Type | Option | Value |
 /// |---|---|---|
@@ -41,13 +41,13 @@ pub(crate) const TCA_FLOWER_KEY_MPLS_OPT_LSE_LABEL: u16 = 5;
 #[derive_where(Debug)]
 #[derive_where(Clone; A)]
 pub enum TcFilterFlowerMplsLseOption<A: Allocator = Global> {
-    /// Which entry of the stack it is, 1 for the outermost: `TCA_FLOWER_KEY_MPLS_OPT_LSE_DEPTH` of `linux/pkt_cls.h`.
+    /// The place of the entry in the stack, 1 for the outermost: `TCA_FLOWER_KEY_MPLS_OPT_LSE_DEPTH` of `linux/pkt_cls.h`.
     LseDepth(u8),
     /// The time to live: `TCA_FLOWER_KEY_MPLS_OPT_LSE_TTL`.
     LseTtl(u8),
-    /// Whether it is the last entry, the bottom of the stack; written whole: `TCA_FLOWER_KEY_MPLS_OPT_LSE_BOS`.
+    /// The bottom-of-stack bit, written as a whole byte: `TCA_FLOWER_KEY_MPLS_OPT_LSE_BOS`.
     LseBos(u8),
-    /// The traffic class, written whole: `TCA_FLOWER_KEY_MPLS_OPT_LSE_TC`.
+    /// The traffic class, written as a whole byte: `TCA_FLOWER_KEY_MPLS_OPT_LSE_TC`.
     LseTc(u8),
     /// The label, of which the lowest 20 bits are written: `TCA_FLOWER_KEY_MPLS_OPT_LSE_LABEL`.
     LseLabel(u32),
@@ -66,26 +66,28 @@ impl<A: Allocator> FrameMeaning for TcFilterFlowerMplsLseOption<A> {
 impl<A: Allocator> Parseable<A> for TcFilterFlowerMplsLseOption<A> {
     fn parse(alloc: A, buf: &NlaBuffer<'_>) -> Res<TcFilterFlowerMplsLseOption<A>> {
         let value = buf.value();
-        Ok(match buf.kind() {
-            TCA_FLOWER_KEY_MPLS_OPT_LSE_DEPTH => Self::LseDepth(parse_u8(value)?),
-            TCA_FLOWER_KEY_MPLS_OPT_LSE_TTL => Self::LseTtl(parse_u8(value)?),
-            TCA_FLOWER_KEY_MPLS_OPT_LSE_BOS => Self::LseBos(parse_u8(value)?),
-            TCA_FLOWER_KEY_MPLS_OPT_LSE_TC => Self::LseTc(parse_u8(value)?),
-            TCA_FLOWER_KEY_MPLS_OPT_LSE_LABEL => Self::LseLabel(parse_u32(value)?),
-            _ => Self::Other(DefaultNla::parse(alloc, buf)?),
-        })
+        match buf.kind() {
+            TCA_FLOWER_KEY_MPLS_OPT_LSE_DEPTH => Ok(Self::LseDepth(parse_u8(value)?)),
+            TCA_FLOWER_KEY_MPLS_OPT_LSE_TTL => Ok(Self::LseTtl(parse_u8(value)?)),
+            TCA_FLOWER_KEY_MPLS_OPT_LSE_BOS => Ok(Self::LseBos(parse_u8(value)?)),
+            TCA_FLOWER_KEY_MPLS_OPT_LSE_TC => Ok(Self::LseTc(parse_u8(value)?)),
+            TCA_FLOWER_KEY_MPLS_OPT_LSE_LABEL => Ok(Self::LseLabel(parse_u32(value)?)),
+            _ => Ok(Self::Other(DefaultNla::parse(alloc, buf)?)),
+        }
     }
 }
 
 impl<A: Allocator> TcFilterFlowerMplsLseOption<A> {
-    // Its word and its value, and what they are by the table.
+    // The `nla_type` and the value, by the table.
     fn view(&self) -> (u16, Value<'_>)
         ensures { ShownAs nothing lse_options (lse_option self.now) result.0 result.1 }
     {
         self.row()
     }
 
-    fn row(&self) -> (u16, Value<'_>)
+    /// The option's `nla_type` (type and flags) and its value, in the form that the row of its type in the table says; of
+    /// `Other` the word and the payload that it keeps.
+    pub fn row(&self) -> (u16, Value<'_>)
         ensures seen { lse_option self.now ≡ attribute_of nothing result.0 result.1 }
         ensures row { IsRow nothing lse_options result.0 result.1 }
     {
@@ -100,7 +102,7 @@ impl<A: Allocator> TcFilterFlowerMplsLseOption<A> {
     }
 }
 
-// True if what an entry is matched by is read of this word's type.
+// True if options of an entry of this type are read.
 fn is_lse_read(word: u16) -> bool
     ensures { result ≡ reads_at lse_options (type_of word) }
 {
@@ -150,7 +152,7 @@ impl<A: Allocator> Eq for TcFilterFlowerMplsLseOption<A> {
 // The type of a label stack entry, `linux/pkt_cls.h`.
 pub(crate) const TCA_FLOWER_KEY_MPLS_OPTS_LSE: u16 = 1;
 
-/// An option of MPLS.
+/// An option that matches the MPLS label stack.
 ///
 /// | Type | Option | Value |
 /// |---|---|---|
@@ -183,14 +185,16 @@ impl<A: Allocator + Copy> Parseable<A> for TcFilterFlowerMplsOption<A> {
 }
 
 impl<A: Allocator> TcFilterFlowerMplsOption<A> {
-    // Its word and its value, and what they are by the table.
+    // The `nla_type` and the value, by the table.
     fn view(&self) -> (u16, Value<'_, Items<'_, TcFilterFlowerMplsLseOption<A>>>)
         ensures { ShownAs lse_lists mpls_options (mpls_option self.now) result.0 result.1 }
     {
         self.row()
     }
 
-    fn row(&self) -> (u16, Value<'_, Items<'_, TcFilterFlowerMplsLseOption<A>>>)
+    /// The option's `nla_type` (type and flags) and its value, in the form that the row of its type in the table says; of
+    /// `Other` the word and the payload that it keeps.
+    pub fn row(&self) -> (u16, Value<'_, Items<'_, TcFilterFlowerMplsLseOption<A>>>)
         ensures seen { mpls_option self.now ≡ attribute_of lse_lists result.0 result.1 }
         ensures row { IsRow lse_lists mpls_options result.0 result.1 }
     {
@@ -206,7 +210,7 @@ impl<A: Allocator> TcFilterFlowerMplsOption<A> {
     }
 }
 
-// True if options of MPLS are read of this word's type.
+// True if options of MPLS of this type are read.
 fn is_mpls_read(word: u16) -> bool
     ensures { result ≡ reads_at mpls_options (type_of word) }
 {

@@ -1,3 +1,4 @@
+-- Searched alone: the other tactics take long over the view of an enum.
 use Rattle.std.proofs.Common.{rules}
 use Rattle.tc_action_messages.proofs.attribute.TcActionMessageAttributeNla.put_value.Goals as goal
 

@@ -1,3 +1,4 @@
+-- Searched alone: an edit that turns the octets is refused sooner.
 use Rattle.std.proofs.Common.{rules}
 use Rattle.tc_action_messages.proofs.flags.TcActionMessageFlagsWithSelector.to_bytes.Goals as goal
 

@@ -1,4 +1,4 @@
-use Rattle.std.proofs.Common.{◌∙◌, rules}
+use Rattle.std.proofs.Common.{◌∙◌}
 use Rattle.tc_meaning.specs.Equal.{same_each}
 use Rattle.tc_actions.specs.Stats2.{tc_stats2}
 use Rattle.tc_options.specs.Options.{tc_option}
@@ -13,6 +13,3 @@ pub returns-in-Stats2-Stats2 : goal.returns-in-Stats2-Stats2
 returns-in-Stats2-Stats2 g c =
     let pair = c.in-Stats2-Stats2 in
     rw (pair.is-0, pair.is-1) (c.eq-in-Stats2-Stats2.ensures ∙ same_each tc_stats2 pair.one.items pair.another.items)
-
-pub returns-in-Chain-Chain : goal.returns-in-Chain-Chain
-returns-in-Chain-Chain g c = search rules

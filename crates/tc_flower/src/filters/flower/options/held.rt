@@ -1,22 +1,25 @@
-//! An option taken apart: its type, and what it holds.
+//! Takes an option apart into its type and the value that it holds, and makes it of both; the names of the variants.
 
-ghost use Rattle.std.specs.Prelude.{◌≡◌, IsTrue};
-ghost use Rattle.tc_meaning.specs.Tree.{number_of};
+ghost use Rattle.std.specs.Prelude.{◌≡◌, ◌&&◌, not, IsTrue};
+ghost use Rattle.std.specs.Net.Addr.{ipv4_octets, ipv6_octets};
+ghost use Rattle.tc_canon.specs.Descriptor.{le, be, array};
+ghost use Rattle.tc_canon.specs.Tables.Flower.{flower_options};
+ghost use Rattle.tc_meaning.specs.Tree.{known, number, is_bytes, number_of};
 ghost use Rattle.tc_flower.specs.Flower.{flower_option};
-ghost use Rattle.tc_flower.specs.Held.{held_at, is_held_at, IsListHeld};
+ghost use Rattle.tc_flower.specs.Held.{held_at, is_held_at, are_labels, IsListHeld};
+ghost use Rattle.tc_flower.specs.Spans.{holds};
 
 use crate::filters::flower::mpls::TcFilterFlowerMplsOption;
-use crate::filters::flower::options::TcFilterFlowerOption;
-use crate::filters::flower::types::*;
+use crate::filters::flower::options::*;
 use nla_frames::{DefaultNla, NLA_TYPE_MASK, Nla};
 use std::alloc::Allocator;
 use std::net::{Ipv4Addr, Ipv6Addr};
 use tc_actions::TcAction;
 
-// What an option holds.
+// The value that an option holds.
 #[derive(Drop)]
 pub(crate) enum Held<'a, A: Allocator> {
-    // The class that packets go to.
+    // The handle of a class.
     ClassId(u32),
     // The name of a device.
     Name(&'a String<A>),
@@ -27,7 +30,7 @@ pub(crate) enum Held<'a, A: Allocator> {
     Ipv4(Ipv4Addr),
     // An IPv6 address.
     Ipv6(Ipv6Addr),
-    // Labels in connection tracking.
+    // Labels of connection tracking.
     Labels([u8; 16]),
     // A number of one byte.
     U8(u8),
@@ -46,12 +49,12 @@ pub(crate) enum Held<'a, A: Allocator> {
     // The lowest twenty bits of a number of four bytes.
     Bits20(u32),
     MplsOpts(&'a Vec<TcFilterFlowerMplsOption<A>, A>),
-    // What is kept as it stands.
+    // An attribute that is kept raw.
     Other(&'a DefaultNla<A>),
 }
 
 impl<A: Allocator> TcFilterFlowerOption<A> {
-    // Its type, and what it holds.
+    // The type, and the value that the option holds.
     #[inline(always)]
     pub(crate) fn parts(&self) -> (u16, Held<'_, A>)
         ensures seen { flower_option self.now ≡ held_at result.0 result.1 }
@@ -275,5 +278,304 @@ impl<A: Allocator> TcFilterFlowerOption<A> {
             Self::MplsOpts(options) => Held::MplsOpts(options),
             Self::Other(nla) => Held::Other(nla),
         }
+    }
+}
+
+// Options of a type and the value that they hold.
+impl<A: Allocator> TcFilterFlowerOption<A> {
+    // The option of a type that holds a MAC address.
+    #[inline(always)]
+    pub(crate) fn of_mac(kind: u16, mac: [u8; 6]) -> Self
+        requires { IsTrue (holds (array 6) flower_options kind) }
+        ensures { flower_option result ≡ known kind (is_bytes mac) }
+    {
+        match kind {
+            TCA_FLOWER_KEY_ETH_DST => Self::EthDst(mac),
+            TCA_FLOWER_KEY_ETH_DST_MASK => Self::EthDstMask(mac),
+            TCA_FLOWER_KEY_ETH_SRC => Self::EthSrc(mac),
+            TCA_FLOWER_KEY_ETH_SRC_MASK => Self::EthSrcMask(mac),
+            TCA_FLOWER_KEY_ARP_SHA => Self::ArpSha(mac),
+            TCA_FLOWER_KEY_ARP_SHA_MASK => Self::ArpShaMask(mac),
+            TCA_FLOWER_KEY_ARP_THA => Self::ArpTha(mac),
+            _ => Self::ArpThaMask(mac),
+        }
+    }
+
+    // The option of a type that holds an IPv4 address.
+    #[inline(always)]
+    pub(crate) fn of_ipv4(kind: u16, ip: Ipv4Addr) -> Self
+        requires { IsTrue (holds (array 4) flower_options kind) }
+        ensures { flower_option result ≡ known kind (is_bytes (ipv4_octets ip)) }
+    {
+        match kind {
+            TCA_FLOWER_KEY_IPV4_SRC => Self::Ipv4Src(ip),
+            TCA_FLOWER_KEY_IPV4_SRC_MASK => Self::Ipv4SrcMask(ip),
+            TCA_FLOWER_KEY_IPV4_DST => Self::Ipv4Dst(ip),
+            TCA_FLOWER_KEY_IPV4_DST_MASK => Self::Ipv4DstMask(ip),
+            TCA_FLOWER_KEY_ENC_IPV4_SRC => Self::EncKeyIpv4Src(ip),
+            TCA_FLOWER_KEY_ENC_IPV4_SRC_MASK => Self::EncKeyIpv4SrcMask(ip),
+            TCA_FLOWER_KEY_ENC_IPV4_DST => Self::EncKeyIpv4Dst(ip),
+            TCA_FLOWER_KEY_ENC_IPV4_DST_MASK => Self::EncKeyIpv4DstMask(ip),
+            TCA_FLOWER_KEY_ARP_SIP => Self::ArpSip(ip),
+            TCA_FLOWER_KEY_ARP_SIP_MASK => Self::ArpSipMask(ip),
+            TCA_FLOWER_KEY_ARP_TIP => Self::ArpTip(ip),
+            _ => Self::ArpTipMask(ip),
+        }
+    }
+
+    // The option of a type that holds an IPv6 address.
+    #[inline(always)]
+    pub(crate) fn of_ipv6(kind: u16, ip: Ipv6Addr) -> Self
+        requires { IsTrue (holds (array 16) flower_options kind && not (are_labels kind)) }
+        ensures { flower_option result ≡ known kind (is_bytes (ipv6_octets ip)) }
+    {
+        match kind {
+            TCA_FLOWER_KEY_IPV6_SRC => Self::Ipv6Src(ip),
+            TCA_FLOWER_KEY_IPV6_SRC_MASK => Self::Ipv6SrcMask(ip),
+            TCA_FLOWER_KEY_IPV6_DST => Self::Ipv6Dst(ip),
+            TCA_FLOWER_KEY_IPV6_DST_MASK => Self::Ipv6DstMask(ip),
+            TCA_FLOWER_KEY_ENC_IPV6_SRC => Self::EncKeyIpv6Src(ip),
+            TCA_FLOWER_KEY_ENC_IPV6_SRC_MASK => Self::EncKeyIpv6SrcMask(ip),
+            TCA_FLOWER_KEY_ENC_IPV6_DST => Self::EncKeyIpv6Dst(ip),
+            _ => Self::EncKeyIpv6DstMask(ip),
+        }
+    }
+
+    // The option of a type that holds labels in connection tracking.
+    #[inline(always)]
+    pub(crate) fn of_labels(kind: u16, labels: [u8; 16]) -> Self
+        requires { IsTrue (are_labels kind) }
+        ensures { flower_option result ≡ known kind (is_bytes labels) }
+    {
+        match kind {
+            TCA_FLOWER_KEY_CT_LABELS => Self::CtLabels(labels),
+            _ => Self::CtLabelsMask(labels),
+        }
+    }
+
+    // The option of a type that holds a number of one byte.
+    #[inline(always)]
+    pub(crate) fn of_u8(kind: u16, n: u8) -> Self
+        requires { IsTrue (holds (le 1) flower_options kind) }
+        ensures { flower_option result ≡ known kind (number n) }
+    {
+        match kind {
+            TCA_FLOWER_KEY_IP_PROTO => Self::IpProto(n),
+            TCA_FLOWER_KEY_VLAN_PRIO => Self::VlanPrio(n),
+            TCA_FLOWER_KEY_ICMPV4_CODE => Self::Icmpv4Code(n),
+            TCA_FLOWER_KEY_ICMPV4_CODE_MASK => Self::Icmpv4CodeMask(n),
+            TCA_FLOWER_KEY_ICMPV4_TYPE => Self::Icmpv4Type(n),
+            TCA_FLOWER_KEY_ICMPV4_TYPE_MASK => Self::Icmpv4TypeMask(n),
+            TCA_FLOWER_KEY_ICMPV6_CODE => Self::Icmpv6Code(n),
+            TCA_FLOWER_KEY_ICMPV6_CODE_MASK => Self::Icmpv6CodeMask(n),
+            TCA_FLOWER_KEY_ICMPV6_TYPE => Self::Icmpv6Type(n),
+            TCA_FLOWER_KEY_ICMPV6_TYPE_MASK => Self::Icmpv6TypeMask(n),
+            TCA_FLOWER_KEY_ARP_OP => Self::ArpOp(n),
+            TCA_FLOWER_KEY_ARP_OP_MASK => Self::ArpOpMask(n),
+            TCA_FLOWER_KEY_MPLS_TTL => Self::MplsTtl(n),
+            TCA_FLOWER_KEY_IP_TOS => Self::IpTos(n),
+            TCA_FLOWER_KEY_IP_TOS_MASK => Self::IpTosMask(n),
+            TCA_FLOWER_KEY_IP_TTL => Self::IpTtl(n),
+            TCA_FLOWER_KEY_IP_TTL_MASK => Self::IpTtlMask(n),
+            TCA_FLOWER_KEY_CVLAN_PRIO => Self::CvlanPrio(n),
+            TCA_FLOWER_KEY_ENC_IP_TOS => Self::EncKeyIpTos(n),
+            TCA_FLOWER_KEY_ENC_IP_TOS_MASK => Self::EncKeyIpTosMask(n),
+            TCA_FLOWER_KEY_ENC_IP_TTL => Self::EncKeyIpTtl(n),
+            _ => Self::EncKeyIpTtlMask(n),
+        }
+    }
+
+    // The option of a type that holds a number of two bytes.
+    #[inline(always)]
+    pub(crate) fn of_u16(kind: u16, n: u16) -> Self
+        requires { IsTrue (holds (le 2) flower_options kind) }
+        ensures { flower_option result ≡ known kind (number n) }
+    {
+        match kind {
+            TCA_FLOWER_KEY_VLAN_ID => Self::VlanId(n),
+            TCA_FLOWER_KEY_CVLAN_ID => Self::CvlanId(n),
+            TCA_FLOWER_KEY_CT_STATE => Self::CtState(n),
+            TCA_FLOWER_KEY_CT_STATE_MASK => Self::CtStateMask(n),
+            TCA_FLOWER_KEY_CT_ZONE => Self::CtZone(n),
+            _ => Self::CtZoneMask(n),
+        }
+    }
+
+    // The option of a type that holds a number of two bytes, big-endian.
+    #[inline(always)]
+    pub(crate) fn of_u16_be(kind: u16, n: u16) -> Self
+        requires { IsTrue (holds (be 2) flower_options kind) }
+        ensures { flower_option result ≡ known kind (number n) }
+    {
+        match kind {
+            TCA_FLOWER_KEY_ETH_TYPE => Self::EthType(n),
+            TCA_FLOWER_KEY_TCP_SRC => Self::TcpSrc(n),
+            TCA_FLOWER_KEY_TCP_DST => Self::TcpDst(n),
+            TCA_FLOWER_KEY_UDP_SRC => Self::UdpSrc(n),
+            TCA_FLOWER_KEY_UDP_DST => Self::UdpDst(n),
+            TCA_FLOWER_KEY_VLAN_ETH_TYPE => Self::VlanEthType(n),
+            TCA_FLOWER_KEY_TCP_SRC_MASK => Self::TcpSrcMask(n),
+            TCA_FLOWER_KEY_TCP_DST_MASK => Self::TcpDstMask(n),
+            TCA_FLOWER_KEY_UDP_SRC_MASK => Self::UdpSrcMask(n),
+            TCA_FLOWER_KEY_UDP_DST_MASK => Self::UdpDstMask(n),
+            TCA_FLOWER_KEY_SCTP_SRC_MASK => Self::SctpSrcMask(n),
+            TCA_FLOWER_KEY_SCTP_DST_MASK => Self::SctpDstMask(n),
+            TCA_FLOWER_KEY_SCTP_SRC => Self::SctpSrc(n),
+            TCA_FLOWER_KEY_SCTP_DST => Self::SctpDst(n),
+            TCA_FLOWER_KEY_ENC_UDP_SRC_PORT => Self::EncKeyUdpSrcPort(n),
+            TCA_FLOWER_KEY_ENC_UDP_SRC_PORT_MASK => Self::EncKeyUdpSrcPortMask(n),
+            TCA_FLOWER_KEY_ENC_UDP_DST_PORT => Self::EncKeyUdpDstPort(n),
+            TCA_FLOWER_KEY_ENC_UDP_DST_PORT_MASK => Self::EncKeyUdpDstPortMask(n),
+            TCA_FLOWER_KEY_TCP_FLAGS => Self::TcpFlags(n),
+            TCA_FLOWER_KEY_TCP_FLAGS_MASK => Self::TcpFlagsMask(n),
+            TCA_FLOWER_KEY_CVLAN_ETH_TYPE => Self::CvlanEthType(n),
+            TCA_FLOWER_KEY_PORT_SRC_MIN => Self::PortSrcMin(n),
+            TCA_FLOWER_KEY_PORT_SRC_MAX => Self::PortSrcMax(n),
+            TCA_FLOWER_KEY_PORT_DST_MIN => Self::PortDstMin(n),
+            _ => Self::PortDstMax(n),
+        }
+    }
+
+    // The option of a type that holds a number of four bytes.
+    #[inline(always)]
+    pub(crate) fn of_u32(kind: u16, n: u32) -> Self
+        requires { IsTrue (holds (le 4) flower_options kind) }
+        ensures { flower_option result ≡ known kind (number n) }
+    {
+        match kind {
+            TCA_FLOWER_FLAGS => Self::Flags(n),
+            TCA_FLOWER_IN_HW_COUNT => Self::InHwCount(n),
+            TCA_FLOWER_KEY_CT_MARK => Self::CtMark(n),
+            TCA_FLOWER_KEY_CT_MARK_MASK => Self::CtMarkMask(n),
+            TCA_FLOWER_KEY_HASH => Self::KeyHash(n),
+            _ => Self::KeyHashMask(n),
+        }
+    }
+
+    // The option of a type that holds a number of four bytes, big-endian.
+    #[inline(always)]
+    pub(crate) fn of_u32_be(kind: u16, n: u32) -> Self
+        requires { IsTrue (holds (be 4) flower_options kind) }
+        ensures { flower_option result ≡ known kind (number n) }
+    {
+        match kind {
+            TCA_FLOWER_KEY_ENC_KEY_ID => Self::EncKeyId(n),
+            TCA_FLOWER_KEY_FLAGS => Self::KeyFlags(n),
+            _ => Self::KeyFlagsMask(n),
+        }
+    }
+}
+
+// The names of the options' variants, by type; no option has the types 0, 84 and 85.
+const NAMES: &'static [&'static str] = &[
+    "",
+    "ClassId",
+    "InDev",
+    "Actions",
+    "EthDst",
+    "EthDstMask",
+    "EthSrc",
+    "EthSrcMask",
+    "EthType",
+    "IpProto",
+    "Ipv4Src",
+    "Ipv4SrcMask",
+    "Ipv4Dst",
+    "Ipv4DstMask",
+    "Ipv6Src",
+    "Ipv6SrcMask",
+    "Ipv6Dst",
+    "Ipv6DstMask",
+    "TcpSrc",
+    "TcpDst",
+    "UdpSrc",
+    "UdpDst",
+    "Flags",
+    "VlanId",
+    "VlanPrio",
+    "VlanEthType",
+    "EncKeyId",
+    "EncKeyIpv4Src",
+    "EncKeyIpv4SrcMask",
+    "EncKeyIpv4Dst",
+    "EncKeyIpv4DstMask",
+    "EncKeyIpv6Src",
+    "EncKeyIpv6SrcMask",
+    "EncKeyIpv6Dst",
+    "EncKeyIpv6DstMask",
+    "TcpSrcMask",
+    "TcpDstMask",
+    "UdpSrcMask",
+    "UdpDstMask",
+    "SctpSrcMask",
+    "SctpDstMask",
+    "SctpSrc",
+    "SctpDst",
+    "EncKeyUdpSrcPort",
+    "EncKeyUdpSrcPortMask",
+    "EncKeyUdpDstPort",
+    "EncKeyUdpDstPortMask",
+    "KeyFlags",
+    "KeyFlagsMask",
+    "Icmpv4Code",
+    "Icmpv4CodeMask",
+    "Icmpv4Type",
+    "Icmpv4TypeMask",
+    "Icmpv6Code",
+    "Icmpv6CodeMask",
+    "Icmpv6Type",
+    "Icmpv6TypeMask",
+    "ArpSip",
+    "ArpSipMask",
+    "ArpTip",
+    "ArpTipMask",
+    "ArpOp",
+    "ArpOpMask",
+    "ArpSha",
+    "ArpShaMask",
+    "ArpTha",
+    "ArpThaMask",
+    "MplsTtl",
+    "MplsBos",
+    "MplsTc",
+    "MplsLabel",
+    "TcpFlags",
+    "TcpFlagsMask",
+    "IpTos",
+    "IpTosMask",
+    "IpTtl",
+    "IpTtlMask",
+    "CvlanId",
+    "CvlanPrio",
+    "CvlanEthType",
+    "EncKeyIpTos",
+    "EncKeyIpTosMask",
+    "EncKeyIpTtl",
+    "EncKeyIpTtlMask",
+    "",
+    "",
+    "InHwCount",
+    "PortSrcMin",
+    "PortSrcMax",
+    "PortDstMin",
+    "PortDstMax",
+    "CtState",
+    "CtStateMask",
+    "CtZone",
+    "CtZoneMask",
+    "CtMark",
+    "CtMarkMask",
+    "CtLabels",
+    "CtLabelsMask",
+    "MplsOpts",
+    "KeyHash",
+    "KeyHashMask",
+];
+
+// The name of the variant of a type, empty where there is none.
+pub(crate) fn name_of(kind: u16) -> &'static str {
+    match NAMES.get(usize::from(kind)) {
+        Some(name) => name,
+        None => "",
     }
 }

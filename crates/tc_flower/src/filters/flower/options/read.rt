@@ -1,21 +1,23 @@
 //! Reading options.
 
-ghost use Rattle.std.specs.Prelude.{◌≡◌, ◌||◌, false, List, IsTrue};
+ghost use Rattle.std.specs.Prelude.{◌≡◌, ◌&&◌, not, false, List, IsTrue};
 ghost use Rattle.nla_frames.specs.Buffer.{frame_of};
 ghost use Rattle.nla_frames.specs.Fault.{Gives, seen};
 ghost use Rattle.nla_frames.specs.Frame.{type_of};
 ghost use Rattle.nla_frames.specs.Value.{exactly};
-ghost use Rattle.tc_canon.specs.Descriptor.{is_within};
+ghost use Rattle.tc_canon.specs.Descriptor.{le, be, array};
+ghost use Rattle.tc_canon.specs.Tables.Flower.{flower_options};
+ghost use Rattle.tc_values.specs.Row.{reads_at};
 ghost use Rattle.tc_flower.specs.Flower.{flower_option};
-ghost use Rattle.tc_flower.specs.Held.{holds_mac, holds_ipv4, holds_ipv6, holds_labels, holds_u8, holds_u16, holds_u16_be, holds_u32, holds_u32_be};
+ghost use Rattle.tc_flower.specs.Held.{are_labels};
 ghost use Rattle.tc_flower.specs.Reading.{flower_read};
+ghost use Rattle.tc_flower.specs.Spans.{holds, spans, is_in};
 
-use crate::filters::flower::options::TcFilterFlowerOption;
-use crate::filters::flower::types::*;
+use crate::filters::flower::options::*;
 use nla_frames::{
-    DecodeError, DefaultNla, NlaBuffer, Parseable, Res, parse_ipv4_addr, parse_ipv6_addr,
-    parse_list, parse_mac, parse_string, parse_u8, parse_u16, parse_u16_be, parse_u32,
-    parse_u32_be,
+    DecodeError, DefaultNla, NLA_TYPE_MASK, NlaBuffer, Parseable, Res, parse_ipv4_addr,
+    parse_ipv6_addr, parse_list, parse_mac, parse_string, parse_u8, parse_u16, parse_u16_be,
+    parse_u32, parse_u32_be,
 };
 use std::alloc::Allocator;
 
@@ -78,16 +80,28 @@ impl<A: Allocator + Copy> TcFilterFlowerOption<A> {
         }
     }
 
-    // An option that is kept as it stands.
+    // An option that is kept raw.
     #[tactic(auto, using(crate::proofs::FlowerReads::other_read))]
     #[inline(always)]
     fn read_other(alloc: A, buf: &NlaBuffer<'_>) -> Res<Self>
-        requires { (is_within 2 83 (type_of (frame_of buf.now).word)
-            || is_within 86 101 (type_of (frame_of buf.now).word)) ≡ false }
+        requires { is_in (spans flower_options) (type_of (frame_of buf.now).word) ≡ false }
         ensures { Gives (seen flower_option result) (flower_read (frame_of buf.now)) }
     {
         Ok(Self::Other(DefaultNla::parse(alloc, buf)?))
     }
+}
+
+// True if options of this type are read.
+pub(crate) fn is_read(word: u16) -> bool
+    ensures { result ≡ reads_at flower_options (type_of word) }
+{
+    is_in_spans(word)
+}
+
+fn is_in_spans(word: u16) -> bool
+    ensures { result ≡ is_in (spans flower_options) (type_of word) }
+{
+    matches!(word & NLA_TYPE_MASK, TCA_FLOWER_INDEV..=TCA_FLOWER_KEY_ENC_IP_TTL_MASK | TCA_FLOWER_IN_HW_COUNT..=TCA_FLOWER_KEY_HASH_MASK)
 }
 
 // Reading by what the option holds.
@@ -96,7 +110,7 @@ impl<A: Allocator> TcFilterFlowerOption<A> {
     #[tactic(auto, using(crate::proofs::FlowerReads::mac_read))]
     #[inline(always)]
     fn read_mac(buf: &NlaBuffer<'_>) -> Res<Self>
-        requires { IsTrue (holds_mac (type_of (frame_of buf.now).word)) }
+        requires { IsTrue (holds (array 6) flower_options (type_of (frame_of buf.now).word)) }
         ensures { Gives (seen flower_option result) (flower_read (frame_of buf.now)) }
     {
         Ok(Self::of_mac(buf.kind(), parse_mac(buf.value())?))
@@ -106,7 +120,7 @@ impl<A: Allocator> TcFilterFlowerOption<A> {
     #[tactic(auto, using(crate::proofs::FlowerReads::ipv4_read))]
     #[inline(always)]
     fn read_ipv4(buf: &NlaBuffer<'_>) -> Res<Self>
-        requires { IsTrue (holds_ipv4 (type_of (frame_of buf.now).word)) }
+        requires { IsTrue (holds (array 4) flower_options (type_of (frame_of buf.now).word)) }
         ensures { Gives (seen flower_option result) (flower_read (frame_of buf.now)) }
     {
         Ok(Self::of_ipv4(buf.kind(), parse_ipv4_addr(buf.value())?))
@@ -116,7 +130,8 @@ impl<A: Allocator> TcFilterFlowerOption<A> {
     #[tactic(auto, using(crate::proofs::FlowerReads::ipv6_read))]
     #[inline(always)]
     fn read_ipv6(buf: &NlaBuffer<'_>) -> Res<Self>
-        requires { IsTrue (holds_ipv6 (type_of (frame_of buf.now).word)) }
+        requires { IsTrue (holds (array 16) flower_options (type_of (frame_of buf.now).word)
+            && not (are_labels (type_of (frame_of buf.now).word))) }
         ensures { Gives (seen flower_option result) (flower_read (frame_of buf.now)) }
     {
         Ok(Self::of_ipv6(buf.kind(), parse_ipv6_addr(buf.value())?))
@@ -126,7 +141,7 @@ impl<A: Allocator> TcFilterFlowerOption<A> {
     #[tactic(auto, using(crate::proofs::FlowerReads::labels_read))]
     #[inline(always)]
     fn read_labels(buf: &NlaBuffer<'_>) -> Res<Self>
-        requires { IsTrue (holds_labels (type_of (frame_of buf.now).word)) }
+        requires { IsTrue (are_labels (type_of (frame_of buf.now).word)) }
         ensures { Gives (seen flower_option result) (flower_read (frame_of buf.now)) }
     {
         Ok(Self::of_labels(buf.kind(), parse_labels(buf.value())?))
@@ -136,7 +151,7 @@ impl<A: Allocator> TcFilterFlowerOption<A> {
     #[tactic(auto, using(crate::proofs::FlowerReads::u8_read))]
     #[inline(always)]
     fn read_u8(buf: &NlaBuffer<'_>) -> Res<Self>
-        requires { IsTrue (holds_u8 (type_of (frame_of buf.now).word)) }
+        requires { IsTrue (holds (le 1) flower_options (type_of (frame_of buf.now).word)) }
         ensures { Gives (seen flower_option result) (flower_read (frame_of buf.now)) }
     {
         Ok(Self::of_u8(buf.kind(), parse_u8(buf.value())?))
@@ -146,7 +161,7 @@ impl<A: Allocator> TcFilterFlowerOption<A> {
     #[tactic(auto, using(crate::proofs::FlowerReads::u16_read))]
     #[inline(always)]
     fn read_u16(buf: &NlaBuffer<'_>) -> Res<Self>
-        requires { IsTrue (holds_u16 (type_of (frame_of buf.now).word)) }
+        requires { IsTrue (holds (le 2) flower_options (type_of (frame_of buf.now).word)) }
         ensures { Gives (seen flower_option result) (flower_read (frame_of buf.now)) }
     {
         Ok(Self::of_u16(buf.kind(), parse_u16(buf.value())?))
@@ -156,7 +171,7 @@ impl<A: Allocator> TcFilterFlowerOption<A> {
     #[tactic(auto, using(crate::proofs::FlowerReads::u16_be_read))]
     #[inline(always)]
     fn read_u16_be(buf: &NlaBuffer<'_>) -> Res<Self>
-        requires { IsTrue (holds_u16_be (type_of (frame_of buf.now).word)) }
+        requires { IsTrue (holds (be 2) flower_options (type_of (frame_of buf.now).word)) }
         ensures { Gives (seen flower_option result) (flower_read (frame_of buf.now)) }
     {
         Ok(Self::of_u16_be(buf.kind(), parse_u16_be(buf.value())?))
@@ -166,7 +181,7 @@ impl<A: Allocator> TcFilterFlowerOption<A> {
     #[tactic(auto, using(crate::proofs::FlowerReads::u32_read))]
     #[inline(always)]
     fn read_u32(buf: &NlaBuffer<'_>) -> Res<Self>
-        requires { IsTrue (holds_u32 (type_of (frame_of buf.now).word)) }
+        requires { IsTrue (holds (le 4) flower_options (type_of (frame_of buf.now).word)) }
         ensures { Gives (seen flower_option result) (flower_read (frame_of buf.now)) }
     {
         Ok(Self::of_u32(buf.kind(), parse_u32(buf.value())?))
@@ -176,7 +191,7 @@ impl<A: Allocator> TcFilterFlowerOption<A> {
     #[tactic(auto, using(crate::proofs::FlowerReads::u32_be_read))]
     #[inline(always)]
     fn read_u32_be(buf: &NlaBuffer<'_>) -> Res<Self>
-        requires { IsTrue (holds_u32_be (type_of (frame_of buf.now).word)) }
+        requires { IsTrue (holds (be 4) flower_options (type_of (frame_of buf.now).word)) }
         ensures { Gives (seen flower_option result) (flower_read (frame_of buf.now)) }
     {
         Ok(Self::of_u32_be(buf.kind(), parse_u32_be(buf.value())?))

@@ -1,26 +1,23 @@
-//! Options as rows of flower's table: a word and a value.
+//! Options as rows of flower's table: an `nla_type` and a value.
 
-ghost use Rattle.std.specs.Prelude.{◌≡◌, ◌||◌};
-ghost use Rattle.nla_frames.specs.Frame.{type_of};
-ghost use Rattle.tc_canon.specs.Descriptor.{is_within};
+ghost use Rattle.std.specs.Prelude.{◌≡◌};
 ghost use Rattle.tc_canon.specs.Tables.Flower.{flower_options};
-ghost use Rattle.tc_values.specs.Row.{attribute_of, IsRow, ShownAs, reads_at};
+ghost use Rattle.tc_values.specs.Row.{attribute_of, IsRow, ShownAs};
 ghost use Rattle.tc_flower.specs.Flower.{flower_option, flower_lists};
 
 use crate::filters::flower::mpls::TcFilterFlowerMplsOption;
-use crate::filters::flower::options::TcFilterFlowerOption;
 use crate::filters::flower::options::held::Held;
-use crate::filters::flower::types::*;
-use nla_frames::{NLA_F_NESTED, NLA_TYPE_MASK, Nla};
+use crate::filters::flower::options::*;
+use nla_frames::{NLA_F_NESTED, Nla};
 use std::alloc::Allocator;
 use tc_actions::TcAction;
 use tc_values::{Either, Items, Value};
 
-// What is nested in the options: actions, or what MPLS is matched by.
+// The lists in the options: actions, or options of MPLS.
 type FlowerLists<'a, A> = Either<Items<'a, TcAction<A>>, Items<'a, TcFilterFlowerMplsOption<A>>>;
 
 impl<A: Allocator> TcFilterFlowerOption<A> {
-    // Its word and its value, and what they are by the table.
+    // The `nla_type` and the value, by the table.
     #[inline(always)]
     pub(crate) fn view(&self) -> (u16, Value<'_, FlowerLists<'_, A>>)
         ensures { ShownAs flower_lists flower_options (flower_option self.now) result.0 result.1 }
@@ -28,8 +25,10 @@ impl<A: Allocator> TcFilterFlowerOption<A> {
         self.row()
     }
 
+    /// The option's `nla_type` (type and flags) and its value, in the form that the row of its type in the table says; of
+    /// `Other` the word and the payload that it keeps.
     #[inline(always)]
-    pub(crate) fn row(&self) -> (u16, Value<'_, FlowerLists<'_, A>>)
+    pub fn row(&self) -> (u16, Value<'_, FlowerLists<'_, A>>)
         ensures seen { flower_option self.now ≡ attribute_of flower_lists result.0 result.1 }
         ensures row { IsRow flower_lists flower_options result.0 result.1 }
     {
@@ -57,17 +56,4 @@ impl<A: Allocator> TcFilterFlowerOption<A> {
             Held::Other(nla) => (nla.kind(), Value::Kept(nla.value())),
         }
     }
-}
-
-// True if options of this word's type are read.
-pub(crate) fn is_read(word: u16) -> bool
-    ensures { result ≡ reads_at flower_options (type_of word) }
-{
-    is_in_spans(word)
-}
-
-fn is_in_spans(word: u16) -> bool
-    ensures { result ≡ (is_within 2 83 (type_of word) || is_within 86 101 (type_of word)) }
-{
-    matches!(word & NLA_TYPE_MASK, TCA_FLOWER_INDEV..=TCA_FLOWER_KEY_ENC_IP_TTL_MASK | TCA_FLOWER_IN_HW_COUNT..=TCA_FLOWER_KEY_HASH_MASK)
 }

@@ -1,4 +1,4 @@
-use Rattle.std.proofs.Common.{sym, ◌∙◌, rules}
+use Rattle.std.proofs.Common.{sym, ◌∙◌}
 use Rattle.std.proofs.lemmas.Result.{err_from_is_err_and}
 use Rattle.tc_actions.proofs.AttributeLists.{options_read, options_refused, stats_read, stats_refused}
 use Rattle.tc_actions.proofs.actions.attribute.TcActionAttributeParseableParametrized.parse_with_param.Goals as goal
@@ -22,6 +22,3 @@ returns-in_ok-parse_list_with-in-2 g c =
 pub returns-in_ok-parse_list_with-in-4 : goal.returns-in_ok-parse_list_with-in-4
 returns-in_ok-parse_list_with-in-4 g c =
     stats_read c.args.kind.now _ (sym c.kind.ensures ∙ c.in-4.is) _ (rw c.value-value.ensures.bytes at c.in_ok-parse_list_with-in-4.ensures.exact)
-
-pub returns-in_ok-parse_u32-in-10 : goal.returns-in_ok-parse_u32-in-10
-returns-in_ok-parse_u32-in-10 g c = search rules

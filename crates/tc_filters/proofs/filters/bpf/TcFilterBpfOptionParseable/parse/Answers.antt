@@ -1,4 +1,4 @@
-use Rattle.std.proofs.Common.{refl, sym, ◌∙◌, rules}
+use Rattle.std.proofs.Common.{refl, sym, ◌∙◌}
 use Rattle.std.proofs.lemmas.Result.{err_from_is_err_and}
 use Rattle.nla_frames.specs.Buffer.{frame_of}
 use Rattle.tc_canon.specs.Tables.Options.{bpf_options}
@@ -17,6 +17,3 @@ returns-in_err-parse_string-in-7 g c =
     let here = sym c.kind.ensures ∙ c.in-7.is in
     rw (p.1, p.2) (value_refused bpf_options 7 some_bytes text_codec refl (frame_of c.args.buf.now) here _
     (rw c.value-value.ensures.bytes at c.in_err-parse_string-in-7.ensures))
-
-pub returns-in_ok-parse_u32-in-6 : goal.returns-in_ok-parse_u32-in-6
-returns-in_ok-parse_u32-in-6 g c = search rules

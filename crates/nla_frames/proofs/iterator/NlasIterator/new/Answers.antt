@@ -1,5 +1,0 @@
-use Rattle.std.proofs.Common.{rules}
-use Rattle.nla_frames.proofs.iterator.NlasIterator.new.Goals as goal
-
-pub returns : goal.returns
-returns c = search rules

@@ -1,5 +1,0 @@
-use Rattle.std.proofs.Common.{rules}
-use Rattle.nla_frames.proofs.nla.Nla.emit_frame.Goals as goal
-
-pub returns : goal.returns
-returns g c = search rules

@@ -1,9 +1,0 @@
-use Rattle.std.proofs.Common.{arith, rules}
-use Rattle.std.proofs.lemmas.Grind.{common_steps}
-use Rattle.nla_frames.proofs.values.read.parse_u32.Goals as goal
-
-pub returns-in-len4 : goal.returns-in-len4
-returns-in-len4 c = grind (arith, common_steps)
-
-pub returns-in_default : goal.returns-in_default
-returns-in_default c = search rules

@@ -1,3 +1,0 @@
-//! The bytes of records of filters.
-
-pub mod u32_selector;

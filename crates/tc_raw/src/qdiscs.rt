@@ -1,3 +1,0 @@
-//! The bytes of records of qdiscs.
-
-pub mod fq_codel;

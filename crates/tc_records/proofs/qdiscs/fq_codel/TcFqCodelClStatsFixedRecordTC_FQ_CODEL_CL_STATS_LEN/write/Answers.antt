@@ -1,0 +1,5 @@
+use Rattle.std.proofs.Common.{append_assoc, rules}
+use Rattle.tc_records.proofs.qdiscs.fq_codel.TcFqCodelClStatsFixedRecordTC_FQ_CODEL_CL_STATS_LEN.write.Goals as goal
+
+pub returns-clause-written : goal.returns-clause-written
+returns-clause-written c = rw (c.i32-2.ensures.written, c.u32-4.ensures.written, c.u32-3.ensures.written, c.u32-2.ensures.written, c.u32.ensures.written, c.i32.ensures.written) (search (rules, append_assoc))
