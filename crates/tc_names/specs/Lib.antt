@@ -1,0 +1,4 @@
+pub mod Named
+pub mod Names
+pub mod RecordNames
+pub mod Listed
