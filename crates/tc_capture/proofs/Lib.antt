@@ -1,0 +1,2 @@
+pub mod OptionSteps
+pub mod Steps

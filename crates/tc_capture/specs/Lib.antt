@@ -1,0 +1,15 @@
+pub mod Order
+pub mod Outcome
+pub mod Message
+pub mod Messages
+pub mod Kind
+pub mod Time
+pub mod Packet
+pub mod Front
+pub mod Stream
+pub mod Pcap
+pub mod Options
+pub mod PcapNg
+pub mod Block
+pub mod Section
+pub mod Capture

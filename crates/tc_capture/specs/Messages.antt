@@ -1,0 +1,28 @@
+-- The messages of a packet, one after the other.
+use Rattle.std.specs.Prelude.{ℕ, zero, suc, List, [], ◌∷◌, length, Ok, Err}
+use Rattle.tc_capture.specs.declared.messages.Messages.{Messages}
+use Rattle.tc_capture.specs.Outcome.{Outcome}
+use Rattle.tc_capture.specs.Message.{Message, next_message}
+
+-- the next message before those of what follows it; a fault ends them
+abbrev pub message_and_rest : (List ℕ → List (Outcome Message)) → Outcome (Message × List ℕ) → List (Outcome Message)
+message_and_rest rest_of (Ok next) = Ok next.0 ∷ rest_of next.1
+message_and_rest rest_of (Err e) = Err e ∷ []
+
+-- at most so many of them
+unfoldable pub messages_up_to : ℕ → List ℕ → List (Outcome Message)
+messages_up_to zero bytes = []
+messages_up_to (suc n) [] = []
+messages_up_to (suc n) (b ∷ bytes) = message_and_rest (messages_up_to n) (next_message (b ∷ bytes))
+
+-- the messages that bytes begin with, then the fault where one is broken; a message takes a byte at least
+unfoldable pub messages_in : List ℕ → List (Outcome Message)
+messages_in bytes = messages_up_to (length bytes) bytes
+
+-- what an iterator has left
+abbrev pub messages_left : Messages → List (Outcome Message)
+messages_left it = messages_in it.rest.now
+
+-- the bytes that it has left
+abbrev pub left_of : Messages → List ℕ
+left_of it = it.rest.now

@@ -1,0 +1,132 @@
+-- A file of pcapng: blocks. A block has its type, its length, its body, and its length again, the numbers four bytes each; the
+-- length counts all of them and is a multiple of four. A section header block begins a section: it gives the byte order of the
+-- numbers up to the next one, and what was said of interfaces before it no longer holds.
+use Rattle.std.specs.Prelude.{ℕ, ◌+◌, ◌-◌, ◌*◌, ◌%◌, ◌^◌, min, List, [], ◌∷◌, ◌++◌, length, take, drop, slice_get, Bool, true, false, Option, Some, None, Ok, Err, nat_lt, nat_le, ◌==◌, if◌then◌else◌}
+use Rattle.tc_capture.specs.declared.error.CaptureError.TheVariants.{Short, NoByteOrder, BlockLength, BlockEnd, BodyTooShort, NoInterface, TooManyInterfaces}
+use Rattle.tc_capture.specs.declared.order.Order.{Order}
+use Rattle.tc_capture.specs.declared.order.Order.TheVariants.{Little, Big}
+use Rattle.tc_capture.specs.declared.pcapng.interface.Interface.{Interface}
+use Rattle.tc_capture.specs.declared.time.Time.{Time}
+use Rattle.tc_capture.specs.Order.{number}
+use Rattle.tc_capture.specs.Outcome.{Outcome, then_read}
+use Rattle.tc_capture.specs.Time.{time_of}
+use Rattle.tc_capture.specs.Packet.{Captured, link_of}
+use Rattle.tc_capture.specs.Options.{units_in}
+use Rattle.tc_capture.specs.Front.{Front}
+
+pub record Block : Type 0 where
+  pub order : Order
+  pub kind : ℕ
+  pub body : List ℕ
+
+-- the byte order, by the magic number at 8 of a section header block
+abbrev pub order_at : List ℕ → Outcome Order
+order_at bytes =
+    if number Little 4 (drop 8 bytes) == 0x1a2b3c4d then Ok Little else
+    if number Big 4 (drop 8 bytes) == 0x1a2b3c4d then Ok Big else Err NoByteOrder
+
+-- that of the block at the front, in a section of this order
+abbrev pub block_order : Order → List ℕ → Outcome Order
+block_order order bytes = if number Little 4 bytes == 0x0a0d0d0a then order_at bytes else Ok order
+
+-- the block of n bytes
+abbrev pub block_of_length : ℕ → Order → List ℕ → Block
+block_of_length n order bytes = record { order = order; kind = number order 4 bytes; body = drop 8 (take (n - 4) bytes) }
+
+-- the block at the front, in this order
+unfoldable pub block_in : Order → List ℕ → Outcome Block
+block_in order bytes =
+    let long = number order 4 (drop 4 bytes) in
+    let end = number order 4 (drop (long - 4) bytes) in
+    if nat_lt long 12 then Err (BlockLength long) else
+    if nat_lt 0 (long % 4) then Err (BlockLength long) else
+    if nat_lt (length bytes) long then Err (Short long (length bytes)) else
+    if end == long then Ok (block_of_length long order bytes) else Err (BlockEnd long end)
+
+-- the block at the front
+unfoldable pub next_block : Order → List ℕ → Outcome Block
+next_block order bytes =
+    if nat_lt (length bytes) 12 then Err (Short 12 (length bytes)) else
+    then_read (block_order order bytes) (λ o. block_in o bytes)
+
+-- the interface that the body of a block describes: the link type at 0 (two bytes), how much of a packet is kept at 4 (four bytes),
+-- options from 8
+abbrev pub interface_in : Order → List ℕ → Outcome Interface
+interface_in order body =
+    if nat_lt (length body) 8 then Err (BodyTooShort 8 (length body)) else
+    Ok (record {
+      link = link_of (number order 2 body);
+      most = number order 4 (drop 4 body);
+      units = units_in order (drop 8 body);
+    })
+
+abbrev pub described : ℕ → Option Interface → Outcome Interface
+described n (Some interface) = Ok interface
+described n None = Err (NoInterface n)
+
+abbrev pub interface_at : List Interface → ℕ → Outcome Interface
+interface_at interfaces n = described n (slice_get interfaces n)
+
+-- after so many units
+abbrev pub time_after : ℕ → Option ℕ → Option Time
+time_after ticks None = None
+time_after ticks (Some units) = if nat_lt 0 units then Some (time_of ticks units) else None
+
+-- the packet of n bytes at a place of a body
+abbrev pub held_in : Interface → Option Time → Bool → ℕ → ℕ → List ℕ → Outcome Captured
+held_in interface time is_whole place n body =
+    if nat_lt (length body) (place + n) then Err (BodyTooShort (place + n) (length body)) else
+    Ok (record { time = time; link = interface.link; is_whole = is_whole; bytes = drop place (take (place + n) body) })
+
+-- an enhanced packet block: the interface at 0, the time at 4, higher half first, how many bytes are here at 12, how many there
+-- were at 16, four bytes each, and the bytes at 20
+abbrev pub enhanced_packet : List Interface → Order → List ℕ → Outcome Captured
+enhanced_packet interfaces order body =
+    if nat_lt (length body) 20 then Err (BodyTooShort 20 (length body)) else
+    then_read (interface_at interfaces (number order 4 body)) (λ i.
+    let n = number order 4 (drop 12 body) in
+    let ticks = number order 4 (drop 4 body) * 2 ^ 32 + number order 4 (drop 8 body) in
+    held_in i (time_after ticks i.units) (nat_le (number order 4 (drop 16 body)) n) 20 n body)
+
+-- so many bytes of a packet are kept; 0 stands for all
+abbrev pub kept_of : ℕ → ℕ → ℕ
+kept_of most n = if most == 0 then n else min n most
+
+-- a simple packet block, of the first interface: how many bytes there were at 0 (four bytes), and the bytes at 4
+abbrev pub simple_packet : List Interface → Order → List ℕ → Outcome Captured
+simple_packet interfaces order body =
+    if nat_lt (length body) 4 then Err (BodyTooShort 4 (length body)) else
+    then_read (interface_at interfaces 0) (λ i.
+    let n = number order 4 body in
+    held_in i None (nat_le n (kept_of i.most n)) 4 (kept_of i.most n) body)
+
+-- what a section has said so far
+pub record Section : Type 0 where
+  pub order : Order
+  pub interfaces : List Interface
+
+abbrev pub with_packet : Section → Outcome Captured → Outcome (Option Captured × Section)
+with_packet s packet = then_read packet (λ p. Ok (Some p, s))
+
+abbrev pub with_interface : Section → Outcome Interface → Outcome (Option Captured × Section)
+with_interface s interface = then_read interface (λ i.
+    if length s.interfaces == 64 then Err TooManyInterfaces else Ok (None, record { order = s.order; interfaces = s.interfaces ++ i ∷ [] }))
+
+abbrev pub new_section : Block → Outcome (Option Captured × Section)
+new_section b =
+    if nat_lt (length b.body) 16 then Err (BodyTooShort 16 (length b.body)) else
+    Ok (None, record { order = b.order; interfaces = [] })
+
+-- what a block says: a packet, or something of the section; other blocks say nothing here
+unfoldable pub said_by : Section → Block → Outcome (Option Captured × Section)
+said_by s b =
+    if b.kind == 0x0a0d0d0a then new_section b else
+    if b.kind == 1 then with_interface s (interface_in s.order b.body) else
+    if b.kind == 3 then with_packet s (simple_packet s.interfaces s.order b.body) else
+    if b.kind == 6 then with_packet s (enhanced_packet s.interfaces s.order b.body) else Ok (None, s)
+
+-- the block at the front, and the section after it
+unfoldable pub next_in_section : Section → List ℕ → Outcome (Front × Section)
+next_in_section s bytes =
+    then_read (next_block s.order bytes) (λ b.
+    then_read (said_by s b) (λ said. Ok (record { used = 12 + length b.body; packet = said.0 }, said.1)))

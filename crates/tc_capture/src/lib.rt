@@ -1,0 +1,27 @@
+//! Captures of netlink: the packets of a file that holds them, and the messages of a packet.
+//!
+//! Nothing here reads a file or takes memory. A caller keeps bytes in a buffer and asks for the piece at their front; the error
+//! `Short` says how many bytes that takes. So a reader needs a buffer of the longest piece, whatever the length of the file.
+#![tactic(auto)]
+
+pub mod capture;
+pub mod error;
+pub mod kind;
+pub mod message;
+pub mod messages;
+pub mod order;
+pub mod packet;
+pub mod pcap;
+pub mod pcapng;
+pub mod piece;
+pub mod stream;
+pub mod time;
+
+pub use capture::Capture;
+pub use error::{CaptureError, Res};
+pub use kind::{Holds, NLMSG_DONE, NLMSG_ERROR, NLMSG_TSTAMP, RtmType, rtm_of};
+pub use message::{NLMSG_HEADER_LEN, NetlinkMessage};
+pub use messages::Messages;
+pub use packet::{Link, Packet};
+pub use piece::Piece;
+pub use time::Time;

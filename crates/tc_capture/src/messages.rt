@@ -1,0 +1,59 @@
+//! The messages of a packet.
+
+use crate::error::Res;
+use crate::message::{NetlinkMessage, next_message};
+
+/// The netlink messages that some bytes begin with, then the first fault if there is one, then nothing.
+#[derive(Drop)]
+pub struct Messages<'a> {
+    rest: &'a [u8],
+}
+
+impl<'a> Messages<'a> {
+    ghost use Rattle.std.specs.Prelude.{◌≡◌, length};
+    ghost use Rattle.tc_capture.specs.Messages.{messages_in, messages_left, left_of};
+
+    /// The messages of these bytes.
+    pub fn new(bytes: &'a [u8]) -> Self
+        ensures messages { messages_left result ≡ messages_in bytes.now }
+        ensures left { left_of result ≡ bytes.now }
+    {
+        Messages { rest: bytes }
+    }
+
+    /// How many bytes are left; none after a fault.
+    pub fn bytes_left(&self) -> usize
+        ensures { result ≡ length (left_of self.now) }
+    {
+        self.rest.len()
+    }
+}
+
+impl<'a> Iterator for Messages<'a> {
+    ghost use Rattle.std.specs.Iterator.{YieldsFirstBy, item_count};
+    ghost use Rattle.tc_capture.specs.Outcome.{seen};
+    ghost use Rattle.tc_capture.specs.Message.{message_of};
+    ghost use Rattle.tc_capture.specs.Messages.{messages_left};
+
+    type Item = Res<NetlinkMessage<'a>>;
+
+    ghost next_gives = { YieldsFirstBy (seen message_of) messages_left };
+
+    ghost remaining = { item_count messages_left };
+
+    fn next(&mut self) -> Option<Res<NetlinkMessage<'a>>> {
+        if self.rest.is_empty() {
+            return None;
+        }
+        match next_message(self.rest) {
+            Ok((message, after)) => {
+                self.rest = after;
+                Some(Ok(message))
+            }
+            Err(e) => {
+                self.rest = &[];
+                Some(Err(e))
+            }
+        }
+    }
+}

@@ -1,0 +1,9 @@
+//! Files of pcapng.
+
+mod block;
+pub mod interface;
+mod options;
+mod packets;
+pub mod section;
+
+pub(crate) use block::SECTION;
