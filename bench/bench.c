@@ -1,6 +1,7 @@
 // Times what libtc_bench.a does with messages: those of files of lines `NAME MODE HEX`, and longer ones that are made here.
 #define _GNU_SOURCE
 #include <malloc.h>
+#include <math.h>
 #include <stdbool.h>
 #include <stdint.h>
 #include <stdio.h>
@@ -39,6 +40,14 @@ typedef struct {
         TYPE##_bench_settle, TYPE##_bench_canonical
 
 static const Mode TC = {"tc", 20, CALLS(tc)}, ACTION = {"action", 4, CALLS(action)};
+
+// A second library, whose exports `run` renamed, to be timed by turns with the first.
+#ifdef BESIDE
+DECLARE(old_tc)
+DECLARE(old_action)
+
+static const Mode OLD_TC = {"tc", 20, CALLS(old_tc)}, OLD_ACTION = {"action", 4, CALLS(old_action)};
+#endif
 
 enum { PASSES = 8, SAMPLES = 10, MOST_TIMES = 1 << 20, MOST_MESSAGES = 512, MOST_BYTES = 2 << 20, ACTIONS = 31 };
 
@@ -325,6 +334,44 @@ static void check(Message *m) {
 static Message messages[MOST_MESSAGES];
 static Measure measures[MOST_MESSAGES][OPERATION_COUNT];
 
+#ifdef BESIDE
+// What the second library takes for the same messages.
+static Measure old_measures[MOST_MESSAGES][OPERATION_COUNT];
+
+static Message in_old(const Message *m) {
+    Message old = *m;
+    old.mode = m->mode == &TC ? &OLD_TC : &OLD_ACTION;
+    return old;
+}
+
+// For each message and operation the time of the first library over that of the second, and their geometric means.
+static void print_ratios(size_t n) {
+    double logs[TIMED] = {0}, most[TIMED] = {0};
+    printf("First library / second, and how often each operation was slower by more than 5 %%:\n\n| %-16s | %7s |", "message", "bytes");
+    for (size_t op = 0; op < TIMED; op++) printf(" %9s |", OPERATIONS[op].name);
+    printf("\n|---|---:|");
+    for (size_t op = 0; op < TIMED; op++) printf("---:|");
+    size_t slower[TIMED] = {0};
+    for (size_t i = 0; i < n; i++) {
+        printf("\n| %-16s | %7zu |", messages[i].name, messages[i].len);
+        for (size_t op = 0; op < TIMED; op++) {
+            double ratio = time_each(&measures[i][op]) / time_each(&old_measures[i][op]);
+            logs[op] += log(ratio);
+            most[op] = ratio > most[op] ? ratio : most[op];
+            slower[op] += ratio > 1.05;
+            printf(" %9.2f |", ratio);
+        }
+    }
+    printf("\n| %-16s | %7s |", "geometric mean", "");
+    for (size_t op = 0; op < TIMED; op++) printf(" %9.3f |", exp(logs[op] / (double)n));
+    printf("\n| %-16s | %7s |", "most", "");
+    for (size_t op = 0; op < TIMED; op++) printf(" %9.2f |", most[op]);
+    printf("\n| %-16s | %7s |", "slower", "");
+    for (size_t op = 0; op < TIMED; op++) printf(" %9zu |", slower[op]);
+    printf("\n\n");
+}
+#endif
+
 static double ns_of(size_t i, size_t op) { return time_each(&measures[i][op]); }
 
 static double by_malloc(size_t i, size_t op) { return ns_of(i, op) / ns_of(0, ALLOCATE); }
@@ -411,10 +458,25 @@ int main(int count, char **words) {
     for (size_t i = 0; i < n; i++) {
         check(&messages[i]);
         for (size_t op = 0; op < OPERATION_COUNT; op++) measures[i][op] = calibrate(&OPERATIONS[op], &messages[i]);
+#ifdef BESIDE
+        Message old = in_old(&messages[i]);
+        check(&old);
+        memcpy(old_measures[i], measures[i], sizeof old_measures[i]);
+#endif
     }
     for (int pass = 0; pass < PASSES; pass++)
         for (size_t i = 0; i < n; i++)
-            for (size_t op = 0; op < OPERATION_COUNT; op++) sample(&measures[i][op], &OPERATIONS[op], &messages[i]);
+            for (size_t op = 0; op < OPERATION_COUNT; op++) {
+                sample(&measures[i][op], &OPERATIONS[op], &messages[i]);
+#ifdef BESIDE
+                Message old = in_old(&messages[i]);
+                sample(&old_measures[i][op], &OPERATIONS[op], &old);
+#endif
+            }
+#ifdef BESIDE
+    print_ratios(n);
+    return 0;
+#endif
 
     print_times("Nanoseconds", ns_of, n);
     print_times("As multiples of one `malloc` and `free` of 64 bytes", by_malloc, n);

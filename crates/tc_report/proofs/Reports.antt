@@ -6,12 +6,13 @@ use Rattle.hex.specs.Hex.{decode_of}
 use Rattle.hex.specs.declared.error.FromHexError.{FromHexError}
 use Rattle.nla_frames.specs.Codec.{IsWireBytes}
 use Rattle.nla_frames.specs.Reading.{keep}
-use Rattle.tc_canon.specs.Canonical.{CanonTc, CanonAct}
 use Rattle.tc_canon.specs.Layouts.{tc_header, action_message_header}
 use Rattle.tc_canon.specs.Tables.Messages.{attributes, action_message_attributes}
 use Rattle.tc_meaning.specs.Own.{kind_of_attribute}
-use Rattle.tc_meaning.specs.Whole.{ReadsTc, read_tc, FitsTc, SettledTc, tc_bytes, ReadsAct, read_act, FitsAct, SettledAct, act_bytes}
-use Rattle.tc_meaning.proofs.MessageTheorems.{tc-reading, tc-same, tc-canonical, act-reading, act-same, act-canonical}
+use Rattle.tc_meaning.specs.Message.{Message}
+use Rattle.tc_meaning.specs.Whole.{Correspond}
+use Rattle.tc_meaning.proofs.MessageTheorems.{tc_correspond, action_correspond}
+use Rattle.tc_meaning.proofs.Telling.{Told}
 use Rattle.tc_meaning.proofs.FitTests.{told_fits}
 use Rattle.tc_meaning.proofs.SettledTests.{told_settled}
 use Rattle.tc_report.specs.Text.{most_text, without_spaces}
@@ -21,43 +22,30 @@ use Rattle.tc_report.specs.declared.mode.Mode.TheVariants.{Tc, Action}
 use Rattle.tc_report.proofs.Decoding.{wire_decoded}
 use Rattle.tc_report.proofs.Outcomes as outcomes
 
-module _ (bytes : List ℕ) (wire : IsWireBytes bytes) where
-  -- the laws tell all that is reported
-  told : (mode : Mode) → outcomes.IsTold (words_of mode) bytes
-  told Tc =
-      let read = tc-reading bytes wire in
-      let fits = told_fits tc_header attributes in
-      record {
-        outcome = read_tc bytes;
-        reading = read.reading;
-        fault = read.fault;
-        fits = fits;
-        settled = told_settled tc_header attributes kind_of_attribute;
-        canonical = outcomes.told_canonical (ReadsTc bytes) FitsTc SettledTc (CanonTc bytes) (read_tc bytes) read.reading
-            tc_bytes bytes (tc-same bytes wire) (tc-canonical bytes wire) fits;
-      }
-  told Action =
-      let read = act-reading bytes wire in
-      let fits = told_fits action_message_header action_message_attributes in
-      record {
-        outcome = read_act bytes;
-        reading = read.reading;
-        fault = read.fault;
-        fits = fits;
-        settled = told_settled action_message_header action_message_attributes keep;
-        canonical = outcomes.told_canonical (ReadsAct bytes) FitsAct SettledAct (CanonAct bytes) (read_act bytes) read.reading
-            act_bytes bytes (act-same bytes wire) (act-canonical bytes wire) fits;
-      }
+-- the laws of a mode's messages, and the tests of what fits and what is settled
+laws : (mode : Mode) (bytes : List ℕ) → IsWireBytes bytes → Correspond (words_of mode) bytes
+laws Tc = tc_correspond
+laws Action = action_correspond
+
+fits : (mode : Mode) (m : Message) → Told ((words_of mode).Fits m)
+fits Tc = told_fits tc_header attributes
+fits Action = told_fits action_message_header action_message_attributes
+
+settled : (mode : Mode) (m : Message) → Told ((words_of mode).Settled m)
+settled Tc = told_settled tc_header attributes kind_of_attribute
+settled Action = told_settled action_message_header action_message_attributes keep
 
 -- a text of a length that is read, without its spaces, decoded
 module _ (mode : Mode) (text : List ℕ) (short : length text ≤ most_text) where
   some_of_decoded : (decoded : Result (List ℕ) FromHexError) → decode_of (without_spaces text) ≡ decoded → (r : Report) × ReportsDecoded mode decoded r
-  some_of_decoded (Ok bytes) is = outcomes.some_report (words_of mode) bytes (told bytes (wire_decoded text bytes short is) mode)
+  some_of_decoded (Ok bytes) is =
+      outcomes.some_report (words_of mode) bytes (laws mode bytes (wire_decoded text bytes short is)) (fits mode) (settled mode)
   some_of_decoded (Err e) is = (one_line (codes "bad hex") 2, refl)
 
   one_of_decoded : (decoded : Result (List ℕ) FromHexError) → decode_of (without_spaces text) ≡ decoded
       → (r s : Report) → ReportsDecoded mode decoded r → ReportsDecoded mode decoded s → r ≡ s
-  one_of_decoded (Ok bytes) is r s this that = outcomes.one_report (words_of mode) bytes (told bytes (wire_decoded text bytes short is) mode) r s this that
+  one_of_decoded (Ok bytes) is r s this that =
+      outcomes.one_report (words_of mode) bytes (laws mode bytes (wire_decoded text bytes short is)) (fits mode) (settled mode) r s this that
   one_of_decoded (Err e) is r s this that = this ∙ sym that
 
 some_of_length : (mode : Mode) (text : List ℕ) → (most_text < length text) ⊎ (length text ≤ most_text) → (r : Report) × IsReport mode text r

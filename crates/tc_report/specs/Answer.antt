@@ -1,7 +1,7 @@
--- What an answer in memory stands for.
+-- The report that an answer in memory holds.
 use Rattle.std.specs.Prelude.{◌≡◌, ℕ, List, [], string_bytes, Ok, Err}
-use Rattle.tc_wire.specs.Facade.{Codec}
-use Rattle.tc_report.specs.Report.{Report, Words}
+use Rattle.tc_wire.specs.Facade.{Codec, Words}
+use Rattle.tc_report.specs.Report.{Report}
 use Rattle.tc_report.specs.declared.answer.Answer.{Answer}
 
 -- the report that an answer holds
@@ -13,8 +13,11 @@ abbrev pub words_as_read : {X : Type 0} → Codec (List ℕ) X → (List ℕ →
 words_as_read codec Canonical = record {
   Reads = λ bytes m. codec.read [] bytes ≡ Ok m;
   Fault = λ bytes e. codec.read [] bytes ≡ Err e;
+  read = codec.read [];
+  bytes = codec.write;
+  Typed = codec.Typed;
   Fits = codec.Fits;
   Settled = codec.Settled [];
+  SettledPlaces = codec.Settled [];
   Canonical = Canonical;
-  bytes = codec.write;
 }

@@ -3,8 +3,7 @@ use Rattle.std.specs.Prelude.{◌≡◌, ◌⊎◌, ◌↔◌, ℕ, ◌<◌, ◌
 use Rattle.std.specs.Prelude.{List, [], ◌++◌, length, codes}
 use Rattle.hex.specs.Hex.{decode_of, encode_lower}
 use Rattle.hex.specs.declared.error.FromHexError.{FromHexError}
-use Rattle.tc_wire.specs.Facade.{DecodeError, name_of, OutOfMemory, Message}
-use Rattle.tc_wire.specs.Facade.{ReadsTc, FaultTc, FitsTc, SettledTc, CanonTc, tc_bytes, ReadsAct, FaultAct, FitsAct, SettledAct, CanonAct, act_bytes}
+use Rattle.tc_wire.specs.Facade.{DecodeError, name_of, OutOfMemory, Message, Words, tc_words, action_words}
 use Rattle.tc_report.specs.Text.{most_text, without_spaces}
 use Rattle.tc_report.specs.declared.mode.Mode.{Mode}
 use Rattle.tc_report.specs.declared.mode.Mode.TheVariants.{Tc, Action}
@@ -22,7 +21,7 @@ line text = text ++ codes "\n"
 abbrev pub one_line : List ℕ → ℕ → Report
 one_line text status = record { text = line text; status = status }
 
--- an answer in words
+-- yes or no
 abbrev pub yes_or_no : Bool → List ℕ
 yes_or_no true = codes "yes"
 yes_or_no false = codes "no"
@@ -39,18 +38,6 @@ accepted fits settled canonical bytes =
     ++ line (codes "settled " ++ yes_or_no settled)
     ++ line (codes "canonical " ++ yes_or_no canonical)
     ++ bytes_line fits bytes
-
--- the grammar's words for one type of message
-pub record Words (X : Type 0) : Type 1 where
-  -- the bytes read as this message
-  pub Reads : List ℕ → X → Type 0
-  -- the bytes have this fault first
-  pub Fault : List ℕ → DecodeError → Type 0
-  pub Fits : X → Type 0
-  pub Settled : X → Type 0
-  pub Canonical : List ℕ → Type 0
-  -- what is written of a message
-  pub bytes : X → List ℕ
 
 module _ {X : Type 0} (words : Words X) where
   -- the bytes read as a message: what holds of it and of them is reported, and its bytes
@@ -75,14 +62,6 @@ module _ {X : Type 0} (words : Words X) where
   abbrev pub ReportsAs : List ℕ → Report → Type 0
   ReportsAs bytes r = Accepts bytes r ⊎ Refuses bytes r
 
--- a traffic control message
-abbrev pub tc_words : Words Message
-tc_words = record { Reads = ReadsTc; Fault = FaultTc; Fits = FitsTc; Settled = SettledTc; Canonical = CanonTc; bytes = tc_bytes }
-
--- an action message
-abbrev pub action_words : Words Message
-action_words = record { Reads = ReadsAct; Fault = FaultAct; Fits = FitsAct; Settled = SettledAct; Canonical = CanonAct; bytes = act_bytes }
-
 -- the words of a mode
 abbrev pub words_of : Mode → Words Message
 words_of Tc = tc_words
@@ -103,6 +82,6 @@ IsReport mode text r =
     ((most_text < length text) × (r ≡ one_line (codes "too long") 2))
     ⊎ ((length text ≤ most_text) × ReportsDecoded mode (decode_of (without_spaces text)) r)
 
--- what stands in place of a report where a growth was refused
+-- what is written in place of a report where memory ran out
 abbrev pub no_memory : Report
 no_memory = one_line (codes "refused " ++ name_of OutOfMemory) 1

@@ -1,9 +1,10 @@
 -- A whole run: what is read, what is written, and the status.
-use Rattle.std.specs.Prelude.{◌≡◌, ◌⊎◌, ℕ, List, Option, IfSome}
+use Rattle.std.specs.Prelude.{◌≡◌, ◌⊎◌, ℕ, List, Option, IfSome, Result, Ok, Err}
 use Rattle.std.specs.Io.KnownBytes.{Appends, Consumes}
 use Rattle.tc_report.specs.Text.{looked_at}
 use Rattle.tc_report.specs.Report.{Report, IsReport, no_memory}
 use Rattle.tc_report.specs.declared.mode.Mode.{Mode}
+use Rattle.tc_report.specs.declared.run.RunError.{RunError}
 
 -- where the reader's bytes are known, the text is all of them, or their beginning up to the byte that makes it too long, and no more was read
 abbrev pub IsTextOf : Option (List ℕ) → Option (List ℕ) → List ℕ → Type 0
@@ -21,3 +22,8 @@ ReportsOn mode text old new status = (r : Report) × IsReport mode text r × Rep
 abbrev pub RunReports : Mode → Option (List ℕ) → Option (List ℕ) → Option (List ℕ) → Option (List ℕ) → ℕ → Type 0
 RunReports mode unread left old new status =
     IfSome unread (λ all. (Consumes unread left (looked_at all) × ReportsOn mode (looked_at all) old new status) ⊎ Reports old new status no_memory)
+
+-- the exit status of a run: that of its report, and 3 where a stream failed
+abbrev pub status_of : Result ℕ RunError → ℕ
+status_of (Ok status) = status
+status_of (Err fault) = 3

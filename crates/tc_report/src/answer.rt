@@ -21,7 +21,7 @@ pub(crate) struct Answer<A: Allocator> {
     pub(crate) status: u8,
 }
 
-// An answer of one line.
+// A report of one line.
 fn one_line<A: Allocator>(alloc: A, text: &str, status: u8) -> Result<Answer<A>, AllocError>
     ensures { IfOk result (λ answer. report_of answer ≡ one_line text.now status) }
 {
@@ -82,7 +82,7 @@ fn accepted<A: Allocator + Copy, M: Emitable>(
     format!(in alloc; "fits {fits}\nsettled {settled}\ncanonical {canonical}\n{bytes}")
 }
 
-// The answer to the bytes of a message of one type.
+// The report on the bytes of a message of one type.
 fn answer_as<A: Allocator + Copy, M: Reported<A> + Drop>(
     alloc: A,
     bytes: &[u8],
@@ -107,7 +107,7 @@ fn answer_as<A: Allocator + Copy, M: Reported<A> + Drop>(
     }
 }
 
-// The answer to the bytes of a message.
+// The report on the bytes of a message.
 fn answer_bytes<A: Allocator + Copy>(
     alloc: A,
     mode: Mode,
@@ -117,17 +117,19 @@ fn answer_bytes<A: Allocator + Copy>(
 {
     match mode {
         Mode::Tc => {
+            // A law, which does nothing: what is read is what the grammar reads.
             laws::tc_message(bytes);
             answer_as::<A, TcMessage<A>>(alloc, bytes)
         }
         Mode::Action => {
+            // A law, which does nothing: what is read is what the grammar reads.
             laws::action_message(bytes);
             answer_as::<A, TcActionMessage<A>>(alloc, bytes)
         }
     }
 }
 
-/// The answer to a text.
+/// The report on a text.
 pub(crate) fn answer_text<A: Allocator + Copy>(
     alloc: A,
     mode: Mode,
@@ -145,7 +147,7 @@ pub(crate) fn answer_text<A: Allocator + Copy>(
     }
 }
 
-// The answer to a text that is no bytes in hex, where it isn't memory that was wanting.
+// The report on a text that isn't valid hex, unless memory ran out.
 fn answer_fault<A: Allocator>(alloc: A, fault: &FromHexError) -> Result<Answer<A>, AllocError>
     ensures { IfOk result (λ answer. (fault.now ≢ OutOfMemory)
         × report_of answer ≡ one_line (codes "bad hex") 2) }

@@ -41,7 +41,7 @@ pub fn request_of<A: Allocator>(arguments: &[String<A>]) -> Request
     }
 }
 
-// What arguments ask for that couldn't be read: for want of memory, or as one isn't UTF-8 and so names no mode.
+// What arguments ask for that couldn't be read: memory ran out, or one isn't UTF-8 and so names no mode.
 fn request_of_fault(fault: &Error) -> Request
     ensures memory { (result ≡ NoMemory) ↔ (error_kind fault.now ≡ ErrorKind.OutOfMemory) }
     ensures no_report { (mode : Mode) → result ≢ Report mode }

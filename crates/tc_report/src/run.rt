@@ -25,7 +25,7 @@ pub enum RunError {
     Write,
 }
 
-// The answer to what the reader gives.
+// The report on what the reader gives.
 fn prepare<A: Allocator + Copy, R: Read>(
     alloc: A,
     mode: Mode,

@@ -59,7 +59,7 @@ const PAIRS: [(&[u8], &str); 6] = [
     (&[13, 0, 2, 0, 1, 0, 0, 0, 0, 0, 0, 2, 3], "Err(WrongLength { expected: 8, got: 9 })"),
 ];
 
-/// Whether a frame is read as a pair or refused with a fault of this text.
+/// True if a frame is read as a pair or refused with a fault of this text.
 fn is_read<T: Parseable<Global> + Debug + Drop>(
     alloc: Global,
     frame: &[u8],
@@ -95,15 +95,24 @@ fn ordered() -> [TcActionMessageFlagsWithSelector; 5] {
     ]
 }
 
+/// True if two pairs are ordered as their places are, and hashed alike exactly when they are equal.
+fn is_in_order(
+    places: (usize, usize),
+    pairs: (
+        TcActionMessageFlagsWithSelector,
+        TcActionMessageFlagsWithSelector,
+    ),
+) -> bool {
+    pairs.0.cmp(&pairs.1) == places.0.cmp(&places.1)
+        && (hash_of(pairs.0) == hash_of(pairs.1)) == (places.0 == places.1)
+}
+
 #[test]
-fn flags_are_ordered_and_hashed(_rt: HostRuntime) -> Result<(), Fail> {
+fn flags_are_ordered_and_hashed(rt: HostRuntime) {
     let ordered = ordered();
     for (i, a) in ordered.iter().enumerate() {
         for (j, b) in ordered.iter().enumerate() {
-            if a.cmp(b) != i.cmp(&j) || (hash_of(*a) == hash_of(*b)) != (i == j) {
-                return Err(Fail::new(format_args!("{i} and {j}")));
-            }
+            assert!(rt; is_in_order((i, j), (*a, *b)), "{i} and {j}");
         }
     }
-    Ok(())
 }

@@ -1,16 +1,19 @@
 //! A message's attributes by their classes.
 
-use crate::tables::{is_as_told, is_read};
 use crate::worked::{are_read, are_refused};
-use std::alloc::Global;
 use std::test::Fail;
+use tc_test_calls::{read_attribute, see_attribute};
 use tc_wire::TcAttribute;
 
 #[test]
 fn presence_is_written_whatever_it_says(rt: HostRuntime) -> Result<(), Fail> {
-    let absent = TcAttribute::<Global>::DumpInvisible(false);
-    assert!(rt; is_as_told(rt.alloc(), absent, "DumpInvisible(false)", "04000a00")?);
-    assert!(rt; is_read(rt.alloc(), &[4, 0, 10, 0], TcAttribute::DumpInvisible(true))?);
+    let alloc = rt.alloc();
+    let absent = see_attribute(alloc, "", TcAttribute::DumpInvisible(false))?;
+    assert!(rt; absent.is("DumpInvisible(false)", &[4, 0, 10, 0]));
+    assert!(rt; !absent.is_settled);
+    let present = read_attribute(alloc, "", &[4, 0, 10, 0])?;
+    assert!(rt; present.is("DumpInvisible(true)", &[4, 0, 10, 0]));
+    assert!(rt; present.is_settled);
     Ok(())
 }
 

@@ -158,7 +158,7 @@ fn is_judged_rightly(alloc: Global, message: Message, row: &str) -> Result<bool,
     Ok(answer == if is_canonical { "yes" } else { "no" })
 }
 
-/// Judges each row, and tells the first whose answer is another.
+/// Checks each row, and fails at the first whose answer is another.
 fn are_judged_rightly(alloc: Global, message: Message, table: &str) -> Result<(), Fail> {
     for row in rows(table) {
         if !is_judged_rightly(alloc, message, row)? {
@@ -178,7 +178,7 @@ fn messages(rt: HostRuntime) -> Result<(), Fail> {
     are_judged_rightly(rt.alloc(), Message::Action, ACTIONS)
 }
 
-// What each list check says of one list.
+// What the check of each list returns for one list.
 #[test]
 fn lists(rt: HostRuntime) {
     let limit = [8, 0, 2, 0, 5, 0, 0, 0];
@@ -201,7 +201,7 @@ fn lists(rt: HostRuntime) {
     assert!(rt; !canon_lse(&[8, 0, 5, 0, 0, 0, 16, 0]));
 }
 
-// A message cut off is canonical only between its attributes.
+// A message that is cut is canonical only between its attributes.
 #[test]
 fn cut_off(rt: HostRuntime) -> Result<(), Fail> {
     let bytes = bytes_of(rt.alloc(), LIMIT)?;

@@ -1,7 +1,9 @@
 //! Flower's options: the known answer of each, those that are written as other bytes, and filters as the kernel and tc send them.
 
-use crate::tables::{are_known, are_written, bytes_of, is_as_told, or_same, pair, rows, settles};
-use nla_frames::{DecodeError, DefaultNla, Nla, NlaBuffer, Parseable, parse_list};
+use crate::tables::{
+    are_known, are_written, bytes_of, is_shown_and_written, or_same, pair, rows, settles,
+};
+use nla_frames::{DecodeError, DefaultNla, NlaBuffer, Parseable, Settle, parse_list};
 use std::alloc::Global;
 use std::test::*;
 use tc_flower::{
@@ -147,40 +149,49 @@ const SENT: &str = r#"
 060008000800000008000a000a09001408000b00ffffffff08001600080000000800560000000000ec000300e80001000f00010074756e6e656c5f6b65790000500004000400060014000100000000000000000000000000000000000400060014000700000000000000000000000000000000000400060018000300000000000000000000000000000000000000000008000a00000000007c0002001c0002000c00000000000000030000000100000001000000010000000800070000000005080003000101010108000400020202020600090017c1000005000a000100000005000c001200000005000d0040000000240001005102000000000000510200000000000000000000000000000000000000000000 | 060008000800000008000a000a09001408000b00ffffffff08001600080000000800560000000000ec000300e80001000f00010074756e6e656c5f6b65790000500004000400060014000100000000000000000000000000000000000400060014000700000000000000000000000000000000000400060018000300000000000000000000000000000000000000000008000a00000000007c0002801c0002000c00000000000000030000000100000001000000010000000800070000000005080003000101010108000400020202020600090017c1000005000a000100000005000c001200000005000d0040000000240001005102000000000000510200000000000000000000000000000000000000000000
 "#;
 
-#[test]
-fn options(rt: HostRuntime) -> Result<(), Fail> {
-    let alloc = rt.alloc();
-    assert!(rt; TcFilterFlower::KIND == "flower");
-    are_known::<TcFilterFlowerOption>(alloc, EACH)?;
-    are_known::<TcFilterFlowerOption>(alloc, OTHERS)
+/// Checks a table of flower's options.
+fn are_options(alloc: Global, table: &str) -> Result<(), Fail> {
+    are_known::<TcFilterFlowerOption>(alloc, table)
 }
 
-/// Whether a list of options is written as it has to be.
-fn is_rewritten<T: Parseable<Global> + Nla + Drop>(alloc: Global, row: &str) -> Result<bool, Fail> {
+#[test]
+fn options(rt: HostRuntime) -> Result<(), Fail> {
+    assert!(rt; TcFilterFlower::KIND == "flower");
+    are_options(rt.alloc(), EACH)?;
+    are_options(rt.alloc(), OTHERS)
+}
+
+/// True if a list of options is written as it has to be.
+fn is_rewritten(alloc: Global, row: &str) -> Result<bool, Fail> {
     let Some((sent, written)) = pair(row) else {
         return Ok(false);
     };
     let written = bytes_of(alloc, or_same(sent, written))?;
-    let options = parse_list::<Global, T>(alloc, &bytes_of(alloc, sent)?)?;
+    let options: Vec<TcFilterFlowerOption> = parse_list(alloc, &bytes_of(alloc, sent)?)?;
     Ok(are_written(&options, &written))
 }
 
 #[test]
 fn filters(rt: HostRuntime) -> Result<(), Fail> {
     for row in rows(SENT) {
-        if !is_rewritten::<TcFilterFlowerOption>(rt.alloc(), row)? {
+        if !is_rewritten(rt.alloc(), row)? {
             return Err(Fail::new(row));
         }
     }
     Ok(())
 }
 
+/// True if an option is settled.
+fn is_settled(option: TcFilterFlowerOption) -> bool {
+    option.is_settled()
+}
+
 // A class is written, and read as an attribute of an unknown type.
 #[test]
 fn class_id(rt: HostRuntime) -> Result<(), Fail> {
-    assert!(rt; !settles(TcFilterFlowerOption::<Global>::ClassId(1)));
     let class_id = TcFilterFlowerOption::<Global>::ClassId(1);
-    assert!(rt; is_as_told(rt.alloc(), class_id, "ClassId(1)", "08000100 01000000")?);
+    assert!(rt; is_shown_and_written(rt.alloc(), class_id, "ClassId(1)", "08000100 01000000")?);
+    assert!(rt; !is_settled(TcFilterFlowerOption::ClassId(1)));
     Ok(())
 }
 
@@ -196,7 +207,7 @@ fn wrong_width(rt: HostRuntime) -> Result<(), Fail> {
     Ok(())
 }
 
-/// What is kept as it stands, of this type and without a value.
+/// An attribute that is kept raw, of this type and without a payload.
 fn kept(alloc: Global, word: u16) -> DefaultNla {
     DefaultNla::new(word, Vec::new(alloc))
 }
@@ -204,17 +215,21 @@ fn kept(alloc: Global, word: u16) -> DefaultNla {
 #[test]
 fn settled(rt: HostRuntime) {
     let alloc = rt.alloc();
-    assert!(rt; settles(TcFilterFlowerOption::<Global>::MplsBos(1)));
-    assert!(rt; !settles(TcFilterFlowerOption::<Global>::MplsBos(2)));
-    assert!(rt; settles(TcFilterFlowerOption::<Global>::MplsTc(7)));
-    assert!(rt; !settles(TcFilterFlowerOption::<Global>::MplsTc(8)));
-    assert!(rt; settles(TcFilterFlowerOption::<Global>::MplsLabel(0xf_ffff)));
-    assert!(rt; !settles(TcFilterFlowerOption::<Global>::MplsLabel(0x10_0000)));
+    assert!(rt; is_settled(TcFilterFlowerOption::MplsBos(1)));
+    assert!(rt; !is_settled(TcFilterFlowerOption::MplsBos(2)));
+    assert!(rt; is_settled(TcFilterFlowerOption::MplsTc(7)));
+    assert!(rt; !is_settled(TcFilterFlowerOption::MplsTc(8)));
+    assert!(rt; is_settled(TcFilterFlowerOption::MplsLabel(0xf_ffff)));
+    assert!(rt; !is_settled(TcFilterFlowerOption::MplsLabel(0x10_0000)));
+    assert!(rt; is_settled(TcFilterFlowerOption::Other(kept(alloc, 84))));
+    assert!(rt; is_settled(TcFilterFlowerOption::Other(kept(alloc, 1))));
+    assert!(rt; !is_settled(TcFilterFlowerOption::Other(kept(alloc, 101))));
+}
+
+#[test]
+fn settled_labels(rt: HostRuntime) {
     assert!(rt; settles(TcFilterFlowerMplsLseOption::<Global>::LseBos(255)));
     assert!(rt; settles(TcFilterFlowerMplsLseOption::<Global>::LseTc(255)));
     assert!(rt; !settles(TcFilterFlowerMplsLseOption::<Global>::LseLabel(0x10_0000)));
-    assert!(rt; settles(TcFilterFlowerOption::Other(kept(alloc, 84))));
-    assert!(rt; settles(TcFilterFlowerOption::Other(kept(alloc, 1))));
-    assert!(rt; !settles(TcFilterFlowerOption::Other(kept(alloc, 101))));
-    assert!(rt; !settles(TcFilterFlowerMplsOption::Other(kept(alloc, 1))));
+    assert!(rt; !settles(TcFilterFlowerMplsOption::Other(kept(rt.alloc(), 1))));
 }

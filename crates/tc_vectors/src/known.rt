@@ -1,5 +1,5 @@
 //! Known answers: bytes, and what they are. They come from the kernel's headers and not from what the crates write, so they hold the tables
-//! themselves. Bytes differ from place to place, which shows a field that stands elsewhere, is wider or has another byte order.
+//! themselves. Bytes differ from place to place, which shows a field that is elsewhere, is wider or has another byte order.
 
 mod attributes;
 mod constants;

@@ -8,9 +8,15 @@ mod attributes;
 #[cfg(test)]
 mod canonical;
 #[cfg(test)]
+mod exports;
+#[cfg(test)]
 mod flower;
 #[cfg(test)]
 mod known;
+#[cfg(test)]
+mod large;
+#[cfg(test)]
+mod lengths;
 #[cfg(test)]
 mod made;
 #[cfg(test)]

@@ -8,7 +8,7 @@ pub(crate) fn kind<A: Allocator>(alloc: A, text: &str) -> Result<TcAttribute<A>,
     Ok(TcAttribute::Kind(text.to_string(alloc)?))
 }
 
-/// An attribute that is kept as it stands.
+/// An attribute that is kept raw.
 pub(crate) fn kept<A: Allocator>(
     alloc: A,
     word: u16,
@@ -17,7 +17,7 @@ pub(crate) fn kept<A: Allocator>(
     Ok(DefaultNla::new(word, value.to_vec(alloc)?))
 }
 
-/// Options that are kept as they stand.
+/// Raw options.
 pub(crate) fn raw<A: Allocator>(
     alloc: A,
     word: u16,

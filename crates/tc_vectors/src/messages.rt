@@ -1,18 +1,14 @@
 //! Worked messages.
 
 use crate::made::{kept, with};
-use crate::tables::{after_zeros, has_text, is_read_under, is_written};
-use crate::worked::{are_read, fault_of, is_read_as};
+use crate::tables::after_zeros;
+use crate::worked::{NO_HEADER, are_read, fault_of, is_read_as, shown_tc};
 use std::alloc::{AllocError, Global};
-use std::fmt::Debug;
-use std::slice::from_ref;
 use std::test::Fail;
-use tc_wire::{
-    AddressFamily, DecodeError, NlaBuffer, ParseableBytes, ParseableParametrized, TcAttribute,
-    TcHandle, TcHeader, TcMessage, TcOption, VecTcAttribute, VecTcOption, parse_frames_with,
-};
+use tc_test_calls::{read_attributes, read_option, read_options, see_tc};
+use tc_wire::{DecodeError, TcAttribute, TcHeader, TcMessage};
 
-/// A message about a discipline `fq_codel` with a limit of 10240 packets: its header, its kind and its options.
+/// A message about a qdisc `fq_codel` with a limit of 10240 packets: its header, its kind and its options.
 #[rattlefmt::skip]
 const FQ_CODEL: [u8; 48] = [
     0, 0, 0, 0, 2, 0, 0, 0, 0, 0, 1, 0, 0xff, 0xff, 0xff, 0xff, 0, 0, 0, 0,
@@ -30,15 +26,10 @@ fn with_two_nuls() -> [u8; 48] {
     bytes
 }
 
-fn first_header() -> TcHeader {
-    TcHeader {
-        family: AddressFamily::Unspec,
-        index: 2,
-        handle: TcHandle { major: 1, minor: 0 },
-        parent: TcHandle::ROOT,
-        info: 0,
-    }
-}
+/// Its header, as `Debug` shows it.
+const HEADER: &str =
+    "TcHeader { family: Unspec, index: 2, handle: TcHandle { major: 1, minor: 0 }, \
+parent: TcHandle { major: 65535, minor: 65535 }, info: 0 }";
 
 /// What the attributes of these two are.
 const LIMITED: &str = "[Kind(\"fq_codel\"), Options([FqCodel(Limit(10240))])]";
@@ -49,18 +40,9 @@ const LIMITED_RAW: &str =
 #[test]
 fn messages_are_read_and_written(rt: HostRuntime) -> Result<(), Fail> {
     let alloc = rt.alloc();
-    assert!(rt; is_read_as(alloc, &FQ_CODEL, first_header(), LIMITED, &FQ_CODEL, true)?);
-    let two_nuls = with_two_nuls();
-    assert!(rt;
-        is_read_as(
-            alloc,
-            &two_nuls,
-            first_header(),
-            LIMITED_RAW,
-            &two_nuls,
-            true
-        )?
-    );
+    assert!(rt; is_read_as(alloc, &FQ_CODEL, HEADER, LIMITED, &FQ_CODEL, true)?);
+    let bytes = with_two_nuls();
+    assert!(rt; is_read_as(alloc, &bytes, HEADER, LIMITED_RAW, &bytes, true)?);
     Ok(())
 }
 
@@ -75,16 +57,7 @@ const UNKNOWN: &str = r#"
 fn unknown_attributes_stay(rt: HostRuntime) -> Result<(), Fail> {
     let mut padded = [0; 20];
     padded[1] = 7;
-    assert!(rt;
-        is_read_as(
-            rt.alloc(),
-            &padded,
-            TcHeader::default(),
-            "[]",
-            &[0; 20],
-            true
-        )?
-    );
+    assert!(rt; is_read_as(rt.alloc(), &padded, NO_HEADER, "[]", &[0; 20], true)?);
     are_read(rt.alloc(), UNKNOWN, true)
 }
 
@@ -102,56 +75,40 @@ fn broken_messages_are_refused(rt: HostRuntime) -> Result<(), Fail> {
     Ok(())
 }
 
-/// Whether the options of the message are of this text under a kind.
-fn are_options(alloc: Global, kind: &str, text: &str) -> Result<bool, Fail> {
-    let frame = NlaBuffer::new_checked(&FQ_CODEL[36..])?;
-    Ok(has_text(
-        alloc,
-        VecTcOption::parse_with_param(alloc, &frame, kind)?.0,
-        text,
-    )?)
+/// The frame of its options.
+fn options() -> &'static [u8] {
+    &FQ_CODEL[36..]
+}
+
+#[test]
+fn options_go_by_the_kind(rt: HostRuntime) -> Result<(), Fail> {
+    let (options_read, first) = read_options(rt.alloc(), "fq_codel", options())?;
+    assert!(rt; options_read.as_str() == "[FqCodel(Limit(10240))]");
+    assert!(rt; first.as_str() == "[FqCodel(Limit(10240))]");
+    // under another kind, the payload and the frame in it are kept raw
+    let (options_read, first) = read_options(rt.alloc(), "sfq", options())?;
+    assert!(rt; options_read.as_str() == KEPT);
+    assert!(rt; first.as_str() == KEPT_LIMIT);
+    Ok(())
 }
 
 const KEPT: &str = "[Other(DefaultNla { word: 2, value: [8, 0, 2, 0, 0, 40, 0, 0] })]";
 
-#[test]
-fn options_go_by_the_kind(rt: HostRuntime) -> Result<(), Fail> {
-    assert!(rt; are_options(rt.alloc(), "fq_codel", "[FqCodel(Limit(10240))]")?);
-    assert!(rt; are_options(rt.alloc(), "sfq", KEPT)?);
-    Ok(())
-}
-
-/// Whether frames that were cut are read under `fq_codel` as the options of this text.
-fn are_cut<T: ParseableParametrized<Global> + Debug + Drop>(
-    alloc: Global,
-    frames: &[NlaBuffer<'_>],
-    text: &str,
-) -> Result<bool, Fail> {
-    let options: Vec<T> = parse_frames_with(alloc, frames, "fq_codel")?;
-    Ok(has_text(alloc, options, text)?)
-}
+const KEPT_LIMIT: &str = "[Other(DefaultNla { word: 2, value: [0, 40, 0, 0] })]";
 
 #[test]
 fn an_option_is_read_alone(rt: HostRuntime) -> Result<(), Fail> {
-    let frame = NlaBuffer::new_checked(&LIMIT)?;
-    assert!(rt;
-        is_read_under::<TcOption>(rt.alloc(), "fq_codel", &frame, "FqCodel(Limit(10240))")?
-    );
-    assert!(rt; are_cut::<TcOption>(rt.alloc(), from_ref(&frame), "[FqCodel(Limit(10240))]")?);
+    let read = read_option(rt.alloc(), "fq_codel", &LIMIT)?;
+    assert!(rt; read.is("FqCodel(Limit(10240))", &LIMIT));
+    assert!(rt; read.is_settled);
     Ok(())
 }
 
 #[test]
 fn attributes_are_read_alone(rt: HostRuntime) -> Result<(), Fail> {
-    let list = VecTcAttribute::parse(rt.alloc(), &FQ_CODEL[20..36])?.0;
-    assert!(rt; has_text(rt.alloc(), list, "[Kind(\"fq_codel\")]")?);
+    let read = read_attributes(rt.alloc(), &FQ_CODEL[20..36])?;
+    assert!(rt; read.as_str() == "[Kind(\"fq_codel\")]");
     Ok(())
-}
-
-/// A message made by hand: an attribute of a known type that is kept as it stands.
-fn with_kept(alloc: Global) -> Result<TcMessage, AllocError> {
-    let kept = kept(alloc, 0x8001, &[0xab])?;
-    with(without_index(alloc), Ok(TcAttribute::Other(kept)))
 }
 
 fn without_index(alloc: Global) -> TcMessage {
@@ -160,23 +117,26 @@ fn without_index(alloc: Global) -> TcMessage {
     message
 }
 
-/// Whether a message with an index has nothing else.
-fn has_index_alone(alloc: Global) -> bool {
-    TcMessage::with_index(alloc, 7).header.index == 7
-        && without_index(alloc) == TcMessage::default_in(alloc)
+/// A message made by hand: an attribute of a known type that is kept raw.
+fn with_kept(alloc: Global) -> Result<TcMessage, AllocError> {
+    let kept = kept(alloc, 0x8001, &[0xab])?;
+    with(without_index(alloc), Ok(TcAttribute::Other(kept)))
 }
 
-/// Whether a message is written as these bytes, and has an empty header and one attribute.
-fn is_made(message: TcMessage, written: &[u8]) -> bool {
-    let is_written = is_written(&message, written);
+/// True if a message has an empty header and one attribute.
+fn has_one_attribute(message: TcMessage) -> bool {
     let (header, attributes) = message.into_parts();
-    is_written && header == TcHeader::default() && attributes.len() == 1
+    header == TcHeader::default() && attributes.len() == 1
 }
 
 #[test]
 fn messages_are_made(rt: HostRuntime) -> Result<(), Fail> {
-    let written = after_zeros(rt.alloc(), 20, "05000180 ab000000")?;
-    assert!(rt; has_index_alone(rt.alloc()));
-    assert!(rt; is_made(with_kept(rt.alloc())?, &written));
+    let alloc = rt.alloc();
+    assert!(rt; TcMessage::with_index(alloc, 7).header.index == 7);
+    let empty = see_tc(alloc, &without_index(alloc))?;
+    assert!(rt; empty.text == shown_tc(alloc, NO_HEADER, "[]")?);
+    let made = see_tc(alloc, &with_kept(alloc)?)?;
+    assert!(rt; made.is_emitted_as(&after_zeros(alloc, 20, "05000180 ab000000")?));
+    assert!(rt; has_one_attribute(with_kept(alloc)?));
     Ok(())
 }

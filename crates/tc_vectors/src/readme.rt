@@ -1,7 +1,11 @@
 //! What the README shows.
 
+use std::string::String;
 use std::test::Fail;
-use tc_wire::{Emitable, ParseableBytes, TcMessage, settle_tc};
+use tc_wire::{
+    Emitable, ParseableBytes, TcAttribute, TcHandle, TcMessage, TcOption, TcQdiscFqCodel,
+    TcQdiscFqCodelOption, settle_tc,
+};
 
 /// The message of the program's stored run.
 #[rattlefmt::skip]
@@ -11,10 +15,12 @@ const BYTES: [u8; 48] = [
     12, 0, 2, 0, 8, 0, 2, 0, 0, 0x28, 0, 0,
 ];
 
+/// A message is read, and written as the bytes that it was read from.
 #[test]
-fn the_readme_shows_this(rt: HostRuntime) -> Result<(), Fail> {
+fn the_readme_reads_a_message(rt: HostRuntime) -> Result<(), Fail> {
     let alloc = rt.alloc();
     let message = TcMessage::parse(alloc, &BYTES)?;
+    assert!(rt; message.header.index == 2);
     assert!(rt; message.fits());
     let mut bytes = vec![in alloc; 0; message.buffer_len()]?;
     message.emit(&mut bytes);
@@ -22,5 +28,23 @@ fn the_readme_shows_this(rt: HostRuntime) -> Result<(), Fail> {
     let (canonical, rewrites) = settle_tc(alloc, &BYTES)?;
     assert!(rt; canonical == bytes);
     assert!(rt; rewrites == 0);
+    Ok(())
+}
+
+/// `tc qdisc add dev .. root handle 1: fq_codel limit 10240`, for the interface with index 2.
+#[test]
+fn the_readme_builds_a_qdisc(rt: HostRuntime) -> Result<(), Fail> {
+    let alloc = rt.alloc();
+    let mut options = Vec::new(alloc);
+    options.push(TcOption::FqCodel(TcQdiscFqCodelOption::Limit(10240)))?;
+    let mut message = TcMessage::with_index(alloc, 2);
+    message.header.handle = TcHandle::from(0x10000);
+    message.header.parent = TcHandle::ROOT;
+    message.attributes.push(TcAttribute::Kind(String::from_str(alloc, TcQdiscFqCodel::KIND)?))?;
+    message.attributes.push(TcAttribute::Options(options))?;
+    assert!(rt; message.fits() && message.is_settled());
+    let mut bytes = vec![in alloc; 0; message.buffer_len()]?;
+    message.emit(&mut bytes);
+    assert!(rt; bytes.as_slice() == &BYTES[..]);
     Ok(())
 }

@@ -6,7 +6,7 @@ use nla_frames::DecodeError;
 use std::alloc::{AllocError, Global};
 use std::test::Fail;
 use tc_canon::is_canonical_tc;
-use tc_inputs::{Form, too_long};
+use tc_test_messages::{Form, too_long};
 use tc_wire::{RewriteError, rewrite_action, rewrite_tc, settle_action, settle_tc};
 
 fn is_rewritten(alloc: Global, row: &str) -> Result<bool, Fail> {
@@ -39,7 +39,7 @@ fn worked(rt: HostRuntime) -> Result<(), Fail> {
     are_rewritten(rt.alloc(), TC_UNSETTLED)
 }
 
-// The cause that both calls tell, if it is the same.
+// The cause for which both calls fail, if it is the same.
 fn same_cause<T: Drop, U: Drop>(
     rewritten: Result<T, RewriteError>,
     settled: Result<U, RewriteError>,
@@ -48,7 +48,7 @@ fn same_cause<T: Drop, U: Drop>(
     if settled.err() == cause { cause } else { None }
 }
 
-/// Why bytes are neither rewritten nor settled, where both calls tell the same cause.
+/// Why bytes are neither rewritten nor settled, where both calls fail for the same cause.
 pub(crate) fn cause_of(alloc: Global, form: Form, bytes: &[u8]) -> Option<RewriteError> {
     match form {
         Form::Tc => same_cause(rewrite_tc(alloc, bytes), settle_tc(alloc, bytes)),
@@ -72,7 +72,7 @@ fn is_refused(alloc: Global, form: Form, header: usize, row: &str) -> Result<boo
     }
 }
 
-/// Judges each row of messages of a form, and tells the first that isn't refused with its fault.
+/// Checks each row of messages of a form, and fails at the first that isn't refused with its fault.
 pub(crate) fn are_refused(
     alloc: Global,
     form: Form,
@@ -96,7 +96,7 @@ fn refused(rt: HostRuntime) -> Result<(), Fail> {
     are_refused(alloc, Form::Tc, 20, TC_FAULTS)
 }
 
-/// Whether a cause is printed as this text.
+/// True if a cause is printed as this text.
 fn is_printed(alloc: Global, cause: RewriteError, text: &str) -> Result<bool, AllocError> {
     Ok(format!(in alloc; "{cause}")?.as_str() == text)
 }

@@ -6,7 +6,7 @@ use crate::worked::{ACTION_FAULTS, ACTIONS, ACTIONS_UNSETTLED};
 use std::alloc::Global;
 use std::test::Fail;
 use tc_canon::is_canonical_action;
-use tc_inputs::{Form, too_long};
+use tc_test_messages::{Form, too_long};
 use tc_wire::{RewriteError, rewrite_action, settle_action};
 
 /// Action messages with warnings in hex, what they are settled as, and after how many rewrites.
@@ -49,7 +49,7 @@ fn worked(rt: HostRuntime) -> Result<(), Fail> {
     are_rewritten(rt.alloc(), ACTIONS_UNSETTLED, false)
 }
 
-/// Whether so many rewrites, and no fewer, lead to what an action message is settled as.
+/// True if so many rewrites, and no fewer, lead to what an action message is settled as.
 fn is_settled_after(
     alloc: Global,
     row: &(&'static str, &'static str, usize),

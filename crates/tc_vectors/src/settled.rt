@@ -1,8 +1,9 @@
 //! Values made by hand: which of them read back as themselves, and as what the others do.
 
 use crate::made::{kept, kind, options, raw, with};
-use crate::tables::{after_zeros, is_shown, is_written, settles, settles_under};
-use nla_frames::{AddressFamily, ParseableBytes, Settle, SettleBytes};
+use crate::tables::{after_zeros, settles};
+use crate::worked::{NO_HEADER, shown_action, shown_tc};
+use nla_frames::{AddressFamily, Settle, SettleBytes};
 use std::alloc::{AllocError, Global};
 use std::test::Fail;
 use tc_action_messages::{TcActionMessage, TcActionMessageAttribute};
@@ -11,6 +12,7 @@ use tc_options::TcFilterU32Option;
 use tc_records::{
     TcActionMessageHeader, TcActionType, TcHeader, TcMirror, TcMirrorActionType, TcNat, TcTunnelKey,
 };
+use tc_test_calls::{Seen, see_action, see_attribute, see_option, see_tc};
 use tc_wire::{TcAttribute, TcMessage, TcOption, TcQdiscFqCodelOption};
 
 // A frame of fq_codel's limit, 5 packets.
@@ -29,11 +31,11 @@ enum Made {
     Hash,
     NoOptions,
     Raw(u16, &'static [u8]),
-    /// A kind that is kept as it stands.
+    /// A kind that is kept raw.
     Kept,
     /// Statistics of `fq_codel` without their number.
     Short,
-    /// Presence that says that it is absent.
+    /// DumpInvisible(false), which is written as if it were true.
     Absent,
 }
 
@@ -71,13 +73,13 @@ const MESSAGES: [Row; 7] = [
     (&[Made::NoOptions], "04000200", "[OptionsRaw(DefaultNla { word: 2, value: [] })]"),
     // fq_codel without options
     (&[Made::Kind("fq_codel"), Made::NoOptions], "0d000100 66715f636f64656c00000000 04000200", "[Kind(\"fq_codel\"), Options([])]"),
-    // a kind that is kept as it stands
+    // a kind that is kept raw
     (&[Made::Kept], "08000180 75333200", "[Kind(\"u32\")]"),
     // a kind that ends in a NUL
     (&[Made::Kind("a\0")], "07000100 61000000", "[Kind(\"a\\0\")]"),
     // raw options of another type
     (&[Made::Raw(3, &[])], "04000300", "BufferTooSmall { len: 0, needed: 40 }"),
-    // presence that says that it is absent
+    // DumpInvisible(false)
     (&[Made::Absent], "04000a00", "[DumpInvisible(true)]"),
 ];
 
@@ -85,7 +87,7 @@ const MESSAGES: [Row; 7] = [
 const MESSAGES_OF_A_KNOWN_KIND: [Row; 4] = [
     // u32, and options of fq_codel
     (&[Made::Kind("u32"), Made::Limit], "08000100 75333200 0c000200 08000200 05000000", "[Kind(\"u32\"), Options([U32(Hash(5))])]"),
-    // u32, and its own options as they stand
+    // u32, and its own options, kept raw
     (&[Made::Kind("u32"), Made::Raw(2, &LIMIT)], "08000100 75333200 0c000200 08000200 05000000", "[Kind(\"u32\"), Options([U32(Hash(5))])]"),
     // u32, and its own options
     (&[Made::Kind("u32"), Made::Hash], "08000100 75333200 0c000200 08000200 05000000", "[Kind(\"u32\"), Options([U32(Hash(5))])]"),
@@ -101,41 +103,26 @@ fn message_of(alloc: Global, attributes: &[Made]) -> Result<TcMessage, AllocErro
     Ok(message)
 }
 
-// Whether a message reads back as another of an empty header and attributes of this text, and is settled exactly where that is itself.
-fn is_again(
-    alloc: Global,
-    message: &TcMessage,
-    again: &TcMessage,
-    text: &str,
-) -> Result<bool, AllocError> {
-    Ok(
-        again.header == TcHeader::default()
-            && message.is_settled() == (*again == *message)
-            && is_shown(alloc, &again.attributes, text)?,
-    )
+/// True if a message is written as these bytes, which are read as a message of this text, or refused with a fault of it; and it is settled exactly
+/// when that is the message itself.
+fn is_seen(seen: &Seen, bytes: &[u8], text: &str) -> bool {
+    seen.is_emitted_as(bytes) && seen.again.as_str() == text && seen.is_settled == seen.reads_back
 }
 
-// The same, or that it isn't settled and has a fault of this text.
-fn reads_back(
-    alloc: Global,
-    message: &TcMessage,
-    bytes: &[u8],
-    text: &str,
-) -> Result<bool, AllocError> {
-    match TcMessage::parse(alloc, bytes) {
-        Ok(again) => is_again(alloc, message, &again, text),
-        Err(fault) => Ok(!message.is_settled() && is_shown(alloc, &fault, text)?),
-    }
-}
-
-/// Whether a message is written and read back as these, and is settled exactly where it reads back as itself.
+/// True if a message is written as these bytes, which are read as a message of these attributes, or refused with a fault of this text; and it is
+/// settled exactly when that is the message itself.
 pub(crate) fn reads_back_as(
     alloc: Global,
     message: &TcMessage,
     bytes: &[u8],
-    text: &str,
+    attributes: &str,
 ) -> Result<bool, AllocError> {
-    Ok(is_written(message, bytes) && reads_back(alloc, message, bytes, text)?)
+    let seen = see_tc(alloc, message)?;
+    if attributes.starts_with('[') {
+        Ok(is_seen(&seen, bytes, &shown_tc(alloc, NO_HEADER, attributes)?))
+    } else {
+        Ok(is_seen(&seen, bytes, attributes))
+    }
 }
 
 fn is_read_back(alloc: Global, row: &Row) -> Result<bool, AllocError> {
@@ -164,7 +151,7 @@ enum MadeAction {
     /// One action `nat` with this word.
     Nat(u16),
     Warning(&'static str),
-    /// A count that is kept as it stands.
+    /// A count that is kept raw.
     KeptCount,
 }
 
@@ -212,24 +199,10 @@ fn action_message_of(alloc: Global, made: &MadeAction) -> Result<TcActionMessage
     Ok(message)
 }
 
-// Whether an action message is written and read back as these, and is settled exactly where that is itself.
-fn action_reads_back_as(
-    alloc: Global,
-    message: &TcActionMessage,
-    bytes: &[u8],
-    text: &str,
-) -> Result<bool, Fail> {
-    let again = TcActionMessage::parse(alloc, bytes)?;
-    Ok(
-        is_written(message, bytes)
-            && message.is_settled() == (again == *message)
-            && is_shown(alloc, &again.attributes, text)?,
-    )
-}
-
-fn is_action_read_back(alloc: Global, row: &ActionRow) -> Result<bool, Fail> {
+fn is_action_read_back(alloc: Global, row: &ActionRow) -> Result<bool, AllocError> {
+    let seen = see_action(alloc, &action_message_of(alloc, &row.0)?)?;
     let bytes = after_zeros(alloc, 4, row.1)?;
-    action_reads_back_as(alloc, &action_message_of(alloc, &row.0)?, &bytes, row.2)
+    Ok(is_seen(&seen, &bytes, &shown_action(alloc, row.2)?))
 }
 
 #[test]
@@ -242,48 +215,46 @@ fn of_action_messages(rt: HostRuntime) -> Result<(), Fail> {
     Ok(())
 }
 
-/// Whether a message of this family, which has a name, isn't settled and is written as these bytes.
-fn is_header_written(alloc: Global, family: AddressFamily, bytes: &[u8]) -> bool {
+/// A message of this family.
+fn of_family(alloc: Global, family: AddressFamily) -> TcMessage {
     let mut message = TcMessage::default_in(alloc);
     message.header.family = family;
-    !message.is_settled() && is_written(&message, bytes)
-}
-
-/// Whether bytes are read as a settled message of this family.
-fn is_header_read(alloc: Global, family: AddressFamily, bytes: &[u8]) -> Result<bool, Fail> {
-    let message = TcMessage::parse(alloc, bytes)?;
-    Ok(message.header.family == family && message.is_settled())
+    message
 }
 
 #[test]
 fn of_a_header(rt: HostRuntime) -> Result<(), Fail> {
+    let alloc = rt.alloc();
     let mut bytes = [0; 20];
     bytes[0] = 2;
-    assert!(rt; is_header_written(rt.alloc(), AddressFamily::Other(2), &bytes));
-    assert!(rt; is_header_read(rt.alloc(), AddressFamily::Inet, &bytes)?);
+    let named = see_tc(alloc, &of_family(alloc, AddressFamily::Inet))?;
+    assert!(rt; named.is_settled && named.is_emitted_as(&bytes));
+    // a number that has a name
+    let other = see_tc(alloc, &of_family(alloc, AddressFamily::Other(2)))?;
+    assert!(rt; !other.is_settled && other.is_emitted_as(&bytes));
+    assert!(rt; other.again == named.text);
     Ok(())
 }
 
-/// Whether an option, and options of it alone, are settled under a kind.
+/// True if an option, and options of it alone, are settled as they have to be under a kind.
 fn is_limit_settled(alloc: Global, kind: &str, is_settled: bool) -> Result<bool, AllocError> {
-    Ok(
-        settles_under(options(alloc, limit())?, kind, is_settled)
-            && settles_under(limit(), kind, is_settled),
-    )
+    let options = see_attribute(alloc, kind, options(alloc, limit())?)?;
+    let option = see_option(alloc, kind, limit())?;
+    Ok(options.is_settled == is_settled && option.is_settled == is_settled)
 }
 
-/// Whether an option that no table knows is settled as told under a kind.
+/// True if an option that no table has is settled as it has to be under a kind.
 fn is_other_settled(alloc: Global, kind: &str, is_settled: bool) -> Result<bool, AllocError> {
-    let kept = kept(alloc, 2, &[5, 0, 0, 0])?;
-    Ok(settles_under(TcOption::Other(kept), kind, is_settled))
+    let kept = TcOption::Other(kept(alloc, 2, &[5, 0, 0, 0])?);
+    Ok(see_option(alloc, kind, kept)?.is_settled == is_settled)
 }
 
-/// Whether options that are kept as they stand are settled as told under a kind.
+/// True if raw options are settled as they have to be under a kind.
 fn is_raw_settled(alloc: Global, kind: &str, is_settled: bool) -> Result<bool, AllocError> {
-    Ok(settles_under(raw(alloc, 2, &LIMIT)?, kind, is_settled))
+    Ok(see_attribute(alloc, kind, raw(alloc, 2, &LIMIT)?)?.is_settled == is_settled)
 }
 
-/// Whether options are settled under a kind that is known, or else as they stand.
+/// True if options are settled under a kind that is known, and raw ones under any other.
 fn are_settled_under(alloc: Global, kind: &str, is_known: bool) -> Result<bool, AllocError> {
     Ok(
         is_limit_settled(alloc, kind, is_known)?
@@ -292,7 +263,7 @@ fn are_settled_under(alloc: Global, kind: &str, is_known: bool) -> Result<bool, 
     )
 }
 
-/// Whether an option of `fq_codel` is settled that is kept as it stands, of this type.
+/// True if an option of `fq_codel` is settled that is kept raw, of this type.
 fn is_settled_of_type(alloc: Global, word: u16) -> Result<bool, AllocError> {
     let kept = kept(alloc, word, &[5])?;
     Ok(settles(TcQdiscFqCodelOption::Other(kept)))
@@ -313,14 +284,14 @@ fn of_options_under_a_kind(rt: HostRuntime) -> Result<(), Fail> {
     Ok(())
 }
 
-/// Whether both headers of this family are settled as told.
+/// True if both headers of this family are settled as they have to be.
 fn is_family(family: AddressFamily, is_settled: bool) -> bool {
     let mut header = TcHeader::default();
     header.family = family;
     header.is_settled() == is_settled && TcActionMessageHeader { family }.is_settled() == is_settled
 }
 
-/// Whether the records of this outcome are settled as told.
+/// True if the records of this outcome are settled as they have to be.
 fn is_outcome(action: TcActionType, is_settled: bool) -> bool {
     let mut mirror = TcMirror::default();
     mirror.generic.action = action;
@@ -334,7 +305,7 @@ fn is_outcome(action: TcActionType, is_settled: bool) -> bool {
         && key.is_settled() == is_settled
 }
 
-/// Whether a mirror of this direction is settled.
+/// True if a mirror of this direction is settled.
 fn is_direction_settled(eaction: TcMirrorActionType) -> bool {
     let mut mirror = TcMirror::default();
     mirror.eaction = eaction;

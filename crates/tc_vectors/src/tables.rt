@@ -1,11 +1,8 @@
-//! Tables of known answers, a row a line and its cells parted by bars, and how a row is judged.
+//! Tables of known answers, a row a line and its cells parted by bars, and how a row is checked.
 
 ghost use Rattle.std.specs.Prelude.{◌<◌};
 
-use nla_frames::{
-    Emitable, Nla, NlaBuffer, Parseable, ParseableParametrized, Settle, emit_list, list_fits,
-    list_len,
-};
+use nla_frames::{Nla, NlaBuffer, Parseable, Settle, emit_list, list_fits, list_len};
 use std::alloc::{AllocError, Allocator, Global};
 use std::fmt::Debug;
 use std::str::Split;
@@ -16,7 +13,7 @@ pub(crate) fn rows(table: &str) -> Split<'_, char> {
     table.trim().split('\n')
 }
 
-/// The cells of a row: two, and a third that is empty where it isn't told. A row of fewer or more can't be cut.
+/// The cells of a row: two, and a third, which is empty where the row has two. A row of fewer or more can't be cut.
 pub(crate) fn cells(row: &str) -> Option<(&str, &str, &str)> {
     let mut cells = row.split('|');
     match (cells.next(), cells.next(), cells.next(), cells.next()) {
@@ -69,17 +66,17 @@ pub(crate) fn after_zeros(
     Ok(bytes)
 }
 
-/// What is written: the same bytes, where nothing else is told.
+/// What is written: the bytes that were read, where the row has no other.
 pub(crate) fn or_same<'a>(bytes: &'a str, written: &'a str) -> &'a str {
     if written.is_empty() { bytes } else { written }
 }
 
-/// Whether a value has this `Debug` text.
+/// True if a value has this `Debug` text.
 pub(crate) fn is_shown<T: Debug>(alloc: Global, value: &T, text: &str) -> Result<bool, AllocError> {
     Ok(format!(in alloc; "{value:?}")?.as_str() == text)
 }
 
-/// Whether a list is written as these bytes.
+/// True if a list is written as these bytes.
 pub(crate) fn are_written<T: Nla>(list: &[T], bytes: &[u8]) -> bool {
     let mut buffer = [0x55; 640];
     if !list_fits(list) || list_len(list) != bytes.len() || bytes.len() > buffer.len() {
@@ -89,27 +86,12 @@ pub(crate) fn are_written<T: Nla>(list: &[T], bytes: &[u8]) -> bool {
     &buffer[..bytes.len()] == bytes
 }
 
-/// Whether a message is written as these bytes, over a longer buffer whose rest stays.
-pub(crate) fn is_written<M: Emitable>(message: &M, bytes: &[u8]) -> bool {
-    let mut buffer = [0x55; 640];
-    if !message.fits() || message.buffer_len() != bytes.len() || bytes.len() > buffer.len() {
-        return false;
-    }
-    message.emit(&mut buffer);
-    &buffer[..bytes.len()] == bytes && &buffer[bytes.len()..] == &[0x55; 640][bytes.len()..]
-}
-
-/// Whether a value is settled.
+/// True if a value is settled.
 pub(crate) fn settles<T: Settle + Drop>(value: T) -> bool {
     value.is_settled()
 }
 
-/// Whether a value is settled as told under a kind.
-pub(crate) fn settles_under<T: Settle + Drop>(value: T, kind: &str, is_settled: bool) -> bool {
-    value.is_settled_under(kind) == is_settled
-}
-
-/// Whether a value has this `Debug` text.
+/// True if a value has this `Debug` text.
 pub(crate) fn has_text<T: Debug + Drop>(
     alloc: Global,
     value: T,
@@ -118,8 +100,8 @@ pub(crate) fn has_text<T: Debug + Drop>(
     is_shown(alloc, &value, text)
 }
 
-/// Whether a value has this text, and is written as these bytes in hex.
-pub(crate) fn is_as_told<T: Nla + Debug + Drop>(
+/// True if a value has this text, and is written as these bytes in hex.
+pub(crate) fn is_shown_and_written<T: Nla + Debug + Drop>(
     alloc: Global,
     value: T,
     text: &str,
@@ -132,7 +114,7 @@ pub(crate) fn is_as_told<T: Nla + Debug + Drop>(
     Ok(is_shown && are_written(&list, &written))
 }
 
-/// Whether a frame is read as an attribute of the second cell's text, and that written as the third cell, or as it came where that is empty.
+/// True if a frame is read as an attribute of the second cell's text, and that written as the third cell, or as it came where that is empty.
 fn is_known<T: Parseable<Global> + Nla + Debug + Drop>(
     alloc: Global,
     row: &str,
@@ -142,10 +124,10 @@ fn is_known<T: Parseable<Global> + Nla + Debug + Drop>(
     };
     let bytes = bytes_of(alloc, frame)?;
     let read = T::parse(alloc, &NlaBuffer::new_checked(&bytes)?)?;
-    Ok(is_as_told(alloc, read, text, or_same(frame, written))?)
+    Ok(is_shown_and_written(alloc, read, text, or_same(frame, written))?)
 }
 
-/// Judges each row, and tells the first that is read or written as another.
+/// Checks each row, and fails at the first that is read or written otherwise.
 pub(crate) fn are_known<T: Parseable<Global> + Nla + Debug + Drop>(
     alloc: Global,
     table: &str,
@@ -156,37 +138,4 @@ pub(crate) fn are_known<T: Parseable<Global> + Nla + Debug + Drop>(
         }
     }
     Ok(())
-}
-
-/// Whether a frame is read under no kind as this value.
-pub(crate) fn is_read<T: ParseableParametrized<Global> + PartialEq + Drop>(
-    alloc: Global,
-    frame: &[u8],
-    value: T,
-) -> Result<bool, Fail> {
-    let frame = NlaBuffer::new_checked(frame)?;
-    Ok(T::parse_with_param(alloc, &frame, "")? == value)
-}
-
-/// Whether a frame is read under a kind as a value of this text.
-pub(crate) fn is_read_under<T: ParseableParametrized<Global> + Debug + Drop>(
-    alloc: Global,
-    kind: &str,
-    frame: &NlaBuffer<'_>,
-    text: &str,
-) -> Result<bool, Fail> {
-    Ok(is_shown(alloc, &T::parse_with_param(alloc, frame, kind)?, text)?)
-}
-
-/// Whether a frame is read under a kind as an attribute of this text, and that written as these bytes in hex.
-pub(crate) fn is_known_under<T: ParseableParametrized<Global> + Nla + Debug + Drop>(
-    alloc: Global,
-    kind: &str,
-    frame: &str,
-    text: &str,
-    written: &str,
-) -> Result<bool, Fail> {
-    let bytes = bytes_of(alloc, frame)?;
-    let read = T::parse_with_param(alloc, &NlaBuffer::new_checked(&bytes)?, kind)?;
-    Ok(is_as_told(alloc, read, text, written)?)
 }

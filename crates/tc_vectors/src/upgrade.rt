@@ -1,16 +1,18 @@
-//! Messages that the first version read, and what they are now.
+//! Messages that version 1 read, which had no raw options, and what they are upgraded to.
 
 use crate::made::{kept, kind, options, pushed, with};
 use crate::settled::reads_back_as;
-use crate::tables::{after_zeros, is_shown};
-use failing::Failing;
+use crate::tables::after_zeros;
+use crate::worked::{NO_HEADER, shown_tc};
+use failing_alloc::Failing;
 use std::alloc::{AllocError, Allocator, Global};
 use std::test::Fail;
 use tc_options::{TcOption, TcQdiscFqCodelOption};
 use tc_records::TcHeader;
+use tc_test_calls::see_tc;
 use tc_wire::{TcAttribute, TcMessage};
 
-/// A kind, empty for none, the other options after it, each a word and its value, and what the attributes are now.
+/// A kind, empty for none, the other options after it, each a word and its value, and what the attributes are upgraded to.
 type Row = (&'static str, &'static [(u16, &'static [u8])], &'static str);
 
 /// Options without a kind.
@@ -35,7 +37,7 @@ fn other<A: Allocator>(alloc: A, row: &(u16, &[u8])) -> Result<TcOption<A>, Allo
     Ok(TcOption::Other(kept(alloc, row.0, row.1)?))
 }
 
-/// Options that no table knows.
+/// Options that no table has.
 fn unknown<A: Allocator + Copy>(
     alloc: A,
     rows: &[(u16, &[u8])],
@@ -58,12 +60,12 @@ fn made<A: Allocator + Copy>(alloc: A, row: &Row) -> Result<TcMessage<A>, AllocE
     with(message, unknown(alloc, row.1))
 }
 
-/// Whether a message has an empty header and attributes of this text.
+/// True if a message has an empty header and these attributes.
 fn has_attributes(alloc: Global, message: &TcMessage, text: &str) -> Result<bool, AllocError> {
-    Ok(is_shown(alloc, &message.attributes, text)? && message.header == TcHeader::default())
+    Ok(see_tc(alloc, message)?.text == shown_tc(alloc, NO_HEADER, text)?)
 }
 
-/// Whether a message becomes what it has to, once and twice.
+/// True if a message becomes what it has to, once and twice.
 fn is_upgraded(alloc: Global, message: TcMessage, text: &str) -> Result<bool, AllocError> {
     let once = message.upgrade();
     if !has_attributes(alloc, &once, text)? {
@@ -72,7 +74,7 @@ fn is_upgraded(alloc: Global, message: TcMessage, text: &str) -> Result<bool, Al
     has_attributes(alloc, &once.upgrade(), text)
 }
 
-/// Whether a message becomes another with an empty header, and asks for no memory.
+/// True if a message becomes another with an empty header, and asks for no memory.
 fn is_upgraded_without_memory(failing: &Failing<Global>, row: &Row) -> Result<bool, AllocError> {
     failing.refuse(0);
     let message = made(failing, row)?;
@@ -81,7 +83,7 @@ fn is_upgraded_without_memory(failing: &Failing<Global>, row: &Row) -> Result<bo
     Ok(!failing.has_refused() && upgraded.header == TcHeader::default())
 }
 
-/// Whether the message of a row becomes what it has to, and that where the next request for memory is refused, and none is made.
+/// True if the message of a row becomes what it has to, and that where the next request for memory is refused, and none is made.
 fn is_right(alloc: Global, failing: &Failing<Global>, row: &Row) -> Result<bool, AllocError> {
     Ok(is_upgraded(alloc, made(alloc, row)?, row.2)? && is_upgraded_without_memory(failing, row)?)
 }
@@ -97,7 +99,7 @@ fn worked(rt: HostRuntime) -> Result<(), Fail> {
     Ok(())
 }
 
-/// A message of two kinds, options of `fq_codel`, and options that no table knows.
+/// A message of two kinds, options of `fq_codel`, and options that no table has.
 fn of_two_kinds(alloc: Global, first: &str, second: &str) -> Result<TcMessage, AllocError> {
     let limit = TcOption::FqCodel(TcQdiscFqCodelOption::Limit(5));
     let message = with(TcMessage::default_in(alloc), kind(alloc, first))?;
@@ -106,10 +108,9 @@ fn of_two_kinds(alloc: Global, first: &str, second: &str) -> Result<TcMessage, A
     with(message, unknown(alloc, &[(2, &[7])]))
 }
 
-/// Whether the attributes of such a message become these.
+/// True if the attributes of such a message become these.
 fn becomes(alloc: Global, first: &str, second: &str, text: &str) -> Result<bool, AllocError> {
-    let upgraded = of_two_kinds(alloc, first, second)?.upgrade();
-    is_shown(alloc, &upgraded.attributes, text)
+    has_attributes(alloc, &of_two_kinds(alloc, first, second)?.upgrade(), text)
 }
 
 const FQ_CODEL_LAST: &str =
@@ -126,16 +127,13 @@ fn the_last_kind_counts(rt: HostRuntime) -> Result<(), Fail> {
     Ok(())
 }
 
-/// Whether the message of a row becomes a settled one, which is written and read back as these.
-fn is_settled_as(alloc: Global, row: &Row, bytes: &[u8]) -> Result<bool, AllocError> {
-    let message = made(alloc, row)?.upgrade();
-    Ok(message.is_settled() && reads_back_as(alloc, &message, bytes, row.2)?)
-}
-
-// What the first version made of options without a kind is written as they came.
+// What version 1 made of options without a kind is written as the bytes that it read.
 #[test]
 fn written_as_they_came(rt: HostRuntime) -> Result<(), Fail> {
-    let bytes = after_zeros(rt.alloc(), 20, "0c000200 08000200 00280000")?;
-    assert!(rt; is_settled_as(rt.alloc(), &WITHOUT_KIND, &bytes)?);
+    let alloc = rt.alloc();
+    let message = made(alloc, &WITHOUT_KIND)?.upgrade();
+    let bytes = after_zeros(alloc, 20, "0c000200 08000200 00280000")?;
+    assert!(rt; message.is_settled());
+    assert!(rt; reads_back_as(alloc, &message, &bytes, WITHOUT_KIND.2)?);
     Ok(())
 }

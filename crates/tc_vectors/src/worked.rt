@@ -1,16 +1,12 @@
 //! Worked messages: what they are read as, what is written of them, and why others are refused.
 
-use crate::made::{kind, options, with};
-use crate::tables::{after_zeros, cells, is_shown, is_written, or_same, pair, rows};
-use nla_frames::{AddressFamily, DecodeError, DefaultNla, Emitable, ParseableBytes};
+use crate::tables::{after_zeros, cells, is_shown, or_same, pair, rows};
+use nla_frames::{AddressFamily, DecodeError};
 use std::alloc::{AllocError, Global};
 use std::test::Fail;
 use tc_action_messages::TcActionMessage;
 use tc_canon::{is_canonical_action, is_canonical_tc};
-use tc_inputs::{Form, too_long};
-use tc_options::TcQdiscIngressOption;
-use tc_records::{TcActionMessageHeader, TcHeader};
-use tc_wire::{TcAttribute, TcMessage, TcOption, TcQdiscFqCodelOption};
+use tc_test_calls::{Seen, read_action, read_tc, see_action};
 
 // A row of messages that are read: frames in hex, the attributes that they are read as, and the frames that are written of these, where they
 // aren't the same, which only canonical ones are. A row of those that are refused: frames in hex, and the first fault in them.
@@ -100,24 +96,48 @@ pub(crate) const ACTION_FAULTS: &str = r#"
 08000300 06000000 0000 | FrameHeaderShort { left: 2 }
 "#;
 
-/// Whether bytes are read as a message of this header and of attributes of this text, which its clone is too, and it is written, settled and
-/// canonical as it has to be.
+/// A header of zeros, as `Debug` shows it.
+pub(crate) const NO_HEADER: &str = "TcHeader { family: Unspec, index: 0, \
+handle: TcHandle { major: 0, minor: 0 }, parent: TcHandle { major: 0, minor: 0 }, info: 0 }";
+
+/// A message of this header and of these attributes, as `Debug` shows it.
+pub(crate) fn shown_tc(
+    alloc: Global,
+    header: &str,
+    attributes: &str,
+) -> Result<String, AllocError> {
+    format!(in alloc; "TcMessage {{ header: {header}, attributes: {attributes} }}")
+}
+
+/// An action message of an empty header and of these attributes, as `Debug` shows it.
+pub(crate) fn shown_action(alloc: Global, attributes: &str) -> Result<String, AllocError> {
+    format!(in alloc;
+        "TcActionMessage {{ header: TcActionMessageHeader {{ family: Unspec }}, attributes: {attributes} }}"
+    )
+}
+
+/// True if a message is shown as this text, emitted as these bytes, and settled as it has to be, which its bytes show too; and a clone is equal to it.
+fn is_seen(seen: &Seen, text: &str, written: &[u8], is_settled: bool) -> bool {
+    seen.text.as_str() == text
+        && seen.is_emitted_as(written)
+        && seen.is_settled == is_settled
+        && seen.reads_back == is_settled
+        && seen.is_cloned
+}
+
+/// True if bytes are read as a message of this header and of these attributes, and it is written, settled and canonical as it has to be.
 pub(crate) fn is_read_as(
     alloc: Global,
     bytes: &[u8],
-    header: TcHeader,
-    text: &str,
+    header: &str,
+    attributes: &str,
     written: &[u8],
     is_settled: bool,
 ) -> Result<bool, Fail> {
-    let message = TcMessage::parse(alloc, bytes)?;
+    let text = shown_tc(alloc, header, attributes)?;
     Ok(
-        message.header == header
-            && is_shown(alloc, &message.attributes, text)?
-            && is_written(&message, written)
-            && message.is_settled() == is_settled
-            && is_canonical_tc(bytes) == (bytes == written)
-            && message.clone()? == message,
+        is_seen(&read_tc(alloc, bytes)?, &text, written, is_settled)
+            && is_canonical_tc(bytes) == (bytes == written),
     )
 }
 
@@ -127,17 +147,10 @@ fn is_read(alloc: Global, row: &str, is_settled: bool) -> Result<bool, Fail> {
     };
     let bytes = after_zeros(alloc, 20, frames)?;
     let written = after_zeros(alloc, 20, or_same(frames, written))?;
-    is_read_as(
-        alloc,
-        &bytes,
-        TcHeader::default(),
-        text,
-        &written,
-        is_settled,
-    )
+    is_read_as(alloc, &bytes, NO_HEADER, text, &written, is_settled)
 }
 
-/// Judges each row of messages, and tells the first that is read or written as another, or settled otherwise.
+/// Checks each row of messages, and fails at the first that is read, written or settled otherwise.
 pub(crate) fn are_read(alloc: Global, table: &str, is_settled: bool) -> Result<(), Fail> {
     for row in rows(table) {
         if !is_read(alloc, row, is_settled)? {
@@ -148,10 +161,10 @@ pub(crate) fn are_read(alloc: Global, table: &str, is_settled: bool) -> Result<(
 }
 
 pub(crate) fn fault_of(alloc: Global, bytes: &[u8]) -> Option<DecodeError> {
-    TcMessage::parse(alloc, bytes).err()
+    read_tc(alloc, bytes).err()
 }
 
-/// Whether there is a fault of this text.
+/// True if there is a fault of this text.
 fn is_fault(alloc: Global, fault: &Option<DecodeError>, text: &str) -> Result<bool, AllocError> {
     match fault {
         None => Ok(false),
@@ -167,7 +180,7 @@ fn is_refused(alloc: Global, row: &str) -> Result<bool, AllocError> {
     is_fault(alloc, &fault_of(alloc, &bytes), fault)
 }
 
-/// Judges each row of messages, and tells the first that isn't refused with its fault.
+/// Checks each row of messages, and fails at the first that isn't refused with its fault.
 pub(crate) fn are_refused(alloc: Global, table: &str) -> Result<(), Fail> {
     for row in rows(table) {
         if !is_refused(alloc, row)? {
@@ -184,22 +197,18 @@ fn messages(rt: HostRuntime) -> Result<(), Fail> {
     are_refused(rt.alloc(), TC_FAULTS)
 }
 
-/// The same of an action message, with an empty header.
+/// True if bytes are read as an action message of an empty header and of these attributes, and it is written, settled and canonical as it has to be.
 fn is_action_read_as(
     alloc: Global,
     bytes: &[u8],
-    text: &str,
+    attributes: &str,
     written: &[u8],
     is_settled: bool,
 ) -> Result<bool, Fail> {
-    let message = TcActionMessage::parse(alloc, bytes)?;
+    let text = shown_action(alloc, attributes)?;
     Ok(
-        message.header == TcActionMessageHeader::default()
-            && is_shown(alloc, &message.attributes, text)?
-            && is_written(&message, written)
-            && message.is_settled() == is_settled
-            && is_canonical_action(bytes) == (bytes == written)
-            && message.clone()? == message,
+        is_seen(&read_action(alloc, bytes)?, &text, written, is_settled)
+            && is_canonical_action(bytes) == (bytes == written),
     )
 }
 
@@ -226,7 +235,7 @@ fn is_action_refused(alloc: Global, row: &str) -> Result<bool, AllocError> {
         return Ok(false);
     };
     let bytes = after_zeros(alloc, 4, frames)?;
-    is_fault(alloc, &TcActionMessage::parse(alloc, &bytes).err(), fault)
+    is_fault(alloc, &read_action(alloc, &bytes).err(), fault)
 }
 
 #[test]
@@ -251,86 +260,21 @@ const UNSPEC: &str =
 #[test]
 fn headers_of_action_messages(rt: HostRuntime) -> Result<(), Fail> {
     let alloc = rt.alloc();
-    let message = TcActionMessage::parse(alloc, &[2, 0, 0, 7])?;
-    assert!(rt; is_shown(alloc, &message, INET)?);
-    assert!(rt; is_written(&message, &[2, 0, 0, 0]));
+    assert!(rt;
+        is_seen(
+            &read_action(alloc, &[2, 0, 0, 7])?,
+            INET,
+            &[2, 0, 0, 0],
+            true
+        )
+    );
     let mut message = TcActionMessage::default_in(alloc);
-    assert!(rt; is_shown(alloc, &message, UNSPEC)?);
-    assert!(rt; message.is_settled());
+    assert!(rt; is_seen(&see_action(alloc, &message)?, UNSPEC, &[0; 4], true));
     message.header.family = AddressFamily::Other(2);
-    assert!(rt; !message.is_settled());
-    assert!(rt; is_written(&message, &[2, 0, 0, 0]));
+    let named = see_action(alloc, &message)?;
+    assert!(rt; !named.is_settled && !named.reads_back);
+    assert!(rt; named.is_emitted_as(&[2, 0, 0, 0]));
     let fault = DecodeError::BufferTooSmall { len: 3, needed: 4 };
-    assert!(rt; TcActionMessage::parse(alloc, &[0; 3]).err() == Some(fault));
-    Ok(())
-}
-
-// ---- what is too long
-
-/// An attribute of an unknown type with so many bytes.
-fn long(alloc: Global, length: usize) -> Result<DefaultNla, AllocError> {
-    Ok(DefaultNla::new(99, vec![in alloc; 0xaa; length]?))
-}
-
-/// A message of a kind and of this one option.
-fn with_option(alloc: Global, name: &str, option: TcOption) -> Result<TcMessage, AllocError> {
-    let message = with(TcMessage::default_in(alloc), kind(alloc, name))?;
-    with(message, options(alloc, option))
-}
-
-fn with_ingress_option(alloc: Global, length: usize) -> Result<TcMessage, AllocError> {
-    let option = TcQdiscIngressOption::Other(long(alloc, length)?);
-    with_option(alloc, "ingress", TcOption::Ingress(option))
-}
-
-/// Whether a message fits that has an option `fq_codel` of so many bytes.
-fn fits(alloc: Global, length: usize) -> Result<bool, AllocError> {
-    let option = TcQdiscFqCodelOption::Other(long(alloc, length)?);
-    Ok(with_option(alloc, "fq_codel", TcOption::FqCodel(option))?.fits())
-}
-
-/// Whether bytes are read as a message that is settled, and doesn't fit since its one option has so many bytes.
-fn is_read_as_long(alloc: Global, bytes: &[u8], length: usize) -> Result<bool, Fail> {
-    let message = TcMessage::parse(alloc, bytes)?;
-    Ok(!message.fits() && message.is_settled() && message == with_ingress_option(alloc, length)?)
-}
-
-#[test]
-fn long_messages(rt: HostRuntime) -> Result<(), Fail> {
-    let alloc = rt.alloc();
-    let bytes = too_long(alloc, Form::Tc)?.bytes;
-    assert!(rt; bytes.len() == 65568);
-    assert!(rt; !is_canonical_tc(&bytes));
-    assert!(rt; is_read_as_long(alloc, &bytes, 65527)?);
-    assert!(rt; fits(alloc, 65524)?);
-    assert!(rt; !fits(alloc, 65525)?);
-    Ok(())
-}
-
-fn rate(alloc: Global, length: usize) -> Result<TcAttribute, AllocError> {
-    Ok(TcAttribute::Rate(vec![in alloc; 0; length]?))
-}
-
-fn length_if_it_fits<M: Emitable>(message: &M) -> Option<usize> {
-    if message.fits() {
-        Some(message.buffer_len())
-    } else {
-        None
-    }
-}
-
-/// The length of a message of rates of these lengths, if it fits.
-fn length_of(alloc: Global, rates: &[usize]) -> Result<Option<usize>, AllocError> {
-    let mut message = TcMessage::default_in(alloc);
-    for length in rates {
-        message = with(message, rate(alloc, *length))?;
-    }
-    Ok(length_if_it_fits(&message))
-}
-
-#[test]
-fn long_attributes(rt: HostRuntime) -> Result<(), Fail> {
-    assert!(rt; length_of(rt.alloc(), &[65531])? == Some(65556));
-    assert!(rt; length_of(rt.alloc(), &[65531, 65532])? == None);
+    assert!(rt; read_action(alloc, &[0; 3]).err() == Some(fault));
     Ok(())
 }

@@ -1,2 +1,1 @@
 mod Rewrites
-mod Trimmed

@@ -1,17 +1,17 @@
 -- What rewriting and settling return, and why they are refused.
-use Rattle.std.specs.Prelude.{◌≡◌, ◌≢◌, ◌⊎◌, ℕ, ◌<◌, List, Ok, Err}
+use Rattle.std.specs.Prelude.{◌≡◌, ◌≢◌, ◌⊎◌, ℕ, List, Ok, Err}
 use Rattle.nla_frames.specs.declared.error.DecodeError.{DecodeError}
 use Rattle.nla_frames.specs.declared.error.DecodeError.TheVariants.{OutOfMemory as NoMemory}
 use Rattle.nla_frames.specs.Fault.{Outcome}
 use Rattle.nla_frames.specs.Codec.{Codec}
-use Rattle.tc_canon.specs.Canonical.{CanonTc, CanonAct}
 use Rattle.tc_meaning.specs.Message.{Message}
-use Rattle.tc_meaning.specs.Whole.{ReadsTc, FaultTc, FitsTc, ReadsAct, FaultAct, FitsAct, act_bytes}
+use Rattle.tc_meaning.specs.Whole.{Words, tc_words, action_words}
 use Rattle.tc_laws.specs.Loose.{nuls_act}
 use Rattle.tc_laws.specs.Norm.{norm_tc, norm_act}
-use Rattle.tc_laws.specs.Rewriting.{Rewrites, RewritesTimes, RewritesTc, RewritesAct}
+use Rattle.tc_laws.specs.Rewriting.{SettlesIn}
 use Rattle.tc_wire.specs.declared.rewriting.RewriteError.{RewriteError}
 use Rattle.tc_wire.specs.declared.rewriting.RewriteError.TheVariants.{Decode, DoesNotFit, OutOfMemory}
+pub use Rattle.tc_laws.specs.Rewriting.{RewritesTc, RewritesAct}
 
 -- ---- refusals
 
@@ -26,43 +26,37 @@ RefusedBy Reads Fault Fits (Decode e) = (e ≢ NoMemory) × Fault e
 RefusedBy Reads Fault Fits DoesNotFit = (x : _) × Reads x × (Fits x → ⊥)
 RefusedBy Reads Fault Fits OutOfMemory = Unit {0}
 
+abbrev pub Refused : Words Message → List ℕ → RewriteError → Type 0
+Refused w bytes = RefusedBy (w.Reads bytes) (w.Fault bytes) w.Fits
+
 abbrev pub RefusedTc : List ℕ → RewriteError → Type 0
-RefusedTc bytes = RefusedBy (ReadsTc bytes) (FaultTc bytes) FitsTc
+RefusedTc = Refused tc_words
 
 abbrev pub RefusedAct : List ℕ → RewriteError → Type 0
-RefusedAct bytes = RefusedBy (ReadsAct bytes) (FaultAct bytes) FitsAct
+RefusedAct = Refused action_words
 
 -- ---- one rewrite, of any type
 
 -- what is read fits, and these are its bytes
-pub record WrittenOf {X : Type 0} (codec : Codec (List ℕ) X) (outcome : Outcome X) (written : List ℕ) : Type 0 where
-  pub value : X
-  pub is_read : outcome ≡ Ok value
-  pub fits : codec.Fits value
-  pub is : written ≡ codec.write value
+abbrev pub WrittenOf : {X : Type 0} → Codec (List ℕ) X → Outcome X → List ℕ → Type 0
+WrittenOf codec outcome written = (x : _) × (outcome ≡ Ok x) × codec.Fits x × (written ≡ codec.write x)
 
 abbrev pub RefusedOf : {X : Type 0} → Codec (List ℕ) X → Outcome X → RewriteError → Type 0
 RefusedOf codec outcome = RefusedBy (λ x. outcome ≡ Ok x) (λ e. outcome ≡ Err e) codec.Fits
 
 -- ---- as many rewrites as lead to canonical bytes
 
-pub record Settles (rewrites : Rewrites) (Canon : List ℕ → Type 0) (Reads : List ℕ → Message → Type 0) (norm : Message → Message) (bytes settled : List ℕ)
-    (count : ℕ) : Type 0 where
-  -- so many rewrites of the bytes give these
-  pub reached : RewritesTimes rewrites count bytes settled
-  -- which are canonical, as those that fewer rewrites give aren't
-  pub canonical : Canon settled
-  pub no_sooner : (n : ℕ) (written : List ℕ) → n < count → RewritesTimes rewrites n bytes written → Canon written → ⊥
-  -- and read as the norm of what the bytes read as
+-- so many rewrites, and no fewer, lead to these bytes, which are canonical and read as the norm of what the bytes read as
+pub record Settles (w : Words Message) (norm : Message → Message) (bytes settled : List ℕ) (count : ℕ) : Type 0 where
   pub message : Message
-  pub reads : Reads bytes message
-  pub reads_norm : Reads settled (norm message)
+  pub reads : w.Reads bytes message
+  pub settles : SettlesIn w count bytes settled (norm message)
 
 abbrev pub SettlesTc : List ℕ → List ℕ → ℕ → Type 0
-SettlesTc = Settles RewritesTc CanonTc ReadsTc norm_tc
+SettlesTc = Settles tc_words norm_tc
 
 abbrev pub SettlesAct : List ℕ → List ℕ → ℕ → Type 0
-SettlesAct = Settles RewritesAct CanonAct ReadsAct norm_act
+SettlesAct = Settles action_words norm_act
 
 -- none where the bytes are canonical, and else so many
 abbrev pub CountIs : Type 0 → ℕ → ℕ → Type 0
@@ -71,7 +65,7 @@ CountIs IsCanon many count = (IsCanon × (count ≡ 0)) ⊎ ((IsCanon → ⊥) �
 -- the bytes read as an action message that fits, these are those of its norm, and so many NULs at most end one of its warnings
 pub record TrimmedOf (bytes written : List ℕ) (nuls : ℕ) : Type 0 where
   pub message : Message
-  pub reads : ReadsAct bytes message
-  pub fits : FitsAct message
-  pub is : written ≡ act_bytes (norm_act message)
+  pub reads : action_words.Reads bytes message
+  pub fits : action_words.Fits message
+  pub is : written ≡ action_words.bytes (norm_act message)
   pub most : nuls ≡ nuls_act message

@@ -1,178 +1,70 @@
-//! Messages of Linux traffic control, by all their public names, with rewriting and settling.
+//! Linux traffic control messages: the public names of the crates below in one place, with rewriting and settling.
+//!
+//! Names that only code with attributes of its own needs are in [`helpers`].
 #![tactic(auto)]
 
+pub mod helpers;
 pub mod rewriting;
 
-pub use nla_frames::AddressFamily;
-pub use nla_frames::BytesMeaning;
-pub use nla_frames::DecodeError;
-pub use nla_frames::DefaultNla;
-pub use nla_frames::Emitable;
-pub use nla_frames::FrameMeaning;
-pub use nla_frames::NLA_F_NESTED;
-pub use nla_frames::NLA_F_NET_BYTEORDER;
-pub use nla_frames::NLA_HEADER_SIZE;
-pub use nla_frames::NLA_TYPE_MASK;
-pub use nla_frames::NLA_VALUE_MAX_SIZE;
-pub use nla_frames::Nla;
-pub use nla_frames::NlaBuffer;
-pub use nla_frames::NlasIterator;
-pub use nla_frames::OnlyKind;
-pub use nla_frames::Parseable;
-pub use nla_frames::ParseableBytes;
-pub use nla_frames::ParseableParametrized;
-pub use nla_frames::Res;
-pub use nla_frames::SetsKind;
-pub use nla_frames::Settle;
-pub use nla_frames::SettleBytes;
-pub use nla_frames::checked_value_len;
-pub use nla_frames::emit_list;
-pub use nla_frames::emit_u16;
-pub use nla_frames::emit_u16_be;
-pub use nla_frames::emit_u32;
-pub use nla_frames::emit_u32_be;
-pub use nla_frames::first_capacity;
-pub use nla_frames::i32_bytes;
-pub use nla_frames::kind_then;
-pub use nla_frames::list_checked_len;
-pub use nla_frames::list_fits;
-pub use nla_frames::list_len;
-pub use nla_frames::list_settled_carrying;
-pub use nla_frames::list_settled_own;
-pub use nla_frames::list_settled_under;
-pub use nla_frames::nested_checked_len;
-pub use nla_frames::nested_fits;
-pub use nla_frames::only_kind_set;
-pub use nla_frames::parse_frames_with;
-pub use nla_frames::parse_ipv4_addr;
-pub use nla_frames::parse_ipv6_addr;
-pub use nla_frames::parse_list;
-pub use nla_frames::parse_list_with;
-pub use nla_frames::parse_mac;
-pub use nla_frames::parse_string;
-pub use nla_frames::parse_u8;
-pub use nla_frames::parse_u16;
-pub use nla_frames::parse_u16_be;
-pub use nla_frames::parse_u32;
-pub use nla_frames::parse_u32_be;
-pub use nla_frames::put_bytes;
-pub use nla_frames::put_list;
-pub use nla_frames::put_text;
-pub use nla_frames::put_u8;
-pub use nla_frames::put_u16;
-pub use nla_frames::put_u16_be;
-pub use nla_frames::put_u32;
-pub use nla_frames::put_u32_be;
-pub use nla_frames::put_u64;
-pub use nla_frames::strip_nul;
-pub use nla_frames::u16_be_bytes;
-pub use nla_frames::u16_bytes;
-pub use nla_frames::u32_be_bytes;
-pub use nla_frames::u32_bytes;
-pub use nla_frames::u64_bytes;
-pub use rewriting::RewriteError;
-pub use rewriting::rewrite_action;
-pub use rewriting::rewrite_tc;
-pub use rewriting::settle_action;
-pub use rewriting::settle_tc;
-pub use tc_action_messages::TcActionMessage;
-pub use tc_action_messages::TcActionMessageAttribute;
-pub use tc_action_messages::TcActionMessageFlagsWithSelector;
-pub use tc_actions::TcAction;
-pub use tc_actions::TcActionAttribute;
-pub use tc_actions::TcActionMirror;
-pub use tc_actions::TcActionMirrorOption;
-pub use tc_actions::TcActionNat;
-pub use tc_actions::TcActionNatOption;
-pub use tc_actions::TcActionOption;
-pub use tc_actions::TcActionTunnelKey;
-pub use tc_actions::TcActionTunnelKeyOption;
-pub use tc_actions::TcFqCodelXstats;
-pub use tc_actions::TcStats2;
-pub use tc_actions::TcXstats;
-pub use tc_actions::kind_told;
-pub use tc_attributes::TcAttribute;
-pub use tc_attributes::VecTcAttribute;
-pub use tc_canon::canon_action;
-pub use tc_canon::canon_action_options;
-pub use tc_canon::canon_actions;
-pub use tc_canon::canon_lse;
-pub use tc_canon::canon_mpls;
-pub use tc_canon::canon_options;
-pub use tc_canon::canon_stats2;
-pub use tc_canon::is_canonical_action;
-pub use tc_canon::is_canonical_tc;
-pub use tc_filters::TcFilterBpf;
-pub use tc_filters::TcFilterBpfOption;
-pub use tc_filters::TcFilterMatchAll;
-pub use tc_filters::TcFilterMatchAllOption;
-pub use tc_filters::TcFilterU32;
-pub use tc_filters::TcFilterU32Option;
-pub use tc_flower::TcFilterFlower;
-pub use tc_flower::TcFilterFlowerMplsLseOption;
-pub use tc_flower::TcFilterFlowerMplsOption;
-pub use tc_flower::TcFilterFlowerOption;
+// Whole messages, and what is done to their bytes.
+pub use rewriting::{RewriteError, rewrite_action, rewrite_tc, settle_action, settle_tc};
+pub use tc_action_messages::{
+    TcActionMessage, TcActionMessageAttribute, TcActionMessageFlagsWithSelector,
+};
+pub use tc_canon::{is_canonical_action, is_canonical_tc};
 pub use tc_messages::TcMessage;
-pub use tc_options::TcOption;
-pub use tc_options::VecTcOption;
-pub use tc_options::is_known_kind;
-pub use tc_qdiscs::TcQdiscFqCodel;
-pub use tc_qdiscs::TcQdiscFqCodelOption;
-pub use tc_qdiscs::TcQdiscIngress;
-pub use tc_qdiscs::TcQdiscIngressOption;
-pub use tc_raw::TcActionGenericBuffer;
-pub use tc_raw::TcActionMessageBuffer;
-pub use tc_raw::TcFqCodelClStatsBuffer;
-pub use tc_raw::TcFqCodelQdStatsBuffer;
-pub use tc_raw::TcMessageBuffer;
-pub use tc_raw::TcMirrorBuffer;
-pub use tc_raw::TcNatBuffer;
-pub use tc_raw::TcStatsBasicBuffer;
-pub use tc_raw::TcStatsBuffer;
-pub use tc_raw::TcStatsQueueBuffer;
-pub use tc_raw::TcTunnelKeyBuffer;
-pub use tc_raw::TcU32KeyBuffer;
-pub use tc_raw::TcU32SelectorBuffer;
-pub use tc_raw::TcfBuffer;
-pub use tc_records::TC_ACTION_GENERIC_LEN;
-pub use tc_records::TC_FQ_CODEL_CL_STATS_LEN;
-pub use tc_records::TC_FQ_CODEL_QD_STATS_LEN;
-pub use tc_records::TC_HEADER_LEN;
-pub use tc_records::TC_MIRROR_LEN;
-pub use tc_records::TC_NAT_LEN;
-pub use tc_records::TC_STATS_BASIC_LEN;
-pub use tc_records::TC_STATS_LEN;
-pub use tc_records::TC_STATS_QUEUE_LEN;
-pub use tc_records::TC_TUNNEL_KEY_LEN;
-pub use tc_records::TC_U32_KEY_LEN;
-pub use tc_records::TC_U32_SELECTOR_LEN;
-pub use tc_records::TCA_HEADER_LEN;
-pub use tc_records::TCF_LEN;
-pub use tc_records::TcActionGeneric;
-pub use tc_records::TcActionMessageFlags;
-pub use tc_records::TcActionMessageHeader;
-pub use tc_records::TcActionType;
-pub use tc_records::TcBpfFlags;
-pub use tc_records::TcFqCodelClStats;
-pub use tc_records::TcFqCodelQdStats;
-pub use tc_records::TcHandle;
-pub use tc_records::TcHeader;
-pub use tc_records::TcMirror;
-pub use tc_records::TcMirrorActionType;
-pub use tc_records::TcNat;
-pub use tc_records::TcNatFlags;
-pub use tc_records::TcStats;
-pub use tc_records::TcStatsBasic;
-pub use tc_records::TcStatsQueue;
-pub use tc_records::TcTunnelKey;
-pub use tc_records::TcU32Key;
-pub use tc_records::TcU32OptionFlags;
-pub use tc_records::TcU32Selector;
-pub use tc_records::TcU32SelectorFlags;
-pub use tc_records::Tcf;
-pub use tc_values::Body;
-pub use tc_values::Either;
-pub use tc_values::Items;
-pub use tc_values::NoBody;
-pub use tc_values::Record;
-pub use tc_values::Value;
+
+// The traits by which they are read and written, and why bytes are refused.
+pub use nla_frames::{
+    DecodeError, Emitable, Nla, Parseable, ParseableBytes, ParseableParametrized, Res, Settle,
+    SettleBytes,
+};
+
+// Attributes, and options by kind.
+pub use tc_attributes::{TcAttribute, VecTcAttribute};
+pub use tc_filters::{
+    TcFilterBpf, TcFilterBpfOption, TcFilterMatchAll, TcFilterMatchAllOption, TcFilterU32,
+    TcFilterU32Option,
+};
+pub use tc_flower::{
+    TcFilterFlower, TcFilterFlowerMplsLseOption, TcFilterFlowerMplsOption, TcFilterFlowerOption,
+};
+pub use tc_options::{TcOption, VecTcOption, is_known_kind};
+pub use tc_qdiscs::{TcQdiscFqCodel, TcQdiscFqCodelOption, TcQdiscIngress, TcQdiscIngressOption};
+
+// Actions and statistics.
+pub use tc_actions::{
+    TcAction, TcActionAttribute, TcActionMirror, TcActionMirrorOption, TcActionNat,
+    TcActionNatOption, TcActionOption, TcActionTunnelKey, TcActionTunnelKeyOption, TcFqCodelXstats,
+    TcStats2, TcXstats,
+};
+
+// Fixed records, named numbers and flag words.
+pub use nla_frames::AddressFamily;
+pub use tc_records::{
+    TcActionGeneric, TcActionMessageFlags, TcActionMessageHeader, TcActionType, TcBpfFlags,
+    TcFqCodelClStats, TcFqCodelQdStats, TcHandle, TcHeader, TcMirror, TcMirrorActionType, TcNat,
+    TcNatFlags, TcStats, TcStatsBasic, TcStatsQueue, TcTunnelKey, TcU32Key, TcU32OptionFlags,
+    TcU32Selector, TcU32SelectorFlags, Tcf,
+};
+
+// Records as raw bytes.
+pub use tc_raw::{
+    TcActionGenericBuffer, TcActionMessageBuffer, TcFqCodelClStatsBuffer, TcFqCodelQdStatsBuffer,
+    TcMessageBuffer, TcMirrorBuffer, TcNatBuffer, TcStatsBasicBuffer, TcStatsBuffer,
+    TcStatsQueueBuffer, TcTunnelKeyBuffer, TcU32KeyBuffer, TcU32SelectorBuffer, TcfBuffer,
+};
+
+// Attributes as they are in bytes, lists of them, and plain values.
+pub use nla_frames::{
+    DefaultNla, NLA_F_NESTED, NLA_F_NET_BYTEORDER, NLA_HEADER_SIZE, NLA_TYPE_MASK, NlaBuffer,
+    NlasIterator, emit_list, emit_u16, emit_u16_be, emit_u32, emit_u32_be, list_fits, list_len,
+    parse_frames_with, parse_ipv4_addr, parse_ipv6_addr, parse_list, parse_list_with, parse_mac,
+    parse_string, parse_u8, parse_u16, parse_u16_be, parse_u32, parse_u32_be, put_list,
+};
+
+// Checks of the canonical form of one list.
+pub use tc_canon::{
+    canon_action, canon_action_options, canon_actions, canon_lse, canon_mpls, canon_options,
+    canon_stats2,
+};

@@ -5,8 +5,7 @@ ghost use Rattle.tc_canon.specs.Canonical.{CanonTc, CanonAct};
 ghost use Rattle.tc_meaning.specs.Message.{Message};
 ghost use Rattle.tc_meaning.specs.Whole.{ReadsAct};
 ghost use Rattle.tc_laws.specs.Loose.{nuls_act};
-ghost use Rattle.tc_laws.specs.Rewriting.{RewritesTc, RewritesAct};
-ghost use Rattle.tc_wire.specs.Rewriting.{refusal, RefusedTc, RefusedAct, WrittenOf, RefusedOf, SettlesTc, SettlesAct, CountIs, TrimmedOf};
+ghost use Rattle.tc_wire.specs.Rewriting.{RewritesTc, RewritesAct, refusal, RefusedTc, RefusedAct, WrittenOf, RefusedOf, SettlesTc, SettlesAct, CountIs, TrimmedOf};
 ghost use Rattle.tc_wire.specs.declared.rewriting.RewriteError.TheVariants.{OutOfMemory};
 
 use nla_frames::{DecodeError, Emitable, ParseableBytes};
@@ -21,7 +20,7 @@ use thiserror::Error;
 /// Why bytes aren't rewritten. The causes are looked for in this order, but memory may run out at any growth.
 #[derive(Drop, PartialEq, Eq, Error, Debug)]
 pub enum RewriteError {
-    /// The bytes can't be read, for this fault; it is never want of memory.
+    /// The bytes can't be read, for this fault, which is never `OutOfMemory`.
     #[error("{0}")]
     Decode(DecodeError),
 
@@ -103,6 +102,7 @@ pub fn rewrite_tc<A: Allocator + Copy>(alloc: A, bytes: &[u8]) -> Result<Vec<u8,
     ensures written { IfOk result (λ written. RewritesTc bytes.now written.items) }
     ensures refused { IfErr result (RefusedTc bytes.now) }
 {
+    // A law, which does nothing: what is read is what the grammar reads.
     tc_message(bytes);
     rewrite::<A, TcMessage<A>>(alloc, bytes)
 }
@@ -115,6 +115,7 @@ pub fn rewrite_action<A: Allocator + Copy>(
     ensures written { IfOk result (λ written. RewritesAct bytes.now written.items) }
     ensures refused { IfErr result (RefusedAct bytes.now) }
 {
+    // A law, which does nothing: what is read is what the grammar reads.
     action_message(bytes);
     rewrite::<A, TcActionMessage<A>>(alloc, bytes)
 }
@@ -129,6 +130,7 @@ pub fn settle_tc<A: Allocator + Copy>(
     ensures count { IfOk result (λ settled. CountIs (CanonTc bytes.now) 1 settled.1) }
     ensures refused { IfErr result (RefusedTc bytes.now) }
 {
+    // Laws, which do nothing: canonical bytes read as their own norm, and all others are canonical after one rewrite.
     tc_message(bytes);
     tc_rewriting(bytes);
     if is_canonical_tc(bytes) {
@@ -149,6 +151,7 @@ pub fn settle_action<A: Allocator + Copy>(
         → CountIs (CanonAct bytes.now) (nuls_act m + 1) settled.1) }
     ensures refused { IfErr result (RefusedAct bytes.now) }
 {
+    // Laws, which do nothing: after how many rewrites the bytes are canonical.
     action_message(bytes);
     action_rewriting(bytes);
     if is_canonical_action(bytes) {
@@ -156,6 +159,7 @@ pub fn settle_action<A: Allocator + Copy>(
         return Ok((copy, 0));
     }
     let (settled, nuls) = trimmed(alloc, bytes)?;
+    // Laws, which do nothing: the trimmed message's bytes are those to which rewriting leads, as both have one norm.
     action_rewriting(&settled);
     action_same_norm(bytes, &settled);
     Ok((settled, nuls + 1))
@@ -168,6 +172,7 @@ fn trimmed<A: Allocator + Copy>(alloc: A, bytes: &[u8]) -> Result<(Vec<u8, A>, u
     ensures bound { IfOk result (λ trimmed. trimmed.1 < 2 ^ 63) }
     ensures refused { IfErr result (RefusedAct bytes.now) }
 {
+    // Laws, which do nothing: what is read is what the grammar reads, and its norm fits.
     action_message(bytes);
     action_rewriting(bytes);
     let (mut message, _): (TcActionMessage<A>, usize) = read(alloc, bytes)?;

@@ -1,9 +1,9 @@
 //! The attributes of a message, type by type.
 
-use crate::tables::{cells, is_known_under, is_read, rows};
+use crate::tables::{bytes_of, cells, rows};
 use std::alloc::Global;
 use std::test::Fail;
-use tc_wire::TcAttribute;
+use tc_test_calls::read_attribute;
 
 // In each table: a kind, a frame in hex, and the attribute that it is read as under the kind.
 
@@ -27,15 +27,16 @@ const STATISTICS: &str = r#"
  | 2c000300 0102030405060708 090a0b0c 0d0e0f10 11121314 15161718 191a1b1c 1d1e1f20 21222324 00000000 | Stats(TcStats { bytes: 578437695752307201, packets: 202050057, drops: 269422093, overlimits: 336794129, bps: 404166165, pps: 471538201, qlen: 538910237, backlog: 606282273 })
 "#;
 
-/// Whether a row's frame is read as told, and written as it came.
+/// True if a row's frame is read as its attribute, and that is written as the frame.
 fn is_known(alloc: Global, row: &str) -> Result<bool, Fail> {
     let Some((kind, frame, text)) = cells(row) else {
         return Ok(false);
     };
-    is_known_under::<TcAttribute>(alloc, kind, frame, text, frame)
+    let frame = bytes_of(alloc, frame)?;
+    Ok(read_attribute(alloc, kind, &frame)?.is(text, &frame))
 }
 
-/// Judges each row, and tells the first that is read as another, or isn't written as it came.
+/// Checks each row, and fails at the first that is read or written otherwise.
 fn are_known(alloc: Global, table: &str) -> Result<(), Fail> {
     for row in rows(table) {
         if !is_known(alloc, row)? {
@@ -51,10 +52,11 @@ fn of_a_message(rt: HostRuntime) -> Result<(), Fail> {
     are_known(rt.alloc(), STATISTICS)
 }
 
-// The flags of a word are not looked at where the type is in the table.
+// NLA_F_NESTED and NLA_F_NET_BYTEORDER are ignored where the type is in the table.
 #[test]
 fn flags_of_a_word(rt: HostRuntime) -> Result<(), Fail> {
-    let chain = TcAttribute::Chain(0xb1b2_b3b4);
-    assert!(rt; is_read(rt.alloc(), &[8, 0, 11, 0xc0, 0xb4, 0xb3, 0xb2, 0xb1], chain)?);
+    let frame = [8, 0, 11, 0xc0, 0xb4, 0xb3, 0xb2, 0xb1];
+    let written = [8, 0, 11, 0, 0xb4, 0xb3, 0xb2, 0xb1];
+    assert!(rt; read_attribute(rt.alloc(), "", &frame)?.is("Chain(2981278644)", &written));
     Ok(())
 }

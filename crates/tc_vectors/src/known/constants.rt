@@ -43,7 +43,7 @@ fn lengths(rt: HostRuntime) {
     assert!(rt; TC_U32_SELECTOR_LEN == 16);
 }
 
-/// Whether a handle is this number, and of these halves.
+/// True if a handle is this number, and of these halves.
 fn is_handle(handle: TcHandle, number: u32, major: u16, minor: u16) -> bool {
     handle == TcHandle { major, minor }
         && handle == TcHandle::from(number)

@@ -1,15 +1,14 @@
 //! The options of a message, type by type, by themselves and in the variant of their kind.
 
 use crate::flower;
-use crate::tables::{are_known, bytes_of, cells, is_known_under, is_shown, or_same, pair, rows};
-use nla_frames::{NlaBuffer, ParseableParametrized, Settle};
+use crate::tables::{are_known, bytes_of, cells, is_shown, or_same, pair, rows};
 use std::alloc::{AllocError, Global};
-use std::fmt::Debug;
 use std::test::Fail;
 use tc_options::{
-    TcFilterBpfOption, TcFilterMatchAllOption, TcFilterU32Option, TcOption, TcQdiscFqCodelOption,
+    TcFilterBpfOption, TcFilterMatchAllOption, TcFilterU32Option, TcQdiscFqCodelOption,
     TcQdiscIngressOption,
 };
+use tc_test_calls::{is_option_settled, read_option};
 
 // In each table: a frame in hex, what it is read as, and what is written of that, where it isn't the same.
 
@@ -139,17 +138,17 @@ fn in_variant(alloc: Global, variant: &str, text: &str) -> Result<String, AllocE
     format!(in alloc; "{variant}({text})")
 }
 
-/// Whether a frame is read under a kind as an option of its variant and of this text, and that written as it has to be.
+/// True if a frame is read under a kind as an option of its variant and of this text, which is written as it has to be.
 fn is_known(alloc: Global, kind: &str, variant: &str, row: &str) -> Result<bool, Fail> {
     let Some((frame, text, written)) = cells(row) else {
         return Ok(false);
     };
     let text = in_variant(alloc, variant, text)?;
-    let written = or_same(frame, written);
-    is_known_under::<TcOption>(alloc, kind, frame, text.as_str(), written)
+    let written = bytes_of(alloc, or_same(frame, written))?;
+    Ok(read_option(alloc, kind, &bytes_of(alloc, frame)?)?.is(&text, &written))
 }
 
-/// Judges each row of a kind's table, and tells the first that is read or written as another.
+/// Checks each row of a kind's table, and fails at the first that is read or written otherwise.
 fn are_known_under(alloc: Global, kind: &str, variant: &str, table: &str) -> Result<(), Fail> {
     for row in rows(table) {
         if !is_known(alloc, kind, variant, row)? {
@@ -170,56 +169,49 @@ fn under_their_kind(rt: HostRuntime) -> Result<(), Fail> {
     are_known_under(alloc, "bpf", "Bpf", &BPF)
 }
 
+/// An option of a type that no table has, and how it is kept.
+const UNKNOWN: [u8; 8] = [5, 0, 0xff, 0x40, 7, 0, 0, 0];
+
 const KEPT: &str = "Other(DefaultNla { word: 16639, value: [7] })";
 
-/// Whether an option is settled under this of the kinds alone.
-fn is_settled_under_alone<T: Settle>(option: &T, kind: &str) -> bool {
+/// True if such an option, read under a kind, is settled under that kind alone.
+fn is_settled_under_alone(alloc: Global, kind: &str) -> Result<bool, Fail> {
     for row in rows(KINDS) {
-        let Some((other, _)) = pair(row) else {
-            return false;
-        };
-        if option.is_settled_under(other) != (other == kind) {
-            return false;
+        let (other, _) = pair(row).ok_or("a row of two cells")?;
+        if is_option_settled(alloc, kind, &UNKNOWN, other)? != (other == kind) {
+            return Ok(false);
         }
     }
-    !option.is_settled_under("sfq") && !option.is_settled_under("")
+    Ok(
+        !is_option_settled(alloc, kind, &UNKNOWN, "sfq")?
+            && !is_option_settled(alloc, kind, &UNKNOWN, "")?,
+    )
 }
 
-/// Whether a type that no table knows is kept under a kind, in its variant, and settled under that kind alone.
-fn is_kept<T: ParseableParametrized<Global> + Settle + Debug + Drop>(
-    alloc: Global,
-    row: &str,
-) -> Result<bool, Fail> {
-    let Some((kind, variant)) = pair(row) else {
-        return Ok(false);
-    };
+/// True if such an option is kept under a kind, in its variant, and settled under that kind alone.
+fn is_kept(alloc: Global, row: &str) -> Result<bool, Fail> {
+    let (kind, variant) = pair(row).ok_or("a row of two cells")?;
     let text = in_variant(alloc, variant, KEPT)?;
-    let frame = NlaBuffer::new_checked(&[5, 0, 0xff, 0x40, 7, 0, 0, 0])?;
-    let read = T::parse_with_param(alloc, &frame, kind)?;
-    Ok(is_settled_under_alone(&read, kind) && is_shown(alloc, &read, text.as_str())?)
+    let read = read_option(alloc, kind, &UNKNOWN)?;
+    Ok(read.is(&text, &UNKNOWN) && read.is_settled && is_settled_under_alone(alloc, kind)?)
 }
 
 #[test]
 fn settled_under_their_kind_alone(rt: HostRuntime) -> Result<(), Fail> {
     for row in rows(KINDS) {
-        if !is_kept::<TcOption>(rt.alloc(), row)? {
+        if !is_kept(rt.alloc(), row)? {
             return Err(Fail::new(row));
         }
     }
     Ok(())
 }
 
-/// Whether a frame is refused under a kind with this fault.
-fn is_refused<T: ParseableParametrized<Global> + Drop>(
-    alloc: Global,
-    row: &str,
-) -> Result<bool, Fail> {
+/// True if a frame is refused under a kind with this fault.
+fn is_refused(alloc: Global, row: &str) -> Result<bool, Fail> {
     let Some((kind, frame, fault)) = cells(row) else {
         return Ok(false);
     };
-    let bytes = bytes_of(alloc, frame)?;
-    let read = T::parse_with_param(alloc, &NlaBuffer::new_checked(&bytes)?, kind);
-    match read.err() {
+    match read_option(alloc, kind, &bytes_of(alloc, frame)?).err() {
         None => Ok(false),
         Some(found) => Ok(is_shown(alloc, &found, fault)?),
     }
@@ -228,7 +220,7 @@ fn is_refused<T: ParseableParametrized<Global> + Drop>(
 #[test]
 fn refused(rt: HostRuntime) -> Result<(), Fail> {
     for row in rows(FAULTS) {
-        if !is_refused::<TcOption>(rt.alloc(), row)? {
+        if !is_refused(rt.alloc(), row)? {
             return Err(Fail::new(row));
         }
     }

@@ -1,18 +1,20 @@
-use Rattle.std.proofs.Common.{subst, sym, ℕ, List, inr}
-use Rattle.tc_canon.specs.Canonical.{CanonAct}
-use Rattle.tc_meaning.specs.Whole.{ReadsAct}
+use Rattle.std.proofs.Common.{List, subst, sym, inr}
+use Rattle.tc_meaning.specs.Whole.{action_words}
 use Rattle.tc_laws.specs.Norm.{norm_act}
-use Rattle.tc_laws.specs.Rewriting.{RewritesAct}
-use Rattle.tc_wire.proofs.Rewrites.{refuted, settles_at_once}
-use Rattle.tc_wire.proofs.Trimmed.{settles_trimmed, counted}
+use Rattle.tc_laws.specs.Rewriting.{SettlesIn}
+use Rattle.tc_wire.proofs.Rewrites.{refuted, settles_trimmed, counted}
 use Rattle.tc_wire.proofs.rewriting.settle_action.Goals as goal
 
 pub returns-then-is_canonical_action-clause-settled : goal.returns-then-is_canonical_action-clause-settled
 returns-then-is_canonical_action-clause-settled g c =
     let canonical = c.is_canonical_action.ensures.0 c.if-is_canonical_action.true in
     let m = c.action_message.ensures.canonical canonical in
-    settles_at_once RewritesAct CanonAct ReadsAct norm_act c.args.bytes.now m.0 m.1
-    (c.action_rewriting.ensures.at_once m.0 m.1 m.2 canonical) _ c.in_ok-copy.ensures.items
+    let here = c.action_rewriting.ensures.at_once m.0 m.1 m.2 canonical in
+    record {
+      message = m.0;
+      reads = m.1;
+      settles = subst (λ (b : List _). SettlesIn action_words 0 c.args.bytes.now b (norm_act m.0)) (sym c.in_ok-copy.ensures.items) here;
+    }
 
 pub returns-clause-settled : goal.returns-clause-settled
 returns-clause-settled g c =
@@ -22,9 +24,9 @@ returns-clause-settled g c =
     let typed = laws.norm_typed t.message (c.action_message.ensures.typed t.message t.reads) in
     let fits = laws.norm_fits t.message t.fits in
     let back = (c.action_message.ensures.back (norm_act t.message) typed fits).1 (laws.norm_settled t.message t.reads) in
-    let reads = subst (λ (b : List ℕ). ReadsAct b (norm_act t.message)) (sym t.is) back in
-    let canonical = subst CanonAct (sym t.is) (laws.norm_canonical t.message t.reads t.fits) in
-    let twice = (rw c.deref.ensures.value at c.action_rewriting-2.ensures.canonical) (norm_act t.message) reads fits canonical in
+    let reads = subst (λ (b : List _). action_words.Reads b (norm_act t.message)) (sym t.is) back in
+    let canonical = subst action_words.Canonical (sym t.is) (laws.norm_canonical t.message t.reads t.fits) in
+    let twice = (rw c.deref.ensures.value at c.action_rewriting-2.ensures).canonical (norm_act t.message) reads fits canonical in
     settles_trimmed c.args.bytes.now c.in_ok-settled.settled.items c.in_ok-settled.nuls t (laws.settles t.message t.reads t.fits not)
     (rw c.deref-2.ensures.value at c.action_same_norm.ensures)
     reads fits canonical twice
@@ -34,6 +36,5 @@ returns-clause-count g c = λ m reads.
     let not = refuted c.is_canonical_action.result c.is_canonical_action.ensures c.if-is_canonical_action.false in
     inr (
       not,
-      counted c.args.bytes.now c.in_ok-settled.settled.items c.in_ok-settled.nuls c.in_ok-settled.ensures.trimmed c.action_message.ensures.reading m
-          reads,
+      counted c.args.bytes.now c.in_ok-settled.settled.items c.in_ok-settled.nuls c.in_ok-settled.ensures.trimmed c.action_message.ensures m reads,
     )

@@ -1,21 +1,14 @@
 use Rattle.std.proofs.Common.{sym, ap, subst, ◌∙◌}
 use Rattle.std.proofs.lemmas.Result.{err_from_is_err_and}
-use Rattle.nla_frames.specs.Reading.{keep}
-use Rattle.tc_canon.specs.Layouts.{action_message_header}
-use Rattle.tc_canon.specs.Tables.Messages.{action_message_attributes}
-use Rattle.tc_meaning.specs.Message.{message_codec}
-use Rattle.tc_meaning.specs.Whole.{ReadsAct, FaultAct, read_act, FitsAct, act_bytes}
+use Rattle.tc_meaning.specs.Whole.{action_words, FitsAct, act_bytes}
 use Rattle.tc_action_messages.specs.ActionMessage.{action_message}
-use Rattle.tc_wire.proofs.Rewrites.{refused_by}
+use Rattle.tc_wire.proofs.Rewrites.{refused}
 use Rattle.tc_wire.proofs.rewriting.trimmed.Goals as goal
 
 pub returns-in_err-message-clause-refused : goal.returns-in_err-message-clause-refused
 returns-in_err-message-clause-refused g c =
-    let codec = message_codec keep keep action_message_header action_message_attributes in
-    let bytes = c.args.bytes.now in
     let p = err_from_is_err_and c.from_residual.result c.from_residual.ensures.1 in
-    rw (p.1, p.2) (refused_by codec (read_act bytes) (ReadsAct bytes)
-    (FaultAct bytes) c.action_message.ensures.reading c.action_message.ensures.fault _ c.in_err-message.ensures.refused)
+    rw (p.1, p.2) (refused action_words c.args.bytes.now c.action_message.ensures _ c.in_err-message.ensures.refused)
 
 pub buffer_len-len-requires : goal.buffer_len-len-requires
 buffer_len-len-requires g c =

@@ -1,0 +1,14 @@
+//! For tests alone: what the calls of messages, attributes and options return, as plain values. A use of a trait at a type as wide as a
+//! message is the dear part of a test's proof, so tests go through these few functions.
+#![tactic(auto)]
+
+mod attributes;
+mod messages;
+mod whole;
+
+pub use attributes::{
+    SeenAttribute, is_option_settled, read_attribute, read_attributes, read_option, read_options,
+    see_attribute, see_option,
+};
+pub use messages::{Seen, emitted, read_action, read_tc, see_action, see_tc};
+pub use whole::Whole;

@@ -1,0 +1,103 @@
+//! What is seen of a message.
+
+use crate::whole::Whole;
+use std::alloc::{AllocError, Allocator, Global};
+use std::fmt::Debug;
+use tc_wire::{Emitable, Res, TcActionMessage, TcMessage};
+
+/// What the calls of a message return.
+#[derive(Drop)]
+pub struct Seen {
+    /// The message as `Debug` shows it.
+    pub text: String,
+    /// The bytes that are emitted, if it fits.
+    pub emitted: Option<Vec<u8>>,
+    /// What these bytes are parsed as, or their fault, as `Debug` shows it; empty if it doesn't fit.
+    pub again: String,
+    /// True if the emitted bytes are parsed as the message itself.
+    pub reads_back: bool,
+    /// What `is_settled` returns.
+    pub is_settled: bool,
+    /// True if a clone is equal to the message.
+    pub is_cloned: bool,
+}
+
+impl Seen {
+    /// True if these bytes are emitted.
+    pub fn is_emitted_as(&self, bytes: &[u8]) -> bool {
+        match &self.emitted {
+            Some(emitted) => emitted.as_slice() == bytes,
+            None => false,
+        }
+    }
+}
+
+/// The bytes of a message, if it fits. It is emitted to a longer buffer, whose other bytes stay.
+pub fn emitted<A: Allocator, M: Emitable>(
+    alloc: A,
+    message: &M,
+) -> Result<Option<Vec<u8, A>>, AllocError> {
+    if !message.fits() {
+        return Ok(None);
+    }
+    let len = message.buffer_len();
+    let mut bytes = vec![in alloc; 0x55; len.saturating_add(4)]?;
+    message.emit(&mut bytes);
+    if bytes.get(len..) != Some(&[0x55; 4]) {
+        return Ok(None);
+    }
+    bytes.truncate(len);
+    Ok(Some(bytes))
+}
+
+// What bytes are parsed as, as text, and whether that is the message.
+fn parsed_again<M: Whole<Global> + Debug + Drop>(
+    alloc: Global,
+    message: &M,
+    bytes: &[u8],
+) -> Result<(String, bool), AllocError> {
+    match M::parse(alloc, bytes) {
+        Ok(again) => Ok((format!(in alloc; "{again:?}")?, again == *message)),
+        Err(fault) => Ok((format!(in alloc; "{fault:?}")?, false)),
+    }
+}
+
+fn see<M: Whole<Global> + Debug + Drop>(alloc: Global, message: &M) -> Result<Seen, AllocError> {
+    let emitted = emitted(alloc, message)?;
+    let (again, reads_back) = match &emitted {
+        Some(bytes) => parsed_again(alloc, message, bytes)?,
+        None => (String::new(alloc), false),
+    };
+    Ok(Seen {
+        text: format!(in alloc; "{message:?}")?,
+        emitted,
+        again,
+        reads_back,
+        is_settled: message.reads_back(),
+        is_cloned: message.copied()? == *message,
+    })
+}
+
+fn read<M: Whole<Global> + Debug + Drop>(alloc: Global, bytes: &[u8]) -> Res<Seen> {
+    Ok(see(alloc, &M::parse(alloc, bytes)?)?)
+}
+
+/// What is seen of a traffic control message.
+pub fn see_tc(alloc: Global, message: &TcMessage) -> Result<Seen, AllocError> {
+    see(alloc, message)
+}
+
+/// What is seen of the traffic control message that bytes are parsed as, or their fault.
+pub fn read_tc(alloc: Global, bytes: &[u8]) -> Res<Seen> {
+    read::<TcMessage>(alloc, bytes)
+}
+
+/// What is seen of an action message.
+pub fn see_action(alloc: Global, message: &TcActionMessage) -> Result<Seen, AllocError> {
+    see(alloc, message)
+}
+
+/// What is seen of the action message that bytes are parsed as, or their fault.
+pub fn read_action(alloc: Global, bytes: &[u8]) -> Res<Seen> {
+    read::<TcActionMessage>(alloc, bytes)
+}
