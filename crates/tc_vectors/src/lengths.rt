@@ -56,10 +56,11 @@ fn length_of(alloc: Global, rates: &[usize]) -> Result<Option<usize>, AllocError
     for length in rates {
         message = with(message, rate(alloc, *length))?;
     }
-    Ok(match see_tc(alloc, &message)?.emitted {
-        Some(bytes) => Some(bytes.len()),
-        None => None,
-    })
+    let seen = see_tc(alloc, &message)?;
+    match &seen.emitted {
+        Some(bytes) => Ok(Some(bytes.len())),
+        None => Ok(None),
+    }
 }
 
 #[test]
