@@ -30,6 +30,7 @@ ghost use Rattle.tc_records.specs.FilterFlags.{bpf_flags_word, bpf_flags_table, 
 
 pub mod equal;
 pub mod in_hand;
+pub mod selectors;
 
 use crate::actions::action::{TcActionGeneric, TcActionType};
 use crate::actions::header::TcActionMessageHeader;
