@@ -29,8 +29,8 @@ pub fn cutting(bytes: &[u8])
 /// Reading a list is the grammar of lists, whatever its elements are and whichever frames set a kind. `read_list`
 /// gives values if and only if the bytes are frames of which each reads as its value under the kind in force at its
 /// place: the text that was set last before it. It gives a fault if and only if, after frames that can be read, comes a
-/// broken frame or one that is refused, with this fault. So all bytes have one reading and no fault, or no reading and
-/// one fault.
+/// broken frame or one that has no reading, with this fault. So all bytes have one reading and no fault, or no reading
+/// and one fault.
 pub fn list_grammar<T: FrameMeaning>(bytes: &[u8], kind: &str)
     ensures { (sets : Sets Frame)
         → HasOneOutcome T.codec.read sets kind.now bytes.now

@@ -1,4 +1,4 @@
--- What a call tells by its status, and by what it wrote, of the bytes that it was given.
+-- What the status of a call, and what it wrote, say of the bytes that it was given.
 use Rattle.std.specs.Prelude.{◌≡◌, ◌⊎◌, ◌↔◌, ℕ, Bool, List, ◌<◌, IsTrue, All, length}
 use Rattle.tc_wire.specs.Facade.{DecodeError, Message, Writes}
 use Rattle.tc_bench.specs.Words.{Words}

@@ -242,4 +242,5 @@ module _ (k : List ℕ) (f : Frame) (n : ℕ) (is : n ≡ type_of f.word) where
   -- an option of an unknown type
   pub other-decides : (n ≡ 2 → ⊥) → (n ≡ 3 → ⊥) → (n ≡ 68 → ⊥) → (n ≡ 69 → ⊥) → (n ≡ 70 → ⊥) → (n ≡ 99 → ⊥) → None ≡ width_at flower_options n
       → IsTrue true ↔ CanonRows flower_options (type_of f.word) k f
-  other-decides a b c d e g none = (λ t. rw (← is) (unlisted-canon flower_options n k f (other-unlisted flower_options n (sym none) (special n a b c d e g))), λ p. refl)
+  other-decides a b c d e g none =
+      (λ t. rw (← is) (unlisted-canon flower_options n k f (other-unlisted flower_options n (sym none) (special n a b c d e g))), λ p. refl)

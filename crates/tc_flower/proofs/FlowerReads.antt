@@ -16,7 +16,8 @@ use Rattle.tc_flower.specs.Reading.{flower_read}
 use Rattle.tc_flower.proofs.Spans.{class_read, spans_read}
 use Rattle.tc_values.proofs.Unread.{rows_kept}
 
-seen_twice : {X : Type 0} (after : Content → Attribute) (into : X → Content) (r : Outcome X) → seen after (seen into r) ≡ seen (λ x. after (into x)) r
+seen_twice : {X : Type 0} (after : Content → Attribute) (into : X → Content) (r : Outcome X)
+    → seen after (seen into r) ≡ seen (λ x. after (into x)) r
 seen_twice after into (Ok x) = refl
 seen_twice after into (Err e) = refl
 
@@ -24,31 +25,39 @@ seen_twice after into (Err e) = refl
 
 module _ (class : Class) {X : Type 0} (into : X → Content) (read : List ℕ → Outcome X)
     (reads : (v : List ℕ) → (class_codec class).read [] v ≡ seen into (read v)) where
-  by_class : (f : Frame) → IsTrue (holds class flower_options (type_of f.word)) → flower_read f ≡ seen (λ x. known (type_of f.word) (into x)) (read f.value)
+  by_class : (f : Frame) → IsTrue (holds class flower_options (type_of f.word))
+    → flower_read f ≡ seen (λ x. known (type_of f.word) (into x)) (read f.value)
   unfolding flower_read
   by_class f here =
       let n = type_of f.word in
       class_read class flower_options 0 n refl here [] f ∙ ap (seen (known n)) (reads f.value) ∙ seen_twice (known n) into (read f.value)
 
-pub mac_read : (f : Frame) → IsTrue (holds (array 6) flower_options (type_of f.word)) → flower_read f ≡ seen (λ x. known (type_of f.word) (is_bytes x)) (exactly 6 f.value)
+pub mac_read : (f : Frame) → IsTrue (holds (array 6) flower_options (type_of f.word))
+    → flower_read f ≡ seen (λ x. known (type_of f.word) (is_bytes x)) (exactly 6 f.value)
 mac_read = by_class (array 6) is_bytes (exactly 6) (λ v. refl)
 
-pub ipv4_read : (f : Frame) → IsTrue (holds (array 4) flower_options (type_of f.word)) → flower_read f ≡ seen (λ x. known (type_of f.word) (is_bytes x)) (exactly 4 f.value)
+pub ipv4_read : (f : Frame) → IsTrue (holds (array 4) flower_options (type_of f.word))
+    → flower_read f ≡ seen (λ x. known (type_of f.word) (is_bytes x)) (exactly 4 f.value)
 ipv4_read = by_class (array 4) is_bytes (exactly 4) (λ v. refl)
 
-pub u8_read : (f : Frame) → IsTrue (holds (le 1) flower_options (type_of f.word)) → flower_read f ≡ seen (λ x. known (type_of f.word) (number x)) (le_number 1 f.value)
+pub u8_read : (f : Frame) → IsTrue (holds (le 1) flower_options (type_of f.word))
+    → flower_read f ≡ seen (λ x. known (type_of f.word) (number x)) (le_number 1 f.value)
 u8_read = by_class (le 1) number (le_number 1) (λ v. refl)
 
-pub u16_read : (f : Frame) → IsTrue (holds (le 2) flower_options (type_of f.word)) → flower_read f ≡ seen (λ x. known (type_of f.word) (number x)) (le_number 2 f.value)
+pub u16_read : (f : Frame) → IsTrue (holds (le 2) flower_options (type_of f.word))
+    → flower_read f ≡ seen (λ x. known (type_of f.word) (number x)) (le_number 2 f.value)
 u16_read = by_class (le 2) number (le_number 2) (λ v. refl)
 
-pub u16_be_read : (f : Frame) → IsTrue (holds (be 2) flower_options (type_of f.word)) → flower_read f ≡ seen (λ x. known (type_of f.word) (number x)) (be_number 2 f.value)
+pub u16_be_read : (f : Frame) → IsTrue (holds (be 2) flower_options (type_of f.word))
+    → flower_read f ≡ seen (λ x. known (type_of f.word) (number x)) (be_number 2 f.value)
 u16_be_read = by_class (be 2) number (be_number 2) (λ v. refl)
 
-pub u32_read : (f : Frame) → IsTrue (holds (le 4) flower_options (type_of f.word)) → flower_read f ≡ seen (λ x. known (type_of f.word) (number x)) (le_number 4 f.value)
+pub u32_read : (f : Frame) → IsTrue (holds (le 4) flower_options (type_of f.word))
+    → flower_read f ≡ seen (λ x. known (type_of f.word) (number x)) (le_number 4 f.value)
 u32_read = by_class (le 4) number (le_number 4) (λ v. refl)
 
-pub u32_be_read : (f : Frame) → IsTrue (holds (be 4) flower_options (type_of f.word)) → flower_read f ≡ seen (λ x. known (type_of f.word) (number x)) (be_number 4 f.value)
+pub u32_be_read : (f : Frame) → IsTrue (holds (be 4) flower_options (type_of f.word))
+    → flower_read f ≡ seen (λ x. known (type_of f.word) (number x)) (be_number 4 f.value)
 u32_be_read = by_class (be 4) number (be_number 4) (λ v. refl)
 
 pub ipv6_read : (f : Frame) → IsTrue (holds (array 16) flower_options (type_of f.word) && not (are_labels (type_of f.word)))

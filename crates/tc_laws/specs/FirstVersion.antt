@@ -19,7 +19,7 @@ use Rattle.tc_meaning.specs.Message.{Message, ReadsBy, FaultBy, read_by}
 abbrev pub are_unknown_options : List ℕ → ℕ → Bool
 are_unknown_options kind word = type_of word == 2 && not (is_known option_kinds kind)
 
--- options that are this one option alone, as it stands
+-- options that are this one option alone, kept raw
 abbrev pub lone_option : ℕ → List ℕ → Attribute
 lone_option word value = known 2 (items (and (other word value) none))
 

@@ -20,7 +20,7 @@ pub data Part : Type 0 where
 
 -- ---- the parts of a value
 
--- of a content that stands under a type; what is kept as it stands has none
+-- of the content of an attribute of a type; what is kept raw has none
 abbrev pub parts_in_known : (ℕ → Content → List Part) → Attribute → List Part
 parts_in_known parts (known n content) = parts n content
 parts_in_known parts x = []

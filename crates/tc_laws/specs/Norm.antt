@@ -17,7 +17,7 @@ use Rattle.tc_laws.specs.Loose.{without_nuls}
 abbrev pub on : {X : Type 0} → Shape X → (X → X) → Content → Content
 on shape change x = shape.into (change (shape.out x))
 
--- of a content that stands under a type; what is kept as it stands stays
+-- of the content of an attribute of a type; what is kept raw stays
 abbrev pub in_known : (ℕ → Content → Content) → Attribute → Attribute
 in_known change (known n content) = known n (change n content)
 in_known change x = x

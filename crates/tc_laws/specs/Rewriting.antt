@@ -37,7 +37,7 @@ module _ (w : Words Message) where
 
   -- what rewriting promises of any bytes: what is loose, the norm, and after how many rewrites bytes that aren't canonical are so
   pub record Rewriting (is_loose : Message → Bool) (norm : Message → Message) (count : Message → ℕ) (bytes : List ℕ) : Type 0 where
-    -- what is read is unsettled exactly if it is loose
+    -- what is read is unsettled if and only if it is loose
     pub loose : (m : Message) → w.Reads bytes m → w.Settled m ↔ (is_loose m ≡ false)
     -- the norm can be written and read back where the message fits, and is the message itself where the bytes are canonical
     pub norm_typed : (m : Message) → w.Typed m → w.Typed (norm m)

@@ -6,7 +6,7 @@ use Rattle.tc_meaning.specs.Tree.{other}
 use Rattle.tc_meaning.specs.Message.{Message}
 use Rattle.tc_laws.specs.Order.{InFull}
 
--- the type stands in no row
+-- the type is in no row
 abbrev pub is_outside : ℕ → Rows → Bool
 is_outside n others = true
 is_outside n (types first last flags class rows) = not (is_within first last n) && is_outside n rows
@@ -22,7 +22,7 @@ abbrev pub with_other : ℕ → Frame → Message → Message
 with_other n f m = record { header = m.header; body = put_in n (other f.word f.value) m.body }
 
 -- the bytes read as this message, and where they are a header of this size and frames that are padded in full, they may have one
--- frame more of a type outside the table, anywhere: it is kept there as it stands, and all else reads as before
+-- frame more of a type outside the table, anywhere: it is kept raw there, and all else reads as before
 abbrev pub TakesUnknown : ℕ → Rows → (List ℕ → Message → Type 0) → List ℕ → Message → Type 0
 TakesUnknown size rows ReadsAs bytes m =
     (head front one back : List ℕ) (fs : List Frame) (f : Frame) (gs : List Frame)

@@ -39,7 +39,7 @@ pub fn order_in_an_action()
 {}
 
 /// A frame of a type that the message's table doesn't have can be put at any place among the attributes of either
-/// message, where all of them are padded in full: it is read there as it stands, and all else is read as before.
+/// message, where all of them are padded in full: it is kept raw there, and all else is read as before.
 pub fn unknown_types()
     ensures tc { KeepsUnknown 20 attributes ReadsTc }
     ensures action { KeepsUnknown 4 action_message_attributes ReadsAct }

@@ -27,7 +27,7 @@ pub fn tc_step(bytes: &[u8])
 {}
 
 /// One rewrite of an action message: its bytes read as the message with one NUL less at the end of each warning. They
-/// are canonical exactly if there was none.
+/// are canonical if and only if there was none.
 pub fn action_step(bytes: &[u8])
     ensures reads { (m : Message) → ReadsAct bytes.now m → FitsAct m
         → ReadsAct (act_bytes m) (next_act m) }
@@ -39,7 +39,7 @@ pub fn action_step(bytes: &[u8])
         → CanonAct (act_bytes m) ↔ (nuls_act m ≡ 0) }
 {}
 
-/// Two byte lists become the same canonical bytes by rewriting exactly if their readings have the same norm.
+/// Two byte lists become the same canonical bytes by rewriting if and only if their readings have the same norm.
 pub fn tc_same_norm(first: &[u8], second: &[u8])
     ensures { (m n : Message) (c d : List ℕ) → Ends tc_words first.now m c
         → Ends tc_words second.now n d → (c ≡ d) ↔ (norm_tc m ≡ norm_tc n) }
@@ -51,7 +51,7 @@ pub fn action_same_norm(first: &[u8], second: &[u8])
         → Ends action_words second.now n d → (c ≡ d) ↔ (norm_act m ≡ norm_act n) }
 {}
 
-/// Settled messages that fit are equal exactly if their bytes are.
+/// Settled messages that fit are equal if and only if their bytes are.
 pub fn same_bytes()
     ensures tc { (m n : Message) → TypedTc m → FitsTc m → SettledTc m → TypedTc n → FitsTc n
         → SettledTc n → (m ≡ n) ↔ (tc_bytes m ≡ tc_bytes n) }

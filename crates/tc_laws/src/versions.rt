@@ -1,5 +1,5 @@
 //! The laws between version 1 of a traffic control message and version 2, which keeps options under an unknown kind
-//! as they stand.
+//! raw.
 
 ghost use Rattle.std.specs.Prelude.{◌≡◌, ◌⊎◌, ◌↔◌, ℕ, List, Ok, Err};
 ghost use Rattle.nla_frames.specs.declared.error.DecodeError.{DecodeError};
@@ -8,8 +8,8 @@ ghost use Rattle.tc_meaning.specs.Message.{Message};
 ghost use Rattle.tc_meaning.specs.Whole.{ReadsTc, FaultTc, TypedTc, FitsTc, SettledTc};
 ghost use Rattle.tc_laws.specs.FirstVersion.{ReadsTc1, FaultTc1, read_tc1, upgrade_attribute, upgrade, WasRead, IsUpgrade};
 
-/// Bytes as both versions read them. Version 1 gives a message exactly if its grammar reads it so, and a fault exactly if
-/// that is its grammar's; what it reads is typed. What version 1 reads, version 2 reads as the upgrade of that; what
+/// Bytes as both versions read them. Version 1 gives a message if and only if its grammar reads it so, and a fault if
+/// and only if that is its grammar's; what it reads is typed. What version 1 reads, version 2 reads as the upgrade of that; what
 /// version 2 reads is the upgrade of what version 1 reads, and its own upgrade. The faults are the same.
 pub fn both_readings(bytes: &[u8])
     ensures reading { (m : Message) → (read_tc1 bytes.now ≡ Ok m) ↔ ReadsTc1 bytes.now m }
@@ -23,9 +23,9 @@ pub fn both_readings(bytes: &[u8])
 {}
 
 /// The upgrade of any message: at each place it is that of the attribute under the kind in force there, and no other
-/// message is. An attribute stays as it is unless version 1 reads it of a frame, which version 2 then reads as its
-/// upgrade. The upgrade is its own upgrade; it is typed and fits where the message is and does; and what is settled
-/// stays as it is.
+/// message is. An attribute is left unchanged unless version 1 reads it of a frame, which version 2 then reads as its
+/// upgrade. The upgrade is its own upgrade; it is typed where the message is, and fits where the message does; what
+/// is settled is left unchanged.
 pub fn upgrading()
     ensures each { (kind : List ℕ) (x : Attribute)
         → (upgrade_attribute kind x ≡ x) ⊎ WasRead kind x }

@@ -60,7 +60,7 @@ le_codec n = plainly (le_number n) (le_bytes n) (IsNumber n) always
 abbrev pub be_codec : ℕ → Codec (List ℕ) ℕ
 be_codec n = plainly (be_number n) (be_bytes n) (IsNumber n) always
 
--- read as it stands, written without the bits above the mask
+-- read whole, written without the bits above the mask
 abbrev pub masked_codec : ℕ → ℕ → Codec (List ℕ) ℕ
 masked_codec n bits = plainly (le_number n) (λ x. le_bytes n (x % 2 ^ bits)) (IsNumber n) (λ x. x < 2 ^ bits)
 
@@ -140,7 +140,7 @@ a_selector = record { into = λ s. keyed s.head s.keys; out = selector_in }
     selector_in (keyed head keys) = record { head = head; keys = keys }
     selector_in _ = record { head = []; keys = [] }
 
--- the number of keys that stands in a head
+-- the number of keys that a head has
 abbrev pub key_count : List Scalar → ℕ
 key_count (flags ∷ offshift ∷ plain nkeys ∷ rest) = nkeys
 key_count _ = 0

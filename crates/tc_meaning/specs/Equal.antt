@@ -1,4 +1,4 @@
--- What it is that `==` tells whether contracts see two values as equal; and that test for fields, attributes and messages.
+-- `==` as a test of whether contracts see two values as equal; and that test for fields, attributes and messages.
 use Rattle.std.proofs.Common.{◌≡◌, ◌↔◌, ◌&&◌, ℕ, Bool, true, false, IsTrue, List, [], ◌∷◌, map, nat_eq, refl, ap, subst}
 use Rattle.std.specs.Bool.{Decides}
 use Rattle.std.specs.Ordering.{on}
@@ -11,7 +11,7 @@ use Rattle.tc_meaning.specs.Message.{Message}
 use Rattle.tc_meaning.specs.Tree.{Scalar, plain, unnamed, octets_of, blank, Content, number, is_bytes, flag, record_of, keyed, statistics, unknown_statistics}
 use Rattle.tc_meaning.specs.Tree.{items, Attribute, known, kept, other, of_kind, Attributes, none, and, attributes_of}
 
--- `==` of two values is true exactly if contracts see them as equal
+-- `==` of two values is true if and only if contracts see them as equal
 abbrev pub TellsSeen : {T X : Type 0} → (T → T → Bool) → (T → X) → Type 0
 TellsSeen {T} eq see = (a b : T) → IsTrue (eq a b) ↔ see a ≡ see b
 

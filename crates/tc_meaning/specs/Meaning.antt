@@ -20,13 +20,13 @@ a_list = record { into = λ xs. items (attributes_of xs); out = list_in }
     list_in (items xs) = list_of_attributes xs
     list_in _ = []
 
--- the frame of an attribute that stands as it is, and of any other whose type is in no row
+-- the frame of an attribute that is kept raw, and of any other whose type is in no row
 abbrev pub as_it_stands : Attribute → Frame
 as_it_stands (other word value) = record { word = word; value = value }
 as_it_stands (kept n word value) = record { word = word; value = value }
 as_it_stands _ = record { word = 0; value = [] }
 
--- any value in hand that stands as it is
+-- any value in hand that is kept raw
 abbrev pub IsRaw : ℕ → List ℕ → Type 0
 IsRaw word value = (word < 2 ^ 16) × IsBytes value
 
@@ -43,7 +43,7 @@ short c = record {
   Settled = c.Settled;
 }
 
--- every type is kept as it stands
+-- every type is kept raw
 abbrev pub raw_frames : Codec Frame Attribute
 raw_frames = record {
   read = λ k f. Ok (other f.word f.value);
@@ -57,7 +57,7 @@ raw_frames = record {
     TypedRaw (other word value) = IsRaw word value
     TypedRaw _ = ⊥
 
--- a row: one type with its word and its class; what stands there as it is isn't of this row
+-- a row: one type with its word and its class; an attribute that is kept raw isn't of this row
 abbrev pub row_frames : ℕ → ℕ → Codec (List ℕ) Content → Codec Frame Attribute
 row_frames word n c = record {
   read = λ k f. seen (known n) (c.read k f.value);
@@ -124,7 +124,7 @@ options_frames n kinds c = record {
     SettledOptions k (kept m word value) = (is_known kinds k ≡ false) × (type_of word ≡ n)
     SettledOptions k _ = ⊥
 
--- a type that is written and never read: what stands there in bytes is kept as it stands
+-- a type that is written and never read: in bytes it is kept raw
 abbrev pub unread_frames : ℕ → Codec (List ℕ) Content → Codec Frame Attribute
 unread_frames n c = record {
   read = λ k f. Ok (other f.word f.value);
@@ -141,7 +141,7 @@ unread_frames n c = record {
     SettledUnread k (other word value) = Unit {0}
     SettledUnread k _ = ⊥
 
--- every type means the same, and the attribute stands under the type that was read; its word is written whole
+-- every type means the same, and the attribute keeps the type that was read; its word is written whole
 abbrev pub every_frame : Codec (List ℕ) Content → Codec Frame Attribute
 every_frame c = record {
   read = λ k f. seen (known (type_of f.word)) (c.read k f.value);

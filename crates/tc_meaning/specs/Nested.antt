@@ -15,7 +15,7 @@ use Rattle.tc_meaning.specs.Meaning.{class_codec, table_codec}
 abbrev pub Holds : (List Attribute → Type 0) → Content → Type 0
 Holds Reads content = (xs : List Attribute) × (content ≡ items (attributes_of xs)) × Reads xs
 
--- a value is given exactly if it is a list that reads so, and a fault exactly if it is this one
+-- a value is given if and only if it is a list that reads so, and a fault if and only if it is this one
 pub record GivesList (Reads : List Attribute → Type 0) (Fault : DecodeError → Type 0) (outcome : Outcome Content) : Type 0 where
   pub reading : (content : Content) → (outcome ≡ Ok content) ↔ Holds Reads content
   pub fault : (e : DecodeError) → (outcome ≡ Err e) ↔ Fault e
@@ -29,7 +29,7 @@ ReadsNested t kind bytes =
     (IsListFault (table_codec t).read keep kind bytes)
     ((class_codec (list_of t)).read kind bytes)
 
--- a list that tells its own kind: every frame of type 1 has a text, there is one such frame, and each frame is read by
+-- a list that holds its own kind: every frame of type 1 has a text, there is one such frame, and each frame is read by
 -- the rows under its text; or the first fault: of a broken frame or of a text, of no kind or of several, of a frame
 -- that is refused. The kind around the list doesn't matter
 abbrev pub ReadsOwn : Rows → List ℕ → List ℕ → Type 0

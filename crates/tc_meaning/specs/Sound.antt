@@ -34,7 +34,7 @@ abbrev mutual
   is_sound_table (every class) = is_sound_class class
   is_sound_table (by_kind kinds) = is_sound_kinds kinds
 
-  -- types and flags lie in their bits, and a type that is never read stands in no other row
+  -- types and flags lie in their bits, and a type that is never read is in no other row
   pub is_sound_rows : Rows → Bool
   is_sound_rows others = true
   is_sound_rows (types first last flags class rows) = is_type last && (are_flags flags && (is_sound_class class && is_sound_rows rows))

@@ -1,4 +1,4 @@
--- The values that contracts see: what stands in a message, without where it lies in memory.
+-- The values that contracts see: what is in a message, without where it lies in memory.
 use Rattle.std.specs.Prelude.{ℕ, Bool, List, [], ◌∷◌}
 use Rattle.nla_frames.specs.Frame.{type_of}
 
@@ -51,7 +51,7 @@ abbrev pub list_of_attributes : Attributes → List Attribute
 list_of_attributes none = []
 list_of_attributes (and x xs) = x ∷ list_of_attributes xs
 
--- the type that an attribute stands under in its table
+-- the type that an attribute has in its table
 abbrev pub number_of : Attribute → ℕ
 number_of (known n content) = n
 number_of (kept n word value) = n

@@ -48,15 +48,16 @@ words_of by_frame by_value layout rows Canonical = record {
 
 -- what these words promise of one another, over any bytes
 pub record Correspond {X : Type 0} (w : Words X) (bytes : List ℕ) : Type 0 where
-  -- reading gives a message exactly if the grammar reads it so, and a fault exactly if that is the grammar's first, which is never that memory ran out
+  -- reading gives a message if and only if the grammar reads it so, and a fault if and only if that is the grammar's
+  -- first, which is never that memory ran out
   pub reading : (m : X) → (w.read bytes ≡ Ok m) ↔ w.Reads bytes m
   pub fault : (e : DecodeError) → (w.read bytes ≡ Err e) ↔ w.Fault bytes e
   pub not_memory : w.Fault bytes OutOfMemory → ⊥
   -- what is read has its numbers in their types, and UTF-8 for texts
   pub typed : (m : X) → w.Reads bytes m → w.Typed m
-  -- a message that fits is written as bytes that read as it exactly if it is settled
+  -- a message that fits is written as bytes that read as it if and only if it is settled
   pub back : (m : X) → w.Typed m → w.Fits m → w.Reads (w.bytes m) m ↔ w.Settled m
-  -- a message that was read and fits is written as the same bytes exactly if they are canonical
+  -- a message that was read and fits is written as the same bytes if and only if they are canonical
   pub same : (m : X) → w.Reads bytes m → w.Fits m → (w.bytes m ≡ bytes) ↔ w.Canonical bytes
   -- canonical bytes read as a settled message that fits, the bytes of such a message are canonical, and the same bytes are of the same message
   pub canonical : w.Canonical bytes → (m : X) × w.Reads bytes m × w.Fits m × w.Settled m

@@ -27,7 +27,7 @@ ghost use Rattle.tc_meaning.specs.Whole.{Correspond, tc_words, action_words, Fit
 
 use nla_frames::FrameMeaning;
 
-/// A traffic control message: reading is the grammar, what fits reads back exactly if it is settled, and settled
+/// A traffic control message: reading is the grammar, what fits reads back if and only if it is settled, and settled
 /// messages that fit and canonical bytes correspond one to one.
 pub fn tc_message(bytes: &[u8])
     ensures { Correspond tc_words bytes.now }
@@ -38,37 +38,37 @@ pub fn action_message(bytes: &[u8])
     ensures { Correspond action_words bytes.now }
 {}
 
-/// A test tells of every message whether it fits.
+/// Whether a message fits can be decided.
 pub fn fits_or_not()
     ensures tc { (m : Message) → (fits : Bool) × (IsTrue fits ↔ FitsTc m) }
     ensures action { (m : Message) → (fits : Bool) × (IsTrue fits ↔ FitsAct m) }
 {}
 
-/// A test tells of every message whether it is settled.
+/// Whether a message is settled can be decided.
 pub fn settled_or_not()
     ensures tc { (m : Message) → (settled : Bool) × (IsTrue settled ↔ SettledTc m) }
     ensures action { (m : Message) → (settled : Bool) × (IsTrue settled ↔ SettledAct m) }
 {}
 
-/// A test tells of every two messages whether they are equal, of every two attributes, and of what two attributes hold.
+/// Whether two messages are equal can be decided, and so of two attributes, and of what two attributes hold.
 pub fn equal_or_not()
     ensures messages { (m n : Message) → Decides (same_message m n) (m ≡ n) }
     ensures attributes { (x y : Attribute) → Decides (same_attribute x y) (x ≡ y) }
     ensures contents { (x y : Content) → Decides (same_content x y) (x ≡ y) }
 {}
 
-/// A list of frames that tell their kind themselves, as an action is. `read_own` gives values exactly if every frame
-/// of type 1 has a text, there is one such frame, and the frames are read under its text; it gives a fault exactly
-/// if that is the first: of a broken frame or of a text, of no kind or of several, of a frame that is refused.
+/// A list of frames that hold their own kind, as an action is. `read_own` gives values if and only if every frame of
+/// type 1 has a text, there is one such frame, and the frames are read under its text; it gives a fault if and only if
+/// that is the first: of a broken frame or of a text, of no kind or of several, of a frame that has no reading.
 pub fn own_grammar<T: FrameMeaning>(bytes: &[u8])
     ensures { OneOwn T.codec.read bytes.now (read_own T.codec.read bytes.now) }
 {}
 
-/// Reading and writing are inverses for every class and every table that passes its test: what fits reads back exactly if
-/// it is settled, and what is read and fits is written as it was exactly if it was canonical. All tables pass their test.
-/// Of the value of a nested list, of whatever table, is read what the grammar of lists says, and so of a list that tells
-/// its own kind. A message's options are a list of its kind's table under a known kind, and kept as they stand under
-/// any other.
+/// Reading and writing are inverses for every class and every table that passes its test: what fits reads back if and
+/// only if it is settled, and what is read and fits is written as it was if and only if it was canonical. All tables pass
+/// their test. The value of a nested list, of whatever table, reads as the grammar of lists says, and so does a list that
+/// holds its own kind. A message's options are a list of its kind's table under a known kind, and kept raw under any
+/// other.
 pub fn tables()
     ensures classes { (c : Class) → is_sound_class c ≡ true
         → Laws IsWireValue (short (class_codec c)) (CanonClass c) }

@@ -14,7 +14,7 @@ UpgradesAs told x y = (kind : List ℕ) → told ≡ is_known option_kinds kind 
 abbrev pub KnownAfter : Bool → Option (List ℕ) → Bool → Type 0
 KnownAfter told set then = (kind : List ℕ) → told ≡ is_known option_kinds kind → then ≡ is_known option_kinds (unwrap_or set kind)
 
--- an option as it stands, of the type of options
+-- an option that is kept raw, of the type of options
 abbrev pub is_raw : Attribute → Bool
 is_raw (other word value) = type_of word == 2
 is_raw _ = false
@@ -28,6 +28,6 @@ is_lone _ = false
 abbrev pub options_of : List Attribute → Attribute
 options_of xs = known 2 (items (attributes_of xs))
 
--- it isn't kept as it stands
+-- it isn't kept raw
 abbrev pub IsRead : Attribute → Type 0
 IsRead x = (word : ℕ) (value : List ℕ) → x ≡ other word value → ⊥

@@ -176,7 +176,9 @@ family_names = codes "Unspec" ∷ codes "Unix" ∷ codes "Inet" ∷ codes "Bridg
 
 -- `TcActionType`, in the order of their numbers in the tables
 abbrev pub action_type_names : List (List ℕ)
-action_type_names = codes "Unspec" ∷ codes "Ok" ∷ codes "Reclassify" ∷ codes "Shot" ∷ codes "Pipe" ∷ codes "Stolen" ∷ codes "Queued" ∷ codes "Repeat" ∷ codes "Redirect" ∷ codes "Trap" ∷ []
+action_type_names =
+    codes "Unspec" ∷ codes "Ok" ∷ codes "Reclassify" ∷ codes "Shot" ∷ codes "Pipe" ∷ codes "Stolen" ∷ codes "Queued"
+    ∷ codes "Repeat" ∷ codes "Redirect" ∷ codes "Trap" ∷ []
 
 -- `TcMirrorActionType`, in the order of their numbers in the tables
 abbrev pub mirror_type_names : List (List ℕ)

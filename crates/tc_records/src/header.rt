@@ -225,7 +225,7 @@ impl FixedRecord<TC_HEADER_LEN> for TcHeader {
 }
 
 impl TcHeader {
-    /// The index that stands for a block of filters in place of an interface.
+    /// The index that means a block of filters in place of an interface.
     pub const TCM_IFINDEX_MAGIC_BLOCK: u32 = 0xFFFF_FFFF;
 
     /// The header that bytes begin with; what follows is dropped, and fewer bytes are `BufferTooSmall`.

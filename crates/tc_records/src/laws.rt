@@ -30,6 +30,7 @@ ghost use Rattle.tc_records.specs.FilterFlags.{bpf_flags_word, bpf_flags_table, 
 
 pub mod equal;
 pub mod in_hand;
+pub mod selectors;
 
 use crate::actions::action::{TcActionGeneric, TcActionType};
 use crate::actions::header::TcActionMessageHeader;
@@ -48,9 +49,9 @@ use nla_frames::AddressFamily;
 use std::cmp::Ordering;
 use std::hash::{Hash, Hasher};
 
-/// A record of any layout. Its bytes read as it exactly if it is settled; and bytes that are read as a record are its
-/// bytes exactly if they are as long as the record and their padding is zero. Such bytes are read, as a settled record,
-/// and the bytes of a settled record are such.
+/// A record of any layout. Its bytes read as it if and only if it is settled; and bytes that are read as a record are its
+/// bytes if and only if they are as long as the record and their padding is zero. Such bytes are read, as a settled
+/// record, and the bytes of a settled record are such.
 pub fn records(bytes: &[u8])
     ensures back { (layout : List Field) (xs : List Scalar) → TypedFields layout xs
         → (read_record layout (fields_bytes layout xs) ≡ Ok xs) ↔ SettledFields layout xs }
@@ -70,7 +71,7 @@ pub fn handle_numbers()
     ensures handle { (h : TcHandle) → h.minor < 0x10000 → handle_of (handle_number h) ≡ h }
 {}
 
-/// A number is the number of its name, so reading and writing one loses nothing; as a field it is named exactly if
+/// A number is the number of its name, so reading and writing one loses nothing; as a field it is named if and only if
 /// the layouts of records say so.
 pub fn action_numbers(number: i32)
     ensures outcome { action_type_number (action_type_of number) ≡ number }
@@ -99,8 +100,8 @@ pub fn flags_forget_nothing()
     ensures option { ForgetsNothing option_flags_word }
 {}
 
-/// The flags of action messages compare as their words do, by `cmp` and `partial_cmp`; they are equal exactly if they
-/// compare as `Equal`.
+/// The flags of action messages compare as their words do, by `cmp` and `partial_cmp`; they are equal if and only if
+/// they compare as `Equal`.
 pub fn message_flags_order(
     first: TcActionMessageFlags,
     second: TcActionMessageFlags,

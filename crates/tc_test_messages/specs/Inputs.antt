@@ -9,7 +9,7 @@ abbrev pub header_len : Form → ℕ
 header_len Tc = 20
 header_len Action = 4
 
--- a header of zeros, and what stands behind it
+-- a header of zeros, and what follows it
 abbrev pub behind_zeros : Form → List ℕ → List ℕ
 behind_zeros form body = replicate (header_len form) 0 ++ body
 

@@ -23,7 +23,7 @@ pub const TC_NAT_LEN: usize = 36;
 
 const NOWHERE: Ipv4Addr = Ipv4Addr::UNSPECIFIED;
 
-/// A translation of addresses, `struct tc_nat` of `linux/tc_act/tc_nat.h`. An address stands as its four bytes; numbers
+/// A translation of addresses, `struct tc_nat` of `linux/tc_act/tc_nat.h`. An address is its four bytes; numbers
 /// are little-endian.
 ///
 /// | Offset | Field | Type |

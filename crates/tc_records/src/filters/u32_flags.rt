@@ -11,10 +11,10 @@ impl TcU32SelectorFlags {
     /// A match ends the search: `TC_U32_TERMINAL`.
     pub const Terminal: TcU32SelectorFlags = TcU32SelectorFlags(0x1);
 
-    /// The next header stands `off` bytes further: `TC_U32_OFFSET`.
+    /// The next header is `off` bytes further: `TC_U32_OFFSET`.
     pub const Offset: TcU32SelectorFlags = TcU32SelectorFlags(0x2);
 
-    /// How much further it stands is read of the packet: `TC_U32_VAROFFSET`.
+    /// How much further it is comes from the packet: `TC_U32_VAROFFSET`.
     pub const VarOffset: TcU32SelectorFlags = TcU32SelectorFlags(0x4);
 
     /// The keys that follow count from there: `TC_U32_EAT`.

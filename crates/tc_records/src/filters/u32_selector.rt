@@ -43,7 +43,7 @@ pub struct TcU32Key {
     pub mask: u32,
     /// What they are to be, big-endian.
     pub val: u32,
-    /// Where the word stands, in bytes; little-endian, as the field after it.
+    /// The offset of the word, in bytes; little-endian, as the field after it.
     pub off: i32,
     /// The bits of the offset read of the packet that count here.
     pub offmask: i32,
@@ -199,11 +199,11 @@ pub struct TcU32Selector<A: Allocator = Global> {
     pub nkeys: u8,
     /// The bits of the offset that is read of the packet, big-endian.
     pub offmask: u16,
-    /// Where the next header stands, in bytes.
+    /// The offset of the next header, in bytes.
     pub off: u16,
     /// Where in the packet its offset is read, in bytes.
     pub offoff: i16,
-    /// Where in the packet the word stands that is hashed, in bytes.
+    /// The offset in the packet of the word that is hashed, in bytes.
     pub hoff: i16,
     /// The bits of that word that are hashed, big-endian.
     pub hmask: u32,

@@ -1,4 +1,4 @@
-//! `==` says exactly whether contracts see two values as equal.
+//! `==` is true if and only if what contracts see of the two values is equal.
 
 ghost use Rattle.nla_frames.specs.DefaultNla.{kept_frame};
 ghost use Rattle.tc_records.specs.Numbers.{family_scalar};
@@ -31,7 +31,7 @@ use crate::stats::{TcStats, TcStatsBasic, TcStatsQueue};
 use nla_frames::{AddressFamily, DefaultNla};
 use std::alloc::Allocator;
 
-/// Headers and statistics are equal exactly if their fields are, padding aside.
+/// Headers and statistics are equal if and only if their fields are, padding aside.
 pub fn equal_statistics()
     ensures family { TellsSeen ⟦<AddressFamily as PartialEq>⟧.eq family_scalar }
     ensures handle { TellsSeen ⟦<TcHandle as PartialEq>⟧.eq handle_number }
@@ -45,7 +45,7 @@ pub fn equal_statistics()
     ensures class { TellsSeen ⟦<TcFqCodelClStats as PartialEq>⟧.eq cl_stats_scalars }
 {}
 
-/// Records of actions and keys of selectors are equal exactly if their fields are.
+/// Records of actions and keys of selectors are equal if and only if their fields are.
 pub fn equal_actions()
     ensures times { TellsSeen ⟦<Tcf as PartialEq>⟧.eq tcf_scalars }
     ensures outcome { TellsSeen ⟦<TcActionType as PartialEq>⟧.eq action_type_scalar }
@@ -57,8 +57,8 @@ pub fn equal_actions()
     ensures key { TellsSeen ⟦<TcU32Key as PartialEq>⟧.eq key_scalars }
 {}
 
-/// Flags are equal exactly if their words are, kept attributes if their words and bytes are, and selectors if their
-/// fields and their keys are.
+/// Flags are equal if and only if their words are, kept attributes if and only if their words and bytes are, and
+/// selectors if and only if their fields and their keys are.
 pub fn equal_words<A: Allocator>()
     ensures selected { TellsSeen ⟦<TcU32Selector<A> as PartialEq>⟧.eq selector_of }
     ensures kept { TellsSeen ⟦<DefaultNla<A> as PartialEq>⟧.eq kept_frame }

@@ -278,7 +278,8 @@ pub(crate) const TCA_FLOWER_KEY_HASH_MASK: u16 = 101;
 /// | 100, 101 | `KeyHash`, `KeyHashMask` | u32 |
 #[derive(Drop)]
 pub enum TcFilterFlowerOption<A: Allocator = Global> {
-    /// The class of matching packets, little-endian; emitted but never parsed: an attribute of this type is read as [`Self::Other`]. `TCA_FLOWER_CLASSID` of `linux/pkt_cls.h`.
+    /// The class of matching packets, little-endian; emitted but never parsed: an attribute of this type is read as
+    /// [`Self::Other`]. `TCA_FLOWER_CLASSID` of `linux/pkt_cls.h`.
     ClassId(u32),
     /// The name of the device that packets come in by: `TCA_FLOWER_INDEV`.
     InDev(String<A>),
