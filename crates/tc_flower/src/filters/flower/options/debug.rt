@@ -1,9 +1,10 @@
 //! Options as text, as a derived `Debug` shows them.
 
 use crate::filters::flower::options::TcFilterFlowerOption;
-use crate::filters::flower::options::held::{Held, name_of};
+use crate::filters::flower::options::held::Held;
 use std::alloc::Allocator;
 use std::fmt::{Debug, Formatter, Result, Write};
+use tc_names::{Table, row_at};
 
 // Writes `Name(value)`, as a derived `Debug` writes a variant with one field.
 fn variant<W: Write, T: Debug>(f: &mut Formatter<W>, name: &str, held: &T) -> Result {
@@ -13,7 +14,7 @@ fn variant<W: Write, T: Debug>(f: &mut Formatter<W>, name: &str, held: &T) -> Re
 impl<A: Allocator> Debug for TcFilterFlowerOption<A> {
     fn fmt<W: Write>(&self, f: &mut Formatter<W>) -> Result {
         let (kind, held) = self.parts();
-        let name = name_of(kind);
+        let name = row_at(Table::Flower, kind).name();
         match held {
             Held::Name(device) => variant(f, name, device),
             Held::Actions(actions) => variant(f, name, actions),
