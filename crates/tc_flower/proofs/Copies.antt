@@ -12,9 +12,9 @@ abbrev is_list : Attribute → Bool
 is_list (known n (items xs)) = true
 is_list x = false
 
-module _ {A : Type 0} {ActionCopied : TcAction A → TcAction A → Type 0} {MplsCopied : TcFilterFlowerMplsOption A → TcFilterFlowerMplsOption A → Type 0} where
-  pub plain_copied : (option : TcFilterFlowerOption A) {copy : TcFilterFlowerOption A} {x : Attribute}
-      → flower_option option ≡ x → flower_option copy ≡ x → is_list x ≡ false → IsCopy ActionCopied MplsCopied option copy
-  plain_copied (Actions actions) seen same plain = let list = ap is_list seen in absurd (cc (list, plain))
-  plain_copied (MplsOpts options) seen same plain = let list = ap is_list seen in absurd (cc (list, plain))
-  plain_copied option seen same plain = same ∙ sym seen
+module _ {A : Type 0} (ActionCopied : TcAction A → TcAction A → Type 0) (MplsCopied : TcFilterFlowerMplsOption A → TcFilterFlowerMplsOption A → Type 0)
+    (x : Attribute) (plain : is_list x ≡ false) where
+  pub plain_copied : (option copy : TcFilterFlowerOption A) → flower_option option ≡ x → flower_option copy ≡ x → IsCopy ActionCopied MplsCopied option copy
+  plain_copied (Actions actions) copy seen same = let list = ap is_list seen in absurd (cc (list, plain))
+  plain_copied (MplsOpts options) copy seen same = let list = ap is_list seen in absurd (cc (list, plain))
+  plain_copied option copy seen same = same ∙ sym seen
