@@ -1,6 +1,6 @@
 -- Known rows of the tables: for each type of each table the bytes of a value, what they are, and that the types beside them are kept as they stand.
 -- Bytes are counted from 1, so that another width, another byte order or another place of a field is seen.
-use Rattle.std.proofs.Common.{◌≡◌, ℕ, List, [], ◌∷◌, true, false, Ok, refl, map}
+use Rattle.std.proofs.Common.{◌≡◌, ℕ, List, [], ◌∷◌, ◌++◌, true, false, Ok, refl, map}
 use Rattle.std.specs.Prelude.{codes}
 use Rattle.nla_frames.specs.Fault.{Outcome}
 use Rattle.nla_frames.specs.Value.{strip}
@@ -24,9 +24,24 @@ use Rattle.tc_meaning.proofs.WorkedRows.{hex, the_kind, a_list, utf8}
 abbrev Row : Type 0
 Row = ℕ × List ℕ × Content
 
--- bytes that stand as they are
-abbrev octets_row : ℕ → List ℕ → Row
-octets_row n text = (n, hex text, is_bytes (hex text))
+-- bytes that stand as they are, and numbers of one, two and four bytes, little-endian and big-endian
+abbrev octets_row : List ℕ → ℕ → Row
+octets_row text n = (n, hex text, is_bytes (hex text))
+
+abbrev u8_row : ℕ → Row
+u8_row n = (n, hex (codes "01"), number 0x01)
+
+abbrev u16_row : ℕ → Row
+u16_row n = (n, hex (codes "0102"), number 0x0201)
+
+abbrev u16_be_row : ℕ → Row
+u16_be_row n = (n, hex (codes "0102"), number 0x0102)
+
+abbrev u32_row : ℕ → Row
+u32_row n = (n, hex (codes "01020304"), number 0x04030201)
+
+abbrev u32_be_row : ℕ → Row
+u32_be_row n = (n, hex (codes "01020304"), number 0x01020304)
 
 abbrev frame_of_row : Row → Frame
 frame_of_row (n, bytes, content) = record { word = n; value = bytes }
@@ -57,6 +72,13 @@ read_type rows n = read_in rows (frame_of_type n)
 abbrev kept_type : ℕ → Outcome Attribute
 kept_type n = Ok (other n (hex (codes "01020304")))
 
+-- a table reads these rows and writes them as they stand, and has none of these types
+abbrev Knows : Rows → List Row → List ℕ → Type 0
+Knows from rows unknown =
+    (map (read_row from) rows ≡ map (λ row. Ok (value_of_row row)) rows)
+    × (map (write_row from) rows ≡ map frame_of_row rows)
+    × (map (read_type from) unknown ≡ map kept_type unknown)
+
 -- the first 20 bytes of an action's record, counted
 abbrev counted_generic : List Scalar → List Scalar
 counted_generic fields = plain 0x04030201 ∷ plain 0x08070605 ∷ unnamed 0x0c0b0a09 ∷ plain 0x100f0e0d ∷ plain 0x14131211 ∷ fields
@@ -65,202 +87,79 @@ counted_generic fields = plain 0x04030201 ∷ plain 0x08070605 ∷ unnamed 0x0c0
 
 abbrev flower_rows : List Row
 flower_rows =
-    octets_row 4 (codes "010203040506")  -- EthDst
-    ∷ octets_row 5 (codes "010203040506")  -- EthDstMask
-    ∷ octets_row 6 (codes "010203040506")  -- EthSrc
-    ∷ octets_row 7 (codes "010203040506")  -- EthSrcMask
-    ∷ (8, hex (codes "0102"), number 0x0102)  -- EthType
-    ∷ (9, hex (codes "01"), number 0x01)  -- IpProto
-    ∷ octets_row 10 (codes "01020304")  -- Ipv4Src
-    ∷ octets_row 11 (codes "01020304")  -- Ipv4SrcMask
-    ∷ octets_row 12 (codes "01020304")  -- Ipv4Dst
-    ∷ octets_row 13 (codes "01020304")  -- Ipv4DstMask
-    ∷ octets_row 14 (codes "0102030405060708090a0b0c0d0e0f10")  -- Ipv6Src
-    ∷ octets_row 15 (codes "0102030405060708090a0b0c0d0e0f10")  -- Ipv6SrcMask
-    ∷ octets_row 16 (codes "0102030405060708090a0b0c0d0e0f10")  -- Ipv6Dst
-    ∷ octets_row 17 (codes "0102030405060708090a0b0c0d0e0f10")  -- Ipv6DstMask
-    ∷ (18, hex (codes "0102"), number 0x0102)  -- TcpSrc
-    ∷ (19, hex (codes "0102"), number 0x0102)  -- TcpDst
-    ∷ (20, hex (codes "0102"), number 0x0102)  -- UdpSrc
-    ∷ (21, hex (codes "0102"), number 0x0102)  -- UdpDst
-    ∷ (22, hex (codes "01020304"), number 0x04030201)  -- Flags
-    ∷ (23, hex (codes "0102"), number 0x0201)  -- VlanId
-    ∷ (24, hex (codes "01"), number 0x01)  -- VlanPrio
-    ∷ (25, hex (codes "0102"), number 0x0102)  -- VlanEthType
-    ∷ (26, hex (codes "01020304"), number 0x01020304)  -- EncKeyId
-    ∷ octets_row 27 (codes "01020304")  -- EncKeyIpv4Src
-    ∷ octets_row 28 (codes "01020304")  -- EncKeyIpv4SrcMask
-    ∷ octets_row 29 (codes "01020304")  -- EncKeyIpv4Dst
-    ∷ octets_row 30 (codes "01020304")  -- EncKeyIpv4DstMask
-    ∷ octets_row 31 (codes "0102030405060708090a0b0c0d0e0f10")  -- EncKeyIpv6Src
-    ∷ octets_row 32 (codes "0102030405060708090a0b0c0d0e0f10")  -- EncKeyIpv6SrcMask
-    ∷ octets_row 33 (codes "0102030405060708090a0b0c0d0e0f10")  -- EncKeyIpv6Dst
-    ∷ octets_row 34 (codes "0102030405060708090a0b0c0d0e0f10")  -- EncKeyIpv6DstMask
-    ∷ (35, hex (codes "0102"), number 0x0102)  -- TcpSrcMask
-    ∷ (36, hex (codes "0102"), number 0x0102)  -- TcpDstMask
-    ∷ (37, hex (codes "0102"), number 0x0102)  -- UdpSrcMask
-    ∷ (38, hex (codes "0102"), number 0x0102)  -- UdpDstMask
-    ∷ (39, hex (codes "0102"), number 0x0102)  -- SctpSrcMask
-    ∷ (40, hex (codes "0102"), number 0x0102)  -- SctpDstMask
-    ∷ (41, hex (codes "0102"), number 0x0102)  -- SctpSrc
-    ∷ (42, hex (codes "0102"), number 0x0102)  -- SctpDst
-    ∷ (43, hex (codes "0102"), number 0x0102)  -- EncKeyUdpSrcPort
-    ∷ (44, hex (codes "0102"), number 0x0102)  -- EncKeyUdpSrcPortMask
-    ∷ (45, hex (codes "0102"), number 0x0102)  -- EncKeyUdpDstPort
-    ∷ (46, hex (codes "0102"), number 0x0102)  -- EncKeyUdpDstPortMask
-    ∷ (47, hex (codes "01020304"), number 0x01020304)  -- KeyFlags
-    ∷ (48, hex (codes "01020304"), number 0x01020304)  -- KeyFlagsMask
-    ∷ (49, hex (codes "01"), number 0x01)  -- Icmpv4Code
-    ∷ (50, hex (codes "01"), number 0x01)  -- Icmpv4CodeMask
-    ∷ (51, hex (codes "01"), number 0x01)  -- Icmpv4Type
-    ∷ (52, hex (codes "01"), number 0x01)  -- Icmpv4TypeMask
-    ∷ (53, hex (codes "01"), number 0x01)  -- Icmpv6Code
-    ∷ (54, hex (codes "01"), number 0x01)  -- Icmpv6CodeMask
-    ∷ (55, hex (codes "01"), number 0x01)  -- Icmpv6Type
-    ∷ (56, hex (codes "01"), number 0x01)  -- Icmpv6TypeMask
-    ∷ octets_row 57 (codes "01020304")  -- ArpSip
-    ∷ octets_row 58 (codes "01020304")  -- ArpSipMask
-    ∷ octets_row 59 (codes "01020304")  -- ArpTip
-    ∷ octets_row 60 (codes "01020304")  -- ArpTipMask
-    ∷ (61, hex (codes "01"), number 0x01)  -- ArpOp
-    ∷ (62, hex (codes "01"), number 0x01)  -- ArpOpMask
-    ∷ octets_row 63 (codes "010203040506")  -- ArpSha
-    ∷ octets_row 64 (codes "010203040506")  -- ArpShaMask
-    ∷ octets_row 65 (codes "010203040506")  -- ArpTha
-    ∷ octets_row 66 (codes "010203040506")  -- ArpThaMask
-    ∷ (67, hex (codes "01"), number 0x01)  -- MplsTtl
-    ∷ (71, hex (codes "0102"), number 0x0102)  -- TcpFlags
-    ∷ (72, hex (codes "0102"), number 0x0102)  -- TcpFlagsMask
-    ∷ (73, hex (codes "01"), number 0x01)  -- IpTos
-    ∷ (74, hex (codes "01"), number 0x01)  -- IpTosMask
-    ∷ (75, hex (codes "01"), number 0x01)  -- IpTtl
-    ∷ (76, hex (codes "01"), number 0x01)  -- IpTtlMask
-    ∷ (77, hex (codes "0102"), number 0x0201)  -- CvlanId
-    ∷ (78, hex (codes "01"), number 0x01)  -- CvlanPrio
-    ∷ (79, hex (codes "0102"), number 0x0102)  -- CvlanEthType
-    ∷ (80, hex (codes "01"), number 0x01)  -- EncKeyIpTos
-    ∷ (81, hex (codes "01"), number 0x01)  -- EncKeyIpTosMask
-    ∷ (82, hex (codes "01"), number 0x01)  -- EncKeyIpTtl
-    ∷ (83, hex (codes "01"), number 0x01)  -- EncKeyIpTtlMask
-    ∷ (86, hex (codes "01020304"), number 0x04030201)  -- InHwCount
-    ∷ (87, hex (codes "0102"), number 0x0102)  -- PortSrcMin
-    ∷ (88, hex (codes "0102"), number 0x0102)  -- PortSrcMax
-    ∷ (89, hex (codes "0102"), number 0x0102)  -- PortDstMin
-    ∷ (90, hex (codes "0102"), number 0x0102)  -- PortDstMax
-    ∷ (91, hex (codes "0102"), number 0x0201)  -- CtState
-    ∷ (92, hex (codes "0102"), number 0x0201)  -- CtStateMask
-    ∷ (93, hex (codes "0102"), number 0x0201)  -- CtZone
-    ∷ (94, hex (codes "0102"), number 0x0201)  -- CtZoneMask
-    ∷ (95, hex (codes "01020304"), number 0x04030201)  -- CtMark
-    ∷ (96, hex (codes "01020304"), number 0x04030201)  -- CtMarkMask
-    ∷ octets_row 97 (codes "0102030405060708090a0b0c0d0e0f10")  -- CtLabels
-    ∷ octets_row 98 (codes "0102030405060708090a0b0c0d0e0f10")  -- CtLabelsMask
-    ∷ (100, hex (codes "01020304"), number 0x04030201)  -- KeyHash
-    ∷ (101, hex (codes "01020304"), number 0x04030201)  -- KeyHashMask
-    ∷ []
+    -- EthDst, EthDstMask, EthSrc, EthSrcMask, ArpSha, ArpShaMask, ArpTha, ArpThaMask
+    map (octets_row (codes "010203040506")) (4 ∷ 5 ∷ 6 ∷ 7 ∷ 63 ∷ 64 ∷ 65 ∷ 66 ∷ [])
+    -- EthType, TcpSrc, TcpDst, UdpSrc, UdpDst, VlanEthType, TcpSrcMask, TcpDstMask, UdpSrcMask, UdpDstMask,
+    -- SctpSrcMask, SctpDstMask, SctpSrc, SctpDst, EncKeyUdpSrcPort, EncKeyUdpSrcPortMask, EncKeyUdpDstPort,
+    -- EncKeyUdpDstPortMask, TcpFlags, TcpFlagsMask, CvlanEthType, PortSrcMin, PortSrcMax, PortDstMin, PortDstMax
+    ++ map u16_be_row (8 ∷ 18 ∷ 19 ∷ 20 ∷ 21 ∷ 25 ∷ 35 ∷ 36 ∷ 37 ∷ 38 ∷ 39 ∷ 40 ∷ 41 ∷ 42 ∷ 43 ∷ 44 ∷ 45 ∷ 46 ∷ 71 ∷ 72 ∷ 79 ∷ 87 ∷ 88 ∷ 89 ∷ 90 ∷ [])
+    -- IpProto, VlanPrio, Icmpv4Code, Icmpv4CodeMask, Icmpv4Type, Icmpv4TypeMask, Icmpv6Code, Icmpv6CodeMask,
+    -- Icmpv6Type, Icmpv6TypeMask, ArpOp, ArpOpMask, MplsTtl, IpTos, IpTosMask, IpTtl, IpTtlMask, CvlanPrio,
+    -- EncKeyIpTos, EncKeyIpTosMask, EncKeyIpTtl, EncKeyIpTtlMask
+    ++ map u8_row (9 ∷ 24 ∷ 49 ∷ 50 ∷ 51 ∷ 52 ∷ 53 ∷ 54 ∷ 55 ∷ 56 ∷ 61 ∷ 62 ∷ 67 ∷ 73 ∷ 74 ∷ 75 ∷ 76 ∷ 78 ∷ 80 ∷ 81 ∷ 82 ∷ 83 ∷ [])
+    -- Ipv4Src, Ipv4SrcMask, Ipv4Dst, Ipv4DstMask, EncKeyIpv4Src, EncKeyIpv4SrcMask, EncKeyIpv4Dst, EncKeyIpv4DstMask,
+    -- ArpSip, ArpSipMask, ArpTip, ArpTipMask
+    ++ map (octets_row (codes "01020304")) (10 ∷ 11 ∷ 12 ∷ 13 ∷ 27 ∷ 28 ∷ 29 ∷ 30 ∷ 57 ∷ 58 ∷ 59 ∷ 60 ∷ [])
+    -- Ipv6Src, Ipv6SrcMask, Ipv6Dst, Ipv6DstMask, EncKeyIpv6Src, EncKeyIpv6SrcMask, EncKeyIpv6Dst, EncKeyIpv6DstMask,
+    -- CtLabels, CtLabelsMask
+    ++ map (octets_row (codes "0102030405060708090a0b0c0d0e0f10")) (14 ∷ 15 ∷ 16 ∷ 17 ∷ 31 ∷ 32 ∷ 33 ∷ 34 ∷ 97 ∷ 98 ∷ [])
+    -- Flags, InHwCount, CtMark, CtMarkMask, KeyHash, KeyHashMask
+    ++ map u32_row (22 ∷ 86 ∷ 95 ∷ 96 ∷ 100 ∷ 101 ∷ [])
+    -- VlanId, CvlanId, CtState, CtStateMask, CtZone, CtZoneMask
+    ++ map u16_row (23 ∷ 77 ∷ 91 ∷ 92 ∷ 93 ∷ 94 ∷ [])
+    -- EncKeyId, KeyFlags, KeyFlagsMask
+    ++ map u32_be_row (26 ∷ 47 ∷ 48 ∷ [])
 
-flower_rows_read : map (read_row flower_options) flower_rows ≡ map (λ row. Ok (value_of_row row)) flower_rows
-flower_rows_read = refl
-
-flower_rows_written : map (write_row flower_options) flower_rows ≡ map frame_of_row flower_rows
-flower_rows_written = refl
-
--- types outside the table
-flower_others : map (read_type flower_options) (0 ∷ 1 ∷ 84 ∷ 85 ∷ 102 ∷ 103 ∷ []) ≡ map kept_type (0 ∷ 1 ∷ 84 ∷ 85 ∷ 102 ∷ 103 ∷ [])
-flower_others = refl
+flower_known : Knows flower_options flower_rows (0 ∷ 1 ∷ 84 ∷ 85 ∷ 102 ∷ 103 ∷ [])
+flower_known = (refl, refl, refl)
 
 -- ---- fq_codel
 
 abbrev fq_codel_rows : List Row
 fq_codel_rows =
-    (1, hex (codes "01020304"), number 0x04030201)  -- Target
-    ∷ (2, hex (codes "01020304"), number 0x04030201)  -- Limit
-    ∷ (3, hex (codes "01020304"), number 0x04030201)  -- Interval
-    ∷ (4, hex (codes "01020304"), number 0x04030201)  -- Ecn
-    ∷ (5, hex (codes "01020304"), number 0x04030201)  -- Flows
-    ∷ (6, hex (codes "01020304"), number 0x04030201)  -- Quantum
-    ∷ (7, hex (codes "01020304"), number 0x04030201)  -- CeThreshold
-    ∷ (8, hex (codes "01020304"), number 0x04030201)  -- DropBatchSize
-    ∷ (9, hex (codes "01020304"), number 0x04030201)  -- MemoryLimit
-    ∷ (10, hex (codes "01"), number 0x01)  -- CeThresholdSelector
-    ∷ (11, hex (codes "01"), number 0x01)  -- CeThresholdMask
-    ∷ []
+    -- Target, Limit, Interval, Ecn, Flows, Quantum, CeThreshold, DropBatchSize, MemoryLimit
+    map u32_row (1 ∷ 2 ∷ 3 ∷ 4 ∷ 5 ∷ 6 ∷ 7 ∷ 8 ∷ 9 ∷ [])
+    -- CeThresholdSelector, CeThresholdMask
+    ++ map u8_row (10 ∷ 11 ∷ [])
 
-fq_codel_rows_read : map (read_row fq_codel_options) fq_codel_rows ≡ map (λ row. Ok (value_of_row row)) fq_codel_rows
-fq_codel_rows_read = refl
-
-fq_codel_rows_written : map (write_row fq_codel_options) fq_codel_rows ≡ map frame_of_row fq_codel_rows
-fq_codel_rows_written = refl
-
--- types outside the table
-fq_codel_others : map (read_type fq_codel_options) (0 ∷ 12 ∷ []) ≡ map kept_type (0 ∷ 12 ∷ [])
-fq_codel_others = refl
+fq_codel_known : Knows fq_codel_options fq_codel_rows (0 ∷ 12 ∷ [])
+fq_codel_known = (refl, refl, refl)
 
 -- ---- u32
 
 abbrev u32_rows : List Row
 u32_rows =
-    (1, hex (codes "01020304"), number 0x04030201)  -- ClassId
-    ∷ (2, hex (codes "01020304"), number 0x04030201)  -- Hash
-    ∷ (3, hex (codes "01020304"), number 0x04030201)  -- Link
-    ∷ (4, hex (codes "01020304"), number 0x04030201)  -- Divisor
-    ∷ octets_row 6 (codes "010203")  -- Police
-    ∷ octets_row 8 (codes "010203")  -- Indev
-    ∷ octets_row 9 (codes "010203")  -- Pnct
-    ∷ octets_row 10 (codes "010203")  -- Mark
-    ∷ (11, hex (codes "01020304"), number 0x04030201)  -- Flags
-    ∷ []
+    -- ClassId, Hash, Link, Divisor, Flags
+    map u32_row (1 ∷ 2 ∷ 3 ∷ 4 ∷ 11 ∷ [])
+    -- Police, Indev, Pnct, Mark
+    ++ map (octets_row (codes "010203")) (6 ∷ 8 ∷ 9 ∷ 10 ∷ [])
 
-u32_rows_read : map (read_row u32_options) u32_rows ≡ map (λ row. Ok (value_of_row row)) u32_rows
-u32_rows_read = refl
-
-u32_rows_written : map (write_row u32_options) u32_rows ≡ map frame_of_row u32_rows
-u32_rows_written = refl
-
--- types outside the table
-u32_others : map (read_type u32_options) (0 ∷ 12 ∷ []) ≡ map kept_type (0 ∷ 12 ∷ [])
-u32_others = refl
+u32_known : Knows u32_options u32_rows (0 ∷ 12 ∷ [])
+u32_known = (refl, refl, refl)
 
 -- ---- matchall
 
 abbrev matchall_rows : List Row
 matchall_rows =
-    (1, hex (codes "01020304"), number 0x04030201)  -- ClassId
-    ∷ (3, hex (codes "01020304"), number 0x04030201)  -- Flags
-    ∷ octets_row 4 (codes "010203")  -- Pnct
-    ∷ []
+    -- ClassId, Flags
+    map u32_row (1 ∷ 3 ∷ [])
+    -- Pnct
+    ++ map (octets_row (codes "010203")) (4 ∷ [])
 
-matchall_rows_read : map (read_row matchall_options) matchall_rows ≡ map (λ row. Ok (value_of_row row)) matchall_rows
-matchall_rows_read = refl
-
-matchall_rows_written : map (write_row matchall_options) matchall_rows ≡ map frame_of_row matchall_rows
-matchall_rows_written = refl
-
--- types outside the table
-matchall_others : map (read_type matchall_options) (0 ∷ 5 ∷ []) ≡ map kept_type (0 ∷ 5 ∷ [])
-matchall_others = refl
+matchall_known : Knows matchall_options matchall_rows (0 ∷ 5 ∷ [])
+matchall_known = (refl, refl, refl)
 
 -- ---- bpf
 
 abbrev bpf_rows : List Row
 bpf_rows =
-    (3, hex (codes "01020304"), number 0x04030201)  -- ClassId
-    ∷ (6, hex (codes "01020304"), number 0x04030201)  -- ProgFd
-    ∷ (8, hex (codes "01020304"), number 0x04030201)  -- Flags
-    ∷ (9, hex (codes "01020304"), number 0x04030201)  -- FlagsGeneric
-    ∷ octets_row 10 (codes "0102030405060708")  -- ProgTag
-    ∷ (11, hex (codes "01020304"), number 0x04030201)  -- ProgId
-    ∷ []
+    -- ClassId, ProgFd, Flags, FlagsGeneric, ProgId
+    map u32_row (3 ∷ 6 ∷ 8 ∷ 9 ∷ 11 ∷ [])
+    -- ProgTag
+    ++ map (octets_row (codes "0102030405060708")) (10 ∷ [])
 
-bpf_rows_read : map (read_row bpf_options) bpf_rows ≡ map (λ row. Ok (value_of_row row)) bpf_rows
-bpf_rows_read = refl
-
-bpf_rows_written : map (write_row bpf_options) bpf_rows ≡ map frame_of_row bpf_rows
-bpf_rows_written = refl
-
--- types outside the table
-bpf_others : map (read_type bpf_options) (0 ∷ 1 ∷ 2 ∷ 4 ∷ 5 ∷ 12 ∷ []) ≡ map kept_type (0 ∷ 1 ∷ 2 ∷ 4 ∷ 5 ∷ 12 ∷ [])
-bpf_others = refl
+bpf_known : Knows bpf_options bpf_rows (0 ∷ 1 ∷ 2 ∷ 4 ∷ 5 ∷ 12 ∷ [])
+bpf_known = (refl, refl, refl)
 
 -- ---- mirror
 
@@ -277,15 +176,8 @@ mirror_rows = (
     )  -- Parms
     ∷ []
 
-mirror_rows_read : map (read_row mirror_options) mirror_rows ≡ map (λ row. Ok (value_of_row row)) mirror_rows
-mirror_rows_read = refl
-
-mirror_rows_written : map (write_row mirror_options) mirror_rows ≡ map frame_of_row mirror_rows
-mirror_rows_written = refl
-
--- types outside the table
-mirror_others : map (read_type mirror_options) (0 ∷ 3 ∷ []) ≡ map kept_type (0 ∷ 3 ∷ [])
-mirror_others = refl
+mirror_known : Knows mirror_options mirror_rows (0 ∷ 3 ∷ [])
+mirror_known = (refl, refl, refl)
 
 -- ---- nat
 
@@ -303,15 +195,8 @@ nat_rows = (
     )  -- Tm
     ∷ []
 
-nat_rows_read : map (read_row nat_options) nat_rows ≡ map (λ row. Ok (value_of_row row)) nat_rows
-nat_rows_read = refl
-
-nat_rows_written : map (write_row nat_options) nat_rows ≡ map frame_of_row nat_rows
-nat_rows_written = refl
-
--- types outside the table
-nat_others : map (read_type nat_options) (0 ∷ 3 ∷ []) ≡ map kept_type (0 ∷ 3 ∷ [])
-nat_others = refl
+nat_known : Knows nat_options nat_rows (0 ∷ 3 ∷ [])
+nat_known = (refl, refl, refl)
 
 -- ---- tunnel_key
 
@@ -322,25 +207,18 @@ tunnel_key_rows = (
   record_of (plain 0x0807060504030201 ∷ plain 0x100f0e0d0c0b0a09 ∷ plain 0x1817161514131211 ∷ plain 0x201f1e1d1c1b1a19 ∷ []),
 )  -- Tm
     ∷ (2, hex (codes "0102030405060708090a0b0c0d0e0f101112131415161718"), record_of (counted_generic (plain 0x18171615 ∷ [])))  -- Parms
-    ∷ octets_row 3 (codes "01020304")  -- EncIpv4Src
-    ∷ octets_row 4 (codes "01020304")  -- EncIpv4Dst
-    ∷ octets_row 5 (codes "0102030405060708090a0b0c0d0e0f10")  -- EncIpv6Src
-    ∷ octets_row 6 (codes "0102030405060708090a0b0c0d0e0f10")  -- EncIpv6Dst
+    ∷ octets_row (codes "01020304") 3  -- EncIpv4Src
+    ∷ octets_row (codes "01020304") 4  -- EncIpv4Dst
+    ∷ octets_row (codes "0102030405060708090a0b0c0d0e0f10") 5  -- EncIpv6Src
+    ∷ octets_row (codes "0102030405060708090a0b0c0d0e0f10") 6  -- EncIpv6Dst
     ∷ (7, hex (codes "01020304"), number 0x01020304)  -- EncKeyId
     ∷ (9, hex (codes "0102"), number 0x0102)  -- EncDstPort
     ∷ (12, hex (codes "01"), number 0x01)  -- EncTos
     ∷ (13, hex (codes "01"), number 0x01)  -- EncTtl
     ∷ []
 
-tunnel_key_rows_read : map (read_row tunnel_key_options) tunnel_key_rows ≡ map (λ row. Ok (value_of_row row)) tunnel_key_rows
-tunnel_key_rows_read = refl
-
-tunnel_key_rows_written : map (write_row tunnel_key_options) tunnel_key_rows ≡ map frame_of_row tunnel_key_rows
-tunnel_key_rows_written = refl
-
--- types outside the table
-tunnel_key_others : map (read_type tunnel_key_options) (0 ∷ 8 ∷ 11 ∷ 14 ∷ []) ≡ map kept_type (0 ∷ 8 ∷ 11 ∷ 14 ∷ [])
-tunnel_key_others = refl
+tunnel_key_known : Knows tunnel_key_options tunnel_key_rows (0 ∷ 8 ∷ 11 ∷ 14 ∷ [])
+tunnel_key_known = (refl, refl, refl)
 
 -- ---- the attributes of a message
 
@@ -351,59 +229,37 @@ message_rows = (
   record_of (plain 0x0807060504030201 ∷ plain 0x0c0b0a09 ∷ plain 0x100f0e0d ∷ plain 0x14131211 ∷ plain 0x18171615
       ∷ plain 0x1c1b1a19 ∷ plain 0x201f1e1d ∷ plain 0x24232221 ∷ blank ∷ []),
 )  -- Stats
-    ∷ octets_row 5 (codes "010203")  -- Rate
-    ∷ octets_row 6 (codes "010203")  -- Fcnt
-    ∷ octets_row 8 (codes "010203")  -- Stab
+    ∷ octets_row (codes "010203") 5  -- Rate
+    ∷ octets_row (codes "010203") 6  -- Fcnt
+    ∷ octets_row (codes "010203") 8  -- Stab
     ∷ (11, hex (codes "01020304"), number 0x04030201)  -- Chain
     ∷ (12, hex (codes "01"), number 0x01)  -- HwOffload
     ∷ []
 
-message_rows_read : map (read_row attributes) message_rows ≡ map (λ row. Ok (value_of_row row)) message_rows
-message_rows_read = refl
-
-message_rows_written : map (write_row attributes) message_rows ≡ map frame_of_row message_rows
-message_rows_written = refl
-
--- types outside the table
-message_others : map (read_type attributes) (0 ∷ 9 ∷ 13 ∷ 14 ∷ 15 ∷ []) ≡ map kept_type (0 ∷ 9 ∷ 13 ∷ 14 ∷ 15 ∷ [])
-message_others = refl
+message_known : Knows attributes message_rows (0 ∷ 9 ∷ 13 ∷ 14 ∷ 15 ∷ [])
+message_known = (refl, refl, refl)
 
 -- ---- the attributes of an action
 
 abbrev action_rows : List Row
 action_rows =
-    (3, hex (codes "01020304"), number 0x04030201)  -- Index
-    ∷ octets_row 6 (codes "010203")  -- Cookie
-    ∷ (10, hex (codes "01020304"), number 0x04030201)  -- InHwCount
-    ∷ []
+    -- Index, InHwCount
+    map u32_row (3 ∷ 10 ∷ [])
+    -- Cookie
+    ++ map (octets_row (codes "010203")) (6 ∷ [])
 
-action_rows_read : map (read_row action_attributes) action_rows ≡ map (λ row. Ok (value_of_row row)) action_rows
-action_rows_read = refl
-
-action_rows_written : map (write_row action_attributes) action_rows ≡ map frame_of_row action_rows
-action_rows_written = refl
-
--- types outside the table
-action_others : map (read_type action_attributes) (0 ∷ 5 ∷ 7 ∷ 8 ∷ 9 ∷ 11 ∷ []) ≡ map kept_type (0 ∷ 5 ∷ 7 ∷ 8 ∷ 9 ∷ 11 ∷ [])
-action_others = refl
+action_known : Knows action_attributes action_rows (0 ∷ 5 ∷ 7 ∷ 8 ∷ 9 ∷ 11 ∷ [])
+action_known = (refl, refl, refl)
 
 -- ---- the attributes of an action message
 
 abbrev action_message_rows : List Row
 action_message_rows =
-    (3, hex (codes "01020304"), number 0x04030201)  -- RootCount
-    ∷ (4, hex (codes "01020304"), number 0x04030201)  -- RootTimeDelta
-    ∷ []
+    -- RootCount, RootTimeDelta
+    map u32_row (3 ∷ 4 ∷ [])
 
-action_message_rows_read : map (read_row action_message_attributes) action_message_rows ≡ map (λ row. Ok (value_of_row row)) action_message_rows
-action_message_rows_read = refl
-
-action_message_rows_written : map (write_row action_message_attributes) action_message_rows ≡ map frame_of_row action_message_rows
-action_message_rows_written = refl
-
--- types outside the table
-action_message_others : map (read_type action_message_attributes) (0 ∷ 6 ∷ []) ≡ map kept_type (0 ∷ 6 ∷ [])
-action_message_others = refl
+action_message_known : Knows action_message_attributes action_message_rows (0 ∷ 6 ∷ [])
+action_message_known = (refl, refl, refl)
 
 -- ---- statistics
 
@@ -418,15 +274,8 @@ stats2_rows =
     ∷ (7, hex (codes "0102030405060708090a0b0c00000000"), record_of (plain 0x0807060504030201 ∷ plain 0x0c0b0a09 ∷ blank ∷ []))  -- BasicHw
     ∷ []
 
-stats2_rows_read : map (read_row stats2) stats2_rows ≡ map (λ row. Ok (value_of_row row)) stats2_rows
-stats2_rows_read = refl
-
-stats2_rows_written : map (write_row stats2) stats2_rows ≡ map frame_of_row stats2_rows
-stats2_rows_written = refl
-
--- types outside the table
-stats2_others : map (read_type stats2) (0 ∷ 2 ∷ 5 ∷ 6 ∷ 8 ∷ []) ≡ map kept_type (0 ∷ 2 ∷ 5 ∷ 6 ∷ 8 ∷ [])
-stats2_others = refl
+stats2_known : Knows stats2 stats2_rows (0 ∷ 2 ∷ 5 ∷ 6 ∷ 8 ∷ [])
+stats2_known = (refl, refl, refl)
 
 -- ---- values that lose bits, and a type that is never read
 
@@ -496,39 +345,21 @@ text_frame n = record { word = n; value = hex (codes "65746800") }
 abbrev a_text : ℕ → Attribute
 a_text n = known n (is_bytes (hex (codes "657468")))
 
-in_dev_read : read_in flower_options (text_frame 2) ≡ Ok (a_text 2)
+-- InDev, ProgName, Kind of a message and of an action, RootExtWarnMsg
+texts_read :
+    read_in flower_options (text_frame 2) ∷ read_in bpf_options (text_frame 7) ∷ read_in attributes (text_frame 1)
+    ∷ read_in action_attributes (text_frame 1) ∷ read_in action_message_attributes (text_frame 5) ∷ []
+    ≡ map (λ n. Ok (a_text n)) (2 ∷ 7 ∷ 1 ∷ 1 ∷ 5 ∷ [])
 unfolding strip
-in_dev_read = rw (utf8 (hex (codes "657468")) refl) refl
+texts_read = rw (utf8 (hex (codes "657468")) refl) refl
 
-in_dev_written : write_in flower_options (a_text 2) ≡ text_frame 2
-in_dev_written = refl
-
-prog_name_read : read_in bpf_options (text_frame 7) ≡ Ok (a_text 7)
-unfolding strip
-prog_name_read = rw (utf8 (hex (codes "657468")) refl) refl
-
-prog_name_written : write_in bpf_options (a_text 7) ≡ text_frame 7
-prog_name_written = refl
-
-kind_read : read_in attributes (text_frame 1) ≡ Ok (a_text 1)
-unfolding strip
-kind_read = rw (utf8 (hex (codes "657468")) refl) refl
-
-kind_written : write_in attributes (a_text 1) ≡ text_frame 1
-kind_written = refl
-
-kind_of_action_read : read_in action_attributes (text_frame 1) ≡ Ok (a_text 1)
-unfolding strip
-kind_of_action_read = rw (utf8 (hex (codes "657468")) refl) refl
-
-kind_of_action_written : write_in action_attributes (a_text 1) ≡ text_frame 1
-kind_of_action_written = refl
+texts_written :
+    write_in flower_options (a_text 2) ∷ write_in bpf_options (a_text 7) ∷ write_in attributes (a_text 1)
+    ∷ write_in action_attributes (a_text 1) ∷ []
+    ≡ map text_frame (2 ∷ 7 ∷ 1 ∷ 1 ∷ [])
+texts_written = refl
 
 -- without a NUL
-warning_text_read : read_in action_message_attributes (text_frame 5) ≡ Ok (a_text 5)
-unfolding strip
-warning_text_read = rw (utf8 (hex (codes "657468")) refl) refl
-
 warning_text_written : write_in action_message_attributes (a_text 5) ≡ record { word = 5; value = hex (codes "657468") }
 warning_text_written = refl
 

@@ -1,4 +1,4 @@
-//! Takes an option apart into its type and the value that it holds, and makes it of both; the names of the variants.
+//! Takes an option apart into its type and the value that it holds, and makes it of both.
 
 ghost use Rattle.std.specs.Prelude.{◌≡◌, ◌&&◌, not, IsTrue};
 ghost use Rattle.std.specs.Net.Addr.{ipv4_octets, ipv6_octets};
