@@ -1,0 +1,20 @@
+-- Reading a text back.
+use Rattle.std.specs.Prelude.{◌≡◌, ◌≢◌, ℕ, ◌^◌, ◌<◌, List, length, Option, MatchOption}
+use Rattle.hex.specs.Hex.{IsBytes}
+use Rattle.tc_texts.specs.Handle.{handle_text}
+use Rattle.tc_texts.specs.Hex.{hex_text}
+
+-- the n octets of which this is the text, or none where no n octets have it
+abbrev pub ReadsBack : (List ℕ → List ℕ) → ℕ → List ℕ → Option (List ℕ) → Type 0
+ReadsBack text_of n text result =
+    MatchOption result ((octets : List ℕ) → length octets ≡ n → IsBytes octets → text ≢ text_of octets)
+    (λ octets. text ≡ text_of octets)
+
+-- the handle of which this is the text, or none where no handle has it
+abbrev pub ReadsHandle : List ℕ → Option ℕ → Type 0
+ReadsHandle text result =
+    MatchOption result ((n : ℕ) → n < 2 ^ 32 → text ≢ handle_text n) (λ n. text ≡ handle_text n)
+
+-- no bytes have this text in hex
+abbrev pub IsNoHex : List ℕ → Type 0
+IsNoHex text = (bytes : List ℕ) → IsBytes bytes → text ≢ hex_text bytes
