@@ -2,11 +2,7 @@
 use Rattle.std.specs.Prelude.{ℕ, Bool, List, [], ◌∷◌, ◌++◌, take, drop, slice_index, flat_map, codes, bytes_eq, nat_lt, ◌&&◌, if◌then◌else◌}
 use Rattle.std.specs.Net.Addr.{segments_of, octets_of}
 use Rattle.std.specs.Net.Text as Net
-use Rattle.tc_texts.specs.Hex.{hex_text}
-
--- an octet as two hex digits in lower case
-abbrev pub octet_text : ℕ → List ℕ
-octet_text o = hex_text (o ∷ [])
+use Rattle.tc_texts.specs.Hex.{octet_text}
 
 -- a MAC address: each octet as two hex digits, and colons between them
 abbrev pub mac_text : List ℕ → List ℕ

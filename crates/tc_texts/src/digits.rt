@@ -4,7 +4,7 @@ ghost use Rattle.std.specs.Prelude.{◌≡◌, ◌+◌, ◌<◌, ◌≤◌, [], 
 ghost use Rattle.std.specs.Char.{digit_char};
 ghost use Rattle.std.specs.Net.Text.{hex};
 ghost use Rattle.arrayvec.specs.ArrayString.{array_string_len};
-ghost use Rattle.tc_texts.specs.Addresses.{octet_text};
+ghost use Rattle.tc_texts.specs.Hex.{octet_text};
 
 use arrayvec::ArrayString;
 

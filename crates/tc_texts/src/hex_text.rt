@@ -1,6 +1,7 @@
 //! Bytes as hex.
 
 ghost use Rattle.std.specs.Prelude.{◌≡◌, Some, IfOk, MatchOption};
+ghost use Rattle.std.specs.String.{string_bytes};
 ghost use Rattle.tc_texts.specs.Hex.{hex_text, has_capital};
 ghost use Rattle.tc_texts.specs.Reading.{IsNoHex};
 
@@ -9,7 +10,7 @@ use hex::FromHexError;
 use std::alloc::{AllocError, Allocator};
 use std::fmt;
 
-/// Bytes that show themselves as hex: two digits each, lower case, without blanks. For a `String` there is `hex::encode`.
+/// Bytes that show themselves as hex: two digits each, lower case, without blanks.
 #[derive(Clone, Copy)]
 pub struct HexText<'a>(pub &'a [u8]);
 
@@ -22,6 +23,13 @@ impl fmt::Display for HexText<'_> {
         }
         Ok(())
     }
+}
+
+/// Bytes as hex, in a string.
+pub fn hex_string<A: Allocator>(alloc: A, bytes: &[u8]) -> Result<String<A>, AllocError>
+    ensures { IfOk result (λ text. string_bytes text ≡ hex_text bytes.now) }
+{
+    hex::encode(alloc, bytes)
 }
 
 /// The bytes of which this is the text in hex: digits in lower case, two for each byte.

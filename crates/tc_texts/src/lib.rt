@@ -18,5 +18,5 @@ pub use address::{
 };
 pub use arrayvec::ArrayString;
 pub use handle::{HANDLE_TEXT_LEN, handle_from_tc_text, handle_text, read_handle};
-pub use hex_text::{HexText, read_hex};
+pub use hex_text::{HexText, hex_string, read_hex};
 pub use info::{filter_info, info_priority, info_protocol};
