@@ -1,13 +1,15 @@
 -- The texts of addresses, from their octets, most significant first.
-use Rattle.std.specs.Prelude.{ℕ, Bool, List, [], ◌∷◌, ◌++◌, take, drop, slice_index, flat_map, codes, bytes_eq, nat_lt, ◌&&◌, if◌then◌else◌}
+use Rattle.std.specs.Prelude.{ℕ, Bool, List, [], ◌∷◌, ◌++◌, take, drop, slice_index, codes, bytes_eq, nat_lt, ◌&&◌, if◌then◌else◌}
 use Rattle.std.specs.Net.Addr.{segments_of, octets_of}
 use Rattle.std.specs.Net.Text as Net
 use Rattle.tc_texts.specs.Hex.{octet_text}
 
--- a MAC address: each octet as two hex digits, and colons between them
+-- a MAC address: six octets as two hex digits each, and colons between them
 abbrev pub mac_text : List ℕ → List ℕ
-mac_text [] = []
-mac_text (o ∷ rest) = octet_text o ++ flat_map (λ p. codes ":" ++ octet_text p) rest
+mac_text o =
+    octet_text (slice_index o 0) ++ codes ":" ++ octet_text (slice_index o 1) ++ codes ":"
+    ++ octet_text (slice_index o 2) ++ codes ":" ++ octet_text (slice_index o 3) ++ codes ":"
+    ++ octet_text (slice_index o 4) ++ codes ":" ++ octet_text (slice_index o 5)
 
 -- an IPv4 address: four decimal numbers without leading zeros, and dots between them
 abbrev pub ipv4_text : List ℕ → List ℕ

@@ -4,10 +4,14 @@ use Rattle.hex.specs.Hex.{IsBytes}
 use Rattle.tc_texts.specs.Handle.{handle_text}
 use Rattle.tc_texts.specs.Hex.{hex_text}
 
+-- n octets
+abbrev pub IsOctets : ℕ → List ℕ → Type 0
+IsOctets n octets = (length octets ≡ n) × IsBytes octets
+
 -- the n octets of which this is the text, or none where no n octets have it
 abbrev pub ReadsBack : (List ℕ → List ℕ) → ℕ → List ℕ → Option (List ℕ) → Type 0
 ReadsBack text_of n text result =
-    MatchOption result ((octets : List ℕ) → length octets ≡ n → IsBytes octets → text ≢ text_of octets)
+    MatchOption result ((octets : List ℕ) → IsOctets n octets → text ≢ text_of octets)
     (λ octets. text ≡ text_of octets)
 
 -- the handle of which this is the text, or none where no handle has it

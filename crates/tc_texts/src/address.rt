@@ -6,7 +6,7 @@ ghost use Rattle.arrayvec.specs.ArrayString.{array_string_len};
 ghost use Rattle.tc_texts.specs.Addresses.{mac_text, ipv4_text, ipv6_text};
 ghost use Rattle.tc_texts.specs.Reading.{ReadsBack};
 
-use crate::digits::{push_decimal, push_hex, push_octet};
+use crate::digits::{is_same, push_decimal, push_hex, push_octet};
 use arrayvec::ArrayString;
 use hex::FromHex;
 use std::net::{Ipv4Addr, Ipv6Addr};
@@ -136,23 +136,30 @@ pub fn read_mac(text: &str) -> Option<[u8; 6]>
         return None;
     };
     let digits = [*a, *b, *c, *d, *e, *f, *g, *h, *i, *j, *k, *l];
-    let octets = <[u8; 6]>::from_hex(&digits[..]).ok()?;
-    if mac_text(octets).as_str() == text { Some(octets) } else { None }
+    let octets = match <[u8; 6]>::from_hex(&digits[..]) {
+        Ok(octets) => octets,
+        Err(_) => return None,
+    };
+    if is_same(mac_text(octets).as_str(), text) { Some(octets) } else { None }
 }
 
 /// The octets of the IPv4 address of which this is the text, most significant first.
 pub fn read_ipv4(text: &str) -> Option<[u8; 4]>
     ensures { ReadsBack ipv4_text 4 text.now result }
 {
-    let address = Ipv4Addr::parse_ascii(text.as_bytes()).ok()?;
-    Some(address.octets())
+    match Ipv4Addr::parse_ascii(text.as_bytes()) {
+        Ok(address) => Some(address.octets()),
+        Err(_) => None,
+    }
 }
 
 /// The octets of the IPv6 address of which this is the text, most significant first.
 pub fn read_ipv6(text: &str) -> Option<[u8; 16]>
     ensures { ReadsBack ipv6_text 16 text.now result }
 {
-    let address = Ipv6Addr::parse_ascii(text.as_bytes()).ok()?;
-    let octets = address.octets();
-    if ipv6_text(octets).as_str() == text { Some(octets) } else { None }
+    let octets = match Ipv6Addr::parse_ascii(text.as_bytes()) {
+        Ok(address) => address.octets(),
+        Err(_) => return None,
+    };
+    if is_same(ipv6_text(octets).as_str(), text) { Some(octets) } else { None }
 }

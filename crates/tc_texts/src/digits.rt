@@ -1,6 +1,6 @@
-//! Digits, put at the end of a text.
+//! Digits, put at the end of a text; and whether two texts are the same.
 
-ghost use Rattle.std.specs.Prelude.{◌≡◌, ◌+◌, ◌<◌, ◌≤◌, [], ◌∷◌, ◌++◌, decimal};
+ghost use Rattle.std.specs.Prelude.{◌≡◌, ◌↔◌, IsTrue, ◌+◌, ◌<◌, ◌≤◌, [], ◌∷◌, ◌++◌, decimal};
 ghost use Rattle.std.specs.Char.{digit_char};
 ghost use Rattle.std.specs.Net.Text.{hex};
 ghost use Rattle.arrayvec.specs.ArrayString.{array_string_len};
@@ -71,4 +71,11 @@ pub(crate) fn push_decimal<const N: usize>(text: &mut ArrayString<N>, n: u8)
 {
     let mut buffer = itoa::Buffer::new();
     text.push_str(buffer.format(n));
+}
+
+/// Whether two texts are the same.
+pub(crate) fn is_same(a: &str, b: &str) -> bool
+    ensures { IsTrue result ↔ (a.now ≡ b.now) }
+{
+    a == b
 }

@@ -5,7 +5,7 @@ ghost use Rattle.arrayvec.specs.ArrayString.{array_string_len};
 ghost use Rattle.tc_texts.specs.Handle.{half_text, half_of, numbers_of, handle_text, handle_of};
 ghost use Rattle.tc_texts.specs.Reading.{ReadsHandle};
 
-use crate::digits::push_hex;
+use crate::digits::{is_same, push_hex};
 use arrayvec::ArrayString;
 
 /// The length of the longest text of a handle.
@@ -50,8 +50,11 @@ fn push_half<const N: usize>(text: &mut ArrayString<N>, half: u16)
 pub fn read_handle(text: &str) -> Option<u32>
     ensures { ReadsHandle text.now result }
 {
-    let handle = handle_from_tc_text(text)?;
-    if handle_text(handle).as_str() == text { Some(handle) } else { None }
+    let handle = match handle_from_tc_text(text) {
+        Some(handle) => handle,
+        None => return None,
+    };
+    if is_same(handle_text(handle).as_str(), text) { Some(handle) } else { None }
 }
 
 /// The handle of a text that `tc` reads as one: `1:10`, `1:`, `:10`, `root`, `none`, `ingress`, `clsact`; digits are hex, in
@@ -59,11 +62,14 @@ pub fn read_handle(text: &str) -> Option<u32>
 pub fn handle_from_tc_text(text: &str) -> Option<u32>
     ensures { result ≡ handle_of text.now }
 {
-    match text {
-        "root" => Some(ROOT),
-        "ingress" | "clsact" => Some(INGRESS),
-        "none" => Some(0),
-        _ => numbers(text),
+    if is_same(text, "root") {
+        Some(ROOT)
+    } else if is_same(text, "ingress") || is_same(text, "clsact") {
+        Some(INGRESS)
+    } else if is_same(text, "none") {
+        Some(0)
+    } else {
+        numbers(text)
     }
 }
 
@@ -72,9 +78,10 @@ fn numbers(text: &str) -> Option<u32>
     ensures { result ≡ numbers_of text.now }
 {
     let (before, after) = text.split_once(':')?;
-    let major = half(before)?;
-    let minor = half(after)?;
-    Some(major as u32 * 0x10000 + minor as u32)
+    match (half(before), half(after)) {
+        (Some(major), Some(minor)) => Some(major as u32 * 0x10000 + minor as u32),
+        _ => None,
+    }
 }
 
 /// The number of up to four hex digits.
