@@ -10,7 +10,7 @@ use Rattle.std.specs.Char.{digit_value, is_digit}
 use Rattle.std.specs.Str.Parse.{AllDigits, digits_value}
 use Rattle.std.specs.Net.Text.{hex}
 use Rattle.tc_texts.specs.Handle.{half_text, handle_text, half_of, halves, numbers_of, handle_of}
-use Rattle.tc_texts.proofs.Digits.{IsHexOf, IsHexOf-hex}
+use Rattle.tc_texts.proofs.Numerals.{IsHexOf, IsHexOf-hex}
 
 list_all-digits : (ds : List ℕ) → AllDigits 16 ds → list_all (λ c. is_digit c 16) ds ≡ true
 list_all-digits [] h = refl
@@ -23,7 +23,7 @@ IsHexOf-half_text n fits =
       | inr some ↦ rw (ne_eqb n 0 some) (IsHexOf-hex n fits)
     ]
 
-half_of-IsHexOf : (text : List ℕ) (n : ℕ) → IsHexOf text n → half_of text ≡ Some n
+pub half_of-IsHexOf : (text : List ℕ) (n : ℕ) → IsHexOf text n → half_of text ≡ Some n
 unfolding half_of
 half_of-IsHexOf text n h = rw (le-leb (length text) 4 h.short, list_all-digits text h.digits, h.value) refl
 
@@ -36,12 +36,18 @@ first_colon [] rest h = refl
 first_colon (c ∷ cs) rest h = rw (no_colon c h.0, first_colon cs rest h.1) (omega arith)
 
 -- a text with a colon isn't a word without one
-not_word : (text word : List ℕ) → position_or_len (λ c. c == 58) text < length text → position_or_len (λ c. c == 58) word ≡ length word → bytes_eq text word ≡ false
-not_word text word colon none =
-    false_from_ne_true (bytes_eq text word) (λ b.
-    let same = (bytes_eq-Decides text word).0 b in
+not_word : (text word : List ℕ) → position_or_len (λ c. c == 58) text < length text → position_or_len (λ c. c == 58) word ≡ length word → text ≢ word
+not_word text word colon none same =
     let moved : position_or_len (λ c. c == 58) word < length word = subst (λ (t : List ℕ). position_or_len (λ c. c == 58) t < length t) same colon in
-    omega (arith, moved, none))
+    omega (arith, moved, none)
+
+is_other : (a b : List ℕ) → a ≢ b → bytes_eq a b ≡ false
+is_other a b h = false_from_ne_true (bytes_eq a b) (λ t. h ((bytes_eq-Decides a b).0 t))
+
+pub handle_of-other : (text : List ℕ) → text ≢ codes "root" → text ≢ codes "ingress" → text ≢ codes "clsact" → text ≢ codes "none" → handle_of text ≡ numbers_of text
+unfolding handle_of
+handle_of-other text h₁ h₂ h₃ h₄ =
+    rw (is_other text (codes "root") h₁, is_other text (codes "ingress") h₂, is_other text (codes "clsact") h₃, is_other text (codes "none") h₄) refl
 
 numbers_of-parts : (text front back : List ℕ) (at : ℕ) → position_or_len (λ c. c == 58) text ≡ at → at < length text → take at text ≡ front → drop (at + 1) text ≡ back → numbers_of text ≡ halves (half_of front) (half_of back)
 numbers_of-parts text front back at e lt f b = rw (e, lt-ltb at (length text) lt, f, b) refl
@@ -65,14 +71,12 @@ module _ (front back : List ℕ) (major minor : ℕ) (f : IsHexOf front major) (
       ∙ ap₂ halves (half_of-IsHexOf front major f) (half_of-IsHexOf back minor b)
 
 handle_of-numbers : (text : List ℕ) → position_or_len (λ c. c == 58) text < length text → handle_of text ≡ numbers_of text
-unfolding handle_of
 handle_of-numbers text colon =
-    rw (
-      not_word text (codes "root") colon refl,
-      not_word text (codes "ingress") colon refl,
-      not_word text (codes "clsact") colon refl,
-      not_word text (codes "none") colon refl,
-    ) refl
+    handle_of-other text
+    (not_word text (codes "root") colon refl)
+    (not_word text (codes "ingress") colon refl)
+    (not_word text (codes "clsact") colon refl)
+    (not_word text (codes "none") colon refl)
 
 zero_read : handle_of (codes "0:0") ≡ Some 0
 unfolding handle_of half_of

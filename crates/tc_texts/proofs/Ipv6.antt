@@ -1,11 +1,13 @@
 -- The texts of IP addresses are in the grammar that std reads, and each is that of one address alone.
-use Rattle.std.proofs.Common.{◌≡◌, ℕ, zero, suc, ◌+◌, ◌*◌, ◌/◌, ◌%◌, ◌^◌, ◌<◌, ◌≤◌, true, false, ◌&&◌, List, [], ◌∷◌, ◌++◌, length, get_or, take, drop, refl, sym, ap, ap₂, ◌∙◌, subst, arith, inl, inr, take-append-drop}
-use Rattle.std.specs.Prelude.{bytes_eq, nat_lt}
-use Rattle.std.proofs.lemmas.Bool.{and_parts, cond_both}
+use Rattle.std.proofs.Common.{◌≡◌, ℕ, zero, suc, ◌+◌, ◌*◌, ◌/◌, ◌%◌, ◌^◌, ◌<◌, ◌≤◌, true, false, ◌&&◌, List, [], ◌∷◌, ◌++◌, length, get_or, take, drop, refl, sym, ap, ap₂, ◌∙◌, subst, arith, inl, inr, lt-ltb, take-append-drop}
+use Rattle.std.specs.Prelude.{bytes_eq, codes, nat_lt}
+use Rattle.std.proofs.lemmas.Bool.{and_parts, cond_both, false_from_ne_true, ltb-true}
 use Rattle.std.proofs.lemmas.Slice.Eq.{bytes_eq-Decides}
 use Rattle.std.specs.declared.net.ipv4_addr.Ipv4Addr.{Ipv4Addr}
 use Rattle.std.specs.declared.net.ipv6_addr.Ipv6Addr.{Ipv6Addr}
-use Rattle.std.specs.Net.Addr.{segments_of, octets_of}
+use Rattle.std.specs.Net.Addr.{segments_of, octets_of, IsIpv4Mapped, IsIpv4Compatible}
+use Rattle.std.specs.Net.Text as Net
+use Rattle.std.specs.Net.Text.{compressed_text, longest_zero_run}
 use Rattle.std.specs.Net.Grammar.{IsDotted, IsColonHex}
 use Rattle.std.proofs.NetLemmas.Arrays.{eight_items, sixteen_items}
 use Rattle.std.proofs.NetLemmas.Texts.{AllSegments, IsDotted-ipv4_text, IsColonHex-ipv6_text}
@@ -109,3 +111,32 @@ pub ipv6_text-injective : (a b : List ℕ) → IsOctets 16 a → IsOctets 16 b �
 ipv6_text-injective a b ha hb e =
     sym (octets_of-segments_of a (omega (arith, ha.0)) ha.1)
     ∙ colon_hex_unique (ipv6_text a) (segments_of a) b hb (colon_hex (ipv6_text a) a ha refl) e
+
+-- ---- the text by the form of the address
+
+pub text_mapped : (s : List ℕ) → IsIpv4Mapped s → segments_text s ≡ codes "::ffff:" ++ ipv4_text (octets_of (drop 6 s))
+unfolding segments_text Net.ipv6_text
+text_mapped s mapped =
+    let yes = (bytes_eq-Decides (take 6 s) (0 ∷ 0 ∷ 0 ∷ 0 ∷ 0 ∷ 0xffff ∷ [])).1 mapped in
+    let no : bytes_eq (take 6 s) (0 ∷ 0 ∷ 0 ∷ 0 ∷ 0 ∷ 0 ∷ []) ≡ false =
+    false_from_ne_true (bytes_eq (take 6 s) (0 ∷ 0 ∷ 0 ∷ 0 ∷ 0 ∷ 0 ∷ [])) (λ t.
+    let e : 0 ≡ 0xffff = ap (λ (l : List ℕ). get_or l 5 0) (sym ((bytes_eq-Decides (take 6 s) (0 ∷ 0 ∷ 0 ∷ 0 ∷ 0 ∷ 0 ∷ [])).0 t) ∙ mapped) in
+    omega (arith, e)) in
+    rw (no, yes) refl
+
+pub text_compatible : (s : List ℕ) → IsIpv4Compatible s → 0 < get_or s 6 0 → segments_text s ≡ codes "::" ++ ipv4_text (octets_of (drop 6 s))
+unfolding segments_text
+text_compatible s compatible some =
+    let yes = (bytes_eq-Decides (take 6 s) (0 ∷ 0 ∷ 0 ∷ 0 ∷ 0 ∷ 0 ∷ [])).1 compatible in
+    rw (yes, lt-ltb 0 (get_or s 6 0) some) refl
+
+pub text_groups : (s : List ℕ) → ¬ (IsIpv4Mapped s) → (IsIpv4Compatible s → 0 < get_or s 6 0 → ⊥) → segments_text s ≡ compressed_text s (longest_zero_run s)
+unfolding segments_text Net.ipv6_text Net.hex_groups_text
+text_groups s other plain =
+    let no : bytes_eq (take 6 s) (0 ∷ 0 ∷ 0 ∷ 0 ∷ 0 ∷ 0xffff ∷ []) ≡ false =
+    false_from_ne_true (bytes_eq (take 6 s) (0 ∷ 0 ∷ 0 ∷ 0 ∷ 0 ∷ 0xffff ∷ [])) (λ t. other ((bytes_eq-Decides (take 6 s) (0 ∷ 0 ∷ 0 ∷ 0 ∷ 0 ∷ 0xffff ∷ [])).0 t)) in
+    let none : ends_in_ipv4 s ≡ false =
+    false_from_ne_true (ends_in_ipv4 s) (λ t.
+    let parts = and_parts (bytes_eq (take 6 s) (0 ∷ 0 ∷ 0 ∷ 0 ∷ 0 ∷ 0 ∷ [])) (nat_lt 0 (get_or s 6 0)) t in
+    plain ((bytes_eq-Decides (take 6 s) (0 ∷ 0 ∷ 0 ∷ 0 ∷ 0 ∷ 0 ∷ [])).0 parts.0) (ltb-true 0 (get_or s 6 0) parts.1)) in
+    rw (none, no) refl

@@ -1,6 +1,6 @@
-pub mod Digits
+pub mod Numerals
 pub mod Handles
 pub mod HexTexts
 pub mod Ipv6
 pub mod Mac
-pub mod Reads
+pub mod Inverse

@@ -1,5 +1,5 @@
 -- The texts of handles. A handle is a number of 32 bits, its upper half the major number and its lower half the minor.
-use Rattle.std.specs.Prelude.{ℕ, ◌+◌, ◌*◌, ◌/◌, ◌%◌, List, [], ◌++◌, length, codes, bytes_eq, nat_lt, nat_le, ◌==◌, ◌&&◌, ◌||◌, Option, Some, None, if◌then◌else◌}
+use Rattle.std.specs.Prelude.{ℕ, ◌+◌, ◌*◌, ◌/◌, ◌%◌, List, [], ◌++◌, length, codes, bytes_eq, nat_lt, nat_le, ◌==◌, ◌&&◌, Option, Some, None, if◌then◌else◌}
 use Rattle.std.specs.List.{list_all, position_or_len, before_first, after_first}
 use Rattle.std.specs.Char.{is_digit}
 use Rattle.std.specs.Str.Parse.{digits_value}
@@ -40,6 +40,7 @@ numbers_of text =
 unfoldable pub handle_of : List ℕ → Option ℕ
 handle_of text =
     if bytes_eq text (codes "root") then Some 0xffffffff
-    else if bytes_eq text (codes "ingress") || bytes_eq text (codes "clsact") then Some 0xfffffff1
+    else if bytes_eq text (codes "ingress") then Some 0xfffffff1
+    else if bytes_eq text (codes "clsact") then Some 0xfffffff1
     else if bytes_eq text (codes "none") then Some 0
     else numbers_of text

@@ -64,7 +64,9 @@ pub fn handle_from_tc_text(text: &str) -> Option<u32>
 {
     if is_same(text, "root") {
         Some(ROOT)
-    } else if is_same(text, "ingress") || is_same(text, "clsact") {
+    } else if is_same(text, "ingress") {
+        Some(INGRESS)
+    } else if is_same(text, "clsact") {
         Some(INGRESS)
     } else if is_same(text, "none") {
         Some(0)
@@ -94,8 +96,10 @@ fn half(text: &str) -> Option<u16>
     }
     let mut number = 0u16;
     for c in digits {
-        let digit = char::from(*c).to_digit(16)?;
-        number = number * 16 + digit as u16;
+        match char::from(*c).to_digit(16) {
+            Some(digit) => number = number * 16 + digit as u16,
+            None => return None,
+        }
     }
     Some(number)
 }

@@ -1,42 +1,41 @@
 //! Laws: a text shows one value alone, and reading it gives that value. Each is the contract of a function that does nothing.
 
-ghost use Rattle.std.specs.Prelude.{◌≡◌, List, ℕ, Option, Some, IfSome};
+ghost use Rattle.std.specs.Prelude.{◌≡◌, ◌^◌, ◌<◌, List, ℕ, Some};
+ghost use Rattle.hex.specs.Hex.{IsBytes, encode_lower};
 ghost use Rattle.tc_texts.specs.Addresses.{mac_text, ipv4_text, ipv6_text};
 ghost use Rattle.tc_texts.specs.Handle.{handle_text, handle_of};
 ghost use Rattle.tc_texts.specs.Hex.{hex_text};
 ghost use Rattle.tc_texts.specs.Info.{filter_info, priority_of, protocol_of};
-ghost use Rattle.tc_texts.specs.Reading.{IsOctets, ReadsBack};
+ghost use Rattle.tc_texts.specs.Reading.{IsInjective, GivesBack};
 
 /// The text of a MAC address is that of no other, and is read as that address.
-pub fn mac_texts(a: [u8; 6], b: [u8; 6])
-    ensures injective { mac_text a ≡ mac_text b → a ≡ b }
-    ensures read { (r : Option (List ℕ)) → IfSome r (IsOctets 6) → ReadsBack mac_text 6 (mac_text a) r
-        → r ≡ Some a }
+pub fn mac_texts()
+    ensures injective { IsInjective mac_text 6 }
+    ensures read { GivesBack mac_text 6 }
 {}
 
 /// The text of an IPv4 address is that of no other, and is read as that address.
-pub fn ipv4_texts(a: [u8; 4], b: [u8; 4])
-    ensures injective { ipv4_text a ≡ ipv4_text b → a ≡ b }
-    ensures read { (r : Option (List ℕ)) → IfSome r (IsOctets 4) → ReadsBack ipv4_text 4 (ipv4_text a) r
-        → r ≡ Some a }
+pub fn ipv4_texts()
+    ensures injective { IsInjective ipv4_text 4 }
+    ensures read { GivesBack ipv4_text 4 }
 {}
 
 /// The text of an IPv6 address is that of no other, and is read as that address.
-pub fn ipv6_texts(a: [u8; 16], b: [u8; 16])
-    ensures injective { ipv6_text a ≡ ipv6_text b → a ≡ b }
-    ensures read { (r : Option (List ℕ)) → IfSome r (IsOctets 16) → ReadsBack ipv6_text 16 (ipv6_text a) r
-        → r ≡ Some a }
+pub fn ipv6_texts()
+    ensures injective { IsInjective ipv6_text 16 }
+    ensures read { GivesBack ipv6_text 16 }
 {}
 
 /// The text of a handle is that of no other, and `tc` reads it as that handle.
-pub fn handle_texts(a: u32, b: u32)
-    ensures injective { handle_text a ≡ handle_text b → a ≡ b }
-    ensures read { handle_of (handle_text a) ≡ Some a }
+pub fn handle_texts()
+    ensures injective { (a b : ℕ) → a < 2 ^ 32 → b < 2 ^ 32 → handle_text a ≡ handle_text b → a ≡ b }
+    ensures read { (a : ℕ) → a < 2 ^ 32 → handle_of (handle_text a) ≡ Some a }
 {}
 
-/// The hex text of bytes is that of no others.
-pub fn hex_texts(a: &[u8], b: &[u8])
-    ensures { hex_text a.now ≡ hex_text b.now → a.now ≡ b.now }
+/// The hex text of bytes is that of no others, and what the crate `hex` writes.
+pub fn hex_texts()
+    ensures injective { (a b : List ℕ) → IsBytes a → IsBytes b → hex_text a ≡ hex_text b → a ≡ b }
+    ensures hex { (a : List ℕ) → IsBytes a → encode_lower a ≡ hex_text a }
 {}
 
 /// A filter's word holds its priority and its protocol, and is the word of these two.

@@ -1,6 +1,6 @@
 use Rattle.std.proofs.Common.{arith}
 use Rattle.std.proofs.lemmas.Grind.{common_steps}
-use Rattle.tc_texts.proofs.Digits.{hex_1, hex_2, hex_3, hex_4}
+use Rattle.tc_texts.proofs.Numerals.{hex_1, hex_2, hex_3, hex_4}
 use Rattle.tc_texts.proofs.digits.push_hex.Goals as goal
 use Rattle.tc_texts.proofs.digits.push_hex.Goals.{then-n-ge4096, else-n-ge4096, then-n-ge256, else-n-ge256, then-n-ge16, else-n-ge16}
 

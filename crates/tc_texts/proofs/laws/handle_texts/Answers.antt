@@ -1,9 +1,8 @@
-use Rattle.std.proofs.Common.{arith}
 use Rattle.tc_texts.proofs.Handles.{handle_text-injective, handle_of-handle_text}
 use Rattle.tc_texts.proofs.laws.handle_texts.Goals as goal
 
 pub returns-clause-injective : goal.returns-clause-injective
-returns-clause-injective c = handle_text-injective c.args.a c.args.b (omega arith) (omega arith)
+returns-clause-injective c = handle_text-injective
 
 pub returns-clause-read : goal.returns-clause-read
-returns-clause-read c = handle_of-handle_text c.args.a (omega arith)
+returns-clause-read c = handle_of-handle_text

@@ -1,5 +1,8 @@
-use Rattle.tc_texts.proofs.HexTexts.{hex_text-injective}
+use Rattle.tc_texts.proofs.HexTexts.{hex_text-injective, encode_lower-hex_text}
 use Rattle.tc_texts.proofs.laws.hex_texts.Goals as goal
 
-pub returns : goal.returns
-returns c = λ e. hex_text-injective c.args.a.now c.args.b.now ? ? e
+pub returns-clause-injective : goal.returns-clause-injective
+returns-clause-injective c = hex_text-injective
+
+pub returns-clause-hex : goal.returns-clause-hex
+returns-clause-hex c = encode_lower-hex_text

@@ -1,8 +1,11 @@
 -- Numbers of 16 bits in hex, by their number of digits, and what their digits say.
-use Rattle.std.proofs.Common.{◌≡◌, ℕ, ◌+◌, ◌/◌, ◌%◌, ◌^◌, ◌<◌, ◌≤◌, [], ◌∷◌, length, refl, arith, inl, inr}
+use Rattle.std.proofs.Common.{◌≡◌, ℕ, ◌+◌, ◌/◌, ◌%◌, ◌^◌, ◌<◌, ◌≤◌, ◌*◌, Bool, true, false, ◌&&◌, zero, suc, List, [], ◌∷◌, length, take, get_or, refl, arith, inl, inr, lit≤, le-ltb, length-take-le}
 use Rattle.std.proofs.lemmas.Bool.{cases_lt, le-leb, lt-leb}
 use Rattle.std.proofs.lemmas.Bool.Decides.{nat_tests}
-use Rattle.std.specs.Char.{digit_value, digit_char}
+use Rattle.std.proofs.lemmas.Int.Digits.{digits_value-lt}
+use Rattle.std.proofs.Math.Nat.{pow-le-pow_right}
+use Rattle.std.specs.List.{list_all}
+use Rattle.std.specs.Char.{digit_value, digit_char, is_digit}
 use Rattle.std.specs.Str.Parse.{AllDigits, digits_value}
 use Rattle.std.specs.Net.Text.{hex}
 
@@ -52,3 +55,21 @@ IsHexOf-hex n fits =
         ]
       ]
     ]
+
+-- the number of up to three digits, before one more
+pub short_number : (xs : List ℕ) (i : ℕ) → i < 4 → i ≤ length xs → AllDigits 16 (take i xs) → digits_value 16 (take i xs) < 0x1000
+short_number xs i few within h =
+    let below = digits_value-lt 16 (take i xs) h in
+    let len : length (take i xs) ≤ 3 = omega (arith, length-take-le i xs within) in
+    let most : 16 ^ length (take i xs) ≤ 16 ^ 3 = pow-le-pow_right (lit≤ tt) len in
+    omega (arith, below, most)
+
+and_false : (b : Bool) → (b && false) ≡ false
+and_false true = refl
+and_false false = refl
+
+-- a byte that is no digit
+pub list_all-other : (xs : List ℕ) (i : ℕ) → i < length xs → 16 ≤ digit_value (get_or xs i 0) → list_all (λ c. is_digit c 16) xs ≡ false
+list_all-other [] i lt h = absurd (omega arith)
+list_all-other (x ∷ xs) zero lt h = rw (le-ltb (digit_value x) 16 h) refl
+list_all-other (x ∷ xs) (suc i) lt h = rw (list_all-other xs i (omega arith) h) (and_false (is_digit x 16))
