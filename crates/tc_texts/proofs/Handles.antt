@@ -1,10 +1,9 @@
 -- The text of a handle is read as that handle.
 use Rattle.std.proofs.Common.{◌≡◌, ◌≢◌, ℕ, zero, suc, ◌+◌, ◌*◌, ◌/◌, ◌%◌, ◌^◌, ◌<◌, ◌≤◌, ◌==◌, Bool, true, false, List, [], ◌∷◌, ◌++◌, length, get_or, take, drop, Option, Some, None, refl, sym, ap, ap₂, ◌∙◌, subst, arith, inl, inr, le-leb, lt-ltb, eq-eqb, ne_eqb, drop_at, append_assoc, length-append}
-use Rattle.std.proofs.Math.Option.{some-injective}
 use Rattle.std.proofs.Math.Seq.{take-append_seam}
 use Rattle.std.proofs.lemmas.Bool.{cases_eq, false_from_ne_true}
 use Rattle.std.proofs.lemmas.Slice.Eq.{bytes_eq-Decides}
-use Rattle.std.specs.Prelude.{codes, bytes_eq, nat_lt}
+use Rattle.std.specs.Prelude.{codes, bytes_eq, nat_lt, unwrap_or}
 use Rattle.std.specs.List.{list_all, position_or_len, before_first, after_first}
 use Rattle.std.specs.Char.{digit_value, is_digit}
 use Rattle.std.specs.Str.Parse.{AllDigits, digits_value}
@@ -108,6 +107,9 @@ handle_of-handle_text n fits =
       ]
     ]
 
+pub same_number : (a b : ℕ) (o : Option ℕ) → o ≡ Some a → o ≡ Some b → a ≡ b
+same_number a b o ea eb = ap (λ (x : Option ℕ). unwrap_or x 0) (sym ea ∙ eb)
+
 pub handle_text-injective : (a b : ℕ) → a < 2 ^ 32 → b < 2 ^ 32 → handle_text a ≡ handle_text b → a ≡ b
 handle_text-injective a b ha hb e =
-    some-injective a b (sym (handle_of-handle_text a ha) ∙ ap handle_of e ∙ handle_of-handle_text b hb)
+    same_number a b _ (handle_of-handle_text a ha) (ap handle_of e ∙ handle_of-handle_text b hb)

@@ -10,6 +10,7 @@ use Rattle.hex.specs.Hex.{IsBytes, decode_of, decode_sized, encode_lower, encode
 use Rattle.hex.specs.declared.error.FromHexError.{FromHexError}
 use Rattle.hex.proofs.HexLemmas.{decode_of-encode_lower, decode_sized-encode_lower, decode_of-ok, decode_of-same}
 use Rattle.tc_texts.specs.Hex.{octet_text, hex_text, has_capital}
+use Rattle.tc_texts.specs.Reading.{IsNoHex}
 
 -- the test of one place of the kit's table of digits
 abbrev is_digit_of : ℕ → Bool
@@ -113,3 +114,7 @@ hex_text-decoded s bytes e low =
     let pairs = lower_pairs s ok.0 ok.1 low in
     let same = decode_of-same s bytes pairs.0 e (ap decode_of pairs.2 ∙ decode_of-hex_text pairs.0 pairs.1) in
     pairs.2 ∙ ap hex_text (sym same)
+
+-- what doesn't decode is the text of no bytes
+pub not_hex : (s : List ℕ) (e : FromHexError) → decode_of s ≡ Err e → IsNoHex s
+not_hex s e h bytes typed same = cc (sym h ∙ ap decode_of same ∙ decode_of-hex_text bytes typed)

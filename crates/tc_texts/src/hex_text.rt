@@ -42,7 +42,9 @@ pub fn read_hex<A: Allocator>(alloc: A, text: &str) -> Result<Option<Vec<u8, A>>
     match hex::decode(alloc, text) {
         Ok(bytes) => Ok(Some(bytes)),
         Err(FromHexError::OutOfMemory) => Err(AllocError),
-        Err(_) => Ok(None),
+        Err(FromHexError::OddLength) => Ok(None),
+        Err(FromHexError::InvalidStringLength) => Ok(None),
+        Err(FromHexError::InvalidHexCharacter { .. }) => Ok(None),
     }
 }
 

@@ -1,6 +1,6 @@
-use Rattle.std.proofs.Common.{sym, ap, ◌∙◌, true≢false}
+use Rattle.std.proofs.Common.{sym, ap, ◌∙◌, true≢false, inl, inr}
 use Rattle.tc_texts.specs.Hex.{has_capital}
-use Rattle.tc_texts.proofs.HexTexts.{has_capital-hex_text, hex_text-decoded}
+use Rattle.tc_texts.proofs.HexTexts.{has_capital-hex_text, hex_text-decoded, not_hex}
 use Rattle.tc_texts.proofs.hex_text.read_hex.Goals as goal
 
 pub returns-then-has_capital : goal.returns-then-has_capital
@@ -10,5 +10,11 @@ returns-then-has_capital g c =
 pub returns-in-Ok : goal.returns-in-Ok
 returns-in-Ok g c = hex_text-decoded c.args.text.now c.in-Ok.bytes.items c.in-Ok.ensures.ok (sym c.has_capital.ensures ∙ c.if-has_capital.false)
 
-pub returns-in-Err : goal.returns-in-Err
-returns-in-Err g c = ?
+pub returns-in-OddLength : goal.returns-in-OddLength
+returns-in-OddLength g c = elim c.in-OddLength.ensures.err [ inl m ↦ cc m | inr h ↦ not_hex c.args.text.now _ h ]
+
+pub returns-in-InvalidStringLength : goal.returns-in-InvalidStringLength
+returns-in-InvalidStringLength g c = elim c.in-InvalidStringLength.ensures.err [ inl m ↦ cc m | inr h ↦ not_hex c.args.text.now _ h ]
+
+pub returns-in-InvalidHexCharacter : goal.returns-in-InvalidHexCharacter
+returns-in-InvalidHexCharacter g c = elim c.in-InvalidHexCharacter.ensures.err [ inl m ↦ cc m | inr h ↦ not_hex c.args.text.now _ h ]
