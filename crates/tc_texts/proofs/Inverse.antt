@@ -1,5 +1,5 @@
 -- Reading the text of a value gives that value, where no other has the text.
-use Rattle.std.proofs.Common.{◌≡◌, ℕ, List, Option, Some, None, refl, sym, ap}
+use Rattle.std.proofs.Common.{ℕ, List, Some, None, refl, sym, ap}
 use Rattle.tc_texts.specs.Reading.{IsInjective, GivesBack}
 
 pub gives_back : (text_of : List ℕ → List ℕ) (n : ℕ) → IsInjective text_of n → GivesBack text_of n

@@ -1,5 +1,5 @@
 -- Numbers of 16 bits in hex, by their number of digits, and what their digits say.
-use Rattle.std.proofs.Common.{◌≡◌, ℕ, ◌+◌, ◌/◌, ◌%◌, ◌^◌, ◌<◌, ◌≤◌, ◌*◌, Bool, true, false, ◌&&◌, zero, suc, List, [], ◌∷◌, length, take, get_or, refl, arith, inl, inr, lit≤, le-ltb, length-take-le}
+use Rattle.std.proofs.Common.{◌≡◌, ℕ, ◌/◌, ◌%◌, ◌^◌, ◌<◌, ◌≤◌, Bool, true, false, ◌&&◌, zero, suc, List, [], ◌∷◌, length, take, get_or, refl, arith, inl, inr, lit≤, le-ltb, length-take-le}
 use Rattle.std.proofs.lemmas.Bool.{cases_lt, le-leb, lt-leb}
 use Rattle.std.proofs.lemmas.Bool.Decides.{nat_tests}
 use Rattle.std.proofs.lemmas.Int.Digits.{digits_value-lt}

@@ -140,7 +140,11 @@ pub fn read_mac(text: &str) -> Option<[u8; 6]>
         Ok(octets) => octets,
         Err(_) => return None,
     };
-    if is_same(mac_text(octets).as_str(), text) { Some(octets) } else { None }
+    if is_same(mac_text(octets).as_str(), text) {
+        Some(octets)
+    } else {
+        None
+    }
 }
 
 /// The octets of the IPv4 address of which this is the text, most significant first.
@@ -161,5 +165,9 @@ pub fn read_ipv6(text: &str) -> Option<[u8; 16]>
         Ok(address) => address.octets(),
         Err(_) => return None,
     };
-    if is_same(ipv6_text(octets).as_str(), text) { Some(octets) } else { None }
+    if is_same(ipv6_text(octets).as_str(), text) {
+        Some(octets)
+    } else {
+        None
+    }
 }

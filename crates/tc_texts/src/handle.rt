@@ -54,7 +54,11 @@ pub fn read_handle(text: &str) -> Option<u32>
         Some(handle) => handle,
         None => return None,
     };
-    if is_same(handle_text(handle).as_str(), text) { Some(handle) } else { None }
+    if is_same(handle_text(handle).as_str(), text) {
+        Some(handle)
+    } else {
+        None
+    }
 }
 
 /// The handle of a text that `tc` reads as one: `1:10`, `1:`, `:10`, `root`, `none`, `ingress`, `clsact`; digits are hex, in

@@ -1,6 +1,6 @@
 use Rattle.std.proofs.Common.{◌<◌, get_or, sym, refl, inl, inr, lt-ltb, le-ltb, true≢false, arith, rules}
 use Rattle.std.proofs.lemmas.Grind.{common_steps}
-use Rattle.std.specs.Net.Addr.{IsIpv4Mapped, IsIpv4Compatible}
+use Rattle.std.specs.Net.Addr.{IsIpv4Compatible}
 use Rattle.tc_texts.proofs.Ipv6.{text_mapped, text_compatible, text_groups}
 use Rattle.tc_texts.proofs.address.ipv6_text.Goals as goal
 use Rattle.tc_texts.proofs.address.ipv6_text.Goals.{then-segments-gt0+in_default-to_ipv4, else-segments-gt0}

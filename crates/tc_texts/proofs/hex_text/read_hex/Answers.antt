@@ -10,11 +10,11 @@ returns-then-has_capital g c =
 pub returns-in-Ok : goal.returns-in-Ok
 returns-in-Ok g c = hex_text-decoded c.args.text.now c.in-Ok.bytes.items c.in-Ok.ensures.ok (sym c.has_capital.ensures ∙ c.if-has_capital.false)
 
-pub returns-in-OddLength : goal.returns-in-OddLength
-returns-in-OddLength g c = elim c.in-OddLength.ensures.err [ inl m ↦ cc m | inr h ↦ not_hex c.args.text.now _ h ]
+pub returns-in-Err-OddLength : goal.returns-in-Err-OddLength
+returns-in-Err-OddLength g c = elim c.in-Err-OddLength.ensures.err [ inl m ↦ cc m | inr h ↦ not_hex c.args.text.now _ h ]
 
-pub returns-in-InvalidStringLength : goal.returns-in-InvalidStringLength
-returns-in-InvalidStringLength g c = elim c.in-InvalidStringLength.ensures.err [ inl m ↦ cc m | inr h ↦ not_hex c.args.text.now _ h ]
+pub returns-in-Err-InvalidStringLength : goal.returns-in-Err-InvalidStringLength
+returns-in-Err-InvalidStringLength g c = elim c.in-Err-InvalidStringLength.ensures.err [ inl m ↦ cc m | inr h ↦ not_hex c.args.text.now _ h ]
 
-pub returns-in-InvalidHexCharacter : goal.returns-in-InvalidHexCharacter
-returns-in-InvalidHexCharacter g c = elim c.in-InvalidHexCharacter.ensures.err [ inl m ↦ cc m | inr h ↦ not_hex c.args.text.now _ h ]
+pub returns-in-Err-InvalidHexCharacter : goal.returns-in-Err-InvalidHexCharacter
+returns-in-Err-InvalidHexCharacter g c = elim c.in-Err-InvalidHexCharacter.ensures.err [ inl m ↦ cc m | inr h ↦ not_hex c.args.text.now _ h ]
