@@ -1,0 +1,5 @@
+pub mod Rows
+pub mod Frames
+pub mod Walks
+pub mod Filling
+pub mod Counting

@@ -1,0 +1,4 @@
+pub mod Nesting
+pub mod Attributes
+pub mod Seen
+pub mod Nodes
