@@ -2,7 +2,10 @@
 use Rattle.std.proofs.Common.{◌≡◌, ◌⊎◌, ℕ, suc, ◌+◌, ◌-◌, ◌<◌, ◌≤◌, List, [], ◌∷◌, ◌++◌, length, take, drop, set, map, refl, sym, ap, ◌∙◌, arith, inl, inr}
 use Rattle.std.proofs.Common.{append_assoc, zero-add, add-zero, add-one}
 use Rattle.std.proofs.lemmas.Bool.{cases_lt}
-use Rattle.std.proofs.lemmas.List.{take_more_set, drop-set-lt, length-set, set_past, take-append-drop, drop_all, take_all, append-nil}
+use Rattle.std.proofs.lemmas.List.{take_more_set, drop-set-lt, length-set, set_past, take-append-drop, drop_all, take_all, append-nil, length-map}
+use Rattle.tc_index.specs.declared.attribute.Node.{Node}
+use Rattle.tc_index.specs.Seen.{SeenNode, node_seen}
+use Rattle.tc_index.specs.Nodes.{Fills}
 
 module _ {X : Type 0} where
   -- each in its slot, from a place on
@@ -17,7 +20,7 @@ module _ {X : Type 0} where
 
   -- those that have room, and the slots behind them
   filled-from : (n : ℕ) (xs slots : List X) → n ≤ length slots → filled n xs slots ≡ take n slots ++ (take (length slots - n) xs ++ drop (n + length xs) slots)
-  filled-from n [] slots low = rw add-zero (sym (take-append-drop n slots))
+  filled-from n [] slots low = rw (add-zero, take_all (length slots - n) [] (omega arith)) (sym (take-append-drop n slots))
   filled-from n (x ∷ xs) slots low = go (filled-from (suc n) xs (set slots n x)) (cases_lt n (length slots))
     where
       go : (suc n ≤ length (set slots n x) → filled (suc n) xs (set slots n x)
@@ -40,3 +43,14 @@ module _ {X : Type 0} where
 
   pub filled-is : (xs slots : List X) → filled 0 xs slots ≡ take (length slots) xs ++ drop (length xs) slots
   filled-is xs slots = let none : length slots - 0 ≡ length slots = omega arith in rw (none, zero-add) at (filled-from 0 xs slots (omega arith))
+
+-- no nodes
+pub fills-none : (nodes : List SeenNode) (slots : List Node) → nodes ≡ [] → Fills nodes slots slots
+fills-none nodes slots none = rw (none, take_all (length slots) [] (omega arith)) refl
+
+-- the last node is put
+pub fills-all : (nodes left : List SeenNode) (n : ℕ) (old new : List Node) → filled n left (map node_seen new) ≡ filled 0 nodes (map node_seen old) → left ≡ []
+    → Fills nodes old new
+fills-all nodes left n old new put none =
+    let done : map node_seen new ≡ filled 0 nodes (map node_seen old) = rw none at put in
+    done ∙ filled-is nodes (map node_seen old) ∙ ap (λ (m : ℕ). take m nodes ++ drop (length nodes) (map node_seen old)) (length-map old node_seen)

@@ -3,3 +3,5 @@ pub mod Frames
 pub mod Walks
 pub mod Filling
 pub mod Counting
+pub mod Standing
+pub mod Depth

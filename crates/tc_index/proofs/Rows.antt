@@ -118,13 +118,12 @@ class-in the.Actions n k other = absurd (other refl)
 class-in _ n k other = refl
 
 -- a list under the kind in force
+abbrev pub with_kind : List ℕ → Table → Table × List ℕ
+with_kind k t = (t, k)
+
 pub same-kind : (class : Class) (k value : List ℕ) (r : Option ListedTable) → option_map table_of r ≡ inner_table class k → inner_kind class k value ≡ k
-    → option_map (λ t. (table_of t, k)) r ≡ list_in class k value
-same-kind class k value r same keeps = rw (keeps, ← same) (go r)
-  where
-    go : (r : Option ListedTable) → option_map (λ t. (table_of t, k)) r ≡ option_map (λ t. (t, k)) (option_map table_of r)
-    go None = refl
-    go (Some t) = refl
+    → option_map (with_kind k) (option_map table_of r) ≡ list_in class k value
+same-kind class k value r same keeps = rw (keeps, ← same) refl
 
 -- ---- kinds
 

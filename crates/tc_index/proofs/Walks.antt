@@ -1,5 +1,5 @@
 -- The steps of a walk: what lists have left as one is entered, stepped through and left.
-use Rattle.std.proofs.Common.{◌≡◌, ◌⊎◌, ℕ, zero, suc, ◌+◌, ◌-◌, ◌<◌, ◌≤◌, List, [], ◌∷◌, ◌++◌, length, take, drop, get_or, set, Option, Some, None, Ok, Err, refl, sym, ap, ◌∙◌, arith, inl, inr}
+use Rattle.std.proofs.Common.{◌≡◌, ◌⊎◌, ℕ, zero, suc, ◌+◌, ◌-◌, ◌<◌, ◌≤◌, List, [], ◌∷◌, ◌++◌, length, take, drop, get_or, set, Option, Some, None, Ok, Err, refl, sym, ap, subst, ◌∙◌, arith, inl, inr}
 use Rattle.std.proofs.Common.{append_assoc, add-zero, zero-add, add-one, Bool, true, false}
 use Rattle.std.specs.Prelude.{◌==◌}
 use Rattle.std.proofs.lemmas.Bool.{ne_eqb}
@@ -17,7 +17,7 @@ use Rattle.tc_index.specs.declared.attribute.BrokenFrame.{BrokenFrame}
 use Rattle.tc_index.specs.declared.level.Level.{Level}
 use Rattle.tc_index.specs.declared.attributes.Attributes.{Attributes}
 use Rattle.tc_index.specs.Attributes.{Placed, Item, Gives, each, within, with_inner, attributes_in, to_fault}
-use Rattle.tc_index.specs.Seen.{left_in, levels_left, items_left}
+use Rattle.tc_index.specs.Seen.{inner_of, left_in, levels_left, items_left}
 use Rattle.tc_index.proofs.Frames.{Takes}
 
 -- nothing is left
@@ -93,7 +93,7 @@ enters before after d level l o t k at bytes low four kept is left =
     let around : levels_left 0 (take (d + 1) after) ≡ left_in d level ++ levels_left 0 (take d before) =
     ap (levels_left 0) taken ∙ levels-more 0 (take d before) level ∙ rw (counted, zero-add) refl in
     let inner : left_in (d + 1) l ≡ within (attributes_in (4 - d)) o (suc d) at bytes =
-    ap (λ (n : ℕ). left_in n l) add-one ∙ left ∙ sym (attributes-some d t k at bytes low) ∙ ap (λ (x : Option (Table × List ℕ)). within (attributes_in (4 - d)) x (suc d) at bytes) is in
+    ap (λ (n : ℕ). left_in n l) (add-one d) ∙ left ∙ sym (attributes-some d t k at bytes low) ∙ ap (λ (x : Option (Table × List ℕ)). within (attributes_in (4 - d)) x (suc d) at bytes) is in
     rw (around, inner) refl
 
 -- one that would be too deep
@@ -102,6 +102,10 @@ pub too-deep : (d : ℕ) (o : Option (Table × List ℕ)) (at : ℕ) (bytes : Li
 unfolding attributes_in
 too-deep d None at bytes left deep = refl
 too-deep d (Some list) at bytes left deep = let fuel : 4 - d ≡ 0 = omega arith in rw fuel refl
+
+-- an attribute by its place
+pub takes-one : (p q : Placed) (depth : ℕ) (list left : List Item) → p ≡ q → list ≡ (Ok q ∷ inner_of depth q) ++ left → list ≡ (Ok p ∷ inner_of depth p) ++ left
+takes-one p q depth list left same first = subst (λ (x : Placed). list ≡ (Ok x ∷ inner_of depth x) ++ left) (sym same) first
 
 -- ---- what an iterator has left
 

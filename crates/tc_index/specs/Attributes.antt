@@ -60,17 +60,17 @@ to_fault [] = []
 to_fault (Ok a ∷ items) = Ok a ∷ to_fault items
 to_fault (Err broken ∷ items) = Err broken ∷ []
 
--- a message's attributes, after its header
-abbrev pub message_items : ℕ → Table → Sets Frame → List ℕ → List Item
-message_items header t sets bytes = to_fault (each (with_inner (attributes_in 4) t 0) sets [] header (items_of (cut (drop header bytes))))
+-- the attributes of a message after its header, and those in them, at most so many lists deep
+abbrev pub message_items : ℕ → ℕ → Table → Sets Frame → List ℕ → List Item
+message_items deepest header t sets bytes = to_fault (each (with_inner (attributes_in deepest) t 0) sets [] header (items_of (cut (drop header bytes))))
 
 -- a traffic control message: a frame of type 1 sets the kind for those after it
 unfoldable pub tc_items : List ℕ → List Item
-tc_items bytes = message_items 20 (table attributes) kind_of_frame bytes
+tc_items bytes = message_items 4 20 (table attributes) kind_of_frame bytes
 
 -- an action message
 unfoldable pub action_items : List ℕ → List Item
-action_items bytes = message_items 4 (table action_message_attributes) keep bytes
+action_items bytes = message_items 4 4 (table action_message_attributes) keep bytes
 
 -- what a message gives whose header has so many bytes; a shorter one is refused
 abbrev pub after_header : ℕ → (List ℕ → List Item) → List ℕ → Outcome (List Item)

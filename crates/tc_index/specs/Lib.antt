@@ -2,3 +2,4 @@ pub mod Nesting
 pub mod Attributes
 pub mod Seen
 pub mod Nodes
+pub mod Standing

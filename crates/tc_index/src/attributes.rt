@@ -45,7 +45,7 @@ impl<'a> Attributes<'a> {
 
     fn after_header(bytes: &'a [u8], header: usize, table: Table, sets_kind: bool) -> Res<Self>
         ensures { seen items_left result
-            ≡ after_header header (message_items header (table_of table) (sets_if sets_kind)) bytes.now }
+            ≡ after_header header (message_items 4 header (table_of table) (sets_if sets_kind)) bytes.now }
     {
         if bytes.len() < header {
             return Err(DecodeError::BufferTooSmall {

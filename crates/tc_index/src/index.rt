@@ -1,6 +1,6 @@
 //! All attributes of a message, into an array.
 
-ghost use Rattle.std.specs.Prelude.{◌≡◌, ◌<◌, ◌^◌, length, map, slice_set};
+ghost use Rattle.std.specs.Prelude.{◌≡◌, ◌≤◌, length, map, slice_set};
 ghost use Rattle.tc_index.specs.Seen.{items_left, node_seen};
 ghost use Rattle.tc_index.specs.Nodes.{nodes_of, tc_nodes, action_nodes, Fills};
 
@@ -14,7 +14,7 @@ pub fn index_tc(bytes: &[u8], slots: &mut [Node]) -> usize
     ensures slots { Fills (tc_nodes bytes.now) slots.old slots.new }
 {
     match Attributes::of_tc(bytes) {
-        Ok(attributes) => put_nodes(attributes, slots),
+        Ok(attributes) => put_nodes(attributes, bytes.len() / 4, slots),
         Err(_) => 0,
     }
 }
@@ -25,13 +25,14 @@ pub fn index_action(bytes: &[u8], slots: &mut [Node]) -> usize
     ensures slots { Fills (action_nodes bytes.now) slots.old slots.new }
 {
     match Attributes::of_action(bytes) {
-        Ok(attributes) => put_nodes(attributes, slots),
+        Ok(attributes) => put_nodes(attributes, bytes.len() / 4, slots),
         Err(_) => 0,
     }
 }
 
-fn put_nodes(attributes: Attributes<'_>, slots: &mut [Node]) -> usize
-    requires { length (nodes_of (items_left attributes)) < 2 ^ 64 }
+/// Writes attributes, of which there are at most so many.
+fn put_nodes(attributes: Attributes<'_>, most: usize, slots: &mut [Node]) -> usize
+    requires { length (nodes_of (items_left attributes)) ≤ most }
     ensures count { result ≡ length (nodes_of (items_left attributes.entry)) }
     ensures slots { Fills (nodes_of (items_left attributes.entry)) slots.old slots.new }
 {

@@ -1,11 +1,8 @@
-use Rattle.tc_index.specs.Attributes.{tc_items, action_items}
-use Rattle.tc_index.proofs.Counting.{message-count}
+use Rattle.tc_index.proofs.Counting.{tc-count, action-count}
 use Rattle.tc_index.proofs.laws.slots_suffice.Goals as goal
 
 pub returns-clause-tc : goal.returns-clause-tc
-unfolding tc_items
-returns-clause-tc c = message-count 20 _ _ c.args.bytes.now
+returns-clause-tc c = tc-count c.args.bytes.now
 
 pub returns-clause-action : goal.returns-clause-action
-unfolding action_items
-returns-clause-action c = message-count 4 _ _ c.args.bytes.now
+returns-clause-action c = action-count c.args.bytes.now

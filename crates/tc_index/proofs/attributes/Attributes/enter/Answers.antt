@@ -6,7 +6,7 @@ use Rattle.tc_index.proofs.attributes.Attributes.enter.Goals as goal
 pub returns-in-Some : goal.returns-in-Some
 returns-in-Some c =
     enters (outer_of c.args.self.now) (outer_of c.keep_level.new.self) c.args.self.now.depth c.args.self.now.level _ _ _ _ _ _ c.if-depth-lt4.true refl
-    c.keep_level.ensures (c.in-Some.ensures tt) refl
+    c.keep_level.ensures c.in-Some.ensures refl
 
 pub returns-else-depth-lt4 : goal.returns-else-depth-lt4
 returns-else-depth-lt4 c = too-deep c.args.self.now.depth _ _ _ (lists_left c.args.self.now) c.if-depth-lt4.false

@@ -1,12 +1,13 @@
+use Rattle.std.proofs.Common.{◌-◌}
 use Rattle.tc_names.specs.Listed.{table_of}
 use Rattle.tc_index.specs.Attributes.{with_inner, attributes_in}
-use Rattle.tc_index.specs.Seen.{sets_if}
-use Rattle.std.proofs.Common.{◌-◌}
-use Rattle.tc_index.proofs.Walks.{fault-given}
+use Rattle.tc_index.specs.Seen.{placed_of, sets_if}
+use Rattle.tc_index.proofs.Walks.{takes-one, fault-given}
 use Rattle.tc_index.proofs.level.Level.take_first.Goals as goal
 
 pub returns-in-Ok-clause-gives : goal.returns-in-Ok-clause-gives
-returns-in-Ok-clause-gives c = rw c.attribute-attribute.ensures.placed (c.after.ensures c.args.depth)
+returns-in-Ok-clause-gives c =
+    takes-one (placed_of c.attribute-attribute.result) _ c.args.depth _ _ c.attribute-attribute.ensures.placed (c.after.ensures c.args.depth)
 
 pub returns-in-Err-clause-gives : goal.returns-in-Err-clause-gives
 returns-in-Err-clause-gives c =
