@@ -20,7 +20,7 @@ module _ {X : Type 0} where
 
   -- those that have room, and the slots behind them
   filled-from : (n : ℕ) (xs slots : List X) → n ≤ length slots → filled n xs slots ≡ take n slots ++ (take (length slots - n) xs ++ drop (n + length xs) slots)
-  filled-from n [] slots low = rw (add-zero, take_all (length slots - n) [] (omega arith)) (sym (take-append-drop n slots))
+  filled-from n [] slots low = rw (add-zero, take_all {A = X} (length slots - n) [] (omega arith)) (sym (take-append-drop n slots))
   filled-from n (x ∷ xs) slots low = go (filled-from (suc n) xs (set slots n x)) (cases_lt n (length slots))
     where
       go : (suc n ≤ length (set slots n x) → filled (suc n) xs (set slots n x)
@@ -46,7 +46,7 @@ module _ {X : Type 0} where
 
 -- no nodes
 pub fills-none : (nodes : List SeenNode) (slots : List Node) → nodes ≡ [] → Fills nodes slots slots
-fills-none nodes slots none = rw (none, take_all (length slots) [] (omega arith)) refl
+fills-none nodes slots none = rw (none, take_all {A = SeenNode} (length slots) [] (omega arith)) refl
 
 -- the last node is put
 pub fills-all : (nodes left : List SeenNode) (n : ℕ) (old new : List Node) → filled n left (map node_seen new) ≡ filled 0 nodes (map node_seen old) → left ≡ []

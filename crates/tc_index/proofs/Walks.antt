@@ -1,5 +1,5 @@
 -- The steps of a walk: what lists have left as one is entered, stepped through and left.
-use Rattle.std.proofs.Common.{◌≡◌, ◌⊎◌, ℕ, zero, suc, ◌+◌, ◌-◌, ◌<◌, ◌≤◌, List, [], ◌∷◌, ◌++◌, length, take, drop, get_or, set, Option, Some, None, Ok, Err, refl, sym, ap, subst, ◌∙◌, arith, inl, inr}
+use Rattle.std.proofs.Common.{◌≡◌, ◌⊎◌, ℕ, zero, suc, ◌+◌, ◌-◌, ◌<◌, ◌≤◌, List, [], ◌∷◌, ◌++◌, length, take, drop, get_or, set, Option, Some, None, Ok, Err, refl, sym, ap, ap₂, subst, ◌∙◌, arith, inl, inr}
 use Rattle.std.proofs.Common.{append_assoc, add-zero, zero-add, add-one, Bool, true, false}
 use Rattle.std.specs.Prelude.{◌==◌}
 use Rattle.std.proofs.lemmas.Bool.{ne_eqb}
@@ -79,22 +79,22 @@ leaves outer d level l none some inside is =
 
 -- a list that is entered
 attributes-some : (d : ℕ) (t : Table) (k : List ℕ) (at : ℕ) (bytes : List ℕ) → d < 4
-    → attributes_in (4 - d) t k (suc d) at bytes ≡ each (with_inner (attributes_in (4 - suc d)) t (suc d)) keep k at (items_of (cut bytes))
+    → attributes_in (4 - d) t k (suc d) at bytes ≡ each (with_inner (attributes_in (4 - (d + 1))) t (d + 1)) keep k at (items_of (cut bytes))
 unfolding attributes_in
-attributes-some d t k at bytes low = let fuel : 4 - d ≡ suc (4 - suc d) = omega arith in rw fuel refl
+attributes-some d t k at bytes low = let fuel : 4 - d ≡ suc (4 - (d + 1)) = omega arith in rw (fuel, add-one) refl
 
-pub enters : (before after : List Level) (d : ℕ) (level l : Level) (o : Option (Table × List ℕ)) (t : Table) (k : List ℕ) (at : ℕ) (bytes : List ℕ)
+pub enters : (before after : List Level) (d : ℕ) (level : Level) (o : Option (Table × List ℕ)) (t : Table) (k : List ℕ) (at : ℕ) (bytes : List ℕ)
     → d < 4 → length before ≡ 4 → after ≡ set before d level → Some (t, k) ≡ o
-    → left_in (suc d) l ≡ each (with_inner (attributes_in (4 - suc d)) t (suc d)) keep k at (items_of (cut bytes))
-    → left_in (d + 1) l ++ levels_left 0 (take (d + 1) after) ≡ within (attributes_in (4 - d)) o (suc d) at bytes ++ (left_in d level ++ levels_left 0 (take d before))
-enters before after d level l o t k at bytes low four kept is left =
+    → each (with_inner (attributes_in (4 - (d + 1))) t (d + 1)) keep k at (items_of (cut bytes)) ++ levels_left 0 (take (d + 1) after)
+    ≡ within (attributes_in (4 - d)) o (suc d) at bytes ++ (left_in d level ++ levels_left 0 (take d before))
+enters before after d level o t k at bytes low four kept is =
     let counted : length (take d before) ≡ d = length-take-le d before (omega arith) in
     let taken : take (d + 1) after ≡ take d before ++ level ∷ [] = ap (λ (ls : List Level). take (d + 1) ls) kept ∙ take_more_set before d level (omega arith) in
     let around : levels_left 0 (take (d + 1) after) ≡ left_in d level ++ levels_left 0 (take d before) =
     ap (levels_left 0) taken ∙ levels-more 0 (take d before) level ∙ rw (counted, zero-add) refl in
-    let inner : left_in (d + 1) l ≡ within (attributes_in (4 - d)) o (suc d) at bytes =
-    ap (λ (n : ℕ). left_in n l) (add-one d) ∙ left ∙ sym (attributes-some d t k at bytes low) ∙ ap (λ (x : Option (Table × List ℕ)). within (attributes_in (4 - d)) x (suc d) at bytes) is in
-    rw (around, inner) refl
+    let inner : each (with_inner (attributes_in (4 - (d + 1))) t (d + 1)) keep k at (items_of (cut bytes)) ≡ within (attributes_in (4 - d)) o (suc d) at bytes =
+    sym (attributes-some d t k at bytes low) ∙ ap (λ (x : Option (Table × List ℕ)). within (attributes_in (4 - d)) x (suc d) at bytes) is in
+    ap₂ (λ (xs ys : List Item). xs ++ ys) inner around
 
 -- one that would be too deep
 pub too-deep : (d : ℕ) (o : Option (Table × List ℕ)) (at : ℕ) (bytes : List ℕ) (left : List Item) → 4 ≤ d

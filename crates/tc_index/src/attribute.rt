@@ -1,9 +1,10 @@
 //! An attribute where it stands in a message.
 
 ghost use Rattle.std.specs.Prelude.{◌≡◌};
+ghost use Rattle.nla_frames.specs.Frame.{type_of};
 ghost use Rattle.tc_index.specs.Seen.{placed_of, node_seen, node_of};
 
-use nla_frames::DecodeError;
+use nla_frames::{DecodeError, NLA_TYPE_MASK};
 use tc_names::Table;
 use thiserror::Error;
 
@@ -50,6 +51,13 @@ pub struct BrokenFrame {
 }
 
 impl<'a> Attribute<'a> {
+    /// The type: the word without its two flags.
+    pub fn number(&self) -> u16
+        ensures { result ≡ type_of (placed_of self.now).frame.word }
+    {
+        self.word & NLA_TYPE_MASK
+    }
+
     /// The attribute by places.
     pub fn node(&self) -> Node
         ensures { node_seen result ≡ node_of (placed_of self.now) }

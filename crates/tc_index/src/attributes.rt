@@ -5,7 +5,7 @@ ghost use Rattle.std.specs.Prelude.{◌≡◌, ◌≤◌};
 use crate::attribute::{Attribute, BrokenFrame};
 use crate::level::Level;
 use crate::nesting::list_in;
-use nla_frames::{DecodeError, NLA_TYPE_MASK, Res};
+use nla_frames::{DecodeError, Res};
 use tc_names::Table;
 
 /// The attributes of a message, each before those in it; then the first broken frame if there is one, then nothing.
@@ -108,7 +108,7 @@ impl<'a> Attributes<'a> {
         if depth < 4 {
             match list_in(
                 attribute.table,
-                attribute.word & NLA_TYPE_MASK,
+                attribute.number(),
                 attribute.kind,
                 attribute.value,
             ) {
