@@ -1,10 +1,9 @@
 -- The walk over a value's frames finds the attributes that the value reads as, class by class and table by table.
-use Rattle.std.proofs.Common.{◌≡◌, ℕ, zero, suc, ◌+◌, ◌≤◌, List, [], ◌∷◌, ◌++◌, map, drop, Option, Some, None, Result, Ok, Err, refl, sym, ap, ap₂, subst, ◌∙◌, arith}
-use Rattle.std.specs.Prelude.{Bool, true, false, max, ◌==◌, nat_lt, not, take, length, unwrap_or, if◌then◌else◌}
+use Rattle.std.proofs.Common.{◌≡◌, ℕ, zero, suc, ◌+◌, ◌≤◌, List, [], ◌∷◌, ◌++◌, map, drop, Some, None, Result, Ok, Err, refl, sym, ap, ap₂, subst, ◌∙◌, arith}
+use Rattle.std.specs.Prelude.{Bool, true, false, ◌==◌, nat_lt, take, length, unwrap_or, if◌then◌else◌}
 use Rattle.std.specs.Str.{bytes_eq, is_utf8}
 use Rattle.std.proofs.lemmas.Bool.{eqb-true}
 use Rattle.std.proofs.lemmas.List.{map-append}
-use Rattle.nla_frames.specs.declared.error.DecodeError.{DecodeError}
 use Rattle.nla_frames.specs.declared.error.DecodeError.TheVariants.{NotUtf8, XstatsShort}
 use Rattle.nla_frames.specs.Fault.{Outcome, seen, ◌>>=◌}
 use Rattle.nla_frames.specs.Value as plain_values
@@ -13,11 +12,9 @@ use Rattle.nla_frames.specs.Frame.{Frame, type_of, frame_length}
 use Rattle.nla_frames.specs.Place.{Sets, kind_then}
 use Rattle.nla_frames.specs.Reading.{Reads, keep, before, read_each, read_list}
 use Rattle.nla_frames.specs.Cutting.{cut, items_of}
-use Rattle.nla_frames.specs.Codec.{Codec}
 use Rattle.tc_canon.specs.Descriptor.{Class, le, be, masked, array, raw, text, warning, presence, truth, fields, selector, pair, xstats, list_of, own_list}
 use Rattle.tc_canon.specs.Descriptor.{Table, table, every, by_kind, Rows, others, types, unread, options, Kinds, unknown, kind, is_within, is_known}
-use Rattle.tc_canon.specs.Kind.{kind_of_frame}
-use Rattle.tc_meaning.specs.Tree.{Content, number, is_bytes, flag, record_of, keyed, statistics, unknown_statistics, items, Attribute, known, kept, other, of_kind, attributes_of}
+use Rattle.tc_meaning.specs.Tree.{Content, number, is_bytes, flag, record_of, statistics, unknown_statistics, Attribute, known, kept, other, of_kind, attributes_of}
 use Rattle.tc_meaning.specs.Content.{a_selector, read_statistics, is_fq_codel}
 use Rattle.tc_meaning.specs.Own.{read_kinds, only_kind, read_own}
 use Rattle.tc_meaning.specs.Meaning.{a_list, by_type, choose, row_frames, unread_frames, options_frames, class_codec, table_codec, rows_codec, kinds_codec}
@@ -128,8 +125,8 @@ own-at rows n one k v content e depth at =
     let o = then-ok (read_kinds (items_of (cut v))) only_kind s.0 s.1 in
     let own : first_kind (items_of (cut v)) ≡ s.0 = first-is (items_of (cut v)) s.0 [] (o.1 ∙ ap kinds_read (only-is o.0 s.0 o.2)) in
     rw own
-        (subst (λ (c : Content). AreAt (attributes_in (suc n) (table rows) s.0 depth at v) (spots_within depth c)) r.2
-        (list-at (table rows) n one s.0 v r.0 s.2 depth at))
+    (subst (λ (c : Content). AreAt (attributes_in (suc n) (table rows) s.0 depth at v) (spots_within depth c)) r.2
+    (list-at (table rows) n one s.0 v r.0 s.2 depth at))
 
 -- ---- values that are no lists
 
@@ -168,7 +165,9 @@ known-at : (c : Class) (n m : ℕ) → ClassAt c n → (k : List ℕ) (f : Frame
     → InnerAt c n k f x
 known-at c n m one k f x same e depth at =
     let r = seen-ok (known m) ((class_codec c).read k f.value) x e in
-    rw (← r.2, same) (ap (λ (s : List (Result Spot BrokenFrame)). found (depth, type_of f.word) ∷ s) (one k f.value r.0 r.1 (suc depth) at))
+    let inner = within (attributes_in n) (list_in c k f.value) (suc depth) at f.value in
+    subst (λ (y : Attribute). found (depth, type_of f.word) ∷ map spot_of inner ≡ map found (spots_of depth y)) r.2
+    (ap₂ (λ (s : Result Spot BrokenFrame) (t : List (Result Spot BrokenFrame)). s ∷ t) (ap (λ (l : ℕ). found (depth, l)) (sym same)) (one k f.value r.0 r.1 (suc depth) at))
 
 raw-at : (n : ℕ) (k : List ℕ) (f : Frame) (x : Attribute) → ((depth : ℕ) → spots_of depth x ≡ (depth, type_of f.word) ∷ []) → InnerAt raw n k f x
 raw-at n k f x alone depth at = rw (alone depth) refl
@@ -239,8 +238,9 @@ mutual
   class-at selector n low k v content e depth at = plain a_selector.into _ content (λ x d. refl) e depth
   class-at pair n low k v content e depth at = plain record_of _ content (λ x d. refl) e depth
   class-at xstats n low k v content e depth at = xstats-at k v content e depth
-  class-at (list_of t) n low = list-class t n low (λ p l. table-at t p l)
-  class-at (own_list rows) n low = own-class rows n low (λ p l k f x e depth at. rows-at rows p l (type_of f.word) k f x refl e depth at)
+  class-at (list_of t) n low k v content e depth at = list-class t n low (λ p l. table-at t p l) k v content e depth at
+  class-at (own_list rows) n low k v content e depth at =
+      own-class rows n low (λ p l j f x h deeper place. rows-at rows p l (type_of f.word) j f x refl h deeper place) k v content e depth at
 
   pub table-at : (t : Table) (n : ℕ) → lists_of t ≤ n → TableAt t n
   table-at (table rows) n low k f x e depth at = rows-at rows n low (type_of f.word) k f x refl e depth at
@@ -270,12 +270,12 @@ mutual
 -- ---- messages
 
 -- where no frame is broken, nothing is cut off
-to_fault-at : (items : List Item) (spots : List Spot) → AreAt items spots → to_fault items ≡ items
+to_fault-at : (xs : List Item) (spots : List Spot) → AreAt xs spots → to_fault xs ≡ xs
 to_fault-at [] spots e = refl
-to_fault-at (Ok p ∷ items) [] e = absurd cc
-to_fault-at (Ok p ∷ items) (s ∷ spots) e = let rest : map spot_of items ≡ map found spots = cc in ap (λ (xs : List Item). Ok p ∷ xs) (to_fault-at items spots rest)
-to_fault-at (Err broken ∷ items) [] e = absurd cc
-to_fault-at (Err broken ∷ items) (s ∷ spots) e = absurd cc
+to_fault-at (Ok p ∷ xs) [] e = absurd cc
+to_fault-at (Ok p ∷ xs) (s ∷ spots) e = let rest : map spot_of xs ≡ map found spots = cc in ap (λ (ys : List Item). Ok p ∷ ys) (to_fault-at xs spots rest)
+to_fault-at (Err broken ∷ xs) [] e = absurd cc
+to_fault-at (Err broken ∷ xs) (s ∷ spots) e = absurd cc
 
 pub message-at : (header : ℕ) (rows : Rows) (sets : Sets Frame) (bytes : List ℕ) (xs : List Attribute) → lists_at rows ≤ 4
     → read_list (table_codec (table rows)).read sets [] (drop header bytes) ≡ Ok xs

@@ -1,7 +1,7 @@
 -- The attributes of the value that a message reads as, each before those in it: in how many others it is, and its type.
 use Rattle.std.specs.Prelude.{◌≡◌, ℕ, suc, List, [], ◌∷◌, ◌++◌, map, Result, Ok, Err}
 use Rattle.nla_frames.specs.Frame.{type_of}
-use Rattle.tc_meaning.specs.Tree.{Content, items, Attribute, known, kept, other, of_kind, Attributes, none, and, attributes_of}
+use Rattle.tc_meaning.specs.Tree.{Content, items, Attribute, known, kept, other, of_kind, Attributes, none, and}
 use Rattle.tc_index.specs.declared.attribute.BrokenFrame.{BrokenFrame}
 use Rattle.tc_index.specs.Attributes.{Item}
 
@@ -35,4 +35,4 @@ found spot = Ok spot
 
 -- what is found, with no broken frame among it
 abbrev pub AreAt : List Item → List Spot → Type 0
-AreAt items spots = map spot_of items ≡ map found spots
+AreAt xs spots = map spot_of xs ≡ map found spots
