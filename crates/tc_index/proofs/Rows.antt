@@ -124,49 +124,19 @@ same-kind class k value r same keeps = rw (keeps, ← same) refl
 
 -- ---- kinds
 
--- the listed kinds are these, and their tables have rows
-abbrev Agree : List NamedKind → Kinds → Type 0
-Agree [] unknown = Unit {0}
-Agree (n ∷ ns) (kind name rows kinds) = (n.kind ≡ name) × (table_of n.table ≡ table rows) × Agree ns kinds
-Agree _ _ = ⊥
-
-agree : (t : ListedTable) → Agree (kind_names_in t) (kinds_in t)
-agree the.Options = (refl, refl, (refl, refl, (refl, refl, (refl, refl, (refl, refl, (refl, refl, tt))))))
-agree the.ActionOptions = (refl, refl, (refl, refl, (refl, refl, tt)))
-agree _ = tt
-
 -- the table of a kind, of the first that has its text
 abbrev pub find : List NamedKind → List ℕ → Option ListedTable
 find [] k = None
 find (n ∷ ns) k = if bytes_eq k n.kind then Some n.table else find ns k
 
-found : (ns : List NamedKind) (kinds : Kinds) (k : List ℕ) → Agree ns kinds → option_map table_of (find ns k) ≡ known_table kinds k
-found [] unknown k all = refl
-found [] (kind name rows kinds) k all = elim all [ ]
-found (n ∷ ns) unknown k all = elim all [ ]
-found (n ∷ ns) (kind name rows kinds) k all = rw (← all.0, ← all.1) (go (found ns kinds k all.2) (bytes_eq k n.kind))
-  where
-    go : option_map table_of (find ns k) ≡ known_table kinds k → (b : Bool) → option_map table_of (if b then Some n.table else find ns k) ≡ (if b then Some (table_of n.table) else known_table kinds k)
-    go rest true = refl
-    go rest false = rest
-
-pub known-is : (t : ListedTable) (k : List ℕ) (r : Option ListedTable) → find (kind_names_in t) k ≡ r → option_map table_of r ≡ known_table (kinds_in t) k
-known-is t k r e = rw (← e) (found (kind_names_in t) (kinds_in t) k (agree t))
-
 -- a kind is known where it has a table
-pub is_known-is : (kinds : Kinds) (k : List ℕ) → is_known kinds k ≡ is_some (known_table kinds k)
+is_known-is : (kinds : Kinds) (k : List ℕ) → is_known kinds k ≡ is_some (known_table kinds k)
 is_known-is unknown k = refl
 is_known-is (kind name rows kinds) k = go (is_known-is kinds k) (bytes_eq k name)
   where
     go : is_known kinds k ≡ is_some (known_table kinds k) → (b : Bool) → (if b then true else is_known kinds k) ≡ is_some (if b then Some (table rows) else known_table kinds k)
     go rest true = refl
     go rest false = rest
-
--- a table by kind, and any other
-pub under-is : (t : ListedTable) (k : List ℕ) → table_under (table_of t) k ≡ unwrap_or (known_table (kinds_in t) k) (table_of t)
-under-is the.Options k = refl
-under-is the.ActionOptions k = refl
-under-is _ k = refl
 
 -- options under a known kind
 pub known_list : (kinds : Kinds) (k : List ℕ) → known_table kinds k ≡ inner_table (if is_known kinds k then list_of (by_kind kinds) else raw) k

@@ -21,7 +21,7 @@ use Rattle.tc_index.specs.Seen.{inner_of, left_in, levels_left, items_left}
 use Rattle.tc_index.proofs.Frames.{Takes}
 
 -- nothing is left
-pub none-left : (gives : Gives) (sets : Sets Frame) (k : List ℕ) (at : ℕ) (rest : List ℕ) → rest ≡ [] → each gives sets k at (items_of (cut rest)) ≡ []
+none-left : (gives : Gives) (sets : Sets Frame) (k : List ℕ) (at : ℕ) (rest : List ℕ) → rest ≡ [] → each gives sets k at (items_of (cut rest)) ≡ []
 none-left gives sets k at rest none = rw (none, items-nil) refl
 
 -- so the place doesn't matter
@@ -112,12 +112,3 @@ takes-one p q depth list left same first = subst (λ (x : Placed). list ≡ (Ok 
 -- nothing, where no list has anything left
 pub nothing-left : (it : Attributes) → it.level.rest.now ≡ [] → it.depth ≡ 0 → items_left it ≡ []
 nothing-left it none first = rw (none, first, items-nil) refl
-
--- an attribute, and then those in it and the rest
-pub gives-one : (p : Placed) (inner left outer whole list : List Item) → whole ≡ list ++ outer → list ≡ (Ok p ∷ inner) ++ left
-    → to_fault whole ≡ Ok p ∷ to_fault (inner ++ (left ++ outer))
-gives-one p inner left outer whole list parts first = rw (parts, first, append_assoc inner left outer) refl
-
--- a broken frame, and then nothing
-pub gives-fault : (broken : BrokenFrame) (outer whole list : List Item) → whole ≡ list ++ outer → list ≡ Err broken ∷ [] → to_fault whole ≡ Err broken ∷ []
-gives-fault broken outer whole list parts first = rw (parts, first) refl

@@ -56,8 +56,8 @@ const MIRRED_NODES: [Expected; 5] = [
     (32, 28, 0x0002, Table::Mirror, 3),
 ];
 
-/// A filter `flower` with two actions whose kinds stand last, `tunnel_key` and the unknown `gact`, with a label stack entry
-/// of MPLS, and an empty option of type 98; then statistics.
+/// A filter `flower` with two actions whose kinds stand behind their options, `tunnel_key` and the unknown `gact`; a
+/// label stack entry of MPLS, and an empty option of type 98; then statistics.
 const FLOWER: [u8; 180] = [
     0, 0, 0, 0, 9, 0, 0, 0, 1, 0, 2, 0, 3, 0, 4, 0, 5, 6, 7, 8, 11, 0, 1, 0, 102, 108, 111, 119,
     101, 114, 0, 0, 136, 0, 2, 0, 104, 0, 3, 0, 48, 0, 1, 0, 20, 0, 2, 128, 8, 0, 7, 0, 0, 0, 0,

@@ -9,8 +9,8 @@ ghost use Rattle.tc_meaning.specs.Message.{Message, ReadsMessage, ReadsWith};
 ghost use Rattle.tc_index.specs.Attributes.{tc_items, action_items};
 ghost use Rattle.tc_index_laws.specs.Spots.{AreAt, spots_in};
 
-/// Of the bytes of a traffic control message, the attributes are those of the value that they read as, each before those
-/// in it, of the same types and as deep; and no frame is broken.
+/// The attributes of a traffic control message that can be read are those of the value that it reads as: each before
+/// those in it, of the same types and as deep; and no frame is broken.
 pub fn tc_tree(bytes: &[u8])
     ensures { (m : Message) → ReadsMessage tc_header attributes bytes.now m
         → AreAt (tc_items bytes.now) (spots_in 0 (attributes_of m.body)) }
