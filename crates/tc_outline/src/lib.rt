@@ -4,9 +4,10 @@
 mod fault;
 mod header;
 mod meaning;
+mod message;
 mod names;
 mod number;
-mod outline;
+
 mod page;
 mod path;
 mod reader;
@@ -16,8 +17,9 @@ mod walk;
 mod what;
 
 pub use fault::Fault;
+pub use message::outline;
 pub use names::Interfaces;
-pub use outline::outline;
+
 pub use page::{Layout, Page};
 pub use path::Path;
 pub use reader::locate;

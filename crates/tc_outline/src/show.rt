@@ -15,7 +15,7 @@ use nla_frames::strip_nul;
 use record::show_record;
 use selector::show_selector;
 use std::alloc::{AllocError, Allocator};
-use tc_names::{Fixed, Form};
+use tc_names::{Fixed, Form, Table};
 use texts::{show_handle, show_ipv4, show_ipv6, show_mac};
 
 // The value of an attribute that has no fault, after a blank; nothing of a list.
@@ -120,11 +120,10 @@ pub(crate) fn show_name<A: Allocator>(
     attribute: &Attribute<'_>,
     meaning: &Meaning,
 ) -> Result<(), AllocError> {
-    if meaning.name.is_empty() {
-        page.text("type ")?;
-        page.number(u64::from(type_of(attribute)))?;
-    } else {
-        page.name(meaning.name)?;
+    match attribute.table {
+        Table::Actions => show_type(page, "action ", attribute)?,
+        _ if meaning.name.is_empty() => show_type(page, "type ", attribute)?,
+        _ => page.name(meaning.name)?,
     }
     match meaning.word {
         None => show_flags(page, attribute.word),
@@ -134,6 +133,12 @@ pub(crate) fn show_name<A: Allocator>(
             show_short_hex(page, u64::from(attribute.word))
         }
     }
+}
+
+// The type of an attribute, after a word.
+fn show_type<A: Allocator>(page: &mut Page<A>, word: &str, attribute: &Attribute<'_>) -> Result<(), AllocError> {
+    page.text(word)?;
+    page.number(u64::from(type_of(attribute)))
 }
 
 // The flags of a word.
