@@ -10,7 +10,6 @@ use crate::walk::Attribute;
 use nla_frames::DecodeError;
 use std::alloc::{AllocError, Allocator};
 use tc_names::{Form, Table};
-pub(crate) use value::{field_width, size_of, statistics_of};
 
 /// Why a message is refused, and where.
 #[derive(Drop)]

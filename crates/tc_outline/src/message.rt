@@ -1,18 +1,18 @@
 //! A message as lines.
 
+ghost use Rattle.std.specs.Prelude.{◌≤◌, length, IfOk, IfSome};
+
 use crate::fault::Fault;
 use crate::header::show_header;
 use crate::meaning::{Meaning, meaning_of};
 use crate::names::Interfaces;
 use crate::page::Page;
 use crate::path::Path;
-use crate::reader::{broken_at, header_fault, step};
+use crate::reader::{attributes_of, broken_at, header_fault, step, within};
 use crate::show::{show_name, show_value};
 use crate::walk::{Attribute, Attributes};
 use crate::what::What;
-use crate::fault::size_of;
 use std::alloc::{AllocError, Allocator};
-use tc_names::Table;
 
 /// Shows a message, the payload of a netlink message, where the page ends. Its header comes on the line that is begun, each
 /// attribute on a line of its own, and where the message is refused its first fault on the last one; that fault is returned.
@@ -21,12 +21,17 @@ pub fn outline<A: Allocator>(
     bytes: &[u8],
     what: What,
     names: &Interfaces<'_>,
-) -> Result<Option<Fault>, AllocError> {
-    let fault = match header_fault(bytes, what) {
-        Some(fault) => Some(fault),
-        None => {
+) -> Result<Option<Fault>, AllocError>
+    ensures { IfOk result (λ found. IfSome found (λ fault. fault.offset ≤ length bytes.now)) }
+{
+    let fault = match attributes_of(bytes, what) {
+        Err(error) => Some(header_fault(error)),
+        Ok(attributes) => {
             show_header(page, bytes, what, names)?;
-            show_attributes(page, bytes, what, names)?
+            match show_attributes(page, attributes, names)? {
+                Some(fault) => Some(within(fault, bytes.len())),
+                None => None,
+            }
         }
     };
     if let Some(fault) = &fault {
@@ -40,12 +45,11 @@ pub fn outline<A: Allocator>(
 // The attributes up to the first fault.
 fn show_attributes<A: Allocator>(
     page: &mut Page<A>,
-    bytes: &[u8],
-    what: What,
+    attributes: Attributes<'_>,
     names: &Interfaces<'_>,
 ) -> Result<Option<Fault>, AllocError> {
     let mut path = Path::new();
-    for attribute in Attributes::new(bytes, size_of(what.header()), what.table()) {
+    for attribute in attributes {
         match attribute {
             Err(broken) => return Ok(Some(broken_at(path, broken))),
             Ok(attribute) => {

@@ -6,14 +6,14 @@ use tc_names::{Numbers, named_numbers};
 #[derive(Clone, Copy, Debug)]
 pub struct Interfaces<'a> {
     /// Numbers and names.
-    pub names: &'a [(u64, &'a str)],
+    pub names: &'a [(u32, &'a str)],
 }
 
 impl<'a> Interfaces<'a> {
     // The name of an interface.
     pub(crate) fn name_of(&self, index: u64) -> Option<&'a str> {
         for (number, name) in self.names {
-            if *number == index {
+            if u64::from(*number) == index {
                 return Some(name);
             }
         }

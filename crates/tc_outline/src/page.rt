@@ -1,6 +1,6 @@
 //! The text that messages are shown as.
 
-ghost use Rattle.std.specs.Prelude.{◌≡◌, ◌<◌, ◌≤◌, ◌↔◌, IsTrue};
+ghost use Rattle.std.specs.Prelude.{◌<◌, IsTrue, true};
 ghost use Rattle.tc_outline.specs.Page.{is_printable, IsPrintable, IsShown};
 
 mod texts;
@@ -97,14 +97,12 @@ impl<A: Allocator> Page<A> {
 
     /// A number in hex, without zeros in front.
     pub fn hex_number(&mut self, n: u64) -> Result<(), AllocError> {
-        let mut shift = 64;
         let mut begun = false;
-        while shift > 0 {
-            shift -= 4;
-            let digit = ((n >> shift) & 0xf) as u8;
-            if begun || digit != 0 || shift == 0 {
+        for place in 0..16u32 {
+            let digit = (n >> (60 - 4 * place)) % 16;
+            if begun || digit != 0 || place == 15 {
                 begun = true;
-                self.digit(digit)?;
+                self.digit(digit as u8)?;
             }
         }
         Ok(())

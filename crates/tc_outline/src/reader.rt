@@ -1,19 +1,27 @@
 //! The attributes of a message up to the first fault.
 
-use crate::fault::{Fault, fault_of, size_of};
+ghost use Rattle.std.specs.Prelude.{◌≡◌, ◌≤◌, length, IfSome};
+
+use crate::fault::{Fault, fault_of};
 use crate::meaning::{Meaning, meaning_of};
 use crate::path::Path;
 use crate::walk::{Attribute, Attributes, BrokenFrame};
 use crate::what::What;
-use nla_frames::DecodeError;
+use nla_frames::{DecodeError, Res};
 
-/// The first fault of a message in the order of reading, and its place. Nothing of a message that can be read.
-pub fn locate(bytes: &[u8], what: What) -> Option<Fault> {
-    if let Some(fault) = header_fault(bytes, what) {
-        return Some(fault);
+/// The first fault of a message in the order of reading, and its place. None of a message that can be read.
+pub fn locate(bytes: &[u8], what: What) -> Option<Fault>
+    ensures { IfSome result (λ fault. fault.offset ≤ length bytes.now) }
+{
+    match attributes_of(bytes, what) {
+        Err(error) => Some(header_fault(error)),
+        Ok(attributes) => Some(within(first_fault(attributes)?, bytes.len())),
     }
+}
+
+fn first_fault(attributes: Attributes<'_>) -> Option<Fault> {
     let mut path = Path::new();
-    for attribute in Attributes::new(bytes, size_of(what.header()), what.table()) {
+    for attribute in attributes {
         match attribute {
             Err(broken) => return Some(broken_at(path, broken)),
             Ok(attribute) => {
@@ -24,6 +32,26 @@ pub fn locate(bytes: &[u8], what: What) -> Option<Fault> {
         }
     }
     None
+}
+
+// The fault at a place in a message of this length.
+pub(crate) fn within(fault: Fault, len: usize) -> Fault
+    ensures place { result.offset ≤ len }
+    ensures error { result.error ≡ fault.error }
+{
+    Fault {
+        offset: fault.offset.min(len),
+        error: fault.error,
+        path: fault.path,
+    }
+}
+
+// The attributes of a message. Its fault where its header is short.
+pub(crate) fn attributes_of(bytes: &[u8], what: What) -> Res<Attributes<'_>> {
+    match what {
+        What::Action => Attributes::of_action(bytes),
+        _ => Attributes::of_tc(bytes),
+    }
 }
 
 // The fault that a broken frame after an attribute is.
@@ -39,21 +67,19 @@ pub(crate) fn broken_at(before: Path, broken: BrokenFrame) -> Fault {
 
 // Goes on to an attribute. Its fault, if it has one.
 pub(crate) fn step(path: &mut Path, attribute: &Attribute<'_>, meaning: &Meaning) -> Option<Fault> {
-    let end = attribute.offset + attribute.value.len();
+    let end = attribute.offset.saturating_add(attribute.value.len());
     path.enter(attribute.depth as usize, end, attribute.table, meaning.name);
     fault_of(attribute, meaning, path)
 }
 
 // The fault of a message without a whole header.
-pub(crate) fn header_fault(bytes: &[u8], what: What) -> Option<Fault> {
-    let needed = size_of(what.header());
-    let len = bytes.len();
-    if needed <= len {
-        return None;
-    }
-    Some(Fault {
+pub(crate) fn header_fault(error: DecodeError) -> Fault
+    ensures place { result.offset ≡ 0 }
+    ensures error { result.error ≡ error }
+{
+    Fault {
         offset: 0,
-        error: DecodeError::BufferTooSmall { len, needed },
+        error,
         path: Path::new(),
-    })
+    }
 }

@@ -4,7 +4,6 @@ pub(crate) mod record;
 mod selector;
 pub(crate) mod texts;
 
-use crate::fault::statistics_of;
 use crate::meaning::{Meaning, type_of};
 use crate::names::{Interfaces, protocol_name};
 use crate::number::{big, little};
@@ -99,19 +98,25 @@ fn show_statistics<A: Allocator>(
     kind: &[u8],
     names: &Interfaces<'_>,
 ) -> Result<(), AllocError> {
-    if kind == b"fq_codel".as_slice() {
-        if let [a, b, c, d, rest @ ..] = value {
-            if let Some(fixed) = statistics_of(little(&[*a, *b, *c, *d])) {
-                page.text(match fixed {
-                    Fixed::QdiscStats => " qdisc",
-                    _ => " class",
-                })?;
-                return show_record(page, fixed, rest, names);
-            }
+    let (number, rest) = value.split_at(value.len().min(4));
+    match little(number) {
+        0 if is_fq_codel(kind) => {
+            page.text(" qdisc")?;
+            show_record(page, Fixed::QdiscStats, rest, names)
+        }
+        1 if is_fq_codel(kind) => {
+            page.text(" class")?;
+            show_record(page, Fixed::ClassStats, rest, names)
+        }
+        _ => {
+            page.blank()?;
+            page.hex(value)
         }
     }
-    page.blank()?;
-    page.hex(value)
+}
+
+fn is_fq_codel(kind: &[u8]) -> bool {
+    kind == b"fq_codel".as_slice()
 }
 
 // The name of an attribute, and its word where it isn't the one that is written.

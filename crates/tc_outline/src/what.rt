@@ -1,7 +1,5 @@
 //! What a message speaks of.
 
-use tc_names::{Fixed, Table};
-
 /// What a message speaks of, by its `nlmsg_type`: it says what the number `info` of its header is.
 #[derive(Clone, Copy, PartialEq, Eq, Debug)]
 pub enum What {
@@ -27,22 +25,6 @@ impl What {
             48..=50 => Some(What::Action),
             100..=102 => Some(What::Chain),
             _ => None,
-        }
-    }
-
-    // The record that its header is.
-    pub(crate) fn header(self) -> Fixed {
-        match self {
-            What::Action => Fixed::ActionHeader,
-            _ => Fixed::Header,
-        }
-    }
-
-    // The table of its attributes.
-    pub(crate) fn table(self) -> Table {
-        match self {
-            What::Action => Table::ActionMessage,
-            _ => Table::Message,
         }
     }
 }

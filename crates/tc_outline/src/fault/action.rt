@@ -9,7 +9,7 @@ use tc_names::Table;
 pub(super) fn action_fault(action: &Attribute<'_>, path: &Path) -> Option<Fault> {
     let mut inside = *path;
     let mut at = action.offset;
-    let mut kinds = 0;
+    let mut kinds: u32 = 0;
     for frame in NlasIterator::new(action.value) {
         match frame {
             Err(error) => {
@@ -21,10 +21,10 @@ pub(super) fn action_fault(action: &Attribute<'_>, path: &Path) -> Option<Fault>
                 });
             }
             Ok(frame) => {
-                let value = at + NLA_HEADER_SIZE;
+                let value = at.saturating_add(NLA_HEADER_SIZE);
                 inside.enter(action.depth as usize + 1, at, Table::Action, "Kind");
                 if frame.kind() == 1 {
-                    kinds += 1;
+                    kinds = kinds.saturating_add(1);
                     if std::str::from_utf8(strip_nul(frame.value())).is_err() {
                         return Some(Fault {
                             offset: value,
@@ -33,7 +33,7 @@ pub(super) fn action_fault(action: &Attribute<'_>, path: &Path) -> Option<Fault>
                         });
                     }
                 }
-                at = value + (frame.value().len() + 3) / 4 * 4;
+                at = value.saturating_add((frame.value().len() + 3) / 4 * 4);
             }
         }
     }

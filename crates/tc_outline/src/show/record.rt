@@ -2,7 +2,6 @@
 
 use super::texts::{show_handle, show_ipv4};
 use super::{show_hex, show_short_hex};
-use crate::fault::field_width;
 use crate::names::{Interfaces, number_name};
 use crate::number::{big, little, signed};
 use crate::page::Page;
@@ -96,5 +95,15 @@ pub(crate) fn show_interface<A: Allocator>(
             page.quoted(name.as_bytes())?;
             page.text(")")
         }
+    }
+}
+
+// How many bytes a field has.
+fn field_width(form: FieldForm) -> usize {
+    match form {
+        FieldForm::U8 | FieldForm::Flags8 | FieldForm::Family => 1,
+        FieldForm::U16 | FieldForm::U16Be | FieldForm::I16 => 2,
+        FieldForm::U64 => 8,
+        _ => 4,
     }
 }

@@ -16,7 +16,7 @@ pub(super) fn show_selector<A: Allocator>(
     let (head, mut rest) = value.split_at(value.len().min(16));
     show_record(page, Fixed::SelectorHead, head, names)?;
     for _ in 0..keys_of(head) {
-        page.begin(depth + 1)?;
+        page.begin(depth.saturating_add(1))?;
         page.text("key")?;
         let (key, after) = rest.split_at(rest.len().min(16));
         show_record(page, Fixed::SelectorKey, key, names)?;
