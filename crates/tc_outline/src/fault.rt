@@ -1,15 +1,20 @@
 //! The first fault of a message, and its place.
 
+ghost use Rattle.std.specs.Prelude.{◌≡◌, option_map};
+ghost use Rattle.tc_names.specs.Listed.{class_of};
+ghost use Rattle.tc_outline.specs.Fault.{value_fault};
+
 mod action;
 mod value;
 
-use crate::meaning::Meaning;
 use crate::page::Page;
 use crate::path::Path;
 use crate::walk::Attribute;
 use nla_frames::DecodeError;
 use std::alloc::{AllocError, Allocator};
+use action::action_fault;
 use tc_names::{Form, Table};
+use value::error_of;
 
 /// Why a message is refused, and where.
 #[derive(Drop)]
@@ -68,20 +73,30 @@ fn show_counts<A: Allocator>(
 }
 
 // The fault of an attribute itself, those in it aside. Its place is the last one of the path.
-pub(crate) fn fault_of(attribute: &Attribute<'_>, meaning: &Meaning, path: &Path) -> Option<Fault> {
+pub(crate) fn fault_of(attribute: &Attribute<'_>, form: Form, path: &Path) -> Option<Fault> {
     match attribute.table {
-        Table::Actions => action::action_fault(attribute, path),
-        _ => value_fault(attribute, meaning.form, path),
+        Table::Actions => action_fault(attribute, path),
+        _ => value_fault(attribute, form, path),
     }
 }
 
-fn value_fault(attribute: &Attribute<'_>, form: Form, path: &Path) -> Option<Fault> {
-    match value::error_of(form, attribute.value, attribute.kind) {
+fn value_fault(attribute: &Attribute<'_>, form: Form, path: &Path) -> Option<Fault>
+    ensures { option_map (λ fault. fault.error) result
+        ≡ value_fault (class_of form) attribute.now.kind.now attribute.now.value.now }
+{
+    match error_of(form, attribute.value, attribute.kind) {
         None => None,
-        Some(error) => Some(Fault {
-            offset: attribute.offset,
-            error,
-            path: *path,
-        }),
+        Some(error) => Some(fault_at(attribute.offset, error, path)),
+    }
+}
+
+// A fault whose place is the last one of the path.
+fn fault_at(offset: usize, error: DecodeError, path: &Path) -> Fault
+    ensures { result.error ≡ error }
+{
+    Fault {
+        offset,
+        error,
+        path: *path,
     }
 }

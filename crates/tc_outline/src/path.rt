@@ -57,6 +57,13 @@ impl Path {
         self.len = depth + 1;
     }
 
+    // Gives the place its name.
+    pub(crate) fn name(&mut self, name: &'static str) {
+        if 0 < self.len && self.len <= 6 {
+            self.steps[self.len - 1].name = name;
+        }
+    }
+
     // Goes on to what is at this offset, in the innermost list that it is in.
     pub(crate) fn enter_at(&mut self, offset: usize) {
         let mut depth = 0;

@@ -69,7 +69,7 @@ pub(crate) fn broken_at(before: Path, broken: BrokenFrame) -> Fault {
 pub(crate) fn step(path: &mut Path, attribute: &Attribute<'_>, meaning: &Meaning) -> Option<Fault> {
     let end = attribute.offset.saturating_add(attribute.value.len());
     path.enter(attribute.depth as usize, end, attribute.table, meaning.name);
-    fault_of(attribute, meaning, path)
+    fault_of(attribute, meaning.form, path)
 }
 
 // The fault of a message without a whole header.

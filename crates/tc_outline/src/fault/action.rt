@@ -1,48 +1,67 @@
 //! The faults of an action itself: a broken frame, a kind that is no text, no kind or several.
 
-use super::Fault;
+ghost use Rattle.std.specs.Prelude.{◌≡◌, option_map};
+ghost use Rattle.std.specs.Str.{is_utf8};
+ghost use Rattle.nla_frames.specs.Value.{strip};
+ghost use Rattle.tc_outline.specs.Fault.{action_fault, one_more, count_error};
+
+use super::{Fault, fault_at};
 use crate::path::Path;
 use crate::walk::Attribute;
 use nla_frames::{DecodeError, NLA_HEADER_SIZE, NlasIterator, strip_nul};
 use tc_names::Table;
 
-pub(super) fn action_fault(action: &Attribute<'_>, path: &Path) -> Option<Fault> {
+// The fault of an action at its place.
+pub(super) fn action_fault(action: &Attribute<'_>, path: &Path) -> Option<Fault>
+    ensures { option_map (λ fault. fault.error) result ≡ action_fault action.now.value.now }
+{
     let mut inside = *path;
     let mut at = action.offset;
-    let mut kinds: u32 = 0;
+    let mut kinds = 0;
     for frame in NlasIterator::new(action.value) {
+        inside.enter(usize::from(action.depth) + 1, at, Table::Action, "");
         match frame {
-            Err(error) => {
-                inside.enter(action.depth as usize + 1, at, Table::Action, "");
-                return Some(Fault {
-                    offset: at,
-                    error,
-                    path: inside,
-                });
-            }
+            Err(error) => return Some(fault_at(at, error, &inside)),
             Ok(frame) => {
                 let value = at.saturating_add(NLA_HEADER_SIZE);
-                inside.enter(action.depth as usize + 1, at, Table::Action, "Kind");
                 if frame.kind() == 1 {
-                    kinds = kinds.saturating_add(1);
-                    if std::str::from_utf8(strip_nul(frame.value())).is_err() {
-                        return Some(Fault {
-                            offset: value,
-                            error: DecodeError::NotUtf8,
-                            path: inside,
-                        });
+                    if !is_text(frame.value()) {
+                        inside.name("Kind");
+                        return Some(fault_at(value, DecodeError::NotUtf8, &inside));
                     }
+                    kinds = one_more(kinds);
                 }
                 at = value.saturating_add((frame.value().len() + 3) / 4 * 4);
             }
         }
     }
-    if kinds == 1 {
-        return None;
+    match count_error(kinds) {
+        Some(error) => Some(fault_at(action.offset, error, path)),
+        None => None,
     }
-    Some(Fault {
-        offset: action.offset,
-        error: if kinds == 0 { DecodeError::MissingKind } else { DecodeError::DuplicateKind },
-        path: *path,
-    })
+}
+
+// True if a value is a text.
+fn is_text(value: &[u8]) -> bool
+    ensures { result ≡ is_utf8 (strip value.now) }
+{
+    std::str::from_utf8(strip_nul(value)).is_ok()
+}
+
+// One kind more than none, than one, or than several.
+fn one_more(kinds: u8) -> u8
+    ensures { result ≡ one_more kinds }
+{
+    if kinds == 0 { 1 } else { 2 }
+}
+
+// What is wrong with so many kinds.
+fn count_error(kinds: u8) -> Option<DecodeError>
+    ensures { result ≡ count_error kinds }
+{
+    match kinds {
+        0 => Some(DecodeError::MissingKind),
+        1 => None,
+        _ => Some(DecodeError::DuplicateKind),
+    }
 }
