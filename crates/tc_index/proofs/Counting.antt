@@ -1,0 +1,129 @@
+-- How many attributes bytes have at most: one for every four bytes.
+use Rattle.std.proofs.Common.{◌≡◌, ℕ, zero, suc, ◌+◌, ◌-◌, ◌*◌, ◌<◌, ◌≤◌, List, [], ◌∷◌, ◌++◌, length, take, drop, Option, Some, None, Ok, Err, refl, sym, ap, ◌∙◌, arith}
+use Rattle.std.proofs.Common.{zero-add, ◌/◌}
+use Rattle.std.proofs.lemmas.List.{length-drop, length-take-le, drop_all}
+use Rattle.std.proofs.lemmas.Bool.{ltb-true}
+use Rattle.std.specs.Prelude.{Bool, true, false, nat_lt, if◌then◌else◌}
+use Rattle.nla_frames.specs.declared.error.DecodeError.TheVariants.{BufferTooSmall}
+use Rattle.nla_frames.specs.Fault.{read_as, refused}
+use Rattle.nla_frames.specs.declared.error.DecodeError.{DecodeError}
+use Rattle.nla_frames.specs.Frame.{Frame, type_of, padding, frame_length}
+use Rattle.nla_frames.specs.Grammar.{length_at}
+use Rattle.nla_frames.specs.Place.{Sets, kind_then}
+use Rattle.nla_frames.specs.Reading.{keep}
+use Rattle.nla_frames.specs.Cutting.{next_frame, cut, items_of}
+use Rattle.nla_frames.proofs.NextFrame.{next_frame-is}
+use Rattle.nla_frames.proofs.CutSteps.{by_frames, cut_refused}
+use Rattle.nla_frames.proofs.Items.{items-nil, items-next_frame}
+use Rattle.tc_canon.specs.Descriptor.{Table, table}
+use Rattle.tc_canon.specs.Kind.{kind_of_frame}
+use Rattle.tc_canon.specs.Tables.Messages.{attributes, action_message_attributes}
+use Rattle.tc_index.specs.Nesting.{class_in, list_in}
+use Rattle.tc_index.specs.Attributes.{Item, Gives, each, Walk, within, with_inner, attributes_in, to_fault, message_items, tc_items, action_items, after_header}
+use Rattle.tc_index.specs.Nodes.{nodes_of, tc_nodes, action_nodes}
+
+-- how many attributes are among items
+abbrev count : List Item → ℕ
+count [] = 0
+count (Ok p ∷ items) = suc (count items)
+count (Err broken ∷ items) = count items
+
+count-append : (xs ys : List Item) → count (xs ++ ys) ≡ count xs + count ys
+count-append [] ys = sym (zero-add (count ys))
+count-append (Ok p ∷ xs) ys = ap suc (count-append xs ys) ∙ omega arith
+count-append (Err broken ∷ xs) ys = count-append xs ys
+
+-- those before the first broken frame are no more
+nodes-count : (items : List Item) → length (nodes_of (to_fault items)) ≤ count items
+nodes-count [] = omega arith
+nodes-count (Ok p ∷ items) = omega (arith, nodes-count items)
+nodes-count (Err broken ∷ items) = omega arith
+
+-- a frame takes its header and its value
+frame-takes : (bytes : List ℕ) (f : Frame) (after : List ℕ) → next_frame bytes ≡ Ok (f, after) → 4 + length f.value + length after ≤ length bytes
+frame-takes bytes f after found =
+    let next = next_frame-is bytes (f, after) found in
+    let l = length_at bytes in
+    let value : length (drop 4 (take l bytes)) ≡ length f.value = ap (λ (x : Frame). length x.value) next.frame in
+    let rest : length (drop (padding l) (drop l bytes)) ≡ length after = ap length next.rest in
+    omega (arith, next.whole, next.long, value, rest, length-drop 4 (take l bytes), length-take-le l bytes next.whole, length-drop (padding l) (drop l bytes), length-drop l bytes)
+
+-- a list of frames
+abbrev Fewer : Gives → Sets Frame → List ℕ → Type 0
+Fewer gives sets bytes = (k : List ℕ) (at : ℕ) → 4 * count (each gives sets k at (items_of (cut bytes))) ≤ length bytes
+
+each-count : (gives : Gives) (sets : Sets Frame) → ((k : List ℕ) (at : ℕ) (f : Frame) → 4 * count (gives k at f) ≤ 4 + length f.value)
+    → (bytes : List ℕ) → Fewer gives sets bytes
+each-count gives sets few = by_frames (Fewer gives sets) none broken more
+  where
+    none : Fewer gives sets []
+    none k at = rw items-nil (omega arith)
+
+    broken : (bytes : List ℕ) (e : DecodeError) → 0 < length bytes → next_frame bytes ≡ Err e → Fewer gives sets bytes
+    broken bytes e some is k at = rw (cut_refused bytes e some is) (omega arith)
+
+    more : (bytes : List ℕ) (f : Frame) (after : List ℕ) → next_frame bytes ≡ Ok (f, after) → Fewer gives sets after → Fewer gives sets bytes
+    more bytes f after is later k at =
+        let rest = each gives sets (kind_then sets k f) (at + frame_length f) (items_of (cut after)) in
+        rw (items-next_frame bytes (f, after) is)
+            (omega (arith, count-append (gives k (at + 4) f) rest, few k (at + 4) f, later (kind_then sets k f) (at + frame_length f), frame-takes bytes f after is))
+
+-- an attribute and those in it
+inner-count : (walk : Walk) → ((t : Table) (k : List ℕ) (depth at : ℕ) (bytes : List ℕ) → 4 * count (walk t k depth at bytes) ≤ length bytes)
+    → (t : Table) (depth : ℕ) (k : List ℕ) (at : ℕ) (f : Frame) → 4 * count (with_inner walk t depth k at f) ≤ 4 + length f.value
+inner-count walk few t depth k at f = go (list_in (class_in t (type_of f.word) k) k f.value)
+  where
+    go : (list : Option (Table × List ℕ)) → 4 * suc (count (within walk list (suc depth) at f.value)) ≤ 4 + length f.value
+    go None = omega arith
+    go (Some list) = omega (arith, few list.0 list.1 (suc depth) at f.value)
+
+-- a list and those in it
+list-count : (n : ℕ) (t : Table) (k : List ℕ) (depth at : ℕ) (bytes : List ℕ) → 4 * count (attributes_in n t k depth at bytes) ≤ length bytes
+unfolding attributes_in
+list-count zero t k depth at bytes = omega arith
+list-count (suc n) t k depth at bytes =
+    each-count (with_inner (attributes_in n) t depth) keep (λ k at f. inner-count (attributes_in n) (list-count n) t depth k at f) bytes k at
+
+-- a message
+message-count : (header : ℕ) (t : Table) (sets : Sets Frame) (bytes : List ℕ) → length (nodes_of (message_items 4 header t sets bytes)) ≤ length bytes / 4
+message-count header t sets bytes =
+    let body = each (with_inner (attributes_in 4) t 0) sets [] header (items_of (cut (drop header bytes))) in
+    let few = each-count (with_inner (attributes_in 4) t 0) sets (λ k at f. inner-count (attributes_in 4) (list-count 4) t 0 k at f) (drop header bytes) [] header in
+    omega (arith, nodes-count body, few, length-drop header bytes)
+
+pub tc-count : (bytes : List ℕ) → length (tc_nodes bytes) ≤ length bytes / 4
+unfolding tc_items
+tc-count bytes = message-count 20 (table attributes) kind_of_frame bytes
+
+pub action-count : (bytes : List ℕ) → length (action_nodes bytes) ≤ length bytes / 4
+unfolding action_items
+action-count bytes = message-count 4 (table action_message_attributes) keep bytes
+
+-- ---- headers
+
+-- bytes that have one
+pub opened : (n : ℕ) (items : List ℕ → List Item) (bytes : List ℕ) (xs : List Item) → read_as xs ≡ after_header n items bytes → xs ≡ items bytes
+opened n items bytes xs is = go (nat_lt (length bytes) n) is
+  where
+    go : (b : Bool) → read_as xs ≡ (if b then Err (BufferTooSmall (length bytes) n) else read_as (items bytes)) → xs ≡ items bytes
+    go true e = absurd cc
+    go false e = cc
+
+-- bytes that are too short for it
+too-short : (n : ℕ) (items : List ℕ → List Item) (bytes : List ℕ) (e : DecodeError) → refused {X = List Item} e ≡ after_header n items bytes → length bytes < n
+too-short n items bytes e is = go (nat_lt (length bytes) n) refl is
+  where
+    go : (b : Bool) → nat_lt (length bytes) n ≡ b → refused {X = List Item} e ≡ (if b then Err (BufferTooSmall (length bytes) n) else read_as (items bytes)) → length bytes < n
+    go true short f = ltb-true (length bytes) n short
+    go false short f = absurd cc
+
+no-items : (header : ℕ) (t : Table) (sets : Sets Frame) (bytes : List ℕ) → length bytes < header → message_items 4 header t sets bytes ≡ []
+no-items header t sets bytes short = rw (drop_all header bytes (omega arith), items-nil) refl
+
+pub tc-short : (bytes : List ℕ) (e : DecodeError) → refused {X = List Item} e ≡ after_header 20 tc_items bytes → tc_nodes bytes ≡ []
+unfolding tc_items
+tc-short bytes e is = ap nodes_of (no-items 20 (table attributes) kind_of_frame bytes (too-short 20 tc_items bytes e is))
+
+pub action-short : (bytes : List ℕ) (e : DecodeError) → refused {X = List Item} e ≡ after_header 4 action_items bytes → action_nodes bytes ≡ []
+unfolding action_items
+action-short bytes e is = ap nodes_of (no-items 4 (table action_message_attributes) keep bytes (too-short 4 action_items bytes e is))

@@ -1,0 +1,7 @@
+pub mod Rows
+pub mod Frames
+pub mod Walks
+pub mod Filling
+pub mod Counting
+pub mod Standing
+pub mod Depth

@@ -1,0 +1,123 @@
+-- The steps of a walk: what lists have left as one is entered, stepped through and left.
+use Rattle.std.proofs.Common.{◌≡◌, ◌⊎◌, ℕ, zero, suc, ◌+◌, ◌-◌, ◌<◌, ◌≤◌, List, [], ◌∷◌, ◌++◌, length, take, drop, get_or, set, Option, Some, None, Ok, Err, refl, sym, ap, ap₂, subst, ◌∙◌, arith, inl, inr}
+use Rattle.std.proofs.Common.{append_assoc, add-zero, zero-add, add-one, Bool, true, false}
+use Rattle.std.specs.Prelude.{◌==◌}
+use Rattle.std.proofs.lemmas.Bool.{ne_eqb}
+use Rattle.std.proofs.lemmas.List.{nil_from_length, take_more, take_more_set, length-take-le, append-nil}
+use Rattle.nla_frames.specs.declared.error.DecodeError.{DecodeError}
+use Rattle.nla_frames.specs.Fault.{Outcome, refused}
+use Rattle.nla_frames.specs.Frame.{Frame, frame_length}
+use Rattle.nla_frames.specs.Buffer.{first_of}
+use Rattle.nla_frames.specs.Place.{Sets, kind_then}
+use Rattle.nla_frames.specs.Reading.{keep}
+use Rattle.nla_frames.specs.Cutting.{next_frame, cut, items_of}
+use Rattle.nla_frames.proofs.Items.{items-nil, items-next_frame, items_refused}
+use Rattle.tc_canon.specs.Descriptor.{Table}
+use Rattle.tc_index.specs.declared.attribute.BrokenFrame.{BrokenFrame}
+use Rattle.tc_index.specs.declared.level.Level.{Level}
+use Rattle.tc_index.specs.declared.attributes.Attributes.{Attributes}
+use Rattle.tc_index.specs.Attributes.{Placed, Item, Gives, each, within, with_inner, attributes_in, to_fault}
+use Rattle.tc_index.specs.Seen.{inner_of, left_in, levels_left, items_left}
+use Rattle.tc_index.proofs.Frames.{Takes}
+
+-- nothing is left
+pub none-left : (gives : Gives) (sets : Sets Frame) (k : List ℕ) (at : ℕ) (rest : List ℕ) → rest ≡ [] → each gives sets k at (items_of (cut rest)) ≡ []
+none-left gives sets k at rest none = rw (none, items-nil) refl
+
+-- so the place doesn't matter
+place : (gives : Gives) (sets : Sets Frame) (k : List ℕ) (a b : ℕ) (rest : List ℕ) → (a ≡ b) ⊎ (rest ≡ [])
+    → each gives sets k a (items_of (cut rest)) ≡ each gives sets k b (items_of (cut rest))
+place gives sets k a b rest (inl same) = rw same refl
+place gives sets k a b rest (inr none) = none-left gives sets k a rest none ∙ sym (none-left gives sets k b rest none)
+
+-- the first frame, and those after it
+pub first-given : (gives : Gives) (sets : Sets Frame) (k : List ℕ) (at : ℕ) (rest : List ℕ) (f : Frame) (n : ℕ) → Takes rest f n
+    → each gives sets k at (items_of (cut rest)) ≡ gives k (at + 4) f ++ each gives sets (kind_then sets k f) (at + n) (items_of (cut (drop n rest)))
+first-given gives sets k at rest f n takes =
+    rw (items-next_frame rest (f, drop n rest) takes.next)
+        (ap (λ (items : List Item). gives k (at + 4) f ++ items) (place gives sets (kind_then sets k f) (at + frame_length f) (at + n) (drop n rest) (where_is takes.all)))
+  where
+    where_is : (n ≡ frame_length f) ⊎ (drop n rest ≡ []) → (at + frame_length f ≡ at + n) ⊎ (drop n rest ≡ [])
+    where_is (inl same) = inl (ap (λ (x : ℕ). at + x) (sym same))
+    where_is (inr none) = inr none
+
+-- bytes that are left
+some-not : (rest : List ℕ) → 0 < length rest → false ≡ (length rest == 0)
+some-not [] some = absurd (omega arith)
+some-not (b ∷ rest) some = sym (ne_eqb (suc (length rest)) 0 (λ e. omega arith))
+
+-- a broken frame
+pub fault-given : (gives : Gives) (sets : Sets Frame) (k : List ℕ) (at : ℕ) (rest : List ℕ) (e : DecodeError) → 0 < length rest
+    → refused {X = Frame} e ≡ first_of (next_frame rest) → each gives sets k at (items_of (cut rest)) ≡ Err (record { offset = at; fault = e }) ∷ []
+fault-given gives sets k at rest e some first = go (next_frame rest) refl first
+  where
+    go : (o : Outcome (Frame × List ℕ)) → next_frame rest ≡ o → refused {X = Frame} e ≡ first_of o
+        → each gives sets k at (items_of (cut rest)) ≡ Err (record { offset = at; fault = e }) ∷ []
+    go (Ok next) found same = absurd cc
+    go (Err d) found same =
+        let front : e ≡ d = cc in
+        rw (items_refused rest false e (some-not rest some) refl (found ∙ ap (λ (x : DecodeError). refused x) (sym front))) refl
+
+-- ---- lists within one another
+
+-- one list more, innermost
+levels-more : (depth : ℕ) (ls : List Level) (l : Level) → levels_left depth (ls ++ l ∷ []) ≡ left_in (depth + length ls) l ++ levels_left depth ls
+levels-more depth [] l = rw add-zero (sym (append-nil (left_in depth l)))
+levels-more depth (m ∷ ls) l =
+    let same : suc depth + length ls ≡ depth + suc (length ls) = omega arith in
+    rw (levels-more (suc depth) ls l, same) (append_assoc (left_in (depth + suc (length ls)) l) (levels_left (suc depth) ls) (left_in depth m))
+
+-- a list that is left for the one around it
+pub leaves : (outer : List Level) (d : ℕ) (level l : Level) → level.rest.now ≡ [] → (d ≡ 0 → ⊥) → d ≤ length outer → l ≡ get_or outer (d - 1) l
+    → left_in (d - 1) l ++ levels_left 0 (take (d - 1) outer) ≡ left_in d level ++ levels_left 0 (take d outer)
+leaves outer d level l none some inside is =
+    let counted : length (take (d - 1) outer) ≡ d - 1 = length-take-le (d - 1) outer (omega arith) in
+    let more : d ≡ d - 1 + 1 = omega arith in
+    let taken : take d outer ≡ take (d - 1) outer ++ l ∷ [] =
+    ap (λ (n : ℕ). take n outer) more ∙ take_more outer (d - 1) l (omega arith) ∙ ap (λ (x : Level). take (d - 1) outer ++ x ∷ []) (sym is) in
+    rw (none, items-nil, taken, levels-more 0 (take (d - 1) outer) l, counted, zero-add) refl
+
+-- a list that is entered
+attributes-some : (d : ℕ) (t : Table) (k : List ℕ) (at : ℕ) (bytes : List ℕ) → d < 4
+    → attributes_in (4 - d) t k (suc d) at bytes ≡ each (with_inner (attributes_in (4 - (d + 1))) t (d + 1)) keep k at (items_of (cut bytes))
+unfolding attributes_in
+attributes-some d t k at bytes low = let fuel : 4 - d ≡ suc (4 - (d + 1)) = omega arith in rw (fuel, add-one) refl
+
+pub enters : (before after : List Level) (d : ℕ) (level : Level) (o : Option (Table × List ℕ)) (t : Table) (k : List ℕ) (at : ℕ) (bytes : List ℕ)
+    → d < 4 → length before ≡ 4 → after ≡ set before d level → Some (t, k) ≡ o
+    → each (with_inner (attributes_in (4 - (d + 1))) t (d + 1)) keep k at (items_of (cut bytes)) ++ levels_left 0 (take (d + 1) after)
+    ≡ within (attributes_in (4 - d)) o (suc d) at bytes ++ (left_in d level ++ levels_left 0 (take d before))
+enters before after d level o t k at bytes low four kept is =
+    let counted : length (take d before) ≡ d = length-take-le d before (omega arith) in
+    let taken : take (d + 1) after ≡ take d before ++ level ∷ [] = ap (λ (ls : List Level). take (d + 1) ls) kept ∙ take_more_set before d level (omega arith) in
+    let around : levels_left 0 (take (d + 1) after) ≡ left_in d level ++ levels_left 0 (take d before) =
+    ap (levels_left 0) taken ∙ levels-more 0 (take d before) level ∙ rw (counted, zero-add) refl in
+    let inner : each (with_inner (attributes_in (4 - (d + 1))) t (d + 1)) keep k at (items_of (cut bytes)) ≡ within (attributes_in (4 - d)) o (suc d) at bytes =
+    sym (attributes-some d t k at bytes low) ∙ ap (λ (x : Option (Table × List ℕ)). within (attributes_in (4 - d)) x (suc d) at bytes) is in
+    ap₂ (λ (xs ys : List Item). xs ++ ys) inner around
+
+-- one that would be too deep
+pub too-deep : (d : ℕ) (o : Option (Table × List ℕ)) (at : ℕ) (bytes : List ℕ) (left : List Item) → 4 ≤ d
+    → left ≡ within (attributes_in (4 - d)) o (suc d) at bytes ++ left
+unfolding attributes_in
+too-deep d None at bytes left deep = refl
+too-deep d (Some list) at bytes left deep = let fuel : 4 - d ≡ 0 = omega arith in rw fuel refl
+
+-- an attribute by its place
+pub takes-one : (p q : Placed) (depth : ℕ) (list left : List Item) → p ≡ q → list ≡ (Ok q ∷ inner_of depth q) ++ left → list ≡ (Ok p ∷ inner_of depth p) ++ left
+takes-one p q depth list left same first = subst (λ (x : Placed). list ≡ (Ok x ∷ inner_of depth x) ++ left) (sym same) first
+
+-- ---- what an iterator has left
+
+-- nothing, where no list has anything left
+pub nothing-left : (it : Attributes) → it.level.rest.now ≡ [] → it.depth ≡ 0 → items_left it ≡ []
+nothing-left it none first = rw (none, first, items-nil) refl
+
+-- an attribute, and then those in it and the rest
+pub gives-one : (p : Placed) (inner left outer whole list : List Item) → whole ≡ list ++ outer → list ≡ (Ok p ∷ inner) ++ left
+    → to_fault whole ≡ Ok p ∷ to_fault (inner ++ (left ++ outer))
+gives-one p inner left outer whole list parts first = rw (parts, first, append_assoc inner left outer) refl
+
+-- a broken frame, and then nothing
+pub gives-fault : (broken : BrokenFrame) (outer whole list : List Item) → whole ≡ list ++ outer → list ≡ Err broken ∷ [] → to_fault whole ≡ Err broken ∷ []
+gives-fault broken outer whole list parts first = rw (parts, first) refl

@@ -1,0 +1,5 @@
+pub mod Nesting
+pub mod Attributes
+pub mod Seen
+pub mod Nodes
+pub mod Standing

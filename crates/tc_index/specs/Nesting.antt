@@ -1,0 +1,53 @@
+-- Which attributes hold attributes, and by which table: what the tables say of a type under the kind in force.
+use Rattle.std.specs.Prelude.{ℕ, ◌==◌, List, [], ◌∷◌, Option, Some, None, Ok, Err, unwrap_or, option_map, if◌then◌else◌}
+use Rattle.std.specs.Str.{bytes_eq}
+use Rattle.nla_frames.specs.Fault.{Outcome}
+use Rattle.nla_frames.specs.Frame.{Frame}
+use Rattle.nla_frames.specs.Cutting.{cut, items_of}
+use Rattle.tc_canon.specs.Descriptor.{Class, raw, list_of, own_list, Table, table, every, by_kind, Rows, others, types, unread, options}
+use Rattle.tc_canon.specs.Descriptor.{Kinds, unknown, kind, is_within, is_known}
+use Rattle.tc_canon.specs.Kind.{kind_of_frame}
+
+-- what the value of a type is: by the first row that has the type, and raw where none has
+abbrev pub class_at : Rows → ℕ → List ℕ → Class
+class_at others n k = raw
+class_at (types first last flags class rows) n k = if is_within first last n then class else class_at rows n k
+class_at (unread m class rows) n k = class_at rows n k
+class_at (options m kinds rows) n k = if n == m then (if is_known kinds k then list_of (by_kind kinds) else raw) else class_at rows n k
+
+-- what the value of an attribute is, by its table; under an unknown kind, raw
+abbrev pub class_in : Table → ℕ → List ℕ → Class
+class_in (table rows) n k = class_at rows n k
+class_in (every class) n k = class
+class_in (by_kind kinds) n k = raw
+
+-- the table of a known kind
+abbrev pub known_table : Kinds → List ℕ → Option Table
+known_table unknown k = None
+known_table (kind name rows kinds) k = if bytes_eq k name then Some (table rows) else known_table kinds k
+
+-- a table by kind is that of the kind in force, where it is known
+abbrev pub table_under : Table → List ℕ → Table
+table_under (by_kind kinds) k = unwrap_or (known_table kinds k) (by_kind kinds)
+table_under t k = t
+
+-- the kind that the first frame of type 1 tells
+abbrev pub first_kind : List (Outcome Frame) → List ℕ
+first_kind [] = []
+first_kind (Ok f ∷ items) = unwrap_or (kind_of_frame f) (first_kind items)
+first_kind (Err e ∷ items) = []
+
+-- the table of the attributes in a value, where it is a list of them
+abbrev pub inner_table : Class → List ℕ → Option Table
+inner_table (list_of t) k = Some (table_under t k)
+inner_table (own_list rows) k = Some (table rows)
+inner_table _ k = None
+
+-- the kind in force among them: in an action its own
+abbrev pub inner_kind : Class → List ℕ → List ℕ → List ℕ
+inner_kind (own_list rows) k value = first_kind (items_of (cut value))
+inner_kind _ k value = k
+
+-- both
+abbrev pub list_in : Class → List ℕ → List ℕ → Option (Table × List ℕ)
+list_in class k value = option_map (λ t. (t, inner_kind class k value)) (inner_table class k)

@@ -1,0 +1,188 @@
+//! All attributes of a message, one by one.
+
+ghost use Rattle.std.specs.Prelude.{◌≡◌, ◌≤◌};
+
+use crate::attribute::{Attribute, BrokenFrame};
+use crate::level::Level;
+use crate::nesting::list_in;
+use nla_frames::{DecodeError, Res};
+use tc_names::Table;
+
+/// The attributes of a message, each before those in it; then the first broken frame if there is one, then nothing.
+#[derive(Drop)]
+pub struct Attributes<'a> {
+    /// The list that is walked.
+    level: Level<'a>,
+    /// The lists around it, as many as its depth, the outermost first.
+    first: Level<'a>,
+    second: Level<'a>,
+    third: Level<'a>,
+    fourth: Level<'a>,
+    depth: usize,
+    ghost deep: { depth ≤ 4 },
+}
+
+impl<'a> Attributes<'a> {
+    ghost use Rattle.std.specs.Prelude.{◌+◌, ◌<◌, ◌^◌, ◌++◌, [], length, slice_index_or, slice_set};
+    ghost use Rattle.nla_frames.specs.Fault.{seen};
+    ghost use Rattle.tc_names.specs.Listed.{table_of};
+    ghost use Rattle.tc_index.specs.Attributes.{after_header, message_items, tc_items, action_items};
+    ghost use Rattle.tc_index.specs.Seen.{placed_of, sets_if, inner_of, outer_of, lists_left, items_left};
+
+    /// The attributes of a traffic control message. `BufferTooSmall` where its header is short.
+    pub fn of_tc(bytes: &'a [u8]) -> Res<Self>
+        ensures { seen items_left result ≡ after_header 20 tc_items bytes.now }
+    {
+        Attributes::after_header(bytes, 20, Table::Message, true)
+    }
+
+    /// The attributes of an action message. `BufferTooSmall` where its header is short.
+    pub fn of_action(bytes: &'a [u8]) -> Res<Self>
+        ensures { seen items_left result ≡ after_header 4 action_items bytes.now }
+    {
+        Attributes::after_header(bytes, 4, Table::ActionMessage, false)
+    }
+
+    fn after_header(bytes: &'a [u8], header: usize, table: Table, sets_kind: bool) -> Res<Self>
+        ensures { seen items_left result
+            ≡ after_header header (message_items 4 header (table_of table) (sets_if sets_kind)) bytes.now }
+    {
+        if bytes.len() < header {
+            return Err(DecodeError::BufferTooSmall {
+                len: bytes.len(),
+                needed: header,
+            });
+        }
+        let level = Level {
+            rest: bytes.split_at(header).1,
+            offset: header,
+            table,
+            kind: &[],
+            sets_kind,
+        };
+        Ok(Attributes {
+            level,
+            first: level,
+            second: level,
+            third: level,
+            fourth: level,
+            depth: 0,
+        })
+    }
+
+    /// Leaves lists of which nothing is left.
+    fn leave(&mut self)
+        ensures same { lists_left self.new ≡ lists_left self.old }
+        ensures all { self.new.level.rest.now ≡ [] → self.new.depth ≡ 0 }
+    {
+        while self.level.rest.is_empty() {
+            if self.depth == 0 {
+                return;
+            }
+            let level = self.outer(self.depth - 1);
+            self.depth -= 1;
+            self.level = level;
+        }
+    }
+
+    /// A list around the one that is walked.
+    fn outer(&self, depth: usize) -> Level<'a>
+        requires { depth < 4 }
+        ensures { result ≡ slice_index_or (outer_of self.now) depth result }
+    {
+        match depth {
+            0 => self.first,
+            1 => self.second,
+            2 => self.third,
+            _ => self.fourth,
+        }
+    }
+
+    /// Enters the list in an attribute.
+    fn enter(&mut self, attribute: &Attribute<'a>)
+        requires { attribute.now.offset + length attribute.now.value.now < 2 ^ 64 }
+        ensures { lists_left self.new
+            ≡ inner_of self.old.depth (placed_of attribute.now) ++ lists_left self.old }
+    {
+        let depth = self.depth;
+        if depth < 4 {
+            match list_in(
+                attribute.table,
+                attribute.number(),
+                attribute.kind,
+                attribute.value,
+            ) {
+                Some((table, kind)) => {
+                    self.keep_level();
+                    self.level = Level {
+                        rest: attribute.value,
+                        offset: attribute.offset,
+                        table,
+                        kind,
+                        sets_kind: false,
+                    };
+                    self.depth = depth + 1;
+                }
+                None => {}
+            }
+        }
+    }
+
+    /// Keeps the list that is walked, to come back to it.
+    fn keep_level(&mut self)
+        requires { self.old.depth < 4 }
+        ensures { outer_of self.new
+            ≡ slice_set (outer_of self.old) self.old.depth self.old.level }
+    {
+        match self.depth {
+            0 => self.first = self.level,
+            1 => self.second = self.level,
+            2 => self.third = self.level,
+            _ => self.fourth = self.level,
+        }
+    }
+
+    /// Leaves all lists.
+    fn end(&mut self)
+        ensures { lists_left self.new ≡ [] }
+    {
+        self.depth = 0;
+        self.level = Level {
+            rest: &[],
+            offset: 0,
+            table: Table::Message,
+            kind: &[],
+            sets_kind: false,
+        };
+    }
+}
+
+impl<'a> Iterator for Attributes<'a> {
+    ghost use Rattle.std.specs.Iterator.{YieldsFirstBy, item_count};
+    ghost use Rattle.tc_index.specs.Seen.{item_of, items_left};
+
+    type Item = Result<Attribute<'a>, BrokenFrame>;
+
+    ghost next_gives = { YieldsFirstBy item_of items_left };
+
+    ghost remaining = { item_count items_left };
+
+    fn next(&mut self) -> Option<Result<Attribute<'a>, BrokenFrame>> {
+        self.leave();
+        if self.level.rest.is_empty() {
+            return None;
+        }
+        let mut level = self.level;
+        match level.take_first(self.depth as u8) {
+            Ok(attribute) => {
+                self.level = level;
+                self.enter(&attribute);
+                Some(Ok(attribute))
+            }
+            Err(broken) => {
+                self.end();
+                Some(Err(broken))
+            }
+        }
+    }
+}

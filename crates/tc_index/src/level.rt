@@ -1,0 +1,105 @@
+//! A list of attributes that is walked.
+
+ghost use Rattle.std.specs.Prelude.{◌≡◌, ◌+◌, ◌<◌, ◌^◌, length};
+
+use crate::attribute::{Attribute, BrokenFrame};
+use nla_frames::{NLA_HEADER_SIZE, NlaBuffer, strip_nul};
+use tc_names::Table;
+
+/// What is left of a list of attributes.
+#[derive(Clone, Copy)]
+pub(crate) struct Level<'a> {
+    pub rest: &'a [u8],
+    /// Where it begins in the message.
+    pub offset: usize,
+    pub table: Table,
+    /// The kind in force there.
+    pub kind: &'a [u8],
+    /// A frame of type 1 sets the kind for those after it.
+    pub sets_kind: bool,
+    ghost within: { offset + length rest.now < 2 ^ 64 },
+}
+
+impl<'a> Level<'a> {
+    ghost use Rattle.std.specs.Prelude.{◌++◌, ◌-◌, ℕ, IfOk};
+    ghost use Rattle.nla_frames.specs.Fault.{read_as};
+    ghost use Rattle.nla_frames.specs.Buffer.{frame_of, first_of};
+    ghost use Rattle.nla_frames.specs.Cutting.{next_frame};
+    ghost use Rattle.nla_frames.specs.Place.{kind_then};
+    ghost use Rattle.tc_names.specs.Listed.{table_of};
+    ghost use Rattle.tc_index.specs.Attributes.{with_inner, attributes_in};
+    ghost use Rattle.tc_index.specs.Seen.{placed_of, sets_if, left_in, GivesFirst};
+
+    /// Takes the first attribute, which stands at this depth; or tells how its frame is broken.
+    pub(crate) fn take_first(&mut self, depth: u8) -> Result<Attribute<'a>, BrokenFrame>
+        requires { 0 < length self.old.rest.now }
+        ensures gives { GivesFirst depth self.old self.new result }
+        ensures within { IfOk result (λ a. a.offset + length a.value.now < 2 ^ 64) }
+    {
+        match NlaBuffer::new_checked(self.rest) {
+            Ok(frame) => {
+                let attribute = self.attribute(&frame, depth);
+                *self = self.after(&frame);
+                Ok(attribute)
+            }
+            Err(fault) => Err(BrokenFrame {
+                offset: self.offset,
+                fault,
+            }),
+        }
+    }
+
+    /// The first attribute, whose frame this is.
+    fn attribute(&self, frame: &NlaBuffer<'a>, depth: u8) -> Attribute<'a>
+        requires { read_as (frame_of frame.now) ≡ first_of (next_frame self.now.rest.now) }
+        ensures placed { placed_of result ≡ record {
+            frame = frame_of frame.now;
+            offset = self.now.offset + 4;
+            table = table_of self.now.table;
+            kind = self.now.kind.now;
+            depth = depth
+        } }
+        ensures within { result.offset + length result.value.now < 2 ^ 64 }
+    {
+        Attribute {
+            offset: self.offset + NLA_HEADER_SIZE,
+            word: frame.word(),
+            value: frame.value(),
+            table: self.table,
+            kind: self.kind,
+            depth,
+        }
+    }
+
+    /// What is left after the first frame.
+    fn after(&self, frame: &NlaBuffer<'a>) -> Level<'a>
+        requires { read_as (frame_of frame.now) ≡ first_of (next_frame self.now.rest.now) }
+        ensures { (depth : ℕ) → left_in depth self.now
+            ≡ with_inner (attributes_in (4 - depth)) (table_of self.now.table) depth
+                self.now.kind.now (self.now.offset + 4) (frame_of frame.now)
+            ++ left_in depth result }
+    {
+        let length = frame.length() as usize;
+        let taken = (length + (4 - length % 4) % 4).min(self.rest.len());
+        let (_, rest) = self.rest.split_at(taken);
+        Level {
+            rest,
+            offset: self.offset + taken,
+            table: self.table,
+            kind: self.kind_after(frame),
+            sets_kind: self.sets_kind,
+        }
+    }
+
+    /// The kind in force after a frame.
+    fn kind_after(&self, frame: &NlaBuffer<'a>) -> &'a [u8]
+        ensures { result.now
+            ≡ kind_then (sets_if self.now.sets_kind) self.now.kind.now (frame_of frame.now) }
+    {
+        if self.sets_kind && frame.kind() == 1 {
+            strip_nul(frame.value())
+        } else {
+            self.kind
+        }
+    }
+}

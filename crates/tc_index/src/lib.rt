@@ -1,0 +1,14 @@
+//! All attributes of a message of traffic control, each before those in it, without memory.
+#![tactic(auto)]
+
+mod attribute;
+mod attributes;
+mod index;
+pub mod laws;
+mod level;
+mod nesting;
+
+pub use attribute::{Attribute, BrokenFrame, Node};
+pub use attributes::Attributes;
+pub use index::{index_action, index_tc};
+pub use nesting::list_in;
