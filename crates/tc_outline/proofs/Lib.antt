@@ -1,1 +1,2 @@
-pub mod Kinds
+pub mod OwnKinds
+pub mod Meanings

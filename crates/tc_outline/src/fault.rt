@@ -1,7 +1,12 @@
 //! The first fault of a message, and its place.
 
-ghost use Rattle.std.specs.Prelude.{◌≡◌, option_map};
-ghost use Rattle.tc_names.specs.Listed.{class_of};
+ghost use Rattle.std.specs.Prelude.{◌≡◌, ◌≢◌, option_map};
+ghost use Rattle.nla_frames.specs.Frame.{type_of};
+ghost use Rattle.tc_names.specs.declared.row.Table.TheVariants.{Actions};
+ghost use Rattle.tc_names.specs.Listed.{class_of, table_of};
+ghost use Rattle.tc_index.specs.Nesting.{class_in};
+ghost use Rattle.tc_index.specs.Seen.{placed_of};
+ghost use Rattle.tc_outline.specs.Located.{own_fault};
 ghost use Rattle.tc_outline.specs.Fault.{value_fault};
 
 mod action;
@@ -9,7 +14,7 @@ mod value;
 
 use crate::page::Page;
 use crate::path::Path;
-use crate::walk::Attribute;
+use tc_index::Attribute;
 use nla_frames::DecodeError;
 use std::alloc::{AllocError, Allocator};
 use action::action_fault;
@@ -73,7 +78,11 @@ fn show_counts<A: Allocator>(
 }
 
 // The fault of an attribute itself, those in it aside. Its place is the last one of the path.
-pub(crate) fn fault_of(attribute: &Attribute<'_>, form: Form, path: &Path) -> Option<Fault> {
+pub(crate) fn fault_of(attribute: &Attribute<'_>, form: Form, path: &Path) -> Option<Fault>
+    requires { attribute.now.table ≢ Actions → class_of form
+        ≡ class_in (table_of attribute.now.table) (type_of attribute.now.word) attribute.now.kind.now }
+    ensures { option_map (λ fault. fault.error) result ≡ own_fault (placed_of attribute.now) }
+{
     match attribute.table {
         Table::Actions => action_fault(attribute, path),
         _ => value_fault(attribute, form, path),

@@ -34,7 +34,6 @@ mod path;
 mod reader;
 mod show;
 mod unit;
-mod walk;
 mod what;
 
 pub use fault::Fault;

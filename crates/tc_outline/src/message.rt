@@ -1,16 +1,18 @@
 //! A message as lines.
 
-ghost use Rattle.std.specs.Prelude.{◌≤◌, length, IfOk, IfSome};
+ghost use Rattle.std.specs.Prelude.{◌≡◌, ◌≤◌, length, IfOk, IfSome, option_map};
+ghost use Rattle.tc_index.specs.Seen.{items_left};
+ghost use Rattle.tc_outline.specs.Located.{first_fault, items_of_message, message_fault};
 
 use crate::fault::Fault;
 use crate::header::show_header;
-use crate::meaning::{Meaning, meaning_of};
+use crate::meaning::Meaning;
 use crate::names::Interfaces;
 use crate::page::Page;
 use crate::path::Path;
 use crate::reader::{attributes_of, broken_at, header_fault, step, within};
 use crate::show::{show_name, show_value};
-use crate::walk::{Attribute, Attributes};
+use tc_index::{Attribute, Attributes};
 use crate::what::What;
 use std::alloc::{AllocError, Allocator};
 
@@ -22,7 +24,9 @@ pub fn outline<A: Allocator>(
     what: What,
     names: &Interfaces<'_>,
 ) -> Result<Option<Fault>, AllocError>
-    ensures { IfOk result (λ found. IfSome found (λ fault. fault.offset ≤ length bytes.now)) }
+    ensures error { IfOk result (λ found. option_map (λ fault. fault.error) found
+        ≡ message_fault (items_of_message what bytes.now)) }
+    ensures place { IfOk result (λ found. IfSome found (λ fault. fault.offset ≤ length bytes.now)) }
 {
     let fault = match attributes_of(bytes, what) {
         Err(error) => Some(header_fault(error)),
@@ -47,18 +51,18 @@ fn show_attributes<A: Allocator>(
     page: &mut Page<A>,
     attributes: Attributes<'_>,
     names: &Interfaces<'_>,
-) -> Result<Option<Fault>, AllocError> {
+) -> Result<Option<Fault>, AllocError>
+    ensures { IfOk result (λ found. option_map (λ fault. fault.error) found
+        ≡ first_fault (items_left attributes)) }
+{
     let mut path = Path::new();
     for attribute in attributes {
         match attribute {
-            Err(broken) => return Ok(Some(broken_at(path, broken))),
-            Ok(attribute) => {
-                let meaning = meaning_of(&attribute);
-                if let Some(fault) = step(&mut path, &attribute, &meaning) {
-                    return Ok(Some(fault));
-                }
-                show_attribute(page, &attribute, &meaning, names)?;
-            }
+            Err(broken) => return Ok(Some(broken_at(&path, broken))),
+            Ok(attribute) => match step(&mut path, &attribute) {
+                Ok(meaning) => show_attribute(page, &attribute, &meaning, names)?,
+                Err(fault) => return Ok(Some(fault)),
+            },
         }
     }
     Ok(None)

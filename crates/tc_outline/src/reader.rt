@@ -1,17 +1,21 @@
 //! The attributes of a message up to the first fault.
 
-ghost use Rattle.std.specs.Prelude.{◌≡◌, ◌≤◌, length, IfSome};
+ghost use Rattle.std.specs.Prelude.{◌≡◌, ◌≤◌, length, IfSome, option_map, result_err};
+ghost use Rattle.nla_frames.specs.Fault.{seen};
+ghost use Rattle.tc_index.specs.Seen.{placed_of, items_left};
+ghost use Rattle.tc_outline.specs.Located.{own_fault, first_fault, items_of_message, message_fault};
 
 use crate::fault::{Fault, fault_of};
 use crate::meaning::{Meaning, meaning_of};
 use crate::path::Path;
-use crate::walk::{Attribute, Attributes, BrokenFrame};
+use tc_index::{Attribute, Attributes, BrokenFrame};
 use crate::what::What;
 use nla_frames::{DecodeError, Res};
 
 /// The first fault of a message in the order of reading, and its place. None of a message that can be read.
 pub fn locate(bytes: &[u8], what: What) -> Option<Fault>
-    ensures { IfSome result (λ fault. fault.offset ≤ length bytes.now) }
+    ensures error { option_map (λ fault. fault.error) result ≡ message_fault (items_of_message what bytes.now) }
+    ensures place { IfSome result (λ fault. fault.offset ≤ length bytes.now) }
 {
     match attributes_of(bytes, what) {
         Err(error) => Some(header_fault(error)),
@@ -19,16 +23,17 @@ pub fn locate(bytes: &[u8], what: What) -> Option<Fault>
     }
 }
 
-fn first_fault(attributes: Attributes<'_>) -> Option<Fault> {
+fn first_fault(attributes: Attributes<'_>) -> Option<Fault>
+    ensures { option_map (λ fault. fault.error) result ≡ first_fault (items_left attributes) }
+{
     let mut path = Path::new();
     for attribute in attributes {
         match attribute {
-            Err(broken) => return Some(broken_at(path, broken)),
-            Ok(attribute) => {
-                if let Some(fault) = step(&mut path, &attribute, &meaning_of(&attribute)) {
-                    return Some(fault);
-                }
-            }
+            Err(broken) => return Some(broken_at(&path, broken)),
+            Ok(attribute) => match step(&mut path, &attribute) {
+                Ok(_) => {}
+                Err(fault) => return Some(fault),
+            },
         }
     }
     None
@@ -47,7 +52,9 @@ pub(crate) fn within(fault: Fault, len: usize) -> Fault
 }
 
 // The attributes of a message. Its fault where its header is short.
-pub(crate) fn attributes_of(bytes: &[u8], what: What) -> Res<Attributes<'_>> {
+pub(crate) fn attributes_of(bytes: &[u8], what: What) -> Res<Attributes<'_>>
+    ensures { seen items_left result ≡ items_of_message what bytes.now }
+{
     match what {
         What::Action => Attributes::of_action(bytes),
         _ => Attributes::of_tc(bytes),
@@ -55,8 +62,10 @@ pub(crate) fn attributes_of(bytes: &[u8], what: What) -> Res<Attributes<'_>> {
 }
 
 // The fault that a broken frame after an attribute is.
-pub(crate) fn broken_at(before: Path, broken: BrokenFrame) -> Fault {
-    let mut path = before;
+pub(crate) fn broken_at(before: &Path, broken: BrokenFrame) -> Fault
+    ensures { result.error ≡ broken.fault }
+{
+    let mut path = *before;
     path.enter_at(broken.offset);
     Fault {
         offset: broken.offset,
@@ -65,11 +74,17 @@ pub(crate) fn broken_at(before: Path, broken: BrokenFrame) -> Fault {
     }
 }
 
-// Goes on to an attribute. Its fault, if it has one.
-pub(crate) fn step(path: &mut Path, attribute: &Attribute<'_>, meaning: &Meaning) -> Option<Fault> {
+// Goes on to an attribute: what it is, or its own fault.
+pub(crate) fn step(path: &mut Path, attribute: &Attribute<'_>) -> Result<Meaning, Fault>
+    ensures { option_map (λ fault. fault.error) (result_err result) ≡ own_fault (placed_of attribute.now) }
+{
+    let meaning = meaning_of(attribute);
     let end = attribute.offset.saturating_add(attribute.value.len());
-    path.enter(attribute.depth as usize, end, attribute.table, meaning.name);
-    fault_of(attribute, meaning.form, path)
+    path.enter(usize::from(attribute.depth), end, attribute.table, meaning.name);
+    match fault_of(attribute, meaning.form, path) {
+        Some(fault) => Err(fault),
+        None => Ok(meaning),
+    }
 }
 
 // The fault of a message without a whole header.

@@ -9,7 +9,7 @@ use crate::names::{Interfaces, protocol_name};
 use crate::number::{big, little};
 use crate::page::Page;
 use crate::unit::{Unit, unit_of};
-use crate::walk::Attribute;
+use tc_index::Attribute;
 use nla_frames::strip_nul;
 use record::show_record;
 use selector::show_selector;

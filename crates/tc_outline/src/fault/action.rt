@@ -7,7 +7,7 @@ ghost use Rattle.tc_outline.specs.Fault.{action_fault, one_more, count_error};
 
 use super::{Fault, fault_at};
 use crate::path::Path;
-use crate::walk::Attribute;
+use tc_index::Attribute;
 use nla_frames::{DecodeError, NLA_HEADER_SIZE, NlasIterator, strip_nul};
 use tc_names::Table;
 

@@ -1,7 +1,7 @@
 use Rattle.std.proofs.Common.{◌≡◌}
 use Rattle.nla_frames.specs.Iterator.{items_left}
 use Rattle.tc_outline.specs.Fault.{action_fault}
-use Rattle.tc_outline.proofs.Kinds.{error_after}
+use Rattle.tc_outline.proofs.OwnKinds.{error_after}
 use Rattle.tc_outline.proofs.fault.action.action_fault.Given as goal
 
 abbrev pub invariant-loop-frame : goal.invariant-loop-frame
