@@ -1,5 +1,5 @@
 -- How many attributes bytes have at most: one for every four bytes.
-use Rattle.std.proofs.Common.{◌≡◌, ℕ, zero, suc, ◌+◌, ◌-◌, ◌*◌, ◌<◌, ◌≤◌, List, [], ◌∷◌, ◌++◌, length, take, drop, Option, Some, None, Ok, Err, refl, sym, ap, ◌∙◌, arith}
+use Rattle.std.proofs.Common.{◌≡◌, ℕ, zero, suc, ◌+◌, ◌*◌, ◌<◌, ◌≤◌, List, [], ◌∷◌, ◌++◌, length, take, drop, Option, Some, None, Ok, Err, refl, sym, ap, ◌∙◌, arith}
 use Rattle.std.proofs.Common.{zero-add, ◌/◌}
 use Rattle.std.proofs.lemmas.List.{length-drop, length-take-le, drop_all}
 use Rattle.std.proofs.lemmas.Bool.{ltb-true}
@@ -66,7 +66,7 @@ each-count gives sets few = by_frames (Fewer gives sets) none broken more
     more bytes f after is later k at =
         let rest = each gives sets (kind_then sets k f) (at + frame_length f) (items_of (cut after)) in
         rw (items-next_frame bytes (f, after) is)
-            (omega (arith, count-append (gives k (at + 4) f) rest, few k (at + 4) f, later (kind_then sets k f) (at + frame_length f), frame-takes bytes f after is))
+        (omega (arith, count-append (gives k (at + 4) f) rest, few k (at + 4) f, later (kind_then sets k f) (at + frame_length f), frame-takes bytes f after is))
 
 -- an attribute and those in it
 inner-count : (walk : Walk) → ((t : Table) (k : List ℕ) (depth at : ℕ) (bytes : List ℕ) → 4 * count (walk t k depth at bytes) ≤ length bytes)

@@ -1,5 +1,5 @@
 -- The tables nest no deeper than a walk goes.
-use Rattle.std.proofs.Common.{◌≡◌, ℕ, zero, suc, ◌+◌, ◌<◌, ◌≤◌, List, [], ◌∷◌, ◌++◌, Option, Some, None, Ok, Err, refl, sym, ap, ◌∙◌, arith}
+use Rattle.std.proofs.Common.{◌≡◌, ℕ, zero, suc, ◌+◌, ◌<◌, ◌≤◌, List, [], ◌∷◌, Option, Some, None, Ok, Err, refl, ap, arith}
 use Rattle.std.specs.Prelude.{Bool, true, false, max, ◌==◌, unwrap_or, if◌then◌else◌, drop}
 use Rattle.std.specs.Str.{bytes_eq}
 use Rattle.nla_frames.specs.Fault.{Outcome}
@@ -13,7 +13,7 @@ use Rattle.tc_index.specs.Attributes.{Gives, each, Walk, within, with_inner, att
 
 -- in how many lists an attribute of a table may hold others
 abbrev mutual
-  lists_in : Class → ℕ
+  pub lists_in : Class → ℕ
   lists_in (list_of t) = suc (lists_of t)
   lists_in (own_list rows) = suc (lists_at rows)
   lists_in _ = 0
@@ -23,13 +23,13 @@ abbrev mutual
   lists_of (every class) = lists_in class
   lists_of (by_kind kinds) = lists_under kinds
 
-  lists_at : Rows → ℕ
+  pub lists_at : Rows → ℕ
   lists_at others = 0
   lists_at (types first last flags class rows) = max (lists_in class) (lists_at rows)
   lists_at (unread m class rows) = lists_at rows
   lists_at (options m kinds rows) = max (suc (lists_under kinds)) (lists_at rows)
 
-  lists_under : Kinds → ℕ
+  pub lists_under : Kinds → ℕ
   lists_under unknown = 0
   lists_under (kind name rows kinds) = max (lists_at rows) (lists_under kinds)
 
@@ -41,7 +41,11 @@ class_at-lists (types first last flags class rows) n k = go (is_within first las
     go : (b : Bool) → lists_in (class_at rows n k) ≤ lists_at rows → lists_in (if b then class else class_at rows n k) ≤ max (lists_in class) (lists_at rows)
     go true rest = omega arith
     go false rest = omega arith
-class_at-lists (unread m class rows) n k = class_at-lists rows n k
+class_at-lists (unread m class rows) n k = go (n == m) (class_at-lists rows n k)
+  where
+    go : (b : Bool) → lists_in (class_at rows n k) ≤ lists_at rows → lists_in (if b then raw else class_at rows n k) ≤ lists_at rows
+    go true rest = omega arith
+    go false rest = rest
 class_at-lists (options m kinds rows) n k = go (n == m) (is_known kinds k) (class_at-lists rows n k)
   where
     go : (b c : Bool) → lists_in (class_at rows n k) ≤ lists_at rows

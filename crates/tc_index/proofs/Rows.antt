@@ -1,10 +1,10 @@
 -- The rows and the kinds at run time say what the tables say.
-use Rattle.std.proofs.Common.{◌≡◌, ◌⊎◌, ℕ, zero, suc, ◌+◌, ◌-◌, ◌<◌, ◌≤◌, List, [], ◌∷◌, map, Option, Some, None, refl, sym, ap, ◌∙◌, arith, inl, inr}
+use Rattle.std.proofs.Common.{◌≡◌, ◌⊎◌, ℕ, zero, suc, ◌+◌, ◌-◌, ◌<◌, ◌≤◌, List, [], ◌∷◌, Option, Some, None, refl, sym, ap, ◌∙◌, arith, inl, inr}
 use Rattle.std.specs.Prelude.{Bool, true, false, ◌==◌, is_some, unwrap_or, option_map, if◌then◌else◌}
 use Rattle.std.specs.Str.{bytes_eq}
 use Rattle.std.proofs.lemmas.Bool.{cases_lt, le-leb, lt-leb, ne_eqb}
 use Rattle.std.proofs.Common.{eq-eqb, add-zero, zero-add, get_or}
-use Rattle.tc_canon.specs.Descriptor.{Class, raw, list_of, Table, table, by_kind, Rows, others, types, unread, options, Kinds, unknown, kind, is_known, is_within}
+use Rattle.tc_canon.specs.Descriptor.{Class, raw, list_of, Table, table, by_kind, Rows, others, types, unread, options, Kinds, unknown, kind, is_known}
 use Rattle.tc_names.specs.declared.row.Row.{Row}
 use Rattle.tc_names.specs.declared.row.Row.TheVariants.{Kept, Plain, Nested, Unread, Options}
 use Rattle.tc_names.specs.declared.row.Form.{Form}
@@ -46,26 +46,23 @@ one_by_one-class (types first last flags class rows) n k = go (one_by_one-class 
     go rest (inr low) (inl above) =
         rw (le-leb first n low, lt-leb n last above) (out_of_run (suc last - first) first flags class (one_by_one rows) n k (inr (omega arith)) ∙ rest)
     go rest (inr low) (inr high) = rw (le-leb first n low, le-leb n last high) (in_run (suc last - first) first flags class (one_by_one rows) n k low (omega arith))
-one_by_one-class (unread m class rows) n k = one_by_one-class rows n k
+one_by_one-class (unread m class rows) n k = ap (λ (c : Class). if n == m then raw else c) (one_by_one-class rows n k)
 one_by_one-class (options m kinds rows) n k = ap (λ (c : Class). if n == m then (if is_known kinds k then list_of (by_kind kinds) else raw) else c) (one_by_one-class rows n k)
+
+-- two types that differ
+apart : (n i : ℕ) → (n ≡ i → ⊥) → (n < i) ⊎ (i + 1 ≤ n)
+apart n i other = go (cases_lt n i)
+  where
+    go : (n < i) ⊎ (i ≤ n) → (n < i) ⊎ (i + 1 ≤ n)
+    go (inl l) = inl l
+    go (inr l) = inr (omega (arith, other))
 
 -- a row of a later type
 later_row : (i : ℕ) (r : Row) (rows : Rows) (n : ℕ) (k : List ℕ) → (n ≡ i → ⊥) → class_at (row_of i r rows) n k ≡ class_at rows n k
 later_row i Kept rows n k other = refl
-later_row i (Plain form name kernel) rows n k other = not_one i (class_of form) 0 rows n k other
-  where
-    not_one : (i : ℕ) (class : Class) (flags : ℕ) (rows : Rows) (n : ℕ) (k : List ℕ) → (n ≡ i → ⊥) → class_at (types i i flags class rows) n k ≡ class_at rows n k
-    not_one i class flags rows n k other = out_of_run 1 i flags class rows n k (apart (cases_lt n i))
-      where
-        apart : (n < i) ⊎ (i ≤ n) → (n < i) ⊎ (i + 1 ≤ n)
-        apart (inl l) = inl l
-        apart (inr l) = inr (omega (arith, other))
-later_row i (Nested form name kernel) rows n k other = out_of_run 1 i 0x8000 (class_of form) rows n k (apart (cases_lt n i))
-  where
-    apart : (n < i) ⊎ (i ≤ n) → (n < i) ⊎ (i + 1 ≤ n)
-    apart (inl l) = inl l
-    apart (inr l) = inr (omega (arith, other))
-later_row i (Unread form name kernel) rows n k other = refl
+later_row i (Plain form name kernel) rows n k other = out_of_run 1 i 0 (class_of form) rows n k (apart n i other)
+later_row i (Nested form name kernel) rows n k other = out_of_run 1 i 0x8000 (class_of form) rows n k (apart n i other)
+later_row i (Unread form name kernel) rows n k other = rw (ne_eqb n i other) refl
 later_row i (Options form name kernel) rows n k other = rw (ne_eqb n i other) refl
 
 -- types before the first row
@@ -78,7 +75,7 @@ own_row : (i : ℕ) (r : Row) (rows : Rows) (k : List ℕ) → class_at rows i k
 own_row i Kept rows k after = after
 own_row i (Plain form name kernel) rows k after = in_run 1 i 0 (class_of form) rows i k (omega arith) (omega arith)
 own_row i (Nested form name kernel) rows k after = in_run 1 i 0x8000 (class_of form) rows i k (omega arith) (omega arith)
-own_row i (Unread form name kernel) rows k after = after
+own_row i (Unread form name kernel) rows k after = rw (eq-eqb i i refl) refl
 own_row i (Options form name kernel) rows k after = rw (eq-eqb i i refl) refl
 
 -- the row that stands at a type's place

@@ -96,9 +96,9 @@ module _ (whole : List ℕ) where
         more : (bytes : List ℕ) (f : Frame) (after : List ℕ) → next_frame bytes ≡ Ok (f, after) → Standing whole gives sets after → Standing whole gives sets bytes
         more bytes f after is later k at stands =
             rw (items-next_frame bytes (f, after) is)
-                (all-append (Stands whole) (gives k (at + 4) f) (each gives sets (kind_then sets k f) (at + frame_length f) (items_of (cut after)))
-                (each_stands k (at + 4) f (value-stands bytes f after is whole at stands))
-                (later (kind_then sets k f) (at + frame_length f) (after-stands bytes f after is whole at stands)))
+            (all-append (Stands whole) (gives k (at + 4) f) (each gives sets (kind_then sets k f) (at + frame_length f) (items_of (cut after)))
+            (each_stands k (at + 4) f (value-stands bytes f after is whole at stands))
+            (later (kind_then sets k f) (at + frame_length f) (after-stands bytes f after is whole at stands)))
 
   inner-stands : (walk : Walk)
       → ((t : Table) (k : List ℕ) (depth at : ℕ) (bytes : List ℕ) → StandsAt whole at bytes → AllByRecursion (Stands whole) (walk t k depth at bytes))

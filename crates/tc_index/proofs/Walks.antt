@@ -1,9 +1,9 @@
 -- The steps of a walk: what lists have left as one is entered, stepped through and left.
-use Rattle.std.proofs.Common.{◌≡◌, ◌⊎◌, ℕ, zero, suc, ◌+◌, ◌-◌, ◌<◌, ◌≤◌, List, [], ◌∷◌, ◌++◌, length, take, drop, get_or, set, Option, Some, None, Ok, Err, refl, sym, ap, ap₂, subst, ◌∙◌, arith, inl, inr}
-use Rattle.std.proofs.Common.{append_assoc, add-zero, zero-add, add-one, Bool, true, false}
+use Rattle.std.proofs.Common.{◌≡◌, ◌⊎◌, ℕ, suc, ◌+◌, ◌-◌, ◌<◌, ◌≤◌, List, [], ◌∷◌, ◌++◌, length, take, drop, get_or, set, Option, Some, None, Ok, Err, refl, sym, ap, ap₂, subst, ◌∙◌, arith, inl, inr}
+use Rattle.std.proofs.Common.{append_assoc, add-zero, zero-add, add-one, false}
 use Rattle.std.specs.Prelude.{◌==◌}
 use Rattle.std.proofs.lemmas.Bool.{ne_eqb}
-use Rattle.std.proofs.lemmas.List.{nil_from_length, take_more, take_more_set, length-take-le, append-nil}
+use Rattle.std.proofs.lemmas.List.{take_more, take_more_set, length-take-le, append-nil}
 use Rattle.nla_frames.specs.declared.error.DecodeError.{DecodeError}
 use Rattle.nla_frames.specs.Fault.{Outcome, refused}
 use Rattle.nla_frames.specs.Frame.{Frame, frame_length}
@@ -35,7 +35,7 @@ pub first-given : (gives : Gives) (sets : Sets Frame) (k : List ℕ) (at : ℕ) 
     → each gives sets k at (items_of (cut rest)) ≡ gives k (at + 4) f ++ each gives sets (kind_then sets k f) (at + n) (items_of (cut (drop n rest)))
 first-given gives sets k at rest f n takes =
     rw (items-next_frame rest (f, drop n rest) takes.next)
-        (ap (λ (items : List Item). gives k (at + 4) f ++ items) (place gives sets (kind_then sets k f) (at + frame_length f) (at + n) (drop n rest) (where_is takes.all)))
+    (ap (λ (items : List Item). gives k (at + 4) f ++ items) (place gives sets (kind_then sets k f) (at + frame_length f) (at + n) (drop n rest) (where_is takes.all)))
   where
     where_is : (n ≡ frame_length f) ⊎ (drop n rest ≡ []) → (at + frame_length f ≡ at + n) ⊎ (drop n rest ≡ [])
     where_is (inl same) = inl (ap (λ (x : ℕ). at + x) (sym same))

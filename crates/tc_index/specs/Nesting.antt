@@ -8,11 +8,11 @@ use Rattle.tc_canon.specs.Descriptor.{Class, raw, list_of, own_list, Table, tabl
 use Rattle.tc_canon.specs.Descriptor.{Kinds, unknown, kind, is_within, is_known}
 use Rattle.tc_canon.specs.Kind.{kind_of_frame}
 
--- what the value of a type is: by the first row that has the type, and raw where none has
+-- what the value of a type is: by the first row that has the type; raw where none has, or where it is never read
 abbrev pub class_at : Rows → ℕ → List ℕ → Class
 class_at others n k = raw
 class_at (types first last flags class rows) n k = if is_within first last n then class else class_at rows n k
-class_at (unread m class rows) n k = class_at rows n k
+class_at (unread m class rows) n k = if n == m then raw else class_at rows n k
 class_at (options m kinds rows) n k = if n == m then (if is_known kinds k then list_of (by_kind kinds) else raw) else class_at rows n k
 
 -- what the value of an attribute is, by its table; under an unknown kind, raw

@@ -53,11 +53,11 @@ impl<'a> Level<'a> {
     fn attribute(&self, frame: &NlaBuffer<'a>, depth: u8) -> Attribute<'a>
         requires { read_as (frame_of frame.now) ≡ first_of (next_frame self.now.rest.now) }
         ensures placed { placed_of result ≡ record {
-            frame = frame_of frame.now;
-            offset = self.now.offset + 4;
-            table = table_of self.now.table;
-            kind = self.now.kind.now;
-            depth = depth
+          frame = frame_of frame.now;
+          offset = self.now.offset + 4;
+          table = table_of self.now.table;
+          kind = self.now.kind.now;
+          depth = depth;
         } }
         ensures within { result.offset + length result.value.now < 2 ^ 64 }
     {
@@ -76,7 +76,7 @@ impl<'a> Level<'a> {
         requires { read_as (frame_of frame.now) ≡ first_of (next_frame self.now.rest.now) }
         ensures { (depth : ℕ) → left_in depth self.now
             ≡ with_inner (attributes_in (4 - depth)) (table_of self.now.table) depth
-                self.now.kind.now (self.now.offset + 4) (frame_of frame.now)
+            self.now.kind.now (self.now.offset + 4) (frame_of frame.now)
             ++ left_in depth result }
     {
         let length = frame.length() as usize;

@@ -7,5 +7,5 @@ use Rattle.tc_index.proofs.index.put_nodes.Given as goal
 abbrev pub invariant-loop-item : goal.invariant-loop-item
 invariant-loop-item l = record {
   counted : l.count + length (nodes_of (items_left l.item-iterator)) ≡ length (nodes_of (items_left l.fn.attributes));
-  put : filled l.count (nodes_of (items_left l.item-iterator)) (map node_seen l.slots) ≡ filled 0 (nodes_of (items_left l.fn.attributes)) (map node_seen l.fn.slots)
+  put : filled l.count (nodes_of (items_left l.item-iterator)) (map node_seen l.slots) ≡ filled 0 (nodes_of (items_left l.fn.attributes)) (map node_seen l.fn.slots);
 }

@@ -8,4 +8,4 @@ returns-clause-table c =
 pub returns-clause-kind : goal.returns-clause-kind
 returns-clause-kind c value =
     rw (row-class c.args.table c.rows.result.now c.args.number c.args.kind.now c.rows.ensures.rows, ← c.row_at.ensures)
-        (row-kind c.row_at.result.now c.args.kind.now value)
+    (row-kind c.row_at.result.now c.args.kind.now value)

@@ -1,10 +1,9 @@
-use Rattle.std.proofs.Common.{◌≡◌, List, [], ◌∷◌, length, take, Ok, ap, sym, ◌∙◌, arith}
+use Rattle.std.proofs.Common.{◌≡◌, [], ap, sym, ◌∙◌}
 use Rattle.std.proofs.lemmas.Bool.{eqb-true}
 use Rattle.std.proofs.lemmas.List.{nil_from_length}
-use Rattle.nla_frames.proofs.Items.{some_bytes}
-use Rattle.tc_index.specs.Attributes.{Item, to_fault}
-use Rattle.tc_index.specs.Seen.{placed_of, inner_of, left_in, levels_left, outer_of, lists_left, items_left}
-use Rattle.tc_index.proofs.Walks.{nothing-left, gives-one, gives-fault}
+use Rattle.tc_index.specs.Attributes.{to_fault}
+use Rattle.tc_index.specs.Seen.{items_left}
+use Rattle.tc_index.proofs.Walks.{nothing-left}
 use Rattle.tc_index.proofs.attributes.AttributesIterator.next.Goals as goal
 
 pub returns-then-is_empty-clause-steps : goal.returns-then-is_empty-clause-steps
