@@ -1,14 +1,13 @@
 //! The faults of an action itself: a broken frame, a kind that is no text, no kind or several.
 
 ghost use Rattle.std.specs.Prelude.{◌≡◌, option_map};
-ghost use Rattle.std.specs.Str.{is_utf8};
-ghost use Rattle.nla_frames.specs.Value.{strip};
 ghost use Rattle.tc_outline.specs.Fault.{action_fault, one_more, count_error};
 
+use super::value::is_text;
 use super::{Fault, fault_at};
 use crate::path::Path;
 use tc_index::Attribute;
-use nla_frames::{DecodeError, NLA_HEADER_SIZE, NlasIterator, strip_nul};
+use nla_frames::{DecodeError, NLA_HEADER_SIZE, NlasIterator};
 use tc_names::Table;
 
 // The fault of an action at its place.
@@ -39,13 +38,6 @@ pub(super) fn action_fault(action: &Attribute<'_>, path: &Path) -> Option<Fault>
         Some(error) => Some(fault_at(action.offset, error, path)),
         None => None,
     }
-}
-
-// True if a value is a text.
-fn is_text(value: &[u8]) -> bool
-    ensures { result ≡ is_utf8 (strip value.now) }
-{
-    std::str::from_utf8(strip_nul(value)).is_ok()
 }
 
 // One kind more than none, than one, or than several.

@@ -1,7 +1,8 @@
 //! Which values a form takes.
 
 ghost use Rattle.std.specs.Prelude.{◌≡◌};
-ghost use Rattle.nla_frames.specs.Value.{exactly, text};
+ghost use Rattle.std.specs.Str.{is_utf8};
+ghost use Rattle.nla_frames.specs.Value.{exactly, strip, text};
 ghost use Rattle.tc_names.specs.Listed.{class_of, layout};
 ghost use Rattle.tc_meaning.specs.Layout.{size_of};
 ghost use Rattle.tc_meaning.specs.Content.{read_record, read_selector, read_xstats};
@@ -44,9 +45,19 @@ fn width_error(expected: usize, value: &[u8]) -> Option<DecodeError>
 fn text_error(value: &[u8]) -> Option<DecodeError>
     ensures { result ≡ fault_of (text value.now) }
 {
+    if is_text(value) {
+        return None;
+    }
+    Some(DecodeError::NotUtf8)
+}
+
+// True if a value is a text.
+pub(super) fn is_text(value: &[u8]) -> bool
+    ensures { result ≡ is_utf8 (strip value.now) }
+{
     match std::str::from_utf8(strip_nul(value)) {
-        Ok(_) => None,
-        Err(_) => Some(DecodeError::NotUtf8),
+        Ok(_) => true,
+        Err(_) => false,
     }
 }
 
