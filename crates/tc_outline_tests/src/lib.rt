@@ -2,6 +2,8 @@
 #![tactic(auto)]
 
 #[cfg(test)]
+mod every;
+#[cfg(test)]
 mod faults;
 #[cfg(test)]
 mod memory;
