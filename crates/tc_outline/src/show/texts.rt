@@ -2,41 +2,32 @@
 
 use crate::page::Page;
 use std::alloc::{AllocError, Allocator};
-use std::net::{Ipv4Addr, Ipv6Addr};
+use tc_texts::{handle_text, ipv4_text, ipv6_text, mac_text};
 
-// A handle as tc writes it.
+// A handle of four bytes as tc writes it.
 pub(crate) fn show_handle<A: Allocator>(page: &mut Page<A>, n: u64) -> Result<(), AllocError> {
-    if n == 0xffff_ffff {
-        return page.text("root");
-    }
-    page.hex_number(n >> 16)?;
-    page.text(":")?;
-    if n & 0xffff == 0 && n != 0 {
-        return Ok(());
-    }
-    page.hex_number(n & 0xffff)
+    page.text(handle_text((n % 0x1_0000_0000) as u32).as_str())
 }
 
 pub(crate) fn show_mac<A: Allocator>(page: &mut Page<A>, value: &[u8]) -> Result<(), AllocError> {
-    for (at, byte) in value.iter().enumerate() {
-        if at != 0 {
-            page.text(":")?;
-        }
-        page.hex_byte(*byte)?;
+    match value {
+        [a, b, c, d, e, f] => page.text(mac_text([*a, *b, *c, *d, *e, *f]).as_str()),
+        _ => page.hex(value),
     }
-    Ok(())
 }
 
 pub(crate) fn show_ipv4<A: Allocator>(page: &mut Page<A>, value: &[u8]) -> Result<(), AllocError> {
-    for (at, byte) in value.iter().enumerate() {
-        if at != 0 {
-            page.text(".")?;
-        }
-        page.number(u64::from(*byte))?;
+    match value {
+        [a, b, c, d] => page.text(ipv4_text([*a, *b, *c, *d]).as_str()),
+        _ => page.hex(value),
     }
-    Ok(())
 }
 
 pub(crate) fn show_ipv6<A: Allocator>(page: &mut Page<A>, value: &[u8]) -> Result<(), AllocError> {
-    page.hex(value)
+    if value.len() != 16 {
+        return page.hex(value);
+    }
+    let mut octets = [0; 16];
+    octets.copy_from_slice(value);
+    page.text(ipv6_text(octets).as_str())
 }
