@@ -54,5 +54,5 @@ only-is (Ok (k ∷ [])) = refl
 only-is (Ok (k ∷ l ∷ ks)) = ap count_error (several ks)
 
 -- so the fault is that of the one kind
-pub error_after-is : (items : List (Outcome Frame)) → error_after 0 items ≡ fault_of (read_kinds items >>= only_kind)
-error_after-is items = kinds-is 0 items ∙ only-is (read_kinds items)
+pub error_after_is : (items : List (Outcome Frame)) → error_after 0 items ≡ fault_of (read_kinds items >>= only_kind)
+error_after_is items = kinds-is 0 items ∙ only-is (read_kinds items)

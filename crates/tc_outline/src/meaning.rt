@@ -1,9 +1,10 @@
 //! What an attribute is: its name, its form and the word that it is written with.
 
-ghost use Rattle.std.specs.Prelude.{◌≡◌, ◌≢◌, List, ℕ, if◌then◌else◌};
+ghost use Rattle.std.specs.Prelude.{◌≡◌, ◌≢◌, List, ℕ, slice_index_or, if◌then◌else◌};
 ghost use Rattle.nla_frames.specs.Frame.{type_of};
 ghost use Rattle.tc_canon.specs.Descriptor.{is_known, list_of, by_kind, raw};
 ghost use Rattle.tc_names.specs.declared.row.Table.TheVariants.{Actions};
+ghost use Rattle.tc_names.specs.declared.row.Row.TheVariants.{Kept};
 ghost use Rattle.tc_names.specs.declared.row.Form.TheVariants.{Bytes};
 ghost use Rattle.tc_names.specs.Listed.{class_of, table_of, kinds_in, kinds_at, rows_in};
 ghost use Rattle.tc_index.specs.Nesting.{class_at, class_in};
@@ -50,7 +51,13 @@ pub(crate) fn meaning_of(attribute: &Attribute<'_>) -> Meaning
 fn row_of(table: Table, kind: u16) -> &'static Row
     ensures { (k : List ℕ) → class_of_row result.now k ≡ class_at (rows_in table) kind k }
 {
-    match rows(table).get(usize::from(kind)) {
+    row_at(rows(table), kind)
+}
+
+fn row_at(rows: &'static [Row], kind: u16) -> &'static Row
+    ensures { result.now ≡ slice_index_or rows.now kind Kept }
+{
+    match rows.get(usize::from(kind)) {
         Some(row) => row,
         None => &Row::Kept,
     }

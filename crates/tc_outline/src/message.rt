@@ -53,7 +53,7 @@ fn show_attributes<A: Allocator>(
     names: &Interfaces<'_>,
 ) -> Result<Option<Fault>, AllocError>
     ensures { IfOk result (λ found. option_map (λ fault. fault.error) found
-        ≡ first_fault (items_left attributes)) }
+        ≡ first_fault (items_left attributes.entry)) }
 {
     let mut path = Path::new();
     for attribute in attributes {

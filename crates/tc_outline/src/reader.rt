@@ -1,6 +1,7 @@
 //! The attributes of a message up to the first fault.
 
-ghost use Rattle.std.specs.Prelude.{◌≡◌, ◌≤◌, length, IfSome, option_map, result_err};
+ghost use Rattle.std.specs.Prelude.{◌≡◌, ◌≤◌, length, IfSome, option_map};
+ghost use Rattle.std.specs.Result.{result_err};
 ghost use Rattle.nla_frames.specs.Fault.{seen};
 ghost use Rattle.tc_index.specs.Seen.{placed_of, items_left};
 ghost use Rattle.tc_outline.specs.Located.{own_fault, first_fault, items_of_message, message_fault};
@@ -24,7 +25,7 @@ pub fn locate(bytes: &[u8], what: What) -> Option<Fault>
 }
 
 fn first_fault(attributes: Attributes<'_>) -> Option<Fault>
-    ensures { option_map (λ fault. fault.error) result ≡ first_fault (items_left attributes) }
+    ensures { option_map (λ fault. fault.error) result ≡ first_fault (items_left attributes.entry) }
 {
     let mut path = Path::new();
     for attribute in attributes {
