@@ -14,18 +14,18 @@ mod value;
 
 use crate::page::Page;
 use crate::path::Path;
-use tc_index::Attribute;
+use action::action_fault;
 use nla_frames::DecodeError;
 use std::alloc::{AllocError, Allocator};
-use action::action_fault;
+use tc_index::Attribute;
 use tc_names::{Form, Table};
 use value::error_of;
 
 /// Why a message is refused, and where.
 #[derive(Drop)]
 pub struct Fault {
-    /// Where it is in the message, in bytes: of a broken frame and of a short header its first byte, of a value the first byte of the
-    /// value.
+    /// Where it is in the message, in bytes: of a broken frame and of a short header its first byte, of a value the
+    /// first byte of the value.
     pub offset: usize,
     /// What is wrong.
     pub error: DecodeError,
@@ -49,15 +49,25 @@ impl Fault {
 // The numbers of a fault, each after its name.
 fn show_numbers<A: Allocator>(page: &mut Page<A>, error: &DecodeError) -> Result<(), AllocError> {
     match error {
-        DecodeError::BufferTooSmall { len, needed } | DecodeError::SelectorShort { len, needed } => {
-            show_counts(page, " len ", *len, " needed ", *needed)
-        }
+        DecodeError::BufferTooSmall { len, needed } | DecodeError::SelectorShort { len, needed } =>
+            { show_counts(page, " len ", *len, " needed ", *needed) }
         DecodeError::FrameHeaderShort { left } => show_count(page, " left ", *left),
-        DecodeError::FrameTooLong { length, left } => show_counts(page, " length ", *length, " left ", *left),
+        DecodeError::FrameTooLong { length, left } => show_counts(
+            page, " length ", *length, " left ", *left,
+        ),
         DecodeError::FrameTooShort { length } => show_count(page, " length ", *length),
-        DecodeError::WrongLength { expected, got } => show_counts(page, " expected ", *expected, " got ", *got),
+        DecodeError::WrongLength { expected, got } => show_counts(
+            page,
+            " expected ",
+            *expected,
+            " got ",
+            *got,
+        ),
         DecodeError::XstatsShort { len } => show_count(page, " len ", *len),
-        DecodeError::NotUtf8 | DecodeError::MissingKind | DecodeError::DuplicateKind | DecodeError::OutOfMemory => Ok(()),
+        DecodeError::NotUtf8
+        | DecodeError::MissingKind
+        | DecodeError::DuplicateKind
+        | DecodeError::OutOfMemory => Ok(()),
     }
 }
 

@@ -50,7 +50,11 @@ fn show_action_header<A: Allocator>(page: &mut Page<A>, bytes: &[u8]) -> Result<
 }
 
 // The number of an interface; a negative one as it is.
-fn show_index<A: Allocator>(page: &mut Page<A>, index: &[u8], names: &Interfaces<'_>) -> Result<(), AllocError> {
+fn show_index<A: Allocator>(
+    page: &mut Page<A>,
+    index: &[u8],
+    names: &Interfaces<'_>,
+) -> Result<(), AllocError> {
     let number = signed(index);
     if number < 0 {
         return page.signed(number);

@@ -1,8 +1,9 @@
 //! Messages of traffic control shown to people: a line for each attribute, from bytes and names alone.
 //!
-//! [`outline`] writes a message on a [`Page`]: its header, then each attribute on a line of its own, indented by its depth, in the
-//! order of the wire. Of a message that is refused it writes what is before the first fault, and last the fault with its numbers,
-//! its offset and its path. [`locate`] finds that fault alone. No byte of a message reaches the page but as printable ASCII.
+//! [`outline`] writes a message on a [`Page`]: its header, then each attribute on a line of its own, indented by its
+//! depth, in the order of the wire. Of a message that is refused it writes what is before the first fault, and last the
+//! fault with its numbers, its offset and its path. [`locate`] finds that fault alone. No byte of a message reaches the
+//! page but as printable ASCII.
 //!
 //! | What | How it is shown |
 //! |---|---|

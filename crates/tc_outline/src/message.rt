@@ -12,12 +12,13 @@ use crate::page::Page;
 use crate::path::Path;
 use crate::reader::{attributes_of, broken_at, header_fault, step, within};
 use crate::show::{show_name, show_value};
-use tc_index::{Attribute, Attributes};
 use crate::what::What;
 use std::alloc::{AllocError, Allocator};
+use tc_index::{Attribute, Attributes};
 
-/// Shows a message, the payload of a netlink message, where the page ends. Its header comes on the line that is begun, each
-/// attribute on a line of its own, and where the message is refused its first fault on the last one; that fault is returned.
+/// Shows a message, the payload of a netlink message, where the page ends. Its header comes on the line that is begun,
+/// each attribute on a line of its own, and where the message is refused its first fault on the last one; that fault is
+/// returned.
 pub fn outline<A: Allocator>(
     page: &mut Page<A>,
     bytes: &[u8],

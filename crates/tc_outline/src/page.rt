@@ -5,7 +5,6 @@ ghost use Rattle.tc_outline.specs.Page.{is_printable, IsPrintable, IsShown};
 
 mod texts;
 
-
 use itoa::Buffer;
 use std::alloc::{AllocError, Allocator};
 use texts::{is_printable, is_word};
@@ -19,8 +18,8 @@ pub enum Layout {
     OneLine,
 }
 
-/// Text for people. Each byte of it is printable ASCII, or a line feed between the lines of a message: bytes of a message are
-/// written escaped.
+/// Text for people. Each byte of it is printable ASCII, or a line feed between the lines of a message: the bytes of a
+/// message are written escaped.
 #[derive(Drop)]
 pub struct Page<A: Allocator> {
     bytes: Vec<u8, A>,

@@ -77,7 +77,8 @@ impl Path {
         self.enter(depth, offset, Table::ActionOptions, "");
     }
 
-    /// Writes it as a JSON pointer, such as `/attributes/1/Options/0/Flower/Actions/1`; `/header` is the header of the message.
+    /// Writes it as a JSON pointer, such as `/attributes/1/Options/0/Flower/Actions/1`; `/header` is the header of the
+    /// message.
     pub fn show<A: Allocator>(&self, page: &mut Page<A>) -> Result<(), AllocError> {
         if self.len == 0 {
             return page.text("/header");

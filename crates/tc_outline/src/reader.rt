@@ -9,9 +9,9 @@ ghost use Rattle.tc_outline.specs.Located.{own_fault, first_fault, items_of_mess
 use crate::fault::{Fault, fault_of};
 use crate::meaning::{Meaning, meaning_of};
 use crate::path::Path;
-use tc_index::{Attribute, Attributes, BrokenFrame};
 use crate::what::What;
 use nla_frames::{DecodeError, Res};
+use tc_index::{Attribute, Attributes, BrokenFrame};
 
 /// The first fault of a message in the order of reading, and its place. None of a message that can be read.
 pub fn locate(bytes: &[u8], what: What) -> Option<Fault>
@@ -81,7 +81,12 @@ pub(crate) fn step(path: &mut Path, attribute: &Attribute<'_>) -> Result<Meaning
 {
     let meaning = meaning_of(attribute);
     let end = attribute.offset.saturating_add(attribute.value.len());
-    path.enter(usize::from(attribute.depth), end, attribute.table, meaning.name);
+    path.enter(
+        usize::from(attribute.depth),
+        end,
+        attribute.table,
+        meaning.name,
+    );
     match fault_of(attribute, meaning.form, path) {
         Some(fault) => Err(fault),
         None => Ok(meaning),

@@ -9,11 +9,11 @@ use crate::names::{Interfaces, protocol_name};
 use crate::number::{big, little};
 use crate::page::Page;
 use crate::unit::{Unit, unit_of};
-use tc_index::Attribute;
 use nla_frames::strip_nul;
 use record::show_record;
 use selector::show_selector;
 use std::alloc::{AllocError, Allocator};
+use tc_index::Attribute;
 use tc_names::{Fixed, Form, Table};
 use texts::{show_handle, show_ipv4, show_ipv6, show_mac};
 
@@ -39,7 +39,11 @@ pub(crate) fn show_value<A: Allocator>(
     }
 }
 
-fn show_plain<A: Allocator>(page: &mut Page<A>, attribute: &Attribute<'_>, form: Form) -> Result<(), AllocError> {
+fn show_plain<A: Allocator>(
+    page: &mut Page<A>,
+    attribute: &Attribute<'_>,
+    form: Form,
+) -> Result<(), AllocError> {
     let value = attribute.value;
     match form {
         Form::Text | Form::Warning => page.quoted(strip_nul(value)),
@@ -54,7 +58,11 @@ fn show_plain<A: Allocator>(page: &mut Page<A>, attribute: &Attribute<'_>, form:
     }
 }
 
-fn show_number<A: Allocator>(page: &mut Page<A>, attribute: &Attribute<'_>, n: u64) -> Result<(), AllocError> {
+fn show_number<A: Allocator>(
+    page: &mut Page<A>,
+    attribute: &Attribute<'_>,
+    n: u64,
+) -> Result<(), AllocError> {
     match unit_of(attribute.table, type_of(attribute)) {
         Unit::Counts(unit) => {
             page.number(n)?;
@@ -141,7 +149,11 @@ pub(crate) fn show_name<A: Allocator>(
 }
 
 // The type of an attribute, after a word.
-fn show_type<A: Allocator>(page: &mut Page<A>, word: &str, attribute: &Attribute<'_>) -> Result<(), AllocError> {
+fn show_type<A: Allocator>(
+    page: &mut Page<A>,
+    word: &str,
+    attribute: &Attribute<'_>,
+) -> Result<(), AllocError> {
     page.text(word)?;
     page.number(u64::from(type_of(attribute)))
 }

@@ -11,7 +11,12 @@ fn each_request_refused(rt: HostRuntime) -> Result<(), Fail> {
     for at in 1..1000u64 {
         let failing = Failing::new(rt.alloc(), at);
         let mut page = Page::new(&failing, Layout::Lines);
-        let outcome = outline(&mut page, &bytes, TWO_ACTIONS.what, &Interfaces { names: &[] });
+        let outcome = outline(
+            &mut page,
+            &bytes,
+            TWO_ACTIONS.what,
+            &Interfaces { names: &[] },
+        );
         assert!(rt; outcome.is_err() == failing.has_refused());
         if outcome.is_ok() {
             assert!(rt; at > 4);

@@ -1,4 +1,5 @@
-//! Messages, and the lines that they are shown as: written from the tables of docs/GRAMMAR.md, apart from the crate under test.
+//! Messages, and the lines that they are shown as: written from the tables of docs/GRAMMAR.md, apart from the crate under
+//! test.
 
 use tc_outline::What;
 

@@ -135,7 +135,9 @@ fn refused_messages(rt: HostRuntime) -> Result<(), Fail> {
         let bytes = hex::decode(alloc, digits.as_bytes())?;
         let mut page = Page::new(alloc, Layout::Lines);
         let fault = outline(&mut page, &bytes, what, &Interfaces { names: &[] })?;
-        let text = std::str::from_utf8(page.bytes()).ok().ok_or("a page is text")?;
+        let text = std::str::from_utf8(page.bytes())
+            .ok()
+            .ok_or("a page is text")?;
         assert_eq!(rt; last_line(text), last);
         let shown = fault.ok_or("it is refused")?;
         let found = locate(&bytes, what).ok_or("it has a fault")?;

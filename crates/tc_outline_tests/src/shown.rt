@@ -21,7 +21,9 @@ fn text_of(
     let bytes = hex::decode(alloc, digits.as_bytes())?;
     let mut page = Page::new(alloc, layout);
     let fault = outline(&mut page, &bytes, what, names)?;
-    let text = std::str::from_utf8(page.bytes()).ok().ok_or("a page is text")?;
+    let text = std::str::from_utf8(page.bytes())
+        .ok()
+        .ok_or("a page is text")?;
     Ok((text.to_string(alloc)?, fault.is_some()))
 }
 
@@ -66,13 +68,20 @@ fn on_one_line(rt: HostRuntime) -> Result<(), Fail> {
     let names = Interfaces {
         names: &[(3, "eth0"), (6, "wan \x1b[2J")],
     };
-    let (text, _) = text_of(alloc, Layout::OneLine, TWO_ACTIONS.what, TWO_ACTIONS.hex, &names)?;
+    let (text, _) = text_of(
+        alloc,
+        Layout::OneLine,
+        TWO_ACTIONS.what,
+        TWO_ACTIONS.hex,
+        &names,
+    )?;
     assert_eq!(rt; text.as_str(), ONE_LINE);
     Ok(())
 }
 
 // The flower filter with two actions; two interfaces have names.
-const ONE_LINE: &str = "index 3 (eth0) handle 0x0 parent ffff:fff2 pref 601 protocol ip (0x0800) kind flower options \
+const ONE_LINE: &str =
+    "index 3 (eth0) handle 0x0 parent ffff:fff2 pref 601 protocol ip (0x0800) kind flower options \
 {ip_proto 6 ipv4_dst 10.8.0.1 ipv4_dst_mask 255.255.255.255 actions {action 1 {kind mirred options \
 {parms index 0 capab 0 action pipe refcnt 0 bindcnt 0 eaction egress_mirror ifindex 6 (\"wan \
 \\x1b[2J\")}} action 2 {kind nat options {parms index 33 capab 0 action ok refcnt 0 bindcnt 0 \

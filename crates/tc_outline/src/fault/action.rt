@@ -45,7 +45,8 @@ fn own_error(value: &[u8]) -> Option<DecodeError>
     count_error(kinds)
 }
 
-// The place of the first frame of an action that is broken, or a kind that is no text; of the action where there is none.
+// The place of the first frame of an action that is broken, or a kind that is no text; of the action where there is
+// none.
 fn place_in(action: &Attribute<'_>, path: &Path) -> (usize, Path) {
     let mut inside = *path;
     let mut at = action.offset;

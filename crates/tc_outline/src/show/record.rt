@@ -8,7 +8,7 @@ use crate::page::Page;
 use std::alloc::{AllocError, Allocator};
 use tc_names::{Field, FieldForm, Fixed, Numbers, fields};
 
-// Each field of a record, its name and its value; then the bytes after the record, if there are any. A record in it is shown by
+// Each field of a record, its name and its value; then the bytes after it, if there are any. A record in it is shown by
 // its fields.
 pub(crate) fn show_record<A: Allocator>(
     page: &mut Page<A>,
@@ -52,7 +52,11 @@ fn show_field<'a, A: Allocator>(
     }
 }
 
-fn show_field_value<A: Allocator>(page: &mut Page<A>, form: FieldForm, value: &[u8]) -> Result<(), AllocError> {
+fn show_field_value<A: Allocator>(
+    page: &mut Page<A>,
+    form: FieldForm,
+    value: &[u8],
+) -> Result<(), AllocError> {
     match form {
         FieldForm::I16 | FieldForm::I32 => page.signed(signed(value)),
         FieldForm::Handle => show_handle(page, little(value)),
@@ -63,7 +67,9 @@ fn show_field_value<A: Allocator>(page: &mut Page<A>, form: FieldForm, value: &[
         FieldForm::Family => show_named(page, Numbers::Families, value),
         FieldForm::ActionType => show_named(page, Numbers::ActionTypes, value),
         FieldForm::MirrorType => show_named(page, Numbers::MirrorTypes, value),
-        FieldForm::U8 | FieldForm::U16 | FieldForm::U32 | FieldForm::U64 => page.number(little(value)),
+        FieldForm::U8 | FieldForm::U16 | FieldForm::U32 | FieldForm::U64 => page.number(little(
+            value,
+        )),
     }
 }
 
@@ -73,7 +79,11 @@ fn show_long_hex<A: Allocator>(page: &mut Page<A>, value: &[u8]) -> Result<(), A
 }
 
 // A number by its name, or where it has none as a number.
-pub(crate) fn show_named<A: Allocator>(page: &mut Page<A>, which: Numbers, value: &[u8]) -> Result<(), AllocError> {
+pub(crate) fn show_named<A: Allocator>(
+    page: &mut Page<A>,
+    which: Numbers,
+    value: &[u8],
+) -> Result<(), AllocError> {
     match number_name(which, little(value)) {
         Some(name) => page.name(name),
         None if value.len() == 1 => page.number(little(value)),
