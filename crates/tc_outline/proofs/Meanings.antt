@@ -1,7 +1,7 @@
 -- The form of an attribute has the class that the tables give it.
-use Rattle.std.proofs.Common.{◌≡◌, ℕ, List, Bool, true, false, refl, ap, sym, ◌∙◌}
+use Rattle.std.proofs.Common.{◌≡◌, ℕ, List, true, refl, ap}
 use Rattle.std.specs.Prelude.{if◌then◌else◌}
-use Rattle.tc_canon.specs.Descriptor.{Class, raw, list_of, Table, by_kind, Kinds, is_known}
+use Rattle.tc_canon.specs.Descriptor.{raw, list_of, Table, by_kind, is_known}
 use Rattle.tc_names.specs.declared.row.Table.{Table as ListedTable}
 use Rattle.tc_names.specs.declared.row.Table.TheVariants as the
 use Rattle.tc_names.specs.Listed.{table_of, kinds_in}

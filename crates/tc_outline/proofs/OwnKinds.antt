@@ -1,12 +1,12 @@
 -- The kinds of an action as they are counted: none, one, or two and more.
-use Rattle.std.proofs.Common.{◌≡◌, ℕ, zero, suc, List, [], ◌∷◌, Option, Some, None, Ok, Err, Bool, true, false, refl, sym, ap, ◌∙◌}
+use Rattle.std.proofs.Common.{◌≡◌, ℕ, List, [], ◌∷◌, Option, Some, Ok, Err, Bool, true, false, refl, ap, ◌∙◌}
 use Rattle.std.specs.Prelude.{if◌then◌else◌, ◌==◌}
 use Rattle.std.specs.Str.{is_utf8}
 use Rattle.nla_frames.specs.declared.error.DecodeError.{DecodeError}
 use Rattle.nla_frames.specs.declared.error.DecodeError.TheVariants.{NotUtf8}
 use Rattle.nla_frames.specs.Fault.{Outcome, seen, ◌>>=◌}
 use Rattle.nla_frames.specs.Frame.{Frame, type_of}
-use Rattle.nla_frames.specs.Value.{strip, text}
+use Rattle.nla_frames.specs.Value.{strip}
 use Rattle.tc_meaning.specs.Own.{read_kinds, only_kind}
 use Rattle.tc_outline.specs.Fault.{fault_of, one_more, count_error}
 
