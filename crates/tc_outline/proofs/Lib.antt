@@ -1,0 +1,2 @@
+pub mod OwnKinds
+pub mod Meanings

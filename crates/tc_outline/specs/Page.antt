@@ -1,0 +1,16 @@
+-- What a page may hold, whatever was shown on it.
+use Rattle.std.specs.Prelude.{ℕ, Bool, IsTrue, All, List, ◌==◌, ◌&&◌, ◌||◌, nat_le}
+
+-- a byte of text that any terminal shows as it is: printable ASCII
+abbrev pub is_printable : ℕ → Bool
+is_printable b = nat_le 0x20 b && nat_le b 0x7e
+
+-- a byte of a page: printable, or a line feed where messages are shown on lines
+abbrev pub is_shown : Bool → ℕ → Bool
+is_shown lines b = is_printable b || (lines && (b == 10))
+
+abbrev pub IsShown : Bool → List ℕ → Type 0
+IsShown lines bytes = All (λ b. IsTrue (is_shown lines b)) bytes
+
+abbrev pub IsPrintable : List ℕ → Type 0
+IsPrintable bytes = All (λ b. IsTrue (is_printable b)) bytes
