@@ -26,7 +26,7 @@ seen_twice after into (Err e) = refl
 module _ (class : Class) {X : Type 0} (into : X → Content) (read : List ℕ → Outcome X)
     (reads : (v : List ℕ) → (class_codec class).read [] v ≡ seen into (read v)) where
   by_class : (f : Frame) → IsTrue (holds class flower_options (type_of f.word))
-    → flower_read f ≡ seen (λ x. known (type_of f.word) (into x)) (read f.value)
+      → flower_read f ≡ seen (λ x. known (type_of f.word) (into x)) (read f.value)
   unfolding flower_read
   by_class f here =
       let n = type_of f.word in
