@@ -83,6 +83,18 @@ Knows from rows unknown =
 abbrev counted_generic : List Scalar → List Scalar
 counted_generic fields = plain 0x04030201 ∷ plain 0x08070605 ∷ unnamed 0x0c0b0a09 ∷ plain 0x100f0e0d ∷ plain 0x14131211 ∷ fields
 
+-- the times of an action, and the record of mirred
+abbrev times_row : ℕ → Row
+times_row n = (
+  n,
+  hex (codes "0102030405060708090a0b0c0d0e0f101112131415161718191a1b1c1d1e1f20"),
+  record_of (plain 0x0807060504030201 ∷ plain 0x100f0e0d0c0b0a09 ∷ plain 0x1817161514131211 ∷ plain 0x201f1e1d1c1b1a19 ∷ []),
+)
+
+abbrev mirror_row : ℕ → Row
+mirror_row n =
+    (n, hex (codes "0102030405060708090a0b0c0d0e0f101112131415161718191a1b1c"), record_of (counted_generic (unnamed 0x18171615 ∷ plain 0x1c1b1a19 ∷ [])))
+
 -- ---- flower
 
 abbrev flower_rows : List Row
@@ -164,17 +176,7 @@ bpf_known = (refl, refl, refl)
 -- ---- mirror
 
 abbrev mirror_rows : List Row
-mirror_rows = (
-  1,
-  hex (codes "0102030405060708090a0b0c0d0e0f101112131415161718191a1b1c1d1e1f20"),
-  record_of (plain 0x0807060504030201 ∷ plain 0x100f0e0d0c0b0a09 ∷ plain 0x1817161514131211 ∷ plain 0x201f1e1d1c1b1a19 ∷ []),
-)  -- Tm
-    ∷ (
-      2,
-      hex (codes "0102030405060708090a0b0c0d0e0f101112131415161718191a1b1c"),
-      record_of (counted_generic (unnamed 0x18171615 ∷ plain 0x1c1b1a19 ∷ [])),
-    )  -- Parms
-    ∷ []
+mirror_rows = times_row 1 ∷ mirror_row 2 ∷ []  -- Tm, Parms
 
 mirror_known : Knows mirror_options mirror_rows (0 ∷ 3 ∷ [])
 mirror_known = (refl, refl, refl)
@@ -188,11 +190,7 @@ nat_rows = (
   record_of (counted_generic (octets_of (hex (codes "15161718")) ∷ octets_of (hex (codes "191a1b1c")) ∷ octets_of (hex (codes "1d1e1f20"))
       ∷ plain 0x24232221 ∷ [])),
 )  -- Parms
-    ∷ (
-      2,
-      hex (codes "0102030405060708090a0b0c0d0e0f101112131415161718191a1b1c1d1e1f20"),
-      record_of (plain 0x0807060504030201 ∷ plain 0x100f0e0d0c0b0a09 ∷ plain 0x1817161514131211 ∷ plain 0x201f1e1d1c1b1a19 ∷ []),
-    )  -- Tm
+    ∷ times_row 2  -- Tm
     ∷ []
 
 nat_known : Knows nat_options nat_rows (0 ∷ 3 ∷ [])
@@ -201,11 +199,8 @@ nat_known = (refl, refl, refl)
 -- ---- tunnel_key
 
 abbrev tunnel_key_rows : List Row
-tunnel_key_rows = (
-  1,
-  hex (codes "0102030405060708090a0b0c0d0e0f101112131415161718191a1b1c1d1e1f20"),
-  record_of (plain 0x0807060504030201 ∷ plain 0x100f0e0d0c0b0a09 ∷ plain 0x1817161514131211 ∷ plain 0x201f1e1d1c1b1a19 ∷ []),
-)  -- Tm
+tunnel_key_rows =
+    times_row 1  -- Tm
     ∷ (2, hex (codes "0102030405060708090a0b0c0d0e0f101112131415161718"), record_of (counted_generic (plain 0x18171615 ∷ [])))  -- Parms
     ∷ octets_row (codes "01020304") 3  -- EncIpv4Src
     ∷ octets_row (codes "01020304") 4  -- EncIpv4Dst
@@ -307,17 +302,11 @@ lse_rows =
     ∷ (5, hex (codes "01020300"), number 0x00030201)  -- LseLabel
     ∷ []
 
-lse_rows_read : map (read_row lse_options) lse_rows ≡ map (λ row. Ok (value_of_row row)) lse_rows
-lse_rows_read = refl
-
-lse_rows_written : map (write_row lse_options) lse_rows ≡ map frame_of_row lse_rows
-lse_rows_written = refl
+lse_known : Knows lse_options lse_rows (0 ∷ 6 ∷ [])
+lse_known = (refl, refl, refl)
 
 lse_label_written : write_in lse_options (known 5 (number 0xffffffff)) ≡ record { word = 5; value = hex (codes "ffff0f00") }
 lse_label_written = refl
-
-lse_others : map (read_type lse_options) (0 ∷ 6 ∷ []) ≡ map kept_type (0 ∷ 6 ∷ [])
-lse_others = refl
 
 mpls_others : map (read_type mpls_options) (0 ∷ 2 ∷ []) ≡ map kept_type (0 ∷ 2 ∷ [])
 mpls_others = refl
@@ -474,22 +463,9 @@ sfq_read : (table_codec (by_kind option_kinds)).read (hex (codes "736671")) (fra
 sfq_read = refl
 
 abbrev action_kind_rows : List KindRow
-action_kind_rows = (
-  hex (codes "6d6972726564"),
-  (
-    2,
-    hex (codes "0102030405060708090a0b0c0d0e0f101112131415161718191a1b1c"),
-    record_of (counted_generic (unnamed 0x18171615 ∷ plain 0x1c1b1a19 ∷ [])),
-  ),
-)  -- mirred, Parms
-    ∷ (
-      hex (codes "6e6174"),
-      (
-        2,
-        hex (codes "0102030405060708090a0b0c0d0e0f101112131415161718191a1b1c1d1e1f20"),
-        record_of (plain 0x0807060504030201 ∷ plain 0x100f0e0d0c0b0a09 ∷ plain 0x1817161514131211 ∷ plain 0x201f1e1d1c1b1a19 ∷ []),
-      ),
-    )  -- nat, Tm
+action_kind_rows =
+    (hex (codes "6d6972726564"), mirror_row 2)  -- mirred, Parms
+    ∷ (hex (codes "6e6174"), times_row 2)  -- nat, Tm
     ∷ (hex (codes "74756e6e656c5f6b6579"), (7, hex (codes "01020304"), number 0x01020304))  -- tunnel_key, EncKeyId
     ∷ []
 
@@ -553,19 +529,13 @@ xstats_rows n =
     ∷ (n, hex (codes "0200000001"), unknown_statistics (hex (codes "0200000001")))
     ∷ []
 
-xstats_read : map (λ row. (table_codec (table attributes)).read fq_codel (frame_of_row row)) (xstats_rows 4)
-    ≡ map (λ row. Ok (value_of_row row)) (xstats_rows 4)
-xstats_read = refl
+abbrev KnowsXstats : Rows → Type 0
+KnowsXstats from =
+    (map (λ row. (table_codec (table from)).read fq_codel (frame_of_row row)) (xstats_rows 4) ≡ map (λ row. Ok (value_of_row row)) (xstats_rows 4))
+    × (map (write_row from) (xstats_rows 4) ≡ map frame_of_row (xstats_rows 4))
 
-xstats_written : map (write_row attributes) (xstats_rows 4) ≡ map frame_of_row (xstats_rows 4)
-xstats_written = refl
-
-app_read : map (λ row. (table_codec (table stats2)).read fq_codel (frame_of_row row)) (xstats_rows 4)
-    ≡ map (λ row. Ok (value_of_row row)) (xstats_rows 4)
-app_read = refl
-
-app_written : map (write_row stats2) (xstats_rows 4) ≡ map frame_of_row (xstats_rows 4)
-app_written = refl
+xstats_known : KnowsXstats attributes × KnowsXstats stats2
+xstats_known = ((refl, refl), (refl, refl))
 
 -- a list of statistics, of a message and of an action
 abbrev basic_stats : ℕ → Attribute
