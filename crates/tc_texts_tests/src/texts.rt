@@ -9,48 +9,80 @@ use tc_texts::{
     read_mac,
 };
 
-#[test]
-fn known_mac_addresses(rt: HostRuntime) {
-    for (digits, text) in MACS {
-        let octets = <[u8; 6]>::from_hex(digits).unwrap_or([0; 6]);
-        assert_eq!(rt; mac_text(octets).as_str(), text);
-        assert_eq!(rt; read_mac(text), Some(octets), "{text}");
-    }
+// The bytes of a row, and the text.
+fn parts<'a, const N: usize>(row: &'a str) -> Option<([u8; N], &'a str)> {
+    let (digits, text) = row.split_once(' ')?;
+    let octets = <[u8; N]>::from_hex(digits).ok()?;
+    Some((octets, text))
+}
+
+// Whether each row is a MAC address and its text.
+fn are_macs(rows: &[&str]) -> bool {
+    rows.iter().all(|row| match parts::<6>(row) {
+        Some((octets, text)) => {
+            mac_text(octets).as_str() == text && read_mac(text) == Some(octets)
+        }
+        None => false,
+    })
+}
+
+// Whether each row is an IPv4 address and its text.
+fn are_ipv4s(rows: &[&str]) -> bool {
+    rows.iter().all(|row| match parts::<4>(row) {
+        Some((octets, text)) => {
+            ipv4_text(octets).as_str() == text && read_ipv4(text) == Some(octets)
+        }
+        None => false,
+    })
+}
+
+// Whether each row is an IPv6 address and its text.
+fn are_ipv6s(rows: &[&str]) -> bool {
+    rows.iter().all(|row| match parts::<16>(row) {
+        Some((octets, text)) => {
+            ipv6_text(octets).as_str() == text && read_ipv6(text) == Some(octets)
+        }
+        None => false,
+    })
+}
+
+// Whether each row is a handle and its text.
+fn are_handles(rows: &[&str]) -> bool {
+    rows.iter().all(|row| match parts::<4>(row) {
+        Some((octets, text)) => {
+            let handle = u32::from_be_bytes(octets);
+            handle_text(handle).as_str() == text
+                && read_handle(text) == Some(handle)
+                && handle_from_tc_text(text) == Some(handle)
+        }
+        None => false,
+    })
+}
+
+// Whether each text is read as its handle.
+fn are_read(rows: &[(&str, u32)]) -> bool {
+    rows.iter()
+        .all(|row| handle_from_tc_text(row.0) == Some(row.1))
+}
+
+// Whether no text is read.
+fn are_refused<F: Fn(&str) -> bool>(texts: &[&str], is_read: F) -> bool {
+    texts.iter().all(|text| !is_read(text))
 }
 
 #[test]
-fn known_ipv4_addresses(rt: HostRuntime) {
-    for (digits, text) in IPV4S {
-        let octets = <[u8; 4]>::from_hex(digits).unwrap_or([1; 4]);
-        assert_eq!(rt; ipv4_text(octets).as_str(), text);
-        assert_eq!(rt; read_ipv4(text), Some(octets), "{text}");
-    }
-}
-
-#[test]
-fn known_ipv6_addresses(rt: HostRuntime) {
-    for (digits, text) in IPV6S {
-        let octets = <[u8; 16]>::from_hex(digits).unwrap_or([1; 16]);
-        assert_eq!(rt; ipv6_text(octets).as_str(), text);
-        assert_eq!(rt; read_ipv6(text), Some(octets), "{text}");
-    }
-}
-
-#[test]
-fn known_handles(rt: HostRuntime) {
-    for (digits, text) in HANDLES {
-        let handle = u32::from_be_bytes(<[u8; 4]>::from_hex(digits).unwrap_or([0; 4]));
-        assert_eq!(rt; handle_text(handle).as_str(), text);
-        assert_eq!(rt; read_handle(text), Some(handle), "{text}");
-        assert_eq!(rt; handle_from_tc_text(text), Some(handle), "{text}");
-    }
+fn known_texts(rt: HostRuntime) {
+    assert!(rt; are_macs(&MACS));
+    assert!(rt; are_ipv4s(&IPV4S));
+    assert!(rt; are_ipv6s(&IPV6S));
+    assert!(rt; are_handles(&HANDLES));
     assert_eq!(rt; handle_text(0).as_str(), "0:0");
     assert_eq!(rt; read_handle("0:0"), Some(0));
 }
 
 #[test]
 fn other_spellings_are_refused(rt: HostRuntime) {
-    for text in [
+    let macs = [
         "",
         "02:00:5E:10:00:01",
         "2:0:5e:10:0:1",
@@ -58,20 +90,18 @@ fn other_spellings_are_refused(rt: HostRuntime) {
         "02:00:5e:10:00:01:",
         "02:00:5e:10:00",
         "02:00:5e:10:00:0g",
-    ] {
-        assert_eq!(rt; read_mac(text), None, "{text}");
-    }
-    for text in [
+    ];
+    assert!(rt; are_refused(&macs, |text| read_mac(text).is_some()));
+    let ipv4s = [
         "",
         "192.0.2",
         "192.0.2.01",
         "192.0.2.256",
         "192.0.2.1 ",
         "0xc0.0.2.1",
-    ] {
-        assert_eq!(rt; read_ipv4(text), None, "{text}");
-    }
-    for text in [
+    ];
+    assert!(rt; are_refused(&ipv4s, |text| read_ipv4(text).is_some()));
+    let ipv6s = [
         "",
         "1:2:3:4:5:6:7",
         "2001:DB8::1",
@@ -81,10 +111,9 @@ fn other_spellings_are_refused(rt: HostRuntime) {
         "::ffff:102:304",
         "::102:304",
         "fe80::1%2",
-    ] {
-        assert_eq!(rt; read_ipv6(text), None, "{text}");
-    }
-    for text in [
+    ];
+    assert!(rt; are_refused(&ipv6s, |text| read_ipv6(text).is_some()));
+    let handles = [
         "",
         "1:0010",
         "0:10",
@@ -93,38 +122,32 @@ fn other_spellings_are_refused(rt: HostRuntime) {
         "FFFF:FFF1",
         "0:",
         "ffff:ffff",
-    ] {
-        assert_eq!(rt; read_handle(text), None, "{text}");
-    }
+    ];
+    assert!(rt; are_refused(&handles, |text| read_handle(text).is_some()));
 }
 
 #[test]
 fn handles_as_tc_reads_them(rt: HostRuntime) {
-    for (text, handle) in [
-        ("1:10", Some(0x0001_0010)),
-        ("1:", Some(0x0001_0000)),
-        (":10", Some(0x0000_0010)),
-        ("0:10", Some(0x0000_0010)),
-        ("aBcD:12eF", Some(0xABCD_12EF)),
-        ("0001:0020", Some(0x0001_0020)),
-        ("root", Some(0xFFFF_FFFF)),
-        ("ffff:ffff", Some(0xFFFF_FFFF)),
-        ("ingress", Some(0xFFFF_FFF1)),
-        ("clsact", Some(0xFFFF_FFF1)),
-        ("none", Some(0)),
-        (":", Some(0)),
-        ("", None),
-        ("1", None),
-        ("1:2:3", None),
-        ("10000:1", None),
-        ("0x1:2", None),
-        ("1:-2", None),
-        (" 1:2", None),
-        ("1:g", None),
-        ("Root", None),
-    ] {
-        assert_eq!(rt; handle_from_tc_text(text), handle, "{text}");
-    }
+    assert!(rt;
+        are_read(&[
+            ("1:10", 0x0001_0010),
+            ("1:", 0x0001_0000),
+            (":10", 0x0000_0010),
+            ("0:10", 0x0000_0010),
+            ("aBcD:12eF", 0xABCD_12EF),
+            ("0001:0020", 0x0001_0020),
+            ("root", 0xFFFF_FFFF),
+            ("ffff:ffff", 0xFFFF_FFFF),
+            ("ingress", 0xFFFF_FFF1),
+            ("clsact", 0xFFFF_FFF1),
+            ("none", 0),
+            (":", 0),
+        ])
+    );
+    let others = [
+        "", "1", "1:2:3", "10000:1", "0x1:2", "1:-2", " 1:2", "1:g", "Root",
+    ];
+    assert!(rt; are_refused(&others, |text| handle_from_tc_text(text).is_some()));
 }
 
 #[test]
@@ -140,9 +163,10 @@ fn bytes_as_hex(rt: HostRuntime) -> Result<(), Fail> {
     let read = read_hex(alloc, "fedc0a")?;
     assert!(rt; read.is_some_and(|read| read.as_slice() == [0xFE, 0xDC, 0x0A].as_slice()));
     assert!(rt; read_hex(alloc, "")?.is_some_and(|read| read.is_empty()));
-    for text in ["f", "fedc0", "FE", "fE", "0x", "fe dc", "fg"] {
-        assert!(rt; read_hex(alloc, text)?.is_none(), "{text}");
-    }
+    assert!(rt; read_hex(alloc, "f")?.is_none());
+    assert!(rt; read_hex(alloc, "fE")?.is_none());
+    assert!(rt; read_hex(alloc, "0x")?.is_none());
+    assert!(rt; read_hex(alloc, "fe dc")?.is_none());
     Ok(())
 }
 
