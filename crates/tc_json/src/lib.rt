@@ -1,0 +1,14 @@
+//! Messages as serde sends them to a format, such as JSON: what is sent is defined over the tables of names and forms.
+#![tactic(auto)]
+
+mod attributes;
+mod bodies;
+mod fields;
+mod messages;
+mod records;
+mod row;
+mod show;
+mod texts;
+
+pub use row::show_row;
+pub use show::{Show, ShowAttribute, ShowContent, Shown};

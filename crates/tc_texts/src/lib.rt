@@ -1,0 +1,5 @@
+//! Texts (a stand-in until the crate is merged).
+#![tactic(auto)]
+
+/// Nothing.
+pub fn nothing() {}
