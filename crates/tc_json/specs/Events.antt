@@ -80,10 +80,15 @@ keys_events keys =
 abbrev pub selector_events : List Scalar → List (List Scalar) → List Event
 selector_events head keys = map_begins None ∷ (fields_events (field_names_in fixed.SelectorHead) head ++ (keys_events keys ++ map_ends ∷ []))
 
--- statistics of fq_codel: those of a qdisc have the number 0, those of a class 1
+-- statistics of fq_codel: those of a qdisc have the number 0, those of a class 1; any others are bytes
 abbrev pub statistics_events : ℕ → List Scalar → List Event
 statistics_events zero s = variant (codes "Qdisc") (record_events (field_names_in fixed.QdiscStats) s)
 statistics_events (suc n) s = variant (codes "Class") (record_events (field_names_in fixed.ClassStats) s)
+
+abbrev pub fq_codel_events : Content → List Event
+fq_codel_events (statistics n s) = statistics_events n s
+fq_codel_events (unknown_statistics v) = variant (codes "Other") (hex_event v)
+fq_codel_events x = []
 
 -- ---- attributes
 
@@ -104,8 +109,8 @@ abbrev mutual
   content_events f (flag b) = boolean b ∷ []
   content_events f (record_of s) = record_events (fields_in f) s
   content_events f (keyed head keys) = selector_events head keys
-  content_events f (statistics n s) = variant (codes "FqCodel") (statistics_events n s)
-  content_events f (unknown_statistics v) = variant (codes "FqCodel") (variant (codes "Other") (hex_event v))
+  content_events f (statistics n s) = variant (codes "FqCodel") (fq_codel_events (statistics n s))
+  content_events f (unknown_statistics v) = variant (codes "FqCodel") (fq_codel_events (unknown_statistics v))
   content_events f (items xs) = seq_begins (Some (count xs)) ∷ (each_attribute (table_in f) xs ++ seq_ends ∷ [])
 
   -- an attribute of a table: an action, or the variant of its type; one that is kept raw; one of a kind, in the variant of that

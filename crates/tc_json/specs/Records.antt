@@ -1,5 +1,5 @@
 -- What is sent of records, by the names and the forms of their fields.
-use Rattle.std.specs.Prelude.{ℕ, List, [], ◌∷◌, ◌++◌, None, codes, ◌==◌, if◌then◌else◌}
+use Rattle.std.specs.Prelude.{ℕ, List, [], ◌∷◌, ◌++◌, None, codes, drop, ◌==◌, if◌then◌else◌}
 use Rattle.std.specs.Int.{w16, w32, cast_signed}
 use Rattle.serde.specs.Event.{Event, signed, unsigned, unit_variant, seq_begins, seq_ends, map_begins, map_ends, field_key}
 use Rattle.serde.specs.declared.name.Case.TheVariants.{AsIs}
@@ -59,15 +59,24 @@ field_events form (unnamed n) = variant (codes "Other") (other_number form n)
 field_events form (octets_of v) = text_event (ipv4_text v)
 field_events form blank = []
 
--- fields, each under its name; a record within a record is an object, and padding isn't sent
+-- a field under its name; a record within the record is an object, and padding isn't sent
+abbrev pub one_field : NamedField → List Scalar → List Event
+one_field (a_field form name) [] = []
+one_field (a_field form name) (s ∷ ss) = field_key name AsIs ∷ field_events form s
+one_field (pad_bytes n) ss = []
+one_field (part_begins name) ss = field_key name AsIs ∷ map_begins None ∷ []
+one_field part_ends ss = map_ends ∷ []
+
+-- what is left for the fields after it
+abbrev pub after_field : NamedField → List Scalar → List Scalar
+after_field (a_field form name) ss = drop 1 ss
+after_field (pad_bytes n) ss = drop 1 ss
+after_field (part_begins name) ss = ss
+after_field part_ends ss = ss
+
 abbrev pub fields_events : List NamedField → List Scalar → List Event
 fields_events [] ss = []
-fields_events (a_field form name ∷ fs) [] = []
-fields_events (a_field form name ∷ fs) (s ∷ ss) = field_key name AsIs ∷ (field_events form s ++ fields_events fs ss)
-fields_events (pad_bytes n ∷ fs) [] = []
-fields_events (pad_bytes n ∷ fs) (s ∷ ss) = fields_events fs ss
-fields_events (part_begins name ∷ fs) ss = field_key name AsIs ∷ map_begins None ∷ fields_events fs ss
-fields_events (part_ends ∷ fs) ss = map_ends ∷ fields_events fs ss
+fields_events (f ∷ fs) ss = one_field f ss ++ fields_events fs (after_field f ss)
 
 -- a record is an object
 abbrev pub record_events : List NamedField → List Scalar → List Event

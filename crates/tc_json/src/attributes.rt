@@ -22,7 +22,7 @@ ghost use Rattle.tc_action_messages.specs.ActionMessageAttribute.{action_message
 ghost use Rattle.tc_json.specs.Sent.{Sent};
 ghost use Rattle.tc_json.specs.Events.{attribute_events};
 
-use crate::bodies::show_list;
+use crate::bodies::show_attributes;
 use crate::row::{misfit, show_raw, show_row};
 use crate::show::ShowAttribute;
 use nla_frames::Nla;
@@ -255,8 +255,7 @@ impl<A: Allocator> ShowAttribute for TcAction<A> {
                 out.begin_map(None)?;
                 out.key("tab")?;
                 out.u64(u64::from(self.tab))?;
-                out.key("attributes")?;
-                show_list(&self.attributes, Form::ListOf(Table::Action), alloc, out)?;
+                show_attributes(&self.attributes, Form::ListOf(Table::Action), alloc, out)?;
                 out.end_map()
             }
             _ => Err(misfit(out)),

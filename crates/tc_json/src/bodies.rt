@@ -1,9 +1,9 @@
 //! What attributes nest: lists, records, one of two.
 
-ghost use Rattle.std.specs.Prelude.{OnOk, map};
+ghost use Rattle.std.specs.Prelude.{OnOk, map, codes};
 ghost use Rattle.tc_meaning.specs.Tree.{items, none, attributes_of};
 ghost use Rattle.tc_values.specs.Bodies.{either_of};
-ghost use Rattle.tc_json.specs.Sent.{Sent};
+ghost use Rattle.tc_json.specs.Sent.{Sent, field};
 ghost use Rattle.tc_json.specs.Events.{content_events, each_attribute};
 
 use crate::row::misfit;
@@ -87,6 +87,20 @@ pub(crate) fn show_list<S: Serializer, T: ShowAttribute>(
         }
         _ => Err(misfit(out)),
     }
+}
+
+/// The member of an object that holds its attributes.
+pub(crate) fn show_attributes<S: Serializer, T: ShowAttribute>(
+    list: &[T],
+    form: Form,
+    alloc: Global,
+    out: &mut S,
+) -> Result<(), S::Error>
+    ensures { OnOk result (Sent (field (codes "attributes") (content_events form (items (attributes_of (map T.seen list.now)))))
+        (S.written out.old) (S.written out.new)) }
+{
+    out.key("attributes")?;
+    show_list(list, form, alloc, out)
 }
 
 // Each attribute in turn.

@@ -1,21 +1,21 @@
 //! Records, field by field.
 
-ghost use Rattle.std.specs.Prelude.{◌≡◌, OnOk, List, map, drop};
+ghost use Rattle.std.specs.Prelude.{◌≡◌, OnOk, IfOk, List, map, drop};
 ghost use Rattle.serde.specs.Event.{Event};
 ghost use Rattle.tc_records.specs.ActionType.{action_type_scalar};
 ghost use Rattle.tc_records.specs.MirrorActionType.{mirror_action_type_scalar};
 ghost use Rattle.tc_records.specs.Numbers.{family_scalar};
 ghost use Rattle.tc_names.specs.Named.{named_field};
 ghost use Rattle.tc_json.specs.Sent.{Sent, variant};
-ghost use Rattle.tc_json.specs.Records.{scalar_of, number_name, name_event, number_field, other_number, field_events, fields_events, record_events};
+ghost use Rattle.tc_json.specs.Records.{scalar_of, number_name, name_event, number_field, other_number, field_events, one_field, after_field, fields_events, record_events};
 ghost use Rattle.tc_json.specs.Events.{fields_in};
 
 use crate::row::misfit;
-use crate::texts::{handle_text, ipv4_text};
 use nla_frames::AddressFamily;
 use serde::{Case, Serializer};
 use tc_names::{Field, FieldForm, Fixed, Form, Numbers, fields, named_numbers};
 use tc_records::{TcActionType, TcMirrorActionType};
+use tc_texts::{handle_text, ipv4_text};
 
 /// What a field of a record holds.
 #[derive(Clone, Copy)]
@@ -106,32 +106,47 @@ pub(crate) fn show_fields<S: Serializer>(
     ensures { OnOk result (Sent (fields_events (map named_field fields.now) (map scalar_of cells.now))
         (S.written out.old) (S.written out.new)) }
 {
-    let Some((field, rest)) = fields.split_first() else {
+    let Some((field, others)) = fields.split_first() else {
         return Ok(());
     };
+    let left = show_one(field, cells, out)?;
+    show_fields(others, left, out)
+}
+
+// A field, or a mark between fields; returns the cells that are left.
+fn show_one<'c, S: Serializer>(
+    field: &Field,
+    cells: &'c [Cell],
+    out: &mut S,
+) -> Result<&'c [Cell], S::Error>
+    ensures sent { OnOk result (Sent (one_field (named_field field.now) (map scalar_of cells.now))
+        (S.written out.old) (S.written out.new)) }
+    ensures left { IfOk result (λ left. map scalar_of left.now
+        ≡ after_field (named_field field.now) (map scalar_of cells.now)) }
+{
     match field {
         Field::Named(form, name) => {
-            let Some((cell, others)) = cells.split_first() else {
+            let Some((cell, left)) = cells.split_first() else {
                 return Err(misfit(out));
             };
             out.key(name)?;
             show_field(*form, *cell, out)?;
-            show_fields(rest, others, out)
+            Ok(left)
         }
         Field::Pad(_) => {
-            let Some((_, others)) = cells.split_first() else {
+            let Some((_, left)) = cells.split_first() else {
                 return Err(misfit(out));
             };
-            show_fields(rest, others, out)
+            Ok(left)
         }
         Field::Begins(name) => {
             out.key(name)?;
             out.begin_map(None)?;
-            show_fields(rest, cells, out)
+            Ok(cells)
         }
         Field::Ends => {
             out.end_map()?;
-            show_fields(rest, cells, out)
+            Ok(cells)
         }
     }
 }

@@ -8,7 +8,6 @@ mod messages;
 mod records;
 mod row;
 mod show;
-mod texts;
 
 pub use row::show_row;
-pub use show::{Show, ShowAttribute, ShowContent, Shown};
+pub use show::{InForm, InTable, Show, ShowAttribute, ShowContent, Shown};

@@ -1,14 +1,14 @@
 //! Whole messages.
 
-ghost use Rattle.std.specs.Prelude.{OnOk, map};
+ghost use Rattle.std.specs.Prelude.{OnOk, map, codes};
 ghost use Rattle.tc_meaning.specs.Tree.{record_of};
 ghost use Rattle.tc_meaning.specs.Message.{Message};
 ghost use Rattle.tc_messages.specs.Message.{tc_message};
 ghost use Rattle.tc_action_messages.specs.ActionMessage.{action_message};
-ghost use Rattle.tc_json.specs.Sent.{Sent};
+ghost use Rattle.tc_json.specs.Sent.{Sent, field};
 ghost use Rattle.tc_json.specs.Events.{content_events, tc_events, action_message_events, message_of};
 
-use crate::bodies::show_list;
+use crate::bodies::show_attributes;
 use crate::show::{Show, ShowAttribute, ShowContent};
 use serde::Serializer;
 use std::alloc::{Allocator, Global};
@@ -61,9 +61,20 @@ fn show_message<S: Serializer, H: ShowContent, T: ShowAttribute>(
         (S.written out.old) (S.written out.new)) }
 {
     out.begin_map(None)?;
-    out.key("header")?;
-    header.show_as(form, alloc, out)?;
-    out.key("attributes")?;
-    show_list(attributes, Form::ListOf(table), alloc, out)?;
+    show_header(form, header, alloc, out)?;
+    show_attributes(attributes, Form::ListOf(table), alloc, out)?;
     out.end_map()
+}
+
+fn show_header<S: Serializer, H: ShowContent>(
+    form: Form,
+    header: &H,
+    alloc: Global,
+    out: &mut S,
+) -> Result<(), S::Error>
+    ensures { OnOk result (Sent (field (codes "header") (content_events form (H.content header.now)))
+        (S.written out.old) (S.written out.new)) }
+{
+    out.key("header")?;
+    header.show_as(form, alloc, out)
 }

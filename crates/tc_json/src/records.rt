@@ -1,6 +1,6 @@
 //! The records, selectors and statistics.
 
-ghost use Rattle.std.specs.Prelude.{OnOk, map};
+ghost use Rattle.std.specs.Prelude.{◌≡◌, OnOk, map, flat_map};
 ghost use Rattle.tc_meaning.specs.Tree.{record_of, keyed};
 ghost use Rattle.tc_records.specs.Header.{header_scalars};
 ghost use Rattle.tc_records.specs.Actions.{action_message_header_scalars, generic_scalars, mirror_scalars, nat_scalars, tunnel_key_scalars};
@@ -13,7 +13,8 @@ ghost use Rattle.tc_action_messages.specs.Flags.{flags_words};
 ghost use Rattle.tc_names.specs.Listed.{field_names_in};
 ghost use Rattle.tc_names.specs.declared.row.Fixed.TheVariants.{SelectorKey};
 ghost use Rattle.tc_json.specs.Sent.{Sent, variant};
-ghost use Rattle.tc_json.specs.Events.{each_record, content_events, keys_events};
+ghost use Rattle.tc_json.specs.Records.{scalar_of};
+ghost use Rattle.tc_json.specs.Events.{each_record, content_events, keys_events, selector_events, fq_codel_events};
 
 use crate::fields::Cell::{Blank, Number};
 use crate::fields::{
@@ -315,33 +316,52 @@ impl<A: Allocator> ShowContent for TcU32Selector<A> {
             Number(self.hoff.cast_unsigned() as u64),
             Number(self.hmask as u64),
         ];
-        out.begin_map(None)?;
-        show_fields(fields(Fixed::SelectorHead), &head, out)?;
-        show_keys(&self.keys, alloc, out)?;
-        out.end_map()
+        show_selector(&head, &self.keys, alloc, out)
     }
 }
 
-// The member of a selector that holds its keys.
-fn show_keys<S: Serializer>(keys: &[TcU32Key], alloc: Global, out: &mut S) -> Result<(), S::Error>
-    ensures { OnOk result (Sent (keys_events (map key_scalars keys.now)) (S.written out.old) (S.written out.new)) }
-{
-    out.key("keys")?;
-    out.begin_seq(Some(keys.len()))?;
-    show_each_key(keys, alloc, out)?;
-    out.end_seq()
-}
-
-fn show_each_key<S: Serializer>(
+// A selector: the fields of its head, and its keys.
+fn show_selector<S: Serializer>(
+    head: &[Cell],
     keys: &[TcU32Key],
     alloc: Global,
     out: &mut S,
 ) -> Result<(), S::Error>
-    ensures { OnOk result (Sent (each_record (field_names_in SelectorKey) (map key_scalars keys.now))
+    ensures { OnOk result (Sent (selector_events (map scalar_of head.now) (map key_scalars keys.now))
         (S.written out.old) (S.written out.new)) }
 {
-    for key in keys.iter() {
-        key.show_as(Form::Record(Fixed::SelectorKey), alloc, out)?;
+    out.begin_map(None)?;
+    show_fields(fields(Fixed::SelectorHead), head, out)?;
+    show_keys(keys, alloc, out)?;
+    out.end_map()
+}
+
+// The member of a selector that holds its keys.
+fn show_keys<S: Serializer>(
+    keys: &[TcU32Key],
+    alloc: Global,
+    out: &mut S,
+) -> Result<(), S::Error>
+    ensures { OnOk result (Sent (keys_events (map key_scalars keys.now)) (S.written out.old) (S.written out.new)) }
+{
+    out.key("keys")?;
+    out.begin_seq(Some(keys.len()))?;
+    show_each_record(keys, Form::Record(Fixed::SelectorKey), alloc, out)?;
+    out.end_seq()
+}
+
+// Each record in turn.
+fn show_each_record<S: Serializer, R: ShowContent>(
+    list: &[R],
+    form: Form,
+    alloc: Global,
+    out: &mut S,
+) -> Result<(), S::Error>
+    ensures { OnOk result (Sent (flat_map (λ x. content_events form (R.content x)) list.now)
+        (S.written out.old) (S.written out.new)) }
+{
+    for item in list.iter() {
+        item.show_as(form, alloc, out)?;
     }
     Ok(())
 }
@@ -357,24 +377,27 @@ impl<A: Allocator> ShowContent for TcFqCodelXstats<A> {
     ) -> Result<(), S::Error> {
         out.begin_map(Some(1))?;
         out.variant_key("FqCodel", Case::AsIs)?;
-        match self {
-            TcFqCodelXstats::Qdisc(stats) => show_named_record(
-                "Qdisc",
-                Fixed::QdiscStats,
-                stats,
-                alloc,
-                out,
-            )?,
-            TcFqCodelXstats::Class(stats) => show_named_record(
-                "Class",
-                Fixed::ClassStats,
-                stats,
-                alloc,
-                out,
-            )?,
-            TcFqCodelXstats::Other(bytes) => show_other_bytes(bytes, alloc, out)?,
-        }
+        show_statistics(self, alloc, out)?;
         out.end_map()
+    }
+}
+
+// Statistics of fq_codel, in the variant of their sort.
+fn show_statistics<S: Serializer, A: Allocator>(
+    stats: &TcFqCodelXstats<A>,
+    alloc: Global,
+    out: &mut S,
+) -> Result<(), S::Error>
+    ensures { OnOk result (Sent (fq_codel_events (fq_codel_xstats stats.now)) (S.written out.old) (S.written out.new)) }
+{
+    match stats {
+        TcFqCodelXstats::Qdisc(stats) => {
+            show_named_record("Qdisc", Fixed::QdiscStats, stats, alloc, out)
+        }
+        TcFqCodelXstats::Class(stats) => {
+            show_named_record("Class", Fixed::ClassStats, stats, alloc, out)
+        }
+        TcFqCodelXstats::Other(bytes) => show_other_bytes(bytes, alloc, out),
     }
 }
 
@@ -423,17 +446,23 @@ impl ShowContent for TcFqCodelClStats {
         _alloc: Global,
         out: &mut S,
     ) -> Result<(), S::Error> {
-        let mut bytes = [0; TC_FQ_CODEL_CL_STATS_LEN];
-        self.emit(&mut bytes);
-        let mut fields = Fields(&bytes);
-        let cells = [
-            Number(fields.u32() as u64),
-            Number(fields.u32() as u64),
-            Number(fields.u32() as u64),
-            Number(fields.u32() as u64),
-            Number(fields.u32() as u64),
-            Number(fields.u32() as u64),
-        ];
-        show_record(form, &cells, out)
+        show_record(form, &class_cells(self), out)
     }
+}
+
+// The fields of a class's statistics, which are private: read from its bytes.
+fn class_cells(stats: &TcFqCodelClStats) -> [Cell; 6]
+    ensures { map scalar_of result ≡ cl_stats_scalars stats.now }
+{
+    let mut bytes = [0; TC_FQ_CODEL_CL_STATS_LEN];
+    stats.emit(&mut bytes);
+    let mut fields = Fields(&bytes);
+    [
+        Number(fields.u32() as u64),
+        Number(fields.u32() as u64),
+        Number(fields.u32() as u64),
+        Number(fields.u32() as u64),
+        Number(fields.u32() as u64),
+        Number(fields.u32() as u64),
+    ]
 }

@@ -8,11 +8,11 @@ ghost use Rattle.tc_json.specs.Events.{attribute_events, content_events, number_
 ghost use Rattle.tc_json.specs.Rows.{seen_as};
 
 use crate::show::ShowContent;
-use crate::texts::{handle_text, ipv4_text, ipv6_text, mac_text};
 use nla_frames::NLA_TYPE_MASK;
 use serde::{Case, Serializer};
 use std::alloc::Global;
 use tc_names::{Form, Table, row_at};
+use tc_texts::{handle_text, ipv4_text, ipv6_text, mac_text};
 use tc_values::Value;
 
 /// The error of a value that has another form than its type.

@@ -44,6 +44,30 @@ pub trait Show {
         ensures { OnOk result (Sent (Self.events self.now) (S.written out.old) (S.written out.new)) };
 }
 
+/// An attribute on its own, by the names and the forms of this table.
+#[derive(Drop)]
+pub struct InTable<'a, T>(pub &'a T, pub Table);
+
+impl<'a, T: ShowAttribute> Show for InTable<'a, T> {
+    ghost events = { λ one. attribute_events one.1 (T.seen one.0.now) };
+
+    fn show<S: Serializer>(&self, alloc: Global, out: &mut S) -> Result<(), S::Error> {
+        self.0.show_in(self.1, alloc, out)
+    }
+}
+
+/// A record, a selector, statistics or a list on its own, in this form.
+#[derive(Drop)]
+pub struct InForm<'a, T>(pub &'a T, pub Form);
+
+impl<'a, T: ShowContent> Show for InForm<'a, T> {
+    ghost events = { λ one. content_events one.1 (T.content one.0.now) };
+
+    fn show<S: Serializer>(&self, alloc: Global, out: &mut S) -> Result<(), S::Error> {
+        self.0.show_as(self.1, alloc, out)
+    }
+}
+
 /// A value for a format of serde.
 #[derive(Drop)]
 pub struct Shown<'a, T>(pub &'a T, pub Global);

@@ -1,5 +1,0 @@
-//! Texts (a stand-in until the crate is merged).
-#![tactic(auto)]
-
-/// Nothing.
-pub fn nothing() {}
