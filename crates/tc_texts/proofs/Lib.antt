@@ -1,0 +1,6 @@
+pub mod Numerals
+pub mod Handles
+pub mod HexTexts
+pub mod Ipv6
+pub mod Mac
+pub mod Inverse

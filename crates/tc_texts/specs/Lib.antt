@@ -1,0 +1,5 @@
+pub mod Addresses
+pub mod Handle
+pub mod Hex
+pub mod Info
+pub mod Reading
