@@ -1,5 +1,5 @@
 -- Statistics of a class read back from their bytes.
-use Rattle.std.proofs.Common.{◌≡◌, ℕ, List, ◌++◌, length, drop, sym, ap, ◌∙◌}
+use Rattle.std.proofs.Common.{◌≡◌, ℕ, List, length, drop, ap, ◌∙◌}
 use Rattle.nla_frames.specs.Emission.{Writes}
 use Rattle.tc_canon.specs.Layouts.{fq_codel_cl_stats}
 use Rattle.tc_meaning.specs.Layout.{TypedFields, read_fields, fields_bytes}

@@ -1,10 +1,10 @@
 -- Events that are sent one after the other.
 use Rattle.std.proofs.Common.{◌≡◌, ℕ, suc, ◌+◌, ◌<◌, ◌≤◌, List, [], ◌∷◌, ◌++◌, length, take, get_or, Some, None, refl, subst, sym, ap, ◌∙◌, append_assoc, append-nil}
 use Rattle.std.specs.Prelude.{flat_map, map, codes}
-use Rattle.std.proofs.lemmas.List.{take_more, take_all}
+use Rattle.std.proofs.lemmas.List.{take_more, take_all, length-map}
 use Rattle.std.proofs.lemmas.Grind.{flat_map-append}
 use Rattle.std.proofs.lemmas.List.Folds.{flat_map-map}
-use Rattle.serde.specs.Event.{Event, Log, Logs, seq_begins, seq_ends, field_key}
+use Rattle.serde.specs.Event.{Event, Log, Logs, text, seq_begins, seq_ends, field_key}
 use Rattle.serde.specs.declared.name.Case.TheVariants.{AsIs}
 use Rattle.tc_meaning.specs.Tree.{Attribute, items, record_of, attributes_of}
 use Rattle.tc_names.specs.declared.row.Form.TheVariants.{ListOf, Record}
@@ -13,13 +13,21 @@ use Rattle.tc_names.specs.Listed.{field_names_in}
 use Rattle.tc_records.specs.Selector.{key_scalars}
 use Rattle.tc_records.specs.declared.filters.u32_selector.TcU32Key.{TcU32Key}
 use Rattle.tc_names.specs.declared.row.Table.{Table}
-use Rattle.tc_json.specs.Sent.{Sent, field}
+use Rattle.tc_json.specs.Sent.{Sent, field, text_event}
 use Rattle.tc_json.specs.Events.{attribute_events, each_attribute, content_events, count, each_record, keys_events}
 use Rattle.tc_json.specs.Records.{record_events}
 
 pub sent_then : (a b : List Event) (old mid new : Log) → Sent a old mid → Sent b mid new → Sent (a ++ b) old new
 sent_then a b None mid new h k = tt
 sent_then a b (Some before) mid new h k = subst (λ m. Sent b m new) h k ∙ ap Some (append_assoc before a b)
+
+-- a text
+pub text_sent : (v w : List ℕ) (old new : Log) → w ≡ v → Logs old new (text w) → Sent (text_event v) old new
+text_sent v w old new e h = subst (λ t. Sent (text_event t) old new) e (text_alone w old new h)
+  where
+    text_alone : (t : List ℕ) (before after : Log) → Logs before after (text t) → Sent (text_event t) before after
+    text_alone t None after h = tt
+    text_alone t (Some es) after h = h
 
 -- a member of an object
 pub field_sent : (name : List ℕ) (es : List Event) (old mid new : Log) → Logs old mid (field_key name AsIs) → Sent es mid new → Sent (field name es) old new
@@ -75,4 +83,4 @@ keys_sent keys (Some before) key first last new h b k e =
     let sent = given ∙ ap (λ es. Some ((before ++ marks) ++ es)) (sym (flat_map-map (record_events names) key_scalars keys)) in
     let ended = subst (λ m. Logs m new seq_ends) sent e in
     ended ∙ ap Some (ap (λ es. es ++ seq_ends ∷ []) (append_assoc before marks all) ∙ append_assoc before (marks ++ all) (seq_ends ∷ []))
-        ∙ ap (λ n. Some (before ++ field_key (codes "keys") AsIs ∷ seq_begins (Some n) ∷ (all ++ seq_ends ∷ []))) (sym (length-map key_scalars keys))
+    ∙ ap (λ n. Some (before ++ field_key (codes "keys") AsIs ∷ seq_begins (Some n) ∷ (all ++ seq_ends ∷ []))) (sym (length-map keys key_scalars))

@@ -337,11 +337,7 @@ fn show_selector<S: Serializer>(
 }
 
 // The member of a selector that holds its keys.
-fn show_keys<S: Serializer>(
-    keys: &[TcU32Key],
-    alloc: Global,
-    out: &mut S,
-) -> Result<(), S::Error>
+fn show_keys<S: Serializer>(keys: &[TcU32Key], alloc: Global, out: &mut S) -> Result<(), S::Error>
     ensures { OnOk result (Sent (keys_events (map key_scalars keys.now)) (S.written out.old) (S.written out.new)) }
 {
     out.key("keys")?;

@@ -12,7 +12,7 @@ use nla_frames::NLA_TYPE_MASK;
 use serde::{Case, Serializer};
 use std::alloc::Global;
 use tc_names::{Form, Table, row_at};
-use tc_texts::{handle_text, ipv4_text, ipv6_text, mac_text};
+use tc_texts::{handle_text, hex_string, ipv4_text, ipv6_text, mac_text};
 use tc_values::Value;
 
 /// The error of a value that has another form than its type.
@@ -91,7 +91,7 @@ pub(crate) fn show_hex<S: Serializer>(
 ) -> Result<(), S::Error>
     ensures { OnOk result (Sent (hex_event bytes.now) (S.written out.old) (S.written out.new)) }
 {
-    match hex::encode(alloc, bytes) {
+    match hex_string(alloc, bytes) {
         Ok(text) => out.str(text.as_str()),
         Err(_) => Err(out.custom("out of memory")),
     }
