@@ -1,8 +1,8 @@
 -- The attribute that a row is depends on the contents of what is nested alone.
-use Rattle.std.proofs.Common.{◌≡◌, ℕ, List, refl, sym, ap, subst, ◌∙◌}
+use Rattle.std.proofs.Common.{◌≡◌, ℕ, refl, sym, ap, subst, ◌∙◌}
 use Rattle.std.specs.Prelude.{OnOk, Result}
 use Rattle.std.proofs.lemmas.Result.{on_ok_weaker}
-use Rattle.serde.specs.Event.{Event, Log}
+use Rattle.serde.specs.Event.{Log}
 use Rattle.nla_frames.specs.Frame.{type_of}
 use Rattle.tc_meaning.specs.Tree.{Content, Attribute, known}
 use Rattle.tc_values.specs.Inner.{Inner}

@@ -9,7 +9,6 @@ use Rattle.tc_names.specs.Named.{NamedKind, NamedField, form_of, name_of, named_
 use Rattle.tc_names.specs.Listed.{names_in, kind_names_in, field_names_in}
 use Rattle.tc_names.specs.declared.row.Form.{Form}
 use Rattle.tc_names.specs.declared.row.Form.TheVariants as form
-use Rattle.tc_names.specs.declared.row.Fixed.{Fixed}
 use Rattle.tc_names.specs.declared.row.Fixed.TheVariants as fixed
 use Rattle.tc_names.specs.declared.row.Table.{Table}
 use Rattle.tc_names.specs.declared.row.Table.TheVariants as the

@@ -1,16 +1,15 @@
 -- What is sent of records, by the names and the forms of their fields.
 use Rattle.std.specs.Prelude.{ℕ, List, [], ◌∷◌, ◌++◌, None, codes, drop, ◌==◌, if◌then◌else◌}
 use Rattle.std.specs.Int.{w16, w32, cast_signed}
-use Rattle.serde.specs.Event.{Event, signed, unsigned, unit_variant, seq_begins, seq_ends, map_begins, map_ends, field_key}
+use Rattle.serde.specs.Event.{Event, signed, unsigned, unit_variant, map_begins, map_ends, field_key}
 use Rattle.serde.specs.declared.name.Case.TheVariants.{AsIs}
 use Rattle.tc_meaning.specs.Tree.{Scalar, plain, unnamed, octets_of, blank}
 use Rattle.tc_names.specs.Named.{NamedField, a_field, pad_bytes, part_begins, part_ends}
-use Rattle.tc_names.specs.Listed.{numbers_in, number_names_in, field_names_in}
+use Rattle.tc_names.specs.Listed.{numbers_in, number_names_in}
 use Rattle.tc_names.specs.declared.numbers.Numbers.{Numbers}
 use Rattle.tc_names.specs.declared.numbers.Numbers.TheVariants.{Families, ActionTypes, MirrorTypes}
 use Rattle.tc_names.specs.declared.field.FieldForm.{FieldForm}
 use Rattle.tc_names.specs.declared.field.FieldForm.TheVariants.{I16, I32, Handle, Family, ActionType, MirrorType}
-use Rattle.tc_names.specs.declared.row.Fixed.TheVariants.{SelectorHead, SelectorKey}
 use Rattle.tc_texts.specs.Addresses.{ipv4_text}
 use Rattle.tc_texts.specs.Handle.{handle_text}
 use Rattle.tc_json.specs.Sent.{text_event, variant}
