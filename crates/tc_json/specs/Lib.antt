@@ -1,0 +1,4 @@
+pub mod Sent
+pub mod Records
+pub mod Events
+pub mod Rows

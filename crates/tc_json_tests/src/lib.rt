@@ -1,0 +1,5 @@
+//! Tests alone: messages as JSON.
+#![tactic(auto)]
+
+#[cfg(test)]
+mod texts;
