@@ -9,65 +9,60 @@ use tc_texts::{
     read_mac,
 };
 
-// The bytes of a row, and the text.
-fn parts<'a, const N: usize>(row: &'a str) -> Option<([u8; N], &'a str)> {
-    let (digits, text) = row.split_once(' ')?;
-    let octets = <[u8; N]>::from_hex(digits).ok()?;
-    Some((octets, text))
+// The bytes of a row, zeros if it has none.
+fn octets_of<const N: usize>(row: &str) -> [u8; N] {
+    let (digits, _) = row.split_once(' ').unwrap_or(("", ""));
+    <[u8; N]>::from_hex(digits).unwrap_or([0; N])
 }
 
-// Whether each row is a MAC address and its text.
+// The text of a row.
+fn text_of<'a>(row: &'a str) -> &'a str {
+    let (_, text) = row.split_once(' ').unwrap_or(("", ""));
+    text
+}
+
+// Whether a row is a MAC address and its text.
+fn is_mac(row: &str) -> bool {
+    let octets = octets_of(row);
+    mac_text(octets).as_str() == text_of(row) && read_mac(text_of(row)) == Some(octets)
+}
+
+// Whether a row is an IPv4 address and its text.
+fn is_ipv4(row: &str) -> bool {
+    let octets = octets_of(row);
+    ipv4_text(octets).as_str() == text_of(row) && read_ipv4(text_of(row)) == Some(octets)
+}
+
+// Whether a row is an IPv6 address and its text.
+fn is_ipv6(row: &str) -> bool {
+    let octets = octets_of(row);
+    ipv6_text(octets).as_str() == text_of(row) && read_ipv6(text_of(row)) == Some(octets)
+}
+
+// Whether a row is a handle and its text.
+fn is_handle(row: &str) -> bool {
+    let handle = u32::from_be_bytes(octets_of(row));
+    let text = text_of(row);
+    handle_text(handle).as_str() == text
+        && read_handle(text) == Some(handle)
+        && handle_from_tc_text(text) == Some(handle)
+}
+
+// Whether all rows are so.
 fn are_macs(rows: &[&str]) -> bool {
-    rows.iter().all(|row| match parts::<6>(row) {
-        Some((octets, text)) => {
-            mac_text(octets).as_str() == text && read_mac(text) == Some(octets)
-        }
-        None => false,
-    })
+    rows.iter().all(|row| is_mac(row))
 }
 
-// Whether each row is an IPv4 address and its text.
 fn are_ipv4s(rows: &[&str]) -> bool {
-    rows.iter().all(|row| match parts::<4>(row) {
-        Some((octets, text)) => {
-            ipv4_text(octets).as_str() == text && read_ipv4(text) == Some(octets)
-        }
-        None => false,
-    })
+    rows.iter().all(|row| is_ipv4(row))
 }
 
-// Whether each row is an IPv6 address and its text.
 fn are_ipv6s(rows: &[&str]) -> bool {
-    rows.iter().all(|row| match parts::<16>(row) {
-        Some((octets, text)) => {
-            ipv6_text(octets).as_str() == text && read_ipv6(text) == Some(octets)
-        }
-        None => false,
-    })
+    rows.iter().all(|row| is_ipv6(row))
 }
 
-// Whether each row is a handle and its text.
 fn are_handles(rows: &[&str]) -> bool {
-    rows.iter().all(|row| match parts::<4>(row) {
-        Some((octets, text)) => {
-            let handle = u32::from_be_bytes(octets);
-            handle_text(handle).as_str() == text
-                && read_handle(text) == Some(handle)
-                && handle_from_tc_text(text) == Some(handle)
-        }
-        None => false,
-    })
-}
-
-// Whether each text is read as its handle.
-fn are_read(rows: &[(&str, u32)]) -> bool {
-    rows.iter()
-        .all(|row| handle_from_tc_text(row.0) == Some(row.1))
-}
-
-// Whether no text is read.
-fn are_refused<F: Fn(&str) -> bool>(texts: &[&str], is_read: F) -> bool {
-    texts.iter().all(|text| !is_read(text))
+    rows.iter().all(|row| is_handle(row))
 }
 
 #[test]
@@ -80,50 +75,62 @@ fn known_texts(rt: HostRuntime) {
     assert_eq!(rt; read_handle("0:0"), Some(0));
 }
 
+// Whether none of these texts is read.
+fn has_no_mac(texts: &[&str]) -> bool {
+    texts.iter().all(|text| read_mac(text).is_none())
+}
+
+fn has_no_ipv4(texts: &[&str]) -> bool {
+    texts.iter().all(|text| read_ipv4(text).is_none())
+}
+
+fn has_no_ipv6(texts: &[&str]) -> bool {
+    texts.iter().all(|text| read_ipv6(text).is_none())
+}
+
+fn has_no_handle(texts: &[&str]) -> bool {
+    texts.iter().all(|text| read_handle(text).is_none())
+}
+
+fn has_no_tc_handle(texts: &[&str]) -> bool {
+    texts.iter().all(|text| handle_from_tc_text(text).is_none())
+}
+
 #[test]
 fn other_spellings_are_refused(rt: HostRuntime) {
-    let macs = [
-        "",
-        "02:00:5E:10:00:01",
-        "2:0:5e:10:0:1",
-        "02-00-5e-10-00-01",
-        "02:00:5e:10:00:01:",
-        "02:00:5e:10:00",
-        "02:00:5e:10:00:0g",
-    ];
-    assert!(rt; are_refused(&macs, |text| read_mac(text).is_some()));
-    let ipv4s = [
-        "",
-        "192.0.2",
-        "192.0.2.01",
-        "192.0.2.256",
-        "192.0.2.1 ",
-        "0xc0.0.2.1",
-    ];
-    assert!(rt; are_refused(&ipv4s, |text| read_ipv4(text).is_some()));
-    let ipv6s = [
-        "",
-        "1:2:3:4:5:6:7",
-        "2001:DB8::1",
-        "2001:db8:0:0:0:0:0:1",
-        "2001:0db8::1",
-        "1::2::3",
-        "::ffff:102:304",
-        "::102:304",
-        "fe80::1%2",
-    ];
-    assert!(rt; are_refused(&ipv6s, |text| read_ipv6(text).is_some()));
-    let handles = [
-        "",
-        "1:0010",
-        "0:10",
-        "none",
-        "ingress",
-        "FFFF:FFF1",
-        "0:",
-        "ffff:ffff",
-    ];
-    assert!(rt; are_refused(&handles, |text| read_handle(text).is_some()));
+    assert!(rt;
+        has_no_mac(&[
+            "",
+            "02:00:5E:10:00:01",
+            "2:0:5e:10:0:1",
+            "02-00-5e-10-00-01",
+            "02:00:5e:10:00:01:",
+            "02:00:5e:10:00",
+            "02:00:5e:10:00:0g",
+        ])
+    );
+    assert!(rt; has_no_ipv4(&["", "192.0.2", "192.0.2.01", "192.0.2.256", "192.0.2.1 "]));
+    assert!(rt;
+        has_no_ipv6(&[
+            "",
+            "1:2:3:4:5:6:7",
+            "2001:DB8::1",
+            "2001:db8:0:0:0:0:0:1",
+            "2001:0db8::1",
+            "1::2::3",
+            "::ffff:102:304",
+            "::102:304",
+            "fe80::1%2",
+        ])
+    );
+    assert!(rt; has_no_handle(&["", "1:0010", "0:10", "none", "ingress", "FFFF:FFF1", "0:"]));
+    assert!(rt; has_no_handle(&["ffff:ffff", ":", "1", "root "]));
+}
+
+// Whether each text is read as its handle.
+fn are_read(rows: &[(&str, u32)]) -> bool {
+    rows.iter()
+        .all(|row| handle_from_tc_text(row.0) == Some(row.1))
 }
 
 #[test]
@@ -144,10 +151,11 @@ fn handles_as_tc_reads_them(rt: HostRuntime) {
             (":", 0),
         ])
     );
-    let others = [
-        "", "1", "1:2:3", "10000:1", "0x1:2", "1:-2", " 1:2", "1:g", "Root",
-    ];
-    assert!(rt; are_refused(&others, |text| handle_from_tc_text(text).is_some()));
+    assert!(rt;
+        has_no_tc_handle(&[
+            "", "1", "1:2:3", "10000:1", "0x1:2", "1:-2", " 1:2", "1:g", "Root"
+        ])
+    );
 }
 
 #[test]
