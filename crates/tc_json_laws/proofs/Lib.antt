@@ -1,0 +1,9 @@
+pub mod Parts
+pub mod Numbers
+pub mod Records
+pub mod Contents
+pub mod Tables
+pub mod Names
+pub mod Attributes
+pub mod Trees
+pub mod WholeMessages

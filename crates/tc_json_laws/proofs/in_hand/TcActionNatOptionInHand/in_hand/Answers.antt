@@ -1,0 +1,10 @@
+use Rattle.tc_canon.specs.Tables.Actions.{nat_options}
+use Rattle.tc_values.proofs.Rows.{shown_as}
+use Rattle.tc_actions.specs.Nat.{nat_body}
+use Rattle.tc_actions.proofs.Bodies.{is_nat_body}
+use Rattle.tc_json_laws.proofs.in_hand.TcActionNatOptionInHand.in_hand.Goals as goal
+
+pub returns : goal.returns
+returns g c =
+    let shows = shown_as nat_body is_nat_body nat_options _ _ _ c.row.ensures.seen c.row.ensures.row in
+    shows.typed c.row_in_hand.ensures.word c.row_in_hand.ensures.value

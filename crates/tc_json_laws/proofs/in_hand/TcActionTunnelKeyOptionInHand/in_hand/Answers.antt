@@ -1,0 +1,10 @@
+use Rattle.tc_canon.specs.Tables.Actions.{tunnel_key_options}
+use Rattle.tc_values.proofs.Rows.{shown_as}
+use Rattle.tc_actions.specs.TunnelKey.{tunnel_key_body}
+use Rattle.tc_actions.proofs.Bodies.{is_tunnel_key_body}
+use Rattle.tc_json_laws.proofs.in_hand.TcActionTunnelKeyOptionInHand.in_hand.Goals as goal
+
+pub returns : goal.returns
+returns g c =
+    let shows = shown_as tunnel_key_body is_tunnel_key_body tunnel_key_options _ _ _ c.row.ensures.seen c.row.ensures.row in
+    shows.typed c.row_in_hand.ensures.word c.row_in_hand.ensures.value

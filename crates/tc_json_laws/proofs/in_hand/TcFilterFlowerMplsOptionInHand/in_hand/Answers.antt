@@ -1,0 +1,10 @@
+use Rattle.tc_canon.specs.Tables.Flower.{mpls_options}
+use Rattle.tc_values.proofs.Rows.{shown_as}
+use Rattle.tc_flower.specs.Mpls.{lse_lists}
+use Rattle.tc_flower.proofs.Bodies.{are_lse_lists}
+use Rattle.tc_json_laws.proofs.in_hand.TcFilterFlowerMplsOptionInHand.in_hand.Goals as goal
+
+pub returns : goal.returns
+returns g c =
+    let shows = shown_as lse_lists are_lse_lists mpls_options _ _ _ c.row.ensures.seen c.row.ensures.row in
+    shows.typed c.row_in_hand.ensures.word c.row_in_hand.ensures.value

@@ -1,0 +1,92 @@
+//! Laws of what is sent to serde: equal events are of equal messages, so nothing is lost of a message that is shown.
+#![tactic(auto)]
+
+ghost use Rattle.std.specs.Prelude.{◌≡◌, ◌↔◌, IsTrue, true};
+ghost use Rattle.tc_meaning.specs.Message.{Message};
+ghost use Rattle.tc_meaning.specs.Whole.{ReadsTc, ReadsAct, TypedTc, TypedAct};
+ghost use Rattle.tc_names.specs.declared.row.Form.{Form};
+ghost use Rattle.tc_names.specs.declared.row.Table.{Table};
+ghost use Rattle.tc_names.specs.Listed.{names_in, kind_names_in};
+ghost use Rattle.tc_json.specs.Events.{tc_events, action_message_events, attribute_events, content_events};
+ghost use Rattle.tc_messages.specs.Message.{tc_message};
+ghost use Rattle.tc_action_messages.specs.ActionMessage.{action_message};
+ghost use Rattle.tc_json_laws.specs.Apart.{names_apart, kinds_apart};
+ghost use Rattle.tc_json_laws.specs.Injective.{IsOf, HasForm, IsInjectiveOn};
+
+mod in_hand;
+
+use in_hand::list_in_hand;
+use std::alloc::Allocator;
+use tc_action_messages::TcActionMessage;
+use tc_json::Show;
+use tc_meaning::laws;
+use tc_messages::TcMessage;
+use tc_records::laws::in_hand::{action_message_header_in_hand, header_in_hand};
+
+/// Two messages of which the same is sent are equal: of both types, where their numbers lie in their types and their texts
+/// are UTF-8.
+pub fn injective_events()
+    ensures tc { IsInjectiveOn TypedTc tc_events }
+    ensures action { IsInjectiveOn TypedAct action_message_events }
+{}
+
+/// Two messages that are read, of which the same is sent, are equal.
+pub fn injective_readings(one: &[u8], other: &[u8])
+    ensures tc { (m n : Message) → ReadsTc one.now m → ReadsTc other.now n
+        → tc_events m ≡ tc_events n → m ≡ n }
+    ensures action { (m n : Message) → ReadsAct one.now m → ReadsAct other.now n
+        → action_message_events m ≡ action_message_events n → m ≡ n }
+{
+    // Laws, which do nothing: what is read is typed.
+    laws::tc_message(one);
+    laws::tc_message(other);
+    laws::action_message(one);
+    laws::action_message(other);
+}
+
+/// Two traffic control messages are `==` if and only if the same is sent of them; and what contracts see of a message is
+/// typed.
+pub fn equal_tc_messages<A: Allocator>(one: &TcMessage<A>, other: &TcMessage<A>)
+    ensures typed { TypedTc (tc_message one.now) }
+    ensures equal { IsTrue (⟦<TcMessage<A> as PartialEq>⟧.eq one.now other.now)
+        ↔ ⟦<TcMessage<A> as Show>⟧.events one.now ≡ ⟦<TcMessage<A> as Show>⟧.events other.now }
+{
+    tc_in_hand(one);
+    tc_in_hand(other);
+    tc_messages::laws::equal::<A>();
+}
+
+fn tc_in_hand<A: Allocator>(message: &TcMessage<A>)
+    ensures { TypedTc (tc_message message.now) }
+{
+    header_in_hand(&message.header);
+    list_in_hand(&message.attributes);
+}
+
+/// Two action messages are `==` if and only if the same is sent of them; and what contracts see of one is typed.
+pub fn equal_action_messages<A: Allocator>(one: &TcActionMessage<A>, other: &TcActionMessage<A>)
+    ensures typed { TypedAct (action_message one.now) }
+    ensures equal { IsTrue (⟦<TcActionMessage<A> as PartialEq>⟧.eq one.now other.now)
+        ↔ ⟦<TcActionMessage<A> as Show>⟧.events one.now
+        ≡ ⟦<TcActionMessage<A> as Show>⟧.events other.now }
+{
+    action_in_hand(one);
+    action_in_hand(other);
+    tc_action_messages::laws::equal::<A>();
+}
+
+fn action_in_hand<A: Allocator>(message: &TcActionMessage<A>)
+    ensures { TypedAct (action_message message.now) }
+{
+    action_message_header_in_hand(&message.header);
+    list_in_hand(&message.attributes);
+}
+
+/// Two attributes of one table of which the same is sent are equal, and so is what two attributes of one form hold; and
+/// each name of a table stands for one type or one kind alone.
+pub fn injective_tables()
+    ensures attributes { (t : Table) → IsInjectiveOn (IsOf t) (attribute_events t) }
+    ensures contents { (f : Form) → IsInjectiveOn (HasForm f) (content_events f) }
+    ensures names { (t : Table) → names_apart (names_in t) ≡ true }
+    ensures kinds { (t : Table) → kinds_apart (kind_names_in t) ≡ true }
+{}
