@@ -1,4 +1,4 @@
-// Times what libtc_bench.a does with messages: those of files of lines `NAME MODE HEX`, and longer ones that are made here.
+// Times what libtc_ffi.a does with messages: those of files of lines `NAME MODE HEX`, and longer ones that are made here.
 #define _GNU_SOURCE
 #include <malloc.h>
 #include <math.h>
@@ -9,44 +9,45 @@
 #include <string.h>
 #include <time.h>
 
-// The exports of crates/tc_bench. A slice is a pointer and a length. A status of 0 says that it was done.
-#define DECLARE(TYPE)                                                                                                \
-    uint8_t TYPE##_bench_parse(const uint8_t *bytes, size_t len);                                                    \
-    uint8_t TYPE##_bench_length(const uint8_t *bytes, size_t len, size_t *lengths, size_t count);                    \
-    uint8_t TYPE##_bench_fits(const uint8_t *bytes, size_t len, bool *verdicts, size_t count);                       \
-    uint8_t TYPE##_bench_emit(const uint8_t *bytes, size_t len, uint8_t *buffer, size_t room, size_t again);         \
-    uint8_t TYPE##_bench_rewrite(const uint8_t *bytes, size_t len, uint8_t *buffer, size_t room);                    \
-    uint8_t TYPE##_bench_settle(const uint8_t *bytes, size_t len, size_t *rewrites);                                 \
-    bool TYPE##_bench_canonical(const uint8_t *bytes, size_t len);
+// The exports of crates/tc_ffi that are timed: those of a user, as bindings/vtc.h has them, and those of the benchmark alone. A slice is a pointer and a
+// length. A status of 0 says that it was done.
+#define DECLARE(OLD, VTC, TYPE)                                                                                                 \
+    uint32_t OLD##bench_##TYPE##_parse(const uint8_t *bytes, size_t len);                                                       \
+    uint32_t OLD##bench_##TYPE##_length(const uint8_t *bytes, size_t len, size_t *lengths, size_t count);                       \
+    uint32_t OLD##bench_##TYPE##_fits(const uint8_t *bytes, size_t len, uint8_t *verdicts, size_t count);                       \
+    uint32_t OLD##bench_##TYPE##_emit(const uint8_t *bytes, size_t len, uint8_t *buffer, size_t room, size_t again);            \
+    uint8_t OLD##bench_##TYPE##_canonical(const uint8_t *bytes, size_t len);                                                    \
+    uint32_t OLD##VTC##_rewrite(const uint8_t *bytes, size_t len, uint8_t *buffer, size_t room, size_t *length);                \
+    uint32_t OLD##VTC##_settle(const uint8_t *bytes, size_t len, uint8_t *buffer, size_t room, size_t *length, size_t *rewrites);
 
-DECLARE(tc)
-DECLARE(action)
+DECLARE(, vtc, tc)
+DECLARE(, vtc_action, action)
 
 // A type of message: the size of its header, and its calls.
 typedef struct {
     const char *name;
     size_t header;
-    uint8_t (*parse)(const uint8_t *, size_t);
-    uint8_t (*length)(const uint8_t *, size_t, size_t *, size_t);
-    uint8_t (*fits)(const uint8_t *, size_t, bool *, size_t);
-    uint8_t (*emit)(const uint8_t *, size_t, uint8_t *, size_t, size_t);
-    uint8_t (*rewrite)(const uint8_t *, size_t, uint8_t *, size_t);
-    uint8_t (*settle)(const uint8_t *, size_t, size_t *);
-    bool (*canonical)(const uint8_t *, size_t);
+    uint32_t (*parse)(const uint8_t *, size_t);
+    uint32_t (*length)(const uint8_t *, size_t, size_t *, size_t);
+    uint32_t (*fits)(const uint8_t *, size_t, uint8_t *, size_t);
+    uint32_t (*emit)(const uint8_t *, size_t, uint8_t *, size_t, size_t);
+    uint8_t (*canonical)(const uint8_t *, size_t);
+    uint32_t (*rewrite)(const uint8_t *, size_t, uint8_t *, size_t, size_t *);
+    uint32_t (*settle)(const uint8_t *, size_t, uint8_t *, size_t, size_t *, size_t *);
 } Mode;
 
-#define CALLS(TYPE)                                                                                                  \
-    TYPE##_bench_parse, TYPE##_bench_length, TYPE##_bench_fits, TYPE##_bench_emit, TYPE##_bench_rewrite,              \
-        TYPE##_bench_settle, TYPE##_bench_canonical
+#define CALLS(OLD, VTC, TYPE)                                                                                                   \
+    OLD##bench_##TYPE##_parse, OLD##bench_##TYPE##_length, OLD##bench_##TYPE##_fits, OLD##bench_##TYPE##_emit,                  \
+        OLD##bench_##TYPE##_canonical, OLD##VTC##_rewrite, OLD##VTC##_settle
 
-static const Mode TC = {"tc", 20, CALLS(tc)}, ACTION = {"action", 4, CALLS(action)};
+static const Mode TC = {"tc", 20, CALLS(, vtc, tc)}, ACTION = {"action", 4, CALLS(, vtc_action, action)};
 
 // A second library, whose exports `run` renamed, to be timed by turns with the first.
 #ifdef BESIDE
-DECLARE(old_tc)
-DECLARE(old_action)
+DECLARE(old_, vtc, tc)
+DECLARE(old_, vtc_action, action)
 
-static const Mode OLD_TC = {"tc", 20, CALLS(old_tc)}, OLD_ACTION = {"action", 4, CALLS(old_action)};
+static const Mode OLD_TC = {"tc", 20, CALLS(old_, vtc, tc)}, OLD_ACTION = {"action", 4, CALLS(old_, vtc_action, action)};
 #endif
 
 enum { PASSES = 8, SAMPLES = 10, MOST_TIMES = 1 << 20, MOST_MESSAGES = 512, MOST_BYTES = 2 << 20, ACTIONS = 31 };
@@ -63,7 +64,7 @@ static void fail(const char *name, const char *what) {
 
 static uint8_t *buffer;
 static size_t *lengths;
-static bool *verdicts;
+static uint8_t *verdicts;
 
 // ---- Allocations, counted by the linker's --wrap.
 
@@ -185,8 +186,8 @@ static Message make_options(const char *name, const char *kind, uint16_t list, u
 
 // ---- Operations. Each does one thing to a message so many times.
 
-static void done(const Message *m, uint8_t status) {
-    if (status != 0) fail(m->name, status == 1 ? "refused" : status == 2 ? "no memory" : "no room");
+static void done(const Message *m, uint32_t status) {
+    if (status != 0) fail(m->name, status <= 10 ? "refused" : status == 11 ? "no memory" : "no room");
 }
 
 static void parse(const Message *m, size_t times) {
@@ -200,12 +201,13 @@ static void fits(const Message *m, size_t times) { done(m, m->mode->fits(m->byte
 static void emit(const Message *m, size_t times) { done(m, m->mode->emit(m->bytes, m->len, buffer, MOST_BYTES, times)); }
 
 static void rewrite(const Message *m, size_t times) {
-    for (size_t i = 0; i < times; i++) done(m, m->mode->rewrite(m->bytes, m->len, buffer, MOST_BYTES));
+    size_t written;
+    for (size_t i = 0; i < times; i++) done(m, m->mode->rewrite(m->bytes, m->len, buffer, MOST_BYTES, &written));
 }
 
 static void settle(const Message *m, size_t times) {
-    size_t rewrites;
-    for (size_t i = 0; i < times; i++) done(m, m->mode->settle(m->bytes, m->len, &rewrites));
+    size_t written, rewrites;
+    for (size_t i = 0; i < times; i++) done(m, m->mode->settle(m->bytes, m->len, buffer, MOST_BYTES, &written, &rewrites));
 }
 
 static void canonical(const Message *m, size_t times) {
@@ -315,7 +317,7 @@ static void check(Message *m) {
     blocks.owned = 0;
     length(m, 1);
     m->owned = blocks.owned;
-    verdicts[0] = false;
+    verdicts[0] = 0;
     fits(m, 1);
     if (!verdicts[0]) fail(m->name, "does not fit");
     memset(buffer, 0x55, lengths[0] + 1);
@@ -325,8 +327,9 @@ static void check(Message *m) {
     m->is_canonical = verdicts[0];
     bool same = lengths[0] == m->len && memcmp(buffer, m->bytes, m->len) == 0;
     if (same != m->is_canonical) fail(m->name, same ? "rewritten as it was, but not canonical" : "canonical, but rewritten");
-    done(m, m->mode->settle(m->bytes, m->len, &m->rewrites));
-    if (m->rewrites == 0 ? !same : !m->mode->canonical(buffer, lengths[0])) fail(m->name, "not settled by so many rewrites");
+    size_t written;
+    done(m, m->mode->settle(m->bytes, m->len, buffer, MOST_BYTES, &written, &m->rewrites));
+    if (m->rewrites == 0 ? !same : !m->mode->canonical(buffer, written)) fail(m->name, "not settled by so many rewrites");
 }
 
 // ---- Tables: a line for each message.

@@ -1,0 +1,363 @@
+"""Messages of Linux traffic control (rtnetlink), checked, rewritten and shown by proved code.
+
+    >>> import vtc
+    >>> vtc.check(bytes(20))
+    Verdict(fits=True, settled=True, canonical=True, length=20)
+    >>> vtc.json(bytes(4), action=True)
+    '{"header":{"family":"Unspec"},"attributes":[]}'
+
+A message is bytes without the 16 bytes of its netlink header; with `action=True` it is one about actions (RTM_*ACTION,
+which begins with struct tcamsg), else one about qdiscs, classes, filters or chains (which begins with struct tcmsg).
+
+The library is the file that the environment variable VTC_LIBRARY names, or else libvtc.so.0 where the system finds it.
+
+On the command line, with a message as hex:
+
+    python3 -m vtc check HEX [--action]       what is said of it
+    python3 -m vtc show HEX [--action]        its attributes, each on a line, indented by its depth
+    python3 -m vtc settle HEX [--action]      the canonical bytes to which rewriting leads
+    python3 -m vtc json HEX [--action]        it as JSON
+"""
+
+from __future__ import annotations
+
+import argparse
+import ctypes
+import enum
+import os
+import sys
+from typing import Callable, Iterator, NamedTuple, Optional, Tuple
+
+__all__ = [
+    "Attribute",
+    "DoesNotFit",
+    "Node",
+    "Refused",
+    "Status",
+    "Table",
+    "Verdict",
+    "attributes",
+    "check",
+    "index",
+    "is_canonical",
+    "json",
+    "rewrite",
+    "settle",
+    "version",
+]
+
+
+class Status(enum.IntEnum):
+    """How a call ended. 1 to 10 are the first fault of the bytes, in the order of reading."""
+
+    OK = 0
+    BUFFER_TOO_SMALL = 1
+    FRAME_HEADER_SHORT = 2
+    FRAME_TOO_LONG = 3
+    FRAME_TOO_SHORT = 4
+    WRONG_LENGTH = 5
+    NOT_UTF8 = 6
+    SELECTOR_SHORT = 7
+    XSTATS_SHORT = 8
+    MISSING_KIND = 9
+    DUPLICATE_KIND = 10
+    OUT_OF_MEMORY = 11
+    DOES_NOT_FIT = 12
+    NO_ROOM = 13
+    END = 14
+
+
+class Table(enum.IntEnum):
+    """The tables that give an attribute's type its meaning."""
+
+    MESSAGE = 0
+    ACTION_MESSAGE = 1
+    STATS2 = 2
+    ACTIONS = 3
+    ACTION = 4
+    ACTION_OPTIONS = 5
+    MIRROR = 6
+    NAT = 7
+    TUNNEL_KEY = 8
+    OPTIONS = 9
+    FQ_CODEL = 10
+    INGRESS = 11
+    FLOWER = 12
+    U32 = 13
+    MATCHALL = 14
+    BPF = 15
+    MPLS = 16
+    LSE = 17
+
+
+class Verdict(NamedTuple):
+    """What is said of a message."""
+
+    fits: bool
+    """It can be written."""
+    settled: bool
+    """Where it fits, the bytes that are written of it are read as the same message."""
+    canonical: bool
+    """The bytes are those that are written of it."""
+    length: int
+    """How many bytes are written of it; 0 where it doesn't fit."""
+
+
+class Node(NamedTuple):
+    """An attribute of a message."""
+
+    offset: int
+    """Where its value begins in the message, in bytes."""
+    word: int
+    """nla_type: the type and the two flags."""
+    table: Table
+    """The table that its type is of."""
+    depth: int
+    """In how many others it is."""
+    value: bytes
+    """Its value, without padding."""
+
+    @property
+    def type(self) -> int:
+        """The type: the word without its flags."""
+        return self.word & 0x3FFF
+
+
+class Attribute(NamedTuple):
+    """An attribute of a list."""
+
+    offset: int
+    """Where its value begins in the bytes."""
+    word: int
+    """nla_type: the type and the two flags."""
+    value: bytes
+    """Its value, without padding."""
+
+
+class Refused(ValueError):
+    """Bytes can't be read, for this first fault."""
+
+    def __init__(self, status: Status, first: int, second: int, offset: int) -> None:
+        super().__init__(f"{status.name.lower()} ({first}, {second}) at byte {offset}")
+        self.status = status
+        """Which fault it is."""
+        self.first = first
+        """Its first number, as vtc.h says; 0 where it has none."""
+        self.second = second
+        """Its second number."""
+        self.offset = offset
+        """Where it is in the bytes."""
+
+
+class DoesNotFit(ValueError):
+    """What was read can't be written: a value would have more than 65531 bytes."""
+
+
+# ---- The library
+
+
+class _Node(ctypes.Structure):
+    _fields_ = [
+        ("offset", ctypes.c_size_t),
+        ("len", ctypes.c_size_t),
+        ("word", ctypes.c_uint16),
+        ("table", ctypes.c_uint8),
+        ("depth", ctypes.c_uint8),
+    ]
+
+
+class _Attr(ctypes.Structure):
+    _fields_ = [("offset", ctypes.c_size_t), ("len", ctypes.c_size_t), ("word", ctypes.c_uint16)]
+
+
+class _Verdict(ctypes.Structure):
+    _fields_ = [
+        ("length", ctypes.c_size_t),
+        ("fits", ctypes.c_uint8),
+        ("settled", ctypes.c_uint8),
+        ("canonical", ctypes.c_uint8),
+    ]
+
+
+class _Fault(ctypes.Structure):
+    _fields_ = [("first", ctypes.c_size_t), ("second", ctypes.c_size_t), ("offset", ctypes.c_size_t)]
+
+
+_SIZES = {_Node: 24, _Attr: 24, _Verdict: 16, _Fault: 24}
+for _struct, _size in _SIZES.items():
+    if ctypes.sizeof(_struct) != _size:
+        raise ImportError("vtc is for hosts of 64 bits")
+if sys.byteorder != "little":
+    raise ImportError("vtc is for little-endian hosts")
+
+_lib = ctypes.CDLL(os.environ.get("VTC_LIBRARY", "libvtc.so.0"))
+
+_size_t, _p = ctypes.c_size_t, ctypes.POINTER
+_bytes_in = [ctypes.c_char_p, _size_t]
+_room_out = [_p(ctypes.c_uint8), _size_t, _p(_size_t)]
+_CALLS = {
+    "is_canonical": (ctypes.c_uint8, _bytes_in),
+    "index": (_size_t, [*_bytes_in, _p(_Node), _size_t]),
+    "check": (ctypes.c_uint32, [*_bytes_in, _p(_Verdict), _p(_Fault)]),
+    "rewrite": (ctypes.c_uint32, [*_bytes_in, *_room_out]),
+    "settle": (ctypes.c_uint32, [*_bytes_in, *_room_out, _p(_size_t)]),
+    "json": (ctypes.c_uint32, [*_bytes_in, *_room_out]),
+}
+for _name, (_result, _arguments) in _CALLS.items():
+    for _prefix in ("vtc_", "vtc_action_"):
+        _call = getattr(_lib, _prefix + _name)
+        _call.restype, _call.argtypes = _result, _arguments
+_lib.vtc_version.restype, _lib.vtc_version.argtypes = ctypes.c_uint32, []
+_lib.vtc_next.restype = ctypes.c_uint32
+_lib.vtc_next.argtypes = [*_bytes_in, _p(_size_t), _p(_Attr)]
+
+
+def _call_of(name: str, action: bool) -> Callable[..., int]:
+    return getattr(_lib, ("vtc_action_" if action else "vtc_") + name)
+
+
+def _raise(status: int, message: bytes, action: bool) -> None:
+    """Raises what a status says, unless it is OK."""
+    if status == Status.OK:
+        return
+    if status == Status.OUT_OF_MEMORY:
+        raise MemoryError("vtc: out of memory")
+    if status == Status.DOES_NOT_FIT:
+        raise DoesNotFit("a value would have more than 65531 bytes")
+    check(message, action)
+    raise RuntimeError(f"vtc: status {status}")
+
+
+def _written(name: str, message: bytes, action: bool, *more: object) -> bytes:
+    """What a call writes into a buffer, which is made larger where it is too small."""
+    call, length = _call_of(name, action), _size_t(0)
+    room = 2 * len(message) + 256
+    while True:
+        buffer = (ctypes.c_uint8 * room)()
+        status = call(message, len(message), buffer, room, ctypes.byref(length), *more)
+        if status != Status.NO_ROOM:
+            _raise(status, message, action)
+            return bytes(memoryview(buffer)[: length.value])
+        room = length.value
+
+
+# ---- Calls
+
+
+def version() -> Tuple[int, int, int]:
+    """The version of the library."""
+    number = _lib.vtc_version()
+    return number >> 16, number >> 8 & 0xFF, number & 0xFF
+
+
+def check(message: bytes, action: bool = False) -> Verdict:
+    """What is said of a message. Raises Refused where it can't be read."""
+    message = bytes(message)
+    verdict, fault = _Verdict(), _Fault()
+    status = _call_of("check", action)(message, len(message), ctypes.byref(verdict), ctypes.byref(fault))
+    if status == Status.OUT_OF_MEMORY:
+        raise MemoryError("vtc: out of memory")
+    if status != Status.OK:
+        raise Refused(Status(status), fault.first, fault.second, fault.offset)
+    return Verdict(verdict.fits == 1, verdict.settled == 1, verdict.canonical == 1, verdict.length)
+
+
+def is_canonical(message: bytes, action: bool = False) -> bool:
+    """True if the bytes are a canonical message."""
+    message = bytes(message)
+    return _call_of("is_canonical", action)(message, len(message)) == 1
+
+
+def index(message: bytes, action: bool = False) -> list[Node]:
+    """The attributes of a message, each before those in it: those before the first broken one."""
+    message = bytes(message)
+    # A ctypes array of no elements has no address of its own.
+    room = max(len(message) // 4, 1)
+    nodes = (_Node * room)()
+    count = _call_of("index", action)(message, len(message), nodes, room)
+    return [
+        Node(it.offset, it.word, Table(it.table), it.depth, message[it.offset : it.offset + it.len])
+        for it in nodes[:count]
+    ]
+
+
+def attributes(data: bytes, start: int = 0) -> Iterator[Attribute]:
+    """The attributes of a list that begins at a place of some bytes. Raises Refused where one is broken, with its
+    place and no numbers."""
+    data = bytes(data)
+    at, attr = _size_t(start), _Attr()
+    while True:
+        status = _lib.vtc_next(data, len(data), ctypes.byref(at), ctypes.byref(attr))
+        if status == Status.END:
+            return
+        if status != Status.OK:
+            raise Refused(Status(status), 0, 0, at.value)
+        yield Attribute(attr.offset, attr.word, data[attr.offset : attr.offset + attr.len])
+
+
+def rewrite(message: bytes, action: bool = False) -> bytes:
+    """The bytes that are written of a message. Raises Refused, or DoesNotFit."""
+    return _written("rewrite", bytes(message), action)
+
+
+def settle(message: bytes, action: bool = False) -> Tuple[bytes, int]:
+    """The canonical bytes to which rewriting leads, and after how many rewrites. Raises Refused, or DoesNotFit."""
+    rewrites = _size_t(0)
+    settled = _written("settle", bytes(message), action, ctypes.byref(rewrites))
+    return settled, rewrites.value
+
+
+def json(message: bytes, action: bool = False) -> str:
+    """A message as JSON. Raises Refused."""
+    return _written("json", bytes(message), action).decode()
+
+
+# ---- The command line
+
+
+def _show(message: bytes, action: bool) -> str:
+    nodes, lines = index(message, action), []
+    for it, after in zip(nodes, [*nodes[1:], None]):
+        # The value of one that holds others is theirs.
+        holds = after is not None and after.depth > it.depth
+        value = "" if holds else f": {it.value.hex() or 'empty'}"
+        lines.append(f"{'  ' * it.depth}{it.table.name.lower()} {it.type}{value}")
+    return "\n".join(lines)
+
+
+def _check(message: bytes, action: bool) -> str:
+    verdict = check(message, action)
+    words = {name: "yes" if value else "no" for name, value in verdict._asdict().items()}
+    words["length"] = str(verdict.length)
+    return "\n".join(f"{name} {word}" for name, word in words.items())
+
+
+_COMMANDS = {
+    "check": _check,
+    "show": _show,
+    "settle": lambda message, action: settle(message, action)[0].hex(),
+    "json": json,
+}
+
+
+def main(words: Optional[list[str]] = None) -> int:
+    """Runs the command line, and returns its exit status: 0, or 1 where the message can't be read or written."""
+    parser = argparse.ArgumentParser(prog="vtc", description="Messages of Linux traffic control, as hex.")
+    parser.add_argument("command", choices=sorted(_COMMANDS))
+    parser.add_argument("message", help="hex, without the netlink header")
+    parser.add_argument("--action", action="store_true", help="it is a message about actions")
+    asked = parser.parse_args(words)
+    try:
+        message = bytes.fromhex(asked.message)
+    except ValueError as error:
+        parser.error(str(error))
+    try:
+        print(_COMMANDS[asked.command](message, asked.action))
+    except (Refused, DoesNotFit) as error:
+        print(f"vtc: {error}", file=sys.stderr)
+        return 1
+    return 0
+
+
+if __name__ == "__main__":
+    sys.exit(main())

@@ -1,0 +1,32 @@
+-- What a check tells of bytes.
+use Rattle.std.specs.Prelude.{◌≡◌, ◌⊎◌, ℕ, List, ◌≤◌, Bool, length, if◌then◌else◌}
+use Rattle.tc_wire.specs.Facade.{Message}
+use Rattle.tc_status.specs.Status.{numbers_of}
+use Rattle.tc_ffi.specs.Words.{Words}
+use Rattle.tc_ffi.specs.Calls.{ReadsSome, Refuses}
+use Rattle.tc_ffi.specs.declared.told.VtcVerdict.{VtcVerdict}
+use Rattle.tc_ffi.specs.declared.told.VtcFault.{VtcFault}
+
+-- 1: it holds; 0: it doesn't
+abbrev pub Says : ℕ → Type 0 → Type 0
+Says verdict Holds = ((verdict ≡ 1) × Holds) ⊎ ((verdict ≡ 0) × (Holds → ⊥))
+
+abbrev pub Numbers : ℕ → Bool → Type 0
+Numbers verdict holds = verdict ≡ (if holds then 1 else 0)
+
+-- what is said of a message, and of the bytes that it was read of
+pub record IsJudged (words : Words) (bytes : List ℕ) (m : Message) (v : VtcVerdict) : Type 0 where
+  pub fits : Says v.fits (words.Fits m)
+  pub settled : Says v.settled (words.Settled m)
+  pub canonical : Says v.canonical (words.Canon bytes)
+  pub counted : ((words.Fits m) × (v.length ≡ length (words.bytes m))) ⊎ ((words.Fits m → ⊥) × (v.length ≡ 0))
+
+-- the first fault of the bytes, or that there was no memory; its numbers, and its place
+pub record IsRefused (words : Words) (bytes : List ℕ) (f : VtcFault) (status : ℕ) : Type 0 where
+  pub refuses : Refuses words bytes status
+  pub numbers : (f.first, f.second) ≡ numbers_of refuses.fault
+  pub place : f.offset ≤ length bytes
+
+-- 0: a message, which is judged; else the fault
+abbrev pub Checks : Words → List ℕ → VtcVerdict → VtcFault → ℕ → Type 0
+Checks words bytes v f status = ((status ≡ 0) × ReadsSome words bytes (λ m. IsJudged words bytes m v)) ⊎ IsRefused words bytes f status

@@ -1,0 +1,92 @@
+//! The calls on a message of either type.
+
+ghost use Rattle.std.specs.Prelude.{◌≡◌, ◌≢◌};
+ghost use Rattle.tc_ffi.specs.Calls.{Rewrites, Settles, Shows};
+ghost use Rattle.tc_ffi.specs.Checks.{Checks};
+
+use crate::called::Called;
+use crate::place::place;
+use crate::told::{VtcFault, VtcVerdict, fault_of, judged};
+use std::alloc::Global;
+use tc_status::{DOES_NOT_FIT, NO_ROOM, OK, OUT_OF_MEMORY, status_of};
+use tc_wire::RewriteError;
+
+/// Judges the message that bytes read as, or tells their first fault.
+pub fn check<M: Called>(
+    alloc: Global,
+    bytes: &[u8],
+    verdict: &mut VtcVerdict,
+    fault: &mut VtcFault,
+) -> u32
+    ensures checks { Checks M.words bytes.now verdict.new fault.new result }
+    ensures verdict_kept { result ≢ 0 → verdict.new ≡ verdict.old }
+    ensures fault_kept { result ≡ 0 → fault.new ≡ fault.old }
+{
+    match M::read(alloc, bytes) {
+        Ok(message) => {
+            *verdict = judged(&message, bytes);
+            OK
+        }
+        Err(e) => {
+            *fault = fault_of::<M>(&e, bytes);
+            status_of(&e)
+        }
+    }
+}
+
+/// Writes the message that bytes read as at the front of the buffer, where it has room, and how many bytes it takes.
+pub fn rewrite<M: Called>(alloc: Global, bytes: &[u8], buffer: &mut [u8], length: &mut usize) -> u32
+    ensures rewrites { Rewrites M.words bytes.now buffer.old buffer.new length.new result }
+    ensures kept { result ≢ 0 → buffer.new ≡ buffer.old }
+{
+    match M::read(alloc, bytes) {
+        Ok(message) => {
+            if !message.can_be_written() {
+                return DOES_NOT_FIT;
+            }
+            *length = message.len();
+            if buffer.len() < *length {
+                return NO_ROOM;
+            }
+            message.write(buffer);
+            OK
+        }
+        Err(e) => status_of(&e),
+    }
+}
+
+/// Writes the canonical bytes to which rewriting leads, in the same way, and after how many rewrites.
+pub fn settle<M: Called>(
+    alloc: Global,
+    bytes: &[u8],
+    buffer: &mut [u8],
+    length: &mut usize,
+    rewrites: &mut usize,
+) -> u32
+    ensures settles { Settles M.words bytes.now buffer.old buffer.new length.new rewrites.new result }
+    ensures kept { result ≢ 0 → buffer.new ≡ buffer.old }
+{
+    match M::settle(alloc, bytes) {
+        Ok((settled, count)) => {
+            *rewrites = count;
+            place(&settled, buffer, length)
+        }
+        Err(RewriteError::Decode(e)) => status_of(&e),
+        Err(RewriteError::DoesNotFit) => DOES_NOT_FIT,
+        Err(RewriteError::OutOfMemory) => OUT_OF_MEMORY,
+    }
+}
+
+/// Writes the JSON of the message that bytes read as, in the same way.
+pub fn json<M: Called>(alloc: Global, bytes: &[u8], buffer: &mut [u8], length: &mut usize) -> u32
+    ensures shows { Shows M.words bytes.now buffer.old buffer.new length.new result }
+    ensures kept { result ≢ 0 → buffer.new ≡ buffer.old }
+{
+    match M::read(alloc, bytes) {
+        Ok(message) => match message.json(alloc) {
+            Ok(text) => place(&text, buffer, length),
+            Err(_) => OUT_OF_MEMORY,
+        },
+        Err(e) => status_of(&e),
+    }
+}

@@ -1,0 +1,67 @@
+//! What C is told of bytes.
+
+ghost use Rattle.std.specs.Prelude.{◌≡◌, ◌≤◌, length};
+ghost use Rattle.tc_status.specs.Status.{numbers_of};
+ghost use Rattle.tc_ffi.specs.Checks.{IsJudged, Numbers};
+
+use crate::called::Called;
+use nla_frames::DecodeError;
+use tc_status::numbers_of;
+
+/// What is said of the message that bytes read as: `struct vtc_verdict`.
+#[repr(C)]
+#[derive(Clone, Copy)]
+pub struct VtcVerdict {
+    /// How many bytes are written of it; 0 where it can't be written.
+    pub length: usize,
+    /// 1 if it can be written, 0 if not.
+    pub fits: u8,
+    /// 1 if it reads back as itself, 0 if not.
+    pub settled: u8,
+    /// 1 if the bytes are those that are written of it, 0 if not.
+    pub canonical: u8,
+}
+
+/// The first fault of bytes: `struct vtc_fault`.
+#[repr(C)]
+#[derive(Clone, Copy)]
+pub struct VtcFault {
+    /// Its numbers; 0 in place of those that it doesn't have.
+    pub first: usize,
+    pub second: usize,
+    /// Where it is in the bytes.
+    pub offset: usize,
+}
+
+/// What is said of a message, and of the bytes that it was read of.
+pub fn judged<M: Called>(message: &M, bytes: &[u8]) -> VtcVerdict
+    ensures { IsJudged M.words bytes.now (M.see message.now) result }
+{
+    let fits = message.can_be_written();
+    VtcVerdict {
+        length: if fits { message.len() } else { 0 },
+        fits: number(fits),
+        settled: number(message.reads_back()),
+        canonical: number(M::is_canonical(bytes)),
+    }
+}
+
+/// A fault of bytes.
+pub fn fault_of<M: Called>(fault: &DecodeError, bytes: &[u8]) -> VtcFault
+    ensures numbers { (result.first, result.second) ≡ numbers_of fault.now }
+    ensures place { result.offset ≤ length bytes.now }
+{
+    let (first, second) = numbers_of(fault);
+    VtcFault {
+        first,
+        second,
+        offset: M::fault_at(bytes),
+    }
+}
+
+/// A verdict as a number.
+pub fn number(holds: bool) -> u8
+    ensures { Numbers result holds }
+{
+    if holds { 1 } else { 0 }
+}

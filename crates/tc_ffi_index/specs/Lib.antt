@@ -1,0 +1,3 @@
+pub mod Verdict
+pub mod Nodes
+pub mod Next

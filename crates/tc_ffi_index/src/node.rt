@@ -1,0 +1,63 @@
+//! An attribute, as C sees it.
+
+ghost use Rattle.std.specs.Prelude.{◌≡◌, Some};
+ghost use Rattle.tc_index.specs.Seen.{placed_of, node_of};
+ghost use Rattle.tc_ffi_index.specs.Nodes.{table_at, node_at};
+
+use tc_index::Attribute;
+use tc_names::Table;
+
+/// An attribute of a message: `struct vtc_node`.
+#[repr(C)]
+#[derive(Clone, Copy)]
+pub struct VtcNode {
+    /// Where its value begins in the message, in bytes.
+    pub offset: usize,
+    /// How many bytes its value has, without padding.
+    pub len: usize,
+    /// `nla_type`: the type and the two flags.
+    pub word: u16,
+    /// The number of the table that its type is of.
+    pub table: u8,
+    /// In how many others it is.
+    pub depth: u8,
+}
+
+/// The attribute, as C sees it.
+pub fn node_of(attribute: &Attribute<'_>) -> VtcNode
+    ensures { node_at result ≡ Some (node_of (placed_of attribute.now)) }
+{
+    VtcNode {
+        offset: attribute.offset,
+        len: attribute.value.len(),
+        word: attribute.word,
+        table: number_of(attribute.table),
+        depth: attribute.depth,
+    }
+}
+
+/// The number of a table.
+fn number_of(table: Table) -> u8
+    ensures { table_at result ≡ Some table }
+{
+    match table {
+        Table::Message => 0,
+        Table::ActionMessage => 1,
+        Table::Stats2 => 2,
+        Table::Actions => 3,
+        Table::Action => 4,
+        Table::ActionOptions => 5,
+        Table::Mirror => 6,
+        Table::Nat => 7,
+        Table::TunnelKey => 8,
+        Table::Options => 9,
+        Table::FqCodel => 10,
+        Table::Ingress => 11,
+        Table::Flower => 12,
+        Table::U32 => 13,
+        Table::MatchAll => 14,
+        Table::Bpf => 15,
+        Table::Mpls => 16,
+        Table::Lse => 17,
+    }
+}
