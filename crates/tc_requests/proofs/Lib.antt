@@ -1,0 +1,4 @@
+mod Firsts
+mod KindTold
+mod Settling
+mod Steps

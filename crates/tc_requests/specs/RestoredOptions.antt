@@ -1,0 +1,68 @@
+-- What becomes of options.
+use Rattle.std.specs.Prelude.{ℕ, List, [], ◌∷◌, codes, bit_and, Option, Err, if◌then◌else◌}
+use Rattle.tc_meaning.specs.Tree.{Attribute, known, number, items, attributes_of, of_kind}
+use Rattle.tc_requests.specs.declared.restore_error.RestoreError.TheVariants.{ProgramByNumber, RawActions}
+use Rattle.tc_records.specs.FilterFlags.{option_flags_word}
+use Rattle.tc_flower.specs.Flower.{flower_option}
+use Rattle.tc_flower.specs.declared.filters.flower.options.TcFilterFlowerOption.{TcFilterFlowerOption}
+use Rattle.tc_flower.specs.declared.filters.flower.options.TcFilterFlowerOption.TheVariants as flower
+use Rattle.tc_filters.specs.U32.{u32_option}
+use Rattle.tc_filters.specs.declared.filters.cls_u32.TcFilterU32Option.{TcFilterU32Option}
+use Rattle.tc_filters.specs.declared.filters.cls_u32.TcFilterU32Option.TheVariants as u32
+use Rattle.tc_filters.specs.MatchAll.{matchall_option}
+use Rattle.tc_filters.specs.declared.filters.matchall.TcFilterMatchAllOption.{TcFilterMatchAllOption}
+use Rattle.tc_filters.specs.declared.filters.matchall.TcFilterMatchAllOption.TheVariants as matchall
+use Rattle.tc_filters.specs.Bpf.{bpf_option}
+use Rattle.tc_filters.specs.declared.filters.bpf.TcFilterBpfOption.{TcFilterBpfOption}
+use Rattle.tc_filters.specs.declared.filters.bpf.TcFilterBpfOption.TheVariants as bpf
+use Rattle.tc_options.specs.Options.{tc_option}
+use Rattle.tc_options.specs.declared.options.TcOption.{TcOption}
+use Rattle.tc_options.specs.declared.options.TcOption.TheVariants.{Flower, U32, MatchAll, Bpf}
+use Rattle.tc_actions.specs.declared.actions.action.TcAction.{TcAction}
+use Rattle.tc_requests.specs.Restoring.{Restored, ◌>>=◌, stays, left_out, each, seen_part}
+use Rattle.tc_requests.specs.RestoredActions.{action_restored, is_of}
+
+-- a filter's flags without `InHw` (4) and `NotInHw` (8)
+abbrev pub cleared : ℕ → ℕ
+cleared flags = bit_and flags 0xfffffff3
+
+-- actions as the option of this type
+abbrev pub actions_restored : {A : Type 0} → ℕ → List (TcAction A) → Restored (Option Attribute)
+actions_restored n actions = each action_restored 1 actions >>= λ xs. stays (known n (items (attributes_of xs)))
+
+abbrev pub flower_restored : {A : Type 0} → TcFilterFlowerOption A → Restored (Option Attribute)
+flower_restored (flower.Flags n) = stays (known 22 (number (cleared n)))
+flower_restored (flower.InHwCount n) = left_out
+flower_restored (flower.Actions actions) = actions_restored 3 actions.items
+flower_restored x = stays (flower_option x)
+
+-- the padding `TCA_U32_PAD` is of type 12
+abbrev pub u32_restored : {A : Type 0} → TcFilterU32Option A → Restored (Option Attribute)
+u32_restored (u32.Flags flags) = stays (known 11 (number (cleared (option_flags_word flags))))
+u32_restored (u32.Pnct bytes) = left_out
+u32_restored (u32.Action actions) = actions_restored 7 actions.items
+u32_restored (u32.Other nla) = if is_of (12 ∷ []) nla then left_out else stays (u32_option (u32.Other nla))
+u32_restored x = stays (u32_option x)
+
+-- the padding `TCA_MATCHALL_PAD` is of type 5
+abbrev pub matchall_restored : {A : Type 0} → TcFilterMatchAllOption A → Restored (Option Attribute)
+matchall_restored (matchall.Flags flags) = stays (known 3 (number (cleared flags)))
+matchall_restored (matchall.Pnct bytes) = left_out
+matchall_restored (matchall.Action actions) = actions_restored 2 actions.items
+matchall_restored (matchall.Other nla) = if is_of (5 ∷ []) nla then left_out else stays (matchall_option (matchall.Other nla))
+matchall_restored x = stays (matchall_option x)
+
+-- a program that is dumped by its number can't be loaded again, and actions (`TCA_BPF_ACT`, 1), which are kept raw, aren't
+-- counted anew
+abbrev pub bpf_restored : {A : Type 0} → TcFilterBpfOption A → Restored (Option Attribute)
+bpf_restored (bpf.FlagsGeneric flags) = stays (known 9 (number (cleared (option_flags_word flags))))
+bpf_restored (bpf.ProgId n) = Err ProgramByNumber
+bpf_restored (bpf.Other nla) = if is_of (1 ∷ []) nla then Err RawActions else stays (bpf_option (bpf.Other nla))
+bpf_restored x = stays (bpf_option x)
+
+abbrev pub option_restored : {A : Type 0} → ℕ → TcOption A → Restored (Option Attribute)
+option_restored n (Flower option) = seen_part (of_kind (codes "flower")) (flower_restored option)
+option_restored n (U32 option) = seen_part (of_kind (codes "u32")) (u32_restored option)
+option_restored n (MatchAll option) = seen_part (of_kind (codes "matchall")) (matchall_restored option)
+option_restored n (Bpf option) = seen_part (of_kind (codes "bpf")) (bpf_restored option)
+option_restored n x = stays (tc_option x)

@@ -1,0 +1,305 @@
+//! Builders of requests.
+
+ghost use Rattle.std.specs.Prelude.{◌≡◌, ◌∷◌, [], map, string_bytes, IfOk, IfErr};
+ghost use Rattle.std.specs.List.{AllByRecursion};
+ghost use Rattle.nla_frames.specs.DefaultNla.{kept_frame};
+ghost use Rattle.nla_frames.specs.declared.family.AddressFamily.TheVariants.{Unspec};
+ghost use Rattle.tc_canon.specs.Canonical.{CanonTc, CanonAct};
+ghost use Rattle.tc_canon.specs.Descriptor.{table};
+ghost use Rattle.tc_canon.specs.Tables.Actions.{action_attributes};
+ghost use Rattle.tc_meaning.specs.Own.{SettledOwn};
+ghost use Rattle.tc_meaning.specs.Tree.{known, items, attributes_of};
+ghost use Rattle.tc_meaning.specs.Meaning.{table_codec};
+ghost use Rattle.tc_meaning.specs.Whole.{tc_bytes, FitsTc, SettledTc, act_bytes, FitsAct, SettledAct};
+ghost use Rattle.tc_texts.specs.Info.{filter_info};
+ghost use Rattle.tc_options.specs.Options.{tc_option};
+ghost use Rattle.tc_attributes.specs.Attribute.{tc_attribute};
+ghost use Rattle.tc_messages.specs.Message.{tc_message};
+ghost use Rattle.tc_actions.specs.ActionOption.{action_option};
+ghost use Rattle.tc_actions.specs.Action.{tc_action, listed, an_action};
+ghost use Rattle.tc_actions.specs.ActionAttribute.{action_attribute};
+ghost use Rattle.tc_action_messages.specs.ActionMessage.{action_message};
+ghost use Rattle.tc_action_messages.specs.ActionMessageAttribute.{action_message_attribute};
+ghost use Rattle.tc_requests.specs.Requests.{request_header, kind_of, chain_of, parts_of, options_of, raw_option, SettledOption, SettledActionOption};
+ghost use Rattle.tc_requests.specs.Named.{Names};
+ghost use Rattle.tc_requests.specs.declared.error.RequestError.TheVariants.{OutOfMemory};
+
+use crate::error::RequestError;
+use crate::kinds::{ActionKindOption, FilterOption, OptionOf, QdiscOption, TcKindOption};
+use crate::settled::{first_unsettled, settled_options};
+use crate::target::Target;
+use nla_frames::{AddressFamily, DefaultNla};
+use std::alloc::Allocator;
+use tc_action_messages::{TcActionMessage, TcActionMessageAttribute};
+use tc_actions::{TcAction, TcActionAttribute, TcActionOption};
+use tc_attributes::TcAttribute;
+use tc_messages::TcMessage;
+use tc_options::TcOption;
+use tc_records::{TcActionMessageHeader, TcHeader};
+use tc_texts::filter_info;
+
+/// A request about a qdisc: its kind, and options of this kind.
+pub fn qdisc<O: QdiscOption<A>, A: Allocator + Copy>(
+    alloc: A,
+    target: &Target,
+    options: Vec<O, A>,
+) -> Result<TcMessage<A>, RequestError>
+    ensures header { IfOk result (λ m. m.header ≡ request_header target.now 0) }
+    ensures attributes { IfOk result (λ m. map tc_attribute m.attributes.items
+        ≡ parts_of O.name None (map (λ o. tc_option (O.variant o)) options.items)) }
+    ensures settled { IfOk result (λ m. SettledTc (tc_message m)) }
+    ensures canonical { IfOk result (λ m.
+        FitsTc (tc_message m) → CanonTc (tc_bytes (tc_message m))) }
+    ensures named { IfErr result (Names (SettledOption O.name) (map (λ o. tc_option (O.variant o)) options.items)) }
+{
+    message(alloc, target.header(0), None, options)
+}
+
+/// A request about a filter of a priority and a protocol, an EtherType: its kind, its chain if one is given, and options of
+/// this kind.
+pub fn filter<O: FilterOption<A>, A: Allocator + Copy>(
+    alloc: A,
+    target: &Target,
+    priority: u16,
+    protocol: u16,
+    chain: Option<u32>,
+    options: Vec<O, A>,
+) -> Result<TcMessage<A>, RequestError>
+    ensures header { IfOk result (λ m.
+        m.header ≡ request_header target.now (filter_info priority protocol)) }
+    ensures attributes { IfOk result (λ m. map tc_attribute m.attributes.items
+        ≡ parts_of O.name chain (map (λ o. tc_option (O.variant o)) options.items)) }
+    ensures settled { IfOk result (λ m. SettledTc (tc_message m)) }
+    ensures canonical { IfOk result (λ m.
+        FitsTc (tc_message m) → CanonTc (tc_bytes (tc_message m))) }
+    ensures named { IfErr result (Names (SettledOption O.name) (map (λ o. tc_option (O.variant o)) options.items)) }
+{
+    message(
+        alloc,
+        target.header(filter_info(priority, protocol)),
+        chain,
+        options,
+    )
+}
+
+// A message of a header, a kind, a chain if one is given, and options.
+fn message<O: TcKindOption<A>, A: Allocator + Copy>(
+    alloc: A,
+    header: TcHeader,
+    chain: Option<u32>,
+    options: Vec<O, A>,
+) -> Result<TcMessage<A>, RequestError>
+    requires { header.family ≡ Unspec }
+    ensures header { IfOk result (λ m. m.header ≡ header) }
+    ensures attributes { IfOk result (λ m. map tc_attribute m.attributes.items
+        ≡ parts_of O.name chain (map (λ o. tc_option (O.variant o)) options.items)) }
+    ensures settled { IfOk result (λ m. SettledTc (tc_message m)) }
+    ensures canonical { IfOk result (λ m.
+        FitsTc (tc_message m) → CanonTc (tc_bytes (tc_message m))) }
+    ensures named { IfErr result (Names (SettledOption O.name) (map (λ o. tc_option (O.variant o)) options.items)) }
+{
+    // A law, which does nothing.
+    O::known_kind();
+    let options = settled_options(alloc, O::kind(), options)?;
+    let attributes = parts(alloc, O::kind(), chain, options)?;
+    Ok(sealed(TcMessage { header, attributes }))
+}
+
+// A kind, a chain if one is given, and options.
+fn parts<A: Allocator + Copy>(
+    alloc: A,
+    kind: &str,
+    chain: Option<u32>,
+    options: Vec<TcOption<A>, A>,
+) -> Result<Vec<TcAttribute<A>, A>, RequestError>
+    ensures parts { IfOk result (λ made. map tc_attribute made.items
+        ≡ parts_of kind.now chain (map tc_option options.items)) }
+    ensures memory { IfErr result (λ e. e ≡ OutOfMemory) }
+{
+    let kind = TcAttribute::Kind(String::from_str(alloc, kind)?);
+    let options = TcAttribute::Options(options);
+    let mut made = Vec::with_capacity(alloc, 3)?;
+    made.push(kind)?;
+    match chain {
+        None => {
+            made.push(options)?;
+            Ok(made)
+        }
+        Some(chain) => {
+            made.push(TcAttribute::Chain(chain))?;
+            made.push(options)?;
+            Ok(made)
+        }
+    }
+}
+
+// A settled message; the test, whose answer is known, says that its bytes are canonical.
+fn sealed<A: Allocator>(message: TcMessage<A>) -> TcMessage<A>
+    requires { SettledTc (tc_message message) }
+    ensures same { result ≡ message }
+    ensures settled { SettledTc (tc_message result) }
+    ensures canonical { FitsTc (tc_message result) → CanonTc (tc_bytes (tc_message result)) }
+{
+    message.is_settled();
+    message
+}
+
+/// A request about a qdisc of a kind without options, such as `clsact`, or of any kind with its defaults.
+pub fn plain_qdisc<A: Allocator + Copy>(
+    alloc: A,
+    target: &Target,
+    kind: &str,
+) -> Result<TcMessage<A>, RequestError>
+    ensures header { IfOk result (λ m. m.header ≡ request_header target.now 0) }
+    ensures attributes { IfOk result (λ m. map tc_attribute m.attributes.items
+        ≡ kind_of kind.now ∷ []) }
+    ensures settled { IfOk result (λ m. SettledTc (tc_message m)) }
+    ensures canonical { IfOk result (λ m.
+        FitsTc (tc_message m) → CanonTc (tc_bytes (tc_message m))) }
+    ensures memory { IfErr result (λ e. e ≡ OutOfMemory) }
+{
+    let kind = TcAttribute::Kind(String::from_str(alloc, kind)?);
+    let mut attributes = Vec::with_capacity(alloc, 1)?;
+    attributes.push(kind)?;
+    Ok(sealed(TcMessage {
+        header: target.header(0),
+        attributes,
+    }))
+}
+
+/// A request about a chain of filters.
+pub fn chain<A: Allocator + Copy>(
+    alloc: A,
+    target: &Target,
+    number: u32,
+) -> Result<TcMessage<A>, RequestError>
+    ensures header { IfOk result (λ m. m.header ≡ request_header target.now 0) }
+    ensures attributes { IfOk result (λ m. map tc_attribute m.attributes.items
+        ≡ chain_of number ∷ []) }
+    ensures settled { IfOk result (λ m. SettledTc (tc_message m)) }
+    ensures canonical { IfOk result (λ m.
+        FitsTc (tc_message m) → CanonTc (tc_bytes (tc_message m))) }
+    ensures memory { IfErr result (λ e. e ≡ OutOfMemory) }
+{
+    let mut attributes = Vec::with_capacity(alloc, 1)?;
+    attributes.push(TcAttribute::Chain(number))?;
+    Ok(sealed(TcMessage {
+        header: target.header(0),
+        attributes,
+    }))
+}
+
+/// An action for this place in its list, counted from 1: its kind, and options of this kind.
+pub fn action<O: ActionKindOption<A>, A: Allocator + Copy>(
+    alloc: A,
+    place: u16,
+    options: Vec<O, A>,
+) -> Result<TcAction<A>, RequestError>
+    ensures place { IfOk result (λ made. made.tab ≡ place) }
+    ensures attributes { IfOk result (λ made.
+        listed made ≡ kind_of O.name ∷ options_of (map (λ o. action_option (O.variant o)) options.items) ∷ []) }
+    ensures settled { IfOk result (λ made.
+        SettledOwn (table_codec (table action_attributes)).Settled (listed made)) }
+    ensures named { IfErr result (Names (SettledActionOption O.name) (map (λ o. action_option (O.variant o)) options.items)) }
+{
+    action_of(alloc, place, O::kind(), options)
+}
+
+/// An action of a kind whose options aren't known, such as `gact`, for this place in its list: its kind, and options that are
+/// kept raw. Under a kind whose options are known (`mirred`, `nat`, `tunnel_key`) none is settled.
+pub fn raw_action<A: Allocator + Copy>(
+    alloc: A,
+    place: u16,
+    kind: &str,
+    options: Vec<DefaultNla<A>, A>,
+) -> Result<TcAction<A>, RequestError>
+    ensures place { IfOk result (λ made. made.tab ≡ place) }
+    ensures attributes { IfOk result (λ made. listed made ≡ kind_of kind.now
+        ∷ options_of (map (λ nla. raw_option (kept_frame nla)) options.items) ∷ []) }
+    ensures settled { IfOk result (λ made.
+        SettledOwn (table_codec (table action_attributes)).Settled (listed made)) }
+    ensures named { IfErr result (Names (SettledActionOption kind.now)
+        (map (λ nla. raw_option (kept_frame nla)) options.items)) }
+{
+    action_of(alloc, place, kind, options)
+}
+
+// An action of a kind and of options that are settled under it.
+fn action_of<O: OptionOf<TcActionOption<A>>, A: Allocator + Copy>(
+    alloc: A,
+    place: u16,
+    kind: &str,
+    options: Vec<O, A>,
+) -> Result<TcAction<A>, RequestError>
+    ensures place { IfOk result (λ made. made.tab ≡ place) }
+    ensures attributes { IfOk result (λ made.
+        listed made ≡ kind_of kind.now ∷ options_of (map (λ o. action_option (O.variant o)) options.items) ∷ []) }
+    ensures settled { IfOk result (λ made.
+        SettledOwn (table_codec (table action_attributes)).Settled (listed made)) }
+    ensures named { IfErr result
+        (Names (SettledActionOption kind.now) (map (λ o. action_option (O.variant o)) options.items)) }
+{
+    let options = settled_options(alloc, kind, options)?;
+    let kind = TcActionAttribute::Kind(String::from_str(alloc, kind)?);
+    let mut attributes = Vec::with_capacity(alloc, 2)?;
+    attributes.push(kind)?;
+    attributes.push(TcActionAttribute::Options(options))?;
+    Ok(TcAction {
+        tab: place,
+        attributes,
+    })
+}
+
+/// A request about these actions. Their types `tab` are to be their places, counted from 1.
+pub fn action_message<A: Allocator + Copy>(
+    alloc: A,
+    actions: Vec<TcAction<A>, A>,
+) -> Result<TcActionMessage<A>, RequestError>
+    ensures header { IfOk result (λ m. m.header.family ≡ Unspec) }
+    ensures attributes { IfOk result (λ m. map action_message_attribute m.attributes.items
+        ≡ known 1 (items (attributes_of (map tc_action actions.items))) ∷ []) }
+    ensures settled { IfOk result (λ m. SettledAct (action_message m)) }
+    ensures canonical { IfOk result (λ m.
+        FitsAct (action_message m) → CanonAct (act_bytes (action_message m))) }
+    ensures named { IfErr result
+        (Names ((table_codec an_action).Settled []) (map tc_action actions.items)) }
+{
+    match first_unsettled(&actions, "") {
+        Some(place) => Err(RequestError::NotSettled { place }),
+        None => message_of_actions(alloc, actions),
+    }
+}
+
+// A message of settled actions.
+fn message_of_actions<A: Allocator + Copy>(
+    alloc: A,
+    actions: Vec<TcAction<A>, A>,
+) -> Result<TcActionMessage<A>, RequestError>
+    requires { AllByRecursion ((table_codec an_action).Settled []) (map tc_action actions.items) }
+    ensures header { IfOk result (λ m. m.header.family ≡ Unspec) }
+    ensures attributes { IfOk result (λ m. map action_message_attribute m.attributes.items
+        ≡ known 1 (items (attributes_of (map tc_action actions.items))) ∷ []) }
+    ensures settled { IfOk result (λ m. SettledAct (action_message m)) }
+    ensures canonical { IfOk result (λ m.
+        FitsAct (action_message m) → CanonAct (act_bytes (action_message m))) }
+    ensures memory { IfErr result (λ e. e ≡ OutOfMemory) }
+{
+    let mut attributes = Vec::with_capacity(alloc, 1)?;
+    attributes.push(TcActionMessageAttribute::Actions(actions))?;
+    let header = TcActionMessageHeader {
+        family: AddressFamily::Unspec,
+    };
+    Ok(sealed_actions(TcActionMessage { header, attributes }))
+}
+
+// The same of an action message.
+fn sealed_actions<A: Allocator>(message: TcActionMessage<A>) -> TcActionMessage<A>
+    requires { SettledAct (action_message message) }
+    ensures same { result ≡ message }
+    ensures settled { SettledAct (action_message result) }
+    ensures canonical { FitsAct (action_message result)
+        → CanonAct (act_bytes (action_message result)) }
+{
+    message.is_settled();
+    message
+}

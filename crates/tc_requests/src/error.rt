@@ -1,0 +1,36 @@
+//! Why no request is built.
+
+ghost use Rattle.std.specs.Prelude.{◌≡◌};
+ghost use Rattle.tc_requests.specs.declared.error.RequestError.TheVariants.{OutOfMemory};
+
+use std::alloc::{AllocError, AllocFailed};
+use thiserror::Error;
+
+/// Why no request is built.
+#[derive(Drop, PartialEq, Eq, Error, Debug)]
+pub enum RequestError {
+    /// The option, or the action of an action message, at this place of its list, counted from 0, doesn't read back as
+    /// itself: a number exceeds its mask, an `Other` holds a type that has a row, an action has no kind.
+    #[error("part {place} does not read back as itself")]
+    NotSettled { place: usize },
+
+    /// The allocator failed.
+    #[error("out of memory")]
+    OutOfMemory,
+}
+
+impl From<AllocError> for RequestError {
+    ghost from_gives = { λ _ e. e ≡ OutOfMemory };
+
+    fn from(_e: AllocError) -> RequestError {
+        RequestError::OutOfMemory
+    }
+}
+
+impl<T: Drop> From<AllocFailed<T>> for RequestError {
+    ghost from_gives = { λ _ e. e ≡ OutOfMemory };
+
+    fn from(_e: AllocFailed<T>) -> RequestError {
+        RequestError::OutOfMemory
+    }
+}

@@ -1,0 +1,36 @@
+//! The requests that a client of Linux traffic control sends: builders of messages from typed parts, which give no message
+//! that reads back as another one, and dumps made into the requests that restore them.
+//!
+//! This is `tc qdisc add dev .. root handle 1: fq_codel limit 10240`, for the interface with index 2:
+//!
+//! ```
+//! let target = Target {
+//!     index: 2,
+//!     handle: TcHandle::from(0x10000),
+//!     parent: TcHandle::ROOT,
+//! };
+//! let request = qdisc(alloc, &target, vec![in alloc; TcQdiscFqCodelOption::Limit(10240)]?)?;
+//! ```
+#![tactic(auto)]
+
+pub mod build;
+pub mod error;
+pub mod handle;
+pub mod kinds;
+mod restore;
+mod restore_actions;
+pub mod restore_error;
+pub mod restore_messages;
+mod restore_options;
+mod settled;
+pub mod target;
+
+pub use build::{action, action_message, chain, filter, plain_qdisc, qdisc, raw_action};
+pub use error::RequestError;
+pub use handle::TcText;
+pub use kinds::{ActionKindOption, FilterOption, OfKind, OptionOf, QdiscOption, TcKindOption};
+pub use restore_error::RestoreError;
+pub use restore_messages::{
+    NEW_FLAGS, Object, RTM_NEWACTION, Request, request_of, request_of_actions,
+};
+pub use target::Target;

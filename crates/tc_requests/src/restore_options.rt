@@ -1,0 +1,148 @@
+//! Options of filters, as they are in a request: with their flags cleared, without counts, their actions counted from 1.
+
+ghost use Rattle.std.specs.Prelude.{◌≡◌};
+ghost use Rattle.tc_records.specs.FilterFlags.{option_flags_word};
+ghost use Rattle.tc_flower.specs.Flower.{flower_option};
+ghost use Rattle.tc_filters.specs.U32.{u32_option};
+ghost use Rattle.tc_filters.specs.MatchAll.{matchall_option};
+ghost use Rattle.tc_filters.specs.Bpf.{bpf_option};
+ghost use Rattle.tc_options.specs.Options.{tc_option};
+ghost use Rattle.tc_requests.specs.Restoring.{Gives, seen_part};
+ghost use Rattle.tc_requests.specs.RestoredOptions.{cleared, flower_restored, u32_restored, matchall_restored, bpf_restored, option_restored};
+
+use crate::restore::{Restore, is_of, restore_all};
+use crate::restore_error::RestoreError;
+use bitflags::Flags;
+use std::alloc::Allocator;
+use tc_options::{
+    TcFilterBpfOption, TcFilterFlowerOption, TcFilterMatchAllOption, TcFilterU32Option, TcOption,
+};
+use tc_records::TcU32OptionFlags;
+
+impl<A: Allocator + Copy> Restore<A> for TcOption<A> {
+    ghost shown = { tc_option };
+
+    ghost restored = { λ types place option. option_restored place option };
+
+    fn restore(
+        self,
+        alloc: A,
+        _types: &[u16],
+        _place: usize,
+    ) -> Result<Option<TcOption<A>>, RestoreError> {
+        match self {
+            TcOption::Flower(option) => match restored_flower(alloc, option)? {
+                Some(option) => Ok(Some(TcOption::Flower(option))),
+                None => Ok(None),
+            },
+            TcOption::U32(option) => match restored_u32(alloc, option)? {
+                Some(option) => Ok(Some(TcOption::U32(option))),
+                None => Ok(None),
+            },
+            TcOption::MatchAll(option) => match restored_matchall(alloc, option)? {
+                Some(option) => Ok(Some(TcOption::MatchAll(option))),
+                None => Ok(None),
+            },
+            TcOption::Bpf(option) => match restored_bpf(option)? {
+                Some(option) => Ok(Some(TcOption::Bpf(option))),
+                None => Ok(None),
+            },
+            option => Ok(Some(option)),
+        }
+    }
+}
+
+// All bits but `InHw` and `NotInHw` of a filter's flags.
+const KEPT_FLAGS: u32 = 0xFFFF_FFF3;
+
+fn restored_flower<A: Allocator + Copy>(
+    alloc: A,
+    option: TcFilterFlowerOption<A>,
+) -> Result<Option<TcFilterFlowerOption<A>>, RestoreError>
+    ensures { Gives (seen_part flower_option result) (flower_restored option) }
+{
+    match option {
+        TcFilterFlowerOption::Flags(n) => Ok(Some(TcFilterFlowerOption::Flags(n & KEPT_FLAGS))),
+        TcFilterFlowerOption::InHwCount(_) => Ok(None),
+        TcFilterFlowerOption::Actions(actions) => {
+            let actions = restore_all(alloc, actions, &[])?;
+            Ok(Some(TcFilterFlowerOption::Actions(actions)))
+        }
+        option => Ok(Some(option)),
+    }
+}
+
+fn restored_u32<A: Allocator + Copy>(
+    alloc: A,
+    option: TcFilterU32Option<A>,
+) -> Result<Option<TcFilterU32Option<A>>, RestoreError>
+    ensures { Gives (seen_part u32_option result) (u32_restored option) }
+{
+    match option {
+        TcFilterU32Option::Flags(flags) => { Ok(Some(TcFilterU32Option::Flags(cleared(flags)))) }
+        TcFilterU32Option::Pnct(_) => Ok(None),
+        TcFilterU32Option::Action(actions) => {
+            let actions = restore_all(alloc, actions, &[])?;
+            Ok(Some(TcFilterU32Option::Action(actions)))
+        }
+        TcFilterU32Option::Other(nla) => {
+            if is_of(&[12], &nla) {
+                Ok(None)
+            } else {
+                Ok(Some(TcFilterU32Option::Other(nla)))
+            }
+        }
+        option => Ok(Some(option)),
+    }
+}
+
+fn cleared(flags: TcU32OptionFlags) -> TcU32OptionFlags
+    ensures { option_flags_word result ≡ cleared (option_flags_word flags) }
+{
+    TcU32OptionFlags::from_bits_retain(flags.bits() & KEPT_FLAGS)
+}
+
+fn restored_matchall<A: Allocator + Copy>(
+    alloc: A,
+    option: TcFilterMatchAllOption<A>,
+) -> Result<Option<TcFilterMatchAllOption<A>>, RestoreError>
+    ensures { Gives (seen_part matchall_option result) (matchall_restored option) }
+{
+    match option {
+        TcFilterMatchAllOption::Flags(n) => Ok(Some(TcFilterMatchAllOption::Flags(n & KEPT_FLAGS))),
+        TcFilterMatchAllOption::Pnct(_) => Ok(None),
+        TcFilterMatchAllOption::Action(actions) => {
+            let actions = restore_all(alloc, actions, &[])?;
+            Ok(Some(TcFilterMatchAllOption::Action(actions)))
+        }
+        TcFilterMatchAllOption::Other(nla) => {
+            if is_of(&[5], &nla) {
+                Ok(None)
+            } else {
+                Ok(Some(TcFilterMatchAllOption::Other(nla)))
+            }
+        }
+        option => Ok(Some(option)),
+    }
+}
+
+fn restored_bpf<A: Allocator>(
+    option: TcFilterBpfOption<A>,
+) -> Result<Option<TcFilterBpfOption<A>>, RestoreError>
+    ensures { Gives (seen_part bpf_option result) (bpf_restored option) }
+{
+    match option {
+        TcFilterBpfOption::FlagsGeneric(flags) => {
+            Ok(Some(TcFilterBpfOption::FlagsGeneric(cleared(flags))))
+        }
+        TcFilterBpfOption::ProgId(_) => Err(RestoreError::ProgramByNumber),
+        TcFilterBpfOption::Other(nla) => {
+            if is_of(&[1], &nla) {
+                Err(RestoreError::RawActions)
+            } else {
+                Ok(Some(TcFilterBpfOption::Other(nla)))
+            }
+        }
+        option => Ok(Some(option)),
+    }
+}
