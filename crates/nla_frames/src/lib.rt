@@ -21,7 +21,9 @@ pub use default_nla::DefaultNla;
 pub use error::{DecodeError, Res};
 pub use family::AddressFamily;
 pub use iterator::NlasIterator;
-pub use lists::read::{first_capacity, parse_frames_with, parse_list, parse_list_with};
+pub use lists::read::{
+    FrameReader, first_capacity, parse_frames_with, parse_list, parse_list_by, parse_list_with,
+};
 pub use lists::write::{
     emit_list, list_checked_len, list_fits, list_len, nested_checked_len, nested_fits, put_list,
 };

@@ -110,8 +110,10 @@ pub trait Nla: FrameMeaning {
         ensures length { result ≡ frame_length (Self.codec.write (Self.see self.now)) }
         ensures typed { Self.codec.Typed (Self.see self.now) }
     {
+        // The word comes first, so that the compiler can tell the attribute's type once, for its word and its value.
+        let word = self.kind();
         let len = put_padded(&mut buffer[NLA_HEADER_SIZE..], self);
-        put_header(buffer, len, self.kind());
+        put_header(buffer, len, word);
         NLA_HEADER_SIZE + len + padding_len(len)
     }
 
@@ -160,25 +162,24 @@ fn put_header(buffer: &mut [u8], len: usize, word: u16)
     emit_u16(buffer, (NLA_HEADER_SIZE + len) as u16);
 }
 
-/// Writes that many zeros, without a call: there are at most three.
+/// Writes that many zeros, without a call: there are at most three, and mostly none.
 fn put_zeros(buffer: &mut [u8], count: usize)
     requires few { count ≤ 3 }
     requires room { HasRoom (replicate count 0) buffer.old }
     ensures { Writes (replicate count 0) buffer.old buffer.new }
 {
-    match count {
-        0 => {}
-        1 => buffer[0] = 0,
-        2 => {
-            buffer[0] = 0;
-            buffer[1] = 0;
-        }
-        _ => {
-            buffer[0] = 0;
-            buffer[1] = 0;
-            buffer[2] = 0;
-        }
+    if count == 0 {
+        return;
     }
+    buffer[0] = 0;
+    if count == 1 {
+        return;
+    }
+    buffer[1] = 0;
+    if count == 2 {
+        return;
+    }
+    buffer[2] = 0;
 }
 
 /// How many bytes of padding follow that many bytes.

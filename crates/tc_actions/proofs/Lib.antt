@@ -2,3 +2,4 @@ pub mod Bodies
 pub mod Scanning
 pub mod AttributeLists
 pub mod ActionLists
+pub mod OptionLists

@@ -311,9 +311,11 @@ fn read_attributes<A: Allocator + Copy>(alloc: A, bytes: &[u8]) -> Res<VecTcAttr
     for frame in NlasIterator::new(bytes) {
         let frame = frame?;
         let told = kind_told(&frame)?;
+        // There is a place for the attribute before it is read, so that it is made there.
+        list.reserve(1)?;
         let item = read_attribute(alloc, &frame, told, kind)?;
         kind = kind_then(kind, told);
-        list.push(item)?;
+        list.push_reserved(item);
     }
     Ok(VecTcAttribute(list))
 }

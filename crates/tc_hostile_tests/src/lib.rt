@@ -4,6 +4,8 @@
 #[cfg(test)]
 mod alone;
 #[cfg(test)]
+mod arena;
+#[cfg(test)]
 mod arguments;
 #[cfg(test)]
 mod fronts;

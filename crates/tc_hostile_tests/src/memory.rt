@@ -248,6 +248,6 @@ fn every_refused_allocation_is_reported(rt: HostRuntime) -> Result<(), Fail> {
         assert!(rt; refusals.is_ok(), "{refusals:?}: {:?}", row.input);
         count = count.wrapping_add(refusals.unwrap_or(0));
     }
-    assert!(rt; count == 248, "{count} refusals");
+    assert!(rt; count == 249, "{count} refusals");
     Ok(())
 }

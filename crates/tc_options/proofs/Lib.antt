@@ -1,2 +1,2 @@
-pub mod OptionLists
+pub mod KindLists
 pub mod UnknownKinds

@@ -2,6 +2,7 @@
 #![tactic(auto)]
 
 pub mod laws;
+mod one_kind;
 pub mod options;
 
 pub use options::{TcOption, VecTcOption, is_known_kind};

@@ -12,9 +12,11 @@ ghost use Rattle.tc_meaning.specs.Short.{table_short};
 ghost use Rattle.tc_meaning.specs.Equal.{same_attribute, attribute_equiv, attribute_per};
 ghost use Rattle.tc_options.specs.Options.{tc_option, listed, read_options, ReadsOptions, OptionsFault};
 
+use crate::one_kind::{Bpf, Flower, FqCodel, Ingress, MatchAll, U32, read_list_of};
+use nla_frames::laws::in_hand::bytes_in_hand;
 use nla_frames::{
-    DefaultNla, FrameMeaning, Nla, NlaBuffer, Parseable, ParseableParametrized, Res, Settle,
-    parse_list_with,
+    DefaultNla, FrameMeaning, FrameReader, Nla, NlaBuffer, Parseable, ParseableParametrized, Res,
+    Settle,
 };
 use std::alloc::{Allocator, Global};
 use tc_filters::{
@@ -69,22 +71,22 @@ impl<A: Allocator> FrameMeaning for TcOption<A> {
 impl<A: Allocator + Copy> ParseableParametrized<A> for TcOption<A> {
     fn parse_with_param(alloc: A, buf: &NlaBuffer<'_>, kind: &str) -> Res<TcOption<A>> {
         if kind == TcQdiscFqCodel::KIND {
-            return Ok(TcOption::FqCodel(TcQdiscFqCodelOption::parse(alloc, buf)?));
+            return FqCodel.read(alloc, buf);
         }
         if kind == TcQdiscIngress::KIND {
-            return Ok(TcOption::Ingress(TcQdiscIngressOption::parse(alloc, buf)?));
+            return Ingress.read(alloc, buf);
         }
         if kind == TcFilterFlower::KIND {
-            return Ok(TcOption::Flower(TcFilterFlowerOption::parse(alloc, buf)?));
+            return Flower.read(alloc, buf);
         }
         if kind == TcFilterU32::KIND {
-            return Ok(TcOption::U32(TcFilterU32Option::parse(alloc, buf)?));
+            return U32.read(alloc, buf);
         }
         if kind == TcFilterMatchAll::KIND {
-            return Ok(TcOption::MatchAll(TcFilterMatchAllOption::parse(alloc, buf)?));
+            return MatchAll.read(alloc, buf);
         }
         if kind == TcFilterBpf::KIND {
-            return Ok(TcOption::Bpf(TcFilterBpfOption::parse(alloc, buf)?));
+            return Bpf.read(alloc, buf);
         }
         Ok(TcOption::Other(DefaultNla::parse(alloc, buf)?))
     }
@@ -182,11 +184,39 @@ impl<A: Allocator + Copy> VecTcOption<A> {
         // What is found and what is refused, by the function that computes both.
         ensures exact { Gives (seen listed result) (read_options kind.now (frame_of buf.now)) }
     {
-        if is_known_kind(kind) {
-            return Ok(VecTcOption(parse_list_with(alloc, buf.value(), kind)?));
-        }
-        let mut options = Vec::new(alloc);
-        options.push(TcOption::Other(DefaultNla::parse(alloc, buf)?))?;
-        Ok(VecTcOption(options))
+        // Does nothing at run time: it says that the value is bytes, for the clauses `found` and `refused`.
+        bytes_in_hand(buf.value());
+        read_by_kind(alloc, buf, kind)
     }
+}
+
+// The options of a frame under a kind, which is asked for once and not at each option.
+fn read_by_kind<A: Allocator + Copy>(
+    alloc: A,
+    buf: &NlaBuffer<'_>,
+    kind: &str,
+) -> Res<VecTcOption<A>>
+    ensures { Gives (seen listed result) (read_options kind.now (frame_of buf.now)) }
+{
+    if kind == TcQdiscFqCodel::KIND {
+        return read_list_of(alloc, buf.value(), &FqCodel);
+    }
+    if kind == TcQdiscIngress::KIND {
+        return read_list_of(alloc, buf.value(), &Ingress);
+    }
+    if kind == TcFilterFlower::KIND {
+        return read_list_of(alloc, buf.value(), &Flower);
+    }
+    if kind == TcFilterU32::KIND {
+        return read_list_of(alloc, buf.value(), &U32);
+    }
+    if kind == TcFilterMatchAll::KIND {
+        return read_list_of(alloc, buf.value(), &MatchAll);
+    }
+    if kind == TcFilterBpf::KIND {
+        return read_list_of(alloc, buf.value(), &Bpf);
+    }
+    let mut options = Vec::new(alloc);
+    options.push(TcOption::Other(DefaultNla::parse(alloc, buf)?))?;
+    Ok(VecTcOption(options))
 }

@@ -30,6 +30,8 @@ mod rewriting_actions;
 #[cfg(test)]
 mod settled;
 #[cfg(test)]
+mod sizes;
+#[cfg(test)]
 mod tables;
 #[cfg(test)]
 mod upgrade;

@@ -1,6 +1,6 @@
 //! Reading lists of frames.
 
-ghost use Rattle.std.specs.Prelude.{◌≡◌, ◌/◌, min, [], map, length, IfOk};
+ghost use Rattle.std.specs.Prelude.{◌≡◌, ◌/◌, List, ℕ, [], min, map, length, IfOk};
 ghost use Rattle.nla_frames.specs.Fault.{Gives, IfRefused, seen};
 ghost use Rattle.nla_frames.specs.Buffer.{frame_of};
 ghost use Rattle.nla_frames.specs.ListGrammar.{ReadEach, ListReads, IsListFault, IsFirstRefusal};
@@ -9,8 +9,42 @@ ghost use Rattle.nla_frames.specs.Reading.{read_list, read_each, whole, keep};
 use crate::buffer::NlaBuffer;
 use crate::error::Res;
 use crate::iterator::NlasIterator;
+use crate::meaning::FrameMeaning;
 use crate::parse::{Parseable, ParseableParametrized};
 use std::alloc::Allocator;
+
+/// A way to read frames, each as a `T`, all under one kind.
+pub trait FrameReader<A: Allocator, T: FrameMeaning> {
+    ghost kind: { Self → List ℕ };
+
+    /// The value of a frame under that kind, or its first fault.
+    fn read(&self, alloc: A, buf: &NlaBuffer<'_>) -> Res<T>
+        ensures { Gives (seen T.see result) (T.codec.read (kind self.now) (frame_of buf.now)) };
+}
+
+// Reads frames where no kind is set.
+#[derive(Drop)]
+struct KindlessReader;
+
+impl<A: Allocator, T: Parseable<A>> FrameReader<A, T> for KindlessReader {
+    ghost kind = { λ _. [] };
+
+    fn read(&self, alloc: A, buf: &NlaBuffer<'_>) -> Res<T> {
+        T::parse(alloc, buf)
+    }
+}
+
+// Reads frames under this kind.
+#[derive(Drop)]
+struct KindReader<'a>(&'a str);
+
+impl<A: Allocator, T: ParseableParametrized<A>> FrameReader<A, T> for KindReader<'_> {
+    ghost kind = { λ reader. reader.0.now };
+
+    fn read(&self, alloc: A, buf: &NlaBuffer<'_>) -> Res<T> {
+        T::parse_with_param(alloc, buf, self.0)
+    }
+}
 
 /// The values of the frames that the bytes are, or the first fault.
 pub fn parse_list<A: Allocator + Copy, T: Parseable<A> + Drop>(
@@ -23,20 +57,7 @@ pub fn parse_list<A: Allocator + Copy, T: Parseable<A> + Drop>(
     ensures exact { Gives (seen (λ v. map T.see v.items) result)
         (read_list T.codec.read keep [] bytes.now) }
 {
-    read_all(alloc, bytes)
-}
-
-fn read_all<A: Allocator + Copy, T: Parseable<A> + Drop>(alloc: A, bytes: &[u8]) -> Res<Vec<T, A>>
-    ensures { Gives (seen (λ v. map T.see v.items) result)
-        (read_list T.codec.read keep [] bytes.now) }
-{
-    let mut list = Vec::with_capacity(alloc, first_capacity(bytes))?;
-    for frame in NlasIterator::new(bytes) {
-        let frame = frame?;
-        let item = T::parse(alloc, &frame)?;
-        list.push(item)?;
-    }
-    Ok(list)
+    parse_list_by(alloc, bytes, &KindlessReader)
 }
 
 /// The values of the frames that the bytes are, each read under one kind, or the first fault.
@@ -51,22 +72,40 @@ pub fn parse_list_with<A: Allocator + Copy, T: ParseableParametrized<A> + Drop>(
     ensures exact { Gives (seen (λ v. map T.see v.items) result)
         (read_list T.codec.read keep kind.now bytes.now) }
 {
-    read_all_with(alloc, bytes, kind)
+    parse_list_by(alloc, bytes, &KindReader(kind))
 }
 
-fn read_all_with<A: Allocator + Copy, T: ParseableParametrized<A> + Drop>(
+/// The values of the frames that the bytes are, each read by this reader, or the first fault.
+pub fn parse_list_by<A: Allocator + Copy, T: FrameMeaning + Drop, R: FrameReader<A, T>>(
     alloc: A,
     bytes: &[u8],
-    kind: &str,
+    reader: &R,
+) -> Res<Vec<T, A>>
+    ensures found { IfOk result (λ v.
+        ListReads T.codec.read keep (R.kind reader.now) bytes.now (map T.see v.items)) }
+    ensures refused { IfRefused result
+        (IsListFault T.codec.read keep (R.kind reader.now) bytes.now) }
+    ensures exact { Gives (seen (λ v. map T.see v.items) result)
+        (read_list T.codec.read keep (R.kind reader.now) bytes.now) }
+{
+    read_all(alloc, bytes, reader)
+}
+
+fn read_all<A: Allocator + Copy, T: FrameMeaning + Drop, R: FrameReader<A, T>>(
+    alloc: A,
+    bytes: &[u8],
+    reader: &R,
 ) -> Res<Vec<T, A>>
     ensures { Gives (seen (λ v. map T.see v.items) result)
-        (read_list T.codec.read keep kind.now bytes.now) }
+        (read_list T.codec.read keep (R.kind reader.now) bytes.now) }
 {
     let mut list = Vec::with_capacity(alloc, first_capacity(bytes))?;
     for frame in NlasIterator::new(bytes) {
         let frame = frame?;
-        let item = T::parse_with_param(alloc, &frame, kind)?;
-        list.push(item)?;
+        // There is a place for the value before it is read, so that it is made there: a push that fails would hand it back.
+        list.reserve(1)?;
+        let item = reader.read(alloc, &frame)?;
+        list.push_reserved(item);
     }
     Ok(list)
 }
@@ -97,8 +136,9 @@ fn read_frames<A: Allocator + Copy, T: ParseableParametrized<A> + Drop>(
 {
     let mut list = Vec::with_capacity(alloc, frames.len())?;
     for frame in frames {
+        list.reserve(1)?;
         let item = T::parse_with_param(alloc, frame, kind)?;
-        list.push(item)?;
+        list.push_reserved(item);
     }
     Ok(list)
 }

@@ -1,8 +1,10 @@
 //! The attributes of an action.
 
-ghost use Rattle.std.specs.Prelude.{◌≡◌};
+ghost use Rattle.std.specs.Prelude.{◌≡◌, string_bytes};
 ghost use Rattle.std.specs.Ordering.{on};
+ghost use Rattle.nla_frames.specs.Fault.{Gives, seen};
 ghost use Rattle.nla_frames.specs.Frame.{type_of};
+ghost use Rattle.nla_frames.specs.Value.{text};
 ghost use Rattle.tc_canon.specs.Descriptor.{table};
 ghost use Rattle.tc_canon.specs.Tables.Actions.{action_attributes};
 ghost use Rattle.tc_meaning.specs.Tree.{Attribute};
@@ -13,7 +15,7 @@ ghost use Rattle.tc_meaning.specs.Equal.{same_attribute, attribute_equiv, attrib
 ghost use Rattle.tc_values.specs.Row.{attribute_of, IsRow, ShownAs, reads_at};
 ghost use Rattle.tc_actions.specs.ActionAttribute.{action_attribute, attribute_body};
 
-use crate::actions::option::TcActionOption;
+use crate::actions::option::{TcActionOption, read_options};
 use crate::actions::types::{
     TCA_ACT_COOKIE, TCA_ACT_IN_HW_COUNT, TCA_ACT_INDEX, TCA_ACT_KIND, TCA_ACT_OPTIONS,
     TCA_ACT_STATS,
@@ -22,6 +24,7 @@ use crate::stats::stats2::TcStats2;
 use nla_frames::{
     DefaultNla, FrameMeaning, NLA_F_NESTED, NLA_TYPE_MASK, Nla, NlaBuffer, Parseable,
     ParseableParametrized, Res, SetsKind, Settle, parse_list_with, parse_string, parse_u32,
+    strip_nul,
 };
 use std::alloc::{Allocator, Global};
 use tc_values::{Either, Items, Value, same_row};
@@ -71,8 +74,8 @@ impl<A: Allocator + Copy> ParseableParametrized<A> for TcActionAttribute<A> {
     fn parse_with_param(alloc: A, buf: &NlaBuffer<'_>, kind: &str) -> Res<TcActionAttribute<A>> {
         let value = buf.value();
         match buf.kind() {
-            TCA_ACT_KIND => Ok(TcActionAttribute::Kind(parse_string(alloc, value)?)),
-            TCA_ACT_OPTIONS => Ok(TcActionAttribute::Options(parse_list_with(alloc, value, kind)?)),
+            TCA_ACT_KIND => Ok(TcActionAttribute::Kind(read_kind(alloc, value, kind)?)),
+            TCA_ACT_OPTIONS => Ok(TcActionAttribute::Options(read_options(alloc, value, kind)?)),
             TCA_ACT_INDEX => Ok(TcActionAttribute::Index(parse_u32(value)?)),
             TCA_ACT_STATS => Ok(TcActionAttribute::Stats(parse_list_with(alloc, value, kind)?)),
             TCA_ACT_COOKIE => Ok(TcActionAttribute::Cookie(Vec::from_slice(alloc, value)?)),
@@ -80,6 +83,17 @@ impl<A: Allocator + Copy> ParseableParametrized<A> for TcActionAttribute<A> {
             _ => Ok(TcActionAttribute::Other(DefaultNla::parse(alloc, buf)?)),
         }
     }
+}
+
+// The text of a kind. Where its bytes are those of the kind in force, as in every action, they are a text: that isn't
+// tested again.
+fn read_kind<A: Allocator>(alloc: A, value: &[u8], kind: &str) -> Res<String<A>>
+    ensures { Gives (seen string_bytes result) (text value.now) }
+{
+    if strip_nul(value) == kind.as_bytes() {
+        return Ok(String::from_str(alloc, kind)?);
+    }
+    parse_string(alloc, value)
 }
 
 impl<A: Allocator> TcActionAttribute<A> {

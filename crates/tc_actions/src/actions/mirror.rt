@@ -57,6 +57,7 @@ impl<A: Allocator> FrameMeaning for TcActionMirrorOption<A> {
 }
 
 impl<A: Allocator> Parseable<A> for TcActionMirrorOption<A> {
+    #[inline(always)]
     fn parse(alloc: A, buf: &NlaBuffer<'_>) -> Res<TcActionMirrorOption<A>> {
         let value = buf.value();
         match buf.kind() {

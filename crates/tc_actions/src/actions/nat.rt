@@ -57,6 +57,7 @@ impl<A: Allocator> FrameMeaning for TcActionNatOption<A> {
 }
 
 impl<A: Allocator> Parseable<A> for TcActionNatOption<A> {
+    #[inline(always)]
     fn parse(alloc: A, buf: &NlaBuffer<'_>) -> Res<TcActionNatOption<A>> {
         let value = buf.value();
         match buf.kind() {

@@ -1,7 +1,9 @@
 //! An action's options, by its kind.
 
 ghost use Rattle.std.specs.Ordering.{on};
-ghost use Rattle.std.specs.Prelude.{◌≡◌};
+ghost use Rattle.std.specs.Prelude.{◌≡◌, map};
+ghost use Rattle.nla_frames.specs.Fault.{Gives, seen};
+ghost use Rattle.nla_frames.specs.Reading.{read_list, keep};
 ghost use Rattle.tc_canon.specs.Descriptor.{by_kind, is_known};
 ghost use Rattle.tc_canon.specs.Tables.Actions.{action_option_kinds};
 ghost use Rattle.tc_meaning.specs.Tree.{Attribute};
@@ -12,9 +14,11 @@ ghost use Rattle.tc_actions.specs.ActionOption.{action_option};
 
 use crate::actions::mirror::{TcActionMirror, TcActionMirrorOption};
 use crate::actions::nat::{TcActionNat, TcActionNatOption};
+use crate::actions::one_kind::{Mirror, Nat, TunnelKey};
 use crate::actions::tunnel_key::{TcActionTunnelKey, TcActionTunnelKeyOption};
 use nla_frames::{
-    DefaultNla, FrameMeaning, Nla, NlaBuffer, Parseable, ParseableParametrized, Res, Settle,
+    DefaultNla, FrameMeaning, FrameReader, Nla, NlaBuffer, Parseable, ParseableParametrized, Res,
+    Settle, parse_list_by, parse_list_with,
 };
 use std::alloc::{Allocator, Global};
 use tc_values::is_settled_of_kind;
@@ -45,16 +49,37 @@ impl<A: Allocator> FrameMeaning for TcActionOption<A> {
 impl<A: Allocator> ParseableParametrized<A> for TcActionOption<A> {
     fn parse_with_param(alloc: A, buf: &NlaBuffer<'_>, kind: &str) -> Res<TcActionOption<A>> {
         if kind == TcActionMirror::KIND {
-            return Ok(TcActionOption::Mirror(TcActionMirrorOption::parse(alloc, buf)?));
+            return Mirror.read(alloc, buf);
         }
         if kind == TcActionNat::KIND {
-            return Ok(TcActionOption::Nat(TcActionNatOption::parse(alloc, buf)?));
+            return Nat.read(alloc, buf);
         }
         if kind == TcActionTunnelKey::KIND {
-            return Ok(TcActionOption::TunnelKey(TcActionTunnelKeyOption::parse(alloc, buf)?));
+            return TunnelKey.read(alloc, buf);
         }
         Ok(TcActionOption::Other(DefaultNla::parse(alloc, buf)?))
     }
+}
+
+/// The options of an action of this kind, or the first fault. The kind is asked for once, and not at each option.
+pub(crate) fn read_options<A: Allocator + Copy>(
+    alloc: A,
+    bytes: &[u8],
+    kind: &str,
+) -> Res<Vec<TcActionOption<A>, A>>
+    ensures { Gives (seen (λ v. map action_option v.items) result)
+        (read_list (table_codec (by_kind action_option_kinds)).read keep kind.now bytes.now) }
+{
+    if kind == TcActionMirror::KIND {
+        return parse_list_by(alloc, bytes, &Mirror);
+    }
+    if kind == TcActionNat::KIND {
+        return parse_list_by(alloc, bytes, &Nat);
+    }
+    if kind == TcActionTunnelKey::KIND {
+        return parse_list_by(alloc, bytes, &TunnelKey);
+    }
+    parse_list_with(alloc, bytes, kind)
 }
 
 // True if the options of this kind are known.

@@ -90,6 +90,7 @@ impl<A: Allocator> FrameMeaning for TcActionTunnelKeyOption<A> {
 }
 
 impl<A: Allocator> Parseable<A> for TcActionTunnelKeyOption<A> {
+    #[inline(always)]
     fn parse(alloc: A, buf: &NlaBuffer<'_>) -> Res<TcActionTunnelKeyOption<A>> {
         let value = buf.value();
         match buf.kind() {

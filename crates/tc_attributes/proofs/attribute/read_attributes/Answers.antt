@@ -41,7 +41,7 @@ pub loop-frame-preserved : goal.loop-frame-preserved
 loop-frame-preserved g c =
     let kind = c.kind_then-kind.ensures ∙ kind_told_then _ _ _ c.in_ok-told.ensures in (
       c.kind_then-kind.utf8,
-      rw (c.in_ok-push.ensures.items, map_push, kind)
+      rw (c.push_reserved.ensures.items, c.in_ok-reserve.ensures.items, map_push, kind)
           (goes_on (table_codec (table attributes)).read kind_of_frame _ _ _ _ c.loop-frame.invariant.1 _ _ _
           (rw c.in_ok-frame.was at c.in-Some.ensures.steps) c.in_ok-item.ensures),
     )

@@ -14,7 +14,7 @@ returns-in_err-item g c =
 pub loop-frame-preserved : goal.loop-frame-preserved
 loop-frame-preserved g c =
     let next = frames_more frame_of c.args.frames.now c.loop-frame.frame-index c.frame-item.result c.loop-frame-test.true c.frame-item.is in
-    rw (c.in_ok-push.ensures.items, map_push)
+    rw (c.push_reserved.ensures.items, c.in_ok-reserve.ensures.items, map_push)
     (goes_on g.T.FrameMeaning.codec.read keep c.args.kind.now _ _ _ c.loop-frame.invariant _ _ _ next c.in_ok-item.ensures)
 
 pub returns : goal.returns

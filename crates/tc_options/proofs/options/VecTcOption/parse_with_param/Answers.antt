@@ -1,14 +1,19 @@
-use Rattle.std.proofs.Common.{sym, ◌∙◌}
 use Rattle.nla_frames.specs.Buffer.{frame_of}
-use Rattle.tc_options.proofs.OptionLists.{known_found, known_reads}
+use Rattle.nla_frames.proofs.Outcomes.{IfOk-Gives, IfRefused-Gives}
+use Rattle.tc_options.specs.Options.{listed, read_options, ReadsOptions, OptionsFault}
+use Rattle.tc_options.proofs.KindLists.{options_found, options_fault}
 use Rattle.tc_options.proofs.options.VecTcOption.parse_with_param.Goals as goal
 
-pub returns-then-is_known_kind-clause-found : goal.returns-then-is_known_kind-clause-found
-returns-then-is_known_kind-clause-found g c =
-    let told = sym c.is_known_kind.ensures ∙ c.if-is_known_kind.true in
-    known_found c.args.kind.now (frame_of c.args.buf.now) _ told (rw c.value.ensures.bytes at c.in_ok-parse_list_with.ensures.found)
+pub returns-clause-found : goal.returns-clause-found
+returns-clause-found g c =
+    let f = frame_of c.args.buf.now in
+    let are_bytes = rw c.value.ensures.bytes at c.bytes_in_hand.ensures in
+    IfOk-Gives listed c.read_by_kind.result (read_options c.args.kind.now f) c.read_by_kind.ensures
+    (ReadsOptions c.args.kind.now f) (options_found c.args.kind.now f are_bytes)
 
-pub returns-then-is_known_kind-clause-exact : goal.returns-then-is_known_kind-clause-exact
-returns-then-is_known_kind-clause-exact g c =
-    let told = sym c.is_known_kind.ensures ∙ c.if-is_known_kind.true in
-    known_reads c.args.kind.now (frame_of c.args.buf.now) _ told (rw c.value.ensures.bytes at c.in_ok-parse_list_with.ensures.exact)
+pub returns-clause-refused : goal.returns-clause-refused
+returns-clause-refused g c =
+    let f = frame_of c.args.buf.now in
+    let are_bytes = rw c.value.ensures.bytes at c.bytes_in_hand.ensures in
+    IfRefused-Gives listed c.read_by_kind.result (read_options c.args.kind.now f) c.read_by_kind.ensures
+    (OptionsFault c.args.kind.now f) (options_fault c.args.kind.now f are_bytes)

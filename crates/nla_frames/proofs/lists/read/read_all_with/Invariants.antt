@@ -1,9 +1,0 @@
-use Rattle.std.proofs.Common.{◌≡◌, map}
-use Rattle.nla_frames.specs.Iterator.{items_left}
-use Rattle.nla_frames.specs.Reading.{before, read_each, read_list, keep}
-use Rattle.nla_frames.proofs.lists.read.read_all_with.Given as goal
-
-abbrev pub invariant-loop-frame : goal.invariant-loop-frame
-invariant-loop-frame g l =
-    before (map g.T.FrameMeaning.see l.list.items) (read_each g.T.FrameMeaning.codec.read keep l.kind (items_left l.frame-iterator))
-    ≡ read_list g.T.FrameMeaning.codec.read keep l.kind l.bytes
