@@ -1,10 +1,10 @@
 //! Lengths and numbers that can't be.
 
-use crate::files::{Format, beginning, file_of, message, messages};
 use crate::reading::{fault_of, kinds, read_whole};
 use std::alloc::{AllocError, Global};
 use std::test::Fail;
 use tc_capture::CaptureError;
+use tc_test_captures::{Format, beginning, file_of, message, messages};
 
 // A file whose byte at a place is another.
 fn with_byte(alloc: Global, file: &[u8], at: usize, byte: u8) -> Result<Vec<u8>, AllocError> {

@@ -1,9 +1,9 @@
 //! Files that are cut, and packets of which a capture holds only the front.
 
-use crate::files::{FORMATS, Format, beginning, file_of, messages, put_packet};
 use crate::reading::{kinds, read_whole};
 use std::test::Fail;
 use tc_capture::CaptureError;
+use tc_test_captures::{FORMATS, Format, beginning, file_of, messages, put_packet};
 
 #[test]
 fn each_cut(rt: HostRuntime) -> Result<(), Fail> {

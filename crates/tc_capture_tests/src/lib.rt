@@ -6,8 +6,6 @@ mod broken;
 #[cfg(test)]
 mod cuts;
 #[cfg(test)]
-mod files;
-#[cfg(test)]
 mod reading;
 #[cfg(test)]
 mod same;

@@ -1,9 +1,9 @@
 //! The same messages in each format.
 
-use crate::files::{FORMATS, MICROSECONDS, SECONDS, file_of, messages};
 use crate::reading::{kinds, read_whole};
 use std::test::Fail;
 use tc_capture::Time;
+use tc_test_captures::{FORMATS, MICROSECONDS, SECONDS, file_of, messages};
 
 #[test]
 fn each_format_holds_the_same(rt: HostRuntime) -> Result<(), Fail> {

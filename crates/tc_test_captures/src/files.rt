@@ -5,13 +5,13 @@ use std::test::Fail;
 use tc_test_messages::{Form, captured};
 
 /// The time of each packet: seconds and microseconds.
-pub(crate) const SECONDS: u32 = 1_700_000_000;
+pub const SECONDS: u32 = 1_700_000_000;
 
-pub(crate) const MICROSECONDS: u32 = 123_456;
+pub const MICROSECONDS: u32 = 123_456;
 
 /// A file format.
 #[derive(Clone, Copy, PartialEq, Eq, Debug)]
-pub(crate) enum Format {
+pub enum Format {
     Stream,
     Microseconds,
     Nanoseconds,
@@ -19,7 +19,7 @@ pub(crate) enum Format {
 }
 
 /// All formats, little-endian and big-endian; a stream has one order.
-pub(crate) const FORMATS: [(Format, bool); 7] = [
+pub const FORMATS: [(Format, bool); 7] = [
     (Format::Stream, false),
     (Format::Microseconds, false),
     (Format::Microseconds, true),
@@ -48,7 +48,7 @@ fn put_u32(file: &mut Vec<u8>, is_big: bool, number: u32) -> Result<(), AllocErr
 }
 
 /// A netlink message with a payload, and its padding.
-pub(crate) fn message(
+pub fn message(
     alloc: Global,
     kind: u16,
     sequence: u32,
@@ -70,7 +70,7 @@ pub(crate) fn message(
 }
 
 /// The captured messages: qdiscs and the like as RTM_NEWQDISC, actions as RTM_NEWACTION.
-pub(crate) fn messages(alloc: Global) -> Result<Vec<Vec<u8>>, Fail> {
+pub fn messages(alloc: Global) -> Result<Vec<Vec<u8>>, Fail> {
     let mut all = Vec::new(alloc);
     let mut sequence = 0u32;
     for row in &captured(alloc)? {
@@ -90,11 +90,7 @@ fn put_cooked(file: &mut Vec<u8>) -> Result<(), AllocError> {
 }
 
 /// What a file has before its packets.
-pub(crate) fn beginning(
-    alloc: Global,
-    format: Format,
-    is_big: bool,
-) -> Result<Vec<u8>, AllocError> {
+pub fn beginning(alloc: Global, format: Format, is_big: bool) -> Result<Vec<u8>, AllocError> {
     let mut file = Vec::new(alloc);
     match format {
         Format::Stream => {}
@@ -137,7 +133,7 @@ pub(crate) fn beginning(
 }
 
 /// Appends a packet, of which the capture holds the first bytes.
-pub(crate) fn put_packet(
+pub fn put_packet(
     file: &mut Vec<u8>,
     format: Format,
     is_big: bool,
@@ -184,7 +180,7 @@ pub(crate) fn put_packet(
 }
 
 /// A file of packets of a message each.
-pub(crate) fn file_of(
+pub fn file_of(
     alloc: Global,
     format: Format,
     is_big: bool,

@@ -1,0 +1,15 @@
+use Rattle.std.proofs.Common.{◌∙◌}
+use Rattle.tc_show.proofs.Clean.{clean_step}
+use Rattle.tc_show.proofs.capture.show_capture.Goals as goal
+
+pub returns-in_err-show_piece-clause-clean : goal.returns-in_err-show_piece-clause-clean
+returns-in_err-show_piece-clause-clean g c = clean_step _ _ _ _ _ c.loop.invariant.clean c.loop.invariant.form c.show_piece.ensures.clean
+
+pub loop-preserved : goal.loop-preserved
+loop-preserved g c = record {
+  form = c.show_piece.ensures.form ∙ c.loop.invariant.form;
+  clean = clean_step _ _ _ _ _ c.loop.invariant.clean c.loop.invariant.form c.show_piece.ensures.clean;
+}
+
+pub returns-then-not-branch-clause-clean : goal.returns-then-not-branch-clause-clean
+returns-then-not-branch-clause-clean g c = clean_step _ _ _ _ _ c.loop.invariant.clean c.loop.invariant.form c.show_piece.ensures.clean

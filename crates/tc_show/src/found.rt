@@ -1,0 +1,157 @@
+//! A message of traffic control that was found.
+
+use crate::asked::{Asked, Form};
+use nla_frames::strip_nul;
+use std::alloc::{AllocError, Allocator};
+use tc_capture::{Holds, NetlinkMessage, Time, rtm_of};
+use tc_index::{Attribute, Attributes};
+use tc_names::Table;
+use tc_outline::{Page, What};
+
+/// What is shown of the header of a netlink message.
+#[derive(Clone, Copy)]
+pub(crate) struct Header {
+    /// The name of the message type, such as `RTM_NEWQDISC`.
+    pub(crate) name: &'static str,
+    /// `nlmsg_flags`.
+    pub(crate) flags: u16,
+    /// `nlmsg_seq`.
+    pub(crate) sequence: u32,
+}
+
+/// A message of traffic control: the payload of a netlink message.
+#[derive(Clone, Copy)]
+pub(crate) struct Found<'a> {
+    /// When it was captured.
+    pub(crate) time: Option<Time>,
+    /// The header of its netlink message, where there is one.
+    pub(crate) header: Option<Header>,
+    pub(crate) holds: Holds,
+    pub(crate) what: What,
+    pub(crate) payload: &'a [u8],
+}
+
+impl<'a> Found<'a> {
+    /// The message in a netlink message; `None` where that is no traffic control.
+    pub(crate) fn in_netlink(
+        time: Option<Time>,
+        message: &NetlinkMessage<'a>,
+    ) -> Option<Found<'a>> {
+        let rtm = rtm_of(message.kind)?;
+        let what = What::of_type(message.kind)?;
+        let header = Header {
+            name: rtm.name,
+            flags: message.flags,
+            sequence: message.sequence,
+        };
+        Some(Found {
+            time,
+            header: Some(header),
+            holds: rtm.holds,
+            what,
+            payload: message.payload,
+        })
+    }
+
+    /// A message without the header of a netlink message.
+    pub(crate) fn alone(holds: Holds, payload: &'a [u8]) -> Found<'a> {
+        Found {
+            time: None,
+            header: None,
+            holds,
+            what: what_of(holds, payload),
+            payload,
+        }
+    }
+
+    /// The name of its type; empty where there is no header.
+    pub(crate) fn name(&self) -> &'static str {
+        match &self.header {
+            Some(header) => header.name,
+            None => "",
+        }
+    }
+
+    /// True if its own header is whole.
+    pub(crate) fn has_header(&self) -> bool {
+        match self.holds {
+            Holds::Tc => self.payload.len() >= 20,
+            Holds::Action => self.payload.len() >= 4,
+        }
+    }
+
+    /// Its kind: the last `TCA_KIND` of a traffic control message, the kind of the first action of an action message;
+    /// empty where it has none.
+    pub(crate) fn kind(&self) -> &'a [u8] {
+        kind_in(self.holds, self.payload)
+    }
+
+    /// The number of its interface; `None` of an action message.
+    pub(crate) fn interface(&self) -> Option<u32> {
+        match (self.holds, self.payload) {
+            (Holds::Tc, [_, _, _, _, a, b, c, d, ..]) => Some(u32::from_le_bytes([*a, *b, *c, *d])),
+            _ => None,
+        }
+    }
+}
+
+// What a message without a header speaks of, as far as its kind says so.
+fn what_of(holds: Holds, payload: &[u8]) -> What {
+    match holds {
+        Holds::Action => What::Action,
+        Holds::Tc => match kind_in(holds, payload) {
+            b"flower" | b"u32" | b"matchall" | b"bpf" => What::Filter,
+            _ => What::Qdisc,
+        },
+    }
+}
+
+fn kind_in(holds: Holds, payload: &[u8]) -> &[u8] {
+    match holds {
+        Holds::Tc => match Attributes::of_tc(payload) {
+            Ok(attributes) => last_kind(attributes),
+            Err(_) => &[],
+        },
+        Holds::Action => match Attributes::of_action(payload) {
+            Ok(attributes) => first_action_kind(attributes),
+            Err(_) => &[],
+        },
+    }
+}
+
+fn last_kind<'a>(attributes: Attributes<'a>) -> &'a [u8] {
+    let mut kind: &'a [u8] = &[];
+    for attribute in attributes {
+        match attribute {
+            Ok(attribute) => {
+                if is_kind_of_message(&attribute) {
+                    kind = strip_nul(attribute.value);
+                }
+            }
+            Err(_) => return kind,
+        }
+    }
+    kind
+}
+
+fn first_action_kind<'a>(attributes: Attributes<'a>) -> &'a [u8] {
+    for attribute in attributes {
+        match attribute {
+            Ok(attribute) => {
+                if is_kind_of_action(&attribute) {
+                    return strip_nul(attribute.value);
+                }
+            }
+            Err(_) => return &[],
+        }
+    }
+    &[]
+}
+
+fn is_kind_of_message(attribute: &Attribute<'_>) -> bool {
+    matches!(attribute.table, Table::Message) && attribute.number() == 1
+}
+
+fn is_kind_of_action(attribute: &Attribute<'_>) -> bool {
+    matches!(attribute.table, Table::Action) && attribute.number() == 1
+}

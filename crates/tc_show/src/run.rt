@@ -1,0 +1,108 @@
+//! A whole run.
+
+ghost use Rattle.std.specs.Prelude.{◌≡◌, ◌≢◌, false};
+ghost use Rattle.tc_show.specs.declared.asked.Form.TheVariants.{Json};
+ghost use Rattle.tc_show.specs.Writing.{GrowsClean};
+
+use crate::asked::Asked;
+use crate::capture::show_capture;
+use crate::desk::Desk;
+use crate::input::Input;
+use crate::lines::{is_hex_text, show_lines};
+use crate::status::Stop;
+use std::alloc::{Allocator, Global};
+use std::io::{Read, Write};
+use tc_capture::Capture;
+
+/// How a run ended.
+#[derive(Clone, Copy)]
+pub struct Ended {
+    /// Why it ended before the end of its input, if it did.
+    pub outcome: Result<(), Stop>,
+    /// True if a message was refused, or the input is broken somewhere.
+    pub has_refused: bool,
+}
+
+/// Shows all messages of an input. What is shown is written before the next read, and at the end.
+pub fn run<A: Allocator + Copy, R: Read, W: Write>(
+    alloc: A,
+    json: Global,
+    asked: &Asked<'_>,
+    reader: &mut R,
+    writer: &mut W,
+) -> Ended
+    ensures clean { asked.now.form ≢ Json → GrowsClean (W.contents writer.old) (W.contents writer.new) }
+{
+    let mut desk = Desk::new(alloc, json, asked);
+    let outcome = show_and_write(&mut desk, reader, writer);
+    Ended {
+        outcome,
+        has_refused: desk.tally.has_refused(),
+    }
+}
+
+// Shows all messages, and writes what is shown, however it ends.
+fn show_and_write<A: Allocator + Copy, R: Read, W: Write>(
+    desk: &mut Desk<'_, A>,
+    reader: &mut R,
+    writer: &mut W,
+) -> Result<(), Stop>
+    ensures clean { desk.old.paper.is_json ≡ false → GrowsClean (W.contents writer.old) (W.contents writer.new) }
+{
+    let shown = show(desk, reader, writer);
+    let written = desk.write(writer);
+    first_stop(shown, written)
+}
+
+fn first_stop(shown: Result<(), Stop>, written: Result<(), Stop>) -> Result<(), Stop> {
+    match shown {
+        Ok(()) => written,
+        Err(stop) => Err(stop),
+    }
+}
+
+// Shows all messages, and their summary.
+#[tactic(auto, using(crate::proofs::Clean::clean_none))]
+fn show<A: Allocator + Copy, R: Read, W: Write>(
+    desk: &mut Desk<'_, A>,
+    reader: &mut R,
+    writer: &mut W,
+) -> Result<(), Stop>
+    ensures form { desk.new.paper.is_json ≡ desk.old.paper.is_json }
+    ensures clean { desk.old.paper.is_json ≡ false → GrowsClean (W.contents writer.old) (W.contents writer.new) }
+{
+    let mut input = first_of(desk.alloc, reader)?;
+    show_input(desk, &mut input, reader, writer)?;
+    Ok(desk.put_summary()?)
+}
+
+// The first bytes of an input: four, where there are so many.
+fn first_of<A: Allocator + Copy, R: Read>(alloc: A, reader: &mut R) -> Result<Input<A>, Stop> {
+    let mut input = Input::new(alloc)?;
+    for _ in 0..4u8 {
+        if input.rest().len() < 4 {
+            if !input.more(reader)? {
+                break;
+            }
+        }
+    }
+    Ok(input)
+}
+
+// Shows a capture, or lines of hex.
+#[tactic(auto, using(crate::proofs::Clean::clean_none))]
+fn show_input<A: Allocator + Copy, R: Read, W: Write>(
+    desk: &mut Desk<'_, A>,
+    input: &mut Input<A>,
+    reader: &mut R,
+    writer: &mut W,
+) -> Result<(), Stop>
+    ensures form { desk.new.paper.is_json ≡ desk.old.paper.is_json }
+    ensures clean { desk.old.paper.is_json ≡ false → GrowsClean (W.contents writer.old) (W.contents writer.new) }
+{
+    match Capture::of_first(input.rest()) {
+        Some(capture) => show_capture(desk, input, capture, reader, writer),
+        None if is_hex_text(input.rest()) => show_lines(desk, input, reader, writer),
+        None => Err(Stop::NoCapture),
+    }
+}

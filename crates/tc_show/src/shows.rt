@@ -1,0 +1,47 @@
+//! The types of messages that are shown.
+
+ghost use Rattle.std.specs.Prelude.{◌↔◌, IsTrue, List, ℕ, []};
+ghost use Rattle.tc_wire.specs.Facade.{CanonTc, CanonAct};
+
+use std::alloc::Allocator;
+use tc_json::Show;
+use tc_wire::{
+    Emitable, ParseableBytes, TcActionMessage, TcMessage, is_canonical_action, is_canonical_tc,
+};
+
+/// A type of message that is shown.
+pub(crate) trait Shows<A: Allocator>: ParseableBytes<A> + Emitable + Show {
+    ghost Canonical: { List ℕ → Type 0 };
+
+    /// True if the message's bytes, where it can be written, read back as itself.
+    fn reads_back(&self) -> bool
+        ensures { IsTrue result ↔ Self.codec.Settled [] (Self.see self.now) };
+
+    /// True if bytes are the canonical form of a message.
+    fn are_canonical(bytes: &[u8]) -> bool
+        ensures { IsTrue result ↔ Canonical bytes.now };
+}
+
+impl<A: Allocator + Copy> Shows<A> for TcMessage<A> {
+    ghost Canonical = { CanonTc };
+
+    fn reads_back(&self) -> bool {
+        TcMessage::is_settled(self)
+    }
+
+    fn are_canonical(bytes: &[u8]) -> bool {
+        is_canonical_tc(bytes)
+    }
+}
+
+impl<A: Allocator + Copy> Shows<A> for TcActionMessage<A> {
+    ghost Canonical = { CanonAct };
+
+    fn reads_back(&self) -> bool {
+        TcActionMessage::is_settled(self)
+    }
+
+    fn are_canonical(bytes: &[u8]) -> bool {
+        is_canonical_action(bytes)
+    }
+}

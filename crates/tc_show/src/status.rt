@@ -1,0 +1,48 @@
+//! The exit status.
+
+ghost use Rattle.std.specs.Prelude.{◌≡◌};
+ghost use Rattle.tc_show.specs.Status.{refused_status, status_of};
+ghost use Rattle.tc_show.specs.declared.status.Stop.TheVariants.{NoMemory};
+
+use std::alloc::AllocError;
+
+/// Why a run ended before the end of its input.
+#[derive(Clone, Copy, PartialEq, Eq)]
+pub enum Stop {
+    /// The input is no capture, and no lines of hex.
+    NoCapture,
+    /// The output was closed.
+    Closed,
+    /// The input failed.
+    Read,
+    /// The output failed.
+    Write,
+    /// Memory ran out.
+    NoMemory,
+}
+
+impl From<AllocError> for Stop {
+    ghost from_gives = { λ _ e. e ≡ NoMemory };
+
+    fn from(_e: AllocError) -> Stop {
+        Stop::NoMemory
+    }
+}
+
+/// The exit status: 3 if a stream failed or memory ran out, 2 if there was no capture, 1 if something was refused, else
+/// 0.
+pub fn status_of(outcome: Result<(), Stop>, has_refused: bool) -> u8
+    ensures { result ≡ status_of outcome has_refused }
+{
+    match outcome {
+        Err(Stop::Read | Stop::Write | Stop::NoMemory) => 3,
+        Err(Stop::NoCapture) => 2,
+        Ok(()) | Err(Stop::Closed) => refused_status(has_refused),
+    }
+}
+
+fn refused_status(has_refused: bool) -> u8
+    ensures { result ≡ refused_status has_refused }
+{
+    if has_refused { 1 } else { 0 }
+}

@@ -1,0 +1,39 @@
+//! What a run has met.
+
+use crate::note::Note;
+use serde::Serialize;
+
+/// How many there were of what, `u64::MAX` at most.
+#[derive(Clone, Copy, Default, Serialize)]
+pub(crate) struct Tally {
+    /// Messages that were shown, refused ones too.
+    pub(crate) shown: u64,
+    /// Messages that were refused.
+    pub(crate) refused: u64,
+    /// Messages of traffic control that weren't chosen.
+    pub(crate) left_out: u64,
+    /// Netlink messages that are no traffic control.
+    pub(crate) others: u64,
+    /// Packets of which the capture holds a part.
+    pub(crate) cut: u64,
+    /// Packets and lines that are too long.
+    pub(crate) skipped: u64,
+    /// Places where a capture, a packet or a line can't be read on.
+    pub(crate) broken: u64,
+}
+
+impl Tally {
+    /// Counts a place without a message.
+    pub(crate) fn count(&mut self, note: &Note) {
+        match note {
+            Note::Cut(_) => self.cut = self.cut.saturating_add(1),
+            Note::Skipped(_) => self.skipped = self.skipped.saturating_add(1),
+            Note::Broken(_) | Note::NoHex => self.broken = self.broken.saturating_add(1),
+        }
+    }
+
+    /// True if something was refused.
+    pub(crate) fn has_refused(&self) -> bool {
+        self.refused != 0 || self.broken != 0
+    }
+}
