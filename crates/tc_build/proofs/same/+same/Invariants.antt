@@ -1,0 +1,12 @@
+use Rattle.std.proofs.Common.{◌≡◌, drop}
+use Rattle.serde_json.specs.View.{items_view, members_view}
+use Rattle.tc_build.proofs.same.+same.Given as goal
+
+-- what is the same from here on is the same from the start
+abbrev pub invariant-same_items-loop-index : goal.invariant-same_items-loop-index
+invariant-same_items-loop-index l =
+    items_view (drop l.index l.made.items) ≡ items_view (drop l.index l.given.items) → items_view l.made.items ≡ items_view l.given.items
+
+abbrev pub invariant-same_members-loop-name : goal.invariant-same_members-loop-name
+invariant-same_members-loop-name l =
+    members_view l.name-iterator ≡ members_view l.others → members_view l.made.entries ≡ members_view l.given.entries

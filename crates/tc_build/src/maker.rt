@@ -1,0 +1,134 @@
+//! The bytes that are made, and the place in the JSON that they are made of.
+
+use crate::error::{MakeError, Wanted};
+use serde_json::Value;
+use std::alloc::{AllocError, Global};
+
+/// A step of a JSON pointer.
+#[derive(Clone, Copy)]
+pub(crate) enum Step<'v> {
+    /// To the member of an object.
+    Member(&'v str),
+    /// To an item of a list.
+    Item(usize),
+}
+
+/// What is being made, and of which part of the JSON.
+#[derive(Drop)]
+pub(crate) struct Maker<'v> {
+    pub alloc: Global,
+    /// The bytes so far: of the message, or of the value of an attribute that has begun.
+    pub bytes: Vec<u8>,
+    steps: Vec<Step<'v>>,
+}
+
+impl<'v> Maker<'v> {
+    pub(crate) fn new(alloc: Global) -> Maker<'v> {
+        Maker {
+            alloc,
+            bytes: Vec::new(alloc),
+            steps: Vec::new(alloc),
+        }
+    }
+
+    /// Appends bytes.
+    pub(crate) fn put(&mut self, bytes: &[u8]) -> Result<(), MakeError> {
+        Ok(self.bytes.extend_from_slice(bytes)?)
+    }
+
+    /// Appends so many zeros.
+    pub(crate) fn put_zeros(&mut self, count: u16) -> Result<(), MakeError> {
+        for _ in 0..count {
+            self.put(&[0])?;
+        }
+        Ok(())
+    }
+
+    /// Goes to a part of this place.
+    pub(crate) fn enter(&mut self, step: Step<'v>) -> Result<(), MakeError> {
+        match self.steps.push(step) {
+            Ok(()) => Ok(()),
+            Err(_) => Err(MakeError::OutOfMemory),
+        }
+    }
+
+    /// Goes back to what this place is a part of.
+    pub(crate) fn leave(&mut self) {
+        self.steps.pop();
+    }
+
+    /// The error of the value at this place.
+    pub(crate) fn wrong(&self, found: &Value, wanted: Wanted) -> MakeError {
+        match found_text(self.alloc, found) {
+            Ok(found) => self.wrong_text(found, wanted),
+            Err(_) => MakeError::OutOfMemory,
+        }
+    }
+
+    /// The error of a name, the last step of this place.
+    pub(crate) fn wrong_name(&self, found: &str, wanted: Wanted) -> MakeError {
+        match Value::try_from_str(self.alloc, found) {
+            Ok(name) => self.wrong(&name, wanted),
+            Err(_) => MakeError::OutOfMemory,
+        }
+    }
+
+    /// The error of a member that isn't there; its name is the last step of this place.
+    pub(crate) fn missing(&self) -> MakeError {
+        match String::from_str(self.alloc, "nothing") {
+            Ok(found) => self.wrong_text(found, Wanted::Member),
+            Err(_) => MakeError::OutOfMemory,
+        }
+    }
+
+    fn wrong_text(&self, found: String, wanted: Wanted) -> MakeError {
+        match self.path() {
+            Ok(path) => MakeError::Wrong {
+                path,
+                found,
+                wanted,
+            },
+            Err(_) => MakeError::OutOfMemory,
+        }
+    }
+
+    // This place, as a JSON pointer.
+    fn path(&self) -> Result<String, AllocError> {
+        let mut path = String::new(self.alloc);
+        for step in &self.steps {
+            path.push('/')?;
+            match step {
+                Step::Member(name) => push_escaped(&mut path, name)?,
+                Step::Item(index) => path.push_str(format!(in self.alloc; "{index}")?.as_str())?,
+            }
+        }
+        Ok(path)
+    }
+}
+
+// Appends the name of a member as a pointer has it: `~0` for `~`, `~1` for `/`.
+fn push_escaped(path: &mut String, name: &str) -> Result<(), AllocError> {
+    for c in name.chars() {
+        match c {
+            '~' => path.push_str("~0")?,
+            '/' => path.push_str("~1")?,
+            c => path.push(c)?,
+        }
+    }
+    Ok(())
+}
+
+// The longest value that an error shows whole, in bytes.
+const MOST_SHOWN: usize = 80;
+
+// A value as an error shows it.
+fn found_text(alloc: Global, value: &Value) -> Result<String, AllocError> {
+    match value {
+        Value::Array(items) => format!(in alloc; "a list of {}", items.len()),
+        Value::Object(members) => format!(in alloc; "an object of {}", members.len()),
+        Value::String(text) if text.len() > MOST_SHOWN => {
+            format!(in alloc; "a text of {} bytes", text.len())
+        }
+        _ => value.to_string(alloc),
+    }
+}

@@ -1,0 +1,20 @@
+//! The program `tcmake`: lines of JSON, as `tcshow --json` writes them or as `tc_json` shows a message, become lines of hex or a
+//! capture.
+//!
+//! ```text
+//! $ tcshow --json -r capture.pcap | sed 's/"Limit":10240/"Limit":500/' | tcmake --pcap > changed.pcap
+//! ```
+//!
+//! A line of which no message is made gets a complaint with its number and the place of the mistake; the others go on.
+#![tactic(auto)]
+
+pub mod arguments;
+mod given;
+mod input;
+mod made;
+mod packet;
+pub mod program;
+pub mod run;
+mod settle;
+pub mod status;
+mod writing;

@@ -1,0 +1,73 @@
+//! The program: what it is asked for is done over its streams, and how it ends is its exit status.
+
+use crate::arguments::{Request, request_of};
+use crate::run::run;
+use crate::status::{Stop, status_of};
+use crate::writing::write_all;
+use clap::error::ErrorKind;
+use std::alloc::Global;
+use std::env;
+use std::io::{self, BufRead, BufReader, Input, Print, Write};
+use std::process::ExitCode;
+use std::rt::Env;
+
+/// The whole program: reads its arguments, makes messages of the lines of standard input, writes them to standard output, and
+/// returns the exit status. Complaints are written to `errors`.
+pub fn tcmake<R: Env + AllocGlobal + Input + Print + Eprint, E: Write>(
+    rt: &R,
+    errors: &mut E,
+) -> ExitCode {
+    let alloc = rt.alloc();
+    let words = match env::args(rt) {
+        Ok(words) => Vec::from_iter(alloc, words),
+        Err(_) => return ExitCode::from(complain(errors, "tcmake: an argument is no text\n", 2)),
+    };
+    let words = match words {
+        Ok(words) => words,
+        Err(_) => return ExitCode::from(complain(errors, NO_MEMORY, 3)),
+    };
+    match request_of(alloc, words.as_slice()) {
+        Ok(request) => ExitCode::from(make(rt, &request, errors)),
+        Err(error) => {
+            if error.kind() == ErrorKind::OutOfMemory {
+                return ExitCode::from(complain(errors, NO_MEMORY, 3));
+            }
+            let _ = error.print(rt);
+            ExitCode::from(if error.use_stderr() { 2 } else { 0 })
+        }
+    }
+}
+
+const NO_MEMORY: &str = "tcmake: out of memory\n";
+
+fn make<R: AllocGlobal + Input + Print, E: Write>(rt: &R, request: &Request, errors: &mut E) -> u8 {
+    let mut writer = io::writer(rt);
+    match BufReader::new(rt.alloc(), rt.reader()) {
+        Ok(mut reader) => serve(rt.alloc(), request, &mut reader, &mut writer, errors),
+        Err(_) => complain(errors, NO_MEMORY, 3),
+    }
+}
+
+/// Makes messages of all lines of an input, and returns the exit status.
+pub fn serve<R: BufRead, W: Write, E: Write>(
+    alloc: Global,
+    request: &Request,
+    reader: &mut R,
+    writer: &mut W,
+    errors: &mut E,
+) -> u8 {
+    let ended = run(alloc, request, reader, writer, errors);
+    let status = status_of(ended.outcome, ended.has_refused);
+    match ended.outcome {
+        Ok(()) | Err(Stop::Closed) => status,
+        Err(Stop::Read) => complain(errors, "tcmake: read failed\n", status),
+        Err(Stop::Write) => complain(errors, "tcmake: write failed\n", status),
+        Err(Stop::NoMemory) => complain(errors, NO_MEMORY, status),
+    }
+}
+
+// Writes why nothing more is made, if it can, and returns a status.
+fn complain<E: Write>(errors: &mut E, text: &str, status: u8) -> u8 {
+    let _ = write_all(errors, text.as_bytes());
+    status
+}
