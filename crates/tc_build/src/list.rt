@@ -211,11 +211,7 @@ fn is_kept(table: Table, word: u16) -> bool {
 }
 
 // An attribute of a type that the table doesn't have.
-fn put_other<'v>(
-    maker: &mut Maker<'v>,
-    table: Table,
-    value: &'v Value,
-) -> Result<(), MakeError> {
+fn put_other<'v>(maker: &mut Maker<'v>, table: Table, value: &'v Value) -> Result<(), MakeError> {
     let word = raw_word(maker, value)?;
     if !is_kept(table, word) {
         return Err(wrong_word(maker, value, Wanted::OtherType));

@@ -59,12 +59,7 @@ pub fn make_action(alloc: Global, json: &Value) -> Result<Vec<u8>, MakeError>
 }
 
 // The bytes of a header and of attributes of a table.
-fn message(
-    alloc: Global,
-    header: Fixed,
-    table: Table,
-    json: &Value,
-) -> Result<Vec<u8>, MakeError> {
+fn message(alloc: Global, header: Fixed, table: Table, json: &Value) -> Result<Vec<u8>, MakeError> {
     let mut maker = Maker::new(alloc);
     only(&mut maker, json, &["header", "attributes"])?;
     let held = enter_member(&mut maker, json, "header")?;

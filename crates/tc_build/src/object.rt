@@ -58,10 +58,7 @@ pub(crate) fn enter_member<'v>(
 }
 
 /// The items of a list.
-pub(crate) fn items<'v>(
-    maker: &Maker<'v>,
-    value: &'v Value,
-) -> Result<&'v Vec<Value>, MakeError> {
+pub(crate) fn items<'v>(maker: &Maker<'v>, value: &'v Value) -> Result<&'v Vec<Value>, MakeError> {
     match value.as_array() {
         Some(items) => Ok(items),
         None => Err(maker.wrong(value, Wanted::List)),

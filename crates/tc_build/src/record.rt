@@ -163,11 +163,7 @@ pub(crate) fn put_ipv4<'v>(maker: &mut Maker<'v>, value: &'v Value) -> Result<()
 }
 
 // A number by its name, or one without a name as `{"Other":n}`.
-fn put_named<'v>(
-    maker: &mut Maker<'v>,
-    which: Numbers,
-    value: &'v Value,
-) -> Result<(), MakeError> {
+fn put_named<'v>(maker: &mut Maker<'v>, which: Numbers, value: &'v Value) -> Result<(), MakeError> {
     let number = match value.as_str() {
         Some(name) => match number_named(which, name) {
             Some(number) => number,
@@ -222,8 +218,7 @@ fn other_number<'v>(
 /// A selector of u32: the fields of its head, and its keys.
 pub(crate) fn selector<'v>(maker: &mut Maker<'v>, value: &'v Value) -> Result<(), MakeError> {
     for (name, held) in members(maker, value)?.iter() {
-        if name.as_str() != "keys" && !is_field(fields(Fixed::SelectorHead), false, name.as_str())
-        {
+        if name.as_str() != "keys" && !is_field(fields(Fixed::SelectorHead), false, name.as_str()) {
             maker.enter(Step::Member(name.as_str()))?;
             return Err(maker.wrong(held, Wanted::NoMember));
         }
