@@ -3,7 +3,7 @@
 use crate::runs::{all_in, shown};
 use std::test::Fail;
 use tc_outline::Interfaces;
-use tc_show::asked::Form;
+use tc_show::asked::{Chosen, Form};
 
 // In hex: a qdisc of fq_codel with a limit of 10240 packets; the same with a limit of three bytes; NLMSG_DONE; a list of actions with an
 // index of 5.
@@ -62,18 +62,33 @@ fn known_messages(rt: HostRuntime) -> Result<(), Fail> {
     assert!(rt; run.status == 1);
     assert!(rt; run.written.as_slice() == LINES.as_bytes());
     let mut asked = all_in(Form::OneLine);
-    asked.chosen.kind = Some("mirred");
+    asked.chosen = Chosen {
+        kind: Some("mirred"),
+        rtm: None,
+        interface: None,
+    };
     let run = shown(alloc, &asked, TEXT.as_bytes());
     assert!(rt; run.status == 0 && run.written.as_slice() == ONE_LINE.as_bytes());
-    asked.chosen.kind = None;
-    asked.chosen.rtm = Some("RTM_NEWACTION");
+    asked.chosen = Chosen {
+        kind: None,
+        rtm: Some("RTM_NEWACTION"),
+        interface: None,
+    };
     let run = shown(alloc, &asked, TEXT.as_bytes());
     assert!(rt; run.status == 0 && run.written.as_slice() == ONE_LINE.as_bytes());
     let mut asked = all_in(Form::Json);
-    asked.chosen.interface = Some(2);
+    asked.chosen = Chosen {
+        kind: None,
+        rtm: None,
+        interface: Some(2),
+    };
     let run = shown(alloc, &asked, TEXT.as_bytes());
     assert!(rt; run.status == 1 && run.written.as_slice() == JSON.as_bytes());
-    asked.chosen.interface = Some(3);
+    asked.chosen = Chosen {
+        kind: None,
+        rtm: None,
+        interface: Some(3),
+    };
     let run = shown(alloc, &asked, TEXT.as_bytes());
     assert!(rt; run.status == 0 && run.written.is_empty());
     Ok(())
