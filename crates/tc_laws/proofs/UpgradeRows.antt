@@ -8,7 +8,7 @@ use Rattle.tc_meaning.specs.Tree.{number, known, kept, other}
 use Rattle.tc_meaning.specs.Message.{read_with}
 use Rattle.tc_meaning.specs.Whole.{read_tc}
 use Rattle.tc_laws.specs.FirstVersion.{read_tc1, lone_option, upgrade}
-use Rattle.tc_meaning.proofs.WorkedRows.{hex, tc, tc_of, the_kind, a_list, one_option, utf8}
+use Rattle.tc_meaning.proofs.KnownMessages.{hex, tc, tc_of, the_kind, a_list, one_option, utf8}
 
 -- ---- the same bytes in both versions
 

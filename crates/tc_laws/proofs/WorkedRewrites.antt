@@ -13,7 +13,7 @@ use Rattle.tc_meaning.specs.Message.{Message, read_with, message_bytes}
 use Rattle.tc_meaning.specs.Whole.{read_act, act_bytes}
 use Rattle.tc_laws.specs.Loose.{is_loose_tc, is_loose_act, nuls, nuls_act}
 use Rattle.tc_laws.specs.Norm.{norm_tc, norm_act, next_act}
-use Rattle.tc_meaning.proofs.WorkedRows.{hex, tc, act, act_of, the_kind, a_list, one_option, utf8}
+use Rattle.tc_meaning.proofs.KnownMessages.{hex, tc, act, act_of, the_kind, a_list, one_option, utf8}
 
 -- ---- masked numbers
 

@@ -19,4 +19,4 @@ pub mod Trees
 pub mod Telling
 pub mod FitTests
 pub mod SettledTests
-pub mod WorkedRows
+pub mod KnownMessages

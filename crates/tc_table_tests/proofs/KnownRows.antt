@@ -18,7 +18,7 @@ use Rattle.tc_meaning.specs.Tree.{Scalar, plain, unnamed, octets_of, blank, Cont
 use Rattle.tc_meaning.specs.Tree.{Attribute, known, other, of_kind}
 use Rattle.tc_meaning.specs.Own.{read_kinds, read_own}
 use Rattle.tc_meaning.specs.Meaning.{table_codec}
-use Rattle.tc_meaning.proofs.WorkedRows.{hex, the_kind, a_list, utf8}
+use Rattle.tc_meaning.proofs.KnownMessages.{hex, the_kind, a_list, utf8}
 
 -- a row: a type, which is its word, the value's bytes, and what they are
 abbrev Row : Type 0

@@ -1,1 +1,2 @@
 pub mod KnownRows
+pub mod WorkedRows
