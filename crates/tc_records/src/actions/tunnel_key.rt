@@ -1,18 +1,13 @@
 //! The metadata of a tunnel.
 
 ghost use Rattle.std.specs.Prelude.{◌≡◌, ◌↔◌, IsTrue, List, refl};
-ghost use Rattle.nla_frames.specs.Fault.{seen};
 ghost use Rattle.tc_canon.specs.Layouts.{tunnel_key};
-ghost use Rattle.tc_meaning.specs.Tree.{Scalar};
-ghost use Rattle.tc_meaning.specs.Layout.{SettledFields};
-ghost use Rattle.tc_meaning.specs.Content.{read_record, record_codec};
+ghost use Rattle.tc_records.specs.RecordWords.{on, seen, Scalar, SettledFields, read_record, record_codec, same_scalars, scalars_equiv, scalars_per};
 ghost use Rattle.tc_records.specs.Actions.{tunnel_key_scalars};
 
-use crate::actions::action::TcActionGeneric;
-use crate::fields::Fields;
-use crate::octets::Octets;
-use crate::record::{FixedRecord, emit_record, is_settled_record, parse_record, record_len};
+use crate::record::{is_settled_record, parse_record, record_len};
 use crate::same::both;
+use crate::{Fields, FixedRecord, Octets, TcActionGeneric, emit_record};
 use nla_frames::{BytesMeaning, Emitable, Res, SettleBytes};
 
 /// How long a tunnel key's record is, in bytes.
@@ -34,9 +29,6 @@ pub struct TcTunnelKey {
 }
 
 impl PartialEq for TcTunnelKey {
-    ghost use Rattle.std.specs.Ordering.{on};
-    ghost use Rattle.tc_meaning.specs.Equal.{same_scalars, scalars_per};
-
     ghost eq = { on tunnel_key_scalars same_scalars };
 
     ghost laws = { scalars_per tunnel_key_scalars };
@@ -51,8 +43,6 @@ impl PartialEq for TcTunnelKey {
 }
 
 impl Eq for TcTunnelKey {
-    ghost use Rattle.tc_meaning.specs.Equal.{scalars_equiv};
-
     ghost laws = { scalars_equiv tunnel_key_scalars };
 }
 
@@ -77,8 +67,8 @@ impl FixedRecord<TC_TUNNEL_KEY_LEN> for TcTunnelKey {
         self.generic.is_settled()
     }
 
-    fn again(&self) -> TcTunnelKey {
-        TcTunnelKey { ..*self }
+    fn again(&self) -> Self {
+        Self { ..*self }
     }
 
     fn in_hand(self, _other: Self) {}
