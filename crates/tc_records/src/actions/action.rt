@@ -223,14 +223,10 @@ impl TcActionGeneric {
     {
         let bindcnt = self.bindcnt.cast_unsigned() == other.bindcnt.cast_unsigned();
         let refcnt = self.refcnt.cast_unsigned() == other.refcnt.cast_unsigned();
-        let rest = both(
-            self.action == other.action,
-            both(refcnt, both(bindcnt, rest)),
-        );
-        both(
-            self.index == other.index,
-            both(self.capab == other.capab, rest),
-        )
+        let rest = both(refcnt, both(bindcnt, rest));
+        let rest = both(self.action == other.action, rest);
+        let rest = both(self.capab == other.capab, rest);
+        both(self.index == other.index, rest)
     }
 
     /// The generic part that bytes begin with; what follows is dropped, and fewer bytes are `BufferTooSmall`.

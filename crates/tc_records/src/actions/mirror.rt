@@ -137,10 +137,8 @@ impl PartialEq for TcMirror {
     ghost laws = { scalars_per mirror_scalars };
 
     fn eq(&self, other: &TcMirror) -> bool {
-        let rest = both(
-            self.eaction == other.eaction,
-            both(self.ifindex == other.ifindex, true),
-        );
+        let rest = both(self.ifindex == other.ifindex, true);
+        let rest = both(self.eaction == other.eaction, rest);
         self.generic.same_then(&other.generic, rest)
     }
 }

@@ -34,11 +34,8 @@ impl PartialEq for TcTunnelKey {
     ghost laws = { scalars_per tunnel_key_scalars };
 
     fn eq(&self, other: &TcTunnelKey) -> bool {
-        let rest = both(
-            self.t_action.cast_unsigned() == other.t_action.cast_unsigned(),
-            true,
-        );
-        self.generic.same_then(&other.generic, rest)
+        let t_action = self.t_action.cast_unsigned() == other.t_action.cast_unsigned();
+        self.generic.same_then(&other.generic, both(t_action, true))
     }
 }
 

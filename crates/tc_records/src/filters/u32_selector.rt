@@ -209,26 +209,14 @@ impl<A: Allocator> TcU32Selector<A> {
     fn same_head(&self, other: &TcU32Selector<A>) -> bool
         ensures { result ≡ same_scalars (head_scalars self.now) (head_scalars other.now) }
     {
-        let offsets = both(
-            self.off == other.off,
-            both(
-                self.offoff.cast_unsigned() == other.offoff.cast_unsigned(),
-                both(
-                    self.hoff.cast_unsigned() == other.hoff.cast_unsigned(),
-                    both(self.hmask == other.hmask, true),
-                ),
-            ),
-        );
-        both(
-            self.flags.bits() == other.flags.bits(),
-            both(
-                self.offshift == other.offshift,
-                both(
-                    self.nkeys == other.nkeys,
-                    both(self.offmask == other.offmask, offsets),
-                ),
-            ),
-        )
+        let offoff = self.offoff.cast_unsigned() == other.offoff.cast_unsigned();
+        let hoff = self.hoff.cast_unsigned() == other.hoff.cast_unsigned();
+        let rest = both(hoff, both(self.hmask == other.hmask, true));
+        let rest = both(self.off == other.off, both(offoff, rest));
+        let rest = both(self.offmask == other.offmask, rest);
+        let rest = both(self.nkeys == other.nkeys, rest);
+        let rest = both(self.offshift == other.offshift, rest);
+        both(self.flags.bits() == other.flags.bits(), rest)
     }
 }
 
