@@ -12,3 +12,4 @@ pub mod FilterFlags
 pub mod Selector
 pub mod Defaults
 pub mod Record
+pub mod RecordWords

@@ -6,9 +6,7 @@ ghost use Rattle.tc_canon.specs.Layouts.{address_families};
 ghost use Rattle.tc_meaning.specs.Equal.{same_scalar};
 ghost use Rattle.tc_records.specs.Numbers.{family_scalar};
 
-use crate::fields::Fields;
-use crate::octets::Octets;
-use crate::record::FixedRecord;
+use crate::{Fields, FixedRecord, Octets};
 use nla_frames::AddressFamily;
 
 impl FixedRecord<1> for AddressFamily {
@@ -16,8 +14,8 @@ impl FixedRecord<1> for AddressFamily {
 
     ghost scalars = { λ family. family_scalar family ∷ [] };
 
-    fn read(fields: &mut Fields<'_>) -> AddressFamily {
-        AddressFamily::from(fields.u8())
+    fn read(fields: &mut Fields<'_>) -> Self {
+        Self::from(fields.u8())
     }
 
     fn write(&self, out: &mut Octets) {
@@ -26,14 +24,12 @@ impl FixedRecord<1> for AddressFamily {
 
     fn is_settled(&self) -> bool {
         match *self {
-            AddressFamily::Other(number) => {
-                matches!(AddressFamily::from(number), AddressFamily::Other(_))
-            }
+            Self::Other(number) => matches!(Self::from(number), Self::Other(_)),
             _ => true,
         }
     }
 
-    fn again(&self) -> AddressFamily {
+    fn again(&self) -> Self {
         *self
     }
 

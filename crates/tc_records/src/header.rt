@@ -1,19 +1,16 @@
 //! The header of a traffic control message, and handles.
 
 ghost use Rattle.std.specs.Prelude.{◌≡◌, ◌∷◌, ◌↔◌, [], IsTrue, List, refl};
-ghost use Rattle.nla_frames.specs.Fault.{seen};
 ghost use Rattle.tc_canon.specs.Descriptor.{little};
 ghost use Rattle.tc_canon.specs.Layouts.{tc_header};
-ghost use Rattle.tc_meaning.specs.Tree.{Scalar, plain};
-ghost use Rattle.tc_meaning.specs.Layout.{SettledFields};
-ghost use Rattle.tc_meaning.specs.Content.{read_record, record_codec};
+ghost use Rattle.tc_meaning.specs.Tree.{plain};
+ghost use Rattle.tc_records.specs.RecordWords.{on, seen, Scalar, SettledFields, read_record, record_codec, same_scalars, scalars_equiv, scalars_per};
 ghost use Rattle.tc_records.specs.Header.{handle_of, handle_number, header_scalars};
 
 use crate::family::same_family;
-use crate::fields::Fields;
-use crate::octets::Octets;
-use crate::record::{FixedRecord, emit_record, is_settled_record, parse_record, record_len};
+use crate::record::{is_settled_record, parse_record, record_len};
 use crate::same::both;
+use crate::{Fields, FixedRecord, Octets, emit_record};
 use nla_frames::{AddressFamily, BytesMeaning, Emitable, Res, SettleBytes};
 use std::fmt;
 
@@ -127,7 +124,7 @@ impl FixedRecord<4> for TcHandle {
         true
     }
 
-    fn again(&self) -> TcHandle {
+    fn again(&self) -> Self {
         *self
     }
 
@@ -163,9 +160,6 @@ pub struct TcHeader {
 }
 
 impl PartialEq for TcHeader {
-    ghost use Rattle.std.specs.Ordering.{on};
-    ghost use Rattle.tc_meaning.specs.Equal.{same_scalars, scalars_per};
-
     ghost eq = { on header_scalars same_scalars };
 
     ghost laws = { scalars_per header_scalars };
@@ -180,8 +174,6 @@ impl PartialEq for TcHeader {
 }
 
 impl Eq for TcHeader {
-    ghost use Rattle.tc_meaning.specs.Equal.{scalars_equiv};
-
     ghost laws = { scalars_equiv header_scalars };
 }
 
@@ -215,8 +207,8 @@ impl FixedRecord<TC_HEADER_LEN> for TcHeader {
         self.family.is_settled()
     }
 
-    fn again(&self) -> TcHeader {
-        TcHeader { ..*self }
+    fn again(&self) -> Self {
+        Self { ..*self }
     }
 
     fn in_hand(self, _other: Self) {}

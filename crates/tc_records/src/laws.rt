@@ -32,19 +32,11 @@ pub mod equal;
 pub mod in_hand;
 pub mod selectors;
 
-use crate::actions::action::{TcActionGeneric, TcActionType};
-use crate::actions::header::TcActionMessageHeader;
-use crate::actions::message_flags::TcActionMessageFlags;
-use crate::actions::mirror::{TcMirror, TcMirrorActionType};
-use crate::actions::nat::TcNat;
-use crate::actions::nat_flag::TcNatFlags;
-use crate::actions::tcf::Tcf;
-use crate::actions::tunnel_key::TcTunnelKey;
-use crate::filters::u32_flags::TcU32SelectorFlags;
-use crate::filters::u32_selector::TcU32Key;
-use crate::header::{TcHandle, TcHeader};
-use crate::qdiscs::fq_codel::{TcFqCodelClStats, TcFqCodelQdStats};
-use crate::stats::{TcStats, TcStatsBasic, TcStatsQueue};
+use crate::{
+    TcActionGeneric, TcActionMessageFlags, TcActionMessageHeader, TcActionType, TcFqCodelClStats,
+    TcFqCodelQdStats, TcHandle, TcHeader, TcMirror, TcMirrorActionType, TcNat, TcNatFlags, TcStats,
+    TcStatsBasic, TcStatsQueue, TcTunnelKey, TcU32Key, TcU32SelectorFlags, Tcf,
+};
 use nla_frames::AddressFamily;
 use std::cmp::Ordering;
 use std::hash::{Hash, Hasher};

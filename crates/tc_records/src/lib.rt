@@ -5,6 +5,7 @@ pub mod actions;
 mod family;
 pub mod fields;
 pub mod filters;
+mod flags;
 pub mod header;
 pub mod laws;
 pub mod octets;

@@ -9,8 +9,7 @@ ghost use Rattle.tc_meaning.specs.Layout.{size_of, read_fields, fields_bytes, Ty
 ghost use Rattle.tc_meaning.specs.Content.{read_record};
 ghost use Rattle.tc_records.specs.Record.{written, filled, after_fields};
 
-use crate::fields::Fields;
-use crate::octets::Octets;
+use crate::{Fields, Octets};
 use nla_frames::{DecodeError, Res, put_bytes};
 
 /// A record of N bytes: its layout, what contracts see of its fields, and how they are read and written one after the

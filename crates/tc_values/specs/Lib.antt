@@ -1,6 +1,7 @@
 pub mod Inner
 pub mod Value
 pub mod Row
+pub mod AttributeWords
 pub mod Bodies
 pub mod Same
 pub mod Forgets

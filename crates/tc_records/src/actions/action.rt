@@ -1,19 +1,16 @@
 //! What every action's record begins with.
 
 ghost use Rattle.std.specs.Prelude.{◌≡◌, ◌∷◌, ◌↔◌, [], IsTrue, List, refl};
-ghost use Rattle.nla_frames.specs.Fault.{seen};
 ghost use Rattle.tc_canon.specs.Descriptor.{named};
 ghost use Rattle.tc_canon.specs.Layouts.{action_types, action_generic};
-ghost use Rattle.tc_meaning.specs.Tree.{Scalar};
-ghost use Rattle.tc_meaning.specs.Layout.{SettledFields};
-ghost use Rattle.tc_meaning.specs.Content.{read_record, record_codec};
+ghost use Rattle.tc_meaning.specs.Equal.{same_scalar, scalar_equiv, scalar_per};
+ghost use Rattle.tc_records.specs.RecordWords.{on, seen, Scalar, SettledFields, read_record, record_codec, same_scalars, scalars_equiv, scalars_per};
 ghost use Rattle.tc_records.specs.ActionType.{action_type_of, action_type_number, action_type_scalar};
 ghost use Rattle.tc_records.specs.Actions.{generic_scalars, same_generic_then};
 
-use crate::fields::Fields;
-use crate::octets::Octets;
-use crate::record::{FixedRecord, emit_record, is_settled_record, parse_record, record_len};
+use crate::record::{is_settled_record, parse_record, record_len};
 use crate::same::both;
+use crate::{Fields, FixedRecord, Octets, emit_record};
 use nla_frames::{BytesMeaning, Emitable, Res, SettleBytes};
 
 /// How long the generic part is, in bytes.
@@ -58,46 +55,41 @@ pub enum TcActionType {
 }
 
 impl PartialEq for TcActionType {
-    ghost use Rattle.std.specs.Ordering.{on};
-    ghost use Rattle.tc_meaning.specs.Equal.{same_scalar, scalar_per};
-
     ghost eq = { on action_type_scalar same_scalar };
 
     ghost laws = { scalar_per action_type_scalar };
 
-    fn eq(&self, other: &TcActionType) -> bool {
+    fn eq(&self, other: &Self) -> bool {
         match (self, other) {
-            (TcActionType::Other(number), TcActionType::Other(another)) => {
+            (Self::Other(number), Self::Other(another)) => {
                 number.cast_unsigned() == another.cast_unsigned()
             }
-            (TcActionType::Other(_), _) | (_, TcActionType::Other(_)) => false,
+            (Self::Other(_), _) | (_, Self::Other(_)) => false,
             _ => i32::from(*self) == i32::from(*other),
         }
     }
 }
 
 impl Eq for TcActionType {
-    ghost use Rattle.tc_meaning.specs.Equal.{scalar_equiv};
-
     ghost laws = { scalar_equiv action_type_scalar };
 }
 
 impl From<i32> for TcActionType {
     ghost from_gives = { λ number action. action ≡ action_type_of number };
 
-    fn from(number: i32) -> TcActionType {
+    fn from(number: i32) -> Self {
         match number {
-            -1 => TcActionType::Unspec,
-            0 => TcActionType::Ok,
-            1 => TcActionType::Reclassify,
-            2 => TcActionType::Shot,
-            3 => TcActionType::Pipe,
-            4 => TcActionType::Stolen,
-            5 => TcActionType::Queued,
-            6 => TcActionType::Repeat,
-            7 => TcActionType::Redirect,
-            8 => TcActionType::Trap,
-            other => TcActionType::Other(other),
+            -1 => Self::Unspec,
+            0 => Self::Ok,
+            1 => Self::Reclassify,
+            2 => Self::Shot,
+            3 => Self::Pipe,
+            4 => Self::Stolen,
+            5 => Self::Queued,
+            6 => Self::Repeat,
+            7 => Self::Redirect,
+            8 => Self::Trap,
+            other => Self::Other(other),
         }
     }
 }
@@ -127,8 +119,8 @@ impl FixedRecord<4> for TcActionType {
 
     ghost scalars = { λ action. action_type_scalar action ∷ [] };
 
-    fn read(fields: &mut Fields<'_>) -> TcActionType {
-        TcActionType::from(fields.i32())
+    fn read(fields: &mut Fields<'_>) -> Self {
+        Self::from(fields.i32())
     }
 
     fn write(&self, out: &mut Octets) {
@@ -137,14 +129,12 @@ impl FixedRecord<4> for TcActionType {
 
     fn is_settled(&self) -> bool {
         match *self {
-            TcActionType::Other(number) => {
-                matches!(TcActionType::from(number), TcActionType::Other(_))
-            }
+            Self::Other(number) => matches!(Self::from(number), Self::Other(_)),
             _ => true,
         }
     }
 
-    fn again(&self) -> TcActionType {
+    fn again(&self) -> Self {
         *self
     }
 
@@ -177,9 +167,6 @@ pub struct TcActionGeneric {
 }
 
 impl PartialEq for TcActionGeneric {
-    ghost use Rattle.std.specs.Ordering.{on};
-    ghost use Rattle.tc_meaning.specs.Equal.{same_scalars, scalars_per};
-
     ghost eq = { on generic_scalars same_scalars };
 
     ghost laws = { scalars_per generic_scalars };
@@ -190,8 +177,6 @@ impl PartialEq for TcActionGeneric {
 }
 
 impl Eq for TcActionGeneric {
-    ghost use Rattle.tc_meaning.specs.Equal.{scalars_equiv};
-
     ghost laws = { scalars_equiv generic_scalars };
 }
 
@@ -222,7 +207,7 @@ impl FixedRecord<TC_ACTION_GENERIC_LEN> for TcActionGeneric {
         self.action.is_settled()
     }
 
-    fn again(&self) -> TcActionGeneric {
+    fn again(&self) -> Self {
         *self
     }
 
@@ -238,14 +223,10 @@ impl TcActionGeneric {
     {
         let bindcnt = self.bindcnt.cast_unsigned() == other.bindcnt.cast_unsigned();
         let refcnt = self.refcnt.cast_unsigned() == other.refcnt.cast_unsigned();
-        let rest = both(
-            self.action == other.action,
-            both(refcnt, both(bindcnt, rest)),
-        );
-        both(
-            self.index == other.index,
-            both(self.capab == other.capab, rest),
-        )
+        let rest = both(refcnt, both(bindcnt, rest));
+        let rest = both(self.action == other.action, rest);
+        let rest = both(self.capab == other.capab, rest);
+        both(self.index == other.index, rest)
     }
 
     /// The generic part that bytes begin with; what follows is dropped, and fewer bytes are `BufferTooSmall`.

@@ -1,18 +1,14 @@
 //! The header of an action message.
 
 ghost use Rattle.std.specs.Prelude.{◌≡◌, ◌↔◌, IsTrue, List, refl};
-ghost use Rattle.nla_frames.specs.Fault.{seen};
 ghost use Rattle.tc_canon.specs.Layouts.{action_message_header};
-ghost use Rattle.tc_meaning.specs.Tree.{Scalar};
-ghost use Rattle.tc_meaning.specs.Layout.{SettledFields};
-ghost use Rattle.tc_meaning.specs.Content.{read_record, record_codec};
+ghost use Rattle.tc_records.specs.RecordWords.{on, seen, Scalar, SettledFields, read_record, record_codec, same_scalars, scalars_equiv, scalars_per};
 ghost use Rattle.tc_records.specs.Actions.{action_message_header_scalars};
 
 use crate::family::same_family;
-use crate::fields::Fields;
-use crate::octets::Octets;
-use crate::record::{FixedRecord, emit_record, is_settled_record, parse_record, record_len};
+use crate::record::{is_settled_record, parse_record, record_len};
 use crate::same::both;
+use crate::{Fields, FixedRecord, Octets, emit_record};
 use nla_frames::{AddressFamily, BytesMeaning, Emitable, Res, SettleBytes};
 
 /// How long a header is, in bytes.
@@ -31,9 +27,6 @@ pub struct TcActionMessageHeader {
 }
 
 impl PartialEq for TcActionMessageHeader {
-    ghost use Rattle.std.specs.Ordering.{on};
-    ghost use Rattle.tc_meaning.specs.Equal.{same_scalars, scalars_per};
-
     ghost eq = { on action_message_header_scalars same_scalars };
 
     ghost laws = { scalars_per action_message_header_scalars };
@@ -44,8 +37,6 @@ impl PartialEq for TcActionMessageHeader {
 }
 
 impl Eq for TcActionMessageHeader {
-    ghost use Rattle.tc_meaning.specs.Equal.{scalars_equiv};
-
     ghost laws = { scalars_equiv action_message_header_scalars };
 }
 
@@ -69,8 +60,8 @@ impl FixedRecord<TCA_HEADER_LEN> for TcActionMessageHeader {
         self.family.is_settled()
     }
 
-    fn again(&self) -> TcActionMessageHeader {
-        TcActionMessageHeader { ..*self }
+    fn again(&self) -> Self {
+        Self { ..*self }
     }
 
     fn in_hand(self, _other: Self) {}

@@ -1,5 +1,6 @@
 //! The flags of an action message.
 
+use crate::flags::flags;
 use bitflags::{Flag, Flags};
 
 /// What is asked of a dump of actions: `TCA_ACT_FLAG_*` of `linux/rtnetlink.h`. Bits without a name are kept; the
@@ -15,21 +16,8 @@ impl TcActionMessageFlags {
     /// The chief attributes of an action alone: `TCA_ACT_FLAG_TERSE_DUMP`.
     pub const TerseDump: TcActionMessageFlags = TcActionMessageFlags(0x2);
 
-    // Every flag with its name, and one without that has all bits: so every bit is known.
-    const FLAGS: &'static [Flag<TcActionMessageFlags>] = &[
-        Flag {
-            name: "LargeDump",
-            value: TcActionMessageFlags::LargeDump,
-        },
-        Flag {
-            name: "TerseDump",
-            value: TcActionMessageFlags::TerseDump,
-        },
-        Flag {
-            name: "",
-            value: TcActionMessageFlags(0xFFFF_FFFF),
-        },
-    ];
+    const FLAGS: &'static [Flag<TcActionMessageFlags>] =
+        flags!(LargeDump, TerseDump; TcActionMessageFlags(0xFFFF_FFFF));
 }
 
 impl Flags for TcActionMessageFlags {

@@ -1,20 +1,16 @@
 //! Packets that go to another interface.
 
 ghost use Rattle.std.specs.Prelude.{◌≡◌, ◌∷◌, ◌↔◌, [], IsTrue, List, refl};
-ghost use Rattle.nla_frames.specs.Fault.{seen};
 ghost use Rattle.tc_canon.specs.Descriptor.{named};
 ghost use Rattle.tc_canon.specs.Layouts.{mirror, mirror_action_types};
-ghost use Rattle.tc_meaning.specs.Tree.{Scalar};
-ghost use Rattle.tc_meaning.specs.Layout.{SettledFields};
-ghost use Rattle.tc_meaning.specs.Content.{read_record, record_codec};
+ghost use Rattle.tc_meaning.specs.Equal.{same_scalar, scalar_equiv, scalar_per};
+ghost use Rattle.tc_records.specs.RecordWords.{on, seen, Scalar, SettledFields, read_record, record_codec, same_scalars, scalars_equiv, scalars_per};
 ghost use Rattle.tc_records.specs.MirrorActionType.{mirror_action_type_of, mirror_action_type_number, mirror_action_type_scalar};
 ghost use Rattle.tc_records.specs.Actions.{mirror_scalars};
 
-use crate::actions::action::TcActionGeneric;
-use crate::fields::Fields;
-use crate::octets::Octets;
-use crate::record::{FixedRecord, emit_record, is_settled_record, parse_record, record_len};
+use crate::record::{is_settled_record, parse_record, record_len};
 use crate::same::both;
+use crate::{Fields, FixedRecord, Octets, TcActionGeneric, emit_record};
 use nla_frames::{BytesMeaning, Emitable, Res, SettleBytes};
 
 /// How long a mirror's record is, in bytes.
@@ -41,40 +37,35 @@ pub enum TcMirrorActionType {
 }
 
 impl PartialEq for TcMirrorActionType {
-    ghost use Rattle.std.specs.Ordering.{on};
-    ghost use Rattle.tc_meaning.specs.Equal.{same_scalar, scalar_per};
-
     ghost eq = { on mirror_action_type_scalar same_scalar };
 
     ghost laws = { scalar_per mirror_action_type_scalar };
 
-    fn eq(&self, other: &TcMirrorActionType) -> bool {
+    fn eq(&self, other: &Self) -> bool {
         match (self, other) {
-            (TcMirrorActionType::Other(number), TcMirrorActionType::Other(another)) => {
+            (Self::Other(number), Self::Other(another)) => {
                 number.cast_unsigned() == another.cast_unsigned()
             }
-            (TcMirrorActionType::Other(_), _) | (_, TcMirrorActionType::Other(_)) => false,
+            (Self::Other(_), _) | (_, Self::Other(_)) => false,
             _ => i32::from(*self) == i32::from(*other),
         }
     }
 }
 
 impl Eq for TcMirrorActionType {
-    ghost use Rattle.tc_meaning.specs.Equal.{scalar_equiv};
-
     ghost laws = { scalar_equiv mirror_action_type_scalar };
 }
 
 impl From<i32> for TcMirrorActionType {
     ghost from_gives = { λ number action. action ≡ mirror_action_type_of number };
 
-    fn from(number: i32) -> TcMirrorActionType {
+    fn from(number: i32) -> Self {
         match number {
-            1 => TcMirrorActionType::EgressRedir,
-            2 => TcMirrorActionType::EgressMirror,
-            3 => TcMirrorActionType::IngressRedir,
-            4 => TcMirrorActionType::IngressMirror,
-            other => TcMirrorActionType::Other(other),
+            1 => Self::EgressRedir,
+            2 => Self::EgressMirror,
+            3 => Self::IngressRedir,
+            4 => Self::IngressMirror,
+            other => Self::Other(other),
         }
     }
 }
@@ -98,8 +89,8 @@ impl FixedRecord<4> for TcMirrorActionType {
 
     ghost scalars = { λ action. mirror_action_type_scalar action ∷ [] };
 
-    fn read(fields: &mut Fields<'_>) -> TcMirrorActionType {
-        TcMirrorActionType::from(fields.i32())
+    fn read(fields: &mut Fields<'_>) -> Self {
+        Self::from(fields.i32())
     }
 
     fn write(&self, out: &mut Octets) {
@@ -108,17 +99,12 @@ impl FixedRecord<4> for TcMirrorActionType {
 
     fn is_settled(&self) -> bool {
         match *self {
-            TcMirrorActionType::Other(number) => {
-                matches!(
-                    TcMirrorActionType::from(number),
-                    TcMirrorActionType::Other(_)
-                )
-            }
+            Self::Other(number) => matches!(Self::from(number), Self::Other(_)),
             _ => true,
         }
     }
 
-    fn again(&self) -> TcMirrorActionType {
+    fn again(&self) -> Self {
         *self
     }
 
@@ -146,25 +132,18 @@ pub struct TcMirror {
 }
 
 impl PartialEq for TcMirror {
-    ghost use Rattle.std.specs.Ordering.{on};
-    ghost use Rattle.tc_meaning.specs.Equal.{same_scalars, scalars_per};
-
     ghost eq = { on mirror_scalars same_scalars };
 
     ghost laws = { scalars_per mirror_scalars };
 
     fn eq(&self, other: &TcMirror) -> bool {
-        let rest = both(
-            self.eaction == other.eaction,
-            both(self.ifindex == other.ifindex, true),
-        );
+        let rest = both(self.ifindex == other.ifindex, true);
+        let rest = both(self.eaction == other.eaction, rest);
         self.generic.same_then(&other.generic, rest)
     }
 }
 
 impl Eq for TcMirror {
-    ghost use Rattle.tc_meaning.specs.Equal.{scalars_equiv};
-
     ghost laws = { scalars_equiv mirror_scalars };
 }
 
@@ -191,8 +170,8 @@ impl FixedRecord<TC_MIRROR_LEN> for TcMirror {
         self.generic.is_settled() && self.eaction.is_settled()
     }
 
-    fn again(&self) -> TcMirror {
-        TcMirror { ..*self }
+    fn again(&self) -> Self {
+        Self { ..*self }
     }
 
     fn in_hand(self, other: Self) {

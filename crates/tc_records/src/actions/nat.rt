@@ -1,19 +1,13 @@
 //! Network address translation.
 
 ghost use Rattle.std.specs.Prelude.{◌≡◌, ◌↔◌, IsTrue, List, refl};
-ghost use Rattle.nla_frames.specs.Fault.{seen};
 ghost use Rattle.tc_canon.specs.Layouts.{nat};
-ghost use Rattle.tc_meaning.specs.Tree.{Scalar};
-ghost use Rattle.tc_meaning.specs.Layout.{SettledFields};
-ghost use Rattle.tc_meaning.specs.Content.{read_record, record_codec};
+ghost use Rattle.tc_records.specs.RecordWords.{on, seen, Scalar, SettledFields, read_record, record_codec, same_scalars, scalars_equiv, scalars_per};
 ghost use Rattle.tc_records.specs.Actions.{nat_scalars};
 
-use crate::actions::action::TcActionGeneric;
-use crate::actions::nat_flag::TcNatFlags;
-use crate::fields::Fields;
-use crate::octets::Octets;
-use crate::record::{FixedRecord, emit_record, is_settled_record, parse_record, record_len};
+use crate::record::{is_settled_record, parse_record, record_len};
 use crate::same::both;
+use crate::{Fields, FixedRecord, Octets, TcActionGeneric, TcNatFlags, emit_record};
 use bitflags::Flags;
 use nla_frames::{BytesMeaning, Emitable, Res, SettleBytes};
 use std::net::Ipv4Addr;
@@ -48,9 +42,6 @@ pub struct TcNat {
 }
 
 impl PartialEq for TcNat {
-    ghost use Rattle.std.specs.Ordering.{on};
-    ghost use Rattle.tc_meaning.specs.Equal.{same_scalars, scalars_per};
-
     ghost eq = { on nat_scalars same_scalars };
 
     ghost laws = { scalars_per nat_scalars };
@@ -65,8 +56,6 @@ impl PartialEq for TcNat {
 }
 
 impl Eq for TcNat {
-    ghost use Rattle.tc_meaning.specs.Equal.{scalars_equiv};
-
     ghost laws = { scalars_equiv nat_scalars };
 }
 
@@ -113,8 +102,8 @@ impl FixedRecord<TC_NAT_LEN> for TcNat {
         self.generic.is_settled()
     }
 
-    fn again(&self) -> TcNat {
-        TcNat { ..*self }
+    fn again(&self) -> Self {
+        Self { ..*self }
     }
 
     fn in_hand(self, _other: Self) {}

@@ -1,5 +1,6 @@
 //! The flags of network address translation.
 
+use crate::flags::flags;
 use bitflags::{Flag, Flags};
 
 /// How a network address translation works: `TCA_NAT_FLAG_EGRESS` of `linux/tc_act/tc_nat.h`, and in the upper half
@@ -27,37 +28,8 @@ impl TcNatFlags {
     /// At ingress: `TCA_ACT_FLAGS_AT_INGRESS`.
     pub const AtIngress: TcNatFlags = TcNatFlags(0x10_0000);
 
-    // Every flag with its name, and one without that has all bits: so every bit is known.
-    const FLAGS: &'static [Flag<TcNatFlags>] = &[
-        Flag {
-            name: "Egress",
-            value: TcNatFlags::Egress,
-        },
-        Flag {
-            name: "Police",
-            value: TcNatFlags::Police,
-        },
-        Flag {
-            name: "Bind",
-            value: TcNatFlags::Bind,
-        },
-        Flag {
-            name: "Replace",
-            value: TcNatFlags::Replace,
-        },
-        Flag {
-            name: "NoRtnl",
-            value: TcNatFlags::NoRtnl,
-        },
-        Flag {
-            name: "AtIngress",
-            value: TcNatFlags::AtIngress,
-        },
-        Flag {
-            name: "",
-            value: TcNatFlags(0xFFFF_FFFF),
-        },
-    ];
+    const FLAGS: &'static [Flag<TcNatFlags>] =
+        flags!(Egress, Police, Bind, Replace, NoRtnl, AtIngress; TcNatFlags(0xFFFF_FFFF));
 }
 
 impl Flags for TcNatFlags {

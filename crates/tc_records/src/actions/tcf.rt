@@ -1,16 +1,12 @@
 //! The times of an action.
 
 ghost use Rattle.std.specs.Prelude.{◌≡◌, List, refl};
-ghost use Rattle.nla_frames.specs.Fault.{seen};
 ghost use Rattle.tc_canon.specs.Layouts.{tcf};
-ghost use Rattle.tc_meaning.specs.Tree.{Scalar};
-ghost use Rattle.tc_meaning.specs.Content.{read_record, record_codec};
+ghost use Rattle.tc_records.specs.RecordWords.{seen, Scalar, read_record, record_codec};
 ghost use Rattle.tc_records.specs.Tcf.{tcf_scalars};
 
-use crate::fields::Fields;
-use crate::octets::Octets;
-use crate::record::{FixedRecord, emit_record, is_settled_record, parse_record, record_len};
-use crate::same::both;
+use crate::record::{is_settled_record, parse_record, record_len};
+use crate::{Fields, FixedRecord, Octets, emit_record};
 use nla_frames::{BytesMeaning, Emitable, Res, SettleBytes};
 
 /// How long the times of an action are, in bytes.
@@ -24,7 +20,7 @@ pub const TCF_LEN: usize = 32;
 /// | 8 | `lastuse` | u64 |
 /// | 16 | `expires` | u64 |
 /// | 24 | `firstuse` | u64 |
-#[derive(Clone, Default, Drop, Debug)]
+#[derive(PartialEq, Eq, Clone, Default, Drop, Debug)]
 pub struct Tcf {
     /// Since it was installed.
     pub install: u64,
@@ -34,28 +30,6 @@ pub struct Tcf {
     pub expires: u64,
     /// Since it was first used.
     pub firstuse: u64,
-}
-
-impl PartialEq for Tcf {
-    ghost use Rattle.std.specs.Ordering.{on};
-    ghost use Rattle.tc_meaning.specs.Equal.{same_scalars, scalars_per};
-
-    ghost eq = { on tcf_scalars same_scalars };
-
-    ghost laws = { scalars_per tcf_scalars };
-
-    fn eq(&self, other: &Tcf) -> bool {
-        let rest = both(self.firstuse == other.firstuse, true);
-        let rest = both(self.expires == other.expires, rest);
-        let rest = both(self.lastuse == other.lastuse, rest);
-        both(self.install == other.install, rest)
-    }
-}
-
-impl Eq for Tcf {
-    ghost use Rattle.tc_meaning.specs.Equal.{scalars_equiv};
-
-    ghost laws = { scalars_equiv tcf_scalars };
 }
 
 impl FixedRecord<TCF_LEN> for Tcf {
@@ -83,8 +57,8 @@ impl FixedRecord<TCF_LEN> for Tcf {
         true
     }
 
-    fn again(&self) -> Tcf {
-        Tcf { ..*self }
+    fn again(&self) -> Self {
+        Self { ..*self }
     }
 
     fn in_hand(self, _other: Self) {}

@@ -1,18 +1,13 @@
 //! The metadata of a tunnel.
 
 ghost use Rattle.std.specs.Prelude.{◌≡◌, ◌↔◌, IsTrue, List, refl};
-ghost use Rattle.nla_frames.specs.Fault.{seen};
 ghost use Rattle.tc_canon.specs.Layouts.{tunnel_key};
-ghost use Rattle.tc_meaning.specs.Tree.{Scalar};
-ghost use Rattle.tc_meaning.specs.Layout.{SettledFields};
-ghost use Rattle.tc_meaning.specs.Content.{read_record, record_codec};
+ghost use Rattle.tc_records.specs.RecordWords.{on, seen, Scalar, SettledFields, read_record, record_codec, same_scalars, scalars_equiv, scalars_per};
 ghost use Rattle.tc_records.specs.Actions.{tunnel_key_scalars};
 
-use crate::actions::action::TcActionGeneric;
-use crate::fields::Fields;
-use crate::octets::Octets;
-use crate::record::{FixedRecord, emit_record, is_settled_record, parse_record, record_len};
+use crate::record::{is_settled_record, parse_record, record_len};
 use crate::same::both;
+use crate::{Fields, FixedRecord, Octets, TcActionGeneric, emit_record};
 use nla_frames::{BytesMeaning, Emitable, Res, SettleBytes};
 
 /// How long a tunnel key's record is, in bytes.
@@ -34,25 +29,17 @@ pub struct TcTunnelKey {
 }
 
 impl PartialEq for TcTunnelKey {
-    ghost use Rattle.std.specs.Ordering.{on};
-    ghost use Rattle.tc_meaning.specs.Equal.{same_scalars, scalars_per};
-
     ghost eq = { on tunnel_key_scalars same_scalars };
 
     ghost laws = { scalars_per tunnel_key_scalars };
 
     fn eq(&self, other: &TcTunnelKey) -> bool {
-        let rest = both(
-            self.t_action.cast_unsigned() == other.t_action.cast_unsigned(),
-            true,
-        );
-        self.generic.same_then(&other.generic, rest)
+        let t_action = self.t_action.cast_unsigned() == other.t_action.cast_unsigned();
+        self.generic.same_then(&other.generic, both(t_action, true))
     }
 }
 
 impl Eq for TcTunnelKey {
-    ghost use Rattle.tc_meaning.specs.Equal.{scalars_equiv};
-
     ghost laws = { scalars_equiv tunnel_key_scalars };
 }
 
@@ -77,8 +64,8 @@ impl FixedRecord<TC_TUNNEL_KEY_LEN> for TcTunnelKey {
         self.generic.is_settled()
     }
 
-    fn again(&self) -> TcTunnelKey {
-        TcTunnelKey { ..*self }
+    fn again(&self) -> Self {
+        Self { ..*self }
     }
 
     fn in_hand(self, _other: Self) {}

@@ -1,5 +1,6 @@
 //! The flags of a bpf filter.
 
+use crate::flags::flags;
 use bitflags::{Flag, Flags};
 
 /// The flags of a bpf filter, `TCA_BPF_FLAG_*` of `linux/pkt_cls.h`. Bits without a name are kept.
@@ -11,17 +12,7 @@ impl TcBpfFlags {
     /// What the program returns is an action: `TCA_BPF_FLAG_ACT_DIRECT`.
     pub const DirectAction: TcBpfFlags = TcBpfFlags(0x1);
 
-    // Every flag with its name, and one without that has all bits: so every bit is known.
-    const FLAGS: &'static [Flag<TcBpfFlags>] = &[
-        Flag {
-            name: "DirectAction",
-            value: TcBpfFlags::DirectAction,
-        },
-        Flag {
-            name: "",
-            value: TcBpfFlags(0xFFFF_FFFF),
-        },
-    ];
+    const FLAGS: &'static [Flag<TcBpfFlags>] = flags!(DirectAction; TcBpfFlags(0xFFFF_FFFF));
 }
 
 impl Flags for TcBpfFlags {

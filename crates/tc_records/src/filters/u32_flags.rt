@@ -1,5 +1,6 @@
 //! The flags of a u32 filter.
 
+use crate::flags::flags;
 use bitflags::{Flag, Flags};
 
 /// The flags of a selector, one byte: `TC_U32_*` of `linux/pkt_cls.h`. Bits without a name are kept.
@@ -20,29 +21,8 @@ impl TcU32SelectorFlags {
     /// The keys that follow count from there: `TC_U32_EAT`.
     pub const Eat: TcU32SelectorFlags = TcU32SelectorFlags(0x8);
 
-    // Every flag with its name, and one without that has all bits: so every bit is known.
-    const FLAGS: &'static [Flag<TcU32SelectorFlags>] = &[
-        Flag {
-            name: "Terminal",
-            value: TcU32SelectorFlags::Terminal,
-        },
-        Flag {
-            name: "Offset",
-            value: TcU32SelectorFlags::Offset,
-        },
-        Flag {
-            name: "VarOffset",
-            value: TcU32SelectorFlags::VarOffset,
-        },
-        Flag {
-            name: "Eat",
-            value: TcU32SelectorFlags::Eat,
-        },
-        Flag {
-            name: "",
-            value: TcU32SelectorFlags(0xFF),
-        },
-    ];
+    const FLAGS: &'static [Flag<TcU32SelectorFlags>] =
+        flags!(Terminal, Offset, VarOffset, Eat; TcU32SelectorFlags(0xFF));
 }
 
 impl Flags for TcU32SelectorFlags {
@@ -91,33 +71,8 @@ impl TcU32OptionFlags {
     /// Where it can't be put into hardware, the reason is reported: `TCA_CLS_FLAGS_VERBOSE`.
     pub const Verbose: TcU32OptionFlags = TcU32OptionFlags(0x10);
 
-    // Every flag with its name, and one without that has all bits: so every bit is known.
-    const FLAGS: &'static [Flag<TcU32OptionFlags>] = &[
-        Flag {
-            name: "SkipHw",
-            value: TcU32OptionFlags::SkipHw,
-        },
-        Flag {
-            name: "SkipSw",
-            value: TcU32OptionFlags::SkipSw,
-        },
-        Flag {
-            name: "InHw",
-            value: TcU32OptionFlags::InHw,
-        },
-        Flag {
-            name: "NotInHw",
-            value: TcU32OptionFlags::NotInHw,
-        },
-        Flag {
-            name: "Verbose",
-            value: TcU32OptionFlags::Verbose,
-        },
-        Flag {
-            name: "",
-            value: TcU32OptionFlags(0xFFFF_FFFF),
-        },
-    ];
+    const FLAGS: &'static [Flag<TcU32OptionFlags>] =
+        flags!(SkipHw, SkipSw, InHw, NotInHw, Verbose; TcU32OptionFlags(0xFFFF_FFFF));
 }
 
 impl Flags for TcU32OptionFlags {

@@ -10,14 +10,12 @@ ghost use Rattle.tc_canon.specs.Layouts.{selector_head, selector_key};
 ghost use Rattle.tc_meaning.specs.Tree.{Scalar};
 ghost use Rattle.tc_meaning.specs.Layout.{fields_bytes, TypedFields};
 ghost use Rattle.tc_meaning.specs.Content.{Selector, read_record, read_keys, read_selector, record_codec, selector_codec};
-ghost use Rattle.tc_meaning.specs.Equal.{same_scalars, same_selector, selector_equiv, selector_per};
+ghost use Rattle.tc_meaning.specs.Equal.{same_scalars, same_selector, scalars_equiv, scalars_per, selector_equiv, selector_per};
 ghost use Rattle.tc_records.specs.Selector.{key_scalars, keys_bytes, head_scalars, selector_of, empty_selector};
 
-use crate::fields::Fields;
-use crate::filters::u32_flags::TcU32SelectorFlags;
-use crate::octets::Octets;
-use crate::record::{FixedRecord, emit_record, is_settled_record, parse_record, record_len};
+use crate::record::{is_settled_record, parse_record, record_len};
 use crate::same::both;
+use crate::{Fields, FixedRecord, Octets, TcU32SelectorFlags, emit_record};
 use bitflags::Flags;
 use nla_frames::laws::in_hand::{u8_in_hand, u16_in_hand, u32_in_hand};
 use nla_frames::{BytesMeaning, DecodeError, Emitable, Res, SettleBytes, put_bytes};
@@ -50,9 +48,6 @@ pub struct TcU32Key {
 }
 
 impl PartialEq for TcU32Key {
-    ghost use Rattle.std.specs.Ordering.{on};
-    ghost use Rattle.tc_meaning.specs.Equal.{same_scalars, scalars_per};
-
     ghost eq = { on key_scalars same_scalars };
 
     ghost laws = { scalars_per key_scalars };
@@ -73,8 +68,6 @@ impl PartialEq for TcU32Key {
 }
 
 impl Eq for TcU32Key {
-    ghost use Rattle.tc_meaning.specs.Equal.{scalars_equiv};
-
     ghost laws = { scalars_equiv key_scalars };
 }
 
@@ -103,8 +96,8 @@ impl FixedRecord<TC_U32_KEY_LEN> for TcU32Key {
         true
     }
 
-    fn again(&self) -> TcU32Key {
-        TcU32Key { ..*self }
+    fn again(&self) -> Self {
+        Self { ..*self }
     }
 
     fn in_hand(self, _other: Self) {}
@@ -216,26 +209,14 @@ impl<A: Allocator> TcU32Selector<A> {
     fn same_head(&self, other: &TcU32Selector<A>) -> bool
         ensures { result ≡ same_scalars (head_scalars self.now) (head_scalars other.now) }
     {
-        let offsets = both(
-            self.off == other.off,
-            both(
-                self.offoff.cast_unsigned() == other.offoff.cast_unsigned(),
-                both(
-                    self.hoff.cast_unsigned() == other.hoff.cast_unsigned(),
-                    both(self.hmask == other.hmask, true),
-                ),
-            ),
-        );
-        both(
-            self.flags.bits() == other.flags.bits(),
-            both(
-                self.offshift == other.offshift,
-                both(
-                    self.nkeys == other.nkeys,
-                    both(self.offmask == other.offmask, offsets),
-                ),
-            ),
-        )
+        let offoff = self.offoff.cast_unsigned() == other.offoff.cast_unsigned();
+        let hoff = self.hoff.cast_unsigned() == other.hoff.cast_unsigned();
+        let rest = both(hoff, both(self.hmask == other.hmask, true));
+        let rest = both(self.off == other.off, both(offoff, rest));
+        let rest = both(self.offmask == other.offmask, rest);
+        let rest = both(self.nkeys == other.nkeys, rest);
+        let rest = both(self.offshift == other.offshift, rest);
+        both(self.flags.bits() == other.flags.bits(), rest)
     }
 }
 

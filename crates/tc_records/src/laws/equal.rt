@@ -14,20 +14,12 @@ ghost use Rattle.tc_records.specs.MessageFlags.{message_flags_word};
 ghost use Rattle.tc_records.specs.FilterFlags.{bpf_flags_word, selector_flags_byte, option_flags_word};
 ghost use Rattle.tc_meaning.specs.Equal.{TellsSeen};
 
-use crate::actions::action::{TcActionGeneric, TcActionType};
-use crate::actions::header::TcActionMessageHeader;
-use crate::actions::message_flags::TcActionMessageFlags;
-use crate::actions::mirror::{TcMirror, TcMirrorActionType};
-use crate::actions::nat::TcNat;
-use crate::actions::nat_flag::TcNatFlags;
-use crate::actions::tcf::Tcf;
-use crate::actions::tunnel_key::TcTunnelKey;
-use crate::filters::bpf::TcBpfFlags;
-use crate::filters::u32_flags::{TcU32OptionFlags, TcU32SelectorFlags};
-use crate::filters::u32_selector::{TcU32Key, TcU32Selector};
-use crate::header::{TcHandle, TcHeader};
-use crate::qdiscs::fq_codel::{TcFqCodelClStats, TcFqCodelQdStats};
-use crate::stats::{TcStats, TcStatsBasic, TcStatsQueue};
+use crate::{
+    TcActionGeneric, TcActionMessageFlags, TcActionMessageHeader, TcActionType, TcBpfFlags,
+    TcFqCodelClStats, TcFqCodelQdStats, TcHandle, TcHeader, TcMirror, TcMirrorActionType, TcNat,
+    TcNatFlags, TcStats, TcStatsBasic, TcStatsQueue, TcTunnelKey, TcU32Key, TcU32OptionFlags,
+    TcU32Selector, TcU32SelectorFlags, Tcf,
+};
 use nla_frames::{AddressFamily, DefaultNla};
 use std::alloc::Allocator;
 

@@ -4,8 +4,7 @@ ghost use Rattle.std.specs.Prelude.{◌≡◌, map};
 ghost use Rattle.std.specs.Int.{w16, cast_unsigned};
 ghost use Rattle.tc_records.specs.Selector.{key_scalars, selector_of};
 
-use crate::filters::u32_selector::{TcU32Key, TcU32Selector};
-use crate::record::FixedRecord;
+use crate::{FixedRecord, TcU32Key, TcU32Selector};
 use std::alloc::Allocator;
 
 /// Selectors that contracts see alike have the same fields and the same keys.

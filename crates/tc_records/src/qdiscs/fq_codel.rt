@@ -1,15 +1,12 @@
 //! The statistics of the qdisc fq_codel.
 
 ghost use Rattle.std.specs.Prelude.{◌≡◌, List, refl};
-ghost use Rattle.nla_frames.specs.Fault.{seen};
 ghost use Rattle.tc_canon.specs.Layouts.{fq_codel_qd_stats, fq_codel_cl_stats};
-ghost use Rattle.tc_meaning.specs.Tree.{Scalar};
-ghost use Rattle.tc_meaning.specs.Content.{read_record, record_codec};
+ghost use Rattle.tc_records.specs.RecordWords.{on, seen, Scalar, read_record, record_codec, same_scalars, scalars_equiv, scalars_per};
 ghost use Rattle.tc_records.specs.Statistics.{qd_stats_scalars, cl_stats_scalars};
 
-use crate::fields::Fields;
-use crate::octets::Octets;
-use crate::record::{FixedRecord, emit_record, is_settled_record, parse_record, record_len};
+use crate::record::{is_settled_record, parse_record, record_len};
+use crate::{Fields, FixedRecord, Octets, emit_record};
 use nla_frames::{BytesMeaning, Emitable, Res, SettleBytes};
 
 /// How long the statistics of a qdisc are, in bytes.
@@ -88,7 +85,7 @@ impl FixedRecord<TC_FQ_CODEL_QD_STATS_LEN> for TcFqCodelQdStats {
         true
     }
 
-    fn again(&self) -> TcFqCodelQdStats {
+    fn again(&self) -> Self {
         *self
     }
 
@@ -158,9 +155,6 @@ pub struct TcFqCodelClStats {
 }
 
 impl PartialEq for TcFqCodelClStats {
-    ghost use Rattle.std.specs.Ordering.{on};
-    ghost use Rattle.tc_meaning.specs.Equal.{same_scalars, scalars_per};
-
     ghost eq = { on cl_stats_scalars same_scalars };
 
     ghost laws = { scalars_per cl_stats_scalars };
@@ -185,8 +179,6 @@ impl PartialEq for TcFqCodelClStats {
 }
 
 impl Eq for TcFqCodelClStats {
-    ghost use Rattle.tc_meaning.specs.Equal.{scalars_equiv};
-
     ghost laws = { scalars_equiv cl_stats_scalars };
 }
 
@@ -219,7 +211,7 @@ impl FixedRecord<TC_FQ_CODEL_CL_STATS_LEN> for TcFqCodelClStats {
         true
     }
 
-    fn again(&self) -> TcFqCodelClStats {
+    fn again(&self) -> Self {
         *self
     }
 

@@ -1,16 +1,12 @@
 //! What went through a queue.
 
 ghost use Rattle.std.specs.Prelude.{◌≡◌, List, refl};
-ghost use Rattle.nla_frames.specs.Fault.{seen};
 ghost use Rattle.tc_canon.specs.Layouts.{stats_basic};
-ghost use Rattle.tc_meaning.specs.Tree.{Scalar};
-ghost use Rattle.tc_meaning.specs.Content.{read_record, record_codec};
+ghost use Rattle.tc_records.specs.RecordWords.{seen, Scalar, read_record, record_codec};
 ghost use Rattle.tc_records.specs.Statistics.{basic_scalars};
 
-use crate::fields::Fields;
-use crate::octets::Octets;
-use crate::record::{FixedRecord, emit_record, is_settled_record, parse_record, record_len};
-use crate::same::both;
+use crate::record::{is_settled_record, parse_record, record_len};
+use crate::{Fields, FixedRecord, Octets, emit_record};
 use nla_frames::{BytesMeaning, Emitable, Res, SettleBytes};
 
 /// How long basic statistics are, in bytes.
@@ -24,34 +20,12 @@ pub const TC_STATS_BASIC_LEN: usize = 16;
 /// | 0 | `bytes` | u64 |
 /// | 8 | `packets` | u32 |
 /// | 12 | padding | 4 bytes |
-#[derive(Clone, Copy, Default, Debug)]
+#[derive(PartialEq, Eq, Clone, Copy, Default, Debug)]
 pub struct TcStatsBasic {
     /// Bytes that were seen.
     pub bytes: u64,
     /// Packets that were seen.
     pub packets: u32,
-}
-
-impl PartialEq for TcStatsBasic {
-    ghost use Rattle.std.specs.Ordering.{on};
-    ghost use Rattle.tc_meaning.specs.Equal.{same_scalars, scalars_per};
-
-    ghost eq = { on basic_scalars same_scalars };
-
-    ghost laws = { scalars_per basic_scalars };
-
-    fn eq(&self, other: &TcStatsBasic) -> bool {
-        both(
-            self.bytes == other.bytes,
-            both(self.packets == other.packets, true),
-        )
-    }
-}
-
-impl Eq for TcStatsBasic {
-    ghost use Rattle.tc_meaning.specs.Equal.{scalars_equiv};
-
-    ghost laws = { scalars_equiv basic_scalars };
 }
 
 impl FixedRecord<TC_STATS_BASIC_LEN> for TcStatsBasic {
@@ -76,7 +50,7 @@ impl FixedRecord<TC_STATS_BASIC_LEN> for TcStatsBasic {
         true
     }
 
-    fn again(&self) -> TcStatsBasic {
+    fn again(&self) -> Self {
         *self
     }
 

@@ -1,15 +1,12 @@
 //! The statistics of a queue as one record.
 
 ghost use Rattle.std.specs.Prelude.{◌≡◌, List, refl};
-ghost use Rattle.nla_frames.specs.Fault.{seen};
 ghost use Rattle.tc_canon.specs.Layouts.{stats};
-ghost use Rattle.tc_meaning.specs.Tree.{Scalar};
-ghost use Rattle.tc_meaning.specs.Content.{read_record, record_codec};
+ghost use Rattle.tc_records.specs.RecordWords.{seen, Scalar, read_record, record_codec};
 ghost use Rattle.tc_records.specs.Statistics.{stats_scalars};
 
-use crate::fields::Fields;
-use crate::octets::Octets;
-use crate::record::{FixedRecord, emit_record, is_settled_record, parse_record, record_len};
+use crate::record::{is_settled_record, parse_record, record_len};
+use crate::{Fields, FixedRecord, Octets, emit_record};
 use nla_frames::{BytesMeaning, Emitable, Res, SettleBytes};
 
 /// How long the statistics of a queue are, in bytes.
@@ -85,7 +82,7 @@ impl FixedRecord<TC_STATS_LEN> for TcStats {
         true
     }
 
-    fn again(&self) -> TcStats {
+    fn again(&self) -> Self {
         *self
     }
 

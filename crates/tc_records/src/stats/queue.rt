@@ -1,16 +1,12 @@
 //! What waits in a queue, and what it refused.
 
 ghost use Rattle.std.specs.Prelude.{◌≡◌, List, refl};
-ghost use Rattle.nla_frames.specs.Fault.{seen};
 ghost use Rattle.tc_canon.specs.Layouts.{stats_queue};
-ghost use Rattle.tc_meaning.specs.Tree.{Scalar};
-ghost use Rattle.tc_meaning.specs.Content.{read_record, record_codec};
+ghost use Rattle.tc_records.specs.RecordWords.{seen, Scalar, read_record, record_codec};
 ghost use Rattle.tc_records.specs.Statistics.{queue_scalars};
 
-use crate::fields::Fields;
-use crate::octets::Octets;
-use crate::record::{FixedRecord, emit_record, is_settled_record, parse_record, record_len};
-use crate::same::both;
+use crate::record::{is_settled_record, parse_record, record_len};
+use crate::{Fields, FixedRecord, Octets, emit_record};
 use nla_frames::{BytesMeaning, Emitable, Res, SettleBytes};
 
 /// How long queue statistics are, in bytes.
@@ -26,7 +22,7 @@ pub const TC_STATS_QUEUE_LEN: usize = 20;
 /// | 8 | `drops` | u32 |
 /// | 12 | `requeues` | u32 |
 /// | 16 | `overlimits` | u32 |
-#[derive(Clone, Copy, Default, Debug)]
+#[derive(PartialEq, Eq, Clone, Copy, Default, Debug)]
 pub struct TcStatsQueue {
     /// Packets in the queue.
     pub qlen: u32,
@@ -38,29 +34,6 @@ pub struct TcStatsQueue {
     pub requeues: u32,
     /// How often the queue was over its limit.
     pub overlimits: u32,
-}
-
-impl PartialEq for TcStatsQueue {
-    ghost use Rattle.std.specs.Ordering.{on};
-    ghost use Rattle.tc_meaning.specs.Equal.{same_scalars, scalars_per};
-
-    ghost eq = { on queue_scalars same_scalars };
-
-    ghost laws = { scalars_per queue_scalars };
-
-    fn eq(&self, other: &TcStatsQueue) -> bool {
-        let rest = both(self.overlimits == other.overlimits, true);
-        let rest = both(self.requeues == other.requeues, rest);
-        let rest = both(self.drops == other.drops, rest);
-        let rest = both(self.backlog == other.backlog, rest);
-        both(self.qlen == other.qlen, rest)
-    }
-}
-
-impl Eq for TcStatsQueue {
-    ghost use Rattle.tc_meaning.specs.Equal.{scalars_equiv};
-
-    ghost laws = { scalars_equiv queue_scalars };
 }
 
 impl FixedRecord<TC_STATS_QUEUE_LEN> for TcStatsQueue {
@@ -90,7 +63,7 @@ impl FixedRecord<TC_STATS_QUEUE_LEN> for TcStatsQueue {
         true
     }
 
-    fn again(&self) -> TcStatsQueue {
+    fn again(&self) -> Self {
         *self
     }
 

@@ -1,8 +1,0 @@
-use Rattle.std.proofs.Common.{rules}
-use Rattle.tc_records.proofs.actions.action.TcActionTypePartialEq.eq.Goals as goal
-
-pub returns-in-Other-default : goal.returns-in-Other-default
-returns-in-Other-default c = search rules
-
-pub returns-in-Other-default-2 : goal.returns-in-Other-default-2
-returns-in-Other-default-2 c = search rules

@@ -1,5 +1,0 @@
-use Rattle.std.proofs.Common.{rules}
-use Rattle.tc_records.proofs.actions.mirror.TcMirrorPartialEq.eq.Goals as goal
-
-pub returns : goal.returns
-returns c = search rules
