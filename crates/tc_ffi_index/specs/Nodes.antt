@@ -18,11 +18,3 @@ table_at n = slice_get tables n
 -- the attribute that a slot holds, if its number is that of a table
 abbrev pub node_at : VtcNode → Option SeenNode
 node_at s = option_map (λ t. record { offset = s.offset; len = s.len; word = s.word; table = table_of t; depth = s.depth }) (table_at s.table)
-
--- as many as have room stand at the front, each in its slot
-abbrev pub Fills : List SeenNode → List VtcNode → List VtcNode → Type 0
-Fills nodes old new = map node_at new ≡ take (length old) (map Some nodes) ++ drop (length nodes) (map node_at old)
-
--- the slots behind them are as they were
-abbrev pub KeepsBehind : List SeenNode → List VtcNode → List VtcNode → Type 0
-KeepsBehind nodes old new = drop (length nodes) new ≡ drop (length nodes) old

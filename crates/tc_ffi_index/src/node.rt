@@ -1,10 +1,9 @@
 //! An attribute, as C sees it.
 
 ghost use Rattle.std.specs.Prelude.{◌≡◌, Some};
-ghost use Rattle.tc_index.specs.Seen.{placed_of, node_of};
 ghost use Rattle.tc_ffi_index.specs.Nodes.{table_at, node_at};
 
-use tc_index::Attribute;
+use tc_index::{Attribute, Slot};
 use tc_names::Table;
 
 /// An attribute of a message: `struct vtc_node`.
@@ -23,16 +22,17 @@ pub struct VtcNode {
     pub depth: u8,
 }
 
-/// The attribute, as C sees it.
-pub fn node_of(attribute: &Attribute<'_>) -> VtcNode
-    ensures { node_at result ≡ Some (node_of (placed_of attribute.now)) }
-{
-    VtcNode {
-        offset: attribute.offset,
-        len: attribute.value.len(),
-        word: attribute.word,
-        table: number_of(attribute.table),
-        depth: attribute.depth,
+impl Slot for VtcNode {
+    ghost seen = { node_at };
+
+    fn of(attribute: &Attribute<'_>) -> VtcNode {
+        VtcNode {
+            offset: attribute.offset,
+            len: attribute.value.len(),
+            word: attribute.word,
+            table: number_of(attribute.table),
+            depth: attribute.depth,
+        }
     }
 }
 

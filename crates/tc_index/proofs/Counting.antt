@@ -2,10 +2,6 @@
 use Rattle.std.proofs.Common.{◌≡◌, ℕ, zero, suc, ◌+◌, ◌*◌, ◌<◌, ◌≤◌, List, [], ◌∷◌, ◌++◌, length, take, drop, Option, Some, None, Ok, Err, refl, sym, ap, ◌∙◌, arith}
 use Rattle.std.proofs.Common.{zero-add, ◌/◌}
 use Rattle.std.proofs.lemmas.List.{length-drop, length-take-le, drop_all}
-use Rattle.std.proofs.lemmas.Bool.{ltb-true}
-use Rattle.std.specs.Prelude.{Bool, true, false, nat_lt, if◌then◌else◌}
-use Rattle.nla_frames.specs.declared.error.DecodeError.TheVariants.{BufferTooSmall}
-use Rattle.nla_frames.specs.Fault.{read_as, refused}
 use Rattle.nla_frames.specs.declared.error.DecodeError.{DecodeError}
 use Rattle.nla_frames.specs.Frame.{Frame, type_of, padding, frame_length}
 use Rattle.nla_frames.specs.Grammar.{length_at}
@@ -19,7 +15,8 @@ use Rattle.tc_canon.specs.Descriptor.{Table, table}
 use Rattle.tc_canon.specs.Kind.{kind_of_frame}
 use Rattle.tc_canon.specs.Tables.Messages.{attributes, action_message_attributes}
 use Rattle.tc_index.specs.Nesting.{class_in, list_in}
-use Rattle.tc_index.specs.Attributes.{Item, Gives, each, Walk, within, with_inner, attributes_in, to_fault, message_items, tc_items, action_items, after_header}
+use Rattle.tc_index.specs.Attributes.{Item, Gives, each, Walk, within, with_inner, attributes_in, to_fault, message_items, tc_items, action_items}
+use Rattle.tc_index.specs.Seen.{SeenNode, node_of}
 use Rattle.tc_index.specs.Nodes.{nodes_of, tc_nodes, action_nodes}
 
 -- how many attributes are among items
@@ -38,6 +35,11 @@ nodes-count : (items : List Item) → length (nodes_of (to_fault items)) ≤ cou
 nodes-count [] = omega arith
 nodes-count (Ok p ∷ items) = omega (arith, nodes-count items)
 nodes-count (Err broken ∷ items) = omega arith
+
+pub nodes-to_fault : (items : List Item) → nodes_of (to_fault items) ≡ nodes_of items
+nodes-to_fault [] = refl
+nodes-to_fault (Ok p ∷ items) = ap (λ (nodes : List SeenNode). node_of p ∷ nodes) (nodes-to_fault items)
+nodes-to_fault (Err broken ∷ items) = refl
 
 -- a frame takes its header and its value
 frame-takes : (bytes : List ℕ) (f : Frame) (after : List ℕ) → next_frame bytes ≡ Ok (f, after) → 4 + length f.value + length after ≤ length bytes
@@ -85,7 +87,7 @@ list-count (suc n) t k depth at bytes =
     each-count (with_inner (attributes_in n) t depth) keep (λ k at f. inner-count (attributes_in n) (list-count n) t depth k at f) bytes k at
 
 -- a message
-message-count : (header : ℕ) (t : Table) (sets : Sets Frame) (bytes : List ℕ) → length (nodes_of (message_items 4 header t sets bytes)) ≤ length bytes / 4
+pub message-count : (header : ℕ) (t : Table) (sets : Sets Frame) (bytes : List ℕ) → length (nodes_of (message_items 4 header t sets bytes)) ≤ length bytes / 4
 message-count header t sets bytes =
     let body = each (with_inner (attributes_in 4) t 0) sets [] header (items_of (cut (drop header bytes))) in
     let few = each-count (with_inner (attributes_in 4) t 0) sets (λ k at f. inner-count (attributes_in 4) (list-count 4) t 0 k at f) (drop header bytes) [] header in
@@ -99,31 +101,6 @@ pub action-count : (bytes : List ℕ) → length (action_nodes bytes) ≤ length
 unfolding action_items
 action-count bytes = message-count 4 (table action_message_attributes) keep bytes
 
--- ---- headers
-
--- bytes that have one
-pub opened : (n : ℕ) (items : List ℕ → List Item) (bytes : List ℕ) (xs : List Item) → read_as xs ≡ after_header n items bytes → xs ≡ items bytes
-opened n items bytes xs is = go (nat_lt (length bytes) n) is
-  where
-    go : (b : Bool) → read_as xs ≡ (if b then Err (BufferTooSmall (length bytes) n) else read_as (items bytes)) → xs ≡ items bytes
-    go true e = absurd cc
-    go false e = cc
-
--- bytes that are too short for it
-too-short : (n : ℕ) (items : List ℕ → List Item) (bytes : List ℕ) (e : DecodeError) → refused {X = List Item} e ≡ after_header n items bytes → length bytes < n
-too-short n items bytes e is = go (nat_lt (length bytes) n) refl is
-  where
-    go : (b : Bool) → nat_lt (length bytes) n ≡ b → refused {X = List Item} e ≡ (if b then Err (BufferTooSmall (length bytes) n) else read_as (items bytes)) → length bytes < n
-    go true short f = ltb-true (length bytes) n short
-    go false short f = absurd cc
-
-no-items : (header : ℕ) (t : Table) (sets : Sets Frame) (bytes : List ℕ) → length bytes < header → message_items 4 header t sets bytes ≡ []
+-- a header that is short
+pub no-items : (header : ℕ) (t : Table) (sets : Sets Frame) (bytes : List ℕ) → length bytes < header → message_items 4 header t sets bytes ≡ []
 no-items header t sets bytes short = rw (drop_all header bytes (omega arith), items-nil) refl
-
-pub tc-short : (bytes : List ℕ) (e : DecodeError) → refused {X = List Item} e ≡ after_header 20 tc_items bytes → tc_nodes bytes ≡ []
-unfolding tc_items
-tc-short bytes e is = ap nodes_of (no-items 20 (table attributes) kind_of_frame bytes (too-short 20 tc_items bytes e is))
-
-pub action-short : (bytes : List ℕ) (e : DecodeError) → refused {X = List Item} e ≡ after_header 4 action_items bytes → action_nodes bytes ≡ []
-unfolding action_items
-action-short bytes e is = ap nodes_of (no-items 4 (table action_message_attributes) keep bytes (too-short 4 action_items bytes e is))

@@ -1,18 +1,13 @@
--- Nodes that are put one after the other.
-use Rattle.std.proofs.Common.{◌≡◌, ◌⊎◌, ℕ, suc, ◌+◌, ◌-◌, ◌<◌, ◌≤◌, List, [], ◌∷◌, ◌++◌, length, take, drop, set, map, refl, sym, ap, ◌∙◌, arith, inl, inr}
+-- Slots that are filled one after the other.
+use Rattle.std.proofs.Common.{◌≡◌, ◌⊎◌, ℕ, suc, ◌+◌, ◌-◌, ◌<◌, ◌≤◌, List, [], ◌∷◌, ◌++◌, length, take, drop, set, map, Option, Some, refl, sym, ap, ap₂, ◌∙◌, arith, inl, inr}
 use Rattle.std.proofs.Common.{append_assoc, zero-add, add-zero, add-one}
 use Rattle.std.proofs.lemmas.Bool.{cases_lt}
-use Rattle.std.proofs.lemmas.List.{take_more_set, drop-set-lt, length-set, set_past, take-append-drop, drop_all, take_all, append-nil, length-map}
+use Rattle.std.proofs.lemmas.List.{take_more_set, drop-set-lt, length-set, set_past, take-append-drop, drop_all, take_all, append-nil, length-map, take-map, drop-map, map-append}
 use Rattle.tc_index.specs.declared.attribute.Node.{Node}
 use Rattle.tc_index.specs.Seen.{SeenNode, node_seen}
-use Rattle.tc_index.specs.Nodes.{Fills}
+use Rattle.tc_index.specs.Nodes.{Fills, FillsBy, filled}
 
 module _ {X : Type 0} where
-  -- each in its slot, from a place on
-  abbrev pub filled : ℕ → List X → List X → List X
-  filled n [] slots = slots
-  filled n (x ∷ xs) slots = filled (suc n) xs (set slots n x)
-
   -- past the slots
   filled-past : (n : ℕ) (xs slots : List X) → length slots ≤ n → filled n xs slots ≡ slots
   filled-past n [] slots past = refl
@@ -44,13 +39,36 @@ module _ {X : Type 0} where
   pub filled-is : (xs slots : List X) → filled 0 xs slots ≡ take (length slots) xs ++ drop (length xs) slots
   filled-is xs slots = let none : length slots - 0 ≡ length slots = omega arith in rw (none, zero-add) at (filled-from 0 xs slots (omega arith))
 
--- no nodes
-pub fills-none : (nodes : List SeenNode) (slots : List Node) → nodes ≡ [] → Fills nodes slots slots
-fills-none nodes slots none = rw (none, take_all {A = SeenNode} (length slots) [] (omega arith)) refl
+  -- some, and then others
+  pub filled-append : (n : ℕ) (xs ys slots : List X) → filled n (xs ++ ys) slots ≡ filled (n + length xs) ys (filled n xs slots)
+  filled-append n [] ys slots = rw add-zero refl
+  filled-append n (x ∷ xs) ys slots =
+      let at : suc n + length xs ≡ n + suc (length xs) = omega arith in
+      rw at at (filled-append (suc n) xs ys (set slots n x))
 
--- the last node is put
-pub fills-all : (nodes left : List SeenNode) (n : ℕ) (old new : List Node) → filled n left (map node_seen new) ≡ filled 0 nodes (map node_seen old) → left ≡ []
-    → Fills nodes old new
-fills-all nodes left n old new put none =
-    let done : map node_seen new ≡ filled 0 nodes (map node_seen old) = rw none at put in
-    done ∙ filled-is nodes (map node_seen old) ∙ ap (λ (m : ℕ). take m nodes ++ drop (length nodes) (map node_seen old)) (length-map old node_seen)
+-- no nodes
+pub fills-none : {S : Type 0} (seen : S → Option SeenNode) (nodes : List SeenNode) (slots : List S) → nodes ≡ [] → FillsBy seen nodes slots slots
+fills-none seen nodes slots none = rw (none, take_all {A = Option SeenNode} (length slots) [] (omega arith)) refl
+
+-- all nodes, from the first slot on
+pub fills-all : {S : Type 0} (seen : S → Option SeenNode) (nodes : List SeenNode) (old new : List S)
+    → map seen new ≡ filled 0 (map Some nodes) (map seen old) → FillsBy seen nodes old new
+fills-all seen nodes old new put = put ∙ rw (length-map old seen, length-map nodes Some) at (filled-is (map Some nodes) (map seen old))
+
+-- ---- slots that hold nodes
+
+one-some : (xs ys : List SeenNode) → map {A = SeenNode} Some xs ≡ map Some ys → xs ≡ ys
+one-some [] [] same = refl
+one-some [] (y ∷ ys) same = absurd cc
+one-some (x ∷ xs) [] same = absurd cc
+one-some (x ∷ xs) (y ∷ ys) same = let first : x ≡ y = cc in let others : map {A = SeenNode} Some xs ≡ map Some ys = cc in rw (first, one-some xs ys others) refl
+
+some-seen : (slots : List Node) → map (λ (n : Node). Some (node_seen n)) slots ≡ map Some (map node_seen slots)
+some-seen [] = refl
+some-seen (n ∷ slots) = ap (λ (xs : List (Option SeenNode)). Some (node_seen n) ∷ xs) (some-seen slots)
+
+pub fills_nodes : (nodes : List SeenNode) (old new : List Node) → FillsBy (λ (n : Node). Some (node_seen n)) nodes old new → Fills nodes old new
+fills_nodes nodes old new fills =
+    one-some _ _ (sym (some-seen new) ∙ fills
+    ∙ rw (some-seen old) (ap₂ (λ (xs ys : List (Option SeenNode)). xs ++ ys) (take-map Some (length old) nodes) (drop-map Some (length nodes) (map node_seen old))
+    ∙ sym (map-append Some (take (length old) nodes) (drop (length nodes) (map node_seen old)))))

@@ -3,5 +3,6 @@ pub mod Frames
 pub mod Walks
 pub mod Filling
 pub mod Counting
+pub mod Putting
 pub mod Standing
 pub mod Depth

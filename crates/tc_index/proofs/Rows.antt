@@ -1,6 +1,6 @@
 -- The rows and the kinds at run time say what the tables say.
 use Rattle.std.proofs.Common.{◌≡◌, ◌⊎◌, ℕ, zero, suc, ◌+◌, ◌-◌, ◌<◌, ◌≤◌, List, [], ◌∷◌, Option, Some, None, refl, sym, ap, ◌∙◌, arith, inl, inr}
-use Rattle.std.specs.Prelude.{Bool, true, false, ◌==◌, is_some, unwrap_or, option_map, if◌then◌else◌}
+use Rattle.std.specs.Prelude.{Bool, true, false, ◌==◌, is_some, option_map, if◌then◌else◌}
 use Rattle.std.specs.Str.{bytes_eq}
 use Rattle.std.proofs.lemmas.Bool.{cases_lt, le-leb, lt-leb, ne_eqb}
 use Rattle.std.proofs.Common.{eq-eqb, add-zero, zero-add, get_or}
@@ -12,8 +12,8 @@ use Rattle.tc_names.specs.declared.row.Form.TheVariants as form
 use Rattle.tc_names.specs.declared.row.Table.{Table as ListedTable}
 use Rattle.tc_names.specs.declared.row.Table.TheVariants as the
 use Rattle.tc_names.specs.Named.{NamedKind}
-use Rattle.tc_names.specs.Listed.{rows_in, kinds_in, table_of, kind_names_in, class_of, kinds_at, row_of, rows_from, rows_of, run, one_by_one}
-use Rattle.tc_index.specs.Nesting.{class_at, class_in, inner_table, inner_kind, list_in, known_table, table_under}
+use Rattle.tc_names.specs.Listed.{rows_in, table_of, class_of, kinds_at, row_of, rows_from, rows_of, run, one_by_one}
+use Rattle.tc_index.specs.Nesting.{class_at, class_in, inner_table, inner_kind, list_in, known_table}
 use Rattle.tc_index.specs.Seen.{class_of_row}
 
 -- ---- rows

@@ -13,10 +13,9 @@ use Rattle.nla_frames.specs.Reading.{keep}
 use Rattle.nla_frames.specs.Cutting.{next_frame, cut, items_of}
 use Rattle.nla_frames.proofs.Items.{items-nil, items-next_frame, items_refused}
 use Rattle.tc_canon.specs.Descriptor.{Table}
-use Rattle.tc_index.specs.declared.attribute.BrokenFrame.{BrokenFrame}
 use Rattle.tc_index.specs.declared.level.Level.{Level}
 use Rattle.tc_index.specs.declared.attributes.Attributes.{Attributes}
-use Rattle.tc_index.specs.Attributes.{Placed, Item, Gives, each, within, with_inner, attributes_in, to_fault}
+use Rattle.tc_index.specs.Attributes.{Placed, Item, Gives, each, within, with_inner, attributes_in}
 use Rattle.tc_index.specs.Seen.{inner_of, left_in, levels_left, items_left}
 use Rattle.tc_index.proofs.Frames.{Takes}
 
@@ -83,25 +82,25 @@ attributes-some : (d : ℕ) (t : Table) (k : List ℕ) (at : ℕ) (bytes : List 
 unfolding attributes_in
 attributes-some d t k at bytes low = let fuel : 4 - d ≡ suc (4 - (d + 1)) = omega arith in rw (fuel, add-one) refl
 
-pub enters : (before after : List Level) (d : ℕ) (level : Level) (o : Option (Table × List ℕ)) (t : Table) (k : List ℕ) (at : ℕ) (bytes : List ℕ)
-    → d < 4 → length before ≡ 4 → after ≡ set before d level → Some (t, k) ≡ o
-    → each (with_inner (attributes_in (4 - (d + 1))) t (d + 1)) keep k at (items_of (cut bytes)) ++ levels_left 0 (take (d + 1) after)
-    ≡ within (attributes_in (4 - d)) o (suc d) at bytes ++ (left_in d level ++ levels_left 0 (take d before))
-enters before after d level o t k at bytes low four kept is =
+pub entered : (d : ℕ) (o : Option (Table × List ℕ)) (t : Table) (k : List ℕ) (at : ℕ) (bytes : List ℕ) → d < 4 → Some (t, k) ≡ o
+    → within (attributes_in (4 - d)) o (suc d) at bytes ≡ each (with_inner (attributes_in (4 - (d + 1))) t (d + 1)) keep k at (items_of (cut bytes))
+entered d o t k at bytes low is =
+    ap (λ (x : Option (Table × List ℕ)). within (attributes_in (4 - d)) x (suc d) at bytes) (sym is) ∙ attributes-some d t k at bytes low
+
+pub enters : (before after : List Level) (d : ℕ) (level inner : Level) (items : List Item) → d < 4 → length before ≡ 4 → after ≡ set before d level
+    → items ≡ left_in (d + 1) inner → left_in (d + 1) inner ++ levels_left 0 (take (d + 1) after) ≡ items ++ (left_in d level ++ levels_left 0 (take d before))
+enters before after d level inner items low four kept is =
     let counted : length (take d before) ≡ d = length-take-le d before (omega arith) in
     let taken : take (d + 1) after ≡ take d before ++ level ∷ [] = ap (λ (ls : List Level). take (d + 1) ls) kept ∙ take_more_set before d level (omega arith) in
     let around : levels_left 0 (take (d + 1) after) ≡ left_in d level ++ levels_left 0 (take d before) =
     ap (levels_left 0) taken ∙ levels-more 0 (take d before) level ∙ rw (counted, zero-add) refl in
-    let inner : each (with_inner (attributes_in (4 - (d + 1))) t (d + 1)) keep k at (items_of (cut bytes)) ≡ within (attributes_in (4 - d)) o (suc d) at bytes =
-    sym (attributes-some d t k at bytes low) ∙ ap (λ (x : Option (Table × List ℕ)). within (attributes_in (4 - d)) x (suc d) at bytes) is in
-    ap₂ (λ (xs ys : List Item). xs ++ ys) inner around
+    ap₂ (λ (xs ys : List Item). xs ++ ys) (sym is) around
 
 -- one that would be too deep
-pub too-deep : (d : ℕ) (o : Option (Table × List ℕ)) (at : ℕ) (bytes : List ℕ) (left : List Item) → 4 ≤ d
-    → left ≡ within (attributes_in (4 - d)) o (suc d) at bytes ++ left
+pub too-deep : (d : ℕ) (o : Option (Table × List ℕ)) (at : ℕ) (bytes : List ℕ) → 4 ≤ d → within (attributes_in (4 - d)) o (suc d) at bytes ≡ []
 unfolding attributes_in
-too-deep d None at bytes left deep = refl
-too-deep d (Some list) at bytes left deep = let fuel : 4 - d ≡ 0 = omega arith in rw fuel refl
+too-deep d None at bytes deep = refl
+too-deep d (Some list) at bytes deep = let fuel : 4 - d ≡ 0 = omega arith in rw fuel refl
 
 -- an attribute by its place
 pub takes-one : (p q : Placed) (depth : ℕ) (list left : List Item) → p ≡ q → list ≡ (Ok q ∷ inner_of depth q) ++ left → list ≡ (Ok p ∷ inner_of depth p) ++ left

@@ -62,6 +62,11 @@ sets_if sets f = if sets then kind_of_frame f else None
 abbrev pub left_in : ℕ → Level → List Item
 left_in depth l = each (with_inner (attributes_in (4 - depth)) (table_of l.table) depth) (sets_if l.sets_kind) l.kind.now l.offset (items_of (cut l.rest.now))
 
+-- the same of a list that may be there
+abbrev pub left_in_some : ℕ → Option Level → List Item
+left_in_some depth None = []
+left_in_some depth (Some l) = left_in depth l
+
 -- what lists have left, each in the one before it, the innermost first
 abbrev pub levels_left : ℕ → List Level → List Item
 levels_left depth [] = []

@@ -4,7 +4,6 @@ ghost use Rattle.std.specs.Prelude.{◌≡◌, ◌≤◌};
 
 use crate::attribute::{Attribute, BrokenFrame};
 use crate::level::Level;
-use crate::nesting::list_in;
 use nla_frames::{DecodeError, Res};
 use tc_names::Table;
 
@@ -53,13 +52,7 @@ impl<'a> Attributes<'a> {
                 needed: header,
             });
         }
-        let level = Level {
-            rest: bytes.split_at(header).1,
-            offset: header,
-            table,
-            kind: &[],
-            sets_kind,
-        };
+        let level = Level::of_message(bytes, header, table, sets_kind);
         Ok(Attributes {
             level,
             first: level,
@@ -106,24 +99,10 @@ impl<'a> Attributes<'a> {
     {
         let depth = self.depth;
         if depth < 4 {
-            match list_in(
-                attribute.table,
-                attribute.number(),
-                attribute.kind,
-                attribute.value,
-            ) {
-                Some((table, kind)) => {
-                    self.keep_level();
-                    self.level = Level {
-                        rest: attribute.value,
-                        offset: attribute.offset,
-                        table,
-                        kind,
-                        sets_kind: false,
-                    };
-                    self.depth = depth + 1;
-                }
-                None => {}
+            if let Some(level) = Level::in_attribute(attribute) {
+                self.keep_level();
+                self.level = level;
+                self.depth = depth + 1;
             }
         }
     }
@@ -150,8 +129,8 @@ impl<'a> Attributes<'a> {
         self.level = Level {
             rest: &[],
             offset: 0,
-            table: Table::Message,
             kind: &[],
+            table: Table::Message,
             sets_kind: false,
         };
     }
@@ -172,10 +151,8 @@ impl<'a> Iterator for Attributes<'a> {
         if self.level.rest.is_empty() {
             return None;
         }
-        let mut level = self.level;
-        match level.take_first(self.depth as u8) {
+        match self.level.take_first(self.depth as u8) {
             Ok(attribute) => {
-                self.level = level;
                 self.enter(&attribute);
                 Some(Ok(attribute))
             }

@@ -1,8 +1,9 @@
 //! A list of attributes that is walked.
 
-ghost use Rattle.std.specs.Prelude.{◌≡◌, ◌+◌, ◌<◌, ◌^◌, length};
+ghost use Rattle.std.specs.Prelude.{◌≡◌, ◌+◌, ◌<◌, ◌≤◌, ◌^◌, length};
 
 use crate::attribute::{Attribute, BrokenFrame};
+use crate::nesting::list_in;
 use nla_frames::{NLA_HEADER_SIZE, NlaBuffer, strip_nul};
 use tc_names::Table;
 
@@ -12,9 +13,9 @@ pub(crate) struct Level<'a> {
     pub rest: &'a [u8],
     /// Where it begins in the message.
     pub offset: usize,
-    pub table: Table,
     /// The kind in force there.
     pub kind: &'a [u8],
+    pub table: Table,
     /// A frame of type 1 sets the kind for those after it.
     pub sets_kind: bool,
     ghost within: { offset + length rest.now < 2 ^ 64 },
@@ -27,8 +28,46 @@ impl<'a> Level<'a> {
     ghost use Rattle.nla_frames.specs.Cutting.{next_frame};
     ghost use Rattle.nla_frames.specs.Place.{kind_then};
     ghost use Rattle.tc_names.specs.Listed.{table_of};
-    ghost use Rattle.tc_index.specs.Attributes.{with_inner, attributes_in};
-    ghost use Rattle.tc_index.specs.Seen.{placed_of, sets_if, left_in, GivesFirst};
+    ghost use Rattle.tc_index.specs.Attributes.{with_inner, attributes_in, to_fault, message_items};
+    ghost use Rattle.tc_index.specs.Seen.{placed_of, sets_if, inner_of, left_in, left_in_some, GivesFirst};
+
+    /// The attributes of a message, behind its header.
+    pub(crate) fn of_message(bytes: &'a [u8], header: usize, table: Table, sets_kind: bool) -> Self
+        requires { header ≤ length bytes.now }
+        ensures { to_fault (left_in 0 result)
+            ≡ message_items 4 header (table_of table) (sets_if sets_kind) bytes.now }
+    {
+        Level {
+            rest: bytes.split_at(header).1,
+            offset: header,
+            kind: &[],
+            table,
+            sets_kind,
+        }
+    }
+
+    /// The list in an attribute.
+    pub(crate) fn in_attribute(attribute: &Attribute<'a>) -> Option<Self>
+        requires { attribute.now.offset + length attribute.now.value.now < 2 ^ 64 }
+        ensures { (depth : ℕ) → depth < 4
+            → inner_of depth (placed_of attribute.now) ≡ left_in_some (depth + 1) result }
+    {
+        match list_in(
+            attribute.table,
+            attribute.number(),
+            attribute.kind,
+            attribute.value,
+        ) {
+            Some((table, kind)) => Some(Level {
+                rest: attribute.value,
+                offset: attribute.offset,
+                kind,
+                table,
+                sets_kind: false,
+            }),
+            None => None,
+        }
+    }
 
     /// Takes the first attribute, which stands at this depth; or tells how its frame is broken.
     pub(crate) fn take_first(&mut self, depth: u8) -> Result<Attribute<'a>, BrokenFrame>
@@ -39,7 +78,7 @@ impl<'a> Level<'a> {
         match NlaBuffer::new_checked(self.rest) {
             Ok(frame) => {
                 let attribute = self.attribute(&frame, depth);
-                *self = self.after(&frame);
+                self.pass(&frame);
                 Ok(attribute)
             }
             Err(fault) => Err(BrokenFrame {
@@ -71,24 +110,19 @@ impl<'a> Level<'a> {
         }
     }
 
-    /// What is left after the first frame.
-    fn after(&self, frame: &NlaBuffer<'a>) -> Level<'a>
-        requires { read_as (frame_of frame.now) ≡ first_of (next_frame self.now.rest.now) }
-        ensures { (depth : ℕ) → left_in depth self.now
-            ≡ with_inner (attributes_in (4 - depth)) (table_of self.now.table) depth
-            self.now.kind.now (self.now.offset + 4) (frame_of frame.now)
-            ++ left_in depth result }
+    /// Goes on behind the first frame.
+    fn pass(&mut self, frame: &NlaBuffer<'a>)
+        requires { read_as (frame_of frame.now) ≡ first_of (next_frame self.old.rest.now) }
+        ensures { (depth : ℕ) → left_in depth self.old
+            ≡ with_inner (attributes_in (4 - depth)) (table_of self.old.table) depth
+            self.old.kind.now (self.old.offset + 4) (frame_of frame.now)
+            ++ left_in depth self.new }
     {
         let length = frame.length() as usize;
         let taken = (length + (4 - length % 4) % 4).min(self.rest.len());
-        let (_, rest) = self.rest.split_at(taken);
-        Level {
-            rest,
-            offset: self.offset + taken,
-            table: self.table,
-            kind: self.kind_after(frame),
-            sets_kind: self.sets_kind,
-        }
+        self.rest = self.rest.split_at(taken).1;
+        self.offset += taken;
+        self.kind = self.kind_after(frame);
     }
 
     /// The kind in force after a frame.

@@ -12,5 +12,5 @@ mod tests;
 
 pub use attribute::{Attribute, BrokenFrame, Node};
 pub use attributes::Attributes;
-pub use index::{index_action, index_tc};
+pub use index::{Slot, fill_action, fill_tc, index_action, index_tc};
 pub use nesting::list_in;

@@ -7,7 +7,7 @@ use Rattle.tc_index.proofs.level.Level.take_first.Goals as goal
 
 pub returns-in-Ok-clause-gives : goal.returns-in-Ok-clause-gives
 returns-in-Ok-clause-gives c =
-    takes-one (placed_of c.attribute-attribute.result) _ c.args.depth _ _ c.attribute-attribute.ensures.placed (c.after.ensures c.args.depth)
+    takes-one (placed_of c.attribute-attribute.result) _ c.args.depth _ _ c.attribute-attribute.ensures.placed (c.pass.ensures c.args.depth)
 
 pub returns-in-Err-clause-gives : goal.returns-in-Err-clause-gives
 returns-in-Err-clause-gives c =
