@@ -1,8 +1,8 @@
 -- A frame that stands at the front of bytes is the next one.
-use Rattle.std.proofs.Common.{◌≡◌, ◌⊎◌, ℕ, ◌+◌, ◌^◌, ◌<◌, ◌≤◌, false, ltb, List, [], ◌++◌, length, take, drop, Ok, refl, sym, subst, ◌∙◌, arith, inl, inr}
+use Rattle.std.proofs.Common.{◌≡◌, ◌⊎◌, ℕ, min, ◌+◌, ◌*◌, ◌/◌, ◌^◌, ◌<◌, ◌≤◌, false, ltb, List, [], ◌++◌, length, take, drop, Ok, refl, sym, subst, ◌∙◌, arith, inl, inr}
 use Rattle.std.proofs.Common.{append_assoc}
-use Rattle.std.proofs.lemmas.Bool.{le-ltb}
-use Rattle.std.proofs.lemmas.List.{append-nil, length-append, take_at, drop_at, drop_all}
+use Rattle.std.proofs.lemmas.Bool.{le-ltb, cases_lt}
+use Rattle.std.proofs.lemmas.List.{append-nil, length-append, take_at, drop_at, drop_all, drop-drop}
 use Rattle.nla_frames.specs.Value.{le_value}
 use Rattle.nla_frames.specs.Frame.{Frame, IsFrame, padding, header}
 use Rattle.nla_frames.specs.Grammar.{Begins, Ends, length_at}
@@ -30,6 +30,21 @@ length_at-header n word after small = omega arith
 pub word-header : (n word : ℕ) (after : List ℕ) → word < 2 ^ 16 → le_value (take 2 (drop 2 (header n word ++ after))) ≡ word
 unfolding header
 word-header n word after small = omega arith
+
+-- what follows a frame and its padding, where both end
+pub after_padding : (bytes : List ℕ) (long : ℕ) → long ≤ length bytes
+    → drop (min (length bytes) ((long + 3) / 4 * 4)) bytes ≡ drop (padding long) (drop long bytes)
+after_padding bytes long within = go (cases_lt (length bytes) (long + padding long))
+  where
+    go : ((length bytes < long + padding long) ⊎ (long + padding long ≤ length bytes))
+        → drop (min (length bytes) ((long + 3) / 4 * 4)) bytes ≡ drop (padding long) (drop long bytes)
+    go (inl cut) =
+        let ends : min (length bytes) ((long + 3) / 4 * 4) ≡ length bytes = omega arith in
+        rw (ends, drop-drop (padding long) long bytes) (drop_all (length bytes) bytes (omega arith)
+        ∙ sym (drop_all (long + padding long) bytes (omega arith)))
+    go (inr full) =
+        let ends : min (length bytes) ((long + 3) / 4 * 4) ≡ long + padding long = omega arith in
+        rw (ends, drop-drop (padding long) long bytes) refl
 
 -- where the length at the front covers its header, and as many bytes are there, a frame is found
 pub next_frame_long : (bytes : List ℕ) (long : ℕ) → length_at bytes ≡ long → 4 ≤ long → long ≤ length bytes

@@ -1,5 +1,5 @@
 -- Lists as they are written, one item after the other.
-use Rattle.std.proofs.Common.{◌≡◌, ℕ, ◌+◌, ◌-◌, ◌<◌, ◌≤◌, ◌^◌, List, [], ◌++◌, length, map, take, drop, get_or, refl, sym, ◌∙◌, ap, subst, arith, length-append}
+use Rattle.std.proofs.Common.{◌≡◌, ℕ, ◌+◌, ◌-◌, ◌<◌, ◌≤◌, ◌^◌, List, [], ◌∷◌, ◌++◌, length, map, take, drop, get_or, refl, sym, ◌∙◌, ap, subst, arith, length-append}
 use Rattle.std.proofs.Common.{length-drop}
 use Rattle.std.specs.List.{flat_map, AllByRecursion}
 use Rattle.std.proofs.lemmas.List.{get_or-map, length-map, length-take, take_all}
@@ -33,15 +33,6 @@ module _ {Y X : Type 0} (see : Y → X) (frame : X → Frame) (items : List Y) w
   all_before n past =
       let long : length (map see items) ≤ n = omega (arith, length-map items see) in
       ap (list_bytes frame) (take_all n (map see items) long)
-
-  -- a list fits where each item before the end does and their bytes can be counted
-  pub all_fit : (n : ℕ) → length items ≤ n → (P : X → Type 0) → AllByRecursion P (take n (map see items)) → length (bytes_before n) < 2 ^ 64
-      → ListFits P frame (map see items)
-  unfolding bytes_before
-  all_fit n past P each whole =
-      let long : length (map see items) ≤ n = omega (arith, length-map items see) in
-      let same = take_all n (map see items) long in
-      record { each = subst (AllByRecursion P) same each; whole = rw same at whole }
 
 -- what each item before the end is, each is
 pub all_hold : {Y X : Type 0} (see : Y → X) (items : List Y) (P : X → Type 0) (n : ℕ) → length items ≤ n → AllByRecursion P (take n (map see items))
@@ -108,3 +99,41 @@ module _ {Y X : Type 0} (see : Y → X) {items : List Y} {i : ℕ} {item : Y} (h
   pub one_more : AllByRecursion P (take i (map see items)) → P (see item) → AllByRecursion P (take (i + 1) (map see items))
   one_more before it = recursion_from_All P _
       (All-more P (map see items) i (see item) (seen_within see here) (All-from_recursion P _ before) (subst P (sym (seen_at see here)) it))
+
+-- no item has no bytes, and is of any kind
+pub of_no_item : {Y X : Type 0} (see : Y → X) (items : List Y) → length items < 1 → (frame : X → Frame) (P : X → Type 0)
+    → AllByRecursion P (map see items) × (length (list_bytes frame (map see items)) ≡ 0)
+unfolding list_bytes
+of_no_item see [] none frame P = (tt, refl)
+of_no_item see (y ∷ ys) none frame P = absurd (omega arith)
+
+-- items that are cut after the first
+module _ {Y X : Type 0} (see : Y → X) (items : List Y) (first : Y) (some : 1 ≤ length items) (is : first ≡ get_or items 0 first) where
+  -- the others
+  abbrev pub others : List Y
+  others = take (length items - 1) (drop 1 items)
+
+  pub first_and_others : items ≡ first ∷ others
+  first_and_others = go items some is
+    where
+      go : (ys : List Y) → 1 ≤ length ys → first ≡ get_or ys 0 first → ys ≡ first ∷ take (length ys - 1) (drop 1 ys)
+      go [] some is = absurd (omega arith)
+      go (y ∷ ys) some is =
+          let rest : take (length (y ∷ ys) - 1) ys ≡ ys = take_all (length (y ∷ ys) - 1) ys (omega arith) in
+          rw (rest, is) refl
+
+  -- the bytes of all are those of the first, and of the others
+  pub length_first_and_others : (frame : X → Frame) → length (list_bytes frame (map see items))
+      ≡ frame_length (frame (see first)) + length (list_bytes frame (map see others))
+  unfolding list_bytes
+  length_first_and_others frame =
+      let cut = ap (λ (ys : List Y). length (list_bytes frame (map see ys))) first_and_others in
+      omega (arith, cut, length-append (frame_bytes (frame (see first))) (list_bytes frame (map see others)), length_frame_bytes (frame (see first)))
+
+  -- what all are, the first is and the others are
+  pub all_first_and_others : (P : X → Type 0) → AllByRecursion P (map see items) → P (see first) × AllByRecursion P (map see others)
+  all_first_and_others P all = subst (λ (ys : List Y). AllByRecursion P (map see ys)) first_and_others all
+
+  -- what the first is and the others are, all are
+  pub first_and_others_all : (P : X → Type 0) → P (see first) → AllByRecursion P (map see others) → AllByRecursion P (map see items)
+  first_and_others_all P one rest = subst (λ (ys : List Y). AllByRecursion P (map see ys)) (sym first_and_others) (one, rest)

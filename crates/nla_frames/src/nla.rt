@@ -84,8 +84,7 @@ pub trait Nla: FrameMeaning {
         ensures parts { result ≡ frame_length (Self.codec.write (Self.see self.now)) }
         ensures bytes { result ≡ length (frame_bytes (Self.codec.write (Self.see self.now))) }
     {
-        let len = self.value_len();
-        NLA_HEADER_SIZE + len + padding_len(len)
+        frame_len_of(self.value_len())
     }
 
     /// How many bytes its frame has, padding counted, or `None` where it can't be written.
@@ -95,7 +94,7 @@ pub trait Nla: FrameMeaning {
             × (n ≡ frame_length (Self.codec.write (Self.see self.now)))) }
     {
         match self.checked_len() {
-            Some(len) => Some(NLA_HEADER_SIZE + len + padding_len(len)),
+            Some(len) => Some(frame_len_of(len)),
             None => None,
         }
     }
@@ -114,7 +113,7 @@ pub trait Nla: FrameMeaning {
         let word = self.kind();
         let len = put_padded(&mut buffer[NLA_HEADER_SIZE..], self);
         put_header(buffer, len, word);
-        NLA_HEADER_SIZE + len + padding_len(len)
+        frame_len_of(len)
     }
 
     /// Writes its value over a buffer of just its length.
@@ -180,6 +179,14 @@ fn put_zeros(buffer: &mut [u8], count: usize)
         return;
     }
     buffer[2] = 0;
+}
+
+/// How many bytes the frame of a value of that many bytes has, padding counted.
+fn frame_len_of(len: usize) -> usize
+    requires { len ≤ 65531 }
+    ensures { result ≡ 4 + len + padding len }
+{
+    (NLA_HEADER_SIZE + len + 3) / 4 * 4
 }
 
 /// How many bytes of padding follow that many bytes.

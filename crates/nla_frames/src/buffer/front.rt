@@ -10,7 +10,7 @@ use crate::error::{DecodeError, Res};
 use crate::nla::NLA_HEADER_SIZE;
 
 // The first frame, and what follows it and its padding.
-#[tactic(auto, unfolding(crate::specs::Cutting::next_frame))]
+#[tactic(auto, using(crate::proofs::Front::after_padding), unfolding(crate::specs::Cutting::next_frame))]
 pub(crate) fn split_first(bytes: &[u8]) -> Res<(NlaBuffer<'_>, &[u8])>
     ensures { seen (λ x. (frame_of x.0, x.1.now)) result ≡ next_frame bytes.now }
 {
@@ -28,8 +28,8 @@ pub(crate) fn split_first(bytes: &[u8]) -> Res<(NlaBuffer<'_>, &[u8])>
         return Err(DecodeError::FrameTooShort { length });
     }
     let word = u16::from_le_bytes([bytes[2], bytes[3]]);
-    let (frame, after) = bytes.split_at(length);
-    let (_, rest) = after.split_at(after.len().min((4 - length % 4) % 4));
+    let (frame, _) = bytes.split_at(length);
+    let (_, rest) = bytes.split_at(bytes.len().min((length + 3) / 4 * 4));
     let value = &frame[NLA_HEADER_SIZE..];
     Ok((NlaBuffer { word, value }, rest))
 }

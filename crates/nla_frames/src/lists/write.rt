@@ -13,7 +13,8 @@ pub fn list_checked_len<T: Nla>(items: &[T]) -> Option<usize>
         (list_bytes T.codec.write (map T.see items.now)) }
 {
     let mut total: usize = 0;
-    for item in items {
+    let mut left = items;
+    while let [item, after @ ..] = left {
         match item.checked_frame_len() {
             None => return None,
             Some(len) => match total.checked_add(len) {
@@ -21,6 +22,7 @@ pub fn list_checked_len<T: Nla>(items: &[T]) -> Option<usize>
                 Some(more) => total = more,
             },
         }
+        left = after;
     }
     Some(total)
 }
