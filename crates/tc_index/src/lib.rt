@@ -7,8 +7,6 @@ mod index;
 pub mod laws;
 mod level;
 mod nesting;
-#[cfg(test)]
-mod tests;
 
 pub use attribute::{Attribute, BrokenFrame, Node};
 pub use attributes::Attributes;

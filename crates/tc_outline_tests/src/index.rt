@@ -1,10 +1,8 @@
 //! Attributes of messages, worked by hand.
 
-use crate::attribute::Node;
-use crate::attributes::Attributes;
-use crate::index::{index_action, index_tc};
-use nla_frames::DecodeError;
+use tc_index::{Attributes, Node, index_action, index_tc};
 use tc_names::Table;
+use tc_wire::DecodeError;
 
 /// Where a value begins, how many bytes it has, the word, the table and the depth.
 type Expected = (usize, usize, u16, Table, u8);
