@@ -1,16 +1,11 @@
 //! An action: one attribute, whose payload is a list of attributes that holds its own kind.
 
 ghost use Rattle.std.specs.Prelude.{◌≡◌, [], IfOk};
-ghost use Rattle.std.specs.Ordering.{on};
 ghost use Rattle.nla_frames.specs.Fault.{Gives, IfRefused, seen};
-ghost use Rattle.nla_frames.specs.Frame.{type_of};
 ghost use Rattle.nla_frames.specs.Buffer.{frame_of};
-ghost use Rattle.tc_meaning.specs.Tree.{Attribute};
 ghost use Rattle.tc_meaning.specs.OwnGrammar.{OwnReads, OwnFault};
-ghost use Rattle.tc_meaning.specs.Meaning.{table_codec};
-ghost use Rattle.tc_meaning.specs.Short.{table_short};
-ghost use Rattle.tc_meaning.specs.Equal.{same_attribute, attribute_equiv, attribute_per};
 ghost use Rattle.tc_laws.specs.Order.{read_action_attribute};
+ghost use Rattle.tc_values.specs.AttributeWords.{on, type_of, Attribute, table_codec, table_short, same_attribute, attribute_equiv, attribute_per};
 ghost use Rattle.tc_actions.specs.Action.{an_action, listed, tc_action, KeepsOrder};
 
 use crate::actions::attribute::TcActionAttribute;

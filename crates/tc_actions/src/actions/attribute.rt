@@ -1,25 +1,16 @@
 //! The attributes of an action.
 
 ghost use Rattle.std.specs.Prelude.{◌≡◌, string_bytes};
-ghost use Rattle.std.specs.Ordering.{on};
 ghost use Rattle.nla_frames.specs.Fault.{Gives, seen};
-ghost use Rattle.nla_frames.specs.Frame.{type_of};
 ghost use Rattle.nla_frames.specs.Value.{text};
-ghost use Rattle.tc_canon.specs.Descriptor.{table};
 ghost use Rattle.tc_canon.specs.Tables.Actions.{action_attributes};
-ghost use Rattle.tc_meaning.specs.Tree.{Attribute};
 ghost use Rattle.tc_meaning.specs.Own.{kind_of_attribute};
-ghost use Rattle.tc_meaning.specs.Meaning.{table_codec};
-ghost use Rattle.tc_meaning.specs.Short.{table_short};
-ghost use Rattle.tc_meaning.specs.Equal.{same_attribute, attribute_equiv, attribute_per};
+ghost use Rattle.tc_values.specs.AttributeWords.{on, type_of, table, Attribute, table_codec, table_short, same_attribute, attribute_equiv, attribute_per};
 ghost use Rattle.tc_values.specs.Row.{attribute_of, IsRow, ShownAs, reads_at};
 ghost use Rattle.tc_actions.specs.ActionAttribute.{action_attribute, attribute_body};
 
 use crate::actions::option::{TcActionOption, read_options};
-use crate::actions::types::{
-    TCA_ACT_COOKIE, TCA_ACT_IN_HW_COUNT, TCA_ACT_INDEX, TCA_ACT_KIND, TCA_ACT_OPTIONS,
-    TCA_ACT_STATS,
-};
+use crate::actions::types::*;
 use crate::stats::stats2::TcStats2;
 use nla_frames::{
     DefaultNla, FrameMeaning, NLA_F_NESTED, NLA_TYPE_MASK, Nla, NlaBuffer, Parseable,
@@ -74,13 +65,13 @@ impl<A: Allocator + Copy> ParseableParametrized<A> for TcActionAttribute<A> {
     fn parse_with_param(alloc: A, buf: &NlaBuffer<'_>, kind: &str) -> Res<TcActionAttribute<A>> {
         let value = buf.value();
         match buf.kind() {
-            TCA_ACT_KIND => Ok(TcActionAttribute::Kind(read_kind(alloc, value, kind)?)),
-            TCA_ACT_OPTIONS => Ok(TcActionAttribute::Options(read_options(alloc, value, kind)?)),
-            TCA_ACT_INDEX => Ok(TcActionAttribute::Index(parse_u32(value)?)),
-            TCA_ACT_STATS => Ok(TcActionAttribute::Stats(parse_list_with(alloc, value, kind)?)),
-            TCA_ACT_COOKIE => Ok(TcActionAttribute::Cookie(Vec::from_slice(alloc, value)?)),
-            TCA_ACT_IN_HW_COUNT => Ok(TcActionAttribute::InHwCount(parse_u32(value)?)),
-            _ => Ok(TcActionAttribute::Other(DefaultNla::parse(alloc, buf)?)),
+            TCA_ACT_KIND => Ok(Self::Kind(read_kind(alloc, value, kind)?)),
+            TCA_ACT_OPTIONS => Ok(Self::Options(read_options(alloc, value, kind)?)),
+            TCA_ACT_INDEX => Ok(Self::Index(parse_u32(value)?)),
+            TCA_ACT_STATS => Ok(Self::Stats(parse_list_with(alloc, value, kind)?)),
+            TCA_ACT_COOKIE => Ok(Self::Cookie(Vec::from_slice(alloc, value)?)),
+            TCA_ACT_IN_HW_COUNT => Ok(Self::InHwCount(parse_u32(value)?)),
+            _ => Ok(Self::Other(DefaultNla::parse(alloc, buf)?)),
         }
     }
 }
@@ -112,18 +103,16 @@ impl<A: Allocator> TcActionAttribute<A> {
         ensures row { IsRow attribute_body action_attributes result.0 result.1 }
     {
         match self {
-            TcActionAttribute::Kind(kind) => (TCA_ACT_KIND, Value::Text(kind.as_str())),
-            TcActionAttribute::Options(options) => (
+            Self::Kind(kind) => (TCA_ACT_KIND, Value::Text(kind.as_str())),
+            Self::Options(options) => (
                 TCA_ACT_OPTIONS | NLA_F_NESTED,
                 Value::Nested(Either::Left(Items(options))),
             ),
-            TcActionAttribute::Index(n) => (TCA_ACT_INDEX, Value::U32(*n)),
-            TcActionAttribute::Stats(stats) => {
-                (TCA_ACT_STATS, Value::Nested(Either::Right(Items(stats))))
-            }
-            TcActionAttribute::Cookie(bytes) => (TCA_ACT_COOKIE, Value::Bytes(bytes)),
-            TcActionAttribute::InHwCount(n) => (TCA_ACT_IN_HW_COUNT, Value::U32(*n)),
-            TcActionAttribute::Other(nla) => (nla.kind(), Value::Kept(nla.value())),
+            Self::Index(n) => (TCA_ACT_INDEX, Value::U32(*n)),
+            Self::Stats(stats) => (TCA_ACT_STATS, Value::Nested(Either::Right(Items(stats)))),
+            Self::Cookie(bytes) => (TCA_ACT_COOKIE, Value::Bytes(bytes)),
+            Self::InHwCount(n) => (TCA_ACT_IN_HW_COUNT, Value::U32(*n)),
+            Self::Other(nla) => (nla.kind(), Value::Kept(nla.value())),
         }
     }
 }
@@ -166,7 +155,7 @@ impl<A: Allocator> SetsKind for TcActionAttribute<A> {
 
     fn kind_set(&self) -> Option<&str> {
         match self {
-            TcActionAttribute::Kind(kind) => Some(kind.as_str()),
+            Self::Kind(kind) => Some(kind.as_str()),
             _ => None,
         }
     }

@@ -1,14 +1,8 @@
 //! Packets that are redirected or copied to another interface.
 
 ghost use Rattle.std.specs.Prelude.{◌≡◌};
-ghost use Rattle.std.specs.Ordering.{on};
-ghost use Rattle.nla_frames.specs.Frame.{type_of};
-ghost use Rattle.tc_canon.specs.Descriptor.{table};
 ghost use Rattle.tc_canon.specs.Tables.Actions.{mirror_options};
-ghost use Rattle.tc_meaning.specs.Tree.{Attribute};
-ghost use Rattle.tc_meaning.specs.Meaning.{table_codec};
-ghost use Rattle.tc_meaning.specs.Short.{table_short};
-ghost use Rattle.tc_meaning.specs.Equal.{same_attribute, attribute_equiv, attribute_per};
+ghost use Rattle.tc_values.specs.AttributeWords.{on, type_of, table, Attribute, table_codec, table_short, same_attribute, attribute_equiv, attribute_per};
 ghost use Rattle.tc_values.specs.Row.{attribute_of, IsRow, ShownAs, reads_at};
 ghost use Rattle.tc_actions.specs.Mirror.{mirror_option, mirror_body};
 
@@ -61,9 +55,9 @@ impl<A: Allocator> Parseable<A> for TcActionMirrorOption<A> {
     fn parse(alloc: A, buf: &NlaBuffer<'_>) -> Res<TcActionMirrorOption<A>> {
         let value = buf.value();
         match buf.kind() {
-            TCA_MIRRED_TM => Ok(TcActionMirrorOption::Tm(Tcf::parse(value)?)),
-            TCA_MIRRED_PARMS => Ok(TcActionMirrorOption::Parms(TcMirror::parse(value)?)),
-            _ => Ok(TcActionMirrorOption::Other(DefaultNla::parse(alloc, buf)?)),
+            TCA_MIRRED_TM => Ok(Self::Tm(Tcf::parse(value)?)),
+            TCA_MIRRED_PARMS => Ok(Self::Parms(TcMirror::parse(value)?)),
+            _ => Ok(Self::Other(DefaultNla::parse(alloc, buf)?)),
         }
     }
 }
@@ -83,15 +77,12 @@ impl<A: Allocator> TcActionMirrorOption<A> {
         ensures row { IsRow mirror_body mirror_options result.0 result.1 }
     {
         match self {
-            TcActionMirrorOption::Tm(times) => (
-                TCA_MIRRED_TM,
-                Value::Nested(Either::Left(Record(times))),
-            ),
-            TcActionMirrorOption::Parms(parms) => (
+            Self::Tm(times) => (TCA_MIRRED_TM, Value::Nested(Either::Left(Record(times)))),
+            Self::Parms(parms) => (
                 TCA_MIRRED_PARMS,
                 Value::Nested(Either::Right(Record(parms))),
             ),
-            TcActionMirrorOption::Other(nla) => (nla.kind(), Value::Kept(nla.value())),
+            Self::Other(nla) => (nla.kind(), Value::Kept(nla.value())),
         }
     }
 }

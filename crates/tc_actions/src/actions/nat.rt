@@ -1,14 +1,8 @@
 //! Addresses that are translated.
 
 ghost use Rattle.std.specs.Prelude.{◌≡◌};
-ghost use Rattle.std.specs.Ordering.{on};
-ghost use Rattle.nla_frames.specs.Frame.{type_of};
-ghost use Rattle.tc_canon.specs.Descriptor.{table};
 ghost use Rattle.tc_canon.specs.Tables.Actions.{nat_options};
-ghost use Rattle.tc_meaning.specs.Tree.{Attribute};
-ghost use Rattle.tc_meaning.specs.Meaning.{table_codec};
-ghost use Rattle.tc_meaning.specs.Short.{table_short};
-ghost use Rattle.tc_meaning.specs.Equal.{same_attribute, attribute_equiv, attribute_per};
+ghost use Rattle.tc_values.specs.AttributeWords.{on, type_of, table, Attribute, table_codec, table_short, same_attribute, attribute_equiv, attribute_per};
 ghost use Rattle.tc_values.specs.Row.{attribute_of, IsRow, ShownAs, reads_at};
 ghost use Rattle.tc_actions.specs.Nat.{nat_option, nat_body};
 
@@ -61,9 +55,9 @@ impl<A: Allocator> Parseable<A> for TcActionNatOption<A> {
     fn parse(alloc: A, buf: &NlaBuffer<'_>) -> Res<TcActionNatOption<A>> {
         let value = buf.value();
         match buf.kind() {
-            TCA_NAT_PARMS => Ok(TcActionNatOption::Parms(TcNat::parse(value)?)),
-            TCA_NAT_TM => Ok(TcActionNatOption::Tm(Tcf::parse(value)?)),
-            _ => Ok(TcActionNatOption::Other(DefaultNla::parse(alloc, buf)?)),
+            TCA_NAT_PARMS => Ok(Self::Parms(TcNat::parse(value)?)),
+            TCA_NAT_TM => Ok(Self::Tm(Tcf::parse(value)?)),
+            _ => Ok(Self::Other(DefaultNla::parse(alloc, buf)?)),
         }
     }
 }
@@ -83,15 +77,9 @@ impl<A: Allocator> TcActionNatOption<A> {
         ensures row { IsRow nat_body nat_options result.0 result.1 }
     {
         match self {
-            TcActionNatOption::Tm(times) => (
-                TCA_NAT_TM,
-                Value::Nested(Either::Left(Record(times))),
-            ),
-            TcActionNatOption::Parms(parms) => (
-                TCA_NAT_PARMS,
-                Value::Nested(Either::Right(Record(parms))),
-            ),
-            TcActionNatOption::Other(nla) => (nla.kind(), Value::Kept(nla.value())),
+            Self::Tm(times) => (TCA_NAT_TM, Value::Nested(Either::Left(Record(times)))),
+            Self::Parms(parms) => (TCA_NAT_PARMS, Value::Nested(Either::Right(Record(parms)))),
+            Self::Other(nla) => (nla.kind(), Value::Kept(nla.value())),
         }
     }
 }

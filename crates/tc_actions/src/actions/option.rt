@@ -1,15 +1,11 @@
 //! An action's options, by its kind.
 
-ghost use Rattle.std.specs.Ordering.{on};
 ghost use Rattle.std.specs.Prelude.{◌≡◌, map};
 ghost use Rattle.nla_frames.specs.Fault.{Gives, seen};
 ghost use Rattle.nla_frames.specs.Reading.{read_list, keep};
 ghost use Rattle.tc_canon.specs.Descriptor.{by_kind, is_known};
 ghost use Rattle.tc_canon.specs.Tables.Actions.{action_option_kinds};
-ghost use Rattle.tc_meaning.specs.Tree.{Attribute};
-ghost use Rattle.tc_meaning.specs.Meaning.{table_codec};
-ghost use Rattle.tc_meaning.specs.Short.{table_short};
-ghost use Rattle.tc_meaning.specs.Equal.{same_attribute, attribute_equiv, attribute_per};
+ghost use Rattle.tc_values.specs.AttributeWords.{on, Attribute, table_codec, table_short, same_attribute, attribute_equiv, attribute_per};
 ghost use Rattle.tc_actions.specs.ActionOption.{action_option};
 
 use crate::actions::mirror::{TcActionMirror, TcActionMirrorOption};
@@ -57,7 +53,7 @@ impl<A: Allocator> ParseableParametrized<A> for TcActionOption<A> {
         if kind == TcActionTunnelKey::KIND {
             return TunnelKey.read(alloc, buf);
         }
-        Ok(TcActionOption::Other(DefaultNla::parse(alloc, buf)?))
+        Ok(Self::Other(DefaultNla::parse(alloc, buf)?))
     }
 }
 
@@ -92,28 +88,28 @@ fn is_known_kind(kind: &str) -> bool
 impl<A: Allocator> Nla for TcActionOption<A> {
     fn kind(&self) -> u16 {
         match self {
-            TcActionOption::Mirror(option) => option.kind(),
-            TcActionOption::Nat(option) => option.kind(),
-            TcActionOption::TunnelKey(option) => option.kind(),
-            TcActionOption::Other(nla) => nla.kind(),
+            Self::Mirror(option) => option.kind(),
+            Self::Nat(option) => option.kind(),
+            Self::TunnelKey(option) => option.kind(),
+            Self::Other(nla) => nla.kind(),
         }
     }
 
     fn checked_len(&self) -> Option<usize> {
         match self {
-            TcActionOption::Mirror(option) => option.checked_len(),
-            TcActionOption::Nat(option) => option.checked_len(),
-            TcActionOption::TunnelKey(option) => option.checked_len(),
-            TcActionOption::Other(nla) => nla.checked_len(),
+            Self::Mirror(option) => option.checked_len(),
+            Self::Nat(option) => option.checked_len(),
+            Self::TunnelKey(option) => option.checked_len(),
+            Self::Other(nla) => nla.checked_len(),
         }
     }
 
     fn put_value(&self, buffer: &mut [u8]) -> usize {
         match self {
-            TcActionOption::Mirror(option) => option.put_value(buffer),
-            TcActionOption::Nat(option) => option.put_value(buffer),
-            TcActionOption::TunnelKey(option) => option.put_value(buffer),
-            TcActionOption::Other(nla) => nla.put_value(buffer),
+            Self::Mirror(option) => option.put_value(buffer),
+            Self::Nat(option) => option.put_value(buffer),
+            Self::TunnelKey(option) => option.put_value(buffer),
+            Self::Other(nla) => nla.put_value(buffer),
         }
     }
 
@@ -123,14 +119,10 @@ impl<A: Allocator> Nla for TcActionOption<A> {
 impl<A: Allocator> Settle for TcActionOption<A> {
     fn is_settled_under(&self, kind: &str) -> bool {
         match self {
-            TcActionOption::Mirror(option) => {
-                is_settled_of_kind(option, TcActionMirror::KIND, kind)
-            }
-            TcActionOption::Nat(option) => is_settled_of_kind(option, TcActionNat::KIND, kind),
-            TcActionOption::TunnelKey(option) => {
-                is_settled_of_kind(option, TcActionTunnelKey::KIND, kind)
-            }
-            TcActionOption::Other(nla) => nla.is_settled_under(kind) && !is_known_kind(kind),
+            Self::Mirror(option) => is_settled_of_kind(option, TcActionMirror::KIND, kind),
+            Self::Nat(option) => is_settled_of_kind(option, TcActionNat::KIND, kind),
+            Self::TunnelKey(option) => is_settled_of_kind(option, TcActionTunnelKey::KIND, kind),
+            Self::Other(nla) => nla.is_settled_under(kind) && !is_known_kind(kind),
         }
     }
 }

@@ -1,23 +1,12 @@
 //! Packets that are sent through a tunnel.
 
 ghost use Rattle.std.specs.Prelude.{◌≡◌};
-ghost use Rattle.std.specs.Ordering.{on};
-ghost use Rattle.nla_frames.specs.Frame.{type_of};
-ghost use Rattle.tc_canon.specs.Descriptor.{table};
 ghost use Rattle.tc_canon.specs.Tables.Actions.{tunnel_key_options};
-ghost use Rattle.tc_meaning.specs.Tree.{Attribute};
-ghost use Rattle.tc_meaning.specs.Meaning.{table_codec};
-ghost use Rattle.tc_meaning.specs.Short.{table_short};
-ghost use Rattle.tc_meaning.specs.Equal.{same_attribute, attribute_equiv, attribute_per};
+ghost use Rattle.tc_values.specs.AttributeWords.{on, type_of, table, Attribute, table_codec, table_short, same_attribute, attribute_equiv, attribute_per};
 ghost use Rattle.tc_values.specs.Row.{attribute_of, IsRow, ShownAs, reads_at};
 ghost use Rattle.tc_actions.specs.TunnelKey.{tunnel_key_option, tunnel_key_body};
 
-use crate::actions::types::{
-    TCA_TUNNEL_KEY_ENC_DST_PORT, TCA_TUNNEL_KEY_ENC_IPV4_DST, TCA_TUNNEL_KEY_ENC_IPV4_SRC,
-    TCA_TUNNEL_KEY_ENC_IPV6_DST, TCA_TUNNEL_KEY_ENC_IPV6_SRC, TCA_TUNNEL_KEY_ENC_KEY_ID,
-    TCA_TUNNEL_KEY_ENC_TOS, TCA_TUNNEL_KEY_ENC_TTL, TCA_TUNNEL_KEY_NO_CSUM, TCA_TUNNEL_KEY_PARMS,
-    TCA_TUNNEL_KEY_TM,
-};
+use crate::actions::types::*;
 use nla_frames::{
     DefaultNla, FrameMeaning, NLA_TYPE_MASK, Nla, NlaBuffer, Parseable, Res, Settle,
     parse_ipv4_addr, parse_ipv6_addr, parse_u8, parse_u16_be, parse_u32_be,
@@ -94,30 +83,18 @@ impl<A: Allocator> Parseable<A> for TcActionTunnelKeyOption<A> {
     fn parse(alloc: A, buf: &NlaBuffer<'_>) -> Res<TcActionTunnelKeyOption<A>> {
         let value = buf.value();
         match buf.kind() {
-            TCA_TUNNEL_KEY_TM => Ok(TcActionTunnelKeyOption::Tm(Tcf::parse(value)?)),
-            TCA_TUNNEL_KEY_PARMS => Ok(TcActionTunnelKeyOption::Parms(TcTunnelKey::parse(value)?)),
-            TCA_TUNNEL_KEY_ENC_IPV4_SRC => Ok(TcActionTunnelKeyOption::EncIpv4Src(parse_ipv4_addr(
-                value,
-            )?)),
-            TCA_TUNNEL_KEY_ENC_IPV4_DST => Ok(TcActionTunnelKeyOption::EncIpv4Dst(parse_ipv4_addr(
-                value,
-            )?)),
-            TCA_TUNNEL_KEY_ENC_IPV6_SRC => Ok(TcActionTunnelKeyOption::EncIpv6Src(parse_ipv6_addr(
-                value,
-            )?)),
-            TCA_TUNNEL_KEY_ENC_IPV6_DST => Ok(TcActionTunnelKeyOption::EncIpv6Dst(parse_ipv6_addr(
-                value,
-            )?)),
-            TCA_TUNNEL_KEY_ENC_KEY_ID => Ok(TcActionTunnelKeyOption::EncKeyId(parse_u32_be(
-                value,
-            )?)),
-            TCA_TUNNEL_KEY_ENC_DST_PORT => Ok(TcActionTunnelKeyOption::EncDstPort(parse_u16_be(
-                value,
-            )?)),
-            TCA_TUNNEL_KEY_NO_CSUM => Ok(TcActionTunnelKeyOption::NoCsum(parse_u8(value)? != 0)),
-            TCA_TUNNEL_KEY_ENC_TOS => Ok(TcActionTunnelKeyOption::EncTos(parse_u8(value)?)),
-            TCA_TUNNEL_KEY_ENC_TTL => Ok(TcActionTunnelKeyOption::EncTtl(parse_u8(value)?)),
-            _ => Ok(TcActionTunnelKeyOption::Other(DefaultNla::parse(alloc, buf)?)),
+            TCA_TUNNEL_KEY_TM => Ok(Self::Tm(Tcf::parse(value)?)),
+            TCA_TUNNEL_KEY_PARMS => Ok(Self::Parms(TcTunnelKey::parse(value)?)),
+            TCA_TUNNEL_KEY_ENC_IPV4_SRC => Ok(Self::EncIpv4Src(parse_ipv4_addr(value)?)),
+            TCA_TUNNEL_KEY_ENC_IPV4_DST => Ok(Self::EncIpv4Dst(parse_ipv4_addr(value)?)),
+            TCA_TUNNEL_KEY_ENC_IPV6_SRC => Ok(Self::EncIpv6Src(parse_ipv6_addr(value)?)),
+            TCA_TUNNEL_KEY_ENC_IPV6_DST => Ok(Self::EncIpv6Dst(parse_ipv6_addr(value)?)),
+            TCA_TUNNEL_KEY_ENC_KEY_ID => Ok(Self::EncKeyId(parse_u32_be(value)?)),
+            TCA_TUNNEL_KEY_ENC_DST_PORT => Ok(Self::EncDstPort(parse_u16_be(value)?)),
+            TCA_TUNNEL_KEY_NO_CSUM => Ok(Self::NoCsum(parse_u8(value)? != 0)),
+            TCA_TUNNEL_KEY_ENC_TOS => Ok(Self::EncTos(parse_u8(value)?)),
+            TCA_TUNNEL_KEY_ENC_TTL => Ok(Self::EncTtl(parse_u8(value)?)),
+            _ => Ok(Self::Other(DefaultNla::parse(alloc, buf)?)),
         }
     }
 }
@@ -138,42 +115,36 @@ impl<A: Allocator> TcActionTunnelKeyOption<A> {
         ensures row { IsRow tunnel_key_body tunnel_key_options result.0 result.1 }
     {
         match self {
-            TcActionTunnelKeyOption::Tm(times) => (
+            Self::Tm(times) => (
                 TCA_TUNNEL_KEY_TM,
                 Value::Nested(Either::Left(Record(times))),
             ),
-            TcActionTunnelKeyOption::Parms(parms) => (
+            Self::Parms(parms) => (
                 TCA_TUNNEL_KEY_PARMS,
                 Value::Nested(Either::Right(Record(parms))),
             ),
-            TcActionTunnelKeyOption::EncIpv4Src(address) => (
+            Self::EncIpv4Src(address) => (
                 TCA_TUNNEL_KEY_ENC_IPV4_SRC,
                 Value::Octets4(address.octets()),
             ),
-            TcActionTunnelKeyOption::EncIpv4Dst(address) => (
+            Self::EncIpv4Dst(address) => (
                 TCA_TUNNEL_KEY_ENC_IPV4_DST,
                 Value::Octets4(address.octets()),
             ),
-            TcActionTunnelKeyOption::EncIpv6Src(address) => (
+            Self::EncIpv6Src(address) => (
                 TCA_TUNNEL_KEY_ENC_IPV6_SRC,
                 Value::Octets16(address.octets()),
             ),
-            TcActionTunnelKeyOption::EncIpv6Dst(address) => (
+            Self::EncIpv6Dst(address) => (
                 TCA_TUNNEL_KEY_ENC_IPV6_DST,
                 Value::Octets16(address.octets()),
             ),
-            TcActionTunnelKeyOption::EncKeyId(n) => (TCA_TUNNEL_KEY_ENC_KEY_ID, Value::U32Be(*n)),
-            TcActionTunnelKeyOption::EncDstPort(n) => (
-                TCA_TUNNEL_KEY_ENC_DST_PORT,
-                Value::U16Be(*n),
-            ),
-            TcActionTunnelKeyOption::NoCsum(is_set) => (
-                TCA_TUNNEL_KEY_NO_CSUM,
-                Value::Truth(*is_set),
-            ),
-            TcActionTunnelKeyOption::EncTos(n) => (TCA_TUNNEL_KEY_ENC_TOS, Value::U8(*n)),
-            TcActionTunnelKeyOption::EncTtl(n) => (TCA_TUNNEL_KEY_ENC_TTL, Value::U8(*n)),
-            TcActionTunnelKeyOption::Other(nla) => (nla.kind(), Value::Kept(nla.value())),
+            Self::EncKeyId(n) => (TCA_TUNNEL_KEY_ENC_KEY_ID, Value::U32Be(*n)),
+            Self::EncDstPort(n) => (TCA_TUNNEL_KEY_ENC_DST_PORT, Value::U16Be(*n)),
+            Self::NoCsum(is_set) => (TCA_TUNNEL_KEY_NO_CSUM, Value::Truth(*is_set)),
+            Self::EncTos(n) => (TCA_TUNNEL_KEY_ENC_TOS, Value::U8(*n)),
+            Self::EncTtl(n) => (TCA_TUNNEL_KEY_ENC_TTL, Value::U8(*n)),
+            Self::Other(nla) => (nla.kind(), Value::Kept(nla.value())),
         }
     }
 }

@@ -66,13 +66,9 @@ impl<A: Allocator> ParseableBytes<A> for TcFqCodelXstats<A> {
         }
         let (number, payload) = split_number(bytes);
         match number {
-            TCA_FQ_CODEL_XSTATS_QDISC => Ok(TcFqCodelXstats::Qdisc(TcFqCodelQdStats::parse(
-                payload,
-            )?)),
-            TCA_FQ_CODEL_XSTATS_CLASS => Ok(TcFqCodelXstats::Class(TcFqCodelClStats::parse(
-                payload,
-            )?)),
-            _ => Ok(TcFqCodelXstats::Other(Vec::from_slice(alloc, bytes)?)),
+            TCA_FQ_CODEL_XSTATS_QDISC => Ok(Self::Qdisc(TcFqCodelQdStats::parse(payload)?)),
+            TCA_FQ_CODEL_XSTATS_CLASS => Ok(Self::Class(TcFqCodelClStats::parse(payload)?)),
+            _ => Ok(Self::Other(Vec::from_slice(alloc, bytes)?)),
         }
     }
 }
@@ -80,23 +76,23 @@ impl<A: Allocator> ParseableBytes<A> for TcFqCodelXstats<A> {
 impl<A: Allocator> Emitable for TcFqCodelXstats<A> {
     fn checked_len(&self) -> Option<usize> {
         match self {
-            TcFqCodelXstats::Qdisc(_) => Some(XSTATS_NUMBER_LEN + TC_FQ_CODEL_QD_STATS_LEN),
-            TcFqCodelXstats::Class(_) => Some(XSTATS_NUMBER_LEN + TC_FQ_CODEL_CL_STATS_LEN),
-            TcFqCodelXstats::Other(bytes) => Some(bytes.len()),
+            Self::Qdisc(_) => Some(XSTATS_NUMBER_LEN + TC_FQ_CODEL_QD_STATS_LEN),
+            Self::Class(_) => Some(XSTATS_NUMBER_LEN + TC_FQ_CODEL_CL_STATS_LEN),
+            Self::Other(bytes) => Some(bytes.len()),
         }
     }
 
     fn emit(&self, buffer: &mut [u8]) {
         match self {
-            TcFqCodelXstats::Qdisc(stats) => {
+            Self::Qdisc(stats) => {
                 stats.emit(&mut buffer[XSTATS_NUMBER_LEN..]);
                 emit_u32(buffer, TCA_FQ_CODEL_XSTATS_QDISC);
             }
-            TcFqCodelXstats::Class(stats) => {
+            Self::Class(stats) => {
                 stats.emit(&mut buffer[XSTATS_NUMBER_LEN..]);
                 emit_u32(buffer, TCA_FQ_CODEL_XSTATS_CLASS);
             }
-            TcFqCodelXstats::Other(bytes) => {
+            Self::Other(bytes) => {
                 put_bytes(buffer, bytes);
             }
         }
@@ -106,9 +102,9 @@ impl<A: Allocator> Emitable for TcFqCodelXstats<A> {
 impl<A: Allocator> SettleBytes for TcFqCodelXstats<A> {
     fn is_settled_under(&self, kind: &str) -> bool {
         match self {
-            TcFqCodelXstats::Qdisc(stats) => stats.is_settled_under(kind),
-            TcFqCodelXstats::Class(stats) => stats.is_settled_under(kind),
-            TcFqCodelXstats::Other(bytes) => is_no_number(bytes),
+            Self::Qdisc(stats) => stats.is_settled_under(kind),
+            Self::Class(stats) => stats.is_settled_under(kind),
+            Self::Other(bytes) => is_no_number(bytes),
         }
     }
 }

@@ -1,14 +1,8 @@
 //! Statistics as attributes, of a queue and of an action.
 
 ghost use Rattle.std.specs.Prelude.{◌≡◌};
-ghost use Rattle.std.specs.Ordering.{on};
-ghost use Rattle.nla_frames.specs.Frame.{type_of};
-ghost use Rattle.tc_canon.specs.Descriptor.{table};
 ghost use Rattle.tc_canon.specs.Tables.Statistics.{stats2};
-ghost use Rattle.tc_meaning.specs.Tree.{Attribute};
-ghost use Rattle.tc_meaning.specs.Meaning.{table_codec};
-ghost use Rattle.tc_meaning.specs.Short.{table_short};
-ghost use Rattle.tc_meaning.specs.Equal.{same_attribute, attribute_equiv, attribute_per};
+ghost use Rattle.tc_values.specs.AttributeWords.{on, type_of, table, Attribute, table_codec, table_short, same_attribute, attribute_equiv, attribute_per};
 ghost use Rattle.tc_values.specs.Row.{attribute_of, IsRow, ShownAs, reads_at};
 ghost use Rattle.tc_actions.specs.Stats2.{tc_stats2, stats2_body};
 
@@ -64,11 +58,11 @@ impl<A: Allocator> ParseableParametrized<A> for TcStats2<A> {
     fn parse_with_param(alloc: A, buf: &NlaBuffer<'_>, kind: &str) -> Res<TcStats2<A>> {
         let value = buf.value();
         match buf.kind() {
-            TCA_STATS_BASIC => Ok(TcStats2::Basic(TcStatsBasic::parse(value)?)),
-            TCA_STATS_QUEUE => Ok(TcStats2::Queue(TcStatsQueue::parse(value)?)),
-            TCA_STATS_APP => Ok(TcStats2::App(TcXstats::parse_with_param(alloc, buf, kind)?)),
-            TCA_STATS_BASIC_HW => Ok(TcStats2::BasicHw(TcStatsBasic::parse(value)?)),
-            _ => Ok(TcStats2::Other(DefaultNla::parse(alloc, buf)?)),
+            TCA_STATS_BASIC => Ok(Self::Basic(TcStatsBasic::parse(value)?)),
+            TCA_STATS_QUEUE => Ok(Self::Queue(TcStatsQueue::parse(value)?)),
+            TCA_STATS_APP => Ok(Self::App(TcXstats::parse_with_param(alloc, buf, kind)?)),
+            TCA_STATS_BASIC_HW => Ok(Self::BasicHw(TcStatsBasic::parse(value)?)),
+            _ => Ok(Self::Other(DefaultNla::parse(alloc, buf)?)),
         }
     }
 }
@@ -88,20 +82,20 @@ impl<A: Allocator> TcStats2<A> {
         ensures row { IsRow stats2_body stats2 result.0 result.1 }
     {
         match self {
-            TcStats2::App(stats) => (TCA_STATS_APP, Value::Nested(Either::Left(Record(stats)))),
-            TcStats2::Basic(stats) => (
+            Self::App(stats) => (TCA_STATS_APP, Value::Nested(Either::Left(Record(stats)))),
+            Self::Basic(stats) => (
                 TCA_STATS_BASIC,
                 Value::Nested(Either::Right(Either::Left(Record(stats)))),
             ),
-            TcStats2::Queue(stats) => (
+            Self::Queue(stats) => (
                 TCA_STATS_QUEUE,
                 Value::Nested(Either::Right(Either::Right(Record(stats)))),
             ),
-            TcStats2::BasicHw(stats) => (
+            Self::BasicHw(stats) => (
                 TCA_STATS_BASIC_HW,
                 Value::Nested(Either::Right(Either::Left(Record(stats)))),
             ),
-            TcStats2::Other(nla) => (nla.kind(), Value::Kept(nla.value())),
+            Self::Other(nla) => (nla.kind(), Value::Kept(nla.value())),
         }
     }
 }

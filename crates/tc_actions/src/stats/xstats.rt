@@ -41,24 +41,24 @@ impl<A: Allocator> TcXstats<A> {
             (xstats_codec.read kind.now (frame_of buf.now).value) }
     {
         if kind == TcQdiscFqCodel::KIND {
-            return Ok(TcXstats::FqCodel(TcFqCodelXstats::parse(alloc, buf.value())?));
+            return Ok(Self::FqCodel(TcFqCodelXstats::parse(alloc, buf.value())?));
         }
-        Ok(TcXstats::Other(Vec::from_slice(alloc, buf.value())?))
+        Ok(Self::Other(Vec::from_slice(alloc, buf.value())?))
     }
 }
 
 impl<A: Allocator> Emitable for TcXstats<A> {
     fn checked_len(&self) -> Option<usize> {
         match self {
-            TcXstats::FqCodel(stats) => stats.checked_len(),
-            TcXstats::Other(bytes) => Some(bytes.len()),
+            Self::FqCodel(stats) => stats.checked_len(),
+            Self::Other(bytes) => Some(bytes.len()),
         }
     }
 
     fn emit(&self, buffer: &mut [u8]) {
         match self {
-            TcXstats::FqCodel(stats) => stats.emit(buffer),
-            TcXstats::Other(bytes) => {
+            Self::FqCodel(stats) => stats.emit(buffer),
+            Self::Other(bytes) => {
                 put_bytes(buffer, bytes);
             }
         }
@@ -68,8 +68,8 @@ impl<A: Allocator> Emitable for TcXstats<A> {
 impl<A: Allocator> SettleBytes for TcXstats<A> {
     fn is_settled_under(&self, kind: &str) -> bool {
         match self {
-            TcXstats::FqCodel(stats) => stats.is_settled() && kind == TcQdiscFqCodel::KIND,
-            TcXstats::Other(bytes) => {
+            Self::FqCodel(stats) => stats.is_settled() && kind == TcQdiscFqCodel::KIND,
+            Self::Other(bytes) => {
                 // Does nothing at run time: it says that each byte is below 256.
                 bytes_in_hand(bytes);
                 kind != TcQdiscFqCodel::KIND
