@@ -1,5 +1,5 @@
 -- Lists as they are written, one item after the other.
-use Rattle.std.proofs.Common.{◌≡◌, ℕ, ◌+◌, ◌-◌, ◌<◌, ◌≤◌, ◌^◌, List, [], ◌∷◌, ◌++◌, length, map, take, drop, get_or, refl, sym, ◌∙◌, ap, subst, arith, length-append}
+use Rattle.std.proofs.Common.{◌≡◌, ℕ, ◌+◌, ◌-◌, ◌<◌, ◌≤◌, List, [], ◌∷◌, ◌++◌, length, map, take, drop, get_or, refl, sym, ◌∙◌, ap, subst, arith, length-append}
 use Rattle.std.proofs.Common.{length-drop}
 use Rattle.std.specs.List.{flat_map, AllByRecursion}
 use Rattle.std.proofs.lemmas.List.{get_or-map, length-map, length-take, take_all}
@@ -7,7 +7,7 @@ use Rattle.std.proofs.lemmas.List.Folds.{length-flat_map-take}
 use Rattle.std.proofs.lemmas.List.Elements.{All-get_or, All-more, All-from_recursion, recursion_from_All}
 use Rattle.std.proofs.lemmas.Grind.{common_steps, take_at_read}
 use Rattle.nla_frames.specs.Frame.{Frame, frame_bytes, frame_length}
-use Rattle.nla_frames.specs.Emission.{Writes, HasRoom, ListFits, list_bytes}
+use Rattle.nla_frames.specs.Emission.{Writes, HasRoom, list_bytes}
 use Rattle.nla_frames.proofs.FrameBytes.{length_frame_bytes}
 use Rattle.nla_frames.proofs.Writing.{front_and_back}
 use borrow.Rule.Slice.PartMut.{put_mid}

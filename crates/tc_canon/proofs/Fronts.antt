@@ -156,6 +156,15 @@ no-front bytes after f e none starts = let one = front-padded bytes after f star
 same-front : (bytes after : List ℕ) (f g : Frame) → read_as f ≡ first_of (next_frame bytes) → StartsPadded bytes g after → f ≡ g
 same-front bytes after f g is starts = let one = front-padded bytes after g starts in cc
 
+-- a frame with its padding, cut off the front of bytes, has its padding at its end
+pub pad-of-whole : (bytes whole pad : List ℕ) (n end : ℕ) → whole ≡ take end bytes → pad ≡ drop n whole → end ≡ n + padding n
+    → pad ≡ take (padding n) (drop n bytes)
+pad-of-whole bytes whole pad n end is_whole is_pad is_end = rw (is_pad, is_whole, is_end) (drop-take n (padding n) bytes)
+
+-- and what follows it follows the padding
+pub rest-of-whole : (bytes rest : List ℕ) (n end : ℕ) → rest ≡ drop end bytes → end ≡ n + padding n → rest ≡ drop (padding n) (drop n bytes)
+rest-of-whole bytes rest n end is_rest is_end = rw (is_rest, is_end) (sym (drop-drop (padding n) n bytes))
+
 module _ (bytes : List ℕ) (f : Frame) (n : ℕ) (back : List ℕ) (is : read_as f ≡ first_of (next_frame bytes)) (long : n ≡ 4 + length f.value)
     (is_back : back ≡ drop n bytes) where
   -- its padding, counted from its length and from its value's

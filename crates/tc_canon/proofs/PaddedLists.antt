@@ -1,9 +1,12 @@
 -- Lists of frames that are padded with zeros: one frame more, the end, and where no frame stands.
-use Rattle.std.proofs.Common.{◌≡◌, ℕ, ◌<◌, List, [], ◌∷◌, ◌++◌, length, drop, refl, sym, ap, ◌∙◌, arith, ◌↔◌}
+use Rattle.std.proofs.Common.{◌≡◌, ℕ, ◌<◌, List, [], ◌∷◌, ◌++◌, length, drop, refl, sym, ap, ◌∙◌, arith, ◌↔◌, ◌==◌, Bool, true, false}
+use Rattle.std.proofs.lemmas.Bool.{eqb-true}
+use Rattle.std.proofs.lemmas.List.{nil_from_length}
 use Rattle.std.specs.List.{AllByRecursion, flat_map}
 use Rattle.std.proofs.Math.Seq.{drop-append_seam}
 use Rattle.nla_frames.specs.Frame.{Frame, IsFrame, frame_bytes}
 use Rattle.nla_frames.specs.Place.{Sets, kind_then}
+use Rattle.nla_frames.proofs.Items.{some_bytes}
 use Rattle.tc_canon.specs.Front.{StartsPadded}
 use Rattle.tc_canon.specs.Canonical.{IsPaddedList, IsCanonAt, CanonEach, IsCanonList}
 use Rattle.tc_canon.proofs.Fronts.{front-padded, starts-length}
@@ -86,6 +89,16 @@ module _ (Canon : IsCanonAt) (sets : Sets Frame) (k : List ℕ) (rest : List ℕ
   -- no frame
   pub list-breaks : 0 < length rest → ((f : Frame) (after : List ℕ) → StartsPadded rest f after → ⊥) → Whole → ⊥
   list-breaks some none w = list-stuck (CanonEach Canon sets k) rest some none (so_far.0 w)
+
+  -- fewer bytes than a header has are the end, or no list
+  pub list-too_short : (empty : Bool) → empty ≡ (length rest == 0) → length rest < 4 → (empty ≡ true) ↔ Whole
+  list-too_short true is short =
+      let none : rest ≡ [] = nil_from_length rest (eqb-true _ _ (sym is)) in
+      (λ e. so_far.1 (rw none ((list-end (CanonEach Canon sets k)).1 tt)), λ w. refl)
+  list-too_short false is short = (
+    λ e. absurd cc,
+    λ w. absurd (list-breaks (some_bytes rest false is refl) (λ f after starts. absurd (omega (arith, starts-length rest after f starts))) w),
+  )
 
 -- bytes are one list of frames
 pub same-frames : (fs gs : List Frame) → AllByRecursion IsFrame fs → AllByRecursion IsFrame gs → flat_map frame_bytes fs ≡ flat_map frame_bytes gs → fs ≡ gs

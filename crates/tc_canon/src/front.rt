@@ -1,6 +1,6 @@
 //! The first frame of a list that is padded with zeros.
 
-ghost use Rattle.std.specs.Prelude.{◌≡◌, ◌++◌, ◌↔◌, List, ℕ, length, replicate, IsTrue, MatchOption};
+ghost use Rattle.std.specs.Prelude.{◌≡◌, ◌≤◌, ◌++◌, ◌↔◌, List, ℕ, length, replicate, IsTrue, MatchOption};
 ghost use Rattle.nla_frames.specs.Frame.{Frame, IsFrame, frame_bytes};
 ghost use Rattle.nla_frames.specs.Buffer.{frame_of};
 ghost use Rattle.tc_canon.specs.Front.{StartsPadded};
@@ -17,12 +17,12 @@ pub(crate) fn split_padded(bytes: &[u8]) -> Option<(NlaBuffer<'_>, &[u8])>
         Err(_) => return None,
     };
     let length = frame.length() as usize;
-    let padding = (4 - length % 4) % 4;
-    let (_, after) = bytes.split_at(length);
-    if after.len() < padding {
+    let end = (length + 3) / 4 * 4;
+    if bytes.len() < end {
         return None;
     }
-    let (pad, rest) = after.split_at(padding);
+    let (whole, rest) = bytes.split_at(end);
+    let (_, pad) = whole.split_at(length);
     if is_zero(pad) {
         Some((frame, rest))
     } else {
@@ -30,9 +30,10 @@ pub(crate) fn split_padded(bytes: &[u8]) -> Option<(NlaBuffer<'_>, &[u8])>
     }
 }
 
-/// Each byte is zero.
-pub(crate) fn is_zero(bytes: &[u8]) -> bool
-    ensures { IsTrue result ↔ bytes.now ≡ replicate (length bytes.now) 0 }
+/// Each byte of a padding is zero.
+fn is_zero(pad: &[u8]) -> bool
+    requires few { length pad.now ≤ 3 }
+    ensures { IsTrue result ↔ pad.now ≡ replicate (length pad.now) 0 }
 {
-    bytes.iter().all(|byte| *byte == 0)
+    matches!(pad, [] | [0] | [0, 0] | [0, 0, 0])
 }

@@ -7,7 +7,7 @@ ghost use Rattle.tc_canon.specs.Descriptor.{table, others};
 ghost use Rattle.tc_canon.specs.Canonical.{IsCanonAt, IsCanonList, CanonTable};
 
 use crate::front::split_padded;
-use nla_frames::NlaBuffer;
+use nla_frames::{NLA_HEADER_SIZE, NlaBuffer};
 
 /// A table of frames.
 pub(crate) trait Table {
@@ -34,7 +34,7 @@ pub(crate) fn is_canonical_list<T: Table>(bytes: &[u8], kind: &[u8]) -> bool
     ensures { IsTrue result ↔ IsCanonList T.Canon keep kind.now bytes.now }
 {
     let mut rest = bytes;
-    while !rest.is_empty() {
+    while rest.len() >= NLA_HEADER_SIZE {
         match split_padded(rest) {
             Some((frame, after)) => {
                 if !T::is_canonical(kind, &frame) {
@@ -45,5 +45,5 @@ pub(crate) fn is_canonical_list<T: Table>(bytes: &[u8], kind: &[u8]) -> bool
             None => return false,
         }
     }
-    true
+    rest.is_empty()
 }

@@ -3,9 +3,9 @@
 ghost use Rattle.std.specs.Prelude.{◌≡◌, IsTrue, List};
 ghost use Rattle.std.specs.Ordering.{on};
 ghost use Rattle.nla_frames.specs.Frame.{type_of};
-ghost use Rattle.tc_canon.specs.Descriptor.{is_within, table};
+ghost use Rattle.tc_canon.specs.Descriptor.{table};
 ghost use Rattle.tc_canon.specs.Tables.Options.{fq_codel_options};
-ghost use Rattle.tc_meaning.specs.Tree.{Attribute, known, number};
+ghost use Rattle.tc_meaning.specs.Tree.{Attribute};
 ghost use Rattle.tc_meaning.specs.Meaning.{table_codec};
 ghost use Rattle.tc_meaning.specs.Short.{table_short};
 ghost use Rattle.tc_meaning.specs.Equal.{same_attribute, attribute_equiv, attribute_per};
@@ -74,10 +74,15 @@ impl<A: Allocator> Parseable<A> for TcQdiscFqCodelOption<A> {
     fn parse(alloc: A, buf: &NlaBuffer<'_>) -> Res<TcQdiscFqCodelOption<A>> {
         let value = buf.value();
         match buf.kind() {
-            kind @ TCA_FQ_CODEL_TARGET..=TCA_FQ_CODEL_MEMORY_LIMIT => Ok(Self::of_u32(
-                kind,
-                parse_u32(value)?,
-            )),
+            TCA_FQ_CODEL_TARGET => Ok(Self::Target(parse_u32(value)?)),
+            TCA_FQ_CODEL_LIMIT => Ok(Self::Limit(parse_u32(value)?)),
+            TCA_FQ_CODEL_INTERVAL => Ok(Self::Interval(parse_u32(value)?)),
+            TCA_FQ_CODEL_ECN => Ok(Self::Ecn(parse_u32(value)?)),
+            TCA_FQ_CODEL_FLOWS => Ok(Self::Flows(parse_u32(value)?)),
+            TCA_FQ_CODEL_QUANTUM => Ok(Self::Quantum(parse_u32(value)?)),
+            TCA_FQ_CODEL_CE_THRESHOLD => Ok(Self::CeThreshold(parse_u32(value)?)),
+            TCA_FQ_CODEL_DROP_BATCH_SIZE => Ok(Self::DropBatchSize(parse_u32(value)?)),
+            TCA_FQ_CODEL_MEMORY_LIMIT => Ok(Self::MemoryLimit(parse_u32(value)?)),
             TCA_FQ_CODEL_CE_THRESHOLD_SELECTOR => Ok(TcQdiscFqCodelOption::CeThresholdSelector(
                 parse_u8(value)?,
             )),
@@ -90,25 +95,6 @@ impl<A: Allocator> Parseable<A> for TcQdiscFqCodelOption<A> {
 }
 
 impl<A: Allocator> TcQdiscFqCodelOption<A> {
-    // The option of a type that holds a number of four bytes.
-    #[inline(always)]
-    fn of_u32(kind: u16, n: u32) -> Self
-        requires { IsTrue (is_within 1 9 kind) }
-        ensures { fq_codel_option result ≡ known kind (number n) }
-    {
-        match kind {
-            TCA_FQ_CODEL_TARGET => TcQdiscFqCodelOption::Target(n),
-            TCA_FQ_CODEL_LIMIT => TcQdiscFqCodelOption::Limit(n),
-            TCA_FQ_CODEL_INTERVAL => TcQdiscFqCodelOption::Interval(n),
-            TCA_FQ_CODEL_ECN => TcQdiscFqCodelOption::Ecn(n),
-            TCA_FQ_CODEL_FLOWS => TcQdiscFqCodelOption::Flows(n),
-            TCA_FQ_CODEL_QUANTUM => TcQdiscFqCodelOption::Quantum(n),
-            TCA_FQ_CODEL_CE_THRESHOLD => TcQdiscFqCodelOption::CeThreshold(n),
-            TCA_FQ_CODEL_DROP_BATCH_SIZE => TcQdiscFqCodelOption::DropBatchSize(n),
-            _ => TcQdiscFqCodelOption::MemoryLimit(n),
-        }
-    }
-
     // The row, with what it says of the attribute: how it is written, that it fits and is settled.
     fn view(&self) -> (u16, Value<'_>)
         ensures { ShownAs nothing fq_codel_options (fq_codel_option self.now) result.0 result.1 }

@@ -1,4 +1,3 @@
-use Rattle.std.proofs.Common.{refl}
 use Rattle.tc_canon.proofs.FlowerWidths.{found-width}
 use Rattle.tc_canon.proofs.flower.width_of.Goals as goal
 

@@ -1,7 +1,6 @@
-use Rattle.std.proofs.Common.{◌≡◌, true, false, refl}
+use Rattle.std.proofs.Common.{◌≡◌, true, false, refl, arith}
 use Rattle.nla_frames.specs.Reading.{keep}
-use Rattle.nla_frames.proofs.Items.{some_bytes}
-use Rattle.tc_canon.proofs.PaddedLists.{front-shorter, list-goes_on, list-refuses, list-breaks}
+use Rattle.tc_canon.proofs.PaddedLists.{front-shorter, list-goes_on, list-refuses, list-breaks, list-too_short}
 use Rattle.tc_canon.proofs.lists.is_canonical_list.Goals as goal
 
 pub returns-then-not-is_canonical : goal.returns-then-not-is_canonical
@@ -20,5 +19,8 @@ loop-rest-preserved g c = list-goes_on g.T.Table.Canon keep _ _ _ c.loop-rest.in
 pub returns-in-None : goal.returns-in-None
 returns-in-None g c = (
   λ x. cc,
-  λ w. absurd (list-breaks g.T.Table.Canon keep _ _ _ c.loop-rest.invariant (some_bytes _ _ c.is_empty.ensures c.loop-rest-test.true) c.in-None.ensures w),
+  λ w. absurd (list-breaks g.T.Table.Canon keep _ _ _ c.loop-rest.invariant (omega arith) c.in-None.ensures w),
 )
+
+pub returns : goal.returns
+returns g c = list-too_short g.T.Table.Canon keep _ _ _ c.loop-rest.invariant _ c.is_empty.ensures (omega arith)
