@@ -1,16 +1,10 @@
 //! Options of flower that match the MPLS label stack, entry by entry.
 
 ghost use Rattle.std.specs.Prelude.{◌≡◌, List};
-ghost use Rattle.std.specs.Ordering.{on};
-ghost use Rattle.nla_frames.specs.Frame.{type_of};
-ghost use Rattle.tc_canon.specs.Descriptor.{table};
 ghost use Rattle.tc_canon.specs.Tables.Flower.{lse_options, mpls_options};
-ghost use Rattle.tc_meaning.specs.Tree.{Attribute};
-ghost use Rattle.tc_meaning.specs.Meaning.{table_codec};
-ghost use Rattle.tc_meaning.specs.Short.{table_short};
-ghost use Rattle.tc_meaning.specs.Equal.{same_attribute, attribute_equiv, attribute_per};
-ghost use Rattle.tc_values.specs.Bodies.{nothing};
+ghost use Rattle.tc_values.specs.AttributeWords.{on, type_of, table, Attribute, table_codec, table_short, same_attribute, attribute_equiv, attribute_per};
 ghost use Rattle.tc_values.specs.Row.{attribute_of, IsRow, ShownAs, reads_at};
+ghost use Rattle.tc_values.specs.Bodies.{nothing};
 ghost use Rattle.tc_flower.specs.Mpls.{lse_option, mpls_option, lse_lists};
 
 use nla_frames::{
@@ -199,12 +193,10 @@ impl<A: Allocator> TcFilterFlowerMplsOption<A> {
         ensures row { IsRow lse_lists mpls_options result.0 result.1 }
     {
         match self {
-            Self::Lse(entries) => {
-                (
-                    TCA_FLOWER_KEY_MPLS_OPTS_LSE | NLA_F_NESTED,
-                    Value::Nested(Items(entries)),
-                )
-            }
+            Self::Lse(entries) => (
+                TCA_FLOWER_KEY_MPLS_OPTS_LSE | NLA_F_NESTED,
+                Value::Nested(Items(entries)),
+            ),
             Self::Other(nla) => (nla.kind(), Value::Kept(nla.value())),
         }
     }

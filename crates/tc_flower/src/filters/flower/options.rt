@@ -1,12 +1,7 @@
 //! The options of flower: which packets the filter matches, and the actions on them.
 
-ghost use Rattle.std.specs.Ordering.{on};
-ghost use Rattle.tc_canon.specs.Descriptor.{table};
 ghost use Rattle.tc_canon.specs.Tables.Flower.{flower_options};
-ghost use Rattle.tc_meaning.specs.Tree.{Attribute};
-ghost use Rattle.tc_meaning.specs.Meaning.{table_codec};
-ghost use Rattle.tc_meaning.specs.Short.{table_short};
-ghost use Rattle.tc_meaning.specs.Equal.{same_attribute, attribute_equiv, attribute_per};
+ghost use Rattle.tc_values.specs.AttributeWords.{on, table, Attribute, table_codec, table_short, same_attribute, attribute_equiv, attribute_per};
 ghost use Rattle.tc_flower.specs.Flower.{flower_option};
 
 use crate::filters::flower::mpls::TcFilterFlowerMplsOption;

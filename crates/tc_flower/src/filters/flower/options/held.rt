@@ -53,6 +53,11 @@ pub(crate) enum Held<'a, A: Allocator> {
     Other(&'a DefaultNla<A>),
 }
 
+// Any of these options, and what it holds.
+macro_rules! any_of {
+    ($held:ident in $($option:ident),*) => { $(Self::$option($held))|* };
+}
+
 impl<A: Allocator> TcFilterFlowerOption<A> {
     // The type, and the value that the option holds.
     #[inline(always)]
@@ -183,94 +188,27 @@ impl<A: Allocator> TcFilterFlowerOption<A> {
             Self::ClassId(n) => Held::ClassId(*n),
             Self::InDev(name) => Held::Name(name),
             Self::Actions(actions) => Held::Actions(actions),
-            Self::EthDst(mac)
-            | Self::EthDstMask(mac)
-            | Self::EthSrc(mac)
-            | Self::EthSrcMask(mac)
-            | Self::ArpSha(mac)
-            | Self::ArpShaMask(mac)
-            | Self::ArpTha(mac)
-            | Self::ArpThaMask(mac) => Held::Mac(*mac),
-            Self::Ipv4Src(ip)
-            | Self::Ipv4SrcMask(ip)
-            | Self::Ipv4Dst(ip)
-            | Self::Ipv4DstMask(ip)
-            | Self::EncKeyIpv4Src(ip)
-            | Self::EncKeyIpv4SrcMask(ip)
-            | Self::EncKeyIpv4Dst(ip)
-            | Self::EncKeyIpv4DstMask(ip)
-            | Self::ArpSip(ip)
-            | Self::ArpSipMask(ip)
-            | Self::ArpTip(ip)
-            | Self::ArpTipMask(ip) => Held::Ipv4(*ip),
-            Self::Ipv6Src(ip)
-            | Self::Ipv6SrcMask(ip)
-            | Self::Ipv6Dst(ip)
-            | Self::Ipv6DstMask(ip)
-            | Self::EncKeyIpv6Src(ip)
-            | Self::EncKeyIpv6SrcMask(ip)
-            | Self::EncKeyIpv6Dst(ip)
-            | Self::EncKeyIpv6DstMask(ip) => Held::Ipv6(*ip),
+            any_of!(mac in EthDst, EthDstMask, EthSrc, EthSrcMask, ArpSha, ArpShaMask, ArpTha,
+                ArpThaMask) => Held::Mac(*mac),
+            any_of!(ip in Ipv4Src, Ipv4SrcMask, Ipv4Dst, Ipv4DstMask, EncKeyIpv4Src,
+                EncKeyIpv4SrcMask, EncKeyIpv4Dst, EncKeyIpv4DstMask, ArpSip, ArpSipMask, ArpTip,
+                ArpTipMask) => Held::Ipv4(*ip),
+            any_of!(ip in Ipv6Src, Ipv6SrcMask, Ipv6Dst, Ipv6DstMask, EncKeyIpv6Src,
+                EncKeyIpv6SrcMask, EncKeyIpv6Dst, EncKeyIpv6DstMask) => Held::Ipv6(*ip),
             Self::CtLabels(labels) | Self::CtLabelsMask(labels) => Held::Labels(*labels),
-            Self::IpProto(n)
-            | Self::VlanPrio(n)
-            | Self::Icmpv4Code(n)
-            | Self::Icmpv4CodeMask(n)
-            | Self::Icmpv4Type(n)
-            | Self::Icmpv4TypeMask(n)
-            | Self::Icmpv6Code(n)
-            | Self::Icmpv6CodeMask(n)
-            | Self::Icmpv6Type(n)
-            | Self::Icmpv6TypeMask(n)
-            | Self::ArpOp(n)
-            | Self::ArpOpMask(n)
-            | Self::MplsTtl(n)
-            | Self::IpTos(n)
-            | Self::IpTosMask(n)
-            | Self::IpTtl(n)
-            | Self::IpTtlMask(n)
-            | Self::CvlanPrio(n)
-            | Self::EncKeyIpTos(n)
-            | Self::EncKeyIpTosMask(n)
-            | Self::EncKeyIpTtl(n)
-            | Self::EncKeyIpTtlMask(n) => Held::U8(*n),
-            Self::VlanId(n)
-            | Self::CvlanId(n)
-            | Self::CtState(n)
-            | Self::CtStateMask(n)
-            | Self::CtZone(n)
-            | Self::CtZoneMask(n) => Held::U16(*n),
-            Self::EthType(n)
-            | Self::TcpSrc(n)
-            | Self::TcpDst(n)
-            | Self::UdpSrc(n)
-            | Self::UdpDst(n)
-            | Self::VlanEthType(n)
-            | Self::TcpSrcMask(n)
-            | Self::TcpDstMask(n)
-            | Self::UdpSrcMask(n)
-            | Self::UdpDstMask(n)
-            | Self::SctpSrcMask(n)
-            | Self::SctpDstMask(n)
-            | Self::SctpSrc(n)
-            | Self::SctpDst(n)
-            | Self::EncKeyUdpSrcPort(n)
-            | Self::EncKeyUdpSrcPortMask(n)
-            | Self::EncKeyUdpDstPort(n)
-            | Self::EncKeyUdpDstPortMask(n)
-            | Self::TcpFlags(n)
-            | Self::TcpFlagsMask(n)
-            | Self::CvlanEthType(n)
-            | Self::PortSrcMin(n)
-            | Self::PortSrcMax(n)
-            | Self::PortDstMin(n)
-            | Self::PortDstMax(n) => Held::U16Be(*n),
-            Self::Flags(n)
-            | Self::InHwCount(n)
-            | Self::CtMark(n)
-            | Self::CtMarkMask(n)
-            | Self::KeyHash(n)
-            | Self::KeyHashMask(n) => Held::U32(*n),
+            any_of!(n in IpProto, VlanPrio, Icmpv4Code, Icmpv4CodeMask, Icmpv4Type, Icmpv4TypeMask,
+                Icmpv6Code, Icmpv6CodeMask, Icmpv6Type, Icmpv6TypeMask, ArpOp, ArpOpMask, MplsTtl,
+                IpTos, IpTosMask, IpTtl, IpTtlMask, CvlanPrio, EncKeyIpTos, EncKeyIpTosMask,
+                EncKeyIpTtl, EncKeyIpTtlMask) => Held::U8(*n),
+            any_of!(n in VlanId, CvlanId, CtState, CtStateMask, CtZone,
+                CtZoneMask) => Held::U16(*n),
+            any_of!(n in EthType, TcpSrc, TcpDst, UdpSrc, UdpDst, VlanEthType, TcpSrcMask,
+                TcpDstMask, UdpSrcMask, UdpDstMask, SctpSrcMask, SctpDstMask, SctpSrc, SctpDst,
+                EncKeyUdpSrcPort, EncKeyUdpSrcPortMask, EncKeyUdpDstPort, EncKeyUdpDstPortMask,
+                TcpFlags, TcpFlagsMask, CvlanEthType, PortSrcMin, PortSrcMax, PortDstMin,
+                PortDstMax) => Held::U16Be(*n),
+            any_of!(n in Flags, InHwCount, CtMark, CtMarkMask, KeyHash,
+                KeyHashMask) => Held::U32(*n),
             Self::EncKeyId(n) | Self::KeyFlags(n) | Self::KeyFlagsMask(n) => Held::U32Be(*n),
             Self::MplsBos(n) => Held::Bits1(*n),
             Self::MplsTc(n) => Held::Bits3(*n),
