@@ -1,11 +1,9 @@
 -- Lists as they are written, one item after the other.
 use Rattle.std.proofs.Common.{◌≡◌, ℕ, ◌+◌, ◌-◌, ◌<◌, ◌≤◌, List, [], ◌∷◌, ◌++◌, length, map, take, drop, get_or, refl, sym, ◌∙◌, ap, subst, arith, length-append}
-use Rattle.std.proofs.Common.{length-drop}
-use Rattle.std.specs.List.{flat_map, AllByRecursion}
-use Rattle.std.proofs.lemmas.List.{get_or-map, length-map, length-take, take_all}
-use Rattle.std.proofs.lemmas.List.Folds.{length-flat_map-take}
-use Rattle.std.proofs.lemmas.List.Elements.{All-get_or, All-more, All-from_recursion, recursion_from_All}
-use Rattle.std.proofs.lemmas.Grind.{common_steps, take_at_read}
+use Rattle.std.proofs.Common.{length-drop, take-add}
+use Rattle.std.specs.List.{AllByRecursion}
+use Rattle.std.proofs.lemmas.List.{get_or-map, length-map, length-take, length-take-le, take_all, take_at, drop_at, drop-drop}
+use Rattle.std.proofs.lemmas.List.Elements.{All-more, All-from_recursion, recursion_from_All}
 use Rattle.nla_frames.specs.Frame.{Frame, frame_bytes, frame_length}
 use Rattle.nla_frames.specs.Emission.{Writes, HasRoom, list_bytes}
 use Rattle.nla_frames.proofs.FrameBytes.{length_frame_bytes}
@@ -16,23 +14,6 @@ use borrow.Rule.Slice.PartMut.{put_mid}
 pub record IsAt {Y : Type 0} (items : List Y) (i : ℕ) (item : Y) : Type 0 where
   pub within : i < length items
   pub is : item ≡ get_or items i item
-
-module _ {Y X : Type 0} (see : Y → X) (frame : X → Frame) (items : List Y) where
-  -- the frames of the items before an index
-  unfoldable pub bytes_before : ℕ → List ℕ
-  bytes_before i = list_bytes frame (take i (map see items))
-
-  -- none are before the first
-  pub nothing_before : bytes_before 0 ≡ []
-  unfolding bytes_before list_bytes
-  nothing_before = refl
-
-  -- all are before the end
-  pub all_before : (n : ℕ) → length items ≤ n → bytes_before n ≡ list_bytes frame (map see items)
-  unfolding bytes_before
-  all_before n past =
-      let long : length (map see items) ≤ n = omega (arith, length-map items see) in
-      ap (list_bytes frame) (take_all n (map see items) long)
 
 -- what each item before the end is, each is
 pub all_hold : {Y X : Type 0} (see : Y → X) (items : List Y) (P : X → Type 0) (n : ℕ) → length items ≤ n → AllByRecursion P (take n (map see items))
@@ -47,54 +28,7 @@ module _ {Y X : Type 0} (see : Y → X) {items : List Y} {i : ℕ} {item : Y} (h
   seen_within : i < length (map see items)
   seen_within = omega (arith, length-map items see)
 
-module _ {Y X : Type 0} (see : Y → X) (frame : X → Frame) {items : List Y} {i : ℕ} {item : Y} (here : IsAt items i item) where
-  -- its frame follows those before it
-  pub next_before : bytes_before see frame items (i + 1) ≡ bytes_before see frame items i ++ frame_bytes (frame (see item))
-  unfolding bytes_before list_bytes
-  next_before =
-      let more = (take_at_read (map see items) i (see item) (seen_within see here)).1 in
-      rw more (rw (seen_at see here) (grind (arith, common_steps)))
-
-  -- how many bytes they have together
-  pub length_next : length (bytes_before see frame items (i + 1)) ≡ length (bytes_before see frame items i) + frame_length (frame (see item))
-  length_next = omega (
-    arith,
-    ap length next_before,
-    length-append (bytes_before see frame items i) (frame_bytes (frame (see item))),
-    length_frame_bytes (frame (see item)),
-  )
-
-  -- they are part of the whole
-  pub next_within : length (bytes_before see frame items i) + frame_length (frame (see item)) ≤ length (list_bytes frame (map see items))
-  unfolding bytes_before list_bytes
-  next_within =
-      let bytes = λ (x : X). frame_bytes (frame x) in
-      let part = length-flat_map-take bytes (map see items) i (see item) (seen_within see here) in
-      let whole : length (flat_map bytes (take i (map see items))) + length (frame_bytes (frame (see item))) ≤ length (flat_map bytes (map see items)) =
-      rw (seen_at see here) at part in
-      omega (arith, length_frame_bytes (frame (see item)))
-
-  -- so the frame has room after what is written
-  pub next_room : (old now : List ℕ) (at : ℕ) → at ≡ length (bytes_before see frame items i) → HasRoom (list_bytes frame (map see items)) old
-      → length now ≡ length old → HasRoom (frame_bytes (frame (see item))) (take (length now - at) (drop at now))
-  next_room old now at is_at room same_length =
-      omega (arith, next_within, length_frame_bytes (frame (see item)), length-take (length now - at) (drop at now), length-drop at now)
-
-  -- and is written there
-  pub next_written : (old now after : List ℕ) (at : ℕ) → at ≡ length (bytes_before see frame items i) → HasRoom (list_bytes frame (map see items)) old
-      → Writes (bytes_before see frame items i) old now → Writes (frame_bytes (frame (see item))) (take (length now - at) (drop at now)) after
-      → Writes (bytes_before see frame items (i + 1)) old (put_mid at (length now - at) now after)
-  next_written old now after at is_at room written_before written_next =
-      let fits : length (bytes_before see frame items i) + length (frame_bytes (frame (see item))) ≤ length old =
-      omega (arith, next_within, length_frame_bytes (frame (see item))) in
-      subst (λ bytes. Writes bytes old (put_mid at (length now - at) now after)) (sym next_before)
-      (front_and_back (bytes_before see frame items i) (frame_bytes (frame (see item))) old now after at is_at fits written_before written_next)
-
 module _ {Y X : Type 0} (see : Y → X) {items : List Y} {i : ℕ} {item : Y} (here : IsAt items i item) (P : X → Type 0) where
-  -- what each item is, this one is
-  pub one_of : AllByRecursion P (map see items) → P (see item)
-  one_of each = subst P (seen_at see here) (All-get_or P (map see items) i (see item) (seen_within see here) (All-from_recursion P (map see items) each))
-
   -- what each item before it and it are, each before the next one is
   pub one_more : AllByRecursion P (take i (map see items)) → P (see item) → AllByRecursion P (take (i + 1) (map see items))
   one_more before it = recursion_from_All P _
@@ -137,3 +71,33 @@ module _ {Y X : Type 0} (see : Y → X) (items : List Y) (first : Y) (some : 1 �
   -- what the first is and the others are, all are
   pub first_and_others_all : (P : X → Type 0) → P (see first) → AllByRecursion P (map see others) → AllByRecursion P (map see items)
   first_and_others_all P one rest = subst (λ (ys : List Y). AllByRecursion P (map see ys)) (sym first_and_others) (one, rest)
+
+  -- the bytes of all are those of the first and then those of the others
+  pub bytes_first_and_others : (frame : X → Frame)
+      → list_bytes frame (map see items) ≡ frame_bytes (frame (see first)) ++ list_bytes frame (map see others)
+  unfolding list_bytes
+  bytes_first_and_others frame = ap (λ (ys : List Y). list_bytes frame (map see ys)) first_and_others
+
+-- where the bytes that are left of a whole have a front, they go on after it
+module _ (whole left front back : List ℕ) (at n : ℕ) (within : at ≤ length whole) (is : left ≡ drop at whole) (parts : left ≡ front ++ back)
+    (long : n ≡ length front) where
+  pub ends_within : at + n ≤ length whole
+  ends_within = omega (arith, length-drop at whole, ap length (sym is ∙ parts), length-append front back)
+
+  pub left_after : back ≡ drop (at + n) whole
+  left_after = sym (drop_at front back n (sym long)) ∙ ap (drop n) (sym parts ∙ is) ∙ drop-drop n at whole
+
+  pub front_of_whole : take (at + n) whole ≡ take at whole ++ front
+  front_of_whole = take-add at n whole ∙ ap (λ (x : List ℕ). take at whole ++ x) (ap (take n) (sym is ∙ parts) ∙ take_at front back n (sym long))
+
+  -- the front has room after what is written
+  pub front_room : (old now : List ℕ) → HasRoom whole old → length now ≡ length old → HasRoom front (take (length now - at) (drop at now))
+  front_room old now room same_length = omega (arith, ends_within, length-take (length now - at) (drop at now), length-drop at now)
+
+  -- and is written there
+  pub front_written : (old now after : List ℕ) → HasRoom whole old → Writes (take at whole) old now
+      → Writes front (take (length now - at) (drop at now)) after → Writes (take (at + n) whole) old (put_mid at (length now - at) now after)
+  front_written old now after room before next =
+      let so_far : at ≡ length (take at whole) = sym (length-take-le at whole within) in
+      subst (λ bytes. Writes bytes old (put_mid at (length now - at) now after)) (sym front_of_whole)
+      (front_and_back (take at whole) front old now after at so_far (omega (arith, so_far, ends_within)) before next)

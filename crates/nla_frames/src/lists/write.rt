@@ -71,8 +71,10 @@ pub fn put_list<T: Nla>(items: &[T], buffer: &mut [u8]) -> usize
     ensures typed { AllByRecursion T.codec.Typed (map T.see items.now) }
 {
     let mut at: usize = 0;
-    for item in items {
+    let mut left = items;
+    while let [item, after @ ..] = left {
         at += item.put_frame(&mut buffer[at..]);
+        left = after;
     }
     at
 }

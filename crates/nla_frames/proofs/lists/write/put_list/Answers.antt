@@ -1,51 +1,48 @@
-use Rattle.std.proofs.Common.{◌≡◌, length, arith, ap, subst, ◌∙◌}
-use Rattle.std.proofs.lemmas.Grind.{common_steps}
-use Rattle.nla_frames.specs.Emission.{Writes}
-use Rattle.nla_frames.proofs.ListWriting.{IsAt, bytes_before, nothing_before, all_before, length_next, next_within, next_room, next_written, one_of, one_more}
-use Rattle.nla_frames.proofs.ListWriting.{all_hold}
+use Rattle.std.proofs.Common.{◌≡◌, ◌≤◌, length, map, arith, ap, subst, refl, length-drop}
+use Rattle.std.proofs.lemmas.List.{take_all}
+use Rattle.nla_frames.specs.Frame.{frame_bytes}
+use Rattle.nla_frames.specs.Emission.{list_bytes, Writes}
+use Rattle.nla_frames.proofs.FrameBytes.{length_frame_bytes}
+use Rattle.nla_frames.proofs.ListWriting.{of_no_item, bytes_first_and_others, all_first_and_others, first_and_others_all}
+use Rattle.nla_frames.proofs.ListWriting.{ends_within, left_after, front_room, front_written}
 use Rattle.nla_frames.proofs.lists.write.put_list.Goals as goal
-
-pub loop-item-init : goal.loop-item-init
-loop-item-init g c =
-    let none_before = bytes_before g.T.FrameMeaning.see g.T.FrameMeaning.codec.write c.args.items.now 0 in
-    let none = nothing_before g.T.FrameMeaning.see g.T.FrameMeaning.codec.write c.args.items.now in
-    let first : (0 ≡ length none_before) × Writes none_before c.args.buffer.now c.args.buffer.now = rw none (grind (arith, common_steps)) in
-    (first.0, first.1, tt)
 
 pub put_frame-at-requires-clause-fits : goal.put_frame-at-requires-clause-fits
 put_frame-at-requires-clause-fits g c =
-    let here : IsAt c.args.items.now c.loop-item.item-index c.item-item.result = record { within = omega arith; is = c.item-item.is } in
-    one_of g.T.FrameMeaning.see here g.T.FrameMeaning.codec.Fits c.requires.fits.each
+    (all_first_and_others g.T.FrameMeaning.see _ _ c.in-len1-up.len_at_least c.item-item.is _ c.loop-left.invariant.3).0
 
 pub put_frame-at-requires-clause-room : goal.put_frame-at-requires-clause-room
 put_frame-at-requires-clause-room g c =
-    let here : IsAt c.args.items.now c.loop-item.item-index c.item-item.result = record { within = omega arith; is = c.item-item.is } in
-    next_room g.T.FrameMeaning.see g.T.FrameMeaning.codec.write here c.args.buffer.now _ _ c.loop-item.invariant.0 c.requires.room (omega arith)
+    let parts = bytes_first_and_others g.T.FrameMeaning.see _ _ c.in-len1-up.len_at_least c.item-item.is g.T.FrameMeaning.codec.write in
+    front_room _ _ _ _ _ _ c.loop-left.invariant.0 c.loop-left.invariant.1 parts refl _ _ c.requires.room c.loop-left.auto.buffer
 
-pub overflow_add-at : goal.overflow_add-at
-overflow_add-at g c =
-    let here : IsAt c.args.items.now c.loop-item.item-index c.item-item.result = record { within = omega arith; is = c.item-item.is } in
-    omega (arith, next_within g.T.FrameMeaning.see g.T.FrameMeaning.codec.write here, c.requires.fits.whole)
-
-pub loop-item-preserved : goal.loop-item-preserved
-loop-item-preserved g c =
-    let here : IsAt c.args.items.now c.loop-item.item-index c.item-item.result = record { within = omega arith; is = c.item-item.is } in
-    let written = next_written g.T.FrameMeaning.see g.T.FrameMeaning.codec.write here _ _ _ _ c.loop-item.invariant.0 c.requires.room c.loop-item.invariant.1
-    c.put_frame-at.ensures.written in (
-      omega (arith, length_next g.T.FrameMeaning.see g.T.FrameMeaning.codec.write here),
-      written,
-      one_more g.T.FrameMeaning.see here g.T.FrameMeaning.codec.Typed c.loop-item.invariant.2 c.put_frame-at.ensures.typed,
+pub loop-left-preserved : goal.loop-left-preserved
+loop-left-preserved g c =
+    let parts = bytes_first_and_others g.T.FrameMeaning.see _ _ c.in-len1-up.len_at_least c.item-item.is g.T.FrameMeaning.codec.write in
+    let bytes = frame_bytes (g.T.FrameMeaning.codec.write (g.T.FrameMeaning.see c.item-item.result)) in
+    let long : c.put_frame-at.result ≡ length bytes = omega (
+      arith,
+      c.put_frame-at.ensures.length,
+      length_frame_bytes (g.T.FrameMeaning.codec.write (g.T.FrameMeaning.see c.item-item.result)),
+    ) in (
+      ends_within _ _ _ _ _ _ c.loop-left.invariant.0 c.loop-left.invariant.1 parts long,
+      left_after _ _ _ _ _ _ c.loop-left.invariant.0 c.loop-left.invariant.1 parts long,
+      front_written _ _ _ _ _ _ c.loop-left.invariant.0 c.loop-left.invariant.1 parts long _ _ _ c.requires.room c.loop-left.invariant.2
+          c.put_frame-at.ensures.written,
+      (all_first_and_others g.T.FrameMeaning.see _ _ c.in-len1-up.len_at_least c.item-item.is _ c.loop-left.invariant.3).1,
+      λ rest. c.loop-left.invariant.4
+          (first_and_others_all g.T.FrameMeaning.see _ _ c.in-len1-up.len_at_least c.item-item.is _ c.put_frame-at.ensures.typed rest),
     )
 
 pub returns-clause-written : goal.returns-clause-written
 returns-clause-written g c =
-    let all = all_before g.T.FrameMeaning.see g.T.FrameMeaning.codec.write c.args.items.now c.loop-item.item-index (omega arith) in
-    subst (λ bytes. Writes bytes c.args.buffer.now c.loop-item.buffer) all c.loop-item.invariant.1
+    let whole = list_bytes g.T.FrameMeaning.codec.write (map g.T.FrameMeaning.see c.args.items.now) in
+    let none = of_no_item g.T.FrameMeaning.see _ c.in_default.len_below g.T.FrameMeaning.codec.write g.T.FrameMeaning.codec.Fits in
+    let past : length whole ≤ c.loop-left.at = omega (arith, none.1, ap length c.loop-left.invariant.1, length-drop c.loop-left.at whole) in
+    subst (λ bytes. Writes bytes c.args.buffer.now c.loop-left.buffer) (take_all c.loop-left.at whole past) c.loop-left.invariant.2
 
 pub returns-clause-length : goal.returns-clause-length
-returns-clause-length g c = c.loop-item.invariant.0
-    ∙ ap length (all_before g.T.FrameMeaning.see g.T.FrameMeaning.codec.write c.args.items.now c.loop-item.item-index (omega arith))
-
-pub returns-clause-typed : goal.returns-clause-typed
-returns-clause-typed g c = all_hold g.T.FrameMeaning.see c.args.items.now g.T.FrameMeaning.codec.Typed c.loop-item.item-index
-    (omega arith) c.loop-item.invariant.2
+returns-clause-length g c =
+    let whole = list_bytes g.T.FrameMeaning.codec.write (map g.T.FrameMeaning.see c.args.items.now) in
+    let none = of_no_item g.T.FrameMeaning.see _ c.in_default.len_below g.T.FrameMeaning.codec.write g.T.FrameMeaning.codec.Fits in
+    omega (arith, none.1, ap length c.loop-left.invariant.1, length-drop c.loop-left.at whole, c.loop-left.invariant.0)
