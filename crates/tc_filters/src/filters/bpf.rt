@@ -1,23 +1,14 @@
 //! Packets that a program looks at.
 
 ghost use Rattle.std.specs.Prelude.{◌≡◌, List};
-ghost use Rattle.std.specs.Ordering.{on};
-ghost use Rattle.nla_frames.specs.Frame.{type_of};
 ghost use Rattle.nla_frames.specs.Value.{exactly};
-ghost use Rattle.tc_canon.specs.Descriptor.{table};
 ghost use Rattle.tc_canon.specs.Tables.Options.{bpf_options};
-ghost use Rattle.tc_meaning.specs.Tree.{Attribute};
-ghost use Rattle.tc_meaning.specs.Meaning.{table_codec};
-ghost use Rattle.tc_meaning.specs.Short.{table_short};
-ghost use Rattle.tc_meaning.specs.Equal.{same_attribute, attribute_equiv, attribute_per};
-ghost use Rattle.tc_values.specs.Bodies.{nothing};
+ghost use Rattle.tc_values.specs.AttributeWords.{on, type_of, table, Attribute, table_codec, table_short, same_attribute, attribute_equiv, attribute_per};
 ghost use Rattle.tc_values.specs.Row.{attribute_of, IsRow, ShownAs, reads_at};
+ghost use Rattle.tc_values.specs.Bodies.{nothing};
 ghost use Rattle.tc_filters.specs.Bpf.{bpf_option};
 
-use crate::filters::types::{
-    TCA_BPF_CLASSID, TCA_BPF_FD, TCA_BPF_FLAGS, TCA_BPF_FLAGS_GEN, TCA_BPF_ID, TCA_BPF_NAME,
-    TCA_BPF_TAG,
-};
+use crate::filters::types::*;
 use bitflags::Flags;
 use nla_frames::{
     DecodeError, DefaultNla, FrameMeaning, NLA_TYPE_MASK, Nla, NlaBuffer, Parseable, Res, Settle,
@@ -84,18 +75,16 @@ impl<A: Allocator> Parseable<A> for TcFilterBpfOption<A> {
     fn parse(alloc: A, buf: &NlaBuffer<'_>) -> Res<TcFilterBpfOption<A>> {
         let value = buf.value();
         match buf.kind() {
-            TCA_BPF_CLASSID => Ok(TcFilterBpfOption::ClassId(TcHandle::from(parse_u32(value)?))),
-            TCA_BPF_FD => Ok(TcFilterBpfOption::ProgFd(parse_u32(value)?)),
-            TCA_BPF_NAME => Ok(TcFilterBpfOption::ProgName(parse_string(alloc, value)?)),
-            TCA_BPF_FLAGS => Ok(TcFilterBpfOption::Flags(TcBpfFlags::from_bits_retain(parse_u32(
+            TCA_BPF_CLASSID => Ok(Self::ClassId(TcHandle::from(parse_u32(value)?))),
+            TCA_BPF_FD => Ok(Self::ProgFd(parse_u32(value)?)),
+            TCA_BPF_NAME => Ok(Self::ProgName(parse_string(alloc, value)?)),
+            TCA_BPF_FLAGS => Ok(Self::Flags(TcBpfFlags::from_bits_retain(parse_u32(value)?))),
+            TCA_BPF_FLAGS_GEN => Ok(Self::FlagsGeneric(TcU32OptionFlags::from_bits_retain(parse_u32(
                 value,
             )?))),
-            TCA_BPF_FLAGS_GEN => Ok(TcFilterBpfOption::FlagsGeneric(
-                TcU32OptionFlags::from_bits_retain(parse_u32(value)?),
-            )),
-            TCA_BPF_TAG => Ok(TcFilterBpfOption::ProgTag(parse_tag(value)?)),
-            TCA_BPF_ID => Ok(TcFilterBpfOption::ProgId(parse_u32(value)?)),
-            _ => Ok(TcFilterBpfOption::Other(DefaultNla::parse(alloc, buf)?)),
+            TCA_BPF_TAG => Ok(Self::ProgTag(parse_tag(value)?)),
+            TCA_BPF_ID => Ok(Self::ProgId(parse_u32(value)?)),
+            _ => Ok(Self::Other(DefaultNla::parse(alloc, buf)?)),
         }
     }
 }
@@ -130,14 +119,14 @@ impl<A: Allocator> TcFilterBpfOption<A> {
         ensures row { IsRow nothing bpf_options result.0 result.1 }
     {
         match self {
-            TcFilterBpfOption::ClassId(handle) => (TCA_BPF_CLASSID, Value::U32(u32::from(*handle))),
-            TcFilterBpfOption::ProgFd(n) => (TCA_BPF_FD, Value::U32(*n)),
-            TcFilterBpfOption::ProgName(name) => (TCA_BPF_NAME, Value::Text(name.as_str())),
-            TcFilterBpfOption::Flags(flags) => (TCA_BPF_FLAGS, Value::U32(flags.bits())),
-            TcFilterBpfOption::FlagsGeneric(flags) => (TCA_BPF_FLAGS_GEN, Value::U32(flags.bits())),
-            TcFilterBpfOption::ProgTag(tag) => (TCA_BPF_TAG, Value::Octets8(*tag)),
-            TcFilterBpfOption::ProgId(n) => (TCA_BPF_ID, Value::U32(*n)),
-            TcFilterBpfOption::Other(nla) => (nla.kind(), Value::Kept(nla.value())),
+            Self::ClassId(handle) => (TCA_BPF_CLASSID, Value::U32(u32::from(*handle))),
+            Self::ProgFd(n) => (TCA_BPF_FD, Value::U32(*n)),
+            Self::ProgName(name) => (TCA_BPF_NAME, Value::Text(name.as_str())),
+            Self::Flags(flags) => (TCA_BPF_FLAGS, Value::U32(flags.bits())),
+            Self::FlagsGeneric(flags) => (TCA_BPF_FLAGS_GEN, Value::U32(flags.bits())),
+            Self::ProgTag(tag) => (TCA_BPF_TAG, Value::Octets8(*tag)),
+            Self::ProgId(n) => (TCA_BPF_ID, Value::U32(*n)),
+            Self::Other(nla) => (nla.kind(), Value::Kept(nla.value())),
         }
     }
 }

@@ -1,21 +1,12 @@
 //! Packets whose words are compared.
 
 ghost use Rattle.std.specs.Prelude.{◌≡◌};
-ghost use Rattle.std.specs.Ordering.{on};
-ghost use Rattle.nla_frames.specs.Frame.{type_of};
-ghost use Rattle.tc_canon.specs.Descriptor.{table};
 ghost use Rattle.tc_canon.specs.Tables.Options.{u32_options};
-ghost use Rattle.tc_meaning.specs.Tree.{Attribute};
-ghost use Rattle.tc_meaning.specs.Meaning.{table_codec};
-ghost use Rattle.tc_meaning.specs.Short.{table_short};
-ghost use Rattle.tc_meaning.specs.Equal.{same_attribute, attribute_equiv, attribute_per};
+ghost use Rattle.tc_values.specs.AttributeWords.{on, type_of, table, Attribute, table_codec, table_short, same_attribute, attribute_equiv, attribute_per};
 ghost use Rattle.tc_values.specs.Row.{attribute_of, IsRow, ShownAs, reads_at};
 ghost use Rattle.tc_filters.specs.U32.{u32_option, u32_body};
 
-use crate::filters::types::{
-    TCA_U32_ACT, TCA_U32_CLASSID, TCA_U32_DIVISOR, TCA_U32_FLAGS, TCA_U32_HASH, TCA_U32_INDEV,
-    TCA_U32_LINK, TCA_U32_MARK, TCA_U32_PCNT, TCA_U32_POLICE, TCA_U32_SEL,
-};
+use crate::filters::types::*;
 use bitflags::Flags;
 use nla_frames::{
     DefaultNla, FrameMeaning, NLA_TYPE_MASK, Nla, NlaBuffer, Parseable, Res, Settle, parse_list,
@@ -91,20 +82,18 @@ impl<A: Allocator + Copy> Parseable<A> for TcFilterU32Option<A> {
     fn parse(alloc: A, buf: &NlaBuffer<'_>) -> Res<TcFilterU32Option<A>> {
         let value = buf.value();
         match buf.kind() {
-            TCA_U32_CLASSID => Ok(TcFilterU32Option::ClassId(TcHandle::from(parse_u32(value)?))),
-            TCA_U32_HASH => Ok(TcFilterU32Option::Hash(parse_u32(value)?)),
-            TCA_U32_LINK => Ok(TcFilterU32Option::Link(parse_u32(value)?)),
-            TCA_U32_DIVISOR => Ok(TcFilterU32Option::Divisor(parse_u32(value)?)),
-            TCA_U32_SEL => Ok(TcFilterU32Option::Selector(TcU32Selector::parse(alloc, value)?)),
-            TCA_U32_POLICE => Ok(TcFilterU32Option::Police(Vec::from_slice(alloc, value)?)),
-            TCA_U32_ACT => Ok(TcFilterU32Option::Action(parse_list(alloc, value)?)),
-            TCA_U32_INDEV => Ok(TcFilterU32Option::Indev(Vec::from_slice(alloc, value)?)),
-            TCA_U32_PCNT => Ok(TcFilterU32Option::Pnct(Vec::from_slice(alloc, value)?)),
-            TCA_U32_MARK => Ok(TcFilterU32Option::Mark(Vec::from_slice(alloc, value)?)),
-            TCA_U32_FLAGS => Ok(TcFilterU32Option::Flags(TcU32OptionFlags::from_bits_retain(
-                parse_u32(value)?,
-            ))),
-            _ => Ok(TcFilterU32Option::Other(DefaultNla::parse(alloc, buf)?)),
+            TCA_U32_CLASSID => Ok(Self::ClassId(TcHandle::from(parse_u32(value)?))),
+            TCA_U32_HASH => Ok(Self::Hash(parse_u32(value)?)),
+            TCA_U32_LINK => Ok(Self::Link(parse_u32(value)?)),
+            TCA_U32_DIVISOR => Ok(Self::Divisor(parse_u32(value)?)),
+            TCA_U32_SEL => Ok(Self::Selector(TcU32Selector::parse(alloc, value)?)),
+            TCA_U32_POLICE => Ok(Self::Police(Vec::from_slice(alloc, value)?)),
+            TCA_U32_ACT => Ok(Self::Action(parse_list(alloc, value)?)),
+            TCA_U32_INDEV => Ok(Self::Indev(Vec::from_slice(alloc, value)?)),
+            TCA_U32_PCNT => Ok(Self::Pnct(Vec::from_slice(alloc, value)?)),
+            TCA_U32_MARK => Ok(Self::Mark(Vec::from_slice(alloc, value)?)),
+            TCA_U32_FLAGS => Ok(Self::Flags(TcU32OptionFlags::from_bits_retain(parse_u32(value)?))),
+            _ => Ok(Self::Other(DefaultNla::parse(alloc, buf)?)),
         }
     }
 }
@@ -124,24 +113,21 @@ impl<A: Allocator> TcFilterU32Option<A> {
         ensures row { IsRow u32_body u32_options result.0 result.1 }
     {
         match self {
-            TcFilterU32Option::ClassId(handle) => (TCA_U32_CLASSID, Value::U32(u32::from(*handle))),
-            TcFilterU32Option::Hash(n) => (TCA_U32_HASH, Value::U32(*n)),
-            TcFilterU32Option::Link(n) => (TCA_U32_LINK, Value::U32(*n)),
-            TcFilterU32Option::Divisor(n) => (TCA_U32_DIVISOR, Value::U32(*n)),
-            TcFilterU32Option::Selector(selector) => (
+            Self::ClassId(handle) => (TCA_U32_CLASSID, Value::U32(u32::from(*handle))),
+            Self::Hash(n) => (TCA_U32_HASH, Value::U32(*n)),
+            Self::Link(n) => (TCA_U32_LINK, Value::U32(*n)),
+            Self::Divisor(n) => (TCA_U32_DIVISOR, Value::U32(*n)),
+            Self::Selector(selector) => (
                 TCA_U32_SEL,
                 Value::Nested(Either::Left(Record(selector))),
             ),
-            TcFilterU32Option::Police(bytes) => (TCA_U32_POLICE, Value::Bytes(bytes)),
-            TcFilterU32Option::Action(actions) => (
-                TCA_U32_ACT,
-                Value::Nested(Either::Right(Items(actions))),
-            ),
-            TcFilterU32Option::Indev(bytes) => (TCA_U32_INDEV, Value::Bytes(bytes)),
-            TcFilterU32Option::Pnct(bytes) => (TCA_U32_PCNT, Value::Bytes(bytes)),
-            TcFilterU32Option::Mark(bytes) => (TCA_U32_MARK, Value::Bytes(bytes)),
-            TcFilterU32Option::Flags(flags) => (TCA_U32_FLAGS, Value::U32(flags.bits())),
-            TcFilterU32Option::Other(nla) => (nla.kind(), Value::Kept(nla.value())),
+            Self::Police(bytes) => (TCA_U32_POLICE, Value::Bytes(bytes)),
+            Self::Action(actions) => (TCA_U32_ACT, Value::Nested(Either::Right(Items(actions)))),
+            Self::Indev(bytes) => (TCA_U32_INDEV, Value::Bytes(bytes)),
+            Self::Pnct(bytes) => (TCA_U32_PCNT, Value::Bytes(bytes)),
+            Self::Mark(bytes) => (TCA_U32_MARK, Value::Bytes(bytes)),
+            Self::Flags(flags) => (TCA_U32_FLAGS, Value::U32(flags.bits())),
+            Self::Other(nla) => (nla.kind(), Value::Kept(nla.value())),
         }
     }
 }

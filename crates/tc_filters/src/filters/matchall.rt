@@ -1,20 +1,12 @@
 //! All packets.
 
 ghost use Rattle.std.specs.Prelude.{◌≡◌};
-ghost use Rattle.std.specs.Ordering.{on};
-ghost use Rattle.nla_frames.specs.Frame.{type_of};
-ghost use Rattle.tc_canon.specs.Descriptor.{table};
 ghost use Rattle.tc_canon.specs.Tables.Options.{matchall_options};
-ghost use Rattle.tc_meaning.specs.Tree.{Attribute};
-ghost use Rattle.tc_meaning.specs.Meaning.{table_codec};
-ghost use Rattle.tc_meaning.specs.Short.{table_short};
-ghost use Rattle.tc_meaning.specs.Equal.{same_attribute, attribute_equiv, attribute_per};
+ghost use Rattle.tc_values.specs.AttributeWords.{on, type_of, table, Attribute, table_codec, table_short, same_attribute, attribute_equiv, attribute_per};
 ghost use Rattle.tc_values.specs.Row.{attribute_of, IsRow, ShownAs, reads_at};
 ghost use Rattle.tc_filters.specs.MatchAll.{matchall_option, action_list};
 
-use crate::filters::types::{
-    TCA_MATCHALL_ACT, TCA_MATCHALL_CLASSID, TCA_MATCHALL_FLAGS, TCA_MATCHALL_PCNT,
-};
+use crate::filters::types::*;
 use nla_frames::{
     DefaultNla, FrameMeaning, NLA_TYPE_MASK, Nla, NlaBuffer, Parseable, Res, Settle, parse_list,
     parse_u32,
@@ -69,13 +61,11 @@ impl<A: Allocator + Copy> Parseable<A> for TcFilterMatchAllOption<A> {
     fn parse(alloc: A, buf: &NlaBuffer<'_>) -> Res<TcFilterMatchAllOption<A>> {
         let value = buf.value();
         match buf.kind() {
-            TCA_MATCHALL_CLASSID => Ok(TcFilterMatchAllOption::ClassId(TcHandle::from(parse_u32(
-                value,
-            )?))),
-            TCA_MATCHALL_ACT => Ok(TcFilterMatchAllOption::Action(parse_list(alloc, value)?)),
-            TCA_MATCHALL_FLAGS => Ok(TcFilterMatchAllOption::Flags(parse_u32(value)?)),
-            TCA_MATCHALL_PCNT => Ok(TcFilterMatchAllOption::Pnct(Vec::from_slice(alloc, value)?)),
-            _ => Ok(TcFilterMatchAllOption::Other(DefaultNla::parse(alloc, buf)?)),
+            TCA_MATCHALL_CLASSID => Ok(Self::ClassId(TcHandle::from(parse_u32(value)?))),
+            TCA_MATCHALL_ACT => Ok(Self::Action(parse_list(alloc, value)?)),
+            TCA_MATCHALL_FLAGS => Ok(Self::Flags(parse_u32(value)?)),
+            TCA_MATCHALL_PCNT => Ok(Self::Pnct(Vec::from_slice(alloc, value)?)),
+            _ => Ok(Self::Other(DefaultNla::parse(alloc, buf)?)),
         }
     }
 }
@@ -96,15 +86,11 @@ impl<A: Allocator> TcFilterMatchAllOption<A> {
         ensures row { IsRow action_list matchall_options result.0 result.1 }
     {
         match self {
-            TcFilterMatchAllOption::ClassId(handle) => {
-                (TCA_MATCHALL_CLASSID, Value::U32(u32::from(*handle)))
-            }
-            TcFilterMatchAllOption::Action(actions) => {
-                (TCA_MATCHALL_ACT, Value::Nested(Items(actions)))
-            }
-            TcFilterMatchAllOption::Pnct(bytes) => (TCA_MATCHALL_PCNT, Value::Bytes(bytes)),
-            TcFilterMatchAllOption::Flags(n) => (TCA_MATCHALL_FLAGS, Value::U32(*n)),
-            TcFilterMatchAllOption::Other(nla) => (nla.kind(), Value::Kept(nla.value())),
+            Self::ClassId(handle) => (TCA_MATCHALL_CLASSID, Value::U32(u32::from(*handle))),
+            Self::Action(actions) => (TCA_MATCHALL_ACT, Value::Nested(Items(actions))),
+            Self::Pnct(bytes) => (TCA_MATCHALL_PCNT, Value::Bytes(bytes)),
+            Self::Flags(n) => (TCA_MATCHALL_FLAGS, Value::U32(*n)),
+            Self::Other(nla) => (nla.kind(), Value::Kept(nla.value())),
         }
     }
 }
