@@ -1,18 +1,13 @@
 //! The attributes of an action message.
 
 ghost use Rattle.std.specs.Prelude.{◌<◌, ◌^◌, ◌≡◌, string_bytes};
-ghost use Rattle.std.specs.Ordering.{on};
-ghost use Rattle.nla_frames.specs.Frame.{type_of};
-ghost use Rattle.tc_canon.specs.Descriptor.{table};
 ghost use Rattle.tc_canon.specs.Tables.Messages.{action_message_attributes};
-ghost use Rattle.tc_meaning.specs.Tree.{Attribute};
 ghost use Rattle.tc_meaning.specs.Content.{pair_codec};
-ghost use Rattle.tc_meaning.specs.Meaning.{table_codec};
-ghost use Rattle.tc_meaning.specs.Short.{table_short};
 ghost use Rattle.tc_meaning.specs.Equal.{same_scalars, same_attribute, attribute_equiv, attribute_per};
-ghost use Rattle.tc_values.specs.Row.{attribute_of, IsRow, ShownAs, reads_at};
 ghost use Rattle.tc_laws.specs.Loose.{without_nuls, trailing_nuls, table_parts};
 ghost use Rattle.tc_laws.specs.Norm.{trimmed_table};
+ghost use Rattle.tc_values.specs.AttributeWords.{on, type_of, table, Attribute, table_codec, table_short};
+ghost use Rattle.tc_values.specs.Row.{attribute_of, IsRow, ShownAs, reads_at};
 ghost use Rattle.tc_action_messages.specs.Flags.{flags_words, flags_codec};
 ghost use Rattle.tc_action_messages.specs.ActionMessageAttribute.{action_message_attribute, attribute_body, most_nuls};
 
@@ -115,17 +110,15 @@ impl<A: Allocator + Copy> Parseable<A> for TcActionMessageAttribute<A> {
     fn parse(alloc: A, buf: &NlaBuffer<'_>) -> Res<TcActionMessageAttribute<A>> {
         let value = buf.value();
         match buf.kind() {
-            TCA_ACT_TAB => Ok(TcActionMessageAttribute::Actions(parse_list(alloc, value)?)),
+            TCA_ACT_TAB => Ok(Self::Actions(parse_list(alloc, value)?)),
             TCA_ROOT_FLAGS => {
                 let flags = TcActionMessageFlagsWithSelector::parse(alloc, buf)?;
-                Ok(TcActionMessageAttribute::Flags(flags))
+                Ok(Self::Flags(flags))
             }
-            TCA_ROOT_COUNT => Ok(TcActionMessageAttribute::RootCount(parse_u32(value)?)),
-            TCA_ROOT_TIME_DELTA => Ok(TcActionMessageAttribute::RootTimeDelta(parse_u32(value)?)),
-            TCA_ROOT_EXT_WARN_MSG => {
-                Ok(TcActionMessageAttribute::RootExtWarnMsg(parse_string(alloc, value)?))
-            }
-            _ => Ok(TcActionMessageAttribute::Other(DefaultNla::parse(alloc, buf)?)),
+            TCA_ROOT_COUNT => Ok(Self::RootCount(parse_u32(value)?)),
+            TCA_ROOT_TIME_DELTA => Ok(Self::RootTimeDelta(parse_u32(value)?)),
+            TCA_ROOT_EXT_WARN_MSG => Ok(Self::RootExtWarnMsg(parse_string(alloc, value)?)),
+            _ => Ok(Self::Other(DefaultNla::parse(alloc, buf)?)),
         }
     }
 }
@@ -147,18 +140,12 @@ impl<A: Allocator> TcActionMessageAttribute<A> {
         ensures row { IsRow attribute_body action_message_attributes result.0 result.1 }
     {
         match self {
-            TcActionMessageAttribute::Actions(actions) => {
-                (TCA_ACT_TAB, Value::Nested(Either::Left(Items(actions))))
-            }
-            TcActionMessageAttribute::Flags(flags) => {
-                (TCA_ROOT_FLAGS, Value::Nested(Either::Right(Pair(flags))))
-            }
-            TcActionMessageAttribute::RootCount(n) => (TCA_ROOT_COUNT, Value::U32(*n)),
-            TcActionMessageAttribute::RootTimeDelta(n) => (TCA_ROOT_TIME_DELTA, Value::U32(*n)),
-            TcActionMessageAttribute::RootExtWarnMsg(text) => {
-                (TCA_ROOT_EXT_WARN_MSG, Value::Warning(text.as_str()))
-            }
-            TcActionMessageAttribute::Other(nla) => (nla.kind(), Value::Kept(nla.value())),
+            Self::Actions(actions) => (TCA_ACT_TAB, Value::Nested(Either::Left(Items(actions)))),
+            Self::Flags(flags) => (TCA_ROOT_FLAGS, Value::Nested(Either::Right(Pair(flags)))),
+            Self::RootCount(n) => (TCA_ROOT_COUNT, Value::U32(*n)),
+            Self::RootTimeDelta(n) => (TCA_ROOT_TIME_DELTA, Value::U32(*n)),
+            Self::RootExtWarnMsg(text) => (TCA_ROOT_EXT_WARN_MSG, Value::Warning(text.as_str())),
+            Self::Other(nla) => (nla.kind(), Value::Kept(nla.value())),
         }
     }
 }
@@ -174,7 +161,7 @@ impl<A: Allocator> TcActionMessageAttribute<A> {
         ensures bound { result < 2 ^ 63 }
     {
         match self {
-            TcActionMessageAttribute::RootExtWarnMsg(text) => trim_text(text),
+            Self::RootExtWarnMsg(text) => trim_text(text),
             _ => 0,
         }
     }

@@ -35,29 +35,26 @@ pub struct TcActionMessageFlagsWithSelector {
 
 impl TcActionMessageFlagsWithSelector {
     /// Flags of which all that are set count.
-    pub fn new(flags: TcActionMessageFlags) -> TcActionMessageFlagsWithSelector
+    pub fn new(flags: TcActionMessageFlags) -> Self
         ensures flags { result.flags ≡ flags }
         ensures selector { result.selector ≡ flags }
     {
-        TcActionMessageFlagsWithSelector {
+        Self {
             flags,
             selector: flags,
         }
     }
 
     /// Flags with a selector of their own.
-    pub fn new_with_selector(
-        flags: TcActionMessageFlags,
-        selector: TcActionMessageFlags,
-    ) -> TcActionMessageFlagsWithSelector
+    pub fn new_with_selector(flags: TcActionMessageFlags, selector: TcActionMessageFlags) -> Self
         ensures flags { result.flags ≡ flags }
         ensures selector { result.selector ≡ selector }
     {
-        TcActionMessageFlagsWithSelector { flags, selector }
+        Self { flags, selector }
     }
 
     // Of a value of exactly eight bytes.
-    fn of_value(value: &[u8]) -> Res<TcActionMessageFlagsWithSelector>
+    fn of_value(value: &[u8]) -> Res<Self>
         ensures { seen flags_words result ≡ pair_codec.read [] value.now }
     {
         if value.len() != FLAGS_LEN {
@@ -68,7 +65,7 @@ impl TcActionMessageFlagsWithSelector {
         }
         let flags = TcActionMessageFlags::from_bits_retain(word_of(value));
         let selector = TcActionMessageFlags::from_bits_retain(word_of(&value[4..]));
-        Ok(TcActionMessageFlagsWithSelector { flags, selector })
+        Ok(Self { flags, selector })
     }
 
     // Their bytes.
@@ -111,7 +108,7 @@ impl<A: Allocator> Parseable<A> for TcActionMessageFlagsWithSelector {
     fn parse(_alloc: A, buf: &NlaBuffer<'_>) -> Res<TcActionMessageFlagsWithSelector>
         ensures { seen flags_words result ≡ flags_codec.read [] (frame_of buf.now) }
     {
-        TcActionMessageFlagsWithSelector::of_value(buf.value())
+        Self::of_value(buf.value())
     }
 }
 

@@ -1,23 +1,13 @@
 //! Fair queueing with controlled delay.
 
 ghost use Rattle.std.specs.Prelude.{◌≡◌, IsTrue, List};
-ghost use Rattle.std.specs.Ordering.{on};
-ghost use Rattle.nla_frames.specs.Frame.{type_of};
-ghost use Rattle.tc_canon.specs.Descriptor.{table};
 ghost use Rattle.tc_canon.specs.Tables.Options.{fq_codel_options};
-ghost use Rattle.tc_meaning.specs.Tree.{Attribute};
-ghost use Rattle.tc_meaning.specs.Meaning.{table_codec};
-ghost use Rattle.tc_meaning.specs.Short.{table_short};
-ghost use Rattle.tc_meaning.specs.Equal.{same_attribute, attribute_equiv, attribute_per};
-ghost use Rattle.tc_values.specs.Bodies.{nothing};
+ghost use Rattle.tc_values.specs.AttributeWords.{on, type_of, table, Attribute, table_codec, table_short, same_attribute, attribute_equiv, attribute_per};
 ghost use Rattle.tc_values.specs.Row.{attribute_of, IsRow, ShownAs, reads_at};
+ghost use Rattle.tc_values.specs.Bodies.{nothing};
 ghost use Rattle.tc_qdiscs.specs.FqCodel.{fq_codel_option};
 
-use crate::qdiscs::types::{
-    TCA_FQ_CODEL_CE_THRESHOLD, TCA_FQ_CODEL_CE_THRESHOLD_MASK, TCA_FQ_CODEL_CE_THRESHOLD_SELECTOR,
-    TCA_FQ_CODEL_DROP_BATCH_SIZE, TCA_FQ_CODEL_ECN, TCA_FQ_CODEL_FLOWS, TCA_FQ_CODEL_INTERVAL,
-    TCA_FQ_CODEL_LIMIT, TCA_FQ_CODEL_MEMORY_LIMIT, TCA_FQ_CODEL_QUANTUM, TCA_FQ_CODEL_TARGET,
-};
+use crate::qdiscs::types::*;
 use nla_frames::{
     DefaultNla, FrameMeaning, NLA_TYPE_MASK, Nla, NlaBuffer, Parseable, Res, Settle, parse_u8,
     parse_u32,
@@ -83,13 +73,9 @@ impl<A: Allocator> Parseable<A> for TcQdiscFqCodelOption<A> {
             TCA_FQ_CODEL_CE_THRESHOLD => Ok(Self::CeThreshold(parse_u32(value)?)),
             TCA_FQ_CODEL_DROP_BATCH_SIZE => Ok(Self::DropBatchSize(parse_u32(value)?)),
             TCA_FQ_CODEL_MEMORY_LIMIT => Ok(Self::MemoryLimit(parse_u32(value)?)),
-            TCA_FQ_CODEL_CE_THRESHOLD_SELECTOR => Ok(TcQdiscFqCodelOption::CeThresholdSelector(
-                parse_u8(value)?,
-            )),
-            TCA_FQ_CODEL_CE_THRESHOLD_MASK => Ok(TcQdiscFqCodelOption::CeThresholdMask(parse_u8(
-                value,
-            )?)),
-            _ => Ok(TcQdiscFqCodelOption::Other(DefaultNla::parse(alloc, buf)?)),
+            TCA_FQ_CODEL_CE_THRESHOLD_SELECTOR => Ok(Self::CeThresholdSelector(parse_u8(value)?)),
+            TCA_FQ_CODEL_CE_THRESHOLD_MASK => Ok(Self::CeThresholdMask(parse_u8(value)?)),
+            _ => Ok(Self::Other(DefaultNla::parse(alloc, buf)?)),
         }
     }
 }
@@ -109,25 +95,18 @@ impl<A: Allocator> TcQdiscFqCodelOption<A> {
         ensures row { IsRow nothing fq_codel_options result.0 result.1 }
     {
         match self {
-            TcQdiscFqCodelOption::Target(n) => (TCA_FQ_CODEL_TARGET, Value::U32(*n)),
-            TcQdiscFqCodelOption::Limit(n) => (TCA_FQ_CODEL_LIMIT, Value::U32(*n)),
-            TcQdiscFqCodelOption::Interval(n) => (TCA_FQ_CODEL_INTERVAL, Value::U32(*n)),
-            TcQdiscFqCodelOption::Ecn(n) => (TCA_FQ_CODEL_ECN, Value::U32(*n)),
-            TcQdiscFqCodelOption::Flows(n) => (TCA_FQ_CODEL_FLOWS, Value::U32(*n)),
-            TcQdiscFqCodelOption::Quantum(n) => (TCA_FQ_CODEL_QUANTUM, Value::U32(*n)),
-            TcQdiscFqCodelOption::CeThreshold(n) => (TCA_FQ_CODEL_CE_THRESHOLD, Value::U32(*n)),
-            TcQdiscFqCodelOption::DropBatchSize(n) => (
-                TCA_FQ_CODEL_DROP_BATCH_SIZE,
-                Value::U32(*n),
-            ),
-            TcQdiscFqCodelOption::MemoryLimit(n) => (TCA_FQ_CODEL_MEMORY_LIMIT, Value::U32(*n)),
-            TcQdiscFqCodelOption::CeThresholdSelector(n) => {
-                (TCA_FQ_CODEL_CE_THRESHOLD_SELECTOR, Value::U8(*n))
-            }
-            TcQdiscFqCodelOption::CeThresholdMask(n) => {
-                (TCA_FQ_CODEL_CE_THRESHOLD_MASK, Value::U8(*n))
-            }
-            TcQdiscFqCodelOption::Other(nla) => (nla.kind(), Value::Kept(nla.value())),
+            Self::Target(n) => (TCA_FQ_CODEL_TARGET, Value::U32(*n)),
+            Self::Limit(n) => (TCA_FQ_CODEL_LIMIT, Value::U32(*n)),
+            Self::Interval(n) => (TCA_FQ_CODEL_INTERVAL, Value::U32(*n)),
+            Self::Ecn(n) => (TCA_FQ_CODEL_ECN, Value::U32(*n)),
+            Self::Flows(n) => (TCA_FQ_CODEL_FLOWS, Value::U32(*n)),
+            Self::Quantum(n) => (TCA_FQ_CODEL_QUANTUM, Value::U32(*n)),
+            Self::CeThreshold(n) => (TCA_FQ_CODEL_CE_THRESHOLD, Value::U32(*n)),
+            Self::DropBatchSize(n) => (TCA_FQ_CODEL_DROP_BATCH_SIZE, Value::U32(*n)),
+            Self::MemoryLimit(n) => (TCA_FQ_CODEL_MEMORY_LIMIT, Value::U32(*n)),
+            Self::CeThresholdSelector(n) => (TCA_FQ_CODEL_CE_THRESHOLD_SELECTOR, Value::U8(*n)),
+            Self::CeThresholdMask(n) => (TCA_FQ_CODEL_CE_THRESHOLD_MASK, Value::U8(*n)),
+            Self::Other(nla) => (nla.kind(), Value::Kept(nla.value())),
         }
     }
 }

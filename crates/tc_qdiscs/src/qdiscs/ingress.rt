@@ -1,12 +1,7 @@
 //! The hook for packets that come in.
 
-ghost use Rattle.std.specs.Ordering.{on};
-ghost use Rattle.tc_canon.specs.Descriptor.{table};
 ghost use Rattle.tc_canon.specs.Tables.Options.{ingress_options};
-ghost use Rattle.tc_meaning.specs.Tree.{Attribute};
-ghost use Rattle.tc_meaning.specs.Meaning.{table_codec};
-ghost use Rattle.tc_meaning.specs.Short.{table_short};
-ghost use Rattle.tc_meaning.specs.Equal.{same_attribute, attribute_equiv, attribute_per};
+ghost use Rattle.tc_values.specs.AttributeWords.{on, table, Attribute, table_codec, table_short, same_attribute, attribute_equiv, attribute_per};
 ghost use Rattle.tc_qdiscs.specs.Ingress.{ingress_option};
 
 use nla_frames::{DefaultNla, FrameMeaning, Nla, NlaBuffer, Parseable, Res, Settle};
@@ -40,26 +35,26 @@ impl<A: Allocator> FrameMeaning for TcQdiscIngressOption<A> {
 
 impl<A: Allocator> Parseable<A> for TcQdiscIngressOption<A> {
     fn parse(alloc: A, buf: &NlaBuffer<'_>) -> Res<TcQdiscIngressOption<A>> {
-        Ok(TcQdiscIngressOption::Other(DefaultNla::parse(alloc, buf)?))
+        Ok(Self::Other(DefaultNla::parse(alloc, buf)?))
     }
 }
 
 impl<A: Allocator> Nla for TcQdiscIngressOption<A> {
     fn kind(&self) -> u16 {
         match self {
-            TcQdiscIngressOption::Other(nla) => nla.kind(),
+            Self::Other(nla) => nla.kind(),
         }
     }
 
     fn checked_len(&self) -> Option<usize> {
         match self {
-            TcQdiscIngressOption::Other(nla) => nla.checked_len(),
+            Self::Other(nla) => nla.checked_len(),
         }
     }
 
     fn put_value(&self, buffer: &mut [u8]) -> usize {
         match self {
-            TcQdiscIngressOption::Other(nla) => nla.put_value(buffer),
+            Self::Other(nla) => nla.put_value(buffer),
         }
     }
 
@@ -69,7 +64,7 @@ impl<A: Allocator> Nla for TcQdiscIngressOption<A> {
 impl<A: Allocator> Settle for TcQdiscIngressOption<A> {
     fn is_settled_under(&self, kind: &str) -> bool {
         match self {
-            TcQdiscIngressOption::Other(nla) => nla.is_settled_under(kind),
+            Self::Other(nla) => nla.is_settled_under(kind),
         }
     }
 }
