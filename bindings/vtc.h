@@ -1,4 +1,4 @@
-/* vtc.h: messages of Linux traffic control (rtnetlink), checked, rewritten and shown by proved code.
+/* vtc.h: messages of Linux traffic control (rtnetlink), checked, rewritten, shown and made by proved code.
  *
  * `bytes` are a message without the 16 bytes of its netlink header (struct nlmsghdr). vtc_* are for the types
  * RTM_*QDISC, RTM_*TCLASS, RTM_*TFILTER and RTM_*CHAIN, which begin with struct tcmsg; vtc_action_* for RTM_*ACTION,
@@ -47,7 +47,9 @@ enum vtc_status {
     VTC_OUT_OF_MEMORY = 11,     /* malloc or realloc failed */
     VTC_DOES_NOT_FIT = 12,      /* what was read can't be written: a value would have more than 65531 bytes */
     VTC_NO_ROOM = 13,           /* the buffer is too small; it is unchanged, and *length is how many bytes are needed */
-    VTC_END = 14                /* no attribute is left */
+    VTC_END = 14,               /* no attribute is left */
+    VTC_NOT_JSON = 15,          /* a text isn't JSON */
+    VTC_NO_MESSAGE = 16         /* no message is made of the JSON */
 };
 
 /* ---- Calls that take no memory. A program that uses no others needs no allocator. */
@@ -107,7 +109,7 @@ struct vtc_attr {
  * begins at 20, that of an action message at 4. */
 uint32_t vtc_next(const uint8_t *bytes, size_t len, size_t *at, struct vtc_attr *attr);
 
-/* ---- Calls that read the whole message. They call malloc, realloc and free of the program, which have to be of one
+/* ---- Calls that read or make a whole message. They call malloc, realloc and free of the program, which have to be of one
  * allocator and align a block to each power of two up to 16 that divides its size; what they take, they free. They
  * are not for signal handlers, nor for the child that a process of several threads forked. */
 
@@ -147,6 +149,16 @@ uint32_t vtc_action_settle(const uint8_t *bytes, size_t len, uint8_t *buffer, si
  * failure to make the text. */
 uint32_t vtc_json(const uint8_t *bytes, size_t len, uint8_t *buffer, size_t room, size_t *length);
 uint32_t vtc_action_json(const uint8_t *bytes, size_t len, uint8_t *buffer, size_t room, size_t *length);
+
+/* The canonical bytes of the message that is shown as this JSON, a text in UTF-8 of `len` bytes, in the form of
+ * vtc_json. The buffer is as above. VTC_NOT_JSON and VTC_NO_MESSAGE: why, as a text in UTF-8 without a NUL, is in the
+ * first *why_length bytes of `why`, which has `why_room` bytes: as many characters as have room. It names a place by a
+ * JSON pointer: "/attributes/1/Options/0/FqCodel/Limit: found -1, wanted a number from 0 to 4294967295". Else it is
+ * VTC_OK, VTC_NO_ROOM or VTC_OUT_OF_MEMORY, and *why_length is 0. No more of `why` is written. */
+uint32_t vtc_make(const char *json, size_t len, uint8_t *buffer, size_t room, size_t *length,
+                  char *why, size_t why_room, size_t *why_length);
+uint32_t vtc_action_make(const char *json, size_t len, uint8_t *buffer, size_t room, size_t *length,
+                         char *why, size_t why_room, size_t *why_length);
 
 #ifdef __cplusplus
 }

@@ -1,22 +1,29 @@
-"""Messages of Linux traffic control (rtnetlink), checked, rewritten and shown by proved code.
+"""Messages of Linux traffic control (rtnetlink), checked, rewritten, shown and made by proved code.
 
     >>> import vtc
     >>> vtc.check(bytes(20))
     Verdict(fits=True, settled=True, canonical=True, length=20)
     >>> vtc.json(bytes(4), action=True)
     '{"header":{"family":"Unspec"},"attributes":[]}'
+    >>> vtc.make('{"header":{"family":"Unspec"},"attributes":[]}', action=True)
+    b'\\x00\\x00\\x00\\x00'
+    >>> vtc.make('{"header":{"family":3},"attributes":[]}', action=True)
+    Traceback (most recent call last):
+    ...
+    vtc.MakeError: /header/family: found 3, wanted the name of an address family, or {"Other":n}
 
 A message is bytes without the 16 bytes of its netlink header; with `action=True` it is one about actions (RTM_*ACTION,
 which begins with struct tcamsg), else one about qdiscs, classes, filters or chains (which begins with struct tcmsg).
 
 The library is the file that the environment variable VTC_LIBRARY names, or else libvtc.so.0 where the system finds it.
 
-On the command line, with a message as hex:
+On the command line, with a message as hex, or as JSON:
 
     python3 -m vtc check HEX [--action]       what is said of it
     python3 -m vtc show HEX [--action]        its attributes, each on a line, indented by its depth
     python3 -m vtc settle HEX [--action]      the canonical bytes to which rewriting leads
     python3 -m vtc json HEX [--action]        it as JSON
+    python3 -m vtc make JSON [--action]       the other way: the message as hex
 """
 
 from __future__ import annotations
@@ -31,6 +38,7 @@ from typing import Callable, Iterator, NamedTuple, Optional, Tuple
 __all__ = [
     "Attribute",
     "DoesNotFit",
+    "MakeError",
     "Node",
     "Refused",
     "Status",
@@ -41,6 +49,7 @@ __all__ = [
     "index",
     "is_canonical",
     "json",
+    "make",
     "rewrite",
     "settle",
     "version",
@@ -65,6 +74,8 @@ class Status(enum.IntEnum):
     DOES_NOT_FIT = 12
     NO_ROOM = 13
     END = 14
+    NOT_JSON = 15
+    NO_MESSAGE = 16
 
 
 class Table(enum.IntEnum):
@@ -153,6 +164,15 @@ class DoesNotFit(ValueError):
     """What was read can't be written: a value would have more than 65531 bytes."""
 
 
+class MakeError(ValueError):
+    """No message is made of a text. It says why, and names the place by a JSON pointer."""
+
+    def __init__(self, status: Status, why: str) -> None:
+        super().__init__(why)
+        self.status = status
+        """NOT_JSON, or NO_MESSAGE where it is JSON of which no message is made."""
+
+
 # ---- The library
 
 
@@ -202,6 +222,7 @@ _CALLS = {
     "rewrite": (ctypes.c_uint32, [*_bytes_in, *_room_out]),
     "settle": (ctypes.c_uint32, [*_bytes_in, *_room_out, _p(_size_t)]),
     "json": (ctypes.c_uint32, [*_bytes_in, *_room_out]),
+    "make": (ctypes.c_uint32, [*_bytes_in, *_room_out, *_room_out]),
 }
 for _name, (_result, _arguments) in _CALLS.items():
     for _prefix in ("vtc_", "vtc_action_"):
@@ -228,17 +249,23 @@ def _raise(status: int, message: bytes, action: bool) -> None:
     raise RuntimeError(f"vtc: status {status}")
 
 
-def _written(name: str, message: bytes, action: bool, *more: object) -> bytes:
-    """What a call writes into a buffer, which is made larger where it is too small."""
+def _with_room(name: str, data: bytes, action: bool, *more: object) -> Tuple[int, bytes]:
+    """How a call ends, and what it writes into a buffer, which is made larger where it is too small."""
     call, length = _call_of(name, action), _size_t(0)
-    room = 2 * len(message) + 256
+    room = 2 * len(data) + 256
     while True:
         buffer = (ctypes.c_uint8 * room)()
-        status = call(message, len(message), buffer, room, ctypes.byref(length), *more)
+        status = call(data, len(data), buffer, room, ctypes.byref(length), *more)
         if status != Status.NO_ROOM:
-            _raise(status, message, action)
-            return bytes(memoryview(buffer)[: length.value])
+            return status, bytes(memoryview(buffer)[: length.value])
         room = length.value
+
+
+def _written(name: str, message: bytes, action: bool, *more: object) -> bytes:
+    """What a call on a message writes."""
+    status, written = _with_room(name, message, action, *more)
+    _raise(status, message, action)
+    return written
 
 
 # ---- Calls
@@ -312,6 +339,17 @@ def json(message: bytes, action: bool = False) -> str:
     return _written("json", bytes(message), action).decode()
 
 
+def make(text: str, action: bool = False) -> bytes:
+    """The canonical bytes of the message that is shown as this JSON. Raises MakeError."""
+    why, why_length = (ctypes.c_uint8 * 4096)(), _size_t(0)
+    status, made = _with_room("make", text.encode(), action, why, len(why), ctypes.byref(why_length))
+    if status == Status.OUT_OF_MEMORY:
+        raise MemoryError("vtc: out of memory")
+    if status != Status.OK:
+        raise MakeError(Status(status), bytes(why[: why_length.value]).decode())
+    return made
+
+
 # ---- The command line
 
 
@@ -332,30 +370,33 @@ def _check(message: bytes, action: bool) -> str:
     return "\n".join(f"{name} {word}" for name, word in words.items())
 
 
+def _of_hex(call: Callable[[bytes, bool], str]) -> Callable[[str, bool], str]:
+    return lambda text, action: call(bytes.fromhex(text), action)
+
+
 _COMMANDS = {
-    "check": _check,
-    "show": _show,
-    "settle": lambda message, action: settle(message, action)[0].hex(),
-    "json": json,
+    "check": _of_hex(_check),
+    "show": _of_hex(_show),
+    "settle": _of_hex(lambda message, action: settle(message, action)[0].hex()),
+    "json": _of_hex(json),
+    "make": lambda text, action: make(text, action).hex(),
 }
 
 
 def main(words: Optional[list[str]] = None) -> int:
-    """Runs the command line, and returns its exit status: 0, or 1 where the message can't be read or written."""
-    parser = argparse.ArgumentParser(prog="vtc", description="Messages of Linux traffic control, as hex.")
+    """Runs the command line, and returns its exit status: 0, or 1 where the message can't be read, written or made."""
+    parser = argparse.ArgumentParser(prog="vtc", description="Messages of Linux traffic control, as hex and JSON.")
     parser.add_argument("command", choices=sorted(_COMMANDS))
-    parser.add_argument("message", help="hex, without the netlink header")
+    parser.add_argument("message", help="hex, without the netlink header; for make JSON")
     parser.add_argument("--action", action="store_true", help="it is a message about actions")
     asked = parser.parse_args(words)
     try:
-        message = bytes.fromhex(asked.message)
-    except ValueError as error:
-        parser.error(str(error))
-    try:
-        print(_COMMANDS[asked.command](message, asked.action))
-    except (Refused, DoesNotFit) as error:
+        print(_COMMANDS[asked.command](asked.message, asked.action))
+    except (Refused, DoesNotFit, MakeError) as error:
         print(f"vtc: {error}", file=sys.stderr)
         return 1
+    except ValueError as error:
+        parser.error(str(error))
     return 0
 
 

@@ -8,11 +8,21 @@
 
 enum { ROOM = 1 << 20, LINE = 1 << 20 };
 
-static uint8_t bytes[ROOM], buffer[ROOM];
+static uint8_t bytes[ROOM], buffer[ROOM], text[ROOM];
 static struct vtc_node nodes[ROOM / 4];
 
 static void print_hex(size_t length) {
     for (size_t i = 0; i < length; i++) printf("%02x", buffer[i]);
+}
+
+/* What is made of the text of a message, or why there is nothing. */
+static void make(int is_action, size_t len) {
+    static char why[4096];
+    size_t length = 0, why_length = 0;
+    uint32_t status = (is_action ? vtc_action_make : vtc_make)((const char *)text, len, buffer, sizeof buffer, &length, why, sizeof why, &why_length);
+    if (status != VTC_OK) memcpy(buffer, why, length = why_length);
+    printf("; make %u ", status);
+    print_hex(length);
 }
 
 int main(void) {
@@ -44,9 +54,11 @@ int main(void) {
         struct vtc_attr attr;
         while ((status = vtc_next(bytes, len, &at, &attr)) == VTC_OK) printf(" %zu:%zu:%u", attr.offset, attr.len, attr.word);
         printf(" %u", status);
-        status = (is_action ? vtc_action_json : vtc_json)(bytes, len, buffer, sizeof buffer, &length);
+        status = (is_action ? vtc_action_json : vtc_json)(bytes, len, text, sizeof text, &length);
+        if (status != VTC_OK) length = 0;
+        make(is_action, length);
         printf("; json %u ", status);
-        if (status == VTC_OK) fwrite(buffer, 1, length, stdout);
+        fwrite(text, 1, length, stdout);
         printf("\n");
     }
     return 0;

@@ -13,6 +13,8 @@ def tried(call, *arguments):
         return refused, int(refused.status)
     except vtc.DoesNotFit:
         return None, 12
+    except vtc.MakeError as error:
+        return str(error).encode(), int(error.status)
 
 
 def answer(message, action):
@@ -38,7 +40,9 @@ def answer(message, action):
         end = int(refused.status)
     text += f" {end}"
     shown, status = tried(vtc.json, message, action)
-    return text + f"; json {status} {'' if status else shown}"
+    shown = "" if status else shown
+    made, ended = tried(vtc.make, shown, action)
+    return text + f"; make {ended} {made.hex()}; json {status} {shown}"
 
 
 for line in sys.stdin:

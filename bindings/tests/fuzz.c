@@ -13,7 +13,7 @@
 #include <time.h>
 #include <vtc.h>
 
-enum { MESSAGES = 2048, BYTES = 1 << 17, LINE = 1 << 20, PAGE = 4096, FILL = 0x55, BESIDE = 256, STATUSES = VTC_END + 1 };
+enum { MESSAGES = 2048, BYTES = 1 << 17, LINE = 1 << 20, PAGE = 4096, FILL = 0x55, BESIDE = 256, STATUSES = VTC_NO_MESSAGE + 1 };
 
 /* ---- Allocations: one of a call fails, and none is left after it. */
 
@@ -107,12 +107,12 @@ static int is_filled(const void *from, const void *to) {
 
 /* ---- Calls. */
 
-static Space input, output, slots;
+static Space input, output, slots, text, reason;
 static unsigned long statuses[STATUSES];
 static struct vtc_verdict *verdict;
 static struct vtc_fault *fault;
 static struct vtc_attr *attr;
-static size_t *length, *rewrites, *place;
+static size_t *length, *rewrites, *place, *why_length;
 
 /* Begins a call: perhaps one of its allocations fails. */
 static void begin(void) {
@@ -193,6 +193,30 @@ static void try_next(const uint8_t *bytes, size_t len) {
     expect((status == VTC_END) == (old >= len), "an end that is none");
 }
 
+/* What is made of JSON, whose characters may be changed. `known` are the bytes that it is the JSON of, or NULL. */
+static void try_make(const uint8_t *json, size_t len, int is_action, const uint8_t *known, size_t known_len) {
+    static const char characters[] = "{}[]\":,.-+0123456789eEtrufalsnKOoth \\\xc3\xa4";
+    uint8_t *copy = text.end - len;
+    memcpy(copy, json, len);
+    for (uint64_t changes = below(3); changes && len; changes--, known = NULL) copy[below(len)] = (uint8_t)characters[below(sizeof characters)];
+    size_t room = below(3) ? len : below(len + 1), why_room = below(2) ? BESIDE : below(BESIDE);
+    uint8_t *buffer = buffer_of(room), *why = reason.end - why_room;
+    memset(why - BESIDE, FILL, why_room + BESIDE);
+    begin();
+    uint32_t status = (is_action ? vtc_action_make : vtc_make)((const char *)copy, len, buffer, room, length, (char *)why, why_room, why_length);
+    ended(status);
+    expect(status == VTC_OK || status >= VTC_OUT_OF_MEMORY, "a fault of bytes, but there are none");
+    expect(*why_length <= why_room && is_filled(why - BESIDE, why) && is_filled(why + *why_length, reason.end), "more of a text was written");
+    expect(*why_length == 0 || status == VTC_NOT_JSON || status == VTC_NO_MESSAGE, "a text, but no error");
+    expect(is_filled(buffer - BESIDE, status ? output.end : buffer), "the buffer was touched");
+    if (status == VTC_NO_ROOM) expect(*length > room, "no room, but there is");
+    if (known) expect(status == VTC_OK || status == VTC_NO_ROOM || status == VTC_OUT_OF_MEMORY, "nothing is made of the JSON of a settled message");
+    if (status != VTC_OK) return;
+    expect(*length <= room && is_filled(buffer + *length, output.end), "more was written");
+    expect((is_action ? vtc_action_is_canonical : vtc_is_canonical)(buffer, *length), "made bytes that aren't canonical");
+    if (known) expect(*length == known_len && memcmp(buffer, known, known_len) == 0, "other bytes are made of its JSON");
+}
+
 static void try_message(const uint8_t *bytes, size_t len, int is_action) {
     memset(verdict, FILL, sizeof *verdict);
     memset(fault, FILL, sizeof *fault);
@@ -219,7 +243,9 @@ static void try_message(const uint8_t *bytes, size_t len, int is_action) {
         expect((*rewrites == 0) == canonical, "rewrites of canonical bytes");
     }
     buffer = written(is_action ? vtc_action_json : vtc_json, bytes, len, status, 12 * len + 256);
-    if (buffer) expect(buffer[0] == '{' && buffer[*length - 1] == '}', "JSON that is no object");
+    if (!buffer) return;
+    expect(buffer[0] == '{' && buffer[*length - 1] == '}', "JSON that is no object");
+    try_make(buffer, *length, is_action, canonical ? bytes : NULL, len);
 }
 
 /* No bytes, no slots and no buffer, each as NULL. */
@@ -231,6 +257,7 @@ static void try_nothing(void) {
     expect(vtc_index(header, 20, NULL, 0) == 0 && vtc_action_index(header, 4, NULL, 0) == 0, "attributes of a header alone");
     expect(vtc_rewrite(header, 20, NULL, 0, length) == VTC_NO_ROOM && *length == 20, "a length without a buffer");
     expect(vtc_action_json(header, 4, NULL, 0, length) == VTC_NO_ROOM && *length > 2, "a length of text without a buffer");
+    expect(vtc_make(NULL, 0, NULL, 0, length, NULL, 0, why_length) == VTC_NOT_JSON && *why_length == 0, "a message of no text");
 }
 
 int main(int count, char **words) {
@@ -239,6 +266,8 @@ int main(int count, char **words) {
     input = between_guards(BYTES);
     output = between_guards(16 * BYTES);
     slots = between_guards(8 * BYTES);
+    text = between_guards(16 * BYTES);
+    reason = between_guards(PAGE);
     /* What is written beside the buffer ends where memory ends, too. */
     verdict = (struct vtc_verdict *)(void *)between_guards(PAGE).end - 1;
     fault = (struct vtc_fault *)(void *)between_guards(PAGE).end - 1;
@@ -246,6 +275,7 @@ int main(int count, char **words) {
     length = (size_t *)(void *)between_guards(PAGE).end - 1;
     rewrites = (size_t *)(void *)between_guards(PAGE).end - 1;
     place = (size_t *)(void *)between_guards(PAGE).end - 1;
+    why_length = (size_t *)(void *)between_guards(PAGE).end - 1;
     if (!message_count) return 2;
     try_nothing();
     time_t end = time(NULL) + (time_t)seconds;
@@ -259,9 +289,10 @@ int main(int count, char **words) {
         try_message(bytes, len, below(16) ? m->is_action : !m->is_action);
     }
     printf("%lu runs on %zu messages", run, message_count);
-    for (int i = 0; i < VTC_END; i++) {
+    for (int i = 0; i < STATUSES; i++) {
+        if (i == VTC_END) continue;
         expect(statuses[i] > 0, "a status that no call ended with");
-        printf("%s %lu", i ? "," : "; ended with 0 to 13:", statuses[i]);
+        printf("%s %lu", i ? "," : "; ended with 0 to 13, 15 and 16:", statuses[i]);
     }
     printf("\n");
     return 0;

@@ -18,7 +18,7 @@ SAME(offsetof(struct vtc_verdict, canonical), 10);
 SAME(sizeof(struct vtc_fault), 24);
 SAME(offsetof(struct vtc_fault, second), 8);
 SAME(offsetof(struct vtc_fault, offset), 16);
-SAME(VTC_END, 14);
+SAME(VTC_NO_MESSAGE, 16);
 SAME(VTC_TABLE_LSE, 17);
 SAME(sizeof(size_t), 8);
 
@@ -28,10 +28,12 @@ typedef size_t (*index_)(const uint8_t *, size_t, struct vtc_node *, size_t);
 typedef uint32_t (*check)(const uint8_t *, size_t, struct vtc_verdict *, struct vtc_fault *);
 typedef uint32_t (*writer)(const uint8_t *, size_t, uint8_t *, size_t, size_t *);
 typedef uint32_t (*settler)(const uint8_t *, size_t, uint8_t *, size_t, size_t *, size_t *);
+typedef uint32_t (*maker)(const char *, size_t, uint8_t *, size_t, size_t *, char *, size_t, size_t *);
 const canonical canonicals[] = {vtc_is_canonical, vtc_action_is_canonical};
 const index_ indexes[] = {vtc_index, vtc_action_index};
 const check checks[] = {vtc_check, vtc_action_check};
 const writer writers[] = {vtc_rewrite, vtc_action_rewrite, vtc_json, vtc_action_json};
 const settler settlers[] = {vtc_settle, vtc_action_settle};
+const maker makers[] = {vtc_make, vtc_action_make};
 
 int main(void) { return vtc_version() == VTC_VERSION ? 0 : 1; }

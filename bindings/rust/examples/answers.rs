@@ -2,7 +2,7 @@
 #![forbid(unsafe_code)]
 
 use std::io::{self, BufRead, Write};
-use vtc::{Error, Form, Node};
+use vtc::{Error, Form, MakeError, Node};
 
 fn from_hex(text: &str) -> Vec<u8> {
     (0..text.len() / 2)
@@ -20,6 +20,17 @@ fn status_of(error: Error) -> u32 {
         Error::OutOfMemory => 11,
         Error::DoesNotFit => 12,
         Error::NoRoom { .. } => 13,
+    }
+}
+
+fn made(form: Form, json: &str, buffer: &mut [u8]) -> String {
+    let mut why = [0; 4096];
+    match form.make(json, buffer, &mut why) {
+        Ok(made) => format!("0 {}", hex(made)),
+        Err(MakeError::NotJson(why)) => format!("15 {}", hex(why.as_bytes())),
+        Err(MakeError::NoMessage(why)) => format!("16 {}", hex(why.as_bytes())),
+        Err(MakeError::OutOfMemory) => "11 ".to_string(),
+        Err(MakeError::NoRoom { .. }) => "13 ".to_string(),
     }
 }
 
@@ -62,12 +73,12 @@ fn answer(form: Form, bytes: &[u8], buffer: &mut [u8]) -> String {
             Err(broken) => end = broken.status,
         }
     }
-    text += &format!(" {end}; json ");
-    text += &match form.json(bytes, buffer) {
-        Ok(json) => format!("0 {json}"),
-        Err(error) => format!("{} ", status_of(error)),
+    let (status, json) = match form.json(bytes, buffer) {
+        Ok(json) => (0, json.to_string()),
+        Err(error) => (status_of(error), String::new()),
     };
-    text
+    let made = made(form, &json, buffer);
+    text + &format!(" {end}; make {made}; json {status} {json}")
 }
 
 fn main() -> io::Result<()> {

@@ -1,4 +1,4 @@
-//! Messages of Linux traffic control (rtnetlink), checked, rewritten and shown by proved code in `libvtc`.
+//! Messages of Linux traffic control (rtnetlink), checked, rewritten, shown and made by proved code in `libvtc`.
 //!
 //! Bytes are a message without the 16 bytes of its netlink header. [`Form`] says which of the two messages they are.
 //!
@@ -120,6 +120,22 @@ pub enum Error {
     },
 }
 
+/// Why no message is made. The texts say where and why, cut where the buffer that was given for them is too small.
+#[derive(Clone, Copy, Debug, PartialEq, Eq, Hash)]
+pub enum MakeError<'w> {
+    /// The text isn't JSON.
+    NotJson(&'w str),
+    /// No message is made of the JSON. The place is a JSON pointer: `/attributes/0/Kind: found 3, wanted a text`.
+    NoMessage(&'w str),
+    /// The C library had no memory.
+    OutOfMemory,
+    /// The buffer is too small, and unchanged.
+    NoRoom {
+        /// How many bytes are needed.
+        needed: usize,
+    },
+}
+
 /// Why a list of attributes ends early.
 #[derive(Clone, Copy, Debug, PartialEq, Eq, Hash)]
 pub struct BrokenAttribute {
@@ -153,6 +169,16 @@ impl fmt::Display for Error {
             Error::OutOfMemory => f.write_str("out of memory"),
             Error::DoesNotFit => f.write_str("value does not fit"),
             Error::NoRoom { needed } => write!(f, "{needed} bytes needed"),
+        }
+    }
+}
+
+impl fmt::Display for MakeError<'_> {
+    fn fmt(&self, f: &mut fmt::Formatter<'_>) -> fmt::Result {
+        match self {
+            MakeError::NotJson(why) | MakeError::NoMessage(why) => f.write_str(why),
+            MakeError::OutOfMemory => f.write_str("out of memory"),
+            MakeError::NoRoom { needed } => write!(f, "{needed} bytes needed"),
         }
     }
 }
@@ -251,6 +277,46 @@ impl Form {
         };
         // JSON is UTF-8.
         Ok(core::str::from_utf8(self.written(call, bytes, buffer)?).unwrap_or(""))
+    }
+
+    /// Writes the canonical bytes of the message that is shown as this JSON into the buffer, and returns them; or why none
+    /// is made, as a text in the second buffer.
+    ///
+    /// ```no_run
+    /// use vtc::Form;
+    ///
+    /// let (mut buffer, mut why) = ([0; 64], [0; 256]);
+    /// let json = r#"{"header":{"family":"Unspec"},"attributes":[]}"#;
+    /// assert_eq!(Form::Action.make(json, &mut buffer, &mut why), Ok(&[0; 4][..]));
+    /// ```
+    pub fn make<'b, 'w>(self, json: &str, buffer: &'b mut [u8], why: &'w mut [u8]) -> Result<&'b [u8], MakeError<'w>> {
+        let call = match self {
+            Form::Tc => sys::vtc_make,
+            Form::Action => sys::vtc_action_make,
+        };
+        let (mut length, mut why_length) = (0, 0);
+        // SAFETY: the text and the two buffers are three slices, and the two numbers are this function's own.
+        let status = unsafe {
+            call(
+                json.as_ptr(),
+                json.len(),
+                buffer.as_mut_ptr(),
+                buffer.len(),
+                &mut length,
+                why.as_mut_ptr(),
+                why.len(),
+                &mut why_length,
+            )
+        };
+        // It is UTF-8.
+        let why = core::str::from_utf8(&why[..why_length]).unwrap_or("");
+        match status {
+            0 => Ok(&buffer[..length]),
+            13 => Err(MakeError::NoRoom { needed: length }),
+            15 => Err(MakeError::NotJson(why)),
+            16 => Err(MakeError::NoMessage(why)),
+            _ => Err(MakeError::OutOfMemory),
+        }
     }
 
     fn written<'b>(

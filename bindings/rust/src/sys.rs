@@ -82,4 +82,24 @@ extern "C" {
     ) -> u32;
     pub fn vtc_json(bytes: *const u8, len: usize, buffer: *mut u8, room: usize, length: *mut usize) -> u32;
     pub fn vtc_action_json(bytes: *const u8, len: usize, buffer: *mut u8, room: usize, length: *mut usize) -> u32;
+    pub fn vtc_make(
+        json: *const u8,
+        len: usize,
+        buffer: *mut u8,
+        room: usize,
+        length: *mut usize,
+        why: *mut u8,
+        why_room: usize,
+        why_length: *mut usize,
+    ) -> u32;
+    pub fn vtc_action_make(
+        json: *const u8,
+        len: usize,
+        buffer: *mut u8,
+        room: usize,
+        length: *mut usize,
+        why: *mut u8,
+        why_room: usize,
+        why_length: *mut usize,
+    ) -> u32;
 }

@@ -1,4 +1,5 @@
 pub mod Words
 pub mod Calls
 pub mod Checks
+pub mod Makes
 pub mod Timed

@@ -4,8 +4,10 @@ ghost use Rattle.std.specs.Prelude.{◌≡◌, ◌≢◌};
 ghost use Rattle.tc_ffi.specs.Words.{action};
 ghost use Rattle.tc_ffi.specs.Calls.{Rewrites, Settles, Shows};
 ghost use Rattle.tc_ffi.specs.Checks.{Checks};
+ghost use Rattle.tc_ffi.specs.Makes.{Makes, IsTold};
 
 use crate::calls;
+use crate::make::make;
 use crate::told::{VtcFault, VtcVerdict};
 use std::alloc::Global;
 use tc_wire::TcActionMessage;
@@ -66,4 +68,23 @@ pub extern "C" fn vtc_action_json(
     ensures kept { result ≢ 0 → buffer.new ≡ buffer.old }
 {
     calls::json::<TcActionMessage>(alloc, bytes, buffer, length)
+}
+
+/// Writes the message that is shown as this JSON at the front of the buffer, and how many bytes it takes; or why none is
+/// made, as a text, into the second buffer, as much as it has room for, and how many bytes that are.
+#[unsafe(no_mangle)]
+pub extern "C" fn vtc_action_make(
+    alloc: Global,
+    json: &[u8],
+    buffer: &mut [u8],
+    length: &mut usize,
+    why: &mut [u8],
+    why_length: &mut usize,
+) -> u32
+    ensures makes { Makes action json.now buffer.old buffer.new length.new result }
+    ensures kept { result ≢ 0 → buffer.new ≡ buffer.old }
+    ensures tells { IsTold why.old why.new why_length.new }
+    ensures quiet { result ≢ 15 → result ≢ 16 → why_length.new ≡ 0 }
+{
+    make::<TcActionMessage>(alloc, json, buffer, length, why, why_length)
 }

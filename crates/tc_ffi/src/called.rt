@@ -2,11 +2,14 @@
 
 ghost use Rattle.std.specs.Prelude.{◌≡◌, ◌↔◌, ◌≤◌, length, IsTrue, IfOk, IfErr, Some};
 ghost use Rattle.serde_json.specs.Sent.{IsTextOf};
+ghost use Rattle.serde_json.specs.View.{view};
 ghost use Rattle.tc_wire.specs.Facade.{Message, IfRefused, Writes, HasRoom, tc_message, action_message};
 ghost use Rattle.tc_ffi.specs.Words.{Words, RefusedAs, tc, action};
+ghost use Rattle.tc_ffi.specs.Makes.{IsMadeOf};
 
-use serde_json::Error;
+use serde_json::{Error, Value};
 use std::alloc::Global;
+use tc_build::{MakeError, make_action, make_tc};
 use tc_json::{Show, Shown};
 use tc_outline::{What, locate};
 use tc_wire::{
@@ -54,6 +57,10 @@ pub trait Called: Drop {
             words.Settles bytes.now settled.0.items settled.1) }
         ensures refused { IfErr result (RefusedAs words bytes.now) };
 
+    /// The canonical bytes of the message that is shown as this JSON.
+    fn make(alloc: Global, json: &Value) -> Result<Vec<u8>, MakeError>
+        ensures { IfOk result (λ made. IsMadeOf words (view json.now) made.items) };
+
     /// True if the bytes are a canonical message.
     fn is_canonical(bytes: &[u8]) -> bool
         ensures { IsTrue result ↔ words.Canon bytes.now };
@@ -96,6 +103,10 @@ impl Called for TcMessage {
         settle_tc(alloc, bytes)
     }
 
+    fn make(alloc: Global, json: &Value) -> Result<Vec<u8>, MakeError> {
+        make_tc(alloc, json)
+    }
+
     fn is_canonical(bytes: &[u8]) -> bool {
         is_canonical_tc(bytes)
     }
@@ -136,6 +147,10 @@ impl Called for TcActionMessage {
 
     fn settle(alloc: Global, bytes: &[u8]) -> Result<(Vec<u8>, usize), RewriteError> {
         settle_action(alloc, bytes)
+    }
+
+    fn make(alloc: Global, json: &Value) -> Result<Vec<u8>, MakeError> {
+        make_action(alloc, json)
     }
 
     fn is_canonical(bytes: &[u8]) -> bool {

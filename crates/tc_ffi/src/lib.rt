@@ -6,6 +6,7 @@ mod action;
 mod bench;
 mod called;
 mod calls;
+mod make;
 mod place;
 mod tc;
 mod told;

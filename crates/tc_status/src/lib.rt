@@ -25,6 +25,12 @@ pub const NO_ROOM: u32 = 13;
 /// No attribute is left.
 pub const END: u32 = 14;
 
+/// A text isn't JSON.
+pub const NOT_JSON: u32 = 15;
+
+/// No message is made of the JSON.
+pub const NO_MESSAGE: u32 = 16;
+
 /// The number of a fault, 1 to 10; that of `OutOfMemory` is 11.
 pub fn status_of(fault: &DecodeError) -> u32
     ensures number { result ≡ status_of fault.now }
