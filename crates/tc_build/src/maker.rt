@@ -92,8 +92,8 @@ impl<'v> Maker<'v> {
         }
     }
 
-    // This place, as a JSON pointer.
-    fn path(&self) -> Result<String, AllocError> {
+    /// This place, as a JSON pointer.
+    pub(crate) fn path(&self) -> Result<String, AllocError> {
         let mut path = String::new(self.alloc);
         for step in &self.steps {
             path.push('/')?;

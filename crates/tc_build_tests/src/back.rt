@@ -3,13 +3,13 @@
 use serde_json::{Value, to_value};
 use std::alloc::Global;
 use std::test::Fail;
-use tc_build::{make_action, make_tc};
+use tc_build::{MakeError, make_action, make_tc};
 use tc_json::Shown;
 use tc_test_messages::{Expected, Form, Input, Row, captured, large_messages, made};
 use tc_wire::{ParseableBytes, TcActionMessage, TcMessage};
 
-// The JSON of a message.
-fn shown(alloc: Global, input: &Input) -> Result<Value, Fail> {
+/// The JSON of a message.
+pub(crate) fn shown(alloc: Global, input: &Input) -> Result<Value, Fail> {
     match input.form {
         Form::Tc => {
             let message = TcMessage::parse(alloc, &input.bytes)?;
@@ -22,14 +22,18 @@ fn shown(alloc: Global, input: &Input) -> Result<Value, Fail> {
     }
 }
 
+/// The bytes that are made of JSON.
+pub(crate) fn made_of(alloc: Global, form: Form, json: &Value) -> Result<Vec<u8>, MakeError> {
+    match form {
+        Form::Tc => make_tc(alloc, json),
+        Form::Action => make_action(alloc, json),
+    }
+}
+
 // The bytes that are made of a message's JSON. None where none are.
 fn remade(alloc: Global, input: &Input) -> Result<Option<Vec<u8>>, Fail> {
     let json = shown(alloc, input)?;
-    let bytes = match input.form {
-        Form::Tc => make_tc(alloc, &json),
-        Form::Action => make_action(alloc, &json),
-    };
-    Ok(bytes.ok())
+    Ok(made_of(alloc, input.form, &json).ok())
 }
 
 // What is settled and fits is made as it is emitted; of any other message nothing is made.

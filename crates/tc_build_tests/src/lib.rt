@@ -4,4 +4,6 @@
 #[cfg(test)]
 mod back;
 #[cfg(test)]
+mod broken;
+#[cfg(test)]
 mod wrong;

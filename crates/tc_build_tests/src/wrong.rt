@@ -3,7 +3,7 @@
 use serde_json::Value;
 use std::alloc::Global;
 use std::test::Fail;
-use tc_build::{MakeError, make_action, make_tc};
+use tc_build::{MakeError, make_action, make_tc, read_json};
 
 // Attributes of a traffic control message, and the error of the message.
 #[rattlefmt::skip]
@@ -82,6 +82,15 @@ const ACTION: [(&str, &str); 7] = [
         r#"/attributes/0/OptionsRaw: found "OptionsRaw", wanted the name of an attribute of the table"#),
 ];
 
+// Texts, and why they aren't read.
+#[rattlefmt::skip]
+const TEXTS: [(&[u8], &str); 4] = [
+    (br#"{"Kind":"u32","Kind":"u32"}"#, "/Kind: found twice, wanted once"),
+    (br#"[{"a":{}},{"a":{"b~":[{"c":1}],"\u0062~":2},"a":3}]"#, "/1/a/b~0: found twice, wanted once"),
+    (br#"{"a":1,"a":2"#, "no JSON at byte 12"),
+    (b"\"a\xff\"", "no JSON at byte 2"),
+];
+
 // The text of the error of what isn't made.
 fn text_of(alloc: Global, made: Result<Vec<u8>, MakeError>) -> Result<String, Fail> {
     match made {
@@ -118,6 +127,19 @@ fn whole_messages(rt: HostRuntime) -> Result<(), Fail> {
     let alloc = rt.alloc();
     for (text, error) in &ACTION {
         assert_eq!(rt; action_error_of(alloc, text)?.as_str(), *error);
+    }
+    Ok(())
+}
+
+#[test]
+fn texts(rt: HostRuntime) -> Result<(), Fail> {
+    let alloc = rt.alloc();
+    for (text, error) in &TEXTS {
+        let found = match read_json(alloc, text) {
+            Ok(json) => json.to_string(alloc)?,
+            Err(e) => format!(in alloc; "{e}")?,
+        };
+        assert_eq!(rt; found.as_str(), *error);
     }
     Ok(())
 }

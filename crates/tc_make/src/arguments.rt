@@ -13,6 +13,8 @@ pub struct Request {
     pub pcap: bool,
     /// True if what isn't settled is settled first.
     pub settle: bool,
+    /// True if a dump becomes the request that restores it.
+    pub restores: bool,
 }
 
 const ABOUT: &str =
@@ -40,13 +42,19 @@ fn command<'a>(alloc: Global) -> Result<Command<'a>, AllocError> {
         "settle",
         "Settle what isn't settled: mask numbers, drop NULs at the end of warnings",
     );
+    let request = flag(
+        alloc,
+        "request",
+        "Make of each dump the request that restores it",
+    );
     Command::new(alloc, "tcmake")
         .version("1.0")
         .about(ABOUT)
         .after_help(STATUSES)
         .arg(no_header.conflicts_with("pcap")?)?
         .arg(pcap)?
-        .arg(settle)
+        .arg(settle)?
+        .arg(request)
 }
 
 /// What the arguments say, the program's name first. The error is a mistake in them, a request for help or for the version, or that
@@ -57,5 +65,6 @@ pub fn request_of<'a, S: AsStr>(alloc: Global, words: &'a [S]) -> Result<Request
         no_header: matches.get_flag("no-header"),
         pcap: matches.get_flag("pcap"),
         settle: matches.get_flag("settle"),
+        restores: matches.get_flag("request"),
     })
 }

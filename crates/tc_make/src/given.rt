@@ -2,21 +2,21 @@
 
 ghost use Rattle.std.specs.Prelude.{◌≤◌, IfOk};
 
+use nla_frames::DecodeError;
 use serde_json::Value;
 use std::alloc::{AllocError, AllocFailed};
 use std::fmt;
-use tc_build::MakeError;
+use tc_build::{MakeError, ReadError};
 use tc_capture::{Holds, Time, rtm_of};
+use tc_requests::RestoreError;
 
 /// Why no message is made of a line.
 #[derive(Drop)]
 pub(crate) enum Complaint {
     /// It is longer than the longest line.
     TooLong,
-    /// It is no JSON, from this byte on.
-    NoJson {
-        column: usize,
-    },
+    /// It isn't read as JSON.
+    Read(ReadError),
     /// It says that a message was refused, and holds none.
     Refused,
     /// A member isn't what it has to be.
@@ -26,6 +26,8 @@ pub(crate) enum Complaint {
     },
     /// No message is made of its JSON.
     Make(MakeError),
+    /// No request restores what it shows.
+    Restore(RestoreError),
     /// More has to be settled than is settled of one message.
     TooUnsettled,
     /// The message is too long for its header, or for a capture.
@@ -46,14 +48,40 @@ impl<T: Drop> From<AllocFailed<T>> for Complaint {
     }
 }
 
+impl From<ReadError> for Complaint {
+    fn from(e: ReadError) -> Complaint {
+        match e {
+            ReadError::OutOfMemory => Complaint::NoMemory,
+            e => Complaint::Read(e),
+        }
+    }
+}
+
+impl From<RestoreError> for Complaint {
+    fn from(e: RestoreError) -> Complaint {
+        match e {
+            RestoreError::OutOfMemory => Complaint::NoMemory,
+            e => Complaint::Restore(e),
+        }
+    }
+}
+
+// Of bytes that were made, which are canonical: reading them fails only where memory runs out.
+impl From<DecodeError> for Complaint {
+    fn from(_e: DecodeError) -> Complaint {
+        Complaint::NoMemory
+    }
+}
+
 impl fmt::Display for Complaint {
     fn fmt<W: fmt::Write>(&self, f: &mut fmt::Formatter<W>) -> fmt::Result {
         match self {
             Complaint::TooLong => f.write_str("longer than 4194304 bytes"),
-            Complaint::NoJson { column } => write!(f, "no JSON at byte {column}"),
+            Complaint::Read(error) => write!(f, "{error}"),
             Complaint::Refused => f.write_str("holds no message, but why one was refused"),
             Complaint::Member { path, wanted } => write!(f, "{path}: wanted {wanted}"),
             Complaint::Make(error) => write!(f, "{error}"),
+            Complaint::Restore(error) => write!(f, "can't be restored: {error}"),
             Complaint::TooUnsettled => f.write_str("too much has to be settled"),
             Complaint::TooLongPacket => f.write_str("the message is too long to be written"),
             Complaint::NoMemory => f.write_str("out of memory"),

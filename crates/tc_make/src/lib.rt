@@ -14,6 +14,7 @@ mod input;
 mod made;
 mod packet;
 pub mod program;
+mod restore;
 pub mod run;
 mod settle;
 pub mod status;

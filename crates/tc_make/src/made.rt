@@ -7,7 +7,7 @@ use crate::given::{Complaint, Given, given_of};
 use crate::settle::settle_at;
 use serde_json::Value;
 use std::alloc::Global;
-use tc_build::{MakeError, make_action, make_tc};
+use tc_build::{MakeError, make_action, make_tc, read_json};
 use tc_capture::Holds;
 
 // How many places of a message are settled at most.
@@ -26,7 +26,7 @@ pub(crate) struct Made {
 pub(crate) fn made_of(alloc: Global, line: &[u8], settles: bool) -> Result<Made, Complaint>
     ensures { IfOk result (λ made. IsCanonical made.given.holds made.bytes.items) }
 {
-    let mut json = read(alloc, line)?;
+    let mut json = read_json(alloc, line)?;
     let given = given_of(&json)?;
     let mut settled = Vec::new(alloc);
     let bytes = match json.get_mut("message") {
@@ -38,21 +38,6 @@ pub(crate) fn made_of(alloc: Global, line: &[u8], settles: bool) -> Result<Made,
         bytes,
         settled,
     })
-}
-
-fn read(alloc: Global, line: &[u8]) -> Result<Value, Complaint> {
-    match Value::from_slice(alloc, line) {
-        Ok(json) => Ok(json),
-        Err(error) => {
-            if error.is_memory() {
-                Err(Complaint::NoMemory)
-            } else {
-                Err(Complaint::NoJson {
-                    column: error.column(),
-                })
-            }
-        }
-    }
 }
 
 // The bytes of a message; what isn't settled is settled first, if that is asked for.

@@ -5,6 +5,7 @@ use crate::given::Complaint;
 use crate::input::{Line, next_line};
 use crate::made::{Made, made_of};
 use crate::packet::{CAPTURE, put_line, put_packet, with_header};
+use crate::restore::restored;
 use crate::status::Stop;
 use crate::writing::write_all;
 use std::alloc::Global;
@@ -83,7 +84,10 @@ fn put_message<E: Write>(
     if line.iter().all(|byte| byte.is_ascii_whitespace()) {
         return Ok(());
     }
-    let made = made_of(alloc, line, request.settle)?;
+    let mut made = made_of(alloc, line, request.settle)?;
+    if request.restores {
+        made = restored(alloc, made)?;
+    }
     put_made(alloc, request, &made, out)?;
     say_settled(alloc, errors, number, &made)
 }
