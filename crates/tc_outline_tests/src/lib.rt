@@ -1,4 +1,4 @@
-//! Tests alone: the attributes of messages with their places; messages as lines, their faults with their places, and memory that is refused.
+//! Tests alone: attributes with their places, messages as lines, faults with their places, and allocations that fail.
 #![tactic(auto)]
 
 #[cfg(test)]
