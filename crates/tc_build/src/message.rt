@@ -8,11 +8,6 @@ ghost use Rattle.tc_meaning.specs.Whole.{ReadsTc, ReadsAct};
 ghost use Rattle.tc_json.specs.Events.{tc_events, action_message_events};
 ghost use Rattle.tc_build.specs.Shown.{IsJsonOf};
 
-use crate::error::{MakeError, Wanted};
-use crate::list::list;
-use crate::maker::Maker;
-use crate::object::{enter_member, only};
-use crate::record::record;
 use crate::same::is_same;
 use nla_frames::{DecodeError, ParseableBytes};
 use serde_json::{Value, to_value};
@@ -20,11 +15,9 @@ use std::alloc::Global;
 use tc_action_messages::TcActionMessage;
 use tc_canon::{is_canonical_action, is_canonical_tc};
 use tc_json::{Show, Shown};
+use tc_json_bytes::{MakeError, Maker, Wanted, message_bytes};
 use tc_messages::TcMessage;
 use tc_names::{Fixed, Table};
-
-// How deep lists nest in a message, and more.
-const MOST_DEPTH: u8 = 8;
 
 /// The bytes of the traffic control message that is shown as this JSON.
 pub fn make_tc(alloc: Global, json: &Value) -> Result<Vec<u8>, MakeError>
@@ -33,7 +26,7 @@ pub fn make_tc(alloc: Global, json: &Value) -> Result<Vec<u8>, MakeError>
     ensures shows { IfOk result (λ bytes. (m : Message) × ReadsTc bytes.items m
         × IsJsonOf (tc_events m) (view json.now)) }
 {
-    let bytes = message(alloc, Fixed::Header, Table::Message, json)?;
+    let bytes = message_bytes(alloc, Fixed::Header, Table::Message, json)?;
     if !is_canonical_tc(&bytes) {
         return Err(differs(alloc, json));
     }
@@ -49,25 +42,13 @@ pub fn make_action(alloc: Global, json: &Value) -> Result<Vec<u8>, MakeError>
     ensures shows { IfOk result (λ bytes. (m : Message) × ReadsAct bytes.items m
         × IsJsonOf (action_message_events m) (view json.now)) }
 {
-    let bytes = message(alloc, Fixed::ActionHeader, Table::ActionMessage, json)?;
+    let bytes = message_bytes(alloc, Fixed::ActionHeader, Table::ActionMessage, json)?;
     if !is_canonical_action(&bytes) {
         return Err(differs(alloc, json));
     }
     let shown = shown_action(alloc, &bytes, json)?;
     compare(alloc, &shown, json)?;
     Ok(bytes)
-}
-
-// The bytes of a header and of attributes of a table.
-fn message(alloc: Global, header: Fixed, table: Table, json: &Value) -> Result<Vec<u8>, MakeError> {
-    let mut maker = Maker::new(alloc);
-    only(&mut maker, json, &["header", "attributes"])?;
-    let held = enter_member(&mut maker, json, "header")?;
-    record(&mut maker, header, held)?;
-    maker.leave();
-    let attributes = enter_member(&mut maker, json, "attributes")?;
-    list(&mut maker, table, "", attributes, MOST_DEPTH)?;
-    Ok(maker.bytes)
 }
 
 // The error of JSON whose bytes would show something else.

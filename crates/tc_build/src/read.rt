@@ -5,14 +5,13 @@ ghost use Rattle.serde_json.specs.Read.{read};
 ghost use Rattle.serde_json.specs.View.{view};
 ghost use Rattle.tc_build.specs.Read.{HasKeysOnce, IsCause};
 
-use crate::error::MakeError;
-use crate::maker::{Maker, Step};
 use json::Scratch;
 use serde_json::Value;
 use std::alloc::{AllocError, Global};
 use std::collections::BTreeSet;
 use std::error::Error;
 use std::{fmt, str};
+use tc_json_bytes::{MakeError, Maker, Step};
 
 /// Why a text isn't read as JSON.
 #[derive(Drop)]

@@ -3,9 +3,8 @@
 ghost use Rattle.std.specs.Prelude.{◌≡◌, IfOk, IsTrue};
 ghost use Rattle.serde_json.specs.View.{view, number_view, items_view, members_view};
 
-use crate::error::MakeError;
-use crate::maker::{Maker, Step};
 use serde_json::{Map, Number, Value};
+use tc_json_bytes::{MakeError, Maker, Step};
 
 /// True if two values are the same; if they aren't, it stays at the first place where they differ.
 #[cycle(same)]

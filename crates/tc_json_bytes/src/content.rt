@@ -57,11 +57,20 @@ fn put_masked<'v>(
 ) -> Result<(), MakeError>
     requires { width ≤ 8 }
 {
-    let held = number(maker, value, most)?;
-    if held > mask {
-        return Err(maker.wrong(value, Wanted::Masked { most: mask }));
+    match masked(maker, value, mask, most) {
+        Ok(number) => maker.put(&number.to_le_bytes()[..width]),
+        Err(e) => Err(e),
     }
-    put_little(maker, value, mask, width)
+}
+
+// A number up to `mask`; one up to `most` alone has bits that aren't written.
+fn masked<'v>(maker: &Maker<'v>, value: &'v Value, mask: u64, most: u64) -> Result<u64, MakeError> {
+    let held = number(maker, value, most)?;
+    if held <= mask {
+        Ok(held)
+    } else {
+        Err(maker.wrong(value, Wanted::Masked { most: mask }))
+    }
 }
 
 fn put_mac<'v>(maker: &mut Maker<'v>, value: &'v Value) -> Result<(), MakeError> {

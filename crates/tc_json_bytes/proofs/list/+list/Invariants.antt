@@ -1,7 +1,7 @@
 use Rattle.std.proofs.Common.{◌+◌, ◌*◌}
 use denote.Text.{Utf8}
 use denote.Shadow.{shadow}
-use Rattle.tc_build.proofs.list.+list.Given as goal
+use Rattle.tc_json_bytes.proofs.list.+list.Given as goal
 
 -- how deep lists may still nest, and at each depth the calls in turn
 abbrev pub decreases-list : goal.decreases-list

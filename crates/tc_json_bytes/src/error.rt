@@ -1,7 +1,7 @@
 //! Why no message is made.
 
 ghost use Rattle.std.specs.Prelude.{◌≡◌};
-ghost use Rattle.tc_build.specs.declared.error.MakeError.TheVariants.{OutOfMemory};
+ghost use Rattle.tc_json_bytes.specs.declared.error.MakeError.TheVariants.{OutOfMemory};
 
 use std::alloc::AllocError;
 use std::error::Error;

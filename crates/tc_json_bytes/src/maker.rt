@@ -6,7 +6,7 @@ use std::alloc::{AllocError, Global};
 
 /// A step of a JSON pointer.
 #[derive(Clone, Copy)]
-pub(crate) enum Step<'v> {
+pub enum Step<'v> {
     /// To the member of an object.
     Member(&'v str),
     /// To an item of a list.
@@ -15,7 +15,8 @@ pub(crate) enum Step<'v> {
 
 /// What is being made, and of which part of the JSON.
 #[derive(Drop)]
-pub(crate) struct Maker<'v> {
+pub struct Maker<'v> {
+    /// The allocator.
     pub alloc: Global,
     /// The bytes so far: of the message, or of the value of an attribute that has begun.
     pub bytes: Vec<u8>,
@@ -23,7 +24,8 @@ pub(crate) struct Maker<'v> {
 }
 
 impl<'v> Maker<'v> {
-    pub(crate) fn new(alloc: Global) -> Maker<'v> {
+    /// Nothing so far, of the whole JSON.
+    pub fn new(alloc: Global) -> Maker<'v> {
         Maker {
             alloc,
             bytes: Vec::new(alloc),
@@ -32,12 +34,12 @@ impl<'v> Maker<'v> {
     }
 
     /// Appends bytes.
-    pub(crate) fn put(&mut self, bytes: &[u8]) -> Result<(), MakeError> {
+    pub fn put(&mut self, bytes: &[u8]) -> Result<(), MakeError> {
         Ok(self.bytes.extend_from_slice(bytes)?)
     }
 
     /// Appends so many zeros.
-    pub(crate) fn put_zeros(&mut self, count: u16) -> Result<(), MakeError> {
+    pub fn put_zeros(&mut self, count: u16) -> Result<(), MakeError> {
         for _ in 0..count {
             self.put(&[0])?;
         }
@@ -45,7 +47,7 @@ impl<'v> Maker<'v> {
     }
 
     /// Goes to a part of this place.
-    pub(crate) fn enter(&mut self, step: Step<'v>) -> Result<(), MakeError> {
+    pub fn enter(&mut self, step: Step<'v>) -> Result<(), MakeError> {
         match self.steps.push(step) {
             Ok(()) => Ok(()),
             Err(_) => Err(MakeError::OutOfMemory),
@@ -53,12 +55,12 @@ impl<'v> Maker<'v> {
     }
 
     /// Goes back to what this place is a part of.
-    pub(crate) fn leave(&mut self) {
+    pub fn leave(&mut self) {
         self.steps.pop();
     }
 
     /// The error of the value at this place.
-    pub(crate) fn wrong(&self, found: &Value, wanted: Wanted) -> MakeError {
+    pub fn wrong(&self, found: &Value, wanted: Wanted) -> MakeError {
         match found_text(self.alloc, found) {
             Ok(found) => self.wrong_text(found, wanted),
             Err(_) => MakeError::OutOfMemory,
@@ -66,7 +68,7 @@ impl<'v> Maker<'v> {
     }
 
     /// The error of a name, the last step of this place.
-    pub(crate) fn wrong_name(&self, found: &str, wanted: Wanted) -> MakeError {
+    pub fn wrong_name(&self, found: &str, wanted: Wanted) -> MakeError {
         match Value::try_from_str(self.alloc, found) {
             Ok(name) => self.wrong(&name, wanted),
             Err(_) => MakeError::OutOfMemory,
@@ -74,7 +76,7 @@ impl<'v> Maker<'v> {
     }
 
     /// The error of a member that isn't there; its name is the last step of this place.
-    pub(crate) fn missing(&self) -> MakeError {
+    pub fn missing(&self) -> MakeError {
         match String::from_str(self.alloc, "nothing") {
             Ok(found) => self.wrong_text(found, Wanted::Member),
             Err(_) => MakeError::OutOfMemory,
@@ -93,7 +95,7 @@ impl<'v> Maker<'v> {
     }
 
     /// This place, as a JSON pointer.
-    pub(crate) fn path(&self) -> Result<String, AllocError> {
+    pub fn path(&self) -> Result<String, AllocError> {
         let mut path = String::new(self.alloc);
         for step in &self.steps {
             path.push('/')?;

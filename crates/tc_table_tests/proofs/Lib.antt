@@ -1,2 +1,0 @@
-pub mod KnownRows
-pub mod WorkedRows
