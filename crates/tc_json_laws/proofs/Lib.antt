@@ -7,3 +7,4 @@ pub mod Names
 pub mod Attributes
 pub mod Trees
 pub mod WholeMessages
+mod WrittenBack

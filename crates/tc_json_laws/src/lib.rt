@@ -1,9 +1,11 @@
-//! Laws of what is sent to serde: equal events are of equal messages, so nothing is lost of a message that is shown.
+//! Laws of what is sent to serde: equal events are of equal messages, so nothing is lost of a message that is shown; and the bytes of
+//! two messages differ only where what is sent of them does.
 #![tactic(auto)]
 
 ghost use Rattle.std.specs.Prelude.{◌≡◌, ◌↔◌, IsTrue, true};
 ghost use Rattle.tc_meaning.specs.Message.{Message};
-ghost use Rattle.tc_meaning.specs.Whole.{ReadsTc, ReadsAct, TypedTc, TypedAct};
+ghost use Rattle.tc_canon.specs.Canonical.{CanonTc, CanonAct};
+ghost use Rattle.tc_meaning.specs.Whole.{ReadsTc, ReadsAct, TypedTc, TypedAct, tc_bytes, act_bytes};
 ghost use Rattle.tc_names.specs.declared.row.Form.{Form};
 ghost use Rattle.tc_names.specs.declared.row.Table.{Table};
 ghost use Rattle.tc_names.specs.Listed.{names_in, kind_names_in};
@@ -42,6 +44,20 @@ pub fn injective_readings(one: &[u8], other: &[u8])
     laws::tc_message(other);
     laws::action_message(one);
     laws::action_message(other);
+}
+
+/// Canonical bytes, such as `make_tc` and `make_action` of `tc_build` return, are those of each message of which the same is sent as of
+/// the message that they read as.
+pub fn bytes_of_events(bytes: &[u8])
+    ensures tc { (m n : Message) → TypedTc m → CanonTc bytes.now → ReadsTc bytes.now n
+        → tc_events n ≡ tc_events m → tc_bytes m ≡ bytes.now }
+    ensures action { (m n : Message) → TypedAct m → CanonAct bytes.now → ReadsAct bytes.now n
+        → action_message_events n ≡ action_message_events m → act_bytes m ≡ bytes.now }
+{
+    // Laws, which do nothing: equal events are of equal messages, and canonical bytes are those of what they read as.
+    injective_events();
+    laws::tc_message(bytes);
+    laws::action_message(bytes);
 }
 
 /// Two traffic control messages are `==` if and only if the same is sent of them; and what contracts see of a message is

@@ -1,7 +1,7 @@
 use Rattle.std.proofs.Common.{◌≡◌, subst}
 use Rattle.tc_meaning.specs.Whole.{tc_words, tc_bytes, action_words, act_bytes}
-use Rattle.tc_build_laws.proofs.WrittenBack.{written_back}
-use Rattle.tc_build_laws.proofs.bytes_of_events.Goals as goal
+use Rattle.tc_json_laws.proofs.WrittenBack.{written_back}
+use Rattle.tc_json_laws.proofs.bytes_of_events.Goals as goal
 
 pub returns-clause-tc : goal.returns-clause-tc
 returns-clause-tc c m n typed canonical reads e =
