@@ -1,6 +1,6 @@
 //! Packets that a capture holds a part of, that are too long, and lines that are no hex.
 
-use crate::runs::{all_in, alone_in, shown};
+use crate::show::runs::{all_in, alone_in, shown};
 use std::test::Fail;
 use tc_capture::Holds;
 use tc_show::asked::Form;

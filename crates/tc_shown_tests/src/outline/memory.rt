@@ -1,6 +1,6 @@
 //! Memory that is refused: whichever request it is, showing a message fails with that.
 
-use crate::messages::TWO_ACTIONS;
+use crate::outline::messages::TWO_ACTIONS;
 use failing_alloc::Failing;
 use std::test::Fail;
 use tc_outline::{Interfaces, Layout, Page, outline};

@@ -1,6 +1,6 @@
 //! Streams that fail, that are interrupted, and that are closed.
 
-use crate::runs::{all_in, is_front, shown};
+use crate::show::runs::{all_in, is_front, shown};
 use std::alloc::Global;
 use std::io::{Error, ErrorKind, Read, Result, Write};
 use std::test::Fail;

@@ -1,6 +1,6 @@
 //! The names of attributes and of the variants that hold a kind's options.
 
-use crate::fields::record_len;
+use crate::names::fields::record_len;
 use nla_frames::{NlaBuffer, Parseable, ParseableParametrized};
 use std::alloc::{AllocError, Global};
 use std::fmt::Debug;

@@ -1,6 +1,6 @@
 //! Memory that is refused.
 
-use crate::runs::{FORMS, all_in, is_front, shown};
+use crate::show::runs::{FORMS, all_in, is_front, shown};
 use failing_alloc::Failing;
 use std::test::Fail;
 use tc_show::program::serve;

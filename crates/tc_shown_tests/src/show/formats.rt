@@ -1,6 +1,6 @@
 //! The same messages in each format.
 
-use crate::runs::{FORMS, all_in, shown};
+use crate::show::runs::{FORMS, all_in, shown};
 use std::alloc::{AllocError, Global};
 use std::test::Fail;
 use tc_show::asked::Form;

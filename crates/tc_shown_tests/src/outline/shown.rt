@@ -1,6 +1,6 @@
 //! Messages as lines.
 
-use crate::messages::{
+use crate::outline::messages::{
     ACTIONS, CLASS, FQ_CODEL, HOSTILE, MPLS, NAT, Shown, TUNNEL_KEY, TWO_ACTIONS, U32, UNKNOWN_KIND,
 };
 use std::alloc::Global;

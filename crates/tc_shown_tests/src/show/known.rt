@@ -1,6 +1,6 @@
 //! Known messages and what is shown of them.
 
-use crate::runs::{all_in, shown};
+use crate::show::runs::{all_in, shown};
 use std::test::Fail;
 use tc_outline::Interfaces;
 use tc_show::asked::{Chosen, Form};

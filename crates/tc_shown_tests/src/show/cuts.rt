@@ -1,6 +1,6 @@
 //! Captures that are cut, and that are changed.
 
-use crate::runs::{FORMS, all_in, is_clean, is_front, shown};
+use crate::show::runs::{FORMS, all_in, is_clean, is_front, shown};
 use std::alloc::Global;
 use std::test::Fail;
 use tc_show::asked::Form;

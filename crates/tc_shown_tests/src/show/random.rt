@@ -1,6 +1,6 @@
 //! Pseudo-random bytes.
 
-use crate::runs::{FORMS, all_in, alone_in, is_clean, shown};
+use crate::show::runs::{FORMS, all_in, alone_in, is_clean, shown};
 use rand_core::Rng;
 use rand_pcg::Pcg32;
 use std::alloc::Global;

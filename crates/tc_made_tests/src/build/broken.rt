@@ -1,6 +1,6 @@
 //! The JSON of messages, broken in one place at a time: the error names the place.
 
-use crate::back::{made_of, shown};
+use crate::build::back::{made_of, shown};
 use serde_json::{Map, Value};
 use std::alloc::Global;
 use std::test::Fail;

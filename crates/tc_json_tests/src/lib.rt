@@ -1,5 +1,0 @@
-//! Tests alone: messages as JSON.
-#![tactic(auto)]
-
-#[cfg(test)]
-mod texts;

@@ -1,0 +1,7 @@
+//! Tests alone, of messages that are made: of JSON, and as requests of clients.
+#![tactic(auto)]
+
+#[cfg(test)]
+mod build;
+#[cfg(test)]
+mod requests;

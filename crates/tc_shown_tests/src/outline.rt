@@ -1,0 +1,9 @@
+//! Attributes with their places, messages as lines, faults with their places, and allocations that fail.
+
+mod every;
+mod faults;
+mod index;
+mod memory;
+mod messages;
+mod places;
+mod shown;

@@ -1,0 +1,12 @@
+//! Runs over captures and lines of hex, whole, cut and changed, over pseudo-random bytes, and with streams and memory that
+//! fail.
+
+mod arguments;
+mod cuts;
+mod formats;
+mod holes;
+mod known;
+mod memory;
+mod random;
+mod runs;
+mod streams;
