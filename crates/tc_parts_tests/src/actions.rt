@@ -6,6 +6,7 @@ use failing_alloc::Failing;
 use nla_frames::{DecodeError, Nla, NlaBuffer, Parseable, Res, Settle};
 use std::alloc::Global;
 use std::process::Abort;
+use std::slice::from_ref;
 use std::test::Fail;
 use tc_actions::{TcAction, TcActionAttribute};
 
@@ -17,7 +18,7 @@ fn action(alloc: Global, frame: &[u8]) -> Res<TcAction> {
 /// True if the action of a frame is settled, and is written as this one.
 fn is_rewritten(alloc: Global, frame: &[u8], written: &[u8]) -> Result<bool, DecodeError> {
     let read = action(alloc, frame)?;
-    Ok(read.is_settled() && are_written(&[read], written))
+    Ok(read.is_settled() && are_written(from_ref(&read), written))
 }
 
 #[rattlefmt::skip]
@@ -79,12 +80,16 @@ fn flags_of_an_action_are_read_away(rt: HostRuntime) -> Result<(), Fail> {
     are_known::<TcAction>(alloc, &FLAGS)?;
     // made by hand, flags are written and not settled
     let kind = TcActionAttribute::Kind("nat".to_string(alloc)?);
-    let made: TcAction = TcAction {
-        tab: 0x8001,
-        attributes: vec![in alloc; kind]?,
-    };
+    let mut made: TcAction = TcAction::default_in(alloc);
+    made.tab = 0x8001;
+    made.attributes.push(kind)?;
     assert!(rt; !made.is_settled());
-    assert!(rt; are_written(&[made], &[12, 0, 1, 0x80, 8, 0, 1, 0, 0x6e, 0x61, 0x74, 0]));
+    assert!(rt;
+        are_written(
+            from_ref(&made),
+            &[12, 0, 1, 0x80, 8, 0, 1, 0, 0x6e, 0x61, 0x74, 0]
+        )
+    );
     Ok(())
 }
 
@@ -126,7 +131,7 @@ fn a_truth_value_is_written_as_one(rt: HostRuntime) -> Result<(), Fail> {
 fn the_default_has_no_kind(rt: HostRuntime) {
     let default: TcAction = TcAction::default_in(rt.alloc());
     assert!(rt; !default.is_settled());
-    assert!(rt; are_written(&[default], &[4, 0, 1, 0]));
+    assert!(rt; are_written(from_ref(&default), &[4, 0, 1, 0]));
 }
 
 #[test]
@@ -171,7 +176,7 @@ fn is_read(rt: &impl Abort, alloc: Global, frame: &[u8], at: u64) -> Result<bool
     // what follows takes no memory
     failing.refuse(1);
     assert!(rt; read.is_settled());
-    assert!(rt; are_written(&[read], frame));
+    assert!(rt; are_written(from_ref(&read), frame));
     assert!(rt; !failing.has_refused());
     Ok(true)
 }

@@ -28,7 +28,7 @@ pub(crate) fn raw<A: Allocator>(
 
 /// Options of this one alone.
 pub(crate) fn options(alloc: Global, option: TcOption) -> Result<TcAttribute, AllocError> {
-    Ok(TcAttribute::Options(vec![in alloc; option]?))
+    Ok(TcAttribute::Options(pushed(Vec::new(alloc), Ok(option))?))
 }
 
 /// A list with one item more.

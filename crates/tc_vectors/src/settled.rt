@@ -1,6 +1,6 @@
 //! Values made by hand: which of them read back as themselves, and as what the others do.
 
-use crate::made::{kept, kind, options, raw, with};
+use crate::made::{kept, kind, options, pushed, raw, with};
 use crate::tables::{after_zeros, settles};
 use crate::worked::{NO_HEADER, shown_action, shown_tc};
 use nla_frames::{AddressFamily, Settle, SettleBytes};
@@ -157,9 +157,9 @@ enum MadeAction {
 
 fn nat(alloc: Global, tab: u16) -> Result<TcActionMessageAttribute, AllocError> {
     let kind = TcActionAttribute::Kind("nat".to_string(alloc)?);
-    let attributes = vec![in alloc; kind]?;
+    let attributes = pushed(Vec::new(alloc), Ok(kind))?;
     let action = TcAction { tab, attributes };
-    Ok(TcActionMessageAttribute::Actions(vec![in alloc; action]?))
+    Ok(TcActionMessageAttribute::Actions(pushed(Vec::new(alloc), Ok(action))?))
 }
 
 fn warning(alloc: Global, text: &str) -> Result<TcActionMessageAttribute, AllocError> {
