@@ -28,64 +28,85 @@ pub struct Row {
 
 /// The parts of a row.
 pub fn row_of(alloc: Global, row: &str) -> Result<Row, Fail> {
-    let (message, expected) = row.split_once(" = ").ok_or("a row has an =")?;
-    let (form, message) = message.split_once(' ').unwrap_or((message, ""));
+    let (message, expected) = match row.split_once(" = ") {
+        Some(parts) => parts,
+        None => return Err(Fail::new("a row has an =")),
+    };
+    let input = input_of(alloc, message)?;
+    let expected = expected_of(alloc, &input, expected)?;
+    Ok(Row { input, expected })
+}
+
+// The first word of a text, and what follows it.
+fn cut<'a>(text: &'a str) -> (&'a str, &'a str) {
+    text.split_once(' ').unwrap_or((text, ""))
+}
+
+// The message of a row: its form, and the words of its bytes.
+fn input_of(alloc: Global, message: &str) -> Result<Input, Fail> {
+    let (form, words) = cut(message);
     let form = match form {
         "tc" => Form::Tc,
         "action" => Form::Action,
         _ => return Err(Fail::new("a row begins with its form")),
     };
-    let bytes = spelled(alloc, form, message)?;
-    let expected = match expected.split_once(' ') {
-        None => Expected::Refused(expected.to_string(alloc)?),
-        Some((fits, expected)) => accepted(alloc, form, &bytes, fits, expected)?,
-    };
-    Ok(Row {
-        input: Input { form, bytes },
-        expected,
+    let bytes = spelled(alloc, form, words)?;
+    Ok(Input { form, bytes })
+}
+
+// What is expected of a message.
+fn expected_of(alloc: Global, input: &Input, expected: &str) -> Result<Expected, Fail> {
+    let (fits, others) = cut(expected);
+    if others.is_empty() {
+        return Ok(Expected::Refused(fits.to_string(alloc)?));
+    }
+    let (settled, others) = cut(others);
+    let (canonical, other) = cut(others);
+    let emitted = emitted_of(alloc, input, other)?;
+    Ok(Expected::Accepted {
+        fits: is_yes(fits),
+        settled: is_yes(settled),
+        canonical: is_yes(canonical),
+        emitted,
     })
 }
 
-// What is expected of a message that is read, after whether it fits.
-fn accepted(
-    alloc: Global,
-    form: Form,
-    bytes: &[u8],
-    fits: &str,
-    expected: &str,
-) -> Result<Expected, Fail> {
-    let (settled, expected) = expected.split_once(' ').unwrap_or((expected, ""));
-    let (canonical, other) = expected.split_once(' ').unwrap_or((expected, ""));
-    let emitted = if other.is_empty() {
-        bytes.to_vec(alloc)?
+// True of the word for it.
+fn is_yes(word: &str) -> bool {
+    word == "yes"
+}
+
+// The bytes that are emitted: those of the message, or others.
+fn emitted_of(alloc: Global, input: &Input, other: &str) -> Result<Vec<u8>, Fail> {
+    if other.is_empty() {
+        Ok(input.bytes.to_vec(alloc)?)
     } else {
-        spelled(alloc, form, other)?
-    };
-    Ok(Expected::Accepted {
-        fits: fits == "yes",
-        settled: settled == "yes",
-        canonical: canonical == "yes",
-        emitted,
-    })
+        spelled(alloc, input.form, other)
+    }
 }
 
 // The bytes that words stand for.
 fn spelled(alloc: Global, form: Form, words: &str) -> Result<Vec<u8>, Fail> {
     let mut bytes = Vec::new(alloc);
     for word in words.split(' ') {
-        if word == "zeros" {
-            bytes.extend_from_slice(form.header())?;
-        } else {
-            let digits = spelled_kind(word).as_bytes();
-            bytes.extend_from_slice(&hex::decode(alloc, digits)?)?;
-        }
+        put_digits(alloc, &mut bytes, digits_of(form, word))?;
     }
     Ok(bytes)
 }
 
-// The attribute of a kind in hex, or the digits themselves.
-fn spelled_kind(word: &str) -> &str {
+// Appends bytes that are written in hex.
+fn put_digits(alloc: Global, bytes: &mut Vec<u8>, digits: &str) -> Result<(), Fail> {
+    let part = hex::decode(alloc, digits.as_bytes())?;
+    Ok(bytes.extend_from_slice(&part)?)
+}
+
+// The header of zeros or the attribute of a kind in hex, or the digits themselves.
+fn digits_of<'a>(form: Form, word: &'a str) -> &'a str {
     match word {
+        "zeros" => match form {
+            Form::Tc => "0000000000000000000000000000000000000000",
+            Form::Action => "00000000",
+        },
         "fq_codel" => "0d00010066715f636f64656c00000000",
         "ingress" => "0c000100696e677265737300",
         "flower" => "0b000100666c6f7765720000",
