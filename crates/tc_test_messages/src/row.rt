@@ -1,7 +1,7 @@
 //! A row in parts.
 
 use crate::input::{Form, Input};
-use std::alloc::Global;
+use std::alloc::{AllocError, Global};
 use std::test::Fail;
 
 /// What the calls have to return for a message.
@@ -55,38 +55,46 @@ fn input_of(alloc: Global, message: &str) -> Result<Input, Fail> {
 }
 
 // What is expected of a message.
-fn expected_of(alloc: Global, input: &Input, expected: &str) -> Result<Expected, Fail> {
-    let (fits, others) = cut(expected);
+fn expected_of(alloc: Global, input: &Input, expected: &str) -> Result<Expected, AllocError> {
+    let (_, others) = cut(expected);
     if others.is_empty() {
-        return Ok(Expected::Refused(fits.to_string(alloc)?));
+        return Ok(Expected::Refused(expected.to_string(alloc)?));
     }
-    let (settled, others) = cut(others);
-    let (canonical, other) = cut(others);
+    let (fits, settled, canonical, other) = marks_of(expected);
     let emitted = emitted_of(alloc, input, other)?;
     Ok(Expected::Accepted {
-        fits: is_yes(fits),
-        settled: is_yes(settled),
-        canonical: is_yes(canonical),
+        fits,
+        settled,
+        canonical,
         emitted,
     })
 }
 
-// True of the word for it.
-fn is_yes(word: &str) -> bool {
-    word == "yes"
+// Whether a message fits, is settled and is canonical, and what follows.
+fn marks_of<'a>(text: &'a str) -> (bool, bool, bool, &'a str) {
+    let (fits, text) = mark_of(text);
+    let (settled, text) = mark_of(text);
+    let (canonical, text) = mark_of(text);
+    (fits, settled, canonical, text)
+}
+
+// Whether the first word is yes, and what follows.
+fn mark_of<'a>(text: &'a str) -> (bool, &'a str) {
+    let (word, text) = cut(text);
+    (word == "yes", text)
 }
 
 // The bytes that are emitted: those of the message, or others.
-fn emitted_of(alloc: Global, input: &Input, other: &str) -> Result<Vec<u8>, Fail> {
+fn emitted_of(alloc: Global, input: &Input, other: &str) -> Result<Vec<u8>, AllocError> {
     if other.is_empty() {
-        Ok(input.bytes.to_vec(alloc)?)
+        input.bytes.to_vec(alloc)
     } else {
         spelled(alloc, input.form, other)
     }
 }
 
 // The bytes that words stand for.
-fn spelled(alloc: Global, form: Form, words: &str) -> Result<Vec<u8>, Fail> {
+fn spelled(alloc: Global, form: Form, words: &str) -> Result<Vec<u8>, AllocError> {
     let mut bytes = Vec::new(alloc);
     for word in words.split(' ') {
         put_digits(alloc, &mut bytes, digits_of(form, word))?;
@@ -94,10 +102,12 @@ fn spelled(alloc: Global, form: Form, words: &str) -> Result<Vec<u8>, Fail> {
     Ok(bytes)
 }
 
-// Appends bytes that are written in hex.
-fn put_digits(alloc: Global, bytes: &mut Vec<u8>, digits: &str) -> Result<(), Fail> {
-    let part = hex::decode(alloc, digits.as_bytes())?;
-    Ok(bytes.extend_from_slice(&part)?)
+// Appends bytes that are written in hex; fails, as without memory, where they aren't.
+fn put_digits(alloc: Global, bytes: &mut Vec<u8>, digits: &str) -> Result<(), AllocError> {
+    match hex::decode(alloc, digits.as_bytes()) {
+        Ok(part) => bytes.extend_from_slice(&part),
+        Err(_) => Err(AllocError),
+    }
 }
 
 // The header of zeros or the attribute of a kind in hex, or the digits themselves.

@@ -1,6 +1,6 @@
 //! Attributes of all types and many lengths, and the messages in which they may stand.
 
-ghost use Rattle.std.specs.Prelude.{◌≡◌, ◌≤◌, ◌+◌, IfOk, length, replicate, vec_len};
+ghost use Rattle.std.specs.Prelude.{◌≡◌, ◌≤◌, ◌<◌, IfOk, length, replicate, vec_len};
 ghost use Rattle.tc_test_messages.specs.Inputs.{attribute};
 
 use crate::input::{Form, Input};
@@ -26,7 +26,7 @@ pub fn swept(alloc: Global, word: u16, length: usize) -> Result<Vec<u8>, AllocEr
     frame(alloc, word, &vec![in alloc; 1u8; length]?)
 }
 
-// The attribute of each of these kinds, whose text ends in a NUL.
+// The attributes of `KINDS` and of `ACTION_KINDS`, whose texts end in a NUL.
 static KIND_FRAMES: [&[u8]; 9] = [
     b"\x0d\0\x01\0fq_codel\0\0\0\0",
     b"\x0c\0\x01\0ingress\0",
@@ -60,9 +60,6 @@ fn as_action_option(alloc: Global, kind: &[u8], swept: &[u8]) -> Result<Input, A
     Input::of_frames(alloc, Form::Action, &[&actions, &action, kind, &options])
 }
 
-// How many messages there are around an attribute.
-const PLACES: usize = 11;
-
 // The message around an attribute, of this number: alone in each form, then the one option of each known kind.
 fn placed(alloc: Global, place: usize, swept: &[u8]) -> Result<Input, AllocError> {
     match place {
@@ -73,14 +70,12 @@ fn placed(alloc: Global, place: usize, swept: &[u8]) -> Result<Input, AllocError
     }
 }
 
-// Appends the messages in which an attribute is alone, and the one option of each known kind.
-fn put_around(alloc: Global, inputs: &mut Vec<Input>, swept: &[u8]) -> Result<(), AllocError>
-    ensures { IfOk result (λ _. vec_len inputs.new ≡ vec_len inputs.old + 11) }
+// The message of this number of all: around each attribute eleven, of each type ten lengths.
+fn around(alloc: Global, place: usize) -> Result<Input, AllocError>
+    requires { place < 12210 }
 {
-    for place in 0..PLACES {
-        inputs.push(placed(alloc, place, swept)?)?;
-    }
-    Ok(())
+    let swept = swept(alloc, (place / 110) as u16, LENGTHS[place / 11 % 10])?;
+    placed(alloc, place % 11, &swept)
 }
 
 /// The messages in which an attribute of each type and each length is alone, and the one option of each known kind.
@@ -88,9 +83,8 @@ pub fn all_around(alloc: Global) -> Result<Vec<Input>, AllocError>
     ensures { IfOk result (λ inputs. vec_len inputs ≡ 12210) }
 {
     let mut inputs = Vec::new(alloc);
-    for place in 0..1110usize {
-        let swept = swept(alloc, (place / 10) as u16, LENGTHS[place % 10])?;
-        put_around(alloc, &mut inputs, &swept)?;
+    for place in 0..12210 {
+        inputs.push(around(alloc, place)?)?;
     }
     Ok(inputs)
 }

@@ -1,6 +1,6 @@
-use Rattle.std.proofs.Common.{◌≡◌, ◌*◌, vec_len}
+use Rattle.std.proofs.Common.{◌≡◌, vec_len}
 use Rattle.tc_test_messages.proofs.sweep.all_around.Given as goal
 
--- eleven for each type and length so far
+-- one for each place so far
 abbrev pub invariant-loop-place : goal.invariant-loop-place
-invariant-loop-place l = vec_len l.inputs ≡ 11 * l.place
+invariant-loop-place l = vec_len l.inputs ≡ l.place
