@@ -1,47 +1,81 @@
 //! The same messages in each format.
 
-use crate::reading::{kinds, read_whole};
+use crate::reading::{end_of, is_held, is_timed, messages_of};
+use std::alloc::{AllocError, Global};
 use std::test::Fail;
-use tc_capture::Time;
+use tc_capture::Messages;
 use tc_test_captures::{FORMATS, MICROSECONDS, SECONDS, file_of, messages};
+
+// True if the packet of a number is whole, has the one time, and holds a message.
+fn is_packet(file: &[u8], number: usize, message: &[u8]) -> bool {
+    messages_of(file, number) == message
+        && is_held(file, number, true)
+        && is_timed(file, number, SECONDS as u64, MICROSECONDS * 1000)
+}
+
+// True if each message is a packet of a file, and the file has no others and no fault.
+fn is_of(file: &[u8], messages: &[Vec<u8>]) -> bool {
+    let mut number = 0usize;
+    for message in messages {
+        if !is_packet(file, number, message) {
+            return false;
+        }
+        number = number.wrapping_add(1);
+    }
+    let end = end_of(file);
+    end.packets == number && end.fault.is_none()
+}
+
+// How many formats, from the first on, hold the messages.
+fn count_of_formats(alloc: Global, messages: &[Vec<u8>]) -> usize {
+    let mut count = 0usize;
+    for (format, is_big) in FORMATS {
+        match file_of(alloc, format, is_big, messages) {
+            Ok(file) if is_of(&file, messages) => count = count.wrapping_add(1),
+            _ => return count,
+        }
+    }
+    count
+}
 
 #[test]
 fn each_format_holds_the_same(rt: HostRuntime) -> Result<(), Fail> {
-    let alloc = rt.alloc();
-    let all = messages(alloc)?;
-    for (format, is_big) in FORMATS {
-        let file = file_of(alloc, format, is_big, &all)?;
-        let whole = read_whole(alloc, &file)?;
-        assert!(rt; whole.fault.is_none(), "{format:?} {is_big}");
-        assert_eq!(rt; whole.packets.len(), all.len());
-        for (packet, message) in whole.packets.iter().zip(&all) {
-            assert!(rt; packet.messages == *message, "{format:?} {is_big}");
-            assert!(rt; packet.is_whole);
-            assert_eq!(rt;
-                packet.time,
-                Some(Time {
-                    seconds: SECONDS as u64,
-                    nanoseconds: MICROSECONDS * 1000,
-                })
-            );
+    let all = messages(rt.alloc())?;
+    let count = count_of_formats(rt.alloc(), &all);
+    assert!(rt; count == 7, "{count}");
+    Ok(())
+}
+
+// How many messages bytes hold, if all are of the two types and numbered from 1 on.
+fn count_of(bytes: &[u8]) -> u32 {
+    let mut count = 0u32;
+    for message in Messages::new(bytes) {
+        count = count.wrapping_add(1);
+        match message {
+            Ok(message) => {
+                if message.sequence != count || message.kind != 36 && message.kind != 48 {
+                    return 0;
+                }
+            }
+            Err(_) => return 0,
         }
     }
-    Ok(())
+    count
+}
+
+// Messages, one behind the other.
+fn joined(alloc: Global, messages: &[Vec<u8>]) -> Result<Vec<u8>, AllocError> {
+    let mut packet = Vec::new(alloc);
+    for message in messages {
+        packet.extend_from_slice(message)?;
+    }
+    Ok(packet)
 }
 
 #[test]
 fn several_messages_in_a_packet(rt: HostRuntime) -> Result<(), Fail> {
-    let alloc = rt.alloc();
-    let mut packet = Vec::new(alloc);
-    for message in &messages(alloc)? {
-        packet.extend_from_slice(message)?;
-    }
-    let (found, fault) = kinds(alloc, &packet)?;
-    assert!(rt; fault.is_none());
-    assert_eq!(rt; found.len(), 20);
-    for (place, (kind, sequence)) in found.iter().enumerate() {
-        assert_eq!(rt; *sequence as usize, place + 1);
-        assert!(rt; *kind == 36 || *kind == 48);
-    }
+    let all = messages(rt.alloc())?;
+    let packet = joined(rt.alloc(), &all)?;
+    assert!(rt; count_of(&packet) == 20);
     Ok(())
 }

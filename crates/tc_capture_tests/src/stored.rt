@@ -1,8 +1,8 @@
 //! Files that another program made (Python's `struct`).
 
-use crate::reading::{kinds, read_whole};
+use crate::reading::{End, end_of, holds, is_held, is_timed, is_untimed, messages_of};
 use std::test::Fail;
-use tc_capture::{CaptureError, Time};
+use tc_capture::CaptureError;
 
 // Classic pcap, big-endian, nanoseconds: a packet of RTM_NEWQDISC with a header of zeros, and NLMSG_DONE.
 const PCAP: &str =
@@ -21,54 +21,40 @@ const BLOCKS: &str =
      000038000000060000004400000000000000ee0000000002286b240000002400000000040338000000000000000000000010\
      000000000000000000000000000000000000000044000000";
 
+// True if so many packets are read, and no fault.
+fn is_whole(end: End, packets: usize) -> bool {
+    end.packets == packets && end.fault.is_none()
+}
+
+// True if the first packet is whole, has a time of a thousand million seconds and so many nanoseconds, and holds the two messages.
+fn is_first(file: &[u8], nanoseconds: u32) -> bool {
+    is_timed(file, 0, 1_000_000_000, nanoseconds)
+        && is_held(file, 0, true)
+        && holds(messages_of(file, 0), &[(36, 5), (3, 5)], None)
+}
+
+// True if the second packet has no time and holds the front of a message.
+fn is_second(file: &[u8]) -> bool {
+    let fault = CaptureError::Short {
+        needed: 36,
+        left: 24,
+    };
+    is_untimed(file, 1) && is_held(file, 1, false) && holds(messages_of(file, 1), &[], Some(fault))
+}
+
 #[test]
 fn pcap(rt: HostRuntime) -> Result<(), Fail> {
-    let alloc = rt.alloc();
-    let file = hex::decode(alloc, PCAP)?;
-    let whole = read_whole(alloc, &file)?;
-    assert!(rt; whole.fault.is_none());
-    assert_eq!(rt; whole.packets.len(), 1);
-    assert_eq!(rt;
-        whole.packets[0].time,
-        Some(Time {
-            seconds: 1_000_000_000,
-            nanoseconds: 999_999_999,
-        })
-    );
-    let (found, fault) = kinds(alloc, &whole.packets[0].messages)?;
-    assert!(rt; fault.is_none());
-    assert_eq!(rt; found.as_slice(), [(36, 5), (3, 5)].as_slice());
+    let file = hex::decode(rt.alloc(), PCAP)?;
+    assert!(rt; is_whole(end_of(&file), 1));
+    assert!(rt; is_first(&file, 999_999_999));
     Ok(())
 }
 
 #[test]
 fn blocks(rt: HostRuntime) -> Result<(), Fail> {
-    let alloc = rt.alloc();
-    let file = hex::decode(alloc, BLOCKS)?;
-    let whole = read_whole(alloc, &file)?;
-    assert!(rt; whole.fault.is_none());
-    assert_eq!(rt; whole.packets.len(), 2);
-    assert_eq!(rt;
-        whole.packets[0].time,
-        Some(Time {
-            seconds: 1_000_000_000,
-            nanoseconds: 500_000_000,
-        })
-    );
-    assert!(rt; whole.packets[0].is_whole);
-    let (found, fault) = kinds(alloc, &whole.packets[0].messages)?;
-    assert!(rt; fault.is_none());
-    assert_eq!(rt; found.as_slice(), [(36, 5), (3, 5)].as_slice());
-    assert_eq!(rt; whole.packets[1].time, None);
-    assert!(rt; !whole.packets[1].is_whole);
-    let (found, fault) = kinds(alloc, &whole.packets[1].messages)?;
-    assert!(rt; found.is_empty());
-    assert_eq!(rt;
-        fault,
-        Some(CaptureError::Short {
-            needed: 36,
-            left: 24
-        })
-    );
+    let file = hex::decode(rt.alloc(), BLOCKS)?;
+    assert!(rt; is_whole(end_of(&file), 2));
+    assert!(rt; is_first(&file, 500_000_000));
+    assert!(rt; is_second(&file));
     Ok(())
 }

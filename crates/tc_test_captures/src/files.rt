@@ -2,7 +2,7 @@
 
 use std::alloc::{AllocError, Global};
 use std::test::Fail;
-use tc_test_messages::{Form, captured};
+use tc_test_messages::{Form, Row, captured};
 
 /// The time of each packet: seconds and microseconds.
 pub const SECONDS: u32 = 1_700_000_000;
@@ -10,7 +10,7 @@ pub const SECONDS: u32 = 1_700_000_000;
 pub const MICROSECONDS: u32 = 123_456;
 
 /// A file format.
-#[derive(Clone, Copy, PartialEq, Eq, Debug)]
+#[derive(Clone, Copy, Debug)]
 pub enum Format {
     Stream,
     Microseconds,
@@ -29,24 +29,6 @@ pub const FORMATS: [(Format, bool); 7] = [
     (Format::Blocks, true),
 ];
 
-// Appends a number of two bytes.
-fn put_u16(file: &mut Vec<u8>, is_big: bool, number: u16) -> Result<(), AllocError> {
-    if is_big {
-        file.extend_from_slice(&number.to_be_bytes())
-    } else {
-        file.extend_from_slice(&number.to_le_bytes())
-    }
-}
-
-// Appends a number of four bytes.
-fn put_u32(file: &mut Vec<u8>, is_big: bool, number: u32) -> Result<(), AllocError> {
-    if is_big {
-        file.extend_from_slice(&number.to_be_bytes())
-    } else {
-        file.extend_from_slice(&number.to_le_bytes())
-    }
-}
-
 /// A netlink message with a payload, and its padding.
 pub fn message(
     alloc: Global,
@@ -54,82 +36,133 @@ pub fn message(
     sequence: u32,
     payload: &[u8],
 ) -> Result<Vec<u8>, AllocError> {
-    let mut bytes = Vec::new(alloc);
-    put_u32(&mut bytes, false, payload.len().min(60_000) as u32 + 16)?;
-    put_u16(&mut bytes, false, kind)?;
-    put_u16(&mut bytes, false, 0x600)?;
-    put_u32(&mut bytes, false, sequence)?;
-    put_u32(&mut bytes, false, 0)?;
+    let [a, b, c, d] = held_of(payload).to_le_bytes();
+    let [e, f] = kind.to_le_bytes();
+    let [g, h, i, j] = sequence.to_le_bytes();
+    let header = [a, b, c, d, e, f, 0, 6, g, h, i, j, 0, 0, 0, 0];
+    let mut bytes = header.to_vec(alloc)?;
     bytes.extend_from_slice(payload)?;
-    for _ in 0..4 {
-        if bytes.len() % 4 != 0 {
-            bytes.push(0)?;
-        }
-    }
+    bytes.extend_from_slice(&[0; 3][..(4 - payload.len() % 4) % 4])?;
     Ok(bytes)
 }
 
-/// The captured messages: qdiscs and the like as RTM_NEWQDISC, actions as RTM_NEWACTION.
-pub fn messages(alloc: Global) -> Result<Vec<Vec<u8>>, Fail> {
+// How long a header of sixteen bytes and what follows it are.
+fn held_of(bytes: &[u8]) -> u32 {
+    bytes.len().min(60_000) as u32 + 16
+}
+
+// The message of a row: a qdisc or the like as RTM_NEWQDISC, an action as RTM_NEWACTION.
+fn message_of(alloc: Global, row: &Row, sequence: u32) -> Result<Vec<u8>, AllocError> {
+    let kind = match row.input.form {
+        Form::Tc => 36,
+        Form::Action => 48,
+    };
+    message(alloc, kind, sequence, &row.input.bytes)
+}
+
+// The messages of rows, numbered from 1 on.
+fn messages_of(alloc: Global, rows: &[Row]) -> Result<Vec<Vec<u8>>, AllocError> {
     let mut all = Vec::new(alloc);
     let mut sequence = 0u32;
-    for row in &captured(alloc)? {
-        let kind = match row.input.form {
-            Form::Tc => 36,
-            Form::Action => 48,
-        };
+    for row in rows {
         sequence = sequence.wrapping_add(1);
-        all.push(message(alloc, kind, sequence, &row.input.bytes)?)?;
+        all.push(message_of(alloc, row, sequence)?)?;
     }
     Ok(all)
 }
 
-// The cooked header of LINKTYPE_NETLINK for NETLINK_ROUTE.
-fn put_cooked(file: &mut Vec<u8>) -> Result<(), AllocError> {
-    file.extend_from_slice(&[0, 4, 3, 0x38, 0, 0, 0, 0, 0, 0, 0, 0, 0, 0, 0, 0])
+/// The captured messages: qdiscs and the like as RTM_NEWQDISC, actions as RTM_NEWACTION.
+pub fn messages(alloc: Global) -> Result<Vec<Vec<u8>>, Fail> {
+    let rows = captured(alloc)?;
+    Ok(messages_of(alloc, &rows)?)
 }
+
+// What files of classic pcap begin with, in microseconds and in nanoseconds, little-endian and big-endian.
+#[rattlefmt::skip]
+static PCAP: [[u8; 24]; 4] = [
+    [0xd4, 0xc3, 0xb2, 0xa1, 2, 0, 4, 0, 0, 0, 0, 0, 0, 0, 0, 0, 0, 0, 4, 0, 253, 0, 0, 0],
+    [0xa1, 0xb2, 0xc3, 0xd4, 0, 2, 0, 4, 0, 0, 0, 0, 0, 0, 0, 0, 0, 4, 0, 0, 0, 0, 0, 253],
+    [0x4d, 0x3c, 0xb2, 0xa1, 2, 0, 4, 0, 0, 0, 0, 0, 0, 0, 0, 0, 0, 0, 4, 0, 253, 0, 0, 0],
+    [0xa1, 0xb2, 0x3c, 0x4d, 0, 2, 0, 4, 0, 0, 0, 0, 0, 0, 0, 0, 0, 4, 0, 0, 0, 0, 0, 253],
+];
+
+// What files of pcapng begin with, little-endian and big-endian: a section, and an interface that counts microseconds.
+#[rattlefmt::skip]
+static SECTIONS: [[u8; 60]; 2] = [
+    [
+        10, 13, 13, 10, 28, 0, 0, 0, 0x4d, 0x3c, 0x2b, 0x1a, 1, 0, 0, 0,
+        255, 255, 255, 255, 255, 255, 255, 255, 28, 0, 0, 0,
+        1, 0, 0, 0, 32, 0, 0, 0, 253, 0, 0, 0, 0, 0, 0, 0, 9, 0, 1, 0, 6, 0, 0, 0, 0, 0, 0, 0, 32, 0, 0, 0,
+    ],
+    [
+        10, 13, 13, 10, 0, 0, 0, 28, 0x1a, 0x2b, 0x3c, 0x4d, 0, 1, 0, 0,
+        255, 255, 255, 255, 255, 255, 255, 255, 0, 0, 0, 28,
+        0, 0, 0, 1, 0, 0, 0, 32, 0, 253, 0, 0, 0, 0, 0, 0, 0, 9, 0, 1, 6, 0, 0, 0, 0, 0, 0, 0, 0, 0, 0, 32,
+    ],
+];
 
 /// What a file has before its packets.
 pub fn beginning(alloc: Global, format: Format, is_big: bool) -> Result<Vec<u8>, AllocError> {
-    let mut file = Vec::new(alloc);
     match format {
-        Format::Stream => {}
-        Format::Microseconds | Format::Nanoseconds => {
-            let magic = if format == Format::Nanoseconds {
-                0xa1b2_3c4d
-            } else {
-                0xa1b2_c3d4
-            };
-            put_u32(&mut file, is_big, magic)?;
-            put_u16(&mut file, is_big, 2)?;
-            put_u16(&mut file, is_big, 4)?;
-            put_u32(&mut file, is_big, 0)?;
-            put_u32(&mut file, is_big, 0)?;
-            put_u32(&mut file, is_big, 262_144)?;
-            put_u32(&mut file, is_big, 253)?;
-        }
-        Format::Blocks => {
-            for number in [0x0a0d_0d0a, 28, 0x1a2b_3c4d] {
-                put_u32(&mut file, is_big, number)?;
-            }
-            put_u16(&mut file, is_big, 1)?;
-            put_u16(&mut file, is_big, 0)?;
-            for number in [0xffff_ffff, 0xffff_ffff, 28] {
-                put_u32(&mut file, is_big, number)?;
-            }
-            put_u32(&mut file, is_big, 1)?;
-            put_u32(&mut file, is_big, 32)?;
-            put_u16(&mut file, is_big, 253)?;
-            put_u16(&mut file, is_big, 0)?;
-            put_u32(&mut file, is_big, 0)?;
-            put_u16(&mut file, is_big, 9)?;
-            put_u16(&mut file, is_big, 1)?;
-            file.extend_from_slice(&[6, 0, 0, 0])?;
-            put_u32(&mut file, is_big, 0)?;
-            put_u32(&mut file, is_big, 32)?;
-        }
+        Format::Stream => Ok(Vec::new(alloc)),
+        Format::Microseconds => PCAP[is_big as usize].to_vec(alloc),
+        Format::Nanoseconds => PCAP[2 + is_big as usize].to_vec(alloc),
+        Format::Blocks => SECTIONS[is_big as usize].to_vec(alloc),
     }
-    Ok(file)
+}
+
+// Appends numbers of four bytes.
+fn put_numbers(file: &mut Vec<u8>, is_big: bool, numbers: &[u32]) -> Result<(), AllocError> {
+    for number in numbers {
+        let bytes = if is_big {
+            number.to_be_bytes()
+        } else {
+            number.to_le_bytes()
+        };
+        file.extend_from_slice(&bytes)?;
+    }
+    Ok(())
+}
+
+// Appends messages behind the cooked header of LINKTYPE_NETLINK for NETLINK_ROUTE.
+fn put_cooked(file: &mut Vec<u8>, messages: &[u8]) -> Result<(), AllocError> {
+    file.extend_from_slice(&[0, 4, 3, 0x38, 0, 0, 0, 0, 0, 0, 0, 0, 0, 0, 0, 0])?;
+    file.extend_from_slice(messages)
+}
+
+// Appends a packet of classic pcap, with the fraction of its second.
+fn put_record(
+    file: &mut Vec<u8>,
+    fraction: u32,
+    is_big: bool,
+    messages: &[u8],
+    missing: u16,
+) -> Result<(), AllocError> {
+    let held = held_of(messages);
+    let all = held.wrapping_add(missing as u32);
+    put_numbers(file, is_big, &[SECONDS, fraction, held, all])?;
+    put_cooked(file, messages)
+}
+
+// The time of each packet in microseconds.
+const TICKS: u64 = SECONDS as u64 * 1_000_000 + MICROSECONDS as u64;
+
+// Appends a packet of pcapng.
+fn put_block(
+    file: &mut Vec<u8>,
+    is_big: bool,
+    messages: &[u8],
+    missing: u16,
+) -> Result<(), AllocError> {
+    let (high, low) = ((TICKS >> 32) as u32, (TICKS % 0x1_0000_0000) as u32);
+    let held = held_of(messages);
+    let all = held.wrapping_add(missing as u32);
+    let padding = (4 - held % 4) % 4;
+    let length = held.wrapping_add(32 + padding);
+    put_numbers(file, is_big, &[6, length, 0, high, low, held, all])?;
+    put_cooked(file, messages)?;
+    file.extend_from_slice(&[0; 3][..padding as usize])?;
+    put_numbers(file, is_big, &[length])
 }
 
 /// Appends a packet, of which the capture holds the first bytes.
@@ -140,42 +173,14 @@ pub fn put_packet(
     messages: &[u8],
     missing: u16,
 ) -> Result<(), AllocError> {
-    let held = messages.len().min(60_000) as u32 + 16;
-    let all = held + missing as u32;
     match format {
         Format::Stream => {
-            for number in [24, 15, 0, 0, SECONDS, MICROSECONDS] {
-                put_u32(file, false, number)?;
-            }
+            put_numbers(file, false, &[24, 15, 0, 0, SECONDS, MICROSECONDS])?;
             file.extend_from_slice(messages)
         }
-        Format::Microseconds | Format::Nanoseconds => {
-            let fraction = if format == Format::Nanoseconds {
-                MICROSECONDS * 1000
-            } else {
-                MICROSECONDS
-            };
-            for number in [SECONDS, fraction, held, all] {
-                put_u32(file, is_big, number)?;
-            }
-            put_cooked(file)?;
-            file.extend_from_slice(messages)
-        }
-        Format::Blocks => {
-            let ticks = SECONDS as u64 * 1_000_000 + MICROSECONDS as u64;
-            let padding = (4 - held % 4) % 4;
-            let length = 32 + held + padding;
-            let (high, low) = ((ticks >> 32) as u32, (ticks % 0x1_0000_0000) as u32);
-            for number in [6, length, 0, high, low, held, all] {
-                put_u32(file, is_big, number)?;
-            }
-            put_cooked(file)?;
-            file.extend_from_slice(messages)?;
-            for _ in 0..padding {
-                file.push(0)?;
-            }
-            put_u32(file, is_big, length)
-        }
+        Format::Microseconds => put_record(file, MICROSECONDS, is_big, messages, missing),
+        Format::Nanoseconds => put_record(file, MICROSECONDS * 1000, is_big, messages, missing),
+        Format::Blocks => put_block(file, is_big, messages, missing),
     }
 }
 

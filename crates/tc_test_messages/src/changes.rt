@@ -5,14 +5,18 @@ ghost use Rattle.std.specs.Prelude.{◌≡◌, ◌*◌, IfOk, All, vec_len};
 use crate::input::Input;
 use std::alloc::{AllocError, Global};
 
-// A message with another byte at one place.
-fn with_byte(alloc: Global, input: &Input, at: usize, byte: u8) -> Result<Input, AllocError>
-    ensures form { IfOk result (λ changed. changed.form ≡ input.now.form) }
-    ensures len { IfOk result (λ changed. vec_len changed.bytes ≡ vec_len input.now.bytes) }
+// A message cut at one place, or with another byte there.
+fn changed(alloc: Global, input: &Input, at: usize, change: u8) -> Result<Input, AllocError>
+    ensures { IfOk result (λ changed. changed.form ≡ input.now.form) }
 {
-    let mut bytes = input.bytes.to_vec(alloc)?;
+    let length = if change == 0 { at } else { input.bytes.len() };
+    let mut bytes = input.bytes.get(..length).unwrap_or(&[]).to_vec(alloc)?;
     if let Some(place) = bytes.get_mut(at) {
-        *place = byte;
+        *place = match change {
+            1 => 0,
+            2 => 0xff,
+            _ => *place ^ 0x80,
+        };
     }
     Ok(Input {
         form: input.form,
@@ -27,14 +31,9 @@ pub fn cut_and_changed(alloc: Global, input: &Input) -> Result<Vec<Input>, Alloc
         (λ inputs. All (λ changed. changed.form ≡ input.now.form) inputs.items) }
 {
     let mut inputs = Vec::new(alloc);
-    for (at, byte) in input.bytes.iter().enumerate() {
-        let (front, _) = input.bytes.split_at(at);
-        inputs.push(Input {
-            form: input.form,
-            bytes: front.to_vec(alloc)?,
-        })?;
-        for other in [0, 0xff, byte ^ 0x80] {
-            inputs.push(with_byte(alloc, input, at, other)?)?;
+    for at in 0..input.bytes.len() {
+        for change in 0..4 {
+            inputs.push(changed(alloc, input, at, change)?)?;
         }
     }
     Ok(inputs)

@@ -7,7 +7,7 @@ ghost use Rattle.tc_test_messages.specs.Inputs.{header_len, behind_zeros};
 use std::alloc::{AllocError, Global};
 
 /// Which of the two messages bytes are taken for.
-#[derive(Clone, Copy, PartialEq, Eq, Debug)]
+#[derive(Clone, Copy, Debug)]
 pub enum Form {
     /// A traffic control message.
     Tc,

@@ -1,7 +1,7 @@
 //! A row in parts.
 
 use crate::input::{Form, Input};
-use std::alloc::Global;
+use std::alloc::{AllocError, Global};
 use std::test::Fail;
 
 /// What the calls have to return for a message.
@@ -28,64 +28,95 @@ pub struct Row {
 
 /// The parts of a row.
 pub fn row_of(alloc: Global, row: &str) -> Result<Row, Fail> {
-    let (message, expected) = row.split_once(" = ").ok_or("a row has an =")?;
-    let (form, message) = message.split_once(' ').unwrap_or((message, ""));
+    let (message, expected) = match row.split_once(" = ") {
+        Some(parts) => parts,
+        None => return Err(Fail::new("a row has an =")),
+    };
+    let input = input_of(alloc, message)?;
+    let expected = expected_of(alloc, &input, expected)?;
+    Ok(Row { input, expected })
+}
+
+// The first word of a text, and what follows it.
+fn cut<'a>(text: &'a str) -> (&'a str, &'a str) {
+    text.split_once(' ').unwrap_or((text, ""))
+}
+
+// The message of a row: its form, and the words of its bytes.
+fn input_of(alloc: Global, message: &str) -> Result<Input, Fail> {
+    let (form, words) = cut(message);
     let form = match form {
         "tc" => Form::Tc,
         "action" => Form::Action,
         _ => return Err(Fail::new("a row begins with its form")),
     };
-    let bytes = spelled(alloc, form, message)?;
-    let expected = match expected.split_once(' ') {
-        None => Expected::Refused(expected.to_string(alloc)?),
-        Some((fits, expected)) => accepted(alloc, form, &bytes, fits, expected)?,
-    };
-    Ok(Row {
-        input: Input { form, bytes },
-        expected,
-    })
+    let bytes = spelled(alloc, form, words)?;
+    Ok(Input { form, bytes })
 }
 
-// What is expected of a message that is read, after whether it fits.
-fn accepted(
-    alloc: Global,
-    form: Form,
-    bytes: &[u8],
-    fits: &str,
-    expected: &str,
-) -> Result<Expected, Fail> {
-    let (settled, expected) = expected.split_once(' ').unwrap_or((expected, ""));
-    let (canonical, other) = expected.split_once(' ').unwrap_or((expected, ""));
-    let emitted = if other.is_empty() {
-        bytes.to_vec(alloc)?
-    } else {
-        spelled(alloc, form, other)?
-    };
+// What is expected of a message.
+fn expected_of(alloc: Global, input: &Input, expected: &str) -> Result<Expected, AllocError> {
+    let (_, others) = cut(expected);
+    if others.is_empty() {
+        return Ok(Expected::Refused(expected.to_string(alloc)?));
+    }
+    let (fits, settled, canonical, other) = marks_of(expected);
+    let emitted = emitted_of(alloc, input, other)?;
     Ok(Expected::Accepted {
-        fits: fits == "yes",
-        settled: settled == "yes",
-        canonical: canonical == "yes",
+        fits,
+        settled,
+        canonical,
         emitted,
     })
 }
 
+// Whether a message fits, is settled and is canonical, and what follows.
+fn marks_of<'a>(text: &'a str) -> (bool, bool, bool, &'a str) {
+    let (fits, text) = mark_of(text);
+    let (settled, text) = mark_of(text);
+    let (canonical, text) = mark_of(text);
+    (fits, settled, canonical, text)
+}
+
+// Whether the first word is yes, and what follows.
+fn mark_of<'a>(text: &'a str) -> (bool, &'a str) {
+    let (word, text) = cut(text);
+    (word == "yes", text)
+}
+
+// The bytes that are emitted: those of the message, or others.
+fn emitted_of(alloc: Global, input: &Input, other: &str) -> Result<Vec<u8>, AllocError> {
+    if other.is_empty() {
+        input.bytes.to_vec(alloc)
+    } else {
+        spelled(alloc, input.form, other)
+    }
+}
+
 // The bytes that words stand for.
-fn spelled(alloc: Global, form: Form, words: &str) -> Result<Vec<u8>, Fail> {
+fn spelled(alloc: Global, form: Form, words: &str) -> Result<Vec<u8>, AllocError> {
     let mut bytes = Vec::new(alloc);
     for word in words.split(' ') {
-        if word == "zeros" {
-            bytes.extend_from_slice(form.header())?;
-        } else {
-            let digits = spelled_kind(word).as_bytes();
-            bytes.extend_from_slice(&hex::decode(alloc, digits)?)?;
-        }
+        put_digits(alloc, &mut bytes, digits_of(form, word))?;
     }
     Ok(bytes)
 }
 
-// The attribute of a kind in hex, or the digits themselves.
-fn spelled_kind(word: &str) -> &str {
+// Appends bytes that are written in hex; fails, as without memory, where they aren't.
+fn put_digits(alloc: Global, bytes: &mut Vec<u8>, digits: &str) -> Result<(), AllocError> {
+    match hex::decode(alloc, digits.as_bytes()) {
+        Ok(part) => bytes.extend_from_slice(&part),
+        Err(_) => Err(AllocError),
+    }
+}
+
+// The header of zeros or the attribute of a kind in hex, or the digits themselves.
+fn digits_of<'a>(form: Form, word: &'a str) -> &'a str {
     match word {
+        "zeros" => match form {
+            Form::Tc => "0000000000000000000000000000000000000000",
+            Form::Action => "00000000",
+        },
         "fq_codel" => "0d00010066715f636f64656c00000000",
         "ingress" => "0c000100696e677265737300",
         "flower" => "0b000100666c6f7765720000",

@@ -32,7 +32,7 @@ fn rows_of(alloc: Global, table: &[&str]) -> Result<Vec<Row>, Fail>
 }
 
 // Messages made by hand.
-const MADE: [&str; 69] = [
+static MADE: [&str; 69] = [
     // a qdisc of kind fq_codel with a limit of 10240 packets
     "tc 000000000200000000000100ffffffff00000000 fq_codel 0c0002000800020000280000 = yes yes yes",
     // headers alone, cut short, and with bytes in the padding
@@ -138,7 +138,7 @@ const MADE: [&str; 69] = [
 
 // Messages as they were captured: what iproute2 sends to Linux 6.18, and what Linux 6.1 and 6.18 answer. The kernel writes the options of an
 // action without the nested flag, which makes its messages settled but not canonical.
-const CAPTURED: [&str; 20] = [
+static CAPTURED: [&str; 20] = [
     // a qdisc of kind fq_codel: added without options; dumped, with its statistics
     "tc 000000000300000000000000ffffffff000000000d00010066715f636f64656c0000000004000200 = yes yes yes",
     "tc 000000000700000000001280ffffffff020000000d00010066715f636f64656c000000004400020008000100871300000800020000280000080003009f86010008000400010\

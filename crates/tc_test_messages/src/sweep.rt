@@ -1,6 +1,6 @@
 //! Attributes of all types and many lengths, and the messages in which they may stand.
 
-ghost use Rattle.std.specs.Prelude.{◌≡◌, ◌≤◌, IfOk, length, replicate, vec_len};
+ghost use Rattle.std.specs.Prelude.{◌≡◌, ◌≤◌, ◌<◌, IfOk, length, replicate, vec_len};
 ghost use Rattle.tc_test_messages.specs.Inputs.{attribute};
 
 use crate::input::{Form, Input};
@@ -26,36 +26,56 @@ pub fn swept(alloc: Global, word: u16, length: usize) -> Result<Vec<u8>, AllocEr
     frame(alloc, word, &vec![in alloc; 1u8; length]?)
 }
 
+// The attributes of `KINDS` and of `ACTION_KINDS`, whose texts end in a NUL.
+static KIND_FRAMES: [&[u8]; 9] = [
+    b"\x0d\0\x01\0fq_codel\0\0\0\0",
+    b"\x0c\0\x01\0ingress\0",
+    b"\x0b\0\x01\0flower\0\0",
+    b"\x08\0\x01\0u32\0",
+    b"\x0d\0\x01\0matchall\0\0\0\0",
+    b"\x08\0\x01\0bpf\0",
+    b"\x0b\0\x01\0mirred\0\0",
+    b"\x08\0\x01\0nat\0",
+    b"\x0f\0\x01\0tunnel_key\0\0",
+];
+
 // The message in which an attribute is the one option of a kind.
-fn as_option(alloc: Global, kind: &str, swept: &[u8]) -> Result<Input, AllocError> {
-    let kind = kind_frame(alloc, kind)?;
+fn as_option(alloc: Global, kind: &[u8], swept: &[u8]) -> Result<Input, AllocError> {
     let options = frame(alloc, 2, swept)?;
-    Input::of_frames(alloc, Form::Tc, &[&kind, &options])
+    Input::of_frames(alloc, Form::Tc, &[kind, &options])
+}
+
+// What begins an attribute of type 1 with so many bytes behind it.
+fn front(length: usize) -> [u8; 4] {
+    let length = u16::try_from(length.saturating_add(4)).unwrap_or(u16::MAX);
+    let [low, high] = length.to_le_bytes();
+    [low, high, 1, 0]
 }
 
 // The message in which an attribute is the one option of an action of a kind.
-fn as_action_option(alloc: Global, kind: &str, swept: &[u8]) -> Result<Input, AllocError> {
-    let mut action = kind_frame(alloc, kind)?;
-    action.extend_from_slice(&frame(alloc, 0x8002, swept)?)?;
-    let actions = frame(alloc, 1, &frame(alloc, 1, &action)?)?;
-    Input::of_frames(alloc, Form::Action, &[&actions])
+fn as_action_option(alloc: Global, kind: &[u8], swept: &[u8]) -> Result<Input, AllocError> {
+    let options = frame(alloc, 0x8002, swept)?;
+    let length = kind.len().saturating_add(options.len());
+    let (actions, action) = (front(length.saturating_add(4)), front(length));
+    Input::of_frames(alloc, Form::Action, &[&actions, &action, kind, &options])
 }
 
-// The messages in which an attribute is alone, and the one option of each known kind.
-fn around(alloc: Global, swept: &[u8]) -> Result<Vec<Input>, AllocError>
-    ensures { IfOk result (λ inputs. vec_len inputs ≡ 11) }
+// The message around an attribute, of this number: alone in each form, then the one option of each known kind.
+fn placed(alloc: Global, place: usize, swept: &[u8]) -> Result<Input, AllocError> {
+    match place {
+        0 => Input::of_frames(alloc, Form::Tc, &[swept]),
+        2..8 => as_option(alloc, KIND_FRAMES[place - 2], swept),
+        8..11 => as_action_option(alloc, KIND_FRAMES[place - 2], swept),
+        _ => Input::of_frames(alloc, Form::Action, &[swept]),
+    }
+}
+
+// The message of this number of all: around each attribute eleven, of each type ten lengths.
+fn around(alloc: Global, place: usize) -> Result<Input, AllocError>
+    requires { place < 12210 }
 {
-    let mut inputs = Vec::new(alloc);
-    for form in [Form::Tc, Form::Action] {
-        inputs.push(Input::of_frames(alloc, form, &[swept])?)?;
-    }
-    for kind in KINDS {
-        inputs.push(as_option(alloc, kind, swept)?)?;
-    }
-    for kind in ACTION_KINDS {
-        inputs.push(as_action_option(alloc, kind, swept)?)?;
-    }
-    Ok(inputs)
+    let swept = swept(alloc, (place / 110) as u16, LENGTHS[place / 11 % 10])?;
+    placed(alloc, place % 11, &swept)
 }
 
 /// The messages in which an attribute of each type and each length is alone, and the one option of each known kind.
@@ -63,23 +83,14 @@ pub fn all_around(alloc: Global) -> Result<Vec<Input>, AllocError>
     ensures { IfOk result (λ inputs. vec_len inputs ≡ 12210) }
 {
     let mut inputs = Vec::new(alloc);
-    for word in 0..LAST_TYPE + 1 {
-        for length in LENGTHS {
-            inputs.append(&mut around(alloc, &swept(alloc, word, length)?)?)?;
-        }
+    for place in 0..12210 {
+        inputs.push(around(alloc, place)?)?;
     }
     Ok(inputs)
 }
 
-/// The attribute of a kind, whose text ends in a NUL.
-pub(crate) fn kind_frame(alloc: Global, kind: &str) -> Result<Vec<u8>, AllocError> {
-    let mut text = kind.as_bytes().to_vec(alloc)?;
-    text.push(0)?;
-    frame(alloc, 1, &text)
-}
-
-/// An attribute, padded in full.
-pub(crate) fn frame(alloc: Global, word: u16, value: &[u8]) -> Result<Vec<u8>, AllocError>
+// An attribute, padded in full.
+fn frame(alloc: Global, word: u16, value: &[u8]) -> Result<Vec<u8>, AllocError>
     ensures { IfOk result (λ bytes.
         length value.now ≤ 65531 → bytes.items ≡ attribute word value.now) }
 {

@@ -2,7 +2,7 @@
 //! `tc` 6.1 writes them in the text of a class. Before each are the value's bytes in hex.
 
 /// MAC addresses.
-pub(crate) const MACS: [&'static str; 40] = [
+pub(crate) static MACS: [&str; 40] = [
     "02005e100001 02:00:5e:10:00:01",
     "04a1e77d12cb 04:a1:e7:7d:12:cb",
     "5cf53f98e71b 5c:f5:3f:98:e7:1b",
@@ -46,7 +46,7 @@ pub(crate) const MACS: [&'static str; 40] = [
 ];
 
 /// IPv4 addresses.
-pub(crate) const IPV4S: [&'static str; 50] = [
+pub(crate) static IPV4S: [&str; 50] = [
     "c0000201 192.0.2.1",
     "00000000 0.0.0.0",
     "ffffffff 255.255.255.255",
@@ -100,7 +100,7 @@ pub(crate) const IPV4S: [&'static str; 50] = [
 ];
 
 /// IPv6 addresses.
-pub(crate) const IPV6S: [&'static str; 80] = [
+pub(crate) static IPV6S: [&str; 80] = [
     "00000000000000000000000000000000 ::",
     "00000000000000000000000000000001 ::1",
     "00010000000000000000000000000000 1::",
@@ -184,7 +184,7 @@ pub(crate) const IPV6S: [&'static str; 80] = [
 ];
 
 /// Handles, big-endian.
-pub(crate) const HANDLES: [&'static str; 47] = [
+pub(crate) static HANDLES: [&str; 47] = [
     "00010010 1:10",
     "80010000 8001:",
     "ffffffff root",

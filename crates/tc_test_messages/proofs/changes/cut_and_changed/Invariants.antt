@@ -2,10 +2,10 @@ use Rattle.std.proofs.Common.{◌≡◌, ◌+◌, ◌*◌, All, vec_len}
 use Rattle.tc_test_messages.specs.declared.input.Input.{Input}
 use Rattle.tc_test_messages.proofs.changes.cut_and_changed.Given as goal
 
--- four for each place before this one, and here the cut and the bytes so far; all of the message's form
-abbrev pub invariant-loop-other : goal.invariant-loop-other
-invariant-loop-other l =
-    (vec_len l.inputs ≡ 4 * l.at + 1 + l.other-index) × All (λ (changed : Input). changed.form ≡ l.input.form) l.inputs.items
+-- four for each place before this one, and here the changes so far; all of the message's form
+abbrev pub invariant-loop-change : goal.invariant-loop-change
+invariant-loop-change l =
+    (vec_len l.inputs ≡ 4 * l.at + l.change) × All (λ (changed : Input). changed.form ≡ l.input.form) l.inputs.items
 
 -- four for each place so far, all of the message's form
 abbrev pub invariant-loop-at : goal.invariant-loop-at
