@@ -10,19 +10,20 @@ use tc_report::run::run;
 use tc_test_messages::{Expected, Form, Row, captured, large_messages, made, row_of, too_long};
 
 /// A message with the kind fq_codel and a limit of 10240 packets.
-pub(crate) const LIMIT_OF_FQ_CODEL: &str = "000000000200000000000100ffffffff\
+pub(crate) static LIMIT_OF_FQ_CODEL: &str = "000000000200000000000100ffffffff\
 000000000d00010066715f636f64656c000000000c0002000800020000280000";
 
 // A header alone.
-const ZEROS: &str = "0000000000000000000000000000000000000000";
+static ZEROS: &str = "0000000000000000000000000000000000000000";
 
 // A header alone, in upper case and with spaces of each kind.
-const SPACED_HEADER: &str = "\t00 00 00 00\r\n00 00 00 0A\x0c00 00 00 00 00 00 00 0b 00 00 00 00\n";
+static SPACED_HEADER: &str =
+    "\t00 00 00 00\r\n00 00 00 0A\x0c00 00 00 00 00 00 00 0b 00 00 00 00\n";
 
-const HEADER: &str = "000000000000000a000000000000000b00000000";
+static HEADER: &str = "000000000000000a000000000000000b00000000";
 
 // A header of zeros, with a space in the middle of each byte.
-const DIVIDED_ZEROS: &str = "0 00 00 00 00 00 00 00 00 00 00 00 00 00 00 00 00 00 00 00 0";
+static DIVIDED_ZEROS: &str = "0 00 00 00 00 00 00 00 00 00 00 00 00 00 00 00 00 00 00 00 0";
 
 /// The report on a message of these bytes that are canonical.
 pub(crate) fn accepted(alloc: Global, bytes: &str) -> Result<String, AllocError> {

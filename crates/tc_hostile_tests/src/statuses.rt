@@ -15,7 +15,7 @@ struct Row {
 }
 
 // Each status in each mode.
-const ROWS: [Row; 6] = [
+static ROWS: [Row; 6] = [
     Row {
         mode: Mode::Tc,
         text: "0000000000000000000000000000000000000000",

@@ -7,14 +7,14 @@ use tc_actions::{
 };
 
 #[rattlefmt::skip]
-const MIRRORS: [Row; 3] = [
+static MIRRORS: [Row; 3] = [
     (&[36, 0, 1, 0, 1, 2, 3, 4, 5, 6, 7, 8, 9, 10, 11, 12, 13, 14, 15, 16, 17, 18, 19, 20, 21, 22, 23, 24, 25, 26, 27, 28, 29, 30, 31, 32], "Tm(Tcf { install: 578437695752307201, lastuse: 1157159078456920585, expires: 1735880461161533969, firstuse: 2314601843866147353 })", &[]),
     (&[32, 0, 2, 0, 1, 2, 3, 4, 5, 6, 7, 8, 9, 10, 11, 12, 13, 14, 15, 16, 17, 18, 19, 20, 21, 22, 23, 24, 25, 26, 27, 28], "Parms(TcMirror { generic: TcActionGeneric { index: 67305985, capab: 134678021, action: Other(202050057), refcnt: 269422093, bindcnt: 336794129 }, eaction: Other(404166165), ifindex: 471538201 })", &[]),
     (&[7, 0, 3, 0, 0xa1, 0xa2, 0xa3, 0], "Other(DefaultNla { word: 3, value: [161, 162, 163] })", &[]),
 ];
 
 #[rattlefmt::skip]
-const TRANSLATIONS: [Row; 3] = [
+static TRANSLATIONS: [Row; 3] = [
     (&[36, 0, 2, 0, 1, 2, 3, 4, 5, 6, 7, 8, 9, 10, 11, 12, 13, 14, 15, 16, 17, 18, 19, 20, 21, 22, 23, 24, 25, 26, 27, 28, 29, 30, 31, 32], "Tm(Tcf { install: 578437695752307201, lastuse: 1157159078456920585, expires: 1735880461161533969, firstuse: 2314601843866147353 })", &[]),
     (&[40, 0, 1, 0, 1, 2, 3, 4, 5, 6, 7, 8, 9, 10, 11, 12, 13, 14, 15, 16, 17, 18, 19, 20, 21, 22, 23, 24, 25, 26, 27, 28, 29, 30, 31, 32, 33, 34, 35, 36], "Parms(TcNat { generic: TcActionGeneric { index: 67305985, capab: 134678021, action: Other(202050057), refcnt: 269422093, bindcnt: 336794129 }, old_addr: 21.22.23.24, new_addr: 25.26.27.28, mask: 29.30.31.32, flags: TcNatFlags(606282273) })", &[]),
     (&[7, 0, 3, 0, 0xa1, 0xa2, 0xa3, 0], "Other(DefaultNla { word: 3, value: [161, 162, 163] })", &[]),
@@ -27,7 +27,7 @@ fn of_mirrors_and_translations(rt: HostRuntime) -> Result<(), Fail> {
 }
 
 #[rattlefmt::skip]
-const TUNNELS: [Row; 13] = [
+static TUNNELS: [Row; 13] = [
     (&[36, 0, 1, 0, 1, 2, 3, 4, 5, 6, 7, 8, 9, 10, 11, 12, 13, 14, 15, 16, 17, 18, 19, 20, 21, 22, 23, 24, 25, 26, 27, 28, 29, 30, 31, 32], "Tm(Tcf { install: 578437695752307201, lastuse: 1157159078456920585, expires: 1735880461161533969, firstuse: 2314601843866147353 })", &[]),
     (&[28, 0, 2, 0, 1, 2, 3, 4, 5, 6, 7, 8, 9, 10, 11, 12, 13, 14, 15, 16, 17, 18, 19, 20, 21, 22, 23, 24], "Parms(TcTunnelKey { generic: TcActionGeneric { index: 67305985, capab: 134678021, action: Other(202050057), refcnt: 269422093, bindcnt: 336794129 }, t_action: 404166165 })", &[]),
     (&[8, 0, 3, 0, 10, 1, 2, 3], "EncIpv4Src(10.1.2.3)", &[]),
@@ -49,7 +49,7 @@ fn of_tunnels(rt: HostRuntime) -> Result<(), Fail> {
 }
 
 #[rattlefmt::skip]
-const OPTIONS: [RowUnder; 4] = [
+static OPTIONS: [RowUnder; 4] = [
     ("mirred", &[7, 0, 3, 0x80, 0xa1, 0xa2, 0xa3, 0], "Mirror(Other(DefaultNla { word: 32771, value: [161, 162, 163] }))"),
     ("nat", &[7, 0, 3, 0x80, 0xa1, 0xa2, 0xa3, 0], "Nat(Other(DefaultNla { word: 32771, value: [161, 162, 163] }))"),
     ("tunnel_key", &[5, 0, 12, 0, 7, 0, 0, 0], "TunnelKey(EncTos(7))"),

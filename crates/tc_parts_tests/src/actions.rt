@@ -22,7 +22,7 @@ fn is_rewritten(alloc: Global, frame: &[u8], written: &[u8]) -> Result<bool, Dec
 }
 
 #[rattlefmt::skip]
-const ATTRIBUTES: [RowUnder; 7] = [
+static ATTRIBUTES: [RowUnder; 7] = [
     ("", &[8, 0, 1, 0, 0x6e, 0x61, 0x74, 0], "Kind(\"nat\")"),
     ("tunnel_key", &[12, 0, 2, 0x80, 5, 0, 12, 0, 7, 0, 0, 0], "Options([TunnelKey(EncTos(7))])"),
     ("", &[8, 0, 3, 0, 0x34, 0x33, 0x32, 0x31], "Index(825373492)"),
@@ -39,7 +39,7 @@ fn of_an_action(rt: HostRuntime) -> Result<(), Fail> {
 
 /// Of a kind that has statistics, and of one that has none.
 #[rattlefmt::skip]
-const STATISTICS_OF_ACTIONS: [Row; 2] = [
+static STATISTICS_OF_ACTIONS: [Row; 2] = [
     (&[0x20, 0, 1, 0, 13, 0, 1, 0, 0x66, 0x71, 0x5f, 0x63, 0x6f, 0x64, 0x65, 0x6c, 0, 0, 0, 0, 12, 0, 4, 0, 8, 0, 4, 0, 2, 0, 0, 0], "TcAction { tab: 1, attributes: [Kind(\"fq_codel\"), Stats([App(FqCodel(Other([2, 0, 0, 0])))])] }", &[]),
     (&[0x18, 0, 1, 0, 8, 0, 1, 0, 0x6e, 0x61, 0x74, 0, 12, 0, 4, 0, 8, 0, 4, 0, 2, 0, 0, 0], "TcAction { tab: 1, attributes: [Kind(\"nat\"), Stats([App(Other([2, 0, 0, 0]))])] }", &[]),
 ];
@@ -50,7 +50,7 @@ fn statistics_are_read_under_the_kind_of_the_action(rt: HostRuntime) -> Result<(
 }
 
 #[rattlefmt::skip]
-const OPTIONS_OF_AN_UNKNOWN_KIND: [Row; 1] = [
+static OPTIONS_OF_AN_UNKNOWN_KIND: [Row; 1] = [
     (&[0x1c, 0, 1, 0, 9, 0, 1, 0, 0x67, 0x61, 0x63, 0x74, 0, 0, 0, 0, 12, 0, 2, 0x80, 8, 0, 1, 0, 0, 0, 0, 0], "TcAction { tab: 1, attributes: [Kind(\"gact\"), Options([Other(DefaultNla { word: 1, value: [0, 0, 0, 0] })])] }", &[]),
 ];
 
@@ -60,7 +60,7 @@ fn options_of_an_unknown_kind_are_kept(rt: HostRuntime) -> Result<(), Fail> {
 }
 
 #[rattlefmt::skip]
-const KIND_LAST: [Row; 1] = [
+static KIND_LAST: [Row; 1] = [
     (&[0x20, 0, 1, 0, 12, 0, 2, 0x80, 5, 0, 12, 0, 7, 0, 0, 0, 15, 0, 1, 0, 0x74, 0x75, 0x6e, 0x6e, 0x65, 0x6c, 0x5f, 0x6b, 0x65, 0x79, 0, 0], "TcAction { tab: 1, attributes: [Options([TunnelKey(EncTos(7))]), Kind(\"tunnel_key\")] }", &[]),
 ];
 
@@ -70,7 +70,7 @@ fn the_kind_may_stand_last(rt: HostRuntime) -> Result<(), Fail> {
 }
 
 #[rattlefmt::skip]
-const FLAGS: [Row; 1] = [
+static FLAGS: [Row; 1] = [
     (&[20, 0, 1, 0x80, 8, 0, 3, 0, 5, 0, 0, 0, 8, 0, 1, 0, 0x6e, 0x61, 0x74, 0], "TcAction { tab: 1, attributes: [Index(5), Kind(\"nat\")] }", &[20, 0, 1, 0, 8, 0, 3, 0, 5, 0, 0, 0, 8, 0, 1, 0, 0x6e, 0x61, 0x74, 0]),
 ];
 
@@ -98,7 +98,7 @@ fn fault_of(alloc: Global, frame: &[u8]) -> Option<DecodeError> {
 }
 
 #[rattlefmt::skip]
-const TWO_KINDS: [u8; 28] = [
+static TWO_KINDS: [u8; 28] = [
     0x1c, 0, 1, 0, 8, 0, 1, 0, 0x6e, 0x61, 0x74, 0, 8, 0, 1, 0, 0x6e, 0x61, 0x74, 0, 5, 0, 3, 0, 0, 0, 0, 0,
 ];
 
@@ -118,7 +118,7 @@ fn faults_of_an_action_have_their_order(rt: HostRuntime) {
 }
 
 #[rattlefmt::skip]
-const TRUTH_VALUES: [Row; 1] = [
+static TRUTH_VALUES: [Row; 1] = [
     (&[0x20, 0, 1, 0, 15, 0, 1, 0, 0x74, 0x75, 0x6e, 0x6e, 0x65, 0x6c, 0x5f, 0x6b, 0x65, 0x79, 0, 0, 12, 0, 2, 0x80, 5, 0, 10, 0, 2, 0, 0, 0], "TcAction { tab: 1, attributes: [Kind(\"tunnel_key\"), Options([TunnelKey(NoCsum(true))])] }", &[0x20, 0, 1, 0, 15, 0, 1, 0, 0x74, 0x75, 0x6e, 0x6e, 0x65, 0x6c, 0x5f, 0x6b, 0x65, 0x79, 0, 0, 12, 0, 2, 0x80, 5, 0, 10, 0, 1, 0, 0, 0]),
 ];
 

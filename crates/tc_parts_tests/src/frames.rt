@@ -7,16 +7,16 @@ use std::alloc::{AllocError, Global};
 use std::test::Fail;
 
 /// A frame of the unknown type 99, and its padding.
-const UNKNOWN: [u8; 8] = [0x06, 0, 0x63, 0, 0xde, 0xad, 0, 0];
+static UNKNOWN: [u8; 8] = [0x06, 0, 0x63, 0, 0xde, 0xad, 0, 0];
 
 /// Two frames, of type 1 and of type 2 with the nested flag, and two bytes that begin no frame.
-const FRAMES: [u8; 14] = [
+static FRAMES: [u8; 14] = [
     0x05, 0, 0x01, 0, 7, 0, 0, 0, 0x04, 0, 0x02, 0x80, 0xaa, 0xbb,
 ];
 
 /// Faults, how they are printed, and their names.
 #[rattlefmt::skip]
-const FAULTS: [(DecodeError, &str, &str); 11] = [
+static FAULTS: [(DecodeError, &str, &str); 11] = [
     (DecodeError::BufferTooSmall { len: 19, needed: 20 }, "buffer of 19 bytes, 20 needed", "BufferTooSmall"),
     (DecodeError::FrameHeaderShort { left: 3 }, "frame header of 3 bytes", "FrameHeaderShort"),
     (DecodeError::FrameTooLong { length: 9, left: 8 }, "frame of 9 bytes, 8 left", "FrameTooLong"),

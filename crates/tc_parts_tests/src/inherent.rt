@@ -7,7 +7,7 @@ use tc_records::{
     TcNat, TcStats, TcStatsBasic, TcStatsQueue, TcTunnelKey, TcU32Key, TcU32Selector, Tcf,
 };
 
-const ZEROS: [u8; 40] = [0; 40];
+static ZEROS: [u8; 40] = [0; 40];
 
 /// The first so many of them.
 fn zeros(count: usize) -> &'static [u8] {

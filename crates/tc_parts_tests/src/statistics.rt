@@ -8,7 +8,7 @@ use tc_actions::{TcFqCodelXstats, TcStats2, TcXstats};
 use tc_records::TcFqCodelClStats;
 
 #[rattlefmt::skip]
-const STATISTICS: [RowUnder; 5] = [
+static STATISTICS: [RowUnder; 5] = [
     ("", &[20, 0, 1, 0, 1, 2, 3, 4, 5, 6, 7, 8, 9, 10, 11, 12, 0, 0, 0, 0], "Basic(TcStatsBasic { bytes: 578437695752307201, packets: 202050057 })"),
     ("", &[24, 0, 3, 0, 1, 2, 3, 4, 5, 6, 7, 8, 9, 10, 11, 12, 13, 14, 15, 16, 17, 18, 19, 20], "Queue(TcStatsQueue { qlen: 67305985, backlog: 134678021, drops: 202050057, requeues: 269422093, overlimits: 336794129 })"),
     ("", &[20, 0, 7, 0, 1, 2, 3, 4, 5, 6, 7, 8, 9, 10, 11, 12, 0, 0, 0, 0], "BasicHw(TcStatsBasic { bytes: 578437695752307201, packets: 202050057 })"),
@@ -22,7 +22,7 @@ fn of_statistics(rt: HostRuntime) -> Result<(), Fail> {
 }
 
 #[rattlefmt::skip]
-const STATISTICS_OF_FQ_CODEL: [RowUnder; 3] = [
+static STATISTICS_OF_FQ_CODEL: [RowUnder; 3] = [
     ("fq_codel", &[44, 0, 4, 0, 0, 0, 0, 0, 1, 2, 3, 4, 5, 6, 7, 8, 9, 10, 11, 12, 13, 14, 15, 16, 17, 18, 19, 20, 21, 22, 23, 24, 25, 26, 27, 28, 29, 30, 31, 32, 33, 34, 35, 36], "App(FqCodel(Qdisc(TcFqCodelQdStats { maxpacket: 67305985, drop_overlimit: 134678021, ecn_mark: 202050057, new_flow_count: 269422093, new_flows_len: 336794129, old_flows_len: 404166165, ce_mark: 471538201, memory_usage: 538910237, drop_overmemory: 606282273 })))"),
     ("fq_codel", &[32, 0, 4, 0, 1, 0, 0, 0, 1, 2, 3, 4, 5, 6, 7, 8, 9, 10, 11, 12, 13, 14, 15, 16, 17, 18, 19, 20, 21, 22, 23, 24], "App(FqCodel(Class(TcFqCodelClStats { deficit: 67305985, ldelay: 134678021, count: 202050057, lastcount: 269422093, dropping: 336794129, drop_next: 404166165 })))"),
     ("fq_codel", &[8, 0, 4, 0, 2, 0, 0, 0], "App(FqCodel(Other([2, 0, 0, 0])))"),

@@ -12,7 +12,7 @@ use tc_action_messages::{TcActionMessageAttribute, TcActionMessageFlagsWithSelec
 use tc_records::TcActionMessageFlags;
 
 /// Each attribute, types that aren't known, and what is written as other bytes.
-const ATTRIBUTES: &str = r#"
+static ATTRIBUTES: &str = r#"
 14000100 10000100 09000100 6761637400000000 | Actions([TcAction { tab: 1, attributes: [Kind("gact")] }])
 04000100 | Actions([])
 0c000200 24232221 28272625 | Flags(TcActionMessageFlagsWithSelector { flags: TcActionMessageFlags(555885348), selector: TcActionMessageFlags(623257384) })
@@ -50,7 +50,7 @@ fn pair(flags: u32, selector: u32) -> TcActionMessageFlagsWithSelector {
 
 /// Frames of any type, and of eight bytes alone, and what they are read as.
 #[rattlefmt::skip]
-const PAIRS: [(&[u8], &str); 6] = [
+static PAIRS: [(&[u8], &str); 6] = [
     (&[12, 0, 1, 0, 1, 0, 0, 0, 0, 0, 0, 2], "Ok(TcActionMessageFlagsWithSelector { flags: TcActionMessageFlags(1), selector: TcActionMessageFlags(33554432) })"),
     (&[12, 0, 2, 0, 1, 0, 0, 0, 0, 0, 0, 2], "Ok(TcActionMessageFlagsWithSelector { flags: TcActionMessageFlags(1), selector: TcActionMessageFlags(33554432) })"),
     (&[12, 0, 2, 0x80, 1, 0, 0, 0, 0, 0, 0, 2], "Ok(TcActionMessageFlagsWithSelector { flags: TcActionMessageFlags(1), selector: TcActionMessageFlags(33554432) })"),

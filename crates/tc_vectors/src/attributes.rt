@@ -18,24 +18,24 @@ fn presence_is_written_whatever_it_says(rt: HostRuntime) -> Result<(), Fail> {
 }
 
 /// An attribute whose padding is cut off, which is filled.
-const SHORT_PADDING: &str = r#"
+static SHORT_PADDING: &str = r#"
 05000c00 01 | [HwOffload(1)] | 05000c00 01000000
 "#;
 
 /// Broken frames and short records, which are refused.
-const BROKEN_AND_SHORT: &str = r#"
+static BROKEN_AND_SHORT: &str = r#"
 08000b00 07000000 aabb | FrameHeaderShort { left: 2 }
 08000300 00000000 | BufferTooSmall { len: 4, needed: 40 }
 "#;
 
 /// Statistics under the kind `fq_codel`, which are refused.
-const SHORT_STATISTICS: &str = r#"
+static SHORT_STATISTICS: &str = r#"
 0d000100 66715f636f64656c00000000 07000400 01020300 | XstatsShort { len: 3 }
 0d000100 66715f636f64656c00000000 08000400 00000000 | BufferTooSmall { len: 0, needed: 36 }
 "#;
 
 /// Statistics of another number stay; of a class, twelve bytes after its record are dropped.
-const STATISTICS: &str = r#"
+static STATISTICS: &str = r#"
 0d000100 66715f636f64656c00000000 08000400 02000000 | [Kind("fq_codel"), Xstats(FqCodel(Other([2, 0, 0, 0])))]
 0d000100 66715f636f64656c00000000 2c000400 01000000 000000000000000000000000000000000000000000000000000000000000000000000000 | [Kind("fq_codel"), Xstats(FqCodel(Class(TcFqCodelClStats { deficit: 0, ldelay: 0, count: 0, lastcount: 0, dropping: 0, drop_next: 0 })))] | 0d000100 66715f636f64656c00000000 20000400 01000000 000000000000000000000000000000000000000000000000
 "#;

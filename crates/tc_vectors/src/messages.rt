@@ -10,14 +10,14 @@ use tc_wire::{DecodeError, TcAttribute, TcHeader, TcMessage};
 
 /// A message about a qdisc `fq_codel` with a limit of 10240 packets: its header, its kind and its options.
 #[rattlefmt::skip]
-const FQ_CODEL: [u8; 48] = [
+static FQ_CODEL: [u8; 48] = [
     0, 0, 0, 0, 2, 0, 0, 0, 0, 0, 1, 0, 0xff, 0xff, 0xff, 0xff, 0, 0, 0, 0,
     0x0d, 0, 0x01, 0, 0x66, 0x71, 0x5f, 0x63, 0x6f, 0x64, 0x65, 0x6c, 0, 0, 0, 0,
     0x0c, 0, 0x02, 0, 0x08, 0, 0x02, 0, 0, 0x28, 0, 0,
 ];
 
 /// The value of its options.
-const LIMIT: [u8; 8] = [0x08, 0, 0x02, 0, 0, 0x28, 0, 0];
+static LIMIT: [u8; 8] = [0x08, 0, 0x02, 0, 0, 0x28, 0, 0];
 
 /// That message with a second NUL in its kind, which then is no known one.
 fn with_two_nuls() -> [u8; 48] {
@@ -27,14 +27,14 @@ fn with_two_nuls() -> [u8; 48] {
 }
 
 /// Its header, as `Debug` shows it.
-const HEADER: &str =
+static HEADER: &str =
     "TcHeader { family: Unspec, index: 2, handle: TcHandle { major: 1, minor: 0 }, \
 parent: TcHandle { major: 65535, minor: 65535 }, info: 0 }";
 
 /// What the attributes of these two are.
-const LIMITED: &str = "[Kind(\"fq_codel\"), Options([FqCodel(Limit(10240))])]";
+static LIMITED: &str = "[Kind(\"fq_codel\"), Options([FqCodel(Limit(10240))])]";
 
-const LIMITED_RAW: &str =
+static LIMITED_RAW: &str =
     "[Kind(\"fq_codel\\0\"), OptionsRaw(DefaultNla { word: 2, value: [8, 0, 2, 0, 0, 40, 0, 0] })]";
 
 #[test]
@@ -47,7 +47,7 @@ fn messages_are_read_and_written(rt: HostRuntime) -> Result<(), Fail> {
 }
 
 /// No attributes; options with no kind before them; an unknown kind, and options with the nested flag.
-const UNKNOWN: &str = r#"
+static UNKNOWN: &str = r#"
  | []
 0c000200 08000200 00280000 | [OptionsRaw(DefaultNla { word: 2, value: [8, 0, 2, 0, 0, 40, 0, 0] })]
 08000100 73667100 08000280 01020304 | [Kind("sfq"), OptionsRaw(DefaultNla { word: 32770, value: [1, 2, 3, 4] })]
@@ -92,9 +92,9 @@ fn options_go_by_the_kind(rt: HostRuntime) -> Result<(), Fail> {
     Ok(())
 }
 
-const KEPT: &str = "[Other(DefaultNla { word: 2, value: [8, 0, 2, 0, 0, 40, 0, 0] })]";
+static KEPT: &str = "[Other(DefaultNla { word: 2, value: [8, 0, 2, 0, 0, 40, 0, 0] })]";
 
-const KEPT_LIMIT: &str = "[Other(DefaultNla { word: 2, value: [0, 40, 0, 0] })]";
+static KEPT_LIMIT: &str = "[Other(DefaultNla { word: 2, value: [0, 40, 0, 0] })]";
 
 #[test]
 fn an_option_is_read_alone(rt: HostRuntime) -> Result<(), Fail> {

@@ -9,7 +9,7 @@ use tc_wire::{
 
 /// The message of the program's stored run.
 #[rattlefmt::skip]
-const BYTES: [u8; 48] = [
+static BYTES: [u8; 48] = [
     0, 0, 0, 0, 2, 0, 0, 0, 0, 0, 1, 0, 0xff, 0xff, 0xff, 0xff, 0, 0, 0, 0,
     13, 0, 1, 0, 0x66, 0x71, 0x5f, 0x63, 0x6f, 0x64, 0x65, 0x6c, 0, 0, 0, 0,
     12, 0, 2, 0, 8, 0, 2, 0, 0, 0x28, 0, 0,

@@ -11,7 +11,7 @@ use tc_wire::{RewriteError, rewrite_action, settle_action};
 
 /// Action messages with warnings in hex, what they are settled as, and after how many rewrites.
 #[rattlefmt::skip]
-const WARNINGS: [(&str, &str, usize); 6] = [
+static WARNINGS: [(&str, &str, usize); 6] = [
     ("05000500 61000000", "05000500 61000000", 0),
     ("05000500 00000000", "04000500", 1),
     ("07000500 61000000", "05000500 61000000", 2),

@@ -16,7 +16,7 @@ use tc_test_calls::{Seen, see_action, see_attribute, see_option, see_tc};
 use tc_wire::{TcAttribute, TcMessage, TcOption, TcQdiscFqCodelOption};
 
 // A frame of fq_codel's limit, 5 packets.
-const LIMIT: [u8; 8] = [8, 0, 2, 0, 5, 0, 0, 0];
+static LIMIT: [u8; 8] = [8, 0, 2, 0, 5, 0, 0, 0];
 
 fn limit() -> TcOption {
     TcOption::FqCodel(TcQdiscFqCodelOption::Limit(5))
@@ -66,7 +66,7 @@ fn attribute(alloc: Global, made: &Made) -> Result<TcAttribute, AllocError> {
 type Row = (&'static [Made], &'static str, &'static str);
 
 #[rattlefmt::skip]
-const MESSAGES: [Row; 7] = [
+static MESSAGES: [Row; 7] = [
     // an unknown kind, and options of fq_codel
     (&[Made::Kind("sfq"), Made::Limit], "08000100 73667100 0c000200 08000200 05000000", "[Kind(\"sfq\"), OptionsRaw(DefaultNla { word: 2, value: [8, 0, 2, 0, 5, 0, 0, 0] })]"),
     // no kind, and options
@@ -84,7 +84,7 @@ const MESSAGES: [Row; 7] = [
 ];
 
 #[rattlefmt::skip]
-const MESSAGES_OF_A_KNOWN_KIND: [Row; 4] = [
+static MESSAGES_OF_A_KNOWN_KIND: [Row; 4] = [
     // u32, and options of fq_codel
     (&[Made::Kind("u32"), Made::Limit], "08000100 75333200 0c000200 08000200 05000000", "[Kind(\"u32\"), Options([U32(Hash(5))])]"),
     // u32, and its own options, kept raw
@@ -185,7 +185,7 @@ fn action_attribute(
 type ActionRow = (MadeAction, &'static str, &'static str);
 
 #[rattlefmt::skip]
-const ACTION_MESSAGES: [ActionRow; 5] = [
+static ACTION_MESSAGES: [ActionRow; 5] = [
     (MadeAction::Nat(0x8001), "10000100 0c000180 08000100 6e617400", "[Actions([TcAction { tab: 1, attributes: [Kind(\"nat\")] }])]"),
     (MadeAction::Nat(3), "10000100 0c000300 08000100 6e617400", "[Actions([TcAction { tab: 3, attributes: [Kind(\"nat\")] }])]"),
     (MadeAction::Warning("a\0"), "06000500 61000000", "[RootExtWarnMsg(\"a\")]"),

@@ -22,7 +22,7 @@ const WITHOUT_KIND: Row =
 
 /// What changes: one option alone, of type 2 with any flags, under a kind that isn't known.
 #[rattlefmt::skip]
-const ROWS: [Row; 8] = [
+static ROWS: [Row; 8] = [
     WITHOUT_KIND,
     ("sfq", &[(0x8002, &[1, 2, 3, 4])], "[Kind(\"sfq\"), OptionsRaw(DefaultNla { word: 32770, value: [1, 2, 3, 4] })]"),
     ("u32", &[(2, &[1])], "[Kind(\"u32\"), Options([Other(DefaultNla { word: 2, value: [1] })])]"),
@@ -113,10 +113,10 @@ fn becomes(alloc: Global, first: &str, second: &str, text: &str) -> Result<bool,
     has_attributes(alloc, &of_two_kinds(alloc, first, second)?.upgrade(), text)
 }
 
-const FQ_CODEL_LAST: &str =
+static FQ_CODEL_LAST: &str =
     "[Kind(\"sfq\"), Kind(\"fq_codel\"), Options([FqCodel(Limit(5))]), Options([Other(DefaultNla { word: 2, value: [7] })])]";
 
-const SFQ_LAST: &str =
+static SFQ_LAST: &str =
     "[Kind(\"fq_codel\"), Kind(\"sfq\"), Options([FqCodel(Limit(5))]), OptionsRaw(DefaultNla { word: 2, value: [7] })]";
 
 // Options of their own kind stay; the kind that counts is the last before them.

@@ -12,7 +12,7 @@ use tc_test_calls::{Seen, read_action, read_tc, see_action};
 // aren't the same, which only canonical ones are. A row of those that are refused: frames in hex, and the first fault in them.
 
 /// Messages that are settled, after a header of 20 zeros.
-pub(crate) const TC: &str = r#"
+pub(crate) static TC: &str = r#"
  | []
 08000100 75333200 0c000200 08000200 05000000 0d000100 66715f636f64656c00000000 0c000200 08000200 05000000 | [Kind("u32"), Options([U32(Hash(5))]), Kind("fq_codel"), Options([FqCodel(Limit(5))])]
 08000180 75333200 0c000200 08000200 05000000 0d000100 66715f636f64656c00000000 0c000200 08000200 05000000 | [Kind("u32"), Options([U32(Hash(5))]), Kind("fq_codel"), Options([FqCodel(Limit(5))])] | 08000100 75333200 0c000200 08000200 05000000 0d000100 66715f636f64656c00000000 0c000200 08000200 05000000
@@ -40,12 +40,12 @@ pub(crate) const TC: &str = r#"
 "#;
 
 /// Messages that aren't settled.
-pub(crate) const TC_UNSETTLED: &str = r#"
+pub(crate) static TC_UNSETTLED: &str = r#"
 0b000100 666c6f7765720000 0c000200 05004400 03000000 | [Kind("flower"), Options([Flower(MplsBos(3))])] | 0b000100 666c6f7765720000 0c000200 05004400 01000000
 "#;
 
 /// Messages that are refused.
-pub(crate) const TC_FAULTS: &str = r#"
+pub(crate) static TC_FAULTS: &str = r#"
 05000100ff000000 | NotUtf8
 08000300 00000000 | BufferTooSmall { len: 4, needed: 40 }
 08000b00 07000000 aabb | FrameHeaderShort { left: 2 }
@@ -64,7 +64,7 @@ pub(crate) const TC_FAULTS: &str = r#"
 "#;
 
 /// Action messages that are settled, after a header of 4 zeros.
-pub(crate) const ACTIONS: &str = r#"
+pub(crate) static ACTIONS: &str = r#"
  | []
 18000100 14000100 08000300 05000000 08000100 6e617400 | [Actions([TcAction { tab: 1, attributes: [Index(5), Kind("nat")] }])]
 18000100 14000180 08000300 05000000 08000100 6e617400 | [Actions([TcAction { tab: 1, attributes: [Index(5), Kind("nat")] }])] | 18000100 14000100 08000300 05000000 08000100 6e617400
@@ -79,14 +79,14 @@ pub(crate) const ACTIONS: &str = r#"
 "#;
 
 /// Action messages that aren't settled.
-pub(crate) const ACTIONS_UNSETTLED: &str = r#"
+pub(crate) static ACTIONS_UNSETTLED: &str = r#"
 07000500 61000000 | [RootExtWarnMsg("a\0")] | 06000500 61000000
 08000500 61000000 | [RootExtWarnMsg("a\0\0")] | 07000500 61000000
 08000500 61000000 07000500 62000000 | [RootExtWarnMsg("a\0\0"), RootExtWarnMsg("b\0")] | 07000500 61000000 06000500 62000000
 "#;
 
 /// Action messages that are refused.
-pub(crate) const ACTION_FAULTS: &str = r#"
+pub(crate) static ACTION_FAULTS: &str = r#"
 08000100 04000100 | MissingKind
 0c000100 08000100 03000100 | FrameTooShort { length: 3 }
 20000100 1c000100 08000100 6e617400 08000100 6e617400 05000300 00000000 | DuplicateKind
@@ -97,7 +97,7 @@ pub(crate) const ACTION_FAULTS: &str = r#"
 "#;
 
 /// A header of zeros, as `Debug` shows it.
-pub(crate) const NO_HEADER: &str = "TcHeader { family: Unspec, index: 0, \
+pub(crate) static NO_HEADER: &str = "TcHeader { family: Unspec, index: 0, \
 handle: TcHandle { major: 0, minor: 0 }, parent: TcHandle { major: 0, minor: 0 }, info: 0 }";
 
 /// A message of this header and of these attributes, as `Debug` shows it.
@@ -250,10 +250,10 @@ fn action_messages(rt: HostRuntime) -> Result<(), Fail> {
     Ok(())
 }
 
-const INET: &str =
+static INET: &str =
     "TcActionMessage { header: TcActionMessageHeader { family: Inet }, attributes: [] }";
 
-const UNSPEC: &str =
+static UNSPEC: &str =
     "TcActionMessage { header: TcActionMessageHeader { family: Unspec }, attributes: [] }";
 
 // A header with a family, and with padding that isn't zero; and one that is short.

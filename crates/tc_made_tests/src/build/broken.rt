@@ -30,7 +30,7 @@ enum Fault {
     Kind,
 }
 
-const FAULTS: [Fault; 9] = [
+static FAULTS: [Fault; 9] = [
     Fault::Null,
     Fault::Bracket,
     Fault::Range,

@@ -7,7 +7,7 @@ use tc_build::{MakeError, make_action, make_tc, read_json};
 
 // Attributes of a traffic control message, and the error of the message.
 #[rattlefmt::skip]
-const TC: [(&str, &str); 34] = [
+static TC: [(&str, &str); 34] = [
     // names
     (r#"{"Kinds":"u32"}"#, r#"/attributes/0/Kinds: found "Kinds", wanted the name of an attribute of the table"#),
     (r#"{"a~/b":1}"#, r#"/attributes/0/a~0~1b: found "a~/b", wanted the name of an attribute of the table"#),
@@ -69,7 +69,7 @@ const TC: [(&str, &str); 34] = [
 
 // Whole action messages, and their errors.
 #[rattlefmt::skip]
-const ACTION: [(&str, &str); 7] = [
+static ACTION: [(&str, &str); 7] = [
     (r#"[]"#, r#"found a list of 0, wanted an object"#),
     (r#"{"header":{"family":"Unspec"}}"#, r#"/attributes: found nothing, wanted a member of this name"#),
     (r#"{"header":{"family":"Inet7"},"attributes":[]}"#,
@@ -84,7 +84,7 @@ const ACTION: [(&str, &str); 7] = [
 
 // Texts, and why they aren't read.
 #[rattlefmt::skip]
-const TEXTS: [(&[u8], &str); 4] = [
+static TEXTS: [(&[u8], &str); 4] = [
     (br#"{"Kind":"u32","Kind":"u32"}"#, "/Kind: found twice, wanted once"),
     (br#"[{"a":{}},{"a":{"b~":[{"c":1}],"\u0062~":2},"a":3}]"#, "/1/a/b~0: found twice, wanted once"),
     (br#"{"a":1,"a":2"#, "no JSON at byte 12"),

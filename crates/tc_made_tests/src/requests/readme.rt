@@ -6,7 +6,7 @@ use tc_wire::{Emitable, ParseableBytes, TcHandle, TcMessage, TcQdiscFqCodelOptio
 
 /// `tc qdisc add dev .. root handle 1: fq_codel limit 10240`, for the interface with index 2.
 #[rattlefmt::skip]
-const REQUEST: [u8; 48] = [
+static REQUEST: [u8; 48] = [
     0, 0, 0, 0, 2, 0, 0, 0, 0, 0, 1, 0, 0xff, 0xff, 0xff, 0xff, 0, 0, 0, 0,
     13, 0, 1, 0, 0x66, 0x71, 0x5f, 0x63, 0x6f, 0x64, 0x65, 0x6c, 0, 0, 0, 0,
     12, 0, 2, 0, 8, 0, 2, 0, 0, 0x28, 0, 0,
@@ -14,7 +14,7 @@ const REQUEST: [u8; 48] = [
 
 /// The same qdisc as the kernel dumps it, with a count of references in its header and an offload (12).
 #[rattlefmt::skip]
-const DUMP: [u8; 56] = [
+static DUMP: [u8; 56] = [
     0, 0, 0, 0, 2, 0, 0, 0, 0, 0, 1, 0, 0xff, 0xff, 0xff, 0xff, 2, 0, 0, 0,
     13, 0, 1, 0, 0x66, 0x71, 0x5f, 0x63, 0x6f, 0x64, 0x65, 0x6c, 0, 0, 0, 0,
     12, 0, 2, 0, 8, 0, 2, 0, 0, 0x28, 0, 0,

@@ -3,7 +3,7 @@
 use nla_frames::AddressFamily;
 use tc_records::{TcActionType, TcMirrorActionType};
 
-const FAMILIES: [(u8, AddressFamily); 8] = [
+static FAMILIES: [(u8, AddressFamily); 8] = [
     (0, AddressFamily::Unspec),
     (1, AddressFamily::Unix),
     (2, AddressFamily::Inet),
@@ -14,7 +14,7 @@ const FAMILIES: [(u8, AddressFamily); 8] = [
     (28, AddressFamily::Mpls),
 ];
 
-const OUTCOMES: [(i32, TcActionType); 10] = [
+static OUTCOMES: [(i32, TcActionType); 10] = [
     (-1, TcActionType::Unspec),
     (0, TcActionType::Ok),
     (1, TcActionType::Reclassify),
@@ -27,7 +27,7 @@ const OUTCOMES: [(i32, TcActionType); 10] = [
     (8, TcActionType::Trap),
 ];
 
-const DIRECTIONS: [(i32, TcMirrorActionType); 4] = [
+static DIRECTIONS: [(i32, TcMirrorActionType); 4] = [
     (1, TcMirrorActionType::EgressRedir),
     (2, TcMirrorActionType::EgressMirror),
     (3, TcMirrorActionType::IngressRedir),

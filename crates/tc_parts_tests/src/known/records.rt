@@ -12,7 +12,7 @@ use tc_records::{
 
 /// The numbers from 1 to 64.
 #[rattlefmt::skip]
-pub(crate) const COUNTED: [u8; 64] = [
+pub(crate) static COUNTED: [u8; 64] = [
     1, 2, 3, 4, 5, 6, 7, 8, 9, 10, 11, 12, 13, 14, 15, 16,
     17, 18, 19, 20, 21, 22, 23, 24, 25, 26, 27, 28, 29, 30, 31, 32,
     33, 34, 35, 36, 37, 38, 39, 40, 41, 42, 43, 44, 45, 46, 47, 48,
@@ -135,7 +135,7 @@ fn qdisc_stats_of_fq_codel(rt: HostRuntime) -> Result<(), Fail> {
 }
 
 #[rattlefmt::skip]
-const CLASS_STATS: &str =
+static CLASS_STATS: &str =
     "TcFqCodelClStats { deficit: 67305985, ldelay: 134678021, count: 202050057, lastcount: 269422093, dropping: 336794129, drop_next: 404166165 }";
 
 #[test]
@@ -212,7 +212,7 @@ fn u32_key(rt: HostRuntime) -> Result<(), Fail> {
 }
 
 #[rattlefmt::skip]
-const KEYS: [TcU32Key; 3] = [
+static KEYS: [TcU32Key; 3] = [
     TcU32Key { mask: 0x1112_1314, val: 0x1516_1718, off: 0x1c1b_1a19, offmask: 0x201f_1e1d },
     TcU32Key { mask: 0x2122_2324, val: 0x2526_2728, off: 0x2c2b_2a29, offmask: 0x302f_2e2d },
     TcU32Key { mask: 0x3132_3334, val: 0x3536_3738, off: 0x3c3b_3a39, offmask: 0x403f_3e3d },

@@ -8,19 +8,19 @@ use tc_wire::DecodeError;
 type Expected = (usize, usize, u16, Table, u8);
 
 /// A qdisc `fq_codel` with a limit.
-const FQ_CODEL: [u8; 48] = [
+static FQ_CODEL: [u8; 48] = [
     0, 0, 0, 0, 2, 0, 0, 0, 0, 0, 1, 0, 255, 255, 255, 255, 0, 0, 0, 0, 13, 0, 1, 0, 102, 113, 95,
     99, 111, 100, 101, 108, 0, 0, 0, 0, 12, 0, 2, 0, 8, 0, 2, 0, 0, 40, 0, 0,
 ];
 
-const FQ_CODEL_NODES: [Expected; 3] = [
+static FQ_CODEL_NODES: [Expected; 3] = [
     (24, 9, 0x0001, Table::Message, 0),
     (40, 8, 0x0002, Table::Message, 0),
     (44, 4, 0x0002, Table::FqCodel, 1),
 ];
 
 /// Sent by tc: a filter `u32` with an action `mirred`, five deep.
-const U32: [u8; 124] = [
+static U32: [u8; 124] = [
     0, 0, 0, 0, 3, 0, 0, 0, 0, 0, 0, 0, 0, 0, 1, 0, 8, 0, 14, 0, 8, 0, 1, 0, 117, 51, 50, 0, 96, 0,
     2, 0, 56, 0, 7, 0, 52, 0, 1, 0, 11, 0, 1, 0, 109, 105, 114, 114, 101, 100, 0, 0, 36, 0, 2, 128,
     32, 0, 2, 0, 0, 0, 0, 0, 0, 0, 0, 0, 4, 0, 0, 0, 0, 0, 0, 0, 0, 0, 0, 0, 1, 0, 0, 0, 4, 0, 0,
@@ -28,7 +28,7 @@ const U32: [u8; 124] = [
     12, 0, 0, 0, 0, 0, 0, 0,
 ];
 
-const U32_NODES: [Expected; 8] = [
+static U32_NODES: [Expected; 8] = [
     (24, 4, 0x0001, Table::Message, 0),
     (32, 92, 0x0002, Table::Message, 0),
     (36, 52, 0x0007, Table::U32, 1),
@@ -40,13 +40,13 @@ const U32_NODES: [Expected; 8] = [
 ];
 
 /// Sent by tc: an action message with an action `mirred`.
-const MIRRED: [u8; 60] = [
+static MIRRED: [u8; 60] = [
     0, 0, 0, 0, 56, 0, 1, 0, 52, 0, 1, 0, 11, 0, 1, 0, 109, 105, 114, 114, 101, 100, 0, 0, 36, 0,
     2, 128, 32, 0, 2, 0, 0, 0, 0, 0, 0, 0, 0, 0, 3, 0, 0, 0, 0, 0, 0, 0, 0, 0, 0, 0, 2, 0, 0, 0, 6,
     0, 0, 0,
 ];
 
-const MIRRED_NODES: [Expected; 5] = [
+static MIRRED_NODES: [Expected; 5] = [
     (8, 52, 0x0001, Table::ActionMessage, 0),
     (12, 48, 0x0001, Table::Actions, 1),
     (16, 7, 0x0001, Table::Action, 2),
@@ -56,7 +56,7 @@ const MIRRED_NODES: [Expected; 5] = [
 
 /// A filter `flower` with two actions whose kinds stand behind their options, `tunnel_key` and the unknown `gact`; a
 /// label stack entry of MPLS, and an empty option of type 98; then statistics.
-const FLOWER: [u8; 180] = [
+static FLOWER: [u8; 180] = [
     0, 0, 0, 0, 9, 0, 0, 0, 1, 0, 2, 0, 3, 0, 4, 0, 5, 6, 7, 8, 11, 0, 1, 0, 102, 108, 111, 119,
     101, 114, 0, 0, 136, 0, 2, 0, 104, 0, 3, 0, 48, 0, 1, 0, 20, 0, 2, 128, 8, 0, 7, 0, 0, 0, 0,
     42, 7, 0, 200, 0, 120, 121, 122, 0, 8, 0, 3, 0, 77, 0, 0, 0, 15, 0, 1, 0, 116, 117, 110, 110,
@@ -66,7 +66,7 @@ const FLOWER: [u8; 180] = [
     0, 0, 4, 0, 98, 0, 12, 0, 7, 0, 5, 0, 4, 0, 5, 0, 0, 0,
 ];
 
-const FLOWER_NODES: [Expected; 22] = [
+static FLOWER_NODES: [Expected; 22] = [
     (24, 7, 0x0001, Table::Message, 0),
     (36, 132, 0x0002, Table::Message, 0),
     (40, 100, 0x0003, Table::Flower, 1),

@@ -4,7 +4,7 @@ use std::test::Fail;
 use tc_outline::{Interfaces, Layout, Page, What, locate, outline};
 
 // What a message speaks of, its bytes in hex, and its last line.
-const REFUSED: [(What, &str, &str); 18] = [
+static REFUSED: [(What, &str, &str); 18] = [
     // no whole header
     (
         What::Qdisc,

@@ -80,7 +80,7 @@ fn on_one_line(rt: HostRuntime) -> Result<(), Fail> {
 }
 
 // The flower filter with two actions; two interfaces have names.
-const ONE_LINE: &str =
+static ONE_LINE: &str =
     "index 3 (eth0) handle 0x0 parent ffff:fff2 pref 601 protocol ip (0x0800) kind flower options \
 {ip_proto 6 ipv4_dst 10.8.0.1 ipv4_dst_mask 255.255.255.255 actions {action 1 {kind mirred options \
 {parms index 0 capab 0 action pipe refcnt 0 bindcnt 0 eaction egress_mirror ifindex 6 (\"wan \

@@ -7,14 +7,14 @@ use tc_show::asked::{Chosen, Form};
 
 // In hex: a qdisc of fq_codel with a limit of 10240 packets; the same with a limit of three bytes; NLMSG_DONE; a list of actions with an
 // index of 5.
-const TEXT: &str =
+static TEXT: &str =
     "40000000 2400 0006 05000000 00000000 000000000200000000000100ffffffff00000000 0d00010066715f636f64656c00000000 0c0002000800020000280000
 40000000 2400 0006 05000000 00000000 000000000200000000000100ffffffff00000000 0d00010066715f636f64656c00000000 0c0002000700020000280000
 14000000 0300 0200 05000000 00000000 00000000
 30000000 3000 0000 07000000 00000000 00000000 1c000100 18000100 08000300 05000000 0b0001006d697272656400 00
 ";
 
-const LINES: &str = "RTM_NEWQDISC index 2 (eth0) handle 1: parent root
+static LINES: &str = "RTM_NEWQDISC index 2 (eth0) handle 1: parent root
 kind fq_codel
 options
   limit 10240p
@@ -43,9 +43,9 @@ summary
   0 broken
 ";
 
-const ONE_LINE: &str = "RTM_NEWACTION family unspec actions {action 1 {index 5 kind mirred}}\n";
+static ONE_LINE: &str = "RTM_NEWACTION family unspec actions {action 1 {index 5 kind mirred}}\n";
 
-const JSON: &str =
+static JSON: &str =
     r#"{"type":"RTM_NEWQDISC","flags":1536,"seq":5,"fits":true,"settled":true,"canonical":true,"message":{"header":{"family":"Unspec","index":2,"handle":"1:","parent":"root","info":0},"attributes":[{"Kind":"fq_codel"},{"Options":[{"FqCodel":{"Limit":10240}}]}]}}
 {"type":"RTM_NEWQDISC","refused":"WrongLength","expected":4,"got":3,"offset":44,"path":"/attributes/1/Options/0/FqCodel/Limit"}
 "#;

@@ -7,7 +7,7 @@ use tc_show::asked::{Asked, Chosen, Form};
 use tc_show::program::serve;
 
 /// The forms that messages are shown in.
-pub(crate) const FORMS: [Form; 3] = [Form::Lines, Form::OneLine, Form::Json];
+pub(crate) static FORMS: [Form; 3] = [Form::Lines, Form::OneLine, Form::Json];
 
 /// What a run does that shows all messages.
 pub(crate) fn all_in(form: Form) -> Asked<'static> {

@@ -7,7 +7,7 @@ use tc_test_calls::read_attribute;
 
 // In each table: a kind, a frame in hex, and the attribute that it is read as under the kind.
 
-const ATTRIBUTES: &str = r#"
+static ATTRIBUTES: &str = r#"
  | 08000100 73667100 | Kind("sfq")
 fq_codel | 0c000200 08000200 24232221 | Options([FqCodel(Limit(555885348))])
 sfq | 07000200 a1a2a300 | OptionsRaw(DefaultNla { word: 2, value: [161, 162, 163] })
@@ -23,7 +23,7 @@ fq_codel | 0c000700 08000400 02000000 | Stats2([App(FqCodel(Other([2, 0, 0, 0]))
  | 07000980 a1a2a300 | Other(DefaultNla { word: 32777, value: [161, 162, 163] })
 "#;
 
-const STATISTICS: &str = r#"
+static STATISTICS: &str = r#"
  | 2c000300 0102030405060708 090a0b0c 0d0e0f10 11121314 15161718 191a1b1c 1d1e1f20 21222324 00000000 | Stats(TcStats { bytes: 578437695752307201, packets: 202050057, drops: 269422093, overlimits: 336794129, bps: 404166165, pps: 471538201, qlen: 538910237, backlog: 606282273 })
 "#;
 

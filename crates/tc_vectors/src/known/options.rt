@@ -12,7 +12,7 @@ use tc_test_calls::{is_option_settled, read_option};
 
 // In each table: a frame in hex, what it is read as, and what is written of that, where it isn't the same.
 
-const FQ_CODEL: &str = r#"
+static FQ_CODEL: &str = r#"
 08000100 14131211 | Target(286397204)
 08000200 24232221 | Limit(555885348)
 08000300 34333231 | Interval(825373492)
@@ -30,7 +30,7 @@ const FQ_CODEL: &str = r#"
 08000280 24232221 | Limit(555885348) | 08000200 24232221
 "#;
 
-const INGRESS: &str = r#"
+static INGRESS: &str = r#"
 07000000 a1a2a300 | Other(DefaultNla { word: 0, value: [161, 162, 163] })
 07000100 a1a2a300 | Other(DefaultNla { word: 1, value: [161, 162, 163] })
 07000200 a1a2a300 | Other(DefaultNla { word: 2, value: [161, 162, 163] })
@@ -39,7 +39,7 @@ const INGRESS: &str = r#"
 04000100 | Other(DefaultNla { word: 1, value: [] })
 "#;
 
-const U32: &str = r#"
+static U32: &str = r#"
 08000100 14131211 | ClassId(TcHandle { major: 4370, minor: 4884 })
 08000200 24232221 | Hash(555885348)
 08000300 34333231 | Link(825373492)
@@ -62,7 +62,7 @@ const U32: &str = r#"
 18000500 01000000000000000000000000000000 01020304 | Selector(TcU32Selector { flags: TcU32SelectorFlags(1), offshift: 0, nkeys: 0, offmask: 0, off: 0, offoff: 0, hoff: 0, hmask: 0, keys: [] }) | 14000500 01000000000000000000000000000000
 "#;
 
-const MATCHALL: &str = r#"
+static MATCHALL: &str = r#"
 08000100 14131211 | ClassId(TcHandle { major: 4370, minor: 4884 })
 14000200 10000100 09000100 6761637400000000 | Action([TcAction { tab: 1, attributes: [Kind("gact")] }])
 08000300 34333231 | Flags(825373492)
@@ -74,7 +74,7 @@ const MATCHALL: &str = r#"
 14000280 10000100 09000100 6761637400000000 | Action([TcAction { tab: 1, attributes: [Kind("gact")] }]) | 14000200 10000100 09000100 6761637400000000
 "#;
 
-const BPF: &str = r#"
+static BPF: &str = r#"
 08000300 34333231 | ClassId(TcHandle { major: 12594, minor: 13108 })
 08000600 64636261 | ProgFd(1633837924)
 06000700 70000000 | ProgName("p")
@@ -95,7 +95,7 @@ const BPF: &str = r#"
 "#;
 
 /// A kind, a frame in hex that isn't read under it, and why.
-const FAULTS: &str = r#"
+static FAULTS: &str = r#"
 fq_codel | 06000a00 01020000 | WrongLength { expected: 1, got: 2 }
 fq_codel | 07000200 01020300 | WrongLength { expected: 4, got: 3 }
 u32 | 05000200 01000000 | WrongLength { expected: 4, got: 1 }
@@ -114,7 +114,7 @@ flower | 08000400 01020304 | WrongLength { expected: 6, got: 4 }
 "#;
 
 /// The kinds that are known, and their variants.
-const KINDS: &str = r#"
+static KINDS: &str = r#"
 fq_codel | FqCodel
 ingress | Ingress
 flower | Flower
@@ -170,9 +170,9 @@ fn under_their_kind(rt: HostRuntime) -> Result<(), Fail> {
 }
 
 /// An option of a type that no table has, and how it is kept.
-const UNKNOWN: [u8; 8] = [5, 0, 0xff, 0x40, 7, 0, 0, 0];
+static UNKNOWN: [u8; 8] = [5, 0, 0xff, 0x40, 7, 0, 0, 0];
 
-const KEPT: &str = "Other(DefaultNla { word: 16639, value: [7] })";
+static KEPT: &str = "Other(DefaultNla { word: 16639, value: [7] })";
 
 /// True if such an option, read under a kind, is settled under that kind alone.
 fn is_settled_under_alone(alloc: Global, kind: &str) -> Result<bool, Fail> {
