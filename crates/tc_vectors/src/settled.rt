@@ -16,7 +16,7 @@ use tc_test_calls::{Seen, see_action, see_attribute, see_option, see_tc};
 use tc_wire::{TcAttribute, TcMessage, TcOption, TcQdiscFqCodelOption};
 
 // A frame of fq_codel's limit, 5 packets.
-static LIMIT: [u8; 8] = [8, 0, 2, 0, 5, 0, 0, 0];
+const LIMIT: [u8; 8] = [8, 0, 2, 0, 5, 0, 0, 0];
 
 fn limit() -> TcOption {
     TcOption::FqCodel(TcQdiscFqCodelOption::Limit(5))

@@ -212,7 +212,7 @@ fn u32_key(rt: HostRuntime) -> Result<(), Fail> {
 }
 
 #[rattlefmt::skip]
-static KEYS: [TcU32Key; 3] = [
+const KEYS: [TcU32Key; 3] = [
     TcU32Key { mask: 0x1112_1314, val: 0x1516_1718, off: 0x1c1b_1a19, offmask: 0x201f_1e1d },
     TcU32Key { mask: 0x2122_2324, val: 0x2526_2728, off: 0x2c2b_2a29, offmask: 0x302f_2e2d },
     TcU32Key { mask: 0x3132_3334, val: 0x3536_3738, off: 0x3c3b_3a39, offmask: 0x403f_3e3d },
