@@ -14,12 +14,16 @@ Says verdict Holds = ((verdict ≡ 1) × Holds) ⊎ ((verdict ≡ 0) × (Holds �
 abbrev pub Numbers : ℕ → Bool → Type 0
 Numbers verdict holds = verdict ≡ (if holds then 1 else 0)
 
+-- how many bytes a message has, if it can be written; else 0
+abbrev pub IsCounted : Words → Message → ℕ → Type 0
+IsCounted words m count = ((words.Fits m) × (count ≡ length (words.bytes m))) ⊎ ((words.Fits m → ⊥) × (count ≡ 0))
+
 -- what is said of a message, and of the bytes that it was read of
 pub record IsJudged (words : Words) (bytes : List ℕ) (m : Message) (v : VtcVerdict) : Type 0 where
   pub fits : Says v.fits (words.Fits m)
   pub settled : Says v.settled (words.Settled m)
   pub canonical : Says v.canonical (words.Canon bytes)
-  pub counted : ((words.Fits m) × (v.length ≡ length (words.bytes m))) ⊎ ((words.Fits m → ⊥) × (v.length ≡ 0))
+  pub counted : IsCounted words m v.length
 
 -- the first fault of the bytes, or that there was no memory; its numbers, and its place
 pub record IsRefused (words : Words) (bytes : List ℕ) (f : VtcFault) (status : ℕ) : Type 0 where

@@ -1,6 +1,7 @@
 //! The types of messages, by what the calls do with them.
 
 ghost use Rattle.std.specs.Prelude.{◌≡◌, ◌↔◌, ◌≤◌, length, IsTrue, IfOk, IfErr, Some};
+ghost use Rattle.nla_frames.specs.Emission.{Measures};
 ghost use Rattle.serde_json.specs.Sent.{IsTextOf};
 ghost use Rattle.serde_json.specs.View.{view};
 ghost use Rattle.tc_wire.specs.Facade.{Message, IfRefused, Writes, HasRoom, tc_message, action_message};
@@ -36,6 +37,10 @@ pub trait Called: Drop {
     /// True if the message can be written.
     fn can_be_written(&self) -> bool
         ensures { IsTrue result ↔ words.Fits (see self.now) };
+
+    /// How many bytes the message has, if it can be written: both by one walk.
+    fn measured(&self) -> Option<usize>
+        ensures { Measures result (words.Fits (see self.now)) (words.bytes (see self.now)) };
 
     /// True if the message, where it can be written, reads back as itself.
     fn reads_back(&self) -> bool
@@ -87,6 +92,10 @@ impl Called for TcMessage {
         self.fits()
     }
 
+    fn measured(&self) -> Option<usize> {
+        self.checked_len()
+    }
+
     fn reads_back(&self) -> bool {
         self.is_settled()
     }
@@ -131,6 +140,10 @@ impl Called for TcActionMessage {
 
     fn can_be_written(&self) -> bool {
         self.fits()
+    }
+
+    fn measured(&self) -> Option<usize> {
+        self.checked_len()
     }
 
     fn reads_back(&self) -> bool {

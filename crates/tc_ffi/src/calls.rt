@@ -40,17 +40,17 @@ pub fn rewrite<M: Called>(alloc: Global, bytes: &[u8], buffer: &mut [u8], length
     ensures kept { result ≢ 0 → buffer.new ≡ buffer.old }
 {
     match M::read(alloc, bytes) {
-        Ok(message) => {
-            if !message.can_be_written() {
-                return DOES_NOT_FIT;
+        Ok(message) => match message.measured() {
+            None => DOES_NOT_FIT,
+            Some(len) => {
+                *length = len;
+                if buffer.len() < len {
+                    return NO_ROOM;
+                }
+                message.write(buffer);
+                OK
             }
-            *length = message.len();
-            if buffer.len() < *length {
-                return NO_ROOM;
-            }
-            message.write(buffer);
-            OK
-        }
+        },
         Err(e) => status_of(&e),
     }
 }

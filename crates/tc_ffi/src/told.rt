@@ -2,7 +2,7 @@
 
 ghost use Rattle.std.specs.Prelude.{◌≡◌, ◌≤◌, length};
 ghost use Rattle.tc_status.specs.Status.{numbers_of};
-ghost use Rattle.tc_ffi.specs.Checks.{IsJudged, Numbers};
+ghost use Rattle.tc_ffi.specs.Checks.{IsJudged, IsCounted, Numbers, Says};
 
 use crate::called::Called;
 use nla_frames::DecodeError;
@@ -37,12 +37,23 @@ pub struct VtcFault {
 pub fn judged<M: Called>(message: &M, bytes: &[u8]) -> VtcVerdict
     ensures { IsJudged M.words bytes.now (M.see message.now) result }
 {
-    let fits = message.can_be_written();
+    let (fits, length) = fits_in(message);
     VtcVerdict {
-        length: if fits { message.len() } else { 0 },
-        fits: number(fits),
+        length,
+        fits,
         settled: number(message.reads_back()),
         canonical: number(M::is_canonical(bytes)),
+    }
+}
+
+// Whether a message can be written, as a number, and how many bytes it has; 0 where it can't.
+fn fits_in<M: Called>(message: &M) -> (u8, usize)
+    ensures fits { Says result.0 (M.words.Fits (M.see message.now)) }
+    ensures counted { IsCounted M.words (M.see message.now) result.1 }
+{
+    match message.measured() {
+        Some(length) => (1, length),
+        None => (0, 0),
     }
 }
 
