@@ -6,7 +6,7 @@ use std::test::Fail;
 use tc_capture::CaptureError;
 use tc_test_captures::{Format, beginning, file_of, messages};
 
-// True if a file is refused for it needs more bytes.
+// True if reading a file fails with `Short`: it needs more bytes.
 fn is_short(file: &[u8], needed: usize) -> bool {
     let left = file.len();
     is_fault(fault_of(file), CaptureError::Short { needed, left })
@@ -143,7 +143,7 @@ fn are_read(alloc: Global, interfaces: usize) -> bool {
     }
 }
 
-// True if a section of 65 interfaces is refused where the last one is.
+// True if reading a section of 65 interfaces fails at the last one.
 fn are_too_many(alloc: Global) -> bool {
     match end_of_many(alloc, 65) {
         Ok(end) => is_end(end, 28 + 64 * 32, CaptureError::TooManyInterfaces),

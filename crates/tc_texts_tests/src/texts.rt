@@ -214,7 +214,7 @@ fn is_read_as(alloc: Global, text: &str, bytes: &[u8]) -> bool {
     }
 }
 
-// Whether a text is refused.
+// True if a text isn't read as bytes.
 fn is_no_hex(alloc: Global, text: &str) -> bool {
     matches!(read_hex(alloc, text), Ok(None))
 }
