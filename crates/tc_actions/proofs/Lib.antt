@@ -2,4 +2,3 @@ pub mod Bodies
 pub mod Scanning
 pub mod AttributeLists
 pub mod ActionLists
-pub mod OptionLists

@@ -1,11 +1,3 @@
-pub mod Records
-pub mod FqCodel
-pub mod Xstats
-pub mod Stats2
-pub mod Mirror
-pub mod Nat
-pub mod TunnelKey
-pub mod ActionOption
 pub mod ActionAttribute
 pub mod Scan
 pub mod Action

@@ -1,11 +1,6 @@
-//! Actions: what a filter does with a packet.
+//! Actions and their attributes.
 
 pub mod action;
 pub mod attribute;
-pub mod mirror;
-pub mod nat;
-mod one_kind;
-pub mod option;
 pub mod scan;
-pub mod tunnel_key;
 mod types;

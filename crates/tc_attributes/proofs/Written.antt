@@ -9,7 +9,8 @@ use Rattle.tc_values.specs.declared.value.Value.{Value}
 use Rattle.tc_values.proofs.Bodies.{are_items, is_either}
 use Rattle.tc_values.proofs.Rows.{shown_as}
 use Rattle.tc_records.specs.Statistics.{stats_scalars}
-use Rattle.tc_actions.proofs.Bodies.{is_record, is_xstats}
+use Rattle.tc_values.proofs.Records.{is_record}
+use Rattle.tc_stats.proofs.Bodies.{is_xstats}
 use Rattle.tc_attributes.specs.Attribute.{Nested, nested, IsWritten}
 
 is_nested : {A : Type 0} → IsInner (nested {A = A})

@@ -23,11 +23,11 @@ use Rattle.tc_values.specs.Value.{value_bytes, ValueFits, TypedValue}
 use Rattle.tc_values.specs.declared.value.Value.{Value}
 use Rattle.tc_values.specs.Bodies.{items_of, either}
 use Rattle.tc_canon.specs.Tables.Statistics.{stats2}
-use Rattle.tc_actions.specs.Records.{record_part}
-use Rattle.tc_actions.specs.Xstats.{tc_xstats, xstats_part}
-use Rattle.tc_actions.specs.Stats2.{tc_stats2}
-use Rattle.tc_actions.specs.declared.stats.xstats.TcXstats.{TcXstats}
-use Rattle.tc_actions.specs.declared.stats.stats2.TcStats2.{TcStats2}
+use Rattle.tc_values.specs.Records.{record_part}
+use Rattle.tc_stats.specs.Xstats.{tc_xstats, xstats_part}
+use Rattle.tc_stats.specs.Stats2.{tc_stats2}
+use Rattle.tc_stats.specs.declared.xstats.TcXstats.{TcXstats}
+use Rattle.tc_stats.specs.declared.stats2.TcStats2.{TcStats2}
 use Rattle.tc_values.specs.declared.body.Items.{Items}
 use Rattle.tc_values.specs.declared.body.Record.{Record}
 use Rattle.tc_values.specs.declared.body.Either.{Either}

@@ -1,4 +1,3 @@
-pub mod Lists
 pub mod Spans
 pub mod FlowerReads
 pub mod Bodies

@@ -1,4 +1,3 @@
-pub mod Mpls
 pub mod Flower
 pub mod Spans
 pub mod Held

@@ -4,7 +4,7 @@ ghost use Rattle.std.specs.Prelude.{◌≡◌, OnOk, IfOk, List, map, drop};
 ghost use Rattle.serde.specs.Event.{Event};
 ghost use Rattle.tc_records.specs.ActionType.{action_type_scalar};
 ghost use Rattle.tc_records.specs.MirrorActionType.{mirror_action_type_scalar};
-ghost use Rattle.tc_records.specs.Numbers.{family_scalar};
+ghost use Rattle.tc_fields.specs.Numbers.{family_scalar};
 ghost use Rattle.tc_names.specs.Named.{named_field};
 ghost use Rattle.tc_json.specs.Sent.{Sent, variant};
 ghost use Rattle.tc_json.specs.Records.{scalar_of, number_name, name_event, number_field, other_number, field_events, one_field, after_field, fields_events, record_events};

@@ -7,8 +7,8 @@ ghost use Rattle.tc_records.specs.Actions.{action_message_header_scalars, generi
 ghost use Rattle.tc_records.specs.Statistics.{stats_scalars, basic_scalars, queue_scalars, qd_stats_scalars, cl_stats_scalars};
 ghost use Rattle.tc_records.specs.Selector.{key_scalars, head_scalars};
 ghost use Rattle.tc_records.specs.Tcf.{tcf_scalars};
-ghost use Rattle.tc_actions.specs.FqCodel.{fq_codel_xstats};
-ghost use Rattle.tc_actions.specs.Xstats.{tc_xstats};
+ghost use Rattle.tc_stats.specs.FqCodel.{fq_codel_xstats};
+ghost use Rattle.tc_stats.specs.Xstats.{tc_xstats};
 ghost use Rattle.tc_action_messages.specs.Flags.{flags_words};
 ghost use Rattle.tc_names.specs.Listed.{field_names_in};
 ghost use Rattle.tc_names.specs.declared.row.Fixed.TheVariants.{SelectorKey};

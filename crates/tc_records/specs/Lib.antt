@@ -1,4 +1,3 @@
-pub mod Numbers
 pub mod Header
 pub mod Statistics
 pub mod Tcf
@@ -11,5 +10,4 @@ pub mod MessageFlags
 pub mod FilterFlags
 pub mod Selector
 pub mod Defaults
-pub mod Record
 pub mod RecordWords

@@ -15,7 +15,7 @@ ghost use Rattle.tc_texts.specs.Info.{filter_info};
 ghost use Rattle.tc_options.specs.Options.{tc_option};
 ghost use Rattle.tc_attributes.specs.Attribute.{tc_attribute};
 ghost use Rattle.tc_messages.specs.Message.{tc_message};
-ghost use Rattle.tc_actions.specs.ActionOption.{action_option};
+ghost use Rattle.tc_action_options.specs.ActionOption.{action_option};
 ghost use Rattle.tc_actions.specs.Action.{tc_action, listed, an_action};
 ghost use Rattle.tc_actions.specs.ActionAttribute.{action_attribute};
 ghost use Rattle.tc_action_messages.specs.ActionMessage.{action_message};

@@ -5,7 +5,7 @@ ghost use Rattle.nla_frames.specs.Place.{kinds_set};
 ghost use Rattle.tc_meaning.specs.Own.{kind_of_attribute};
 ghost use Rattle.tc_actions.specs.Action.{tc_action};
 ghost use Rattle.tc_actions.specs.ActionAttribute.{action_attribute};
-ghost use Rattle.tc_actions.specs.ActionOption.{action_option};
+ghost use Rattle.tc_action_options.specs.ActionOption.{action_option};
 ghost use Rattle.tc_requests.specs.RestoredActions.{only_dumped, dumped_of, is_only_dumped, option_restored, attribute_restored, action_restored};
 
 use crate::restore::{Restore, is_of, restore_all};

@@ -3,6 +3,7 @@ pub mod Bodies
 pub mod Lists
 pub mod Measures
 pub mod OfKinds
+pub mod Records
 pub mod Rows
 pub mod SameRows
 mod Stripped

@@ -5,3 +5,4 @@ pub mod AttributeWords
 pub mod Bodies
 pub mod Same
 pub mod Forgets
+pub mod Records

@@ -1,4 +1,3 @@
 //! The filter `flower`.
 
-pub mod mpls;
 pub mod options;

@@ -8,10 +8,9 @@ ghost use Rattle.tc_records.specs.RecordWords.{on, seen, Scalar, SettledFields, 
 ghost use Rattle.tc_records.specs.ActionType.{action_type_of, action_type_number, action_type_scalar};
 ghost use Rattle.tc_records.specs.Actions.{generic_scalars, same_generic_then};
 
-use crate::record::{is_settled_record, parse_record, record_len};
 use crate::same::both;
-use crate::{Fields, FixedRecord, Octets, emit_record};
 use nla_frames::{BytesMeaning, Emitable, Res, SettleBytes};
+use tc_fields::{Fields, FixedRecord, Octets, emit_record, is_settled_record, parse_record, record_len};
 
 /// How long the generic part is, in bytes.
 pub const TC_ACTION_GENERIC_LEN: usize = 20;

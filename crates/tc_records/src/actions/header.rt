@@ -5,11 +5,9 @@ ghost use Rattle.tc_canon.specs.Layouts.{action_message_header};
 ghost use Rattle.tc_records.specs.RecordWords.{on, seen, Scalar, SettledFields, read_record, record_codec, same_scalars, scalars_equiv, scalars_per};
 ghost use Rattle.tc_records.specs.Actions.{action_message_header_scalars};
 
-use crate::family::same_family;
-use crate::record::{is_settled_record, parse_record, record_len};
 use crate::same::both;
-use crate::{Fields, FixedRecord, Octets, emit_record};
 use nla_frames::{AddressFamily, BytesMeaning, Emitable, Res, SettleBytes};
+use tc_fields::{Fields, FixedRecord, Octets, emit_record, is_settled_record, parse_record, record_len, same_family};
 
 /// How long a header is, in bytes.
 pub const TCA_HEADER_LEN: usize = 4;

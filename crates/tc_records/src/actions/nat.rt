@@ -5,12 +5,12 @@ ghost use Rattle.tc_canon.specs.Layouts.{nat};
 ghost use Rattle.tc_records.specs.RecordWords.{on, seen, Scalar, SettledFields, read_record, record_codec, same_scalars, scalars_equiv, scalars_per};
 ghost use Rattle.tc_records.specs.Actions.{nat_scalars};
 
-use crate::record::{is_settled_record, parse_record, record_len};
 use crate::same::both;
-use crate::{Fields, FixedRecord, Octets, TcActionGeneric, TcNatFlags, emit_record};
+use crate::{TcActionGeneric, TcNatFlags};
 use bitflags::Flags;
 use nla_frames::{BytesMeaning, Emitable, Res, SettleBytes};
 use std::net::Ipv4Addr;
+use tc_fields::{Fields, FixedRecord, Octets, emit_record, is_settled_record, parse_record, record_len};
 
 /// How long a translation's record is, in bytes.
 pub const TC_NAT_LEN: usize = 36;

@@ -5,9 +5,8 @@ ghost use Rattle.tc_canon.specs.Layouts.{fq_codel_qd_stats, fq_codel_cl_stats};
 ghost use Rattle.tc_records.specs.RecordWords.{on, seen, Scalar, read_record, record_codec, same_scalars, scalars_equiv, scalars_per};
 ghost use Rattle.tc_records.specs.Statistics.{qd_stats_scalars, cl_stats_scalars};
 
-use crate::record::{is_settled_record, parse_record, record_len};
-use crate::{Fields, FixedRecord, Octets, emit_record};
 use nla_frames::{BytesMeaning, Emitable, Res, SettleBytes};
+use tc_fields::{Fields, FixedRecord, Octets, emit_record, is_settled_record, parse_record, record_len};
 
 /// How long the statistics of a qdisc are, in bytes.
 pub const TC_FQ_CODEL_QD_STATS_LEN: usize = 36;

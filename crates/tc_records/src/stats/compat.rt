@@ -5,9 +5,8 @@ ghost use Rattle.tc_canon.specs.Layouts.{stats};
 ghost use Rattle.tc_records.specs.RecordWords.{seen, Scalar, read_record, record_codec};
 ghost use Rattle.tc_records.specs.Statistics.{stats_scalars};
 
-use crate::record::{is_settled_record, parse_record, record_len};
-use crate::{Fields, FixedRecord, Octets, emit_record};
 use nla_frames::{BytesMeaning, Emitable, Res, SettleBytes};
+use tc_fields::{Fields, FixedRecord, Octets, emit_record, is_settled_record, parse_record, record_len};
 
 /// How long the statistics of a queue are, in bytes.
 pub const TC_STATS_LEN: usize = 40;

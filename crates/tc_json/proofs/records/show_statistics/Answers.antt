@@ -1,6 +1,6 @@
 use Rattle.std.proofs.Common.{sym, subst}
 use Rattle.std.specs.Prelude.{OnOk}
-use Rattle.tc_actions.specs.FqCodel.{fq_codel_xstats}
+use Rattle.tc_stats.specs.FqCodel.{fq_codel_xstats}
 use Rattle.tc_json.specs.Sent.{Sent}
 use Rattle.tc_json.specs.Events.{fq_codel_events}
 use Rattle.tc_json.proofs.records.show_statistics.Goals as goal

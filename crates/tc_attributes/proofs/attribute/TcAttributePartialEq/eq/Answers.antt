@@ -1,6 +1,6 @@
 use Rattle.std.proofs.Common.{◌∙◌}
 use Rattle.tc_meaning.specs.Equal.{same_each}
-use Rattle.tc_actions.specs.Stats2.{tc_stats2}
+use Rattle.tc_stats.specs.Stats2.{tc_stats2}
 use Rattle.tc_options.specs.Options.{tc_option}
 use Rattle.tc_attributes.proofs.attribute.TcAttributePartialEq.eq.Goals as goal
 

@@ -5,7 +5,7 @@ use Rattle.tc_canon.specs.Descriptor.{table, by_kind}
 use Rattle.tc_canon.specs.Tables.Messages.{attributes}
 use Rattle.tc_canon.specs.Tables.Statistics.{stats2}
 use Rattle.tc_values.proofs.Lists.{list_settles, list_is_typed}
-use Rattle.tc_actions.specs.Stats2.{tc_stats2}
+use Rattle.tc_stats.specs.Stats2.{tc_stats2}
 use Rattle.tc_canon.specs.Tables.Options.{option_kinds}
 use Rattle.tc_options.specs.Options.{tc_option}
 use Rattle.tc_attributes.proofs.Kept.{kept_shown}

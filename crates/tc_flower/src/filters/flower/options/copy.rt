@@ -2,7 +2,7 @@
 
 ghost use Rattle.tc_flower.specs.Flower.{IsCopy};
 
-use crate::filters::flower::mpls::TcFilterFlowerMplsOption;
+use tc_mpls::TcFilterFlowerMplsOption;
 use crate::filters::flower::options::TcFilterFlowerOption;
 use crate::filters::flower::options::held::Held;
 use std::alloc::{AllocError, Allocator};

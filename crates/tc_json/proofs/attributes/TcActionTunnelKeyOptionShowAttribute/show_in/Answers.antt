@@ -1,5 +1,5 @@
 use Rattle.std.proofs.Common.{refl}
-use Rattle.tc_actions.specs.TunnelKey.{tunnel_key_body}
+use Rattle.tc_action_options.specs.TunnelKey.{tunnel_key_body}
 use Rattle.tc_json.proofs.Rows.{row_shown}
 use Rattle.tc_json.proofs.attributes.TcActionTunnelKeyOptionShowAttribute.show_in.Goals as goal
 

@@ -1,5 +1,5 @@
 use Rattle.std.proofs.Common.{refl}
-use Rattle.tc_flower.specs.Mpls.{lse_lists}
+use Rattle.tc_mpls.specs.Mpls.{lse_lists}
 use Rattle.tc_json.proofs.Rows.{row_shown}
 use Rattle.tc_json.proofs.attributes.TcFilterFlowerMplsOptionShowAttribute.show_in.Goals as goal
 

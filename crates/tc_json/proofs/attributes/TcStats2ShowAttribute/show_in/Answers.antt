@@ -1,5 +1,5 @@
 use Rattle.std.proofs.Common.{refl}
-use Rattle.tc_actions.specs.Stats2.{stats2_body}
+use Rattle.tc_stats.specs.Stats2.{stats2_body}
 use Rattle.tc_json.proofs.Rows.{row_shown}
 use Rattle.tc_json.proofs.attributes.TcStats2ShowAttribute.show_in.Goals as goal
 

@@ -1,7 +1,7 @@
 use Rattle.tc_canon.specs.Tables.Actions.{mirror_options}
 use Rattle.tc_values.proofs.Rows.{shown_as}
-use Rattle.tc_actions.specs.Mirror.{mirror_body}
-use Rattle.tc_actions.proofs.Bodies.{is_mirror_body}
+use Rattle.tc_action_options.specs.Mirror.{mirror_body}
+use Rattle.tc_action_options.proofs.Bodies.{is_mirror_body}
 use Rattle.tc_json_laws.proofs.in_hand.TcActionMirrorOptionInHand.in_hand.Goals as goal
 
 pub returns : goal.returns

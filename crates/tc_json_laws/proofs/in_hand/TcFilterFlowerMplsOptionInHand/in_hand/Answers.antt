@@ -1,7 +1,7 @@
 use Rattle.tc_canon.specs.Tables.Flower.{mpls_options}
 use Rattle.tc_values.proofs.Rows.{shown_as}
-use Rattle.tc_flower.specs.Mpls.{lse_lists}
-use Rattle.tc_flower.proofs.Bodies.{are_lse_lists}
+use Rattle.tc_mpls.specs.Mpls.{lse_lists}
+use Rattle.tc_mpls.proofs.Bodies.{are_lse_lists}
 use Rattle.tc_json_laws.proofs.in_hand.TcFilterFlowerMplsOptionInHand.in_hand.Goals as goal
 
 pub returns : goal.returns

@@ -1,7 +1,7 @@
 use Rattle.tc_canon.specs.Tables.Statistics.{stats2}
 use Rattle.tc_values.proofs.Rows.{shown_as}
-use Rattle.tc_actions.specs.Stats2.{stats2_body}
-use Rattle.tc_actions.proofs.Bodies.{is_stats2_body}
+use Rattle.tc_stats.specs.Stats2.{stats2_body}
+use Rattle.tc_stats.proofs.Bodies.{is_stats2_body}
 use Rattle.tc_json_laws.proofs.in_hand.TcStats2InHand.in_hand.Goals as goal
 
 pub returns : goal.returns

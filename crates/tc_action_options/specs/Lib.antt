@@ -1,0 +1,4 @@
+pub mod Mirror
+pub mod Nat
+pub mod TunnelKey
+pub mod ActionOption

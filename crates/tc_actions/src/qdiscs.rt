@@ -1,4 +1,0 @@
-//! Queueing disciplines.
-
-pub mod fq_codel;
-mod types;

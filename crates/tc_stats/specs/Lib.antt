@@ -1,0 +1,3 @@
+pub mod FqCodel
+pub mod Xstats
+pub mod Stats2
