@@ -10,7 +10,9 @@ ghost use Rattle.tc_records.specs.Header.{handle_of, handle_number, header_scala
 use crate::same::both;
 use nla_frames::{AddressFamily, BytesMeaning, Res};
 use std::fmt;
-use tc_fields::{Fields, FixedRecord, Octets, emit_and_settle, is_settled_record, parse_record, same_family};
+use tc_fields::{
+    Fields, FixedRecord, Octets, emit_and_settle, is_settled_record, parse_record, same_family,
+};
 
 /// How long a header is, in bytes.
 pub const TC_HEADER_LEN: usize = 20;

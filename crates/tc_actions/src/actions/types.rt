@@ -1,6 +1,5 @@
 //! The types of actions and of their attributes.
 
-
 // Of a single action, `linux/rtnetlink.h`.
 pub(crate) const TCA_ACT_TAB: u16 = 1;
 

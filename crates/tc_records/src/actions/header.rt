@@ -7,7 +7,9 @@ ghost use Rattle.tc_records.specs.Actions.{action_message_header_scalars};
 
 use crate::same::both;
 use nla_frames::{AddressFamily, BytesMeaning, Res};
-use tc_fields::{Fields, FixedRecord, Octets, emit_and_settle, is_settled_record, parse_record, same_family};
+use tc_fields::{
+    Fields, FixedRecord, Octets, emit_and_settle, is_settled_record, parse_record, same_family,
+};
 
 /// How long a header is, in bytes.
 pub const TCA_HEADER_LEN: usize = 4;

@@ -8,8 +8,8 @@ ghost use Rattle.tc_records.specs.RecordWords.{on, seen, Scalar, SettledFields, 
 ghost use Rattle.tc_records.specs.MirrorActionType.{mirror_action_type_of, mirror_action_type_number, mirror_action_type_scalar};
 ghost use Rattle.tc_records.specs.Actions.{mirror_scalars};
 
-use crate::same::both;
 use crate::TcActionGeneric;
+use crate::same::both;
 use nla_frames::{BytesMeaning, Res};
 use tc_fields::{Fields, FixedRecord, Octets, emit_and_settle, is_settled_record, parse_record};
 

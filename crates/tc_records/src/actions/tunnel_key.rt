@@ -5,8 +5,8 @@ ghost use Rattle.tc_canon.specs.Layouts.{tunnel_key};
 ghost use Rattle.tc_records.specs.RecordWords.{on, seen, Scalar, SettledFields, read_record, record_codec, same_scalars, scalars_equiv, scalars_per};
 ghost use Rattle.tc_records.specs.Actions.{tunnel_key_scalars};
 
-use crate::same::both;
 use crate::TcActionGeneric;
+use crate::same::both;
 use nla_frames::{BytesMeaning, Res};
 use tc_fields::{Fields, FixedRecord, Octets, emit_and_settle, is_settled_record, parse_record};
 

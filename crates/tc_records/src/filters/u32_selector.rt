@@ -13,8 +13,8 @@ ghost use Rattle.tc_meaning.specs.Content.{Selector, read_record, read_keys, rea
 ghost use Rattle.tc_meaning.specs.Equal.{same_scalars, same_selector, scalars_equiv, scalars_per, selector_equiv, selector_per};
 ghost use Rattle.tc_records.specs.Selector.{key_scalars, keys_bytes, head_scalars, selector_of, empty_selector};
 
-use crate::same::both;
 use crate::TcU32SelectorFlags;
+use crate::same::both;
 use bitflags::Flags;
 use nla_frames::laws::in_hand::{u8_in_hand, u16_in_hand, u32_in_hand};
 use nla_frames::{BytesMeaning, DecodeError, Emitable, Res, SettleBytes, put_bytes};

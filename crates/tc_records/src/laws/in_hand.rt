@@ -7,7 +7,7 @@ ghost use Rattle.tc_records.specs.Header.{header_scalars};
 ghost use Rattle.tc_records.specs.Actions.{action_message_header_scalars};
 
 use crate::{TcActionMessageHeader, TcHeader};
-use tc_fields::{FixedRecord};
+use tc_fields::FixedRecord;
 
 /// The header of a traffic control message.
 pub fn header_in_hand(header: &TcHeader)

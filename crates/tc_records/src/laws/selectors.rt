@@ -6,7 +6,7 @@ ghost use Rattle.tc_records.specs.Selector.{key_scalars, selector_of};
 
 use crate::{TcU32Key, TcU32Selector};
 use std::alloc::Allocator;
-use tc_fields::{FixedRecord};
+use tc_fields::FixedRecord;
 
 /// Selectors that contracts see alike have the same fields and the same keys.
 pub fn selector_forgets_nothing<A: Allocator>(a: &TcU32Selector<A>, b: &TcU32Selector<A>)

@@ -9,12 +9,12 @@ ghost use Rattle.tc_flower.specs.Flower.{flower_option};
 ghost use Rattle.tc_flower.specs.Held.{held_at, is_held_at, are_labels, IsListHeld};
 ghost use Rattle.tc_flower.specs.Spans.{holds};
 
-use tc_mpls::TcFilterFlowerMplsOption;
 use crate::filters::flower::options::*;
 use nla_frames::{DefaultNla, NLA_TYPE_MASK, Nla};
 use std::alloc::Allocator;
 use std::net::{Ipv4Addr, Ipv6Addr};
 use tc_actions::TcAction;
+use tc_mpls::TcFilterFlowerMplsOption;
 
 // The value that an option holds.
 #[derive(Drop)]
