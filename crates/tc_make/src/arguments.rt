@@ -48,7 +48,7 @@ fn command<'a>(alloc: Global) -> Result<Command<'a>, AllocError> {
         "Make of each dump the request that restores it",
     );
     Command::new(alloc, "tcmake")
-        .version("1.0")
+        .version("0.1.0")
         .about(ABOUT)
         .after_help(STATUSES)
         .arg(no_header.conflicts_with("pcap")?)?
