@@ -89,8 +89,9 @@ fn read_text(alloc: Global, text: &str) -> Result<Value, ReadError>
             Ok(path) => Err(ReadError::Repeated { path }),
             Err(_) => Err(ReadError::OutOfMemory),
         },
-        Err(json::Error::OutOfMemory) => Err(ReadError::OutOfMemory),
-        Err(json::Error::Invalid | json::Error::TooLong) => Err(ReadError::NoJson { column: 0 }),
+        // What `serde_json` reads `json` reads too.
+        Err(json::Error::Invalid) => Err(ReadError::NoJson { column: 0 }),
+        Err(json::Error::OutOfMemory | json::Error::TooLong) => Err(ReadError::OutOfMemory),
     }
 }
 

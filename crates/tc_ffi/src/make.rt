@@ -5,10 +5,9 @@ ghost use Rattle.tc_ffi.specs.Makes.{Makes, IsTold};
 
 use crate::called::Called;
 use crate::place::place;
-use serde_json::Value;
 use std::alloc::Global;
 use std::fmt::Display;
-use tc_build::MakeError;
+use tc_build::{MakeError, ReadError, read_json};
 use tc_status::{NO_MESSAGE, NOT_JSON, OUT_OF_MEMORY};
 
 /// Writes the message that is shown as this JSON at the front of the buffer, where it has room, and how many bytes it
@@ -27,18 +26,23 @@ pub fn make<M: Called>(
     ensures quiet { result ≢ 15 → result ≢ 16 → why_length.new ≡ 0 }
 {
     *why_length = 0;
-    match Value::from_slice(alloc, text) {
+    match read_json(alloc, text) {
         Ok(json) => match M::make(alloc, &json) {
             Ok(bytes) => place(&bytes, buffer, length),
             Err(MakeError::OutOfMemory) => OUT_OF_MEMORY,
             Err(error) => tell(alloc, &error, NO_MESSAGE, why, why_length),
         },
-        Err(error) => {
-            if error.is_memory() {
-                return OUT_OF_MEMORY;
-            }
-            tell(alloc, &error, NOT_JSON, why, why_length)
+        Err(ReadError::OutOfMemory) => OUT_OF_MEMORY,
+        Err(ReadError::NoJson { column }) => {
+            tell(
+                alloc,
+                &ReadError::NoJson { column },
+                NOT_JSON,
+                why,
+                why_length,
+            )
         }
+        Err(error) => tell(alloc, &error, NO_MESSAGE, why, why_length),
     }
 }
 
