@@ -1,1 +1,1 @@
-mod Deeper
+mod Unread

@@ -1,5 +1,5 @@
 use Rattle.std.proofs.Common.{Err, ap}
-use Rattle.tc_build.proofs.Deeper.{unread}
+use Rattle.tc_build.proofs.Unread.{unread}
 use Rattle.tc_build.proofs.read.read_text.Goals as goal
 
 pub returns-in-Err-Invalid-clause-refused : goal.returns-in-Err-Invalid-clause-refused
