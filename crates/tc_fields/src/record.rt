@@ -100,25 +100,3 @@ pub fn is_settled_record<R: FixedRecord<N>, const N: usize>(value: &R) -> bool
     value.held();
     value.is_settled()
 }
-
-/// Writes the impls of `Emitable` and `SettleBytes` for a record, which are the same for all.
-#[macro_export]
-macro_rules! emit_and_settle {
-    ($record:ty) => {
-        impl nla_frames::Emitable for $record {
-            fn checked_len(&self) -> Option<usize> {
-                $crate::record_len(self)
-            }
-
-            fn emit(&self, buffer: &mut [u8]) {
-                $crate::emit_record(self, buffer);
-            }
-        }
-
-        impl nla_frames::SettleBytes for $record {
-            fn is_settled_under(&self, _kind: &str) -> bool {
-                $crate::is_settled_record(self)
-            }
-        }
-    };
-}

@@ -8,10 +8,11 @@ ghost use Rattle.tc_records.specs.RecordWords.{on, seen, Scalar, SettledFields, 
 ghost use Rattle.tc_records.specs.Header.{handle_of, handle_number, header_scalars};
 
 use crate::same::both;
-use nla_frames::{AddressFamily, BytesMeaning, Res};
+use nla_frames::{AddressFamily, BytesMeaning, Emitable, Res, SettleBytes};
 use std::fmt;
 use tc_fields::{
-    Fields, FixedRecord, Octets, emit_and_settle, is_settled_record, parse_record, same_family,
+    Fields, FixedRecord, Octets, emit_record, is_settled_record, parse_record, record_len,
+    same_family,
 };
 
 /// How long a header is, in bytes.
@@ -243,4 +244,18 @@ impl BytesMeaning for TcHeader {
     ghost codec = { record_codec tc_header };
 }
 
-emit_and_settle!(TcHeader);
+impl Emitable for TcHeader {
+    fn checked_len(&self) -> Option<usize> {
+        record_len(self)
+    }
+
+    fn emit(&self, buffer: &mut [u8]) {
+        emit_record(self, buffer);
+    }
+}
+
+impl SettleBytes for TcHeader {
+    fn is_settled_under(&self, _kind: &str) -> bool {
+        is_settled_record(self)
+    }
+}

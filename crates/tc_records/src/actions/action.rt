@@ -9,8 +9,10 @@ ghost use Rattle.tc_records.specs.ActionType.{action_type_of, action_type_number
 ghost use Rattle.tc_records.specs.Actions.{generic_scalars, same_generic_then};
 
 use crate::same::both;
-use nla_frames::{BytesMeaning, Res};
-use tc_fields::{Fields, FixedRecord, Octets, emit_and_settle, is_settled_record, parse_record};
+use nla_frames::{BytesMeaning, Emitable, Res, SettleBytes};
+use tc_fields::{
+    Fields, FixedRecord, Octets, emit_record, is_settled_record, parse_record, record_len,
+};
 
 /// How long the generic part is, in bytes.
 pub const TC_ACTION_GENERIC_LEN: usize = 20;
@@ -251,4 +253,18 @@ impl BytesMeaning for TcActionGeneric {
     ghost codec = { record_codec action_generic };
 }
 
-emit_and_settle!(TcActionGeneric);
+impl Emitable for TcActionGeneric {
+    fn checked_len(&self) -> Option<usize> {
+        record_len(self)
+    }
+
+    fn emit(&self, buffer: &mut [u8]) {
+        emit_record(self, buffer);
+    }
+}
+
+impl SettleBytes for TcActionGeneric {
+    fn is_settled_under(&self, _kind: &str) -> bool {
+        is_settled_record(self)
+    }
+}

@@ -6,9 +6,10 @@ ghost use Rattle.tc_records.specs.RecordWords.{on, seen, Scalar, SettledFields, 
 ghost use Rattle.tc_records.specs.Actions.{action_message_header_scalars};
 
 use crate::same::both;
-use nla_frames::{AddressFamily, BytesMeaning, Res};
+use nla_frames::{AddressFamily, BytesMeaning, Emitable, Res, SettleBytes};
 use tc_fields::{
-    Fields, FixedRecord, Octets, emit_and_settle, is_settled_record, parse_record, same_family,
+    Fields, FixedRecord, Octets, emit_record, is_settled_record, parse_record, record_len,
+    same_family,
 };
 
 /// How long a header is, in bytes.
@@ -93,4 +94,18 @@ impl BytesMeaning for TcActionMessageHeader {
     ghost codec = { record_codec action_message_header };
 }
 
-emit_and_settle!(TcActionMessageHeader);
+impl Emitable for TcActionMessageHeader {
+    fn checked_len(&self) -> Option<usize> {
+        record_len(self)
+    }
+
+    fn emit(&self, buffer: &mut [u8]) {
+        emit_record(self, buffer);
+    }
+}
+
+impl SettleBytes for TcActionMessageHeader {
+    fn is_settled_under(&self, _kind: &str) -> bool {
+        is_settled_record(self)
+    }
+}

@@ -10,8 +10,10 @@ ghost use Rattle.tc_records.specs.Actions.{mirror_scalars};
 
 use crate::TcActionGeneric;
 use crate::same::both;
-use nla_frames::{BytesMeaning, Res};
-use tc_fields::{Fields, FixedRecord, Octets, emit_and_settle, is_settled_record, parse_record};
+use nla_frames::{BytesMeaning, Emitable, Res, SettleBytes};
+use tc_fields::{
+    Fields, FixedRecord, Octets, emit_record, is_settled_record, parse_record, record_len,
+};
 
 /// How long a mirror's record is, in bytes.
 pub const TC_MIRROR_LEN: usize = 28;
@@ -206,4 +208,18 @@ impl BytesMeaning for TcMirror {
     ghost codec = { record_codec mirror };
 }
 
-emit_and_settle!(TcMirror);
+impl Emitable for TcMirror {
+    fn checked_len(&self) -> Option<usize> {
+        record_len(self)
+    }
+
+    fn emit(&self, buffer: &mut [u8]) {
+        emit_record(self, buffer);
+    }
+}
+
+impl SettleBytes for TcMirror {
+    fn is_settled_under(&self, _kind: &str) -> bool {
+        is_settled_record(self)
+    }
+}

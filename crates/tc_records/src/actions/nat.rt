@@ -8,9 +8,11 @@ ghost use Rattle.tc_records.specs.Actions.{nat_scalars};
 use crate::same::both;
 use crate::{TcActionGeneric, TcNatFlags};
 use bitflags::Flags;
-use nla_frames::{BytesMeaning, Res};
+use nla_frames::{BytesMeaning, Emitable, Res, SettleBytes};
 use std::net::Ipv4Addr;
-use tc_fields::{Fields, FixedRecord, Octets, emit_and_settle, is_settled_record, parse_record};
+use tc_fields::{
+    Fields, FixedRecord, Octets, emit_record, is_settled_record, parse_record, record_len,
+};
 
 /// How long a translation's record is, in bytes.
 pub const TC_NAT_LEN: usize = 36;
@@ -135,4 +137,18 @@ impl BytesMeaning for TcNat {
     ghost codec = { record_codec nat };
 }
 
-emit_and_settle!(TcNat);
+impl Emitable for TcNat {
+    fn checked_len(&self) -> Option<usize> {
+        record_len(self)
+    }
+
+    fn emit(&self, buffer: &mut [u8]) {
+        emit_record(self, buffer);
+    }
+}
+
+impl SettleBytes for TcNat {
+    fn is_settled_under(&self, _kind: &str) -> bool {
+        is_settled_record(self)
+    }
+}

@@ -5,8 +5,10 @@ ghost use Rattle.tc_canon.specs.Layouts.{tcf};
 ghost use Rattle.tc_records.specs.RecordWords.{seen, Scalar, read_record, record_codec};
 ghost use Rattle.tc_records.specs.Tcf.{tcf_scalars};
 
-use nla_frames::{BytesMeaning, Res};
-use tc_fields::{Fields, FixedRecord, Octets, emit_and_settle, parse_record};
+use nla_frames::{BytesMeaning, Emitable, Res, SettleBytes};
+use tc_fields::{
+    Fields, FixedRecord, Octets, emit_record, is_settled_record, parse_record, record_len,
+};
 
 /// How long the times of an action are, in bytes.
 pub const TCF_LEN: usize = 32;
@@ -82,4 +84,18 @@ impl BytesMeaning for Tcf {
     ghost codec = { record_codec tcf };
 }
 
-emit_and_settle!(Tcf);
+impl Emitable for Tcf {
+    fn checked_len(&self) -> Option<usize> {
+        record_len(self)
+    }
+
+    fn emit(&self, buffer: &mut [u8]) {
+        emit_record(self, buffer);
+    }
+}
+
+impl SettleBytes for Tcf {
+    fn is_settled_under(&self, _kind: &str) -> bool {
+        is_settled_record(self)
+    }
+}

@@ -7,8 +7,10 @@ ghost use Rattle.tc_records.specs.Actions.{tunnel_key_scalars};
 
 use crate::TcActionGeneric;
 use crate::same::both;
-use nla_frames::{BytesMeaning, Res};
-use tc_fields::{Fields, FixedRecord, Octets, emit_and_settle, is_settled_record, parse_record};
+use nla_frames::{BytesMeaning, Emitable, Res, SettleBytes};
+use tc_fields::{
+    Fields, FixedRecord, Octets, emit_record, is_settled_record, parse_record, record_len,
+};
 
 /// How long a tunnel key's record is, in bytes.
 pub const TC_TUNNEL_KEY_LEN: usize = 24;
@@ -97,4 +99,18 @@ impl BytesMeaning for TcTunnelKey {
     ghost codec = { record_codec tunnel_key };
 }
 
-emit_and_settle!(TcTunnelKey);
+impl Emitable for TcTunnelKey {
+    fn checked_len(&self) -> Option<usize> {
+        record_len(self)
+    }
+
+    fn emit(&self, buffer: &mut [u8]) {
+        emit_record(self, buffer);
+    }
+}
+
+impl SettleBytes for TcTunnelKey {
+    fn is_settled_under(&self, _kind: &str) -> bool {
+        is_settled_record(self)
+    }
+}

@@ -19,7 +19,9 @@ use bitflags::Flags;
 use nla_frames::laws::in_hand::{u8_in_hand, u16_in_hand, u32_in_hand};
 use nla_frames::{BytesMeaning, DecodeError, Emitable, Res, SettleBytes, put_bytes};
 use std::alloc::{Allocator, Global};
-use tc_fields::{Fields, FixedRecord, Octets, emit_and_settle, parse_record};
+use tc_fields::{
+    Fields, FixedRecord, Octets, emit_record, is_settled_record, parse_record, record_len,
+};
 
 /// How long a key is, in bytes.
 pub const TC_U32_KEY_LEN: usize = 16;
@@ -122,7 +124,21 @@ impl BytesMeaning for TcU32Key {
     ghost codec = { record_codec selector_key };
 }
 
-emit_and_settle!(TcU32Key);
+impl Emitable for TcU32Key {
+    fn checked_len(&self) -> Option<usize> {
+        record_len(self)
+    }
+
+    fn emit(&self, buffer: &mut [u8]) {
+        emit_record(self, buffer);
+    }
+}
+
+impl SettleBytes for TcU32Key {
+    fn is_settled_under(&self, _kind: &str) -> bool {
+        is_settled_record(self)
+    }
+}
 
 // So many keys, one after the other.
 fn parse_keys<A: Allocator>(alloc: A, count: u8, fields: Fields<'_>) -> Res<Vec<TcU32Key, A>>

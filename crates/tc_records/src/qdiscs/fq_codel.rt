@@ -5,8 +5,10 @@ ghost use Rattle.tc_canon.specs.Layouts.{fq_codel_qd_stats, fq_codel_cl_stats};
 ghost use Rattle.tc_records.specs.RecordWords.{on, seen, Scalar, read_record, record_codec, same_scalars, scalars_equiv, scalars_per};
 ghost use Rattle.tc_records.specs.Statistics.{qd_stats_scalars, cl_stats_scalars};
 
-use nla_frames::{BytesMeaning, Res};
-use tc_fields::{Fields, FixedRecord, Octets, emit_and_settle, parse_record};
+use nla_frames::{BytesMeaning, Emitable, Res, SettleBytes};
+use tc_fields::{
+    Fields, FixedRecord, Octets, emit_record, is_settled_record, parse_record, record_len,
+};
 
 /// How long the statistics of a qdisc are, in bytes.
 pub const TC_FQ_CODEL_QD_STATS_LEN: usize = 36;
@@ -110,7 +112,21 @@ impl BytesMeaning for TcFqCodelQdStats {
     ghost codec = { record_codec fq_codel_qd_stats };
 }
 
-emit_and_settle!(TcFqCodelQdStats);
+impl Emitable for TcFqCodelQdStats {
+    fn checked_len(&self) -> Option<usize> {
+        record_len(self)
+    }
+
+    fn emit(&self, buffer: &mut [u8]) {
+        emit_record(self, buffer);
+    }
+}
+
+impl SettleBytes for TcFqCodelQdStats {
+    fn is_settled_under(&self, _kind: &str) -> bool {
+        is_settled_record(self)
+    }
+}
 
 /// The statistics of a class, which is one flow, `struct tc_fq_codel_cl_stats` of `linux/pkt_sched.h`: six numbers,
 /// little-endian. They are read and written, and shown by `Debug`.
@@ -222,4 +238,18 @@ impl BytesMeaning for TcFqCodelClStats {
     ghost codec = { record_codec fq_codel_cl_stats };
 }
 
-emit_and_settle!(TcFqCodelClStats);
+impl Emitable for TcFqCodelClStats {
+    fn checked_len(&self) -> Option<usize> {
+        record_len(self)
+    }
+
+    fn emit(&self, buffer: &mut [u8]) {
+        emit_record(self, buffer);
+    }
+}
+
+impl SettleBytes for TcFqCodelClStats {
+    fn is_settled_under(&self, _kind: &str) -> bool {
+        is_settled_record(self)
+    }
+}

@@ -5,8 +5,10 @@ ghost use Rattle.tc_canon.specs.Layouts.{stats_basic};
 ghost use Rattle.tc_records.specs.RecordWords.{seen, Scalar, read_record, record_codec};
 ghost use Rattle.tc_records.specs.Statistics.{basic_scalars};
 
-use nla_frames::{BytesMeaning, Res};
-use tc_fields::{Fields, FixedRecord, Octets, emit_and_settle, parse_record};
+use nla_frames::{BytesMeaning, Emitable, Res, SettleBytes};
+use tc_fields::{
+    Fields, FixedRecord, Octets, emit_record, is_settled_record, parse_record, record_len,
+};
 
 /// How long basic statistics are, in bytes.
 pub const TC_STATS_BASIC_LEN: usize = 16;
@@ -75,4 +77,18 @@ impl BytesMeaning for TcStatsBasic {
     ghost codec = { record_codec stats_basic };
 }
 
-emit_and_settle!(TcStatsBasic);
+impl Emitable for TcStatsBasic {
+    fn checked_len(&self) -> Option<usize> {
+        record_len(self)
+    }
+
+    fn emit(&self, buffer: &mut [u8]) {
+        emit_record(self, buffer);
+    }
+}
+
+impl SettleBytes for TcStatsBasic {
+    fn is_settled_under(&self, _kind: &str) -> bool {
+        is_settled_record(self)
+    }
+}

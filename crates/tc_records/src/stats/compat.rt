@@ -5,8 +5,10 @@ ghost use Rattle.tc_canon.specs.Layouts.{stats};
 ghost use Rattle.tc_records.specs.RecordWords.{seen, Scalar, read_record, record_codec};
 ghost use Rattle.tc_records.specs.Statistics.{stats_scalars};
 
-use nla_frames::{BytesMeaning, Res};
-use tc_fields::{Fields, FixedRecord, Octets, emit_and_settle, parse_record};
+use nla_frames::{BytesMeaning, Emitable, Res, SettleBytes};
+use tc_fields::{
+    Fields, FixedRecord, Octets, emit_record, is_settled_record, parse_record, record_len,
+};
 
 /// How long the statistics of a queue are, in bytes.
 pub const TC_STATS_LEN: usize = 40;
@@ -107,4 +109,18 @@ impl BytesMeaning for TcStats {
     ghost codec = { record_codec stats };
 }
 
-emit_and_settle!(TcStats);
+impl Emitable for TcStats {
+    fn checked_len(&self) -> Option<usize> {
+        record_len(self)
+    }
+
+    fn emit(&self, buffer: &mut [u8]) {
+        emit_record(self, buffer);
+    }
+}
+
+impl SettleBytes for TcStats {
+    fn is_settled_under(&self, _kind: &str) -> bool {
+        is_settled_record(self)
+    }
+}

@@ -5,8 +5,10 @@ ghost use Rattle.tc_canon.specs.Layouts.{stats_queue};
 ghost use Rattle.tc_records.specs.RecordWords.{seen, Scalar, read_record, record_codec};
 ghost use Rattle.tc_records.specs.Statistics.{queue_scalars};
 
-use nla_frames::{BytesMeaning, Res};
-use tc_fields::{Fields, FixedRecord, Octets, emit_and_settle, parse_record};
+use nla_frames::{BytesMeaning, Emitable, Res, SettleBytes};
+use tc_fields::{
+    Fields, FixedRecord, Octets, emit_record, is_settled_record, parse_record, record_len,
+};
 
 /// How long queue statistics are, in bytes.
 pub const TC_STATS_QUEUE_LEN: usize = 20;
@@ -88,4 +90,18 @@ impl BytesMeaning for TcStatsQueue {
     ghost codec = { record_codec stats_queue };
 }
 
-emit_and_settle!(TcStatsQueue);
+impl Emitable for TcStatsQueue {
+    fn checked_len(&self) -> Option<usize> {
+        record_len(self)
+    }
+
+    fn emit(&self, buffer: &mut [u8]) {
+        emit_record(self, buffer);
+    }
+}
+
+impl SettleBytes for TcStatsQueue {
+    fn is_settled_under(&self, _kind: &str) -> bool {
+        is_settled_record(self)
+    }
+}
