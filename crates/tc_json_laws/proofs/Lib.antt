@@ -8,3 +8,6 @@ pub mod Attributes
 pub mod Trees
 pub mod WholeMessages
 mod WrittenBack
+mod Written
+mod WrittenRecords
+mod WrittenTrees

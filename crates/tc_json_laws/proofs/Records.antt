@@ -145,7 +145,7 @@ field_back holds.ActionType = named_back holds.ActionType ActionTypes 4 (λ a. r
 field_back holds.MirrorType = named_back holds.MirrorType MirrorTypes 4 (λ a. refl) signed_32
 
 -- the layout of fields that have names
-abbrev named_layout : List NamedField → List Field
+abbrev pub named_layout : List NamedField → List Field
 named_layout [] = []
 named_layout (a_field form name ∷ fs) = form_field form ∷ named_layout fs
 named_layout (pad_bytes n ∷ fs) = pad n ∷ named_layout fs
@@ -173,7 +173,7 @@ fields_back (pad_bytes n ∷ fs) (x ∷ xs) (y ∷ ys) r s h k e =
 fields_back (part_begins name ∷ fs) xs ys r s h k e = fields_back fs xs ys r s h k (ap after_two e)
 fields_back (part_ends ∷ fs) xs ys r s h k e = fields_back fs xs ys r s h k (ap after e)
 
-same_layout : (f : Fixed) → named_layout (field_names_in f) ≡ layout f
+pub same_layout : (f : Fixed) → named_layout (field_names_in f) ≡ layout f
 same_layout fixed.Header = refl
 same_layout fixed.ActionHeader = refl
 same_layout fixed.Stats = refl

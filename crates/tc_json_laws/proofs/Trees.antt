@@ -26,17 +26,17 @@ use Rattle.tc_json_laws.proofs.Attributes.{known_is, action_is, other_is, kept_i
 
 -- ---- what is sent of an attribute
 
-action_sent : (t : Table) (n : ℕ) (x : Content) → is_actions t ≡ true
+pub action_sent : (t : Table) (n : ℕ) (x : Content) → is_actions t ≡ true
     → attribute_events t (known n x) ≡ action_events n (content_events (form.ListOf the.Action) x)
 action_sent t n x u =
     ap (λ b. if b then action_events n (content_events (form.ListOf the.Action) x) else variant (name_at t n) (content_events (form_at t n) x)) u
 
-known_sent : (t : Table) (n : ℕ) (x : Content) → is_actions t ≡ false
+pub known_sent : (t : Table) (n : ℕ) (x : Content) → is_actions t ≡ false
     → attribute_events t (known n x) ≡ variant (name_at t n) (content_events (form_at t n) x)
 known_sent t n x u =
     ap (λ b. if b then action_events n (content_events (form.ListOf the.Action) x) else variant (name_at t n) (content_events (form_at t n) x)) u
 
-kind_sent : (t : Table) (name : List ℕ) (x : Attribute) (k : NamedKind) → kind_at (kind_names_in t) name ≡ Some k
+pub kind_sent : (t : Table) (name : List ℕ) (x : Attribute) (k : NamedKind) → kind_at (kind_names_in t) name ≡ Some k
     → attribute_events t (of_kind name x) ≡ variant k.name (attribute_events k.table x)
 kind_sent t name x k e = ap (λ at. variant (kind_name at) (attribute_events (kind_table at) x)) e
 

@@ -30,7 +30,7 @@ pub contents_injective : (f : Form) → IsInjectiveOn (HasForm f) (content_event
 contents_injective f c d h k e = (content_back f c d [] [] h k (ap (λ es. es ++ []) e)).0
 
 -- a list of attributes is a content of its form
-as_list : (t : Table) (xs : List Attribute) → AllByRecursion (IsOf t) xs → HasForm (form.ListOf t) (items (attributes_of xs))
+pub as_list : (t : Table) (xs : List Attribute) → AllByRecursion (IsOf t) xs → HasForm (form.ListOf t) (items (attributes_of xs))
 as_list t xs h = (ap (λ ys. items (attributes_of ys)) (listed_back xs), subst (AllByRecursion (IsOf t)) (sym (listed_back xs)) h)
 
 pub message_injective : (f : Fixed) (t : Table) (m n : Message) → TypedFields (layout f) m.header → TypedFields (layout f) n.header

@@ -2,7 +2,11 @@
 //! two messages differ only where what is sent of them does.
 #![tactic(auto)]
 
-ghost use Rattle.std.specs.Prelude.{◌≡◌, ◌↔◌, IsTrue, true};
+ghost use Rattle.std.specs.Prelude.{◌≡◌, ◌↔◌, IsTrue, true, ℕ, List, Some};
+ghost use Rattle.json.specs.Lex.{tokens};
+ghost use Rattle.serde_json.specs.Data.{Data};
+ghost use Rattle.serde_json.specs.Sent.{AreTokensOf};
+ghost use Rattle.serde_json.specs.Read.{of_json, read};
 ghost use Rattle.tc_meaning.specs.Message.{Message};
 ghost use Rattle.tc_canon.specs.Canonical.{CanonTc, CanonAct};
 ghost use Rattle.tc_meaning.specs.Whole.{ReadsTc, ReadsAct, TypedTc, TypedAct, tc_bytes, act_bytes};
@@ -13,6 +17,7 @@ ghost use Rattle.tc_json.specs.Events.{tc_events, action_message_events, attribu
 ghost use Rattle.tc_messages.specs.Message.{tc_message};
 ghost use Rattle.tc_action_messages.specs.ActionMessage.{action_message};
 ghost use Rattle.tc_json_laws.specs.Apart.{names_apart, kinds_apart};
+ghost use Rattle.tc_json_laws.specs.Tree.{tc_json, action_message_json};
 ghost use Rattle.tc_json_laws.specs.Injective.{IsOf, HasForm, IsInjectiveOn};
 
 mod in_hand;
@@ -105,4 +110,15 @@ pub fn injective_tables()
     ensures contents { (f : Form) → IsInjectiveOn (HasForm f) (content_events f) }
     ensures names { (t : Table) → names_apart (names_in t) ≡ true }
     ensures kinds { (t : Table) → kinds_apart (kind_names_in t) ≡ true }
+{}
+
+/// What is sent of a message is written as a text of one JSON value: that of the message's tree. `serde_json` reads it as this value, its
+/// objects in the order of their keys.
+pub fn json_of_messages()
+    ensures tc { (m : Message) (text : List ℕ) (json : Data) → TypedTc m
+        → AreTokensOf true (Some (tc_events m)) (tokens text) → read text ≡ Some json
+        → of_json (tc_json m) ≡ Some json }
+    ensures action { (m : Message) (text : List ℕ) (json : Data) → TypedAct m
+        → AreTokensOf true (Some (action_message_events m)) (tokens text) → read text ≡ Some json
+        → of_json (action_message_json m) ≡ Some json }
 {}
