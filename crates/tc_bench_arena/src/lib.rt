@@ -1,8 +1,6 @@
-//! The calls that the benchmark times in an arena, which is emptied after each time. They are an archive of their own, so that the library for C has
-//! the codec's code once.
+//! What the benchmark times in an arena. It is an archive of its own, so that the library for C has the code of all types once.
 #![tactic(auto)]
 
-mod action;
+mod calls;
 mod in_arena;
-mod tc;
 mod timed;
