@@ -477,9 +477,9 @@ static void print_blocks(size_t n) {
 static void print_arena(size_t n) {
     static const size_t BY_MALLOC[] = {PARSE, REWRITE, SETTLE};
     double logs[] = {0, 0, 0};
-    printf("\nNanoseconds in an arena, and as multiples of those by malloc:\n\n| %-16s | %7s |", "message", "bytes");
+    printf("\nNanoseconds in an arena, and over those by malloc:\n\n| %-16s | %7s |", "message", "bytes");
     for (size_t k = 0; k < 3; k++) printf(" %9s |", OPERATIONS[IN_ARENA + k].name);
-    for (size_t k = 0; k < 3; k++) printf(" %7s |", OPERATIONS[IN_ARENA + k].name);
+    for (size_t k = 0; k < 3; k++) printf(" %7s / malloc |", OPERATIONS[IN_ARENA + k].name);
     printf("\n|---|---:|---:|---:|---:|---:|---:|---:|\n");
     for (size_t i = 0; i < n; i++) {
         printf("| %-16s | %7zu |", messages[i].name, messages[i].len);
@@ -487,12 +487,12 @@ static void print_arena(size_t n) {
         for (size_t k = 0; k < 3; k++) {
             double ratio = ns_of(i, IN_ARENA + k) / ns_of(i, BY_MALLOC[k]);
             logs[k] += log(ratio);
-            printf(" %7.2f |", ratio);
+            printf(" %16.2f |", ratio);
         }
         printf("\n");
     }
     printf("| %-16s | %7s | %9s | %9s | %9s |", "geometric mean", "", "", "", "");
-    for (size_t k = 0; k < 3; k++) printf(" %7.2f |", exp(logs[k] / (double)n));
+    for (size_t k = 0; k < 3; k++) printf(" %16.2f |", exp(logs[k] / (double)n));
     printf("\n");
 }
 
