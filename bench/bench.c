@@ -1,4 +1,5 @@
-// Times what libtc_ffi.a does with messages: those of files of lines `NAME MODE HEX`, and longer ones that are made here.
+// Times what libtc_ffi.a does with messages, and libtc_bench_arena.a in an arena: those of files of lines `NAME MODE HEX`, and longer ones that are made
+// here.
 #define _GNU_SOURCE
 #include <malloc.h>
 #include <math.h>
@@ -23,6 +24,27 @@
 DECLARE(, vtc, tc)
 DECLARE(, vtc_action, action)
 
+// Those of crates/tc_bench_arena: the same in an arena, once and then again so many times. It is emptied in between.
+#define DECLARE_ARENA(TYPE)                                                                                                     \
+    uint32_t bench_arena_##TYPE##_parse(const uint8_t *bytes, size_t len, size_t again);                                        \
+    uint32_t bench_arena_##TYPE##_rewrite(const uint8_t *bytes, size_t len, uint8_t *buffer, size_t room, size_t again);        \
+    uint32_t bench_arena_##TYPE##_settle(const uint8_t *bytes, size_t len, uint8_t *buffer, size_t room, size_t again);
+
+DECLARE_ARENA(tc)
+DECLARE_ARENA(action)
+
+typedef uint32_t Write(const uint8_t *bytes, size_t len, uint8_t *buffer, size_t room, size_t again);
+
+// The calls in an arena for a type of message.
+typedef struct {
+    uint32_t (*parse)(const uint8_t *, size_t, size_t);
+    Write *rewrite, *settle;
+} Arena;
+
+#define ARENA_CALLS(TYPE) bench_arena_##TYPE##_parse, bench_arena_##TYPE##_rewrite, bench_arena_##TYPE##_settle
+
+static const Arena TC_ARENA = {ARENA_CALLS(tc)}, ACTION_ARENA = {ARENA_CALLS(action)};
+
 // A type of message: the size of its header, and its calls.
 typedef struct {
     const char *name;
@@ -34,23 +56,29 @@ typedef struct {
     uint8_t (*canonical)(const uint8_t *, size_t);
     uint32_t (*rewrite)(const uint8_t *, size_t, uint8_t *, size_t, size_t *);
     uint32_t (*settle)(const uint8_t *, size_t, uint8_t *, size_t, size_t *, size_t *);
+    const Arena *arena; // of the first library alone
 } Mode;
 
 #define CALLS(OLD, VTC, TYPE)                                                                                                   \
     OLD##bench_##TYPE##_parse, OLD##bench_##TYPE##_length, OLD##bench_##TYPE##_fits, OLD##bench_##TYPE##_emit,                  \
         OLD##bench_##TYPE##_canonical, OLD##VTC##_rewrite, OLD##VTC##_settle
 
-static const Mode TC = {"tc", 20, CALLS(, vtc, tc)}, ACTION = {"action", 4, CALLS(, vtc_action, action)};
+static const Mode TC = {"tc", 20, CALLS(, vtc, tc), &TC_ARENA};
+static const Mode ACTION = {"action", 4, CALLS(, vtc_action, action), &ACTION_ARENA};
 
 // A second library, whose exports `run` renamed, to be timed by turns with the first.
 #ifdef BESIDE
 DECLARE(old_, vtc, tc)
 DECLARE(old_, vtc_action, action)
 
-static const Mode OLD_TC = {"tc", 20, CALLS(old_, vtc, tc)}, OLD_ACTION = {"action", 4, CALLS(old_, vtc_action, action)};
+static const Mode OLD_TC = {"tc", 20, CALLS(old_, vtc, tc), NULL};
+static const Mode OLD_ACTION = {"action", 4, CALLS(old_, vtc_action, action), NULL};
 #endif
 
 enum { PASSES = 8, SAMPLES = 10, MOST_TIMES = 1 << 20, MOST_MESSAGES = 512, MOST_BYTES = 2 << 20, ACTIONS = 31 };
+
+// After how many times an arena has grown to what a message takes: each time it keeps its last block, and the next is twice as large.
+enum { GROWING = 3 };
 
 // How long one sample takes at least.
 static const double SAMPLE_NS = 300e3;
@@ -62,7 +90,7 @@ static void fail(const char *name, const char *what) {
 
 // ---- What operations write to. The first length is watched: what is freed once it is written, a message owned.
 
-static uint8_t *buffer;
+static uint8_t *buffer, *in_arena;
 static size_t *lengths;
 static uint8_t *verdicts;
 
@@ -214,6 +242,16 @@ static void canonical(const Message *m, size_t times) {
     for (size_t i = 0; i < times; i++) verdicts[0] = m->mode->canonical(m->bytes, m->len);
 }
 
+static void parse_in_arena(const Message *m, size_t times) { done(m, m->mode->arena->parse(m->bytes, m->len, GROWING + times)); }
+
+static void rewrite_in_arena(const Message *m, size_t times) {
+    done(m, m->mode->arena->rewrite(m->bytes, m->len, in_arena, MOST_BYTES, GROWING + times));
+}
+
+static void settle_in_arena(const Message *m, size_t times) {
+    done(m, m->mode->arena->settle(m->bytes, m->len, in_arena, MOST_BYTES, GROWING + times));
+}
+
 static void copy(const Message *m, size_t times) {
     for (size_t i = 0; i < times; i++) {
         memcpy(buffer, m->bytes, m->len);
@@ -237,11 +275,12 @@ static size_t of_message(const Message *m) { return m->owned; }
 // Those of the bytes, and of the message where these aren't canonical as they came.
 static size_t of_settling(const Message *m) { return 1 + (m->is_canonical ? 0 : m->owned); }
 
-// An operation. Where it reads the message once, whatever the times, that is measured by no times at all and taken off.
+// An operation. Where it does something once, whatever the times, as reading the message or growing an arena, that is measured by no times at all and
+// taken off.
 typedef struct {
     const char *name;
     void (*run)(const Message *, size_t);
-    bool reads_once;
+    bool begins;
     size_t (*owned)(const Message *);
 } Operation;
 
@@ -251,13 +290,22 @@ static const Operation OPERATIONS[] = {
     {"rewrite", rewrite, false, of_message}, {"settle", settle, false, of_settling},
     {"canonical", canonical, false, none},   {"memcpy", copy, false, none},
     {"malloc+free", allocate, false, none},
+    {"parse", parse_in_arena, true, none}, {"rewrite", rewrite_in_arena, true, none},
+    {"settle", settle_in_arena, true, none},
 };
 
-// The last two are what the others are compared to.
-enum { OPERATION_COUNT = sizeof OPERATIONS / sizeof OPERATIONS[0], TIMED = OPERATION_COUNT - 2, COPY = TIMED, ALLOCATE };
+// The last three are those in an arena, and the two before them what the others are compared to.
+enum { OPERATION_COUNT = sizeof OPERATIONS / sizeof OPERATIONS[0], IN_ARENA = OPERATION_COUNT - 3, TIMED = IN_ARENA - 2, COPY = TIMED, ALLOCATE };
 
 // Which operation is the first, which judges, and which writes.
-enum { PARSE = 0, FITS = 2, EMIT = 3 };
+enum { PARSE = 0, FITS = 2, EMIT = 3, REWRITE = 4, SETTLE = 5 };
+
+// Beside a second library those in an arena aren't timed.
+#ifdef BESIDE
+enum { MEASURED = IN_ARENA };
+#else
+enum { MEASURED = OPERATION_COUNT };
+#endif
 
 // ---- Measuring.
 
@@ -282,16 +330,16 @@ typedef struct {
 static double least_of(double a, double b) { return a < b ? a : b; }
 
 static Measure calibrate(const Operation *op, const Message *m) {
-    double at_rest = op->reads_once ? time_of(op, m, 0) : 0, wanted = SAMPLE_NS > 4 * at_rest ? SAMPLE_NS : 4 * at_rest;
+    double at_rest = op->begins ? time_of(op, m, 0) : 0, wanted = SAMPLE_NS > 4 * at_rest ? SAMPLE_NS : 4 * at_rest;
     size_t times = 4;
     while (times < MOST_TIMES && time_of(op, m, times) - at_rest < wanted) times *= 2;
-    return (Measure){times, op->reads_once ? 1e18 : 0, 1e18};
+    return (Measure){times, op->begins ? 1e18 : 0, 1e18};
 }
 
 static void sample(Measure *measure, const Operation *op, const Message *m) {
     for (int i = 0; i < SAMPLES; i++) {
         measure->at_work = least_of(measure->at_work, time_of(op, m, measure->times));
-        if (op->reads_once) measure->at_rest = least_of(measure->at_rest, time_of(op, m, 0));
+        if (op->begins) measure->at_rest = least_of(measure->at_rest, time_of(op, m, 0));
     }
 }
 
@@ -306,8 +354,15 @@ static Blocks blocks_of(const Operation *op, const Message *m, size_t times) {
 
 // The blocks of one time.
 static Blocks count_blocks(const Operation *op, const Message *m) {
-    Blocks at_rest = op->reads_once ? blocks_of(op, m, 0) : (Blocks){0, 0, 0}, all = blocks_of(op, m, 1);
+    Blocks at_rest = op->begins ? blocks_of(op, m, 0) : (Blocks){0, 0, 0}, all = blocks_of(op, m, 1);
     return (Blocks){all.taken - at_rest.taken, all.grown - at_rest.grown, 0};
+}
+
+// In an arena the same bytes are written, also once it was emptied, and nothing behind them.
+static void check_in_arena(const Message *m, Write *write, size_t written) {
+    memset(in_arena, 0x55, written + 1);
+    done(m, write(m->bytes, m->len, in_arena, MOST_BYTES, 1));
+    if (memcmp(in_arena, buffer, written) != 0 || in_arena[written] != 0x55) fail(m->name, "other bytes in the arena");
 }
 
 // What is timed is right: the lengths, the verdicts, the bytes of a canonical message, and how many rewrites settle it. Finds
@@ -323,6 +378,7 @@ static void check(Message *m) {
     memset(buffer, 0x55, lengths[0] + 1);
     rewrite(m, 1);
     if (buffer[lengths[0]] != 0x55) fail(m->name, "more bytes than its length");
+    if (m->mode->arena) check_in_arena(m, m->mode->arena->rewrite, lengths[0]);
     canonical(m, 1);
     m->is_canonical = verdicts[0];
     bool same = lengths[0] == m->len && memcmp(buffer, m->bytes, m->len) == 0;
@@ -330,6 +386,7 @@ static void check(Message *m) {
     size_t written;
     done(m, m->mode->settle(m->bytes, m->len, buffer, MOST_BYTES, &written, &m->rewrites));
     if (m->rewrites == 0 ? !same : !m->mode->canonical(buffer, written)) fail(m->name, "not settled by so many rewrites");
+    if (m->mode->arena) check_in_arena(m, m->mode->arena->settle, written);
 }
 
 // ---- Tables: a line for each message.
@@ -416,6 +473,29 @@ static void print_blocks(size_t n) {
     }
 }
 
+// What the operations take in an arena, and that over what they take by malloc; at the end the geometric means.
+static void print_arena(size_t n) {
+    static const size_t BY_MALLOC[] = {PARSE, REWRITE, SETTLE};
+    double logs[] = {0, 0, 0};
+    printf("\nNanoseconds in an arena, and over those by malloc:\n\n| %-16s | %7s |", "message", "bytes");
+    for (size_t k = 0; k < 3; k++) printf(" %9s |", OPERATIONS[IN_ARENA + k].name);
+    for (size_t k = 0; k < 3; k++) printf(" %7s / malloc |", OPERATIONS[IN_ARENA + k].name);
+    printf("\n|---|---:|---:|---:|---:|---:|---:|---:|\n");
+    for (size_t i = 0; i < n; i++) {
+        printf("| %-16s | %7zu |", messages[i].name, messages[i].len);
+        for (size_t k = 0; k < 3; k++) printf(" %9.1f |", ns_of(i, IN_ARENA + k));
+        for (size_t k = 0; k < 3; k++) {
+            double ratio = ns_of(i, IN_ARENA + k) / ns_of(i, BY_MALLOC[k]);
+            logs[k] += log(ratio);
+            printf(" %16.2f |", ratio);
+        }
+        printf("\n");
+    }
+    printf("| %-16s | %7s | %9s | %9s | %9s |", "geometric mean", "", "", "", "");
+    for (size_t k = 0; k < 3; k++) printf(" %16.2f |", exp(logs[k] / (double)n));
+    printf("\n");
+}
+
 int main(int count, char **words) {
     if (count < 2) fail("usage", "bench MESSAGES..");
     // Freed memory is kept, so that no time goes into asking the system for it again.
@@ -423,6 +503,7 @@ int main(int count, char **words) {
     mallopt(M_TRIM_THRESHOLD, 1 << 28);
 
     buffer = malloc(MOST_BYTES);
+    in_arena = malloc(MOST_BYTES);
     lengths = calloc(MOST_TIMES, sizeof *lengths);
     verdicts = calloc(MOST_TIMES, sizeof *verdicts);
 
@@ -460,7 +541,7 @@ int main(int count, char **words) {
 
     for (size_t i = 0; i < n; i++) {
         check(&messages[i]);
-        for (size_t op = 0; op < OPERATION_COUNT; op++) measures[i][op] = calibrate(&OPERATIONS[op], &messages[i]);
+        for (size_t op = 0; op < MEASURED; op++) measures[i][op] = calibrate(&OPERATIONS[op], &messages[i]);
 #ifdef BESIDE
         Message old = in_old(&messages[i]);
         check(&old);
@@ -469,7 +550,7 @@ int main(int count, char **words) {
     }
     for (int pass = 0; pass < PASSES; pass++)
         for (size_t i = 0; i < n; i++)
-            for (size_t op = 0; op < OPERATION_COUNT; op++) {
+            for (size_t op = 0; op < MEASURED; op++) {
                 sample(&measures[i][op], &OPERATIONS[op], &messages[i]);
 #ifdef BESIDE
                 Message old = in_old(&messages[i]);
@@ -486,6 +567,7 @@ int main(int count, char **words) {
     print_times("As multiples of a `memcpy` of the message's bytes", by_memcpy, n);
     print_times("MB/s", megabytes, n);
     print_blocks(n);
+    print_arena(n);
     printf("\nGrowth, as the time for a byte over that at 1,000 attributes:\n\n| operation |");
     for (size_t g = 0; g < GROWN_COUNT; g++) printf(" %s | %s |", GROWN[g].names[1], GROWN[g].names[2]);
     printf("\n|---|---:|---:|---:|---:|\n");

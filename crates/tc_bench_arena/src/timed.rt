@@ -1,0 +1,62 @@
+//! An operation on the bytes of one message, many times in one arena, which is emptied before each time but the first.
+
+ghost use Rattle.tc_bench_arena.specs.Timed.{Parses, Rewrites, Settles};
+
+use crate::in_arena::InArena;
+use bumpalo::Bump;
+use std::alloc::Global;
+use tc_status::OUT_OF_MEMORY;
+
+// How many bytes the arena has room for at first.
+const CAPACITY: usize = 65536;
+
+/// Reads a message and drops it, and again so many times.
+pub fn parse<M: InArena>(alloc: Global, bytes: &[u8], again: usize) -> u32
+    ensures { Parses M.words bytes.now result }
+{
+    let Ok(mut arena) = Bump::try_with_capacity(alloc, CAPACITY) else {
+        return OUT_OF_MEMORY;
+    };
+    let mut status = M::read(&arena, bytes);
+    'times: for _ in 0..again {
+        if arena.reset().is_err() {
+            return OUT_OF_MEMORY;
+        }
+        status = M::read(&arena, bytes);
+    }
+    status
+}
+
+/// Reads a message and writes it at the front of the buffer, and again so many times.
+pub fn rewrite<M: InArena>(alloc: Global, bytes: &[u8], buffer: &mut [u8], again: usize) -> u32
+    ensures { Rewrites M.words bytes.now buffer.new result }
+{
+    let Ok(mut arena) = Bump::try_with_capacity(alloc, CAPACITY) else {
+        return OUT_OF_MEMORY;
+    };
+    let mut status = M::rewrite(&arena, bytes, buffer);
+    'times: for _ in 0..again {
+        if arena.reset().is_err() {
+            return OUT_OF_MEMORY;
+        }
+        status = M::rewrite(&arena, bytes, buffer);
+    }
+    status
+}
+
+/// Writes the canonical bytes to which rewriting leads at the front of the buffer, and again so many times.
+pub fn settle<M: InArena>(alloc: Global, bytes: &[u8], buffer: &mut [u8], again: usize) -> u32
+    ensures { Settles M.words bytes.now M.LeadsTo buffer.new result }
+{
+    let Ok(mut arena) = Bump::try_with_capacity(alloc, CAPACITY) else {
+        return OUT_OF_MEMORY;
+    };
+    let mut status = M::settle(&arena, bytes, buffer);
+    'times: for _ in 0..again {
+        if arena.reset().is_err() {
+            return OUT_OF_MEMORY;
+        }
+        status = M::settle(&arena, bytes, buffer);
+    }
+    status
+}
