@@ -1,5 +1,9 @@
 //! Attributes as bytes.
 
+ghost use Rattle.std.specs.Prelude.{◌≡◌, ◌≤◌, [], length};
+ghost use Rattle.nla_frames.specs.Frame.{frame_bytes};
+ghost use Rattle.tc_json_bytes.specs.Found.{Appends};
+
 use crate::error::{MakeError, Wanted};
 use crate::maker::Maker;
 use nla_frames::NLA_HEADER_SIZE;
@@ -7,7 +11,10 @@ use serde_json::Value;
 use std::mem;
 
 /// Begins the value of an attribute: the bytes before it are set aside.
-pub(crate) fn begin(maker: &mut Maker<'_>) -> Vec<u8> {
+pub(crate) fn begin(maker: &mut Maker<'_>) -> Vec<u8>
+    ensures before { result.items ≡ maker.old.bytes.items }
+    ensures empty { maker.new.bytes.items ≡ [] }
+{
     let empty = Vec::new(maker.alloc);
     mem::replace(&mut maker.bytes, empty)
 }
@@ -19,7 +26,10 @@ pub(crate) fn end(
     before: Vec<u8>,
     word: u16,
     value: &Value,
-) -> Result<(), MakeError> {
+) -> Result<(), MakeError>
+    ensures { length maker.old.bytes.items ≤ 65531
+        → Appends (frame_bytes (record { word = word; value = maker.old.bytes.items })) before.items maker.new.bytes.items result }
+{
     let payload = mem::replace(&mut maker.bytes, before);
     let len = match u16::try_from(payload.len()) {
         Ok(len) => len,

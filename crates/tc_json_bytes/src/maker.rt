@@ -1,5 +1,8 @@
 //! The bytes that are made, and the place in the JSON that they are made of.
 
+ghost use Rattle.std.specs.Prelude.{◌≡◌, ◌++◌, replicate, OnOk, IfErr};
+ghost use Rattle.tc_json_bytes.specs.declared.error.MakeError.TheVariants.{OutOfMemory};
+
 use crate::error::{MakeError, Wanted};
 use serde_json::Value;
 use std::alloc::{AllocError, Global};
@@ -34,12 +37,18 @@ impl<'v> Maker<'v> {
     }
 
     /// Appends bytes.
-    pub fn put(&mut self, bytes: &[u8]) -> Result<(), MakeError> {
+    pub fn put(&mut self, bytes: &[u8]) -> Result<(), MakeError>
+        ensures appended { OnOk result (self.new.bytes.items ≡ self.old.bytes.items ++ bytes.now) }
+        ensures only_memory { IfErr result (λ e. e ≡ OutOfMemory) }
+    {
         Ok(self.bytes.extend_from_slice(bytes)?)
     }
 
     /// Appends so many zeros.
-    pub fn put_zeros(&mut self, count: u16) -> Result<(), MakeError> {
+    pub fn put_zeros(&mut self, count: u16) -> Result<(), MakeError>
+        ensures appended { OnOk result (self.new.bytes.items ≡ self.old.bytes.items ++ replicate count 0) }
+        ensures only_memory { IfErr result (λ e. e ≡ OutOfMemory) }
+    {
         for _ in 0..count {
             self.put(&[0])?;
         }
@@ -47,7 +56,10 @@ impl<'v> Maker<'v> {
     }
 
     /// Goes to a part of this place.
-    pub fn enter(&mut self, step: Step<'v>) -> Result<(), MakeError> {
+    pub fn enter(&mut self, step: Step<'v>) -> Result<(), MakeError>
+        ensures bytes { self.new.bytes ≡ self.old.bytes }
+        ensures only_memory { IfErr result (λ e. e ≡ OutOfMemory) }
+    {
         match self.steps.push(step) {
             Ok(()) => Ok(()),
             Err(_) => Err(MakeError::OutOfMemory),
@@ -55,7 +67,9 @@ impl<'v> Maker<'v> {
     }
 
     /// Goes back to what this place is a part of.
-    pub fn leave(&mut self) {
+    pub fn leave(&mut self)
+        ensures { self.new.bytes ≡ self.old.bytes }
+    {
         self.steps.pop();
     }
 

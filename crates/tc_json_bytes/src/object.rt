@@ -1,6 +1,10 @@
 //! Parts of JSON: objects and their members, lists, texts and numbers.
 
-ghost use Rattle.std.specs.Prelude.{◌≤◌, IfOk};
+ghost use Rattle.std.specs.Prelude.{◌≡◌, ◌≤◌, ◌≤ℤ◌, ℕ, ℤ, List, IfOk, IfErr, Some};
+ghost use Rattle.serde_json.specs.Data.{Data, Num, unsigned, number, string, array, object, Items, Members, no_members, member};
+ghost use Rattle.serde_json.specs.Find.{as_i64, get};
+ghost use Rattle.serde_json.specs.View.{view, items_view, members_view};
+ghost use Rattle.tc_json_bytes.specs.Found.{Finds, FindsOrFails, AllAmong};
 
 use crate::error::{MakeError, Wanted};
 use crate::maker::{Maker, Step};
@@ -10,7 +14,9 @@ use serde_json::{Map, Value};
 pub(crate) fn members<'v>(
     maker: &Maker<'v>,
     value: &'v Value,
-) -> Result<&'v Map<String, Value>, MakeError> {
+) -> Result<&'v Map<String, Value>, MakeError>
+    ensures { (ms : Members) → view value.now ≡ object ms → Finds (λ m. members_view m.now.entries ≡ ms) result }
+{
     match value.as_object() {
         Some(members) => Ok(members),
         None => Err(maker.wrong(value, Wanted::Object)),
@@ -21,7 +27,10 @@ pub(crate) fn members<'v>(
 pub(crate) fn variant<'v>(
     maker: &Maker<'v>,
     value: &'v Value,
-) -> Result<(&'v str, &'v Value), MakeError> {
+) -> Result<(&'v str, &'v Value), MakeError>
+    ensures { (name : List ℕ) (held : Data) → view value.now ≡ object (member name held no_members)
+        → Finds (λ pair. (pair.0.now ≡ name) × (view pair.1.now ≡ held)) result }
+{
     let mut members = members(maker, value)?.iter();
     match (members.next(), members.next()) {
         (Some((name, held)), None) => Ok((name.as_str(), held)),
@@ -34,7 +43,10 @@ pub(crate) fn only<'v>(
     maker: &mut Maker<'v>,
     value: &'v Value,
     names: &[&str],
-) -> Result<(), MakeError> {
+) -> Result<(), MakeError>
+    ensures bytes { maker.new.bytes ≡ maker.old.bytes }
+    ensures known { (ms : Members) → view value.now ≡ object ms → AllAmong names.now ms → Finds (λ u. Unit {0}) result }
+{
     for (name, held) in members(maker, value)?.iter() {
         if !names.contains(&name.as_str()) {
             maker.enter(Step::Member(name.as_str()))?;
@@ -49,7 +61,11 @@ pub(crate) fn enter_member<'v>(
     maker: &mut Maker<'v>,
     value: &'v Value,
     name: &'static str,
-) -> Result<&'v Value, MakeError> {
+) -> Result<&'v Value, MakeError>
+    ensures bytes { maker.new.bytes ≡ maker.old.bytes }
+    ensures found { (held : Data) → get name.now (view value.now) ≡ Some held
+        → FindsOrFails (λ v. view v.now ≡ held) result }
+{
     maker.enter(Step::Member(name))?;
     match value.get(name) {
         Some(member) => Ok(member),
@@ -58,7 +74,9 @@ pub(crate) fn enter_member<'v>(
 }
 
 /// The items of a list.
-pub(crate) fn items<'v>(maker: &Maker<'v>, value: &'v Value) -> Result<&'v Vec<Value>, MakeError> {
+pub(crate) fn items<'v>(maker: &Maker<'v>, value: &'v Value) -> Result<&'v Vec<Value>, MakeError>
+    ensures { (ds : Items) → view value.now ≡ array ds → Finds (λ v. items_view v.now.items ≡ ds) result }
+{
     match value.as_array() {
         Some(items) => Ok(items),
         None => Err(maker.wrong(value, Wanted::List)),
@@ -70,7 +88,9 @@ pub(crate) fn text<'v>(
     maker: &Maker<'v>,
     value: &'v Value,
     wanted: Wanted,
-) -> Result<&'v str, MakeError> {
+) -> Result<&'v str, MakeError>
+    ensures { (s : List ℕ) → view value.now ≡ string s → Finds (λ t. t.now ≡ s) result }
+{
     match value.as_str() {
         Some(text) => Ok(text),
         None => Err(maker.wrong(value, wanted)),
@@ -79,7 +99,8 @@ pub(crate) fn text<'v>(
 
 /// A number from 0 to `most`.
 pub(crate) fn number<'v>(maker: &Maker<'v>, value: &'v Value, most: u64) -> Result<u64, MakeError>
-    ensures { IfOk result (λ n. n ≤ most) }
+    ensures most { IfOk result (λ n. n ≤ most) }
+    ensures found { (n : ℕ) → view value.now ≡ number (unsigned n) → n ≤ most → Finds (λ m. m ≡ n) result }
 {
     match value.as_u64() {
         Some(number) if number <= most => Ok(number),
@@ -93,7 +114,9 @@ pub(crate) fn signed<'v>(
     value: &'v Value,
     least: i32,
     most: i32,
-) -> Result<i32, MakeError> {
+) -> Result<i32, MakeError>
+    ensures { (n : Num) (z : ℤ) → view value.now ≡ number n → as_i64 n ≡ Some z → least ≤ℤ z → z ≤ℤ most → Finds (λ m. m ≡ z) result }
+{
     if let Some(number) = value.as_i64() {
         if let Ok(number) = i32::try_from(number) {
             if least <= number && number <= most {

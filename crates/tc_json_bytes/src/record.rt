@@ -1,10 +1,19 @@
 //! Records by their fields, selectors and statistics.
 
-ghost use Rattle.std.specs.Prelude.{◌≤◌};
+ghost use Rattle.std.specs.Prelude.{◌≡◌, ◌≤◌, ◌<◌, ◌-◌, ◌^◌, ℕ, List, take, drop};
+ghost use Rattle.nla_frames.specs.Value.{le_bytes, be_bytes, IsBytes};
+ghost use Rattle.serde_json.specs.Data.{unsigned, number, string};
+ghost use Rattle.serde_json.specs.View.{view};
+ghost use Rattle.tc_texts.specs.Addresses.{ipv4_text};
+ghost use Rattle.tc_texts.specs.Handle.{handle_text};
+ghost use Rattle.tc_texts.specs.Hex.{hex_text};
+ghost use Rattle.tc_texts.specs.Reading.{IsOctets};
+ghost use Rattle.tc_json_bytes.specs.Found.{Appends};
 
 use crate::error::{MakeError, Wanted};
 use crate::maker::{Maker, Step};
 use crate::object::{enter_member, items, members, number, only, signed, text, variant};
+use nla_frames::laws::in_hand::bytes_in_hand;
 use serde_json::Value;
 use tc_names::{Field, FieldForm, Fixed, Numbers, fields, named_numbers};
 use tc_texts::{read_handle, read_hex, read_ipv4};
@@ -114,6 +123,8 @@ pub(crate) fn put_little<'v>(
     width: usize,
 ) -> Result<(), MakeError>
     requires { width ≤ 8 }
+    ensures { (n : ℕ) → view value.now ≡ number (unsigned n) → n ≤ most
+        → Appends (take width (le_bytes 8 n)) maker.old.bytes.items maker.new.bytes.items result }
 {
     let number = number(maker, value, most)?;
     maker.put(&number.to_le_bytes()[..width])
@@ -127,6 +138,8 @@ pub(crate) fn put_big<'v>(
     width: usize,
 ) -> Result<(), MakeError>
     requires { width ≤ 8 }
+    ensures { (n : ℕ) → view value.now ≡ number (unsigned n) → n ≤ most
+        → Appends (drop (8 - width) (be_bytes 8 n)) maker.old.bytes.items maker.new.bytes.items result }
 {
     let number = number(maker, value, most)?;
     maker.put(&number.to_be_bytes()[8 - width..])
@@ -147,7 +160,9 @@ fn put_signed<'v>(
 }
 
 /// A handle.
-pub(crate) fn put_handle<'v>(maker: &mut Maker<'v>, value: &'v Value) -> Result<(), MakeError> {
+pub(crate) fn put_handle<'v>(maker: &mut Maker<'v>, value: &'v Value) -> Result<(), MakeError>
+    ensures { (n : ℕ) → n < 2 ^ 32 → view value.now ≡ string (handle_text n) → Appends (le_bytes 4 n) maker.old.bytes.items maker.new.bytes.items result }
+{
     match read_handle(text(maker, value, Wanted::Handle)?) {
         Some(handle) => maker.put(&handle.to_le_bytes()),
         None => Err(maker.wrong(value, Wanted::Handle)),
@@ -155,7 +170,9 @@ pub(crate) fn put_handle<'v>(maker: &mut Maker<'v>, value: &'v Value) -> Result<
 }
 
 /// An IPv4 address.
-pub(crate) fn put_ipv4<'v>(maker: &mut Maker<'v>, value: &'v Value) -> Result<(), MakeError> {
+pub(crate) fn put_ipv4<'v>(maker: &mut Maker<'v>, value: &'v Value) -> Result<(), MakeError>
+    ensures { (v : List ℕ) → IsOctets 4 v → view value.now ≡ string (ipv4_text v) → Appends v maker.old.bytes.items maker.new.bytes.items result }
+{
     match read_ipv4(text(maker, value, Wanted::Ipv4)?) {
         Some(octets) => maker.put(&octets),
         None => Err(maker.wrong(value, Wanted::Ipv4)),
@@ -290,9 +307,14 @@ fn fq_codel_statistics<'v>(maker: &mut Maker<'v>, value: &'v Value) -> Result<()
 }
 
 /// Any bytes, in hex.
-pub(crate) fn put_hex<'v>(maker: &mut Maker<'v>, value: &'v Value) -> Result<(), MakeError> {
+pub(crate) fn put_hex<'v>(maker: &mut Maker<'v>, value: &'v Value) -> Result<(), MakeError>
+    ensures { (v : List ℕ) → IsBytes v → view value.now ≡ string (hex_text v) → Appends v maker.old.bytes.items maker.new.bytes.items result }
+{
     match read_hex(maker.alloc, text(maker, value, Wanted::Hex)?)? {
-        Some(bytes) => maker.put(&bytes),
+        Some(bytes) => {
+            bytes_in_hand(&bytes);
+            maker.put(&bytes)
+        }
         None => Err(maker.wrong(value, Wanted::Hex)),
     }
 }
@@ -302,9 +324,18 @@ pub(crate) fn put_hex_of<'v>(
     maker: &mut Maker<'v>,
     value: &'v Value,
     len: usize,
-) -> Result<(), MakeError> {
+) -> Result<(), MakeError>
+    ensures { (v : List ℕ) → IsOctets len v → view value.now ≡ string (hex_text v) → Appends v maker.old.bytes.items maker.new.bytes.items result }
+{
     match read_hex(maker.alloc, text(maker, value, Wanted::HexOf(len))?)? {
-        Some(bytes) if bytes.len() == len => maker.put(&bytes),
-        _ => Err(maker.wrong(value, Wanted::HexOf(len))),
+        Some(bytes) => {
+            bytes_in_hand(&bytes);
+            if bytes.len() == len {
+                maker.put(&bytes)
+            } else {
+                Err(maker.wrong(value, Wanted::HexOf(len)))
+            }
+        }
+        None => Err(maker.wrong(value, Wanted::HexOf(len))),
     }
 }

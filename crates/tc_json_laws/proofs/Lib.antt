@@ -11,3 +11,4 @@ mod WrittenBack
 mod Written
 mod WrittenRecords
 mod WrittenTrees
+mod PlainValues

@@ -7,6 +7,7 @@ ghost use Rattle.json.specs.Lex.{tokens};
 ghost use Rattle.serde_json.specs.Data.{Data};
 ghost use Rattle.serde_json.specs.Sent.{AreTokensOf};
 ghost use Rattle.serde_json.specs.Read.{of_json, read};
+ghost use Rattle.tc_meaning.specs.Tree.{Content};
 ghost use Rattle.tc_meaning.specs.Message.{Message};
 ghost use Rattle.tc_canon.specs.Canonical.{CanonTc, CanonAct};
 ghost use Rattle.tc_meaning.specs.Whole.{ReadsTc, ReadsAct, TypedTc, TypedAct, tc_bytes, act_bytes};
@@ -17,7 +18,8 @@ ghost use Rattle.tc_json.specs.Events.{tc_events, action_message_events, attribu
 ghost use Rattle.tc_messages.specs.Message.{tc_message};
 ghost use Rattle.tc_action_messages.specs.ActionMessage.{action_message};
 ghost use Rattle.tc_json_laws.specs.Apart.{names_apart, kinds_apart};
-ghost use Rattle.tc_json_laws.specs.Tree.{tc_json, action_message_json};
+ghost use Rattle.tc_json_bytes.specs.Plain.{is_plain, plain_data};
+ghost use Rattle.tc_json_laws.specs.Tree.{content, tc_json, action_message_json};
 ghost use Rattle.tc_json_laws.specs.Injective.{IsOf, HasForm, IsInjectiveOn};
 
 mod in_hand;
@@ -110,6 +112,13 @@ pub fn injective_tables()
     ensures contents { (f : Form) → IsInjectiveOn (HasForm f) (content_events f) }
     ensures names { (t : Table) → names_apart (names_in t) ≡ true }
     ensures kinds { (t : Table) → kinds_apart (kind_names_in t) ≡ true }
+{}
+
+/// The tree of a plain value, one that is no record, no selector, no statistics and no list, is read as the JSON of which `tc_json_bytes`
+/// makes its bytes.
+pub fn json_of_plain_values()
+    ensures { (f : Form) (x : Content) → is_plain f ≡ true → HasForm f x
+        → of_json (content f x) ≡ Some (plain_data f x) }
 {}
 
 /// What is sent of a message is written as a text of one JSON value: that of the message's tree. `serde_json` reads it as this value, its

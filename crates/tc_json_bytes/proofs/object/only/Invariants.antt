@@ -1,0 +1,11 @@
+use Rattle.std.proofs.Common.{◌≡◌}
+use Rattle.serde_json.specs.Data.{object, Members}
+use Rattle.serde_json.specs.View.{view, members_view}
+use Rattle.tc_json_bytes.specs.Found.{AllAmong}
+use Rattle.tc_json_bytes.proofs.object.only.Given as goal
+
+-- what is left has these names alone, where all has
+abbrev pub invariant-loop-name : goal.invariant-loop-name
+invariant-loop-name l =
+    (l.maker.bytes ≡ l.initial.maker.bytes)
+    × ((ms : Members) → view l.value ≡ object ms → AllAmong l.names ms → AllAmong l.names (members_view l.name-iterator))
