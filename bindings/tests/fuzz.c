@@ -260,6 +260,15 @@ static void try_nothing(void) {
     expect(vtc_make(NULL, 0, NULL, 0, length, NULL, 0, why_length) == VTC_NOT_JSON && *why_length == 0, "a message of no text");
 }
 
+/* An object with a key twice is refused at the second one. */
+static void try_key_twice(void) {
+    static const char json[] = "{\"header\":{\"flags\":0,\"flags\":0},\"attributes\":[]}";
+    static const char told[] = "/header/flags: found twice, wanted once";
+    char why[sizeof told];
+    uint32_t status = vtc_action_make(json, sizeof json - 1, NULL, 0, length, why, sizeof why, why_length);
+    expect(status == VTC_NO_MESSAGE && *why_length == sizeof told - 1 && !memcmp(why, told, sizeof told - 1), "a key twice");
+}
+
 int main(int count, char **words) {
     double seconds = count > 1 ? atof(words[1]) : 60;
     read_messages();
@@ -278,6 +287,7 @@ int main(int count, char **words) {
     why_length = (size_t *)(void *)between_guards(PAGE).end - 1;
     if (!message_count) return 2;
     try_nothing();
+    try_key_twice();
     time_t end = time(NULL) + (time_t)seconds;
     for (run = 0; run % 1024 || time(NULL) < end; run++) {
         const Message *m = &messages[below(message_count)];
