@@ -1,6 +1,5 @@
 -- What a search in JSON finds, and what a value appends.
 use Rattle.std.specs.Prelude.{◌≡◌, ℕ, List, ◌++◌, true, Result, Ok, Err, bytes_eq}
-use Rattle.std.specs.Borrow.{Bor}
 use Rattle.std.specs.List.{list_any}
 use Rattle.serde_json.specs.Data.{Members, no_members, member}
 use Rattle.tc_json_bytes.specs.declared.error.MakeError.{MakeError}
@@ -22,6 +21,6 @@ Appends bytes old new (Ok v) = new ≡ old ++ bytes
 Appends bytes old new (Err e) = e ≡ OutOfMemory
 
 -- each member has one of these names
-abbrev pub AllAmong : List (Bor (List ℕ)) → Members → Type 0
+abbrev pub AllAmong : List (List ℕ) → Members → Type 0
 AllAmong names no_members = Unit {0}
-AllAmong names (member name held ms) = (list_any (λ n. bytes_eq n.now name) names ≡ true) × AllAmong names ms
+AllAmong names (member name held ms) = (list_any (λ n. bytes_eq n name) names ≡ true) × AllAmong names ms

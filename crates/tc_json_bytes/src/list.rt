@@ -1,5 +1,14 @@
 //! Lists of attributes, by their tables.
 
+ghost use Rattle.std.specs.Prelude.{◌≡◌, ◌≤◌, ◌∷◌, [], ℕ, List, Some, length, codes};
+ghost use Rattle.nla_frames.specs.Value.{IsBytes};
+ghost use Rattle.nla_frames.specs.Frame.{frame_bytes};
+ghost use Rattle.serde_json.specs.Data.{unsigned, number, string, object, Members};
+ghost use Rattle.serde_json.specs.Find.{get};
+ghost use Rattle.serde_json.specs.View.{view};
+ghost use Rattle.tc_texts.specs.Hex.{hex_text};
+ghost use Rattle.tc_json_bytes.specs.Found.{FindsOrFails, Appends, AllAmong};
+
 use crate::content::content;
 use crate::error::{MakeError, Wanted};
 use crate::frame::{begin, end};
@@ -249,7 +258,12 @@ fn wrong_word<'v>(maker: &mut Maker<'v>, value: &'v Value, wanted: Wanted) -> Ma
 }
 
 // The `nla_type` of what is kept raw.
-fn raw_word<'v>(maker: &mut Maker<'v>, value: &'v Value) -> Result<u16, MakeError> {
+fn raw_word<'v>(maker: &mut Maker<'v>, value: &'v Value) -> Result<u16, MakeError>
+    ensures bytes { maker.new.bytes ≡ maker.old.bytes }
+    ensures found { (ms : Members) (n : ℕ) → view value.now ≡ object ms → AllAmong (codes "word" ∷ codes "value" ∷ []) ms
+        → get (codes "word") (view value.now) ≡ Some (number (unsigned n)) → n ≤ 65535
+        → FindsOrFails (λ w. w ≡ n) result }
+{
     only(maker, value, &["word", "value"])?;
     let word = enter_member(maker, value, "word")?;
     let number = number(maker, word, 0xFFFF)? as u16;
@@ -258,7 +272,10 @@ fn raw_word<'v>(maker: &mut Maker<'v>, value: &'v Value) -> Result<u16, MakeErro
 }
 
 // The bytes of what is kept raw.
-fn put_raw<'v>(maker: &mut Maker<'v>, word: u16, value: &'v Value) -> Result<(), MakeError> {
+fn put_raw<'v>(maker: &mut Maker<'v>, word: u16, value: &'v Value) -> Result<(), MakeError>
+    ensures { (v : List ℕ) → get (codes "value") (view value.now) ≡ Some (string (hex_text v)) → IsBytes v → length v ≤ 65531
+        → Appends (frame_bytes (record { word = word; value = v })) maker.old.bytes.items maker.new.bytes.items result }
+{
     let held = enter_member(maker, value, "value")?;
     let before = begin(maker);
     put_hex(maker, held)?;

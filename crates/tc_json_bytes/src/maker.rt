@@ -81,6 +81,16 @@ impl<'v> Maker<'v> {
         }
     }
 
+    /// The error of a member of this place that isn't known.
+    pub fn unknown(&mut self, name: &'v str, held: &Value) -> MakeError
+        ensures { self.new.bytes ≡ self.old.bytes }
+    {
+        match self.enter(Step::Member(name)) {
+            Ok(()) => self.wrong(held, Wanted::NoMember),
+            Err(e) => e,
+        }
+    }
+
     /// The error of a name, the last step of this place.
     pub fn wrong_name(&self, found: &str, wanted: Wanted) -> MakeError {
         match Value::try_from_str(self.alloc, found) {

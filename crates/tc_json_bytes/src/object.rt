@@ -1,6 +1,6 @@
 //! Parts of JSON: objects and their members, lists, texts and numbers.
 
-ghost use Rattle.std.specs.Prelude.{◌≡◌, ◌≤◌, ◌≤ℤ◌, ℕ, ℤ, List, IfOk, IfErr, Some};
+ghost use Rattle.std.specs.Prelude.{◌≡◌, ◌≤◌, ◌≤ℤ◌, ℕ, ℤ, List, map, IfOk, IfErr, Some};
 ghost use Rattle.serde_json.specs.Data.{Data, Num, unsigned, number, string, array, object, Items, Members, no_members, member};
 ghost use Rattle.serde_json.specs.Find.{as_i64, get};
 ghost use Rattle.serde_json.specs.View.{view, items_view, members_view};
@@ -45,12 +45,11 @@ pub(crate) fn only<'v>(
     names: &[&str],
 ) -> Result<(), MakeError>
     ensures bytes { maker.new.bytes ≡ maker.old.bytes }
-    ensures known { (ms : Members) → view value.now ≡ object ms → AllAmong names.now ms → Finds (λ u. Unit {0}) result }
+    ensures known { (ms : Members) → view value.now ≡ object ms → AllAmong (map (λ s. s.now) names.now) ms → Finds (λ u. Unit {0}) result }
 {
     for (name, held) in members(maker, value)?.iter() {
         if !names.contains(&name.as_str()) {
-            maker.enter(Step::Member(name.as_str()))?;
-            return Err(maker.wrong(held, Wanted::NoMember));
+            return Err(maker.unknown(name.as_str(), held));
         }
     }
     Ok(())

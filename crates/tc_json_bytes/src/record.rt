@@ -64,8 +64,7 @@ fn known_names<'v>(
 ) -> Result<(), MakeError> {
     for (name, held) in members(maker, value)?.iter() {
         if !is_field(fields, is_within, name.as_str()) {
-            maker.enter(Step::Member(name.as_str()))?;
-            return Err(maker.wrong(held, Wanted::NoMember));
+            return Err(maker.unknown(name.as_str(), held));
         }
     }
     Ok(())
@@ -236,8 +235,7 @@ fn other_number<'v>(
 pub(crate) fn selector<'v>(maker: &mut Maker<'v>, value: &'v Value) -> Result<(), MakeError> {
     for (name, held) in members(maker, value)?.iter() {
         if name.as_str() != "keys" && !is_field(fields(Fixed::SelectorHead), false, name.as_str()) {
-            maker.enter(Step::Member(name.as_str()))?;
-            return Err(maker.wrong(held, Wanted::NoMember));
+            return Err(maker.unknown(name.as_str(), held));
         }
     }
     put_fields(maker, fields(Fixed::SelectorHead), value)?;

@@ -1,4 +1,4 @@
-use Rattle.std.proofs.Common.{◌≡◌}
+use Rattle.std.proofs.Common.{◌≡◌, map}
 use Rattle.serde_json.specs.Data.{object, Members}
 use Rattle.serde_json.specs.View.{view, members_view}
 use Rattle.tc_json_bytes.specs.Found.{AllAmong}
@@ -8,4 +8,4 @@ use Rattle.tc_json_bytes.proofs.object.only.Given as goal
 abbrev pub invariant-loop-name : goal.invariant-loop-name
 invariant-loop-name l =
     (l.maker.bytes ≡ l.initial.maker.bytes)
-    × ((ms : Members) → view l.value ≡ object ms → AllAmong l.names ms → AllAmong l.names (members_view l.name-iterator))
+    × ((ms : Members) → view l.value ≡ object ms → AllAmong (map (λ s. s.now) l.names) ms → AllAmong (map (λ s. s.now) l.names) (members_view l.name-iterator))
