@@ -1,7 +1,8 @@
 -- A file of pcapng: blocks. A block has its type, its length, its body, and its length again, the numbers four bytes each; the
 -- length counts all of them and is a multiple of four. A section header block begins a section: it gives the byte order of the
 -- numbers up to the next one, and what was said of interfaces before it no longer holds.
-use Rattle.std.specs.Prelude.{ℕ, ◌+◌, ◌-◌, ◌*◌, ◌%◌, ◌^◌, min, List, [], ◌∷◌, ◌++◌, length, take, drop, slice_get, Bool, true, false, Option, Some, None, Ok, Err, nat_lt, nat_le, ◌==◌, if◌then◌else◌}
+use Rattle.std.specs.Prelude.{ℕ, ◌+◌, ◌-◌, ◌*◌, ◌%◌, ◌^◌, min, List, [], ◌∷◌, ◌++◌, length, take, drop}
+use Rattle.std.specs.Prelude.{slice_get, Bool, true, false, Option, Some, None, Ok, Err, nat_lt, nat_le, ◌==◌, if◌then◌else◌}
 use Rattle.tc_capture.specs.declared.error.CaptureError.TheVariants.{Short, NoByteOrder, BlockLength, BlockEnd, BodyTooShort, NoInterface, TooManyInterfaces}
 use Rattle.tc_capture.specs.declared.order.Order.{Order}
 use Rattle.tc_capture.specs.declared.order.Order.TheVariants.{Little, Big}

@@ -1,4 +1,5 @@
-//! The calls from C that take no memory: whether bytes are canonical, and the attributes of a message. `bindings/vtc.h` declares them.
+//! The calls from C that take no memory: whether bytes are canonical, all attributes of a message, the next attribute of
+//! a list. `bindings/vtc.h` declares them.
 #![tactic(auto)]
 
 mod index;

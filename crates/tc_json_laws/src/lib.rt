@@ -121,8 +121,8 @@ pub fn json_of_plain_values()
         → of_json (content f x) ≡ Some (plain_data f x) }
 {}
 
-/// What is sent of a message is written as a text of one JSON value: that of the message's tree. `serde_json` reads it as this value, its
-/// objects in the order of their keys.
+/// A text that is written of what is sent of a message, where `serde_json` reads it, reads as one JSON value: that of the
+/// message's tree, the members of its objects in the order of their keys.
 pub fn json_of_messages()
     ensures tc { (m : Message) (text : List ℕ) (json : Data) → TypedTc m
         → AreTokensOf true (Some (tc_events m)) (tokens text) → read text ≡ Some json

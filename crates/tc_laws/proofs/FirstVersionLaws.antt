@@ -1,4 +1,4 @@
--- What version 1 and version 2 read of the same bytes.
+-- What version 1 reads, and what is read now, of the same bytes.
 use Rattle.std.proofs.Common.{◌≡◌, ◌↔◌, ℕ, Bool, true, false, List, [], ◌∷◌, ◌≤◌, length, take, drop, Ok, Err, cond, ltb, refl, sym, ap, subst, ◌∙◌, arith}
 use Rattle.std.specs.List.{AllByRecursion}
 use Rattle.nla_frames.specs.declared.error.DecodeError.{DecodeError}
@@ -40,7 +40,7 @@ made-upgrade true front r e = refl
 made-upgrade false front (Ok body) e = refl
 made-upgrade false front (Err d) e = refl
 
--- what version 2 reads of bytes is the upgrade of what version 1 reads
+-- what is read of bytes now is the upgrade of what version 1 reads
 pub read_tc-upgrade : (bytes : List ℕ) → read_tc bytes ≡ seen upgrade (read_tc1 bytes)
 unfolding read_with read_tc1
 read_tc-upgrade bytes =
@@ -62,11 +62,11 @@ module _ (bytes : List ℕ) (w : IsBytes bytes) where
   unfolding read_tc1
   tc1-reading = one_reading read_attribute1 kind_of_frame tc_header bytes w
 
-  -- so are those of version 2
+  -- so are those of now
   tc2-reading : OneMessage kind_of_frame tc_header attributes bytes (read_tc bytes)
   tc2-reading = one_message kind_of_frame tc_header attributes bytes w
 
-  -- what version 1 reads, version 2 reads as its upgrade
+  -- what version 1 reads is now read as its upgrade
   pub tc1-upgraded : (m : Message) → ReadsTc1 bytes m → ReadsTc bytes (upgrade m)
   tc1-upgraded m g = (tc2-reading.reading (upgrade m)).0 (read_tc-upgrade bytes ∙ ap (seen upgrade) ((tc1-reading.reading m).1 g))
 
@@ -76,7 +76,7 @@ module _ (bytes : List ℕ) (w : IsBytes bytes) where
       let r = seen-ok upgrade (read_tc1 bytes) n (sym (read_tc-upgrade bytes) ∙ (tc2-reading.reading n).1 g) in
       (r.0, (tc1-reading.reading r.0).0 r.1, r.2)
 
-  -- what version 2 reads is its own upgrade
+  -- what is read now is its own upgrade
   pub tc1-nothing_left : (n : Message) → ReadsTc bytes n → upgrade n ≡ n
   tc1-nothing_left n g =
       let r = tc1-all_upgraded n g in

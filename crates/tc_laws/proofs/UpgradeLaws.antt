@@ -1,4 +1,4 @@
--- The upgrade of one attribute, of a list and of a message, and what version 1 and version 2 read of the same bytes.
+-- The upgrade of one attribute, of a list and of a message, and what version 1 reads, and what is read now, of the same bytes.
 use Rattle.std.proofs.Common.{◌≡◌, ◌⊎◌, ◌↔◌, ℕ, zero, suc, ◌≤◌, Bool, true, false, not, List, [], ◌∷◌, ◌++◌, length, take, slice_get, Some, Ok, Err, cond, eqb}
 use Rattle.std.proofs.Common.{refl, sym, ap, ap₂, subst, ◌∙◌, arith, inl, inr}
 use Rattle.std.proofs.lemmas.Bool.{and_parts, eqb-true, not-true}
@@ -28,7 +28,7 @@ use Rattle.tc_meaning.proofs.Outcomes.{ok-same}
 use Rattle.tc_meaning.proofs.TableLaws.{rows_laws}
 use Rattle.tc_meaning.proofs.MessageTheorems.{tells_attributes}
 
--- an attribute of a message, as version 2 reads and writes it
+-- an attribute of a message, as it is read and written now
 abbrev pub attribute : Codec Frame Attribute
 attribute = table_codec (table attributes)
 
@@ -145,7 +145,7 @@ read-unknown kind f is =
 number-read : (kind : List ℕ) (f : Frame) (x : Attribute) → attribute.read kind f ≡ Ok x → number_of x ≡ type_of f.word
 number-read kind f x e = (rows_laws attributes refl (type_of f.word)).stands kind f x refl e
 
--- what version 2 reads is its own upgrade
+-- what is read now is its own upgrade
 pub upgrade-read : (kind : List ℕ) (f : Frame) (x : Attribute) → attribute.read kind f ≡ Ok x → upgrade_attribute kind x ≡ x
 upgrade-read kind f x e = go (stays_or_changes kind x)
   where
@@ -163,7 +163,7 @@ seen-itself : {X : Type 0} (see : X → X) (r : Outcome X) → ((x : X) → r �
 seen-itself see (Ok x) same = ap (λ y. read_as y) (same x refl)
 seen-itself see (Err d) same = refl
 
--- what version 2 reads is the upgrade of what version 1 reads
+-- what is read now is the upgrade of what version 1 reads
 pub both-read : (kind : List ℕ) (f : Frame) → seen (upgrade_attribute kind) (read_attribute1 kind f) ≡ attribute.read kind f
 both-read kind f = go (are_unknown_options kind f.word) refl
   where
@@ -213,7 +213,7 @@ steps-upgraded : (kind : List ℕ) (f : Frame) (r : Outcome Attribute) (others :
 steps-upgraded kind f (Ok x) others agree = then-upgraded kind f x others (agree x refl)
 steps-upgraded kind f (Err d) others agree = refl
 
--- what version 2 reads of frames is the upgrade of what version 1 reads
+-- what is read now of frames is the upgrade of what version 1 reads
 each-both : (kind : List ℕ) (frames : List (Outcome Frame))
     → read_each attribute.read kind_of_frame kind frames ≡ seen (upgrade_each kind) (read_each read_attribute1 kind_of_frame kind frames)
 unfolding read_each

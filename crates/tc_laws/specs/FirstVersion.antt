@@ -1,5 +1,5 @@
 -- Version 1 of a traffic control message, which reads options under an unknown kind as a list of one option, and the
--- upgrade, which makes of its messages those of version 2. In all else the two versions are the same.
+-- upgrade, which makes of its messages those that are read now. In all else the two are the same.
 use Rattle.std.specs.Prelude.{◌≡◌, ℕ, zero, suc, Bool, List, [], ◌∷◌, length, take, slice_get, Some, Ok, ◌==◌, ◌&&◌, not, if◌then◌else◌}
 use Rattle.nla_frames.specs.declared.error.DecodeError.{DecodeError}
 use Rattle.nla_frames.specs.Fault.{Outcome}
@@ -49,7 +49,7 @@ upgrade_attribute kind (known (suc (suc zero)) (items (and (other word value) no
     if are_unknown_options kind word then kept 2 word value else lone_option word value
 upgrade_attribute kind x = x
 
--- a frame that version 1 reads as this attribute, and version 2 as its upgrade
+-- a frame that version 1 reads as this attribute, and which is read now as its upgrade
 pub record WasRead (kind : List ℕ) (x : Attribute) : Type 0 where
   pub frame : Frame
   pub first : read_attribute1 kind frame ≡ Ok x

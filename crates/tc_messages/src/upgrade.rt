@@ -21,11 +21,11 @@ use tc_laws::versions::upgrading;
 use tc_options::{TcOption, is_known_kind};
 
 impl<A: Allocator> TcMessage<A> {
-    /// The message that version 2 reads where version 1 read this one: each `Options` under an unknown kind that is one
+    /// The message that is read now where version 1 read this one: each `Options` under an unknown kind that is one
     /// `TcOption::Other` of type 2 alone is `OptionsRaw` of its word and value. It takes no memory.
     pub fn upgrade(self) -> TcMessage<A>
         ensures value { tc_message result ≡ upgrade (tc_message self) }
-        // What version 1 reads as the message, version 2 reads as the upgrade.
+        // What version 1 reads as the message, is now read as the upgrade.
         ensures upgraded { (bytes : List ℕ) → IsBytes bytes → ReadsTc1 bytes (tc_message self)
             → ReadsTc bytes (tc_message result) }
         // The upgrade is its own upgrade.

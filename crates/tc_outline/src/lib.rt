@@ -7,7 +7,7 @@
 //!
 //! | What | How it is shown |
 //! |---|---|
-//! | the name of an attribute | the variant's name in lower case, words joined by `_`: `MemoryLimit` is `memory_limit`; an action is `action 1`, with its type |
+//! | the name of an attribute | the variant's name in lower case, words joined by `_`, `memory_limit`; an action is `action 1`, with its type |
 //! | a number | decimal, and its unit: `4999us`, `10240p`, `1514B`; masks, marks and hash keys in hex |
 //! | a flag word | in hex: `0x8` |
 //! | a named number | its name: `pipe`, `egress_redir`; else the number |

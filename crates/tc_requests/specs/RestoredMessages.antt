@@ -1,5 +1,6 @@
 -- What becomes of attributes and messages.
-use Rattle.std.specs.Prelude.{ℕ, Bool, false, List, [], ◌∷◌, ◌&&◌, codes, bytes_eq, bit_and, nat_lt, length, ◌+◌, slice_index, ◌==◌, Option, Some, Ok, Err, if◌then◌else◌}
+use Rattle.std.specs.Prelude.{ℕ, Bool, false, List, [], ◌∷◌, ◌&&◌, codes, bytes_eq, bit_and}
+use Rattle.std.specs.Prelude.{nat_lt, length, ◌+◌, slice_index, ◌==◌, Option, Some, Ok, Err, if◌then◌else◌}
 use Rattle.nla_frames.specs.Place.{kinds_set}
 use Rattle.tc_meaning.specs.Own.{kind_of_attribute}
 use Rattle.tc_meaning.specs.Tree.{Attribute, known, number, is_bytes, items, attributes_of, of_kind}

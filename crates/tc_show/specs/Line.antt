@@ -89,7 +89,8 @@ abbrev pub IsRefused : Option Header → DecodeError → List ℕ → Type 0
 IsRefused header e line =
     (time : Option (List ℕ)) × (offset : ℕ) × (path : List ℕ) × IsTextOf (Some (refused_events time header e offset path)) line
 
-module _ {M X : Type 0} (codec : Codec (List ℕ) X) (see : M → X) (events : M → List Event) (Canonical : List ℕ → Type 0) (payload : List ℕ) (header : Option Header) where
+module _ {M X : Type 0} (codec : Codec (List ℕ) X) (see : M → X) (events : M → List Event)
+    (Canonical : List ℕ → Type 0) (payload : List ℕ) (header : Option Header) where
   -- the line of this message: what is sent of it, and what holds of it and of the bytes that it is read from
   abbrev pub IsAccepted : M → List ℕ → Type 0
   IsAccepted m line =

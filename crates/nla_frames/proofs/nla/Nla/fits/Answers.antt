@@ -1,6 +1,0 @@
--- Without this the proof is found too; with it a must-fail edit of the function is refused by one search.
-use Rattle.std.proofs.Common.{rules}
-use Rattle.nla_frames.proofs.nla.Nla.fits.Goals as goal
-
-pub returns : goal.returns
-returns g c = search rules
