@@ -12,3 +12,5 @@ mod Written
 mod WrittenRecords
 mod WrittenTrees
 mod PlainValues
+mod ExactNumbers
+mod ExactTrees

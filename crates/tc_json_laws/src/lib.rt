@@ -18,6 +18,7 @@ ghost use Rattle.tc_json.specs.Events.{tc_events, action_message_events, attribu
 ghost use Rattle.tc_messages.specs.Message.{tc_message};
 ghost use Rattle.tc_action_messages.specs.ActionMessage.{action_message};
 ghost use Rattle.tc_json_laws.specs.Apart.{names_apart, kinds_apart};
+ghost use Rattle.tc_json_laws.specs.Exact.{IsExact};
 ghost use Rattle.tc_json_bytes.specs.Plain.{is_plain, plain_data};
 ghost use Rattle.tc_json_laws.specs.Tree.{content, tc_json, action_message_json};
 ghost use Rattle.tc_json_laws.specs.Injective.{IsOf, HasForm, IsInjectiveOn};
@@ -130,4 +131,12 @@ pub fn json_of_messages()
     ensures action { (m : Message) (text : List ℕ) (json : Data) → TypedAct m
         → AreTokensOf true (Some (action_message_events m)) (tokens text) → read text ≡ Some json
         → of_json (action_message_json m) ≡ Some json }
+{}
+
+/// The JSON of a typed message has no float.
+pub fn exact_json()
+    ensures tc { (m : Message) (json : Data) → TypedTc m → of_json (tc_json m) ≡ Some json
+        → IsExact json }
+    ensures action { (m : Message) (json : Data) → TypedAct m
+        → of_json (action_message_json m) ≡ Some json → IsExact json }
 {}
