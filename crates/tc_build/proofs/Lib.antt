@@ -1,1 +1,3 @@
+mod Alike
+mod Made
 mod Unread

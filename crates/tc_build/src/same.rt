@@ -1,7 +1,10 @@
 //! Whether two JSON values are the same.
 
-ghost use Rattle.std.specs.Prelude.{◌≡◌, IfOk, IsTrue};
+ghost use Rattle.std.specs.Prelude.{◌≡◌, IfOk, IsTrue, false};
+ghost use Rattle.serde_json.specs.Find.{is_float};
 ghost use Rattle.serde_json.specs.View.{view, number_view, items_view, members_view};
+ghost use Rattle.tc_json_bytes.specs.Found.{FindsOrFails};
+ghost use Rattle.tc_json_laws.specs.Exact.{IsExact, AreExact, HaveExact};
 
 use serde_json::{Map, Number, Value};
 use tc_json_bytes::{MakeError, Maker, Step};
@@ -13,7 +16,10 @@ pub(crate) fn is_same<'v>(
     made: &Value,
     given: &'v Value,
 ) -> Result<bool, MakeError>
-    ensures { IfOk result (λ same. IsTrue same → view made.now ≡ view given.now) }
+    ensures same { IfOk result (λ same. IsTrue same → view made.now ≡ view given.now) }
+    // Where they are the same and have no float, it finds so, or there is no memory.
+    ensures found { IsExact (view made.now) → view made.now ≡ view given.now
+        → FindsOrFails (λ same. IsTrue same) result }
 {
     match (made, given) {
         (Value::Null, Value::Null) => Ok(true),
@@ -28,7 +34,9 @@ pub(crate) fn is_same<'v>(
 
 // True if two numbers are the same integer.
 fn is_same_number(made: &Number, given: &Number) -> bool
-    ensures { IsTrue result → number_view made.now ≡ number_view given.now }
+    ensures same { IsTrue result → number_view made.now ≡ number_view given.now }
+    ensures found { is_float (number_view made.now) ≡ false
+        → number_view made.now ≡ number_view given.now → IsTrue result }
 {
     match (made.as_u64(), given.as_u64()) {
         (Some(made), Some(given)) => made == given,
@@ -46,7 +54,9 @@ fn same_items<'v>(
     made: &Vec<Value>,
     given: &'v Vec<Value>,
 ) -> Result<bool, MakeError>
-    ensures { IfOk result (λ same. IsTrue same → items_view made.now.items ≡ items_view given.now.items) }
+    ensures same { IfOk result (λ same. IsTrue same → items_view made.now.items ≡ items_view given.now.items) }
+    ensures found { AreExact (items_view made.now.items) → items_view made.now.items ≡ items_view given.now.items
+        → FindsOrFails (λ same. IsTrue same) result }
 {
     if made.len() != given.len() {
         return Ok(false);
@@ -68,7 +78,9 @@ fn same_members<'v>(
     made: &Map<String, Value>,
     given: &'v Map<String, Value>,
 ) -> Result<bool, MakeError>
-    ensures { IfOk result (λ same. IsTrue same → members_view made.now.entries ≡ members_view given.now.entries) }
+    ensures same { IfOk result (λ same. IsTrue same → members_view made.now.entries ≡ members_view given.now.entries) }
+    ensures found { HaveExact (members_view made.now.entries) → members_view made.now.entries ≡ members_view given.now.entries
+        → FindsOrFails (λ same. IsTrue same) result }
 {
     let mut others = given.iter();
     for (name, member) in made.iter() {
