@@ -22,10 +22,10 @@ type_found : (names : List Named) (n : ℕ) → are_apart names ≡ true → is_
 type_found [] n h k = absurd (true≢false (sym k))
 type_found (no_name ∷ names) zero h k = absurd (true≢false (sym k))
 type_found (no_name ∷ names) (suc n) h k = ap (option_map suc) (type_found names n h k)
-type_found (named form name ∷ names) zero h k = ap (λ b. if b then Some 0 else option_map suc (type_named names name)) (text_itself name)
+type_found (named form name ∷ names) zero h k = ap (λ b. if b then Some zero else option_map suc (type_named names name)) (text_itself name)
 type_found (named form name ∷ names) (suc n) h k =
     let text = name_of (named_at names n) in
-    ap (λ b. if b then Some 0 else option_map suc (type_named names text)) (free_at name names n (first_so (is_free name names) (are_apart names) h) k)
+    ap (λ b. if b then Some zero else option_map suc (type_named names text)) (free_at name names n (first_so (is_free name names) (are_apart names) h) k)
     ∙ ap (option_map suc) (type_found names n (second_so (is_free name names) (are_apart names) h) k)
 
 pub types_by_name : (t : Table) (n : ℕ) → is_named (named_at (names_in t) n) ≡ true → type_named (names_in t) (name_at t n) ≡ Some n
