@@ -61,7 +61,8 @@ kinds_computed t = refl
 
 under_so : (n : ℕ) (f : Form) → is_under n f ≡ true → Under n f
 under_so n (form.ListOf t) h =
-    (ltb-true (levels t) n (first_so (nat_lt (levels t) n) (not (is_message t)) h), not_so (is_message t) (second_so (nat_lt (levels t) n) (not (is_message t)) h))
+    let few = nat_lt (levels t) n in
+    (ltb-true (levels t) n (first_so few (not (is_message t)) h), not_so (is_message t) (second_so few (not (is_message t)) h))
 under_so n f h = tt
 
 under_more : (f : Form) (m n : ℕ) → m ≤ n → Under m f → Under n f

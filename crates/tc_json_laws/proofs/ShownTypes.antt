@@ -135,7 +135,8 @@ pub other_in : (t : Table) (kind : List ℕ) (w : ℕ) (v : List ℕ) → table_
     → (manner_at (rows_in t) (type_of w) ≡ raw) × (length v ≤ 65531) × ((table_codec (table_of t)).write (other w v) ≡ as_frame w v)
 other_in t kind w v p f s =
     let by =
-        other_by (rows_in t) (type_of w) kind w v (subst (λ z. (table_codec z).Fits (other w v)) p f) (subst (λ z. (table_codec z).Settled kind (other w v)) p s)
+        other_by (rows_in t) (type_of w) kind w v (subst (λ z. (table_codec z).Fits (other w v)) p f)
+        (subst (λ z. (table_codec z).Settled kind (other w v)) p s)
     in
     (by.0, by.1, ap (λ z. (table_codec z).write (other w v)) p ∙ by.2)
 
