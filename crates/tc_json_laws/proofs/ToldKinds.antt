@@ -1,5 +1,5 @@
 -- The kinds that JSON tells are those that the attributes set.
-use Rattle.std.proofs.Common.{◌≡◌, ℕ, zero, suc, Bool, false, true≢false, List, [], ◌∷◌, Option, Some, None, option_and_then, refl, sym, ap, ap₂, subst, ◌∙◌}
+use Rattle.std.proofs.Common.{◌≡◌, ℕ, zero, suc, true, false, true≢false, List, [], ◌∷◌, Option, Some, None, option_and_then, refl, sym, ap, ap₂, subst, ◌∙◌}
 use Rattle.std.proofs.Common.{Ordering, Less, Equal, Greater, nat_cmp, is_eq}
 use Rattle.std.specs.Prelude.{bytes_eq, codes, drop, unwrap_or, option_map}
 use Rattle.std.specs.Ordering.{match_ordering}
