@@ -12,3 +12,4 @@ mod Written
 mod WrittenRecords
 mod WrittenTrees
 mod PlainValues
+mod Objects
