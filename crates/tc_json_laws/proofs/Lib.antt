@@ -13,3 +13,4 @@ mod WrittenRecords
 mod WrittenTrees
 mod PlainValues
 mod Objects
+mod FoundRecords
