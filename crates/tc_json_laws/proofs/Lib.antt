@@ -14,3 +14,4 @@ mod WrittenTrees
 mod PlainValues
 mod Objects
 mod FoundRecords
+mod FoundContents
