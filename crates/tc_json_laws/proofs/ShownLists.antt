@@ -1,14 +1,14 @@
 -- The JSON of an attribute is that of the frame that it is written as: by recursion over the values, for every table.
-use Rattle.std.proofs.Common.{◌≡◌, ℕ, suc, ◌<◌, ◌≤◌, ◌^◌, true, false, true≢false, List, [], ◌∷◌, ◌++◌, length, map, Some, inl, inr}
+use Rattle.std.proofs.Common.{◌≡◌, ℕ, ◌<◌, ◌≤◌, ◌^◌, true, false, true≢false, List, [], ◌∷◌, ◌++◌, length, map, Some, inl, inr}
 use Rattle.std.proofs.Common.{refl, sym, ap, subst, ◌∙◌, arith}
-use Rattle.std.specs.Prelude.{bytes_eq, codes}
+use Rattle.std.specs.Prelude.{codes}
 use Rattle.std.specs.List.{AllByRecursion}
 use Rattle.nla_frames.specs.Value.{IsBytes}
 use Rattle.nla_frames.specs.Frame.{Frame, frame_bytes}
 use Rattle.nla_frames.specs.Emission.{list_bytes}
 use Rattle.nla_frames.specs.Reading.{keep}
-use Rattle.nla_frames.specs.Codec.{Codec, SettledEach}
-use Rattle.serde_json.specs.Data.{Data, array, Items, no_items, item}
+use Rattle.nla_frames.specs.Codec.{SettledEach}
+use Rattle.serde_json.specs.Data.{Data, Items, item}
 use Rattle.serde_json.specs.Read.{of_json, of_items}
 use Rattle.tc_canon.specs.Descriptor.{table, every, by_kind, own_list}
 use Rattle.tc_canon.specs.Tables.Actions.{action_attributes}
@@ -22,7 +22,7 @@ use Rattle.tc_names.specs.declared.row.Table.{Table}
 use Rattle.tc_names.specs.declared.row.Table.TheVariants as the
 use Rattle.tc_json.specs.Events.{is_actions, name_at, form_at, kind_name, kind_table}
 use Rattle.tc_json_bytes.specs.Plain.{codec_of}
-use Rattle.tc_json_bytes.specs.Frames.{frames_bytes, kind_after, manner_at, Lists, IsRaw, IsValue, IsAttribute, IsOption, IsAction, IsOne, Each, within}
+use Rattle.tc_json_bytes.specs.Frames.{frames_bytes, kind_after, Lists, IsRaw, IsValue, IsAttribute, IsOption, IsAction, IsOne, Each, within}
 use Rattle.tc_json_laws.specs.Injective.{IsOf, HasForm}
 use Rattle.tc_json_laws.specs.Tree as tree
 use Rattle.tc_json_laws.proofs.Tables.{Shown, by_rows, of_actions, of_kinds, shown, kinds_listed}

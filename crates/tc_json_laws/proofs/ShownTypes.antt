@@ -5,7 +5,7 @@ use Rattle.nla_frames.specs.Frame.{Frame, type_of}
 use Rattle.nla_frames.specs.Codec.{Codec}
 use Rattle.tc_canon.specs.Descriptor.{Class, list_of, table, by_kind, Rows, others, types, unread, options, is_within, is_known}
 use Rattle.tc_meaning.specs.Tree.{Content, Attribute, known, kept, other, of_kind}
-use Rattle.tc_meaning.specs.Meaning.{row_frames, choose, options_frames, unread_frames, class_codec, table_codec}
+use Rattle.tc_meaning.specs.Meaning.{row_frames, choose, unread_frames, class_codec, table_codec}
 use Rattle.tc_meaning.specs.Meaning.{rows_codec, kinds_codec}
 use Rattle.tc_names.specs.Named.{NamedKind, named_at, kind_at}
 use Rattle.tc_names.specs.Listed.{table_of, rows_in, names_in, kind_names_in}

@@ -1,5 +1,5 @@
 -- The kinds that JSON tells are those that the attributes set.
-use Rattle.std.proofs.Common.{◌≡◌, ℕ, zero, suc, true, false, true≢false, List, [], ◌∷◌, Option, Some, None, option_and_then, refl, sym, ap, ap₂, subst, ◌∙◌}
+use Rattle.std.proofs.Common.{◌≡◌, ℕ, zero, suc, true, false, true≢false, List, ◌∷◌, Option, Some, None, option_and_then, refl, sym, ap, ap₂, subst, ◌∙◌}
 use Rattle.std.proofs.Common.{Ordering, Less, Equal, Greater, nat_cmp, is_eq}
 use Rattle.std.specs.Prelude.{bytes_eq, codes, drop, unwrap_or, option_map}
 use Rattle.std.specs.Ordering.{match_ordering}
@@ -7,18 +7,16 @@ use Rattle.std.specs.Cmp.Lexicographic.{slice_cmp}
 use Rattle.std.specs.List.{AllByRecursion}
 use Rattle.std.proofs.lemmas.Map.Text.{is_eq-slice_cmp}
 use Rattle.nla_frames.specs.Place.{kind_before, kinds_set}
-use Rattle.serde_json.specs.Data.{Data, string, array, Items, no_items, item}
+use Rattle.serde_json.specs.Data.{Data, string, array, Items}
 use Rattle.serde_json.specs.Find.{as_str, as_array}
 use Rattle.serde_json.specs.Read.{of_json, of_items}
-use Rattle.tc_meaning.specs.Tree.{Content, is_bytes, items, Attribute, known, kept, other, of_kind, Attributes, none, and, list_of_attributes}
+use Rattle.tc_meaning.specs.Tree.{Content, items, Attribute, known, kept, other, of_kind, Attributes, none, and, list_of_attributes}
 use Rattle.tc_meaning.specs.Content.{some_bytes}
 use Rattle.tc_meaning.specs.Own.{kind_of_attribute}
 use Rattle.tc_meaning.specs.Meaning.{a_list}
 use Rattle.tc_names.specs.Named.{Named, no_name, named, name_of, form_of, named_at}
 use Rattle.tc_names.specs.Listed.{names_in}
-use Rattle.tc_names.specs.declared.row.Form.{Form}
 use Rattle.tc_names.specs.declared.row.Form.TheVariants as form
-use Rattle.tc_names.specs.declared.row.Table.{Table}
 use Rattle.tc_names.specs.declared.row.Table.TheVariants as the
 use Rattle.tc_json_bytes.specs.Objects.{one}
 use Rattle.tc_json_bytes.specs.Frames.{told_kind, told_kinds, and_told, kind_or}
