@@ -162,8 +162,12 @@ held_in_rows t kind depth n x d p q deep h f s e =
       held = read.0;
       read = read.1;
       shown_by = λ value. one_of_rows list t kind d frame p
-          (inl (name_at t n, read.0, read.2,
-          (own.0, own.1, n, types_by_name t n by.has_name, by.word, subst (IsValue list (form_at t n) kind read.0) (sym by.value) value)))
+          (inl (
+            name_at t n,
+            read.0,
+            read.2,
+            (own.0, own.1, n, types_by_name t n by.has_name, by.word, subst (IsValue list (form_at t n) kind read.0) (sym by.value) value),
+          ))
           by.short;
     }
 
@@ -178,8 +182,7 @@ held_in_actions t kind depth n x d p q deep h f s e =
     let settled : codec.Settled kind (known n x) = subst (λ z. (table_codec z).Settled kind (known n x)) p s in
     let typed = action_is t n x h q in
     let read =
-        two_read (codes "tab") (codes "attributes") (tree.unsigned n) (tree.content actions x) d refl (subst (λ b. of_json (of_known t n x b) ≡ Some d) q e)
-    in
+    two_read (codes "tab") (codes "attributes") (tree.unsigned n) (tree.content actions x) d refl (subst (λ b. of_json (of_known t n x b) ≡ Some d) q e) in
     let place = read.5 ∙ sym read.2 ∙ number_read n (omega (arith, settled.0)) in
     record {
       of_form = actions;
@@ -192,10 +195,16 @@ held_in_actions t kind depth n x d p q deep h f s e =
       read = read.3;
       shown_by = λ value.
           subst (λ z. IsOne list t kind d ((table_codec z).write (known n x))) (sym p)
-          (one_of_actions list t kind d (codec.write (known n x)) q
-          (read.4, place, settled.0, settled.1.0, value.0, read.6 ∙ ap Some value.2,
-          action_tells x value.0 typed (read.3 ∙ ap Some value.2) ∙ settled.1.1,
-          subst (λ z. IsValue list actions settled.1.0 z ((codec_of actions).write x)) value.2 value)
+          (one_of_actions list t kind d (codec.write (known n x)) q (
+            read.4,
+            place,
+            settled.0,
+            settled.1.0,
+            value.0,
+            read.6 ∙ ap Some value.2,
+            action_tells x value.0 typed (read.3 ∙ ap Some value.2) ∙ settled.1.1,
+            subst (λ z. IsValue list actions settled.1.0 z ((codec_of actions).write x)) value.2 value,
+          )
           fits.1);
     }
 

@@ -74,8 +74,7 @@ pub tc_shown : (m : Message) (d : Data) → TypedTc m → FitsTc m → SettledTc
 tc_shown m d h f s e =
     let fs = frames_of the.Message m.body in
     let each : (ds : Items) → of_items (tree.attributes the.Message (attributes_of m.body)) ≡ Some ds → AreOf 8 the.Message [] ds fs =
-        λ ds is. message_each [] 8 m.body ds (omega arith) h.body f.body.each s.body is
-    in
+    λ ds is. message_each [] 8 m.body ds (omega arith) h.body f.body.each s.body is in
     (fs, message_shown fixed.Header the.Message m d fs h.header each e, bytes_written tc_header attributes m)
 
 pub action_message_shown : (m : Message) (d : Data) → TypedAct m → FitsAct m → SettledAct m → of_json (tree.action_message_json m) ≡ Some d
@@ -89,7 +88,6 @@ action_message_shown m d h f s e =
     let fits = subst (AllByRecursion codec.Fits) (sym (listed_back m.body)) f.body.each in
     let settled = subst (AllByRecursion (codec.Settled [])) (sym (listed_back m.body)) (settled_under codec.Settled [] m.body s.body) in
     let each : (ds : Items) → of_items (tree.attributes the.ActionMessage xs) ≡ Some ds → AreOf 8 the.ActionMessage [] ds fs =
-        λ ds is. subst (λ ys. AreOf 8 the.ActionMessage [] ds (frames_of the.ActionMessage ys)) (listed_back m.body)
-            (each_shown the.ActionMessage [] 8 xs ds refl (omega arith) typed fits settled is)
-    in
+    λ ds is. subst (λ ys. AreOf 8 the.ActionMessage [] ds (frames_of the.ActionMessage ys)) (listed_back m.body)
+    (each_shown the.ActionMessage [] 8 xs ds refl (omega arith) typed fits settled is) in
     (fs, message_shown fixed.ActionHeader the.ActionMessage m d fs h.header each e, bytes_written action_message_header action_message_attributes m)

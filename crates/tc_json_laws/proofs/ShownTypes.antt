@@ -87,21 +87,18 @@ pub known_in : (t : Table) (n : ℕ) (kind : List ℕ) (x : Content) → table_o
     → KnownIn t n kind x ((table_codec (table_of t)).write (known n x))
 known_in t n kind x p h f s =
     let by =
-        known_by (rows_in t) n kind x (options_of t) (subst (λ z. (table_codec z).Typed (known n x)) p h) (subst (λ z. (table_codec z).Fits (known n x)) p f)
-        (subst (λ z. (table_codec z).Settled kind (known n x)) p s)
-    in
+    known_by (rows_in t) n kind x (options_of t) (subst (λ z. (table_codec z).Typed (known n x)) p h) (subst (λ z. (table_codec z).Fits (known n x)) p f)
+    (subst (λ z. (table_codec z).Settled kind (known n x)) p s) in
     let form = form_named t n by.class by.is in
-    let whole : KnownIn t n kind x ((table_codec (table (rows_in t))).write (known n x)) =
-        record {
-          has_name = form.1;
-          typed = subst (λ z. (class_codec z).Typed x) (sym form.0) by.typed;
-          fits = subst (λ z. (class_codec z).Fits x) (sym form.0) by.fits;
-          settled = subst (λ z. (class_codec z).Settled kind x) (sym form.0) by.settled;
-          word = by.word;
-          value = by.value ∙ ap (λ z. (class_codec z).write x) (sym form.0);
-          short = by.short;
-        }
-    in
+    let whole : KnownIn t n kind x ((table_codec (table (rows_in t))).write (known n x)) = record {
+      has_name = form.1;
+      typed = subst (λ z. (class_codec z).Typed x) (sym form.0) by.typed;
+      fits = subst (λ z. (class_codec z).Fits x) (sym form.0) by.fits;
+      settled = subst (λ z. (class_codec z).Settled kind x) (sym form.0) by.settled;
+      word = by.word;
+      value = by.value ∙ ap (λ z. (class_codec z).write x) (sym form.0);
+      short = by.short;
+    } in
     subst (λ z. KnownIn t n kind x ((table_codec z).write (known n x))) (sym p) whole
 
 -- ---- as it stands
@@ -134,10 +131,8 @@ pub other_in : (t : Table) (kind : List ℕ) (w : ℕ) (v : List ℕ) → table_
     → (table_codec (table_of t)).Settled kind (other w v)
     → (manner_at (rows_in t) (type_of w) ≡ raw) × (length v ≤ 65531) × ((table_codec (table_of t)).write (other w v) ≡ as_frame w v)
 other_in t kind w v p f s =
-    let by =
-        other_by (rows_in t) (type_of w) kind w v (subst (λ z. (table_codec z).Fits (other w v)) p f)
-        (subst (λ z. (table_codec z).Settled kind (other w v)) p s)
-    in
+    let by = other_by (rows_in t) (type_of w) kind w v (subst (λ z. (table_codec z).Fits (other w v)) p f)
+    (subst (λ z. (table_codec z).Settled kind (other w v)) p s) in
     (by.0, by.1, ap (λ z. (table_codec z).write (other w v)) p ∙ by.2)
 
 -- options that are kept raw: under a kind that has no table
@@ -166,7 +161,7 @@ kept_by (unread k class rows) n kind w v o h f s =
 kept_by (options k kinds rows) n kind w v o h f s =
     kept_step (n == k) (options_row k kinds) (rows_codec rows n) as_options (manner_at rows n) n kind w v
     (λ t u s.
-      (refl, s.1 ∙ sym t.0, unknown_found (kind_names_in the.Options) kind (subst (λ z. is_known z kind ≡ false) o.0 s.0), u, refl))
+    (refl, s.1 ∙ sym t.0, unknown_found (kind_names_in the.Options) kind (subst (λ z. is_known z kind ≡ false) o.0 s.0), u, refl))
     (kept_by rows n kind w v o.1) h f s
 
 pub kept_in : (t : Table) (n : ℕ) (kind : List ℕ) (w : ℕ) (v : List ℕ) → table_of t ≡ table (rows_in t) → IsOf t (kept n w v)
@@ -174,10 +169,8 @@ pub kept_in : (t : Table) (n : ℕ) (kind : List ℕ) (w : ℕ) (v : List ℕ) �
     → (manner_at (rows_in t) (type_of w) ≡ as_options) × IsUnknown the.Options kind × (length v ≤ 65531)
     × ((table_codec (table_of t)).write (kept n w v) ≡ as_frame w v)
 kept_in t n kind w v p h f s =
-    let by =
-        kept_by (rows_in t) n kind w v (options_of t) (subst (λ z. (table_codec z).Typed (kept n w v)) p h)
-        (subst (λ z. (table_codec z).Fits (kept n w v)) p f) (subst (λ z. (table_codec z).Settled kind (kept n w v)) p s)
-    in
+    let by = kept_by (rows_in t) n kind w v (options_of t) (subst (λ z. (table_codec z).Typed (kept n w v)) p h)
+    (subst (λ z. (table_codec z).Fits (kept n w v)) p f) (subst (λ z. (table_codec z).Settled kind (kept n w v)) p s) in
     (ap (manner_at (rows_in t)) by.1 ∙ by.0, by.2, by.3, ap (λ z. (table_codec z).write (kept n w v)) p ∙ by.4)
 
 -- ---- of a kind
@@ -252,7 +245,6 @@ pub none_in : (t : Table) (kind : List ℕ) (w : ℕ) (v : List ℕ) → table_o
     → (table_codec (table_of t)).Fits (other w v) → (table_codec (table_of t)).Settled kind (other w v)
     → IsUnknown t kind × (length v ≤ 65531) × ((table_codec (table_of t)).write (other w v) ≡ as_frame w v)
 none_in t kind w v p f s =
-    let by =
-        none_by (kind_names_in t) kind w v (subst (λ z. (table_codec z).Fits (other w v)) p f) (subst (λ z. (table_codec z).Settled kind (other w v)) p s)
+    let by = none_by (kind_names_in t) kind w v (subst (λ z. (table_codec z).Fits (other w v)) p f) (subst (λ z. (table_codec z).Settled kind (other w v)) p s)
     in
     (by.0, by.1, ap (λ z. (table_codec z).write (other w v)) p ∙ by.2)

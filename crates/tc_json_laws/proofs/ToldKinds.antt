@@ -58,9 +58,8 @@ told_in rest zero x d free h typed e = absurd (true≢false (sym h))
 told_in rest (suc zero) x d free h typed e =
     let read = one_read (codes "Kind") (tree.content form.Text x) d e in
     let told : told_kind (one (codes "Kind") read.0) ≡ kind_of_attribute (known 1 x) =
-        subst (λ z. of_json (tree.content form.Text z) ≡ Some read.0 → told_kind (one (codes "Kind") read.0) ≡ kind_of_attribute (known 1 z)) typed.0
-        (text_told (some_bytes.out x) read.0) read.1
-    in
+    subst (λ z. of_json (tree.content form.Text z) ≡ Some read.0 → told_kind (one (codes "Kind") read.0) ≡ kind_of_attribute (known 1 z)) typed.0
+    (text_told (some_bytes.out x) read.0) read.1 in
     ap told_kind read.2 ∙ told
 told_in rest (suc (suc n)) x d free h typed e =
     let name = name_of (named_at rest n) in
