@@ -1,2 +1,6 @@
+pub mod Contents
+pub mod Fields
 pub mod Found
+pub mod Frames
+pub mod Objects
 pub mod Plain

@@ -12,3 +12,12 @@ mod Written
 mod WrittenRecords
 mod WrittenTrees
 mod PlainValues
+mod Objects
+mod FoundRecords
+mod FoundContents
+mod TypesByName
+mod ShownTypes
+mod Levels
+mod ToldKinds
+mod ShownLists
+mod ShownMessages
