@@ -4,3 +4,4 @@ pub mod Found
 pub mod Frames
 pub mod Objects
 pub mod Plain
+pub mod Rows

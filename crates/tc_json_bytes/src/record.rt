@@ -8,7 +8,11 @@ ghost use Rattle.tc_texts.specs.Addresses.{ipv4_text};
 ghost use Rattle.tc_texts.specs.Handle.{handle_text};
 ghost use Rattle.tc_texts.specs.Hex.{hex_text};
 ghost use Rattle.tc_texts.specs.Reading.{IsOctets};
+ghost use Rattle.tc_meaning.specs.Tree.{Scalar};
+ghost use Rattle.tc_meaning.specs.Layout.{fields_bytes, TypedFields, SettledFields};
+ghost use Rattle.tc_names.specs.Listed.{layout, field_names_in};
 ghost use Rattle.tc_json_bytes.specs.Found.{Appends};
+ghost use Rattle.tc_json_bytes.specs.Fields.{IsRecord};
 
 use crate::error::{MakeError, Wanted};
 use crate::maker::{Maker, Step};
@@ -23,7 +27,10 @@ pub(crate) fn record<'v>(
     maker: &mut Maker<'v>,
     fixed: Fixed,
     value: &'v Value,
-) -> Result<(), MakeError> {
+) -> Result<(), MakeError>
+    ensures { (ss : List Scalar) → TypedFields (layout fixed) ss → SettledFields (layout fixed) ss → IsRecord (field_names_in fixed) ss (view value.now)
+        → Appends (fields_bytes (layout fixed) ss) maker.old.bytes.items maker.new.bytes.items result }
+{
     known_names(maker, fields(fixed), false, value)?;
     put_fields(maker, fields(fixed), value)
 }

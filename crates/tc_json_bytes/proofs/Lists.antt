@@ -1,0 +1,40 @@
+-- Attributes, one after the other.
+use Rattle.std.proofs.Common.{◌≡◌, ℕ, List, [], ◌∷◌, ◌++◌, refl, sym, ap, ◌∙◌, append_assoc, append-nil}
+use Rattle.nla_frames.specs.Frame.{Frame, frame_bytes}
+use Rattle.nla_frames.specs.Emission.{list_bytes}
+use Rattle.serde_json.specs.Data.{Data, Items, no_items, item}
+use Rattle.tc_names.specs.declared.row.Table.{Table}
+use Rattle.tc_json_bytes.specs.Frames.{frames_bytes, kind_after, IsOne, within, AreOf}
+
+frames_bytes-cons : (f : Frame) (fs : List Frame) → frames_bytes (f ∷ fs) ≡ frame_bytes f ++ frames_bytes fs
+unfolding list_bytes
+frames_bytes-cons f fs = refl
+
+frames_bytes-none : frames_bytes [] ≡ []
+unfolding list_bytes
+frames_bytes-none = refl
+
+-- behind these bytes, what is left makes them the whole
+abbrev pub Left : ℕ → Table → List ℕ → Items → List ℕ → List ℕ → Type 0
+Left depth t kind ds now whole = (fs : List Frame) × AreOf depth t kind ds fs × (whole ≡ now ++ frames_bytes fs)
+
+-- the frame of the first attribute, and what is left behind it
+abbrev pub First : ℕ → Table → List ℕ → Data → Items → List ℕ → List ℕ → Type 0
+First depth t kind d ds now whole =
+    (f : Frame) × IsOne (within depth) t kind d f × Left depth t (kind_after t kind d) ds (now ++ frame_bytes f) whole
+
+pub first-of_left : (depth : ℕ) (t : Table) (kind : List ℕ) (d : Data) (ds : Items) (now whole : List ℕ)
+    → Left depth t kind (item d ds) now whole → First depth t kind d ds now whole
+first-of_left depth t kind d ds now whole left = go left.0 left.1 left.2
+  where
+    go : (fs : List Frame) → AreOf depth t kind (item d ds) fs → whole ≡ now ++ frames_bytes fs → First depth t kind d ds now whole
+    go [] are is = absurd are
+    go (f ∷ fs) are is =
+        (f, are.0, (fs, are.1, is ∙ ap (λ (l : List ℕ). now ++ l) (frames_bytes-cons f fs) ∙ sym (append_assoc now (frame_bytes f) (frames_bytes fs))))
+
+pub nothing_left : (depth : ℕ) (t : Table) (kind : List ℕ) (now whole : List ℕ) → Left depth t kind no_items now whole → now ≡ whole
+nothing_left depth t kind now whole left = go left.0 left.1 left.2
+  where
+    go : (fs : List Frame) → AreOf depth t kind no_items fs → whole ≡ now ++ frames_bytes fs → now ≡ whole
+    go [] are is = sym (is ∙ ap (λ (l : List ℕ). now ++ l) frames_bytes-none ∙ append-nil now)
+    go (f ∷ fs) are is = absurd are
