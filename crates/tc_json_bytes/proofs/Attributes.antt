@@ -32,46 +32,6 @@ module _ (N : Lists) where
   option-one t kind d f (inl h) = (h.0.name, h.1, h.3)
   option-one t kind d f (inr h) = (codes "Other", h.0, h.2)
 
-  -- ---- attributes, by the name of the variant
-
-  pub in_other : (t : Table) (kind name : List ℕ) (held : Data) (f : Frame) → bytes_eq name (codes "Other") ≡ true → IsAttribute N t kind (one name held) f
-      → (manner_at (rows_in t) (type_of f.word) ≡ raw) × IsRaw f held
-  in_other t kind name held f is (inl h) =
-      let same : name ≡ h.0 = cc in
-      absurd (true≢false (sym is ∙ ap (λ (n : List ℕ). bytes_eq n (codes "Other")) same ∙ h.3.0))
-  in_other t kind name held f is (inr (inl h)) =
-      let same : h.0 ≡ held = cc in
-      (h.2, subst (λ (x : Data). IsRaw f x) same h.3)
-  in_other t kind name held f is (inr (inr h)) =
-      let same : name ≡ codes "OptionsRaw" = cc in
-      absurd (true≢false (sym is ∙ ap (λ (n : List ℕ). bytes_eq n (codes "Other")) same))
-
-  pub in_options_raw : (t : Table) (kind name : List ℕ) (held : Data) (f : Frame) → bytes_eq name (codes "OptionsRaw") ≡ true
-      → IsAttribute N t kind (one name held) f
-      → (t ≡ the.Message) × IsUnknown the.Options kind × (manner_at (rows_in t) (type_of f.word) ≡ as_options) × IsRaw f held
-  in_options_raw t kind name held f is (inl h) =
-      let same : name ≡ h.0 = cc in
-      absurd (true≢false (sym is ∙ ap (λ (n : List ℕ). bytes_eq n (codes "OptionsRaw")) same ∙ h.3.1))
-  in_options_raw t kind name held f is (inr (inl h)) =
-      let same : name ≡ codes "Other" = cc in
-      absurd (true≢false (sym is ∙ ap (λ (n : List ℕ). bytes_eq n (codes "OptionsRaw")) same))
-  in_options_raw t kind name held f is (inr (inr h)) =
-      let same : h.0 ≡ held = cc in
-      (h.2, h.3, h.4, subst (λ (x : Data). IsRaw f x) same h.5)
-
-  pub in_type : (t : Table) (kind name : List ℕ) (held : Data) (f : Frame) → bytes_eq name (codes "Other") ≡ false → bytes_eq name (codes "OptionsRaw") ≡ false
-      → IsAttribute N t kind (one name held) f → IsTyped N t kind name held f
-  in_type t kind name held f other raw_options (inl h) =
-      let same_name : h.0 ≡ name = cc in
-      let same : h.1 ≡ held = cc in
-      subst (λ (n : List ℕ). IsTyped N t kind n held f) same_name (subst (λ (x : Data). IsTyped N t kind h.0 x f) same h.3)
-  in_type t kind name held f other raw_options (inr (inl h)) =
-      let same : codes "Other" ≡ name = cc in
-      absurd (true≢false (ap (λ (n : List ℕ). bytes_eq n (codes "Other")) same ∙ other))
-  in_type t kind name held f other raw_options (inr (inr h)) =
-      let same : codes "OptionsRaw" ≡ name = cc in
-      absurd (true≢false (ap (λ (n : List ℕ). bytes_eq n (codes "OptionsRaw")) same ∙ raw_options))
-
   -- ---- options
 
   pub known_option : (t : Table) (kind name : List ℕ) (held : Data) (f : Frame) (k : NamedKind) → IsKnown t kind k → IsOption N t kind (one name held) f
@@ -84,18 +44,7 @@ module _ (N : Lists) where
       subst (λ (n : NamedKind). IsAttribute N n.table kind held f) same_kind (subst (λ (x : Data). IsAttribute N h.0.table kind x f) same h.4))
   known_option t kind name held f k known (inr h) = cc
 
-  pub unknown_option : (t : Table) (kind name : List ℕ) (held : Data) (f : Frame) → IsUnknown t kind → IsOption N t kind (one name held) f
-      → (name ≡ codes "Other") × IsRaw f held
-  unknown_option t kind name held f unknown (inl h) = cc
-  unknown_option t kind name held f unknown (inr h) =
-      let same_name : name ≡ codes "Other" = cc in
-      let same : h.0 ≡ held = cc in
-      (same_name, subst (λ (x : Data). IsRaw f x) same h.3)
-
   -- ---- one of a table, by the table
-
-  pub one_action : (t : Table) (kind : List ℕ) (d : Data) (f : Frame) → t ≡ the.Actions → IsOne N t kind d f → IsAction N d f × (length f.value ≤ 65531)
-  one_action t kind d f is h = subst (λ (u : Table). IsOne N u kind d f) is h
 
   pub one_option : (t : Table) (kind : List ℕ) (d : Data) (f : Frame) → (t ≡ the.ActionOptions) ⊎ (t ≡ the.Options) → IsOne N t kind d f
       → IsOption N t kind d f × (length f.value ≤ 65531)
@@ -113,27 +62,7 @@ module _ (N : Lists) where
 
   -- ---- what an attribute holds
 
-  pub list_value : (t : Table) (form : Form) (kind : List ℕ) (d : Data) (bytes : List ℕ) → form ≡ form.ListOf t → IsValue N form kind d bytes
-      → (ds : Items) × (fs : List Frame) × (d ≡ array ds) × N t kind ds fs × (bytes ≡ frames_bytes fs)
-  list_value t f kind d bytes is h = subst (λ (g : Form). IsValue N g kind d bytes) is h
-
-  pub plain_value : (form : Form) (kind : List ℕ) (d : Data) (bytes : List ℕ) → ((t : Table) → form ≡ form.ListOf t → ⊥) → IsValue N form kind d bytes
-      → (x : Content) × (codec_of form).Typed x × (codec_of form).Fits x × (codec_of form).Settled kind x × IsContent form x d
-      × (bytes ≡ (codec_of form).write x)
+  pub plain_value : (g : Form) (kind : List ℕ) (d : Data) (bytes : List ℕ) → ((t : Table) → g ≡ form.ListOf t → ⊥) → IsValue N g kind d bytes
+      → (x : Content) × (codec_of g).Typed x × (codec_of g).Fits x × (codec_of g).Settled kind x × IsContent g x d × (bytes ≡ (codec_of g).write x)
   plain_value (form.ListOf t) kind d bytes other h = absurd (other t refl)
   plain_value _ kind d bytes other h = h
-
--- lists nest one level less deep within a value
-pub one_deeper : (depth : ℕ) (t : Table) (kind : List ℕ) (ds : Items) (fs : List Frame) → (depth ≡ 0 → ⊥) → within depth t kind ds fs
-    → AreOf (depth - 1) t kind ds fs
-one_deeper zero t kind ds fs full h = absurd (full refl)
-one_deeper (suc depth) t kind ds fs full h =
-    let e : depth ≡ suc depth - 1 = omega arith in
-    subst (λ (n : ℕ). AreOf n t kind ds fs) e h
-
--- ---- kinds
-
--- only in a message a kind is set for what comes after it
-pub keeps_kind : (t : Table) (kind : List ℕ) (d : Data) → (t ≡ the.Message → ⊥) → kind ≡ kind_after t kind d
-keeps_kind the.Message kind d other = absurd (other refl)
-keeps_kind _ kind d other = refl

@@ -60,48 +60,7 @@ named_at-row [] i = refl
 named_at-row (r ∷ rs) zero = refl
 named_at-row (r ∷ rs) (suc i) = named_at-row rs i
 
--- no type's name is empty
-pub no_empty_name : (t : Table) → type_named (names_in t) [] ≡ None
-no_empty_name the.Message = refl
-no_empty_name _ = refl
-
 -- tables have few types
 pub few_names : (t : Table) → length (names_in t) ≤ 110
 few_names the.Message = lit≤ tt
 few_names _ = lit≤ tt
-
--- a type that is found is one of the table
-behind_one : (o : Option ℕ) (n len : ℕ) → option_map suc o ≡ Some n → ((m : ℕ) → o ≡ Some m → m < len) → n < suc len
-behind_one None n len is small = cc
-behind_one (Some m) n len is small =
-    let e : suc m ≡ n = cc in
-    let l = small m refl in
-    omega arith
-
-found_below : (names : List Named) (name : List ℕ) (n : ℕ) → type_named names name ≡ Some n → n < length names
-found_below [] name n is = cc
-found_below (no_name ∷ names) name n is = behind_one (type_named names name) n (length names) is (found_below names name)
-found_below (named form other ∷ names) name n is = go (bytes_eq other name) (found_below names name) is
-  where
-    go : (b : Bool) → ((m : ℕ) → type_named names name ≡ Some m → m < length names) → (if b then Some 0 else option_map suc (type_named names name)) ≡ Some n
-        → n < suc (length names)
-    go true rest e = let z : 0 ≡ n = cc in omega arith
-    go false rest e = behind_one (type_named names name) n (length names) e rest
-
-pub found_small : (t : Table) (name : List ℕ) (n : ℕ) → type_named (names_in t) name ≡ Some n → n < 2 ^ 15
-found_small t name n is = omega (arith, found_below (names_in t) name n is, few_names t)
-
--- what is found says what is asked of the type
-pub same_type : (t : Table) (name kind : List ℕ) (number n word : ℕ) (r : Row) → type_named (names_in t) name ≡ Some number
-    → named_of r ≡ named_at (names_in t) number → manner_of r ≡ manner_at (rows_in t) number
-    → type_named (names_in t) name ≡ Some n → HasWord (manner_at (rows_in t) n) kind n word
-    → HasWord (manner_of r) kind number word × (form_of (named_of r) ≡ form_of (named_at (names_in t) n))
-same_type t name kind number n word r found is_named is_written asked has =
-    let same : n ≡ number = cc in (
-      subst (λ m. HasWord m kind number word) (sym is_written) (subst (λ (m : ℕ). HasWord (manner_at (rows_in t) m) kind m word) same has),
-      ap form_of is_named ∙ ap (λ (m : ℕ). form_of (named_at (names_in t) m)) (sym same),
-    )
-
--- with the nested flag
-pub nested_word : (n : ℕ) → n < 2 ^ 15 → bit_or 0x8000 n ≡ 0x8000 + n
-nested_word n small = or_shifted 1 15 n small
