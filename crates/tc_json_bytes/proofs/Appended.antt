@@ -11,12 +11,6 @@ pub appended : {T : Type 0} (bytes old new : List ℕ) (r : Result T MakeError) 
 appended bytes old new (Ok v) h k = h
 appended bytes old new (Err e) h k = k
 
--- a step between others that leave the bytes as they are
-pub appended_in_place : {T : Type 0} (bytes old new before after : List ℕ) (r : Result T MakeError) → old ≡ before → new ≡ after
-    → Appends bytes old new r → Appends bytes before after r
-appended_in_place bytes old new before after r first last h =
-    subst (λ (l : List ℕ). Appends bytes l after r) first (subst (λ (l : List ℕ). Appends bytes old l r) last h)
-
 -- a frame, by its word and its value
 pub framed_as : {T : Type 0} (f : Frame) (word : ℕ) (value before after : List ℕ) (r : Result T MakeError) → word ≡ f.word → value ≡ f.value
     → length f.value ≤ 65531

@@ -1,8 +1,11 @@
 -- Attributes, one after the other.
-use Rattle.std.proofs.Common.{◌≡◌, ℕ, List, [], ◌∷◌, ◌++◌, refl, sym, ap, ◌∙◌, append_assoc, append-nil}
+use Rattle.std.proofs.Common.{◌≡◌, ℕ, ◌+◌, ◌<◌, List, [], ◌∷◌, ◌++◌, length, get_or, drop, subst, refl, sym, ap, ◌∙◌, append_assoc, append-nil}
+use Rattle.std.proofs.lemmas.List.{drop_more}
 use Rattle.nla_frames.specs.Frame.{Frame, frame_bytes}
 use Rattle.nla_frames.specs.Emission.{list_bytes}
 use Rattle.serde_json.specs.Data.{Data, Items, no_items, item}
+use Rattle.serde_json.specs.View.{view, items_view}
+use Rattle.serde_json.specs.declared.value.Value.{Value}
 use Rattle.tc_names.specs.declared.row.Table.{Table}
 use Rattle.tc_json_bytes.specs.Frames.{frames_bytes, kind_after, IsOne, within, AreOf}
 
@@ -23,7 +26,7 @@ abbrev pub First : ℕ → Table → List ℕ → Data → Items → List ℕ �
 First depth t kind d ds now whole =
     (f : Frame) × IsOne (within depth) t kind d f × Left depth t (kind_after t kind d) ds (now ++ frame_bytes f) whole
 
-pub first-of_left : (depth : ℕ) (t : Table) (kind : List ℕ) (d : Data) (ds : Items) (now whole : List ℕ)
+first-of_left : (depth : ℕ) (t : Table) (kind : List ℕ) (d : Data) (ds : Items) (now whole : List ℕ)
     → Left depth t kind (item d ds) now whole → First depth t kind d ds now whole
 first-of_left depth t kind d ds now whole left = go left.0 left.1 left.2
   where
@@ -31,6 +34,12 @@ first-of_left depth t kind d ds now whole left = go left.0 left.1 left.2
     go [] are is = absurd are
     go (f ∷ fs) are is =
         (f, are.0, (fs, are.1, is ∙ ap (λ (l : List ℕ). now ++ l) (frames_bytes-cons f fs) ∙ sym (append_assoc now (frame_bytes f) (frames_bytes fs))))
+
+pub first_here : (depth : ℕ) (t : Table) (kind : List ℕ) (vs : List Value) (i : ℕ) (x : Value) (now whole : List ℕ) → i < length vs → x ≡ get_or vs i x
+    → Left depth t kind (items_view (drop i vs)) now whole → First depth t kind (view x) (items_view (drop (i + 1) vs)) now whole
+first_here depth t kind vs i x now whole low is left =
+    let here : drop i vs ≡ x ∷ drop (i + 1) vs = drop_more vs i x low ∙ ap (λ (y : Value). y ∷ drop (i + 1) vs) (sym is) in
+    first-of_left depth t kind (view x) (items_view (drop (i + 1) vs)) now whole (subst (λ (ws : List Value). Left depth t kind (items_view ws) now whole) here left)
 
 pub nothing_left : (depth : ℕ) (t : Table) (kind : List ℕ) (now whole : List ℕ) → Left depth t kind no_items now whole → now ≡ whole
 nothing_left depth t kind now whole left = go left.0 left.1 left.2
