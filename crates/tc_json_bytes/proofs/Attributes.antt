@@ -1,11 +1,10 @@
 -- The JSON of attributes, case by case.
-use Rattle.std.proofs.Common.{◌≡◌, ◌⊎◌, ℕ, zero, suc, ◌-◌, ◌≤◌, true, false, true≢false, List, [], ◌∷◌, length, Some, codes, bytes_eq}
-use Rattle.std.proofs.Common.{refl, sym, ap, ap₂, ◌∙◌, subst, arith, inl, inr}
-use Rattle.nla_frames.specs.Frame.{Frame, frame_bytes, type_of}
-use Rattle.serde_json.specs.Data.{Data, array, Items}
+use Rattle.std.proofs.Common.{◌≡◌, ◌⊎◌, ℕ, ◌≤◌, List, length, codes}
+use Rattle.std.proofs.Common.{refl, sym, ap, ap₂, ◌∙◌, subst, inl, inr}
+use Rattle.nla_frames.specs.Frame.{Frame}
+use Rattle.serde_json.specs.Data.{Data}
 use Rattle.tc_meaning.specs.Tree.{Content}
 use Rattle.tc_names.specs.Named.{NamedKind}
-use Rattle.tc_names.specs.Listed.{rows_in}
 use Rattle.tc_names.specs.declared.row.Form.{Form}
 use Rattle.tc_names.specs.declared.row.Form.TheVariants as form
 use Rattle.tc_names.specs.declared.row.Table.{Table}
@@ -13,24 +12,37 @@ use Rattle.tc_names.specs.declared.row.Table.TheVariants as the
 use Rattle.tc_json_bytes.specs.Objects.{one}
 use Rattle.tc_json_bytes.specs.Contents.{IsContent}
 use Rattle.tc_json_bytes.specs.Plain.{codec_of}
-use Rattle.tc_json_bytes.specs.Frames.{Lists, frames_bytes, raw, as_options, manner_at, IsKnown, IsUnknown, kind_or, kind_after, told_kind}
-use Rattle.tc_json_bytes.specs.Frames.{IsRaw, IsValue, IsTyped, IsAttribute, IsOption, IsAction, IsOne, within, AreOf}
+use Rattle.tc_json_bytes.specs.Frames.{Lists, IsKnown}
+use Rattle.tc_json_bytes.specs.Frames.{IsValue, IsAttribute, IsOption, IsOne}
 
 -- ---- objects of one member
 
 -- the member that is found is the member that is
-pub the_one : (d : Data) (name found : List ℕ) (held there : Data) → d ≡ one name held → (found ≡ name) × (there ≡ held) → d ≡ one found there
+the_one : (d : Data) (name found : List ℕ) (held there : Data) → d ≡ one name held → (found ≡ name) × (there ≡ held) → d ≡ one found there
 the_one d name found held there is same = is ∙ ap₂ one (sym same.0) (sym same.1)
 
 module _ (N : Lists) where
-  pub attribute-one : (t : Table) (kind : List ℕ) (d : Data) (f : Frame) → IsAttribute N t kind d f → (name : List ℕ) × (held : Data) × (d ≡ one name held)
+  attribute-one : (t : Table) (kind : List ℕ) (d : Data) (f : Frame) → IsAttribute N t kind d f → (name : List ℕ) × (held : Data) × (d ≡ one name held)
   attribute-one t kind d f (inl h) = (h.0, h.1, h.2)
   attribute-one t kind d f (inr (inl h)) = (codes "Other", h.0, h.1)
   attribute-one t kind d f (inr (inr h)) = (codes "OptionsRaw", h.0, h.1)
 
-  pub option-one : (t : Table) (kind : List ℕ) (d : Data) (f : Frame) → IsOption N t kind d f → (name : List ℕ) × (held : Data) × (d ≡ one name held)
+  option-one : (t : Table) (kind : List ℕ) (d : Data) (f : Frame) → IsOption N t kind d f → (name : List ℕ) × (held : Data) × (d ≡ one name held)
   option-one t kind d f (inl h) = (h.0.name, h.1, h.3)
   option-one t kind d f (inr h) = (codes "Other", h.0, h.2)
+
+  -- what is said of an attribute is said of its member
+  pub found_attribute : (t : Table) (kind : List ℕ) (d : Data) (f : Frame) (name : List ℕ) (held : Data)
+      → ((n : List ℕ) (x : Data) → d ≡ one n x → (name ≡ n) × (held ≡ x)) → IsAttribute N t kind d f → IsAttribute N t kind (one name held) f
+  found_attribute t kind d f name held found h =
+      let v = attribute-one t kind d f h in
+      subst (λ (e : Data). IsAttribute N t kind e f) (the_one d v.0 name v.1 held v.2 (found v.0 v.1 v.2)) h
+
+  pub found_option : (t : Table) (kind : List ℕ) (d : Data) (f : Frame) (name : List ℕ) (held : Data)
+      → ((n : List ℕ) (x : Data) → d ≡ one n x → (name ≡ n) × (held ≡ x)) → IsOption N t kind d f → IsOption N t kind (one name held) f
+  found_option t kind d f name held found h =
+      let v = option-one t kind d f h in
+      subst (λ (e : Data). IsOption N t kind e f) (the_one d v.0 name v.1 held v.2 (found v.0 v.1 v.2)) h
 
   -- ---- options
 
@@ -39,9 +51,10 @@ module _ (N : Lists) where
   known_option t kind name held f k known (inl h) =
       let same_kind : h.0 ≡ k = cc in
       let same_name : name ≡ h.0.name = cc in
-      let same : h.1 ≡ held = cc in
-      (same_name ∙ ap (λ (n : NamedKind). n.name) same_kind,
-      subst (λ (n : NamedKind). IsAttribute N n.table kind held f) same_kind (subst (λ (x : Data). IsAttribute N h.0.table kind x f) same h.4))
+      let same : h.1 ≡ held = cc in (
+        same_name ∙ ap (λ (n : NamedKind). n.name) same_kind,
+        subst (λ (n : NamedKind). IsAttribute N n.table kind held f) same_kind (subst (λ (x : Data). IsAttribute N h.0.table kind x f) same h.4),
+      )
   known_option t kind name held f k known (inr h) = cc
 
   -- ---- one of a table, by the table

@@ -35,11 +35,14 @@ first-of_left depth t kind d ds now whole left = go left.0 left.1 left.2
     go (f ∷ fs) are is =
         (f, are.0, (fs, are.1, is ∙ ap (λ (l : List ℕ). now ++ l) (frames_bytes-cons f fs) ∙ sym (append_assoc now (frame_bytes f) (frames_bytes fs))))
 
-pub first_here : (depth : ℕ) (t : Table) (kind : List ℕ) (vs : List Value) (i : ℕ) (x : Value) (now whole : List ℕ) → i < length vs → x ≡ get_or vs i x
-    → Left depth t kind (items_view (drop i vs)) now whole → First depth t kind (view x) (items_view (drop (i + 1) vs)) now whole
-first_here depth t kind vs i x now whole low is left =
-    let here : drop i vs ≡ x ∷ drop (i + 1) vs = drop_more vs i x low ∙ ap (λ (y : Value). y ∷ drop (i + 1) vs) (sym is) in
-    first-of_left depth t kind (view x) (items_view (drop (i + 1) vs)) now whole (subst (λ (ws : List Value). Left depth t kind (items_view ws) now whole) here left)
+-- the same of values, of which `x` is the next
+pub first_here : (depth : ℕ) (t : Table) (kind : List ℕ) (vs xs : List Value) (i : ℕ) (x : Value) (now whole : List ℕ) → xs ≡ vs → i < length xs
+    → x ≡ get_or xs i x → Left depth t kind (items_view (drop i vs)) now whole → First depth t kind (view x) (items_view (drop (i + 1) vs)) now whole
+first_here depth t kind vs xs i x now whole same low is left =
+    let next : drop i xs ≡ x ∷ drop (i + 1) xs = drop_more xs i x low ∙ ap (λ (y : Value). y ∷ drop (i + 1) xs) (sym is) in
+    let here = subst (λ (ws : List Value). drop i ws ≡ x ∷ drop (i + 1) ws) same next in
+    first-of_left depth t kind (view x) (items_view (drop (i + 1) vs)) now whole
+    (subst (λ (ws : List Value). Left depth t kind (items_view ws) now whole) here left)
 
 pub nothing_left : (depth : ℕ) (t : Table) (kind : List ℕ) (now whole : List ℕ) → Left depth t kind no_items now whole → now ≡ whole
 nothing_left depth t kind now whole left = go left.0 left.1 left.2

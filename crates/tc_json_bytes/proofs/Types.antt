@@ -1,17 +1,14 @@
 -- Types by their names: what a search over the rows finds.
-use Rattle.std.proofs.Common.{◌≡◌, ℕ, zero, suc, ◌+◌, ◌<◌, ◌≤◌, ◌^◌, Bool, true, false, true≢false, List, [], ◌∷◌, length, get_or, map, drop}
-use Rattle.std.proofs.Common.{Option, Some, None, refl, sym, ap, ◌∙◌, subst, arith, lit≤, bit_or}
+use Rattle.std.proofs.Common.{◌≡◌, ℕ, zero, suc, ◌+◌, ◌≤◌, Bool, true, false, true≢false, List, [], ◌∷◌, length, get_or, map, drop}
+use Rattle.std.proofs.Common.{Option, Some, None, refl, ap, ◌∙◌, arith, lit≤}
 use Rattle.std.specs.Prelude.{◌==◌, if◌then◌else◌, bytes_eq, option_map}
-use Rattle.std.proofs.lemmas.Nat.{or_shifted}
-use Rattle.tc_canon.specs.Descriptor.{Rows}
 use Rattle.tc_names.specs.declared.row.Row.{Row}
 use Rattle.tc_names.specs.declared.row.Row.TheVariants.{Kept}
 use Rattle.tc_names.specs.declared.row.Table.{Table}
 use Rattle.tc_names.specs.declared.row.Table.TheVariants as the
-use Rattle.tc_names.specs.Named.{Named, no_name, named, named_of, name_of, form_of, named_at}
-use Rattle.tc_names.specs.Listed.{names_in, rows_in}
-use Rattle.tc_json_bytes.specs.Frames.{type_named, manner_at, HasWord}
-use Rattle.tc_json_bytes.specs.Rows.{manner_of}
+use Rattle.tc_names.specs.Named.{Named, no_name, named, named_of, name_of, named_at}
+use Rattle.tc_names.specs.Listed.{names_in}
+use Rattle.tc_json_bytes.specs.Frames.{type_named}
 
 -- a place behind so many
 abbrev pub placed : ℕ → Option ℕ → Option ℕ

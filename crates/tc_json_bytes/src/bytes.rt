@@ -41,11 +41,7 @@ pub fn message_bytes(
     Ok(maker.bytes)
 }
 
-fn put_header<'v>(
-    maker: &mut Maker<'v>,
-    header: Fixed,
-    json: &'v Value,
-) -> Result<(), MakeError>
+fn put_header<'v>(maker: &mut Maker<'v>, header: Fixed, json: &'v Value) -> Result<(), MakeError>
     ensures { (ms : Members) (d : Data) (ss : List Scalar) → view json.now ≡ object ms → AllAmong (codes "header" ∷ codes "attributes" ∷ []) ms
         → get (codes "header") (view json.now) ≡ Some d → TypedFields (layout header) ss → SettledFields (layout header) ss
         → IsRecord (field_names_in header) ss d
@@ -58,11 +54,7 @@ fn put_header<'v>(
     Ok(())
 }
 
-fn put_attributes<'v>(
-    maker: &mut Maker<'v>,
-    table: Table,
-    json: &'v Value,
-) -> Result<(), MakeError>
+fn put_attributes<'v>(maker: &mut Maker<'v>, table: Table, json: &'v Value) -> Result<(), MakeError>
     ensures { (ds : Items) (fs : List Frame) → get (codes "attributes") (view json.now) ≡ Some (array ds) → AreOf 8 table [] ds fs
         → Appends (frames_bytes fs) maker.old.bytes.items maker.new.bytes.items result }
 {

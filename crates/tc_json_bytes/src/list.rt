@@ -280,12 +280,7 @@ fn nested<'v>(
 }
 
 // The `nla_type` and the form of a name.
-fn typed(
-    maker: &Maker<'_>,
-    table: Table,
-    kind: &str,
-    name: &str,
-) -> Result<(u16, Form), MakeError>
+fn typed(maker: &Maker<'_>, table: Table, kind: &str, name: &str) -> Result<(u16, Form), MakeError>
     ensures { (n word : ℕ) → type_named (names_in table) name.now ≡ Some n → HasWord (manner_at (rows_in table) n) kind.now n word
         → Finds (λ found. (found.0 ≡ word) × (found.1 ≡ form_of (named_at (names_in table) n))) result }
 {

@@ -1,4 +1,4 @@
-use Rattle.std.proofs.Common.{◌≡◌, ◌+◌, List, ℕ, [], ◌++◌, length, drop, get_or, vec_items, refl, sym, ap, subst, subst₂, ◌∙◌, arith}
+use Rattle.std.proofs.Common.{◌≡◌, ◌+◌, List, ℕ, [], ◌++◌, length, drop, vec_items, refl, sym, ap, subst, subst₂, ◌∙◌, arith}
 use Rattle.std.proofs.lemmas.List.{drop_all}
 use Rattle.std.proofs.lemmas.Result.{err_from_is_err_and}
 use Rattle.nla_frames.specs.Frame.{frame_bytes}
@@ -8,11 +8,10 @@ use Rattle.serde_json.specs.declared.value.Value.{Value}
 use Rattle.tc_names.specs.Named.{named_kind}
 use Rattle.tc_names.specs.declared.row.Form.TheVariants.{ListOf}
 use Rattle.tc_names.specs.declared.row.Table.TheVariants.{Action}
-use Rattle.tc_json_bytes.specs.Objects.{one}
 use Rattle.tc_json_bytes.specs.Found.{Appends}
-use Rattle.tc_json_bytes.specs.Frames.{frames_bytes, kind_after, IsValue, IsAttribute, IsOption, within}
+use Rattle.tc_json_bytes.specs.Frames.{frames_bytes, IsValue, within}
 use Rattle.tc_json_bytes.proofs.Appended.{framed_as}
-use Rattle.tc_json_bytes.proofs.Attributes.{the_one, attribute-one, option-one, known_option, one_option, one_attribute, plain_value}
+use Rattle.tc_json_bytes.proofs.Attributes.{found_attribute, found_option, known_option, one_option, one_attribute, plain_value}
 use Rattle.tc_json_bytes.proofs.Lists.{Left, first_here, nothing_left}
 use Rattle.tc_json_bytes.proofs.list.+list.Goals as goal
 
@@ -23,25 +22,23 @@ each-returns-in_err-one t c = λ fs are.
     let l = c.loop-index in
     let all = c.args.attributes.now.items in
     let whole = c.args.maker.now.bytes.items ++ frames_bytes fs in
-    let is = subst (λ (vs : List Value). c.item-item.result ≡ get_or vs l.index c.item-item.result) c.deref-item-items.ensures.value c.item-item.is in
-    let first = first_here c.args.depth c.args.table l.in_force.now all l.index c.item-item.result l.maker.bytes.items whole
-    (omega (arith, ap length c.deref-item-items.ensures.value)) is (l.invariant.1 whole (fs, are, refl)) in
+    let first = first_here c.args.depth c.args.table l.in_force.now all c.deref-item-items.result.now l.index c.item-item.result l.maker.bytes.items whole
+    c.deref-item-items.ensures.value c.loop-index-test.true c.item-item.is (l.invariant.1 whole (fs, are, refl)) in
     let p = err_from_is_err_and c.from_residual-in_err-one.result c.from_residual-in_err-one.ensures.1 in
     rw (p.1, p.2) (c.in_err-one.ensures first.0 first.1)
 
 pub each-loop-index-preserved : goal.each-loop-index-preserved
 each-loop-index-preserved t c =
     let l = c.loop-index in
-    let all = c.args.attributes.now.items in
-    let is = subst (λ (vs : List Value). c.item-item.result ≡ get_or vs l.index c.item-item.result) c.deref-item-items.ensures.value c.item-item.is in (
+    let all = c.args.attributes.now.items in (
       c.kind_after-in_force.utf8,
       λ whole left.
-          let first = first_here c.args.depth c.args.table l.in_force.now all l.index c.item-item.result l.maker.bytes.items whole
-          (omega (arith, ap length c.deref-item-items.ensures.value)) is (l.invariant.1 whole left) in
+          let first = first_here c.args.depth c.args.table l.in_force.now all c.deref-item-items.result.now l.index c.item-item.result l.maker.bytes.items
+          whole c.deref-item-items.ensures.value c.loop-index-test.true c.item-item.is (l.invariant.1 whole left) in
           let bytes = ap vec_items c.leave.ensures ∙ c.in_ok-one.ensures first.0 first.1
           ∙ ap (λ (b : List ℕ). b ++ frame_bytes first.0) (ap vec_items c.enter.ensures.bytes) in
-          subst₂ (λ (k b : List ℕ). Left c.args.depth c.args.table k (items_view (drop (l.index + 1) all)) b whole) (sym c.kind_after-in_force.ensures) (sym bytes)
-          first.2,
+          subst₂ (λ (k b : List ℕ). Left c.args.depth c.args.table k (items_view (drop (l.index + 1) all)) b whole)
+          (sym c.kind_after-in_force.ensures) (sym bytes) first.2,
     )
 
 pub each-returns : goal.each-returns
@@ -51,7 +48,8 @@ each-returns t c = λ fs are.
     let whole = c.args.maker.now.bytes.items ++ frames_bytes fs in
     let none : drop l.index all ≡ [] = drop_all l.index all (omega (arith, ap length c.deref-item-items.ensures.value)) in
     nothing_left c.args.depth c.args.table l.in_force.now l.maker.bytes.items whole
-    (subst (λ (vs : List Value). Left c.args.depth c.args.table l.in_force.now (items_view vs) l.maker.bytes.items whole) none (l.invariant.1 whole (fs, are, refl)))
+    (subst (λ (vs : List Value). Left c.args.depth c.args.table l.in_force.now (items_view vs) l.maker.bytes.items whole) none
+    (l.invariant.1 whole (fs, are, refl)))
 
 pub one-returns-in-ActionOptions : goal.one-returns-in-ActionOptions
 one-returns-in-ActionOptions t c = λ f h.
@@ -90,19 +88,15 @@ action-returns t c = λ f h small.
 
 pub option-returns-in_err-option_in : goal.option-returns-in_err-option_in
 option-returns-in_err-option_in t c = λ f h small.
-    let d = view c.args.value.now in
-    let v = option-one (within c.args.depth) c.args.table c.args.kind.now d f h in
-    let is = the_one d v.0 c.in_ok-name.name.now v.1 (view c.in_ok-name.held.now) v.2 (c.in_ok-name.ensures v.0 v.1 v.2) in
-    let held = subst (λ (e : Data). IsOption (within c.args.depth) c.args.table c.args.kind.now e f) is h in
+    let held = found_option (within c.args.depth) c.args.table c.args.kind.now (view c.args.value.now) f c.in_ok-name.name.now (view c.in_ok-name.held.now)
+    c.in_ok-name.ensures h in
     let p = err_from_is_err_and c.from_residual-in_err-option_in.result c.from_residual-in_err-option_in.ensures.1 in
     rw (p.1, p.2) (c.in_err-option_in.ensures f held small)
 
 pub option-returns : goal.option-returns
 option-returns t c = λ f h small.
-    let d = view c.args.value.now in
-    let v = option-one (within c.args.depth) c.args.table c.args.kind.now d f h in
-    let is = the_one d v.0 c.in_ok-name.name.now v.1 (view c.in_ok-name.held.now) v.2 (c.in_ok-name.ensures v.0 v.1 v.2) in
-    let held = subst (λ (e : Data). IsOption (within c.args.depth) c.args.table c.args.kind.now e f) is h in
+    let held = found_option (within c.args.depth) c.args.table c.args.kind.now (view c.args.value.now) f c.in_ok-name.name.now (view c.in_ok-name.held.now)
+    c.in_ok-name.ensures h in
     ap vec_items c.leave.ensures ∙ c.in_ok-option_in.ensures f held small ∙ ap (λ (b : List ℕ). b ++ frame_bytes f) (ap vec_items c.enter.ensures.bytes)
 
 pub option_in-returns-else-ne : goal.option_in-returns-else-ne
@@ -115,22 +109,19 @@ option_in-returns-else-ne t c = λ f h small.
 
 pub attribute-returns-in_err-attribute_in : goal.attribute-returns-in_err-attribute_in
 attribute-returns-in_err-attribute_in t c = λ f h small.
-    let d = view c.args.value.now in
-    let v = attribute-one (within c.args.depth) c.args.table c.args.kind.now d f h in
-    let is = the_one d v.0 c.in_ok-name.name.now v.1 (view c.in_ok-name.held.now) v.2 (c.in_ok-name.ensures v.0 v.1 v.2) in
-    let held = subst (λ (e : Data). IsAttribute (within c.args.depth) c.args.table c.args.kind.now e f) is h in
+    let held = found_attribute (within c.args.depth) c.args.table c.args.kind.now (view c.args.value.now) f c.in_ok-name.name.now (view c.in_ok-name.held.now)
+    c.in_ok-name.ensures h in
     let p = err_from_is_err_and c.from_residual-in_err-attribute_in.result c.from_residual-in_err-attribute_in.ensures.1 in
     rw (p.1, p.2) (c.in_err-attribute_in.ensures f held small)
 
 pub attribute-returns : goal.attribute-returns
 attribute-returns t c = λ f h small.
-    let d = view c.args.value.now in
-    let v = attribute-one (within c.args.depth) c.args.table c.args.kind.now d f h in
-    let is = the_one d v.0 c.in_ok-name.name.now v.1 (view c.in_ok-name.held.now) v.2 (c.in_ok-name.ensures v.0 v.1 v.2) in
-    let held = subst (λ (e : Data). IsAttribute (within c.args.depth) c.args.table c.args.kind.now e f) is h in
+    let held = found_attribute (within c.args.depth) c.args.table c.args.kind.now (view c.args.value.now) f c.in_ok-name.name.now (view c.in_ok-name.held.now)
+    c.in_ok-name.ensures h in
     ap vec_items c.leave.ensures ∙ c.in_ok-attribute_in.ensures f held small ∙ ap (λ (b : List ℕ). b ++ frame_bytes f) (ap vec_items c.enter.ensures.bytes)
 
 pub nested-returns-in_default : goal.nested-returns-in_default
 nested-returns-in_default t c = λ bytes h.
     let p = plain_value (within c.args.depth) c.args.form c.args.kind.now (view c.args.value.now) bytes c.in_default.not-ListOf h in
-    subst (λ (l : List ℕ). Appends l c.args.maker.now.bytes.items c.content.new.maker.bytes.items c.content.result) (sym p.5) (c.content.ensures p.0 p.1 p.2 p.3 p.4)
+    subst (λ (l : List ℕ). Appends l c.args.maker.now.bytes.items c.content.new.maker.bytes.items c.content.result) (sym p.5)
+    (c.content.ensures p.0 p.1 p.2 p.3 p.4)

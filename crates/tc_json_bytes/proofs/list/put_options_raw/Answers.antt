@@ -8,7 +8,8 @@ use Rattle.tc_json_bytes.proofs.list.put_options_raw.Goals as goal
 pub returns-then-not-are_options : goal.returns-then-not-are_options
 returns-then-not-are_options c = λ f message unknown options h small.
     let word : c.in_ok-word.word ≡ f.word = c.in_ok-word.ensures.found h.0.0 f.word h.0.1 h.0.2 h.1 h.3 in
-    let yes : c.are_options.result ≡ true = c.are_options.ensures.1 (subst (λ (w : ℕ). manner_at (rows_in c.args.table) (type_of w) ≡ as_options) (sym word) options) in
+    let yes : c.are_options.result ≡ true = c.are_options.ensures.1
+    (subst (λ (w : ℕ). manner_at (rows_in c.args.table) (type_of w) ≡ as_options) (sym word) options) in
     absurd (true≢false (sym yes ∙ c.if-not-are_options.true))
 
 pub returns : goal.returns

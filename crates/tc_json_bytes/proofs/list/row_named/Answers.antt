@@ -10,9 +10,10 @@ use Rattle.tc_json_bytes.proofs.list.row_named.Goals as goal
 
 pub loop-row-init : goal.loop-row-init
 loop-row-init c =
-    let name = c.args.name.now in (
+    let name = c.args.name.now in
+    let rs = c.rows-row-items.result.now in (
       refl,
-      ap (λ (l : List Named). type_named l name) (sym c.rows-row-items.ensures.names) ∙ placed-zero (type_named (map named_of c.rows-row-items.result.now) name),
+      ap (λ (l : List Named). type_named l name) (sym c.rows-row-items.ensures.names) ∙ placed-zero (type_named (map named_of rs) name),
     )
 
 pub returns-then-eq : goal.returns-then-eq
