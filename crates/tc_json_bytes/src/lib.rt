@@ -13,8 +13,11 @@ mod error;
 mod frame;
 mod list;
 mod maker;
+mod named;
 mod object;
 mod record;
+mod selector;
+mod statistics;
 
 pub use bytes::message_bytes;
 pub use error::{MakeError, Wanted};
