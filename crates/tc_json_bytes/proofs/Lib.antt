@@ -1,3 +1,12 @@
 mod Appended
+mod Attributes
+mod FieldForms
 mod Framed
+mod Lists
+mod Manners
+mod NumberNames
+mod PlainLayouts
+mod SelectorKeys
+mod SignedNumbers
+mod Types
 mod Unknown
