@@ -1,7 +1,6 @@
 mod Appended
 mod FieldForms
 mod Framed
-mod NumberNames
 mod PlainLayouts
 mod SelectorKeys
 mod SignedNumbers
