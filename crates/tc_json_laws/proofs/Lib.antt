@@ -21,3 +21,5 @@ mod Levels
 mod ToldKinds
 mod ShownLists
 mod ShownMessages
+mod ExactNumbers
+mod ExactTrees

@@ -1,3 +1,4 @@
 pub mod Apart
+pub mod Exact
 pub mod Injective
 pub mod Tree

@@ -24,6 +24,7 @@ ghost use Rattle.tc_messages.specs.Message.{tc_message};
 ghost use Rattle.tc_action_messages.specs.ActionMessage.{action_message};
 ghost use Rattle.tc_json_laws.specs.Apart.{names_apart, kinds_apart};
 ghost use Rattle.tc_json_bytes.specs.Frames.{frames_bytes, IsMessage};
+ghost use Rattle.tc_json_laws.specs.Exact.{IsExact};
 ghost use Rattle.tc_json_bytes.specs.Plain.{is_plain, plain_data};
 ghost use Rattle.tc_json_laws.specs.Tree.{content, tc_json, action_message_json};
 ghost use Rattle.tc_json_laws.specs.Injective.{IsOf, HasForm, IsInjectiveOn};
@@ -138,8 +139,8 @@ pub fn json_of_messages()
         → of_json (action_message_json m) ≡ Some json }
 {}
 
-/// What is shown of a message that fits and is settled is the JSON of frames, in the sense of `tc_json_bytes`: those that the message is
-/// written as, after its header.
+/// What is shown of a message that fits and is settled is the JSON of a header and of frames, in the sense of
+/// `tc_json_bytes`: of the message's header, and of the frames that its attributes are written as.
 pub fn json_stands_for_bytes()
     ensures tc { (m : Message) (json : Data) → TypedTc m → FitsTc m → SettledTc m → of_json (tc_json m) ≡ Some json
         → (fs : List Frame) × IsMessage fixed.Header the.Message json m.header fs
@@ -147,4 +148,12 @@ pub fn json_stands_for_bytes()
     ensures action { (m : Message) (json : Data) → TypedAct m → FitsAct m → SettledAct m → of_json (action_message_json m) ≡ Some json
         → (fs : List Frame) × IsMessage fixed.ActionHeader the.ActionMessage json m.header fs
         × (act_bytes m ≡ fields_bytes action_message_header m.header ++ frames_bytes fs) }
+{}
+
+/// The JSON of a typed message has no float.
+pub fn exact_json()
+    ensures tc { (m : Message) (json : Data) → TypedTc m → of_json (tc_json m) ≡ Some json
+        → IsExact json }
+    ensures action { (m : Message) (json : Data) → TypedAct m
+        → of_json (action_message_json m) ≡ Some json → IsExact json }
 {}
