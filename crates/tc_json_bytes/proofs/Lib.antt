@@ -4,7 +4,6 @@ mod FieldForms
 mod Framed
 mod Lists
 mod Manners
-mod NumberNames
 mod PlainLayouts
 mod SelectorKeys
 mod SignedNumbers

@@ -1,7 +1,7 @@
 -- Records without a named number: each value of theirs is settled.
 use Rattle.std.proofs.Common.{◌≡◌, Bool, true, false, true≢false, List, [], ◌∷◌, refl, sym}
 use Rattle.tc_canon.specs.Descriptor.{Field, little, big, named, octets, pad}
-use Rattle.tc_canon.specs.Layouts.{selector_head, selector_key, fq_codel_qd_stats, fq_codel_cl_stats}
+use Rattle.tc_canon.specs.Layouts.{selector_head, selector_key}
 use Rattle.tc_meaning.specs.Tree.{Scalar}
 use Rattle.tc_meaning.specs.Layout.{SettledFields}
 
@@ -27,9 +27,3 @@ head_settled ss = settled selector_head ss refl
 
 pub key_settled : (ss : List Scalar) → SettledFields selector_key ss
 key_settled ss = settled selector_key ss refl
-
-pub qdisc_settled : (ss : List Scalar) → SettledFields fq_codel_qd_stats ss
-qdisc_settled ss = settled fq_codel_qd_stats ss refl
-
-pub class_settled : (ss : List Scalar) → SettledFields fq_codel_cl_stats ss
-class_settled ss = settled fq_codel_cl_stats ss refl

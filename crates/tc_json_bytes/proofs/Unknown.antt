@@ -2,8 +2,6 @@
 use Rattle.std.proofs.Common.{◌≡◌, ℕ, Bool, false, true≢false, List, [], ◌∷◌, ◌||◌, map, Bor, refl, sym, ap, ◌∙◌}
 use Rattle.std.specs.Prelude.{bytes_eq}
 use Rattle.std.specs.List.{list_any}
-use Rattle.std.proofs.lemmas.Bool.Decides.{same_from_decides, Decides-like}
-use Rattle.std.proofs.lemmas.Slice.Eq.{bytes_eq-Decides}
 use Rattle.serde_json.specs.Data.{Data, Members, member}
 use Rattle.tc_json_bytes.specs.Found.{AllAmong}
 
@@ -19,8 +17,3 @@ never_unknown names name held rest is_known all asked isnt = absurd (true≢fals
 pub never_other : {P : Type 0} (names : List (List ℕ)) (name : List ℕ) (held : Data) (rest : Members) (is_known : Bool)
     → AllAmong names (member name held rest) → is_known ≡ list_any (λ n. bytes_eq n name) names → is_known ≡ false → P
 never_other names name held rest is_known all asked isnt = absurd (true≢false (sym all.0 ∙ sym asked ∙ isnt))
-
--- texts are compared either way round
-pub bytes_eq_swapped : (a b : List ℕ) → bytes_eq a b ≡ bytes_eq b a
-bytes_eq_swapped a b =
-    same_from_decides (bytes_eq a b) (bytes_eq b a) (bytes_eq-Decides a b) (Decides-like (bytes_eq b a) (λ e. sym e) (λ e. sym e) (bytes_eq-Decides b a))

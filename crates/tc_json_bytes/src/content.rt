@@ -14,9 +14,7 @@ ghost use Rattle.tc_json_bytes.specs.Plain.{codec_of};
 use crate::error::{MakeError, Wanted};
 use crate::maker::Maker;
 use crate::object::{number, text};
-use crate::record::{
-    put_big, put_handle, put_hex, put_hex_of, put_ipv4, put_little, record,
-};
+use crate::record::{put_big, put_handle, put_hex, put_hex_of, put_ipv4, put_little, record};
 use crate::selector::selector;
 use crate::statistics::statistics;
 use nla_frames::strip_nul;

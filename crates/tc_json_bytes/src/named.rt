@@ -93,11 +93,7 @@ fn unnamed_number<'v>(
 }
 
 // The number that an `Other` holds; of a signed one, its bits.
-fn other_number<'v>(
-    maker: &Maker<'v>,
-    which: Numbers,
-    value: &'v Value,
-) -> Result<u32, MakeError>
+fn other_number<'v>(maker: &Maker<'v>, which: Numbers, value: &'v Value) -> Result<u32, MakeError>
     ensures { (n : ℕ) → n < 256 ^ number_width which → view value.now ≡ other_data which n → Finds (λ m. m ≡ n) result }
 {
     match which {

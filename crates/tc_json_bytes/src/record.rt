@@ -156,11 +156,7 @@ fn is_inner(fields: &[Field], member: &str) -> bool
     }
 }
 
-fn put_field<'v>(
-    maker: &mut Maker<'v>,
-    form: FieldForm,
-    value: &'v Value,
-) -> Result<(), MakeError>
+fn put_field<'v>(maker: &mut Maker<'v>, form: FieldForm, value: &'v Value) -> Result<(), MakeError>
     ensures { (s : Scalar) → TypedField (form_field form) s → SettledField (form_field form) s → IsField form s (view value.now)
         → Appends (field_bytes (form_field form) s) maker.old.bytes.items maker.new.bytes.items result }
 {

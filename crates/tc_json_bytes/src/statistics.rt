@@ -54,11 +54,7 @@ fn fq_codel_statistics<'v>(maker: &mut Maker<'v>, value: &'v Value) -> Result<()
 }
 
 // Statistics of fq_codel in the variant of this name.
-fn put_fq_codel<'v>(
-    maker: &mut Maker<'v>,
-    name: &'v str,
-    value: &'v Value,
-) -> Result<(), MakeError>
+fn put_fq_codel<'v>(maker: &mut Maker<'v>, name: &'v str, value: &'v Value) -> Result<(), MakeError>
     ensures { (x : Content) → xstats_codec.Typed x → xstats_codec.Settled (codes "fq_codel") x → IsVariantOfFqCodel x name.now (view value.now)
         → Appends (xstats_codec.write x) maker.old.bytes.items maker.new.bytes.items result }
 {

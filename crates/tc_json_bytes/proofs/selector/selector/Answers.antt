@@ -1,4 +1,4 @@
-use Rattle.std.proofs.Common.{◌≡◌, ◌++◌, length, vec_items, sym, ap, subst, ◌∙◌, arith}
+use Rattle.std.proofs.Common.{◌≡◌, ◌++◌, vec_items, sym, ap, subst, ◌∙◌, arith}
 use Rattle.std.specs.Prelude.{codes, flat_map, Some}
 use Rattle.serde_json.specs.Data.{number, unsigned}
 use Rattle.serde_json.specs.Find.{get}
