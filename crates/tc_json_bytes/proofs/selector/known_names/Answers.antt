@@ -16,4 +16,5 @@ returns-then-not-is_selector_member-clause-known c = λ ms is all.
     let known = subst (λ it. AllAmong selector_names (members_view it)) step (c.loop-name.invariant.1 ms is all) in
     let asked : c.is_selector_member.result ≡ list_any (λ n. bytes_eq n (string_bytes c.in-Some.name.now)) selector_names =
     subst (λ s. c.is_selector_member.result ≡ list_any (λ n. bytes_eq n s) selector_names) c.as_str.ensures.value c.is_selector_member.ensures in
-    never_other selector_names (string_bytes c.in-Some.name.now) (view c.in-Some.held.now) (members_view left) c.is_selector_member.result known asked c.if-not-is_selector_member.true
+    never_other selector_names (string_bytes c.in-Some.name.now) (view c.in-Some.held.now) (members_view left) c.is_selector_member.result known asked
+    c.if-not-is_selector_member.true
