@@ -1,3 +1,11 @@
 mod Appended
+mod Attributes
+mod FieldForms
 mod Framed
+mod Lists
+mod Manners
+mod PlainLayouts
+mod SelectorKeys
+mod SignedNumbers
+mod Types
 mod Unknown

@@ -1,5 +1,5 @@
 -- The JSON of what an attribute holds, where that is no list.
-use Rattle.std.specs.Prelude.{◌≡◌, ℕ, zero, suc, List, [], ◌∷◌, Some, codes}
+use Rattle.std.specs.Prelude.{◌≡◌, zero, suc, List, [], ◌∷◌, Some, codes}
 use Rattle.serde_json.specs.Data.{Data, string, array, Items, no_items, item}
 use Rattle.serde_json.specs.Find.{get}
 use Rattle.tc_meaning.specs.Tree.{Scalar, Content, is_bytes, record_of, keyed, statistics, unknown_statistics}

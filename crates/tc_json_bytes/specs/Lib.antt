@@ -2,5 +2,9 @@ pub mod Contents
 pub mod Fields
 pub mod Found
 pub mod Frames
+pub mod Members
+pub mod Numbers
 pub mod Objects
 pub mod Plain
+pub mod Rows
+pub mod Statistics

@@ -8,14 +8,15 @@ ghost use Rattle.tc_texts.specs.Addresses.{mac_text, ipv6_text};
 ghost use Rattle.tc_texts.specs.Reading.{IsOctets};
 ghost use Rattle.tc_meaning.specs.Tree.{Content};
 ghost use Rattle.tc_json_bytes.specs.Found.{Finds, Appends};
-ghost use Rattle.tc_json_bytes.specs.Plain.{is_plain, plain_data, codec_of};
+ghost use Rattle.tc_json_bytes.specs.Contents.{IsContent};
+ghost use Rattle.tc_json_bytes.specs.Plain.{codec_of};
 
 use crate::error::{MakeError, Wanted};
 use crate::maker::Maker;
 use crate::object::{number, text};
-use crate::record::{
-    put_big, put_handle, put_hex, put_hex_of, put_ipv4, put_little, record, selector, statistics,
-};
+use crate::record::{put_big, put_handle, put_hex, put_hex_of, put_ipv4, put_little, record};
+use crate::selector::selector;
+use crate::statistics::statistics;
 use nla_frames::strip_nul;
 use serde_json::Value;
 use tc_names::{Fixed, Form};
@@ -28,8 +29,7 @@ pub(crate) fn content<'v>(
     kind: &str,
     value: &'v Value,
 ) -> Result<(), MakeError>
-    ensures { (x : Content) → is_plain form ≡ true → (codec_of form).Typed x → (codec_of form).Settled kind.now x
-        → view value.now ≡ plain_data form x
+    ensures { (x : Content) → (codec_of form).Typed x → (codec_of form).Fits x → (codec_of form).Settled kind.now x → IsContent form x (view value.now)
         → Appends ((codec_of form).write x) maker.old.bytes.items maker.new.bytes.items result }
 {
     match form {

@@ -1,6 +1,6 @@
 //! The bytes that are made, and the place in the JSON that they are made of.
 
-ghost use Rattle.std.specs.Prelude.{◌≡◌, ◌++◌, replicate, OnOk, IfErr};
+ghost use Rattle.std.specs.Prelude.{◌≡◌, ◌++◌, [], replicate, OnOk, IfErr};
 ghost use Rattle.tc_json_bytes.specs.declared.error.MakeError.TheVariants.{OutOfMemory};
 
 use crate::error::{MakeError, Wanted};
@@ -28,7 +28,9 @@ pub struct Maker<'v> {
 
 impl<'v> Maker<'v> {
     /// Nothing so far, of the whole JSON.
-    pub fn new(alloc: Global) -> Maker<'v> {
+    pub fn new(alloc: Global) -> Maker<'v>
+        ensures { result.bytes.items ≡ [] }
+    {
         Maker {
             alloc,
             bytes: Vec::new(alloc),

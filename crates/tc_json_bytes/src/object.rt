@@ -1,10 +1,12 @@
 //! Parts of JSON: objects and their members, lists, texts and numbers.
 
-ghost use Rattle.std.specs.Prelude.{◌≡◌, ◌≤◌, ◌≤ℤ◌, ℕ, ℤ, List, map, IfOk, IfErr, Some};
+ghost use Rattle.std.specs.Prelude.{◌≡◌, ◌<◌, ◌≤◌, ◌≤ℤ◌, ◌^◌, ℕ, ℤ, List, map, IfOk, IfErr, Some};
+ghost use Rattle.std.specs.Int.{w32, cast_signed};
 ghost use Rattle.serde_json.specs.Data.{Data, Num, unsigned, number, string, array, object, Items, Members, no_members, member};
 ghost use Rattle.serde_json.specs.Find.{as_i64, get};
 ghost use Rattle.serde_json.specs.View.{view, items_view, members_view};
 ghost use Rattle.tc_json_bytes.specs.Found.{Finds, FindsOrFails, AllAmong};
+ghost use Rattle.tc_json_bytes.specs.Fields.{signed};
 
 use crate::error::{MakeError, Wanted};
 use crate::maker::{Maker, Step};
@@ -114,7 +116,8 @@ pub(crate) fn signed<'v>(
     least: i32,
     most: i32,
 ) -> Result<i32, MakeError>
-    ensures { (n : Num) (z : ℤ) → view value.now ≡ number n → as_i64 n ≡ Some z → least ≤ℤ z → z ≤ℤ most → Finds (λ m. m ≡ z) result }
+    ensures within { IfOk result (λ m. (least ≤ℤ m) × (m ≤ℤ most)) }
+    ensures found { (n : Num) (z : ℤ) → view value.now ≡ number n → as_i64 n ≡ Some z → least ≤ℤ z → z ≤ℤ most → Finds (λ m. m ≡ z) result }
 {
     if let Some(number) = value.as_i64() {
         if let Ok(number) = i32::try_from(number) {
@@ -128,4 +131,11 @@ pub(crate) fn signed<'v>(
         most: u64::from(most.unsigned_abs()),
     };
     Err(maker.wrong(value, wanted))
+}
+
+/// The bits of a signed number of four bytes.
+pub(crate) fn signed_bits<'v>(maker: &Maker<'v>, value: &'v Value) -> Result<u32, MakeError>
+    ensures { (n : ℕ) → n < 256 ^ 4 → view value.now ≡ signed (cast_signed w32 n) → Finds (λ m. m ≡ n) result }
+{
+    Ok(signed(maker, value, i32::MIN, i32::MAX)?.cast_unsigned())
 }

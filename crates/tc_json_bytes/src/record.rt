@@ -1,21 +1,31 @@
-//! Records by their fields, selectors and statistics.
+//! Records by their fields, and the numbers, addresses and bytes in them.
 
-ghost use Rattle.std.specs.Prelude.{◌≡◌, ◌≤◌, ◌<◌, ◌-◌, ◌^◌, ℕ, List, take, drop};
+ghost use Rattle.std.specs.Prelude.{◌≡◌, ◌≤◌, ◌<◌, ◌-◌, ◌^◌, ℕ, List, map, length, take, drop};
+ghost use Rattle.std.specs.Int.{w16, w32, cast_signed};
+ghost use Rattle.std.specs.List.{list_any};
+ghost use Rattle.std.specs.Str.{bytes_eq};
 ghost use Rattle.nla_frames.specs.Value.{le_bytes, be_bytes, IsBytes};
-ghost use Rattle.serde_json.specs.Data.{unsigned, number, string};
+ghost use Rattle.serde_json.specs.Data.{unsigned, number, string, object, Members};
 ghost use Rattle.serde_json.specs.View.{view};
+ghost use Rattle.tc_meaning.specs.Tree.{Scalar};
+ghost use Rattle.tc_meaning.specs.Layout.{field_bytes, fields_bytes, TypedField, TypedFields, SettledField, SettledFields};
+ghost use Rattle.tc_names.specs.Named.{named_field};
+ghost use Rattle.tc_names.specs.Listed.{form_field, layout, layout_of, field_names_in};
 ghost use Rattle.tc_texts.specs.Addresses.{ipv4_text};
 ghost use Rattle.tc_texts.specs.Handle.{handle_text};
 ghost use Rattle.tc_texts.specs.Hex.{hex_text};
 ghost use Rattle.tc_texts.specs.Reading.{IsOctets};
-ghost use Rattle.tc_json_bytes.specs.Found.{Appends};
+ghost use Rattle.tc_json_bytes.specs.Found.{Finds, FindsOrFails, Appends, AllAmong};
+ghost use Rattle.tc_json_bytes.specs.Fields.{signed, outer_names, inner_names, behind_part, IsField, HasFields, IsRecord};
+ghost use Rattle.tc_json_bytes.specs.Members.{member_names};
 
 use crate::error::{MakeError, Wanted};
-use crate::maker::{Maker, Step};
-use crate::object::{enter_member, items, members, number, only, signed, text, variant};
+use crate::maker::Maker;
+use crate::named::put_named;
+use crate::object::{enter_member, members, number, signed, signed_bits, text};
 use nla_frames::laws::in_hand::bytes_in_hand;
 use serde_json::Value;
-use tc_names::{Field, FieldForm, Fixed, Numbers, fields, named_numbers};
+use tc_names::{Field, FieldForm, Fixed, Numbers, fields};
 use tc_texts::{read_handle, read_hex, read_ipv4};
 
 /// A record: an object of its fields.
@@ -23,80 +33,133 @@ pub(crate) fn record<'v>(
     maker: &mut Maker<'v>,
     fixed: Fixed,
     value: &'v Value,
-) -> Result<(), MakeError> {
-    known_names(maker, fields(fixed), false, value)?;
-    put_fields(maker, fields(fixed), value)
+) -> Result<(), MakeError>
+    ensures { (ss : List Scalar) → TypedFields (layout fixed) ss → SettledFields (layout fixed) ss → IsRecord (field_names_in fixed) ss (view value.now)
+        → Appends (fields_bytes (layout fixed) ss) maker.old.bytes.items maker.new.bytes.items result }
+{
+    let fields = fields(fixed);
+    known_names(maker, fields, false, value)?;
+    put_fields(maker, fields, value, value)
 }
 
-fn put_fields<'v>(
+/// The fields from here on: those of `here`, the record or the one within it, and behind the end of that one those of the
+/// record, `whole`.
+pub(crate) fn put_fields<'v>(
     maker: &mut Maker<'v>,
     fields: &'static [Field],
-    value: &'v Value,
-) -> Result<(), MakeError> {
-    let mut object = value;
-    for field in fields {
-        match field {
-            Field::Named(form, name) => {
-                let held = enter_member(maker, object, name)?;
-                put_field(maker, *form, held)?;
-                maker.leave();
-            }
-            Field::Pad(count) => maker.put_zeros(*count)?,
-            Field::Begins(name) => {
-                object = enter_member(maker, value, name)?;
-                known_names(maker, fields, true, object)?;
-            }
-            Field::Ends => {
-                object = value;
-                maker.leave();
-            }
+    whole: &'v Value,
+    here: &'v Value,
+) -> Result<(), MakeError>
+    ensures { (ss : List Scalar) → TypedFields (layout_of fields.now) ss → SettledFields (layout_of fields.now) ss
+        → HasFields (map named_field fields.now) (view whole.now) (view here.now) ss
+        → Appends (fields_bytes (layout_of fields.now) ss) maker.old.bytes.items maker.new.bytes.items result }
+{
+    let Some((field, others)) = fields.split_first() else {
+        return Ok(());
+    };
+    match field {
+        Field::Named(form, name) => {
+            let held = enter_member(maker, here, name)?;
+            put_field(maker, *form, held)?;
+            maker.leave();
+            put_fields(maker, others, whole, here)
+        }
+        Field::Pad(count) => {
+            maker.put_zeros(*count)?;
+            put_fields(maker, others, whole, here)
+        }
+        Field::Begins(name) => {
+            let part = enter_member(maker, whole, name)?;
+            known_names(maker, others, true, part)?;
+            put_fields(maker, others, whole, part)
+        }
+        Field::Ends => {
+            maker.leave();
+            put_fields(maker, others, whole, whole)
         }
     }
-    Ok(())
 }
 
-// Fails at a member that is no field of the record, or of the record within it.
+// Fails at a member that is no field of the record, or of the record within it that these fields begin with.
 fn known_names<'v>(
     maker: &mut Maker<'v>,
     fields: &'static [Field],
     is_within: bool,
     value: &'v Value,
-) -> Result<(), MakeError> {
+) -> Result<(), MakeError>
+    ensures bytes { maker.new.bytes ≡ maker.old.bytes }
+    ensures known { (ms : Members) → view value.now ≡ object ms → AllAmong (member_names is_within (map named_field fields.now)) ms
+        → Finds (λ u. Unit {0}) result }
+{
     for (name, held) in members(maker, value)?.iter() {
-        if !is_field(fields, is_within, name.as_str()) {
+        if !is_member(fields, is_within, name.as_str()) {
             return Err(maker.unknown(name.as_str(), held));
         }
     }
     Ok(())
 }
 
-fn is_field(fields: &[Field], is_within: bool, member: &str) -> bool {
-    let mut within = false;
-    for field in fields {
-        match field {
-            Field::Named(_, name) => {
-                if within == is_within && *name == member {
-                    return true;
-                }
-            }
-            Field::Begins(name) => {
-                if within == is_within && *name == member {
-                    return true;
-                }
-                within = true;
-            }
-            Field::Ends => within = false,
-            Field::Pad(_) => (),
-        }
+/// True if the record has a member of this name, or the record within it that these fields begin with.
+pub(crate) fn is_member(fields: &[Field], is_within: bool, member: &str) -> bool
+    ensures { result ≡ list_any (λ n. bytes_eq n member.now) (member_names is_within (map named_field fields.now)) }
+{
+    if is_within {
+        is_inner(fields, member)
+    } else {
+        is_outer(fields, member)
     }
-    false
 }
 
-fn put_field<'v>(
-    maker: &mut Maker<'v>,
-    form: FieldForm,
-    value: &'v Value,
-) -> Result<(), MakeError> {
+// True if a record of these fields has a member of this name.
+fn is_outer(fields: &[Field], member: &str) -> bool
+    ensures { result ≡ list_any (λ n. bytes_eq n member.now) (outer_names (map named_field fields.now)) }
+{
+    let Some((field, others)) = fields.split_first() else {
+        return false;
+    };
+    match field {
+        Field::Named(_, name) => *name == member || is_outer(others, member),
+        Field::Begins(name) => *name == member || is_outer(behind_part(others), member),
+        Field::Pad(_) => is_outer(others, member),
+        Field::Ends => is_outer(others, member),
+    }
+}
+
+// The fields behind the record within that these begin with.
+fn behind_part(fields: &[Field]) -> &[Field]
+    ensures behind { outer_names (map named_field result.now) ≡ behind_part (map named_field fields.now) }
+    ensures shorter { length result.now ≤ length fields.now }
+{
+    let Some((field, others)) = fields.split_first() else {
+        return fields;
+    };
+    match field {
+        Field::Named(_, _) => behind_part(others),
+        Field::Pad(_) => behind_part(others),
+        Field::Begins(_) => behind_part(others),
+        Field::Ends => others,
+    }
+}
+
+// True if the record within that these fields begin with has a member of this name.
+fn is_inner(fields: &[Field], member: &str) -> bool
+    ensures { result ≡ list_any (λ n. bytes_eq n member.now) (inner_names (map named_field fields.now)) }
+{
+    let Some((field, others)) = fields.split_first() else {
+        return false;
+    };
+    match field {
+        Field::Named(_, name) => *name == member || is_inner(others, member),
+        Field::Pad(_) => is_inner(others, member),
+        Field::Begins(_) => is_inner(others, member),
+        Field::Ends => false,
+    }
+}
+
+fn put_field<'v>(maker: &mut Maker<'v>, form: FieldForm, value: &'v Value) -> Result<(), MakeError>
+    ensures { (s : Scalar) → TypedField (form_field form) s → SettledField (form_field form) s → IsField form s (view value.now)
+        → Appends (field_bytes (form_field form) s) maker.old.bytes.items maker.new.bytes.items result }
+{
     match form {
         FieldForm::U8 | FieldForm::Flags8 => put_little(maker, value, 0xFF, 1),
         FieldForm::U16 => put_little(maker, value, 0xFFFF, 2),
@@ -104,8 +167,8 @@ fn put_field<'v>(
         FieldForm::U64 => put_little(maker, value, u64::MAX, 8),
         FieldForm::U16Be => put_big(maker, value, 0xFFFF, 2),
         FieldForm::U32Be => put_big(maker, value, 0xFFFF_FFFF, 4),
-        FieldForm::I16 => put_signed(maker, value, -0x8000, 0x7FFF, 2),
-        FieldForm::I32 => put_signed(maker, value, i32::MIN, i32::MAX, 4),
+        FieldForm::I16 => put_i16(maker, value),
+        FieldForm::I32 => put_i32(maker, value),
         FieldForm::Handle => put_handle(maker, value),
         FieldForm::Ipv4 => put_ipv4(maker, value),
         FieldForm::Family => put_named(maker, Numbers::Families, value),
@@ -144,18 +207,22 @@ pub(crate) fn put_big<'v>(
     maker.put(&number.to_be_bytes()[8 - width..])
 }
 
-// A signed number, little-endian, in so many bytes.
-fn put_signed<'v>(
-    maker: &mut Maker<'v>,
-    value: &'v Value,
-    least: i32,
-    most: i32,
-    width: usize,
-) -> Result<(), MakeError>
-    requires { width ≤ 4 }
+// A signed number of two bytes.
+fn put_i16<'v>(maker: &mut Maker<'v>, value: &'v Value) -> Result<(), MakeError>
+    ensures { (n : ℕ) → n < 256 ^ 2 → view value.now ≡ signed (cast_signed w16 n)
+        → Appends (le_bytes 2 n) maker.old.bytes.items maker.new.bytes.items result }
 {
-    let number = signed(maker, value, least, most)?;
-    maker.put(&number.to_le_bytes()[..width])
+    let number = signed(maker, value, -0x8000, 0x7FFF)?;
+    maker.put(&(number as i16).to_le_bytes())
+}
+
+// A signed number of four bytes.
+fn put_i32<'v>(maker: &mut Maker<'v>, value: &'v Value) -> Result<(), MakeError>
+    ensures { (n : ℕ) → n < 256 ^ 4 → view value.now ≡ signed (cast_signed w32 n)
+        → Appends (le_bytes 4 n) maker.old.bytes.items maker.new.bytes.items result }
+{
+    let bits = signed_bits(maker, value)?;
+    maker.put(&bits.to_le_bytes())
 }
 
 /// A handle.
@@ -178,143 +245,12 @@ pub(crate) fn put_ipv4<'v>(maker: &mut Maker<'v>, value: &'v Value) -> Result<()
     }
 }
 
-// A number by its name, or one without a name as `{"Other":n}`.
-fn put_named<'v>(maker: &mut Maker<'v>, which: Numbers, value: &'v Value) -> Result<(), MakeError> {
-    let number = match value.as_str() {
-        Some(name) => match number_named(which, name) {
-            Some(number) => number,
-            None => return Err(maker.wrong(value, Wanted::NamedNumber(which))),
-        },
-        None => other_number(maker, which, value)?,
-    };
-    match which {
-        Numbers::Families => maker.put(&number.to_le_bytes()[..1]),
-        Numbers::ActionTypes | Numbers::MirrorTypes => maker.put(&number.to_le_bytes()),
-    }
-}
-
-// The number of a name.
-fn number_named(which: Numbers, name: &str) -> Option<u32> {
-    for (number, known) in named_numbers(which) {
-        if *known == name {
-            return Some(*number);
-        }
-    }
-    None
-}
-
-// True if a number has a name.
-fn has_name(which: Numbers, number: u32) -> bool {
-    named_numbers(which).iter().any(|named| named.0 == number)
-}
-
-// The number of `{"Other":n}`; of a signed one, its bits.
-fn other_number<'v>(
-    maker: &mut Maker<'v>,
-    which: Numbers,
-    value: &'v Value,
-) -> Result<u32, MakeError> {
-    let held = match value.get("Other") {
-        Some(held) => held,
-        None => return Err(maker.wrong(value, Wanted::NamedNumber(which))),
-    };
-    only(maker, value, &["Other"])?;
-    maker.enter(Step::Member("Other"))?;
-    let number = match which {
-        Numbers::Families => number(maker, held, 0xFF)? as u32,
-        _ => signed(maker, held, i32::MIN, i32::MAX)?.cast_unsigned(),
-    };
-    if has_name(which, number) {
-        return Err(maker.wrong(held, Wanted::UnnamedNumber));
-    }
-    maker.leave();
-    Ok(number)
-}
-
-/// A selector of u32: the fields of its head, and its keys.
-pub(crate) fn selector<'v>(maker: &mut Maker<'v>, value: &'v Value) -> Result<(), MakeError> {
-    for (name, held) in members(maker, value)?.iter() {
-        if name.as_str() != "keys" && !is_field(fields(Fixed::SelectorHead), false, name.as_str()) {
-            return Err(maker.unknown(name.as_str(), held));
-        }
-    }
-    put_fields(maker, fields(Fixed::SelectorHead), value)?;
-    let held = enter_member(maker, value, "keys")?;
-    let keys = items(maker, held)?;
-    for (index, key) in keys.iter().enumerate() {
-        maker.enter(Step::Item(index))?;
-        record(maker, Fixed::SelectorKey, key)?;
-        maker.leave();
-    }
-    maker.leave();
-    let counted = enter_member(maker, value, "nkeys")?;
-    if number(maker, counted, 0xFF)? != keys.len() as u64 {
-        return Err(maker.wrong(counted, Wanted::KeyCount));
-    }
-    maker.leave();
-    Ok(())
-}
-
-/// Statistics under a kind: of fq_codel, those of a qdisc, those of a class or others; of any other kind, any bytes.
-pub(crate) fn statistics<'v>(
-    maker: &mut Maker<'v>,
-    kind: &str,
-    value: &'v Value,
-) -> Result<(), MakeError> {
-    let (name, held) = variant(maker, value)?;
-    maker.enter(Step::Member(name))?;
-    if kind == "fq_codel" {
-        if name != "FqCodel" {
-            return Err(maker.wrong_name(name, Wanted::Name("FqCodel")));
-        }
-        fq_codel_statistics(maker, held)?;
-    } else {
-        if name != "Other" {
-            return Err(maker.wrong_name(name, Wanted::Name("Other")));
-        }
-        put_hex(maker, held)?;
-    }
-    maker.leave();
-    Ok(())
-}
-
-fn fq_codel_statistics<'v>(maker: &mut Maker<'v>, value: &'v Value) -> Result<(), MakeError> {
-    let (name, held) = variant(maker, value)?;
-    maker.enter(Step::Member(name))?;
-    match name {
-        "Qdisc" => {
-            maker.put(&[0, 0, 0, 0])?;
-            record(maker, Fixed::QdiscStats, held)?;
-        }
-        "Class" => {
-            maker.put(&[1, 0, 0, 0])?;
-            record(maker, Fixed::ClassStats, held)?;
-        }
-        "Other" => {
-            put_hex(maker, held)?;
-            match maker.bytes.as_slice() {
-                [0 | 1, 0, 0, 0, ..] => return Err(maker.wrong(held, Wanted::OtherStatistics)),
-                [_, _, _, _, ..] => (),
-                _ => return Err(maker.wrong(held, Wanted::OtherStatistics)),
-            }
-        }
-        _ => return Err(maker.wrong_name(name, Wanted::Name("Qdisc"))),
-    }
-    maker.leave();
-    Ok(())
-}
-
 /// Any bytes, in hex.
 pub(crate) fn put_hex<'v>(maker: &mut Maker<'v>, value: &'v Value) -> Result<(), MakeError>
     ensures { (v : List ℕ) → IsBytes v → view value.now ≡ string (hex_text v) → Appends v maker.old.bytes.items maker.new.bytes.items result }
 {
-    match read_hex(maker.alloc, text(maker, value, Wanted::Hex)?)? {
-        Some(bytes) => {
-            bytes_in_hand(&bytes);
-            maker.put(&bytes)
-        }
-        None => Err(maker.wrong(value, Wanted::Hex)),
-    }
+    let bytes = hex(maker, value, Wanted::Hex)?;
+    maker.put(&bytes)
 }
 
 /// So many bytes, in hex.
@@ -325,15 +261,27 @@ pub(crate) fn put_hex_of<'v>(
 ) -> Result<(), MakeError>
     ensures { (v : List ℕ) → IsOctets len v → view value.now ≡ string (hex_text v) → Appends v maker.old.bytes.items maker.new.bytes.items result }
 {
-    match read_hex(maker.alloc, text(maker, value, Wanted::HexOf(len))?)? {
+    let bytes = hex(maker, value, Wanted::HexOf(len))?;
+    if bytes.len() == len {
+        maker.put(&bytes)
+    } else {
+        Err(maker.wrong(value, Wanted::HexOf(len)))
+    }
+}
+
+/// The bytes of a text in hex; `wanted` says what text it is to be.
+pub(crate) fn hex<'v>(
+    maker: &Maker<'v>,
+    value: &'v Value,
+    wanted: Wanted,
+) -> Result<Vec<u8>, MakeError>
+    ensures { (v : List ℕ) → IsBytes v → view value.now ≡ string (hex_text v) → FindsOrFails (λ b. b.items ≡ v) result }
+{
+    match read_hex(maker.alloc, text(maker, value, wanted)?)? {
         Some(bytes) => {
             bytes_in_hand(&bytes);
-            if bytes.len() == len {
-                maker.put(&bytes)
-            } else {
-                Err(maker.wrong(value, Wanted::HexOf(len)))
-            }
+            Ok(bytes)
         }
-        None => Err(maker.wrong(value, Wanted::HexOf(len))),
+        None => Err(maker.wrong(value, wanted)),
     }
 }

@@ -31,7 +31,7 @@ row_step : {P : Type 0} (b : Bool) (row rest : Codec Frame Attribute) (x : Attri
 row_step true row rest x this that h = this h
 row_step false row rest x this that h = that h
 
-abbrev options_row : ℕ → Kinds → Codec Frame Attribute
+abbrev pub options_row : ℕ → Kinds → Codec Frame Attribute
 options_row n kinds = options_frames n kinds (via a_list (list_codec keep keep (kinds_codec kinds)))
 
 -- what a type holds is typed by a class
@@ -62,7 +62,7 @@ other_in_rows (unread k class rows) n w v h =
     row_step (n == k) (unread_frames k (class_codec class)) (rows_codec rows n) (other w v) (λ t. t) (other_in_rows rows n w v) h
 other_in_rows (options k kinds rows) n w v h = row_step (n == k) (options_row k kinds) (rows_codec rows n) (other w v) (λ t. t) (other_in_rows rows n w v) h
 
-kind_in_rows : (rows : Rows) (n : ℕ) (name : List ℕ) (x : Attribute) → (rows_codec rows n).Typed (of_kind name x) → ⊥
+pub kind_in_rows : (rows : Rows) (n : ℕ) (name : List ℕ) (x : Attribute) → (rows_codec rows n).Typed (of_kind name x) → ⊥
 kind_in_rows others n name x h = elim h [ ]
 kind_in_rows (types first last flags class rows) n name x h =
     row_step (is_within first last n) (row_frames (flags + n) n (class_codec class)) (rows_codec rows n) (of_kind name x)
@@ -106,11 +106,11 @@ one_of (k ∷ j ∷ ks) m n h p q = absurd (omega (arith, ltb-true (suc (suc (le
 
 -- ---- by kind
 
-known_in_kinds : (kinds : Kinds) (n : ℕ) (x : Content) → (kinds_codec kinds).Typed (known n x) → ⊥
+pub known_in_kinds : (kinds : Kinds) (n : ℕ) (x : Content) → (kinds_codec kinds).Typed (known n x) → ⊥
 known_in_kinds unknown n x h = elim h [ ]
 known_in_kinds (kind name rows kinds) n x h = known_in_kinds kinds n x h
 
-kept_in_kinds : (kinds : Kinds) (n w : ℕ) (v : List ℕ) → (kinds_codec kinds).Typed (kept n w v) → ⊥
+pub kept_in_kinds : (kinds : Kinds) (n w : ℕ) (v : List ℕ) → (kinds_codec kinds).Typed (kept n w v) → ⊥
 kept_in_kinds unknown n w v h = elim h [ ]
 kept_in_kinds (kind name rows kinds) n w v h = kept_in_kinds kinds n w v h
 

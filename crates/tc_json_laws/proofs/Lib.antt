@@ -12,5 +12,14 @@ mod Written
 mod WrittenRecords
 mod WrittenTrees
 mod PlainValues
+mod Objects
+mod FoundRecords
+mod FoundContents
+mod TypesByName
+mod ShownTypes
+mod Levels
+mod ToldKinds
+mod ShownLists
+mod ShownMessages
 mod ExactNumbers
 mod ExactTrees

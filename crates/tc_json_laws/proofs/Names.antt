@@ -40,7 +40,7 @@ table_kinds t = refl
 pub text_is : (a b : List ℕ) → bytes_eq a b ≡ true → a ≡ b
 text_is a b e = (bytes_eq-Decides a b).0 e
 
-text_itself : (a : List ℕ) → bytes_eq a a ≡ true
+pub text_itself : (a : List ℕ) → bytes_eq a a ≡ true
 text_itself a = (bytes_eq-Decides a a).1 refl
 
 -- the test is symmetric
@@ -52,7 +52,7 @@ text_flip a b false e = go (bytes_eq b a) refl
     go false u = u
     go true u = absurd (true≢false (sym (subst (λ z. bytes_eq a z ≡ true) (sym (text_is b a u)) (text_itself a)) ∙ e))
 
-not_so : (b : Bool) → not b ≡ true → b ≡ false
+pub not_so : (b : Bool) → not b ≡ true → b ≡ false
 not_so true e = sym e
 not_so false e = refl
 

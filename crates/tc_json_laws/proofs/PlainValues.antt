@@ -16,7 +16,7 @@ abbrev IsRead : Form → Content → Type 0
 IsRead f x = of_json (tree.content f x) ≡ Some (plain_data f x)
 
 -- a number of at most eight bytes
-number_read : (n : ℕ) → n < 2 ^ 64 → of_json (tree.unsigned n) ≡ Some (number (unsigned n))
+pub number_read : (n : ℕ) → n < 2 ^ 64 → of_json (tree.unsigned n) ≡ Some (number (unsigned n))
 number_read n small = ap (option_map number) (number_of-decimal n small)
 
 shaped : {X : Type 0} (f : Form) (shape : Shape X) (c : Content) → shape.into (shape.out c) ≡ c → IsRead f (shape.into (shape.out c)) → IsRead f c

@@ -70,7 +70,7 @@ other_written holds.ActionType n = a_signed (cast_signed w32 n)
 other_written holds.MirrorType n = a_signed (cast_signed w32 n)
 
 -- a field that has a name isn't padding
-not_blank : (form : FieldForm) → TypedField (form_field form) blank → ⊥
+pub not_blank : (form : FieldForm) → TypedField (form_field form) blank → ⊥
 not_blank holds.U8 h = h
 not_blank holds.U16 h = h
 not_blank holds.U32 h = h
@@ -97,14 +97,14 @@ field_written form blank h = absurd (not_blank form h)
 
 -- a record within the record ends, and none is in that
 abbrev mutual
-  Whole : List NamedField → Type 0
+  pub Whole : List NamedField → Type 0
   Whole [] = Unit {0}
   Whole (a_field form name ∷ fs) = Whole fs
   Whole (pad_bytes n ∷ fs) = Whole fs
   Whole (part_begins name ∷ fs) = Within fs
   Whole (part_ends ∷ fs) = ⊥
 
-  Within : List NamedField → Type 0
+  pub Within : List NamedField → Type 0
   Within [] = ⊥
   Within (a_field form name ∷ fs) = Within fs
   Within (pad_bytes n ∷ fs) = Within fs
@@ -157,7 +157,7 @@ mutual
 
 -- ---- records
 
-whole : (f : Fixed) → Whole (field_names_in f)
+pub whole : (f : Fixed) → Whole (field_names_in f)
 whole fixed.Header = tt
 whole fixed.ActionHeader = tt
 whole fixed.Stats = tt

@@ -133,7 +133,7 @@ action_written n es j h =
     in_object None (field_key (codes "tab") AsIs ∷ unsigned n ∷ key ∷ (es ++ map_ends ∷ [])) (json.key (codes "tab") ∷ (json_tokens (tree.unsigned n) ++ tokens))
     (at_field (codes "tab") (unsigned n ∷ key ∷ (es ++ map_ends ∷ [])) (json_tokens (tree.unsigned n) ++ tokens) placed)
 
-abbrev of_known : Table → ℕ → Content → Bool → Json
+abbrev pub of_known : Table → ℕ → Content → Bool → Json
 of_known t n x b = if b then tree.action n (tree.content (form.ListOf the.Action) x) else tree.variant (name_at t n) (tree.content (form_at t n) x)
 
 abbrev IsWrittenIn : Table → Attribute → Type 0

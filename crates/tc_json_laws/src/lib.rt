@@ -2,22 +2,28 @@
 //! two messages differ only where what is sent of them does.
 #![tactic(auto)]
 
-ghost use Rattle.std.specs.Prelude.{◌≡◌, ◌↔◌, IsTrue, true, ℕ, List, Some};
+ghost use Rattle.std.specs.Prelude.{◌≡◌, ◌↔◌, IsTrue, true, ℕ, List, ◌++◌, Some};
 ghost use Rattle.json.specs.Lex.{tokens};
 ghost use Rattle.serde_json.specs.Data.{Data};
 ghost use Rattle.serde_json.specs.Sent.{AreTokensOf};
 ghost use Rattle.serde_json.specs.Read.{of_json, read};
+ghost use Rattle.nla_frames.specs.Frame.{Frame};
 ghost use Rattle.tc_meaning.specs.Tree.{Content};
+ghost use Rattle.tc_meaning.specs.Layout.{fields_bytes};
 ghost use Rattle.tc_meaning.specs.Message.{Message};
 ghost use Rattle.tc_canon.specs.Canonical.{CanonTc, CanonAct};
-ghost use Rattle.tc_meaning.specs.Whole.{ReadsTc, ReadsAct, TypedTc, TypedAct, tc_bytes, act_bytes};
+ghost use Rattle.tc_canon.specs.Layouts.{tc_header, action_message_header};
+ghost use Rattle.tc_meaning.specs.Whole.{ReadsTc, ReadsAct, TypedTc, TypedAct, FitsTc, FitsAct, SettledTc, SettledAct, tc_bytes, act_bytes};
 ghost use Rattle.tc_names.specs.declared.row.Form.{Form};
+ghost use Rattle.tc_names.specs.declared.row.Fixed.TheVariants as fixed;
 ghost use Rattle.tc_names.specs.declared.row.Table.{Table};
+ghost use Rattle.tc_names.specs.declared.row.Table.TheVariants as the;
 ghost use Rattle.tc_names.specs.Listed.{names_in, kind_names_in};
 ghost use Rattle.tc_json.specs.Events.{tc_events, action_message_events, attribute_events, content_events};
 ghost use Rattle.tc_messages.specs.Message.{tc_message};
 ghost use Rattle.tc_action_messages.specs.ActionMessage.{action_message};
 ghost use Rattle.tc_json_laws.specs.Apart.{names_apart, kinds_apart};
+ghost use Rattle.tc_json_bytes.specs.Frames.{frames_bytes, IsMessage};
 ghost use Rattle.tc_json_laws.specs.Exact.{IsExact};
 ghost use Rattle.tc_json_bytes.specs.Plain.{is_plain, plain_data};
 ghost use Rattle.tc_json_laws.specs.Tree.{content, tc_json, action_message_json};
@@ -131,6 +137,17 @@ pub fn json_of_messages()
     ensures action { (m : Message) (text : List ℕ) (json : Data) → TypedAct m
         → AreTokensOf true (Some (action_message_events m)) (tokens text) → read text ≡ Some json
         → of_json (action_message_json m) ≡ Some json }
+{}
+
+/// What is shown of a message that fits and is settled is the JSON of a header and of frames, in the sense of
+/// `tc_json_bytes`: of the message's header, and of the frames that its attributes are written as.
+pub fn json_stands_for_bytes()
+    ensures tc { (m : Message) (json : Data) → TypedTc m → FitsTc m → SettledTc m → of_json (tc_json m) ≡ Some json
+        → (fs : List Frame) × IsMessage fixed.Header the.Message json m.header fs
+        × (tc_bytes m ≡ fields_bytes tc_header m.header ++ frames_bytes fs) }
+    ensures action { (m : Message) (json : Data) → TypedAct m → FitsAct m → SettledAct m → of_json (action_message_json m) ≡ Some json
+        → (fs : List Frame) × IsMessage fixed.ActionHeader the.ActionMessage json m.header fs
+        × (act_bytes m ≡ fields_bytes action_message_header m.header ++ frames_bytes fs) }
 {}
 
 /// The JSON of a typed message has no float.
