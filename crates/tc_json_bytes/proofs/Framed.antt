@@ -11,4 +11,5 @@ framed before value word =
     let len = le_bytes 2 (4 + length value) in
     let kind = le_bytes 2 word in
     let pad : List ℕ = replicate (padding (length value)) 0 in
-    ap (λ l. (l ++ value) ++ pad) (append_assoc before len kind) ∙ append_assoc (before ++ (len ++ kind)) value pad ∙ append_assoc before (len ++ kind) (value ++ pad)
+    ap (λ l. (l ++ value) ++ pad) (append_assoc before len kind) ∙ append_assoc (before ++ (len ++ kind)) value pad
+    ∙ append_assoc before (len ++ kind) (value ++ pad)
