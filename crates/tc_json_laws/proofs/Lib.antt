@@ -1,12 +1,12 @@
-pub mod Parts
-pub mod Numbers
-pub mod Records
-pub mod Contents
+mod Parts
+mod Numbers
+mod Records
+mod Contents
 pub mod Tables
-pub mod Names
-pub mod Attributes
-pub mod Trees
-pub mod WholeMessages
+mod Names
+mod Attributes
+mod Trees
+mod WholeMessages
 mod WrittenBack
 mod Written
 mod WrittenRecords
