@@ -25,5 +25,6 @@ returns-in_err-compare-clause-made c = λ m typed fits settled is.
     let given = c.json_of_messages.ensures.tc m is.0 (view c.args.json.now) typed is.1 is.2 in
     let told = c.json_of_messages.ensures.tc m shown.0 (view c.in_ok-shown.shown) typed shown.1 shown.2 in
     let same = some_same (view c.in_ok-shown.shown) (view c.args.json.now) (sym told ∙ given) in
-    let memory : c.in_err-compare.field-0.0 ≡ OutOfMemory = c.in_err-compare.ensures.found (c.exact_json.ensures.tc m (view c.in_ok-shown.shown) typed told) same in
+    let exact = c.exact_json.ensures.tc m (view c.in_ok-shown.shown) typed told in
+    let memory : c.in_err-compare.field-0.0 ≡ OutOfMemory = c.in_err-compare.ensures.found exact same in
     search rules
