@@ -1,7 +1,5 @@
 -- The JSON of a message becomes its bytes: the steps, over any type of message.
-use Rattle.std.proofs.Common.{◌≡◌, ℕ, List, Some, IfOk, refl, sym, ◌∙◌, ap, subst}
-use Rattle.std.specs.Prelude.{unwrap_or}
-use Rattle.serde_json.specs.Data.{Data}
+use Rattle.std.proofs.Common.{◌≡◌, ℕ, List, IfOk, refl, sym, ◌∙◌, subst}
 use Rattle.tc_meaning.specs.Whole.{Words, Correspond}
 
 -- the bytes are those of a settled message that fits

@@ -139,8 +139,8 @@ fn unread(alloc: Global, error: &DecodeError, json: &Value) -> MakeError
     }
 }
 
-// The JSON of a message. `serde_json` doesn't say why it shows nothing; the forms and the depth of a message are such that it shows all, but
-// where memory runs out.
+// The JSON of a message. No clause says why a message isn't shown: by its forms and its depth it is for want of memory alone, and only tests
+// show that.
 fn shown_of<M: Show>(alloc: Global, message: &M) -> Result<Value, MakeError>
     ensures { FindsOrFails (λ shown. IsJsonOf (M.events message.now) (view shown)) result }
 {

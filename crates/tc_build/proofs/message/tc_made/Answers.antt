@@ -1,6 +1,5 @@
 use Rattle.std.proofs.Common.{◌≡◌, sym, subst}
 use Rattle.serde_json.specs.View.{view}
-use Rattle.tc_meaning.specs.Whole.{tc_bytes}
 use Rattle.tc_json_bytes.specs.Found.{FindsOrFails}
 use Rattle.tc_build.proofs.message.tc_made.Goals as goal
 
