@@ -14,8 +14,8 @@ use Rattle.tc_meaning.specs.Content.{Shape, a_number, some_bytes, a_flag, a_reco
 use Rattle.tc_meaning.specs.Meaning.{class_codec, table_codec}
 use Rattle.tc_meaning.specs.Message.{Message}
 use Rattle.tc_meaning.specs.Whole.{TypedTc, TypedAct}
-use Rattle.tc_names.specs.Named.{NamedKind, NamedField, a_field, pad_bytes, part_begins, part_ends, kind_at}
-use Rattle.tc_names.specs.Listed.{form_field, layout, field_names_in, kind_names_in}
+use Rattle.tc_names.specs.Named.{NamedField, a_field, pad_bytes, part_begins, part_ends}
+use Rattle.tc_names.specs.Listed.{form_field, layout, field_names_in}
 use Rattle.tc_names.specs.declared.row.Fixed.{Fixed}
 use Rattle.tc_names.specs.declared.row.Fixed.TheVariants as fixed
 use Rattle.tc_names.specs.declared.row.Form.{Form}
@@ -32,7 +32,7 @@ use Rattle.tc_json_laws.proofs.Records.{named_layout, same_layout}
 use Rattle.tc_json_laws.proofs.Tables.{Shown, by_rows, of_actions, of_kinds, shown}
 use Rattle.tc_json_laws.proofs.Attributes.{known_is, action_is, other_is, kept_is, kind_is}
 use Rattle.tc_json_laws.proofs.WholeMessages.{as_list}
-use Rattle.tc_json_laws.proofs.ExactNumbers.{IsInteger, decimal_integer, bits_integer, HasIntegers, EachHasIntegers, MembersHaveIntegers}
+use Rattle.tc_json_laws.proofs.ExactNumbers.{decimal_integer, bits_integer, HasIntegers, EachHasIntegers, MembersHaveIntegers}
 
 -- ---- fields
 
