@@ -101,6 +101,7 @@ impl<A: Allocator> Parseable<A> for TcActionTunnelKeyOption<A> {
 
 impl<A: Allocator> TcActionTunnelKeyOption<A> {
     // The row, with what it says of the attribute: how it is written, that it fits and is settled.
+    #[inline(always)]
     fn view(&self) -> (u16, Value<'_, Body<'_>>)
         ensures { ShownAs tunnel_key_body tunnel_key_options (tunnel_key_option self.now)
             result.0 result.1 }
@@ -110,6 +111,7 @@ impl<A: Allocator> TcActionTunnelKeyOption<A> {
 
     /// The option's `nla_type` (type and flags) and its value, in the form that the row of its type in the table says; of
     /// `Other` the word and the payload that it keeps.
+    #[inline(always)]
     pub fn row(&self) -> (u16, Value<'_, Body<'_>>)
         ensures seen { tunnel_key_option self.now ≡ attribute_of tunnel_key_body result.0 result.1 }
         ensures row { IsRow tunnel_key_body tunnel_key_options result.0 result.1 }

@@ -117,6 +117,7 @@ impl<'a, R: Emitable + SettleBytes> Body for Record<'a, R> {
         }
     }
 
+    #[inline(always)]
     fn put(&self, buffer: &mut [u8]) -> usize {
         self.0.emit(buffer);
         self.0.buffer_len()
@@ -152,6 +153,7 @@ impl<L: Body, R: Body> Body for Either<L, R> {
         }
     }
 
+    #[inline(always)]
     fn put(&self, buffer: &mut [u8]) -> usize {
         match self {
             Either::Left(body) => body.put(buffer),
