@@ -9,7 +9,7 @@ use crate::time::Time;
 /// A capture of netlink, and where reading it has come to.
 #[derive(Drop)]
 pub enum Capture {
-    /// A stream of netlink messages, as `rtmon` and `tc monitor` write it, after a message with this time.
+    /// A stream of netlink messages, as `rtmon` writes it, after a message with this time.
     Stream(Option<Time>),
 
     /// A file of classic pcap, before its header.
