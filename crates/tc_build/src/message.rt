@@ -139,8 +139,8 @@ fn unread(alloc: Global, error: &DecodeError, json: &Value) -> MakeError
     }
 }
 
-// The JSON of a message. No clause says why a message isn't shown: by its forms and its depth it is for want of memory alone, and only tests
-// show that.
+// The JSON of a message. Every error of the JSON writer becomes `OutOfMemory`: that it has no other reason to refuse a message is tested, and has
+// no clause.
 fn shown_of<M: Show>(alloc: Global, message: &M) -> Result<Value, MakeError>
     ensures { FindsOrFails (λ shown. IsJsonOf (M.events message.now) (view shown)) result }
 {

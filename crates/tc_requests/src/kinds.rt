@@ -14,9 +14,9 @@ use tc_actions::{
 };
 use tc_options::{
     TcFilterBpf, TcFilterBpfOption, TcFilterFlower, TcFilterFlowerOption, TcFilterMatchAll,
-    TcFilterMatchAllOption, TcFilterU32, TcFilterU32Option, TcOption, TcQdiscFqCodel,
-    TcQdiscFqCodelOption, TcQdiscIngress, TcQdiscIngressOption,
+    TcFilterMatchAllOption, TcFilterU32, TcFilterU32Option, TcOption,
 };
+use tc_qdiscs::{TcQdiscFqCodel, TcQdiscFqCodelOption, TcQdiscIngress, TcQdiscIngressOption};
 
 /// What becomes one of the options `T`, which hold options of all kinds.
 pub trait OptionOf<T>: Drop {
