@@ -1,0 +1,185 @@
+-- What is found in the object that an attribute is shown as, and in what a reader of JSON makes of it.
+use Rattle.std.proofs.Common.{◌≡◌, ℕ, inl, inr, Bool, true, false, List, [], ◌∷◌, ◌++◌, length, Option, Some, None, refl, ap, sym, ◌∙◌, cond, true≢false}
+use Rattle.std.specs.Prelude.{option_and_then, option_map, unwrap_or, is_none, bytes_eq, codes, not, ◌&&◌, ◌||◌, ◌==◌, nat_le}
+use Rattle.std.proofs.lemmas.Bool.{cases_Bool, cond-true, cond-false, cond_both, and_parts, and_from, eqb-true, or_parts}
+use Rattle.std.proofs.lemmas.Slice.Eq.{bytes_eq-Decides}
+use Rattle.nla_frames.specs.Frame.{padding}
+use Rattle.serde_json.specs.Data.{Data, number, string, object, unsigned, Members, no_members, member}
+use Rattle.serde_json.specs.Find.{get, get_member, as_str}
+use Rattle.tc_forms.specs.Tables.{first, is_reserved}
+use Rattle.tc_forms.specs.Leaves.{hex, hex_made, raw_of}
+use Rattle.tc_forms.specs.Cuts.{Cut, cut_bytes, zero_pad}
+use Rattle.tc_forms.specs.Shown.{is_blank, pad_told, told}
+use Rattle.tc_forms.specs.Made.{as_word, word_made, word_or, pad_or, framed, held_or, held}
+use Rattle.tc_forms.proofs.Leaves.{hex_made-hex}
+use Rattle.tc_forms.proofs.Frames.{Stands}
+use Rattle.tc_forms.proofs.Records.{here, passes, not-false, blank}
+
+pub and_false : (a : Bool) → (a && false) ≡ false
+and_false true = refl
+and_false false = refl
+
+pub and_true : (a : Bool) → (a && true) ≡ a
+and_true true = refl
+and_true false = refl
+
+pub none_not_some : {X : Type 0} (x : X) → None ≡ Some x → ⊥
+none_not_some x e = true≢false (ap is_none e)
+
+pub some_is : {X : Type 0} (x y : X) → Some x ≡ Some y → x ≡ y
+some_is x y e = ap (λ o. unwrap_or o x) e
+
+-- ---- the first that passes
+
+pub first_passes : {X : Type 0} (test : X → Bool) (xs : List X) (x : X) → first test xs ≡ Some x → test x ≡ true
+first_passes test [] x e = absurd (none_not_some x e)
+first_passes test (y ∷ xs) x e =
+    elim (cases_Bool (test y)) [
+      | inl is ↦
+          let same = some_is y x (sym (cond-true (test y) (Some y) (first test xs) is) ∙ e) in ap test (sym same) ∙ is
+      | inr other ↦ first_passes test xs x (sym (cond-false (test y) (Some y) (first test xs) other) ∙ e)
+    ]
+
+-- the one of a test that is the one of its name too, and passes a second test
+pub record Guarded {X : Type 0} (xs : List X) (name : X → List ℕ) (passes : X → Bool) (second : X → Bool) (x : X) : Type 0 where
+  pub itself : first (λ y. passes y && bytes_eq (name y) (name x)) xs ≡ Some x
+  pub passed : passes x ≡ true
+  pub second_too : second x ≡ true
+
+module _ {X : Type 0} (xs : List X) (name : X → List ℕ) (passes : X → Bool) (second : X → Bool) where
+  by_name : (n : List ℕ) (x : X) (p : Option X) → first (λ y. passes y && bytes_eq (name y) n) xs ≡ p → option_and_then (λ y. cond (second y) (Some y) None) p ≡ Some x
+      → Guarded xs name passes second x
+  by_name n x None is e = absurd (none_not_some x e)
+  by_name n x (Some y) is e =
+      elim (cases_Bool (second y)) [
+        | inl holds ↦
+            let same : y ≡ x = some_is y x (sym (cond-true (second y) (Some y) None holds) ∙ e) in
+            let both = and_parts (passes x) (bytes_eq (name x) n) (first_passes (λ z. passes z && bytes_eq (name z) n) xs x (is ∙ ap Some same)) in
+            let named : name x ≡ n = (bytes_eq-Decides (name x) n).0 both.1 in
+            record {
+              itself = ap (λ m. first (λ z. passes z && bytes_eq (name z) m) xs) named ∙ is ∙ ap Some same;
+              passed = both.0;
+              second_too = ap second (sym same) ∙ holds;
+            }
+        | inr fails ↦ absurd (none_not_some x (sym (cond-false (second y) (Some y) None fails) ∙ e))
+      ]
+
+  pub guarded : (o : Option X) (x : X)
+      → option_and_then (λ y. cond (second y) (Some y) None) (option_and_then (λ z. first (λ y. passes y && bytes_eq (name y) (name z)) xs) o) ≡ Some x
+      → Guarded xs name passes second x
+  guarded None x e = absurd (none_not_some x e)
+  guarded (Some z) x e = by_name (name z) x (first (λ y. passes y && bytes_eq (name y) (name z)) xs) refl e
+
+  pub held_again : (ys : List X) (d v : Data) (n : List ℕ) (x : X) → first (λ y. passes y && bytes_eq (name y) n) ys ≡ Some x → get n d ≡ Some v
+      → ((y : X) → passes y ≡ true → bytes_eq (name y) n ≡ false → get (name y) d ≡ None) → held name passes ys d ≡ Some (x, v)
+  held_again [] d v n x e found others = absurd (none_not_some x e)
+  held_again (y ∷ ys) d v n x e found others =
+      elim (cases_Bool (passes y)) [
+        | inl pass ↦
+            elim (cases_Bool (bytes_eq (name y) n)) [
+              | inl same ↦
+                  let mine : y ≡ x = some_is y x (sym (cond-true _ (Some y) _ (and_from (passes y) (bytes_eq (name y) n) pass same)) ∙ e) in
+                  ap (λ o. held_or name passes y o (held name passes ys d)) (ap (λ m. get m d) ((bytes_eq-Decides (name y) n).0 same) ∙ found)
+                  ∙ ap (λ t. cond t (Some (y, v)) (held name passes ys d)) pass ∙ ap (λ (z : X). Some (z, v)) mine
+              | inr differs ↦
+                  ap (λ o. held_or name passes y o (held name passes ys d)) (others y pass differs)
+                  ∙ held_again ys d v n x (sym (ap (λ t. cond t (Some y) (first (λ y. passes y && bytes_eq (name y) n) ys)) (ap (λ t. t && bytes_eq (name y) n) pass ∙ differs)) ∙ e) found others
+            ]
+        | inr fails ↦
+            skipped (get (name y) d) fails
+            ∙ held_again ys d v n x (sym (ap (λ t. cond t (Some y) (first (λ y. passes y && bytes_eq (name y) n) ys)) (ap (λ t. t && bytes_eq (name y) n) fails)) ∙ e) found others
+      ]
+    where
+      skipped : (o : Option Data) → passes y ≡ false → held_or name passes y o (held name passes ys d) ≡ held name passes ys d
+      skipped None fails = refl
+      skipped (Some w) fails = ap (λ t. cond t (Some (y, w)) (held name passes ys d)) fails
+
+-- ---- an attribute's object
+
+abbrev pub word_seen : ℕ → Cut → Option Data
+word_seen word c = cond (c.word == word) None (Some (number (unsigned c.word)))
+
+abbrev pub pad_seen : Cut → Option Data
+pad_seen c = cond (is_blank (Some (padding (length c.value))) c.pad) None (Some (hex c.pad))
+
+-- a member of this name, the word where it is told, the padding where it is told, and no other
+pub record Finds (d : Data) (name : List ℕ) (x : Data) (wanted : ℕ) (c : Cut) : Type 0 where
+  pub it : get name d ≡ Some x
+  pub word : get (codes "word") d ≡ word_seen wanted c
+  pub pad : get (codes "pad") d ≡ pad_seen c
+  pub none : (q : List ℕ) → bytes_eq q name ≡ false → bytes_eq q (codes "word") ≡ false → bytes_eq q (codes "pad") ≡ false → get q d ≡ None
+  pub no_text : as_str d ≡ None
+
+pub get_pad_told : (c : Cut) → get_member (codes "pad") (pad_told c) ≡ pad_seen c
+get_pad_told c = go (is_blank (Some (padding (length c.value))) c.pad)
+  where
+    go : (t : Bool) → get_member (codes "pad") (cond t no_members (member (codes "pad") (hex c.pad) no_members)) ≡ cond t None (Some (hex c.pad))
+    go true = refl
+    go false = refl
+
+pub not_pad_told : (q : List ℕ) (c : Cut) → bytes_eq q (codes "pad") ≡ false → get_member q (pad_told c) ≡ None
+not_pad_told q c e = go (is_blank (Some (padding (length c.value))) c.pad)
+  where
+    go : (t : Bool) → get_member q (cond t no_members (member (codes "pad") (hex c.pad) no_members)) ≡ None
+    go true = refl
+    go false = passes q (codes "pad") (hex c.pad) no_members e
+
+pub get_told : (word : ℕ) (c : Cut) (q : List ℕ) → bytes_eq q (codes "word") ≡ false → get_member q (told word c) ≡ get_member q (pad_told c)
+get_told word c q e = go (c.word == word)
+  where
+    go : (t : Bool) → get_member q (cond t (pad_told c) (member (codes "word") (number (unsigned c.word)) (pad_told c))) ≡ get_member q (pad_told c)
+    go true = refl
+    go false = passes q (codes "word") (number (unsigned c.word)) (pad_told c) e
+
+word_told : (word : ℕ) (c : Cut) → get_member (codes "word") (told word c) ≡ word_seen word c
+word_told word c = go (c.word == word)
+  where
+    go : (t : Bool) → get_member (codes "word") (cond t (pad_told c) (member (codes "word") (number (unsigned c.word)) (pad_told c))) ≡ cond t None (Some (number (unsigned c.word)))
+    go true = not_pad_told (codes "word") c refl
+    go false = here (codes "word") (number (unsigned c.word)) (pad_told c)
+
+pub finds : (name : List ℕ) (x : Data) (word : ℕ) (c : Cut) → bytes_eq (codes "word") name ≡ false → bytes_eq (codes "pad") name ≡ false
+    → Finds (object (member name x (told word c))) name x word c
+finds name x word c no_word no_pad = record {
+  it = here name x (told word c);
+  word = passes (codes "word") name x (told word c) no_word ∙ word_told word c;
+  pad = passes (codes "pad") name x (told word c) no_pad ∙ get_told word c (codes "pad") refl ∙ get_pad_told c;
+  none = λ q own w p. passes q name x (told word c) own ∙ get_told word c q w ∙ not_pad_told q c p;
+  no_text = refl;
+}
+
+-- ---- what is made of them
+
+pub word_again : (word : ℕ) (c : Cut) → Stands c → word_or word (word_seen word c) ≡ Some c.word
+word_again word c s =
+    cond_both (c.word == word) None (Some (number (unsigned c.word))) (λ o. word_or word o ≡ Some c.word)
+    (λ e. ap Some (sym (eqb-true c.word word e))) (λ e. s.word)
+
+pub pad_again : (c : Cut) → Stands c → pad_or c.value (pad_seen c) ≡ Some c.pad
+pad_again c s =
+    cond_both (is_blank (Some (padding (length c.value))) c.pad) None (Some (hex c.pad)) (λ o. pad_or c.value o ≡ Some c.pad)
+    (λ e. ap Some (sym (blank (Some (padding (length c.value))) c.pad e))) (λ e. hex_made-hex c.pad s.pad)
+
+pub framed_again : (c : Cut) (d : Data) (w : Option ℕ) (v : Option (List ℕ)) → Stands c → w ≡ Some c.word → v ≡ Some c.value → get (codes "pad") d ≡ pad_seen c
+    → framed w v d ≡ Some (cut_bytes c)
+framed_again c d w v s ew ev ep =
+    ap (λ o. framed o v d) ew ∙ ap (λ o. framed (Some c.word) o d) ev
+    ∙ ap (λ o. cond (nat_le (length c.value) 65531) (option_map (λ pad. cut_bytes (record { word = c.word; value = c.value; pad = pad })) o) None)
+    (ap (pad_or c.value) ep ∙ pad_again c s)
+    ∙ ap (λ t. cond t (Some (cut_bytes c)) None) s.short
+
+-- no name of what isn't by its row
+pub record Plain (name : List ℕ) : Type 0 where
+  pub raw : bytes_eq name (codes "raw") ≡ false
+  pub other : bytes_eq name (codes "Other") ≡ false
+  pub word : bytes_eq name (codes "word") ≡ false
+  pub pad : bytes_eq name (codes "pad") ≡ false
+  pub kind : bytes_eq name (codes "Kind") ≡ false
+
+pub plain : (name : List ℕ) → not (is_reserved name) ≡ true → Plain name
+plain name e =
+    let one = or_parts (bytes_eq name (codes "raw")) _ (not-false (is_reserved name) e) in
+    let two = or_parts (bytes_eq name (codes "Other")) _ one.1 in
+    let three = or_parts (bytes_eq name (codes "word")) _ two.1 in
+    let four = or_parts (bytes_eq name (codes "pad")) (bytes_eq name (codes "Kind")) three.1 in
+    record { raw = one.0; other = two.0; word = three.0; pad = four.0; kind = four.1 }

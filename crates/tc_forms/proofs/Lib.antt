@@ -1,0 +1,8 @@
+pub mod Leaves
+pub mod Frames
+pub mod Records
+pub mod Found
+pub mod Law
+pub mod Ordered
+pub mod Sending
+pub mod Making

@@ -1,0 +1,163 @@
+-- Records are made again of what is shown of them.
+use Rattle.std.proofs.Common.{◌≡◌, ℕ, inl, inr, Bool, true, false, List, [], ◌∷◌, ◌++◌, length, Option, Some, None, refl, ap, sym, ◌∙◌, cond, true≢false}
+use Rattle.std.specs.Prelude.{option_and_then, unwrap_or, replicate, ◌==◌, bytes_eq, codes, not, ◌&&◌}
+use Rattle.std.proofs.Common.{Ordering, Less, Equal, Greater}
+use Rattle.std.specs.Ordering.{match_ordering, nat_cmp, is_eq}
+use Rattle.std.specs.Cmp.Lexicographic.{slice_cmp}
+use Rattle.std.proofs.lemmas.Bool.{cases_Bool, cond_both, and_parts, eqb-true}
+use Rattle.std.proofs.lemmas.Slice.Eq.{bytes_eq-Decides}
+use Rattle.std.proofs.lemmas.List.{append-nil, take-append-drop}
+use Rattle.std.proofs.lemmas.Map.Text.{is_eq-slice_cmp}
+use Rattle.nla_frames.specs.Value.{IsBytes}
+use Rattle.nla_frames.proofs.Bytes.{IsBytes-take, IsBytes-drop, IsBytes-nil}
+use Rattle.serde_json.specs.Data.{Data, object, Members, no_members, member}
+use Rattle.serde_json.specs.Find.{get_member}
+use Rattle.tc_forms.specs.declared.form.Form.{Form}
+use Rattle.tc_forms.specs.Plain.{Field}
+use Rattle.tc_forms.specs.Plain.{Table}
+use Rattle.tc_forms.specs.Tables.{is_pad}
+use Rattle.tc_forms.specs.Leaves.{raw_of, hex, hex_made}
+use Rattle.tc_forms.specs.Shown.{is_free, are_apart, names_apart, field_width, field_of, after_field, zeros, rest_member, field_member, members, all_zero, is_blank}
+use Rattle.tc_forms.specs.Made.{rest_made, field_made, fields_made}
+use Rattle.tc_forms.proofs.Leaves.{all_zeros, same_bytes, hex_made-hex}
+use Rattle.tc_forms.proofs.Frames.{joined_made}
+
+-- ---- members by their names
+
+found_at : (o : Ordering) (a b : Option Data) → is_eq o ≡ true → match_ordering o a b a ≡ b
+found_at Less a b e = absurd (true≢false (sym e))
+found_at Equal a b e = refl
+found_at Greater a b e = absurd (true≢false (sym e))
+
+passed_at : (o : Ordering) (a b : Option Data) → is_eq o ≡ false → match_ordering o a b a ≡ a
+passed_at Less a b e = refl
+passed_at Equal a b e = absurd (true≢false e)
+passed_at Greater a b e = refl
+
+pub here : (name : List ℕ) (d : Data) (ms : Members) → get_member name (member name d ms) ≡ Some d
+here name d ms = found_at (slice_cmp nat_cmp name name) (get_member name ms) (Some d) (is_eq-slice_cmp name name ∙ same_bytes name)
+
+pub passes : (name other : List ℕ) (d : Data) (ms : Members) → bytes_eq name other ≡ false → get_member name (member other d ms) ≡ get_member name ms
+passes name other d ms e = passed_at (slice_cmp nat_cmp name other) (get_member name ms) (Some d) (is_eq-slice_cmp name other ∙ e)
+
+pub not-false : (b : Bool) → not b ≡ true → b ≡ false
+not-false true e = absurd (true≢false (sym e))
+not-false false e = refl
+
+pub swapped : (a b : List ℕ) → bytes_eq a b ≡ false → bytes_eq b a ≡ false
+swapped a b e =
+    elim (cases_Bool (bytes_eq b a)) [
+      | inl same ↦ absurd (true≢false (sym ((bytes_eq-Decides a b).1 (sym ((bytes_eq-Decides b a).0 same))) ∙ e))
+      | inr differs ↦ differs
+    ]
+
+-- ---- fields
+
+whole_again : (w : Option ℕ) (b : List ℕ) → field_of w b ++ after_field w b ≡ b
+whole_again None b = append-nil b
+whole_again (Some w) b = take-append-drop w b
+
+IsBytes-field_of : (w : Option ℕ) (b : List ℕ) → IsBytes b → IsBytes (field_of w b)
+IsBytes-field_of None b h = h
+IsBytes-field_of (Some w) b h = IsBytes-take w b h
+
+IsBytes-after_field : (w : Option ℕ) (b : List ℕ) → IsBytes b → IsBytes (after_field w b)
+IsBytes-after_field None b h = IsBytes-nil
+IsBytes-after_field (Some w) b h = IsBytes-drop w b h
+
+pub blank : (w : Option ℕ) (b : List ℕ) → is_blank w b ≡ true → b ≡ zeros w
+blank w b e =
+    let both = and_parts (length b == unwrap_or w 0) (all_zero b) e in
+    all_zeros b both.1 ∙ ap (λ n. replicate n 0) (eqb-true (length b) (unwrap_or w 0) both.0)
+
+abbrev rest : List ℕ
+rest = codes "rest"
+
+module _ (parts : Table) (Inner : Form → List ℕ → Data) where
+  -- past a field of another name
+  pub past_field : (name : List ℕ) (f : Field) (chunk : List ℕ) (after : Members) → bytes_eq name f.name ≡ false
+      → get_member name (field_member parts Inner f chunk after) ≡ get_member name after
+  past_field name f chunk after e =
+      cond_both (is_pad f.form && is_blank (field_width parts f) chunk) after (member f.name (Inner f.form chunk) after)
+      (λ ms. get_member name ms ≡ get_member name after) (λ h. refl) (λ h. passes name f.name (Inner f.form chunk) after e)
+
+  -- no field has this name
+  pub absent : (name : List ℕ) (fs : List Field) (b : List ℕ) → is_free name fs ≡ true → bytes_eq name rest ≡ false
+      → get_member name (members parts Inner fs b) ≡ None
+  absent name [] [] free e = refl
+  absent name [] (x ∷ b) free e = passes name rest (hex (x ∷ b)) no_members e
+  absent name (f ∷ fs) b free e =
+      let both = and_parts (not (bytes_eq name f.name)) (is_free name fs) free in
+      past_field name f (field_of (field_width parts f) b) (members parts Inner fs (after_field (field_width parts f) b)) (not-false _ both.0)
+      ∙ absent name fs (after_field (field_width parts f) b) both.1 e
+
+module _ (parts : Table) (Inner : Form → List ℕ → Data) (Made : Form → Data → Option (List ℕ))
+    (again : (f : Form) (b : List ℕ) → IsBytes b → Made f (Inner f b) ≡ Some b) where
+  -- among these members, each field from here on is found, and what is left
+  abbrev Finds : Members → List Field → List ℕ → Type 0
+  Finds ms fs b =
+      ((name : List ℕ) → is_free name fs ≡ false → get_member name ms ≡ get_member name (members parts Inner fs b))
+      × (get_member rest ms ≡ get_member rest (members parts Inner fs b))
+
+  free_later : (name : List ℕ) (f : Field) (fs : List Field) → is_free name fs ≡ false → is_free name (f ∷ fs) ≡ false
+  free_later name f fs e = elim (not (bytes_eq name f.name)) as (λ t. (t && is_free name fs) ≡ false) [ true ↦ e | false ↦ refl ]
+
+  free_here : (f : Field) (fs : List Field) → is_free f.name (f ∷ fs) ≡ false
+  free_here f fs = ap (λ t. not t && is_free f.name fs) (same_bytes f.name)
+
+  -- a name that isn't free among these fields isn't one that is
+  apart : (name other : List ℕ) (fs : List Field) → is_free name fs ≡ false → is_free other fs ≡ true → bytes_eq name other ≡ false
+  apart name other fs e free =
+      elim (cases_Bool (bytes_eq name other)) [
+        | inl same ↦ absurd (true≢false (sym free ∙ ap (λ n. is_free n fs) (sym ((bytes_eq-Decides name other).0 same)) ∙ e))
+        | inr differs ↦ differs
+      ]
+
+  rest_again : (b : List ℕ) → IsBytes b → rest_made (get_member rest (rest_member b)) ≡ Some b
+  rest_again [] h = refl
+  rest_again (x ∷ b) h = hex_made-hex (x ∷ b) h
+
+  pub fields_again : (fs : List Field) (b : List ℕ) (ms : Members) → IsBytes b → Finds ms fs b → are_apart fs ≡ true → is_free rest fs ≡ true
+      → fields_made parts Made fs (object ms) ≡ Some b
+  fields_again [] b ms h finds apart_all free = ap rest_made finds.1 ∙ rest_again b h
+  fields_again (f ∷ fs) b ms h finds apart_all free =
+      let w = field_width parts f in
+      let chunk = field_of w b in
+      let later = after_field w b in
+      let after = members parts Inner fs later in
+      let own = and_parts (is_free f.name fs) (are_apart fs) apart_all in
+      let unlike_rest = and_parts (not (bytes_eq rest f.name)) (is_free rest fs) free in
+      let finds_later : Finds ms fs later = (
+        λ name e. finds.0 name (free_later name f fs e) ∙ past_field parts Inner name f chunk after (apart name f.name fs e own.0),
+        finds.1 ∙ past_field parts Inner rest f chunk after (not-false _ unlike_rest.0),
+      ) in
+      joined_made (field_made parts Made f (get_member f.name ms)) (fields_made parts Made fs (object ms)) chunk later b
+      (ap (field_made parts Made f) (finds.0 f.name (free_here f fs)) ∙ field_again f fs chunk later (IsBytes-field_of w b h) own.0 (swapped rest f.name (not-false _ unlike_rest.0)))
+      (fields_again fs later ms (IsBytes-after_field w b h) finds_later own.1 unlike_rest.1) (whole_again w b)
+    where
+      field_again : (f : Field) (fs : List Field) (chunk later : List ℕ) → IsBytes chunk → is_free f.name fs ≡ true → bytes_eq f.name rest ≡ false
+          → field_made parts Made f (get_member f.name (field_member parts Inner f chunk (members parts Inner fs later))) ≡ Some chunk
+      field_again f fs chunk later h own unlike =
+          let pads = zeros (field_width parts f) in
+          let after = members parts Inner fs later in
+          cond_both (is_pad f.form && is_blank (field_width parts f) chunk) after (member f.name (Inner f.form chunk) after)
+          (λ ms. field_made parts Made f (get_member f.name ms) ≡ Some chunk)
+          (λ e.
+          let both = and_parts (is_pad f.form) (is_blank (field_width parts f) chunk) e in
+          ap (field_made parts Made f) (absent parts Inner f.name fs later own unlike) ∙ ap (λ t. cond t (Some pads) None) both.0
+          ∙ ap Some (sym (blank (field_width parts f) chunk both.1)))
+          (λ e. ap (field_made parts Made f) (here f.name (Inner f.form chunk) after) ∙ again f.form chunk h)
+
+  -- a record, of any fields
+  pub record_again : (fs : List Field) (b : List ℕ) → IsBytes b → names_apart fs ≡ true → fields_made parts Made fs (object (members parts Inner fs b)) ≡ Some b
+  record_again fs b h e =
+      let all = and_parts (is_free (codes "raw") fs && is_free rest fs) (are_apart fs) e in
+      let names = and_parts (is_free (codes "raw") fs) (is_free rest fs) all.0 in
+      fields_again fs b (members parts Inner fs b) h (λ name e. refl, refl) all.1 names.1
+
+  -- it isn't taken for what is raw
+  pub record_not_raw : (fs : List Field) (b : List ℕ) → names_apart fs ≡ true → raw_of (object (members parts Inner fs b)) ≡ None
+  record_not_raw fs b e =
+      let all = and_parts (is_free (codes "raw") fs && is_free rest fs) (are_apart fs) e in
+      let names = and_parts (is_free (codes "raw") fs) (is_free rest fs) all.0 in
+      ap (option_and_then hex_made) (absent parts Inner (codes "raw") fs b names.0 refl)

@@ -1,0 +1,105 @@
+use Rattle.tc_forms.specs.Plain.{fields_view, rows_view}
+use denote.Text.{Utf8}
+use denote.Shadow.{shadow}
+use Rattle.std.proofs.Common.{◌≡◌, ◌+◌, ◌*◌, drop, ◌++◌}
+use Rattle.std.specs.Prelude.{option_map, true, false}
+use Rattle.serde_json.specs.View.{view, items_view}
+use Rattle.tc_forms.specs.Made.{make, fields_made, each_made, each_under, layered_made, attribute_made, indexed_made}
+use Rattle.tc_forms.proofs.make.+make.Given as goal
+
+abbrev pub decreases-make_form : goal.decreases-make_form
+decreases-make_form g l = 8 * l.depth + 0
+
+abbrev pub decreases-make_field : goal.decreases-make_field
+decreases-make_field g l = 8 * l.depth + 1
+
+abbrev pub decreases-make_fields : goal.decreases-make_fields
+decreases-make_fields g l = 8 * l.depth + 2
+
+abbrev pub decreases-make_element : goal.decreases-make_element
+decreases-make_element g l = 8 * l.depth + 1
+
+abbrev pub decreases-make_each_of_elements : goal.decreases-make_each_of_elements
+decreases-make_each_of_elements g l = 8 * l.depth + 2
+
+abbrev pub decreases-make_elements : goal.decreases-make_elements
+decreases-make_elements g l = 8 * l.depth + 3
+
+abbrev pub decreases-make_list : goal.decreases-make_list
+decreases-make_list g l = 8 * l.depth + 7
+
+abbrev pub decreases-make_each_of_list : goal.decreases-make_each_of_list
+decreases-make_each_of_list g l = 8 * l.depth + 6
+
+abbrev pub decreases-make_item : goal.decreases-make_item
+decreases-make_item g l = 8 * l.depth + 5
+
+abbrev pub decreases-make_attribute : goal.decreases-make_attribute
+decreases-make_attribute g l = 8 * l.depth + 4
+
+abbrev pub decreases-make_by_row : goal.decreases-make_by_row
+decreases-make_by_row g l = 8 * l.depth + 3
+
+abbrev pub decreases-make_row : goal.decreases-make_row
+decreases-make_row g l = 8 * l.depth + 2
+
+abbrev pub decreases-make_held : goal.decreases-make_held
+decreases-make_held g l = 8 * l.depth + 1
+
+abbrev pub decreases-make_in_force : goal.decreases-make_in_force
+decreases-make_in_force g l = 8 * l.depth + 7
+
+abbrev pub decreases-make_own : goal.decreases-make_own
+decreases-make_own g l = 8 * l.depth + 7
+
+abbrev pub decreases-make_each_of_kinded : goal.decreases-make_each_of_kinded
+decreases-make_each_of_kinded g l = 8 * l.depth + 6
+
+abbrev pub decreases-make_kinded : goal.decreases-make_kinded
+decreases-make_kinded g l = 8 * l.depth + 5
+
+abbrev pub decreases-make_indexed : goal.decreases-make_indexed
+decreases-make_indexed g l = 8 * l.depth + 4
+
+abbrev pub decreases-make_each_of_indexed : goal.decreases-make_each_of_indexed
+decreases-make_each_of_indexed g l = 8 * l.depth + 3
+
+abbrev pub decreases-make_one_indexed : goal.decreases-make_one_indexed
+decreases-make_one_indexed g l = 8 * l.depth + 2
+
+abbrev pub decreases-make_framed : goal.decreases-make_framed
+decreases-make_framed g l = 8 * l.depth + 1
+
+abbrev pub decreases-make_choice : goal.decreases-make_choice
+decreases-make_choice g l = 8 * l.depth + 2
+
+abbrev pub decreases-make_chosen : goal.decreases-make_chosen
+decreases-make_chosen g l = 8 * l.depth + 1
+
+-- what is to be appended from here is what was to be appended from the start
+abbrev pub invariant-make_fields-loop-field : goal.invariant-make_fields-loop-field
+invariant-make_fields-loop-field g l =
+    option_map (λ b. l.maker.bytes.items ++ b) (fields_made (g.T.Tables.parts_of l.parts) (make (g.T.Tables.parts_of l.parts) l.depth l.kind) (fields_view (drop l.field-index l.fields)) (view l.value))
+    ≡ option_map (λ b. l.initial.maker.bytes.items ++ b) (fields_made (g.T.Tables.parts_of l.parts) (make (g.T.Tables.parts_of l.parts) l.depth l.kind) (fields_view l.fields) (view l.value))
+
+abbrev pub invariant-make_each_of_elements-loop-place : goal.invariant-make_each_of_elements-loop-place
+invariant-make_each_of_elements-loop-place g l =
+    option_map (λ b. l.maker.bytes.items ++ b) (each_made (make (g.T.Tables.parts_of l.parts) l.depth l.kind l.form) (items_view (drop l.place l.items)))
+    ≡ option_map (λ b. l.initial.maker.bytes.items ++ b) (each_made (make (g.T.Tables.parts_of l.parts) l.depth l.kind l.form) (items_view l.items))
+
+abbrev pub invariant-make_each_of_list-loop-place : goal.invariant-make_each_of_list-loop-place
+invariant-make_each_of_list-loop-place g l =
+    option_map (λ b. l.maker.bytes.items ++ b) (each_under (layered_made (g.T.Tables.parts_of l.parts) (make (g.T.Tables.parts_of l.parts) l.depth) l.list) false l.kind (items_view (drop l.place l.items)))
+    ≡ option_map (λ b. l.initial.maker.bytes.items ++ b) (each_under (layered_made (g.T.Tables.parts_of l.parts) (make (g.T.Tables.parts_of l.parts) l.depth) l.list) false l.kind (items_view l.items))
+
+abbrev pub invariant-make_each_of_indexed-loop-place : goal.invariant-make_each_of_indexed-loop-place
+invariant-make_each_of_indexed-loop-place g l =
+    option_map (λ b. l.maker.bytes.items ++ b) (each_under (indexed_made (g.T.Tables.parts_of l.parts) (make (g.T.Tables.parts_of l.parts) l.depth) l.list) false l.kind (items_view (drop l.place l.items)))
+    ≡ option_map (λ b. l.initial.maker.bytes.items ++ b) (each_under (indexed_made (g.T.Tables.parts_of l.parts) (make (g.T.Tables.parts_of l.parts) l.depth) l.list) false l.kind (items_view l.items))
+
+abbrev pub invariant-make_each_of_kinded-loop-place : goal.invariant-make_each_of_kinded-loop-place
+invariant-make_each_of_kinded-loop-place g l =
+    shadow (Utf8 l.so_far)
+    × (option_map (λ b. l.maker.bytes.items ++ b) (each_under (attribute_made (make (g.T.Tables.parts_of l.parts) l.depth) (rows_view l.rows) true) true l.so_far (items_view (drop l.place l.items)))
+    ≡ option_map (λ b. l.initial.maker.bytes.items ++ b) (each_under (attribute_made (make (g.T.Tables.parts_of l.parts) l.depth) (rows_view l.rows) true) true l.kind (items_view l.items)))
+

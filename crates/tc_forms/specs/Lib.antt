@@ -1,0 +1,9 @@
+pub mod Appended
+pub mod Cuts
+pub mod Leaves
+pub mod Made
+pub mod Ordered
+pub mod Sent
+pub mod Shown
+pub mod Tables
+pub mod Plain

@@ -1,0 +1,149 @@
+//! The bytes that are made, and the place in the JSON that they are made of.
+
+ghost use Rattle.std.specs.Prelude.{◌≡◌, ◌∷◌, [], Some, replicate, IfErr};
+ghost use Rattle.nla_frames.specs.Value.{le_bytes, be_bytes};
+ghost use Rattle.tc_forms.specs.Appended.{Appended};
+ghost use Rattle.tc_forms.specs.declared.error.MakeError.TheVariants.{OutOfMemory};
+
+use crate::error::{MakeError, Wanted};
+use std::alloc::{AllocError, Global};
+
+/// A step of a JSON pointer.
+#[derive(Clone, Copy)]
+pub enum Step<'v> {
+    /// To the member of an object.
+    Member(&'v str),
+    /// To an item of a list.
+    Item(usize),
+}
+
+/// What is being made, and of which part of the JSON.
+#[derive(Drop)]
+pub struct Maker<'v> {
+    /// The allocator.
+    pub alloc: Global,
+    /// The bytes so far.
+    pub bytes: Vec<u8>,
+    steps: Vec<Step<'v>>,
+}
+
+impl<'v> Maker<'v> {
+    /// Nothing so far, of the whole JSON.
+    pub fn new(alloc: Global) -> Maker<'v>
+        ensures { result.bytes.items ≡ [] }
+    {
+        Maker {
+            alloc,
+            bytes: Vec::new(alloc),
+            steps: Vec::new(alloc),
+        }
+    }
+
+    /// Appends bytes.
+    pub fn put(&mut self, bytes: &[u8]) -> Result<(), MakeError>
+        ensures { Appended (Some bytes.now) self.old.bytes.items self.new.bytes.items result }
+    {
+        match self.bytes.extend_from_slice(bytes) {
+            Ok(()) => Ok(()),
+            Err(_) => Err(MakeError::OutOfMemory),
+        }
+    }
+
+    /// Appends one byte.
+    pub fn put_byte(&mut self, byte: u8) -> Result<(), MakeError>
+        ensures { Appended (Some (byte ∷ [])) self.old.bytes.items self.new.bytes.items result }
+    {
+        match self.bytes.push(byte) {
+            Ok(()) => Ok(()),
+            Err(_) => Err(MakeError::OutOfMemory),
+        }
+    }
+
+    /// Appends so many zeros.
+    pub fn put_zeros(&mut self, count: usize) -> Result<(), MakeError>
+        ensures { Appended (Some (replicate count 0)) self.old.bytes.items self.new.bytes.items result }
+    {
+        if count == 0 {
+            return Ok(());
+        }
+        match self.put_byte(0) {
+            Ok(()) => self.put_zeros(count - 1),
+            Err(e) => Err(e),
+        }
+    }
+
+    /// Appends the lowest bytes of a number, least significant first.
+    #[tactic(auto, using(crate::proofs::Making::put_taken))]
+    pub fn put_little(&mut self, number: u64, width: usize) -> Result<(), MakeError>
+        ensures { Appended (Some (le_bytes width number)) self.old.bytes.items self.new.bytes.items result }
+    {
+        if width > 8 {
+            return self.put_little_by_one(number, width);
+        }
+        self.put(&number.to_le_bytes()[..width])
+    }
+
+    // The same, byte by byte.
+    fn put_little_by_one(&mut self, number: u64, width: usize) -> Result<(), MakeError>
+        ensures { Appended (Some (le_bytes width number)) self.old.bytes.items self.new.bytes.items result }
+    {
+        if width == 0 {
+            return Ok(());
+        }
+        match self.put_byte((number % 256) as u8) {
+            Ok(()) => self.put_little_by_one(number / 256, width - 1),
+            Err(e) => Err(e),
+        }
+    }
+
+    /// Appends the lowest bytes of a number, most significant first.
+    pub fn put_big(&mut self, number: u64, width: usize) -> Result<(), MakeError>
+        ensures { Appended (Some (be_bytes width number)) self.old.bytes.items self.new.bytes.items result }
+    {
+        if width == 0 {
+            return Ok(());
+        }
+        match self.put_big(number / 256, width - 1) {
+            Ok(()) => self.put_byte((number % 256) as u8),
+            Err(e) => Err(e),
+        }
+    }
+
+    /// Goes to a part of this place.
+    pub fn enter(&mut self, step: Step<'v>) -> Result<(), MakeError>
+        ensures bytes { self.new.bytes ≡ self.old.bytes }
+        ensures only_memory { IfErr result (λ e. e ≡ OutOfMemory) }
+    {
+        match self.steps.push(step) {
+            Ok(()) => Ok(()),
+            Err(_) => Err(MakeError::OutOfMemory),
+        }
+    }
+
+    /// Goes back to what this place is a part of.
+    pub fn leave(&mut self)
+        ensures { self.new.bytes ≡ self.old.bytes }
+    {
+        self.steps.pop();
+    }
+
+    /// The error of the value at this place.
+    pub fn wrong(&self, wanted: Wanted) -> MakeError {
+        match self.path() {
+            Ok(path) => MakeError::Wrong { path, wanted },
+            Err(_) => MakeError::OutOfMemory,
+        }
+    }
+
+    fn path(&self) -> Result<String, AllocError> {
+        let mut path = String::new(self.alloc);
+        for step in &self.steps {
+            path.push('/')?;
+            match step {
+                Step::Member(name) => path.push_str(name)?,
+                Step::Item(index) => path.push_str(format!(in self.alloc; "{index}")?.as_str())?,
+            }
+        }
+        Ok(path)
+    }
+}
