@@ -4,13 +4,13 @@
 use std::process::ExitCode;
 use tc_roundtrip::mode::Messages;
 use tc_roundtrip::program::tcforms;
-use tc_table1::{ACTION, TC, Tc};
+use tc_kinds::{ACTION_MESSAGE, TC_MESSAGE, TcTables};
 
 fn main(rt: HostRuntime) -> ExitCode {
     let messages = Messages {
-        table: Tc,
-        tc: TC,
-        action: ACTION,
+        table: TcTables,
+        tc: TC_MESSAGE,
+        action: ACTION_MESSAGE,
     };
     tcforms(&rt, messages, &mut rt.stderr())
 }
