@@ -12,20 +12,13 @@ mod message;
 mod qdiscs;
 mod statistics;
 
-use crate::parts::action::group_0;
-use crate::parts::actions::group_5;
-use crate::parts::elements::group_10;
-use crate::parts::filters::group_15;
-use crate::parts::message::group_20;
-use crate::parts::qdiscs::group_25;
-use crate::parts::statistics::group_30;
 use tc_forms::{Form, Part};
 
 /// RTM_*QDISC, RTM_*TCLASS, RTM_*TFILTER, RTM_*CHAIN
-pub const TC_MESSAGE: Form = Form::Record(240);
+pub const TC_MESSAGE: Form = Form::Record(108);
 
 /// RTM_*ACTION
-pub const ACTION_MESSAGE: Form = Form::Record(247);
+pub const ACTION_MESSAGE: Form = Form::Record(115);
 
 // The part at a place.
 #[tactic(auto, unfolding(crate::specs::Table::tc_tables))]
@@ -33,13 +26,19 @@ pub(crate) fn part(place: usize) -> Part<'static>
     ensures { part_view result ≡ tc_tables place }
 {
     match place / 12 {
-        0 => group_0(place),
-        5 => group_5(place),
-        10 => group_10(place),
-        15 => group_15(place),
-        20 => group_20(place),
-        25 => group_25(place),
-        30 => group_30(place),
+        0 => action::parts_of_action(place),
+        1 => actions::parts_of_actions_mirred(place),
+        2 => actions::parts_of_actions_nat(place),
+        3 => actions::parts_of_actions_tunnel_key(place),
+        4 => elements::parts_of_elements(place),
+        5 => filters::parts_of_filters_bpf(place),
+        6 => filters::parts_of_filters_flower(place),
+        7 => filters::parts_of_filters_matchall(place),
+        8 => filters::parts_of_filters_u32(place),
+        9 => message::parts_of_message(place),
+        10 => qdiscs::parts_of_qdiscs_fq_codel(place),
+        11 => qdiscs::parts_of_qdiscs_ingress(place),
+        12 => statistics::parts_of_statistics(place),
         _ => Part::One(Form::Hex),
     }
 }

@@ -1,39 +1,34 @@
--- The parts of `kinds/action`, by their places. Written by `kinds/generate`.
-use Rattle.std.specs.Prelude.{ℕ, ◌==◌, List, [], ◌∷◌, Option, Some, None, codes, if◌then◌else◌}
+-- The parts of `kinds/action`. Written by `kinds/generate`.
+use Rattle.std.specs.Prelude.{◌==◌, [], ◌∷◌, codes, if◌then◌else◌}
 use Rattle.tc_forms.specs.declared.form.Form.TheVariants as form
 use Rattle.tc_forms.specs.declared.form.Number.TheVariants as number
-use Rattle.tc_forms.specs.Plain.{Part, Table, One, Names, Fields, Rows, Choices}
-use Rattle.tc_kinds.specs.Items.{name, field, row, choice}
+use Rattle.tc_forms.specs.Plain.{Part, Table, One, Names, Fields, Rows, Kinds}
+use Rattle.tc_kinds.specs.Items.{name, field, row, kind_rows}
 
 -- `list action`
 abbrev pub list_action : Part
 list_action =
-    Rows []
-    (row (codes "mirred") 32770 (codes "Options") (form.List 60)
-    ∷ row (codes "nat") 32770 (codes "Options") (form.List 63)
-    ∷ row (codes "tunnel_key") 32770 (codes "Options") (form.List 65)
-    ∷ row [] 32770 (codes "Options") (form.List 3)
-    ∷ row [] 3 (codes "Index") (form.Number number.U32)
-    ∷ row [] 4 (codes "Stats") (form.List 361)
-    ∷ row [] 6 (codes "Cookie") form.Hex
-    ∷ row [] 10 (codes "InHwCount") (form.Number number.U32)
+    Kinds 1 2
+    (kind_rows (codes "mirred") 15
+    ∷ kind_rows (codes "nat") 26
+    ∷ kind_rows (codes "tunnel_key") 38
     ∷ [])
 
 -- `list action`: the rows of all kinds
 abbrev pub list_action_of_all : Part
 list_action_of_all =
     Rows []
-    (row [] 3 (codes "Index") (form.Number number.U32)
-    ∷ row [] 4 (codes "Stats") (form.List 361)
-    ∷ row [] 6 (codes "Cookie") form.Hex
-    ∷ row [] 10 (codes "InHwCount") (form.Number number.U32)
+    (row 3 (codes "Index") (form.Number number.U32)
+    ∷ row 4 (codes "Stats") (form.List 145)
+    ∷ row 6 (codes "Cookie") form.Hex
+    ∷ row 10 (codes "InHwCount") (form.Number number.U32)
     ∷ [])
 
--- `list action`: the rows of a kind without a table
+-- `list action`: the rows of other kinds
 abbrev pub list_action_of_others : Part
 list_action_of_others =
     Rows []
-    (row [] 32770 (codes "Options") (form.List 3)
+    (row 32770 (codes "Options") (form.List 3)
     ∷ [])
 
 -- `list unknown`
@@ -77,8 +72,8 @@ struct_tcf_t =
     ∷ field (codes "firstuse") (form.Number number.U64)
     ∷ [])
 
-unfoldable pub group_0 : Table
-group_0 place =
+unfoldable pub parts_of_action : Table
+parts_of_action place =
     if place == 0 then list_action else (
     if place == 1 then list_action_of_all else (
     if place == 2 then list_action_of_others else (

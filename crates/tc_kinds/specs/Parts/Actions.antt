@@ -1,16 +1,16 @@
--- The parts of `kinds/actions`, by their places. Written by `kinds/generate`.
-use Rattle.std.specs.Prelude.{ℕ, ◌==◌, List, [], ◌∷◌, Option, Some, None, codes, if◌then◌else◌}
+-- The parts of `kinds/actions`. Written by `kinds/generate`.
+use Rattle.std.specs.Prelude.{◌==◌, [], ◌∷◌, codes, if◌then◌else◌}
 use Rattle.tc_forms.specs.declared.form.Form.TheVariants as form
 use Rattle.tc_forms.specs.declared.form.Number.TheVariants as number
-use Rattle.tc_forms.specs.Plain.{Part, Table, One, Names, Fields, Rows, Choices}
-use Rattle.tc_kinds.specs.Items.{name, field, row, choice}
+use Rattle.tc_forms.specs.Plain.{Part, Table, One, Names, Fields, Rows}
+use Rattle.tc_kinds.specs.Items.{name, field, row}
 
 -- `list mirred`
 abbrev pub list_mirred : Part
 list_mirred =
     Rows (codes "Mirror")
-    (row [] 1 (codes "Tm") (form.Record 6)
-    ∷ row [] 2 (codes "Parms") (form.Record 61)
+    (row 1 (codes "Tm") (form.Record 6)
+    ∷ row 2 (codes "Parms") (form.Record 13)
     ∷ [])
 
 -- `struct tc_mirred`
@@ -18,7 +18,7 @@ abbrev pub struct_tc_mirred : Part
 struct_tc_mirred =
     Fields
     (field (codes "generic") (form.Record 4)
-    ∷ field (codes "eaction") (form.Named number.I32 62)
+    ∷ field (codes "eaction") (form.Named number.I32 14)
     ∷ field (codes "ifindex") (form.Number number.U32)
     ∷ [])
 
@@ -32,12 +32,27 @@ enum_tca_mirred =
     ∷ name 4 (codes "IngressMirror")
     ∷ [])
 
+-- `list action`: the rows of mirred
+abbrev pub list_action_action_mirred : Part
+list_action_action_mirred =
+    Rows []
+    (row 32770 (codes "Options") (form.List 12)
+    ∷ [])
+
+unfoldable pub parts_of_actions_mirred : Table
+parts_of_actions_mirred place =
+    if place == 12 then list_mirred else (
+    if place == 13 then struct_tc_mirred else (
+    if place == 14 then enum_tca_mirred else (
+    if place == 15 then list_action_action_mirred else (
+    One form.Hex))))
+
 -- `list nat`
 abbrev pub list_nat : Part
 list_nat =
     Rows (codes "Nat")
-    (row [] 1 (codes "Parms") (form.Record 64)
-    ∷ row [] 2 (codes "Tm") (form.Record 6)
+    (row 1 (codes "Parms") (form.Record 25)
+    ∷ row 2 (codes "Tm") (form.Record 6)
     ∷ [])
 
 -- `struct tc_nat`
@@ -51,21 +66,35 @@ struct_tc_nat =
     ∷ field (codes "flags") (form.Number number.U32)
     ∷ [])
 
+-- `list action`: the rows of nat
+abbrev pub list_action_action_nat : Part
+list_action_action_nat =
+    Rows []
+    (row 32770 (codes "Options") (form.List 24)
+    ∷ [])
+
+unfoldable pub parts_of_actions_nat : Table
+parts_of_actions_nat place =
+    if place == 24 then list_nat else (
+    if place == 25 then struct_tc_nat else (
+    if place == 26 then list_action_action_nat else (
+    One form.Hex)))
+
 -- `list tunnel_key`
 abbrev pub list_tunnel_key : Part
 list_tunnel_key =
     Rows (codes "TunnelKey")
-    (row [] 1 (codes "Tm") (form.Record 6)
-    ∷ row [] 2 (codes "Parms") (form.Record 66)
-    ∷ row [] 3 (codes "EncIpv4Src") form.Ipv4
-    ∷ row [] 4 (codes "EncIpv4Dst") form.Ipv4
-    ∷ row [] 5 (codes "EncIpv6Src") form.Ipv6
-    ∷ row [] 6 (codes "EncIpv6Dst") form.Ipv6
-    ∷ row [] 7 (codes "EncKeyId") (form.Number number.U32Be)
-    ∷ row [] 9 (codes "EncDstPort") (form.Number number.U16Be)
-    ∷ row [] 10 (codes "NoCsum") form.Truth
-    ∷ row [] 12 (codes "EncTos") (form.Number number.U8)
-    ∷ row [] 13 (codes "EncTtl") (form.Number number.U8)
+    (row 1 (codes "Tm") (form.Record 6)
+    ∷ row 2 (codes "Parms") (form.Record 37)
+    ∷ row 3 (codes "EncIpv4Src") form.Ipv4
+    ∷ row 4 (codes "EncIpv4Dst") form.Ipv4
+    ∷ row 5 (codes "EncIpv6Src") form.Ipv6
+    ∷ row 6 (codes "EncIpv6Dst") form.Ipv6
+    ∷ row 7 (codes "EncKeyId") (form.Number number.U32Be)
+    ∷ row 9 (codes "EncDstPort") (form.Number number.U16Be)
+    ∷ row 10 (codes "NoCsum") form.Truth
+    ∷ row 12 (codes "EncTos") (form.Number number.U8)
+    ∷ row 13 (codes "EncTtl") (form.Number number.U8)
     ∷ [])
 
 -- `struct tc_tunnel_key`
@@ -76,37 +105,16 @@ struct_tc_tunnel_key =
     ∷ field (codes "t_action") (form.Number number.I32)
     ∷ [])
 
--- `list action`: the rows of mirred
-abbrev pub action_of_action_mirred : Part
-action_of_action_mirred =
-    Rows []
-    (row [] 32770 (codes "Options") (form.List 60)
-    ∷ [])
-
--- `list action`: the rows of nat
-abbrev pub action_of_action_nat : Part
-action_of_action_nat =
-    Rows []
-    (row [] 32770 (codes "Options") (form.List 63)
-    ∷ [])
-
 -- `list action`: the rows of tunnel_key
-abbrev pub action_of_action_tunnel_key : Part
-action_of_action_tunnel_key =
+abbrev pub list_action_action_tunnel_key : Part
+list_action_action_tunnel_key =
     Rows []
-    (row [] 32770 (codes "Options") (form.List 65)
+    (row 32770 (codes "Options") (form.List 36)
     ∷ [])
 
-unfoldable pub group_5 : Table
-group_5 place =
-    if place == 60 then list_mirred else (
-    if place == 61 then struct_tc_mirred else (
-    if place == 62 then enum_tca_mirred else (
-    if place == 63 then list_nat else (
-    if place == 64 then struct_tc_nat else (
-    if place == 65 then list_tunnel_key else (
-    if place == 66 then struct_tc_tunnel_key else (
-    if place == 67 then action_of_action_mirred else (
-    if place == 68 then action_of_action_nat else (
-    if place == 69 then action_of_action_tunnel_key else (
-    One form.Hex))))))))))
+unfoldable pub parts_of_actions_tunnel_key : Table
+parts_of_actions_tunnel_key place =
+    if place == 36 then list_tunnel_key else (
+    if place == 37 then struct_tc_tunnel_key else (
+    if place == 38 then list_action_action_tunnel_key else (
+    One form.Hex)))

@@ -1,9 +1,9 @@
--- The parts of `kinds/statistics`, by their places. Written by `kinds/generate`.
-use Rattle.std.specs.Prelude.{ℕ, ◌==◌, List, [], ◌∷◌, Option, Some, None, codes, if◌then◌else◌}
+-- The parts of `kinds/statistics`. Written by `kinds/generate`.
+use Rattle.std.specs.Prelude.{◌==◌, [], ◌∷◌, codes, if◌then◌else◌}
 use Rattle.tc_forms.specs.declared.form.Form.TheVariants as form
 use Rattle.tc_forms.specs.declared.form.Number.TheVariants as number
-use Rattle.tc_forms.specs.Plain.{Part, Table, One, Names, Fields, Rows, Choices}
-use Rattle.tc_kinds.specs.Items.{name, field, row, choice}
+use Rattle.tc_forms.specs.Plain.{Part, Table, One, Fields, Rows, Kinds}
+use Rattle.tc_kinds.specs.Items.{field, row, kind_rows}
 
 -- `struct tc_stats`
 abbrev pub struct_tc_stats : Part
@@ -23,28 +23,24 @@ struct_tc_stats =
 -- `list stats`
 abbrev pub list_stats : Part
 list_stats =
-    Rows []
-    (row (codes "fq_codel") 4 (codes "App") (form.Record 305)
-    ∷ row [] 4 (codes "App") (form.Choice 246)
-    ∷ row [] 1 (codes "Basic") (form.Record 364)
-    ∷ row [] 3 (codes "Queue") (form.Record 365)
-    ∷ row [] 7 (codes "BasicHw") (form.Record 364)
+    Kinds 146 147
+    (kind_rows (codes "fq_codel") 126
     ∷ [])
 
 -- `list stats`: the rows of all kinds
 abbrev pub list_stats_of_all : Part
 list_stats_of_all =
     Rows []
-    (row [] 1 (codes "Basic") (form.Record 364)
-    ∷ row [] 3 (codes "Queue") (form.Record 365)
-    ∷ row [] 7 (codes "BasicHw") (form.Record 364)
+    (row 1 (codes "Basic") (form.Record 148)
+    ∷ row 3 (codes "Queue") (form.Record 149)
+    ∷ row 7 (codes "BasicHw") (form.Record 148)
     ∷ [])
 
--- `list stats`: the rows of a kind without a table
+-- `list stats`: the rows of other kinds
 abbrev pub list_stats_of_others : Part
 list_stats_of_others =
     Rows []
-    (row [] 4 (codes "App") (form.Choice 246)
+    (row 4 (codes "App") (form.Choice 114)
     ∷ [])
 
 -- `struct gnet_stats_basic`
@@ -67,12 +63,12 @@ struct_gnet_stats_queue =
     ∷ field (codes "overlimits") (form.Number number.U32)
     ∷ [])
 
-unfoldable pub group_30 : Table
-group_30 place =
-    if place == 360 then struct_tc_stats else (
-    if place == 361 then list_stats else (
-    if place == 362 then list_stats_of_all else (
-    if place == 363 then list_stats_of_others else (
-    if place == 364 then struct_gnet_stats_basic else (
-    if place == 365 then struct_gnet_stats_queue else (
+unfoldable pub parts_of_statistics : Table
+parts_of_statistics place =
+    if place == 144 then struct_tc_stats else (
+    if place == 145 then list_stats else (
+    if place == 146 then list_stats_of_all else (
+    if place == 147 then list_stats_of_others else (
+    if place == 148 then struct_gnet_stats_basic else (
+    if place == 149 then struct_gnet_stats_queue else (
     One form.Hex))))))

@@ -2,93 +2,52 @@
 
 ghost use Rattle.std.specs.Prelude.{◌≡◌, map};
 ghost use Rattle.tc_forms.specs.Plain.{part_view};
-ghost use Rattle.tc_kinds.specs.Parts.Action.{group_0};
+ghost use Rattle.tc_kinds.specs.Parts.Action.{parts_of_action};
 
-use tc_forms::{Field, Form, Name, Number, Part, Row};
+use tc_forms::{Field, Form, KindRows, Name, Number, Part, Row};
 
 // `list action`
-const LIST_ACTION: [Row<'static>; 8] = [
-    Row {
+const LIST_ACTION: [KindRows<'static>; 3] = [
+    KindRows {
         kind: "mirred",
-        word: 32770,
-        name: "Options",
-        form: Form::List(60),
+        rows: 15,
     },
-    Row {
+    KindRows {
         kind: "nat",
-        word: 32770,
-        name: "Options",
-        form: Form::List(63),
+        rows: 26,
     },
-    Row {
+    KindRows {
         kind: "tunnel_key",
-        word: 32770,
-        name: "Options",
-        form: Form::List(65),
-    },
-    Row {
-        kind: "",
-        word: 32770,
-        name: "Options",
-        form: Form::List(3),
-    },
-    Row {
-        kind: "",
-        word: 3,
-        name: "Index",
-        form: Form::Number(Number::U32),
-    },
-    Row {
-        kind: "",
-        word: 4,
-        name: "Stats",
-        form: Form::List(361),
-    },
-    Row {
-        kind: "",
-        word: 6,
-        name: "Cookie",
-        form: Form::Hex,
-    },
-    Row {
-        kind: "",
-        word: 10,
-        name: "InHwCount",
-        form: Form::Number(Number::U32),
+        rows: 38,
     },
 ];
 
 // `list action`: the rows of all kinds
 const LIST_ACTION_OF_ALL: [Row<'static>; 4] = [
     Row {
-        kind: "",
         word: 3,
         name: "Index",
         form: Form::Number(Number::U32),
     },
     Row {
-        kind: "",
         word: 4,
         name: "Stats",
-        form: Form::List(361),
+        form: Form::List(145),
     },
     Row {
-        kind: "",
         word: 6,
         name: "Cookie",
         form: Form::Hex,
     },
     Row {
-        kind: "",
         word: 10,
         name: "InHwCount",
         form: Form::Number(Number::U32),
     },
 ];
 
-// `list action`: the rows of a kind without a table
+// `list action`: the rows of other kinds
 const LIST_ACTION_OF_OTHERS: [Row<'static>; 1] = [Row {
-    kind: "",
     word: 32770,
     name: "Options",
     form: Form::List(3),
@@ -182,12 +141,12 @@ const STRUCT_TCF_T: [Field<'static>; 4] = [
     },
 ];
 
-#[tactic(auto, unfolding(crate::specs::Parts::Action::group_0))]
-pub(crate) fn group_0(place: usize) -> Part<'static>
-    ensures { part_view result ≡ group_0 place }
+#[tactic(auto, unfolding(crate::specs::Parts::Action::parts_of_action))]
+pub(crate) fn parts_of_action(place: usize) -> Part<'static>
+    ensures { part_view result ≡ parts_of_action place }
 {
     match place {
-        0 => Part::Rows("", &LIST_ACTION),
+        0 => Part::Kinds(1, 2, &LIST_ACTION),
         1 => Part::Rows("", &LIST_ACTION_OF_ALL),
         2 => Part::Rows("", &LIST_ACTION_OF_OTHERS),
         3 => Part::Rows("", &[]),

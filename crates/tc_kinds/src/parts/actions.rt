@@ -2,23 +2,21 @@
 
 ghost use Rattle.std.specs.Prelude.{◌≡◌, map};
 ghost use Rattle.tc_forms.specs.Plain.{part_view};
-ghost use Rattle.tc_kinds.specs.Parts.Actions.{group_5};
+ghost use Rattle.tc_kinds.specs.Parts.Actions.{parts_of_actions_mirred, parts_of_actions_nat, parts_of_actions_tunnel_key};
 
 use tc_forms::{Field, Form, Name, Number, Part, Row};
 
 // `list mirred`
 const LIST_MIRRED: [Row<'static>; 2] = [
     Row {
-        kind: "",
         word: 1,
         name: "Tm",
         form: Form::Record(6),
     },
     Row {
-        kind: "",
         word: 2,
         name: "Parms",
-        form: Form::Record(61),
+        form: Form::Record(13),
     },
 ];
 
@@ -30,7 +28,7 @@ const STRUCT_TC_MIRRED: [Field<'static>; 3] = [
     },
     Field {
         name: "eaction",
-        form: Form::Named(Number::I32, 62),
+        form: Form::Named(Number::I32, 14),
     },
     Field {
         name: "ifindex",
@@ -58,16 +56,34 @@ const ENUM_TCA_MIRRED: [Name<'static>; 4] = [
     },
 ];
 
+// `list action`: the rows of mirred
+const LIST_ACTION_ACTION_MIRRED: [Row<'static>; 1] = [Row {
+    word: 32770,
+    name: "Options",
+    form: Form::List(12),
+}];
+
+#[tactic(auto, unfolding(crate::specs::Parts::Actions::parts_of_actions_mirred))]
+pub(crate) fn parts_of_actions_mirred(place: usize) -> Part<'static>
+    ensures { part_view result ≡ parts_of_actions_mirred place }
+{
+    match place {
+        12 => Part::Rows("Mirror", &LIST_MIRRED),
+        13 => Part::Fields(&STRUCT_TC_MIRRED),
+        14 => Part::Names(&ENUM_TCA_MIRRED),
+        15 => Part::Rows("", &LIST_ACTION_ACTION_MIRRED),
+        _ => Part::One(Form::Hex),
+    }
+}
+
 // `list nat`
 const LIST_NAT: [Row<'static>; 2] = [
     Row {
-        kind: "",
         word: 1,
         name: "Parms",
-        form: Form::Record(64),
+        form: Form::Record(25),
     },
     Row {
-        kind: "",
         word: 2,
         name: "Tm",
         form: Form::Record(6),
@@ -98,70 +114,78 @@ const STRUCT_TC_NAT: [Field<'static>; 5] = [
     },
 ];
 
+// `list action`: the rows of nat
+const LIST_ACTION_ACTION_NAT: [Row<'static>; 1] = [Row {
+    word: 32770,
+    name: "Options",
+    form: Form::List(24),
+}];
+
+#[tactic(auto, unfolding(crate::specs::Parts::Actions::parts_of_actions_nat))]
+pub(crate) fn parts_of_actions_nat(place: usize) -> Part<'static>
+    ensures { part_view result ≡ parts_of_actions_nat place }
+{
+    match place {
+        24 => Part::Rows("Nat", &LIST_NAT),
+        25 => Part::Fields(&STRUCT_TC_NAT),
+        26 => Part::Rows("", &LIST_ACTION_ACTION_NAT),
+        _ => Part::One(Form::Hex),
+    }
+}
+
 // `list tunnel_key`
 const LIST_TUNNEL_KEY: [Row<'static>; 11] = [
     Row {
-        kind: "",
         word: 1,
         name: "Tm",
         form: Form::Record(6),
     },
     Row {
-        kind: "",
         word: 2,
         name: "Parms",
-        form: Form::Record(66),
+        form: Form::Record(37),
     },
     Row {
-        kind: "",
         word: 3,
         name: "EncIpv4Src",
         form: Form::Ipv4,
     },
     Row {
-        kind: "",
         word: 4,
         name: "EncIpv4Dst",
         form: Form::Ipv4,
     },
     Row {
-        kind: "",
         word: 5,
         name: "EncIpv6Src",
         form: Form::Ipv6,
     },
     Row {
-        kind: "",
         word: 6,
         name: "EncIpv6Dst",
         form: Form::Ipv6,
     },
     Row {
-        kind: "",
         word: 7,
         name: "EncKeyId",
         form: Form::Number(Number::U32Be),
     },
     Row {
-        kind: "",
         word: 9,
         name: "EncDstPort",
         form: Form::Number(Number::U16Be),
     },
     Row {
-        kind: "",
         word: 10,
         name: "NoCsum",
         form: Form::Truth,
     },
     Row {
-        kind: "",
         word: 12,
         name: "EncTos",
         form: Form::Number(Number::U8),
     },
     Row {
-        kind: "",
         word: 13,
         name: "EncTtl",
         form: Form::Number(Number::U8),
@@ -180,45 +204,21 @@ const STRUCT_TC_TUNNEL_KEY: [Field<'static>; 2] = [
     },
 ];
 
-// `list action`: the rows of mirred
-const ACTION_OF_ACTION_MIRRED: [Row<'static>; 1] = [Row {
-    kind: "",
-    word: 32770,
-    name: "Options",
-    form: Form::List(60),
-}];
-
-// `list action`: the rows of nat
-const ACTION_OF_ACTION_NAT: [Row<'static>; 1] = [Row {
-    kind: "",
-    word: 32770,
-    name: "Options",
-    form: Form::List(63),
-}];
-
 // `list action`: the rows of tunnel_key
-const ACTION_OF_ACTION_TUNNEL_KEY: [Row<'static>; 1] = [Row {
-    kind: "",
+const LIST_ACTION_ACTION_TUNNEL_KEY: [Row<'static>; 1] = [Row {
     word: 32770,
     name: "Options",
-    form: Form::List(65),
+    form: Form::List(36),
 }];
 
-#[tactic(auto, unfolding(crate::specs::Parts::Actions::group_5))]
-pub(crate) fn group_5(place: usize) -> Part<'static>
-    ensures { part_view result ≡ group_5 place }
+#[tactic(auto, unfolding(crate::specs::Parts::Actions::parts_of_actions_tunnel_key))]
+pub(crate) fn parts_of_actions_tunnel_key(place: usize) -> Part<'static>
+    ensures { part_view result ≡ parts_of_actions_tunnel_key place }
 {
     match place {
-        60 => Part::Rows("Mirror", &LIST_MIRRED),
-        61 => Part::Fields(&STRUCT_TC_MIRRED),
-        62 => Part::Names(&ENUM_TCA_MIRRED),
-        63 => Part::Rows("Nat", &LIST_NAT),
-        64 => Part::Fields(&STRUCT_TC_NAT),
-        65 => Part::Rows("TunnelKey", &LIST_TUNNEL_KEY),
-        66 => Part::Fields(&STRUCT_TC_TUNNEL_KEY),
-        67 => Part::Rows("", &ACTION_OF_ACTION_MIRRED),
-        68 => Part::Rows("", &ACTION_OF_ACTION_NAT),
-        69 => Part::Rows("", &ACTION_OF_ACTION_TUNNEL_KEY),
+        36 => Part::Rows("TunnelKey", &LIST_TUNNEL_KEY),
+        37 => Part::Fields(&STRUCT_TC_TUNNEL_KEY),
+        38 => Part::Rows("", &LIST_ACTION_ACTION_TUNNEL_KEY),
         _ => Part::One(Form::Hex),
     }
 }

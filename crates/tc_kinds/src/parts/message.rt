@@ -2,19 +2,19 @@
 
 ghost use Rattle.std.specs.Prelude.{◌≡◌, map};
 ghost use Rattle.tc_forms.specs.Plain.{part_view};
-ghost use Rattle.tc_kinds.specs.Parts.Message.{group_20};
+ghost use Rattle.tc_kinds.specs.Parts.Message.{parts_of_message};
 
-use tc_forms::{Field, Form, Name, Number, Part, Row};
+use tc_forms::{Field, Form, KindRows, Name, Number, Part, Row};
 
 // `struct tc_message`
 const STRUCT_TC_MESSAGE: [Field<'static>; 2] = [
     Field {
         name: "header",
-        form: Form::Record(241),
+        form: Form::Record(109),
     },
     Field {
         name: "attributes",
-        form: Form::InForce(243),
+        form: Form::InForce(111),
     },
 ];
 
@@ -22,7 +22,7 @@ const STRUCT_TC_MESSAGE: [Field<'static>; 2] = [
 const STRUCT_TCMSG: [Field<'static>; 6] = [
     Field {
         name: "family",
-        form: Form::Named(Number::U8, 242),
+        form: Form::Named(Number::U8, 110),
     },
     Field {
         name: "padding",
@@ -83,206 +83,88 @@ const ENUM_ADDRESS_FAMILY: [Name<'static>; 8] = [
 ];
 
 // `list tc`
-const LIST_TC: [Row<'static>; 22] = [
-    Row {
+const LIST_TC: [KindRows<'static>; 6] = [
+    KindRows {
         kind: "bpf",
-        word: 2,
-        name: "Options",
-        form: Form::List(180),
+        rows: 61,
     },
-    Row {
-        kind: "bpf",
-        word: 4,
-        name: "Xstats",
-        form: Form::Choice(246),
-    },
-    Row {
+    KindRows {
         kind: "flower",
-        word: 2,
-        name: "Options",
-        form: Form::List(181),
+        rows: 75,
     },
-    Row {
-        kind: "flower",
-        word: 4,
-        name: "Xstats",
-        form: Form::Choice(246),
-    },
-    Row {
+    KindRows {
         kind: "matchall",
-        word: 2,
-        name: "Options",
-        form: Form::List(184),
+        rows: 85,
     },
-    Row {
-        kind: "matchall",
-        word: 4,
-        name: "Xstats",
-        form: Form::Choice(246),
-    },
-    Row {
+    KindRows {
         kind: "u32",
-        word: 2,
-        name: "Options",
-        form: Form::List(185),
+        rows: 99,
     },
-    Row {
-        kind: "u32",
-        word: 4,
-        name: "Xstats",
-        form: Form::Choice(246),
-    },
-    Row {
+    KindRows {
         kind: "fq_codel",
-        word: 2,
-        name: "Options",
-        form: Form::List(300),
+        rows: 125,
     },
-    Row {
-        kind: "fq_codel",
-        word: 4,
-        name: "Xstats",
-        form: Form::Record(305),
-    },
-    Row {
+    KindRows {
         kind: "ingress",
-        word: 2,
-        name: "Options",
-        form: Form::List(304),
-    },
-    Row {
-        kind: "ingress",
-        word: 4,
-        name: "Xstats",
-        form: Form::Choice(246),
-    },
-    Row {
-        kind: "",
-        word: 2,
-        name: "OptionsRaw",
-        form: Form::Hex,
-    },
-    Row {
-        kind: "",
-        word: 4,
-        name: "Xstats",
-        form: Form::Choice(246),
-    },
-    Row {
-        kind: "",
-        word: 3,
-        name: "Stats",
-        form: Form::Record(360),
-    },
-    Row {
-        kind: "",
-        word: 5,
-        name: "Rate",
-        form: Form::Hex,
-    },
-    Row {
-        kind: "",
-        word: 6,
-        name: "Fcnt",
-        form: Form::Hex,
-    },
-    Row {
-        kind: "",
-        word: 7,
-        name: "Stats2",
-        form: Form::List(361),
-    },
-    Row {
-        kind: "",
-        word: 8,
-        name: "Stab",
-        form: Form::Hex,
-    },
-    Row {
-        kind: "",
-        word: 10,
-        name: "DumpInvisible",
-        form: Form::Flag,
-    },
-    Row {
-        kind: "",
-        word: 11,
-        name: "Chain",
-        form: Form::Number(Number::U32),
-    },
-    Row {
-        kind: "",
-        word: 12,
-        name: "HwOffload",
-        form: Form::Number(Number::U8),
+        rows: 133,
     },
 ];
 
 // `list tc`: the rows of all kinds
 const LIST_TC_OF_ALL: [Row<'static>; 8] = [
     Row {
-        kind: "",
         word: 3,
         name: "Stats",
-        form: Form::Record(360),
+        form: Form::Record(144),
     },
     Row {
-        kind: "",
         word: 5,
         name: "Rate",
         form: Form::Hex,
     },
     Row {
-        kind: "",
         word: 6,
         name: "Fcnt",
         form: Form::Hex,
     },
     Row {
-        kind: "",
         word: 7,
         name: "Stats2",
-        form: Form::List(361),
+        form: Form::List(145),
     },
     Row {
-        kind: "",
         word: 8,
         name: "Stab",
         form: Form::Hex,
     },
     Row {
-        kind: "",
         word: 10,
         name: "DumpInvisible",
         form: Form::Flag,
     },
     Row {
-        kind: "",
         word: 11,
         name: "Chain",
         form: Form::Number(Number::U32),
     },
     Row {
-        kind: "",
         word: 12,
         name: "HwOffload",
         form: Form::Number(Number::U8),
     },
 ];
 
-// `list tc`: the rows of a kind without a table
+// `list tc`: the rows of other kinds
 const LIST_TC_OF_OTHERS: [Row<'static>; 2] = [
     Row {
-        kind: "",
         word: 2,
         name: "OptionsRaw",
         form: Form::Hex,
     },
     Row {
-        kind: "",
         word: 4,
         name: "Xstats",
-        form: Form::Choice(246),
+        form: Form::Choice(114),
     },
 ];
 
@@ -290,11 +172,11 @@ const LIST_TC_OF_OTHERS: [Row<'static>; 2] = [
 const STRUCT_ACTION_MESSAGE: [Field<'static>; 2] = [
     Field {
         name: "header",
-        form: Form::Record(248),
+        form: Form::Record(116),
     },
     Field {
         name: "attributes",
-        form: Form::List(249),
+        form: Form::List(117),
     },
 ];
 
@@ -302,7 +184,7 @@ const STRUCT_ACTION_MESSAGE: [Field<'static>; 2] = [
 const STRUCT_TCAMSG: [Field<'static>; 2] = [
     Field {
         name: "family",
-        form: Form::Named(Number::U8, 242),
+        form: Form::Named(Number::U8, 110),
     },
     Field {
         name: "padding",
@@ -313,31 +195,26 @@ const STRUCT_TCAMSG: [Field<'static>; 2] = [
 // `list action_message`
 const LIST_ACTION_MESSAGE: [Row<'static>; 5] = [
     Row {
-        kind: "",
         word: 1,
         name: "Actions",
-        form: Form::Indexed(120),
+        form: Form::Indexed(48),
     },
     Row {
-        kind: "",
         word: 2,
         name: "Flags",
-        form: Form::Record(250),
+        form: Form::Record(118),
     },
     Row {
-        kind: "",
         word: 3,
         name: "RootCount",
         form: Form::Number(Number::U32),
     },
     Row {
-        kind: "",
         word: 4,
         name: "RootTimeDelta",
         form: Form::Number(Number::U32),
     },
     Row {
-        kind: "",
         word: 5,
         name: "RootExtWarnMsg",
         form: Form::Bare,
@@ -356,22 +233,22 @@ const STRUCT_TCA_ROOT_FLAGS: [Field<'static>; 2] = [
     },
 ];
 
-#[tactic(auto, unfolding(crate::specs::Parts::Message::group_20))]
-pub(crate) fn group_20(place: usize) -> Part<'static>
-    ensures { part_view result ≡ group_20 place }
+#[tactic(auto, unfolding(crate::specs::Parts::Message::parts_of_message))]
+pub(crate) fn parts_of_message(place: usize) -> Part<'static>
+    ensures { part_view result ≡ parts_of_message place }
 {
     match place {
-        240 => Part::Fields(&STRUCT_TC_MESSAGE),
-        241 => Part::Fields(&STRUCT_TCMSG),
-        242 => Part::Names(&ENUM_ADDRESS_FAMILY),
-        243 => Part::Rows("", &LIST_TC),
-        244 => Part::Rows("", &LIST_TC_OF_ALL),
-        245 => Part::Rows("", &LIST_TC_OF_OTHERS),
-        246 => Part::Choices(&[]),
-        247 => Part::Fields(&STRUCT_ACTION_MESSAGE),
-        248 => Part::Fields(&STRUCT_TCAMSG),
-        249 => Part::Rows("", &LIST_ACTION_MESSAGE),
-        250 => Part::Fields(&STRUCT_TCA_ROOT_FLAGS),
+        108 => Part::Fields(&STRUCT_TC_MESSAGE),
+        109 => Part::Fields(&STRUCT_TCMSG),
+        110 => Part::Names(&ENUM_ADDRESS_FAMILY),
+        111 => Part::Kinds(112, 113, &LIST_TC),
+        112 => Part::Rows("", &LIST_TC_OF_ALL),
+        113 => Part::Rows("", &LIST_TC_OF_OTHERS),
+        114 => Part::Choices(&[]),
+        115 => Part::Fields(&STRUCT_ACTION_MESSAGE),
+        116 => Part::Fields(&STRUCT_TCAMSG),
+        117 => Part::Rows("", &LIST_ACTION_MESSAGE),
+        118 => Part::Fields(&STRUCT_TCA_ROOT_FLAGS),
         _ => Part::One(Form::Hex),
     }
 }

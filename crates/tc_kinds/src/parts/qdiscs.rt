@@ -2,74 +2,63 @@
 
 ghost use Rattle.std.specs.Prelude.{◌≡◌, map};
 ghost use Rattle.tc_forms.specs.Plain.{part_view};
-ghost use Rattle.tc_kinds.specs.Parts.Qdiscs.{group_25};
+ghost use Rattle.tc_kinds.specs.Parts.Qdiscs.{parts_of_qdiscs_fq_codel, parts_of_qdiscs_ingress};
 
 use tc_forms::{Choice, Field, Form, Number, Part, Row};
 
 // `list fq_codel`
 const LIST_FQ_CODEL: [Row<'static>; 11] = [
     Row {
-        kind: "",
         word: 1,
         name: "Target",
         form: Form::Number(Number::U32),
     },
     Row {
-        kind: "",
         word: 2,
         name: "Limit",
         form: Form::Number(Number::U32),
     },
     Row {
-        kind: "",
         word: 3,
         name: "Interval",
         form: Form::Number(Number::U32),
     },
     Row {
-        kind: "",
         word: 4,
         name: "Ecn",
         form: Form::Number(Number::U32),
     },
     Row {
-        kind: "",
         word: 5,
         name: "Flows",
         form: Form::Number(Number::U32),
     },
     Row {
-        kind: "",
         word: 6,
         name: "Quantum",
         form: Form::Number(Number::U32),
     },
     Row {
-        kind: "",
         word: 7,
         name: "CeThreshold",
         form: Form::Number(Number::U32),
     },
     Row {
-        kind: "",
         word: 8,
         name: "DropBatchSize",
         form: Form::Number(Number::U32),
     },
     Row {
-        kind: "",
         word: 9,
         name: "MemoryLimit",
         form: Form::Number(Number::U32),
     },
     Row {
-        kind: "",
         word: 10,
         name: "CeThresholdSelector",
         form: Form::Number(Number::U8),
     },
     Row {
-        kind: "",
         word: 11,
         name: "CeThresholdMask",
         form: Form::Number(Number::U8),
@@ -82,13 +71,13 @@ const CHOICE_TC_FQ_CODEL_XSTATS: [Choice<'static>; 2] = [
         name: "Qdisc",
         prefix: &[0, 0, 0, 0],
         len: None,
-        form: Form::Record(302),
+        form: Form::Record(122),
     },
     Choice {
         name: "Class",
         prefix: &[1, 0, 0, 0],
         len: None,
-        form: Form::Record(303),
+        form: Form::Record(123),
     },
 ];
 
@@ -160,66 +149,70 @@ const STRUCT_TC_FQ_CODEL_CL_STATS: [Field<'static>; 6] = [
     },
 ];
 
-// statistics of fq_codel
-const STATISTICS_OF_QDISC_FQ_CODEL: [Field<'static>; 1] = [Field {
+// the statistics of fq_codel
+const STATISTICS_QDISC_FQ_CODEL: [Field<'static>; 1] = [Field {
     name: "FqCodel",
-    form: Form::Choice(301),
+    form: Form::Choice(121),
 }];
 
 // `list tc`: the rows of fq_codel
-const TC_OF_QDISC_FQ_CODEL: [Row<'static>; 2] = [
+const LIST_TC_QDISC_FQ_CODEL: [Row<'static>; 2] = [
     Row {
-        kind: "",
         word: 2,
         name: "Options",
-        form: Form::List(300),
+        form: Form::List(120),
     },
     Row {
-        kind: "",
         word: 4,
         name: "Xstats",
-        form: Form::Record(305),
-    },
-];
-
-// `list tc`: the rows of ingress
-const TC_OF_QDISC_INGRESS: [Row<'static>; 2] = [
-    Row {
-        kind: "",
-        word: 2,
-        name: "Options",
-        form: Form::List(304),
-    },
-    Row {
-        kind: "",
-        word: 4,
-        name: "Xstats",
-        form: Form::Choice(246),
+        form: Form::Record(124),
     },
 ];
 
 // `list stats`: the rows of fq_codel
-const STATS_OF_QDISC_FQ_CODEL: [Row<'static>; 1] = [Row {
-    kind: "",
+const LIST_STATS_QDISC_FQ_CODEL: [Row<'static>; 1] = [Row {
     word: 4,
     name: "App",
-    form: Form::Record(305),
+    form: Form::Record(124),
 }];
 
-#[tactic(auto, unfolding(crate::specs::Parts::Qdiscs::group_25))]
-pub(crate) fn group_25(place: usize) -> Part<'static>
-    ensures { part_view result ≡ group_25 place }
+#[tactic(auto, unfolding(crate::specs::Parts::Qdiscs::parts_of_qdiscs_fq_codel))]
+pub(crate) fn parts_of_qdiscs_fq_codel(place: usize) -> Part<'static>
+    ensures { part_view result ≡ parts_of_qdiscs_fq_codel place }
 {
     match place {
-        300 => Part::Rows("FqCodel", &LIST_FQ_CODEL),
-        301 => Part::Choices(&CHOICE_TC_FQ_CODEL_XSTATS),
-        302 => Part::Fields(&STRUCT_TC_FQ_CODEL_QD_STATS),
-        303 => Part::Fields(&STRUCT_TC_FQ_CODEL_CL_STATS),
-        304 => Part::Rows("Ingress", &[]),
-        305 => Part::Fields(&STATISTICS_OF_QDISC_FQ_CODEL),
-        306 => Part::Rows("", &TC_OF_QDISC_FQ_CODEL),
-        307 => Part::Rows("", &TC_OF_QDISC_INGRESS),
-        308 => Part::Rows("", &STATS_OF_QDISC_FQ_CODEL),
+        120 => Part::Rows("FqCodel", &LIST_FQ_CODEL),
+        121 => Part::Choices(&CHOICE_TC_FQ_CODEL_XSTATS),
+        122 => Part::Fields(&STRUCT_TC_FQ_CODEL_QD_STATS),
+        123 => Part::Fields(&STRUCT_TC_FQ_CODEL_CL_STATS),
+        124 => Part::Fields(&STATISTICS_QDISC_FQ_CODEL),
+        125 => Part::Rows("", &LIST_TC_QDISC_FQ_CODEL),
+        126 => Part::Rows("", &LIST_STATS_QDISC_FQ_CODEL),
+        _ => Part::One(Form::Hex),
+    }
+}
+
+// `list tc`: the rows of ingress
+const LIST_TC_QDISC_INGRESS: [Row<'static>; 2] = [
+    Row {
+        word: 2,
+        name: "Options",
+        form: Form::List(132),
+    },
+    Row {
+        word: 4,
+        name: "Xstats",
+        form: Form::Choice(114),
+    },
+];
+
+#[tactic(auto, unfolding(crate::specs::Parts::Qdiscs::parts_of_qdiscs_ingress))]
+pub(crate) fn parts_of_qdiscs_ingress(place: usize) -> Part<'static>
+    ensures { part_view result ≡ parts_of_qdiscs_ingress place }
+{
+    match place {
+        132 => Part::Rows("Ingress", &[]),
+        133 => Part::Rows("", &LIST_TC_QDISC_INGRESS),
         _ => Part::One(Form::Hex),
     }
 }

@@ -2,9 +2,9 @@
 
 ghost use Rattle.std.specs.Prelude.{◌≡◌, map};
 ghost use Rattle.tc_forms.specs.Plain.{part_view};
-ghost use Rattle.tc_kinds.specs.Parts.Statistics.{group_30};
+ghost use Rattle.tc_kinds.specs.Parts.Statistics.{parts_of_statistics};
 
-use tc_forms::{Field, Form, Number, Part, Row};
+use tc_forms::{Field, Form, KindRows, Number, Part, Row};
 
 // `struct tc_stats`
 const STRUCT_TC_STATS: [Field<'static>; 9] = [
@@ -47,67 +47,35 @@ const STRUCT_TC_STATS: [Field<'static>; 9] = [
 ];
 
 // `list stats`
-const LIST_STATS: [Row<'static>; 5] = [
-    Row {
-        kind: "fq_codel",
-        word: 4,
-        name: "App",
-        form: Form::Record(305),
-    },
-    Row {
-        kind: "",
-        word: 4,
-        name: "App",
-        form: Form::Choice(246),
-    },
-    Row {
-        kind: "",
-        word: 1,
-        name: "Basic",
-        form: Form::Record(364),
-    },
-    Row {
-        kind: "",
-        word: 3,
-        name: "Queue",
-        form: Form::Record(365),
-    },
-    Row {
-        kind: "",
-        word: 7,
-        name: "BasicHw",
-        form: Form::Record(364),
-    },
-];
+const LIST_STATS: [KindRows<'static>; 1] = [KindRows {
+    kind: "fq_codel",
+    rows: 126,
+}];
 
 // `list stats`: the rows of all kinds
 const LIST_STATS_OF_ALL: [Row<'static>; 3] = [
     Row {
-        kind: "",
         word: 1,
         name: "Basic",
-        form: Form::Record(364),
+        form: Form::Record(148),
     },
     Row {
-        kind: "",
         word: 3,
         name: "Queue",
-        form: Form::Record(365),
+        form: Form::Record(149),
     },
     Row {
-        kind: "",
         word: 7,
         name: "BasicHw",
-        form: Form::Record(364),
+        form: Form::Record(148),
     },
 ];
 
-// `list stats`: the rows of a kind without a table
+// `list stats`: the rows of other kinds
 const LIST_STATS_OF_OTHERS: [Row<'static>; 1] = [Row {
-    kind: "",
     word: 4,
     name: "App",
-    form: Form::Choice(246),
+    form: Form::Choice(114),
 }];
 
 // `struct gnet_stats_basic`
@@ -150,17 +118,17 @@ const STRUCT_GNET_STATS_QUEUE: [Field<'static>; 5] = [
     },
 ];
 
-#[tactic(auto, unfolding(crate::specs::Parts::Statistics::group_30))]
-pub(crate) fn group_30(place: usize) -> Part<'static>
-    ensures { part_view result ≡ group_30 place }
+#[tactic(auto, unfolding(crate::specs::Parts::Statistics::parts_of_statistics))]
+pub(crate) fn parts_of_statistics(place: usize) -> Part<'static>
+    ensures { part_view result ≡ parts_of_statistics place }
 {
     match place {
-        360 => Part::Fields(&STRUCT_TC_STATS),
-        361 => Part::Rows("", &LIST_STATS),
-        362 => Part::Rows("", &LIST_STATS_OF_ALL),
-        363 => Part::Rows("", &LIST_STATS_OF_OTHERS),
-        364 => Part::Fields(&STRUCT_GNET_STATS_BASIC),
-        365 => Part::Fields(&STRUCT_GNET_STATS_QUEUE),
+        144 => Part::Fields(&STRUCT_TC_STATS),
+        145 => Part::Kinds(146, 147, &LIST_STATS),
+        146 => Part::Rows("", &LIST_STATS_OF_ALL),
+        147 => Part::Rows("", &LIST_STATS_OF_OTHERS),
+        148 => Part::Fields(&STRUCT_GNET_STATS_BASIC),
+        149 => Part::Fields(&STRUCT_GNET_STATS_QUEUE),
         _ => Part::One(Form::Hex),
     }
 }
