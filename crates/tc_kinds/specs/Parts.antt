@@ -1,0 +1,8 @@
+-- The parts of the table. Written by `kinds/generate`.
+pub mod Action
+pub mod Actions
+pub mod Elements
+pub mod Filters
+pub mod Message
+pub mod Qdiscs
+pub mod Statistics

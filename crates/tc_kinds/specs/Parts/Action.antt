@@ -1,0 +1,84 @@
+-- The parts of `kinds/action`. Written by `kinds/generate`.
+use Rattle.std.specs.Prelude.{◌==◌, [], ◌∷◌, codes, if◌then◌else◌}
+use Rattle.tc_forms.specs.declared.form.Form.TheVariants as form
+use Rattle.tc_forms.specs.declared.form.Number.TheVariants as number
+use Rattle.tc_forms.specs.Plain.{Part, Table, One, Names, Fields, Rows, Kinds}
+use Rattle.tc_kinds.specs.Items.{name, field, row, kind_rows}
+
+-- `list action`
+abbrev pub list_action : Part
+list_action =
+    Kinds 1 2
+    (kind_rows (codes "mirred") 15
+    ∷ kind_rows (codes "nat") 26
+    ∷ kind_rows (codes "tunnel_key") 38
+    ∷ [])
+
+-- `list action`: the rows of all kinds
+abbrev pub list_action_of_all : Part
+list_action_of_all =
+    Rows []
+    (row 3 (codes "Index") (form.Number number.U32)
+    ∷ row 4 (codes "Stats") (form.List 145)
+    ∷ row 6 (codes "Cookie") form.Hex
+    ∷ row 10 (codes "InHwCount") (form.Number number.U32)
+    ∷ [])
+
+-- `list action`: the rows of other kinds
+abbrev pub list_action_of_others : Part
+list_action_of_others =
+    Rows []
+    (row 32770 (codes "Options") (form.List 3)
+    ∷ [])
+
+-- `list unknown`
+abbrev pub list_unknown : Part
+list_unknown = Rows [] []
+
+-- `struct tc_gen`
+abbrev pub struct_tc_gen : Part
+struct_tc_gen =
+    Fields
+    (field (codes "index") (form.Number number.U32)
+    ∷ field (codes "capab") (form.Number number.U32)
+    ∷ field (codes "action") (form.Named number.I32 5)
+    ∷ field (codes "refcnt") (form.Number number.I32)
+    ∷ field (codes "bindcnt") (form.Number number.I32)
+    ∷ [])
+
+-- `enum tc_act`
+abbrev pub enum_tc_act : Part
+enum_tc_act =
+    Names
+    (name 4294967295 (codes "Unspec")
+    ∷ name 0 (codes "Ok")
+    ∷ name 1 (codes "Reclassify")
+    ∷ name 2 (codes "Shot")
+    ∷ name 3 (codes "Pipe")
+    ∷ name 4 (codes "Stolen")
+    ∷ name 5 (codes "Queued")
+    ∷ name 6 (codes "Repeat")
+    ∷ name 7 (codes "Redirect")
+    ∷ name 8 (codes "Trap")
+    ∷ [])
+
+-- `struct tcf_t`
+abbrev pub struct_tcf_t : Part
+struct_tcf_t =
+    Fields
+    (field (codes "install") (form.Number number.U64)
+    ∷ field (codes "lastuse") (form.Number number.U64)
+    ∷ field (codes "expires") (form.Number number.U64)
+    ∷ field (codes "firstuse") (form.Number number.U64)
+    ∷ [])
+
+unfoldable pub parts_of_action : Table
+parts_of_action place =
+    if place == 0 then list_action else (
+    if place == 1 then list_action_of_all else (
+    if place == 2 then list_action_of_others else (
+    if place == 3 then list_unknown else (
+    if place == 4 then struct_tc_gen else (
+    if place == 5 then enum_tc_act else (
+    if place == 6 then struct_tcf_t else (
+    One form.Hex)))))))

@@ -1,0 +1,158 @@
+//! The parts of `kinds/action`. Written by `kinds/generate`.
+
+ghost use Rattle.std.specs.Prelude.{◌≡◌, map};
+ghost use Rattle.tc_forms.specs.Plain.{part_view};
+ghost use Rattle.tc_kinds.specs.Parts.Action.{parts_of_action};
+
+use tc_forms::{Field, Form, KindRows, Name, Number, Part, Row};
+
+// `list action`
+const LIST_ACTION: [KindRows<'static>; 3] = [
+    KindRows {
+        kind: "mirred",
+        rows: 15,
+    },
+    KindRows {
+        kind: "nat",
+        rows: 26,
+    },
+    KindRows {
+        kind: "tunnel_key",
+        rows: 38,
+    },
+];
+
+// `list action`: the rows of all kinds
+const LIST_ACTION_OF_ALL: [Row<'static>; 4] = [
+    Row {
+        word: 3,
+        name: "Index",
+        form: Form::Number(Number::U32),
+    },
+    Row {
+        word: 4,
+        name: "Stats",
+        form: Form::List(145),
+    },
+    Row {
+        word: 6,
+        name: "Cookie",
+        form: Form::Hex,
+    },
+    Row {
+        word: 10,
+        name: "InHwCount",
+        form: Form::Number(Number::U32),
+    },
+];
+
+// `list action`: the rows of other kinds
+const LIST_ACTION_OF_OTHERS: [Row<'static>; 1] = [Row {
+    word: 32770,
+    name: "Options",
+    form: Form::List(3),
+}];
+
+// `struct tc_gen`
+const STRUCT_TC_GEN: [Field<'static>; 5] = [
+    Field {
+        name: "index",
+        form: Form::Number(Number::U32),
+    },
+    Field {
+        name: "capab",
+        form: Form::Number(Number::U32),
+    },
+    Field {
+        name: "action",
+        form: Form::Named(Number::I32, 5),
+    },
+    Field {
+        name: "refcnt",
+        form: Form::Number(Number::I32),
+    },
+    Field {
+        name: "bindcnt",
+        form: Form::Number(Number::I32),
+    },
+];
+
+// `enum tc_act`
+const ENUM_TC_ACT: [Name<'static>; 10] = [
+    Name {
+        number: 4294967295,
+        name: "Unspec",
+    },
+    Name {
+        number: 0,
+        name: "Ok",
+    },
+    Name {
+        number: 1,
+        name: "Reclassify",
+    },
+    Name {
+        number: 2,
+        name: "Shot",
+    },
+    Name {
+        number: 3,
+        name: "Pipe",
+    },
+    Name {
+        number: 4,
+        name: "Stolen",
+    },
+    Name {
+        number: 5,
+        name: "Queued",
+    },
+    Name {
+        number: 6,
+        name: "Repeat",
+    },
+    Name {
+        number: 7,
+        name: "Redirect",
+    },
+    Name {
+        number: 8,
+        name: "Trap",
+    },
+];
+
+// `struct tcf_t`
+const STRUCT_TCF_T: [Field<'static>; 4] = [
+    Field {
+        name: "install",
+        form: Form::Number(Number::U64),
+    },
+    Field {
+        name: "lastuse",
+        form: Form::Number(Number::U64),
+    },
+    Field {
+        name: "expires",
+        form: Form::Number(Number::U64),
+    },
+    Field {
+        name: "firstuse",
+        form: Form::Number(Number::U64),
+    },
+];
+
+#[tactic(auto, unfolding(crate::specs::Parts::Action::parts_of_action))]
+pub(crate) fn parts_of_action(place: usize) -> Part<'static>
+    ensures { part_view result ≡ parts_of_action place }
+{
+    match place {
+        0 => Part::Kinds(1, 2, &LIST_ACTION),
+        1 => Part::Rows("", &LIST_ACTION_OF_ALL),
+        2 => Part::Rows("", &LIST_ACTION_OF_OTHERS),
+        3 => Part::Rows("", &[]),
+        4 => Part::Fields(&STRUCT_TC_GEN),
+        5 => Part::Names(&ENUM_TC_ACT),
+        6 => Part::Fields(&STRUCT_TCF_T),
+        _ => Part::One(Form::Hex),
+    }
+}
