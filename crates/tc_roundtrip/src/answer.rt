@@ -2,9 +2,9 @@
 
 use crate::line::{Complaint, read_line};
 use crate::mode::Messages;
-use serde_json::Value;
 use std::alloc::{AllocError, Global};
-use tc_forms::{Form, MakeError, Shown, Tables, made};
+use tc_forms::{Form, Shown, Tables};
+use tc_forms_text::bytes_of_text;
 
 /// The answer to a line: the label, the mode, whether the bytes came back, and the JSON that is shown of them.
 pub fn answer<T: Tables>(
@@ -27,12 +27,12 @@ pub fn answer<T: Tables>(
 // The JSON of bytes.
 fn shown<T: Tables>(
     alloc: Global,
-    parts: T,
+    table: T,
     form: Form,
     bytes: &[u8],
 ) -> Result<String, AllocError> {
     let shown = Shown {
-        parts,
+        table,
         form,
         bytes,
         alloc,
@@ -46,18 +46,13 @@ fn shown<T: Tables>(
 // Whether these bytes are made of this text.
 fn comes_back<T: Tables>(
     alloc: Global,
-    parts: T,
+    table: T,
     form: Form,
     bytes: &[u8],
     json: &str,
 ) -> Result<bool, AllocError> {
-    let value = match Value::from_str(alloc, json) {
-        Ok(value) => value,
-        Err(e) => return if e.is_memory() { Err(AllocError) } else { Ok(false) },
-    };
-    match made(alloc, parts, form, &value) {
+    match bytes_of_text(alloc, table, form, json.as_bytes()) {
         Ok(again) => Ok(again.as_slice() == bytes),
-        Err(MakeError::OutOfMemory) => Err(AllocError),
-        Err(MakeError::Wrong { .. }) => Ok(false),
+        Err(e) => if e.is_memory() { Err(AllocError) } else { Ok(false) },
     }
 }

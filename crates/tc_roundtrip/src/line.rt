@@ -1,7 +1,8 @@
 //! A line, and why it has no answer.
 
-ghost use Rattle.std.specs.Prelude.{◌≡◌, IfOk, IfErr, ◌≢◌};
-ghost use Rattle.tc_roundtrip.specs.Line.{IsLine};
+ghost use Rattle.std.specs.Prelude.{◌≡◌, ◌≢◌, ℕ, List, Ok, IfOk, IfErr};
+ghost use Rattle.hex.specs.Hex.{decode_of};
+ghost use Rattle.tc_roundtrip.specs.Line.{word, behind_word, IsLine, IsNoLine};
 ghost use Rattle.tc_roundtrip.specs.declared.line.Complaint.TheVariants.{OutOfMemory};
 
 use crate::mode::Mode;
@@ -12,13 +13,10 @@ use std::fmt;
 /// Why a line has no answer.
 #[derive(PartialEq, Eq, Clone, Copy, Debug)]
 pub enum Complaint {
-    /// It isn't three words with a space between them.
-    NoLine,
-
     /// Its second word is no mode.
     NoMode,
 
-    /// Its third word isn't bytes in hex.
+    /// What is behind its second word isn't bytes in hex.
     NoHex,
 
     /// It isn't UTF-8.
@@ -31,8 +29,7 @@ pub enum Complaint {
 impl fmt::Display for Complaint {
     fn fmt<W: fmt::Write>(&self, f: &mut fmt::Formatter<W>) -> fmt::Result {
         f.write_str(match self {
-            Complaint::NoLine => "a label, a mode and hex are wanted",
-            Complaint::NoMode => "a mode is tc or action",
+            Complaint::NoMode => "the second word is tc or action",
             Complaint::NoHex => "bad hex",
             Complaint::NotUtf8 => "not UTF-8",
             Complaint::OutOfMemory => "out of memory",
@@ -58,16 +55,11 @@ pub(crate) struct Line<'a> {
 
 /// What a line says of its message.
 pub(crate) fn read_line<'a>(alloc: Global, text: &'a str) -> Result<Line<'a>, Complaint>
-    ensures { IfOk result (λ line. IsLine text.now line.label.now line.mode line.bytes.items) }
+    ensures read { IfOk result (λ line. IsLine text.now line.label.now line.mode line.bytes.items) }
+    ensures refused { IfErr result (λ e. e ≢ OutOfMemory → IsNoLine text.now) }
 {
-    let (label, rest) = match text.split_once(' ') {
-        Some(parts) => parts,
-        None => return Err(Complaint::NoLine),
-    };
-    let (word, digits) = match rest.split_once(' ') {
-        Some(parts) => parts,
-        None => return Err(Complaint::NoLine),
-    };
+    let (label, rest) = cut(text);
+    let (word, digits) = cut(rest);
     let mode = match Mode::from_word(word) {
         Some(mode) => mode,
         None => return Err(Complaint::NoMode),
@@ -76,8 +68,19 @@ pub(crate) fn read_line<'a>(alloc: Global, text: &'a str) -> Result<Line<'a>, Co
     Ok(Line { label, mode, bytes })
 }
 
+// The text before the first space, and the text behind it.
+fn cut<'a>(text: &'a str) -> (&'a str, &'a str)
+    ensures front { result.0.now ≡ word text.now }
+    ensures back { result.1.now ≡ behind_word text.now }
+{
+    text.split_once(' ').unwrap_or((text, ""))
+}
+
 // The bytes of digits of either case.
-fn bytes_of(alloc: Global, digits: &str) -> Result<Vec<u8>, Complaint> {
+fn bytes_of(alloc: Global, digits: &str) -> Result<Vec<u8>, Complaint>
+    ensures read { IfOk result (λ bytes. decode_of digits.now ≡ Ok bytes.items) }
+    ensures refused { IfErr result (λ e. e ≢ OutOfMemory → (bytes : List ℕ) → decode_of digits.now ≢ Ok bytes) }
+{
     match hex::decode(alloc, digits) {
         Ok(bytes) => Ok(bytes),
         Err(FromHexError::OutOfMemory) => Err(Complaint::OutOfMemory),
