@@ -1,0 +1,7 @@
+mod Readable
+mod Written
+mod WrittenJson
+mod ReadJson
+mod ShownReadable
+mod Texts
+mod Unread
