@@ -1,16 +1,22 @@
 -- What is found in the object that an attribute is shown as, and in what a reader of JSON makes of it.
 use Rattle.std.proofs.Common.{◌≡◌, ℕ, inl, inr, Bool, true, false, List, [], ◌∷◌, ◌++◌, length, Option, Some, None, refl, ap, sym, ◌∙◌, cond, true≢false}
-use Rattle.std.specs.Prelude.{option_and_then, option_map, unwrap_or, is_none, bytes_eq, codes, not, ◌&&◌, ◌||◌, ◌==◌, nat_le}
+use Rattle.std.specs.Prelude.{option_and_then, option_map, unwrap_or, is_none, bytes_eq, codes, not, ◌&&◌, ◌==◌, nat_le}
 use Rattle.std.proofs.lemmas.Bool.{cases_Bool, cond-true, cond-false, cond_both, and_parts, and_from, eqb-true, or_parts}
 use Rattle.std.proofs.lemmas.Slice.Eq.{bytes_eq-Decides}
 use Rattle.nla_frames.specs.Frame.{padding}
-use Rattle.serde_json.specs.Data.{Data, number, string, object, unsigned, Members, no_members, member}
+use Rattle.nla_frames.specs.Value.{strip, ends_in_nul}
+use Rattle.std.specs.Str.{is_utf8}
+use Rattle.tc_forms.specs.Kinds.{kind_text, kind_value}
+use Rattle.std.proofs.Common.{◌-◌, suc, take, arith}
+use Rattle.serde_json.specs.Data.{Data, boolean, number, string, object, unsigned, Members, no_members, member}
 use Rattle.serde_json.specs.Find.{get, get_member, as_str}
-use Rattle.tc_forms.specs.Tables.{first, is_reserved}
-use Rattle.tc_forms.specs.Leaves.{hex, hex_made, raw_of}
-use Rattle.tc_forms.specs.Cuts.{Cut, cut_bytes, zero_pad}
-use Rattle.tc_forms.specs.Shown.{is_blank, pad_told, told}
-use Rattle.tc_forms.specs.Made.{as_word, word_made, word_or, pad_or, framed, held_or, held}
+use Rattle.tc_forms.specs.Attributes.{bare_told, kind_shown, pad_told, told}
+use Rattle.tc_forms.specs.AttributesMade.{framed, pad_or, word_or}
+use Rattle.tc_forms.specs.Frames.{PaddedFrame, frame_bytes}
+use Rattle.tc_forms.specs.Raw.{hex}
+use Rattle.tc_forms.specs.Records.{is_blank}
+use Rattle.tc_forms.specs.Rows.{is_reserved}
+use Rattle.tc_forms.specs.Search.{first, held, held_or}
 use Rattle.tc_forms.proofs.Leaves.{hex_made-hex}
 use Rattle.tc_forms.proofs.Frames.{Stands}
 use Rattle.tc_forms.proofs.Records.{here, passes, not-false, blank}
@@ -96,77 +102,134 @@ module _ {X : Type 0} (xs : List X) (name : X → List ℕ) (passes : X → Bool
 
 -- ---- an attribute's object
 
-abbrev pub word_seen : ℕ → Cut → Option Data
+abbrev pub word_seen : ℕ → PaddedFrame → Option Data
 word_seen word c = cond (c.word == word) None (Some (number (unsigned c.word)))
 
-abbrev pub pad_seen : Cut → Option Data
+abbrev pub pad_seen : PaddedFrame → Option Data
 pad_seen c = cond (is_blank (Some (padding (length c.value))) c.pad) None (Some (hex c.pad))
 
--- a member of this name, the word where it is told, the padding where it is told, and no other
-pub record Finds (d : Data) (name : List ℕ) (x : Data) (wanted : ℕ) (c : Cut) : Type 0 where
+abbrev pub bare_seen : List ℕ → Option Data
+bare_seen value = cond (ends_in_nul value) None (Some (boolean true))
+
+-- a member of this name, the mark of a bare kind, the word where it is told, the padding where it is told, and no other
+pub record Finds (d : Data) (name : List ℕ) (x : Data) (mark : Option Data) (wanted : ℕ) (c : PaddedFrame) : Type 0 where
   pub it : get name d ≡ Some x
+  pub bare : get (codes "bare") d ≡ mark
   pub word : get (codes "word") d ≡ word_seen wanted c
   pub pad : get (codes "pad") d ≡ pad_seen c
-  pub none : (q : List ℕ) → bytes_eq q name ≡ false → bytes_eq q (codes "word") ≡ false → bytes_eq q (codes "pad") ≡ false → get q d ≡ None
+  pub none : (q : List ℕ) → bytes_eq q name ≡ false → bytes_eq q (codes "word") ≡ false → bytes_eq q (codes "pad") ≡ false → bytes_eq q (codes "bare") ≡ false
+      → get q d ≡ None
   pub no_text : as_str d ≡ None
 
-pub get_pad_told : (c : Cut) → get_member (codes "pad") (pad_told c) ≡ pad_seen c
+pub get_pad_told : (c : PaddedFrame) → get_member (codes "pad") (pad_told c) ≡ pad_seen c
 get_pad_told c = go (is_blank (Some (padding (length c.value))) c.pad)
   where
     go : (t : Bool) → get_member (codes "pad") (cond t no_members (member (codes "pad") (hex c.pad) no_members)) ≡ cond t None (Some (hex c.pad))
     go true = refl
     go false = refl
 
-pub not_pad_told : (q : List ℕ) (c : Cut) → bytes_eq q (codes "pad") ≡ false → get_member q (pad_told c) ≡ None
+pub not_pad_told : (q : List ℕ) (c : PaddedFrame) → bytes_eq q (codes "pad") ≡ false → get_member q (pad_told c) ≡ None
 not_pad_told q c e = go (is_blank (Some (padding (length c.value))) c.pad)
   where
     go : (t : Bool) → get_member q (cond t no_members (member (codes "pad") (hex c.pad) no_members)) ≡ None
     go true = refl
     go false = passes q (codes "pad") (hex c.pad) no_members e
 
-pub get_told : (word : ℕ) (c : Cut) (q : List ℕ) → bytes_eq q (codes "word") ≡ false → get_member q (told word c) ≡ get_member q (pad_told c)
+pub get_told : (word : ℕ) (c : PaddedFrame) (q : List ℕ) → bytes_eq q (codes "word") ≡ false → get_member q (told word c) ≡ get_member q (pad_told c)
 get_told word c q e = go (c.word == word)
   where
     go : (t : Bool) → get_member q (cond t (pad_told c) (member (codes "word") (number (unsigned c.word)) (pad_told c))) ≡ get_member q (pad_told c)
     go true = refl
     go false = passes q (codes "word") (number (unsigned c.word)) (pad_told c) e
 
-word_told : (word : ℕ) (c : Cut) → get_member (codes "word") (told word c) ≡ word_seen word c
+word_told : (word : ℕ) (c : PaddedFrame) → get_member (codes "word") (told word c) ≡ word_seen word c
 word_told word c = go (c.word == word)
   where
     go : (t : Bool) → get_member (codes "word") (cond t (pad_told c) (member (codes "word") (number (unsigned c.word)) (pad_told c))) ≡ cond t None (Some (number (unsigned c.word)))
     go true = not_pad_told (codes "word") c refl
     go false = here (codes "word") (number (unsigned c.word)) (pad_told c)
 
-pub finds : (name : List ℕ) (x : Data) (word : ℕ) (c : Cut) → bytes_eq (codes "word") name ≡ false → bytes_eq (codes "pad") name ≡ false
-    → Finds (object (member name x (told word c))) name x word c
-finds name x word c no_word no_pad = record {
+pub get_bare_told : (v : List ℕ) (ms : Members) (q : List ℕ) → bytes_eq q (codes "bare") ≡ false → get_member q (bare_told v ms) ≡ get_member q ms
+get_bare_told v ms q e = go (ends_in_nul v)
+  where
+    go : (t : Bool) → get_member q (cond t ms (member (codes "bare") (boolean true) ms)) ≡ get_member q ms
+    go true = refl
+    go false = passes q (codes "bare") (boolean true) ms e
+
+bare_is_told : (v : List ℕ) (ms : Members) → get_member (codes "bare") ms ≡ None → get_member (codes "bare") (bare_told v ms) ≡ bare_seen v
+bare_is_told v ms none = go (ends_in_nul v)
+  where
+    go : (t : Bool) → get_member (codes "bare") (cond t ms (member (codes "bare") (boolean true) ms)) ≡ cond t None (Some (boolean true))
+    go true = none
+    go false = here (codes "bare") (boolean true) ms
+
+pub no_bare_told : (word : ℕ) (c : PaddedFrame) → get_member (codes "bare") (told word c) ≡ None
+no_bare_told word c = get_told word c (codes "bare") refl ∙ not_pad_told (codes "bare") c refl
+
+pub kind_finds : (t : List ℕ) (c : PaddedFrame) → Finds (kind_shown c t) (codes "Kind") (string t) (bare_seen c.value) 1 c
+kind_finds t c =
+    let marks = told 1 c in
+    let ms = bare_told c.value marks in
+    record {
+      it = here (codes "Kind") (string t) ms;
+      bare = passes (codes "bare") (codes "Kind") (string t) ms refl ∙ bare_is_told c.value marks (no_bare_told 1 c);
+      word = passes (codes "word") (codes "Kind") (string t) ms refl ∙ get_bare_told c.value marks (codes "word") refl ∙ word_told 1 c;
+      pad =
+      passes (codes "pad") (codes "Kind") (string t) ms refl ∙ get_bare_told c.value marks (codes "pad") refl ∙ get_told 1 c (codes "pad") refl ∙ get_pad_told c;
+      none = λ q own w p b. passes q (codes "Kind") (string t) ms own ∙ get_bare_told c.value marks q b ∙ get_told 1 c q w ∙ not_pad_told q c p;
+      no_text = refl;
+    }
+
+pub finds : (name : List ℕ) (x : Data) (word : ℕ) (c : PaddedFrame) → bytes_eq (codes "word") name ≡ false → bytes_eq (codes "pad") name ≡ false
+    → bytes_eq (codes "bare") name ≡ false → Finds (object (member name x (told word c))) name x None word c
+finds name x word c no_word no_pad no_bare = record {
   it = here name x (told word c);
+  bare = passes (codes "bare") name x (told word c) no_bare ∙ no_bare_told word c;
   word = passes (codes "word") name x (told word c) no_word ∙ word_told word c;
   pad = passes (codes "pad") name x (told word c) no_pad ∙ get_told word c (codes "pad") refl ∙ get_pad_told c;
-  none = λ q own w p. passes q name x (told word c) own ∙ get_told word c q w ∙ not_pad_told q c p;
+  none = λ q own w p b. passes q name x (told word c) own ∙ get_told word c q w ∙ not_pad_told q c p;
   no_text = refl;
 }
 
 -- ---- what is made of them
 
-pub word_again : (word : ℕ) (c : Cut) → Stands c → word_or word (word_seen word c) ≡ Some c.word
+pub word_again : (word : ℕ) (c : PaddedFrame) → Stands c → word_or word (word_seen word c) ≡ Some c.word
 word_again word c s =
     cond_both (c.word == word) None (Some (number (unsigned c.word))) (λ o. word_or word o ≡ Some c.word)
     (λ e. ap Some (sym (eqb-true c.word word e))) (λ e. s.word)
 
-pub pad_again : (c : Cut) → Stands c → pad_or c.value (pad_seen c) ≡ Some c.pad
+pub pad_again : (c : PaddedFrame) → Stands c → pad_or c.value (pad_seen c) ≡ Some c.pad
 pad_again c s =
     cond_both (is_blank (Some (padding (length c.value))) c.pad) None (Some (hex c.pad)) (λ o. pad_or c.value o ≡ Some c.pad)
     (λ e. ap Some (sym (blank (Some (padding (length c.value))) c.pad e))) (λ e. hex_made-hex c.pad s.pad)
 
-pub framed_again : (c : Cut) (d : Data) (w : Option ℕ) (v : Option (List ℕ)) → Stands c → w ≡ Some c.word → v ≡ Some c.value → get (codes "pad") d ≡ pad_seen c
-    → framed w v d ≡ Some (cut_bytes c)
+pub framed_again : (c : PaddedFrame) (d : Data) (w : Option ℕ) (v : Option (List ℕ)) → Stands c → w ≡ Some c.word → v ≡ Some c.value → get (codes "pad") d ≡ pad_seen c
+    → framed w v d ≡ Some (frame_bytes c)
 framed_again c d w v s ew ev ep =
     ap (λ o. framed o v d) ew ∙ ap (λ o. framed (Some c.word) o d) ev
-    ∙ ap (λ o. cond (nat_le (length c.value) 65531) (option_map (λ pad. cut_bytes (record { word = c.word; value = c.value; pad = pad })) o) None)
+    ∙ ap (λ o. cond (nat_le (length c.value) 65531) (option_map (λ pad. frame_bytes (record { word = c.word; value = c.value; pad = pad })) o) None)
     (ap (pad_or c.value) ep ∙ pad_again c s)
-    ∙ ap (λ t. cond t (Some (cut_bytes c)) None) s.short
+    ∙ ap (λ t. cond t (Some (frame_bytes c)) None) s.short
+
+ends_so : (v : List ℕ) → ends_in_nul v ≡ true → take (length v - 1) v ++ 0 ∷ [] ≡ v
+ends_so [] e = absurd (true≢false (sym e))
+ends_so (x ∷ []) e = ap (λ y. y ∷ []) (sym (eqb-true x 0 e))
+ends_so (x ∷ y ∷ v) e =
+    let one : length (x ∷ y ∷ v) - 1 ≡ suc (length v) = omega arith in
+    let other : length (y ∷ v) - 1 ≡ length v = omega arith in
+    let last : ends_in_nul (y ∷ v) ≡ true = rw other (rw one at e) in
+    rw one (ap (λ (t : List ℕ). x ∷ t) (rw other at (ends_so (y ∷ v) last)))
+
+-- a kind's text is that of its value
+pub kind_again : (v t : List ℕ) → kind_text v ≡ Some t → kind_value t (bare_seen v) ≡ Some v
+unfolding strip
+kind_again v t e =
+    cond_both (is_utf8 (strip v)) (Some (strip v)) None (λ o. o ≡ Some t → kind_value t (bare_seen v) ≡ Some v)
+    (λ holds same. ap (λ (x : List ℕ). kind_value x (bare_seen v)) (sym (some_is (strip v) t same)) ∙ go (ends_in_nul v) refl) (λ fails same. absurd (none_not_some t same)) e
+  where
+    go : (b : Bool) → ends_in_nul v ≡ b → kind_value (cond b (take (length v - 1) v) v) (cond b None (Some (boolean true))) ≡ Some v
+    go true ends = ap Some (ends_so v ends)
+    go false other = refl
 
 -- no name of what isn't by its row
 pub record Plain (name : List ℕ) : Type 0 where
@@ -175,11 +238,53 @@ pub record Plain (name : List ℕ) : Type 0 where
   pub word : bytes_eq name (codes "word") ≡ false
   pub pad : bytes_eq name (codes "pad") ≡ false
   pub kind : bytes_eq name (codes "Kind") ≡ false
+  pub bare : bytes_eq name (codes "bare") ≡ false
 
 pub plain : (name : List ℕ) → not (is_reserved name) ≡ true → Plain name
 plain name e =
     let one = or_parts (bytes_eq name (codes "raw")) _ (not-false (is_reserved name) e) in
     let two = or_parts (bytes_eq name (codes "Other")) _ one.1 in
     let three = or_parts (bytes_eq name (codes "word")) _ two.1 in
-    let four = or_parts (bytes_eq name (codes "pad")) (bytes_eq name (codes "Kind")) three.1 in
-    record { raw = one.0; other = two.0; word = three.0; pad = four.0; kind = four.1 }
+    let four = or_parts (bytes_eq name (codes "pad")) _ three.1 in
+    let five = or_parts (bytes_eq name (codes "Kind")) (bytes_eq name (codes "bare")) four.1 in
+    record { raw = one.0; other = two.0; word = three.0; pad = four.0; kind = five.0; bare = five.1 }
+
+-- ---- in two lists, one after the other
+
+pub first_of_two : {X : Type 0} (test : X → Bool) (xs ys : List X) (x : X) → Some x ≡ first test xs → Some x ≡ first test (xs ++ ys)
+first_of_two test [] ys x e = absurd (none_not_some x (sym e))
+first_of_two test (y ∷ xs) ys x e =
+    cond_both (test y) (Some y) (first test xs) (λ o. Some x ≡ o → Some x ≡ cond (test y) (Some y) (first test (xs ++ ys)))
+    (λ holds same. same ∙ sym (cond-true (test y) (Some y) (first test (xs ++ ys)) holds))
+    (λ fails same. first_of_two test xs ys x same ∙ sym (cond-false (test y) (Some y) (first test (xs ++ ys)) fails)) e
+
+pub first_of_second : {X : Type 0} (test : X → Bool) (xs ys : List X) → None ≡ first test xs → first test (xs ++ ys) ≡ first test ys
+first_of_second test [] ys e = refl
+first_of_second test (y ∷ xs) ys e =
+    cond_both (test y) (Some y) (first test xs) (λ o. None ≡ o → cond (test y) (Some y) (first test (xs ++ ys)) ≡ first test ys)
+    (λ holds same. absurd (none_not_some y same))
+    (λ fails same. cond-false (test y) (Some y) (first test (xs ++ ys)) fails ∙ first_of_second test xs ys same) e
+
+module _ {X : Type 0} (name : X → List ℕ) (test : X → Bool) (d : Data) where
+  held_next : (y : X) (o : Option Data) (p q : Option (X × Data)) (m : X × Data) → (Some m ≡ p → Some m ≡ q)
+      → Some m ≡ held_or name test y o p → Some m ≡ held_or name test y o q
+  held_next y None p q m more e = more e
+  held_next y (Some v) p q m more e =
+      cond_both (test y) (Some (y, v)) p (λ o. Some m ≡ o → Some m ≡ cond (test y) (Some (y, v)) q)
+      (λ holds same. same ∙ sym (cond-true (test y) (Some (y, v)) q holds)) (λ fails same. more same ∙ sym (cond-false (test y) (Some (y, v)) q fails)) e
+
+  none_next : (y : X) (o : Option Data) (p q r : Option (X × Data)) → (None ≡ p → q ≡ r) → None ≡ held_or name test y o p → held_or name test y o q ≡ r
+  none_next y None p q r more e = more e
+  none_next y (Some v) p q r more e =
+      cond_both (test y) (Some (y, v)) p (λ o. None ≡ o → cond (test y) (Some (y, v)) q ≡ r) (λ holds same. absurd (none_not_some (y, v) same))
+      (λ fails same. cond-false (test y) (Some (y, v)) q fails ∙ more same) e
+
+  pub held_of_two : (xs ys : List X) (m : X × Data) → Some m ≡ held name test xs d → Some m ≡ held name test (xs ++ ys) d
+  held_of_two [] ys m e = absurd (none_not_some m (sym e))
+  held_of_two (y ∷ xs) ys m e =
+      held_next y (get (name y) d) (held name test xs d) (held name test (xs ++ ys) d) m (λ same. held_of_two xs ys m same) e
+
+  pub held_of_second : (xs ys : List X) → None ≡ held name test xs d → held name test (xs ++ ys) d ≡ held name test ys d
+  held_of_second [] ys e = refl
+  held_of_second (y ∷ xs) ys e =
+      none_next y (get (name y) d) (held name test xs d) (held name test (xs ++ ys) d) (held name test ys d) (λ same. held_of_second xs ys same) e

@@ -1,22 +1,24 @@
 -- Frames, and elements one after the other, are made again of what is shown of them.
-use Rattle.std.proofs.Common.{◌≡◌, ℕ, zero, suc, ◌≤◌, ◌+◌, ◌-◌, Bool, true, false, List, [], ◌∷◌, ◌++◌, length, take, drop, Option, Some, None, refl, ap, sym, ◌∙◌, subst, cond, arith, append_assoc}
-use Rattle.std.specs.Prelude.{nat_le, ◌&&◌, unwrap_or, option_map, codes}
+use Rattle.std.proofs.Common.{◌≡◌, ℕ, zero, suc, ◌≤◌, ◌+◌, Bool, true, List, [], ◌∷◌, ◌++◌, length, take, drop, Option, Some, None, refl, ap, sym, ◌∙◌, cond, arith, append_assoc}
+use Rattle.std.specs.Prelude.{nat_le, ◌&&◌, unwrap_or}
 use Rattle.std.proofs.lemmas.Bool.{cond_both, and_parts, leb-true, le-leb}
 use Rattle.std.proofs.lemmas.List.{append-nil, take-append-drop, drop_at, length-append, length-drop, length-take}
-use Rattle.nla_frames.specs.Value.{IsBytes, le_value}
+use Rattle.nla_frames.specs.Value.{IsBytes}
 use Rattle.nla_frames.specs.Frame.{header, padding}
 use Rattle.nla_frames.specs.Grammar.{length_at}
 use Rattle.nla_frames.specs.Cutting.{frame_of_length}
-use Rattle.nla_frames.proofs.Front.{Front, next_frame_long, length-header}
+use Rattle.nla_frames.proofs.Front.{next_frame_long, length-header}
 use Rattle.nla_frames.proofs.NextFrame.{Front-next_frame}
 use Rattle.nla_frames.proofs.Bytes.{IsBytes-take, IsBytes-drop}
-use Rattle.serde_json.specs.Data.{Data, Items}
+use Rattle.serde_json.specs.Data.{Data}
 use Rattle.tc_forms.specs.declared.form.Form.{Form}
-use Rattle.tc_forms.specs.Plain.{Table}
-use Rattle.tc_forms.specs.Leaves.{raw, raw_of}
-use Rattle.tc_forms.specs.Cuts.{Cut, cut_bytes, cut_at, front, after_first, kind_in, own_or, own_kind}
-use Rattle.tc_forms.specs.Shown.{first_or_tail, tail_shown, frames, elements, elements_of}
-use Rattle.tc_forms.specs.Made.{joined, or_raw, each_made, each_under, kind_told, own_told, as_word}
+use Rattle.tc_forms.specs.Attributes.{first_or_tail, frames, tail_shown}
+use Rattle.tc_forms.specs.AttributesMade.{as_word, each_under}
+use Rattle.tc_forms.specs.Frames.{PaddedFrame, after_first, frame_at, frame_bytes}
+use Rattle.tc_forms.specs.Kinds.{kind_in, kind_told, own_kind, own_or, own_told}
+use Rattle.tc_forms.specs.Raw.{or_raw, raw, raw_of}
+use Rattle.tc_forms.specs.Records.{each_made, elements, elements_of, joined}
+use Rattle.tc_forms.specs.Tables.{Table}
 use Rattle.tc_forms.proofs.Leaves.{raw_of-raw}
 
 -- what two parts are made, one after the other
@@ -26,17 +28,17 @@ joined_made x y a b whole ex ey e = rw (ex, ey) (ap Some e)
 -- ---- frames
 
 -- what is taken for a frame
-pub record Stands (c : Cut) : Type 0 where
+pub record Stands (c : PaddedFrame) : Type 0 where
   pub short : nat_le (length c.value) 65531 ≡ true
   pub word : as_word c.word ≡ Some c.word
   pub value : IsBytes c.value
   pub pad : IsBytes c.pad
 
-record InFront (b : List ℕ) (c : Cut) : Type 0 where
+record InFront (b : List ℕ) (c : PaddedFrame) : Type 0 where
   stands : Stands c
-  whole : cut_bytes c ++ after_first b ≡ b
+  whole : frame_bytes c ++ after_first b ≡ b
 
-in_front : (b : List ℕ) → IsBytes b → (nat_le 4 (length_at b) && nat_le (length_at b) (length b)) ≡ true → InFront b (cut_at (length_at b) b)
+in_front : (b : List ℕ) → IsBytes b → (nat_le 4 (length_at b) && nat_le (length_at b) (length b)) ≡ true → InFront b (frame_at (length_at b) b)
 in_front b h e =
     let n = length_at b in
     let f = frame_of_length n b in
@@ -66,8 +68,8 @@ in_front b h e =
       ∙ ap (λ (t : List ℕ). header (length v) f.word ++ (v ++ t)) (take-append-drop p (drop n b) ∙ behind) ∙ sym fr.parts;
     }
 
-module _ (Made : List ℕ → Data → Option (List ℕ)) (One : List ℕ → Cut → Data) (has : Bool)
-    (kinds : (k : List ℕ) (c : Cut) → Stands c → kind_told has (One k c) ≡ kind_in has c) where
+module _ (Made : List ℕ → Data → Option (List ℕ)) (One : List ℕ → PaddedFrame → Data) (has : Bool)
+    (kinds : (k : List ℕ) (c : PaddedFrame) → Stands c → kind_told has (One k c) ≡ kind_in has c) where
   tail_under : (k b : List ℕ) → IsBytes b → each_under Made has k (tail_shown b) ≡ Some b
   tail_under k [] h = refl
   tail_under k (x ∷ b) h =
@@ -76,11 +78,11 @@ module _ (Made : List ℕ → Data → Option (List ℕ)) (One : List ℕ → Cu
       joined_made (or_raw (raw_of d) (Made later d)) (Some []) (x ∷ b) [] (x ∷ b) (ap (λ o. or_raw o (Made later d)) (raw_of-raw (x ∷ b) h)) refl
       (append-nil (x ∷ b))
 
-  module _ (ones : (k : List ℕ) (c : Cut) → Stands c → or_raw (raw_of (One k c)) (Made k (One k c)) ≡ Some (cut_bytes c)) where
+  module _ (ones : (k : List ℕ) (c : PaddedFrame) → Stands c → or_raw (raw_of (One k c)) (Made k (One k c)) ≡ Some (frame_bytes c)) where
     pub frames_again : (n : ℕ) (k b : List ℕ) → IsBytes b → each_under Made has k (frames One has n k b) ≡ Some b
     frames_again zero k b h = tail_under k b h
     frames_again (suc n) k b h =
-        let c = cut_at (length_at b) b in
+        let c = frame_at (length_at b) b in
         let after = after_first b in
         cond_both (nat_le 4 (length_at b) && nat_le (length_at b) (length b)) (Some c) None
         (λ o. each_under Made has k (first_or_tail One has k b (λ j. frames One has n j after) o) ≡ Some b)
@@ -90,12 +92,12 @@ module _ (Made : List ℕ → Data → Option (List ℕ)) (One : List ℕ → Cu
         let d = One j c in
         let ds = frames One has n j after in
         ap (λ o. joined (or_raw (raw_of d) (Made (unwrap_or o k) d)) (each_under Made has (unwrap_or o k) ds)) (kinds j c s.stands)
-        ∙ joined_made (or_raw (raw_of d) (Made j d)) (each_under Made has j ds) (cut_bytes c) after b (ones j c s.stands)
+        ∙ joined_made (or_raw (raw_of d) (Made j d)) (each_under Made has j ds) (frame_bytes c) after b (ones j c s.stands)
         (frames_again n j after (IsBytes-drop (padding (length_at b)) (drop (length_at b) b) (IsBytes-drop (length_at b) b h))) s.whole)
         (λ e. tail_under k b h)
 
 -- the own kind is the same before and after
-module _ (One : List ℕ → Cut → Data) (kinds : (k : List ℕ) (c : Cut) → Stands c → kind_told true (One k c) ≡ kind_in true c) where
+module _ (One : List ℕ → PaddedFrame → Data) (kinds : (k : List ℕ) (c : PaddedFrame) → Stands c → kind_told true (One k c) ≡ kind_in true c) where
   own_tail : (b : List ℕ) → own_told (tail_shown b) ≡ []
   own_tail [] = refl
   own_tail (x ∷ b) = refl
@@ -103,7 +105,7 @@ module _ (One : List ℕ → Cut → Data) (kinds : (k : List ℕ) (c : Cut) →
   pub own_again : (n : ℕ) (k b : List ℕ) → IsBytes b → own_told (frames One true n k b) ≡ own_kind n b
   own_again zero k b h = own_tail b
   own_again (suc n) k b h =
-      let c = cut_at (length_at b) b in
+      let c = frame_at (length_at b) b in
       let after = after_first b in
       cond_both (nat_le 4 (length_at b) && nat_le (length_at b) (length b)) (Some c) None
       (λ o. own_told (first_or_tail One true k b (λ j. frames One true n j after) o) ≡ own_or o (own_kind n after))
@@ -116,15 +118,15 @@ module _ (One : List ℕ → Cut → Data) (kinds : (k : List ℕ) (c : Cut) →
 
 -- ---- elements
 
-module _ (parts : Table) (Inner : Form → List ℕ → Data) (Made : Data → Option (List ℕ)) (f : Form)
+module _ (table : Table) (Inner : Form → List ℕ → Data) (Made : Data → Option (List ℕ)) (f : Form)
     (again : (b : List ℕ) → IsBytes b → Made (Inner f b) ≡ Some b) where
-  pub elements_again : (n w : ℕ) (b : List ℕ) → IsBytes b → each_made Made (elements parts Inner n f w b) ≡ Some b
+  pub elements_again : (n w : ℕ) (b : List ℕ) → IsBytes b → each_made Made (elements Inner n f w b) ≡ Some b
   elements_again n w [] h = refl
   elements_again zero w (x ∷ b) h = joined_made (Made (Inner f (x ∷ b))) (Some []) (x ∷ b) [] (x ∷ b) (again (x ∷ b) h) refl (append-nil (x ∷ b))
   elements_again (suc n) w (x ∷ b) h =
-      joined_made (Made (Inner f (take w (x ∷ b)))) (each_made Made (elements parts Inner n f w (drop w (x ∷ b)))) (take w (x ∷ b)) (drop w (x ∷ b)) (x ∷ b)
+      joined_made (Made (Inner f (take w (x ∷ b)))) (each_made Made (elements Inner n f w (drop w (x ∷ b)))) (take w (x ∷ b)) (drop w (x ∷ b)) (x ∷ b)
       (again (take w (x ∷ b)) (IsBytes-take w (x ∷ b) h)) (elements_again n w (drop w (x ∷ b)) (IsBytes-drop w (x ∷ b) h)) (take-append-drop w (x ∷ b))
 
-  pub elements_of-again : (w : Option ℕ) (b : List ℕ) → IsBytes b → each_made Made (elements_of parts Inner f w b) ≡ Some b
+  pub elements_of-again : (w : Option ℕ) (b : List ℕ) → IsBytes b → each_made Made (elements_of Inner f w b) ≡ Some b
   elements_of-again None b h = joined_made (Made (Inner f b)) (Some []) b [] b (again b h) refl (append-nil b)
   elements_of-again (Some w) b h = elements_again (length b) w b h

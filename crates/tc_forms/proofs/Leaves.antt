@@ -6,7 +6,8 @@ use Rattle.std.proofs.lemmas.Slice.Eq.{bytes_eq-Decides}
 use Rattle.std.proofs.lemmas.List.{reverse-reverse, length-reverse, get_or-reverse, get_or_past}
 use Rattle.hex.specs.Hex.{decode_of, decode_sized}
 use Rattle.hex.specs.Hex as kit
-use Rattle.nla_frames.specs.Value.{IsBytes, le_bytes, le_value}
+use Rattle.tc_forms.specs.Kinds.{kind_text}
+use Rattle.nla_frames.specs.Value.{strip, IsBytes, le_bytes, le_value}
 use Rattle.nla_frames.proofs.Bytes.{IsBytes-tail, IsBytes-take, IsBytes-drop, le_value_below, le_bytes-le_value}
 use Rattle.serde_json.specs.Data.{unsigned, negative, number}
 use Rattle.tc_texts.specs.Hex.{hex_text}
@@ -27,16 +28,17 @@ use Rattle.tc_texts.proofs.Mac as mac
 use Rattle.tc_texts.proofs.Handles.{handle_of-handle_text}
 use Rattle.tc_forms.specs.declared.form.Number.{Number}
 use Rattle.tc_forms.specs.declared.form.Number.TheVariants.{U8, U16, U32, U64, I8, I16, I32, I64, U16Be, U32Be, U64Be}
-use Rattle.tc_forms.specs.Tables.{number_width}
+use Rattle.tc_forms.specs.Numbers.{bits_in, bits_of, bytes_of, half, in_order, is_big, is_signed, num, num_of, number_made}
+use Rattle.tc_forms.specs.Raw.{all_bytes, decoded, hex, hex_made, hex_of, of_length, raw, raw_of, with_text}
+use Rattle.tc_forms.specs.Records.{all_zero}
+use Rattle.tc_forms.specs.Values.{ipv4_of, ipv6_of, mac_digits, mac_of, text_in}
+use Rattle.tc_forms.specs.Widths.{number_width}
 use Rattle.std.specs.Prelude.{take}
 use Rattle.std.specs.Str.{IsUtf8, is_utf8}
 use Rattle.std.proofs.lemmas.Str.{IsUtf8-from_is_utf8, is_utf8-from_IsUtf8}
 use Rattle.std.proofs.lemmas.List.{append_cancel_left, take_at, drop_at, length-append}
 use Rattle.std.proofs.lemmas.Bool.{and_from, cond-false, false_from_ne_true}
-use Rattle.tc_forms.specs.Shown.{all_zero}
-use Rattle.tc_forms.specs.Cuts.{text_in}
 use Rattle.std.specs.Prelude.{replicate, ◌==◌, ◌&&◌}
-use Rattle.tc_forms.specs.Leaves.{decoded, all_bytes, of_length, with_text, ipv4_of, ipv6_of, hex, mac_digits, hex_of, hex_made, raw, raw_of, mac_of, is_big, is_signed, ordered, bits_of, bytes_of, half, num_of, bits_in, num, number_made}
 
 pub same_bytes : (b : List ℕ) → bytes_eq b b ≡ true
 same_bytes b = (bytes_eq-Decides b b).1 refl
@@ -114,15 +116,15 @@ IsBytes-reverse b h = record { each = at }
           | inr le ↦ let past : length (reverse b) ≤ i = rw length-reverse le in rw (get_or_past (reverse b) i 0 past) (omega arith)
         ]
 
-IsBytes-ordered : (s : Bool) (b : List ℕ) → IsBytes b → IsBytes (ordered s b)
+IsBytes-ordered : (s : Bool) (b : List ℕ) → IsBytes b → IsBytes (in_order s b)
 IsBytes-ordered true b h = IsBytes-reverse b h
 IsBytes-ordered false b h = h
 
-length-ordered : (s : Bool) (b : List ℕ) → length (ordered s b) ≡ length b
+length-ordered : (s : Bool) (b : List ℕ) → length (in_order s b) ≡ length b
 length-ordered true b = length-reverse b
 length-ordered false b = refl
 
-ordered-ordered : (s : Bool) (b : List ℕ) → ordered s (ordered s b) ≡ b
+ordered-ordered : (s : Bool) (b : List ℕ) → in_order s (in_order s b) ≡ b
 ordered-ordered true b = reverse-reverse b
 ordered-ordered false b = refl
 
@@ -141,13 +143,13 @@ whole U64Be = refl
 
 pub bits_below : (k : Number) (b : List ℕ) → length b ≡ number_width k → IsBytes b → bits_of k b < 2 * half k
 bits_below k b len h =
-    let small = le_value_below (ordered (is_big k) b) (IsBytes-ordered (is_big k) b h) in
+    let small = le_value_below (in_order (is_big k) b) (IsBytes-ordered (is_big k) b h) in
     let P : ℕ → Type 0 = λ n. bits_of k b < n in
     subst P (ap (λ n. 256 ^ n) (length-ordered (is_big k) b ∙ len) ∙ whole k) small
 
 pub bytes_of-bits_of : (k : Number) (b : List ℕ) → length b ≡ number_width k → IsBytes b → bytes_of k (bits_of k b) ≡ b
 bytes_of-bits_of k b len h =
-    ap (ordered (is_big k)) (le_bytes-le_value (number_width k) (ordered (is_big k) b) (length-ordered (is_big k) b ∙ len) (IsBytes-ordered (is_big k) b h))
+    ap (in_order (is_big k)) (le_bytes-le_value (number_width k) (in_order (is_big k) b) (length-ordered (is_big k) b ∙ len) (IsBytes-ordered (is_big k) b h))
     ∙ ordered-ordered (is_big k) b
 
 pub number_again : (k : Number) (b : List ℕ) → length b ≡ number_width k → IsBytes b → number_made k (number (num k (bits_of k b))) ≡ Some b
@@ -213,8 +215,8 @@ last_byte b last others h e =
     only.each 0
 
 -- a number's bits, as code finds them
-pub bits_found : (k : Number) (s : Bool) (b : List ℕ) (n : ℕ) → is_big k ≡ s → n ≡ le_value (ordered s b) → n ≡ bits_of k b
-bits_found k s b n is e = e ∙ ap (λ t. le_value (ordered t b)) (sym is)
+pub bits_found : (k : Number) (s : Bool) (b : List ℕ) (n : ℕ) → is_big k ≡ s → n ≡ le_value (in_order s b) → n ≡ bits_of k b
+bits_found k s b n is e = e ∙ ap (λ t. le_value (in_order t b)) (sym is)
 
 pub bits_small : (k : Number) (b : List ℕ) (n : ℕ) → length b ≡ number_width k → IsBytes b → n ≡ bits_of k b → n < 2 * half k
 bits_small k b n len h e = let P : ℕ → Type 0 = λ m. m < 2 * half k in subst P (sym e) (bits_below k b len h)
@@ -281,3 +283,13 @@ seen_as {V} text items o p e h = go p (subst (λ (x : Option V). MatchOption x (
     go : (x : Option V) → MatchOption x (IsNoHex text) (λ v. text ≡ hex_text (items v)) → MatchOption (option_map items x) (IsNoHex text) (λ b. text ≡ hex_text b)
     go None k = k
     go (Some v) k = k
+
+-- a kind's text, as code finds it
+pub kind_is : (value front : List ℕ) → front ≡ strip value → IsUtf8 front → Some front ≡ kind_text value
+kind_is value front same utf8 =
+    ap Some same ∙ sym (cond-true (is_utf8 (strip value)) (Some (strip value)) None (ap is_utf8 (sym same) ∙ is_utf8-from_IsUtf8 front utf8))
+
+pub kind_is_none : (value front : List ℕ) → front ≡ strip value → (IsUtf8 front → ⊥) → None ≡ kind_text value
+kind_is_none value front same not =
+    sym (cond-false (is_utf8 (strip value)) (Some (strip value)) None
+    (false_from_ne_true (is_utf8 (strip value)) (λ e. not (IsUtf8-from_is_utf8 front (ap is_utf8 same ∙ e)))))

@@ -3,23 +3,31 @@ use Rattle.std.proofs.Common.{◌≡◌, ℕ, zero, suc, ◌+◌, ◌-◌, ◌/�
 use Rattle.std.specs.Prelude.{option_map, is_none, unwrap_or}
 use Rattle.std.proofs.lemmas.Bool.{true≢false}
 use Rattle.std.proofs.Common.{add-one}
-use Rattle.serde_json.specs.Find.{get}
+use Rattle.serde_json.specs.Find.{get, as_array}
+use Rattle.std.specs.Prelude.{option_and_then}
+use Rattle.tc_forms.specs.AttributesMade.{layered_by, layered_made}
+use Rattle.tc_forms.specs.Places.{layer_of, part_at, rows_under}
+use Rattle.tc_forms.specs.Tables.{Row}
 use Rattle.std.proofs.lemmas.List.{drop_all, reverse-append}
 use Rattle.nla_frames.specs.Value.{le_bytes, be_bytes}
-use Rattle.nla_frames.specs.Frame.{header, padding}
+use Rattle.nla_frames.specs.Frame.{header}
 use Rattle.std.specs.Prelude.{Bool, false}
-use Rattle.tc_forms.specs.Cuts.{cut_bytes}
-use Rattle.serde_json.specs.Data.{Data}
+use Rattle.tc_forms.specs.Appended.{Appended, Fails}
+use Rattle.tc_forms.specs.AttributesMade.{each_under}
+use Rattle.tc_forms.specs.Frames.{frame_bytes}
+use Rattle.tc_forms.specs.Kinds.{kind_told}
+use Rattle.tc_forms.specs.Made.{in_form, make}
+use Rattle.tc_forms.specs.Raw.{or_raw, raw_of}
+use Rattle.tc_forms.specs.Records.{each_made, field_made, fields_made, joined}
+use Rattle.tc_forms.specs.Tables.{Table, field_view, fields_view}
+use Rattle.tc_forms.specs.Values.{plain_made}
+use Rattle.serde_json.specs.Data.{Data, Items, no_items, item}
 use Rattle.serde_json.specs.View.{view, items_view}
 use Rattle.serde_json.specs.declared.value.Value.{Value}
 use Rattle.tc_forms.specs.declared.error.MakeError.{MakeError}
 use Rattle.tc_forms.specs.declared.form.Form.{Form}
-use Rattle.tc_forms.specs.Plain.{Table, field_view, fields_view}
 use Rattle.tc_forms.specs.declared.form.Field.{Field as CodeField}
 use Rattle.tc_forms.specs.declared.form.Form.TheVariants as form
-use Rattle.tc_forms.specs.Leaves.{raw_of}
-use Rattle.tc_forms.specs.Made.{joined, or_raw, each_made, each_under, kind_told, fields_made, field_made, plain_made, in_form, make}
-use Rattle.tc_forms.specs.Appended.{Appended, Fails}
 
 none_not_some : {X : Type 0} (x : X) → None ≡ Some x → ⊥
 none_not_some x e = true≢false (ap is_none e)
@@ -95,14 +103,14 @@ items_here One (v ∷ vs) (suc i) x lt is =
 pub items_over : (One : Data → Option (List ℕ)) (vs : List Value) (i : ℕ) → length vs ≤ i → each_made One (items_view (drop i vs)) ≡ Some []
 items_over One vs i over = ap (λ xs. each_made One (items_view xs)) (drop_all i vs over)
 
-pub fields_here : (parts : Table) (Made : Form → Data → Option (List ℕ)) (fs : List CodeField) (i : ℕ) (d : CodeField) (x : Data) → i < length fs
-    → fields_made parts Made (fields_view (drop i fs)) x ≡ joined (field_made parts Made (field_view (get_or fs i d)) (get (get_or fs i d).name.now x)) (fields_made parts Made (fields_view (drop (i + 1) fs)) x)
-fields_here parts Made [] i d x lt = absurd (omega arith)
-fields_here parts Made (f ∷ fs) zero d x lt = refl
-fields_here parts Made (f ∷ fs) (suc i) d x lt =
+pub fields_here : (table : Table) (Made : Form → Data → Option (List ℕ)) (fs : List CodeField) (i : ℕ) (d : CodeField) (x : Data) → i < length fs
+    → fields_made table Made (fields_view (drop i fs)) x ≡ joined (field_made table Made (field_view (get_or fs i d)) (get (get_or fs i d).name.now x)) (fields_made table Made (fields_view (drop (i + 1) fs)) x)
+fields_here table Made [] i d x lt = absurd (omega arith)
+fields_here table Made (f ∷ fs) zero d x lt = refl
+fields_here table Made (f ∷ fs) (suc i) d x lt =
     let next : suc (i + 1) ≡ suc i + 1 = omega arith in
-    fields_here parts Made fs i d x (omega (arith, lt))
-    ∙ ap (λ (n : ℕ). joined (field_made parts Made (field_view (get_or fs i d)) (get (get_or fs i d).name.now x)) (fields_made parts Made (fields_view (drop n (f ∷ fs))) x)) next
+    fields_here table Made fs i d x (omega (arith, lt))
+    ∙ ap (λ (n : ℕ). joined (field_made table Made (field_view (get_or fs i d)) (get (get_or fs i d).name.now x)) (fields_made table Made (fields_view (drop n (f ∷ fs))) x)) next
 
 pub items_under : (One : List ℕ → Data → Option (List ℕ)) (has : Bool) (vs : List Value) (i : ℕ) (x : Value) (k next : List ℕ) → i < length vs → x ≡ get_or vs i x
     → next ≡ unwrap_or (kind_told has (view x)) k
@@ -119,39 +127,58 @@ items_under One has (v ∷ vs) (suc i) x k next lt is e =
 pub under_over : (One : List ℕ → Data → Option (List ℕ)) (has : Bool) (vs : List Value) (i : ℕ) (k : List ℕ) → length vs ≤ i → each_under One has k (items_view (drop i vs)) ≡ Some []
 under_over One has vs i k over = ap (λ xs. each_under One has k (items_view xs)) (drop_all i vs over)
 
--- ---- levels
+-- where no kind is told, items that are made alike under the one kind
+pub items_same : (One Two : List ℕ → Data → Option (List ℕ)) (k : List ℕ) → ((d : Data) → One k d ≡ Two k d) → (ds : Items)
+    → each_under One false k ds ≡ each_under Two false k ds
+items_same One Two k same no_items = refl
+items_same One Two k same (item d ds) =
+    ap (λ x. joined (or_raw (raw_of d) x) (each_under One false k ds)) (same d) ∙ ap (joined (or_raw (raw_of d) (Two k d))) (items_same One Two k same ds)
 
-pub level_made : {T : Type 0} (parts : Table) (n m : ℕ) (k : List ℕ) (f shape : Form) (d : Data) (x : Option (List ℕ)) (old new : List ℕ) (r : Result T MakeError)
-    → n ≡ m + 1 → f ≡ shape → None ≡ raw_of d → x ≡ in_form parts (make parts m) k shape d → Appended x old new r → Appended (make parts n k f d) old new r
-level_made parts n m k f shape d x old new r deeper same not_raw is h =
-    appended_as x (make parts n k f d) old new r
-    (is ∙ ap (λ g. in_form parts (make parts m) k g d) (sym same) ∙ ap (λ o. or_raw o (in_form parts (make parts m) k f d)) not_raw
-    ∙ sym (ap (λ j. make parts j k f d) (deeper ∙ add-one m)))
+pub list_made : {T : Type 0} (table : Table) (Made : List ℕ → Form → Data → Option (List ℕ)) (i : ℕ) (k layer : List ℕ) (rows : List Row) (d : Data) (ds : Items)
+    (old new : List ℕ) (r : Result T MakeError) → Some ds ≡ as_array d → layer ≡ layer_of (part_at table i) → rows ≡ rows_under table i k
+    → Appended (each_under (layered_by Made rows false layer) false k ds) old new r
+    → Appended (option_and_then (each_under (layered_made table Made i) false k) (as_array d)) old new r
+list_made table Made i k layer rows d ds old new r found el er h =
+    let own = layer_of (part_at table i) in
+    let All = each_under (layered_made table Made i) false k in
+    appended_as (each_under (layered_by Made rows false layer) false k ds) (option_and_then All (as_array d)) old new r
+    (items_same (layered_by Made rows false layer) (layered_made table Made i) k
+    (λ x. ap (λ l. layered_by Made rows false l k x) el ∙ ap (λ q. layered_by Made q false own k x) er) ds ∙ ap (option_and_then All) found)
     h
 
-pub raw_made : (parts : Table) (n : ℕ) (k : List ℕ) (f : Form) (d : Data) (b : List ℕ) → Some b ≡ raw_of d → Some b ≡ make parts n k f d
-raw_made parts zero k f d b e = e
-raw_made parts (suc n) k f d b e = ap (λ o. or_raw o (in_form parts (make parts n) k f d)) e
+-- ---- levels
 
-pub not_made : (parts : Table) (n : ℕ) (k : List ℕ) (f : Form) (d : Data) → n ≡ 0 → None ≡ raw_of d → make parts n k f d ≡ None
-not_made parts n k f d e none = ap (λ j. make parts j k f d) e ∙ sym none
+pub level_made : {T : Type 0} (table : Table) (n m : ℕ) (k : List ℕ) (f shape : Form) (d : Data) (x : Option (List ℕ)) (old new : List ℕ) (r : Result T MakeError)
+    → n ≡ m + 1 → f ≡ shape → None ≡ raw_of d → x ≡ in_form table (make table m) k shape d → Appended x old new r → Appended (make table n k f d) old new r
+level_made table n m k f shape d x old new r deeper same not_raw is h =
+    appended_as x (make table n k f d) old new r
+    (is ∙ ap (λ g. in_form table (make table m) k g d) (sym same) ∙ ap (λ o. or_raw o (in_form table (make table m) k f d)) not_raw
+    ∙ sym (ap (λ j. make table j k f d) (deeper ∙ add-one m)))
+    h
 
-pub plain_in_form : (parts : Table) (Made : List ℕ → Form → Data → Option (List ℕ)) (k : List ℕ) (f : Form) (d : Data) → ((i : ℕ) → f ≡ form.Record i → ⊥)
+pub raw_made : (table : Table) (n : ℕ) (k : List ℕ) (f : Form) (d : Data) (b : List ℕ) → Some b ≡ raw_of d → Some b ≡ make table n k f d
+raw_made table zero k f d b e = e
+raw_made table (suc n) k f d b e = ap (λ o. or_raw o (in_form table (make table n) k f d)) e
+
+pub not_made : (table : Table) (n : ℕ) (k : List ℕ) (f : Form) (d : Data) → n ≡ 0 → None ≡ raw_of d → make table n k f d ≡ None
+not_made table n k f d e none = ap (λ j. make table j k f d) e ∙ sym none
+
+pub plain_in_form : (table : Table) (Made : List ℕ → Form → Data → Option (List ℕ)) (k : List ℕ) (f : Form) (d : Data) → ((i : ℕ) → f ≡ form.Record i → ⊥)
     → ((i : ℕ) → f ≡ form.Array i → ⊥) → ((n i : ℕ) → f ≡ form.Times n i → ⊥) → ((i : ℕ) → f ≡ form.List i → ⊥) → ((i : ℕ) → f ≡ form.InForce i → ⊥)
-    → ((i : ℕ) → f ≡ form.Own i → ⊥) → ((i : ℕ) → f ≡ form.Indexed i → ⊥) → ((i : ℕ) → f ≡ form.Choice i → ⊥) → plain_made parts f d ≡ in_form parts Made k f d
-plain_in_form parts Made k (form.Record i) d r a t l m o x c = absurd (r i refl)
-plain_in_form parts Made k (form.Array i) d r a t l m o x c = absurd (a i refl)
-plain_in_form parts Made k (form.Times n i) d r a t l m o x c = absurd (t n i refl)
-plain_in_form parts Made k (form.List i) d r a t l m o x c = absurd (l i refl)
-plain_in_form parts Made k (form.InForce i) d r a t l m o x c = absurd (m i refl)
-plain_in_form parts Made k (form.Own i) d r a t l m o x c = absurd (o i refl)
-plain_in_form parts Made k (form.Indexed i) d r a t l m o x c = absurd (x i refl)
-plain_in_form parts Made k (form.Choice i) d r a t l m o x c = absurd (c i refl)
-plain_in_form parts Made k f d r a t l m o x c = refl
+    → ((i : ℕ) → f ≡ form.Own i → ⊥) → ((i : ℕ) → f ≡ form.Indexed i → ⊥) → ((i : ℕ) → f ≡ form.Choice i → ⊥) → plain_made table f d ≡ in_form table Made k f d
+plain_in_form table Made k (form.Record i) d r a t l m o x c = absurd (r i refl)
+plain_in_form table Made k (form.Array i) d r a t l m o x c = absurd (a i refl)
+plain_in_form table Made k (form.Times n i) d r a t l m o x c = absurd (t n i refl)
+plain_in_form table Made k (form.List i) d r a t l m o x c = absurd (l i refl)
+plain_in_form table Made k (form.InForce i) d r a t l m o x c = absurd (m i refl)
+plain_in_form table Made k (form.Own i) d r a t l m o x c = absurd (o i refl)
+plain_in_form table Made k (form.Indexed i) d r a t l m o x c = absurd (x i refl)
+plain_in_form table Made k (form.Choice i) d r a t l m o x c = absurd (c i refl)
+plain_in_form table Made k f d r a t l m o x c = refl
 
 -- a frame, part by part
 pub framed_so : (value pad : List ℕ) (word : ℕ)
-    → le_bytes 2 (length value + 4) ++ (le_bytes 2 word ++ (value ++ pad)) ≡ cut_bytes (record { word = word; value = value; pad = pad })
+    → le_bytes 2 (length value + 4) ++ (le_bytes 2 word ++ (value ++ pad)) ≡ frame_bytes (record { word = word; value = value; pad = pad })
 unfolding header
 framed_so value pad word =
     ap (λ n. le_bytes 2 n ++ (le_bytes 2 word ++ (value ++ pad))) (omega arith)
@@ -166,7 +193,7 @@ then_maybe a None old mid new (Err e) first second = λ not. refl
 
 pub framed_maybe : (value : List ℕ) (word : ℕ) (x : Option (List ℕ))
     → option_map (λ b. le_bytes 2 (length value + 4) ++ b) (option_map (λ b. le_bytes 2 word ++ b) (option_map (λ b. value ++ b) x))
-    ≡ option_map (λ pad. cut_bytes (record { word = word; value = value; pad = pad })) x
+    ≡ option_map (λ pad. frame_bytes (record { word = word; value = value; pad = pad })) x
 framed_maybe value word None = refl
 framed_maybe value word (Some pad) = ap Some (framed_so value pad word)
 

@@ -1,34 +1,41 @@
 -- The order of members makes no difference: bytes are made again of what a reader of JSON makes of what is shown.
-use Rattle.std.proofs.Common.{◌≡◌, ℕ, zero, suc, Bool, true, false, List, [], ◌∷◌, length, take, drop, Option, Some, None, refl, ap, sym, ◌∙◌, subst, cond, true≢false, Ordering, Less, Equal, Greater, inl, inr}
-use Rattle.std.specs.Prelude.{option_map, option_and_then, unwrap_or, bytes_eq, codes, not, ◌&&◌, ◌||◌, ◌==◌, slice_index}
+use Rattle.std.proofs.Common.{◌≡◌, ℕ, zero, suc, Bool, true, false, List, [], ◌∷◌, length, take, drop, Option, Some, None, refl, ap, sym, ◌∙◌, cond, true≢false, Ordering, Less, Equal, Greater, inl, inr}
+use Rattle.std.specs.Prelude.{option_map, option_and_then, unwrap_or, bytes_eq, codes, not, ◌&&◌, ◌||◌, ◌==◌}
 use Rattle.std.specs.Str.{is_utf8}
 use Rattle.std.specs.Ordering.{match_ordering, nat_cmp}
 use Rattle.std.specs.Cmp.Lexicographic.{slice_cmp}
-use Rattle.std.proofs.lemmas.Bool.{cases_Bool, cond_both, and_parts, eq-eqb}
+use Rattle.std.proofs.lemmas.Bool.{cases_Bool, cond_both, and_parts}
 use Rattle.std.proofs.lemmas.Slice.Eq.{bytes_eq-Decides}
 use Rattle.nla_frames.specs.Value.{IsBytes}
 use Rattle.nla_frames.specs.Frame.{padding}
 use Rattle.nla_frames.proofs.Bytes.{IsBytes-drop}
-use Rattle.serde_json.specs.Data.{Data, number, string, boolean, object, unsigned, item, Items, Members, no_members, member, put}
-use Rattle.serde_json.specs.Find.{get, get_member}
+use Rattle.serde_json.specs.Data.{Data, number, string, boolean, object, unsigned, item, Members, no_members, member, put}
+use Rattle.serde_json.specs.Find.{get_member}
 use Rattle.serde_json.proofs.Views.{get_member-put, get_member-put_other}
 use Rattle.tc_forms.specs.declared.form.Form.{Form}
 use Rattle.tc_forms.specs.declared.form.Form.TheVariants as form
-use Rattle.tc_forms.specs.Plain.{Name}
-use Rattle.tc_forms.specs.Plain.{Field}
-use Rattle.tc_forms.specs.Plain.{Row}
-use Rattle.tc_forms.specs.Plain.{Choice}
-use Rattle.tc_forms.specs.Plain.{Table}
-use Rattle.tc_forms.specs.Tables.{is_pad, part_at, names_of, fields_of, rows_of, layer_of, choices_of, form_of, number_width, fixed, name_of, number_of, first, type_of, counts, of_type, is_choice, is_reserved}
-use Rattle.tc_forms.specs.Leaves.{one, hex, raw, raw_of, hex_made, bits_of, num}
+use Rattle.nla_frames.specs.Value.{ends_in_nul}
+use Rattle.tc_forms.specs.Attributes.{bare_told, attribute, by_kind, by_row, first_or_tail, frames, indexed, layered, pad_told, tail_shown, told, word_and_hex}
+use Rattle.tc_forms.specs.AttributesMade.{each_under, indexed_made, kinded_made, layered_made}
+use Rattle.tc_forms.specs.Choices.{by_choice, chosen, follows, is_choice}
+use Rattle.tc_forms.specs.Frames.{PaddedFrame, after_first, frame_bytes, front}
+use Rattle.tc_forms.specs.Kinds.{kind_in, own_kind, own_told}
+use Rattle.tc_forms.specs.Made.{in_form, make}
+use Rattle.tc_forms.specs.Numbers.{bits_of, is_number, name_of, named_or, num, number_of}
 use Rattle.tc_forms.specs.Ordered.{ordered, ordered_items, ordered_members}
-use Rattle.tc_forms.specs.Cuts.{Cut, cut_bytes, zero_pad, text_in, kind_in, own_kind, front, after_first}
-use Rattle.tc_forms.specs.Shown.{is_number, named_or, text_or_raw, plain_shown, is_free, are_apart, names_apart, are_enough, is_blank, field_width, field_of, after_field, members, elements, elements_of, tail_shown, first_or_tail, frames, pad_told, told, word_and_hex, kind_shown, indexed, layered, shown_row, follows, chosen, by_choice, by_row, by_kind, attribute, shown, show}
-use Rattle.tc_forms.specs.Made.{fields_made, each_made, each_under, kind_told, own_told, attribute_made, layered_made, indexed_made, or_raw, in_form, make}
+use Rattle.tc_forms.specs.Places.{choices_of, fields_of, form_of, layer_of, names_of, part_at, rows_under}
+use Rattle.tc_forms.specs.Raw.{hex, hex_made, one, or_raw, raw, raw_of}
+use Rattle.tc_forms.specs.Records.{after_field, are_apart, are_enough, each_made, elements, elements_of, field_of, fields_made, is_blank, is_free, is_pad, members, names_apart}
+use Rattle.tc_forms.specs.Rows.{counts, of_type, shown_row, type_of}
+use Rattle.tc_forms.specs.Search.{first}
+use Rattle.tc_forms.specs.Shown.{show, shown}
+use Rattle.tc_forms.specs.Tables.{Choice, Field, Name, Row, Table}
+use Rattle.tc_forms.specs.Values.{plain_shown, text_in, text_or_raw}
+use Rattle.tc_forms.specs.Widths.{field_width, fixed, number_width}
 use Rattle.tc_forms.proofs.Leaves.{hex_made-hex, raw_of-raw}
 use Rattle.tc_forms.proofs.Frames.{Stands, frames_again, own_again, elements_of-again}
 use Rattle.tc_forms.proofs.Records.{here, passes, absent, swapped, not-false, fields_again}
-use Rattle.tc_forms.proofs.Found.{get_pad_told, not_pad_told, get_told, none_not_some, guarded, word_seen, pad_seen, Finds, finds, Plain, plain}
+use Rattle.tc_forms.proofs.Found.{bare_seen, kind_finds, get_bare_told, no_bare_told, get_pad_told, not_pad_told, get_told, none_not_some, guarded, word_seen, pad_seen, Finds, finds, plain}
 use Rattle.tc_forms.proofs.Law.{Holds, Again, kind_found, other_found, other_finds, row_found, in_list, in_layer, choice_found, indexed_found, level_again}
 
 -- each member as it is read
@@ -104,69 +111,86 @@ text_read : (b : List ℕ) (o : Option (List ℕ)) → ordered (text_or_raw b o)
 text_read b None = refl
 text_read b (Some t) = refl
 
-plain_read : (parts : Table) (f : Form) (b : List ℕ) → ordered (plain_shown parts f b) ≡ plain_shown parts f b
-plain_read parts (form.Number k) b = cond_read (length b == number_width k) _ b refl
-plain_read parts (form.Named k i) b =
+plain_read : (table : Table) (f : Form) (b : List ℕ) → ordered (plain_shown table f b) ≡ plain_shown table f b
+plain_read table (form.Number k) b = cond_read (length b == number_width k) _ b refl
+plain_read table (form.Named k i) b =
     cond_read (length b == number_width k) _ b
-    (named_read (names_of (part_at parts i)) (bits_of k b) (one (codes "Other") (number (num k (bits_of k b)))) (name_of (names_of (part_at parts i)) (bits_of k b)) refl)
-plain_read parts form.Handle b = cond_read (length b == 4) _ b refl
-plain_read parts form.Flag b = cond_read (length b == 0) _ b refl
-plain_read parts form.Truth b = cond_read (bytes_eq b (0 ∷ []) || bytes_eq b (1 ∷ [])) _ b refl
-plain_read parts form.Bare b = cond_read (is_utf8 b) _ b refl
-plain_read parts form.Text b = text_read b (text_in b)
-plain_read parts form.Hex b = refl
-plain_read parts (form.Bytes n) b = cond_read (length b == n) _ b refl
-plain_read parts (form.Pad n) b = cond_read (length b == n) _ b refl
-plain_read parts form.Mac b = cond_read (length b == 6) _ b refl
-plain_read parts form.Ipv4 b = cond_read (length b == 4) _ b refl
-plain_read parts form.Ipv6 b = cond_read (length b == 16) _ b refl
-plain_read parts f b = refl
+    (named_read (names_of (part_at table i)) (bits_of k b) (one (codes "Other") (number (num k (bits_of k b)))) (name_of (names_of (part_at table i)) (bits_of k b)) refl)
+plain_read table form.Handle b = cond_read (length b == 4) _ b refl
+plain_read table form.Flag b = cond_read (length b == 0) _ b refl
+plain_read table form.Truth b = cond_read (bytes_eq b (0 ∷ []) || bytes_eq b (1 ∷ [])) _ b refl
+plain_read table form.Bare b = cond_read (is_utf8 b) _ b refl
+plain_read table form.Text b = text_read b (text_in b)
+plain_read table form.Hex b = refl
+plain_read table (form.Bytes n) b = cond_read (length b == n) _ b refl
+plain_read table (form.Pad n) b = cond_read (length b == n) _ b refl
+plain_read table form.Mac b = cond_read (length b == 6) _ b refl
+plain_read table form.Ipv4 b = cond_read (length b == 4) _ b refl
+plain_read table form.Ipv6 b = cond_read (length b == 16) _ b refl
+plain_read table f b = refl
 
 -- ---- attributes, as they are read
 
 abbrev read : Members → Data
 read ms = object (ordered_members ms no_members)
 
-word_seen_read : (word : ℕ) (c : Cut) → option_map ordered (word_seen word c) ≡ word_seen word c
+word_seen_read : (word : ℕ) (c : PaddedFrame) → option_map ordered (word_seen word c) ≡ word_seen word c
 word_seen_read word c = go (c.word == word)
   where
     go : (t : Bool) → option_map ordered (cond t None (Some (number (unsigned c.word)))) ≡ cond t None (Some (number (unsigned c.word)))
     go true = refl
     go false = refl
 
-pad_seen_read : (c : Cut) → option_map ordered (pad_seen c) ≡ pad_seen c
+pad_seen_read : (c : PaddedFrame) → option_map ordered (pad_seen c) ≡ pad_seen c
 pad_seen_read c = go (is_blank (Some (padding (length c.value))) c.pad)
   where
     go : (t : Bool) → option_map ordered (cond t None (Some (hex c.pad))) ≡ cond t None (Some (hex c.pad))
     go true = refl
     go false = refl
 
-finds_read : (ms : Members) (name : List ℕ) (x : Data) (word : ℕ) (c : Cut) → Apart ms → Finds (object ms) name x word c → Finds (read ms) name (ordered x) word c
-finds_read ms name x word c a f = record {
+bare_seen_read : (v : List ℕ) → option_map ordered (bare_seen v) ≡ bare_seen v
+bare_seen_read v = go (ends_in_nul v)
+  where
+    go : (t : Bool) → option_map ordered (cond t None (Some (boolean true))) ≡ cond t None (Some (boolean true))
+    go true = refl
+    go false = refl
+
+finds_read : (ms : Members) (name : List ℕ) (x : Data) (mark : Option Data) (word : ℕ) (c : PaddedFrame) → Apart ms → option_map ordered mark ≡ mark
+    → Finds (object ms) name x mark word c → Finds (read ms) name (ordered x) mark word c
+finds_read ms name x mark word c a kept_mark f = record {
   it = read_so ms name a ∙ ap (option_map ordered) f.it;
+  bare = read_so ms (codes "bare") a ∙ ap (option_map ordered) f.bare ∙ kept_mark;
   word = read_so ms (codes "word") a ∙ ap (option_map ordered) f.word ∙ word_seen_read word c;
   pad = read_so ms (codes "pad") a ∙ ap (option_map ordered) f.pad ∙ pad_seen_read c;
-  none = λ q own w p. read_so ms q a ∙ ap (option_map ordered) (f.none q own w p);
+  none = λ q own w p b. read_so ms q a ∙ ap (option_map ordered) (f.none q own w p b);
   no_text = refl;
 }
 
-pad_apart : (c : Cut) → Apart (pad_told c)
+pad_apart : (c : PaddedFrame) → Apart (pad_told c)
 pad_apart c = go (is_blank (Some (padding (length c.value))) c.pad)
   where
     go : (t : Bool) → Apart (cond t no_members (member (codes "pad") (hex c.pad) no_members))
     go true = tt
     go false = (refl, tt)
 
-told_apart : (word : ℕ) (c : Cut) → Apart (told word c)
+told_apart : (word : ℕ) (c : PaddedFrame) → Apart (told word c)
 told_apart word c = go (c.word == word)
   where
     go : (t : Bool) → Apart (cond t (pad_told c) (member (codes "word") (number (unsigned c.word)) (pad_told c)))
     go true = pad_apart c
     go false = (not_pad_told (codes "word") c refl, pad_apart c)
 
-named_apart : (name : List ℕ) (x : Data) (word : ℕ) (c : Cut) → bytes_eq name (codes "word") ≡ false → bytes_eq name (codes "pad") ≡ false
+named_apart : (name : List ℕ) (x : Data) (word : ℕ) (c : PaddedFrame) → bytes_eq name (codes "word") ≡ false → bytes_eq name (codes "pad") ≡ false
     → Apart (member name x (told word c))
 named_apart name x word c w p = (get_told word c name w ∙ not_pad_told name c p, told_apart word c)
+
+kind_apart : (t : List ℕ) (c : PaddedFrame) → Apart (member (codes "Kind") (string t) (bare_told c.value (told 1 c)))
+kind_apart t c =
+    (get_bare_told c.value (told 1 c) (codes "Kind") refl ∙ get_told 1 c (codes "Kind") refl ∙ not_pad_told (codes "Kind") c refl, go (ends_in_nul c.value))
+  where
+    go : (b : Bool) → Apart (cond b (told 1 c) (member (codes "bare") (boolean true) (told 1 c)))
+    go true = told_apart 1 c
+    go false = (no_bare_told 1 c, told_apart 1 c)
 
 layered_read : (layer : List ℕ) (d : Data) → ordered (layered layer d) ≡ layered layer (ordered d)
 layered_read [] d = refl
@@ -176,12 +200,12 @@ tail_read : (b : List ℕ) → ordered_items (tail_shown b) ≡ tail_shown b
 tail_read [] = refl
 tail_read (x ∷ b) = refl
 
-frames_read : (One : List ℕ → Cut → Data) (has : Bool) (n : ℕ) (k b : List ℕ)
+frames_read : (One : List ℕ → PaddedFrame → Data) (has : Bool) (n : ℕ) (k b : List ℕ)
     → ordered_items (frames One has n k b) ≡ frames (λ j c. ordered (One j c)) has n k b
 frames_read One has zero k b = tail_read b
 frames_read One has (suc n) k b = go (front b) (λ j. frames_read One has n j (after_first b))
   where
-    go : (o : Option Cut) → ((j : List ℕ) → ordered_items (frames One has n j (after_first b)) ≡ frames (λ j c. ordered (One j c)) has n j (after_first b))
+    go : (o : Option PaddedFrame) → ((j : List ℕ) → ordered_items (frames One has n j (after_first b)) ≡ frames (λ j c. ordered (One j c)) has n j (after_first b))
         → ordered_items (first_or_tail One has k b (λ j. frames One has n j (after_first b)) o)
         ≡ first_or_tail (λ j c. ordered (One j c)) has k b (λ j. frames (λ j c. ordered (One j c)) has n j (after_first b)) o
     go None e = tail_read b
@@ -194,34 +218,35 @@ module _ (Inner : List ℕ → Form → List ℕ → Data) where
 
   module _ (Made : List ℕ → Form → Data → Option (List ℕ)) (again : (k : List ℕ) (f : Form) (b : List ℕ) → IsBytes b → Made k f (Reads k f b) ≡ Some b)
       (rows : List Row) (has : Bool) where
-    attribute_read : (k : List ℕ) (c : Cut) → Stands c → Again Reads Made again rows has k c (ordered (attribute Inner rows has k c))
+    attribute_read : (k : List ℕ) (c : PaddedFrame) → Stands c → Again Reads Made again rows has k c (ordered (attribute Inner rows has k c))
     attribute_read k c s = by_kind_read (kind_in has c) refl
       where
-        by_row_read : (o : Option Row) → shown_row rows k c.word ≡ o → kind_in has c ≡ None → Again Reads Made again rows has k c (ordered (by_row Inner rows has k c o))
+        by_row_read : (o : Option Row) → shown_row rows c.word ≡ o → kind_in has c ≡ None → Again Reads Made again rows has k c (ordered (by_row Inner rows has k c o))
         by_row_read None is e =
             let x = word_and_hex c in
             let ms = member (codes "Other") x (pad_told c) in
             other_found Reads Made again rows has k c (ordered x) _ e s
-            (finds_read ms (codes "Other") x c.word c (not_pad_told (codes "Other") c refl, pad_apart c) (other_finds Reads Made again rows has c x)) refl refl
+            (finds_read ms (codes "Other") x None c.word c (not_pad_told (codes "Other") c refl, pad_apart c) refl (other_finds Reads Made again rows has c x)) refl refl
         by_row_read (Some r) is e =
-            let g = guarded rows (λ (q : Row). q.name) (counts k) (λ q. type_of q.word == type_of c.word) (first (of_type k c.word) rows) r is in
-            let own = plain r.name (and_parts (not (is_reserved r.name)) _ g.passed).0 in
+            let g = guarded rows (λ (q : Row). q.name) counts (λ q. type_of q.word == type_of c.word) (first (of_type c.word) rows) r is in
+            let own = plain r.name g.passed in
             let x = Inner k r.form c.value in
             row_found Reads Made again rows has k c r (ordered x) _ e s g
-            (finds_read (member r.name x (told r.word c)) r.name x r.word c (named_apart r.name x r.word c own.word own.pad)
-            (finds r.name x r.word c (swapped r.name (codes "word") own.word) (swapped r.name (codes "pad") own.pad)))
+            (finds_read (member r.name x (told r.word c)) r.name x None r.word c (named_apart r.name x r.word c own.word own.pad) refl
+            (finds r.name x r.word c (swapped r.name (codes "word") own.word) (swapped r.name (codes "pad") own.pad)
+            (swapped r.name (codes "bare") own.bare)))
             (again k r.form c.value s.value)
 
         by_kind_read : (o : Option (List ℕ)) → kind_in has c ≡ o → Again Reads Made again rows has k c (ordered (by_kind Inner rows has k c o))
         by_kind_read (Some t) e =
             kind_found Reads Made again rows has k c t _ e s
-            (finds_read (member (codes "Kind") (string t) (told 1 c)) (codes "Kind") (string t) 1 c (named_apart (codes "Kind") (string t) 1 c refl refl)
-            (finds (codes "Kind") (string t) 1 c refl refl))
-        by_kind_read None e = by_row_read (shown_row rows k c.word) refl e
+            (finds_read (member (codes "Kind") (string t) (bare_told c.value (told 1 c))) (codes "Kind") (string t) (bare_seen c.value) 1 c (kind_apart t c)
+            (bare_seen_read c.value) (kind_finds t c))
+        by_kind_read None e = by_row_read (shown_row rows c.word) refl e
 
 -- ---- what is shown, as it is read
 
-module _ (parts : Table) (Inner : Form → List ℕ → Data) where
+module _ (table : Table) (Inner : Form → List ℕ → Data) where
   abbrev pub Read : Form → List ℕ → Data
   Read f b = ordered (Inner f b)
 
@@ -230,147 +255,147 @@ module _ (parts : Table) (Inner : Form → List ℕ → Data) where
   one_each f chunk after true = refl
   one_each f chunk after false = refl
 
-  members_each : (fs : List Field) (b : List ℕ) → members parts Read fs b ≡ each (members parts Inner fs b)
+  members_each : (fs : List Field) (b : List ℕ) → members table Read fs b ≡ each (members table Inner fs b)
   members_each [] [] = refl
   members_each [] (x ∷ b) = refl
   members_each (f ∷ fs) b =
-      let w = field_width parts f in
+      let w = field_width table f in
       let chunk = field_of w b in
       let later = after_field w b in
       let t = is_pad f.form && is_blank w chunk in
-      ap (λ ms. cond t ms (member f.name (Read f.form chunk) ms)) (members_each fs later) ∙ one_each f chunk (members parts Inner fs later) t
+      ap (λ ms. cond t ms (member f.name (Read f.form chunk) ms)) (members_each fs later) ∙ one_each f chunk (members table Inner fs later) t
 
   module _ (Made : Form → Data → Option (List ℕ)) (again : (f : Form) (b : List ℕ) → IsBytes b → Made f (Read f b) ≡ Some b) where
-    apart_so : (fs : List Field) (b : List ℕ) → are_apart fs ≡ true → is_free (codes "rest") fs ≡ true → Apart (members parts Inner fs b)
+    apart_so : (fs : List Field) (b : List ℕ) → are_apart fs ≡ true → is_free (codes "rest") fs ≡ true → Apart (members table Inner fs b)
     apart_so [] [] a free = tt
     apart_so [] (x ∷ b) a free = (refl, tt)
     apart_so (f ∷ fs) b a free =
-        let w = field_width parts f in
+        let w = field_width table f in
         let chunk = field_of w b in
         let later = after_field w b in
         let own = and_parts (is_free f.name fs) (are_apart fs) a in
         let unlike = and_parts (not (bytes_eq (codes "rest") f.name)) (is_free (codes "rest") fs) free in
         let more = apart_so fs later own.1 unlike.1 in
-        cond_both (is_pad f.form && is_blank w chunk) (members parts Inner fs later) (member f.name (Inner f.form chunk) (members parts Inner fs later)) Apart
-        (λ e. more) (λ e. (absent parts Inner f.name fs later own.0 (swapped (codes "rest") f.name (not-false _ unlike.0)), more))
+        cond_both (is_pad f.form && is_blank w chunk) (members table Inner fs later) (member f.name (Inner f.form chunk) (members table Inner fs later)) Apart
+        (λ e. more) (λ e. (absent table Inner f.name fs later own.0 (swapped (codes "rest") f.name (not-false _ unlike.0)), more))
 
     record_read : (fs : List Field) (b : List ℕ) → IsBytes b → names_apart fs ≡ true
-        → fields_made parts Made fs (object (ordered_members (members parts Inner fs b) no_members)) ≡ Some b
+        → fields_made table Made fs (object (ordered_members (members table Inner fs b) no_members)) ≡ Some b
     record_read fs b h e =
         let all = and_parts (is_free (codes "raw") fs && is_free (codes "rest") fs) (are_apart fs) e in
         let names = and_parts (is_free (codes "raw") fs) (is_free (codes "rest") fs) all.0 in
-        let ms = members parts Inner fs b in
-        let agree : (name : List ℕ) → get_member name (ordered_members ms no_members) ≡ get_member name (members parts Read fs b) =
+        let ms = members table Inner fs b in
+        let agree : (name : List ℕ) → get_member name (ordered_members ms no_members) ≡ get_member name (members table Read fs b) =
         λ name. read_so ms name (apart_so fs b all.1 names.1) ∙ sym (get_each name ms) ∙ ap (get_member name) (sym (members_each fs b)) in
-        fields_again parts Read Made again fs b (ordered_members ms no_members) h (λ name later. agree name, agree (codes "rest")) all.1 names.1
+        fields_again table Read Made again fs b (ordered_members ms no_members) h (λ name later. agree name, agree (codes "rest")) all.1 names.1
 
     record_read_not_raw : (fs : List Field) (b : List ℕ) → names_apart fs ≡ true
-        → raw_of (object (ordered_members (members parts Inner fs b) no_members)) ≡ None
+        → raw_of (object (ordered_members (members table Inner fs b) no_members)) ≡ None
     record_read_not_raw fs b e =
         let all = and_parts (is_free (codes "raw") fs && is_free (codes "rest") fs) (are_apart fs) e in
         let names = and_parts (is_free (codes "raw") fs) (is_free (codes "rest") fs) all.0 in
-        ap (option_and_then hex_made) (kept (members parts Inner fs b) no_members (codes "raw") (absent parts Inner (codes "raw") fs b names.0 refl))
+        ap (option_and_then hex_made) (kept (members table Inner fs b) no_members (codes "raw") (absent table Inner (codes "raw") fs b names.0 refl))
 
-    elements_read : (n : ℕ) (f : Form) (w : ℕ) (b : List ℕ) → ordered_items (elements parts Inner n f w b) ≡ elements parts Read n f w b
+    elements_read : (n : ℕ) (f : Form) (w : ℕ) (b : List ℕ) → ordered_items (elements Inner n f w b) ≡ elements Read n f w b
     elements_read n f w [] = refl
     elements_read zero f w (x ∷ b) = refl
     elements_read (suc n) f w (x ∷ b) = ap (item (Read f (take w (x ∷ b)))) (elements_read n f w (drop w (x ∷ b)))
 
-    elements_of_read : (f : Form) (w : Option ℕ) (b : List ℕ) → ordered_items (elements_of parts Inner f w b) ≡ elements_of parts Read f w b
+    elements_of_read : (f : Form) (w : Option ℕ) (b : List ℕ) → ordered_items (elements_of Inner f w b) ≡ elements_of Read f w b
     elements_of_read f None b = refl
     elements_of_read f (Some w) b = elements_read (length b) f w b
 
 -- ---- any form
 
-module _ (parts : Table) (Inner : List ℕ → Form → List ℕ → Data) (Made : List ℕ → Form → Data → Option (List ℕ))
+module _ (table : Table) (Inner : List ℕ → Form → List ℕ → Data) (Made : List ℕ → Form → Data → Option (List ℕ))
     (again : (k : List ℕ) (f : Form) (b : List ℕ) → IsBytes b → Made k f (Reads Inner k f b) ≡ Some b) where
   abbrev All : List ℕ → Form → List ℕ → Data
   All = Reads Inner
 
-  tested_read : (k : List ℕ) (f : Form) (t : Bool) (d : Data) (b : List ℕ) → IsBytes b → (t ≡ true → Holds parts All Made again k f (ordered d) b)
-      → Holds parts All Made again k f (ordered (cond t d (raw b))) b
+  tested_read : (k : List ℕ) (f : Form) (t : Bool) (d : Data) (b : List ℕ) → IsBytes b → (t ≡ true → Holds table All Made again k f (ordered d) b)
+      → Holds table All Made again k f (ordered (cond t d (raw b))) b
   tested_read k f t d b h stands =
-      cond_both t d (raw b) (λ x. Holds parts All Made again k f (ordered x) b) stands
-      (λ e. ap (λ o. or_raw o (in_form parts Made k f (raw b))) (raw_of-raw b h))
+      cond_both t d (raw b) (λ x. Holds table All Made again k f (ordered x) b) stands
+      (λ e. ap (λ o. or_raw o (in_form table Made k f (raw b))) (raw_of-raw b h))
 
-  kinded_read : (rows : List Row) (n : ℕ) (k b : List ℕ) → IsBytes b
-      → each_under (attribute_made Made rows true) true k (ordered_items (frames (attribute Inner rows true) true n k b)) ≡ Some b
-  kinded_read rows n k b h =
-      ap (each_under (attribute_made Made rows true) true k) (frames_read (attribute Inner rows true) true n k b)
-      ∙ frames_again (attribute_made Made rows true) (λ j c. ordered (attribute Inner rows true j c)) true
-      (λ j c s. (attribute_read Inner Made again rows true j c s).kind)
-      (λ j c s. in_list All Made again rows true j c _ (attribute_read Inner Made again rows true j c s)) n k b h
+  kinded_read : (i n : ℕ) (k b : List ℕ) → IsBytes b
+      → each_under (kinded_made table Made i) true k (ordered_items (frames (λ j c. attribute Inner (rows_under table i j) true j c) true n k b)) ≡ Some b
+  kinded_read i n k b h =
+      let One : List ℕ → PaddedFrame → Data = λ j c. attribute Inner (rows_under table i j) true j c in
+      ap (each_under (kinded_made table Made i) true k) (frames_read One true n k b)
+      ∙ frames_again (kinded_made table Made i) (λ j c. ordered (One j c)) true
+      (λ j c s. (attribute_read Inner Made again (rows_under table i j) true j c s).kind)
+      (λ j c s. in_list All Made again (rows_under table i j) true j c _ (attribute_read Inner Made again (rows_under table i j) true j c s)) n k b h
 
-  indexed_read : (k : List ℕ) (i : ℕ) (c : Cut) → Stands c
-      → or_raw (raw_of (ordered (indexed c (Inner k (form_of i (part_at parts i)) c.value))))
-      (indexed_made parts Made i k (ordered (indexed c (Inner k (form_of i (part_at parts i)) c.value))))
-      ≡ Some (cut_bytes c)
+  indexed_read : (k : List ℕ) (i : ℕ) (c : PaddedFrame) → Stands c
+      → or_raw (raw_of (ordered (indexed c (Inner k (form_of i (part_at table i)) c.value))))
+      (indexed_made table Made i k (ordered (indexed c (Inner k (form_of i (part_at table i)) c.value))))
+      ≡ Some (frame_bytes c)
   indexed_read k i c s =
-      let x = Inner k (form_of i (part_at parts i)) c.value in
+      let x = Inner k (form_of i (part_at table i)) c.value in
       let ms = member (codes "tab") (number (unsigned c.word)) (member (codes "attributes") x (pad_told c)) in
       let apart : Apart ms = (not_pad_told (codes "tab") c refl, (not_pad_told (codes "attributes") c refl, pad_apart c)) in
-      indexed_found parts All Made again k i c (ordered x) (read ms) s
+      indexed_found table All Made again k i c (ordered x) (read ms) s
       (read_so ms (codes "raw") apart ∙ ap (option_map ordered) (not_pad_told (codes "raw") c refl)) (read_so ms (codes "tab") apart)
       (read_so ms (codes "attributes") apart) (read_so ms (codes "pad") apart ∙ ap (option_map ordered) (get_pad_told c) ∙ pad_seen_read c)
-      (again k (form_of i (part_at parts i)) c.value s.value)
+      (again k (form_of i (part_at table i)) c.value s.value)
 
-  choice_read : (k : List ℕ) (i : ℕ) (b : List ℕ) (o : Option Choice) → IsBytes b → chosen (choices_of (part_at parts i)) b ≡ o
-      → Holds parts All Made again k (form.Choice i) (ordered (by_choice parts (Inner k) b o)) b
+  choice_read : (k : List ℕ) (i : ℕ) (b : List ℕ) (o : Option Choice) → IsBytes b → chosen (choices_of (part_at table i)) b ≡ o
+      → Holds table All Made again k (form.Choice i) (ordered (by_choice (Inner k) b o)) b
   choice_read k i b None h is = hex_made-hex b h
   choice_read k i b (Some c) h is =
-      let cs = choices_of (part_at parts i) in
+      let cs = choices_of (part_at table i) in
       let x = ordered (Inner k c.form (drop (length c.prefix) b)) in
-      choice_found parts All Made again k cs b c x (one c.name x) h (guarded cs (λ (q : Choice). q.name) is_choice (follows b) (first (follows b) cs) c is)
+      choice_found table All Made again k cs b c x (one c.name x) h (guarded cs (λ (q : Choice). q.name) is_choice (follows b) (first (follows b) cs) c is)
       (here c.name x no_members) (λ q e. passes q c.name x no_members e)
       (again k c.form (drop (length c.prefix) b) (IsBytes-drop (length c.prefix) b h))
 
-  read_again : (k : List ℕ) (f : Form) (b : List ℕ) → IsBytes b → Holds parts All Made again k f (ordered (shown parts Inner k f b)) b
+  read_again : (k : List ℕ) (f : Form) (b : List ℕ) → IsBytes b → Holds table All Made again k f (ordered (shown table Inner k f b)) b
   read_again k (form.Record i) b h =
-      let fs = fields_of (part_at parts i) in
-      tested_read k (form.Record i) (names_apart fs && are_enough parts (length b) fs) _ b h
+      let fs = fields_of (part_at table i) in
+      tested_read k (form.Record i) (names_apart fs && are_enough table (length b) fs) _ b h
       (λ e.
-      let both = and_parts (names_apart fs) (are_enough parts (length b) fs) e in
-      ap (λ o. or_raw o (in_form parts Made k (form.Record i) (object (ordered_members (members parts (Inner k) fs b) no_members))))
-      (record_read_not_raw parts (Inner k) (Made k) (again k) fs b both.0)
-      ∙ record_read parts (Inner k) (Made k) (again k) fs b h both.0)
+      let both = and_parts (names_apart fs) (are_enough table (length b) fs) e in
+      ap (λ o. or_raw o (in_form table Made k (form.Record i) (object (ordered_members (members table (Inner k) fs b) no_members))))
+      (record_read_not_raw table (Inner k) (Made k) (again k) fs b both.0)
+      ∙ record_read table (Inner k) (Made k) (again k) fs b h both.0)
   read_again k (form.Array i) b h =
-      let f = form_of i (part_at parts i) in
-      ap (each_made (Made k f)) (elements_of_read parts (Inner k) (Made k) (again k) f (fixed parts f) b)
-      ∙ elements_of-again parts (All k) (Made k f) f (again k f) (fixed parts f) b h
+      let f = form_of i (part_at table i) in
+      ap (each_made (Made k f)) (elements_of_read table (Inner k) (Made k) (again k) f (fixed table f) b)
+      ∙ elements_of-again table (All k) (Made k f) f (again k f) (fixed table f) b h
   read_again k (form.Times n i) b h =
-      let f = form_of i (part_at parts i) in
-      ap (each_made (Made k f)) (elements_of_read parts (Inner k) (Made k) (again k) f (fixed parts f) b)
-      ∙ elements_of-again parts (All k) (Made k f) f (again k f) (fixed parts f) b h
+      let f = form_of i (part_at table i) in
+      ap (each_made (Made k f)) (elements_of_read table (Inner k) (Made k) (again k) f (fixed table f) b)
+      ∙ elements_of-again table (All k) (Made k f) f (again k f) (fixed table f) b h
   read_again k (form.List i) b h =
-      let rows = rows_of (part_at parts i) in
-      let layer = layer_of (part_at parts i) in
-      let One : List ℕ → Cut → Data = λ j c. layered layer (attribute Inner rows false j c) in
-      let Each = layered_made parts Made i in
+      let layer = layer_of (part_at table i) in
+      let One : List ℕ → PaddedFrame → Data = λ j c. layered layer (attribute Inner (rows_under table i j) false j c) in
+      let Each = layered_made table Made i in
       ap (each_under Each false k) (frames_read One false (length b) k b)
       ∙ frames_again Each (λ j c. ordered (One j c)) false (λ j c s. refl)
       (λ j c s.
+      let rows = rows_under table i j in
       let a = attribute_read Inner Made again rows false j c s in
       let same = layered_read layer (attribute Inner rows false j c) in
       ap (λ x. or_raw (raw_of x) (Each j x)) same ∙ in_layer All Made again rows false layer j c _ a) (length b) k b h
-  read_again k (form.InForce i) b h = kinded_read (rows_of (part_at parts i)) (length b) k b h
+  read_again k (form.InForce i) b h = kinded_read i (length b) k b h
   read_again k (form.Own i) b h =
-      let rows = rows_of (part_at parts i) in
-      let One = attribute Inner rows true in
+      let One : List ℕ → PaddedFrame → Data = λ j c. attribute Inner (rows_under table i j) true j c in
       let own = own_kind (length b) b in
       let ds = ordered_items (frames One true (length b) own b) in
-      ap (λ j. each_under (attribute_made Made rows true) true j ds)
+      ap (λ j. each_under (kinded_made table Made i) true j ds)
       (ap own_told (frames_read One true (length b) own b)
-      ∙ own_again (λ j c. ordered (One j c)) (λ j c s. (attribute_read Inner Made again rows true j c s).kind) (length b) own b h)
-      ∙ kinded_read rows (length b) own b h
+      ∙ own_again (λ j c. ordered (One j c)) (λ j c s. (attribute_read Inner Made again (rows_under table i j) true j c s).kind) (length b) own b h)
+      ∙ kinded_read i (length b) own b h
   read_again k (form.Indexed i) b h =
-      let One : List ℕ → Cut → Data = λ j c. indexed c (Inner j (form_of i (part_at parts i)) c.value) in
-      let Each = indexed_made parts Made i in
+      let One : List ℕ → PaddedFrame → Data = λ j c. indexed c (Inner j (form_of i (part_at table i)) c.value) in
+      let Each = indexed_made table Made i in
       ap (each_under Each false k) (frames_read One false (length b) k b)
       ∙ frames_again Each (λ j c. ordered (One j c)) false (λ j c s. refl) (λ j c s. indexed_read j i c s) (length b) k b h
-  read_again k (form.Choice i) b h = choice_read k i b (chosen (choices_of (part_at parts i)) b) h refl
+  read_again k (form.Choice i) b h = choice_read k i b (chosen (choices_of (part_at table i)) b) h refl
   read_again k f b h =
-      ap (λ d. or_raw (raw_of d) (in_form parts Made k f d)) (plain_read parts f b) ∙ level_again parts All Made again k f b h
+      ap (λ d. or_raw (raw_of d) (in_form table Made k f d)) (plain_read table f b) ∙ level_again table All Made again k f b h
 
-pub shown_read : (parts : Table) (n : ℕ) (k : List ℕ) (f : Form) (b : List ℕ) → IsBytes b → make parts n k f (ordered (show parts n k f b)) ≡ Some b
-shown_read parts zero k f b h = raw_of-raw b h
-shown_read parts (suc n) k f b h = read_again parts (show parts n) (make parts n) (λ j g x y. shown_read parts n j g x y) k f b h
+pub shown_read : (table : Table) (n : ℕ) (k : List ℕ) (f : Form) (b : List ℕ) → IsBytes b → make table n k f (ordered (show table n k f b)) ≡ Some b
+shown_read table zero k f b h = raw_of-raw b h
+shown_read table (suc n) k f b h = read_again table (show table n) (make table n) (λ j g x y. shown_read table n j g x y) k f b h

@@ -13,12 +13,10 @@ use Rattle.nla_frames.proofs.Bytes.{IsBytes-take, IsBytes-drop, IsBytes-nil}
 use Rattle.serde_json.specs.Data.{Data, object, Members, no_members, member}
 use Rattle.serde_json.specs.Find.{get_member}
 use Rattle.tc_forms.specs.declared.form.Form.{Form}
-use Rattle.tc_forms.specs.Plain.{Field}
-use Rattle.tc_forms.specs.Plain.{Table}
-use Rattle.tc_forms.specs.Tables.{is_pad}
-use Rattle.tc_forms.specs.Leaves.{raw_of, hex, hex_made}
-use Rattle.tc_forms.specs.Shown.{is_free, are_apart, names_apart, field_width, field_of, after_field, zeros, rest_member, field_member, members, all_zero, is_blank}
-use Rattle.tc_forms.specs.Made.{rest_made, field_made, fields_made}
+use Rattle.tc_forms.specs.Raw.{hex, hex_made, raw_of}
+use Rattle.tc_forms.specs.Records.{after_field, all_zero, are_apart, field_made, field_member, field_of, fields_made, is_blank, is_free, is_pad, members, names_apart, rest_made, rest_member, zeros}
+use Rattle.tc_forms.specs.Tables.{Field, Table}
+use Rattle.tc_forms.specs.Widths.{field_width}
 use Rattle.tc_forms.proofs.Leaves.{all_zeros, same_bytes, hex_made-hex}
 use Rattle.tc_forms.proofs.Frames.{joined_made}
 
@@ -73,31 +71,31 @@ blank w b e =
 abbrev rest : List ℕ
 rest = codes "rest"
 
-module _ (parts : Table) (Inner : Form → List ℕ → Data) where
+module _ (table : Table) (Inner : Form → List ℕ → Data) where
   -- past a field of another name
   pub past_field : (name : List ℕ) (f : Field) (chunk : List ℕ) (after : Members) → bytes_eq name f.name ≡ false
-      → get_member name (field_member parts Inner f chunk after) ≡ get_member name after
+      → get_member name (field_member table Inner f chunk after) ≡ get_member name after
   past_field name f chunk after e =
-      cond_both (is_pad f.form && is_blank (field_width parts f) chunk) after (member f.name (Inner f.form chunk) after)
+      cond_both (is_pad f.form && is_blank (field_width table f) chunk) after (member f.name (Inner f.form chunk) after)
       (λ ms. get_member name ms ≡ get_member name after) (λ h. refl) (λ h. passes name f.name (Inner f.form chunk) after e)
 
   -- no field has this name
   pub absent : (name : List ℕ) (fs : List Field) (b : List ℕ) → is_free name fs ≡ true → bytes_eq name rest ≡ false
-      → get_member name (members parts Inner fs b) ≡ None
+      → get_member name (members table Inner fs b) ≡ None
   absent name [] [] free e = refl
   absent name [] (x ∷ b) free e = passes name rest (hex (x ∷ b)) no_members e
   absent name (f ∷ fs) b free e =
       let both = and_parts (not (bytes_eq name f.name)) (is_free name fs) free in
-      past_field name f (field_of (field_width parts f) b) (members parts Inner fs (after_field (field_width parts f) b)) (not-false _ both.0)
-      ∙ absent name fs (after_field (field_width parts f) b) both.1 e
+      past_field name f (field_of (field_width table f) b) (members table Inner fs (after_field (field_width table f) b)) (not-false _ both.0)
+      ∙ absent name fs (after_field (field_width table f) b) both.1 e
 
-module _ (parts : Table) (Inner : Form → List ℕ → Data) (Made : Form → Data → Option (List ℕ))
+module _ (table : Table) (Inner : Form → List ℕ → Data) (Made : Form → Data → Option (List ℕ))
     (again : (f : Form) (b : List ℕ) → IsBytes b → Made f (Inner f b) ≡ Some b) where
   -- among these members, each field from here on is found, and what is left
   abbrev Finds : Members → List Field → List ℕ → Type 0
   Finds ms fs b =
-      ((name : List ℕ) → is_free name fs ≡ false → get_member name ms ≡ get_member name (members parts Inner fs b))
-      × (get_member rest ms ≡ get_member rest (members parts Inner fs b))
+      ((name : List ℕ) → is_free name fs ≡ false → get_member name ms ≡ get_member name (members table Inner fs b))
+      × (get_member rest ms ≡ get_member rest (members table Inner fs b))
 
   free_later : (name : List ℕ) (f : Field) (fs : List Field) → is_free name fs ≡ false → is_free name (f ∷ fs) ≡ false
   free_later name f fs e = elim (not (bytes_eq name f.name)) as (λ t. (t && is_free name fs) ≡ false) [ true ↦ e | false ↦ refl ]
@@ -118,46 +116,46 @@ module _ (parts : Table) (Inner : Form → List ℕ → Data) (Made : Form → D
   rest_again (x ∷ b) h = hex_made-hex (x ∷ b) h
 
   pub fields_again : (fs : List Field) (b : List ℕ) (ms : Members) → IsBytes b → Finds ms fs b → are_apart fs ≡ true → is_free rest fs ≡ true
-      → fields_made parts Made fs (object ms) ≡ Some b
+      → fields_made table Made fs (object ms) ≡ Some b
   fields_again [] b ms h finds apart_all free = ap rest_made finds.1 ∙ rest_again b h
   fields_again (f ∷ fs) b ms h finds apart_all free =
-      let w = field_width parts f in
+      let w = field_width table f in
       let chunk = field_of w b in
       let later = after_field w b in
-      let after = members parts Inner fs later in
+      let after = members table Inner fs later in
       let own = and_parts (is_free f.name fs) (are_apart fs) apart_all in
       let unlike_rest = and_parts (not (bytes_eq rest f.name)) (is_free rest fs) free in
       let finds_later : Finds ms fs later = (
-        λ name e. finds.0 name (free_later name f fs e) ∙ past_field parts Inner name f chunk after (apart name f.name fs e own.0),
-        finds.1 ∙ past_field parts Inner rest f chunk after (not-false _ unlike_rest.0),
+        λ name e. finds.0 name (free_later name f fs e) ∙ past_field table Inner name f chunk after (apart name f.name fs e own.0),
+        finds.1 ∙ past_field table Inner rest f chunk after (not-false _ unlike_rest.0),
       ) in
-      joined_made (field_made parts Made f (get_member f.name ms)) (fields_made parts Made fs (object ms)) chunk later b
-      (ap (field_made parts Made f) (finds.0 f.name (free_here f fs)) ∙ field_again f fs chunk later (IsBytes-field_of w b h) own.0 (swapped rest f.name (not-false _ unlike_rest.0)))
+      joined_made (field_made table Made f (get_member f.name ms)) (fields_made table Made fs (object ms)) chunk later b
+      (ap (field_made table Made f) (finds.0 f.name (free_here f fs)) ∙ field_again f fs chunk later (IsBytes-field_of w b h) own.0 (swapped rest f.name (not-false _ unlike_rest.0)))
       (fields_again fs later ms (IsBytes-after_field w b h) finds_later own.1 unlike_rest.1) (whole_again w b)
     where
       field_again : (f : Field) (fs : List Field) (chunk later : List ℕ) → IsBytes chunk → is_free f.name fs ≡ true → bytes_eq f.name rest ≡ false
-          → field_made parts Made f (get_member f.name (field_member parts Inner f chunk (members parts Inner fs later))) ≡ Some chunk
+          → field_made table Made f (get_member f.name (field_member table Inner f chunk (members table Inner fs later))) ≡ Some chunk
       field_again f fs chunk later h own unlike =
-          let pads = zeros (field_width parts f) in
-          let after = members parts Inner fs later in
-          cond_both (is_pad f.form && is_blank (field_width parts f) chunk) after (member f.name (Inner f.form chunk) after)
-          (λ ms. field_made parts Made f (get_member f.name ms) ≡ Some chunk)
+          let pads = zeros (field_width table f) in
+          let after = members table Inner fs later in
+          cond_both (is_pad f.form && is_blank (field_width table f) chunk) after (member f.name (Inner f.form chunk) after)
+          (λ ms. field_made table Made f (get_member f.name ms) ≡ Some chunk)
           (λ e.
-          let both = and_parts (is_pad f.form) (is_blank (field_width parts f) chunk) e in
-          ap (field_made parts Made f) (absent parts Inner f.name fs later own unlike) ∙ ap (λ t. cond t (Some pads) None) both.0
-          ∙ ap Some (sym (blank (field_width parts f) chunk both.1)))
-          (λ e. ap (field_made parts Made f) (here f.name (Inner f.form chunk) after) ∙ again f.form chunk h)
+          let both = and_parts (is_pad f.form) (is_blank (field_width table f) chunk) e in
+          ap (field_made table Made f) (absent table Inner f.name fs later own unlike) ∙ ap (λ t. cond t (Some pads) None) both.0
+          ∙ ap Some (sym (blank (field_width table f) chunk both.1)))
+          (λ e. ap (field_made table Made f) (here f.name (Inner f.form chunk) after) ∙ again f.form chunk h)
 
   -- a record, of any fields
-  pub record_again : (fs : List Field) (b : List ℕ) → IsBytes b → names_apart fs ≡ true → fields_made parts Made fs (object (members parts Inner fs b)) ≡ Some b
+  pub record_again : (fs : List Field) (b : List ℕ) → IsBytes b → names_apart fs ≡ true → fields_made table Made fs (object (members table Inner fs b)) ≡ Some b
   record_again fs b h e =
       let all = and_parts (is_free (codes "raw") fs && is_free rest fs) (are_apart fs) e in
       let names = and_parts (is_free (codes "raw") fs) (is_free rest fs) all.0 in
-      fields_again fs b (members parts Inner fs b) h (λ name e. refl, refl) all.1 names.1
+      fields_again fs b (members table Inner fs b) h (λ name e. refl, refl) all.1 names.1
 
   -- it isn't taken for what is raw
-  pub record_not_raw : (fs : List Field) (b : List ℕ) → names_apart fs ≡ true → raw_of (object (members parts Inner fs b)) ≡ None
+  pub record_not_raw : (fs : List Field) (b : List ℕ) → names_apart fs ≡ true → raw_of (object (members table Inner fs b)) ≡ None
   record_not_raw fs b e =
       let all = and_parts (is_free (codes "raw") fs && is_free rest fs) (are_apart fs) e in
       let names = and_parts (is_free (codes "raw") fs) (is_free rest fs) all.0 in
-      ap (option_and_then hex_made) (absent parts Inner (codes "raw") fs b names.0 refl)
+      ap (option_and_then hex_made) (absent table Inner (codes "raw") fs b names.0 refl)

@@ -9,20 +9,24 @@ use Rattle.tc_texts.specs.Addresses.{mac_text}
 use Rattle.tc_forms.specs.declared.form.Form.TheVariants as form
 use Rattle.std.proofs.Common.{get_or, add-one}
 use Rattle.std.proofs.lemmas.List.{drop_all}
-use Rattle.tc_forms.specs.Cuts.{Cut, front, after_first, kind_in, own_or, own_kind}
+use Rattle.tc_forms.specs.Attributes.{attribute, first_or_tail, frames, layered, tail_shown}
+use Rattle.tc_forms.specs.Frames.{PaddedFrame, after_first, front}
+use Rattle.tc_forms.specs.Kinds.{kind_in, own_kind, own_or}
+use Rattle.tc_forms.specs.Raw.{raw}
+use Rattle.tc_forms.specs.Records.{after_field, elements, field_member, field_of, members, rest_member}
+use Rattle.tc_forms.specs.Places.{layer_of, part_at, rows_under}
+use Rattle.tc_forms.specs.Sent.{Sent, events, items_events, members_events}
+use Rattle.tc_forms.specs.Shown.{show, shown}
+use Rattle.tc_forms.specs.Tables.{Row, Table, field_view, fields_view, no_table}
+use Rattle.tc_forms.specs.Values.{plain_shown}
+use Rattle.tc_forms.specs.Widths.{field_width}
 use Rattle.std.specs.Prelude.{Bool, Option, option_map, unwrap_or}
 use Rattle.tc_forms.specs.declared.form.Form.{Form}
-use Rattle.tc_forms.specs.Plain.{Field}
-use Rattle.tc_forms.specs.Plain.{Row}
-use Rattle.tc_forms.specs.Plain.{Table, no_parts, field_view, fields_view}
 use Rattle.tc_forms.specs.declared.form.Field.{Field as CodeField}
-use Rattle.tc_forms.specs.Leaves.{raw}
-use Rattle.tc_forms.specs.Shown.{plain_shown, tail_shown, first_or_tail, frames, elements, field_width, field_of, after_field, field_member, members, rest_member, layered, attribute, shown, show}
-use Rattle.tc_forms.specs.Sent.{Sent, events, items_events, members_events}
 use Rattle.serde.specs.Event.{field_key}
 use Rattle.serde.specs.declared.name.Case.TheVariants.{AsIs}
 use Rattle.serde_json.specs.Data.{no_members, member}
-use Rattle.serde_json.specs.Data.{Data, Items, array, Members, no_members, member, string}
+use Rattle.serde_json.specs.Data.{Data, Items, item, array, Members, no_members, member, string}
 use Rattle.serde.specs.Event.{seq_begins, seq_ends, field_key}
 use Rattle.serde.specs.declared.name.Case.TheVariants.{AsIs}
 use Rattle.std.proofs.lemmas.Bool.{eqb-true, true≢false}
@@ -47,16 +51,16 @@ pub sent_none : (old : Log) → Sent [] old old
 sent_none None = tt
 sent_none (Some before) = ap Some (sym (append-nil before))
 
-pub mac_sent : (b t : List ℕ) (old new : Log) → length b ≡ 6 → t ≡ mac_text b → Logs old new (text t) → Sent (events (plain_shown no_parts form.Mac b)) old new
+pub mac_sent : (b t : List ℕ) (old new : Log) → length b ≡ 6 → t ≡ mac_text b → Logs old new (text t) → Sent (events (plain_shown no_table form.Mac b)) old new
 mac_sent b t old new long same h =
-    let shown : plain_shown no_parts form.Mac b ≡ string (mac_text b) = cond-true (length b == 6) (string (mac_text b)) (raw b) (eq-eqb (length b) 6 long) in
+    let shown : plain_shown no_table form.Mac b ≡ string (mac_text b) = cond-true (length b == 6) (string (mac_text b)) (raw b) (eq-eqb (length b) 6 long) in
     subst (λ d. Sent (events d) old new) (sym shown) (sent_one (text (mac_text b)) old new (subst (λ x. Logs old new (text x)) same h))
 
 -- ---- frames
 
-module _ (One : List ℕ → Cut → Data) (has : Bool) (len i : ℕ) (start_kind kind b left : List ℕ) (start mid new : Log)
+module _ (One : List ℕ → PaddedFrame → Data) (has : Bool) (len i : ℕ) (start_kind kind b left : List ℕ) (start mid new : Log)
     (before : (end : Log) → Sent (items_events (frames One has (len - i) kind left)) mid end → Sent (items_events (frames One has len start_kind b)) start end) where
-  pub frames_more : (next after : List ℕ) (c : Cut) → i < len → Some c ≡ front left → after ≡ after_first left → next ≡ unwrap_or (kind_in has c) kind
+  pub frames_more : (next after : List ℕ) (c : PaddedFrame) → i < len → Some c ≡ front left → after ≡ after_first left → next ≡ unwrap_or (kind_in has c) kind
       → Sent (events (One next c)) mid new
       → (end : Log) → Sent (items_events (frames One has (len - (i + 1)) next after)) new end → Sent (items_events (frames One has len start_kind b)) start end
   frames_more next after c lt found is_after is_next sent end later =
@@ -83,72 +87,72 @@ module _ (One : List ℕ → Cut → Data) (has : Bool) (len i : ℕ) (start_kin
 
 -- ---- elements
 
-module _ (parts : Table) (Inner : Form → List ℕ → Data) (f : Form) (w len i : ℕ) (b left : List ℕ) (start mid new : Log)
-    (before : (end : Log) → Sent (items_events (elements parts Inner (len - i) f w left)) mid end → Sent (items_events (elements parts Inner len f w b)) start end) where
+module _ (table : Table) (Inner : Form → List ℕ → Data) (f : Form) (w len i : ℕ) (b left : List ℕ) (start mid new : Log)
+    (before : (end : Log) → Sent (items_events (elements Inner (len - i) f w left)) mid end → Sent (items_events (elements Inner len f w b)) start end) where
   elements_step : (n : ℕ) (some : List ℕ) (end : Log) → (length some ≡ 0 → ⊥) → Sent (events (Inner f (take w some))) mid new
-      → Sent (items_events (elements parts Inner n f w (drop w some))) new end → Sent (items_events (elements parts Inner (suc n) f w some)) mid end
+      → Sent (items_events (elements Inner n f w (drop w some))) new end → Sent (items_events (elements Inner (suc n) f w some)) mid end
   elements_step n [] end full sent later = absurd (full refl)
   elements_step n (x ∷ some) end full sent later =
-      sent_then (events (Inner f (take w (x ∷ some)))) (items_events (elements parts Inner n f w (drop w (x ∷ some)))) mid new end sent later
+      sent_then (events (Inner f (take w (x ∷ some)))) (items_events (elements Inner n f w (drop w (x ∷ some)))) mid new end sent later
 
   pub elements_more : (element after : List ℕ) → i < len → (length left ≡ 0 → ⊥) → element ≡ take w left → after ≡ drop w left
       → Sent (events (Inner f element)) mid new
-      → (end : Log) → Sent (items_events (elements parts Inner (len - (i + 1)) f w after)) new end → Sent (items_events (elements parts Inner len f w b)) start end
+      → (end : Log) → Sent (items_events (elements Inner (len - (i + 1)) f w after)) new end → Sent (items_events (elements Inner len f w b)) start end
   elements_more element after lt full is is_after sent end later =
       let one_less : len - i ≡ suc (len - (i + 1)) = omega (arith, lt) in
-      before end (subst (λ n. Sent (items_events (elements parts Inner n f w left)) mid end) (sym one_less)
+      before end (subst (λ n. Sent (items_events (elements Inner n f w left)) mid end) (sym one_less)
       (elements_step (len - (i + 1)) left end full (subst (λ e. Sent (events (Inner f e)) mid new) is sent)
-      (subst (λ a. Sent (items_events (elements parts Inner (len - (i + 1)) f w a)) new end) is_after later)))
+      (subst (λ a. Sent (items_events (elements Inner (len - (i + 1)) f w a)) new end) is_after later)))
 
-  nothing : (n : ℕ) (some : List ℕ) → length some ≡ 0 → Sent (items_events (elements parts Inner n f w some)) mid mid
+  nothing : (n : ℕ) (some : List ℕ) → length some ≡ 0 → Sent (items_events (elements Inner n f w some)) mid mid
   nothing n [] e = sent_none mid
   nothing n (x ∷ some) e = absurd (omega (arith, e))
 
-  pub elements_end : length left ≡ 0 → Sent (items_events (elements parts Inner len f w b)) start mid
+  pub elements_end : length left ≡ 0 → Sent (items_events (elements Inner len f w b)) start mid
   elements_end e = before mid (nothing (len - i) left e)
 
-  last : (some : List ℕ) → (length some ≡ 0 → ⊥) → Sent (events (Inner f some)) mid new → Sent (items_events (elements parts Inner zero f w some)) mid new
+  last : (some : List ℕ) → (length some ≡ 0 → ⊥) → Sent (events (Inner f some)) mid new → Sent (items_events (elements Inner zero f w some)) mid new
   last [] full sent = absurd (full refl)
   last (x ∷ some) full sent = subst (λ es. Sent es mid new) (sym (append-nil (events (Inner f (x ∷ some))))) sent
 
-  pub elements_over : len ≤ i → (length left ≡ 0 → ⊥) → Sent (events (Inner f left)) mid new → Sent (items_events (elements parts Inner len f w b)) start new
+  pub elements_over : len ≤ i → (length left ≡ 0 → ⊥) → Sent (events (Inner f left)) mid new → Sent (items_events (elements Inner len f w b)) start new
   elements_over over full sent =
       let none : len - i ≡ 0 = omega (arith, over) in
-      before new (subst (λ n. Sent (items_events (elements parts Inner n f w left)) mid new) (sym none) (last left full sent))
+      before new (subst (λ n. Sent (items_events (elements Inner n f w left)) mid new) (sym none) (last left full sent))
 
 -- ---- fields
 
-module _ (parts : Table) (Inner : Form → List ℕ → Data) (fs : List CodeField) (i : ℕ) (b left : List ℕ) (start mid new : Log)
-    (before : (end : Log) → Sent (members_events (members parts Inner (fields_view (drop i fs)) left)) mid end → Sent (members_events (members parts Inner (fields_view fs) b)) start end) where
-  pub fields_more : (d : CodeField) (chunk after : List ℕ) → i < length fs → chunk ≡ field_of (field_width parts (field_view (get_or fs i d))) left
-      → after ≡ after_field (field_width parts (field_view (get_or fs i d))) left
-      → ((rest : Members) (end : Log) → Sent (members_events rest) new end → Sent (members_events (field_member parts Inner (field_view (get_or fs i d)) chunk rest)) mid end)
-      → (end : Log) → Sent (members_events (members parts Inner (fields_view (drop (i + 1) fs)) after)) new end → Sent (members_events (members parts Inner (fields_view fs) b)) start end
+module _ (table : Table) (Inner : Form → List ℕ → Data) (fs : List CodeField) (i : ℕ) (b left : List ℕ) (start mid new : Log)
+    (before : (end : Log) → Sent (members_events (members table Inner (fields_view (drop i fs)) left)) mid end → Sent (members_events (members table Inner (fields_view fs) b)) start end) where
+  pub fields_more : (d : CodeField) (chunk after : List ℕ) → i < length fs → chunk ≡ field_of (field_width table (field_view (get_or fs i d))) left
+      → after ≡ after_field (field_width table (field_view (get_or fs i d))) left
+      → ((rest : Members) (end : Log) → Sent (members_events rest) new end → Sent (members_events (field_member table Inner (field_view (get_or fs i d)) chunk rest)) mid end)
+      → (end : Log) → Sent (members_events (members table Inner (fields_view (drop (i + 1) fs)) after)) new end → Sent (members_events (members table Inner (fields_view fs) b)) start end
   fields_more d chunk after lt is_chunk is_after sent end later =
       let f = field_view (get_or fs i d) in
       let here : drop i fs ≡ get_or fs i d ∷ drop (i + 1) fs = drop_here fs i d lt in
-      let w = field_width parts f in
-      let rest = members parts Inner (fields_view (drop (i + 1) fs)) (after_field w left) in
-      let later_here = subst (λ a. Sent (members_events (members parts Inner (fields_view (drop (i + 1) fs)) a)) new end) is_after later in
-      let one = subst (λ t. Sent (members_events (field_member parts Inner f t rest)) mid end) is_chunk (sent rest end later_here) in
-      before end (subst (λ gs. Sent (members_events (members parts Inner (fields_view gs) left)) mid end) (sym here) one)
+      let w = field_width table f in
+      let rest = members table Inner (fields_view (drop (i + 1) fs)) (after_field w left) in
+      let later_here = subst (λ a. Sent (members_events (members table Inner (fields_view (drop (i + 1) fs)) a)) new end) is_after later in
+      let one = subst (λ t. Sent (members_events (field_member table Inner f t rest)) mid end) is_chunk (sent rest end later_here) in
+      before end (subst (λ gs. Sent (members_events (members table Inner (fields_view gs) left)) mid end) (sym here) one)
 
-  pub fields_end : length fs ≤ i → Sent (members_events (rest_member left)) mid new → Sent (members_events (members parts Inner (fields_view fs) b)) start new
+  pub fields_end : length fs ≤ i → Sent (members_events (rest_member left)) mid new → Sent (members_events (members table Inner (fields_view fs) b)) start new
   fields_end over sent =
-      before new (subst (λ gs. Sent (members_events (members parts Inner (fields_view gs) left)) mid new) (sym (drop_all i fs over)) sent)
+      before new (subst (λ gs. Sent (members_events (members table Inner (fields_view gs) left)) mid new) (sym (drop_all i fs over)) sent)
 
 -- ---- levels
 
-pub show_deeper : (parts : Table) (n m : ℕ) (k : List ℕ) (f : Form) (b : List ℕ) → n ≡ m + 1 → show parts n k f b ≡ shown parts (show parts m) k f b
-show_deeper parts n m k f b e = ap (λ j. show parts j k f b) (e ∙ add-one m)
+pub show_deeper : (table : Table) (n m : ℕ) (k : List ℕ) (f : Form) (b : List ℕ) → n ≡ m + 1 → show table n k f b ≡ shown table (show table m) k f b
+show_deeper table n m k f b e = ap (λ j. show table j k f b) (e ∙ add-one m)
 
-pub show_flat : (parts : Table) (k : List ℕ) (f : Form) (b : List ℕ) → show parts zero k f b ≡ raw b
-show_flat parts k f b = refl
+pub show_flat : (table : Table) (k : List ℕ) (f : Form) (b : List ℕ) → show table zero k f b ≡ raw b
+show_flat table k f b = refl
 
-pub level_sent : (parts : Table) (n m : ℕ) (k : List ℕ) (f shape : Form) (b : List ℕ) (d : Data) (old new : Log) → n ≡ m + 1 → f ≡ shape
-    → shown parts (show parts m) k shape b ≡ d → Sent (events d) old new → Sent (events (show parts n k f b)) old new
-level_sent parts n m k f shape b d old new deeper same is sent =
-    subst (λ x. Sent (events x) old new) (sym (show_deeper parts n m k f b deeper ∙ ap (λ g. shown parts (show parts m) k g b) same ∙ is)) sent
+pub level_sent : (table : Table) (n m : ℕ) (k : List ℕ) (f shape : Form) (b : List ℕ) (d : Data) (old new : Log) → n ≡ m + 1 → f ≡ shape
+    → shown table (show table m) k shape b ≡ d → Sent (events d) old new → Sent (events (show table n k f b)) old new
+level_sent table n m k f shape b d old new deeper same is sent =
+    subst (λ x. Sent (events x) old new) (sym (show_deeper table n m k f b deeper ∙ ap (λ g. shown table (show table m) k g b) same ∙ is)) sent
 
 pub empty_is : (b : List ℕ) → true ≡ (length b == 0) → length b ≡ 0
 empty_is b e = eqb-true (length b) 0 (sym e)
@@ -164,18 +168,18 @@ list_sent ds old first last new h k e =
     (sent_then (items_events ds) (seq_ends ∷ []) first last new k (sent_one seq_ends last new e))
 
 -- a form that holds no other
-pub plain_when : (parts : Table) (Inner : List ℕ → Form → List ℕ → Data) (k : List ℕ) (f : Form) (b : List ℕ) → ((i : ℕ) → f ≡ form.Record i → ⊥) → ((i : ℕ) → f ≡ form.Array i → ⊥)
+pub plain_when : (table : Table) (Inner : List ℕ → Form → List ℕ → Data) (k : List ℕ) (f : Form) (b : List ℕ) → ((i : ℕ) → f ≡ form.Record i → ⊥) → ((i : ℕ) → f ≡ form.Array i → ⊥)
     → ((n i : ℕ) → f ≡ form.Times n i → ⊥) → ((i : ℕ) → f ≡ form.List i → ⊥) → ((i : ℕ) → f ≡ form.InForce i → ⊥) → ((i : ℕ) → f ≡ form.Own i → ⊥)
-    → ((i : ℕ) → f ≡ form.Indexed i → ⊥) → ((i : ℕ) → f ≡ form.Choice i → ⊥) → shown parts Inner k f b ≡ plain_shown parts f b
-plain_when parts Inner k (form.Record i) b r a t l m o x c = absurd (r i refl)
-plain_when parts Inner k (form.Array i) b r a t l m o x c = absurd (a i refl)
-plain_when parts Inner k (form.Times n i) b r a t l m o x c = absurd (t n i refl)
-plain_when parts Inner k (form.List i) b r a t l m o x c = absurd (l i refl)
-plain_when parts Inner k (form.InForce i) b r a t l m o x c = absurd (m i refl)
-plain_when parts Inner k (form.Own i) b r a t l m o x c = absurd (o i refl)
-plain_when parts Inner k (form.Indexed i) b r a t l m o x c = absurd (x i refl)
-plain_when parts Inner k (form.Choice i) b r a t l m o x c = absurd (c i refl)
-plain_when parts Inner k f b r a t l m o x c = refl
+    → ((i : ℕ) → f ≡ form.Indexed i → ⊥) → ((i : ℕ) → f ≡ form.Choice i → ⊥) → shown table Inner k f b ≡ plain_shown table f b
+plain_when table Inner k (form.Record i) b r a t l m o x c = absurd (r i refl)
+plain_when table Inner k (form.Array i) b r a t l m o x c = absurd (a i refl)
+plain_when table Inner k (form.Times n i) b r a t l m o x c = absurd (t n i refl)
+plain_when table Inner k (form.List i) b r a t l m o x c = absurd (l i refl)
+plain_when table Inner k (form.InForce i) b r a t l m o x c = absurd (m i refl)
+plain_when table Inner k (form.Own i) b r a t l m o x c = absurd (o i refl)
+plain_when table Inner k (form.Indexed i) b r a t l m o x c = absurd (x i refl)
+plain_when table Inner k (form.Choice i) b r a t l m o x c = absurd (c i refl)
+plain_when table Inner k f b r a t l m o x c = refl
 
 -- ---- the own kind
 
@@ -187,15 +191,15 @@ module _ (len i : ℕ) (b left : List ℕ) (before : own_kind len b ≡ own_kind
       go zero = refl
       go (suc n) = ap (λ o. own_or o (own_kind n (after_first left))) (sym none)
 
-  own_step : (c : Cut) → i < len → Some c ≡ front left → own_kind len b ≡ own_or (Some c) (own_kind (len - (i + 1)) (after_first left))
+  own_step : (c : PaddedFrame) → i < len → Some c ≡ front left → own_kind len b ≡ own_or (Some c) (own_kind (len - (i + 1)) (after_first left))
   own_step c lt found =
       let one_less : len - i ≡ suc (len - (i + 1)) = omega (arith, lt) in
       before ∙ ap (λ n. own_kind n left) one_less ∙ ap (λ o. own_or o (own_kind (len - (i + 1)) (after_first left))) (sym found)
 
-  pub own_here : (c : Cut) (t : List ℕ) → i < len → Some c ≡ front left → Some t ≡ kind_in true c → t ≡ own_kind len b
+  pub own_here : (c : PaddedFrame) (t : List ℕ) → i < len → Some c ≡ front left → Some t ≡ kind_in true c → t ≡ own_kind len b
   own_here c t lt found told = sym (own_step c lt found ∙ ap (λ o. unwrap_or o (own_kind (len - (i + 1)) (after_first left))) (sym told))
 
-  pub own_later : (c : Cut) (after : List ℕ) → i < len → Some c ≡ front left → None ≡ kind_in true c → after ≡ after_first left
+  pub own_later : (c : PaddedFrame) (after : List ℕ) → i < len → Some c ≡ front left → None ≡ kind_in true c → after ≡ after_first left
       → own_kind len b ≡ own_kind (len - (i + 1)) after
   own_later c after lt found told is_after =
       own_step c lt found ∙ ap (λ o. unwrap_or o (own_kind (len - (i + 1)) (after_first left))) (sym told)
@@ -207,14 +211,14 @@ module _ (len i : ℕ) (b left : List ℕ) (before : own_kind len b ≡ own_kind
 
 -- ---- texts without a NUL
 
-pub bare_sent : (b t : List ℕ) (old new : Log) → t ≡ b → IsUtf8 b → Logs old new (text t) → Sent (events (plain_shown no_parts form.Bare b)) old new
+pub bare_sent : (b t : List ℕ) (old new : Log) → t ≡ b → IsUtf8 b → Logs old new (text t) → Sent (events (plain_shown no_table form.Bare b)) old new
 bare_sent b t old new same utf8 h =
-    let shown : plain_shown no_parts form.Bare b ≡ string b = cond-true (is_utf8 b) (string b) (raw b) (is_utf8-from_IsUtf8 b utf8) in
+    let shown : plain_shown no_table form.Bare b ≡ string b = cond-true (is_utf8 b) (string b) (raw b) (is_utf8-from_IsUtf8 b utf8) in
     subst (λ d. Sent (events d) old new) (sym shown) (sent_one (text b) old new (subst (λ x. Logs old new (text x)) same h))
 
-pub bare_raw : (b : List ℕ) (old new : Log) → (IsUtf8 b → ⊥) → Sent (events (raw b)) old new → Sent (events (plain_shown no_parts form.Bare b)) old new
+pub bare_raw : (b : List ℕ) (old new : Log) → (IsUtf8 b → ⊥) → Sent (events (raw b)) old new → Sent (events (plain_shown no_table form.Bare b)) old new
 bare_raw b old new not h =
-    let shown : plain_shown no_parts form.Bare b ≡ raw b =
+    let shown : plain_shown no_table form.Bare b ≡ raw b =
     cond-false (is_utf8 b) (string b) (raw b) (false_from_ne_true (is_utf8 b) (λ e. not (IsUtf8-from_is_utf8 b e))) in
     subst (λ d. Sent (events d) old new) (sym shown) h
 
@@ -230,9 +234,23 @@ key_sent name d old mid new h e =
     sent_then (field_key name AsIs ∷ []) (events d ++ []) old mid new (sent_one (field_key name AsIs) old mid h)
     (subst (λ es. Sent es mid new) (sym (append-nil (events d))) e)
 
-pub attributes_sent : (Inner : List ℕ → Form → List ℕ → Data) (layer layer2 : List ℕ) (rows rows2 : List Row) (n : ℕ) (k b : List ℕ) (old new : Log) → layer ≡ layer2 → rows ≡ rows2
+-- where no kind is set, frames that are shown alike under the one kind
+frames_same : (One Two : List ℕ → PaddedFrame → Data) (k : List ℕ) → ((c : PaddedFrame) → One k c ≡ Two k c) → (n : ℕ) (b : List ℕ)
+    → frames One false n k b ≡ frames Two false n k b
+frames_same One Two k same zero b = refl
+frames_same One Two k same (suc n) b = go (front b) (frames_same One Two k same n (after_first b))
+  where
+    go : (o : Option PaddedFrame) → frames One false n k (after_first b) ≡ frames Two false n k (after_first b)
+        → first_or_tail One false k b (λ j. frames One false n j (after_first b)) o ≡ first_or_tail Two false k b (λ j. frames Two false n j (after_first b)) o
+    go None later = refl
+    go (Some c) later = ap (λ d. item d (frames One false n k (after_first b))) (same c) ∙ ap (item (Two k c)) later
+
+pub attributes_sent : (table : Table) (Inner : List ℕ → Form → List ℕ → Data) (i : ℕ) (layer : List ℕ) (rows : List Row) (n : ℕ) (k b : List ℕ) (old new : Log)
+    → layer ≡ layer_of (part_at table i) → rows ≡ rows_under table i k
     → Sent (items_events (frames (λ j x. layered layer (attribute Inner rows false j x)) false n k b)) old new
-    → Sent (items_events (frames (λ j x. layered layer2 (attribute Inner rows2 false j x)) false n k b)) old new
-attributes_sent Inner layer layer2 rows rows2 n k b old new el er h =
-    subst (λ r. Sent (items_events (frames (λ j x. layered layer2 (attribute Inner r false j x)) false n k b)) old new) er
-    (subst (λ l. Sent (items_events (frames (λ j x. layered l (attribute Inner rows false j x)) false n k b)) old new) el h)
+    → Sent (items_events (frames (λ j x. layered (layer_of (part_at table i)) (attribute Inner (rows_under table i j) false j x)) false n k b)) old new
+attributes_sent table Inner i layer rows n k b old new el er h =
+    let own = layer_of (part_at table i) in
+    subst (λ ds. Sent (items_events ds) old new)
+    (frames_same (λ j x. layered layer (attribute Inner rows false j x)) (λ j x. layered own (attribute Inner (rows_under table i j) false j x)) k
+    (λ c. ap (λ r. layered layer (attribute Inner r false k c)) er ∙ ap (λ l. layered l (attribute Inner (rows_under table i k) false k c)) el) n b) h

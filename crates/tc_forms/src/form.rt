@@ -95,14 +95,21 @@ pub struct Field<'a> {
 /// A row of a table of attributes.
 #[derive(Clone, Copy)]
 pub struct Row<'a> {
-    /// The kind that it is of; empty: of any.
-    pub kind: &'a str,
     /// `nla_type`, with its flags.
     pub word: u16,
     /// The name.
     pub name: &'a str,
     /// The form of the payload.
     pub form: Form,
+}
+
+/// Where the rows of a kind are.
+#[derive(Clone, Copy)]
+pub struct KindRows<'a> {
+    /// The kind.
+    pub kind: &'a str,
+    /// The place of its rows.
+    pub rows: usize,
 }
 
 /// What bytes of this length that begin so are.
@@ -129,6 +136,9 @@ pub enum Part<'a> {
     Fields(&'a [Field<'a>]),
     /// The rows of a list of attributes, each of which is shown in an object with this member, if it isn't empty.
     Rows(&'a str, &'a [Row<'a>]),
+    /// The rows of a list of attributes whose rows depend on the kind: those of every kind, those of kinds without rows of their own,
+    /// and those of each kind, each by their place. Rows of the kind come before those of every kind. Their layers don't count.
+    Kinds(usize, usize, &'a [KindRows<'a>]),
     /// Choices.
     Choices(&'a [Choice<'a>]),
 }

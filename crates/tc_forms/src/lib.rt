@@ -10,7 +10,7 @@ mod show;
 mod table;
 mod tables;
 
-pub use form::{Choice, Field, Form, Name, Number, Part, Row};
+pub use form::{Choice, Field, Form, KindRows, Name, Number, Part, Row};
 pub use error::{MakeError, Wanted};
 pub use laws::{shown_is_injective, shown_is_made};
 pub use make::made;

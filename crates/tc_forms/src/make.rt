@@ -3,22 +3,30 @@
 ghost use Rattle.std.specs.Prelude.{◌≡◌, ◌≤◌, [], ◌∷◌, ◌++◌, Some, None, true, false, length, codes, unwrap_or, option_map, option_and_then, IfOk};
 ghost use Rattle.serde_json.specs.Find.{get, as_str, as_number, as_array};
 ghost use Rattle.serde_json.specs.View.{view, items_view};
-ghost use Rattle.tc_forms.specs.Tables.{number_of};
-ghost use Rattle.tc_forms.specs.Leaves.{hex_of, hex_made, raw_of, mac_of, ipv4_of, ipv6_of, bits, bytes_of, number_made};
-ghost use Rattle.tc_forms.specs.Made.{make, made_of, plain_made, named_made, rest_made, field_made, fields_made, each_made, each_under, layered_made, attribute_made, indexed_made, by_kind_made, by_row_made, row_made, choice_made, by_choice_made, other_made, framed, word_made, word_or, pad_or, held, own_told, kind_told, unlayered, or_raw};
-ghost use Rattle.tc_forms.specs.Cuts.{cut_bytes};
-ghost use Rattle.tc_forms.specs.Tables.{counts, is_choice};
 ghost use Rattle.tc_forms.specs.Appended.{Appended, Found};
+ghost use Rattle.tc_forms.specs.Places.{rows_under};
+ghost use Rattle.tc_forms.specs.RowLists.{rows_in};
+ghost use Rattle.tc_forms.specs.AttributesMade.{kinded_made, layered_by, attribute_made, by_kind_made, by_row_made, each_under, framed, indexed_made, layered_made, other_made, pad_or, row_made, unlayered, word_made, word_or};
+ghost use Rattle.tc_forms.specs.Choices.{by_choice_made, choice_made, is_choice};
+ghost use Rattle.tc_forms.specs.Frames.{frame_bytes};
+ghost use Rattle.tc_forms.specs.Kinds.{kind_value, kind_told, own_told};
+ghost use Rattle.tc_forms.specs.Made.{made_of, make};
+ghost use Rattle.tc_forms.specs.Numbers.{bits, bytes_of, named_made, number_made, number_of};
+ghost use Rattle.tc_forms.specs.Raw.{hex_made, hex_of, or_raw, raw_of};
+ghost use Rattle.tc_forms.specs.Records.{each_made, field_made, fields_made, rest_made};
+ghost use Rattle.tc_forms.specs.Rows.{counts};
+ghost use Rattle.tc_forms.specs.Search.{held};
+ghost use Rattle.tc_forms.specs.Tables.{choice_view, choices_view, field_view, fields_view, names_view, no_table, row_view, rows_view};
+ghost use Rattle.tc_forms.specs.Values.{ipv4_of, ipv6_of, mac_of, plain_made};
 
 use crate::error::{MakeError, Wanted};
-ghost use Rattle.tc_forms.specs.Plain.{no_parts, field_view, row_view, choice_view, names_view, fields_view, rows_view, choices_view};
 
 use crate::form::{Choice, Field, Form, Name, Number, Row};
 use crate::tables::Tables;
 use crate::maker::{Maker, Step};
 use crate::show::{half, is_big, is_signed};
 use crate::table::{
-    DEEPEST, choices_at, counts, fields_at, fixed_width, form_at, is_choice, is_pad, layer_at, names_at, number_of, rows_at,
+    DEEPEST, RowList, choices_at, counts, fields_at, fixed_width, form_at, is_choice, is_pad, layer_at, names_at, number_of, rows_under,
 };
 use nla_frames::laws::in_hand::bytes_in_hand;
 use serde_json::Value;
@@ -26,18 +34,18 @@ use std::alloc::{AllocError, Global};
 use std::mem;
 use tc_texts::{handle_from_tc_text, read_hex, read_ipv4, read_ipv6, read_mac};
 
-/// The bytes that JSON stands for in a form, by the parts of a table.
+/// The bytes that JSON stands for in a form, by a table.
 #[tactic(auto, unfolding(crate::specs::Made::made_of))]
 pub fn made<T: Tables>(
     alloc: Global,
-    parts: T,
+    table: T,
     form: Form,
     json: &Value,
 ) -> Result<Vec<u8>, MakeError>
-    ensures { Found (λ v. v.items) (made_of (T.parts_of parts) form (view json.now)) result }
+    ensures { Found (λ v. v.items) (made_of (T.parts_of table) form (view json.now)) result }
 {
     let mut maker = Maker::new(alloc);
-    match make_form(&mut maker, parts, DEEPEST, "", form, json) {
+    match make_form(&mut maker, table, DEEPEST, "", form, json) {
         Ok(()) => Ok(maker.bytes),
         Err(e) => Err(e),
     }
@@ -47,13 +55,13 @@ pub fn made<T: Tables>(
 #[cycle(make)]
 fn make_form<'v, T: Tables>(
     maker: &mut Maker<'v>,
-    parts: T,
+    table: T,
     depth: u8,
     kind: &'v str,
     form: Form,
     value: &'v Value,
 ) -> Result<(), MakeError>
-    ensures { Appended (make (T.parts_of parts) depth kind.now form (view value.now)) maker.old.bytes.items maker.new.bytes.items result }
+    ensures { Appended (make (T.parts_of table) depth kind.now form (view value.now)) maker.old.bytes.items maker.new.bytes.items result }
 {
     let raw = match raw_of(maker.alloc, value) {
         Ok(raw) => raw,
@@ -67,15 +75,15 @@ fn make_form<'v, T: Tables>(
         None => return Err(maker.wrong(Wanted::Hex)),
     };
     match form {
-        Form::Record(place) => make_fields(maker, parts, inner, kind, fields_at(parts, place), value),
-        Form::Array(place) => make_elements(maker, parts, inner, kind, form_at(parts, place), value),
-        Form::Times(_, place) => make_elements(maker, parts, inner, kind, form_at(parts, place), value),
-        Form::List(place) => make_list(maker, parts, inner, kind, place, value),
-        Form::InForce(place) => make_in_force(maker, parts, inner, kind, rows_at(parts, place), value),
-        Form::Own(place) => make_own(maker, parts, inner, rows_at(parts, place), value),
-        Form::Indexed(place) => make_indexed(maker, parts, inner, kind, place, value),
-        Form::Choice(place) => make_choice(maker, parts, inner, kind, choices_at(parts, place), value),
-        _ => make_plain(maker, parts, form, value),
+        Form::Record(place) => make_fields(maker, table, inner, kind, fields_at(table, place), value),
+        Form::Array(place) => make_elements(maker, table, inner, kind, form_at(table, place), value),
+        Form::Times(_, place) => make_elements(maker, table, inner, kind, form_at(table, place), value),
+        Form::List(place) => make_list(maker, table, inner, kind, place, value),
+        Form::InForce(place) => make_in_force(maker, table, inner, kind, place, value),
+        Form::Own(place) => make_own(maker, table, inner, place, value),
+        Form::Indexed(place) => make_indexed(maker, table, inner, kind, place, value),
+        Form::Choice(place) => make_choice(maker, table, inner, kind, choices_at(table, place), value),
+        _ => make_plain(maker, table, form, value),
     }
 }
 
@@ -115,15 +123,15 @@ fn bytes_of_hex(alloc: Global, text: &str) -> Result<Option<Vec<u8>>, AllocError
 
 fn make_plain<'v, T: Tables>(
     maker: &mut Maker<'v>,
-    parts: T,
+    table: T,
     form: Form,
     value: &'v Value,
 ) -> Result<(), MakeError>
-    ensures { Appended (plain_made (T.parts_of parts) form (view value.now)) maker.old.bytes.items maker.new.bytes.items result }
+    ensures { Appended (plain_made (T.parts_of table) form (view value.now)) maker.old.bytes.items maker.new.bytes.items result }
 {
     match form {
         Form::Number(number) => make_number(maker, number, value),
-        Form::Named(number, place) => make_named(maker, names_at(parts, place), number, value),
+        Form::Named(number, place) => make_named(maker, names_at(table, place), number, value),
         Form::Handle => make_handle(maker, value),
         Form::Flag => make_flag(maker, value),
         Form::Truth => make_truth(maker, value),
@@ -140,7 +148,7 @@ fn make_plain<'v, T: Tables>(
 }
 
 fn make_handle<'v>(maker: &mut Maker<'v>, value: &'v Value) -> Result<(), MakeError>
-    ensures { Appended (plain_made no_parts Form.Handle (view value.now)) maker.old.bytes.items maker.new.bytes.items result }
+    ensures { Appended (plain_made no_table Form.Handle (view value.now)) maker.old.bytes.items maker.new.bytes.items result }
 {
     let text = match value.as_str() {
         Some(text) => text,
@@ -153,7 +161,7 @@ fn make_handle<'v>(maker: &mut Maker<'v>, value: &'v Value) -> Result<(), MakeEr
 }
 
 fn make_flag<'v>(maker: &mut Maker<'v>, value: &'v Value) -> Result<(), MakeError>
-    ensures { Appended (plain_made no_parts Form.Flag (view value.now)) maker.old.bytes.items maker.new.bytes.items result }
+    ensures { Appended (plain_made no_table Form.Flag (view value.now)) maker.old.bytes.items maker.new.bytes.items result }
 {
     match value.as_bool() {
         Some(true) => Ok(()),
@@ -162,7 +170,7 @@ fn make_flag<'v>(maker: &mut Maker<'v>, value: &'v Value) -> Result<(), MakeErro
 }
 
 fn make_truth<'v>(maker: &mut Maker<'v>, value: &'v Value) -> Result<(), MakeError>
-    ensures { Appended (plain_made no_parts Form.Truth (view value.now)) maker.old.bytes.items maker.new.bytes.items result }
+    ensures { Appended (plain_made no_table Form.Truth (view value.now)) maker.old.bytes.items maker.new.bytes.items result }
 {
     match value.as_bool() {
         Some(true) => maker.put_byte(1),
@@ -172,7 +180,7 @@ fn make_truth<'v>(maker: &mut Maker<'v>, value: &'v Value) -> Result<(), MakeErr
 }
 
 fn make_bare<'v>(maker: &mut Maker<'v>, value: &'v Value) -> Result<(), MakeError>
-    ensures { Appended (plain_made no_parts Form.Bare (view value.now)) maker.old.bytes.items maker.new.bytes.items result }
+    ensures { Appended (plain_made no_table Form.Bare (view value.now)) maker.old.bytes.items maker.new.bytes.items result }
 {
     match value.as_str() {
         Some(text) => maker.put(text.as_bytes()),
@@ -181,7 +189,7 @@ fn make_bare<'v>(maker: &mut Maker<'v>, value: &'v Value) -> Result<(), MakeErro
 }
 
 fn make_text<'v>(maker: &mut Maker<'v>, value: &'v Value) -> Result<(), MakeError>
-    ensures { Appended (plain_made no_parts Form.Text (view value.now)) maker.old.bytes.items maker.new.bytes.items result }
+    ensures { Appended (plain_made no_table Form.Text (view value.now)) maker.old.bytes.items maker.new.bytes.items result }
 {
     let text = match value.as_str() {
         Some(text) => text,
@@ -194,7 +202,7 @@ fn make_text<'v>(maker: &mut Maker<'v>, value: &'v Value) -> Result<(), MakeErro
 }
 
 fn make_mac<'v>(maker: &mut Maker<'v>, value: &'v Value) -> Result<(), MakeError>
-    ensures { Appended (plain_made no_parts Form.Mac (view value.now)) maker.old.bytes.items maker.new.bytes.items result }
+    ensures { Appended (plain_made no_table Form.Mac (view value.now)) maker.old.bytes.items maker.new.bytes.items result }
 {
     let text = match value.as_str() {
         Some(text) => text,
@@ -213,7 +221,7 @@ fn mac_of(text: &str) -> Option<[u8; 6]>
 }
 
 fn make_ipv4<'v>(maker: &mut Maker<'v>, value: &'v Value) -> Result<(), MakeError>
-    ensures { Appended (plain_made no_parts Form.Ipv4 (view value.now)) maker.old.bytes.items maker.new.bytes.items result }
+    ensures { Appended (plain_made no_table Form.Ipv4 (view value.now)) maker.old.bytes.items maker.new.bytes.items result }
 {
     let text = match value.as_str() {
         Some(text) => text,
@@ -232,7 +240,7 @@ fn ipv4_of(text: &str) -> Option<[u8; 4]>
 }
 
 fn make_ipv6<'v>(maker: &mut Maker<'v>, value: &'v Value) -> Result<(), MakeError>
-    ensures { Appended (plain_made no_parts Form.Ipv6 (view value.now)) maker.old.bytes.items maker.new.bytes.items result }
+    ensures { Appended (plain_made no_table Form.Ipv6 (view value.now)) maker.old.bytes.items maker.new.bytes.items result }
 {
     let text = match value.as_str() {
         Some(text) => text,
@@ -263,7 +271,7 @@ fn make_hex<'v>(maker: &mut Maker<'v>, value: &'v Value) -> Result<(), MakeError
 
 // So many bytes in hex.
 fn make_hex_of<'v>(maker: &mut Maker<'v>, len: usize, value: &'v Value) -> Result<(), MakeError>
-    ensures { Appended (plain_made no_parts (Form.Bytes len) (view value.now)) maker.old.bytes.items maker.new.bytes.items result }
+    ensures { Appended (plain_made no_table (Form.Bytes len) (view value.now)) maker.old.bytes.items maker.new.bytes.items result }
 {
     match hex_of(maker.alloc, value) {
         Ok(Some(bytes)) => {
@@ -346,16 +354,16 @@ fn make_named<'v>(
 #[cycle(make)]
 fn make_fields<'v, T: Tables>(
     maker: &mut Maker<'v>,
-    parts: T,
+    table: T,
     depth: u8,
     kind: &'v str,
     fields: &[Field<'v>],
     value: &'v Value,
 ) -> Result<(), MakeError>
-    ensures { Appended (fields_made (T.parts_of parts) (make (T.parts_of parts) depth kind.now) (fields_view fields.now) (view value.now)) maker.old.bytes.items maker.new.bytes.items result }
+    ensures { Appended (fields_made (T.parts_of table) (make (T.parts_of table) depth kind.now) (fields_view fields.now) (view value.now)) maker.old.bytes.items maker.new.bytes.items result }
 {
     for field in fields.iter() {
-        match make_field(maker, parts, depth, kind, field, value) {
+        match make_field(maker, table, depth, kind, field, value) {
             Ok(()) => {}
             Err(e) => return Err(e),
         }
@@ -366,13 +374,13 @@ fn make_fields<'v, T: Tables>(
 #[cycle(make)]
 fn make_field<'v, T: Tables>(
     maker: &mut Maker<'v>,
-    parts: T,
+    table: T,
     depth: u8,
     kind: &'v str,
     field: &Field<'v>,
     value: &'v Value,
 ) -> Result<(), MakeError>
-    ensures { Appended (field_made (T.parts_of parts) (make (T.parts_of parts) depth kind.now) (field_view field.now) (get field.now.name.now (view value.now))) maker.old.bytes.items maker.new.bytes.items result }
+    ensures { Appended (field_made (T.parts_of table) (make (T.parts_of table) depth kind.now) (field_view field.now) (get field.now.name.now (view value.now))) maker.old.bytes.items maker.new.bytes.items result }
 {
     match maker.enter(Step::Member(field.name)) {
         Ok(()) => {}
@@ -380,9 +388,9 @@ fn make_field<'v, T: Tables>(
     }
     let held = match value.get(field.name) {
         Some(held) => held,
-        None => return make_blank(maker, parts, field),
+        None => return make_blank(maker, table, field),
     };
-    match make_form(maker, parts, depth, kind, field.form, held) {
+    match make_form(maker, table, depth, kind, field.form, held) {
         Ok(()) => {
             maker.leave();
             Ok(())
@@ -394,16 +402,16 @@ fn make_field<'v, T: Tables>(
 // Padding that isn't told.
 fn make_blank<'v, T: Tables>(
     maker: &mut Maker<'v>,
-    parts: T,
+    table: T,
     field: &Field<'v>,
 ) -> Result<(), MakeError>
-    ensures { Appended (field_made (T.parts_of parts) (λ f d. None) (field_view field.now) None) maker.old.bytes.items maker.new.bytes.items result }
+    ensures { Appended (field_made (T.parts_of table) (λ f d. None) (field_view field.now) None) maker.old.bytes.items maker.new.bytes.items result }
 {
     if !is_pad(field.form) {
         return Err(maker.wrong(Wanted::Field));
     }
     maker.leave();
-    maker.put_zeros(fixed_width(parts, field.form).unwrap_or(0))
+    maker.put_zeros(fixed_width(table, field.form).unwrap_or(0))
 }
 
 fn make_rest<'v>(maker: &mut Maker<'v>, value: &'v Value) -> Result<(), MakeError>
@@ -420,34 +428,34 @@ fn make_rest<'v>(maker: &mut Maker<'v>, value: &'v Value) -> Result<(), MakeErro
 #[cycle(make)]
 fn make_elements<'v, T: Tables>(
     maker: &mut Maker<'v>,
-    parts: T,
+    table: T,
     depth: u8,
     kind: &'v str,
     form: Form,
     value: &'v Value,
 ) -> Result<(), MakeError>
-    ensures { Appended (option_and_then (each_made (make (T.parts_of parts) depth kind.now form)) (as_array (view value.now))) maker.old.bytes.items maker.new.bytes.items result }
+    ensures { Appended (option_and_then (each_made (make (T.parts_of table) depth kind.now form)) (as_array (view value.now))) maker.old.bytes.items maker.new.bytes.items result }
 {
     let items = match value.as_array() {
         Some(items) => items,
         None => return Err(maker.wrong(Wanted::List)),
     };
-    make_each_of_elements(maker, parts, depth, kind, form, items.as_slice())
+    make_each_of_elements(maker, table, depth, kind, form, items.as_slice())
 }
 
 #[cycle(make)]
 fn make_each_of_elements<'v, T: Tables>(
     maker: &mut Maker<'v>,
-    parts: T,
+    table: T,
     depth: u8,
     kind: &'v str,
     form: Form,
     items: &'v [Value],
 ) -> Result<(), MakeError>
-    ensures { Appended (each_made (make (T.parts_of parts) depth kind.now form) (items_view items.now)) maker.old.bytes.items maker.new.bytes.items result }
+    ensures { Appended (each_made (make (T.parts_of table) depth kind.now form) (items_view items.now)) maker.old.bytes.items maker.new.bytes.items result }
 {
     for (place, item) in items.iter().enumerate() {
-        match make_element(maker, parts, depth, kind, form, place, item) {
+        match make_element(maker, table, depth, kind, form, place, item) {
             Ok(()) => {}
             Err(e) => return Err(e),
         }
@@ -458,20 +466,20 @@ fn make_each_of_elements<'v, T: Tables>(
 #[cycle(make)]
 fn make_element<'v, T: Tables>(
     maker: &mut Maker<'v>,
-    parts: T,
+    table: T,
     depth: u8,
     kind: &'v str,
     form: Form,
     place: usize,
     value: &'v Value,
 ) -> Result<(), MakeError>
-    ensures { Appended (make (T.parts_of parts) depth kind.now form (view value.now)) maker.old.bytes.items maker.new.bytes.items result }
+    ensures { Appended (make (T.parts_of table) depth kind.now form (view value.now)) maker.old.bytes.items maker.new.bytes.items result }
 {
     match maker.enter(Step::Item(place)) {
         Ok(()) => {}
         Err(e) => return Err(e),
     }
-    match make_form(maker, parts, depth, kind, form, value) {
+    match make_form(maker, table, depth, kind, form, value) {
         Ok(()) => {
             maker.leave();
             Ok(())
@@ -485,34 +493,37 @@ fn make_element<'v, T: Tables>(
 #[cycle(make)]
 fn make_list<'v, T: Tables>(
     maker: &mut Maker<'v>,
-    parts: T,
+    table: T,
     depth: u8,
     kind: &'v str,
     place: usize,
     value: &'v Value,
 ) -> Result<(), MakeError>
-    ensures { Appended (option_and_then (each_under (layered_made (T.parts_of parts) (make (T.parts_of parts) depth) place) false kind.now) (as_array (view value.now))) maker.old.bytes.items maker.new.bytes.items result }
+    ensures { Appended (option_and_then (each_under (layered_made (T.parts_of table) (make (T.parts_of table) depth) place) false kind.now) (as_array (view value.now))) maker.old.bytes.items maker.new.bytes.items result }
 {
     let items = match value.as_array() {
         Some(items) => items,
         None => return Err(maker.wrong(Wanted::List)),
     };
-    make_each_of_list(maker, parts, depth, kind, place, items.as_slice())
+    let layer = layer_at(table, place);
+    let rows = rows_under(table, place, kind);
+    make_each_of_list(maker, table, depth, kind, layer, &rows, items.as_slice())
 }
 
 #[cycle(make)]
 fn make_each_of_list<'v, T: Tables>(
     maker: &mut Maker<'v>,
-    parts: T,
+    table: T,
     depth: u8,
     kind: &'v str,
-    list: usize,
+    layer: &'static str,
+    rows: &RowList<'static>,
     items: &'v [Value],
 ) -> Result<(), MakeError>
-    ensures { Appended (each_under (layered_made (T.parts_of parts) (make (T.parts_of parts) depth) list) false kind.now (items_view items.now)) maker.old.bytes.items maker.new.bytes.items result }
+    ensures { Appended (each_under (layered_by (make (T.parts_of table) depth) (rows_in rows.now) false layer.now) false kind.now (items_view items.now)) maker.old.bytes.items maker.new.bytes.items result }
 {
     for (place, item) in items.iter().enumerate() {
-        match make_item(maker, parts, depth, kind, list, place, item) {
+        match make_item(maker, table, depth, kind, layer, rows, place, item) {
             Ok(()) => {}
             Err(e) => return Err(e),
         }
@@ -523,14 +534,15 @@ fn make_each_of_list<'v, T: Tables>(
 #[cycle(make)]
 fn make_item<'v, T: Tables>(
     maker: &mut Maker<'v>,
-    parts: T,
+    table: T,
     depth: u8,
     kind: &'v str,
-    list: usize,
+    layer: &'static str,
+    rows: &RowList<'static>,
     place: usize,
     value: &'v Value,
 ) -> Result<(), MakeError>
-    ensures { Appended (or_raw (raw_of (view value.now)) (layered_made (T.parts_of parts) (make (T.parts_of parts) depth) list kind.now (view value.now))) maker.old.bytes.items maker.new.bytes.items result }
+    ensures { Appended (or_raw (raw_of (view value.now)) (layered_by (make (T.parts_of table) depth) (rows_in rows.now) false layer.now kind.now (view value.now))) maker.old.bytes.items maker.new.bytes.items result }
 {
     match maker.enter(Step::Item(place)) {
         Ok(()) => {}
@@ -544,11 +556,11 @@ fn make_item<'v, T: Tables>(
         maker.leave();
         return maker.put(&bytes);
     }
-    let held = match unlayered(layer_at(parts, list), value) {
+    let held = match unlayered(layer, value) {
         Some(held) => held,
         None => return Err(maker.wrong(Wanted::Variant)),
     };
-    match make_attribute(maker, parts, depth, kind, false, rows_at(parts, list), held) {
+    match make_attribute(maker, table, depth, kind, false, rows, held) {
         Ok(()) => {
             maker.leave();
             Ok(())
@@ -570,53 +582,55 @@ fn unlayered<'v>(layer: &str, value: &'v Value) -> Option<&'v Value>
 #[cycle(make)]
 fn make_in_force<'v, T: Tables>(
     maker: &mut Maker<'v>,
-    parts: T,
+    table: T,
     depth: u8,
     kind: &'v str,
-    rows: &[Row<'v>],
+    list: usize,
     value: &'v Value,
 ) -> Result<(), MakeError>
-    ensures { Appended (option_and_then (each_under (attribute_made (make (T.parts_of parts) depth) (rows_view rows.now) true) true kind.now) (as_array (view value.now))) maker.old.bytes.items maker.new.bytes.items result }
+    ensures { Appended (option_and_then (each_under (kinded_made (T.parts_of table) (make (T.parts_of table) depth) list) true kind.now) (as_array (view value.now))) maker.old.bytes.items maker.new.bytes.items result }
 {
     let items = match value.as_array() {
         Some(items) => items,
         None => return Err(maker.wrong(Wanted::List)),
     };
-    make_each_of_kinded(maker, parts, depth, kind, rows, items.as_slice())
+    make_each_of_kinded(maker, table, depth, kind, list, items.as_slice())
 }
 
 #[cycle(make)]
 fn make_own<'v, T: Tables>(
     maker: &mut Maker<'v>,
-    parts: T,
+    table: T,
     depth: u8,
-    rows: &[Row<'v>],
+    list: usize,
     value: &'v Value,
 ) -> Result<(), MakeError>
-    ensures { Appended (option_and_then (λ ds. each_under (attribute_made (make (T.parts_of parts) depth) (rows_view rows.now) true) true (own_told ds) ds) (as_array (view value.now))) maker.old.bytes.items maker.new.bytes.items result }
+    ensures { Appended (option_and_then (λ ds. each_under (kinded_made (T.parts_of table) (make (T.parts_of table) depth) list) true (own_told ds) ds) (as_array (view value.now))) maker.old.bytes.items maker.new.bytes.items result }
 {
     let items = match value.as_array() {
         Some(items) => items,
         None => return Err(maker.wrong(Wanted::List)),
     };
-    make_each_of_kinded(maker, parts, depth, own_told(items.as_slice()), rows, items.as_slice())
+    make_each_of_kinded(maker, table, depth, own_told(items.as_slice()), list, items.as_slice())
 }
 
 #[cycle(make)]
 fn make_each_of_kinded<'v, T: Tables>(
     maker: &mut Maker<'v>,
-    parts: T,
+    table: T,
     depth: u8,
     kind: &'v str,
-    rows: &[Row<'v>],
+    list: usize,
     items: &'v [Value],
 ) -> Result<(), MakeError>
-    ensures { Appended (each_under (attribute_made (make (T.parts_of parts) depth) (rows_view rows.now) true) true kind.now (items_view items.now)) maker.old.bytes.items maker.new.bytes.items result }
+    ensures { Appended (each_under (kinded_made (T.parts_of table) (make (T.parts_of table) depth) list) true kind.now (items_view items.now)) maker.old.bytes.items maker.new.bytes.items result }
 {
     let mut so_far = kind;
+    let mut rows = rows_under(table, list, kind);
     for (place, item) in items.iter().enumerate() {
+        rows = rows_behind(table, list, item, so_far, &rows);
         so_far = kind_behind(item, so_far);
-        match make_kinded(maker, parts, depth, so_far, rows, place, item) {
+        match make_kinded(maker, table, depth, so_far, &rows, place, item) {
             Ok(()) => {}
             Err(e) => return Err(e),
         }
@@ -627,14 +641,14 @@ fn make_each_of_kinded<'v, T: Tables>(
 #[cycle(make)]
 fn make_kinded<'v, T: Tables>(
     maker: &mut Maker<'v>,
-    parts: T,
+    table: T,
     depth: u8,
     kind: &'v str,
-    rows: &[Row<'v>],
+    rows: &RowList<'static>,
     place: usize,
     value: &'v Value,
 ) -> Result<(), MakeError>
-    ensures { Appended (or_raw (raw_of (view value.now)) (attribute_made (make (T.parts_of parts) depth) (rows_view rows.now) true kind.now (view value.now))) maker.old.bytes.items maker.new.bytes.items result }
+    ensures { Appended (or_raw (raw_of (view value.now)) (attribute_made (make (T.parts_of table) depth) (rows_in rows.now) true kind.now (view value.now))) maker.old.bytes.items maker.new.bytes.items result }
 {
     match maker.enter(Step::Item(place)) {
         Ok(()) => {}
@@ -648,7 +662,7 @@ fn make_kinded<'v, T: Tables>(
         maker.leave();
         return maker.put(&bytes);
     }
-    match make_attribute(maker, parts, depth, kind, true, rows, value) {
+    match make_attribute(maker, table, depth, kind, true, rows, value) {
         Ok(()) => {
             maker.leave();
             Ok(())
@@ -675,8 +689,25 @@ fn kind_behind<'v>(value: &'v Value, kind: &'v str) -> &'v str
     ensures { result.now ≡ unwrap_or (kind_told true (view value.now)) kind.now }
 {
     match kind_told(true, value) {
-        Some(told) => told,
+        Some(set) => set,
         None => kind,
+    }
+}
+
+// The rows from an item on.
+fn rows_behind<T: Tables>(
+    table: T,
+    list: usize,
+    value: &Value,
+    kind: &str,
+    rows: &RowList<'static>,
+) -> RowList<'static>
+    requires { rows_in rows.now ≡ rows_under (T.parts_of table) list kind.now }
+    ensures { rows_in result ≡ rows_under (T.parts_of table) list (unwrap_or (kind_told true (view value.now)) kind.now) }
+{
+    match kind_told(true, value) {
+        Some(set) => rows_under(table, list, set),
+        None => *rows,
     }
 }
 
@@ -696,18 +727,18 @@ fn own_told<'v>(items: &'v [Value]) -> &'v str
 #[cycle(make)]
 fn make_attribute<'v, T: Tables>(
     maker: &mut Maker<'v>,
-    parts: T,
+    table: T,
     depth: u8,
     kind: &'v str,
     has: bool,
-    rows: &[Row<'v>],
+    rows: &RowList<'static>,
     value: &'v Value,
 ) -> Result<(), MakeError>
-    ensures { Appended (attribute_made (make (T.parts_of parts) depth) (rows_view rows.now) has kind.now (view value.now)) maker.old.bytes.items maker.new.bytes.items result }
+    ensures { Appended (attribute_made (make (T.parts_of table) depth) (rows_in rows.now) has kind.now (view value.now)) maker.old.bytes.items maker.new.bytes.items result }
 {
     match kind_told(has, value) {
         Some(told) => make_kind(maker, told, value),
-        None => make_by_row(maker, parts, depth, kind, rows, value),
+        None => make_by_row(maker, table, depth, kind, rows, value),
     }
 }
 
@@ -719,12 +750,28 @@ fn make_kind<'v>(maker: &mut Maker<'v>, kind: &'v str, value: &'v Value) -> Resu
         None => return Err(maker.wrong(Wanted::Member("word"))),
     };
     let before = begin(maker);
-    match make_text_of(maker, kind) {
+    match make_kind_value(maker, kind, value) {
         Ok(()) => end(maker, before, word, value),
         Err(e) => Err(e),
     }
 }
 
+// A kind's text, with a NUL unless it is bare.
+fn make_kind_value<'v>(maker: &mut Maker<'v>, kind: &str, value: &'v Value) -> Result<(), MakeError>
+    ensures { Appended (kind_value kind.now (get (codes "bare") (view value.now))) maker.old.bytes.items maker.new.bytes.items result }
+{
+    let bare = match value.get("bare") {
+        Some(bare) => bare,
+        None => return make_text_of(maker, kind),
+    };
+    match bare.as_bool() {
+        Some(true) => maker.put(kind.as_bytes()),
+        Some(false) => make_text_of(maker, kind),
+        None => Err(maker.wrong(Wanted::Member("bare"))),
+    }
+}
+
+// A text and a NUL.
 fn make_text_of(maker: &mut Maker<'_>, text: &str) -> Result<(), MakeError>
     ensures { Appended (Some (text.now ++ 0 ∷ [])) maker.old.bytes.items maker.new.bytes.items result }
 {
@@ -737,17 +784,17 @@ fn make_text_of(maker: &mut Maker<'_>, text: &str) -> Result<(), MakeError>
 #[cycle(make)]
 fn make_by_row<'v, T: Tables>(
     maker: &mut Maker<'v>,
-    parts: T,
+    table: T,
     depth: u8,
     kind: &'v str,
-    rows: &[Row<'v>],
+    rows: &RowList<'static>,
     value: &'v Value,
 ) -> Result<(), MakeError>
-    ensures { Appended (by_row_made (make (T.parts_of parts) depth) (rows_view rows.now) true kind.now (view value.now) (get (codes "Other") (view value.now))) maker.old.bytes.items maker.new.bytes.items result }
+    ensures { Appended (by_row_made (make (T.parts_of table) depth) (rows_in rows.now) true kind.now (view value.now) (get (codes "Other") (view value.now))) maker.old.bytes.items maker.new.bytes.items result }
 {
     match value.get("Other") {
         Some(other) => make_other(maker, other, value),
-        None => make_row(maker, parts, depth, kind, rows, value),
+        None => make_row(maker, table, depth, kind, rows, value),
     }
 }
 
@@ -773,16 +820,16 @@ fn make_other<'v>(maker: &mut Maker<'v>, other: &'v Value, value: &'v Value) -> 
 #[cycle(make)]
 fn make_row<'v, T: Tables>(
     maker: &mut Maker<'v>,
-    parts: T,
+    table: T,
     depth: u8,
     kind: &'v str,
-    rows: &[Row<'v>],
+    rows: &RowList<'static>,
     value: &'v Value,
 ) -> Result<(), MakeError>
-    ensures { Appended (row_made (make (T.parts_of parts) depth) (rows_view rows.now) true kind.now (view value.now) (held (λ r. r.name) (counts kind.now) (rows_view rows.now) (view value.now))) maker.old.bytes.items maker.new.bytes.items result }
+    ensures { Appended (row_made (make (T.parts_of table) depth) (rows_in rows.now) true kind.now (view value.now) (held (λ r. r.name) counts (rows_in rows.now) (view value.now))) maker.old.bytes.items maker.new.bytes.items result }
 {
-    match row_held(rows, kind, value) {
-        Some((row, held)) => make_held(maker, parts, depth, kind, row, held, value),
+    match row_held_in(rows, value) {
+        Some((row, held)) => make_held(maker, table, depth, kind, row, held, value),
         None => Err(maker.wrong(Wanted::Attribute)),
     }
 }
@@ -790,14 +837,14 @@ fn make_row<'v, T: Tables>(
 #[cycle(make)]
 fn make_held<'v, T: Tables>(
     maker: &mut Maker<'v>,
-    parts: T,
+    table: T,
     depth: u8,
     kind: &'v str,
     row: Row<'v>,
     held: &'v Value,
     value: &'v Value,
 ) -> Result<(), MakeError>
-    ensures { Appended (framed (word_or row.entry.word (get (codes "word") (view value.now))) (make (T.parts_of parts) depth kind.now row.entry.form (view held.now)) (view value.now)) maker.old.bytes.items maker.new.bytes.items result }
+    ensures { Appended (framed (word_or row.entry.word (get (codes "word") (view value.now))) (make (T.parts_of table) depth kind.now row.entry.form (view held.now)) (view value.now)) maker.old.bytes.items maker.new.bytes.items result }
 {
     match maker.enter(Step::Member(row.name)) {
         Ok(()) => {}
@@ -808,7 +855,7 @@ fn make_held<'v, T: Tables>(
         None => return Err(maker.wrong(Wanted::Member("word"))),
     };
     let before = begin(maker);
-    match make_form(maker, parts, depth, kind, row.form, held) {
+    match make_form(maker, table, depth, kind, row.form, held) {
         Ok(()) => {
             maker.leave();
             end(maker, before, word, value)
@@ -817,12 +864,22 @@ fn make_held<'v, T: Tables>(
     }
 }
 
-// The first row of a kind whose name has a member.
-fn row_held<'a, 'v>(rows: &[Row<'a>], kind: &str, value: &'v Value) -> Option<(Row<'a>, &'v Value)>
-    ensures { option_map (λ m. (row_view m.0, view m.1.now)) result ≡ held (λ r. r.name) (counts kind.now) (rows_view rows.now) (view value.now) }
+// The first row of a list whose name has a member.
+fn row_held_in<'a, 'v>(rows: &RowList<'a>, value: &'v Value) -> Option<(Row<'a>, &'v Value)>
+    ensures { option_map (λ m. (row_view m.0, view m.1.now)) result ≡ held (λ r. r.name) counts (rows_in rows.now) (view value.now) }
+{
+    match row_held(rows.own, value) {
+        Some(found) => Some(found),
+        None => row_held(rows.common, value),
+    }
+}
+
+// The first row whose name has a member.
+fn row_held<'a, 'v>(rows: &[Row<'a>], value: &'v Value) -> Option<(Row<'a>, &'v Value)>
+    ensures { option_map (λ m. (row_view m.0, view m.1.now)) result ≡ held (λ r. r.name) counts (rows_view rows.now) (view value.now) }
 {
     for row in rows.iter() {
-        if counts(kind, row) {
+        if counts(row) {
             if let Some(held) = value.get(row.name) {
                 return Some((*row, held));
             }
@@ -863,34 +920,34 @@ fn word_or(word: u16, value: &Value) -> Option<u16>
 #[cycle(make)]
 fn make_indexed<'v, T: Tables>(
     maker: &mut Maker<'v>,
-    parts: T,
+    table: T,
     depth: u8,
     kind: &'v str,
     place: usize,
     value: &'v Value,
 ) -> Result<(), MakeError>
-    ensures { Appended (option_and_then (each_under (indexed_made (T.parts_of parts) (make (T.parts_of parts) depth) place) false kind.now) (as_array (view value.now))) maker.old.bytes.items maker.new.bytes.items result }
+    ensures { Appended (option_and_then (each_under (indexed_made (T.parts_of table) (make (T.parts_of table) depth) place) false kind.now) (as_array (view value.now))) maker.old.bytes.items maker.new.bytes.items result }
 {
     let items = match value.as_array() {
         Some(items) => items,
         None => return Err(maker.wrong(Wanted::List)),
     };
-    make_each_of_indexed(maker, parts, depth, kind, place, items.as_slice())
+    make_each_of_indexed(maker, table, depth, kind, place, items.as_slice())
 }
 
 #[cycle(make)]
 fn make_each_of_indexed<'v, T: Tables>(
     maker: &mut Maker<'v>,
-    parts: T,
+    table: T,
     depth: u8,
     kind: &'v str,
     list: usize,
     items: &'v [Value],
 ) -> Result<(), MakeError>
-    ensures { Appended (each_under (indexed_made (T.parts_of parts) (make (T.parts_of parts) depth) list) false kind.now (items_view items.now)) maker.old.bytes.items maker.new.bytes.items result }
+    ensures { Appended (each_under (indexed_made (T.parts_of table) (make (T.parts_of table) depth) list) false kind.now (items_view items.now)) maker.old.bytes.items maker.new.bytes.items result }
 {
     for (place, item) in items.iter().enumerate() {
-        match make_one_indexed(maker, parts, depth, kind, list, place, item) {
+        match make_one_indexed(maker, table, depth, kind, list, place, item) {
             Ok(()) => {}
             Err(e) => return Err(e),
         }
@@ -901,14 +958,14 @@ fn make_each_of_indexed<'v, T: Tables>(
 #[cycle(make)]
 fn make_one_indexed<'v, T: Tables>(
     maker: &mut Maker<'v>,
-    parts: T,
+    table: T,
     depth: u8,
     kind: &'v str,
     list: usize,
     place: usize,
     value: &'v Value,
 ) -> Result<(), MakeError>
-    ensures { Appended (or_raw (raw_of (view value.now)) (indexed_made (T.parts_of parts) (make (T.parts_of parts) depth) list kind.now (view value.now))) maker.old.bytes.items maker.new.bytes.items result }
+    ensures { Appended (or_raw (raw_of (view value.now)) (indexed_made (T.parts_of table) (make (T.parts_of table) depth) list kind.now (view value.now))) maker.old.bytes.items maker.new.bytes.items result }
 {
     match maker.enter(Step::Item(place)) {
         Ok(()) => {}
@@ -922,19 +979,19 @@ fn make_one_indexed<'v, T: Tables>(
         maker.leave();
         return maker.put(&bytes);
     }
-    make_framed(maker, parts, depth, kind, form_at(parts, list), value)
+    make_framed(maker, table, depth, kind, form_at(table, list), value)
 }
 
 #[cycle(make)]
 fn make_framed<'v, T: Tables>(
     maker: &mut Maker<'v>,
-    parts: T,
+    table: T,
     depth: u8,
     kind: &'v str,
     form: Form,
     value: &'v Value,
 ) -> Result<(), MakeError>
-    ensures { Appended (framed (option_and_then word_made (get (codes "tab") (view value.now))) (option_and_then (make (T.parts_of parts) depth kind.now form) (get (codes "attributes") (view value.now))) (view value.now)) maker.old.bytes.items maker.new.bytes.items result }
+    ensures { Appended (framed (option_and_then word_made (get (codes "tab") (view value.now))) (option_and_then (make (T.parts_of table) depth kind.now form) (get (codes "attributes") (view value.now))) (view value.now)) maker.old.bytes.items maker.new.bytes.items result }
 {
     let word = match word_at(value, "tab") {
         Some(word) => word,
@@ -946,7 +1003,7 @@ fn make_framed<'v, T: Tables>(
     };
     maker.leave();
     let before = begin(maker);
-    match make_form(maker, parts, depth, kind, form, held) {
+    match make_form(maker, table, depth, kind, form, held) {
         Ok(()) => end(maker, before, word, value),
         Err(e) => Err(e),
     }
@@ -957,37 +1014,37 @@ fn make_framed<'v, T: Tables>(
 #[cycle(make)]
 fn make_choice<'v, T: Tables>(
     maker: &mut Maker<'v>,
-    parts: T,
+    table: T,
     depth: u8,
     kind: &'v str,
     choices: &[Choice<'v>],
     value: &'v Value,
 ) -> Result<(), MakeError>
-    ensures { Appended (by_choice_made (T.parts_of parts) (make (T.parts_of parts) depth kind.now) (choices_view choices.now) (view value.now)) maker.old.bytes.items maker.new.bytes.items result }
+    ensures { Appended (by_choice_made (make (T.parts_of table) depth kind.now) (choices_view choices.now) (view value.now)) maker.old.bytes.items maker.new.bytes.items result }
 {
     match value.get("Other") {
         Some(held) => make_hex(maker, held),
-        None => make_chosen(maker, parts, depth, kind, choices, value),
+        None => make_chosen(maker, table, depth, kind, choices, value),
     }
 }
 
 #[cycle(make)]
 fn make_chosen<'v, T: Tables>(
     maker: &mut Maker<'v>,
-    parts: T,
+    table: T,
     depth: u8,
     kind: &'v str,
     choices: &[Choice<'v>],
     value: &'v Value,
 ) -> Result<(), MakeError>
-    ensures { Appended (choice_made (T.parts_of parts) (make (T.parts_of parts) depth kind.now) (held (λ c. c.name) is_choice (choices_view choices.now) (view value.now))) maker.old.bytes.items maker.new.bytes.items result }
+    ensures { Appended (choice_made (make (T.parts_of table) depth kind.now) (held (λ c. c.name) is_choice (choices_view choices.now) (view value.now))) maker.old.bytes.items maker.new.bytes.items result }
 {
     let (choice, held) = match choice_held(choices, value) {
         Some(found) => found,
         None => return Err(maker.wrong(Wanted::Variant)),
     };
     match maker.put(choice.prefix) {
-        Ok(()) => make_form(maker, parts, depth, kind, choice.form, held),
+        Ok(()) => make_form(maker, table, depth, kind, choice.form, held),
         Err(e) => Err(e),
     }
 }
@@ -1037,7 +1094,7 @@ fn end<'v>(maker: &mut Maker<'v>, before: Vec<u8>, word: u16, value: &'v Value) 
 // Appends a frame.
 fn put_frame<'v>(maker: &mut Maker<'v>, word: u16, payload: &[u8], value: &'v Value) -> Result<(), MakeError>
     requires { length payload.now ≤ 65531 }
-    ensures { Appended (option_map (λ p. cut_bytes (record { word = word; value = payload.now; pad = p })) (pad_or payload.now (get (codes "pad") (view value.now)))) maker.old.bytes.items maker.new.bytes.items result }
+    ensures { Appended (option_map (λ p. frame_bytes (record { word = word; value = payload.now; pad = p })) (pad_or payload.now (get (codes "pad") (view value.now)))) maker.old.bytes.items maker.new.bytes.items result }
 {
     let len = payload.len();
     match maker.put_little(len as u64 + 4, 2) {

@@ -4,31 +4,40 @@ ghost use Rattle.std.specs.Prelude.{◌≡◌, ◌≤◌, ◌<◌, ◌*◌, OnOk
 ghost use Rattle.nla_frames.specs.Value.{le_value, be_value};
 ghost use Rattle.serde_json.specs.Data.{array, number, unsigned, Members, member, no_members};
 ghost use Rattle.serde.specs.Event.{Log};
-ghost use Rattle.tc_forms.specs.Tables.{number_width, fixed};
-ghost use Rattle.tc_forms.specs.Leaves.{one, raw, hex, bits_of, num, half, is_signed, is_big};
-ghost use Rattle.tc_forms.specs.Shown.{show, shown_of, shown, plain_shown, named_or, names_apart, is_free, are_apart, are_enough, is_blank, all_zero, field_of, after_field, field_member, members, elements, elements_of, frames, attribute, other, word_and_hex, indexed, tail_shown, rest_member, shown_row, by_row, by_kind, by_choice, chosen, kind_shown, layered, told, pad_told};
-ghost use Rattle.tc_forms.specs.Cuts.{front, after_first, text_in, kind_in, own_kind};
-ghost use Rattle.tc_forms.specs.Tables.{type_of};
-ghost use Rattle.tc_forms.specs.Tables.{name_of};
+ghost use Rattle.nla_frames.specs.Value.{ends_in_nul};
+ghost use Rattle.tc_forms.specs.Places.{rows_under};
+ghost use Rattle.tc_forms.specs.RowLists.{rows_in};
+ghost use Rattle.tc_forms.specs.Attributes.{bare_told, attribute, by_kind, by_row, frames, indexed, kind_shown, layered, other, pad_told, tail_shown, told, word_and_hex};
+ghost use Rattle.tc_forms.specs.Choices.{by_choice, chosen};
+ghost use Rattle.tc_forms.specs.Frames.{after_first, front};
+ghost use Rattle.tc_forms.specs.Kinds.{kind_text, kind_in, own_kind};
+ghost use Rattle.tc_forms.specs.Numbers.{bits_of, half, is_big, is_signed, name_of, named_or, num};
+ghost use Rattle.tc_forms.specs.Raw.{hex, one, raw};
+ghost use Rattle.tc_forms.specs.Records.{after_field, all_zero, are_apart, are_enough, elements, elements_of, field_member, field_of, is_blank, is_free, members, names_apart, rest_member};
+ghost use Rattle.tc_forms.specs.Rows.{shown_row, type_of};
 ghost use Rattle.tc_forms.specs.Sent.{Sent, events, items_events, members_events};
+ghost use Rattle.tc_forms.specs.Shown.{show, shown, shown_of};
+ghost use Rattle.tc_forms.specs.Tables.{choices_view, field_view, fields_view, names_view, no_table, rows_view};
+ghost use Rattle.tc_forms.specs.Values.{plain_shown, text_in};
+ghost use Rattle.tc_forms.specs.Widths.{fixed, number_width};
 
-ghost use Rattle.tc_forms.specs.Plain.{no_parts, field_view, names_view, fields_view, rows_view, choices_view};
 
-use crate::form::{Choice, Field, Form, Name, Number, Row};
+use crate::form::{Choice, Field, Form, Name, Number};
 use crate::tables::Tables;
 use crate::table::{
     DEEPEST, choices_at, chosen, fields_at, fixed_width, form_at, is_pad, is_same, layer_at, name_of, names_at,
-    number_of, rows_at, shown_row, type_of,
+    number_of, rows_under, shown_row, type_of, RowList,
 };
+use nla_frames::strip_nul;
 use serde::{Described, Serialize, Serializer};
 use std::alloc::Global;
 use tc_texts::{handle_text, hex_string, ipv4_text, ipv6_text, mac_text};
 
-/// Bytes in a form, by the parts of a table, for a format of serde.
+/// Bytes in a form, by a table, for a format of serde.
 #[derive(Drop)]
 pub struct Shown<'a, T> {
     /// The table.
-    pub parts: T,
+    pub table: T,
     /// The form.
     pub form: Form,
     /// The bytes.
@@ -38,33 +47,33 @@ pub struct Shown<'a, T> {
 }
 
 impl<'a, T: Tables> Described for Shown<'a, T> {
-    ghost writes = { λ x. Sent (events (shown_of (T.parts_of x.parts) x.form x.bytes.now)) };
+    ghost writes = { λ x. Sent (events (shown_of (T.parts_of x.table) x.form x.bytes.now)) };
 }
 
 impl<'a, T: Tables> Serialize for Shown<'a, T> {
     fn serialize<S: Serializer>(&self, out: &mut S) -> Result<(), S::Error> {
-        send_shown(self.parts, self.form, self.bytes, self.alloc, out)
+        send_shown(self.table, self.form, self.bytes, self.alloc, out)
     }
 }
 
 /// Sends what is shown of bytes in a form.
 #[tactic(auto, unfolding(crate::specs::Shown::shown_of))]
 pub fn send_shown<S: Serializer, T: Tables>(
-    parts: T,
+    table: T,
     form: Form,
     bytes: &[u8],
     alloc: Global,
     out: &mut S,
 ) -> Result<(), S::Error>
-    ensures { OnOk result (Sent (events (shown_of (T.parts_of parts) form bytes.now)) (S.written out.old) (S.written out.new)) }
+    ensures { OnOk result (Sent (events (shown_of (T.parts_of table) form bytes.now)) (S.written out.old) (S.written out.new)) }
 {
-    send_form(parts, DEEPEST, "", form, bytes, alloc, out)
+    send_form(table, DEEPEST, "", form, bytes, alloc, out)
 }
 
 // The same at a depth.
 #[cycle(send)]
 fn send_form<S: Serializer, T: Tables>(
-    parts: T,
+    table: T,
     depth: u8,
     kind: &str,
     form: Form,
@@ -72,38 +81,38 @@ fn send_form<S: Serializer, T: Tables>(
     alloc: Global,
     out: &mut S,
 ) -> Result<(), S::Error>
-    ensures { OnOk result (Sent (events (show (T.parts_of parts) depth kind.now form bytes.now)) (S.written out.old) (S.written out.new)) }
+    ensures { OnOk result (Sent (events (show (T.parts_of table) depth kind.now form bytes.now)) (S.written out.old) (S.written out.new)) }
 {
     let inner = match depth.checked_sub(1) {
         Some(inner) => inner,
         None => return send_raw(bytes, alloc, out),
     };
     match form {
-        Form::Record(place) => send_record(parts, inner, kind, place, bytes, alloc, out),
-        Form::Array(place) => send_elements(parts, inner, kind, form_at(parts, place), bytes, alloc, out),
+        Form::Record(place) => send_record(table, inner, kind, place, bytes, alloc, out),
+        Form::Array(place) => send_elements(table, inner, kind, form_at(table, place), bytes, alloc, out),
         Form::Times(_, place) => send_elements(
-            parts,
+            table,
             inner,
             kind,
-            form_at(parts, place),
+            form_at(table, place),
             bytes,
             alloc,
             out,
         ),
-        Form::List(place) => send_list(parts, inner, kind, place, bytes, alloc, out),
-        Form::InForce(place) => send_kinded(parts, inner, kind, rows_at(parts, place), bytes, alloc, out),
+        Form::List(place) => send_list(table, inner, kind, place, bytes, alloc, out),
+        Form::InForce(place) => send_kinded(table, inner, kind, place, bytes, alloc, out),
         Form::Own(place) => send_kinded(
-            parts,
+            table,
             inner,
             own_kind(bytes),
-            rows_at(parts, place),
+            place,
             bytes,
             alloc,
             out,
         ),
-        Form::Indexed(place) => send_indexed(parts, inner, kind, place, bytes, alloc, out),
-        Form::Choice(place) => send_choice(parts, inner, kind, choices_at(parts, place), bytes, alloc, out),
-        _ => send_plain(parts, form, bytes, alloc, out),
+        Form::Indexed(place) => send_indexed(table, inner, kind, place, bytes, alloc, out),
+        Form::Choice(place) => send_choice(table, inner, kind, choices_at(table, place), bytes, alloc, out),
+        _ => send_plain(table, form, bytes, alloc, out),
     }
 }
 
@@ -111,13 +120,13 @@ fn send_form<S: Serializer, T: Tables>(
 
 // A value that holds no other.
 fn send_plain<S: Serializer, T: Tables>(
-    parts: T,
+    table: T,
     form: Form,
     bytes: &[u8],
     alloc: Global,
     out: &mut S,
 ) -> Result<(), S::Error>
-    ensures { OnOk result (Sent (events (plain_shown (T.parts_of parts) form bytes.now)) (S.written out.old) (S.written out.new)) }
+    ensures { OnOk result (Sent (events (plain_shown (T.parts_of table) form bytes.now)) (S.written out.old) (S.written out.new)) }
 {
     match form {
         Form::Number(number) => {
@@ -130,7 +139,7 @@ fn send_plain<S: Serializer, T: Tables>(
             if bytes.len() != number.width() {
                 return send_raw(bytes, alloc, out);
             }
-            send_named(names_at(parts, place), number, bits_of(number, bytes), out)
+            send_named(names_at(table, place), number, bits_of(number, bytes), out)
         }
         Form::Handle => send_handle(bytes, alloc, out),
         Form::Flag => {
@@ -157,7 +166,7 @@ fn send_plain<S: Serializer, T: Tables>(
 }
 
 fn send_handle<S: Serializer>(bytes: &[u8], alloc: Global, out: &mut S) -> Result<(), S::Error>
-    ensures { OnOk result (Sent (events (plain_shown no_parts Form.Handle bytes.now)) (S.written out.old) (S.written out.new)) }
+    ensures { OnOk result (Sent (events (plain_shown no_table Form.Handle bytes.now)) (S.written out.old) (S.written out.new)) }
 {
     match bytes {
         [a, b, c, d] => out.str(handle_text(u32::from_le_bytes([*a, *b, *c, *d])).as_str()),
@@ -166,7 +175,7 @@ fn send_handle<S: Serializer>(bytes: &[u8], alloc: Global, out: &mut S) -> Resul
 }
 
 fn send_mac<S: Serializer>(bytes: &[u8], alloc: Global, out: &mut S) -> Result<(), S::Error>
-    ensures { OnOk result (Sent (events (plain_shown no_parts Form.Mac bytes.now)) (S.written out.old) (S.written out.new)) }
+    ensures { OnOk result (Sent (events (plain_shown no_table Form.Mac bytes.now)) (S.written out.old) (S.written out.new)) }
 {
     match bytes.try_into() {
         Ok(octets) => out.str(mac_text(octets).as_str()),
@@ -175,7 +184,7 @@ fn send_mac<S: Serializer>(bytes: &[u8], alloc: Global, out: &mut S) -> Result<(
 }
 
 fn send_ipv4<S: Serializer>(bytes: &[u8], alloc: Global, out: &mut S) -> Result<(), S::Error>
-    ensures { OnOk result (Sent (events (plain_shown no_parts Form.Ipv4 bytes.now)) (S.written out.old) (S.written out.new)) }
+    ensures { OnOk result (Sent (events (plain_shown no_table Form.Ipv4 bytes.now)) (S.written out.old) (S.written out.new)) }
 {
     match bytes.try_into() {
         Ok(octets) => out.str(ipv4_text(octets).as_str()),
@@ -184,7 +193,7 @@ fn send_ipv4<S: Serializer>(bytes: &[u8], alloc: Global, out: &mut S) -> Result<
 }
 
 fn send_ipv6<S: Serializer>(bytes: &[u8], alloc: Global, out: &mut S) -> Result<(), S::Error>
-    ensures { OnOk result (Sent (events (plain_shown no_parts Form.Ipv6 bytes.now)) (S.written out.old) (S.written out.new)) }
+    ensures { OnOk result (Sent (events (plain_shown no_table Form.Ipv6 bytes.now)) (S.written out.old) (S.written out.new)) }
 {
     match bytes.try_into() {
         Ok(octets) => out.str(ipv6_text(octets).as_str()),
@@ -193,7 +202,7 @@ fn send_ipv6<S: Serializer>(bytes: &[u8], alloc: Global, out: &mut S) -> Result<
 }
 
 fn send_truth<S: Serializer>(bytes: &[u8], alloc: Global, out: &mut S) -> Result<(), S::Error>
-    ensures { OnOk result (Sent (events (plain_shown no_parts Form.Truth bytes.now)) (S.written out.old) (S.written out.new)) }
+    ensures { OnOk result (Sent (events (plain_shown no_table Form.Truth bytes.now)) (S.written out.old) (S.written out.new)) }
 {
     if is_byte(bytes, 0) {
         return out.bool(false);
@@ -212,7 +221,7 @@ fn is_byte(bytes: &[u8], byte: u8) -> bool
 }
 
 fn send_bare<S: Serializer>(bytes: &[u8], alloc: Global, out: &mut S) -> Result<(), S::Error>
-    ensures { OnOk result (Sent (events (plain_shown no_parts Form.Bare bytes.now)) (S.written out.old) (S.written out.new)) }
+    ensures { OnOk result (Sent (events (plain_shown no_table Form.Bare bytes.now)) (S.written out.old) (S.written out.new)) }
 {
     match str::from_utf8(bytes) {
         Ok(text) => out.str(text),
@@ -221,7 +230,7 @@ fn send_bare<S: Serializer>(bytes: &[u8], alloc: Global, out: &mut S) -> Result<
 }
 
 fn send_text<S: Serializer>(bytes: &[u8], alloc: Global, out: &mut S) -> Result<(), S::Error>
-    ensures { OnOk result (Sent (events (plain_shown no_parts Form.Text bytes.now)) (S.written out.old) (S.written out.new)) }
+    ensures { OnOk result (Sent (events (plain_shown no_table Form.Text bytes.now)) (S.written out.old) (S.written out.new)) }
 {
     match text_in(bytes) {
         Some(text) => out.str(text),
@@ -379,7 +388,7 @@ fn text_in(bytes: &[u8]) -> Option<&str>
 
 #[cycle(send)]
 fn send_record<S: Serializer, T: Tables>(
-    parts: T,
+    table: T,
     depth: u8,
     kind: &str,
     place: usize,
@@ -387,20 +396,20 @@ fn send_record<S: Serializer, T: Tables>(
     alloc: Global,
     out: &mut S,
 ) -> Result<(), S::Error>
-    ensures { OnOk result (Sent (events (shown (T.parts_of parts) (show (T.parts_of parts) depth) kind.now (Form.Record place) bytes.now)) (S.written out.old) (S.written out.new)) }
+    ensures { OnOk result (Sent (events (shown (T.parts_of table) (show (T.parts_of table) depth) kind.now (Form.Record place) bytes.now)) (S.written out.old) (S.written out.new)) }
 {
-    let fields = fields_at(parts, place);
-    if !names_apart(fields) || !are_enough(parts, bytes.len(), fields) {
+    let fields = fields_at(table, place);
+    if !names_apart(fields) || !are_enough(table, bytes.len(), fields) {
         return send_raw(bytes, alloc, out);
     }
     out.begin_map(None)?;
-    send_fields(parts, depth, kind, fields, bytes, alloc, out)?;
+    send_fields(table, depth, kind, fields, bytes, alloc, out)?;
     out.end_map()
 }
 
 #[cycle(send)]
 fn send_fields<S: Serializer, T: Tables>(
-    parts: T,
+    table: T,
     depth: u8,
     kind: &str,
     fields: &[Field<'_>],
@@ -408,13 +417,13 @@ fn send_fields<S: Serializer, T: Tables>(
     alloc: Global,
     out: &mut S,
 ) -> Result<(), S::Error>
-    ensures { OnOk result (Sent (members_events (members (T.parts_of parts) (show (T.parts_of parts) depth kind.now) (fields_view fields.now) bytes.now)) (S.written out.old) (S.written out.new)) }
+    ensures { OnOk result (Sent (members_events (members (T.parts_of table) (show (T.parts_of table) depth kind.now) (fields_view fields.now) bytes.now)) (S.written out.old) (S.written out.new)) }
 {
     let mut left = bytes;
     for field in fields.iter() {
-        let width = fixed_width(parts, field.form);
+        let width = fixed_width(table, field.form);
         let (chunk, after) = split(left, width);
-        send_field(parts, depth, kind, field, chunk, alloc, out)?;
+        send_field(table, depth, kind, field, chunk, alloc, out)?;
         left = after;
     }
     send_rest(left, alloc, out)
@@ -423,7 +432,7 @@ fn send_fields<S: Serializer, T: Tables>(
 // A field, if it isn't blank padding.
 #[cycle(send)]
 fn send_field<S: Serializer, T: Tables>(
-    parts: T,
+    table: T,
     depth: u8,
     kind: &str,
     field: &Field<'_>,
@@ -432,13 +441,13 @@ fn send_field<S: Serializer, T: Tables>(
     out: &mut S,
 ) -> Result<(), S::Error>
     ensures { OnOk result ((after : Members) (end : Log) → Sent (members_events after) (S.written out.new) end
-        → Sent (members_events (field_member (T.parts_of parts) (show (T.parts_of parts) depth kind.now) (field_view field.now) chunk.now after)) (S.written out.old) end) }
+        → Sent (members_events (field_member (T.parts_of table) (show (T.parts_of table) depth kind.now) (field_view field.now) chunk.now after)) (S.written out.old) end) }
 {
-    if is_pad(field.form) && is_blank(fixed_width(parts, field.form), chunk) {
+    if is_pad(field.form) && is_blank(fixed_width(table, field.form), chunk) {
         return Ok(());
     }
     out.key(field.name)?;
-    send_form(parts, depth, kind, field.form, chunk, alloc, out)
+    send_form(table, depth, kind, field.form, chunk, alloc, out)
 }
 
 // The bytes of a field, and those behind it.
@@ -479,13 +488,13 @@ fn all_zero(bytes: &[u8]) -> bool
     }
 }
 
-fn are_enough<T: Tables>(parts: T, len: usize, fields: &[Field<'_>]) -> bool
-    ensures { result ≡ are_enough (T.parts_of parts) len (fields_view fields.now) }
+fn are_enough<T: Tables>(table: T, len: usize, fields: &[Field<'_>]) -> bool
+    ensures { result ≡ are_enough (T.parts_of table) len (fields_view fields.now) }
 {
     match fields.split_first() {
         Some((field, others)) => {
-            let width = fixed_width(parts, field.form).unwrap_or(0);
-            width <= len && are_enough(parts, len - width, others)
+            let width = fixed_width(table, field.form).unwrap_or(0);
+            width <= len && are_enough(table, len - width, others)
         }
         None => true,
     }
@@ -519,7 +528,7 @@ fn names_apart(fields: &[Field<'_>]) -> bool
 
 #[cycle(send)]
 fn send_elements<S: Serializer, T: Tables>(
-    parts: T,
+    table: T,
     depth: u8,
     kind: &str,
     form: Form,
@@ -527,16 +536,16 @@ fn send_elements<S: Serializer, T: Tables>(
     alloc: Global,
     out: &mut S,
 ) -> Result<(), S::Error>
-    ensures { OnOk result (Sent (events (array (elements_of (T.parts_of parts) (show (T.parts_of parts) depth kind.now) form (fixed (T.parts_of parts) form) bytes.now))) (S.written out.old) (S.written out.new)) }
+    ensures { OnOk result (Sent (events (array (elements_of (show (T.parts_of table) depth kind.now) form (fixed (T.parts_of table) form) bytes.now))) (S.written out.old) (S.written out.new)) }
 {
     out.begin_seq(None)?;
-    send_elements_of(parts, depth, kind, form, bytes, alloc, out)?;
+    send_elements_of(table, depth, kind, form, bytes, alloc, out)?;
     out.end_seq()
 }
 
 #[cycle(send)]
 fn send_elements_of<S: Serializer, T: Tables>(
-    parts: T,
+    table: T,
     depth: u8,
     kind: &str,
     form: Form,
@@ -544,17 +553,17 @@ fn send_elements_of<S: Serializer, T: Tables>(
     alloc: Global,
     out: &mut S,
 ) -> Result<(), S::Error>
-    ensures { OnOk result (Sent (items_events (elements_of (T.parts_of parts) (show (T.parts_of parts) depth kind.now) form (fixed (T.parts_of parts) form) bytes.now)) (S.written out.old) (S.written out.new)) }
+    ensures { OnOk result (Sent (items_events (elements_of (show (T.parts_of table) depth kind.now) form (fixed (T.parts_of table) form) bytes.now)) (S.written out.old) (S.written out.new)) }
 {
-    match fixed_width(parts, form) {
-        Some(width) => send_each_element(parts, depth, kind, form, width, bytes, alloc, out),
-        None => send_form(parts, depth, kind, form, bytes, alloc, out),
+    match fixed_width(table, form) {
+        Some(width) => send_each_element(table, depth, kind, form, width, bytes, alloc, out),
+        None => send_form(table, depth, kind, form, bytes, alloc, out),
     }
 }
 
 #[cycle(send)]
 fn send_each_element<S: Serializer, T: Tables>(
-    parts: T,
+    table: T,
     depth: u8,
     kind: &str,
     form: Form,
@@ -563,7 +572,7 @@ fn send_each_element<S: Serializer, T: Tables>(
     alloc: Global,
     out: &mut S,
 ) -> Result<(), S::Error>
-    ensures { OnOk result (Sent (items_events (elements (T.parts_of parts) (show (T.parts_of parts) depth kind.now) (length bytes.now) form width bytes.now)) (S.written out.old) (S.written out.new)) }
+    ensures { OnOk result (Sent (items_events (elements (show (T.parts_of table) depth kind.now) (length bytes.now) form width bytes.now)) (S.written out.old) (S.written out.new)) }
 {
     let mut left = bytes;
     for _count in 0..bytes.len() {
@@ -571,13 +580,13 @@ fn send_each_element<S: Serializer, T: Tables>(
             return Ok(());
         }
         let (element, after) = split(left, Some(width));
-        send_form(parts, depth, kind, form, element, alloc, out)?;
+        send_form(table, depth, kind, form, element, alloc, out)?;
         left = after;
     }
     if left.is_empty() {
         return Ok(());
     }
-    send_form(parts, depth, kind, form, left, alloc, out)
+    send_form(table, depth, kind, form, left, alloc, out)
 }
 
 // ---- lists of attributes
@@ -613,12 +622,22 @@ fn two_bytes(bytes: &[u8]) -> u16
     }
 }
 
-// The kind that a frame tells, in a list that has kinds.
+// The text of a value, before the one NUL that may end it.
+fn kind_text(value: &[u8]) -> Option<&str>
+    ensures { option_map (λ t. t.now) result ≡ kind_text value.now }
+{
+    match str::from_utf8(strip_nul(value)) {
+        Ok(text) => Some(text),
+        Err(_) => None,
+    }
+}
+
+// The kind that a frame sets, in a list that has kinds.
 fn kind_in(has: bool, word: u16, value: &[u8]) -> Option<&str>
     ensures { option_map (λ t. t.now) result ≡ kind_in has (record { word = word; value = value.now; pad = [] }) }
 {
     if has && type_of(word) == 1 {
-        text_in(value)
+        kind_text(value)
     } else {
         None
     }
@@ -629,8 +648,26 @@ fn kind_after<'a>(has: bool, word: u16, value: &'a [u8], kind: &'a str) -> &'a s
     ensures { result.now ≡ unwrap_or (kind_in has (record { word = word; value = value.now; pad = [] })) kind.now }
 {
     match kind_in(has, word, value) {
-        Some(told) => told,
+        Some(set) => set,
         None => kind,
+    }
+}
+
+// The rows behind a frame.
+fn rows_after<T: Tables>(
+    table: T,
+    place: usize,
+    word: u16,
+    value: &[u8],
+    kind: &str,
+    rows: &RowList<'static>,
+) -> RowList<'static>
+    requires { rows_in rows.now ≡ rows_under (T.parts_of table) place kind.now }
+    ensures { rows_in result ≡ rows_under (T.parts_of table) place (unwrap_or (kind_in true (record { word = word; value = value.now; pad = [] })) kind.now) }
+{
+    match kind_in(true, word, value) {
+        Some(set) => rows_under(table, place, set),
+        None => *rows,
     }
 }
 
@@ -654,7 +691,7 @@ fn own_kind(bytes: &[u8]) -> &str
 
 #[cycle(send)]
 fn send_list<S: Serializer, T: Tables>(
-    parts: T,
+    table: T,
     depth: u8,
     kind: &str,
     place: usize,
@@ -662,25 +699,25 @@ fn send_list<S: Serializer, T: Tables>(
     alloc: Global,
     out: &mut S,
 ) -> Result<(), S::Error>
-    ensures { OnOk result (Sent (events (shown (T.parts_of parts) (show (T.parts_of parts) depth) kind.now (Form.List place) bytes.now)) (S.written out.old) (S.written out.new)) }
+    ensures { OnOk result (Sent (events (shown (T.parts_of table) (show (T.parts_of table) depth) kind.now (Form.List place) bytes.now)) (S.written out.old) (S.written out.new)) }
 {
     out.begin_seq(None)?;
-    send_attributes(parts, depth, kind, layer_at(parts, place), rows_at(parts, place), bytes, alloc, out)?;
+    send_attributes(table, depth, kind, layer_at(table, place), &rows_under(table, place, kind), bytes, alloc, out)?;
     out.end_seq()
 }
 
 #[cycle(send)]
 fn send_attributes<S: Serializer, T: Tables>(
-    parts: T,
+    table: T,
     depth: u8,
     kind: &str,
     layer: &str,
-    rows: &[Row<'_>],
+    rows: &RowList<'static>,
     bytes: &[u8],
     alloc: Global,
     out: &mut S,
 ) -> Result<(), S::Error>
-    ensures { OnOk result (Sent (items_events (frames (λ k c. layered layer.now (attribute (show (T.parts_of parts) depth) (rows_view rows.now) false k c)) false (length bytes.now) kind.now bytes.now)) (S.written out.old) (S.written out.new)) }
+    ensures { OnOk result (Sent (items_events (frames (λ k c. layered layer.now (attribute (show (T.parts_of table) depth) (rows_in rows.now) false k c)) false (length bytes.now) kind.now bytes.now)) (S.written out.old) (S.written out.new)) }
 {
     let mut left = bytes;
     for _count in 0..bytes.len() {
@@ -688,7 +725,7 @@ fn send_attributes<S: Serializer, T: Tables>(
             Some(frame) => frame,
             None => return send_tail(left, alloc, out),
         };
-        send_item(parts, depth, kind, layer, rows, word, value, pad, alloc, out)?;
+        send_item(table, depth, kind, layer, rows, word, value, pad, alloc, out)?;
         left = after;
     }
     send_tail(left, alloc, out)
@@ -696,42 +733,44 @@ fn send_attributes<S: Serializer, T: Tables>(
 
 #[cycle(send)]
 fn send_kinded<S: Serializer, T: Tables>(
-    parts: T,
+    table: T,
     depth: u8,
     kind: &str,
-    rows: &[Row<'_>],
+    place: usize,
     bytes: &[u8],
     alloc: Global,
     out: &mut S,
 ) -> Result<(), S::Error>
-    ensures { OnOk result (Sent (events (array (frames (attribute (show (T.parts_of parts) depth) (rows_view rows.now) true) true (length bytes.now) kind.now bytes.now))) (S.written out.old) (S.written out.new)) }
+    ensures { OnOk result (Sent (events (array (frames (λ k c. attribute (show (T.parts_of table) depth) (rows_under (T.parts_of table) place k) true k c) true (length bytes.now) kind.now bytes.now))) (S.written out.old) (S.written out.new)) }
 {
     out.begin_seq(None)?;
-    send_kinded_attributes(parts, depth, kind, rows, bytes, alloc, out)?;
+    send_kinded_attributes(table, depth, kind, place, bytes, alloc, out)?;
     out.end_seq()
 }
 
 #[cycle(send)]
 fn send_kinded_attributes<S: Serializer, T: Tables>(
-    parts: T,
+    table: T,
     depth: u8,
     kind: &str,
-    rows: &[Row<'_>],
+    place: usize,
     bytes: &[u8],
     alloc: Global,
     out: &mut S,
 ) -> Result<(), S::Error>
-    ensures { OnOk result (Sent (items_events (frames (attribute (show (T.parts_of parts) depth) (rows_view rows.now) true) true (length bytes.now) kind.now bytes.now)) (S.written out.old) (S.written out.new)) }
+    ensures { OnOk result (Sent (items_events (frames (λ k c. attribute (show (T.parts_of table) depth) (rows_under (T.parts_of table) place k) true k c) true (length bytes.now) kind.now bytes.now)) (S.written out.old) (S.written out.new)) }
 {
     let mut left = bytes;
     let mut so_far = kind;
+    let mut rows = rows_under(table, place, kind);
     for _count in 0..bytes.len() {
         let (word, value, pad, after) = match front(left) {
             Some(frame) => frame,
             None => return send_tail(left, alloc, out),
         };
+        rows = rows_after(table, place, word, value, so_far, &rows);
         so_far = kind_after(true, word, value, so_far);
-        send_attribute(parts, depth, so_far, true, rows, word, value, pad, alloc, out)?;
+        send_attribute(table, depth, so_far, true, &rows, word, value, pad, alloc, out)?;
         left = after;
     }
     send_tail(left, alloc, out)
@@ -750,46 +789,46 @@ fn send_tail<S: Serializer>(bytes: &[u8], alloc: Global, out: &mut S) -> Result<
 // An attribute in its layer.
 #[cycle(send)]
 fn send_item<S: Serializer, T: Tables>(
-    parts: T,
+    table: T,
     depth: u8,
     kind: &str,
     layer: &str,
-    rows: &[Row<'_>],
+    rows: &RowList<'static>,
     word: u16,
     value: &[u8],
     pad: &[u8],
     alloc: Global,
     out: &mut S,
 ) -> Result<(), S::Error>
-    ensures { OnOk result (Sent (events (layered layer.now (attribute (show (T.parts_of parts) depth) (rows_view rows.now) false kind.now (record { word = word; value = value.now; pad = pad.now })))) (S.written out.old) (S.written out.new)) }
+    ensures { OnOk result (Sent (events (layered layer.now (attribute (show (T.parts_of table) depth) (rows_in rows.now) false kind.now (record { word = word; value = value.now; pad = pad.now })))) (S.written out.old) (S.written out.new)) }
 {
     if layer.is_empty() {
-        return send_attribute(parts, depth, kind, false, rows, word, value, pad, alloc, out);
+        return send_attribute(table, depth, kind, false, rows, word, value, pad, alloc, out);
     }
     out.begin_map(None)?;
     out.key(layer)?;
-    send_attribute(parts, depth, kind, false, rows, word, value, pad, alloc, out)?;
+    send_attribute(table, depth, kind, false, rows, word, value, pad, alloc, out)?;
     out.end_map()
 }
 
 #[cycle(send)]
 fn send_attribute<S: Serializer, T: Tables>(
-    parts: T,
+    table: T,
     depth: u8,
     kind: &str,
     has: bool,
-    rows: &[Row<'_>],
+    rows: &RowList<'static>,
     word: u16,
     value: &[u8],
     pad: &[u8],
     alloc: Global,
     out: &mut S,
 ) -> Result<(), S::Error>
-    ensures { OnOk result (Sent (events (attribute (show (T.parts_of parts) depth) (rows_view rows.now) has kind.now (record { word = word; value = value.now; pad = pad.now }))) (S.written out.old) (S.written out.new)) }
+    ensures { OnOk result (Sent (events (attribute (show (T.parts_of table) depth) (rows_in rows.now) has kind.now (record { word = word; value = value.now; pad = pad.now }))) (S.written out.old) (S.written out.new)) }
 {
     match kind_in(has, word, value) {
         Some(told) => send_kind(told, word, value, pad, alloc, out),
-        None => send_by_row(parts, depth, kind, rows, word, value, pad, alloc, out),
+        None => send_by_row(table, depth, kind, rows, word, value, pad, alloc, out),
     }
 }
 
@@ -807,29 +846,54 @@ fn send_kind<S: Serializer>(
     out.begin_map(None)?;
     out.key("Kind")?;
     out.str(kind)?;
-    send_told(1, word, value, pad, alloc, out)?;
+    send_kind_told(word, value, pad, alloc, out)?;
     out.end_map()
 }
 
-#[cycle(send)]
-fn send_by_row<S: Serializer, T: Tables>(
-    parts: T,
-    depth: u8,
-    kind: &str,
-    rows: &[Row<'_>],
+// That no NUL ends a kind, its word, and its padding.
+fn send_kind_told<S: Serializer>(
     word: u16,
     value: &[u8],
     pad: &[u8],
     alloc: Global,
     out: &mut S,
 ) -> Result<(), S::Error>
-    ensures { OnOk result (Sent (events (by_row (show (T.parts_of parts) depth) (rows_view rows.now) false kind.now (record { word = word; value = value.now; pad = pad.now }) (shown_row (rows_view rows.now) kind.now word))) (S.written out.old) (S.written out.new)) }
+    ensures { OnOk result (Sent (members_events (bare_told value.now (told 1 (record { word = word; value = value.now; pad = pad.now })))) (S.written out.old) (S.written out.new)) }
 {
-    match shown_row(rows, kind, word) {
+    if ends_in_nul(value) {
+        return send_told(1, word, value, pad, alloc, out);
+    }
+    out.key("bare")?;
+    out.bool(true)?;
+    send_told(1, word, value, pad, alloc, out)
+}
+
+// True where the last byte is a NUL.
+fn ends_in_nul(value: &[u8]) -> bool
+    ensures { result ≡ ends_in_nul value.now }
+{
+    matches!(value, [.., 0])
+}
+
+#[cycle(send)]
+fn send_by_row<S: Serializer, T: Tables>(
+    table: T,
+    depth: u8,
+    kind: &str,
+    rows: &RowList<'static>,
+    word: u16,
+    value: &[u8],
+    pad: &[u8],
+    alloc: Global,
+    out: &mut S,
+) -> Result<(), S::Error>
+    ensures { OnOk result (Sent (events (by_row (show (T.parts_of table) depth) (rows_in rows.now) false kind.now (record { word = word; value = value.now; pad = pad.now }) (shown_row (rows_in rows.now) word))) (S.written out.old) (S.written out.new)) }
+{
+    match shown_row(rows, word) {
         Some(row) => {
             out.begin_map(None)?;
             out.key(row.name)?;
-            send_form(parts, depth, kind, row.form, value, alloc, out)?;
+            send_form(table, depth, kind, row.form, value, alloc, out)?;
             send_told(row.word, word, value, pad, alloc, out)?;
             out.end_map()
         }
@@ -921,7 +985,7 @@ fn send_tab<S: Serializer>(word: u16, out: &mut S) -> Result<(), S::Error>
 
 #[cycle(send)]
 fn send_indexed<S: Serializer, T: Tables>(
-    parts: T,
+    table: T,
     depth: u8,
     kind: &str,
     place: usize,
@@ -929,16 +993,16 @@ fn send_indexed<S: Serializer, T: Tables>(
     alloc: Global,
     out: &mut S,
 ) -> Result<(), S::Error>
-    ensures { OnOk result (Sent (events (shown (T.parts_of parts) (show (T.parts_of parts) depth) kind.now (Form.Indexed place) bytes.now)) (S.written out.old) (S.written out.new)) }
+    ensures { OnOk result (Sent (events (shown (T.parts_of table) (show (T.parts_of table) depth) kind.now (Form.Indexed place) bytes.now)) (S.written out.old) (S.written out.new)) }
 {
     out.begin_seq(None)?;
-    send_each_indexed(parts, depth, kind, form_at(parts, place), bytes, alloc, out)?;
+    send_each_indexed(table, depth, kind, form_at(table, place), bytes, alloc, out)?;
     out.end_seq()
 }
 
 #[cycle(send)]
 fn send_each_indexed<S: Serializer, T: Tables>(
-    parts: T,
+    table: T,
     depth: u8,
     kind: &str,
     form: Form,
@@ -946,7 +1010,7 @@ fn send_each_indexed<S: Serializer, T: Tables>(
     alloc: Global,
     out: &mut S,
 ) -> Result<(), S::Error>
-    ensures { OnOk result (Sent (items_events (frames (λ k c. indexed c (show (T.parts_of parts) depth k form c.value)) false (length bytes.now) kind.now bytes.now)) (S.written out.old) (S.written out.new)) }
+    ensures { OnOk result (Sent (items_events (frames (λ k c. indexed c (show (T.parts_of table) depth k form c.value)) false (length bytes.now) kind.now bytes.now)) (S.written out.old) (S.written out.new)) }
 {
     let mut left = bytes;
     for _count in 0..bytes.len() {
@@ -954,7 +1018,7 @@ fn send_each_indexed<S: Serializer, T: Tables>(
             Some(frame) => frame,
             None => return send_tail(left, alloc, out),
         };
-        send_one_indexed(parts, depth, kind, form, word, value, pad, alloc, out)?;
+        send_one_indexed(table, depth, kind, form, word, value, pad, alloc, out)?;
         left = after;
     }
     send_tail(left, alloc, out)
@@ -962,7 +1026,7 @@ fn send_each_indexed<S: Serializer, T: Tables>(
 
 #[cycle(send)]
 fn send_one_indexed<S: Serializer, T: Tables>(
-    parts: T,
+    table: T,
     depth: u8,
     kind: &str,
     form: Form,
@@ -972,18 +1036,18 @@ fn send_one_indexed<S: Serializer, T: Tables>(
     alloc: Global,
     out: &mut S,
 ) -> Result<(), S::Error>
-    ensures { OnOk result (Sent (events (indexed (record { word = word; value = value.now; pad = pad.now }) (show (T.parts_of parts) depth kind.now form value.now))) (S.written out.old) (S.written out.new)) }
+    ensures { OnOk result (Sent (events (indexed (record { word = word; value = value.now; pad = pad.now }) (show (T.parts_of table) depth kind.now form value.now))) (S.written out.old) (S.written out.new)) }
 {
     out.begin_map(None)?;
     send_tab(word, out)?;
-    send_attributes_member(parts, depth, kind, form, value, alloc, out)?;
+    send_attributes_member(table, depth, kind, form, value, alloc, out)?;
     send_pad(word, value, pad, alloc, out)?;
     out.end_map()
 }
 
 #[cycle(send)]
 fn send_attributes_member<S: Serializer, T: Tables>(
-    parts: T,
+    table: T,
     depth: u8,
     kind: &str,
     form: Form,
@@ -991,17 +1055,17 @@ fn send_attributes_member<S: Serializer, T: Tables>(
     alloc: Global,
     out: &mut S,
 ) -> Result<(), S::Error>
-    ensures { OnOk result (Sent (members_events (member (codes "attributes") (show (T.parts_of parts) depth kind.now form value.now) no_members)) (S.written out.old) (S.written out.new)) }
+    ensures { OnOk result (Sent (members_events (member (codes "attributes") (show (T.parts_of table) depth kind.now form value.now) no_members)) (S.written out.old) (S.written out.new)) }
 {
     out.key("attributes")?;
-    send_form(parts, depth, kind, form, value, alloc, out)
+    send_form(table, depth, kind, form, value, alloc, out)
 }
 
 // ---- choices
 
 #[cycle(send)]
 fn send_choice<S: Serializer, T: Tables>(
-    parts: T,
+    table: T,
     depth: u8,
     kind: &str,
     choices: &[Choice<'_>],
@@ -1009,13 +1073,13 @@ fn send_choice<S: Serializer, T: Tables>(
     alloc: Global,
     out: &mut S,
 ) -> Result<(), S::Error>
-    ensures { OnOk result (Sent (events (by_choice (T.parts_of parts) (show (T.parts_of parts) depth kind.now) bytes.now (chosen (choices_view choices.now) bytes.now))) (S.written out.old) (S.written out.new)) }
+    ensures { OnOk result (Sent (events (by_choice (show (T.parts_of table) depth kind.now) bytes.now (chosen (choices_view choices.now) bytes.now))) (S.written out.old) (S.written out.new)) }
 {
     match chosen(choices, bytes) {
         Some(choice) => {
             out.begin_map(None)?;
             out.key(choice.name)?;
-            send_form(parts, depth, kind, choice.form, behind(bytes, choice.prefix.len()), alloc, out)?;
+            send_form(table, depth, kind, choice.form, behind(bytes, choice.prefix.len()), alloc, out)?;
             out.end_map()
         }
         None => send_unknown(bytes, alloc, out),

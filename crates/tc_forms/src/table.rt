@@ -1,14 +1,22 @@
 //! What a table has at a place, and how many bytes a form takes.
 
 ghost use Rattle.std.specs.Prelude.{◌≡◌, option_map, Some, take, length};
-ghost use Rattle.tc_forms.specs.Tables.{layer_of, choices_of, first, counts, of_type, of_name, is_choice, is_named, type_of};
-ghost use Rattle.tc_forms.specs.Shown.{shown_row, follows, chosen};
+ghost use Rattle.tc_forms.specs.Choices.{chosen, follows, is_choice, is_named};
+ghost use Rattle.tc_forms.specs.Numbers.{name_of, number_of};
+ghost use Rattle.tc_forms.specs.Places.{choices_of, fields_of, form_of, layer_of, names_of, part_at, rows_of};
+ghost use Rattle.tc_forms.specs.Records.{is_pad};
+ghost use Rattle.tc_forms.specs.Rows.{counts, is_reserved, of_name, of_type, shown_row, type_of};
+ghost use Rattle.tc_forms.specs.Search.{first};
+ghost use Rattle.tc_forms.specs.Tables.{choice_view, choices_view, field_view, fields_view, name_view, names_view, row_view, rows_view};
+ghost use Rattle.tc_forms.specs.Widths.{fields_width, fixed, number_width, width};
 ghost use Rattle.std.specs.Str.{bytes_eq};
-ghost use Rattle.tc_forms.specs.Tables.{part_at, names_of, fields_of, rows_of, form_of, number_width, width, fixed, fields_width, name_of, number_of, is_reserved, is_pad};
 
-ghost use Rattle.tc_forms.specs.Plain.{name_view, field_view, row_view, choice_view, names_view, fields_view, rows_view, choices_view};
 
-use crate::form::{Choice, Field, Form, Name, Number, Part, Row};
+ghost use Rattle.tc_forms.specs.Tables.{kinds_view};
+ghost use Rattle.tc_forms.specs.Places.{rows_under, kind_place};
+ghost use Rattle.tc_forms.specs.RowLists.{rows_in};
+
+use crate::form::{Choice, Field, Form, KindRows, Name, Number, Part, Row};
 use crate::tables::Tables;
 
 /// How deep forms nest at most in a table; what is deeper is shown raw.
@@ -29,72 +37,108 @@ impl Number {
 }
 
 /// The names at a place.
-pub(crate) fn names_at<T: Tables>(parts: T, place: usize) -> &'static [Name<'static>]
-    ensures { names_view result.now ≡ names_of (part_at (T.parts_of parts) place) }
+pub(crate) fn names_at<T: Tables>(table: T, place: usize) -> &'static [Name<'static>]
+    ensures { names_view result.now ≡ names_of (part_at (T.parts_of table) place) }
 {
-    if let Part::Names(names) = parts.part(place) {
+    if let Part::Names(names) = table.part(place) {
         return names;
     }
     &[]
 }
 
 /// The fields at a place.
-pub(crate) fn fields_at<T: Tables>(parts: T, place: usize) -> &'static [Field<'static>]
-    ensures { fields_view result.now ≡ fields_of (part_at (T.parts_of parts) place) }
+pub(crate) fn fields_at<T: Tables>(table: T, place: usize) -> &'static [Field<'static>]
+    ensures { fields_view result.now ≡ fields_of (part_at (T.parts_of table) place) }
 {
-    if let Part::Fields(fields) = parts.part(place) {
+    if let Part::Fields(fields) = table.part(place) {
         return fields;
     }
     &[]
 }
 
-/// The rows at a place.
-pub(crate) fn rows_at<T: Tables>(parts: T, place: usize) -> &'static [Row<'static>]
-    ensures { rows_view result.now ≡ rows_of (part_at (T.parts_of parts) place) }
+// The rows at a place.
+fn rows_at<T: Tables>(table: T, place: usize) -> &'static [Row<'static>]
+    ensures { rows_view result.now ≡ rows_of (part_at (T.parts_of table) place) }
 {
-    if let Part::Rows(_, rows) = parts.part(place) {
+    if let Part::Rows(_, rows) = table.part(place) {
         return rows;
     }
     &[]
 }
 
-/// The layer at a place.
-pub(crate) fn layer_at<T: Tables>(parts: T, place: usize) -> &'static str
-    ensures { result.now ≡ layer_of (part_at (T.parts_of parts) place) }
+/// The rows of a list under a kind: its own, and then those of every kind.
+#[derive(Clone, Copy)]
+pub(crate) struct RowList<'a> {
+    pub own: &'a [Row<'a>],
+    pub common: &'a [Row<'a>],
+}
+
+/// The rows of a list under a kind.
+pub(crate) fn rows_under<T: Tables>(table: T, place: usize, kind: &str) -> RowList<'static>
+    ensures { rows_in result ≡ rows_under (T.parts_of table) place kind.now }
 {
-    if let Part::Rows(layer, _) = parts.part(place) {
+    match table.part(place) {
+        Part::Rows(_, own) => RowList { own, common: &[] },
+        Part::Kinds(common, others, kinds) => RowList {
+            own: rows_at(table, kind_place(kind, others, kinds)),
+            common: rows_at(table, common),
+        },
+        _ => RowList {
+            own: &[],
+            common: &[],
+        },
+    }
+}
+
+// The place of the rows of a kind, or else this one.
+fn kind_place(kind: &str, others: usize, kinds: &[KindRows<'_>]) -> usize
+    ensures { result ≡ kind_place kind.now others (kinds_view kinds.now) }
+{
+    for it in kinds.iter() {
+        if is_same(it.kind, kind) {
+            return it.rows;
+        }
+    }
+    others
+}
+
+/// The layer at a place.
+pub(crate) fn layer_at<T: Tables>(table: T, place: usize) -> &'static str
+    ensures { result.now ≡ layer_of (part_at (T.parts_of table) place) }
+{
+    if let Part::Rows(layer, _) = table.part(place) {
         return layer;
     }
     ""
 }
 
 /// The choices at a place.
-pub(crate) fn choices_at<T: Tables>(parts: T, place: usize) -> &'static [Choice<'static>]
-    ensures { choices_view result.now ≡ choices_of (part_at (T.parts_of parts) place) }
+pub(crate) fn choices_at<T: Tables>(table: T, place: usize) -> &'static [Choice<'static>]
+    ensures { choices_view result.now ≡ choices_of (part_at (T.parts_of table) place) }
 {
-    if let Part::Choices(choices) = parts.part(place) {
+    if let Part::Choices(choices) = table.part(place) {
         return choices;
     }
     &[]
 }
 
 /// The form at a place.
-pub(crate) fn form_at<T: Tables>(parts: T, place: usize) -> Form
-    ensures { result ≡ form_of place (part_at (T.parts_of parts) place) }
+pub(crate) fn form_at<T: Tables>(table: T, place: usize) -> Form
+    ensures { result ≡ form_of place (part_at (T.parts_of table) place) }
 {
-    match parts.part(place) {
+    match table.part(place) {
         Part::One(form) => form,
         Part::Names(_) => Form::Hex,
         Part::Fields(_) => Form::Record(place),
-        Part::Rows(_, _) => Form::List(place),
+        Part::Rows(_, _) | Part::Kinds(_, _, _) => Form::List(place),
         Part::Choices(_) => Form::Choice(place),
     }
 }
 
 /// How many bytes a form takes, where that is fixed.
 #[cycle(width)]
-pub(crate) fn width<T: Tables>(parts: T, depth: u8, form: Form) -> Option<usize>
-    ensures { result ≡ width depth (T.parts_of parts) form }
+pub(crate) fn width<T: Tables>(table: T, depth: u8, form: Form) -> Option<usize>
+    ensures { result ≡ width depth (T.parts_of table) form }
 {
     let inner = match depth.checked_sub(1) {
         Some(inner) => inner,
@@ -108,8 +152,8 @@ pub(crate) fn width<T: Tables>(parts: T, depth: u8, form: Form) -> Option<usize>
         Form::Bytes(len) | Form::Pad(len) => Some(len),
         Form::Mac => Some(6),
         Form::Ipv6 => Some(16),
-        Form::Record(place) => fields_width(parts, inner, fields_at(parts, place)),
-        Form::Times(count, place) => match width(parts, inner, form_at(parts, place)) {
+        Form::Record(place) => fields_width(table, inner, fields_at(table, place)),
+        Form::Times(count, place) => match width(table, inner, form_at(table, place)) {
             Some(width) => count.checked_mul(width),
             None => None,
         },
@@ -120,12 +164,12 @@ pub(crate) fn width<T: Tables>(parts: T, depth: u8, form: Form) -> Option<usize>
 
 // How many bytes the fields take.
 #[cycle(width)]
-fn fields_width<T: Tables>(parts: T, depth: u8, fields: &[Field<'_>]) -> Option<usize>
-    ensures { result ≡ fields_width (width depth (T.parts_of parts)) 0 (fields_view fields.now) }
+fn fields_width<T: Tables>(table: T, depth: u8, fields: &[Field<'_>]) -> Option<usize>
+    ensures { result ≡ fields_width (width depth (T.parts_of table)) 0 (fields_view fields.now) }
 {
     let mut total = 0usize;
     for field in fields.iter() {
-        let width = match width(parts, depth, field.form) {
+        let width = match width(table, depth, field.form) {
             Some(width) => width,
             None => return None,
         };
@@ -138,11 +182,11 @@ fn fields_width<T: Tables>(parts: T, depth: u8, fields: &[Field<'_>]) -> Option<
 }
 
 /// How many bytes a form takes, where that is fixed and it nests no deeper than [`DEEPEST`].
-#[tactic(auto, unfolding(crate::specs::Tables::fixed))]
-pub(crate) fn fixed_width<T: Tables>(parts: T, form: Form) -> Option<usize>
-    ensures { result ≡ fixed (T.parts_of parts) form }
+#[tactic(auto, unfolding(crate::specs::Widths::fixed))]
+pub(crate) fn fixed_width<T: Tables>(table: T, form: Form) -> Option<usize>
+    ensures { result ≡ fixed (T.parts_of table) form }
 {
-    width(parts, DEEPEST, form)
+    width(table, DEEPEST, form)
 }
 
 /// True for padding.
@@ -181,63 +225,82 @@ pub(crate) fn type_of(word: u16) -> u16
     word % 16384
 }
 
-/// True for a row that counts under a kind.
-#[tactic(auto, using(crate::proofs::Found::and_false, crate::proofs::Found::and_true))]
-pub(crate) fn counts(kind: &str, row: &Row<'_>) -> bool
-    ensures { result ≡ counts kind.now (row_view row.now) }
+/// True for a row that counts.
+pub(crate) fn counts(row: &Row<'_>) -> bool
+    ensures { result ≡ counts (row_view row.now) }
 {
-    (is_same(row.kind, "") || is_same(row.kind, kind)) && !is_reserved(row.name)
+    !is_reserved(row.name)
 }
 
-// True for a row of a type under a kind. The types are compared first, since that takes least.
+// True for a row of a type. The types are compared first, since that takes least.
 #[tactic(auto, using(crate::proofs::Found::and_false, crate::proofs::Found::and_true))]
-fn is_of_type(kind: &str, word: u16, row: &Row<'_>) -> bool
-    ensures { result ≡ of_type kind.now word (row_view row.now) }
+fn is_of_type(word: u16, row: &Row<'_>) -> bool
+    ensures { result ≡ of_type word (row_view row.now) }
 {
-    type_of(row.word) == type_of(word) && counts(kind, row)
+    type_of(row.word) == type_of(word) && counts(row)
 }
 
-// True for a row of a name under a kind.
+// True for a row of a name.
 #[tactic(auto, using(crate::proofs::Found::and_false, crate::proofs::Found::and_true))]
-fn is_of_name(kind: &str, name: &str, row: &Row<'_>) -> bool
-    ensures { result ≡ of_name kind.now name.now (row_view row.now) }
+fn is_of_name(name: &str, row: &Row<'_>) -> bool
+    ensures { result ≡ of_name name.now (row_view row.now) }
 {
-    is_same(row.name, name) && counts(kind, row)
+    is_same(row.name, name) && counts(row)
 }
 
-// The first row of a type under a kind.
-fn row_of_type<'a>(rows: &[Row<'a>], kind: &str, word: u16) -> Option<Row<'a>>
-    ensures { option_map row_view result ≡ first (of_type kind.now word) (rows_view rows.now) }
+// The first row of a type.
+fn row_of_type<'a>(rows: &[Row<'a>], word: u16) -> Option<Row<'a>>
+    ensures { option_map row_view result ≡ first (of_type word) (rows_view rows.now) }
 {
     for row in rows.iter() {
-        if is_of_type(kind, word, row) {
+        if is_of_type(word, row) {
             return Some(*row);
         }
     }
     None
 }
 
-// The first row of a name under a kind.
-fn row_of_name<'a>(rows: &[Row<'a>], kind: &str, name: &str) -> Option<Row<'a>>
-    ensures { option_map row_view result ≡ first (of_name kind.now name.now) (rows_view rows.now) }
+// The first row of a type among those of a list.
+fn row_of_type_in<'a>(rows: &RowList<'a>, word: u16) -> Option<Row<'a>>
+    ensures { option_map row_view result ≡ first (of_type word) (rows_in rows.now) }
+{
+    match row_of_type(rows.own, word) {
+        Some(row) => Some(row),
+        None => row_of_type(rows.common, word),
+    }
+}
+
+// The first row of a name.
+fn row_of_name<'a>(rows: &[Row<'a>], name: &str) -> Option<Row<'a>>
+    ensures { option_map row_view result ≡ first (of_name name.now) (rows_view rows.now) }
 {
     for row in rows.iter() {
-        if is_of_name(kind, name, row) {
+        if is_of_name(name, row) {
             return Some(*row);
         }
     }
     None
 }
 
-/// The row of a type under a kind, if it is the row of its name too.
-pub(crate) fn shown_row<'a>(rows: &[Row<'a>], kind: &str, word: u16) -> Option<Row<'a>>
-    ensures { option_map row_view result ≡ shown_row (rows_view rows.now) kind.now word }
+// The first row of a name among those of a list.
+fn row_of_name_in<'a>(rows: &RowList<'a>, name: &str) -> Option<Row<'a>>
+    ensures { option_map row_view result ≡ first (of_name name.now) (rows_in rows.now) }
 {
-    let row = match row_of_type(rows, kind, word) {
+    match row_of_name(rows.own, name) {
+        Some(row) => Some(row),
+        None => row_of_name(rows.common, name),
+    }
+}
+
+/// The row of a type, if it is the row of its name too.
+pub(crate) fn shown_row<'a>(rows: &RowList<'a>, word: u16) -> Option<Row<'a>>
+    ensures { option_map row_view result ≡ shown_row (rows_in rows.now) word }
+{
+    let row = match row_of_type_in(rows, word) {
         Some(row) => row,
         None => return None,
     };
-    let named = match row_of_name(rows, kind, row.name) {
+    let named = match row_of_name_in(rows, row.name) {
         Some(named) => named,
         None => return None,
     };
@@ -323,6 +386,7 @@ pub(crate) fn is_reserved(name: &str) -> bool
         || is_same(name, "word")
         || is_same(name, "pad")
         || is_same(name, "Kind")
+        || is_same(name, "bare")
 }
 
 /// True for equal texts.

@@ -1,7 +1,7 @@
 //! Tables, whatever holds them.
 
 ghost use Rattle.std.specs.Prelude.{◌≡◌};
-ghost use Rattle.tc_forms.specs.Plain.{Table, part_view};
+ghost use Rattle.tc_forms.specs.Tables.{Table, part_view};
 
 use crate::form::Part;
 

@@ -1,8 +1,8 @@
 use Rattle.std.specs.Prelude.{[]}
 use Rattle.nla_frames.proofs.Bytes.{IsBytes-slice}
-use Rattle.tc_forms.specs.Tables.{deepest}
-use Rattle.tc_forms.specs.Shown.{shown_of}
 use Rattle.tc_forms.specs.Made.{made_of}
+use Rattle.tc_forms.specs.Shown.{shown_of}
+use Rattle.tc_forms.specs.Widths.{deepest}
 use Rattle.tc_forms.proofs.Law.{shown_again}
 use Rattle.tc_forms.proofs.Ordered.{shown_read}
 use Rattle.tc_forms.proofs.laws.shown_is_made.Goals as goal
@@ -12,6 +12,6 @@ unfolding shown_of made_of
 returns g c =
     let bytes = IsBytes-slice c.args.bytes.now c.type_inv.bytes in
     record {
-      again = shown_again (g.T.Tables.parts_of c.args.parts) deepest [] c.args.form c.args.bytes.now bytes;
-      read = shown_read (g.T.Tables.parts_of c.args.parts) deepest [] c.args.form c.args.bytes.now bytes
+      again = shown_again (g.T.Tables.parts_of c.args.table) deepest [] c.args.form c.args.bytes.now bytes;
+      read = shown_read (g.T.Tables.parts_of c.args.table) deepest [] c.args.form c.args.bytes.now bytes
     }

@@ -1,10 +1,15 @@
-use Rattle.tc_forms.specs.Plain.{fields_view, rows_view}
+use Rattle.tc_forms.specs.AttributesMade.{each_under, indexed_made}
+use Rattle.tc_forms.specs.Made.{make}
+use Rattle.tc_forms.specs.Records.{each_made, fields_made}
+use Rattle.tc_forms.specs.Tables.{fields_view}
 use denote.Text.{Utf8}
 use denote.Shadow.{shadow}
 use Rattle.std.proofs.Common.{◌≡◌, ◌+◌, ◌*◌, drop, ◌++◌}
 use Rattle.std.specs.Prelude.{option_map, true, false}
 use Rattle.serde_json.specs.View.{view, items_view}
-use Rattle.tc_forms.specs.Made.{make, fields_made, each_made, each_under, layered_made, attribute_made, indexed_made}
+use Rattle.tc_forms.specs.Places.{rows_under}
+use Rattle.tc_forms.specs.RowLists.{rows_in}
+use Rattle.tc_forms.specs.AttributesMade.{layered_by, kinded_made}
 use Rattle.tc_forms.proofs.make.+make.Given as goal
 
 abbrev pub decreases-make_form : goal.decreases-make_form
@@ -79,27 +84,28 @@ decreases-make_chosen g l = 8 * l.depth + 1
 -- what is to be appended from here is what was to be appended from the start
 abbrev pub invariant-make_fields-loop-field : goal.invariant-make_fields-loop-field
 invariant-make_fields-loop-field g l =
-    option_map (λ b. l.maker.bytes.items ++ b) (fields_made (g.T.Tables.parts_of l.parts) (make (g.T.Tables.parts_of l.parts) l.depth l.kind) (fields_view (drop l.field-index l.fields)) (view l.value))
-    ≡ option_map (λ b. l.initial.maker.bytes.items ++ b) (fields_made (g.T.Tables.parts_of l.parts) (make (g.T.Tables.parts_of l.parts) l.depth l.kind) (fields_view l.fields) (view l.value))
+    option_map (λ b. l.maker.bytes.items ++ b) (fields_made (g.T.Tables.parts_of l.table) (make (g.T.Tables.parts_of l.table) l.depth l.kind) (fields_view (drop l.field-index l.fields)) (view l.value))
+    ≡ option_map (λ b. l.initial.maker.bytes.items ++ b) (fields_made (g.T.Tables.parts_of l.table) (make (g.T.Tables.parts_of l.table) l.depth l.kind) (fields_view l.fields) (view l.value))
 
 abbrev pub invariant-make_each_of_elements-loop-place : goal.invariant-make_each_of_elements-loop-place
 invariant-make_each_of_elements-loop-place g l =
-    option_map (λ b. l.maker.bytes.items ++ b) (each_made (make (g.T.Tables.parts_of l.parts) l.depth l.kind l.form) (items_view (drop l.place l.items)))
-    ≡ option_map (λ b. l.initial.maker.bytes.items ++ b) (each_made (make (g.T.Tables.parts_of l.parts) l.depth l.kind l.form) (items_view l.items))
+    option_map (λ b. l.maker.bytes.items ++ b) (each_made (make (g.T.Tables.parts_of l.table) l.depth l.kind l.form) (items_view (drop l.place l.items)))
+    ≡ option_map (λ b. l.initial.maker.bytes.items ++ b) (each_made (make (g.T.Tables.parts_of l.table) l.depth l.kind l.form) (items_view l.items))
 
 abbrev pub invariant-make_each_of_list-loop-place : goal.invariant-make_each_of_list-loop-place
 invariant-make_each_of_list-loop-place g l =
-    option_map (λ b. l.maker.bytes.items ++ b) (each_under (layered_made (g.T.Tables.parts_of l.parts) (make (g.T.Tables.parts_of l.parts) l.depth) l.list) false l.kind (items_view (drop l.place l.items)))
-    ≡ option_map (λ b. l.initial.maker.bytes.items ++ b) (each_under (layered_made (g.T.Tables.parts_of l.parts) (make (g.T.Tables.parts_of l.parts) l.depth) l.list) false l.kind (items_view l.items))
+    option_map (λ b. l.maker.bytes.items ++ b) (each_under (layered_by (make (g.T.Tables.parts_of l.table) l.depth) (rows_in l.rows) false l.layer) false l.kind (items_view (drop l.place l.items)))
+    ≡ option_map (λ b. l.initial.maker.bytes.items ++ b) (each_under (layered_by (make (g.T.Tables.parts_of l.table) l.depth) (rows_in l.rows) false l.layer) false l.kind (items_view l.items))
 
 abbrev pub invariant-make_each_of_indexed-loop-place : goal.invariant-make_each_of_indexed-loop-place
 invariant-make_each_of_indexed-loop-place g l =
-    option_map (λ b. l.maker.bytes.items ++ b) (each_under (indexed_made (g.T.Tables.parts_of l.parts) (make (g.T.Tables.parts_of l.parts) l.depth) l.list) false l.kind (items_view (drop l.place l.items)))
-    ≡ option_map (λ b. l.initial.maker.bytes.items ++ b) (each_under (indexed_made (g.T.Tables.parts_of l.parts) (make (g.T.Tables.parts_of l.parts) l.depth) l.list) false l.kind (items_view l.items))
+    option_map (λ b. l.maker.bytes.items ++ b) (each_under (indexed_made (g.T.Tables.parts_of l.table) (make (g.T.Tables.parts_of l.table) l.depth) l.list) false l.kind (items_view (drop l.place l.items)))
+    ≡ option_map (λ b. l.initial.maker.bytes.items ++ b) (each_under (indexed_made (g.T.Tables.parts_of l.table) (make (g.T.Tables.parts_of l.table) l.depth) l.list) false l.kind (items_view l.items))
 
 abbrev pub invariant-make_each_of_kinded-loop-place : goal.invariant-make_each_of_kinded-loop-place
 invariant-make_each_of_kinded-loop-place g l =
     shadow (Utf8 l.so_far)
-    × (option_map (λ b. l.maker.bytes.items ++ b) (each_under (attribute_made (make (g.T.Tables.parts_of l.parts) l.depth) (rows_view l.rows) true) true l.so_far (items_view (drop l.place l.items)))
-    ≡ option_map (λ b. l.initial.maker.bytes.items ++ b) (each_under (attribute_made (make (g.T.Tables.parts_of l.parts) l.depth) (rows_view l.rows) true) true l.kind (items_view l.items)))
+    × ((rows_in l.rows ≡ rows_under (g.T.Tables.parts_of l.table) l.list l.so_far)
+    × (option_map (λ b. l.maker.bytes.items ++ b) (each_under (kinded_made (g.T.Tables.parts_of l.table) (make (g.T.Tables.parts_of l.table) l.depth) l.list) true l.so_far (items_view (drop l.place l.items)))
+    ≡ option_map (λ b. l.initial.maker.bytes.items ++ b) (each_under (kinded_made (g.T.Tables.parts_of l.table) (make (g.T.Tables.parts_of l.table) l.depth) l.list) true l.kind (items_view l.items))))
 

@@ -1,9 +1,9 @@
-use Rattle.std.proofs.Common.{◌+◌, ◌++◌, length, replicate, ap, ◌∙◌, Some, List, ℕ}
+use Rattle.std.proofs.Common.{◌+◌, ◌++◌, length, ap, ◌∙◌}
 use Rattle.std.specs.Prelude.{codes, option_map}
 use Rattle.nla_frames.specs.Value.{le_bytes}
 use Rattle.serde_json.specs.Find.{get}
 use Rattle.serde_json.specs.View.{view}
-use Rattle.tc_forms.specs.Made.{pad_or}
+use Rattle.tc_forms.specs.AttributesMade.{pad_or}
 use Rattle.tc_forms.proofs.Making.{then_maybe, appended_as, framed_maybe}
 use Rattle.tc_forms.proofs.make.put_frame.Goals as goal
 

@@ -1,11 +1,16 @@
-use Rattle.tc_forms.specs.Plain.{fields_view, rows_view}
+use Rattle.tc_forms.specs.Attributes.{attribute, frames, indexed, layered}
+use Rattle.tc_forms.specs.Records.{elements, members}
+use Rattle.tc_forms.specs.Sent.{Sent, items_events, members_events}
+use Rattle.tc_forms.specs.Shown.{show}
+use Rattle.tc_forms.specs.Tables.{fields_view}
 use denote.Text.{Utf8}
 use denote.Shadow.{shadow}
 use Rattle.std.proofs.Common.{◌+◌, ◌*◌, ◌-◌, length, drop}
 use Rattle.std.specs.Prelude.{true, false}
 use Rattle.serde.specs.Event.{Log}
-use Rattle.tc_forms.specs.Shown.{show, members, elements, frames, attribute, indexed, layered}
-use Rattle.tc_forms.specs.Sent.{Sent, items_events, members_events}
+use Rattle.tc_forms.specs.Places.{rows_under}
+use Rattle.tc_forms.specs.RowLists.{rows_in}
+use Rattle.std.proofs.Common.{◌≡◌}
 use Rattle.tc_forms.proofs.show.+send.Given as goal
 
 abbrev pub decreases-send_form : goal.decreases-send_form
@@ -68,26 +73,27 @@ decreases-send_choice g l = 6 * l.depth + 1
 -- whatever ends it well from here ends it well from the start
 abbrev pub invariant-send_fields-loop-field : goal.invariant-send_fields-loop-field
 invariant-send_fields-loop-field g l =
-    (end : Log) → Sent (members_events (members (g.T.Tables.parts_of l.parts) (show (g.T.Tables.parts_of l.parts) l.depth l.kind) (fields_view (drop l.field-index l.fields)) l.left)) (g.S.Serializer.written l.out) end
-    → Sent (members_events (members (g.T.Tables.parts_of l.parts) (show (g.T.Tables.parts_of l.parts) l.depth l.kind) (fields_view l.fields) l.bytes)) (g.S.Serializer.written l.initial.out) end
+    (end : Log) → Sent (members_events (members (g.T.Tables.parts_of l.table) (show (g.T.Tables.parts_of l.table) l.depth l.kind) (fields_view (drop l.field-index l.fields)) l.left)) (g.S.Serializer.written l.out) end
+    → Sent (members_events (members (g.T.Tables.parts_of l.table) (show (g.T.Tables.parts_of l.table) l.depth l.kind) (fields_view l.fields) l.bytes)) (g.S.Serializer.written l.initial.out) end
 
 abbrev pub invariant-send_each_element-loop-count : goal.invariant-send_each_element-loop-count
 invariant-send_each_element-loop-count g l =
-    (end : Log) → Sent (items_events (elements (g.T.Tables.parts_of l.parts) (show (g.T.Tables.parts_of l.parts) l.depth l.kind) (length l.bytes - l._count) l.form l.width l.left)) (g.S.Serializer.written l.out) end
-    → Sent (items_events (elements (g.T.Tables.parts_of l.parts) (show (g.T.Tables.parts_of l.parts) l.depth l.kind) (length l.bytes) l.form l.width l.bytes)) (g.S.Serializer.written l.initial.out) end
+    (end : Log) → Sent (items_events (elements (show (g.T.Tables.parts_of l.table) l.depth l.kind) (length l.bytes - l._count) l.form l.width l.left)) (g.S.Serializer.written l.out) end
+    → Sent (items_events (elements (show (g.T.Tables.parts_of l.table) l.depth l.kind) (length l.bytes) l.form l.width l.bytes)) (g.S.Serializer.written l.initial.out) end
 
 abbrev pub invariant-send_attributes-loop-count : goal.invariant-send_attributes-loop-count
 invariant-send_attributes-loop-count g l =
-    (end : Log) → Sent (items_events (frames (λ k c. layered l.layer (attribute (show (g.T.Tables.parts_of l.parts) l.depth) (rows_view l.rows) false k c)) false (length l.bytes - l._count) l.kind l.left)) (g.S.Serializer.written l.out) end
-    → Sent (items_events (frames (λ k c. layered l.layer (attribute (show (g.T.Tables.parts_of l.parts) l.depth) (rows_view l.rows) false k c)) false (length l.bytes) l.kind l.bytes)) (g.S.Serializer.written l.initial.out) end
+    (end : Log) → Sent (items_events (frames (λ k c. layered l.layer (attribute (show (g.T.Tables.parts_of l.table) l.depth) (rows_in l.rows) false k c)) false (length l.bytes - l._count) l.kind l.left)) (g.S.Serializer.written l.out) end
+    → Sent (items_events (frames (λ k c. layered l.layer (attribute (show (g.T.Tables.parts_of l.table) l.depth) (rows_in l.rows) false k c)) false (length l.bytes) l.kind l.bytes)) (g.S.Serializer.written l.initial.out) end
 
 abbrev pub invariant-send_kinded_attributes-loop-count : goal.invariant-send_kinded_attributes-loop-count
 invariant-send_kinded_attributes-loop-count g l =
     shadow (Utf8 l.so_far)
-    × ((end : Log) → Sent (items_events (frames (attribute (show (g.T.Tables.parts_of l.parts) l.depth) (rows_view l.rows) true) true (length l.bytes - l._count) l.so_far l.left)) (g.S.Serializer.written l.out) end
-      → Sent (items_events (frames (attribute (show (g.T.Tables.parts_of l.parts) l.depth) (rows_view l.rows) true) true (length l.bytes) l.kind l.bytes)) (g.S.Serializer.written l.initial.out) end)
+    × ((rows_in l.rows ≡ rows_under (g.T.Tables.parts_of l.table) l.place l.so_far)
+    × ((end : Log) → Sent (items_events (frames (λ k c. attribute (show (g.T.Tables.parts_of l.table) l.depth) (rows_under (g.T.Tables.parts_of l.table) l.place k) true k c) true (length l.bytes - l._count) l.so_far l.left)) (g.S.Serializer.written l.out) end
+      → Sent (items_events (frames (λ k c. attribute (show (g.T.Tables.parts_of l.table) l.depth) (rows_under (g.T.Tables.parts_of l.table) l.place k) true k c) true (length l.bytes) l.kind l.bytes)) (g.S.Serializer.written l.initial.out) end))
 
 abbrev pub invariant-send_each_indexed-loop-count : goal.invariant-send_each_indexed-loop-count
 invariant-send_each_indexed-loop-count g l =
-    (end : Log) → Sent (items_events (frames (λ k c. indexed c (show (g.T.Tables.parts_of l.parts) l.depth k l.form c.value)) false (length l.bytes - l._count) l.kind l.left)) (g.S.Serializer.written l.out) end
-    → Sent (items_events (frames (λ k c. indexed c (show (g.T.Tables.parts_of l.parts) l.depth k l.form c.value)) false (length l.bytes) l.kind l.bytes)) (g.S.Serializer.written l.initial.out) end
+    (end : Log) → Sent (items_events (frames (λ k c. indexed c (show (g.T.Tables.parts_of l.table) l.depth k l.form c.value)) false (length l.bytes - l._count) l.kind l.left)) (g.S.Serializer.written l.out) end
+    → Sent (items_events (frames (λ k c. indexed c (show (g.T.Tables.parts_of l.table) l.depth k l.form c.value)) false (length l.bytes) l.kind l.bytes)) (g.S.Serializer.written l.initial.out) end

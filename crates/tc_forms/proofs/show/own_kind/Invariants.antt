@@ -1,5 +1,5 @@
 use Rattle.std.proofs.Common.{◌≡◌, ◌-◌, length}
-use Rattle.tc_forms.specs.Cuts.{own_kind}
+use Rattle.tc_forms.specs.Kinds.{own_kind}
 use Rattle.tc_forms.proofs.show.own_kind.Given as goal
 
 abbrev pub invariant-loop-count : goal.invariant-loop-count

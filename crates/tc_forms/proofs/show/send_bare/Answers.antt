@@ -1,4 +1,3 @@
-use Rattle.std.proofs.Common.{◌≡◌}
 use Rattle.std.proofs.lemmas.Result.{on_ok_weaker}
 use Rattle.tc_forms.proofs.Sending.{bare_sent, bare_raw}
 use Rattle.tc_forms.proofs.show.send_bare.Goals as goal

@@ -1,6 +1,6 @@
-use Rattle.tc_forms.specs.Plain.{fields_view}
+use Rattle.tc_forms.specs.Tables.{fields_view}
+use Rattle.tc_forms.specs.Widths.{fields_width, width}
 use Rattle.std.proofs.Common.{◌≡◌, ◌+◌, ◌*◌, drop}
-use Rattle.tc_forms.specs.Tables.{width, fields_width}
 use Rattle.tc_forms.proofs.table.+width.Given as goal
 
 abbrev pub decreases-width : goal.decreases-width
@@ -11,4 +11,4 @@ decreases-fields_width g l = 2 * l.depth + 1
 
 abbrev pub invariant-fields_width-loop-field : goal.invariant-fields_width-loop-field
 invariant-fields_width-loop-field g l =
-    fields_width (width l.depth (g.T.Tables.parts_of l.parts)) l.total (fields_view (drop l.field-index l.fields)) ≡ fields_width (width l.depth (g.T.Tables.parts_of l.parts)) 0 (fields_view l.fields)
+    fields_width (width l.depth (g.T.Tables.parts_of l.table)) l.total (fields_view (drop l.field-index l.fields)) ≡ fields_width (width l.depth (g.T.Tables.parts_of l.table)) 0 (fields_view l.fields)
