@@ -10,8 +10,9 @@ use Rattle.tc_forms.specs.declared.form.Form.{Form}
 use Rattle.tc_forms.specs.declared.form.Form.TheVariants as form
 use Rattle.tc_forms.specs.declared.form.Number.{Number}
 use Rattle.tc_forms.specs.declared.form.Number.TheVariants as number
-use Rattle.tc_forms.specs.Plain.{Name, Field, Table}
-use Rattle.tc_kinds_codec.specs.Tables.{names_in, fields_at}
+use Rattle.tc_forms.specs.Tables.{Name, Field, Table}
+use Rattle.tc_forms.specs.Places.{part_at, names_of}
+use Rattle.tc_kinds_codec.specs.Tables.{fields_at}
 
 -- ---- what a value is: a form, or a number with these names
 
@@ -20,7 +21,7 @@ pub data Value : Type 0 where
   numbered : Number → List Name → Value
 
 abbrev pub value_of : Table → Form → Value
-value_of table (form.Named k i) = numbered k (names_in (table i))
+value_of table (form.Named k i) = numbered k (names_of (part_at table i))
 value_of table f = plain f
 
 abbrev pub with_names : List ℕ → List (List ℕ) → List Name

@@ -10,8 +10,9 @@ use Rattle.tc_forms.specs.declared.form.Form.{Form}
 use Rattle.tc_forms.specs.declared.form.Form.TheVariants as form
 use Rattle.tc_forms.specs.declared.form.Number.{Number}
 use Rattle.tc_forms.specs.declared.form.Number.TheVariants as number
-use Rattle.tc_forms.specs.Plain.{Row, Table}
-use Rattle.tc_kinds_codec.specs.Tables.{row_of_type, fields_at}
+use Rattle.tc_forms.specs.Tables.{Row, Table}
+use Rattle.tc_forms.specs.Rows.{shown_row}
+use Rattle.tc_kinds_codec.specs.Tables.{fields_at}
 use Rattle.tc_kinds_codec.specs.Records.{layout_of}
 
 -- ---- what a value is on the wire. Bytes that the codec keeps raw may be anything; lists are compared on their own
@@ -128,7 +129,7 @@ said (types first last flags class rows) names = said_from (suc last - first) fi
 said (unread n class rows) names = said rows names
 said (options n kinds rows) names = said rows names
 
--- by the row of its type
+-- by the row that an attribute of this type is shown by
 abbrev pub found : Table → Said → Option Row → Said
 found table s None = record { type = s.type; word = 0; name = []; wire = raw; look = anything }
 found table s (Some r) =
@@ -136,7 +137,7 @@ found table s (Some r) =
 
 -- these rows have all of the codec's
 abbrev pub HasRows : Table → List Row → Rows → List Named → Type 0
-HasRows table rows codec names = map (λ s. found table s (row_of_type rows s.type)) (said codec names) ≡ said codec names
+HasRows table rows codec names = map (λ s. found table s (shown_row rows s.type)) (said codec names) ≡ said codec names
 
 -- the codec's rows behind the first, which sets a kind
 abbrev pub behind_kind : Rows → Rows

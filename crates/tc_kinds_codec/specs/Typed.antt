@@ -2,9 +2,11 @@
 use Rattle.std.specs.Prelude.{ℕ, List, [], ◌∷◌, codes, map, option_map, unwrap_or}
 use Rattle.tc_names.specs.Named.{NamedKind}
 use Rattle.tc_forms.specs.declared.form.Form.{Form}
-use Rattle.tc_forms.specs.Plain.{Row}
+use Rattle.tc_forms.specs.Tables.{Row}
 use Rattle.tc_kinds.specs.Table.{tc_tables, tc_message, action_message}
-use Rattle.tc_kinds_codec.specs.Tables.{row_of_type, form_of_field, first_field, choice_form, rows_at, form_at, held_at, layer_in, place_in}
+use Rattle.tc_kinds_codec.specs.Tables.{form_of_field, first_field, choice_form, rows_at, form_at, held_at, place_in}
+use Rattle.tc_forms.specs.Places.{part_at, layer_of}
+use Rattle.tc_forms.specs.Rows.{shown_row}
 
 -- the attributes of a message under a kind
 abbrev pub tc_rows : List ℕ → List Row
@@ -65,7 +67,7 @@ keys_of_selector f = form_of_field tc_tables f (codes "keys")
 -- ---- the names around the attributes of options, and the words of options
 
 abbrev pub layer_at : Form → List ℕ
-layer_at f = layer_in (tc_tables (place_in f))
+layer_at f = layer_of (part_at tc_tables (place_in f))
 
 abbrev pub layers : List NamedKind → List (List ℕ)
 layers kinds = map (λ k. layer_at (options k.kind)) kinds
@@ -74,7 +76,7 @@ abbrev pub action_layers : List NamedKind → List (List ℕ)
 action_layers kinds = map (λ k. layer_at (action_options k.kind)) kinds
 
 abbrev pub word_of_options : List Row → ℕ
-word_of_options rows = unwrap_or (option_map (λ r. r.word) (row_of_type rows 2)) 0
+word_of_options rows = unwrap_or (option_map (λ r. r.word) (shown_row rows 2)) 0
 
 abbrev pub words : List NamedKind → List ℕ
 words kinds = map (λ k. word_of_options (tc_rows k.kind)) kinds
