@@ -2,7 +2,7 @@
 use Rattle.std.specs.Prelude.{◌/◌, ◌==◌, if◌then◌else◌}
 use Rattle.tc_forms.specs.declared.form.Form.{Form}
 use Rattle.tc_forms.specs.declared.form.Form.TheVariants as form
-use Rattle.tc_forms.specs.Plain.{Table, One}
+use Rattle.tc_forms.specs.Tables.{Table, One}
 use Rattle.tc_kinds.specs.Parts.Action.{parts_of_action}
 use Rattle.tc_kinds.specs.Parts.Actions.{parts_of_actions_mirred, parts_of_actions_nat, parts_of_actions_tunnel_key}
 use Rattle.tc_kinds.specs.Parts.Elements.{parts_of_elements}

@@ -1,7 +1,7 @@
 //! The parts of the table, by their places. Written by `kinds/generate`.
 
 ghost use Rattle.std.specs.Prelude.{◌≡◌};
-ghost use Rattle.tc_forms.specs.Plain.{part_view};
+ghost use Rattle.tc_forms.specs.Tables.{part_view};
 ghost use Rattle.tc_kinds.specs.Table.{tc_tables};
 
 mod action;

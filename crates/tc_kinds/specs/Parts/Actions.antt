@@ -2,12 +2,12 @@
 use Rattle.std.specs.Prelude.{◌==◌, [], ◌∷◌, codes, if◌then◌else◌}
 use Rattle.tc_forms.specs.declared.form.Form.TheVariants as form
 use Rattle.tc_forms.specs.declared.form.Number.TheVariants as number
-use Rattle.tc_forms.specs.Plain.{Part, Table, One, Names, Fields, Rows}
+use Rattle.tc_forms.specs.Tables.{Part, Table, One, Names, Fields, Rows}
 use Rattle.tc_kinds.specs.Items.{name, field, row}
 
 -- `list mirred`
-abbrev pub list_mirred : Part
-list_mirred =
+abbrev pub list_mirred_in_mirror : Part
+list_mirred_in_mirror =
     Rows (codes "Mirror")
     (row 1 (codes "Tm") (form.Record 6)
     ∷ row 2 (codes "Parms") (form.Record 13)
@@ -41,15 +41,15 @@ list_action_action_mirred =
 
 unfoldable pub parts_of_actions_mirred : Table
 parts_of_actions_mirred place =
-    if place == 12 then list_mirred else (
+    if place == 12 then list_mirred_in_mirror else (
     if place == 13 then struct_tc_mirred else (
     if place == 14 then enum_tca_mirred else (
     if place == 15 then list_action_action_mirred else (
     One form.Hex))))
 
 -- `list nat`
-abbrev pub list_nat : Part
-list_nat =
+abbrev pub list_nat_in_nat : Part
+list_nat_in_nat =
     Rows (codes "Nat")
     (row 1 (codes "Parms") (form.Record 25)
     ∷ row 2 (codes "Tm") (form.Record 6)
@@ -75,14 +75,14 @@ list_action_action_nat =
 
 unfoldable pub parts_of_actions_nat : Table
 parts_of_actions_nat place =
-    if place == 24 then list_nat else (
+    if place == 24 then list_nat_in_nat else (
     if place == 25 then struct_tc_nat else (
     if place == 26 then list_action_action_nat else (
     One form.Hex)))
 
 -- `list tunnel_key`
-abbrev pub list_tunnel_key : Part
-list_tunnel_key =
+abbrev pub list_tunnel_key_in_tunnelkey : Part
+list_tunnel_key_in_tunnelkey =
     Rows (codes "TunnelKey")
     (row 1 (codes "Tm") (form.Record 6)
     ∷ row 2 (codes "Parms") (form.Record 37)
@@ -114,7 +114,7 @@ list_action_action_tunnel_key =
 
 unfoldable pub parts_of_actions_tunnel_key : Table
 parts_of_actions_tunnel_key place =
-    if place == 36 then list_tunnel_key else (
+    if place == 36 then list_tunnel_key_in_tunnelkey else (
     if place == 37 then struct_tc_tunnel_key else (
     if place == 38 then list_action_action_tunnel_key else (
     One form.Hex)))

@@ -1,7 +1,7 @@
 -- The parts of `kinds/elements`. Written by `kinds/generate`.
 use Rattle.std.specs.Prelude.{◌==◌, if◌then◌else◌}
 use Rattle.tc_forms.specs.declared.form.Form.TheVariants as form
-use Rattle.tc_forms.specs.Plain.{Part, Table, One}
+use Rattle.tc_forms.specs.Tables.{Part, Table, One}
 
 -- what an array holds
 abbrev pub element_own_action : Part

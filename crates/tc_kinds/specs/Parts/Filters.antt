@@ -2,12 +2,12 @@
 use Rattle.std.specs.Prelude.{◌==◌, [], ◌∷◌, codes, if◌then◌else◌}
 use Rattle.tc_forms.specs.declared.form.Form.TheVariants as form
 use Rattle.tc_forms.specs.declared.form.Number.TheVariants as number
-use Rattle.tc_forms.specs.Plain.{Part, Table, One, Fields, Rows}
+use Rattle.tc_forms.specs.Tables.{Part, Table, One, Fields, Rows}
 use Rattle.tc_kinds.specs.Items.{field, row}
 
 -- `list bpf`
-abbrev pub list_bpf : Part
-list_bpf =
+abbrev pub list_bpf_in_bpf : Part
+list_bpf_in_bpf =
     Rows (codes "Bpf")
     (row 3 (codes "ClassId") form.Handle
     ∷ row 6 (codes "ProgFd") (form.Number number.U32)
@@ -28,13 +28,13 @@ list_tc_filter_bpf =
 
 unfoldable pub parts_of_filters_bpf : Table
 parts_of_filters_bpf place =
-    if place == 60 then list_bpf else (
+    if place == 60 then list_bpf_in_bpf else (
     if place == 61 then list_tc_filter_bpf else (
     One form.Hex))
 
 -- `list flower`
-abbrev pub list_flower : Part
-list_flower =
+abbrev pub list_flower_in_flower : Part
+list_flower_in_flower =
     Rows (codes "Flower")
     (row 2 (codes "InDev") form.Text
     ∷ row 3 (codes "Actions") (form.Indexed 48)
@@ -164,15 +164,15 @@ list_tc_filter_flower =
 
 unfoldable pub parts_of_filters_flower : Table
 parts_of_filters_flower place =
-    if place == 72 then list_flower else (
+    if place == 72 then list_flower_in_flower else (
     if place == 73 then list_mpls_opts else (
     if place == 74 then list_mpls_lse else (
     if place == 75 then list_tc_filter_flower else (
     One form.Hex))))
 
 -- `list matchall`
-abbrev pub list_matchall : Part
-list_matchall =
+abbrev pub list_matchall_in_matchall : Part
+list_matchall_in_matchall =
     Rows (codes "MatchAll")
     (row 1 (codes "ClassId") form.Handle
     ∷ row 2 (codes "Action") (form.Indexed 48)
@@ -190,13 +190,13 @@ list_tc_filter_matchall =
 
 unfoldable pub parts_of_filters_matchall : Table
 parts_of_filters_matchall place =
-    if place == 84 then list_matchall else (
+    if place == 84 then list_matchall_in_matchall else (
     if place == 85 then list_tc_filter_matchall else (
     One form.Hex))
 
 -- `list u32`
-abbrev pub list_u32 : Part
-list_u32 =
+abbrev pub list_u32_in_u32 : Part
+list_u32_in_u32 =
     Rows (codes "U32")
     (row 1 (codes "ClassId") form.Handle
     ∷ row 2 (codes "Hash") (form.Number number.U32)
@@ -247,7 +247,7 @@ list_tc_filter_u32 =
 
 unfoldable pub parts_of_filters_u32 : Table
 parts_of_filters_u32 place =
-    if place == 96 then list_u32 else (
+    if place == 96 then list_u32_in_u32 else (
     if place == 97 then struct_tc_u32_sel else (
     if place == 98 then struct_tc_u32_key else (
     if place == 99 then list_tc_filter_u32 else (

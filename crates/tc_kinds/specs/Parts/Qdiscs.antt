@@ -2,12 +2,12 @@
 use Rattle.std.specs.Prelude.{◌==◌, [], ◌∷◌, None, codes, if◌then◌else◌}
 use Rattle.tc_forms.specs.declared.form.Form.TheVariants as form
 use Rattle.tc_forms.specs.declared.form.Number.TheVariants as number
-use Rattle.tc_forms.specs.Plain.{Part, Table, One, Fields, Rows, Choices}
+use Rattle.tc_forms.specs.Tables.{Part, Table, One, Fields, Rows, Choices}
 use Rattle.tc_kinds.specs.Items.{field, row, choice}
 
 -- `list fq_codel`
-abbrev pub list_fq_codel : Part
-list_fq_codel =
+abbrev pub list_fq_codel_in_fqcodel : Part
+list_fq_codel_in_fqcodel =
     Rows (codes "FqCodel")
     (row 1 (codes "Target") (form.Number number.U32)
     ∷ row 2 (codes "Limit") (form.Number number.U32)
@@ -81,7 +81,7 @@ list_stats_qdisc_fq_codel =
 
 unfoldable pub parts_of_qdiscs_fq_codel : Table
 parts_of_qdiscs_fq_codel place =
-    if place == 120 then list_fq_codel else (
+    if place == 120 then list_fq_codel_in_fqcodel else (
     if place == 121 then choice_tc_fq_codel_xstats else (
     if place == 122 then struct_tc_fq_codel_qd_stats else (
     if place == 123 then struct_tc_fq_codel_cl_stats else (
@@ -91,8 +91,8 @@ parts_of_qdiscs_fq_codel place =
     One form.Hex)))))))
 
 -- `list ingress`
-abbrev pub list_ingress : Part
-list_ingress = Rows (codes "Ingress") []
+abbrev pub list_ingress_in_ingress : Part
+list_ingress_in_ingress = Rows (codes "Ingress") []
 
 -- `list tc`: the rows of ingress
 abbrev pub list_tc_qdisc_ingress : Part
@@ -104,6 +104,6 @@ list_tc_qdisc_ingress =
 
 unfoldable pub parts_of_qdiscs_ingress : Table
 parts_of_qdiscs_ingress place =
-    if place == 132 then list_ingress else (
+    if place == 132 then list_ingress_in_ingress else (
     if place == 133 then list_tc_qdisc_ingress else (
     One form.Hex))

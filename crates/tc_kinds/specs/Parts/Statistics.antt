@@ -2,7 +2,7 @@
 use Rattle.std.specs.Prelude.{◌==◌, [], ◌∷◌, codes, if◌then◌else◌}
 use Rattle.tc_forms.specs.declared.form.Form.TheVariants as form
 use Rattle.tc_forms.specs.declared.form.Number.TheVariants as number
-use Rattle.tc_forms.specs.Plain.{Part, Table, One, Fields, Rows, Kinds}
+use Rattle.tc_forms.specs.Tables.{Part, Table, One, Fields, Rows, Kinds}
 use Rattle.tc_kinds.specs.Items.{field, row, kind_rows}
 
 -- `struct tc_stats`

@@ -1,7 +1,7 @@
 //! The parts of `kinds/action`. Written by `kinds/generate`.
 
 ghost use Rattle.std.specs.Prelude.{◌≡◌, map};
-ghost use Rattle.tc_forms.specs.Plain.{part_view};
+ghost use Rattle.tc_forms.specs.Tables.{part_view};
 ghost use Rattle.tc_kinds.specs.Parts.Action.{parts_of_action};
 
 use tc_forms::{Field, Form, KindRows, Name, Number, Part, Row};

@@ -1,13 +1,13 @@
 //! The parts of `kinds/actions`. Written by `kinds/generate`.
 
 ghost use Rattle.std.specs.Prelude.{◌≡◌, map};
-ghost use Rattle.tc_forms.specs.Plain.{part_view};
+ghost use Rattle.tc_forms.specs.Tables.{part_view};
 ghost use Rattle.tc_kinds.specs.Parts.Actions.{parts_of_actions_mirred, parts_of_actions_nat, parts_of_actions_tunnel_key};
 
 use tc_forms::{Field, Form, Name, Number, Part, Row};
 
 // `list mirred`
-const LIST_MIRRED: [Row<'static>; 2] = [
+const LIST_MIRRED_IN_MIRROR: [Row<'static>; 2] = [
     Row {
         word: 1,
         name: "Tm",
@@ -68,7 +68,7 @@ pub(crate) fn parts_of_actions_mirred(place: usize) -> Part<'static>
     ensures { part_view result ≡ parts_of_actions_mirred place }
 {
     match place {
-        12 => Part::Rows("Mirror", &LIST_MIRRED),
+        12 => Part::Rows("Mirror", &LIST_MIRRED_IN_MIRROR),
         13 => Part::Fields(&STRUCT_TC_MIRRED),
         14 => Part::Names(&ENUM_TCA_MIRRED),
         15 => Part::Rows("", &LIST_ACTION_ACTION_MIRRED),
@@ -77,7 +77,7 @@ pub(crate) fn parts_of_actions_mirred(place: usize) -> Part<'static>
 }
 
 // `list nat`
-const LIST_NAT: [Row<'static>; 2] = [
+const LIST_NAT_IN_NAT: [Row<'static>; 2] = [
     Row {
         word: 1,
         name: "Parms",
@@ -126,7 +126,7 @@ pub(crate) fn parts_of_actions_nat(place: usize) -> Part<'static>
     ensures { part_view result ≡ parts_of_actions_nat place }
 {
     match place {
-        24 => Part::Rows("Nat", &LIST_NAT),
+        24 => Part::Rows("Nat", &LIST_NAT_IN_NAT),
         25 => Part::Fields(&STRUCT_TC_NAT),
         26 => Part::Rows("", &LIST_ACTION_ACTION_NAT),
         _ => Part::One(Form::Hex),
@@ -134,7 +134,7 @@ pub(crate) fn parts_of_actions_nat(place: usize) -> Part<'static>
 }
 
 // `list tunnel_key`
-const LIST_TUNNEL_KEY: [Row<'static>; 11] = [
+const LIST_TUNNEL_KEY_IN_TUNNELKEY: [Row<'static>; 11] = [
     Row {
         word: 1,
         name: "Tm",
@@ -216,7 +216,7 @@ pub(crate) fn parts_of_actions_tunnel_key(place: usize) -> Part<'static>
     ensures { part_view result ≡ parts_of_actions_tunnel_key place }
 {
     match place {
-        36 => Part::Rows("TunnelKey", &LIST_TUNNEL_KEY),
+        36 => Part::Rows("TunnelKey", &LIST_TUNNEL_KEY_IN_TUNNELKEY),
         37 => Part::Fields(&STRUCT_TC_TUNNEL_KEY),
         38 => Part::Rows("", &LIST_ACTION_ACTION_TUNNEL_KEY),
         _ => Part::One(Form::Hex),

@@ -1,7 +1,7 @@
 //! The parts of `kinds/elements`. Written by `kinds/generate`.
 
 ghost use Rattle.std.specs.Prelude.{◌≡◌, map};
-ghost use Rattle.tc_forms.specs.Plain.{part_view};
+ghost use Rattle.tc_forms.specs.Tables.{part_view};
 ghost use Rattle.tc_kinds.specs.Parts.Elements.{parts_of_elements};
 
 use tc_forms::{Form, Part};

@@ -1,13 +1,13 @@
 //! The parts of `kinds/filters`. Written by `kinds/generate`.
 
 ghost use Rattle.std.specs.Prelude.{◌≡◌, map};
-ghost use Rattle.tc_forms.specs.Plain.{part_view};
+ghost use Rattle.tc_forms.specs.Tables.{part_view};
 ghost use Rattle.tc_kinds.specs.Parts.Filters.{parts_of_filters_bpf, parts_of_filters_flower, parts_of_filters_matchall, parts_of_filters_u32};
 
 use tc_forms::{Field, Form, Number, Part, Row};
 
 // `list bpf`
-const LIST_BPF: [Row<'static>; 7] = [
+const LIST_BPF_IN_BPF: [Row<'static>; 7] = [
     Row {
         word: 3,
         name: "ClassId",
@@ -64,14 +64,14 @@ pub(crate) fn parts_of_filters_bpf(place: usize) -> Part<'static>
     ensures { part_view result ≡ parts_of_filters_bpf place }
 {
     match place {
-        60 => Part::Rows("Bpf", &LIST_BPF),
+        60 => Part::Rows("Bpf", &LIST_BPF_IN_BPF),
         61 => Part::Rows("", &LIST_TC_FILTER_BPF),
         _ => Part::One(Form::Hex),
     }
 }
 
 // `list flower`
-const LIST_FLOWER: [Row<'static>; 98] = [
+const LIST_FLOWER_IN_FLOWER: [Row<'static>; 98] = [
     Row {
         word: 2,
         name: "InDev",
@@ -619,7 +619,7 @@ pub(crate) fn parts_of_filters_flower(place: usize) -> Part<'static>
     ensures { part_view result ≡ parts_of_filters_flower place }
 {
     match place {
-        72 => Part::Rows("Flower", &LIST_FLOWER),
+        72 => Part::Rows("Flower", &LIST_FLOWER_IN_FLOWER),
         73 => Part::Rows("", &LIST_MPLS_OPTS),
         74 => Part::Rows("", &LIST_MPLS_LSE),
         75 => Part::Rows("", &LIST_TC_FILTER_FLOWER),
@@ -628,7 +628,7 @@ pub(crate) fn parts_of_filters_flower(place: usize) -> Part<'static>
 }
 
 // `list matchall`
-const LIST_MATCHALL: [Row<'static>; 4] = [
+const LIST_MATCHALL_IN_MATCHALL: [Row<'static>; 4] = [
     Row {
         word: 1,
         name: "ClassId",
@@ -670,14 +670,14 @@ pub(crate) fn parts_of_filters_matchall(place: usize) -> Part<'static>
     ensures { part_view result ≡ parts_of_filters_matchall place }
 {
     match place {
-        84 => Part::Rows("MatchAll", &LIST_MATCHALL),
+        84 => Part::Rows("MatchAll", &LIST_MATCHALL_IN_MATCHALL),
         85 => Part::Rows("", &LIST_TC_FILTER_MATCHALL),
         _ => Part::One(Form::Hex),
     }
 }
 
 // `list u32`
-const LIST_U32: [Row<'static>; 11] = [
+const LIST_U32_IN_U32: [Row<'static>; 11] = [
     Row {
         word: 1,
         name: "ClassId",
@@ -818,7 +818,7 @@ pub(crate) fn parts_of_filters_u32(place: usize) -> Part<'static>
     ensures { part_view result ≡ parts_of_filters_u32 place }
 {
     match place {
-        96 => Part::Rows("U32", &LIST_U32),
+        96 => Part::Rows("U32", &LIST_U32_IN_U32),
         97 => Part::Fields(&STRUCT_TC_U32_SEL),
         98 => Part::Fields(&STRUCT_TC_U32_KEY),
         99 => Part::Rows("", &LIST_TC_FILTER_U32),

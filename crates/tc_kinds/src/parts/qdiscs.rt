@@ -1,13 +1,13 @@
 //! The parts of `kinds/qdiscs`. Written by `kinds/generate`.
 
 ghost use Rattle.std.specs.Prelude.{◌≡◌, map};
-ghost use Rattle.tc_forms.specs.Plain.{part_view};
+ghost use Rattle.tc_forms.specs.Tables.{part_view};
 ghost use Rattle.tc_kinds.specs.Parts.Qdiscs.{parts_of_qdiscs_fq_codel, parts_of_qdiscs_ingress};
 
 use tc_forms::{Choice, Field, Form, Number, Part, Row};
 
 // `list fq_codel`
-const LIST_FQ_CODEL: [Row<'static>; 11] = [
+const LIST_FQ_CODEL_IN_FQCODEL: [Row<'static>; 11] = [
     Row {
         word: 1,
         name: "Target",
@@ -181,7 +181,7 @@ pub(crate) fn parts_of_qdiscs_fq_codel(place: usize) -> Part<'static>
     ensures { part_view result ≡ parts_of_qdiscs_fq_codel place }
 {
     match place {
-        120 => Part::Rows("FqCodel", &LIST_FQ_CODEL),
+        120 => Part::Rows("FqCodel", &LIST_FQ_CODEL_IN_FQCODEL),
         121 => Part::Choices(&CHOICE_TC_FQ_CODEL_XSTATS),
         122 => Part::Fields(&STRUCT_TC_FQ_CODEL_QD_STATS),
         123 => Part::Fields(&STRUCT_TC_FQ_CODEL_CL_STATS),

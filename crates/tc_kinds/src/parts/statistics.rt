@@ -1,7 +1,7 @@
 //! The parts of `kinds/statistics`. Written by `kinds/generate`.
 
 ghost use Rattle.std.specs.Prelude.{◌≡◌, map};
-ghost use Rattle.tc_forms.specs.Plain.{part_view};
+ghost use Rattle.tc_forms.specs.Tables.{part_view};
 ghost use Rattle.tc_kinds.specs.Parts.Statistics.{parts_of_statistics};
 
 use tc_forms::{Field, Form, KindRows, Number, Part, Row};
