@@ -1,4 +1,5 @@
-"""What is shown of the bytes of a message, whatever they are: the model of `tcforms`, whose stored run has what it writes. It shares nothing with the crates.
+"""What is shown of bytes by their form. The tables of forms are in `kinds.py`; both are the model of `tcforms`, whose stored run has what they write. They share
+nothing with the crates.
 
 A form says what bytes are: a number, a record, a list of attributes. Bytes that follow their form are shown by it; what doesn't follow it exactly is shown
 raw in its place, so that no two messages are shown alike:
@@ -66,15 +67,15 @@ def truth_of(data):
     return data == b"\1"
 
 U8, U16, U32, U64 = (number(width) for width in (1, 2, 4, 8))
-I16, I32 = (number(width, signed=True) for width in (2, 4))
-BE16, BE32 = (number(width, "big") for width in (2, 4))
+I16, I32, I64 = (number(width, signed=True) for width in (2, 4, 8))
+BE16, BE32, BE64 = (number(width, "big") for width in (2, 4, 8))
 HANDLE, TRUTH, FLAG = plain(4, handle_of), plain(1, truth_of), plain(0, lambda data: True)
 TEXT, BARE, HEX = plain(None, text_of), plain(None, bytes.decode), plain(None, bytes.hex)
 MAC = plain(6, lambda data: ":".join(f"{byte:02x}" for byte in data))
 IPV4 = plain(4, lambda data: socket.inet_ntop(socket.AF_INET, data))
 IPV6 = plain(16, lambda data: socket.inet_ntop(socket.AF_INET6, data))
 def octets(width): return plain(width, bytes.hex)
-def padding(width): return "padding", Form(width, octets(width).show, pads=True)
+def padding(width, name="padding"): return name, Form(width, octets(width).show, pads=True)
 
 # ---- Records, and their elements one after the other
 
@@ -97,16 +98,17 @@ def record(*fields):
         return shown
     return Form(None if None in widths else sum(widths), show)
 
-def array(form):
+def array(form, count=None):
+    """Elements to the end, or so many in a record."""
     def show(data, kind, depth):
         return [form(data[at:at + form.width], kind, depth) for at in range(0, len(data), form.width)]
-    return Form(None, show)
+    return Form(count and count * form.width, show)
 
 def choice(*choices):
-    """The first that bytes begin like."""
+    """The first that bytes begin like, and that has their length, if one is given."""
     def show(data, kind, depth):
-        for name, prefix, form in choices:
-            if data.startswith(prefix):
+        for name, prefix, form, *length in choices:
+            if data.startswith(prefix) and length in ([], [len(data)]):
                 return {name: form(data[len(prefix):], kind, depth)}
         return {"Other": data.hex()}
     return Form(None, show)
@@ -199,88 +201,3 @@ def indexed(form):
         frames, left = cut(data)
         return [beside({"tab": word, "attributes": form(value, kind, depth)}, word, word, value, pad) for word, value, pad in frames] + tail(left)
     return Form(None, show)
-
-# ---- The records and the numbers with names
-
-FAMILY = number(1, names={0: "Unspec", 1: "Unix", 2: "Inet", 7: "Bridge", 10: "Inet6", 16: "Netlink", 17: "Packet", 28: "Mpls"})
-OUTCOME = number(4, signed=True, names=dict(enumerate("Unspec Ok Reclassify Shot Pipe Stolen Queued Repeat Redirect Trap".split(), -1)))
-DIRECTION = number(4, signed=True, names=dict(enumerate("EgressRedir EgressMirror IngressRedir IngressMirror".split(), 1)))
-
-def each(form, names): return [(name, form) for name in names.split()]
-
-STATS = record(("bytes", U64), *each(U32, "packets drops overlimits bps pps qlen backlog"), padding(4))
-BASIC = record(("bytes", U64), ("packets", U32), padding(4))
-QUEUE = record(*each(U32, "qlen backlog drops requeues overlimits"))
-QDISC = record(*each(U32, "maxpacket drop_overlimit ecn_mark new_flow_count new_flows_len old_flows_len ce_mark memory_usage drop_overmemory"))
-CLASS = record(("deficit", I32), *each(U32, "ldelay count lastcount dropping"), ("drop_next", I32))
-TIMES = record(*each(U64, "install lastuse expires firstuse"))
-GENERIC = record(*each(U32, "index capab"), ("action", OUTCOME), *each(I32, "refcnt bindcnt"))
-MIRROR = record(("generic", GENERIC), ("eaction", DIRECTION), ("ifindex", U32))
-NAT = record(("generic", GENERIC), *each(IPV4, "old_addr new_addr mask"), ("flags", U32))
-TUNNEL_KEY = record(("generic", GENERIC), ("t_action", I32))
-KEY = record(*each(BE32, "mask val"), *each(I32, "off offmask"))
-SELECTOR = record(*each(U8, "flags offshift nkeys"), padding(1), ("offmask", BE16), ("off", U16), *each(I16, "offoff hoff"), ("hmask", BE32),
-                  ("keys", array(KEY)))
-
-# ---- The attributes of both messages, and the options of the kinds that have types
-
-def rows(first, form, names): return [(first + at, name, form) for at, name in enumerate(names.split())]
-
-FQ_CODEL_STATS = record(("FqCodel", choice(("Qdisc", bytes(4), QDISC), ("Class", b"\1\0\0\0", CLASS))))
-def statistics(word, name): return [(word, name, FQ_CODEL_STATS, "fq_codel"), (word, name, choice())]
-STATS2 = list_of((1, "Basic", BASIC), (3, "Queue", QUEUE), *statistics(4, "App"), (7, "BasicHw", BASIC))
-
-ACTION_OPTIONS = {
-    "mirred": list_of((1, "Tm", TIMES), (2, "Parms", MIRROR), layer="Mirror"),
-    "nat": list_of((1, "Parms", NAT), (2, "Tm", TIMES), layer="Nat"),
-    "tunnel_key": list_of(
-        (1, "Tm", TIMES), (2, "Parms", TUNNEL_KEY), *rows(3, IPV4, "EncIpv4Src EncIpv4Dst"), *rows(5, IPV6, "EncIpv6Src EncIpv6Dst"),
-        (7, "EncKeyId", BE32), (9, "EncDstPort", BE16), (10, "NoCsum", TRUTH), *rows(12, U8, "EncTos EncTtl"), layer="TunnelKey"),
-}
-ACTION = list_with_kinds(
-    *[(2 | NESTED, "Options", form, kind) for kind, form in ACTION_OPTIONS.items()], (2 | NESTED, "Options", list_of()),
-    (3, "Index", U32), (4, "Stats", STATS2), (6, "Cookie", HEX), (10, "InHwCount", U32), own=True)
-ACTIONS = indexed(ACTION)
-
-LSE = list_of(*rows(1, U8, "LseDepth LseTtl LseBos LseTc"), (5, "LseLabel", U32))
-FLOWER = list_of(
-    (2, "InDev", TEXT), (3, "Actions", ACTIONS), *rows(4, MAC, "EthDst EthDstMask EthSrc EthSrcMask"), (8, "EthType", BE16), (9, "IpProto", U8),
-    *rows(10, IPV4, "Ipv4Src Ipv4SrcMask Ipv4Dst Ipv4DstMask"), *rows(14, IPV6, "Ipv6Src Ipv6SrcMask Ipv6Dst Ipv6DstMask"),
-    *rows(18, BE16, "TcpSrc TcpDst UdpSrc UdpDst"), (22, "Flags", U32), (23, "VlanId", U16), (24, "VlanPrio", U8), (25, "VlanEthType", BE16),
-    (26, "EncKeyId", BE32), *rows(27, IPV4, "EncKeyIpv4Src EncKeyIpv4SrcMask EncKeyIpv4Dst EncKeyIpv4DstMask"),
-    *rows(31, IPV6, "EncKeyIpv6Src EncKeyIpv6SrcMask EncKeyIpv6Dst EncKeyIpv6DstMask"),
-    *rows(35, BE16, "TcpSrcMask TcpDstMask UdpSrcMask UdpDstMask SctpSrcMask SctpDstMask SctpSrc SctpDst EncKeyUdpSrcPort EncKeyUdpSrcPortMask"
-                    " EncKeyUdpDstPort EncKeyUdpDstPortMask"),
-    *rows(47, BE32, "KeyFlags KeyFlagsMask"),
-    *rows(49, U8, "Icmpv4Code Icmpv4CodeMask Icmpv4Type Icmpv4TypeMask Icmpv6Code Icmpv6CodeMask Icmpv6Type Icmpv6TypeMask"),
-    *rows(57, IPV4, "ArpSip ArpSipMask ArpTip ArpTipMask"), *rows(61, U8, "ArpOp ArpOpMask"), *rows(63, MAC, "ArpSha ArpShaMask ArpTha ArpThaMask"),
-    *rows(67, U8, "MplsTtl MplsBos MplsTc"), (70, "MplsLabel", U32), *rows(71, BE16, "TcpFlags TcpFlagsMask"),
-    *rows(73, U8, "IpTos IpTosMask IpTtl IpTtlMask"), (77, "CvlanId", U16), (78, "CvlanPrio", U8), (79, "CvlanEthType", BE16),
-    *rows(80, U8, "EncKeyIpTos EncKeyIpTosMask EncKeyIpTtl EncKeyIpTtlMask"), (86, "InHwCount", U32),
-    *rows(87, BE16, "PortSrcMin PortSrcMax PortDstMin PortDstMax"), *rows(91, U16, "CtState CtStateMask CtZone CtZoneMask"),
-    *rows(95, U32, "CtMark CtMarkMask"), *rows(97, octets(16), "CtLabels CtLabelsMask"),
-    (99 | NESTED, "MplsOpts", list_of((1 | NESTED, "Lse", LSE))), *rows(100, U32, "KeyHash KeyHashMask"), layer="Flower")
-OPTIONS = {
-    "fq_codel": list_of(*rows(1, U32, "Target Limit Interval Ecn Flows Quantum CeThreshold DropBatchSize MemoryLimit"),
-                        *rows(10, U8, "CeThresholdSelector CeThresholdMask"), layer="FqCodel"),
-    "ingress": list_of(layer="Ingress"),
-    "flower": FLOWER,
-    "u32": list_of((1, "ClassId", HANDLE), *rows(2, U32, "Hash Link Divisor"), (5, "Selector", SELECTOR), (6, "Police", HEX), (7, "Action", ACTIONS),
-                   *rows(8, HEX, "Indev Pnct Mark"), (11, "Flags", U32), layer="U32"),
-    "matchall": list_of((1, "ClassId", HANDLE), (2, "Action", ACTIONS), (3, "Flags", U32), (4, "Pnct", HEX), layer="MatchAll"),
-    "bpf": list_of((3, "ClassId", HANDLE), (6, "ProgFd", U32), (7, "ProgName", TEXT), *rows(8, U32, "Flags FlagsGeneric"), (10, "ProgTag", octets(8)),
-                   (11, "ProgId", U32), layer="Bpf"),
-}
-TC = record(
-    ("header", record(("family", FAMILY), padding(3), ("index", I32), *each(HANDLE, "handle parent"), ("info", U32))),
-    ("attributes", list_with_kinds(
-        *[(2, "Options", form, kind) for kind, form in OPTIONS.items()], (2, "OptionsRaw", HEX), (3, "Stats", STATS), *statistics(4, "Xstats"),
-        *rows(5, HEX, "Rate Fcnt"), (7, "Stats2", STATS2), (8, "Stab", HEX), (10, "DumpInvisible", FLAG), (11, "Chain", U32), (12, "HwOffload", U8))))
-ACTION_MESSAGE = record(
-    ("header", record(("family", FAMILY), padding(3))),
-    ("attributes", list_of((1, "Actions", ACTIONS), (2, "Flags", record(*each(U32, "flags selector"))), *rows(3, U32, "RootCount RootTimeDelta"),
-                           (5, "RootExtWarnMsg", BARE))))
-
-def shown(mode, data):
-    """What is shown of a message; a mode is tc or action."""
-    return (TC if mode == "tc" else ACTION_MESSAGE)(data, "", DEEPEST)
