@@ -2,6 +2,7 @@ mod Readable
 mod Written
 mod WrittenJson
 mod ReadJson
+mod ReadableValues
 mod ShownReadable
 mod Texts
 mod Unread

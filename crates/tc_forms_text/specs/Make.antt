@@ -5,7 +5,7 @@ use Rattle.tc_forms.specs.declared.error.MakeError.TheVariants as make
 use Rattle.tc_forms.specs.declared.form.Form.{Form}
 use Rattle.tc_forms.specs.Appended.{Fails}
 use Rattle.tc_forms.specs.Made.{made_of}
-use Rattle.tc_forms.specs.Plain.{Table}
+use Rattle.tc_forms.specs.Tables.{Table}
 use Rattle.tc_forms_text.specs.declared.error.ReadError.TheVariants as read_error
 use Rattle.tc_forms_text.specs.declared.error.TextError.{TextError}
 use Rattle.tc_forms_text.specs.declared.error.TextError.TheVariants.{Read, Make}
@@ -18,5 +18,5 @@ IsMemory (Make e) = e ≡ make.OutOfMemory
 
 -- the text isn't read, or no bytes are made of what is read
 abbrev pub IsTextCause : Table → Form → List ℕ → TextError → Type 0
-IsTextCause parts form text (Read e) = IsCause text e
-IsTextCause parts form text (Make e) = Fails (option_and_then (made_of parts form) (read text)) e
+IsTextCause table form text (Read e) = IsCause text e
+IsTextCause table form text (Make e) = Fails (option_and_then (made_of table form) (read text)) e

@@ -14,11 +14,11 @@ use tc_forms::{Form, Tables};
 /// Whatever the table, the form and the bytes are: the text that `serde_json` writes of what is shown, compact or indented, is
 /// read. It is read as what is shown, the members of each object in the order of their names; no object in it has a name
 /// twice; and what is read is made into the bytes.
-pub fn shown_text_is_made<T: Tables>(parts: T, form: Form, bytes: &[u8])
-    ensures read { (text : List ℕ) → IsTextOf (shown_of (T.parts_of parts) form bytes.now) text
-        → read text ≡ Some (ordered (shown_of (T.parts_of parts) form bytes.now)) }
-    ensures once { (text : List ℕ) → IsTextOf (shown_of (T.parts_of parts) form bytes.now) text
+pub fn shown_text_is_made<T: Tables>(table: T, form: Form, bytes: &[u8])
+    ensures read { (text : List ℕ) → IsTextOf (shown_of (T.parts_of table) form bytes.now) text
+        → read text ≡ Some (ordered (shown_of (T.parts_of table) form bytes.now)) }
+    ensures once { (text : List ℕ) → IsTextOf (shown_of (T.parts_of table) form bytes.now) text
         → HasNamesOnce text }
-    ensures made { (text : List ℕ) (json : Data) → IsTextOf (shown_of (T.parts_of parts) form bytes.now) text
-        → read text ≡ Some json → made_of (T.parts_of parts) form json ≡ Some bytes.now }
+    ensures made { (text : List ℕ) (json : Data) → IsTextOf (shown_of (T.parts_of table) form bytes.now) text
+        → read text ≡ Some json → made_of (T.parts_of table) form json ≡ Some bytes.now }
 {}
