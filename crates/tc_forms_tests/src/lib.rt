@@ -4,6 +4,8 @@
 #[cfg(test)]
 mod back;
 #[cfg(test)]
+mod lines;
+#[cfg(test)]
 mod order;
 #[cfg(test)]
 mod random;

@@ -1,7 +1,8 @@
 //! What a message is taken for.
 
 ghost use Rattle.std.specs.Prelude.{◌≡◌, ◌↔◌, Some};
-ghost use Rattle.tc_roundtrip.specs.Line.{word_of, form_of};
+ghost use Rattle.tc_roundtrip.specs.Answer.{form_of};
+ghost use Rattle.tc_roundtrip.specs.Line.{word_of};
 
 use tc_forms::Form;
 
