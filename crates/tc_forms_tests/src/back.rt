@@ -62,7 +62,7 @@ fn made_by_hand(rt: HostRuntime) -> Result<(), Fail> {
 #[test]
 fn those_captured(rt: HostRuntime) -> Result<(), Fail> {
     let alloc = rt.alloc();
-    assert_eq!(rt; lost_of(alloc, &captured(alloc)?)?, (19_776, 0));
+    assert_eq!(rt; lost_of(alloc, &captured(alloc)?)?, (12_272, 0));
     Ok(())
 }
 

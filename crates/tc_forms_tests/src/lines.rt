@@ -74,7 +74,7 @@ impl Write for Failing {
     }
 }
 
-fn failing(kind: ErrorKind) -> Failing {
+fn fails_with(kind: ErrorKind) -> Failing {
     Failing {
         bytes: b"header action 00000000\nheader",
         kind,
@@ -85,7 +85,7 @@ fn failing(kind: ErrorKind) -> Failing {
 fn an_input_that_fails(rt: HostRuntime) -> core::result::Result<(), Fail> {
     let alloc = rt.alloc();
     let (mut written, mut errors) = (Vec::new(alloc), Vec::new(alloc));
-    let reader = BufReader::new(alloc, failing(ErrorKind::Other))?;
+    let reader = BufReader::new(alloc, fails_with(ErrorKind::Other))?;
     let status = serve(alloc, MESSAGES, reader, &mut written, &mut errors);
     assert_eq!(rt; written.as_slice(), b"header action same {\"header\":{\"family\":\"Unspec\"},\"attributes\":[]}\n".as_slice());
     assert_eq!(rt; errors.as_slice(), b"tcforms: read failed\n".as_slice());
@@ -97,11 +97,11 @@ fn an_input_that_fails(rt: HostRuntime) -> core::result::Result<(), Fail> {
 fn an_output_that_fails(rt: HostRuntime) -> core::result::Result<(), Fail> {
     let alloc = rt.alloc();
     let mut errors = Vec::new(alloc);
-    let mut writer = failing(ErrorKind::Other);
+    let mut writer = fails_with(ErrorKind::Other);
     assert_eq!(rt; serve(alloc, MESSAGES, LINES, &mut writer, &mut errors), 3);
     assert_eq!(rt; errors.as_slice(), b"tcforms: write failed\n".as_slice());
     // one that was closed is no failure
-    let mut writer = failing(ErrorKind::BrokenPipe);
+    let mut writer = fails_with(ErrorKind::BrokenPipe);
     errors.clear();
     assert_eq!(rt; serve(alloc, MESSAGES, LINES, &mut writer, &mut errors), 0);
     assert!(rt; errors.is_empty());

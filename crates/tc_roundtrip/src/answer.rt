@@ -12,7 +12,7 @@ use tc_forms::{Form, Shown, Tables};
 use tc_forms_text::bytes_of_text;
 
 /// The answer to a line: the label, the mode, whether the bytes came back, and the JSON that is shown of them. They always come back.
-pub fn answer<T: Tables>(
+pub fn answer_line<T: Tables>(
     alloc: Global,
     messages: Messages<T>,
     text: &str,

@@ -17,5 +17,5 @@ pub mod program;
 pub mod run;
 pub mod status;
 
-pub use answer::answer;
+pub use answer::answer_line;
 pub use line::Complaint;

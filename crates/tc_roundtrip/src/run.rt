@@ -1,6 +1,6 @@
 //! A whole run.
 
-use crate::answer::answer;
+use crate::answer::answer_line;
 use crate::line::Complaint;
 use crate::mode::Messages;
 use crate::status::Stop;
@@ -46,7 +46,7 @@ fn answer_all<T: Tables, R: BufRead + Drop, W: Write, E: Write>(
         number = number.saturating_add(1);
         let answer = match line {
             Ok(line) if is_skipped(line.as_str()) => continue,
-            Ok(line) => answer(alloc, messages, line.as_str()),
+            Ok(line) => answer_line(alloc, messages, line.as_str()),
             Err(fault) => Err(complaint_of(&fault)?),
         };
         match answer {
