@@ -9,9 +9,27 @@ use Rattle.tc_kinds.specs.Items.{name, field, row, kind_rows}
 abbrev pub list_action : Part
 list_action =
     Kinds 1 2
-    (kind_rows (codes "mirred") 15
-    ∷ kind_rows (codes "nat") 26
-    ∷ kind_rows (codes "tunnel_key") 38
+    (kind_rows (codes "bpf") 14
+    ∷ kind_rows (codes "connmark") 26
+    ∷ kind_rows (codes "csum") 38
+    ∷ kind_rows (codes "ct") 50
+    ∷ kind_rows (codes "ctinfo") 62
+    ∷ kind_rows (codes "gact") 76
+    ∷ kind_rows (codes "gate") 88
+    ∷ kind_rows (codes "ife") 99
+    ∷ kind_rows (codes "ipt") 111
+    ∷ kind_rows (codes "xt") 112
+    ∷ kind_rows (codes "mirred") 123
+    ∷ kind_rows (codes "mpls") 135
+    ∷ kind_rows (codes "nat") 146
+    ∷ kind_rows (codes "pedit") 163
+    ∷ kind_rows (codes "police") 171
+    ∷ kind_rows (codes "sample") 182
+    ∷ kind_rows (codes "simple") 194
+    ∷ kind_rows (codes "skbedit") 206
+    ∷ kind_rows (codes "skbmod") 218
+    ∷ kind_rows (codes "tunnel_key") 230
+    ∷ kind_rows (codes "vlan") 243
     ∷ [])
 
 -- `list action`: the rows of all kinds
@@ -19,8 +37,12 @@ abbrev pub list_action_of_all : Part
 list_action_of_all =
     Rows []
     (row 3 (codes "Index") (form.Number number.U32)
-    ∷ row 4 (codes "Stats") (form.List 145)
+    ∷ row 4 (codes "Stats") (form.List 841)
+    ∷ row 5 (codes "Pad") form.Flag
     ∷ row 6 (codes "Cookie") form.Hex
+    ∷ row 7 (codes "Flags") (form.Record 833)
+    ∷ row 8 (codes "HwStats") (form.Record 833)
+    ∷ row 9 (codes "UsedHwStats") (form.Record 833)
     ∷ row 10 (codes "InHwCount") (form.Number number.U32)
     ∷ [])
 

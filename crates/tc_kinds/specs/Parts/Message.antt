@@ -9,15 +9,15 @@ use Rattle.tc_kinds.specs.Items.{name, field, row, kind_rows}
 abbrev pub struct_tc_message : Part
 struct_tc_message =
     Fields
-    (field (codes "header") (form.Record 109)
-    ∷ field (codes "attributes") (form.InForce 111)
+    (field (codes "header") (form.Record 421)
+    ∷ field (codes "attributes") (form.InForce 423)
     ∷ [])
 
 -- `struct tcmsg`
 abbrev pub struct_tcmsg : Part
 struct_tcmsg =
     Fields
-    (field (codes "family") (form.Named number.U8 110)
+    (field (codes "family") (form.Named number.U8 422)
     ∷ field (codes "padding") (form.Pad 3)
     ∷ field (codes "index") (form.Number number.I32)
     ∷ field (codes "handle") form.Handle
@@ -42,27 +42,79 @@ enum_address_family =
 -- `list tc`
 abbrev pub list_tc : Part
 list_tc =
-    Kinds 112 113
-    (kind_rows (codes "bpf") 61
-    ∷ kind_rows (codes "flower") 75
-    ∷ kind_rows (codes "matchall") 85
-    ∷ kind_rows (codes "u32") 99
-    ∷ kind_rows (codes "fq_codel") 125
-    ∷ kind_rows (codes "ingress") 133
+    Kinds 424 425
+    (kind_rows (codes "basic") 290
+    ∷ kind_rows (codes "bpf") 301
+    ∷ kind_rows (codes "cgroup") 313
+    ∷ kind_rows (codes "flow") 326
+    ∷ kind_rows (codes "flower") 346
+    ∷ kind_rows (codes "fw") 349
+    ∷ kind_rows (codes "matchall") 362
+    ∷ kind_rows (codes "route") 373
+    ∷ kind_rows (codes "rsvp") 388
+    ∷ kind_rows (codes "rsvp6") 389
+    ∷ kind_rows (codes "tcindex") 397
+    ∷ kind_rows (codes "u32") 413
+    ∷ kind_rows (codes "atm") 433
+    ∷ kind_rows (codes "cake") 452
+    ∷ kind_rows (codes "cbq") 464
+    ∷ kind_rows (codes "cbs") 470
+    ∷ kind_rows (codes "choke") 483
+    ∷ kind_rows (codes "codel") 495
+    ∷ kind_rows (codes "drr") 507
+    ∷ kind_rows (codes "dsmark") 517
+    ∷ kind_rows (codes "etf") 530
+    ∷ kind_rows (codes "ets") 543
+    ∷ kind_rows (codes "pfifo") 553
+    ∷ kind_rows (codes "pfifo_head_drop") 553
+    ∷ kind_rows (codes "bfifo") 553
+    ∷ kind_rows (codes "fq") 568
+    ∷ kind_rows (codes "fq_codel") 581
+    ∷ kind_rows (codes "fq_pie") 591
+    ∷ kind_rows (codes "gred") 605
+    ∷ kind_rows (codes "hfsc") 618
+    ∷ kind_rows (codes "hhf") 627
+    ∷ kind_rows (codes "htb") 641
+    ∷ kind_rows (codes "ingress") 649
+    ∷ kind_rows (codes "mqprio") 668
+    ∷ kind_rows (codes "multiq") 673
+    ∷ kind_rows (codes "netem") 694
+    ∷ kind_rows (codes "noop") 698
+    ∷ kind_rows (codes "noqueue") 698
+    ∷ kind_rows (codes "blackhole") 698
+    ∷ kind_rows (codes "mq") 698
+    ∷ kind_rows (codes "clsact") 699
+    ∷ kind_rows (codes "pie") 711
+    ∷ kind_rows (codes "plug") 722
+    ∷ kind_rows (codes "prio") 735
+    ∷ kind_rows (codes "rr") 735
+    ∷ kind_rows (codes "pfifo_fast") 736
+    ∷ kind_rows (codes "qfq") 747
+    ∷ kind_rows (codes "red") 760
+    ∷ kind_rows (codes "sfb") 772
+    ∷ kind_rows (codes "sfq") 786
+    ∷ kind_rows (codes "skbprio") 793
+    ∷ kind_rows (codes "taprio") 812
+    ∷ kind_rows (codes "tbf") 818
     ∷ [])
 
 -- `list tc`: the rows of all kinds
 abbrev pub list_tc_of_all : Part
 list_tc_of_all =
     Rows []
-    (row 3 (codes "Stats") (form.Record 144)
-    ∷ row 5 (codes "Rate") form.Hex
-    ∷ row 6 (codes "Fcnt") form.Hex
-    ∷ row 7 (codes "Stats2") (form.List 145)
-    ∷ row 8 (codes "Stab") form.Hex
+    (row 3 (codes "Stats") (form.Record 840)
+    ∷ row 5 (codes "Rate") (form.Record 832)
+    ∷ row 6 (codes "Fcnt") (form.Number number.U32)
+    ∷ row 7 (codes "Stats2") (form.List 841)
+    ∷ row 8 (codes "Stab") (form.List 830)
+    ∷ row 9 (codes "Pad") form.Flag
     ∷ row 10 (codes "DumpInvisible") form.Flag
     ∷ row 11 (codes "Chain") (form.Number number.U32)
     ∷ row 12 (codes "HwOffload") (form.Number number.U8)
+    ∷ row 13 (codes "IngressBlock") (form.Number number.U32)
+    ∷ row 14 (codes "EgressBlock") (form.Number number.U32)
+    ∷ row 15 (codes "DumpFlags") (form.Record 833)
+    ∷ row 16 (codes "ExtWarnMsg") form.Text
     ∷ [])
 
 -- `list tc`: the rows of other kinds
@@ -70,7 +122,7 @@ abbrev pub list_tc_of_others : Part
 list_tc_of_others =
     Rows []
     (row 2 (codes "OptionsRaw") form.Hex
-    ∷ row 4 (codes "Xstats") (form.Choice 114)
+    ∷ row 4 (codes "Xstats") (form.Choice 426)
     ∷ [])
 
 -- `choice unknown`
@@ -81,15 +133,15 @@ choice_unknown = Choices []
 abbrev pub struct_action_message : Part
 struct_action_message =
     Fields
-    (field (codes "header") (form.Record 116)
-    ∷ field (codes "attributes") (form.List 117)
+    (field (codes "header") (form.Record 428)
+    ∷ field (codes "attributes") (form.List 429)
     ∷ [])
 
 -- `struct tcamsg`
 abbrev pub struct_tcamsg : Part
 struct_tcamsg =
     Fields
-    (field (codes "family") (form.Named number.U8 110)
+    (field (codes "family") (form.Named number.U8 422)
     ∷ field (codes "padding") (form.Pad 3)
     ∷ [])
 
@@ -97,8 +149,8 @@ struct_tcamsg =
 abbrev pub list_action_message : Part
 list_action_message =
     Rows []
-    (row 1 (codes "Actions") (form.Indexed 48)
-    ∷ row 2 (codes "Flags") (form.Record 118)
+    (row 1 (codes "Actions") (form.Indexed 255)
+    ∷ row 2 (codes "Flags") (form.Record 430)
     ∷ row 3 (codes "RootCount") (form.Number number.U32)
     ∷ row 4 (codes "RootTimeDelta") (form.Number number.U32)
     ∷ row 5 (codes "RootExtWarnMsg") form.Bare
@@ -114,15 +166,15 @@ struct_tca_root_flags =
 
 unfoldable pub parts_of_message : Table
 parts_of_message place =
-    if place == 108 then struct_tc_message else (
-    if place == 109 then struct_tcmsg else (
-    if place == 110 then enum_address_family else (
-    if place == 111 then list_tc else (
-    if place == 112 then list_tc_of_all else (
-    if place == 113 then list_tc_of_others else (
-    if place == 114 then choice_unknown else (
-    if place == 115 then struct_action_message else (
-    if place == 116 then struct_tcamsg else (
-    if place == 117 then list_action_message else (
-    if place == 118 then struct_tca_root_flags else (
+    if place == 420 then struct_tc_message else (
+    if place == 421 then struct_tcmsg else (
+    if place == 422 then enum_address_family else (
+    if place == 423 then list_tc else (
+    if place == 424 then list_tc_of_all else (
+    if place == 425 then list_tc_of_others else (
+    if place == 426 then choice_unknown else (
+    if place == 427 then struct_action_message else (
+    if place == 428 then struct_tcamsg else (
+    if place == 429 then list_action_message else (
+    if place == 430 then struct_tca_root_flags else (
     One form.Hex)))))))))))

@@ -7,23 +7,95 @@ ghost use Rattle.tc_kinds.specs.Parts.Action.{parts_of_action};
 use tc_forms::{Field, Form, KindRows, Name, Number, Part, Row};
 
 // `list action`
-const LIST_ACTION: [KindRows<'static>; 3] = [
+const LIST_ACTION: [KindRows<'static>; 21] = [
     KindRows {
-        kind: "mirred",
-        rows: 15,
+        kind: "bpf",
+        rows: 14,
     },
     KindRows {
-        kind: "nat",
+        kind: "connmark",
         rows: 26,
     },
     KindRows {
-        kind: "tunnel_key",
+        kind: "csum",
         rows: 38,
+    },
+    KindRows {
+        kind: "ct",
+        rows: 50,
+    },
+    KindRows {
+        kind: "ctinfo",
+        rows: 62,
+    },
+    KindRows {
+        kind: "gact",
+        rows: 76,
+    },
+    KindRows {
+        kind: "gate",
+        rows: 88,
+    },
+    KindRows {
+        kind: "ife",
+        rows: 99,
+    },
+    KindRows {
+        kind: "ipt",
+        rows: 111,
+    },
+    KindRows {
+        kind: "xt",
+        rows: 112,
+    },
+    KindRows {
+        kind: "mirred",
+        rows: 123,
+    },
+    KindRows {
+        kind: "mpls",
+        rows: 135,
+    },
+    KindRows {
+        kind: "nat",
+        rows: 146,
+    },
+    KindRows {
+        kind: "pedit",
+        rows: 163,
+    },
+    KindRows {
+        kind: "police",
+        rows: 171,
+    },
+    KindRows {
+        kind: "sample",
+        rows: 182,
+    },
+    KindRows {
+        kind: "simple",
+        rows: 194,
+    },
+    KindRows {
+        kind: "skbedit",
+        rows: 206,
+    },
+    KindRows {
+        kind: "skbmod",
+        rows: 218,
+    },
+    KindRows {
+        kind: "tunnel_key",
+        rows: 230,
+    },
+    KindRows {
+        kind: "vlan",
+        rows: 243,
     },
 ];
 
 // `list action`: the rows of all kinds
-const LIST_ACTION_OF_ALL: [Row<'static>; 4] = [
+const LIST_ACTION_OF_ALL: [Row<'static>; 8] = [
     Row {
         word: 3,
         name: "Index",
@@ -32,12 +104,32 @@ const LIST_ACTION_OF_ALL: [Row<'static>; 4] = [
     Row {
         word: 4,
         name: "Stats",
-        form: Form::List(145),
+        form: Form::List(841),
+    },
+    Row {
+        word: 5,
+        name: "Pad",
+        form: Form::Flag,
     },
     Row {
         word: 6,
         name: "Cookie",
         form: Form::Hex,
+    },
+    Row {
+        word: 7,
+        name: "Flags",
+        form: Form::Record(833),
+    },
+    Row {
+        word: 8,
+        name: "HwStats",
+        form: Form::Record(833),
+    },
+    Row {
+        word: 9,
+        name: "UsedHwStats",
+        form: Form::Record(833),
     },
     Row {
         word: 10,

@@ -10,11 +10,11 @@ use tc_forms::{Field, Form, KindRows, Name, Number, Part, Row};
 const STRUCT_TC_MESSAGE: [Field<'static>; 2] = [
     Field {
         name: "header",
-        form: Form::Record(109),
+        form: Form::Record(421),
     },
     Field {
         name: "attributes",
-        form: Form::InForce(111),
+        form: Form::InForce(423),
     },
 ];
 
@@ -22,7 +22,7 @@ const STRUCT_TC_MESSAGE: [Field<'static>; 2] = [
 const STRUCT_TCMSG: [Field<'static>; 6] = [
     Field {
         name: "family",
-        form: Form::Named(Number::U8, 110),
+        form: Form::Named(Number::U8, 422),
     },
     Field {
         name: "padding",
@@ -83,59 +83,252 @@ const ENUM_ADDRESS_FAMILY: [Name<'static>; 8] = [
 ];
 
 // `list tc`
-const LIST_TC: [KindRows<'static>; 6] = [
+const LIST_TC: [KindRows<'static>; 53] = [
+    KindRows {
+        kind: "basic",
+        rows: 290,
+    },
     KindRows {
         kind: "bpf",
-        rows: 61,
+        rows: 301,
+    },
+    KindRows {
+        kind: "cgroup",
+        rows: 313,
+    },
+    KindRows {
+        kind: "flow",
+        rows: 326,
     },
     KindRows {
         kind: "flower",
-        rows: 75,
+        rows: 346,
+    },
+    KindRows {
+        kind: "fw",
+        rows: 349,
     },
     KindRows {
         kind: "matchall",
-        rows: 85,
+        rows: 362,
+    },
+    KindRows {
+        kind: "route",
+        rows: 373,
+    },
+    KindRows {
+        kind: "rsvp",
+        rows: 388,
+    },
+    KindRows {
+        kind: "rsvp6",
+        rows: 389,
+    },
+    KindRows {
+        kind: "tcindex",
+        rows: 397,
     },
     KindRows {
         kind: "u32",
-        rows: 99,
+        rows: 413,
+    },
+    KindRows {
+        kind: "atm",
+        rows: 433,
+    },
+    KindRows {
+        kind: "cake",
+        rows: 452,
+    },
+    KindRows {
+        kind: "cbq",
+        rows: 464,
+    },
+    KindRows {
+        kind: "cbs",
+        rows: 470,
+    },
+    KindRows {
+        kind: "choke",
+        rows: 483,
+    },
+    KindRows {
+        kind: "codel",
+        rows: 495,
+    },
+    KindRows {
+        kind: "drr",
+        rows: 507,
+    },
+    KindRows {
+        kind: "dsmark",
+        rows: 517,
+    },
+    KindRows {
+        kind: "etf",
+        rows: 530,
+    },
+    KindRows {
+        kind: "ets",
+        rows: 543,
+    },
+    KindRows {
+        kind: "pfifo",
+        rows: 553,
+    },
+    KindRows {
+        kind: "pfifo_head_drop",
+        rows: 553,
+    },
+    KindRows {
+        kind: "bfifo",
+        rows: 553,
+    },
+    KindRows {
+        kind: "fq",
+        rows: 568,
     },
     KindRows {
         kind: "fq_codel",
-        rows: 125,
+        rows: 581,
+    },
+    KindRows {
+        kind: "fq_pie",
+        rows: 591,
+    },
+    KindRows {
+        kind: "gred",
+        rows: 605,
+    },
+    KindRows {
+        kind: "hfsc",
+        rows: 618,
+    },
+    KindRows {
+        kind: "hhf",
+        rows: 627,
+    },
+    KindRows {
+        kind: "htb",
+        rows: 641,
     },
     KindRows {
         kind: "ingress",
-        rows: 133,
+        rows: 649,
+    },
+    KindRows {
+        kind: "mqprio",
+        rows: 668,
+    },
+    KindRows {
+        kind: "multiq",
+        rows: 673,
+    },
+    KindRows {
+        kind: "netem",
+        rows: 694,
+    },
+    KindRows {
+        kind: "noop",
+        rows: 698,
+    },
+    KindRows {
+        kind: "noqueue",
+        rows: 698,
+    },
+    KindRows {
+        kind: "blackhole",
+        rows: 698,
+    },
+    KindRows {
+        kind: "mq",
+        rows: 698,
+    },
+    KindRows {
+        kind: "clsact",
+        rows: 699,
+    },
+    KindRows {
+        kind: "pie",
+        rows: 711,
+    },
+    KindRows {
+        kind: "plug",
+        rows: 722,
+    },
+    KindRows {
+        kind: "prio",
+        rows: 735,
+    },
+    KindRows {
+        kind: "rr",
+        rows: 735,
+    },
+    KindRows {
+        kind: "pfifo_fast",
+        rows: 736,
+    },
+    KindRows {
+        kind: "qfq",
+        rows: 747,
+    },
+    KindRows {
+        kind: "red",
+        rows: 760,
+    },
+    KindRows {
+        kind: "sfb",
+        rows: 772,
+    },
+    KindRows {
+        kind: "sfq",
+        rows: 786,
+    },
+    KindRows {
+        kind: "skbprio",
+        rows: 793,
+    },
+    KindRows {
+        kind: "taprio",
+        rows: 812,
+    },
+    KindRows {
+        kind: "tbf",
+        rows: 818,
     },
 ];
 
 // `list tc`: the rows of all kinds
-const LIST_TC_OF_ALL: [Row<'static>; 8] = [
+const LIST_TC_OF_ALL: [Row<'static>; 13] = [
     Row {
         word: 3,
         name: "Stats",
-        form: Form::Record(144),
+        form: Form::Record(840),
     },
     Row {
         word: 5,
         name: "Rate",
-        form: Form::Hex,
+        form: Form::Record(832),
     },
     Row {
         word: 6,
         name: "Fcnt",
-        form: Form::Hex,
+        form: Form::Number(Number::U32),
     },
     Row {
         word: 7,
         name: "Stats2",
-        form: Form::List(145),
+        form: Form::List(841),
     },
     Row {
         word: 8,
         name: "Stab",
-        form: Form::Hex,
+        form: Form::List(830),
+    },
+    Row {
+        word: 9,
+        name: "Pad",
+        form: Form::Flag,
     },
     Row {
         word: 10,
@@ -152,6 +345,26 @@ const LIST_TC_OF_ALL: [Row<'static>; 8] = [
         name: "HwOffload",
         form: Form::Number(Number::U8),
     },
+    Row {
+        word: 13,
+        name: "IngressBlock",
+        form: Form::Number(Number::U32),
+    },
+    Row {
+        word: 14,
+        name: "EgressBlock",
+        form: Form::Number(Number::U32),
+    },
+    Row {
+        word: 15,
+        name: "DumpFlags",
+        form: Form::Record(833),
+    },
+    Row {
+        word: 16,
+        name: "ExtWarnMsg",
+        form: Form::Text,
+    },
 ];
 
 // `list tc`: the rows of other kinds
@@ -164,7 +377,7 @@ const LIST_TC_OF_OTHERS: [Row<'static>; 2] = [
     Row {
         word: 4,
         name: "Xstats",
-        form: Form::Choice(114),
+        form: Form::Choice(426),
     },
 ];
 
@@ -172,11 +385,11 @@ const LIST_TC_OF_OTHERS: [Row<'static>; 2] = [
 const STRUCT_ACTION_MESSAGE: [Field<'static>; 2] = [
     Field {
         name: "header",
-        form: Form::Record(116),
+        form: Form::Record(428),
     },
     Field {
         name: "attributes",
-        form: Form::List(117),
+        form: Form::List(429),
     },
 ];
 
@@ -184,7 +397,7 @@ const STRUCT_ACTION_MESSAGE: [Field<'static>; 2] = [
 const STRUCT_TCAMSG: [Field<'static>; 2] = [
     Field {
         name: "family",
-        form: Form::Named(Number::U8, 110),
+        form: Form::Named(Number::U8, 422),
     },
     Field {
         name: "padding",
@@ -197,12 +410,12 @@ const LIST_ACTION_MESSAGE: [Row<'static>; 5] = [
     Row {
         word: 1,
         name: "Actions",
-        form: Form::Indexed(48),
+        form: Form::Indexed(255),
     },
     Row {
         word: 2,
         name: "Flags",
-        form: Form::Record(118),
+        form: Form::Record(430),
     },
     Row {
         word: 3,
@@ -238,17 +451,17 @@ pub(crate) fn parts_of_message(place: usize) -> Part<'static>
     ensures { part_view result ≡ parts_of_message place }
 {
     match place {
-        108 => Part::Fields(&STRUCT_TC_MESSAGE),
-        109 => Part::Fields(&STRUCT_TCMSG),
-        110 => Part::Names(&ENUM_ADDRESS_FAMILY),
-        111 => Part::Kinds(112, 113, &LIST_TC),
-        112 => Part::Rows("", &LIST_TC_OF_ALL),
-        113 => Part::Rows("", &LIST_TC_OF_OTHERS),
-        114 => Part::Choices(&[]),
-        115 => Part::Fields(&STRUCT_ACTION_MESSAGE),
-        116 => Part::Fields(&STRUCT_TCAMSG),
-        117 => Part::Rows("", &LIST_ACTION_MESSAGE),
-        118 => Part::Fields(&STRUCT_TCA_ROOT_FLAGS),
+        420 => Part::Fields(&STRUCT_TC_MESSAGE),
+        421 => Part::Fields(&STRUCT_TCMSG),
+        422 => Part::Names(&ENUM_ADDRESS_FAMILY),
+        423 => Part::Kinds(424, 425, &LIST_TC),
+        424 => Part::Rows("", &LIST_TC_OF_ALL),
+        425 => Part::Rows("", &LIST_TC_OF_OTHERS),
+        426 => Part::Choices(&[]),
+        427 => Part::Fields(&STRUCT_ACTION_MESSAGE),
+        428 => Part::Fields(&STRUCT_TCAMSG),
+        429 => Part::Rows("", &LIST_ACTION_MESSAGE),
+        430 => Part::Fields(&STRUCT_TCA_ROOT_FLAGS),
         _ => Part::One(Form::Hex),
     }
 }
