@@ -19,7 +19,7 @@ tc_message = form.Record 420
 
 -- RTM_*ACTION
 abbrev pub action_message : Form
-action_message = form.Record 427
+action_message = form.Record 428
 
 unfoldable pub tc_tables : Table
 tc_tables place =

@@ -20,7 +20,7 @@ use tc_forms::{Form, Part};
 pub const TC_MESSAGE: Form = Form::Record(420);
 
 /// RTM_*ACTION
-pub const ACTION_MESSAGE: Form = Form::Record(427);
+pub const ACTION_MESSAGE: Form = Form::Record(428);
 
 // The part at a place.
 #[tactic(auto, unfolding(crate::specs::Table::tc_tables))]

@@ -40,9 +40,9 @@ list_action_of_all =
     ∷ row 4 (codes "Stats") (form.List 841)
     ∷ row 5 (codes "Pad") form.Flag
     ∷ row 6 (codes "Cookie") form.Hex
-    ∷ row 7 (codes "Flags") (form.Record 833)
-    ∷ row 8 (codes "HwStats") (form.Record 833)
-    ∷ row 9 (codes "UsedHwStats") (form.Record 833)
+    ∷ row 7 (codes "Flags") (form.Record 3)
+    ∷ row 8 (codes "HwStats") (form.Record 4)
+    ∷ row 9 (codes "UsedHwStats") (form.Record 4)
     ∷ row 10 (codes "InHwCount") (form.Number number.U32)
     ∷ [])
 
@@ -50,7 +50,23 @@ list_action_of_all =
 abbrev pub list_action_of_others : Part
 list_action_of_others =
     Rows []
-    (row 32770 (codes "Options") (form.List 3)
+    (row 32770 (codes "Options") (form.List 5)
+    ∷ [])
+
+-- `struct tca_act_flags`
+abbrev pub struct_tca_act_flags : Part
+struct_tca_act_flags =
+    Fields
+    (field (codes "value") (form.Number number.U32)
+    ∷ field (codes "selector") (form.Number number.U32)
+    ∷ [])
+
+-- `struct tca_act_hw_stats`
+abbrev pub struct_tca_act_hw_stats : Part
+struct_tca_act_hw_stats =
+    Fields
+    (field (codes "value") (form.Number number.U32)
+    ∷ field (codes "selector") (form.Number number.U32)
     ∷ [])
 
 -- `list unknown`
@@ -63,7 +79,7 @@ struct_tc_gen =
     Fields
     (field (codes "index") (form.Number number.U32)
     ∷ field (codes "capab") (form.Number number.U32)
-    ∷ field (codes "action") (form.Named number.I32 5)
+    ∷ field (codes "action") (form.Named number.I32 7)
     ∷ field (codes "refcnt") (form.Number number.I32)
     ∷ field (codes "bindcnt") (form.Number number.I32)
     ∷ [])
@@ -99,8 +115,10 @@ parts_of_action place =
     if place == 0 then list_action else (
     if place == 1 then list_action_of_all else (
     if place == 2 then list_action_of_others else (
-    if place == 3 then list_unknown else (
-    if place == 4 then struct_tc_gen else (
-    if place == 5 then enum_tc_act else (
-    if place == 6 then struct_tcf_t else (
-    One form.Hex)))))))
+    if place == 3 then struct_tca_act_flags else (
+    if place == 4 then struct_tca_act_hw_stats else (
+    if place == 5 then list_unknown else (
+    if place == 6 then struct_tc_gen else (
+    if place == 7 then enum_tc_act else (
+    if place == 8 then struct_tcf_t else (
+    One form.Hex)))))))))

@@ -9,10 +9,10 @@ use Rattle.tc_kinds.specs.Items.{name, field, row}
 abbrev pub list_act_bpf_in_bpf : Part
 list_act_bpf_in_bpf =
     Rows (codes "Bpf")
-    (row 1 (codes "Tm") (form.Record 6)
+    (row 1 (codes "Tm") (form.Record 8)
     ∷ row 2 (codes "Parms") (form.Record 13)
     ∷ row 3 (codes "OpsLen") (form.Number number.U16)
-    ∷ row 4 (codes "Ops") (form.Array 834)
+    ∷ row 4 (codes "Ops") (form.Array 833)
     ∷ row 5 (codes "Fd") (form.Number number.U32)
     ∷ row 6 (codes "Name") form.Text
     ∷ row 7 (codes "Pad") form.Flag
@@ -24,7 +24,7 @@ list_act_bpf_in_bpf =
 abbrev pub struct_tc_act_bpf : Part
 struct_tc_act_bpf =
     Fields
-    (field (codes "generic") (form.Record 4)
+    (field (codes "generic") (form.Record 6)
     ∷ [])
 
 -- `list action`: the rows of bpf
@@ -46,7 +46,7 @@ abbrev pub list_connmark_in_connmark : Part
 list_connmark_in_connmark =
     Rows (codes "Connmark")
     (row 1 (codes "Parms") (form.Record 25)
-    ∷ row 2 (codes "Tm") (form.Record 6)
+    ∷ row 2 (codes "Tm") (form.Record 8)
     ∷ row 3 (codes "Pad") form.Flag
     ∷ [])
 
@@ -54,7 +54,7 @@ list_connmark_in_connmark =
 abbrev pub struct_tc_connmark : Part
 struct_tc_connmark =
     Fields
-    (field (codes "generic") (form.Record 4)
+    (field (codes "generic") (form.Record 6)
     ∷ field (codes "zone") (form.Number number.U16)
     ∷ field (codes "padding") (form.Pad 2)
     ∷ [])
@@ -78,7 +78,7 @@ abbrev pub list_csum_in_csum : Part
 list_csum_in_csum =
     Rows (codes "Csum")
     (row 1 (codes "Parms") (form.Record 37)
-    ∷ row 2 (codes "Tm") (form.Record 6)
+    ∷ row 2 (codes "Tm") (form.Record 8)
     ∷ row 3 (codes "Pad") form.Flag
     ∷ [])
 
@@ -86,7 +86,7 @@ list_csum_in_csum =
 abbrev pub struct_tc_csum : Part
 struct_tc_csum =
     Fields
-    (field (codes "generic") (form.Record 4)
+    (field (codes "generic") (form.Record 6)
     ∷ field (codes "update_flags") (form.Number number.U32)
     ∷ [])
 
@@ -109,7 +109,7 @@ abbrev pub list_ct_in_ct : Part
 list_ct_in_ct =
     Rows (codes "Ct")
     (row 1 (codes "Parms") (form.Record 49)
-    ∷ row 2 (codes "Tm") (form.Record 6)
+    ∷ row 2 (codes "Tm") (form.Record 8)
     ∷ row 3 (codes "Action") (form.Number number.U16)
     ∷ row 4 (codes "Zone") (form.Number number.U16)
     ∷ row 5 (codes "Mark") (form.Number number.U32)
@@ -132,7 +132,7 @@ list_ct_in_ct =
 abbrev pub struct_tc_ct : Part
 struct_tc_ct =
     Fields
-    (field (codes "generic") (form.Record 4)
+    (field (codes "generic") (form.Record 6)
     ∷ [])
 
 -- `list action`: the rows of ct
@@ -154,7 +154,7 @@ abbrev pub list_ctinfo_in_ctinfo : Part
 list_ctinfo_in_ctinfo =
     Rows (codes "Ctinfo")
     (row 1 (codes "Pad") form.Flag
-    ∷ row 2 (codes "Tm") (form.Record 6)
+    ∷ row 2 (codes "Tm") (form.Record 8)
     ∷ row 3 (codes "Action") (form.Record 61)
     ∷ row 4 (codes "Zone") (form.Number number.U16)
     ∷ row 5 (codes "ParmsDscpMask") (form.Number number.U32)
@@ -169,7 +169,7 @@ list_ctinfo_in_ctinfo =
 abbrev pub struct_tc_ctinfo : Part
 struct_tc_ctinfo =
     Fields
-    (field (codes "generic") (form.Record 4)
+    (field (codes "generic") (form.Record 6)
     ∷ [])
 
 -- `list action`: the rows of ctinfo
@@ -190,7 +190,7 @@ parts_of_actions_ctinfo place =
 abbrev pub list_gact_in_gact : Part
 list_gact_in_gact =
     Rows (codes "Gact")
-    (row 1 (codes "Tm") (form.Record 6)
+    (row 1 (codes "Tm") (form.Record 8)
     ∷ row 2 (codes "Parms") (form.Record 73)
     ∷ row 3 (codes "Prob") (form.Record 74)
     ∷ row 4 (codes "Pad") form.Flag
@@ -200,7 +200,7 @@ list_gact_in_gact =
 abbrev pub struct_tc_gact : Part
 struct_tc_gact =
     Fields
-    (field (codes "generic") (form.Record 4)
+    (field (codes "generic") (form.Record 6)
     ∷ [])
 
 -- `struct tc_gact_p`
@@ -209,7 +209,7 @@ struct_tc_gact_p =
     Fields
     (field (codes "ptype") (form.Named number.U16 75)
     ∷ field (codes "pval") (form.Number number.U16)
-    ∷ field (codes "paction") (form.Named number.I32 5)
+    ∷ field (codes "paction") (form.Named number.I32 7)
     ∷ [])
 
 -- `enum pgact`
@@ -241,7 +241,7 @@ parts_of_actions_gact place =
 abbrev pub list_gate_in_gate : Part
 list_gate_in_gate =
     Rows (codes "Gate")
-    (row 1 (codes "Tm") (form.Record 6)
+    (row 1 (codes "Tm") (form.Record 8)
     ∷ row 2 (codes "Parms") (form.Record 85)
     ∷ row 3 (codes "Pad") form.Flag
     ∷ row 4 (codes "Priority") (form.Number number.I32)
@@ -257,7 +257,7 @@ list_gate_in_gate =
 abbrev pub struct_tc_gate : Part
 struct_tc_gate =
     Fields
-    (field (codes "generic") (form.Record 4)
+    (field (codes "generic") (form.Record 6)
     ∷ [])
 
 -- `list gate_list`
@@ -299,7 +299,7 @@ abbrev pub list_ife_in_ife : Part
 list_ife_in_ife =
     Rows (codes "Ife")
     (row 1 (codes "Parms") (form.Record 97)
-    ∷ row 2 (codes "Tm") (form.Record 6)
+    ∷ row 2 (codes "Tm") (form.Record 8)
     ∷ row 3 (codes "Dmac") form.Mac
     ∷ row 4 (codes "Smac") form.Mac
     ∷ row 5 (codes "Type") (form.Number number.U16)
@@ -311,7 +311,7 @@ list_ife_in_ife =
 abbrev pub struct_tc_ife : Part
 struct_tc_ife =
     Fields
-    (field (codes "generic") (form.Record 4)
+    (field (codes "generic") (form.Record 6)
     ∷ field (codes "flags") (form.Number number.U16)
     ∷ field (codes "padding") (form.Pad 2)
     ∷ [])
@@ -350,7 +350,7 @@ list_ipt_in_ipt =
     ∷ row 2 (codes "Hook") (form.Number number.U32)
     ∷ row 3 (codes "Index") (form.Number number.U32)
     ∷ row 4 (codes "Cnt") (form.Record 110)
-    ∷ row 5 (codes "Tm") (form.Record 6)
+    ∷ row 5 (codes "Tm") (form.Record 8)
     ∷ row 6 (codes "Targ") form.Hex
     ∷ row 7 (codes "Pad") form.Flag
     ∷ [])
@@ -363,7 +363,7 @@ list_ipt_in_xt =
     ∷ row 2 (codes "Hook") (form.Number number.U32)
     ∷ row 3 (codes "Index") (form.Number number.U32)
     ∷ row 4 (codes "Cnt") (form.Record 110)
-    ∷ row 5 (codes "Tm") (form.Record 6)
+    ∷ row 5 (codes "Tm") (form.Record 8)
     ∷ row 6 (codes "Targ") form.Hex
     ∷ row 7 (codes "Pad") form.Flag
     ∷ [])
@@ -403,7 +403,7 @@ parts_of_actions_ipt place =
 abbrev pub list_mirred_in_mirror : Part
 list_mirred_in_mirror =
     Rows (codes "Mirror")
-    (row 1 (codes "Tm") (form.Record 6)
+    (row 1 (codes "Tm") (form.Record 8)
     ∷ row 2 (codes "Parms") (form.Record 121)
     ∷ row 3 (codes "Pad") form.Flag
     ∷ row 4 (codes "Blockid") (form.Number number.U32)
@@ -413,7 +413,7 @@ list_mirred_in_mirror =
 abbrev pub struct_tc_mirred : Part
 struct_tc_mirred =
     Fields
-    (field (codes "generic") (form.Record 4)
+    (field (codes "generic") (form.Record 6)
     ∷ field (codes "eaction") (form.Named number.I32 122)
     ∷ field (codes "ifindex") (form.Number number.U32)
     ∷ [])
@@ -447,7 +447,7 @@ parts_of_actions_mirred place =
 abbrev pub list_mpls_in_mpls : Part
 list_mpls_in_mpls =
     Rows (codes "Mpls")
-    (row 1 (codes "Tm") (form.Record 6)
+    (row 1 (codes "Tm") (form.Record 8)
     ∷ row 2 (codes "Parms") (form.Record 133)
     ∷ row 3 (codes "Pad") form.Flag
     ∷ row 4 (codes "Proto") (form.Number number.U16Be)
@@ -461,7 +461,7 @@ list_mpls_in_mpls =
 abbrev pub struct_tc_mpls : Part
 struct_tc_mpls =
     Fields
-    (field (codes "generic") (form.Record 4)
+    (field (codes "generic") (form.Record 6)
     ∷ field (codes "m_action") (form.Named number.I32 134)
     ∷ [])
 
@@ -496,7 +496,7 @@ abbrev pub list_nat_in_nat : Part
 list_nat_in_nat =
     Rows (codes "Nat")
     (row 1 (codes "Parms") (form.Record 145)
-    ∷ row 2 (codes "Tm") (form.Record 6)
+    ∷ row 2 (codes "Tm") (form.Record 8)
     ∷ row 3 (codes "Pad") form.Flag
     ∷ [])
 
@@ -504,7 +504,7 @@ list_nat_in_nat =
 abbrev pub struct_tc_nat : Part
 struct_tc_nat =
     Fields
-    (field (codes "generic") (form.Record 4)
+    (field (codes "generic") (form.Record 6)
     ∷ field (codes "old_addr") form.Ipv4
     ∷ field (codes "new_addr") form.Ipv4
     ∷ field (codes "mask") form.Ipv4
@@ -529,19 +529,18 @@ parts_of_actions_nat place =
 abbrev pub list_pedit_in_pedit : Part
 list_pedit_in_pedit =
     Rows (codes "Pedit")
-    (row 1 (codes "Tm") (form.Record 6)
+    (row 1 (codes "Tm") (form.Record 8)
     ∷ row 2 (codes "Parms") (form.Record 157)
     ∷ row 3 (codes "Pad") form.Flag
     ∷ row 4 (codes "ParmsEx") (form.Record 157)
     ∷ row 32773 (codes "KeysEx") (form.List 159)
-    ∷ row 6 (codes "KeyEx") form.Hex
     ∷ [])
 
 -- `struct tc_pedit_sel`
 abbrev pub struct_tc_pedit_sel : Part
 struct_tc_pedit_sel =
     Fields
-    (field (codes "generic") (form.Record 4)
+    (field (codes "generic") (form.Record 6)
     ∷ field (codes "nkeys") (form.Number number.U8)
     ∷ field (codes "flags") (form.Number number.U8)
     ∷ field (codes "padding") (form.Pad 2)
@@ -622,8 +621,8 @@ list_police =
     ∷ row 2 (codes "Rate") form.Hex
     ∷ row 3 (codes "Peakrate") form.Hex
     ∷ row 4 (codes "Avrate") (form.Number number.U32)
-    ∷ row 5 (codes "Result") (form.Named number.U32 5)
-    ∷ row 6 (codes "Tm") (form.Record 6)
+    ∷ row 5 (codes "Result") (form.Named number.U32 7)
+    ∷ row 6 (codes "Tm") (form.Record 8)
     ∷ row 7 (codes "Pad") form.Flag
     ∷ row 8 (codes "Rate64") (form.Number number.U64)
     ∷ row 9 (codes "Peakrate64") (form.Number number.U64)
@@ -639,8 +638,8 @@ list_police_in_police =
     ∷ row 2 (codes "Rate") form.Hex
     ∷ row 3 (codes "Peakrate") form.Hex
     ∷ row 4 (codes "Avrate") (form.Number number.U32)
-    ∷ row 5 (codes "Result") (form.Named number.U32 5)
-    ∷ row 6 (codes "Tm") (form.Record 6)
+    ∷ row 5 (codes "Result") (form.Named number.U32 7)
+    ∷ row 6 (codes "Tm") (form.Record 8)
     ∷ row 7 (codes "Pad") form.Flag
     ∷ row 8 (codes "Rate64") (form.Number number.U64)
     ∷ row 9 (codes "Peakrate64") (form.Number number.U64)
@@ -653,7 +652,7 @@ abbrev pub struct_tc_police : Part
 struct_tc_police =
     Fields
     (field (codes "index") (form.Number number.U32)
-    ∷ field (codes "action") (form.Named number.I32 5)
+    ∷ field (codes "action") (form.Named number.I32 7)
     ∷ field (codes "limit") (form.Number number.U32)
     ∷ field (codes "burst") (form.Number number.U32)
     ∷ field (codes "mtu") (form.Number number.U32)
@@ -683,7 +682,7 @@ parts_of_actions_police place =
 abbrev pub list_sample_in_sample : Part
 list_sample_in_sample =
     Rows (codes "Sample")
-    (row 1 (codes "Tm") (form.Record 6)
+    (row 1 (codes "Tm") (form.Record 8)
     ∷ row 2 (codes "Parms") (form.Record 181)
     ∷ row 3 (codes "Rate") (form.Number number.U32)
     ∷ row 4 (codes "TruncSize") (form.Number number.U32)
@@ -695,7 +694,7 @@ list_sample_in_sample =
 abbrev pub struct_tc_sample : Part
 struct_tc_sample =
     Fields
-    (field (codes "generic") (form.Record 4)
+    (field (codes "generic") (form.Record 6)
     ∷ [])
 
 -- `list action`: the rows of sample
@@ -716,7 +715,7 @@ parts_of_actions_sample place =
 abbrev pub list_simple_in_simple : Part
 list_simple_in_simple =
     Rows (codes "Simple")
-    (row 1 (codes "Tm") (form.Record 6)
+    (row 1 (codes "Tm") (form.Record 8)
     ∷ row 2 (codes "Parms") (form.Record 193)
     ∷ row 3 (codes "Data") form.Hex
     ∷ row 4 (codes "Pad") form.Flag
@@ -726,7 +725,7 @@ list_simple_in_simple =
 abbrev pub struct_tc_defact : Part
 struct_tc_defact =
     Fields
-    (field (codes "generic") (form.Record 4)
+    (field (codes "generic") (form.Record 6)
     ∷ [])
 
 -- `list action`: the rows of simple
@@ -747,7 +746,7 @@ parts_of_actions_simple place =
 abbrev pub list_skbedit_in_skbedit : Part
 list_skbedit_in_skbedit =
     Rows (codes "Skbedit")
-    (row 1 (codes "Tm") (form.Record 6)
+    (row 1 (codes "Tm") (form.Record 8)
     ∷ row 2 (codes "Parms") (form.Record 205)
     ∷ row 3 (codes "Priority") (form.Number number.U32)
     ∷ row 4 (codes "QueueMapping") (form.Number number.U16)
@@ -763,7 +762,7 @@ list_skbedit_in_skbedit =
 abbrev pub struct_tc_skbedit : Part
 struct_tc_skbedit =
     Fields
-    (field (codes "generic") (form.Record 4)
+    (field (codes "generic") (form.Record 6)
     ∷ [])
 
 -- `list action`: the rows of skbedit
@@ -784,7 +783,7 @@ parts_of_actions_skbedit place =
 abbrev pub list_skbmod_in_skbmod : Part
 list_skbmod_in_skbmod =
     Rows (codes "Skbmod")
-    (row 1 (codes "Tm") (form.Record 6)
+    (row 1 (codes "Tm") (form.Record 8)
     ∷ row 2 (codes "Parms") (form.Record 217)
     ∷ row 3 (codes "Dmac") form.Mac
     ∷ row 4 (codes "Smac") form.Mac
@@ -796,7 +795,7 @@ list_skbmod_in_skbmod =
 abbrev pub struct_tc_skbmod : Part
 struct_tc_skbmod =
     Fields
-    (field (codes "generic") (form.Record 4)
+    (field (codes "generic") (form.Record 6)
     ∷ field (codes "padding") (form.Pad 4)
     ∷ field (codes "flags") (form.Number number.U64)
     ∷ [])
@@ -819,7 +818,7 @@ parts_of_actions_skbmod place =
 abbrev pub list_tunnel_key_in_tunnelkey : Part
 list_tunnel_key_in_tunnelkey =
     Rows (codes "TunnelKey")
-    (row 1 (codes "Tm") (form.Record 6)
+    (row 1 (codes "Tm") (form.Record 8)
     ∷ row 2 (codes "Parms") (form.Record 229)
     ∷ row 3 (codes "EncIpv4Src") form.Ipv4
     ∷ row 4 (codes "EncIpv4Dst") form.Ipv4
@@ -839,7 +838,7 @@ list_tunnel_key_in_tunnelkey =
 abbrev pub struct_tc_tunnel_key : Part
 struct_tc_tunnel_key =
     Fields
-    (field (codes "generic") (form.Record 4)
+    (field (codes "generic") (form.Record 6)
     ∷ field (codes "t_action") (form.Number number.I32)
     ∷ [])
 
@@ -861,7 +860,7 @@ parts_of_actions_tunnel_key place =
 abbrev pub list_vlan_in_vlan : Part
 list_vlan_in_vlan =
     Rows (codes "Vlan")
-    (row 1 (codes "Tm") (form.Record 6)
+    (row 1 (codes "Tm") (form.Record 8)
     ∷ row 2 (codes "Parms") (form.Record 241)
     ∷ row 3 (codes "PushVlanId") (form.Number number.U16)
     ∷ row 4 (codes "PushVlanProtocol") (form.Number number.U16Be)
@@ -875,7 +874,7 @@ list_vlan_in_vlan =
 abbrev pub struct_tc_vlan : Part
 struct_tc_vlan =
     Fields
-    (field (codes "generic") (form.Record 4)
+    (field (codes "generic") (form.Record 6)
     ∷ field (codes "v_action") (form.Named number.I32 242)
     ∷ [])
 

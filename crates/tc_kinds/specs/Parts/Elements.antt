@@ -25,16 +25,16 @@ abbrev pub element_number_u64 : Part
 element_number_u64 = One (form.Number number.U64)
 
 -- what an array holds
+abbrev pub element_number_u8 : Part
+element_number_u8 = One (form.Number number.U8)
+
+-- what an array holds
 abbrev pub element_list_cake_tin_stats : Part
 element_list_cake_tin_stats = One (form.List 446)
 
 -- what an array holds
 abbrev pub element_number_s32 : Part
 element_number_s32 = One (form.Number number.I32)
-
--- what an array holds
-abbrev pub element_number_u8 : Part
-element_number_u8 = One (form.Number number.U8)
 
 -- what an array holds
 abbrev pub element_number_s16 : Part
@@ -47,8 +47,8 @@ parts_of_elements place =
     if place == 254 then element_choice_ematch else (
     if place == 255 then element_own_action else (
     if place == 256 then element_number_u64 else (
-    if place == 257 then element_list_cake_tin_stats else (
-    if place == 258 then element_number_s32 else (
-    if place == 259 then element_number_u8 else (
+    if place == 257 then element_number_u8 else (
+    if place == 258 then element_list_cake_tin_stats else (
+    if place == 259 then element_number_s32 else (
     if place == 260 then element_number_s16 else (
     One form.Hex)))))))))

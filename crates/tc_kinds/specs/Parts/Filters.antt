@@ -48,7 +48,7 @@ list_bpf_in_bpf =
     ∷ row 2 (codes "Police") (form.List 168)
     ∷ row 3 (codes "ClassId") form.Handle
     ∷ row 4 (codes "OpsLen") (form.Number number.U16)
-    ∷ row 5 (codes "Ops") (form.Array 834)
+    ∷ row 5 (codes "Ops") (form.Array 833)
     ∷ row 6 (codes "ProgFd") (form.Number number.U32)
     ∷ row 7 (codes "ProgName") form.Text
     ∷ row 8 (codes "Flags") (form.Number number.U32)

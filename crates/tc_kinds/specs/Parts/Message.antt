@@ -90,7 +90,7 @@ list_tc =
     ∷ kind_rows (codes "rr") 735
     ∷ kind_rows (codes "pfifo_fast") 736
     ∷ kind_rows (codes "qfq") 747
-    ∷ kind_rows (codes "red") 760
+    ∷ kind_rows (codes "red") 761
     ∷ kind_rows (codes "sfb") 772
     ∷ kind_rows (codes "sfq") 786
     ∷ kind_rows (codes "skbprio") 793
@@ -113,7 +113,7 @@ list_tc_of_all =
     ∷ row 12 (codes "HwOffload") (form.Number number.U8)
     ∷ row 13 (codes "IngressBlock") (form.Number number.U32)
     ∷ row 14 (codes "EgressBlock") (form.Number number.U32)
-    ∷ row 15 (codes "DumpFlags") (form.Record 833)
+    ∷ row 15 (codes "DumpFlags") (form.Record 427)
     ∷ row 16 (codes "ExtWarnMsg") form.Text
     ∷ [])
 
@@ -129,12 +129,20 @@ list_tc_of_others =
 abbrev pub choice_unknown : Part
 choice_unknown = Choices []
 
+-- `struct tca_dump_flags`
+abbrev pub struct_tca_dump_flags : Part
+struct_tca_dump_flags =
+    Fields
+    (field (codes "value") (form.Number number.U32)
+    ∷ field (codes "selector") (form.Number number.U32)
+    ∷ [])
+
 -- `struct action_message`
 abbrev pub struct_action_message : Part
 struct_action_message =
     Fields
-    (field (codes "header") (form.Record 428)
-    ∷ field (codes "attributes") (form.List 429)
+    (field (codes "header") (form.Record 429)
+    ∷ field (codes "attributes") (form.List 430)
     ∷ [])
 
 -- `struct tcamsg`
@@ -150,7 +158,7 @@ abbrev pub list_action_message : Part
 list_action_message =
     Rows []
     (row 1 (codes "Actions") (form.Indexed 255)
-    ∷ row 2 (codes "Flags") (form.Record 430)
+    ∷ row 2 (codes "Flags") (form.Record 431)
     ∷ row 3 (codes "RootCount") (form.Number number.U32)
     ∷ row 4 (codes "RootTimeDelta") (form.Number number.U32)
     ∷ row 5 (codes "RootExtWarnMsg") form.Bare
@@ -173,8 +181,9 @@ parts_of_message place =
     if place == 424 then list_tc_of_all else (
     if place == 425 then list_tc_of_others else (
     if place == 426 then choice_unknown else (
-    if place == 427 then struct_action_message else (
-    if place == 428 then struct_tcamsg else (
-    if place == 429 then list_action_message else (
-    if place == 430 then struct_tca_root_flags else (
-    One form.Hex)))))))))))
+    if place == 427 then struct_tca_dump_flags else (
+    if place == 428 then struct_action_message else (
+    if place == 429 then struct_tcamsg else (
+    if place == 430 then list_action_message else (
+    if place == 431 then struct_tca_root_flags else (
+    One form.Hex))))))))))))

@@ -11,7 +11,7 @@ list_atm_in_atm =
     Rows (codes "Atm")
     (row 1 (codes "Fd") (form.Number number.U32)
     ∷ row 2 (codes "Ptr") form.Hex
-    ∷ row 3 (codes "Hdr") form.Hex
+    ∷ row 3 (codes "Hdr") (form.Array 257)
     ∷ row 4 (codes "Excess") (form.Number number.U32)
     ∷ row 5 (codes "Addr") form.Hex
     ∷ row 6 (codes "State") (form.Number number.U32)
@@ -68,7 +68,7 @@ list_cake_stats =
     ∷ row 7 (codes "MaxNetlen") (form.Number number.U32)
     ∷ row 8 (codes "MinAdjlen") (form.Number number.U32)
     ∷ row 9 (codes "MaxAdjlen") (form.Number number.U32)
-    ∷ row 10 (codes "TinStats") (form.Indexed 257)
+    ∷ row 10 (codes "TinStats") (form.Indexed 258)
     ∷ row 11 (codes "Deficit") (form.Number number.I32)
     ∷ row 12 (codes "CobaltCount") (form.Number number.U32)
     ∷ row 13 (codes "Dropping") (form.Number number.U32)
@@ -626,7 +626,7 @@ list_fq_in_fq =
     ∷ row 14 (codes "Horizon") (form.Number number.U32)
     ∷ row 15 (codes "HorizonDrop") (form.Number number.U8)
     ∷ row 16 (codes "Priomap") (form.Record 734)
-    ∷ row 17 (codes "Weights") (form.Times 3 258)
+    ∷ row 17 (codes "Weights") (form.Times 3 259)
     ∷ [])
 
 -- `struct tc_fq_qd_stats`
@@ -1167,7 +1167,7 @@ abbrev pub struct_mqprio_options : Part
 struct_mqprio_options =
     Fields
     (field (codes "num_tc") (form.Number number.U8)
-    ∷ field (codes "prio_tc_map") (form.Times 16 259)
+    ∷ field (codes "prio_tc_map") (form.Times 16 257)
     ∷ field (codes "hw") (form.Number number.U8)
     ∷ field (codes "count") (form.Times 16 253)
     ∷ field (codes "offset") (form.Times 16 253)
@@ -1180,7 +1180,7 @@ abbrev pub struct_tc_mqprio_qopt : Part
 struct_tc_mqprio_qopt =
     Fields
     (field (codes "num_tc") (form.Number number.U8)
-    ∷ field (codes "prio_tc_map") (form.Times 16 259)
+    ∷ field (codes "prio_tc_map") (form.Times 16 257)
     ∷ field (codes "hw") (form.Number number.U8)
     ∷ field (codes "count") (form.Times 16 253)
     ∷ field (codes "offset") (form.Times 16 253)
@@ -1232,7 +1232,7 @@ abbrev pub list_mqprio_tc_entry : Part
 list_mqprio_tc_entry =
     Rows []
     (row 1 (codes "Index") (form.Number number.U32)
-    ∷ row 2 (codes "Fp") (form.Named number.U32 835)
+    ∷ row 2 (codes "Fp") (form.Named number.U32 834)
     ∷ [])
 
 -- `list tc`: the rows of mqprio
@@ -1540,7 +1540,7 @@ abbrev pub struct_prio_options : Part
 struct_prio_options =
     Fields
     (field (codes "bands") (form.Number number.I32)
-    ∷ field (codes "priomap") (form.Times 16 259)
+    ∷ field (codes "priomap") (form.Times 16 257)
     ∷ field (codes "attributes") (form.List 733)
     ∷ [])
 
@@ -1556,7 +1556,7 @@ abbrev pub struct_tc_prio_qopt : Part
 struct_tc_prio_qopt =
     Fields
     (field (codes "bands") (form.Number number.I32)
-    ∷ field (codes "priomap") (form.Times 16 259)
+    ∷ field (codes "priomap") (form.Times 16 257)
     ∷ [])
 
 -- `list tc`: the rows of prio, rr
@@ -1638,7 +1638,7 @@ list_red_in_red =
     (row 1 (codes "Parms") (form.Record 757)
     ∷ row 2 (codes "Stab") form.Hex
     ∷ row 3 (codes "MaxP") (form.Number number.U32)
-    ∷ row 4 (codes "Flags") (form.Record 833)
+    ∷ row 4 (codes "Flags") (form.Record 758)
     ∷ row 5 (codes "EarlyDropBlock") (form.Number number.U32)
     ∷ row 6 (codes "MarkBlock") (form.Number number.U32)
     ∷ [])
@@ -1656,6 +1656,14 @@ struct_tc_red_qopt =
     ∷ field (codes "flags") (form.Number number.U8)
     ∷ [])
 
+-- `struct tca_red_flags`
+abbrev pub struct_tca_red_flags : Part
+struct_tca_red_flags =
+    Fields
+    (field (codes "value") (form.Number number.U32)
+    ∷ field (codes "selector") (form.Number number.U32)
+    ∷ [])
+
 -- `struct tc_red_xstats`
 abbrev pub struct_tc_red_xstats : Part
 struct_tc_red_xstats =
@@ -1670,7 +1678,7 @@ struct_tc_red_xstats =
 abbrev pub statistics_qdisc_red : Part
 statistics_qdisc_red =
     Fields
-    (field (codes "Red") (form.Record 758)
+    (field (codes "Red") (form.Record 759)
     ∷ [])
 
 -- `list tc`: the rows of red
@@ -1678,25 +1686,26 @@ abbrev pub list_tc_qdisc_red : Part
 list_tc_qdisc_red =
     Rows []
     (row 2 (codes "Options") (form.List 756)
-    ∷ row 4 (codes "Xstats") (form.Record 759)
+    ∷ row 4 (codes "Xstats") (form.Record 760)
     ∷ [])
 
 -- `list stats`: the rows of red
 abbrev pub list_stats_qdisc_red : Part
 list_stats_qdisc_red =
     Rows []
-    (row 4 (codes "App") (form.Record 759)
+    (row 4 (codes "App") (form.Record 760)
     ∷ [])
 
 unfoldable pub parts_of_qdiscs_red : Table
 parts_of_qdiscs_red place =
     if place == 756 then list_red_in_red else (
     if place == 757 then struct_tc_red_qopt else (
-    if place == 758 then struct_tc_red_xstats else (
-    if place == 759 then statistics_qdisc_red else (
-    if place == 760 then list_tc_qdisc_red else (
-    if place == 761 then list_stats_qdisc_red else (
-    One form.Hex))))))
+    if place == 758 then struct_tca_red_flags else (
+    if place == 759 then struct_tc_red_xstats else (
+    if place == 760 then statistics_qdisc_red else (
+    if place == 761 then list_tc_qdisc_red else (
+    if place == 762 then list_stats_qdisc_red else (
+    One form.Hex)))))))
 
 -- `list sfb`
 abbrev pub list_sfb_in_sfb : Part
@@ -1946,7 +1955,7 @@ list_taprio_tc_entry =
     Rows []
     (row 1 (codes "Index") (form.Number number.U32)
     ∷ row 2 (codes "MaxSdu") (form.Number number.U32)
-    ∷ row 3 (codes "Fp") (form.Named number.U32 835)
+    ∷ row 3 (codes "Fp") (form.Named number.U32 834)
     ∷ [])
 
 -- `list taprio_stats`

@@ -56,14 +56,6 @@ struct_tc_estimator =
     ∷ field (codes "ewma_log") (form.Number number.U8)
     ∷ [])
 
--- `struct nla_bitfield32`
-abbrev pub struct_nla_bitfield32 : Part
-struct_nla_bitfield32 =
-    Fields
-    (field (codes "value") (form.Number number.U32)
-    ∷ field (codes "selector") (form.Number number.U32)
-    ∷ [])
-
 -- `struct sock_filter`
 abbrev pub struct_sock_filter : Part
 struct_sock_filter =
@@ -89,7 +81,6 @@ parts_of_shared place =
     if place == 830 then list_stab else (
     if place == 831 then struct_tc_sizespec else (
     if place == 832 then struct_tc_estimator else (
-    if place == 833 then struct_nla_bitfield32 else (
-    if place == 834 then struct_sock_filter else (
-    if place == 835 then enum_tc_fp else (
-    One form.Hex))))))))
+    if place == 833 then struct_sock_filter else (
+    if place == 834 then enum_tc_fp else (
+    One form.Hex)))))))

@@ -37,7 +37,7 @@ list_stats =
     ∷ kind_rows (codes "htb") 642
     ∷ kind_rows (codes "pie") 712
     ∷ kind_rows (codes "qfq") 748
-    ∷ kind_rows (codes "red") 761
+    ∷ kind_rows (codes "red") 762
     ∷ kind_rows (codes "sfb") 773
     ∷ kind_rows (codes "sfq") 787
     ∷ kind_rows (codes "taprio") 813

@@ -119,17 +119,17 @@ const LIST_ACTION_OF_ALL: [Row<'static>; 8] = [
     Row {
         word: 7,
         name: "Flags",
-        form: Form::Record(833),
+        form: Form::Record(3),
     },
     Row {
         word: 8,
         name: "HwStats",
-        form: Form::Record(833),
+        form: Form::Record(4),
     },
     Row {
         word: 9,
         name: "UsedHwStats",
-        form: Form::Record(833),
+        form: Form::Record(4),
     },
     Row {
         word: 10,
@@ -142,8 +142,32 @@ const LIST_ACTION_OF_ALL: [Row<'static>; 8] = [
 const LIST_ACTION_OF_OTHERS: [Row<'static>; 1] = [Row {
     word: 32770,
     name: "Options",
-    form: Form::List(3),
+    form: Form::List(5),
 }];
+
+// `struct tca_act_flags`
+const STRUCT_TCA_ACT_FLAGS: [Field<'static>; 2] = [
+    Field {
+        name: "value",
+        form: Form::Number(Number::U32),
+    },
+    Field {
+        name: "selector",
+        form: Form::Number(Number::U32),
+    },
+];
+
+// `struct tca_act_hw_stats`
+const STRUCT_TCA_ACT_HW_STATS: [Field<'static>; 2] = [
+    Field {
+        name: "value",
+        form: Form::Number(Number::U32),
+    },
+    Field {
+        name: "selector",
+        form: Form::Number(Number::U32),
+    },
+];
 
 // `struct tc_gen`
 const STRUCT_TC_GEN: [Field<'static>; 5] = [
@@ -157,7 +181,7 @@ const STRUCT_TC_GEN: [Field<'static>; 5] = [
     },
     Field {
         name: "action",
-        form: Form::Named(Number::I32, 5),
+        form: Form::Named(Number::I32, 7),
     },
     Field {
         name: "refcnt",
@@ -241,10 +265,12 @@ pub(crate) fn parts_of_action(place: usize) -> Part<'static>
         0 => Part::Kinds(1, 2, &LIST_ACTION),
         1 => Part::Rows("", &LIST_ACTION_OF_ALL),
         2 => Part::Rows("", &LIST_ACTION_OF_OTHERS),
-        3 => Part::Rows("", &[]),
-        4 => Part::Fields(&STRUCT_TC_GEN),
-        5 => Part::Names(&ENUM_TC_ACT),
-        6 => Part::Fields(&STRUCT_TCF_T),
+        3 => Part::Fields(&STRUCT_TCA_ACT_FLAGS),
+        4 => Part::Fields(&STRUCT_TCA_ACT_HW_STATS),
+        5 => Part::Rows("", &[]),
+        6 => Part::Fields(&STRUCT_TC_GEN),
+        7 => Part::Names(&ENUM_TC_ACT),
+        8 => Part::Fields(&STRUCT_TCF_T),
         _ => Part::One(Form::Hex),
     }
 }

@@ -11,7 +11,7 @@ const LIST_ACT_BPF_IN_BPF: [Row<'static>; 9] = [
     Row {
         word: 1,
         name: "Tm",
-        form: Form::Record(6),
+        form: Form::Record(8),
     },
     Row {
         word: 2,
@@ -26,7 +26,7 @@ const LIST_ACT_BPF_IN_BPF: [Row<'static>; 9] = [
     Row {
         word: 4,
         name: "Ops",
-        form: Form::Array(834),
+        form: Form::Array(833),
     },
     Row {
         word: 5,
@@ -58,7 +58,7 @@ const LIST_ACT_BPF_IN_BPF: [Row<'static>; 9] = [
 // `struct tc_act_bpf`
 const STRUCT_TC_ACT_BPF: [Field<'static>; 1] = [Field {
     name: "generic",
-    form: Form::Record(4),
+    form: Form::Record(6),
 }];
 
 // `list action`: the rows of bpf
@@ -90,7 +90,7 @@ const LIST_CONNMARK_IN_CONNMARK: [Row<'static>; 3] = [
     Row {
         word: 2,
         name: "Tm",
-        form: Form::Record(6),
+        form: Form::Record(8),
     },
     Row {
         word: 3,
@@ -103,7 +103,7 @@ const LIST_CONNMARK_IN_CONNMARK: [Row<'static>; 3] = [
 const STRUCT_TC_CONNMARK: [Field<'static>; 3] = [
     Field {
         name: "generic",
-        form: Form::Record(4),
+        form: Form::Record(6),
     },
     Field {
         name: "zone",
@@ -144,7 +144,7 @@ const LIST_CSUM_IN_CSUM: [Row<'static>; 3] = [
     Row {
         word: 2,
         name: "Tm",
-        form: Form::Record(6),
+        form: Form::Record(8),
     },
     Row {
         word: 3,
@@ -157,7 +157,7 @@ const LIST_CSUM_IN_CSUM: [Row<'static>; 3] = [
 const STRUCT_TC_CSUM: [Field<'static>; 2] = [
     Field {
         name: "generic",
-        form: Form::Record(4),
+        form: Form::Record(6),
     },
     Field {
         name: "update_flags",
@@ -194,7 +194,7 @@ const LIST_CT_IN_CT: [Row<'static>; 18] = [
     Row {
         word: 2,
         name: "Tm",
-        form: Form::Record(6),
+        form: Form::Record(8),
     },
     Row {
         word: 3,
@@ -281,7 +281,7 @@ const LIST_CT_IN_CT: [Row<'static>; 18] = [
 // `struct tc_ct`
 const STRUCT_TC_CT: [Field<'static>; 1] = [Field {
     name: "generic",
-    form: Form::Record(4),
+    form: Form::Record(6),
 }];
 
 // `list action`: the rows of ct
@@ -313,7 +313,7 @@ const LIST_CTINFO_IN_CTINFO: [Row<'static>; 10] = [
     Row {
         word: 2,
         name: "Tm",
-        form: Form::Record(6),
+        form: Form::Record(8),
     },
     Row {
         word: 3,
@@ -360,7 +360,7 @@ const LIST_CTINFO_IN_CTINFO: [Row<'static>; 10] = [
 // `struct tc_ctinfo`
 const STRUCT_TC_CTINFO: [Field<'static>; 1] = [Field {
     name: "generic",
-    form: Form::Record(4),
+    form: Form::Record(6),
 }];
 
 // `list action`: the rows of ctinfo
@@ -387,7 +387,7 @@ const LIST_GACT_IN_GACT: [Row<'static>; 4] = [
     Row {
         word: 1,
         name: "Tm",
-        form: Form::Record(6),
+        form: Form::Record(8),
     },
     Row {
         word: 2,
@@ -409,7 +409,7 @@ const LIST_GACT_IN_GACT: [Row<'static>; 4] = [
 // `struct tc_gact`
 const STRUCT_TC_GACT: [Field<'static>; 1] = [Field {
     name: "generic",
-    form: Form::Record(4),
+    form: Form::Record(6),
 }];
 
 // `struct tc_gact_p`
@@ -424,7 +424,7 @@ const STRUCT_TC_GACT_P: [Field<'static>; 3] = [
     },
     Field {
         name: "paction",
-        form: Form::Named(Number::I32, 5),
+        form: Form::Named(Number::I32, 7),
     },
 ];
 
@@ -470,7 +470,7 @@ const LIST_GATE_IN_GATE: [Row<'static>; 10] = [
     Row {
         word: 1,
         name: "Tm",
-        form: Form::Record(6),
+        form: Form::Record(8),
     },
     Row {
         word: 2,
@@ -522,7 +522,7 @@ const LIST_GATE_IN_GATE: [Row<'static>; 10] = [
 // `struct tc_gate`
 const STRUCT_TC_GATE: [Field<'static>; 1] = [Field {
     name: "generic",
-    form: Form::Record(4),
+    form: Form::Record(6),
 }];
 
 // `list gate_list`
@@ -592,7 +592,7 @@ const LIST_IFE_IN_IFE: [Row<'static>; 7] = [
     Row {
         word: 2,
         name: "Tm",
-        form: Form::Record(6),
+        form: Form::Record(8),
     },
     Row {
         word: 3,
@@ -625,7 +625,7 @@ const LIST_IFE_IN_IFE: [Row<'static>; 7] = [
 const STRUCT_TC_IFE: [Field<'static>; 3] = [
     Field {
         name: "generic",
-        form: Form::Record(4),
+        form: Form::Record(6),
     },
     Field {
         name: "flags",
@@ -711,7 +711,7 @@ const LIST_IPT_IN_IPT: [Row<'static>; 7] = [
     Row {
         word: 5,
         name: "Tm",
-        form: Form::Record(6),
+        form: Form::Record(8),
     },
     Row {
         word: 6,
@@ -750,7 +750,7 @@ const LIST_IPT_IN_XT: [Row<'static>; 7] = [
     Row {
         word: 5,
         name: "Tm",
-        form: Form::Record(6),
+        form: Form::Record(8),
     },
     Row {
         word: 6,
@@ -809,7 +809,7 @@ const LIST_MIRRED_IN_MIRROR: [Row<'static>; 4] = [
     Row {
         word: 1,
         name: "Tm",
-        form: Form::Record(6),
+        form: Form::Record(8),
     },
     Row {
         word: 2,
@@ -832,7 +832,7 @@ const LIST_MIRRED_IN_MIRROR: [Row<'static>; 4] = [
 const STRUCT_TC_MIRRED: [Field<'static>; 3] = [
     Field {
         name: "generic",
-        form: Form::Record(4),
+        form: Form::Record(6),
     },
     Field {
         name: "eaction",
@@ -889,7 +889,7 @@ const LIST_MPLS_IN_MPLS: [Row<'static>; 8] = [
     Row {
         word: 1,
         name: "Tm",
-        form: Form::Record(6),
+        form: Form::Record(8),
     },
     Row {
         word: 2,
@@ -932,7 +932,7 @@ const LIST_MPLS_IN_MPLS: [Row<'static>; 8] = [
 const STRUCT_TC_MPLS: [Field<'static>; 2] = [
     Field {
         name: "generic",
-        form: Form::Record(4),
+        form: Form::Record(6),
     },
     Field {
         name: "m_action",
@@ -994,7 +994,7 @@ const LIST_NAT_IN_NAT: [Row<'static>; 3] = [
     Row {
         word: 2,
         name: "Tm",
-        form: Form::Record(6),
+        form: Form::Record(8),
     },
     Row {
         word: 3,
@@ -1007,7 +1007,7 @@ const LIST_NAT_IN_NAT: [Row<'static>; 3] = [
 const STRUCT_TC_NAT: [Field<'static>; 5] = [
     Field {
         name: "generic",
-        form: Form::Record(4),
+        form: Form::Record(6),
     },
     Field {
         name: "old_addr",
@@ -1047,11 +1047,11 @@ pub(crate) fn parts_of_actions_nat(place: usize) -> Part<'static>
 }
 
 // `list pedit`
-const LIST_PEDIT_IN_PEDIT: [Row<'static>; 6] = [
+const LIST_PEDIT_IN_PEDIT: [Row<'static>; 5] = [
     Row {
         word: 1,
         name: "Tm",
-        form: Form::Record(6),
+        form: Form::Record(8),
     },
     Row {
         word: 2,
@@ -1073,18 +1073,13 @@ const LIST_PEDIT_IN_PEDIT: [Row<'static>; 6] = [
         name: "KeysEx",
         form: Form::List(159),
     },
-    Row {
-        word: 6,
-        name: "KeyEx",
-        form: Form::Hex,
-    },
 ];
 
 // `struct tc_pedit_sel`
 const STRUCT_TC_PEDIT_SEL: [Field<'static>; 5] = [
     Field {
         name: "generic",
-        form: Form::Record(4),
+        form: Form::Record(6),
     },
     Field {
         name: "nkeys",
@@ -1242,12 +1237,12 @@ const LIST_POLICE: [Row<'static>; 11] = [
     Row {
         word: 5,
         name: "Result",
-        form: Form::Named(Number::U32, 5),
+        form: Form::Named(Number::U32, 7),
     },
     Row {
         word: 6,
         name: "Tm",
-        form: Form::Record(6),
+        form: Form::Record(8),
     },
     Row {
         word: 7,
@@ -1301,12 +1296,12 @@ const LIST_POLICE_IN_POLICE: [Row<'static>; 11] = [
     Row {
         word: 5,
         name: "Result",
-        form: Form::Named(Number::U32, 5),
+        form: Form::Named(Number::U32, 7),
     },
     Row {
         word: 6,
         name: "Tm",
-        form: Form::Record(6),
+        form: Form::Record(8),
     },
     Row {
         word: 7,
@@ -1343,7 +1338,7 @@ const STRUCT_TC_POLICE: [Field<'static>; 10] = [
     },
     Field {
         name: "action",
-        form: Form::Named(Number::I32, 5),
+        form: Form::Named(Number::I32, 7),
     },
     Field {
         name: "limit",
@@ -1404,7 +1399,7 @@ const LIST_SAMPLE_IN_SAMPLE: [Row<'static>; 6] = [
     Row {
         word: 1,
         name: "Tm",
-        form: Form::Record(6),
+        form: Form::Record(8),
     },
     Row {
         word: 2,
@@ -1436,7 +1431,7 @@ const LIST_SAMPLE_IN_SAMPLE: [Row<'static>; 6] = [
 // `struct tc_sample`
 const STRUCT_TC_SAMPLE: [Field<'static>; 1] = [Field {
     name: "generic",
-    form: Form::Record(4),
+    form: Form::Record(6),
 }];
 
 // `list action`: the rows of sample
@@ -1463,7 +1458,7 @@ const LIST_SIMPLE_IN_SIMPLE: [Row<'static>; 4] = [
     Row {
         word: 1,
         name: "Tm",
-        form: Form::Record(6),
+        form: Form::Record(8),
     },
     Row {
         word: 2,
@@ -1485,7 +1480,7 @@ const LIST_SIMPLE_IN_SIMPLE: [Row<'static>; 4] = [
 // `struct tc_defact`
 const STRUCT_TC_DEFACT: [Field<'static>; 1] = [Field {
     name: "generic",
-    form: Form::Record(4),
+    form: Form::Record(6),
 }];
 
 // `list action`: the rows of simple
@@ -1512,7 +1507,7 @@ const LIST_SKBEDIT_IN_SKBEDIT: [Row<'static>; 10] = [
     Row {
         word: 1,
         name: "Tm",
-        form: Form::Record(6),
+        form: Form::Record(8),
     },
     Row {
         word: 2,
@@ -1564,7 +1559,7 @@ const LIST_SKBEDIT_IN_SKBEDIT: [Row<'static>; 10] = [
 // `struct tc_skbedit`
 const STRUCT_TC_SKBEDIT: [Field<'static>; 1] = [Field {
     name: "generic",
-    form: Form::Record(4),
+    form: Form::Record(6),
 }];
 
 // `list action`: the rows of skbedit
@@ -1591,7 +1586,7 @@ const LIST_SKBMOD_IN_SKBMOD: [Row<'static>; 6] = [
     Row {
         word: 1,
         name: "Tm",
-        form: Form::Record(6),
+        form: Form::Record(8),
     },
     Row {
         word: 2,
@@ -1624,7 +1619,7 @@ const LIST_SKBMOD_IN_SKBMOD: [Row<'static>; 6] = [
 const STRUCT_TC_SKBMOD: [Field<'static>; 3] = [
     Field {
         name: "generic",
-        form: Form::Record(4),
+        form: Form::Record(6),
     },
     Field {
         name: "padding",
@@ -1660,7 +1655,7 @@ const LIST_TUNNEL_KEY_IN_TUNNELKEY: [Row<'static>; 14] = [
     Row {
         word: 1,
         name: "Tm",
-        form: Form::Record(6),
+        form: Form::Record(8),
     },
     Row {
         word: 2,
@@ -1733,7 +1728,7 @@ const LIST_TUNNEL_KEY_IN_TUNNELKEY: [Row<'static>; 14] = [
 const STRUCT_TC_TUNNEL_KEY: [Field<'static>; 2] = [
     Field {
         name: "generic",
-        form: Form::Record(4),
+        form: Form::Record(6),
     },
     Field {
         name: "t_action",
@@ -1765,7 +1760,7 @@ const LIST_VLAN_IN_VLAN: [Row<'static>; 8] = [
     Row {
         word: 1,
         name: "Tm",
-        form: Form::Record(6),
+        form: Form::Record(8),
     },
     Row {
         word: 2,
@@ -1808,7 +1803,7 @@ const LIST_VLAN_IN_VLAN: [Row<'static>; 8] = [
 const STRUCT_TC_VLAN: [Field<'static>; 2] = [
     Field {
         name: "generic",
-        form: Form::Record(4),
+        form: Form::Record(6),
     },
     Field {
         name: "v_action",

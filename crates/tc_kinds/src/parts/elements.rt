@@ -16,9 +16,9 @@ pub(crate) fn parts_of_elements(place: usize) -> Part<'static>
         254 => Part::One(Form::Choice(266)),
         255 => Part::One(Form::Own(0)),
         256 => Part::One(Form::Number(Number::U64)),
-        257 => Part::One(Form::List(446)),
-        258 => Part::One(Form::Number(Number::I32)),
-        259 => Part::One(Form::Number(Number::U8)),
+        257 => Part::One(Form::Number(Number::U8)),
+        258 => Part::One(Form::List(446)),
+        259 => Part::One(Form::Number(Number::I32)),
         260 => Part::One(Form::Number(Number::I16)),
         _ => Part::One(Form::Hex),
     }

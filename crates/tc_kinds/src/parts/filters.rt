@@ -103,7 +103,7 @@ const LIST_BPF_IN_BPF: [Row<'static>; 11] = [
     Row {
         word: 5,
         name: "Ops",
-        form: Form::Array(834),
+        form: Form::Array(833),
     },
     Row {
         word: 6,

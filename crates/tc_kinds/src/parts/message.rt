@@ -274,7 +274,7 @@ const LIST_TC: [KindRows<'static>; 53] = [
     },
     KindRows {
         kind: "red",
-        rows: 760,
+        rows: 761,
     },
     KindRows {
         kind: "sfb",
@@ -358,7 +358,7 @@ const LIST_TC_OF_ALL: [Row<'static>; 13] = [
     Row {
         word: 15,
         name: "DumpFlags",
-        form: Form::Record(833),
+        form: Form::Record(427),
     },
     Row {
         word: 16,
@@ -381,15 +381,27 @@ const LIST_TC_OF_OTHERS: [Row<'static>; 2] = [
     },
 ];
 
+// `struct tca_dump_flags`
+const STRUCT_TCA_DUMP_FLAGS: [Field<'static>; 2] = [
+    Field {
+        name: "value",
+        form: Form::Number(Number::U32),
+    },
+    Field {
+        name: "selector",
+        form: Form::Number(Number::U32),
+    },
+];
+
 // `struct action_message`
 const STRUCT_ACTION_MESSAGE: [Field<'static>; 2] = [
     Field {
         name: "header",
-        form: Form::Record(428),
+        form: Form::Record(429),
     },
     Field {
         name: "attributes",
-        form: Form::List(429),
+        form: Form::List(430),
     },
 ];
 
@@ -415,7 +427,7 @@ const LIST_ACTION_MESSAGE: [Row<'static>; 5] = [
     Row {
         word: 2,
         name: "Flags",
-        form: Form::Record(430),
+        form: Form::Record(431),
     },
     Row {
         word: 3,
@@ -458,10 +470,11 @@ pub(crate) fn parts_of_message(place: usize) -> Part<'static>
         424 => Part::Rows("", &LIST_TC_OF_ALL),
         425 => Part::Rows("", &LIST_TC_OF_OTHERS),
         426 => Part::Choices(&[]),
-        427 => Part::Fields(&STRUCT_ACTION_MESSAGE),
-        428 => Part::Fields(&STRUCT_TCAMSG),
-        429 => Part::Rows("", &LIST_ACTION_MESSAGE),
-        430 => Part::Fields(&STRUCT_TCA_ROOT_FLAGS),
+        427 => Part::Fields(&STRUCT_TCA_DUMP_FLAGS),
+        428 => Part::Fields(&STRUCT_ACTION_MESSAGE),
+        429 => Part::Fields(&STRUCT_TCAMSG),
+        430 => Part::Rows("", &LIST_ACTION_MESSAGE),
+        431 => Part::Fields(&STRUCT_TCA_ROOT_FLAGS),
         _ => Part::One(Form::Hex),
     }
 }

@@ -21,7 +21,7 @@ const LIST_ATM_IN_ATM: [Row<'static>; 6] = [
     Row {
         word: 3,
         name: "Hdr",
-        form: Form::Hex,
+        form: Form::Array(257),
     },
     Row {
         word: 4,
@@ -209,7 +209,7 @@ const LIST_CAKE_STATS: [Row<'static>; 16] = [
     Row {
         word: 10,
         name: "TinStats",
-        form: Form::Indexed(257),
+        form: Form::Indexed(258),
     },
     Row {
         word: 11,
@@ -1334,7 +1334,7 @@ const LIST_FQ_IN_FQ: [Row<'static>; 17] = [
     Row {
         word: 17,
         name: "Weights",
-        form: Form::Times(3, 258),
+        form: Form::Times(3, 259),
     },
 ];
 
@@ -2451,7 +2451,7 @@ const STRUCT_MQPRIO_OPTIONS: [Field<'static>; 7] = [
     },
     Field {
         name: "prio_tc_map",
-        form: Form::Times(16, 259),
+        form: Form::Times(16, 257),
     },
     Field {
         name: "hw",
@@ -2483,7 +2483,7 @@ const STRUCT_TC_MQPRIO_QOPT: [Field<'static>; 5] = [
     },
     Field {
         name: "prio_tc_map",
-        form: Form::Times(16, 259),
+        form: Form::Times(16, 257),
     },
     Field {
         name: "hw",
@@ -2576,7 +2576,7 @@ const LIST_MQPRIO_TC_ENTRY: [Row<'static>; 2] = [
     Row {
         word: 2,
         name: "Fp",
-        form: Form::Named(Number::U32, 835),
+        form: Form::Named(Number::U32, 834),
     },
 ];
 
@@ -3167,7 +3167,7 @@ const STRUCT_PRIO_OPTIONS: [Field<'static>; 3] = [
     },
     Field {
         name: "priomap",
-        form: Form::Times(16, 259),
+        form: Form::Times(16, 257),
     },
     Field {
         name: "attributes",
@@ -3190,7 +3190,7 @@ const STRUCT_TC_PRIO_QOPT: [Field<'static>; 2] = [
     },
     Field {
         name: "priomap",
-        form: Form::Times(16, 259),
+        form: Form::Times(16, 257),
     },
 ];
 
@@ -3323,7 +3323,7 @@ const LIST_RED_IN_RED: [Row<'static>; 6] = [
     Row {
         word: 4,
         name: "Flags",
-        form: Form::Record(833),
+        form: Form::Record(758),
     },
     Row {
         word: 5,
@@ -3369,6 +3369,18 @@ const STRUCT_TC_RED_QOPT: [Field<'static>; 7] = [
     },
 ];
 
+// `struct tca_red_flags`
+const STRUCT_TCA_RED_FLAGS: [Field<'static>; 2] = [
+    Field {
+        name: "value",
+        form: Form::Number(Number::U32),
+    },
+    Field {
+        name: "selector",
+        form: Form::Number(Number::U32),
+    },
+];
+
 // `struct tc_red_xstats`
 const STRUCT_TC_RED_XSTATS: [Field<'static>; 4] = [
     Field {
@@ -3392,7 +3404,7 @@ const STRUCT_TC_RED_XSTATS: [Field<'static>; 4] = [
 // the statistics of red
 const STATISTICS_QDISC_RED: [Field<'static>; 1] = [Field {
     name: "Red",
-    form: Form::Record(758),
+    form: Form::Record(759),
 }];
 
 // `list tc`: the rows of red
@@ -3405,7 +3417,7 @@ const LIST_TC_QDISC_RED: [Row<'static>; 2] = [
     Row {
         word: 4,
         name: "Xstats",
-        form: Form::Record(759),
+        form: Form::Record(760),
     },
 ];
 
@@ -3413,7 +3425,7 @@ const LIST_TC_QDISC_RED: [Row<'static>; 2] = [
 const LIST_STATS_QDISC_RED: [Row<'static>; 1] = [Row {
     word: 4,
     name: "App",
-    form: Form::Record(759),
+    form: Form::Record(760),
 }];
 
 #[tactic(auto, unfolding(crate::specs::Parts::Qdiscs::parts_of_qdiscs_red))]
@@ -3423,10 +3435,11 @@ pub(crate) fn parts_of_qdiscs_red(place: usize) -> Part<'static>
     match place {
         756 => Part::Rows("Red", &LIST_RED_IN_RED),
         757 => Part::Fields(&STRUCT_TC_RED_QOPT),
-        758 => Part::Fields(&STRUCT_TC_RED_XSTATS),
-        759 => Part::Fields(&STATISTICS_QDISC_RED),
-        760 => Part::Rows("", &LIST_TC_QDISC_RED),
-        761 => Part::Rows("", &LIST_STATS_QDISC_RED),
+        758 => Part::Fields(&STRUCT_TCA_RED_FLAGS),
+        759 => Part::Fields(&STRUCT_TC_RED_XSTATS),
+        760 => Part::Fields(&STATISTICS_QDISC_RED),
+        761 => Part::Rows("", &LIST_TC_QDISC_RED),
+        762 => Part::Rows("", &LIST_STATS_QDISC_RED),
         _ => Part::One(Form::Hex),
     }
 }
@@ -3951,7 +3964,7 @@ const LIST_TAPRIO_TC_ENTRY: [Row<'static>; 3] = [
     Row {
         word: 3,
         name: "Fp",
-        form: Form::Named(Number::U32, 835),
+        form: Form::Named(Number::U32, 834),
     },
 ];
 

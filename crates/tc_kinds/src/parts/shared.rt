@@ -112,18 +112,6 @@ const STRUCT_TC_ESTIMATOR: [Field<'static>; 2] = [
     },
 ];
 
-// `struct nla_bitfield32`
-const STRUCT_NLA_BITFIELD32: [Field<'static>; 2] = [
-    Field {
-        name: "value",
-        form: Form::Number(Number::U32),
-    },
-    Field {
-        name: "selector",
-        form: Form::Number(Number::U32),
-    },
-];
-
 // `struct sock_filter`
 const STRUCT_SOCK_FILTER: [Field<'static>; 4] = [
     Field {
@@ -166,9 +154,8 @@ pub(crate) fn parts_of_shared(place: usize) -> Part<'static>
         830 => Part::Rows("", &LIST_STAB),
         831 => Part::Fields(&STRUCT_TC_SIZESPEC),
         832 => Part::Fields(&STRUCT_TC_ESTIMATOR),
-        833 => Part::Fields(&STRUCT_NLA_BITFIELD32),
-        834 => Part::Fields(&STRUCT_SOCK_FILTER),
-        835 => Part::Names(&ENUM_TC_FP),
+        833 => Part::Fields(&STRUCT_SOCK_FILTER),
+        834 => Part::Names(&ENUM_TC_FP),
         _ => Part::One(Form::Hex),
     }
 }

@@ -102,7 +102,7 @@ const LIST_STATS: [KindRows<'static>; 17] = [
     },
     KindRows {
         kind: "red",
-        rows: 761,
+        rows: 762,
     },
     KindRows {
         kind: "sfb",
