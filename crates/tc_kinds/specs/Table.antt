@@ -4,12 +4,74 @@ use Rattle.tc_forms.specs.declared.form.Form.{Form}
 use Rattle.tc_forms.specs.declared.form.Form.TheVariants as form
 use Rattle.tc_forms.specs.Tables.{Table, One}
 use Rattle.tc_kinds.specs.Parts.Action.{parts_of_action}
-use Rattle.tc_kinds.specs.Parts.Actions.{parts_of_actions_bpf, parts_of_actions_connmark, parts_of_actions_csum, parts_of_actions_ct, parts_of_actions_ctinfo, parts_of_actions_gact, parts_of_actions_gate, parts_of_actions_ife, parts_of_actions_ipt, parts_of_actions_mirred, parts_of_actions_mpls, parts_of_actions_nat, parts_of_actions_pedit, parts_of_actions_police, parts_of_actions_sample, parts_of_actions_simple, parts_of_actions_skbedit, parts_of_actions_skbmod, parts_of_actions_tunnel_key, parts_of_actions_vlan}
+use Rattle.tc_kinds.specs.Parts.Actions.{parts_of_actions_bpf}
+use Rattle.tc_kinds.specs.Parts.Actions.{parts_of_actions_connmark}
+use Rattle.tc_kinds.specs.Parts.Actions.{parts_of_actions_csum}
+use Rattle.tc_kinds.specs.Parts.Actions.{parts_of_actions_ct}
+use Rattle.tc_kinds.specs.Parts.Actions.{parts_of_actions_ctinfo}
+use Rattle.tc_kinds.specs.Parts.Actions.{parts_of_actions_gact}
+use Rattle.tc_kinds.specs.Parts.Actions.{parts_of_actions_gate}
+use Rattle.tc_kinds.specs.Parts.Actions.{parts_of_actions_ife}
+use Rattle.tc_kinds.specs.Parts.Actions.{parts_of_actions_ipt}
+use Rattle.tc_kinds.specs.Parts.Actions.{parts_of_actions_mirred}
+use Rattle.tc_kinds.specs.Parts.Actions.{parts_of_actions_mpls}
+use Rattle.tc_kinds.specs.Parts.Actions.{parts_of_actions_nat}
+use Rattle.tc_kinds.specs.Parts.Actions.{parts_of_actions_pedit}
+use Rattle.tc_kinds.specs.Parts.Actions.{parts_of_actions_police}
+use Rattle.tc_kinds.specs.Parts.Actions.{parts_of_actions_sample}
+use Rattle.tc_kinds.specs.Parts.Actions.{parts_of_actions_simple}
+use Rattle.tc_kinds.specs.Parts.Actions.{parts_of_actions_skbedit}
+use Rattle.tc_kinds.specs.Parts.Actions.{parts_of_actions_skbmod}
+use Rattle.tc_kinds.specs.Parts.Actions.{parts_of_actions_tunnel_key}
+use Rattle.tc_kinds.specs.Parts.Actions.{parts_of_actions_vlan}
 use Rattle.tc_kinds.specs.Parts.Elements.{parts_of_elements}
-use Rattle.tc_kinds.specs.Parts.Ematch.{parts_of_ematch, parts_of_ematch_2}
-use Rattle.tc_kinds.specs.Parts.Filters.{parts_of_filters_basic, parts_of_filters_bpf, parts_of_filters_cgroup, parts_of_filters_flow, parts_of_filters_flower, parts_of_filters_fw, parts_of_filters_matchall, parts_of_filters_route, parts_of_filters_rsvp, parts_of_filters_tcindex, parts_of_filters_u32}
+use Rattle.tc_kinds.specs.Parts.Ematch.{parts_of_ematch}
+use Rattle.tc_kinds.specs.Parts.Ematch.{parts_of_ematch_2}
+use Rattle.tc_kinds.specs.Parts.Filters.{parts_of_filters_basic}
+use Rattle.tc_kinds.specs.Parts.Filters.{parts_of_filters_bpf}
+use Rattle.tc_kinds.specs.Parts.Filters.{parts_of_filters_cgroup}
+use Rattle.tc_kinds.specs.Parts.Filters.{parts_of_filters_flow}
+use Rattle.tc_kinds.specs.Parts.Filters.{parts_of_filters_flower}
+use Rattle.tc_kinds.specs.Parts.Filters.{parts_of_filters_fw}
+use Rattle.tc_kinds.specs.Parts.Filters.{parts_of_filters_matchall}
+use Rattle.tc_kinds.specs.Parts.Filters.{parts_of_filters_route}
+use Rattle.tc_kinds.specs.Parts.Filters.{parts_of_filters_rsvp}
+use Rattle.tc_kinds.specs.Parts.Filters.{parts_of_filters_tcindex}
+use Rattle.tc_kinds.specs.Parts.Filters.{parts_of_filters_u32}
 use Rattle.tc_kinds.specs.Parts.Message.{parts_of_message}
-use Rattle.tc_kinds.specs.Parts.Qdiscs.{parts_of_qdiscs_atm, parts_of_qdiscs_cake, parts_of_qdiscs_cbq, parts_of_qdiscs_cbs, parts_of_qdiscs_choke, parts_of_qdiscs_codel, parts_of_qdiscs_drr, parts_of_qdiscs_dsmark, parts_of_qdiscs_etf, parts_of_qdiscs_ets, parts_of_qdiscs_fifo, parts_of_qdiscs_fq, parts_of_qdiscs_fq_codel, parts_of_qdiscs_fq_pie, parts_of_qdiscs_gred, parts_of_qdiscs_hfsc, parts_of_qdiscs_hhf, parts_of_qdiscs_htb, parts_of_qdiscs_ingress, parts_of_qdiscs_mqprio, parts_of_qdiscs_multiq, parts_of_qdiscs_netem, parts_of_qdiscs_none, parts_of_qdiscs_pie, parts_of_qdiscs_plug, parts_of_qdiscs_prio, parts_of_qdiscs_qfq, parts_of_qdiscs_red, parts_of_qdiscs_sfb, parts_of_qdiscs_sfq, parts_of_qdiscs_skbprio, parts_of_qdiscs_taprio, parts_of_qdiscs_tbf}
+use Rattle.tc_kinds.specs.Parts.Qdiscs.{parts_of_qdiscs_atm}
+use Rattle.tc_kinds.specs.Parts.Qdiscs.{parts_of_qdiscs_cake}
+use Rattle.tc_kinds.specs.Parts.Qdiscs.{parts_of_qdiscs_cbq}
+use Rattle.tc_kinds.specs.Parts.Qdiscs.{parts_of_qdiscs_cbs}
+use Rattle.tc_kinds.specs.Parts.Qdiscs.{parts_of_qdiscs_choke}
+use Rattle.tc_kinds.specs.Parts.Qdiscs.{parts_of_qdiscs_codel}
+use Rattle.tc_kinds.specs.Parts.Qdiscs.{parts_of_qdiscs_drr}
+use Rattle.tc_kinds.specs.Parts.Qdiscs.{parts_of_qdiscs_dsmark}
+use Rattle.tc_kinds.specs.Parts.Qdiscs.{parts_of_qdiscs_etf}
+use Rattle.tc_kinds.specs.Parts.Qdiscs.{parts_of_qdiscs_ets}
+use Rattle.tc_kinds.specs.Parts.Qdiscs.{parts_of_qdiscs_fifo}
+use Rattle.tc_kinds.specs.Parts.Qdiscs.{parts_of_qdiscs_fq}
+use Rattle.tc_kinds.specs.Parts.Qdiscs.{parts_of_qdiscs_fq_codel}
+use Rattle.tc_kinds.specs.Parts.Qdiscs.{parts_of_qdiscs_fq_pie}
+use Rattle.tc_kinds.specs.Parts.Qdiscs.{parts_of_qdiscs_gred}
+use Rattle.tc_kinds.specs.Parts.Qdiscs.{parts_of_qdiscs_hfsc}
+use Rattle.tc_kinds.specs.Parts.Qdiscs.{parts_of_qdiscs_hhf}
+use Rattle.tc_kinds.specs.Parts.Qdiscs.{parts_of_qdiscs_htb}
+use Rattle.tc_kinds.specs.Parts.Qdiscs.{parts_of_qdiscs_ingress}
+use Rattle.tc_kinds.specs.Parts.Qdiscs.{parts_of_qdiscs_mqprio}
+use Rattle.tc_kinds.specs.Parts.Qdiscs.{parts_of_qdiscs_multiq}
+use Rattle.tc_kinds.specs.Parts.Qdiscs.{parts_of_qdiscs_netem}
+use Rattle.tc_kinds.specs.Parts.Qdiscs.{parts_of_qdiscs_none}
+use Rattle.tc_kinds.specs.Parts.Qdiscs.{parts_of_qdiscs_pie}
+use Rattle.tc_kinds.specs.Parts.Qdiscs.{parts_of_qdiscs_plug}
+use Rattle.tc_kinds.specs.Parts.Qdiscs.{parts_of_qdiscs_prio}
+use Rattle.tc_kinds.specs.Parts.Qdiscs.{parts_of_qdiscs_qfq}
+use Rattle.tc_kinds.specs.Parts.Qdiscs.{parts_of_qdiscs_red}
+use Rattle.tc_kinds.specs.Parts.Qdiscs.{parts_of_qdiscs_sfb}
+use Rattle.tc_kinds.specs.Parts.Qdiscs.{parts_of_qdiscs_sfq}
+use Rattle.tc_kinds.specs.Parts.Qdiscs.{parts_of_qdiscs_skbprio}
+use Rattle.tc_kinds.specs.Parts.Qdiscs.{parts_of_qdiscs_taprio}
+use Rattle.tc_kinds.specs.Parts.Qdiscs.{parts_of_qdiscs_tbf}
 use Rattle.tc_kinds.specs.Parts.Shared.{parts_of_shared}
 use Rattle.tc_kinds.specs.Parts.Statistics.{parts_of_statistics}
 

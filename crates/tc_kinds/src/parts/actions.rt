@@ -2,7 +2,26 @@
 
 ghost use Rattle.std.specs.Prelude.{◌≡◌, map};
 ghost use Rattle.tc_forms.specs.Tables.{part_view};
-ghost use Rattle.tc_kinds.specs.Parts.Actions.{parts_of_actions_bpf, parts_of_actions_connmark, parts_of_actions_csum, parts_of_actions_ct, parts_of_actions_ctinfo, parts_of_actions_gact, parts_of_actions_gate, parts_of_actions_ife, parts_of_actions_ipt, parts_of_actions_mirred, parts_of_actions_mpls, parts_of_actions_nat, parts_of_actions_pedit, parts_of_actions_police, parts_of_actions_sample, parts_of_actions_simple, parts_of_actions_skbedit, parts_of_actions_skbmod, parts_of_actions_tunnel_key, parts_of_actions_vlan};
+ghost use Rattle.tc_kinds.specs.Parts.Actions.{parts_of_actions_bpf};
+ghost use Rattle.tc_kinds.specs.Parts.Actions.{parts_of_actions_connmark};
+ghost use Rattle.tc_kinds.specs.Parts.Actions.{parts_of_actions_csum};
+ghost use Rattle.tc_kinds.specs.Parts.Actions.{parts_of_actions_ct};
+ghost use Rattle.tc_kinds.specs.Parts.Actions.{parts_of_actions_ctinfo};
+ghost use Rattle.tc_kinds.specs.Parts.Actions.{parts_of_actions_gact};
+ghost use Rattle.tc_kinds.specs.Parts.Actions.{parts_of_actions_gate};
+ghost use Rattle.tc_kinds.specs.Parts.Actions.{parts_of_actions_ife};
+ghost use Rattle.tc_kinds.specs.Parts.Actions.{parts_of_actions_ipt};
+ghost use Rattle.tc_kinds.specs.Parts.Actions.{parts_of_actions_mirred};
+ghost use Rattle.tc_kinds.specs.Parts.Actions.{parts_of_actions_mpls};
+ghost use Rattle.tc_kinds.specs.Parts.Actions.{parts_of_actions_nat};
+ghost use Rattle.tc_kinds.specs.Parts.Actions.{parts_of_actions_pedit};
+ghost use Rattle.tc_kinds.specs.Parts.Actions.{parts_of_actions_police};
+ghost use Rattle.tc_kinds.specs.Parts.Actions.{parts_of_actions_sample};
+ghost use Rattle.tc_kinds.specs.Parts.Actions.{parts_of_actions_simple};
+ghost use Rattle.tc_kinds.specs.Parts.Actions.{parts_of_actions_skbedit};
+ghost use Rattle.tc_kinds.specs.Parts.Actions.{parts_of_actions_skbmod};
+ghost use Rattle.tc_kinds.specs.Parts.Actions.{parts_of_actions_tunnel_key};
+ghost use Rattle.tc_kinds.specs.Parts.Actions.{parts_of_actions_vlan};
 
 use tc_forms::{Field, Form, Name, Number, Part, Row};
 

@@ -2,7 +2,8 @@
 
 ghost use Rattle.std.specs.Prelude.{◌≡◌, map};
 ghost use Rattle.tc_forms.specs.Tables.{part_view};
-ghost use Rattle.tc_kinds.specs.Parts.Ematch.{parts_of_ematch, parts_of_ematch_2};
+ghost use Rattle.tc_kinds.specs.Parts.Ematch.{parts_of_ematch};
+ghost use Rattle.tc_kinds.specs.Parts.Ematch.{parts_of_ematch_2};
 
 use tc_forms::{Choice, Field, Form, Name, Number, Part, Row};
 

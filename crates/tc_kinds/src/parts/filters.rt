@@ -2,7 +2,17 @@
 
 ghost use Rattle.std.specs.Prelude.{◌≡◌, map};
 ghost use Rattle.tc_forms.specs.Tables.{part_view};
-ghost use Rattle.tc_kinds.specs.Parts.Filters.{parts_of_filters_basic, parts_of_filters_bpf, parts_of_filters_cgroup, parts_of_filters_flow, parts_of_filters_flower, parts_of_filters_fw, parts_of_filters_matchall, parts_of_filters_route, parts_of_filters_rsvp, parts_of_filters_tcindex, parts_of_filters_u32};
+ghost use Rattle.tc_kinds.specs.Parts.Filters.{parts_of_filters_basic};
+ghost use Rattle.tc_kinds.specs.Parts.Filters.{parts_of_filters_bpf};
+ghost use Rattle.tc_kinds.specs.Parts.Filters.{parts_of_filters_cgroup};
+ghost use Rattle.tc_kinds.specs.Parts.Filters.{parts_of_filters_flow};
+ghost use Rattle.tc_kinds.specs.Parts.Filters.{parts_of_filters_flower};
+ghost use Rattle.tc_kinds.specs.Parts.Filters.{parts_of_filters_fw};
+ghost use Rattle.tc_kinds.specs.Parts.Filters.{parts_of_filters_matchall};
+ghost use Rattle.tc_kinds.specs.Parts.Filters.{parts_of_filters_route};
+ghost use Rattle.tc_kinds.specs.Parts.Filters.{parts_of_filters_rsvp};
+ghost use Rattle.tc_kinds.specs.Parts.Filters.{parts_of_filters_tcindex};
+ghost use Rattle.tc_kinds.specs.Parts.Filters.{parts_of_filters_u32};
 
 use tc_forms::{Field, Form, Name, Number, Part, Row};
 

@@ -2,7 +2,39 @@
 
 ghost use Rattle.std.specs.Prelude.{◌≡◌, map};
 ghost use Rattle.tc_forms.specs.Tables.{part_view};
-ghost use Rattle.tc_kinds.specs.Parts.Qdiscs.{parts_of_qdiscs_atm, parts_of_qdiscs_cake, parts_of_qdiscs_cbq, parts_of_qdiscs_cbs, parts_of_qdiscs_choke, parts_of_qdiscs_codel, parts_of_qdiscs_drr, parts_of_qdiscs_dsmark, parts_of_qdiscs_etf, parts_of_qdiscs_ets, parts_of_qdiscs_fifo, parts_of_qdiscs_fq, parts_of_qdiscs_fq_codel, parts_of_qdiscs_fq_pie, parts_of_qdiscs_gred, parts_of_qdiscs_hfsc, parts_of_qdiscs_hhf, parts_of_qdiscs_htb, parts_of_qdiscs_ingress, parts_of_qdiscs_mqprio, parts_of_qdiscs_multiq, parts_of_qdiscs_netem, parts_of_qdiscs_none, parts_of_qdiscs_pie, parts_of_qdiscs_plug, parts_of_qdiscs_prio, parts_of_qdiscs_qfq, parts_of_qdiscs_red, parts_of_qdiscs_sfb, parts_of_qdiscs_sfq, parts_of_qdiscs_skbprio, parts_of_qdiscs_taprio, parts_of_qdiscs_tbf};
+ghost use Rattle.tc_kinds.specs.Parts.Qdiscs.{parts_of_qdiscs_atm};
+ghost use Rattle.tc_kinds.specs.Parts.Qdiscs.{parts_of_qdiscs_cake};
+ghost use Rattle.tc_kinds.specs.Parts.Qdiscs.{parts_of_qdiscs_cbq};
+ghost use Rattle.tc_kinds.specs.Parts.Qdiscs.{parts_of_qdiscs_cbs};
+ghost use Rattle.tc_kinds.specs.Parts.Qdiscs.{parts_of_qdiscs_choke};
+ghost use Rattle.tc_kinds.specs.Parts.Qdiscs.{parts_of_qdiscs_codel};
+ghost use Rattle.tc_kinds.specs.Parts.Qdiscs.{parts_of_qdiscs_drr};
+ghost use Rattle.tc_kinds.specs.Parts.Qdiscs.{parts_of_qdiscs_dsmark};
+ghost use Rattle.tc_kinds.specs.Parts.Qdiscs.{parts_of_qdiscs_etf};
+ghost use Rattle.tc_kinds.specs.Parts.Qdiscs.{parts_of_qdiscs_ets};
+ghost use Rattle.tc_kinds.specs.Parts.Qdiscs.{parts_of_qdiscs_fifo};
+ghost use Rattle.tc_kinds.specs.Parts.Qdiscs.{parts_of_qdiscs_fq};
+ghost use Rattle.tc_kinds.specs.Parts.Qdiscs.{parts_of_qdiscs_fq_codel};
+ghost use Rattle.tc_kinds.specs.Parts.Qdiscs.{parts_of_qdiscs_fq_pie};
+ghost use Rattle.tc_kinds.specs.Parts.Qdiscs.{parts_of_qdiscs_gred};
+ghost use Rattle.tc_kinds.specs.Parts.Qdiscs.{parts_of_qdiscs_hfsc};
+ghost use Rattle.tc_kinds.specs.Parts.Qdiscs.{parts_of_qdiscs_hhf};
+ghost use Rattle.tc_kinds.specs.Parts.Qdiscs.{parts_of_qdiscs_htb};
+ghost use Rattle.tc_kinds.specs.Parts.Qdiscs.{parts_of_qdiscs_ingress};
+ghost use Rattle.tc_kinds.specs.Parts.Qdiscs.{parts_of_qdiscs_mqprio};
+ghost use Rattle.tc_kinds.specs.Parts.Qdiscs.{parts_of_qdiscs_multiq};
+ghost use Rattle.tc_kinds.specs.Parts.Qdiscs.{parts_of_qdiscs_netem};
+ghost use Rattle.tc_kinds.specs.Parts.Qdiscs.{parts_of_qdiscs_none};
+ghost use Rattle.tc_kinds.specs.Parts.Qdiscs.{parts_of_qdiscs_pie};
+ghost use Rattle.tc_kinds.specs.Parts.Qdiscs.{parts_of_qdiscs_plug};
+ghost use Rattle.tc_kinds.specs.Parts.Qdiscs.{parts_of_qdiscs_prio};
+ghost use Rattle.tc_kinds.specs.Parts.Qdiscs.{parts_of_qdiscs_qfq};
+ghost use Rattle.tc_kinds.specs.Parts.Qdiscs.{parts_of_qdiscs_red};
+ghost use Rattle.tc_kinds.specs.Parts.Qdiscs.{parts_of_qdiscs_sfb};
+ghost use Rattle.tc_kinds.specs.Parts.Qdiscs.{parts_of_qdiscs_sfq};
+ghost use Rattle.tc_kinds.specs.Parts.Qdiscs.{parts_of_qdiscs_skbprio};
+ghost use Rattle.tc_kinds.specs.Parts.Qdiscs.{parts_of_qdiscs_taprio};
+ghost use Rattle.tc_kinds.specs.Parts.Qdiscs.{parts_of_qdiscs_tbf};
 
 use tc_forms::{Choice, Field, Form, Name, Number, Part, Row};
 
