@@ -83,6 +83,7 @@ list_tc =
     ∷ kind_rows (codes "noqueue") 698
     ∷ kind_rows (codes "blackhole") 698
     ∷ kind_rows (codes "mq") 698
+    ∷ kind_rows (codes "teql0") 698
     ∷ kind_rows (codes "clsact") 699
     ∷ kind_rows (codes "pie") 711
     ∷ kind_rows (codes "plug") 722

@@ -1418,7 +1418,7 @@ list_no_options = Rows [] []
 abbrev pub list_no_options_in_clsact : Part
 list_no_options_in_clsact = Rows (codes "Clsact") []
 
--- `list tc`: the rows of noop, noqueue, blackhole, mq
+-- `list tc`: the rows of noop, noqueue, blackhole, mq, teql0
 abbrev pub list_tc_qdisc_noop : Part
 list_tc_qdisc_noop =
     Rows []

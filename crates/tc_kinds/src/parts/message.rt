@@ -83,7 +83,7 @@ const ENUM_ADDRESS_FAMILY: [Name<'static>; 8] = [
 ];
 
 // `list tc`
-const LIST_TC: [KindRows<'static>; 53] = [
+const LIST_TC: [KindRows<'static>; 54] = [
     KindRows {
         kind: "basic",
         rows: 290,
@@ -242,6 +242,10 @@ const LIST_TC: [KindRows<'static>; 53] = [
     },
     KindRows {
         kind: "mq",
+        rows: 698,
+    },
+    KindRows {
+        kind: "teql0",
         rows: 698,
     },
     KindRows {

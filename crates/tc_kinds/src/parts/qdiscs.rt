@@ -2967,7 +2967,7 @@ pub(crate) fn parts_of_qdiscs_netem(place: usize) -> Part<'static>
     }
 }
 
-// `list tc`: the rows of noop, noqueue, blackhole, mq
+// `list tc`: the rows of noop, noqueue, blackhole, mq, teql0
 const LIST_TC_QDISC_NOOP: [Row<'static>; 2] = [
     Row {
         word: 2,
