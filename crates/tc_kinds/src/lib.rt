@@ -17,6 +17,6 @@ impl Tables for TcTables {
     ghost parts_of = { λ t. tc_tables };
 
     fn part(self, place: usize) -> Part<'static> {
-        parts::part(place)
+        parts::tc_tables(place)
     }
 }

@@ -50,7 +50,7 @@ pub fn qdiscs_are_the_codecs()
     ensures fq_codel { HasRows tc_tables (options_rows (codes "fq_codel")) fq_codel_options names.fq_codel_options_names }
 {}
 
-/// The options of filters.
+/// The options of filters, and the actions in them.
 pub fn filters_are_the_codecs()
     ensures flower { HasRows tc_tables (options_rows (codes "flower")) flower_options names.flower_options_names }
     ensures mpls { HasRows tc_tables mpls_rows mpls_options names.mpls_options_names }
@@ -59,12 +59,12 @@ pub fn filters_are_the_codecs()
     ensures selector { IsRecord tc_tables (form_at (options_rows (codes "u32")) 5) layouts.selector_head fields.selector_head_names }
     ensures key { IsRecord tc_tables (keys_of_selector (form_at (options_rows (codes "u32")) 5)) layouts.selector_key fields.selector_key_names }
     ensures matchall { HasRows tc_tables (options_rows (codes "matchall")) matchall_options names.matchall_options_names }
+    ensures actions { actions_in_filters ≡ map (λ x. one_action) actions_in_filters }
     ensures bpf { HasRows tc_tables (options_rows (codes "bpf")) bpf_options names.bpf_options_names }
 {}
 
-/// The attributes and the options of actions, wherever actions are.
+/// The attributes and the options of actions.
 pub fn actions_are_the_codecs()
-    ensures places { actions_in_filters ≡ map (λ x. one_action) actions_in_filters }
     ensures action { HasRows tc_tables (action_rows []) (behind_kind action_attributes) names.action_attributes_names }
     ensures layers { action_layers names.action_kinds_names ≡ map (λ k. k.name) names.action_kinds_names }
     ensures options { action_words names.action_kinds_names ≡ map (λ k. 0x8002) names.action_kinds_names }

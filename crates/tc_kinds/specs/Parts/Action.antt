@@ -1,5 +1,5 @@
 -- The parts of `kinds/action`. Written by `kinds/generate`.
-use Rattle.std.specs.Prelude.{◌==◌, [], ◌∷◌, codes, if◌then◌else◌}
+use Rattle.std.specs.Prelude.{◌/◌, ◌==◌, [], ◌∷◌, codes, if◌then◌else◌}
 use Rattle.tc_forms.specs.declared.form.Form.TheVariants as form
 use Rattle.tc_forms.specs.declared.form.Number.TheVariants as number
 use Rattle.tc_forms.specs.Tables.{Part, Table, One, Names, Fields, Rows, Kinds}
@@ -9,27 +9,27 @@ use Rattle.tc_kinds.specs.Items.{name, field, row, kind_rows}
 abbrev pub list_action : Part
 list_action =
     Kinds 1 2
-    (kind_rows (codes "bpf") 14
-    ∷ kind_rows (codes "connmark") 26
-    ∷ kind_rows (codes "csum") 38
-    ∷ kind_rows (codes "ct") 50
-    ∷ kind_rows (codes "ctinfo") 62
-    ∷ kind_rows (codes "gact") 76
-    ∷ kind_rows (codes "gate") 88
-    ∷ kind_rows (codes "ife") 99
-    ∷ kind_rows (codes "ipt") 111
-    ∷ kind_rows (codes "xt") 112
-    ∷ kind_rows (codes "mirred") 123
-    ∷ kind_rows (codes "mpls") 135
-    ∷ kind_rows (codes "nat") 146
-    ∷ kind_rows (codes "pedit") 163
-    ∷ kind_rows (codes "police") 171
-    ∷ kind_rows (codes "sample") 182
-    ∷ kind_rows (codes "simple") 194
-    ∷ kind_rows (codes "skbedit") 206
-    ∷ kind_rows (codes "skbmod") 218
-    ∷ kind_rows (codes "tunnel_key") 230
-    ∷ kind_rows (codes "vlan") 243
+    (kind_rows (codes "bpf") 602
+    ∷ kind_rows (codes "connmark") 614
+    ∷ kind_rows (codes "csum") 626
+    ∷ kind_rows (codes "ct") 638
+    ∷ kind_rows (codes "ctinfo") 650
+    ∷ kind_rows (codes "gact") 664
+    ∷ kind_rows (codes "gate") 676
+    ∷ kind_rows (codes "ife") 687
+    ∷ kind_rows (codes "ipt") 699
+    ∷ kind_rows (codes "xt") 700
+    ∷ kind_rows (codes "mirred") 711
+    ∷ kind_rows (codes "mpls") 723
+    ∷ kind_rows (codes "nat") 734
+    ∷ kind_rows (codes "pedit") 751
+    ∷ kind_rows (codes "police") 759
+    ∷ kind_rows (codes "sample") 770
+    ∷ kind_rows (codes "simple") 782
+    ∷ kind_rows (codes "skbedit") 794
+    ∷ kind_rows (codes "skbmod") 806
+    ∷ kind_rows (codes "tunnel_key") 818
+    ∷ kind_rows (codes "vlan") 831
     ∷ [])
 
 -- `list action`: the rows of all kinds
@@ -37,7 +37,7 @@ abbrev pub list_action_of_all : Part
 list_action_of_all =
     Rows []
     (row 3 (codes "Index") (form.Number number.U32)
-    ∷ row 4 (codes "Stats") (form.List 841)
+    ∷ row 4 (codes "Stats") (form.List 4801)
     ∷ row 5 (codes "Pad") form.Flag
     ∷ row 6 (codes "Cookie") form.Hex
     ∷ row 7 (codes "Flags") (form.Record 3)
@@ -122,3 +122,8 @@ parts_of_action place =
     if place == 7 then enum_tc_act else (
     if place == 8 then struct_tcf_t else (
     One form.Hex)))))))))
+
+unfoldable pub all_of_action : Table
+all_of_action place =
+    if place / 12 == 0 then parts_of_action place else (
+    One form.Hex)

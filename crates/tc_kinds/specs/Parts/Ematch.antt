@@ -1,5 +1,5 @@
 -- The parts of `kinds/ematch`. Written by `kinds/generate`.
-use Rattle.std.specs.Prelude.{◌==◌, [], ◌∷◌, None, codes, if◌then◌else◌}
+use Rattle.std.specs.Prelude.{◌/◌, ◌==◌, [], ◌∷◌, None, codes, if◌then◌else◌}
 use Rattle.tc_forms.specs.declared.form.Form.TheVariants as form
 use Rattle.tc_forms.specs.declared.form.Number.TheVariants as number
 use Rattle.tc_forms.specs.Tables.{Part, Table, One, Names, Fields, Rows, Choices}
@@ -9,8 +9,8 @@ use Rattle.tc_kinds.specs.Items.{name, field, row, choice}
 abbrev pub list_ematch_tree : Part
 list_ematch_tree =
     Rows []
-    (row 1 (codes "Hdr") (form.Record 265)
-    ∷ row 2 (codes "List") (form.Indexed 254)
+    (row 1 (codes "Hdr") (form.Record 1801)
+    ∷ row 2 (codes "List") (form.Indexed 1202)
     ∷ [])
 
 -- `struct tcf_ematch_tree_hdr`
@@ -25,15 +25,15 @@ struct_tcf_ematch_tree_hdr =
 abbrev pub choice_ematch : Part
 choice_ematch =
     Choices
-    (choice (codes "Container") (0 ∷ 0 ∷ 0 ∷ 0 ∷ []) None (form.Record 267)
-    ∷ choice (codes "Cmp") (0 ∷ 0 ∷ 1 ∷ 0 ∷ []) None (form.Record 268)
-    ∷ choice (codes "Nbyte") (0 ∷ 0 ∷ 2 ∷ 0 ∷ []) None (form.Record 270)
-    ∷ choice (codes "U32") (0 ∷ 0 ∷ 3 ∷ 0 ∷ []) None (form.Record 272)
-    ∷ choice (codes "Meta") (0 ∷ 0 ∷ 4 ∷ 0 ∷ []) None (form.Record 273)
-    ∷ choice (codes "Text") (0 ∷ 0 ∷ 5 ∷ 0 ∷ []) None (form.Record 278)
-    ∷ choice (codes "Canid") (0 ∷ 0 ∷ 7 ∷ 0 ∷ []) None (form.Record 280)
-    ∷ choice (codes "Ipset") (0 ∷ 0 ∷ 8 ∷ 0 ∷ []) None (form.Record 282)
-    ∷ choice (codes "Ipt") (0 ∷ 0 ∷ 9 ∷ 0 ∷ []) None (form.Record 284)
+    (choice (codes "Container") (0 ∷ 0 ∷ 0 ∷ 0 ∷ []) None (form.Record 1803)
+    ∷ choice (codes "Cmp") (0 ∷ 0 ∷ 1 ∷ 0 ∷ []) None (form.Record 1804)
+    ∷ choice (codes "Nbyte") (0 ∷ 0 ∷ 2 ∷ 0 ∷ []) None (form.Record 1806)
+    ∷ choice (codes "U32") (0 ∷ 0 ∷ 3 ∷ 0 ∷ []) None (form.Record 1808)
+    ∷ choice (codes "Meta") (0 ∷ 0 ∷ 4 ∷ 0 ∷ []) None (form.Record 1809)
+    ∷ choice (codes "Text") (0 ∷ 0 ∷ 5 ∷ 0 ∷ []) None (form.Record 1814)
+    ∷ choice (codes "Canid") (0 ∷ 0 ∷ 7 ∷ 0 ∷ []) None (form.Record 1816)
+    ∷ choice (codes "Ipset") (0 ∷ 0 ∷ 8 ∷ 0 ∷ []) None (form.Record 1818)
+    ∷ choice (codes "Ipt") (0 ∷ 0 ∷ 9 ∷ 0 ∷ []) None (form.Record 1820)
     ∷ [])
 
 -- `struct ematch_container`
@@ -51,7 +51,7 @@ struct_ematch_cmp =
     Fields
     (field (codes "flags") (form.Number number.U16)
     ∷ field (codes "padding") (form.Pad 2)
-    ∷ field (codes "match") (form.Record 269)
+    ∷ field (codes "match") (form.Record 1805)
     ∷ [])
 
 -- `struct tcf_em_cmp`
@@ -71,7 +71,7 @@ struct_ematch_nbyte =
     Fields
     (field (codes "flags") (form.Number number.U16)
     ∷ field (codes "padding") (form.Pad 2)
-    ∷ field (codes "match") (form.Record 271)
+    ∷ field (codes "match") (form.Record 1807)
     ∷ field (codes "needle") form.Hex
     ∷ [])
 
@@ -89,7 +89,7 @@ struct_ematch_u32 =
     Fields
     (field (codes "flags") (form.Number number.U16)
     ∷ field (codes "padding") (form.Pad 2)
-    ∷ field (codes "match") (form.Record 410)
+    ∷ field (codes "match") (form.Record 2522)
     ∷ [])
 
 -- `struct ematch_meta`
@@ -98,14 +98,14 @@ struct_ematch_meta =
     Fields
     (field (codes "flags") (form.Number number.U16)
     ∷ field (codes "padding") (form.Pad 2)
-    ∷ field (codes "attributes") (form.List 274)
+    ∷ field (codes "attributes") (form.List 1810)
     ∷ [])
 
 -- `list em_meta`
 abbrev pub list_em_meta : Part
 list_em_meta =
     Rows []
-    (row 1 (codes "Hdr") (form.Record 275)
+    (row 1 (codes "Hdr") (form.Record 1811)
     ∷ row 2 (codes "Lvalue") form.Hex
     ∷ row 3 (codes "Rvalue") form.Hex
     ∷ [])
@@ -114,24 +114,24 @@ list_em_meta =
 abbrev pub struct_tcf_meta_hdr : Part
 struct_tcf_meta_hdr =
     Fields
-    (field (codes "left") (form.Record 276)
-    ∷ field (codes "right") (form.Record 276)
+    (field (codes "left") (form.Record 1812)
+    ∷ field (codes "right") (form.Record 1812)
     ∷ [])
 
 unfoldable pub parts_of_ematch : Table
 parts_of_ematch place =
-    if place == 264 then list_ematch_tree else (
-    if place == 265 then struct_tcf_ematch_tree_hdr else (
-    if place == 266 then choice_ematch else (
-    if place == 267 then struct_ematch_container else (
-    if place == 268 then struct_ematch_cmp else (
-    if place == 269 then struct_tcf_em_cmp else (
-    if place == 270 then struct_ematch_nbyte else (
-    if place == 271 then struct_tcf_em_nbyte else (
-    if place == 272 then struct_ematch_u32 else (
-    if place == 273 then struct_ematch_meta else (
-    if place == 274 then list_em_meta else (
-    if place == 275 then struct_tcf_meta_hdr else (
+    if place == 1800 then list_ematch_tree else (
+    if place == 1801 then struct_tcf_ematch_tree_hdr else (
+    if place == 1802 then choice_ematch else (
+    if place == 1803 then struct_ematch_container else (
+    if place == 1804 then struct_ematch_cmp else (
+    if place == 1805 then struct_tcf_em_cmp else (
+    if place == 1806 then struct_ematch_nbyte else (
+    if place == 1807 then struct_tcf_em_nbyte else (
+    if place == 1808 then struct_ematch_u32 else (
+    if place == 1809 then struct_ematch_meta else (
+    if place == 1810 then list_em_meta else (
+    if place == 1811 then struct_tcf_meta_hdr else (
     One form.Hex))))))))))))
 
 -- `struct tcf_meta_val`
@@ -140,7 +140,7 @@ struct_tcf_meta_val =
     Fields
     (field (codes "kind") (form.Number number.U16)
     ∷ field (codes "shift") (form.Number number.U8)
-    ∷ field (codes "op") (form.Named number.U8 277)
+    ∷ field (codes "op") (form.Named number.U8 1813)
     ∷ [])
 
 -- `enum tcf_em_opnd`
@@ -158,7 +158,7 @@ struct_ematch_text =
     Fields
     (field (codes "flags") (form.Number number.U16)
     ∷ field (codes "padding") (form.Pad 2)
-    ∷ field (codes "match") (form.Record 279)
+    ∷ field (codes "match") (form.Record 1815)
     ∷ field (codes "pattern") form.Hex
     ∷ [])
 
@@ -180,7 +180,7 @@ struct_ematch_canid =
     Fields
     (field (codes "flags") (form.Number number.U16)
     ∷ field (codes "padding") (form.Pad 2)
-    ∷ field (codes "match") (form.Array 281)
+    ∷ field (codes "match") (form.Array 1817)
     ∷ [])
 
 -- `struct can_filter`
@@ -197,7 +197,7 @@ struct_ematch_ipset =
     Fields
     (field (codes "flags") (form.Number number.U16)
     ∷ field (codes "padding") (form.Pad 2)
-    ∷ field (codes "match") (form.Record 283)
+    ∷ field (codes "match") (form.Record 1819)
     ∷ [])
 
 -- `struct xt_set_info`
@@ -215,7 +215,7 @@ struct_ematch_ipt =
     Fields
     (field (codes "flags") (form.Number number.U16)
     ∷ field (codes "padding") (form.Pad 2)
-    ∷ field (codes "attributes") (form.List 285)
+    ∷ field (codes "attributes") (form.List 1821)
     ∷ [])
 
 -- `list em_ipt`
@@ -231,14 +231,20 @@ list_em_ipt =
 
 unfoldable pub parts_of_ematch_2 : Table
 parts_of_ematch_2 place =
-    if place == 276 then struct_tcf_meta_val else (
-    if place == 277 then enum_tcf_em_opnd else (
-    if place == 278 then struct_ematch_text else (
-    if place == 279 then struct_tcf_em_text else (
-    if place == 280 then struct_ematch_canid else (
-    if place == 281 then struct_can_filter else (
-    if place == 282 then struct_ematch_ipset else (
-    if place == 283 then struct_xt_set_info else (
-    if place == 284 then struct_ematch_ipt else (
-    if place == 285 then list_em_ipt else (
+    if place == 1812 then struct_tcf_meta_val else (
+    if place == 1813 then enum_tcf_em_opnd else (
+    if place == 1814 then struct_ematch_text else (
+    if place == 1815 then struct_tcf_em_text else (
+    if place == 1816 then struct_ematch_canid else (
+    if place == 1817 then struct_can_filter else (
+    if place == 1818 then struct_ematch_ipset else (
+    if place == 1819 then struct_xt_set_info else (
+    if place == 1820 then struct_ematch_ipt else (
+    if place == 1821 then list_em_ipt else (
     One form.Hex))))))))))
+
+unfoldable pub all_of_ematch : Table
+all_of_ematch place =
+    if place / 12 == 150 then parts_of_ematch place else (
+    if place / 12 == 151 then parts_of_ematch_2 place else (
+    One form.Hex))

@@ -1,5 +1,5 @@
 -- The parts of `kinds/qdiscs`. Written by `kinds/generate`.
-use Rattle.std.specs.Prelude.{◌==◌, [], ◌∷◌, Some, None, codes, if◌then◌else◌}
+use Rattle.std.specs.Prelude.{◌/◌, ◌==◌, [], ◌∷◌, Some, None, codes, if◌then◌else◌}
 use Rattle.tc_forms.specs.declared.form.Form.TheVariants as form
 use Rattle.tc_forms.specs.declared.form.Number.TheVariants as number
 use Rattle.tc_forms.specs.Tables.{Part, Table, One, Names, Fields, Rows, Choices}
@@ -11,7 +11,7 @@ list_atm_in_atm =
     Rows (codes "Atm")
     (row 1 (codes "Fd") (form.Number number.U32)
     ∷ row 2 (codes "Ptr") form.Hex
-    ∷ row 3 (codes "Hdr") (form.Array 257)
+    ∷ row 3 (codes "Hdr") (form.Array 1205)
     ∷ row 4 (codes "Excess") (form.Number number.U32)
     ∷ row 5 (codes "Addr") form.Hex
     ∷ row 6 (codes "State") (form.Number number.U32)
@@ -21,14 +21,14 @@ list_atm_in_atm =
 abbrev pub list_tc_qdisc_atm : Part
 list_tc_qdisc_atm =
     Rows []
-    (row 2 (codes "Options") (form.List 432)
-    ∷ row 4 (codes "Xstats") (form.Choice 426)
+    (row 2 (codes "Options") (form.List 3600)
+    ∷ row 4 (codes "Xstats") (form.Choice 3006)
     ∷ [])
 
 unfoldable pub parts_of_qdiscs_atm : Table
 parts_of_qdiscs_atm place =
-    if place == 432 then list_atm_in_atm else (
-    if place == 433 then list_tc_qdisc_atm else (
+    if place == 3600 then list_atm_in_atm else (
+    if place == 3601 then list_tc_qdisc_atm else (
     One form.Hex))
 
 -- `list cake`
@@ -37,9 +37,9 @@ list_cake_in_cake =
     Rows (codes "Cake")
     (row 1 (codes "Pad") form.Flag
     ∷ row 2 (codes "BaseRate64") (form.Number number.U64)
-    ∷ row 3 (codes "DiffservMode") (form.Named number.U32 447)
-    ∷ row 4 (codes "Atm") (form.Named number.U32 448)
-    ∷ row 5 (codes "FlowMode") (form.Named number.U32 449)
+    ∷ row 3 (codes "DiffservMode") (form.Named number.U32 3615)
+    ∷ row 4 (codes "Atm") (form.Named number.U32 3616)
+    ∷ row 5 (codes "FlowMode") (form.Named number.U32 3617)
     ∷ row 6 (codes "Overhead") (form.Number number.I32)
     ∷ row 7 (codes "Rtt") (form.Number number.U32)
     ∷ row 8 (codes "Target") (form.Number number.U32)
@@ -50,7 +50,7 @@ list_cake_in_cake =
     ∷ row 13 (codes "Wash") (form.Number number.U32)
     ∷ row 14 (codes "Mpu") (form.Number number.U32)
     ∷ row 15 (codes "Ingress") (form.Number number.U32)
-    ∷ row 16 (codes "AckFilter") (form.Named number.U32 450)
+    ∷ row 16 (codes "AckFilter") (form.Named number.U32 3618)
     ∷ row 17 (codes "SplitGso") (form.Number number.U32)
     ∷ row 18 (codes "Fwmark") (form.Number number.U32)
     ∷ [])
@@ -68,7 +68,7 @@ list_cake_stats =
     ∷ row 7 (codes "MaxNetlen") (form.Number number.U32)
     ∷ row 8 (codes "MinAdjlen") (form.Number number.U32)
     ∷ row 9 (codes "MaxAdjlen") (form.Number number.U32)
-    ∷ row 10 (codes "TinStats") (form.Indexed 258)
+    ∷ row 10 (codes "TinStats") (form.Indexed 1206)
     ∷ row 11 (codes "Deficit") (form.Number number.I32)
     ∷ row 12 (codes "CobaltCount") (form.Number number.U32)
     ∷ row 13 (codes "Dropping") (form.Number number.U32)
@@ -155,49 +155,49 @@ enum_cake_ack =
 abbrev pub statistics_qdisc_cake : Part
 statistics_qdisc_cake =
     Fields
-    (field (codes "Cake") (form.List 445)
+    (field (codes "Cake") (form.List 3613)
     ∷ [])
 
 -- `list tc`: the rows of cake
 abbrev pub list_tc_qdisc_cake : Part
 list_tc_qdisc_cake =
     Rows []
-    (row 2 (codes "Options") (form.List 444)
-    ∷ row 4 (codes "Xstats") (form.Record 451)
+    (row 2 (codes "Options") (form.List 3612)
+    ∷ row 4 (codes "Xstats") (form.Record 3619)
     ∷ [])
 
 -- `list stats`: the rows of cake
 abbrev pub list_stats_qdisc_cake : Part
 list_stats_qdisc_cake =
     Rows []
-    (row 4 (codes "App") (form.Record 451)
+    (row 4 (codes "App") (form.Record 3619)
     ∷ [])
 
 unfoldable pub parts_of_qdiscs_cake : Table
 parts_of_qdiscs_cake place =
-    if place == 444 then list_cake_in_cake else (
-    if place == 445 then list_cake_stats else (
-    if place == 446 then list_cake_tin_stats else (
-    if place == 447 then enum_cake_diffserv else (
-    if place == 448 then enum_cake_atm else (
-    if place == 449 then enum_cake_flow else (
-    if place == 450 then enum_cake_ack else (
-    if place == 451 then statistics_qdisc_cake else (
-    if place == 452 then list_tc_qdisc_cake else (
-    if place == 453 then list_stats_qdisc_cake else (
+    if place == 3612 then list_cake_in_cake else (
+    if place == 3613 then list_cake_stats else (
+    if place == 3614 then list_cake_tin_stats else (
+    if place == 3615 then enum_cake_diffserv else (
+    if place == 3616 then enum_cake_atm else (
+    if place == 3617 then enum_cake_flow else (
+    if place == 3618 then enum_cake_ack else (
+    if place == 3619 then statistics_qdisc_cake else (
+    if place == 3620 then list_tc_qdisc_cake else (
+    if place == 3621 then list_stats_qdisc_cake else (
     One form.Hex))))))))))
 
 -- `list cbq`
 abbrev pub list_cbq_in_cbq : Part
 list_cbq_in_cbq =
     Rows (codes "Cbq")
-    (row 1 (codes "Lssopt") (form.Record 458)
-    ∷ row 2 (codes "Wrropt") (form.Record 459)
-    ∷ row 3 (codes "Fopt") (form.Record 460)
-    ∷ row 4 (codes "OvlStrategy") (form.Record 461)
-    ∷ row 5 (codes "Rate") (form.Record 828)
+    (row 1 (codes "Lssopt") (form.Record 3626)
+    ∷ row 2 (codes "Wrropt") (form.Record 3627)
+    ∷ row 3 (codes "Fopt") (form.Record 3628)
+    ∷ row 4 (codes "OvlStrategy") (form.Record 3629)
+    ∷ row 5 (codes "Rate") (form.Record 4200)
     ∷ row 6 (codes "Rtab") form.Hex
-    ∷ row 7 (codes "Police") (form.Record 462)
+    ∷ row 7 (codes "Police") (form.Record 3630)
     ∷ [])
 
 -- `struct tc_cbq_xstats`
@@ -268,43 +268,43 @@ struct_tc_cbq_police =
 abbrev pub statistics_qdisc_cbq : Part
 statistics_qdisc_cbq =
     Fields
-    (field (codes "Cbq") (form.Record 457)
+    (field (codes "Cbq") (form.Record 3625)
     ∷ [])
 
 -- `list tc`: the rows of cbq
 abbrev pub list_tc_qdisc_cbq : Part
 list_tc_qdisc_cbq =
     Rows []
-    (row 2 (codes "Options") (form.List 456)
-    ∷ row 4 (codes "Xstats") (form.Record 463)
+    (row 2 (codes "Options") (form.List 3624)
+    ∷ row 4 (codes "Xstats") (form.Record 3631)
     ∷ [])
 
 -- `list stats`: the rows of cbq
 abbrev pub list_stats_qdisc_cbq : Part
 list_stats_qdisc_cbq =
     Rows []
-    (row 4 (codes "App") (form.Record 463)
+    (row 4 (codes "App") (form.Record 3631)
     ∷ [])
 
 unfoldable pub parts_of_qdiscs_cbq : Table
 parts_of_qdiscs_cbq place =
-    if place == 456 then list_cbq_in_cbq else (
-    if place == 457 then struct_tc_cbq_xstats else (
-    if place == 458 then struct_tc_cbq_lssopt else (
-    if place == 459 then struct_tc_cbq_wrropt else (
-    if place == 460 then struct_tc_cbq_fopt else (
-    if place == 461 then struct_tc_cbq_ovl else (
-    if place == 462 then struct_tc_cbq_police else (
-    if place == 463 then statistics_qdisc_cbq else (
-    if place == 464 then list_tc_qdisc_cbq else (
-    if place == 465 then list_stats_qdisc_cbq else (
+    if place == 3624 then list_cbq_in_cbq else (
+    if place == 3625 then struct_tc_cbq_xstats else (
+    if place == 3626 then struct_tc_cbq_lssopt else (
+    if place == 3627 then struct_tc_cbq_wrropt else (
+    if place == 3628 then struct_tc_cbq_fopt else (
+    if place == 3629 then struct_tc_cbq_ovl else (
+    if place == 3630 then struct_tc_cbq_police else (
+    if place == 3631 then statistics_qdisc_cbq else (
+    if place == 3632 then list_tc_qdisc_cbq else (
+    if place == 3633 then list_stats_qdisc_cbq else (
     One form.Hex))))))))))
 
 -- `list cbs`
 abbrev pub list_cbs_in_cbs : Part
 list_cbs_in_cbs =
     Rows (codes "Cbs")
-    (row 1 (codes "Parms") (form.Record 469)
+    (row 1 (codes "Parms") (form.Record 3637)
     ∷ [])
 
 -- `struct tc_cbs_qopt`
@@ -323,22 +323,22 @@ struct_tc_cbs_qopt =
 abbrev pub list_tc_qdisc_cbs : Part
 list_tc_qdisc_cbs =
     Rows []
-    (row 2 (codes "Options") (form.List 468)
-    ∷ row 4 (codes "Xstats") (form.Choice 426)
+    (row 2 (codes "Options") (form.List 3636)
+    ∷ row 4 (codes "Xstats") (form.Choice 3006)
     ∷ [])
 
 unfoldable pub parts_of_qdiscs_cbs : Table
 parts_of_qdiscs_cbs place =
-    if place == 468 then list_cbs_in_cbs else (
-    if place == 469 then struct_tc_cbs_qopt else (
-    if place == 470 then list_tc_qdisc_cbs else (
+    if place == 3636 then list_cbs_in_cbs else (
+    if place == 3637 then struct_tc_cbs_qopt else (
+    if place == 3638 then list_tc_qdisc_cbs else (
     One form.Hex)))
 
 -- `list choke`
 abbrev pub list_choke_in_choke : Part
 list_choke_in_choke =
     Rows (codes "Choke")
-    (row 1 (codes "Parms") (form.Record 757)
+    (row 1 (codes "Parms") (form.Record 3925)
     ∷ row 2 (codes "Stab") form.Hex
     ∷ row 3 (codes "MaxP") (form.Number number.U32)
     ∷ [])
@@ -358,31 +358,31 @@ struct_tc_choke_xstats =
 abbrev pub statistics_qdisc_choke : Part
 statistics_qdisc_choke =
     Fields
-    (field (codes "Choke") (form.Record 481)
+    (field (codes "Choke") (form.Record 3649)
     ∷ [])
 
 -- `list tc`: the rows of choke
 abbrev pub list_tc_qdisc_choke : Part
 list_tc_qdisc_choke =
     Rows []
-    (row 2 (codes "Options") (form.List 480)
-    ∷ row 4 (codes "Xstats") (form.Record 482)
+    (row 2 (codes "Options") (form.List 3648)
+    ∷ row 4 (codes "Xstats") (form.Record 3650)
     ∷ [])
 
 -- `list stats`: the rows of choke
 abbrev pub list_stats_qdisc_choke : Part
 list_stats_qdisc_choke =
     Rows []
-    (row 4 (codes "App") (form.Record 482)
+    (row 4 (codes "App") (form.Record 3650)
     ∷ [])
 
 unfoldable pub parts_of_qdiscs_choke : Table
 parts_of_qdiscs_choke place =
-    if place == 480 then list_choke_in_choke else (
-    if place == 481 then struct_tc_choke_xstats else (
-    if place == 482 then statistics_qdisc_choke else (
-    if place == 483 then list_tc_qdisc_choke else (
-    if place == 484 then list_stats_qdisc_choke else (
+    if place == 3648 then list_choke_in_choke else (
+    if place == 3649 then struct_tc_choke_xstats else (
+    if place == 3650 then statistics_qdisc_choke else (
+    if place == 3651 then list_tc_qdisc_choke else (
+    if place == 3652 then list_stats_qdisc_choke else (
     One form.Hex)))))
 
 -- `list codel`
@@ -415,31 +415,31 @@ struct_tc_codel_xstats =
 abbrev pub statistics_qdisc_codel : Part
 statistics_qdisc_codel =
     Fields
-    (field (codes "Codel") (form.Record 493)
+    (field (codes "Codel") (form.Record 3661)
     ∷ [])
 
 -- `list tc`: the rows of codel
 abbrev pub list_tc_qdisc_codel : Part
 list_tc_qdisc_codel =
     Rows []
-    (row 2 (codes "Options") (form.List 492)
-    ∷ row 4 (codes "Xstats") (form.Record 494)
+    (row 2 (codes "Options") (form.List 3660)
+    ∷ row 4 (codes "Xstats") (form.Record 3662)
     ∷ [])
 
 -- `list stats`: the rows of codel
 abbrev pub list_stats_qdisc_codel : Part
 list_stats_qdisc_codel =
     Rows []
-    (row 4 (codes "App") (form.Record 494)
+    (row 4 (codes "App") (form.Record 3662)
     ∷ [])
 
 unfoldable pub parts_of_qdiscs_codel : Table
 parts_of_qdiscs_codel place =
-    if place == 492 then list_codel_in_codel else (
-    if place == 493 then struct_tc_codel_xstats else (
-    if place == 494 then statistics_qdisc_codel else (
-    if place == 495 then list_tc_qdisc_codel else (
-    if place == 496 then list_stats_qdisc_codel else (
+    if place == 3660 then list_codel_in_codel else (
+    if place == 3661 then struct_tc_codel_xstats else (
+    if place == 3662 then statistics_qdisc_codel else (
+    if place == 3663 then list_tc_qdisc_codel else (
+    if place == 3664 then list_stats_qdisc_codel else (
     One form.Hex)))))
 
 -- `list drr`
@@ -460,31 +460,31 @@ struct_tc_drr_stats =
 abbrev pub statistics_qdisc_drr : Part
 statistics_qdisc_drr =
     Fields
-    (field (codes "Drr") (form.Record 505)
+    (field (codes "Drr") (form.Record 3673)
     ∷ [])
 
 -- `list tc`: the rows of drr
 abbrev pub list_tc_qdisc_drr : Part
 list_tc_qdisc_drr =
     Rows []
-    (row 2 (codes "Options") (form.List 504)
-    ∷ row 4 (codes "Xstats") (form.Record 506)
+    (row 2 (codes "Options") (form.List 3672)
+    ∷ row 4 (codes "Xstats") (form.Record 3674)
     ∷ [])
 
 -- `list stats`: the rows of drr
 abbrev pub list_stats_qdisc_drr : Part
 list_stats_qdisc_drr =
     Rows []
-    (row 4 (codes "App") (form.Record 506)
+    (row 4 (codes "App") (form.Record 3674)
     ∷ [])
 
 unfoldable pub parts_of_qdiscs_drr : Table
 parts_of_qdiscs_drr place =
-    if place == 504 then list_drr_in_drr else (
-    if place == 505 then struct_tc_drr_stats else (
-    if place == 506 then statistics_qdisc_drr else (
-    if place == 507 then list_tc_qdisc_drr else (
-    if place == 508 then list_stats_qdisc_drr else (
+    if place == 3672 then list_drr_in_drr else (
+    if place == 3673 then struct_tc_drr_stats else (
+    if place == 3674 then statistics_qdisc_drr else (
+    if place == 3675 then list_tc_qdisc_drr else (
+    if place == 3676 then list_stats_qdisc_drr else (
     One form.Hex)))))
 
 -- `list dsmark`
@@ -502,21 +502,21 @@ list_dsmark_in_dsmark =
 abbrev pub list_tc_qdisc_dsmark : Part
 list_tc_qdisc_dsmark =
     Rows []
-    (row 2 (codes "Options") (form.List 516)
-    ∷ row 4 (codes "Xstats") (form.Choice 426)
+    (row 2 (codes "Options") (form.List 3684)
+    ∷ row 4 (codes "Xstats") (form.Choice 3006)
     ∷ [])
 
 unfoldable pub parts_of_qdiscs_dsmark : Table
 parts_of_qdiscs_dsmark place =
-    if place == 516 then list_dsmark_in_dsmark else (
-    if place == 517 then list_tc_qdisc_dsmark else (
+    if place == 3684 then list_dsmark_in_dsmark else (
+    if place == 3685 then list_tc_qdisc_dsmark else (
     One form.Hex))
 
 -- `list etf`
 abbrev pub list_etf_in_etf : Part
 list_etf_in_etf =
     Rows (codes "Etf")
-    (row 1 (codes "Parms") (form.Record 529)
+    (row 1 (codes "Parms") (form.Record 3697)
     ∷ [])
 
 -- `struct tc_etf_qopt`
@@ -532,15 +532,15 @@ struct_tc_etf_qopt =
 abbrev pub list_tc_qdisc_etf : Part
 list_tc_qdisc_etf =
     Rows []
-    (row 2 (codes "Options") (form.List 528)
-    ∷ row 4 (codes "Xstats") (form.Choice 426)
+    (row 2 (codes "Options") (form.List 3696)
+    ∷ row 4 (codes "Xstats") (form.Choice 3006)
     ∷ [])
 
 unfoldable pub parts_of_qdiscs_etf : Table
 parts_of_qdiscs_etf place =
-    if place == 528 then list_etf_in_etf else (
-    if place == 529 then struct_tc_etf_qopt else (
-    if place == 530 then list_tc_qdisc_etf else (
+    if place == 3696 then list_etf_in_etf else (
+    if place == 3697 then struct_tc_etf_qopt else (
+    if place == 3698 then list_tc_qdisc_etf else (
     One form.Hex)))
 
 -- `list ets`
@@ -549,9 +549,9 @@ list_ets_in_ets =
     Rows (codes "Ets")
     (row 1 (codes "Nbands") (form.Number number.U8)
     ∷ row 2 (codes "Nstrict") (form.Number number.U8)
-    ∷ row 32771 (codes "Quanta") (form.List 541)
+    ∷ row 32771 (codes "Quanta") (form.List 3709)
     ∷ row 4 (codes "QuantaBand") (form.Number number.U32)
-    ∷ row 32773 (codes "Priomap") (form.List 542)
+    ∷ row 32773 (codes "Priomap") (form.List 3710)
     ∷ row 6 (codes "PriomapBand") (form.Number number.U8)
     ∷ [])
 
@@ -573,16 +573,16 @@ list_ets_priomap =
 abbrev pub list_tc_qdisc_ets : Part
 list_tc_qdisc_ets =
     Rows []
-    (row 32770 (codes "Options") (form.List 540)
-    ∷ row 4 (codes "Xstats") (form.Choice 426)
+    (row 32770 (codes "Options") (form.List 3708)
+    ∷ row 4 (codes "Xstats") (form.Choice 3006)
     ∷ [])
 
 unfoldable pub parts_of_qdiscs_ets : Table
 parts_of_qdiscs_ets place =
-    if place == 540 then list_ets_in_ets else (
-    if place == 541 then list_ets_quanta else (
-    if place == 542 then list_ets_priomap else (
-    if place == 543 then list_tc_qdisc_ets else (
+    if place == 3708 then list_ets_in_ets else (
+    if place == 3709 then list_ets_quanta else (
+    if place == 3710 then list_ets_priomap else (
+    if place == 3711 then list_tc_qdisc_ets else (
     One form.Hex))))
 
 -- `struct tc_fifo_qopt`
@@ -596,14 +596,14 @@ struct_tc_fifo_qopt =
 abbrev pub list_tc_qdisc_pfifo : Part
 list_tc_qdisc_pfifo =
     Rows []
-    (row 2 (codes "Options") (form.Record 552)
-    ∷ row 4 (codes "Xstats") (form.Choice 426)
+    (row 2 (codes "Options") (form.Record 3720)
+    ∷ row 4 (codes "Xstats") (form.Choice 3006)
     ∷ [])
 
 unfoldable pub parts_of_qdiscs_fifo : Table
 parts_of_qdiscs_fifo place =
-    if place == 552 then struct_tc_fifo_qopt else (
-    if place == 553 then list_tc_qdisc_pfifo else (
+    if place == 3720 then struct_tc_fifo_qopt else (
+    if place == 3721 then list_tc_qdisc_pfifo else (
     One form.Hex))
 
 -- `list fq`
@@ -625,8 +625,8 @@ list_fq_in_fq =
     ∷ row 13 (codes "TimerSlack") (form.Number number.U32)
     ∷ row 14 (codes "Horizon") (form.Number number.U32)
     ∷ row 15 (codes "HorizonDrop") (form.Number number.U8)
-    ∷ row 16 (codes "Priomap") (form.Record 734)
-    ∷ row 17 (codes "Weights") (form.Times 3 259)
+    ∷ row 16 (codes "Priomap") (form.Record 3902)
+    ∷ row 17 (codes "Weights") (form.Times 3 1207)
     ∷ [])
 
 -- `struct tc_fq_qd_stats`
@@ -648,7 +648,7 @@ struct_tc_fq_qd_stats =
     ∷ field (codes "ce_mark") (form.Number number.U64)
     ∷ field (codes "horizon_drops") (form.Number number.U64)
     ∷ field (codes "horizon_caps") (form.Number number.U64)
-    ∷ field (codes "since_6_7") (form.Array 566)
+    ∷ field (codes "since_6_7") (form.Array 3734)
     ∷ [])
 
 -- `struct fq_stats_6_7`
@@ -656,8 +656,8 @@ abbrev pub struct_fq_stats_6_7 : Part
 struct_fq_stats_6_7 =
     Fields
     (field (codes "fastpath_packets") (form.Number number.U64)
-    ∷ field (codes "band_drops") (form.Times 3 256)
-    ∷ field (codes "band_pkt_count") (form.Times 3 252)
+    ∷ field (codes "band_drops") (form.Times 3 1204)
+    ∷ field (codes "band_pkt_count") (form.Times 3 1200)
     ∷ field (codes "pad") (form.Pad 4)
     ∷ [])
 
@@ -665,32 +665,32 @@ struct_fq_stats_6_7 =
 abbrev pub statistics_qdisc_fq : Part
 statistics_qdisc_fq =
     Fields
-    (field (codes "Fq") (form.Record 565)
+    (field (codes "Fq") (form.Record 3733)
     ∷ [])
 
 -- `list tc`: the rows of fq
 abbrev pub list_tc_qdisc_fq : Part
 list_tc_qdisc_fq =
     Rows []
-    (row 2 (codes "Options") (form.List 564)
-    ∷ row 4 (codes "Xstats") (form.Record 567)
+    (row 2 (codes "Options") (form.List 3732)
+    ∷ row 4 (codes "Xstats") (form.Record 3735)
     ∷ [])
 
 -- `list stats`: the rows of fq
 abbrev pub list_stats_qdisc_fq : Part
 list_stats_qdisc_fq =
     Rows []
-    (row 4 (codes "App") (form.Record 567)
+    (row 4 (codes "App") (form.Record 3735)
     ∷ [])
 
 unfoldable pub parts_of_qdiscs_fq : Table
 parts_of_qdiscs_fq place =
-    if place == 564 then list_fq_in_fq else (
-    if place == 565 then struct_tc_fq_qd_stats else (
-    if place == 566 then struct_fq_stats_6_7 else (
-    if place == 567 then statistics_qdisc_fq else (
-    if place == 568 then list_tc_qdisc_fq else (
-    if place == 569 then list_stats_qdisc_fq else (
+    if place == 3732 then list_fq_in_fq else (
+    if place == 3733 then struct_tc_fq_qd_stats else (
+    if place == 3734 then struct_fq_stats_6_7 else (
+    if place == 3735 then statistics_qdisc_fq else (
+    if place == 3736 then list_tc_qdisc_fq else (
+    if place == 3737 then list_stats_qdisc_fq else (
     One form.Hex))))))
 
 -- `list fq_codel`
@@ -714,8 +714,8 @@ list_fq_codel_in_fqcodel =
 abbrev pub choice_tc_fq_codel_xstats : Part
 choice_tc_fq_codel_xstats =
     Choices
-    (choice (codes "Qdisc") (0 ∷ 0 ∷ 0 ∷ 0 ∷ []) None (form.Record 578)
-    ∷ choice (codes "Class") (1 ∷ 0 ∷ 0 ∷ 0 ∷ []) None (form.Record 579)
+    (choice (codes "Qdisc") (0 ∷ 0 ∷ 0 ∷ 0 ∷ []) None (form.Record 3746)
+    ∷ choice (codes "Class") (1 ∷ 0 ∷ 0 ∷ 0 ∷ []) None (form.Record 3747)
     ∷ [])
 
 -- `struct tc_fq_codel_qd_stats`
@@ -749,33 +749,33 @@ struct_tc_fq_codel_cl_stats =
 abbrev pub statistics_qdisc_fq_codel : Part
 statistics_qdisc_fq_codel =
     Fields
-    (field (codes "FqCodel") (form.Choice 577)
+    (field (codes "FqCodel") (form.Choice 3745)
     ∷ [])
 
 -- `list tc`: the rows of fq_codel
 abbrev pub list_tc_qdisc_fq_codel : Part
 list_tc_qdisc_fq_codel =
     Rows []
-    (row 2 (codes "Options") (form.List 576)
-    ∷ row 4 (codes "Xstats") (form.Record 580)
+    (row 2 (codes "Options") (form.List 3744)
+    ∷ row 4 (codes "Xstats") (form.Record 3748)
     ∷ [])
 
 -- `list stats`: the rows of fq_codel
 abbrev pub list_stats_qdisc_fq_codel : Part
 list_stats_qdisc_fq_codel =
     Rows []
-    (row 4 (codes "App") (form.Record 580)
+    (row 4 (codes "App") (form.Record 3748)
     ∷ [])
 
 unfoldable pub parts_of_qdiscs_fq_codel : Table
 parts_of_qdiscs_fq_codel place =
-    if place == 576 then list_fq_codel_in_fqcodel else (
-    if place == 577 then choice_tc_fq_codel_xstats else (
-    if place == 578 then struct_tc_fq_codel_qd_stats else (
-    if place == 579 then struct_tc_fq_codel_cl_stats else (
-    if place == 580 then statistics_qdisc_fq_codel else (
-    if place == 581 then list_tc_qdisc_fq_codel else (
-    if place == 582 then list_stats_qdisc_fq_codel else (
+    if place == 3744 then list_fq_codel_in_fqcodel else (
+    if place == 3745 then choice_tc_fq_codel_xstats else (
+    if place == 3746 then struct_tc_fq_codel_qd_stats else (
+    if place == 3747 then struct_tc_fq_codel_cl_stats else (
+    if place == 3748 then statistics_qdisc_fq_codel else (
+    if place == 3749 then list_tc_qdisc_fq_codel else (
+    if place == 3750 then list_stats_qdisc_fq_codel else (
     One form.Hex)))))))
 
 -- `list fq_pie`
@@ -815,43 +815,43 @@ struct_tc_fq_pie_xstats =
 abbrev pub statistics_qdisc_fq_pie : Part
 statistics_qdisc_fq_pie =
     Fields
-    (field (codes "FqPie") (form.Record 589)
+    (field (codes "FqPie") (form.Record 3757)
     ∷ [])
 
 -- `list tc`: the rows of fq_pie
 abbrev pub list_tc_qdisc_fq_pie : Part
 list_tc_qdisc_fq_pie =
     Rows []
-    (row 32770 (codes "Options") (form.List 588)
-    ∷ row 4 (codes "Xstats") (form.Record 590)
+    (row 32770 (codes "Options") (form.List 3756)
+    ∷ row 4 (codes "Xstats") (form.Record 3758)
     ∷ [])
 
 -- `list stats`: the rows of fq_pie
 abbrev pub list_stats_qdisc_fq_pie : Part
 list_stats_qdisc_fq_pie =
     Rows []
-    (row 4 (codes "App") (form.Record 590)
+    (row 4 (codes "App") (form.Record 3758)
     ∷ [])
 
 unfoldable pub parts_of_qdiscs_fq_pie : Table
 parts_of_qdiscs_fq_pie place =
-    if place == 588 then list_fq_pie_in_fqpie else (
-    if place == 589 then struct_tc_fq_pie_xstats else (
-    if place == 590 then statistics_qdisc_fq_pie else (
-    if place == 591 then list_tc_qdisc_fq_pie else (
-    if place == 592 then list_stats_qdisc_fq_pie else (
+    if place == 3756 then list_fq_pie_in_fqpie else (
+    if place == 3757 then struct_tc_fq_pie_xstats else (
+    if place == 3758 then statistics_qdisc_fq_pie else (
+    if place == 3759 then list_tc_qdisc_fq_pie else (
+    if place == 3760 then list_stats_qdisc_fq_pie else (
     One form.Hex)))))
 
 -- `list gred`
 abbrev pub list_gred_in_gred : Part
 list_gred_in_gred =
     Rows (codes "Gred")
-    (row 1 (codes "Parms") (form.Array 601)
+    (row 1 (codes "Parms") (form.Array 3769)
     ∷ row 2 (codes "Stab") form.Hex
-    ∷ row 3 (codes "Dps") (form.Record 602)
-    ∷ row 4 (codes "MaxP") (form.Array 252)
+    ∷ row 3 (codes "Dps") (form.Record 3770)
+    ∷ row 4 (codes "MaxP") (form.Array 1200)
     ∷ row 5 (codes "Limit") (form.Number number.U32)
-    ∷ row 6 (codes "VqList") (form.List 603)
+    ∷ row 6 (codes "VqList") (form.List 3771)
     ∷ [])
 
 -- `struct tc_gred_qopt`
@@ -891,7 +891,7 @@ struct_tc_gred_sopt =
 abbrev pub list_gred_vq_list : Part
 list_gred_vq_list =
     Rows []
-    (row 1 (codes "Entry") (form.List 604)
+    (row 1 (codes "Entry") (form.List 3772)
     ∷ [])
 
 -- `list gred_vq`
@@ -916,26 +916,26 @@ list_gred_vq =
 abbrev pub list_tc_qdisc_gred : Part
 list_tc_qdisc_gred =
     Rows []
-    (row 2 (codes "Options") (form.List 600)
-    ∷ row 4 (codes "Xstats") (form.Choice 426)
+    (row 2 (codes "Options") (form.List 3768)
+    ∷ row 4 (codes "Xstats") (form.Choice 3006)
     ∷ [])
 
 unfoldable pub parts_of_qdiscs_gred : Table
 parts_of_qdiscs_gred place =
-    if place == 600 then list_gred_in_gred else (
-    if place == 601 then struct_tc_gred_qopt else (
-    if place == 602 then struct_tc_gred_sopt else (
-    if place == 603 then list_gred_vq_list else (
-    if place == 604 then list_gred_vq else (
-    if place == 605 then list_tc_qdisc_gred else (
+    if place == 3768 then list_gred_in_gred else (
+    if place == 3769 then struct_tc_gred_qopt else (
+    if place == 3770 then struct_tc_gred_sopt else (
+    if place == 3771 then list_gred_vq_list else (
+    if place == 3772 then list_gred_vq else (
+    if place == 3773 then list_tc_qdisc_gred else (
     One form.Hex))))))
 
 -- `choice hfsc`
 abbrev pub choice_hfsc : Part
 choice_hfsc =
     Choices
-    (choice (codes "Qdisc") [] (Some 2) (form.Record 613)
-    ∷ choice (codes "Class") [] None (form.List 614)
+    (choice (codes "Qdisc") [] (Some 2) (form.Record 3781)
+    ∷ choice (codes "Class") [] None (form.List 3782)
     ∷ [])
 
 -- `struct tc_hfsc_qopt`
@@ -949,9 +949,9 @@ struct_tc_hfsc_qopt =
 abbrev pub list_hfsc_in_hfsc : Part
 list_hfsc_in_hfsc =
     Rows (codes "Hfsc")
-    (row 1 (codes "Rsc") (form.Record 615)
-    ∷ row 2 (codes "Fsc") (form.Record 615)
-    ∷ row 3 (codes "Usc") (form.Record 615)
+    (row 1 (codes "Rsc") (form.Record 3783)
+    ∷ row 2 (codes "Fsc") (form.Record 3783)
+    ∷ row 3 (codes "Usc") (form.Record 3783)
     ∷ [])
 
 -- `struct tc_service_curve`
@@ -977,34 +977,34 @@ struct_tc_hfsc_stats =
 abbrev pub statistics_qdisc_hfsc : Part
 statistics_qdisc_hfsc =
     Fields
-    (field (codes "Hfsc") (form.Record 616)
+    (field (codes "Hfsc") (form.Record 3784)
     ∷ [])
 
 -- `list tc`: the rows of hfsc
 abbrev pub list_tc_qdisc_hfsc : Part
 list_tc_qdisc_hfsc =
     Rows []
-    (row 2 (codes "Options") (form.Choice 612)
-    ∷ row 4 (codes "Xstats") (form.Record 617)
+    (row 2 (codes "Options") (form.Choice 3780)
+    ∷ row 4 (codes "Xstats") (form.Record 3785)
     ∷ [])
 
 -- `list stats`: the rows of hfsc
 abbrev pub list_stats_qdisc_hfsc : Part
 list_stats_qdisc_hfsc =
     Rows []
-    (row 4 (codes "App") (form.Record 617)
+    (row 4 (codes "App") (form.Record 3785)
     ∷ [])
 
 unfoldable pub parts_of_qdiscs_hfsc : Table
 parts_of_qdiscs_hfsc place =
-    if place == 612 then choice_hfsc else (
-    if place == 613 then struct_tc_hfsc_qopt else (
-    if place == 614 then list_hfsc_in_hfsc else (
-    if place == 615 then struct_tc_service_curve else (
-    if place == 616 then struct_tc_hfsc_stats else (
-    if place == 617 then statistics_qdisc_hfsc else (
-    if place == 618 then list_tc_qdisc_hfsc else (
-    if place == 619 then list_stats_qdisc_hfsc else (
+    if place == 3780 then choice_hfsc else (
+    if place == 3781 then struct_tc_hfsc_qopt else (
+    if place == 3782 then list_hfsc_in_hfsc else (
+    if place == 3783 then struct_tc_service_curve else (
+    if place == 3784 then struct_tc_hfsc_stats else (
+    if place == 3785 then statistics_qdisc_hfsc else (
+    if place == 3786 then list_tc_qdisc_hfsc else (
+    if place == 3787 then list_stats_qdisc_hfsc else (
     One form.Hex))))))))
 
 -- `list hhf`
@@ -1034,39 +1034,39 @@ struct_tc_hhf_xstats =
 abbrev pub statistics_qdisc_hhf : Part
 statistics_qdisc_hhf =
     Fields
-    (field (codes "Hhf") (form.Record 625)
+    (field (codes "Hhf") (form.Record 3793)
     ∷ [])
 
 -- `list tc`: the rows of hhf
 abbrev pub list_tc_qdisc_hhf : Part
 list_tc_qdisc_hhf =
     Rows []
-    (row 2 (codes "Options") (form.List 624)
-    ∷ row 4 (codes "Xstats") (form.Record 626)
+    (row 2 (codes "Options") (form.List 3792)
+    ∷ row 4 (codes "Xstats") (form.Record 3794)
     ∷ [])
 
 -- `list stats`: the rows of hhf
 abbrev pub list_stats_qdisc_hhf : Part
 list_stats_qdisc_hhf =
     Rows []
-    (row 4 (codes "App") (form.Record 626)
+    (row 4 (codes "App") (form.Record 3794)
     ∷ [])
 
 unfoldable pub parts_of_qdiscs_hhf : Table
 parts_of_qdiscs_hhf place =
-    if place == 624 then list_hhf_in_hhf else (
-    if place == 625 then struct_tc_hhf_xstats else (
-    if place == 626 then statistics_qdisc_hhf else (
-    if place == 627 then list_tc_qdisc_hhf else (
-    if place == 628 then list_stats_qdisc_hhf else (
+    if place == 3792 then list_hhf_in_hhf else (
+    if place == 3793 then struct_tc_hhf_xstats else (
+    if place == 3794 then statistics_qdisc_hhf else (
+    if place == 3795 then list_tc_qdisc_hhf else (
+    if place == 3796 then list_stats_qdisc_hhf else (
     One form.Hex)))))
 
 -- `list htb`
 abbrev pub list_htb_in_htb : Part
 list_htb_in_htb =
     Rows (codes "Htb")
-    (row 1 (codes "Parms") (form.Record 638)
-    ∷ row 2 (codes "Init") (form.Record 639)
+    (row 1 (codes "Parms") (form.Record 3806)
+    ∷ row 2 (codes "Init") (form.Record 3807)
     ∷ row 3 (codes "Ctab") form.Hex
     ∷ row 4 (codes "Rtab") form.Hex
     ∷ row 5 (codes "DirectQlen") (form.Number number.U32)
@@ -1091,8 +1091,8 @@ struct_tc_htb_xstats =
 abbrev pub struct_tc_htb_opt : Part
 struct_tc_htb_opt =
     Fields
-    (field (codes "rate") (form.Record 828)
-    ∷ field (codes "ceil") (form.Record 828)
+    (field (codes "rate") (form.Record 4200)
+    ∷ field (codes "ceil") (form.Record 4200)
     ∷ field (codes "buffer") (form.Number number.U32)
     ∷ field (codes "cbuffer") (form.Number number.U32)
     ∷ field (codes "quantum") (form.Number number.U32)
@@ -1115,33 +1115,33 @@ struct_tc_htb_glob =
 abbrev pub statistics_qdisc_htb : Part
 statistics_qdisc_htb =
     Fields
-    (field (codes "Htb") (form.Record 637)
+    (field (codes "Htb") (form.Record 3805)
     ∷ [])
 
 -- `list tc`: the rows of htb
 abbrev pub list_tc_qdisc_htb : Part
 list_tc_qdisc_htb =
     Rows []
-    (row 2 (codes "Options") (form.List 636)
-    ∷ row 4 (codes "Xstats") (form.Record 640)
+    (row 2 (codes "Options") (form.List 3804)
+    ∷ row 4 (codes "Xstats") (form.Record 3808)
     ∷ [])
 
 -- `list stats`: the rows of htb
 abbrev pub list_stats_qdisc_htb : Part
 list_stats_qdisc_htb =
     Rows []
-    (row 4 (codes "App") (form.Record 640)
+    (row 4 (codes "App") (form.Record 3808)
     ∷ [])
 
 unfoldable pub parts_of_qdiscs_htb : Table
 parts_of_qdiscs_htb place =
-    if place == 636 then list_htb_in_htb else (
-    if place == 637 then struct_tc_htb_xstats else (
-    if place == 638 then struct_tc_htb_opt else (
-    if place == 639 then struct_tc_htb_glob else (
-    if place == 640 then statistics_qdisc_htb else (
-    if place == 641 then list_tc_qdisc_htb else (
-    if place == 642 then list_stats_qdisc_htb else (
+    if place == 3804 then list_htb_in_htb else (
+    if place == 3805 then struct_tc_htb_xstats else (
+    if place == 3806 then struct_tc_htb_opt else (
+    if place == 3807 then struct_tc_htb_glob else (
+    if place == 3808 then statistics_qdisc_htb else (
+    if place == 3809 then list_tc_qdisc_htb else (
+    if place == 3810 then list_stats_qdisc_htb else (
     One form.Hex)))))))
 
 -- `list ingress`
@@ -1152,14 +1152,14 @@ list_ingress_in_ingress = Rows (codes "Ingress") []
 abbrev pub list_tc_qdisc_ingress : Part
 list_tc_qdisc_ingress =
     Rows []
-    (row 2 (codes "Options") (form.List 648)
-    ∷ row 4 (codes "Xstats") (form.Choice 426)
+    (row 2 (codes "Options") (form.List 3816)
+    ∷ row 4 (codes "Xstats") (form.Choice 3006)
     ∷ [])
 
 unfoldable pub parts_of_qdiscs_ingress : Table
 parts_of_qdiscs_ingress place =
-    if place == 648 then list_ingress_in_ingress else (
-    if place == 649 then list_tc_qdisc_ingress else (
+    if place == 3816 then list_ingress_in_ingress else (
+    if place == 3817 then list_tc_qdisc_ingress else (
     One form.Hex))
 
 -- `struct mqprio_options`
@@ -1167,12 +1167,12 @@ abbrev pub struct_mqprio_options : Part
 struct_mqprio_options =
     Fields
     (field (codes "num_tc") (form.Number number.U8)
-    ∷ field (codes "prio_tc_map") (form.Times 16 257)
+    ∷ field (codes "prio_tc_map") (form.Times 16 1205)
     ∷ field (codes "hw") (form.Number number.U8)
-    ∷ field (codes "count") (form.Times 16 253)
-    ∷ field (codes "offset") (form.Times 16 253)
+    ∷ field (codes "count") (form.Times 16 1201)
+    ∷ field (codes "offset") (form.Times 16 1201)
     ∷ field (codes "padding") (form.Pad 2)
-    ∷ field (codes "attributes") (form.List 662)
+    ∷ field (codes "attributes") (form.List 3830)
     ∷ [])
 
 -- `struct tc_mqprio_qopt`
@@ -1180,21 +1180,21 @@ abbrev pub struct_tc_mqprio_qopt : Part
 struct_tc_mqprio_qopt =
     Fields
     (field (codes "num_tc") (form.Number number.U8)
-    ∷ field (codes "prio_tc_map") (form.Times 16 257)
+    ∷ field (codes "prio_tc_map") (form.Times 16 1205)
     ∷ field (codes "hw") (form.Number number.U8)
-    ∷ field (codes "count") (form.Times 16 253)
-    ∷ field (codes "offset") (form.Times 16 253)
+    ∷ field (codes "count") (form.Times 16 1201)
+    ∷ field (codes "offset") (form.Times 16 1201)
     ∷ [])
 
 -- `list mqprio`
 abbrev pub list_mqprio : Part
 list_mqprio =
     Rows []
-    (row 1 (codes "Mode") (form.Named number.U16 663)
-    ∷ row 2 (codes "Shaper") (form.Named number.U16 664)
-    ∷ row 32771 (codes "MinRate64") (form.List 665)
-    ∷ row 32772 (codes "MaxRate64") (form.List 666)
-    ∷ row 32773 (codes "TcEntry") (form.List 667)
+    (row 1 (codes "Mode") (form.Named number.U16 3831)
+    ∷ row 2 (codes "Shaper") (form.Named number.U16 3832)
+    ∷ row 32771 (codes "MinRate64") (form.List 3833)
+    ∷ row 32772 (codes "MaxRate64") (form.List 3834)
+    ∷ row 32773 (codes "TcEntry") (form.List 3835)
     ∷ [])
 
 -- `enum tc_mqprio_mode`
@@ -1232,28 +1232,28 @@ abbrev pub list_mqprio_tc_entry : Part
 list_mqprio_tc_entry =
     Rows []
     (row 1 (codes "Index") (form.Number number.U32)
-    ∷ row 2 (codes "Fp") (form.Named number.U32 834)
+    ∷ row 2 (codes "Fp") (form.Named number.U32 4206)
     ∷ [])
 
 -- `list tc`: the rows of mqprio
 abbrev pub list_tc_qdisc_mqprio : Part
 list_tc_qdisc_mqprio =
     Rows []
-    (row 2 (codes "Options") (form.Record 660)
-    ∷ row 4 (codes "Xstats") (form.Choice 426)
+    (row 2 (codes "Options") (form.Record 3828)
+    ∷ row 4 (codes "Xstats") (form.Choice 3006)
     ∷ [])
 
 unfoldable pub parts_of_qdiscs_mqprio : Table
 parts_of_qdiscs_mqprio place =
-    if place == 660 then struct_mqprio_options else (
-    if place == 661 then struct_tc_mqprio_qopt else (
-    if place == 662 then list_mqprio else (
-    if place == 663 then enum_tc_mqprio_mode else (
-    if place == 664 then enum_tc_mqprio_shaper else (
-    if place == 665 then list_mqprio_min_rate else (
-    if place == 666 then list_mqprio_max_rate else (
-    if place == 667 then list_mqprio_tc_entry else (
-    if place == 668 then list_tc_qdisc_mqprio else (
+    if place == 3828 then struct_mqprio_options else (
+    if place == 3829 then struct_tc_mqprio_qopt else (
+    if place == 3830 then list_mqprio else (
+    if place == 3831 then enum_tc_mqprio_mode else (
+    if place == 3832 then enum_tc_mqprio_shaper else (
+    if place == 3833 then list_mqprio_min_rate else (
+    if place == 3834 then list_mqprio_max_rate else (
+    if place == 3835 then list_mqprio_tc_entry else (
+    if place == 3836 then list_tc_qdisc_mqprio else (
     One form.Hex)))))))))
 
 -- `struct tc_multiq_qopt`
@@ -1268,14 +1268,14 @@ struct_tc_multiq_qopt =
 abbrev pub list_tc_qdisc_multiq : Part
 list_tc_qdisc_multiq =
     Rows []
-    (row 2 (codes "Options") (form.Record 672)
-    ∷ row 4 (codes "Xstats") (form.Choice 426)
+    (row 2 (codes "Options") (form.Record 3840)
+    ∷ row 4 (codes "Xstats") (form.Choice 3006)
     ∷ [])
 
 unfoldable pub parts_of_qdiscs_multiq : Table
 parts_of_qdiscs_multiq place =
-    if place == 672 then struct_tc_multiq_qopt else (
-    if place == 673 then list_tc_qdisc_multiq else (
+    if place == 3840 then struct_tc_multiq_qopt else (
+    if place == 3841 then list_tc_qdisc_multiq else (
     One form.Hex))
 
 -- `struct tc_netem_qopt`
@@ -1288,26 +1288,26 @@ struct_tc_netem_qopt =
     ∷ field (codes "gap") (form.Number number.U32)
     ∷ field (codes "duplicate") (form.Number number.U32)
     ∷ field (codes "jitter") (form.Number number.U32)
-    ∷ field (codes "attributes") (form.List 685)
+    ∷ field (codes "attributes") (form.List 3853)
     ∷ [])
 
 -- `list netem`
 abbrev pub list_netem : Part
 list_netem =
     Rows []
-    (row 1 (codes "Corr") (form.Record 686)
-    ∷ row 2 (codes "DelayDist") (form.Array 260)
-    ∷ row 3 (codes "Reorder") (form.Record 687)
-    ∷ row 4 (codes "Corrupt") (form.Record 688)
-    ∷ row 32773 (codes "Loss") (form.List 689)
-    ∷ row 6 (codes "Rate") (form.Record 692)
+    (row 1 (codes "Corr") (form.Record 3854)
+    ∷ row 2 (codes "DelayDist") (form.Array 1208)
+    ∷ row 3 (codes "Reorder") (form.Record 3855)
+    ∷ row 4 (codes "Corrupt") (form.Record 3856)
+    ∷ row 32773 (codes "Loss") (form.List 3857)
+    ∷ row 6 (codes "Rate") (form.Record 3860)
     ∷ row 7 (codes "Ecn") (form.Number number.U32)
     ∷ row 8 (codes "Rate64") (form.Number number.U64)
     ∷ row 9 (codes "Pad") form.Flag
     ∷ row 10 (codes "Latency64") (form.Number number.I64)
     ∷ row 11 (codes "Jitter64") (form.Number number.I64)
-    ∷ row 12 (codes "Slot") (form.Record 693)
-    ∷ row 13 (codes "SlotDist") (form.Array 260)
+    ∷ row 12 (codes "Slot") (form.Record 3861)
+    ∷ row 13 (codes "SlotDist") (form.Array 1208)
     ∷ row 14 (codes "PrngSeed") (form.Number number.U64)
     ∷ [])
 
@@ -1340,8 +1340,8 @@ struct_tc_netem_corrupt =
 abbrev pub list_netem_loss : Part
 list_netem_loss =
     Rows []
-    (row 1 (codes "Gi") (form.Record 690)
-    ∷ row 2 (codes "Ge") (form.Record 691)
+    (row 1 (codes "Gi") (form.Record 3858)
+    ∷ row 2 (codes "Ge") (form.Record 3859)
     ∷ [])
 
 -- `struct tc_netem_gimodel`
@@ -1391,23 +1391,23 @@ struct_tc_netem_slot =
 abbrev pub list_tc_qdisc_netem : Part
 list_tc_qdisc_netem =
     Rows []
-    (row 2 (codes "Options") (form.Record 684)
-    ∷ row 4 (codes "Xstats") (form.Choice 426)
+    (row 2 (codes "Options") (form.Record 3852)
+    ∷ row 4 (codes "Xstats") (form.Choice 3006)
     ∷ [])
 
 unfoldable pub parts_of_qdiscs_netem : Table
 parts_of_qdiscs_netem place =
-    if place == 684 then struct_tc_netem_qopt else (
-    if place == 685 then list_netem else (
-    if place == 686 then struct_tc_netem_corr else (
-    if place == 687 then struct_tc_netem_reorder else (
-    if place == 688 then struct_tc_netem_corrupt else (
-    if place == 689 then list_netem_loss else (
-    if place == 690 then struct_tc_netem_gimodel else (
-    if place == 691 then struct_tc_netem_gemodel else (
-    if place == 692 then struct_tc_netem_rate else (
-    if place == 693 then struct_tc_netem_slot else (
-    if place == 694 then list_tc_qdisc_netem else (
+    if place == 3852 then struct_tc_netem_qopt else (
+    if place == 3853 then list_netem else (
+    if place == 3854 then struct_tc_netem_corr else (
+    if place == 3855 then struct_tc_netem_reorder else (
+    if place == 3856 then struct_tc_netem_corrupt else (
+    if place == 3857 then list_netem_loss else (
+    if place == 3858 then struct_tc_netem_gimodel else (
+    if place == 3859 then struct_tc_netem_gemodel else (
+    if place == 3860 then struct_tc_netem_rate else (
+    if place == 3861 then struct_tc_netem_slot else (
+    if place == 3862 then list_tc_qdisc_netem else (
     One form.Hex)))))))))))
 
 -- `list no_options`
@@ -1422,24 +1422,24 @@ list_no_options_in_clsact = Rows (codes "Clsact") []
 abbrev pub list_tc_qdisc_noop : Part
 list_tc_qdisc_noop =
     Rows []
-    (row 2 (codes "Options") (form.List 696)
-    ∷ row 4 (codes "Xstats") (form.Choice 426)
+    (row 2 (codes "Options") (form.List 3864)
+    ∷ row 4 (codes "Xstats") (form.Choice 3006)
     ∷ [])
 
 -- `list tc`: the rows of clsact
 abbrev pub list_tc_qdisc_clsact : Part
 list_tc_qdisc_clsact =
     Rows []
-    (row 2 (codes "Options") (form.List 697)
-    ∷ row 4 (codes "Xstats") (form.Choice 426)
+    (row 2 (codes "Options") (form.List 3865)
+    ∷ row 4 (codes "Xstats") (form.Choice 3006)
     ∷ [])
 
 unfoldable pub parts_of_qdiscs_none : Table
 parts_of_qdiscs_none place =
-    if place == 696 then list_no_options else (
-    if place == 697 then list_no_options_in_clsact else (
-    if place == 698 then list_tc_qdisc_noop else (
-    if place == 699 then list_tc_qdisc_clsact else (
+    if place == 3864 then list_no_options else (
+    if place == 3865 then list_no_options_in_clsact else (
+    if place == 3866 then list_tc_qdisc_noop else (
+    if place == 3867 then list_tc_qdisc_clsact else (
     One form.Hex))))
 
 -- `list pie`
@@ -1475,38 +1475,38 @@ struct_tc_pie_xstats =
 abbrev pub statistics_qdisc_pie : Part
 statistics_qdisc_pie =
     Fields
-    (field (codes "Pie") (form.Record 709)
+    (field (codes "Pie") (form.Record 3877)
     ∷ [])
 
 -- `list tc`: the rows of pie
 abbrev pub list_tc_qdisc_pie : Part
 list_tc_qdisc_pie =
     Rows []
-    (row 2 (codes "Options") (form.List 708)
-    ∷ row 4 (codes "Xstats") (form.Record 710)
+    (row 2 (codes "Options") (form.List 3876)
+    ∷ row 4 (codes "Xstats") (form.Record 3878)
     ∷ [])
 
 -- `list stats`: the rows of pie
 abbrev pub list_stats_qdisc_pie : Part
 list_stats_qdisc_pie =
     Rows []
-    (row 4 (codes "App") (form.Record 710)
+    (row 4 (codes "App") (form.Record 3878)
     ∷ [])
 
 unfoldable pub parts_of_qdiscs_pie : Table
 parts_of_qdiscs_pie place =
-    if place == 708 then list_pie_in_pie else (
-    if place == 709 then struct_tc_pie_xstats else (
-    if place == 710 then statistics_qdisc_pie else (
-    if place == 711 then list_tc_qdisc_pie else (
-    if place == 712 then list_stats_qdisc_pie else (
+    if place == 3876 then list_pie_in_pie else (
+    if place == 3877 then struct_tc_pie_xstats else (
+    if place == 3878 then statistics_qdisc_pie else (
+    if place == 3879 then list_tc_qdisc_pie else (
+    if place == 3880 then list_stats_qdisc_pie else (
     One form.Hex)))))
 
 -- `struct tc_plug_qopt`
 abbrev pub struct_tc_plug_qopt : Part
 struct_tc_plug_qopt =
     Fields
-    (field (codes "action") (form.Named number.I32 721)
+    (field (codes "action") (form.Named number.I32 3889)
     ∷ field (codes "limit") (form.Number number.U32)
     ∷ [])
 
@@ -1524,15 +1524,15 @@ enum_tcq_plug =
 abbrev pub list_tc_qdisc_plug : Part
 list_tc_qdisc_plug =
     Rows []
-    (row 2 (codes "Options") (form.Record 720)
-    ∷ row 4 (codes "Xstats") (form.Choice 426)
+    (row 2 (codes "Options") (form.Record 3888)
+    ∷ row 4 (codes "Xstats") (form.Choice 3006)
     ∷ [])
 
 unfoldable pub parts_of_qdiscs_plug : Table
 parts_of_qdiscs_plug place =
-    if place == 720 then struct_tc_plug_qopt else (
-    if place == 721 then enum_tcq_plug else (
-    if place == 722 then list_tc_qdisc_plug else (
+    if place == 3888 then struct_tc_plug_qopt else (
+    if place == 3889 then enum_tcq_plug else (
+    if place == 3890 then list_tc_qdisc_plug else (
     One form.Hex)))
 
 -- `struct prio_options`
@@ -1540,15 +1540,15 @@ abbrev pub struct_prio_options : Part
 struct_prio_options =
     Fields
     (field (codes "bands") (form.Number number.I32)
-    ∷ field (codes "priomap") (form.Times 16 257)
-    ∷ field (codes "attributes") (form.List 733)
+    ∷ field (codes "priomap") (form.Times 16 1205)
+    ∷ field (codes "attributes") (form.List 3901)
     ∷ [])
 
 -- `list prio`
 abbrev pub list_prio : Part
 list_prio =
     Rows []
-    (row 2 (codes "Options") (form.List 733)
+    (row 2 (codes "Options") (form.List 3901)
     ∷ [])
 
 -- `struct tc_prio_qopt`
@@ -1556,32 +1556,32 @@ abbrev pub struct_tc_prio_qopt : Part
 struct_tc_prio_qopt =
     Fields
     (field (codes "bands") (form.Number number.I32)
-    ∷ field (codes "priomap") (form.Times 16 257)
+    ∷ field (codes "priomap") (form.Times 16 1205)
     ∷ [])
 
 -- `list tc`: the rows of prio, rr
 abbrev pub list_tc_qdisc_prio : Part
 list_tc_qdisc_prio =
     Rows []
-    (row 2 (codes "Options") (form.Record 732)
-    ∷ row 4 (codes "Xstats") (form.Choice 426)
+    (row 2 (codes "Options") (form.Record 3900)
+    ∷ row 4 (codes "Xstats") (form.Choice 3006)
     ∷ [])
 
 -- `list tc`: the rows of pfifo_fast
 abbrev pub list_tc_qdisc_pfifo_fast : Part
 list_tc_qdisc_pfifo_fast =
     Rows []
-    (row 2 (codes "Options") (form.Record 734)
-    ∷ row 4 (codes "Xstats") (form.Choice 426)
+    (row 2 (codes "Options") (form.Record 3902)
+    ∷ row 4 (codes "Xstats") (form.Choice 3006)
     ∷ [])
 
 unfoldable pub parts_of_qdiscs_prio : Table
 parts_of_qdiscs_prio place =
-    if place == 732 then struct_prio_options else (
-    if place == 733 then list_prio else (
-    if place == 734 then struct_tc_prio_qopt else (
-    if place == 735 then list_tc_qdisc_prio else (
-    if place == 736 then list_tc_qdisc_pfifo_fast else (
+    if place == 3900 then struct_prio_options else (
+    if place == 3901 then list_prio else (
+    if place == 3902 then struct_tc_prio_qopt else (
+    if place == 3903 then list_tc_qdisc_prio else (
+    if place == 3904 then list_tc_qdisc_pfifo_fast else (
     One form.Hex)))))
 
 -- `list qfq`
@@ -1604,41 +1604,41 @@ struct_tc_qfq_stats =
 abbrev pub statistics_qdisc_qfq : Part
 statistics_qdisc_qfq =
     Fields
-    (field (codes "Qfq") (form.Record 745)
+    (field (codes "Qfq") (form.Record 3913)
     ∷ [])
 
 -- `list tc`: the rows of qfq
 abbrev pub list_tc_qdisc_qfq : Part
 list_tc_qdisc_qfq =
     Rows []
-    (row 2 (codes "Options") (form.List 744)
-    ∷ row 4 (codes "Xstats") (form.Record 746)
+    (row 2 (codes "Options") (form.List 3912)
+    ∷ row 4 (codes "Xstats") (form.Record 3914)
     ∷ [])
 
 -- `list stats`: the rows of qfq
 abbrev pub list_stats_qdisc_qfq : Part
 list_stats_qdisc_qfq =
     Rows []
-    (row 4 (codes "App") (form.Record 746)
+    (row 4 (codes "App") (form.Record 3914)
     ∷ [])
 
 unfoldable pub parts_of_qdiscs_qfq : Table
 parts_of_qdiscs_qfq place =
-    if place == 744 then list_qfq_in_qfq else (
-    if place == 745 then struct_tc_qfq_stats else (
-    if place == 746 then statistics_qdisc_qfq else (
-    if place == 747 then list_tc_qdisc_qfq else (
-    if place == 748 then list_stats_qdisc_qfq else (
+    if place == 3912 then list_qfq_in_qfq else (
+    if place == 3913 then struct_tc_qfq_stats else (
+    if place == 3914 then statistics_qdisc_qfq else (
+    if place == 3915 then list_tc_qdisc_qfq else (
+    if place == 3916 then list_stats_qdisc_qfq else (
     One form.Hex)))))
 
 -- `list red`
 abbrev pub list_red_in_red : Part
 list_red_in_red =
     Rows (codes "Red")
-    (row 1 (codes "Parms") (form.Record 757)
+    (row 1 (codes "Parms") (form.Record 3925)
     ∷ row 2 (codes "Stab") form.Hex
     ∷ row 3 (codes "MaxP") (form.Number number.U32)
-    ∷ row 4 (codes "Flags") (form.Record 758)
+    ∷ row 4 (codes "Flags") (form.Record 3926)
     ∷ row 5 (codes "EarlyDropBlock") (form.Number number.U32)
     ∷ row 6 (codes "MarkBlock") (form.Number number.U32)
     ∷ [])
@@ -1678,40 +1678,40 @@ struct_tc_red_xstats =
 abbrev pub statistics_qdisc_red : Part
 statistics_qdisc_red =
     Fields
-    (field (codes "Red") (form.Record 759)
+    (field (codes "Red") (form.Record 3927)
     ∷ [])
 
 -- `list tc`: the rows of red
 abbrev pub list_tc_qdisc_red : Part
 list_tc_qdisc_red =
     Rows []
-    (row 2 (codes "Options") (form.List 756)
-    ∷ row 4 (codes "Xstats") (form.Record 760)
+    (row 2 (codes "Options") (form.List 3924)
+    ∷ row 4 (codes "Xstats") (form.Record 3928)
     ∷ [])
 
 -- `list stats`: the rows of red
 abbrev pub list_stats_qdisc_red : Part
 list_stats_qdisc_red =
     Rows []
-    (row 4 (codes "App") (form.Record 760)
+    (row 4 (codes "App") (form.Record 3928)
     ∷ [])
 
 unfoldable pub parts_of_qdiscs_red : Table
 parts_of_qdiscs_red place =
-    if place == 756 then list_red_in_red else (
-    if place == 757 then struct_tc_red_qopt else (
-    if place == 758 then struct_tca_red_flags else (
-    if place == 759 then struct_tc_red_xstats else (
-    if place == 760 then statistics_qdisc_red else (
-    if place == 761 then list_tc_qdisc_red else (
-    if place == 762 then list_stats_qdisc_red else (
+    if place == 3924 then list_red_in_red else (
+    if place == 3925 then struct_tc_red_qopt else (
+    if place == 3926 then struct_tca_red_flags else (
+    if place == 3927 then struct_tc_red_xstats else (
+    if place == 3928 then statistics_qdisc_red else (
+    if place == 3929 then list_tc_qdisc_red else (
+    if place == 3930 then list_stats_qdisc_red else (
     One form.Hex)))))))
 
 -- `list sfb`
 abbrev pub list_sfb_in_sfb : Part
 list_sfb_in_sfb =
     Rows (codes "Sfb")
-    (row 1 (codes "Parms") (form.Record 770)
+    (row 1 (codes "Parms") (form.Record 3938)
     ∷ [])
 
 -- `struct tc_sfb_xstats`
@@ -1748,40 +1748,40 @@ struct_tc_sfb_qopt =
 abbrev pub statistics_qdisc_sfb : Part
 statistics_qdisc_sfb =
     Fields
-    (field (codes "Sfb") (form.Record 769)
+    (field (codes "Sfb") (form.Record 3937)
     ∷ [])
 
 -- `list tc`: the rows of sfb
 abbrev pub list_tc_qdisc_sfb : Part
 list_tc_qdisc_sfb =
     Rows []
-    (row 2 (codes "Options") (form.List 768)
-    ∷ row 4 (codes "Xstats") (form.Record 771)
+    (row 2 (codes "Options") (form.List 3936)
+    ∷ row 4 (codes "Xstats") (form.Record 3939)
     ∷ [])
 
 -- `list stats`: the rows of sfb
 abbrev pub list_stats_qdisc_sfb : Part
 list_stats_qdisc_sfb =
     Rows []
-    (row 4 (codes "App") (form.Record 771)
+    (row 4 (codes "App") (form.Record 3939)
     ∷ [])
 
 unfoldable pub parts_of_qdiscs_sfb : Table
 parts_of_qdiscs_sfb place =
-    if place == 768 then list_sfb_in_sfb else (
-    if place == 769 then struct_tc_sfb_xstats else (
-    if place == 770 then struct_tc_sfb_qopt else (
-    if place == 771 then statistics_qdisc_sfb else (
-    if place == 772 then list_tc_qdisc_sfb else (
-    if place == 773 then list_stats_qdisc_sfb else (
+    if place == 3936 then list_sfb_in_sfb else (
+    if place == 3937 then struct_tc_sfb_xstats else (
+    if place == 3938 then struct_tc_sfb_qopt else (
+    if place == 3939 then statistics_qdisc_sfb else (
+    if place == 3940 then list_tc_qdisc_sfb else (
+    if place == 3941 then list_stats_qdisc_sfb else (
     One form.Hex))))))
 
 -- `choice sfq`
 abbrev pub choice_sfq : Part
 choice_sfq =
     Choices
-    (choice (codes "Qopt") [] (Some 20) (form.Record 781)
-    ∷ choice (codes "QoptV1") [] (Some 72) (form.Record 782)
+    (choice (codes "Qopt") [] (Some 20) (form.Record 3949)
+    ∷ choice (codes "QoptV1") [] (Some 72) (form.Record 3950)
     ∷ [])
 
 -- `struct tc_sfq_qopt`
@@ -1799,7 +1799,7 @@ struct_tc_sfq_qopt =
 abbrev pub struct_tc_sfq_qopt_v1 : Part
 struct_tc_sfq_qopt_v1 =
     Fields
-    (field (codes "v0") (form.Record 781)
+    (field (codes "v0") (form.Record 3949)
     ∷ field (codes "depth") (form.Number number.U32)
     ∷ field (codes "headdrop") (form.Number number.U32)
     ∷ field (codes "limit") (form.Number number.U32)
@@ -1810,7 +1810,7 @@ struct_tc_sfq_qopt_v1 =
     ∷ field (codes "Scell_log") (form.Number number.U8)
     ∷ field (codes "flags") (form.Number number.U8)
     ∷ field (codes "max_P") (form.Number number.U32)
-    ∷ field (codes "stats") (form.Record 783)
+    ∷ field (codes "stats") (form.Record 3951)
     ∷ [])
 
 -- `struct tc_sfqred_stats`
@@ -1836,34 +1836,34 @@ struct_tc_sfq_xstats =
 abbrev pub statistics_qdisc_sfq : Part
 statistics_qdisc_sfq =
     Fields
-    (field (codes "Sfq") (form.Record 784)
+    (field (codes "Sfq") (form.Record 3952)
     ∷ [])
 
 -- `list tc`: the rows of sfq
 abbrev pub list_tc_qdisc_sfq : Part
 list_tc_qdisc_sfq =
     Rows []
-    (row 2 (codes "Options") (form.Choice 780)
-    ∷ row 4 (codes "Xstats") (form.Record 785)
+    (row 2 (codes "Options") (form.Choice 3948)
+    ∷ row 4 (codes "Xstats") (form.Record 3953)
     ∷ [])
 
 -- `list stats`: the rows of sfq
 abbrev pub list_stats_qdisc_sfq : Part
 list_stats_qdisc_sfq =
     Rows []
-    (row 4 (codes "App") (form.Record 785)
+    (row 4 (codes "App") (form.Record 3953)
     ∷ [])
 
 unfoldable pub parts_of_qdiscs_sfq : Table
 parts_of_qdiscs_sfq place =
-    if place == 780 then choice_sfq else (
-    if place == 781 then struct_tc_sfq_qopt else (
-    if place == 782 then struct_tc_sfq_qopt_v1 else (
-    if place == 783 then struct_tc_sfqred_stats else (
-    if place == 784 then struct_tc_sfq_xstats else (
-    if place == 785 then statistics_qdisc_sfq else (
-    if place == 786 then list_tc_qdisc_sfq else (
-    if place == 787 then list_stats_qdisc_sfq else (
+    if place == 3948 then choice_sfq else (
+    if place == 3949 then struct_tc_sfq_qopt else (
+    if place == 3950 then struct_tc_sfq_qopt_v1 else (
+    if place == 3951 then struct_tc_sfqred_stats else (
+    if place == 3952 then struct_tc_sfq_xstats else (
+    if place == 3953 then statistics_qdisc_sfq else (
+    if place == 3954 then list_tc_qdisc_sfq else (
+    if place == 3955 then list_stats_qdisc_sfq else (
     One form.Hex))))))))
 
 -- `struct tc_skbprio_qopt`
@@ -1877,57 +1877,57 @@ struct_tc_skbprio_qopt =
 abbrev pub list_tc_qdisc_skbprio : Part
 list_tc_qdisc_skbprio =
     Rows []
-    (row 2 (codes "Options") (form.Record 792)
-    ∷ row 4 (codes "Xstats") (form.Choice 426)
+    (row 2 (codes "Options") (form.Record 3960)
+    ∷ row 4 (codes "Xstats") (form.Choice 3006)
     ∷ [])
 
 unfoldable pub parts_of_qdiscs_skbprio : Table
 parts_of_qdiscs_skbprio place =
-    if place == 792 then struct_tc_skbprio_qopt else (
-    if place == 793 then list_tc_qdisc_skbprio else (
+    if place == 3960 then struct_tc_skbprio_qopt else (
+    if place == 3961 then list_tc_qdisc_skbprio else (
     One form.Hex))
 
 -- `list taprio`
 abbrev pub list_taprio : Part
 list_taprio =
     Rows []
-    (row 1 (codes "Priomap") (form.Record 661)
-    ∷ row 32770 (codes "SchedEntryList") (form.List 806)
+    (row 1 (codes "Priomap") (form.Record 3829)
+    ∷ row 32770 (codes "SchedEntryList") (form.List 3974)
     ∷ row 3 (codes "SchedBaseTime") (form.Number number.I64)
-    ∷ row 4 (codes "SchedSingleEntry") (form.List 807)
+    ∷ row 4 (codes "SchedSingleEntry") (form.List 3975)
     ∷ row 5 (codes "SchedClockid") (form.Number number.I32)
     ∷ row 6 (codes "Pad") form.Flag
-    ∷ row 7 (codes "AdminSched") (form.List 804)
+    ∷ row 7 (codes "AdminSched") (form.List 3972)
     ∷ row 8 (codes "SchedCycleTime") (form.Number number.I64)
     ∷ row 9 (codes "SchedCycleTimeExtension") (form.Number number.I64)
     ∷ row 10 (codes "Flags") (form.Number number.U32)
     ∷ row 11 (codes "TxtimeDelay") (form.Number number.U32)
-    ∷ row 32780 (codes "TcEntry") (form.List 809)
+    ∷ row 32780 (codes "TcEntry") (form.List 3977)
     ∷ [])
 
 -- `list taprio`
 abbrev pub list_taprio_in_taprio : Part
 list_taprio_in_taprio =
     Rows (codes "Taprio")
-    (row 1 (codes "Priomap") (form.Record 661)
-    ∷ row 32770 (codes "SchedEntryList") (form.List 806)
+    (row 1 (codes "Priomap") (form.Record 3829)
+    ∷ row 32770 (codes "SchedEntryList") (form.List 3974)
     ∷ row 3 (codes "SchedBaseTime") (form.Number number.I64)
-    ∷ row 4 (codes "SchedSingleEntry") (form.List 807)
+    ∷ row 4 (codes "SchedSingleEntry") (form.List 3975)
     ∷ row 5 (codes "SchedClockid") (form.Number number.I32)
     ∷ row 6 (codes "Pad") form.Flag
-    ∷ row 7 (codes "AdminSched") (form.List 804)
+    ∷ row 7 (codes "AdminSched") (form.List 3972)
     ∷ row 8 (codes "SchedCycleTime") (form.Number number.I64)
     ∷ row 9 (codes "SchedCycleTimeExtension") (form.Number number.I64)
     ∷ row 10 (codes "Flags") (form.Number number.U32)
     ∷ row 11 (codes "TxtimeDelay") (form.Number number.U32)
-    ∷ row 32780 (codes "TcEntry") (form.List 809)
+    ∷ row 32780 (codes "TcEntry") (form.List 3977)
     ∷ [])
 
 -- `list taprio_entry_list`
 abbrev pub list_taprio_entry_list : Part
 list_taprio_entry_list =
     Rows []
-    (row 1 (codes "Entry") (form.List 807)
+    (row 1 (codes "Entry") (form.List 3975)
     ∷ [])
 
 -- `list taprio_entry`
@@ -1935,7 +1935,7 @@ abbrev pub list_taprio_entry : Part
 list_taprio_entry =
     Rows []
     (row 1 (codes "Index") (form.Number number.U32)
-    ∷ row 2 (codes "Cmd") (form.Named number.U8 808)
+    ∷ row 2 (codes "Cmd") (form.Named number.U8 3976)
     ∷ row 3 (codes "GateMask") (form.Number number.U32)
     ∷ row 4 (codes "Interval") (form.Number number.U32)
     ∷ [])
@@ -1955,7 +1955,7 @@ list_taprio_tc_entry =
     Rows []
     (row 1 (codes "Index") (form.Number number.U32)
     ∷ row 2 (codes "MaxSdu") (form.Number number.U32)
-    ∷ row 3 (codes "Fp") (form.Named number.U32 834)
+    ∷ row 3 (codes "Fp") (form.Named number.U32 4206)
     ∷ [])
 
 -- `list taprio_stats`
@@ -1971,43 +1971,43 @@ list_taprio_stats =
 abbrev pub statistics_qdisc_taprio : Part
 statistics_qdisc_taprio =
     Fields
-    (field (codes "Taprio") (form.List 810)
+    (field (codes "Taprio") (form.List 3978)
     ∷ [])
 
 -- `list tc`: the rows of taprio
 abbrev pub list_tc_qdisc_taprio : Part
 list_tc_qdisc_taprio =
     Rows []
-    (row 2 (codes "Options") (form.List 805)
-    ∷ row 32772 (codes "Xstats") (form.Record 811)
+    (row 2 (codes "Options") (form.List 3973)
+    ∷ row 32772 (codes "Xstats") (form.Record 3979)
     ∷ [])
 
 -- `list stats`: the rows of taprio
 abbrev pub list_stats_qdisc_taprio : Part
 list_stats_qdisc_taprio =
     Rows []
-    (row 32772 (codes "App") (form.Record 811)
+    (row 32772 (codes "App") (form.Record 3979)
     ∷ [])
 
 unfoldable pub parts_of_qdiscs_taprio : Table
 parts_of_qdiscs_taprio place =
-    if place == 804 then list_taprio else (
-    if place == 805 then list_taprio_in_taprio else (
-    if place == 806 then list_taprio_entry_list else (
-    if place == 807 then list_taprio_entry else (
-    if place == 808 then enum_tc_taprio_cmd else (
-    if place == 809 then list_taprio_tc_entry else (
-    if place == 810 then list_taprio_stats else (
-    if place == 811 then statistics_qdisc_taprio else (
-    if place == 812 then list_tc_qdisc_taprio else (
-    if place == 813 then list_stats_qdisc_taprio else (
+    if place == 3972 then list_taprio else (
+    if place == 3973 then list_taprio_in_taprio else (
+    if place == 3974 then list_taprio_entry_list else (
+    if place == 3975 then list_taprio_entry else (
+    if place == 3976 then enum_tc_taprio_cmd else (
+    if place == 3977 then list_taprio_tc_entry else (
+    if place == 3978 then list_taprio_stats else (
+    if place == 3979 then statistics_qdisc_taprio else (
+    if place == 3980 then list_tc_qdisc_taprio else (
+    if place == 3981 then list_stats_qdisc_taprio else (
     One form.Hex))))))))))
 
 -- `list tbf`
 abbrev pub list_tbf_in_tbf : Part
 list_tbf_in_tbf =
     Rows (codes "Tbf")
-    (row 1 (codes "Parms") (form.Record 817)
+    (row 1 (codes "Parms") (form.Record 3985)
     ∷ row 2 (codes "Rtab") form.Hex
     ∷ row 3 (codes "Ptab") form.Hex
     ∷ row 4 (codes "Rate64") (form.Number number.U64)
@@ -2021,8 +2021,8 @@ list_tbf_in_tbf =
 abbrev pub struct_tc_tbf_qopt : Part
 struct_tc_tbf_qopt =
     Fields
-    (field (codes "rate") (form.Record 828)
-    ∷ field (codes "peakrate") (form.Record 828)
+    (field (codes "rate") (form.Record 4200)
+    ∷ field (codes "peakrate") (form.Record 4200)
     ∷ field (codes "limit") (form.Number number.U32)
     ∷ field (codes "buffer") (form.Number number.U32)
     ∷ field (codes "mtu") (form.Number number.U32)
@@ -2032,13 +2032,50 @@ struct_tc_tbf_qopt =
 abbrev pub list_tc_qdisc_tbf : Part
 list_tc_qdisc_tbf =
     Rows []
-    (row 2 (codes "Options") (form.List 816)
-    ∷ row 4 (codes "Xstats") (form.Choice 426)
+    (row 2 (codes "Options") (form.List 3984)
+    ∷ row 4 (codes "Xstats") (form.Choice 3006)
     ∷ [])
 
 unfoldable pub parts_of_qdiscs_tbf : Table
 parts_of_qdiscs_tbf place =
-    if place == 816 then list_tbf_in_tbf else (
-    if place == 817 then struct_tc_tbf_qopt else (
-    if place == 818 then list_tc_qdisc_tbf else (
+    if place == 3984 then list_tbf_in_tbf else (
+    if place == 3985 then struct_tc_tbf_qopt else (
+    if place == 3986 then list_tc_qdisc_tbf else (
     One form.Hex)))
+
+unfoldable pub all_of_qdiscs : Table
+all_of_qdiscs place =
+    if place / 12 == 300 then parts_of_qdiscs_atm place else (
+    if place / 12 == 301 then parts_of_qdiscs_cake place else (
+    if place / 12 == 302 then parts_of_qdiscs_cbq place else (
+    if place / 12 == 303 then parts_of_qdiscs_cbs place else (
+    if place / 12 == 304 then parts_of_qdiscs_choke place else (
+    if place / 12 == 305 then parts_of_qdiscs_codel place else (
+    if place / 12 == 306 then parts_of_qdiscs_drr place else (
+    if place / 12 == 307 then parts_of_qdiscs_dsmark place else (
+    if place / 12 == 308 then parts_of_qdiscs_etf place else (
+    if place / 12 == 309 then parts_of_qdiscs_ets place else (
+    if place / 12 == 310 then parts_of_qdiscs_fifo place else (
+    if place / 12 == 311 then parts_of_qdiscs_fq place else (
+    if place / 12 == 312 then parts_of_qdiscs_fq_codel place else (
+    if place / 12 == 313 then parts_of_qdiscs_fq_pie place else (
+    if place / 12 == 314 then parts_of_qdiscs_gred place else (
+    if place / 12 == 315 then parts_of_qdiscs_hfsc place else (
+    if place / 12 == 316 then parts_of_qdiscs_hhf place else (
+    if place / 12 == 317 then parts_of_qdiscs_htb place else (
+    if place / 12 == 318 then parts_of_qdiscs_ingress place else (
+    if place / 12 == 319 then parts_of_qdiscs_mqprio place else (
+    if place / 12 == 320 then parts_of_qdiscs_multiq place else (
+    if place / 12 == 321 then parts_of_qdiscs_netem place else (
+    if place / 12 == 322 then parts_of_qdiscs_none place else (
+    if place / 12 == 323 then parts_of_qdiscs_pie place else (
+    if place / 12 == 324 then parts_of_qdiscs_plug place else (
+    if place / 12 == 325 then parts_of_qdiscs_prio place else (
+    if place / 12 == 326 then parts_of_qdiscs_qfq place else (
+    if place / 12 == 327 then parts_of_qdiscs_red place else (
+    if place / 12 == 328 then parts_of_qdiscs_sfb place else (
+    if place / 12 == 329 then parts_of_qdiscs_sfq place else (
+    if place / 12 == 330 then parts_of_qdiscs_skbprio place else (
+    if place / 12 == 331 then parts_of_qdiscs_taprio place else (
+    if place / 12 == 332 then parts_of_qdiscs_tbf place else (
+    One form.Hex)))))))))))))))))))))))))))))))))

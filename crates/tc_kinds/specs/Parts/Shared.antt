@@ -1,5 +1,5 @@
 -- The parts of `kinds/shared`. Written by `kinds/generate`.
-use Rattle.std.specs.Prelude.{◌==◌, [], ◌∷◌, codes, if◌then◌else◌}
+use Rattle.std.specs.Prelude.{◌/◌, ◌==◌, [], ◌∷◌, codes, if◌then◌else◌}
 use Rattle.tc_forms.specs.declared.form.Form.TheVariants as form
 use Rattle.tc_forms.specs.declared.form.Number.TheVariants as number
 use Rattle.tc_forms.specs.Tables.{Part, Table, One, Names, Fields, Rows}
@@ -10,7 +10,7 @@ abbrev pub struct_tc_ratespec : Part
 struct_tc_ratespec =
     Fields
     (field (codes "cell_log") (form.Number number.U8)
-    ∷ field (codes "linklayer") (form.Named number.U8 829)
+    ∷ field (codes "linklayer") (form.Named number.U8 4201)
     ∷ field (codes "overhead") (form.Number number.U16)
     ∷ field (codes "cell_align") (form.Number number.I16)
     ∷ field (codes "mpu") (form.Number number.U16)
@@ -30,8 +30,8 @@ enum_tc_linklayer =
 abbrev pub list_stab : Part
 list_stab =
     Rows []
-    (row 1 (codes "Base") (form.Record 831)
-    ∷ row 2 (codes "Data") (form.Array 253)
+    (row 1 (codes "Base") (form.Record 4203)
+    ∷ row 2 (codes "Data") (form.Array 1201)
     ∷ [])
 
 -- `struct tc_sizespec`
@@ -42,7 +42,7 @@ struct_tc_sizespec =
     ∷ field (codes "size_log") (form.Number number.U8)
     ∷ field (codes "cell_align") (form.Number number.I16)
     ∷ field (codes "overhead") (form.Number number.I32)
-    ∷ field (codes "linklayer") (form.Named number.U32 829)
+    ∷ field (codes "linklayer") (form.Named number.U32 4201)
     ∷ field (codes "mpu") (form.Number number.U32)
     ∷ field (codes "mtu") (form.Number number.U32)
     ∷ field (codes "tsize") (form.Number number.U32)
@@ -76,11 +76,16 @@ enum_tc_fp =
 
 unfoldable pub parts_of_shared : Table
 parts_of_shared place =
-    if place == 828 then struct_tc_ratespec else (
-    if place == 829 then enum_tc_linklayer else (
-    if place == 830 then list_stab else (
-    if place == 831 then struct_tc_sizespec else (
-    if place == 832 then struct_tc_estimator else (
-    if place == 833 then struct_sock_filter else (
-    if place == 834 then enum_tc_fp else (
+    if place == 4200 then struct_tc_ratespec else (
+    if place == 4201 then enum_tc_linklayer else (
+    if place == 4202 then list_stab else (
+    if place == 4203 then struct_tc_sizespec else (
+    if place == 4204 then struct_tc_estimator else (
+    if place == 4205 then struct_sock_filter else (
+    if place == 4206 then enum_tc_fp else (
     One form.Hex)))))))
+
+unfoldable pub all_of_shared : Table
+all_of_shared place =
+    if place / 12 == 350 then parts_of_shared place else (
+    One form.Hex)

@@ -3,6 +3,7 @@
 ghost use Rattle.std.specs.Prelude.{◌≡◌, map};
 ghost use Rattle.tc_forms.specs.Tables.{part_view};
 ghost use Rattle.tc_kinds.specs.Parts.Action.{parts_of_action};
+ghost use Rattle.tc_kinds.specs.Parts.Action.{all_of_action};
 
 use tc_forms::{Field, Form, KindRows, Name, Number, Part, Row};
 
@@ -10,87 +11,87 @@ use tc_forms::{Field, Form, KindRows, Name, Number, Part, Row};
 const LIST_ACTION: [KindRows<'static>; 21] = [
     KindRows {
         kind: "bpf",
-        rows: 14,
+        rows: 602,
     },
     KindRows {
         kind: "connmark",
-        rows: 26,
+        rows: 614,
     },
     KindRows {
         kind: "csum",
-        rows: 38,
+        rows: 626,
     },
     KindRows {
         kind: "ct",
-        rows: 50,
+        rows: 638,
     },
     KindRows {
         kind: "ctinfo",
-        rows: 62,
+        rows: 650,
     },
     KindRows {
         kind: "gact",
-        rows: 76,
+        rows: 664,
     },
     KindRows {
         kind: "gate",
-        rows: 88,
+        rows: 676,
     },
     KindRows {
         kind: "ife",
-        rows: 99,
+        rows: 687,
     },
     KindRows {
         kind: "ipt",
-        rows: 111,
+        rows: 699,
     },
     KindRows {
         kind: "xt",
-        rows: 112,
+        rows: 700,
     },
     KindRows {
         kind: "mirred",
-        rows: 123,
+        rows: 711,
     },
     KindRows {
         kind: "mpls",
-        rows: 135,
+        rows: 723,
     },
     KindRows {
         kind: "nat",
-        rows: 146,
+        rows: 734,
     },
     KindRows {
         kind: "pedit",
-        rows: 163,
+        rows: 751,
     },
     KindRows {
         kind: "police",
-        rows: 171,
+        rows: 759,
     },
     KindRows {
         kind: "sample",
-        rows: 182,
+        rows: 770,
     },
     KindRows {
         kind: "simple",
-        rows: 194,
+        rows: 782,
     },
     KindRows {
         kind: "skbedit",
-        rows: 206,
+        rows: 794,
     },
     KindRows {
         kind: "skbmod",
-        rows: 218,
+        rows: 806,
     },
     KindRows {
         kind: "tunnel_key",
-        rows: 230,
+        rows: 818,
     },
     KindRows {
         kind: "vlan",
-        rows: 243,
+        rows: 831,
     },
 ];
 
@@ -104,7 +105,7 @@ const LIST_ACTION_OF_ALL: [Row<'static>; 8] = [
     Row {
         word: 4,
         name: "Stats",
-        form: Form::List(841),
+        form: Form::List(4801),
     },
     Row {
         word: 5,
@@ -271,6 +272,16 @@ pub(crate) fn parts_of_action(place: usize) -> Part<'static>
         6 => Part::Fields(&STRUCT_TC_GEN),
         7 => Part::Names(&ENUM_TC_ACT),
         8 => Part::Fields(&STRUCT_TCF_T),
+        _ => Part::One(Form::Hex),
+    }
+}
+
+#[tactic(auto, unfolding(crate::specs::Parts::Action::all_of_action))]
+pub(crate) fn all_of_action(place: usize) -> Part<'static>
+    ensures { part_view result ≡ all_of_action place }
+{
+    match place / 12 {
+        0 => parts_of_action(place),
         _ => Part::One(Form::Hex),
     }
 }

@@ -22,6 +22,7 @@ ghost use Rattle.tc_kinds.specs.Parts.Actions.{parts_of_actions_skbedit};
 ghost use Rattle.tc_kinds.specs.Parts.Actions.{parts_of_actions_skbmod};
 ghost use Rattle.tc_kinds.specs.Parts.Actions.{parts_of_actions_tunnel_key};
 ghost use Rattle.tc_kinds.specs.Parts.Actions.{parts_of_actions_vlan};
+ghost use Rattle.tc_kinds.specs.Parts.Actions.{all_of_actions};
 
 use tc_forms::{Field, Form, Name, Number, Part, Row};
 
@@ -35,7 +36,7 @@ const LIST_ACT_BPF_IN_BPF: [Row<'static>; 9] = [
     Row {
         word: 2,
         name: "Parms",
-        form: Form::Record(13),
+        form: Form::Record(601),
     },
     Row {
         word: 3,
@@ -45,7 +46,7 @@ const LIST_ACT_BPF_IN_BPF: [Row<'static>; 9] = [
     Row {
         word: 4,
         name: "Ops",
-        form: Form::Array(833),
+        form: Form::Array(4205),
     },
     Row {
         word: 5,
@@ -84,7 +85,7 @@ const STRUCT_TC_ACT_BPF: [Field<'static>; 1] = [Field {
 const LIST_ACTION_ACTION_BPF: [Row<'static>; 1] = [Row {
     word: 32770,
     name: "Options",
-    form: Form::List(12),
+    form: Form::List(600),
 }];
 
 #[tactic(auto, unfolding(crate::specs::Parts::Actions::parts_of_actions_bpf))]
@@ -92,9 +93,9 @@ pub(crate) fn parts_of_actions_bpf(place: usize) -> Part<'static>
     ensures { part_view result ≡ parts_of_actions_bpf place }
 {
     match place {
-        12 => Part::Rows("Bpf", &LIST_ACT_BPF_IN_BPF),
-        13 => Part::Fields(&STRUCT_TC_ACT_BPF),
-        14 => Part::Rows("", &LIST_ACTION_ACTION_BPF),
+        600 => Part::Rows("Bpf", &LIST_ACT_BPF_IN_BPF),
+        601 => Part::Fields(&STRUCT_TC_ACT_BPF),
+        602 => Part::Rows("", &LIST_ACTION_ACTION_BPF),
         _ => Part::One(Form::Hex),
     }
 }
@@ -104,7 +105,7 @@ const LIST_CONNMARK_IN_CONNMARK: [Row<'static>; 3] = [
     Row {
         word: 1,
         name: "Parms",
-        form: Form::Record(25),
+        form: Form::Record(613),
     },
     Row {
         word: 2,
@@ -138,7 +139,7 @@ const STRUCT_TC_CONNMARK: [Field<'static>; 3] = [
 const LIST_ACTION_ACTION_CONNMARK: [Row<'static>; 1] = [Row {
     word: 32770,
     name: "Options",
-    form: Form::List(24),
+    form: Form::List(612),
 }];
 
 #[tactic(auto, unfolding(crate::specs::Parts::Actions::parts_of_actions_connmark))]
@@ -146,9 +147,9 @@ pub(crate) fn parts_of_actions_connmark(place: usize) -> Part<'static>
     ensures { part_view result ≡ parts_of_actions_connmark place }
 {
     match place {
-        24 => Part::Rows("Connmark", &LIST_CONNMARK_IN_CONNMARK),
-        25 => Part::Fields(&STRUCT_TC_CONNMARK),
-        26 => Part::Rows("", &LIST_ACTION_ACTION_CONNMARK),
+        612 => Part::Rows("Connmark", &LIST_CONNMARK_IN_CONNMARK),
+        613 => Part::Fields(&STRUCT_TC_CONNMARK),
+        614 => Part::Rows("", &LIST_ACTION_ACTION_CONNMARK),
         _ => Part::One(Form::Hex),
     }
 }
@@ -158,7 +159,7 @@ const LIST_CSUM_IN_CSUM: [Row<'static>; 3] = [
     Row {
         word: 1,
         name: "Parms",
-        form: Form::Record(37),
+        form: Form::Record(625),
     },
     Row {
         word: 2,
@@ -188,7 +189,7 @@ const STRUCT_TC_CSUM: [Field<'static>; 2] = [
 const LIST_ACTION_ACTION_CSUM: [Row<'static>; 1] = [Row {
     word: 32770,
     name: "Options",
-    form: Form::List(36),
+    form: Form::List(624),
 }];
 
 #[tactic(auto, unfolding(crate::specs::Parts::Actions::parts_of_actions_csum))]
@@ -196,9 +197,9 @@ pub(crate) fn parts_of_actions_csum(place: usize) -> Part<'static>
     ensures { part_view result ≡ parts_of_actions_csum place }
 {
     match place {
-        36 => Part::Rows("Csum", &LIST_CSUM_IN_CSUM),
-        37 => Part::Fields(&STRUCT_TC_CSUM),
-        38 => Part::Rows("", &LIST_ACTION_ACTION_CSUM),
+        624 => Part::Rows("Csum", &LIST_CSUM_IN_CSUM),
+        625 => Part::Fields(&STRUCT_TC_CSUM),
+        626 => Part::Rows("", &LIST_ACTION_ACTION_CSUM),
         _ => Part::One(Form::Hex),
     }
 }
@@ -208,7 +209,7 @@ const LIST_CT_IN_CT: [Row<'static>; 18] = [
     Row {
         word: 1,
         name: "Parms",
-        form: Form::Record(49),
+        form: Form::Record(637),
     },
     Row {
         word: 2,
@@ -307,7 +308,7 @@ const STRUCT_TC_CT: [Field<'static>; 1] = [Field {
 const LIST_ACTION_ACTION_CT: [Row<'static>; 1] = [Row {
     word: 32770,
     name: "Options",
-    form: Form::List(48),
+    form: Form::List(636),
 }];
 
 #[tactic(auto, unfolding(crate::specs::Parts::Actions::parts_of_actions_ct))]
@@ -315,9 +316,9 @@ pub(crate) fn parts_of_actions_ct(place: usize) -> Part<'static>
     ensures { part_view result ≡ parts_of_actions_ct place }
 {
     match place {
-        48 => Part::Rows("Ct", &LIST_CT_IN_CT),
-        49 => Part::Fields(&STRUCT_TC_CT),
-        50 => Part::Rows("", &LIST_ACTION_ACTION_CT),
+        636 => Part::Rows("Ct", &LIST_CT_IN_CT),
+        637 => Part::Fields(&STRUCT_TC_CT),
+        638 => Part::Rows("", &LIST_ACTION_ACTION_CT),
         _ => Part::One(Form::Hex),
     }
 }
@@ -337,7 +338,7 @@ const LIST_CTINFO_IN_CTINFO: [Row<'static>; 10] = [
     Row {
         word: 3,
         name: "Action",
-        form: Form::Record(61),
+        form: Form::Record(649),
     },
     Row {
         word: 4,
@@ -386,7 +387,7 @@ const STRUCT_TC_CTINFO: [Field<'static>; 1] = [Field {
 const LIST_ACTION_ACTION_CTINFO: [Row<'static>; 1] = [Row {
     word: 32770,
     name: "Options",
-    form: Form::List(60),
+    form: Form::List(648),
 }];
 
 #[tactic(auto, unfolding(crate::specs::Parts::Actions::parts_of_actions_ctinfo))]
@@ -394,9 +395,9 @@ pub(crate) fn parts_of_actions_ctinfo(place: usize) -> Part<'static>
     ensures { part_view result ≡ parts_of_actions_ctinfo place }
 {
     match place {
-        60 => Part::Rows("Ctinfo", &LIST_CTINFO_IN_CTINFO),
-        61 => Part::Fields(&STRUCT_TC_CTINFO),
-        62 => Part::Rows("", &LIST_ACTION_ACTION_CTINFO),
+        648 => Part::Rows("Ctinfo", &LIST_CTINFO_IN_CTINFO),
+        649 => Part::Fields(&STRUCT_TC_CTINFO),
+        650 => Part::Rows("", &LIST_ACTION_ACTION_CTINFO),
         _ => Part::One(Form::Hex),
     }
 }
@@ -411,12 +412,12 @@ const LIST_GACT_IN_GACT: [Row<'static>; 4] = [
     Row {
         word: 2,
         name: "Parms",
-        form: Form::Record(73),
+        form: Form::Record(661),
     },
     Row {
         word: 3,
         name: "Prob",
-        form: Form::Record(74),
+        form: Form::Record(662),
     },
     Row {
         word: 4,
@@ -435,7 +436,7 @@ const STRUCT_TC_GACT: [Field<'static>; 1] = [Field {
 const STRUCT_TC_GACT_P: [Field<'static>; 3] = [
     Field {
         name: "ptype",
-        form: Form::Named(Number::U16, 75),
+        form: Form::Named(Number::U16, 663),
     },
     Field {
         name: "pval",
@@ -467,7 +468,7 @@ const ENUM_PGACT: [Name<'static>; 3] = [
 const LIST_ACTION_ACTION_GACT: [Row<'static>; 1] = [Row {
     word: 32770,
     name: "Options",
-    form: Form::List(72),
+    form: Form::List(660),
 }];
 
 #[tactic(auto, unfolding(crate::specs::Parts::Actions::parts_of_actions_gact))]
@@ -475,11 +476,11 @@ pub(crate) fn parts_of_actions_gact(place: usize) -> Part<'static>
     ensures { part_view result ≡ parts_of_actions_gact place }
 {
     match place {
-        72 => Part::Rows("Gact", &LIST_GACT_IN_GACT),
-        73 => Part::Fields(&STRUCT_TC_GACT),
-        74 => Part::Fields(&STRUCT_TC_GACT_P),
-        75 => Part::Names(&ENUM_PGACT),
-        76 => Part::Rows("", &LIST_ACTION_ACTION_GACT),
+        660 => Part::Rows("Gact", &LIST_GACT_IN_GACT),
+        661 => Part::Fields(&STRUCT_TC_GACT),
+        662 => Part::Fields(&STRUCT_TC_GACT_P),
+        663 => Part::Names(&ENUM_PGACT),
+        664 => Part::Rows("", &LIST_ACTION_ACTION_GACT),
         _ => Part::One(Form::Hex),
     }
 }
@@ -494,7 +495,7 @@ const LIST_GATE_IN_GATE: [Row<'static>; 10] = [
     Row {
         word: 2,
         name: "Parms",
-        form: Form::Record(85),
+        form: Form::Record(673),
     },
     Row {
         word: 3,
@@ -509,7 +510,7 @@ const LIST_GATE_IN_GATE: [Row<'static>; 10] = [
     Row {
         word: 32773,
         name: "EntryList",
-        form: Form::List(86),
+        form: Form::List(674),
     },
     Row {
         word: 6,
@@ -548,7 +549,7 @@ const STRUCT_TC_GATE: [Field<'static>; 1] = [Field {
 const LIST_GATE_LIST: [Row<'static>; 1] = [Row {
     word: 32769,
     name: "OneEntry",
-    form: Form::List(87),
+    form: Form::List(675),
 }];
 
 // `list gate_entry`
@@ -584,7 +585,7 @@ const LIST_GATE_ENTRY: [Row<'static>; 5] = [
 const LIST_ACTION_ACTION_GATE: [Row<'static>; 1] = [Row {
     word: 32770,
     name: "Options",
-    form: Form::List(84),
+    form: Form::List(672),
 }];
 
 #[tactic(auto, unfolding(crate::specs::Parts::Actions::parts_of_actions_gate))]
@@ -592,11 +593,11 @@ pub(crate) fn parts_of_actions_gate(place: usize) -> Part<'static>
     ensures { part_view result ≡ parts_of_actions_gate place }
 {
     match place {
-        84 => Part::Rows("Gate", &LIST_GATE_IN_GATE),
-        85 => Part::Fields(&STRUCT_TC_GATE),
-        86 => Part::Rows("", &LIST_GATE_LIST),
-        87 => Part::Rows("", &LIST_GATE_ENTRY),
-        88 => Part::Rows("", &LIST_ACTION_ACTION_GATE),
+        672 => Part::Rows("Gate", &LIST_GATE_IN_GATE),
+        673 => Part::Fields(&STRUCT_TC_GATE),
+        674 => Part::Rows("", &LIST_GATE_LIST),
+        675 => Part::Rows("", &LIST_GATE_ENTRY),
+        676 => Part::Rows("", &LIST_ACTION_ACTION_GATE),
         _ => Part::One(Form::Hex),
     }
 }
@@ -606,7 +607,7 @@ const LIST_IFE_IN_IFE: [Row<'static>; 7] = [
     Row {
         word: 1,
         name: "Parms",
-        form: Form::Record(97),
+        form: Form::Record(685),
     },
     Row {
         word: 2,
@@ -631,7 +632,7 @@ const LIST_IFE_IN_IFE: [Row<'static>; 7] = [
     Row {
         word: 6,
         name: "Metalst",
-        form: Form::List(98),
+        form: Form::List(686),
     },
     Row {
         word: 7,
@@ -661,27 +662,27 @@ const LIST_IFE_META: [Row<'static>; 5] = [
     Row {
         word: 1,
         name: "Skbmark",
-        form: Form::Array(252),
+        form: Form::Array(1200),
     },
     Row {
         word: 2,
         name: "Hashid",
-        form: Form::Array(252),
+        form: Form::Array(1200),
     },
     Row {
         word: 3,
         name: "Prio",
-        form: Form::Array(252),
+        form: Form::Array(1200),
     },
     Row {
         word: 4,
         name: "Qmap",
-        form: Form::Array(253),
+        form: Form::Array(1201),
     },
     Row {
         word: 5,
         name: "Tcindex",
-        form: Form::Array(253),
+        form: Form::Array(1201),
     },
 ];
 
@@ -689,7 +690,7 @@ const LIST_IFE_META: [Row<'static>; 5] = [
 const LIST_ACTION_ACTION_IFE: [Row<'static>; 1] = [Row {
     word: 32770,
     name: "Options",
-    form: Form::List(96),
+    form: Form::List(684),
 }];
 
 #[tactic(auto, unfolding(crate::specs::Parts::Actions::parts_of_actions_ife))]
@@ -697,10 +698,10 @@ pub(crate) fn parts_of_actions_ife(place: usize) -> Part<'static>
     ensures { part_view result ≡ parts_of_actions_ife place }
 {
     match place {
-        96 => Part::Rows("Ife", &LIST_IFE_IN_IFE),
-        97 => Part::Fields(&STRUCT_TC_IFE),
-        98 => Part::Rows("", &LIST_IFE_META),
-        99 => Part::Rows("", &LIST_ACTION_ACTION_IFE),
+        684 => Part::Rows("Ife", &LIST_IFE_IN_IFE),
+        685 => Part::Fields(&STRUCT_TC_IFE),
+        686 => Part::Rows("", &LIST_IFE_META),
+        687 => Part::Rows("", &LIST_ACTION_ACTION_IFE),
         _ => Part::One(Form::Hex),
     }
 }
@@ -725,7 +726,7 @@ const LIST_IPT_IN_IPT: [Row<'static>; 7] = [
     Row {
         word: 4,
         name: "Cnt",
-        form: Form::Record(110),
+        form: Form::Record(698),
     },
     Row {
         word: 5,
@@ -764,7 +765,7 @@ const LIST_IPT_IN_XT: [Row<'static>; 7] = [
     Row {
         word: 4,
         name: "Cnt",
-        form: Form::Record(110),
+        form: Form::Record(698),
     },
     Row {
         word: 5,
@@ -799,14 +800,14 @@ const STRUCT_TC_CNT: [Field<'static>; 2] = [
 const LIST_ACTION_ACTION_IPT: [Row<'static>; 1] = [Row {
     word: 32770,
     name: "Options",
-    form: Form::List(108),
+    form: Form::List(696),
 }];
 
 // `list action`: the rows of xt
 const LIST_ACTION_ACTION_XT: [Row<'static>; 1] = [Row {
     word: 32770,
     name: "Options",
-    form: Form::List(109),
+    form: Form::List(697),
 }];
 
 #[tactic(auto, unfolding(crate::specs::Parts::Actions::parts_of_actions_ipt))]
@@ -814,11 +815,11 @@ pub(crate) fn parts_of_actions_ipt(place: usize) -> Part<'static>
     ensures { part_view result ≡ parts_of_actions_ipt place }
 {
     match place {
-        108 => Part::Rows("Ipt", &LIST_IPT_IN_IPT),
-        109 => Part::Rows("Xt", &LIST_IPT_IN_XT),
-        110 => Part::Fields(&STRUCT_TC_CNT),
-        111 => Part::Rows("", &LIST_ACTION_ACTION_IPT),
-        112 => Part::Rows("", &LIST_ACTION_ACTION_XT),
+        696 => Part::Rows("Ipt", &LIST_IPT_IN_IPT),
+        697 => Part::Rows("Xt", &LIST_IPT_IN_XT),
+        698 => Part::Fields(&STRUCT_TC_CNT),
+        699 => Part::Rows("", &LIST_ACTION_ACTION_IPT),
+        700 => Part::Rows("", &LIST_ACTION_ACTION_XT),
         _ => Part::One(Form::Hex),
     }
 }
@@ -833,7 +834,7 @@ const LIST_MIRRED_IN_MIRROR: [Row<'static>; 4] = [
     Row {
         word: 2,
         name: "Parms",
-        form: Form::Record(121),
+        form: Form::Record(709),
     },
     Row {
         word: 3,
@@ -855,7 +856,7 @@ const STRUCT_TC_MIRRED: [Field<'static>; 3] = [
     },
     Field {
         name: "eaction",
-        form: Form::Named(Number::I32, 122),
+        form: Form::Named(Number::I32, 710),
     },
     Field {
         name: "ifindex",
@@ -887,7 +888,7 @@ const ENUM_TCA_MIRRED: [Name<'static>; 4] = [
 const LIST_ACTION_ACTION_MIRRED: [Row<'static>; 1] = [Row {
     word: 32770,
     name: "Options",
-    form: Form::List(120),
+    form: Form::List(708),
 }];
 
 #[tactic(auto, unfolding(crate::specs::Parts::Actions::parts_of_actions_mirred))]
@@ -895,10 +896,10 @@ pub(crate) fn parts_of_actions_mirred(place: usize) -> Part<'static>
     ensures { part_view result ≡ parts_of_actions_mirred place }
 {
     match place {
-        120 => Part::Rows("Mirror", &LIST_MIRRED_IN_MIRROR),
-        121 => Part::Fields(&STRUCT_TC_MIRRED),
-        122 => Part::Names(&ENUM_TCA_MIRRED),
-        123 => Part::Rows("", &LIST_ACTION_ACTION_MIRRED),
+        708 => Part::Rows("Mirror", &LIST_MIRRED_IN_MIRROR),
+        709 => Part::Fields(&STRUCT_TC_MIRRED),
+        710 => Part::Names(&ENUM_TCA_MIRRED),
+        711 => Part::Rows("", &LIST_ACTION_ACTION_MIRRED),
         _ => Part::One(Form::Hex),
     }
 }
@@ -913,7 +914,7 @@ const LIST_MPLS_IN_MPLS: [Row<'static>; 8] = [
     Row {
         word: 2,
         name: "Parms",
-        form: Form::Record(133),
+        form: Form::Record(721),
     },
     Row {
         word: 3,
@@ -955,7 +956,7 @@ const STRUCT_TC_MPLS: [Field<'static>; 2] = [
     },
     Field {
         name: "m_action",
-        form: Form::Named(Number::I32, 134),
+        form: Form::Named(Number::I32, 722),
     },
 ];
 
@@ -987,7 +988,7 @@ const ENUM_TCA_MPLS_ACT: [Name<'static>; 5] = [
 const LIST_ACTION_ACTION_MPLS: [Row<'static>; 1] = [Row {
     word: 32770,
     name: "Options",
-    form: Form::List(132),
+    form: Form::List(720),
 }];
 
 #[tactic(auto, unfolding(crate::specs::Parts::Actions::parts_of_actions_mpls))]
@@ -995,10 +996,10 @@ pub(crate) fn parts_of_actions_mpls(place: usize) -> Part<'static>
     ensures { part_view result ≡ parts_of_actions_mpls place }
 {
     match place {
-        132 => Part::Rows("Mpls", &LIST_MPLS_IN_MPLS),
-        133 => Part::Fields(&STRUCT_TC_MPLS),
-        134 => Part::Names(&ENUM_TCA_MPLS_ACT),
-        135 => Part::Rows("", &LIST_ACTION_ACTION_MPLS),
+        720 => Part::Rows("Mpls", &LIST_MPLS_IN_MPLS),
+        721 => Part::Fields(&STRUCT_TC_MPLS),
+        722 => Part::Names(&ENUM_TCA_MPLS_ACT),
+        723 => Part::Rows("", &LIST_ACTION_ACTION_MPLS),
         _ => Part::One(Form::Hex),
     }
 }
@@ -1008,7 +1009,7 @@ const LIST_NAT_IN_NAT: [Row<'static>; 3] = [
     Row {
         word: 1,
         name: "Parms",
-        form: Form::Record(145),
+        form: Form::Record(733),
     },
     Row {
         word: 2,
@@ -1050,7 +1051,7 @@ const STRUCT_TC_NAT: [Field<'static>; 5] = [
 const LIST_ACTION_ACTION_NAT: [Row<'static>; 1] = [Row {
     word: 32770,
     name: "Options",
-    form: Form::List(144),
+    form: Form::List(732),
 }];
 
 #[tactic(auto, unfolding(crate::specs::Parts::Actions::parts_of_actions_nat))]
@@ -1058,9 +1059,9 @@ pub(crate) fn parts_of_actions_nat(place: usize) -> Part<'static>
     ensures { part_view result ≡ parts_of_actions_nat place }
 {
     match place {
-        144 => Part::Rows("Nat", &LIST_NAT_IN_NAT),
-        145 => Part::Fields(&STRUCT_TC_NAT),
-        146 => Part::Rows("", &LIST_ACTION_ACTION_NAT),
+        732 => Part::Rows("Nat", &LIST_NAT_IN_NAT),
+        733 => Part::Fields(&STRUCT_TC_NAT),
+        734 => Part::Rows("", &LIST_ACTION_ACTION_NAT),
         _ => Part::One(Form::Hex),
     }
 }
@@ -1075,7 +1076,7 @@ const LIST_PEDIT_IN_PEDIT: [Row<'static>; 5] = [
     Row {
         word: 2,
         name: "Parms",
-        form: Form::Record(157),
+        form: Form::Record(745),
     },
     Row {
         word: 3,
@@ -1085,12 +1086,12 @@ const LIST_PEDIT_IN_PEDIT: [Row<'static>; 5] = [
     Row {
         word: 4,
         name: "ParmsEx",
-        form: Form::Record(157),
+        form: Form::Record(745),
     },
     Row {
         word: 32773,
         name: "KeysEx",
-        form: Form::List(159),
+        form: Form::List(747),
     },
 ];
 
@@ -1114,7 +1115,7 @@ const STRUCT_TC_PEDIT_SEL: [Field<'static>; 5] = [
     },
     Field {
         name: "keys",
-        form: Form::Array(158),
+        form: Form::Array(746),
     },
 ];
 
@@ -1150,7 +1151,7 @@ const STRUCT_TC_PEDIT_KEY: [Field<'static>; 6] = [
 const LIST_PEDIT_KEYS_EX: [Row<'static>; 1] = [Row {
     word: 32774,
     name: "KeyEx",
-    form: Form::List(160),
+    form: Form::List(748),
 }];
 
 // `list pedit_key_ex`
@@ -1158,12 +1159,12 @@ const LIST_PEDIT_KEY_EX: [Row<'static>; 2] = [
     Row {
         word: 1,
         name: "Htype",
-        form: Form::Named(Number::U16, 161),
+        form: Form::Named(Number::U16, 749),
     },
     Row {
         word: 2,
         name: "Cmd",
-        form: Form::Named(Number::U16, 162),
+        form: Form::Named(Number::U16, 750),
     },
 ];
 
@@ -1211,7 +1212,7 @@ const ENUM_PEDIT_CMD: [Name<'static>; 2] = [
 const LIST_ACTION_ACTION_PEDIT: [Row<'static>; 1] = [Row {
     word: 32770,
     name: "Options",
-    form: Form::List(156),
+    form: Form::List(744),
 }];
 
 #[tactic(auto, unfolding(crate::specs::Parts::Actions::parts_of_actions_pedit))]
@@ -1219,14 +1220,14 @@ pub(crate) fn parts_of_actions_pedit(place: usize) -> Part<'static>
     ensures { part_view result ≡ parts_of_actions_pedit place }
 {
     match place {
-        156 => Part::Rows("Pedit", &LIST_PEDIT_IN_PEDIT),
-        157 => Part::Fields(&STRUCT_TC_PEDIT_SEL),
-        158 => Part::Fields(&STRUCT_TC_PEDIT_KEY),
-        159 => Part::Rows("", &LIST_PEDIT_KEYS_EX),
-        160 => Part::Rows("", &LIST_PEDIT_KEY_EX),
-        161 => Part::Names(&ENUM_PEDIT_HEADER_TYPE),
-        162 => Part::Names(&ENUM_PEDIT_CMD),
-        163 => Part::Rows("", &LIST_ACTION_ACTION_PEDIT),
+        744 => Part::Rows("Pedit", &LIST_PEDIT_IN_PEDIT),
+        745 => Part::Fields(&STRUCT_TC_PEDIT_SEL),
+        746 => Part::Fields(&STRUCT_TC_PEDIT_KEY),
+        747 => Part::Rows("", &LIST_PEDIT_KEYS_EX),
+        748 => Part::Rows("", &LIST_PEDIT_KEY_EX),
+        749 => Part::Names(&ENUM_PEDIT_HEADER_TYPE),
+        750 => Part::Names(&ENUM_PEDIT_CMD),
+        751 => Part::Rows("", &LIST_ACTION_ACTION_PEDIT),
         _ => Part::One(Form::Hex),
     }
 }
@@ -1236,7 +1237,7 @@ const LIST_POLICE: [Row<'static>; 11] = [
     Row {
         word: 1,
         name: "Tbf",
-        form: Form::Record(170),
+        form: Form::Record(758),
     },
     Row {
         word: 2,
@@ -1295,7 +1296,7 @@ const LIST_POLICE_IN_POLICE: [Row<'static>; 11] = [
     Row {
         word: 1,
         name: "Tbf",
-        form: Form::Record(170),
+        form: Form::Record(758),
     },
     Row {
         word: 2,
@@ -1373,11 +1374,11 @@ const STRUCT_TC_POLICE: [Field<'static>; 10] = [
     },
     Field {
         name: "rate",
-        form: Form::Record(828),
+        form: Form::Record(4200),
     },
     Field {
         name: "peakrate",
-        form: Form::Record(828),
+        form: Form::Record(4200),
     },
     Field {
         name: "refcnt",
@@ -1397,7 +1398,7 @@ const STRUCT_TC_POLICE: [Field<'static>; 10] = [
 const LIST_ACTION_ACTION_POLICE: [Row<'static>; 1] = [Row {
     word: 32770,
     name: "Options",
-    form: Form::List(169),
+    form: Form::List(757),
 }];
 
 #[tactic(auto, unfolding(crate::specs::Parts::Actions::parts_of_actions_police))]
@@ -1405,10 +1406,10 @@ pub(crate) fn parts_of_actions_police(place: usize) -> Part<'static>
     ensures { part_view result ≡ parts_of_actions_police place }
 {
     match place {
-        168 => Part::Rows("", &LIST_POLICE),
-        169 => Part::Rows("Police", &LIST_POLICE_IN_POLICE),
-        170 => Part::Fields(&STRUCT_TC_POLICE),
-        171 => Part::Rows("", &LIST_ACTION_ACTION_POLICE),
+        756 => Part::Rows("", &LIST_POLICE),
+        757 => Part::Rows("Police", &LIST_POLICE_IN_POLICE),
+        758 => Part::Fields(&STRUCT_TC_POLICE),
+        759 => Part::Rows("", &LIST_ACTION_ACTION_POLICE),
         _ => Part::One(Form::Hex),
     }
 }
@@ -1423,7 +1424,7 @@ const LIST_SAMPLE_IN_SAMPLE: [Row<'static>; 6] = [
     Row {
         word: 2,
         name: "Parms",
-        form: Form::Record(181),
+        form: Form::Record(769),
     },
     Row {
         word: 3,
@@ -1457,7 +1458,7 @@ const STRUCT_TC_SAMPLE: [Field<'static>; 1] = [Field {
 const LIST_ACTION_ACTION_SAMPLE: [Row<'static>; 1] = [Row {
     word: 32770,
     name: "Options",
-    form: Form::List(180),
+    form: Form::List(768),
 }];
 
 #[tactic(auto, unfolding(crate::specs::Parts::Actions::parts_of_actions_sample))]
@@ -1465,9 +1466,9 @@ pub(crate) fn parts_of_actions_sample(place: usize) -> Part<'static>
     ensures { part_view result ≡ parts_of_actions_sample place }
 {
     match place {
-        180 => Part::Rows("Sample", &LIST_SAMPLE_IN_SAMPLE),
-        181 => Part::Fields(&STRUCT_TC_SAMPLE),
-        182 => Part::Rows("", &LIST_ACTION_ACTION_SAMPLE),
+        768 => Part::Rows("Sample", &LIST_SAMPLE_IN_SAMPLE),
+        769 => Part::Fields(&STRUCT_TC_SAMPLE),
+        770 => Part::Rows("", &LIST_ACTION_ACTION_SAMPLE),
         _ => Part::One(Form::Hex),
     }
 }
@@ -1482,7 +1483,7 @@ const LIST_SIMPLE_IN_SIMPLE: [Row<'static>; 4] = [
     Row {
         word: 2,
         name: "Parms",
-        form: Form::Record(193),
+        form: Form::Record(781),
     },
     Row {
         word: 3,
@@ -1506,7 +1507,7 @@ const STRUCT_TC_DEFACT: [Field<'static>; 1] = [Field {
 const LIST_ACTION_ACTION_SIMPLE: [Row<'static>; 1] = [Row {
     word: 32770,
     name: "Options",
-    form: Form::List(192),
+    form: Form::List(780),
 }];
 
 #[tactic(auto, unfolding(crate::specs::Parts::Actions::parts_of_actions_simple))]
@@ -1514,9 +1515,9 @@ pub(crate) fn parts_of_actions_simple(place: usize) -> Part<'static>
     ensures { part_view result ≡ parts_of_actions_simple place }
 {
     match place {
-        192 => Part::Rows("Simple", &LIST_SIMPLE_IN_SIMPLE),
-        193 => Part::Fields(&STRUCT_TC_DEFACT),
-        194 => Part::Rows("", &LIST_ACTION_ACTION_SIMPLE),
+        780 => Part::Rows("Simple", &LIST_SIMPLE_IN_SIMPLE),
+        781 => Part::Fields(&STRUCT_TC_DEFACT),
+        782 => Part::Rows("", &LIST_ACTION_ACTION_SIMPLE),
         _ => Part::One(Form::Hex),
     }
 }
@@ -1531,7 +1532,7 @@ const LIST_SKBEDIT_IN_SKBEDIT: [Row<'static>; 10] = [
     Row {
         word: 2,
         name: "Parms",
-        form: Form::Record(205),
+        form: Form::Record(793),
     },
     Row {
         word: 3,
@@ -1585,7 +1586,7 @@ const STRUCT_TC_SKBEDIT: [Field<'static>; 1] = [Field {
 const LIST_ACTION_ACTION_SKBEDIT: [Row<'static>; 1] = [Row {
     word: 32770,
     name: "Options",
-    form: Form::List(204),
+    form: Form::List(792),
 }];
 
 #[tactic(auto, unfolding(crate::specs::Parts::Actions::parts_of_actions_skbedit))]
@@ -1593,9 +1594,9 @@ pub(crate) fn parts_of_actions_skbedit(place: usize) -> Part<'static>
     ensures { part_view result ≡ parts_of_actions_skbedit place }
 {
     match place {
-        204 => Part::Rows("Skbedit", &LIST_SKBEDIT_IN_SKBEDIT),
-        205 => Part::Fields(&STRUCT_TC_SKBEDIT),
-        206 => Part::Rows("", &LIST_ACTION_ACTION_SKBEDIT),
+        792 => Part::Rows("Skbedit", &LIST_SKBEDIT_IN_SKBEDIT),
+        793 => Part::Fields(&STRUCT_TC_SKBEDIT),
+        794 => Part::Rows("", &LIST_ACTION_ACTION_SKBEDIT),
         _ => Part::One(Form::Hex),
     }
 }
@@ -1610,7 +1611,7 @@ const LIST_SKBMOD_IN_SKBMOD: [Row<'static>; 6] = [
     Row {
         word: 2,
         name: "Parms",
-        form: Form::Record(217),
+        form: Form::Record(805),
     },
     Row {
         word: 3,
@@ -1654,7 +1655,7 @@ const STRUCT_TC_SKBMOD: [Field<'static>; 3] = [
 const LIST_ACTION_ACTION_SKBMOD: [Row<'static>; 1] = [Row {
     word: 32770,
     name: "Options",
-    form: Form::List(216),
+    form: Form::List(804),
 }];
 
 #[tactic(auto, unfolding(crate::specs::Parts::Actions::parts_of_actions_skbmod))]
@@ -1662,9 +1663,9 @@ pub(crate) fn parts_of_actions_skbmod(place: usize) -> Part<'static>
     ensures { part_view result ≡ parts_of_actions_skbmod place }
 {
     match place {
-        216 => Part::Rows("Skbmod", &LIST_SKBMOD_IN_SKBMOD),
-        217 => Part::Fields(&STRUCT_TC_SKBMOD),
-        218 => Part::Rows("", &LIST_ACTION_ACTION_SKBMOD),
+        804 => Part::Rows("Skbmod", &LIST_SKBMOD_IN_SKBMOD),
+        805 => Part::Fields(&STRUCT_TC_SKBMOD),
+        806 => Part::Rows("", &LIST_ACTION_ACTION_SKBMOD),
         _ => Part::One(Form::Hex),
     }
 }
@@ -1679,7 +1680,7 @@ const LIST_TUNNEL_KEY_IN_TUNNELKEY: [Row<'static>; 14] = [
     Row {
         word: 2,
         name: "Parms",
-        form: Form::Record(229),
+        form: Form::Record(817),
     },
     Row {
         word: 3,
@@ -1724,7 +1725,7 @@ const LIST_TUNNEL_KEY_IN_TUNNELKEY: [Row<'static>; 14] = [
     Row {
         word: 32779,
         name: "EncOpts",
-        form: Form::List(337),
+        form: Form::List(2449),
     },
     Row {
         word: 12,
@@ -1759,7 +1760,7 @@ const STRUCT_TC_TUNNEL_KEY: [Field<'static>; 2] = [
 const LIST_ACTION_ACTION_TUNNEL_KEY: [Row<'static>; 1] = [Row {
     word: 32770,
     name: "Options",
-    form: Form::List(228),
+    form: Form::List(816),
 }];
 
 #[tactic(auto, unfolding(crate::specs::Parts::Actions::parts_of_actions_tunnel_key))]
@@ -1767,9 +1768,9 @@ pub(crate) fn parts_of_actions_tunnel_key(place: usize) -> Part<'static>
     ensures { part_view result ≡ parts_of_actions_tunnel_key place }
 {
     match place {
-        228 => Part::Rows("TunnelKey", &LIST_TUNNEL_KEY_IN_TUNNELKEY),
-        229 => Part::Fields(&STRUCT_TC_TUNNEL_KEY),
-        230 => Part::Rows("", &LIST_ACTION_ACTION_TUNNEL_KEY),
+        816 => Part::Rows("TunnelKey", &LIST_TUNNEL_KEY_IN_TUNNELKEY),
+        817 => Part::Fields(&STRUCT_TC_TUNNEL_KEY),
+        818 => Part::Rows("", &LIST_ACTION_ACTION_TUNNEL_KEY),
         _ => Part::One(Form::Hex),
     }
 }
@@ -1784,7 +1785,7 @@ const LIST_VLAN_IN_VLAN: [Row<'static>; 8] = [
     Row {
         word: 2,
         name: "Parms",
-        form: Form::Record(241),
+        form: Form::Record(829),
     },
     Row {
         word: 3,
@@ -1826,7 +1827,7 @@ const STRUCT_TC_VLAN: [Field<'static>; 2] = [
     },
     Field {
         name: "v_action",
-        form: Form::Named(Number::I32, 242),
+        form: Form::Named(Number::I32, 830),
     },
 ];
 
@@ -1858,7 +1859,7 @@ const ENUM_TCA_VLAN_ACT: [Name<'static>; 5] = [
 const LIST_ACTION_ACTION_VLAN: [Row<'static>; 1] = [Row {
     word: 32770,
     name: "Options",
-    form: Form::List(240),
+    form: Form::List(828),
 }];
 
 #[tactic(auto, unfolding(crate::specs::Parts::Actions::parts_of_actions_vlan))]
@@ -1866,10 +1867,39 @@ pub(crate) fn parts_of_actions_vlan(place: usize) -> Part<'static>
     ensures { part_view result ≡ parts_of_actions_vlan place }
 {
     match place {
-        240 => Part::Rows("Vlan", &LIST_VLAN_IN_VLAN),
-        241 => Part::Fields(&STRUCT_TC_VLAN),
-        242 => Part::Names(&ENUM_TCA_VLAN_ACT),
-        243 => Part::Rows("", &LIST_ACTION_ACTION_VLAN),
+        828 => Part::Rows("Vlan", &LIST_VLAN_IN_VLAN),
+        829 => Part::Fields(&STRUCT_TC_VLAN),
+        830 => Part::Names(&ENUM_TCA_VLAN_ACT),
+        831 => Part::Rows("", &LIST_ACTION_ACTION_VLAN),
+        _ => Part::One(Form::Hex),
+    }
+}
+
+#[tactic(auto, unfolding(crate::specs::Parts::Actions::all_of_actions))]
+pub(crate) fn all_of_actions(place: usize) -> Part<'static>
+    ensures { part_view result ≡ all_of_actions place }
+{
+    match place / 12 {
+        50 => parts_of_actions_bpf(place),
+        51 => parts_of_actions_connmark(place),
+        52 => parts_of_actions_csum(place),
+        53 => parts_of_actions_ct(place),
+        54 => parts_of_actions_ctinfo(place),
+        55 => parts_of_actions_gact(place),
+        56 => parts_of_actions_gate(place),
+        57 => parts_of_actions_ife(place),
+        58 => parts_of_actions_ipt(place),
+        59 => parts_of_actions_mirred(place),
+        60 => parts_of_actions_mpls(place),
+        61 => parts_of_actions_nat(place),
+        62 => parts_of_actions_pedit(place),
+        63 => parts_of_actions_police(place),
+        64 => parts_of_actions_sample(place),
+        65 => parts_of_actions_simple(place),
+        66 => parts_of_actions_skbedit(place),
+        67 => parts_of_actions_skbmod(place),
+        68 => parts_of_actions_tunnel_key(place),
+        69 => parts_of_actions_vlan(place),
         _ => Part::One(Form::Hex),
     }
 }

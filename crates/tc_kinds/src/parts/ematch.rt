@@ -4,6 +4,7 @@ ghost use Rattle.std.specs.Prelude.{◌≡◌, map};
 ghost use Rattle.tc_forms.specs.Tables.{part_view};
 ghost use Rattle.tc_kinds.specs.Parts.Ematch.{parts_of_ematch};
 ghost use Rattle.tc_kinds.specs.Parts.Ematch.{parts_of_ematch_2};
+ghost use Rattle.tc_kinds.specs.Parts.Ematch.{all_of_ematch};
 
 use tc_forms::{Choice, Field, Form, Name, Number, Part, Row};
 
@@ -12,12 +13,12 @@ const LIST_EMATCH_TREE: [Row<'static>; 2] = [
     Row {
         word: 1,
         name: "Hdr",
-        form: Form::Record(265),
+        form: Form::Record(1801),
     },
     Row {
         word: 2,
         name: "List",
-        form: Form::Indexed(254),
+        form: Form::Indexed(1202),
     },
 ];
 
@@ -39,55 +40,55 @@ const CHOICE_EMATCH: [Choice<'static>; 9] = [
         name: "Container",
         prefix: &[0, 0, 0, 0],
         len: None,
-        form: Form::Record(267),
+        form: Form::Record(1803),
     },
     Choice {
         name: "Cmp",
         prefix: &[0, 0, 1, 0],
         len: None,
-        form: Form::Record(268),
+        form: Form::Record(1804),
     },
     Choice {
         name: "Nbyte",
         prefix: &[0, 0, 2, 0],
         len: None,
-        form: Form::Record(270),
+        form: Form::Record(1806),
     },
     Choice {
         name: "U32",
         prefix: &[0, 0, 3, 0],
         len: None,
-        form: Form::Record(272),
+        form: Form::Record(1808),
     },
     Choice {
         name: "Meta",
         prefix: &[0, 0, 4, 0],
         len: None,
-        form: Form::Record(273),
+        form: Form::Record(1809),
     },
     Choice {
         name: "Text",
         prefix: &[0, 0, 5, 0],
         len: None,
-        form: Form::Record(278),
+        form: Form::Record(1814),
     },
     Choice {
         name: "Canid",
         prefix: &[0, 0, 7, 0],
         len: None,
-        form: Form::Record(280),
+        form: Form::Record(1816),
     },
     Choice {
         name: "Ipset",
         prefix: &[0, 0, 8, 0],
         len: None,
-        form: Form::Record(282),
+        form: Form::Record(1818),
     },
     Choice {
         name: "Ipt",
         prefix: &[0, 0, 9, 0],
         len: None,
-        form: Form::Record(284),
+        form: Form::Record(1820),
     },
 ];
 
@@ -119,7 +120,7 @@ const STRUCT_EMATCH_CMP: [Field<'static>; 3] = [
     },
     Field {
         name: "match",
-        form: Form::Record(269),
+        form: Form::Record(1805),
     },
 ];
 
@@ -159,7 +160,7 @@ const STRUCT_EMATCH_NBYTE: [Field<'static>; 4] = [
     },
     Field {
         name: "match",
-        form: Form::Record(271),
+        form: Form::Record(1807),
     },
     Field {
         name: "needle",
@@ -191,7 +192,7 @@ const STRUCT_EMATCH_U32: [Field<'static>; 3] = [
     },
     Field {
         name: "match",
-        form: Form::Record(410),
+        form: Form::Record(2522),
     },
 ];
 
@@ -207,7 +208,7 @@ const STRUCT_EMATCH_META: [Field<'static>; 3] = [
     },
     Field {
         name: "attributes",
-        form: Form::List(274),
+        form: Form::List(1810),
     },
 ];
 
@@ -216,7 +217,7 @@ const LIST_EM_META: [Row<'static>; 3] = [
     Row {
         word: 1,
         name: "Hdr",
-        form: Form::Record(275),
+        form: Form::Record(1811),
     },
     Row {
         word: 2,
@@ -234,11 +235,11 @@ const LIST_EM_META: [Row<'static>; 3] = [
 const STRUCT_TCF_META_HDR: [Field<'static>; 2] = [
     Field {
         name: "left",
-        form: Form::Record(276),
+        form: Form::Record(1812),
     },
     Field {
         name: "right",
-        form: Form::Record(276),
+        form: Form::Record(1812),
     },
 ];
 
@@ -247,18 +248,18 @@ pub(crate) fn parts_of_ematch(place: usize) -> Part<'static>
     ensures { part_view result ≡ parts_of_ematch place }
 {
     match place {
-        264 => Part::Rows("", &LIST_EMATCH_TREE),
-        265 => Part::Fields(&STRUCT_TCF_EMATCH_TREE_HDR),
-        266 => Part::Choices(&CHOICE_EMATCH),
-        267 => Part::Fields(&STRUCT_EMATCH_CONTAINER),
-        268 => Part::Fields(&STRUCT_EMATCH_CMP),
-        269 => Part::Fields(&STRUCT_TCF_EM_CMP),
-        270 => Part::Fields(&STRUCT_EMATCH_NBYTE),
-        271 => Part::Fields(&STRUCT_TCF_EM_NBYTE),
-        272 => Part::Fields(&STRUCT_EMATCH_U32),
-        273 => Part::Fields(&STRUCT_EMATCH_META),
-        274 => Part::Rows("", &LIST_EM_META),
-        275 => Part::Fields(&STRUCT_TCF_META_HDR),
+        1800 => Part::Rows("", &LIST_EMATCH_TREE),
+        1801 => Part::Fields(&STRUCT_TCF_EMATCH_TREE_HDR),
+        1802 => Part::Choices(&CHOICE_EMATCH),
+        1803 => Part::Fields(&STRUCT_EMATCH_CONTAINER),
+        1804 => Part::Fields(&STRUCT_EMATCH_CMP),
+        1805 => Part::Fields(&STRUCT_TCF_EM_CMP),
+        1806 => Part::Fields(&STRUCT_EMATCH_NBYTE),
+        1807 => Part::Fields(&STRUCT_TCF_EM_NBYTE),
+        1808 => Part::Fields(&STRUCT_EMATCH_U32),
+        1809 => Part::Fields(&STRUCT_EMATCH_META),
+        1810 => Part::Rows("", &LIST_EM_META),
+        1811 => Part::Fields(&STRUCT_TCF_META_HDR),
         _ => Part::One(Form::Hex),
     }
 }
@@ -275,7 +276,7 @@ const STRUCT_TCF_META_VAL: [Field<'static>; 3] = [
     },
     Field {
         name: "op",
-        form: Form::Named(Number::U8, 277),
+        form: Form::Named(Number::U8, 1813),
     },
 ];
 
@@ -307,7 +308,7 @@ const STRUCT_EMATCH_TEXT: [Field<'static>; 4] = [
     },
     Field {
         name: "match",
-        form: Form::Record(279),
+        form: Form::Record(1815),
     },
     Field {
         name: "pattern",
@@ -355,7 +356,7 @@ const STRUCT_EMATCH_CANID: [Field<'static>; 3] = [
     },
     Field {
         name: "match",
-        form: Form::Array(281),
+        form: Form::Array(1817),
     },
 ];
 
@@ -383,7 +384,7 @@ const STRUCT_EMATCH_IPSET: [Field<'static>; 3] = [
     },
     Field {
         name: "match",
-        form: Form::Record(283),
+        form: Form::Record(1819),
     },
 ];
 
@@ -415,7 +416,7 @@ const STRUCT_EMATCH_IPT: [Field<'static>; 3] = [
     },
     Field {
         name: "attributes",
-        form: Form::List(285),
+        form: Form::List(1821),
     },
 ];
 
@@ -453,16 +454,27 @@ pub(crate) fn parts_of_ematch_2(place: usize) -> Part<'static>
     ensures { part_view result ≡ parts_of_ematch_2 place }
 {
     match place {
-        276 => Part::Fields(&STRUCT_TCF_META_VAL),
-        277 => Part::Names(&ENUM_TCF_EM_OPND),
-        278 => Part::Fields(&STRUCT_EMATCH_TEXT),
-        279 => Part::Fields(&STRUCT_TCF_EM_TEXT),
-        280 => Part::Fields(&STRUCT_EMATCH_CANID),
-        281 => Part::Fields(&STRUCT_CAN_FILTER),
-        282 => Part::Fields(&STRUCT_EMATCH_IPSET),
-        283 => Part::Fields(&STRUCT_XT_SET_INFO),
-        284 => Part::Fields(&STRUCT_EMATCH_IPT),
-        285 => Part::Rows("", &LIST_EM_IPT),
+        1812 => Part::Fields(&STRUCT_TCF_META_VAL),
+        1813 => Part::Names(&ENUM_TCF_EM_OPND),
+        1814 => Part::Fields(&STRUCT_EMATCH_TEXT),
+        1815 => Part::Fields(&STRUCT_TCF_EM_TEXT),
+        1816 => Part::Fields(&STRUCT_EMATCH_CANID),
+        1817 => Part::Fields(&STRUCT_CAN_FILTER),
+        1818 => Part::Fields(&STRUCT_EMATCH_IPSET),
+        1819 => Part::Fields(&STRUCT_XT_SET_INFO),
+        1820 => Part::Fields(&STRUCT_EMATCH_IPT),
+        1821 => Part::Rows("", &LIST_EM_IPT),
+        _ => Part::One(Form::Hex),
+    }
+}
+
+#[tactic(auto, unfolding(crate::specs::Parts::Ematch::all_of_ematch))]
+pub(crate) fn all_of_ematch(place: usize) -> Part<'static>
+    ensures { part_view result ≡ all_of_ematch place }
+{
+    match place / 12 {
+        150 => parts_of_ematch(place),
+        151 => parts_of_ematch_2(place),
         _ => Part::One(Form::Hex),
     }
 }

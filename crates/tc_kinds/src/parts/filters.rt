@@ -13,6 +13,7 @@ ghost use Rattle.tc_kinds.specs.Parts.Filters.{parts_of_filters_route};
 ghost use Rattle.tc_kinds.specs.Parts.Filters.{parts_of_filters_rsvp};
 ghost use Rattle.tc_kinds.specs.Parts.Filters.{parts_of_filters_tcindex};
 ghost use Rattle.tc_kinds.specs.Parts.Filters.{parts_of_filters_u32};
+ghost use Rattle.tc_kinds.specs.Parts.Filters.{all_of_filters};
 
 use tc_forms::{Field, Form, Name, Number, Part, Row};
 
@@ -26,22 +27,22 @@ const LIST_BASIC_IN_BASIC: [Row<'static>; 6] = [
     Row {
         word: 2,
         name: "Ematches",
-        form: Form::List(264),
+        form: Form::List(1800),
     },
     Row {
         word: 3,
         name: "Action",
-        form: Form::Indexed(255),
+        form: Form::Indexed(1203),
     },
     Row {
         word: 4,
         name: "Police",
-        form: Form::List(168),
+        form: Form::List(756),
     },
     Row {
         word: 5,
         name: "Pcnt",
-        form: Form::Record(289),
+        form: Form::Record(2401),
     },
     Row {
         word: 6,
@@ -67,12 +68,12 @@ const LIST_TC_FILTER_BASIC: [Row<'static>; 2] = [
     Row {
         word: 2,
         name: "Options",
-        form: Form::List(288),
+        form: Form::List(2400),
     },
     Row {
         word: 4,
         name: "Xstats",
-        form: Form::Choice(426),
+        form: Form::Choice(3006),
     },
 ];
 
@@ -81,9 +82,9 @@ pub(crate) fn parts_of_filters_basic(place: usize) -> Part<'static>
     ensures { part_view result ≡ parts_of_filters_basic place }
 {
     match place {
-        288 => Part::Rows("Basic", &LIST_BASIC_IN_BASIC),
-        289 => Part::Fields(&STRUCT_TC_BASIC_PCNT),
-        290 => Part::Rows("", &LIST_TC_FILTER_BASIC),
+        2400 => Part::Rows("Basic", &LIST_BASIC_IN_BASIC),
+        2401 => Part::Fields(&STRUCT_TC_BASIC_PCNT),
+        2402 => Part::Rows("", &LIST_TC_FILTER_BASIC),
         _ => Part::One(Form::Hex),
     }
 }
@@ -93,12 +94,12 @@ const LIST_BPF_IN_BPF: [Row<'static>; 11] = [
     Row {
         word: 1,
         name: "Act",
-        form: Form::Indexed(255),
+        form: Form::Indexed(1203),
     },
     Row {
         word: 2,
         name: "Police",
-        form: Form::List(168),
+        form: Form::List(756),
     },
     Row {
         word: 3,
@@ -113,7 +114,7 @@ const LIST_BPF_IN_BPF: [Row<'static>; 11] = [
     Row {
         word: 5,
         name: "Ops",
-        form: Form::Array(833),
+        form: Form::Array(4205),
     },
     Row {
         word: 6,
@@ -152,12 +153,12 @@ const LIST_TC_FILTER_BPF: [Row<'static>; 2] = [
     Row {
         word: 2,
         name: "Options",
-        form: Form::List(300),
+        form: Form::List(2412),
     },
     Row {
         word: 4,
         name: "Xstats",
-        form: Form::Choice(426),
+        form: Form::Choice(3006),
     },
 ];
 
@@ -166,8 +167,8 @@ pub(crate) fn parts_of_filters_bpf(place: usize) -> Part<'static>
     ensures { part_view result ≡ parts_of_filters_bpf place }
 {
     match place {
-        300 => Part::Rows("Bpf", &LIST_BPF_IN_BPF),
-        301 => Part::Rows("", &LIST_TC_FILTER_BPF),
+        2412 => Part::Rows("Bpf", &LIST_BPF_IN_BPF),
+        2413 => Part::Rows("", &LIST_TC_FILTER_BPF),
         _ => Part::One(Form::Hex),
     }
 }
@@ -177,17 +178,17 @@ const LIST_CGROUP_IN_CGROUP: [Row<'static>; 3] = [
     Row {
         word: 1,
         name: "Action",
-        form: Form::Indexed(255),
+        form: Form::Indexed(1203),
     },
     Row {
         word: 2,
         name: "Police",
-        form: Form::List(168),
+        form: Form::List(756),
     },
     Row {
         word: 3,
         name: "Ematches",
-        form: Form::List(264),
+        form: Form::List(1800),
     },
 ];
 
@@ -196,12 +197,12 @@ const LIST_TC_FILTER_CGROUP: [Row<'static>; 2] = [
     Row {
         word: 2,
         name: "Options",
-        form: Form::List(312),
+        form: Form::List(2424),
     },
     Row {
         word: 4,
         name: "Xstats",
-        form: Form::Choice(426),
+        form: Form::Choice(3006),
     },
 ];
 
@@ -210,8 +211,8 @@ pub(crate) fn parts_of_filters_cgroup(place: usize) -> Part<'static>
     ensures { part_view result ≡ parts_of_filters_cgroup place }
 {
     match place {
-        312 => Part::Rows("Cgroup", &LIST_CGROUP_IN_CGROUP),
-        313 => Part::Rows("", &LIST_TC_FILTER_CGROUP),
+        2424 => Part::Rows("Cgroup", &LIST_CGROUP_IN_CGROUP),
+        2425 => Part::Rows("", &LIST_TC_FILTER_CGROUP),
         _ => Part::One(Form::Hex),
     }
 }
@@ -226,7 +227,7 @@ const LIST_FLOW_IN_FLOW: [Row<'static>; 12] = [
     Row {
         word: 2,
         name: "Mode",
-        form: Form::Named(Number::U32, 325),
+        form: Form::Named(Number::U32, 2437),
     },
     Row {
         word: 3,
@@ -261,17 +262,17 @@ const LIST_FLOW_IN_FLOW: [Row<'static>; 12] = [
     Row {
         word: 9,
         name: "Action",
-        form: Form::Indexed(255),
+        form: Form::Indexed(1203),
     },
     Row {
         word: 10,
         name: "Police",
-        form: Form::List(168),
+        form: Form::List(756),
     },
     Row {
         word: 11,
         name: "Ematches",
-        form: Form::List(264),
+        form: Form::List(1800),
     },
     Row {
         word: 12,
@@ -297,12 +298,12 @@ const LIST_TC_FILTER_FLOW: [Row<'static>; 2] = [
     Row {
         word: 2,
         name: "Options",
-        form: Form::List(324),
+        form: Form::List(2436),
     },
     Row {
         word: 4,
         name: "Xstats",
-        form: Form::Choice(426),
+        form: Form::Choice(3006),
     },
 ];
 
@@ -311,9 +312,9 @@ pub(crate) fn parts_of_filters_flow(place: usize) -> Part<'static>
     ensures { part_view result ≡ parts_of_filters_flow place }
 {
     match place {
-        324 => Part::Rows("Flow", &LIST_FLOW_IN_FLOW),
-        325 => Part::Names(&ENUM_FLOW_MODE),
-        326 => Part::Rows("", &LIST_TC_FILTER_FLOW),
+        2436 => Part::Rows("Flow", &LIST_FLOW_IN_FLOW),
+        2437 => Part::Names(&ENUM_FLOW_MODE),
+        2438 => Part::Rows("", &LIST_TC_FILTER_FLOW),
         _ => Part::One(Form::Hex),
     }
 }
@@ -333,7 +334,7 @@ const LIST_FLOWER_IN_FLOWER: [Row<'static>; 111] = [
     Row {
         word: 3,
         name: "Actions",
-        form: Form::Indexed(255),
+        form: Form::Indexed(1203),
     },
     Row {
         word: 4,
@@ -738,12 +739,12 @@ const LIST_FLOWER_IN_FLOWER: [Row<'static>; 111] = [
     Row {
         word: 32852,
         name: "EncOpts",
-        form: Form::List(337),
+        form: Form::List(2449),
     },
     Row {
         word: 32853,
         name: "EncOptsMask",
-        form: Form::List(337),
+        form: Form::List(2449),
     },
     Row {
         word: 86,
@@ -813,7 +814,7 @@ const LIST_FLOWER_IN_FLOWER: [Row<'static>; 111] = [
     Row {
         word: 32867,
         name: "MplsOpts",
-        form: Form::List(344),
+        form: Form::List(2456),
     },
     Row {
         word: 100,
@@ -853,7 +854,7 @@ const LIST_FLOWER_IN_FLOWER: [Row<'static>; 111] = [
     Row {
         word: 32875,
         name: "Cfm",
-        form: Form::List(343),
+        form: Form::List(2455),
     },
     Row {
         word: 108,
@@ -882,27 +883,27 @@ const LIST_ENC_OPTS: [Row<'static>; 5] = [
     Row {
         word: 32769,
         name: "Geneve",
-        form: Form::List(338),
+        form: Form::List(2450),
     },
     Row {
         word: 32770,
         name: "Vxlan",
-        form: Form::List(339),
+        form: Form::List(2451),
     },
     Row {
         word: 32771,
         name: "Erspan",
-        form: Form::List(340),
+        form: Form::List(2452),
     },
     Row {
         word: 32772,
         name: "Gtp",
-        form: Form::List(341),
+        form: Form::List(2453),
     },
     Row {
         word: 32773,
         name: "Pfcp",
-        form: Form::List(342),
+        form: Form::List(2454),
     },
 ];
 
@@ -1002,7 +1003,7 @@ const LIST_CFM: [Row<'static>; 2] = [
 const LIST_MPLS_OPTS: [Row<'static>; 1] = [Row {
     word: 32769,
     name: "Lse",
-    form: Form::List(345),
+    form: Form::List(2457),
 }];
 
 // `list mpls_lse`
@@ -1039,12 +1040,12 @@ const LIST_TC_FILTER_FLOWER: [Row<'static>; 2] = [
     Row {
         word: 2,
         name: "Options",
-        form: Form::List(336),
+        form: Form::List(2448),
     },
     Row {
         word: 4,
         name: "Xstats",
-        form: Form::Choice(426),
+        form: Form::Choice(3006),
     },
 ];
 
@@ -1053,17 +1054,17 @@ pub(crate) fn parts_of_filters_flower(place: usize) -> Part<'static>
     ensures { part_view result ≡ parts_of_filters_flower place }
 {
     match place {
-        336 => Part::Rows("Flower", &LIST_FLOWER_IN_FLOWER),
-        337 => Part::Rows("", &LIST_ENC_OPTS),
-        338 => Part::Rows("", &LIST_ENC_OPT_GENEVE),
-        339 => Part::Rows("", &LIST_ENC_OPT_VXLAN),
-        340 => Part::Rows("", &LIST_ENC_OPT_ERSPAN),
-        341 => Part::Rows("", &LIST_ENC_OPT_GTP),
-        342 => Part::Rows("", &LIST_ENC_OPT_PFCP),
-        343 => Part::Rows("", &LIST_CFM),
-        344 => Part::Rows("", &LIST_MPLS_OPTS),
-        345 => Part::Rows("", &LIST_MPLS_LSE),
-        346 => Part::Rows("", &LIST_TC_FILTER_FLOWER),
+        2448 => Part::Rows("Flower", &LIST_FLOWER_IN_FLOWER),
+        2449 => Part::Rows("", &LIST_ENC_OPTS),
+        2450 => Part::Rows("", &LIST_ENC_OPT_GENEVE),
+        2451 => Part::Rows("", &LIST_ENC_OPT_VXLAN),
+        2452 => Part::Rows("", &LIST_ENC_OPT_ERSPAN),
+        2453 => Part::Rows("", &LIST_ENC_OPT_GTP),
+        2454 => Part::Rows("", &LIST_ENC_OPT_PFCP),
+        2455 => Part::Rows("", &LIST_CFM),
+        2456 => Part::Rows("", &LIST_MPLS_OPTS),
+        2457 => Part::Rows("", &LIST_MPLS_LSE),
+        2458 => Part::Rows("", &LIST_TC_FILTER_FLOWER),
         _ => Part::One(Form::Hex),
     }
 }
@@ -1078,7 +1079,7 @@ const LIST_FW_IN_FW: [Row<'static>; 5] = [
     Row {
         word: 2,
         name: "Police",
-        form: Form::List(168),
+        form: Form::List(756),
     },
     Row {
         word: 3,
@@ -1088,7 +1089,7 @@ const LIST_FW_IN_FW: [Row<'static>; 5] = [
     Row {
         word: 4,
         name: "Action",
-        form: Form::Indexed(255),
+        form: Form::Indexed(1203),
     },
     Row {
         word: 5,
@@ -1102,12 +1103,12 @@ const LIST_TC_FILTER_FW: [Row<'static>; 2] = [
     Row {
         word: 2,
         name: "Options",
-        form: Form::List(348),
+        form: Form::List(2460),
     },
     Row {
         word: 4,
         name: "Xstats",
-        form: Form::Choice(426),
+        form: Form::Choice(3006),
     },
 ];
 
@@ -1116,8 +1117,8 @@ pub(crate) fn parts_of_filters_fw(place: usize) -> Part<'static>
     ensures { part_view result ≡ parts_of_filters_fw place }
 {
     match place {
-        348 => Part::Rows("Fw", &LIST_FW_IN_FW),
-        349 => Part::Rows("", &LIST_TC_FILTER_FW),
+        2460 => Part::Rows("Fw", &LIST_FW_IN_FW),
+        2461 => Part::Rows("", &LIST_TC_FILTER_FW),
         _ => Part::One(Form::Hex),
     }
 }
@@ -1132,7 +1133,7 @@ const LIST_MATCHALL_IN_MATCHALL: [Row<'static>; 5] = [
     Row {
         word: 2,
         name: "Action",
-        form: Form::Indexed(255),
+        form: Form::Indexed(1203),
     },
     Row {
         word: 3,
@@ -1142,7 +1143,7 @@ const LIST_MATCHALL_IN_MATCHALL: [Row<'static>; 5] = [
     Row {
         word: 4,
         name: "Pnct",
-        form: Form::Record(361),
+        form: Form::Record(2473),
     },
     Row {
         word: 5,
@@ -1162,12 +1163,12 @@ const LIST_TC_FILTER_MATCHALL: [Row<'static>; 2] = [
     Row {
         word: 2,
         name: "Options",
-        form: Form::List(360),
+        form: Form::List(2472),
     },
     Row {
         word: 4,
         name: "Xstats",
-        form: Form::Choice(426),
+        form: Form::Choice(3006),
     },
 ];
 
@@ -1176,9 +1177,9 @@ pub(crate) fn parts_of_filters_matchall(place: usize) -> Part<'static>
     ensures { part_view result ≡ parts_of_filters_matchall place }
 {
     match place {
-        360 => Part::Rows("MatchAll", &LIST_MATCHALL_IN_MATCHALL),
-        361 => Part::Fields(&STRUCT_TC_MATCHALL_PCNT),
-        362 => Part::Rows("", &LIST_TC_FILTER_MATCHALL),
+        2472 => Part::Rows("MatchAll", &LIST_MATCHALL_IN_MATCHALL),
+        2473 => Part::Fields(&STRUCT_TC_MATCHALL_PCNT),
+        2474 => Part::Rows("", &LIST_TC_FILTER_MATCHALL),
         _ => Part::One(Form::Hex),
     }
 }
@@ -1208,12 +1209,12 @@ const LIST_ROUTE_IN_ROUTE: [Row<'static>; 6] = [
     Row {
         word: 5,
         name: "Police",
-        form: Form::List(168),
+        form: Form::List(756),
     },
     Row {
         word: 6,
         name: "Action",
-        form: Form::Indexed(255),
+        form: Form::Indexed(1203),
     },
 ];
 
@@ -1222,12 +1223,12 @@ const LIST_TC_FILTER_ROUTE: [Row<'static>; 2] = [
     Row {
         word: 2,
         name: "Options",
-        form: Form::List(372),
+        form: Form::List(2484),
     },
     Row {
         word: 4,
         name: "Xstats",
-        form: Form::Choice(426),
+        form: Form::Choice(3006),
     },
 ];
 
@@ -1236,8 +1237,8 @@ pub(crate) fn parts_of_filters_route(place: usize) -> Part<'static>
     ensures { part_view result ≡ parts_of_filters_route place }
 {
     match place {
-        372 => Part::Rows("Route", &LIST_ROUTE_IN_ROUTE),
-        373 => Part::Rows("", &LIST_TC_FILTER_ROUTE),
+        2484 => Part::Rows("Route", &LIST_ROUTE_IN_ROUTE),
+        2485 => Part::Rows("", &LIST_TC_FILTER_ROUTE),
         _ => Part::One(Form::Hex),
     }
 }
@@ -1262,17 +1263,17 @@ const LIST_RSVP_IN_RSVP: [Row<'static>; 6] = [
     Row {
         word: 4,
         name: "Pinfo",
-        form: Form::Record(386),
+        form: Form::Record(2498),
     },
     Row {
         word: 5,
         name: "Police",
-        form: Form::List(168),
+        form: Form::List(756),
     },
     Row {
         word: 6,
         name: "Action",
-        form: Form::Indexed(255),
+        form: Form::Indexed(1203),
     },
 ];
 
@@ -1296,17 +1297,17 @@ const LIST_RSVP6_IN_RSVP6: [Row<'static>; 6] = [
     Row {
         word: 4,
         name: "Pinfo",
-        form: Form::Record(386),
+        form: Form::Record(2498),
     },
     Row {
         word: 5,
         name: "Police",
-        form: Form::List(168),
+        form: Form::List(756),
     },
     Row {
         word: 6,
         name: "Action",
-        form: Form::Indexed(255),
+        form: Form::Indexed(1203),
     },
 ];
 
@@ -1314,11 +1315,11 @@ const LIST_RSVP6_IN_RSVP6: [Row<'static>; 6] = [
 const STRUCT_TC_RSVP_PINFO: [Field<'static>; 6] = [
     Field {
         name: "dpi",
-        form: Form::Record(387),
+        form: Form::Record(2499),
     },
     Field {
         name: "spi",
-        form: Form::Record(387),
+        form: Form::Record(2499),
     },
     Field {
         name: "protocol",
@@ -1359,12 +1360,12 @@ const LIST_TC_FILTER_RSVP: [Row<'static>; 2] = [
     Row {
         word: 2,
         name: "Options",
-        form: Form::List(384),
+        form: Form::List(2496),
     },
     Row {
         word: 4,
         name: "Xstats",
-        form: Form::Choice(426),
+        form: Form::Choice(3006),
     },
 ];
 
@@ -1373,12 +1374,12 @@ const LIST_TC_FILTER_RSVP6: [Row<'static>; 2] = [
     Row {
         word: 2,
         name: "Options",
-        form: Form::List(385),
+        form: Form::List(2497),
     },
     Row {
         word: 4,
         name: "Xstats",
-        form: Form::Choice(426),
+        form: Form::Choice(3006),
     },
 ];
 
@@ -1387,12 +1388,12 @@ pub(crate) fn parts_of_filters_rsvp(place: usize) -> Part<'static>
     ensures { part_view result ≡ parts_of_filters_rsvp place }
 {
     match place {
-        384 => Part::Rows("Rsvp", &LIST_RSVP_IN_RSVP),
-        385 => Part::Rows("Rsvp6", &LIST_RSVP6_IN_RSVP6),
-        386 => Part::Fields(&STRUCT_TC_RSVP_PINFO),
-        387 => Part::Fields(&STRUCT_TC_RSVP_GPI),
-        388 => Part::Rows("", &LIST_TC_FILTER_RSVP),
-        389 => Part::Rows("", &LIST_TC_FILTER_RSVP6),
+        2496 => Part::Rows("Rsvp", &LIST_RSVP_IN_RSVP),
+        2497 => Part::Rows("Rsvp6", &LIST_RSVP6_IN_RSVP6),
+        2498 => Part::Fields(&STRUCT_TC_RSVP_PINFO),
+        2499 => Part::Fields(&STRUCT_TC_RSVP_GPI),
+        2500 => Part::Rows("", &LIST_TC_FILTER_RSVP),
+        2501 => Part::Rows("", &LIST_TC_FILTER_RSVP6),
         _ => Part::One(Form::Hex),
     }
 }
@@ -1427,12 +1428,12 @@ const LIST_TCINDEX_IN_TCINDEX: [Row<'static>; 7] = [
     Row {
         word: 6,
         name: "Police",
-        form: Form::List(168),
+        form: Form::List(756),
     },
     Row {
         word: 7,
         name: "Action",
-        form: Form::Indexed(255),
+        form: Form::Indexed(1203),
     },
 ];
 
@@ -1441,12 +1442,12 @@ const LIST_TC_FILTER_TCINDEX: [Row<'static>; 2] = [
     Row {
         word: 2,
         name: "Options",
-        form: Form::List(396),
+        form: Form::List(2508),
     },
     Row {
         word: 4,
         name: "Xstats",
-        form: Form::Choice(426),
+        form: Form::Choice(3006),
     },
 ];
 
@@ -1455,8 +1456,8 @@ pub(crate) fn parts_of_filters_tcindex(place: usize) -> Part<'static>
     ensures { part_view result ≡ parts_of_filters_tcindex place }
 {
     match place {
-        396 => Part::Rows("Tcindex", &LIST_TCINDEX_IN_TCINDEX),
-        397 => Part::Rows("", &LIST_TC_FILTER_TCINDEX),
+        2508 => Part::Rows("Tcindex", &LIST_TCINDEX_IN_TCINDEX),
+        2509 => Part::Rows("", &LIST_TC_FILTER_TCINDEX),
         _ => Part::One(Form::Hex),
     }
 }
@@ -1486,17 +1487,17 @@ const LIST_U32_IN_U32: [Row<'static>; 12] = [
     Row {
         word: 5,
         name: "Selector",
-        form: Form::Record(409),
+        form: Form::Record(2521),
     },
     Row {
         word: 6,
         name: "Police",
-        form: Form::List(168),
+        form: Form::List(756),
     },
     Row {
         word: 7,
         name: "Action",
-        form: Form::Indexed(255),
+        form: Form::Indexed(1203),
     },
     Row {
         word: 8,
@@ -1506,12 +1507,12 @@ const LIST_U32_IN_U32: [Row<'static>; 12] = [
     Row {
         word: 9,
         name: "Pnct",
-        form: Form::Record(411),
+        form: Form::Record(2523),
     },
     Row {
         word: 10,
         name: "Mark",
-        form: Form::Record(412),
+        form: Form::Record(2524),
     },
     Row {
         word: 11,
@@ -1565,7 +1566,7 @@ const STRUCT_TC_U32_SEL: [Field<'static>; 10] = [
     },
     Field {
         name: "keys",
-        form: Form::Array(410),
+        form: Form::Array(2522),
     },
 ];
 
@@ -1601,7 +1602,7 @@ const STRUCT_TC_U32_PCNT: [Field<'static>; 3] = [
     },
     Field {
         name: "kcnts",
-        form: Form::Array(256),
+        form: Form::Array(1204),
     },
 ];
 
@@ -1626,12 +1627,12 @@ const LIST_TC_FILTER_U32: [Row<'static>; 2] = [
     Row {
         word: 2,
         name: "Options",
-        form: Form::List(408),
+        form: Form::List(2520),
     },
     Row {
         word: 4,
         name: "Xstats",
-        form: Form::Choice(426),
+        form: Form::Choice(3006),
     },
 ];
 
@@ -1640,12 +1641,32 @@ pub(crate) fn parts_of_filters_u32(place: usize) -> Part<'static>
     ensures { part_view result ≡ parts_of_filters_u32 place }
 {
     match place {
-        408 => Part::Rows("U32", &LIST_U32_IN_U32),
-        409 => Part::Fields(&STRUCT_TC_U32_SEL),
-        410 => Part::Fields(&STRUCT_TC_U32_KEY),
-        411 => Part::Fields(&STRUCT_TC_U32_PCNT),
-        412 => Part::Fields(&STRUCT_TC_U32_MARK),
-        413 => Part::Rows("", &LIST_TC_FILTER_U32),
+        2520 => Part::Rows("U32", &LIST_U32_IN_U32),
+        2521 => Part::Fields(&STRUCT_TC_U32_SEL),
+        2522 => Part::Fields(&STRUCT_TC_U32_KEY),
+        2523 => Part::Fields(&STRUCT_TC_U32_PCNT),
+        2524 => Part::Fields(&STRUCT_TC_U32_MARK),
+        2525 => Part::Rows("", &LIST_TC_FILTER_U32),
+        _ => Part::One(Form::Hex),
+    }
+}
+
+#[tactic(auto, unfolding(crate::specs::Parts::Filters::all_of_filters))]
+pub(crate) fn all_of_filters(place: usize) -> Part<'static>
+    ensures { part_view result ≡ all_of_filters place }
+{
+    match place / 12 {
+        200 => parts_of_filters_basic(place),
+        201 => parts_of_filters_bpf(place),
+        202 => parts_of_filters_cgroup(place),
+        203 => parts_of_filters_flow(place),
+        204 => parts_of_filters_flower(place),
+        205 => parts_of_filters_fw(place),
+        206 => parts_of_filters_matchall(place),
+        207 => parts_of_filters_route(place),
+        208 => parts_of_filters_rsvp(place),
+        209 => parts_of_filters_tcindex(place),
+        210 => parts_of_filters_u32(place),
         _ => Part::One(Form::Hex),
     }
 }

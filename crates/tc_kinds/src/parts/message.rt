@@ -3,6 +3,7 @@
 ghost use Rattle.std.specs.Prelude.{◌≡◌, map};
 ghost use Rattle.tc_forms.specs.Tables.{part_view};
 ghost use Rattle.tc_kinds.specs.Parts.Message.{parts_of_message};
+ghost use Rattle.tc_kinds.specs.Parts.Message.{all_of_message};
 
 use tc_forms::{Field, Form, KindRows, Name, Number, Part, Row};
 
@@ -10,11 +11,11 @@ use tc_forms::{Field, Form, KindRows, Name, Number, Part, Row};
 const STRUCT_TC_MESSAGE: [Field<'static>; 2] = [
     Field {
         name: "header",
-        form: Form::Record(421),
+        form: Form::Record(3001),
     },
     Field {
         name: "attributes",
-        form: Form::InForce(423),
+        form: Form::InForce(3003),
     },
 ];
 
@@ -22,7 +23,7 @@ const STRUCT_TC_MESSAGE: [Field<'static>; 2] = [
 const STRUCT_TCMSG: [Field<'static>; 6] = [
     Field {
         name: "family",
-        form: Form::Named(Number::U8, 422),
+        form: Form::Named(Number::U8, 3002),
     },
     Field {
         name: "padding",
@@ -86,219 +87,219 @@ const ENUM_ADDRESS_FAMILY: [Name<'static>; 8] = [
 const LIST_TC: [KindRows<'static>; 54] = [
     KindRows {
         kind: "basic",
-        rows: 290,
+        rows: 2402,
     },
     KindRows {
         kind: "bpf",
-        rows: 301,
+        rows: 2413,
     },
     KindRows {
         kind: "cgroup",
-        rows: 313,
+        rows: 2425,
     },
     KindRows {
         kind: "flow",
-        rows: 326,
+        rows: 2438,
     },
     KindRows {
         kind: "flower",
-        rows: 346,
+        rows: 2458,
     },
     KindRows {
         kind: "fw",
-        rows: 349,
+        rows: 2461,
     },
     KindRows {
         kind: "matchall",
-        rows: 362,
+        rows: 2474,
     },
     KindRows {
         kind: "route",
-        rows: 373,
+        rows: 2485,
     },
     KindRows {
         kind: "rsvp",
-        rows: 388,
+        rows: 2500,
     },
     KindRows {
         kind: "rsvp6",
-        rows: 389,
+        rows: 2501,
     },
     KindRows {
         kind: "tcindex",
-        rows: 397,
+        rows: 2509,
     },
     KindRows {
         kind: "u32",
-        rows: 413,
+        rows: 2525,
     },
     KindRows {
         kind: "atm",
-        rows: 433,
+        rows: 3601,
     },
     KindRows {
         kind: "cake",
-        rows: 452,
+        rows: 3620,
     },
     KindRows {
         kind: "cbq",
-        rows: 464,
+        rows: 3632,
     },
     KindRows {
         kind: "cbs",
-        rows: 470,
+        rows: 3638,
     },
     KindRows {
         kind: "choke",
-        rows: 483,
+        rows: 3651,
     },
     KindRows {
         kind: "codel",
-        rows: 495,
+        rows: 3663,
     },
     KindRows {
         kind: "drr",
-        rows: 507,
+        rows: 3675,
     },
     KindRows {
         kind: "dsmark",
-        rows: 517,
+        rows: 3685,
     },
     KindRows {
         kind: "etf",
-        rows: 530,
+        rows: 3698,
     },
     KindRows {
         kind: "ets",
-        rows: 543,
+        rows: 3711,
     },
     KindRows {
         kind: "pfifo",
-        rows: 553,
+        rows: 3721,
     },
     KindRows {
         kind: "pfifo_head_drop",
-        rows: 553,
+        rows: 3721,
     },
     KindRows {
         kind: "bfifo",
-        rows: 553,
+        rows: 3721,
     },
     KindRows {
         kind: "fq",
-        rows: 568,
+        rows: 3736,
     },
     KindRows {
         kind: "fq_codel",
-        rows: 581,
+        rows: 3749,
     },
     KindRows {
         kind: "fq_pie",
-        rows: 591,
+        rows: 3759,
     },
     KindRows {
         kind: "gred",
-        rows: 605,
+        rows: 3773,
     },
     KindRows {
         kind: "hfsc",
-        rows: 618,
+        rows: 3786,
     },
     KindRows {
         kind: "hhf",
-        rows: 627,
+        rows: 3795,
     },
     KindRows {
         kind: "htb",
-        rows: 641,
+        rows: 3809,
     },
     KindRows {
         kind: "ingress",
-        rows: 649,
+        rows: 3817,
     },
     KindRows {
         kind: "mqprio",
-        rows: 668,
+        rows: 3836,
     },
     KindRows {
         kind: "multiq",
-        rows: 673,
+        rows: 3841,
     },
     KindRows {
         kind: "netem",
-        rows: 694,
+        rows: 3862,
     },
     KindRows {
         kind: "noop",
-        rows: 698,
+        rows: 3866,
     },
     KindRows {
         kind: "noqueue",
-        rows: 698,
+        rows: 3866,
     },
     KindRows {
         kind: "blackhole",
-        rows: 698,
+        rows: 3866,
     },
     KindRows {
         kind: "mq",
-        rows: 698,
+        rows: 3866,
     },
     KindRows {
         kind: "teql0",
-        rows: 698,
+        rows: 3866,
     },
     KindRows {
         kind: "clsact",
-        rows: 699,
+        rows: 3867,
     },
     KindRows {
         kind: "pie",
-        rows: 711,
+        rows: 3879,
     },
     KindRows {
         kind: "plug",
-        rows: 722,
+        rows: 3890,
     },
     KindRows {
         kind: "prio",
-        rows: 735,
+        rows: 3903,
     },
     KindRows {
         kind: "rr",
-        rows: 735,
+        rows: 3903,
     },
     KindRows {
         kind: "pfifo_fast",
-        rows: 736,
+        rows: 3904,
     },
     KindRows {
         kind: "qfq",
-        rows: 747,
+        rows: 3915,
     },
     KindRows {
         kind: "red",
-        rows: 761,
+        rows: 3929,
     },
     KindRows {
         kind: "sfb",
-        rows: 772,
+        rows: 3940,
     },
     KindRows {
         kind: "sfq",
-        rows: 786,
+        rows: 3954,
     },
     KindRows {
         kind: "skbprio",
-        rows: 793,
+        rows: 3961,
     },
     KindRows {
         kind: "taprio",
-        rows: 812,
+        rows: 3980,
     },
     KindRows {
         kind: "tbf",
-        rows: 818,
+        rows: 3986,
     },
 ];
 
@@ -307,12 +308,12 @@ const LIST_TC_OF_ALL: [Row<'static>; 13] = [
     Row {
         word: 3,
         name: "Stats",
-        form: Form::Record(840),
+        form: Form::Record(4800),
     },
     Row {
         word: 5,
         name: "Rate",
-        form: Form::Record(832),
+        form: Form::Record(4204),
     },
     Row {
         word: 6,
@@ -322,12 +323,12 @@ const LIST_TC_OF_ALL: [Row<'static>; 13] = [
     Row {
         word: 7,
         name: "Stats2",
-        form: Form::List(841),
+        form: Form::List(4801),
     },
     Row {
         word: 8,
         name: "Stab",
-        form: Form::List(830),
+        form: Form::List(4202),
     },
     Row {
         word: 9,
@@ -362,7 +363,7 @@ const LIST_TC_OF_ALL: [Row<'static>; 13] = [
     Row {
         word: 15,
         name: "DumpFlags",
-        form: Form::Record(427),
+        form: Form::Record(3007),
     },
     Row {
         word: 16,
@@ -381,7 +382,7 @@ const LIST_TC_OF_OTHERS: [Row<'static>; 2] = [
     Row {
         word: 4,
         name: "Xstats",
-        form: Form::Choice(426),
+        form: Form::Choice(3006),
     },
 ];
 
@@ -401,11 +402,11 @@ const STRUCT_TCA_DUMP_FLAGS: [Field<'static>; 2] = [
 const STRUCT_ACTION_MESSAGE: [Field<'static>; 2] = [
     Field {
         name: "header",
-        form: Form::Record(429),
+        form: Form::Record(3009),
     },
     Field {
         name: "attributes",
-        form: Form::List(430),
+        form: Form::List(3010),
     },
 ];
 
@@ -413,7 +414,7 @@ const STRUCT_ACTION_MESSAGE: [Field<'static>; 2] = [
 const STRUCT_TCAMSG: [Field<'static>; 2] = [
     Field {
         name: "family",
-        form: Form::Named(Number::U8, 422),
+        form: Form::Named(Number::U8, 3002),
     },
     Field {
         name: "padding",
@@ -426,12 +427,12 @@ const LIST_ACTION_MESSAGE: [Row<'static>; 5] = [
     Row {
         word: 1,
         name: "Actions",
-        form: Form::Indexed(255),
+        form: Form::Indexed(1203),
     },
     Row {
         word: 2,
         name: "Flags",
-        form: Form::Record(431),
+        form: Form::Record(3011),
     },
     Row {
         word: 3,
@@ -467,18 +468,28 @@ pub(crate) fn parts_of_message(place: usize) -> Part<'static>
     ensures { part_view result ≡ parts_of_message place }
 {
     match place {
-        420 => Part::Fields(&STRUCT_TC_MESSAGE),
-        421 => Part::Fields(&STRUCT_TCMSG),
-        422 => Part::Names(&ENUM_ADDRESS_FAMILY),
-        423 => Part::Kinds(424, 425, &LIST_TC),
-        424 => Part::Rows("", &LIST_TC_OF_ALL),
-        425 => Part::Rows("", &LIST_TC_OF_OTHERS),
-        426 => Part::Choices(&[]),
-        427 => Part::Fields(&STRUCT_TCA_DUMP_FLAGS),
-        428 => Part::Fields(&STRUCT_ACTION_MESSAGE),
-        429 => Part::Fields(&STRUCT_TCAMSG),
-        430 => Part::Rows("", &LIST_ACTION_MESSAGE),
-        431 => Part::Fields(&STRUCT_TCA_ROOT_FLAGS),
+        3000 => Part::Fields(&STRUCT_TC_MESSAGE),
+        3001 => Part::Fields(&STRUCT_TCMSG),
+        3002 => Part::Names(&ENUM_ADDRESS_FAMILY),
+        3003 => Part::Kinds(3004, 3005, &LIST_TC),
+        3004 => Part::Rows("", &LIST_TC_OF_ALL),
+        3005 => Part::Rows("", &LIST_TC_OF_OTHERS),
+        3006 => Part::Choices(&[]),
+        3007 => Part::Fields(&STRUCT_TCA_DUMP_FLAGS),
+        3008 => Part::Fields(&STRUCT_ACTION_MESSAGE),
+        3009 => Part::Fields(&STRUCT_TCAMSG),
+        3010 => Part::Rows("", &LIST_ACTION_MESSAGE),
+        3011 => Part::Fields(&STRUCT_TCA_ROOT_FLAGS),
+        _ => Part::One(Form::Hex),
+    }
+}
+
+#[tactic(auto, unfolding(crate::specs::Parts::Message::all_of_message))]
+pub(crate) fn all_of_message(place: usize) -> Part<'static>
+    ensures { part_view result ≡ all_of_message place }
+{
+    match place / 12 {
+        250 => parts_of_message(place),
         _ => Part::One(Form::Hex),
     }
 }

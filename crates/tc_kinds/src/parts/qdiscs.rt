@@ -35,6 +35,7 @@ ghost use Rattle.tc_kinds.specs.Parts.Qdiscs.{parts_of_qdiscs_sfq};
 ghost use Rattle.tc_kinds.specs.Parts.Qdiscs.{parts_of_qdiscs_skbprio};
 ghost use Rattle.tc_kinds.specs.Parts.Qdiscs.{parts_of_qdiscs_taprio};
 ghost use Rattle.tc_kinds.specs.Parts.Qdiscs.{parts_of_qdiscs_tbf};
+ghost use Rattle.tc_kinds.specs.Parts.Qdiscs.{all_of_qdiscs};
 
 use tc_forms::{Choice, Field, Form, Name, Number, Part, Row};
 
@@ -53,7 +54,7 @@ const LIST_ATM_IN_ATM: [Row<'static>; 6] = [
     Row {
         word: 3,
         name: "Hdr",
-        form: Form::Array(257),
+        form: Form::Array(1205),
     },
     Row {
         word: 4,
@@ -77,12 +78,12 @@ const LIST_TC_QDISC_ATM: [Row<'static>; 2] = [
     Row {
         word: 2,
         name: "Options",
-        form: Form::List(432),
+        form: Form::List(3600),
     },
     Row {
         word: 4,
         name: "Xstats",
-        form: Form::Choice(426),
+        form: Form::Choice(3006),
     },
 ];
 
@@ -91,8 +92,8 @@ pub(crate) fn parts_of_qdiscs_atm(place: usize) -> Part<'static>
     ensures { part_view result ≡ parts_of_qdiscs_atm place }
 {
     match place {
-        432 => Part::Rows("Atm", &LIST_ATM_IN_ATM),
-        433 => Part::Rows("", &LIST_TC_QDISC_ATM),
+        3600 => Part::Rows("Atm", &LIST_ATM_IN_ATM),
+        3601 => Part::Rows("", &LIST_TC_QDISC_ATM),
         _ => Part::One(Form::Hex),
     }
 }
@@ -112,17 +113,17 @@ const LIST_CAKE_IN_CAKE: [Row<'static>; 18] = [
     Row {
         word: 3,
         name: "DiffservMode",
-        form: Form::Named(Number::U32, 447),
+        form: Form::Named(Number::U32, 3615),
     },
     Row {
         word: 4,
         name: "Atm",
-        form: Form::Named(Number::U32, 448),
+        form: Form::Named(Number::U32, 3616),
     },
     Row {
         word: 5,
         name: "FlowMode",
-        form: Form::Named(Number::U32, 449),
+        form: Form::Named(Number::U32, 3617),
     },
     Row {
         word: 6,
@@ -177,7 +178,7 @@ const LIST_CAKE_IN_CAKE: [Row<'static>; 18] = [
     Row {
         word: 16,
         name: "AckFilter",
-        form: Form::Named(Number::U32, 450),
+        form: Form::Named(Number::U32, 3618),
     },
     Row {
         word: 17,
@@ -241,7 +242,7 @@ const LIST_CAKE_STATS: [Row<'static>; 16] = [
     Row {
         word: 10,
         name: "TinStats",
-        form: Form::Indexed(258),
+        form: Form::Indexed(1206),
     },
     Row {
         word: 11,
@@ -499,7 +500,7 @@ const ENUM_CAKE_ACK: [Name<'static>; 3] = [
 // the statistics of cake
 const STATISTICS_QDISC_CAKE: [Field<'static>; 1] = [Field {
     name: "Cake",
-    form: Form::List(445),
+    form: Form::List(3613),
 }];
 
 // `list tc`: the rows of cake
@@ -507,12 +508,12 @@ const LIST_TC_QDISC_CAKE: [Row<'static>; 2] = [
     Row {
         word: 2,
         name: "Options",
-        form: Form::List(444),
+        form: Form::List(3612),
     },
     Row {
         word: 4,
         name: "Xstats",
-        form: Form::Record(451),
+        form: Form::Record(3619),
     },
 ];
 
@@ -520,7 +521,7 @@ const LIST_TC_QDISC_CAKE: [Row<'static>; 2] = [
 const LIST_STATS_QDISC_CAKE: [Row<'static>; 1] = [Row {
     word: 4,
     name: "App",
-    form: Form::Record(451),
+    form: Form::Record(3619),
 }];
 
 #[tactic(auto, unfolding(crate::specs::Parts::Qdiscs::parts_of_qdiscs_cake))]
@@ -528,16 +529,16 @@ pub(crate) fn parts_of_qdiscs_cake(place: usize) -> Part<'static>
     ensures { part_view result ≡ parts_of_qdiscs_cake place }
 {
     match place {
-        444 => Part::Rows("Cake", &LIST_CAKE_IN_CAKE),
-        445 => Part::Rows("", &LIST_CAKE_STATS),
-        446 => Part::Rows("", &LIST_CAKE_TIN_STATS),
-        447 => Part::Names(&ENUM_CAKE_DIFFSERV),
-        448 => Part::Names(&ENUM_CAKE_ATM),
-        449 => Part::Names(&ENUM_CAKE_FLOW),
-        450 => Part::Names(&ENUM_CAKE_ACK),
-        451 => Part::Fields(&STATISTICS_QDISC_CAKE),
-        452 => Part::Rows("", &LIST_TC_QDISC_CAKE),
-        453 => Part::Rows("", &LIST_STATS_QDISC_CAKE),
+        3612 => Part::Rows("Cake", &LIST_CAKE_IN_CAKE),
+        3613 => Part::Rows("", &LIST_CAKE_STATS),
+        3614 => Part::Rows("", &LIST_CAKE_TIN_STATS),
+        3615 => Part::Names(&ENUM_CAKE_DIFFSERV),
+        3616 => Part::Names(&ENUM_CAKE_ATM),
+        3617 => Part::Names(&ENUM_CAKE_FLOW),
+        3618 => Part::Names(&ENUM_CAKE_ACK),
+        3619 => Part::Fields(&STATISTICS_QDISC_CAKE),
+        3620 => Part::Rows("", &LIST_TC_QDISC_CAKE),
+        3621 => Part::Rows("", &LIST_STATS_QDISC_CAKE),
         _ => Part::One(Form::Hex),
     }
 }
@@ -547,27 +548,27 @@ const LIST_CBQ_IN_CBQ: [Row<'static>; 7] = [
     Row {
         word: 1,
         name: "Lssopt",
-        form: Form::Record(458),
+        form: Form::Record(3626),
     },
     Row {
         word: 2,
         name: "Wrropt",
-        form: Form::Record(459),
+        form: Form::Record(3627),
     },
     Row {
         word: 3,
         name: "Fopt",
-        form: Form::Record(460),
+        form: Form::Record(3628),
     },
     Row {
         word: 4,
         name: "OvlStrategy",
-        form: Form::Record(461),
+        form: Form::Record(3629),
     },
     Row {
         word: 5,
         name: "Rate",
-        form: Form::Record(828),
+        form: Form::Record(4200),
     },
     Row {
         word: 6,
@@ -577,7 +578,7 @@ const LIST_CBQ_IN_CBQ: [Row<'static>; 7] = [
     Row {
         word: 7,
         name: "Police",
-        form: Form::Record(462),
+        form: Form::Record(3630),
     },
 ];
 
@@ -720,7 +721,7 @@ const STRUCT_TC_CBQ_POLICE: [Field<'static>; 3] = [
 // the statistics of cbq
 const STATISTICS_QDISC_CBQ: [Field<'static>; 1] = [Field {
     name: "Cbq",
-    form: Form::Record(457),
+    form: Form::Record(3625),
 }];
 
 // `list tc`: the rows of cbq
@@ -728,12 +729,12 @@ const LIST_TC_QDISC_CBQ: [Row<'static>; 2] = [
     Row {
         word: 2,
         name: "Options",
-        form: Form::List(456),
+        form: Form::List(3624),
     },
     Row {
         word: 4,
         name: "Xstats",
-        form: Form::Record(463),
+        form: Form::Record(3631),
     },
 ];
 
@@ -741,7 +742,7 @@ const LIST_TC_QDISC_CBQ: [Row<'static>; 2] = [
 const LIST_STATS_QDISC_CBQ: [Row<'static>; 1] = [Row {
     word: 4,
     name: "App",
-    form: Form::Record(463),
+    form: Form::Record(3631),
 }];
 
 #[tactic(auto, unfolding(crate::specs::Parts::Qdiscs::parts_of_qdiscs_cbq))]
@@ -749,16 +750,16 @@ pub(crate) fn parts_of_qdiscs_cbq(place: usize) -> Part<'static>
     ensures { part_view result ≡ parts_of_qdiscs_cbq place }
 {
     match place {
-        456 => Part::Rows("Cbq", &LIST_CBQ_IN_CBQ),
-        457 => Part::Fields(&STRUCT_TC_CBQ_XSTATS),
-        458 => Part::Fields(&STRUCT_TC_CBQ_LSSOPT),
-        459 => Part::Fields(&STRUCT_TC_CBQ_WRROPT),
-        460 => Part::Fields(&STRUCT_TC_CBQ_FOPT),
-        461 => Part::Fields(&STRUCT_TC_CBQ_OVL),
-        462 => Part::Fields(&STRUCT_TC_CBQ_POLICE),
-        463 => Part::Fields(&STATISTICS_QDISC_CBQ),
-        464 => Part::Rows("", &LIST_TC_QDISC_CBQ),
-        465 => Part::Rows("", &LIST_STATS_QDISC_CBQ),
+        3624 => Part::Rows("Cbq", &LIST_CBQ_IN_CBQ),
+        3625 => Part::Fields(&STRUCT_TC_CBQ_XSTATS),
+        3626 => Part::Fields(&STRUCT_TC_CBQ_LSSOPT),
+        3627 => Part::Fields(&STRUCT_TC_CBQ_WRROPT),
+        3628 => Part::Fields(&STRUCT_TC_CBQ_FOPT),
+        3629 => Part::Fields(&STRUCT_TC_CBQ_OVL),
+        3630 => Part::Fields(&STRUCT_TC_CBQ_POLICE),
+        3631 => Part::Fields(&STATISTICS_QDISC_CBQ),
+        3632 => Part::Rows("", &LIST_TC_QDISC_CBQ),
+        3633 => Part::Rows("", &LIST_STATS_QDISC_CBQ),
         _ => Part::One(Form::Hex),
     }
 }
@@ -767,7 +768,7 @@ pub(crate) fn parts_of_qdiscs_cbq(place: usize) -> Part<'static>
 const LIST_CBS_IN_CBS: [Row<'static>; 1] = [Row {
     word: 1,
     name: "Parms",
-    form: Form::Record(469),
+    form: Form::Record(3637),
 }];
 
 // `struct tc_cbs_qopt`
@@ -803,12 +804,12 @@ const LIST_TC_QDISC_CBS: [Row<'static>; 2] = [
     Row {
         word: 2,
         name: "Options",
-        form: Form::List(468),
+        form: Form::List(3636),
     },
     Row {
         word: 4,
         name: "Xstats",
-        form: Form::Choice(426),
+        form: Form::Choice(3006),
     },
 ];
 
@@ -817,9 +818,9 @@ pub(crate) fn parts_of_qdiscs_cbs(place: usize) -> Part<'static>
     ensures { part_view result ≡ parts_of_qdiscs_cbs place }
 {
     match place {
-        468 => Part::Rows("Cbs", &LIST_CBS_IN_CBS),
-        469 => Part::Fields(&STRUCT_TC_CBS_QOPT),
-        470 => Part::Rows("", &LIST_TC_QDISC_CBS),
+        3636 => Part::Rows("Cbs", &LIST_CBS_IN_CBS),
+        3637 => Part::Fields(&STRUCT_TC_CBS_QOPT),
+        3638 => Part::Rows("", &LIST_TC_QDISC_CBS),
         _ => Part::One(Form::Hex),
     }
 }
@@ -829,7 +830,7 @@ const LIST_CHOKE_IN_CHOKE: [Row<'static>; 3] = [
     Row {
         word: 1,
         name: "Parms",
-        form: Form::Record(757),
+        form: Form::Record(3925),
     },
     Row {
         word: 2,
@@ -870,7 +871,7 @@ const STRUCT_TC_CHOKE_XSTATS: [Field<'static>; 5] = [
 // the statistics of choke
 const STATISTICS_QDISC_CHOKE: [Field<'static>; 1] = [Field {
     name: "Choke",
-    form: Form::Record(481),
+    form: Form::Record(3649),
 }];
 
 // `list tc`: the rows of choke
@@ -878,12 +879,12 @@ const LIST_TC_QDISC_CHOKE: [Row<'static>; 2] = [
     Row {
         word: 2,
         name: "Options",
-        form: Form::List(480),
+        form: Form::List(3648),
     },
     Row {
         word: 4,
         name: "Xstats",
-        form: Form::Record(482),
+        form: Form::Record(3650),
     },
 ];
 
@@ -891,7 +892,7 @@ const LIST_TC_QDISC_CHOKE: [Row<'static>; 2] = [
 const LIST_STATS_QDISC_CHOKE: [Row<'static>; 1] = [Row {
     word: 4,
     name: "App",
-    form: Form::Record(482),
+    form: Form::Record(3650),
 }];
 
 #[tactic(auto, unfolding(crate::specs::Parts::Qdiscs::parts_of_qdiscs_choke))]
@@ -899,11 +900,11 @@ pub(crate) fn parts_of_qdiscs_choke(place: usize) -> Part<'static>
     ensures { part_view result ≡ parts_of_qdiscs_choke place }
 {
     match place {
-        480 => Part::Rows("Choke", &LIST_CHOKE_IN_CHOKE),
-        481 => Part::Fields(&STRUCT_TC_CHOKE_XSTATS),
-        482 => Part::Fields(&STATISTICS_QDISC_CHOKE),
-        483 => Part::Rows("", &LIST_TC_QDISC_CHOKE),
-        484 => Part::Rows("", &LIST_STATS_QDISC_CHOKE),
+        3648 => Part::Rows("Choke", &LIST_CHOKE_IN_CHOKE),
+        3649 => Part::Fields(&STRUCT_TC_CHOKE_XSTATS),
+        3650 => Part::Fields(&STATISTICS_QDISC_CHOKE),
+        3651 => Part::Rows("", &LIST_TC_QDISC_CHOKE),
+        3652 => Part::Rows("", &LIST_STATS_QDISC_CHOKE),
         _ => Part::One(Form::Hex),
     }
 }
@@ -980,7 +981,7 @@ const STRUCT_TC_CODEL_XSTATS: [Field<'static>; 9] = [
 // the statistics of codel
 const STATISTICS_QDISC_CODEL: [Field<'static>; 1] = [Field {
     name: "Codel",
-    form: Form::Record(493),
+    form: Form::Record(3661),
 }];
 
 // `list tc`: the rows of codel
@@ -988,12 +989,12 @@ const LIST_TC_QDISC_CODEL: [Row<'static>; 2] = [
     Row {
         word: 2,
         name: "Options",
-        form: Form::List(492),
+        form: Form::List(3660),
     },
     Row {
         word: 4,
         name: "Xstats",
-        form: Form::Record(494),
+        form: Form::Record(3662),
     },
 ];
 
@@ -1001,7 +1002,7 @@ const LIST_TC_QDISC_CODEL: [Row<'static>; 2] = [
 const LIST_STATS_QDISC_CODEL: [Row<'static>; 1] = [Row {
     word: 4,
     name: "App",
-    form: Form::Record(494),
+    form: Form::Record(3662),
 }];
 
 #[tactic(auto, unfolding(crate::specs::Parts::Qdiscs::parts_of_qdiscs_codel))]
@@ -1009,11 +1010,11 @@ pub(crate) fn parts_of_qdiscs_codel(place: usize) -> Part<'static>
     ensures { part_view result ≡ parts_of_qdiscs_codel place }
 {
     match place {
-        492 => Part::Rows("Codel", &LIST_CODEL_IN_CODEL),
-        493 => Part::Fields(&STRUCT_TC_CODEL_XSTATS),
-        494 => Part::Fields(&STATISTICS_QDISC_CODEL),
-        495 => Part::Rows("", &LIST_TC_QDISC_CODEL),
-        496 => Part::Rows("", &LIST_STATS_QDISC_CODEL),
+        3660 => Part::Rows("Codel", &LIST_CODEL_IN_CODEL),
+        3661 => Part::Fields(&STRUCT_TC_CODEL_XSTATS),
+        3662 => Part::Fields(&STATISTICS_QDISC_CODEL),
+        3663 => Part::Rows("", &LIST_TC_QDISC_CODEL),
+        3664 => Part::Rows("", &LIST_STATS_QDISC_CODEL),
         _ => Part::One(Form::Hex),
     }
 }
@@ -1034,7 +1035,7 @@ const STRUCT_TC_DRR_STATS: [Field<'static>; 1] = [Field {
 // the statistics of drr
 const STATISTICS_QDISC_DRR: [Field<'static>; 1] = [Field {
     name: "Drr",
-    form: Form::Record(505),
+    form: Form::Record(3673),
 }];
 
 // `list tc`: the rows of drr
@@ -1042,12 +1043,12 @@ const LIST_TC_QDISC_DRR: [Row<'static>; 2] = [
     Row {
         word: 2,
         name: "Options",
-        form: Form::List(504),
+        form: Form::List(3672),
     },
     Row {
         word: 4,
         name: "Xstats",
-        form: Form::Record(506),
+        form: Form::Record(3674),
     },
 ];
 
@@ -1055,7 +1056,7 @@ const LIST_TC_QDISC_DRR: [Row<'static>; 2] = [
 const LIST_STATS_QDISC_DRR: [Row<'static>; 1] = [Row {
     word: 4,
     name: "App",
-    form: Form::Record(506),
+    form: Form::Record(3674),
 }];
 
 #[tactic(auto, unfolding(crate::specs::Parts::Qdiscs::parts_of_qdiscs_drr))]
@@ -1063,11 +1064,11 @@ pub(crate) fn parts_of_qdiscs_drr(place: usize) -> Part<'static>
     ensures { part_view result ≡ parts_of_qdiscs_drr place }
 {
     match place {
-        504 => Part::Rows("Drr", &LIST_DRR_IN_DRR),
-        505 => Part::Fields(&STRUCT_TC_DRR_STATS),
-        506 => Part::Fields(&STATISTICS_QDISC_DRR),
-        507 => Part::Rows("", &LIST_TC_QDISC_DRR),
-        508 => Part::Rows("", &LIST_STATS_QDISC_DRR),
+        3672 => Part::Rows("Drr", &LIST_DRR_IN_DRR),
+        3673 => Part::Fields(&STRUCT_TC_DRR_STATS),
+        3674 => Part::Fields(&STATISTICS_QDISC_DRR),
+        3675 => Part::Rows("", &LIST_TC_QDISC_DRR),
+        3676 => Part::Rows("", &LIST_STATS_QDISC_DRR),
         _ => Part::One(Form::Hex),
     }
 }
@@ -1106,12 +1107,12 @@ const LIST_TC_QDISC_DSMARK: [Row<'static>; 2] = [
     Row {
         word: 2,
         name: "Options",
-        form: Form::List(516),
+        form: Form::List(3684),
     },
     Row {
         word: 4,
         name: "Xstats",
-        form: Form::Choice(426),
+        form: Form::Choice(3006),
     },
 ];
 
@@ -1120,8 +1121,8 @@ pub(crate) fn parts_of_qdiscs_dsmark(place: usize) -> Part<'static>
     ensures { part_view result ≡ parts_of_qdiscs_dsmark place }
 {
     match place {
-        516 => Part::Rows("Dsmark", &LIST_DSMARK_IN_DSMARK),
-        517 => Part::Rows("", &LIST_TC_QDISC_DSMARK),
+        3684 => Part::Rows("Dsmark", &LIST_DSMARK_IN_DSMARK),
+        3685 => Part::Rows("", &LIST_TC_QDISC_DSMARK),
         _ => Part::One(Form::Hex),
     }
 }
@@ -1130,7 +1131,7 @@ pub(crate) fn parts_of_qdiscs_dsmark(place: usize) -> Part<'static>
 const LIST_ETF_IN_ETF: [Row<'static>; 1] = [Row {
     word: 1,
     name: "Parms",
-    form: Form::Record(529),
+    form: Form::Record(3697),
 }];
 
 // `struct tc_etf_qopt`
@@ -1154,12 +1155,12 @@ const LIST_TC_QDISC_ETF: [Row<'static>; 2] = [
     Row {
         word: 2,
         name: "Options",
-        form: Form::List(528),
+        form: Form::List(3696),
     },
     Row {
         word: 4,
         name: "Xstats",
-        form: Form::Choice(426),
+        form: Form::Choice(3006),
     },
 ];
 
@@ -1168,9 +1169,9 @@ pub(crate) fn parts_of_qdiscs_etf(place: usize) -> Part<'static>
     ensures { part_view result ≡ parts_of_qdiscs_etf place }
 {
     match place {
-        528 => Part::Rows("Etf", &LIST_ETF_IN_ETF),
-        529 => Part::Fields(&STRUCT_TC_ETF_QOPT),
-        530 => Part::Rows("", &LIST_TC_QDISC_ETF),
+        3696 => Part::Rows("Etf", &LIST_ETF_IN_ETF),
+        3697 => Part::Fields(&STRUCT_TC_ETF_QOPT),
+        3698 => Part::Rows("", &LIST_TC_QDISC_ETF),
         _ => Part::One(Form::Hex),
     }
 }
@@ -1190,7 +1191,7 @@ const LIST_ETS_IN_ETS: [Row<'static>; 6] = [
     Row {
         word: 32771,
         name: "Quanta",
-        form: Form::List(541),
+        form: Form::List(3709),
     },
     Row {
         word: 4,
@@ -1200,7 +1201,7 @@ const LIST_ETS_IN_ETS: [Row<'static>; 6] = [
     Row {
         word: 32773,
         name: "Priomap",
-        form: Form::List(542),
+        form: Form::List(3710),
     },
     Row {
         word: 6,
@@ -1228,12 +1229,12 @@ const LIST_TC_QDISC_ETS: [Row<'static>; 2] = [
     Row {
         word: 32770,
         name: "Options",
-        form: Form::List(540),
+        form: Form::List(3708),
     },
     Row {
         word: 4,
         name: "Xstats",
-        form: Form::Choice(426),
+        form: Form::Choice(3006),
     },
 ];
 
@@ -1242,10 +1243,10 @@ pub(crate) fn parts_of_qdiscs_ets(place: usize) -> Part<'static>
     ensures { part_view result ≡ parts_of_qdiscs_ets place }
 {
     match place {
-        540 => Part::Rows("Ets", &LIST_ETS_IN_ETS),
-        541 => Part::Rows("", &LIST_ETS_QUANTA),
-        542 => Part::Rows("", &LIST_ETS_PRIOMAP),
-        543 => Part::Rows("", &LIST_TC_QDISC_ETS),
+        3708 => Part::Rows("Ets", &LIST_ETS_IN_ETS),
+        3709 => Part::Rows("", &LIST_ETS_QUANTA),
+        3710 => Part::Rows("", &LIST_ETS_PRIOMAP),
+        3711 => Part::Rows("", &LIST_TC_QDISC_ETS),
         _ => Part::One(Form::Hex),
     }
 }
@@ -1261,12 +1262,12 @@ const LIST_TC_QDISC_PFIFO: [Row<'static>; 2] = [
     Row {
         word: 2,
         name: "Options",
-        form: Form::Record(552),
+        form: Form::Record(3720),
     },
     Row {
         word: 4,
         name: "Xstats",
-        form: Form::Choice(426),
+        form: Form::Choice(3006),
     },
 ];
 
@@ -1275,8 +1276,8 @@ pub(crate) fn parts_of_qdiscs_fifo(place: usize) -> Part<'static>
     ensures { part_view result ≡ parts_of_qdiscs_fifo place }
 {
     match place {
-        552 => Part::Fields(&STRUCT_TC_FIFO_QOPT),
-        553 => Part::Rows("", &LIST_TC_QDISC_PFIFO),
+        3720 => Part::Fields(&STRUCT_TC_FIFO_QOPT),
+        3721 => Part::Rows("", &LIST_TC_QDISC_PFIFO),
         _ => Part::One(Form::Hex),
     }
 }
@@ -1361,12 +1362,12 @@ const LIST_FQ_IN_FQ: [Row<'static>; 17] = [
     Row {
         word: 16,
         name: "Priomap",
-        form: Form::Record(734),
+        form: Form::Record(3902),
     },
     Row {
         word: 17,
         name: "Weights",
-        form: Form::Times(3, 259),
+        form: Form::Times(3, 1207),
     },
 ];
 
@@ -1434,7 +1435,7 @@ const STRUCT_TC_FQ_QD_STATS: [Field<'static>; 16] = [
     },
     Field {
         name: "since_6_7",
-        form: Form::Array(566),
+        form: Form::Array(3734),
     },
 ];
 
@@ -1446,11 +1447,11 @@ const STRUCT_FQ_STATS_6_7: [Field<'static>; 4] = [
     },
     Field {
         name: "band_drops",
-        form: Form::Times(3, 256),
+        form: Form::Times(3, 1204),
     },
     Field {
         name: "band_pkt_count",
-        form: Form::Times(3, 252),
+        form: Form::Times(3, 1200),
     },
     Field {
         name: "pad",
@@ -1461,7 +1462,7 @@ const STRUCT_FQ_STATS_6_7: [Field<'static>; 4] = [
 // the statistics of fq
 const STATISTICS_QDISC_FQ: [Field<'static>; 1] = [Field {
     name: "Fq",
-    form: Form::Record(565),
+    form: Form::Record(3733),
 }];
 
 // `list tc`: the rows of fq
@@ -1469,12 +1470,12 @@ const LIST_TC_QDISC_FQ: [Row<'static>; 2] = [
     Row {
         word: 2,
         name: "Options",
-        form: Form::List(564),
+        form: Form::List(3732),
     },
     Row {
         word: 4,
         name: "Xstats",
-        form: Form::Record(567),
+        form: Form::Record(3735),
     },
 ];
 
@@ -1482,7 +1483,7 @@ const LIST_TC_QDISC_FQ: [Row<'static>; 2] = [
 const LIST_STATS_QDISC_FQ: [Row<'static>; 1] = [Row {
     word: 4,
     name: "App",
-    form: Form::Record(567),
+    form: Form::Record(3735),
 }];
 
 #[tactic(auto, unfolding(crate::specs::Parts::Qdiscs::parts_of_qdiscs_fq))]
@@ -1490,12 +1491,12 @@ pub(crate) fn parts_of_qdiscs_fq(place: usize) -> Part<'static>
     ensures { part_view result ≡ parts_of_qdiscs_fq place }
 {
     match place {
-        564 => Part::Rows("Fq", &LIST_FQ_IN_FQ),
-        565 => Part::Fields(&STRUCT_TC_FQ_QD_STATS),
-        566 => Part::Fields(&STRUCT_FQ_STATS_6_7),
-        567 => Part::Fields(&STATISTICS_QDISC_FQ),
-        568 => Part::Rows("", &LIST_TC_QDISC_FQ),
-        569 => Part::Rows("", &LIST_STATS_QDISC_FQ),
+        3732 => Part::Rows("Fq", &LIST_FQ_IN_FQ),
+        3733 => Part::Fields(&STRUCT_TC_FQ_QD_STATS),
+        3734 => Part::Fields(&STRUCT_FQ_STATS_6_7),
+        3735 => Part::Fields(&STATISTICS_QDISC_FQ),
+        3736 => Part::Rows("", &LIST_TC_QDISC_FQ),
+        3737 => Part::Rows("", &LIST_STATS_QDISC_FQ),
         _ => Part::One(Form::Hex),
     }
 }
@@ -1565,13 +1566,13 @@ const CHOICE_TC_FQ_CODEL_XSTATS: [Choice<'static>; 2] = [
         name: "Qdisc",
         prefix: &[0, 0, 0, 0],
         len: None,
-        form: Form::Record(578),
+        form: Form::Record(3746),
     },
     Choice {
         name: "Class",
         prefix: &[1, 0, 0, 0],
         len: None,
-        form: Form::Record(579),
+        form: Form::Record(3747),
     },
 ];
 
@@ -1646,7 +1647,7 @@ const STRUCT_TC_FQ_CODEL_CL_STATS: [Field<'static>; 6] = [
 // the statistics of fq_codel
 const STATISTICS_QDISC_FQ_CODEL: [Field<'static>; 1] = [Field {
     name: "FqCodel",
-    form: Form::Choice(577),
+    form: Form::Choice(3745),
 }];
 
 // `list tc`: the rows of fq_codel
@@ -1654,12 +1655,12 @@ const LIST_TC_QDISC_FQ_CODEL: [Row<'static>; 2] = [
     Row {
         word: 2,
         name: "Options",
-        form: Form::List(576),
+        form: Form::List(3744),
     },
     Row {
         word: 4,
         name: "Xstats",
-        form: Form::Record(580),
+        form: Form::Record(3748),
     },
 ];
 
@@ -1667,7 +1668,7 @@ const LIST_TC_QDISC_FQ_CODEL: [Row<'static>; 2] = [
 const LIST_STATS_QDISC_FQ_CODEL: [Row<'static>; 1] = [Row {
     word: 4,
     name: "App",
-    form: Form::Record(580),
+    form: Form::Record(3748),
 }];
 
 #[tactic(auto, unfolding(crate::specs::Parts::Qdiscs::parts_of_qdiscs_fq_codel))]
@@ -1675,13 +1676,13 @@ pub(crate) fn parts_of_qdiscs_fq_codel(place: usize) -> Part<'static>
     ensures { part_view result ≡ parts_of_qdiscs_fq_codel place }
 {
     match place {
-        576 => Part::Rows("FqCodel", &LIST_FQ_CODEL_IN_FQCODEL),
-        577 => Part::Choices(&CHOICE_TC_FQ_CODEL_XSTATS),
-        578 => Part::Fields(&STRUCT_TC_FQ_CODEL_QD_STATS),
-        579 => Part::Fields(&STRUCT_TC_FQ_CODEL_CL_STATS),
-        580 => Part::Fields(&STATISTICS_QDISC_FQ_CODEL),
-        581 => Part::Rows("", &LIST_TC_QDISC_FQ_CODEL),
-        582 => Part::Rows("", &LIST_STATS_QDISC_FQ_CODEL),
+        3744 => Part::Rows("FqCodel", &LIST_FQ_CODEL_IN_FQCODEL),
+        3745 => Part::Choices(&CHOICE_TC_FQ_CODEL_XSTATS),
+        3746 => Part::Fields(&STRUCT_TC_FQ_CODEL_QD_STATS),
+        3747 => Part::Fields(&STRUCT_TC_FQ_CODEL_CL_STATS),
+        3748 => Part::Fields(&STATISTICS_QDISC_FQ_CODEL),
+        3749 => Part::Rows("", &LIST_TC_QDISC_FQ_CODEL),
+        3750 => Part::Rows("", &LIST_STATS_QDISC_FQ_CODEL),
         _ => Part::One(Form::Hex),
     }
 }
@@ -1793,7 +1794,7 @@ const STRUCT_TC_FQ_PIE_XSTATS: [Field<'static>; 9] = [
 // the statistics of fq_pie
 const STATISTICS_QDISC_FQ_PIE: [Field<'static>; 1] = [Field {
     name: "FqPie",
-    form: Form::Record(589),
+    form: Form::Record(3757),
 }];
 
 // `list tc`: the rows of fq_pie
@@ -1801,12 +1802,12 @@ const LIST_TC_QDISC_FQ_PIE: [Row<'static>; 2] = [
     Row {
         word: 32770,
         name: "Options",
-        form: Form::List(588),
+        form: Form::List(3756),
     },
     Row {
         word: 4,
         name: "Xstats",
-        form: Form::Record(590),
+        form: Form::Record(3758),
     },
 ];
 
@@ -1814,7 +1815,7 @@ const LIST_TC_QDISC_FQ_PIE: [Row<'static>; 2] = [
 const LIST_STATS_QDISC_FQ_PIE: [Row<'static>; 1] = [Row {
     word: 4,
     name: "App",
-    form: Form::Record(590),
+    form: Form::Record(3758),
 }];
 
 #[tactic(auto, unfolding(crate::specs::Parts::Qdiscs::parts_of_qdiscs_fq_pie))]
@@ -1822,11 +1823,11 @@ pub(crate) fn parts_of_qdiscs_fq_pie(place: usize) -> Part<'static>
     ensures { part_view result ≡ parts_of_qdiscs_fq_pie place }
 {
     match place {
-        588 => Part::Rows("FqPie", &LIST_FQ_PIE_IN_FQPIE),
-        589 => Part::Fields(&STRUCT_TC_FQ_PIE_XSTATS),
-        590 => Part::Fields(&STATISTICS_QDISC_FQ_PIE),
-        591 => Part::Rows("", &LIST_TC_QDISC_FQ_PIE),
-        592 => Part::Rows("", &LIST_STATS_QDISC_FQ_PIE),
+        3756 => Part::Rows("FqPie", &LIST_FQ_PIE_IN_FQPIE),
+        3757 => Part::Fields(&STRUCT_TC_FQ_PIE_XSTATS),
+        3758 => Part::Fields(&STATISTICS_QDISC_FQ_PIE),
+        3759 => Part::Rows("", &LIST_TC_QDISC_FQ_PIE),
+        3760 => Part::Rows("", &LIST_STATS_QDISC_FQ_PIE),
         _ => Part::One(Form::Hex),
     }
 }
@@ -1836,7 +1837,7 @@ const LIST_GRED_IN_GRED: [Row<'static>; 6] = [
     Row {
         word: 1,
         name: "Parms",
-        form: Form::Array(601),
+        form: Form::Array(3769),
     },
     Row {
         word: 2,
@@ -1846,12 +1847,12 @@ const LIST_GRED_IN_GRED: [Row<'static>; 6] = [
     Row {
         word: 3,
         name: "Dps",
-        form: Form::Record(602),
+        form: Form::Record(3770),
     },
     Row {
         word: 4,
         name: "MaxP",
-        form: Form::Array(252),
+        form: Form::Array(1200),
     },
     Row {
         word: 5,
@@ -1861,7 +1862,7 @@ const LIST_GRED_IN_GRED: [Row<'static>; 6] = [
     Row {
         word: 6,
         name: "VqList",
-        form: Form::List(603),
+        form: Form::List(3771),
     },
 ];
 
@@ -1961,7 +1962,7 @@ const STRUCT_TC_GRED_SOPT: [Field<'static>; 5] = [
 const LIST_GRED_VQ_LIST: [Row<'static>; 1] = [Row {
     word: 1,
     name: "Entry",
-    form: Form::List(604),
+    form: Form::List(3772),
 }];
 
 // `list gred_vq`
@@ -2033,12 +2034,12 @@ const LIST_TC_QDISC_GRED: [Row<'static>; 2] = [
     Row {
         word: 2,
         name: "Options",
-        form: Form::List(600),
+        form: Form::List(3768),
     },
     Row {
         word: 4,
         name: "Xstats",
-        form: Form::Choice(426),
+        form: Form::Choice(3006),
     },
 ];
 
@@ -2047,12 +2048,12 @@ pub(crate) fn parts_of_qdiscs_gred(place: usize) -> Part<'static>
     ensures { part_view result ≡ parts_of_qdiscs_gred place }
 {
     match place {
-        600 => Part::Rows("Gred", &LIST_GRED_IN_GRED),
-        601 => Part::Fields(&STRUCT_TC_GRED_QOPT),
-        602 => Part::Fields(&STRUCT_TC_GRED_SOPT),
-        603 => Part::Rows("", &LIST_GRED_VQ_LIST),
-        604 => Part::Rows("", &LIST_GRED_VQ),
-        605 => Part::Rows("", &LIST_TC_QDISC_GRED),
+        3768 => Part::Rows("Gred", &LIST_GRED_IN_GRED),
+        3769 => Part::Fields(&STRUCT_TC_GRED_QOPT),
+        3770 => Part::Fields(&STRUCT_TC_GRED_SOPT),
+        3771 => Part::Rows("", &LIST_GRED_VQ_LIST),
+        3772 => Part::Rows("", &LIST_GRED_VQ),
+        3773 => Part::Rows("", &LIST_TC_QDISC_GRED),
         _ => Part::One(Form::Hex),
     }
 }
@@ -2063,13 +2064,13 @@ const CHOICE_HFSC: [Choice<'static>; 2] = [
         name: "Qdisc",
         prefix: &[],
         len: Some(2),
-        form: Form::Record(613),
+        form: Form::Record(3781),
     },
     Choice {
         name: "Class",
         prefix: &[],
         len: None,
-        form: Form::List(614),
+        form: Form::List(3782),
     },
 ];
 
@@ -2084,17 +2085,17 @@ const LIST_HFSC_IN_HFSC: [Row<'static>; 3] = [
     Row {
         word: 1,
         name: "Rsc",
-        form: Form::Record(615),
+        form: Form::Record(3783),
     },
     Row {
         word: 2,
         name: "Fsc",
-        form: Form::Record(615),
+        form: Form::Record(3783),
     },
     Row {
         word: 3,
         name: "Usc",
-        form: Form::Record(615),
+        form: Form::Record(3783),
     },
 ];
 
@@ -2137,7 +2138,7 @@ const STRUCT_TC_HFSC_STATS: [Field<'static>; 4] = [
 // the statistics of hfsc
 const STATISTICS_QDISC_HFSC: [Field<'static>; 1] = [Field {
     name: "Hfsc",
-    form: Form::Record(616),
+    form: Form::Record(3784),
 }];
 
 // `list tc`: the rows of hfsc
@@ -2145,12 +2146,12 @@ const LIST_TC_QDISC_HFSC: [Row<'static>; 2] = [
     Row {
         word: 2,
         name: "Options",
-        form: Form::Choice(612),
+        form: Form::Choice(3780),
     },
     Row {
         word: 4,
         name: "Xstats",
-        form: Form::Record(617),
+        form: Form::Record(3785),
     },
 ];
 
@@ -2158,7 +2159,7 @@ const LIST_TC_QDISC_HFSC: [Row<'static>; 2] = [
 const LIST_STATS_QDISC_HFSC: [Row<'static>; 1] = [Row {
     word: 4,
     name: "App",
-    form: Form::Record(617),
+    form: Form::Record(3785),
 }];
 
 #[tactic(auto, unfolding(crate::specs::Parts::Qdiscs::parts_of_qdiscs_hfsc))]
@@ -2166,14 +2167,14 @@ pub(crate) fn parts_of_qdiscs_hfsc(place: usize) -> Part<'static>
     ensures { part_view result ≡ parts_of_qdiscs_hfsc place }
 {
     match place {
-        612 => Part::Choices(&CHOICE_HFSC),
-        613 => Part::Fields(&STRUCT_TC_HFSC_QOPT),
-        614 => Part::Rows("Hfsc", &LIST_HFSC_IN_HFSC),
-        615 => Part::Fields(&STRUCT_TC_SERVICE_CURVE),
-        616 => Part::Fields(&STRUCT_TC_HFSC_STATS),
-        617 => Part::Fields(&STATISTICS_QDISC_HFSC),
-        618 => Part::Rows("", &LIST_TC_QDISC_HFSC),
-        619 => Part::Rows("", &LIST_STATS_QDISC_HFSC),
+        3780 => Part::Choices(&CHOICE_HFSC),
+        3781 => Part::Fields(&STRUCT_TC_HFSC_QOPT),
+        3782 => Part::Rows("Hfsc", &LIST_HFSC_IN_HFSC),
+        3783 => Part::Fields(&STRUCT_TC_SERVICE_CURVE),
+        3784 => Part::Fields(&STRUCT_TC_HFSC_STATS),
+        3785 => Part::Fields(&STATISTICS_QDISC_HFSC),
+        3786 => Part::Rows("", &LIST_TC_QDISC_HFSC),
+        3787 => Part::Rows("", &LIST_STATS_QDISC_HFSC),
         _ => Part::One(Form::Hex),
     }
 }
@@ -2240,7 +2241,7 @@ const STRUCT_TC_HHF_XSTATS: [Field<'static>; 4] = [
 // the statistics of hhf
 const STATISTICS_QDISC_HHF: [Field<'static>; 1] = [Field {
     name: "Hhf",
-    form: Form::Record(625),
+    form: Form::Record(3793),
 }];
 
 // `list tc`: the rows of hhf
@@ -2248,12 +2249,12 @@ const LIST_TC_QDISC_HHF: [Row<'static>; 2] = [
     Row {
         word: 2,
         name: "Options",
-        form: Form::List(624),
+        form: Form::List(3792),
     },
     Row {
         word: 4,
         name: "Xstats",
-        form: Form::Record(626),
+        form: Form::Record(3794),
     },
 ];
 
@@ -2261,7 +2262,7 @@ const LIST_TC_QDISC_HHF: [Row<'static>; 2] = [
 const LIST_STATS_QDISC_HHF: [Row<'static>; 1] = [Row {
     word: 4,
     name: "App",
-    form: Form::Record(626),
+    form: Form::Record(3794),
 }];
 
 #[tactic(auto, unfolding(crate::specs::Parts::Qdiscs::parts_of_qdiscs_hhf))]
@@ -2269,11 +2270,11 @@ pub(crate) fn parts_of_qdiscs_hhf(place: usize) -> Part<'static>
     ensures { part_view result ≡ parts_of_qdiscs_hhf place }
 {
     match place {
-        624 => Part::Rows("Hhf", &LIST_HHF_IN_HHF),
-        625 => Part::Fields(&STRUCT_TC_HHF_XSTATS),
-        626 => Part::Fields(&STATISTICS_QDISC_HHF),
-        627 => Part::Rows("", &LIST_TC_QDISC_HHF),
-        628 => Part::Rows("", &LIST_STATS_QDISC_HHF),
+        3792 => Part::Rows("Hhf", &LIST_HHF_IN_HHF),
+        3793 => Part::Fields(&STRUCT_TC_HHF_XSTATS),
+        3794 => Part::Fields(&STATISTICS_QDISC_HHF),
+        3795 => Part::Rows("", &LIST_TC_QDISC_HHF),
+        3796 => Part::Rows("", &LIST_STATS_QDISC_HHF),
         _ => Part::One(Form::Hex),
     }
 }
@@ -2283,12 +2284,12 @@ const LIST_HTB_IN_HTB: [Row<'static>; 9] = [
     Row {
         word: 1,
         name: "Parms",
-        form: Form::Record(638),
+        form: Form::Record(3806),
     },
     Row {
         word: 2,
         name: "Init",
-        form: Form::Record(639),
+        form: Form::Record(3807),
     },
     Row {
         word: 3,
@@ -2355,11 +2356,11 @@ const STRUCT_TC_HTB_XSTATS: [Field<'static>; 5] = [
 const STRUCT_TC_HTB_OPT: [Field<'static>; 7] = [
     Field {
         name: "rate",
-        form: Form::Record(828),
+        form: Form::Record(4200),
     },
     Field {
         name: "ceil",
-        form: Form::Record(828),
+        form: Form::Record(4200),
     },
     Field {
         name: "buffer",
@@ -2410,7 +2411,7 @@ const STRUCT_TC_HTB_GLOB: [Field<'static>; 5] = [
 // the statistics of htb
 const STATISTICS_QDISC_HTB: [Field<'static>; 1] = [Field {
     name: "Htb",
-    form: Form::Record(637),
+    form: Form::Record(3805),
 }];
 
 // `list tc`: the rows of htb
@@ -2418,12 +2419,12 @@ const LIST_TC_QDISC_HTB: [Row<'static>; 2] = [
     Row {
         word: 2,
         name: "Options",
-        form: Form::List(636),
+        form: Form::List(3804),
     },
     Row {
         word: 4,
         name: "Xstats",
-        form: Form::Record(640),
+        form: Form::Record(3808),
     },
 ];
 
@@ -2431,7 +2432,7 @@ const LIST_TC_QDISC_HTB: [Row<'static>; 2] = [
 const LIST_STATS_QDISC_HTB: [Row<'static>; 1] = [Row {
     word: 4,
     name: "App",
-    form: Form::Record(640),
+    form: Form::Record(3808),
 }];
 
 #[tactic(auto, unfolding(crate::specs::Parts::Qdiscs::parts_of_qdiscs_htb))]
@@ -2439,13 +2440,13 @@ pub(crate) fn parts_of_qdiscs_htb(place: usize) -> Part<'static>
     ensures { part_view result ≡ parts_of_qdiscs_htb place }
 {
     match place {
-        636 => Part::Rows("Htb", &LIST_HTB_IN_HTB),
-        637 => Part::Fields(&STRUCT_TC_HTB_XSTATS),
-        638 => Part::Fields(&STRUCT_TC_HTB_OPT),
-        639 => Part::Fields(&STRUCT_TC_HTB_GLOB),
-        640 => Part::Fields(&STATISTICS_QDISC_HTB),
-        641 => Part::Rows("", &LIST_TC_QDISC_HTB),
-        642 => Part::Rows("", &LIST_STATS_QDISC_HTB),
+        3804 => Part::Rows("Htb", &LIST_HTB_IN_HTB),
+        3805 => Part::Fields(&STRUCT_TC_HTB_XSTATS),
+        3806 => Part::Fields(&STRUCT_TC_HTB_OPT),
+        3807 => Part::Fields(&STRUCT_TC_HTB_GLOB),
+        3808 => Part::Fields(&STATISTICS_QDISC_HTB),
+        3809 => Part::Rows("", &LIST_TC_QDISC_HTB),
+        3810 => Part::Rows("", &LIST_STATS_QDISC_HTB),
         _ => Part::One(Form::Hex),
     }
 }
@@ -2455,12 +2456,12 @@ const LIST_TC_QDISC_INGRESS: [Row<'static>; 2] = [
     Row {
         word: 2,
         name: "Options",
-        form: Form::List(648),
+        form: Form::List(3816),
     },
     Row {
         word: 4,
         name: "Xstats",
-        form: Form::Choice(426),
+        form: Form::Choice(3006),
     },
 ];
 
@@ -2469,8 +2470,8 @@ pub(crate) fn parts_of_qdiscs_ingress(place: usize) -> Part<'static>
     ensures { part_view result ≡ parts_of_qdiscs_ingress place }
 {
     match place {
-        648 => Part::Rows("Ingress", &[]),
-        649 => Part::Rows("", &LIST_TC_QDISC_INGRESS),
+        3816 => Part::Rows("Ingress", &[]),
+        3817 => Part::Rows("", &LIST_TC_QDISC_INGRESS),
         _ => Part::One(Form::Hex),
     }
 }
@@ -2483,7 +2484,7 @@ const STRUCT_MQPRIO_OPTIONS: [Field<'static>; 7] = [
     },
     Field {
         name: "prio_tc_map",
-        form: Form::Times(16, 257),
+        form: Form::Times(16, 1205),
     },
     Field {
         name: "hw",
@@ -2491,11 +2492,11 @@ const STRUCT_MQPRIO_OPTIONS: [Field<'static>; 7] = [
     },
     Field {
         name: "count",
-        form: Form::Times(16, 253),
+        form: Form::Times(16, 1201),
     },
     Field {
         name: "offset",
-        form: Form::Times(16, 253),
+        form: Form::Times(16, 1201),
     },
     Field {
         name: "padding",
@@ -2503,7 +2504,7 @@ const STRUCT_MQPRIO_OPTIONS: [Field<'static>; 7] = [
     },
     Field {
         name: "attributes",
-        form: Form::List(662),
+        form: Form::List(3830),
     },
 ];
 
@@ -2515,7 +2516,7 @@ const STRUCT_TC_MQPRIO_QOPT: [Field<'static>; 5] = [
     },
     Field {
         name: "prio_tc_map",
-        form: Form::Times(16, 257),
+        form: Form::Times(16, 1205),
     },
     Field {
         name: "hw",
@@ -2523,11 +2524,11 @@ const STRUCT_TC_MQPRIO_QOPT: [Field<'static>; 5] = [
     },
     Field {
         name: "count",
-        form: Form::Times(16, 253),
+        form: Form::Times(16, 1201),
     },
     Field {
         name: "offset",
-        form: Form::Times(16, 253),
+        form: Form::Times(16, 1201),
     },
 ];
 
@@ -2536,27 +2537,27 @@ const LIST_MQPRIO: [Row<'static>; 5] = [
     Row {
         word: 1,
         name: "Mode",
-        form: Form::Named(Number::U16, 663),
+        form: Form::Named(Number::U16, 3831),
     },
     Row {
         word: 2,
         name: "Shaper",
-        form: Form::Named(Number::U16, 664),
+        form: Form::Named(Number::U16, 3832),
     },
     Row {
         word: 32771,
         name: "MinRate64",
-        form: Form::List(665),
+        form: Form::List(3833),
     },
     Row {
         word: 32772,
         name: "MaxRate64",
-        form: Form::List(666),
+        form: Form::List(3834),
     },
     Row {
         word: 32773,
         name: "TcEntry",
-        form: Form::List(667),
+        form: Form::List(3835),
     },
 ];
 
@@ -2608,7 +2609,7 @@ const LIST_MQPRIO_TC_ENTRY: [Row<'static>; 2] = [
     Row {
         word: 2,
         name: "Fp",
-        form: Form::Named(Number::U32, 834),
+        form: Form::Named(Number::U32, 4206),
     },
 ];
 
@@ -2617,12 +2618,12 @@ const LIST_TC_QDISC_MQPRIO: [Row<'static>; 2] = [
     Row {
         word: 2,
         name: "Options",
-        form: Form::Record(660),
+        form: Form::Record(3828),
     },
     Row {
         word: 4,
         name: "Xstats",
-        form: Form::Choice(426),
+        form: Form::Choice(3006),
     },
 ];
 
@@ -2631,15 +2632,15 @@ pub(crate) fn parts_of_qdiscs_mqprio(place: usize) -> Part<'static>
     ensures { part_view result ≡ parts_of_qdiscs_mqprio place }
 {
     match place {
-        660 => Part::Fields(&STRUCT_MQPRIO_OPTIONS),
-        661 => Part::Fields(&STRUCT_TC_MQPRIO_QOPT),
-        662 => Part::Rows("", &LIST_MQPRIO),
-        663 => Part::Names(&ENUM_TC_MQPRIO_MODE),
-        664 => Part::Names(&ENUM_TC_MQPRIO_SHAPER),
-        665 => Part::Rows("", &LIST_MQPRIO_MIN_RATE),
-        666 => Part::Rows("", &LIST_MQPRIO_MAX_RATE),
-        667 => Part::Rows("", &LIST_MQPRIO_TC_ENTRY),
-        668 => Part::Rows("", &LIST_TC_QDISC_MQPRIO),
+        3828 => Part::Fields(&STRUCT_MQPRIO_OPTIONS),
+        3829 => Part::Fields(&STRUCT_TC_MQPRIO_QOPT),
+        3830 => Part::Rows("", &LIST_MQPRIO),
+        3831 => Part::Names(&ENUM_TC_MQPRIO_MODE),
+        3832 => Part::Names(&ENUM_TC_MQPRIO_SHAPER),
+        3833 => Part::Rows("", &LIST_MQPRIO_MIN_RATE),
+        3834 => Part::Rows("", &LIST_MQPRIO_MAX_RATE),
+        3835 => Part::Rows("", &LIST_MQPRIO_TC_ENTRY),
+        3836 => Part::Rows("", &LIST_TC_QDISC_MQPRIO),
         _ => Part::One(Form::Hex),
     }
 }
@@ -2661,12 +2662,12 @@ const LIST_TC_QDISC_MULTIQ: [Row<'static>; 2] = [
     Row {
         word: 2,
         name: "Options",
-        form: Form::Record(672),
+        form: Form::Record(3840),
     },
     Row {
         word: 4,
         name: "Xstats",
-        form: Form::Choice(426),
+        form: Form::Choice(3006),
     },
 ];
 
@@ -2675,8 +2676,8 @@ pub(crate) fn parts_of_qdiscs_multiq(place: usize) -> Part<'static>
     ensures { part_view result ≡ parts_of_qdiscs_multiq place }
 {
     match place {
-        672 => Part::Fields(&STRUCT_TC_MULTIQ_QOPT),
-        673 => Part::Rows("", &LIST_TC_QDISC_MULTIQ),
+        3840 => Part::Fields(&STRUCT_TC_MULTIQ_QOPT),
+        3841 => Part::Rows("", &LIST_TC_QDISC_MULTIQ),
         _ => Part::One(Form::Hex),
     }
 }
@@ -2709,7 +2710,7 @@ const STRUCT_TC_NETEM_QOPT: [Field<'static>; 7] = [
     },
     Field {
         name: "attributes",
-        form: Form::List(685),
+        form: Form::List(3853),
     },
 ];
 
@@ -2718,32 +2719,32 @@ const LIST_NETEM: [Row<'static>; 14] = [
     Row {
         word: 1,
         name: "Corr",
-        form: Form::Record(686),
+        form: Form::Record(3854),
     },
     Row {
         word: 2,
         name: "DelayDist",
-        form: Form::Array(260),
+        form: Form::Array(1208),
     },
     Row {
         word: 3,
         name: "Reorder",
-        form: Form::Record(687),
+        form: Form::Record(3855),
     },
     Row {
         word: 4,
         name: "Corrupt",
-        form: Form::Record(688),
+        form: Form::Record(3856),
     },
     Row {
         word: 32773,
         name: "Loss",
-        form: Form::List(689),
+        form: Form::List(3857),
     },
     Row {
         word: 6,
         name: "Rate",
-        form: Form::Record(692),
+        form: Form::Record(3860),
     },
     Row {
         word: 7,
@@ -2773,12 +2774,12 @@ const LIST_NETEM: [Row<'static>; 14] = [
     Row {
         word: 12,
         name: "Slot",
-        form: Form::Record(693),
+        form: Form::Record(3861),
     },
     Row {
         word: 13,
         name: "SlotDist",
-        form: Form::Array(260),
+        form: Form::Array(1208),
     },
     Row {
         word: 14,
@@ -2832,12 +2833,12 @@ const LIST_NETEM_LOSS: [Row<'static>; 2] = [
     Row {
         word: 1,
         name: "Gi",
-        form: Form::Record(690),
+        form: Form::Record(3858),
     },
     Row {
         word: 2,
         name: "Ge",
-        form: Form::Record(691),
+        form: Form::Record(3859),
     },
 ];
 
@@ -2938,12 +2939,12 @@ const LIST_TC_QDISC_NETEM: [Row<'static>; 2] = [
     Row {
         word: 2,
         name: "Options",
-        form: Form::Record(684),
+        form: Form::Record(3852),
     },
     Row {
         word: 4,
         name: "Xstats",
-        form: Form::Choice(426),
+        form: Form::Choice(3006),
     },
 ];
 
@@ -2952,17 +2953,17 @@ pub(crate) fn parts_of_qdiscs_netem(place: usize) -> Part<'static>
     ensures { part_view result ≡ parts_of_qdiscs_netem place }
 {
     match place {
-        684 => Part::Fields(&STRUCT_TC_NETEM_QOPT),
-        685 => Part::Rows("", &LIST_NETEM),
-        686 => Part::Fields(&STRUCT_TC_NETEM_CORR),
-        687 => Part::Fields(&STRUCT_TC_NETEM_REORDER),
-        688 => Part::Fields(&STRUCT_TC_NETEM_CORRUPT),
-        689 => Part::Rows("", &LIST_NETEM_LOSS),
-        690 => Part::Fields(&STRUCT_TC_NETEM_GIMODEL),
-        691 => Part::Fields(&STRUCT_TC_NETEM_GEMODEL),
-        692 => Part::Fields(&STRUCT_TC_NETEM_RATE),
-        693 => Part::Fields(&STRUCT_TC_NETEM_SLOT),
-        694 => Part::Rows("", &LIST_TC_QDISC_NETEM),
+        3852 => Part::Fields(&STRUCT_TC_NETEM_QOPT),
+        3853 => Part::Rows("", &LIST_NETEM),
+        3854 => Part::Fields(&STRUCT_TC_NETEM_CORR),
+        3855 => Part::Fields(&STRUCT_TC_NETEM_REORDER),
+        3856 => Part::Fields(&STRUCT_TC_NETEM_CORRUPT),
+        3857 => Part::Rows("", &LIST_NETEM_LOSS),
+        3858 => Part::Fields(&STRUCT_TC_NETEM_GIMODEL),
+        3859 => Part::Fields(&STRUCT_TC_NETEM_GEMODEL),
+        3860 => Part::Fields(&STRUCT_TC_NETEM_RATE),
+        3861 => Part::Fields(&STRUCT_TC_NETEM_SLOT),
+        3862 => Part::Rows("", &LIST_TC_QDISC_NETEM),
         _ => Part::One(Form::Hex),
     }
 }
@@ -2972,12 +2973,12 @@ const LIST_TC_QDISC_NOOP: [Row<'static>; 2] = [
     Row {
         word: 2,
         name: "Options",
-        form: Form::List(696),
+        form: Form::List(3864),
     },
     Row {
         word: 4,
         name: "Xstats",
-        form: Form::Choice(426),
+        form: Form::Choice(3006),
     },
 ];
 
@@ -2986,12 +2987,12 @@ const LIST_TC_QDISC_CLSACT: [Row<'static>; 2] = [
     Row {
         word: 2,
         name: "Options",
-        form: Form::List(697),
+        form: Form::List(3865),
     },
     Row {
         word: 4,
         name: "Xstats",
-        form: Form::Choice(426),
+        form: Form::Choice(3006),
     },
 ];
 
@@ -3000,10 +3001,10 @@ pub(crate) fn parts_of_qdiscs_none(place: usize) -> Part<'static>
     ensures { part_view result ≡ parts_of_qdiscs_none place }
 {
     match place {
-        696 => Part::Rows("", &[]),
-        697 => Part::Rows("Clsact", &[]),
-        698 => Part::Rows("", &LIST_TC_QDISC_NOOP),
-        699 => Part::Rows("", &LIST_TC_QDISC_CLSACT),
+        3864 => Part::Rows("", &[]),
+        3865 => Part::Rows("Clsact", &[]),
+        3866 => Part::Rows("", &LIST_TC_QDISC_NOOP),
+        3867 => Part::Rows("", &LIST_TC_QDISC_CLSACT),
         _ => Part::One(Form::Hex),
     }
 }
@@ -3095,7 +3096,7 @@ const STRUCT_TC_PIE_XSTATS: [Field<'static>; 9] = [
 // the statistics of pie
 const STATISTICS_QDISC_PIE: [Field<'static>; 1] = [Field {
     name: "Pie",
-    form: Form::Record(709),
+    form: Form::Record(3877),
 }];
 
 // `list tc`: the rows of pie
@@ -3103,12 +3104,12 @@ const LIST_TC_QDISC_PIE: [Row<'static>; 2] = [
     Row {
         word: 2,
         name: "Options",
-        form: Form::List(708),
+        form: Form::List(3876),
     },
     Row {
         word: 4,
         name: "Xstats",
-        form: Form::Record(710),
+        form: Form::Record(3878),
     },
 ];
 
@@ -3116,7 +3117,7 @@ const LIST_TC_QDISC_PIE: [Row<'static>; 2] = [
 const LIST_STATS_QDISC_PIE: [Row<'static>; 1] = [Row {
     word: 4,
     name: "App",
-    form: Form::Record(710),
+    form: Form::Record(3878),
 }];
 
 #[tactic(auto, unfolding(crate::specs::Parts::Qdiscs::parts_of_qdiscs_pie))]
@@ -3124,11 +3125,11 @@ pub(crate) fn parts_of_qdiscs_pie(place: usize) -> Part<'static>
     ensures { part_view result ≡ parts_of_qdiscs_pie place }
 {
     match place {
-        708 => Part::Rows("Pie", &LIST_PIE_IN_PIE),
-        709 => Part::Fields(&STRUCT_TC_PIE_XSTATS),
-        710 => Part::Fields(&STATISTICS_QDISC_PIE),
-        711 => Part::Rows("", &LIST_TC_QDISC_PIE),
-        712 => Part::Rows("", &LIST_STATS_QDISC_PIE),
+        3876 => Part::Rows("Pie", &LIST_PIE_IN_PIE),
+        3877 => Part::Fields(&STRUCT_TC_PIE_XSTATS),
+        3878 => Part::Fields(&STATISTICS_QDISC_PIE),
+        3879 => Part::Rows("", &LIST_TC_QDISC_PIE),
+        3880 => Part::Rows("", &LIST_STATS_QDISC_PIE),
         _ => Part::One(Form::Hex),
     }
 }
@@ -3137,7 +3138,7 @@ pub(crate) fn parts_of_qdiscs_pie(place: usize) -> Part<'static>
 const STRUCT_TC_PLUG_QOPT: [Field<'static>; 2] = [
     Field {
         name: "action",
-        form: Form::Named(Number::I32, 721),
+        form: Form::Named(Number::I32, 3889),
     },
     Field {
         name: "limit",
@@ -3170,12 +3171,12 @@ const LIST_TC_QDISC_PLUG: [Row<'static>; 2] = [
     Row {
         word: 2,
         name: "Options",
-        form: Form::Record(720),
+        form: Form::Record(3888),
     },
     Row {
         word: 4,
         name: "Xstats",
-        form: Form::Choice(426),
+        form: Form::Choice(3006),
     },
 ];
 
@@ -3184,9 +3185,9 @@ pub(crate) fn parts_of_qdiscs_plug(place: usize) -> Part<'static>
     ensures { part_view result ≡ parts_of_qdiscs_plug place }
 {
     match place {
-        720 => Part::Fields(&STRUCT_TC_PLUG_QOPT),
-        721 => Part::Names(&ENUM_TCQ_PLUG),
-        722 => Part::Rows("", &LIST_TC_QDISC_PLUG),
+        3888 => Part::Fields(&STRUCT_TC_PLUG_QOPT),
+        3889 => Part::Names(&ENUM_TCQ_PLUG),
+        3890 => Part::Rows("", &LIST_TC_QDISC_PLUG),
         _ => Part::One(Form::Hex),
     }
 }
@@ -3199,11 +3200,11 @@ const STRUCT_PRIO_OPTIONS: [Field<'static>; 3] = [
     },
     Field {
         name: "priomap",
-        form: Form::Times(16, 257),
+        form: Form::Times(16, 1205),
     },
     Field {
         name: "attributes",
-        form: Form::List(733),
+        form: Form::List(3901),
     },
 ];
 
@@ -3211,7 +3212,7 @@ const STRUCT_PRIO_OPTIONS: [Field<'static>; 3] = [
 const LIST_PRIO: [Row<'static>; 1] = [Row {
     word: 2,
     name: "Options",
-    form: Form::List(733),
+    form: Form::List(3901),
 }];
 
 // `struct tc_prio_qopt`
@@ -3222,7 +3223,7 @@ const STRUCT_TC_PRIO_QOPT: [Field<'static>; 2] = [
     },
     Field {
         name: "priomap",
-        form: Form::Times(16, 257),
+        form: Form::Times(16, 1205),
     },
 ];
 
@@ -3231,12 +3232,12 @@ const LIST_TC_QDISC_PRIO: [Row<'static>; 2] = [
     Row {
         word: 2,
         name: "Options",
-        form: Form::Record(732),
+        form: Form::Record(3900),
     },
     Row {
         word: 4,
         name: "Xstats",
-        form: Form::Choice(426),
+        form: Form::Choice(3006),
     },
 ];
 
@@ -3245,12 +3246,12 @@ const LIST_TC_QDISC_PFIFO_FAST: [Row<'static>; 2] = [
     Row {
         word: 2,
         name: "Options",
-        form: Form::Record(734),
+        form: Form::Record(3902),
     },
     Row {
         word: 4,
         name: "Xstats",
-        form: Form::Choice(426),
+        form: Form::Choice(3006),
     },
 ];
 
@@ -3259,11 +3260,11 @@ pub(crate) fn parts_of_qdiscs_prio(place: usize) -> Part<'static>
     ensures { part_view result ≡ parts_of_qdiscs_prio place }
 {
     match place {
-        732 => Part::Fields(&STRUCT_PRIO_OPTIONS),
-        733 => Part::Rows("", &LIST_PRIO),
-        734 => Part::Fields(&STRUCT_TC_PRIO_QOPT),
-        735 => Part::Rows("", &LIST_TC_QDISC_PRIO),
-        736 => Part::Rows("", &LIST_TC_QDISC_PFIFO_FAST),
+        3900 => Part::Fields(&STRUCT_PRIO_OPTIONS),
+        3901 => Part::Rows("", &LIST_PRIO),
+        3902 => Part::Fields(&STRUCT_TC_PRIO_QOPT),
+        3903 => Part::Rows("", &LIST_TC_QDISC_PRIO),
+        3904 => Part::Rows("", &LIST_TC_QDISC_PFIFO_FAST),
         _ => Part::One(Form::Hex),
     }
 }
@@ -3297,7 +3298,7 @@ const STRUCT_TC_QFQ_STATS: [Field<'static>; 2] = [
 // the statistics of qfq
 const STATISTICS_QDISC_QFQ: [Field<'static>; 1] = [Field {
     name: "Qfq",
-    form: Form::Record(745),
+    form: Form::Record(3913),
 }];
 
 // `list tc`: the rows of qfq
@@ -3305,12 +3306,12 @@ const LIST_TC_QDISC_QFQ: [Row<'static>; 2] = [
     Row {
         word: 2,
         name: "Options",
-        form: Form::List(744),
+        form: Form::List(3912),
     },
     Row {
         word: 4,
         name: "Xstats",
-        form: Form::Record(746),
+        form: Form::Record(3914),
     },
 ];
 
@@ -3318,7 +3319,7 @@ const LIST_TC_QDISC_QFQ: [Row<'static>; 2] = [
 const LIST_STATS_QDISC_QFQ: [Row<'static>; 1] = [Row {
     word: 4,
     name: "App",
-    form: Form::Record(746),
+    form: Form::Record(3914),
 }];
 
 #[tactic(auto, unfolding(crate::specs::Parts::Qdiscs::parts_of_qdiscs_qfq))]
@@ -3326,11 +3327,11 @@ pub(crate) fn parts_of_qdiscs_qfq(place: usize) -> Part<'static>
     ensures { part_view result ≡ parts_of_qdiscs_qfq place }
 {
     match place {
-        744 => Part::Rows("Qfq", &LIST_QFQ_IN_QFQ),
-        745 => Part::Fields(&STRUCT_TC_QFQ_STATS),
-        746 => Part::Fields(&STATISTICS_QDISC_QFQ),
-        747 => Part::Rows("", &LIST_TC_QDISC_QFQ),
-        748 => Part::Rows("", &LIST_STATS_QDISC_QFQ),
+        3912 => Part::Rows("Qfq", &LIST_QFQ_IN_QFQ),
+        3913 => Part::Fields(&STRUCT_TC_QFQ_STATS),
+        3914 => Part::Fields(&STATISTICS_QDISC_QFQ),
+        3915 => Part::Rows("", &LIST_TC_QDISC_QFQ),
+        3916 => Part::Rows("", &LIST_STATS_QDISC_QFQ),
         _ => Part::One(Form::Hex),
     }
 }
@@ -3340,7 +3341,7 @@ const LIST_RED_IN_RED: [Row<'static>; 6] = [
     Row {
         word: 1,
         name: "Parms",
-        form: Form::Record(757),
+        form: Form::Record(3925),
     },
     Row {
         word: 2,
@@ -3355,7 +3356,7 @@ const LIST_RED_IN_RED: [Row<'static>; 6] = [
     Row {
         word: 4,
         name: "Flags",
-        form: Form::Record(758),
+        form: Form::Record(3926),
     },
     Row {
         word: 5,
@@ -3436,7 +3437,7 @@ const STRUCT_TC_RED_XSTATS: [Field<'static>; 4] = [
 // the statistics of red
 const STATISTICS_QDISC_RED: [Field<'static>; 1] = [Field {
     name: "Red",
-    form: Form::Record(759),
+    form: Form::Record(3927),
 }];
 
 // `list tc`: the rows of red
@@ -3444,12 +3445,12 @@ const LIST_TC_QDISC_RED: [Row<'static>; 2] = [
     Row {
         word: 2,
         name: "Options",
-        form: Form::List(756),
+        form: Form::List(3924),
     },
     Row {
         word: 4,
         name: "Xstats",
-        form: Form::Record(760),
+        form: Form::Record(3928),
     },
 ];
 
@@ -3457,7 +3458,7 @@ const LIST_TC_QDISC_RED: [Row<'static>; 2] = [
 const LIST_STATS_QDISC_RED: [Row<'static>; 1] = [Row {
     word: 4,
     name: "App",
-    form: Form::Record(760),
+    form: Form::Record(3928),
 }];
 
 #[tactic(auto, unfolding(crate::specs::Parts::Qdiscs::parts_of_qdiscs_red))]
@@ -3465,13 +3466,13 @@ pub(crate) fn parts_of_qdiscs_red(place: usize) -> Part<'static>
     ensures { part_view result ≡ parts_of_qdiscs_red place }
 {
     match place {
-        756 => Part::Rows("Red", &LIST_RED_IN_RED),
-        757 => Part::Fields(&STRUCT_TC_RED_QOPT),
-        758 => Part::Fields(&STRUCT_TCA_RED_FLAGS),
-        759 => Part::Fields(&STRUCT_TC_RED_XSTATS),
-        760 => Part::Fields(&STATISTICS_QDISC_RED),
-        761 => Part::Rows("", &LIST_TC_QDISC_RED),
-        762 => Part::Rows("", &LIST_STATS_QDISC_RED),
+        3924 => Part::Rows("Red", &LIST_RED_IN_RED),
+        3925 => Part::Fields(&STRUCT_TC_RED_QOPT),
+        3926 => Part::Fields(&STRUCT_TCA_RED_FLAGS),
+        3927 => Part::Fields(&STRUCT_TC_RED_XSTATS),
+        3928 => Part::Fields(&STATISTICS_QDISC_RED),
+        3929 => Part::Rows("", &LIST_TC_QDISC_RED),
+        3930 => Part::Rows("", &LIST_STATS_QDISC_RED),
         _ => Part::One(Form::Hex),
     }
 }
@@ -3480,7 +3481,7 @@ pub(crate) fn parts_of_qdiscs_red(place: usize) -> Part<'static>
 const LIST_SFB_IN_SFB: [Row<'static>; 1] = [Row {
     word: 1,
     name: "Parms",
-    form: Form::Record(770),
+    form: Form::Record(3938),
 }];
 
 // `struct tc_sfb_xstats`
@@ -3566,7 +3567,7 @@ const STRUCT_TC_SFB_QOPT: [Field<'static>; 9] = [
 // the statistics of sfb
 const STATISTICS_QDISC_SFB: [Field<'static>; 1] = [Field {
     name: "Sfb",
-    form: Form::Record(769),
+    form: Form::Record(3937),
 }];
 
 // `list tc`: the rows of sfb
@@ -3574,12 +3575,12 @@ const LIST_TC_QDISC_SFB: [Row<'static>; 2] = [
     Row {
         word: 2,
         name: "Options",
-        form: Form::List(768),
+        form: Form::List(3936),
     },
     Row {
         word: 4,
         name: "Xstats",
-        form: Form::Record(771),
+        form: Form::Record(3939),
     },
 ];
 
@@ -3587,7 +3588,7 @@ const LIST_TC_QDISC_SFB: [Row<'static>; 2] = [
 const LIST_STATS_QDISC_SFB: [Row<'static>; 1] = [Row {
     word: 4,
     name: "App",
-    form: Form::Record(771),
+    form: Form::Record(3939),
 }];
 
 #[tactic(auto, unfolding(crate::specs::Parts::Qdiscs::parts_of_qdiscs_sfb))]
@@ -3595,12 +3596,12 @@ pub(crate) fn parts_of_qdiscs_sfb(place: usize) -> Part<'static>
     ensures { part_view result ≡ parts_of_qdiscs_sfb place }
 {
     match place {
-        768 => Part::Rows("Sfb", &LIST_SFB_IN_SFB),
-        769 => Part::Fields(&STRUCT_TC_SFB_XSTATS),
-        770 => Part::Fields(&STRUCT_TC_SFB_QOPT),
-        771 => Part::Fields(&STATISTICS_QDISC_SFB),
-        772 => Part::Rows("", &LIST_TC_QDISC_SFB),
-        773 => Part::Rows("", &LIST_STATS_QDISC_SFB),
+        3936 => Part::Rows("Sfb", &LIST_SFB_IN_SFB),
+        3937 => Part::Fields(&STRUCT_TC_SFB_XSTATS),
+        3938 => Part::Fields(&STRUCT_TC_SFB_QOPT),
+        3939 => Part::Fields(&STATISTICS_QDISC_SFB),
+        3940 => Part::Rows("", &LIST_TC_QDISC_SFB),
+        3941 => Part::Rows("", &LIST_STATS_QDISC_SFB),
         _ => Part::One(Form::Hex),
     }
 }
@@ -3611,13 +3612,13 @@ const CHOICE_SFQ: [Choice<'static>; 2] = [
         name: "Qopt",
         prefix: &[],
         len: Some(20),
-        form: Form::Record(781),
+        form: Form::Record(3949),
     },
     Choice {
         name: "QoptV1",
         prefix: &[],
         len: Some(72),
-        form: Form::Record(782),
+        form: Form::Record(3950),
     },
 ];
 
@@ -3649,7 +3650,7 @@ const STRUCT_TC_SFQ_QOPT: [Field<'static>; 5] = [
 const STRUCT_TC_SFQ_QOPT_V1: [Field<'static>; 12] = [
     Field {
         name: "v0",
-        form: Form::Record(781),
+        form: Form::Record(3949),
     },
     Field {
         name: "depth",
@@ -3693,7 +3694,7 @@ const STRUCT_TC_SFQ_QOPT_V1: [Field<'static>; 12] = [
     },
     Field {
         name: "stats",
-        form: Form::Record(783),
+        form: Form::Record(3951),
     },
 ];
 
@@ -3734,7 +3735,7 @@ const STRUCT_TC_SFQ_XSTATS: [Field<'static>; 1] = [Field {
 // the statistics of sfq
 const STATISTICS_QDISC_SFQ: [Field<'static>; 1] = [Field {
     name: "Sfq",
-    form: Form::Record(784),
+    form: Form::Record(3952),
 }];
 
 // `list tc`: the rows of sfq
@@ -3742,12 +3743,12 @@ const LIST_TC_QDISC_SFQ: [Row<'static>; 2] = [
     Row {
         word: 2,
         name: "Options",
-        form: Form::Choice(780),
+        form: Form::Choice(3948),
     },
     Row {
         word: 4,
         name: "Xstats",
-        form: Form::Record(785),
+        form: Form::Record(3953),
     },
 ];
 
@@ -3755,7 +3756,7 @@ const LIST_TC_QDISC_SFQ: [Row<'static>; 2] = [
 const LIST_STATS_QDISC_SFQ: [Row<'static>; 1] = [Row {
     word: 4,
     name: "App",
-    form: Form::Record(785),
+    form: Form::Record(3953),
 }];
 
 #[tactic(auto, unfolding(crate::specs::Parts::Qdiscs::parts_of_qdiscs_sfq))]
@@ -3763,14 +3764,14 @@ pub(crate) fn parts_of_qdiscs_sfq(place: usize) -> Part<'static>
     ensures { part_view result ≡ parts_of_qdiscs_sfq place }
 {
     match place {
-        780 => Part::Choices(&CHOICE_SFQ),
-        781 => Part::Fields(&STRUCT_TC_SFQ_QOPT),
-        782 => Part::Fields(&STRUCT_TC_SFQ_QOPT_V1),
-        783 => Part::Fields(&STRUCT_TC_SFQRED_STATS),
-        784 => Part::Fields(&STRUCT_TC_SFQ_XSTATS),
-        785 => Part::Fields(&STATISTICS_QDISC_SFQ),
-        786 => Part::Rows("", &LIST_TC_QDISC_SFQ),
-        787 => Part::Rows("", &LIST_STATS_QDISC_SFQ),
+        3948 => Part::Choices(&CHOICE_SFQ),
+        3949 => Part::Fields(&STRUCT_TC_SFQ_QOPT),
+        3950 => Part::Fields(&STRUCT_TC_SFQ_QOPT_V1),
+        3951 => Part::Fields(&STRUCT_TC_SFQRED_STATS),
+        3952 => Part::Fields(&STRUCT_TC_SFQ_XSTATS),
+        3953 => Part::Fields(&STATISTICS_QDISC_SFQ),
+        3954 => Part::Rows("", &LIST_TC_QDISC_SFQ),
+        3955 => Part::Rows("", &LIST_STATS_QDISC_SFQ),
         _ => Part::One(Form::Hex),
     }
 }
@@ -3786,12 +3787,12 @@ const LIST_TC_QDISC_SKBPRIO: [Row<'static>; 2] = [
     Row {
         word: 2,
         name: "Options",
-        form: Form::Record(792),
+        form: Form::Record(3960),
     },
     Row {
         word: 4,
         name: "Xstats",
-        form: Form::Choice(426),
+        form: Form::Choice(3006),
     },
 ];
 
@@ -3800,8 +3801,8 @@ pub(crate) fn parts_of_qdiscs_skbprio(place: usize) -> Part<'static>
     ensures { part_view result ≡ parts_of_qdiscs_skbprio place }
 {
     match place {
-        792 => Part::Fields(&STRUCT_TC_SKBPRIO_QOPT),
-        793 => Part::Rows("", &LIST_TC_QDISC_SKBPRIO),
+        3960 => Part::Fields(&STRUCT_TC_SKBPRIO_QOPT),
+        3961 => Part::Rows("", &LIST_TC_QDISC_SKBPRIO),
         _ => Part::One(Form::Hex),
     }
 }
@@ -3811,12 +3812,12 @@ const LIST_TAPRIO: [Row<'static>; 12] = [
     Row {
         word: 1,
         name: "Priomap",
-        form: Form::Record(661),
+        form: Form::Record(3829),
     },
     Row {
         word: 32770,
         name: "SchedEntryList",
-        form: Form::List(806),
+        form: Form::List(3974),
     },
     Row {
         word: 3,
@@ -3826,7 +3827,7 @@ const LIST_TAPRIO: [Row<'static>; 12] = [
     Row {
         word: 4,
         name: "SchedSingleEntry",
-        form: Form::List(807),
+        form: Form::List(3975),
     },
     Row {
         word: 5,
@@ -3841,7 +3842,7 @@ const LIST_TAPRIO: [Row<'static>; 12] = [
     Row {
         word: 7,
         name: "AdminSched",
-        form: Form::List(804),
+        form: Form::List(3972),
     },
     Row {
         word: 8,
@@ -3866,7 +3867,7 @@ const LIST_TAPRIO: [Row<'static>; 12] = [
     Row {
         word: 32780,
         name: "TcEntry",
-        form: Form::List(809),
+        form: Form::List(3977),
     },
 ];
 
@@ -3875,12 +3876,12 @@ const LIST_TAPRIO_IN_TAPRIO: [Row<'static>; 12] = [
     Row {
         word: 1,
         name: "Priomap",
-        form: Form::Record(661),
+        form: Form::Record(3829),
     },
     Row {
         word: 32770,
         name: "SchedEntryList",
-        form: Form::List(806),
+        form: Form::List(3974),
     },
     Row {
         word: 3,
@@ -3890,7 +3891,7 @@ const LIST_TAPRIO_IN_TAPRIO: [Row<'static>; 12] = [
     Row {
         word: 4,
         name: "SchedSingleEntry",
-        form: Form::List(807),
+        form: Form::List(3975),
     },
     Row {
         word: 5,
@@ -3905,7 +3906,7 @@ const LIST_TAPRIO_IN_TAPRIO: [Row<'static>; 12] = [
     Row {
         word: 7,
         name: "AdminSched",
-        form: Form::List(804),
+        form: Form::List(3972),
     },
     Row {
         word: 8,
@@ -3930,7 +3931,7 @@ const LIST_TAPRIO_IN_TAPRIO: [Row<'static>; 12] = [
     Row {
         word: 32780,
         name: "TcEntry",
-        form: Form::List(809),
+        form: Form::List(3977),
     },
 ];
 
@@ -3938,7 +3939,7 @@ const LIST_TAPRIO_IN_TAPRIO: [Row<'static>; 12] = [
 const LIST_TAPRIO_ENTRY_LIST: [Row<'static>; 1] = [Row {
     word: 1,
     name: "Entry",
-    form: Form::List(807),
+    form: Form::List(3975),
 }];
 
 // `list taprio_entry`
@@ -3951,7 +3952,7 @@ const LIST_TAPRIO_ENTRY: [Row<'static>; 4] = [
     Row {
         word: 2,
         name: "Cmd",
-        form: Form::Named(Number::U8, 808),
+        form: Form::Named(Number::U8, 3976),
     },
     Row {
         word: 3,
@@ -3996,7 +3997,7 @@ const LIST_TAPRIO_TC_ENTRY: [Row<'static>; 3] = [
     Row {
         word: 3,
         name: "Fp",
-        form: Form::Named(Number::U32, 834),
+        form: Form::Named(Number::U32, 4206),
     },
 ];
 
@@ -4022,7 +4023,7 @@ const LIST_TAPRIO_STATS: [Row<'static>; 3] = [
 // the statistics of taprio
 const STATISTICS_QDISC_TAPRIO: [Field<'static>; 1] = [Field {
     name: "Taprio",
-    form: Form::List(810),
+    form: Form::List(3978),
 }];
 
 // `list tc`: the rows of taprio
@@ -4030,12 +4031,12 @@ const LIST_TC_QDISC_TAPRIO: [Row<'static>; 2] = [
     Row {
         word: 2,
         name: "Options",
-        form: Form::List(805),
+        form: Form::List(3973),
     },
     Row {
         word: 32772,
         name: "Xstats",
-        form: Form::Record(811),
+        form: Form::Record(3979),
     },
 ];
 
@@ -4043,7 +4044,7 @@ const LIST_TC_QDISC_TAPRIO: [Row<'static>; 2] = [
 const LIST_STATS_QDISC_TAPRIO: [Row<'static>; 1] = [Row {
     word: 32772,
     name: "App",
-    form: Form::Record(811),
+    form: Form::Record(3979),
 }];
 
 #[tactic(auto, unfolding(crate::specs::Parts::Qdiscs::parts_of_qdiscs_taprio))]
@@ -4051,16 +4052,16 @@ pub(crate) fn parts_of_qdiscs_taprio(place: usize) -> Part<'static>
     ensures { part_view result ≡ parts_of_qdiscs_taprio place }
 {
     match place {
-        804 => Part::Rows("", &LIST_TAPRIO),
-        805 => Part::Rows("Taprio", &LIST_TAPRIO_IN_TAPRIO),
-        806 => Part::Rows("", &LIST_TAPRIO_ENTRY_LIST),
-        807 => Part::Rows("", &LIST_TAPRIO_ENTRY),
-        808 => Part::Names(&ENUM_TC_TAPRIO_CMD),
-        809 => Part::Rows("", &LIST_TAPRIO_TC_ENTRY),
-        810 => Part::Rows("", &LIST_TAPRIO_STATS),
-        811 => Part::Fields(&STATISTICS_QDISC_TAPRIO),
-        812 => Part::Rows("", &LIST_TC_QDISC_TAPRIO),
-        813 => Part::Rows("", &LIST_STATS_QDISC_TAPRIO),
+        3972 => Part::Rows("", &LIST_TAPRIO),
+        3973 => Part::Rows("Taprio", &LIST_TAPRIO_IN_TAPRIO),
+        3974 => Part::Rows("", &LIST_TAPRIO_ENTRY_LIST),
+        3975 => Part::Rows("", &LIST_TAPRIO_ENTRY),
+        3976 => Part::Names(&ENUM_TC_TAPRIO_CMD),
+        3977 => Part::Rows("", &LIST_TAPRIO_TC_ENTRY),
+        3978 => Part::Rows("", &LIST_TAPRIO_STATS),
+        3979 => Part::Fields(&STATISTICS_QDISC_TAPRIO),
+        3980 => Part::Rows("", &LIST_TC_QDISC_TAPRIO),
+        3981 => Part::Rows("", &LIST_STATS_QDISC_TAPRIO),
         _ => Part::One(Form::Hex),
     }
 }
@@ -4070,7 +4071,7 @@ const LIST_TBF_IN_TBF: [Row<'static>; 8] = [
     Row {
         word: 1,
         name: "Parms",
-        form: Form::Record(817),
+        form: Form::Record(3985),
     },
     Row {
         word: 2,
@@ -4113,11 +4114,11 @@ const LIST_TBF_IN_TBF: [Row<'static>; 8] = [
 const STRUCT_TC_TBF_QOPT: [Field<'static>; 5] = [
     Field {
         name: "rate",
-        form: Form::Record(828),
+        form: Form::Record(4200),
     },
     Field {
         name: "peakrate",
-        form: Form::Record(828),
+        form: Form::Record(4200),
     },
     Field {
         name: "limit",
@@ -4138,12 +4139,12 @@ const LIST_TC_QDISC_TBF: [Row<'static>; 2] = [
     Row {
         word: 2,
         name: "Options",
-        form: Form::List(816),
+        form: Form::List(3984),
     },
     Row {
         word: 4,
         name: "Xstats",
-        form: Form::Choice(426),
+        form: Form::Choice(3006),
     },
 ];
 
@@ -4152,9 +4153,51 @@ pub(crate) fn parts_of_qdiscs_tbf(place: usize) -> Part<'static>
     ensures { part_view result ≡ parts_of_qdiscs_tbf place }
 {
     match place {
-        816 => Part::Rows("Tbf", &LIST_TBF_IN_TBF),
-        817 => Part::Fields(&STRUCT_TC_TBF_QOPT),
-        818 => Part::Rows("", &LIST_TC_QDISC_TBF),
+        3984 => Part::Rows("Tbf", &LIST_TBF_IN_TBF),
+        3985 => Part::Fields(&STRUCT_TC_TBF_QOPT),
+        3986 => Part::Rows("", &LIST_TC_QDISC_TBF),
+        _ => Part::One(Form::Hex),
+    }
+}
+
+#[tactic(auto, unfolding(crate::specs::Parts::Qdiscs::all_of_qdiscs))]
+pub(crate) fn all_of_qdiscs(place: usize) -> Part<'static>
+    ensures { part_view result ≡ all_of_qdiscs place }
+{
+    match place / 12 {
+        300 => parts_of_qdiscs_atm(place),
+        301 => parts_of_qdiscs_cake(place),
+        302 => parts_of_qdiscs_cbq(place),
+        303 => parts_of_qdiscs_cbs(place),
+        304 => parts_of_qdiscs_choke(place),
+        305 => parts_of_qdiscs_codel(place),
+        306 => parts_of_qdiscs_drr(place),
+        307 => parts_of_qdiscs_dsmark(place),
+        308 => parts_of_qdiscs_etf(place),
+        309 => parts_of_qdiscs_ets(place),
+        310 => parts_of_qdiscs_fifo(place),
+        311 => parts_of_qdiscs_fq(place),
+        312 => parts_of_qdiscs_fq_codel(place),
+        313 => parts_of_qdiscs_fq_pie(place),
+        314 => parts_of_qdiscs_gred(place),
+        315 => parts_of_qdiscs_hfsc(place),
+        316 => parts_of_qdiscs_hhf(place),
+        317 => parts_of_qdiscs_htb(place),
+        318 => parts_of_qdiscs_ingress(place),
+        319 => parts_of_qdiscs_mqprio(place),
+        320 => parts_of_qdiscs_multiq(place),
+        321 => parts_of_qdiscs_netem(place),
+        322 => parts_of_qdiscs_none(place),
+        323 => parts_of_qdiscs_pie(place),
+        324 => parts_of_qdiscs_plug(place),
+        325 => parts_of_qdiscs_prio(place),
+        326 => parts_of_qdiscs_qfq(place),
+        327 => parts_of_qdiscs_red(place),
+        328 => parts_of_qdiscs_sfb(place),
+        329 => parts_of_qdiscs_sfq(place),
+        330 => parts_of_qdiscs_skbprio(place),
+        331 => parts_of_qdiscs_taprio(place),
+        332 => parts_of_qdiscs_tbf(place),
         _ => Part::One(Form::Hex),
     }
 }

@@ -3,6 +3,7 @@
 ghost use Rattle.std.specs.Prelude.{◌≡◌, map};
 ghost use Rattle.tc_forms.specs.Tables.{part_view};
 ghost use Rattle.tc_kinds.specs.Parts.Shared.{parts_of_shared};
+ghost use Rattle.tc_kinds.specs.Parts.Shared.{all_of_shared};
 
 use tc_forms::{Field, Form, Name, Number, Part, Row};
 
@@ -14,7 +15,7 @@ const STRUCT_TC_RATESPEC: [Field<'static>; 6] = [
     },
     Field {
         name: "linklayer",
-        form: Form::Named(Number::U8, 829),
+        form: Form::Named(Number::U8, 4201),
     },
     Field {
         name: "overhead",
@@ -55,12 +56,12 @@ const LIST_STAB: [Row<'static>; 2] = [
     Row {
         word: 1,
         name: "Base",
-        form: Form::Record(831),
+        form: Form::Record(4203),
     },
     Row {
         word: 2,
         name: "Data",
-        form: Form::Array(253),
+        form: Form::Array(1201),
     },
 ];
 
@@ -84,7 +85,7 @@ const STRUCT_TC_SIZESPEC: [Field<'static>; 8] = [
     },
     Field {
         name: "linklayer",
-        form: Form::Named(Number::U32, 829),
+        form: Form::Named(Number::U32, 4201),
     },
     Field {
         name: "mpu",
@@ -149,13 +150,23 @@ pub(crate) fn parts_of_shared(place: usize) -> Part<'static>
     ensures { part_view result ≡ parts_of_shared place }
 {
     match place {
-        828 => Part::Fields(&STRUCT_TC_RATESPEC),
-        829 => Part::Names(&ENUM_TC_LINKLAYER),
-        830 => Part::Rows("", &LIST_STAB),
-        831 => Part::Fields(&STRUCT_TC_SIZESPEC),
-        832 => Part::Fields(&STRUCT_TC_ESTIMATOR),
-        833 => Part::Fields(&STRUCT_SOCK_FILTER),
-        834 => Part::Names(&ENUM_TC_FP),
+        4200 => Part::Fields(&STRUCT_TC_RATESPEC),
+        4201 => Part::Names(&ENUM_TC_LINKLAYER),
+        4202 => Part::Rows("", &LIST_STAB),
+        4203 => Part::Fields(&STRUCT_TC_SIZESPEC),
+        4204 => Part::Fields(&STRUCT_TC_ESTIMATOR),
+        4205 => Part::Fields(&STRUCT_SOCK_FILTER),
+        4206 => Part::Names(&ENUM_TC_FP),
+        _ => Part::One(Form::Hex),
+    }
+}
+
+#[tactic(auto, unfolding(crate::specs::Parts::Shared::all_of_shared))]
+pub(crate) fn all_of_shared(place: usize) -> Part<'static>
+    ensures { part_view result ≡ all_of_shared place }
+{
+    match place / 12 {
+        350 => parts_of_shared(place),
         _ => Part::One(Form::Hex),
     }
 }

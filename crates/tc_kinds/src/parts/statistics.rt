@@ -3,6 +3,7 @@
 ghost use Rattle.std.specs.Prelude.{◌≡◌, map};
 ghost use Rattle.tc_forms.specs.Tables.{part_view};
 ghost use Rattle.tc_kinds.specs.Parts.Statistics.{parts_of_statistics};
+ghost use Rattle.tc_kinds.specs.Parts.Statistics.{all_of_statistics};
 
 use tc_forms::{Field, Form, KindRows, Number, Part, Row};
 
@@ -50,71 +51,71 @@ const STRUCT_TC_STATS: [Field<'static>; 9] = [
 const LIST_STATS: [KindRows<'static>; 17] = [
     KindRows {
         kind: "cake",
-        rows: 453,
+        rows: 3621,
     },
     KindRows {
         kind: "cbq",
-        rows: 465,
+        rows: 3633,
     },
     KindRows {
         kind: "choke",
-        rows: 484,
+        rows: 3652,
     },
     KindRows {
         kind: "codel",
-        rows: 496,
+        rows: 3664,
     },
     KindRows {
         kind: "drr",
-        rows: 508,
+        rows: 3676,
     },
     KindRows {
         kind: "fq",
-        rows: 569,
+        rows: 3737,
     },
     KindRows {
         kind: "fq_codel",
-        rows: 582,
+        rows: 3750,
     },
     KindRows {
         kind: "fq_pie",
-        rows: 592,
+        rows: 3760,
     },
     KindRows {
         kind: "hfsc",
-        rows: 619,
+        rows: 3787,
     },
     KindRows {
         kind: "hhf",
-        rows: 628,
+        rows: 3796,
     },
     KindRows {
         kind: "htb",
-        rows: 642,
+        rows: 3810,
     },
     KindRows {
         kind: "pie",
-        rows: 712,
+        rows: 3880,
     },
     KindRows {
         kind: "qfq",
-        rows: 748,
+        rows: 3916,
     },
     KindRows {
         kind: "red",
-        rows: 762,
+        rows: 3930,
     },
     KindRows {
         kind: "sfb",
-        rows: 773,
+        rows: 3941,
     },
     KindRows {
         kind: "sfq",
-        rows: 787,
+        rows: 3955,
     },
     KindRows {
         kind: "taprio",
-        rows: 813,
+        rows: 3981,
     },
 ];
 
@@ -123,22 +124,22 @@ const LIST_STATS_OF_ALL: [Row<'static>; 7] = [
     Row {
         word: 1,
         name: "Basic",
-        form: Form::Record(844),
+        form: Form::Record(4804),
     },
     Row {
         word: 2,
         name: "RateEst",
-        form: Form::Record(846),
+        form: Form::Record(4806),
     },
     Row {
         word: 3,
         name: "Queue",
-        form: Form::Record(845),
+        form: Form::Record(4805),
     },
     Row {
         word: 5,
         name: "RateEst64",
-        form: Form::Record(847),
+        form: Form::Record(4807),
     },
     Row {
         word: 6,
@@ -148,7 +149,7 @@ const LIST_STATS_OF_ALL: [Row<'static>; 7] = [
     Row {
         word: 7,
         name: "BasicHw",
-        form: Form::Record(844),
+        form: Form::Record(4804),
     },
     Row {
         word: 8,
@@ -161,7 +162,7 @@ const LIST_STATS_OF_ALL: [Row<'static>; 7] = [
 const LIST_STATS_OF_OTHERS: [Row<'static>; 1] = [Row {
     word: 4,
     name: "App",
-    form: Form::Choice(426),
+    form: Form::Choice(3006),
 }];
 
 // `struct gnet_stats_basic`
@@ -233,14 +234,24 @@ pub(crate) fn parts_of_statistics(place: usize) -> Part<'static>
     ensures { part_view result ≡ parts_of_statistics place }
 {
     match place {
-        840 => Part::Fields(&STRUCT_TC_STATS),
-        841 => Part::Kinds(842, 843, &LIST_STATS),
-        842 => Part::Rows("", &LIST_STATS_OF_ALL),
-        843 => Part::Rows("", &LIST_STATS_OF_OTHERS),
-        844 => Part::Fields(&STRUCT_GNET_STATS_BASIC),
-        845 => Part::Fields(&STRUCT_GNET_STATS_QUEUE),
-        846 => Part::Fields(&STRUCT_GNET_STATS_RATE_EST),
-        847 => Part::Fields(&STRUCT_GNET_STATS_RATE_EST64),
+        4800 => Part::Fields(&STRUCT_TC_STATS),
+        4801 => Part::Kinds(4802, 4803, &LIST_STATS),
+        4802 => Part::Rows("", &LIST_STATS_OF_ALL),
+        4803 => Part::Rows("", &LIST_STATS_OF_OTHERS),
+        4804 => Part::Fields(&STRUCT_GNET_STATS_BASIC),
+        4805 => Part::Fields(&STRUCT_GNET_STATS_QUEUE),
+        4806 => Part::Fields(&STRUCT_GNET_STATS_RATE_EST),
+        4807 => Part::Fields(&STRUCT_GNET_STATS_RATE_EST64),
+        _ => Part::One(Form::Hex),
+    }
+}
+
+#[tactic(auto, unfolding(crate::specs::Parts::Statistics::all_of_statistics))]
+pub(crate) fn all_of_statistics(place: usize) -> Part<'static>
+    ensures { part_view result ≡ all_of_statistics place }
+{
+    match place / 12 {
+        400 => parts_of_statistics(place),
         _ => Part::One(Form::Hex),
     }
 }
