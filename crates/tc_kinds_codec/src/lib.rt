@@ -12,11 +12,13 @@ ghost use Rattle.tc_canon.specs.Tables.Statistics.{stats2};
 ghost use Rattle.tc_names.specs.Names as names;
 ghost use Rattle.tc_names.specs.RecordNames as fields;
 ghost use Rattle.tc_kinds.specs.Table.{tc_tables, tc_message, action_message};
-ghost use Rattle.tc_kinds_codec.specs.Tables.{form_of_field, form_at};
+ghost use Rattle.tc_kinds_codec.specs.Tables.{form_at};
 ghost use Rattle.tc_kinds_codec.specs.Said.{HasRows, behind_kind};
 ghost use Rattle.tc_kinds_codec.specs.Records.{IsRecord, flags_pair};
-ghost use Rattle.tc_kinds_codec.specs.Typed.{tc_rows, options_rows, action_message_rows, action_rows, action_options_rows, statistics_rows, mpls_rows, lse_rows};
-ghost use Rattle.tc_kinds_codec.specs.Typed.{layers, action_layers, words, action_words, actions_in_filters, one_action, xstats_at, keys_of_selector};
+ghost use Rattle.tc_kinds_codec.specs.Typed.{header_of, tc_rows, options_rows, statistics_rows, mpls_rows, lse_rows};
+ghost use Rattle.tc_kinds_codec.specs.Typed.{action_message_rows, action_rows, action_options_rows};
+ghost use Rattle.tc_kinds_codec.specs.Typed.{layers, action_layers, words, action_words, actions_in_filters, one_action};
+ghost use Rattle.tc_kinds_codec.specs.Typed.{xstats_at, keys_of_selector};
 
 use tc_kinds::{ACTION_MESSAGE, TC_MESSAGE};
 
@@ -24,9 +26,9 @@ use tc_kinds::{ACTION_MESSAGE, TC_MESSAGE};
 pub fn messages_are_the_codecs()
     ensures tc_constant { TC_MESSAGE ≡ tc_message }
     ensures action_constant { ACTION_MESSAGE ≡ action_message }
-    ensures tc_header { IsRecord tc_tables (form_of_field tc_tables tc_message (codes "header")) layouts.tc_header fields.tc_header_names }
+    ensures tc_header { IsRecord tc_tables (header_of tc_message) layouts.tc_header fields.tc_header_names }
     ensures tc { HasRows tc_tables (tc_rows []) (behind_kind attributes) names.attributes_names }
-    ensures action_header { IsRecord tc_tables (form_of_field tc_tables action_message (codes "header")) layouts.action_message_header fields.action_message_header_names }
+    ensures action_header { IsRecord tc_tables (header_of action_message) layouts.action_message_header fields.action_message_header_names }
     ensures action { HasRows tc_tables action_message_rows action_message_attributes names.action_message_attributes_names }
     ensures flags { IsRecord tc_tables (form_at action_message_rows 2) flags_pair fields.flags_pair_names }
 {}
