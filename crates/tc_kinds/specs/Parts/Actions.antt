@@ -828,7 +828,7 @@ list_tunnel_key_in_tunnelkey =
     ∷ row 8 (codes "Pad") form.Flag
     ∷ row 9 (codes "EncDstPort") (form.Number number.U16Be)
     ∷ row 10 (codes "NoCsum") form.Truth
-    ∷ row 32779 (codes "EncOpts") (form.List 2449)
+    ∷ row 11 (codes "EncOpts") (form.List 818)
     ∷ row 12 (codes "EncTos") (form.Number number.U8)
     ∷ row 13 (codes "EncTtl") (form.Number number.U8)
     ∷ row 14 (codes "NoFrag") form.Flag
@@ -842,6 +842,15 @@ struct_tc_tunnel_key =
     ∷ field (codes "t_action") (form.Number number.I32)
     ∷ [])
 
+-- `list tunnel_key_opts`
+abbrev pub list_tunnel_key_opts : Part
+list_tunnel_key_opts =
+    Rows []
+    (row 1 (codes "Geneve") (form.List 2450)
+    ∷ row 32770 (codes "Vxlan") (form.List 2451)
+    ∷ row 32771 (codes "Erspan") (form.List 2452)
+    ∷ [])
+
 -- `list action`: the rows of tunnel_key
 abbrev pub list_action_action_tunnel_key : Part
 list_action_action_tunnel_key =
@@ -853,8 +862,9 @@ unfoldable pub parts_of_actions_tunnel_key : Table
 parts_of_actions_tunnel_key place =
     if place == 816 then list_tunnel_key_in_tunnelkey else (
     if place == 817 then struct_tc_tunnel_key else (
-    if place == 818 then list_action_action_tunnel_key else (
-    One form.Hex)))
+    if place == 818 then list_tunnel_key_opts else (
+    if place == 819 then list_action_action_tunnel_key else (
+    One form.Hex))))
 
 -- `list vlan`
 abbrev pub list_vlan_in_vlan : Part

@@ -87,7 +87,7 @@ const LIST_ACTION: [KindRows<'static>; 21] = [
     },
     KindRows {
         kind: "tunnel_key",
-        rows: 818,
+        rows: 819,
     },
     KindRows {
         kind: "vlan",

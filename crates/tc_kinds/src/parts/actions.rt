@@ -1723,9 +1723,9 @@ const LIST_TUNNEL_KEY_IN_TUNNELKEY: [Row<'static>; 14] = [
         form: Form::Truth,
     },
     Row {
-        word: 32779,
+        word: 11,
         name: "EncOpts",
-        form: Form::List(2449),
+        form: Form::List(818),
     },
     Row {
         word: 12,
@@ -1756,6 +1756,25 @@ const STRUCT_TC_TUNNEL_KEY: [Field<'static>; 2] = [
     },
 ];
 
+// `list tunnel_key_opts`
+const LIST_TUNNEL_KEY_OPTS: [Row<'static>; 3] = [
+    Row {
+        word: 1,
+        name: "Geneve",
+        form: Form::List(2450),
+    },
+    Row {
+        word: 32770,
+        name: "Vxlan",
+        form: Form::List(2451),
+    },
+    Row {
+        word: 32771,
+        name: "Erspan",
+        form: Form::List(2452),
+    },
+];
+
 // `list action`: the rows of tunnel_key
 const LIST_ACTION_ACTION_TUNNEL_KEY: [Row<'static>; 1] = [Row {
     word: 32770,
@@ -1770,7 +1789,8 @@ pub(crate) fn parts_of_actions_tunnel_key(place: usize) -> Part<'static>
     match place {
         816 => Part::Rows("TunnelKey", &LIST_TUNNEL_KEY_IN_TUNNELKEY),
         817 => Part::Fields(&STRUCT_TC_TUNNEL_KEY),
-        818 => Part::Rows("", &LIST_ACTION_ACTION_TUNNEL_KEY),
+        818 => Part::Rows("", &LIST_TUNNEL_KEY_OPTS),
+        819 => Part::Rows("", &LIST_ACTION_ACTION_TUNNEL_KEY),
         _ => Part::One(Form::Hex),
     }
 }
