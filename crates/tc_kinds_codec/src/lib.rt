@@ -1,5 +1,5 @@
-//! The tables of `tc_kinds` have all that the codec's have: every attribute with its `nla_type`, its name and its form, and every record with its
-//! fields. The functions do nothing: their contracts say so, and are computed.
+//! The table of `tc_kinds` has all that the codec's tables have: every attribute with its `nla_type`, its name and its form, and every record with
+//! its fields. The functions do nothing; their contracts are the laws, and hold by computation.
 #![tactic(auto)]
 
 ghost use Rattle.std.specs.Prelude.{◌≡◌, codes, [], ◌∷◌, map};
