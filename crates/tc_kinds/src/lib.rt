@@ -1,0 +1,22 @@
+//! The attributes, records and named numbers of Linux's traffic control, as a table for `tc_forms`. They are defined in the files below
+//! `kinds/`; `kinds/generate` writes the parts here from them.
+#![tactic(auto)]
+
+mod parts;
+
+ghost use Rattle.tc_kinds.specs.Table.{tc_tables};
+
+pub use parts::{ACTION_MESSAGE, TC_MESSAGE};
+use tc_forms::{Part, Tables};
+
+/// The tables of Linux's traffic control. It takes no memory.
+#[derive(Clone, Copy)]
+pub struct TcTables;
+
+impl Tables for TcTables {
+    ghost parts_of = { λ t. tc_tables };
+
+    fn part(self, place: usize) -> Part<'static> {
+        parts::tc_tables(place)
+    }
+}

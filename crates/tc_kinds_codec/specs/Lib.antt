@@ -1,0 +1,4 @@
+pub mod Tables
+pub mod Said
+pub mod Records
+pub mod Typed
