@@ -55,7 +55,7 @@ get_each q (member k d ms) = at (slice_cmp nat_cmp q k) (get_each q ms)
     at Greater e = e
 
 -- no two members have one name
-abbrev Apart : Members → Type 0
+abbrev pub Apart : Members → Type 0
 Apart no_members = Unit {0}
 Apart (member k d ms) = (get_member k ms ≡ None) × Apart ms
 
@@ -166,25 +166,25 @@ finds_read ms name x mark word c a kept_mark f = record {
   no_text = refl;
 }
 
-pad_apart : (c : PaddedFrame) → Apart (pad_told c)
+pub pad_apart : (c : PaddedFrame) → Apart (pad_told c)
 pad_apart c = go (is_blank (Some (padding (length c.value))) c.pad)
   where
     go : (t : Bool) → Apart (cond t no_members (member (codes "pad") (hex c.pad) no_members))
     go true = tt
     go false = (refl, tt)
 
-told_apart : (word : ℕ) (c : PaddedFrame) → Apart (told word c)
+pub told_apart : (word : ℕ) (c : PaddedFrame) → Apart (told word c)
 told_apart word c = go (c.word == word)
   where
     go : (t : Bool) → Apart (cond t (pad_told c) (member (codes "word") (number (unsigned c.word)) (pad_told c)))
     go true = pad_apart c
     go false = (not_pad_told (codes "word") c refl, pad_apart c)
 
-named_apart : (name : List ℕ) (x : Data) (word : ℕ) (c : PaddedFrame) → bytes_eq name (codes "word") ≡ false → bytes_eq name (codes "pad") ≡ false
+pub named_apart : (name : List ℕ) (x : Data) (word : ℕ) (c : PaddedFrame) → bytes_eq name (codes "word") ≡ false → bytes_eq name (codes "pad") ≡ false
     → Apart (member name x (told word c))
 named_apart name x word c w p = (get_told word c name w ∙ not_pad_told name c p, told_apart word c)
 
-kind_apart : (t : List ℕ) (c : PaddedFrame) → Apart (member (codes "Kind") (string t) (bare_told c.value (told 1 c)))
+pub kind_apart : (t : List ℕ) (c : PaddedFrame) → Apart (member (codes "Kind") (string t) (bare_told c.value (told 1 c)))
 kind_apart t c =
     (get_bare_told c.value (told 1 c) (codes "Kind") refl ∙ get_told 1 c (codes "Kind") refl ∙ not_pad_told (codes "Kind") c refl, go (ends_in_nul c.value))
   where

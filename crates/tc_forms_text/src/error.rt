@@ -1,0 +1,105 @@
+//! Why a text isn't read, and why no bytes are made of it.
+
+ghost use Rattle.std.specs.Prelude.{◌≡◌, ◌↔◌, IsTrue};
+ghost use Rattle.tc_forms_text.specs.declared.error.ReadError.TheVariants.{OutOfMemory};
+ghost use Rattle.tc_forms_text.specs.declared.error.TextError.TheVariants.{Read, Make};
+ghost use Rattle.tc_forms_text.specs.Make.{IsMemory};
+
+use std::alloc::AllocError;
+use std::error::Error;
+use std::fmt;
+use tc_forms::MakeError;
+
+/// Why a text isn't read as JSON.
+#[derive(Drop)]
+pub enum ReadError {
+    /// Memory ran out.
+    OutOfMemory,
+
+    /// It isn't JSON, or isn't UTF-8, or has a number that no float holds; the place is where reading stopped.
+    NotJson {
+        /// The line, counted from 1.
+        line: usize,
+        /// The byte of the line, counted from 1; 0 at the end of an empty line.
+        column: usize,
+    },
+
+    /// Lists and objects nest more than 127 levels deep; the place is where reading stopped.
+    TooDeep {
+        /// The line, counted from 1.
+        line: usize,
+        /// The byte of the line, counted from 1.
+        column: usize,
+    },
+
+    /// An object has two members of one name.
+    Repeated {
+        /// The place of the second, as a JSON pointer.
+        path: String,
+    },
+}
+
+impl fmt::Display for ReadError {
+    fn fmt<W: fmt::Write>(&self, f: &mut fmt::Formatter<W>) -> fmt::Result {
+        match self {
+            ReadError::OutOfMemory => f.write_str("out of memory"),
+            ReadError::NotJson { line, column } => {
+                write!(f, "not JSON at line {line} column {column}")
+            }
+            ReadError::TooDeep { line, column } => {
+                write!(f, "more than 127 levels deep at line {line} column {column}")
+            }
+            ReadError::Repeated { path } => write!(f, "{path}: found twice, wanted once"),
+        }
+    }
+}
+
+impl fmt::Debug for ReadError {
+    fn fmt<W: fmt::Write>(&self, f: &mut fmt::Formatter<W>) -> fmt::Result {
+        write!(f, "{self}")
+    }
+}
+
+impl Error for ReadError {}
+
+impl From<AllocError> for ReadError {
+    ghost from_gives = { λ _ e. e ≡ OutOfMemory };
+
+    fn from(_: AllocError) -> ReadError {
+        ReadError::OutOfMemory
+    }
+}
+
+/// Why no bytes are made of a text.
+#[derive(Drop)]
+pub enum TextError {
+    /// It isn't read as JSON.
+    Read(ReadError),
+    /// What is read stands for no bytes.
+    Make(MakeError),
+}
+
+impl TextError {
+    /// Whether memory ran out.
+    pub fn is_memory(&self) -> bool
+        ensures { IsTrue result ↔ IsMemory self.now }
+    {
+        matches!(self, TextError::Read(ReadError::OutOfMemory) | TextError::Make(MakeError::OutOfMemory))
+    }
+}
+
+impl From<ReadError> for TextError {
+    ghost from_gives = { λ given e. e ≡ Read given };
+
+    fn from(e: ReadError) -> TextError {
+        TextError::Read(e)
+    }
+}
+
+impl From<MakeError> for TextError {
+    ghost from_gives = { λ given e. e ≡ Make given };
+
+    fn from(e: MakeError) -> TextError {
+        TextError::Make(e)
+    }
+}

@@ -1,0 +1,102 @@
+//! The place of the first name that an object has twice.
+
+use json::{Scratch, Value};
+use std::alloc::{AllocError, Global};
+use std::collections::BTreeSet;
+
+// A step of a JSON pointer.
+#[derive(Clone, Copy)]
+enum Step<'v> {
+    Member(&'v str),
+    Item(usize),
+}
+
+/// The place of the first member whose name an earlier one of its object has, as a JSON pointer.
+pub fn repeated(alloc: Global, text: &str) -> Result<String, AllocError> {
+    let mut scratch = Scratch::new(alloc);
+    match Value::parse(alloc, text, &mut scratch) {
+        Ok(json) => repeated_in(alloc, &json),
+        Err(_) => Err(AllocError),
+    }
+}
+
+fn repeated_in(alloc: Global, json: &Value<'_>) -> Result<String, AllocError> {
+    let mut place = Vec::new(alloc);
+    find_repeated(alloc, &mut place, json)?;
+    pointer(alloc, &place)
+}
+
+// True if an object has a name twice: the place stays that of the second.
+#[cycle(repeated)]
+fn find_repeated<'v, 'a>(
+    alloc: Global,
+    place: &mut Vec<Step<'v>>,
+    value: &'v Value<'a>,
+) -> Result<bool, AllocError> {
+    match value {
+        Value::Array(items) => in_items(alloc, place, items),
+        Value::Object(members) => in_members(alloc, place, members),
+        _ => Ok(false),
+    }
+}
+
+#[cycle(repeated)]
+fn in_items<'v, 'a>(
+    alloc: Global,
+    place: &mut Vec<Step<'v>>,
+    items: &'v Vec<Value<'a>>,
+) -> Result<bool, AllocError> {
+    for (index, item) in items.iter().enumerate() {
+        place.push(Step::Item(index))?;
+        if find_repeated(alloc, place, item)? {
+            return Ok(true);
+        }
+        place.pop();
+    }
+    Ok(false)
+}
+
+#[cycle(repeated)]
+fn in_members<'v, 'a>(
+    alloc: Global,
+    place: &mut Vec<Step<'v>>,
+    members: &'v Vec<(&'a str, Value<'a>)>,
+) -> Result<bool, AllocError> {
+    let mut names = BTreeSet::new(alloc);
+    for (name, member) in members {
+        place.push(Step::Member(name))?;
+        if !names.insert(*name)? {
+            return Ok(true);
+        }
+        if find_repeated(alloc, place, member)? {
+            return Ok(true);
+        }
+        place.pop();
+    }
+    Ok(false)
+}
+
+// A place as a JSON pointer (RFC 6901).
+fn pointer(alloc: Global, place: &[Step<'_>]) -> Result<String, AllocError> {
+    let mut path = String::new(alloc);
+    for step in place {
+        path.push('/')?;
+        match step {
+            Step::Member(name) => push_escaped(&mut path, name)?,
+            Step::Item(index) => path.push_str(format!(in alloc; "{index}")?.as_str())?,
+        }
+    }
+    Ok(path)
+}
+
+// Appends a name as a pointer has it: `~0` for `~`, `~1` for `/`.
+fn push_escaped(path: &mut String, name: &str) -> Result<(), AllocError> {
+    for c in name.chars() {
+        match c {
+            '~' => path.push_str("~0")?,
+            '/' => path.push_str("~1")?,
+            c => path.push(c)?,
+        }
+    }
+    Ok(())
+}
