@@ -1,0 +1,16 @@
+//! Shows traffic control messages as JSON and makes them of it again.
+#![tactic(auto)]
+
+use std::process::ExitCode;
+use tc_roundtrip::mode::Messages;
+use tc_roundtrip::program::tcforms;
+use tc_kinds::{ACTION_MESSAGE, TC_MESSAGE, TcTables};
+
+fn main(rt: HostRuntime) -> ExitCode {
+    let messages = Messages {
+        table: TcTables,
+        tc: TC_MESSAGE,
+        action: ACTION_MESSAGE,
+    };
+    tcforms(&rt, messages, &mut rt.stderr())
+}
