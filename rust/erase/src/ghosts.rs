@@ -1,36 +1,31 @@
 //! Ghost text: contracts, ghost items, and the attributes of proofs.
 
 use crate::Fault;
-use crate::token::{Condition, Token, after_group};
+use crate::duties::Condition;
+use crate::token::{Token, after_group};
 
 /// The tokens without ghost text. What a `requires` asked is kept beside the `{` or the `;` that ends its signature.
 pub(crate) fn without_ghosts(all: &[Token]) -> Result<Vec<Token>, Fault> {
     let mut out: Vec<Token> = Vec::new();
-    let mut asked = Vec::new();
-    let mut comment = None;
-    let mut at = 0;
+    let (mut asked, mut comment, mut at) = (Vec::new(), None, 0);
     while at < all.len() {
         let token = &all[at];
         if token.is("ghost") {
-            let is_pub = out.last().is_some_and(|last| last.is("pub"));
-            out.truncate(out.len() - usize::from(is_pub));
+            out.pop_if(|last| last.is("pub"));
             at = after_ghost(all, at)?;
-        } else if (token.is("requires") || token.is("ensures")) && clause(all, at).is_some() {
-            let open = clause(all, at).unwrap_or(at);
+        } else if let Some(open) = open_of_clause(all, at) {
             let end = after_group(all, open)?;
             if token.is("requires") {
-                asked.push(condition(&all[at + 1..open], &all[open + 1..end - 1]));
+                asked.push(Condition::new(&all[at + 1..open], &all[open + 1..end - 1]));
             }
             at = end;
-        } else if token.is("#") && is_of_proofs(&all[at + 1..]) {
-            let open = at + 1 + usize::from(all[at + 1].is("!"));
-            at = after_group(all, open)?;
+        } else if token.is("#") && all[at + 1..].iter().find(|token| token.is_word()).is_some_and(|name| name.is("tactic") || name.is("cycle")) {
+            at = after_group(all, at + 1 + usize::from(all[at + 1].is("!")))?;
+            // The comment above an attribute is that of the item.
             comment = Some(token.before.clone());
         } else {
-            let mut token = token.clone();
-            // The comment above an attribute is that of the item.
-            token.before = comment.take().unwrap_or(token.before);
-            if !asked.is_empty() && (token.is("{") || token.is(";")) {
+            let mut token = Token { before: comment.take().unwrap_or(token.before.clone()), ..token.clone() };
+            if token.is("{") || token.is(";") {
                 token.asked = std::mem::take(&mut asked);
             }
             out.push(token);
@@ -40,87 +35,27 @@ pub(crate) fn without_ghosts(all: &[Token]) -> Result<Vec<Token>, Fault> {
     Ok(out)
 }
 
-/// The `{` of a clause: `requires`, a `*` or a name before it.
-fn clause(all: &[Token], at: usize) -> Option<usize> {
-    (at + 1..at + 4).find(|i| all.get(*i).is_some_and(|token| token.is("{"))).filter(|open| {
-        all[at + 1..*open].iter().all(|token| token.is("*") || token.is_word())
-    })
+/// The `{` of a `requires` or an `ensures` at this place, behind its name or a `*`.
+fn open_of_clause(all: &[Token], at: usize) -> Option<usize> {
+    let is_clause = all[at].is("requires") || all[at].is("ensures");
+    let open = (at + 1..all.len().min(at + 4)).find(|open| all[*open].is("{"))?;
+    (is_clause && all[at + 1..open].iter().all(|token| token.is("*") || token.is_word())).then_some(open)
 }
 
-/// The place after a ghost item or field.
+/// The place after a ghost item or field: `ghost use ..;`, or a name with `: {..}`, `= {..}` or both.
 fn after_ghost(all: &[Token], at: usize) -> Result<usize, Fault> {
-    let is = |i: usize, text: &str| all.get(i).is_some_and(|token| token.is(text));
-    if is(at + 1, "use") {
-        let len = all[at..].iter().position(|token| token.is(";"));
-        return len.map(|len| at + len + 1).ok_or_else(|| Fault::new(&all[at], "a ghost use without an end"));
-    }
+    let is = |at: usize, text: &str| all.get(at).is_some_and(|token| token.is(text));
     let mut end = at + 2;
+    while is(at + 1, "use") && end < all.len() && !is(end, ";") {
+        end += 1;
+    }
     for sign in [":", "="] {
         if is(end, sign) && is(end + 1, "{") {
             end = after_group(all, end + 1)?;
         }
     }
-    match all.get(end) {
-        Some(token) if end > at + 2 && (token.is(";") || token.is(",")) => Ok(end + 1),
-        Some(token) if end > at + 2 && token.is("}") => Ok(end),
-        _ => Err(Fault::new(&all[at], "a ghost item of a form that isn't known")),
+    match end > at + 2 && (is(end, ";") || is(end, ",") || is(end, "}")) {
+        true => Ok(end + usize::from(!is(end, "}"))),
+        false => Err(Fault::new(&all[at], "a ghost item of a form that isn't known")),
     }
-}
-
-/// True if the attribute behind a `#` is read by the prover alone.
-fn is_of_proofs(after: &[Token]) -> bool {
-    let name = after.iter().find(|token| !token.is("!") && !token.is("["));
-    name.is_some_and(|name| name.is("tactic") || name.is("cycle") || name.is("rattlefmt"))
-}
-
-fn condition(name: &[Token], body: &[Token]) -> Condition {
-    let mut text = String::new();
-    for token in name.iter().filter(|token| token.is_word()) {
-        text = format!("{}: ", token.text);
-    }
-    for (i, token) in body.iter().enumerate() {
-        let space = if i > 0 && !token.before.is_empty() { " " } else { "" };
-        text = format!("{text}{space}{}", token.text);
-    }
-    Condition { text, rust: in_rust(body) }
-}
-
-/// A condition in Rust, where it is arithmetic over numbers and the lengths of slices.
-fn in_rust(body: &[Token]) -> Option<String> {
-    let mut out = String::new();
-    let mut is_len = false;
-    let mut at = 0;
-    while let Some(token) = body.get(at) {
-        at += 1;
-        match token.text.as_str() {
-            "length" => is_len = true,
-            "≤" => out.push_str(" <= "),
-            "≡" => out.push_str(" == "),
-            sign @ ("<" | "+" | "*") => out.push_str(&format!(" {sign} ")),
-            _ if token.text.starts_with(|c: char| c.is_ascii_lowercase() || c.is_ascii_digit()) => {
-                out.push_str(&token.text);
-                let mut is_place = false;
-                while body.get(at).is_some_and(|dot| dot.is(".")) && at + 1 < body.len() {
-                    let field = &body[at + 1];
-                    is_place |= field.is("now") || field.is("old");
-                    if !field.is("now") && !field.is("old") {
-                        out.push_str(&format!(".{}", field.text));
-                    }
-                    at += 2;
-                }
-                if is_len != is_place {
-                    return None;
-                }
-                out.push_str(if is_len { ".len()" } else { "" });
-                is_len = false;
-                let is_sign = body.get(at).is_none_or(|next| ["≤", "≡", "<", "+", "*"].contains(&next.text.as_str()));
-                if !is_sign {
-                    return None;
-                }
-            }
-            _ => return None,
-        }
-    }
-    let compares = ["<", "=="].iter().any(|sign| out.contains(sign));
-    (compares && !is_len).then_some(out)
 }

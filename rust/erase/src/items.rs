@@ -1,18 +1,14 @@
-//! Items: functions, imports, and the calls of functions.
+//! Items: functions and imports.
 
 use crate::Fault;
 use crate::token::{Token, after_angle, after_group};
 
-/// A function.
+/// A function: from its attributes and its visibility at `start` to `end`, with its `fn` at `at`, and its `{` or its `;` at `body`.
 pub(crate) struct Function {
     pub name: String,
-    /// Where its attributes or its first word stand.
     pub start: usize,
-    /// Its `fn`.
     pub at: usize,
-    /// Its `{`, or its `;`.
     pub body: usize,
-    /// The place after it.
     pub end: usize,
     /// True if it can write to what it is given.
     pub writes: bool,
@@ -23,15 +19,8 @@ pub(crate) struct Function {
 /// The functions of a file, those in others too.
 pub(crate) fn functions(all: &[Token]) -> Result<Vec<Function>, Fault> {
     let mut found = Vec::new();
-    for at in 0..all.len() {
-        if !all[at].is("fn") || !all.get(at + 1).is_some_and(|name| name.is_word()) {
-            continue;
-        }
-        let is_generic = all[at + 2].is("<");
-        let open = if is_generic { after_angle(all, at + 2)? } else { at + 2 };
-        if !all[open].is("(") {
-            continue; // of a macro's pattern
-        }
+    for at in (0..all.len().saturating_sub(3)).filter(|at| all[*at].is("fn") && all[at + 1].is_word()) {
+        let open = if all[at + 2].is("<") { after_angle(all, at + 2)? } else { at + 2 };
         let close = after_group(all, open)?;
         let mut body = close;
         while !all[body].is("{") && !all[body].is(";") {
@@ -39,106 +28,61 @@ pub(crate) fn functions(all: &[Token]) -> Result<Vec<Function>, Fault> {
         }
         let end = if all[body].is("{") { after_group(all, body)? } else { body + 1 };
         let writes = all[open..close].iter().any(|token| token.is("mut") || token.is("HostRuntime"));
-        found.push(Function {
-            name: all[at + 1].text.clone(),
-            start: item_start(all, at),
-            at,
-            body,
-            end,
-            writes,
-            does_nothing: body == close && !writes,
-        });
+        let name = all[at + 1].text.clone();
+        found.push(Function { name, start: item_start(all, at), at, body, end, writes, does_nothing: body == close && !writes });
     }
     Ok(found)
 }
 
 /// Where the item of this keyword begins: its attributes and its visibility.
-pub(crate) fn item_start(all: &[Token], mut at: usize) -> usize {
-    loop {
-        let before = at.checked_sub(1).map(|i| &all[i]);
-        match before {
-            Some(token) if ["pub", "final", "const", "default"].iter().any(|word| token.is(word)) => at -= 1,
-            Some(token) if token.is(")") && at >= 4 && all[at - 4].is("pub") => at -= 4,
-            Some(token) if token.is("]") => {
-                let opens = |open: &usize| all[*open].is("#") && after_group(all, open + 1).ok() == Some(at);
-                match (at.saturating_sub(200)..at).rev().find(opens) {
-                    Some(open) => at = open,
-                    None => return at,
-                }
-            }
+fn item_start(all: &[Token], mut at: usize) -> usize {
+    while at > 0 {
+        let opens = |open: &usize| all[*open].is("#") && after_group(all, open + 1).ok() == Some(at);
+        at = match all[at - 1].text.as_str() {
+            "pub" | "final" | "const" => at - 1,
+            ")" if at >= 4 && all[at - 4].is("pub") => at - 4,
+            "]" => match (at.saturating_sub(200)..at).rev().find(opens) {
+                Some(open) => open,
+                None => return at,
+            },
             _ => return at,
-        }
+        };
     }
+    at
 }
 
-/// The imports of a file that a predicate keeps, by their whole path. It sees names in braces one by one.
-pub(crate) fn keep_imports(all: &[Token], keeps: &dyn Fn(&[String]) -> bool) -> Vec<Token> {
-    let mut out = Vec::new();
+/// The file without imports and declarations of modules that are lost, by their paths. Names in braces are asked for one by one.
+pub(crate) fn without_imports(all: &[Token], is_lost: &dyn Fn(&[&str]) -> bool) -> Vec<Token> {
+    let mut out: Vec<Token> = Vec::new();
     let mut at = 0;
     while at < all.len() {
-        let start = at;
-        if all[at].is("pub") && all.get(at + 1).is_some_and(|next| next.is("(")) {
-            at = (at + 4).min(all.len() - 1);
-        } else if all[at].is("pub") {
+        let end = (at..all.len()).find(|end| all[*end].is(";")).unwrap_or(at);
+        if !(all[at].is("use") || all[at].is("mod") && at + 2 == end) {
+            out.push(all[at].clone());
             at += 1;
+            continue;
         }
-        let end = all[at..].iter().position(|token| token.is(";")).map(|len| at + len);
-        match end {
-            Some(end) if all[at].is("use") => {
-                let tree = kept_tree(&all[at + 1..end], &[], keeps);
-                if !tree.is_empty() {
-                    out.extend_from_slice(&all[start..=at]);
-                    out.extend(tree);
-                    out.push(all[end].clone());
-                }
-                at = end + 1;
-            }
-            _ => {
-                out.push(all[start].clone());
-                at = start + 1;
-            }
+        let open = all[at..end].iter().position(|token| token.is("{")).map_or(end, |len| at + len);
+        let path = |tokens: &[Token]| tokens.iter().filter(|token| token.is_word()).map(|token| token.text.clone()).collect::<Vec<_>>();
+        let before = path(&all[at + 1..open]);
+        let is_kept = |name: &&[Token]| {
+            let whole = [before.clone(), path(name)].concat();
+            let alias = whole.iter().position(|word| word == "as").unwrap_or(whole.len());
+            !name.is_empty() && !is_lost(&whole[..alias].iter().map(String::as_str).collect::<Vec<_>>())
+        };
+        let names = if open < end { all[open + 1..end - 1].split(|token| token.is(",")).filter(is_kept).collect() } else { Vec::new() };
+        if open < end && !names.is_empty() {
+            out.extend_from_slice(&all[at..=open]);
+            let comma = Token { text: ",".into(), before: String::new(), ..all[open].clone() };
+            out.extend(names.join(&comma));
+            out.extend_from_slice(&all[end - 1..=end]);
+        } else if open == end && !is_lost(&before.iter().map(String::as_str).take_while(|word| *word != "as").collect::<Vec<_>>()) {
+            out.extend_from_slice(&all[at..=end]);
+        } else {
+            let is_in_crate = out.len() > 3 && out[out.len() - 1].is(")") && out[out.len() - 4].is("pub");
+            out.truncate(out.len() - if is_in_crate { 4 } else { usize::from(out.last().is_some_and(|last| last.is("pub"))) });
         }
+        at = end + 1;
     }
     out
-}
-
-/// What is kept of a tree of imports.
-fn kept_tree(tree: &[Token], above: &[String], keeps: &dyn Fn(&[String]) -> bool) -> Vec<Token> {
-    let mut path = above.to_vec();
-    for (at, token) in tree.iter().enumerate() {
-        if token.is("as") {
-            break;
-        }
-        if token.is("{") {
-            let names = split(&tree[at + 1..tree.len() - 1]).into_iter();
-            let mut kept: Vec<_> = names.map(|name| kept_tree(name, &path, keeps)).filter(|name| !name.is_empty()).collect();
-            for name in kept.iter_mut().skip(1) {
-                name[0].before = " ".into();
-                name.insert(0, Token { text: ",".into(), before: String::new(), ..tree[at].clone() });
-            }
-            if kept.is_empty() {
-                return Vec::new();
-            }
-            let inner = kept.concat();
-            return [&tree[..=at], &inner, &tree[tree.len() - 1..]].concat();
-        }
-        if token.is_word() {
-            path.push(token.text.clone());
-        }
-    }
-    if keeps(&path) { tree.to_vec() } else { Vec::new() }
-}
-
-/// The elements of a list with commas.
-pub(crate) fn split(list: &[Token]) -> Vec<&[Token]> {
-    let mut depth = 0usize;
-    let pieces = list.split(|token| {
-        match token.text.as_str() {
-            "{" | "(" | "[" | "<" => depth += 1,
-            "}" | ")" | "]" | ">" => depth = depth.saturating_sub(1),
-            _ => {}
-        }
-        depth == 0 && token.is(",")
-    });
-    pieces.filter(|piece| !piece.is_empty()).collect()
 }

@@ -1,18 +1,11 @@
 //! Takes out of Rattle sources what Rust doesn't have: contracts, ghost items, laws and their calls, the bound `Drop`, and
 //! allocators. What is left is Rust, and is not proved: it is made from sources that are.
 //!
-//! It takes out nothing else, and rewrites only what the tables of [`rules`](self#rules) name. A form that it doesn't know is a
-//! [`Fault`] with its file and line.
-//!
-//! # Rules
-//!
-//! `src/rules.rs` has all that is known by name. The rest goes by form: `ghosts.rs` and `laws.rs` take out, `allocators.rs`
-//! follows the types that are bound by `Allocator`, `errors.rs` writes out the derive of `thiserror`, and `duties.rs` checks and
-//! documents what a `requires` asked.
+//! It takes out nothing else, and rewrites only what the tables of `rules.rs` name. A form that it doesn't know is a [`Fault`]
+//! with its file and line. `ghosts.rs` and `laws.rs` take out, `duties.rs` checks and documents what a `requires` asked, and
+//! `finish.rs` applies the tables.
 
-mod allocators;
 mod duties;
-mod errors;
 mod finish;
 mod ghosts;
 mod items;
@@ -22,9 +15,8 @@ mod rules;
 mod token;
 
 use std::collections::BTreeMap;
-use std::fmt;
-use std::fs;
 use std::path::{Path, PathBuf};
+use std::{fmt, fs, io};
 use token::Token;
 
 /// A form that isn't known, or a file that can't be read.
@@ -40,9 +32,12 @@ impl Fault {
         Fault { file: String::new(), line: at.line, why: why.into() }
     }
 
-    fn in_file(mut self, file: &Source) -> Fault {
-        self.file = file.path.display().to_string();
-        self
+    fn of_file(file: &Path, why: impl fmt::Display) -> Fault {
+        Fault { file: file.display().to_string(), line: 0, why: why.to_string() }
+    }
+
+    fn in_file(self, file: &Source) -> Fault {
+        Fault { file: file.file.display().to_string(), ..self }
     }
 }
 
@@ -56,25 +51,12 @@ impl std::error::Error for Fault {}
 
 /// A file of a crate.
 struct Source {
-    path: PathBuf,
-    krate: String,
-    /// The modules that it is in, the innermost last; none of `lib.rt`.
-    module: Vec<String>,
+    file: PathBuf,
+    /// Its crate and the modules that it is in.
+    path: Vec<String>,
     /// Its own comment, `//!`.
     docs: String,
     tokens: Vec<Token>,
-}
-
-impl Source {
-    /// Its crate and its modules, as a path.
-    fn name(&self) -> String {
-        [std::slice::from_ref(&self.krate), &self.module].concat().join("::")
-    }
-}
-
-/// The erased modules of some crates, by their paths: the crate's name first.
-pub struct Erased {
-    modules: BTreeMap<Vec<String>, (String, String)>,
 }
 
 /// What is to be erased.
@@ -90,63 +72,72 @@ pub struct Crates<'a> {
     pub omitted: &'a [&'a str],
 }
 
+/// The erased modules of some crates, by their paths, the crate's name first: the module's own comment, and its text.
+pub struct Erased {
+    modules: BTreeMap<Vec<String>, (String, String)>,
+}
+
 /// Erases crates. Each becomes a module at the root of one crate, beside the shims.
 pub fn erase(from: Crates<'_>) -> Result<Erased, Fault> {
     let crates = [from.codec, from.users].concat();
     let mut files = Vec::new();
     for krate in &crates {
-        read_crate(&from.folder.join(krate).join("src"), krate, &mut Vec::new(), &mut files)?;
+        read_crate(&from.folder.join(krate).join("src"), &mut vec![krate.to_string()], &mut files)?;
     }
-    files.retain(|file| !from.omitted.contains(&file.name().as_str()));
-    for file in &mut files {
-        file.drop_modules(from.omitted);
-    }
+    files.retain(|file| !from.omitted.contains(&file.path.join("::").as_str()));
     laws::drop_laws(&mut files)?;
-    let mut of_users: Vec<_> = files.extract_if(.., |file| from.users.contains(&file.krate.as_str())).collect();
-    laws::drop_functions(&mut of_users, rules::LEFT_OUT)?;
-    files.append(&mut of_users);
-    for krate in &crates {
-        let mut of_crate: Vec<_> = files.extract_if(.., |file| file.krate == *krate).collect();
-        allocators::drop_allocators(&mut of_crate)?;
-        files.append(&mut of_crate);
-    }
-    laws::drop_markers(&mut files)?;
     let mut modules = BTreeMap::new();
-    for file in files {
-        let more = if from.users.contains(&file.krate.as_str()) { rules::USER_RULES } else { &[] };
-        let text = finish::finished(&file, &crates, more).map_err(|fault| fault.in_file(&file))?;
-        modules.insert([std::slice::from_ref(&file.krate), &file.module].concat(), text);
+    for mut file in files {
+        let is_user = from.users.contains(&file.path[0].as_str());
+        if is_user {
+            laws::drop_functions(&mut file, rules::LEFT_OUT).map_err(|fault| fault.in_file(&file))?;
+        }
+        let own = file.path.join("::");
+        file.tokens = items::without_imports(&file.tokens, &|path| from.omitted.contains(&format!("{own}::{}", path[0]).as_str()));
+        let text = finish::finished(&file, &crates, if is_user { rules::USER_RULES } else { &[] }).map_err(|fault| fault.in_file(&file))?;
+        modules.insert(file.path, (file.docs, text));
     }
     Ok(Erased { modules })
 }
 
-fn read_crate(folder: &Path, krate: &str, module: &mut Vec<String>, files: &mut Vec<Source>) -> Result<(), Fault> {
-    let fault = |path: &Path, why: String| Fault { file: path.display().to_string(), line: 0, why };
-    let entries = fs::read_dir(folder).map_err(|e| fault(folder, e.to_string()))?;
-    let mut paths: Vec<_> = entries.flatten().map(|entry| entry.path()).collect();
-    paths.sort();
-    for path in paths {
-        let stem = path.file_stem().unwrap_or_default().to_string_lossy().into_owned();
-        if path.is_dir() {
-            module.push(stem);
-            read_crate(&path, krate, module, files)?;
-            module.pop();
-        } else if path.extension().is_some_and(|extension| extension == "rt") {
-            let text = fs::read_to_string(&path).map_err(|e| fault(&path, e.to_string()))?;
-            let mut module = module.clone();
-            if stem != "lib" {
-                module.push(stem);
-            }
+fn read_crate(folder: &Path, path: &mut Vec<String>, files: &mut Vec<Source>) -> Result<(), Fault> {
+    for entry in fs::read_dir(folder).map_err(|e| Fault::of_file(folder, e))?.flatten() {
+        let file = entry.path();
+        let stem = file.file_stem().unwrap_or_default().to_string_lossy().into_owned();
+        if stem != "lib" {
+            path.push(stem.clone());
+        }
+        if file.is_dir() {
+            read_crate(&file, path, files)?;
+        } else if file.extension().is_some_and(|extension| extension == "rt") {
+            let text = fs::read_to_string(&file).map_err(|e| Fault::of_file(&file, e))?;
             let docs: Vec<_> = text.lines().take_while(|line| line.starts_with("//!")).collect();
-            let rest = &text[docs.iter().map(|line| line.len() + 1).sum::<usize>().min(text.len())..];
-            let all = token::tokens(rest, docs.len() + 1).map_err(|why| fault(&path, why))?;
-            let docs = docs.join("\n");
-            let mut file = Source { path, krate: krate.into(), module, docs, tokens: Vec::new() };
-            file.tokens = ghosts::without_ghosts(&all).map_err(|fault| fault.in_file(&file))?;
-            files.push(file);
+            let rest = text.lines().skip(docs.len()).collect::<Vec<_>>().join("\n");
+            let all = token::tokens(&rest, docs.len() + 1).map_err(|why| Fault::of_file(&file, why))?;
+            let mut source = Source { file, path: path.clone(), docs: without_allocators(&docs), tokens: Vec::new() };
+            source.tokens = ghosts::without_ghosts(&all).map_err(|fault| fault.in_file(&source))?;
+            files.push(source);
+        }
+        if stem != "lib" {
+            path.pop();
         }
     }
     Ok(())
+}
+
+/// A module's own comment, whose examples allocate as Rust does. They are no tests, since they don't say what they import.
+fn without_allocators(docs: &[&str]) -> String {
+    let mut is_code = false;
+    let line = |line: &&str| {
+        let is_fence = *line == "//! ```";
+        is_code ^= is_fence;
+        match line.contains("[in alloc; ") {
+            _ if is_fence && is_code => "//! ```ignore".to_string(),
+            true => line.replace("(alloc, ", "(").replace("[in alloc; ", "[").replace("]?)", "])"),
+            false => line.replace("(alloc, ", "("),
+        }
+    };
+    docs.iter().map(line).collect::<Vec<_>>().join("\n")
 }
 
 impl Erased {
@@ -160,21 +151,15 @@ impl Erased {
         let (docs, text) = &self.modules[path];
         let mut text = text.clone();
         for inner in self.modules.keys().filter(|inner| inner.len() == path.len() + 1 && inner.starts_with(path)) {
-            let name = &inner[path.len()];
-            let (start, keyword) = ["pub(crate) mod", "pub mod", "mod"]
-                .iter()
-                .find_map(|keyword| text.find(&format!("{keyword} {name};")).map(|at| (at, keyword)))
-                .unwrap_or_else(|| panic!("no module declares {}", inner.join("::")));
-            let len = keyword.len() + name.len() + 2;
-            text.replace_range(start..start + len, &self.nested(inner, keyword));
+            let declared = |keyword: &&str| text.contains(&format!("{keyword} {};", inner[path.len()]));
+            let keyword = ["pub(crate) mod", "pub mod", "mod"].into_iter().find(declared).unwrap_or("mod");
+            text = text.replacen(&format!("{keyword} {};", inner[path.len()]), &self.nested(inner, keyword), 1);
         }
-        let name = &path[path.len() - 1];
-        let docs = docs.replace("//!", "///");
-        format!("{docs}\n{keyword} {name} {{\n{text}\n}}\n")
+        format!("{}\n{keyword} {} {{\n{text}\n}}\n", docs.replace("//!", "///"), path[path.len() - 1])
     }
 
     /// All of it as files below a folder: `NAME.rs` of each crate and of each module.
-    pub fn write(&self, folder: &Path) -> std::io::Result<()> {
+    pub fn write(&self, folder: &Path) -> io::Result<()> {
         for (path, (docs, text)) in &self.modules {
             let file = folder.join(path.join("/")).with_extension("rs");
             fs::create_dir_all(file.parent().unwrap_or(folder))?;

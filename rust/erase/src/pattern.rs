@@ -1,67 +1,98 @@
 //! Patterns of tokens, and what takes the place of what they match.
 
+use crate::rules::{ALLOCATORS, MARKERS, VALUES};
 use crate::token::{Kind, Token, after_group, tokens};
 
-/// A rule: the name of its family, a pattern, and what takes the place of what it matches.
+/// A rule: a pattern, and what takes the place of what it matches.
 ///
-/// In both, `$x` is one word, text or lifetime, and `$*x` a run of tokens that is balanced and has no `;`, as short as can be;
-/// `$-x` is one that has no braces either.
-pub(crate) type Rule = (&'static str, &'static str, &'static str);
+/// In both, `$x` is one word, text or lifetime, and `$*x` the shortest run of tokens that is balanced and has no `;`; `$-x` is
+/// one that has no braces either, `$;x` one that may have `;`. In patterns, `%A` is an allocator's type, `%n` its name, `%v` its
+/// value, such as `self.alloc` or `rt.alloc()`, and `%M` a trait that only contracts name.
+pub(crate) type Rule = (&'static str, &'static str);
 
+/// A part of a pattern, with the space before it.
 enum Part {
     Mark(Token),
-    /// The name, and the space before it.
     One(String, String),
-    /// The same, and true if it may have braces.
-    Run(String, String, bool),
+    /// With what it may not have.
+    Run(String, String, &'static [&'static str]),
+    Class(String),
 }
 
 type Bound = Vec<(String, Vec<Token>)>;
 
 fn parts(pattern: &str) -> Vec<Part> {
     let all = tokens(pattern, 1).expect("a rule of the table");
-    let mut parts = Vec::new();
-    let mut rest = all.as_slice();
+    let (mut parts, mut rest) = (Vec::new(), all.as_slice());
     while let [first, after @ ..] = rest {
-        let part = match after {
-            [sign, name, ..] if first.is("$") && !sign.is_word() => (Part::Run(name.text.clone(), first.before.clone(), sign.is("*")), 3),
-            [name, ..] if first.is("$") && name.is_word() => (Part::One(name.text.clone(), first.before.clone()), 2),
+        let space = first.before.clone();
+        let (part, len) = match after {
+            [name, ..] if first.is("%") => (Part::Class(name.text.clone()), 2),
+            [name, ..] if first.is("$") && name.is_word() => (Part::One(name.text.clone(), space), 2),
+            [sign, name, ..] if first.is("$") => {
+                let never: &[&str] = if sign.is(";") {
+                    &[]
+                } else if sign.is("*") {
+                    &[";"]
+                } else {
+                    &[";", "{"]
+                };
+                (Part::Run(name.text.clone(), space, never), 3)
+            }
             _ => (Part::Mark(first.clone()), 1),
         };
-        rest = &rest[part.1..];
-        parts.push(part.0);
+        rest = &rest[len..];
+        parts.push(part);
     }
     parts
+}
+
+/// How many tokens an allocator's value has at this place: `alloc`, `&alloc`, `self.alloc`, `rt.alloc()`; none if it is something else.
+fn value_len(all: &[Token], at: usize) -> Option<usize> {
+    let is = |at: usize, text: &str| all.get(at).is_some_and(|token| token.is(text));
+    let start = at + usize::from(is(at, "&"));
+    let mut end = start;
+    while all.get(end)?.is_word() && is(end + 1, ".") {
+        end += 2;
+    }
+    let is_call = end > start && is(end, "alloc") && is(end + 1, "(") && is(end + 2, ")");
+    if is_call { Some(end + 3) } else { VALUES.contains(&all[end].text.as_str()).then_some(end + 1) }
 }
 
 /// Where a match of these parts at this place ends.
 fn match_at(parts: &[Part], all: &[Token], at: usize, bound: &mut Bound) -> Option<usize> {
     let Some((part, rest)) = parts.split_first() else { return Some(at) };
+    let token = all.get(at)?;
+    let is_one_of = |names: &[&str]| names.contains(&token.text.as_str()).then_some(at + 1);
     match part {
-        Part::Mark(mark) => match all.get(at) {
-            Some(token) if token.text == mark.text => match_at(rest, all, at + 1, bound),
-            _ => None,
-        },
+        Part::Mark(mark) if token.text != mark.text => None,
+        Part::Mark(_) => match_at(rest, all, at + 1, bound),
+        Part::Class(class) => {
+            let end = match class.as_str() {
+                "A" => is_one_of(ALLOCATORS),
+                "n" => is_one_of(VALUES),
+                "M" => is_one_of(MARKERS),
+                _ => value_len(all, at),
+            };
+            match_at(rest, all, end?, bound)
+        }
+        Part::One(_, _) if token.kind == Kind::Mark => None,
         Part::One(name, _) => {
-            let token = all.get(at).filter(|token| token.kind != Kind::Mark)?;
-            if let Some((_, old)) = bound.iter().find(|(bound, _)| bound == name) {
-                return if old[0].text == token.text { match_at(rest, all, at + 1, bound) } else { None };
-            }
             bound.push((name.clone(), vec![token.clone()]));
             match_at(rest, all, at + 1, bound)
         }
-        Part::Run(name, _, has_braces) => {
+        Part::Run(name, _, never) => {
             let (mut end, mark) = (at, bound.len());
             loop {
-                bound.push((name.clone(), all.get(at..end)?.to_vec()));
+                bound.push((name.clone(), all[at..end].to_vec()));
                 if let Some(last) = match_at(rest, all, end, bound) {
                     return Some(last);
                 }
                 bound.truncate(mark);
                 match all.get(end)?.text.as_str() {
-                    "{" if !has_braces => return None,
+                    text if never.contains(&text) => return None,
                     "(" | "[" | "{" => end = after_group(all, end).ok()?,
-                    ")" | "]" | "}" | ";" => return None,
+                    ")" | "]" | "}" => return None,
                     _ => end += 1,
                 }
             }
@@ -71,36 +102,30 @@ fn match_at(parts: &[Part], all: &[Token], at: usize, bound: &mut Bound) -> Opti
 
 /// The tokens with a rule applied wherever its pattern matches, and in what its runs matched.
 pub(crate) fn rewrite(all: &[Token], rule: &Rule) -> Vec<Token> {
-    let pattern = parts(rule.1);
-    let Some(Part::Mark(first)) = pattern.first() else { panic!("the rule {rule:?} begins with no token") };
-    if !all.iter().any(|token| token.text == first.text) {
-        return all.to_vec();
-    }
-    rewrite_by(all, &first.text, &pattern, &parts(rule.2))
+    rewrite_by(all, &parts(rule.0), &parts(rule.1))
 }
 
-fn rewrite_by(all: &[Token], first: &str, pattern: &[Part], result: &[Part]) -> Vec<Token> {
-    let mut out = Vec::with_capacity(all.len());
-    let mut at = 0;
+fn rewrite_by(all: &[Token], pattern: &[Part], result: &[Part]) -> Vec<Token> {
+    let (mut out, mut at) = (Vec::with_capacity(all.len()), 0);
     while at < all.len() {
         let mut bound = Bound::new();
-        let found = if all[at].text == first { match_at(pattern, all, at, &mut bound) } else { None };
-        let Some(end) = found else {
+        let can_begin = !matches!(&pattern[0], Part::Mark(mark) if mark.text != all[at].text);
+        let Some(end) = can_begin.then(|| match_at(pattern, all, at, &mut bound)).flatten() else {
             out.push(all[at].clone());
             at += 1;
             continue;
         };
         for (_, run) in &mut bound {
-            *run = rewrite_by(run, first, pattern, result);
+            *run = rewrite_by(run, pattern, result);
         }
         let new = replacement(result, &bound, &all[at]);
-        let space = if new.is_empty() && all[at].is("#") { Some(all[at].before.clone()) } else { None };
-        out.extend(new);
-        at = end;
-        if let (Some(before), Some(next)) = (space, all.get(at)) {
+        if let (true, true, Some(next)) = (new.is_empty(), all[at].is("#"), all.get(end)) {
             // The comment above an attribute is that of the item.
-            out.push(Token { before, ..next.clone() });
-            at += 1;
+            out.push(Token { before: all[at].before.clone(), ..next.clone() });
+            at = end + 1;
+        } else {
+            out.extend(new);
+            at = end;
         }
     }
     out
@@ -115,6 +140,7 @@ fn replacement(result: &[Part], bound: &Bound, first: &Token) -> Vec<Token> {
                 out.push(Token { line: first.line, ..mark.clone() });
                 continue;
             }
+            Part::Class(name) => panic!("a rule makes the class {name}"),
             Part::One(name, space) | Part::Run(name, space, _) => (name, space),
         };
         let (_, run) = bound.iter().find(|(bound, _)| bound == name).expect("a name that the pattern binds");

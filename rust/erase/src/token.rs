@@ -2,38 +2,24 @@
 
 use crate::Fault;
 
-/// What a token is.
-#[derive(Clone, Copy, PartialEq, Eq, Debug)]
+/// What a token is: a name, keyword or number; a string or character; a lifetime; one character of anything else.
+#[derive(Clone, Copy, PartialEq, Eq)]
 pub(crate) enum Kind {
-    /// A name, a keyword or a number.
     Word,
-    /// A string or a character, whatever its prefix.
     Text,
-    /// A lifetime.
     Lifetime,
-    /// One character of anything else.
     Mark,
 }
 
-/// A token.
-#[derive(Clone, Debug)]
+#[derive(Clone)]
 pub(crate) struct Token {
     pub kind: Kind,
     pub text: String,
     /// Space and comments before it.
     pub before: String,
     pub line: usize,
-    /// What a caller had to keep, where this is the `{` or the `;` after a signature.
-    pub asked: Vec<Condition>,
-}
-
-/// A `requires`.
-#[derive(Clone, Debug)]
-pub(crate) struct Condition {
-    /// `name: text`, or the text alone.
-    pub text: String,
-    /// The same in Rust, where it is simple arithmetic.
-    pub rust: Option<String>,
+    /// What callers had to keep, where this is the `{` or the `;` after a signature.
+    pub asked: Vec<crate::duties::Condition>,
 }
 
 impl Token {
@@ -46,70 +32,48 @@ impl Token {
     }
 }
 
-fn is_word_char(c: char) -> bool {
-    c == '_' || c.is_alphanumeric()
+fn word_len(text: &str) -> usize {
+    text.find(|c: char| c != '_' && !c.is_alphanumeric()).unwrap_or(text.len())
 }
 
 /// The tokens of a text. Its first line has this number.
 pub(crate) fn tokens(text: &str, mut line: usize) -> Result<Vec<Token>, String> {
-    let mut all = Vec::new();
-    let mut rest = text;
+    let (mut all, mut rest) = (Vec::new(), text);
     loop {
-        let space = space_len(rest)?;
-        let (before, after) = rest.split_at(space);
+        let mut after = rest.trim_start();
+        while after.starts_with("//") {
+            after = after[after.find('\n').unwrap_or(after.len())..].trim_start();
+        }
+        let before = &rest[..rest.len() - after.len()];
         line += before.matches('\n').count();
         if after.is_empty() {
             return Ok(all);
         }
-        let (kind, len) = token_len(after).ok_or("a text without an end")?;
-        let (text, after) = after.split_at(len);
-        all.push(Token { kind, text: text.into(), before: before.into(), line, asked: Vec::new() });
-        line += text.matches('\n').count();
-        rest = after;
-    }
-}
-
-/// How long the space and the comments at the front are.
-fn space_len(text: &str) -> Result<usize, String> {
-    let mut rest = text;
-    loop {
-        rest = rest.trim_start();
-        if rest.starts_with("//") {
-            rest = &rest[rest.find('\n').unwrap_or(rest.len())..];
-        } else if rest.starts_with("/*") {
-            return Err("a comment in /* */".into());
-        } else {
-            return Ok(text.len() - rest.len());
-        }
+        let (kind, len) = token_len(after).filter(|_| !after.starts_with("/*")).ok_or(format!("line {line}: a text without an end, or a /* comment"))?;
+        all.push(Token { kind, text: after[..len].into(), before: before.into(), line, asked: Vec::new() });
+        line += after[..len].matches('\n').count();
+        rest = &after[len..];
     }
 }
 
 /// What the first token is, and how long.
 fn token_len(text: &str) -> Option<(Kind, usize)> {
-    let word: usize = text.chars().take_while(|c| is_word_char(*c)).map(char::len_utf8).sum();
+    let word = word_len(text);
     let (prefix, quoted) = text.split_at(word);
-    let takes_text = matches!(prefix, "" | "b" | "c" | "r" | "br");
-    if takes_text && prefix.ends_with('r') {
-        let hashes = quoted.len() - quoted.trim_start_matches('#').len();
-        if quoted[hashes..].starts_with('"') {
-            let end = format!("\"{}", "#".repeat(hashes));
-            let at = quoted[hashes + 1..].find(&end)?;
-            return Some((Kind::Text, word + hashes + 1 + at + end.len()));
-        }
+    let hashes = quoted.len() - quoted.trim_start_matches('#').len();
+    if matches!(prefix, "r" | "br") && quoted[hashes..].starts_with('"') {
+        let end = format!("\"{}", "#".repeat(hashes));
+        let len = quoted[hashes + 1..].find(&end)?;
+        return Some((Kind::Text, word + hashes + 1 + len + end.len()));
     }
-    if takes_text && quoted.starts_with('"') {
+    if matches!(prefix, "" | "b" | "c") && quoted.starts_with('"') {
         return Some((Kind::Text, word + quoted_len(quoted, '"')?));
     }
     if matches!(prefix, "" | "b") && quoted.starts_with('\'') {
-        let mut next = quoted.chars().skip(1);
-        let (first, second) = (next.next()?, next.next());
-        if first == '\\' || second == Some('\'') {
+        if quoted[1..].starts_with('\\') || quoted.chars().nth(2) == Some('\'') {
             return Some((Kind::Text, word + quoted_len(quoted, '\'')?));
         }
-        if prefix.is_empty() {
-            let name: usize = quoted[1..].chars().take_while(|c| is_word_char(*c)).map(char::len_utf8).sum();
-            return Some((Kind::Lifetime, 1 + name));
-        }
+        return Some((Kind::Lifetime, 1 + word_len(&quoted[1..])));
     }
     if word > 0 { Some((Kind::Word, word)) } else { Some((Kind::Mark, text.chars().next()?.len_utf8())) }
 }
@@ -117,25 +81,24 @@ fn token_len(text: &str) -> Option<(Kind, usize)> {
 /// How long a text in these quotes is.
 fn quoted_len(text: &str, quote: char) -> Option<usize> {
     let mut is_escaped = false;
-    for (at, c) in text.char_indices().skip(1) {
-        if c == quote && !is_escaped {
-            return Some(at + quote.len_utf8());
-        }
-        is_escaped = c == '\\' && !is_escaped;
-    }
-    None
+    let end = text.char_indices().skip(1).find(|(_, c)| {
+        let is_end = *c == quote && !is_escaped;
+        is_escaped = *c == '\\' && !is_escaped;
+        is_end
+    });
+    end.map(|(at, _)| at + 1)
 }
 
 /// The place after the bracket that closes the one at this place.
 pub(crate) fn after_group(all: &[Token], open: usize) -> Result<usize, Fault> {
-    let mut depth = 0usize;
+    let mut depth = 0;
     for (at, token) in all.iter().enumerate().skip(open) {
         match token.text.as_str() {
             "(" | "[" | "{" => depth += 1,
-            ")" | "]" | "}" => depth = depth.saturating_sub(1),
+            ")" | "]" | "}" => depth -= 1,
             _ => continue,
         }
-        if depth == 0 {
+        if depth <= 0 {
             return Ok(at + 1);
         }
     }
@@ -144,18 +107,15 @@ pub(crate) fn after_group(all: &[Token], open: usize) -> Result<usize, Fault> {
 
 /// The place after the `>` that closes the `<` at this place.
 pub(crate) fn after_angle(all: &[Token], open: usize) -> Result<usize, Fault> {
-    let (mut depth, mut at) = (0, open);
-    while at < all.len() {
-        let is_arrow = at > 0 && (all[at - 1].is("-") || all[at - 1].is("=")) && all[at].before.is_empty();
+    let mut depth = 0;
+    for at in open..all.len() {
         match all[at].text.as_str() {
             "<" => depth += 1,
-            ">" if !is_arrow => depth -= 1,
-            "(" | "[" => at = after_group(all, at)? - 1,
+            ">" if !all[at - 1].is("-") => depth -= 1,
             _ => {}
         }
-        at += 1;
         if depth == 0 {
-            return Ok(at);
+            return Ok(at + 1);
         }
     }
     Err(Fault::new(&all[open], "a < that nothing closes"))

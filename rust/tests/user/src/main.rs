@@ -45,7 +45,7 @@ fn filter() -> TcMessage {
     message.attributes.push(TcAttribute::Options(vec![
         TcOption::Flower(TcFilterFlowerOption::EthType(0x0800)),
         TcOption::Flower(TcFilterFlowerOption::Ipv4Dst([192, 0, 2, 1].into())),
-        TcOption::Flower(TcFilterFlowerOption::Action(vec![action])),
+        TcOption::Flower(TcFilterFlowerOption::Actions(vec![action])),
     ]));
     message
 }
