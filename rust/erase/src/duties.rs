@@ -43,7 +43,8 @@ pub(crate) fn checked(mut all: Vec<Token>) -> Result<Vec<Token>, Fault> {
         if asked.is_empty() {
             continue;
         }
-        let (line, is_public) = (all[function.at].line, all[function.at - 1].is("pub") || traits.iter().any(|block| block.contains(&function.at)));
+        let (line, is_public) =
+            (all[function.at].line, function.at.checked_sub(1).is_some_and(|at| all[at].is("pub")) || traits.iter().any(|block| block.contains(&function.at)));
         let mut body = all[function.body..function.end].to_vec();
         let message = Token { kind: Kind::Text, text: asked[0].message(), before: String::new(), line, asked: Vec::new() };
         for rule in CHECKS {
