@@ -4,7 +4,7 @@ use crate::Fault;
 use crate::items::functions;
 use crate::pattern::rewrite;
 use crate::rules::{CHECKS, DUTIES};
-use crate::token::{Kind, Token, after_group, text_of, tokens};
+use crate::token::{Token, after_group, text_of, tokens};
 
 /// A `requires`: `NAME: TEXT` or its text alone, and the same in Rust, where it is arithmetic over numbers and lengths of slices.
 #[derive(Clone)]
@@ -46,7 +46,7 @@ pub(crate) fn checked(mut all: Vec<Token>) -> Result<Vec<Token>, Fault> {
         let (line, is_public) =
             (all[function.at].line, function.at.checked_sub(1).is_some_and(|at| all[at].is("pub")) || traits.iter().any(|block| block.contains(&function.at)));
         let mut body = all[function.body..function.end].to_vec();
-        let message = Token { kind: Kind::Text, text: asked[0].message(), before: String::new(), line, asked: Vec::new() };
+        let message = Token { text: asked[0].message(), line, ..Token::default() };
         for rule in CHECKS {
             body = rewrite(&body, rule);
         }
@@ -56,7 +56,7 @@ pub(crate) fn checked(mut all: Vec<Token>) -> Result<Vec<Token>, Fault> {
         if is_public && body[0].is("{") {
             let simple = asked.iter().filter_map(|condition| Some((condition.rust.as_ref()?, condition.message())));
             let lines: String = simple.map(|(rust, message)| format!("\n        assert!({rust}, {message});")).collect();
-            body.splice(1..1, tokens(&lines, line).map_err(|why| Fault::new(&message, &why))?);
+            body.splice(1..1, tokens(&lines, line)?);
         }
         all.splice(function.body..function.end, body);
         if is_public {

@@ -4,7 +4,7 @@ use crate::items::without_imports;
 use crate::pattern::{Rule, rewrite};
 use crate::rules::{ARMS, ATTRIBUTES, CORE, LOST_IMPORTS, MACROS, NEEDS, RULES, SHIMS, STD, UNKNOWN};
 use crate::token::{Token, after_group, text_of};
-use crate::{Fault, Source, duties};
+use crate::{Fault, Source, duties, fault};
 
 /// A file in Rust. Tests and programs have more rules.
 pub(crate) fn finished(file: &Source, crates: &[&str], more: &[Rule]) -> Result<String, Fault> {
@@ -64,17 +64,17 @@ fn refuse_unknown(all: &[Token]) -> Result<(), Fault> {
         let is_macro = token.is_word() && is(1, "!") && all[at + 1].before.is_empty() && (is(2, "(") || is(2, "[") || is(2, "{"));
         let name = token.text.as_str();
         if token.is_word() && UNKNOWN.contains(&name) {
-            return Err(Fault::new(token, &format!("`{name}` in a form that isn't known")));
+            return Err(fault(token, &format!("`{name}` in a form that isn't known")));
         }
         if is(0, "#") && is(1, "[") && !ATTRIBUTES.contains(&all[at + 2].text.as_str()) || is_macro && !MACROS.contains(&name) && !own.contains(&name) {
-            return Err(Fault::new(token, "an attribute or a macro that isn't known"));
+            return Err(fault(token, "an attribute or a macro that isn't known"));
         }
     }
     Ok(())
 }
 
 /// Paths: a crate is a module now, `std` is `core`, and the shims are beside it.
-fn rename_paths(all: &mut Vec<Token>, krate: &str, crates: &[&str], is_user: bool) -> Result<(), Fault> {
+fn rename_paths(all: &mut [Token], krate: &str, crates: &[&str], is_user: bool) -> Result<(), Fault> {
     for at in (0..all.len().saturating_sub(3)).rev() {
         let is = |i: usize, text: &str| all[i].is(text);
         let is_inner = at > 0 && (is(at - 1, ":") && is(at - 2, ":") || is(at - 1, ".") || is(at - 1, "$"));
@@ -86,7 +86,7 @@ fn rename_paths(all: &mut Vec<Token>, krate: &str, crates: &[&str], is_user: boo
         if name == "std" && CORE.contains(&next) && !(is_user && STD.contains(&next)) {
             all[at].text = "core".into();
         } else if name == "std" && !(is_user && STD.contains(&next)) {
-            return Err(Fault::new(&all[at], "a module of std that isn't known"));
+            return Err(fault(&all[at], "a module of std that isn't known"));
         } else if name == "crate" && next != "fallible" && next != "user" {
             all[at] = word(&format!("crate::{krate}"));
         } else if crates.contains(&name.as_str()) || SHIMS.contains(&name.as_str()) {

@@ -1,8 +1,8 @@
 //! Ghost text: contracts, ghost items, and the attributes of proofs.
 
-use crate::Fault;
 use crate::duties::Condition;
 use crate::token::{Token, after_group};
+use crate::{Fault, fault};
 
 /// The tokens without ghost text. What a `requires` asked is kept beside the `{` or the `;` that ends its signature.
 pub(crate) fn without_ghosts(all: &[Token]) -> Result<Vec<Token>, Fault> {
@@ -56,6 +56,6 @@ fn after_ghost(all: &[Token], at: usize) -> Result<usize, Fault> {
     }
     match end > at + 2 && (is(end, ";") || is(end, ",") || is(end, "}")) {
         true => Ok(end + usize::from(!is(end, "}"))),
-        false => Err(Fault::new(&all[at], "a ghost item of a form that isn't known")),
+        false => Err(fault(&all[at], "a ghost item of a form that isn't known")),
     }
 }

@@ -3,7 +3,7 @@
 use crate::items::{functions, without_imports};
 use crate::rules::LAW_CRATES;
 use crate::token::{Token, after_angle, after_group};
-use crate::{Fault, Source};
+use crate::{Fault, Source, fault};
 use std::collections::BTreeSet;
 
 fn is_law_module(name: &str) -> bool {
@@ -38,7 +38,7 @@ struct Names {
 pub(crate) fn drop_laws(files: &mut Vec<Source>) -> Result<(), Fault> {
     let mut names = Names::default();
     for file in files.iter() {
-        for function in functions(&file.tokens).map_err(|fault| fault.in_file(file))? {
+        for function in functions(&file.tokens).map_err(|why| file.at(&why))? {
             if function.writes && !file.is_of_laws() {
                 names.writers.insert(function.name.clone());
             }
@@ -52,7 +52,7 @@ pub(crate) fn drop_laws(files: &mut Vec<Source>) -> Result<(), Fault> {
     for file in files.iter_mut() {
         let mut at = 1;
         while at + 1 < file.tokens.len() {
-            match after_call(file, at, &names).map_err(|fault| fault.in_file(file))? {
+            match after_call(file, at, &names).map_err(|why| file.at(&why))? {
                 Some(end) => drop(file.tokens.drain(at..end)),
                 None => at += 1,
             }
@@ -98,7 +98,7 @@ fn after_call(file: &Source, at: usize, names: &Names) -> Result<Option<usize>, 
     }
     if is_method && names.writers.contains(name) {
         // The type isn't known. Where none of its name can write, a call without a use does nothing, whichever it is.
-        return Err(Fault::new(&all[at], "a method that has the name of a law, and of what can write"));
+        return Err(fault(&all[at], "a method that has the name of a law, and of what can write"));
     }
     let is_law = is_method || !names.others.contains(name) || file.imports_law(path[0]) || path.iter().any(|part| is_law_module(part));
     Ok(is_law.then_some(end + 2))

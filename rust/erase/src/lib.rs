@@ -16,38 +16,15 @@ mod token;
 
 use std::collections::BTreeMap;
 use std::path::{Path, PathBuf};
-use std::{fmt, fs, io};
+use std::{fs, io};
 use token::Token;
 
-/// A form that isn't known, or a file that can't be read.
-#[derive(Debug)]
-pub struct Fault {
-    file: String,
-    line: usize,
-    why: String,
+/// A form that isn't known, or a file that can't be read: `FILE:LINE: WHY`.
+pub type Fault = String;
+
+fn fault(at: &Token, why: &str) -> Fault {
+    format!("{}: {why}", at.line)
 }
-
-impl Fault {
-    fn new(at: &Token, why: &str) -> Fault {
-        Fault { file: String::new(), line: at.line, why: why.into() }
-    }
-
-    fn of_file(file: &Path, why: impl fmt::Display) -> Fault {
-        Fault { file: file.display().to_string(), line: 0, why: why.to_string() }
-    }
-
-    fn in_file(self, file: &Source) -> Fault {
-        Fault { file: file.file.display().to_string(), ..self }
-    }
-}
-
-impl fmt::Display for Fault {
-    fn fmt(&self, f: &mut fmt::Formatter<'_>) -> fmt::Result {
-        write!(f, "{}:{}: {}", self.file, self.line, self.why)
-    }
-}
-
-impl std::error::Error for Fault {}
 
 /// A file of a crate.
 struct Source {
@@ -57,6 +34,13 @@ struct Source {
     /// Its own comment, `//!`.
     docs: String,
     tokens: Vec<Token>,
+}
+
+impl Source {
+    /// A fault in this file.
+    fn at(&self, fault: &str) -> Fault {
+        format!("{}:{fault}", self.file.display())
+    }
 }
 
 /// What is to be erased.
@@ -90,18 +74,18 @@ pub fn erase(from: Crates<'_>) -> Result<Erased, Fault> {
     for mut file in files {
         let is_user = from.users.contains(&file.path[0].as_str());
         if is_user {
-            laws::drop_functions(&mut file, rules::LEFT_OUT).map_err(|fault| fault.in_file(&file))?;
+            laws::drop_functions(&mut file, rules::LEFT_OUT).map_err(|why| file.at(&why))?;
         }
         let own = file.path.join("::");
         file.tokens = items::without_imports(&file.tokens, &|path| from.omitted.contains(&format!("{own}::{}", path[0]).as_str()));
-        let text = finish::finished(&file, &crates, if is_user { rules::USER_RULES } else { &[] }).map_err(|fault| fault.in_file(&file))?;
+        let text = finish::finished(&file, &crates, if is_user { rules::USER_RULES } else { &[] }).map_err(|why| file.at(&why))?;
         modules.insert(file.path, (file.docs, text));
     }
     Ok(Erased { modules })
 }
 
 fn read_crate(folder: &Path, path: &mut Vec<String>, files: &mut Vec<Source>) -> Result<(), Fault> {
-    for entry in fs::read_dir(folder).map_err(|e| Fault::of_file(folder, e))?.flatten() {
+    for entry in fs::read_dir(folder).map_err(|e| format!("{}: {e}", folder.display()))?.flatten() {
         let file = entry.path();
         let stem = file.file_stem().unwrap_or_default().to_string_lossy().into_owned();
         if stem != "lib" {
@@ -110,12 +94,12 @@ fn read_crate(folder: &Path, path: &mut Vec<String>, files: &mut Vec<Source>) ->
         if file.is_dir() {
             read_crate(&file, path, files)?;
         } else if file.extension().is_some_and(|extension| extension == "rt") {
-            let text = fs::read_to_string(&file).map_err(|e| Fault::of_file(&file, e))?;
+            let text = fs::read_to_string(&file).map_err(|e| format!("{}: {e}", file.display()))?;
             let docs: Vec<_> = text.lines().take_while(|line| line.starts_with("//!")).collect();
             let rest = text.lines().skip(docs.len()).collect::<Vec<_>>().join("\n");
-            let all = token::tokens(&rest, docs.len() + 1).map_err(|why| Fault::of_file(&file, why))?;
             let mut source = Source { file, path: path.clone(), docs: without_allocators(&docs), tokens: Vec::new() };
-            source.tokens = ghosts::without_ghosts(&all).map_err(|fault| fault.in_file(&source))?;
+            let all = token::tokens(&rest, docs.len() + 1).and_then(|all| ghosts::without_ghosts(&all));
+            source.tokens = all.map_err(|why| source.at(&why))?;
             files.push(source);
         }
         if stem != "lib" {

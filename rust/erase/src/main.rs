@@ -14,7 +14,7 @@ fn main() -> ExitCode {
     let crates: Vec<&str> = crates.iter().map(String::as_str).collect();
     let (codec, users) = crates.split_at(crates.iter().position(|name| *name == "--").unwrap_or(crates.len()));
     let from = Crates { folder: Path::new(from), codec, users: users.get(1..).unwrap_or_default(), omitted: &[] };
-    let done = erase::erase(from).map_err(|fault| fault.to_string());
+    let done = erase::erase(from);
     match done.and_then(|erased| erased.write(Path::new(to)).map_err(|e| e.to_string())) {
         Ok(()) => ExitCode::SUCCESS,
         Err(why) => {

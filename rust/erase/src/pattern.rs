@@ -1,7 +1,7 @@
 //! Patterns of tokens, and what takes the place of what they match.
 
 use crate::rules::{ALLOCATORS, MARKERS, VALUES};
-use crate::token::{Kind, Token, after_group, tokens};
+use crate::token::{Token, after_group, tokens};
 
 /// A rule: a pattern, and what takes the place of what it matches.
 ///
@@ -76,7 +76,7 @@ fn match_at(parts: &[Part], all: &[Token], at: usize, bound: &mut Bound) -> Opti
             };
             match_at(rest, all, end?, bound)
         }
-        Part::One(_, _) if token.kind == Kind::Mark => None,
+        Part::One(_, _) if !token.is_word() && token.text.chars().count() == 1 => None,
         Part::One(name, _) => {
             bound.push((name.clone(), vec![token.clone()]));
             match_at(rest, all, at + 1, bound)

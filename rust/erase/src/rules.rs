@@ -152,23 +152,8 @@ pub(crate) const NEEDS: &[(&str, &str)] = &[
 
 /// Words that would be left of a form that no rule knows.
 pub(crate) const UNKNOWN: &[&str] = &[
-    "ghost",
-    "requires",
-    "ensures",
-    "Allocator",
-    "Global",
-    "AllocFailed",
-    "Drop",
-    "alloc",
-    "_alloc",
-    "derive_where",
-    "final",
-    "thiserror",
-    "rt",
-    "HostRuntime",
-    "push_reserved",
-    "parse_ascii",
-    "unsafe",
+    "ghost", "requires", "ensures", "Allocator", "Global", "AllocFailed", "Drop", "alloc", "_alloc", "derive_where", "final", "thiserror", "rt", "HostRuntime",
+    "push_reserved", "parse_ascii", "unsafe",
 ];
 
 /// Attributes that Rust has too, and macros of `core` and `std`.

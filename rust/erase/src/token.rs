@@ -1,21 +1,11 @@
 //! Source text as tokens, each with the space and the comments before it.
 
-use crate::Fault;
+use crate::{Fault, fault};
 
-/// What a token is: a name, keyword or number; a string or character; a lifetime; one character of anything else.
-#[derive(Clone, Copy, PartialEq, Eq)]
-pub(crate) enum Kind {
-    Word,
-    Text,
-    Lifetime,
-    Mark,
-}
-
-#[derive(Clone)]
+/// A word, a number, a text, a lifetime, or one character of anything else; with the space and the comments before it.
+#[derive(Clone, Default)]
 pub(crate) struct Token {
-    pub kind: Kind,
     pub text: String,
-    /// Space and comments before it.
     pub before: String,
     pub line: usize,
     /// What callers had to keep, where this is the `{` or the `;` after a signature.
@@ -24,20 +14,25 @@ pub(crate) struct Token {
 
 impl Token {
     pub fn is(&self, text: &str) -> bool {
-        self.kind != Kind::Text && self.text == text
+        self.text == text
     }
 
+    /// True of a name, a keyword or a number.
     pub fn is_word(&self) -> bool {
-        self.kind == Kind::Word
+        self.text.starts_with(is_word_char) && !self.text.ends_with(['"', '\'', '#'])
     }
+}
+
+fn is_word_char(c: char) -> bool {
+    c == '_' || c.is_alphanumeric()
 }
 
 fn word_len(text: &str) -> usize {
-    text.find(|c: char| c != '_' && !c.is_alphanumeric()).unwrap_or(text.len())
+    text.find(|c| !is_word_char(c)).unwrap_or(text.len())
 }
 
 /// The tokens of a text. Its first line has this number.
-pub(crate) fn tokens(text: &str, mut line: usize) -> Result<Vec<Token>, String> {
+pub(crate) fn tokens(text: &str, mut line: usize) -> Result<Vec<Token>, Fault> {
     let (mut all, mut rest) = (Vec::new(), text);
     loop {
         let mut after = rest.trim_start();
@@ -49,33 +44,33 @@ pub(crate) fn tokens(text: &str, mut line: usize) -> Result<Vec<Token>, String> 
         if after.is_empty() {
             return Ok(all);
         }
-        let (kind, len) = token_len(after).filter(|_| !after.starts_with("/*")).ok_or(format!("line {line}: a text without an end, or a /* comment"))?;
-        all.push(Token { kind, text: after[..len].into(), before: before.into(), line, asked: Vec::new() });
+        let len = token_len(after).filter(|_| !after.starts_with("/*")).ok_or(format!("{line}: a text without an end, or a /* comment"))?;
+        all.push(Token { text: after[..len].into(), before: before.into(), line, asked: Vec::new() });
         line += after[..len].matches('\n').count();
         rest = &after[len..];
     }
 }
 
-/// What the first token is, and how long.
-fn token_len(text: &str) -> Option<(Kind, usize)> {
+/// How long the first token is.
+fn token_len(text: &str) -> Option<usize> {
     let word = word_len(text);
     let (prefix, quoted) = text.split_at(word);
     let hashes = quoted.len() - quoted.trim_start_matches('#').len();
     if matches!(prefix, "r" | "br") && quoted[hashes..].starts_with('"') {
         let end = format!("\"{}", "#".repeat(hashes));
         let len = quoted[hashes + 1..].find(&end)?;
-        return Some((Kind::Text, word + hashes + 1 + len + end.len()));
+        return Some(word + hashes + 1 + len + end.len());
     }
     if matches!(prefix, "" | "b" | "c") && quoted.starts_with('"') {
-        return Some((Kind::Text, word + quoted_len(quoted, '"')?));
+        return Some(word + quoted_len(quoted, '"')?);
     }
     if matches!(prefix, "" | "b") && quoted.starts_with('\'') {
         if quoted[1..].starts_with('\\') || quoted.chars().nth(2) == Some('\'') {
-            return Some((Kind::Text, word + quoted_len(quoted, '\'')?));
+            return Some(word + quoted_len(quoted, '\'')?);
         }
-        return Some((Kind::Lifetime, 1 + word_len(&quoted[1..])));
+        return Some(1 + word_len(&quoted[1..]));
     }
-    if word > 0 { Some((Kind::Word, word)) } else { Some((Kind::Mark, text.chars().next()?.len_utf8())) }
+    if word > 0 { Some(word) } else { Some(text.chars().next()?.len_utf8()) }
 }
 
 /// How long a text in these quotes is.
@@ -102,7 +97,7 @@ pub(crate) fn after_group(all: &[Token], open: usize) -> Result<usize, Fault> {
             return Ok(at + 1);
         }
     }
-    Err(Fault::new(&all[open], "a bracket that nothing closes"))
+    Err(fault(&all[open], "a bracket that nothing closes"))
 }
 
 /// The place after the `>` that closes the `<` at this place.
@@ -118,7 +113,7 @@ pub(crate) fn after_angle(all: &[Token], open: usize) -> Result<usize, Fault> {
             return Ok(at + 1);
         }
     }
-    Err(Fault::new(&all[open], "a < that nothing closes"))
+    Err(fault(&all[open], "a < that nothing closes"))
 }
 
 /// The tokens as text.

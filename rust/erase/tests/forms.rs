@@ -15,7 +15,7 @@ fn left_of(test: &str, files: &[(&str, &str)]) -> Result<String, String> {
     crates.dedup();
     let done = erase(Crates { folder: &folder, codec: &crates, users: &[], omitted: &[] });
     fs::remove_dir_all(&folder).expect("the folder is there");
-    let bundle = done.map_err(|fault| fault.to_string().replace(&format!("{}/", folder.display()), ""))?.bundle();
+    let bundle = done.map_err(|fault| fault.replace(&format!("{}/", folder.display()), ""))?.bundle();
     Ok(bundle.lines().filter(|line| !line.trim().is_empty()).map(|line| format!("{line}\n")).collect())
 }
 
