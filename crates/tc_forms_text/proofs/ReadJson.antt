@@ -21,7 +21,7 @@ use Rattle.tc_forms.proofs.Ordered.{Apart}
 use Rattle.tc_forms.proofs.Found.{none_not_some}
 use Rattle.tc_forms.proofs.Records.{here, passes}
 use Rattle.tc_forms_text.specs.Read.{HasNamesOnce}
-use Rattle.tc_forms_text.specs.Text.{IsTextOf}
+use Rattle.tc_forms_text.specs.Text.{IsJsonText}
 use Rattle.tc_forms_text.proofs.Readable.{IsKept, Readable, ItemsReadable, MembersReadable}
 use Rattle.tc_forms_text.proofs.WrittenJson.{text_tokens}
 
@@ -121,7 +121,7 @@ whole levels j h =
     ap (λ ts. option_and_then (λ p. if_last p.0 p.1) (value levels ts)) (sym (append-nil (json_tokens j)))
     ∙ ap (option_and_then (λ p. if_last p.0 p.1)) (value-json_tokens j levels [] h)
 
-module _ (d : Data) (n : ℕ) (text : List ℕ) (h : Readable d n) (within : n ≤ 127) (is : IsTextOf d text) where
+module _ (d : Data) (n : ℕ) (text : List ℕ) (h : Readable d n) (within : n ≤ 127) (is : IsJsonText d text) where
   same : tokens text ≡ json_tokens (outline d)
   same = text_tokens d n text h is
 

@@ -5,9 +5,9 @@ use Rattle.std.proofs.lemmas.Bool.{cond_both, and_parts}
 use Rattle.std.proofs.lemmas.List.{length-take}
 use Rattle.nla_frames.specs.Frame.{padding}
 use Rattle.nla_frames.specs.Grammar.{length_at}
-use Rattle.nla_frames.specs.Value.{IsBytes, le_value, ends_in_nul}
+use Rattle.nla_frames.specs.Value.{IsBytes, ends_in_nul}
 use Rattle.nla_frames.proofs.Bytes.{IsBytes-take, IsBytes-drop}
-use Rattle.serde_json.specs.Data.{Data, boolean, number, string, unsigned, array, object, Members, no_members, member}
+use Rattle.serde_json.specs.Data.{Data, boolean, number, unsigned, array, object, no_members, member}
 use Rattle.tc_forms.specs.declared.form.Form.{Form}
 use Rattle.tc_forms.specs.declared.form.Form.TheVariants as form
 use Rattle.tc_forms.specs.Attributes.{tail_shown, first_or_tail, frames, pad_told, told, bare_told, indexed, layered, by_row, by_kind, attribute}

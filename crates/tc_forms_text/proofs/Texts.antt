@@ -5,7 +5,6 @@ use Rattle.json.specs.Json.{Json, document}
 use Rattle.json.specs.Strict.{HasUniqueKeys}
 use Rattle.nla_frames.specs.Value.{IsBytes}
 use Rattle.serde_json.specs.Read.{read}
-use Rattle.tc_forms.specs.declared.error.MakeError.{MakeError}
 use Rattle.tc_forms.specs.declared.error.MakeError.TheVariants as make
 use Rattle.tc_forms.specs.declared.form.Form.{Form}
 use Rattle.tc_forms.specs.Made.{made_of}
@@ -20,7 +19,7 @@ use Rattle.tc_forms_text.specs.declared.error.TextError.{TextError}
 use Rattle.tc_forms_text.specs.declared.error.TextError.TheVariants.{Read, Make}
 use Rattle.tc_forms_text.specs.Make.{IsMemory, IsTextCause}
 use Rattle.tc_forms_text.specs.Read.{HasNamesOnce}
-use Rattle.tc_forms_text.specs.Text.{IsTextOf}
+use Rattle.tc_forms_text.specs.Text.{IsJsonText}
 use Rattle.tc_forms_text.proofs.Readable.{Readable}
 use Rattle.tc_forms_text.proofs.ReadJson.{text_read, text_once}
 use Rattle.tc_forms_text.proofs.ShownReadable.{shown_readable}
@@ -34,7 +33,7 @@ module _ (table : Table) (f : Form) (bytes : List ℕ) (h : IsBytes bytes) where
   unfolding shown_of made_of
   shown_made = shown_read table deepest [] f bytes h
 
-  module _ (text : List ℕ) (is : IsTextOf (shown_of table f bytes) text) where
+  module _ (text : List ℕ) (is : IsJsonText (shown_of table f bytes) text) where
     pub shown_is_read : read text ≡ Some (ordered (shown_of table f bytes))
     shown_is_read = text_read (shown_of table f bytes) 49 text readable (omega arith) is
 

@@ -8,7 +8,7 @@ use Rattle.serde_json.specs.Sent.{State, start, TakesAll}
 use Rattle.serde_json.specs.Written.{outline, items_outline, members_outline}
 use Rattle.serde_json.proofs.FreeTexts.{tokens_by}
 use Rattle.tc_forms.specs.Sent.{events, items_events, members_events}
-use Rattle.tc_forms_text.specs.Text.{IsTextOf}
+use Rattle.tc_forms_text.specs.Text.{IsJsonText}
 use Rattle.tc_forms_text.proofs.Readable.{Readable, ItemsReadable, MembersReadable}
 use Rattle.tc_forms_text.proofs.Written.{Plain, Written, both, a_text, a_number, a_signed, a_boolean, array_ends, object_ends, in_array, in_object, at_field}
 
@@ -40,7 +40,7 @@ mutual
       (both (events d) (members_events ms ++ map_ends ∷ []) (json_tokens (outline d)) (members_tokens (members_outline ms)) (json_written d n h.0) (members_written ms n h.1)))
 
 -- the text of JSON has its tokens
-pub text_tokens : (d : Data) (n : ℕ) (text : List ℕ) → Readable d n → IsTextOf d text → tokens text ≡ json_tokens (outline d)
+pub text_tokens : (d : Data) (n : ℕ) (text : List ℕ) → Readable d n → IsJsonText d text → tokens text ≡ json_tokens (outline d)
 text_tokens d n text h is =
     let narrow = is.0 in
     let begun : Plain (start narrow) = record { at_key = refl; flattens = refl; flat = refl } in

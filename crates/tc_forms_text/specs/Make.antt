@@ -1,5 +1,5 @@
 -- Why no bytes are made of a text.
-use Rattle.std.specs.Prelude.{◌≡◌, ℕ, List, None, option_and_then}
+use Rattle.std.specs.Prelude.{◌≡◌, ℕ, List, option_and_then}
 use Rattle.serde_json.specs.Read.{read}
 use Rattle.tc_forms.specs.declared.error.MakeError.TheVariants as make
 use Rattle.tc_forms.specs.declared.form.Form.{Form}

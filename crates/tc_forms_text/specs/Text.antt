@@ -5,6 +5,6 @@ use Rattle.serde_json.specs.Data.{Data}
 use Rattle.serde_json.specs.Sent.{AreTokensOf}
 use Rattle.tc_forms.specs.Sent.{events}
 
--- `serde_json` writes this text of what is sent of the JSON: without spaces, indented, or for a `Value`
-abbrev pub IsTextOf : Data → List ℕ → Type 0
-IsTextOf json text = (narrow : Bool) × AreTokensOf narrow (Some (events json)) (tokens text)
+-- this is what `serde_json` writes of JSON that is sent to it: compact, indented, or on the way to a `Value` (`narrow`)
+abbrev pub IsJsonText : Data → List ℕ → Type 0
+IsJsonText json text = (narrow : Bool) × AreTokensOf narrow (Some (events json)) (tokens text)

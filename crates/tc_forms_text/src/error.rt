@@ -16,17 +16,17 @@ pub enum ReadError {
     /// Memory ran out.
     OutOfMemory,
 
-    /// It isn't JSON, or isn't UTF-8, from this place on.
+    /// It isn't JSON, or isn't UTF-8, or has a number that no float holds; the place is where reading stopped.
     NotJson {
         /// The line, counted from 1.
         line: usize,
-        /// The byte of the line, counted from 1.
+        /// The byte of the line, counted from 1; 0 at the end of an empty line.
         column: usize,
     },
 
-    /// Lists and objects nest more than 127 levels deep.
+    /// Lists and objects nest more than 127 levels deep; the place is where reading stopped.
     TooDeep {
-        /// The line in which reading stopped, counted from 1.
+        /// The line, counted from 1.
         line: usize,
         /// The byte of the line, counted from 1.
         column: usize,

@@ -7,7 +7,7 @@ ghost use Rattle.tc_forms.specs.Shown.{shown_of};
 ghost use Rattle.tc_forms.specs.Made.{made_of};
 ghost use Rattle.tc_forms.specs.Ordered.{ordered};
 ghost use Rattle.tc_forms_text.specs.Read.{HasNamesOnce};
-ghost use Rattle.tc_forms_text.specs.Text.{IsTextOf};
+ghost use Rattle.tc_forms_text.specs.Text.{IsJsonText};
 
 use tc_forms::{Form, Tables};
 
@@ -15,10 +15,10 @@ use tc_forms::{Form, Tables};
 /// read. It is read as what is shown, the members of each object in the order of their names; no object in it has a name
 /// twice; and what is read is made into the bytes.
 pub fn shown_text_is_made<T: Tables>(table: T, form: Form, bytes: &[u8])
-    ensures read { (text : List ℕ) → IsTextOf (shown_of (T.parts_of table) form bytes.now) text
+    ensures read { (text : List ℕ) → IsJsonText (shown_of (T.parts_of table) form bytes.now) text
         → read text ≡ Some (ordered (shown_of (T.parts_of table) form bytes.now)) }
-    ensures once { (text : List ℕ) → IsTextOf (shown_of (T.parts_of table) form bytes.now) text
+    ensures once { (text : List ℕ) → IsJsonText (shown_of (T.parts_of table) form bytes.now) text
         → HasNamesOnce text }
-    ensures made { (text : List ℕ) (json : Data) → IsTextOf (shown_of (T.parts_of table) form bytes.now) text
+    ensures made { (text : List ℕ) (json : Data) → IsJsonText (shown_of (T.parts_of table) form bytes.now) text
         → read text ≡ Some json → made_of (T.parts_of table) form json ≡ Some bytes.now }
 {}

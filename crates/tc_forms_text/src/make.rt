@@ -7,7 +7,7 @@ ghost use Rattle.tc_forms.specs.Made.{made_of};
 ghost use Rattle.tc_forms.specs.Shown.{shown_of};
 ghost use Rattle.tc_forms_text.specs.Make.{IsMemory, IsTextCause};
 ghost use Rattle.tc_forms_text.specs.Read.{HasNamesOnce};
-ghost use Rattle.tc_forms_text.specs.Text.{IsTextOf};
+ghost use Rattle.tc_forms_text.specs.Text.{IsJsonText};
 
 use crate::error::TextError;
 use crate::read::read_json;
@@ -21,7 +21,7 @@ pub fn bytes_of_text<T: Tables>(alloc: Global, table: T, form: Form, text: &[u8]
     ensures once { OnOk result (HasNamesOnce text.now) }
     ensures cause { IfErr result (IsTextCause (T.parts_of table) form text.now) }
     ensures shown { (bytes : List ℕ) → IsBytes bytes → IsUtf8 text.now
-        → IsTextOf (shown_of (T.parts_of table) form bytes) text.now
+        → IsJsonText (shown_of (T.parts_of table) form bytes) text.now
         → MatchResult result (λ made. made.items ≡ bytes) IsMemory }
 {
     match read_json(alloc, text) {

@@ -1,5 +1,5 @@
-//! The attributes, records and named numbers of Linux's traffic control, as a table for `tc_forms`. They are written below `kinds/`, and
-//! `kinds/generate` writes the parts here of them.
+//! The attributes, records and named numbers of Linux's traffic control, as a table for `tc_forms`. They are defined in the files below
+//! `kinds/`; `kinds/generate` writes the parts here from them.
 #![tactic(auto)]
 
 mod parts;
@@ -17,6 +17,6 @@ impl Tables for TcTables {
     ghost parts_of = { λ t. tc_tables };
 
     fn part(self, place: usize) -> Part<'static> {
-        parts::part(place)
+        parts::tc_tables(place)
     }
 }

@@ -7,38 +7,35 @@ ghost use Rattle.tc_kinds.specs.Table.{tc_tables};
 mod action;
 mod actions;
 mod elements;
+mod ematch;
 mod filters;
 mod message;
 mod qdiscs;
+mod shared;
 mod statistics;
 
 use tc_forms::{Form, Part};
 
 /// RTM_*QDISC, RTM_*TCLASS, RTM_*TFILTER, RTM_*CHAIN
-pub const TC_MESSAGE: Form = Form::Record(108);
+pub const TC_MESSAGE: Form = Form::Record(3000);
 
 /// RTM_*ACTION
-pub const ACTION_MESSAGE: Form = Form::Record(115);
+pub const ACTION_MESSAGE: Form = Form::Record(3008);
 
-// The part at a place.
 #[tactic(auto, unfolding(crate::specs::Table::tc_tables))]
-pub(crate) fn part(place: usize) -> Part<'static>
+pub(crate) fn tc_tables(place: usize) -> Part<'static>
     ensures { part_view result ≡ tc_tables place }
 {
-    match place / 12 {
-        0 => action::parts_of_action(place),
-        1 => actions::parts_of_actions_mirred(place),
-        2 => actions::parts_of_actions_nat(place),
-        3 => actions::parts_of_actions_tunnel_key(place),
-        4 => elements::parts_of_elements(place),
-        5 => filters::parts_of_filters_bpf(place),
-        6 => filters::parts_of_filters_flower(place),
-        7 => filters::parts_of_filters_matchall(place),
-        8 => filters::parts_of_filters_u32(place),
-        9 => message::parts_of_message(place),
-        10 => qdiscs::parts_of_qdiscs_fq_codel(place),
-        11 => qdiscs::parts_of_qdiscs_ingress(place),
-        12 => statistics::parts_of_statistics(place),
+    match place / 600 {
+        0 => action::all_of_action(place),
+        1 => actions::all_of_actions(place),
+        2 => elements::all_of_elements(place),
+        3 => ematch::all_of_ematch(place),
+        4 => filters::all_of_filters(place),
+        5 => message::all_of_message(place),
+        6 => qdiscs::all_of_qdiscs(place),
+        7 => shared::all_of_shared(place),
+        8 => statistics::all_of_statistics(place),
         _ => Part::One(Form::Hex),
     }
 }

@@ -122,11 +122,15 @@ abbrev pub said_from : ℕ → ℕ → ℕ → Class → List Named → List Sai
 said_from zero n flags class names = []
 said_from (suc more) n flags class names = said_of n flags class (named_at names n) ∷ said_from more (suc n) flags class names
 
--- by the codec's rows and names; a type that is never read is left out, and options are compared by kind
+-- of a type that the codec writes and never reads, which is shown nowhere so far
+abbrev pub said_unread : ℕ → Class → Named → Said
+said_unread n class x = record { type = n; word = n; name = name_of x; wire = wire_of class; look = anything }
+
+-- by the codec's rows and names; options are compared by kind
 abbrev pub said : Rows → List Named → List Said
 said others names = []
 said (types first last flags class rows) names = said_from (suc last - first) first flags class names ++ said rows names
-said (unread n class rows) names = said rows names
+said (unread n class rows) names = said_unread n class (named_at names n) ∷ said rows names
 said (options n kinds rows) names = said rows names
 
 -- by the row that an attribute of this type is shown by

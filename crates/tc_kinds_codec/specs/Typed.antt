@@ -8,6 +8,10 @@ use Rattle.tc_kinds_codec.specs.Tables.{form_of_field, first_field, choice_form,
 use Rattle.tc_forms.specs.Places.{part_at, layer_of}
 use Rattle.tc_forms.specs.Rows.{shown_row}
 
+-- the header of a message
+abbrev pub header_of : Form → Form
+header_of message = form_of_field tc_tables message (codes "header")
+
 -- the attributes of a message under a kind
 abbrev pub tc_rows : List ℕ → List Row
 tc_rows kind = rows_at tc_tables kind (form_of_field tc_tables tc_message (codes "attributes"))

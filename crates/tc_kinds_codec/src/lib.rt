@@ -1,5 +1,5 @@
-//! The tables of `tc_kinds` have all that the codec's have: every attribute with its `nla_type`, its name and its form, and every record with its
-//! fields. The functions do nothing: their contracts say so, and are computed.
+//! The table of `tc_kinds` has all that the codec's tables have: every attribute with its `nla_type`, its name and its form, and every record with
+//! its fields. The functions do nothing; their contracts are the laws, and hold by computation.
 #![tactic(auto)]
 
 ghost use Rattle.std.specs.Prelude.{◌≡◌, codes, [], ◌∷◌, map};
@@ -12,11 +12,13 @@ ghost use Rattle.tc_canon.specs.Tables.Statistics.{stats2};
 ghost use Rattle.tc_names.specs.Names as names;
 ghost use Rattle.tc_names.specs.RecordNames as fields;
 ghost use Rattle.tc_kinds.specs.Table.{tc_tables, tc_message, action_message};
-ghost use Rattle.tc_kinds_codec.specs.Tables.{form_of_field, form_at};
+ghost use Rattle.tc_kinds_codec.specs.Tables.{form_at};
 ghost use Rattle.tc_kinds_codec.specs.Said.{HasRows, behind_kind};
 ghost use Rattle.tc_kinds_codec.specs.Records.{IsRecord, flags_pair};
-ghost use Rattle.tc_kinds_codec.specs.Typed.{tc_rows, options_rows, action_message_rows, action_rows, action_options_rows, statistics_rows, mpls_rows, lse_rows};
-ghost use Rattle.tc_kinds_codec.specs.Typed.{layers, action_layers, words, action_words, actions_in_filters, one_action, xstats_at, keys_of_selector};
+ghost use Rattle.tc_kinds_codec.specs.Typed.{header_of, tc_rows, options_rows, statistics_rows, mpls_rows, lse_rows};
+ghost use Rattle.tc_kinds_codec.specs.Typed.{action_message_rows, action_rows, action_options_rows};
+ghost use Rattle.tc_kinds_codec.specs.Typed.{layers, action_layers, words, action_words, actions_in_filters, one_action};
+ghost use Rattle.tc_kinds_codec.specs.Typed.{xstats_at, keys_of_selector};
 
 use tc_kinds::{ACTION_MESSAGE, TC_MESSAGE};
 
@@ -24,9 +26,9 @@ use tc_kinds::{ACTION_MESSAGE, TC_MESSAGE};
 pub fn messages_are_the_codecs()
     ensures tc_constant { TC_MESSAGE ≡ tc_message }
     ensures action_constant { ACTION_MESSAGE ≡ action_message }
-    ensures tc_header { IsRecord tc_tables (form_of_field tc_tables tc_message (codes "header")) layouts.tc_header fields.tc_header_names }
+    ensures tc_header { IsRecord tc_tables (header_of tc_message) layouts.tc_header fields.tc_header_names }
     ensures tc { HasRows tc_tables (tc_rows []) (behind_kind attributes) names.attributes_names }
-    ensures action_header { IsRecord tc_tables (form_of_field tc_tables action_message (codes "header")) layouts.action_message_header fields.action_message_header_names }
+    ensures action_header { IsRecord tc_tables (header_of action_message) layouts.action_message_header fields.action_message_header_names }
     ensures action { HasRows tc_tables action_message_rows action_message_attributes names.action_message_attributes_names }
     ensures flags { IsRecord tc_tables (form_at action_message_rows 2) flags_pair fields.flags_pair_names }
 {}
@@ -50,7 +52,7 @@ pub fn qdiscs_are_the_codecs()
     ensures fq_codel { HasRows tc_tables (options_rows (codes "fq_codel")) fq_codel_options names.fq_codel_options_names }
 {}
 
-/// The options of filters.
+/// The options of filters, and the actions in them.
 pub fn filters_are_the_codecs()
     ensures flower { HasRows tc_tables (options_rows (codes "flower")) flower_options names.flower_options_names }
     ensures mpls { HasRows tc_tables mpls_rows mpls_options names.mpls_options_names }
@@ -59,12 +61,12 @@ pub fn filters_are_the_codecs()
     ensures selector { IsRecord tc_tables (form_at (options_rows (codes "u32")) 5) layouts.selector_head fields.selector_head_names }
     ensures key { IsRecord tc_tables (keys_of_selector (form_at (options_rows (codes "u32")) 5)) layouts.selector_key fields.selector_key_names }
     ensures matchall { HasRows tc_tables (options_rows (codes "matchall")) matchall_options names.matchall_options_names }
+    ensures actions { actions_in_filters ≡ map (λ x. one_action) actions_in_filters }
     ensures bpf { HasRows tc_tables (options_rows (codes "bpf")) bpf_options names.bpf_options_names }
 {}
 
-/// The attributes and the options of actions, wherever actions are.
+/// The attributes and the options of actions.
 pub fn actions_are_the_codecs()
-    ensures places { actions_in_filters ≡ map (λ x. one_action) actions_in_filters }
     ensures action { HasRows tc_tables (action_rows []) (behind_kind action_attributes) names.action_attributes_names }
     ensures layers { action_layers names.action_kinds_names ≡ map (λ k. k.name) names.action_kinds_names }
     ensures options { action_words names.action_kinds_names ≡ map (λ k. 0x8002) names.action_kinds_names }

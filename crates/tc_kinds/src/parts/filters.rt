@@ -2,16 +2,119 @@
 
 ghost use Rattle.std.specs.Prelude.{◌≡◌, map};
 ghost use Rattle.tc_forms.specs.Tables.{part_view};
-ghost use Rattle.tc_kinds.specs.Parts.Filters.{parts_of_filters_bpf, parts_of_filters_flower, parts_of_filters_matchall, parts_of_filters_u32};
+ghost use Rattle.tc_kinds.specs.Parts.Filters.{parts_of_filters_basic};
+ghost use Rattle.tc_kinds.specs.Parts.Filters.{parts_of_filters_bpf};
+ghost use Rattle.tc_kinds.specs.Parts.Filters.{parts_of_filters_cgroup};
+ghost use Rattle.tc_kinds.specs.Parts.Filters.{parts_of_filters_flow};
+ghost use Rattle.tc_kinds.specs.Parts.Filters.{parts_of_filters_flower};
+ghost use Rattle.tc_kinds.specs.Parts.Filters.{parts_of_filters_fw};
+ghost use Rattle.tc_kinds.specs.Parts.Filters.{parts_of_filters_matchall};
+ghost use Rattle.tc_kinds.specs.Parts.Filters.{parts_of_filters_route};
+ghost use Rattle.tc_kinds.specs.Parts.Filters.{parts_of_filters_rsvp};
+ghost use Rattle.tc_kinds.specs.Parts.Filters.{parts_of_filters_tcindex};
+ghost use Rattle.tc_kinds.specs.Parts.Filters.{parts_of_filters_u32};
+ghost use Rattle.tc_kinds.specs.Parts.Filters.{all_of_filters};
 
-use tc_forms::{Field, Form, Number, Part, Row};
+use tc_forms::{Field, Form, Name, Number, Part, Row};
+
+// `list basic`
+const LIST_BASIC_IN_BASIC: [Row<'static>; 6] = [
+    Row {
+        word: 1,
+        name: "ClassId",
+        form: Form::Handle,
+    },
+    Row {
+        word: 2,
+        name: "Ematches",
+        form: Form::List(1800),
+    },
+    Row {
+        word: 3,
+        name: "Action",
+        form: Form::Indexed(1203),
+    },
+    Row {
+        word: 4,
+        name: "Police",
+        form: Form::List(756),
+    },
+    Row {
+        word: 5,
+        name: "Pcnt",
+        form: Form::Record(2401),
+    },
+    Row {
+        word: 6,
+        name: "Pad",
+        form: Form::Flag,
+    },
+];
+
+// `struct tc_basic_pcnt`
+const STRUCT_TC_BASIC_PCNT: [Field<'static>; 2] = [
+    Field {
+        name: "rcnt",
+        form: Form::Number(Number::U64),
+    },
+    Field {
+        name: "rhit",
+        form: Form::Number(Number::U64),
+    },
+];
+
+// `list tc`: the rows of basic
+const LIST_TC_FILTER_BASIC: [Row<'static>; 2] = [
+    Row {
+        word: 2,
+        name: "Options",
+        form: Form::List(2400),
+    },
+    Row {
+        word: 4,
+        name: "Xstats",
+        form: Form::Choice(3006),
+    },
+];
+
+#[tactic(auto, unfolding(crate::specs::Parts::Filters::parts_of_filters_basic))]
+pub(crate) fn parts_of_filters_basic(place: usize) -> Part<'static>
+    ensures { part_view result ≡ parts_of_filters_basic place }
+{
+    match place {
+        2400 => Part::Rows("Basic", &LIST_BASIC_IN_BASIC),
+        2401 => Part::Fields(&STRUCT_TC_BASIC_PCNT),
+        2402 => Part::Rows("", &LIST_TC_FILTER_BASIC),
+        _ => Part::One(Form::Hex),
+    }
+}
 
 // `list bpf`
-const LIST_BPF_IN_BPF: [Row<'static>; 7] = [
+const LIST_BPF_IN_BPF: [Row<'static>; 11] = [
+    Row {
+        word: 1,
+        name: "Act",
+        form: Form::Indexed(1203),
+    },
+    Row {
+        word: 2,
+        name: "Police",
+        form: Form::List(756),
+    },
     Row {
         word: 3,
         name: "ClassId",
         form: Form::Handle,
+    },
+    Row {
+        word: 4,
+        name: "OpsLen",
+        form: Form::Number(Number::U16),
+    },
+    Row {
+        word: 5,
+        name: "Ops",
+        form: Form::Array(4205),
     },
     Row {
         word: 6,
@@ -50,12 +153,12 @@ const LIST_TC_FILTER_BPF: [Row<'static>; 2] = [
     Row {
         word: 2,
         name: "Options",
-        form: Form::List(60),
+        form: Form::List(2412),
     },
     Row {
         word: 4,
         name: "Xstats",
-        form: Form::Choice(114),
+        form: Form::Choice(3006),
     },
 ];
 
@@ -64,14 +167,165 @@ pub(crate) fn parts_of_filters_bpf(place: usize) -> Part<'static>
     ensures { part_view result ≡ parts_of_filters_bpf place }
 {
     match place {
-        60 => Part::Rows("Bpf", &LIST_BPF_IN_BPF),
-        61 => Part::Rows("", &LIST_TC_FILTER_BPF),
+        2412 => Part::Rows("Bpf", &LIST_BPF_IN_BPF),
+        2413 => Part::Rows("", &LIST_TC_FILTER_BPF),
+        _ => Part::One(Form::Hex),
+    }
+}
+
+// `list cgroup`
+const LIST_CGROUP_IN_CGROUP: [Row<'static>; 3] = [
+    Row {
+        word: 1,
+        name: "Action",
+        form: Form::Indexed(1203),
+    },
+    Row {
+        word: 2,
+        name: "Police",
+        form: Form::List(756),
+    },
+    Row {
+        word: 3,
+        name: "Ematches",
+        form: Form::List(1800),
+    },
+];
+
+// `list tc`: the rows of cgroup
+const LIST_TC_FILTER_CGROUP: [Row<'static>; 2] = [
+    Row {
+        word: 2,
+        name: "Options",
+        form: Form::List(2424),
+    },
+    Row {
+        word: 4,
+        name: "Xstats",
+        form: Form::Choice(3006),
+    },
+];
+
+#[tactic(auto, unfolding(crate::specs::Parts::Filters::parts_of_filters_cgroup))]
+pub(crate) fn parts_of_filters_cgroup(place: usize) -> Part<'static>
+    ensures { part_view result ≡ parts_of_filters_cgroup place }
+{
+    match place {
+        2424 => Part::Rows("Cgroup", &LIST_CGROUP_IN_CGROUP),
+        2425 => Part::Rows("", &LIST_TC_FILTER_CGROUP),
+        _ => Part::One(Form::Hex),
+    }
+}
+
+// `list flow`
+const LIST_FLOW_IN_FLOW: [Row<'static>; 12] = [
+    Row {
+        word: 1,
+        name: "Keys",
+        form: Form::Number(Number::U32),
+    },
+    Row {
+        word: 2,
+        name: "Mode",
+        form: Form::Named(Number::U32, 2437),
+    },
+    Row {
+        word: 3,
+        name: "Baseclass",
+        form: Form::Handle,
+    },
+    Row {
+        word: 4,
+        name: "Rshift",
+        form: Form::Number(Number::U32),
+    },
+    Row {
+        word: 5,
+        name: "Addend",
+        form: Form::Number(Number::U32),
+    },
+    Row {
+        word: 6,
+        name: "Mask",
+        form: Form::Number(Number::U32),
+    },
+    Row {
+        word: 7,
+        name: "Xor",
+        form: Form::Number(Number::U32),
+    },
+    Row {
+        word: 8,
+        name: "Divisor",
+        form: Form::Number(Number::U32),
+    },
+    Row {
+        word: 9,
+        name: "Action",
+        form: Form::Indexed(1203),
+    },
+    Row {
+        word: 10,
+        name: "Police",
+        form: Form::List(756),
+    },
+    Row {
+        word: 11,
+        name: "Ematches",
+        form: Form::List(1800),
+    },
+    Row {
+        word: 12,
+        name: "Perturb",
+        form: Form::Number(Number::U32),
+    },
+];
+
+// `enum flow_mode`
+const ENUM_FLOW_MODE: [Name<'static>; 2] = [
+    Name {
+        number: 0,
+        name: "Map",
+    },
+    Name {
+        number: 1,
+        name: "Hash",
+    },
+];
+
+// `list tc`: the rows of flow
+const LIST_TC_FILTER_FLOW: [Row<'static>; 2] = [
+    Row {
+        word: 2,
+        name: "Options",
+        form: Form::List(2436),
+    },
+    Row {
+        word: 4,
+        name: "Xstats",
+        form: Form::Choice(3006),
+    },
+];
+
+#[tactic(auto, unfolding(crate::specs::Parts::Filters::parts_of_filters_flow))]
+pub(crate) fn parts_of_filters_flow(place: usize) -> Part<'static>
+    ensures { part_view result ≡ parts_of_filters_flow place }
+{
+    match place {
+        2436 => Part::Rows("Flow", &LIST_FLOW_IN_FLOW),
+        2437 => Part::Names(&ENUM_FLOW_MODE),
+        2438 => Part::Rows("", &LIST_TC_FILTER_FLOW),
         _ => Part::One(Form::Hex),
     }
 }
 
 // `list flower`
-const LIST_FLOWER_IN_FLOWER: [Row<'static>; 98] = [
+const LIST_FLOWER_IN_FLOWER: [Row<'static>; 111] = [
+    Row {
+        word: 1,
+        name: "ClassId",
+        form: Form::Handle,
+    },
     Row {
         word: 2,
         name: "InDev",
@@ -80,7 +334,7 @@ const LIST_FLOWER_IN_FLOWER: [Row<'static>; 98] = [
     Row {
         word: 3,
         name: "Actions",
-        form: Form::Indexed(48),
+        form: Form::Indexed(1203),
     },
     Row {
         word: 4,
@@ -483,6 +737,16 @@ const LIST_FLOWER_IN_FLOWER: [Row<'static>; 98] = [
         form: Form::Number(Number::U8),
     },
     Row {
+        word: 32852,
+        name: "EncOpts",
+        form: Form::List(2449),
+    },
+    Row {
+        word: 32853,
+        name: "EncOptsMask",
+        form: Form::List(2449),
+    },
+    Row {
         word: 86,
         name: "InHwCount",
         form: Form::Number(Number::U32),
@@ -550,7 +814,7 @@ const LIST_FLOWER_IN_FLOWER: [Row<'static>; 98] = [
     Row {
         word: 32867,
         name: "MplsOpts",
-        form: Form::List(73),
+        form: Form::List(2456),
     },
     Row {
         word: 100,
@@ -562,13 +826,184 @@ const LIST_FLOWER_IN_FLOWER: [Row<'static>; 98] = [
         name: "KeyHashMask",
         form: Form::Number(Number::U32),
     },
+    Row {
+        word: 102,
+        name: "NumOfVlans",
+        form: Form::Number(Number::U8),
+    },
+    Row {
+        word: 103,
+        name: "PppoeSid",
+        form: Form::Number(Number::U16Be),
+    },
+    Row {
+        word: 104,
+        name: "PppProto",
+        form: Form::Number(Number::U16Be),
+    },
+    Row {
+        word: 105,
+        name: "L2tpv3Sid",
+        form: Form::Number(Number::U32Be),
+    },
+    Row {
+        word: 106,
+        name: "L2Miss",
+        form: Form::Number(Number::U8),
+    },
+    Row {
+        word: 32875,
+        name: "Cfm",
+        form: Form::List(2455),
+    },
+    Row {
+        word: 108,
+        name: "Spi",
+        form: Form::Number(Number::U32Be),
+    },
+    Row {
+        word: 109,
+        name: "SpiMask",
+        form: Form::Number(Number::U32Be),
+    },
+    Row {
+        word: 110,
+        name: "EncFlags",
+        form: Form::Number(Number::U32Be),
+    },
+    Row {
+        word: 111,
+        name: "EncFlagsMask",
+        form: Form::Number(Number::U32Be),
+    },
+];
+
+// `list enc_opts`
+const LIST_ENC_OPTS: [Row<'static>; 5] = [
+    Row {
+        word: 32769,
+        name: "Geneve",
+        form: Form::List(2450),
+    },
+    Row {
+        word: 32770,
+        name: "Vxlan",
+        form: Form::List(2451),
+    },
+    Row {
+        word: 32771,
+        name: "Erspan",
+        form: Form::List(2452),
+    },
+    Row {
+        word: 32772,
+        name: "Gtp",
+        form: Form::List(2453),
+    },
+    Row {
+        word: 32773,
+        name: "Pfcp",
+        form: Form::List(2454),
+    },
+];
+
+// `list enc_opt_geneve`
+const LIST_ENC_OPT_GENEVE: [Row<'static>; 3] = [
+    Row {
+        word: 1,
+        name: "Class",
+        form: Form::Number(Number::U16Be),
+    },
+    Row {
+        word: 2,
+        name: "Type",
+        form: Form::Number(Number::U8),
+    },
+    Row {
+        word: 3,
+        name: "Data",
+        form: Form::Hex,
+    },
+];
+
+// `list enc_opt_vxlan`
+const LIST_ENC_OPT_VXLAN: [Row<'static>; 1] = [Row {
+    word: 1,
+    name: "Gbp",
+    form: Form::Number(Number::U32),
+}];
+
+// `list enc_opt_erspan`
+const LIST_ENC_OPT_ERSPAN: [Row<'static>; 4] = [
+    Row {
+        word: 1,
+        name: "Ver",
+        form: Form::Number(Number::U8),
+    },
+    Row {
+        word: 2,
+        name: "Index",
+        form: Form::Number(Number::U32Be),
+    },
+    Row {
+        word: 3,
+        name: "Dir",
+        form: Form::Number(Number::U8),
+    },
+    Row {
+        word: 4,
+        name: "Hwid",
+        form: Form::Number(Number::U8),
+    },
+];
+
+// `list enc_opt_gtp`
+const LIST_ENC_OPT_GTP: [Row<'static>; 2] = [
+    Row {
+        word: 1,
+        name: "PduType",
+        form: Form::Number(Number::U8),
+    },
+    Row {
+        word: 2,
+        name: "Qfi",
+        form: Form::Number(Number::U8),
+    },
+];
+
+// `list enc_opt_pfcp`
+const LIST_ENC_OPT_PFCP: [Row<'static>; 2] = [
+    Row {
+        word: 1,
+        name: "Type",
+        form: Form::Number(Number::U8),
+    },
+    Row {
+        word: 2,
+        name: "Seid",
+        form: Form::Number(Number::U64Be),
+    },
+];
+
+// `list cfm`
+const LIST_CFM: [Row<'static>; 2] = [
+    Row {
+        word: 1,
+        name: "MdLevel",
+        form: Form::Number(Number::U8),
+    },
+    Row {
+        word: 2,
+        name: "Opcode",
+        form: Form::Number(Number::U8),
+    },
 ];
 
 // `list mpls_opts`
 const LIST_MPLS_OPTS: [Row<'static>; 1] = [Row {
     word: 32769,
     name: "Lse",
-    form: Form::List(74),
+    form: Form::List(2457),
 }];
 
 // `list mpls_lse`
@@ -605,12 +1040,12 @@ const LIST_TC_FILTER_FLOWER: [Row<'static>; 2] = [
     Row {
         word: 2,
         name: "Options",
-        form: Form::List(72),
+        form: Form::List(2448),
     },
     Row {
         word: 4,
         name: "Xstats",
-        form: Form::Choice(114),
+        form: Form::Choice(3006),
     },
 ];
 
@@ -619,16 +1054,77 @@ pub(crate) fn parts_of_filters_flower(place: usize) -> Part<'static>
     ensures { part_view result ≡ parts_of_filters_flower place }
 {
     match place {
-        72 => Part::Rows("Flower", &LIST_FLOWER_IN_FLOWER),
-        73 => Part::Rows("", &LIST_MPLS_OPTS),
-        74 => Part::Rows("", &LIST_MPLS_LSE),
-        75 => Part::Rows("", &LIST_TC_FILTER_FLOWER),
+        2448 => Part::Rows("Flower", &LIST_FLOWER_IN_FLOWER),
+        2449 => Part::Rows("", &LIST_ENC_OPTS),
+        2450 => Part::Rows("", &LIST_ENC_OPT_GENEVE),
+        2451 => Part::Rows("", &LIST_ENC_OPT_VXLAN),
+        2452 => Part::Rows("", &LIST_ENC_OPT_ERSPAN),
+        2453 => Part::Rows("", &LIST_ENC_OPT_GTP),
+        2454 => Part::Rows("", &LIST_ENC_OPT_PFCP),
+        2455 => Part::Rows("", &LIST_CFM),
+        2456 => Part::Rows("", &LIST_MPLS_OPTS),
+        2457 => Part::Rows("", &LIST_MPLS_LSE),
+        2458 => Part::Rows("", &LIST_TC_FILTER_FLOWER),
+        _ => Part::One(Form::Hex),
+    }
+}
+
+// `list fw`
+const LIST_FW_IN_FW: [Row<'static>; 5] = [
+    Row {
+        word: 1,
+        name: "ClassId",
+        form: Form::Handle,
+    },
+    Row {
+        word: 2,
+        name: "Police",
+        form: Form::List(756),
+    },
+    Row {
+        word: 3,
+        name: "InDev",
+        form: Form::Text,
+    },
+    Row {
+        word: 4,
+        name: "Action",
+        form: Form::Indexed(1203),
+    },
+    Row {
+        word: 5,
+        name: "Mask",
+        form: Form::Number(Number::U32),
+    },
+];
+
+// `list tc`: the rows of fw
+const LIST_TC_FILTER_FW: [Row<'static>; 2] = [
+    Row {
+        word: 2,
+        name: "Options",
+        form: Form::List(2460),
+    },
+    Row {
+        word: 4,
+        name: "Xstats",
+        form: Form::Choice(3006),
+    },
+];
+
+#[tactic(auto, unfolding(crate::specs::Parts::Filters::parts_of_filters_fw))]
+pub(crate) fn parts_of_filters_fw(place: usize) -> Part<'static>
+    ensures { part_view result ≡ parts_of_filters_fw place }
+{
+    match place {
+        2460 => Part::Rows("Fw", &LIST_FW_IN_FW),
+        2461 => Part::Rows("", &LIST_TC_FILTER_FW),
         _ => Part::One(Form::Hex),
     }
 }
 
 // `list matchall`
-const LIST_MATCHALL_IN_MATCHALL: [Row<'static>; 4] = [
+const LIST_MATCHALL_IN_MATCHALL: [Row<'static>; 5] = [
     Row {
         word: 1,
         name: "ClassId",
@@ -637,7 +1133,7 @@ const LIST_MATCHALL_IN_MATCHALL: [Row<'static>; 4] = [
     Row {
         word: 2,
         name: "Action",
-        form: Form::Indexed(48),
+        form: Form::Indexed(1203),
     },
     Row {
         word: 3,
@@ -647,21 +1143,32 @@ const LIST_MATCHALL_IN_MATCHALL: [Row<'static>; 4] = [
     Row {
         word: 4,
         name: "Pnct",
-        form: Form::Hex,
+        form: Form::Record(2473),
+    },
+    Row {
+        word: 5,
+        name: "Pad",
+        form: Form::Flag,
     },
 ];
+
+// `struct tc_matchall_pcnt`
+const STRUCT_TC_MATCHALL_PCNT: [Field<'static>; 1] = [Field {
+    name: "rhit",
+    form: Form::Number(Number::U64),
+}];
 
 // `list tc`: the rows of matchall
 const LIST_TC_FILTER_MATCHALL: [Row<'static>; 2] = [
     Row {
         word: 2,
         name: "Options",
-        form: Form::List(84),
+        form: Form::List(2472),
     },
     Row {
         word: 4,
         name: "Xstats",
-        form: Form::Choice(114),
+        form: Form::Choice(3006),
     },
 ];
 
@@ -670,14 +1177,293 @@ pub(crate) fn parts_of_filters_matchall(place: usize) -> Part<'static>
     ensures { part_view result ≡ parts_of_filters_matchall place }
 {
     match place {
-        84 => Part::Rows("MatchAll", &LIST_MATCHALL_IN_MATCHALL),
-        85 => Part::Rows("", &LIST_TC_FILTER_MATCHALL),
+        2472 => Part::Rows("MatchAll", &LIST_MATCHALL_IN_MATCHALL),
+        2473 => Part::Fields(&STRUCT_TC_MATCHALL_PCNT),
+        2474 => Part::Rows("", &LIST_TC_FILTER_MATCHALL),
+        _ => Part::One(Form::Hex),
+    }
+}
+
+// `list route`
+const LIST_ROUTE_IN_ROUTE: [Row<'static>; 6] = [
+    Row {
+        word: 1,
+        name: "ClassId",
+        form: Form::Handle,
+    },
+    Row {
+        word: 2,
+        name: "To",
+        form: Form::Number(Number::U32),
+    },
+    Row {
+        word: 3,
+        name: "From",
+        form: Form::Number(Number::U32),
+    },
+    Row {
+        word: 4,
+        name: "Iif",
+        form: Form::Number(Number::U32),
+    },
+    Row {
+        word: 5,
+        name: "Police",
+        form: Form::List(756),
+    },
+    Row {
+        word: 6,
+        name: "Action",
+        form: Form::Indexed(1203),
+    },
+];
+
+// `list tc`: the rows of route
+const LIST_TC_FILTER_ROUTE: [Row<'static>; 2] = [
+    Row {
+        word: 2,
+        name: "Options",
+        form: Form::List(2484),
+    },
+    Row {
+        word: 4,
+        name: "Xstats",
+        form: Form::Choice(3006),
+    },
+];
+
+#[tactic(auto, unfolding(crate::specs::Parts::Filters::parts_of_filters_route))]
+pub(crate) fn parts_of_filters_route(place: usize) -> Part<'static>
+    ensures { part_view result ≡ parts_of_filters_route place }
+{
+    match place {
+        2484 => Part::Rows("Route", &LIST_ROUTE_IN_ROUTE),
+        2485 => Part::Rows("", &LIST_TC_FILTER_ROUTE),
+        _ => Part::One(Form::Hex),
+    }
+}
+
+// `list rsvp`
+const LIST_RSVP_IN_RSVP: [Row<'static>; 6] = [
+    Row {
+        word: 1,
+        name: "ClassId",
+        form: Form::Handle,
+    },
+    Row {
+        word: 2,
+        name: "Dst",
+        form: Form::Ipv4,
+    },
+    Row {
+        word: 3,
+        name: "Src",
+        form: Form::Ipv4,
+    },
+    Row {
+        word: 4,
+        name: "Pinfo",
+        form: Form::Record(2498),
+    },
+    Row {
+        word: 5,
+        name: "Police",
+        form: Form::List(756),
+    },
+    Row {
+        word: 6,
+        name: "Action",
+        form: Form::Indexed(1203),
+    },
+];
+
+// `list rsvp6`
+const LIST_RSVP6_IN_RSVP6: [Row<'static>; 6] = [
+    Row {
+        word: 1,
+        name: "ClassId",
+        form: Form::Handle,
+    },
+    Row {
+        word: 2,
+        name: "Dst",
+        form: Form::Ipv6,
+    },
+    Row {
+        word: 3,
+        name: "Src",
+        form: Form::Ipv6,
+    },
+    Row {
+        word: 4,
+        name: "Pinfo",
+        form: Form::Record(2498),
+    },
+    Row {
+        word: 5,
+        name: "Police",
+        form: Form::List(756),
+    },
+    Row {
+        word: 6,
+        name: "Action",
+        form: Form::Indexed(1203),
+    },
+];
+
+// `struct tc_rsvp_pinfo`
+const STRUCT_TC_RSVP_PINFO: [Field<'static>; 6] = [
+    Field {
+        name: "dpi",
+        form: Form::Record(2499),
+    },
+    Field {
+        name: "spi",
+        form: Form::Record(2499),
+    },
+    Field {
+        name: "protocol",
+        form: Form::Number(Number::U8),
+    },
+    Field {
+        name: "tunnelid",
+        form: Form::Number(Number::U8),
+    },
+    Field {
+        name: "tunnelhdr",
+        form: Form::Number(Number::U8),
+    },
+    Field {
+        name: "pad",
+        form: Form::Pad(1),
+    },
+];
+
+// `struct tc_rsvp_gpi`
+const STRUCT_TC_RSVP_GPI: [Field<'static>; 3] = [
+    Field {
+        name: "key",
+        form: Form::Number(Number::U32),
+    },
+    Field {
+        name: "mask",
+        form: Form::Number(Number::U32),
+    },
+    Field {
+        name: "offset",
+        form: Form::Number(Number::I32),
+    },
+];
+
+// `list tc`: the rows of rsvp
+const LIST_TC_FILTER_RSVP: [Row<'static>; 2] = [
+    Row {
+        word: 2,
+        name: "Options",
+        form: Form::List(2496),
+    },
+    Row {
+        word: 4,
+        name: "Xstats",
+        form: Form::Choice(3006),
+    },
+];
+
+// `list tc`: the rows of rsvp6
+const LIST_TC_FILTER_RSVP6: [Row<'static>; 2] = [
+    Row {
+        word: 2,
+        name: "Options",
+        form: Form::List(2497),
+    },
+    Row {
+        word: 4,
+        name: "Xstats",
+        form: Form::Choice(3006),
+    },
+];
+
+#[tactic(auto, unfolding(crate::specs::Parts::Filters::parts_of_filters_rsvp))]
+pub(crate) fn parts_of_filters_rsvp(place: usize) -> Part<'static>
+    ensures { part_view result ≡ parts_of_filters_rsvp place }
+{
+    match place {
+        2496 => Part::Rows("Rsvp", &LIST_RSVP_IN_RSVP),
+        2497 => Part::Rows("Rsvp6", &LIST_RSVP6_IN_RSVP6),
+        2498 => Part::Fields(&STRUCT_TC_RSVP_PINFO),
+        2499 => Part::Fields(&STRUCT_TC_RSVP_GPI),
+        2500 => Part::Rows("", &LIST_TC_FILTER_RSVP),
+        2501 => Part::Rows("", &LIST_TC_FILTER_RSVP6),
+        _ => Part::One(Form::Hex),
+    }
+}
+
+// `list tcindex`
+const LIST_TCINDEX_IN_TCINDEX: [Row<'static>; 7] = [
+    Row {
+        word: 1,
+        name: "Hash",
+        form: Form::Number(Number::U32),
+    },
+    Row {
+        word: 2,
+        name: "Mask",
+        form: Form::Number(Number::U16),
+    },
+    Row {
+        word: 3,
+        name: "Shift",
+        form: Form::Number(Number::U32),
+    },
+    Row {
+        word: 4,
+        name: "FallThrough",
+        form: Form::Number(Number::U32),
+    },
+    Row {
+        word: 5,
+        name: "ClassId",
+        form: Form::Handle,
+    },
+    Row {
+        word: 6,
+        name: "Police",
+        form: Form::List(756),
+    },
+    Row {
+        word: 7,
+        name: "Action",
+        form: Form::Indexed(1203),
+    },
+];
+
+// `list tc`: the rows of tcindex
+const LIST_TC_FILTER_TCINDEX: [Row<'static>; 2] = [
+    Row {
+        word: 2,
+        name: "Options",
+        form: Form::List(2508),
+    },
+    Row {
+        word: 4,
+        name: "Xstats",
+        form: Form::Choice(3006),
+    },
+];
+
+#[tactic(auto, unfolding(crate::specs::Parts::Filters::parts_of_filters_tcindex))]
+pub(crate) fn parts_of_filters_tcindex(place: usize) -> Part<'static>
+    ensures { part_view result ≡ parts_of_filters_tcindex place }
+{
+    match place {
+        2508 => Part::Rows("Tcindex", &LIST_TCINDEX_IN_TCINDEX),
+        2509 => Part::Rows("", &LIST_TC_FILTER_TCINDEX),
         _ => Part::One(Form::Hex),
     }
 }
 
 // `list u32`
-const LIST_U32_IN_U32: [Row<'static>; 11] = [
+const LIST_U32_IN_U32: [Row<'static>; 12] = [
     Row {
         word: 1,
         name: "ClassId",
@@ -701,37 +1487,42 @@ const LIST_U32_IN_U32: [Row<'static>; 11] = [
     Row {
         word: 5,
         name: "Selector",
-        form: Form::Record(97),
+        form: Form::Record(2521),
     },
     Row {
         word: 6,
         name: "Police",
-        form: Form::Hex,
+        form: Form::List(756),
     },
     Row {
         word: 7,
         name: "Action",
-        form: Form::Indexed(48),
+        form: Form::Indexed(1203),
     },
     Row {
         word: 8,
         name: "Indev",
-        form: Form::Hex,
+        form: Form::Text,
     },
     Row {
         word: 9,
         name: "Pnct",
-        form: Form::Hex,
+        form: Form::Record(2523),
     },
     Row {
         word: 10,
         name: "Mark",
-        form: Form::Hex,
+        form: Form::Record(2524),
     },
     Row {
         word: 11,
         name: "Flags",
         form: Form::Number(Number::U32),
+    },
+    Row {
+        word: 12,
+        name: "Pad",
+        form: Form::Flag,
     },
 ];
 
@@ -775,7 +1566,7 @@ const STRUCT_TC_U32_SEL: [Field<'static>; 10] = [
     },
     Field {
         name: "keys",
-        form: Form::Array(98),
+        form: Form::Array(2522),
     },
 ];
 
@@ -799,17 +1590,49 @@ const STRUCT_TC_U32_KEY: [Field<'static>; 4] = [
     },
 ];
 
+// `struct tc_u32_pcnt`
+const STRUCT_TC_U32_PCNT: [Field<'static>; 3] = [
+    Field {
+        name: "rcnt",
+        form: Form::Number(Number::U64),
+    },
+    Field {
+        name: "rhit",
+        form: Form::Number(Number::U64),
+    },
+    Field {
+        name: "kcnts",
+        form: Form::Array(1204),
+    },
+];
+
+// `struct tc_u32_mark`
+const STRUCT_TC_U32_MARK: [Field<'static>; 3] = [
+    Field {
+        name: "val",
+        form: Form::Number(Number::U32),
+    },
+    Field {
+        name: "mask",
+        form: Form::Number(Number::U32),
+    },
+    Field {
+        name: "success",
+        form: Form::Number(Number::U32),
+    },
+];
+
 // `list tc`: the rows of u32
 const LIST_TC_FILTER_U32: [Row<'static>; 2] = [
     Row {
         word: 2,
         name: "Options",
-        form: Form::List(96),
+        form: Form::List(2520),
     },
     Row {
         word: 4,
         name: "Xstats",
-        form: Form::Choice(114),
+        form: Form::Choice(3006),
     },
 ];
 
@@ -818,10 +1641,32 @@ pub(crate) fn parts_of_filters_u32(place: usize) -> Part<'static>
     ensures { part_view result ≡ parts_of_filters_u32 place }
 {
     match place {
-        96 => Part::Rows("U32", &LIST_U32_IN_U32),
-        97 => Part::Fields(&STRUCT_TC_U32_SEL),
-        98 => Part::Fields(&STRUCT_TC_U32_KEY),
-        99 => Part::Rows("", &LIST_TC_FILTER_U32),
+        2520 => Part::Rows("U32", &LIST_U32_IN_U32),
+        2521 => Part::Fields(&STRUCT_TC_U32_SEL),
+        2522 => Part::Fields(&STRUCT_TC_U32_KEY),
+        2523 => Part::Fields(&STRUCT_TC_U32_PCNT),
+        2524 => Part::Fields(&STRUCT_TC_U32_MARK),
+        2525 => Part::Rows("", &LIST_TC_FILTER_U32),
+        _ => Part::One(Form::Hex),
+    }
+}
+
+#[tactic(auto, unfolding(crate::specs::Parts::Filters::all_of_filters))]
+pub(crate) fn all_of_filters(place: usize) -> Part<'static>
+    ensures { part_view result ≡ all_of_filters place }
+{
+    match place / 12 {
+        200 => parts_of_filters_basic(place),
+        201 => parts_of_filters_bpf(place),
+        202 => parts_of_filters_cgroup(place),
+        203 => parts_of_filters_flow(place),
+        204 => parts_of_filters_flower(place),
+        205 => parts_of_filters_fw(place),
+        206 => parts_of_filters_matchall(place),
+        207 => parts_of_filters_route(place),
+        208 => parts_of_filters_rsvp(place),
+        209 => parts_of_filters_tcindex(place),
+        210 => parts_of_filters_u32(place),
         _ => Part::One(Form::Hex),
     }
 }

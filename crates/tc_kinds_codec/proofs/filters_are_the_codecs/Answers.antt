@@ -1,16 +1,16 @@
 use Rattle.std.proofs.Common.{refl}
+use Rattle.tc_kinds.specs.Parts.Message.{all_of_message, parts_of_message as message_parts}
+use Rattle.tc_kinds.specs.Parts.Elements.{all_of_elements, parts_of_elements as elements_parts}
+use Rattle.tc_kinds.specs.Parts.Filters.{all_of_filters}
+use Rattle.tc_kinds.specs.Parts.Filters.{parts_of_filters_flower as flower_parts}
+use Rattle.tc_kinds.specs.Parts.Filters.{parts_of_filters_u32 as u32_parts}
+use Rattle.tc_kinds.specs.Parts.Filters.{parts_of_filters_matchall as matchall_parts}
+use Rattle.tc_kinds.specs.Parts.Filters.{parts_of_filters_bpf as bpf_parts}
 use Rattle.tc_kinds.specs.Table.{tc_tables}
-use Rattle.tc_kinds.specs.Parts.Action.{parts_of_action}
-use Rattle.tc_kinds.specs.Parts.Actions.{parts_of_actions_mirred, parts_of_actions_nat, parts_of_actions_tunnel_key}
-use Rattle.tc_kinds.specs.Parts.Elements.{parts_of_elements}
-use Rattle.tc_kinds.specs.Parts.Filters.{parts_of_filters_bpf, parts_of_filters_flower, parts_of_filters_matchall, parts_of_filters_u32}
-use Rattle.tc_kinds.specs.Parts.Message.{parts_of_message}
-use Rattle.tc_kinds.specs.Parts.Qdiscs.{parts_of_qdiscs_fq_codel, parts_of_qdiscs_ingress}
-use Rattle.tc_kinds.specs.Parts.Statistics.{parts_of_statistics}
 use Rattle.tc_kinds_codec.proofs.filters_are_the_codecs.Goals as goal
 
 pub returns : goal.returns
-unfolding tc_tables parts_of_action parts_of_actions_mirred parts_of_actions_nat parts_of_actions_tunnel_key parts_of_elements parts_of_filters_bpf parts_of_filters_flower parts_of_filters_matchall parts_of_filters_u32 parts_of_message parts_of_qdiscs_fq_codel parts_of_qdiscs_ingress parts_of_statistics
+unfolding tc_tables all_of_message all_of_elements all_of_filters message_parts elements_parts flower_parts u32_parts matchall_parts bpf_parts
 returns c = record {
   flower = refl;
   mpls = refl;
@@ -19,5 +19,6 @@ returns c = record {
   selector = record { is_laid = refl; is_named = refl };
   key = record { is_laid = refl; is_named = refl };
   matchall = refl;
+  actions = refl;
   bpf = refl;
 }

@@ -1,16 +1,11 @@
 use Rattle.std.proofs.Common.{refl}
+use Rattle.tc_kinds.specs.Parts.Message.{all_of_message, parts_of_message as message_parts}
+use Rattle.tc_kinds.specs.Parts.Statistics.{all_of_statistics, parts_of_statistics as statistics_parts}
 use Rattle.tc_kinds.specs.Table.{tc_tables}
-use Rattle.tc_kinds.specs.Parts.Action.{parts_of_action}
-use Rattle.tc_kinds.specs.Parts.Actions.{parts_of_actions_mirred, parts_of_actions_nat, parts_of_actions_tunnel_key}
-use Rattle.tc_kinds.specs.Parts.Elements.{parts_of_elements}
-use Rattle.tc_kinds.specs.Parts.Filters.{parts_of_filters_bpf, parts_of_filters_flower, parts_of_filters_matchall, parts_of_filters_u32}
-use Rattle.tc_kinds.specs.Parts.Message.{parts_of_message}
-use Rattle.tc_kinds.specs.Parts.Qdiscs.{parts_of_qdiscs_fq_codel, parts_of_qdiscs_ingress}
-use Rattle.tc_kinds.specs.Parts.Statistics.{parts_of_statistics}
 use Rattle.tc_kinds_codec.proofs.messages_are_the_codecs.Goals as goal
 
 pub returns : goal.returns
-unfolding tc_tables parts_of_action parts_of_actions_mirred parts_of_actions_nat parts_of_actions_tunnel_key parts_of_elements parts_of_filters_bpf parts_of_filters_flower parts_of_filters_matchall parts_of_filters_u32 parts_of_message parts_of_qdiscs_fq_codel parts_of_qdiscs_ingress parts_of_statistics
+unfolding tc_tables all_of_message all_of_statistics message_parts statistics_parts
 returns c = record {
   tc_constant = refl;
   action_constant = refl;

@@ -1,0 +1,26 @@
+//! Lists the traffic control messages of captures: pcap, pcapng, files of `rtmon`.
+
+use conjareho::capture::{Capture, CaptureError, Messages, rtm_of};
+
+fn main() -> Result<(), Box<dyn std::error::Error>> {
+    for path in std::env::args().skip(1) {
+        let bytes = std::fs::read(&path)?;
+        let mut capture = Capture::of_first(&bytes).ok_or("no capture")?;
+        let mut rest = bytes.as_slice();
+        while !rest.is_empty() {
+            let piece = match capture.next(rest) {
+                Err(CaptureError::Short { .. }) => break,
+                piece => piece?,
+            };
+            rest = &rest[piece.used..];
+            let messages = piece.packet.map_or(Ok(None), |packet| packet.netlink())?.unwrap_or_default();
+            for message in Messages::new(messages) {
+                let message = message?;
+                if let Some(rtm) = rtm_of(message.kind) {
+                    println!("{} of {} bytes", rtm.name, message.payload.len());
+                }
+            }
+        }
+    }
+    Ok(())
+}

@@ -1,0 +1,80 @@
+//! Collections whose growth can fail, over `try_reserve`.
+
+use alloc::{string::String, vec::Vec};
+
+/// Memory ran out.
+#[derive(Clone, Copy, PartialEq, Eq, Debug)]
+pub struct AllocError;
+
+impl core::fmt::Display for AllocError {
+    fn fmt(&self, f: &mut core::fmt::Formatter<'_>) -> core::fmt::Result {
+        f.write_str("out of memory")
+    }
+}
+
+impl core::error::Error for AllocError {}
+
+pub(crate) fn with_capacity<T>(len: usize) -> Result<Vec<T>, AllocError> {
+    let mut items = Vec::new();
+    items.try_reserve_exact(len).map_err(|_| AllocError)?;
+    Ok(items)
+}
+
+pub(crate) fn list<T, const N: usize>(list: [T; N]) -> Result<Vec<T>, AllocError> {
+    let mut items = with_capacity(N)?;
+    items.extend(list);
+    Ok(items)
+}
+
+pub(crate) fn copy(bytes: &[u8]) -> Result<Vec<u8>, AllocError> {
+    let mut items = with_capacity(bytes.len())?;
+    items.extend_from_slice(bytes);
+    Ok(items)
+}
+
+pub(crate) fn filled<T: Clone>(item: T, len: usize) -> Result<Vec<T>, AllocError> {
+    let mut items = with_capacity(len)?;
+    items.resize(len, item);
+    Ok(items)
+}
+
+pub(crate) fn text(text: &str) -> Result<String, AllocError> {
+    let mut copy = String::new();
+    copy.try_reserve_exact(text.len()).map_err(|_| AllocError)?;
+    copy.push_str(text);
+    Ok(copy)
+}
+
+pub(crate) trait Fallible<T> {
+    fn try_grow(&mut self, more: usize) -> Result<(), AllocError>;
+    fn try_push(&mut self, item: T) -> Result<(), AllocError>;
+}
+
+impl<T> Fallible<T> for Vec<T> {
+    #[inline]
+    fn try_grow(&mut self, more: usize) -> Result<(), AllocError> {
+        self.try_reserve(more).map_err(|_| AllocError)
+    }
+
+    #[inline]
+    fn try_push(&mut self, item: T) -> Result<(), AllocError> {
+        self.try_grow(1)?;
+        self.push(item);
+        Ok(())
+    }
+}
+
+/// Text as it is formatted, into a string that grows where there is memory.
+pub(crate) fn formatted(text: core::fmt::Arguments<'_>) -> Result<String, AllocError> {
+    struct Growing(String);
+    impl core::fmt::Write for Growing {
+        fn write_str(&mut self, part: &str) -> core::fmt::Result {
+            self.0.try_reserve(part.len()).map_err(|_| core::fmt::Error)?;
+            self.0.push_str(part);
+            Ok(())
+        }
+    }
+    let mut all = Growing(String::new());
+    core::fmt::write(&mut all, text).map_err(|_| AllocError)?;
+    Ok(all.0)
+}

@@ -1,0 +1,110 @@
+//! What stands for the crates arrayvec, byteorder and itoa, as far as the codec uses them.
+
+/// Texts and lists of a fixed room.
+pub mod arrayvec {
+    /// A text of at most `N` bytes.
+    #[derive(Clone, Copy)]
+    pub struct ArrayString<const N: usize>([u8; N], usize);
+
+    impl<const N: usize> ArrayString<N> {
+        pub(crate) fn new() -> Self {
+            ArrayString([0; N], 0)
+        }
+
+        pub(crate) fn push(&mut self, c: char) {
+            self.push_str(c.encode_utf8(&mut [0; 4]));
+        }
+
+        pub(crate) fn push_str(&mut self, text: &str) {
+            self.0[self.1..][..text.len()].copy_from_slice(text.as_bytes());
+            self.1 += text.len();
+        }
+
+        /// The text.
+        pub fn as_str(&self) -> &str {
+            core::str::from_utf8(&self.0[..self.1]).expect("only texts are pushed")
+        }
+    }
+
+    impl<const N: usize> core::fmt::Display for ArrayString<N> {
+        fn fmt(&self, f: &mut core::fmt::Formatter<'_>) -> core::fmt::Result {
+            f.pad(self.as_str())
+        }
+    }
+
+    /// A list of at most `N` items.
+    #[derive(Clone, Copy)]
+    pub struct ArrayVec<T, const N: usize>([T; N], usize);
+
+    impl<T: Copy + Default, const N: usize> ArrayVec<T, N> {
+        pub(crate) fn new() -> Self {
+            ArrayVec([T::default(); N], 0)
+        }
+
+        pub(crate) fn push(&mut self, item: T) {
+            self.0[self.1] = item;
+            self.1 += 1;
+        }
+
+        pub(crate) fn is_full(&self) -> bool {
+            self.1 == N
+        }
+
+        pub(crate) fn clear(&mut self) {
+            self.1 = 0;
+        }
+
+        pub(crate) fn as_slice(&self) -> &[T] {
+            &self.0[..self.1]
+        }
+    }
+}
+
+/// Numbers in bytes.
+pub(crate) mod byteorder {
+    pub(crate) trait ByteOrder {
+        fn front<const N: usize>(bytes: &[u8]) -> [u8; N];
+
+        fn read_u16(bytes: &[u8]) -> u16 {
+            u16::from_le_bytes(Self::front(bytes))
+        }
+
+        fn read_u32(bytes: &[u8]) -> u32 {
+            u32::from_le_bytes(Self::front(bytes))
+        }
+    }
+
+    pub(crate) struct LittleEndian;
+    pub(crate) struct BigEndian;
+
+    impl ByteOrder for LittleEndian {
+        fn front<const N: usize>(bytes: &[u8]) -> [u8; N] {
+            *bytes.first_chunk().expect("the bytes of a number")
+        }
+    }
+
+    impl ByteOrder for BigEndian {
+        fn front<const N: usize>(bytes: &[u8]) -> [u8; N] {
+            let mut number: [u8; N] = LittleEndian::front(bytes);
+            number.reverse();
+            number
+        }
+    }
+}
+
+/// Numbers as decimal digits.
+pub(crate) mod itoa {
+    pub(crate) struct Buffer([u8; 3]);
+
+    impl Buffer {
+        pub(crate) fn new() -> Buffer {
+            Buffer(*b"000")
+        }
+
+        pub(crate) fn format(&mut self, n: u8) -> &str {
+            self.0 = [n / 100, n / 10 % 10, n % 10].map(|digit| b'0' + digit);
+            let zeros = usize::from(n < 100) + usize::from(n < 10);
+            core::str::from_utf8(&self.0[zeros..]).expect("digits")
+        }
+    }
+}

@@ -1,0 +1,46 @@
+//! What programs and tests use besides: growth of texts and slices that can fail, and the failure of a test.
+
+use crate::fallible::{self, AllocError};
+
+/// Why a test failed.
+#[cfg(test)]
+pub(crate) type Fail = Box<dyn core::error::Error>;
+
+/// Growth that can fail.
+pub(crate) trait Growing<T: ?Sized> {
+    fn try_push_str(&mut self, text: &T) -> Result<(), AllocError>;
+}
+
+impl Growing<str> for String {
+    fn try_push_str(&mut self, text: &str) -> Result<(), AllocError> {
+        self.try_reserve(text.len()).map_err(|_| AllocError)?;
+        self.push_str(text);
+        Ok(())
+    }
+}
+
+/// Growth of lists that can fail.
+pub(crate) trait Extending<T> {
+    fn try_extend(&mut self, more: &[T]) -> Result<(), AllocError>;
+}
+
+impl<T: Clone> Extending<T> for Vec<T> {
+    fn try_extend(&mut self, more: &[T]) -> Result<(), AllocError> {
+        self.try_reserve(more.len()).map_err(|_| AllocError)?;
+        self.extend_from_slice(more);
+        Ok(())
+    }
+}
+
+/// A copy that can fail.
+pub(crate) trait Copying<T> {
+    fn try_to_vec(&self) -> Result<Vec<T>, AllocError>;
+}
+
+impl<T: Clone> Copying<T> for [T] {
+    fn try_to_vec(&self) -> Result<Vec<T>, AllocError> {
+        let mut copy = fallible::with_capacity(self.len())?;
+        copy.extend_from_slice(self);
+        Ok(copy)
+    }
+}

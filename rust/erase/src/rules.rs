@@ -1,0 +1,166 @@
+//! What is rewritten, as tables: everything that the eraser knows by name stands here.
+
+use crate::pattern::Rule;
+
+/// Crates of laws, beside those whose names end in `_laws`.
+pub(crate) const LAW_CRATES: &[&str] = &["tc_meaning"];
+
+/// Types of allocators, and the names of their values.
+pub(crate) const ALLOCATORS: &[&str] = &["A", "Global"];
+pub(crate) const VALUES: &[&str] = &["alloc", "_alloc"];
+
+/// Traits that only contracts name. (One that isn't listed stays as a trait with nothing in it.)
+pub(crate) const MARKERS: &[&str] = &["Drop", "FrameMeaning", "BytesMeaning", "CanonMeaning"];
+
+/// Rules, each applied to a whole file, one after the other.
+pub(crate) const RULES: &[Rule] = &[
+    // Without an allocator a derive needs no bounds of its own.
+    ("# [ derive_where ( $*x ; A ) ]", "#[derive($*x)]"),
+    ("# [ derive_where ( $*x ) ]", "#[derive($*x)]"),
+    // Allocators: parameters and arguments of types,
+    (": Allocator + Copy", ": Allocator"),
+    (": Allocator + Clone", ": Allocator"),
+    (": Allocator = Global", ": Allocator"),
+    ("< %A : Allocator >", ""),
+    ("< %A : Allocator ,", "<"),
+    (", %A : Allocator ,", ","),
+    (", %A : Allocator >", ">"),
+    (":: < %A >", ""),
+    ("< %A >", ""),
+    ("< %A ,", "<"),
+    (", %A >", ">"),
+    (", %A ,", ","),
+    // parameters of functions, and fields,
+    ("pub ( crate ) %n : %A ,", ""),
+    ("pub %n : %A ,", ""),
+    ("%n : %A ,", ""),
+    (", %n : %A )", ")"),
+    ("( %n : %A )", "()"),
+    // and their values.
+    ("let %n = %v ;", ""),
+    ("%n : %v ,", ""),
+    ("( %v , ", "("),
+    ("( %v )", "()"),
+    (", %v )", ")"),
+    (", %v , ", ","),
+    ("{ %v , ", "{"),
+    // Traits that only contracts name. In Rattle, types have a size, and a method that no impl writes says so.
+    ("pub trait %M { }", ""),
+    ("pub trait %M : %M { }", ""),
+    ("impl %M for $-x { }", ""),
+    ("impl < $-g > %M for $-x { }", ""),
+    ("# [ derive ( %M ) ]", ""),
+    ("derive ( %M , ", "derive("),
+    ("derive ( $-x , %M )", "derive($-x)"),
+    ("derive ( $-x , %M , ", "derive($-x, "),
+    (": %M + ", ": "),
+    (": %M {", " {"),
+    (": %M ,", ","),
+    (": %M >", ">"),
+    ("+ %M", ""),
+    ("trait $x {", "trait $x: Sized {"),
+    ("trait $x < $t > {", "trait $x<$t>: Sized {"),
+    ("trait $x < const $n : usize > {", "trait $x<const $n: usize>: Sized {"),
+    ("final fn", "fn"),
+    // Allocation that fails: the module `fallible` has Rust's fallible forms.
+    ("impl < T > From < AllocFailed < T > > for $x { $*b }", ""),
+    ("vec ! [ in %v ; $*x ; $*n ]", "fallible::filled($*x, $*n)"),
+    ("vec ! [ in %v ; $*x ]", "fallible::list([$*x])"),
+    ("Vec :: with_capacity (", "fallible::with_capacity("),
+    ("Vec :: from_slice (", "fallible::copy("),
+    ("String :: from_str (", "fallible::text("),
+    (". push ( $*x ) ?", ".try_push($*x)?"),
+    (". reserve ( $*x ) ?", ".try_grow($*x)?"),
+    (". push_reserved (", ".push("),
+    ("std :: alloc ::", "crate::fallible::"),
+    // A clone can't fail, so the one that is written by hand is derived.
+    ("impl Clone for TcFilterFlowerOption { $;b }", ""),
+    ("pub enum TcFilterFlowerOption {", "#[derive(Clone)]\npub enum TcFilterFlowerOption {"),
+    // Rust's formatter isn't generic.
+    ("< W : fmt :: Write >", ""),
+    ("< W : Write >", ""),
+    ("W : Write ,", ""),
+    ("Formatter < W >", "Formatter<'_>"),
+    // Calls of std that Rust has under another name, or had later.
+    ("parse_ascii ( $x . as_bytes ( ) )", "from_str($x)"),
+    ("Ipv4Addr :: from_octets (", "Ipv4Addr::from("),
+    ("Ipv6Addr :: from_octets (", "Ipv6Addr::from("),
+];
+
+/// Rules of programs and tests, before those above.
+pub(crate) const USER_RULES: &[Rule] = &[
+    ("( rt : HostRuntime )", "()"),
+    ("assert ! ( rt ; $*x )", "assert!($*x)"),
+    (". expect ( & rt , $*x )", ".expect($*x)"),
+    ("Fail :: new ( format_args ! ( $*x ) )", "Fail::from(format!($*x))"),
+    ("Fail :: new (", "Fail::from("),
+    ("std :: test ::", "crate::user::"),
+    ("# [ rattlefmt :: skip ]", ""),
+    ("format ! ( in %v ; $*x )", "fallible::formatted(format_args!($*x))"),
+    (". push_str ( $*x ) ?", ".try_push_str($*x)?"),
+    (". extend_from_slice (", ".try_extend("),
+    (". to_vec ( %v )", ".try_to_vec()"),
+    (". to_string ( %v ) ?", ".to_string()"),
+    (". clone ( ) ?", ".clone()"),
+    ("{ self . clone ( ) }", "{ Ok(self.clone()) }"),
+];
+
+/// Functions of tests that name one of these, or one of those functions, are left out: no allocator can be handed to what is erased.
+pub(crate) const LEFT_OUT: &[&str] = &["Failing", "Abort"];
+
+/// What `thiserror` derives: the variants of an enum as the arms of a `match`, and the fields of a struct as a pattern.
+pub(crate) const ARMS: &[Rule] = &[
+    ("# [ error ( $t ) ] $v ( $-f ) ,", "Self::$v(it) => write!(f, $t, it),"),
+    ("# [ error ( $t ) ] $v { $-f } ,", "Self::$v { $-f } => write!(f, $t),"),
+    ("# [ error ( $t ) ] $v ,", "Self::$v => write!(f, $t),"),
+    ("pub $f : $t ,", "$f,"),
+    (": usize", ""),
+];
+
+/// What a caller's duty kept from happening, in a function that has one; `MESSAGE` names the duty.
+pub(crate) const CHECKS: &[Rule] = &[
+    (". unwrap_or ( 0 )", ".expect(MESSAGE)"),
+    (", ( $*x ) as u8", ", u8::try_from($*x).expect(MESSAGE)"),
+    (", ( $*x ) as u16", ", u16::try_from($*x).expect(MESSAGE)"),
+];
+
+/// A duty in Rust.
+pub(crate) const DUTIES: &[Rule] = &[("length $x . now", "$x.len()"), ("length $x . old . $f . now", "$x.$f.len()"), ("≤", "<=")];
+
+/// Imports of these have no use any more.
+pub(crate) const LOST_IMPORTS: &[&str] = &["Allocator", "Global", "AllocFailed", "std::fmt::Write", "std::string::String", "Abort", "thiserror::Error"];
+
+/// Modules of `std` that are in `core` too, and those that programs and tests use beside them.
+pub(crate) const CORE: &[&str] = &["cmp", "convert", "fmt", "hash", "iter", "marker", "mem", "net", "ops", "slice", "str"];
+pub(crate) const STD: &[&str] = &["collections", "hash", "process"];
+
+/// Crates that a module of the shims stands for.
+pub(crate) const SHIMS: &[&str] = &["arrayvec", "bitflags", "byteorder", "hex", "itoa"];
+
+/// What has to be imported where one of these words is, since it isn't in the prelude of `core`.
+pub(crate) const NEEDS: &[(&str, &str)] = &[
+    ("Vec", "alloc::vec::Vec"),
+    ("String", "alloc::string::String"),
+    ("fallible", "crate::fallible"),
+    ("try_push", "crate::fallible::Fallible as _"),
+    ("try_grow", "crate::fallible::Fallible as _"),
+    ("from_str", "core::str::FromStr as _"),
+    ("try_push_str", "crate::user::Growing as _"),
+    ("try_extend", "crate::user::Extending as _"),
+    ("try_to_vec", "crate::user::Copying as _"),
+];
+
+/// Words that would be left of a form that no rule knows.
+pub(crate) const UNKNOWN: &[&str] = &[
+    "ghost", "requires", "ensures", "Allocator", "Global", "AllocFailed", "Drop", "alloc", "_alloc", "derive_where", "final", "thiserror", "rt", "HostRuntime",
+    "push_reserved", "parse_ascii", "unsafe",
+];
+
+/// Attributes that Rust has too, and macros of `core` and `std`.
+pub(crate) const ATTRIBUTES: &[&str] = &["allow", "cfg", "default", "derive", "inline", "must_use", "test"];
+pub(crate) const MACROS: &[&str] = &["assert", "format", "format_args", "macro_rules", "matches", "stringify", "write"];
+
+/// Lints that erased modules don't meet: contracts used what is now unused, and some code is easier to prove than what clippy prefers.
+pub(crate) const LINTS: &str = "dead_code, missing_docs, unused_imports, unused_variables, clippy::if_same_then_else, clippy::large_enum_variant, \
+    clippy::len_zero, clippy::manual_div_ceil, clippy::manual_find, clippy::manual_is_multiple_of, clippy::manual_map, clippy::needless_range_loop, \
+    clippy::question_mark, clippy::redundant_static_lifetimes, clippy::single_match, clippy::wrong_self_convention";

@@ -1,0 +1,21 @@
+//! The repository's tests of the codec, erased with it.
+#![cfg(test)]
+#![forbid(unsafe_code)]
+
+extern crate alloc;
+
+#[path = "../../../erase/shims/bitflags.rs"]
+pub mod bitflags;
+#[path = "../../../erase/shims/fallible.rs"]
+#[allow(dead_code)] // what the programs use besides
+mod fallible;
+#[path = "../../../erase/shims/hex.rs"]
+mod hex;
+#[path = "../../../erase/shims/small.rs"]
+mod small;
+#[path = "../../../erase/shims/user.rs"]
+mod user;
+
+use small::{arrayvec, byteorder, itoa};
+
+include!(concat!(env!("OUT_DIR"), "/tests.rs"));
