@@ -176,7 +176,7 @@ def further_statistics(word, name):
 # ---- The attributes of both messages, and the options of the kinds that the typed codec knows
 
 # Whether the tables have more than the typed codec's: its kinds alone, and of these what it has rows for, are today's JSON.
-ALL = os.environ.get("FORMS") == "all"
+ALL = True
 def more(*rows): return rows if ALL else ()
 
 def rows(first, form, names): return [(first + at, name, form) for at, name in enumerate(names.split())]
