@@ -88,10 +88,10 @@ def fields_of(struct, *behind):
 BITFIELD = record(*each(U32, "value selector"))
 TABLES = {}
 
-def is_nested(flags, kernel="no"):
+def is_nested(seen, kernel="no"):
     """Whether iproute2 sets the nested flag, or, of what it never sends, Linux."""
-    sent = [how for how in flags or {} if how.startswith("iproute2")]
-    return any(how.endswith(" nested") for how in sent) if sent else kernel == "yes"
+    sent = (seen or {}).get("iproute2")
+    return "nested" in sent if sent else kernel == "yes"
 
 def form_of(table, fact):
     """What an attribute holds."""
@@ -126,7 +126,7 @@ def attributes_of(table, *but):
     """The rows of a table."""
     for fact in FACTS["tables"][table]["attrs"]:
         if fact["short"] not in but:
-            nested = fact["form"] == "nested" and is_nested(fact.get("seen_flags"), fact.get("kernel_nested_flag"))
+            nested = fact["form"] == "nested" and is_nested(fact.get("flags_seen"), fact.get("kernel_nested_flag"))
             yield fact["num"] | (NESTED if nested else 0), fact["short"], form_of(table, fact)
 
 def table_of(table, layer=None):
@@ -156,7 +156,7 @@ def further_options(family):
         options, of_class = facts["options"], facts.get("class_options", {"form": "none"})
         if kind == "teql":  # its kind has a number in it
             continue
-        layer, nested = camel(kind), NESTED if family == "action" or is_nested(facts.get("options_flags_seen")) else 0
+        layer, nested = camel(kind), NESTED if family == "action" or is_nested(facts.get("flags_seen")) else 0
         if options["form"] == "none":
             form = list_of() if of_class["form"] == "none" else held(of_class, layer)
         elif of_class["form"] != "none" and of_class != options:
@@ -218,7 +218,8 @@ EMATCH = choice(*((name, b"\0\0" + bytes([number, 0]), ematch(match)) for number
 LSE = list_of(*rows(1, U8, "LseDepth LseTtl LseBos LseTc"), (5, "LseLabel", U32))
 FLOWER = list_of(
     (1, "ClassId", HANDLE), (2, "InDev", TEXT), (3, "Actions", ACTIONS), *rows(4, MAC, "EthDst EthDstMask EthSrc EthSrcMask"),
-    (8, "EthType", BE16), (9, "IpProto", U8), *rows(10, IPV4, "Ipv4Src Ipv4SrcMask Ipv4Dst Ipv4DstMask"), *rows(14, IPV6, "Ipv6Src Ipv6SrcMask Ipv6Dst Ipv6DstMask"),
+    (8, "EthType", BE16), (9, "IpProto", U8), *rows(10, IPV4, "Ipv4Src Ipv4SrcMask Ipv4Dst Ipv4DstMask"),
+    *rows(14, IPV6, "Ipv6Src Ipv6SrcMask Ipv6Dst Ipv6DstMask"),
     *rows(18, BE16, "TcpSrc TcpDst UdpSrc UdpDst"), (22, "Flags", U32), (23, "VlanId", U16), (24, "VlanPrio", U8), (25, "VlanEthType", BE16),
     (26, "EncKeyId", BE32), *rows(27, IPV4, "EncKeyIpv4Src EncKeyIpv4SrcMask EncKeyIpv4Dst EncKeyIpv4DstMask"),
     *rows(31, IPV6, "EncKeyIpv6Src EncKeyIpv6SrcMask EncKeyIpv6Dst EncKeyIpv6DstMask"),
