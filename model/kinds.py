@@ -192,15 +192,18 @@ STATS2 = list_of((1, "Basic", BASIC), (3, "Queue", QUEUE), *statistics(4, "App")
                  *attributes_of("stats", "Basic", "Queue", "App", "BasicHw"))
 GENEVE = list_of((1, "Class", BE16), (2, "Type", U8), (3, "Data", HEX))
 ERSPAN = list_of((1, "Ver", U8), (2, "Index", BE32), *rows(3, U8, "Dir Hwid"))
-ENC_OPTS = list_of((1 | NESTED, "Geneve", GENEVE), (2 | NESTED, "Vxlan", list_of((1, "Gbp", U32))), (3 | NESTED, "Erspan", ERSPAN),
+VXLAN = list_of((1, "Gbp", U32))
+ENC_OPTS = list_of((1 | NESTED, "Geneve", GENEVE), (2 | NESTED, "Vxlan", VXLAN), (3 | NESTED, "Erspan", ERSPAN),
                    (4 | NESTED, "Gtp", list_of(*rows(1, U8, "PduType Qfi"))), (5 | NESTED, "Pfcp", list_of((1, "Type", U8), (2, "Seid", BE64))))
+# For this action iproute2 sets the flag of the last two alone.
+TUNNEL_OPTS = list_of((1, "Geneve", GENEVE), (2 | NESTED, "Vxlan", VXLAN), (3 | NESTED, "Erspan", ERSPAN))
 TYPED_ACTIONS = {
     "mirred": list_of((1, "Tm", TIMES), (2, "Parms", MIRROR), (3, "Pad", FLAG), (4, "Blockid", U32), layer="Mirror"),
     "nat": list_of((1, "Parms", NAT), (2, "Tm", TIMES), (3, "Pad", FLAG), layer="Nat"),
     "tunnel_key": list_of(
         (1, "Tm", TIMES), (2, "Parms", TUNNEL_KEY), *rows(3, IPV4, "EncIpv4Src EncIpv4Dst"), *rows(5, IPV6, "EncIpv6Src EncIpv6Dst"),
         (7, "EncKeyId", BE32), (9, "EncDstPort", BE16), (10, "NoCsum", TRUTH), *rows(12, U8, "EncTos EncTtl"),
-        (8, "Pad", FLAG), (11 | NESTED, "EncOpts", ENC_OPTS), (14, "NoFrag", FLAG), layer="TunnelKey"),
+        (8, "Pad", FLAG), (11, "EncOpts", TUNNEL_OPTS), (14, "NoFrag", FLAG), layer="TunnelKey"),
 }
 ACTION = list_with_kinds(
     *[(2 | NESTED, "Options", form, kind) for kind, form in TYPED_ACTIONS.items()], *further_options("action"), (2 | NESTED, "Options", list_of()),
