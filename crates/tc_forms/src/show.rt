@@ -17,6 +17,7 @@ ghost use Rattle.tc_forms.specs.Widths.{fixed, width};
 use crate::attributes_shown::{front, kind_after, kind_in, own_kind, rows_after, send_kind, send_other, send_pad, send_tab, send_tail, send_told};
 use crate::choices::{behind, chosen, send_unknown};
 use crate::form::{Choice, Field, Form};
+use crate::numbers::send_bytes_number;
 use crate::places::{choices_at, fields_at, form_at, layer_at};
 use crate::records::{are_enough, is_blank, is_pad, names_apart, send_rest, split};
 use crate::rows::{RowList, rows_under, shown_row};
@@ -81,6 +82,7 @@ fn send_form<S: Serializer, T: Tables>(
         None => return send_raw(bytes, alloc, out),
     };
     match form {
+        Form::Number(number) => send_bytes_number(number, bytes, alloc, out),
         Form::Record(place) => send_record(table, inner, kind, place, bytes, alloc, out),
         Form::Array(place) => send_elements(table, inner, kind, form_at(table, place), bytes, alloc, out),
         Form::Times(_, place) => send_elements(
@@ -154,6 +156,7 @@ fn send_fields<S: Serializer, T: Tables>(
 }
 
 // A field, if it isn't blank padding.
+#[inline(always)]
 #[cycle(send)]
 fn send_field<S: Serializer, T: Tables>(
     table: T,
@@ -328,7 +331,7 @@ fn send_kinded_attributes<S: Serializer, T: Tables>(
 }
 
 // An attribute in its layer.
-#[inline(never)]
+#[inline(always)]
 #[cycle(send)]
 fn send_item<S: Serializer, T: Tables>(
     table: T,
@@ -374,6 +377,7 @@ fn send_attribute<S: Serializer, T: Tables>(
     }
 }
 
+#[inline(always)]
 #[cycle(send)]
 fn send_by_row<S: Serializer, T: Tables>(
     table: T,
