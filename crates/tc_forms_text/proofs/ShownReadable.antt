@@ -23,7 +23,7 @@ use Rattle.tc_forms.specs.Shown.{shown, show}
 use Rattle.tc_forms.specs.Tables.{Field, Row, Choice, Table}
 use Rattle.tc_forms.specs.Widths.{field_width, fixed}
 use Rattle.tc_forms.proofs.Leaves.{little_small}
-use Rattle.tc_forms.proofs.Records.{IsBytes-field_of, IsBytes-after_field, absent, swapped, not-false}
+use Rattle.tc_forms.proofs.RecordsAgain.{IsBytes-field_of, IsBytes-after_field, absent, swapped, not-false}
 use Rattle.tc_forms.proofs.Found.{not_pad_told, guarded, plain}
 use Rattle.tc_forms.proofs.Ordered.{Apart, pad_apart, named_apart, kind_apart}
 use Rattle.tc_forms_text.proofs.Readable.{Readable, ItemsReadable, MembersReadable, deeper}
@@ -162,9 +162,10 @@ module _ (table : Table) (Inner : List ℕ → Form → List ℕ → Data) (m : 
       deeper (attribute Inner (rows_under table i j) true j c) (suc (suc m)) (attribute_readable Inner m inner (rows_under table i j) true j c s)) n k b h
 
   indexed_readable : (i : ℕ) (k : List ℕ) (c : PaddedFrame) → Small c → Readable (indexed c (Inner k (form_of i (part_at table i)) c.value)) (suc (suc m))
-  indexed_readable i k c s =
-      ((not_pad_told (codes "tab") c refl, (not_pad_told (codes "attributes") c refl, pad_apart c)),
-      (s.word, (inner k (form_of i (part_at table i)) c.value s.value, pad_readable c (suc m))))
+  indexed_readable i k c s = (
+    (not_pad_told (codes "tab") c refl, (not_pad_told (codes "attributes") c refl, pad_apart c)),
+    (s.word, (inner k (form_of i (part_at table i)) c.value s.value, pad_readable c (suc m))),
+  )
 
   level_readable : (k : List ℕ) (f : Form) (b : List ℕ) → IsBytes b → Readable (shown table Inner k f b) (suc (suc (suc (suc m))))
   level_readable k (form.Record i) b h =
