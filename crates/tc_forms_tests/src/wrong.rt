@@ -95,7 +95,10 @@ fn texts(rt: HostRuntime) -> Result<(), Fail> {
 fn a_thousand_levels(rt: HostRuntime) -> Result<(), Fail> {
     let alloc = rt.alloc();
     let text = vec![in alloc; b'['; 1000]?;
-    assert_eq!(rt; error_of(alloc, &text)?.as_str(), "more than 127 levels deep at line 1 column 129");
+    assert_eq!(rt;
+        error_of(alloc, &text)?.as_str(),
+        "more than 127 levels deep at line 1 column 129"
+    );
     Ok(())
 }
 
@@ -105,7 +108,15 @@ fn a_value_that_is_too_long(rt: HostRuntime) -> Result<(), Fail> {
     let alloc = rt.alloc();
     let kind = "a".repeat(alloc, 65_531)?;
     let error = error_of_attributes(alloc, format!(in alloc; r#"{{"Kind":"{kind}"}}"#)?.as_str())?;
-    assert!(rt; error.as_str().starts_with("/attributes/0: found "), "{error}");
-    assert!(rt; error.as_str().ends_with(", wanted a value that is written as at most 65531 bytes"), "{error}");
+    assert!(rt;
+        error.as_str().starts_with("/attributes/0: found "),
+        "{error}"
+    );
+    assert!(rt;
+        error
+            .as_str()
+            .ends_with(", wanted a value that is written as at most 65531 bytes"),
+        "{error}"
+    );
     Ok(())
 }

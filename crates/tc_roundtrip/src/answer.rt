@@ -64,9 +64,17 @@ fn verdict_on<T: Tables>(
 {
     let again = match made_again(alloc, table, form, bytes, json) {
         Ok(again) => again,
-        Err(e) => return if e.is_memory() { Err(AllocError) } else { Ok("differs") },
+        Err(e) => return if e.is_memory() {
+            Err(AllocError)
+        } else {
+            Ok("differs")
+        },
     };
-    Ok(if again.as_slice() == bytes { "same" } else { "differs" })
+    Ok(if again.as_slice() == bytes {
+        "same"
+    } else {
+        "differs"
+    })
 }
 
 // The bytes that are made of the JSON of these.
