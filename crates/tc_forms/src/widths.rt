@@ -47,8 +47,15 @@ pub(crate) fn width<T: Tables>(table: T, depth: u8, form: Form) -> Option<usize>
             Some(width) => count.checked_mul(width),
             None => None,
         },
-        Form::Text | Form::Bare | Form::Hex | Form::Array(_) | Form::List(_) | Form::InForce(_) | Form::Own(_)
-        | Form::Indexed(_) | Form::Choice(_) => None,
+        Form::Text
+        | Form::Bare
+        | Form::Hex
+        | Form::Array(_)
+        | Form::List(_)
+        | Form::InForce(_)
+        | Form::Own(_)
+        | Form::Indexed(_)
+        | Form::Choice(_) => None,
     }
 }
 
