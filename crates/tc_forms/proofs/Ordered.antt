@@ -55,7 +55,7 @@ get_each q (member k d ms) = at (slice_cmp nat_cmp q k) (get_each q ms)
     at Greater e = e
 
 -- no two members have one name
-abbrev Apart : Members → Type 0
+abbrev pub Apart : Members → Type 0
 Apart no_members = Unit {0}
 Apart (member k d ms) = (get_member k ms ≡ None) × Apart ms
 
@@ -166,25 +166,25 @@ finds_read ms name x mark word c a kept_mark f = record {
   no_text = refl;
 }
 
-pad_apart : (c : PaddedFrame) → Apart (pad_told c)
+pub pad_apart : (c : PaddedFrame) → Apart (pad_told c)
 pad_apart c = go (is_blank (Some (padding (length c.value))) c.pad)
   where
     go : (t : Bool) → Apart (cond t no_members (member (codes "pad") (hex c.pad) no_members))
     go true = tt
     go false = (refl, tt)
 
-told_apart : (word : ℕ) (c : PaddedFrame) → Apart (told word c)
+pub told_apart : (word : ℕ) (c : PaddedFrame) → Apart (told word c)
 told_apart word c = go (c.word == word)
   where
     go : (t : Bool) → Apart (cond t (pad_told c) (member (codes "word") (number (unsigned c.word)) (pad_told c)))
     go true = pad_apart c
     go false = (not_pad_told (codes "word") c refl, pad_apart c)
 
-named_apart : (name : List ℕ) (x : Data) (word : ℕ) (c : PaddedFrame) → bytes_eq name (codes "word") ≡ false → bytes_eq name (codes "pad") ≡ false
+pub named_apart : (name : List ℕ) (x : Data) (word : ℕ) (c : PaddedFrame) → bytes_eq name (codes "word") ≡ false → bytes_eq name (codes "pad") ≡ false
     → Apart (member name x (told word c))
 named_apart name x word c w p = (get_told word c name w ∙ not_pad_told name c p, told_apart word c)
 
-kind_apart : (t : List ℕ) (c : PaddedFrame) → Apart (member (codes "Kind") (string t) (bare_told c.value (told 1 c)))
+pub kind_apart : (t : List ℕ) (c : PaddedFrame) → Apart (member (codes "Kind") (string t) (bare_told c.value (told 1 c)))
 kind_apart t c =
     (get_bare_told c.value (told 1 c) (codes "Kind") refl ∙ get_told 1 c (codes "Kind") refl ∙ not_pad_told (codes "Kind") c refl, go (ends_in_nul c.value))
   where
@@ -266,7 +266,7 @@ module _ (table : Table) (Inner : Form → List ℕ → Data) where
       ap (λ ms. cond t ms (member f.name (Read f.form chunk) ms)) (members_each fs later) ∙ one_each f chunk (members table Inner fs later) t
 
   module _ (Made : Form → Data → Option (List ℕ)) (again : (f : Form) (b : List ℕ) → IsBytes b → Made f (Read f b) ≡ Some b) where
-    apart_so : (fs : List Field) (b : List ℕ) → are_apart fs ≡ true → is_free (codes "rest") fs ≡ true → Apart (members table Inner fs b)
+    pub apart_so : (fs : List Field) (b : List ℕ) → are_apart fs ≡ true → is_free (codes "rest") fs ≡ true → Apart (members table Inner fs b)
     apart_so [] [] a free = tt
     apart_so [] (x ∷ b) a free = (refl, tt)
     apart_so (f ∷ fs) b a free =
@@ -382,11 +382,14 @@ module _ (table : Table) (Inner : List ℕ → Form → List ℕ → Data) (Made
   read_again k (form.Own i) b h =
       let One : List ℕ → PaddedFrame → Data = λ j c. attribute Inner (rows_under table i j) true j c in
       let own = own_kind (length b) b in
-      let ds = ordered_items (frames One true (length b) own b) in
-      ap (λ j. each_under (kinded_made table Made i) true j ds)
-      (ap own_told (frames_read One true (length b) own b)
+      let ds = ordered_items (frames One false (length b) own b) in
+      let Each = kinded_made table Made i in
+      ap (λ j. each_under Each false j ds)
+      (ap own_told (frames_read One false (length b) own b)
       ∙ own_again (λ j c. ordered (One j c)) (λ j c s. (attribute_read Inner Made again (rows_under table i j) true j c s).kind) (length b) own b h)
-      ∙ kinded_read i (length b) own b h
+      ∙ ap (each_under Each false own) (frames_read One false (length b) own b)
+      ∙ frames_again Each (λ j c. ordered (One j c)) false (λ j c s. refl)
+      (λ j c s. in_list All Made again (rows_under table i j) true j c _ (attribute_read Inner Made again (rows_under table i j) true j c s)) (length b) own b h
   read_again k (form.Indexed i) b h =
       let One : List ℕ → PaddedFrame → Data = λ j c. indexed c (Inner j (form_of i (part_at table i)) c.value) in
       let Each = indexed_made table Made i in

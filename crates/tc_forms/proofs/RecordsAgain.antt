@@ -55,11 +55,11 @@ whole_again : (w : Option ℕ) (b : List ℕ) → field_of w b ++ after_field w 
 whole_again None b = append-nil b
 whole_again (Some w) b = take-append-drop w b
 
-IsBytes-field_of : (w : Option ℕ) (b : List ℕ) → IsBytes b → IsBytes (field_of w b)
+pub IsBytes-field_of : (w : Option ℕ) (b : List ℕ) → IsBytes b → IsBytes (field_of w b)
 IsBytes-field_of None b h = h
 IsBytes-field_of (Some w) b h = IsBytes-take w b h
 
-IsBytes-after_field : (w : Option ℕ) (b : List ℕ) → IsBytes b → IsBytes (after_field w b)
+pub IsBytes-after_field : (w : Option ℕ) (b : List ℕ) → IsBytes b → IsBytes (after_field w b)
 IsBytes-after_field None b h = IsBytes-nil
 IsBytes-after_field (Some w) b h = IsBytes-drop w b h
 
