@@ -80,9 +80,9 @@ module _ (Inner : List ℕ → Form → List ℕ → Data) (Made : List ℕ → 
       let kind : kind_told has d ≡ Some t = ap (λ h. kind_told h d) both.0 ∙ ap (option_and_then as_str) f.it in
       record {
         made =
-        ap (by_kind_made Made rows has k d) kind
-        ∙ framed_again c d (word_or 1 (get (codes "word") d)) (kind_value t (get (codes "bare") d)) s (ap (word_or 1) f.word ∙ word_again 1 c s)
-        (ap (kind_value t) f.bare ∙ kind_again c.value t both.1) f.pad;
+            ap (by_kind_made Made rows has k d) kind
+            ∙ framed_again c d (word_or 1 (get (codes "word") d)) (kind_value t (get (codes "bare") d)) s (ap (word_or 1) f.word ∙ word_again 1 c s)
+            (ap (kind_value t) f.bare ∙ kind_again c.value t both.1) f.pad;
         kind = kind ∙ sym e;
         not_raw = not_raw d (codes "Kind") (string t) (bare_seen c.value) 1 c f refl;
         no_text = f.no_text;
@@ -94,9 +94,9 @@ module _ (Inner : List ℕ → Form → List ℕ → Data) (Made : List ℕ → 
       let kind = no_kind has d (f.none (codes "Kind") refl refl refl refl) in
       record {
         made =
-        ap (by_kind_made Made rows has k d) kind ∙ ap (by_row_made Made rows has k d) f.it
-        ∙ framed_again c d (option_and_then word_made (get (codes "word") x)) (option_and_then hex_made (get (codes "value") x)) s
-        (ap (option_and_then word_made) word ∙ s.word) (ap (option_and_then hex_made) value ∙ hex_made-hex c.value s.value) f.pad;
+            ap (by_kind_made Made rows has k d) kind ∙ ap (by_row_made Made rows has k d) f.it
+            ∙ framed_again c d (option_and_then word_made (get (codes "word") x)) (option_and_then hex_made (get (codes "value") x)) s
+            (ap (option_and_then word_made) word ∙ s.word) (ap (option_and_then hex_made) value ∙ hex_made-hex c.value s.value) f.pad;
         kind = kind ∙ sym e;
         not_raw = not_raw d (codes "Other") x None c.word c f refl;
         no_text = f.no_text;
@@ -115,10 +115,10 @@ module _ (Inner : List ℕ → Form → List ℕ → Data) (Made : List ℕ → 
       let its = plain q.name pass in f.none q.name differs its.word its.pad its.bare) in
       record {
         made =
-        ap (by_kind_made Made rows has k d) kind
-        ∙ ap (by_row_made Made rows has k d) (f.none (codes "Other") (swapped name (codes "Other") own.other) refl refl refl)
-        ∙ ap (row_made Made rows has k d) found
-        ∙ framed_again c d (word_or r.word (get (codes "word") d)) (Made k r.form x) s (ap (word_or r.word) f.word ∙ word_again r.word c s) made f.pad;
+            ap (by_kind_made Made rows has k d) kind
+            ∙ ap (by_row_made Made rows has k d) (f.none (codes "Other") (swapped name (codes "Other") own.other) refl refl refl)
+            ∙ ap (row_made Made rows has k d) found
+            ∙ framed_again c d (word_or r.word (get (codes "word") d)) (Made k r.form x) s (ap (word_or r.word) f.word ∙ word_again r.word c s) made f.pad;
         kind = kind ∙ sym e;
         not_raw = not_raw d name x None r.word c f (swapped name (codes "raw") own.raw);
         no_text = f.no_text;
@@ -293,9 +293,11 @@ module _ (table : Table) (Inner : List ℕ → Form → List ℕ → Data) (Made
   level_again k (form.InForce i) b h = kinded_again i (length b) k b h
   level_again k (form.Own i) b h =
       let One : List ℕ → PaddedFrame → Data = λ j c. attribute Inner (rows_under table i j) true j c in
-      ap (λ j. each_under (kinded_made table Made i) true j (frames One true (length b) (own_kind (length b) b) b))
-      (own_again One (λ j c s. (attribute_again Inner Made again (rows_under table i j) true j c s).kind) (length b) (own_kind (length b) b) b h)
-      ∙ kinded_again i (length b) (own_kind (length b) b) b h
+      let own = own_kind (length b) b in
+      ap (λ j. each_under (kinded_made table Made i) false j (frames One false (length b) own b))
+      (own_again One (λ j c s. (attribute_again Inner Made again (rows_under table i j) true j c s).kind) (length b) own b h)
+      ∙ frames_again (kinded_made table Made i) One false (λ j c s. refl)
+      (λ j c s. in_list Inner Made again (rows_under table i j) true j c _ (attribute_again Inner Made again (rows_under table i j) true j c s)) (length b) own b h
   level_again k (form.Indexed i) b h =
       frames_again (indexed_made table Made i) (λ j c. indexed c (Inner j (form_of i (part_at table i)) c.value)) false (λ j c s. refl)
       (λ j c s. indexed_again j i c s) (length b) k b h

@@ -15,7 +15,7 @@ use crate::error::{MakeError, Wanted};
 use crate::maker::Maker;
 use crate::rows::{RowList, rows_under};
 use crate::tables::Tables;
-use crate::values_made::make_hex;
+use crate::values_made::{make_hex, make_hex_at};
 use serde_json::Value;
 use std::mem;
 
@@ -82,7 +82,11 @@ pub(crate) fn own_told<'v>(items: &'v [Value]) -> &'v str
     }
 }
 
-pub(crate) fn make_kind<'v>(maker: &mut Maker<'v>, kind: &'v str, value: &'v Value) -> Result<(), MakeError>
+pub(crate) fn make_kind<'v>(
+    maker: &mut Maker<'v>,
+    kind: &'v str,
+    value: &'v Value,
+) -> Result<(), MakeError>
     ensures { Appended (by_kind_made (λ k f d. None) [] true [] (view value.now) (Some kind.now)) maker.old.bytes.items maker.new.bytes.items result }
 {
     let word = match word_or(1, value) {
@@ -122,16 +126,20 @@ fn make_text_of(maker: &mut Maker<'_>, text: &str) -> Result<(), MakeError>
 }
 
 // An attribute that no row has.
-pub(crate) fn make_other<'v>(maker: &mut Maker<'v>, other: &'v Value, value: &'v Value) -> Result<(), MakeError>
+pub(crate) fn make_other<'v>(
+    maker: &mut Maker<'v>,
+    other: &'v Value,
+    value: &'v Value,
+) -> Result<(), MakeError>
     ensures { Appended (other_made (view value.now) (view other.now)) maker.old.bytes.items maker.new.bytes.items result }
 {
     let word = match word_at(other, "word") {
         Some(word) => word,
-        None => return Err(maker.wrong_member(other, "word", Wanted::Word)),
+        None => return Err(maker.wrong_within("Other", other, "word", Wanted::Word)),
     };
     let held = match other.get("value") {
         Some(held) => held,
-        None => return Err(maker.wrong_member(other, "value", Wanted::Member)),
+        None => return Err(maker.wrong_within("Other", other, "value", Wanted::Member)),
     };
     let before = begin(maker);
     match make_hex(maker, held) {
@@ -179,7 +187,12 @@ pub(crate) fn begin(maker: &mut Maker<'_>) -> Vec<u8>
 }
 
 // Ends the value of an attribute.
-pub(crate) fn end<'v>(maker: &mut Maker<'v>, before: Vec<u8>, word: u16, value: &'v Value) -> Result<(), MakeError>
+pub(crate) fn end<'v>(
+    maker: &mut Maker<'v>,
+    before: Vec<u8>,
+    word: u16,
+    value: &'v Value,
+) -> Result<(), MakeError>
     ensures { Appended (framed (Some word) (Some maker.old.bytes.items) (view value.now)) before.items maker.new.bytes.items result }
 {
     let payload = mem::replace(&mut maker.bytes, before);
@@ -191,7 +204,12 @@ pub(crate) fn end<'v>(maker: &mut Maker<'v>, before: Vec<u8>, word: u16, value: 
 }
 
 // Appends a frame.
-fn put_frame<'v>(maker: &mut Maker<'v>, word: u16, payload: &[u8], value: &'v Value) -> Result<(), MakeError>
+fn put_frame<'v>(
+    maker: &mut Maker<'v>,
+    word: u16,
+    payload: &[u8],
+    value: &'v Value,
+) -> Result<(), MakeError>
     requires { length payload.now ≤ 65531 }
     ensures { Appended (option_map (λ p. frame_bytes (record { word = word; value = payload.now; pad = p })) (pad_or payload.now (get (codes "pad") (view value.now)))) maker.old.bytes.items maker.new.bytes.items result }
 {
@@ -216,7 +234,7 @@ fn put_pad<'v>(maker: &mut Maker<'v>, payload: &[u8], value: &'v Value) -> Resul
     ensures { Appended (pad_or payload.now (get (codes "pad") (view value.now))) maker.old.bytes.items maker.new.bytes.items result }
 {
     match value.get("pad") {
-        Some(pad) => make_hex(maker, pad),
+        Some(pad) => make_hex_at(maker, "pad", pad),
         None => maker.put_zeros((4 - payload.len() % 4) % 4),
     }
 }

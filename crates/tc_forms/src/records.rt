@@ -14,7 +14,7 @@ use crate::form::{Field, Form};
 use crate::maker::Maker;
 use crate::rows::is_same;
 use crate::tables::Tables;
-use crate::values_made::make_hex;
+use crate::values_made::make_hex_at;
 use crate::values_shown::send_hex;
 use crate::widths::fixed_width;
 use serde::Serializer;
@@ -42,7 +42,11 @@ pub(crate) fn split(bytes: &[u8], width: Option<usize>) -> (&[u8], &[u8])
 }
 
 // The bytes behind a record.
-pub(crate) fn send_rest<S: Serializer>(bytes: &[u8], alloc: Global, out: &mut S) -> Result<(), S::Error>
+pub(crate) fn send_rest<S: Serializer>(
+    bytes: &[u8],
+    alloc: Global,
+    out: &mut S,
+) -> Result<(), S::Error>
     ensures { OnOk result (Sent (members_events (rest_member bytes.now)) (S.written out.old) (S.written out.new)) }
 {
     if bytes.is_empty() {
@@ -124,7 +128,7 @@ pub(crate) fn make_rest<'v>(maker: &mut Maker<'v>, value: &'v Value) -> Result<(
     ensures { Appended (rest_made (get (codes "rest") (view value.now))) maker.old.bytes.items maker.new.bytes.items result }
 {
     match value.get("rest") {
-        Some(held) => make_hex(maker, held),
+        Some(held) => make_hex_at(maker, "rest", held),
         None => Ok(()),
     }
 }
