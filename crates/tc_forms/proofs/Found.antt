@@ -19,7 +19,7 @@ use Rattle.tc_forms.specs.Rows.{is_reserved}
 use Rattle.tc_forms.specs.Search.{first, held, held_or}
 use Rattle.tc_forms.proofs.Leaves.{hex_made-hex}
 use Rattle.tc_forms.proofs.Frames.{Stands}
-use Rattle.tc_forms.proofs.Records.{here, passes, not-false, blank}
+use Rattle.tc_forms.proofs.RecordsAgain.{here, passes, not-false, blank}
 
 pub and_false : (a : Bool) → (a && false) ≡ false
 and_false true = refl

@@ -30,7 +30,7 @@ use Rattle.tc_forms.specs.Values.{text_in, text_or_raw, truth_made}
 use Rattle.tc_forms.specs.Widths.{fixed, number_width}
 use Rattle.tc_forms.proofs.Leaves.{hex_made-hex, raw_of-raw, mac_of-mac_text, ipv4_of-ipv4_text, ipv6_of-ipv6_text, number_again, handle_again, bytes_of-bits_of}
 use Rattle.tc_forms.proofs.Frames.{Stands, frames_again, own_again, elements_of-again}
-use Rattle.tc_forms.proofs.Records.{record_again, record_not_raw, swapped, here, passes}
+use Rattle.tc_forms.proofs.RecordsAgain.{record_again, record_not_raw, swapped, here, passes}
 use Rattle.tc_forms.proofs.Found.{bare_seen, kind_finds, kind_again, get_pad_told, not_pad_told, none_not_some, some_is, Guarded, guarded, held_again, pad_seen, Finds, finds, word_again, framed_again, plain}
 
 no_bytes : (b : List ℕ) → length b ≡ 0 → [] ≡ b

@@ -1,6 +1,6 @@
 pub mod Leaves
 pub mod Frames
-pub mod Records
+pub mod RecordsAgain
 pub mod Found
 pub mod Law
 pub mod Ordered

@@ -34,7 +34,7 @@ use Rattle.tc_forms.specs.Values.{plain_shown, text_in, text_or_raw}
 use Rattle.tc_forms.specs.Widths.{field_width, fixed, number_width}
 use Rattle.tc_forms.proofs.Leaves.{hex_made-hex, raw_of-raw}
 use Rattle.tc_forms.proofs.Frames.{Stands, frames_again, own_again, elements_of-again}
-use Rattle.tc_forms.proofs.Records.{here, passes, absent, swapped, not-false, fields_again}
+use Rattle.tc_forms.proofs.RecordsAgain.{here, passes, absent, swapped, not-false, fields_again}
 use Rattle.tc_forms.proofs.Found.{bare_seen, kind_finds, get_bare_told, no_bare_told, get_pad_told, not_pad_told, get_told, none_not_some, guarded, word_seen, pad_seen, Finds, finds, plain}
 use Rattle.tc_forms.proofs.Law.{Holds, Again, kind_found, other_found, other_finds, row_found, in_list, in_layer, choice_found, indexed_found, level_again}
 

@@ -4,37 +4,53 @@ ghost use Rattle.std.specs.Prelude.{◌≡◌};
 ghost use Rattle.tc_forms.specs.declared.error.MakeError.TheVariants.{OutOfMemory};
 
 use std::alloc::AllocError;
+use std::error::Error;
 use std::fmt;
 
 /// What is wanted in place of what was found.
 #[derive(Clone, Copy)]
 pub enum Wanted {
-    /// An object of one member.
+    /// Bytes in `{"raw":".."}`: forms don't nest so deep.
+    Raw,
+    /// An object with a member that names a choice.
     Variant,
-    /// The name of a row.
+    /// An object with the member of this name.
+    Name(&'static str),
+    /// The name of an attribute of the table.
     Attribute,
-    /// A member of this name.
-    Member(&'static str),
-    /// A field of the record.
-    Field,
+    /// A member of an object that isn't there.
+    Member,
     /// A list.
     List,
-    /// A number of so many bytes.
-    Number(usize),
+    /// A number in this range.
+    Number {
+        /// The least.
+        least: i64,
+        /// The most.
+        most: u64,
+    },
+    /// The name of a number, or `{"Other":n}`.
+    NamedNumber,
+    /// `true` or `false`.
+    Bool,
     /// `true`.
     True,
     /// A text.
     Text,
     /// A handle, as `tc` writes it.
     Handle,
-    /// An address, as it is shown.
-    Address,
-    /// The text of a kind of the table.
-    Kind,
+    /// A MAC address.
+    Mac,
+    /// An IPv4 address.
+    Ipv4,
+    /// An IPv6 address.
+    Ipv6,
     /// Bytes in hex, in lower case.
     Hex,
     /// So many bytes in hex, in lower case.
     HexOf(usize),
+    /// An `nla_type` with its flags.
+    Word,
     /// What is written as at most 65531 bytes.
     Fitting,
 }
@@ -42,20 +58,36 @@ pub enum Wanted {
 impl fmt::Display for Wanted {
     fn fmt<W: fmt::Write>(&self, f: &mut fmt::Formatter<W>) -> fmt::Result {
         match self {
-            Wanted::Variant => f.write_str("an object of one member"),
-            Wanted::Attribute => f.write_str("the name of an attribute of the table"),
-            Wanted::Member(name) => write!(f, "a member \"{name}\""),
-            Wanted::Field => f.write_str("a field of the record"),
-            Wanted::List => f.write_str("a list"),
-            Wanted::Number(width) => write!(f, "a number of {width} bytes"),
-            Wanted::True => f.write_str("true"),
-            Wanted::Text => f.write_str("a text"),
-            Wanted::Handle => f.write_str("a handle as tc writes it"),
-            Wanted::Address => f.write_str("an address as it is shown"),
-            Wanted::Kind => f.write_str("a kind of the table"),
-            Wanted::Hex => f.write_str("bytes in lower-case hex"),
+            Wanted::Name(name) => write!(f, "an object with \"{name}\""),
+            Wanted::Number { least, most } => write!(f, "a number from {least} to {most}"),
             Wanted::HexOf(len) => write!(f, "{len} bytes in lower-case hex"),
-            Wanted::Fitting => f.write_str("a value that is written as at most 65531 bytes"),
+            _ => f.write_str(self.text()),
+        }
+    }
+}
+
+impl Wanted {
+    // The text of one that holds nothing.
+    fn text(&self) -> &'static str {
+        match self {
+            Wanted::Raw => "bytes in {\"raw\":\"..\"}",
+            Wanted::Variant => "an object that names a choice",
+            Wanted::Name(_) => "an object with a name",
+            Wanted::Attribute => "the name of an attribute of the table",
+            Wanted::Member => "a member of this name",
+            Wanted::List => "a list",
+            Wanted::Number { .. } => "a number",
+            Wanted::NamedNumber => "the name of a number, or {\"Other\":n}",
+            Wanted::Bool => "true or false",
+            Wanted::True => "true",
+            Wanted::Text => "a text",
+            Wanted::Handle => "a handle as tc writes it",
+            Wanted::Mac => "a MAC address",
+            Wanted::Ipv4 => "an IPv4 address",
+            Wanted::Ipv6 => "an IPv6 address",
+            Wanted::Hex | Wanted::HexOf(_) => "bytes in lower-case hex",
+            Wanted::Word => "a number from 0 to 65535",
+            Wanted::Fitting => "a value that is written as at most 65531 bytes",
         }
     }
 }
@@ -65,9 +97,43 @@ impl fmt::Display for Wanted {
 pub enum MakeError {
     /// Memory ran out.
     OutOfMemory,
-    /// At this place, a JSON pointer, something else is wanted.
-    Wrong { path: String, wanted: Wanted },
+
+    /// A part of the JSON isn't what it has to be.
+    Wrong {
+        /// Its place, as a JSON pointer; empty of the whole.
+        path: String,
+        /// What was found there, as JSON; a list, an object and a long text by a word for it.
+        found: String,
+        /// What is wanted there.
+        wanted: Wanted,
+    },
 }
+
+impl fmt::Display for MakeError {
+    fn fmt<W: fmt::Write>(&self, f: &mut fmt::Formatter<W>) -> fmt::Result {
+        match self {
+            MakeError::OutOfMemory => f.write_str("out of memory"),
+            MakeError::Wrong {
+                path,
+                found,
+                wanted,
+            } => {
+                if !path.is_empty() {
+                    write!(f, "{path}: ")?;
+                }
+                write!(f, "found {found}, wanted {wanted}")
+            }
+        }
+    }
+}
+
+impl fmt::Debug for MakeError {
+    fn fmt<W: fmt::Write>(&self, f: &mut fmt::Formatter<W>) -> fmt::Result {
+        write!(f, "{self}")
+    }
+}
+
+impl Error for MakeError {}
 
 impl From<AllocError> for MakeError {
     ghost from_gives = { λ _ e. e ≡ OutOfMemory };

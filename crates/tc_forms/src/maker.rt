@@ -6,6 +6,7 @@ ghost use Rattle.tc_forms.specs.Appended.{Appended};
 ghost use Rattle.tc_forms.specs.declared.error.MakeError.TheVariants.{OutOfMemory};
 
 use crate::error::{MakeError, Wanted};
+use serde_json::Value;
 use std::alloc::{AllocError, Global};
 
 /// A step of a JSON pointer.
@@ -128,22 +129,102 @@ impl<'v> Maker<'v> {
     }
 
     /// The error of the value at this place.
-    pub fn wrong(&self, wanted: Wanted) -> MakeError {
-        match self.path() {
-            Ok(path) => MakeError::Wrong { path, wanted },
+    pub fn wrong(&self, found: &Value, wanted: Wanted) -> MakeError {
+        match found_text(self.alloc, found) {
+            Ok(found) => self.wrong_text(found, wanted),
             Err(_) => MakeError::OutOfMemory,
         }
     }
 
+    /// The error of a member of the value at this place, which may be missing.
+    pub fn wrong_member(&mut self, value: &'v Value, name: &'static str, wanted: Wanted) -> MakeError
+        ensures { self.new.bytes ≡ self.old.bytes }
+    {
+        match self.enter(Step::Member(name)) {
+            Ok(()) => {}
+            Err(e) => return e,
+        }
+        match value.get(name) {
+            Some(found) => self.wrong(found, wanted),
+            None => self.missing(),
+        }
+    }
+
+    /// The error of a member that isn't there; its name is the last step of this place.
+    pub fn missing(&self) -> MakeError {
+        match String::from_str(self.alloc, "nothing") {
+            Ok(found) => self.wrong_text(found, Wanted::Member),
+            Err(_) => MakeError::OutOfMemory,
+        }
+    }
+
+    /// The error of an attribute that the table doesn't have.
+    pub fn unknown(&self, value: &Value) -> MakeError {
+        let members = match value.as_object() {
+            Some(members) => members,
+            None => return self.wrong(value, Wanted::Attribute),
+        };
+        match members.first_key_value() {
+            Some((name, _)) => self.wrong_name(name.as_str()),
+            None => self.wrong(value, Wanted::Attribute),
+        }
+    }
+
+    fn wrong_name(&self, name: &str) -> MakeError {
+        match Value::try_from_str(self.alloc, name) {
+            Ok(name) => self.wrong(&name, Wanted::Attribute),
+            Err(_) => MakeError::OutOfMemory,
+        }
+    }
+
+    fn wrong_text(&self, found: String, wanted: Wanted) -> MakeError {
+        match self.path() {
+            Ok(path) => MakeError::Wrong {
+                path,
+                found,
+                wanted,
+            },
+            Err(_) => MakeError::OutOfMemory,
+        }
+    }
+
+    // This place, as a JSON pointer.
     fn path(&self) -> Result<String, AllocError> {
         let mut path = String::new(self.alloc);
         for step in &self.steps {
             path.push('/')?;
             match step {
-                Step::Member(name) => path.push_str(name)?,
+                Step::Member(name) => push_escaped(&mut path, name)?,
                 Step::Item(index) => path.push_str(format!(in self.alloc; "{index}")?.as_str())?,
             }
         }
         Ok(path)
+    }
+}
+
+// Appends the name of a member as a pointer has it: `~0` for `~`, `~1` for `/`.
+fn push_escaped(path: &mut String, name: &str) -> Result<(), AllocError> {
+    for c in name.chars() {
+        match c {
+            '~' => path.push_str("~0")?,
+            '/' => path.push_str("~1")?,
+            c => path.push(c)?,
+        }
+    }
+    Ok(())
+}
+
+// The longest text that an error shows whole, in bytes.
+const MOST_SHOWN: usize = 80;
+
+// A value as an error shows it.
+fn found_text(alloc: Global, value: &Value) -> Result<String, AllocError> {
+    match value {
+        Value::Array(items) => format!(in alloc; "a list of {}", items.len()),
+        Value::Object(members) => format!(in alloc; "an object of {}", members.len()),
+        Value::String(text) if text.len() > MOST_SHOWN => {
+            format!(in alloc; "a text of {} bytes", text.len())
+        }
+        _ => value.to_string(alloc),
     }
 }

@@ -94,6 +94,13 @@ pub send_elements-returns : goal.send_elements-returns
 send_elements-returns g t c =
     on_ok_weaker c.end_seq.result (list_sent _ _ _ _ _ c.in_ok-begin_seq.ensures c.in_ok-send_elements_of.ensures) c.end_seq.ensures
 
+pub send_form-returns-in-Number : goal.send_form-returns-in-Number
+send_form-returns-in-Number g t c =
+    on_ok_weaker c.send_bytes_number.result
+    (level_sent (g.T.Tables.parts_of c.args.table) c.args.depth c.in-Some.inner c.args.kind.now c.args.form (form.Number c.in-Number.number) c.args.bytes.now _ _ _
+    (search rules) c.in-Number.is refl)
+    c.send_bytes_number.ensures
+
 pub send_form-returns-in-Record : goal.send_form-returns-in-Record
 send_form-returns-in-Record g t c =
     let s = c.checked_sub.ensures in let e = c.in-Some.ensures in

@@ -1,0 +1,204 @@
+//! The rows of a list of attributes, by kind, by type and by name.
+
+ghost use Rattle.serde_json.specs.View.{view};
+ghost use Rattle.std.specs.Prelude.{bytes_eq, option_map, ◌≡◌};
+ghost use Rattle.tc_forms.specs.Places.{kind_place, part_at, rows_of, rows_under};
+ghost use Rattle.tc_forms.specs.RowLists.{rows_in};
+ghost use Rattle.tc_forms.specs.Rows.{counts, is_reserved, of_name, of_type, shown_row, type_of};
+ghost use Rattle.tc_forms.specs.Search.{first, held};
+ghost use Rattle.tc_forms.specs.Tables.{kinds_view, row_view, rows_view};
+
+use crate::form::{KindRows, Part, Row};
+use crate::tables::Tables;
+use serde_json::Value;
+
+// The rows at a place.
+fn rows_at<T: Tables>(table: T, place: usize) -> &'static [Row<'static>]
+    ensures { rows_view result.now ≡ rows_of (part_at (T.parts_of table) place) }
+{
+    if let Part::Rows(_, rows) = table.part(place) {
+        return rows;
+    }
+    &[]
+}
+
+/// The rows of a list under a kind: its own, and then those of every kind.
+#[derive(Clone, Copy)]
+pub(crate) struct RowList<'a> {
+    pub own: &'a [Row<'a>],
+    pub common: &'a [Row<'a>],
+}
+
+/// The rows of a list under a kind.
+pub(crate) fn rows_under<T: Tables>(table: T, place: usize, kind: &str) -> RowList<'static>
+    ensures { rows_in result ≡ rows_under (T.parts_of table) place kind.now }
+{
+    match table.part(place) {
+        Part::Rows(_, own) => RowList { own, common: &[] },
+        Part::Kinds(common, others, kinds) => RowList {
+            own: rows_at(table, kind_place(kind, others, kinds)),
+            common: rows_at(table, common),
+        },
+        _ => RowList {
+            own: &[],
+            common: &[],
+        },
+    }
+}
+
+// The place of the rows of a kind, or else this one.
+fn kind_place(kind: &str, others: usize, kinds: &[KindRows<'_>]) -> usize
+    ensures { result ≡ kind_place kind.now others (kinds_view kinds.now) }
+{
+    for it in kinds.iter() {
+        if is_same(it.kind, kind) {
+            return it.rows;
+        }
+    }
+    others
+}
+
+/// The type in a word.
+#[inline(always)]
+pub(crate) fn type_of(word: u16) -> u16
+    ensures { result ≡ type_of word }
+{
+    word % 16384
+}
+
+/// True for a row that counts.
+pub(crate) fn counts(row: &Row<'_>) -> bool
+    ensures { result ≡ counts (row_view row.now) }
+{
+    !is_reserved(row.name)
+}
+
+// True for a row of a type. The types are compared first, since that takes least.
+#[inline(always)]
+#[tactic(auto, using(crate::proofs::Found::and_false, crate::proofs::Found::and_true))]
+fn is_of_type(word: u16, row: &Row<'_>) -> bool
+    ensures { result ≡ of_type word (row_view row.now) }
+{
+    type_of(row.word) == type_of(word) && counts(row)
+}
+
+// True for a row of a name.
+#[inline(always)]
+#[tactic(auto, using(crate::proofs::Found::and_false, crate::proofs::Found::and_true))]
+fn is_of_name(name: &str, row: &Row<'_>) -> bool
+    ensures { result ≡ of_name name.now (row_view row.now) }
+{
+    is_same(row.name, name) && counts(row)
+}
+
+// The first row of a type.
+#[inline(always)]
+fn row_of_type<'a>(rows: &[Row<'a>], word: u16) -> Option<Row<'a>>
+    ensures { option_map row_view result ≡ first (of_type word) (rows_view rows.now) }
+{
+    for row in rows.iter() {
+        if is_of_type(word, row) {
+            return Some(*row);
+        }
+    }
+    None
+}
+
+// The first row of a type among those of a list.
+#[inline(always)]
+fn row_of_type_in<'a>(rows: &RowList<'a>, word: u16) -> Option<Row<'a>>
+    ensures { option_map row_view result ≡ first (of_type word) (rows_in rows.now) }
+{
+    match row_of_type(rows.own, word) {
+        Some(row) => Some(row),
+        None => row_of_type(rows.common, word),
+    }
+}
+
+// The first row of a name.
+#[inline(always)]
+fn row_of_name<'a>(rows: &[Row<'a>], name: &str) -> Option<Row<'a>>
+    ensures { option_map row_view result ≡ first (of_name name.now) (rows_view rows.now) }
+{
+    for row in rows.iter() {
+        if is_of_name(name, row) {
+            return Some(*row);
+        }
+    }
+    None
+}
+
+// The first row of a name among those of a list.
+#[inline(always)]
+fn row_of_name_in<'a>(rows: &RowList<'a>, name: &str) -> Option<Row<'a>>
+    ensures { option_map row_view result ≡ first (of_name name.now) (rows_in rows.now) }
+{
+    match row_of_name(rows.own, name) {
+        Some(row) => Some(row),
+        None => row_of_name(rows.common, name),
+    }
+}
+
+/// The row of a type, if it is the row of its name too.
+#[inline(always)]
+pub(crate) fn shown_row<'a>(rows: &RowList<'a>, word: u16) -> Option<Row<'a>>
+    ensures { option_map row_view result ≡ shown_row (rows_in rows.now) word }
+{
+    let row = match row_of_type_in(rows, word) {
+        Some(row) => row,
+        None => return None,
+    };
+    let named = match row_of_name_in(rows, row.name) {
+        Some(named) => named,
+        None => return None,
+    };
+    if type_of(named.word) != type_of(word) {
+        return None;
+    }
+    Some(named)
+}
+
+/// True for a name that no row may have.
+#[inline(never)]
+pub(crate) fn is_reserved(name: &str) -> bool
+    ensures { result ≡ is_reserved name.now }
+{
+    is_same(name, "raw")
+        || is_same(name, "Other")
+        || is_same(name, "word")
+        || is_same(name, "pad")
+        || is_same(name, "Kind")
+        || is_same(name, "bare")
+}
+
+/// True for equal texts.
+#[inline(always)]
+pub(crate) fn is_same(a: &str, b: &str) -> bool
+    ensures { result ≡ bytes_eq a.now b.now }
+{
+    a == b
+}
+
+// The first row of a list whose name has a member.
+pub(crate) fn row_held_in<'a, 'v>(rows: &RowList<'a>, value: &'v Value) -> Option<(Row<'a>, &'v Value)>
+    ensures { option_map (λ m. (row_view m.0, view m.1.now)) result ≡ held (λ r. r.name) counts (rows_in rows.now) (view value.now) }
+{
+    match row_held(rows.own, value) {
+        Some(found) => Some(found),
+        None => row_held(rows.common, value),
+    }
+}
+
+// The first row whose name has a member.
+fn row_held<'a, 'v>(rows: &[Row<'a>], value: &'v Value) -> Option<(Row<'a>, &'v Value)>
+    ensures { option_map (λ m. (row_view m.0, view m.1.now)) result ≡ held (λ r. r.name) counts (rows_view rows.now) (view value.now) }
+{
+    for row in rows.iter() {
+        if counts(row) {
+            if let Some(held) = value.get(row.name) {
+                return Some((*row, held));
+            }
+        }
+    }
+    None
+}

@@ -1,0 +1,215 @@
+//! Values that hold no others, made.
+
+ghost use Rattle.serde_json.specs.View.{view};
+ghost use Rattle.std.specs.Prelude.{IfOk, option_map, ◌≡◌};
+ghost use Rattle.tc_forms.specs.Appended.{Appended};
+ghost use Rattle.tc_forms.specs.Raw.{hex_made, hex_of, raw_of};
+ghost use Rattle.tc_forms.specs.Tables.{no_table};
+ghost use Rattle.tc_forms.specs.Values.{ipv4_of, ipv6_of, mac_of, plain_made};
+
+use crate::error::{MakeError, Wanted};
+use crate::form::Form;
+use crate::maker::Maker;
+use crate::numbers::{make_named, make_number};
+use crate::places::names_at;
+use crate::tables::Tables;
+use nla_frames::laws::in_hand::bytes_in_hand;
+use serde_json::Value;
+use std::alloc::{AllocError, Global};
+use tc_texts::{handle_from_tc_text, read_hex, read_ipv4, read_ipv6, read_mac};
+
+// The bytes of `{"raw":"dead"}`.
+pub(crate) fn raw_of(alloc: Global, value: &Value) -> Result<Option<Vec<u8>>, AllocError>
+    ensures { IfOk result (λ r. option_map (λ v. v.items) r ≡ raw_of (view value.now)) }
+{
+    match value.get("raw") {
+        Some(held) => hex_of(alloc, held),
+        None => Ok(None),
+    }
+}
+
+pub(crate) fn hex_of(alloc: Global, value: &Value) -> Result<Option<Vec<u8>>, AllocError>
+    ensures { IfOk result (λ r. option_map (λ v. v.items) r ≡ hex_made (view value.now)) }
+{
+    match value.as_str() {
+        Some(text) => bytes_of_hex(alloc, text),
+        None => Ok(None),
+    }
+}
+
+fn bytes_of_hex(alloc: Global, text: &str) -> Result<Option<Vec<u8>>, AllocError>
+    ensures { IfOk result (λ r. option_map (λ v. v.items) r ≡ hex_of text.now) }
+{
+    match read_hex(alloc, text) {
+        Ok(Some(bytes)) => {
+            bytes_in_hand(&bytes);
+            Ok(Some(bytes))
+        }
+        Ok(None) => Ok(None),
+        Err(e) => Err(e),
+    }
+}
+
+pub(crate) fn make_plain<'v, T: Tables>(
+    maker: &mut Maker<'v>,
+    table: T,
+    form: Form,
+    value: &'v Value,
+) -> Result<(), MakeError>
+    ensures { Appended (plain_made (T.parts_of table) form (view value.now)) maker.old.bytes.items maker.new.bytes.items result }
+{
+    match form {
+        Form::Number(number) => make_number(maker, number, value),
+        Form::Named(number, place) => make_named(maker, names_at(table, place), number, value),
+        Form::Handle => make_handle(maker, value),
+        Form::Flag => make_flag(maker, value),
+        Form::Truth => make_truth(maker, value),
+        Form::Bare => make_bare(maker, value),
+        Form::Text => make_text(maker, value),
+        Form::Hex => make_hex(maker, value),
+        Form::Bytes(len) => make_hex_of(maker, len, value),
+        Form::Pad(len) => make_hex_of(maker, len, value),
+        Form::Mac => make_mac(maker, value),
+        Form::Ipv4 => make_ipv4(maker, value),
+        Form::Ipv6 => make_ipv6(maker, value),
+        _ => Err(maker.wrong(value, Wanted::Raw)),
+    }
+}
+
+fn make_handle<'v>(maker: &mut Maker<'v>, value: &'v Value) -> Result<(), MakeError>
+    ensures { Appended (plain_made no_table Form.Handle (view value.now)) maker.old.bytes.items maker.new.bytes.items result }
+{
+    let text = match value.as_str() {
+        Some(text) => text,
+        None => return Err(maker.wrong(value, Wanted::Handle)),
+    };
+    match handle_from_tc_text(text) {
+        Some(handle) => maker.put_little(u64::from(handle), 4),
+        None => Err(maker.wrong(value, Wanted::Handle)),
+    }
+}
+
+fn make_flag<'v>(maker: &mut Maker<'v>, value: &'v Value) -> Result<(), MakeError>
+    ensures { Appended (plain_made no_table Form.Flag (view value.now)) maker.old.bytes.items maker.new.bytes.items result }
+{
+    match value.as_bool() {
+        Some(true) => Ok(()),
+        _ => Err(maker.wrong(value, Wanted::True)),
+    }
+}
+
+fn make_truth<'v>(maker: &mut Maker<'v>, value: &'v Value) -> Result<(), MakeError>
+    ensures { Appended (plain_made no_table Form.Truth (view value.now)) maker.old.bytes.items maker.new.bytes.items result }
+{
+    match value.as_bool() {
+        Some(true) => maker.put_byte(1),
+        Some(false) => maker.put_byte(0),
+        None => Err(maker.wrong(value, Wanted::Bool)),
+    }
+}
+
+fn make_bare<'v>(maker: &mut Maker<'v>, value: &'v Value) -> Result<(), MakeError>
+    ensures { Appended (plain_made no_table Form.Bare (view value.now)) maker.old.bytes.items maker.new.bytes.items result }
+{
+    match value.as_str() {
+        Some(text) => maker.put(text.as_bytes()),
+        None => Err(maker.wrong(value, Wanted::Text)),
+    }
+}
+
+fn make_text<'v>(maker: &mut Maker<'v>, value: &'v Value) -> Result<(), MakeError>
+    ensures { Appended (plain_made no_table Form.Text (view value.now)) maker.old.bytes.items maker.new.bytes.items result }
+{
+    let text = match value.as_str() {
+        Some(text) => text,
+        None => return Err(maker.wrong(value, Wanted::Text)),
+    };
+    match maker.put(text.as_bytes()) {
+        Ok(()) => maker.put_byte(0),
+        Err(e) => Err(e),
+    }
+}
+
+fn make_mac<'v>(maker: &mut Maker<'v>, value: &'v Value) -> Result<(), MakeError>
+    ensures { Appended (plain_made no_table Form.Mac (view value.now)) maker.old.bytes.items maker.new.bytes.items result }
+{
+    let text = match value.as_str() {
+        Some(text) => text,
+        None => return Err(maker.wrong(value, Wanted::Mac)),
+    };
+    match mac_of(text) {
+        Some(octets) => maker.put(&octets),
+        None => Err(maker.wrong(value, Wanted::Mac)),
+    }
+}
+
+fn mac_of(text: &str) -> Option<[u8; 6]>
+    ensures { result ≡ mac_of text.now }
+{
+    read_mac(text)
+}
+
+fn make_ipv4<'v>(maker: &mut Maker<'v>, value: &'v Value) -> Result<(), MakeError>
+    ensures { Appended (plain_made no_table Form.Ipv4 (view value.now)) maker.old.bytes.items maker.new.bytes.items result }
+{
+    let text = match value.as_str() {
+        Some(text) => text,
+        None => return Err(maker.wrong(value, Wanted::Ipv4)),
+    };
+    match ipv4_of(text) {
+        Some(octets) => maker.put(&octets),
+        None => Err(maker.wrong(value, Wanted::Ipv4)),
+    }
+}
+
+fn ipv4_of(text: &str) -> Option<[u8; 4]>
+    ensures { result ≡ ipv4_of text.now }
+{
+    read_ipv4(text)
+}
+
+fn make_ipv6<'v>(maker: &mut Maker<'v>, value: &'v Value) -> Result<(), MakeError>
+    ensures { Appended (plain_made no_table Form.Ipv6 (view value.now)) maker.old.bytes.items maker.new.bytes.items result }
+{
+    let text = match value.as_str() {
+        Some(text) => text,
+        None => return Err(maker.wrong(value, Wanted::Ipv6)),
+    };
+    match ipv6_of(text) {
+        Some(octets) => maker.put(&octets),
+        None => Err(maker.wrong(value, Wanted::Ipv6)),
+    }
+}
+
+fn ipv6_of(text: &str) -> Option<[u8; 16]>
+    ensures { result ≡ ipv6_of text.now }
+{
+    read_ipv6(text)
+}
+
+// Bytes in hex.
+pub(crate) fn make_hex<'v>(maker: &mut Maker<'v>, value: &'v Value) -> Result<(), MakeError>
+    ensures { Appended (hex_made (view value.now)) maker.old.bytes.items maker.new.bytes.items result }
+{
+    match hex_of(maker.alloc, value) {
+        Ok(Some(bytes)) => maker.put(&bytes),
+        Ok(None) => Err(maker.wrong(value, Wanted::Hex)),
+        Err(_) => Err(MakeError::OutOfMemory),
+    }
+}
+
+// So many bytes in hex.
+fn make_hex_of<'v>(maker: &mut Maker<'v>, len: usize, value: &'v Value) -> Result<(), MakeError>
+    ensures { Appended (plain_made no_table (Form.Bytes len) (view value.now)) maker.old.bytes.items maker.new.bytes.items result }
+{
+    match hex_of(maker.alloc, value) {
+        Ok(Some(bytes)) => {
+            if bytes.len() != len {
+                return Err(maker.wrong(value, Wanted::HexOf(len)));
+            }
+            maker.put(&bytes)
+        }
+        Ok(None) => Err(maker.wrong(value, Wanted::HexOf(len))),
+        Err(_) => Err(MakeError::OutOfMemory),
+    }
+}

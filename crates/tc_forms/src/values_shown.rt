@@ -1,0 +1,177 @@
+//! What is shown of values that hold no others.
+
+ghost use Rattle.std.specs.Prelude.{OnOk, [], bytes_eq, option_map, ◌∷◌, ◌≡◌};
+ghost use Rattle.tc_forms.specs.Raw.{hex, raw};
+ghost use Rattle.tc_forms.specs.Sent.{Sent, events};
+ghost use Rattle.tc_forms.specs.Tables.{no_table};
+ghost use Rattle.tc_forms.specs.Values.{plain_shown, text_in};
+
+use crate::form::Form;
+use crate::numbers::{bits_of, send_bytes_number, send_named};
+use crate::places::names_at;
+use crate::tables::Tables;
+use serde::Serializer;
+use std::alloc::Global;
+use tc_texts::{handle_text, hex_string, ipv4_text, ipv6_text, mac_text};
+
+// A value that holds no other.
+#[inline(never)]
+pub(crate) fn send_plain<S: Serializer, T: Tables>(
+    table: T,
+    form: Form,
+    bytes: &[u8],
+    alloc: Global,
+    out: &mut S,
+) -> Result<(), S::Error>
+    ensures { OnOk result (Sent (events (plain_shown (T.parts_of table) form bytes.now)) (S.written out.old) (S.written out.new)) }
+{
+    match form {
+        Form::Number(number) => send_bytes_number(number, bytes, alloc, out),
+        Form::Named(number, place) => {
+            if bytes.len() != number.width() {
+                return send_raw(bytes, alloc, out);
+            }
+            send_named(names_at(table, place), number, bits_of(number, bytes), out)
+        }
+        Form::Handle => send_handle(bytes, alloc, out),
+        Form::Flag => {
+            if !bytes.is_empty() {
+                return send_raw(bytes, alloc, out);
+            }
+            out.bool(true)
+        }
+        Form::Truth => send_truth(bytes, alloc, out),
+        Form::Bare => send_bare(bytes, alloc, out),
+        Form::Text => send_text(bytes, alloc, out),
+        Form::Hex => send_hex(bytes, alloc, out),
+        Form::Bytes(len) | Form::Pad(len) => {
+            if bytes.len() != len {
+                return send_raw(bytes, alloc, out);
+            }
+            send_hex(bytes, alloc, out)
+        }
+        Form::Mac => send_mac(bytes, alloc, out),
+        Form::Ipv4 => send_ipv4(bytes, alloc, out),
+        Form::Ipv6 => send_ipv6(bytes, alloc, out),
+        _ => send_raw(bytes, alloc, out),
+    }
+}
+
+#[inline(never)]
+fn send_handle<S: Serializer>(bytes: &[u8], alloc: Global, out: &mut S) -> Result<(), S::Error>
+    ensures { OnOk result (Sent (events (plain_shown no_table Form.Handle bytes.now)) (S.written out.old) (S.written out.new)) }
+{
+    match bytes {
+        [a, b, c, d] => out.str(handle_text(u32::from_le_bytes([*a, *b, *c, *d])).as_str()),
+        _ => send_raw(bytes, alloc, out),
+    }
+}
+
+#[inline(never)]
+fn send_mac<S: Serializer>(bytes: &[u8], alloc: Global, out: &mut S) -> Result<(), S::Error>
+    ensures { OnOk result (Sent (events (plain_shown no_table Form.Mac bytes.now)) (S.written out.old) (S.written out.new)) }
+{
+    match bytes.try_into() {
+        Ok(octets) => out.str(mac_text(octets).as_str()),
+        Err(_) => send_raw(bytes, alloc, out),
+    }
+}
+
+#[inline(never)]
+fn send_ipv4<S: Serializer>(bytes: &[u8], alloc: Global, out: &mut S) -> Result<(), S::Error>
+    ensures { OnOk result (Sent (events (plain_shown no_table Form.Ipv4 bytes.now)) (S.written out.old) (S.written out.new)) }
+{
+    match bytes.try_into() {
+        Ok(octets) => out.str(ipv4_text(octets).as_str()),
+        Err(_) => send_raw(bytes, alloc, out),
+    }
+}
+
+#[inline(never)]
+fn send_ipv6<S: Serializer>(bytes: &[u8], alloc: Global, out: &mut S) -> Result<(), S::Error>
+    ensures { OnOk result (Sent (events (plain_shown no_table Form.Ipv6 bytes.now)) (S.written out.old) (S.written out.new)) }
+{
+    match bytes.try_into() {
+        Ok(octets) => out.str(ipv6_text(octets).as_str()),
+        Err(_) => send_raw(bytes, alloc, out),
+    }
+}
+
+#[inline(never)]
+fn send_truth<S: Serializer>(bytes: &[u8], alloc: Global, out: &mut S) -> Result<(), S::Error>
+    ensures { OnOk result (Sent (events (plain_shown no_table Form.Truth bytes.now)) (S.written out.old) (S.written out.new)) }
+{
+    if is_byte(bytes, 0) {
+        return out.bool(false);
+    }
+    if is_byte(bytes, 1) {
+        return out.bool(true);
+    }
+    send_raw(bytes, alloc, out)
+}
+
+fn is_byte(bytes: &[u8], byte: u8) -> bool
+    ensures { result ≡ bytes_eq bytes.now (byte ∷ []) }
+{
+    let one = [byte];
+    bytes == one.as_slice()
+}
+
+#[inline(never)]
+fn send_bare<S: Serializer>(bytes: &[u8], alloc: Global, out: &mut S) -> Result<(), S::Error>
+    ensures { OnOk result (Sent (events (plain_shown no_table Form.Bare bytes.now)) (S.written out.old) (S.written out.new)) }
+{
+    match str::from_utf8(bytes) {
+        Ok(text) => out.str(text),
+        Err(_) => send_raw(bytes, alloc, out),
+    }
+}
+
+#[inline(never)]
+fn send_text<S: Serializer>(bytes: &[u8], alloc: Global, out: &mut S) -> Result<(), S::Error>
+    ensures { OnOk result (Sent (events (plain_shown no_table Form.Text bytes.now)) (S.written out.old) (S.written out.new)) }
+{
+    match text_in(bytes) {
+        Some(text) => out.str(text),
+        None => send_raw(bytes, alloc, out),
+    }
+}
+
+// Bytes that don't follow their form.
+#[inline(never)]
+pub(crate) fn send_raw<S: Serializer>(bytes: &[u8], alloc: Global, out: &mut S) -> Result<(), S::Error>
+    ensures { OnOk result (Sent (events (raw bytes.now)) (S.written out.old) (S.written out.new)) }
+{
+    out.begin_map(None)?;
+    out.key("raw")?;
+    send_hex(bytes, alloc, out)?;
+    out.end_map()
+}
+
+// Bytes in hex.
+#[inline(never)]
+pub(crate) fn send_hex<S: Serializer>(bytes: &[u8], alloc: Global, out: &mut S) -> Result<(), S::Error>
+    ensures { OnOk result (Sent (events (hex bytes.now)) (S.written out.old) (S.written out.new)) }
+{
+    match hex_string(alloc, bytes) {
+        Ok(text) => out.str(text.as_str()),
+        Err(_) => Err(out.custom("out of memory")),
+    }
+}
+
+// The text of bytes that end in a NUL.
+fn text_in(bytes: &[u8]) -> Option<&str>
+    ensures { option_map (λ t. t.now) result ≡ text_in bytes.now }
+{
+    let (last, front) = match bytes.split_last() {
+        Some(parts) => parts,
+        None => return None,
+    };
+    if *last != 0 {
+        return None;
+    }
+    match str::from_utf8(front) {
+        Ok(text) => Some(text),
+        Err(_) => None,
+    }
+}
