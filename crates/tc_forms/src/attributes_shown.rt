@@ -121,7 +121,11 @@ pub(crate) fn own_kind(bytes: &[u8]) -> &str
 }
 
 // What is no frame, if anything is left.
-pub(crate) fn send_tail<S: Serializer>(bytes: &[u8], alloc: Global, out: &mut S) -> Result<(), S::Error>
+pub(crate) fn send_tail<S: Serializer>(
+    bytes: &[u8],
+    alloc: Global,
+    out: &mut S,
+) -> Result<(), S::Error>
     ensures { OnOk result (Sent (items_events (tail_shown bytes.now)) (S.written out.old) (S.written out.new)) }
 {
     if bytes.is_empty() {

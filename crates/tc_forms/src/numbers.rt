@@ -142,7 +142,11 @@ pub(crate) fn send_bytes_number<S: Serializer>(
 }
 
 #[inline(always)]
-pub(crate) fn send_number<S: Serializer>(which: Number, bits: u64, out: &mut S) -> Result<(), S::Error>
+pub(crate) fn send_number<S: Serializer>(
+    which: Number,
+    bits: u64,
+    out: &mut S,
+) -> Result<(), S::Error>
     requires { bits < 2 * half which }
     ensures { OnOk result (Sent (events (number (num which bits))) (S.written out.old) (S.written out.new)) }
 {
@@ -178,7 +182,11 @@ pub(crate) fn send_named<S: Serializer>(
     out.end_map()
 }
 
-pub(crate) fn make_number<'v>(maker: &mut Maker<'v>, which: Number, value: &'v Value) -> Result<(), MakeError>
+pub(crate) fn make_number<'v>(
+    maker: &mut Maker<'v>,
+    which: Number,
+    value: &'v Value,
+) -> Result<(), MakeError>
     ensures { Appended (number_made which (view value.now)) maker.old.bytes.items maker.new.bytes.items result }
 {
     match bits_in(which, value) {

@@ -42,7 +42,11 @@ pub(crate) fn split(bytes: &[u8], width: Option<usize>) -> (&[u8], &[u8])
 }
 
 // The bytes behind a record.
-pub(crate) fn send_rest<S: Serializer>(bytes: &[u8], alloc: Global, out: &mut S) -> Result<(), S::Error>
+pub(crate) fn send_rest<S: Serializer>(
+    bytes: &[u8],
+    alloc: Global,
+    out: &mut S,
+) -> Result<(), S::Error>
     ensures { OnOk result (Sent (members_events (rest_member bytes.now)) (S.written out.old) (S.written out.new)) }
 {
     if bytes.is_empty() {

@@ -180,7 +180,10 @@ pub(crate) fn is_same(a: &str, b: &str) -> bool
 }
 
 // The first row of a list whose name has a member.
-pub(crate) fn row_held_in<'a, 'v>(rows: &RowList<'a>, value: &'v Value) -> Option<(Row<'a>, &'v Value)>
+pub(crate) fn row_held_in<'a, 'v>(
+    rows: &RowList<'a>,
+    value: &'v Value,
+) -> Option<(Row<'a>, &'v Value)>
     ensures { option_map (λ m. (row_view m.0, view m.1.now)) result ≡ held (λ r. r.name) counts (rows_in rows.now) (view value.now) }
 {
     match row_held(rows.own, value) {
@@ -194,8 +197,8 @@ fn row_held<'a, 'v>(rows: &[Row<'a>], value: &'v Value) -> Option<(Row<'a>, &'v 
     ensures { option_map (λ m. (row_view m.0, view m.1.now)) result ≡ held (λ r. r.name) counts (rows_view rows.now) (view value.now) }
 {
     for row in rows.iter() {
-        if counts(row) {
-            if let Some(held) = value.get(row.name) {
+        if let Some(held) = value.get(row.name) {
+            if counts(row) {
                 return Some((*row, held));
             }
         }

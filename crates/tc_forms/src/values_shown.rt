@@ -139,7 +139,11 @@ fn send_text<S: Serializer>(bytes: &[u8], alloc: Global, out: &mut S) -> Result<
 
 // Bytes that don't follow their form.
 #[inline(never)]
-pub(crate) fn send_raw<S: Serializer>(bytes: &[u8], alloc: Global, out: &mut S) -> Result<(), S::Error>
+pub(crate) fn send_raw<S: Serializer>(
+    bytes: &[u8],
+    alloc: Global,
+    out: &mut S,
+) -> Result<(), S::Error>
     ensures { OnOk result (Sent (events (raw bytes.now)) (S.written out.old) (S.written out.new)) }
 {
     out.begin_map(None)?;
@@ -150,7 +154,11 @@ pub(crate) fn send_raw<S: Serializer>(bytes: &[u8], alloc: Global, out: &mut S) 
 
 // Bytes in hex.
 #[inline(never)]
-pub(crate) fn send_hex<S: Serializer>(bytes: &[u8], alloc: Global, out: &mut S) -> Result<(), S::Error>
+pub(crate) fn send_hex<S: Serializer>(
+    bytes: &[u8],
+    alloc: Global,
+    out: &mut S,
+) -> Result<(), S::Error>
     ensures { OnOk result (Sent (events (hex bytes.now)) (S.written out.old) (S.written out.new)) }
 {
     match hex_string(alloc, bytes) {

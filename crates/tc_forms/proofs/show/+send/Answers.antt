@@ -46,9 +46,14 @@ send_kinded_attributes-returns-in-None g t c =
     on_ok_weaker c.send_tail.result (frames_end (λ k c'. attribute (show (g.T.Tables.parts_of c.args.table) c.args.depth) (rows_under (g.T.Tables.parts_of c.args.table) c.args.place k) true k c') true (length c.args.bytes.now) c.loop-count._count c.args.kind.now c.loop-count.so_far.now c.args.bytes.now c.loop-count.left.now _ _ _ c.loop-count.invariant.1.1 c.in-None.ensures.frame) c.send_tail.ensures
 
 pub send_kinded_attributes-loop-count-preserved : goal.send_kinded_attributes-loop-count-preserved
-send_kinded_attributes-loop-count-preserved g t c =
-    (c.kind_after-so_far.utf8, (c.rows_after-rows.ensures ∙ ap (rows_under (g.T.Tables.parts_of c.args.table) c.args.place) (sym c.kind_after-so_far.ensures), frames_more (λ k c'. attribute (show (g.T.Tables.parts_of c.args.table) c.args.depth) (rows_under (g.T.Tables.parts_of c.args.table) c.args.place k) true k c') true (length c.args.bytes.now) c.loop-count._count c.args.kind.now c.loop-count.so_far.now c.args.bytes.now c.loop-count.left.now _ _ _ c.loop-count.invariant.1.1 _ _ _ (search rules) c.in-Some.ensures.frame c.in-Some.ensures.after c.kind_after-so_far.ensures
-    (subst (λ rows. Sent (events (attribute (show (g.T.Tables.parts_of c.args.table) c.args.depth) rows true c.kind_after-so_far.result.now (record { word = c.in-Some.frame.0; value = c.in-Some.frame.1.now; pad = c.in-Some.frame.2.now }))) (g.S.Serializer.written c.loop-count.out) (g.S.Serializer.written c.send_attribute.new.out)) (c.rows_after-rows.ensures ∙ ap (rows_under (g.T.Tables.parts_of c.args.table) c.args.place) (sym c.kind_after-so_far.ensures)) c.in_ok-send_attribute.ensures)))
+send_kinded_attributes-loop-count-preserved g t c = (
+  c.kind_after-so_far.utf8,
+  (
+    c.rows_after-rows.ensures ∙ ap (rows_under (g.T.Tables.parts_of c.args.table) c.args.place) (sym c.kind_after-so_far.ensures),
+    frames_more (λ k c'. attribute (show (g.T.Tables.parts_of c.args.table) c.args.depth) (rows_under (g.T.Tables.parts_of c.args.table) c.args.place k) true k c') true (length c.args.bytes.now) c.loop-count._count c.args.kind.now c.loop-count.so_far.now c.args.bytes.now c.loop-count.left.now _ _ _ c.loop-count.invariant.1.1 _ _ _ (search rules) c.in-Some.ensures.frame c.in-Some.ensures.after c.kind_after-so_far.ensures
+        (subst (λ rows. Sent (events (attribute (show (g.T.Tables.parts_of c.args.table) c.args.depth) rows true c.kind_after-so_far.result.now (record { word = c.in-Some.frame.0; value = c.in-Some.frame.1.now; pad = c.in-Some.frame.2.now }))) (g.S.Serializer.written c.loop-count.out) (g.S.Serializer.written c.send_attribute.new.out)) (c.rows_after-rows.ensures ∙ ap (rows_under (g.T.Tables.parts_of c.args.table) c.args.place) (sym c.kind_after-so_far.ensures)) c.in_ok-send_attribute.ensures),
+  ),
+)
 
 pub send_kinded_attributes-returns : goal.send_kinded_attributes-returns
 send_kinded_attributes-returns g t c =
