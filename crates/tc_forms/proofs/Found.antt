@@ -175,7 +175,7 @@ kind_finds t c =
       bare = passes (codes "bare") (codes "Kind") (string t) ms refl ∙ bare_is_told c.value marks (no_bare_told 1 c);
       word = passes (codes "word") (codes "Kind") (string t) ms refl ∙ get_bare_told c.value marks (codes "word") refl ∙ word_told 1 c;
       pad =
-      passes (codes "pad") (codes "Kind") (string t) ms refl ∙ get_bare_told c.value marks (codes "pad") refl ∙ get_told 1 c (codes "pad") refl ∙ get_pad_told c;
+          passes (codes "pad") (codes "Kind") (string t) ms refl ∙ get_bare_told c.value marks (codes "pad") refl ∙ get_told 1 c (codes "pad") refl ∙ get_pad_told c;
       none = λ q own w p b. passes q (codes "Kind") (string t) ms own ∙ get_bare_told c.value marks q b ∙ get_told 1 c q w ∙ not_pad_told q c p;
       no_text = refl;
     }

@@ -63,9 +63,9 @@ in_front b h e =
         pad = IsBytes-take p (drop n b) (IsBytes-drop n b h);
       };
       whole =
-      append_assoc (header (length v) f.word) (v ++ take p (drop n b)) (drop p (drop n b))
-      ∙ ap (λ t. header (length v) f.word ++ t) (append_assoc v (take p (drop n b)) (drop p (drop n b)))
-      ∙ ap (λ (t : List ℕ). header (length v) f.word ++ (v ++ t)) (take-append-drop p (drop n b) ∙ behind) ∙ sym fr.parts;
+          append_assoc (header (length v) f.word) (v ++ take p (drop n b)) (drop p (drop n b))
+          ∙ ap (λ t. header (length v) f.word ++ t) (append_assoc v (take p (drop n b)) (drop p (drop n b)))
+          ∙ ap (λ (t : List ℕ). header (length v) f.word ++ (v ++ t)) (take-append-drop p (drop n b) ∙ behind) ∙ sym fr.parts;
     }
 
 module _ (Made : List ℕ → Data → Option (List ℕ)) (One : List ℕ → PaddedFrame → Data) (has : Bool)

@@ -80,9 +80,9 @@ module _ (Inner : List ℕ → Form → List ℕ → Data) (Made : List ℕ → 
       let kind : kind_told has d ≡ Some t = ap (λ h. kind_told h d) both.0 ∙ ap (option_and_then as_str) f.it in
       record {
         made =
-        ap (by_kind_made Made rows has k d) kind
-        ∙ framed_again c d (word_or 1 (get (codes "word") d)) (kind_value t (get (codes "bare") d)) s (ap (word_or 1) f.word ∙ word_again 1 c s)
-        (ap (kind_value t) f.bare ∙ kind_again c.value t both.1) f.pad;
+            ap (by_kind_made Made rows has k d) kind
+            ∙ framed_again c d (word_or 1 (get (codes "word") d)) (kind_value t (get (codes "bare") d)) s (ap (word_or 1) f.word ∙ word_again 1 c s)
+            (ap (kind_value t) f.bare ∙ kind_again c.value t both.1) f.pad;
         kind = kind ∙ sym e;
         not_raw = not_raw d (codes "Kind") (string t) (bare_seen c.value) 1 c f refl;
         no_text = f.no_text;
@@ -94,9 +94,9 @@ module _ (Inner : List ℕ → Form → List ℕ → Data) (Made : List ℕ → 
       let kind = no_kind has d (f.none (codes "Kind") refl refl refl refl) in
       record {
         made =
-        ap (by_kind_made Made rows has k d) kind ∙ ap (by_row_made Made rows has k d) f.it
-        ∙ framed_again c d (option_and_then word_made (get (codes "word") x)) (option_and_then hex_made (get (codes "value") x)) s
-        (ap (option_and_then word_made) word ∙ s.word) (ap (option_and_then hex_made) value ∙ hex_made-hex c.value s.value) f.pad;
+            ap (by_kind_made Made rows has k d) kind ∙ ap (by_row_made Made rows has k d) f.it
+            ∙ framed_again c d (option_and_then word_made (get (codes "word") x)) (option_and_then hex_made (get (codes "value") x)) s
+            (ap (option_and_then word_made) word ∙ s.word) (ap (option_and_then hex_made) value ∙ hex_made-hex c.value s.value) f.pad;
         kind = kind ∙ sym e;
         not_raw = not_raw d (codes "Other") x None c.word c f refl;
         no_text = f.no_text;
@@ -115,10 +115,10 @@ module _ (Inner : List ℕ → Form → List ℕ → Data) (Made : List ℕ → 
       let its = plain q.name pass in f.none q.name differs its.word its.pad its.bare) in
       record {
         made =
-        ap (by_kind_made Made rows has k d) kind
-        ∙ ap (by_row_made Made rows has k d) (f.none (codes "Other") (swapped name (codes "Other") own.other) refl refl refl)
-        ∙ ap (row_made Made rows has k d) found
-        ∙ framed_again c d (word_or r.word (get (codes "word") d)) (Made k r.form x) s (ap (word_or r.word) f.word ∙ word_again r.word c s) made f.pad;
+            ap (by_kind_made Made rows has k d) kind
+            ∙ ap (by_row_made Made rows has k d) (f.none (codes "Other") (swapped name (codes "Other") own.other) refl refl refl)
+            ∙ ap (row_made Made rows has k d) found
+            ∙ framed_again c d (word_or r.word (get (codes "word") d)) (Made k r.form x) s (ap (word_or r.word) f.word ∙ word_again r.word c s) made f.pad;
         kind = kind ∙ sym e;
         not_raw = not_raw d name x None r.word c f (swapped name (codes "raw") own.raw);
         no_text = f.no_text;

@@ -8,23 +8,28 @@ use Rattle.tc_forms.specs.Search.{first, held}
 use Rattle.tc_forms.specs.Tables.{Choice}
 use Rattle.tc_forms.specs.declared.form.Form.{Form}
 
+-- a choice counts unless its name is reserved
 abbrev pub is_choice : Choice → Bool
 is_choice c = not (is_reserved c.name)
 
+-- a choice that counts, of this name
 abbrev pub is_named : List ℕ → Choice → Bool
 is_named name c = is_choice c && bytes_eq c.name name
 
+-- bytes of the choice's length that begin as it does
 abbrev pub follows : List ℕ → Choice → Bool
 follows b c = is_choice c && (unwrap_or c.len (length b) == length b && bytes_eq (take (length c.prefix) b) c.prefix)
 
--- the first that bytes follow, if it is the one of its name too
+-- the choice, if the bytes follow it
 abbrev pub choice_if : List ℕ → Choice → Option Choice
 choice_if b c = if follows b c then Some c else None
 
+-- the first that bytes follow, if it is the one of its name too
 abbrev pub chosen : List Choice → List ℕ → Option Choice
 chosen cs b = option_and_then (choice_if b) (option_and_then (λ c. first (is_named c.name) cs) (first (follows b) cs))
 
 module _ (Inner : Form → List ℕ → Data) where
+  -- what is behind the prefix, under the name of the choice
   abbrev pub by_choice : List ℕ → Option Choice → Data
   by_choice b None = one (codes "Other") (hex b)
   by_choice b (Some c) = one c.name (Inner c.form (drop (length c.prefix) b))

@@ -9,6 +9,7 @@ pub record PaddedFrame : Type 0 where
   pub value : List ℕ
   pub pad : List ℕ
 
+-- its bytes: the length, the word, the value, the padding
 abbrev pub frame_bytes : PaddedFrame → List ℕ
 frame_bytes c = header (length c.value) c.word ++ (c.value ++ c.pad)
 
@@ -19,8 +20,10 @@ frame_at n b = record { word = le_value (take 2 (drop 2 b)); value = drop 4 (tak
 abbrev pub front : List ℕ → Option PaddedFrame
 front b = if nat_le 4 (length_at b) && nat_le (length_at b) (length b) then Some (frame_at (length_at b) b) else None
 
+-- the bytes behind it
 abbrev pub after_first : List ℕ → List ℕ
 after_first b = drop (padding (length_at b)) (drop (length_at b) b)
 
+-- the padding that is usual
 abbrev pub zero_pad : List ℕ → List ℕ
 zero_pad value = replicate (padding (length value)) 0

@@ -16,6 +16,7 @@ use Rattle.tc_forms.specs.declared.form.Form.TheVariants as form
 
 -- `Inner` makes what is within
 module _ (table : Table) (Inner : List ℕ → Form → Data → Option (List ℕ)) where
+  -- what a form makes, by what stands at its place
   abbrev pub in_form : List ℕ → Form → Data → Option (List ℕ)
   in_form kind (form.Record i) d = fields_made table (Inner kind) (fields_of (part_at table i)) d
   in_form kind (form.Array i) d = option_and_then (each_made (Inner kind (form_of i (part_at table i)))) (as_array d)
@@ -27,6 +28,7 @@ module _ (table : Table) (Inner : List ℕ → Form → Data → Option (List �
   in_form kind (form.Choice i) d = by_choice_made (Inner kind) (choices_of (part_at table i)) d
   in_form kind f d = plain_made table f d
 
+-- raw bytes are made at any depth
 abbrev pub make : Table → ℕ → List ℕ → Form → Data → Option (List ℕ)
 make table zero kind f d = raw_of d
 make table (suc n) kind f d = or_raw (raw_of d) (in_form table (make table n) kind f d)

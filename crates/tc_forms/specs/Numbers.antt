@@ -8,12 +8,14 @@ use Rattle.tc_forms.specs.Widths.{number_width}
 use Rattle.tc_forms.specs.declared.form.Number.{Number}
 use Rattle.tc_forms.specs.declared.form.Number.TheVariants.{I16, I32, I64, I8, U16, U16Be, U32, U32Be, U64, U64Be, U8}
 
+-- most significant byte first
 abbrev pub is_big : Number → Bool
 is_big U16Be = true
 is_big U32Be = true
 is_big U64Be = true
 is_big k = false
 
+-- two's complement
 abbrev pub is_signed : Number → Bool
 is_signed I8 = true
 is_signed I16 = true
@@ -21,7 +23,7 @@ is_signed I32 = true
 is_signed I64 = true
 is_signed k = false
 
--- bytes, least significant first
+-- bytes with the least significant first, of a number that has the most significant first or not; and back
 abbrev pub in_order : Bool → List ℕ → List ℕ
 in_order true b = reverse b
 in_order false b = b
@@ -30,6 +32,7 @@ in_order false b = b
 abbrev pub bits_of : Number → List ℕ → ℕ
 bits_of k b = le_value (in_order (is_big k) b)
 
+-- the bytes of a number's bits
 abbrev pub bytes_of : Number → ℕ → List ℕ
 bytes_of k n = in_order (is_big k) (le_bytes (number_width k) n)
 
@@ -52,6 +55,7 @@ abbrev pub num_of : Bool → ℕ → ℕ → Num
 num_of true h n = if nat_lt n h then unsigned n else negative (negsuc (2 * h - 1 - n))
 num_of false h n = unsigned n
 
+-- a number below another
 abbrev pub below : ℕ → ℕ → Option ℕ
 below top n = if nat_lt n top then Some n else None
 
@@ -62,25 +66,31 @@ bits_in true h (negative (negsuc n)) = option_map (λ m. 2 * h - 1 - m) (below h
 bits_in false h (unsigned n) = below (2 * h) n
 bits_in s h x = None
 
+-- the number of these bits
 abbrev pub num : Number → ℕ → Num
 num k n = num_of (is_signed k) (half k) n
 
+-- the bits of this number
 abbrev pub bits : Number → Num → Option ℕ
 bits k x = bits_in (is_signed k) (half k) x
 
+-- the bytes of a number in JSON
 abbrev pub number_made : Number → Data → Option (List ℕ)
 number_made k d = option_map (bytes_of k) (option_and_then (bits k) (as_number d))
 
 -- ---- numbers that have names
 
+-- the first name of a number
 abbrev pub name_of : List Name → ℕ → Option (List ℕ)
 name_of [] n = None
 name_of (x ∷ xs) n = if x.number == n then Some x.name else name_of xs n
 
+-- the number of the first such name
 abbrev pub number_of : List Name → List ℕ → Option ℕ
 number_of [] name = None
 number_of (x ∷ xs) name = if bytes_eq x.name name then Some x.number else number_of xs name
 
+-- the name leads back to this number
 abbrev pub is_number : Option ℕ → ℕ → Bool
 is_number None n = false
 is_number (Some m) n = m == n

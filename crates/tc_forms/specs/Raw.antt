@@ -11,9 +11,11 @@ use Rattle.tc_forms.specs.Search.{held}
 abbrev pub one : List ℕ → Data → Data
 one name held = object (member name held no_members)
 
+-- two digits for each byte, in lower case
 abbrev pub hex : List ℕ → Data
 hex b = string (hex_text b)
 
+-- bytes that don't follow their form
 abbrev pub raw : List ℕ → Data
 raw b = one (codes "raw") (hex b)
 
@@ -23,6 +25,7 @@ abbrev pub decoded : Result (List ℕ) FromHexError → Option (List ℕ)
 decoded (Ok b) = Some b
 decoded (Err e) = None
 
+-- each is a byte
 abbrev pub all_bytes : List ℕ → Bool
 all_bytes [] = true
 all_bytes (x ∷ b) = nat_lt x 256 && all_bytes b
@@ -32,6 +35,7 @@ abbrev pub with_text : (List ℕ → List ℕ) → List ℕ → Option (List ℕ
 with_text text_of text (Some b) = if all_bytes b && bytes_eq (text_of b) text then Some b else None
 with_text text_of text None = None
 
+-- bytes, if they are so many
 abbrev pub of_length : ℕ → List ℕ → Option (List ℕ)
 of_length n b = if length b == n then Some b else None
 
@@ -39,9 +43,11 @@ of_length n b = if length b == n then Some b else None
 abbrev pub hex_of : List ℕ → Option (List ℕ)
 hex_of text = with_text hex_text text (decoded (decode_of text))
 
+-- the bytes of a text in hex
 abbrev pub hex_made : Data → Option (List ℕ)
 hex_made d = option_and_then hex_of (as_str d)
 
+-- the bytes of `{"raw":"dead"}`
 abbrev pub raw_of : Data → Option (List ℕ)
 raw_of d = option_and_then hex_made (get (codes "raw") d)
 

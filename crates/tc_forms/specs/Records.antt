@@ -8,6 +8,7 @@ use Rattle.tc_forms.specs.Widths.{field_width}
 use Rattle.tc_forms.specs.declared.form.Form.{Form}
 use Rattle.tc_forms.specs.declared.form.Form.TheVariants as form
 
+-- a field of padding
 abbrev pub is_pad : Form → Bool
 is_pad (form.Pad n) = true
 is_pad f = false
@@ -17,11 +18,12 @@ abbrev pub is_free : List ℕ → List Field → Bool
 is_free name [] = true
 is_free name (f ∷ fs) = not (bytes_eq name f.name) && is_free name fs
 
+-- no two fields have one name
 abbrev pub are_apart : List Field → Bool
 are_apart [] = true
 are_apart (f ∷ fs) = is_free f.name fs && are_apart fs
 
--- no two fields have one name, and none that of what is raw or left over
+-- and none has the name of what is raw or left over
 abbrev pub names_apart : List Field → Bool
 names_apart fs = is_free (codes "raw") fs && is_free (codes "rest") fs && are_apart fs
 
@@ -51,15 +53,18 @@ are_enough table n [] = true
 are_enough table n (f ∷ fs) =
     let w = unwrap_or (field_width table f) 0 in nat_le w n && are_enough table (n - w) fs
 
+-- the bytes behind the fields
 abbrev pub rest_member : List ℕ → Members
 rest_member [] = no_members
 rest_member b = member (codes "rest") (hex b) no_members
 
 module _ (table : Table) (Inner : Form → List ℕ → Data) where
+  -- a field, unless it is padding of zeros
   abbrev pub field_member : Field → List ℕ → Members → Members
   field_member f chunk after =
       if is_pad f.form && is_blank (field_width table f) chunk then after else member f.name (Inner f.form chunk) after
 
+  -- a field after the other
   abbrev pub members : List Field → List ℕ → Members
   members [] b = rest_member b
   members (f ∷ fs) b = field_member f (field_of (field_width table f) b) (members fs (after_field (field_width table f) b))
@@ -73,6 +78,7 @@ module _ (Inner : Form → List ℕ → Data) where
   elements zero f w (x ∷ b) = item (Inner f (x ∷ b)) no_items
   elements (suc n) f w (x ∷ b) = item (Inner f (take w (x ∷ b))) (elements n f w (drop w (x ∷ b)))
 
+  -- elements of any width are one, to the end
   abbrev pub elements_of : Form → Option ℕ → List ℕ → Items
   elements_of f None b = item (Inner f b) no_items
   elements_of f (Some w) b = elements (length b) f w b
@@ -89,6 +95,7 @@ rest_made None = Some []
 rest_made (Some d) = hex_made d
 
 module _ (table : Table) (Inner : Form → Data → Option (List ℕ)) where
+  -- padding that isn't told is zeros
   abbrev pub field_made : Field → Option Data → Option (List ℕ)
   field_made f None = if is_pad f.form then Some (zeros (field_width table f)) else None
   field_made f (Some d) = Inner f.form d

@@ -15,6 +15,7 @@ use Rattle.tc_forms.specs.declared.form.Form.TheVariants as form
 
 -- `Inner` shows what is within
 module _ (table : Table) (Inner : List ℕ → Form → List ℕ → Data) where
+  -- what a form shows, by what stands at its place
   abbrev pub shown : List ℕ → Form → List ℕ → Data
   shown kind (form.Record i) b =
       if names_apart (fields_of (part_at table i)) && are_enough table (length b) (fields_of (part_at table i))

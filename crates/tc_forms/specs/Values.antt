@@ -22,10 +22,12 @@ abbrev pub text_in : List ℕ → Option (List ℕ)
 text_in b =
     if bytes_eq (take (length b - 1) b ++ 0 ∷ []) b && is_utf8 (take (length b - 1) b) then Some (take (length b - 1) b) else None
 
+-- a text, or raw bytes where there is none
 abbrev pub text_or_raw : List ℕ → Option (List ℕ) → Data
 text_or_raw b None = raw b
 text_or_raw b (Some t) = string t
 
+-- what is shown; bytes of another length are raw
 abbrev pub plain_shown : Table → Form → List ℕ → Data
 plain_shown table (form.Number k) b = if length b == number_width k then number (num k (bits_of k b)) else raw b
 plain_shown table (form.Named k i) b =
@@ -53,6 +55,7 @@ mac_digits t =
     slice_index t 0 ∷ slice_index t 1 ∷ slice_index t 3 ∷ slice_index t 4 ∷ slice_index t 6 ∷ slice_index t 7 ∷ slice_index t 9
     ∷ slice_index t 10 ∷ slice_index t 12 ∷ slice_index t 13 ∷ slice_index t 15 ∷ slice_index t 16 ∷ []
 
+-- the octets of an address, if it is written as it is shown
 abbrev pub mac_of : List ℕ → Option (List ℕ)
 mac_of text = with_text mac_text text (option_and_then (of_length 6) (decoded (decode_sized (mac_digits text) 6)))
 
@@ -62,14 +65,17 @@ ipv4_of text = with_text ipv4_text text (option_and_then (of_length 4) (option_m
 abbrev pub ipv6_of : List ℕ → Option (List ℕ)
 ipv6_of text = with_text ipv6_text text (option_and_then (of_length 16) (option_map (λ r. octets_of r.0) (read_ipv6 text)))
 
+-- `true` is of no bytes, and nothing is of `false`
 abbrev pub flag_made : Bool → Option (List ℕ)
 flag_made true = Some []
 flag_made false = None
 
+-- one byte
 abbrev pub truth_made : Bool → List ℕ
 truth_made true = 1 ∷ []
 truth_made false = 0 ∷ []
 
+-- the bytes that are made
 abbrev pub plain_made : Table → Form → Data → Option (List ℕ)
 plain_made table (form.Number k) d = number_made k d
 plain_made table (form.Named k i) d = named_made k (option_and_then (number_of (names_of (part_at table i))) (as_str d)) d

@@ -7,6 +7,7 @@ use Rattle.tc_forms.specs.declared.form.Number.{Number}
 use Rattle.tc_forms.specs.declared.form.Number.TheVariants.{I16, I32, I64, I8, U16, U16Be, U32, U32Be, U64, U64Be, U8}
 use Rattle.tc_forms.specs.declared.form.Form.TheVariants as form
 
+-- of a number
 abbrev pub number_width : Number → ℕ
 number_width U8 = 1
 number_width U16 = 2
@@ -24,6 +25,7 @@ number_width U64Be = 8
 abbrev pub counted : ℕ → Option ℕ
 counted n = if nat_lt n (2 ^ 64) then Some n else None
 
+-- a sum that a machine can count
 abbrev pub plus : Option ℕ → Option ℕ → Option ℕ
 plus (Some a) (Some b) = counted (a + b)
 plus a b = None
@@ -33,6 +35,7 @@ abbrev pub fields_width : (Form → Option ℕ) → ℕ → List Field → Optio
 fields_width inner before [] = Some before
 fields_width inner before (f ∷ fs) = option_and_then (λ t. fields_width inner t fs) (plus (Some before) (inner f.form))
 
+-- of a form, where `inner` says it of those within
 abbrev pub width_by : (Form → Option ℕ) → Table → Form → Option ℕ
 width_by inner table (form.Number k) = Some (number_width k)
 width_by inner table (form.Named k i) = Some (number_width k)
@@ -61,5 +64,6 @@ deepest = 16
 unfoldable pub fixed : Table → Form → Option ℕ
 fixed table f = width deepest table f
 
+-- of a field
 abbrev pub field_width : Table → Field → Option ℕ
 field_width table f = fixed table f.form

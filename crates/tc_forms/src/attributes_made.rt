@@ -82,7 +82,11 @@ pub(crate) fn own_told<'v>(items: &'v [Value]) -> &'v str
     }
 }
 
-pub(crate) fn make_kind<'v>(maker: &mut Maker<'v>, kind: &'v str, value: &'v Value) -> Result<(), MakeError>
+pub(crate) fn make_kind<'v>(
+    maker: &mut Maker<'v>,
+    kind: &'v str,
+    value: &'v Value,
+) -> Result<(), MakeError>
     ensures { Appended (by_kind_made (λ k f d. None) [] true [] (view value.now) (Some kind.now)) maker.old.bytes.items maker.new.bytes.items result }
 {
     let word = match word_or(1, value) {
@@ -122,7 +126,11 @@ fn make_text_of(maker: &mut Maker<'_>, text: &str) -> Result<(), MakeError>
 }
 
 // An attribute that no row has.
-pub(crate) fn make_other<'v>(maker: &mut Maker<'v>, other: &'v Value, value: &'v Value) -> Result<(), MakeError>
+pub(crate) fn make_other<'v>(
+    maker: &mut Maker<'v>,
+    other: &'v Value,
+    value: &'v Value,
+) -> Result<(), MakeError>
     ensures { Appended (other_made (view value.now) (view other.now)) maker.old.bytes.items maker.new.bytes.items result }
 {
     let word = match word_at(other, "word") {
@@ -179,7 +187,12 @@ pub(crate) fn begin(maker: &mut Maker<'_>) -> Vec<u8>
 }
 
 // Ends the value of an attribute.
-pub(crate) fn end<'v>(maker: &mut Maker<'v>, before: Vec<u8>, word: u16, value: &'v Value) -> Result<(), MakeError>
+pub(crate) fn end<'v>(
+    maker: &mut Maker<'v>,
+    before: Vec<u8>,
+    word: u16,
+    value: &'v Value,
+) -> Result<(), MakeError>
     ensures { Appended (framed (Some word) (Some maker.old.bytes.items) (view value.now)) before.items maker.new.bytes.items result }
 {
     let payload = mem::replace(&mut maker.bytes, before);
@@ -191,7 +204,12 @@ pub(crate) fn end<'v>(maker: &mut Maker<'v>, before: Vec<u8>, word: u16, value: 
 }
 
 // Appends a frame.
-fn put_frame<'v>(maker: &mut Maker<'v>, word: u16, payload: &[u8], value: &'v Value) -> Result<(), MakeError>
+fn put_frame<'v>(
+    maker: &mut Maker<'v>,
+    word: u16,
+    payload: &[u8],
+    value: &'v Value,
+) -> Result<(), MakeError>
     requires { length payload.now ≤ 65531 }
     ensures { Appended (option_map (λ p. frame_bytes (record { word = word; value = payload.now; pad = p })) (pad_or payload.now (get (codes "pad") (view value.now)))) maker.old.bytes.items maker.new.bytes.items result }
 {

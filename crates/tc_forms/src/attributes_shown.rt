@@ -19,6 +19,7 @@ use serde::Serializer;
 use std::alloc::Global;
 
 // The frame at the front: its word, its value, its padding, and the bytes behind it. None if none is there.
+#[inline(always)]
 pub(crate) fn front(bytes: &[u8]) -> Option<(u16, &[u8], &[u8], &[u8])>
     ensures frame { option_map (λ r. record { word = r.0; value = r.1.now; pad = r.2.now }) result ≡ front bytes.now }
     ensures after { IfSome result (λ r. r.3.now ≡ after_first bytes.now) }
@@ -60,6 +61,7 @@ fn kind_text(value: &[u8]) -> Option<&str>
 }
 
 // The kind that a frame sets, in a list that has kinds.
+#[inline(always)]
 pub(crate) fn kind_in(has: bool, word: u16, value: &[u8]) -> Option<&str>
     ensures { option_map (λ t. t.now) result ≡ kind_in has (record { word = word; value = value.now; pad = [] }) }
 {
@@ -71,6 +73,7 @@ pub(crate) fn kind_in(has: bool, word: u16, value: &[u8]) -> Option<&str>
 }
 
 // The kind behind a frame.
+#[inline(always)]
 pub(crate) fn kind_after<'a>(has: bool, word: u16, value: &'a [u8], kind: &'a str) -> &'a str
     ensures { result.now ≡ unwrap_or (kind_in has (record { word = word; value = value.now; pad = [] })) kind.now }
 {
@@ -81,6 +84,7 @@ pub(crate) fn kind_after<'a>(has: bool, word: u16, value: &'a [u8], kind: &'a st
 }
 
 // The rows behind a frame.
+#[inline(always)]
 pub(crate) fn rows_after<T: Tables>(
     table: T,
     place: usize,
@@ -117,7 +121,11 @@ pub(crate) fn own_kind(bytes: &[u8]) -> &str
 }
 
 // What is no frame, if anything is left.
-pub(crate) fn send_tail<S: Serializer>(bytes: &[u8], alloc: Global, out: &mut S) -> Result<(), S::Error>
+pub(crate) fn send_tail<S: Serializer>(
+    bytes: &[u8],
+    alloc: Global,
+    out: &mut S,
+) -> Result<(), S::Error>
     ensures { OnOk result (Sent (items_events (tail_shown bytes.now)) (S.written out.old) (S.written out.new)) }
 {
     if bytes.is_empty() {
@@ -171,6 +179,7 @@ fn ends_in_nul(value: &[u8]) -> bool
 }
 
 // The word, if it isn't this one, and the padding, if it isn't zeros.
+#[inline(always)]
 pub(crate) fn send_told<S: Serializer>(
     wanted: u16,
     word: u16,
@@ -189,6 +198,7 @@ pub(crate) fn send_told<S: Serializer>(
     send_pad(word, value, pad, alloc, out)
 }
 
+#[inline(always)]
 pub(crate) fn send_pad<S: Serializer>(
     word: u16,
     value: &[u8],

@@ -94,7 +94,11 @@ pub(crate) fn behind(bytes: &[u8], place: usize) -> &[u8]
 }
 
 #[inline(never)]
-pub(crate) fn send_unknown<S: Serializer>(bytes: &[u8], alloc: Global, out: &mut S) -> Result<(), S::Error>
+pub(crate) fn send_unknown<S: Serializer>(
+    bytes: &[u8],
+    alloc: Global,
+    out: &mut S,
+) -> Result<(), S::Error>
     ensures { OnOk result (Sent (events (one (codes "Other") (hex bytes.now))) (S.written out.old) (S.written out.new)) }
 {
     out.begin_map(None)?;
@@ -104,7 +108,10 @@ pub(crate) fn send_unknown<S: Serializer>(bytes: &[u8], alloc: Global, out: &mut
 }
 
 // The first choice whose name has a member.
-pub(crate) fn choice_held<'a, 'v>(choices: &[Choice<'a>], value: &'v Value) -> Option<(Choice<'a>, &'v Value)>
+pub(crate) fn choice_held<'a, 'v>(
+    choices: &[Choice<'a>],
+    value: &'v Value,
+) -> Option<(Choice<'a>, &'v Value)>
     ensures { option_map (λ m. (choice_view m.0, view m.1.now)) result ≡ held (λ c. c.name) is_choice (choices_view choices.now) (view value.now) }
 {
     match choices.split_first() {

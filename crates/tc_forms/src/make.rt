@@ -15,7 +15,10 @@ ghost use Rattle.tc_forms.specs.Rows.{counts};
 ghost use Rattle.tc_forms.specs.Search.{held};
 ghost use Rattle.tc_forms.specs.Tables.{choices_view, field_view, fields_view};
 
-use crate::attributes_made::{begin, end, kind_behind, kind_told, make_kind, make_other, own_told, rows_behind, unlayered, word_at, word_or};
+use crate::attributes_made::{
+    begin, end, kind_behind, kind_told, make_kind, make_other, own_told, rows_behind, unlayered,
+    word_at, word_or,
+};
 use crate::choices::choice_held;
 use crate::error::{MakeError, Wanted};
 use crate::form::{Choice, Field, Form, Row};
@@ -70,14 +73,42 @@ fn make_form<'v, T: Tables>(
         None => return Err(maker.wrong(value, Wanted::Raw)),
     };
     match form {
-        Form::Record(place) => make_fields(maker, table, inner, kind, fields_at(table, place), value),
-        Form::Array(place) => make_elements(maker, table, inner, kind, form_at(table, place), value),
-        Form::Times(_, place) => make_elements(maker, table, inner, kind, form_at(table, place), value),
+        Form::Record(place) => make_fields(
+            maker,
+            table,
+            inner,
+            kind,
+            fields_at(table, place),
+            value,
+        ),
+        Form::Array(place) => make_elements(
+            maker,
+            table,
+            inner,
+            kind,
+            form_at(table, place),
+            value,
+        ),
+        Form::Times(_, place) => make_elements(
+            maker,
+            table,
+            inner,
+            kind,
+            form_at(table, place),
+            value,
+        ),
         Form::List(place) => make_list(maker, table, inner, kind, place, value),
         Form::InForce(place) => make_in_force(maker, table, inner, kind, place, value),
         Form::Own(place) => make_own(maker, table, inner, place, value),
         Form::Indexed(place) => make_indexed(maker, table, inner, kind, place, value),
-        Form::Choice(place) => make_choice(maker, table, inner, kind, choices_at(table, place), value),
+        Form::Choice(place) => make_choice(
+            maker,
+            table,
+            inner,
+            kind,
+            choices_at(table, place),
+            value,
+        ),
         _ => make_plain(maker, table, form, value),
     }
 }
@@ -304,7 +335,14 @@ fn make_own<'v, T: Tables>(
         Some(items) => items,
         None => return Err(maker.wrong(value, Wanted::List)),
     };
-    make_each_of_kinded(maker, table, depth, own_told(items.as_slice()), list, items.as_slice())
+    make_each_of_kinded(
+        maker,
+        table,
+        depth,
+        own_told(items.as_slice()),
+        list,
+        items.as_slice(),
+    )
 }
 
 #[cycle(make)]

@@ -137,7 +137,12 @@ impl<'v> Maker<'v> {
     }
 
     /// The error of a member of the value at this place, which may be missing.
-    pub fn wrong_member(&mut self, value: &'v Value, name: &'static str, wanted: Wanted) -> MakeError
+    pub fn wrong_member(
+        &mut self,
+        value: &'v Value,
+        name: &'static str,
+        wanted: Wanted,
+    ) -> MakeError
         ensures { self.new.bytes ≡ self.old.bytes }
     {
         match self.enter(Step::Member(name)) {

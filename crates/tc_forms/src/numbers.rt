@@ -9,15 +9,18 @@ ghost use Rattle.tc_forms.specs.Appended.{Appended};
 ghost use Rattle.tc_forms.specs.Numbers.{bits, bits_of, bytes_of, half, is_big, is_signed, name_of, named_made, named_or, num, number_made, number_of};
 ghost use Rattle.tc_forms.specs.Raw.{one};
 ghost use Rattle.tc_forms.specs.Sent.{Sent, events};
-ghost use Rattle.tc_forms.specs.Tables.{names_view};
+ghost use Rattle.tc_forms.specs.Values.{plain_shown};
+ghost use Rattle.tc_forms.specs.Tables.{no_table, names_view};
 ghost use Rattle.tc_forms.specs.Widths.{number_width};
 
 use crate::error::{MakeError, Wanted};
-use crate::form::{Name, Number};
+use crate::form::{Form, Name, Number};
 use crate::maker::Maker;
 use crate::rows::is_same;
+use crate::values_shown::send_raw;
 use serde::Serializer;
 use serde_json::Value;
+use std::alloc::Global;
 
 /// The name of a number.
 pub(crate) fn name_of<'a>(names: &[Name<'a>], number: u64) -> Option<&'a str>
@@ -42,6 +45,7 @@ pub(crate) fn number_of(names: &[Name<'_>], name: &str) -> Option<u64>
 }
 
 // The bits of a number.
+#[inline(always)]
 pub(crate) fn bits_of(number: Number, bytes: &[u8]) -> u64
     requires { length bytes.now ≡ number_width number }
     ensures value { result ≡ bits_of number bytes.now }
@@ -55,6 +59,7 @@ pub(crate) fn bits_of(number: Number, bytes: &[u8]) -> u64
 }
 
 /// True for a number whose most significant byte is the first.
+#[inline(always)]
 pub(crate) fn is_big(number: Number) -> bool
     ensures { result ≡ is_big number }
 {
@@ -62,6 +67,7 @@ pub(crate) fn is_big(number: Number) -> bool
 }
 
 // The number of at most eight bytes, least significant first.
+#[inline(always)]
 fn little(bytes: &[u8]) -> u64
     requires { length bytes.now ≤ 8 }
     ensures { result ≡ le_value bytes.now }
@@ -75,6 +81,7 @@ fn little(bytes: &[u8]) -> u64
 }
 
 // The same, byte by byte.
+#[inline(never)]
 fn little_by_one(bytes: &[u8]) -> u64
     requires { length bytes.now ≤ 8 }
     ensures { result ≡ le_value bytes.now }
@@ -86,6 +93,7 @@ fn little_by_one(bytes: &[u8]) -> u64
 }
 
 // The number of at most eight bytes, most significant first.
+#[inline(never)]
 fn big(bytes: &[u8]) -> u64
     requires { length bytes.now ≤ 8 }
     ensures { result ≡ be_value bytes.now }
@@ -97,6 +105,7 @@ fn big(bytes: &[u8]) -> u64
 }
 
 /// Half of how many values a number has.
+#[inline(always)]
 pub(crate) fn half(number: Number) -> u64
     ensures { result ≡ half number }
 {
@@ -109,13 +118,35 @@ pub(crate) fn half(number: Number) -> u64
 }
 
 /// True for a number that may be negative.
+#[inline(always)]
 pub(crate) fn is_signed(number: Number) -> bool
     ensures { result ≡ is_signed number }
 {
     matches!(number, Number::I8 | Number::I16 | Number::I32 | Number::I64)
 }
 
-pub(crate) fn send_number<S: Serializer>(which: Number, bits: u64, out: &mut S) -> Result<(), S::Error>
+/// What is shown of bytes as a number.
+#[inline(always)]
+pub(crate) fn send_bytes_number<S: Serializer>(
+    number: Number,
+    bytes: &[u8],
+    alloc: Global,
+    out: &mut S,
+) -> Result<(), S::Error>
+    ensures { OnOk result (Sent (events (plain_shown no_table (Form.Number number) bytes.now)) (S.written out.old) (S.written out.new)) }
+{
+    if bytes.len() != number.width() {
+        return send_raw(bytes, alloc, out);
+    }
+    send_number(number, bits_of(number, bytes), out)
+}
+
+#[inline(always)]
+pub(crate) fn send_number<S: Serializer>(
+    which: Number,
+    bits: u64,
+    out: &mut S,
+) -> Result<(), S::Error>
     requires { bits < 2 * half which }
     ensures { OnOk result (Sent (events (number (num which bits))) (S.written out.old) (S.written out.new)) }
 {
@@ -151,7 +182,11 @@ pub(crate) fn send_named<S: Serializer>(
     out.end_map()
 }
 
-pub(crate) fn make_number<'v>(maker: &mut Maker<'v>, which: Number, value: &'v Value) -> Result<(), MakeError>
+pub(crate) fn make_number<'v>(
+    maker: &mut Maker<'v>,
+    which: Number,
+    value: &'v Value,
+) -> Result<(), MakeError>
     ensures { Appended (number_made which (view value.now)) maker.old.bytes.items maker.new.bytes.items result }
 {
     match bits_in(which, value) {

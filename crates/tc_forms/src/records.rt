@@ -22,6 +22,7 @@ use serde_json::Value;
 use std::alloc::Global;
 
 /// True for padding.
+#[inline(always)]
 pub(crate) fn is_pad(form: Form) -> bool
     ensures { result ≡ is_pad form }
 {
@@ -29,6 +30,7 @@ pub(crate) fn is_pad(form: Form) -> bool
 }
 
 // The bytes of a field, and those behind it.
+#[inline(always)]
 pub(crate) fn split(bytes: &[u8], width: Option<usize>) -> (&[u8], &[u8])
     ensures field { result.0.now ≡ field_of width bytes.now }
     ensures after { result.1.now ≡ after_field width bytes.now }
@@ -40,7 +42,11 @@ pub(crate) fn split(bytes: &[u8], width: Option<usize>) -> (&[u8], &[u8])
 }
 
 // The bytes behind a record.
-pub(crate) fn send_rest<S: Serializer>(bytes: &[u8], alloc: Global, out: &mut S) -> Result<(), S::Error>
+pub(crate) fn send_rest<S: Serializer>(
+    bytes: &[u8],
+    alloc: Global,
+    out: &mut S,
+) -> Result<(), S::Error>
     ensures { OnOk result (Sent (members_events (rest_member bytes.now)) (S.written out.old) (S.written out.new)) }
 {
     if bytes.is_empty() {
@@ -51,6 +57,7 @@ pub(crate) fn send_rest<S: Serializer>(bytes: &[u8], alloc: Global, out: &mut S)
 }
 
 // True for as many zeros as the field has bytes.
+#[inline(always)]
 pub(crate) fn is_blank(width: Option<usize>, bytes: &[u8]) -> bool
     ensures { result ≡ is_blank width bytes.now }
 {

@@ -59,6 +59,7 @@ fn kind_place(kind: &str, others: usize, kinds: &[KindRows<'_>]) -> usize
 }
 
 /// The type in a word.
+#[inline(always)]
 pub(crate) fn type_of(word: u16) -> u16
     ensures { result ≡ type_of word }
 {
@@ -73,6 +74,7 @@ pub(crate) fn counts(row: &Row<'_>) -> bool
 }
 
 // True for a row of a type. The types are compared first, since that takes least.
+#[inline(always)]
 #[tactic(auto, using(crate::proofs::Found::and_false, crate::proofs::Found::and_true))]
 fn is_of_type(word: u16, row: &Row<'_>) -> bool
     ensures { result ≡ of_type word (row_view row.now) }
@@ -81,6 +83,7 @@ fn is_of_type(word: u16, row: &Row<'_>) -> bool
 }
 
 // True for a row of a name.
+#[inline(always)]
 #[tactic(auto, using(crate::proofs::Found::and_false, crate::proofs::Found::and_true))]
 fn is_of_name(name: &str, row: &Row<'_>) -> bool
     ensures { result ≡ of_name name.now (row_view row.now) }
@@ -89,6 +92,7 @@ fn is_of_name(name: &str, row: &Row<'_>) -> bool
 }
 
 // The first row of a type.
+#[inline(always)]
 fn row_of_type<'a>(rows: &[Row<'a>], word: u16) -> Option<Row<'a>>
     ensures { option_map row_view result ≡ first (of_type word) (rows_view rows.now) }
 {
@@ -101,6 +105,7 @@ fn row_of_type<'a>(rows: &[Row<'a>], word: u16) -> Option<Row<'a>>
 }
 
 // The first row of a type among those of a list.
+#[inline(always)]
 fn row_of_type_in<'a>(rows: &RowList<'a>, word: u16) -> Option<Row<'a>>
     ensures { option_map row_view result ≡ first (of_type word) (rows_in rows.now) }
 {
@@ -111,6 +116,7 @@ fn row_of_type_in<'a>(rows: &RowList<'a>, word: u16) -> Option<Row<'a>>
 }
 
 // The first row of a name.
+#[inline(always)]
 fn row_of_name<'a>(rows: &[Row<'a>], name: &str) -> Option<Row<'a>>
     ensures { option_map row_view result ≡ first (of_name name.now) (rows_view rows.now) }
 {
@@ -123,6 +129,7 @@ fn row_of_name<'a>(rows: &[Row<'a>], name: &str) -> Option<Row<'a>>
 }
 
 // The first row of a name among those of a list.
+#[inline(always)]
 fn row_of_name_in<'a>(rows: &RowList<'a>, name: &str) -> Option<Row<'a>>
     ensures { option_map row_view result ≡ first (of_name name.now) (rows_in rows.now) }
 {
@@ -133,6 +140,7 @@ fn row_of_name_in<'a>(rows: &RowList<'a>, name: &str) -> Option<Row<'a>>
 }
 
 /// The row of a type, if it is the row of its name too.
+#[inline(always)]
 pub(crate) fn shown_row<'a>(rows: &RowList<'a>, word: u16) -> Option<Row<'a>>
     ensures { option_map row_view result ≡ shown_row (rows_in rows.now) word }
 {
@@ -151,6 +159,7 @@ pub(crate) fn shown_row<'a>(rows: &RowList<'a>, word: u16) -> Option<Row<'a>>
 }
 
 /// True for a name that no row may have.
+#[inline(never)]
 pub(crate) fn is_reserved(name: &str) -> bool
     ensures { result ≡ is_reserved name.now }
 {
@@ -163,6 +172,7 @@ pub(crate) fn is_reserved(name: &str) -> bool
 }
 
 /// True for equal texts.
+#[inline(always)]
 pub(crate) fn is_same(a: &str, b: &str) -> bool
     ensures { result ≡ bytes_eq a.now b.now }
 {
@@ -170,7 +180,10 @@ pub(crate) fn is_same(a: &str, b: &str) -> bool
 }
 
 // The first row of a list whose name has a member.
-pub(crate) fn row_held_in<'a, 'v>(rows: &RowList<'a>, value: &'v Value) -> Option<(Row<'a>, &'v Value)>
+pub(crate) fn row_held_in<'a, 'v>(
+    rows: &RowList<'a>,
+    value: &'v Value,
+) -> Option<(Row<'a>, &'v Value)>
     ensures { option_map (λ m. (row_view m.0, view m.1.now)) result ≡ held (λ r. r.name) counts (rows_in rows.now) (view value.now) }
 {
     match row_held(rows.own, value) {
@@ -184,8 +197,8 @@ fn row_held<'a, 'v>(rows: &[Row<'a>], value: &'v Value) -> Option<(Row<'a>, &'v 
     ensures { option_map (λ m. (row_view m.0, view m.1.now)) result ≡ held (λ r. r.name) counts (rows_view rows.now) (view value.now) }
 {
     for row in rows.iter() {
-        if counts(row) {
-            if let Some(held) = value.get(row.name) {
+        if let Some(held) = value.get(row.name) {
+            if counts(row) {
                 return Some((*row, held));
             }
         }

@@ -14,9 +14,13 @@ ghost use Rattle.tc_forms.specs.Shown.{show, shown, shown_of};
 ghost use Rattle.tc_forms.specs.Tables.{choices_view, field_view, fields_view};
 ghost use Rattle.tc_forms.specs.Widths.{fixed, width};
 
-use crate::attributes_shown::{front, kind_after, kind_in, own_kind, rows_after, send_kind, send_other, send_pad, send_tab, send_tail, send_told};
+use crate::attributes_shown::{
+    front, kind_after, kind_in, own_kind, rows_after, send_kind, send_other, send_pad, send_tab,
+    send_tail, send_told,
+};
 use crate::choices::{behind, chosen, send_unknown};
 use crate::form::{Choice, Field, Form};
+use crate::numbers::send_bytes_number;
 use crate::places::{choices_at, fields_at, form_at, layer_at};
 use crate::records::{are_enough, is_blank, is_pad, names_apart, send_rest, split};
 use crate::rows::{RowList, rows_under, shown_row};
@@ -81,8 +85,17 @@ fn send_form<S: Serializer, T: Tables>(
         None => return send_raw(bytes, alloc, out),
     };
     match form {
+        Form::Number(number) => send_bytes_number(number, bytes, alloc, out),
         Form::Record(place) => send_record(table, inner, kind, place, bytes, alloc, out),
-        Form::Array(place) => send_elements(table, inner, kind, form_at(table, place), bytes, alloc, out),
+        Form::Array(place) => send_elements(
+            table,
+            inner,
+            kind,
+            form_at(table, place),
+            bytes,
+            alloc,
+            out,
+        ),
         Form::Times(_, place) => send_elements(
             table,
             inner,
@@ -94,17 +107,17 @@ fn send_form<S: Serializer, T: Tables>(
         ),
         Form::List(place) => send_list(table, inner, kind, place, bytes, alloc, out),
         Form::InForce(place) => send_kinded(table, inner, kind, place, bytes, alloc, out),
-        Form::Own(place) => send_kinded(
+        Form::Own(place) => send_kinded(table, inner, own_kind(bytes), place, bytes, alloc, out),
+        Form::Indexed(place) => send_indexed(table, inner, kind, place, bytes, alloc, out),
+        Form::Choice(place) => send_choice(
             table,
             inner,
-            own_kind(bytes),
-            place,
+            kind,
+            choices_at(table, place),
             bytes,
             alloc,
             out,
         ),
-        Form::Indexed(place) => send_indexed(table, inner, kind, place, bytes, alloc, out),
-        Form::Choice(place) => send_choice(table, inner, kind, choices_at(table, place), bytes, alloc, out),
         _ => send_plain(table, form, bytes, alloc, out),
     }
 }
@@ -154,6 +167,7 @@ fn send_fields<S: Serializer, T: Tables>(
 }
 
 // A field, if it isn't blank padding.
+#[inline(always)]
 #[cycle(send)]
 fn send_field<S: Serializer, T: Tables>(
     table: T,
@@ -252,7 +266,16 @@ fn send_list<S: Serializer, T: Tables>(
     ensures { OnOk result (Sent (events (shown (T.parts_of table) (show (T.parts_of table) depth) kind.now (Form.List place) bytes.now)) (S.written out.old) (S.written out.new)) }
 {
     out.begin_seq(None)?;
-    send_attributes(table, depth, kind, layer_at(table, place), &rows_under(table, place, kind), bytes, alloc, out)?;
+    send_attributes(
+        table,
+        depth,
+        kind,
+        layer_at(table, place),
+        &rows_under(table, place, kind),
+        bytes,
+        alloc,
+        out,
+    )?;
     out.end_seq()
 }
 
@@ -275,7 +298,9 @@ fn send_attributes<S: Serializer, T: Tables>(
             Some(frame) => frame,
             None => return send_tail(left, alloc, out),
         };
-        send_item(table, depth, kind, layer, rows, word, value, pad, alloc, out)?;
+        send_item(
+            table, depth, kind, layer, rows, word, value, pad, alloc, out,
+        )?;
         left = after;
     }
     send_tail(left, alloc, out)
@@ -321,14 +346,16 @@ fn send_kinded_attributes<S: Serializer, T: Tables>(
         };
         rows = rows_after(table, place, word, value, so_far, &rows);
         so_far = kind_after(true, word, value, so_far);
-        send_attribute(table, depth, so_far, true, &rows, word, value, pad, alloc, out)?;
+        send_attribute(
+            table, depth, so_far, true, &rows, word, value, pad, alloc, out,
+        )?;
         left = after;
     }
     send_tail(left, alloc, out)
 }
 
 // An attribute in its layer.
-#[inline(never)]
+#[inline(always)]
 #[cycle(send)]
 fn send_item<S: Serializer, T: Tables>(
     table: T,
@@ -345,11 +372,15 @@ fn send_item<S: Serializer, T: Tables>(
     ensures { OnOk result (Sent (events (layered layer.now (attribute (show (T.parts_of table) depth) (rows_in rows.now) false kind.now (record { word = word; value = value.now; pad = pad.now })))) (S.written out.old) (S.written out.new)) }
 {
     if layer.is_empty() {
-        return send_attribute(table, depth, kind, false, rows, word, value, pad, alloc, out);
+        return send_attribute(
+            table, depth, kind, false, rows, word, value, pad, alloc, out,
+        );
     }
     out.begin_map(None)?;
     out.key(layer)?;
-    send_attribute(table, depth, kind, false, rows, word, value, pad, alloc, out)?;
+    send_attribute(
+        table, depth, kind, false, rows, word, value, pad, alloc, out,
+    )?;
     out.end_map()
 }
 
@@ -374,6 +405,7 @@ fn send_attribute<S: Serializer, T: Tables>(
     }
 }
 
+#[inline(always)]
 #[cycle(send)]
 fn send_by_row<S: Serializer, T: Tables>(
     table: T,
@@ -496,7 +528,15 @@ fn send_choice<S: Serializer, T: Tables>(
         Some(choice) => {
             out.begin_map(None)?;
             out.key(choice.name)?;
-            send_form(table, depth, kind, choice.form, behind(bytes, choice.prefix.len()), alloc, out)?;
+            send_form(
+                table,
+                depth,
+                kind,
+                choice.form,
+                behind(bytes, choice.prefix.len()),
+                alloc,
+                out,
+            )?;
             out.end_map()
         }
         None => send_unknown(bytes, alloc, out),

@@ -7,7 +7,7 @@ ghost use Rattle.tc_forms.specs.Tables.{no_table};
 ghost use Rattle.tc_forms.specs.Values.{plain_shown, text_in};
 
 use crate::form::Form;
-use crate::numbers::{bits_of, send_named, send_number};
+use crate::numbers::{bits_of, send_bytes_number, send_named};
 use crate::places::names_at;
 use crate::tables::Tables;
 use serde::Serializer;
@@ -15,6 +15,7 @@ use std::alloc::Global;
 use tc_texts::{handle_text, hex_string, ipv4_text, ipv6_text, mac_text};
 
 // A value that holds no other.
+#[inline(never)]
 pub(crate) fn send_plain<S: Serializer, T: Tables>(
     table: T,
     form: Form,
@@ -25,12 +26,7 @@ pub(crate) fn send_plain<S: Serializer, T: Tables>(
     ensures { OnOk result (Sent (events (plain_shown (T.parts_of table) form bytes.now)) (S.written out.old) (S.written out.new)) }
 {
     match form {
-        Form::Number(number) => {
-            if bytes.len() != number.width() {
-                return send_raw(bytes, alloc, out);
-            }
-            send_number(number, bits_of(number, bytes), out)
-        }
+        Form::Number(number) => send_bytes_number(number, bytes, alloc, out),
         Form::Named(number, place) => {
             if bytes.len() != number.width() {
                 return send_raw(bytes, alloc, out);
@@ -143,7 +139,11 @@ fn send_text<S: Serializer>(bytes: &[u8], alloc: Global, out: &mut S) -> Result<
 
 // Bytes that don't follow their form.
 #[inline(never)]
-pub(crate) fn send_raw<S: Serializer>(bytes: &[u8], alloc: Global, out: &mut S) -> Result<(), S::Error>
+pub(crate) fn send_raw<S: Serializer>(
+    bytes: &[u8],
+    alloc: Global,
+    out: &mut S,
+) -> Result<(), S::Error>
     ensures { OnOk result (Sent (events (raw bytes.now)) (S.written out.old) (S.written out.new)) }
 {
     out.begin_map(None)?;
@@ -154,7 +154,11 @@ pub(crate) fn send_raw<S: Serializer>(bytes: &[u8], alloc: Global, out: &mut S) 
 
 // Bytes in hex.
 #[inline(never)]
-pub(crate) fn send_hex<S: Serializer>(bytes: &[u8], alloc: Global, out: &mut S) -> Result<(), S::Error>
+pub(crate) fn send_hex<S: Serializer>(
+    bytes: &[u8],
+    alloc: Global,
+    out: &mut S,
+) -> Result<(), S::Error>
     ensures { OnOk result (Sent (events (hex bytes.now)) (S.written out.old) (S.written out.new)) }
 {
     match hex_string(alloc, bytes) {

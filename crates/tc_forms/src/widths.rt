@@ -47,8 +47,15 @@ pub(crate) fn width<T: Tables>(table: T, depth: u8, form: Form) -> Option<usize>
             Some(width) => count.checked_mul(width),
             None => None,
         },
-        Form::Text | Form::Bare | Form::Hex | Form::Array(_) | Form::List(_) | Form::InForce(_) | Form::Own(_)
-        | Form::Indexed(_) | Form::Choice(_) => None,
+        Form::Text
+        | Form::Bare
+        | Form::Hex
+        | Form::Array(_)
+        | Form::List(_)
+        | Form::InForce(_)
+        | Form::Own(_)
+        | Form::Indexed(_)
+        | Form::Choice(_) => None,
     }
 }
 
@@ -72,12 +79,15 @@ fn fields_width<T: Tables>(table: T, depth: u8, fields: &[Field<'_>]) -> Option<
 }
 
 /// How many bytes a form takes, where that is fixed and it nests no deeper than [`DEEPEST`].
+#[inline(always)]
 #[tactic(auto, unfolding(crate::specs::Widths::fixed))]
 pub(crate) fn fixed_width<T: Tables>(table: T, form: Form) -> Option<usize>
     ensures { result ≡ fixed (T.parts_of table) form }
 {
     match form {
         Form::Number(number) | Form::Named(number, _) => Some(number.width()),
+        Form::Handle => Some(4),
+        Form::Bytes(len) | Form::Pad(len) => Some(len),
         _ => width(table, DEEPEST, form),
     }
 }

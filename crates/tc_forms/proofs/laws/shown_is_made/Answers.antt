@@ -13,5 +13,5 @@ returns g c =
     let bytes = IsBytes-slice c.args.bytes.now c.type_inv.bytes in
     record {
       again = shown_again (g.T.Tables.parts_of c.args.table) deepest [] c.args.form c.args.bytes.now bytes;
-      read = shown_read (g.T.Tables.parts_of c.args.table) deepest [] c.args.form c.args.bytes.now bytes
+      read = shown_read (g.T.Tables.parts_of c.args.table) deepest [] c.args.form c.args.bytes.now bytes;
     }

@@ -132,10 +132,15 @@ make_each_of_kinded-loop-place-preserved g t c =
     let left =
     ap (option_map (λ b. now ++ b)) (sym (items_under One true vs i x k next c.loop-place-test.true c.index-items-place.is c.kind_behind-so_far.ensures)) ∙ c.loop-place.invariant.1.1 in
     let Made = make (g.T.Tables.parts_of c.args.table) c.args.depth in
-    let same_rows = c.rows_behind-rows.ensures ∙ ap (rows_under (g.T.Tables.parts_of c.args.table) c.args.list) (sym c.kind_behind-so_far.ensures) in
-    (c.kind_behind-so_far.utf8, (same_rows, joined_more (or_raw (raw_of (view x)) (One next (view x))) (each_under One true next (items_view (drop (i + 1) vs))) (each_under One true c.args.kind.now (items_view vs)) c.args.maker.now.bytes.items now
-    c.make_kinded.new.maker.bytes.items left
-    (ap (λ rows. option_map (λ b. now ++ b) (or_raw (raw_of (view x)) (attribute_made Made rows true next (view x)))) (sym same_rows) ∙ c.in-Ok.ensures)))
+    let same_rows = c.rows_behind-rows.ensures ∙ ap (rows_under (g.T.Tables.parts_of c.args.table) c.args.list) (sym c.kind_behind-so_far.ensures) in (
+      c.kind_behind-so_far.utf8,
+      (
+        same_rows,
+        joined_more (or_raw (raw_of (view x)) (One next (view x))) (each_under One true next (items_view (drop (i + 1) vs))) (each_under One true c.args.kind.now (items_view vs)) c.args.maker.now.bytes.items now
+            c.make_kinded.new.maker.bytes.items left
+            (ap (λ rows. option_map (λ b. now ++ b) (or_raw (raw_of (view x)) (attribute_made Made rows true next (view x)))) (sym same_rows) ∙ c.in-Ok.ensures),
+      ),
+    )
 
 pub make_each_of_kinded-returns-in-Err : goal.make_each_of_kinded-returns-in-Err
 make_each_of_kinded-returns-in-Err g t c =

@@ -108,4 +108,3 @@ invariant-make_each_of_kinded-loop-place g l =
     × ((rows_in l.rows ≡ rows_under (g.T.Tables.parts_of l.table) l.list l.so_far)
     × (option_map (λ b. l.maker.bytes.items ++ b) (each_under (kinded_made (g.T.Tables.parts_of l.table) (make (g.T.Tables.parts_of l.table) l.depth) l.list) true l.so_far (items_view (drop l.place l.items)))
     ≡ option_map (λ b. l.initial.maker.bytes.items ++ b) (each_under (kinded_made (g.T.Tables.parts_of l.table) (make (g.T.Tables.parts_of l.table) l.depth) l.list) true l.kind (items_view l.items))))
-

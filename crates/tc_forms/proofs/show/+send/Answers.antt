@@ -46,9 +46,14 @@ send_kinded_attributes-returns-in-None g t c =
     on_ok_weaker c.send_tail.result (frames_end (λ k c'. attribute (show (g.T.Tables.parts_of c.args.table) c.args.depth) (rows_under (g.T.Tables.parts_of c.args.table) c.args.place k) true k c') true (length c.args.bytes.now) c.loop-count._count c.args.kind.now c.loop-count.so_far.now c.args.bytes.now c.loop-count.left.now _ _ _ c.loop-count.invariant.1.1 c.in-None.ensures.frame) c.send_tail.ensures
 
 pub send_kinded_attributes-loop-count-preserved : goal.send_kinded_attributes-loop-count-preserved
-send_kinded_attributes-loop-count-preserved g t c =
-    (c.kind_after-so_far.utf8, (c.rows_after-rows.ensures ∙ ap (rows_under (g.T.Tables.parts_of c.args.table) c.args.place) (sym c.kind_after-so_far.ensures), frames_more (λ k c'. attribute (show (g.T.Tables.parts_of c.args.table) c.args.depth) (rows_under (g.T.Tables.parts_of c.args.table) c.args.place k) true k c') true (length c.args.bytes.now) c.loop-count._count c.args.kind.now c.loop-count.so_far.now c.args.bytes.now c.loop-count.left.now _ _ _ c.loop-count.invariant.1.1 _ _ _ (search rules) c.in-Some.ensures.frame c.in-Some.ensures.after c.kind_after-so_far.ensures
-    (subst (λ rows. Sent (events (attribute (show (g.T.Tables.parts_of c.args.table) c.args.depth) rows true c.kind_after-so_far.result.now (record { word = c.in-Some.frame.0; value = c.in-Some.frame.1.now; pad = c.in-Some.frame.2.now }))) (g.S.Serializer.written c.loop-count.out) (g.S.Serializer.written c.send_attribute.new.out)) (c.rows_after-rows.ensures ∙ ap (rows_under (g.T.Tables.parts_of c.args.table) c.args.place) (sym c.kind_after-so_far.ensures)) c.in_ok-send_attribute.ensures)))
+send_kinded_attributes-loop-count-preserved g t c = (
+  c.kind_after-so_far.utf8,
+  (
+    c.rows_after-rows.ensures ∙ ap (rows_under (g.T.Tables.parts_of c.args.table) c.args.place) (sym c.kind_after-so_far.ensures),
+    frames_more (λ k c'. attribute (show (g.T.Tables.parts_of c.args.table) c.args.depth) (rows_under (g.T.Tables.parts_of c.args.table) c.args.place k) true k c') true (length c.args.bytes.now) c.loop-count._count c.args.kind.now c.loop-count.so_far.now c.args.bytes.now c.loop-count.left.now _ _ _ c.loop-count.invariant.1.1 _ _ _ (search rules) c.in-Some.ensures.frame c.in-Some.ensures.after c.kind_after-so_far.ensures
+        (subst (λ rows. Sent (events (attribute (show (g.T.Tables.parts_of c.args.table) c.args.depth) rows true c.kind_after-so_far.result.now (record { word = c.in-Some.frame.0; value = c.in-Some.frame.1.now; pad = c.in-Some.frame.2.now }))) (g.S.Serializer.written c.loop-count.out) (g.S.Serializer.written c.send_attribute.new.out)) (c.rows_after-rows.ensures ∙ ap (rows_under (g.T.Tables.parts_of c.args.table) c.args.place) (sym c.kind_after-so_far.ensures)) c.in_ok-send_attribute.ensures),
+  ),
+)
 
 pub send_kinded_attributes-returns : goal.send_kinded_attributes-returns
 send_kinded_attributes-returns g t c =
@@ -93,6 +98,13 @@ send_fields-returns g t c =
 pub send_elements-returns : goal.send_elements-returns
 send_elements-returns g t c =
     on_ok_weaker c.end_seq.result (list_sent _ _ _ _ _ c.in_ok-begin_seq.ensures c.in_ok-send_elements_of.ensures) c.end_seq.ensures
+
+pub send_form-returns-in-Number : goal.send_form-returns-in-Number
+send_form-returns-in-Number g t c =
+    on_ok_weaker c.send_bytes_number.result
+    (level_sent (g.T.Tables.parts_of c.args.table) c.args.depth c.in-Some.inner c.args.kind.now c.args.form (form.Number c.in-Number.number) c.args.bytes.now _ _ _
+    (search rules) c.in-Number.is refl)
+    c.send_bytes_number.ensures
 
 pub send_form-returns-in-Record : goal.send_form-returns-in-Record
 send_form-returns-in-Record g t c =

@@ -91,7 +91,7 @@ invariant-send_kinded_attributes-loop-count g l =
     shadow (Utf8 l.so_far)
     × ((rows_in l.rows ≡ rows_under (g.T.Tables.parts_of l.table) l.place l.so_far)
     × ((end : Log) → Sent (items_events (frames (λ k c. attribute (show (g.T.Tables.parts_of l.table) l.depth) (rows_under (g.T.Tables.parts_of l.table) l.place k) true k c) true (length l.bytes - l._count) l.so_far l.left)) (g.S.Serializer.written l.out) end
-      → Sent (items_events (frames (λ k c. attribute (show (g.T.Tables.parts_of l.table) l.depth) (rows_under (g.T.Tables.parts_of l.table) l.place k) true k c) true (length l.bytes) l.kind l.bytes)) (g.S.Serializer.written l.initial.out) end))
+    → Sent (items_events (frames (λ k c. attribute (show (g.T.Tables.parts_of l.table) l.depth) (rows_under (g.T.Tables.parts_of l.table) l.place k) true k c) true (length l.bytes) l.kind l.bytes)) (g.S.Serializer.written l.initial.out) end))
 
 abbrev pub invariant-send_each_indexed-loop-count : goal.invariant-send_each_indexed-loop-count
 invariant-send_each_indexed-loop-count g l =
