@@ -23,7 +23,7 @@ use Rattle.tc_forms.specs.Shown.{shown, show}
 use Rattle.tc_forms.specs.Tables.{Field, Row, Choice, Table}
 use Rattle.tc_forms.specs.Widths.{field_width, fixed}
 use Rattle.tc_forms.proofs.Leaves.{little_small}
-use Rattle.tc_forms.proofs.Records.{IsBytes-field_of, IsBytes-after_field, absent, swapped, not-false}
+use Rattle.tc_forms.proofs.RecordsAgain.{IsBytes-field_of, IsBytes-after_field, absent, swapped, not-false}
 use Rattle.tc_forms.proofs.Found.{not_pad_told, guarded, plain}
 use Rattle.tc_forms.proofs.Ordered.{Apart, pad_apart, named_apart, kind_apart}
 use Rattle.tc_forms_text.proofs.Readable.{Readable, ItemsReadable, MembersReadable, deeper}
@@ -74,7 +74,8 @@ frames_readable One has m ones (suc n) k b h =
     (λ o. ItemsReadable (first_or_tail One has k b (λ j. frames One has n j after) o) (suc m))
     (λ e.
     let j = unwrap_or (kind_in has c) k in
-    (ones j c (small b h), frames_readable One has m ones n j after (IsBytes-drop (padding (length_at b)) (drop (length_at b) b) (IsBytes-drop (length_at b) b h))))
+    let later = IsBytes-drop (padding (length_at b)) (drop (length_at b) b) (IsBytes-drop (length_at b) b h) in
+    (ones j c (small b h), frames_readable One has m ones n j after later))
     (λ e. tail_readable b m)
 
 -- ---- records, elements, choices
@@ -145,7 +146,8 @@ module _ (Inner : List ℕ → Form → List ℕ → Data) (m : ℕ) (inner : (k
 
 -- ---- any form
 
-module _ (table : Table) (Inner : List ℕ → Form → List ℕ → Data) (m : ℕ) (inner : (k : List ℕ) (f : Form) (b : List ℕ) → IsBytes b → Readable (Inner k f b) (suc m)) where
+module _ (table : Table) (Inner : List ℕ → Form → List ℕ → Data) (m : ℕ)
+    (inner : (k : List ℕ) (f : Form) (b : List ℕ) → IsBytes b → Readable (Inner k f b) (suc m)) where
   array_readable : (k : List ℕ) (f : Form) (b : List ℕ) → IsBytes b → Readable (array (elements_of (Inner k) f (fixed table f) b)) (suc (suc m))
   array_readable k f b h = elements_of_readable (Inner k) m (inner k) f (fixed table f) b h
 
@@ -156,12 +158,14 @@ module _ (table : Table) (Inner : List ℕ → Form → List ℕ → Data) (m : 
       → Readable (array (frames (λ j c. attribute Inner (rows_under table i j) true j c) true n k b)) (suc (suc (suc (suc m))))
   kinded_readable i n k b h =
       frames_readable (λ j c. attribute Inner (rows_under table i j) true j c) true (suc (suc m))
-      (λ j c s. deeper (attribute Inner (rows_under table i j) true j c) (suc (suc m)) (attribute_readable Inner m inner (rows_under table i j) true j c s)) n k b h
+      (λ j c s.
+      deeper (attribute Inner (rows_under table i j) true j c) (suc (suc m)) (attribute_readable Inner m inner (rows_under table i j) true j c s)) n k b h
 
   indexed_readable : (i : ℕ) (k : List ℕ) (c : PaddedFrame) → Small c → Readable (indexed c (Inner k (form_of i (part_at table i)) c.value)) (suc (suc m))
-  indexed_readable i k c s =
-      ((not_pad_told (codes "tab") c refl, (not_pad_told (codes "attributes") c refl, pad_apart c)),
-      (s.word, (inner k (form_of i (part_at table i)) c.value s.value, pad_readable c (suc m))))
+  indexed_readable i k c s = (
+    (not_pad_told (codes "tab") c refl, (not_pad_told (codes "attributes") c refl, pad_apart c)),
+    (s.word, (inner k (form_of i (part_at table i)) c.value s.value, pad_readable c (suc m))),
+  )
 
   level_readable : (k : List ℕ) (f : Form) (b : List ℕ) → IsBytes b → Readable (shown table Inner k f b) (suc (suc (suc (suc m))))
   level_readable k (form.Record i) b h =
@@ -169,8 +173,10 @@ module _ (table : Table) (Inner : List ℕ → Form → List ℕ → Data) (m : 
       let ms = members table (Inner k) fs b in
       tested (names_apart fs && are_enough table (length b) fs) _ b (suc (suc (suc m)))
       (λ e. twice (object ms) (fields_apart table (Inner k) fs b (and_parts (names_apart fs) _ e).0, members_readable table (Inner k) m (inner k) fs b h))
-  level_readable k (form.Array i) b h = let f = form_of i (part_at table i) in twice (array (elements_of (Inner k) f (fixed table f) b)) (array_readable k f b h)
-  level_readable k (form.Times n i) b h = let f = form_of i (part_at table i) in twice (array (elements_of (Inner k) f (fixed table f) b)) (array_readable k f b h)
+  level_readable k (form.Array i) b h =
+      let f = form_of i (part_at table i) in twice (array (elements_of (Inner k) f (fixed table f) b)) (array_readable k f b h)
+  level_readable k (form.Times n i) b h =
+      let f = form_of i (part_at table i) in twice (array (elements_of (Inner k) f (fixed table f) b)) (array_readable k f b h)
   level_readable k (form.List i) b h =
       let layer = layer_of (part_at table i) in
       frames_readable (λ j c. layered layer (attribute Inner (rows_under table i j) false j c)) false (suc (suc m))

@@ -61,4 +61,4 @@ module _ (table : Table) (f : Form) (bytes : List ℕ) (h : IsBytes bytes) where
     only_memory (Read (TooDeep line column)) utf8 cause = unread cause.0
     only_memory (Read (Repeated path)) utf8 cause = never_twice (document text) shown_once cause
     only_memory (Make make.OutOfMemory) utf8 cause = refl
-    only_memory (Make (make.Wrong path wanted)) utf8 cause = absurd (none_not_some bytes (sym (cause (λ e. cc)) ∙ all_made))
+    only_memory (Make (make.Wrong path found wanted)) utf8 cause = absurd (none_not_some bytes (sym (cause (λ e. cc)) ∙ all_made))

@@ -19,7 +19,8 @@ deeper ts r j e =
 abbrev whole : Option (Json × List Token) → Option Json
 whole found = option_and_then (λ p. if_last p.0 p.1) found
 
-none_whole : (ts : List Token) (found : Option (Json × List Token)) → value 127 ts ≡ found → whole (value 128 ts) ≡ None → option_and_then of_json (whole found) ≡ None
+none_whole : (ts : List Token) (found : Option (Json × List Token)) → value 127 ts ≡ found → whole (value 128 ts) ≡ None
+    → option_and_then of_json (whole found) ≡ None
 none_whole ts None e none = refl
 none_whole ts (Some (j, r)) e none = ap (option_and_then of_json) (sym (ap whole (deeper ts r j e)) ∙ none)
 

@@ -34,7 +34,8 @@ both es fs ts us first second s new p h =
 
 -- ---- one event
 
-adds : (s new : State) (d : ℕ) (ts : List json.Token) → Plain s → new ≡ record s { tokens = s.tokens ++ ts; depth = d } → Plain new × (new.tokens ≡ s.tokens ++ ts)
+adds : (s new : State) (d : ℕ) (ts : List json.Token) → Plain s → new ≡ record s { tokens = s.tokens ++ ts; depth = d }
+    → Plain new × (new.tokens ≡ s.tokens ++ ts)
 adds s new d ts p e = (subst Plain (sym e) (record { at_key = p.at_key; flattens = p.flattens; flat = p.flat }), ap (λ (z : State). z.tokens) e)
 
 pub a_text : (v : List ℕ) → Written (text v ∷ []) (json.string v ∷ [])

@@ -30,14 +30,17 @@ mutual
   items_written no_items n h = array_ends
   items_written (item d ds) n h =
       subst (λ es. Written es (items_tokens (items_outline (item d ds)))) (sym (append_assoc (events d) (items_events ds) (seq_ends ∷ [])))
-      (both (events d) (items_events ds ++ seq_ends ∷ []) (json_tokens (outline d)) (items_tokens (items_outline ds)) (json_written d n h.0) (items_written ds n h.1))
+      (both (events d) (items_events ds ++ seq_ends ∷ []) (json_tokens (outline d)) (items_tokens (items_outline ds)) (json_written d n h.0)
+      (items_written ds n h.1))
 
   members_written : (ms : Members) (n : ℕ) → MembersReadable ms n → Written (members_events ms ++ map_ends ∷ []) (members_tokens (members_outline ms))
   members_written no_members n h = object_ends
   members_written (member k d ms) n h =
       at_field k ((events d ++ members_events ms) ++ map_ends ∷ []) (json_tokens (outline d) ++ members_tokens (members_outline ms))
-      (subst (λ es. Written es (json_tokens (outline d) ++ members_tokens (members_outline ms))) (sym (append_assoc (events d) (members_events ms) (map_ends ∷ [])))
-      (both (events d) (members_events ms ++ map_ends ∷ []) (json_tokens (outline d)) (members_tokens (members_outline ms)) (json_written d n h.0) (members_written ms n h.1)))
+      (subst (λ es. Written es (json_tokens (outline d) ++ members_tokens (members_outline ms)))
+      (sym (append_assoc (events d) (members_events ms) (map_ends ∷ [])))
+      (both (events d) (members_events ms ++ map_ends ∷ []) (json_tokens (outline d)) (members_tokens (members_outline ms)) (json_written d n h.0)
+      (members_written ms n h.1)))
 
 -- the text of JSON has its tokens
 pub text_tokens : (d : Data) (n : ℕ) (text : List ℕ) → Readable d n → IsJsonText d text → tokens text ≡ json_tokens (outline d)

@@ -47,7 +47,10 @@ impl fmt::Display for ReadError {
                 write!(f, "not JSON at line {line} column {column}")
             }
             ReadError::TooDeep { line, column } => {
-                write!(f, "more than 127 levels deep at line {line} column {column}")
+                write!(
+                    f,
+                    "more than 127 levels deep at line {line} column {column}"
+                )
             }
             ReadError::Repeated { path } => write!(f, "{path}: found twice, wanted once"),
         }
@@ -84,9 +87,29 @@ impl TextError {
     pub fn is_memory(&self) -> bool
         ensures { IsTrue result ↔ IsMemory self.now }
     {
-        matches!(self, TextError::Read(ReadError::OutOfMemory) | TextError::Make(MakeError::OutOfMemory))
+        matches!(
+            self,
+            TextError::Read(ReadError::OutOfMemory) | TextError::Make(MakeError::OutOfMemory)
+        )
     }
 }
+
+impl fmt::Display for TextError {
+    fn fmt<W: fmt::Write>(&self, f: &mut fmt::Formatter<W>) -> fmt::Result {
+        match self {
+            TextError::Read(e) => write!(f, "{e}"),
+            TextError::Make(e) => write!(f, "{e}"),
+        }
+    }
+}
+
+impl fmt::Debug for TextError {
+    fn fmt<W: fmt::Write>(&self, f: &mut fmt::Formatter<W>) -> fmt::Result {
+        write!(f, "{self}")
+    }
+}
+
+impl Error for TextError {}
 
 impl From<ReadError> for TextError {
     ghost from_gives = { λ given e. e ≡ Read given };

@@ -16,7 +16,12 @@ use tc_forms::{Form, Tables, made};
 
 /// The bytes that a text of JSON stands for in a form, by a table. Of the text that `serde_json` writes of what is
 /// shown of bytes these bytes are made, unless memory runs out.
-pub fn bytes_of_text<T: Tables>(alloc: Global, table: T, form: Form, text: &[u8]) -> Result<Vec<u8>, TextError>
+pub fn bytes_of_text<T: Tables>(
+    alloc: Global,
+    table: T,
+    form: Form,
+    text: &[u8],
+) -> Result<Vec<u8>, TextError>
     ensures made { IfOk result (λ bytes. option_and_then (made_of (T.parts_of table) form) (read text.now) ≡ Some bytes.items) }
     ensures once { OnOk result (HasNamesOnce text.now) }
     ensures cause { IfErr result (IsTextCause (T.parts_of table) form text.now) }

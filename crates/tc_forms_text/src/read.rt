@@ -1,6 +1,6 @@
 //! Text read as JSON in which no object has a name twice.
 
-ghost use Rattle.std.specs.Prelude.{◌≡◌, Some, None, IfOk, IfErr, OnOk};
+ghost use Rattle.std.specs.Prelude.{◌≡◌, Some, None, IfOk, IfErr, OnOk, IsUtf8};
 ghost use Rattle.serde_json.specs.Errors.{IsMemory};
 ghost use Rattle.serde_json.specs.Read.{read};
 ghost use Rattle.serde_json.specs.View.{view};
@@ -16,6 +16,7 @@ use std::str;
 /// Reads a text as JSON. Where an object has a name twice, `Value::from_slice` of `serde_json` keeps the last of its values;
 /// this fails.
 pub fn read_json(alloc: Global, text: &[u8]) -> Result<Value, ReadError>
+    ensures utf8 { OnOk result (IsUtf8 text.now) }
     ensures read { IfOk result (λ json. read text.now ≡ Some (view json)) }
     ensures once { OnOk result (HasNamesOnce text.now) }
     ensures cause { IfErr result (IsCause text.now) }
