@@ -1,14 +1,15 @@
-"""The tables of Linux's traffic control as forms: the kinds that the typed codec knows, by its own tables, and all others by `kinds.json`, facts of Linux's headers
-and sources with where each is from. How facts become forms is decided here: a number's name is the kernel's without its prefix, the five fields with which an
-action's parameters begin are `generic`, gaps that the compiler leaves are `padding`, and options are within an object with the name of the kind.
+"""The tables of Linux's traffic control as forms: those of the kinds that the typed codec knows are written here, and all others are made of
+`kinds.json`, facts of Linux's headers and sources with where each is from. How facts become forms is decided here: a number's name is the
+kernel's without its prefix, the five fields with which an action's parameters begin are `generic`, gaps that the compiler leaves are
+`padding`, and options are within an object with the name of the kind.
 """
 
 import json
 import os
 import re
 
-from forms import (BARE, BE16, BE32, BE64, DEEPEST, FLAG, HANDLE, HEX, I16, I32, I64, IPV4, IPV6, MAC, NESTED, TEXT, TRUTH, U8, U16, U32, U64, Form, array, choice,
-                   indexed, list_of, list_with_kinds, number, octets, padding, record)
+from forms import (BARE, BE16, BE32, BE64, DEEPEST, FLAG, HANDLE, HEX, I16, I32, I64, IPV4, IPV6, MAC, NESTED, TEXT, TRUTH, U8, U16, U32, U64,
+                   Form, array, choice, indexed, list_of, list_with_kinds, number, octets, padding, record)
 
 with open(f"{os.path.dirname(os.path.abspath(__file__))}/kinds.json", encoding="utf-8") as file:
     FACTS = json.load(file)
@@ -87,10 +88,10 @@ def fields_of(struct, *behind):
 BITFIELD = record(*each(U32, "value selector"))
 TABLES = {}
 
-def is_nested(flags, kernel="no"):
+def is_nested(seen, kernel="no"):
     """Whether iproute2 sets the nested flag, or, of what it never sends, Linux."""
-    sent = [how for how in flags or {} if how.startswith("iproute2")]
-    return any(how.endswith(" nested") for how in sent) if sent else kernel == "yes"
+    sent = (seen or {}).get("iproute2")
+    return "nested" in sent if sent else kernel == "yes"
 
 def form_of(table, fact):
     """What an attribute holds."""
@@ -125,7 +126,7 @@ def attributes_of(table, *but):
     """The rows of a table."""
     for fact in FACTS["tables"][table]["attrs"]:
         if fact["short"] not in but:
-            nested = fact["form"] == "nested" and is_nested(fact.get("seen_flags"), fact.get("kernel_nested_flag"))
+            nested = fact["form"] == "nested" and is_nested(fact.get("flags_seen"), fact.get("kernel_nested_flag"))
             yield fact["num"] | (NESTED if nested else 0), fact["short"], form_of(table, fact)
 
 def table_of(table, layer=None):
@@ -155,7 +156,7 @@ def further_options(family):
         options, of_class = facts["options"], facts.get("class_options", {"form": "none"})
         if kind == "teql":  # its kind has a number in it
             continue
-        layer, nested = camel(kind), NESTED if family == "action" or is_nested(facts.get("options_flags_seen")) else 0
+        layer, nested = camel(kind), NESTED if family == "action" or is_nested(facts.get("flags_seen")) else 0
         if options["form"] == "none":
             form = list_of() if of_class["form"] == "none" else held(of_class, layer)
         elif of_class["form"] != "none" and of_class != options:
@@ -175,10 +176,6 @@ def further_statistics(word, name):
 
 # ---- The attributes of both messages, and the options of the kinds that the typed codec knows
 
-# Whether the tables have more than the typed codec's: its kinds alone, and of these what it has rows for, are today's JSON.
-ALL = os.environ.get("FORMS") == "all"
-def more(*rows): return rows if ALL else ()
-
 def rows(first, form, names): return [(first + at, name, form) for at, name in enumerate(names.split())]
 
 FQ_CODEL_STATS = record(("FqCodel", choice(("Qdisc", bytes(4), QDISC), ("Class", b"\1\0\0\0", CLASS))))
@@ -189,39 +186,43 @@ FQ_STATS = record(
     ("since_6_7", array(record(("fastpath_packets", U64), ("band_drops", array(U64, 3)), ("band_pkt_count", array(U32, 3)), padding(4, "pad")))))
 
 def statistics(word, name):
-    return [(word, name, FQ_CODEL_STATS, "fq_codel"), *more(*(further_statistics(word, name) if ALL else ())), (word, name, choice())]
+    return [(word, name, FQ_CODEL_STATS, "fq_codel"), *further_statistics(word, name), (word, name, choice())]
 
 STATS2 = list_of((1, "Basic", BASIC), (3, "Queue", QUEUE), *statistics(4, "App"), (7, "BasicHw", BASIC),
-                 *more(*attributes_of("stats", "Basic", "Queue", "App", "BasicHw")))
+                 *attributes_of("stats", "Basic", "Queue", "App", "BasicHw"))
 GENEVE = list_of((1, "Class", BE16), (2, "Type", U8), (3, "Data", HEX))
 ERSPAN = list_of((1, "Ver", U8), (2, "Index", BE32), *rows(3, U8, "Dir Hwid"))
-ENC_OPTS = list_of((1 | NESTED, "Geneve", GENEVE), (2 | NESTED, "Vxlan", list_of((1, "Gbp", U32))), (3 | NESTED, "Erspan", ERSPAN),
+VXLAN = list_of((1, "Gbp", U32))
+ENC_OPTS = list_of((1 | NESTED, "Geneve", GENEVE), (2 | NESTED, "Vxlan", VXLAN), (3 | NESTED, "Erspan", ERSPAN),
                    (4 | NESTED, "Gtp", list_of(*rows(1, U8, "PduType Qfi"))), (5 | NESTED, "Pfcp", list_of((1, "Type", U8), (2, "Seid", BE64))))
+# For this action iproute2 sets the flag of the last two alone.
+TUNNEL_OPTS = list_of((1, "Geneve", GENEVE), (2 | NESTED, "Vxlan", VXLAN), (3 | NESTED, "Erspan", ERSPAN))
 TYPED_ACTIONS = {
-    "mirred": list_of((1, "Tm", TIMES), (2, "Parms", MIRROR), *more((3, "Pad", FLAG), (4, "Blockid", U32)), layer="Mirror"),
-    "nat": list_of((1, "Parms", NAT), (2, "Tm", TIMES), *more((3, "Pad", FLAG)), layer="Nat"),
+    "mirred": list_of((1, "Tm", TIMES), (2, "Parms", MIRROR), (3, "Pad", FLAG), (4, "Blockid", U32), layer="Mirror"),
+    "nat": list_of((1, "Parms", NAT), (2, "Tm", TIMES), (3, "Pad", FLAG), layer="Nat"),
     "tunnel_key": list_of(
         (1, "Tm", TIMES), (2, "Parms", TUNNEL_KEY), *rows(3, IPV4, "EncIpv4Src EncIpv4Dst"), *rows(5, IPV6, "EncIpv6Src EncIpv6Dst"),
         (7, "EncKeyId", BE32), (9, "EncDstPort", BE16), (10, "NoCsum", TRUTH), *rows(12, U8, "EncTos EncTtl"),
-        *more((8, "Pad", FLAG), (11 | NESTED, "EncOpts", ENC_OPTS), (14, "NoFrag", FLAG)), layer="TunnelKey"),
+        (8, "Pad", FLAG), (11, "EncOpts", TUNNEL_OPTS), (14, "NoFrag", FLAG), layer="TunnelKey"),
 }
 ACTION = list_with_kinds(
-    *[(2 | NESTED, "Options", form, kind) for kind, form in TYPED_ACTIONS.items()],
-    *more(*((word | NESTED, name, form, kind) for word, name, form, kind in (further_options("action") if ALL else ()))),
-    (2 | NESTED, "Options", list_of()), (3, "Index", U32), (4, "Stats", STATS2), (6, "Cookie", HEX), (10, "InHwCount", U32),
-    *more(*(attributes_of("action", "Kind", "Options", "Index", "Stats", "Cookie", "InHwCount") if ALL else ())), own=True)
+    *[(2 | NESTED, "Options", form, kind) for kind, form in TYPED_ACTIONS.items()], *further_options("action"), (2 | NESTED, "Options", list_of()),
+    (3, "Index", U32), (4, "Stats", STATS2), (6, "Cookie", HEX), (10, "InHwCount", U32),
+    *attributes_of("action", "Kind", "Options", "Index", "Stats", "Cookie", "InHwCount"), own=True)
 ACTIONS = indexed(ACTION)
 
 def ematch(match): return record(("flags", U16), padding(2), *match)
 EMATCH = choice(*((name, b"\0\0" + bytes([number, 0]), ematch(match)) for number, name, *match in [
     (0, "Container", ("first", U32)), (1, "Cmp", ("match", fields_of("tcf_em_cmp"))), (2, "Nbyte", ("match", fields_of("tcf_em_nbyte")), ("needle", HEX)),
     (3, "U32", ("match", KEY)), (4, "Meta", ("attributes", table_of("em_meta"))), (5, "Text", ("match", fields_of("tcf_em_text")), ("pattern", HEX)),
-    (7, "Canid", ("match", array(fields_of("can_filter")))), (8, "Ipset", ("match", fields_of("xt_set_info"))), (9, "Ipt", ("attributes", table_of("em_ipt")))]))
+    (7, "Canid", ("match", array(fields_of("can_filter")))), (8, "Ipset", ("match", fields_of("xt_set_info"))),
+    (9, "Ipt", ("attributes", table_of("em_ipt")))]))
 
 LSE = list_of(*rows(1, U8, "LseDepth LseTtl LseBos LseTc"), (5, "LseLabel", U32))
 FLOWER = list_of(
-    *more((1, "ClassId", HANDLE)), (2, "InDev", TEXT), (3, "Actions", ACTIONS), *rows(4, MAC, "EthDst EthDstMask EthSrc EthSrcMask"), (8, "EthType", BE16), (9, "IpProto", U8),
-    *rows(10, IPV4, "Ipv4Src Ipv4SrcMask Ipv4Dst Ipv4DstMask"), *rows(14, IPV6, "Ipv6Src Ipv6SrcMask Ipv6Dst Ipv6DstMask"),
+    (1, "ClassId", HANDLE), (2, "InDev", TEXT), (3, "Actions", ACTIONS), *rows(4, MAC, "EthDst EthDstMask EthSrc EthSrcMask"),
+    (8, "EthType", BE16), (9, "IpProto", U8), *rows(10, IPV4, "Ipv4Src Ipv4SrcMask Ipv4Dst Ipv4DstMask"),
+    *rows(14, IPV6, "Ipv6Src Ipv6SrcMask Ipv6Dst Ipv6DstMask"),
     *rows(18, BE16, "TcpSrc TcpDst UdpSrc UdpDst"), (22, "Flags", U32), (23, "VlanId", U16), (24, "VlanPrio", U8), (25, "VlanEthType", BE16),
     (26, "EncKeyId", BE32), *rows(27, IPV4, "EncKeyIpv4Src EncKeyIpv4SrcMask EncKeyIpv4Dst EncKeyIpv4DstMask"),
     *rows(31, IPV6, "EncKeyIpv6Src EncKeyIpv6SrcMask EncKeyIpv6Dst EncKeyIpv6DstMask"),
@@ -236,33 +237,29 @@ FLOWER = list_of(
     *rows(87, BE16, "PortSrcMin PortSrcMax PortDstMin PortDstMax"), *rows(91, U16, "CtState CtStateMask CtZone CtZoneMask"),
     *rows(95, U32, "CtMark CtMarkMask"), *rows(97, octets(16), "CtLabels CtLabelsMask"),
     (99 | NESTED, "MplsOpts", list_of((1 | NESTED, "Lse", LSE))), *rows(100, U32, "KeyHash KeyHashMask"),
-    *more(*[(word | NESTED, name, ENC_OPTS) for word, name in ((84, "EncOpts"), (85, "EncOptsMask"))], (102, "NumOfVlans", U8), *rows(103, BE16, "PppoeSid PppProto"),
-          (105, "L2tpv3Sid", BE32), (106, "L2Miss", U8), (107 | NESTED, "Cfm", list_of(*rows(1, U8, "MdLevel Opcode"))),
-          *rows(108, BE32, "Spi SpiMask EncFlags EncFlagsMask")), layer="Flower")
+    (84 | NESTED, "EncOpts", ENC_OPTS), (85 | NESTED, "EncOptsMask", ENC_OPTS), (102, "NumOfVlans", U8), *rows(103, BE16, "PppoeSid PppProto"),
+    (105, "L2tpv3Sid", BE32), (106, "L2Miss", U8), (107 | NESTED, "Cfm", list_of(*rows(1, U8, "MdLevel Opcode"))),
+    *rows(108, BE32, "Spi SpiMask EncFlags EncFlagsMask"), layer="Flower")
 OPTIONS = {
     "fq_codel": list_of(*rows(1, U32, "Target Limit Interval Ecn Flows Quantum CeThreshold DropBatchSize MemoryLimit"),
                         *rows(10, U8, "CeThresholdSelector CeThresholdMask"), layer="FqCodel"),
     "ingress": list_of(layer="Ingress"),
     "flower": FLOWER,
-    "u32": list_of((1, "ClassId", HANDLE), *rows(2, U32, "Hash Link Divisor"), (5, "Selector", SELECTOR),
-                   (6, "Police", table_of("police") if ALL else HEX), (7, "Action", ACTIONS), (8, "Indev", TEXT if ALL else HEX),
-                   (9, "Pnct", record(*each(U64, "rcnt rhit"), ("kcnts", array(U64))) if ALL else HEX),
-                   (10, "Mark", record(*each(U32, "val mask success")) if ALL else HEX), (11, "Flags", U32), *more((12, "Pad", FLAG)), layer="U32"),
-    "matchall": list_of((1, "ClassId", HANDLE), (2, "Action", ACTIONS), (3, "Flags", U32), (4, "Pnct", record(("rhit", U64)) if ALL else HEX),
-                        *more((5, "Pad", FLAG)), layer="MatchAll"),
-    "bpf": list_of((3, "ClassId", HANDLE), (6, "ProgFd", U32), (7, "ProgName", TEXT), *rows(8, U32, "Flags FlagsGeneric"), (10, "ProgTag", octets(8)),
-                   (11, "ProgId", U32), *more((1, "Act", ACTIONS), (2, "Police", table_of("police")), (4, "OpsLen", U16), (5, "Ops", array(fields_of("sock_filter")))),
-                   layer="Bpf"),
+    "u32": list_of((1, "ClassId", HANDLE), *rows(2, U32, "Hash Link Divisor"), (5, "Selector", SELECTOR), (6, "Police", table_of("police")),
+                   (7, "Action", ACTIONS), (8, "Indev", TEXT), (9, "Pnct", record(*each(U64, "rcnt rhit"), ("kcnts", array(U64)))),
+                   (10, "Mark", record(*each(U32, "val mask success"))), (11, "Flags", U32), (12, "Pad", FLAG), layer="U32"),
+    "matchall": list_of((1, "ClassId", HANDLE), (2, "Action", ACTIONS), (3, "Flags", U32), (4, "Pnct", record(("rhit", U64))), (5, "Pad", FLAG),
+                        layer="MatchAll"),
+    "bpf": list_of((1, "Act", ACTIONS), (2, "Police", table_of("police")), (3, "ClassId", HANDLE), (4, "OpsLen", U16),
+                   (5, "Ops", array(fields_of("sock_filter"))), (6, "ProgFd", U32), (7, "ProgName", TEXT), *rows(8, U32, "Flags FlagsGeneric"),
+                   (10, "ProgTag", octets(8)), (11, "ProgId", U32), layer="Bpf"),
 }
-KEPT = [*rows(5, HEX, "Rate Fcnt"), (8, "Stab", HEX)]
 TC = record(
     ("header", record(("family", FAMILY), padding(3), ("index", I32), *each(HANDLE, "handle parent"), ("info", U32))),
     ("attributes", list_with_kinds(
-        *[(2, "Options", form, kind) for kind, form in OPTIONS.items()],
-        *more(*((*further_options("qdisc"), *further_options("filter")) if ALL else ())),
-        (2, "OptionsRaw", HEX), (3, "Stats", STATS), *statistics(4, "Xstats"), (7, "Stats2", STATS2), (10, "DumpInvisible", FLAG), (11, "Chain", U32),
-        (12, "HwOffload", U8),
-        *(attributes_of("root", *"Kind Options Stats Xstats Stats2 DumpInvisible Chain HwOffload".split()) if ALL else KEPT))))
+        *[(2, "Options", form, kind) for kind, form in OPTIONS.items()], *further_options("qdisc"), *further_options("filter"), (2, "OptionsRaw", HEX),
+        (3, "Stats", STATS), *statistics(4, "Xstats"), (7, "Stats2", STATS2), (10, "DumpInvisible", FLAG), (11, "Chain", U32), (12, "HwOffload", U8),
+        *attributes_of("root", *"Kind Options Stats Xstats Stats2 DumpInvisible Chain HwOffload".split()))))
 ACTION_MESSAGE = record(
     ("header", record(("family", FAMILY), padding(3))),
     ("attributes", list_of((1, "Actions", ACTIONS), (2, "Flags", record(*each(U32, "flags selector"))), *rows(3, U32, "RootCount RootTimeDelta"),

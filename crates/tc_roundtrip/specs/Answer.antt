@@ -2,7 +2,7 @@
 use Rattle.std.specs.Prelude.{◌≡◌, ℕ, List, ◌++◌, Some, codes}
 use Rattle.serde_json.specs.Sent.{IsTextOf}
 use Rattle.tc_forms.specs.declared.form.Form.{Form}
-use Rattle.tc_forms.specs.Plain.{Table}
+use Rattle.tc_forms.specs.Tables.{Table}
 use Rattle.tc_forms.specs.Sent.{events}
 use Rattle.tc_forms.specs.Shown.{shown_of}
 use Rattle.tc_roundtrip.specs.Line.{word_of, IsLine}
