@@ -20,12 +20,6 @@ pub(crate) fn with_capacity<T>(len: usize) -> Result<Vec<T>, AllocError> {
     Ok(items)
 }
 
-pub(crate) fn list<T, const N: usize>(list: [T; N]) -> Result<Vec<T>, AllocError> {
-    let mut items = with_capacity(N)?;
-    items.extend(list);
-    Ok(items)
-}
-
 pub(crate) fn copy(bytes: &[u8]) -> Result<Vec<u8>, AllocError> {
     let mut items = with_capacity(bytes.len())?;
     items.extend_from_slice(bytes);
@@ -62,19 +56,4 @@ impl<T> Fallible<T> for Vec<T> {
         self.push(item);
         Ok(())
     }
-}
-
-/// Text as it is formatted, into a string that grows where there is memory.
-pub(crate) fn formatted(text: core::fmt::Arguments<'_>) -> Result<String, AllocError> {
-    struct Growing(String);
-    impl core::fmt::Write for Growing {
-        fn write_str(&mut self, part: &str) -> core::fmt::Result {
-            self.0.try_reserve(part.len()).map_err(|_| core::fmt::Error)?;
-            self.0.push_str(part);
-            Ok(())
-        }
-    }
-    let mut all = Growing(String::new());
-    core::fmt::write(&mut all, text).map_err(|_| AllocError)?;
-    Ok(all.0)
 }

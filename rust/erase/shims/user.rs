@@ -44,3 +44,25 @@ impl<T: Clone> Copying<T> for [T] {
         Ok(copy)
     }
 }
+
+/// These items as a list.
+pub(crate) fn list<T, const N: usize>(list: [T; N]) -> Result<Vec<T>, AllocError> {
+    let mut items = fallible::with_capacity(N)?;
+    items.extend(list);
+    Ok(items)
+}
+
+/// Text as it is formatted, into a string that grows where there is memory.
+pub(crate) fn formatted(text: core::fmt::Arguments<'_>) -> Result<String, AllocError> {
+    struct Text(String);
+    impl core::fmt::Write for Text {
+        fn write_str(&mut self, part: &str) -> core::fmt::Result {
+            self.0.try_reserve(part.len()).map_err(|_| core::fmt::Error)?;
+            self.0.push_str(part);
+            Ok(())
+        }
+    }
+    let mut all = Text(String::new());
+    core::fmt::write(&mut all, text).map_err(|_| AllocError)?;
+    Ok(all.0)
+}

@@ -65,7 +65,6 @@ pub(crate) const RULES: &[Rule] = &[
     // Allocation that fails: the module `fallible` has Rust's fallible forms.
     ("impl < T > From < AllocFailed < T > > for $x { $*b }", ""),
     ("vec ! [ in %v ; $*x ; $*n ]", "fallible::filled($*x, $*n)"),
-    ("vec ! [ in %v ; $*x ]", "fallible::list([$*x])"),
     ("Vec :: with_capacity (", "fallible::with_capacity("),
     ("Vec :: from_slice (", "fallible::copy("),
     ("String :: from_str (", "fallible::text("),
@@ -81,6 +80,11 @@ pub(crate) const RULES: &[Rule] = &[
     ("< W : Write >", ""),
     ("W : Write ,", ""),
     ("Formatter < W >", "Formatter<'_>"),
+    // Bounds that rustc can see: a header of four bytes, and what follows it.
+    (
+        "let word = self . kind ( ) ; let len = put_padded ( & mut buffer [ NLA_HEADER_SIZE .. ] , self ) ; put_header ( buffer ,",
+        "let (header, rest) = buffer.split_at_mut(NLA_HEADER_SIZE);\n        let word = self.kind();\n        let len = put_padded(rest, self);\n        put_header(header,",
+    ),
     // Calls of std that Rust has under another name, or had later.
     ("parse_ascii ( $x . as_bytes ( ) )", "from_str($x)"),
     ("Ipv4Addr :: from_octets (", "Ipv4Addr::from("),
@@ -96,7 +100,9 @@ pub(crate) const USER_RULES: &[Rule] = &[
     ("Fail :: new (", "Fail::from("),
     ("std :: test ::", "crate::user::"),
     ("# [ rattlefmt :: skip ]", ""),
-    ("format ! ( in %v ; $*x )", "fallible::formatted(format_args!($*x))"),
+    ("format ! ( in %v ; $*x )", "crate::user::formatted(format_args!($*x))"),
+    ("vec ! [ in %v ; $*x ; $*n ]", "fallible::filled($*x, $*n)"),
+    ("vec ! [ in %v ; $*x ]", "crate::user::list([$*x])"),
     (". push_str ( $*x ) ?", ".try_push_str($*x)?"),
     (". extend_from_slice (", ".try_extend("),
     (". to_vec ( %v )", ".try_to_vec()"),
