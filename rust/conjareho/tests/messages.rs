@@ -15,7 +15,10 @@ const QDISC: [u8; 44] = [
 fn a_whole_message_is_read_and_written() {
     let (netlink, rest) = Netlink::parse(&QDISC).unwrap();
     assert!(rest.is_empty());
-    assert_eq!((netlink.message_type, netlink.flags, netlink.sequence, netlink.port), (36, 0x605, 0x0607_0809, 0x0102_0304));
+    assert_eq!(
+        (netlink.message_type, netlink.flags, netlink.sequence, netlink.port),
+        (36, 0x605, 0x0607_0809, 0x0102_0304)
+    );
     let Payload::Tc(message) = &netlink.payload else { panic!("a qdisc is no action") };
     assert_eq!(message.header.index, 0x0403_0201);
     assert_eq!(message.header.handle, TcHandle { major: 0x8001, minor: 0 });

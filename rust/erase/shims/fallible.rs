@@ -1,4 +1,5 @@
 //! Collections whose growth can fail, over `try_reserve`.
+#![allow(dead_code)] // each erased crate uses some of it
 
 use alloc::{string::String, vec::Vec};
 
@@ -42,6 +43,9 @@ pub(crate) fn text(text: &str) -> Result<String, AllocError> {
 pub(crate) trait Fallible<T> {
     fn try_grow(&mut self, more: usize) -> Result<(), AllocError>;
     fn try_push(&mut self, item: T) -> Result<(), AllocError>;
+    fn try_extend(&mut self, more: &[T]) -> Result<(), AllocError>
+    where
+        T: Clone;
 }
 
 impl<T> Fallible<T> for Vec<T> {
@@ -54,6 +58,14 @@ impl<T> Fallible<T> for Vec<T> {
     fn try_push(&mut self, item: T) -> Result<(), AllocError> {
         self.try_grow(1)?;
         self.push(item);
+        Ok(())
+    }
+    fn try_extend(&mut self, more: &[T]) -> Result<(), AllocError>
+    where
+        T: Clone,
+    {
+        self.try_grow(more.len())?;
+        self.extend_from_slice(more);
         Ok(())
     }
 }

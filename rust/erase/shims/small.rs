@@ -1,4 +1,5 @@
 //! What stands for the crates arrayvec, byteorder and itoa, as far as the codec uses them.
+#![allow(dead_code)] // each erased crate uses some of it
 
 /// Texts and lists of a fixed room.
 pub mod arrayvec {
@@ -64,14 +65,24 @@ pub(crate) mod byteorder {
     pub(crate) trait ByteOrder {
         const IS_BIG: bool;
 
+        fn number<const N: usize>(bytes: &[u8]) -> [u8; N] {
+            let mut number: [u8; N] = *bytes.first_chunk().expect("the bytes of a number");
+            if Self::IS_BIG {
+                number.reverse();
+            }
+            number
+        }
+
         fn read_u16(bytes: &[u8]) -> u16 {
-            let number = u16::from_le_bytes(*bytes.first_chunk().expect("two bytes"));
-            if Self::IS_BIG { number.swap_bytes() } else { number }
+            u16::from_le_bytes(Self::number(bytes))
         }
 
         fn read_u32(bytes: &[u8]) -> u32 {
-            let number = u32::from_le_bytes(*bytes.first_chunk().expect("four bytes"));
-            if Self::IS_BIG { number.swap_bytes() } else { number }
+            u32::from_le_bytes(Self::number(bytes))
+        }
+
+        fn read_u64(bytes: &[u8]) -> u64 {
+            u64::from_le_bytes(Self::number(bytes))
         }
     }
 

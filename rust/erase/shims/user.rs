@@ -19,19 +19,6 @@ impl Growing<str> for String {
     }
 }
 
-/// Growth of lists that can fail.
-pub(crate) trait Extending<T> {
-    fn try_extend(&mut self, more: &[T]) -> Result<(), AllocError>;
-}
-
-impl<T: Clone> Extending<T> for Vec<T> {
-    fn try_extend(&mut self, more: &[T]) -> Result<(), AllocError> {
-        self.try_reserve(more.len()).map_err(|_| AllocError)?;
-        self.extend_from_slice(more);
-        Ok(())
-    }
-}
-
 /// A copy that can fail.
 pub(crate) trait Copying<T> {
     fn try_to_vec(&self) -> Result<Vec<T>, AllocError>;
