@@ -231,6 +231,16 @@ fn show_quoted<S: Serializer, M: Show>(
         (S.written out.old) (S.written out.new)) }
 {
     show_header(header, out)?;
+    show_message_if(message, alloc, out)
+}
+
+fn show_message_if<S: Serializer, M: Show>(
+    message: Option<&M>,
+    alloc: Global,
+    out: &mut S,
+) -> Result<(), S::Error>
+    ensures { OnOk result (Sent (message_if (option_map (λ m. M.events m.now) message.entry)) (S.written out.old) (S.written out.new)) }
+{
     match message {
         Some(message) => show_message(message, alloc, out),
         None => Ok(()),
@@ -247,6 +257,12 @@ fn show_origin<S: Serializer>(
     ensures { OnOk result (Sent (origin_events (option_map (λ t. t.now) time.entry) origin.now header.now) (S.written out.old) (S.written out.new)) }
 {
     show_place_in_capture(time, origin, out)?;
+    show_header_if(header, out)
+}
+
+fn show_header_if<S: Serializer>(header: &Option<Header>, out: &mut S) -> Result<(), S::Error>
+    ensures { OnOk result (Sent (header_if header.now) (S.written out.old) (S.written out.new)) }
+{
     match header {
         Some(header) => show_header(header, out),
         None => Ok(()),

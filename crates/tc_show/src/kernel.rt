@@ -105,13 +105,18 @@ impl<'a, A: Allocator + Copy> Desk<'a, A> {
             let names = self.asked.names;
             let _ = outline(&mut request, reply.request.payload, reply.request.what, &names)?;
         }
-        for line in text_of(&request).split('\n') {
-            self.page.begin(1)?;
-            self.page.text(line)?;
-        }
-        self.page.end()?;
+        put_indented(&mut self.page, text_of(&request))?;
         self.put_page()
     }
+}
+
+// Lines, indented; on one line, in braces.
+fn put_indented<A: Allocator>(page: &mut Page<A>, text: &str) -> Result<(), AllocError> {
+    for line in text.split('\n') {
+        page.begin(1)?;
+        page.text(line)?;
+    }
+    page.end()
 }
 
 // The line of what the kernel says.
@@ -167,8 +172,10 @@ fn reply_as<A: Allocator + Copy, M: Shows<A> + Drop>(
         × IsQuoted M.codec M.see M.events reply.now.answer.is_capped reply.now.request.payload.now message
         × IsAnswered reply.now.request.origin reply.now.header errno.now reply.now.quoted message line.items) }
 {
-    let message = quoted_message::<A, M>(alloc, reply.answer.is_capped, reply.request.payload)?;
-    answered_line(alloc, json, errno, reply, &message)
+    match quoted_message::<A, M>(alloc, reply.answer.is_capped, reply.request.payload)? {
+        Some(message) => answered_line(alloc, json, errno, reply, Some(&message)),
+        None => answered_line::<A, M>(alloc, json, errno, reply, None),
+    }
 }
 
 // The message of a request that is quoted, where it is read.
@@ -195,10 +202,10 @@ fn answered_line<A: Allocator + Copy, M: Shows<A>>(
     json: Global,
     errno: &str,
     reply: &Reply<'_>,
-    message: &Option<M>,
+    message: Option<&M>,
 ) -> Result<Vec<u8>, AllocError>
     ensures { IfOk result (λ line. IsAnswered reply.now.request.origin reply.now.header errno.now reply.now.quoted
-        (option_map M.events message.now) line.items) }
+        (option_map (λ m. M.events m.now) message.entry) line.items) }
 {
     let time = time_page(alloc, &reply.request.origin)?;
     let mut text = Page::new(alloc, Layout::OneLine);
@@ -215,7 +222,7 @@ fn answered_line<A: Allocator + Copy, M: Shows<A>>(
             path: some_text(&path),
         },
         request: reply.quoted,
-        message: message.as_ref(),
+        message,
         alloc: json,
     };
     json_of(json, &line)

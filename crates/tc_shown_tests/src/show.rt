@@ -1,7 +1,9 @@
 //! Runs over captures and lines of hex, whole, cut and changed, over pseudo-random bytes, and with streams and memory that
 //! fail.
 
+mod answers;
 mod arguments;
+mod captures;
 mod cuts;
 mod formats;
 mod holes;
