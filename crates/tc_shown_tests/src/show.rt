@@ -4,6 +4,7 @@
 mod answers;
 mod arguments;
 mod captures;
+mod counts;
 mod cuts;
 mod formats;
 mod holes;

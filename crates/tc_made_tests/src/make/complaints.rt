@@ -48,7 +48,7 @@ static ROWS: [(&str, &str); 20] = [
     ),
     (
         r#"{"type":"RTM_NEWQDISC","message":{"header":{"family":"Unspec","index":2,"handle":"1:","parent":"root","info":0,"a\u001b\u0007\n":1},"attributes":[]}}"#,
-        r#"/message?"#,
+        r#"/header/a\u001b\u0007\u000a: found 1, wanted no member of this name"#,
     ),
     (
         r#"{"type":"RTM_NEWQDISC","a\u0007b":1,"a\u0007b":2,"message":{"header":{"family":"Unspec","index":2,"handle":"1:","parent":"root","info":0},"attributes":[{"Kind":"fq_codel"}]}}"#,
@@ -101,5 +101,19 @@ fn each_complaint(rt: HostRuntime) -> Result<(), Fail> {
     for (line, complaint) in &ROWS {
         assert!(rt; is_said(alloc, line, complaint)?, "{complaint}");
     }
+    Ok(())
+}
+
+// A line that is too long gets a complaint, and the next is made.
+#[test]
+fn a_long_line(rt: HostRuntime) -> Result<(), Fail> {
+    let alloc = rt.alloc();
+    let mut lines = vec![in alloc; b' '; 4_194_305]?;
+    lines.extend_from_slice(
+        b"\n{\"type\":\"RTM_GETACTION\",\"message\":{\"header\":{\"family\":\"Unspec\"},\"attributes\":[]}}",
+    )?;
+    let run = made(alloc, &HEX, &lines);
+    assert!(rt; run.status == 1 && run.written.as_slice() == b"1400000032000000000000000000000000000000\n".as_slice());
+    assert!(rt; run.errors.as_slice() == b"tcmake: line 1: longer than 4194304 bytes\n".as_slice());
     Ok(())
 }
