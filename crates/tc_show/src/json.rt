@@ -41,26 +41,26 @@ pub(crate) struct Refused<'t, 'e, 'p> {
 
 /// What an answer of the kernel says of a request.
 #[derive(Clone, Copy)]
-pub(crate) struct Said<'t> {
+pub(crate) struct Said<'n, 't, 'p> {
     /// The name of the error, or its number.
-    pub(crate) errno: &'t str,
+    pub(crate) errno: &'n str,
     pub(crate) text: Option<&'t str>,
     /// Where the fault is in the request, in bytes from the end of the netlink header.
     pub(crate) offset: Option<u64>,
     /// Where it is in the message as a tree.
-    pub(crate) path: Option<&'t str>,
+    pub(crate) path: Option<&'p str>,
 }
 
 /// An answer of the kernel to a request.
 #[derive(Drop)]
-pub(crate) struct Answered<'t, 'a, M> {
-    pub(crate) time: Option<&'t str>,
+pub(crate) struct Answered<'s, 'n, 't, 'p, 'a, M> {
+    pub(crate) time: Option<&'s str>,
     pub(crate) origin: Origin,
     pub(crate) header: Header,
-    pub(crate) said: Said<'t>,
+    pub(crate) said: Said<'n, 't, 'p>,
     pub(crate) request: Header,
     /// The message of the request, where it is read.
-    pub(crate) message: Option<&'a M>,
+    pub(crate) message: &'a Option<M>,
     pub(crate) alloc: Global,
 }
 
@@ -88,13 +88,13 @@ impl<'t, 'e, 'p> Serialize for Refused<'t, 'e, 'p> {
     }
 }
 
-impl<'t, 'a, M: Show> Described for Answered<'t, 'a, M> {
+impl<'s, 'n, 't, 'p, 'a, M: Show> Described for Answered<'s, 'n, 't, 'p, 'a, M> {
     ghost writes = { λ l. Sent (answered_events (option_map (λ t. t.now) l.time) l.origin l.header
         (error_events l.said.errno.now (option_map (λ t. t.now) l.said.text) l.said.offset (option_map (λ t. t.now) l.said.path))
-        l.request (option_map (λ m. M.events m.now) l.message)) };
+        l.request (option_map M.events l.message.now)) };
 }
 
-impl<'t, 'a, M: Show> Serialize for Answered<'t, 'a, M> {
+impl<'s, 'n, 't, 'p, 'a, M: Show> Serialize for Answered<'s, 'n, 't, 'p, 'a, M> {
     fn serialize<S: Serializer>(&self, out: &mut S) -> Result<(), S::Error> {
         out.begin_map(None)?;
         self.show_members(out)?;
@@ -145,11 +145,11 @@ impl<'t, 'e, 'p> Refused<'t, 'e, 'p> {
     }
 }
 
-impl<'t, 'a, M: Show> Answered<'t, 'a, M> {
+impl<'s, 'n, 't, 'p, 'a, M: Show> Answered<'s, 'n, 't, 'p, 'a, M> {
     fn show_members<S: Serializer>(&self, out: &mut S) -> Result<(), S::Error>
         ensures { OnOk result (Sent (origin_events (option_map (λ t. t.now) self.now.time) self.now.origin (Some self.now.header)
             ++ answer_events (error_events self.now.said.errno.now (option_map (λ t. t.now) self.now.said.text) self.now.said.offset
-                (option_map (λ t. t.now) self.now.said.path)) self.now.request (option_map (λ m. M.events m.now) self.now.message))
+                (option_map (λ t. t.now) self.now.said.path)) self.now.request (option_map M.events self.now.message.now))
             (S.written out.old) (S.written out.new)) }
     {
         show_origin(self.time, &self.origin, &Some(self.header), out)?;
@@ -158,7 +158,7 @@ impl<'t, 'a, M: Show> Answered<'t, 'a, M> {
 
     fn show_answer<S: Serializer>(&self, out: &mut S) -> Result<(), S::Error>
         ensures { OnOk result (Sent (answer_events (error_events self.now.said.errno.now (option_map (λ t. t.now) self.now.said.text)
-            self.now.said.offset (option_map (λ t. t.now) self.now.said.path)) self.now.request (option_map (λ m. M.events m.now) self.now.message))
+            self.now.said.offset (option_map (λ t. t.now) self.now.said.path)) self.now.request (option_map M.events self.now.message.now))
             (S.written out.old) (S.written out.new)) }
     {
         show_error(&self.said, out)?;
@@ -167,7 +167,7 @@ impl<'t, 'a, M: Show> Answered<'t, 'a, M> {
 }
 
 // What the kernel says of a request.
-fn show_error<S: Serializer>(said: &Said<'_>, out: &mut S) -> Result<(), S::Error>
+fn show_error<S: Serializer>(said: &Said<'_, '_, '_>, out: &mut S) -> Result<(), S::Error>
     ensures { OnOk result (Sent (error_events said.now.errno.now (option_map (λ t. t.now) said.now.text) said.now.offset
         (option_map (λ t. t.now) said.now.path)) (S.written out.old) (S.written out.new)) }
 {
@@ -175,7 +175,7 @@ fn show_error<S: Serializer>(said: &Said<'_>, out: &mut S) -> Result<(), S::Erro
     show_said(said, out)
 }
 
-fn show_said<S: Serializer>(said: &Said<'_>, out: &mut S) -> Result<(), S::Error>
+fn show_said<S: Serializer>(said: &Said<'_, '_, '_>, out: &mut S) -> Result<(), S::Error>
     ensures { OnOk result (Sent (said_events (option_map (λ t. t.now) said.now.text) said.now.offset
         (option_map (λ t. t.now) said.now.path)) (S.written out.old) (S.written out.new)) }
 {
@@ -197,11 +197,11 @@ fn show_located<S: Serializer>(
 // The request that is answered.
 fn show_request<S: Serializer, M: Show>(
     header: &Header,
-    message: Option<&M>,
+    message: &Option<M>,
     alloc: Global,
     out: &mut S,
 ) -> Result<(), S::Error>
-    ensures { OnOk result (Sent (request_events header.now (option_map (λ m. M.events m.now) message.entry)) (S.written out.old) (S.written out.new)) }
+    ensures { OnOk result (Sent (request_events header.now (option_map M.events message.now)) (S.written out.old) (S.written out.new)) }
 {
     out.key("request")?;
     show_object(header, message, alloc, out)
@@ -209,11 +209,11 @@ fn show_request<S: Serializer, M: Show>(
 
 fn show_object<S: Serializer, M: Show>(
     header: &Header,
-    message: Option<&M>,
+    message: &Option<M>,
     alloc: Global,
     out: &mut S,
 ) -> Result<(), S::Error>
-    ensures { OnOk result (Sent (object (header_events header.now ++ message_if (option_map (λ m. M.events m.now) message.entry)))
+    ensures { OnOk result (Sent (object (header_events header.now ++ message_if (option_map M.events message.now)))
         (S.written out.old) (S.written out.new)) }
 {
     out.begin_map(None)?;
@@ -223,11 +223,11 @@ fn show_object<S: Serializer, M: Show>(
 
 fn show_quoted<S: Serializer, M: Show>(
     header: &Header,
-    message: Option<&M>,
+    message: &Option<M>,
     alloc: Global,
     out: &mut S,
 ) -> Result<(), S::Error>
-    ensures { OnOk result (Sent (header_events header.now ++ message_if (option_map (λ m. M.events m.now) message.entry))
+    ensures { OnOk result (Sent (header_events header.now ++ message_if (option_map M.events message.now))
         (S.written out.old) (S.written out.new)) }
 {
     show_header(header, out)?;
@@ -235,11 +235,11 @@ fn show_quoted<S: Serializer, M: Show>(
 }
 
 fn show_message_if<S: Serializer, M: Show>(
-    message: Option<&M>,
+    message: &Option<M>,
     alloc: Global,
     out: &mut S,
 ) -> Result<(), S::Error>
-    ensures { OnOk result (Sent (message_if (option_map (λ m. M.events m.now) message.entry)) (S.written out.old) (S.written out.new)) }
+    ensures { OnOk result (Sent (message_if (option_map M.events message.now)) (S.written out.old) (S.written out.new)) }
 {
     match message {
         Some(message) => show_message(message, alloc, out),

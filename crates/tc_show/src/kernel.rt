@@ -60,6 +60,18 @@ impl<'a> Reply<'a> {
         }
     }
 
+    // Shows what is wrong, as the kernel says it; in hex where it isn't UTF-8.
+    fn show_text<A: Allocator>(&self, page: &mut Page<A>) -> Result<(), AllocError> {
+        let bytes = match self.answer.text {
+            Some(text) => strip_nul(text),
+            None => return Ok(()),
+        };
+        match str::from_utf8(bytes) {
+            Ok(text) => page.text(text),
+            Err(_) => page.hex(bytes),
+        }
+    }
+
     // Shows the place of the fault in the message as a tree, where it is known.
     fn show_path<A: Allocator>(&self, page: &mut Page<A>) -> Result<(), AllocError> {
         if let Some(offset) = self.offset() {
@@ -172,10 +184,8 @@ fn reply_as<A: Allocator + Copy, M: Shows<A> + Drop>(
         × IsQuoted M.codec M.see M.events reply.now.answer.is_capped reply.now.request.payload.now message
         × IsAnswered reply.now.request.origin reply.now.header errno.now reply.now.quoted message line.items) }
 {
-    match quoted_message::<A, M>(alloc, reply.answer.is_capped, reply.request.payload)? {
-        Some(message) => answered_line(alloc, json, errno, reply, Some(&message)),
-        None => answered_line::<A, M>(alloc, json, errno, reply, None),
-    }
+    let message = quoted_message::<A, M>(alloc, reply.answer.is_capped, reply.request.payload)?;
+    answered_line(alloc, json, errno, reply, &message)
 }
 
 // The message of a request that is quoted, where it is read.
@@ -202,14 +212,15 @@ fn answered_line<A: Allocator + Copy, M: Shows<A>>(
     json: Global,
     errno: &str,
     reply: &Reply<'_>,
-    message: Option<&M>,
+    message: &Option<M>,
 ) -> Result<Vec<u8>, AllocError>
     ensures { IfOk result (λ line. IsAnswered reply.now.request.origin reply.now.header errno.now reply.now.quoted
-        (option_map (λ m. M.events m.now) message.entry) line.items) }
+        (option_map M.events message.now) line.items) }
 {
     let time = time_page(alloc, &reply.request.origin)?;
     let mut text = Page::new(alloc, Layout::OneLine);
     let mut path = Page::new(alloc, Layout::OneLine);
+    reply.show_text(&mut text)?;
     reply.show_path(&mut path)?;
     let line = Answered {
         time: some_text(&time),
@@ -217,7 +228,7 @@ fn answered_line<A: Allocator + Copy, M: Shows<A>>(
         header: reply.header,
         said: Said {
             errno,
-            text: said_text(reply, &mut text)?,
+            text: some_text(&text),
             offset: reply.offset(),
             path: some_text(&path),
         },
@@ -226,22 +237,4 @@ fn answered_line<A: Allocator + Copy, M: Shows<A>>(
         alloc: json,
     };
     json_of(json, &line)
-}
-
-// What is wrong, as the kernel says it; escaped on a page where it isn't UTF-8.
-fn said_text<'t, A: Allocator>(
-    reply: &'t Reply<'_>,
-    page: &'t mut Page<A>,
-) -> Result<Option<&'t str>, AllocError> {
-    let bytes = match reply.answer.text {
-        Some(text) => strip_nul(text),
-        None => return Ok(None),
-    };
-    match str::from_utf8(bytes) {
-        Ok(text) => Ok(Some(text)),
-        Err(_) => {
-            page.quoted(bytes)?;
-            Ok(Some(text_of(page)))
-        }
-    }
 }
