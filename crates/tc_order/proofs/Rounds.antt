@@ -37,7 +37,7 @@ or_false : (a b : Bool) → (a || b) ≡ false → (a ≡ false) × (b ≡ false
 or_false false b is = (refl, is)
 or_false true b is = absurd (cc is)
 
-module _ {K A : Type 0} (eq : K → K → Bool) where
+module _ {K : Type 0} (eq : K → K → Bool) where
   -- what is wanted of none of these keys is wanted of neither part
   split_any : (wants xs ys : List K) → list_any (λ key. list_any (eq key) (xs ++ ys)) wants ≡ false
       → (list_any (λ key. list_any (eq key) xs) wants ≡ false) × (list_any (λ key. list_any (eq key) ys) wants ≡ false)
@@ -48,11 +48,12 @@ module _ {K A : Type 0} (eq : K → K → Bool) where
       let rest = split_any wants xs ys two.1 in
       (rw (here.0, rest.0) refl, rw (here.1, rest.1) refl)
 
+module _ {K A : Type 0} (eq : K → K → Bool) where
   -- a step that waits for none of these needs none of them
   none_needed : (step : Step K A) (left : List (Step K A)) → waits eq left step ≡ false → AllByRecursion (λ other. needs eq step other ≡ false) left
   none_needed step [] is = tt
   none_needed step (x ∷ left) is =
-      let two = split_any step.wants.items x.gives.items (given left) is in
+      let two = split_any eq step.wants.items x.gives.items (given left) is in
       (two.0, none_needed step left two.1)
 
   module _ (steps : List (Step K A)) where

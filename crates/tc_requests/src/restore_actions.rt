@@ -3,13 +3,15 @@
 ghost use Rattle.std.specs.Prelude.{◌≡◌, ◌≤◌, ◌+◌, length, map, IfOk, IfErr};
 ghost use Rattle.std.specs.List.{list_any};
 ghost use Rattle.nla_frames.specs.DefaultNla.{kept_frame};
+ghost use Rattle.nla_frames.specs.Place.{kinds_set};
+ghost use Rattle.tc_meaning.specs.Own.{kind_of_attribute};
 ghost use Rattle.tc_actions.specs.Action.{tc_action};
 ghost use Rattle.tc_actions.specs.ActionAttribute.{action_attribute};
 ghost use Rattle.tc_action_options.specs.ActionOption.{action_option};
 ghost use Rattle.tc_requests.specs.declared.restore_error.RestoreError.TheVariants.{OutOfMemory};
-ghost use Rattle.tc_requests.specs.Restoring.{Gives, seen};
+ghost use Rattle.tc_requests.specs.Restoring.{Gives, seen, seen_part, sole_kind};
 ghost use Rattle.tc_requests.specs.RestoredActions.{only_dumped, is_only_dumped, changes_label, dumped_types, with_cell_log, has_rate, rate_table, rate_tables};
-ghost use Rattle.tc_requests.specs.RestoredActions.{raw_option_restored, option_restored, estimates, attribute_restored, action_restored};
+ghost use Rattle.tc_requests.specs.RestoredActions.{raw_option_restored, option_kept, option_restored, estimates, attribute_restored, action_restored};
 
 use crate::numbers::{number_at, with_number};
 use crate::restore::{Restore, is_of, restore_all, restore_behind, sole_kind};
@@ -81,6 +83,14 @@ fn changes_label<A: Allocator>(option: &TcActionOption<A>) -> bool
     }
 }
 
+// The one kind that the attributes of an action set, or "".
+fn kind_of_action<A: Allocator>(attributes: &[TcActionAttribute<A>]) -> &str
+    ensures { result.now
+        ≡ sole_kind (kinds_set kind_of_attribute (map action_attribute attributes.now)) }
+{
+    sole_kind(attributes)
+}
+
 impl<A: Allocator + Copy> Restore<A> for TcAction<A> {
     ghost shown = { tc_action };
 
@@ -98,7 +108,7 @@ impl<A: Allocator + Copy> Restore<A> for TcAction<A> {
             return Err(RestoreError::TooManyActions);
         }
         // The kind is in the attributes, which are taken apart.
-        let kind = String::from_str(alloc, sole_kind(&self.attributes))?;
+        let kind = String::from_str(alloc, kind_of_action(&self.attributes))?;
         let attributes = restore_all(alloc, self.attributes, &kind, info)?;
         Ok(Some(TcAction {
             tab: place as u16,
@@ -177,15 +187,27 @@ impl<A: Allocator + Copy> Restore<A> for TcActionOption<A> {
         _place: usize,
     ) -> Result<Option<TcActionOption<A>>, RestoreError> {
         if is_only_dumped(&self, types) {
-            return Ok(None);
+            Ok(None)
+        } else {
+            kept_option(alloc, kind, self)
         }
-        match self {
-            TcActionOption::Other(nla) => {
-                let nla = restored_raw_option(alloc, kind, nla)?;
-                Ok(Some(TcActionOption::Other(nla)))
-            }
-            option => Ok(Some(option)),
+    }
+}
+
+// An option that isn't only dumped.
+fn kept_option<A: Allocator + Copy>(
+    alloc: A,
+    kind: &str,
+    option: TcActionOption<A>,
+) -> Result<Option<TcActionOption<A>>, RestoreError>
+    ensures { Gives (seen_part action_option result) (option_kept kind.now option) }
+{
+    match option {
+        TcActionOption::Other(nla) => {
+            let nla = restored_raw_option(alloc, kind, nla)?;
+            Ok(Some(TcActionOption::Other(nla)))
         }
+        option => Ok(Some(option)),
     }
 }
 

@@ -1,13 +1,15 @@
 //! Dumps made into the requests that restore them.
 
-ghost use Rattle.std.specs.Prelude.{◌≡◌, Ok, IfOk, IfErr};
+ghost use Rattle.std.specs.Prelude.{◌≡◌, map, Ok, IfOk, IfErr};
 ghost use Rattle.tc_canon.specs.Canonical.{CanonTc, CanonAct};
 ghost use Rattle.tc_meaning.specs.Whole.{tc_bytes, FitsTc, SettledTc, act_bytes, FitsAct, SettledAct};
 ghost use Rattle.tc_messages.specs.Message.{tc_message};
 ghost use Rattle.tc_attributes.specs.Attribute.{tc_attribute};
 ghost use Rattle.tc_action_messages.specs.ActionMessage.{action_message};
 ghost use Rattle.tc_action_messages.specs.ActionMessageAttribute.{action_message_attribute};
-ghost use Rattle.tc_requests.specs.Restoring.{Gives, seen};
+ghost use Rattle.nla_frames.specs.Place.{kinds_set};
+ghost use Rattle.tc_meaning.specs.Own.{kind_of_attribute};
+ghost use Rattle.tc_requests.specs.Restoring.{Gives, seen, sole_kind};
 ghost use Rattle.tc_requests.specs.RestoredMessages.{attribute_restored, lacks_table};
 ghost use Rattle.tc_requests.specs.RestoredMessages.{tc_restored, action_attribute_restored, actions_message_restored};
 ghost use Rattle.tc_requests.specs.RequestOf.{new_type, has_own_classes, is_made, request_restored, RefusedBy};
@@ -127,17 +129,25 @@ fn is_made<A: Allocator>(object: Object, dump: &TcMessage<A>) -> bool
     match object {
         Object::Qdisc => u32::from(dump.header.handle) == 0,
         Object::Class => {
-            dump.header.handle.minor == 0 || !has_own_classes(sole_kind(&dump.attributes))
+            dump.header.handle.minor == 0 || !has_own_classes(kind_of_message(&dump.attributes))
         }
         Object::Filter => {
             let handle = u32::from(dump.header.handle);
             handle == 0
                 || handle >= 0x8000_0000
                     && handle % 0x10_0000 == 0
-                    && sole_kind(&dump.attributes) == "u32"
+                    && kind_of_message(&dump.attributes) == "u32"
         }
         Object::Chain => false,
     }
+}
+
+// The one kind that the attributes of a message set, or "".
+fn kind_of_message<A: Allocator>(attributes: &[TcAttribute<A>]) -> &str
+    ensures { result.now
+        ≡ sole_kind (kinds_set kind_of_attribute (map tc_attribute attributes.now)) }
+{
+    sole_kind(attributes)
 }
 
 // True of the kinds of qdiscs whose classes are made by requests.
@@ -170,7 +180,7 @@ fn restored_message<A: Allocator + Copy>(
 {
     let TcMessage { header, attributes } = dump;
     // The kind is in the attributes, which are taken apart.
-    let kind = String::from_str(alloc, sole_kind(&attributes))?;
+    let kind = String::from_str(alloc, kind_of_message(&attributes))?;
     let attributes = restore_all(alloc, attributes, &kind, header.info)?;
     if attributes.is_empty() {
         return Err(RestoreError::NothingLeft);
