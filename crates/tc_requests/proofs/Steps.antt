@@ -1,9 +1,11 @@
 -- A list whose elements are restored one after the other.
-use Rattle.std.proofs.Common.{◌≡◌, ℕ, ◌+◌, List, [], ◌∷◌, ◌++◌, Option, Some, None, Ok, Err, refl, sym, ap, ◌∙◌, append_assoc}
+use Rattle.std.proofs.Common.{◌≡◌, ℕ, ◌+◌, List, [], ◌∷◌, ◌++◌, map, Option, Some, None, Ok, Err, refl, sym, ap, ◌∙◌, append_assoc}
 use Rattle.std.proofs.lemmas.List.{append-nil}
 use Rattle.tc_requests.specs.declared.restore_error.RestoreError.{RestoreError}
 use Rattle.tc_requests.specs.declared.restore_error.RestoreError.TheVariants.{OutOfMemory, NotSettled}
 use Rattle.tc_meaning.specs.Message.{Message}
+use Rattle.tc_meaning.specs.Tree.{Attribute}
+use Rattle.tc_requests.specs.RestoredMessages.{some_left}
 use Rattle.tc_requests.specs.RequestOf.{RefusedBy}
 use Rattle.tc_requests.specs.Restoring.{Restored, ◌>>=◌, in_front, each, behind, Gives}
 
@@ -51,3 +53,13 @@ module _ {T X : Type 0} (edit : ℕ → T → Restored (Option X)) (n : ℕ) (x 
 pub step_end : {T X : Type 0} (edit : ℕ → T → Restored (Option X)) (n : ℕ) (xs : List X) → behind xs (each edit n []) ≡ Ok xs
 unfolding each
 step_end edit n xs = ap Ok (append-nil xs)
+
+-- something that is left
+pub some_is : (xs : List Attribute) → (xs ≡ [] → ⊥) → some_left xs ≡ Ok xs
+some_is [] not_none = absurd (not_none refl)
+some_is (x ∷ xs) not_none = refl
+
+-- two maps are one
+pub map_twice : {X Y Z : Type 0} (f : Y → Z) (g : X → Y) (xs : List X) → map f (map g xs) ≡ map (λ x. f (g x)) xs
+map_twice f g [] = refl
+map_twice f g (x ∷ xs) = ap (λ l. f (g x) ∷ l) (map_twice f g xs)

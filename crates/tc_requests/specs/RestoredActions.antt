@@ -12,7 +12,6 @@ use Rattle.tc_stats.specs.declared.stats2.TcStats2.{TcStats2}
 use Rattle.tc_stats.specs.declared.stats2.TcStats2.TheVariants as stats2
 use Rattle.tc_action_options.specs.ActionOption.{action_option}
 use Rattle.tc_actions.specs.ActionAttribute.{action_attribute}
-use Rattle.tc_actions.specs.Action.{listed}
 use Rattle.tc_actions.specs.declared.actions.action.TcAction.{TcAction}
 use Rattle.tc_actions.specs.declared.actions.attribute.TcActionAttribute.{TcActionAttribute}
 use Rattle.tc_actions.specs.declared.actions.attribute.TcActionAttribute.TheVariants as attribute
@@ -46,7 +45,6 @@ only_dumped kind =
     else if bytes_eq kind (codes "skbmod") then 1 ∷ 6 ∷ []
     else if bytes_eq kind (codes "sample") then 1 ∷ 6 ∷ []
     else if bytes_eq kind (codes "ct") then 2 ∷ 15 ∷ []
-    else if bytes_eq kind (codes "mpls") then 1 ∷ 3 ∷ []
     else if bytes_eq kind (codes "ctinfo") then 1 ∷ 2 ∷ 8 ∷ 9 ∷ 10 ∷ []
     else if bytes_eq kind (codes "gate") then 1 ∷ 3 ∷ []
     else []
@@ -73,8 +71,12 @@ changes_label (Other nla) = (type_of (kept_frame nla).word == 2) && (nat_le 24 (
 changes_label x = false
 
 -- such a request has no protocol (`TCA_MPLS_PROTO`, 4), which is dumped
+abbrev pub mpls_types : Bool → List ℕ
+mpls_types true = 1 ∷ 3 ∷ 4 ∷ []
+mpls_types false = 1 ∷ 3 ∷ []
+
 abbrev pub dumped_types : {A : Type 0} → List ℕ → List (TcActionOption A) → List ℕ
-dumped_types kind options = if bytes_eq kind (codes "mpls") && list_any changes_label options then 1 ∷ 3 ∷ 4 ∷ [] else only_dumped kind
+dumped_types kind options = if bytes_eq kind (codes "mpls") then mpls_types (list_any changes_label options) else only_dumped kind
 
 -- a rate of police, 12 bytes, of which the first is the cell log, and the last four are the rate: the kernel refuses a rate
 -- without a cell log, which it doesn't dump
@@ -91,19 +93,24 @@ abbrev pub has_rate : {A : Type 0} → ℕ → TcActionOption A → Bool
 has_rate at (Other nla) = (type_of (kept_frame nla).word == 1) && (nat_le 56 (length (kept_frame nla).value) && not (number_at at (kept_frame nla).value == 0))
 has_rate at x = false
 
+unfoldable pub zeros : ℕ → List ℕ
+zeros n = replicate n 0
+
 -- a rate table of 1024 bytes, which the kernel wants and doesn't dump. What is in it only tells the link layer, and zeros are
 -- Ethernet, unless the rate names one
-unfoldable pub rate_table : ℕ → Attribute
-rate_table n = other n (replicate 1024 0)
+abbrev pub rate_table : ℕ → Attribute
+rate_table n = other n (zeros 1024)
 
 abbrev pub table_if : ℕ → Bool → List Attribute
 table_if n true = rate_table n ∷ []
 table_if n false = []
 
 -- `TCA_POLICE_RATE` (2) and `TCA_POLICE_PEAKRATE` (3)
+abbrev pub police_tables : {A : Type 0} → List (TcActionOption A) → List Attribute
+police_tables options = table_if 2 (list_any (has_rate 28) options) ++ table_if 3 (list_any (has_rate 40) options)
+
 abbrev pub rate_tables : {A : Type 0} → List ℕ → List (TcActionOption A) → List Attribute
-rate_tables kind options =
-    if bytes_eq kind (codes "police") then table_if 2 (list_any (has_rate 28) options) ++ table_if 3 (list_any (has_rate 40) options) else []
+rate_tables kind options = if bytes_eq kind (codes "police") then police_tables options else []
 
 -- an option that is kept raw; an eBPF program that is dumped by its number (`TCA_ACT_BPF_ID`, 9) can't be loaded again
 abbrev pub raw_option_restored : List ℕ → Frame → Restored Frame
@@ -124,19 +131,26 @@ abbrev pub estimates : {A : Type 0} → TcStats2 A → Bool
 estimates (stats2.Other nla) = is_of (2 ∷ 5 ∷ []) nla
 estimates x = false
 
+-- options of an action of a kind
+abbrev pub options_restored : {A : Type 0} → List ℕ → List (TcActionOption A) → Restored (List Attribute)
+options_restored kind options = behind (rate_tables kind options) (each (option_restored kind (dumped_types kind options)) 1 options)
+
 -- statistics are left out, the count of hardware, the hardware's kinds of statistics (9) and padding (5); options are restored
 abbrev pub attribute_restored : {A : Type 0} → List ℕ → ℕ → TcActionAttribute A → Restored (Option Attribute)
 attribute_restored kind n (attribute.Options options) =
-    behind (rate_tables kind options.items) (each (option_restored kind (dumped_types kind options.items)) 1 options.items)
-    >>= λ xs. stays (known 2 (items (attributes_of xs)))
+    options_restored kind options.items >>= λ xs. stays (known 2 (items (attributes_of xs)))
 attribute_restored kind n (attribute.Stats stats) = if list_any estimates stats.items then Err Estimator else left_out
 attribute_restored kind n (attribute.InHwCount count) = left_out
 attribute_restored kind n (attribute.Other nla) = if is_of (5 ∷ 9 ∷ []) nla then left_out else stays (action_attribute (attribute.Other nla))
 attribute_restored kind n x = stays (action_attribute x)
 
+-- the one kind that the attributes of an action set, or none
+abbrev pub kind_of_action : {A : Type 0} → List (TcActionAttribute A) → List ℕ
+kind_of_action attributes = sole_kind (kinds_set (λ x. kind_of_attribute (action_attribute x)) attributes)
+
 -- an action has its place for its type, at most 32, since the kernel ignores those after it
 abbrev pub action_restored : {A : Type 0} → ℕ → TcAction A → Restored (Option Attribute)
 action_restored n action =
     if nat_lt 32 n then Err TooManyActions
-    else each (attribute_restored (sole_kind (kinds_set kind_of_attribute (listed action)))) 1 action.attributes.items
+    else each (attribute_restored (kind_of_action action.attributes.items)) 1 action.attributes.items
     >>= λ xs. stays (known n (items (attributes_of xs)))

@@ -18,10 +18,10 @@ use Rattle.tc_action_messages.specs.declared.attribute.TcActionMessageAttribute.
 use Rattle.tc_action_messages.specs.declared.attribute.TcActionMessageAttribute.TheVariants as action_attribute
 use Rattle.tc_action_messages.specs.declared.message.TcActionMessage.{TcActionMessage}
 use Rattle.tc_requests.specs.declared.restore_error.RestoreError.TheVariants.{SizeTable, NothingLeft, Estimator}
-use Rattle.tc_requests.specs.Restoring.{Restored, ◌>>=◌, stays, left_out, each, behind, sole_kind}
+use Rattle.tc_requests.specs.Restoring.{Restored, ◌>>=◌, stays, left_out, each, sole_kind}
 use Rattle.tc_requests.specs.RestoredActions.{estimates, is_of}
 use Rattle.tc_requests.specs.RestoredRaw.{raw_restored}
-use Rattle.tc_requests.specs.RestoredOptions.{actions_restored, outer_type, option_restored}
+use Rattle.tc_requests.specs.RestoredOptions.{actions_restored, options_restored}
 
 -- a size table is dumped as its parameters alone, 28 bytes, the last four of them the table's size
 abbrev pub lacks_table : List ℕ → Bool
@@ -30,7 +30,7 @@ lacks_table bytes = (length bytes == 28) && nat_lt 0 (slice_index bytes 24 + sli
 -- statistics are left out, and what else only the kernel writes: a count, an offload, padding (9) and a warning (16)
 abbrev pub attribute_restored : {A : Type 0} → List ℕ → ℕ → ℕ → TcAttribute A → Restored (Option Attribute)
 attribute_restored kind info n (attribute.Options options) =
-    behind (outer_type kind info) (each (option_restored info) 1 options.items) >>= λ xs. stays (known 2 (items (attributes_of xs)))
+    options_restored kind info options.items >>= λ xs. stays (known 2 (items (attributes_of xs)))
 attribute_restored kind info n (attribute.OptionsRaw nla) = raw_restored kind (kept_frame nla) >>= λ f. stays (kept 2 f.word f.value)
 attribute_restored kind info n (attribute.Stats stats) = left_out
 attribute_restored kind info n (attribute.Xstats xstats) = left_out
@@ -48,7 +48,7 @@ some_left xs = Ok xs
 
 -- the one kind that a message sets, or none
 abbrev pub kind_of_message : {A : Type 0} → TcMessage A → List ℕ
-kind_of_message m = sole_kind (kinds_set kind_of_attribute (map tc_attribute m.attributes.items))
+kind_of_message m = sole_kind (kinds_set (λ x. kind_of_attribute (tc_attribute x)) m.attributes.items)
 
 -- the header stays as it is
 abbrev pub tc_restored : {A : Type 0} → TcMessage A → Restored Message

@@ -1,5 +1,5 @@
 -- What becomes of options.
-use Rattle.std.specs.Prelude.{ℕ, Bool, ◌==◌, ◌&&◌, ◌||◌, List, [], ◌∷◌, codes, bytes_eq, bit_and, Option, Err, if◌then◌else◌}
+use Rattle.std.specs.Prelude.{ℕ, Bool, true, false, ◌==◌, ◌||◌, List, [], ◌∷◌, codes, bytes_eq, bit_and, Option, Err, if◌then◌else◌}
 use Rattle.tc_meaning.specs.Tree.{Attribute, known, number, items, attributes_of, of_kind}
 use Rattle.tc_requests.specs.declared.restore_error.RestoreError.TheVariants.{ProgramByNumber, RawActions, PoliceOfFilter}
 use Rattle.tc_records.specs.FilterFlags.{option_flags_word}
@@ -24,7 +24,7 @@ use Rattle.tc_options.specs.declared.options.TcOption.TheVariants.{FqCodel, Flow
 use Rattle.tc_actions.specs.declared.actions.action.TcAction.{TcAction}
 use Rattle.tc_texts.specs.Info.{protocol_of}
 use Rattle.tc_requests.specs.CodelTimes.{time_set}
-use Rattle.tc_requests.specs.Restoring.{Restored, ◌>>=◌, stays, left_out, each, seen_part}
+use Rattle.tc_requests.specs.Restoring.{Restored, ◌>>=◌, stays, left_out, each, behind, seen_part}
 use Rattle.tc_requests.specs.RestoredActions.{action_restored, is_of}
 
 -- a filter's flags without `InHw` (4) and `NotInHw` (8)
@@ -47,9 +47,12 @@ abbrev pub is_outer : ℕ → Bool
 is_outer protocol = (protocol == 0x8100) || ((protocol == 0x88a8) || (protocol == 0x8864))
 
 -- the protocol of the header, in front of the options of such a filter
+abbrev pub type_if : Bool → ℕ → List Attribute
+type_if true protocol = of_kind (codes "flower") (known 8 (number protocol)) ∷ []
+type_if false protocol = []
+
 abbrev pub outer_type : List ℕ → ℕ → List Attribute
-outer_type kind info =
-    if bytes_eq kind (codes "flower") && is_outer (protocol_of info) then of_kind (codes "flower") (known 8 (number (protocol_of info))) ∷ [] else []
+outer_type kind info = if bytes_eq kind (codes "flower") then type_if (is_outer (protocol_of info)) (protocol_of info) else []
 
 abbrev pub flower_restored : {A : Type 0} → ℕ → TcFilterFlowerOption A → Restored (Option Attribute)
 flower_restored info (flower.EthType n) = if is_outer (protocol_of info) then left_out else stays (known 8 (number n))
@@ -83,7 +86,7 @@ bpf_restored (bpf.ProgId n) = Err ProgramByNumber
 bpf_restored (bpf.Other nla) = if is_of (1 ∷ []) nla then Err RawActions else stays (bpf_option (bpf.Other nla))
 bpf_restored x = stays (bpf_option x)
 
--- an option of a message with this `info` in its header
+-- an option of a message with this word `info` in its header
 abbrev pub option_restored : {A : Type 0} → ℕ → ℕ → TcOption A → Restored (Option Attribute)
 option_restored info n (FqCodel option) = stays (of_kind (codes "fq_codel") (fq_codel_restored option))
 option_restored info n (Flower option) = seen_part (of_kind (codes "flower")) (flower_restored info option)
@@ -91,3 +94,7 @@ option_restored info n (U32 option) = seen_part (of_kind (codes "u32")) (u32_res
 option_restored info n (MatchAll option) = seen_part (of_kind (codes "matchall")) (matchall_restored option)
 option_restored info n (Bpf option) = seen_part (of_kind (codes "bpf")) (bpf_restored option)
 option_restored info n x = stays (tc_option x)
+
+-- options of a message of a kind
+abbrev pub options_restored : {A : Type 0} → List ℕ → ℕ → List (TcOption A) → Restored (List Attribute)
+options_restored kind info options = behind (outer_type kind info) (each (option_restored info) 1 options)

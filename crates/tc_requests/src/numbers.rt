@@ -24,10 +24,11 @@ pub(crate) fn with_number<A: Allocator>(
     number: u32,
 ) -> Result<Vec<u8, A>, AllocError>
     requires { at + 4 ≤ length bytes.now }
-    ensures { IfOk result (λ made. made.items ≡ with_number at number bytes.now) }
+    ensures bytes { IfOk result (λ made. made.items ≡ with_number at number bytes.now) }
+    ensures len { IfOk result (λ made. length made.items ≡ length bytes.now) }
 {
-    let (front, rest) = bytes.split_at(at);
-    let (_, rest) = rest.split_at(4);
+    let (front, _) = bytes.split_at(at);
+    let (_, rest) = bytes.split_at(at + 4);
     let mut made = Vec::with_capacity(alloc, bytes.len())?;
     made.extend_from_slice(front)?;
     made.extend_from_slice(&u32_bytes(number))?;

@@ -67,6 +67,20 @@ pub(crate) fn restore_behind<T: Restore<A>, A: Allocator + Copy>(
     Ok(made)
 }
 
+// All parts of a list, under the kind that it sets itself.
+pub(crate) fn restore_own<T: Restore<A> + SetsKind, A: Allocator + Copy>(
+    alloc: A,
+    items: Vec<T, A>,
+    info: u32,
+) -> Result<Vec<T, A>, RestoreError>
+    ensures { Gives (seen (λ made. map T.shown made.items) result)
+        (each (T.restored (sole_kind (kinds_set T.sets items.items)) info []) 1 items.items) }
+{
+    // The kind is in the list, which is taken apart.
+    let kind = String::from_str(alloc, sole_kind(&items))?;
+    restore_all(alloc, items, kind.as_str(), info)
+}
+
 // The one kind that a list sets, or "".
 pub(crate) fn sole_kind<T: SetsKind>(items: &[T]) -> &str
     ensures { result.now ≡ sole_kind (kinds_set T.sets items.now) }

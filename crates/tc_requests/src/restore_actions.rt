@@ -1,20 +1,18 @@
 //! Actions, as they are in a request: counted from 1, without statistics and times.
 
-ghost use Rattle.std.specs.Prelude.{◌≡◌, ◌≤◌, ◌+◌, length, map, IfOk, IfErr};
+ghost use Rattle.std.specs.Prelude.{◌≡◌, ◌≤◌, ◌+◌, ◌++◌, length, map, IfOk, IfErr};
 ghost use Rattle.std.specs.List.{list_any};
 ghost use Rattle.nla_frames.specs.DefaultNla.{kept_frame};
-ghost use Rattle.nla_frames.specs.Place.{kinds_set};
-ghost use Rattle.tc_meaning.specs.Own.{kind_of_attribute};
 ghost use Rattle.tc_actions.specs.Action.{tc_action};
 ghost use Rattle.tc_actions.specs.ActionAttribute.{action_attribute};
 ghost use Rattle.tc_action_options.specs.ActionOption.{action_option};
 ghost use Rattle.tc_requests.specs.declared.restore_error.RestoreError.TheVariants.{OutOfMemory};
-ghost use Rattle.tc_requests.specs.Restoring.{Gives, seen, seen_part, sole_kind};
-ghost use Rattle.tc_requests.specs.RestoredActions.{only_dumped, is_only_dumped, changes_label, dumped_types, with_cell_log, has_rate, rate_table, rate_tables};
-ghost use Rattle.tc_requests.specs.RestoredActions.{raw_option_restored, option_kept, option_restored, estimates, attribute_restored, action_restored};
+ghost use Rattle.tc_requests.specs.Restoring.{Gives, seen, seen_part};
+ghost use Rattle.tc_requests.specs.RestoredActions.{only_dumped, is_only_dumped, changes_label, mpls_types, dumped_types, with_cell_log, has_rate, zeros, rate_table, table_if, rate_tables};
+ghost use Rattle.tc_requests.specs.RestoredActions.{raw_option_restored, option_kept, option_restored, options_restored, estimates, attribute_restored, action_restored};
 
 use crate::numbers::{number_at, with_number};
-use crate::restore::{Restore, is_of, restore_all, restore_behind, sole_kind};
+use crate::restore::{Restore, is_of, restore_behind, restore_own};
 use crate::restore_error::RestoreError;
 use nla_frames::{DefaultNla, NLA_TYPE_MASK, Nla};
 use std::alloc::{AllocError, Allocator};
@@ -47,7 +45,6 @@ fn only_dumped(kind: &str) -> &'static [u16]
         "skbmod" => &[1, 6],
         "sample" => &[1, 6],
         "ct" => &[2, 15],
-        "mpls" => &[1, 3],
         "ctinfo" => &[1, 2, 8, 9, 10],
         "gate" => &[1, 3],
         _ => &[],
@@ -58,11 +55,24 @@ fn only_dumped(kind: &str) -> &'static [u16]
 fn dumped_types<A: Allocator>(kind: &str, options: &[TcActionOption<A>]) -> &'static [u16]
     ensures { result.now ≡ dumped_types kind.now options.now }
 {
-    if kind == "mpls" && options.iter().any(|option| changes_label(option)) {
-        &[1, 3, 4]
+    if kind == "mpls" {
+        mpls_types(is_change(options))
     } else {
         only_dumped(kind)
     }
+}
+
+fn mpls_types(is_change: bool) -> &'static [u16]
+    ensures { result.now ≡ mpls_types is_change }
+{
+    if is_change { &[1, 3, 4] } else { &[1, 3] }
+}
+
+// True if the parameters of mpls are among these, and change a label or its time to live.
+fn is_change<A: Allocator>(options: &[TcActionOption<A>]) -> bool
+    ensures { result ≡ list_any changes_label options.now }
+{
+    options.iter().any(|option| changes_label(option))
 }
 
 // True of the parameters of mpls that change a label or its time to live.
@@ -83,14 +93,6 @@ fn changes_label<A: Allocator>(option: &TcActionOption<A>) -> bool
     }
 }
 
-// The one kind that the attributes of an action set, or "".
-fn kind_of_action<A: Allocator>(attributes: &[TcActionAttribute<A>]) -> &str
-    ensures { result.now
-        ≡ sole_kind (kinds_set kind_of_attribute (map action_attribute attributes.now)) }
-{
-    sole_kind(attributes)
-}
-
 impl<A: Allocator + Copy> Restore<A> for TcAction<A> {
     ghost shown = { tc_action };
 
@@ -107,9 +109,7 @@ impl<A: Allocator + Copy> Restore<A> for TcAction<A> {
         if place > MOST_ACTIONS {
             return Err(RestoreError::TooManyActions);
         }
-        // The kind is in the attributes, which are taken apart.
-        let kind = String::from_str(alloc, kind_of_action(&self.attributes))?;
-        let attributes = restore_all(alloc, self.attributes, &kind, info)?;
+        let attributes = restore_own(alloc, self.attributes, info)?;
         Ok(Some(TcAction {
             tab: place as u16,
             attributes,
@@ -132,9 +132,7 @@ impl<A: Allocator + Copy> Restore<A> for TcActionAttribute<A> {
     ) -> Result<Option<TcActionAttribute<A>>, RestoreError> {
         match self {
             TcActionAttribute::Options(options) => {
-                let tables = rate_tables(alloc, kind, &options)?;
-                let types = dumped_types(kind, &options);
-                let options = restore_behind(alloc, tables, options, kind, info, types)?;
+                let options = restored_options(alloc, kind, info, options)?;
                 Ok(Some(TcActionAttribute::Options(options)))
             }
             TcActionAttribute::Stats(stats) => {
@@ -155,6 +153,21 @@ impl<A: Allocator + Copy> Restore<A> for TcActionAttribute<A> {
             attribute => Ok(Some(attribute)),
         }
     }
+}
+
+// The options of an action of a kind.
+fn restored_options<A: Allocator + Copy>(
+    alloc: A,
+    kind: &str,
+    info: u32,
+    options: Vec<TcActionOption<A>, A>,
+) -> Result<Vec<TcActionOption<A>, A>, RestoreError>
+    ensures { Gives (seen (λ made. map action_option made.items) result)
+        (options_restored kind.now options.items) }
+{
+    let tables = rate_tables(alloc, kind, &options)?;
+    let types = dumped_types(kind, &options);
+    restore_behind(alloc, tables, options, kind, info, types)
 }
 
 // True if there are statistics of an estimator.
@@ -259,23 +272,52 @@ fn rate_tables<A: Allocator + Copy>(
         ≡ rate_tables kind.now options.now) }
     ensures memory { IfErr result (λ e. e ≡ OutOfMemory) }
 {
-    let mut made = Vec::new(alloc);
     if kind == "police" {
-        if options.iter().any(|option| has_rate(option, 28)) {
-            made.push(rate_table(alloc, 2)?)?;
-        }
-        if options.iter().any(|option| has_rate(option, 40)) {
-            made.push(rate_table(alloc, 3)?)?;
-        }
+        let front = with_table(alloc, Vec::new(alloc), 2, has_any_rate(options, 28))?;
+        Ok(with_table(alloc, front, 3, has_any_rate(options, 40))?)
+    } else {
+        Ok(Vec::new(alloc))
+    }
+}
+
+// Options with a rate table behind them, if it is needed.
+fn with_table<A: Allocator + Copy>(
+    alloc: A,
+    front: Vec<TcActionOption<A>, A>,
+    number: u16,
+    is_needed: bool,
+) -> Result<Vec<TcActionOption<A>, A>, AllocError>
+    ensures { IfOk result (λ made. map action_option made.items
+        ≡ map action_option front.items ++ table_if number is_needed) }
+{
+    let mut made = front;
+    if is_needed {
+        made.push(rate_table(alloc, number)?)?;
     }
     Ok(made)
+}
+
+// True if the record of police is among these, with a rate whose number is at this place.
+fn has_any_rate<A: Allocator>(options: &[TcActionOption<A>], at: usize) -> bool
+    requires { at + 4 ≤ 56 }
+    ensures { result ≡ list_any (has_rate at) options.now }
+{
+    options.iter().any(|option| has_rate(option, at))
 }
 
 fn rate_table<A: Allocator>(alloc: A, number: u16) -> Result<TcActionOption<A>, AllocError>
     ensures { IfOk result (λ option. action_option option ≡ rate_table number) }
 {
-    let zeros = vec![in alloc; 0u8; 1024]?;
-    Ok(TcActionOption::Other(DefaultNla::new(number, zeros)))
+    let table = zeros(alloc, 1024)?;
+    Ok(TcActionOption::Other(DefaultNla::new(number, table)))
+}
+
+#[tactic(auto, unfolding(crate::specs::RestoredActions::zeros))]
+fn zeros<A: Allocator>(alloc: A, count: usize) -> Result<Vec<u8, A>, AllocError>
+    ensures { IfOk result (λ made. made.items ≡ zeros count) }
+{
+    let made = vec![in alloc; 0u8; count]?;
+    Ok(made)
 }
 
 // True of the record of police if it has a rate whose number is at this place.

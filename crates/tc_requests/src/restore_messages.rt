@@ -1,23 +1,21 @@
 //! Dumps made into the requests that restore them.
 
-ghost use Rattle.std.specs.Prelude.{◌≡◌, map, Ok, IfOk, IfErr};
+ghost use Rattle.std.specs.Prelude.{◌≡◌, bytes_eq, codes, Ok, IfOk, IfErr};
 ghost use Rattle.tc_canon.specs.Canonical.{CanonTc, CanonAct};
 ghost use Rattle.tc_meaning.specs.Whole.{tc_bytes, FitsTc, SettledTc, act_bytes, FitsAct, SettledAct};
 ghost use Rattle.tc_messages.specs.Message.{tc_message};
 ghost use Rattle.tc_attributes.specs.Attribute.{tc_attribute};
 ghost use Rattle.tc_action_messages.specs.ActionMessage.{action_message};
 ghost use Rattle.tc_action_messages.specs.ActionMessageAttribute.{action_message_attribute};
-ghost use Rattle.nla_frames.specs.Place.{kinds_set};
-ghost use Rattle.tc_meaning.specs.Own.{kind_of_attribute};
-ghost use Rattle.tc_requests.specs.Restoring.{Gives, seen, sole_kind};
-ghost use Rattle.tc_requests.specs.RestoredMessages.{attribute_restored, lacks_table};
+ghost use Rattle.tc_requests.specs.Restoring.{Gives, seen};
+ghost use Rattle.tc_requests.specs.RestoredMessages.{attribute_restored, lacks_table, kind_of_message};
 ghost use Rattle.tc_requests.specs.RestoredMessages.{tc_restored, action_attribute_restored, actions_message_restored};
 ghost use Rattle.tc_requests.specs.RequestOf.{new_type, has_own_classes, is_made, request_restored, RefusedBy};
 
-use crate::restore::{Restore, is_of, restore_all, restore_behind, sole_kind};
+use crate::restore::{Restore, is_of, restore_all, restore_own, sole_kind};
 use crate::restore_actions::has_estimator;
 use crate::restore_error::RestoreError;
-use crate::restore_options::outer_type;
+use crate::restore_options::restored_options;
 use crate::restore_raw::restored_raw;
 use std::alloc::Allocator;
 use tc_action_messages::{TcActionMessage, TcActionMessageAttribute};
@@ -128,26 +126,33 @@ fn is_made<A: Allocator>(object: Object, dump: &TcMessage<A>) -> bool
 {
     match object {
         Object::Qdisc => u32::from(dump.header.handle) == 0,
-        Object::Class => {
-            dump.header.handle.minor == 0 || !has_own_classes(kind_of_message(&dump.attributes))
-        }
+        Object::Class => dump.header.handle.minor == 0 || !is_own_class(dump),
         Object::Filter => {
             let handle = u32::from(dump.header.handle);
-            handle == 0
-                || handle >= 0x8000_0000
-                    && handle % 0x10_0000 == 0
-                    && kind_of_message(&dump.attributes) == "u32"
+            handle == 0 || handle >= 0x8000_0000 && handle % 0x10_0000 == 0 && is_u32(dump)
         }
         Object::Chain => false,
     }
 }
 
-// The one kind that the attributes of a message set, or "".
-fn kind_of_message<A: Allocator>(attributes: &[TcAttribute<A>]) -> &str
-    ensures { result.now
-        ≡ sole_kind (kinds_set kind_of_attribute (map tc_attribute attributes.now)) }
+// True of a class of a qdisc whose classes are made by requests.
+fn is_own_class<A: Allocator>(dump: &TcMessage<A>) -> bool
+    ensures { result ≡ has_own_classes (kind_of_message dump.now) }
 {
-    sole_kind(attributes)
+    has_own_classes(kind_of_message(dump))
+}
+
+fn is_u32<A: Allocator>(dump: &TcMessage<A>) -> bool
+    ensures { result ≡ bytes_eq (kind_of_message dump.now) (codes "u32") }
+{
+    kind_of_message(dump) == "u32"
+}
+
+// The one kind that a message sets, or "".
+fn kind_of_message<A: Allocator>(dump: &TcMessage<A>) -> &str
+    ensures { result.now ≡ kind_of_message dump.now }
+{
+    sole_kind(&dump.attributes)
 }
 
 // True of the kinds of qdiscs whose classes are made by requests.
@@ -179,9 +184,7 @@ fn restored_message<A: Allocator + Copy>(
     ensures { Gives (seen tc_message result) (tc_restored dump) }
 {
     let TcMessage { header, attributes } = dump;
-    // The kind is in the attributes, which are taken apart.
-    let kind = String::from_str(alloc, kind_of_message(&attributes))?;
-    let attributes = restore_all(alloc, attributes, &kind, header.info)?;
+    let attributes = restore_own(alloc, attributes, header.info)?;
     if attributes.is_empty() {
         return Err(RestoreError::NothingLeft);
     }
@@ -242,8 +245,7 @@ impl<A: Allocator + Copy> Restore<A> for TcAttribute<A> {
     ) -> Result<Option<TcAttribute<A>>, RestoreError> {
         match self {
             TcAttribute::Options(options) => {
-                let front = outer_type(alloc, kind, info)?;
-                let options = restore_behind(alloc, front, options, kind, info, &[])?;
+                let options = restored_options(alloc, kind, info, options)?;
                 Ok(Some(TcAttribute::Options(options)))
             }
             TcAttribute::OptionsRaw(nla) => {

@@ -1,6 +1,7 @@
 //! Options of filters, as they are in a request: with their flags cleared, without counts, their actions counted from 1.
 
-ghost use Rattle.std.specs.Prelude.{◌≡◌, map, IfOk, IfErr};
+ghost use Rattle.std.specs.Prelude.{◌≡◌, ◌∷◌, [], codes, map, IfOk, IfErr};
+ghost use Rattle.tc_meaning.specs.Tree.{known, number, of_kind};
 ghost use Rattle.tc_records.specs.FilterFlags.{option_flags_word};
 ghost use Rattle.tc_qdiscs.specs.FqCodel.{fq_codel_option};
 ghost use Rattle.tc_flower.specs.Flower.{flower_option};
@@ -9,14 +10,14 @@ ghost use Rattle.tc_filters.specs.MatchAll.{matchall_option};
 ghost use Rattle.tc_filters.specs.Bpf.{bpf_option};
 ghost use Rattle.tc_options.specs.Options.{tc_option};
 ghost use Rattle.tc_requests.specs.declared.restore_error.RestoreError.TheVariants.{OutOfMemory};
-ghost use Rattle.tc_requests.specs.Restoring.{Gives, seen_part};
-ghost use Rattle.tc_requests.specs.RestoredOptions.{cleared, fq_codel_restored, is_outer, outer_type, flower_restored, u32_restored, matchall_restored, bpf_restored, option_restored};
+ghost use Rattle.tc_requests.specs.Restoring.{Gives, seen, seen_part};
+ghost use Rattle.tc_requests.specs.RestoredOptions.{cleared, fq_codel_restored, is_outer, type_if, outer_type, flower_restored, u32_restored, matchall_restored, bpf_restored, option_restored, options_restored};
 
 use crate::codel_times::time_set;
-use crate::restore::{Restore, is_of, restore_all};
+use crate::restore::{Restore, is_of, restore_all, restore_behind};
 use crate::restore_error::RestoreError;
 use bitflags::Flags;
-use std::alloc::Allocator;
+use std::alloc::{AllocError, Allocator};
 use tc_options::{
     TcFilterBpfOption, TcFilterFlowerOption, TcFilterMatchAllOption, TcFilterU32Option, TcOption,
 };
@@ -82,7 +83,7 @@ fn is_outer(protocol: u16) -> bool
 }
 
 // The protocol of the header, in front of the options of a flower filter of such a protocol.
-pub(crate) fn outer_type<A: Allocator>(
+fn outer_type<A: Allocator>(
     alloc: A,
     kind: &str,
     info: u32,
@@ -90,12 +91,50 @@ pub(crate) fn outer_type<A: Allocator>(
     ensures seen { IfOk result (λ made. map tc_option made.items ≡ outer_type kind.now info) }
     ensures memory { IfErr result (λ e. e ≡ OutOfMemory) }
 {
-    let mut made = Vec::new(alloc);
     let protocol = info_protocol(info);
-    if kind == "flower" && is_outer(protocol) {
-        made.push(TcOption::Flower(TcFilterFlowerOption::EthType(protocol)))?;
+    if kind == "flower" {
+        Ok(type_if(alloc, is_outer(protocol), protocol)?)
+    } else {
+        Ok(Vec::new(alloc))
     }
+}
+
+// This `EthType`, if it is needed.
+fn type_if<A: Allocator>(
+    alloc: A,
+    is_needed: bool,
+    protocol: u16,
+) -> Result<Vec<TcOption<A>, A>, AllocError>
+    ensures { IfOk result (λ made. map tc_option made.items ≡ type_if is_needed protocol) }
+{
+    if is_needed {
+        one_type(alloc, protocol)
+    } else {
+        Ok(Vec::new(alloc))
+    }
+}
+
+fn one_type<A: Allocator>(alloc: A, protocol: u16) -> Result<Vec<TcOption<A>, A>, AllocError>
+    ensures { IfOk result (λ made. map tc_option made.items
+        ≡ of_kind (codes "flower") (known 8 (number protocol)) ∷ []) }
+{
+    let mut made = Vec::with_capacity(alloc, 1)?;
+    made.push(TcOption::Flower(TcFilterFlowerOption::EthType(protocol)))?;
     Ok(made)
+}
+
+// The options of a message of a kind.
+pub(crate) fn restored_options<A: Allocator + Copy>(
+    alloc: A,
+    kind: &str,
+    info: u32,
+    options: Vec<TcOption<A>, A>,
+) -> Result<Vec<TcOption<A>, A>, RestoreError>
+    ensures { Gives (seen (λ made. map tc_option made.items) result)
+        (options_restored kind.now info options.items) }
+{
+    let front = outer_type(alloc, kind, info)?;
+    restore_behind(alloc, front, options, kind, info, &[])
 }
 
 fn restored_flower<A: Allocator + Copy>(

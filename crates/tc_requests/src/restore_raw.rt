@@ -1,7 +1,8 @@
 //! Options of qdiscs that are kept raw, as they are in a request.
 
 ghost use Rattle.std.specs.Prelude.{◌≡◌, Ok, map, IfOk, IfErr};
-ghost use Rattle.nla_frames.specs.DefaultNla.{kept_frame};
+ghost use Rattle.nla_frames.specs.DefaultNla.{kept_frame, kept_codec};
+ghost use Rattle.nla_frames.specs.Emission.{list_bytes};
 ghost use Rattle.tc_requests.specs.declared.restore_error.RestoreError.TheVariants.{OutOfMemory};
 ghost use Rattle.tc_requests.specs.Restoring.{Gives, seen};
 ghost use Rattle.tc_requests.specs.RestoredRaw.{htb_frame, codel_frame, frame_restored, list_restored, sfq_restored, raw_restored, is_codel_time};
@@ -44,11 +45,24 @@ fn restored_list<A: Allocator + Copy>(
         Err(_) => return Ok(nla),
     };
     let frames = restored_frames(alloc, kind, frames)?;
-    match list_checked_len(&frames) {
+    let bytes = emitted(alloc, &frames)?;
+    Ok(DefaultNla::new(nla.kind(), bytes))
+}
+
+// The bytes of a list.
+fn emitted<A: Allocator + Copy>(
+    alloc: A,
+    frames: &[DefaultNla<A>],
+) -> Result<Vec<u8, A>, RestoreError>
+    ensures bytes { IfOk result (λ bytes. bytes.items
+        ≡ list_bytes kept_codec.write (map kept_frame frames.now)) }
+    ensures memory { IfErr result (λ e. e ≡ OutOfMemory) }
+{
+    match list_checked_len(frames) {
         Some(len) => {
             let mut bytes = vec![in alloc; 0u8; len]?;
-            emit_list(&frames, &mut bytes);
-            Ok(DefaultNla::new(nla.kind(), bytes))
+            emit_list(frames, &mut bytes);
+            Ok(bytes)
         }
         // Longer than what they were cut from, which was in memory.
         None => Err(RestoreError::OutOfMemory),
