@@ -1,5 +1,5 @@
 -- A list whose elements are restored one after the other.
-use Rattle.std.proofs.Common.{◌≡◌, ℕ, ◌+◌, List, [], ◌∷◌, ◌++◌, map, Option, Some, None, Ok, Err, refl, sym, ap, ◌∙◌, append_assoc}
+use Rattle.std.proofs.Common.{◌≡◌, ℕ, ◌+◌, List, [], ◌∷◌, ◌++◌, map, Option, Some, None, Ok, Err, refl, sym, ap, append_assoc}
 use Rattle.std.proofs.lemmas.List.{append-nil}
 use Rattle.tc_requests.specs.declared.restore_error.RestoreError.{RestoreError}
 use Rattle.tc_requests.specs.declared.restore_error.RestoreError.TheVariants.{OutOfMemory, NotSettled}

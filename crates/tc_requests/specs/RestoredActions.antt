@@ -1,6 +1,6 @@
 -- What becomes of actions.
 use Rattle.std.specs.Prelude.{ℕ, ◌+◌, ◌%◌, List, [], ◌∷◌, ◌++◌, length, replicate, codes, bytes_eq, nat_lt, nat_le, ◌==◌, ◌&&◌, ◌||◌}
-use Rattle.std.specs.Prelude.{Bool, true, false, not, Option, Some, Ok, Err, if◌then◌else◌}
+use Rattle.std.specs.Prelude.{Bool, true, false, not, Option, Ok, Err, if◌then◌else◌}
 use Rattle.std.specs.List.{list_any}
 use Rattle.nla_frames.specs.DefaultNla.{kept_frame}
 use Rattle.nla_frames.specs.declared.default_nla.DefaultNla.{DefaultNla}

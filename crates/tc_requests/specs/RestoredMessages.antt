@@ -1,13 +1,13 @@
 -- What becomes of attributes and messages.
-use Rattle.std.specs.Prelude.{ℕ, Bool, false, List, [], ◌∷◌, ◌&&◌, codes, bytes_eq, bit_and}
-use Rattle.std.specs.Prelude.{nat_lt, length, ◌+◌, slice_index, ◌==◌, map, Option, Some, Ok, Err, if◌then◌else◌}
+use Rattle.std.specs.Prelude.{ℕ, Bool, List, [], ◌∷◌, ◌&&◌}
+use Rattle.std.specs.Prelude.{nat_lt, length, ◌+◌, slice_index, ◌==◌, Option, Ok, Err, if◌then◌else◌}
 use Rattle.std.specs.List.{list_any}
 use Rattle.nla_frames.specs.DefaultNla.{kept_frame}
 use Rattle.nla_frames.specs.Place.{kinds_set}
 use Rattle.tc_meaning.specs.Own.{kind_of_attribute}
 use Rattle.tc_meaning.specs.Tree.{Attribute, known, kept, is_bytes, items, attributes_of}
 use Rattle.tc_meaning.specs.Message.{Message}
-use Rattle.tc_records.specs.Header.{header_scalars, handle_number}
+use Rattle.tc_records.specs.Header.{header_scalars}
 use Rattle.tc_records.specs.Actions.{action_message_header_scalars}
 use Rattle.tc_attributes.specs.Attribute.{tc_attribute}
 use Rattle.tc_attributes.specs.declared.attribute.TcAttribute.{TcAttribute}

@@ -1,4 +1,4 @@
-use Rattle.std.proofs.Common.{◌≡◌, [], map, length, refl, ap, arith}
+use Rattle.std.proofs.Common.{map, length, refl, ap, arith}
 use Rattle.std.proofs.lemmas.Grind.{common_steps}
 use Rattle.tc_attributes.specs.Attribute.{tc_attribute}
 use Rattle.tc_requests.proofs.Steps.{some_is}

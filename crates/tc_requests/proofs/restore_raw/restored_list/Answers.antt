@@ -1,4 +1,4 @@
-use Rattle.std.proofs.Common.{rules, ◌≡◌, [], map, Ok, refl, ap, ◌∙◌}
+use Rattle.std.proofs.Common.{rules, ◌≡◌, [], map, Ok, refl}
 use Rattle.nla_frames.specs.DefaultNla.{kept_frame, kept_codec}
 use Rattle.nla_frames.specs.Emission.{list_bytes}
 use Rattle.nla_frames.specs.Reading.{read_list, keep}
