@@ -1,11 +1,11 @@
 -- One round: the steps that wait for none go behind the order, and the others stay.
-use Rattle.std.proofs.Common.{◌≡◌, ℕ, Bool, true, false, not, cond, ◌||◌, List, [], ◌∷◌, ◌++◌, All, IsPermutation, refl, sym, ap, subst, ◌∙◌, append_assoc, append-nil, ⊎_elim}
+use Rattle.std.proofs.Common.{◌≡◌, Bool, true, false, not, cond, ◌||◌, List, [], ◌∷◌, ◌++◌, All, IsPermutation, refl, sym, ap, subst, ◌∙◌, append_assoc, append-nil, ⊎_elim}
 use Rattle.std.specs.List.{list_any, filter, Contains, AllByRecursion}
 use Rattle.std.proofs.lemmas.List.Folds.{list_any-append}
 use Rattle.std.proofs.lemmas.List.Elements.{All-contains, All-from_recursion, recursion_from_All, filter-append, filter_passes}
 use Rattle.std.proofs.lemmas.List.Elements.{Contains-append_left, Contains-append_cases}
 use Rattle.std.proofs.lemmas.List.Sorted.{IsPermutation-trans, IsPermutation-append_right, IsPermutation-append_comm, IsPermutation-filter_both, Contains-permutation}
-use Rattle.tc_order.specs.Order.{given, waits, needs, IsOrder, none, next}
+use Rattle.tc_order.specs.Order.{given, waits, needs, IsOrder, next}
 use Rattle.tc_order.specs.declared.order.Step.{Step}
 
 -- tests that agree

@@ -1,5 +1,5 @@
 -- Steps in an order in which each finds what it needs.
-use Rattle.std.specs.Prelude.{◌≡◌, ℕ, Bool, true, List, [], ◌∷◌, ◌++◌}
+use Rattle.std.specs.Prelude.{◌≡◌, Bool, true, List, [], ◌∷◌, ◌++◌}
 use Rattle.std.specs.List.{list_any, flat_map, Contains}
 use Rattle.tc_order.specs.declared.order.Step.{Step}
 

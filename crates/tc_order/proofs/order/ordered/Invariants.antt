@@ -1,4 +1,4 @@
-use Rattle.std.proofs.Common.{◌≡◌, ◌++◌, ◌+◌, ◌≤◌, length, IsPermutation}
+use Rattle.std.proofs.Common.{◌++◌, ◌+◌, ◌≤◌, length, IsPermutation}
 use Rattle.tc_order.specs.Order.{IsOrder}
 use Rattle.tc_order.proofs.order.ordered.Given as goal
 
