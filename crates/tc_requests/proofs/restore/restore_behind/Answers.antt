@@ -1,27 +1,27 @@
-use Rattle.std.proofs.Common.{◌≡◌, ◌+◌, length, List, [], ◌∷◌, map, sym, ap, ◌∙◌, arith, rules}
+use Rattle.std.proofs.Common.{◌≡◌, ◌+◌, length, [], map, sym, ap, ◌∙◌, arith}
 use Rattle.std.proofs.lemmas.List.{map_push, nil_from_length}
 use Rattle.std.proofs.lemmas.Result.{err_from_is_err_and}
 use Rattle.std.specs.Vec.Iter.{into_iter_items}
-use Rattle.tc_requests.specs.Restoring.{each}
-use Rattle.tc_requests.proofs.Steps.{gives_err, with_front, front_none, step_kept, step_left, step_fails, step_end}
-use Rattle.tc_requests.proofs.restore.restore_all.Goals as goal
+use Rattle.tc_requests.specs.Restoring.{each, behind}
+use Rattle.tc_requests.proofs.Steps.{gives_err, step_kept, step_left, step_fails, step_end}
+use Rattle.tc_requests.proofs.restore.restore_behind.Goals as goal
 
 pub returns-in_err-one : goal.returns-in_err-one
 returns-in_err-one g c =
     let t = g.T.Restore in
-    let edit = t.restored c.args.types.now in
+    let edit = t.restored c.args.kind.now c.args.info c.args.types.now in
     let xs = map t.shown c.loop-item.made.items in
     let p = err_from_is_err_and c.from_residual-in_err-one.result c.from_residual-in_err-one.ensures.1 in
-    let here = ap (λ l. with_front xs (each edit (c.loop-item.place + 1) l)) (sym c.in-Some.ensures.steps.0) ∙ c.loop-item.invariant.3 in
+    let here = ap (λ l. behind xs (each edit (c.loop-item.place + 1) l)) (sym c.in-Some.ensures.steps.0) ∙ c.loop-item.invariant.3 in
     rw (p.1, p.2) (gives_err c.in_err-one.field-0.0 _ _ c.in_err-one.ensures
     (λ is. sym here ∙ step_fails edit (c.loop-item.place + 1) c.in-Some.item (into_iter_items c.next.new.self) xs c.in_err-one.field-0.0 is))
 
 pub loop-item-preserved-in-Continue-branch-4 : goal.loop-item-preserved-in-Continue-branch-4
 loop-item-preserved-in-Continue-branch-4 g c =
     let t = g.T.Restore in
-    let edit = t.restored c.args.types.now in
+    let edit = t.restored c.args.kind.now c.args.info c.args.types.now in
     let xs = map t.shown c.loop-item.made.items in
-    let here = ap (λ l. with_front xs (each edit (c.loop-item.place + 1) l)) (sym c.in-Some.ensures.steps.0) ∙ c.loop-item.invariant.3 in
+    let here = ap (λ l. behind xs (each edit (c.loop-item.place + 1) l)) (sym c.in-Some.ensures.steps.0) ∙ c.loop-item.invariant.3 in
     let given = rw c.in-Some-2.is at c.in_ok-one.ensures in (
       tt,
       tt,
@@ -33,9 +33,9 @@ loop-item-preserved-in-Continue-branch-4 g c =
 pub loop-item-preserved : goal.loop-item-preserved
 loop-item-preserved g c =
     let t = g.T.Restore in
-    let edit = t.restored c.args.types.now in
+    let edit = t.restored c.args.kind.now c.args.info c.args.types.now in
     let xs = map t.shown c.loop-item.made.items in
-    let here = ap (λ l. with_front xs (each edit (c.loop-item.place + 1) l)) (sym c.in-Some.ensures.steps.0) ∙ c.loop-item.invariant.3 in
+    let here = ap (λ l. behind xs (each edit (c.loop-item.place + 1) l)) (sym c.in-Some.ensures.steps.0) ∙ c.loop-item.invariant.3 in
     let given = rw c.in-None-2.is at c.in_ok-one.ensures in (
       tt,
       tt,
@@ -46,7 +46,7 @@ loop-item-preserved g c =
 pub returns : goal.returns
 returns g c =
     let t = g.T.Restore in
-    let edit = t.restored c.args.types.now in
+    let edit = t.restored c.args.kind.now c.args.info c.args.types.now in
     let xs = map t.shown c.loop-item.made.items in
     let none : into_iter_items c.loop-item.item-iterator ≡ [] = nil_from_length _ (omega (arith, c.loop-item.item-iterator.rest.ok.0, c.in-None.ensures.steps.0)) in
-    sym c.loop-item.invariant.3 ∙ ap (λ l. with_front xs (each edit (c.loop-item.place + 1) l)) none ∙ step_end edit (c.loop-item.place + 1) xs
+    sym c.loop-item.invariant.3 ∙ ap (λ l. behind xs (each edit (c.loop-item.place + 1) l)) none ∙ step_end edit (c.loop-item.place + 1) xs
