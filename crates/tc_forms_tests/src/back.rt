@@ -5,7 +5,9 @@ use std::test::Fail;
 use tc_forms::{Form, Shown};
 use tc_forms_text::bytes_of_text;
 use tc_kinds::{ACTION_MESSAGE, TC_MESSAGE, TcTables};
-use tc_test_messages::{self as messages, Input, Row, captured, cut_and_changed, large_messages, made};
+use tc_test_messages::{
+    self as messages, Input, Row, captured, cut_and_changed, large_messages, made,
+};
 
 /// The form of a message.
 pub(crate) fn form_of(form: messages::Form) -> Form {

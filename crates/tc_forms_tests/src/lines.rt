@@ -24,7 +24,8 @@ not-utf8 tc \xff
 upper tc DEAD
 none action";
 
-static ANSWERS: &str = r#"header tc same {"header":{"family":"Unspec","index":0,"handle":"0:0","parent":"0:0","info":0},"attributes":[]}
+static ANSWERS: &str =
+    r#"header tc same {"header":{"family":"Unspec","index":0,"handle":"0:0","parent":"0:0","info":0},"attributes":[]}
 header action same {"header":{"family":"Unspec"},"attributes":[]}
 upper tc same {"raw":"dead"}
 none action same {"raw":""}
@@ -87,7 +88,10 @@ fn an_input_that_fails(rt: HostRuntime) -> core::result::Result<(), Fail> {
     let (mut written, mut errors) = (Vec::new(alloc), Vec::new(alloc));
     let reader = BufReader::new(alloc, fails_with(ErrorKind::Other))?;
     let status = serve(alloc, MESSAGES, reader, &mut written, &mut errors);
-    assert_eq!(rt; written.as_slice(), b"header action same {\"header\":{\"family\":\"Unspec\"},\"attributes\":[]}\n".as_slice());
+    assert_eq!(rt;
+        written.as_slice(),
+        b"header action same {\"header\":{\"family\":\"Unspec\"},\"attributes\":[]}\n".as_slice()
+    );
     assert_eq!(rt; errors.as_slice(), b"tcforms: read failed\n".as_slice());
     assert_eq!(rt; status, 3);
     Ok(())

@@ -25,8 +25,13 @@ fn error_of(alloc: Global, text: &[u8]) -> Result<String, Fail> {
     match bytes_of_text(alloc, TcTables, TC_MESSAGE, text) {
         Ok(_) => Ok(String::from_str(alloc, "made")?),
         Err(TextError::Read(e)) => Ok(format!(in alloc; "{e}")?),
-        Err(TextError::Make(MakeError::OutOfMemory)) => Ok(String::from_str(alloc, "out of memory")?),
-        Err(TextError::Make(MakeError::Wrong { path, wanted })) => Ok(format!(in alloc; "{path}: wanted {wanted}")?),
+        Err(TextError::Make(MakeError::OutOfMemory)) => Ok(String::from_str(
+            alloc,
+            "out of memory",
+        )?),
+        Err(TextError::Make(MakeError::Wrong { path, wanted })) => Ok(format!(in alloc;
+            "{path}: wanted {wanted}"
+        )?),
     }
 }
 
@@ -34,7 +39,10 @@ fn error_of(alloc: Global, text: &[u8]) -> Result<String, Fail> {
 fn error_of_attributes(alloc: Global, attributes: &str) -> Result<String, Fail> {
     let header =
         r#"{"header":{"family":"Unspec","index":2,"handle":"1:","parent":"root","info":0},"attributes":["#;
-    error_of(alloc, format!(in alloc; "{header}{attributes}]}}")?.as_bytes())
+    error_of(
+        alloc,
+        format!(in alloc; "{header}{attributes}]}}")?.as_bytes(),
+    )
 }
 
 #[test]

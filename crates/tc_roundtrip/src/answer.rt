@@ -63,7 +63,15 @@ fn verdict_on<T: Tables>(
 {
     let again = match bytes_of_text(alloc, table, form, json.as_bytes()) {
         Ok(again) => again,
-        Err(e) => return if e.is_memory() { Err(AllocError) } else { Ok("differs") },
+        Err(e) => return if e.is_memory() {
+            Err(AllocError)
+        } else {
+            Ok("differs")
+        },
     };
-    Ok(if again.as_slice() == bytes { "same" } else { "differs" })
+    Ok(if again.as_slice() == bytes {
+        "same"
+    } else {
+        "differs"
+    })
 }

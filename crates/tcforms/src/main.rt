@@ -2,9 +2,9 @@
 #![tactic(auto)]
 
 use std::process::ExitCode;
+use tc_kinds::{ACTION_MESSAGE, TC_MESSAGE, TcTables};
 use tc_roundtrip::mode::Messages;
 use tc_roundtrip::program::tcforms;
-use tc_kinds::{ACTION_MESSAGE, TC_MESSAGE, TcTables};
 
 fn main(rt: HostRuntime) -> ExitCode {
     let messages = Messages {
