@@ -86,8 +86,13 @@ pub(crate) fn fixed_width<T: Tables>(table: T, form: Form) -> Option<usize>
 {
     match form {
         Form::Number(number) | Form::Named(number, _) => Some(number.width()),
-        Form::Handle => Some(4),
+        Form::Handle | Form::Ipv4 => Some(4),
+        Form::Flag => Some(0),
+        Form::Truth => Some(1),
         Form::Bytes(len) | Form::Pad(len) => Some(len),
-        _ => width(table, DEEPEST, form),
+        Form::Mac => Some(6),
+        Form::Ipv6 => Some(16),
+        Form::Record(_) | Form::Times(_, _) => width(table, DEEPEST, form),
+        _ => None,
     }
 }
