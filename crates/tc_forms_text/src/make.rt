@@ -24,7 +24,7 @@ pub fn bytes_of_text<T: Tables>(
 ) -> Result<Vec<u8>, TextError>
     ensures made { IfOk result (λ bytes. option_and_then (made_of (T.parts_of table) form) (read text.now) ≡ Some bytes.items) }
     ensures once { OnOk result (HasNamesOnce text.now) }
-    ensures cause { IfErr result (IsTextCause (T.parts_of table) form text.now) }
+    ensures refused { IfErr result (IsTextCause (T.parts_of table) form text.now) }
     ensures shown { (bytes : List ℕ) → IsBytes bytes → IsUtf8 text.now
         → IsJsonText (shown_of (T.parts_of table) form bytes) text.now
         → MatchResult result (λ made. made.items ≡ bytes) IsMemory }

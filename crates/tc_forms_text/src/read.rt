@@ -19,7 +19,7 @@ pub fn read_json(alloc: Global, text: &[u8]) -> Result<Value, ReadError>
     ensures utf8 { OnOk result (IsUtf8 text.now) }
     ensures read { IfOk result (λ json. read text.now ≡ Some (view json)) }
     ensures once { OnOk result (HasNamesOnce text.now) }
-    ensures cause { IfErr result (IsCause text.now) }
+    ensures refused { IfErr result (IsCause text.now) }
 {
     match str::from_utf8(text) {
         Ok(text) => read_text(alloc, text),
@@ -33,7 +33,7 @@ pub fn read_json(alloc: Global, text: &[u8]) -> Result<Value, ReadError>
 fn read_text(alloc: Global, text: &str) -> Result<Value, ReadError>
     ensures read { IfOk result (λ json. read text.now ≡ Some (view json)) }
     ensures once { OnOk result (HasNamesOnce text.now) }
-    ensures cause { IfErr result (IsCause text.now) }
+    ensures refused { IfErr result (IsCause text.now) }
 {
     let value = match Value::from_str(alloc, text) {
         Ok(value) => value,

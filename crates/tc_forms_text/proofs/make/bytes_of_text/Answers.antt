@@ -19,4 +19,4 @@ returns-in-Ok-clause-shown g c = λ bytes h utf8 is.
 
 pub returns-clause-shown : goal.returns-clause-shown
 returns-clause-shown g c = λ bytes h utf8 is.
-    only_memory (g.T.Tables.parts_of c.args.table) c.args.form bytes h c.args.text.now is (Read c.in-Err.e) utf8 c.in-Err.ensures.cause
+    only_memory (g.T.Tables.parts_of c.args.table) c.args.form bytes h c.args.text.now is (Read c.in-Err.e) utf8 c.in-Err.ensures.refused
