@@ -1,6 +1,6 @@
 //! Lines of the program: their answers and complaints, and how a run ends.
 
-use std::io::{BufReader, Error, ErrorKind, Read, Result, Write};
+use std::io::{self, BufReader, Error, ErrorKind, Read, Write};
 use std::test::Fail;
 use tc_kinds::{ACTION_MESSAGE, TC_MESSAGE, TcTables};
 use tc_roundtrip::mode::Messages;
@@ -39,7 +39,7 @@ tcforms: line 9: not UTF-8
 ";
 
 #[test]
-fn answers_and_complaints(rt: HostRuntime) -> core::result::Result<(), Fail> {
+fn answers_and_complaints(rt: HostRuntime) -> Result<(), Fail> {
     let alloc = rt.alloc();
     let (mut written, mut errors) = (Vec::new(alloc), Vec::new(alloc));
     let status = serve(alloc, MESSAGES, LINES, &mut written, &mut errors);
@@ -57,7 +57,7 @@ struct Failing {
 }
 
 impl Read for Failing {
-    fn read(&mut self, buf: &mut [u8]) -> Result<usize> {
+    fn read(&mut self, buf: &mut [u8]) -> io::Result<usize> {
         if self.bytes.is_empty() {
             return Err(Error::from(self.kind));
         }
@@ -66,11 +66,11 @@ impl Read for Failing {
 }
 
 impl Write for Failing {
-    fn write(&mut self, _buf: &[u8]) -> Result<usize> {
+    fn write(&mut self, _buf: &[u8]) -> io::Result<usize> {
         Err(Error::from(self.kind))
     }
 
-    fn flush(&mut self) -> Result<()> {
+    fn flush(&mut self) -> io::Result<()> {
         Ok(())
     }
 }
@@ -83,7 +83,7 @@ fn fails_with(kind: ErrorKind) -> Failing {
 }
 
 #[test]
-fn an_input_that_fails(rt: HostRuntime) -> core::result::Result<(), Fail> {
+fn an_input_that_fails(rt: HostRuntime) -> Result<(), Fail> {
     let alloc = rt.alloc();
     let (mut written, mut errors) = (Vec::new(alloc), Vec::new(alloc));
     let reader = BufReader::new(alloc, fails_with(ErrorKind::Other))?;
@@ -98,7 +98,7 @@ fn an_input_that_fails(rt: HostRuntime) -> core::result::Result<(), Fail> {
 }
 
 #[test]
-fn an_output_that_fails(rt: HostRuntime) -> core::result::Result<(), Fail> {
+fn an_output_that_fails(rt: HostRuntime) -> Result<(), Fail> {
     let alloc = rt.alloc();
     let mut errors = Vec::new(alloc);
     let mut writer = fails_with(ErrorKind::Other);

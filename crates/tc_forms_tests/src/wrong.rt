@@ -2,36 +2,64 @@
 
 use std::alloc::Global;
 use std::test::Fail;
-use tc_forms::MakeError;
 use tc_forms_text::{TextError, bytes_of_text};
 use tc_kinds::{TC_MESSAGE, TcTables};
 
 // Attributes of a traffic control message, and the error of the message.
 #[rattlefmt::skip]
-static ATTRIBUTES: [(&str, &str); 1] = [
-    (r#"{"Chain":"7"}"#, ""),
+static ATTRIBUTES: [(&str, &str); 21] = [
+    // names
+    (r#"{"Kinds":"u32"}"#, r#"/attributes/0: found "Kinds", wanted the name of an attribute of the table"#),
+    (r#"7"#, r#"/attributes/0: found 7, wanted the name of an attribute of the table"#),
+    (r#"{}"#, r#"/attributes/0: found an object of 0, wanted the name of an attribute of the table"#),
+    (r#"{"Kind":"fq_codel"},{"Options":[{"Limit":1}]}"#, r#"/attributes/1/Options/0: found an object of 1, wanted an object with "FqCodel""#),
+    (r#"{"Kind":"fq_codel"},{"Xstats":{"FqCodel":{"Queue":{}}}}"#,
+        r#"/attributes/1/Xstats/FqCodel: found an object of 1, wanted an object that names a choice"#),
+    (r#"{"Stats":{"bytes":1}}"#, r#"/attributes/0/Stats/packets: found nothing, wanted a member of this name"#),
+    (r#"{"Chain":1,"Chain":2}"#, r#"/attributes/0/Chain: found twice, wanted once"#),
+    (r#"{"Kind":"u32","K\u0069nd":"u32"}"#, r#"/attributes/0/Kind: found twice, wanted once"#),
+    // types
+    (r#"{"Kind":"u32","bare":1}"#, r#"/attributes/0/bare: found 1, wanted true or false"#),
+    (r#"{"Chain":"7"}"#, r#"/attributes/0/Chain: found "7", wanted a number from 0 to 4294967295"#),
+    (r#"{"Chain":7.0}"#, r#"/attributes/0/Chain: found 7.0, wanted a number from 0 to 4294967295"#),
+    (r#"{"DumpInvisible":false}"#, r#"/attributes/0/DumpInvisible: found false, wanted true"#),
+    (r#"{"ExtWarnMsg":7}"#, r#"/attributes/0/ExtWarnMsg: found 7, wanted a text"#),
+    (r#"{"Kind":"u32"},{"Options":{}}"#, r#"/attributes/1/Options: found an object of 0, wanted a list"#),
+    // numbers out of range
+    (r#"{"Chain":4294967296}"#, r#"/attributes/0/Chain: found 4294967296, wanted a number from 0 to 4294967295"#),
+    (r#"{"Chain":-1}"#, r#"/attributes/0/Chain: found -1, wanted a number from 0 to 4294967295"#),
+    (r#"{"HwOffload":256}"#, r#"/attributes/0/HwOffload: found 256, wanted a number from 0 to 255"#),
+    (r#"{"Rate":{"interval":-129,"ewma_log":0}}"#, r#"/attributes/0/Rate/interval: found -129, wanted a number from -128 to 127"#),
+    // hex
+    (r#"{"Kind":"none"},{"OptionsRaw":"0g"}"#, r#"/attributes/1/OptionsRaw: found "0g", wanted bytes in lower-case hex"#),
+    (r#"{"Kind":"none"},{"OptionsRaw":"AB"}"#, r#"/attributes/1/OptionsRaw: found "AB", wanted bytes in lower-case hex"#),
+    (r#"{"Kind":"none"},{"OptionsRaw":"abc"}"#, r#"/attributes/1/OptionsRaw: found "abc", wanted bytes in lower-case hex"#),
 ];
 
 // Whole texts, and their errors.
 #[rattlefmt::skip]
-static TEXTS: [(&[u8], &str); 4] = [
-    (br#"{"header":"#, ""),
-    (b"\"a\xff\"", ""),
-    (br#"{"a":1,"a":2}"#, ""),
-    (br#"[]"#, ""),
+static TEXTS: [(&[u8], &str); 9] = [
+    (br#"[]"#, r#"/header: found nothing, wanted a member of this name"#),
+    (br#"{"header":{"family":"Unspec","index":2,"handle":"1:","parent":"root","info":0}}"#,
+        r#"/attributes: found nothing, wanted a member of this name"#),
+    (br#"{"header":{"family":"Inet7","index":2,"handle":"1:","parent":"root","info":0},"attributes":[]}"#,
+        r#"/header/family: found "Inet7", wanted the name of a number, or {"Other":n}"#),
+    (br#"{"header":{"family":"Inet","index":2147483648,"handle":"1:","parent":"root","info":0},"attributes":[]}"#,
+        r#"/header/index: found 2147483648, wanted a number from -2147483648 to 2147483647"#),
+    (br#"{"header":{"family":"Inet","index":2,"handle":"1:","parent":"rot","info":0},"attributes":[]}"#,
+        r#"/header/parent: found "rot", wanted a handle as tc writes it"#),
+    // texts that aren't read
+    (br#"{"a":{"b~/":[{"c":1,"c":2}]}}"#, "/a/b~0~1/0/c: found twice, wanted once"),
+    (br#"{"header":"#, "not JSON at line 1 column 10"),
+    (b"{\"header\":\n  tru}", "not JSON at line 2 column 6"),
+    (b"\"a\xff\"", "not JSON at line 1 column 3"),
 ];
 
 fn error_of(alloc: Global, text: &[u8]) -> Result<String, Fail> {
     match bytes_of_text(alloc, TcTables, TC_MESSAGE, text) {
         Ok(_) => Ok(String::from_str(alloc, "made")?),
         Err(TextError::Read(e)) => Ok(format!(in alloc; "{e}")?),
-        Err(TextError::Make(MakeError::OutOfMemory)) => Ok(String::from_str(
-            alloc,
-            "out of memory",
-        )?),
-        Err(TextError::Make(MakeError::Wrong { path, wanted })) => Ok(format!(in alloc;
-            "{path}: wanted {wanted}"
-        )?),
+        Err(TextError::Make(e)) => Ok(format!(in alloc; "{e}")?),
     }
 }
 
@@ -67,6 +95,28 @@ fn texts(rt: HostRuntime) -> Result<(), Fail> {
 fn a_thousand_levels(rt: HostRuntime) -> Result<(), Fail> {
     let alloc = rt.alloc();
     let text = vec![in alloc; b'['; 1000]?;
-    assert_eq!(rt; error_of(alloc, &text)?.as_str(), "");
+    assert_eq!(rt;
+        error_of(alloc, &text)?.as_str(),
+        "more than 127 levels deep at line 1 column 129"
+    );
+    Ok(())
+}
+
+// One byte more than an attribute has room for.
+#[test]
+fn a_value_that_is_too_long(rt: HostRuntime) -> Result<(), Fail> {
+    let alloc = rt.alloc();
+    let kind = "a".repeat(alloc, 65_531)?;
+    let error = error_of_attributes(alloc, format!(in alloc; r#"{{"Kind":"{kind}"}}"#)?.as_str())?;
+    assert!(rt;
+        error.as_str().starts_with("/attributes/0: found "),
+        "{error}"
+    );
+    assert!(rt;
+        error
+            .as_str()
+            .ends_with(", wanted a value that is written as at most 65531 bytes"),
+        "{error}"
+    );
     Ok(())
 }

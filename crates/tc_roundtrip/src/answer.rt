@@ -1,6 +1,7 @@
 //! The answer to a line.
 
-ghost use Rattle.std.specs.Prelude.{◌≡◌, ◌≢◌, IfOk, IfErr, codes, string_bytes};
+ghost use Rattle.std.specs.Prelude.{◌≡◌, ◌≢◌, IfOk, IfErr, MatchResult, codes, string_bytes};
+ghost use Rattle.tc_forms_text.specs.Make.{IsMemory};
 ghost use Rattle.tc_roundtrip.specs.Answer.{IsJsonOf, IsAnswer};
 ghost use Rattle.tc_roundtrip.specs.Line.{IsNoLine};
 ghost use Rattle.tc_roundtrip.specs.declared.line.Complaint.TheVariants.{OutOfMemory};
@@ -9,7 +10,7 @@ use crate::line::{Complaint, read_line};
 use crate::mode::Messages;
 use std::alloc::{AllocError, Global};
 use tc_forms::{Form, Shown, Tables};
-use tc_forms_text::bytes_of_text;
+use tc_forms_text::{TextError, bytes_of_text};
 
 /// The answer to a line: the label, the mode, whether the bytes came back, and the JSON that is shown of them. They always come back.
 pub fn answer_line<T: Tables>(
@@ -61,7 +62,7 @@ fn verdict_on<T: Tables>(
     requires { IsJsonOf (T.parts_of table) form bytes.now json.now }
     ensures { IfOk result (λ verdict. verdict.now ≡ codes "same") }
 {
-    let again = match bytes_of_text(alloc, table, form, json.as_bytes()) {
+    let again = match made_again(alloc, table, form, bytes, json) {
         Ok(again) => again,
         Err(e) => return if e.is_memory() {
             Err(AllocError)
@@ -74,4 +75,18 @@ fn verdict_on<T: Tables>(
     } else {
         "differs"
     })
+}
+
+// The bytes that are made of the JSON of these.
+fn made_again<T: Tables>(
+    alloc: Global,
+    table: T,
+    form: Form,
+    bytes: &[u8],
+    json: &str,
+) -> Result<Vec<u8>, TextError>
+    requires { IsJsonOf (T.parts_of table) form bytes.now json.now }
+    ensures { MatchResult result (λ again. again.items ≡ bytes.now) IsMemory }
+{
+    bytes_of_text(alloc, table, form, json.as_bytes())
 }
