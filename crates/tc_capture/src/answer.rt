@@ -13,6 +13,7 @@ use crate::order::Order;
 
 // The types of the attributes `NLMSGERR_ATTR_MSG` and `NLMSGERR_ATTR_OFFS`.
 const TEXT: u16 = 1;
+
 const OFFSET: u16 = 2;
 
 /// An answer of the kernel to a request: `struct nlmsgerr` of `linux/netlink.h`, and the extended acknowledgement behind it.

@@ -4,8 +4,8 @@ use nla_frames::DecodeError;
 use serde_json::Value;
 use std::alloc::{AllocError, AllocFailed, Global};
 use std::fmt;
-use tc_capture::rtm_of;
 use tc_build::{MakeError, ReadError, Wanted};
+use tc_capture::rtm_of;
 use tc_json_bytes::Maker;
 use tc_names::named_numbers;
 use tc_requests::RestoreError;
@@ -148,7 +148,11 @@ impl fmt::Display for Complaint {
                 wanted,
             } => write!(f, "{path}: found {found}, wanted {wanted}"),
             Complaint::Unknown(name) => {
-                write!(f, "/{}: found a member that a line doesn't have", Place(name.as_str()))
+                write!(
+                    f,
+                    "/{}: found a member that a line doesn't have",
+                    Place(name.as_str())
+                )
             }
             Complaint::Make(error) => show_make(error, f),
             Complaint::Restore(error) => write!(f, "can't be restored: {error}"),
@@ -163,7 +167,8 @@ impl Complaint {
         match self {
             Complaint::TooLong => "longer than 4194304 bytes",
             Complaint::TooDeep => "lists and objects nest more than 127 deep",
-            Complaint::OnePart => "a part of JSON on several lines; wanted all of it on one, as jq -c writes it",
+            Complaint::OnePart =>
+                "a part of JSON on several lines; wanted all of it on one, as jq -c writes it",
             Complaint::Refused => "holds no message, but why one was refused",
             Complaint::Answer => "holds no message, but an answer of the kernel",
             Complaint::Summary => "holds no message, but a summary",

@@ -103,7 +103,17 @@ fn alone(json: &Value) -> Given {
 fn is_member(name: &str) -> bool {
     matches!(
         name,
-        "time" | "packet" | "packet_type" | "type" | "flags" | "seq" | "portid" | "fits" | "settled" | "canonical" | "message"
+        "time"
+            | "packet"
+            | "packet_type"
+            | "type"
+            | "flags"
+            | "seq"
+            | "portid"
+            | "fits"
+            | "settled"
+            | "canonical"
+            | "message"
     )
 }
 
@@ -141,7 +151,12 @@ fn in_line(alloc: Global, json: &Value) -> Result<Given, Complaint> {
 
 // The packet of a line; without a number it is one of its own.
 fn packet_of(alloc: Global, json: &Value) -> Result<PacketOf, Complaint> {
-    let packet_type = number_of(alloc, json.get("packet_type"), &PACKET_TYPE, u64::from(OUTGOING))?;
+    let packet_type = number_of(
+        alloc,
+        json.get("packet_type"),
+        &PACKET_TYPE,
+        u64::from(OUTGOING),
+    )?;
     let number = match json.get("packet") {
         None => None,
         held => Some(number_of(alloc, held, &PACKET, 0)?),

@@ -84,10 +84,8 @@ fn is_too_deep(line: &[u8], count: usize) -> bool {
 
 // True of a line of JSON that is written on several lines: a bracket alone, or what is indented.
 fn is_one_part(line: &[u8]) -> bool {
-    matches!(
-        line.trim_ascii(),
-        b"{" | b"}" | b"}," | b"[" | b"]" | b"],"
-    ) || matches!(line, [b' ', b' ', ..] | [b'\t', ..])
+    matches!(line.trim_ascii(), b"{" | b"}" | b"}," | b"[" | b"]" | b"],")
+        || matches!(line, [b' ', b' ', ..] | [b'\t', ..])
 }
 
 // The bytes of a message; what isn't settled is settled first, if that is asked for.

@@ -90,12 +90,7 @@ pub(crate) fn step(path: &mut Path, attribute: &Attribute<'_>) -> Result<Meaning
 // Goes on to an attribute, which has this name.
 fn enter(path: &mut Path, attribute: &Attribute<'_>, name: &'static str) {
     let end = attribute.offset.saturating_add(attribute.value.len());
-    path.enter(
-        usize::from(attribute.depth),
-        end,
-        attribute.table,
-        name,
-    );
+    path.enter(usize::from(attribute.depth), end, attribute.table, name);
 }
 
 /// The place of the attribute whose header begins at this offset, four bytes before its value; none where none does.

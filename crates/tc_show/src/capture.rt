@@ -159,10 +159,12 @@ impl<'a, A: Allocator + Copy> Desk<'a, A> {
     {
         let number = self.packets.count(packet);
         match packet.contents() {
-            Ok(Contents::Route {
-                packet_type,
-                messages,
-            }) => {
+            Ok(
+                Contents::Route {
+                    packet_type,
+                    messages,
+                },
+            ) => {
                 self.packets.count_route();
                 let origin = Origin {
                     time: packet.time,

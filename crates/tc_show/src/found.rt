@@ -51,10 +51,7 @@ pub(crate) struct Found<'a> {
 
 impl<'a> Found<'a> {
     /// The message in a netlink message; `None` where that is no traffic control.
-    pub(crate) fn in_netlink(
-        origin: Origin,
-        message: &NetlinkMessage<'a>,
-    ) -> Option<Found<'a>> {
+    pub(crate) fn in_netlink(origin: Origin, message: &NetlinkMessage<'a>) -> Option<Found<'a>> {
         let rtm = rtm_of(message.kind)?;
         let what = What::of_type(message.kind)?;
         Some(Found {

@@ -149,7 +149,7 @@ impl<'s, 'n, 't, 'p, 'a, M: Show> Answered<'s, 'n, 't, 'p, 'a, M> {
     fn show_members<S: Serializer>(&self, out: &mut S) -> Result<(), S::Error>
         ensures { OnOk result (Sent (origin_events (option_map (λ t. t.now) self.now.time) self.now.origin (Some self.now.header)
             ++ answer_events (error_events self.now.said.errno.now (option_map (λ t. t.now) self.now.said.text) self.now.said.offset
-                (option_map (λ t. t.now) self.now.said.path)) self.now.request (option_map M.events self.now.message.now))
+            (option_map (λ t. t.now) self.now.said.path)) self.now.request (option_map M.events self.now.message.now))
             (S.written out.old) (S.written out.new)) }
     {
         show_origin(self.time, &self.origin, &Some(self.header), out)?;
@@ -421,11 +421,7 @@ fn show_bool<S: Serializer>(name: &str, is_so: bool, out: &mut S) -> Result<(), 
     out.bool(is_so)
 }
 
-fn show_text_if<S: Serializer>(
-    name: &str,
-    text: Option<&str>,
-    out: &mut S,
-) -> Result<(), S::Error>
+fn show_text_if<S: Serializer>(name: &str, text: Option<&str>, out: &mut S) -> Result<(), S::Error>
     ensures { OnOk result (Sent (text_if name.now (option_map (λ t. t.now) text.entry)) (S.written out.old) (S.written out.new)) }
 {
     match text {
@@ -434,11 +430,7 @@ fn show_text_if<S: Serializer>(
     }
 }
 
-fn show_number_if<S: Serializer>(
-    name: &str,
-    n: Option<u64>,
-    out: &mut S,
-) -> Result<(), S::Error>
+fn show_number_if<S: Serializer>(name: &str, n: Option<u64>, out: &mut S) -> Result<(), S::Error>
     ensures { OnOk result (Sent (number_if name.now n) (S.written out.old) (S.written out.new)) }
 {
     match n {

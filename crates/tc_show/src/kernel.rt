@@ -115,7 +115,12 @@ impl<'a, A: Allocator + Copy> Desk<'a, A> {
         show_name(&mut request, &reply.request)?;
         if !reply.answer.is_capped {
             let names = self.asked.names;
-            let _ = outline(&mut request, reply.request.payload, reply.request.what, &names)?;
+            let _ = outline(
+                &mut request,
+                reply.request.payload,
+                reply.request.what,
+                &names,
+            )?;
         }
         put_indented(&mut self.page, text_of(&request))?;
         self.put_page()

@@ -93,7 +93,10 @@ fn more_of_line<A: Allocator + Copy, R: Read, W: Write>(
     if len > MOST_LINE {
         let at = input.offset();
         let goes_on = skip_line(input, reader)?;
-        let long = input.offset().saturating_sub(at).saturating_sub(u64::from(goes_on));
+        let long = input
+            .offset()
+            .saturating_sub(at)
+            .saturating_sub(u64::from(goes_on));
         desk.put_hole(Note::Skipped(long), at)?;
         return Ok(goes_on);
     }

@@ -155,7 +155,12 @@ fn show_tally<A: Allocator>(page: &mut Page<A>, all: &Tally) -> Result<(), Alloc
 
 fn show_foreign<A: Allocator>(page: &mut Page<A>, all: &Tally) -> Result<(), AllocError> {
     show_row(page, "packets of other link types", "", all.other_links)?;
-    show_row(page, "packets of other netlink families", "", all.other_families)
+    show_row(
+        page,
+        "packets of other netlink families",
+        "",
+        all.other_families,
+    )
 }
 
 fn show_holes<A: Allocator>(page: &mut Page<A>, all: &Tally) -> Result<(), AllocError> {

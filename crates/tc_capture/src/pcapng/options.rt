@@ -9,6 +9,7 @@ use crate::time::Time;
 
 // The codes of the options if_tsresol and if_tsoffset.
 const RESOLUTION: u16 = 9;
+
 const SHIFT: u16 = 14;
 
 // How many units of time a second has.

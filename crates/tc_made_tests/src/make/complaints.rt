@@ -109,7 +109,10 @@ fn a_long_line(rt: HostRuntime) -> Result<(), Fail> {
         b"\n{\"type\":\"RTM_GETACTION\",\"message\":{\"header\":{\"family\":\"Unspec\"},\"attributes\":[]}}",
     )?;
     let run = made(alloc, &HEX, &lines);
-    assert!(rt; run.status == 1 && run.written.as_slice() == b"1400000032000000000000000000000000000000\n".as_slice());
+    assert!(rt;
+        run.status == 1
+            && run.written.as_slice() == b"1400000032000000000000000000000000000000\n".as_slice()
+    );
     assert!(rt; run.errors.as_slice() == b"tcmake: line 1: longer than 4194304 bytes\n".as_slice());
     Ok(())
 }

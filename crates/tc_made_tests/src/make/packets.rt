@@ -5,7 +5,8 @@ use std::test::Fail;
 
 // Two messages of one packet, and an answer of the kernel between them; a message of the next; one of the same number at another
 // time; one without a number; one that says nothing but its type.
-static LINES: &str = r#"{"time":"1700000000.123456789","packet":3,"packet_type":6,"type":"RTM_NEWQDISC","flags":1536,"seq":5,"portid":77,"message":{"header":{"family":"Unspec","index":2,"handle":"1:","parent":"root","info":0},"attributes":[{"Kind":"fq_codel"}]}}
+static LINES: &str =
+    r#"{"time":"1700000000.123456789","packet":3,"packet_type":6,"type":"RTM_NEWQDISC","flags":1536,"seq":5,"portid":77,"message":{"header":{"family":"Unspec","index":2,"handle":"1:","parent":"root","info":0},"attributes":[{"Kind":"fq_codel"}]}}
 {"time":"1700000000.123456789","packet":3,"packet_type":6,"type":"NLMSG_ERROR","flags":768,"seq":5,"errno":"EINVAL","request":{"type":"RTM_NEWQDISC","flags":1536,"seq":5}}
 {"time":"1700000000.123456789","packet":3,"packet_type":6,"type":"RTM_NEWQDISC","flags":1536,"seq":6,"fits":true,"settled":true,"canonical":true,"message":{"header":{"family":"Unspec","index":2,"handle":"1:","parent":"root","info":0},"attributes":[{"Kind":"fq_codel"}]}}
 {"time":"1700000000.123456789","packet":4,"type":"RTM_NEWQDISC","flags":1536,"seq":7,"message":{"header":{"family":"Unspec","index":2,"handle":"1:","parent":"root","info":0},"attributes":[{"Kind":"fq_codel"}]}}
@@ -41,9 +42,11 @@ fn packets_of_lines(rt: HostRuntime) -> Result<(), Fail> {
 #[test]
 fn a_line_of_hex(rt: HostRuntime) -> Result<(), Fail> {
     let alloc = rt.alloc();
-    let line = br#"{"type":"RTM_DELCHAIN","flags":1541,"seq":16909060,"portid":84281096,"message":{"header":{"family":"Unspec","index":2,"handle":"1:","parent":"root","info":0},"attributes":[{"Kind":"fq_codel"}]}}"#;
+    let line =
+        br#"{"type":"RTM_DELCHAIN","flags":1541,"seq":16909060,"portid":84281096,"message":{"header":{"family":"Unspec","index":2,"handle":"1:","parent":"root","info":0},"attributes":[{"Kind":"fq_codel"}]}}"#;
     let run = made(alloc, &HEX, line);
-    let want = b"34000000650005060403020108070605000000000200000000000100ffffffff000000000d00010066715f636f64656c00000000\n";
+    let want =
+        b"34000000650005060403020108070605000000000200000000000100ffffffff000000000d00010066715f636f64656c00000000\n";
     assert!(rt; run.status == 0 && run.written.as_slice() == want.as_slice());
     Ok(())
 }

@@ -61,7 +61,8 @@ fn slowly<T>(inner: T, calls: usize, interruptions: usize, fault: ErrorKind) -> 
     }
 }
 
-static LINES: &str = r#"{"packet":1,"type":"RTM_NEWQDISC","seq":5,"message":{"header":{"family":"Unspec","index":2,"handle":"1:","parent":"root","info":0},"attributes":[{"Kind":"fq_codel"}]}}
+static LINES: &str =
+    r#"{"packet":1,"type":"RTM_NEWQDISC","seq":5,"message":{"header":{"family":"Unspec","index":2,"handle":"1:","parent":"root","info":0},"attributes":[{"Kind":"fq_codel"}]}}
 {"packet":2,"type":"RTM_NEWQDISC","seq":6,"message":{"header":{"family":"Unspec","index":2,"handle":"1:","parent":"root","info":0},"attributes":[{"Kind":"fq_codel"}]}}
 "#;
 

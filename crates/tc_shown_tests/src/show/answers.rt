@@ -20,7 +20,8 @@ const ANSWERS: &str =
      00f1536540e2010038000000380000000004033800000000000000000000000028000000020000000900000000000000f7fc\
      ffff1400000024000006090000000000000000000000";
 
-static LINES: &str = r#"1700000000.123456000 NLMSG_ERROR EINVAL seq 155 "NLA_F_NESTED is missing" at 44 /attributes/1/Options/1/Flower/Actions
+static LINES: &str =
+    r#"1700000000.123456000 NLMSG_ERROR EINVAL seq 155 "NLA_F_NESTED is missing" at 44 /attributes/1/Options/1/Flower/Actions
   RTM_NEWTFILTER index 3 handle 0x0 parent ffff:fff2 pref 601 protocol ip (0x0800)
   kind flower
   options
@@ -51,10 +52,12 @@ summary
   0 broken
 "#;
 
-static ONE_LINE: &str = r#"1700000000.123456000 NLMSG_ERROR EINVAL seq 155 "NLA_F_NESTED is missing" at 44 /attributes/1/Options/1/Flower/Actions {RTM_NEWTFILTER index 3 handle 0x0 parent ffff:fff2 pref 601 protocol ip (0x0800) kind flower options {ip_proto 6 actions {action 1 {kind gact}}}}
+static ONE_LINE: &str =
+    r#"1700000000.123456000 NLMSG_ERROR EINVAL seq 155 "NLA_F_NESTED is missing" at 44 /attributes/1/Options/1/Flower/Actions {RTM_NEWTFILTER index 3 handle 0x0 parent ffff:fff2 pref 601 protocol ip (0x0800) kind flower options {ip_proto 6 actions {action 1 {kind gact}}}}
 "#;
 
-static JSON: &str = r#"{"time":"1700000000.123456000","packet":1,"packet_type":7,"type":"NLMSG_ERROR","flags":512,"seq":155,"portid":77,"errno":"EINVAL","text":"NLA_F_NESTED is missing","offset":44,"path":"/attributes/1/Options/1/Flower/Actions","request":{"type":"RTM_NEWTFILTER","flags":1536,"seq":155,"message":{"header":{"family":"Unspec","index":3,"handle":"0:0","parent":"ffff:fff2","info":39387144},"attributes":[{"Kind":"flower"},{"Options":[{"Flower":{"IpProto":6}},{"Flower":{"Actions":[{"tab":1,"attributes":[{"Kind":"gact"}]}]}}]}]}}}
+static JSON: &str =
+    r#"{"time":"1700000000.123456000","packet":1,"packet_type":7,"type":"NLMSG_ERROR","flags":512,"seq":155,"portid":77,"errno":"EINVAL","text":"NLA_F_NESTED is missing","offset":44,"path":"/attributes/1/Options/1/Flower/Actions","request":{"type":"RTM_NEWTFILTER","flags":1536,"seq":155,"message":{"header":{"family":"Unspec","index":3,"handle":"0:0","parent":"ffff:fff2","info":39387144},"attributes":[{"Kind":"flower"},{"Options":[{"Flower":{"IpProto":6}},{"Flower":{"Actions":[{"tab":1,"attributes":[{"Kind":"gact"}]}]}}]}]}}}
 {"time":"1700000000.123456000","packet":2,"type":"NLMSG_ERROR","flags":768,"seq":155,"errno":"EINVAL","text":"NLA_F_NESTED is missing","offset":44,"request":{"type":"RTM_NEWTFILTER","flags":1536,"seq":155}}
 {"time":"1700000000.123456000","packet":6,"type":"NLMSG_ERROR","flags":0,"seq":9,"errno":"777","request":{"type":"RTM_NEWQDISC","flags":1536,"seq":9}}
 "#;

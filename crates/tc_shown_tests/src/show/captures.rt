@@ -130,8 +130,7 @@ const MIXED_BLOCKS: &str =
      656c000000000c000200080002000028000070000000";
 
 // pcap of link type 1: no packet.
-const NO_PACKETS: &str =
-    "d4c3b2a10200040000000000000000000000100001000000";
+const NO_PACKETS: &str = "d4c3b2a10200040000000000000000000000100001000000";
 
 // Modified pcap, little-endian: two packets.
 const MODIFIED: &str =
@@ -169,9 +168,11 @@ fn gives(
     }
     let bytes = hex::decode(alloc, capture)?;
     let run = shown(alloc, &all_in(Form::OneLine), &bytes);
-    Ok(run.status == status
-        && run.written.as_slice() == want.as_bytes()
-        && run.errors.as_slice() == complaint.as_bytes())
+    Ok(
+        run.status == status
+            && run.written.as_slice() == want.as_bytes()
+            && run.errors.as_slice() == complaint.as_bytes(),
+    )
 }
 
 #[test]

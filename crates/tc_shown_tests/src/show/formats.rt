@@ -43,7 +43,10 @@ fn without_packet(alloc: Global, lines: &[u8]) -> Result<Vec<u8>, AllocError> {
     let name = b"\"packet\":";
     let mut text = Vec::new(alloc);
     for line in lines.split_inclusive(|byte| *byte == b'\n') {
-        match line.windows(name.len()).position(|part| part == name.as_slice()) {
+        match line
+            .windows(name.len())
+            .position(|part| part == name.as_slice())
+        {
             Some(at) => {
                 let (front, rest) = line.split_at(at.min(line.len()));
                 text.extend_from_slice(front)?;
