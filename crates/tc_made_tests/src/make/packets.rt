@@ -7,7 +7,7 @@ use std::test::Fail;
 // time; one without a number; one that says nothing but its type.
 static LINES: &str =
     r#"{"time":"1700000000.123456789","packet":3,"packet_type":6,"type":"RTM_NEWQDISC","flags":1536,"seq":5,"portid":77,"message":{"header":{"family":"Unspec","index":2,"handle":"1:","parent":"root","info":0},"attributes":[{"Kind":"fq_codel"}]}}
-{"time":"1700000000.123456789","packet":3,"packet_type":6,"type":"NL"message":{"header":{"family":"Unspec","index":2,"handle":"1:","parent":"root","info":0},"attributes":[{"Kind":"fq_codel"}]}_ERROR","flags":768,"seq":5,"errno":"EINVAL","request":{"type":"RTM_NEWQDISC","flags":1536,"seq":5}}
+{"time":"1700000000.123456789","packet":3,"packet_type":6,"type":"NLMSG_ERROR","flags":768,"seq":5,"errno":"EINVAL","request":{"type":"RTM_NEWQDISC","flags":1536,"seq":5}}
 {"time":"1700000000.123456789","packet":3,"packet_type":6,"type":"RTM_NEWQDISC","flags":1536,"seq":6,"fits":true,"settled":true,"canonical":true,"message":{"header":{"family":"Unspec","index":2,"handle":"1:","parent":"root","info":0},"attributes":[{"Kind":"fq_codel"}]}}
 {"time":"1700000000.123456789","packet":4,"type":"RTM_NEWQDISC","flags":1536,"seq":7,"message":{"header":{"family":"Unspec","index":2,"handle":"1:","parent":"root","info":0},"attributes":[{"Kind":"fq_codel"}]}}
 {"time":"1700000000.123456789","packet":5,"type":"RTM_NEWQDISC","flags":1536,"seq":8,"message":{"header":{"family":"Unspec","index":2,"handle":"1:","parent":"root","info":0},"attributes":[{"Kind":"fq_codel"}]}}

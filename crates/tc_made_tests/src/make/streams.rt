@@ -90,7 +90,7 @@ fn each_call_fails(rt: HostRuntime) -> std::result::Result<(), Fail> {
     let alloc = rt.alloc();
     let whole = made(alloc, &PCAP, LINES.as_bytes());
     assert!(rt; whole.status == 0 && whole.written.len() == 24 + 2 * 84);
-    let reads = (LINES.len() / 7).saturating_add(2);
+    let reads = (LINES.len().saturating_add(6) / 7).saturating_add(1);
     for calls in 0..reads {
         let (status, written, errors) = run(alloc, (calls, 1), (999, 1, ErrorKind::TimedOut))?;
         assert!(rt;
