@@ -96,7 +96,7 @@ static struct mnl_socket *opened(int flags, int group) {
     int size = 4 << 20;
     struct mnl_socket *s = mnl_socket_open2(NETLINK_ROUTE, SOCK_CLOEXEC | flags);
     if (!s) fail("socket");
-    /* Answers have the request in them, whose offsets they name, unless NETLINK_CAP_ACK is set. */
+    /* Answers with the kernel's sentence and offset, and without the request. */
     set(s, NETLINK_EXT_ACK, 1), set(s, NETLINK_CAP_ACK, 1), set(s, NETLINK_GET_STRICT_CHK, 1);
     if (setsockopt(mnl_socket_get_fd(s), SOL_SOCKET, SO_RCVBUFFORCE, &size, sizeof size))
         setsockopt(mnl_socket_get_fd(s), SOL_SOCKET, SO_RCVBUF, &size, sizeof size);
@@ -363,7 +363,8 @@ static int index_of(const char *text) {
 }
 
 int main(int count, char **words) {
-    static const struct { const char *name; int what; } objects[] = {{"qdisc", QDISC}, {"class", CLASS}, {"filter", FILTER}, {"chain", CHAIN}, {"action", ACTION}};
+    static const struct { const char *name; int what; } objects[] = {
+        {"qdisc", QDISC}, {"class", CLASS}, {"filter", FILTER}, {"chain", CHAIN}, {"action", ACTION}};
     const char *command = count > 1 ? words[1] : "";
     int at = 2, what = 0, index = 0;
 
