@@ -19,5 +19,6 @@ fn main() {
     let from = Crates { folder: &sources, codec: CRATES, users: &[], omitted: OMITTED };
     let erased = erase::erase(from).unwrap_or_else(|fault| panic!("{fault}"));
     let out = env::var_os("OUT_DIR").expect("cargo names the folder for what is made");
-    fs::write(Path::new(&out).join("codec.rs"), erased.bundle()).expect("the folder for what is made can be written to");
+    fs::write(Path::new(&out).join("codec.rs"), erased.bundle())
+        .expect("the folder for what is made can be written to");
 }

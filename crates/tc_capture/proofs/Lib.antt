@@ -1,2 +1,2 @@
-pub mod OptionSteps
+pub mod EntrySteps
 pub mod Steps

@@ -1,13 +1,13 @@
 -- What an iterator over messages gives next.
-use Rattle.std.proofs.Common.{◌≡◌, ℕ, zero, suc, ◌+◌, ◌<◌, ◌≤◌, List, [], ◌∷◌, length, drop, Ok, Err, Bool, true, false, refl, sym, ap, ◌∙◌, arith}
+use Rattle.std.proofs.Common.{◌≡◌, ℕ, zero, suc, ◌+◌, ◌≤◌, List, [], ◌∷◌, length, drop, Ok, Err, Bool, true, false, refl, ap, arith}
 use Rattle.std.proofs.lemmas.Bool.{ltb-false}
 use Rattle.std.proofs.lemmas.List.{length-drop}
-use Rattle.std.specs.Prelude.{◌==◌, nat_lt, if◌then◌else◌}
+use Rattle.std.specs.Prelude.{nat_lt, if◌then◌else◌}
 use Rattle.tc_capture.specs.declared.error.CaptureError.{CaptureError}
 use Rattle.tc_capture.specs.declared.error.CaptureError.TheVariants.{Short, MessageTooShort}
 use Rattle.tc_capture.specs.Outcome.{Outcome}
 use Rattle.tc_capture.specs.Message.{Message, padding, length_at, message_of_length, next_message}
-use Rattle.tc_capture.specs.Messages.{message_and_rest, messages_up_to, messages_in}
+use Rattle.tc_capture.specs.Messages.{are_zeros, message_and_rest, messages_up_to, messages_in}
 
 -- what `next_message` gives by the outcomes of its three tests
 abbrev found : List ℕ → Bool → Bool → Bool → Outcome (Message × List ℕ)
@@ -40,39 +40,40 @@ length-next_message bytes next is =
 -- enough steps are as good as more
 enough_steps : (n m : ℕ) (bytes : List ℕ) → length bytes ≤ n → length bytes ≤ m → messages_up_to n bytes ≡ messages_up_to m bytes
 unfolding messages_up_to
-enough_steps zero zero [] h k = refl
+enough_steps zero zero bytes h k = refl
 enough_steps zero (suc m) [] h k = refl
 enough_steps (suc n) zero [] h k = refl
-enough_steps (suc n) (suc m) [] h k = refl
-enough_steps zero m (b ∷ bytes) h k = absurd (omega arith)
+enough_steps zero (suc m) (b ∷ bytes) h k = absurd (omega arith)
 enough_steps (suc n) zero (b ∷ bytes) h k = absurd (omega arith)
-enough_steps (suc n) (suc m) (b ∷ bytes) h k =
-    go (λ (after : List ℕ) (p : length after ≤ n) (q : length after ≤ m). enough_steps n m after p q) (next_message (b ∷ bytes)) refl
+enough_steps (suc n) (suc m) bytes h k =
+    ap (λ (found : List (Outcome Message)). if are_zeros bytes then [] else found)
+    (go (λ (after : List ℕ) (p : length after ≤ n) (q : length after ≤ m). enough_steps n m after p q) (next_message bytes) refl)
   where
     go : ((after : List ℕ) → length after ≤ n → length after ≤ m → messages_up_to n after ≡ messages_up_to m after)
-        → (next : Outcome (Message × List ℕ)) → next_message (b ∷ bytes) ≡ next
+        → (next : Outcome (Message × List ℕ)) → next_message bytes ≡ next
         → message_and_rest (messages_up_to n) next ≡ message_and_rest (messages_up_to m) next
     go same (Ok next) e =
-        let less : length next.1 + 16 ≤ suc (length bytes) = length-next_message (b ∷ bytes) next e in
+        let less : length next.1 + 16 ≤ length bytes = length-next_message bytes next e in
         ap (λ (rest : List (Outcome Message)). Ok next.0 ∷ rest) (same next.1 (omega arith) (omega arith))
     go same (Err fault) e = refl
 
--- no bytes are no messages
-pub messages_in-nil : messages_in [] ≡ []
+-- zeros are no messages
+pub messages_in-zeros : (bytes : List ℕ) → are_zeros bytes ≡ true → messages_in bytes ≡ []
 unfolding messages_in messages_up_to
-messages_in-nil = refl
+messages_in-zeros [] zeros = refl
+messages_in-zeros (b ∷ bytes) zeros = rw zeros refl
 
 -- the next message, and those after it
-pub messages_in-Ok : (bytes : List ℕ) (next : Message × List ℕ) → next_message bytes ≡ Ok next → messages_in bytes ≡ Ok next.0 ∷ messages_in next.1
+pub messages_in-Ok : (bytes : List ℕ) (next : Message × List ℕ) → are_zeros bytes ≡ false → next_message bytes ≡ Ok next
+    → messages_in bytes ≡ Ok next.0 ∷ messages_in next.1
 unfolding messages_in messages_up_to
-messages_in-Ok [] next is = absurd (omega (arith, length-next_message [] next is))
-messages_in-Ok (b ∷ bytes) next is =
+messages_in-Ok [] next some is = absurd cc
+messages_in-Ok (b ∷ bytes) next some is =
     let less : length next.1 + 16 ≤ suc (length bytes) = length-next_message (b ∷ bytes) next is in
-    rw is (ap (λ (rest : List (Outcome Message)). Ok next.0 ∷ rest) (enough_steps (length bytes) (length next.1) next.1 (omega arith) (omega arith)))
+    rw (some, is) (ap (λ (rest : List (Outcome Message)). Ok next.0 ∷ rest) (enough_steps (length bytes) (length next.1) next.1 (omega arith) (omega arith)))
 
 -- a fault, and nothing after it
-pub messages_in-Err : (bytes : List ℕ) (empty : Bool) (e : CaptureError) → empty ≡ (length bytes == 0) → empty ≡ false → next_message bytes ≡ Err e
-    → messages_in bytes ≡ Err e ∷ messages_in []
+pub messages_in-Err : (bytes : List ℕ) (e : CaptureError) → are_zeros bytes ≡ false → next_message bytes ≡ Err e → messages_in bytes ≡ Err e ∷ messages_in []
 unfolding messages_in messages_up_to
-messages_in-Err [] empty e is not fault = absurd cc
-messages_in-Err (b ∷ bytes) empty e is not fault = rw fault refl
+messages_in-Err [] e some fault = absurd cc
+messages_in-Err (b ∷ bytes) e some fault = rw (some, fault) refl

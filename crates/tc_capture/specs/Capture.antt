@@ -1,5 +1,5 @@
 -- A capture that is read from its front, a piece at a time.
-use Rattle.std.specs.Prelude.{ℕ, ◌^◌, List, length, drop, Bool, is_some, Option, Some, None, Ok, nat_lt, [], ◌==◌, if◌then◌else◌}
+use Rattle.std.specs.Prelude.{ℕ, ◌^◌, List, length, is_some, Option, Some, None, Ok, nat_lt, [], ◌==◌, if◌then◌else◌}
 use Rattle.byteorder.specs.Endian.{little_number}
 use Rattle.tc_capture.specs.declared.capture.Capture.{Capture}
 use Rattle.tc_capture.specs.declared.capture.Capture.TheVariants.{Stream, PcapHeader, Pcap, PcapNg}
@@ -39,6 +39,6 @@ capture_at first =
 -- the piece at the front, and the state after it
 abbrev pub next_piece : State → List ℕ → Outcome (Front × State)
 next_piece (in_stream time) bytes = then_read (next_in_stream time bytes) (λ x. Ok (x.0, in_stream x.1))
-next_piece before_header bytes = then_read (pcap_header bytes) (λ file. Ok (record { used = 24; packet = None }, in_pcap file))
+next_piece before_header bytes = then_read (pcap_header bytes) (λ file. Ok (record { used = 24; packet = Ok None }, in_pcap file))
 next_piece (in_pcap file) bytes = then_read (next_in_pcap file bytes) (λ front. Ok (front, in_pcap file))
 next_piece (in_section s) bytes = then_read (next_in_section s bytes) (λ x. Ok (x.0, in_section x.1))

@@ -1,5 +1,5 @@
 -- The messages of traffic control, by nlmsg_type: their names in linux/rtnetlink.h, and which of the two messages each holds.
-use Rattle.std.specs.Prelude.{ℕ, List, [], ◌∷◌, Option, Some, None, codes, option_map, ◌==◌, if◌then◌else◌}
+use Rattle.std.specs.Prelude.{ℕ, List, Option, Some, None, codes, ◌==◌, if◌then◌else◌}
 use Rattle.tc_capture.specs.declared.kind.Holds.{Holds}
 use Rattle.tc_capture.specs.declared.kind.Holds.TheVariants.{Tc, Action}
 use Rattle.tc_capture.specs.declared.kind.RtmType.{RtmType}

@@ -3,11 +3,13 @@ pub mod Outcome
 pub mod Message
 pub mod Messages
 pub mod Kind
+pub mod Answer
 pub mod Time
 pub mod Packet
 pub mod Front
 pub mod Stream
 pub mod Pcap
+pub mod Entries
 pub mod Options
 pub mod PcapNg
 pub mod Block

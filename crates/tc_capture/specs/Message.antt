@@ -1,7 +1,7 @@
 -- One netlink message. It begins with `struct nlmsghdr`, little-endian: nlmsg_len at 0 (four bytes), nlmsg_type at 4 (two),
 -- nlmsg_flags at 6 (two), nlmsg_seq at 8 (four), nlmsg_pid at 12 (four). The payload follows, then padding up to a multiple of
 -- four bytes; nlmsg_len counts the header and the payload.
-use Rattle.std.specs.Prelude.{ℕ, ◌+◌, ◌-◌, ◌%◌, List, length, take, drop, Ok, Err, nat_lt, if◌then◌else◌}
+use Rattle.std.specs.Prelude.{ℕ, ◌-◌, ◌%◌, List, length, take, drop, Ok, Err, nat_lt, if◌then◌else◌}
 use Rattle.byteorder.specs.Endian.{little_number}
 use Rattle.tc_capture.specs.declared.error.CaptureError.TheVariants.{Short, MessageTooShort}
 use Rattle.tc_capture.specs.declared.message.NetlinkMessage.{NetlinkMessage}

@@ -1,8 +1,13 @@
 -- The messages of a packet, one after the other.
-use Rattle.std.specs.Prelude.{ℕ, zero, suc, List, [], ◌∷◌, length, Ok, Err}
+use Rattle.std.specs.Prelude.{ℕ, zero, suc, Bool, List, [], ◌∷◌, length, Ok, Err, ◌==◌, if◌then◌else◌}
+use Rattle.std.specs.List.{list_all}
 use Rattle.tc_capture.specs.declared.messages.Messages.{Messages}
 use Rattle.tc_capture.specs.Outcome.{Outcome}
 use Rattle.tc_capture.specs.Message.{Message, next_message}
+
+-- zeros alone: behind the last message of a packet they mean nothing, and Linux ignores them
+abbrev pub are_zeros : List ℕ → Bool
+are_zeros bytes = list_all (λ b. b == 0) bytes
 
 -- the next message before those of what follows it; a fault ends them
 abbrev pub message_and_rest : (List ℕ → List (Outcome Message)) → Outcome (Message × List ℕ) → List (Outcome Message)
@@ -12,8 +17,7 @@ message_and_rest rest_of (Err e) = Err e ∷ []
 -- at most so many of them
 unfoldable pub messages_up_to : ℕ → List ℕ → List (Outcome Message)
 messages_up_to zero bytes = []
-messages_up_to (suc n) [] = []
-messages_up_to (suc n) (b ∷ bytes) = message_and_rest (messages_up_to n) (next_message (b ∷ bytes))
+messages_up_to (suc n) bytes = if are_zeros bytes then [] else message_and_rest (messages_up_to n) (next_message bytes)
 
 -- the messages that bytes begin with, then the fault where one is broken; a message takes a byte at least
 unfoldable pub messages_in : List ℕ → List (Outcome Message)

@@ -1,37 +1,10 @@
--- The options of a block of pcapng: each a code and a length, two bytes each, then the value, then padding up to a multiple of four
--- bytes. The code 0 ends them.
-use Rattle.std.specs.Prelude.{ℕ, zero, suc, ◌+◌, ◌-◌, ◌^◌, List, [], ◌∷◌, length, take, drop, Option, Some, None, nat_lt, ◌==◌, if◌then◌else◌}
+-- What the options of an interface say of its times.
+use Rattle.std.specs.Prelude.{ℕ, ◌+◌, ◌-◌, ◌^◌, List, [], ◌∷◌, length, Option, Some, None, nat_lt, ◌==◌, if◌then◌else◌}
+use Rattle.tc_capture.specs.declared.entries.Entries.TheVariants.{Options}
 use Rattle.tc_capture.specs.declared.order.Order.{Order}
+use Rattle.tc_capture.specs.declared.time.Time.{Time}
 use Rattle.tc_capture.specs.Order.{number}
-use Rattle.tc_capture.specs.Message.{padding}
-
--- how many bytes the option at the front has, without padding
-abbrev pub option_end : Order → List ℕ → ℕ
-option_end order bytes = 4 + number order 2 (drop 2 bytes)
-
-abbrev pub option_value : Order → List ℕ → List ℕ
-option_value order bytes = drop 4 (take (option_end order bytes) bytes)
-
--- what follows it and its padding
-abbrev pub after_option : Order → List ℕ → List ℕ
-after_option order bytes = drop (padding (option_end order bytes)) (drop (option_end order bytes) bytes)
-
--- the value of the option at the front if it has this code, or else what is found after it
-abbrev pub option_or : Order → ℕ → List ℕ → Option (List ℕ) → Option (List ℕ)
-option_or order code bytes later =
-    if nat_lt (length bytes) 4 then None else
-    if number order 2 bytes == 0 then None else
-    if nat_lt (length bytes) (option_end order bytes) then None else
-    if number order 2 bytes == code then Some (option_value order bytes) else later
-
--- the value of the first option of a code, in at most so many options
-unfoldable pub option_up_to : ℕ → Order → ℕ → List ℕ → Option (List ℕ)
-option_up_to zero order code bytes = None
-option_up_to (suc n) order code bytes = option_or order code bytes (option_up_to n order code (after_option order bytes))
-
--- an option takes a byte at least
-unfoldable pub option_in : Order → ℕ → List ℕ → Option (List ℕ)
-option_in order code bytes = option_up_to (length bytes) order code bytes
+use Rattle.tc_capture.specs.Entries.{entry_in}
 
 abbrev pub in_u64 : ℕ → Option ℕ
 in_u64 n = if nat_lt n (2 ^ 64) then Some n else None
@@ -47,4 +20,25 @@ units_by (Some (resolution ∷ [])) = units_of resolution
 units_by (Some _) = None
 
 abbrev pub units_in : Order → List ℕ → Option ℕ
-units_in order bytes = units_by (option_in order 9 bytes)
+units_in order bytes = units_by (entry_in (Options order) 9 bytes)
+
+-- how many seconds are added to each time, by the option if_tsoffset: eight bytes, in two's complement; 0 where there is no such option
+abbrev pub shift_by : Order → Option (List ℕ) → Option ℕ
+shift_by order None = Some 0
+shift_by order (Some value) = if length value == 8 then Some (number order 8 value) else None
+
+abbrev pub shift_in : Order → List ℕ → Option ℕ
+shift_in order bytes = shift_by order (entry_in (Options order) 14 bytes)
+
+-- so many seconds later, in two's complement, where that is a time
+abbrev pub seconds_later : ℕ → ℕ → Option ℕ
+seconds_later shift seconds =
+    if nat_lt shift (2 ^ 63) then in_u64 (seconds + shift) else
+    if nat_lt (seconds + shift) (2 ^ 64) then None else Some (seconds + shift - 2 ^ 64)
+
+abbrev pub with_seconds : Time → Option ℕ → Option Time
+with_seconds time None = None
+with_seconds time (Some seconds) = Some (record { seconds = seconds; nanoseconds = time.nanoseconds })
+
+abbrev pub later : ℕ → Time → Option Time
+later shift time = with_seconds time (seconds_later shift time.seconds)

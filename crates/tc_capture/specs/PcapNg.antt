@@ -2,17 +2,17 @@
 -- length counts all of them and is a multiple of four. A section header block begins a section: it gives the byte order of the
 -- numbers up to the next one, and what was said of interfaces before it no longer holds.
 use Rattle.std.specs.Prelude.{ℕ, ◌+◌, ◌-◌, ◌*◌, ◌%◌, ◌^◌, min, List, [], ◌∷◌, ◌++◌, length, take, drop}
-use Rattle.std.specs.Prelude.{slice_get, Bool, true, false, Option, Some, None, Ok, Err, nat_lt, nat_le, ◌==◌, if◌then◌else◌}
+use Rattle.std.specs.Prelude.{slice_get, Bool, Option, Some, None, Ok, Err, nat_lt, nat_le, ◌==◌, if◌then◌else◌}
 use Rattle.tc_capture.specs.declared.error.CaptureError.TheVariants.{Short, NoByteOrder, BlockLength, BlockEnd, BodyTooShort, NoInterface, TooManyInterfaces}
 use Rattle.tc_capture.specs.declared.order.Order.{Order}
 use Rattle.tc_capture.specs.declared.order.Order.TheVariants.{Little, Big}
 use Rattle.tc_capture.specs.declared.pcapng.interface.Interface.{Interface}
 use Rattle.tc_capture.specs.declared.time.Time.{Time}
 use Rattle.tc_capture.specs.Order.{number}
-use Rattle.tc_capture.specs.Outcome.{Outcome, then_read}
+use Rattle.tc_capture.specs.Outcome.{Outcome, seen, then_read}
 use Rattle.tc_capture.specs.Time.{time_of}
 use Rattle.tc_capture.specs.Packet.{Captured, link_of}
-use Rattle.tc_capture.specs.Options.{units_in}
+use Rattle.tc_capture.specs.Options.{units_in, shift_in, later}
 use Rattle.tc_capture.specs.Front.{Front}
 
 pub record Block : Type 0 where
@@ -59,42 +59,52 @@ interface_in order body =
       link = link_of (number order 2 body);
       most = number order 4 (drop 4 body);
       units = units_in order (drop 8 body);
+      shift = shift_in order (drop 8 body);
     })
 
-abbrev pub described : ℕ → Option Interface → Outcome Interface
-described n (Some interface) = Ok interface
+-- the interface of a number, of those that are described; the place of one that can't be read is kept
+abbrev pub described : ℕ → Option (Option Interface) → Outcome Interface
+described n (Some (Some interface)) = Ok interface
+described n (Some None) = Err (NoInterface n)
 described n None = Err (NoInterface n)
 
-abbrev pub interface_at : List Interface → ℕ → Outcome Interface
+abbrev pub interface_at : List (Option Interface) → ℕ → Outcome Interface
 interface_at interfaces n = described n (slice_get interfaces n)
 
--- after so many units
-abbrev pub time_after : ℕ → Option ℕ → Option Time
-time_after ticks None = None
-time_after ticks (Some units) = if nat_lt 0 units then Some (time_of ticks units) else None
+-- after so many units of time, and so many seconds
+abbrev pub time_by : ℕ → Option ℕ → Option ℕ → Option Time
+time_by ticks (Some units) (Some shift) = if nat_lt 0 units then later shift (time_of ticks units) else None
+time_by ticks (Some units) None = None
+time_by ticks None shift = None
+
+abbrev pub time_after : ℕ → Interface → Option Time
+time_after ticks interface = time_by ticks interface.units interface.shift
 
 -- the packet of n bytes at a place of a body
 abbrev pub held_in : Interface → Option Time → Bool → ℕ → ℕ → List ℕ → Outcome Captured
 held_in interface time is_whole place n body =
     if nat_lt (length body) (place + n) then Err (BodyTooShort (place + n) (length body)) else
-    Ok (record { time = time; link = interface.link; is_whole = is_whole; bytes = drop place (take (place + n) body) })
+    Ok (record { time = time; link = interface.link; is_whole = is_whole; at = 8 + place; bytes = drop place (take (place + n) body) })
 
 -- an enhanced packet block: the interface at 0, the time at 4, higher half first, how many bytes are here at 12, how many there
--- were at 16, four bytes each, and the bytes at 20
-abbrev pub enhanced_packet : List Interface → Order → List ℕ → Outcome Captured
-enhanced_packet interfaces order body =
-    if nat_lt (length body) 20 then Err (BodyTooShort 20 (length body)) else
-    then_read (interface_at interfaces (number order 4 body)) (λ i.
+-- were at 16, four bytes each, and the bytes at 20. In the packet block, which it replaced, the interface is a number of two bytes.
+abbrev pub timed_of : Interface → Order → List ℕ → Outcome Captured
+timed_of interface order body =
     let n = number order 4 (drop 12 body) in
     let ticks = number order 4 (drop 4 body) * 2 ^ 32 + number order 4 (drop 8 body) in
-    held_in i (time_after ticks i.units) (nat_le (number order 4 (drop 16 body)) n) 20 n body)
+    held_in interface (time_after ticks interface) (nat_le (number order 4 (drop 16 body)) n) 20 n body
+
+abbrev pub timed_packet : ℕ → List (Option Interface) → Order → List ℕ → Outcome Captured
+timed_packet width interfaces order body =
+    if nat_lt (length body) 20 then Err (BodyTooShort 20 (length body)) else
+    then_read (interface_at interfaces (number order width body)) (λ interface. timed_of interface order body)
 
 -- so many bytes of a packet are kept; 0 stands for all
 abbrev pub kept_of : ℕ → ℕ → ℕ
 kept_of most n = if most == 0 then n else min n most
 
 -- a simple packet block, of the first interface: how many bytes there were at 0 (four bytes), and the bytes at 4
-abbrev pub simple_packet : List Interface → Order → List ℕ → Outcome Captured
+abbrev pub simple_packet : List (Option Interface) → Order → List ℕ → Outcome Captured
 simple_packet interfaces order body =
     if nat_lt (length body) 4 then Err (BodyTooShort 4 (length body)) else
     then_read (interface_at interfaces 0) (λ i.
@@ -104,30 +114,40 @@ simple_packet interfaces order body =
 -- what a section has said so far
 pub record Section : Type 0 where
   pub order : Order
-  pub interfaces : List Interface
+  pub interfaces : List (Option Interface)
 
-abbrev pub with_packet : Section → Outcome Captured → Outcome (Option Captured × Section)
-with_packet s packet = then_read packet (λ p. Ok (Some p, s))
+-- a packet, or why it can't be read
+abbrev pub with_packet : Section → Outcome Captured → Outcome (Option Captured) × Section
+with_packet s packet = (seen (λ p. Some p) packet, s)
 
-abbrev pub with_interface : Section → Outcome Interface → Outcome (Option Captured × Section)
-with_interface s interface = then_read interface (λ i.
-    if length s.interfaces == 64 then Err TooManyInterfaces else Ok (None, record { order = s.order; interfaces = s.interfaces ++ i ∷ [] }))
+-- one more interface; one that can't be read has a place too, so that those after it keep their numbers
+abbrev pub one_more : Section → Option Interface → Section
+one_more s interface = record { order = s.order; interfaces = s.interfaces ++ interface ∷ [] }
 
-abbrev pub new_section : Block → Outcome (Option Captured × Section)
+abbrev pub with_read : Section → Outcome Interface → Outcome (Option Captured) × Section
+with_read s (Ok interface) = (Ok None, one_more s (Some interface))
+with_read s (Err e) = (Err e, one_more s None)
+
+abbrev pub with_interface : Section → Outcome Interface → Outcome (Option Captured) × Section
+with_interface s interface = if length s.interfaces == 64 then (Err TooManyInterfaces, s) else with_read s interface
+
+abbrev pub new_section : Block → Outcome (Option Captured) × Section
 new_section b =
-    if nat_lt (length b.body) 16 then Err (BodyTooShort 16 (length b.body)) else
-    Ok (None, record { order = b.order; interfaces = [] })
+    let section : Section = record { order = b.order; interfaces = [] } in
+    if nat_lt (length b.body) 16 then (Err (BodyTooShort 16 (length b.body)), section) else (Ok None, section)
 
 -- what a block says: a packet, or something of the section; other blocks say nothing here
-unfoldable pub said_by : Section → Block → Outcome (Option Captured × Section)
+unfoldable pub said_by : Section → Block → Outcome (Option Captured) × Section
 said_by s b =
     if b.kind == 0x0a0d0d0a then new_section b else
     if b.kind == 1 then with_interface s (interface_in s.order b.body) else
+    if b.kind == 2 then with_packet s (timed_packet 2 s.interfaces s.order b.body) else
     if b.kind == 3 then with_packet s (simple_packet s.interfaces s.order b.body) else
-    if b.kind == 6 then with_packet s (enhanced_packet s.interfaces s.order b.body) else Ok (None, s)
+    if b.kind == 6 then with_packet s (timed_packet 4 s.interfaces s.order b.body) else (Ok None, s)
 
--- the block at the front, and the section after it
+-- the block at the front, and the section after it; where a block is whole, what is wrong in it doesn't hide the next
 unfoldable pub next_in_section : Section → List ℕ → Outcome (Front × Section)
 next_in_section s bytes =
     then_read (next_block s.order bytes) (λ b.
-    then_read (said_by s b) (λ said. Ok (record { used = 12 + length b.body; packet = said.0 }, said.1)))
+    let said = said_by s b in
+    Ok (record { used = 12 + length b.body; packet = said.0 }, said.1))

@@ -21,8 +21,8 @@ time_at_front bytes = time_of (little_number 4 (drop 16 bytes) * 1000000 + littl
 -- the message of the first n bytes, after a time, and the time after it
 abbrev pub front_of_length : ℕ → Option Time → List ℕ → Front × Option Time
 front_of_length n time bytes =
-    if is_time bytes then (record { used = n; packet = None }, Some (time_at_front bytes)) else
-    (record { used = n; packet = Some (record { time = time; link = Plain; is_whole = true; bytes = take n bytes }) }, time)
+    if is_time bytes then (record { used = n; packet = Ok None }, Some (time_at_front bytes)) else
+    (record { used = n; packet = Ok (Some (record { time = time; link = Plain; is_whole = true; at = 0; bytes = take n bytes })) }, time)
 
 -- the message at the front
 unfoldable pub next_in_stream : Option Time → List ℕ → Outcome (Front × Option Time)

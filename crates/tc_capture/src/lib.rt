@@ -4,7 +4,10 @@
 //! `Short` says how many bytes that takes. So a reader needs a buffer of the longest piece, whatever the length of the file.
 #![tactic(auto)]
 
+pub mod answer;
 pub mod capture;
+pub mod entries;
+pub mod errno;
 pub mod error;
 pub mod kind;
 pub mod message;
@@ -17,11 +20,13 @@ pub mod piece;
 pub mod stream;
 pub mod time;
 
+pub use answer::{Answer, answer_in};
 pub use capture::Capture;
+pub use errno::errno_name;
 pub use error::{CaptureError, Res};
 pub use kind::{Holds, NLMSG_DONE, NLMSG_ERROR, NLMSG_TSTAMP, RtmType, rtm_of};
 pub use message::{NLMSG_HEADER_LEN, NetlinkMessage};
 pub use messages::Messages;
-pub use packet::{Link, Packet};
+pub use packet::{Contents, Link, Packet};
 pub use piece::Piece;
 pub use time::Time;

@@ -60,7 +60,7 @@ pub fn next_message(bytes: &[u8]) -> Res<(NetlinkMessage<'_>, &[u8])>
     Ok((message_of_length(length, bytes), rest))
 }
 
-fn message_of_length(long: usize, bytes: &[u8]) -> NetlinkMessage<'_>
+pub(crate) fn message_of_length(long: usize, bytes: &[u8]) -> NetlinkMessage<'_>
     requires header { 16 ≤ long }
     requires whole { long ≤ length bytes.now }
     ensures { message_of result ≡ message_of_length long bytes.now }

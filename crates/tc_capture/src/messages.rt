@@ -1,9 +1,13 @@
 //! The messages of a packet.
 
+ghost use Rattle.std.specs.Prelude.{◌≡◌};
+ghost use Rattle.tc_capture.specs.Messages.{are_zeros};
+
 use crate::error::Res;
 use crate::message::{NetlinkMessage, next_message};
 
-/// The netlink messages that some bytes begin with, then the first fault if there is one, then nothing.
+/// The netlink messages that some bytes begin with, then the first fault if there is one, then nothing. Zeros at the end are no
+/// message and no fault.
 #[derive(Drop)]
 pub struct Messages<'a> {
     rest: &'a [u8],
@@ -42,7 +46,7 @@ impl<'a> Iterator for Messages<'a> {
     ghost remaining = { item_count messages_left };
 
     fn next(&mut self) -> Option<Res<NetlinkMessage<'a>>> {
-        if self.rest.is_empty() {
+        if are_zeros(self.rest) {
             return None;
         }
         match next_message(self.rest) {
@@ -56,4 +60,11 @@ impl<'a> Iterator for Messages<'a> {
             }
         }
     }
+}
+
+// True of zeros alone.
+fn are_zeros(bytes: &[u8]) -> bool
+    ensures { result ≡ are_zeros bytes.now }
+{
+    bytes.iter().all(|byte| *byte == 0)
 }

@@ -39,4 +39,16 @@ impl Order {
             Order::Big => BigEndian::read_u32(from),
         }
     }
+
+    /// The number of the eight bytes at a place.
+    pub fn u64_at(self, bytes: &[u8], at: usize) -> u64
+        requires { at + 8 ≤ length bytes.now }
+        ensures { result ≡ number self 8 (drop at bytes.now) }
+    {
+        let (_, from) = bytes.split_at(at);
+        match self {
+            Order::Little => LittleEndian::read_u64(from),
+            Order::Big => BigEndian::read_u64(from),
+        }
+    }
 }

@@ -19,8 +19,25 @@ pub enum Link {
     /// The cooked header of `LINKTYPE_NETLINK`.
     Cooked,
 
-    /// It holds no netlink messages.
-    Other,
+    /// It holds no netlink messages: the number of its link type.
+    Other(u32),
+}
+
+/// What a packet holds.
+#[derive(Clone, Copy, Debug)]
+pub enum Contents<'a> {
+    /// Messages of `NETLINK_ROUTE`, as many of their bytes as the capture holds.
+    Route {
+        /// The packet type of the cooked header (`PACKET_OUTGOING` is 4), where there is one.
+        packet_type: Option<u16>,
+        messages: &'a [u8],
+    },
+
+    /// Messages of another netlink family, by its number in `linux/netlink.h`.
+    Family(u16),
+
+    /// No netlink, but packets of the link type with this number.
+    LinkType(u32),
 }
 
 /// The link of this number in pcap and pcapng.
@@ -29,7 +46,7 @@ pub(crate) fn link_of(number: u32) -> Link
 {
     match number {
         253 => Link::Cooked,
-        _ => Link::Other,
+        other => Link::Other(other),
     }
 }
 
@@ -42,6 +59,8 @@ pub struct Packet<'a> {
     pub link: Link,
     /// False where the capture holds only the first bytes of it (snaplen).
     pub is_whole: bool,
+    /// Where its bytes begin in the piece.
+    pub at: usize,
     /// The bytes of it that the capture holds.
     pub bytes: &'a [u8],
 }

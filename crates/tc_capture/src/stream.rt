@@ -47,7 +47,10 @@ fn front_of_length(used: usize, time: Option<Time>, bytes: &[u8]) -> (Piece<'_>,
     ensures { (front_of result.0, result.1) ≡ front_of_length used time bytes.now }
 {
     if is_time(bytes) {
-        let piece = Piece { used, packet: None };
+        let piece = Piece {
+            used,
+            packet: Ok(None),
+        };
         return (piece, Some(time_at_front(bytes)));
     }
     let (front, _) = bytes.split_at(used);
@@ -55,11 +58,12 @@ fn front_of_length(used: usize, time: Option<Time>, bytes: &[u8]) -> (Piece<'_>,
         time,
         link: Link::Plain,
         is_whole: true,
+        at: 0,
         bytes: front,
     };
     let piece = Piece {
         used,
-        packet: Some(packet),
+        packet: Ok(Some(packet)),
     };
     (piece, time)
 }

@@ -63,8 +63,16 @@ fn is_end(end: End, at: usize, fault: CaptureError) -> bool {
     end.at == at && is_fault(end.fault, fault)
 }
 
-// Where a byte is changed, to what, and the fault at what place.
-static CHANGES: [(usize, u8, usize, CaptureError); 5] = [
+// True if all is read, but for a block at a place, which has a fault.
+fn is_hole(end: End, at: usize, fault: CaptureError) -> bool {
+    match end.hole {
+        Some((place, found)) => place == at && found == fault && end.fault.is_none(),
+        None => false,
+    }
+}
+
+// Where a byte is changed, to what, and the fault at what place, where reading ends.
+static CHANGES: [(usize, u8, usize, CaptureError); 4] = [
     (4, 8, 0, CaptureError::BlockLength { length: 8 }),
     (4, 30, 0, CaptureError::BlockLength { length: 30 }),
     (
@@ -77,7 +85,6 @@ static CHANGES: [(usize, u8, usize, CaptureError); 5] = [
         },
     ),
     (8, 0, 0, CaptureError::NoByteOrder),
-    (68, 9, 60, CaptureError::NoInterface { interface: 9 }),
 ];
 
 // A file of one message.
@@ -102,10 +109,19 @@ fn is_broken(
     }
 }
 
-// True if reading ends at the packet where its length is made longer than its block.
+// True if the packet can't be read, and the end is, where its length is made longer than its block.
 fn is_too_long(alloc: Global, file: &[u8]) -> bool {
     match end_with(alloc, file, 81, 1) {
-        Ok(end) => end.at == 60 && matches!(end.fault, Some(CaptureError::BodyTooShort { .. })),
+        Ok(end) => end.at == file.len()
+            && matches!(end.hole, Some((60, CaptureError::BodyTooShort { .. }))),
+        Err(_) => false,
+    }
+}
+
+// True if the packet can't be read where its interface is made one that isn't described.
+fn is_unknown(alloc: Global, file: &[u8]) -> bool {
+    match end_with(alloc, file, 68, 9) {
+        Ok(end) => is_hole(end, 60, CaptureError::NoInterface { interface: 9 }),
         Err(_) => false,
     }
 }
@@ -121,6 +137,7 @@ fn blocks(rt: HostRuntime) -> Result<(), Fail> {
         );
     }
     assert!(rt; is_too_long(alloc, &file));
+    assert!(rt; is_unknown(alloc, &file));
     Ok(())
 }
 
@@ -138,15 +155,15 @@ fn end_of_many(alloc: Global, interfaces: usize) -> Result<End, AllocError> {
 // True if a section of so many interfaces is read to its end.
 fn are_read(alloc: Global, interfaces: usize) -> bool {
     match end_of_many(alloc, interfaces) {
-        Ok(end) => end.fault.is_none(),
+        Ok(end) => end.fault.is_none() && end.hole.is_none(),
         Err(_) => false,
     }
 }
 
-// True if reading a section of 65 interfaces fails at the last one.
+// True if a section of 65 interfaces is read but for the last one.
 fn are_too_many(alloc: Global) -> bool {
     match end_of_many(alloc, 65) {
-        Ok(end) => is_end(end, 28 + 64 * 32, CaptureError::TooManyInterfaces),
+        Ok(end) => is_hole(end, 28 + 64 * 32, CaptureError::TooManyInterfaces),
         Err(_) => false,
     }
 }

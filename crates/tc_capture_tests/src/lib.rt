@@ -6,6 +6,8 @@ mod broken;
 #[cfg(test)]
 mod cuts;
 #[cfg(test)]
+mod errno;
+#[cfg(test)]
 mod reading;
 #[cfg(test)]
 mod same;

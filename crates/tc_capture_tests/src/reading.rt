@@ -1,6 +1,6 @@
 //! Reading a whole file.
 
-use tc_capture::{Capture, CaptureError, Messages, NetlinkMessage, Packet, Res, Time};
+use tc_capture::{Capture, CaptureError, Contents, Messages, NetlinkMessage, Packet, Res, Time};
 
 /// Where and how reading a file ends, and how many packets of netlink it has read.
 #[derive(Clone, Copy)]
@@ -8,6 +8,8 @@ pub(crate) struct End {
     pub(crate) packets: usize,
     pub(crate) at: usize,
     pub(crate) fault: Option<CaptureError>,
+    /// The last piece that is whole and can't be read, and why.
+    pub(crate) hole: Option<(usize, CaptureError)>,
 }
 
 /// A packet as it was read.
@@ -21,8 +23,8 @@ pub(crate) struct Found<'a> {
 // A packet, if it is of netlink.
 fn netlink_of<'a>(packet: Option<Packet<'a>>) -> Option<Found<'a>> {
     let packet = packet?;
-    match packet.netlink() {
-        Ok(Some(messages)) => Some(Found {
+    match packet.contents() {
+        Ok(Contents::Route { messages, .. }) => Some(Found {
             time: packet.time,
             is_whole: packet.is_whole,
             messages,
@@ -37,6 +39,7 @@ fn read_to<'a>(file: &'a [u8], number: usize) -> (End, Option<Found<'a>>) {
         packets: 0,
         at: 0,
         fault: None,
+        hole: None,
     };
     let mut capture = match Capture::of_first(file) {
         Some(capture) => capture,
@@ -52,12 +55,18 @@ fn read_to<'a>(file: &'a [u8], number: usize) -> (End, Option<Found<'a>>) {
         }
         match capture.next(rest) {
             Ok(piece) => {
+                let start = end.at;
                 end.at = end.at.wrapping_add(piece.used);
-                if let Some(packet) = netlink_of(piece.packet) {
-                    if end.packets == number {
-                        return (end, Some(packet));
+                match piece.packet {
+                    Ok(packet) => {
+                        if let Some(packet) = netlink_of(packet) {
+                            if end.packets == number {
+                                return (end, Some(packet));
+                            }
+                            end.packets = end.packets.wrapping_add(1);
+                        }
                     }
-                    end.packets = end.packets.wrapping_add(1);
+                    Err(fault) => end.hole = Some((start, fault)),
                 }
             }
             Err(fault) => {

@@ -4,4 +4,6 @@
 #[cfg(test)]
 mod build;
 #[cfg(test)]
+mod make;
+#[cfg(test)]
 mod requests;

@@ -13,7 +13,6 @@ use Rattle.tc_messages.specs.Message.{tc_message}
 use Rattle.tc_messages.specs.declared.message.TcMessage.{TcMessage}
 use Rattle.tc_requests.specs.RequestOf.{new_type, request_restored}
 use Rattle.tc_requests.specs.RestoredMessages.{actions_message_restored}
-use Rattle.tc_requests.specs.declared.restore_messages.Object.{Object}
 
 -- a dump of this has this message type: that of a request that makes one, or of actions `RTM_GETACTION`
 abbrev pub IsDumpOf : Option ℕ → Dump → Type 0

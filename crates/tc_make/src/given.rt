@@ -1,93 +1,11 @@
 //! What a line says of its message.
 
-ghost use Rattle.std.specs.Prelude.{◌≤◌, IfOk};
+ghost use Rattle.std.specs.Prelude.{◌≡◌, ◌≤◌, IfOk};
 
-use nla_frames::DecodeError;
+use crate::complaint::{Complaint, found_of};
 use serde_json::Value;
-use std::alloc::{AllocError, AllocFailed};
-use std::fmt;
-use tc_build::{MakeError, ReadError};
+use std::alloc::Global;
 use tc_capture::{Holds, Time, rtm_of};
-use tc_requests::RestoreError;
-
-/// Why no message is made of a line.
-#[derive(Drop)]
-pub(crate) enum Complaint {
-    /// It is longer than the longest line.
-    TooLong,
-    /// It isn't read as JSON.
-    Read(ReadError),
-    /// It says that a message was refused, and holds none.
-    Refused,
-    /// A member isn't what it has to be.
-    Member {
-        path: &'static str,
-        wanted: &'static str,
-    },
-    /// No message is made of its JSON.
-    Make(MakeError),
-    /// No request restores what it shows.
-    Restore(RestoreError),
-    /// More has to be settled than is settled of one message.
-    TooUnsettled,
-    /// The message is too long for its header, or for a capture.
-    TooLongPacket,
-    /// Memory ran out.
-    NoMemory,
-}
-
-impl From<AllocError> for Complaint {
-    fn from(_e: AllocError) -> Complaint {
-        Complaint::NoMemory
-    }
-}
-
-impl<T: Drop> From<AllocFailed<T>> for Complaint {
-    fn from(_e: AllocFailed<T>) -> Complaint {
-        Complaint::NoMemory
-    }
-}
-
-impl From<ReadError> for Complaint {
-    fn from(e: ReadError) -> Complaint {
-        match e {
-            ReadError::OutOfMemory => Complaint::NoMemory,
-            e => Complaint::Read(e),
-        }
-    }
-}
-
-impl From<RestoreError> for Complaint {
-    fn from(e: RestoreError) -> Complaint {
-        match e {
-            RestoreError::OutOfMemory => Complaint::NoMemory,
-            e => Complaint::Restore(e),
-        }
-    }
-}
-
-// Of bytes that were made, which are canonical: reading them fails only where memory runs out.
-impl From<DecodeError> for Complaint {
-    fn from(_e: DecodeError) -> Complaint {
-        Complaint::NoMemory
-    }
-}
-
-impl fmt::Display for Complaint {
-    fn fmt<W: fmt::Write>(&self, f: &mut fmt::Formatter<W>) -> fmt::Result {
-        match self {
-            Complaint::TooLong => f.write_str("longer than 4194304 bytes"),
-            Complaint::Read(error) => write!(f, "{error}"),
-            Complaint::Refused => f.write_str("holds no message, but why one was refused"),
-            Complaint::Member { path, wanted } => write!(f, "{path}: wanted {wanted}"),
-            Complaint::Make(error) => write!(f, "{error}"),
-            Complaint::Restore(error) => write!(f, "can't be restored: {error}"),
-            Complaint::TooUnsettled => f.write_str("too much has to be settled"),
-            Complaint::TooLongPacket => f.write_str("the message is too long to be written"),
-            Complaint::NoMemory => f.write_str("out of memory"),
-        }
-    }
-}
 
 /// What a line says of its message, beside the message.
 #[derive(Clone, Copy)]
@@ -97,18 +15,73 @@ pub(crate) struct Given {
     pub(crate) kind: Option<u16>,
     pub(crate) flags: u16,
     pub(crate) sequence: u32,
+    /// `nlmsg_pid`.
+    pub(crate) port: u32,
+    pub(crate) packet: PacketOf,
+}
+
+/// The packet that a message is in.
+#[derive(Clone, Copy, PartialEq, Eq)]
+pub(crate) struct PacketOf {
+    /// Its number; none of one that holds this message alone.
+    pub(crate) number: Option<u64>,
     pub(crate) time: Time,
+    /// The packet type of the cooked header.
+    pub(crate) packet_type: u16,
+}
+
+const NO_TIME: Time = Time {
+    seconds: 0,
+    nanoseconds: 0,
+};
+
+// The packet type `PACKET_OUTGOING`.
+const OUTGOING: u16 = 4;
+
+/// A packet of one message, sent by this machine at a time.
+pub(crate) fn packet_at(time: Time) -> PacketOf
+    ensures { result.time ≡ time }
+{
+    PacketOf {
+        number: None,
+        time,
+        packet_type: OUTGOING,
+    }
 }
 
 /// What a line says of its message.
-pub(crate) fn given_of(json: &Value) -> Result<Given, Complaint> {
+pub(crate) fn given_of(alloc: Global, json: &Value) -> Result<Given, Complaint> {
+    if is_answer(json) {
+        return Err(Complaint::Answer);
+    }
     if json.get("message").is_some() {
-        return in_line(json);
+        return in_line(alloc, json);
     }
+    match without_message(json) {
+        Some(complaint) => Err(complaint),
+        None => Ok(alone(json)),
+    }
+}
+
+// True of an answer of the kernel.
+fn is_answer(json: &Value) -> bool {
+    match json.get("type") {
+        Some(name) => name.as_str() == Some("NLMSG_ERROR"),
+        None => false,
+    }
+}
+
+// What a line is that `tcshow` writes and that holds no message.
+fn without_message(json: &Value) -> Option<Complaint> {
     if json.get("refused").is_some() {
-        return Err(Complaint::Refused);
+        Some(Complaint::Refused)
+    } else if json.get("summary").is_some() {
+        Some(Complaint::Summary)
+    } else if json.get("note").is_some() {
+        Some(Complaint::Note)
+    } else {
+        None
     }
-    Ok(alone(json))
 }
 
 // What is known of a message alone: the header of an action message has no interface.
@@ -121,35 +94,144 @@ fn alone(json: &Value) -> Given {
         kind: None,
         flags: 0,
         sequence: 0,
-        time: NO_TIME,
+        port: 0,
+        packet: packet_at(NO_TIME),
     }
 }
 
-const NO_TIME: Time = Time {
-    seconds: 0,
-    nanoseconds: 0,
-};
+// The members of a line.
+fn is_member(name: &str) -> bool {
+    matches!(
+        name,
+        "time"
+            | "packet"
+            | "packet_type"
+            | "type"
+            | "flags"
+            | "seq"
+            | "portid"
+            | "fits"
+            | "settled"
+            | "canonical"
+            | "message"
+    )
+}
+
+// The first member that a line doesn't have.
+fn unknown_in(json: &Value) -> Option<&str> {
+    for (name, _) in json.as_object()? {
+        if !is_member(name.as_str()) {
+            return Some(name.as_str());
+        }
+    }
+    None
+}
 
 // What is beside a message.
-fn in_line(json: &Value) -> Result<Given, Complaint> {
+fn in_line(alloc: Global, json: &Value) -> Result<Given, Complaint> {
+    if let Some(name) = unknown_in(json) {
+        return Err(Complaint::Unknown(String::from_str(alloc, name)?));
+    }
     let (kind, holds) = match json.get("type") {
         None => (None, alone(json.get("message").unwrap_or(json)).holds),
         Some(name) => {
-            let (kind, holds) = type_of(name)?;
+            let (kind, holds) = type_of(alloc, name)?;
             (Some(kind), holds)
         }
     };
     Ok(Given {
         holds,
         kind,
-        flags: number_of(json, "flags", "/flags", 0xFFFF)? as u16,
-        sequence: number_of(json, "seq", "/seq", 0xFFFF_FFFF)? as u32,
-        time: time_of(json)?,
+        flags: number_of(alloc, json.get("flags"), &FLAGS, 0)? as u16,
+        sequence: number_of(alloc, json.get("seq"), &SEQUENCE, 0)? as u32,
+        port: number_of(alloc, json.get("portid"), &PORT, 0)? as u32,
+        packet: packet_of(alloc, json)?,
     })
 }
 
+// The packet of a line; without a number it is one of its own.
+fn packet_of(alloc: Global, json: &Value) -> Result<PacketOf, Complaint> {
+    let packet_type = number_of(
+        alloc,
+        json.get("packet_type"),
+        &PACKET_TYPE,
+        u64::from(OUTGOING),
+    )?;
+    let number = match json.get("packet") {
+        None => None,
+        held => Some(number_of(alloc, held, &PACKET, 0)?),
+    };
+    Ok(PacketOf {
+        number,
+        time: time_of(alloc, json)?,
+        packet_type: packet_type as u16,
+    })
+}
+
+// A member that is a number.
+struct Numbered {
+    path: &'static str,
+    // The greatest that it may be.
+    most: u64,
+    wanted: &'static str,
+}
+
+const FLAGS: Numbered = Numbered {
+    path: "/flags",
+    most: 0xFFFF,
+    wanted: "a number from 0 to 65535",
+};
+
+const SEQUENCE: Numbered = Numbered {
+    path: "/seq",
+    most: 0xFFFF_FFFF,
+    wanted: "a number from 0 to 4294967295",
+};
+
+const PORT: Numbered = Numbered {
+    path: "/portid",
+    most: 0xFFFF_FFFF,
+    wanted: "a number from 0 to 4294967295",
+};
+
+const PACKET: Numbered = Numbered {
+    path: "/packet",
+    most: u64::MAX,
+    wanted: "the number of a packet",
+};
+
+const PACKET_TYPE: Numbered = Numbered {
+    path: "/packet_type",
+    most: 0xFFFF,
+    wanted: "a number from 0 to 65535",
+};
+
+// The number of a member; this one where there is none.
+fn number_of(
+    alloc: Global,
+    held: Option<&Value>,
+    member: &Numbered,
+    default: u64,
+) -> Result<u64, Complaint>
+    requires { default ≤ member.now.most }
+    ensures { IfOk result (λ n. n ≤ member.now.most) }
+{
+    let held = match held {
+        None => return Ok(default),
+        Some(held) => held,
+    };
+    match held.as_u64() {
+        Some(number) if number <= member.most => Ok(number),
+        _ => Err(Complaint::Member {
+            path: member.path,
+            found: found_of(alloc, held)?,
+            wanted: member.wanted,
+        }),
+    }
+}
+
 // The number of a message type, and what its payload is.
-fn type_of(name: &Value) -> Result<(u16, Holds), Complaint> {
+fn type_of(alloc: Global, name: &Value) -> Result<(u16, Holds), Complaint> {
     if let Some(name) = name.as_str() {
         for kind in 36..103u16 {
             if let Some(rtm) = rtm_of(kind) {
@@ -161,47 +243,31 @@ fn type_of(name: &Value) -> Result<(u16, Holds), Complaint> {
     }
     Err(Complaint::Member {
         path: "/type",
-        wanted: "the name of a message type of traffic control",
+        found: found_of(alloc, name)?,
+        wanted: TYPES,
     })
 }
 
-// A number up to `most`; 0 where there is none.
-fn number_of(
-    json: &Value,
-    name: &'static str,
-    path: &'static str,
-    most: u64,
-) -> Result<u64, Complaint>
-    ensures { IfOk result (λ n. n ≤ most) }
-{
-    match json.get(name) {
-        None => Ok(0),
-        Some(held) => match held.as_u64() {
-            Some(number) if number <= most => Ok(number),
-            _ => Err(Complaint::Member {
-                path,
-                wanted: "a number",
-            }),
-        },
-    }
-}
+const TYPES: &str =
+    "RTM_NEWQDISC, RTM_DELQDISC, RTM_GETQDISC, the same of TCLASS, TFILTER, ACTION or CHAIN, or NLMSG_ERROR";
 
 // The time, in seconds with nine digits behind a point; 0 where there is none.
-fn time_of(json: &Value) -> Result<Time, Complaint> {
-    let wrong = Complaint::Member {
-        path: "/time",
-        wanted: "seconds, a point and nine digits",
-    };
-    let text = match json.get("time") {
+fn time_of(alloc: Global, json: &Value) -> Result<Time, Complaint> {
+    let held = match json.get("time") {
         None => return Ok(NO_TIME),
-        Some(held) => match held.as_str() {
-            Some(text) => text,
-            None => return Err(wrong),
-        },
+        Some(held) => held,
     };
-    match seconds_in(text) {
+    let time = match held.as_str() {
+        Some(text) => seconds_in(text),
+        None => None,
+    };
+    match time {
         Some(time) => Ok(time),
-        None => Err(wrong),
+        None => Err(Complaint::Member {
+            path: "/time",
+            found: found_of(alloc, held)?,
+            wanted: "seconds, a point and nine digits",
+        }),
     }
 }
 

@@ -9,10 +9,12 @@
 #![tactic(auto)]
 
 pub mod arguments;
+mod complaint;
 mod given;
 mod input;
 mod made;
 mod packet;
+mod packets;
 pub mod program;
 mod restore;
 pub mod run;

@@ -3,11 +3,12 @@
 ghost use Rattle.std.specs.Prelude.{IfOk};
 ghost use Rattle.tc_make.specs.Written.{IsCanonical};
 
-use crate::given::{Complaint, Given, given_of};
+use crate::complaint::Complaint;
+use crate::given::{Given, given_of};
 use crate::settle::settle_at;
 use serde_json::Value;
 use std::alloc::Global;
-use tc_build::{MakeError, make_action, make_tc, read_json};
+use tc_build::{MakeError, ReadError, make_action, make_tc, read_json};
 use tc_capture::Holds;
 
 // How many places of a message are settled at most.
@@ -26,8 +27,11 @@ pub(crate) struct Made {
 pub(crate) fn made_of(alloc: Global, line: &[u8], settles: bool) -> Result<Made, Complaint>
     ensures { IfOk result (λ made. IsCanonical made.given.holds made.bytes.items) }
 {
-    let mut json = read_json(alloc, line)?;
-    let given = given_of(&json)?;
+    let mut json = match read_json(alloc, line) {
+        Ok(json) => json,
+        Err(error) => return Err(complaint_of(error, line)),
+    };
+    let given = given_of(alloc, &json)?;
     let mut settled = Vec::new(alloc);
     let bytes = match json.get_mut("message") {
         Some(message) => make(alloc, given.holds, message, settles, &mut settled)?,
@@ -38,6 +42,50 @@ pub(crate) fn made_of(alloc: Global, line: &[u8], settles: bool) -> Result<Made,
         bytes,
         settled,
     })
+}
+
+// Why a line isn't read as JSON.
+fn complaint_of(error: ReadError, line: &[u8]) -> Complaint {
+    match error {
+        ReadError::NoJson { column } => {
+            if is_too_deep(line, column) {
+                Complaint::TooDeep
+            } else if is_one_part(line) {
+                Complaint::OnePart
+            } else {
+                Complaint::Read(error)
+            }
+        }
+        error => Complaint::from(error),
+    }
+}
+
+// The most that lists and objects nest.
+const MOST_DEPTH: u32 = 127;
+
+// True if more lists and objects than that are open at one of the first bytes.
+fn is_too_deep(line: &[u8], count: usize) -> bool {
+    let (mut depth, mut is_text, mut is_escaped) = (0u32, false, false);
+    for byte in &line[..count.min(line.len())] {
+        match *byte {
+            _ if is_escaped => is_escaped = false,
+            b'\\' => is_escaped = is_text,
+            b'"' => is_text = !is_text,
+            b'[' | b'{' if !is_text => depth = depth.saturating_add(1),
+            b']' | b'}' if !is_text => depth = depth.saturating_sub(1),
+            _ => {}
+        }
+        if depth > MOST_DEPTH {
+            return true;
+        }
+    }
+    false
+}
+
+// True of a line of JSON that is written on several lines: a bracket alone, or what is indented.
+fn is_one_part(line: &[u8]) -> bool {
+    matches!(line.trim_ascii(), b"{" | b"}" | b"}," | b"[" | b"]" | b"],")
+        || matches!(line, [b' ', b' ', ..] | [b'\t', ..])
 }
 
 // The bytes of a message; what isn't settled is settled first, if that is asked for.

@@ -3,7 +3,8 @@
 ghost use Rattle.std.specs.Prelude.{◌≡◌, ◌+◌, ◌++◌, ℕ, Some, IfOk, OnOk, length};
 ghost use Rattle.tc_make.specs.Written.{netlink_header, in_netlink, packet_header, hex_line};
 
-use crate::given::{Complaint, Given};
+use crate::complaint::{Complaint, Found};
+use crate::given::{Given, PacketOf};
 use std::alloc::Global;
 use tc_capture::Time;
 
@@ -27,41 +28,57 @@ pub(crate) fn put_line(alloc: Global, out: &mut Vec<u8>, bytes: &[u8]) -> Result
 }
 
 /// Appends netlink messages as a packet of a capture.
-pub(crate) fn put_packet(out: &mut Vec<u8>, time: Time, bytes: &[u8]) -> Result<(), Complaint>
-    ensures { OnOk result (out.new.items
-        ≡ (out.old.items ++ packet_header time.seconds time.nanoseconds (length bytes.now + 16)) ++ bytes.now) }
+pub(crate) fn put_packet(
+    out: &mut Vec<u8>,
+    packet: &PacketOf,
+    bytes: &[u8],
+) -> Result<(), Complaint>
+    ensures { OnOk result (out.new.items ≡ (out.old.items
+        ++ packet_header packet.now.time.seconds packet.now.time.nanoseconds (length bytes.now + 16) packet.now.packet_type) ++ bytes.now) }
 {
-    let seconds = seconds_of(time)?;
+    let seconds = seconds_of(packet.time)?;
     let len = len_behind(bytes)?;
     if len > MOST_PACKET {
         return Err(Complaint::TooLongPacket);
     }
-    out.extend_from_slice(&packet_header_of(seconds, time.nanoseconds, len))?;
+    out.extend_from_slice(&packet_header_of(
+        seconds,
+        packet.time.nanoseconds,
+        len,
+        packet.packet_type,
+    ))?;
     Ok(out.extend_from_slice(bytes)?)
 }
 
-// The header of a packet in a capture, and the cooked header: sent by this machine, `ARPHRD_NETLINK`, no address, `NETLINK_ROUTE`.
+/// True if messages of this length, with their headers, and no more are written as one packet.
+pub(crate) fn fits_in_packet(len: usize) -> bool {
+    len <= MOST_PACKET as usize - 16
+}
+
+// The header of a packet in a capture, and the cooked header: the packet type, `ARPHRD_NETLINK`, no address, `NETLINK_ROUTE`.
 #[rattlefmt::skip]
-fn packet_header_of(seconds: u32, nanoseconds: u32, len: u32) -> [u8; 32]
-    ensures { result ≡ packet_header seconds nanoseconds len }
+fn packet_header_of(seconds: u32, nanoseconds: u32, len: u32, packet_type: u16) -> [u8; 32]
+    ensures { result ≡ packet_header seconds nanoseconds len packet_type }
 {
+    let [t, u] = packet_type.to_be_bytes();
     let [a, b, c, d] = seconds.to_le_bytes();
     let [e, f, g, h] = nanoseconds.to_le_bytes();
     let [i, j, k, l] = len.to_le_bytes();
     [
         a, b, c, d, e, f, g, h, i, j, k, l, i, j, k, l,
-        0, 4, 3, 0x38, 0, 0, 0, 0, 0, 0, 0, 0, 0, 0, 0, 0,
+        t, u, 3, 0x38, 0, 0, 0, 0, 0, 0, 0, 0, 0, 0, 0, 0,
     ]
 }
 
-// The seconds, which a capture has in four bytes.
-fn seconds_of(time: Time) -> Result<u32, Complaint>
+/// The seconds, which a capture has in four bytes.
+pub(crate) fn seconds_of(time: Time) -> Result<u32, Complaint>
     ensures { IfOk result (λ n. n ≡ time.seconds) }
 {
     match u32::try_from(time.seconds) {
         Ok(seconds) => Ok(seconds),
         Err(_) => Err(Complaint::Member {
             path: "/time",
+            found: Found::Number(time.seconds),
             wanted: "seconds up to 4294967295",
         }),
     }
@@ -83,29 +100,37 @@ fn len_behind(bytes: &[u8]) -> Result<u32, Complaint>
 /// A message behind its netlink header.
 pub(crate) fn with_header(alloc: Global, given: &Given, bytes: &[u8]) -> Result<Vec<u8>, Complaint>
     ensures { IfOk result (λ whole. (kind : ℕ) × (given.now.kind ≡ Some kind)
-        × (whole.items ≡ in_netlink kind given.now.flags given.now.sequence bytes.now)) }
+        × (whole.items ≡ in_netlink kind given.now.flags given.now.sequence given.now.port bytes.now)) }
 {
     let kind = match given.kind {
         Some(kind) => kind,
         None => {
             return Err(Complaint::Member {
                 path: "/type",
+                found: Found::Nothing,
                 wanted: "a message type for the netlink header, or --no-header",
             });
         }
     };
-    let header = header_of(len_behind(bytes)?, kind, given.flags, given.sequence);
+    let header = header_of(
+        len_behind(bytes)?,
+        kind,
+        given.flags,
+        given.sequence,
+        given.port,
+    );
     let mut whole = header.to_vec(alloc)?;
     whole.extend_from_slice(bytes)?;
     Ok(whole)
 }
 
-fn header_of(len: u32, kind: u16, flags: u16, sequence: u32) -> [u8; 16]
-    ensures { result ≡ netlink_header len kind flags sequence }
+fn header_of(len: u32, kind: u16, flags: u16, sequence: u32, port: u32) -> [u8; 16]
+    ensures { result ≡ netlink_header len kind flags sequence port }
 {
     let [a, b, c, d] = len.to_le_bytes();
     let [e, f] = kind.to_le_bytes();
     let [g, h] = flags.to_le_bytes();
     let [i, j, k, l] = sequence.to_le_bytes();
-    [a, b, c, d, e, f, g, h, i, j, k, l, 0, 0, 0, 0]
+    let [m, n, o, p] = port.to_le_bytes();
+    [a, b, c, d, e, f, g, h, i, j, k, l, m, n, o, p]
 }

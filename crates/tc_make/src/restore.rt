@@ -8,7 +8,8 @@ ghost use Rattle.tc_make.specs.declared.restore.Dump.{Dump as DumpType};
 ghost use Rattle.tc_make.specs.declared.restore.Dump.TheVariants.{Of, Actions};
 ghost use Rattle.tc_requests.specs.RequestOf.{new_type};
 
-use crate::given::{Complaint, Given};
+use crate::complaint::{Complaint, Found};
+use crate::given::{Given, packet_at};
 use crate::made::Made;
 use nla_frames::{Emitable, ParseableBytes};
 use std::alloc::Global;
@@ -39,7 +40,7 @@ pub(crate) fn restored(alloc: Global, made: Made) -> Result<Made, Complaint>
         × Restores dump made.bytes.items r.bytes.items) }
     ensures flags { IfOk result (λ r. r.given.flags ≡ 0x605) }
     ensures sequence { IfOk result (λ r. r.given.sequence ≡ made.given.sequence) }
-    ensures time { IfOk result (λ r. r.given.time ≡ made.given.time) }
+    ensures time { IfOk result (λ r. r.given.packet.time ≡ made.given.packet.time) }
 {
     let Made {
         given,
@@ -54,7 +55,8 @@ pub(crate) fn restored(alloc: Global, made: Made) -> Result<Made, Complaint>
             kind: Some(request.message_type),
             flags: request.flags,
             sequence: given.sequence,
-            time: given.time,
+            port: 0,
+            packet: packet_at(given.packet.time),
         },
         bytes: request.message,
         settled,
@@ -99,7 +101,11 @@ fn dump_of(kind: Option<u16>) -> Result<Dump, Complaint>
     }
     Err(Complaint::Member {
         path: "/type",
-        wanted: "the message type of a dump",
+        found: match kind {
+            Some(kind) => Found::Type(kind),
+            None => Found::Nothing,
+        },
+        wanted: "RTM_NEWQDISC, RTM_NEWTCLASS, RTM_NEWTFILTER, RTM_NEWCHAIN, RTM_NEWACTION or RTM_GETACTION",
     })
 }
 

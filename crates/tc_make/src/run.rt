@@ -1,10 +1,11 @@
 //! A whole run.
 
 use crate::arguments::Request;
-use crate::given::Complaint;
+use crate::complaint::{Complaint, Place};
 use crate::input::{Line, next_line};
 use crate::made::{Made, made_of};
-use crate::packet::{CAPTURE, put_line, put_packet, with_header};
+use crate::packet::{CAPTURE, put_line, with_header};
+use crate::packets::Packet;
 use crate::restore::restored;
 use crate::status::Stop;
 use crate::writing::write_all;
@@ -49,21 +50,37 @@ fn make_all<R: BufRead, W: Write, E: Write>(
     }
     let mut line = Vec::new(alloc);
     let mut out = Vec::new(alloc);
+    let mut packet = Packet::new(alloc);
     for number in 1..u64::MAX {
         let found = next_line(reader, &mut line)?;
         if found == Line::End {
             break;
         }
         out.clear();
-        match put_message(alloc, request, found, &line, number, &mut out, errors) {
+        let put = put_message(
+            alloc,
+            request,
+            found,
+            &line,
+            number,
+            &mut packet,
+            &mut out,
+            errors,
+        );
+        match put {
             Ok(()) => write_all(writer, &out)?,
+            Err(Complaint::Answer) => {}
             Err(complaint) => {
                 *has_refused = true;
                 say(alloc, errors, number, &complaint)?;
             }
         }
     }
-    Ok(())
+    out.clear();
+    match packet.end(&mut out) {
+        Ok(()) => write_all(writer, &out),
+        Err(_) => Err(Stop::NoMemory),
+    }
 }
 
 // Appends the message of a line, and says what was settled in it. A blank line has none.
@@ -73,6 +90,7 @@ fn put_message<E: Write>(
     found: Line,
     line: &[u8],
     number: u64,
+    packet: &mut Packet,
     out: &mut Vec<u8>,
     errors: &mut E,
 ) -> Result<(), Complaint> {
@@ -88,15 +106,16 @@ fn put_message<E: Write>(
     if request.restores {
         made = restored(alloc, made)?;
     }
-    put_made(alloc, request, &made, out)?;
+    put_made(alloc, request, &made, packet, out)?;
     say_settled(alloc, errors, number, &made)
 }
 
-// Appends a message as it is asked for.
+// Appends a message as it is asked for; in a capture, the packet before it, if that ends here.
 fn put_made(
     alloc: Global,
     request: &Request,
     made: &Made,
+    packet: &mut Packet,
     out: &mut Vec<u8>,
 ) -> Result<(), Complaint> {
     if request.no_header && !request.pcap {
@@ -104,7 +123,7 @@ fn put_made(
     }
     let whole = with_header(alloc, &made.given, &made.bytes)?;
     if request.pcap {
-        put_packet(out, made.given.time, &whole)
+        packet.add(&made.given.packet, &whole, out)
     } else {
         put_line(alloc, out, &whole)
     }
@@ -117,7 +136,8 @@ fn say_settled<E: Write>(
     made: &Made,
 ) -> Result<(), Complaint> {
     for path in &made.settled {
-        let text = format!(in alloc; "tcmake: line {number}: {path}: settled\n")?;
+        let place = Place(path.as_str());
+        let text = format!(in alloc; "tcmake: line {number}: {place}: settled\n")?;
         let _ = write_all(errors, text.as_bytes());
     }
     Ok(())

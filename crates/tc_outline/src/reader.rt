@@ -80,17 +80,30 @@ pub(crate) fn step(path: &mut Path, attribute: &Attribute<'_>) -> Result<Meaning
     ensures { option_map (λ fault. fault.error) (result_err result) ≡ own_fault (placed_of attribute.now) }
 {
     let meaning = meaning_of(attribute);
-    let end = attribute.offset.saturating_add(attribute.value.len());
-    path.enter(
-        usize::from(attribute.depth),
-        end,
-        attribute.table,
-        meaning.name,
-    );
+    enter(path, attribute, meaning.name);
     match fault_of(attribute, meaning.form, path) {
         Some(fault) => Err(fault),
         None => Ok(meaning),
     }
+}
+
+// Goes on to an attribute, which has this name.
+fn enter(path: &mut Path, attribute: &Attribute<'_>, name: &'static str) {
+    let end = attribute.offset.saturating_add(attribute.value.len());
+    path.enter(usize::from(attribute.depth), end, attribute.table, name);
+}
+
+/// The place of the attribute whose header begins at this offset, four bytes before its value; none where none does.
+pub fn path_at(bytes: &[u8], what: What, offset: usize) -> Option<Path> {
+    let mut path = Path::new();
+    for attribute in attributes_of(bytes, what).ok()? {
+        let attribute = attribute.ok()?;
+        enter(&mut path, &attribute, meaning_of(&attribute).name);
+        if attribute.offset == offset.saturating_add(4) {
+            return Some(path);
+        }
+    }
+    None
 }
 
 // The fault of a message without a whole header.

@@ -1,21 +1,9 @@
--- The kinds that what is seen of a list sets.
-use Rattle.std.proofs.Common.{◌≡◌, ℕ, ◌≤◌, List, [], ◌∷◌, length, map, false, refl, ap, arith}
-use Rattle.nla_frames.specs.Place.{Sets, kind_before, kinds_set}
-use Rattle.tc_requests.specs.RestoredActions.{dumped_of}
-use Rattle.tc_requests.specs.RequestOf.{is_kind_u32}
-
--- they are those of the list
-pub kinds_seen : {Y X : Type 0} (see : Y → X) (sets : Sets X) (xs : List Y) → kinds_set sets (map see xs) ≡ kinds_set (λ y. sets (see y)) xs
-kinds_seen see sets [] = refl
-kinds_seen see sets (y ∷ xs) = ap (kind_before (sets (see y))) (kinds_seen see sets xs)
+-- The one kind that a list sets.
+use Rattle.std.proofs.Common.{◌≡◌, ℕ, ◌≤◌, List, [], ◌∷◌, length, refl, arith}
+use Rattle.tc_requests.specs.Restoring.{sole_kind}
 
 -- of several kinds none counts
-pub dumped_several : (kinds : List (List ℕ)) → 2 ≤ length kinds → dumped_of kinds ≡ []
-dumped_several [] two = refl
-dumped_several (kind ∷ []) two = absurd (omega arith)
-dumped_several (kind ∷ other ∷ kinds) two = refl
-
-pub several_not_u32 : (kinds : List (List ℕ)) → 2 ≤ length kinds → is_kind_u32 kinds ≡ false
-several_not_u32 [] two = refl
-several_not_u32 (kind ∷ []) two = absurd (omega arith)
-several_not_u32 (kind ∷ other ∷ kinds) two = refl
+pub sole_several : (kinds : List (List ℕ)) → 2 ≤ length kinds → sole_kind kinds ≡ []
+sole_several [] two = refl
+sole_several (kind ∷ []) two = absurd (omega arith)
+sole_several (kind ∷ other ∷ kinds) two = refl

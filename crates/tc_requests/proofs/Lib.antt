@@ -2,3 +2,4 @@ mod Firsts
 mod KindTold
 mod Settling
 mod Steps
+mod CodelTimes

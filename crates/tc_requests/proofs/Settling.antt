@@ -1,5 +1,5 @@
 -- What is built is settled.
-use Rattle.std.proofs.Common.{◌≡◌, ℕ, List, [], ◌∷◌, ◌++◌, Option, Some, None, true, refl}
+use Rattle.std.proofs.Common.{◌≡◌, ℕ, List, [], ◌∷◌, Option, Some, None, true, refl}
 use Rattle.std.specs.List.{AllByRecursion}
 use Rattle.nla_frames.specs.Codec.{SettledEach}
 use Rattle.nla_frames.specs.Reading.{keep}

@@ -1,11 +1,13 @@
 -- A list whose elements are restored one after the other.
-use Rattle.std.proofs.Common.{◌≡◌, ℕ, ◌+◌, List, [], ◌∷◌, ◌++◌, Option, Some, None, Ok, Err, refl, sym, ap, ◌∙◌, append_assoc}
+use Rattle.std.proofs.Common.{◌≡◌, ℕ, ◌+◌, List, [], ◌∷◌, ◌++◌, map, Option, Some, None, Ok, Err, refl, sym, ap, append_assoc}
 use Rattle.std.proofs.lemmas.List.{append-nil}
 use Rattle.tc_requests.specs.declared.restore_error.RestoreError.{RestoreError}
 use Rattle.tc_requests.specs.declared.restore_error.RestoreError.TheVariants.{OutOfMemory, NotSettled}
 use Rattle.tc_meaning.specs.Message.{Message}
+use Rattle.tc_meaning.specs.Tree.{Attribute}
+use Rattle.tc_requests.specs.RestoredMessages.{some_left}
 use Rattle.tc_requests.specs.RequestOf.{RefusedBy}
-use Rattle.tc_requests.specs.Restoring.{Restored, ◌>>=◌, in_front, each, Gives}
+use Rattle.tc_requests.specs.Restoring.{Restored, ◌>>=◌, in_front, each, behind, Gives}
 
 -- an error that a part gives is that of the whole
 pub gives_err : {X Y : Type 0} (e : RestoreError) (part : Restored X) (whole : Restored Y) → Gives (Err e) part → (part ≡ Err e → whole ≡ Err e) → Gives (Err e) whole
@@ -18,40 +20,46 @@ refused_by Settled OutOfMemory outcome given = tt
 refused_by Settled NotSettled outcome given = λ request is. absurd (cc (given, is))
 refused_by Settled _ outcome given = given
 
--- elements in front of those that are still to come
-abbrev pub with_front : {X : Type 0} → List X → Restored (List X) → Restored (List X)
-with_front xs (Ok ys) = Ok (xs ++ ys)
-with_front xs (Err e) = Err e
-
-front_more : {X : Type 0} (xs : List X) (y : X) (r : Restored (List X)) → with_front xs (r >>= λ rest. Ok (in_front (Some y) rest)) ≡ with_front (xs ++ y ∷ []) r
+front_more : {X : Type 0} (xs : List X) (y : X) (r : Restored (List X)) → behind xs (r >>= λ rest. Ok (in_front (Some y) rest)) ≡ behind (xs ++ y ∷ []) r
 front_more xs y (Ok ys) = ap Ok (sym (append_assoc xs (y ∷ []) ys))
 front_more xs y (Err e) = refl
 
-front_same : {X : Type 0} (xs : List X) (r : Restored (List X)) → with_front xs (r >>= λ rest. Ok (in_front None rest)) ≡ with_front xs r
+front_same : {X : Type 0} (xs : List X) (r : Restored (List X)) → behind xs (r >>= λ rest. Ok (in_front None rest)) ≡ behind xs r
 front_same xs (Ok ys) = refl
 front_same xs (Err e) = refl
 
-pub front_none : {X : Type 0} (r : Restored (List X)) → with_front [] r ≡ r
+-- nothing in front
+pub front_none : {X : Type 0} (r : Restored (List X)) → behind [] r ≡ r
 front_none (Ok ys) = refl
 front_none (Err e) = refl
 
 module _ {T X : Type 0} (edit : ℕ → T → Restored (Option X)) (n : ℕ) (x : T) (rest : List T) (xs : List X) where
   -- one element more
-  pub step_kept : (y : X) → edit n x ≡ Ok (Some y) → with_front xs (each edit n (x ∷ rest)) ≡ with_front (xs ++ y ∷ []) (each edit (n + 1) rest)
+  pub step_kept : (y : X) → edit n x ≡ Ok (Some y) → behind xs (each edit n (x ∷ rest)) ≡ behind (xs ++ y ∷ []) (each edit (n + 1) rest)
   unfolding each
   step_kept y is = rw is (front_more xs y (each edit (n + 1) rest))
 
   -- one that is left out
-  pub step_left : edit n x ≡ Ok None → with_front xs (each edit n (x ∷ rest)) ≡ with_front xs (each edit (n + 1) rest)
+  pub step_left : edit n x ≡ Ok None → behind xs (each edit n (x ∷ rest)) ≡ behind xs (each edit (n + 1) rest)
   unfolding each
   step_left is = rw is (front_same xs (each edit (n + 1) rest))
 
   -- one that can't be restored
-  pub step_fails : (e : RestoreError) → edit n x ≡ Err e → with_front xs (each edit n (x ∷ rest)) ≡ Err e
+  pub step_fails : (e : RestoreError) → edit n x ≡ Err e → behind xs (each edit n (x ∷ rest)) ≡ Err e
   unfolding each
   step_fails e is = rw is refl
 
 -- at the end
-pub step_end : {T X : Type 0} (edit : ℕ → T → Restored (Option X)) (n : ℕ) (xs : List X) → with_front xs (each edit n []) ≡ Ok xs
+pub step_end : {T X : Type 0} (edit : ℕ → T → Restored (Option X)) (n : ℕ) (xs : List X) → behind xs (each edit n []) ≡ Ok xs
 unfolding each
 step_end edit n xs = ap Ok (append-nil xs)
+
+-- something that is left
+pub some_is : (xs : List Attribute) → (xs ≡ [] → ⊥) → some_left xs ≡ Ok xs
+some_is [] not_none = absurd (not_none refl)
+some_is (x ∷ xs) not_none = refl
+
+-- two maps are one
+pub map_twice : {X Y Z : Type 0} (f : Y → Z) (g : X → Y) (xs : List X) → map f (map g xs) ≡ map (λ x. f (g x)) xs
+map_twice f g [] = refl
+map_twice f g (x ∷ xs) = ap (λ l. f (g x) ∷ l) (map_twice f g xs)

@@ -1,7 +1,10 @@
 pub mod HandleText
 pub mod Requests
 pub mod Named
+pub mod Numbers
+pub mod CodelTimes
 pub mod Restoring
+pub mod RestoredRaw
 pub mod RestoredActions
 pub mod RestoredOptions
 pub mod RestoredMessages

@@ -1,18 +1,14 @@
 -- What a request has that restores a dump, and why there is none.
-use Rattle.std.specs.Prelude.{◌≡◌, ℕ, ◌%◌, Bool, true, false, List, [], ◌∷◌, ◌==◌, ◌&&◌, ◌||◌, nat_le, codes, bytes_eq, map, Ok, Err, if◌then◌else◌}
-use Rattle.nla_frames.specs.Place.{kinds_set}
-use Rattle.tc_meaning.specs.Own.{kind_of_attribute}
-use Rattle.tc_meaning.specs.Tree.{Attribute}
+use Rattle.std.specs.Prelude.{◌≡◌, ℕ, ◌%◌, Bool, false, not, List, ◌==◌, ◌&&◌, ◌||◌, nat_le, codes, bytes_eq, Ok, Err, if◌then◌else◌}
 use Rattle.tc_meaning.specs.Message.{Message}
 use Rattle.tc_records.specs.Header.{handle_number}
-use Rattle.tc_attributes.specs.Attribute.{tc_attribute}
 use Rattle.tc_messages.specs.declared.message.TcMessage.{TcMessage}
 use Rattle.tc_requests.specs.declared.restore_error.RestoreError.{RestoreError}
 use Rattle.tc_requests.specs.declared.restore_error.RestoreError.TheVariants.{OutOfMemory, MadeByKernel, NotSettled}
 use Rattle.tc_requests.specs.declared.restore_messages.Object.{Object}
 use Rattle.tc_requests.specs.declared.restore_messages.Object.TheVariants.{Qdisc, Class, Filter, Chain}
 use Rattle.tc_requests.specs.Restoring.{Restored}
-use Rattle.tc_requests.specs.RestoredMessages.{tc_restored}
+use Rattle.tc_requests.specs.RestoredMessages.{kind_of_message, tc_restored}
 
 -- `RTM_NEWQDISC`, `RTM_NEWTCLASS`, `RTM_NEWTFILTER`, `RTM_NEWCHAIN`
 abbrev pub new_type : Object → ℕ
@@ -21,19 +17,24 @@ new_type Class = 40
 new_type Filter = 44
 new_type Chain = 100
 
--- the kind is u32
-abbrev pub is_kind_u32 : List (List ℕ) → Bool
-is_kind_u32 (kind ∷ []) = bytes_eq kind (codes "u32")
-is_kind_u32 kinds = false
+-- the kinds of qdiscs whose classes are made by requests; those of any other kind are made with the qdisc
+abbrev pub has_own_classes : List ℕ → Bool
+has_own_classes kind =
+    bytes_eq kind (codes "htb")
+    || (bytes_eq kind (codes "hfsc")
+    || (bytes_eq kind (codes "drr")
+    || (bytes_eq kind (codes "qfq")
+    || (bytes_eq kind (codes "cbq")
+    || bytes_eq kind (codes "atm")))))
 
-abbrev pub is_u32 : List Attribute → Bool
-is_u32 body = is_kind_u32 (kinds_set kind_of_attribute body)
-
--- the kernel makes it by itself: a classifier, which is dumped without a handle, and a root table of u32
+-- the kernel makes it by itself: a qdisc without a handle, which is a default; a class of a kind that makes its classes, and a
+-- root class, whose minor number is 0; a classifier, which is dumped without a handle, and a root table of u32
 abbrev pub is_made : {A : Type 0} → Object → TcMessage A → Bool
+is_made Qdisc m = handle_number m.header.handle == 0
+is_made Class m = (m.header.handle.minor == 0) || not (has_own_classes (kind_of_message m))
 is_made Filter m =
     (handle_number m.header.handle == 0)
-    || (nat_le 0x80000000 (handle_number m.header.handle) && (handle_number m.header.handle % 0x100000 == 0) && is_u32 (map tc_attribute m.attributes.items))
+    || (nat_le 0x80000000 (handle_number m.header.handle) && (handle_number m.header.handle % 0x100000 == 0) && bytes_eq (kind_of_message m) (codes "u32"))
 is_made object m = false
 
 -- what a dump becomes that the kernel doesn't make by itself

@@ -2,7 +2,7 @@
 use Rattle.std.specs.Prelude.{ℕ, List, [], ◌∷◌, ◌++◌, Option, Some, None}
 use Rattle.nla_frames.specs.declared.family.AddressFamily.TheVariants.{Unspec}
 use Rattle.nla_frames.specs.Frame.{Frame}
-use Rattle.tc_canon.specs.Descriptor.{by_kind, table}
+use Rattle.tc_canon.specs.Descriptor.{by_kind}
 use Rattle.tc_canon.specs.Tables.Options.{option_kinds}
 use Rattle.tc_canon.specs.Tables.Actions.{action_option_kinds}
 use Rattle.tc_meaning.specs.Tree.{Attribute, known, other, is_bytes, number, items, attributes_of}

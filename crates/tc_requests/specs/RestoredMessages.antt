@@ -1,11 +1,13 @@
 -- What becomes of attributes and messages.
-use Rattle.std.specs.Prelude.{ℕ, Bool, false, List, [], ◌∷◌, ◌&&◌, codes, bytes_eq, bit_and}
-use Rattle.std.specs.Prelude.{nat_lt, length, ◌+◌, slice_index, ◌==◌, Option, Some, Ok, Err, if◌then◌else◌}
+use Rattle.std.specs.Prelude.{ℕ, Bool, List, [], ◌∷◌, ◌&&◌}
+use Rattle.std.specs.Prelude.{nat_lt, length, ◌+◌, slice_index, ◌==◌, Option, Ok, Err, if◌then◌else◌}
+use Rattle.std.specs.List.{list_any}
+use Rattle.nla_frames.specs.DefaultNla.{kept_frame}
 use Rattle.nla_frames.specs.Place.{kinds_set}
 use Rattle.tc_meaning.specs.Own.{kind_of_attribute}
-use Rattle.tc_meaning.specs.Tree.{Attribute, known, number, is_bytes, items, attributes_of, of_kind}
+use Rattle.tc_meaning.specs.Tree.{Attribute, known, kept, is_bytes, items, attributes_of}
 use Rattle.tc_meaning.specs.Message.{Message}
-use Rattle.tc_records.specs.Header.{header_scalars, handle_number}
+use Rattle.tc_records.specs.Header.{header_scalars}
 use Rattle.tc_records.specs.Actions.{action_message_header_scalars}
 use Rattle.tc_attributes.specs.Attribute.{tc_attribute}
 use Rattle.tc_attributes.specs.declared.attribute.TcAttribute.{TcAttribute}
@@ -15,36 +17,43 @@ use Rattle.tc_action_messages.specs.ActionMessageAttribute.{action_message_attri
 use Rattle.tc_action_messages.specs.declared.attribute.TcActionMessageAttribute.{TcActionMessageAttribute}
 use Rattle.tc_action_messages.specs.declared.attribute.TcActionMessageAttribute.TheVariants as action_attribute
 use Rattle.tc_action_messages.specs.declared.message.TcActionMessage.{TcActionMessage}
-use Rattle.tc_requests.specs.declared.restore_error.RestoreError.TheVariants.{SizeTable, NothingLeft}
-use Rattle.tc_requests.specs.Restoring.{Restored, ◌>>=◌, stays, left_out, each, seen_part}
-use Rattle.tc_requests.specs.RestoredActions.{action_restored, is_of}
-use Rattle.tc_requests.specs.RestoredOptions.{actions_restored, option_restored}
+use Rattle.tc_requests.specs.declared.restore_error.RestoreError.TheVariants.{SizeTable, NothingLeft, Estimator}
+use Rattle.tc_requests.specs.Restoring.{Restored, ◌>>=◌, stays, left_out, each, sole_kind}
+use Rattle.tc_requests.specs.RestoredActions.{estimates, is_of}
+use Rattle.tc_requests.specs.RestoredRaw.{raw_restored}
+use Rattle.tc_requests.specs.RestoredOptions.{actions_restored, options_restored}
 
 -- a size table is dumped as its parameters alone, 28 bytes, the last four of them the table's size
 abbrev pub lacks_table : List ℕ → Bool
 lacks_table bytes = (length bytes == 28) && nat_lt 0 (slice_index bytes 24 + slice_index bytes 25 + slice_index bytes 26 + slice_index bytes 27)
 
 -- statistics are left out, and what else only the kernel writes: a count, an offload, padding (9) and a warning (16)
-abbrev pub attribute_restored : {A : Type 0} → ℕ → TcAttribute A → Restored (Option Attribute)
-attribute_restored n (attribute.Options options) = each option_restored 1 options.items >>= λ xs. stays (known 2 (items (attributes_of xs)))
-attribute_restored n (attribute.Stats stats) = left_out
-attribute_restored n (attribute.Xstats xstats) = left_out
-attribute_restored n (attribute.Fcnt bytes) = left_out
-attribute_restored n (attribute.Stats2 stats) = left_out
-attribute_restored n (attribute.HwOffload offload) = left_out
-attribute_restored n (attribute.Stab bytes) = if lacks_table bytes.items then Err SizeTable else stays (known 8 (is_bytes bytes.items))
-attribute_restored n (attribute.Other nla) = if is_of (9 ∷ 16 ∷ []) nla then left_out else stays (tc_attribute (attribute.Other nla))
-attribute_restored n x = stays (tc_attribute x)
+abbrev pub attribute_restored : {A : Type 0} → List ℕ → ℕ → ℕ → TcAttribute A → Restored (Option Attribute)
+attribute_restored kind info n (attribute.Options options) =
+    options_restored kind info options.items >>= λ xs. stays (known 2 (items (attributes_of xs)))
+attribute_restored kind info n (attribute.OptionsRaw nla) = raw_restored kind (kept_frame nla) >>= λ f. stays (kept 2 f.word f.value)
+attribute_restored kind info n (attribute.Stats stats) = left_out
+attribute_restored kind info n (attribute.Xstats xstats) = left_out
+attribute_restored kind info n (attribute.Fcnt bytes) = left_out
+attribute_restored kind info n (attribute.Stats2 stats) = if list_any estimates stats.items then Err Estimator else left_out
+attribute_restored kind info n (attribute.HwOffload offload) = left_out
+attribute_restored kind info n (attribute.Stab bytes) = if lacks_table bytes.items then Err SizeTable else stays (known 8 (is_bytes bytes.items))
+attribute_restored kind info n (attribute.Other nla) = if is_of (9 ∷ 16 ∷ []) nla then left_out else stays (tc_attribute (attribute.Other nla))
+attribute_restored kind info n x = stays (tc_attribute x)
 
 -- something has to be left
 abbrev pub some_left : List Attribute → Restored (List Attribute)
 some_left [] = Err NothingLeft
 some_left xs = Ok xs
 
+-- the one kind that a message sets, or none
+abbrev pub kind_of_message : {A : Type 0} → TcMessage A → List ℕ
+kind_of_message m = sole_kind (kinds_set (λ x. kind_of_attribute (tc_attribute x)) m.attributes.items)
+
 -- the header stays as it is
 abbrev pub tc_restored : {A : Type 0} → TcMessage A → Restored Message
 tc_restored m =
-    each attribute_restored 1 m.attributes.items >>= some_left >>= λ body. Ok (record { header = header_scalars m.header; body = body })
+    each (attribute_restored (kind_of_message m) m.header.info) 1 m.attributes.items >>= some_left >>= λ body. Ok (record { header = header_scalars m.header; body = body })
 
 -- actions are restored; the number of them and a warning are left out
 abbrev pub action_attribute_restored : {A : Type 0} → ℕ → TcActionMessageAttribute A → Restored (Option Attribute)

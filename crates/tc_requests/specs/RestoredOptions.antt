@@ -1,8 +1,11 @@
 -- What becomes of options.
-use Rattle.std.specs.Prelude.{ℕ, List, [], ◌∷◌, codes, bit_and, Option, Err, if◌then◌else◌}
+use Rattle.std.specs.Prelude.{ℕ, Bool, true, false, ◌==◌, ◌||◌, List, [], ◌∷◌, codes, bytes_eq, bit_and, Option, Err, if◌then◌else◌}
 use Rattle.tc_meaning.specs.Tree.{Attribute, known, number, items, attributes_of, of_kind}
-use Rattle.tc_requests.specs.declared.restore_error.RestoreError.TheVariants.{ProgramByNumber, RawActions}
+use Rattle.tc_requests.specs.declared.restore_error.RestoreError.TheVariants.{ProgramByNumber, RawActions, PoliceOfFilter}
 use Rattle.tc_records.specs.FilterFlags.{option_flags_word}
+use Rattle.tc_qdiscs.specs.FqCodel.{fq_codel_option}
+use Rattle.tc_qdiscs.specs.declared.qdiscs.fq_codel.TcQdiscFqCodelOption.{TcQdiscFqCodelOption}
+use Rattle.tc_qdiscs.specs.declared.qdiscs.fq_codel.TcQdiscFqCodelOption.TheVariants as fq_codel
 use Rattle.tc_flower.specs.Flower.{flower_option}
 use Rattle.tc_flower.specs.declared.filters.flower.options.TcFilterFlowerOption.{TcFilterFlowerOption}
 use Rattle.tc_flower.specs.declared.filters.flower.options.TcFilterFlowerOption.TheVariants as flower
@@ -17,9 +20,11 @@ use Rattle.tc_filters.specs.declared.filters.bpf.TcFilterBpfOption.{TcFilterBpfO
 use Rattle.tc_filters.specs.declared.filters.bpf.TcFilterBpfOption.TheVariants as bpf
 use Rattle.tc_options.specs.Options.{tc_option}
 use Rattle.tc_options.specs.declared.options.TcOption.{TcOption}
-use Rattle.tc_options.specs.declared.options.TcOption.TheVariants.{Flower, U32, MatchAll, Bpf}
+use Rattle.tc_options.specs.declared.options.TcOption.TheVariants.{FqCodel, Flower, U32, MatchAll, Bpf}
 use Rattle.tc_actions.specs.declared.actions.action.TcAction.{TcAction}
-use Rattle.tc_requests.specs.Restoring.{Restored, ◌>>=◌, stays, left_out, each, seen_part}
+use Rattle.tc_texts.specs.Info.{protocol_of}
+use Rattle.tc_requests.specs.CodelTimes.{time_set}
+use Rattle.tc_requests.specs.Restoring.{Restored, ◌>>=◌, stays, left_out, each, behind, seen_part}
 use Rattle.tc_requests.specs.RestoredActions.{action_restored, is_of}
 
 -- a filter's flags without `InHw` (4) and `NotInHw` (8)
@@ -30,16 +35,37 @@ cleared flags = bit_and flags 0xfffffff3
 abbrev pub actions_restored : {A : Type 0} → ℕ → List (TcAction A) → Restored (Option Attribute)
 actions_restored n actions = each action_restored 1 actions >>= λ xs. stays (known n (items (attributes_of xs)))
 
-abbrev pub flower_restored : {A : Type 0} → TcFilterFlowerOption A → Restored (Option Attribute)
-flower_restored (flower.Flags n) = stays (known 22 (number (cleared n)))
-flower_restored (flower.InHwCount n) = left_out
-flower_restored (flower.Actions actions) = actions_restored 3 actions.items
-flower_restored x = stays (flower_option x)
+abbrev pub fq_codel_restored : {A : Type 0} → TcQdiscFqCodelOption A → Attribute
+fq_codel_restored (fq_codel.Target us) = known 1 (number (time_set us))
+fq_codel_restored (fq_codel.Interval us) = known 3 (number (time_set us))
+fq_codel_restored (fq_codel.CeThreshold us) = known 7 (number (time_set us))
+fq_codel_restored x = fq_codel_option x
 
--- the padding `TCA_U32_PAD` is of type 12
+-- a filter of VLANs (0x8100), of VLANs in VLANs (0x88a8), or of PPPoE sessions (0x8864): a request has this protocol for
+-- `EthType`; a dump has the one inside it, or none
+abbrev pub is_outer : ℕ → Bool
+is_outer protocol = (protocol == 0x8100) || ((protocol == 0x88a8) || (protocol == 0x8864))
+
+-- the protocol of the header, in front of the options of such a filter
+abbrev pub type_if : Bool → ℕ → List Attribute
+type_if true protocol = of_kind (codes "flower") (known 8 (number protocol)) ∷ []
+type_if false protocol = []
+
+abbrev pub outer_type : List ℕ → ℕ → List Attribute
+outer_type kind info = if bytes_eq kind (codes "flower") then type_if (is_outer (protocol_of info)) (protocol_of info) else []
+
+abbrev pub flower_restored : {A : Type 0} → ℕ → TcFilterFlowerOption A → Restored (Option Attribute)
+flower_restored info (flower.EthType n) = if is_outer (protocol_of info) then left_out else stays (known 8 (number n))
+flower_restored info (flower.Flags n) = stays (known 22 (number (cleared n)))
+flower_restored info (flower.InHwCount n) = left_out
+flower_restored info (flower.Actions actions) = actions_restored 3 actions.items
+flower_restored info x = stays (flower_option x)
+
+-- the padding `TCA_U32_PAD` is of type 12; the rate table of police isn't dumped
 abbrev pub u32_restored : {A : Type 0} → TcFilterU32Option A → Restored (Option Attribute)
 u32_restored (u32.Flags flags) = stays (known 11 (number (cleared (option_flags_word flags))))
 u32_restored (u32.Pnct bytes) = left_out
+u32_restored (u32.Police bytes) = Err PoliceOfFilter
 u32_restored (u32.Action actions) = actions_restored 7 actions.items
 u32_restored (u32.Other nla) = if is_of (12 ∷ []) nla then left_out else stays (u32_option (u32.Other nla))
 u32_restored x = stays (u32_option x)
@@ -60,9 +86,15 @@ bpf_restored (bpf.ProgId n) = Err ProgramByNumber
 bpf_restored (bpf.Other nla) = if is_of (1 ∷ []) nla then Err RawActions else stays (bpf_option (bpf.Other nla))
 bpf_restored x = stays (bpf_option x)
 
-abbrev pub option_restored : {A : Type 0} → ℕ → TcOption A → Restored (Option Attribute)
-option_restored n (Flower option) = seen_part (of_kind (codes "flower")) (flower_restored option)
-option_restored n (U32 option) = seen_part (of_kind (codes "u32")) (u32_restored option)
-option_restored n (MatchAll option) = seen_part (of_kind (codes "matchall")) (matchall_restored option)
-option_restored n (Bpf option) = seen_part (of_kind (codes "bpf")) (bpf_restored option)
-option_restored n x = stays (tc_option x)
+-- an option of a message with this word `info` in its header
+abbrev pub option_restored : {A : Type 0} → ℕ → ℕ → TcOption A → Restored (Option Attribute)
+option_restored info n (FqCodel option) = stays (of_kind (codes "fq_codel") (fq_codel_restored option))
+option_restored info n (Flower option) = seen_part (of_kind (codes "flower")) (flower_restored info option)
+option_restored info n (U32 option) = seen_part (of_kind (codes "u32")) (u32_restored option)
+option_restored info n (MatchAll option) = seen_part (of_kind (codes "matchall")) (matchall_restored option)
+option_restored info n (Bpf option) = seen_part (of_kind (codes "bpf")) (bpf_restored option)
+option_restored info n x = stays (tc_option x)
+
+-- options of a message of a kind
+abbrev pub options_restored : {A : Type 0} → List ℕ → ℕ → List (TcOption A) → Restored (List Attribute)
+options_restored kind info options = behind (outer_type kind info) (each (option_restored info) 1 options)

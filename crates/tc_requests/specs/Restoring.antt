@@ -46,3 +46,13 @@ abbrev pub Gives : {X : Type 0} → Restored X → Restored X → Type 0
 Gives (Ok x) outcome = outcome ≡ Ok x
 Gives (Err OutOfMemory) outcome = Unit {0}
 Gives (Err e) outcome = outcome ≡ Err e
+
+-- what a list becomes, behind other elements
+abbrev pub behind : {X : Type 0} → List X → Restored (List X) → Restored (List X)
+behind xs (Ok ys) = Ok (xs ++ ys)
+behind xs (Err e) = Err e
+
+-- the one kind that is set, or none
+abbrev pub sole_kind : List (List ℕ) → List ℕ
+sole_kind (kind ∷ []) = kind
+sole_kind kinds = []

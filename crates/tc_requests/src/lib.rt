@@ -14,14 +14,17 @@
 #![tactic(auto)]
 
 pub mod build;
+mod codel_times;
 pub mod error;
 pub mod handle;
 pub mod kinds;
+mod numbers;
 mod restore;
 mod restore_actions;
 pub mod restore_error;
 pub mod restore_messages;
 mod restore_options;
+mod restore_raw;
 mod settled;
 pub mod target;
 

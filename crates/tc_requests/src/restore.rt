@@ -1,44 +1,95 @@
 //! Parts of dumps, as they are in the request that restores them.
 
-ghost use Rattle.std.specs.Prelude.{◌≡◌, ℕ, List, Option, map};
+ghost use Rattle.std.specs.Prelude.{◌≡◌, ℕ, List, [], Option, map};
+ghost use Rattle.nla_frames.specs.Place.{kinds_set};
 ghost use Rattle.tc_meaning.specs.Tree.{Attribute};
-ghost use Rattle.tc_requests.specs.Restoring.{Restored, Gives, each, seen, seen_part};
+ghost use Rattle.tc_requests.specs.Restoring.{Restored, Gives, each, seen, seen_part, behind, sole_kind};
 ghost use Rattle.tc_requests.specs.RestoredActions.{is_of};
 
 use crate::restore_error::RestoreError;
-use nla_frames::{DefaultNla, NLA_TYPE_MASK, Nla};
+use nla_frames::{DefaultNla, NLA_TYPE_MASK, Nla, OnlyKind, SetsKind, only_kind_set};
 use std::alloc::Allocator;
 
 // A part of a dump: what it becomes in a request.
 pub(crate) trait Restore<A: Allocator>: Drop {
     ghost shown: { Self → Attribute };
 
-    ghost restored: { List ℕ → ℕ → Self → Restored (Option Attribute) };
+    ghost restored: { List ℕ → ℕ → List ℕ → ℕ → Self → Restored (Option Attribute) };
 
-    // The part at this place of its list, counted from 1; of an action's options those of these types are left out.
-    fn restore(self, alloc: A, types: &[u16], place: usize) -> Result<Option<Self>, RestoreError>
-        ensures { Gives (seen_part shown result) (restored types.now place self) };
+    // The part at this place of its list, counted from 1, under the kind that the list sets, or "", in a message with this word
+    // `info` in its header; of an action's options those of these types are left out.
+    fn restore(
+        self,
+        alloc: A,
+        kind: &str,
+        info: u32,
+        types: &[u16],
+        place: usize,
+    ) -> Result<Option<Self>, RestoreError>
+        ensures { Gives (seen_part shown result) (restored kind.now info types.now place self) };
 }
 
 // All parts of a list.
 pub(crate) fn restore_all<T: Restore<A>, A: Allocator + Copy>(
     alloc: A,
     items: Vec<T, A>,
+    kind: &str,
+    info: u32,
+) -> Result<Vec<T, A>, RestoreError>
+    ensures { Gives (seen (λ made. map T.shown made.items) result)
+        (each (T.restored kind.now info []) 1 items.items) }
+{
+    restore_behind(alloc, Vec::new(alloc), items, kind, info, &[])
+}
+
+// The same behind other parts, which are made already, and without those of these types.
+pub(crate) fn restore_behind<T: Restore<A>, A: Allocator + Copy>(
+    alloc: A,
+    front: Vec<T, A>,
+    items: Vec<T, A>,
+    kind: &str,
+    info: u32,
     types: &[u16],
 ) -> Result<Vec<T, A>, RestoreError>
     ensures { Gives (seen (λ made. map T.shown made.items) result)
-        (each (T.restored types.now) 1 items.items) }
+        (behind (map T.shown front.items) (each (T.restored kind.now info types.now) 1 items.items)) }
 {
-    let mut made = Vec::with_capacity(alloc, items.len())?;
+    let mut made = front;
+    made.reserve(items.len())?;
     let mut place = 0;
     for item in items {
         place += 1;
-        match item.restore(alloc, types, place)? {
+        match item.restore(alloc, kind, info, types, place)? {
             Some(one) => made.push(one)?,
             None => {}
         }
     }
     Ok(made)
+}
+
+// All parts of a list, under the kind that it sets itself.
+pub(crate) fn restore_own<T: Restore<A> + SetsKind, A: Allocator + Copy>(
+    alloc: A,
+    items: Vec<T, A>,
+    info: u32,
+) -> Result<Vec<T, A>, RestoreError>
+    ensures { Gives (seen (λ made. map T.shown made.items) result)
+        (each (T.restored (sole_kind (kinds_set T.sets items.items)) info []) 1 items.items) }
+{
+    // The kind is in the list, which is taken apart.
+    let kind = String::from_str(alloc, sole_kind(&items))?;
+    restore_all(alloc, items, kind.as_str(), info)
+}
+
+// The one kind that a list sets, or "".
+pub(crate) fn sole_kind<T: SetsKind>(items: &[T]) -> &str
+    ensures { result.now ≡ sole_kind (kinds_set T.sets items.now) }
+{
+    match only_kind_set(items) {
+        OnlyKind::One(kind) => kind,
+        OnlyKind::Missing => "",
+        OnlyKind::Several => "",
+    }
 }
 
 // True if an attribute that is kept raw is of one of these types.

@@ -1,20 +1,24 @@
 //! Actions, as they are in a request: counted from 1, without statistics and times.
 
-ghost use Rattle.std.specs.Prelude.{◌≡◌, map};
-ghost use Rattle.nla_frames.specs.Place.{kinds_set};
-ghost use Rattle.tc_meaning.specs.Own.{kind_of_attribute};
+ghost use Rattle.std.specs.Prelude.{◌≡◌, ◌≤◌, ◌+◌, ◌++◌, length, map, IfOk, IfErr};
+ghost use Rattle.std.specs.List.{list_any};
+ghost use Rattle.nla_frames.specs.DefaultNla.{kept_frame};
 ghost use Rattle.tc_actions.specs.Action.{tc_action};
 ghost use Rattle.tc_actions.specs.ActionAttribute.{action_attribute};
 ghost use Rattle.tc_action_options.specs.ActionOption.{action_option};
-ghost use Rattle.tc_requests.specs.RestoredActions.{only_dumped, dumped_of, is_only_dumped, option_restored, attribute_restored, action_restored};
+ghost use Rattle.tc_requests.specs.declared.restore_error.RestoreError.TheVariants.{OutOfMemory};
+ghost use Rattle.tc_requests.specs.Restoring.{Gives, seen, seen_part};
+ghost use Rattle.tc_requests.specs.RestoredActions.{only_dumped, is_only_dumped, changes_label, mpls_types, dumped_types, with_cell_log, has_rate, zeros, rate_table, table_if, rate_tables};
+ghost use Rattle.tc_requests.specs.RestoredActions.{raw_option_restored, option_kept, option_restored, options_restored, estimates, attribute_restored, action_restored};
 
-use crate::restore::{Restore, is_of, restore_all};
+use crate::numbers::{number_at, with_number};
+use crate::restore::{Restore, is_of, restore_behind, restore_own};
 use crate::restore_error::RestoreError;
-use nla_frames::{OnlyKind, only_kind_set};
-use std::alloc::Allocator;
+use nla_frames::{DefaultNla, NLA_TYPE_MASK, Nla};
+use std::alloc::{AllocError, Allocator};
 use tc_actions::{
     TcAction, TcActionAttribute, TcActionMirrorOption, TcActionNatOption, TcActionOption,
-    TcActionTunnelKeyOption,
+    TcActionTunnelKeyOption, TcStats2,
 };
 
 // How many actions the kernel takes in a list: `TCA_ACT_MAX_PRIO` of `linux/pkt_cls.h`.
@@ -29,7 +33,7 @@ fn only_dumped(kind: &str) -> &'static [u16]
         "mirred" => &[1, 3],
         "nat" => &[2, 3],
         "tunnel_key" => &[1, 8],
-        "police" => &[6, 7],
+        "police" => &[2, 3, 6, 7],
         "pedit" => &[1, 3],
         "simple" => &[1, 4],
         "skbedit" => &[1, 6],
@@ -41,41 +45,71 @@ fn only_dumped(kind: &str) -> &'static [u16]
         "skbmod" => &[1, 6],
         "sample" => &[1, 6],
         "ct" => &[2, 15],
-        "mpls" => &[1, 3],
         "ctinfo" => &[1, 2, 8, 9, 10],
         "gate" => &[1, 3],
         _ => &[],
     }
 }
 
-// The same under the one kind that attributes set.
-fn dumped_of<A: Allocator>(attributes: &[TcActionAttribute<A>]) -> &'static [u16]
-    ensures { result.now
-        ≡ dumped_of (kinds_set kind_of_attribute (map action_attribute attributes.now)) }
+// The types of options that are left out of these.
+fn dumped_types<A: Allocator>(kind: &str, options: &[TcActionOption<A>]) -> &'static [u16]
+    ensures { result.now ≡ dumped_types kind.now options.now }
 {
-    match only_kind_set(attributes) {
-        OnlyKind::One(kind) => only_dumped(kind),
-        OnlyKind::Missing => &[],
-        OnlyKind::Several => &[],
+    if kind == "mpls" {
+        mpls_types(is_change(options))
+    } else {
+        only_dumped(kind)
+    }
+}
+
+fn mpls_types(is_change: bool) -> &'static [u16]
+    ensures { result.now ≡ mpls_types is_change }
+{
+    if is_change { &[1, 3, 4] } else { &[1, 3] }
+}
+
+// True if the parameters of mpls are among these, and change a label or its time to live.
+fn is_change<A: Allocator>(options: &[TcActionOption<A>]) -> bool
+    ensures { result ≡ list_any changes_label options.now }
+{
+    options.iter().any(|option| changes_label(option))
+}
+
+// True of the parameters of mpls that change a label or its time to live.
+fn changes_label<A: Allocator>(option: &TcActionOption<A>) -> bool
+    ensures { result ≡ changes_label option.now }
+{
+    match option {
+        TcActionOption::Other(nla) => {
+            let value = nla.value();
+            if nla.kind() & NLA_TYPE_MASK == 2 && value.len() >= 24 {
+                let change = number_at(value, 20);
+                change == 3 || change == 4
+            } else {
+                false
+            }
+        }
+        _ => false,
     }
 }
 
 impl<A: Allocator + Copy> Restore<A> for TcAction<A> {
     ghost shown = { tc_action };
 
-    ghost restored = { λ types place action. action_restored place action };
+    ghost restored = { λ kind info types place action. action_restored place action };
 
     fn restore(
         self,
         alloc: A,
+        _kind: &str,
+        info: u32,
         _types: &[u16],
         place: usize,
     ) -> Result<Option<TcAction<A>>, RestoreError> {
         if place > MOST_ACTIONS {
             return Err(RestoreError::TooManyActions);
         }
-        let types = dumped_of(&self.attributes);
-        let attributes = restore_all(alloc, self.attributes, types)?;
+        let attributes = restore_own(alloc, self.attributes, info)?;
         Ok(Some(TcAction {
             tab: place as u16,
             attributes,
@@ -86,20 +120,29 @@ impl<A: Allocator + Copy> Restore<A> for TcAction<A> {
 impl<A: Allocator + Copy> Restore<A> for TcActionAttribute<A> {
     ghost shown = { action_attribute };
 
-    ghost restored = { attribute_restored };
+    ghost restored = { λ kind info types place attribute. attribute_restored kind place attribute };
 
     fn restore(
         self,
         alloc: A,
-        types: &[u16],
+        kind: &str,
+        info: u32,
+        _types: &[u16],
         _place: usize,
     ) -> Result<Option<TcActionAttribute<A>>, RestoreError> {
         match self {
             TcActionAttribute::Options(options) => {
-                let options = restore_all(alloc, options, types)?;
+                let options = restored_options(alloc, kind, info, options)?;
                 Ok(Some(TcActionAttribute::Options(options)))
             }
-            TcActionAttribute::Stats(_) | TcActionAttribute::InHwCount(_) => Ok(None),
+            TcActionAttribute::Stats(stats) => {
+                if has_estimator(&stats) {
+                    Err(RestoreError::Estimator)
+                } else {
+                    Ok(None)
+                }
+            }
+            TcActionAttribute::InHwCount(_) => Ok(None),
             TcActionAttribute::Other(nla) => {
                 if is_of(&[5, 9], &nla) {
                     Ok(None)
@@ -112,22 +155,182 @@ impl<A: Allocator + Copy> Restore<A> for TcActionAttribute<A> {
     }
 }
 
-impl<A: Allocator> Restore<A> for TcActionOption<A> {
+// The options of an action of a kind.
+fn restored_options<A: Allocator + Copy>(
+    alloc: A,
+    kind: &str,
+    info: u32,
+    options: Vec<TcActionOption<A>, A>,
+) -> Result<Vec<TcActionOption<A>, A>, RestoreError>
+    ensures { Gives (seen (λ made. map action_option made.items) result)
+        (options_restored kind.now options.items) }
+{
+    let tables = rate_tables(alloc, kind, &options)?;
+    let types = dumped_types(kind, &options);
+    restore_behind(alloc, tables, options, kind, info, types)
+}
+
+// True if there are statistics of an estimator.
+pub(crate) fn has_estimator<A: Allocator>(stats: &[TcStats2<A>]) -> bool
+    ensures { result ≡ list_any estimates stats.now }
+{
+    stats.iter().any(|one| estimates(one))
+}
+
+fn estimates<A: Allocator>(stats: &TcStats2<A>) -> bool
+    ensures { result ≡ estimates stats.now }
+{
+    match stats {
+        TcStats2::Other(nla) => is_of(&[2, 5], nla),
+        _ => false,
+    }
+}
+
+impl<A: Allocator + Copy> Restore<A> for TcActionOption<A> {
     ghost shown = { action_option };
 
-    ghost restored = { option_restored };
+    ghost restored = { λ kind info types place option. option_restored kind types place option };
 
     fn restore(
         self,
-        _alloc: A,
+        alloc: A,
+        kind: &str,
+        _info: u32,
         types: &[u16],
         _place: usize,
     ) -> Result<Option<TcActionOption<A>>, RestoreError> {
         if is_only_dumped(&self, types) {
             Ok(None)
         } else {
-            Ok(Some(self))
+            kept_option(alloc, kind, self)
         }
+    }
+}
+
+// An option that isn't only dumped.
+fn kept_option<A: Allocator + Copy>(
+    alloc: A,
+    kind: &str,
+    option: TcActionOption<A>,
+) -> Result<Option<TcActionOption<A>>, RestoreError>
+    ensures { Gives (seen_part action_option result) (option_kept kind.now option) }
+{
+    match option {
+        TcActionOption::Other(nla) => {
+            let nla = restored_raw_option(alloc, kind, nla)?;
+            Ok(Some(TcActionOption::Other(nla)))
+        }
+        option => Ok(Some(option)),
+    }
+}
+
+// An option that is kept raw.
+fn restored_raw_option<A: Allocator + Copy>(
+    alloc: A,
+    kind: &str,
+    nla: DefaultNla<A>,
+) -> Result<DefaultNla<A>, RestoreError>
+    ensures { Gives (seen kept_frame result) (raw_option_restored kind.now (kept_frame nla)) }
+{
+    let number = nla.kind() & NLA_TYPE_MASK;
+    if kind == "bpf" && number == 9 {
+        return Err(RestoreError::ProgramByNumber);
+    }
+    if kind == "police" && number == 1 && nla.value().len() >= 56 {
+        let value = with_cell_log(alloc, nla.value(), 20)?;
+        let value = with_cell_log(alloc, &value, 32)?;
+        return Ok(DefaultNla::new(nla.kind(), value));
+    }
+    Ok(nla)
+}
+
+// The record of police with a cell log in the rate at this place, if it is a rate that lacks one.
+fn with_cell_log<A: Allocator + Copy>(
+    alloc: A,
+    bytes: &[u8],
+    at: usize,
+) -> Result<Vec<u8, A>, AllocError>
+    requires { at + 12 ≤ length bytes.now }
+    ensures bytes { IfOk result (λ made. made.items ≡ with_cell_log at bytes.now) }
+    ensures len { IfOk result (λ made. length made.items ≡ length bytes.now) }
+{
+    let first = number_at(bytes, at);
+    if number_at(bytes, at + 8) != 0 && first % 0x100 == 0 {
+        with_number(alloc, bytes, at, first + 3)
+    } else {
+        Vec::from_slice(alloc, bytes)
+    }
+}
+
+// The rate tables of police.
+fn rate_tables<A: Allocator + Copy>(
+    alloc: A,
+    kind: &str,
+    options: &[TcActionOption<A>],
+) -> Result<Vec<TcActionOption<A>, A>, RestoreError>
+    ensures tables { IfOk result (λ made. map action_option made.items
+        ≡ rate_tables kind.now options.now) }
+    ensures memory { IfErr result (λ e. e ≡ OutOfMemory) }
+{
+    if kind == "police" {
+        let front = with_table(alloc, Vec::new(alloc), 2, has_any_rate(options, 28))?;
+        Ok(with_table(alloc, front, 3, has_any_rate(options, 40))?)
+    } else {
+        Ok(Vec::new(alloc))
+    }
+}
+
+// Options with a rate table behind them, if it is needed.
+fn with_table<A: Allocator + Copy>(
+    alloc: A,
+    front: Vec<TcActionOption<A>, A>,
+    number: u16,
+    is_needed: bool,
+) -> Result<Vec<TcActionOption<A>, A>, AllocError>
+    ensures { IfOk result (λ made. map action_option made.items
+        ≡ map action_option front.items ++ table_if number is_needed) }
+{
+    let mut made = front;
+    if is_needed {
+        made.push(rate_table(alloc, number)?)?;
+    }
+    Ok(made)
+}
+
+// True if the record of police is among these, with a rate whose number is at this place.
+fn has_any_rate<A: Allocator>(options: &[TcActionOption<A>], at: usize) -> bool
+    requires { at + 4 ≤ 56 }
+    ensures { result ≡ list_any (has_rate at) options.now }
+{
+    options.iter().any(|option| has_rate(option, at))
+}
+
+fn rate_table<A: Allocator>(alloc: A, number: u16) -> Result<TcActionOption<A>, AllocError>
+    ensures { IfOk result (λ option. action_option option ≡ rate_table number) }
+{
+    let table = zeros(alloc, 1024)?;
+    Ok(TcActionOption::Other(DefaultNla::new(number, table)))
+}
+
+#[tactic(auto, unfolding(crate::specs::RestoredActions::zeros))]
+fn zeros<A: Allocator>(alloc: A, count: usize) -> Result<Vec<u8, A>, AllocError>
+    ensures { IfOk result (λ made. made.items ≡ zeros count) }
+{
+    let made = vec![in alloc; 0u8; count]?;
+    Ok(made)
+}
+
+// True of the record of police if it has a rate whose number is at this place.
+fn has_rate<A: Allocator>(option: &TcActionOption<A>, at: usize) -> bool
+    requires { at + 4 ≤ 56 }
+    ensures { result ≡ has_rate at option.now }
+{
+    match option {
+        TcActionOption::Other(nla) => {
+            let value = nla.value();
+            nla.kind() & NLA_TYPE_MASK == 1 && value.len() >= 56 && number_at(value, at) != 0
+        }
+        _ => false,
     }
 }
 

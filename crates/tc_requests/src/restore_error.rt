@@ -21,6 +21,18 @@ pub enum RestoreError {
     #[error("size table without its data")]
     SizeTable,
 
+    /// The table of red, choke or gred (`TCA_RED_STAB`, ..), which says how likely packets are marked, isn't dumped.
+    #[error("table of red, choke or gred, which isn't dumped")]
+    MarkingTable,
+
+    /// Statistics show an estimator (`TCA_STATS_RATE_EST`), which isn't dumped as `Rate`.
+    #[error("estimator, of which only statistics are dumped")]
+    Estimator,
+
+    /// The rate table of a u32 filter's `Police` isn't dumped.
+    #[error("police of a u32 filter, without its rate table")]
+    PoliceOfFilter,
+
     /// A list has more than 32 actions: the kernel takes so many, and ignores those after them.
     #[error("more than 32 actions")]
     TooManyActions,
@@ -29,7 +41,8 @@ pub enum RestoreError {
     #[error("nothing but statistics")]
     NothingLeft,
 
-    /// The kernel makes it by itself: a classifier, dumped without a handle before its filters, or u32's root table.
+    /// The kernel makes it by itself: a qdisc without a handle, which is a default; a class of a kind that makes its classes
+    /// (prio, tbf, mq, ..), or a root class; a classifier, dumped without a handle before its filters; u32's root table.
     #[error("made by the kernel itself")]
     MadeByKernel,
 

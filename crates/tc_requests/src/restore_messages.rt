@@ -1,6 +1,6 @@
 //! Dumps made into the requests that restore them.
 
-ghost use Rattle.std.specs.Prelude.{◌≡◌, map, Ok, IfOk, IfErr};
+ghost use Rattle.std.specs.Prelude.{◌≡◌, bytes_eq, codes, Ok, IfOk, IfErr};
 ghost use Rattle.tc_canon.specs.Canonical.{CanonTc, CanonAct};
 ghost use Rattle.tc_meaning.specs.Whole.{tc_bytes, FitsTc, SettledTc, act_bytes, FitsAct, SettledAct};
 ghost use Rattle.tc_messages.specs.Message.{tc_message};
@@ -8,13 +8,15 @@ ghost use Rattle.tc_attributes.specs.Attribute.{tc_attribute};
 ghost use Rattle.tc_action_messages.specs.ActionMessage.{action_message};
 ghost use Rattle.tc_action_messages.specs.ActionMessageAttribute.{action_message_attribute};
 ghost use Rattle.tc_requests.specs.Restoring.{Gives, seen};
-ghost use Rattle.tc_requests.specs.RestoredMessages.{attribute_restored, lacks_table};
+ghost use Rattle.tc_requests.specs.RestoredMessages.{attribute_restored, lacks_table, kind_of_message};
 ghost use Rattle.tc_requests.specs.RestoredMessages.{tc_restored, action_attribute_restored, actions_message_restored};
-ghost use Rattle.tc_requests.specs.RequestOf.{new_type, is_made, is_u32, request_restored, RefusedBy};
+ghost use Rattle.tc_requests.specs.RequestOf.{new_type, has_own_classes, is_made, request_restored, RefusedBy};
 
-use crate::restore::{Restore, is_of, restore_all};
+use crate::restore::{Restore, is_of, restore_all, restore_own, sole_kind};
+use crate::restore_actions::has_estimator;
 use crate::restore_error::RestoreError;
-use nla_frames::{OnlyKind, only_kind_set};
+use crate::restore_options::restored_options;
+use crate::restore_raw::restored_raw;
 use std::alloc::Allocator;
 use tc_action_messages::{TcActionMessage, TcActionMessageAttribute};
 use tc_attributes::TcAttribute;
@@ -123,13 +125,41 @@ fn is_made<A: Allocator>(object: Object, dump: &TcMessage<A>) -> bool
     ensures { result ≡ is_made object dump.now }
 {
     match object {
+        Object::Qdisc => u32::from(dump.header.handle) == 0,
+        Object::Class => dump.header.handle.minor == 0 || !is_own_class(dump),
         Object::Filter => {
             let handle = u32::from(dump.header.handle);
-            handle == 0
-                || handle >= 0x8000_0000 && handle % 0x10_0000 == 0 && is_u32(&dump.attributes)
+            handle == 0 || handle >= 0x8000_0000 && handle % 0x10_0000 == 0 && is_u32(dump)
         }
-        _ => false,
+        Object::Chain => false,
     }
+}
+
+// True of a class of a qdisc whose classes are made by requests.
+fn is_own_class<A: Allocator>(dump: &TcMessage<A>) -> bool
+    ensures { result ≡ has_own_classes (kind_of_message dump.now) }
+{
+    has_own_classes(kind_of_message(dump))
+}
+
+fn is_u32<A: Allocator>(dump: &TcMessage<A>) -> bool
+    ensures { result ≡ bytes_eq (kind_of_message dump.now) (codes "u32") }
+{
+    kind_of_message(dump) == "u32"
+}
+
+// The one kind that a message sets, or "".
+fn kind_of_message<A: Allocator>(dump: &TcMessage<A>) -> &str
+    ensures { result.now ≡ kind_of_message dump.now }
+{
+    sole_kind(&dump.attributes)
+}
+
+// True of the kinds of qdiscs whose classes are made by requests.
+fn has_own_classes(kind: &str) -> bool
+    ensures { result ≡ has_own_classes kind.now }
+{
+    matches!(kind, "htb" | "hfsc" | "drr" | "qfq" | "cbq" | "atm")
 }
 
 // What the kernel makes by itself is refused.
@@ -154,7 +184,7 @@ fn restored_message<A: Allocator + Copy>(
     ensures { Gives (seen tc_message result) (tc_restored dump) }
 {
     let TcMessage { header, attributes } = dump;
-    let attributes = restore_all(alloc, attributes, &[])?;
+    let attributes = restore_own(alloc, attributes, header.info)?;
     if attributes.is_empty() {
         return Err(RestoreError::NothingLeft);
     }
@@ -168,7 +198,7 @@ fn restored_actions<A: Allocator + Copy>(
     ensures { Gives (seen action_message result) (actions_message_restored dump) }
 {
     let TcActionMessage { header, attributes } = dump;
-    let attributes = restore_all(alloc, attributes, &[])?;
+    let attributes = restore_all(alloc, attributes, "", 0)?;
     if attributes.is_empty() {
         return Err(RestoreError::NothingLeft);
     }
@@ -178,17 +208,19 @@ fn restored_actions<A: Allocator + Copy>(
 impl<A: Allocator + Copy> Restore<A> for TcActionMessageAttribute<A> {
     ghost shown = { action_message_attribute };
 
-    ghost restored = { λ types place attribute. action_attribute_restored place attribute };
+    ghost restored = { λ kind info types place attribute. action_attribute_restored place attribute };
 
     fn restore(
         self,
         alloc: A,
+        _kind: &str,
+        _info: u32,
         _types: &[u16],
         _place: usize,
     ) -> Result<Option<TcActionMessageAttribute<A>>, RestoreError> {
         match self {
             TcActionMessageAttribute::Actions(actions) => {
-                let actions = restore_all(alloc, actions, &[])?;
+                let actions = restore_all(alloc, actions, "", 0)?;
                 Ok(Some(TcActionMessageAttribute::Actions(actions)))
             }
             TcActionMessageAttribute::RootCount(_) => Ok(None),
@@ -201,23 +233,35 @@ impl<A: Allocator + Copy> Restore<A> for TcActionMessageAttribute<A> {
 impl<A: Allocator + Copy> Restore<A> for TcAttribute<A> {
     ghost shown = { tc_attribute };
 
-    ghost restored = { λ types place attribute. attribute_restored place attribute };
+    ghost restored = { λ kind info types place attribute. attribute_restored kind info place attribute };
 
     fn restore(
         self,
         alloc: A,
+        kind: &str,
+        info: u32,
         _types: &[u16],
         _place: usize,
     ) -> Result<Option<TcAttribute<A>>, RestoreError> {
         match self {
             TcAttribute::Options(options) => {
-                let options = restore_all(alloc, options, &[])?;
+                let options = restored_options(alloc, kind, info, options)?;
                 Ok(Some(TcAttribute::Options(options)))
+            }
+            TcAttribute::OptionsRaw(nla) => {
+                let nla = restored_raw(alloc, kind, nla)?;
+                Ok(Some(TcAttribute::OptionsRaw(nla)))
+            }
+            TcAttribute::Stats2(stats) => {
+                if has_estimator(&stats) {
+                    Err(RestoreError::Estimator)
+                } else {
+                    Ok(None)
+                }
             }
             TcAttribute::Stats(_)
             | TcAttribute::Xstats(_)
             | TcAttribute::Fcnt(_)
-            | TcAttribute::Stats2(_)
             | TcAttribute::HwOffload(_) => Ok(None),
             TcAttribute::Stab(bytes) => {
                 if lacks_table(&bytes) {
@@ -244,15 +288,4 @@ fn lacks_table(bytes: &[u8]) -> bool
 {
     bytes.len() == 28
         && 0 < bytes[24] as u32 + bytes[25] as u32 + bytes[26] as u32 + bytes[27] as u32
-}
-
-// True if attributes set the kind `u32`, and no other.
-fn is_u32<A: Allocator>(attributes: &[TcAttribute<A>]) -> bool
-    ensures { result ≡ is_u32 (map tc_attribute attributes.now) }
-{
-    match only_kind_set(attributes) {
-        OnlyKind::One(kind) => kind == "u32",
-        OnlyKind::Missing => false,
-        OnlyKind::Several => false,
-    }
 }

@@ -1,37 +1,46 @@
 //! Options of filters, as they are in a request: with their flags cleared, without counts, their actions counted from 1.
 
-ghost use Rattle.std.specs.Prelude.{◌≡◌};
+ghost use Rattle.std.specs.Prelude.{◌≡◌, ◌∷◌, [], codes, map, IfOk, IfErr};
+ghost use Rattle.tc_meaning.specs.Tree.{known, number, of_kind};
 ghost use Rattle.tc_records.specs.FilterFlags.{option_flags_word};
+ghost use Rattle.tc_qdiscs.specs.FqCodel.{fq_codel_option};
 ghost use Rattle.tc_flower.specs.Flower.{flower_option};
 ghost use Rattle.tc_filters.specs.U32.{u32_option};
 ghost use Rattle.tc_filters.specs.MatchAll.{matchall_option};
 ghost use Rattle.tc_filters.specs.Bpf.{bpf_option};
 ghost use Rattle.tc_options.specs.Options.{tc_option};
-ghost use Rattle.tc_requests.specs.Restoring.{Gives, seen_part};
-ghost use Rattle.tc_requests.specs.RestoredOptions.{cleared, flower_restored, u32_restored, matchall_restored, bpf_restored, option_restored};
+ghost use Rattle.tc_requests.specs.declared.restore_error.RestoreError.TheVariants.{OutOfMemory};
+ghost use Rattle.tc_requests.specs.Restoring.{Gives, seen, seen_part};
+ghost use Rattle.tc_requests.specs.RestoredOptions.{cleared, fq_codel_restored, is_outer, type_if, outer_type, flower_restored, u32_restored, matchall_restored, bpf_restored, option_restored, options_restored};
 
-use crate::restore::{Restore, is_of, restore_all};
+use crate::codel_times::time_set;
+use crate::restore::{Restore, is_of, restore_all, restore_behind};
 use crate::restore_error::RestoreError;
 use bitflags::Flags;
-use std::alloc::Allocator;
+use std::alloc::{AllocError, Allocator};
 use tc_options::{
     TcFilterBpfOption, TcFilterFlowerOption, TcFilterMatchAllOption, TcFilterU32Option, TcOption,
 };
+use tc_qdiscs::TcQdiscFqCodelOption;
 use tc_records::TcU32OptionFlags;
+use tc_texts::info_protocol;
 
 impl<A: Allocator + Copy> Restore<A> for TcOption<A> {
     ghost shown = { tc_option };
 
-    ghost restored = { λ types place option. option_restored place option };
+    ghost restored = { λ kind info types place option. option_restored info place option };
 
     fn restore(
         self,
         alloc: A,
+        _kind: &str,
+        info: u32,
         _types: &[u16],
         _place: usize,
     ) -> Result<Option<TcOption<A>>, RestoreError> {
         match self {
-            TcOption::Flower(option) => match restored_flower(alloc, option)? {
+            TcOption::FqCodel(option) => Ok(Some(TcOption::FqCodel(restored_fq_codel(option)))),
+            TcOption::Flower(option) => match restored_flower(alloc, info, option)? {
                 Some(option) => Ok(Some(TcOption::Flower(option))),
                 None => Ok(None),
             },
@@ -55,17 +64,98 @@ impl<A: Allocator + Copy> Restore<A> for TcOption<A> {
 // All bits but `InHw` and `NotInHw` of a filter's flags.
 const KEPT_FLAGS: u32 = 0xFFFF_FFF3;
 
-fn restored_flower<A: Allocator + Copy>(
-    alloc: A,
-    option: TcFilterFlowerOption<A>,
-) -> Result<Option<TcFilterFlowerOption<A>>, RestoreError>
-    ensures { Gives (seen_part flower_option result) (flower_restored option) }
+fn restored_fq_codel<A: Allocator>(option: TcQdiscFqCodelOption<A>) -> TcQdiscFqCodelOption<A>
+    ensures { fq_codel_option result ≡ fq_codel_restored option }
 {
     match option {
+        TcQdiscFqCodelOption::Target(us) => TcQdiscFqCodelOption::Target(time_set(us)),
+        TcQdiscFqCodelOption::Interval(us) => TcQdiscFqCodelOption::Interval(time_set(us)),
+        TcQdiscFqCodelOption::CeThreshold(us) => TcQdiscFqCodelOption::CeThreshold(time_set(us)),
+        option => option,
+    }
+}
+
+// True of the protocols of VLANs, of VLANs in VLANs, and of PPPoE sessions.
+fn is_outer(protocol: u16) -> bool
+    ensures { result ≡ is_outer protocol }
+{
+    protocol == 0x8100 || protocol == 0x88a8 || protocol == 0x8864
+}
+
+// The protocol of the header, in front of the options of a flower filter of such a protocol.
+fn outer_type<A: Allocator>(
+    alloc: A,
+    kind: &str,
+    info: u32,
+) -> Result<Vec<TcOption<A>, A>, RestoreError>
+    ensures seen { IfOk result (λ made. map tc_option made.items ≡ outer_type kind.now info) }
+    ensures memory { IfErr result (λ e. e ≡ OutOfMemory) }
+{
+    let protocol = info_protocol(info);
+    if kind == "flower" {
+        Ok(type_if(alloc, is_outer(protocol), protocol)?)
+    } else {
+        Ok(Vec::new(alloc))
+    }
+}
+
+// This `EthType`, if it is needed.
+fn type_if<A: Allocator>(
+    alloc: A,
+    is_needed: bool,
+    protocol: u16,
+) -> Result<Vec<TcOption<A>, A>, AllocError>
+    ensures { IfOk result (λ made. map tc_option made.items ≡ type_if is_needed protocol) }
+{
+    if is_needed {
+        one_type(alloc, protocol)
+    } else {
+        Ok(Vec::new(alloc))
+    }
+}
+
+fn one_type<A: Allocator>(alloc: A, protocol: u16) -> Result<Vec<TcOption<A>, A>, AllocError>
+    ensures { IfOk result (λ made. map tc_option made.items
+        ≡ of_kind (codes "flower") (known 8 (number protocol)) ∷ []) }
+{
+    let mut made = Vec::with_capacity(alloc, 1)?;
+    made.push(TcOption::Flower(TcFilterFlowerOption::EthType(protocol)))?;
+    Ok(made)
+}
+
+// The options of a message of a kind.
+pub(crate) fn restored_options<A: Allocator + Copy>(
+    alloc: A,
+    kind: &str,
+    info: u32,
+    options: Vec<TcOption<A>, A>,
+) -> Result<Vec<TcOption<A>, A>, RestoreError>
+    ensures { Gives (seen (λ made. map tc_option made.items) result)
+        (options_restored kind.now info options.items) }
+{
+    let front = outer_type(alloc, kind, info)?;
+    restore_behind(alloc, front, options, kind, info, &[])
+}
+
+fn restored_flower<A: Allocator + Copy>(
+    alloc: A,
+    info: u32,
+    option: TcFilterFlowerOption<A>,
+) -> Result<Option<TcFilterFlowerOption<A>>, RestoreError>
+    ensures { Gives (seen_part flower_option result) (flower_restored info option) }
+{
+    match option {
+        TcFilterFlowerOption::EthType(n) => {
+            if is_outer(info_protocol(info)) {
+                Ok(None)
+            } else {
+                Ok(Some(TcFilterFlowerOption::EthType(n)))
+            }
+        }
         TcFilterFlowerOption::Flags(n) => Ok(Some(TcFilterFlowerOption::Flags(n & KEPT_FLAGS))),
         TcFilterFlowerOption::InHwCount(_) => Ok(None),
         TcFilterFlowerOption::Actions(actions) => {
-            let actions = restore_all(alloc, actions, &[])?;
+            let actions = restore_all(alloc, actions, "", 0)?;
             Ok(Some(TcFilterFlowerOption::Actions(actions)))
         }
         option => Ok(Some(option)),
@@ -81,8 +171,9 @@ fn restored_u32<A: Allocator + Copy>(
     match option {
         TcFilterU32Option::Flags(flags) => { Ok(Some(TcFilterU32Option::Flags(cleared(flags)))) }
         TcFilterU32Option::Pnct(_) => Ok(None),
+        TcFilterU32Option::Police(_) => Err(RestoreError::PoliceOfFilter),
         TcFilterU32Option::Action(actions) => {
-            let actions = restore_all(alloc, actions, &[])?;
+            let actions = restore_all(alloc, actions, "", 0)?;
             Ok(Some(TcFilterU32Option::Action(actions)))
         }
         TcFilterU32Option::Other(nla) => {
@@ -112,7 +203,7 @@ fn restored_matchall<A: Allocator + Copy>(
         TcFilterMatchAllOption::Flags(n) => Ok(Some(TcFilterMatchAllOption::Flags(n & KEPT_FLAGS))),
         TcFilterMatchAllOption::Pnct(_) => Ok(None),
         TcFilterMatchAllOption::Action(actions) => {
-            let actions = restore_all(alloc, actions, &[])?;
+            let actions = restore_all(alloc, actions, "", 0)?;
             Ok(Some(TcFilterMatchAllOption::Action(actions)))
         }
         TcFilterMatchAllOption::Other(nla) => {

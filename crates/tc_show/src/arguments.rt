@@ -49,8 +49,12 @@ const TYPES: [&str; 15] = [
 const ABOUT: &str =
     "Shows the traffic control messages of a capture: pcap, pcapng, a file of rtmon, a stream of netlink messages, or lines of hex";
 
-const STATUSES: &str =
-    "Exit status: 0; 1 if a message was refused; 2 for a wrong usage, or no capture; 3 if a stream failed";
+const NOTES: &str =
+    "A packet, block or message of more than 1 MiB is skipped, with a line that says so.
+Captures of big-endian hosts can be opened, but their netlink messages, which are big-endian too, are refused.
+
+Exit status: 0; 1 if a message was refused, or the input is broken or cut; 2 for a wrong usage, no capture,
+or a capture without route netlink; 3 if a stream failed";
 
 fn option<'a>(alloc: Global, name: &'a str, value: &'a str, help: &'a str) -> Arg<'a> {
     Arg::new(alloc, name)
@@ -131,7 +135,7 @@ fn command<'a>(alloc: Global) -> Result<Command<'a>, AllocError> {
     let command = Command::new(alloc, "tcshow")
         .version("0.1.0")
         .about(ABOUT)
-        .after_help(STATUSES);
+        .after_help(NOTES);
     let command = with_forms(alloc, with_input(alloc, command)?)?;
     with_choice(alloc, command)?.arg(summary)
 }

@@ -4,15 +4,16 @@ ghost use Rattle.std.specs.Prelude.{◌≡◌, false};
 ghost use Rattle.tc_show.specs.Writing.{GrowsClean};
 
 use crate::desk::Desk;
-use crate::found::Found;
+use crate::found::{Found, Origin};
 use crate::input::Input;
+use crate::kernel::Reply;
 use crate::note::Note;
 use crate::status::Stop;
 use std::alloc::{AllocError, Allocator};
 use std::io::{Read, Write};
-use tc_capture::{Capture, CaptureError, Messages, NetlinkMessage, Packet, Piece, Time};
+use tc_capture::{Capture, CaptureError, Contents, Messages, NetlinkMessage, Packet, Piece};
 
-/// The longest piece of an input that is read as a whole, in bytes.
+/// The longest piece of an input that is read as a whole, in bytes. `--help` names it.
 pub(crate) const MOST_PIECE: usize = 1_048_576;
 
 /// Shows a capture to its end.
@@ -92,8 +93,9 @@ fn goes_on<A: Allocator + Copy, R: Read, W: Write>(
     };
     desk.write(writer)?;
     if needed > MOST_PIECE {
-        desk.put_hole(Note::Skipped(needed), at)?;
-        return input.skip(needed, reader);
+        let is_whole = input.skip(needed, reader)?;
+        desk.put_long(needed, is_whole, at, input.offset())?;
+        return Ok(is_whole);
     }
     if input.more(reader)? {
         return Ok(true);
@@ -102,6 +104,14 @@ fn goes_on<A: Allocator + Copy, R: Read, W: Write>(
         desk.put_hole(Note::Cut(fault), at)?;
     }
     Ok(false)
+}
+
+// A packet type, where it isn't the usual one: `PACKET_OUTGOING`.
+fn other_than_outgoing(packet_type: Option<u16>) -> Option<u16> {
+    match packet_type {
+        Some(4) | None => None,
+        Some(other) => Some(other),
+    }
 }
 
 impl<'a, A: Allocator + Copy> Desk<'a, A> {
@@ -115,41 +125,97 @@ impl<'a, A: Allocator + Copy> Desk<'a, A> {
         self.put_note(note, at)
     }
 
+    // Says of a piece that is too long that it was skipped, or that the input ends in it: here.
+    fn put_long(
+        &mut self,
+        needed: usize,
+        is_whole: bool,
+        at: u64,
+        here: u64,
+    ) -> Result<(), AllocError>
+        ensures form { self.new.paper.is_json ≡ self.old.paper.is_json }
+    {
+        if is_whole {
+            return self.put_hole(Note::Skipped(needed as u64), at);
+        }
+        let left = here.saturating_sub(at) as usize;
+        self.put_hole(Note::Broken(CaptureError::Short { needed, left }), at)
+    }
+
     // Shows the messages of a piece of a capture.
     fn put_piece(&mut self, piece: &Piece<'_>, at: u64) -> Result<(), AllocError>
         ensures form { self.new.paper.is_json ≡ self.old.paper.is_json }
     {
         match &piece.packet {
-            Some(packet) => self.put_packet(packet, at),
-            None => Ok(()),
+            Ok(Some(packet)) => self.put_packet(packet, at.saturating_add(packet.at as u64)),
+            Ok(None) => Ok(()),
+            Err(fault) => self.put_hole(Note::Broken(*fault), at),
         }
     }
 
-    // Shows the messages of a packet.
+    // Shows the messages of a packet, whose bytes are at this place of the input.
     fn put_packet(&mut self, packet: &Packet<'_>, at: u64) -> Result<(), AllocError>
         ensures form { self.new.paper.is_json ≡ self.old.paper.is_json }
     {
-        match packet.netlink() {
-            Ok(Some(bytes)) => self.put_messages(packet.time, bytes, packet.is_whole, at),
-            Ok(None) => Ok(()),
+        let number = self.packets.count(packet);
+        match packet.contents() {
+            Ok(
+                Contents::Route {
+                    packet_type,
+                    messages,
+                },
+            ) => {
+                self.packets.count_route();
+                let origin = Origin {
+                    time: packet.time,
+                    packet: number,
+                    packet_type: other_than_outgoing(packet_type),
+                };
+                let before = packet.bytes.len().saturating_sub(messages.len()) as u64;
+                self.put_messages(origin, messages, packet.is_whole, at.saturating_add(before))
+            }
+            Ok(contents) => {
+                self.count_foreign(contents);
+                Ok(())
+            }
             Err(fault) => self.put_end(fault, packet.is_whole, at),
         }
     }
 
-    /// Shows the netlink messages in bytes.
+    // Counts a packet that holds something else.
+    fn count_foreign(&mut self, contents: Contents<'_>)
+        ensures form { self.new.paper ≡ self.old.paper }
+    {
+        match contents {
+            Contents::Route { .. } => {}
+            Contents::Family(number) => {
+                self.packets.count_family(number);
+                self.tally.other_families = self.tally.other_families.saturating_add(1);
+            }
+            Contents::LinkType(number) => {
+                self.packets.count_link(number);
+                self.tally.other_links = self.tally.other_links.saturating_add(1);
+            }
+        }
+    }
+
+    /// Shows the netlink messages in bytes at this place of the input.
     pub(crate) fn put_messages(
         &mut self,
-        time: Option<Time>,
+        origin: Origin,
         bytes: &[u8],
         is_whole: bool,
         at: u64,
     ) -> Result<(), AllocError>
         ensures form { self.new.paper.is_json ≡ self.old.paper.is_json }
     {
-        for message in Messages::new(bytes) {
-            match message {
-                Ok(message) => self.put_netlink(time, &message)?,
-                Err(fault) => self.put_end(fault, is_whole, at)?,
+        let mut messages = Messages::new(bytes);
+        for _ in 0..u64::MAX {
+            let before = bytes.len().saturating_sub(messages.bytes_left()) as u64;
+            match messages.next() {
+                Some(Ok(message)) => self.put_netlink(origin, &message)?,
+                Some(Err(fault)) => self.put_end(fault, is_whole, at.saturating_add(before))?,
+                None => break,
             }
         }
         Ok(())
@@ -158,13 +224,16 @@ impl<'a, A: Allocator + Copy> Desk<'a, A> {
     // Shows a netlink message.
     fn put_netlink(
         &mut self,
-        time: Option<Time>,
+        origin: Origin,
         message: &NetlinkMessage<'_>,
     ) -> Result<(), AllocError>
         ensures form { self.new.paper.is_json ≡ self.old.paper.is_json }
     {
-        match Found::in_netlink(time, message) {
-            Some(found) => self.put_message(&found),
+        if let Some(found) = Found::in_netlink(origin, message) {
+            return self.put_message(&found);
+        }
+        match Reply::in_netlink(origin, message) {
+            Some(reply) => self.put_reply(&reply),
             None => {
                 self.tally.others = self.tally.others.saturating_add(1);
                 Ok(())

@@ -7,6 +7,7 @@ use crate::asked::{Asked, Form};
 use crate::found::Found;
 use crate::line::json_of;
 use crate::note::{Note, NoteLine};
+use crate::packets::Packets;
 use crate::pages::text_of;
 use crate::paper::Paper;
 use crate::status::Stop;
@@ -31,10 +32,12 @@ pub(crate) struct Desk<'a, A: Allocator> {
     /// What is shown and not yet written.
     pub(crate) paper: Paper<A>,
     pub(crate) tally: Tally,
+    pub(crate) packets: Packets,
     summary: Summary,
 }
 
-fn layout_of(form: Form) -> Layout {
+/// How the form lays a message out.
+pub(crate) fn layout_of(form: Form) -> Layout {
     match form {
         Form::Lines => Layout::Lines,
         Form::OneLine | Form::Json => Layout::OneLine,
@@ -56,6 +59,7 @@ impl<'a, A: Allocator + Copy> Desk<'a, A> {
             page: Page::new(alloc, layout_of(asked.form)),
             paper: Paper::new(alloc, is_json(asked.form)),
             tally: Tally::default(),
+            packets: Packets::default(),
             summary: Summary::new(json),
         }
     }
@@ -98,6 +102,16 @@ impl<'a, A: Allocator + Copy> Desk<'a, A> {
         self.page.text(" at ")?;
         self.page.number(at)?;
         self.put_page()
+    }
+
+    /// Counts a row of the summary: a name, and a text that is shown with it.
+    pub(crate) fn count_row(&mut self, name: &'static str, text: &str) -> Result<(), AllocError>
+        ensures form { self.new.paper ≡ self.old.paper }
+    {
+        if !self.asked.has_summary {
+            return Ok(());
+        }
+        self.summary.count_message(self.json, name, text)
     }
 
     /// Counts a message.

@@ -1,12 +1,10 @@
 //! A message of traffic control that was found.
 
-use crate::asked::{Asked, Form};
 use nla_frames::strip_nul;
-use std::alloc::{AllocError, Allocator};
 use tc_capture::{Holds, NetlinkMessage, Time, rtm_of};
 use tc_index::{Attribute, Attributes};
 use tc_names::Table;
-use tc_outline::{Page, What};
+use tc_outline::What;
 
 /// What is shown of the header of a netlink message.
 #[derive(Clone, Copy)]
@@ -17,13 +15,33 @@ pub(crate) struct Header {
     pub(crate) flags: u16,
     /// `nlmsg_seq`.
     pub(crate) sequence: u32,
+    /// `nlmsg_pid`.
+    pub(crate) port: u32,
 }
+
+/// What a capture says of the packet that a message is in.
+#[derive(Clone, Copy)]
+pub(crate) struct Origin {
+    /// When it was captured.
+    pub(crate) time: Option<Time>,
+    /// Its number in the capture, from 1 on.
+    pub(crate) packet: Option<u64>,
+    /// The packet type of its cooked header, where that isn't 4 (`PACKET_OUTGOING`).
+    pub(crate) packet_type: Option<u16>,
+}
+
+/// What is known of a message of a stream without times, and of a line.
+pub(crate) const NOWHERE: Origin = Origin {
+    time: None,
+    packet: None,
+    packet_type: None,
+};
 
 /// A message of traffic control: the payload of a netlink message.
 #[derive(Clone, Copy)]
 pub(crate) struct Found<'a> {
-    /// When it was captured.
-    pub(crate) time: Option<Time>,
+    /// The packet that it is in.
+    pub(crate) origin: Origin,
     /// The header of its netlink message, where there is one.
     pub(crate) header: Option<Header>,
     pub(crate) holds: Holds,
@@ -33,20 +51,12 @@ pub(crate) struct Found<'a> {
 
 impl<'a> Found<'a> {
     /// The message in a netlink message; `None` where that is no traffic control.
-    pub(crate) fn in_netlink(
-        time: Option<Time>,
-        message: &NetlinkMessage<'a>,
-    ) -> Option<Found<'a>> {
+    pub(crate) fn in_netlink(origin: Origin, message: &NetlinkMessage<'a>) -> Option<Found<'a>> {
         let rtm = rtm_of(message.kind)?;
         let what = What::of_type(message.kind)?;
-        let header = Header {
-            name: rtm.name,
-            flags: message.flags,
-            sequence: message.sequence,
-        };
         Some(Found {
-            time,
-            header: Some(header),
+            origin,
+            header: Some(header_of(rtm.name, message)),
             holds: rtm.holds,
             what,
             payload: message.payload,
@@ -56,7 +66,7 @@ impl<'a> Found<'a> {
     /// A message without the header of a netlink message.
     pub(crate) fn alone(holds: Holds, payload: &'a [u8]) -> Found<'a> {
         Found {
-            time: None,
+            origin: NOWHERE,
             header: None,
             holds,
             what: what_of(holds, payload),
@@ -92,6 +102,16 @@ impl<'a> Found<'a> {
             (Holds::Tc, [_, _, _, _, a, b, c, d, ..]) => Some(u32::from_le_bytes([*a, *b, *c, *d])),
             _ => None,
         }
+    }
+}
+
+/// What is shown of the header of a message whose type has this name.
+pub(crate) fn header_of(name: &'static str, message: &NetlinkMessage<'_>) -> Header {
+    Header {
+        name,
+        flags: message.flags,
+        sequence: message.sequence,
+        port: message.port,
     }
 }
 

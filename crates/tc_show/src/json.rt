@@ -1,11 +1,13 @@
 //! What is sent to serde of a message.
 
-ghost use Rattle.std.specs.Prelude.{OnOk, option_map, codes, ◌∷◌, ◌++◌, []};
+ghost use Rattle.std.specs.Prelude.{OnOk, Some, option_map, codes, ◌++◌};
 ghost use Rattle.tc_json.specs.Sent.{Sent, field};
-ghost use Rattle.tc_show.specs.Line.{bool_field, number_field, text_field, time_events, type_events, origin_events, flags_events, forms_events, verdict_events};
-ghost use Rattle.tc_show.specs.Line.{read_events, body_events, accepted_events, fault_numbers, place_events, details, fault_events, refused_events};
+ghost use Rattle.tc_show.specs.Line.{bool_field, number_field, text_field, number_if, text_if, packet_events, place_in_capture, port_events, number_events};
+ghost use Rattle.tc_show.specs.Line.{flags_events, header_events, header_if, origin_events, forms_events, verdict_events, object};
+ghost use Rattle.tc_show.specs.Line.{read_events, accepted_events, fault_numbers, place_events, details, fault_events, refused_events};
+ghost use Rattle.tc_show.specs.Line.{message_if, request_events, located_events, said_events, error_events, answer_events, answered_events};
 
-use crate::found::Header;
+use crate::found::{Header, Origin};
 use nla_frames::DecodeError;
 use serde::{Described, Serialize, Serializer};
 use std::alloc::Global;
@@ -15,6 +17,7 @@ use tc_json::Show;
 #[derive(Drop)]
 pub(crate) struct Accepted<'t, 'a, M> {
     pub(crate) time: Option<&'t str>,
+    pub(crate) origin: Origin,
     pub(crate) header: Option<Header>,
     pub(crate) fits: bool,
     pub(crate) settled: bool,
@@ -27,6 +30,7 @@ pub(crate) struct Accepted<'t, 'a, M> {
 #[derive(Drop)]
 pub(crate) struct Refused<'t, 'e, 'p> {
     pub(crate) time: Option<&'t str>,
+    pub(crate) origin: Origin,
     pub(crate) header: Option<Header>,
     pub(crate) error: &'e DecodeError,
     /// Where the fault is in the message, in bytes.
@@ -35,8 +39,33 @@ pub(crate) struct Refused<'t, 'e, 'p> {
     pub(crate) path: &'p str,
 }
 
+/// What an answer of the kernel says of a request.
+#[derive(Clone, Copy)]
+pub(crate) struct Said<'n, 't, 'p> {
+    /// The name of the error, or its number.
+    pub(crate) errno: &'n str,
+    pub(crate) text: Option<&'t str>,
+    /// Where the fault is in the request, in bytes from the end of the netlink header.
+    pub(crate) offset: Option<u64>,
+    /// Where it is in the message as a tree.
+    pub(crate) path: Option<&'p str>,
+}
+
+/// An answer of the kernel to a request.
+#[derive(Drop)]
+pub(crate) struct Answered<'s, 'n, 't, 'p, 'a, M> {
+    pub(crate) time: Option<&'s str>,
+    pub(crate) origin: Origin,
+    pub(crate) header: Header,
+    pub(crate) said: Said<'n, 't, 'p>,
+    pub(crate) request: Header,
+    /// The message of the request, where it is read.
+    pub(crate) message: &'a Option<M>,
+    pub(crate) alloc: Global,
+}
+
 impl<'t, 'a, M: Show> Described for Accepted<'t, 'a, M> {
-    ghost writes = { λ l. Sent (accepted_events (option_map (λ t. t.now) l.time) l.header l.fits l.settled l.canonical (M.events l.message.now)) };
+    ghost writes = { λ l. Sent (accepted_events (option_map (λ t. t.now) l.time) l.origin l.header l.fits l.settled l.canonical (M.events l.message.now)) };
 }
 
 impl<'t, 'a, M: Show> Serialize for Accepted<'t, 'a, M> {
@@ -48,7 +77,7 @@ impl<'t, 'a, M: Show> Serialize for Accepted<'t, 'a, M> {
 }
 
 impl<'t, 'e, 'p> Described for Refused<'t, 'e, 'p> {
-    ghost writes = { λ l. Sent (refused_events (option_map (λ t. t.now) l.time) l.header l.error.now l.offset l.path.now) };
+    ghost writes = { λ l. Sent (refused_events (option_map (λ t. t.now) l.time) l.origin l.header l.error.now l.offset l.path.now) };
 }
 
 impl<'t, 'e, 'p> Serialize for Refused<'t, 'e, 'p> {
@@ -59,21 +88,27 @@ impl<'t, 'e, 'p> Serialize for Refused<'t, 'e, 'p> {
     }
 }
 
+impl<'s, 'n, 't, 'p, 'a, M: Show> Described for Answered<'s, 'n, 't, 'p, 'a, M> {
+    ghost writes = { λ l. Sent (answered_events (option_map (λ t. t.now) l.time) l.origin l.header
+        (error_events l.said.errno.now (option_map (λ t. t.now) l.said.text) l.said.offset (option_map (λ t. t.now) l.said.path))
+        l.request (option_map M.events l.message.now)) };
+}
+
+impl<'s, 'n, 't, 'p, 'a, M: Show> Serialize for Answered<'s, 'n, 't, 'p, 'a, M> {
+    fn serialize<S: Serializer>(&self, out: &mut S) -> Result<(), S::Error> {
+        out.begin_map(None)?;
+        self.show_members(out)?;
+        out.end_map()
+    }
+}
+
 impl<'t, 'a, M: Show> Accepted<'t, 'a, M> {
     fn show_members<S: Serializer>(&self, out: &mut S) -> Result<(), S::Error>
-        ensures { OnOk result (Sent (origin_events (option_map (λ t. t.now) self.now.time) self.now.header
-            ++ body_events self.now.header self.now.fits self.now.settled self.now.canonical (M.events self.now.message.now))
+        ensures { OnOk result (Sent (origin_events (option_map (λ t. t.now) self.now.time) self.now.origin self.now.header
+            ++ read_events self.now.fits self.now.settled self.now.canonical (M.events self.now.message.now))
             (S.written out.old) (S.written out.new)) }
     {
-        show_origin(self.time, &self.header, out)?;
-        self.show_body(out)
-    }
-
-    fn show_body<S: Serializer>(&self, out: &mut S) -> Result<(), S::Error>
-        ensures { OnOk result (Sent (body_events self.now.header self.now.fits self.now.settled self.now.canonical (M.events self.now.message.now))
-            (S.written out.old) (S.written out.new)) }
-    {
-        show_flags(&self.header, out)?;
+        show_origin(self.time, &self.origin, &self.header, out)?;
         self.show_read(out)
     }
 
@@ -88,10 +123,10 @@ impl<'t, 'a, M: Show> Accepted<'t, 'a, M> {
 
 impl<'t, 'e, 'p> Refused<'t, 'e, 'p> {
     fn show_members<S: Serializer>(&self, out: &mut S) -> Result<(), S::Error>
-        ensures { OnOk result (Sent (origin_events (option_map (λ t. t.now) self.now.time) self.now.header
+        ensures { OnOk result (Sent (origin_events (option_map (λ t. t.now) self.now.time) self.now.origin self.now.header
             ++ fault_events self.now.error.now self.now.offset self.now.path.now) (S.written out.old) (S.written out.new)) }
     {
-        show_origin(self.time, &self.header, out)?;
+        show_origin(self.time, &self.origin, &self.header, out)?;
         self.show_fault(out)
     }
 
@@ -110,46 +145,186 @@ impl<'t, 'e, 'p> Refused<'t, 'e, 'p> {
     }
 }
 
-// The time and the type, where they are known.
+impl<'s, 'n, 't, 'p, 'a, M: Show> Answered<'s, 'n, 't, 'p, 'a, M> {
+    fn show_members<S: Serializer>(&self, out: &mut S) -> Result<(), S::Error>
+        ensures { OnOk result (Sent (origin_events (option_map (λ t. t.now) self.now.time) self.now.origin (Some self.now.header)
+            ++ answer_events (error_events self.now.said.errno.now (option_map (λ t. t.now) self.now.said.text) self.now.said.offset
+            (option_map (λ t. t.now) self.now.said.path)) self.now.request (option_map M.events self.now.message.now))
+            (S.written out.old) (S.written out.new)) }
+    {
+        show_origin(self.time, &self.origin, &Some(self.header), out)?;
+        self.show_answer(out)
+    }
+
+    fn show_answer<S: Serializer>(&self, out: &mut S) -> Result<(), S::Error>
+        ensures { OnOk result (Sent (answer_events (error_events self.now.said.errno.now (option_map (λ t. t.now) self.now.said.text)
+            self.now.said.offset (option_map (λ t. t.now) self.now.said.path)) self.now.request (option_map M.events self.now.message.now))
+            (S.written out.old) (S.written out.new)) }
+    {
+        show_error(&self.said, out)?;
+        show_request(&self.request, self.message, self.alloc, out)
+    }
+}
+
+// What the kernel says of a request.
+fn show_error<S: Serializer>(said: &Said<'_, '_, '_>, out: &mut S) -> Result<(), S::Error>
+    ensures { OnOk result (Sent (error_events said.now.errno.now (option_map (λ t. t.now) said.now.text) said.now.offset
+        (option_map (λ t. t.now) said.now.path)) (S.written out.old) (S.written out.new)) }
+{
+    show_text("errno", said.errno, out)?;
+    show_said(said, out)
+}
+
+fn show_said<S: Serializer>(said: &Said<'_, '_, '_>, out: &mut S) -> Result<(), S::Error>
+    ensures { OnOk result (Sent (said_events (option_map (λ t. t.now) said.now.text) said.now.offset
+        (option_map (λ t. t.now) said.now.path)) (S.written out.old) (S.written out.new)) }
+{
+    show_text_if("text", said.text, out)?;
+    show_located(said.offset, said.path, out)
+}
+
+fn show_located<S: Serializer>(
+    offset: Option<u64>,
+    path: Option<&str>,
+    out: &mut S,
+) -> Result<(), S::Error>
+    ensures { OnOk result (Sent (located_events offset (option_map (λ t. t.now) path.entry)) (S.written out.old) (S.written out.new)) }
+{
+    show_number_if("offset", offset, out)?;
+    show_text_if("path", path, out)
+}
+
+// The request that is answered.
+fn show_request<S: Serializer, M: Show>(
+    header: &Header,
+    message: &Option<M>,
+    alloc: Global,
+    out: &mut S,
+) -> Result<(), S::Error>
+    ensures { OnOk result (Sent (request_events header.now (option_map M.events message.now)) (S.written out.old) (S.written out.new)) }
+{
+    out.key("request")?;
+    show_object(header, message, alloc, out)
+}
+
+fn show_object<S: Serializer, M: Show>(
+    header: &Header,
+    message: &Option<M>,
+    alloc: Global,
+    out: &mut S,
+) -> Result<(), S::Error>
+    ensures { OnOk result (Sent (object (header_events header.now ++ message_if (option_map M.events message.now)))
+        (S.written out.old) (S.written out.new)) }
+{
+    out.begin_map(None)?;
+    show_quoted(header, message, alloc, out)?;
+    out.end_map()
+}
+
+fn show_quoted<S: Serializer, M: Show>(
+    header: &Header,
+    message: &Option<M>,
+    alloc: Global,
+    out: &mut S,
+) -> Result<(), S::Error>
+    ensures { OnOk result (Sent (header_events header.now ++ message_if (option_map M.events message.now))
+        (S.written out.old) (S.written out.new)) }
+{
+    show_header(header, out)?;
+    show_message_if(message, alloc, out)
+}
+
+fn show_message_if<S: Serializer, M: Show>(
+    message: &Option<M>,
+    alloc: Global,
+    out: &mut S,
+) -> Result<(), S::Error>
+    ensures { OnOk result (Sent (message_if (option_map M.events message.now)) (S.written out.old) (S.written out.new)) }
+{
+    match message {
+        Some(message) => show_message(message, alloc, out),
+        None => Ok(()),
+    }
+}
+
+// What each line begins with.
 fn show_origin<S: Serializer>(
     time: Option<&str>,
+    origin: &Origin,
     header: &Option<Header>,
     out: &mut S,
 ) -> Result<(), S::Error>
-    ensures { OnOk result (Sent (origin_events (option_map (λ t. t.now) time.entry) header.now) (S.written out.old) (S.written out.new)) }
+    ensures { OnOk result (Sent (origin_events (option_map (λ t. t.now) time.entry) origin.now header.now) (S.written out.old) (S.written out.new)) }
 {
-    show_time(time, out)?;
-    show_type(header, out)
+    show_place_in_capture(time, origin, out)?;
+    show_header_if(header, out)
 }
 
-fn show_time<S: Serializer>(time: Option<&str>, out: &mut S) -> Result<(), S::Error>
-    ensures { OnOk result (Sent (time_events (option_map (λ t. t.now) time.entry)) (S.written out.old) (S.written out.new)) }
-{
-    match time {
-        Some(time) => show_text("time", time, out),
-        None => Ok(()),
-    }
-}
-
-fn show_type<S: Serializer>(header: &Option<Header>, out: &mut S) -> Result<(), S::Error>
-    ensures { OnOk result (Sent (type_events header.now) (S.written out.old) (S.written out.new)) }
+fn show_header_if<S: Serializer>(header: &Option<Header>, out: &mut S) -> Result<(), S::Error>
+    ensures { OnOk result (Sent (header_if header.now) (S.written out.old) (S.written out.new)) }
 {
     match header {
-        Some(header) => show_text("type", header.name, out),
+        Some(header) => show_header(header, out),
         None => Ok(()),
     }
 }
 
-fn show_flags<S: Serializer>(header: &Option<Header>, out: &mut S) -> Result<(), S::Error>
+fn show_place_in_capture<S: Serializer>(
+    time: Option<&str>,
+    origin: &Origin,
+    out: &mut S,
+) -> Result<(), S::Error>
+    ensures { OnOk result (Sent (place_in_capture (option_map (λ t. t.now) time.entry) origin.now.packet origin.now.packet_type)
+        (S.written out.old) (S.written out.new)) }
+{
+    show_text_if("time", time, out)?;
+    show_packet(origin, out)
+}
+
+fn show_packet<S: Serializer>(origin: &Origin, out: &mut S) -> Result<(), S::Error>
+    ensures { OnOk result (Sent (packet_events origin.now.packet origin.now.packet_type) (S.written out.old) (S.written out.new)) }
+{
+    show_number_if("packet", origin.packet, out)?;
+    show_packet_type(origin.packet_type, out)
+}
+
+fn show_packet_type<S: Serializer>(packet_type: Option<u16>, out: &mut S) -> Result<(), S::Error>
+    ensures { OnOk result (Sent (number_if (codes "packet_type") packet_type) (S.written out.old) (S.written out.new)) }
+{
+    match packet_type {
+        Some(n) => show_number("packet_type", u64::from(n), out),
+        None => Ok(()),
+    }
+}
+
+fn show_header<S: Serializer>(header: &Header, out: &mut S) -> Result<(), S::Error>
+    ensures { OnOk result (Sent (header_events header.now) (S.written out.old) (S.written out.new)) }
+{
+    show_text("type", header.name, out)?;
+    show_flags(header, out)
+}
+
+fn show_flags<S: Serializer>(header: &Header, out: &mut S) -> Result<(), S::Error>
     ensures { OnOk result (Sent (flags_events header.now) (S.written out.old) (S.written out.new)) }
 {
-    match header {
-        Some(header) => {
-            show_number("flags", u64::from(header.flags), out)?;
-            show_number("seq", u64::from(header.sequence), out)
-        }
-        None => Ok(()),
+    show_number("flags", u64::from(header.flags), out)?;
+    show_numbers_of(header, out)
+}
+
+fn show_numbers_of<S: Serializer>(header: &Header, out: &mut S) -> Result<(), S::Error>
+    ensures { OnOk result (Sent (number_events header.now.sequence header.now.port) (S.written out.old) (S.written out.new)) }
+{
+    show_number("seq", u64::from(header.sequence), out)?;
+    show_port(header.port, out)
+}
+
+fn show_port<S: Serializer>(port: u32, out: &mut S) -> Result<(), S::Error>
+    ensures { OnOk result (Sent (port_events port) (S.written out.old) (S.written out.new)) }
+{
+    if port == 0 {
+        return Ok(());
     }
+    show_number("portid", u64::from(port), out)
 }
 
 fn show_verdict<S: Serializer>(
@@ -244,4 +419,22 @@ fn show_bool<S: Serializer>(name: &str, is_so: bool, out: &mut S) -> Result<(), 
 {
     out.key(name)?;
     out.bool(is_so)
+}
+
+fn show_text_if<S: Serializer>(name: &str, text: Option<&str>, out: &mut S) -> Result<(), S::Error>
+    ensures { OnOk result (Sent (text_if name.now (option_map (λ t. t.now) text.entry)) (S.written out.old) (S.written out.new)) }
+{
+    match text {
+        Some(text) => show_text(name, text, out),
+        None => Ok(()),
+    }
+}
+
+fn show_number_if<S: Serializer>(name: &str, n: Option<u64>, out: &mut S) -> Result<(), S::Error>
+    ensures { OnOk result (Sent (number_if name.now n) (S.written out.old) (S.written out.new)) }
+{
+    match n {
+        Some(n) => show_number(name, n, out),
+        None => Ok(()),
+    }
 }

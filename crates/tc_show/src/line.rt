@@ -7,7 +7,7 @@ ghost use Rattle.tc_show.specs.Line.{IsAccepted, IsRefused, IsLine};
 
 use crate::found::Found;
 use crate::json::{Accepted, Refused};
-use crate::pages::{show_place, text_of, time_in, time_page};
+use crate::pages::{show_place, some_text, text_of, time_page};
 use crate::shows::Shows;
 use nla_frames::DecodeError;
 use serde::Serialize;
@@ -41,7 +41,7 @@ fn line_as<A: Allocator + Copy, M: Shows<A> + Drop>(
     found: &Found<'_>,
 ) -> Result<Line, AllocError>
     ensures { IfOk result (λ line.
-        IsLine M.codec M.see M.events M.Canonical found.now.payload.now found.now.header line.json.items) }
+        IsLine M.codec M.see M.events M.Canonical found.now.payload.now found.now.origin found.now.header line.json.items) }
 {
     match M::parse(alloc, found.payload) {
         Ok(message) => accepted_line(alloc, json, found, &message),
@@ -58,14 +58,15 @@ fn accepted_line<A: Allocator + Copy, M: Shows<A>>(
     message: &M,
 ) -> Result<Line, AllocError>
     ensures { IfOk result (λ line.
-        IsAccepted M.codec M.see M.events M.Canonical found.now.payload.now found.now.header message.now line.json.items) }
+        IsAccepted M.codec M.see M.events M.Canonical found.now.payload.now found.now.origin found.now.header message.now line.json.items) }
 {
-    let time = time_page(alloc, found)?;
+    let time = time_page(alloc, &found.origin)?;
     let fits = message.fits();
     let settled = message.reads_back();
     let canonical = M::are_canonical(found.payload);
     let line = Accepted {
-        time: time_in(&time),
+        time: some_text(&time),
+        origin: found.origin,
         header: found.header,
         fits,
         settled,
@@ -84,13 +85,14 @@ fn refused_line<A: Allocator + Copy>(
     found: &Found<'_>,
     error: &DecodeError,
 ) -> Result<Line, AllocError>
-    ensures { IfOk result (λ line. IsRefused found.now.header error.now line.json.items) }
+    ensures { IfOk result (λ line. IsRefused found.now.origin found.now.header error.now line.json.items) }
 {
-    let time = time_page(alloc, found)?;
+    let time = time_page(alloc, &found.origin)?;
     let mut path = Page::new(alloc, Layout::OneLine);
     let offset = show_place(&mut path, found)?;
     let line = Refused {
-        time: time_in(&time),
+        time: some_text(&time),
+        origin: found.origin,
         header: found.header,
         error,
         offset: offset as u64,

@@ -5,7 +5,7 @@ ghost use Rattle.tc_show.specs.Writing.{GrowsClean};
 
 use crate::capture::{MOST_PIECE, after_put};
 use crate::desk::Desk;
-use crate::found::Found;
+use crate::found::{Found, NOWHERE};
 use crate::input::Input;
 use crate::note::Note;
 use crate::status::Stop;
@@ -91,8 +91,14 @@ fn more_of_line<A: Allocator + Copy, R: Read, W: Write>(
 {
     desk.write(writer)?;
     if len > MOST_LINE {
-        desk.put_hole(Note::Skipped(len), input.offset())?;
-        return skip_line(input, reader);
+        let at = input.offset();
+        let goes_on = skip_line(input, reader)?;
+        let long = input
+            .offset()
+            .saturating_sub(at)
+            .saturating_sub(u64::from(goes_on));
+        desk.put_hole(Note::Skipped(long), at)?;
+        return Ok(goes_on);
     }
     if input.more(reader)? {
         return Ok(true);
@@ -170,7 +176,7 @@ impl<'a, A: Allocator + Copy> Desk<'a, A> {
         ensures form { self.new.paper.is_json ≡ self.old.paper.is_json }
     {
         match self.asked.without_header {
-            None => self.put_messages(None, bytes, true, at),
+            None => self.put_messages(NOWHERE, bytes, true, at),
             Some(holds) => self.put_message(&Found::alone(holds, bytes)),
         }
     }

@@ -9,8 +9,8 @@ use tc_capture::CaptureError;
 pub(crate) enum Note {
     /// The capture holds only the first bytes.
     Cut(CaptureError),
-    /// It is longer than what is read: so many bytes.
-    Skipped(usize),
+    /// It is whole, but longer than what is read: so many bytes.
+    Skipped(u64),
     /// It can't be read on.
     Broken(CaptureError),
     /// A line isn't hex.

@@ -1,6 +1,6 @@
 //! What is shown of a message beside its attributes.
 
-use crate::found::Found;
+use crate::found::{Found, Origin};
 use std::alloc::{AllocError, Allocator};
 use std::str;
 use tc_capture::Time;
@@ -28,14 +28,31 @@ pub(crate) fn show_origin<A: Allocator>(
     page: &mut Page<A>,
     found: &Found<'_>,
 ) -> Result<(), AllocError> {
-    if let Some(time) = &found.time {
-        show_time(page, time)?;
-        page.blank()?;
-    }
+    show_time_of(page, &found.origin)?;
+    show_name(page, found)
+}
+
+/// Shows the type of a message, and a blank before its header, if it has a whole one.
+pub(crate) fn show_name<A: Allocator>(
+    page: &mut Page<A>,
+    found: &Found<'_>,
+) -> Result<(), AllocError> {
     match &found.header {
         Some(header) => show_type(page, header.name, found),
         None => Ok(()),
     }
+}
+
+/// Shows the time of a packet and a blank, if it has one.
+pub(crate) fn show_time_of<A: Allocator>(
+    page: &mut Page<A>,
+    origin: &Origin,
+) -> Result<(), AllocError> {
+    if let Some(time) = &origin.time {
+        show_time(page, time)?;
+        page.blank()?;
+    }
+    Ok(())
 }
 
 fn show_type<A: Allocator>(
@@ -50,17 +67,17 @@ fn show_type<A: Allocator>(
     Ok(())
 }
 
-/// A page with the time of a message, if it has one.
-pub(crate) fn time_page<A: Allocator>(alloc: A, found: &Found<'_>) -> Result<Page<A>, AllocError> {
+/// A page with the time of a packet, if it has one.
+pub(crate) fn time_page<A: Allocator>(alloc: A, origin: &Origin) -> Result<Page<A>, AllocError> {
     let mut page = Page::new(alloc, Layout::OneLine);
-    if let Some(time) = &found.time {
+    if let Some(time) = &origin.time {
         show_time(&mut page, time)?;
     }
     Ok(page)
 }
 
-/// The time on a page.
-pub(crate) fn time_in<A: Allocator>(page: &Page<A>) -> Option<&str> {
+/// The text on a page, if there is some.
+pub(crate) fn some_text<A: Allocator>(page: &Page<A>) -> Option<&str> {
     let text = text_of(page);
     if text.is_empty() { None } else { Some(text) }
 }

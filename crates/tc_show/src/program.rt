@@ -9,6 +9,7 @@ ghost use Rattle.tc_show.specs.declared.run.Ended.{Ended};
 use crate::arguments::{Request, request_of};
 use crate::asked::{Asked, Chosen};
 use crate::names::{interface_of, names_in};
+use crate::packets::Packets;
 use crate::run::{Ended, run};
 use crate::status::{Stop, status_of};
 use crate::writing::write_all;
@@ -132,6 +133,9 @@ pub fn serve<A: Allocator + Copy, R: Read, W: Write, E: Write>(
 {
     let ended = run(alloc, json, asked, reader, writer);
     let status = status_of(ended.outcome, ended.has_refused);
+    if matches!(ended.outcome, Err(Stop::NoRoute)) {
+        return complain_of_packets(json, errors, &ended.packets, status);
+    }
     match reason(&ended) {
         Some(text) => complain(errors, text, status),
         None => status,
@@ -141,11 +145,21 @@ pub fn serve<A: Allocator + Copy, R: Read, W: Write, E: Write>(
 // Why a run ended early, if that is said.
 fn reason(ended: &Ended) -> Option<&'static str> {
     match ended.outcome {
-        Ok(()) | Err(Stop::Closed) => None,
+        Ok(()) | Err(Stop::Closed | Stop::NoRoute) => None,
         Err(Stop::NoCapture) => Some("tcshow: no capture, and no hex\n"),
         Err(Stop::Read) => Some("tcshow: read failed\n"),
         Err(Stop::Write) => Some("tcshow: write failed\n"),
         Err(Stop::NoMemory) => Some(NO_MEMORY),
+    }
+}
+
+// Writes what a capture without route netlink has, if it can, and returns a status.
+fn complain_of_packets<E: Write>(json: Global, errors: &mut E, packets: &Packets, status: u8) -> u8
+    ensures { result ≡ status }
+{
+    match format!(in json; "tcshow: {packets}\n") {
+        Ok(text) => complain(errors, text.as_str(), status),
+        Err(_) => complain(errors, "tcshow: no route netlink\n", status),
     }
 }
 

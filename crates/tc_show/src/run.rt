@@ -9,6 +9,7 @@ use crate::capture::show_capture;
 use crate::desk::Desk;
 use crate::input::Input;
 use crate::lines::{is_hex_text, show_lines};
+use crate::packets::Packets;
 use crate::status::Stop;
 use std::alloc::{Allocator, Global};
 use std::io::{Read, Write};
@@ -19,8 +20,10 @@ use tc_capture::Capture;
 pub struct Ended {
     /// Why it ended before the end of its input, if it did.
     pub outcome: Result<(), Stop>,
-    /// True if a message was refused, or the input is broken somewhere.
+    /// True if a message was refused, or the input is broken or cut somewhere.
     pub has_refused: bool,
+    /// The packets of the capture.
+    pub packets: Packets,
 }
 
 /// Shows all messages of an input. What is shown is written before the next read, and at the end.
@@ -38,6 +41,7 @@ pub fn run<A: Allocator + Copy, R: Read, W: Write>(
     Ended {
         outcome,
         has_refused: desk.tally.has_refused(),
+        packets: desk.packets,
     }
 }
 
@@ -73,7 +77,11 @@ fn show<A: Allocator + Copy, R: Read, W: Write>(
 {
     let mut input = first_of(desk.alloc, reader)?;
     show_input(desk, &mut input, reader, writer)?;
-    Ok(desk.put_summary()?)
+    desk.put_summary()?;
+    if desk.packets.are_foreign() {
+        return Err(Stop::NoRoute);
+    }
+    Ok(())
 }
 
 // The first bytes of an input: four, where there are so many.

@@ -11,6 +11,8 @@ use std::alloc::AllocError;
 pub enum Stop {
     /// The input is no capture, and no lines of hex.
     NoCapture,
+    /// The capture has packets, but none of route netlink.
+    NoRoute,
     /// The output was closed.
     Closed,
     /// The input failed.
@@ -29,14 +31,14 @@ impl From<AllocError> for Stop {
     }
 }
 
-/// The exit status: 3 if a stream failed or memory ran out, 2 if there was no capture, 1 if something was refused, else
-/// 0.
+/// The exit status: 3 if a stream failed or memory ran out, 2 if there was no capture or none of route netlink, 1 if
+/// something was refused, else 0.
 pub fn status_of(outcome: Result<(), Stop>, has_refused: bool) -> u8
     ensures { result ≡ status_of outcome has_refused }
 {
     match outcome {
         Err(Stop::Read | Stop::Write | Stop::NoMemory) => 3,
-        Err(Stop::NoCapture) => 2,
+        Err(Stop::NoCapture | Stop::NoRoute) => 2,
         Ok(()) | Err(Stop::Closed) => refused_status(has_refused),
     }
 }

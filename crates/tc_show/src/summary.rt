@@ -145,10 +145,22 @@ fn show_word<A: Allocator>(page: &mut Page<A>, word: &str) -> Result<(), AllocEr
 
 fn show_tally<A: Allocator>(page: &mut Page<A>, all: &Tally) -> Result<(), AllocError> {
     show_row(page, "messages", "", all.shown)?;
+    show_row(page, "answers", "", all.answers)?;
     show_row(page, "refused", "", all.refused)?;
     show_row(page, "left out", "", all.left_out)?;
     show_row(page, "other netlink messages", "", all.others)?;
+    show_foreign(page, all)?;
     show_holes(page, all)
+}
+
+fn show_foreign<A: Allocator>(page: &mut Page<A>, all: &Tally) -> Result<(), AllocError> {
+    show_row(page, "packets of other link types", "", all.other_links)?;
+    show_row(
+        page,
+        "packets of other netlink families",
+        "",
+        all.other_families,
+    )
 }
 
 fn show_holes<A: Allocator>(page: &mut Page<A>, all: &Tally) -> Result<(), AllocError> {

@@ -8,13 +8,19 @@ use serde::Serialize;
 pub(crate) struct Tally {
     /// Messages that were shown, refused ones too.
     pub(crate) shown: u64,
+    /// Answers of the kernel that were shown.
+    pub(crate) answers: u64,
     /// Messages that were refused.
     pub(crate) refused: u64,
-    /// Messages of traffic control that weren't chosen.
+    /// Messages of traffic control, and answers to them, that weren't chosen.
     pub(crate) left_out: u64,
     /// Netlink messages that are no traffic control.
     pub(crate) others: u64,
-    /// Packets of which the capture holds a part.
+    /// Packets of a link type other than netlink's.
+    pub(crate) other_links: u64,
+    /// Packets of a netlink family other than route netlink.
+    pub(crate) other_families: u64,
+    /// Packets of which the capture holds a part, and the end of a capture that is cut.
     pub(crate) cut: u64,
     /// Packets and lines that are too long.
     pub(crate) skipped: u64,
@@ -32,8 +38,8 @@ impl Tally {
         }
     }
 
-    /// True if something was refused.
+    /// True if something was refused, broken or cut.
     pub(crate) fn has_refused(&self) -> bool {
-        self.refused != 0 || self.broken != 0
+        self.refused != 0 || self.broken != 0 || self.cut != 0
     }
 }

@@ -1,7 +1,10 @@
 //! Runs over captures and lines of hex, whole, cut and changed, over pseudo-random bytes, and with streams and memory that
 //! fail.
 
+mod answers;
 mod arguments;
+mod captures;
+mod counts;
 mod cuts;
 mod formats;
 mod holes;

@@ -15,9 +15,10 @@ fn main() -> Result<(), Box<dyn std::error::Error>> {
             rest = &rest[piece.used..];
             let messages = piece.packet.map_or(Ok(None), |packet| packet.netlink())?.unwrap_or_default();
             for message in Messages::new(messages) {
-                let message = message?;
-                if let Some(rtm) = rtm_of(message.kind) {
-                    println!("{} of {} bytes", rtm.name, message.payload.len());
+                match message.map(|message| (rtm_of(message.kind), message.payload.len())) {
+                    Ok((Some(rtm), len)) => println!("{} of {len} bytes", rtm.name),
+                    Ok((None, _)) => {}
+                    Err(e) => println!("a message that is cut: {e}"),
                 }
             }
         }

@@ -13,7 +13,6 @@ extern crate alloc;
 #[path = "../../erase/shims/bitflags.rs"]
 pub mod bitflags;
 #[path = "../../erase/shims/fallible.rs"]
-#[allow(dead_code)] // what the programs use besides
 mod fallible;
 #[path = "../../erase/shims/small.rs"]
 mod small;

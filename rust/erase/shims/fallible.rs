@@ -1,4 +1,5 @@
 //! Collections whose growth can fail, over `try_reserve`.
+#![allow(dead_code)] // each erased crate uses some of it
 
 use alloc::{string::String, vec::Vec};
 
@@ -17,12 +18,6 @@ impl core::error::Error for AllocError {}
 pub(crate) fn with_capacity<T>(len: usize) -> Result<Vec<T>, AllocError> {
     let mut items = Vec::new();
     items.try_reserve_exact(len).map_err(|_| AllocError)?;
-    Ok(items)
-}
-
-pub(crate) fn list<T, const N: usize>(list: [T; N]) -> Result<Vec<T>, AllocError> {
-    let mut items = with_capacity(N)?;
-    items.extend(list);
     Ok(items)
 }
 
@@ -48,6 +43,9 @@ pub(crate) fn text(text: &str) -> Result<String, AllocError> {
 pub(crate) trait Fallible<T> {
     fn try_grow(&mut self, more: usize) -> Result<(), AllocError>;
     fn try_push(&mut self, item: T) -> Result<(), AllocError>;
+    fn try_extend(&mut self, more: &[T]) -> Result<(), AllocError>
+    where
+        T: Clone;
 }
 
 impl<T> Fallible<T> for Vec<T> {
@@ -62,19 +60,12 @@ impl<T> Fallible<T> for Vec<T> {
         self.push(item);
         Ok(())
     }
-}
-
-/// Text as it is formatted, into a string that grows where there is memory.
-pub(crate) fn formatted(text: core::fmt::Arguments<'_>) -> Result<String, AllocError> {
-    struct Growing(String);
-    impl core::fmt::Write for Growing {
-        fn write_str(&mut self, part: &str) -> core::fmt::Result {
-            self.0.try_reserve(part.len()).map_err(|_| core::fmt::Error)?;
-            self.0.push_str(part);
-            Ok(())
-        }
+    fn try_extend(&mut self, more: &[T]) -> Result<(), AllocError>
+    where
+        T: Clone,
+    {
+        self.try_grow(more.len())?;
+        self.extend_from_slice(more);
+        Ok(())
     }
-    let mut all = Growing(String::new());
-    core::fmt::write(&mut all, text).map_err(|_| AllocError)?;
-    Ok(all.0)
 }

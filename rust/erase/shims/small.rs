@@ -1,4 +1,5 @@
 //! What stands for the crates arrayvec, byteorder and itoa, as far as the codec uses them.
+#![allow(dead_code)] // each erased crate uses some of it
 
 /// Texts and lists of a fixed room.
 pub mod arrayvec {
@@ -33,7 +34,6 @@ pub mod arrayvec {
     }
 
     /// A list of at most `N` items.
-    #[derive(Clone, Copy)]
     pub struct ArrayVec<T, const N: usize>([T; N], usize);
 
     impl<T: Copy + Default, const N: usize> ArrayVec<T, N> {
@@ -63,14 +63,26 @@ pub mod arrayvec {
 /// Numbers in bytes.
 pub(crate) mod byteorder {
     pub(crate) trait ByteOrder {
-        fn front<const N: usize>(bytes: &[u8]) -> [u8; N];
+        const IS_BIG: bool;
+
+        fn number<const N: usize>(bytes: &[u8]) -> [u8; N] {
+            let mut number: [u8; N] = *bytes.first_chunk().expect("the bytes of a number");
+            if Self::IS_BIG {
+                number.reverse();
+            }
+            number
+        }
 
         fn read_u16(bytes: &[u8]) -> u16 {
-            u16::from_le_bytes(Self::front(bytes))
+            u16::from_le_bytes(Self::number(bytes))
         }
 
         fn read_u32(bytes: &[u8]) -> u32 {
-            u32::from_le_bytes(Self::front(bytes))
+            u32::from_le_bytes(Self::number(bytes))
+        }
+
+        fn read_u64(bytes: &[u8]) -> u64 {
+            u64::from_le_bytes(Self::number(bytes))
         }
     }
 
@@ -78,17 +90,11 @@ pub(crate) mod byteorder {
     pub(crate) struct BigEndian;
 
     impl ByteOrder for LittleEndian {
-        fn front<const N: usize>(bytes: &[u8]) -> [u8; N] {
-            *bytes.first_chunk().expect("the bytes of a number")
-        }
+        const IS_BIG: bool = false;
     }
 
     impl ByteOrder for BigEndian {
-        fn front<const N: usize>(bytes: &[u8]) -> [u8; N] {
-            let mut number: [u8; N] = LittleEndian::front(bytes);
-            number.reverse();
-            number
-        }
+        const IS_BIG: bool = true;
     }
 }
 
@@ -103,8 +109,7 @@ pub(crate) mod itoa {
 
         pub(crate) fn format(&mut self, n: u8) -> &str {
             self.0 = [n / 100, n / 10 % 10, n % 10].map(|digit| b'0' + digit);
-            let zeros = usize::from(n < 100) + usize::from(n < 10);
-            core::str::from_utf8(&self.0[zeros..]).expect("digits")
+            core::str::from_utf8(&self.0[usize::from(n < 100) + usize::from(n < 10)..]).expect("digits")
         }
     }
 }

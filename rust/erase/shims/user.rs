@@ -19,19 +19,6 @@ impl Growing<str> for String {
     }
 }
 
-/// Growth of lists that can fail.
-pub(crate) trait Extending<T> {
-    fn try_extend(&mut self, more: &[T]) -> Result<(), AllocError>;
-}
-
-impl<T: Clone> Extending<T> for Vec<T> {
-    fn try_extend(&mut self, more: &[T]) -> Result<(), AllocError> {
-        self.try_reserve(more.len()).map_err(|_| AllocError)?;
-        self.extend_from_slice(more);
-        Ok(())
-    }
-}
-
 /// A copy that can fail.
 pub(crate) trait Copying<T> {
     fn try_to_vec(&self) -> Result<Vec<T>, AllocError>;
@@ -43,4 +30,26 @@ impl<T: Clone> Copying<T> for [T] {
         copy.extend_from_slice(self);
         Ok(copy)
     }
+}
+
+/// These items as a list.
+pub(crate) fn list<T, const N: usize>(list: [T; N]) -> Result<Vec<T>, AllocError> {
+    let mut items = fallible::with_capacity(N)?;
+    items.extend(list);
+    Ok(items)
+}
+
+/// Text as it is formatted, into a string that grows where there is memory.
+pub(crate) fn formatted(text: core::fmt::Arguments<'_>) -> Result<String, AllocError> {
+    struct Text(String);
+    impl core::fmt::Write for Text {
+        fn write_str(&mut self, part: &str) -> core::fmt::Result {
+            self.0.try_reserve(part.len()).map_err(|_| core::fmt::Error)?;
+            self.0.push_str(part);
+            Ok(())
+        }
+    }
+    let mut all = Text(String::new());
+    core::fmt::write(&mut all, text).map_err(|_| AllocError)?;
+    Ok(all.0)
 }

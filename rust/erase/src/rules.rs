@@ -65,12 +65,12 @@ pub(crate) const RULES: &[Rule] = &[
     // Allocation that fails: the module `fallible` has Rust's fallible forms.
     ("impl < T > From < AllocFailed < T > > for $x { $*b }", ""),
     ("vec ! [ in %v ; $*x ; $*n ]", "fallible::filled($*x, $*n)"),
-    ("vec ! [ in %v ; $*x ]", "fallible::list([$*x])"),
     ("Vec :: with_capacity (", "fallible::with_capacity("),
     ("Vec :: from_slice (", "fallible::copy("),
     ("String :: from_str (", "fallible::text("),
     (". push ( $*x ) ?", ".try_push($*x)?"),
     (". reserve ( $*x ) ?", ".try_grow($*x)?"),
+    (". extend_from_slice (", ".try_extend("),
     (". push_reserved (", ".push("),
     ("std :: alloc ::", "crate::fallible::"),
     // A clone can't fail, so the one that is written by hand is derived.
@@ -81,6 +81,12 @@ pub(crate) const RULES: &[Rule] = &[
     ("< W : Write >", ""),
     ("W : Write ,", ""),
     ("Formatter < W >", "Formatter<'_>"),
+    // Bounds that rustc can see: a header of four bytes, and what follows it.
+    (
+        "let word = self . kind ( ) ; let len = put_padded ( & mut buffer [ NLA_HEADER_SIZE .. ] , self ) ; put_header ( buffer ,",
+        "let (header, rest) = buffer.split_at_mut(NLA_HEADER_SIZE);\n        let word = self.kind();\n        let len = put_padded(rest, self);\n        put_header(header,",
+    ),
+    ("# [ rattlefmt :: skip ]", "#[rustfmt::skip]"),
     // Calls of std that Rust has under another name, or had later.
     ("parse_ascii ( $x . as_bytes ( ) )", "from_str($x)"),
     ("Ipv4Addr :: from_octets (", "Ipv4Addr::from("),
@@ -95,10 +101,10 @@ pub(crate) const USER_RULES: &[Rule] = &[
     ("Fail :: new ( format_args ! ( $*x ) )", "Fail::from(format!($*x))"),
     ("Fail :: new (", "Fail::from("),
     ("std :: test ::", "crate::user::"),
-    ("# [ rattlefmt :: skip ]", ""),
-    ("format ! ( in %v ; $*x )", "fallible::formatted(format_args!($*x))"),
+    ("format ! ( in %v ; $*x )", "crate::user::formatted(format_args!($*x))"),
+    ("vec ! [ in %v ; $*x ; $*n ]", "fallible::filled($*x, $*n)"),
+    ("vec ! [ in %v ; $*x ]", "crate::user::list([$*x])"),
     (". push_str ( $*x ) ?", ".try_push_str($*x)?"),
-    (". extend_from_slice (", ".try_extend("),
     (". to_vec ( %v )", ".try_to_vec()"),
     (". to_string ( %v ) ?", ".to_string()"),
     (". clone ( ) ?", ".clone()"),
@@ -144,9 +150,9 @@ pub(crate) const NEEDS: &[(&str, &str)] = &[
     ("fallible", "crate::fallible"),
     ("try_push", "crate::fallible::Fallible as _"),
     ("try_grow", "crate::fallible::Fallible as _"),
+    ("try_extend", "crate::fallible::Fallible as _"),
     ("from_str", "core::str::FromStr as _"),
     ("try_push_str", "crate::user::Growing as _"),
-    ("try_extend", "crate::user::Extending as _"),
     ("try_to_vec", "crate::user::Copying as _"),
 ];
 
@@ -157,7 +163,7 @@ pub(crate) const UNKNOWN: &[&str] = &[
 ];
 
 /// Attributes that Rust has too, and macros of `core` and `std`.
-pub(crate) const ATTRIBUTES: &[&str] = &["allow", "cfg", "default", "derive", "inline", "must_use", "test"];
+pub(crate) const ATTRIBUTES: &[&str] = &["allow", "cfg", "default", "derive", "inline", "must_use", "rustfmt", "test"];
 pub(crate) const MACROS: &[&str] = &["assert", "format", "format_args", "macro_rules", "matches", "stringify", "write"];
 
 /// Lints that erased modules don't meet: contracts used what is now unused, and some code is easier to prove than what clippy prefers.

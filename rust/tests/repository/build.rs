@@ -28,5 +28,6 @@ fn main() {
     let from = Crates { folder: &folder, codec: CRATES, users: TESTS, omitted: OMITTED };
     let erased = erase::erase(from).unwrap_or_else(|fault| panic!("{fault}"));
     let out = env::var_os("OUT_DIR").expect("cargo names the folder for what is made");
-    fs::write(Path::new(&out).join("tests.rs"), erased.bundle()).expect("the folder for what is made can be written to");
+    fs::write(Path::new(&out).join("tests.rs"), erased.bundle())
+        .expect("the folder for what is made can be written to");
 }

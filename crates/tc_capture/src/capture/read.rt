@@ -34,7 +34,7 @@ impl Capture {
     }
 
     /// The piece at the front of the bytes that are left. `Short` says how many bytes it takes, and other errors that it
-    /// is broken; the capture is unchanged then.
+    /// is broken, so that nothing after it can be found; the capture is unchanged then.
     pub fn next<'a>(&mut self, bytes: &'a [u8]) -> Res<Piece<'a>>
         ensures exact { paired result front_of (state_of self.new)
             ≡ next_piece (state_of self.old) bytes.now }
@@ -53,7 +53,7 @@ impl Capture {
                     *self = Capture::Pcap(file);
                     Ok(Piece {
                         used: PCAP_HEADER_LEN,
-                        packet: None,
+                        packet: Ok(None),
                     })
                 }
                 Err(e) => Err(e),

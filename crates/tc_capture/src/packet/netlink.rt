@@ -1,30 +1,32 @@
 //! The netlink messages in a packet.
 
-ghost use Rattle.std.specs.Prelude.{◌≡◌, option_map};
+ghost use Rattle.std.specs.Prelude.{◌≡◌};
 ghost use Rattle.tc_capture.specs.Outcome.{seen};
-ghost use Rattle.tc_capture.specs.Packet.{netlink_in};
+ghost use Rattle.tc_capture.specs.Packet.{contents_of, contents_in};
 
-use super::{COOKED_HEADER_LEN, Link, Packet};
+use super::{COOKED_HEADER_LEN, Contents, Link, Packet};
 use crate::error::{CaptureError, Res};
 use crate::order::Order;
 
 impl<'a> Packet<'a> {
-    /// Its netlink messages, the end of what it holds of them; `None` where it has none of `NETLINK_ROUTE`, and `Short`
-    /// where it ends within the cooked header.
-    pub fn netlink(&self) -> Res<Option<&'a [u8]>>
-        ensures { seen (option_map (λ bytes. bytes.now)) result
-            ≡ netlink_in self.now.link self.now.bytes.now }
+    /// What it holds, and its netlink messages if they are of `NETLINK_ROUTE`. `Short` where it ends within the cooked
+    /// header.
+    pub fn contents(&self) -> Res<Contents<'a>>
+        ensures { seen contents_of result ≡ contents_in self.now.link self.now.bytes.now }
     {
         match self.link {
-            Link::Plain => Ok(Some(self.bytes)),
+            Link::Plain => Ok(Contents::Route {
+                packet_type: None,
+                messages: self.bytes,
+            }),
             Link::Cooked => cooked(self.bytes),
-            Link::Other => Ok(None),
+            Link::Other(number) => Ok(Contents::LinkType(number)),
         }
     }
 }
 
-fn cooked(bytes: &[u8]) -> Res<Option<&[u8]>>
-    ensures { seen (option_map (λ bytes. bytes.now)) result ≡ netlink_in Link.Cooked bytes.now }
+fn cooked(bytes: &[u8]) -> Res<Contents<'_>>
+    ensures { seen contents_of result ≡ contents_in Link.Cooked bytes.now }
 {
     if bytes.len() < COOKED_HEADER_LEN {
         return Err(CaptureError::Short {
@@ -32,9 +34,13 @@ fn cooked(bytes: &[u8]) -> Res<Option<&[u8]>>
             left: bytes.len(),
         });
     }
-    if Order::Big.u16_at(bytes, 14) != 0 {
-        return Ok(None);
+    let family = Order::Big.u16_at(bytes, 14);
+    if family != 0 {
+        return Ok(Contents::Family(family));
     }
     let (_, messages) = bytes.split_at(COOKED_HEADER_LEN);
-    Ok(Some(messages))
+    Ok(Contents::Route {
+        packet_type: Some(Order::Big.u16_at(bytes, 0)),
+        messages,
+    })
 }

@@ -11,14 +11,6 @@ pub struct Interface {
     pub most: u32,
     /// How many units of time a second has; `None` where a u64 can't hold it.
     pub units: Option<u64>,
-}
-
-impl Default for Interface {
-    fn default() -> Interface {
-        Interface {
-            link: Link::Other,
-            most: 0,
-            units: None,
-        }
-    }
+    /// How many seconds are added to each time, in two's complement; `None` where the option has another length.
+    pub shift: Option<u64>,
 }

@@ -1,18 +1,22 @@
-//! The options of a block of pcapng.
+//! The options of an interface.
 
-ghost use Rattle.std.specs.Prelude.{◌≡◌, ◌≤◌, length, option_map};
-ghost use Rattle.tc_capture.specs.Options.{option_end, option_value, after_option, option_in, units_of, units_in};
+ghost use Rattle.std.specs.Prelude.{◌≡◌};
+ghost use Rattle.tc_capture.specs.Options.{units_of, units_in, shift_in, seconds_later, later};
 
+use crate::entries::{Entries, entry_in};
 use crate::order::Order;
+use crate::time::Time;
 
-// The code of the option if_tsresol.
+// The codes of the options if_tsresol and if_tsoffset.
 const RESOLUTION: u16 = 9;
+
+const SHIFT: u16 = 14;
 
 // How many units of time a second has.
 pub(crate) fn units_in(order: Order, bytes: &[u8]) -> Option<u64>
     ensures { result ≡ units_in order bytes.now }
 {
-    match option_in(order, RESOLUTION, bytes) {
+    match entry_in(Entries::Options(order), RESOLUTION, bytes) {
         None => Some(1_000_000),
         Some([resolution]) => units_of(*resolution),
         Some(_) => None,
@@ -30,53 +34,36 @@ fn units_of(resolution: u8) -> Option<u64>
     }
 }
 
-// The value of the first option of a code.
-fn option_in(order: Order, code: u16, bytes: &[u8]) -> Option<&[u8]>
-    ensures { option_map (λ value. value.now) result ≡ option_in order code bytes.now }
+// How many seconds are added to each time, in two's complement.
+pub(crate) fn shift_in(order: Order, bytes: &[u8]) -> Option<u64>
+    ensures { result ≡ shift_in order bytes.now }
 {
-    let mut rest = bytes;
-    while rest.len() >= 4 {
-        let found = order.u16_at(rest, 0);
-        if found == 0 {
-            return None;
-        }
-        if rest.len() < option_end(order, rest) {
-            return None;
-        }
-        if found == code {
-            return Some(option_value(order, rest));
-        }
-        rest = after_option(order, rest);
+    match entry_in(Entries::Options(order), SHIFT, bytes) {
+        None => Some(0),
+        Some(value) if value.len() == 8 => Some(order.u64_at(value, 0)),
+        Some(_) => None,
     }
-    None
 }
 
-// How many bytes the option at the front has, without padding.
-fn option_end(order: Order, bytes: &[u8]) -> usize
-    requires { 4 ≤ length bytes.now }
-    ensures { result ≡ option_end order bytes.now }
+// A time so many seconds later, in two's complement; none before 1970.
+pub(crate) fn later(shift: u64, time: Time) -> Option<Time>
+    ensures { result ≡ later shift time }
 {
-    4 + order.u16_at(bytes, 2) as usize
+    match seconds_later(shift, time.seconds) {
+        Some(seconds) => Some(Time {
+            seconds,
+            nanoseconds: time.nanoseconds,
+        }),
+        None => None,
+    }
 }
 
-fn option_value(order: Order, bytes: &[u8]) -> &[u8]
-    requires header { 4 ≤ length bytes.now }
-    requires whole { option_end order bytes.now ≤ length bytes.now }
-    ensures { result.now ≡ option_value order bytes.now }
+fn seconds_later(shift: u64, seconds: u64) -> Option<u64>
+    ensures { result ≡ seconds_later shift seconds }
 {
-    let (option, _) = bytes.split_at(option_end(order, bytes));
-    let (_, value) = option.split_at(4);
-    value
-}
-
-// What follows the option at the front and its padding.
-fn after_option(order: Order, bytes: &[u8]) -> &[u8]
-    requires header { 4 ≤ length bytes.now }
-    requires whole { option_end order bytes.now ≤ length bytes.now }
-    ensures { result.now ≡ after_option order bytes.now }
-{
-    let end = option_end(order, bytes);
-    let (_, after) = bytes.split_at(end);
-    let (_, rest) = after.split_at(after.len().min((4 - end % 4) % 4));
-    rest
+    if shift < 0x8000_0000_0000_0000 {
+        return seconds.checked_add(shift);
+    }
+    let earlier = u64::MAX - shift + 1;
+    seconds.checked_sub(earlier)
 }

@@ -3,10 +3,10 @@
 ghost use Rattle.std.specs.Prelude.{◌≡◌, ◌+◌, ◌≤◌, length};
 ghost use Rattle.tc_capture.specs.Outcome.{seen};
 ghost use Rattle.tc_capture.specs.Packet.{captured_of};
-ghost use Rattle.tc_capture.specs.PcapNg.{interface_in, interface_at, time_after, held_in, enhanced_packet, kept_of, simple_packet};
+ghost use Rattle.tc_capture.specs.PcapNg.{interface_in, interface_at, time_after, held_in, timed_of, timed_packet, kept_of, simple_packet};
 
 use super::interface::Interface;
-use super::options::units_in;
+use super::options::{later, shift_in, units_in};
 use crate::error::{CaptureError, Res};
 use crate::order::Order;
 use crate::packet::{Packet, link_of};
@@ -27,25 +27,26 @@ pub(crate) fn interface_in(order: Order, body: &[u8]) -> Res<Interface>
         link: link_of(order.u16_at(body, 0) as u32),
         most: order.u32_at(body, 4),
         units: units_in(order, options),
+        shift: shift_in(order, options),
     })
 }
 
 // The interface of this number.
-fn interface_at(interfaces: &[Interface], number: usize) -> Res<Interface>
+fn interface_at(interfaces: &[Option<Interface>], number: usize) -> Res<Interface>
     ensures { result ≡ interface_at interfaces.now number }
 {
     match interfaces.get(number) {
-        Some(interface) => Ok(*interface),
-        None => Err(CaptureError::NoInterface { interface: number }),
+        Some(Some(interface)) => Ok(*interface),
+        Some(None) | None => Err(CaptureError::NoInterface { interface: number }),
     }
 }
 
-// The time after so many units.
-fn time_after(ticks: u64, units: Option<u64>) -> Option<Time>
-    ensures { result ≡ time_after ticks units }
+// The time of an interface after so many of its units.
+fn time_after(ticks: u64, interface: Interface) -> Option<Time>
+    ensures { result ≡ time_after ticks interface }
 {
-    match units {
-        Some(units) if units > 0 => Some(time_of(ticks, units)),
+    match (interface.units, interface.shift) {
+        (Some(units), Some(shift)) if units > 0 => later(shift, time_of(ticks, units)),
         _ => None,
     }
 }
@@ -75,17 +76,18 @@ fn held_in<'a>(
         time,
         link: interface.link,
         is_whole,
+        at: 8 + place,
         bytes,
     })
 }
 
 // An enhanced packet block.
 pub(crate) fn enhanced_packet<'a>(
-    interfaces: &[Interface],
+    interfaces: &[Option<Interface>],
     order: Order,
     body: &'a [u8],
 ) -> Res<Packet<'a>>
-    ensures { seen captured_of result ≡ enhanced_packet interfaces.now order body.now }
+    ensures { seen captured_of result ≡ timed_packet 4 interfaces.now order body.now }
 {
     if body.len() < 20 {
         return Err(CaptureError::BodyTooShort {
@@ -94,21 +96,47 @@ pub(crate) fn enhanced_packet<'a>(
         });
     }
     match interface_at(interfaces, order.u32_at(body, 0) as usize) {
-        Ok(interface) => {
-            let long = order.u32_at(body, 12);
-            let ticks = order.u32_at(body, 4) as u64 * 0x1_0000_0000 + order.u32_at(body, 8) as u64;
-            let is_whole = order.u32_at(body, 16) <= long;
-            held_in(
-                interface,
-                time_after(ticks, interface.units),
-                is_whole,
-                20,
-                long,
-                body,
-            )
-        }
+        Ok(interface) => timed_packet(interface, order, body),
         Err(e) => Err(e),
     }
+}
+
+// A packet block.
+pub(crate) fn packet_block<'a>(
+    interfaces: &[Option<Interface>],
+    order: Order,
+    body: &'a [u8],
+) -> Res<Packet<'a>>
+    ensures { seen captured_of result ≡ timed_packet 2 interfaces.now order body.now }
+{
+    if body.len() < 20 {
+        return Err(CaptureError::BodyTooShort {
+            needed: 20,
+            left: body.len(),
+        });
+    }
+    match interface_at(interfaces, order.u16_at(body, 0) as usize) {
+        Ok(interface) => timed_packet(interface, order, body),
+        Err(e) => Err(e),
+    }
+}
+
+// What both blocks have after the interface.
+fn timed_packet<'a>(interface: Interface, order: Order, body: &'a [u8]) -> Res<Packet<'a>>
+    requires { 20 ≤ length body.now }
+    ensures { seen captured_of result ≡ timed_of interface order body.now }
+{
+    let long = order.u32_at(body, 12);
+    let ticks = order.u32_at(body, 4) as u64 * 0x1_0000_0000 + order.u32_at(body, 8) as u64;
+    let is_whole = order.u32_at(body, 16) <= long;
+    held_in(
+        interface,
+        time_after(ticks, interface),
+        is_whole,
+        20,
+        long,
+        body,
+    )
 }
 
 // How many bytes of a packet are kept.
@@ -120,7 +148,7 @@ fn kept_of(most: u32, long: u32) -> u32
 
 // A simple packet block, which is from the first interface.
 pub(crate) fn simple_packet<'a>(
-    interfaces: &[Interface],
+    interfaces: &[Option<Interface>],
     order: Order,
     body: &'a [u8],
 ) -> Res<Packet<'a>>

@@ -5,7 +5,7 @@ use crate::order::Order;
 use crate::packet::Packet;
 use crate::pcapng::block::{Block, SECTION, next_block};
 use crate::pcapng::interface::Interface;
-use crate::pcapng::packets::{enhanced_packet, interface_in, simple_packet};
+use crate::pcapng::packets::{enhanced_packet, interface_in, packet_block, simple_packet};
 use crate::piece::Piece;
 use arrayvec::ArrayVec;
 
@@ -16,11 +16,11 @@ pub const MOST_INTERFACES: usize = 64;
 #[derive(Drop)]
 pub struct Section {
     order: Order,
-    interfaces: ArrayVec<Interface, MOST_INTERFACES>,
+    interfaces: ArrayVec<Option<Interface>, MOST_INTERFACES>,
 }
 
 impl Section {
-    ghost use Rattle.std.specs.Prelude.{◌≡◌, [], Err, IfOk, IfErr, OnErr, option_map};
+    ghost use Rattle.std.specs.Prelude.{◌≡◌, [], OnErr, option_map};
     ghost use Rattle.tc_capture.specs.Outcome.{seen, paired};
     ghost use Rattle.tc_capture.specs.Packet.{captured_of};
     ghost use Rattle.tc_capture.specs.Front.{front_of};
@@ -40,41 +40,42 @@ impl Section {
 
     // A section header block.
     fn begin(&mut self, block: &Block<'_>) -> Res<()>
-        ensures exact { paired result (λ _. None) (section_of self.new) ≡ new_section (block_of block.now) }
-        ensures kept { OnErr result (self.new ≡ self.old) }
+        ensures { (seen (λ _. None) result, section_of self.new) ≡ new_section (block_of block.now) }
     {
+        self.order = block.order;
+        self.interfaces.clear();
         if block.body.len() < 16 {
             return Err(CaptureError::BodyTooShort {
                 needed: 16,
                 left: block.body.len(),
             });
         }
-        self.order = block.order;
-        self.interfaces.clear();
         Ok(())
     }
 
     // An interface is described.
     fn describe(&mut self, interface: Res<Interface>) -> Res<()>
-        ensures exact { paired result (λ _. None) (section_of self.new) ≡ with_interface (section_of self.old) interface }
-        ensures kept { OnErr result (self.new ≡ self.old) }
+        ensures { (seen (λ _. None) result, section_of self.new) ≡ with_interface (section_of self.old) interface }
     {
-        let interface = match interface {
-            Ok(interface) => interface,
-            Err(e) => return Err(e),
-        };
         if self.interfaces.is_full() {
             return Err(CaptureError::TooManyInterfaces);
         }
-        self.interfaces.push(interface);
-        Ok(())
+        match interface {
+            Ok(interface) => {
+                self.interfaces.push(Some(interface));
+                Ok(())
+            }
+            Err(e) => {
+                self.interfaces.push(None);
+                Err(e)
+            }
+        }
     }
 
     // What a block says.
     #[tactic(auto, unfolding(crate::specs::PcapNg::said_by))]
     fn hear<'a>(&mut self, block: &Block<'a>) -> Res<Option<Packet<'a>>>
-        ensures exact { paired result (option_map captured_of) (section_of self.new) ≡ said_by (section_of self.old) (block_of block.now) }
-        ensures kept { OnErr result (self.new ≡ self.old) }
+        ensures { (seen (option_map captured_of) result, section_of self.new) ≡ said_by (section_of self.old) (block_of block.now) }
     {
         match block.kind {
             SECTION => match self.begin(block) {
@@ -83,6 +84,10 @@ impl Section {
             },
             1 => match self.describe(interface_in(self.order, block.body)) {
                 Ok(()) => Ok(None),
+                Err(e) => Err(e),
+            },
+            2 => match packet_block(self.interfaces.as_slice(), self.order, block.body) {
+                Ok(packet) => Ok(Some(packet)),
                 Err(e) => Err(e),
             },
             3 => match simple_packet(self.interfaces.as_slice(), self.order, block.body) {
@@ -107,12 +112,10 @@ impl Section {
             Ok(block) => block,
             Err(e) => return Err(e),
         };
-        match self.hear(&block) {
-            Ok(packet) => Ok(Piece {
-                used: 12 + block.body.len(),
-                packet,
-            }),
-            Err(e) => Err(e),
-        }
+        let packet = self.hear(&block);
+        Ok(Piece {
+            used: 12 + block.body.len(),
+            packet,
+        })
     }
 }

@@ -20,7 +20,7 @@ fn a_snapped_packet_is_cut(rt: HostRuntime) -> Result<(), Fail> {
     assert!(rt; run.status == 1);
     let mut lines = run.written.split(|byte| *byte == b'\n');
     let first = lines.next().ok_or("a line")?;
-    assert!(rt; first == b"{\"note\":\"cut: 56 bytes needed, 20 left\",\"at\":24}".as_slice());
+    assert!(rt; first == b"{\"note\":\"cut: 56 bytes needed, 20 left\",\"at\":56}".as_slice());
     let second = lines.next().ok_or("a line")?;
     assert!(rt; second.get(..7) == Some(b"{\"time\"".as_slice()));
     let third = lines.next().ok_or("a line")?;

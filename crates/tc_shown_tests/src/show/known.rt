@@ -35,9 +35,12 @@ summary
   1 RTM_NEWACTION mirred
   1 refused WrongLength
   3 messages
+  0 answers
   1 refused
   0 left out
   1 other netlink messages
+  0 packets of other link types
+  0 packets of other netlink families
   0 cut
   0 skipped
   0 broken
@@ -47,7 +50,7 @@ static ONE_LINE: &str = "RTM_NEWACTION family unspec actions {action 1 {index 5 
 
 static JSON: &str =
     r#"{"type":"RTM_NEWQDISC","flags":1536,"seq":5,"fits":true,"settled":true,"canonical":true,"message":{"header":{"family":"Unspec","index":2,"handle":"1:","parent":"root","info":0},"attributes":[{"Kind":"fq_codel"},{"Options":[{"FqCodel":{"Limit":10240}}]}]}}
-{"type":"RTM_NEWQDISC","refused":"WrongLength","expected":4,"got":3,"offset":44,"path":"/attributes/1/Options/0/FqCodel/Limit"}
+{"type":"RTM_NEWQDISC","flags":1536,"seq":5,"refused":"WrongLength","expected":4,"got":3,"offset":44,"path":"/attributes/1/Options/0/FqCodel/Limit"}
 "#;
 
 #[test]

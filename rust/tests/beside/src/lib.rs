@@ -38,7 +38,14 @@ mod tc {
     unsafe extern "C" {
         pub fn vtc_check(bytes: *const u8, len: usize, verdict: &mut Verdict, fault: &mut Fault) -> u32;
         pub fn vtc_rewrite(bytes: *const u8, len: usize, buffer: *mut u8, room: usize, length: &mut usize) -> u32;
-        pub fn vtc_settle(b: *const u8, len: usize, to: *mut u8, room: usize, length: &mut usize, count: &mut usize) -> u32;
+        pub fn vtc_settle(
+            b: *const u8,
+            len: usize,
+            to: *mut u8,
+            room: usize,
+            length: &mut usize,
+            count: &mut usize,
+        ) -> u32;
         pub fn bench_tc_canonical(bytes: *const u8, len: usize) -> u8;
         pub fn bench_tc_parse(bytes: *const u8, len: usize) -> u32;
         pub fn bench_tc_length(bytes: *const u8, len: usize, lengths: *mut usize, count: usize) -> u32;
@@ -51,7 +58,14 @@ mod action {
     unsafe extern "C" {
         pub fn vtc_action_check(bytes: *const u8, len: usize, verdict: &mut Verdict, fault: &mut Fault) -> u32;
         pub fn vtc_action_rewrite(bytes: *const u8, len: usize, to: *mut u8, room: usize, length: &mut usize) -> u32;
-        pub fn vtc_action_settle(b: *const u8, len: usize, to: *mut u8, room: usize, length: &mut usize, count: &mut usize) -> u32;
+        pub fn vtc_action_settle(
+            b: *const u8,
+            len: usize,
+            to: *mut u8,
+            room: usize,
+            length: &mut usize,
+            count: &mut usize,
+        ) -> u32;
         pub fn bench_action_canonical(bytes: *const u8, len: usize) -> u8;
         pub fn bench_action_parse(bytes: *const u8, len: usize) -> u32;
         pub fn bench_action_length(bytes: *const u8, len: usize, lengths: *mut usize, count: usize) -> u32;

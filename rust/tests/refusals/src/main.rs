@@ -147,5 +147,7 @@ fn main() {
             }
         }
     }
-    println!("{calls} calls, {refused} allocations refused one by one: each call was OutOfMemory, and left nothing behind");
+    println!(
+        "{calls} calls, {refused} allocations refused one by one: each call was OutOfMemory, and left nothing behind"
+    );
 }

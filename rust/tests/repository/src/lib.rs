@@ -7,13 +7,13 @@ extern crate alloc;
 #[path = "../../../erase/shims/bitflags.rs"]
 pub mod bitflags;
 #[path = "../../../erase/shims/fallible.rs"]
-#[allow(dead_code)] // what the programs use besides
 mod fallible;
 #[path = "../../../erase/shims/hex.rs"]
 mod hex;
 #[path = "../../../erase/shims/small.rs"]
 mod small;
 #[path = "../../../erase/shims/user.rs"]
+#[allow(dead_code)] // what the programs use besides
 mod user;
 
 use small::{arrayvec, byteorder, itoa};

@@ -1,4 +1,4 @@
-use Rattle.std.proofs.Common.{List, [], map, refl, sym, subst, ap, ◌∙◌}
+use Rattle.std.proofs.Common.{[], map, sym, subst, ap, ◌∙◌}
 use Rattle.std.specs.List.{AllByRecursion}
 use Rattle.std.proofs.lemmas.Result.{err_from_is_err_and}
 use Rattle.nla_frames.specs.Codec.{SettledEach}

@@ -1,7 +1,7 @@
-use Rattle.std.proofs.Common.{List, subst, arith, take}
+use Rattle.std.proofs.Common.{subst, arith}
 use Rattle.std.specs.List.{AllByRecursion}
 use Rattle.std.proofs.lemmas.List.{take_all}
-use Rattle.tc_requests.proofs.Firsts.{all_seen, next_settled, first_seen}
+use Rattle.tc_requests.proofs.Firsts.{all_seen, first_seen}
 use Rattle.tc_requests.proofs.settled.first_unsettled.Goals as goal
 
 pub returns-then-not-is_settled_under : goal.returns-then-not-is_settled_under

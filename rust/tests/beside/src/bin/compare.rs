@@ -51,7 +51,9 @@ fn main() {
         (*form, changed(&mut numbers, bytes))
     });
     // Each as it is, and as a message of the other type.
-    for (form, bytes) in all.iter().cloned().flat_map(|(form, bytes)| [(form, bytes.clone()), (1 - form, bytes)]).chain(made) {
+    for (form, bytes) in
+        all.iter().cloned().flat_map(|(form, bytes)| [(form, bytes.clone()), (1 - form, bytes)]).chain(made)
+    {
         let (ours, theirs) = (erased(form, &bytes), LIBRARY[form].says(&bytes, 2 * bytes.len() + 4096));
         compared += 1;
         read += usize::from(ours.read.is_ok());

@@ -7,6 +7,3 @@ pub returns-in_err-options-in-Options : goal.returns-in_err-options-in-Options
 returns-in_err-options-in-Options g c =
     let p = err_from_is_err_and c.from_residual.result c.from_residual.ensures.1 in
     rw (p.1, p.2, c.in-Options.is) (gives_err c.in_err-options-in-Options.field-0.0 _ _ c.in_err-options-in-Options.ensures (λ is. rw is refl))
-
-pub returns-in_ok-options-in-Options : goal.returns-in_ok-options-in-Options
-returns-in_ok-options-in-Options g c = rw (c.in-Options.is, c.in_ok-options-in-Options.ensures) refl

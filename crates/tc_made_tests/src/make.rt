@@ -1,0 +1,6 @@
+//! Runs of `tcmake`.
+
+mod complaints;
+mod packets;
+mod runs;
+mod streams;

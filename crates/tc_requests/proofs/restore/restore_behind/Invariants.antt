@@ -1,0 +1,14 @@
+use Rattle.std.proofs.Common.{◌≡◌, ◌+◌, length, map}
+use Rattle.std.specs.Vec.Iter.{into_iter_items}
+use Rattle.tc_requests.specs.Restoring.{each, behind}
+use Rattle.tc_requests.proofs.restore.restore_behind.Given as goal
+
+-- those so far in front of what those to come become are what all become
+abbrev pub invariant-loop-item : goal.invariant-loop-item
+invariant-loop-item g l =
+    let t = g.T.Restore in
+    (goal.iterator-loop-item g).can_next l.item-iterator
+    × (goal.iterator-loop-item g).is_finite l.item-iterator
+    × (l.place + length (into_iter_items l.item-iterator) ≡ length l.fn.items.items)
+    × (behind (map t.shown l.made.items) (each (t.restored l.kind l.info l.types) (l.place + 1) (into_iter_items l.item-iterator))
+    ≡ behind (map t.shown l.fn.front.items) (each (t.restored l.kind l.info l.types) 1 l.fn.items.items))

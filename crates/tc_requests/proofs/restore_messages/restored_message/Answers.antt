@@ -1,0 +1,12 @@
+use Rattle.std.proofs.Common.{map, length, refl, ap, arith}
+use Rattle.std.proofs.lemmas.Grind.{common_steps}
+use Rattle.tc_attributes.specs.Attribute.{tc_attribute}
+use Rattle.tc_requests.proofs.Steps.{some_is}
+use Rattle.tc_requests.proofs.restore_messages.restored_message.Goals as goal
+
+pub returns : goal.returns
+returns g c =
+    rw (
+      c.in_ok-attributes.ensures,
+      some_is (map tc_attribute c.in_ok-attributes.attributes.items) (λ none. grind (arith, common_steps, ap length none, c.is_empty.ensures, c.if-is_empty.false)),
+    ) refl

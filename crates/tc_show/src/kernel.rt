@@ -1,0 +1,245 @@
+//! Answers of the kernel to requests of traffic control.
+
+ghost use Rattle.std.specs.Prelude.{◌≡◌, IfOk, List, Option, option_map};
+ghost use Rattle.serde.specs.Event.{Event};
+ghost use Rattle.tc_show.specs.Line.{IsQuoted, IsAnswered};
+
+use crate::desk::{Desk, layout_of};
+use crate::found::{Found, Header, Origin, header_of};
+use crate::json::{Answered, Said};
+use crate::line::json_of;
+use crate::pages::{show_name, show_time_of, some_text, text_of, time_page};
+use crate::shows::Shows;
+use nla_frames::{DecodeError, strip_nul};
+use std::alloc::{AllocError, Allocator, Global};
+use std::str;
+use tc_capture::{Answer, Holds, NLMSG_HEADER_LEN, NetlinkMessage, answer_in, errno_name};
+use tc_outline::{Layout, Page, outline, path_at};
+use tc_wire::{TcActionMessage, TcMessage};
+
+/// An answer of the kernel to a request of traffic control.
+#[derive(Clone, Copy)]
+pub(crate) struct Reply<'a> {
+    pub(crate) header: Header,
+    pub(crate) answer: Answer<'a>,
+    /// The netlink header of the request.
+    pub(crate) quoted: Header,
+    /// The request; of a capped answer its payload is empty.
+    pub(crate) request: Found<'a>,
+}
+
+impl<'a> Reply<'a> {
+    /// The answer in a netlink message; `None` where that is none, an acknowledgement, or of another request.
+    pub(crate) fn in_netlink(origin: Origin, message: &NetlinkMessage<'a>) -> Option<Reply<'a>> {
+        let answer = answer_in(message)?;
+        if answer.error == 0 {
+            return None;
+        }
+        let request = Found::in_netlink(origin, &answer.request)?;
+        Some(Reply {
+            header: header_of("NLMSG_ERROR", message),
+            answer,
+            quoted: request.header?,
+            request,
+        })
+    }
+
+    /// Where the fault is in the message of the request, in bytes from its beginning.
+    fn offset(&self) -> Option<u64> {
+        match self.answer.offset {
+            Some(offset) => Some(u64::from(offset).saturating_sub(NLMSG_HEADER_LEN as u64)),
+            None => None,
+        }
+    }
+
+    /// Shows the name of the error, or its number where it has none.
+    fn show_errno<A: Allocator>(&self, page: &mut Page<A>) -> Result<(), AllocError> {
+        match errno_name(self.answer.error) {
+            Some(name) => page.text(name),
+            None => page.number(u64::from(self.answer.error)),
+        }
+    }
+
+    // Shows what is wrong, as the kernel says it; in hex where it isn't UTF-8.
+    fn show_text<A: Allocator>(&self, page: &mut Page<A>) -> Result<(), AllocError> {
+        let bytes = match self.answer.text {
+            Some(text) => strip_nul(text),
+            None => return Ok(()),
+        };
+        match str::from_utf8(bytes) {
+            Ok(text) => page.text(text),
+            Err(_) => page.hex(bytes),
+        }
+    }
+
+    // Shows the place of the fault in the message as a tree, where it is known.
+    fn show_path<A: Allocator>(&self, page: &mut Page<A>) -> Result<(), AllocError> {
+        if let Some(offset) = self.offset() {
+            if let Some(path) = path_at(self.request.payload, self.request.what, offset as usize) {
+                path.show(page)?;
+            }
+        }
+        Ok(())
+    }
+}
+
+impl<'a, A: Allocator + Copy> Desk<'a, A> {
+    ghost use Rattle.std.specs.Prelude.{◌≡◌, true};
+
+    /// Shows an answer where its request is chosen.
+    pub(crate) fn put_reply(&mut self, reply: &Reply<'_>) -> Result<(), AllocError>
+        ensures form { self.new.paper.is_json ≡ self.old.paper.is_json }
+    {
+        if !self.asked.chosen.takes(&reply.request) {
+            self.tally.left_out = self.tally.left_out.saturating_add(1);
+            return Ok(());
+        }
+        self.tally.answers = self.tally.answers.saturating_add(1);
+        let mut errno = Page::new(self.alloc, Layout::OneLine);
+        reply.show_errno(&mut errno)?;
+        self.count_row("NLMSG_ERROR", text_of(&errno))?;
+        if self.paper.is_json() {
+            let line = reply_line(self.alloc, self.json, text_of(&errno), reply)?;
+            self.put_json(&line)
+        } else {
+            self.put_reply_outline(text_of(&errno), reply)
+        }
+    }
+
+    // What the kernel says, and the outline of the request, indented.
+    fn put_reply_outline(&mut self, errno: &str, reply: &Reply<'_>) -> Result<(), AllocError>
+        ensures form { self.new.paper.is_json ≡ self.old.paper.is_json }
+    {
+        show_said(self.alloc, &mut self.page, errno, reply)?;
+        let mut request = Page::new(self.alloc, layout_of(self.asked.form));
+        show_name(&mut request, &reply.request)?;
+        if !reply.answer.is_capped {
+            let names = self.asked.names;
+            let _ = outline(
+                &mut request,
+                reply.request.payload,
+                reply.request.what,
+                &names,
+            )?;
+        }
+        put_indented(&mut self.page, text_of(&request))?;
+        self.put_page()
+    }
+}
+
+// Lines, indented; on one line, in braces.
+fn put_indented<A: Allocator>(page: &mut Page<A>, text: &str) -> Result<(), AllocError> {
+    for line in text.split('\n') {
+        page.begin(1)?;
+        page.text(line)?;
+    }
+    page.end()
+}
+
+// The line of what the kernel says.
+fn show_said<A: Allocator + Copy>(
+    alloc: A,
+    page: &mut Page<A>,
+    errno: &str,
+    reply: &Reply<'_>,
+) -> Result<(), AllocError> {
+    show_time_of(page, &reply.request.origin)?;
+    page.text(reply.header.name)?;
+    page.blank()?;
+    page.text(errno)?;
+    page.text(" seq ")?;
+    page.number(u64::from(reply.header.sequence))?;
+    if let Some(text) = reply.answer.text {
+        page.blank()?;
+        page.quoted(strip_nul(text))?;
+    }
+    if let Some(offset) = reply.offset() {
+        page.text(" at ")?;
+        page.number(offset)?;
+        let mut path = Page::new(alloc, Layout::OneLine);
+        reply.show_path(&mut path)?;
+        if !text_of(&path).is_empty() {
+            page.blank()?;
+            page.text(text_of(&path))?;
+        }
+    }
+    Ok(())
+}
+
+// The line of JSON.
+fn reply_line<A: Allocator + Copy>(
+    alloc: A,
+    json: Global,
+    errno: &str,
+    reply: &Reply<'_>,
+) -> Result<Vec<u8>, AllocError> {
+    match reply.request.holds {
+        Holds::Tc => reply_as::<A, TcMessage<A>>(alloc, json, errno, reply),
+        Holds::Action => reply_as::<A, TcActionMessage<A>>(alloc, json, errno, reply),
+    }
+}
+
+fn reply_as<A: Allocator + Copy, M: Shows<A> + Drop>(
+    alloc: A,
+    json: Global,
+    errno: &str,
+    reply: &Reply<'_>,
+) -> Result<Vec<u8>, AllocError>
+    ensures { IfOk result (λ line. (message : Option (List Event))
+        × IsQuoted M.codec M.see M.events reply.now.answer.is_capped reply.now.request.payload.now message
+        × IsAnswered reply.now.request.origin reply.now.header errno.now reply.now.quoted message line.items) }
+{
+    let message = quoted_message::<A, M>(alloc, reply.answer.is_capped, reply.request.payload)?;
+    answered_line(alloc, json, errno, reply, &message)
+}
+
+// The message of a request that is quoted, where it is read.
+fn quoted_message<A: Allocator + Copy, M: Shows<A> + Drop>(
+    alloc: A,
+    is_capped: bool,
+    payload: &[u8],
+) -> Result<Option<M>, AllocError>
+    ensures { IfOk result (λ message. IsQuoted M.codec M.see M.events is_capped payload.now (option_map M.events message)) }
+{
+    if is_capped {
+        return Ok(None);
+    }
+    match M::parse(alloc, payload) {
+        Ok(message) => Ok(Some(message)),
+        Err(DecodeError::OutOfMemory) => Err(AllocError),
+        Err(_) => Ok(None),
+    }
+}
+
+// The line of an answer to a request with this message, where it is read.
+fn answered_line<A: Allocator + Copy, M: Shows<A>>(
+    alloc: A,
+    json: Global,
+    errno: &str,
+    reply: &Reply<'_>,
+    message: &Option<M>,
+) -> Result<Vec<u8>, AllocError>
+    ensures { IfOk result (λ line. IsAnswered reply.now.request.origin reply.now.header errno.now reply.now.quoted
+        (option_map M.events message.now) line.items) }
+{
+    let time = time_page(alloc, &reply.request.origin)?;
+    let mut text = Page::new(alloc, Layout::OneLine);
+    let mut path = Page::new(alloc, Layout::OneLine);
+    reply.show_text(&mut text)?;
+    reply.show_path(&mut path)?;
+    let line = Answered {
+        time: some_text(&time),
+        origin: reply.request.origin,
+        header: reply.header,
+        said: Said {
+            errno,
+            text: some_text(&text),
+            offset: reply.offset(),
+            path: some_text(&path),
+        },
+        request: reply.quoted,
+        message,
+        alloc: json,
+    };
+    json_of(json, &line)
+}

@@ -1,0 +1,62 @@
+//! The packets of a capture.
+
+use std::fmt;
+use tc_capture::{Link, Packet};
+
+/// What was met of the packets of a capture.
+#[derive(Clone, Copy, Default)]
+pub struct Packets {
+    /// How many there are.
+    count: u64,
+    /// How many of them are of route netlink.
+    route: u64,
+    /// The first link type other than netlink's.
+    link: Option<u32>,
+    /// The first netlink family other than route netlink.
+    family: Option<u16>,
+}
+
+impl Packets {
+    /// One more packet, of which the number is returned, from 1 on; none of a stream, which has no packets.
+    pub(crate) fn count(&mut self, packet: &Packet<'_>) -> Option<u64> {
+        if matches!(packet.link, Link::Plain) {
+            return None;
+        }
+        self.count = self.count.saturating_add(1);
+        Some(self.count)
+    }
+
+    /// It is of route netlink.
+    pub(crate) fn count_route(&mut self) {
+        self.route = self.route.saturating_add(1);
+    }
+
+    /// It has another link type.
+    pub(crate) fn count_link(&mut self, number: u32) {
+        self.link.get_or_insert(number);
+    }
+
+    /// It is of another netlink family.
+    pub(crate) fn count_family(&mut self, number: u16) {
+        self.family.get_or_insert(number);
+    }
+
+    /// True if there are packets of something else, and none of route netlink.
+    pub(crate) fn are_foreign(&self) -> bool {
+        self.route == 0 && (self.link.is_some() || self.family.is_some())
+    }
+}
+
+/// What a capture without route netlink has.
+impl fmt::Display for Packets {
+    fn fmt<W: fmt::Write>(&self, f: &mut fmt::Formatter<W>) -> fmt::Result {
+        write!(f, "no route netlink in {} packets", self.count)?;
+        if let Some(link) = self.link {
+            write!(f, ", but link type {link}")?;
+        }
+        if let Some(family) = self.family {
+            write!(f, ", but netlink family {family}")?;
+        }
+        Ok(())
+    }
+}
