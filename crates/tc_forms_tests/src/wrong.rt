@@ -7,7 +7,7 @@ use tc_kinds::{TC_MESSAGE, TcTables};
 
 // Attributes of a traffic control message, and the error of the message.
 #[rattlefmt::skip]
-static ATTRIBUTES: [(&str, &str); 30] = [
+static ATTRIBUTES: [(&str, &str); 29] = [
     // names
     (r#"{"Kinds":"u32"}"#, r#"/attributes/0: found "Kinds", wanted the name of an attribute of the table"#),
     (r#"7"#, r#"/attributes/0: found 7, wanted the name of an attribute of the table"#),
@@ -30,8 +30,6 @@ static ATTRIBUTES: [(&str, &str); 30] = [
     (r#"{"Kind":"u32"},{"Options":{}}"#, r#"/attributes/1/Options: found an object of 0, wanted a list"#),
     (r#"{"Kind":"flower"},{"Options":[{"Flower":{"EthDst":"00:11:22:33:44:5G"}}]}"#,
         r#"/attributes/1/Options/0/Flower/EthDst: found "00:11:22:33:44:5G", wanted a MAC address"#),
-    (r#"{"Kind":"matchall"},{"Options":[{"MatchAll":{"Action":[{"tab":1,"attributes":[{"Kind":"tunnel_key"},{"Options":[{"TunnelKey":{"NoCsum":1}}]}]}]}}]}"#,
-        r#"/attributes/1/Options/0/MatchAll/Action/0/attributes/1/Options/0/TunnelKey/NoCsum: found 1, wanted true or false"#),
     // numbers out of range
     (r#"{"Chain":4294967296}"#, r#"/attributes/0/Chain: found 4294967296, wanted a number from 0 to 4294967295"#),
     (r#"{"Chain":-1}"#, r#"/attributes/0/Chain: found -1, wanted a number from 0 to 4294967295"#),
@@ -65,7 +63,7 @@ static TEXTS: [(&[u8], &str); 10] = [
     // texts that aren't read
     (br#"{"a":{"b~/":[{"c":1,"c":2}]}}"#, "/a/b~0~1/0/c: found twice, wanted once"),
     (br#"{"header":"#, "not JSON at line 1 column 10"),
-    (b"{\"header\":\n  tru}", "not JSON at line 2 column 6"),
+    (b"{\"header\":\n  tru}", "not JSON at line 2 column 3"),
     (b"\"a\xff\"", "not JSON at line 1 column 3"),
 ];
 
