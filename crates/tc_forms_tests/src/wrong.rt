@@ -7,7 +7,7 @@ use tc_kinds::{TC_MESSAGE, TcTables};
 
 // Attributes of a traffic control message, and the error of the message.
 #[rattlefmt::skip]
-static ATTRIBUTES: [(&str, &str); 29] = [
+static ATTRIBUTES: [(&str, &str); 28] = [
     // names
     (r#"{"Kinds":"u32"}"#, r#"/attributes/0: found "Kinds", wanted the name of an attribute of the table"#),
     (r#"7"#, r#"/attributes/0: found 7, wanted the name of an attribute of the table"#),
@@ -40,7 +40,6 @@ static ATTRIBUTES: [(&str, &str); 29] = [
     // hex
     (r#"{"raw":"0g"}"#, r#"/attributes/0/raw: found "0g", wanted bytes in lower-case hex"#),
     (r#"{"Chain":1,"pad":"0"}"#, r#"/attributes/0/pad: found "0", wanted bytes in lower-case hex"#),
-    (r#"{"Other":{"word":99,"value":"0"}}"#, r#"/attributes/0/Other/value: found "0", wanted bytes in lower-case hex"#),
     (r#"{"Kind":"none"},{"OptionsRaw":"0g"}"#, r#"/attributes/1/OptionsRaw: found "0g", wanted bytes in lower-case hex"#),
     (r#"{"Kind":"none"},{"OptionsRaw":"AB"}"#, r#"/attributes/1/OptionsRaw: found "AB", wanted bytes in lower-case hex"#),
     (r#"{"Kind":"none"},{"OptionsRaw":"abc"}"#, r#"/attributes/1/OptionsRaw: found "abc", wanted bytes in lower-case hex"#),
