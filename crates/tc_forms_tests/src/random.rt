@@ -19,16 +19,15 @@ fn random_bytes(alloc: Global, random: &mut Pcg32) -> Result<Vec<u8>, AllocError
 fn cut_into_attributes(bytes: &mut [u8], first: usize) {
     let mut at = first;
     for _ in 0..bytes.len() {
-        match bytes.get_mut(at..at.saturating_add(4)) {
-            Some([length, high, kind, flags]) => {
-                *length = 4 + *length % 24;
-                *high = 0;
-                *kind %= 16;
-                *flags &= 0x80;
-                at = at.saturating_add(usize::from(*length).next_multiple_of(4));
-            }
-            _ => return,
+        if bytes.len() < 4 || at > bytes.len() - 4 {
+            return;
         }
+        let length = 4 + bytes[at] % 24;
+        bytes[at] = length;
+        bytes[at + 1] = 0;
+        bytes[at + 2] %= 16;
+        bytes[at + 3] &= 0x80;
+        at = at.saturating_add((usize::from(length) + 3) / 4 * 4);
     }
 }
 
