@@ -4,6 +4,7 @@ use Rattle.std.specs.Prelude.{nat_le, ◌&&◌, unwrap_or}
 use Rattle.std.proofs.lemmas.Bool.{cond_both, and_parts, leb-true, le-leb}
 use Rattle.std.proofs.lemmas.List.{append-nil, take-append-drop, drop_at, length-append, length-drop, length-take}
 use Rattle.nla_frames.specs.Value.{IsBytes}
+use Rattle.std.specs.Prelude.{false}
 use Rattle.nla_frames.specs.Frame.{header, padding}
 use Rattle.nla_frames.specs.Grammar.{length_at}
 use Rattle.nla_frames.specs.Cutting.{frame_of_length}
@@ -102,16 +103,16 @@ module _ (One : List ℕ → PaddedFrame → Data) (kinds : (k : List ℕ) (c : 
   own_tail [] = refl
   own_tail (x ∷ b) = refl
 
-  pub own_again : (n : ℕ) (k b : List ℕ) → IsBytes b → own_told (frames One true n k b) ≡ own_kind n b
+  pub own_again : (n : ℕ) (k b : List ℕ) → IsBytes b → own_told (frames One false n k b) ≡ own_kind n b
   own_again zero k b h = own_tail b
   own_again (suc n) k b h =
       let c = frame_at (length_at b) b in
       let after = after_first b in
       cond_both (nat_le 4 (length_at b) && nat_le (length_at b) (length b)) (Some c) None
-      (λ o. own_told (first_or_tail One true k b (λ j. frames One true n j after) o) ≡ own_or o (own_kind n after))
+      (λ o. own_told (first_or_tail One false k b (λ j. frames One false n j after) o) ≡ own_or o (own_kind n after))
       (λ e.
-      let j = unwrap_or (kind_in true c) k in
-      ap (λ o. unwrap_or o (own_told (frames One true n j after))) (kinds j c (in_front b h e).stands)
+      let j = k in
+      ap (λ o. unwrap_or o (own_told (frames One false n j after))) (kinds j c (in_front b h e).stands)
       ∙ ap (unwrap_or (kind_in true c))
       (own_again n j after (IsBytes-drop (padding (length_at b)) (drop (length_at b) b) (IsBytes-drop (length_at b) b h))))
       (λ e. own_tail b)

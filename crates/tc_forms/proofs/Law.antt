@@ -293,9 +293,11 @@ module _ (table : Table) (Inner : List ℕ → Form → List ℕ → Data) (Made
   level_again k (form.InForce i) b h = kinded_again i (length b) k b h
   level_again k (form.Own i) b h =
       let One : List ℕ → PaddedFrame → Data = λ j c. attribute Inner (rows_under table i j) true j c in
-      ap (λ j. each_under (kinded_made table Made i) true j (frames One true (length b) (own_kind (length b) b) b))
-      (own_again One (λ j c s. (attribute_again Inner Made again (rows_under table i j) true j c s).kind) (length b) (own_kind (length b) b) b h)
-      ∙ kinded_again i (length b) (own_kind (length b) b) b h
+      let own = own_kind (length b) b in
+      ap (λ j. each_under (kinded_made table Made i) false j (frames One false (length b) own b))
+      (own_again One (λ j c s. (attribute_again Inner Made again (rows_under table i j) true j c s).kind) (length b) own b h)
+      ∙ frames_again (kinded_made table Made i) One false (λ j c s. refl)
+      (λ j c s. in_list Inner Made again (rows_under table i j) true j c _ (attribute_again Inner Made again (rows_under table i j) true j c s)) (length b) own b h
   level_again k (form.Indexed i) b h =
       frames_again (indexed_made table Made i) (λ j c. indexed c (Inner j (form_of i (part_at table i)) c.value)) false (λ j c s. refl)
       (λ j c s. indexed_again j i c s) (length b) k b h

@@ -5,7 +5,7 @@ use Rattle.std.proofs.lemmas.Bool.{true≢false}
 use Rattle.std.proofs.Common.{add-one}
 use Rattle.serde_json.specs.Find.{get, as_array}
 use Rattle.std.specs.Prelude.{option_and_then}
-use Rattle.tc_forms.specs.AttributesMade.{layered_by, layered_made}
+use Rattle.tc_forms.specs.AttributesMade.{kinded_made, attribute_made, layered_by, layered_made}
 use Rattle.tc_forms.specs.Places.{layer_of, part_at, rows_under}
 use Rattle.tc_forms.specs.Tables.{Row}
 use Rattle.std.proofs.lemmas.List.{drop_all, reverse-append}
@@ -15,7 +15,8 @@ use Rattle.std.specs.Prelude.{Bool, false}
 use Rattle.tc_forms.specs.Appended.{Appended, Fails}
 use Rattle.tc_forms.specs.AttributesMade.{each_under}
 use Rattle.tc_forms.specs.Frames.{frame_bytes}
-use Rattle.tc_forms.specs.Kinds.{kind_told}
+use Rattle.std.specs.Prelude.{true}
+use Rattle.tc_forms.specs.Kinds.{own_told, kind_told}
 use Rattle.tc_forms.specs.Made.{in_form, make}
 use Rattle.tc_forms.specs.Raw.{or_raw, raw_of}
 use Rattle.tc_forms.specs.Records.{each_made, field_made, fields_made, joined}
@@ -144,6 +145,17 @@ list_made table Made i k layer rows d ds old new r found el er h =
     appended_as (each_under (layered_by Made rows false layer) false k ds) (option_and_then All (as_array d)) old new r
     (items_same (layered_by Made rows false layer) (layered_made table Made i) k
     (λ x. ap (λ l. layered_by Made rows false l k x) el ∙ ap (λ q. layered_by Made q false own k x) er) ds ∙ ap (option_and_then All) found)
+    h
+
+pub own_made : {T : Type 0} (table : Table) (Made : List ℕ → Form → Data → Option (List ℕ)) (i : ℕ) (k : List ℕ) (rows : List Row) (d : Data) (ds : Items)
+    (old new : List ℕ) (r : Result T MakeError) → Some ds ≡ as_array d → k ≡ own_told ds → rows ≡ rows_under table i k
+    → Appended (each_under (layered_by Made rows true []) false k ds) old new r
+    → Appended (option_and_then (λ es. each_under (kinded_made table Made i) false (own_told es) es) (as_array d)) old new r
+own_made table Made i k rows d ds old new r found ek er h =
+    let Each = kinded_made table Made i in
+    appended_as (each_under (layered_by Made rows true []) false k ds) (option_and_then (λ es. each_under Each false (own_told es) es) (as_array d)) old new r
+    (items_same (layered_by Made rows true []) Each k (λ x. ap (λ q. attribute_made Made q true k x) er) ds ∙ ap (λ j. each_under Each false j ds) ek
+    ∙ ap (option_and_then (λ es. each_under Each false (own_told es) es)) found)
     h
 
 -- ---- levels

@@ -266,7 +266,7 @@ module _ (table : Table) (Inner : Form → List ℕ → Data) where
       ap (λ ms. cond t ms (member f.name (Read f.form chunk) ms)) (members_each fs later) ∙ one_each f chunk (members table Inner fs later) t
 
   module _ (Made : Form → Data → Option (List ℕ)) (again : (f : Form) (b : List ℕ) → IsBytes b → Made f (Read f b) ≡ Some b) where
-    apart_so : (fs : List Field) (b : List ℕ) → are_apart fs ≡ true → is_free (codes "rest") fs ≡ true → Apart (members table Inner fs b)
+    pub apart_so : (fs : List Field) (b : List ℕ) → are_apart fs ≡ true → is_free (codes "rest") fs ≡ true → Apart (members table Inner fs b)
     apart_so [] [] a free = tt
     apart_so [] (x ∷ b) a free = (refl, tt)
     apart_so (f ∷ fs) b a free =
@@ -382,11 +382,14 @@ module _ (table : Table) (Inner : List ℕ → Form → List ℕ → Data) (Made
   read_again k (form.Own i) b h =
       let One : List ℕ → PaddedFrame → Data = λ j c. attribute Inner (rows_under table i j) true j c in
       let own = own_kind (length b) b in
-      let ds = ordered_items (frames One true (length b) own b) in
-      ap (λ j. each_under (kinded_made table Made i) true j ds)
-      (ap own_told (frames_read One true (length b) own b)
+      let ds = ordered_items (frames One false (length b) own b) in
+      let Each = kinded_made table Made i in
+      ap (λ j. each_under Each false j ds)
+      (ap own_told (frames_read One false (length b) own b)
       ∙ own_again (λ j c. ordered (One j c)) (λ j c s. (attribute_read Inner Made again (rows_under table i j) true j c s).kind) (length b) own b h)
-      ∙ kinded_read i (length b) own b h
+      ∙ ap (each_under Each false own) (frames_read One false (length b) own b)
+      ∙ frames_again Each (λ j c. ordered (One j c)) false (λ j c s. refl)
+      (λ j c s. in_list All Made again (rows_under table i j) true j c _ (attribute_read Inner Made again (rows_under table i j) true j c s)) (length b) own b h
   read_again k (form.Indexed i) b h =
       let One : List ℕ → PaddedFrame → Data = λ j c. indexed c (Inner j (form_of i (part_at table i)) c.value) in
       let Each = indexed_made table Made i in

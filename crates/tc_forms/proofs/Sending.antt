@@ -245,12 +245,21 @@ frames_same One Two k same (suc n) b = go (front b) (frames_same One Two k same 
     go None later = refl
     go (Some c) later = ap (λ d. item d (frames One false n k (after_first b))) (same c) ∙ ap (item (Two k c)) later
 
-pub attributes_sent : (table : Table) (Inner : List ℕ → Form → List ℕ → Data) (i : ℕ) (layer : List ℕ) (rows : List Row) (n : ℕ) (k b : List ℕ) (old new : Log)
-    → layer ≡ layer_of (part_at table i) → rows ≡ rows_under table i k
-    → Sent (items_events (frames (λ j x. layered layer (attribute Inner rows false j x)) false n k b)) old new
-    → Sent (items_events (frames (λ j x. layered (layer_of (part_at table i)) (attribute Inner (rows_under table i j) false j x)) false n k b)) old new
-attributes_sent table Inner i layer rows n k b old new el er h =
+pub attributes_sent : (table : Table) (Inner : List ℕ → Form → List ℕ → Data) (i : ℕ) (has : Bool) (layer : List ℕ) (rows : List Row) (n : ℕ) (k b : List ℕ)
+    (old new : Log) → layer ≡ layer_of (part_at table i) → rows ≡ rows_under table i k
+    → Sent (items_events (frames (λ j x. layered layer (attribute Inner rows has j x)) false n k b)) old new
+    → Sent (items_events (frames (λ j x. layered (layer_of (part_at table i)) (attribute Inner (rows_under table i j) has j x)) false n k b)) old new
+attributes_sent table Inner i has layer rows n k b old new el er h =
     let own = layer_of (part_at table i) in
     subst (λ ds. Sent (items_events ds) old new)
-    (frames_same (λ j x. layered layer (attribute Inner rows false j x)) (λ j x. layered own (attribute Inner (rows_under table i j) false j x)) k
-    (λ c. ap (λ r. layered layer (attribute Inner r false k c)) er ∙ ap (λ l. layered l (attribute Inner (rows_under table i k) false k c)) el) n b) h
+    (frames_same (λ j x. layered layer (attribute Inner rows has j x)) (λ j x. layered own (attribute Inner (rows_under table i j) has j x)) k
+    (λ c. ap (λ r. layered layer (attribute Inner r has k c)) er ∙ ap (λ l. layered l (attribute Inner (rows_under table i k) has k c)) el) n b) h
+
+pub own_sent : (table : Table) (Inner : List ℕ → Form → List ℕ → Data) (i : ℕ) (rows : List Row) (k own b : List ℕ) (old new : Log) → k ≡ own → rows ≡ rows_under table i k
+    → Sent (items_events (frames (λ j x. attribute Inner rows true j x) false (length b) k b)) old new
+    → Sent (items_events (frames (λ j x. attribute Inner (rows_under table i j) true j x) false (length b) own b)) old new
+own_sent table Inner i rows k own b old new ek er h =
+    let Each : List ℕ → PaddedFrame → Data = λ j x. attribute Inner (rows_under table i j) true j x in
+    subst (λ j. Sent (items_events (frames Each false (length b) j b)) old new) ek
+    (subst (λ ds. Sent (items_events ds) old new)
+    (frames_same (λ j x. attribute Inner rows true j x) Each k (λ c. ap (λ r. attribute Inner r true k c) er) (length b) b) h)

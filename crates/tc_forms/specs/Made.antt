@@ -23,7 +23,7 @@ module _ (table : Table) (Inner : List ℕ → Form → Data → Option (List �
   in_form kind (form.Times n i) d = option_and_then (each_made (Inner kind (form_of i (part_at table i)))) (as_array d)
   in_form kind (form.List i) d = option_and_then (each_under (layered_made table Inner i) false kind) (as_array d)
   in_form kind (form.InForce i) d = option_and_then (each_under (kinded_made table Inner i) true kind) (as_array d)
-  in_form kind (form.Own i) d = option_and_then (λ ds. each_under (kinded_made table Inner i) true (own_told ds) ds) (as_array d)
+  in_form kind (form.Own i) d = option_and_then (λ ds. each_under (kinded_made table Inner i) false (own_told ds) ds) (as_array d)
   in_form kind (form.Indexed i) d = option_and_then (each_under (indexed_made table Inner i) false kind) (as_array d)
   in_form kind (form.Choice i) d = by_choice_made (Inner kind) (choices_of (part_at table i)) d
   in_form kind f d = plain_made table f d

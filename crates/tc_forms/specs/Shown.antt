@@ -25,7 +25,7 @@ module _ (table : Table) (Inner : List ℕ → Form → List ℕ → Data) where
   shown kind (form.List i) b =
       array (frames (λ k c. layered (layer_of (part_at table i)) (attribute Inner (rows_under table i k) false k c)) false (length b) kind b)
   shown kind (form.InForce i) b = array (frames (λ k c. attribute Inner (rows_under table i k) true k c) true (length b) kind b)
-  shown kind (form.Own i) b = array (frames (λ k c. attribute Inner (rows_under table i k) true k c) true (length b) (own_kind (length b) b) b)
+  shown kind (form.Own i) b = array (frames (λ k c. attribute Inner (rows_under table i k) true k c) false (length b) (own_kind (length b) b) b)
   shown kind (form.Indexed i) b =
       array (frames (λ k c. indexed c (Inner k (form_of i (part_at table i)) c.value)) false (length b) kind b)
   shown kind (form.Choice i) b = by_choice (Inner kind) b (chosen (choices_of (part_at table i)) b)

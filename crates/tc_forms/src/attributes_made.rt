@@ -15,7 +15,7 @@ use crate::error::{MakeError, Wanted};
 use crate::maker::Maker;
 use crate::rows::{RowList, rows_under};
 use crate::tables::Tables;
-use crate::values_made::make_hex;
+use crate::values_made::{make_hex, make_hex_at};
 use serde_json::Value;
 use std::mem;
 
@@ -135,11 +135,11 @@ pub(crate) fn make_other<'v>(
 {
     let word = match word_at(other, "word") {
         Some(word) => word,
-        None => return Err(maker.wrong_member(other, "word", Wanted::Word)),
+        None => return Err(maker.wrong_within("Other", other, "word", Wanted::Word)),
     };
     let held = match other.get("value") {
         Some(held) => held,
-        None => return Err(maker.wrong_member(other, "value", Wanted::Member)),
+        None => return Err(maker.wrong_within("Other", other, "value", Wanted::Member)),
     };
     let before = begin(maker);
     match make_hex(maker, held) {
@@ -234,7 +234,7 @@ fn put_pad<'v>(maker: &mut Maker<'v>, payload: &[u8], value: &'v Value) -> Resul
     ensures { Appended (pad_or payload.now (get (codes "pad") (view value.now))) maker.old.bytes.items maker.new.bytes.items result }
 {
     match value.get("pad") {
-        Some(pad) => make_hex(maker, pad),
+        Some(pad) => make_hex_at(maker, "pad", pad),
         None => maker.put_zeros((4 - payload.len() % 4) % 4),
     }
 }

@@ -241,7 +241,16 @@ fn make_list<'v, T: Tables>(
     };
     let layer = layer_at(table, place);
     let rows = rows_under(table, place, kind);
-    make_each_of_list(maker, table, depth, kind, layer, &rows, items.as_slice())
+    make_each_of_list(
+        maker,
+        table,
+        depth,
+        kind,
+        false,
+        layer,
+        &rows,
+        items.as_slice(),
+    )
 }
 
 #[cycle(make)]
@@ -250,14 +259,15 @@ fn make_each_of_list<'v, T: Tables>(
     table: T,
     depth: u8,
     kind: &'v str,
+    has: bool,
     layer: &'static str,
     rows: &RowList<'static>,
     items: &'v [Value],
 ) -> Result<(), MakeError>
-    ensures { Appended (each_under (layered_by (make (T.parts_of table) depth) (rows_in rows.now) false layer.now) false kind.now (items_view items.now)) maker.old.bytes.items maker.new.bytes.items result }
+    ensures { Appended (each_under (layered_by (make (T.parts_of table) depth) (rows_in rows.now) has layer.now) false kind.now (items_view items.now)) maker.old.bytes.items maker.new.bytes.items result }
 {
     for (place, item) in items.iter().enumerate() {
-        match make_item(maker, table, depth, kind, layer, rows, place, item) {
+        match make_item(maker, table, depth, kind, has, layer, rows, place, item) {
             Ok(()) => {}
             Err(e) => return Err(e),
         }
@@ -271,14 +281,15 @@ fn make_item<'v, T: Tables>(
     table: T,
     depth: u8,
     kind: &'v str,
+    has: bool,
     layer: &'static str,
     rows: &RowList<'static>,
     place: usize,
     value: &'v Value,
 ) -> Result<(), MakeError>
-    ensures { Appended (or_raw (raw_of (view value.now)) (layered_by (make (T.parts_of table) depth) (rows_in rows.now) false layer.now kind.now (view value.now))) maker.old.bytes.items maker.new.bytes.items result }
+    ensures { Appended (or_raw (raw_of (view value.now)) (layered_by (make (T.parts_of table) depth) (rows_in rows.now) has layer.now kind.now (view value.now))) maker.old.bytes.items maker.new.bytes.items result }
 {
-    match maker.enter(Step::Item(place)) {
+    match maker.enter(Step::Layered(place, layer)) {
         Ok(()) => {}
         Err(e) => return Err(e),
     }
@@ -292,9 +303,9 @@ fn make_item<'v, T: Tables>(
     }
     let held = match unlayered(layer, value) {
         Some(held) => held,
-        None => return Err(maker.wrong(value, Wanted::Name(layer))),
+        None => return Err(maker.missing()),
     };
-    match make_attribute(maker, table, depth, kind, false, rows, held) {
+    match make_attribute(maker, table, depth, kind, has, rows, held) {
         Ok(()) => {
             maker.leave();
             Ok(())
@@ -329,20 +340,16 @@ fn make_own<'v, T: Tables>(
     list: usize,
     value: &'v Value,
 ) -> Result<(), MakeError>
-    ensures { Appended (option_and_then (λ ds. each_under (kinded_made (T.parts_of table) (make (T.parts_of table) depth) list) true (own_told ds) ds) (as_array (view value.now))) maker.old.bytes.items maker.new.bytes.items result }
+    ensures { Appended (option_and_then (λ ds. each_under (kinded_made (T.parts_of table) (make (T.parts_of table) depth) list) false (own_told ds) ds) (as_array (view value.now))) maker.old.bytes.items maker.new.bytes.items result }
 {
     let items = match value.as_array() {
         Some(items) => items,
         None => return Err(maker.wrong(value, Wanted::List)),
     };
-    make_each_of_kinded(
-        maker,
-        table,
-        depth,
-        own_told(items.as_slice()),
-        list,
-        items.as_slice(),
-    )
+    let all = items.as_slice();
+    let kind = own_told(all);
+    let rows = rows_under(table, list, kind);
+    make_each_of_list(maker, table, depth, kind, true, "", &rows, all)
 }
 
 #[cycle(make)]
@@ -466,14 +473,14 @@ fn make_held<'v, T: Tables>(
 ) -> Result<(), MakeError>
     ensures { Appended (framed (word_or row.entry.word (get (codes "word") (view value.now))) (make (T.parts_of table) depth kind.now row.entry.form (view held.now)) (view value.now)) maker.old.bytes.items maker.new.bytes.items result }
 {
-    match maker.enter(Step::Member(row.name)) {
-        Ok(()) => {}
-        Err(e) => return Err(e),
-    }
     let word = match word_or(row.word, value) {
         Some(word) => word,
         None => return Err(maker.wrong_member(value, "word", Wanted::Word)),
     };
+    match maker.enter(Step::Member(row.name)) {
+        Ok(()) => {}
+        Err(e) => return Err(e),
+    }
     let before = begin(maker);
     match make_form(maker, table, depth, kind, row.form, held) {
         Ok(()) => {

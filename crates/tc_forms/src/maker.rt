@@ -16,6 +16,8 @@ pub enum Step<'v> {
     Member(&'v str),
     /// To an item of a list.
     Item(usize),
+    /// To an item of a list, and to its layer, if it has one.
+    Layered(usize, &'v str),
 }
 
 /// What is being made, and of which part of the JSON.
@@ -129,7 +131,26 @@ impl<'v> Maker<'v> {
     }
 
     /// The error of the value at this place.
-    pub fn wrong(&self, found: &Value, wanted: Wanted) -> MakeError {
+    pub fn wrong(&mut self, found: &'v Value, wanted: Wanted) -> MakeError
+        ensures { self.new.bytes ≡ self.old.bytes }
+    {
+        match found.get("raw") {
+            Some(raw) => self.wrong_at("raw", raw, Wanted::Hex),
+            None => self.wrong_here(found, wanted),
+        }
+    }
+
+    /// The error of a member of the value at this place.
+    pub fn wrong_at(&mut self, name: &'static str, found: &Value, wanted: Wanted) -> MakeError
+        ensures { self.new.bytes ≡ self.old.bytes }
+    {
+        match self.enter(Step::Member(name)) {
+            Ok(()) => self.wrong_here(found, wanted),
+            Err(e) => e,
+        }
+    }
+
+    fn wrong_here(&self, found: &Value, wanted: Wanted) -> MakeError {
         match found_text(self.alloc, found) {
             Ok(found) => self.wrong_text(found, wanted),
             Err(_) => MakeError::OutOfMemory,
@@ -150,8 +171,24 @@ impl<'v> Maker<'v> {
             Err(e) => return e,
         }
         match value.get(name) {
-            Some(found) => self.wrong(found, wanted),
+            Some(found) => self.wrong_here(found, wanted),
             None => self.missing(),
+        }
+    }
+
+    /// The error of a member of what this place has by a name.
+    pub fn wrong_within(
+        &mut self,
+        outer: &'static str,
+        value: &'v Value,
+        name: &'static str,
+        wanted: Wanted,
+    ) -> MakeError
+        ensures { self.new.bytes ≡ self.old.bytes }
+    {
+        match self.enter(Step::Member(outer)) {
+            Ok(()) => self.wrong_member(value, name, wanted),
+            Err(e) => e,
         }
     }
 
@@ -164,20 +201,25 @@ impl<'v> Maker<'v> {
     }
 
     /// The error of an attribute that the table doesn't have.
-    pub fn unknown(&self, value: &Value) -> MakeError {
+    pub fn unknown(&mut self, value: &'v Value) -> MakeError
+        ensures { self.new.bytes ≡ self.old.bytes }
+    {
+        if value.get("raw").is_some() {
+            return self.wrong(value, Wanted::Attribute);
+        }
         let members = match value.as_object() {
             Some(members) => members,
-            None => return self.wrong(value, Wanted::Attribute),
+            None => return self.wrong_here(value, Wanted::Attribute),
         };
         match members.first_key_value() {
             Some((name, _)) => self.wrong_name(name.as_str()),
-            None => self.wrong(value, Wanted::Attribute),
+            None => self.wrong_here(value, Wanted::Attribute),
         }
     }
 
     fn wrong_name(&self, name: &str) -> MakeError {
         match Value::try_from_str(self.alloc, name) {
-            Ok(name) => self.wrong(&name, Wanted::Attribute),
+            Ok(name) => self.wrong_here(&name, Wanted::Attribute),
             Err(_) => MakeError::OutOfMemory,
         }
     }
@@ -200,7 +242,13 @@ impl<'v> Maker<'v> {
             path.push('/')?;
             match step {
                 Step::Member(name) => push_escaped(&mut path, name)?,
-                Step::Item(index) => path.push_str(format!(in self.alloc; "{index}")?.as_str())?,
+                Step::Item(index) | Step::Layered(index, "") => {
+                    path.push_str(format!(in self.alloc; "{index}")?.as_str())?
+                }
+                Step::Layered(index, layer) => {
+                    path.push_str(format!(in self.alloc; "{index}/")?.as_str())?;
+                    push_escaped(&mut path, layer)?
+                }
             }
         }
         Ok(path)

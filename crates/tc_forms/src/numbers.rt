@@ -260,7 +260,10 @@ pub(crate) fn make_named<'v>(
         }
     }
     match value.get("Other") {
-        Some(other) => make_number(maker, which, other),
+        Some(other) => match bits_in(which, other) {
+            Some(bits) => put_bits(maker, which, bits),
+            None => Err(maker.wrong_at("Other", other, wanted(which))),
+        },
         None => match bits_in(which, value) {
             Some(bits) => put_bits(maker, which, bits),
             None => Err(maker.wrong(value, Wanted::NamedNumber)),

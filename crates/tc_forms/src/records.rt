@@ -14,7 +14,7 @@ use crate::form::{Field, Form};
 use crate::maker::Maker;
 use crate::rows::is_same;
 use crate::tables::Tables;
-use crate::values_made::make_hex;
+use crate::values_made::make_hex_at;
 use crate::values_shown::send_hex;
 use crate::widths::fixed_width;
 use serde::Serializer;
@@ -128,7 +128,7 @@ pub(crate) fn make_rest<'v>(maker: &mut Maker<'v>, value: &'v Value) -> Result<(
     ensures { Appended (rest_made (get (codes "rest") (view value.now))) maker.old.bytes.items maker.new.bytes.items result }
 {
     match value.get("rest") {
-        Some(held) => make_hex(maker, held),
+        Some(held) => make_hex_at(maker, "rest", held),
         None => Ok(()),
     }
 }

@@ -2,7 +2,7 @@
 
 ghost use Rattle.serde.specs.Event.{Log};
 ghost use Rattle.serde_json.specs.Data.{Members, array, member, no_members};
-ghost use Rattle.std.specs.Prelude.{OnOk, codes, false, length, true};
+ghost use Rattle.std.specs.Prelude.{[], OnOk, codes, false, length, true};
 ghost use Rattle.tc_forms.specs.Attributes.{attribute, by_row, frames, indexed, layered};
 ghost use Rattle.tc_forms.specs.Choices.{by_choice, chosen};
 ghost use Rattle.tc_forms.specs.Places.{rows_under};
@@ -107,7 +107,7 @@ fn send_form<S: Serializer, T: Tables>(
         ),
         Form::List(place) => send_list(table, inner, kind, place, bytes, alloc, out),
         Form::InForce(place) => send_kinded(table, inner, kind, place, bytes, alloc, out),
-        Form::Own(place) => send_kinded(table, inner, own_kind(bytes), place, bytes, alloc, out),
+        Form::Own(place) => send_own(table, inner, place, bytes, alloc, out),
         Form::Indexed(place) => send_indexed(table, inner, kind, place, bytes, alloc, out),
         Form::Choice(place) => send_choice(
             table,
@@ -270,7 +270,37 @@ fn send_list<S: Serializer, T: Tables>(
         table,
         depth,
         kind,
+        false,
         layer_at(table, place),
+        &rows_under(table, place, kind),
+        bytes,
+        alloc,
+        out,
+    )?;
+    out.end_seq()
+}
+
+// The same under its own kind.
+#[inline(never)]
+#[cycle(send)]
+fn send_own<S: Serializer, T: Tables>(
+    table: T,
+    depth: u8,
+    place: usize,
+    bytes: &[u8],
+    alloc: Global,
+    out: &mut S,
+) -> Result<(), S::Error>
+    ensures { OnOk result (Sent (events (shown (T.parts_of table) (show (T.parts_of table) depth) [] (Form.Own place) bytes.now)) (S.written out.old) (S.written out.new)) }
+{
+    let kind = own_kind(bytes);
+    out.begin_seq(None)?;
+    send_attributes(
+        table,
+        depth,
+        kind,
+        true,
+        "",
         &rows_under(table, place, kind),
         bytes,
         alloc,
@@ -284,13 +314,14 @@ fn send_attributes<S: Serializer, T: Tables>(
     table: T,
     depth: u8,
     kind: &str,
+    has: bool,
     layer: &str,
     rows: &RowList<'static>,
     bytes: &[u8],
     alloc: Global,
     out: &mut S,
 ) -> Result<(), S::Error>
-    ensures { OnOk result (Sent (items_events (frames (λ k c. layered layer.now (attribute (show (T.parts_of table) depth) (rows_in rows.now) false k c)) false (length bytes.now) kind.now bytes.now)) (S.written out.old) (S.written out.new)) }
+    ensures { OnOk result (Sent (items_events (frames (λ k c. layered layer.now (attribute (show (T.parts_of table) depth) (rows_in rows.now) has k c)) false (length bytes.now) kind.now bytes.now)) (S.written out.old) (S.written out.new)) }
 {
     let mut left = bytes;
     for _count in 0..bytes.len() {
@@ -299,7 +330,7 @@ fn send_attributes<S: Serializer, T: Tables>(
             None => return send_tail(left, alloc, out),
         };
         send_item(
-            table, depth, kind, layer, rows, word, value, pad, alloc, out,
+            table, depth, kind, has, layer, rows, word, value, pad, alloc, out,
         )?;
         left = after;
     }
@@ -361,6 +392,7 @@ fn send_item<S: Serializer, T: Tables>(
     table: T,
     depth: u8,
     kind: &str,
+    has: bool,
     layer: &str,
     rows: &RowList<'static>,
     word: u16,
@@ -369,18 +401,14 @@ fn send_item<S: Serializer, T: Tables>(
     alloc: Global,
     out: &mut S,
 ) -> Result<(), S::Error>
-    ensures { OnOk result (Sent (events (layered layer.now (attribute (show (T.parts_of table) depth) (rows_in rows.now) false kind.now (record { word = word; value = value.now; pad = pad.now })))) (S.written out.old) (S.written out.new)) }
+    ensures { OnOk result (Sent (events (layered layer.now (attribute (show (T.parts_of table) depth) (rows_in rows.now) has kind.now (record { word = word; value = value.now; pad = pad.now })))) (S.written out.old) (S.written out.new)) }
 {
     if layer.is_empty() {
-        return send_attribute(
-            table, depth, kind, false, rows, word, value, pad, alloc, out,
-        );
+        return send_attribute(table, depth, kind, has, rows, word, value, pad, alloc, out);
     }
     out.begin_map(None)?;
     out.key(layer)?;
-    send_attribute(
-        table, depth, kind, false, rows, word, value, pad, alloc, out,
-    )?;
+    send_attribute(table, depth, kind, has, rows, word, value, pad, alloc, out)?;
     out.end_map()
 }
 

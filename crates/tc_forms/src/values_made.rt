@@ -187,6 +187,21 @@ fn ipv6_of(text: &str) -> Option<[u8; 16]>
     read_ipv6(text)
 }
 
+// Bytes in hex, at a member of this place.
+pub(crate) fn make_hex_at<'v>(
+    maker: &mut Maker<'v>,
+    name: &'static str,
+    value: &'v Value,
+) -> Result<(), MakeError>
+    ensures { Appended (hex_made (view value.now)) maker.old.bytes.items maker.new.bytes.items result }
+{
+    match hex_of(maker.alloc, value) {
+        Ok(Some(bytes)) => maker.put(&bytes),
+        Ok(None) => Err(maker.wrong_at(name, value, Wanted::Hex)),
+        Err(_) => Err(MakeError::OutOfMemory),
+    }
+}
+
 // Bytes in hex.
 pub(crate) fn make_hex<'v>(maker: &mut Maker<'v>, value: &'v Value) -> Result<(), MakeError>
     ensures { Appended (hex_made (view value.now)) maker.old.bytes.items maker.new.bytes.items result }

@@ -18,7 +18,7 @@ use Rattle.serde_json.specs.Find.{get}
 use Rattle.std.specs.Prelude.{codes}
 use Rattle.tc_forms.specs.AttributesMade.{framed, word_made}
 use Rattle.tc_forms.specs.Places.{rows_under}
-use Rattle.tc_forms.proofs.Making.{list_made}
+use Rattle.tc_forms.proofs.Making.{own_made, list_made}
 use Rattle.tc_forms.specs.AttributesMade.{layered_by, kinded_made}
 use Rattle.tc_forms.specs.RowLists.{rows_in}
 use Rattle.tc_forms.proofs.make.+make.Goals as goal
@@ -52,7 +52,7 @@ make_each_of_elements-returns g t c =
 
 pub make_each_of_list-loop-place-preserved : goal.make_each_of_list-loop-place-preserved
 make_each_of_list-loop-place-preserved g t c =
-    let One = layered_by (make (g.T.Tables.parts_of c.args.table) c.args.depth) (rows_in c.args.rows.now) false c.args.layer.now in
+    let One = layered_by (make (g.T.Tables.parts_of c.args.table) c.args.depth) (rows_in c.args.rows.now) c.args.has c.args.layer.now in
     let vs = c.args.items.now in
     let i = c.loop-place.place in
     let x = c.index-items-place.result in
@@ -66,7 +66,7 @@ make_each_of_list-loop-place-preserved g t c =
 
 pub make_each_of_list-returns-in-Err : goal.make_each_of_list-returns-in-Err
 make_each_of_list-returns-in-Err g t c =
-    let One = layered_by (make (g.T.Tables.parts_of c.args.table) c.args.depth) (rows_in c.args.rows.now) false c.args.layer.now in
+    let One = layered_by (make (g.T.Tables.parts_of c.args.table) c.args.depth) (rows_in c.args.rows.now) c.args.has c.args.layer.now in
     let vs = c.args.items.now in
     let i = c.loop-place.place in
     let x = c.index-items-place.result in
@@ -80,7 +80,7 @@ make_each_of_list-returns-in-Err g t c =
 
 pub make_each_of_list-returns : goal.make_each_of_list-returns
 make_each_of_list-returns g t c =
-    let One = layered_by (make (g.T.Tables.parts_of c.args.table) c.args.depth) (rows_in c.args.rows.now) false c.args.layer.now in
+    let One = layered_by (make (g.T.Tables.parts_of c.args.table) c.args.depth) (rows_in c.args.rows.now) c.args.has c.args.layer.now in
     let now = c.loop-place.maker.bytes.items in
     sym c.loop-place.invariant ∙ ap (option_map (λ b. now ++ b)) (under_over One false c.args.items.now c.loop-place.place c.args.kind.now c.loop-place-test.false)
     ∙ ap Some (append-nil now)
@@ -253,7 +253,7 @@ make_form-returns-in-Own g t c =
     let d = view c.args.value.now in
     let e = c.in-Some-checked_sub.ensures in
     let not_raw : None ≡ raw_of d = sym (ap (option_map (λ v. v.items)) (not_some c.in-Ok.raw c.in_default.not-Some)) ∙ c.in-Ok.ensures in
-    level_made table c.args.depth m k c.args.form (form.Own c.in-Own.place) d (option_and_then (λ ds. each_under (kinded_made table (make table m) c.in-Own.place) true (own_told ds) ds) (as_array d)) c.args.maker.now.bytes.items c.make_own.new.maker.bytes.items c.make_own.result
+    level_made table c.args.depth m k c.args.form (form.Own c.in-Own.place) d (option_and_then (λ ds. each_under (kinded_made table (make table m) c.in-Own.place) false (own_told ds) ds) (as_array d)) c.args.maker.now.bytes.items c.make_own.new.maker.bytes.items c.make_own.result
     (omega (arith, e.0, e.1)) c.in-Own.is not_raw refl c.make_own.ensures
 
 pub make_form-returns-in-Choice : goal.make_form-returns-in-Choice
@@ -299,3 +299,10 @@ make_one_indexed-returns g t c =
     (ap (λ f. framed (option_and_then word_made (get (codes "tab") d)) (option_and_then (Made k f) (get (codes "attributes") d)) d) c.form_at.ensures
     ∙ ap (λ o. or_raw o (indexed_made table Made c.args.list k d)) not_raw)
     held
+
+pub make_own-returns : goal.make_own-returns
+make_own-returns g t c =
+    own_made (g.T.Tables.parts_of c.args.table) (make (g.T.Tables.parts_of c.args.table) c.args.depth) c.args.list c.own_told-kind.result.now (rows_in c.rows_under-rows.result)
+    (view c.args.value.now) (items_view c.as_slice-all.result.now) c.args.maker.now.bytes.items c.make_each_of_list.new.maker.bytes.items c.make_each_of_list.result
+    (ap (λ vs. Some (items_view vs)) c.as_slice-all.ensures.value ∙ c.in-Some.ensures)
+    (c.own_told-kind.ensures) c.rows_under-rows.ensures c.make_each_of_list.ensures

@@ -94,8 +94,8 @@ invariant-make_each_of_elements-loop-place g l =
 
 abbrev pub invariant-make_each_of_list-loop-place : goal.invariant-make_each_of_list-loop-place
 invariant-make_each_of_list-loop-place g l =
-    option_map (λ b. l.maker.bytes.items ++ b) (each_under (layered_by (make (g.T.Tables.parts_of l.table) l.depth) (rows_in l.rows) false l.layer) false l.kind (items_view (drop l.place l.items)))
-    ≡ option_map (λ b. l.initial.maker.bytes.items ++ b) (each_under (layered_by (make (g.T.Tables.parts_of l.table) l.depth) (rows_in l.rows) false l.layer) false l.kind (items_view l.items))
+    option_map (λ b. l.maker.bytes.items ++ b) (each_under (layered_by (make (g.T.Tables.parts_of l.table) l.depth) (rows_in l.rows) l.has l.layer) false l.kind (items_view (drop l.place l.items)))
+    ≡ option_map (λ b. l.initial.maker.bytes.items ++ b) (each_under (layered_by (make (g.T.Tables.parts_of l.table) l.depth) (rows_in l.rows) l.has l.layer) false l.kind (items_view l.items))
 
 abbrev pub invariant-make_each_of_indexed-loop-place : goal.invariant-make_each_of_indexed-loop-place
 invariant-make_each_of_indexed-loop-place g l =

@@ -13,21 +13,22 @@ use Rattle.tc_forms.specs.declared.form.Form.TheVariants as form
 use Rattle.std.specs.Prelude.{true, false}
 use Rattle.std.proofs.Common.{subst}
 use Rattle.std.specs.Prelude.{codes}
-use Rattle.tc_forms.proofs.Sending.{attributes_sent, key_sent, level_sent, plain_when, empty_is, full_is, list_sent, frames_more, frames_end, frames_over, elements_more, elements_end, elements_over, fields_more, fields_end}
+use Rattle.tc_forms.proofs.Sending.{own_sent, attributes_sent, key_sent, level_sent, plain_when, empty_is, full_is, list_sent, frames_more, frames_end, frames_over, elements_more, elements_end, elements_over, fields_more, fields_end}
 use Rattle.tc_forms.specs.RowLists.{rows_in}
+use Rattle.tc_forms.specs.Kinds.{own_kind}
 use Rattle.tc_forms.proofs.show.+send.Goals as goal
 
 pub send_attributes-returns-in-None : goal.send_attributes-returns-in-None
 send_attributes-returns-in-None g t c =
-    on_ok_weaker c.send_tail.result (frames_end (λ k c'. layered c.args.layer.now (attribute (show (g.T.Tables.parts_of c.args.table) c.args.depth) (rows_in c.args.rows.now) false k c')) false (length c.args.bytes.now) c.loop-count._count c.args.kind.now c.args.kind.now c.args.bytes.now c.loop-count.left.now _ _ _ c.loop-count.invariant c.in-None.ensures.frame) c.send_tail.ensures
+    on_ok_weaker c.send_tail.result (frames_end (λ k c'. layered c.args.layer.now (attribute (show (g.T.Tables.parts_of c.args.table) c.args.depth) (rows_in c.args.rows.now) c.args.has k c')) false (length c.args.bytes.now) c.loop-count._count c.args.kind.now c.args.kind.now c.args.bytes.now c.loop-count.left.now _ _ _ c.loop-count.invariant c.in-None.ensures.frame) c.send_tail.ensures
 
 pub send_attributes-loop-count-preserved : goal.send_attributes-loop-count-preserved
 send_attributes-loop-count-preserved g t c =
-    frames_more (λ k c'. layered c.args.layer.now (attribute (show (g.T.Tables.parts_of c.args.table) c.args.depth) (rows_in c.args.rows.now) false k c')) false (length c.args.bytes.now) c.loop-count._count c.args.kind.now c.args.kind.now c.args.bytes.now c.loop-count.left.now _ _ _ c.loop-count.invariant c.args.kind.now _ _ (search rules) c.in-Some.ensures.frame c.in-Some.ensures.after refl c.in_ok-send_item.ensures
+    frames_more (λ k c'. layered c.args.layer.now (attribute (show (g.T.Tables.parts_of c.args.table) c.args.depth) (rows_in c.args.rows.now) c.args.has k c')) false (length c.args.bytes.now) c.loop-count._count c.args.kind.now c.args.kind.now c.args.bytes.now c.loop-count.left.now _ _ _ c.loop-count.invariant c.args.kind.now _ _ (search rules) c.in-Some.ensures.frame c.in-Some.ensures.after refl c.in_ok-send_item.ensures
 
 pub send_attributes-returns : goal.send_attributes-returns
 send_attributes-returns g t c =
-    on_ok_weaker c.send_tail-2.result (frames_over (λ k c'. layered c.args.layer.now (attribute (show (g.T.Tables.parts_of c.args.table) c.args.depth) (rows_in c.args.rows.now) false k c')) false (length c.args.bytes.now) c.loop-count._count c.args.kind.now c.args.kind.now c.args.bytes.now c.loop-count.left.now _ _ _ c.loop-count.invariant c.loop-count-test.false) c.send_tail-2.ensures
+    on_ok_weaker c.send_tail-2.result (frames_over (λ k c'. layered c.args.layer.now (attribute (show (g.T.Tables.parts_of c.args.table) c.args.depth) (rows_in c.args.rows.now) c.args.has k c')) false (length c.args.bytes.now) c.loop-count._count c.args.kind.now c.args.kind.now c.args.bytes.now c.loop-count.left.now _ _ _ c.loop-count.invariant c.loop-count-test.false) c.send_tail-2.ensures
 
 pub send_each_indexed-returns-in-None : goal.send_each_indexed-returns-in-None
 send_each_indexed-returns-in-None g t c =
@@ -125,12 +126,24 @@ send_form-returns-in-InForce g t c =
 
 pub send_form-returns-in-Own : goal.send_form-returns-in-Own
 send_form-returns-in-Own g t c =
+    on_ok_weaker c.send_own.result
+    (level_sent (g.T.Tables.parts_of c.args.table) c.args.depth c.in-Some.inner c.args.kind.now c.args.form (form.Own c.in-Own.place) c.args.bytes.now _ _ _ (search rules)
+    c.in-Own.is refl)
+    c.send_own.ensures
+
+pub send_own-returns : goal.send_own-returns
+send_own-returns g t c =
     let table = g.T.Tables.parts_of c.args.table in
+    let inner = show table c.args.depth in
     let b = c.args.bytes.now in
-    on_ok_weaker c.send_kinded-in-Own.result
-    (level_sent table c.args.depth c.in-Some.inner c.args.kind.now c.args.form (form.Own c.in-Own.place) b _ _ _ (search rules) c.in-Own.is
-    (ap (λ k. array (frames (λ j x. attribute (show table c.in-Some.inner) (rows_under table c.in-Own.place j) true j x) true (length b) k b)) (sym c.own_kind.ensures)))
-    c.send_kinded-in-Own.ensures
+    let own = own_kind (length b) b in
+    let first = g.S.Serializer.written c.begin_seq.new.self in
+    let last = g.S.Serializer.written c.send_attributes.new.out in
+    on_ok_weaker c.end_seq.result
+    (list_sent (frames (λ j x. attribute inner (rows_under table c.args.place j) true j x) false (length b) own b) _ first last _ c.in_ok-begin_seq.ensures
+    (own_sent table inner c.args.place (rows_in c.rows_under.result) c.own_kind-kind.result.now own b first last c.own_kind-kind.ensures c.rows_under.ensures
+    c.in_ok-send_attributes.ensures))
+    c.end_seq.ensures
 
 pub send_form-returns-in-Indexed : goal.send_form-returns-in-Indexed
 send_form-returns-in-Indexed g t c =
@@ -179,7 +192,7 @@ send_list-returns g t c =
     on_ok_weaker c.end_seq.result
     (list_sent (frames (λ j x. layered (layer_of (part_at table c.args.place)) (attribute inner (rows_under table c.args.place j) false j x)) false (length b) k b) _ first last _
     c.in_ok-begin_seq.ensures
-    (attributes_sent table inner c.args.place c.layer_at.result.now (rows_in c.rows_under.result) (length b) k b first last c.layer_at.ensures c.rows_under.ensures
+    (attributes_sent table inner c.args.place false c.layer_at.result.now (rows_in c.rows_under.result) (length b) k b first last c.layer_at.ensures c.rows_under.ensures
     c.in_ok-send_attributes.ensures))
     c.end_seq.ensures
 

@@ -37,6 +37,9 @@ decreases-send_elements g l = 6 * l.depth + 3
 abbrev pub decreases-send_list : goal.decreases-send_list
 decreases-send_list g l = 6 * l.depth + 5
 
+abbrev pub decreases-send_own : goal.decreases-send_own
+decreases-send_own g l = 6 * l.depth + 5
+
 abbrev pub decreases-send_kinded : goal.decreases-send_kinded
 decreases-send_kinded g l = 6 * l.depth + 5
 
@@ -83,8 +86,8 @@ invariant-send_each_element-loop-count g l =
 
 abbrev pub invariant-send_attributes-loop-count : goal.invariant-send_attributes-loop-count
 invariant-send_attributes-loop-count g l =
-    (end : Log) → Sent (items_events (frames (λ k c. layered l.layer (attribute (show (g.T.Tables.parts_of l.table) l.depth) (rows_in l.rows) false k c)) false (length l.bytes - l._count) l.kind l.left)) (g.S.Serializer.written l.out) end
-    → Sent (items_events (frames (λ k c. layered l.layer (attribute (show (g.T.Tables.parts_of l.table) l.depth) (rows_in l.rows) false k c)) false (length l.bytes) l.kind l.bytes)) (g.S.Serializer.written l.initial.out) end
+    (end : Log) → Sent (items_events (frames (λ k c. layered l.layer (attribute (show (g.T.Tables.parts_of l.table) l.depth) (rows_in l.rows) l.has k c)) false (length l.bytes - l._count) l.kind l.left)) (g.S.Serializer.written l.out) end
+    → Sent (items_events (frames (λ k c. layered l.layer (attribute (show (g.T.Tables.parts_of l.table) l.depth) (rows_in l.rows) l.has k c)) false (length l.bytes) l.kind l.bytes)) (g.S.Serializer.written l.initial.out) end
 
 abbrev pub invariant-send_kinded_attributes-loop-count : goal.invariant-send_kinded_attributes-loop-count
 invariant-send_kinded_attributes-loop-count g l =
