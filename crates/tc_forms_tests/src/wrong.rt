@@ -7,12 +7,15 @@ use tc_kinds::{TC_MESSAGE, TcTables};
 
 // Attributes of a traffic control message, and the error of the message.
 #[rattlefmt::skip]
-static ATTRIBUTES: [(&str, &str); 21] = [
+static ATTRIBUTES: [(&str, &str); 28] = [
     // names
     (r#"{"Kinds":"u32"}"#, r#"/attributes/0: found "Kinds", wanted the name of an attribute of the table"#),
     (r#"7"#, r#"/attributes/0: found 7, wanted the name of an attribute of the table"#),
     (r#"{}"#, r#"/attributes/0: found an object of 0, wanted the name of an attribute of the table"#),
-    (r#"{"Kind":"fq_codel"},{"Options":[{"Limit":1}]}"#, r#"/attributes/1/Options/0: found an object of 1, wanted an object with "FqCodel""#),
+    (r#"{"Kind":"fq_codel"},{"Options":[{"Limit":1}]}"#, r#"/attributes/1/Options/0/FqCodel: found nothing, wanted a member of this name"#),
+    (r#"{"Kind":"fq_codel"},{"Options":[{"FqCodel":{"ClassId":"1:"}}]}"#,
+        r#"/attributes/1/Options/0/FqCodel: found "ClassId", wanted the name of an attribute of the table"#),
+    (r#"{"Other":{"word":99}}"#, r#"/attributes/0/Other/value: found nothing, wanted a member of this name"#),
     (r#"{"Kind":"fq_codel"},{"Xstats":{"FqCodel":{"Queue":{}}}}"#,
         r#"/attributes/1/Xstats/FqCodel: found an object of 1, wanted an object that names a choice"#),
     (r#"{"Stats":{"bytes":1}}"#, r#"/attributes/0/Stats/packets: found nothing, wanted a member of this name"#),
@@ -25,12 +28,18 @@ static ATTRIBUTES: [(&str, &str); 21] = [
     (r#"{"DumpInvisible":false}"#, r#"/attributes/0/DumpInvisible: found false, wanted true"#),
     (r#"{"ExtWarnMsg":7}"#, r#"/attributes/0/ExtWarnMsg: found 7, wanted a text"#),
     (r#"{"Kind":"u32"},{"Options":{}}"#, r#"/attributes/1/Options: found an object of 0, wanted a list"#),
+    (r#"{"Kind":"flower"},{"Options":[{"Flower":{"EthDst":"00:11:22:33:44:5G"}}]}"#,
+        r#"/attributes/1/Options/0/Flower/EthDst: found "00:11:22:33:44:5G", wanted a MAC address"#),
     // numbers out of range
     (r#"{"Chain":4294967296}"#, r#"/attributes/0/Chain: found 4294967296, wanted a number from 0 to 4294967295"#),
     (r#"{"Chain":-1}"#, r#"/attributes/0/Chain: found -1, wanted a number from 0 to 4294967295"#),
     (r#"{"HwOffload":256}"#, r#"/attributes/0/HwOffload: found 256, wanted a number from 0 to 255"#),
     (r#"{"Rate":{"interval":-129,"ewma_log":0}}"#, r#"/attributes/0/Rate/interval: found -129, wanted a number from -128 to 127"#),
+    (r#"{"Chain":1,"word":65536}"#, r#"/attributes/0/word: found 65536, wanted a number from 0 to 65535"#),
+    (r#"{"Other":{"word":65536,"value":""}}"#, r#"/attributes/0/Other/word: found 65536, wanted a number from 0 to 65535"#),
     // hex
+    (r#"{"raw":"0g"}"#, r#"/attributes/0/raw: found "0g", wanted bytes in lower-case hex"#),
+    (r#"{"Chain":1,"pad":"0"}"#, r#"/attributes/0/pad: found "0", wanted bytes in lower-case hex"#),
     (r#"{"Kind":"none"},{"OptionsRaw":"0g"}"#, r#"/attributes/1/OptionsRaw: found "0g", wanted bytes in lower-case hex"#),
     (r#"{"Kind":"none"},{"OptionsRaw":"AB"}"#, r#"/attributes/1/OptionsRaw: found "AB", wanted bytes in lower-case hex"#),
     (r#"{"Kind":"none"},{"OptionsRaw":"abc"}"#, r#"/attributes/1/OptionsRaw: found "abc", wanted bytes in lower-case hex"#),
@@ -38,7 +47,7 @@ static ATTRIBUTES: [(&str, &str); 21] = [
 
 // Whole texts, and their errors.
 #[rattlefmt::skip]
-static TEXTS: [(&[u8], &str); 9] = [
+static TEXTS: [(&[u8], &str); 10] = [
     (br#"[]"#, r#"/header: found nothing, wanted a member of this name"#),
     (br#"{"header":{"family":"Unspec","index":2,"handle":"1:","parent":"root","info":0}}"#,
         r#"/attributes: found nothing, wanted a member of this name"#),
@@ -46,12 +55,14 @@ static TEXTS: [(&[u8], &str); 9] = [
         r#"/header/family: found "Inet7", wanted the name of a number, or {"Other":n}"#),
     (br#"{"header":{"family":"Inet","index":2147483648,"handle":"1:","parent":"root","info":0},"attributes":[]}"#,
         r#"/header/index: found 2147483648, wanted a number from -2147483648 to 2147483647"#),
+    (br#"{"header":{"family":{"Other":256},"index":2,"handle":"1:","parent":"root","info":0},"attributes":[]}"#,
+        r#"/header/family/Other: found 256, wanted a number from 0 to 255"#),
     (br#"{"header":{"family":"Inet","index":2,"handle":"1:","parent":"rot","info":0},"attributes":[]}"#,
         r#"/header/parent: found "rot", wanted a handle as tc writes it"#),
     // texts that aren't read
     (br#"{"a":{"b~/":[{"c":1,"c":2}]}}"#, "/a/b~0~1/0/c: found twice, wanted once"),
     (br#"{"header":"#, "not JSON at line 1 column 10"),
-    (b"{\"header\":\n  tru}", "not JSON at line 2 column 6"),
+    (b"{\"header\":\n  tru}", "not JSON at line 2 column 3"),
     (b"\"a\xff\"", "not JSON at line 1 column 3"),
 ];
 
