@@ -154,10 +154,10 @@ module _ (table : Table) (Inner : List ℕ → Form → List ℕ → Data) (m : 
   twice : (d : Data) → Readable d (suc (suc m)) → Readable d (suc (suc (suc (suc m))))
   twice d h = deeper d (suc (suc (suc m))) (deeper d (suc (suc m)) h)
 
-  kinded_readable : (i n : ℕ) (k b : List ℕ) → IsBytes b
-      → Readable (array (frames (λ j c. attribute Inner (rows_under table i j) true j c) true n k b)) (suc (suc (suc (suc m))))
-  kinded_readable i n k b h =
-      frames_readable (λ j c. attribute Inner (rows_under table i j) true j c) true (suc (suc m))
+  kinded_readable : (has : Bool) (i n : ℕ) (k b : List ℕ) → IsBytes b
+      → Readable (array (frames (λ j c. attribute Inner (rows_under table i j) true j c) has n k b)) (suc (suc (suc (suc m))))
+  kinded_readable has i n k b h =
+      frames_readable (λ j c. attribute Inner (rows_under table i j) true j c) has (suc (suc m))
       (λ j c s.
       deeper (attribute Inner (rows_under table i j) true j c) (suc (suc m)) (attribute_readable Inner m inner (rows_under table i j) true j c s)) n k b h
 
@@ -183,8 +183,8 @@ module _ (table : Table) (Inner : List ℕ → Form → List ℕ → Data) (m : 
       (λ j c s.
       layered_readable layer (attribute Inner (rows_under table i j) false j c) (suc (suc m))
       (attribute_readable Inner m inner (rows_under table i j) false j c s)) (length b) k b h
-  level_readable k (form.InForce i) b h = kinded_readable i (length b) k b h
-  level_readable k (form.Own i) b h = kinded_readable i (length b) (own_kind (length b) b) b h
+  level_readable k (form.InForce i) b h = kinded_readable true i (length b) k b h
+  level_readable k (form.Own i) b h = kinded_readable false i (length b) (own_kind (length b) b) b h
   level_readable k (form.Indexed i) b h =
       let One : List ℕ → PaddedFrame → Data = λ j c. indexed c (Inner j (form_of i (part_at table i)) c.value) in
       frames_readable One false (suc (suc m)) (λ j c s. deeper (One j c) (suc (suc m)) (indexed_readable i j c s)) (length b) k b h
