@@ -1,6 +1,6 @@
 //! Lists the traffic control messages of captures: pcap, pcapng, files of `rtmon`.
 
-use conjareho::capture::{Capture, CaptureError, Messages, rtm_of};
+use conjareho::capture::{Capture, CaptureError, Contents, Messages, rtm_of};
 
 fn main() -> Result<(), Box<dyn std::error::Error>> {
     for path in std::env::args().skip(1) {
@@ -13,7 +13,8 @@ fn main() -> Result<(), Box<dyn std::error::Error>> {
                 piece => piece?,
             };
             rest = &rest[piece.used..];
-            let messages = piece.packet.map_or(Ok(None), |packet| packet.netlink())?.unwrap_or_default();
+            let Some(packet) = piece.packet? else { continue };
+            let Contents::Route { messages, .. } = packet.contents()? else { continue };
             for message in Messages::new(messages) {
                 match message.map(|message| (rtm_of(message.kind), message.payload.len())) {
                     Ok((Some(rtm), len)) => println!("{} of {len} bytes", rtm.name),
