@@ -1,0 +1,15 @@
+use Rattle.std.proofs.Common.{◌≡◌, ◌++◌, ◌∷◌, ◌+◌, [], take, ap, sym, subst, ◌∙◌}
+use Rattle.std.specs.List.{flat_map}
+use Rattle.std.proofs.lemmas.List.{take_more, flat_map_more}
+use Rattle.tc_plan.specs.Needs.{block_of}
+use Rattle.tc_plan.proofs.step.blocks.Goals as goal
+
+pub loop-attribute-preserved : goal.loop-attribute-preserved
+loop-attribute-preserved g c =
+    let i = c.loop-attribute.attribute-index in
+    let xs = c.args.attributes.now in
+    let x = c.attribute-item.result in
+    let more : take (i + 1) xs ≡ take i xs ++ x ∷ [] =
+        subst (λ y. take (i + 1) xs ≡ take i xs ++ y ∷ []) (sym c.attribute-item.is) (take_more xs i x c.loop-attribute-test.true) in
+    let made = c.in_ok-made.ensures ∙ ap (λ l. c.loop-attribute.made.items ++ l) c.block_of.ensures ∙ ap (λ l. l ++ block_of x) c.loop-attribute.invariant in
+    made ∙ flat_map_more block_of c.args.keys.items (take i xs) x ∙ ap (λ l. c.args.keys.items ++ flat_map block_of l) (sym more)
