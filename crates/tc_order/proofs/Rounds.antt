@@ -78,7 +78,7 @@ module _ {K A : Type 0} (eq : K → K → Bool) where
           let waits_not : waits eq left step ≡ false = not_true (waits eq left step) ready in
           let apart = All-from_recursion (λ y. needs eq step y ≡ false) left (none_needed step left waits_not) in
           ⊎_elim (λ found. found) (λ found. absurd (cc (needed, All-contains (λ y. needs eq step y ≡ false) left other apart found)))
-            (Contains-append_cases order left other (Contains-permutation steps (order ++ left) other once among))
+          (Contains-append_cases order left other (Contains-permutation steps (order ++ left) other once among))
 
       -- the order after a round
       pub round_behind : IsOrder eq steps order → IsOrder eq steps (order ++ filter (λ step. not (waits eq left step)) left)
@@ -90,13 +90,13 @@ module _ {K A : Type 0} (eq : K → K → Bool) where
           let ready = filter (λ step. not (waits eq left step)) left in
           let waiting = filter (λ step. waits eq left step) left in
           let parts : IsPermutation left (ready ++ waiting) = IsPermutation-trans left (waiting ++ ready) (ready ++ waiting)
-                (IsPermutation-filter_both (λ step. waits eq left step) (λ step. not (waits eq left step)) (λ step. refl) left) (IsPermutation-append_comm waiting ready) in
+          (IsPermutation-filter_both (λ step. waits eq left step) (λ step. not (waits eq left step)) (λ step. refl) left) (IsPermutation-append_comm waiting ready) in
           subst (IsPermutation steps) (sym (append_assoc order ready waiting))
-            (IsPermutation-trans steps (order ++ left) (order ++ (ready ++ waiting)) once (IsPermutation-append_right order left (ready ++ waiting) parts))
+          (IsPermutation-trans steps (order ++ left) (order ++ (ready ++ waiting)) once (IsPermutation-append_right order left (ready ++ waiting) parts))
 
   -- where none is ready, all wait for one another
   pub all_stuck : (left : List (Step K A)) → filter (λ step. not (waits eq left step)) left ≡ []
       → All (λ step. waits eq (filter (λ s. waits eq left s) left) step ≡ true) (filter (λ s. waits eq left s) left)
   all_stuck left nothing =
       subst (λ ys. All (λ step. waits eq ys step ≡ true) (filter (λ s. waits eq left s) left)) (sym (keeps_all (λ s. waits eq left s) left nothing))
-        (filter_passes (λ s. waits eq left s) left)
+      (filter_passes (λ s. waits eq left s) left)

@@ -1,18 +1,19 @@
-//! What the requests that restore dumps need of one another: the keys by which [`tc_order::ordered`] brings them into an
-//! order that works.
+//! What the requests that restore dumps need of one another, and an order in which each finds what it needs.
 //!
 //! ```
-//! let mut steps = Vec::new(alloc);
-//! for (place, (object, dump)) in dumps.iter().enumerate() {
-//!     steps.push(step_of(alloc, place, *object, dump)?)?;
+//! let plan = plan(alloc, &dumps)?;
+//! for step in &plan.order {
+//!     send(&dumps[step.place])?; // all that it needs of these dumps was sent before it
 //! }
-//! let order = ordered(alloc, steps)?; // each place once; those in `left` need one another in a circle
+//! // those in `plan.left` need one another in a circle
 //! ```
 #![tactic(auto)]
 
 pub mod key;
+pub mod planned;
 pub mod step;
 
 pub use key::Key;
+pub use planned::{Dump, plan};
 pub use step::{step_of, step_of_actions};
 pub use tc_order::{Order, Step, ordered};

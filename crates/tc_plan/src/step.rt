@@ -177,9 +177,9 @@ fn wanted_by_filter<A: Allocator>(
 ) -> Result<Vec<Key, A>, AllocError>
     ensures { IfOk result (λ made. made.items
         ≡ (keys.items ++ Actions
-            ∷ Chain header.now.index (handle_number header.now.parent) number ∷ [])
-            ++ (if handle_number header.now.handle % 0x100000 == 0
-                then [] else Tables header.now.index (handle_number header.now.parent) ∷ [])) }
+        ∷ Chain header.now.index (handle_number header.now.parent) number ∷ [])
+        ++ (if handle_number header.now.handle % 0x100000 == 0
+        then [] else Tables header.now.index (handle_number header.now.parent) ∷ [])) }
 {
     let index = header.index;
     let parent = u32::from(header.parent);
