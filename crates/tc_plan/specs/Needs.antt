@@ -1,5 +1,5 @@
 -- What the request that restores a dump needs: what gives a key that it wants.
-use Rattle.std.specs.Prelude.{ℕ, ℤ, negsuc, ◌+◌, ◌*◌, ◌/◌, ◌%◌, Bool, ◌==◌, ◌&&◌, ◌||◌, List, [], ◌∷◌, ◌++◌, length, if◌then◌else◌}
+use Rattle.std.specs.Prelude.{ℕ, ℤ, negsuc, ◌*◌, ◌/◌, ◌%◌, Bool, ◌==◌, ◌&&◌, ◌||◌, List, [], ◌∷◌, ◌++◌, length, if◌then◌else◌}
 use Rattle.std.specs.List.{flat_map}
 use Rattle.std.specs.Ordering.{int_eq}
 use Rattle.nla_frames.specs.DefaultNla.{kept_frame}
@@ -31,8 +31,9 @@ block_of x = []
 abbrev pub major : ℕ → ℕ
 major handle = handle / 0x10000 * 0x10000
 
--- the qdisc or class that a parent names, and its qdisc; the block, where interfaces share one (the interface is then -1). The
--- root and ingress have no parent
+-- the qdisc or class that a parent names, and its qdisc; the block, where interfaces share one (the interface is then -1).
+-- ffff:ffff is the root, and ffff:fff1 is ingress or clsact itself: its major is the handle of this very qdisc, so it would
+-- wait for itself
 abbrev pub parents : ℤ → ℕ → List Key
 parents index parent =
     if int_eq index (negsuc 0) then key.Block parent ∷ []
