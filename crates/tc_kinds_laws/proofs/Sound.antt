@@ -1,8 +1,8 @@
 -- Parts whose lines all count and whose places have their parts, and that a table has such parts alone if each branch of it does.
 use Rattle.std.proofs.Common.{◌≡◌, ℕ, Bool, true, false, List, [], ◌∷◌, ◌++◌, ◌&&◌, map, refl, cond, if◌then◌else◌}
 use Rattle.std.proofs.lemmas.Bool.{and_parts}
-use Rattle.core.specs.List.{list_all}
-use Rattle.core.specs.Str.{bytes_eq}
+use Rattle.std.specs.List.{list_all}
+use Rattle.std.specs.Prelude.{bytes_eq}
 use Rattle.tc_forms.specs.declared.form.Form.TheVariants as form
 use Rattle.tc_forms.specs.Places.{choices_of, fields_of, kind_place, names_of, rows_of, rows_under_part}
 use Rattle.tc_forms.specs.Records.{names_apart}

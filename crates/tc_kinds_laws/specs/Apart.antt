@@ -1,6 +1,6 @@
 -- Texts and numbers of a table, no two of which are the same.
 use Rattle.std.specs.Prelude.{Bool, List, [], bytes_eq, map, not, true, ℕ, ◌&&◌, ◌==◌, ◌∷◌}
-use Rattle.core.specs.List.{list_all}
+use Rattle.std.specs.List.{list_all}
 use Rattle.tc_forms.specs.Rows.{counts, is_reserved, type_of}
 use Rattle.tc_forms.specs.Tables.{Choice, KindRows, Kinds, Name, Part, Row}
 

@@ -1,6 +1,6 @@
 -- The part that a form or a part names by its place: names of numbers, fields, rows, choices, or one form.
 use Rattle.std.specs.Prelude.{Bool, List, [], false, map, true, ℕ, ◌&&◌, ◌∷◌}
-use Rattle.core.specs.List.{list_all}
+use Rattle.std.specs.List.{list_all}
 use Rattle.tc_forms.specs.declared.form.Form.{Form}
 use Rattle.tc_forms.specs.declared.form.Form.TheVariants as form
 use Rattle.tc_forms.specs.Tables.{Choices, Fields, Kinds, Names, One, Part, Rows, Table}
