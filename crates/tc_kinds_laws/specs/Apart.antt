@@ -2,7 +2,7 @@
 use Rattle.std.specs.Prelude.{Bool, List, [], bytes_eq, map, not, true, ℕ, ◌&&◌, ◌==◌, ◌∷◌}
 use Rattle.std.specs.List.{list_all}
 use Rattle.tc_forms.specs.Rows.{counts, is_reserved, type_of}
-use Rattle.tc_forms.specs.Tables.{Choice, KindRows, Kinds, Name, Part, Row}
+use Rattle.tc_forms.specs.Tables.{Choice, Kinds, Name, Part, Row}
 
 module _ {T : Type 0} (same : T → T → Bool) where
   -- x is none of these
