@@ -20,7 +20,6 @@ use Rattle.tc_kinds_laws.proofs.Parts.Message.{all_sound as message_sound}
 use Rattle.tc_kinds_laws.proofs.Parts.Qdiscs.{all_sound as qdiscs_sound}
 use Rattle.tc_kinds_laws.proofs.Parts.Shared.{all_sound as shared_sound}
 use Rattle.tc_kinds_laws.proofs.Parts.Statistics.{all_sound as statistics_sound}
-
 pub mod Action
 pub mod Actions
 pub mod Elements

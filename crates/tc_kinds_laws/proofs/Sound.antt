@@ -58,8 +58,8 @@ at_kind table kind common others [] e all = e
 at_kind table kind common others (k ∷ kinds) e all =
     let parts : (apart_with table common k.rows ≡ true) × (list_all (λ k. apart_with table common k.rows) kinds ≡ true) = and_parts _ _ all in
     elim (bytes_eq k.kind kind) as (λ b. apart_with table common (if b then k.rows else kind_place kind others kinds) ≡ true) [
-      true ↦ parts.0
-    | false ↦ at_kind table kind common others kinds e parts.1
+      | true ↦ parts.0
+      | false ↦ at_kind table kind common others kinds e parts.1
     ]
 
 under_kind : (table : Table) (kind : List ℕ) (part : Part) → rows_sound table part ≡ true → RowsApart (rows_under_part table kind part)

@@ -3,8 +3,19 @@ use Rattle.std.proofs.Common.{◌/◌, ◌==◌, refl, ℕ}
 use Rattle.tc_kinds_laws.proofs.Sound.{Sound, at, none, sound}
 use Rattle.tc_kinds.specs.Table.{tc_tables}
 use Rattle.tc_kinds.specs.Parts.Action.{all_of_action, parts_of_action}
-use Rattle.tc_kinds.specs.Parts.Elements.{all_of_elements, element_choice_ematch, element_list_cake_tin_stats, element_number_s16, element_number_s32,
-    element_number_u16, element_number_u32, element_number_u64, element_number_u8, element_own_action, parts_of_elements}
+use Rattle.tc_kinds.specs.Parts.Elements.{
+  all_of_elements,
+  element_choice_ematch,
+  element_list_cake_tin_stats,
+  element_number_s16,
+  element_number_s32,
+  element_number_u16,
+  element_number_u32,
+  element_number_u64,
+  element_number_u8,
+  element_own_action,
+  parts_of_elements,
+}
 use Rattle.tc_kinds.specs.Parts.Ematch.{all_of_ematch, parts_of_ematch}
 use Rattle.tc_kinds.specs.Parts.Qdiscs.{all_of_qdiscs, parts_of_qdiscs_cake}
 

@@ -3,10 +3,33 @@ use Rattle.std.proofs.Common.{◌/◌, ◌==◌, refl, ℕ}
 use Rattle.tc_kinds_laws.proofs.Sound.{Sound, at, none, sound}
 use Rattle.tc_kinds.specs.Table.{tc_tables}
 use Rattle.tc_kinds.specs.Parts.Elements.{all_of_elements, parts_of_elements}
-use Rattle.tc_kinds.specs.Parts.Ematch.{all_of_ematch, choice_ematch, enum_tcf_em_opnd, list_em_ipt, list_em_meta, list_ematch_tree, parts_of_ematch,
-    parts_of_ematch_2, struct_can_filter, struct_ematch_canid, struct_ematch_cmp, struct_ematch_container, struct_ematch_ipset, struct_ematch_ipt,
-    struct_ematch_meta, struct_ematch_nbyte, struct_ematch_text, struct_ematch_u32, struct_tcf_em_cmp, struct_tcf_em_nbyte, struct_tcf_em_text,
-    struct_tcf_ematch_tree_hdr, struct_tcf_meta_hdr, struct_tcf_meta_val, struct_xt_set_info}
+use Rattle.tc_kinds.specs.Parts.Ematch.{
+  all_of_ematch,
+  choice_ematch,
+  enum_tcf_em_opnd,
+  list_em_ipt,
+  list_em_meta,
+  list_ematch_tree,
+  parts_of_ematch,
+  parts_of_ematch_2,
+  struct_can_filter,
+  struct_ematch_canid,
+  struct_ematch_cmp,
+  struct_ematch_container,
+  struct_ematch_ipset,
+  struct_ematch_ipt,
+  struct_ematch_meta,
+  struct_ematch_nbyte,
+  struct_ematch_text,
+  struct_ematch_u32,
+  struct_tcf_em_cmp,
+  struct_tcf_em_nbyte,
+  struct_tcf_em_text,
+  struct_tcf_ematch_tree_hdr,
+  struct_tcf_meta_hdr,
+  struct_tcf_meta_val,
+  struct_xt_set_info,
+}
 use Rattle.tc_kinds.specs.Parts.Filters.{all_of_filters, parts_of_filters_u32}
 
 pub ematch_sound : (place : ℕ) → Sound (parts_of_ematch place)

@@ -5,15 +5,62 @@ use Rattle.tc_kinds.specs.Table.{tc_tables}
 use Rattle.tc_kinds.specs.Parts.Actions.{all_of_actions, parts_of_actions_police}
 use Rattle.tc_kinds.specs.Parts.Elements.{all_of_elements, parts_of_elements}
 use Rattle.tc_kinds.specs.Parts.Ematch.{all_of_ematch, parts_of_ematch}
-use Rattle.tc_kinds.specs.Parts.Filters.{all_of_filters, enum_flow_mode, list_basic_in_basic, list_bpf_in_bpf, list_cfm, list_cgroup_in_cgroup,
-    list_enc_opt_erspan, list_enc_opt_geneve, list_enc_opt_gtp, list_enc_opt_pfcp, list_enc_opt_vxlan, list_enc_opts, list_flow_in_flow,
-    list_flower_in_flower, list_fw_in_fw, list_matchall_in_matchall, list_mpls_lse, list_mpls_opts, list_route_in_route, list_rsvp6_in_rsvp6,
-    list_rsvp_in_rsvp, list_tc_filter_basic, list_tc_filter_bpf, list_tc_filter_cgroup, list_tc_filter_flow, list_tc_filter_flower, list_tc_filter_fw,
-    list_tc_filter_matchall, list_tc_filter_route, list_tc_filter_rsvp, list_tc_filter_rsvp6, list_tc_filter_tcindex, list_tc_filter_u32,
-    list_tcindex_in_tcindex, list_u32_in_u32, parts_of_filters_basic, parts_of_filters_bpf, parts_of_filters_cgroup, parts_of_filters_flow,
-    parts_of_filters_flower, parts_of_filters_fw, parts_of_filters_matchall, parts_of_filters_route, parts_of_filters_rsvp, parts_of_filters_tcindex,
-    parts_of_filters_u32, struct_tc_basic_pcnt, struct_tc_matchall_pcnt, struct_tc_rsvp_gpi, struct_tc_rsvp_pinfo, struct_tc_u32_key, struct_tc_u32_mark,
-    struct_tc_u32_pcnt, struct_tc_u32_sel}
+use Rattle.tc_kinds.specs.Parts.Filters.{
+  all_of_filters,
+  enum_flow_mode,
+  list_basic_in_basic,
+  list_bpf_in_bpf,
+  list_cfm,
+  list_cgroup_in_cgroup,
+  list_enc_opt_erspan,
+  list_enc_opt_geneve,
+  list_enc_opt_gtp,
+  list_enc_opt_pfcp,
+  list_enc_opt_vxlan,
+  list_enc_opts,
+  list_flow_in_flow,
+  list_flower_in_flower,
+  list_fw_in_fw,
+  list_matchall_in_matchall,
+  list_mpls_lse,
+  list_mpls_opts,
+  list_route_in_route,
+  list_rsvp6_in_rsvp6,
+  list_rsvp_in_rsvp,
+  list_tc_filter_basic,
+  list_tc_filter_bpf,
+  list_tc_filter_cgroup,
+  list_tc_filter_flow,
+  list_tc_filter_flower,
+  list_tc_filter_fw,
+  list_tc_filter_matchall,
+  list_tc_filter_route,
+  list_tc_filter_rsvp,
+  list_tc_filter_rsvp6,
+  list_tc_filter_tcindex,
+  list_tc_filter_u32,
+  list_tcindex_in_tcindex,
+  list_u32_in_u32,
+  parts_of_filters_basic,
+  parts_of_filters_bpf,
+  parts_of_filters_cgroup,
+  parts_of_filters_flow,
+  parts_of_filters_flower,
+  parts_of_filters_fw,
+  parts_of_filters_matchall,
+  parts_of_filters_route,
+  parts_of_filters_rsvp,
+  parts_of_filters_tcindex,
+  parts_of_filters_u32,
+  struct_tc_basic_pcnt,
+  struct_tc_matchall_pcnt,
+  struct_tc_rsvp_gpi,
+  struct_tc_rsvp_pinfo,
+  struct_tc_u32_key,
+  struct_tc_u32_mark,
+  struct_tc_u32_pcnt,
+  struct_tc_u32_sel,
+}
 use Rattle.tc_kinds.specs.Parts.Message.{all_of_message, parts_of_message}
 use Rattle.tc_kinds.specs.Parts.Shared.{all_of_shared, parts_of_shared}
 
@@ -27,8 +74,8 @@ filters_basic_sound place =
     none)))
 
 pub filters_bpf_sound : (place : ℕ) → Sound (parts_of_filters_bpf place)
-unfolding parts_of_filters_bpf tc_tables all_of_actions all_of_elements all_of_filters all_of_message all_of_shared parts_of_actions_police parts_of_elements
-    parts_of_message parts_of_shared
+unfolding parts_of_filters_bpf tc_tables all_of_actions all_of_elements all_of_filters all_of_message all_of_shared parts_of_actions_police
+    parts_of_elements parts_of_message parts_of_shared
 filters_bpf_sound place =
     at (place == 2412) (sound list_bpf_in_bpf refl) (
     at (place == 2413) (sound list_tc_filter_bpf refl) (
@@ -43,8 +90,8 @@ filters_cgroup_sound place =
     none))
 
 pub filters_flow_sound : (place : ℕ) → Sound (parts_of_filters_flow place)
-unfolding parts_of_filters_flow tc_tables all_of_actions all_of_elements all_of_ematch all_of_filters all_of_message parts_of_actions_police parts_of_elements
-    parts_of_ematch parts_of_message
+unfolding parts_of_filters_flow tc_tables all_of_actions all_of_elements all_of_ematch all_of_filters all_of_message parts_of_actions_police
+    parts_of_elements parts_of_ematch parts_of_message
 filters_flow_sound place =
     at (place == 2436) (sound list_flow_in_flow refl) (
     at (place == 2437) (sound enum_flow_mode refl) (

@@ -3,8 +3,17 @@ use Rattle.std.proofs.Common.{◌/◌, ◌==◌, refl, ℕ}
 use Rattle.tc_kinds_laws.proofs.Sound.{Sound, at, none, sound}
 use Rattle.tc_kinds.specs.Table.{tc_tables}
 use Rattle.tc_kinds.specs.Parts.Elements.{all_of_elements, parts_of_elements}
-use Rattle.tc_kinds.specs.Parts.Shared.{all_of_shared, enum_tc_fp, enum_tc_linklayer, list_stab, parts_of_shared, struct_sock_filter, struct_tc_estimator,
-    struct_tc_ratespec, struct_tc_sizespec}
+use Rattle.tc_kinds.specs.Parts.Shared.{
+  all_of_shared,
+  enum_tc_fp,
+  enum_tc_linklayer,
+  list_stab,
+  parts_of_shared,
+  struct_sock_filter,
+  struct_tc_estimator,
+  struct_tc_ratespec,
+  struct_tc_sizespec,
+}
 
 pub shared_sound : (place : ℕ) → Sound (parts_of_shared place)
 unfolding parts_of_shared tc_tables all_of_elements all_of_shared parts_of_elements
