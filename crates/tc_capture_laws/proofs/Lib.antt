@@ -1,0 +1,4 @@
+pub mod Fronts
+pub mod EachPiece
+pub mod Joins
+pub mod PartJoins

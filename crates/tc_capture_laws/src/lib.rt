@@ -1,0 +1,4 @@
+//! Laws of captures: nothing of a file is lost, and what is written is read.
+#![tactic(auto)]
+
+pub mod parts;
