@@ -1,2 +1,5 @@
 pub mod Pieces
 pub mod Parts
+pub mod Reading
+pub mod Written
+pub mod Files
