@@ -6,3 +6,6 @@ pub mod Numbers
 pub mod MessageReads
 pub mod Steps
 pub mod PcapReads
+pub mod PcapNgReads
+pub mod StreamReads
+pub mod Agrees

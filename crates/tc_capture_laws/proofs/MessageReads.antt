@@ -55,7 +55,7 @@ length-message_bytes m =
     omega (arith, pad, length-append m.payload (zeros (padding long)), length-replicate {A = ℕ} (padding long) 0)
 
 -- the number at the front of a message
-length_at-message_bytes : (m : Message) (more : List ℕ) → 16 + length m.payload < 2 ^ 32 → length_at (message_bytes m ++ more) ≡ 16 + length m.payload
+pub length_at-message_bytes : (m : Message) (more : List ℕ) → 16 + length m.payload < 2 ^ 32 → length_at (message_bytes m ++ more) ≡ 16 + length m.payload
 length_at-message_bytes m more small =
     let n = length m.payload in
     let turned : n + 16 ≡ 16 + n = omega arith in

@@ -80,6 +80,10 @@ HasNoPadding m = length m.payload % 4 ≡ 0
 
 -- ---- a stream
 
+-- not the time of the messages that follow it, NLMSG_TSTAMP
+abbrev pub IsNoTime : Message → Type 0
+IsNoTime m = m.kind ≢ 15
+
 abbrev pub stream_file : List Message → List ℕ
 stream_file messages = messages_bytes messages
 
