@@ -1,5 +1,5 @@
 -- The same messages in each format.
-use Rattle.std.proofs.Common.{◌≡◌, ◌≢◌, ℕ, zero, suc, ◌+◌, ◌^◌, ◌<◌, ◌≤◌, List, [], ◌∷◌, ◌++◌, All, length, map, Option, Some, None, Ok, refl, sym, ap, ap₂, ◌∙◌, arith}
+use Rattle.std.proofs.Common.{◌≡◌, ◌≢◌, ℕ, ◌+◌, ◌^◌, ◌<◌, ◌≤◌, List, [], ◌∷◌, ◌++◌, All, length, map, Some, Ok, refl, sym, ap, ◌∙◌, arith}
 use Rattle.std.specs.Prelude.{option_map}
 use Rattle.std.specs.List.{flat_map}
 use Rattle.std.proofs.lemmas.List.{length-append, map-append}
@@ -8,7 +8,7 @@ use Rattle.tc_capture.specs.declared.order.Order.{Order}
 use Rattle.tc_capture.specs.Outcome.{Outcome}
 use Rattle.tc_capture.specs.Message.{Message}
 use Rattle.tc_capture_laws.specs.Reading.{Read, messages_of, reading, messages_read}
-use Rattle.tc_capture_laws.specs.Files.{Packet, IsMessage, IsPacket, IsNoTime, message_bytes, messages_bytes, packet_bytes, as_read, alone_as_read, all_messages, stream_file, pcap_file, pcapng_file}
+use Rattle.tc_capture_laws.specs.Files.{Packet, IsMessage, IsPacket, IsNoTime, message_bytes, messages_bytes, as_read, alone_as_read, all_messages, stream_file, pcap_file, pcapng_file}
 use Rattle.tc_capture_laws.proofs.PcapReads.{pcap-read}
 use Rattle.tc_capture_laws.proofs.PcapNgReads.{pcapng-read}
 use Rattle.tc_capture_laws.proofs.StreamReads.{HasAtMost, stream-read}
@@ -49,9 +49,10 @@ are-messages longest most [] room all = (All-nil (λ (p : Packet). All IsMessage
 are-messages longest most (p ∷ packets) room all =
     let is = All-head (IsPacket longest) p packets all in
     let within = is.length in
-    let rest = are-messages longest most packets room (All-tail (IsPacket longest) p packets all) in
-    (All-cons (λ (p : Packet). All IsMessage p.messages) p packets is.messages rest.0,
-    All-cons (λ (p : Packet). All (HasAtMost most) p.messages) p packets (short-messages most p.messages (omega arith)) rest.1)
+    let rest = are-messages longest most packets room (All-tail (IsPacket longest) p packets all) in (
+      All-cons (λ (p : Packet). All IsMessage p.messages) p packets is.messages rest.0,
+      All-cons (λ (p : Packet). All (HasAtMost most) p.messages) p packets (short-messages most p.messages (omega arith)) rest.1,
+    )
 
 module _ (order : Order) (longest most : ℕ) (packets : List Packet) (room : longest + 35 ≤ most) (small : most < 2 ^ 24) (all : All (IsPacket longest) packets)
     (some : all_messages packets ≢ []) (others : All IsNoTime (all_messages packets)) where

@@ -1,5 +1,5 @@
 -- What is so of the pieces of each file, a piece at a time.
-use Rattle.std.proofs.Common.{◌≡◌, ℕ, zero, suc, ◌+◌, ◌-◌, ◌<◌, ◌≤◌, List, [], ◌∷◌, length, take, drop, Ok, Err, Bool, true, false, refl, arith}
+use Rattle.std.proofs.Common.{◌≡◌, ℕ, zero, suc, ◌<◌, ◌≤◌, List, [], ◌∷◌, length, take, drop, Ok, Err, Bool, true, false, refl, arith}
 use Rattle.std.specs.Prelude.{nat_lt, nat_le, ◌&&◌, if◌then◌else◌}
 use Rattle.std.proofs.lemmas.Bool.{ltb-true, leb-true}
 use Rattle.std.proofs.lemmas.List.{length-drop}
@@ -8,14 +8,15 @@ use Rattle.tc_capture.specs.declared.error.CaptureError.TheVariants.{Short, Mess
 use Rattle.tc_capture.specs.Outcome.{Outcome}
 use Rattle.tc_capture.specs.Front.{Front}
 use Rattle.tc_capture.specs.Capture.{State, next_piece}
-use Rattle.tc_capture_laws.specs.Pieces.{What, read, skipped, rest, Piece, passed, left_over, unread, piece_and_more, pieces_up_to, pieces_in}
-use Rattle.tc_capture_laws.proofs.Fronts.{IsFront, front-is}
+use Rattle.tc_capture_laws.specs.Fronts.{IsFront}
+use Rattle.tc_capture_laws.specs.Pieces.{read, skipped, Piece, passed, left_over, unread, piece_and_more, pieces_up_to, pieces_in}
+use Rattle.tc_capture_laws.proofs.FrontPieces.{front-is}
 
 module _ (most : ℕ) (P : List ℕ → List Piece → Type 0) (ended : P [] [])
     (one : (s : State) (bytes : List ℕ) (next : Front × State) (more : List Piece) → IsFront (take most bytes) next.0
-        → P (drop next.0.used bytes) more → P bytes (record { what = read next.0.packet; bytes = take next.0.used bytes } ∷ more))
+    → P (drop next.0.used bytes) more → P bytes (record { what = read next.0.packet; bytes = take next.0.used bytes } ∷ more))
     (over : (needed : ℕ) (bytes : List ℕ) (more : List Piece) → 0 < needed → needed ≤ length bytes
-        → P (drop needed bytes) more → P bytes (record { what = skipped; bytes = take needed bytes } ∷ more))
+    → P (drop needed bytes) more → P bytes (record { what = skipped; bytes = take needed bytes } ∷ more))
     (stop : (e : CaptureError) (bytes : List ℕ) → 0 < length bytes → P bytes (left_over e bytes)) where
   module _ (n : ℕ) (bytes : List ℕ) (some : 0 < length bytes) (few : length bytes ≤ suc n) where
     module _ (go : List ℕ → List Piece) (later : (after : List ℕ) → length after ≤ n → P after (go after)) where

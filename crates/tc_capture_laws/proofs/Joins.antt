@@ -1,11 +1,10 @@
 -- The pieces of a file, joined, are the file.
-use Rattle.std.proofs.Common.{◌≡◌, ℕ, zero, suc, ◌+◌, ◌-◌, ◌<◌, ◌≤◌, List, [], ◌∷◌, ◌++◌, All, length, take, drop, refl, sym, ap, ◌∙◌, arith}
+use Rattle.std.proofs.Common.{◌≡◌, ℕ, ◌<◌, List, [], ◌∷◌, ◌++◌, All, length, take, drop, refl, ap, ◌∙◌, arith}
 use Rattle.std.proofs.lemmas.List.{append-nil, length-take, take-append-drop}
 use Rattle.std.proofs.lemmas.List.Elements.{All-nil, All-cons}
 use Rattle.tc_capture.specs.declared.error.CaptureError.{CaptureError}
 use Rattle.tc_capture.specs.Capture.{State}
-use Rattle.tc_capture_laws.specs.Pieces.{What, read, skipped, rest, Piece, left_over, pieces_in, joined}
-use Rattle.tc_capture_laws.proofs.Fronts.{IsFront}
+use Rattle.tc_capture_laws.specs.Pieces.{read, skipped, rest, Piece, pieces_in, joined}
 use Rattle.tc_capture_laws.proofs.EachPiece.{each-piece}
 
 -- the front of some bytes, before what is joined of the rest

@@ -1,7 +1,9 @@
-pub mod Fronts
+pub mod FrontPieces
 pub mod EachPiece
 pub mod Joins
 pub mod PartJoins
+pub mod MoreBytes
+pub mod Faults
 pub mod Numbers
 pub mod MessageReads
 pub mod Steps

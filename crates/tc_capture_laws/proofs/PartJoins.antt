@@ -1,38 +1,37 @@
 -- The parts of a file, joined, are the file.
-use Rattle.std.proofs.Common.{◌≡◌, ℕ, zero, suc, ◌+◌, ◌-◌, ◌<◌, ◌≤◌, List, [], ◌∷◌, ◌++◌, length, take, drop, Option, Some, None, Ok, Err, Bool, true, false, inl, inr, refl, sym, ap, subst, ◌∙◌, arith}
+use Rattle.std.proofs.Common.{◌≡◌, ℕ, zero, suc, ◌+◌, ◌-◌, ◌≤◌, List, [], ◌∷◌, ◌++◌, length, take, drop, Option, Some, None, Ok, Err, Bool, true, false, inl, inr, refl, sym, ap, subst, ◌∙◌, arith}
 use Rattle.std.specs.Prelude.{nat_lt, ◌==◌, if◌then◌else◌}
-use Rattle.std.specs.List.{flat_map}
 use Rattle.std.proofs.lemmas.Bool.{cases_lt}
-use Rattle.std.proofs.lemmas.List.{append-nil, append_assoc, length-take, length-drop, take-append-drop, take-take, take_all, drop_all, drop-drop}
+use Rattle.std.proofs.lemmas.List.{append-nil, length-take, length-drop, take-append-drop, take-take, take_all, drop_all, drop-drop}
 use Rattle.std.proofs.lemmas.List.Concat.{flat_map-append}
 use Rattle.byteorder.specs.Endian.{big_number}
-use Rattle.tc_capture.specs.declared.error.CaptureError.{CaptureError}
 use Rattle.tc_capture.specs.declared.error.CaptureError.TheVariants.{Short, MessageTooShort}
 use Rattle.tc_capture.specs.declared.packet.Link.{Link}
 use Rattle.tc_capture.specs.declared.packet.Link.TheVariants.{Plain, Cooked, Other}
 use Rattle.tc_capture.specs.Outcome.{Outcome}
 use Rattle.tc_capture.specs.Message.{Message, padding, length_at, message_of_length, next_message}
 use Rattle.tc_capture.specs.Messages.{are_zeros, message_and_rest, messages_up_to, messages_in}
-use Rattle.tc_capture.specs.Packet.{Captured, Contents, route, family, link_type, contents_in}
+use Rattle.tc_capture.specs.Packet.{Captured, route, contents_in}
 use Rattle.tc_capture.specs.Capture.{State}
 use Rattle.tc_capture.proofs.Steps.{length-next_message}
+use Rattle.tc_capture_laws.specs.Fronts.{HoldsPacket}
 use Rattle.tc_capture_laws.specs.Pieces as pieces
 use Rattle.tc_capture_laws.specs.Pieces.{What, Piece, pieces_in}
-use Rattle.tc_capture_laws.specs.Parts.{Kind, Part, part, before_last, message_and_more, message_parts_up_to, message_parts, contents_parts, packet_parts, read_parts, what_parts, parts_in, joined, said_by, messages_of, message, broken, zeros, format}
-use Rattle.tc_capture_laws.proofs.Fronts.{HoldsPacket, IsFront, passes}
+use Rattle.tc_capture_laws.specs.Parts.{Kind, Part, part, before_last, message_and_more, message_parts_up_to, message_parts, contents_parts, read_parts, what_parts, parts_in, joined, messages_of, zeros, format}
+use Rattle.tc_capture_laws.proofs.FrontPieces.{passes}
 use Rattle.tc_capture_laws.proofs.EachPiece.{each-piece}
 
 -- what comes before the end of a list, and the end
 before : (k : ℕ) (xs : List ℕ) → before_last (length (drop k xs)) xs ++ drop k xs ≡ xs
 before k xs = elim (cases_lt (length xs) k) [
-      inl past ↦
-        let none : drop k xs ≡ [] = drop_all k xs (omega arith) in
-        let all : length xs - length (drop k xs) ≡ length xs = omega (arith, length-drop k xs) in
-        rw (all, none) (append-nil (take (length xs) xs) ∙ take_all (length xs) xs (omega arith))
-    | inr within ↦
-        let front : length xs - length (drop k xs) ≡ k = omega (arith, length-drop k xs) in
-        rw front (take-append-drop k xs)
-    ]
+  | inl past ↦
+      let none : drop k xs ≡ [] = drop_all k xs (omega arith) in
+      let all : length xs - length (drop k xs) ≡ length xs = omega (arith, length-drop k xs) in
+      rw (all, none) (append-nil (take (length xs) xs) ∙ take_all (length xs) xs (omega arith))
+  | inr within ↦
+      let front : length xs - length (drop k xs) ≡ k = omega (arith, length-drop k xs) in
+      rw front (take-append-drop k xs)
+]
 
 joined-append : (xs ys : List Part) → joined (xs ++ ys) ≡ joined xs ++ joined ys
 joined-append xs ys = flat_map-append (λ (p : Part). p.bytes) xs ys

@@ -1,5 +1,5 @@
 -- A file of pcapng that is written is read.
-use Rattle.std.proofs.Common.{◌≡◌, ℕ, zero, suc, ◌+◌, ◌-◌, ◌*◌, ◌/◌, ◌%◌, ◌^◌, ◌<◌, ◌≤◌, List, [], ◌∷◌, ◌++◌, All, length, take, drop, map, Option, Some, None, Ok, Err, Bool, true, false, refl, sym, ap, ap₂, ◌∙◌, arith}
+use Rattle.std.proofs.Common.{◌≡◌, ℕ, ◌+◌, ◌-◌, ◌*◌, ◌/◌, ◌%◌, ◌^◌, ◌<◌, ◌≤◌, List, [], ◌∷◌, ◌++◌, All, length, take, drop, map, Option, Some, None, Ok, Err, Bool, true, false, refl, sym, ap, ap₂, ◌∙◌, arith}
 use Rattle.std.specs.Prelude.{nat_lt, nat_le, ◌==◌, replicate, if◌then◌else◌}
 use Rattle.std.specs.List.{flat_map}
 use Rattle.std.proofs.lemmas.Bool.{lt-ltb, le-ltb, le-leb, eq-eqb}
@@ -13,16 +13,15 @@ use Rattle.tc_capture.specs.declared.pcapng.interface.Interface.{Interface}
 use Rattle.tc_capture.specs.declared.time.Time.{Time}
 use Rattle.tc_capture.specs.Outcome.{Outcome, then_read}
 use Rattle.tc_capture.specs.Order.{number}
-use Rattle.tc_capture.specs.Time.{time_of}
 use Rattle.tc_capture.specs.Entries.{entry_up_to, entry_in}
 use Rattle.tc_capture.specs.Options.{with_seconds, later}
 use Rattle.tc_capture.specs.Message.{padding}
 use Rattle.tc_capture.specs.Packet.{Captured}
 use Rattle.tc_capture.specs.Front.{Front}
 use Rattle.tc_capture.specs.PcapNg.{Block, Section, block_order, block_of_length, block_in, next_block, interface_at, time_after, held_in, timed_of, timed_packet, with_packet, said_by, next_in_section}
-use Rattle.tc_capture.specs.Capture.{State, in_section, next_piece}
+use Rattle.tc_capture.specs.Capture.{in_section}
 use Rattle.tc_capture_laws.specs.Pieces.{pieces_up_to, pieces_in}
-use Rattle.tc_capture_laws.specs.Reading.{Read, read_of, read_in, reading}
+use Rattle.tc_capture_laws.specs.Reading.{Read, read_in, reading}
 use Rattle.tc_capture_laws.specs.Files.{Packet, IsPacket, zeros, padded, packet_bytes, as_read, number_bytes, block, section_header, interface, enhanced_packet, pcapng_file}
 use Rattle.tc_capture_laws.proofs.Numbers.{number-number_bytes, time_of-nanoseconds}
 use Rattle.tc_capture_laws.proofs.Steps.{step, ends, captured, packet_of-captured}

@@ -1,6 +1,6 @@
 -- A file of pcap that is written is read.
-use Rattle.std.proofs.Common.{◌≡◌, ℕ, zero, suc, ◌+◌, ◌-◌, ◌*◌, ◌/◌, ◌%◌, ◌^◌, ◌<◌, ◌≤◌, List, [], ◌∷◌, ◌++◌, All, length, take, drop, map, Option, Some, None, Ok, Err, Bool, true, false, refl, sym, ap, ap₂, ◌∙◌, arith}
-use Rattle.std.specs.Prelude.{nat_lt, nat_le, option_map, if◌then◌else◌}
+use Rattle.std.proofs.Common.{◌≡◌, ℕ, ◌+◌, ◌-◌, ◌*◌, ◌%◌, ◌^◌, ◌<◌, ◌≤◌, List, [], ◌∷◌, ◌++◌, All, length, take, drop, map, Some, None, Ok, Err, Bool, true, false, refl, sym, ap, ap₂, ◌∙◌, arith}
+use Rattle.std.specs.Prelude.{nat_lt, nat_le, if◌then◌else◌}
 use Rattle.std.specs.List.{flat_map}
 use Rattle.std.proofs.lemmas.Bool.{le-ltb, le-leb}
 use Rattle.std.proofs.lemmas.List.{append-nil, length-append, take_at, drop-take}
@@ -16,12 +16,11 @@ use Rattle.tc_capture.specs.Outcome.{Outcome, then_read}
 use Rattle.tc_capture.specs.Order.{number}
 use Rattle.tc_capture.specs.Time.{time_of}
 use Rattle.tc_capture.specs.Message.{Message, padding}
-use Rattle.tc_capture.specs.Packet.{Captured}
 use Rattle.tc_capture.specs.Front.{Front}
 use Rattle.tc_capture.specs.Pcap.{header_with, magic_at, pcap_header, next_in_pcap}
-use Rattle.tc_capture.specs.Capture.{State, before_header, in_pcap, next_piece}
+use Rattle.tc_capture.specs.Capture.{before_header, in_pcap}
 use Rattle.tc_capture_laws.specs.Pieces.{pieces_up_to, pieces_in}
-use Rattle.tc_capture_laws.specs.Reading.{Read, read_of, read_in, reading}
+use Rattle.tc_capture_laws.specs.Reading.{Read, read_in, reading}
 use Rattle.tc_capture_laws.specs.Written.{in_netlink, packet_header}
 use Rattle.tc_capture_laws.specs.Files as files
 use Rattle.tc_capture_laws.specs.Files.{Packet, IsPacket, HasNoPadding, zeros, message_bytes, messages_bytes, packet_bytes, as_read, pcap_record, pcap_file, written_messages, written_packet, written_file}

@@ -1,25 +1,24 @@
 -- A file that is written piece by piece is read so.
-use Rattle.std.proofs.Common.{◌≡◌, ℕ, zero, suc, ◌+◌, ◌-◌, ◌^◌, ◌<◌, ◌≤◌, List, [], ◌∷◌, ◌++◌, All, length, take, drop, map, Option, Some, None, Ok, refl, sym, ap, ◌∙◌, arith}
+use Rattle.std.proofs.Common.{◌≡◌, ℕ, zero, suc, ◌+◌, ◌-◌, ◌^◌, ◌<◌, ◌≤◌, List, [], ◌∷◌, ◌++◌, length, take, drop, map, Option, Some, Ok, refl, ap, ◌∙◌, arith}
 use Rattle.std.proofs.Math.Seq.{take-append-add}
-use Rattle.std.proofs.lemmas.List.{length-append, take_at, drop_at}
+use Rattle.std.proofs.lemmas.List.{length-append, drop_at}
 use Rattle.std.proofs.lemmas.Bool.{le-ltb}
 use Rattle.byteorder.specs.Endian.{big_number}
 use Rattle.byteorder.specs.Numbers.{big_number-reads_back}
-use Rattle.std.specs.Prelude.{nat_lt, ◌==◌, Bool, true, false, Err, if◌then◌else◌}
+use Rattle.std.specs.Prelude.{nat_lt, Bool, true, false, Err, if◌then◌else◌}
 use Rattle.tc_capture.specs.declared.error.CaptureError.TheVariants.{Short}
 use Rattle.tc_capture.specs.declared.packet.Link.TheVariants.{Cooked}
-use Rattle.tc_capture.specs.declared.time.Time.{Time}
 use Rattle.tc_capture.specs.Outcome.{Outcome}
 use Rattle.tc_capture.specs.Message.{Message}
 use Rattle.tc_capture.specs.Messages.{messages_in}
-use Rattle.tc_capture.specs.Packet.{Captured, Contents, route, contents_in}
+use Rattle.tc_capture.specs.Packet.{Captured, route, contents_in}
 use Rattle.tc_capture.specs.Front.{Front}
 use Rattle.tc_capture.specs.Capture.{State, next_piece}
 use Rattle.tc_capture_laws.specs.Pieces as pieces
 use Rattle.tc_capture_laws.specs.Pieces.{What, piece_and_more, pieces_up_to}
 use Rattle.tc_capture_laws.specs.Reading as reading
 use Rattle.tc_capture_laws.specs.Reading.{Read, packet_of, read_of, read_in}
-use Rattle.tc_capture_laws.specs.Files.{Packet, IsMessage, IsPacket, messages_bytes, packet_bytes, as_read}
+use Rattle.tc_capture_laws.specs.Files.{Packet, IsPacket, messages_bytes, packet_bytes, as_read}
 use Rattle.tc_capture_laws.proofs.MessageReads.{messages_in-messages_bytes}
 
 -- a piece that a reader keeps all of, before others

@@ -1,5 +1,5 @@
 -- A stream that is written is read.
-use Rattle.std.proofs.Common.{◌≡◌, ◌≢◌, ℕ, zero, suc, ◌+◌, ◌-◌, ◌*◌, ◌/◌, ◌%◌, ◌^◌, ◌<◌, ◌≤◌, List, [], ◌∷◌, ◌++◌, All, length, take, drop, map, Option, Some, None, Ok, Err, Bool, true, false, refl, sym, ap, ap₂, ◌∙◌, arith}
+use Rattle.std.proofs.Common.{◌≡◌, ◌≢◌, ℕ, ◌+◌, ◌/◌, ◌%◌, ◌^◌, ◌<◌, ◌≤◌, List, [], ◌∷◌, ◌++◌, All, length, take, drop, map, Option, Some, None, Ok, Err, Bool, true, false, refl, sym, ap, ap₂, ◌∙◌, arith}
 use Rattle.std.specs.Prelude.{nat_lt, nat_le, is_some, option_map, ◌==◌, ◌&&◌, if◌then◌else◌}
 use Rattle.std.proofs.lemmas.Bool.{lt-ltb, le-ltb, ne_eqb}
 use Rattle.std.proofs.lemmas.List.{append-nil, length-append, take_at}
@@ -11,7 +11,6 @@ use Rattle.tc_capture.specs.declared.order.Order.{Order}
 use Rattle.tc_capture.specs.declared.order.Order.TheVariants.{Little, Big}
 use Rattle.tc_capture.specs.declared.packet.Link.TheVariants.{Plain}
 use Rattle.tc_capture.specs.declared.pcap.Variant.{Variant}
-use Rattle.tc_capture.specs.declared.pcap.Variant.TheVariants.{Microseconds, Nanoseconds, Modified}
 use Rattle.tc_capture.specs.declared.time.Time.{Time}
 use Rattle.tc_capture.specs.Outcome.{Outcome, then_read}
 use Rattle.tc_capture.specs.Message.{Message, padding, length_at}
@@ -20,7 +19,7 @@ use Rattle.tc_capture.specs.Packet.{Captured}
 use Rattle.tc_capture.specs.Front.{Front}
 use Rattle.tc_capture.specs.Pcap.{variant_of, in_order, magic_at}
 use Rattle.tc_capture.specs.Stream.{is_time, time_at_front, front_of_length, next_in_stream}
-use Rattle.tc_capture.specs.Capture.{State, in_stream, before_header, in_section, capture_at, next_piece}
+use Rattle.tc_capture.specs.Capture.{State, in_stream, before_header, in_section, capture_at}
 use Rattle.tc_capture_laws.specs.Pieces.{pieces_up_to, pieces_in}
 use Rattle.tc_capture_laws.specs.Reading as reading
 use Rattle.tc_capture_laws.specs.Reading.{Read, read_of, read_in}

@@ -2,4 +2,5 @@
 #![tactic(auto)]
 
 pub mod files;
+pub mod fronts;
 pub mod parts;

@@ -1,5 +1,5 @@
 -- The piece at the front of some bytes: how long it is, and where its packet is.
-use Rattle.std.proofs.Common.{◌≡◌, ℕ, zero, suc, ◌+◌, ◌-◌, ◌<◌, ◌≤◌, List, [], ◌∷◌, length, take, drop, Option, None, Some, Ok, Err, Bool, true, false, refl, sym, ap, subst, ◌∙◌, arith}
+use Rattle.std.proofs.Common.{◌≡◌, ℕ, ◌+◌, ◌-◌, ◌<◌, ◌≤◌, List, length, take, drop, Option, None, Some, Ok, Err, Bool, true, false, refl, sym, ap, subst, ◌∙◌, arith}
 use Rattle.std.specs.Prelude.{nat_lt, nat_le, ◌==◌, ◌%◌, if◌then◌else◌}
 use Rattle.std.proofs.lemmas.Bool.{ltb-false}
 use Rattle.std.proofs.lemmas.List.{length-take, length-drop, take_all, take-take, drop-take, drop-drop}
@@ -19,18 +19,8 @@ use Rattle.tc_capture.specs.Order.{number}
 use Rattle.tc_capture.specs.Stream.{is_time, front_of_length, next_in_stream}
 use Rattle.tc_capture.specs.Pcap.{magic_at, header_with, record_header_len, packet_of_length, pcap_header, next_in_pcap}
 use Rattle.tc_capture.specs.PcapNg.{Section, Block, block_order, block_of_length, block_in, next_block, interface_in, interface_at, held_in, timed_of, timed_packet, kept_of, simple_packet, with_interface, new_section, said_by, next_in_section}
+use Rattle.tc_capture_laws.specs.Fronts.{HoldsPacket, IsFront}
 use Rattle.tc_capture.specs.Capture.{State, in_stream, before_header, in_pcap, in_section, next_piece}
-
--- the packet of a piece is in its bytes, where it says that it begins
-abbrev pub HoldsPacket : List ℕ → Outcome (Option Captured) → Type 0
-HoldsPacket piece (Ok (Some p)) = p.bytes ≡ take (length p.bytes) (drop p.at piece)
-HoldsPacket piece (Ok None) = Unit {0}
-HoldsPacket piece (Err e) = Unit {0}
-
-pub record IsFront (bytes : List ℕ) (front : Front) : Type 0 where
-  pub some : 0 < front.used
-  pub within : front.used ≤ length bytes
-  pub packet : HoldsPacket (take front.used bytes) front.packet
 
 -- a test before an error was not so
 pub passes : {X : Type 0} (b : Bool) (e : CaptureError) (o : Outcome X) (x : X) → (if b then Err e else o) ≡ Ok x → (b ≡ false) × (o ≡ Ok x)
