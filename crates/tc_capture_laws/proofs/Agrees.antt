@@ -8,7 +8,8 @@ use Rattle.tc_capture.specs.declared.order.Order.{Order}
 use Rattle.tc_capture.specs.Outcome.{Outcome}
 use Rattle.tc_capture.specs.Message.{Message}
 use Rattle.tc_capture_laws.specs.Reading.{Read, messages_of, reading, messages_read}
-use Rattle.tc_capture_laws.specs.Files.{Packet, IsMessage, IsPacket, IsNoTime, message_bytes, messages_bytes, as_read, alone_as_read, all_messages, stream_file, pcap_file, pcapng_file}
+use Rattle.tc_capture_laws.specs.Files.{Packet, IsMessage, IsPacket, IsNoTime, message_bytes, messages_bytes, as_read, alone_as_read, all_messages}
+use Rattle.tc_capture_laws.specs.Files.{stream_file, pcap_file, pcapng_file}
 use Rattle.tc_capture_laws.proofs.PcapReads.{pcap-read}
 use Rattle.tc_capture_laws.proofs.PcapNgReads.{pcapng-read}
 use Rattle.tc_capture_laws.proofs.StreamReads.{HasAtMost, stream-read}
@@ -18,7 +19,8 @@ ok m = Ok m
 
 packets-hold : (packets : List Packet) → flat_map messages_of (map as_read packets) ≡ map ok (all_messages packets)
 packets-hold [] = refl
-packets-hold (p ∷ packets) = ap (λ (rest : List (Outcome Message)). map ok p.messages ++ rest) (packets-hold packets) ∙ sym (map-append ok p.messages (all_messages packets))
+packets-hold (p ∷ packets) = ap (λ (rest : List (Outcome Message)). map ok p.messages ++ rest) (packets-hold packets)
+    ∙ sym (map-append ok p.messages (all_messages packets))
 
 messages-hold : (messages : List Message) → flat_map messages_of (map alone_as_read messages) ≡ map ok messages
 messages-hold [] = refl

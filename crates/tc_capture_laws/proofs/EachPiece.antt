@@ -4,7 +4,8 @@ use Rattle.std.specs.Prelude.{nat_lt, nat_le, ◌&&◌, if◌then◌else◌}
 use Rattle.std.proofs.lemmas.Bool.{ltb-true, leb-true}
 use Rattle.std.proofs.lemmas.List.{length-drop}
 use Rattle.tc_capture.specs.declared.error.CaptureError.{CaptureError}
-use Rattle.tc_capture.specs.declared.error.CaptureError.TheVariants.{Short, MessageTooShort, NotPcap, NoByteOrder, BlockLength, BlockEnd, BodyTooShort, NoInterface, TooManyInterfaces}
+use Rattle.tc_capture.specs.declared.error.CaptureError.TheVariants.{Short, MessageTooShort, NotPcap, NoByteOrder, BlockLength, BlockEnd, BodyTooShort}
+use Rattle.tc_capture.specs.declared.error.CaptureError.TheVariants.{NoInterface, TooManyInterfaces}
 use Rattle.tc_capture.specs.Outcome.{Outcome}
 use Rattle.tc_capture.specs.Front.{Front}
 use Rattle.tc_capture.specs.Capture.{State, next_piece}

@@ -48,7 +48,8 @@ module _ (bytes : List ℕ) where
   stream-fair : (time : Option Time) → IsFair (next_in_stream time bytes)
   unfolding next_in_stream
   stream-fair time =
-      there-fair 16 _ _ refl (test-fair (nat_lt (length_at bytes) 16) (MessageTooShort (length_at bytes)) _ tt (there-fair (length_at bytes + padding (length_at bytes)) _ _ refl tt))
+      there-fair 16 _ _ refl (test-fair (nat_lt (length_at bytes) 16) (MessageTooShort (length_at bytes)) _ tt
+      (there-fair (length_at bytes + padding (length_at bytes)) _ _ refl tt))
 
   pcap-fair : (file : PcapFile) → IsFair (next_in_pcap file bytes)
   unfolding next_in_pcap
@@ -67,7 +68,8 @@ module _ (bytes : List ℕ) where
   order-fair : (order : Order) → IsFair (block_order order bytes)
   order-fair order =
       choice-fair (number Little 4 bytes == 0x0a0d0d0a) (order_at bytes) (Ok order)
-      (choice-fair (number Little 4 (drop 8 bytes) == 0x1a2b3c4d) (Ok Little) _ tt (choice-fair (number Big 4 (drop 8 bytes) == 0x1a2b3c4d) (Ok Big) (Err NoByteOrder) tt tt)) tt
+      (choice-fair (number Little 4 (drop 8 bytes) == 0x1a2b3c4d) (Ok Little) _ tt
+      (choice-fair (number Big 4 (drop 8 bytes) == 0x1a2b3c4d) (Ok Big) (Err NoByteOrder) tt tt)) tt
 
   block-fair : (order : Order) → IsFair (block_in order bytes)
   unfolding block_in

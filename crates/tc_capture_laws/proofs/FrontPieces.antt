@@ -1,5 +1,6 @@
 -- The piece at the front of some bytes: how long it is, and where its packet is.
-use Rattle.std.proofs.Common.{◌≡◌, ℕ, ◌+◌, ◌-◌, ◌<◌, ◌≤◌, List, length, take, drop, Option, None, Some, Ok, Err, Bool, true, false, refl, sym, ap, subst, ◌∙◌, arith}
+use Rattle.std.proofs.Common.{◌≡◌, ℕ, ◌+◌, ◌-◌, ◌<◌, ◌≤◌, List, length, take, drop, Option, None, Some, Ok, Err, Bool, true, false, refl, sym, ap, subst, ◌∙◌}
+use Rattle.std.proofs.Common.{arith}
 use Rattle.std.specs.Prelude.{nat_lt, nat_le, ◌==◌, ◌%◌, if◌then◌else◌}
 use Rattle.std.proofs.lemmas.Bool.{ltb-false}
 use Rattle.std.proofs.lemmas.List.{length-take, length-drop, take_all, take-take, drop-take, drop-drop}
@@ -18,7 +19,8 @@ use Rattle.tc_capture.specs.Message.{length_at, padding}
 use Rattle.tc_capture.specs.Order.{number}
 use Rattle.tc_capture.specs.Stream.{is_time, front_of_length, next_in_stream}
 use Rattle.tc_capture.specs.Pcap.{magic_at, header_with, record_header_len, packet_of_length, pcap_header, next_in_pcap}
-use Rattle.tc_capture.specs.PcapNg.{Section, Block, block_order, block_of_length, block_in, next_block, interface_in, interface_at, held_in, timed_of, timed_packet, kept_of, simple_packet, with_interface, new_section, said_by, next_in_section}
+use Rattle.tc_capture.specs.PcapNg.{Section, Block, block_order, block_of_length, block_in, next_block, interface_in, interface_at, held_in, timed_of}
+use Rattle.tc_capture.specs.PcapNg.{timed_packet, kept_of, simple_packet, with_interface, new_section, said_by, next_in_section}
 use Rattle.tc_capture_laws.specs.Fronts.{HoldsPacket, IsFront}
 use Rattle.tc_capture.specs.Capture.{State, in_stream, before_header, in_pcap, in_section, next_piece}
 
@@ -33,7 +35,8 @@ whole bytes = sym (take_all (length bytes) bytes (omega arith))
 
 -- ---- a stream
 
-stream_front : (b : Bool) (n : ℕ) (time : Option Time) (bytes : List ℕ) → is_time bytes ≡ b → 0 < n → n ≤ length bytes → IsFront bytes (front_of_length n time bytes).0
+stream_front : (b : Bool) (n : ℕ) (time : Option Time) (bytes : List ℕ) → is_time bytes ≡ b → 0 < n → n ≤ length bytes
+    → IsFront bytes (front_of_length n time bytes).0
 stream_front true n time bytes is some within = rw is (record { some = some; within = within; packet = tt })
 stream_front false n time bytes is some within = rw is (record { some = some; within = within; packet = whole (take n bytes) })
 
@@ -118,7 +121,8 @@ simple-in interfaces order body false is =
     (λ (i : Interface). let n = number order 4 body in held_in i None (nat_le n (kept_of i.most n)) 4 (kept_of i.most n) body) body
     (λ i. held-in i None _ 4 (kept_of i.most (number order 4 body)) body _ refl))
 
-with-interface-in : (s : Section) (body : List ℕ) (read : Outcome Interface) (b : Bool) → (length s.interfaces == 64) ≡ b → InBody body (with_interface s read).0
+with-interface-in : (s : Section) (body : List ℕ) (read : Outcome Interface) (b : Bool) → (length s.interfaces == 64) ≡ b
+    → InBody body (with_interface s read).0
 with-interface-in s body read true is = rw is tt
 with-interface-in s body (Ok interface) false is = rw is tt
 with-interface-in s body (Err e) false is = rw is tt
@@ -207,7 +211,8 @@ packet-in bytes body (Ok (Some p)) within is (begins, ends, inside) =
 section-is : (s : Section) (bytes : List ℕ) (x : Front × Section) → next_in_section s bytes ≡ Ok x → IsFront bytes x.0
 unfolding next_in_section
 section-is s bytes x is =
-    let found = then-ok (next_block s.order bytes) (λ (b : Block). let said = said_by s b in Ok (record { used = 12 + length b.body; packet = said.0 }, said.1)) x is in
+    let found = then-ok (next_block s.order bytes) (λ (b : Block). let said = said_by s b in Ok
+    (record { used = 12 + length b.body; packet = said.0 }, said.1)) x is in
     let b = found.0 in
     let block = next-block s.order bytes b found.1 in
     let same : (record { used = 12 + length b.body; packet = (said_by s b).0 }, (said_by s b).1) ≡ x = cc in

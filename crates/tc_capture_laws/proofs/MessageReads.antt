@@ -1,5 +1,6 @@
 -- Messages that are written are read.
-use Rattle.std.proofs.Common.{◌≡◌, ℕ, zero, suc, ◌+◌, ◌^◌, ◌<◌, ◌≤◌, List, [], ◌∷◌, ◌++◌, All, length, take, drop, map, Ok, Err, Bool, false, refl, sym, ap, ap₂, ◌∙◌, arith}
+use Rattle.std.proofs.Common.{◌≡◌, ℕ, zero, suc, ◌+◌, ◌^◌, ◌<◌, ◌≤◌, List, [], ◌∷◌, ◌++◌, All, length, take, drop, map, Ok, Err, Bool, false, refl, sym, ap}
+use Rattle.std.proofs.Common.{ap₂, ◌∙◌, arith}
 use Rattle.std.specs.Prelude.{nat_lt, if◌then◌else◌}
 use Rattle.std.proofs.lemmas.Bool.{le-ltb}
 use Rattle.std.proofs.lemmas.List.{append_assoc, length-append, length-replicate, take_at, drop_at, drop-take, drop-drop}
@@ -10,7 +11,7 @@ use Rattle.tc_capture.specs.declared.error.CaptureError.TheVariants.{Short, Mess
 use Rattle.tc_capture.specs.Outcome.{Outcome}
 use Rattle.tc_capture.specs.Message.{Message, padding, length_at, message_of_length, next_message}
 use Rattle.tc_capture.specs.Messages.{are_zeros, message_and_rest, messages_up_to, messages_in}
-use Rattle.tc_capture_laws.specs.Written.{in_netlink}
+use Rattle.tc_capture.specs.Written.{in_netlink}
 use Rattle.tc_capture_laws.specs.Files.{IsMessage, zeros, message_bytes, messages_bytes}
 use Rattle.tc_capture_laws.proofs.Numbers.{are_zeros-number}
 
@@ -30,9 +31,10 @@ read-message m bytes behind more after padded long kind flags sequence port with
     let rest : drop k (drop (16 + n) bytes) ≡ more =
     ap (drop k) (sym (drop-drop n 16 bytes) ∙ ap (drop n) after ∙ drop_at m.payload behind n refl ∙ padded)
     ∙ drop_at (zeros k) more k (length-replicate {A = ℕ} k 0) in
-    let made : Message = record { kind = little_number 2 (drop 4 bytes); flags = little_number 2 (drop 6 bytes); sequence = little_number 4 (drop 8 bytes); port = little_number 4 (drop 12 bytes); payload = drop 16 (take (16 + n) bytes) } in
+    let made : Message = message_of_length (16 + n) bytes in
     let same : made ≡ m = fields kind flags sequence port payload in
-    ap (λ (l : ℕ). given (nat_lt (length bytes) 16) (nat_lt l 16) (nat_lt (length bytes) l) l (message_of_length l bytes) (drop (padding l) (drop l bytes))) long
+    ap (λ (l : ℕ). given (nat_lt (length bytes) 16) (nat_lt l 16) (nat_lt (length bytes) l) l (message_of_length l bytes)
+    (drop (padding l) (drop l bytes))) long
     ∙ ap (λ (b : Bool). given b (nat_lt (16 + n) 16) (nat_lt (length bytes) (16 + n)) (16 + n) made (drop k (drop (16 + n) bytes))) no_header
     ∙ ap (λ (b : Bool). given false b (nat_lt (length bytes) (16 + n)) (16 + n) made (drop k (drop (16 + n) bytes))) too_short
     ∙ ap (λ (b : Bool). given false false b (16 + n) made (drop k (drop (16 + n) bytes))) cut
@@ -61,7 +63,8 @@ length_at-message_bytes m more small =
     let turned : n + 16 ≡ 16 + n = omega arith in
     little_number-reads_back 4 (n + 16) [] (omega arith) ∙ turned
 
-pub next_message-message_bytes : (m : Message) (more : List ℕ) → IsMessage m → 16 + length m.payload < 2 ^ 32 → next_message (message_bytes m ++ more) ≡ Ok (m, more)
+pub next_message-message_bytes : (m : Message) (more : List ℕ) → IsMessage m → 16 + length m.payload < 2 ^ 32
+    → next_message (message_bytes m ++ more) ≡ Ok (m, more)
 next_message-message_bytes m more is small =
     let long = length (in_netlink m.kind m.flags m.sequence m.port m.payload) in
     let same : long ≡ 16 + length m.payload = omega arith in
@@ -98,7 +101,12 @@ none-up_to (suc n) = refl
 up_to-messages_bytes : (n : ℕ) (messages : List Message) → All IsMessage messages → length (messages_bytes messages) < 2 ^ 32
     → length (messages_bytes messages) ≤ n → messages_up_to n (messages_bytes messages) ≡ map (λ (m : Message). Ok m) messages
 up_to-messages_bytes n [] all small few = none-up_to n
-up_to-messages_bytes zero (m ∷ messages) all small few = absurd (omega (arith, length-message_bytes m, length-append (message_bytes m) (messages_bytes messages)))
+up_to-messages_bytes zero (m ∷ messages) all small few = absurd (omega (
+  arith,
+  length-message_bytes m,
+  length-append (message_bytes m)
+      (messages_bytes messages),
+))
 up_to-messages_bytes (suc n) (m ∷ messages) all small few =
     let len = length-message_bytes m in
     let sum = length-append (message_bytes m) (messages_bytes messages) in

@@ -1,5 +1,6 @@
 -- What is read at the front of some bytes stays as it is when more bytes are behind them, unless it wants them.
-use Rattle.std.proofs.Common.{◌≡◌, ◌⊎◌, inl, inr, ℕ, ◌+◌, ◌-◌, ◌*◌, ◌%◌, ◌≤◌, List, ◌++◌, length, take, drop, Option, Some, None, Ok, Err, Bool, true, false, refl, sym, ap, ap₂, subst, ◌∙◌, arith}
+use Rattle.std.proofs.Common.{◌≡◌, ◌⊎◌, inl, inr, ℕ, ◌+◌, ◌-◌, ◌*◌, ◌%◌, ◌≤◌, List, ◌++◌, length, take, drop, Option, Some, None, Ok, Err, Bool, true, false}
+use Rattle.std.proofs.Common.{refl, sym, ap, ap₂, subst, ◌∙◌, arith}
 use Rattle.std.specs.Prelude.{nat_lt, nat_le, ◌==◌, ◌&&◌, if◌then◌else◌}
 use Rattle.std.proofs.lemmas.Bool.{ltb-false, leb-true, le-ltb}
 use Rattle.std.proofs.lemmas.List.{length-append, length-drop, take-append-le, drop-append-le}
@@ -84,7 +85,14 @@ module _ (xs ys : List ℕ) where
         all false b e = absurd cc
 
         by : (b : Bool) → is_time xs ≡ b → is_time (xs ++ ys) ≡ b → front_of_length n time (xs ++ ys) ≡ front_of_length n time xs
-        by false is same = rw (is, same) (ap (λ (front : List ℕ). (record { used = n; packet = Ok (Some (record { time = time; link = Plain; is_whole = true; at = 0; bytes = front })) }, time)) (take-append-le n xs ys within))
+        by false is same = rw (is, same) (ap (λ (front : List ℕ). (
+          record {
+            used = n;
+            packet = Ok
+                (Some (record { time = time; link = Plain; is_whole = true; at = 0; bytes = front }));
+          },
+          time,
+        )) (take-append-le n xs ys within))
         by true is same =
             let enough : 24 ≤ length_at xs = leb-true 24 (length_at xs) (all (little_number 2 (drop 4 xs) == 15) (nat_le 24 (length_at xs)) is) in
             let seconds : little_number 4 (drop 16 (xs ++ ys)) ≡ little_number 4 (drop 16 xs) = number-more Little 4 16 (omega arith) in
@@ -120,8 +128,10 @@ module _ (xs ys : List ℕ) where
         let part : number file.order 4 (drop 4 (xs ++ ys)) ≡ number file.order 4 (drop 4 xs) = number-more file.order 4 4 (omega arith) in
         let there : number file.order 4 (drop 12 (xs ++ ys)) ≡ number file.order 4 (drop 12 xs) = number-more file.order 4 12 (omega arith) in
         let front : take (header + n) (xs ++ ys) ≡ take (header + n) xs = take-append-le (header + n) xs ys within in
-        ap₂ (λ (s f : ℕ). made (time_of (s * units + f) units) (nat_le (number file.order 4 (drop 12 (xs ++ ys))) n) (drop header (take (header + n) (xs ++ ys)))) seconds part
-        ∙ ap₂ (λ (o : ℕ) (b : List ℕ). made (time_of (number file.order 4 xs * units + number file.order 4 (drop 4 xs)) units) (nat_le o n) (drop header b)) there front
+        ap₂ (λ (s f : ℕ). made (time_of (s * units + f) units) (nat_le (number file.order 4 (drop 12 (xs ++ ys))) n)
+        (drop header (take (header + n) (xs ++ ys)))) seconds part
+        ∙ ap₂ (λ (o : ℕ) (b : List ℕ). made (time_of (number file.order 4 xs * units + number file.order 4 (drop 4 xs)) units) (nat_le o n)
+        (drop header b)) there front
       where
         made : Time → Bool → List ℕ → Captured
         made t w b = record { time = Some t; link = file.link; is_whole = w; at = record_header_len file.variant; bytes = b }
@@ -160,7 +170,8 @@ module _ (xs ys : List ℕ) where
       let kind : number Little 4 (xs ++ ys) ≡ number Little 4 xs = number-more Little 4 0 (omega arith) in
       let little : number Little 4 (drop 8 (xs ++ ys)) ≡ number Little 4 (drop 8 xs) = number-more Little 4 8 (omega arith) in
       let big : number Big 4 (drop 8 (xs ++ ys)) ≡ number Big 4 (drop 8 xs) = number-more Big 4 8 (omega arith) in
-      ap₂ (λ (l b : ℕ). given (number Little 4 (xs ++ ys)) l b) little big ∙ ap (λ (k : ℕ). given k (number Little 4 (drop 8 xs)) (number Big 4 (drop 8 xs))) kind
+      ap₂ (λ (l b : ℕ). given (number Little 4 (xs ++ ys)) l b) little big
+      ∙ ap (λ (k : ℕ). given k (number Little 4 (drop 8 xs)) (number Big 4 (drop 8 xs))) kind
     where
       given : ℕ → ℕ → ℕ → Outcome Order
       given k l b = if k == 0x0a0d0d0a then (if l == 0x1a2b3c4d then Ok Little else if b == 0x1a2b3c4d then Ok Big else Err NoByteOrder) else Ok order
@@ -183,7 +194,8 @@ module _ (xs ys : List ℕ) where
         let kind : number order 4 (xs ++ ys) ≡ number order 4 xs = number-more order 4 0 (omega arith) in
         let body : take (l - 4) (xs ++ ys) ≡ take (l - 4) xs = take-append-le (l - 4) xs ys (omega arith) in
         ap (λ (e : ℕ). if e == l then Ok (block_of_length l order (xs ++ ys)) else Err (BlockEnd l e)) end
-        ∙ ap₂ (λ (k : ℕ) (b : List ℕ). if number order 4 (drop (l - 4) xs) == l then Ok (made k b) else Err (BlockEnd l (number order 4 (drop (l - 4) xs)))) kind body
+        ∙ ap₂ (λ (k : ℕ) (b : List ℕ). if number order 4 (drop (l - 4) xs) == l then Ok (made k b) else Err
+        (BlockEnd l (number order 4 (drop (l - 4) xs)))) kind body
       where
         made : ℕ → List ℕ → Block
         made k b = record { order = order; kind = k; body = drop 8 b }
@@ -207,8 +219,10 @@ module _ (xs ys : List ℕ) where
   next-block-stays : (order : Order) → Stays (next_block order xs) (next_block order (xs ++ ys))
   unfolding next_block
   next-block-stays order =
-      there-stays 12 (then_read (block_order order xs) (λ o. block_in o xs)) (then_read (block_order order (xs ++ ys)) (λ o. block_in o (xs ++ ys))) _ refl (λ enough.
-      subst (λ (f : Outcome Order). Stays (then_read (block_order order xs) (λ o. block_in o xs)) (then_read f (λ o. block_in o (xs ++ ys)))) (sym (order-stays order enough))
+      there-stays 12 (then_read (block_order order xs) (λ o. block_in o xs)) (then_read (block_order order (xs ++ ys)) (λ o. block_in o (xs ++ ys))) _ refl
+      (λ enough.
+      subst (λ (f : Outcome Order). Stays (then_read (block_order order xs) (λ o. block_in o xs)) (then_read f (λ o. block_in o (xs ++ ys))))
+      (sym (order-stays order enough))
       (ordered-stays enough (block_order order xs)))
 
   section-stays : (s : Section) → Stays (next_in_section s xs) (next_in_section s (xs ++ ys))

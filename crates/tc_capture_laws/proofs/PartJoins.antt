@@ -1,5 +1,6 @@
 -- The parts of a file, joined, are the file.
-use Rattle.std.proofs.Common.{◌≡◌, ℕ, zero, suc, ◌+◌, ◌-◌, ◌≤◌, List, [], ◌∷◌, ◌++◌, length, take, drop, Option, Some, None, Ok, Err, Bool, true, false, inl, inr, refl, sym, ap, subst, ◌∙◌, arith}
+use Rattle.std.proofs.Common.{◌≡◌, ℕ, zero, suc, ◌+◌, ◌-◌, ◌≤◌, List, [], ◌∷◌, ◌++◌, length, take, drop, Option, Some, None, Ok, Err, Bool, true, false, inl}
+use Rattle.std.proofs.Common.{inr, refl, sym, ap, subst, ◌∙◌, arith}
 use Rattle.std.specs.Prelude.{nat_lt, ◌==◌, if◌then◌else◌}
 use Rattle.std.proofs.lemmas.Bool.{cases_lt}
 use Rattle.std.proofs.lemmas.List.{append-nil, length-take, length-drop, take-append-drop, take-take, take_all, drop_all, drop-drop}
@@ -17,7 +18,8 @@ use Rattle.tc_capture.proofs.Steps.{length-next_message}
 use Rattle.tc_capture_laws.specs.Fronts.{HoldsPacket}
 use Rattle.tc_capture_laws.specs.Pieces as pieces
 use Rattle.tc_capture_laws.specs.Pieces.{What, Piece, pieces_in}
-use Rattle.tc_capture_laws.specs.Parts.{Kind, Part, part, before_last, message_and_more, message_parts_up_to, message_parts, contents_parts, read_parts, what_parts, parts_in, joined, messages_of, zeros, format}
+use Rattle.tc_capture_laws.specs.Parts.{Kind, Part, part, before_last, message_and_more, message_parts_up_to, message_parts, contents_parts, read_parts}
+use Rattle.tc_capture_laws.specs.Parts.{what_parts, parts_in, joined, messages_of, zeros, format}
 use Rattle.tc_capture_laws.proofs.FrontPieces.{passes}
 use Rattle.tc_capture_laws.proofs.EachPiece.{each-piece}
 
@@ -125,7 +127,8 @@ parts-join most s bytes =
     let within : next.0.used ≤ most = omega (arith, length-take most bytes, front.within) in
     let piece : take next.0.used (take most bytes) ≡ take next.0.used bytes = take-take next.0.used most bytes within in
     let holds = subst (λ (b : List ℕ). HoldsPacket b next.0.packet) piece front.packet in
-    more-joined (pieces.read next.0.packet) (take next.0.used bytes) more (drop next.0.used bytes) (read-joined next.0.packet (take next.0.used bytes) holds) later
+    more-joined (pieces.read next.0.packet) (take next.0.used bytes) more (drop next.0.used bytes)
+    (read-joined next.0.packet (take next.0.used bytes) holds) later
     ∙ take-append-drop next.0.used bytes)
     (λ needed bytes more some here later.
     more-joined pieces.skipped (take needed bytes) more (drop needed bytes) (append-nil (take needed bytes)) later ∙ take-append-drop needed bytes)

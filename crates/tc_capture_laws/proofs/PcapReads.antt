@@ -1,5 +1,6 @@
 -- A file of pcap that is written is read.
-use Rattle.std.proofs.Common.{◌≡◌, ℕ, ◌+◌, ◌-◌, ◌*◌, ◌%◌, ◌^◌, ◌<◌, ◌≤◌, List, [], ◌∷◌, ◌++◌, All, length, take, drop, map, Some, None, Ok, Err, Bool, true, false, refl, sym, ap, ap₂, ◌∙◌, arith}
+use Rattle.std.proofs.Common.{◌≡◌, ℕ, ◌+◌, ◌-◌, ◌*◌, ◌%◌, ◌^◌, ◌<◌, ◌≤◌, List, [], ◌∷◌, ◌++◌, All, length, take, drop, map, Some, None, Ok, Err, Bool, true}
+use Rattle.std.proofs.Common.{false, refl, sym, ap, ap₂, ◌∙◌, arith}
 use Rattle.std.specs.Prelude.{nat_lt, nat_le, if◌then◌else◌}
 use Rattle.std.specs.List.{flat_map}
 use Rattle.std.proofs.lemmas.Bool.{le-ltb, le-leb}
@@ -21,9 +22,10 @@ use Rattle.tc_capture.specs.Pcap.{header_with, magic_at, pcap_header, next_in_pc
 use Rattle.tc_capture.specs.Capture.{before_header, in_pcap}
 use Rattle.tc_capture_laws.specs.Pieces.{pieces_up_to, pieces_in}
 use Rattle.tc_capture_laws.specs.Reading.{Read, read_in, reading}
-use Rattle.tc_capture_laws.specs.Written.{in_netlink, packet_header}
+use Rattle.tc_capture.specs.Written.{in_netlink, packet_header}
 use Rattle.tc_capture_laws.specs.Files as files
-use Rattle.tc_capture_laws.specs.Files.{Packet, IsPacket, HasNoPadding, zeros, message_bytes, messages_bytes, packet_bytes, as_read, pcap_record, pcap_file, written_messages, written_packet, written_file}
+use Rattle.tc_capture_laws.specs.Files.{Packet, IsPacket, HasNoPadding, zeros, message_bytes, messages_bytes, packet_bytes, as_read, pcap_record, pcap_file}
+use Rattle.tc_capture_laws.specs.Files.{written_messages, written_packet, written_file}
 use Rattle.tc_capture_laws.proofs.Numbers.{number-number_bytes, time_of-nanoseconds}
 use Rattle.tc_capture_laws.proofs.Steps.{step, ends, captured, packet_of-captured}
 
@@ -45,8 +47,10 @@ read-record order p bytes more after seconds nanoseconds here there within fits 
     let held : drop 16 (take (16 + n) bytes) ≡ packet_bytes p = drop-take 16 n bytes ∙ ap (take n) after ∙ take_at (packet_bytes p) more n refl in
     let time : time_of (number order 4 bytes * 1000000000 + number order 4 (drop 4 bytes)) 1000000000 ≡ p.time =
     ap₂ (λ (s f : ℕ). time_of (s * 1000000000 + f) 1000000000) seconds nanoseconds ∙ time_of-nanoseconds p.time fits in
-    ap₂ (λ (l : ℕ) (o : ℕ). given (nat_lt (length bytes) 16) (nat_lt (length bytes) (16 + l)) l (time_of (number order 4 bytes * 1000000000 + number order 4 (drop 4 bytes)) 1000000000) (nat_le o l) (drop 16 (take (16 + l) bytes))) here there
-    ∙ ap₂ (λ (a b : Bool). given a b n (time_of (number order 4 bytes * 1000000000 + number order 4 (drop 4 bytes)) 1000000000) (nat_le n n) (drop 16 (take (16 + n) bytes))) header cut
+    ap₂ (λ (l : ℕ) (o : ℕ). given (nat_lt (length bytes) 16) (nat_lt (length bytes) (16 + l)) l
+    (time_of (number order 4 bytes * 1000000000 + number order 4 (drop 4 bytes)) 1000000000) (nat_le o l) (drop 16 (take (16 + l) bytes))) here there
+    ∙ ap₂ (λ (a b : Bool). given a b n (time_of (number order 4 bytes * 1000000000 + number order 4 (drop 4 bytes)) 1000000000) (nat_le n n)
+    (drop 16 (take (16 + n) bytes))) header cut
     ∙ ap (λ (t : Time). given false false n t (nat_le n n) (drop 16 (take (16 + n) bytes))) time
     ∙ ap₂ (λ (w : Bool) (d : List ℕ). given false false n p.time w d) whole held
   where
@@ -110,7 +114,8 @@ file-read order longest most packets room small all least header len is n few =
     (λ m less. records-read order longest most packets room small all m less)
 
 -- whatever the header says of the longest packet
-pub pcap-read : (order : Order) (said longest most : ℕ) (packets : List Packet) → longest + 16 ≤ most → most < 2 ^ 32 → 24 ≤ most → All (IsPacket longest) packets
+pub pcap-read : (order : Order) (said longest most : ℕ) (packets : List Packet) → longest + 16 ≤ most → most < 2 ^ 32 → 24 ≤ most
+    → All (IsPacket longest) packets
     → reading most (pcap_file order said packets) ≡ Some (map as_read packets)
 unfolding pieces_in
 pcap-read Little said longest most packets room small least all =

@@ -52,7 +52,8 @@ abbrev pub captured : Packet → ℕ → Captured
 captured p at = record { time = Some p.time; link = Cooked; is_whole = true; at = at; bytes = packet_bytes p }
 
 -- its packet is read of its bytes
-pub packet_of-captured : (p : Packet) (most at : ℕ) → IsPacket most p → most < 2 ^ 32 → packet_of (captured p at) (contents_in Cooked (packet_bytes p)) ≡ as_read p
+pub packet_of-captured : (p : Packet) (most at : ℕ) → IsPacket most p → most < 2 ^ 32
+    → packet_of (captured p at) (contents_in Cooked (packet_bytes p)) ≡ as_read p
 packet_of-captured p most at is small =
     let bytes = packet_bytes p in
     let within = is.length in
@@ -60,6 +61,7 @@ packet_of-captured p most at is small =
     let type : big_number 2 bytes ≡ p.packet_type = big_number-reads_back 2 p.packet_type [] is.packet_type in
     let read : messages_in (messages_bytes p.messages) ≡ map (λ (m : Message). Ok m) p.messages =
     messages_in-messages_bytes p.messages is.messages (omega arith) in
-    ap (λ (b : Bool). packet_of (captured p at) (if b then Err (Short 16 (length bytes)) else Ok (route (Some (big_number 2 bytes)) (messages_bytes p.messages)))) header
+    ap (λ (b : Bool). packet_of (captured p at) (if b then Err (Short 16 (length bytes)) else Ok
+    (route (Some (big_number 2 bytes)) (messages_bytes p.messages)))) header
     ∙ ap (λ (n : ℕ). reading.packet (record { time = Some p.time; packet_type = Some n; messages = messages_in (messages_bytes p.messages) })) type
     ∙ ap (λ (ms : List (Outcome Message)). reading.packet (record { time = Some p.time; packet_type = Some p.packet_type; messages = ms })) read

@@ -1,5 +1,6 @@
 -- A stream that is written is read.
-use Rattle.std.proofs.Common.{◌≡◌, ◌≢◌, ℕ, ◌+◌, ◌/◌, ◌%◌, ◌^◌, ◌<◌, ◌≤◌, List, [], ◌∷◌, ◌++◌, All, length, take, drop, map, Option, Some, None, Ok, Err, Bool, true, false, refl, sym, ap, ap₂, ◌∙◌, arith}
+use Rattle.std.proofs.Common.{◌≡◌, ◌≢◌, ℕ, ◌+◌, ◌/◌, ◌%◌, ◌^◌, ◌<◌, ◌≤◌, List, [], ◌∷◌, ◌++◌, All, length, take, drop, map, Option, Some, None, Ok, Err, Bool}
+use Rattle.std.proofs.Common.{true, false, refl, sym, ap, ap₂, ◌∙◌, arith}
 use Rattle.std.specs.Prelude.{nat_lt, nat_le, is_some, option_map, ◌==◌, ◌&&◌, if◌then◌else◌}
 use Rattle.std.proofs.lemmas.Bool.{lt-ltb, le-ltb, ne_eqb}
 use Rattle.std.proofs.lemmas.List.{append-nil, length-append, take_at}
@@ -55,7 +56,8 @@ stream-capture x small =
   where
     given : Bool → Bool → Bool → Option State
     given a b c =
-        if a then Some before_header else if b then Some (in_section (record { order = Little; interfaces = [] })) else if c then Some (in_stream None) else None
+        if a then Some before_header else if b then Some (in_section (record { order = Little; interfaces = [] })) else if c then Some
+        (in_stream None) else None
 
 -- ---- its messages
 
@@ -119,7 +121,8 @@ messages-read most (m ∷ messages) small are others short n few =
     ∙ ap (λ (ms : List (Outcome Message)). reading.packet (record { time = None; packet_type = None; messages = ms }) ∷ map alone_as_read messages)
     (alone-read m is (omega arith))
 
-pub stream-read : (most : ℕ) (messages : List Message) → most < 2 ^ 24 → messages ≢ [] → All IsMessage messages → All IsNoTime messages → All (HasAtMost most) messages
+pub stream-read : (most : ℕ) (messages : List Message) → most < 2 ^ 24 → messages ≢ [] → All IsMessage messages → All IsNoTime messages
+    → All (HasAtMost most) messages
     → reading.reading most (stream_file messages) ≡ Some (map alone_as_read messages)
 unfolding pieces_in
 stream-read most [] small some are others short = absurd (some refl)
@@ -127,5 +130,6 @@ stream-read most (m ∷ messages) small some are others short =
     let fits = All-head (HasAtMost most) m messages short in
     let len = length-message_bytes m in
     let file = messages_bytes (m ∷ messages) in
-    ap (λ (c : Option State). option_map read_in (option_map (λ (s : State). pieces_in most s file) c)) (stream-capture (length m.payload + 16) (omega (arith, len)))
+    ap (λ (c : Option State). option_map read_in (option_map (λ (s : State). pieces_in most s file) c))
+    (stream-capture (length m.payload + 16) (omega (arith, len)))
     ∙ ap (λ (r : List Read). Some r) (messages-read most (m ∷ messages) (omega arith) are others short (length file) (omega arith))

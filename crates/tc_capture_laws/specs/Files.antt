@@ -6,7 +6,7 @@ use Rattle.tc_capture.specs.declared.order.Order.{Order}
 use Rattle.tc_capture.specs.declared.order.Order.TheVariants.{Little, Big}
 use Rattle.tc_capture.specs.declared.time.Time.{Time}
 use Rattle.tc_capture.specs.Message.{Message, padding}
-use Rattle.tc_capture_laws.specs.Written.{in_netlink, cooked, file_header, packet_header}
+use Rattle.tc_capture.specs.Written.{in_netlink, cooked, file_header, packet_header}
 use Rattle.tc_capture_laws.specs.Reading.{Read, packet}
 
 -- a packet: when it was captured, the type in its cooked header, and its messages

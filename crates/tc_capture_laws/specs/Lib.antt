@@ -2,5 +2,4 @@ pub mod Fronts
 pub mod Pieces
 pub mod Parts
 pub mod Reading
-pub mod Written
 pub mod Files

@@ -4,7 +4,8 @@ ghost use Rattle.std.specs.Prelude.{◌≡◌, ◌≢◌, ◌+◌, ◌<◌, ◌�
 ghost use Rattle.tc_capture.specs.declared.order.Order.{Order};
 ghost use Rattle.tc_capture.specs.Message.{Message};
 ghost use Rattle.tc_capture_laws.specs.Reading.{reading, messages_read};
-ghost use Rattle.tc_capture_laws.specs.Files.{Packet, IsMessage, IsPacket, IsNoTime, HasNoPadding, message_bytes, as_read, alone_as_read, all_messages, written_file, stream_file, pcap_file, pcapng_file};
+ghost use Rattle.tc_capture_laws.specs.Files.{Packet, IsMessage, IsPacket, IsNoTime, HasNoPadding, message_bytes, all_messages};
+ghost use Rattle.tc_capture_laws.specs.Files.{as_read, alone_as_read, written_file, stream_file, pcap_file, pcapng_file};
 
 /// Packets that are written as a capture are read as the same packets in order: each with its time, its packet type, and
 /// its messages, of which each has its type, flags, sequence number, port and payload.
