@@ -1,0 +1,10 @@
+use Rattle.tc_kinds_laws.proofs.Parts.{every_part}
+use Rattle.tc_kinds_laws.proofs.attributes_are_apart.Goals as goal
+
+pub returns : goal.returns
+returns c = record {
+  types = λ place kind. ((every_part place).rows kind).types;
+  names = λ place kind. ((every_part place).rows kind).names;
+  counted = λ place kind. ((every_part place).rows kind).counted;
+  kinds = λ place. (every_part place).kinds;
+}
