@@ -8,14 +8,14 @@ use Rattle.tc_forms.specs.Places.{choices_of, fields_of, kind_place, names_of, r
 use Rattle.tc_forms.specs.Records.{names_apart}
 use Rattle.tc_forms.specs.Tables.{Choices, Fields, KindRows, Kinds, Names, One, Part, Row, Rows, Table}
 use Rattle.tc_kinds.specs.Table.{tc_tables}
-use Rattle.tc_kinds_laws.specs.Apart.{texts_differ, numbers_differ, types_of_rows, names_of_rows, all_count}
+use Rattle.tc_kinds_laws.specs.Apart.{texts_differ, numbers_differ, types_of_rows, names_of_rows, all_count, all_shown}
 use Rattle.tc_kinds_laws.specs.Apart.{numbers_named, names_of_numbers, names_of_choices, none_reserved, kinds_of}
-use Rattle.tc_kinds_laws.specs.Sorts.{names_its_parts}
+use Rattle.tc_kinds_laws.specs.Sorts.{names_its_parts, leaves_kinds}
 
 -- ---- tests of a part
 
 abbrev pub rows_apart : List Row → Bool
-rows_apart rows = numbers_differ (types_of_rows rows) && (texts_differ (names_of_rows rows) && all_count rows)
+rows_apart rows = numbers_differ (types_of_rows rows) && (texts_differ (names_of_rows rows) && (all_count rows && all_shown rows))
 
 -- the rows at a place, and those of every kind behind them
 abbrev pub apart_with : Table → ℕ → ℕ → Bool
@@ -35,7 +35,8 @@ is_sound table part =
     && (none_reserved (names_of_choices (choices_of part))
     && (numbers_differ (numbers_named (names_of part))
     && (texts_differ (names_of_numbers (names_of part))
-    && names_its_parts table part))))))
+    && (names_its_parts table part
+    && leaves_kinds table part)))))))
 
 -- ---- what the tests say
 
@@ -43,12 +44,14 @@ pub record RowsApart (rows : List Row) : Type 0 where
   pub types : numbers_differ (types_of_rows rows) ≡ true
   pub names : texts_differ (names_of_rows rows) ≡ true
   pub counted : all_count rows ≡ true
+  pub shown : all_shown rows ≡ true
 
 are_apart : (rows : List Row) → rows_apart rows ≡ true → RowsApart rows
 are_apart rows e =
-    let one : (numbers_differ (types_of_rows rows) ≡ true) × (texts_differ (names_of_rows rows) && all_count rows ≡ true) = and_parts _ _ e in
-    let two : (texts_differ (names_of_rows rows) ≡ true) × (all_count rows ≡ true) = and_parts _ _ one.1 in
-    record { types = one.0; names = two.0; counted = two.1 }
+    let a : (numbers_differ (types_of_rows rows) ≡ true) × (_ ≡ true) = and_parts _ _ e in
+    let b : (texts_differ (names_of_rows rows) ≡ true) × (_ ≡ true) = and_parts _ _ a.1 in
+    let c : (all_count rows ≡ true) × (all_shown rows ≡ true) = and_parts _ _ b.1 in
+    record { types = a.0; names = b.0; counted = c.0; shown = c.1 }
 
 -- those of the place that a kind has, if those of all places are
 at_kind : (table : Table) (kind : List ℕ) (common others : ℕ) (kinds : List KindRows)
@@ -67,10 +70,10 @@ under_kind table kind (Rows layer rows) e = are_apart rows e
 under_kind table kind (Kinds common others kinds) e =
     let parts : (apart_with table common others ≡ true) × (list_all (λ k. apart_with table common k.rows) kinds ≡ true) = and_parts _ _ e in
     are_apart _ (at_kind table kind common others kinds parts.0 parts.1)
-under_kind table kind (One f) e = record { types = refl; names = refl; counted = refl }
-under_kind table kind (Names names) e = record { types = refl; names = refl; counted = refl }
-under_kind table kind (Fields fields) e = record { types = refl; names = refl; counted = refl }
-under_kind table kind (Choices choices) e = record { types = refl; names = refl; counted = refl }
+under_kind table kind (One f) e = record { types = refl; names = refl; counted = refl; shown = refl }
+under_kind table kind (Names names) e = record { types = refl; names = refl; counted = refl; shown = refl }
+under_kind table kind (Fields fields) e = record { types = refl; names = refl; counted = refl; shown = refl }
+under_kind table kind (Choices choices) e = record { types = refl; names = refl; counted = refl; shown = refl }
 
 -- ---- sound parts
 
@@ -83,6 +86,7 @@ pub record Sound (part : Part) : Type 0 where
   pub numbers : numbers_differ (numbers_named (names_of part)) ≡ true
   pub names : texts_differ (names_of_numbers (names_of part)) ≡ true
   pub places : names_its_parts tc_tables part ≡ true
+  pub told : leaves_kinds tc_tables part ≡ true
 
 pub sound : (part : Part) → is_sound tc_tables part ≡ true → Sound part
 sound part e =
@@ -92,7 +96,8 @@ sound part e =
     let d : (texts_differ (names_of_choices (choices_of part)) ≡ true) × (_ ≡ true) = and_parts _ _ c.1 in
     let f : (none_reserved (names_of_choices (choices_of part)) ≡ true) × (_ ≡ true) = and_parts _ _ d.1 in
     let g : (numbers_differ (numbers_named (names_of part)) ≡ true) × (_ ≡ true) = and_parts _ _ f.1 in
-    let h : (texts_differ (names_of_numbers (names_of part)) ≡ true) × (names_its_parts tc_tables part ≡ true) = and_parts _ _ g.1 in
+    let h : (texts_differ (names_of_numbers (names_of part)) ≡ true) × (_ ≡ true) = and_parts _ _ g.1 in
+    let l : (names_its_parts tc_tables part ≡ true) × (leaves_kinds tc_tables part ≡ true) = and_parts _ _ h.1 in
     record {
       rows = λ kind. under_kind tc_tables kind part a.0;
       kinds = b.0;
@@ -101,7 +106,8 @@ sound part e =
       unreserved = f.0;
       numbers = g.0;
       names = h.0;
-      places = h.1;
+      places = l.0;
+      told = l.1;
     }
 
 -- ---- tables

@@ -1,7 +1,7 @@
 -- Texts and numbers of a table, no two of which are the same.
-use Rattle.std.specs.Prelude.{Bool, List, [], bytes_eq, map, not, true, ℕ, ◌&&◌, ◌==◌, ◌∷◌}
+use Rattle.std.specs.Prelude.{Bool, List, [], bytes_eq, is_some, map, not, true, ℕ, ◌&&◌, ◌==◌, ◌∷◌}
 use Rattle.std.specs.List.{list_all}
-use Rattle.tc_forms.specs.Rows.{counts, is_reserved, type_of}
+use Rattle.tc_forms.specs.Rows.{counts, is_reserved, shown_row, type_of}
 use Rattle.tc_forms.specs.Tables.{Choice, Kinds, Name, Part, Row}
 
 module _ {T : Type 0} (same : T → T → Bool) where
@@ -32,6 +32,14 @@ names_of_rows rows = map (λ r. r.name) rows
 -- no row has a name that is reserved
 abbrev pub all_count : List Row → Bool
 all_count rows = list_all counts rows
+
+-- each row shows the attributes of its type
+abbrev pub all_shown : List Row → Bool
+all_shown rows = list_all (λ r. is_some (shown_row rows r.word)) rows
+
+-- no row has the type of a kind, by which no row is asked for in a list with kinds
+abbrev pub none_is_kind : List Row → Bool
+none_is_kind rows = list_all (λ r. not (type_of r.word == 1)) rows
 
 -- ---- names of numbers, choices, kinds
 

@@ -3,7 +3,9 @@ use Rattle.std.specs.Prelude.{Bool, List, [], false, map, true, ℕ, ◌&&◌, �
 use Rattle.std.specs.List.{list_all}
 use Rattle.tc_forms.specs.declared.form.Form.{Form}
 use Rattle.tc_forms.specs.declared.form.Form.TheVariants as form
+use Rattle.tc_forms.specs.Places.{rows_of}
 use Rattle.tc_forms.specs.Tables.{Choices, Fields, Kinds, Names, One, Part, Rows, Table}
+use Rattle.tc_kinds_laws.specs.Apart.{none_is_kind}
 
 -- ---- sorts of parts. A place of a table that has no part holds the form of bytes
 
@@ -67,6 +69,16 @@ forms_in (Choices choices) = map (λ c. c.form) choices
 abbrev pub places_of_rows : Part → List ℕ
 places_of_rows (Kinds common others kinds) = common ∷ others ∷ map (λ k. k.rows) kinds
 places_of_rows part = []
+
+-- a list with kinds has no row of the type that sets a kind
+abbrev pub leaves_kind : Table → Form → Bool
+leaves_kind table (form.InForce i) = list_all (λ n. none_is_kind (rows_of (table n))) (places_of_rows (table i))
+leaves_kind table (form.Own i) = list_all (λ n. none_is_kind (rows_of (table n))) (places_of_rows (table i))
+leaves_kind table f = true
+
+-- no list with kinds that a part holds has such a row
+abbrev pub leaves_kinds : Table → Part → Bool
+leaves_kinds table part = list_all (leaves_kind table) (forms_in part)
 
 -- all that a part names is there, and of its sort
 abbrev pub names_its_parts : Table → Part → Bool

@@ -6,16 +6,19 @@ ghost use Rattle.std.specs.Prelude.{ℕ, List, IsTrue};
 ghost use Rattle.tc_forms.specs.Places.{rows_under, fields_of, choices_of, names_of};
 ghost use Rattle.tc_forms.specs.Records.{names_apart};
 ghost use Rattle.tc_kinds.specs.Table.{tc_tables, tc_message, action_message};
-ghost use Rattle.tc_kinds_laws.specs.Apart.{texts_differ, numbers_differ, types_of_rows, names_of_rows, all_count};
+ghost use Rattle.tc_kinds_laws.specs.Apart.{texts_differ, numbers_differ, types_of_rows, names_of_rows, all_count, all_shown};
 ghost use Rattle.tc_kinds_laws.specs.Apart.{numbers_named, names_of_numbers, names_of_choices, none_reserved, kinds_of};
-ghost use Rattle.tc_kinds_laws.specs.Sorts.{names_its_part, names_its_parts};
+ghost use Rattle.tc_kinds_laws.specs.Sorts.{names_its_part, names_its_parts, leaves_kinds};
 
-/// The attributes of each list, under any kind: no two have one type or one name, and none has a name that is reserved.
+/// The attributes of each list, under any kind: no two have one type or one name, none has a name that is reserved, and each type is shown by its row.
+/// No kind has rows twice, and no row of a list with kinds has the type that sets a kind.
 pub fn attributes_are_apart()
     ensures types { (place : ℕ) (kind : List ℕ) → IsTrue (numbers_differ (types_of_rows (rows_under tc_tables place kind))) }
     ensures names { (place : ℕ) (kind : List ℕ) → IsTrue (texts_differ (names_of_rows (rows_under tc_tables place kind))) }
     ensures counted { (place : ℕ) (kind : List ℕ) → IsTrue (all_count (rows_under tc_tables place kind)) }
+    ensures shown { (place : ℕ) (kind : List ℕ) → IsTrue (all_shown (rows_under tc_tables place kind)) }
     ensures kinds { (place : ℕ) → IsTrue (texts_differ (kinds_of (tc_tables place))) }
+    ensures told { (place : ℕ) → IsTrue (leaves_kinds tc_tables (tc_tables place)) }
 {}
 
 /// The fields of each record, and each list of choices: no two have one name, and none has a name that is reserved.

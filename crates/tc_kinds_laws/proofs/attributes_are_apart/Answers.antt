@@ -6,5 +6,7 @@ returns c = record {
   types = λ place kind. ((every_part place).rows kind).types;
   names = λ place kind. ((every_part place).rows kind).names;
   counted = λ place kind. ((every_part place).rows kind).counted;
+  shown = λ place kind. ((every_part place).rows kind).shown;
   kinds = λ place. (every_part place).kinds;
+  told = λ place. (every_part place).told;
 }
