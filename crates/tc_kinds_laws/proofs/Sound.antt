@@ -86,7 +86,7 @@ pub record Sound (part : Part) : Type 0 where
   pub numbers : numbers_differ (numbers_named (names_of part)) ≡ true
   pub names : texts_differ (names_of_numbers (names_of part)) ≡ true
   pub places : names_its_parts tc_tables part ≡ true
-  pub told : leaves_kinds tc_tables part ≡ true
+  pub beside_kinds : leaves_kinds tc_tables part ≡ true
 
 pub sound : (part : Part) → is_sound tc_tables part ≡ true → Sound part
 sound part e =
@@ -107,7 +107,7 @@ sound part e =
       numbers = g.0;
       names = h.0;
       places = l.0;
-      told = l.1;
+      beside_kinds = l.1;
     }
 
 -- ---- tables

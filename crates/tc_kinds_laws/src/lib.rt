@@ -18,7 +18,7 @@ pub fn attributes_are_apart()
     ensures counted { (place : ℕ) (kind : List ℕ) → IsTrue (all_count (rows_under tc_tables place kind)) }
     ensures shown { (place : ℕ) (kind : List ℕ) → IsTrue (all_shown (rows_under tc_tables place kind)) }
     ensures kinds { (place : ℕ) → IsTrue (texts_differ (kinds_of (tc_tables place))) }
-    ensures told { (place : ℕ) → IsTrue (leaves_kinds tc_tables (tc_tables place)) }
+    ensures beside_kinds { (place : ℕ) → IsTrue (leaves_kinds tc_tables (tc_tables place)) }
 {}
 
 /// The fields of each record, and each list of choices: no two have one name, and none has a name that is reserved.
