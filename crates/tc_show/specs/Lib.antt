@@ -1,3 +1,4 @@
 pub mod Status
 pub mod Writing
+pub mod Found
 pub mod Line

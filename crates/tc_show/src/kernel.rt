@@ -1,21 +1,19 @@
 //! Answers of the kernel to requests of traffic control.
 
-ghost use Rattle.std.specs.Prelude.{◌≡◌, IfOk, List, Option, option_map};
-ghost use Rattle.serde.specs.Event.{Event};
-ghost use Rattle.tc_show.specs.Line.{IsQuoted, IsAnswered};
+ghost use Rattle.std.specs.Prelude.{◌≡◌, IfOk};
+ghost use Rattle.tc_show.specs.Found.{header_view};
+ghost use Rattle.tc_show.specs.Line.{IsAnswered};
 
 use crate::desk::{Desk, layout_of};
 use crate::found::{Found, Header, Origin, header_of};
-use crate::json::{Answered, Said};
+use crate::json::{AnswerLine, Quoted, Said};
 use crate::line::json_of;
 use crate::pages::{show_name, show_time_of, some_text, text_of, time_page};
-use crate::shows::Shows;
-use nla_frames::{DecodeError, strip_nul};
+use nla_frames::strip_nul;
 use std::alloc::{AllocError, Allocator, Global};
 use std::str;
-use tc_capture::{Answer, Holds, NLMSG_HEADER_LEN, NetlinkMessage, answer_in, errno_name};
+use tc_capture::{Answer, NLMSG_HEADER_LEN, NetlinkMessage, answer_in, errno_name};
 use tc_outline::{Layout, Page, outline, path_at};
-use tc_wire::{TcActionMessage, TcMessage};
 
 /// An answer of the kernel to a request of traffic control.
 #[derive(Clone, Copy)]
@@ -172,62 +170,16 @@ fn reply_line<A: Allocator + Copy>(
     json: Global,
     errno: &str,
     reply: &Reply<'_>,
-) -> Result<Vec<u8>, AllocError> {
-    match reply.request.holds {
-        Holds::Tc => reply_as::<A, TcMessage<A>>(alloc, json, errno, reply),
-        Holds::Action => reply_as::<A, TcActionMessage<A>>(alloc, json, errno, reply),
-    }
-}
-
-fn reply_as<A: Allocator + Copy, M: Shows<A> + Drop>(
-    alloc: A,
-    json: Global,
-    errno: &str,
-    reply: &Reply<'_>,
 ) -> Result<Vec<u8>, AllocError>
-    ensures { IfOk result (λ line. (message : Option (List Event))
-        × IsQuoted M.codec M.see M.events reply.now.answer.is_capped reply.now.request.payload.now message
-        × IsAnswered reply.now.request.origin reply.now.header errno.now reply.now.quoted message line.items) }
-{
-    let message = quoted_message::<A, M>(alloc, reply.answer.is_capped, reply.request.payload)?;
-    answered_line(alloc, json, errno, reply, &message)
-}
-
-// The message of a request that is quoted, where it is read.
-fn quoted_message<A: Allocator + Copy, M: Shows<A> + Drop>(
-    alloc: A,
-    is_capped: bool,
-    payload: &[u8],
-) -> Result<Option<M>, AllocError>
-    ensures { IfOk result (λ message. IsQuoted M.codec M.see M.events is_capped payload.now (option_map M.events message)) }
-{
-    if is_capped {
-        return Ok(None);
-    }
-    match M::parse(alloc, payload) {
-        Ok(message) => Ok(Some(message)),
-        Err(DecodeError::OutOfMemory) => Err(AllocError),
-        Err(_) => Ok(None),
-    }
-}
-
-// The line of an answer to a request with this message, where it is read.
-fn answered_line<A: Allocator + Copy, M: Shows<A>>(
-    alloc: A,
-    json: Global,
-    errno: &str,
-    reply: &Reply<'_>,
-    message: &Option<M>,
-) -> Result<Vec<u8>, AllocError>
-    ensures { IfOk result (λ line. IsAnswered reply.now.request.origin reply.now.header errno.now reply.now.quoted
-        (option_map M.events message.now) line.items) }
+    ensures { IfOk result (λ line. IsAnswered reply.now.request.origin (header_view reply.now.header) errno.now
+        (header_view reply.now.quoted) reply.now.answer.is_capped reply.now.request.holds reply.now.request.payload.now line.items) }
 {
     let time = time_page(alloc, &reply.request.origin)?;
     let mut text = Page::new(alloc, Layout::OneLine);
     let mut path = Page::new(alloc, Layout::OneLine);
     reply.show_text(&mut text)?;
     reply.show_path(&mut path)?;
-    let line = Answered {
+    let line = AnswerLine {
         time: some_text(&time),
         origin: reply.request.origin,
         header: reply.header,
@@ -237,8 +189,12 @@ fn answered_line<A: Allocator + Copy, M: Shows<A>>(
             offset: reply.offset(),
             path: some_text(&path),
         },
-        request: reply.quoted,
-        message,
+        request: Quoted {
+            header: reply.quoted,
+            is_capped: reply.answer.is_capped,
+            holds: reply.request.holds,
+            payload: reply.request.payload,
+        },
         alloc: json,
     };
     json_of(json, &line)

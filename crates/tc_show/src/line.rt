@@ -3,10 +3,11 @@
 ghost use Rattle.std.specs.Prelude.{IfOk, Some, []};
 ghost use Rattle.serde.specs.Event.{Log};
 ghost use Rattle.serde_json.specs.Sent.{IsTextOf};
+ghost use Rattle.tc_show.specs.Found.{message_view};
 ghost use Rattle.tc_show.specs.Line.{IsAccepted, IsRefused, IsLine};
 
 use crate::found::Found;
-use crate::json::{Accepted, Refused};
+use crate::json::{MessageLine, Verdict};
 use crate::pages::{show_place, some_text, text_of, time_page};
 use crate::shows::Shows;
 use nla_frames::DecodeError;
@@ -40,8 +41,7 @@ fn line_as<A: Allocator + Copy, M: Shows<A> + Drop>(
     json: Global,
     found: &Found<'_>,
 ) -> Result<Line, AllocError>
-    ensures { IfOk result (λ line.
-        IsLine M.codec M.see M.events M.Canonical found.now.payload.now found.now.origin found.now.header line.json.items) }
+    ensures { IfOk result (λ line. IsLine M.codec M.Canonical (message_view found.now) line.json.items) }
 {
     match M::parse(alloc, found.payload) {
         Ok(message) => accepted_line(alloc, json, found, &message),
@@ -57,21 +57,20 @@ fn accepted_line<A: Allocator + Copy, M: Shows<A>>(
     found: &Found<'_>,
     message: &M,
 ) -> Result<Line, AllocError>
-    ensures { IfOk result (λ line.
-        IsAccepted M.codec M.see M.events M.Canonical found.now.payload.now found.now.origin found.now.header message.now line.json.items) }
+    ensures { IfOk result (λ line. IsAccepted M.codec M.Canonical (message_view found.now) (M.see message.now) line.json.items) }
 {
     let time = time_page(alloc, &found.origin)?;
     let fits = message.fits();
     let settled = message.reads_back();
     let canonical = M::are_canonical(found.payload);
-    let line = Accepted {
+    let line = MessageLine {
         time: some_text(&time),
-        origin: found.origin,
-        header: found.header,
-        fits,
-        settled,
-        canonical,
-        message,
+        found: *found,
+        verdict: Verdict::Read {
+            fits,
+            settled,
+            canonical,
+        },
         alloc: json,
     };
     let json = json_of(json, &line)?;
@@ -85,18 +84,20 @@ fn refused_line<A: Allocator + Copy>(
     found: &Found<'_>,
     error: &DecodeError,
 ) -> Result<Line, AllocError>
-    ensures { IfOk result (λ line. IsRefused found.now.origin found.now.header error.now line.json.items) }
+    ensures { IfOk result (λ line. IsRefused (message_view found.now) error.now line.json.items) }
 {
     let time = time_page(alloc, &found.origin)?;
     let mut path = Page::new(alloc, Layout::OneLine);
     let offset = show_place(&mut path, found)?;
-    let line = Refused {
+    let line = MessageLine {
         time: some_text(&time),
-        origin: found.origin,
-        header: found.header,
-        error,
-        offset: offset as u64,
-        path: text_of(&path),
+        found: *found,
+        verdict: Verdict::Refused {
+            error,
+            offset: offset as u64,
+            path: text_of(&path),
+        },
+        alloc: json,
     };
     let json = json_of(json, &line)?;
     Ok(Line {

@@ -1,10 +1,10 @@
 use Rattle.std.proofs.Common.{List, [], ◌∷◌, ◌++◌, Some, None}
 use Rattle.std.proofs.lemmas.Result.{on_ok_weaker}
 use Rattle.serde.specs.Event.{Event, Log, Logs, map_begins, map_ends}
-use Rattle.tc_json.specs.Sent.{Sent}
-use Rattle.tc_json.proofs.Sends.{sent_then}
+use Rattle.tc_forms.specs.Sent.{Sent}
+use Rattle.tc_forms.proofs.Sending.{sent_then}
 use Rattle.tc_show.specs.Line.{object}
-use Rattle.tc_show.proofs.json.AnsweredSerialize.serialize.Goals as goal
+use Rattle.tc_show.proofs.json.AnswerLineSerialize.serialize.Goals as goal
 
 -- an event is sent
 one_sent : (e : Event) (old new : Log) → Logs old new e → Sent (e ∷ []) old new
