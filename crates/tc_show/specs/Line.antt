@@ -165,9 +165,8 @@ quoted_events true holds payload = []
 quoted_events false holds payload = message_events holds payload
 
 -- the request: its netlink header, and its message where that is there
-abbrev pub request_events : Header → Bool → Holds → List ℕ → List Event
-request_events header capped holds payload =
-    field (codes "request") (object (header_events header ++ quoted_events capped holds payload))
+abbrev pub request_events : Bool → Message → List Event
+request_events capped m = field (codes "request") (object (header_if m.header ++ quoted_events capped m.holds m.payload))
 
 -- where in it the fault is
 abbrev pub located_events : Option ℕ → Option (List ℕ) → List Event
@@ -180,15 +179,15 @@ said_events text offset path = text_if (codes "text") text ++ located_events off
 abbrev pub error_events : List ℕ → Option (List ℕ) → Option ℕ → Option (List ℕ) → List Event
 error_events errno text offset path = text_field (codes "errno") errno ++ said_events text offset path
 
--- an answer of the kernel, after its origin
-abbrev pub answer_events : List Event → List Event → List Event
-answer_events error request = error ++ request
+-- an answer of the kernel with this header to a request, after its origin, which is the request's
+abbrev pub answer_events : List Event → Bool → Message → List Event
+answer_events error capped m = error ++ request_events capped m
 
-abbrev pub answered_events : Option (List ℕ) → Origin → Header → List Event → List Event → List Event
-answered_events time origin header error request = object (origin_events time origin (Some header) ++ answer_events error request)
+abbrev pub answered_events : Option (List ℕ) → Header → List Event → Bool → Message → List Event
+answered_events time h error capped m = object (origin_events time m.origin (Some h) ++ answer_events error capped m)
 
--- the line of an answer of the kernel with this header to a request with that one
-abbrev pub IsAnswered : Origin → Header → List ℕ → Header → Bool → Holds → List ℕ → List ℕ → Type 0
-IsAnswered origin header errno quoted capped holds payload line =
+-- its line
+unfoldable pub IsAnswered : Header → List ℕ → Bool → Message → List ℕ → Type 0
+IsAnswered h errno capped m line =
     (time : Option (List ℕ)) × (text : Option (List ℕ)) × (offset : Option ℕ) × (path : Option (List ℕ))
-    × IsTextOf (Some (answered_events time origin header (error_events errno text offset path) (request_events quoted capped holds payload))) line
+    × IsTextOf (Some (answered_events time h (error_events errno text offset path) capped m)) line

@@ -57,24 +57,15 @@ pub(crate) struct Said<'n, 't, 'p> {
     pub(crate) path: Option<&'p str>,
 }
 
-/// The request that an answer of the kernel quotes.
-#[derive(Clone, Copy)]
-pub(crate) struct Quoted<'a> {
-    pub(crate) header: Header,
-    /// True if its payload isn't there.
-    pub(crate) is_capped: bool,
-    pub(crate) holds: Holds,
-    pub(crate) payload: &'a [u8],
-}
-
 /// The line of an answer of the kernel to a request.
 #[derive(Drop)]
 pub(crate) struct AnswerLine<'s, 'n, 't, 'p, 'a> {
     pub(crate) time: Option<&'s str>,
-    pub(crate) origin: Origin,
     pub(crate) header: Header,
     pub(crate) said: Said<'n, 't, 'p>,
-    pub(crate) request: Quoted<'a>,
+    /// True if the payload of the request isn't there.
+    pub(crate) is_capped: bool,
+    pub(crate) request: Found<'a>,
     pub(crate) alloc: Global,
 }
 
@@ -91,9 +82,9 @@ impl<'t, 'a, 'e, 'p> Serialize for MessageLine<'t, 'a, 'e, 'p> {
 }
 
 impl<'s, 'n, 't, 'p, 'a> Described for AnswerLine<'s, 'n, 't, 'p, 'a> {
-    ghost writes = { λ l. Sent (answered_events (option_map (λ t. t.now) l.time) l.origin (header_view l.header)
+    ghost writes = { λ l. Sent (answered_events (option_map (λ t. t.now) l.time) (header_view l.header)
         (error_events l.said.errno.now (option_map (λ t. t.now) l.said.text) l.said.offset (option_map (λ t. t.now) l.said.path))
-        (request_events (header_view l.request.header) l.request.is_capped l.request.holds l.request.payload.now)) };
+        l.is_capped (message_view l.request)) };
 }
 
 impl<'s, 'n, 't, 'p, 'a> Serialize for AnswerLine<'s, 'n, 't, 'p, 'a> {
@@ -125,22 +116,21 @@ impl<'t, 'a, 'e, 'p> MessageLine<'t, 'a, 'e, 'p> {
 
 impl<'s, 'n, 't, 'p, 'a> AnswerLine<'s, 'n, 't, 'p, 'a> {
     fn show_members<S: Serializer>(&self, out: &mut S) -> Result<(), S::Error>
-        ensures { OnOk result (Sent (origin_events (option_map (λ t. t.now) self.now.time) self.now.origin (Some (header_view self.now.header))
+        ensures { OnOk result (Sent (origin_events (option_map (λ t. t.now) self.now.time) self.now.request.origin (Some (header_view self.now.header))
             ++ answer_events (error_events self.now.said.errno.now (option_map (λ t. t.now) self.now.said.text) self.now.said.offset
-            (option_map (λ t. t.now) self.now.said.path)) (request_events (header_view self.now.request.header) self.now.request.is_capped
-            self.now.request.holds self.now.request.payload.now)) (S.written out.old) (S.written out.new)) }
+            (option_map (λ t. t.now) self.now.said.path)) self.now.is_capped (message_view self.now.request)) (S.written out.old) (S.written out.new)) }
     {
-        show_origin(self.time, &self.origin, &Some(self.header), out)?;
+        show_origin(self.time, &self.request.origin, &Some(self.header), out)?;
         self.show_answer(out)
     }
 
     fn show_answer<S: Serializer>(&self, out: &mut S) -> Result<(), S::Error>
         ensures { OnOk result (Sent (answer_events (error_events self.now.said.errno.now (option_map (λ t. t.now) self.now.said.text)
-            self.now.said.offset (option_map (λ t. t.now) self.now.said.path)) (request_events (header_view self.now.request.header)
-            self.now.request.is_capped self.now.request.holds self.now.request.payload.now)) (S.written out.old) (S.written out.new)) }
+            self.now.said.offset (option_map (λ t. t.now) self.now.said.path)) self.now.is_capped (message_view self.now.request))
+            (S.written out.old) (S.written out.new)) }
     {
         show_error(&self.said, out)?;
-        show_request(&self.request, self.alloc, out)
+        show_request(self.is_capped, &self.request, self.alloc, out)
     }
 }
 
@@ -174,51 +164,54 @@ fn show_located<S: Serializer>(
 
 // The request that is answered.
 fn show_request<S: Serializer>(
-    request: &Quoted<'_>,
+    is_capped: bool,
+    request: &Found<'_>,
     alloc: Global,
     out: &mut S,
 ) -> Result<(), S::Error>
-    ensures { OnOk result (Sent (request_events (header_view request.now.header) request.now.is_capped request.now.holds request.now.payload.now)
-        (S.written out.old) (S.written out.new)) }
+    ensures { OnOk result (Sent (request_events is_capped (message_view request.now)) (S.written out.old) (S.written out.new)) }
 {
     out.key("request")?;
-    show_object(request, alloc, out)
+    show_object(is_capped, request, alloc, out)
 }
 
 fn show_object<S: Serializer>(
-    request: &Quoted<'_>,
+    is_capped: bool,
+    request: &Found<'_>,
     alloc: Global,
     out: &mut S,
 ) -> Result<(), S::Error>
-    ensures { OnOk result (Sent (object (header_events (header_view request.now.header)
-        ++ quoted_events request.now.is_capped request.now.holds request.now.payload.now)) (S.written out.old) (S.written out.new)) }
+    ensures { OnOk result (Sent (object (header_if (option_map header_view request.now.header)
+        ++ quoted_events is_capped request.now.holds request.now.payload.now)) (S.written out.old) (S.written out.new)) }
 {
     out.begin_map(None)?;
-    show_quoted(request, alloc, out)?;
+    show_quoted(is_capped, request, alloc, out)?;
     out.end_map()
 }
 
 fn show_quoted<S: Serializer>(
-    request: &Quoted<'_>,
+    is_capped: bool,
+    request: &Found<'_>,
     alloc: Global,
     out: &mut S,
 ) -> Result<(), S::Error>
-    ensures { OnOk result (Sent (header_events (header_view request.now.header)
-        ++ quoted_events request.now.is_capped request.now.holds request.now.payload.now) (S.written out.old) (S.written out.new)) }
+    ensures { OnOk result (Sent (header_if (option_map header_view request.now.header)
+        ++ quoted_events is_capped request.now.holds request.now.payload.now) (S.written out.old) (S.written out.new)) }
 {
-    show_header(&request.header, out)?;
-    show_payload(request, alloc, out)
+    show_header_if(&request.header, out)?;
+    show_payload(is_capped, request, alloc, out)
 }
 
 fn show_payload<S: Serializer>(
-    request: &Quoted<'_>,
+    is_capped: bool,
+    request: &Found<'_>,
     alloc: Global,
     out: &mut S,
 ) -> Result<(), S::Error>
-    ensures { OnOk result (Sent (quoted_events request.now.is_capped request.now.holds request.now.payload.now)
+    ensures { OnOk result (Sent (quoted_events is_capped request.now.holds request.now.payload.now)
         (S.written out.old) (S.written out.new)) }
 {
-    if request.is_capped {
+    if is_capped {
         return Ok(());
     }
     show_message(request.holds, request.payload, alloc, out)

@@ -1,8 +1,9 @@
 //! A message as a line of JSON.
 
-ghost use Rattle.std.specs.Prelude.{IfOk, Some, []};
+ghost use Rattle.std.specs.Prelude.{◌≡◌, IfOk, Some, None, [], is_some, true};
 ghost use Rattle.serde.specs.Event.{Log};
 ghost use Rattle.serde_json.specs.Sent.{IsTextOf};
+ghost use Rattle.tc_show.specs.Codecs.{IsLineOf, is_refused, is_fault};
 ghost use Rattle.tc_show.specs.Found.{message_view};
 ghost use Rattle.tc_show.specs.Line.{IsAccepted, IsRefused, IsLine};
 
@@ -25,11 +26,15 @@ pub(crate) struct Line {
 }
 
 /// The line of a message.
+#[tactic(auto, unfolding(crate::specs::Codecs::IsLineOf, crate::specs::Codecs::is_refused))]
 pub(crate) fn line_of<A: Allocator + Copy>(
     alloc: A,
     json: Global,
     found: &Found<'_>,
-) -> Result<Line, AllocError> {
+) -> Result<Line, AllocError>
+    ensures line { IfOk result (λ line. IsLineOf (message_view found.now) line.json.items) }
+    ensures fault { IfOk result (λ line. is_some line.fault ≡ is_refused (message_view found.now)) }
+{
     match found.holds {
         Holds::Tc => line_as::<A, TcMessage<A>>(alloc, json, found),
         Holds::Action => line_as::<A, TcActionMessage<A>>(alloc, json, found),
@@ -41,7 +46,8 @@ fn line_as<A: Allocator + Copy, M: Shows<A> + Drop>(
     json: Global,
     found: &Found<'_>,
 ) -> Result<Line, AllocError>
-    ensures { IfOk result (λ line. IsLine M.codec M.Canonical (message_view found.now) line.json.items) }
+    ensures line { IfOk result (λ line. IsLine M.codec M.Canonical (message_view found.now) line.json.items) }
+    ensures fault { IfOk result (λ line. is_some line.fault ≡ is_fault (M.codec.read [] found.now.payload.now)) }
 {
     match M::parse(alloc, found.payload) {
         Ok(message) => accepted_line(alloc, json, found, &message),
@@ -57,7 +63,8 @@ fn accepted_line<A: Allocator + Copy, M: Shows<A>>(
     found: &Found<'_>,
     message: &M,
 ) -> Result<Line, AllocError>
-    ensures { IfOk result (λ line. IsAccepted M.codec M.Canonical (message_view found.now) (M.see message.now) line.json.items) }
+    ensures fault { IfOk result (λ line. line.fault ≡ None) }
+    ensures line { IfOk result (λ line. IsAccepted M.codec M.Canonical (message_view found.now) (M.see message.now) line.json.items) }
 {
     let time = time_page(alloc, &found.origin)?;
     let fits = message.fits();
@@ -84,7 +91,8 @@ fn refused_line<A: Allocator + Copy>(
     found: &Found<'_>,
     error: &DecodeError,
 ) -> Result<Line, AllocError>
-    ensures { IfOk result (λ line. IsRefused (message_view found.now) error.now line.json.items) }
+    ensures fault { IfOk result (λ line. is_some line.fault ≡ true) }
+    ensures line { IfOk result (λ line. IsRefused (message_view found.now) error.now line.json.items) }
 {
     let time = time_page(alloc, &found.origin)?;
     let mut path = Page::new(alloc, Layout::OneLine);

@@ -11,22 +11,22 @@ use tc_outline::Page;
 
 /// Text that is shown and not yet written: printable ASCII and line feeds, or JSON.
 #[derive(Drop)]
-pub(crate) struct Paper<A: Allocator> {
+pub(crate) struct Output<A: Allocator> {
     bytes: Vec<u8, A>,
     is_json: bool,
     ghost clean: { is_json ≡ false → IsShown true bytes.items },
 }
 
-impl<A: Allocator> Paper<A> {
-    ghost use Rattle.std.specs.Prelude.{◌++◌, ◌∷◌, [], OnOk};
-    ghost use Rattle.tc_show.specs.Writing.{GrowsClean};
+impl<A: Allocator> Output<A> {
+    ghost use Rattle.std.specs.Prelude.{◌++◌, ◌∷◌, [], List, ℕ, OnOk};
+    ghost use Rattle.tc_show.specs.Writing.{GrowsByFront, GrowsClean};
 
     /// An empty one, for JSON or for people.
-    pub(crate) fn new(alloc: A, is_json: bool) -> Paper<A>
+    pub(crate) fn new(alloc: A, is_json: bool) -> Output<A>
         ensures form { result.is_json ≡ is_json }
         ensures empty { result.bytes.items ≡ [] }
     {
-        Paper {
+        Output {
             bytes: Vec::new(alloc),
             is_json,
         }
@@ -55,6 +55,7 @@ impl<A: Allocator> Paper<A> {
     /// What a page holds.
     pub(crate) fn page<B: Allocator>(&mut self, page: &Page<B>) -> Result<(), AllocError>
         ensures form { self.new.is_json ≡ self.old.is_json }
+        ensures put { OnOk result ((shown : List ℕ) × IsShown true shown × (self.new.bytes.items ≡ self.old.bytes.items ++ shown)) }
     {
         self.bytes.extend_from_slice(page.bytes())
     }
@@ -72,6 +73,9 @@ impl<A: Allocator> Paper<A> {
     pub(crate) fn write<W: Write>(&mut self, writer: &mut W) -> Result<(), Stop>
         ensures form { self.new.is_json ≡ self.old.is_json }
         ensures clean { self.old.is_json ≡ false → GrowsClean (W.contents writer.old) (W.contents writer.new) }
+        ensures front { (rest : List ℕ) × GrowsByFront (W.contents writer.old) (W.contents writer.new) self.old.bytes.items rest
+            × OnOk result (rest ≡ []) }
+        ensures empty { self.new.bytes.items ≡ [] }
     {
         let outcome = write_all(writer, &self.bytes);
         self.bytes.clear();

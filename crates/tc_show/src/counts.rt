@@ -1,11 +1,15 @@
 //! What a run has met.
 
-use crate::note::Note;
+ghost use Rattle.std.specs.Prelude.{◌≡◌, ◌||◌, true};
+ghost use Rattle.tc_show.specs.Found.{is_fault};
+ghost use Rattle.tc_show.specs.State.{is_bad};
+
+use crate::notice::Notice;
 use serde::Serialize;
 
 /// How many there were of what, `u64::MAX` at most.
 #[derive(Clone, Copy, Default, Serialize)]
-pub(crate) struct Tally {
+pub(crate) struct Counts {
     /// Messages that were shown, refused ones too.
     pub(crate) shown: u64,
     /// Answers of the kernel that were shown.
@@ -28,18 +32,29 @@ pub(crate) struct Tally {
     pub(crate) broken: u64,
 }
 
-impl Tally {
+impl Counts {
     /// Counts a place without a message.
-    pub(crate) fn count(&mut self, note: &Note) {
-        match note {
-            Note::Cut(_) => self.cut = self.cut.saturating_add(1),
-            Note::Skipped(_) => self.skipped = self.skipped.saturating_add(1),
-            Note::Broken(_) | Note::NoHex => self.broken = self.broken.saturating_add(1),
+    pub(crate) fn count(&mut self, notice: &Notice)
+        ensures { is_bad self.new ≡ (is_bad self.old || is_fault notice.now) }
+    {
+        match notice {
+            Notice::Cut(_) => self.cut = self.cut.saturating_add(1),
+            Notice::Skipped(_) => self.skipped = self.skipped.saturating_add(1),
+            Notice::Broken(_) | Notice::NoHex => self.broken = self.broken.saturating_add(1),
         }
     }
 
+    /// Counts a message that is refused.
+    pub(crate) fn count_refused(&mut self)
+        ensures { is_bad self.new ≡ (is_bad self.old || true) }
+    {
+        self.refused = self.refused.saturating_add(1);
+    }
+
     /// True if something was refused, broken or cut.
-    pub(crate) fn has_refused(&self) -> bool {
+    pub(crate) fn has_refused(&self) -> bool
+        ensures { result ≡ is_bad self.now }
+    {
         self.refused != 0 || self.broken != 0 || self.cut != 0
     }
 }

@@ -6,7 +6,7 @@ use tc_capture::CaptureError;
 
 /// Why something of an input isn't shown as messages.
 #[derive(Clone, Copy)]
-pub(crate) enum Note {
+pub(crate) enum Notice {
     /// The capture holds only the first bytes.
     Cut(CaptureError),
     /// It is whole, but longer than what is read: so many bytes.
@@ -17,21 +17,21 @@ pub(crate) enum Note {
     NoHex,
 }
 
-impl Note {
+impl Notice {
     /// What is said.
     pub(crate) fn text(&self, alloc: Global) -> Result<String, AllocError> {
         match self {
-            Note::Cut(fault) => format!(in alloc; "cut: {fault}"),
-            Note::Skipped(length) => format!(in alloc; "skipped: {length} bytes"),
-            Note::Broken(fault) => format!(in alloc; "broken: {fault}"),
-            Note::NoHex => format!(in alloc; "broken: no hex"),
+            Notice::Cut(fault) => format!(in alloc; "cut: {fault}"),
+            Notice::Skipped(length) => format!(in alloc; "skipped: {length} bytes"),
+            Notice::Broken(fault) => format!(in alloc; "broken: {fault}"),
+            Notice::NoHex => format!(in alloc; "broken: no hex"),
         }
     }
 }
 
-/// A note as a line of JSON.
+/// A notice as a line of JSON.
 #[derive(Drop, Serialize)]
-pub(crate) struct NoteLine<'a> {
+pub(crate) struct NoticeLine<'a> {
     /// What is said.
     pub(crate) note: &'a str,
     /// Where it is in the input, in bytes.
