@@ -2,5 +2,7 @@
 
 mod complaints;
 mod packets;
+mod rows;
 mod runs;
 mod streams;
+mod verdicts;

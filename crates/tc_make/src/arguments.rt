@@ -4,6 +4,19 @@ use clap::{Arg, ArgAction, Command, Error};
 use std::alloc::{AllocError, Global};
 use std::convert::AsStr;
 
+/// What is made of a line.
+#[derive(Clone, Copy, PartialEq, Eq, Debug)]
+pub enum Making {
+    /// The bytes that it stands for, if its verdict is that of the codec; without a verdict they have to be canonical.
+    Checked,
+    /// The bytes to which settling leads.
+    Settled,
+    /// The bytes that it stands for, whatever they are.
+    AsGiven,
+    /// The request that restores what it shows.
+    Restored,
+}
+
 /// What the arguments say.
 #[derive(Clone, Copy, Debug)]
 pub struct Request {
@@ -11,17 +24,18 @@ pub struct Request {
     pub no_header: bool,
     /// True if a capture is written in place of lines of hex.
     pub pcap: bool,
-    /// True if what isn't settled is settled first.
-    pub settle: bool,
-    /// True if a dump becomes the request that restores it.
-    pub restores: bool,
+    /// What is made of a line.
+    pub making: Making,
 }
 
 const ABOUT: &str =
     "Makes traffic control messages of lines of JSON, as tcshow --json writes them, and writes them as lines of hex";
 
-const STATUSES: &str =
-    "Exit status: 0; 1 if no message was made of a line; 2 for a wrong usage; 3 if a stream failed";
+const NOTES: &str =
+    "A line that says what the codec finds (fits, settled, canonical, or refused with its numbers) becomes the bytes that it shows, if the
+codec finds so; a line that doesn't has to be canonical. A line may have 32 MiB.
+
+Exit status: 0; 1 if no message was made of a line; 2 for a wrong usage; 3 if a stream failed";
 
 fn flag<'a>(alloc: Global, name: &'a str, help: &'a str) -> Arg<'a> {
     Arg::new(alloc, name)
@@ -30,31 +44,49 @@ fn flag<'a>(alloc: Global, name: &'a str, help: &'a str) -> Arg<'a> {
         .help(help)
 }
 
-fn command<'a>(alloc: Global) -> Result<Command<'a>, AllocError> {
+// The options that say what is written.
+fn with_output<'a>(alloc: Global, command: Command<'a>) -> Result<Command<'a>, AllocError> {
     let no_header = flag(
         alloc,
         "no-header",
         "Write messages without a netlink header",
     );
     let pcap = flag(alloc, "pcap", "Write a capture, pcap with link type 253");
+    command.arg(no_header.conflicts_with("pcap")?)?.arg(pcap)
+}
+
+// The options that say what is made; no two of them go together.
+fn with_making<'a>(alloc: Global, command: Command<'a>) -> Result<Command<'a>, AllocError> {
     let settle = flag(
         alloc,
         "settle",
-        "Settle what isn't settled: mask numbers, drop NULs at the end of warnings",
+        "Make canonical messages: mask numbers, drop NULs at the end of warnings, set flags and padding",
+    );
+    let as_given = flag(
+        alloc,
+        "as-given",
+        "Make what lines show, whatever they say that the codec finds",
     );
     let request = flag(
         alloc,
         "request",
         "Make of each dump the request that restores it",
     );
-    Command::new(alloc, "tcmake")
+    let settle = settle
+        .conflicts_with("as-given")?
+        .conflicts_with("request")?;
+    command
+        .arg(settle)?
+        .arg(as_given.conflicts_with("request")?)?
+        .arg(request)
+}
+
+fn command<'a>(alloc: Global) -> Result<Command<'a>, AllocError> {
+    let command = Command::new(alloc, "tcmake")
         .version("0.1.0")
         .about(ABOUT)
-        .after_help(STATUSES)
-        .arg(no_header.conflicts_with("pcap")?)?
-        .arg(pcap)?
-        .arg(settle)?
-        .arg(request)
+        .after_help(NOTES);
+    with_making(alloc, with_output(alloc, command)?)
 }
 
 /// What the arguments say, the program's name first. The error is a mistake in them, a request for help or for the version, or that
@@ -64,7 +96,14 @@ pub fn request_of<'a, S: AsStr>(alloc: Global, words: &'a [S]) -> Result<Request
     Ok(Request {
         no_header: matches.get_flag("no-header"),
         pcap: matches.get_flag("pcap"),
-        settle: matches.get_flag("settle"),
-        restores: matches.get_flag("request"),
+        making: if matches.get_flag("settle") {
+            Making::Settled
+        } else if matches.get_flag("as-given") {
+            Making::AsGiven
+        } else if matches.get_flag("request") {
+            Making::Restored
+        } else {
+            Making::Checked
+        },
     })
 }

@@ -1,13 +1,12 @@
 //! Why no message is made of a line.
 
 use nla_frames::DecodeError;
-use serde_json::Value;
-use std::alloc::{AllocError, AllocFailed, Global};
+use std::alloc::{AllocError, AllocFailed};
 use std::fmt;
-use tc_build::{MakeError, ReadError, Wanted};
 use tc_capture::rtm_of;
-use tc_json_bytes::Maker;
-use tc_names::named_numbers;
+use tc_forms::MakeError;
+use tc_forms_strict::{Difference, StrictError};
+use tc_forms_text::ReadError;
 use tc_requests::RestoreError;
 
 /// Why no message is made of a line.
@@ -17,8 +16,6 @@ pub(crate) enum Complaint {
     TooLong,
     /// It isn't read as JSON.
     Read(ReadError),
-    /// Its lists and objects are more deeply nested than JSON is read.
-    TooDeep,
     /// It is a part of JSON that goes on on other lines.
     OnePart,
     /// It says that a message was refused, and holds none.
@@ -31,18 +28,32 @@ pub(crate) enum Complaint {
     Note,
     /// A member isn't what it has to be.
     Member {
-        path: &'static str,
+        name: &'static str,
         found: Found,
         wanted: &'static str,
     },
     /// A member isn't one of a line.
     Unknown(String),
-    /// No message is made of its JSON.
+    /// Its message stands for no bytes.
     Make(MakeError),
+    /// What is shown of the bytes that its message stands for is something else.
+    Shown(Difference),
+    /// The codec refuses the bytes.
+    Unreadable {
+        /// Where the fault is, as a JSON pointer.
+        path: String,
+        error: DecodeError,
+    },
+    /// The codec refuses the bytes for another fault than the line says.
+    OtherFault { said: DecodeError, error: DecodeError },
+    /// The codec reads the bytes, and the line says that it refuses them.
+    Readable { said: DecodeError },
+    /// The bytes aren't canonical: what is there, and what would be in its place.
+    NotCanonical(Difference),
+    /// The message can't be written: a payload would have more than 65531 bytes.
+    DoesNotFit,
     /// No request restores what it shows.
     Restore(RestoreError),
-    /// More has to be settled than is settled of one message.
-    TooUnsettled,
     /// The message is too long for its header, or for a capture.
     TooLongPacket,
     /// Memory ran out.
@@ -54,20 +65,14 @@ pub(crate) enum Complaint {
 pub(crate) enum Found {
     /// Nothing.
     Nothing,
+    /// True or false.
+    Truth(bool),
     /// A number.
     Number(u64),
     /// A message type.
     Type(u16),
     /// A value of JSON, as an error shows it.
     Json(String),
-}
-
-/// What was found of a member.
-pub(crate) fn found_of(alloc: Global, value: &Value) -> Result<Found, Complaint> {
-    match Maker::new(alloc).wrong(value, Wanted::Text) {
-        MakeError::Wrong { found, .. } => Ok(Found::Json(found)),
-        MakeError::OutOfMemory => Err(Complaint::NoMemory),
-    }
 }
 
 impl From<AllocError> for Complaint {
@@ -100,7 +105,17 @@ impl From<RestoreError> for Complaint {
     }
 }
 
-// Of bytes that were made, which are canonical: reading them fails only where memory runs out.
+impl From<StrictError> for Complaint {
+    fn from(e: StrictError) -> Complaint {
+        match e {
+            StrictError::Make(MakeError::OutOfMemory) => Complaint::NoMemory,
+            StrictError::Make(e) => Complaint::Make(e),
+            StrictError::Differs(difference) => Complaint::Shown(difference),
+        }
+    }
+}
+
+// Of bytes that the codec reads: reading them again fails only where memory runs out.
 impl From<DecodeError> for Complaint {
     fn from(_e: DecodeError) -> Complaint {
         Complaint::NoMemory
@@ -111,6 +126,7 @@ impl fmt::Display for Found {
     fn fmt<W: fmt::Write>(&self, f: &mut fmt::Formatter<W>) -> fmt::Result {
         match self {
             Found::Nothing => f.write_str("nothing"),
+            Found::Truth(is_so) => write!(f, "{is_so}"),
             Found::Number(number) => write!(f, "{number}"),
             Found::Type(kind) => match rtm_of(*kind) {
                 Some(rtm) => f.write_str(rtm.name),
@@ -143,10 +159,10 @@ impl fmt::Display for Complaint {
         match self {
             Complaint::Read(error) => show_read(error, f),
             Complaint::Member {
-                path,
+                name,
                 found,
                 wanted,
-            } => write!(f, "{path}: found {found}, wanted {wanted}"),
+            } => write!(f, "/{name}: found {found}, wanted {wanted}"),
             Complaint::Unknown(name) => {
                 write!(
                     f,
@@ -155,6 +171,26 @@ impl fmt::Display for Complaint {
                 )
             }
             Complaint::Make(error) => show_make(error, f),
+            Complaint::Shown(difference) | Complaint::NotCanonical(difference) => {
+                show_difference(difference, f)
+            }
+            Complaint::Unreadable { path, error } => {
+                write!(f, "{path}: found a message that the codec refuses, {error}")
+            }
+            Complaint::OtherFault { said, error } => {
+                let (said_name, name) = (said.name(), error.name());
+                write!(
+                    f,
+                    "/refused: found {said_name}, {said}; wanted {name}, {error}"
+                )
+            }
+            Complaint::Readable { said } => {
+                let name = said.name();
+                write!(
+                    f,
+                    "/refused: found {name}, wanted none of a message that the codec reads"
+                )
+            }
             Complaint::Restore(error) => write!(f, "can't be restored: {error}"),
             _ => f.write_str(self.text()),
         }
@@ -165,22 +201,18 @@ impl Complaint {
     // The text of one that holds nothing.
     fn text(&self) -> &'static str {
         match self {
-            Complaint::TooLong => "longer than 4194304 bytes",
-            Complaint::TooDeep => "lists and objects nest more than 127 deep",
+            Complaint::TooLong => "longer than 33554432 bytes",
             Complaint::OnePart =>
                 "a part of JSON on several lines; wanted all of it on one, as jq -c writes it",
             Complaint::Refused => "holds no message, but why one was refused",
             Complaint::Answer => "holds no message, but an answer of the kernel",
             Complaint::Summary => "holds no message, but a summary",
             Complaint::Note => "holds no message, but a note on a capture",
-            Complaint::TooUnsettled => "too much has to be settled",
+            Complaint::DoesNotFit =>
+                "found a message that doesn't fit: a payload would have more than 65531 bytes",
             Complaint::TooLongPacket => "the message is too long to be written",
             Complaint::NoMemory => "out of memory",
-            Complaint::Read(_)
-            | Complaint::Member { .. }
-            | Complaint::Unknown(_)
-            | Complaint::Make(_)
-            | Complaint::Restore(_) => "",
+            _ => "",
         }
     }
 }
@@ -190,7 +222,9 @@ fn show_read<W: fmt::Write>(error: &ReadError, f: &mut fmt::Formatter<W>) -> fmt
         ReadError::Repeated { path } => {
             write!(f, "{}: found twice, wanted once", Place(path.as_str()))
         }
-        error => write!(f, "{error}"),
+        ReadError::NotJson { column, .. } => write!(f, "not JSON at byte {column}"),
+        ReadError::TooDeep { .. } => f.write_str("lists and objects nest more than 127 deep"),
+        ReadError::OutOfMemory => f.write_str("out of memory"),
     }
 }
 
@@ -202,24 +236,50 @@ fn show_make<W: fmt::Write>(error: &MakeError, f: &mut fmt::Formatter<W>) -> fmt
             found,
             wanted,
         } => {
-            if !path.is_empty() {
-                write!(f, "{}: ", Place(path.as_str()))?;
-            }
-            write!(f, "found {found}, wanted {wanted}")?;
-            show_names(*wanted, f)
+            show_path(path.as_str(), f)?;
+            write!(f, "found {found}, wanted {wanted}")
         }
     }
 }
 
-// The names that are wanted, where there are few.
-fn show_names<W: fmt::Write>(wanted: Wanted, f: &mut fmt::Formatter<W>) -> fmt::Result {
-    if let Wanted::NamedNumber(which) = wanted {
-        let mut before = ": ";
-        for (_, name) in named_numbers(which) {
-            f.write_str(before)?;
-            f.write_str(name)?;
-            before = ", ";
+fn show_difference<W: fmt::Write>(
+    difference: &Difference,
+    f: &mut fmt::Formatter<W>,
+) -> fmt::Result {
+    show_path(difference.path.as_str(), f)?;
+    match &difference.found {
+        Some(found) => write!(f, "found {found}, wanted ")?,
+        None => f.write_str("found nothing, wanted ")?,
+    }
+    match &difference.wanted {
+        Some(wanted) => f.write_str(wanted.as_str()),
+        None => f.write_str("nothing"),
+    }
+}
+
+// The place in the message; nothing of the whole.
+fn show_path<W: fmt::Write>(path: &str, f: &mut fmt::Formatter<W>) -> fmt::Result {
+    if path.is_empty() {
+        return Ok(());
+    }
+    write!(f, "{}: ", Place(path))
+}
+
+/// A place that settling changed, as a notice shows it.
+#[derive(Clone, Copy)]
+pub(crate) struct Notice<'a>(pub(crate) &'a Difference);
+
+impl<'a> fmt::Display for Notice<'a> {
+    fn fmt<W: fmt::Write>(&self, f: &mut fmt::Formatter<W>) -> fmt::Result {
+        let Notice(place) = self;
+        show_path(place.path.as_str(), f)?;
+        match &place.found {
+            Some(found) => write!(f, "found {found}, ")?,
+            None => f.write_str("found nothing, ")?,
+        }
+        match &place.wanted {
+            Some(wanted) => write!(f, "settled to {wanted}"),
+            None => f.write_str("dropped"),
         }
     }
-    Ok(())
 }

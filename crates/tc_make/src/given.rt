@@ -1,8 +1,13 @@
 //! What a line says of its message.
 
-ghost use Rattle.std.specs.Prelude.{◌≡◌, ◌≤◌, IfOk};
+ghost use Rattle.std.specs.Prelude.{◌≡◌, Some, None, IfOk, IfSome, codes, unwrap_or};
+ghost use Rattle.serde_json.specs.Data.{object, no_members};
+ghost use Rattle.serde_json.specs.View.{view};
+ghost use Rattle.tc_capture.specs.Kind.{rtm_at};
+ghost use Rattle.tc_make.specs.Line.{IsBeside, IsGiven, IsTime, IsTimeText, IsTyped, holds_by_header, number_in};
 
-use crate::complaint::{Complaint, found_of};
+use crate::complaint::Complaint;
+use crate::members::{Numbered, missing, number_of, number_or, wrong};
 use serde_json::Value;
 use std::alloc::Global;
 use tc_capture::{Holds, Time, rtm_of};
@@ -40,7 +45,9 @@ const OUTGOING: u16 = 4;
 
 /// A packet of one message, sent by this machine at a time.
 pub(crate) fn packet_at(time: Time) -> PacketOf
-    ensures { result.time ≡ time }
+    ensures number { result.number ≡ None }
+    ensures time { result.time ≡ time }
+    ensures packet_type { result.packet_type ≡ 4 }
 {
     PacketOf {
         number: None,
@@ -50,17 +57,36 @@ pub(crate) fn packet_at(time: Time) -> PacketOf
 }
 
 /// What a line says of its message.
-pub(crate) fn given_of(alloc: Global, json: &Value) -> Result<Given, Complaint> {
+pub(crate) fn given_of(alloc: Global, json: &Value) -> Result<Given, Complaint>
+    ensures { IfOk result (IsGiven (view json.now)) }
+{
     if is_answer(json) {
         return Err(Complaint::Answer);
     }
-    if json.get("message").is_some() {
-        return in_line(alloc, json);
+    match json.get("message") {
+        Some(message) => in_line(alloc, json, message),
+        None => match without_message(json) {
+            Some(complaint) => Err(complaint),
+            None => in_message(json),
+        },
     }
-    match without_message(json) {
-        Some(complaint) => Err(complaint),
-        None => Ok(alone(json)),
+}
+
+// What is known of a message that is a line of its own.
+fn in_message(json: &Value) -> Result<Given, Complaint>
+    ensures { IfOk result (IsBeside (object no_members) (view json.now)) }
+{
+    if json.get("raw").is_some() {
+        return Err(missing("type", RAW_TYPES));
     }
+    Ok(Given {
+        holds: holds_by_header(json),
+        kind: None,
+        flags: 0,
+        sequence: 0,
+        port: 0,
+        packet: packet_at(NO_TIME),
+    })
 }
 
 // True of an answer of the kernel.
@@ -84,22 +110,7 @@ fn without_message(json: &Value) -> Option<Complaint> {
     }
 }
 
-// What is known of a message alone: the header of an action message has no interface.
-fn alone(json: &Value) -> Given {
-    Given {
-        holds: match json.get("header") {
-            Some(header) if header.get("index").is_none() => Holds::Action,
-            _ => Holds::Tc,
-        },
-        kind: None,
-        flags: 0,
-        sequence: 0,
-        port: 0,
-        packet: packet_at(NO_TIME),
-    }
-}
-
-// The members of a line.
+// The members of each line.
 fn is_member(name: &str) -> bool {
     matches!(
         name,
@@ -117,10 +128,27 @@ fn is_member(name: &str) -> bool {
     )
 }
 
+// The members of a line of a refused message.
+fn is_of_refused(name: &str) -> bool {
+    matches!(
+        name,
+        "refused"
+            | "len"
+            | "needed"
+            | "length"
+            | "left"
+            | "expected"
+            | "got"
+            | "offset"
+            | "path"
+    )
+}
+
 // The first member that a line doesn't have.
 fn unknown_in(json: &Value) -> Option<&str> {
+    let is_refused = json.get("refused").is_some();
     for (name, _) in json.as_object()? {
-        if !is_member(name.as_str()) {
+        if !is_member(name.as_str()) && !(is_refused && is_of_refused(name.as_str())) {
             return Some(name.as_str());
         }
     }
@@ -128,158 +156,161 @@ fn unknown_in(json: &Value) -> Option<&str> {
 }
 
 // What is beside a message.
-fn in_line(alloc: Global, json: &Value) -> Result<Given, Complaint> {
+fn in_line(alloc: Global, json: &Value, message: &Value) -> Result<Given, Complaint>
+    ensures { IfOk result (IsBeside (view json.now) (view message.now)) }
+{
     if let Some(name) = unknown_in(json) {
         return Err(Complaint::Unknown(String::from_str(alloc, name)?));
     }
-    let (kind, holds) = match json.get("type") {
-        None => (None, alone(json.get("message").unwrap_or(json)).holds),
-        Some(name) => {
-            let (kind, holds) = type_of(alloc, name)?;
-            (Some(kind), holds)
-        }
-    };
+    let (kind, holds) = type_in(alloc, json, message)?;
+    let flags = number_or(alloc, json, &FLAGS, 0)?;
+    let sequence = number_or(alloc, json, &SEQUENCE, 0)?;
+    let port = number_or(alloc, json, &PORT, 0)?;
+    let packet = packet_of(alloc, json)?;
     Ok(Given {
         holds,
         kind,
-        flags: number_of(alloc, json.get("flags"), &FLAGS, 0)? as u16,
-        sequence: number_of(alloc, json.get("seq"), &SEQUENCE, 0)? as u32,
-        port: number_of(alloc, json.get("portid"), &PORT, 0)? as u32,
-        packet: packet_of(alloc, json)?,
+        flags: flags as u16,
+        sequence: sequence as u32,
+        port: port as u32,
+        packet,
     })
 }
 
 // The packet of a line; without a number it is one of its own.
-fn packet_of(alloc: Global, json: &Value) -> Result<PacketOf, Complaint> {
-    let packet_type = number_of(
-        alloc,
-        json.get("packet_type"),
-        &PACKET_TYPE,
-        u64::from(OUTGOING),
-    )?;
-    let number = match json.get("packet") {
-        None => None,
-        held => Some(number_of(alloc, held, &PACKET, 0)?),
-    };
+fn packet_of(alloc: Global, json: &Value) -> Result<PacketOf, Complaint>
+    ensures number { IfOk result (λ p. p.number ≡ number_in (codes "packet") (view json.now)) }
+    ensures time { IfOk result (λ p. IsTime (view json.now) p.time) }
+    ensures packet_type { IfOk result (λ p. p.packet_type ≡ unwrap_or (number_in (codes "packet_type") (view json.now)) 4) }
+{
+    let number = number_of(alloc, json, &PACKET)?;
+    let time = time_of(alloc, json)?;
+    let packet_type = number_or(alloc, json, &PACKET_TYPE, u64::from(OUTGOING))?;
     Ok(PacketOf {
         number,
-        time: time_of(alloc, json)?,
+        time,
         packet_type: packet_type as u16,
     })
 }
 
-// A member that is a number.
-struct Numbered {
-    path: &'static str,
-    // The greatest that it may be.
-    most: u64,
-    wanted: &'static str,
-}
-
 const FLAGS: Numbered = Numbered {
-    path: "/flags",
+    name: "flags",
     most: 0xFFFF,
     wanted: "a number from 0 to 65535",
 };
 
 const SEQUENCE: Numbered = Numbered {
-    path: "/seq",
+    name: "seq",
     most: 0xFFFF_FFFF,
     wanted: "a number from 0 to 4294967295",
 };
 
 const PORT: Numbered = Numbered {
-    path: "/portid",
+    name: "portid",
     most: 0xFFFF_FFFF,
     wanted: "a number from 0 to 4294967295",
 };
 
 const PACKET: Numbered = Numbered {
-    path: "/packet",
+    name: "packet",
     most: u64::MAX,
     wanted: "the number of a packet",
 };
 
 const PACKET_TYPE: Numbered = Numbered {
-    path: "/packet_type",
+    name: "packet_type",
     most: 0xFFFF,
     wanted: "a number from 0 to 65535",
 };
 
-// The number of a member; this one where there is none.
-fn number_of(
+// The message type, and what the payload is; a line without a type shows that by its header.
+fn type_in(
     alloc: Global,
-    held: Option<&Value>,
-    member: &Numbered,
-    default: u64,
-) -> Result<u64, Complaint>
-    requires { default ≤ member.now.most }
-    ensures { IfOk result (λ n. n ≤ member.now.most) }
+    json: &Value,
+    message: &Value,
+) -> Result<(Option<u16>, Holds), Complaint>
+    ensures { IfOk result (λ given. IsTyped (view json.now) (view message.now) given.0 given.1) }
 {
-    let held = match held {
-        None => return Ok(default),
-        Some(held) => held,
-    };
-    match held.as_u64() {
-        Some(number) if number <= member.most => Ok(number),
-        _ => Err(Complaint::Member {
-            path: member.path,
-            found: found_of(alloc, held)?,
-            wanted: member.wanted,
-        }),
+    match json.get("type") {
+        None => {
+            if message.get("raw").is_some() {
+                return Err(missing("type", RAW_TYPES));
+            }
+            Ok((None, holds_by_header(message)))
+        }
+        Some(held) => match held.as_str() {
+            Some(name) => match type_named(name) {
+                Some((kind, holds)) => Ok((Some(kind), holds)),
+                None => Err(wrong(alloc, "type", held, TYPES)),
+            },
+            None => Err(wrong(alloc, "type", held, TYPES)),
+        },
     }
 }
 
-// The number of a message type, and what its payload is.
-fn type_of(alloc: Global, name: &Value) -> Result<(u16, Holds), Complaint> {
-    if let Some(name) = name.as_str() {
-        for kind in 36..103u16 {
-            if let Some(rtm) = rtm_of(kind) {
-                if rtm.name == name {
-                    return Ok((kind, rtm.holds));
-                }
+// The number of the message type of this name, and what its payload is.
+fn type_named(name: &str) -> Option<(u16, Holds)>
+    ensures { IfSome result (λ found. rtm_at found.0 ≡ Some (record { holds = found.1; name = name.now })) }
+{
+    for kind in 36..103u16 {
+        if let Some(rtm) = rtm_of(kind) {
+            if rtm.name == name {
+                return Some((kind, rtm.holds));
             }
         }
     }
-    Err(Complaint::Member {
-        path: "/type",
-        found: found_of(alloc, name)?,
-        wanted: TYPES,
-    })
+    None
 }
+
+// What a message of this JSON is: the header of an action message has no interface.
+fn holds_by_header(message: &Value) -> Holds
+    ensures { result ≡ holds_by_header (view message.now) }
+{
+    match message.get("header") {
+        Some(header) => match header.get("index") {
+            Some(_) => Holds::Tc,
+            None => Holds::Action,
+        },
+        None => Holds::Tc,
+    }
+}
+
+const RAW_TYPES: &str = "a message type, since the message is raw";
 
 const TYPES: &str =
     "RTM_NEWQDISC, RTM_DELQDISC, RTM_GETQDISC, the same of TCLASS, TFILTER, ACTION or CHAIN, or NLMSG_ERROR";
 
 // The time, in seconds with nine digits behind a point; 0 where there is none.
-fn time_of(alloc: Global, json: &Value) -> Result<Time, Complaint> {
-    let held = match json.get("time") {
-        None => return Ok(NO_TIME),
-        Some(held) => held,
-    };
-    let time = match held.as_str() {
-        Some(text) => seconds_in(text),
-        None => None,
-    };
-    match time {
-        Some(time) => Ok(time),
-        None => Err(Complaint::Member {
-            path: "/time",
-            found: found_of(alloc, held)?,
-            wanted: "seconds, a point and nine digits",
-        }),
+fn time_of(alloc: Global, json: &Value) -> Result<Time, Complaint>
+    ensures { IfOk result (IsTime (view json.now)) }
+{
+    match json.get("time") {
+        None => Ok(NO_TIME),
+        Some(held) => match held.as_str() {
+            Some(text) => match seconds_in(text) {
+                Some(time) => Ok(time),
+                None => Err(wrong(alloc, "time", held, SECONDS)),
+            },
+            None => Err(wrong(alloc, "time", held, SECONDS)),
+        },
     }
 }
 
-fn seconds_in(text: &str) -> Option<Time> {
-    let (seconds, rest) = text.split_once('.')?;
+const SECONDS: &str = "seconds, a point and nine digits";
+
+// The time that a text says.
+fn seconds_in(text: &str) -> Option<Time>
+    ensures { IfSome result (IsTimeText text.now) }
+{
+    let (seconds, rest) = text.split_once('.').unwrap_or((text, ""));
     if rest.len() != 9 {
         return None;
     }
-    let seconds = seconds.parse::<u64>().ok()?;
-    let nanoseconds = rest.parse::<u32>().ok()?;
-    Some(Time {
-        seconds,
-        nanoseconds,
-    })
+    match (seconds.parse::<u64>(), rest.parse::<u32>()) {
+        (Ok(seconds), Ok(nanoseconds)) => Some(Time {
+            seconds,
+            nanoseconds,
+        }),
+        _ => None,
+    }
 }

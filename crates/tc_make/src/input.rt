@@ -6,7 +6,7 @@ use crate::status::Stop;
 use std::io::{BufRead, ErrorKind};
 
 /// The longest line of which a message is made, in bytes.
-pub const MOST_LINE: usize = 4 * 1024 * 1024;
+pub const MOST_LINE: usize = 32 * 1024 * 1024;
 
 // How often a read that was interrupted is tried again.
 const MOST_TRIES: u16 = 1024;
@@ -35,7 +35,7 @@ struct Part {
 
 /// Reads a line, without its line feed. Of a line that is too long the front is kept.
 pub(crate) fn next_line<R: BufRead>(input: &mut R, line: &mut Vec<u8>) -> Result<Line, Stop>
-    ensures { length line.new.items ≤ 4194304 }
+    ensures { length line.new.items ≤ 33554432 }
 {
     line.clear();
     let mut found = Line::End;
@@ -67,8 +67,8 @@ const NOTHING: Part = Part {
 
 // Keeps what of these bytes is the line's.
 fn keep(bytes: &[u8], line: &mut Vec<u8>, found: &mut Line) -> Part
-    requires { length line.old.items ≤ 4194304 }
-    ensures { length line.new.items ≤ 4194304 }
+    requires { length line.old.items ≤ 33554432 }
+    ensures { length line.new.items ≤ 33554432 }
 {
     if bytes.is_empty() {
         return Part {
@@ -95,8 +95,8 @@ fn keep(bytes: &[u8], line: &mut Vec<u8>, found: &mut Line) -> Part
 }
 
 fn append(bytes: &[u8], line: &mut Vec<u8>, found: &mut Line)
-    requires { length line.old.items ≤ 4194304 }
-    ensures { length line.new.items ≤ 4194304 }
+    requires { length line.old.items ≤ 33554432 }
+    ensures { length line.new.items ≤ 33554432 }
 {
     if *found == Line::End {
         *found = Line::Whole;

@@ -1,4 +1,4 @@
-//! The program `tcmake`: lines of JSON, as `tcshow --json` writes them or as `tc_json` shows a message, become lines of hex or a
+//! The program `tcmake`: lines of JSON, as `tcshow --json` writes them or messages as it shows them, become lines of hex or a
 //! capture.
 //!
 //! ```text
@@ -13,11 +13,13 @@ mod complaint;
 mod given;
 mod input;
 mod made;
+mod members;
+pub mod message;
 mod packet;
 mod packets;
 pub mod program;
 mod restore;
 pub mod run;
-mod settle;
 pub mod status;
+mod verdict;
 mod writing;

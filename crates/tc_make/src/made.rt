@@ -1,146 +1,80 @@
 //! A message of a line.
 
 ghost use Rattle.std.specs.Prelude.{IfOk};
-ghost use Rattle.tc_make.specs.Written.{IsCanonical};
+ghost use Rattle.serde_json.specs.View.{view};
+ghost use Rattle.tc_make.specs.Answer.{IsMessage};
+ghost use Rattle.tc_make.specs.Line.{IsGiven, message_in};
+ghost use Rattle.tc_make.specs.Made.{IsMade, form_of};
 
+use crate::arguments::Making;
 use crate::complaint::Complaint;
 use crate::given::{Given, given_of};
-use crate::settle::settle_at;
+use crate::message::{Forms, message_of};
 use serde_json::Value;
 use std::alloc::Global;
-use tc_build::{MakeError, ReadError, make_action, make_tc, read_json};
-use tc_capture::Holds;
-
-// How many places of a message are settled at most.
-const MOST_SETTLED: u32 = 1000;
+use tc_forms::Tables;
+use tc_forms_strict::Difference;
+use tc_forms_text::{ReadError, read_json};
 
 /// A message, and what a line says of it.
 #[derive(Drop)]
 pub(crate) struct Made {
     pub(crate) given: Given,
     pub(crate) bytes: Vec<u8>,
-    /// The places that were settled, each on a line.
-    pub(crate) settled: Vec<String>,
+    /// The places that settling changed.
+    pub(crate) settled: Vec<Difference>,
 }
 
 /// The message of a line.
-pub(crate) fn made_of(alloc: Global, line: &[u8], settles: bool) -> Result<Made, Complaint>
-    ensures { IfOk result (λ made. IsCanonical made.given.holds made.bytes.items) }
+pub(crate) fn made_of<T: Tables>(
+    alloc: Global,
+    forms: Forms<T>,
+    line: &[u8],
+    making: Making,
+) -> Result<Made, Complaint>
+    // Number, time, flags and message type are the line's.
+    ensures { IfOk result (λ made. IsMessage (T.parts_of forms.table) forms.tc forms.action making line.now made.given made.bytes.items) }
 {
-    let mut json = match read_json(alloc, line) {
+    let json = match read_json(alloc, line) {
         Ok(json) => json,
-        Err(error) => return Err(complaint_of(error, line)),
+        Err(error) => return Err(unread(error, line)),
     };
-    let given = given_of(alloc, &json)?;
-    let mut settled = Vec::new(alloc);
-    let bytes = match json.get_mut("message") {
-        Some(message) => make(alloc, given.holds, message, settles, &mut settled)?,
-        None => make(alloc, given.holds, &mut json, settles, &mut settled)?,
+    made_of_json(alloc, forms, &json, making)
+}
+
+fn made_of_json<T: Tables>(
+    alloc: Global,
+    forms: Forms<T>,
+    json: &Value,
+    making: Making,
+) -> Result<Made, Complaint>
+    ensures given { IfOk result (λ made. IsGiven (view json.now) made.given) }
+    ensures made { IfOk result (λ made. IsMade (T.parts_of forms.table) (form_of forms.tc forms.action made.given.holds) making made.given.holds
+        (view json.now) (message_in (view json.now)) made.bytes.items) }
+{
+    let given = given_of(alloc, json)?;
+    let message = match json.get("message") {
+        Some(message) => message_of(alloc, forms, making, given.holds, json, message)?,
+        None => message_of(alloc, forms, making, given.holds, json, json)?,
     };
     Ok(Made {
         given,
-        bytes,
-        settled,
+        bytes: message.bytes,
+        settled: message.settled,
     })
 }
 
 // Why a line isn't read as JSON.
-fn complaint_of(error: ReadError, line: &[u8]) -> Complaint {
+fn unread(error: ReadError, line: &[u8]) -> Complaint {
     match error {
-        ReadError::NoJson { column } => {
-            if is_too_deep(line, column) {
-                Complaint::TooDeep
-            } else if is_one_part(line) {
-                Complaint::OnePart
-            } else {
-                Complaint::Read(error)
-            }
-        }
-        error => Complaint::from(error),
+        ReadError::OutOfMemory => Complaint::NoMemory,
+        ReadError::NotJson { .. } if is_one_part(line) => Complaint::OnePart,
+        error => Complaint::Read(error),
     }
-}
-
-// The most that lists and objects nest.
-const MOST_DEPTH: u32 = 127;
-
-// True if more lists and objects than that are open at one of the first bytes.
-fn is_too_deep(line: &[u8], count: usize) -> bool {
-    let (mut depth, mut is_text, mut is_escaped) = (0u32, false, false);
-    for byte in &line[..count.min(line.len())] {
-        match *byte {
-            _ if is_escaped => is_escaped = false,
-            b'\\' => is_escaped = is_text,
-            b'"' => is_text = !is_text,
-            b'[' | b'{' if !is_text => depth = depth.saturating_add(1),
-            b']' | b'}' if !is_text => depth = depth.saturating_sub(1),
-            _ => {}
-        }
-        if depth > MOST_DEPTH {
-            return true;
-        }
-    }
-    false
 }
 
 // True of a line of JSON that is written on several lines: a bracket alone, or what is indented.
 fn is_one_part(line: &[u8]) -> bool {
     matches!(line.trim_ascii(), b"{" | b"}" | b"}," | b"[" | b"]" | b"],")
         || matches!(line, [b' ', b' ', ..] | [b'\t', ..])
-}
-
-// The bytes of a message; what isn't settled is settled first, if that is asked for.
-fn make(
-    alloc: Global,
-    holds: Holds,
-    json: &mut Value,
-    settles: bool,
-    settled: &mut Vec<String>,
-) -> Result<Vec<u8>, Complaint>
-    ensures { IfOk result (λ bytes. IsCanonical holds bytes.items) }
-{
-    for _ in 0..MOST_SETTLED {
-        match make_once(alloc, holds, json) {
-            Ok(bytes) => return Ok(bytes),
-            Err(error) => {
-                if !settles {
-                    return Err(Complaint::Make(error));
-                }
-                let place = settle(alloc, json, error)?;
-                if settled.push(place).is_err() {
-                    return Err(Complaint::NoMemory);
-                }
-            }
-        }
-    }
-    Err(Complaint::TooUnsettled)
-}
-
-fn make_once(alloc: Global, holds: Holds, json: &Value) -> Result<Vec<u8>, MakeError>
-    ensures { IfOk result (λ bytes. IsCanonical holds bytes.items) }
-{
-    match holds {
-        Holds::Tc => make_tc(alloc, json),
-        Holds::Action => make_action(alloc, json),
-    }
-}
-
-// Settles the place of an error, and returns its path.
-fn settle(alloc: Global, json: &mut Value, error: MakeError) -> Result<String, Complaint> {
-    let (path, found, wanted) = match error {
-        MakeError::OutOfMemory => return Err(Complaint::NoMemory),
-        MakeError::Wrong {
-            path,
-            found,
-            wanted,
-        } => (path, found, wanted),
-    };
-    match settle_at(alloc, json, path.as_str(), wanted) {
-        Ok(true) => Ok(path),
-        Ok(false) => Err(Complaint::Make(MakeError::Wrong {
-            path,
-            found,
-            wanted,
-        })),
-        Err(_) => Err(Complaint::NoMemory),
-    }
 }

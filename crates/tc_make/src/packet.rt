@@ -77,7 +77,7 @@ pub(crate) fn seconds_of(time: Time) -> Result<u32, Complaint>
     match u32::try_from(time.seconds) {
         Ok(seconds) => Ok(seconds),
         Err(_) => Err(Complaint::Member {
-            path: "/time",
+            name: "time",
             found: Found::Number(time.seconds),
             wanted: "seconds up to 4294967295",
         }),
@@ -106,7 +106,7 @@ pub(crate) fn with_header(alloc: Global, given: &Given, bytes: &[u8]) -> Result<
         Some(kind) => kind,
         None => {
             return Err(Complaint::Member {
-                path: "/type",
+                name: "type",
                 found: Found::Nothing,
                 wanted: "a message type for the netlink header, or --no-header",
             });

@@ -1,6 +1,7 @@
 //! The program: what it is asked for is done over its streams, and how it ends is its exit status.
 
 use crate::arguments::{Request, request_of};
+use crate::message::Forms;
 use crate::run::run;
 use crate::status::{Stop, status_of};
 use crate::writing::write_all;
@@ -10,11 +11,13 @@ use std::env;
 use std::io::{self, BufRead, BufReader, Input, Print, Write};
 use std::process::ExitCode;
 use std::rt::Env;
+use tc_forms::Tables;
 
 /// The whole program: reads its arguments, makes messages of the lines of standard input, writes them to standard output, and
 /// returns the exit status. Complaints are written to `errors`.
-pub fn tcmake<R: Env + AllocGlobal + Input + Print + Eprint, E: Write>(
+pub fn tcmake<T: Tables, R: Env + AllocGlobal + Input + Print + Eprint, E: Write>(
     rt: &R,
+    forms: Forms<T>,
     errors: &mut E,
 ) -> ExitCode {
     let alloc = rt.alloc();
@@ -27,7 +30,7 @@ pub fn tcmake<R: Env + AllocGlobal + Input + Print + Eprint, E: Write>(
         Err(_) => return ExitCode::from(complain(errors, NO_MEMORY, 3)),
     };
     match request_of(alloc, words.as_slice()) {
-        Ok(request) => ExitCode::from(make(rt, &request, errors)),
+        Ok(request) => ExitCode::from(make(rt, forms, &request, errors)),
         Err(error) => {
             if error.kind() == ErrorKind::OutOfMemory {
                 return ExitCode::from(complain(errors, NO_MEMORY, 3));
@@ -40,23 +43,29 @@ pub fn tcmake<R: Env + AllocGlobal + Input + Print + Eprint, E: Write>(
 
 const NO_MEMORY: &str = "tcmake: out of memory\n";
 
-fn make<R: AllocGlobal + Input + Print, E: Write>(rt: &R, request: &Request, errors: &mut E) -> u8 {
+fn make<T: Tables, R: AllocGlobal + Input + Print, E: Write>(
+    rt: &R,
+    forms: Forms<T>,
+    request: &Request,
+    errors: &mut E,
+) -> u8 {
     let mut writer = io::writer(rt);
     match BufReader::new(rt.alloc(), rt.reader()) {
-        Ok(mut reader) => serve(rt.alloc(), request, &mut reader, &mut writer, errors),
+        Ok(mut reader) => serve(rt.alloc(), forms, request, &mut reader, &mut writer, errors),
         Err(_) => complain(errors, NO_MEMORY, 3),
     }
 }
 
 /// Makes messages of all lines of an input, and returns the exit status.
-pub fn serve<R: BufRead, W: Write, E: Write>(
+pub fn serve<T: Tables, R: BufRead, W: Write, E: Write>(
     alloc: Global,
+    forms: Forms<T>,
     request: &Request,
     reader: &mut R,
     writer: &mut W,
     errors: &mut E,
 ) -> u8 {
-    let ended = run(alloc, request, reader, writer, errors);
+    let ended = run(alloc, forms, request, reader, writer, errors);
     let status = status_of(ended.outcome, ended.has_refused);
     match ended.outcome {
         Ok(()) | Err(Stop::Closed) => status,

@@ -100,7 +100,7 @@ fn dump_of(kind: Option<u16>) -> Result<Dump, Complaint>
         }
     }
     Err(Complaint::Member {
-        path: "/type",
+        name: "type",
         found: match kind {
             Some(kind) => Found::Type(kind),
             None => Found::Nothing,

@@ -1,9 +1,14 @@
 //! A whole run.
 
-use crate::arguments::Request;
-use crate::complaint::{Complaint, Place};
+ghost use Rattle.std.specs.Prelude.{◌≡◌, ◌++◌, ℕ, List, false, IfOk, OnOk};
+ghost use Rattle.tc_make.specs.Answer.{Becomes, IsWire, IsWritten};
+ghost use Rattle.tc_make.specs.Written.{hex_line};
+
+use crate::arguments::{Making, Request};
+use crate::complaint::{Complaint, Notice};
 use crate::input::{Line, next_line};
 use crate::made::{Made, made_of};
+use crate::message::Forms;
 use crate::packet::{CAPTURE, put_line, with_header};
 use crate::packets::Packet;
 use crate::restore::restored;
@@ -11,6 +16,7 @@ use crate::status::Stop;
 use crate::writing::write_all;
 use std::alloc::Global;
 use std::io::{BufRead, Write};
+use tc_forms::Tables;
 
 /// How a run ended.
 #[derive(Clone, Copy, PartialEq, Eq, Debug)]
@@ -22,23 +28,25 @@ pub struct Ended {
 }
 
 /// Makes messages of all lines of an input. Complaints, and what was settled, are written to `errors`.
-pub fn run<R: BufRead, W: Write, E: Write>(
+pub fn run<T: Tables, R: BufRead, W: Write, E: Write>(
     alloc: Global,
+    forms: Forms<T>,
     request: &Request,
     reader: &mut R,
     writer: &mut W,
     errors: &mut E,
 ) -> Ended {
     let mut has_refused = false;
-    let outcome = make_all(alloc, request, reader, writer, errors, &mut has_refused);
+    let outcome = make_all(alloc, forms, request, reader, writer, errors, &mut has_refused);
     Ended {
         outcome,
         has_refused,
     }
 }
 
-fn make_all<R: BufRead, W: Write, E: Write>(
+fn make_all<T: Tables, R: BufRead, W: Write, E: Write>(
     alloc: Global,
+    forms: Forms<T>,
     request: &Request,
     reader: &mut R,
     writer: &mut W,
@@ -56,9 +64,13 @@ fn make_all<R: BufRead, W: Write, E: Write>(
         if found == Line::End {
             break;
         }
+        if is_blank(&line) && found == Line::Whole {
+            continue;
+        }
         out.clear();
         let put = put_message(
             alloc,
+            forms,
             request,
             found,
             &line,
@@ -83,9 +95,15 @@ fn make_all<R: BufRead, W: Write, E: Write>(
     }
 }
 
-// Appends the message of a line, and says what was settled in it. A blank line has none.
-fn put_message<E: Write>(
+// True of a line that holds nothing.
+fn is_blank(line: &[u8]) -> bool {
+    line.iter().all(|byte| byte.is_ascii_whitespace())
+}
+
+// Appends the message of a line, and says what was settled in it.
+fn put_message<T: Tables, E: Write>(
     alloc: Global,
+    forms: Forms<T>,
     request: &Request,
     found: Line,
     line: &[u8],
@@ -93,40 +111,66 @@ fn put_message<E: Write>(
     packet: &mut Packet,
     out: &mut Vec<u8>,
     errors: &mut E,
-) -> Result<(), Complaint> {
+) -> Result<(), Complaint>
+    ensures hex { request.now.pcap ≡ false → OnOk result ((text : List ℕ) × (out.new.items ≡ out.old.items ++ text)
+        × IsWritten (T.parts_of forms.table) forms.tc forms.action request.now.no_header request.now.making line.now text) }
+{
     match found {
         Line::TooLong => return Err(Complaint::TooLong),
         Line::NoMemory => return Err(Complaint::NoMemory),
         Line::Whole | Line::End => (),
     }
-    if line.iter().all(|byte| byte.is_ascii_whitespace()) {
-        return Ok(());
+    let made = make_line(alloc, forms, request.making, line)?;
+    if request.pcap {
+        put_in_packet(alloc, &made, packet, out)?;
+    } else {
+        put_hex(alloc, request.no_header, &made, out)?;
     }
-    let mut made = made_of(alloc, line, request.settle)?;
-    if request.restores {
-        made = restored(alloc, made)?;
-    }
-    put_made(alloc, request, &made, packet, out)?;
     say_settled(alloc, errors, number, &made)
 }
 
-// Appends a message as it is asked for; in a capture, the packet before it, if that ends here.
-fn put_made(
+// The message that a line becomes.
+fn make_line<T: Tables>(
     alloc: Global,
-    request: &Request,
+    forms: Forms<T>,
+    making: Making,
+    line: &[u8],
+) -> Result<Made, Complaint>
+    ensures { IfOk result (λ made. Becomes (T.parts_of forms.table) forms.tc forms.action making line.now made.given made.bytes.items) }
+{
+    let made = made_of(alloc, forms, line, making)?;
+    match making {
+        Making::Restored => restored(alloc, made),
+        Making::Checked | Making::Settled | Making::AsGiven => Ok(made),
+    }
+}
+
+// Appends a message to its packet; the packet before it, if that ends here, is appended to `out`.
+fn put_in_packet(
+    alloc: Global,
     made: &Made,
     packet: &mut Packet,
     out: &mut Vec<u8>,
 ) -> Result<(), Complaint> {
-    if request.no_header && !request.pcap {
+    let whole = with_header(alloc, &made.given, &made.bytes)?;
+    packet.add(&made.given.packet, &whole, out)
+}
+
+// Appends a message as a line of hex.
+fn put_hex(
+    alloc: Global,
+    no_header: bool,
+    made: &Made,
+    out: &mut Vec<u8>,
+) -> Result<(), Complaint>
+    ensures { OnOk result ((whole : List ℕ) × IsWire no_header made.now.given made.now.bytes.items whole
+        × (out.new.items ≡ out.old.items ++ hex_line whole)) }
+{
+    if no_header {
         return put_line(alloc, out, &made.bytes);
     }
     let whole = with_header(alloc, &made.given, &made.bytes)?;
-    if request.pcap {
-        packet.add(&made.given.packet, &whole, out)
-    } else {
-        put_line(alloc, out, &whole)
-    }
+    put_line(alloc, out, &whole)
 }
 
 fn say_settled<E: Write>(
@@ -135,9 +179,9 @@ fn say_settled<E: Write>(
     number: u64,
     made: &Made,
 ) -> Result<(), Complaint> {
-    for path in &made.settled {
-        let place = Place(path.as_str());
-        let text = format!(in alloc; "tcmake: line {number}: {place}: settled\n")?;
+    for place in &made.settled {
+        let notice = Notice(place);
+        let text = format!(in alloc; "tcmake: line {number}: {notice}\n")?;
         let _ = write_all(errors, text.as_bytes());
     }
     Ok(())

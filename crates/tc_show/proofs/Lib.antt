@@ -1,2 +1,4 @@
 mod Fronts
 mod Clean
+mod Puts
+mod Progress

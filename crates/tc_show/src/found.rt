@@ -1,5 +1,9 @@
 //! A message of traffic control that was found.
 
+ghost use Rattle.std.specs.Prelude.{◌≡◌};
+ghost use Rattle.tc_capture.specs.Message.{message_of};
+ghost use Rattle.tc_show.specs.Found.{header_view, header_with};
+
 use nla_frames::strip_nul;
 use tc_capture::{Holds, NetlinkMessage, Time, rtm_of};
 use tc_index::{Attribute, Attributes};
@@ -50,10 +54,20 @@ pub(crate) struct Found<'a> {
 }
 
 impl<'a> Found<'a> {
+    ghost use Rattle.std.specs.Prelude.{◌≡◌, None, option_map};
+    ghost use Rattle.tc_capture.specs.Message.{message_of};
+    ghost use Rattle.tc_show.specs.Found.{header_view, message_view, message_in, nowhere};
+    ghost use Rattle.tc_show.specs.Shown.{type_name};
+
     /// The message in a netlink message; `None` where that is no traffic control.
-    pub(crate) fn in_netlink(origin: Origin, message: &NetlinkMessage<'a>) -> Option<Found<'a>> {
+    pub(crate) fn in_netlink(origin: Origin, message: &NetlinkMessage<'a>) -> Option<Found<'a>>
+        ensures { option_map message_view result ≡ message_in origin (message_of message.now) }
+    {
         let rtm = rtm_of(message.kind)?;
-        let what = What::of_type(message.kind)?;
+        let what = match What::of_type(message.kind) {
+            Some(what) => what,
+            None => what_of(rtm.holds, message.payload),
+        };
         Some(Found {
             origin,
             header: Some(header_of(rtm.name, message)),
@@ -64,7 +78,9 @@ impl<'a> Found<'a> {
     }
 
     /// A message without the header of a netlink message.
-    pub(crate) fn alone(holds: Holds, payload: &'a [u8]) -> Found<'a> {
+    pub(crate) fn alone(holds: Holds, payload: &'a [u8]) -> Found<'a>
+        ensures { message_view result ≡ record { origin = nowhere; header = None; holds = holds; payload = payload.now } }
+    {
         Found {
             origin: NOWHERE,
             header: None,
@@ -75,7 +91,9 @@ impl<'a> Found<'a> {
     }
 
     /// The name of its type; empty where there is no header.
-    pub(crate) fn name(&self) -> &'static str {
+    pub(crate) fn name(&self) -> &'static str
+        ensures { result.now ≡ type_name (option_map header_view self.now.header) }
+    {
         match &self.header {
             Some(header) => header.name,
             None => "",
@@ -106,7 +124,9 @@ impl<'a> Found<'a> {
 }
 
 /// What is shown of the header of a message whose type has this name.
-pub(crate) fn header_of(name: &'static str, message: &NetlinkMessage<'_>) -> Header {
+pub(crate) fn header_of(name: &'static str, message: &NetlinkMessage<'_>) -> Header
+    ensures { header_view result ≡ header_with name.now (message_of message.now) }
+{
     Header {
         name,
         flags: message.flags,

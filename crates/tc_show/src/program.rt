@@ -1,6 +1,7 @@
 //! The program: what it is asked for is done over its streams, and how it ends is its exit status.
 
-ghost use Rattle.std.specs.Prelude.{◌≡◌, ◌≢◌};
+ghost use Rattle.std.specs.Prelude.{◌≡◌, ◌≢◌, OnOk};
+ghost use Rattle.tc_show.specs.State.{Ran};
 ghost use Rattle.tc_show.specs.Status.{status_of};
 ghost use Rattle.tc_show.specs.Writing.{GrowsClean};
 ghost use Rattle.tc_show.specs.declared.asked.Form.TheVariants.{Json};
@@ -127,7 +128,10 @@ pub fn serve<A: Allocator + Copy, R: Read, W: Write, E: Write>(
     writer: &mut W,
     errors: &mut E,
 ) -> u8
-    ensures status { (ended : Ended) × (result ≡ status_of ended.outcome ended.has_refused) }
+    // The status says how the run ended. Where it came to the end of its input, what is shown of all things in it is written, and the status
+    // says whether one of them is refused or broken.
+    ensures status { (ended : Ended) × (result ≡ status_of ended.outcome ended.has_refused)
+        × OnOk ended.outcome (Ran asked.now ended.has_refused (W.contents writer.old) (W.contents writer.new)) }
     // No byte of a message reaches the output but as printable ASCII.
     ensures clean { asked.now.form ≢ Json → GrowsClean (W.contents writer.old) (W.contents writer.new) }
 {

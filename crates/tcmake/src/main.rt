@@ -2,8 +2,15 @@
 #![tactic(auto)]
 
 use std::process::ExitCode;
+use tc_kinds::{ACTION_MESSAGE, TC_MESSAGE, TcTables};
+use tc_make::message::Forms;
 use tc_make::program::tcmake;
 
 fn main(rt: HostRuntime) -> ExitCode {
-    tcmake(&rt, &mut rt.stderr())
+    let forms = Forms {
+        table: TcTables,
+        tc: TC_MESSAGE,
+        action: ACTION_MESSAGE,
+    };
+    tcmake(&rt, forms, &mut rt.stderr())
 }

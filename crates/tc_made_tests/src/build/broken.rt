@@ -1,11 +1,12 @@
 //! The JSON of messages, broken in one place at a time: the error names the place.
 
-use crate::build::back::{made_of, shown};
 use serde_json::{Map, Value};
 use std::alloc::Global;
 use std::test::Fail;
-use tc_build::MakeError;
-use tc_test_messages::{Expected, Form, Row, captured, made};
+use tc_forms::{Form, MakeError};
+use tc_forms_strict::{StrictError, made_strictly, shown_json};
+use tc_kinds::{ACTION_MESSAGE, TC_MESSAGE, TcTables};
+use tc_test_messages::{self as messages, Expected, Row, captured, made};
 
 // What is wrong with a value, or with a member of an object.
 #[derive(Clone, Copy, Debug)]
@@ -16,8 +17,6 @@ enum Fault {
     Bracket,
     // A number that no field holds.
     Range,
-    // A number with a bit more than its mask.
-    Mask,
     // A text with a character more.
     Garbled,
     // An object with a member more.
@@ -30,11 +29,10 @@ enum Fault {
     Kind,
 }
 
-static FAULTS: [Fault; 9] = [
+static FAULTS: [Fault; 8] = [
     Fault::Null,
     Fault::Bracket,
     Fault::Range,
-    Fault::Mask,
     Fault::Garbled,
     Fault::Extra,
     Fault::Missing,
@@ -51,56 +49,12 @@ fn other_name(fault: Fault, name: &str) -> &'static str {
     }
 }
 
-// True if the value at a place is a number by its name, or `{"Other":n}`.
-fn is_named_number(path: &str) -> bool {
-    path.ends_with("/family") || path.ends_with("/action") || path.ends_with("/eaction")
-}
-
-fn is_capital(c: char) -> bool {
-    c.is_ascii_uppercase()
-}
-
-// True if the value at a place is an object of one member, named as a variant.
-fn is_variant(json: &Value, path: &str) -> bool {
-    match json.pointer(path).and_then(Value::as_object) {
-        Some(members) if members.len() == 1 && !is_named_number(path) => {
-            match members.iter().next() {
-                Some((name, _)) => name.starts_with(is_capital),
-                None => false,
-            }
-        }
-        _ => false,
-    }
-}
-
-// The attributes of an action whose kind is at this place.
+// The attributes of the list that a kind at this place is in.
 fn list_of_kind<'p>(json: &Value, path: &'p str) -> Option<&'p str> {
     let item = path.strip_suffix("/Kind").unwrap_or(path);
-    let (list, _) = item.rsplit_once('/')?;
     json.pointer(item)?.get("Kind")?;
-    if list.ends_with("/attributes") && list != "/attributes" {
-        Some(list)
-    } else {
-        None
-    }
-}
-
-// The place that the error is to name.
-fn named_place(alloc: Global, json: &Value, path: &str, fault: Fault) -> Result<String, Fail> {
-    let (parent, name) = path.rsplit_once('/').unwrap_or(("", ""));
-    let place = match (fault, list_of_kind(json, path)) {
-        (Fault::Extra, _) if is_variant(json, path) => path,
-        (Fault::Extra, _) => return Ok(format!(in alloc; "{path}/Nobody")?),
-        (_, Some(list)) => list,
-        (Fault::Missing | Fault::Name, None) if is_named_number(parent) => parent,
-        (Fault::Missing, None) if is_variant(json, parent) => parent,
-        (Fault::Name | Fault::Kind, None) => {
-            let other = other_name(fault, name);
-            return Ok(format!(in alloc; "{parent}/{other}")?);
-        }
-        _ => path,
-    };
-    Ok(String::from_str(alloc, place)?)
+    let (list, _) = item.rsplit_once('/')?;
+    Some(list)
 }
 
 // A value with a fault. None where it can't have this one.
@@ -110,9 +64,6 @@ fn faulty(alloc: Global, fault: Fault, name: &str, value: &Value) -> Result<Opti
         (Fault::Bracket, Value::Array(_), _) => Some(Value::Object(Map::new(alloc))),
         (Fault::Bracket, _, _) => Some(Value::Array(Vec::new(alloc))),
         (Fault::Range, Value::Number(_), _) => Some(Value::from(i64::MIN)),
-        (Fault::Mask, _, "MplsBos") => Some(Value::from(2u64)),
-        (Fault::Mask, _, "MplsTc") => Some(Value::from(8u64)),
-        (Fault::Mask, _, "MplsLabel" | "LseLabel") => Some(Value::from(0x10_0000u64)),
         (Fault::Garbled, _, "Kind" | "InDev" | "ProgName" | "RootExtWarnMsg") => None,
         (Fault::Garbled, Value::String(text), _) => {
             let text = format!(in alloc; "{text}~")?;
@@ -128,9 +79,9 @@ fn damage(alloc: Global, json: &mut Value, path: &str, fault: Fault) -> Result<b
     match fault {
         Fault::Extra => change_member(alloc, json, path, "", "Nobody"),
         Fault::Missing | Fault::Name | Fault::Kind if path.is_empty() => Ok(false),
+        Fault::Missing if is_extra(name) => Ok(false),
         Fault::Missing => change_member(alloc, json, parent, name, ""),
         Fault::Name => change_member(alloc, json, parent, name, other_name(fault, name)),
-        Fault::Kind if !is_variant(json, parent) => Ok(false),
         Fault::Kind => change_member(alloc, json, parent, name, other_name(fault, name)),
         _ => {
             if let Some(held) = json.pointer_mut(path) {
@@ -186,12 +137,32 @@ fn places(alloc: Global, value: &Value, path: String, found: &mut Vec<String>) -
     Ok(found.push(path)?)
 }
 
-// True if the error names this place.
-fn is_named(made: &Result<Vec<u8>, MakeError>, place: &str) -> bool {
-    match made {
-        Err(MakeError::Wrong { path, .. }) => path.as_str() == place,
-        _ => false,
+// True if the error is of this place, or near it: of what it is a part of, or of a part of either. Where a kind is broken, of the list
+// that it is in.
+fn is_named(whole: &Value, made: &Result<Vec<u8>, StrictError>, path: &str, fault: Fault) -> bool {
+    let found = match made {
+        Err(StrictError::Make(MakeError::Wrong { path, .. })) => path.as_str(),
+        Err(StrictError::Differs(difference)) => difference.path.as_str(),
+        _ => return false,
+    };
+    if let Fault::Extra = fault {
+        return found.strip_suffix("/Nobody") == Some(path);
     }
+    match list_of_kind(whole, path) {
+        Some(list) => found.starts_with(list),
+        None => {
+            let (parent, _) = path.rsplit_once('/').unwrap_or(("", ""));
+            match found.strip_prefix(parent) {
+                Some(rest) => rest.split('/').count() <= 3,
+                None => false,
+            }
+        }
+    }
+}
+
+// True of a member that is there only where it says something: bytes are made without it too.
+fn is_extra(name: &str) -> bool {
+    matches!(name, "word" | "pad" | "bare" | "rest")
 }
 
 // Breaks JSON at one place. True if the error names the place; None where there can't be this fault.
@@ -206,22 +177,25 @@ fn names_its_place(
     if !damage(alloc, &mut json, path, fault)? {
         return Ok(None);
     }
-    let place = named_place(alloc, whole, path, fault)?;
-    let made = made_of(alloc, form, &json);
-    Ok(Some(is_named(&made, place.as_str())))
+    let made = made_strictly(alloc, TcTables, form, &json);
+    Ok(Some(is_named(whole, &made, path, fault)))
 }
 
 // Breaks the JSON of a message in each place, or in some of many: how often the error named the place, and a text on the first
 // where it didn't.
 fn broken(alloc: Global, row: &Row, named: &mut u32) -> Result<String, Fail> {
-    let whole = shown(alloc, &row.input)?;
+    let form = match row.input.form {
+        messages::Form::Tc => TC_MESSAGE,
+        messages::Form::Action => ACTION_MESSAGE,
+    };
+    let whole = shown_json(alloc, TcTables, form, &row.input.bytes)?;
     let mut found = Vec::new(alloc);
     places(alloc, &whole, String::new(alloc), &mut found)?;
     let step = found.len() / 20 * 2 + 1;
     for (index, path) in found.iter().enumerate() {
         if index % step == 0 {
             for fault in FAULTS {
-                match names_its_place(alloc, row.input.form, &whole, path.as_str(), fault)? {
+                match names_its_place(alloc, form, &whole, path.as_str(), fault)? {
                     Some(true) => *named = named.saturating_add(1),
                     Some(false) => return Ok(format!(in alloc; "{fault:?} at {path}")?),
                     None => (),
@@ -239,9 +213,7 @@ fn errors_name_their_place(rt: HostRuntime) -> Result<(), Fail> {
     for rows in [made(alloc)?, captured(alloc)?] {
         for row in &rows {
             if let Expected::Accepted {
-                fits: true,
-                settled: true,
-                ..
+                canonical: true, ..
             } = &row.expected
             {
                 assert_eq!(rt; broken(alloc, row, &mut named)?.as_str(), "");

@@ -5,7 +5,7 @@ use std::alloc::Global;
 use std::test::Fail;
 
 // Lines of which no message is made, and what is said of them.
-static ROWS: [(&str, &str); 19] = [
+static ROWS: [(&str, &str); 18] = [
     (
         r#"{"type":"RTM_NEWQDISC","seq":-1,"message":{"header":{"family":"Unspec","index":2,"handle":"1:","parent":"root","info":0},"attributes":[{"Kind":"fq_codel"}]}}"#,
         r#"/seq: found -1, wanted a number from 0 to 4294967295"#,
@@ -48,15 +48,11 @@ static ROWS: [(&str, &str); 19] = [
     ),
     (
         r#"{"type":"RTM_NEWQDISC","message":{"header":{"family":"Unspec","index":2,"handle":"1:","parent":"root","info":0,"a\u001b\u0007\n":1},"attributes":[]}}"#,
-        r#"/header/a\u001b\u0007\u000a: found 1, wanted no member of this name"#,
+        r#"/header/a\u001b\u0007\u000a: found 1, wanted nothing"#,
     ),
     (
         r#"{"type":"RTM_NEWQDISC","a\u0007b":1,"a\u0007b":2,"message":{"header":{"family":"Unspec","index":2,"handle":"1:","parent":"root","info":0},"attributes":[{"Kind":"fq_codel"}]}}"#,
         r#"/a\u0007b: found twice, wanted once"#,
-    ),
-    (
-        r#"{"type":"RTM_NEWQDISC","message":{"header":{"family":"Inet4","index":2,"handle":"1:","parent":"root","info":0},"attributes":[]}}"#,
-        r#"/header/family: found "Inet4", wanted the name of an address family, or {"Other":n}: Unspec, Unix, Inet, Bridge, Inet6, Netlink, Packet, Mpls"#,
     ),
     (
         r#"{"summary":{"messages":[],"faults":[]},"all":{}}"#,
@@ -104,7 +100,7 @@ fn each_complaint(rt: HostRuntime) -> Result<(), Fail> {
 #[test]
 fn a_long_line(rt: HostRuntime) -> Result<(), Fail> {
     let alloc = rt.alloc();
-    let mut lines = vec![in alloc; b' '; 4_194_305]?;
+    let mut lines = vec![in alloc; b' '; 33_554_433]?;
     lines.extend_from_slice(
         b"\n{\"type\":\"RTM_GETACTION\",\"message\":{\"header\":{\"family\":\"Unspec\"},\"attributes\":[]}}",
     )?;
@@ -113,6 +109,6 @@ fn a_long_line(rt: HostRuntime) -> Result<(), Fail> {
         run.status == 1
             && run.written.as_slice() == b"1400000032000000000000000000000000000000\n".as_slice()
     );
-    assert!(rt; run.errors.as_slice() == b"tcmake: line 1: longer than 4194304 bytes\n".as_slice());
+    assert!(rt; run.errors.as_slice() == b"tcmake: line 1: longer than 33554432 bytes\n".as_slice());
     Ok(())
 }

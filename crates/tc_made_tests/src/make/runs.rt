@@ -1,24 +1,40 @@
 //! A run in memory.
 
 use std::alloc::Global;
-use tc_make::arguments::Request;
+use tc_kinds::{ACTION_MESSAGE, TC_MESSAGE, TcTables};
+use tc_make::arguments::{Making, Request};
+use tc_make::message::Forms;
 use tc_make::program::serve;
+
+/// The forms of both messages.
+pub(crate) const FORMS: Forms<TcTables> = Forms {
+    table: TcTables,
+    tc: TC_MESSAGE,
+    action: ACTION_MESSAGE,
+};
 
 /// What is asked for without arguments.
 pub(crate) const HEX: Request = Request {
     no_header: false,
     pcap: false,
-    settle: false,
-    restores: false,
+    making: Making::Checked,
 };
 
 /// A capture in place of lines of hex.
 pub(crate) const PCAP: Request = Request {
     no_header: false,
     pcap: true,
-    settle: false,
-    restores: false,
+    making: Making::Checked,
 };
+
+/// Messages without a netlink header, made so.
+pub(crate) fn bare(making: Making) -> Request {
+    Request {
+        no_header: true,
+        pcap: false,
+        making,
+    }
+}
 
 /// What a run wrote, and its status.
 #[derive(Drop)]
@@ -31,7 +47,7 @@ pub(crate) struct Outcome {
 /// A run over lines.
 pub(crate) fn made(alloc: Global, request: &Request, lines: &[u8]) -> Outcome {
     let (mut reader, mut written, mut errors) = (lines, Vec::new(alloc), Vec::new(alloc));
-    let status = serve(alloc, request, &mut reader, &mut written, &mut errors);
+    let status = serve(alloc, FORMS, request, &mut reader, &mut written, &mut errors);
     Outcome {
         status,
         written,

@@ -1,6 +1,6 @@
 //! Streams that fail, that are interrupted, and that are closed.
 
-use crate::make::runs::{PCAP, made};
+use crate::make::runs::{FORMS, PCAP, made};
 use std::alloc::Global;
 use std::io::{BufReader, Error, ErrorKind, Read, Result, Write};
 use std::test::Fail;
@@ -76,7 +76,7 @@ fn run(
     let mut from = BufReader::with_capacity(alloc, 64, from)?;
     let mut to = slowly(Vec::new(alloc), writer.0, writer.1, writer.2);
     let mut errors = Vec::new(alloc);
-    let status = serve(alloc, &PCAP, &mut from, &mut to, &mut errors);
+    let status = serve(alloc, FORMS, &PCAP, &mut from, &mut to, &mut errors);
     Ok((status, to.inner, errors))
 }
 

@@ -1,6 +1,6 @@
 use Rattle.std.specs.Prelude.{codes}
 use Rattle.std.proofs.lemmas.Result.{on_ok_weaker}
-use Rattle.tc_json.proofs.Sends.{sent_then}
+use Rattle.tc_forms.proofs.Sending.{sent_then}
 use Rattle.tc_show.specs.Line.{bool_field}
 use Rattle.tc_show.proofs.json.show_forms.Goals as goal
 

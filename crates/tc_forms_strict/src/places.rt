@@ -1,0 +1,215 @@
+//! The places where two values of JSON differ.
+
+use crate::same::is_same;
+use serde_json::{Map, Value};
+use std::alloc::{AllocError, Global};
+use std::fmt;
+
+/// A place where JSON differs from what is wanted.
+#[derive(Drop)]
+pub struct Difference {
+    /// The place, as a JSON pointer (RFC 6901); empty of the whole.
+    pub path: String,
+    /// What is there, as JSON; a list, an object and a long text by a word for it. None where nothing is.
+    pub found: Option<String>,
+    /// What is wanted there. None where nothing is.
+    pub wanted: Option<String>,
+}
+
+impl fmt::Display for Difference {
+    fn fmt<W: fmt::Write>(&self, f: &mut fmt::Formatter<W>) -> fmt::Result {
+        if !self.path.is_empty() {
+            write!(f, "{}: ", self.path)?;
+        }
+        write!(f, "found {}, wanted {}", text_or_nothing(&self.found), text_or_nothing(&self.wanted))
+    }
+}
+
+fn text_or_nothing(text: &Option<String>) -> &str {
+    match text {
+        Some(text) => text.as_str(),
+        None => "nothing",
+    }
+}
+
+/// The places where JSON differs from what is wanted: of lists item by item, of objects member by member.
+pub fn differences<'v>(
+    alloc: Global,
+    found: &'v Value,
+    wanted: &'v Value,
+) -> Result<Vec<Difference>, AllocError> {
+    let mut search = Search::new(alloc, usize::MAX);
+    search.compare(found, wanted)?;
+    Ok(search.differences)
+}
+
+/// The first of them; of JSON that is what is wanted, the whole.
+pub(crate) fn first_difference<'v>(
+    alloc: Global,
+    found: &'v Value,
+    wanted: &'v Value,
+) -> Result<Difference, AllocError> {
+    let mut search = Search::new(alloc, 1);
+    search.compare(found, wanted)?;
+    match search.differences.pop() {
+        Some(difference) => Ok(difference),
+        None => between(alloc, &[], Some(found), Some(wanted)),
+    }
+}
+
+// A step of a JSON pointer.
+#[derive(Clone, Copy)]
+enum Step<'v> {
+    Member(&'v str),
+    Item(usize),
+}
+
+// What was found so far, and where the search is.
+#[derive(Drop)]
+struct Search<'v> {
+    alloc: Global,
+    place: Vec<Step<'v>>,
+    // How many differences are listed at most.
+    most: usize,
+    differences: Vec<Difference>,
+}
+
+impl<'v> Search<'v> {
+    fn new(alloc: Global, most: usize) -> Search<'v> {
+        Search {
+            alloc,
+            place: Vec::new(alloc),
+            most,
+            differences: Vec::new(alloc),
+        }
+    }
+
+    #[cycle(compare)]
+    fn compare(&mut self, found: &'v Value, wanted: &'v Value) -> Result<(), AllocError> {
+        match (found, wanted) {
+            (Value::Array(found), Value::Array(wanted)) => self.compare_items(found, wanted),
+            (Value::Object(found), Value::Object(wanted)) => self.compare_members(found, wanted),
+            _ => {
+                if is_same(found, wanted) {
+                    return Ok(());
+                }
+                self.put(Some(found), Some(wanted))
+            }
+        }
+    }
+
+    #[cycle(compare)]
+    fn compare_items(
+        &mut self,
+        found: &'v Vec<Value>,
+        wanted: &'v Vec<Value>,
+    ) -> Result<(), AllocError> {
+        for (index, item) in found.iter().enumerate() {
+            self.place.push(Step::Item(index))?;
+            match wanted.get(index) {
+                Some(other) => self.compare(item, other)?,
+                None => self.put(Some(item), None)?,
+            }
+            self.place.pop();
+        }
+        for (index, item) in wanted.iter().enumerate().skip(found.len()) {
+            self.place.push(Step::Item(index))?;
+            self.put(None, Some(item))?;
+            self.place.pop();
+        }
+        Ok(())
+    }
+
+    #[cycle(compare)]
+    fn compare_members(
+        &mut self,
+        found: &'v Map<String, Value>,
+        wanted: &'v Map<String, Value>,
+    ) -> Result<(), AllocError> {
+        for (name, member) in found {
+            self.place.push(Step::Member(name.as_str()))?;
+            match wanted.get(name.as_str()) {
+                Some(other) => self.compare(member, other)?,
+                None => self.put(Some(member), None)?,
+            }
+            self.place.pop();
+        }
+        for (name, member) in wanted {
+            if found.get(name.as_str()).is_none() {
+                self.place.push(Step::Member(name.as_str()))?;
+                self.put(None, Some(member))?;
+                self.place.pop();
+            }
+        }
+        Ok(())
+    }
+
+    // Lists this place.
+    fn put(&mut self, found: Option<&Value>, wanted: Option<&Value>) -> Result<(), AllocError> {
+        if self.differences.len() < self.most {
+            let difference = between(self.alloc, &self.place, found, wanted)?;
+            self.differences.push(difference)?;
+        }
+        Ok(())
+    }
+}
+
+fn between(
+    alloc: Global,
+    place: &[Step<'_>],
+    found: Option<&Value>,
+    wanted: Option<&Value>,
+) -> Result<Difference, AllocError> {
+    Ok(Difference {
+        path: pointer(alloc, place)?,
+        found: brief_of(alloc, found)?,
+        wanted: brief_of(alloc, wanted)?,
+    })
+}
+
+// A place as a JSON pointer.
+fn pointer(alloc: Global, place: &[Step<'_>]) -> Result<String, AllocError> {
+    let mut path = String::new(alloc);
+    for step in place {
+        path.push('/')?;
+        match step {
+            Step::Member(name) => push_escaped(&mut path, name)?,
+            Step::Item(index) => path.push_str(format!(in alloc; "{index}")?.as_str())?,
+        }
+    }
+    Ok(path)
+}
+
+// Appends a name as a pointer has it: `~0` for `~`, `~1` for `/`.
+fn push_escaped(path: &mut String, name: &str) -> Result<(), AllocError> {
+    for c in name.chars() {
+        match c {
+            '~' => path.push_str("~0")?,
+            '/' => path.push_str("~1")?,
+            c => path.push(c)?,
+        }
+    }
+    Ok(())
+}
+
+// The longest text that is shown whole, in bytes.
+const MOST_SHOWN: usize = 80;
+
+/// A value as an error shows it: by its text; a list, an object and a long text by a word for it.
+pub fn brief(alloc: Global, value: &Value) -> Result<String, AllocError> {
+    match value {
+        Value::Array(items) => format!(in alloc; "a list of {}", items.len()),
+        Value::Object(members) => format!(in alloc; "an object of {}", members.len()),
+        Value::String(text) if text.len() > MOST_SHOWN => {
+            format!(in alloc; "a text of {} bytes", text.len())
+        }
+        _ => value.to_string(alloc),
+    }
+}
+
+fn brief_of(alloc: Global, value: Option<&Value>) -> Result<Option<String>, AllocError> {
+    match value {
+        None => Ok(None),
+        Some(value) => Ok(Some(brief(alloc, value)?)),
+    }
+}
