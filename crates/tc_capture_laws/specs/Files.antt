@@ -1,5 +1,5 @@
 -- The same packets as a file of each format.
-use Rattle.std.specs.Prelude.{◌≡◌, ◌≢◌, ◌<◌, ◌≤◌, ℕ, ◌+◌, ◌*◌, ◌/◌, ◌%◌, ◌^◌, List, [], ◌∷◌, ◌++◌, All, length, map, replicate, Some, None, Ok}
+use Rattle.std.specs.Prelude.{◌≡◌, ◌≢◌, ◌<◌, ◌≤◌, ℕ, ◌+◌, ◌*◌, ◌/◌, ◌%◌, ◌^◌, List, [], ◌∷◌, ◌++◌, All, length, map, replicate, Option, Some, None, Ok}
 use Rattle.std.specs.List.{flat_map}
 use Rattle.byteorder.specs.Endian.{little_bytes, big_bytes}
 use Rattle.tc_capture.specs.declared.order.Order.{Order}
@@ -54,8 +54,8 @@ abbrev pub as_read : Packet → Read
 as_read p = packet (record { time = Some p.time; packet_type = Some p.packet_type; messages = map (λ (m : Message). Ok m) p.messages })
 
 -- what is to be read of a message in a stream
-abbrev pub alone_as_read : Message → Read
-alone_as_read m = packet (record { time = None; packet_type = None; messages = Ok m ∷ [] })
+abbrev pub alone_as_read : Option Time → Message → Read
+alone_as_read time m = packet (record { time = time; packet_type = None; messages = Ok m ∷ [] })
 
 abbrev pub all_messages : List Packet → List Message
 all_messages packets = flat_map (λ (p : Packet). p.messages) packets
@@ -84,8 +84,39 @@ HasNoPadding m = length m.payload % 4 ≡ 0
 abbrev pub IsNoTime : Message → Type 0
 IsNoTime m = m.kind ≢ 15
 
+-- a message that is no longer than so many bytes
+abbrev pub HasAtMost : ℕ → Message → Type 0
+HasAtMost most m = length (message_bytes m) ≤ most
+
 abbrev pub stream_file : List Message → List ℕ
 stream_file messages = messages_bytes messages
+
+-- NLMSG_TSTAMP: seconds and microseconds
+abbrev pub stamp : Time → Message
+stamp time = record {
+  kind = 15;
+  flags = 0;
+  sequence = 0;
+  port = 0;
+  payload = little_bytes 4 time.seconds ++ little_bytes 4 (time.nanoseconds / 1000);
+}
+
+-- a stream with times, as `rtmon` writes it
+abbrev pub timed_file : List Packet → List ℕ
+timed_file packets = flat_map (λ (p : Packet). message_bytes (stamp p.time) ++ messages_bytes p.messages) packets
+
+-- the time is one of whole microseconds, and each message has so many bytes at most
+pub record IsTimed (most : ℕ) (p : Packet) : Type 0 where
+  pub seconds : p.time.seconds < 2 ^ 32
+  pub nanoseconds : p.time.nanoseconds < 10 ^ 9
+  pub microseconds : p.time.nanoseconds % 1000 ≡ 0
+  pub messages : All IsMessage p.messages
+  pub others : All IsNoTime p.messages
+  pub lengths : All (HasAtMost most) p.messages
+
+-- what is to be read of it
+abbrev pub timed_as_read : List Packet → List Read
+timed_as_read packets = flat_map (λ (p : Packet). map (alone_as_read (Some p.time)) p.messages) packets
 
 -- ---- pcap and pcapng, in either byte order
 
