@@ -69,7 +69,7 @@ module _ (order : Order) (longest most : ℕ) (packets : List Packet) (room : lo
   pub pcap-holds : messages_read most (pcap_file order longest packets) ≡ Some (map ok (all_messages packets))
   pcap-holds =
       hold most (pcap_file order longest packets) (map as_read packets) (all_messages packets)
-      (pcap-read order longest longest most packets (omega arith) (omega arith) (omega arith) all) (packets-hold packets)
+      (pcap-read order longest most packets (omega arith) (omega arith) (omega arith) all) (packets-hold packets)
 
   pub pcapng-holds : messages_read most (pcapng_file order packets) ≡ Some (map ok (all_messages packets))
   pcapng-holds =

@@ -1,5 +1,5 @@
 -- The same packets as a file of each format.
-use Rattle.std.specs.Prelude.{◌≡◌, ◌≢◌, ◌<◌, ◌≤◌, ℕ, ◌+◌, ◌*◌, ◌/◌, ◌%◌, ◌^◌, List, [], ◌∷◌, ◌++◌, All, length, map, replicate, Option, Some, None, Ok}
+use Rattle.std.specs.Prelude.{⊤, ◌≡◌, ◌≢◌, ◌<◌, ◌≤◌, ℕ, ◌+◌, ◌*◌, ◌/◌, ◌%◌, ◌^◌, List, [], ◌∷◌, ◌++◌, All, length, map, replicate, Option, Some, None, Ok}
 use Rattle.std.specs.List.{flat_map}
 use Rattle.byteorder.specs.Endian.{little_bytes, big_bytes}
 use Rattle.tc_capture.specs.declared.order.Order.{Order}
@@ -74,9 +74,15 @@ written_packet p =
 abbrev pub written_file : List Packet → List ℕ
 written_file packets = file_header ++ flat_map written_packet packets
 
--- no message wants padding
+-- a message that wants no padding
 abbrev pub HasNoPadding : Message → Type 0
 HasNoPadding m = length m.payload % 4 ≡ 0
+
+-- none but the last wants it
+abbrev pub AreAligned : List Message → Type 0
+AreAligned [] = ⊤
+AreAligned (m ∷ []) = ⊤
+AreAligned (m ∷ n ∷ messages) = HasNoPadding m × AreAligned (n ∷ messages)
 
 -- ---- a stream
 
@@ -131,15 +137,14 @@ module _ (order : Order) where
   pcap_header most =
       number_bytes order 4 0xa1b23c4d ++ number_bytes order 2 2 ++ number_bytes order 2 4 ++ zeros 8 ++ number_bytes order 4 most ++ number_bytes order 4 253
 
-  -- seconds, nanoseconds, how many bytes there are, how many there were, and the packet
-  abbrev pub pcap_record : Packet → List ℕ
-  pcap_record p =
-      let bytes = packet_bytes p in
-      number_bytes order 4 p.time.seconds ++ number_bytes order 4 p.time.nanoseconds ++ number_bytes order 4 (length bytes)
+  -- seconds, nanoseconds, how many bytes there are, how many there were, and the bytes
+  abbrev pub pcap_record : Time → List ℕ → List ℕ
+  pcap_record time bytes =
+      number_bytes order 4 time.seconds ++ number_bytes order 4 time.nanoseconds ++ number_bytes order 4 (length bytes)
       ++ number_bytes order 4 (length bytes) ++ bytes
 
   abbrev pub pcap_file : ℕ → List Packet → List ℕ
-  pcap_file most packets = pcap_header most ++ flat_map pcap_record packets
+  pcap_file most packets = pcap_header most ++ flat_map (λ (p : Packet). pcap_record p.time (packet_bytes p)) packets
 
   -- the type, the length, the body, and the length again
   abbrev pub block : ℕ → List ℕ → List ℕ

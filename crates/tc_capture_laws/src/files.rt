@@ -4,14 +4,14 @@ ghost use Rattle.std.specs.Prelude.{◌≡◌, ◌≢◌, ◌+◌, ◌<◌, ◌�
 ghost use Rattle.tc_capture.specs.declared.order.Order.{Order};
 ghost use Rattle.tc_capture.specs.Message.{Message};
 ghost use Rattle.tc_capture_laws.specs.Reading.{reading, messages_read};
-ghost use Rattle.tc_capture_laws.specs.Files.{Packet, IsMessage, IsPacket, IsNoTime, IsTimed, HasNoPadding, HasAtMost, all_messages};
+ghost use Rattle.tc_capture_laws.specs.Files.{Packet, IsMessage, IsPacket, IsNoTime, IsTimed, AreAligned, HasAtMost, all_messages};
 ghost use Rattle.tc_capture_laws.specs.Files.{as_read, alone_as_read, timed_as_read, written_file, stream_file, timed_file, pcap_file, pcapng_file};
 
 /// Packets that are written as a capture are read as the same packets in order: each with its time, its packet type, and
 /// its messages, of which each has its type, flags, sequence number, port and payload.
 pub fn written_is_read(most: u32)
     ensures { (longest : ℕ) (packets : List Packet) → longest + 16 ≤ most → 24 ≤ most → All (IsPacket longest) packets
-        → All (λ (p : Packet). All HasNoPadding p.messages) packets
+        → All (λ (p : Packet). AreAligned p.messages) packets
         → reading most (written_file packets) ≡ Some (map as_read packets) }
 {}
 
