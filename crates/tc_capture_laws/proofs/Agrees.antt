@@ -1,5 +1,5 @@
 -- The same messages in each format.
-use Rattle.std.proofs.Common.{◌≡◌, ◌≢◌, ℕ, ◌+◌, ◌^◌, ◌<◌, ◌≤◌, List, [], ◌∷◌, ◌++◌, All, length, map, Some, Ok, refl, sym, ap, ◌∙◌, arith}
+use Rattle.std.proofs.Common.{◌≡◌, ◌≢◌, ℕ, ◌+◌, ◌^◌, ◌<◌, ◌≤◌, List, [], ◌∷◌, ◌++◌, All, length, map, None, Some, Ok, refl, sym, ap, ◌∙◌, arith}
 use Rattle.std.specs.Prelude.{option_map}
 use Rattle.std.specs.List.{flat_map}
 use Rattle.std.proofs.lemmas.List.{length-append, map-append}
@@ -8,11 +8,12 @@ use Rattle.tc_capture.specs.declared.order.Order.{Order}
 use Rattle.tc_capture.specs.Outcome.{Outcome}
 use Rattle.tc_capture.specs.Message.{Message}
 use Rattle.tc_capture_laws.specs.Reading.{Read, messages_of, reading, messages_read}
+use Rattle.tc_capture_laws.specs.Files.{HasAtMost}
 use Rattle.tc_capture_laws.specs.Files.{Packet, IsMessage, IsPacket, IsNoTime, message_bytes, messages_bytes, as_read, alone_as_read, all_messages}
 use Rattle.tc_capture_laws.specs.Files.{stream_file, pcap_file, pcapng_file}
 use Rattle.tc_capture_laws.proofs.PcapReads.{pcap-read}
 use Rattle.tc_capture_laws.proofs.PcapNgReads.{pcapng-read}
-use Rattle.tc_capture_laws.proofs.StreamReads.{HasAtMost, stream-read}
+use Rattle.tc_capture_laws.proofs.StreamReads.{stream-read}
 
 abbrev pub ok : Message → Outcome Message
 ok m = Ok m
@@ -22,7 +23,7 @@ packets-hold [] = refl
 packets-hold (p ∷ packets) = ap (λ (rest : List (Outcome Message)). map ok p.messages ++ rest) (packets-hold packets)
     ∙ sym (map-append ok p.messages (all_messages packets))
 
-messages-hold : (messages : List Message) → flat_map messages_of (map alone_as_read messages) ≡ map ok messages
+messages-hold : (messages : List Message) → flat_map messages_of (map (alone_as_read None) messages) ≡ map ok messages
 messages-hold [] = refl
 messages-hold (m ∷ messages) = ap (λ (rest : List (Outcome Message)). Ok m ∷ rest) (messages-hold messages)
 
@@ -61,14 +62,14 @@ module _ (order : Order) (longest most : ℕ) (packets : List Packet) (room : lo
   pub stream-holds : messages_read most (stream_file (all_messages packets)) ≡ Some (map ok (all_messages packets))
   stream-holds =
       let are = are-messages longest most packets (omega arith) all in
-      hold most (stream_file (all_messages packets)) (map alone_as_read (all_messages packets)) (all_messages packets)
+      hold most (stream_file (all_messages packets)) (map (alone_as_read None) (all_messages packets)) (all_messages packets)
       (stream-read most (all_messages packets) small some (each-packet IsMessage packets are.0) others (each-packet (HasAtMost most) packets are.1))
       (messages-hold (all_messages packets))
 
   pub pcap-holds : messages_read most (pcap_file order longest packets) ≡ Some (map ok (all_messages packets))
   pcap-holds =
       hold most (pcap_file order longest packets) (map as_read packets) (all_messages packets)
-      (pcap-read order longest longest most packets (omega arith) (omega arith) (omega arith) all) (packets-hold packets)
+      (pcap-read order longest most packets (omega arith) (omega arith) (omega arith) all) (packets-hold packets)
 
   pub pcapng-holds : messages_read most (pcapng_file order packets) ≡ Some (map ok (all_messages packets))
   pcapng-holds =

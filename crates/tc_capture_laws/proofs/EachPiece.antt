@@ -16,7 +16,7 @@ use Rattle.tc_capture_laws.proofs.FrontPieces.{front-is}
 module _ (most : ℕ) (P : List ℕ → List Piece → Type 0) (ended : P [] [])
     (one : (s : State) (bytes : List ℕ) (next : Front × State) (more : List Piece) → IsFront (take most bytes) next.0
     → P (drop next.0.used bytes) more → P bytes (record { what = read next.0.packet; bytes = take next.0.used bytes } ∷ more))
-    (over : (needed : ℕ) (bytes : List ℕ) (more : List Piece) → 0 < needed → needed ≤ length bytes
+    (over : (needed : ℕ) (bytes : List ℕ) (more : List Piece) → most < needed → needed ≤ length bytes
     → P (drop needed bytes) more → P bytes (record { what = skipped; bytes = take needed bytes } ∷ more))
     (stop : (e : CaptureError) (bytes : List ℕ) → 0 < length bytes → P bytes (left_over e bytes)) where
   module _ (n : ℕ) (bytes : List ℕ) (some : 0 < length bytes) (few : length bytes ≤ suc n) where
@@ -30,7 +30,7 @@ module _ (most : ℕ) (P : List ℕ → List Piece → Type 0) (ended : P [] [])
       passed-is needed left true false long here = stop (Short needed (length bytes)) bytes some
       passed-is needed left true true long here =
           let taken : most < needed = ltb-true most needed long in
-          over needed bytes (go (drop needed bytes)) (omega arith) (leb-true needed (length bytes) here) (after needed (omega arith))
+          over needed bytes (go (drop needed bytes)) taken (leb-true needed (length bytes) here) (after needed (omega arith))
 
       unread-is : (e : CaptureError) → P bytes (unread most go bytes e)
       unread-is (Short needed left) = passed-is needed left (nat_lt most needed) (nat_le needed (length bytes)) refl refl

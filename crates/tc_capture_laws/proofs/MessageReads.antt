@@ -1,9 +1,10 @@
 -- Messages that are written are read.
-use Rattle.std.proofs.Common.{◌≡◌, ℕ, zero, suc, ◌+◌, ◌^◌, ◌<◌, ◌≤◌, List, [], ◌∷◌, ◌++◌, All, length, take, drop, map, Ok, Err, Bool, false, refl, sym, ap}
+use Rattle.std.proofs.Common.{◌≡◌, ℕ, zero, suc, ◌+◌, ◌-◌, ◌%◌, ◌^◌, ◌<◌, ◌≤◌, List, [], ◌∷◌, ◌++◌, All, length, take, drop, map, Ok, Err, Bool, false, refl}
+use Rattle.std.proofs.Common.{sym, ap}
 use Rattle.std.proofs.Common.{ap₂, ◌∙◌, arith}
 use Rattle.std.specs.Prelude.{nat_lt, if◌then◌else◌}
 use Rattle.std.proofs.lemmas.Bool.{le-ltb}
-use Rattle.std.proofs.lemmas.List.{append_assoc, length-append, length-replicate, take_at, drop_at, drop-take, drop-drop}
+use Rattle.std.proofs.lemmas.List.{append_assoc, append-nil, drop_all, length-append, length-replicate, take_at, drop_at, drop-take, drop-drop}
 use Rattle.std.proofs.lemmas.List.Elements.{All-head, All-tail}
 use Rattle.byteorder.specs.Endian.{little_number}
 use Rattle.byteorder.specs.Numbers.{little_number-reads_back}
@@ -12,11 +13,11 @@ use Rattle.tc_capture.specs.Outcome.{Outcome}
 use Rattle.tc_capture.specs.Message.{Message, padding, length_at, message_of_length, next_message}
 use Rattle.tc_capture.specs.Messages.{are_zeros, message_and_rest, messages_up_to, messages_in}
 use Rattle.tc_capture.specs.Written.{in_netlink}
-use Rattle.tc_capture_laws.specs.Files.{IsMessage, zeros, message_bytes, messages_bytes}
+use Rattle.tc_capture_laws.specs.Files.{IsMessage, HasNoPadding, AreAligned, zeros, message_bytes, messages_bytes, written_messages}
 use Rattle.tc_capture_laws.proofs.Numbers.{are_zeros-number}
 
 -- a message that begins some bytes is read of them
-read-message : (m : Message) (bytes behind more : List ℕ) → drop 16 bytes ≡ m.payload ++ behind → behind ≡ zeros (padding (16 + length m.payload)) ++ more
+read-message : (m : Message) (bytes behind more : List ℕ) → drop 16 bytes ≡ m.payload ++ behind → drop (padding (16 + length m.payload)) behind ≡ more
     → length_at bytes ≡ 16 + length m.payload → little_number 2 (drop 4 bytes) ≡ m.kind → little_number 2 (drop 6 bytes) ≡ m.flags
     → little_number 4 (drop 8 bytes) ≡ m.sequence → little_number 4 (drop 12 bytes) ≡ m.port → 16 + length m.payload ≤ length bytes
     → next_message bytes ≡ Ok (m, more)
@@ -29,8 +30,7 @@ read-message m bytes behind more after padded long kind flags sequence port with
     let cut : nat_lt (length bytes) (16 + n) ≡ false = le-ltb (length bytes) (16 + n) within in
     let payload : drop 16 (take (16 + n) bytes) ≡ m.payload = drop-take 16 n bytes ∙ ap (take n) after ∙ take_at m.payload behind n refl in
     let rest : drop k (drop (16 + n) bytes) ≡ more =
-    ap (drop k) (sym (drop-drop n 16 bytes) ∙ ap (drop n) after ∙ drop_at m.payload behind n refl ∙ padded)
-    ∙ drop_at (zeros k) more k (length-replicate {A = ℕ} k 0) in
+    ap (drop k) (sym (drop-drop n 16 bytes) ∙ ap (drop n) after ∙ drop_at m.payload behind n refl) ∙ padded in
     let made : Message = message_of_length (16 + n) bytes in
     let same : made ≡ m = fields kind flags sequence port payload in
     ap (λ (l : ℕ). given (nat_lt (length bytes) 16) (nat_lt l 16) (nat_lt (length bytes) l) l (message_of_length l bytes)
@@ -72,11 +72,23 @@ next_message-message_bytes m more is small =
     let all : length (message_bytes m ++ more) ≡ length (message_bytes m) + length more = length-append (message_bytes m) more in
     let len = length-message_bytes m in
     read-message m (message_bytes m ++ more) (zeros (padding long) ++ more) more
-    (append_assoc m.payload (zeros (padding long)) more) (ap (λ (k : ℕ). zeros k ++ more) pad)
+    (append_assoc m.payload (zeros (padding long)) more) (drop_at (zeros (padding long)) more (padding (16 + length m.payload))
+    (length-replicate {A = ℕ} (padding long) 0 ∙ pad))
     (length_at-message_bytes m more small)
     (little_number-reads_back 2 m.kind [] is.kind) (little_number-reads_back 2 m.flags [] is.flags)
     (little_number-reads_back 4 m.sequence [] is.sequence) (little_number-reads_back 4 m.port [] is.port)
     (omega (arith, all, len))
+
+-- the last message of a packet, without padding
+next_message-last : (m : Message) → IsMessage m → 16 + length m.payload < 2 ^ 32 → next_message (written_messages (m ∷ [])) ≡ Ok (m, [])
+next_message-last m is small =
+    let n = length m.payload in
+    let turned : n + 16 ≡ 16 + n = omega arith in
+    read-message m (written_messages (m ∷ [])) [] [] refl (drop_all (padding (16 + n)) [] (omega arith))
+    (little_number-reads_back 4 (n + 16) [] (omega arith) ∙ turned)
+    (little_number-reads_back 2 m.kind [] is.kind) (little_number-reads_back 2 m.flags [] is.flags)
+    (little_number-reads_back 4 m.sequence [] is.sequence) (little_number-reads_back 4 m.port [] is.port)
+    (omega (arith, length-append m.payload []))
 
 -- a message is no zeros
 pub are_zeros-message_bytes : (m : Message) (more : List ℕ) → 16 + length m.payload < 2 ^ 32 → are_zeros (message_bytes m ++ more) ≡ false
@@ -117,3 +129,59 @@ pub messages_in-messages_bytes : (messages : List Message) → All IsMessage mes
     → messages_in (messages_bytes messages) ≡ map (λ (m : Message). Ok m) messages
 unfolding messages_in
 messages_in-messages_bytes messages all small = up_to-messages_bytes (length (messages_bytes messages)) messages all small (omega arith)
+
+-- ---- with nothing between messages
+
+-- one that wants no padding
+unpadded : (m : Message) → HasNoPadding m → message_bytes m ≡ in_netlink m.kind m.flags m.sequence m.port m.payload
+unpadded m even =
+    let bytes = in_netlink m.kind m.flags m.sequence m.port m.payload in
+    let four : length bytes % 4 ≡ 0 = omega (arith, even) in
+    let none : padding (length bytes) ≡ 0 = ap (λ (r : ℕ). (4 - r) % 4) four in
+    ap (λ (k : ℕ). bytes ++ zeros k) none ∙ append-nil bytes
+
+-- the last one
+last-up_to : (n : ℕ) (m : Message) → IsMessage m → 16 + length m.payload < 2 ^ 32 → messages_up_to (suc n) (written_messages (m ∷ [])) ≡ Ok m ∷ []
+unfolding messages_up_to
+last-up_to n m is small =
+    let long : length_at (written_messages (m ∷ [])) ≡ length m.payload + 16 = little_number-reads_back 4 (length m.payload + 16) [] (omega arith) in
+    let some : are_zeros (written_messages (m ∷ [])) ≡ false = are_zeros-number (written_messages (m ∷ [])) (omega (arith, long)) in
+    ap (λ (z : Bool). if z then [] else message_and_rest (messages_up_to n) (next_message (written_messages (m ∷ [])))) some
+    ∙ ap (message_and_rest (messages_up_to n)) (next_message-last m is small)
+    ∙ ap (λ (rest : List (Outcome Message)). Ok m ∷ rest) (none-up_to n)
+
+-- how many bytes they have
+length-written : (m : Message) (messages : List Message) → length (written_messages (m ∷ messages)) ≡ 16 + length m.payload + length (written_messages messages)
+length-written m messages = omega (arith, length-append m.payload (written_messages messages))
+
+up_to-written_messages : (n : ℕ) (messages : List Message) → All IsMessage messages → AreAligned messages → length (written_messages messages) < 2 ^ 32
+    → length (written_messages messages) ≤ n → messages_up_to n (written_messages messages) ≡ map (λ (m : Message). Ok m) messages
+up_to-written_messages n [] all aligned small few = none-up_to n
+up_to-written_messages zero (m ∷ messages) all aligned small few = absurd (omega (arith, length-written m messages))
+up_to-written_messages (suc n) (m ∷ []) all aligned small few =
+    last-up_to n m (All-head IsMessage m [] all) (omega (arith, length-written m []))
+up_to-written_messages (suc n) (m ∷ next ∷ messages) all aligned small few =
+    let rest = written_messages (next ∷ messages) in
+    let len = length-written m (next ∷ messages) in
+    ap (λ (b : List ℕ). messages_up_to (suc n) (b ++ rest)) (sym (unpadded m aligned.0))
+    ∙ next-up_to n m rest (map (λ (m : Message). Ok m) (next ∷ messages)) (All-head IsMessage m (next ∷ messages) all) (omega (arith, len))
+    (up_to-written_messages n (next ∷ messages) (All-tail IsMessage m (next ∷ messages) all) aligned.1 (omega (arith, len)) (omega (arith, len)))
+
+pub messages_in-written_messages : (messages : List Message) → All IsMessage messages → AreAligned messages → length (written_messages messages) < 2 ^ 32
+    → messages_in (written_messages messages) ≡ map (λ (m : Message). Ok m) messages
+unfolding messages_in
+messages_in-written_messages messages all aligned small =
+    up_to-written_messages (length (written_messages messages)) messages all aligned small (omega arith)
+
+-- they have no more bytes than with padding
+pub length-written_messages : (messages : List Message) → length (written_messages messages) ≤ length (messages_bytes messages)
+length-written_messages [] = omega arith
+length-written_messages (m ∷ messages) =
+    omega (
+      arith,
+      length-written m messages,
+      length-message_bytes m,
+      length-append (message_bytes m)
+          (messages_bytes messages),
+      length-written_messages messages,
+    )

@@ -130,7 +130,7 @@ parts-join most s bytes =
     more-joined (pieces.read next.0.packet) (take next.0.used bytes) more (drop next.0.used bytes)
     (read-joined next.0.packet (take next.0.used bytes) holds) later
     ∙ take-append-drop next.0.used bytes)
-    (λ needed bytes more some here later.
+    (λ needed bytes more long here later.
     more-joined pieces.skipped (take needed bytes) more (drop needed bytes) (append-nil (take needed bytes)) later ∙ take-append-drop needed bytes)
     (λ e bytes some. append-nil bytes) s bytes
 

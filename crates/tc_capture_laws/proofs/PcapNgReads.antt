@@ -27,7 +27,7 @@ use Rattle.tc_capture_laws.specs.Reading.{Read, read_in, reading}
 use Rattle.tc_capture_laws.specs.Files.{Packet, IsPacket, zeros, padded, packet_bytes, as_read, number_bytes, block, section_header, interface}
 use Rattle.tc_capture_laws.specs.Files.{enhanced_packet, pcapng_file}
 use Rattle.tc_capture_laws.proofs.Numbers.{number-number_bytes, time_of-nanoseconds}
-use Rattle.tc_capture_laws.proofs.Steps.{step, ends, captured, packet_of-captured}
+use Rattle.tc_capture_laws.proofs.Steps.{step, ends, captured, packet-read}
 
 -- a block that begins some bytes is read of them
 read-block : (old order : Order) (kind : ℕ) (body bytes more : List ℕ) → block_order old bytes ≡ Ok order
@@ -111,7 +111,7 @@ read-body : (order : Order) (p : Packet) (body behind : List ℕ) → number ord
     → number order 4 (drop 12 body) ≡ length (packet_bytes p) → number order 4 (drop 16 body) ≡ length (packet_bytes p)
     → 20 + length (packet_bytes p) ≤ length body
     → p.time.seconds < 2 ^ 32 → p.time.nanoseconds < 10 ^ 9
-    → timed_packet 4 (Some netlink ∷ []) order body ≡ Ok (captured p 28)
+    → timed_packet 4 (Some netlink ∷ []) order body ≡ Ok (captured p.time (packet_bytes p) 28)
 read-body order p body behind first after high low highs lows ticks here there within seconds nanoseconds =
     let n = length (packet_bytes p) in
     let header : nat_lt (length body) 20 ≡ false = le-ltb (length body) 20 (omega arith) in
@@ -145,7 +145,7 @@ length-packet_body Big p =
     omega (arith, length-append (packet_bytes p) (zeros (padding n)), length-replicate {A = ℕ} (padding n) 0)
 
 timed-body : (order : Order) (p : Packet) (most : ℕ) → IsPacket most p → most < 2 ^ 32
-    → timed_packet 4 (Some netlink ∷ []) order (packet_body order p) ≡ Ok (captured p 28)
+    → timed_packet 4 (Some netlink ∷ []) order (packet_body order p) ≡ Ok (captured p.time (packet_bytes p) 28)
 timed-body Little p most is small =
     let n = length (packet_bytes p) in
     let ticks = p.time.seconds * 1000000000 + p.time.nanoseconds in
@@ -177,7 +177,7 @@ in_section_order Big body more = refl
 
 next-packet : (order : Order) (p : Packet) (most : ℕ) (more : List ℕ) → IsPacket most p → most + 35 < 2 ^ 32
     → next_in_section (described order) (enhanced_packet order p ++ more)
-    ≡ Ok (record { used = 12 + length (packet_body order p); packet = Ok (Some (captured p 28)) }, described order)
+    ≡ Ok (record { used = 12 + length (packet_body order p); packet = Ok (Some (captured p.time (packet_bytes p) 28)) }, described order)
 unfolding next_in_section said_by
 next-packet order p most more is small =
     let within = is.length in
@@ -201,12 +201,12 @@ packets-read order longest most (p ∷ packets) room small all n few =
     let body = length-packet_body order p in
     let len = length-block order 6 (packet_body order p) in
     step most n (in_section (described order)) (in_section (described order)) (enhanced_packet order p) (flat_map (enhanced_packet order) packets)
-    (Ok (Some (captured p 28))) (map as_read packets) (omega (arith, len)) (omega (arith, len, body)) few
+    (Ok (Some (captured p.time (packet_bytes p) 28))) (map as_read packets) (omega (arith, len)) (omega (arith, len, body)) few
     (λ x. ap (λ (o : Outcome (Front × Section)). then_read o (λ (y : Front × Section). Ok (y.0, in_section y.1)))
     (next-packet order p longest x is (omega arith))
-    ∙ ap (λ (k : ℕ). Ok (record { used = k; packet = Ok (Some (captured p 28)) }, in_section (described order))) (sym len))
+    ∙ ap (λ (k : ℕ). Ok (record { used = k; packet = Ok (Some (captured p.time (packet_bytes p) 28)) }, in_section (described order))) (sym len))
     (λ m less. packets-read order longest most packets room small (All-tail (IsPacket longest) p packets all) m less)
-    ∙ ap (λ (r : Read). r ∷ map as_read packets) (packet_of-captured p longest 28 is (omega arith))
+    ∙ ap (λ (r : Read). r ∷ map as_read packets) ((packet-read longest p (omega arith) is).read 28)
 
 abbrev pub section_body : Order → List ℕ
 section_body order = number_bytes order 4 0x1a2b3c4d ++ number_bytes order 2 1 ++ number_bytes order 2 0 ++ replicate 8 255

@@ -18,8 +18,10 @@ use Rattle.tc_capture_laws.specs.Pieces as pieces
 use Rattle.tc_capture_laws.specs.Pieces.{What, piece_and_more, pieces_up_to}
 use Rattle.tc_capture_laws.specs.Reading as reading
 use Rattle.tc_capture_laws.specs.Reading.{Read, packet_of, read_of, read_in}
-use Rattle.tc_capture_laws.specs.Files.{Packet, IsPacket, messages_bytes, packet_bytes, as_read}
-use Rattle.tc_capture_laws.proofs.MessageReads.{messages_in-messages_bytes}
+use Rattle.tc_capture.specs.Written.{cooked}
+use Rattle.tc_capture_laws.specs.Files.{Packet, IsPacket, AreAligned, messages_bytes, packet_bytes, written_messages, as_read}
+use Rattle.tc_capture.specs.declared.time.Time.{Time}
+use Rattle.tc_capture_laws.proofs.MessageReads.{messages_in-messages_bytes, messages_in-written_messages, length-written_messages}
 
 -- a piece that a reader keeps all of, before others
 pub step : (most n : ℕ) (s t : State) (piece more : List ℕ) (packet : Outcome (Option Captured)) (found : List Read)
@@ -48,20 +50,48 @@ ends zero most s = refl
 ends (suc n) most s = refl
 
 -- a packet as it is in a file
-abbrev pub captured : Packet → ℕ → Captured
-captured p at = record { time = Some p.time; link = Cooked; is_whole = true; at = at; bytes = packet_bytes p }
+abbrev pub captured : Time → List ℕ → ℕ → Captured
+captured time bytes at = record { time = Some time; link = Cooked; is_whole = true; at = at; bytes = bytes }
 
--- its packet is read of its bytes
-pub packet_of-captured : (p : Packet) (most at : ℕ) → IsPacket most p → most < 2 ^ 32
-    → packet_of (captured p at) (contents_in Cooked (packet_bytes p)) ≡ as_read p
-packet_of-captured p most at is small =
-    let bytes = packet_bytes p in
-    let within = is.length in
+-- a packet is read of these bytes, its numbers fit their fields, and there are so many bytes at most
+pub record IsReadOf (most : ℕ) (p : Packet) (bytes : List ℕ) : Type 0 where
+  pub seconds : p.time.seconds < 2 ^ 32
+  pub nanoseconds : p.time.nanoseconds < 10 ^ 9
+  pub within : length bytes ≤ most
+  pub read : (at : ℕ) → packet_of (captured p.time bytes at) (contents_in Cooked bytes) ≡ as_read p
+
+-- behind a cooked header
+cooked-read : (p : Packet) (body : List ℕ) → p.packet_type < 2 ^ 16 → messages_in body ≡ map (λ (m : Message). Ok m) p.messages → (at : ℕ)
+    → packet_of (captured p.time (cooked p.packet_type ++ body) at) (contents_in Cooked (cooked p.packet_type ++ body)) ≡ as_read p
+cooked-read p body fits read at =
+    let bytes = cooked p.packet_type ++ body in
     let header : nat_lt (length bytes) 16 ≡ false = le-ltb (length bytes) 16 (omega arith) in
-    let type : big_number 2 bytes ≡ p.packet_type = big_number-reads_back 2 p.packet_type [] is.packet_type in
-    let read : messages_in (messages_bytes p.messages) ≡ map (λ (m : Message). Ok m) p.messages =
-    messages_in-messages_bytes p.messages is.messages (omega arith) in
-    ap (λ (b : Bool). packet_of (captured p at) (if b then Err (Short 16 (length bytes)) else Ok
-    (route (Some (big_number 2 bytes)) (messages_bytes p.messages)))) header
-    ∙ ap (λ (n : ℕ). reading.packet (record { time = Some p.time; packet_type = Some n; messages = messages_in (messages_bytes p.messages) })) type
+    let type : big_number 2 bytes ≡ p.packet_type = big_number-reads_back 2 p.packet_type [] fits in
+    ap (λ (b : Bool). packet_of (captured p.time bytes at) (if b then Err (Short 16 (length bytes)) else Ok (route (Some (big_number 2 bytes)) body))) header
+    ∙ ap (λ (n : ℕ). reading.packet (record { time = Some p.time; packet_type = Some n; messages = messages_in body })) type
     ∙ ap (λ (ms : List (Outcome Message)). reading.packet (record { time = Some p.time; packet_type = Some p.packet_type; messages = ms })) read
+
+pub packet-read : (most : ℕ) (p : Packet) → most < 2 ^ 32 → IsPacket most p → IsReadOf most p (packet_bytes p)
+packet-read most p small is =
+    let within = is.length in
+    record {
+      seconds = is.seconds;
+      nanoseconds = is.nanoseconds;
+      within = within;
+      read = cooked-read p (messages_bytes p.messages) is.packet_type (messages_in-messages_bytes p.messages is.messages (omega arith));
+    }
+
+-- the bytes of a packet, with nothing between its messages
+abbrev pub written_bytes : Packet → List ℕ
+written_bytes p = cooked p.packet_type ++ written_messages p.messages
+
+pub written_packet-read : (most : ℕ) (p : Packet) → most < 2 ^ 32 → IsPacket most p → AreAligned p.messages → IsReadOf most p (written_bytes p)
+written_packet-read most p small is aligned =
+    let within = is.length in
+    let less = length-written_messages p.messages in
+    record {
+      seconds = is.seconds;
+      nanoseconds = is.nanoseconds;
+      within = omega arith;
+      read = cooked-read p (written_messages p.messages) is.packet_type (messages_in-written_messages p.messages is.messages aligned (omega arith));
+    }

@@ -1,5 +1,5 @@
 -- The same packets as a file of each format.
-use Rattle.std.specs.Prelude.{◌≡◌, ◌≢◌, ◌<◌, ◌≤◌, ℕ, ◌+◌, ◌*◌, ◌/◌, ◌%◌, ◌^◌, List, [], ◌∷◌, ◌++◌, All, length, map, replicate, Some, None, Ok}
+use Rattle.std.specs.Prelude.{⊤, ◌≡◌, ◌≢◌, ◌<◌, ◌≤◌, ℕ, ◌+◌, ◌*◌, ◌/◌, ◌%◌, ◌^◌, List, [], ◌∷◌, ◌++◌, All, length, map, replicate, Option, Some, None, Ok}
 use Rattle.std.specs.List.{flat_map}
 use Rattle.byteorder.specs.Endian.{little_bytes, big_bytes}
 use Rattle.tc_capture.specs.declared.order.Order.{Order}
@@ -54,8 +54,8 @@ abbrev pub as_read : Packet → Read
 as_read p = packet (record { time = Some p.time; packet_type = Some p.packet_type; messages = map (λ (m : Message). Ok m) p.messages })
 
 -- what is to be read of a message in a stream
-abbrev pub alone_as_read : Message → Read
-alone_as_read m = packet (record { time = None; packet_type = None; messages = Ok m ∷ [] })
+abbrev pub alone_as_read : Option Time → Message → Read
+alone_as_read time m = packet (record { time = time; packet_type = None; messages = Ok m ∷ [] })
 
 abbrev pub all_messages : List Packet → List Message
 all_messages packets = flat_map (λ (p : Packet). p.messages) packets
@@ -74,9 +74,15 @@ written_packet p =
 abbrev pub written_file : List Packet → List ℕ
 written_file packets = file_header ++ flat_map written_packet packets
 
--- no message wants padding
+-- a message that wants no padding
 abbrev pub HasNoPadding : Message → Type 0
 HasNoPadding m = length m.payload % 4 ≡ 0
+
+-- none but the last wants it
+abbrev pub AreAligned : List Message → Type 0
+AreAligned [] = ⊤
+AreAligned (m ∷ []) = ⊤
+AreAligned (m ∷ n ∷ messages) = HasNoPadding m × AreAligned (n ∷ messages)
 
 -- ---- a stream
 
@@ -84,8 +90,39 @@ HasNoPadding m = length m.payload % 4 ≡ 0
 abbrev pub IsNoTime : Message → Type 0
 IsNoTime m = m.kind ≢ 15
 
+-- a message that is no longer than so many bytes
+abbrev pub HasAtMost : ℕ → Message → Type 0
+HasAtMost most m = length (message_bytes m) ≤ most
+
 abbrev pub stream_file : List Message → List ℕ
 stream_file messages = messages_bytes messages
+
+-- NLMSG_TSTAMP: seconds and microseconds
+abbrev pub stamp : Time → Message
+stamp time = record {
+  kind = 15;
+  flags = 0;
+  sequence = 0;
+  port = 0;
+  payload = little_bytes 4 time.seconds ++ little_bytes 4 (time.nanoseconds / 1000);
+}
+
+-- a stream with times, as `rtmon` writes it
+abbrev pub timed_file : List Packet → List ℕ
+timed_file packets = flat_map (λ (p : Packet). message_bytes (stamp p.time) ++ messages_bytes p.messages) packets
+
+-- the time is one of whole microseconds, and each message has so many bytes at most
+pub record IsTimed (most : ℕ) (p : Packet) : Type 0 where
+  pub seconds : p.time.seconds < 2 ^ 32
+  pub nanoseconds : p.time.nanoseconds < 10 ^ 9
+  pub microseconds : p.time.nanoseconds % 1000 ≡ 0
+  pub messages : All IsMessage p.messages
+  pub others : All IsNoTime p.messages
+  pub lengths : All (HasAtMost most) p.messages
+
+-- what is to be read of it
+abbrev pub timed_as_read : List Packet → List Read
+timed_as_read packets = flat_map (λ (p : Packet). map (alone_as_read (Some p.time)) p.messages) packets
 
 -- ---- pcap and pcapng, in either byte order
 
@@ -100,15 +137,14 @@ module _ (order : Order) where
   pcap_header most =
       number_bytes order 4 0xa1b23c4d ++ number_bytes order 2 2 ++ number_bytes order 2 4 ++ zeros 8 ++ number_bytes order 4 most ++ number_bytes order 4 253
 
-  -- seconds, nanoseconds, how many bytes there are, how many there were, and the packet
-  abbrev pub pcap_record : Packet → List ℕ
-  pcap_record p =
-      let bytes = packet_bytes p in
-      number_bytes order 4 p.time.seconds ++ number_bytes order 4 p.time.nanoseconds ++ number_bytes order 4 (length bytes)
+  -- seconds, nanoseconds, how many bytes there are, how many there were, and the bytes
+  abbrev pub pcap_record : Time → List ℕ → List ℕ
+  pcap_record time bytes =
+      number_bytes order 4 time.seconds ++ number_bytes order 4 time.nanoseconds ++ number_bytes order 4 (length bytes)
       ++ number_bytes order 4 (length bytes) ++ bytes
 
   abbrev pub pcap_file : ℕ → List Packet → List ℕ
-  pcap_file most packets = pcap_header most ++ flat_map pcap_record packets
+  pcap_file most packets = pcap_header most ++ flat_map (λ (p : Packet). pcap_record p.time (packet_bytes p)) packets
 
   -- the type, the length, the body, and the length again
   abbrev pub block : ℕ → List ℕ → List ℕ

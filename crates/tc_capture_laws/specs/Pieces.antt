@@ -1,6 +1,6 @@
 -- A file is read piece by piece, from its front to its end. A reader keeps the front of what is left, so many bytes at most: a piece
 -- that is longer is passed over.
-use Rattle.std.specs.Prelude.{ℕ, zero, suc, List, [], ◌∷◌, length, take, drop, Option, Ok, Err, ◌&&◌, nat_lt, nat_le, option_map, if◌then◌else◌}
+use Rattle.std.specs.Prelude.{◌<◌, ◌≤◌, ⊤, ℕ, zero, suc, List, [], ◌∷◌, length, take, drop, Option, Ok, Err, ◌&&◌, nat_lt, nat_le, option_map, if◌then◌else◌}
 use Rattle.std.specs.List.{flat_map}
 use Rattle.tc_capture.specs.declared.error.CaptureError.{CaptureError}
 use Rattle.tc_capture.specs.declared.error.CaptureError.TheVariants.{Short}
@@ -54,3 +54,9 @@ pieces_of most file = option_map (λ s. pieces_in most s file) (capture_at (take
 -- one after the other
 abbrev pub joined : List Piece → List ℕ
 joined pieces = flat_map (λ (p : Piece). p.bytes) pieces
+
+-- what is read has so many bytes at most, and what is passed over has more
+abbrev pub HasLength : ℕ → What → ℕ → Type 0
+HasLength most (read packet) n = n ≤ most
+HasLength most skipped n = most < n
+HasLength most (rest e) n = ⊤

@@ -5,7 +5,7 @@ ghost use Rattle.tc_capture.specs.declared.error.CaptureError.{CaptureError};
 ghost use Rattle.tc_capture.specs.Capture.{State};
 ghost use Rattle.tc_capture.specs.Messages.{messages_in};
 ghost use Rattle.tc_capture_laws.specs.Pieces as pieces;
-ghost use Rattle.tc_capture_laws.specs.Pieces.{Piece, pieces_in};
+ghost use Rattle.tc_capture_laws.specs.Pieces.{Piece, HasLength, pieces_in};
 ghost use Rattle.tc_capture_laws.specs.Parts.{joined, parts_in, message_parts, messages_of};
 
 /// The pieces of a file, one after the other, are the file: whatever its bytes are, wherever reading begins, and however
@@ -17,6 +17,11 @@ pub fn pieces_join(most: usize, file: &[u8])
 /// No piece is empty.
 pub fn pieces_have_bytes(most: usize, file: &[u8])
     ensures { (s : State) → All (λ (p : Piece). 0 < length p.bytes) (pieces_in most s file.now) }
+{}
+
+/// A piece that is read is no longer than what a reader keeps, and one that is passed over is longer.
+pub fn long_pieces_are_skipped(most: usize, file: &[u8])
+    ensures { (s : State) → All (λ (p : Piece). HasLength most p.what (length p.bytes)) (pieces_in most s file.now) }
 {}
 
 /// Where a file can be read no further, all that is left of it is the last piece.

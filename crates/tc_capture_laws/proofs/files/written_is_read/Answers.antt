@@ -3,4 +3,4 @@ use Rattle.tc_capture_laws.proofs.PcapReads.{written-read}
 use Rattle.tc_capture_laws.proofs.files.written_is_read.Goals as goal
 
 pub returns : goal.returns
-returns c longest packets room least all unpadded = written-read longest c.args.most packets room (omega arith) least all unpadded
+returns c longest packets room least all aligned = written-read longest c.args.most packets room (omega arith) least all aligned
