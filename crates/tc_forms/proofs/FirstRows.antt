@@ -1,6 +1,6 @@
 -- The first row of a type, at the place where its number puts it.
-use Rattle.std.proofs.Common.{◌≡◌, ℕ, inl, inr, zero, suc, Bool, true, false, List, [], ◌∷◌, ◌++◌, drop, take, Option, Some, None, ap, refl, sym, ◌∙◌, cond}
-use Rattle.std.specs.Prelude.{map, option_and_then, bytes_eq, ◌==◌, ◌&&◌}
+use Rattle.std.proofs.Common.{◌≡◌, ℕ, inl, inr, zero, suc, Bool, true, List, [], ◌∷◌, ◌++◌, drop, take, Some, None, ap, refl, sym, ◌∙◌}
+use Rattle.std.specs.Prelude.{map, option_and_then, bytes_eq, ◌==◌}
 use Rattle.std.proofs.lemmas.Bool.{cases_Bool, cond-true, cond-false, and_parts, and_from}
 use Rattle.tc_forms.specs.Rows.{counts, of_name, of_type, row_if, shown_row, type_of}
 use Rattle.tc_forms.specs.Search.{first}

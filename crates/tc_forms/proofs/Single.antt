@@ -1,7 +1,7 @@
 -- An object of one member whose name isn't reserved: an attribute with the word of its row and with usual padding.
 use Rattle.std.proofs.Common.{◌≡◌, ℕ, inl, inr, Bool, true, false, List, [], ◌∷◌, Option, Some, None, refl, ap, sym, ◌∙◌, cond, true≢false}
 use Rattle.std.specs.Prelude.{if◌then◌else◌, is_some, option_and_then, option_map, bytes_eq, codes, ◌&&◌, ◌||◌}
-use Rattle.std.proofs.lemmas.Bool.{cases_Bool, cond-true, cond-false}
+use Rattle.std.proofs.lemmas.Bool.{cases_Bool}
 use Rattle.std.proofs.lemmas.Slice.Eq.{bytes_eq-Decides}
 use Rattle.serde_json.specs.Data.{Data, array, boolean, no_members, null, number, object, string}
 use Rattle.serde_json.specs.Find.{as_str, as_object, get}

@@ -67,7 +67,7 @@ pub(crate) fn no_row<'v>(maker: &mut Maker<'v>, has: bool, value: &'v Value) -> 
     }
 }
 
-// The kind that an item tells, in a list that has kinds.
+// The kind that an item has, in a list with kinds.
 pub(crate) fn kind_told<'v>(has: bool, value: &'v Value) -> Option<&'v str>
     ensures { option_map (λ t. t.now) result ≡ kind_told has (view value.now) }
 {
@@ -222,7 +222,7 @@ fn word_of(value: &Value) -> Option<u16>
     }
 }
 
-// The word that is told, or else this one.
+// The word that a member says, or else this one.
 pub(crate) fn word_or(word: u16, value: &Value) -> Option<u16>
     ensures { result ≡ word_or word (get (codes "word") (view value.now)) }
 {

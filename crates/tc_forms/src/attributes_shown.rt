@@ -103,7 +103,7 @@ pub(crate) fn rows_after<T: Tables>(
     }
 }
 
-// The first kind that a list tells.
+// The first kind in a list.
 pub(crate) fn own_kind(bytes: &[u8]) -> &str
     ensures { result.now ≡ own_kind (length bytes.now) bytes.now }
 {

@@ -14,12 +14,12 @@ use Rattle.serde_json.specs.View.{view, items_view}
 use Rattle.tc_forms.specs.declared.form.Form.TheVariants as form
 use Rattle.tc_forms.proofs.Making.{items_under, under_over, not_some, appended_as, joined_more, joined_fails, items_here, items_over, fields_here, level_made, raw_made, plain_in_form}
 use Rattle.std.proofs.Common.{subst}
-use Rattle.tc_forms.specs.Appended.{Appended, Stops}
+use Rattle.tc_forms.specs.Appended.{Stops}
 use Rattle.serde_json.specs.Find.{get}
 use Rattle.std.specs.Prelude.{codes}
 use Rattle.tc_forms.specs.AttributesMade.{framed, word_made}
 use Rattle.tc_forms.specs.Places.{rows_under}
-use Rattle.tc_forms.proofs.Making.{own_made, list_made, has_room, framed_here}
+use Rattle.tc_forms.proofs.Making.{own_made, list_made}
 use Rattle.tc_forms.specs.AttributesMade.{layered_by, kinded_made}
 use Rattle.tc_forms.specs.RowLists.{rows_in}
 use Rattle.std.specs.Prelude.{bytes_eq}
