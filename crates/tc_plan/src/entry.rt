@@ -1,70 +1,230 @@
-//! What the request that restores a dump gives and wants.
+//! What a dump gives and wants, and what has to be so among others.
 
-ghost use Rattle.std.specs.Prelude.{◌≡◌, ◌∷◌, ◌++◌, ◌%◌, ◌==◌, if◌then◌else◌, [], IfOk};
-ghost use Rattle.std.specs.List.{flat_map};
+ghost use Rattle.std.specs.Prelude.{◌≡◌, ◌∷◌, ◌++◌, ◌%◌, ◌==◌, if◌then◌else◌, [], not, bytes_eq, codes, string_bytes, IfOk};
+ghost use Rattle.std.specs.List.{flat_map, list_any};
 ghost use Rattle.std.specs.Option.{option_to_list};
 ghost use Rattle.tc_records.specs.Header.{handle_number};
-ghost use Rattle.tc_plan.specs.Needs.{chain_number, block_of, gives, wants, parents};
-ghost use Rattle.tc_plan.specs.declared.key.Key.TheVariants.{Actions, Chain, Tables};
+ghost use Rattle.tc_plan.specs.Needs.{chain_number, block_of, gives, wants, parents, object, must, must_not, made_by, is_kind, is_clsact, has_kind, gives_actions};
+ghost use Rattle.tc_plan.specs.declared.key.Key.TheVariants.{Actions, Chain, Tables, Clsact, InChain};
 
+use crate::fate::Fate;
 use crate::key::Key;
 use nla_frames::{NLA_TYPE_MASK, Nla};
 use std::alloc::{AllocError, Allocator};
 use tc_attributes::TcAttribute;
 use tc_messages::TcMessage;
-use tc_order::Step;
 use tc_records::TcHeader;
 use tc_requests::Object;
 
-/// What the request that restores this dump gives and wants; `place` is the caller's number of it.
-pub fn step_of<A: Allocator + Copy>(
+/// A dump in a plan: its place, and what becomes of it.
+#[derive(Drop, Debug)]
+pub struct Item {
+    /// The caller's number of it.
+    pub place: usize,
+    /// What becomes of it.
+    pub fate: Fate,
+}
+
+/// What a plan has to know of a dump.
+#[derive(Drop, Debug)]
+pub struct Entry<A: Allocator> {
+    /// The caller's number of it.
+    pub place: usize,
+    /// What becomes of it by itself.
+    pub fate: Fate,
+    /// What its request gives others.
+    pub gives: Vec<Key, A>,
+    /// What its request wants of others.
+    pub wants: Vec<Key, A>,
+    /// What it is, of which one dump is enough.
+    pub object: Option<Key>,
+    /// What a dump has to give: the class that is a class's parent.
+    pub must: Option<Key>,
+    /// What no dump may give: clsact, where its parent doesn't say the side.
+    pub must_not: Option<Key>,
+    /// What makes it, if a dump gives that: the filters of a chain without a template.
+    pub made_by: Option<Key>,
+}
+
+/// What a plan has to know of this dump; `place` is the caller's number of it.
+pub fn entry_of<A: Allocator + Copy>(
     alloc: A,
     place: usize,
-    object: Object,
+    fate: Fate,
+    kind: Object,
     dump: &TcMessage<A>,
-) -> Result<Step<Key, A>, AllocError>
-    ensures place { IfOk result (λ step. step.place ≡ place) }
-    ensures gives { IfOk result (λ step. step.gives.items ≡ gives object dump.now) }
-    ensures wants { IfOk result (λ step. step.wants.items ≡ wants object dump.now) }
+) -> Result<Entry<A>, AllocError>
+    ensures place { IfOk result (λ entry. entry.place ≡ place) }
+    ensures fate { IfOk result (λ entry. entry.fate ≡ fate) }
+    ensures gives { IfOk result (λ entry. entry.gives.items ≡ gives kind dump.now) }
+    ensures wants { IfOk result (λ entry. entry.wants.items ≡ wants kind dump.now) }
+    ensures object { IfOk result (λ entry. option_to_list entry.object ≡ object kind dump.now) }
+    ensures must { IfOk result (λ entry. option_to_list entry.must ≡ must kind dump.now.header) }
+    ensures must_not { IfOk result (λ entry. option_to_list entry.must_not ≡ must_not kind dump.now.header) }
+    ensures made_by { IfOk result (λ entry. option_to_list entry.made_by ≡ made_by kind dump.now) }
 {
-    Ok(Step {
+    Ok(Entry {
         place,
-        gives: given(alloc, object, dump)?,
-        wants: wanted(alloc, object, dump)?,
+        fate,
+        gives: given(alloc, kind, dump)?,
+        wants: wanted(alloc, kind, dump)?,
+        object: object_of(kind, dump),
+        must: must_of(kind, &dump.header),
+        must_not: must_not_of(kind, &dump.header),
+        made_by: made_by(kind, dump),
     })
 }
 
-/// The same of actions that stand by themselves.
-pub fn step_of_actions<A: Allocator + Copy>(
+/// The same of actions that stand by themselves. Those that can't be made are needed by none, since a filter has its own in full.
+pub fn entry_of_actions<A: Allocator + Copy>(
     alloc: A,
     place: usize,
-) -> Result<Step<Key, A>, AllocError>
-    ensures place { IfOk result (λ step. step.place ≡ place) }
-    ensures gives { IfOk result (λ step. step.gives.items ≡ Actions ∷ []) }
-    ensures wants { IfOk result (λ step. step.wants.items ≡ []) }
+    fate: Fate,
+) -> Result<Entry<A>, AllocError>
+    ensures place { IfOk result (λ entry. entry.place ≡ place) }
+    ensures gives { IfOk result (λ entry. entry.gives.items ≡ gives_actions fate) }
+    ensures fate { IfOk result (λ entry. entry.fate ≡ fate) }
+    ensures wants { IfOk result (λ entry. entry.wants.items ≡ []) }
+    ensures free { IfOk result (λ entry. option_to_list entry.object ≡ []) }
 {
-    let mut gives = Vec::with_capacity(alloc, 1)?;
-    gives.push(Key::Actions)?;
-    Ok(Step {
+    let mut gives = Vec::new(alloc);
+    if !fate.is_refused() {
+        gives.push(Key::Actions)?;
+    }
+    Ok(Entry {
         place,
+        fate,
         gives,
         wants: Vec::new(alloc),
+        object: None,
+        must: None,
+        must_not: None,
+        made_by: None,
     })
+}
+
+// What a dump is.
+fn object_of<A: Allocator>(kind: Object, dump: &TcMessage<A>) -> Option<Key>
+    ensures { option_to_list result ≡ object kind dump.now }
+{
+    let header = &dump.header;
+    let index = header.index;
+    let handle = u32::from(header.handle);
+    let parent = u32::from(header.parent);
+    let number = chain_number(&dump.attributes);
+    Some(match kind {
+        Object::Qdisc | Object::Class => Key::Node { index, handle },
+        Object::Chain => Key::Chain {
+            index,
+            parent,
+            number,
+        },
+        Object::Filter => Key::Filter {
+            index,
+            parent,
+            number,
+            handle,
+            info: header.info,
+        },
+    })
+}
+
+// The class that is a class's parent.
+fn must_of(kind: Object, header: &TcHeader) -> Option<Key>
+    ensures { option_to_list result ≡ must kind header.now }
+{
+    let handle = u32::from(header.parent);
+    match kind {
+        Object::Class if handle % 0x1_0000 != 0 && handle != 0xFFFF_FFFF => Some(Key::Node {
+            index: header.index,
+            handle,
+        }),
+        _ => None,
+    }
+}
+
+// Clsact, where a parent doesn't say the side.
+fn must_not_of(kind: Object, header: &TcHeader) -> Option<Key>
+    ensures { option_to_list result ≡ must_not kind header.now }
+{
+    match kind {
+        Object::Filter | Object::Chain if u32::from(header.parent) == 0xFFFF_0000 => {
+            Some(Key::Clsact {
+                index: header.index,
+            })
+        }
+        _ => None,
+    }
+}
+
+// The filters of a chain without a template.
+fn made_by<A: Allocator>(kind: Object, dump: &TcMessage<A>) -> Option<Key>
+    ensures { option_to_list result ≡ made_by kind dump.now }
+{
+    match kind {
+        Object::Chain if !has_kind(&dump.attributes) => Some(Key::InChain {
+            index: dump.header.index,
+            parent: u32::from(dump.header.parent),
+            number: chain_number(&dump.attributes),
+        }),
+        _ => None,
+    }
+}
+
+fn has_kind<A: Allocator>(attributes: &[TcAttribute<A>]) -> bool
+    ensures { result ≡ has_kind attributes.now }
+{
+    attributes.iter().any(|attribute| is_kind(attribute))
+}
+
+fn is_kind<A: Allocator>(attribute: &TcAttribute<A>) -> bool
+    ensures { result ≡ is_kind attribute.now }
+{
+    matches!(attribute, TcAttribute::Kind(_))
+}
+
+// True of the kind clsact.
+fn is_clsact<A: Allocator>(attribute: &TcAttribute<A>) -> bool
+    ensures { result ≡ is_clsact attribute.now }
+{
+    match attribute {
+        TcAttribute::Kind(kind) => kind.as_str() == "clsact",
+        _ => false,
+    }
+}
+
+// The keys of a clsact qdisc.
+fn clsact<A: Allocator>(
+    keys: Vec<Key, A>,
+    index: i32,
+    attributes: &[TcAttribute<A>],
+) -> Result<Vec<Key, A>, AllocError>
+    ensures { IfOk result (λ made. made.items
+        ≡ keys.items ++ (if list_any is_clsact attributes.now then Clsact index ∷ [] else [])) }
+{
+    if attributes.iter().any(|attribute| is_clsact(attribute)) {
+        with(keys, Some(Key::Clsact { index }))
+    } else {
+        Ok(keys)
+    }
 }
 
 fn given<A: Allocator + Copy>(
     alloc: A,
-    object: Object,
+    kind: Object,
     dump: &TcMessage<A>,
 ) -> Result<Vec<Key, A>, AllocError>
-    ensures { IfOk result (λ keys. keys.items ≡ gives object dump.now) }
+    ensures { IfOk result (λ keys. keys.items ≡ gives kind dump.now) }
 {
     let header = &dump.header;
     let handle = u32::from(header.handle);
     let parent = u32::from(header.parent);
     let index = header.index;
-    match object {
-        Object::Qdisc => blocks(one(alloc, Key::Node { index, handle })?, &dump.attributes),
+    match kind {
+        Object::Qdisc => {
+            let keys = clsact(one(alloc, Key::Node { index, handle })?, index, &dump.attributes)?;
+            blocks(keys, &dump.attributes)
+        }
         Object::Class => one(alloc, Key::Node { index, handle }),
         Object::Chain => one(
             alloc,
@@ -75,10 +235,18 @@ fn given<A: Allocator + Copy>(
             },
         ),
         Object::Filter => {
+            let keys = one(
+                alloc,
+                Key::InChain {
+                    index,
+                    parent,
+                    number: chain_number(&dump.attributes),
+                },
+            )?;
             if handle % 0x10_0000 == 0 {
-                one(alloc, Key::Tables { index, parent })
+                with(keys, Some(Key::Tables { index, parent }))
             } else {
-                Ok(Vec::new(alloc))
+                Ok(keys)
             }
         }
     }
@@ -149,14 +317,14 @@ fn chain_number<A: Allocator>(attributes: &[TcAttribute<A>]) -> u32
 
 fn wanted<A: Allocator + Copy>(
     alloc: A,
-    object: Object,
+    kind: Object,
     dump: &TcMessage<A>,
 ) -> Result<Vec<Key, A>, AllocError>
-    ensures { IfOk result (λ keys. keys.items ≡ wants object dump.now) }
+    ensures { IfOk result (λ keys. keys.items ≡ wants kind dump.now) }
 {
     let header = &dump.header;
     let mut keys = parents(alloc, header)?;
-    match object {
+    match kind {
         Object::Qdisc | Object::Chain => Ok(keys),
         Object::Class => {
             keys.push(Key::Node {
