@@ -1,10 +1,17 @@
 -- Steps of dumps, and their order.
-use Rattle.std.proofs.Common.{◌≡◌, Bool, false, List, [], ◌∷◌, ◌++◌, All, IsPermutation, map, refl, sym, ap, subst, ◌∙◌, length, get_or, arith}
+use Rattle.std.proofs.Common.{◌≡◌, Bool, false, List, [], ◌∷◌, ◌++◌, All, IsPermutation, map, refl, sym, ap, subst, ◌∙◌, ℕ, append_assoc, append-nil}
 use Rattle.std.specs.List.{Contains, AllByRecursion}
 use Rattle.std.proofs.lemmas.List.Sorted.{IsPermutation-sym, Contains-permutation}
 use Rattle.std.proofs.lemmas.List.Elements.{All-from_recursion, recursion_from_All}
 use Rattle.tc_order.specs.Order.{IsOrder, none, next}
 use Rattle.tc_order.specs.declared.order.Step.{Step}
+use Rattle.std.specs.Option.{option_to_list}
+use Rattle.std.proofs.lemmas.List.{map-append}
+use Rattle.std.proofs.lemmas.Grind.{flat_map-append}
+use Rattle.tc_plan.specs.Fates.{Parts, parts_of, needs_of, objects}
+use Rattle.tc_plan.specs.declared.entry.Entry.{Entry}
+use Rattle.tc_plan.specs.declared.entry.Item.{Item}
+use Rattle.tc_plan.specs.declared.key.Key.{Key}
 
 -- an order among steps is one among the same steps, whatever the order of these
 pub order_again : {T K A : Type 0} (eq : K → K → Bool) (xs ys : List (Step T K A)) → IsPermutation xs ys → (order : List (Step T K A)) → IsOrder eq xs order → IsOrder eq ys order
@@ -37,3 +44,23 @@ module _ {X : Type 0} where
   -- one more
   pub all_more : (P : X → Type 0) (xs : List X) (x : X) → All P xs → P x → All P (xs ++ x ∷ [])
   all_more P xs x all here = All-from_recursion P (xs ++ x ∷ []) (all_pushed P xs x (recursion_from_All P xs all) here)
+
+module _ {A : Type 0} where
+  -- one more step, and the parts of those to come
+  pub parts_more : (old new : List (Step Item Key A)) (step : Step Item Key A) (rest all : List Parts) (part : Parts) → new ≡ old ++ step ∷ []
+      → parts_of step ≡ part → map parts_of old ++ part ∷ rest ≡ all → map parts_of new ++ rest ≡ all
+  parts_more old new step rest all part pushed same is =
+      ap (λ l. map parts_of l ++ rest) pushed ∙ ap (λ l. l ++ rest) (map-append parts_of old (step ∷ []))
+      ∙ append_assoc (map parts_of old) (parts_of step ∷ []) rest ∙ ap (λ p. map parts_of old ++ p ∷ rest) same ∙ is
+
+  pub objects_more : (entries : List (Entry A)) (entry : Entry A) → objects (entries ++ entry ∷ []) ≡ objects entries ++ option_to_list entry.object
+  objects_more entries entry =
+      flat_map-append (λ (e : Entry A). option_to_list e.object) entries (entry ∷ []) ∙ ap (λ l. objects entries ++ l) (append-nil (option_to_list entry.object))
+
+  -- one more step, freed
+  pub needs_more : (old : List (Step ℕ Key A)) (front : List (Step Item Key A)) (new : List (Step ℕ Key A)) (more : List (Step Item Key A)) (step : Step ℕ Key A) (x : Step Item Key A)
+      → new ≡ old ++ step ∷ [] → more ≡ front ++ x ∷ [] → map (λ s. needs_of s.item s) old ≡ map (λ s. needs_of s.item.place s) front
+      → needs_of step.item step ≡ needs_of x.item.place x → map (λ s. needs_of s.item s) new ≡ map (λ s. needs_of s.item.place s) more
+  needs_more old front new more step x pushed is same one =
+      ap (map (λ s. needs_of s.item s)) pushed ∙ map-append (λ s. needs_of s.item s) old (step ∷ []) ∙ ap (λ l. l ++ needs_of step.item step ∷ []) same
+      ∙ ap (λ p. map (λ s. needs_of s.item.place s) front ++ p ∷ []) one ∙ sym (map-append (λ s. needs_of s.item.place s) front (x ∷ [])) ∙ ap (map (λ s. needs_of s.item.place s)) (sym is)

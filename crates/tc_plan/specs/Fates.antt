@@ -30,8 +30,8 @@ is_shared (key.Chain index parent number) = int_eq index (negsuc 0)
 is_shared k = false
 
 -- a set of keys has these
-abbrev pub IsSetOf : {S : Type 0} → HashSet Key S → List Key → Type 0
-IsSetOf set keys = (key : Key) → bag.contains same_key set key ≡ list_any (same_key key) keys
+abbrev pub IsSetOf : {K S : Type 0} → (K → K → Bool) → HashSet K S → List K → Type 0
+IsSetOf eq set keys = (key : _) → bag.contains eq set key ≡ list_any (eq key) keys
 
 -- a key is there, and is one of these
 abbrev pub among : List Key → Option Key → Bool

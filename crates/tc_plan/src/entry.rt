@@ -193,7 +193,13 @@ fn is_clsact<A: Allocator>(attribute: &TcAttribute<A>) -> bool
     }
 }
 
-// The keys of a clsact qdisc.
+fn has_clsact<A: Allocator>(attributes: &[TcAttribute<A>]) -> bool
+    ensures { result ≡ list_any is_clsact attributes.now }
+{
+    attributes.iter().any(|attribute| is_clsact(attribute))
+}
+
+// Keys, and clsact if these are the attributes of that.
 fn clsact<A: Allocator>(
     keys: Vec<Key, A>,
     index: i32,
@@ -202,7 +208,7 @@ fn clsact<A: Allocator>(
     ensures { IfOk result (λ made. made.items
         ≡ keys.items ++ (if list_any is_clsact attributes.now then Clsact index ∷ [] else [])) }
 {
-    if attributes.iter().any(|attribute| is_clsact(attribute)) {
+    if has_clsact(attributes) {
         with(keys, Some(Key::Clsact { index }))
     } else {
         Ok(keys)

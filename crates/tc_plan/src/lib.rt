@@ -20,6 +20,7 @@
 pub mod entry;
 pub mod fate;
 pub mod key;
+mod keys;
 pub mod planned;
 
 pub use entry::{Entry, Item, entry_of, entry_of_actions};

@@ -8,9 +8,9 @@ ghost use Rattle.tc_plan.specs.Fates.{parts_of, parts_among, needs_of, gifts, sa
 use crate::entry::{Entry, Item};
 use crate::fate::{Fate, Reason};
 use crate::key::Key;
+use crate::keys::{Keys, set_of, with_key};
 use std::alloc::{AllocError, Allocator};
 use std::collections::HashSet;
-use std::hash::{BuildHasherDefault, FoldHasher};
 use tc_order::{Order, Step, ordered};
 
 /// Brings the requests that restore dumps into an order in which each stands behind all of these that it needs, and says what
@@ -64,25 +64,43 @@ fn freed<A: Allocator + Copy>(
 {
     let mut made = Vec::with_capacity(alloc, left.len())?;
     for step in left {
-        made.push(Step {
-            item: step.item.place,
-            gives: step.gives.to_vec(alloc)?,
-            wants: step.wants.to_vec(alloc)?,
-            is_barred: false,
-        })?;
+        let step = freed_step(alloc, step)?;
+        made.push(step)?;
     }
     Ok(made)
 }
 
-// A set of keys.
-type Keys<A> = HashSet<Key, BuildHasherDefault<FoldHasher>, A>;
+fn freed_step<A: Allocator + Copy>(
+    alloc: A,
+    step: &Step<Item, Key, A>,
+) -> Result<Step<usize, Key, A>, AllocError>
+    ensures needs { IfOk result (λ made. needs_of made.item made ≡ needs_of step.now.item.place step.now) }
+    ensures free { IfOk result (λ made. made.is_barred ≡ false) }
+{
+    let gives = copied(alloc, &step.gives)?;
+    let wants = copied(alloc, &step.wants)?;
+    Ok(Step {
+        item: step.item.place,
+        gives,
+        wants,
+        is_barred: false,
+    })
+}
+
+fn copied<A: Allocator + Copy>(alloc: A, keys: &[Key]) -> Result<Vec<Key, A>, AllocError>
+    ensures { IfOk result (λ made. made.items ≡ keys.now) }
+{
+    let mut made = Vec::with_capacity(alloc, keys.len())?;
+    made.extend_from_slice(keys)?;
+    Ok(made)
+}
 
 // All that dumps give.
 fn given_by<A: Allocator + Copy>(
     alloc: A,
     entries: &[Entry<A>],
-) -> Result<Keys<A>, AllocError>
-    ensures { IfOk result (λ set. IsSetOf set (gifts entries.now)) }
+) -> Result<Keys<Key, A>, AllocError>
+    ensures { IfOk result (λ set. IsSetOf same_key set (gifts entries.now)) }
 {
     let keys = keys_of(alloc, entries)?;
     set_of(alloc, &keys)
@@ -97,16 +115,6 @@ fn keys_of<A: Allocator + Copy>(alloc: A, entries: &[Entry<A>]) -> Result<Vec<Ke
         keys.extend_from_slice(&entry.gives)?;
     }
     Ok(keys)
-}
-
-fn set_of<A: Allocator + Copy>(alloc: A, keys: &[Key]) -> Result<Keys<A>, AllocError>
-    ensures { IfOk result (λ set. IsSetOf set keys.now) }
-{
-    let mut set = HashSet::new(alloc);
-    for key in keys {
-        set.insert(*key)?;
-    }
-    Ok(set)
 }
 
 fn steps_of<A: Allocator + Copy>(
@@ -133,17 +141,31 @@ fn steps_of<A: Allocator + Copy>(
             made_by,
         } = entry;
         let fate = fate_among(&given, &before, object, must, must_not, made_by, fate);
-        let is_barred = fate.is_refused();
-        let gives = gives_by(&fate, gives);
         before = with_object(before, object)?;
-        steps.push(Step {
-            item: Item { place, fate },
-            gives,
-            wants,
-            is_barred,
-        })?;
+        let step = step_by(place, fate, gives, wants);
+        steps.push(step)?;
     }
     Ok(steps)
+}
+
+// The step of a dump.
+fn step_by<A: Allocator>(
+    place: usize,
+    fate: Fate,
+    gives: Vec<Key, A>,
+    wants: Vec<Key, A>,
+) -> Step<Item, Key, A>
+    ensures parts { parts_of result ≡ (place, fate, gives_by fate gives.items, wants.items) }
+    ensures barred { result.is_barred ≡ is_refused result.item.fate }
+{
+    let is_barred = fate.is_refused();
+    let gives = gives_by(&fate, gives);
+    Step {
+        item: Item { place, fate },
+        gives,
+        wants,
+        is_barred,
+    }
 }
 
 // What a dump gives: a second one nothing, since the first gives it.
@@ -162,8 +184,8 @@ fn gives_by<A: Allocator>(fate: &Fate, gives: Vec<Key, A>) -> Vec<Key, A>
 
 // What becomes of a dump, by what all give and by the objects before it.
 fn fate_among<A: Allocator>(
-    given: &Keys<A>,
-    before: &Keys<A>,
+    given: &Keys<Key, A>,
+    before: &Keys<Key, A>,
     object: Option<Key>,
     must: Option<Key>,
     must_not: Option<Key>,
@@ -171,7 +193,7 @@ fn fate_among<A: Allocator>(
     fate: Fate,
 ) -> Fate
     ensures { (keys : List Key) → (objects : List Key)
-        → IsSetOf given.now keys → IsSetOf before.now objects
+        → IsSetOf same_key given.now keys → IsSetOf same_key before.now objects
         → result ≡ fate_by keys objects object must must_not made_by fate }
 {
     match fate {
@@ -203,8 +225,8 @@ fn again(object: Option<Key>) -> Fate
 }
 
 // True if there is a key, and it is in a set.
-fn has<A: Allocator>(set: &Keys<A>, key: Option<Key>) -> bool
-    ensures { (keys : List Key) → IsSetOf set.now keys → result ≡ among keys key }
+fn has<A: Allocator>(set: &Keys<Key, A>, key: Option<Key>) -> bool
+    ensures { (keys : List Key) → IsSetOf same_key set.now keys → result ≡ among keys key }
 {
     match key {
         Some(key) => set.contains(&key),
@@ -213,8 +235,8 @@ fn has<A: Allocator>(set: &Keys<A>, key: Option<Key>) -> bool
 }
 
 // True if there is a key, and it isn't in a set.
-fn lacks<A: Allocator>(set: &Keys<A>, key: Option<Key>) -> bool
-    ensures { (keys : List Key) → IsSetOf set.now keys → result ≡ lacks keys key }
+fn lacks<A: Allocator>(set: &Keys<Key, A>, key: Option<Key>) -> bool
+    ensures { (keys : List Key) → IsSetOf same_key set.now keys → result ≡ lacks keys key }
 {
     match key {
         Some(key) => !set.contains(&key),
@@ -222,17 +244,19 @@ fn lacks<A: Allocator>(set: &Keys<A>, key: Option<Key>) -> bool
     }
 }
 
-// A set with one key more, if there is one.
+// A set with the object of one dump more, if it has one.
 fn with_object<A: Allocator + Copy>(
-    set: Keys<A>,
+    set: Keys<Key, A>,
     object: Option<Key>,
-) -> Result<Keys<A>, AllocError>
-    ensures { IfOk result (λ made. (keys : List Key) → IsSetOf set keys
-        → IsSetOf made (keys ++ option_to_list object)) }
+) -> Result<Keys<Key, A>, AllocError>
+    ensures { IfOk result (λ made. (keys : List Key) → IsSetOf same_key set keys
+        → IsSetOf same_key made (keys ++ option_to_list object)) }
 {
-    let mut made = set;
-    if let Some(object) = object {
-        made.insert(object)?;
+    match object {
+        Some(object) => {
+            let made = with_key(set, object)?;
+            Ok(made)
+        }
+        None => Ok(set),
     }
-    Ok(made)
 }

@@ -6,7 +6,7 @@ use Rattle.tc_requests.specs.declared.restore_messages.Object.TheVariants.{Filte
 use Rattle.tc_plan.specs.Needs.{chain_number, wants, parents}
 use Rattle.tc_plan.specs.declared.key.Key.{Key}
 use Rattle.tc_plan.specs.declared.key.Key.TheVariants.{Actions, Chain, Tables}
-use Rattle.tc_plan.proofs.step.wanted.Goals as goal
+use Rattle.tc_plan.proofs.entry.wanted.Goals as goal
 
 -- what a filter wants, by the number of its chain
 wanted_by : {A : Type 0} (m : TcMessage A) (object : Object) (keys : List Key) (number : ℕ) → object ≡ Filter
