@@ -7,7 +7,7 @@ use Rattle.tc_show.specs.declared.asked.Asked.{Asked}
 use Rattle.tc_show.specs.Found.{Thing}
 use Rattle.tc_show.specs.Shown.{ShowsEach, ShowsSummary}
 use Rattle.tc_show.specs.State.{State, Grows, Puts, Progress, Ends, Completes, Ran, is_json, choice_view}
-use Rattle.tc_show.specs.Writing.{GrowsByFront}
+use Rattle.tc_streams.specs.Written.{GrowsByFront}
 use Rattle.tc_show.proofs.Puts.{each_append, or_assoc, or_false, puts_none}
 
 -- what is put is not yet written

@@ -50,7 +50,8 @@ impl<'a, A: Allocator + Copy> Shower<'a, A> {
     ghost use Rattle.tc_show.specs.declared.asked.Form.TheVariants.{Json};
     ghost use Rattle.tc_show.specs.Shown.{ended, IsPage, ShowsNotice, ShowsSummary};
     ghost use Rattle.tc_show.specs.State.{State, choice_view, is_json, state_of, Grows, Progress};
-    ghost use Rattle.tc_show.specs.Writing.{GrowsClean, GrowsByFront};
+    ghost use Rattle.tc_show.specs.Writing.{GrowsClean};
+    ghost use Rattle.tc_streams.specs.Written.{GrowsByFront};
 
     pub(crate) fn new(alloc: A, json: Global, asked: &'a Asked<'a>) -> Shower<'a, A>
         ensures { state_of result ≡ record { json = is_json asked.entry.now.form; choice = choice_view asked.entry.now.chosen; summary = asked.entry.now.has_summary; text = []; bad = false } }
