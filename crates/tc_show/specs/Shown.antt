@@ -1,8 +1,9 @@
 -- What is shown of what is found: of each thing a text, one after the other, and whether one of them is refused or broken.
 use Rattle.std.specs.Prelude.{◌≡◌, ℕ, Bool, true, false, IsTrue, ◌||◌, List, [], ◌∷◌, ◌++◌, Option, Some, None, is_some, length, drop, nat_lt, if◌then◌else◌}
-use Rattle.byteorder.specs.Endian.{little_number}
 use Rattle.tc_capture.specs.declared.kind.Holds.{Holds}
 use Rattle.tc_capture.specs.declared.kind.Holds.TheVariants.{Tc, Action}
+use Rattle.tc_capture.specs.declared.order.Order.TheVariants.{Little}
+use Rattle.tc_capture.specs.Order.{number}
 use Rattle.tc_outline.specs.declared.what.What.{What}
 use Rattle.tc_outline.specs.Located.{items_of_message, message_fault}
 use Rattle.tc_outline.specs.Page.{IsShown}
@@ -36,7 +37,7 @@ IsOfType (Some name) m = type_name m.header ≡ name
 
 -- the number of the interface of a traffic control message: four bytes at 4, little-endian
 abbrev pub interface_in : Holds → List ℕ → Option ℕ
-interface_in Tc bytes = if nat_lt (length bytes) 8 then None else Some (little_number 4 (drop 4 bytes))
+interface_in Tc bytes = if nat_lt (length bytes) 8 then None else Some (number Little 4 (drop 4 bytes))
 interface_in Action bytes = None
 
 abbrev pub IsOfInterface : Option ℕ → Message → Type 0
