@@ -55,9 +55,16 @@ pub each_append : (json : Bool) (choice : Choice) (xs ys : List Thing) (t u : Li
     → ShowsEach json choice (xs ++ ys) (t ++ u) (b || c)
 each_append json choice [] ys t u b c h k =
     subst (λ x. ShowsEach json choice ys (x ++ u) (b || c)) (sym h.no_text) (subst (λ x. ShowsEach json choice ys u (x || c)) (sym h.no_fault) k)
-each_append json choice (x ∷ xs) ys t u b c h k =
-    (h.0, h.1 ++ u, h.2, h.3 || c, h.4, each_append json choice xs ys h.1 u h.3 c h.5 k, ap (λ l. l ++ u) h.6 ∙ append_assoc h.0 h.1 u,
-    ap (λ l. l || c) h.7 ∙ or_assoc h.2 h.3 c)
+each_append json choice (x ∷ xs) ys t u b c h k = (
+  h.0,
+  h.1 ++ u,
+  h.2,
+  h.3 || c,
+  h.4,
+  each_append json choice xs ys h.1 u h.3 c h.5 k,
+  ap (λ l. l ++ u) h.6 ∙ append_assoc h.0 h.1 u,
+  ap (λ l. l || c) h.7 ∙ or_assoc h.2 h.3 c,
+)
 
 pub puts_none : (s : State) → Puts [] s s
 puts_none s = ([], false, nothing, grows_none s)
@@ -71,8 +78,8 @@ pub puts_one : (x : Thing) (t : List ℕ) (b : Bool) (s n : State) → Shows s.j
 puts_one x t b s n h g = (t, b, (t, [], b, false, h, nothing, sym (append-nil t), sym (or_false b)), g)
 
 -- a message that is chosen, and one that isn't
-pub puts_message : (m : Message) (t : List ℕ) (b taken : Bool) (s n : State) → taken ≡ true → IsTaken s.choice m taken → ShowsMessage s.json m t b → Grows t b s n
-    → Puts (message m ∷ []) s n
+pub puts_message : (m : Message) (t : List ℕ) (b taken : Bool) (s n : State) → taken ≡ true → IsTaken s.choice m taken
+    → ShowsMessage s.json m t b → Grows t b s n → Puts (message m ∷ []) s n
 puts_message m t b taken s n is_taken h shown g =
     puts_one (message m) t b s n (taken, h, subst (λ x. IfTaken x (ShowsMessage s.json m t b) t b) (sym is_taken) shown) g
 
@@ -83,7 +90,8 @@ puts_no_message m taken s n is_not h g =
 pub puts_answer : (h : Header) (capped : Bool) (m : Message) (t : List ℕ) (taken : Bool) (s n : State) → taken ≡ true → IsTaken s.choice m taken
     → ShowsAnswer s.json h capped m t → Grows t false s n → Puts (answer h capped m ∷ []) s n
 puts_answer h capped m t taken s n is_taken k shown g =
-    puts_one (answer h capped m) t false s n (taken, k, subst (λ x. IfTaken x (ShowsAnswer s.json h capped m t × (false ≡ false)) t false) (sym is_taken) (shown, refl)) g
+    puts_one (answer h capped m) t false s n
+    (taken, k, subst (λ x. IfTaken x (ShowsAnswer s.json h capped m t × (false ≡ false)) t false) (sym is_taken) (shown, refl)) g
 
 pub puts_no_answer : (h : Header) (capped : Bool) (m : Message) (taken : Bool) (s n : State) → taken ≡ false → IsTaken s.choice m taken → Grows [] false s n
     → Puts (answer h capped m ∷ []) s n

@@ -1,5 +1,9 @@
 -- What is shown of what is found: of each thing a text, one after the other, and whether one of them is refused or broken.
-use Rattle.std.specs.Prelude.{◌≡◌, ℕ, Bool, true, false, IsTrue, ◌||◌, List, [], ◌∷◌, ◌++◌, Option, Some, None, is_some}
+use Rattle.std.specs.Prelude.{◌≡◌, ℕ, Bool, true, false, IsTrue, ◌||◌, List, [], ◌∷◌, ◌++◌, Option, Some, None, is_some, length, drop, nat_lt, if◌then◌else◌}
+use Rattle.tc_capture.specs.declared.kind.Holds.{Holds}
+use Rattle.tc_capture.specs.declared.kind.Holds.TheVariants.{Tc, Action}
+use Rattle.tc_capture.specs.declared.order.Order.TheVariants.{Little}
+use Rattle.tc_capture.specs.Order.{number}
 use Rattle.tc_outline.specs.declared.what.What.{What}
 use Rattle.tc_outline.specs.Located.{items_of_message, message_fault}
 use Rattle.tc_outline.specs.Page.{IsShown}
@@ -31,10 +35,20 @@ abbrev pub IsOfType : Option (List ℕ) → Message → Type 0
 IsOfType None m = Unit {0}
 IsOfType (Some name) m = type_name m.header ≡ name
 
--- a message that is taken is of the type that is asked for, and all of that type are taken where nothing else is asked for
+-- the number of the interface of a traffic control message: four bytes at 4, little-endian
+abbrev pub interface_in : Holds → List ℕ → Option ℕ
+interface_in Tc bytes = if nat_lt (length bytes) 8 then None else Some (number Little 4 (drop 4 bytes))
+interface_in Action bytes = None
+
+abbrev pub IsOfInterface : Option ℕ → Message → Type 0
+IsOfInterface None m = Unit {0}
+IsOfInterface (Some n) m = interface_in m.holds m.payload ≡ Some n
+
+-- a message that is taken is of the type and of the interface that are asked for, and all of these are taken where no kind is asked for
 pub record IsTaken (choice : Choice) (m : Message) (taken : Bool) : Type 0 where
   pub of_type : IsTrue taken → IsOfType choice.name m
-  pub all : choice.kind ≡ None → choice.interface ≡ None → IsOfType choice.name m → IsTrue taken
+  pub of_interface : IsTrue taken → IsOfInterface choice.interface m
+  pub all : choice.kind ≡ None → IsOfType choice.name m → IsOfInterface choice.interface m → IsTrue taken
 
 -- ---- what is shown of a thing
 

@@ -1,5 +1,5 @@
 -- What a run has come to.
-use Rattle.std.specs.Prelude.{◌≡◌, ℕ, Bool, true, false, not, ◌||◌, ◌==◌, List, ◌++◌, Option, option_map}
+use Rattle.std.specs.Prelude.{◌≡◌, ℕ, Bool, true, false, not, [], ◌||◌, ◌==◌, List, ◌++◌, Option, option_map}
 use Rattle.std.specs.Io.KnownBytes.{Appends}
 use Rattle.tc_show.specs.declared.asked.Asked.{Asked}
 use Rattle.tc_show.specs.declared.asked.Chosen.{Chosen}
@@ -30,7 +30,13 @@ abbrev pub is_bad : Counts → Bool
 is_bad c = not (c.refused == 0) || not (c.broken == 0) || not (c.cut == 0)
 
 abbrev pub state_of : {A : Type 0} → Shower A → State
-state_of s = record { json = s.output.is_json; choice = choice_view s.asked.now.chosen; summary = s.asked.now.has_summary; text = s.output.bytes.items; bad = is_bad s.counts }
+state_of s = record {
+  json = s.output.is_json;
+  choice = choice_view s.asked.now.chosen;
+  summary = s.asked.now.has_summary;
+  text = s.output.bytes.items;
+  bad = is_bad s.counts;
+}
 
 -- a text more, and maybe a fault
 pub record Grows (more : List ℕ) (fault : Bool) (old new : State) : Type 0 where
@@ -68,6 +74,10 @@ abbrev pub Completes : Option (List ℕ) → Option (List ℕ) → State → Sta
 Completes old new first last =
     (things : List Thing) × (text : List ℕ) × (fault : Bool) × (summary : List ℕ) × ShowsEach first.json first.choice things text fault
     × ShowsSummary first.json first.summary summary × Appends old new (first.text ++ (text ++ summary)) × (last.bad ≡ (first.bad || fault))
+
+-- a run at its beginning
+abbrev pub start : Asked → State
+start asked = record { json = is_json asked.form; choice = choice_view asked.chosen; summary = asked.has_summary; text = []; bad = false }
 
 -- a run that comes to the end of its input: what is shown of the things in it is written, then their summary where it is asked for, and
 -- whether one of them is refused or broken is known

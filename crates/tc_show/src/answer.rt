@@ -2,10 +2,10 @@
 
 ghost use Rattle.std.specs.Prelude.{◌≡◌, is_some, option_map};
 
-use crate::shower::Shower;
 use crate::found::Found;
 use crate::line::line_of;
 use crate::pages::show_origin;
+use crate::shower::Shower;
 use std::alloc::{AllocError, Allocator};
 use tc_outline::{Fault, outline};
 

@@ -5,11 +5,11 @@ ghost use Rattle.tc_show.specs.Found.{Thing, other_than_outgoing};
 ghost use Rattle.tc_show.specs.State.{state_of, Progress, Puts};
 ghost use Rattle.tc_show.specs.Writing.{GrowsClean};
 
-use crate::shower::Shower;
 use crate::found::{Found, Origin};
 use crate::input::Input;
 use crate::kernel::Reply;
 use crate::notice::Notice;
+use crate::shower::Shower;
 use crate::status::Stop;
 use std::alloc::{AllocError, Allocator};
 use std::io::{Read, Write};
@@ -297,13 +297,10 @@ impl<'a, A: Allocator + Copy> Shower<'a, A> {
     }
 
     // Shows an answer of the kernel to a request of traffic control, or counts another netlink message.
-    fn put_other(
-        &mut self,
-        origin: Origin,
-        message: &NetlinkMessage<'_>,
-    ) -> Result<(), AllocError>
+    fn put_other(&mut self, origin: Origin, message: &NetlinkMessage<'_>) -> Result<(), AllocError>
         ensures form { self.new.output.is_json ≡ self.old.output.is_json }
-        ensures put { OnOk result (Puts (answer_with origin (message_of message.now) (answer_in (message_of message.now)) ∷ []) (state_of self.old) (state_of self.new)) }
+        ensures put { OnOk result (Puts (answer_with origin (message_of message.now) (answer_in (message_of message.now)) ∷ [])
+            (state_of self.old) (state_of self.new)) }
     {
         match Reply::in_netlink(origin, message) {
             Some(reply) => self.put_reply(&reply),

@@ -6,7 +6,7 @@ use crate::found::Found;
 impl<'a> Chosen<'a> {
     ghost use Rattle.std.specs.Prelude.{◌≡◌, ◌↔◌, IsTrue, true};
     ghost use Rattle.tc_show.specs.Found.{message_view};
-    ghost use Rattle.tc_show.specs.Shown.{IsOfType, IsTaken};
+    ghost use Rattle.tc_show.specs.Shown.{IsOfType, IsOfInterface, IsTaken};
     ghost use Rattle.tc_show.specs.State.{choice_view};
 
     /// True of a message that is shown.
@@ -26,11 +26,12 @@ impl<'a> Chosen<'a> {
     }
 
     fn takes_interface(&self, found: &Found<'_>) -> bool
-        ensures { self.now.interface ≡ None → result ≡ true }
+        ensures { IsTrue result ↔ IsOfInterface self.now.interface (message_view found.now) }
     {
-        match self.interface {
-            Some(number) => found.interface() == Some(number),
-            None => true,
+        match (self.interface, found.interface()) {
+            (None, _) => true,
+            (Some(number), Some(found)) => found == number,
+            (Some(_), None) => false,
         }
     }
 

@@ -5,6 +5,7 @@ ghost use Rattle.tc_capture.specs.Message.{message_of};
 ghost use Rattle.tc_show.specs.Found.{header_view, header_with};
 
 use nla_frames::strip_nul;
+use tc_capture::order::Order;
 use tc_capture::{Holds, NetlinkMessage, Time, rtm_of};
 use tc_index::{Attribute, Attributes};
 use tc_names::Table;
@@ -57,7 +58,7 @@ impl<'a> Found<'a> {
     ghost use Rattle.std.specs.Prelude.{◌≡◌, None, option_map};
     ghost use Rattle.tc_capture.specs.Message.{message_of};
     ghost use Rattle.tc_show.specs.Found.{header_view, message_view, message_in, nowhere};
-    ghost use Rattle.tc_show.specs.Shown.{type_name};
+    ghost use Rattle.tc_show.specs.Shown.{type_name, interface_in};
 
     /// The message in a netlink message; `None` where that is no traffic control.
     pub(crate) fn in_netlink(origin: Origin, message: &NetlinkMessage<'a>) -> Option<Found<'a>>
@@ -115,10 +116,17 @@ impl<'a> Found<'a> {
     }
 
     /// The number of its interface; `None` of an action message.
-    pub(crate) fn interface(&self) -> Option<u32> {
-        match (self.holds, self.payload) {
-            (Holds::Tc, [_, _, _, _, a, b, c, d, ..]) => Some(u32::from_le_bytes([*a, *b, *c, *d])),
-            _ => None,
+    pub(crate) fn interface(&self) -> Option<u32>
+        ensures { result ≡ interface_in self.now.holds self.now.payload.now }
+    {
+        match self.holds {
+            Holds::Tc => {
+                if self.payload.len() < 8 {
+                    return None;
+                }
+                Some(Order::Little.u32_at(self.payload, 4))
+            }
+            Holds::Action => None,
         }
     }
 }

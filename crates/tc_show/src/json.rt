@@ -5,7 +5,8 @@ ghost use Rattle.tc_forms.specs.Sent.{Sent};
 ghost use Rattle.tc_show.specs.Found.{header_view, message_view};
 ghost use Rattle.tc_show.specs.Line.{bool_field, number_field, text_field, number_if, text_if, packet_events, place_in_capture, port_events, number_events};
 ghost use Rattle.tc_show.specs.Line.{flags_events, header_events, header_if, origin_events, forms_events, read_events, object};
-ghost use Rattle.tc_show.specs.Line.{shown_events, message_events, fault_numbers, place_events, details, fault_events, verdict_events, told_events, line_events};
+ghost use Rattle.tc_show.specs.Line.{shown_events, message_events, fault_numbers, place_events, details, fault_events, verdict_events};
+ghost use Rattle.tc_show.specs.Line.{told_events, line_events};
 ghost use Rattle.tc_show.specs.Line.{quoted_events, request_events, located_events, said_events, error_events, answer_events, answered_events};
 
 use crate::found::{Found, Header, Origin};
@@ -224,7 +225,8 @@ fn show_origin<S: Serializer>(
     header: &Option<Header>,
     out: &mut S,
 ) -> Result<(), S::Error>
-    ensures { OnOk result (Sent (origin_events (option_map (λ t. t.now) time.entry) origin.now (option_map header_view header.now)) (S.written out.old) (S.written out.new)) }
+    ensures { OnOk result (Sent (origin_events (option_map (λ t. t.now) time.entry) origin.now (option_map header_view header.now))
+        (S.written out.old) (S.written out.new)) }
 {
     show_place_in_capture(time, origin, out)?;
     show_header_if(header, out)

@@ -4,11 +4,11 @@ ghost use Rattle.std.specs.Prelude.{◌≡◌, IfOk};
 ghost use Rattle.tc_show.specs.Found.{header_view, message_view};
 ghost use Rattle.tc_show.specs.Line.{IsAnswered};
 
-use crate::shower::{Shower, layout_of};
 use crate::found::{Found, Header, Origin, header_of};
 use crate::json::{AnswerLine, Said};
 use crate::line::json_of;
 use crate::pages::{show_name, show_time_of, some_text, text_of, time_page};
+use crate::shower::{Shower, layout_of};
 use nla_frames::strip_nul;
 use std::alloc::{AllocError, Allocator, Global};
 use std::str;

@@ -28,4 +28,3 @@ mod shower;
 mod shows;
 pub mod status;
 mod summary;
-mod writing;

@@ -6,10 +6,10 @@ ghost use Rattle.tc_show.specs.State.{state_of, Progress, Puts};
 ghost use Rattle.tc_show.specs.Writing.{GrowsClean};
 
 use crate::capture::MOST_PIECE;
-use crate::shower::Shower;
 use crate::found::{Found, NOWHERE};
 use crate::input::Input;
 use crate::notice::Notice;
+use crate::shower::Shower;
 use crate::status::Stop;
 use std::alloc::{AllocError, Allocator};
 use std::io::{Read, Write};

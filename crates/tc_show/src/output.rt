@@ -4,10 +4,10 @@ ghost use Rattle.std.specs.Prelude.{◌≡◌, false, true};
 ghost use Rattle.tc_outline.specs.Page.{IsShown};
 
 use crate::status::Stop;
-use crate::writing::write_all;
 use std::alloc::{AllocError, Allocator};
 use std::io::Write;
 use tc_outline::Page;
+use tc_streams::write_all;
 
 /// Text that is shown and not yet written: printable ASCII and line feeds, or JSON.
 #[derive(Drop)]
@@ -19,7 +19,8 @@ pub(crate) struct Output<A: Allocator> {
 
 impl<A: Allocator> Output<A> {
     ghost use Rattle.std.specs.Prelude.{◌++◌, ◌∷◌, [], List, ℕ, OnOk};
-    ghost use Rattle.tc_show.specs.Writing.{GrowsByFront, GrowsClean};
+    ghost use Rattle.tc_show.specs.Writing.{GrowsClean};
+    ghost use Rattle.tc_streams.specs.Written.{GrowsByFront};
 
     /// An empty one, for JSON or for people.
     pub(crate) fn new(alloc: A, is_json: bool) -> Output<A>
@@ -79,6 +80,9 @@ impl<A: Allocator> Output<A> {
     {
         let outcome = write_all(writer, &self.bytes);
         self.bytes.clear();
-        outcome
+        match outcome {
+            Ok(()) => Ok(()),
+            Err(stop) => Err(Stop::from(stop)),
+        }
     }
 }

@@ -13,7 +13,6 @@ use crate::names::{interface_of, names_in};
 use crate::packets::Packets;
 use crate::run::{Ended, run};
 use crate::status::{Stop, status_of};
-use crate::writing::write_all;
 use clap::error::ErrorKind;
 use std::alloc::{Allocator, Global};
 use std::io::{self, Input, Print, Read, Write};
@@ -21,6 +20,7 @@ use std::process::ExitCode;
 use std::rt::{Env, Files};
 use std::{env, fs};
 use tc_outline::Interfaces;
+use tc_streams::complain;
 
 /// The whole program: reads its arguments, shows the messages of its input on standard output, and returns the exit
 /// status. Why it ended early is written to `errors`.
@@ -165,12 +165,4 @@ fn complain_of_packets<E: Write>(json: Global, errors: &mut E, packets: &Packets
         Ok(text) => complain(errors, text.as_str(), status),
         Err(_) => complain(errors, "tcshow: no route netlink\n", status),
     }
-}
-
-// Writes why nothing more is shown, if it can, and returns a status.
-fn complain<E: Write>(errors: &mut E, text: &str, status: u8) -> u8
-    ensures { result ≡ status }
-{
-    let _ = write_all(errors, text.as_bytes());
-    status
 }

@@ -7,10 +7,10 @@ ghost use Rattle.tc_show.specs.Writing.{GrowsClean};
 
 use crate::asked::Asked;
 use crate::capture::show_capture;
-use crate::shower::Shower;
 use crate::input::Input;
 use crate::lines::{is_hex_text, show_lines};
 use crate::packets::Packets;
+use crate::shower::Shower;
 use crate::status::Stop;
 use std::alloc::{Allocator, Global};
 use std::io::{Read, Write};

@@ -4,15 +4,15 @@ ghost use Rattle.std.specs.Prelude.{◌≡◌};
 ghost use Rattle.tc_show.specs.State.{is_json};
 
 use crate::asked::{Asked, Form};
+use crate::counts::Counts;
 use crate::found::Found;
 use crate::line::json_of;
 use crate::notice::{Notice, NoticeLine};
+use crate::output::Output;
 use crate::packets::Packets;
 use crate::pages::text_of;
-use crate::output::Output;
 use crate::status::Stop;
 use crate::summary::{Summary, SummaryLine};
-use crate::counts::Counts;
 use std::alloc::{AllocError, Allocator, Global};
 use std::io::Write;
 use tc_outline::{Layout, Page};
@@ -49,11 +49,12 @@ impl<'a, A: Allocator + Copy> Shower<'a, A> {
     ghost use Rattle.std.specs.Prelude.{List, ℕ, Bool, [], OnOk, is_some};
     ghost use Rattle.tc_show.specs.declared.asked.Form.TheVariants.{Json};
     ghost use Rattle.tc_show.specs.Shown.{ended, IsPage, ShowsNotice, ShowsSummary};
-    ghost use Rattle.tc_show.specs.State.{State, choice_view, is_json, state_of, Grows, Progress};
-    ghost use Rattle.tc_show.specs.Writing.{GrowsClean, GrowsByFront};
+    ghost use Rattle.tc_show.specs.State.{start, state_of, Grows, Progress};
+    ghost use Rattle.tc_show.specs.Writing.{GrowsClean};
+    ghost use Rattle.tc_streams.specs.Written.{GrowsByFront};
 
     pub(crate) fn new(alloc: A, json: Global, asked: &'a Asked<'a>) -> Shower<'a, A>
-        ensures { state_of result ≡ record { json = is_json asked.entry.now.form; choice = choice_view asked.entry.now.chosen; summary = asked.entry.now.has_summary; text = []; bad = false } }
+        ensures { state_of result ≡ start asked.entry.now }
     {
         Shower {
             alloc,

@@ -13,6 +13,9 @@ each-preserved g c =
     let left = map (thing_in c.args.origin) (messages_left c.next.new.self) in
     record {
       form = c.put_next.ensures.form ∙ c.each.invariant.form;
-      put = (before.0 ++ one, puts_then before.0 one _ _ _ before.1 c.in_ok-put_next.ensures.put,
-      append_assoc before.0 one left ∙ ap (λ l. before.0 ++ l) (sym (ap (map (thing_in c.args.origin)) c.in-Some.ensures.steps)) ∙ before.2);
+      put = (
+        before.0 ++ one,
+        puts_then before.0 one _ _ _ before.1 c.in_ok-put_next.ensures.put,
+        append_assoc before.0 one left ∙ ap (λ l. before.0 ++ l) (sym (ap (map (thing_in c.args.origin)) c.in-Some.ensures.steps)) ∙ before.2,
+      );
     }

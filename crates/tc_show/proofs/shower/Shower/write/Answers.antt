@@ -8,4 +8,5 @@ returns-clause-ran g c =
     let s = state_of c.args.self.now in
     let f = c.write.ensures.front in
     on_ok_weaker c.write.result
-    (λ none. progress_write _ _ s _ f.0 f.1 none (emptied s c.write.new.self.is_json c.write.new.self.bytes.items c.write.ensures.form c.write.ensures.empty)) f.2
+    (λ none. progress_write _ _ s _ f.0 f.1 none
+    (emptied s c.write.new.self.is_json c.write.new.self.bytes.items c.write.ensures.form c.write.ensures.empty)) f.2
