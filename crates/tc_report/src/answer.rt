@@ -33,7 +33,10 @@ fn yes_or_no(holds: bool) -> &'static str
 }
 
 // The bytes of a message that fits.
-fn emitted<A: Allocator, M: WholeMessage<A>>(alloc: A, message: &M) -> Result<Vec<u8, A>, AllocError>
+fn emitted<A: Allocator, M: WholeMessage<A>>(
+    alloc: A,
+    message: &M,
+) -> Result<Vec<u8, A>, AllocError>
     requires { M.words.Fits (M.message message.now) }
     ensures { IfOk result (λ bytes. bytes.items ≡ M.words.bytes (M.message message.now)) }
 {
