@@ -11,6 +11,7 @@ use crate::error::NoMessage;
 use crate::message::HasForm;
 use serde_json::Value;
 use std::alloc::{AllocError, Global};
+use tc_forms::Form;
 use tc_forms_strict::{Difference, differences, made_strictly, shown_json};
 use tc_kinds::TcTables;
 use tc_outline::{Layout, Page, locate};
@@ -31,7 +32,7 @@ pub fn make_as_given<M: HasForm>(alloc: Global, json: &Value) -> Result<Vec<u8>,
 
 /// The canonical bytes of the message that JSON stands for: what is written of the message that is read of the bytes of which the
 /// JSON is shown. So a flag of `nla_type` that isn't the type's own, padding other than zeros, bytes behind a record and a kind without
-/// its NUL go. Where what is written is another message, there is none.
+/// its NUL go where reading drops them. Where a value would change, there is no message.
 pub fn make<M: WholeMessage<Global> + HasForm + Drop>(
     alloc: Global,
     json: &Value,
@@ -42,9 +43,21 @@ pub fn make<M: WholeMessage<Global> + HasForm + Drop>(
     ensures found { (bytes : List ℕ) → IsBytes bytes → M.words.Canonical bytes → json_of tc_tables M.form bytes ≡ view json.now
         → MatchResult result (λ made. made.items ≡ bytes) IsMemory }
 {
-    match make_as_given::<M>(alloc, json) {
-        Ok(given) => written_of::<M>(alloc, &given),
-        Err(e) => Err(e),
+    let given = match make_as_given::<M>(alloc, json) {
+        Ok(given) => given,
+        Err(e) => return Err(e),
+    };
+    let bytes = match written_of::<M>(alloc, &given) {
+        Ok(bytes) => bytes,
+        Err(e) => return Err(e),
+    };
+    if bytes.as_slice() == given.as_slice() {
+        return Ok(bytes);
+    }
+    match first_change(alloc, M::form(), &given, &bytes) {
+        Ok(Some(difference)) => Err(NoMessage::Changed(difference)),
+        Ok(None) => Ok(bytes),
+        Err(_) => Err(NoMessage::OutOfMemory),
     }
 }
 
@@ -95,23 +108,25 @@ fn place_of<M: HasForm>(alloc: Global, given: &[u8]) -> Result<String, AllocErro
 
 // The error of bytes whose message isn't settled.
 fn changed<M: WholeMessage<Global> + HasForm>(alloc: Global, given: &[u8]) -> NoMessage {
-    match first_change::<M>(alloc, given) {
+    let Ok((settled, _)) = M::settle(alloc, given) else {
+        return NoMessage::OutOfMemory;
+    };
+    match first_change(alloc, M::form(), given, &settled) {
         Ok(Some(difference)) => NoMessage::Changed(difference),
         Ok(None) => NoMessage::DoesNotFit,
         Err(_) => NoMessage::OutOfMemory,
     }
 }
 
-// The first place where the settled bytes are shown as another value. What is beside a value is no part of the message.
-fn first_change<M: WholeMessage<Global> + HasForm>(
+// The first place where another value is shown of other bytes. What is beside a value is no part of the message.
+fn first_change(
     alloc: Global,
+    form: Form,
     given: &[u8],
+    other: &[u8],
 ) -> Result<Option<Difference>, AllocError> {
-    let Ok((settled, _)) = M::settle(alloc, given) else {
-        return Ok(None);
-    };
-    let found = shown_json(alloc, TcTables, M::form(), given)?;
-    let wanted = shown_json(alloc, TcTables, M::form(), &settled)?;
+    let found = shown_json(alloc, TcTables, form, given)?;
+    let wanted = shown_json(alloc, TcTables, form, other)?;
     let mut all = differences(alloc, &found, &wanted)?.into_iter();
     Ok(all.find(|difference| !is_beside_a_value(difference.path.as_str())))
 }
