@@ -7,10 +7,10 @@
     '{"header":{"family":"Unspec"},"attributes":[]}'
     >>> vtc.make('{"header":{"family":"Unspec"},"attributes":[]}', action=True)
     b'\\x00\\x00\\x00\\x00'
-    >>> vtc.make('{"header":{"family":3},"attributes":[]}', action=True)
+    >>> vtc.make('{"header":{"family":"Unspec"},"attributes":7}', action=True)
     Traceback (most recent call last):
     ...
-    vtc.MakeError: /header/family: found 3, wanted the name of a number, or {"Other":n}
+    vtc.MakeError: /attributes: found 7, wanted a list
     >>> vtc.make_as_given('{"raw":"00ff"}', action=True)
     b'\\x00\\xff'
 
