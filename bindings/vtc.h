@@ -26,7 +26,7 @@ extern "C" {
 #endif
 
 /* The version of this header. */
-#define VTC_VERSION UINT32_C(0x000100) /* 0.1.0 */
+#define VTC_VERSION UINT32_C(0x000200) /* 0.2.0 */
 
 /* The version of the library: major * 65536 + minor * 256 + patch. */
 uint32_t vtc_version(void);
@@ -49,7 +49,7 @@ enum vtc_status {
     VTC_NO_ROOM = 13,           /* the buffer is too small; it is unchanged, and *length is how many bytes are needed */
     VTC_END = 14,               /* no attribute is left */
     VTC_NOT_JSON = 15,          /* a text isn't JSON */
-    VTC_NO_MESSAGE = 16         /* no message is made of the JSON */
+    VTC_NO_MESSAGE = 16         /* no bytes are made of the JSON */
 };
 
 /* ---- Calls that take no memory. A program that uses no others needs no allocator. */
@@ -145,16 +145,30 @@ uint32_t vtc_action_rewrite(const uint8_t *bytes, size_t len, uint8_t *buffer, s
 uint32_t vtc_settle(const uint8_t *bytes, size_t len, uint8_t *buffer, size_t room, size_t *length, size_t *rewrites);
 uint32_t vtc_action_settle(const uint8_t *bytes, size_t len, uint8_t *buffer, size_t room, size_t *length, size_t *rewrites);
 
-/* The message as JSON, in UTF-8, without a NUL at its end. It is never VTC_DOES_NOT_FIT; VTC_OUT_OF_MEMORY is any
- * failure to make the text. */
+/* The JSON of the bytes, whatever they are, in UTF-8, without a NUL at its end. Bytes that aren't a message have theirs
+ * too: what doesn't follow its form is shown as {"raw":".."}, in hex. It is VTC_OK, VTC_NO_ROOM or VTC_OUT_OF_MEMORY,
+ * which is any failure to make the text. */
 uint32_t vtc_json(const uint8_t *bytes, size_t len, uint8_t *buffer, size_t room, size_t *length);
 uint32_t vtc_action_json(const uint8_t *bytes, size_t len, uint8_t *buffer, size_t room, size_t *length);
 
-/* The canonical bytes of the message that is shown as this JSON, a text in UTF-8 of `len` bytes, in the form of
- * vtc_json. The buffer is as above. VTC_NOT_JSON and VTC_NO_MESSAGE: why, as a text in UTF-8 without a NUL, is in the
- * first *why_length bytes of `why`, which has `why_room` bytes: as many characters as have room. It names a place by a
- * JSON pointer: "/attributes/1/Options/0/FqCodel/Limit: found -1, wanted a number from 0 to 4294967295". Else it is
- * VTC_OK, VTC_NO_ROOM or VTC_OUT_OF_MEMORY, and *why_length is 0. No more of `why` is written. */
+/* The other way: bytes of JSON, a text in UTF-8 of `len` bytes. The buffer is as above. VTC_NOT_JSON and VTC_NO_MESSAGE:
+ * why, as a text in UTF-8 without a NUL, is in the first *why_length bytes of `why`, which has `why_room` bytes: as many
+ * characters as have room. It names a place by a JSON pointer: "/attributes/1/Options/0/FqCodel/Limit: found -1, wanted
+ * a number from 0 to 4294967295". Else it is VTC_OK, VTC_NO_ROOM or VTC_OUT_OF_MEMORY, and *why_length is 0. No more of
+ * `why` is written. The JSON has to be what vtc_json shows of some bytes, up to the order of members and to blanks: a
+ * member that it wouldn't show, as one that is misspelt, is VTC_NO_MESSAGE. */
+
+/* The bytes of which this JSON is shown, whatever they are. */
+uint32_t vtc_make_as_given(const char *json, size_t len, uint8_t *buffer, size_t room, size_t *length,
+                           char *why, size_t why_room, size_t *why_length);
+uint32_t vtc_action_make_as_given(const char *json, size_t len, uint8_t *buffer, size_t room, size_t *length,
+                                  char *why, size_t why_room, size_t *why_length);
+
+/* The canonical bytes of the message that the JSON stands for: what is written of the message that is read of the bytes
+ * above. So a flag of a type that isn't the type's own ("word"), padding other than zeros ("pad"), bytes behind a record
+ * ("rest") and a kind without its NUL ("bare") go where reading drops them. It is VTC_NO_MESSAGE where those bytes can't
+ * be read, with the place of the first fault; where what is read can't be written; and where a value would change,
+ * with the place, the value and what it would become. */
 uint32_t vtc_make(const char *json, size_t len, uint8_t *buffer, size_t room, size_t *length,
                   char *why, size_t why_room, size_t *why_length);
 uint32_t vtc_action_make(const char *json, size_t len, uint8_t *buffer, size_t room, size_t *length,

@@ -7,10 +7,12 @@
     '{"header":{"family":"Unspec"},"attributes":[]}'
     >>> vtc.make('{"header":{"family":"Unspec"},"attributes":[]}', action=True)
     b'\\x00\\x00\\x00\\x00'
-    >>> vtc.make('{"header":{"family":3},"attributes":[]}', action=True)
+    >>> vtc.make('{"header":{"family":"Unspec"},"attributes":7}', action=True)
     Traceback (most recent call last):
     ...
-    vtc.MakeError: /header/family: found 3, wanted the name of an address family, or {"Other":n}
+    vtc.MakeError: /attributes: found 7, wanted a list
+    >>> vtc.make_as_given('{"raw":"00ff"}', action=True)
+    b'\\x00\\xff'
 
 A message is bytes without the 16 bytes of its netlink header; with `action=True` it is one about actions (RTM_*ACTION,
 which begins with struct tcamsg), else one about qdiscs, classes, filters or chains (which begins with struct tcmsg).
@@ -23,7 +25,8 @@ On the command line, with a message as hex, or as JSON:
     python3 -m vtc show HEX [--action]        its attributes, each on a line, indented by its depth
     python3 -m vtc settle HEX [--action]      the canonical bytes to which rewriting leads
     python3 -m vtc json HEX [--action]        it as JSON
-    python3 -m vtc make JSON [--action]       the other way: the message as hex
+    python3 -m vtc make JSON [--action]       the other way: the canonical message as hex
+    python3 -m vtc given JSON [--action]      the bytes that JSON stands for, as hex
 """
 
 from __future__ import annotations
@@ -50,6 +53,7 @@ __all__ = [
     "is_canonical",
     "json",
     "make",
+    "make_as_given",
     "rewrite",
     "settle",
     "version",
@@ -223,6 +227,7 @@ _CALLS = {
     "settle": (ctypes.c_uint32, [*_bytes_in, *_room_out, _p(_size_t)]),
     "json": (ctypes.c_uint32, [*_bytes_in, *_room_out]),
     "make": (ctypes.c_uint32, [*_bytes_in, *_room_out, *_room_out]),
+    "make_as_given": (ctypes.c_uint32, [*_bytes_in, *_room_out, *_room_out]),
 }
 for _name, (_result, _arguments) in _CALLS.items():
     for _prefix in ("vtc_", "vtc_action_"):
@@ -335,14 +340,23 @@ def settle(message: bytes, action: bool = False) -> Tuple[bytes, int]:
 
 
 def json(message: bytes, action: bool = False) -> str:
-    """A message as JSON. Raises Refused."""
+    """The JSON of bytes, whatever they are."""
     return _written("json", bytes(message), action).decode()
 
 
 def make(text: str, action: bool = False) -> bytes:
-    """The canonical bytes of the message that is shown as this JSON. Raises MakeError."""
+    """The canonical bytes of the message that this JSON stands for. Raises MakeError."""
+    return _made("make", text, action)
+
+
+def make_as_given(text: str, action: bool = False) -> bytes:
+    """The bytes of which this JSON is shown, whatever they are. Raises MakeError."""
+    return _made("make_as_given", text, action)
+
+
+def _made(name: str, text: str, action: bool) -> bytes:
     why, why_length = (ctypes.c_uint8 * 4096)(), _size_t(0)
-    status, made = _with_room("make", text.encode(), action, why, len(why), ctypes.byref(why_length))
+    status, made = _with_room(name, text.encode(), action, why, len(why), ctypes.byref(why_length))
     if status == Status.OUT_OF_MEMORY:
         raise MemoryError("vtc: out of memory")
     if status != Status.OK:
@@ -380,6 +394,7 @@ _COMMANDS = {
     "settle": _of_hex(lambda message, action: settle(message, action)[0].hex()),
     "json": _of_hex(json),
     "make": lambda text, action: make(text, action).hex(),
+    "given": lambda text, action: make_as_given(text, action).hex(),
 }
 
 
@@ -387,7 +402,7 @@ def main(words: Optional[list[str]] = None) -> int:
     """Runs the command line, and returns its exit status: 0, or 1 where the message can't be read, written or made."""
     parser = argparse.ArgumentParser(prog="vtc", description="Messages of Linux traffic control, as hex and JSON.")
     parser.add_argument("command", choices=sorted(_COMMANDS))
-    parser.add_argument("message", help="hex, without the netlink header; for make JSON")
+    parser.add_argument("message", help="hex, without the netlink header; for make and given JSON")
     parser.add_argument("--action", action="store_true", help="it is a message about actions")
     asked = parser.parse_args(words)
     try:

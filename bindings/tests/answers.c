@@ -15,13 +15,15 @@ static void print_hex(size_t length) {
     for (size_t i = 0; i < length; i++) printf("%02x", buffer[i]);
 }
 
+typedef uint32_t maker(const char *, size_t, uint8_t *, size_t, size_t *, char *, size_t, size_t *);
+
 /* What is made of the text of a message, or why there is nothing. */
-static void make(int is_action, size_t len) {
+static void make(const char *name, maker *call, size_t len) {
     static char why[4096];
     size_t length = 0, why_length = 0;
-    uint32_t status = (is_action ? vtc_action_make : vtc_make)((const char *)text, len, buffer, sizeof buffer, &length, why, sizeof why, &why_length);
+    uint32_t status = call((const char *)text, len, buffer, sizeof buffer, &length, why, sizeof why, &why_length);
     if (status != VTC_OK) memcpy(buffer, why, length = why_length);
-    printf("; make %u ", status);
+    printf("; %s %u ", name, status);
     print_hex(length);
 }
 
@@ -56,7 +58,8 @@ int main(void) {
         printf(" %u", status);
         status = (is_action ? vtc_action_json : vtc_json)(bytes, len, text, sizeof text, &length);
         if (status != VTC_OK) length = 0;
-        make(is_action, length);
+        make("make", is_action ? vtc_action_make : vtc_make, length);
+        make("given", is_action ? vtc_action_make_as_given : vtc_make_as_given, length);
         printf("; json %u ", status);
         fwrite(text, 1, length, stdout);
         printf("\n");

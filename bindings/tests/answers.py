@@ -41,8 +41,10 @@ def answer(message, action):
     text += f" {end}"
     shown, status = tried(vtc.json, message, action)
     shown = "" if status else shown
-    made, ended = tried(vtc.make, shown, action)
-    return text + f"; make {ended} {made.hex()}; json {status} {shown}"
+    for name, call in ("make", vtc.make), ("given", vtc.make_as_given):
+        made, ended = tried(call, shown, action)
+        text += f"; {name} {ended} {made.hex()}"
+    return text + f"; json {status} {shown}"
 
 
 for line in sys.stdin:

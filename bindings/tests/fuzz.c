@@ -107,7 +107,7 @@ static int is_filled(const void *from, const void *to) {
 
 /* ---- Calls. */
 
-static Space input, output, slots, text, reason;
+static Space input, output, slots, text, json, reason;
 static unsigned long statuses[STATUSES];
 static struct vtc_verdict *verdict;
 static struct vtc_fault *fault;
@@ -193,8 +193,11 @@ static void try_next(const uint8_t *bytes, size_t len) {
     expect((status == VTC_END) == (old >= len), "an end that is none");
 }
 
-/* What is made of JSON, whose characters may be changed. `known` are the bytes that it is the JSON of, or NULL. */
-static void try_make(const uint8_t *json, size_t len, int is_action, const uint8_t *known, size_t known_len) {
+typedef uint32_t (*Maker)(const char *, size_t, uint8_t *, size_t, size_t *, char *, size_t, size_t *);
+
+/* What a call makes of JSON, whose characters may be changed: the buffer, where it makes anything. `known` are the bytes that it makes of
+ * the JSON unchanged, or NULL. */
+static uint8_t *try_make(Maker maker, const uint8_t *json, size_t len, const uint8_t *known, size_t known_len) {
     static const char characters[] = "{}[]\":,.-+0123456789eEtrufalsnKOoth \\\xc3\xa4";
     uint8_t *copy = text.end - len;
     memcpy(copy, json, len);
@@ -203,18 +206,18 @@ static void try_make(const uint8_t *json, size_t len, int is_action, const uint8
     uint8_t *buffer = buffer_of(room), *why = reason.end - why_room;
     memset(why - BESIDE, FILL, why_room + BESIDE);
     begin();
-    uint32_t status = (is_action ? vtc_action_make : vtc_make)((const char *)copy, len, buffer, room, length, (char *)why, why_room, why_length);
+    uint32_t status = maker((const char *)copy, len, buffer, room, length, (char *)why, why_room, why_length);
     ended(status);
     expect(status == VTC_OK || status >= VTC_OUT_OF_MEMORY, "a fault of bytes, but there are none");
     expect(*why_length <= why_room && is_filled(why - BESIDE, why) && is_filled(why + *why_length, reason.end), "more of a text was written");
     expect(*why_length == 0 || status == VTC_NOT_JSON || status == VTC_NO_MESSAGE, "a text, but no error");
     expect(is_filled(buffer - BESIDE, status ? output.end : buffer), "the buffer was touched");
     if (status == VTC_NO_ROOM) expect(*length > room, "no room, but there is");
-    if (known) expect(status == VTC_OK || status == VTC_NO_ROOM || status == VTC_OUT_OF_MEMORY, "nothing is made of the JSON of a settled message");
-    if (status != VTC_OK) return;
+    if (known) expect(status == VTC_OK || status == VTC_NO_ROOM || status == VTC_OUT_OF_MEMORY, "nothing is made of JSON that was shown");
+    if (status != VTC_OK) return NULL;
     expect(*length <= room && is_filled(buffer + *length, output.end), "more was written");
-    expect((is_action ? vtc_action_is_canonical : vtc_is_canonical)(buffer, *length), "made bytes that aren't canonical");
     if (known) expect(*length == known_len && memcmp(buffer, known, known_len) == 0, "other bytes are made of its JSON");
+    return buffer;
 }
 
 static void try_message(const uint8_t *bytes, size_t len, int is_action) {
@@ -242,10 +245,15 @@ static void try_message(const uint8_t *bytes, size_t len, int is_action) {
         expect((is_action ? vtc_action_is_canonical : vtc_is_canonical)(buffer, *length), "settled bytes that aren't canonical");
         expect((*rewrites == 0) == canonical, "rewrites of canonical bytes");
     }
-    buffer = written(is_action ? vtc_action_json : vtc_json, bytes, len, status, 12 * len + 256);
+    /* Bytes that can't be read have their JSON, too. */
+    buffer = written(is_action ? vtc_action_json : vtc_json, bytes, len, VTC_OUT_OF_MEMORY, 32 * len + 256);
     if (!buffer) return;
     expect(buffer[0] == '{' && buffer[*length - 1] == '}', "JSON that is no object");
-    try_make(buffer, *length, is_action, canonical ? bytes : NULL, len);
+    size_t shown_len = *length;
+    uint8_t *shown = memcpy(json.first, buffer, shown_len);
+    try_make(is_action ? vtc_action_make_as_given : vtc_make_as_given, shown, shown_len, bytes, len);
+    buffer = try_make(is_action ? vtc_action_make : vtc_make, shown, shown_len, canonical ? bytes : NULL, len);
+    if (buffer) expect((is_action ? vtc_action_is_canonical : vtc_is_canonical)(buffer, *length), "made bytes that aren't canonical");
 }
 
 /* No bytes, no slots and no buffer, each as NULL. */
@@ -273,9 +281,10 @@ int main(int count, char **words) {
     double seconds = count > 1 ? atof(words[1]) : 60;
     read_messages();
     input = between_guards(BYTES);
-    output = between_guards(16 * BYTES);
+    output = between_guards(40 * BYTES);
     slots = between_guards(8 * BYTES);
-    text = between_guards(16 * BYTES);
+    text = between_guards(40 * BYTES);
+    json = between_guards(40 * BYTES);
     reason = between_guards(PAGE);
     /* What is written beside the buffer ends where memory ends, too. */
     verdict = (struct vtc_verdict *)(void *)between_guards(PAGE).end - 1;

@@ -34,6 +34,6 @@ const index_ indexes[] = {vtc_index, vtc_action_index};
 const check checks[] = {vtc_check, vtc_action_check};
 const writer writers[] = {vtc_rewrite, vtc_action_rewrite, vtc_json, vtc_action_json};
 const settler settlers[] = {vtc_settle, vtc_action_settle};
-const maker makers[] = {vtc_make, vtc_action_make};
+const maker makers[] = {vtc_make, vtc_action_make, vtc_make_as_given, vtc_action_make_as_given};
 
 int main(void) { return vtc_version() == VTC_VERSION ? 0 : 1; }

@@ -23,9 +23,8 @@ fn status_of(error: Error) -> u32 {
     }
 }
 
-fn made(form: Form, json: &str, buffer: &mut [u8]) -> String {
-    let mut why = [0; 4096];
-    match form.make(json, buffer, &mut why) {
+fn said(made: Result<&[u8], MakeError<'_>>) -> String {
+    match made {
         Ok(made) => format!("0 {}", hex(made)),
         Err(MakeError::NotJson(why)) => format!("15 {}", hex(why.as_bytes())),
         Err(MakeError::NoMessage(why)) => format!("16 {}", hex(why.as_bytes())),
@@ -77,8 +76,10 @@ fn answer(form: Form, bytes: &[u8], buffer: &mut [u8]) -> String {
         Ok(json) => (0, json.to_string()),
         Err(error) => (status_of(error), String::new()),
     };
-    let made = made(form, &json, buffer);
-    text + &format!(" {end}; make {made}; json {status} {json}")
+    let mut why = [0; 4096];
+    let made = said(form.make(&json, buffer, &mut why));
+    let given = said(form.make_as_given(&json, buffer, &mut why));
+    text + &format!(" {end}; make {made}; given {given}; json {status} {json}")
 }
 
 fn main() -> io::Result<()> {

@@ -189,6 +189,34 @@ pub fn version() -> u32 {
     unsafe { sys::vtc_version() }
 }
 
+type Maker = unsafe extern "C" fn(*const u8, usize, *mut u8, usize, *mut usize, *mut u8, usize, *mut usize) -> u32;
+
+fn made<'b, 'w>(call: Maker, json: &str, buffer: &'b mut [u8], why: &'w mut [u8]) -> Result<&'b [u8], MakeError<'w>> {
+    let (mut length, mut why_length) = (0, 0);
+    // SAFETY: the text and the two buffers are three slices, and the two numbers are this function's own.
+    let status = unsafe {
+        call(
+            json.as_ptr(),
+            json.len(),
+            buffer.as_mut_ptr(),
+            buffer.len(),
+            &mut length,
+            why.as_mut_ptr(),
+            why.len(),
+            &mut why_length,
+        )
+    };
+    // It is UTF-8.
+    let why = core::str::from_utf8(&why[..why_length]).unwrap_or("");
+    match status {
+        0 => Ok(&buffer[..length]),
+        13 => Err(MakeError::NoRoom { needed: length }),
+        15 => Err(MakeError::NotJson(why)),
+        16 => Err(MakeError::NoMessage(why)),
+        _ => Err(MakeError::OutOfMemory),
+    }
+}
+
 impl Form {
     /// What is said of the message that the bytes are, or why they can't be read.
     pub fn check(self, bytes: &[u8]) -> Result<Verdict, Error> {
@@ -269,7 +297,7 @@ impl Form {
         Ok((self.ended(status, bytes, buffer, length)?, rewrites))
     }
 
-    /// Writes the message as JSON into the buffer, and returns the text.
+    /// Writes the JSON of the bytes into the buffer, whatever they are, and returns the text.
     pub fn json<'b>(self, bytes: &[u8], buffer: &'b mut [u8]) -> Result<&'b str, Error> {
         let call = match self {
             Form::Tc => sys::vtc_json,
@@ -279,8 +307,8 @@ impl Form {
         Ok(core::str::from_utf8(self.written(call, bytes, buffer)?).unwrap_or(""))
     }
 
-    /// Writes the canonical bytes of the message that is shown as this JSON into the buffer, and returns them; or why none
-    /// is made, as a text in the second buffer.
+    /// Writes the canonical bytes of the message that this JSON stands for into the buffer, and returns them; or why there
+    /// are none, as a text in the second buffer.
     ///
     /// ```no_run
     /// use vtc::Form;
@@ -294,29 +322,28 @@ impl Form {
             Form::Tc => sys::vtc_make,
             Form::Action => sys::vtc_action_make,
         };
-        let (mut length, mut why_length) = (0, 0);
-        // SAFETY: the text and the two buffers are three slices, and the two numbers are this function's own.
-        let status = unsafe {
-            call(
-                json.as_ptr(),
-                json.len(),
-                buffer.as_mut_ptr(),
-                buffer.len(),
-                &mut length,
-                why.as_mut_ptr(),
-                why.len(),
-                &mut why_length,
-            )
+        made(call, json, buffer, why)
+    }
+
+    /// Writes the bytes of which this JSON is shown into the buffer, whatever they are, in the same way.
+    ///
+    /// ```no_run
+    /// use vtc::Form;
+    ///
+    /// let (mut buffer, mut why) = ([0; 64], [0; 256]);
+    /// assert_eq!(Form::Tc.make_as_given(r#"{"raw":"00ff"}"#, &mut buffer, &mut why), Ok(&[0, 255][..]));
+    /// ```
+    pub fn make_as_given<'b, 'w>(
+        self,
+        json: &str,
+        buffer: &'b mut [u8],
+        why: &'w mut [u8],
+    ) -> Result<&'b [u8], MakeError<'w>> {
+        let call = match self {
+            Form::Tc => sys::vtc_make_as_given,
+            Form::Action => sys::vtc_action_make_as_given,
         };
-        // It is UTF-8.
-        let why = core::str::from_utf8(&why[..why_length]).unwrap_or("");
-        match status {
-            0 => Ok(&buffer[..length]),
-            13 => Err(MakeError::NoRoom { needed: length }),
-            15 => Err(MakeError::NotJson(why)),
-            16 => Err(MakeError::NoMessage(why)),
-            _ => Err(MakeError::OutOfMemory),
-        }
+        made(call, json, buffer, why)
     }
 
     fn written<'b>(

@@ -92,6 +92,26 @@ extern "C" {
         why_room: usize,
         why_length: *mut usize,
     ) -> u32;
+    pub fn vtc_make_as_given(
+        json: *const u8,
+        len: usize,
+        buffer: *mut u8,
+        room: usize,
+        length: *mut usize,
+        why: *mut u8,
+        why_room: usize,
+        why_length: *mut usize,
+    ) -> u32;
+    pub fn vtc_action_make_as_given(
+        json: *const u8,
+        len: usize,
+        buffer: *mut u8,
+        room: usize,
+        length: *mut usize,
+        why: *mut u8,
+        why_room: usize,
+        why_length: *mut usize,
+    ) -> u32;
     pub fn vtc_action_make(
         json: *const u8,
         len: usize,

@@ -4,16 +4,16 @@ ghost use Rattle.tc_wire.specs.Facade.{tc_words, action_words};
 ghost use Rattle.tc_wire.specs.Rewriting.{SettlesTc, SettlesAct};
 ghost use Rattle.tc_bench_arena.specs.Timed.{Parses, Rewrites, Settles};
 
+use crate::mode::Mode;
 use crate::timed;
 use std::alloc::Global;
-use tc_wire::{TcActionMessage, TcMessage};
 
 /// Reads a traffic control message and drops it, and again so many times.
 #[unsafe(no_mangle)]
 pub extern "C" fn bench_arena_tc_parse(alloc: Global, bytes: &[u8], again: usize) -> u32
     ensures { Parses tc_words bytes.now result }
 {
-    timed::parse::<TcMessage>(alloc, bytes, again)
+    timed::parse(Mode::Tc, alloc, bytes, again)
 }
 
 /// Reads a traffic control message and writes it at the front of the buffer, and again so many times.
@@ -26,7 +26,7 @@ pub extern "C" fn bench_arena_tc_rewrite(
 ) -> u32
     ensures { Rewrites tc_words bytes.now buffer.new result }
 {
-    timed::rewrite::<TcMessage>(alloc, bytes, buffer, again)
+    timed::rewrite(Mode::Tc, alloc, bytes, buffer, again)
 }
 
 /// Writes the canonical bytes to which rewriting a traffic control message leads at the front of the buffer, and again so many times.
@@ -39,7 +39,7 @@ pub extern "C" fn bench_arena_tc_settle(
 ) -> u32
     ensures { Settles tc_words bytes.now SettlesTc buffer.new result }
 {
-    timed::settle::<TcMessage>(alloc, bytes, buffer, again)
+    timed::settle(Mode::Tc, alloc, bytes, buffer, again)
 }
 
 /// The same of an action message.
@@ -47,7 +47,7 @@ pub extern "C" fn bench_arena_tc_settle(
 pub extern "C" fn bench_arena_action_parse(alloc: Global, bytes: &[u8], again: usize) -> u32
     ensures { Parses action_words bytes.now result }
 {
-    timed::parse::<TcActionMessage>(alloc, bytes, again)
+    timed::parse(Mode::Action, alloc, bytes, again)
 }
 
 /// The same of an action message.
@@ -60,7 +60,7 @@ pub extern "C" fn bench_arena_action_rewrite(
 ) -> u32
     ensures { Rewrites action_words bytes.now buffer.new result }
 {
-    timed::rewrite::<TcActionMessage>(alloc, bytes, buffer, again)
+    timed::rewrite(Mode::Action, alloc, bytes, buffer, again)
 }
 
 /// The same of an action message.
@@ -73,5 +73,5 @@ pub extern "C" fn bench_arena_action_settle(
 ) -> u32
     ensures { Settles action_words bytes.now SettlesAct buffer.new result }
 {
-    timed::settle::<TcActionMessage>(alloc, bytes, buffer, again)
+    timed::settle(Mode::Action, alloc, bytes, buffer, again)
 }

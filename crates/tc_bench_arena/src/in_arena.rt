@@ -1,104 +1,87 @@
-//! The types of messages, by what is timed of them.
+//! What is timed of a message's bytes, once, in an arena.
 
-ghost use Rattle.std.specs.Prelude.{List, ℕ};
-ghost use Rattle.tc_wire.specs.Facade.{Message, Words, tc_words, action_words};
-ghost use Rattle.tc_wire.specs.Rewriting.{SettlesTc, SettlesAct};
+ghost use Rattle.tc_wire.specs.Rewriting.{Settles as LeadsTo};
+ghost use Rattle.tc_bench_arena.specs.Mode.{words_of, settles_of};
 ghost use Rattle.tc_bench_arena.specs.Timed.{Parses, Rewrites, Settles, IsPlaced, IsWritten};
 
+use crate::mode::Mode;
 use bumpalo::Bump;
 use tc_status::{DOES_NOT_FIT, NO_ROOM, OK, OUT_OF_MEMORY, status_of};
-use tc_wire::{
-    Emitable, ParseableBytes, RewriteError, TcActionMessage, TcMessage, settle_action, settle_tc,
-};
+use tc_wire::{RewriteError, TcActionMessage, TcMessage, WholeMessage};
 
-/// A type of message, and what is done to its bytes in an arena.
-pub trait InArena {
-    ghost words: { Words Message };
-
-    // So many rewrites of the first lead to the second, which are canonical.
-    ghost LeadsTo: { List ℕ → List ℕ → ℕ → Type 0 };
-
-    /// Reads a message, and drops it.
-    fn read(arena: &Bump, bytes: &[u8]) -> u32
-        ensures { Parses words bytes.now result };
-
-    /// Reads a message, and writes it at the front of the buffer, where it has room.
-    fn rewrite(arena: &Bump, bytes: &[u8], buffer: &mut [u8]) -> u32
-        ensures { Rewrites words bytes.now buffer.new result };
-
-    /// Writes the canonical bytes to which rewriting leads, in the same way.
-    fn settle(arena: &Bump, bytes: &[u8], buffer: &mut [u8]) -> u32
-        ensures { Settles words bytes.now LeadsTo buffer.new result };
-}
-
-impl InArena for TcMessage {
-    ghost words = { tc_words };
-
-    ghost LeadsTo = { SettlesTc };
-
-    fn read(arena: &Bump, bytes: &[u8]) -> u32 {
-        match TcMessage::parse(arena, bytes) {
-            Ok(_message) => OK,
-            Err(e) => status_of(&e),
-        }
-    }
-
-    fn rewrite(arena: &Bump, bytes: &[u8], buffer: &mut [u8]) -> u32 {
-        match TcMessage::parse(arena, bytes) {
-            Ok(message) => write(&message, buffer),
-            Err(e) => status_of(&e),
-        }
-    }
-
-    fn settle(arena: &Bump, bytes: &[u8], buffer: &mut [u8]) -> u32 {
-        match settle_tc(arena, bytes) {
-            Ok((settled, _)) => place(&settled, buffer),
-            Err(RewriteError::Decode(e)) => status_of(&e),
-            Err(RewriteError::DoesNotFit) => DOES_NOT_FIT,
-            Err(RewriteError::OutOfMemory) => OUT_OF_MEMORY,
-        }
+/// Reads a message, and drops it.
+pub fn parse(mode: Mode, arena: &Bump, bytes: &[u8]) -> u32
+    ensures { Parses (words_of mode) bytes.now result }
+{
+    match mode {
+        Mode::Tc => parse_as::<TcMessage<&Bump>>(arena, bytes),
+        Mode::Action => parse_as::<TcActionMessage<&Bump>>(arena, bytes),
     }
 }
 
-impl InArena for TcActionMessage {
-    ghost words = { action_words };
-
-    ghost LeadsTo = { SettlesAct };
-
-    fn read(arena: &Bump, bytes: &[u8]) -> u32 {
-        match TcActionMessage::parse(arena, bytes) {
-            Ok(_message) => OK,
-            Err(e) => status_of(&e),
-        }
+fn parse_as<'a, M: WholeMessage<&'a Bump> + Drop>(arena: &'a Bump, bytes: &[u8]) -> u32
+    ensures { Parses M.words bytes.now result }
+{
+    match M::read(arena, bytes) {
+        Ok(_message) => OK,
+        Err(e) => status_of(&e),
     }
+}
 
-    fn rewrite(arena: &Bump, bytes: &[u8], buffer: &mut [u8]) -> u32 {
-        match TcActionMessage::parse(arena, bytes) {
-            Ok(message) => write(&message, buffer),
-            Err(e) => status_of(&e),
-        }
+/// Reads a message, and writes it at the front of the buffer, where it has room.
+pub fn rewrite(mode: Mode, arena: &Bump, bytes: &[u8], buffer: &mut [u8]) -> u32
+    ensures { Rewrites (words_of mode) bytes.now buffer.new result }
+{
+    match mode {
+        Mode::Tc => rewrite_as::<TcMessage<&Bump>>(arena, bytes, buffer),
+        Mode::Action => rewrite_as::<TcActionMessage<&Bump>>(arena, bytes, buffer),
     }
+}
 
-    fn settle(arena: &Bump, bytes: &[u8], buffer: &mut [u8]) -> u32 {
-        match settle_action(arena, bytes) {
-            Ok((settled, _)) => place(&settled, buffer),
-            Err(RewriteError::Decode(e)) => status_of(&e),
-            Err(RewriteError::DoesNotFit) => DOES_NOT_FIT,
-            Err(RewriteError::OutOfMemory) => OUT_OF_MEMORY,
-        }
+fn rewrite_as<'a, M: WholeMessage<&'a Bump> + Drop>(
+    arena: &'a Bump,
+    bytes: &[u8],
+    buffer: &mut [u8],
+) -> u32
+    ensures { Rewrites M.words bytes.now buffer.new result }
+{
+    match M::read(arena, bytes) {
+        Ok(message) => write(&message, buffer),
+        Err(e) => status_of(&e),
+    }
+}
+
+/// Writes the canonical bytes to which rewriting leads, in the same way.
+pub fn settle(mode: Mode, arena: &Bump, bytes: &[u8], buffer: &mut [u8]) -> u32
+    ensures { Settles (words_of mode) bytes.now (settles_of mode) buffer.new result }
+{
+    match mode {
+        Mode::Tc => settle_as::<TcMessage<&Bump>>(arena, bytes, buffer),
+        Mode::Action => settle_as::<TcActionMessage<&Bump>>(arena, bytes, buffer),
+    }
+}
+
+fn settle_as<'a, M: WholeMessage<&'a Bump>>(arena: &'a Bump, bytes: &[u8], buffer: &mut [u8]) -> u32
+    ensures { Settles M.words bytes.now (LeadsTo M.words M.norm) buffer.new result }
+{
+    match M::settle(arena, bytes) {
+        Ok((settled, _)) => place(&settled, buffer),
+        Err(RewriteError::Decode(e)) => status_of(&e),
+        Err(RewriteError::DoesNotFit) => DOES_NOT_FIT,
+        Err(RewriteError::OutOfMemory) => OUT_OF_MEMORY,
     }
 }
 
 // Writes a message at the front of the buffer, where it has room.
-fn write<M: Emitable>(message: &M, buffer: &mut [u8]) -> u32
-    ensures { IsWritten (M.codec.Fits (M.see message.now)) (M.codec.write (M.see message.now)) buffer.new result }
+fn write<'a, M: WholeMessage<&'a Bump>>(message: &M, buffer: &mut [u8]) -> u32
+    ensures { IsWritten (M.words.Fits (M.message message.now)) (M.words.bytes (M.message message.now)) buffer.new result }
 {
-    match message.checked_len() {
+    match message.measure() {
         Some(len) => {
             if buffer.len() < len {
                 return NO_ROOM;
             }
-            message.emit(buffer);
+            message.write(buffer);
             OK
         }
         None => DOES_NOT_FIT,

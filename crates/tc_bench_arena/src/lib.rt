@@ -3,4 +3,5 @@
 
 mod calls;
 mod in_arena;
+mod mode;
 mod timed;

@@ -1,8 +1,10 @@
 //! An operation on the bytes of one message, many times in one arena, which is emptied before each time but the first.
 
+ghost use Rattle.tc_bench_arena.specs.Mode.{words_of, settles_of};
 ghost use Rattle.tc_bench_arena.specs.Timed.{Parses, Rewrites, Settles};
 
-use crate::in_arena::InArena;
+use crate::in_arena;
+use crate::mode::Mode;
 use bumpalo::Bump;
 use std::alloc::Global;
 use tc_status::OUT_OF_MEMORY;
@@ -11,52 +13,52 @@ use tc_status::OUT_OF_MEMORY;
 const CAPACITY: usize = 65536;
 
 /// Reads a message and drops it, and again so many times.
-pub fn parse<M: InArena>(alloc: Global, bytes: &[u8], again: usize) -> u32
-    ensures { Parses M.words bytes.now result }
+pub fn parse(mode: Mode, alloc: Global, bytes: &[u8], again: usize) -> u32
+    ensures { Parses (words_of mode) bytes.now result }
 {
     let Ok(mut arena) = Bump::try_with_capacity(alloc, CAPACITY) else {
         return OUT_OF_MEMORY;
     };
-    let mut status = M::read(&arena, bytes);
+    let mut status = in_arena::parse(mode, &arena, bytes);
     'times: for _ in 0..again {
         if arena.reset().is_err() {
             return OUT_OF_MEMORY;
         }
-        status = M::read(&arena, bytes);
+        status = in_arena::parse(mode, &arena, bytes);
     }
     status
 }
 
 /// Reads a message and writes it at the front of the buffer, and again so many times.
-pub fn rewrite<M: InArena>(alloc: Global, bytes: &[u8], buffer: &mut [u8], again: usize) -> u32
-    ensures { Rewrites M.words bytes.now buffer.new result }
+pub fn rewrite(mode: Mode, alloc: Global, bytes: &[u8], buffer: &mut [u8], again: usize) -> u32
+    ensures { Rewrites (words_of mode) bytes.now buffer.new result }
 {
     let Ok(mut arena) = Bump::try_with_capacity(alloc, CAPACITY) else {
         return OUT_OF_MEMORY;
     };
-    let mut status = M::rewrite(&arena, bytes, buffer);
+    let mut status = in_arena::rewrite(mode, &arena, bytes, buffer);
     'times: for _ in 0..again {
         if arena.reset().is_err() {
             return OUT_OF_MEMORY;
         }
-        status = M::rewrite(&arena, bytes, buffer);
+        status = in_arena::rewrite(mode, &arena, bytes, buffer);
     }
     status
 }
 
 /// Writes the canonical bytes to which rewriting leads at the front of the buffer, and again so many times.
-pub fn settle<M: InArena>(alloc: Global, bytes: &[u8], buffer: &mut [u8], again: usize) -> u32
-    ensures { Settles M.words bytes.now M.LeadsTo buffer.new result }
+pub fn settle(mode: Mode, alloc: Global, bytes: &[u8], buffer: &mut [u8], again: usize) -> u32
+    ensures { Settles (words_of mode) bytes.now (settles_of mode) buffer.new result }
 {
     let Ok(mut arena) = Bump::try_with_capacity(alloc, CAPACITY) else {
         return OUT_OF_MEMORY;
     };
-    let mut status = M::settle(&arena, bytes, buffer);
+    let mut status = in_arena::settle(mode, &arena, bytes, buffer);
     'times: for _ in 0..again {
         if arena.reset().is_err() {
             return OUT_OF_MEMORY;
         }
-        status = M::settle(&arena, bytes, buffer);
+        status = in_arena::settle(mode, &arena, bytes, buffer);
     }
     status
 }

@@ -1,8 +1,7 @@
 -- That there was no memory.
 use Rattle.std.proofs.Common.{ℕ, List, refl}
-use Rattle.nla_frames.specs.declared.error.DecodeError.TheVariants.{OutOfMemory}
-use Rattle.tc_ffi.specs.Words.{Words}
+use Rattle.tc_wire.specs.Facade.{OutOfMemory, Message, Words}
 use Rattle.tc_ffi.specs.Calls.{Refuses}
 
-pub no-memory : (words : Words) (bytes : List ℕ) → Refuses words bytes 11
+pub no-memory : (words : Words Message) (bytes : List ℕ) → Refuses words bytes 11
 no-memory words bytes = record { fault = OutOfMemory; first = λ other. absurd (other refl); number = refl }

@@ -1,16 +1,33 @@
 -- What the status of a call, and what it wrote, say of the bytes that it was given.
 use Rattle.std.specs.Prelude.{◌≡◌, ◌≢◌, ◌⊎◌, ℕ, List, ◌<◌, length, Some}
 use Rattle.serde_json.specs.Sent.{IsTextOf}
-use Rattle.tc_wire.specs.Facade.{DecodeError, OutOfMemory, Message, Writes}
+use Rattle.tc_forms.specs.declared.form.Form.{Form}
+use Rattle.tc_forms.specs.Sent.{events}
+use Rattle.tc_forms.specs.Shown.{shown_of}
+use Rattle.tc_kinds.specs.Table.{tc_tables}
+use Rattle.tc_wire.specs.Facade.{DecodeError, OutOfMemory, Message, Words, Writes}
 use Rattle.tc_status.specs.Status.{status_of}
-use Rattle.tc_ffi.specs.Words.{Words}
 
--- 0: these bytes stand at the front of the buffer; 13: they have no room there
+-- unless the status is 0, this is unchanged
+abbrev pub Keeps : {T : Type 0} → T → T → ℕ → Type 0
+Keeps old new status = status ≢ 0 → new ≡ old
+
+-- 0: these bytes are at the front of the buffer; 13: they have no room there
 pub record IsPlaced (bytes old new : List ℕ) (len status : ℕ) : Type 0 where
   pub counted : len ≡ length bytes
   pub placed : ((status ≡ 0) × Writes bytes old new) ⊎ ((status ≡ 13) × (length old < length bytes))
 
-module _ (words : Words) (bytes : List ℕ) where
+-- the text of what is shown of these bytes, whatever they are; 11: there was no memory
+abbrev pub Shows : Form → List ℕ → List ℕ → List ℕ → ℕ → ℕ → Type 0
+Shows form bytes old new len status =
+    ((text : List ℕ) × IsTextOf (Some (events (shown_of tc_tables form bytes))) text × IsPlaced text old new len status) ⊎ (status ≡ 11)
+
+-- what a call writes of the JSON
+pub record IsShown (form : Form) (bytes old new : List ℕ) (len status : ℕ) : Type 0 where
+  pub shows : Shows form bytes old new len status
+  pub kept : Keeps old new status
+
+module _ (words : Words Message) (bytes : List ℕ) where
   -- the bytes read as a message of which this holds
   pub record ReadsSome (Holds : Message → Type 0) : Type 0 where
     pub message : Message
@@ -36,9 +53,15 @@ module _ (words : Words) (bytes : List ℕ) where
   Rewrites = Places (λ written. ReadsSome (λ m. words.Fits m × (written ≡ words.bytes m)))
 
   -- the canonical bytes, after so many rewrites
-  abbrev pub Settles : List ℕ → List ℕ → ℕ → ℕ → ℕ → Type 0
-  Settles old new len rewrites = Places (λ settled. words.Settles bytes settled rewrites) old new len
+  abbrev pub Settles : (List ℕ → List ℕ → ℕ → Type 0) → List ℕ → List ℕ → ℕ → ℕ → ℕ → Type 0
+  Settles LeadsTo old new len rewrites = Places (λ settled. LeadsTo bytes settled rewrites) old new len
 
-  -- the text of what is sent of the message to serde
-  abbrev pub Shows : List ℕ → List ℕ → ℕ → ℕ → Type 0
-  Shows = Places (λ text. ReadsSome (λ m. IsTextOf (Some (words.events m)) text))
+  -- what a call writes of the message
+  pub record IsRewritten (old new : List ℕ) (len status : ℕ) : Type 0 where
+    pub rewrites : Rewrites old new len status
+    pub kept : Keeps old new status
+
+  -- what a call writes of the settled message, and after how many rewrites
+  pub record IsSettled (LeadsTo : List ℕ → List ℕ → ℕ → Type 0) (old new : List ℕ) (len rewrites status : ℕ) : Type 0 where
+    pub settles : Settles LeadsTo old new len rewrites status
+    pub kept : Keeps old new status

@@ -1,11 +1,10 @@
--- What a check tells of bytes.
+-- What a check says of bytes.
 use Rattle.std.specs.Prelude.{◌≡◌, ◌⊎◌, ℕ, List, ◌≤◌, Bool, length, if◌then◌else◌}
-use Rattle.tc_wire.specs.Facade.{Message}
+use Rattle.tc_wire.specs.Facade.{Message, Words}
 use Rattle.tc_status.specs.Status.{numbers_of}
-use Rattle.tc_ffi.specs.Words.{Words}
-use Rattle.tc_ffi.specs.Calls.{ReadsSome, Refuses}
-use Rattle.tc_ffi.specs.declared.told.VtcVerdict.{VtcVerdict}
-use Rattle.tc_ffi.specs.declared.told.VtcFault.{VtcFault}
+use Rattle.tc_ffi.specs.Calls.{Keeps, ReadsSome, Refuses}
+use Rattle.tc_ffi.specs.declared.verdict.VtcVerdict.{VtcVerdict}
+use Rattle.tc_ffi.specs.declared.verdict.VtcFault.{VtcFault}
 
 -- 1: it holds; 0: it doesn't
 abbrev pub Says : ℕ → Type 0 → Type 0
@@ -15,22 +14,28 @@ abbrev pub Numbers : ℕ → Bool → Type 0
 Numbers verdict holds = verdict ≡ (if holds then 1 else 0)
 
 -- how many bytes a message has, if it can be written; else 0
-abbrev pub IsCounted : Words → Message → ℕ → Type 0
-IsCounted words m count = ((words.Fits m) × (count ≡ length (words.bytes m))) ⊎ ((words.Fits m → ⊥) × (count ≡ 0))
+abbrev pub IsCounted : Type 0 → List ℕ → ℕ → Type 0
+IsCounted Fits bytes count = (Fits × (count ≡ length bytes)) ⊎ ((Fits → ⊥) × (count ≡ 0))
 
 -- what is said of a message, and of the bytes that it was read of
-pub record IsJudged (words : Words) (bytes : List ℕ) (m : Message) (v : VtcVerdict) : Type 0 where
+pub record IsJudged (words : Words Message) (bytes : List ℕ) (m : Message) (v : VtcVerdict) : Type 0 where
   pub fits : Says v.fits (words.Fits m)
   pub settled : Says v.settled (words.Settled m)
-  pub canonical : Says v.canonical (words.Canon bytes)
-  pub counted : IsCounted words m v.length
+  pub canonical : Says v.canonical (words.Canonical bytes)
+  pub counted : IsCounted (words.Fits m) (words.bytes m) v.length
 
 -- the first fault of the bytes, or that there was no memory; its numbers, and its place
-pub record IsRefused (words : Words) (bytes : List ℕ) (f : VtcFault) (status : ℕ) : Type 0 where
+pub record IsRefused (words : Words Message) (bytes : List ℕ) (f : VtcFault) (status : ℕ) : Type 0 where
   pub refuses : Refuses words bytes status
   pub numbers : (f.first, f.second) ≡ numbers_of refuses.fault
   pub place : f.offset ≤ length bytes
 
 -- 0: a message, which is judged; else the fault
-abbrev pub Checks : Words → List ℕ → VtcVerdict → VtcFault → ℕ → Type 0
+abbrev pub Checks : Words Message → List ℕ → VtcVerdict → VtcFault → ℕ → Type 0
 Checks words bytes v f status = ((status ≡ 0) × ReadsSome words bytes (λ m. IsJudged words bytes m v)) ⊎ IsRefused words bytes f status
+
+-- what a call says of the message, or of the fault; of the other it says nothing
+pub record IsChecked (words : Words Message) (bytes : List ℕ) (old v : VtcVerdict) (older f : VtcFault) (status : ℕ) : Type 0 where
+  pub checks : Checks words bytes v f status
+  pub verdict_kept : Keeps old v status
+  pub fault_kept : status ≡ 0 → f ≡ older

@@ -1,4 +1,3 @@
-pub mod Words
 pub mod Calls
 pub mod Checks
 pub mod Makes

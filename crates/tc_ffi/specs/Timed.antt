@@ -1,11 +1,10 @@
 -- What the timed calls say of the bytes that they were given.
 use Rattle.std.specs.Prelude.{◌≡◌, ◌⊎◌, ℕ, List, ◌<◌, All, length}
-use Rattle.tc_wire.specs.Facade.{Message, Writes}
-use Rattle.tc_ffi.specs.Words.{Words}
+use Rattle.tc_wire.specs.Facade.{Message, Words, Writes}
 use Rattle.tc_ffi.specs.Calls.{ReadsSome, Refuses, IsUnfit}
 use Rattle.tc_ffi.specs.Checks.{Says}
 
-module _ (words : Words) (bytes : List ℕ) where
+module _ (words : Words Message) (bytes : List ℕ) where
   -- 0: the bytes read as a message of which this holds; else there is none
   abbrev pub Reads : (Message → Type 0) → ℕ → Type 0
   Reads Holds status = ((status ≡ 0) × ReadsSome words bytes Holds) ⊎ Refuses words bytes status

@@ -1,25 +1,28 @@
 //! The calls on a message of either type.
 
-ghost use Rattle.std.specs.Prelude.{◌≡◌, ◌≢◌};
-ghost use Rattle.tc_ffi.specs.Calls.{Rewrites, Settles, Shows};
+ghost use Rattle.std.specs.Prelude.{◌≡◌};
+ghost use Rattle.tc_wire.specs.Rewriting.{Settles as LeadsTo};
+ghost use Rattle.tc_ffi.specs.Calls.{Keeps, Rewrites, Settles, Shows};
 ghost use Rattle.tc_ffi.specs.Checks.{Checks};
 
-use crate::called::Called;
 use crate::place::place;
-use crate::told::{VtcFault, VtcVerdict, fault_of, judged};
+use crate::verdict::{VtcFault, VtcVerdict, fault_of, judged};
 use std::alloc::Global;
+use tc_forms::{Form, Shown};
+use tc_kinds::TcTables;
+use tc_message_json::HasForm;
 use tc_status::{DOES_NOT_FIT, NO_ROOM, OK, OUT_OF_MEMORY, status_of};
-use tc_wire::RewriteError;
+use tc_wire::{RewriteError, WholeMessage};
 
-/// Judges the message that bytes read as, or tells their first fault.
-pub fn check<M: Called>(
+/// Judges the message that bytes read as, or says their first fault.
+pub fn check<M: WholeMessage<Global> + HasForm + Drop>(
     alloc: Global,
     bytes: &[u8],
     verdict: &mut VtcVerdict,
     fault: &mut VtcFault,
 ) -> u32
     ensures checks { Checks M.words bytes.now verdict.new fault.new result }
-    ensures verdict_kept { result ≢ 0 → verdict.new ≡ verdict.old }
+    ensures verdict_kept { Keeps verdict.old verdict.new result }
     ensures fault_kept { result ≡ 0 → fault.new ≡ fault.old }
 {
     match M::read(alloc, bytes) {
@@ -35,12 +38,17 @@ pub fn check<M: Called>(
 }
 
 /// Writes the message that bytes read as at the front of the buffer, where it has room, and how many bytes it takes.
-pub fn rewrite<M: Called>(alloc: Global, bytes: &[u8], buffer: &mut [u8], length: &mut usize) -> u32
+pub fn rewrite<M: WholeMessage<Global> + Drop>(
+    alloc: Global,
+    bytes: &[u8],
+    buffer: &mut [u8],
+    length: &mut usize,
+) -> u32
     ensures rewrites { Rewrites M.words bytes.now buffer.old buffer.new length.new result }
-    ensures kept { result ≢ 0 → buffer.new ≡ buffer.old }
+    ensures kept { Keeps buffer.old buffer.new result }
 {
     match M::read(alloc, bytes) {
-        Ok(message) => match message.measured() {
+        Ok(message) => match message.measure() {
             None => DOES_NOT_FIT,
             Some(len) => {
                 *length = len;
@@ -56,15 +64,15 @@ pub fn rewrite<M: Called>(alloc: Global, bytes: &[u8], buffer: &mut [u8], length
 }
 
 /// Writes the canonical bytes to which rewriting leads, in the same way, and after how many rewrites.
-pub fn settle<M: Called>(
+pub fn settle<M: WholeMessage<Global>>(
     alloc: Global,
     bytes: &[u8],
     buffer: &mut [u8],
     length: &mut usize,
     rewrites: &mut usize,
 ) -> u32
-    ensures settles { Settles M.words bytes.now buffer.old buffer.new length.new rewrites.new result }
-    ensures kept { result ≢ 0 → buffer.new ≡ buffer.old }
+    ensures settles { Settles M.words bytes.now (LeadsTo M.words M.norm) buffer.old buffer.new length.new rewrites.new result }
+    ensures kept { Keeps buffer.old buffer.new result }
 {
     match M::settle(alloc, bytes) {
         Ok((settled, count)) => {
@@ -77,16 +85,19 @@ pub fn settle<M: Called>(
     }
 }
 
-/// Writes the JSON of the message that bytes read as, in the same way.
-pub fn json<M: Called>(alloc: Global, bytes: &[u8], buffer: &mut [u8], length: &mut usize) -> u32
-    ensures shows { Shows M.words bytes.now buffer.old buffer.new length.new result }
-    ensures kept { result ≢ 0 → buffer.new ≡ buffer.old }
+/// Writes the JSON of bytes in a form, in the same way.
+pub fn json(alloc: Global, form: Form, bytes: &[u8], buffer: &mut [u8], length: &mut usize) -> u32
+    ensures shows { Shows form bytes.now buffer.old buffer.new length.new result }
+    ensures kept { Keeps buffer.old buffer.new result }
 {
-    match M::read(alloc, bytes) {
-        Ok(message) => match message.json(alloc) {
-            Ok(text) => place(&text, buffer, length),
-            Err(_) => OUT_OF_MEMORY,
-        },
-        Err(e) => status_of(&e),
+    let shown = Shown {
+        table: TcTables,
+        form,
+        bytes,
+        alloc,
+    };
+    match serde_json::to_vec(alloc, &shown) {
+        Ok(text) => place(&text, buffer, length),
+        Err(_) => OUT_OF_MEMORY,
     }
 }

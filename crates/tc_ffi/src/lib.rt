@@ -4,9 +4,8 @@
 
 mod action;
 mod bench;
-mod called;
 mod calls;
 mod make;
 mod place;
 mod tc;
-mod told;
+mod verdict;

@@ -1,18 +1,24 @@
 //! Messages made of JSON.
 
-ghost use Rattle.std.specs.Prelude.{◌≡◌, ◌≢◌, ◌⊎◌};
-ghost use Rattle.tc_ffi.specs.Makes.{Makes, IsTold};
+ghost use Rattle.std.specs.Prelude.{◌≡◌, ◌≢◌, ◌⊎◌, IfErr, IfOk, IsUtf8, List, None, OnErr, OnOk, ℕ};
+ghost use Rattle.serde_json.specs.Read.{read};
+ghost use Rattle.serde_json.specs.View.{view};
+ghost use Rattle.tc_message_json.specs.Made.{IsGiven, IsMadeOf};
+ghost use Rattle.tc_ffi.specs.Calls.{Keeps, IsPlaced};
+ghost use Rattle.tc_ffi.specs.Makes.{IsReadAs, IsText, Makes};
 
-use crate::called::Called;
 use crate::place::place;
+use serde_json::Value;
 use std::alloc::Global;
 use std::fmt::Display;
-use tc_build::{MakeError, ReadError, read_json};
+use tc_forms_text::{ReadError, read_json};
+use tc_message_json::{HasForm, NoMessage};
 use tc_status::{NO_MESSAGE, NOT_JSON, OUT_OF_MEMORY};
+use tc_wire::WholeMessage;
 
-/// Writes the message that is shown as this JSON at the front of the buffer, where it has room, and how many bytes it
-/// takes; or why none is made.
-pub fn make<M: Called>(
+/// Writes the message that a text of JSON stands for at the front of the buffer, where it has room, and how many bytes it takes; or
+/// why none is made.
+pub fn make<M: WholeMessage<Global> + HasForm + Drop>(
     alloc: Global,
     text: &[u8],
     buffer: &mut [u8],
@@ -20,41 +26,85 @@ pub fn make<M: Called>(
     why: &mut [u8],
     why_length: &mut usize,
 ) -> u32
-    ensures makes { Makes M.words text.now buffer.old buffer.new length.new result }
-    ensures kept { result ≢ 0 → buffer.new ≡ buffer.old }
-    ensures tells { IsTold why.old why.new why_length.new }
+    ensures makes { Makes (IsMadeOf M.words M.form) text.now buffer.old buffer.new length.new result }
+    ensures kept { Keeps buffer.old buffer.new result }
+    ensures explains { IsText why.old why.new why_length.new }
     ensures quiet { result ≢ 15 → result ≢ 16 → why_length.new ≡ 0 }
+{
+    match json_of(alloc, text, why, why_length) {
+        Ok(json) => match tc_message_json::make::<M>(alloc, &json) {
+            Ok(bytes) => place(&bytes, buffer, length),
+            Err(error) => explain_none(alloc, &error, why, why_length),
+        },
+        Err(status) => status,
+    }
+}
+
+/// Writes the bytes that a text of JSON stands for, whatever they are, in the same way.
+pub fn make_as_given<M: HasForm>(
+    alloc: Global,
+    text: &[u8],
+    buffer: &mut [u8],
+    length: &mut usize,
+    why: &mut [u8],
+    why_length: &mut usize,
+) -> u32
+    ensures makes { Makes (IsGiven M.form) text.now buffer.old buffer.new length.new result }
+    ensures kept { Keeps buffer.old buffer.new result }
+    ensures explains { IsText why.old why.new why_length.new }
+    ensures quiet { result ≢ 15 → result ≢ 16 → why_length.new ≡ 0 }
+{
+    match json_of(alloc, text, why, why_length) {
+        Ok(json) => match tc_message_json::make_as_given::<M>(alloc, &json) {
+            Ok(bytes) => place(&bytes, buffer, length),
+            Err(error) => explain_none(alloc, &error, why, why_length),
+        },
+        Err(status) => status,
+    }
+}
+
+// The JSON of a text; or why there is none, and the status that says so.
+fn json_of(alloc: Global, text: &[u8], why: &mut [u8], why_length: &mut usize) -> Result<Value, u32>
+    ensures read { IfOk result (λ json. IsReadAs text.now (view json)) }
+    ensures refused { IfErr result (λ status. ((status ≡ 15) × (IsUtf8 text.now → read text.now ≡ None))
+        ⊎ ((status ≡ 16) ⊎ (status ≡ 11))) }
+    ensures explains { IsText why.old why.new why_length.new }
+    ensures quiet { OnOk result (why_length.new ≡ 0) }
+    ensures quiet_memory { IfErr result (λ status. status ≢ 15 → status ≢ 16 → why_length.new ≡ 0) }
 {
     *why_length = 0;
     match read_json(alloc, text) {
-        Ok(json) => match M::make(alloc, &json) {
-            Ok(bytes) => place(&bytes, buffer, length),
-            Err(MakeError::OutOfMemory) => OUT_OF_MEMORY,
-            Err(error) => tell(alloc, &error, NO_MESSAGE, why, why_length),
-        },
-        Err(ReadError::OutOfMemory) => OUT_OF_MEMORY,
-        Err(ReadError::NoJson { column }) => {
-            tell(
-                alloc,
-                &ReadError::NoJson { column },
-                NOT_JSON,
-                why,
-                why_length,
-            )
+        Ok(json) => Ok(json),
+        Err(ReadError::OutOfMemory) => Err(OUT_OF_MEMORY),
+        Err(ReadError::Repeated { path }) => {
+            let error = ReadError::Repeated { path };
+            Err(explain(alloc, &error, NO_MESSAGE, why, why_length))
         }
-        Err(error) => tell(alloc, &error, NO_MESSAGE, why, why_length),
+        Err(error) => Err(explain(alloc, &error, NOT_JSON, why, why_length)),
+    }
+}
+
+// Writes why no message is made, as a text, and how many bytes that are.
+fn explain_none(alloc: Global, error: &NoMessage, why: &mut [u8], why_length: &mut usize) -> u32
+    requires { why_length.old ≡ 0 }
+    ensures status { (result ≡ 16) ⊎ ((result ≡ 11) × (why_length.new ≡ 0)) }
+    ensures explains { IsText why.old why.new why_length.new }
+{
+    match error {
+        NoMessage::OutOfMemory => OUT_OF_MEMORY,
+        _ => explain(alloc, error, NO_MESSAGE, why, why_length),
     }
 }
 
 /// Writes the text of an error into a buffer, as much as it has room for, and how many bytes that are.
-fn tell<E: Display>(
+fn explain<E: Display>(
     alloc: Global,
     error: &E,
     status: u32,
     why: &mut [u8],
     why_length: &mut usize,
 ) -> u32
-    ensures tells { IsTold why.old why.new why_length.new }
+    ensures explains { IsText why.old why.new why_length.new }
     ensures status { (result ≡ status) ⊎ ((result ≡ 11) × (why_length.new ≡ 0)) }
 {
     match format!(in alloc; "{error}") {
@@ -71,7 +121,7 @@ fn tell<E: Display>(
 
 /// Writes a text at the front of a buffer, as many of its characters as have room, and returns how many bytes these are.
 fn put_text(text: &str, buffer: &mut [u8]) -> usize
-    ensures { IsTold buffer.old buffer.new result }
+    ensures { IsText buffer.old buffer.new result }
 {
     let (front, _) = text.split_at(text.floor_char_boundary(buffer.len()));
     let (place, _) = buffer.split_at_mut(front.len());

@@ -1,14 +1,14 @@
 //! Bytes into a buffer of C.
 
 ghost use Rattle.std.specs.Prelude.{◌≡◌, ◌≢◌};
-ghost use Rattle.tc_ffi.specs.Calls.{IsPlaced};
+ghost use Rattle.tc_ffi.specs.Calls.{Keeps, IsPlaced};
 
 use tc_status::{NO_ROOM, OK};
 
 /// Writes bytes at the front of a buffer, where they have room, and how many they are.
 pub fn place(bytes: &[u8], buffer: &mut [u8], length: &mut usize) -> u32
     ensures placed { IsPlaced bytes.now buffer.old buffer.new length.new result }
-    ensures kept { result ≢ 0 → buffer.new ≡ buffer.old }
+    ensures kept { Keeps buffer.old buffer.new result }
 {
     *length = bytes.len();
     if buffer.len() < bytes.len() {

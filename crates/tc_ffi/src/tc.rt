@@ -1,18 +1,20 @@
 //! The calls on messages about queueing disciplines, classes, filters and chains.
 
-ghost use Rattle.std.specs.Prelude.{◌≡◌, ◌≢◌};
-ghost use Rattle.tc_ffi.specs.Words.{tc};
-ghost use Rattle.tc_ffi.specs.Calls.{Rewrites, Settles, Shows};
-ghost use Rattle.tc_ffi.specs.Checks.{Checks};
-ghost use Rattle.tc_ffi.specs.Makes.{Makes, IsTold};
+ghost use Rattle.tc_wire.specs.Facade.{tc_words};
+ghost use Rattle.tc_wire.specs.Rewriting.{SettlesTc};
+ghost use Rattle.tc_kinds.specs.Table.{tc_message};
+ghost use Rattle.tc_message_json.specs.Made.{IsGiven, IsMadeOf};
+ghost use Rattle.tc_ffi.specs.Calls.{IsRewritten, IsSettled, IsShown};
+ghost use Rattle.tc_ffi.specs.Checks.{IsChecked};
+ghost use Rattle.tc_ffi.specs.Makes.{IsMade};
 
-use crate::calls;
-use crate::make::make;
-use crate::told::{VtcFault, VtcVerdict};
+use crate::verdict::{VtcFault, VtcVerdict};
+use crate::{calls, make};
 use std::alloc::Global;
+use tc_kinds::TC_MESSAGE;
 use tc_wire::TcMessage;
 
-/// Judges the message that the bytes read as, or tells their first fault.
+/// Judges the message that the bytes read as, or says their first fault.
 #[unsafe(no_mangle)]
 pub extern "C" fn vtc_check(
     alloc: Global,
@@ -20,9 +22,7 @@ pub extern "C" fn vtc_check(
     verdict: &mut VtcVerdict,
     fault: &mut VtcFault,
 ) -> u32
-    ensures checks { Checks tc bytes.now verdict.new fault.new result }
-    ensures verdict_kept { result ≢ 0 → verdict.new ≡ verdict.old }
-    ensures fault_kept { result ≡ 0 → fault.new ≡ fault.old }
+    ensures { IsChecked tc_words bytes.now verdict.old verdict.new fault.old fault.new result }
 {
     calls::check::<TcMessage>(alloc, bytes, verdict, fault)
 }
@@ -35,8 +35,7 @@ pub extern "C" fn vtc_rewrite(
     buffer: &mut [u8],
     length: &mut usize,
 ) -> u32
-    ensures rewrites { Rewrites tc bytes.now buffer.old buffer.new length.new result }
-    ensures kept { result ≢ 0 → buffer.new ≡ buffer.old }
+    ensures { IsRewritten tc_words bytes.now buffer.old buffer.new length.new result }
 {
     calls::rewrite::<TcMessage>(alloc, bytes, buffer, length)
 }
@@ -50,13 +49,12 @@ pub extern "C" fn vtc_settle(
     length: &mut usize,
     rewrites: &mut usize,
 ) -> u32
-    ensures settles { Settles tc bytes.now buffer.old buffer.new length.new rewrites.new result }
-    ensures kept { result ≢ 0 → buffer.new ≡ buffer.old }
+    ensures { IsSettled tc_words bytes.now SettlesTc buffer.old buffer.new length.new rewrites.new result }
 {
     calls::settle::<TcMessage>(alloc, bytes, buffer, length, rewrites)
 }
 
-/// Writes the JSON of the message that the bytes read as, and how many bytes it takes.
+/// Writes the JSON of the bytes, whatever they are, and how many bytes it takes.
 #[unsafe(no_mangle)]
 pub extern "C" fn vtc_json(
     alloc: Global,
@@ -64,14 +62,13 @@ pub extern "C" fn vtc_json(
     buffer: &mut [u8],
     length: &mut usize,
 ) -> u32
-    ensures shows { Shows tc bytes.now buffer.old buffer.new length.new result }
-    ensures kept { result ≢ 0 → buffer.new ≡ buffer.old }
+    ensures { IsShown tc_message bytes.now buffer.old buffer.new length.new result }
 {
-    calls::json::<TcMessage>(alloc, bytes, buffer, length)
+    calls::json(alloc, TC_MESSAGE, bytes, buffer, length)
 }
 
-/// Writes the message that is shown as this JSON at the front of the buffer, and how many bytes it takes; or why none is
-/// made, as a text, into the second buffer, as much as it has room for, and how many bytes that are.
+/// Writes the canonical bytes of the message that this JSON stands for at the front of the buffer, and how many they are; or why
+/// there are none, as a text, into the second buffer, as much as it has room for, and how many bytes that are.
 #[unsafe(no_mangle)]
 pub extern "C" fn vtc_make(
     alloc: Global,
@@ -81,10 +78,22 @@ pub extern "C" fn vtc_make(
     why: &mut [u8],
     why_length: &mut usize,
 ) -> u32
-    ensures makes { Makes tc json.now buffer.old buffer.new length.new result }
-    ensures kept { result ≢ 0 → buffer.new ≡ buffer.old }
-    ensures tells { IsTold why.old why.new why_length.new }
-    ensures quiet { result ≢ 15 → result ≢ 16 → why_length.new ≡ 0 }
+    ensures { IsMade (IsMadeOf tc_words tc_message) json.now buffer.old buffer.new length.new why.old why.new why_length.new result }
 {
-    make::<TcMessage>(alloc, json, buffer, length, why, why_length)
+    make::make::<TcMessage>(alloc, json, buffer, length, why, why_length)
+}
+
+/// Writes the bytes that this JSON stands for, whatever they are, in the same way.
+#[unsafe(no_mangle)]
+pub extern "C" fn vtc_make_as_given(
+    alloc: Global,
+    json: &[u8],
+    buffer: &mut [u8],
+    length: &mut usize,
+    why: &mut [u8],
+    why_length: &mut usize,
+) -> u32
+    ensures { IsMade (IsGiven tc_message) json.now buffer.old buffer.new length.new why.old why.new why_length.new result }
+{
+    make::make_as_given::<TcMessage>(alloc, json, buffer, length, why, why_length)
 }

@@ -2,9 +2,9 @@
 
 use std::alloc::Global;
 use std::test::Fail;
-use tc_test_calls::{Whole, emitted};
+use tc_test_calls::emitted;
 use tc_test_messages::{Form, Input};
-use tc_wire::{DecodeError, RewriteError, TcActionMessage, TcMessage};
+use tc_wire::{DecodeError, RewriteError, TcActionMessage, TcMessage, WholeMessage};
 
 /// What is wrong with what a call returned, if anything is.
 pub(crate) type Complaint = Option<&'static str>;
@@ -17,7 +17,10 @@ pub(crate) fn judge(alloc: Global, input: &Input) -> Result<Complaint, Fail> {
     }
 }
 
-fn judge_as<M: Whole<Global> + Drop>(alloc: Global, bytes: &[u8]) -> Result<Complaint, Fail> {
+fn judge_as<M: WholeMessage<Global> + PartialEq + Clone + Drop>(
+    alloc: Global,
+    bytes: &[u8],
+) -> Result<Complaint, Fail> {
     match M::parse(alloc, bytes) {
         Ok(message) => judge_accepted(alloc, bytes, &message),
         Err(DecodeError::OutOfMemory) => Ok(Some("parsing ran out of memory")),
@@ -26,29 +29,29 @@ fn judge_as<M: Whole<Global> + Drop>(alloc: Global, bytes: &[u8]) -> Result<Comp
 }
 
 // Bytes that aren't rewritten nor settled for this cause, and so aren't canonical.
-fn judge_refused<M: Whole<Global> + Drop>(
+fn judge_refused<M: WholeMessage<Global>>(
     alloc: Global,
     bytes: &[u8],
     cause: RewriteError,
 ) -> Complaint {
     let cause = Some(cause);
-    if M::rewritten(alloc, bytes).err() != cause {
+    if M::rewrite(alloc, bytes).err() != cause {
         Some("rewriting has another cause")
-    } else if M::settled(alloc, bytes).err() != cause {
+    } else if M::settle(alloc, bytes).err() != cause {
         Some("settling has another cause")
-    } else if M::are_canonical(bytes) {
+    } else if M::is_canonical(bytes) {
         Some("canonical bytes are refused")
     } else {
         None
     }
 }
 
-fn judge_accepted<M: Whole<Global> + Drop>(
+fn judge_accepted<M: WholeMessage<Global> + PartialEq + Clone + Drop>(
     alloc: Global,
     bytes: &[u8],
     message: &M,
 ) -> Result<Complaint, Fail> {
-    if message.copied()? != *message {
+    if message.clone()? != *message {
         return Ok(Some("a clone differs"));
     }
     match emitted(alloc, message)? {
@@ -61,16 +64,16 @@ fn judge_accepted<M: Whole<Global> + Drop>(
 }
 
 // The emitted bytes are the input exactly when that is canonical, and are parsed as the message exactly when it is settled.
-fn judge_written<M: Whole<Global> + Drop>(
+fn judge_written<M: WholeMessage<Global> + PartialEq + Drop>(
     alloc: Global,
     bytes: &[u8],
     message: &M,
     emitted: &[u8],
 ) -> Result<Complaint, Fail> {
-    if (emitted == bytes) != M::are_canonical(bytes) {
+    if (emitted == bytes) != M::is_canonical(bytes) {
         return Ok(Some("canonical isn't emitted unchanged"));
     }
-    if M::rewritten(alloc, bytes)?.as_slice() != emitted {
+    if M::rewrite(alloc, bytes)?.as_slice() != emitted {
         return Ok(Some("rewriting isn't reading and writing"));
     }
     let reads_back = match M::parse(alloc, emitted) {
@@ -78,23 +81,23 @@ fn judge_written<M: Whole<Global> + Drop>(
         Err(DecodeError::OutOfMemory) => return Ok(Some("parsing again ran out of memory")),
         Err(_) => false,
     };
-    if reads_back != message.reads_back() {
+    if reads_back != message.is_settled() {
         return Ok(Some("settled isn't what reads back"));
     }
     Ok(None)
 }
 
 // As many rewrites as are counted, and no fewer, lead to canonical bytes, which are what settling returns.
-fn judge_settled<M: Whole<Global> + Drop>(alloc: Global, bytes: &[u8]) -> Result<Complaint, Fail> {
-    let (settled, rewrites) = M::settled(alloc, bytes)?;
+fn judge_settled<M: WholeMessage<Global>>(alloc: Global, bytes: &[u8]) -> Result<Complaint, Fail> {
+    let (settled, rewrites) = M::settle(alloc, bytes)?;
     let mut last = bytes.to_vec(alloc)?;
     for _ in 0..rewrites {
-        if M::are_canonical(&last) {
+        if M::is_canonical(&last) {
             return Ok(Some("fewer rewrites would do"));
         }
-        last = M::rewritten(alloc, &last)?;
+        last = M::rewrite(alloc, &last)?;
     }
-    if !M::are_canonical(&last) {
+    if !M::is_canonical(&last) {
         return Ok(Some("settling ends too early"));
     }
     Ok(if settled == last {

@@ -3,9 +3,8 @@
 use failing_alloc::Failing;
 use std::alloc::{Allocator, Global};
 use std::test::Fail;
-use tc_test_calls::Whole;
 use tc_test_messages::{Expected, Form, Row, made};
-use tc_wire::{DecodeError, Emitable, RewriteError, TcActionMessage, TcMessage};
+use tc_wire::{DecodeError, Emitable, RewriteError, TcActionMessage, TcMessage, WholeMessage};
 
 /// What rewriting or settling returns: the bytes, and after how many rewrites.
 type Settled<A> = Result<(Vec<u8, A>, usize), RewriteError>;
@@ -17,14 +16,14 @@ struct Wanted {
     settled: Settled<Global>,
 }
 
-fn rewritten<A: Allocator, M: Whole<A>>(alloc: A, bytes: &[u8]) -> Settled<A> {
-    Ok((M::rewritten(alloc, bytes)?, 1))
+fn rewritten<A: Allocator, M: WholeMessage<A>>(alloc: A, bytes: &[u8]) -> Settled<A> {
+    Ok((M::rewrite(alloc, bytes)?, 1))
 }
 
-fn make_wanted<M: Whole<Global>>(alloc: Global, bytes: &[u8]) -> Wanted {
+fn make_wanted<M: WholeMessage<Global>>(alloc: Global, bytes: &[u8]) -> Wanted {
     Wanted {
         rewritten: rewritten::<Global, M>(alloc, bytes),
-        settled: M::settled(alloc, bytes),
+        settled: M::settle(alloc, bytes),
     }
 }
 
@@ -88,7 +87,10 @@ fn is_emitted<M: Emitable>(message: &M, emitted: &[u8]) -> bool {
 }
 
 // What is wrong with a message that was read, if anything is.
-fn judge_read<'f, M: Whole<&'f Failing<Global>> + Drop>(row: &Row, message: &M) -> Option<Wrong> {
+fn judge_read<'f, M: WholeMessage<&'f Failing<Global>> + PartialEq>(
+    row: &Row,
+    message: &M,
+) -> Option<Wrong> {
     match &row.expected {
         Expected::Refused(_) => Some(Wrong::Fault),
         Expected::Accepted {
@@ -99,9 +101,9 @@ fn judge_read<'f, M: Whole<&'f Failing<Global>> + Drop>(row: &Row, message: &M) 
         } => {
             if message.fits() != *fits {
                 Some(Wrong::Fits)
-            } else if message.reads_back() != *settled {
+            } else if message.is_settled() != *settled {
                 Some(Wrong::Settled)
-            } else if M::are_canonical(&row.input.bytes) != *canonical {
+            } else if M::is_canonical(&row.input.bytes) != *canonical {
                 Some(Wrong::Canonical)
             } else if !is_emitted(message, emitted) {
                 Some(Wrong::Emitted)
@@ -115,7 +117,7 @@ fn judge_read<'f, M: Whole<&'f Failing<Global>> + Drop>(row: &Row, message: &M) 
 }
 
 // What is wrong with a message that was read, while the next request would be refused: none is made.
-fn judge_expected<'f, M: Whole<&'f Failing<Global>> + Drop>(
+fn judge_expected<'f, M: WholeMessage<&'f Failing<Global>> + PartialEq>(
     failing: &'f Failing<Global>,
     row: &Row,
     message: &M,
@@ -128,13 +130,13 @@ fn judge_expected<'f, M: Whole<&'f Failing<Global>> + Drop>(
 }
 
 // What is wrong with a clone, if anything is: it fails where a request is refused, and otherwise equals the message.
-fn judge_copy<'f, M: Whole<&'f Failing<Global>> + Drop>(
+fn judge_copy<'f, M: WholeMessage<&'f Failing<Global>> + PartialEq + Clone + Drop>(
     failing: &'f Failing<Global>,
     message: &M,
 ) -> Option<Wrong> {
     for at in 1..1000u64 {
         failing.refuse(at);
-        match message.copied() {
+        match message.clone() {
             Ok(copy) => {
                 return if failing.has_refused() {
                     Some(Wrong::Memory)
@@ -163,7 +165,7 @@ fn judge_fault(failing: &Failing<Global>, row: &Row, fault: &DecodeError) -> Opt
 }
 
 // Whether a message was read with all its memory, and as it has to be.
-fn is_read<'f, M: Whole<&'f Failing<Global>> + Drop>(
+fn is_read<'f, M: WholeMessage<&'f Failing<Global>> + PartialEq + Clone + Drop>(
     failing: &'f Failing<Global>,
     row: &Row,
 ) -> Ended {
@@ -193,7 +195,7 @@ fn is_read<'f, M: Whole<&'f Failing<Global>> + Drop>(
 }
 
 // Whether the three calls are done where the request of this number is refused in each.
-fn are_done<'f, M: Whole<&'f Failing<Global>> + Drop>(
+fn are_done<'f, M: WholeMessage<&'f Failing<Global>> + PartialEq + Clone + Drop>(
     failing: &'f Failing<Global>,
     at: u64,
     row: &Row,
@@ -206,12 +208,12 @@ fn are_done<'f, M: Whole<&'f Failing<Global>> + Drop>(
     let rewritten = rewritten::<&'f Failing<Global>, M>(failing, bytes);
     let is_rewritten = is_done(failing, rewritten, &wanted.rewritten)?;
     failing.refuse(at);
-    let is_settled = is_done(failing, M::settled(failing, bytes), &wanted.settled)?;
+    let is_settled = is_done(failing, M::settle(failing, bytes), &wanted.settled)?;
     Ok(is_read && is_rewritten && is_settled)
 }
 
 // How many requests were refused, one after the other, until none was.
-fn refusals<'f, M: Whole<&'f Failing<Global>> + Drop>(
+fn refusals<'f, M: WholeMessage<&'f Failing<Global>> + PartialEq + Clone + Drop>(
     failing: &'f Failing<Global>,
     row: &Row,
     wanted: &Wanted,

@@ -1,7 +1,7 @@
 -- What the laws of a message type say of the reports on bytes.
 use Rattle.std.proofs.Common.{◌≡◌, ℕ, List, Bool, true, false, Ok, Err, refl, sym, ap, ◌∙◌, inl, inr}
 use Rattle.std.proofs.lemmas.Bool.Decides.{same_from_decides}
-use Rattle.std.specs.Prelude.{IsTrue, IfOk, Result, ◌↔◌, ◌++◌, codes}
+use Rattle.std.specs.Prelude.{IsTrue, ◌↔◌, ◌++◌, codes}
 use Rattle.nla_frames.specs.Fault.{Outcome}
 use Rattle.tc_meaning.specs.Whole.{Words, Correspond}
 use Rattle.tc_meaning.proofs.MessageTheorems.{one_outcome}
@@ -84,29 +84,3 @@ module _ {X : Type 0} (words : Words X) (bytes : List ℕ) (law : Correspond wor
   one_report r s (inl this) (inr that) = absurd ((one_outcome words bytes law).not_both this.message that.fault this.reads that.first)
   one_report r s (inr this) (inl that) = absurd ((one_outcome words bytes law).not_both that.message this.fault that.reads this.first)
   one_report r s (inr this) (inr that) = one_refuses r s this that
-
--- what is reported stays so in other words for the same reading and the same fault
-module _ {X : Type 0} (words : Words X) (Reads : List ℕ → X → Type 0) (Fault : List ℕ → DecodeError → Type 0) (SettledPlaces : X → Type 0)
-    (bytes : List ℕ)
-    (reads : (m : X) → words.Reads bytes m → Reads bytes m) (faults : (e : DecodeError) → words.Fault bytes e → Fault bytes e) where
-  abbrev reworded : Words X
-  reworded = record words { Reads = Reads; Fault = Fault; SettledPlaces = SettledPlaces }
-
-  of_report : (r : Report) → ReportsAs words bytes r → ReportsAs reworded bytes r
-  of_report r (inl this) = inl (record {
-    message = this.message;
-    fits = this.fits;
-    settled = this.settled;
-    canonical = this.canonical;
-    reads = reads this.message this.reads;
-    tells_fits = this.tells_fits;
-    tells_settled = this.tells_settled;
-    tells_canonical = this.tells_canonical;
-    is = this.is;
-  })
-  of_report r (inr this) = inr (record { fault = this.fault; first = faults this.fault this.first; is = this.is })
-
-  pub in_other_words : {Z E : Type 0} (report : Z → Report) (answer : Result Z E)
-      → IfOk answer (λ z. ReportsAs words bytes (report z)) → IfOk answer (λ z. ReportsAs reworded bytes (report z))
-  in_other_words report (Ok z) holds = of_report (report z) holds
-  in_other_words report (Err e) holds = tt

@@ -2,17 +2,14 @@
 
 ghost use Rattle.std.specs.Prelude.{◌≡◌, ◌≢◌, IfOk, IsTrue, codes, string_bytes};
 ghost use Rattle.hex.specs.declared.error.FromHexError.TheVariants.{OutOfMemory};
-ghost use Rattle.tc_report.specs.Answer.{report_of, words_as_read};
+ghost use Rattle.tc_report.specs.Answer.{report_of};
 ghost use Rattle.tc_report.specs.Report.{one_line, yes_or_no, bytes_line, accepted, ReportsAs, ReportsBytes, IsReport};
 
 use crate::mode::Mode;
-use crate::reported::Reported;
 use crate::text::{MOST_TEXT, drop_spaces};
 use hex::FromHexError;
 use std::alloc::{AllocError, Allocator};
-use tc_action_messages::TcActionMessage;
-use tc_meaning::laws;
-use tc_wire::{DecodeError, Emitable, TcMessage};
+use tc_wire::{DecodeError, TcActionMessage, TcMessage, WholeMessage};
 
 /// A report in memory, ready to be written.
 #[derive(Drop)]
@@ -36,24 +33,27 @@ fn yes_or_no(holds: bool) -> &'static str
 }
 
 // The bytes of a message that fits.
-fn emitted<A: Allocator, M: Emitable>(alloc: A, message: &M) -> Result<Vec<u8, A>, AllocError>
-    requires { M.codec.Fits (M.see message.now) }
-    ensures { IfOk result (λ bytes. bytes.items ≡ M.codec.write (M.see message.now)) }
+fn emitted<A: Allocator, M: WholeMessage<A>>(
+    alloc: A,
+    message: &M,
+) -> Result<Vec<u8, A>, AllocError>
+    requires { M.words.Fits (M.message message.now) }
+    ensures { IfOk result (λ bytes. bytes.items ≡ M.words.bytes (M.message message.now)) }
 {
-    let mut bytes = vec![in alloc; 0u8; message.buffer_len()]?;
-    message.emit(&mut bytes);
+    let mut bytes = vec![in alloc; 0u8; message.written_len()]?;
+    message.write(&mut bytes);
     Ok(bytes)
 }
 
 // The line of the emitted bytes, where the message fits.
-fn bytes_line<A: Allocator + Copy, M: Emitable>(
+fn bytes_line<A: Allocator + Copy, M: WholeMessage<A>>(
     alloc: A,
     message: &M,
     fits: bool,
 ) -> Result<String<A>, AllocError>
-    requires { IsTrue fits → M.codec.Fits (M.see message.now) }
+    requires { IsTrue fits → M.words.Fits (M.message message.now) }
     ensures { IfOk result (λ text.
-        string_bytes text ≡ bytes_line fits (M.codec.write (M.see message.now))) }
+        string_bytes text ≡ bytes_line fits (M.words.bytes (M.message message.now))) }
 {
     if !fits {
         return Ok(String::new(alloc));
@@ -64,16 +64,16 @@ fn bytes_line<A: Allocator + Copy, M: Emitable>(
 }
 
 // The lines for an accepted message.
-fn accepted<A: Allocator + Copy, M: Emitable>(
+fn accepted<A: Allocator + Copy, M: WholeMessage<A>>(
     alloc: A,
     message: &M,
     fits: bool,
     settled: bool,
     canonical: bool,
 ) -> Result<String<A>, AllocError>
-    requires { IsTrue fits → M.codec.Fits (M.see message.now) }
+    requires { IsTrue fits → M.words.Fits (M.message message.now) }
     ensures { IfOk result (λ text.
-        string_bytes text ≡ accepted fits settled canonical (M.codec.write (M.see message.now))) }
+        string_bytes text ≡ accepted fits settled canonical (M.words.bytes (M.message message.now))) }
 {
     let bytes = bytes_line(alloc, message, fits)?;
     let fits = yes_or_no(fits);
@@ -83,18 +83,18 @@ fn accepted<A: Allocator + Copy, M: Emitable>(
 }
 
 // The report on the bytes of a message of one type.
-fn answer_as<A: Allocator + Copy, M: Reported<A> + Drop>(
+fn answer_as<A: Allocator + Copy, M: WholeMessage<A> + Drop>(
     alloc: A,
     bytes: &[u8],
 ) -> Result<Answer<A>, AllocError>
     ensures { IfOk result (λ answer.
-        ReportsAs (words_as_read M.codec M.Canonical) bytes.now (report_of answer)) }
+        ReportsAs M.words bytes.now (report_of answer)) }
 {
-    match M::parse(alloc, bytes) {
+    match M::read(alloc, bytes) {
         Ok(message) => {
-            let fits = message.fits();
-            let settled = message.reads_back();
-            let canonical = M::are_canonical(bytes);
+            let fits = message.is_writable();
+            let settled = message.is_settled();
+            let canonical = M::is_canonical(bytes);
             let text = accepted(alloc, &message, fits, settled, canonical)?;
             Ok(Answer { text, status: 0 })
         }
@@ -116,16 +116,8 @@ fn answer_bytes<A: Allocator + Copy>(
     ensures { IfOk result (λ answer. ReportsBytes mode bytes.now (report_of answer)) }
 {
     match mode {
-        Mode::Tc => {
-            // A law, which does nothing: what is read is what the grammar reads.
-            laws::tc_message(bytes);
-            answer_as::<A, TcMessage<A>>(alloc, bytes)
-        }
-        Mode::Action => {
-            // A law, which does nothing: what is read is what the grammar reads.
-            laws::action_message(bytes);
-            answer_as::<A, TcActionMessage<A>>(alloc, bytes)
-        }
+        Mode::Tc => answer_as::<A, TcMessage<A>>(alloc, bytes),
+        Mode::Action => answer_as::<A, TcActionMessage<A>>(alloc, bytes),
     }
 }
 

@@ -7,7 +7,6 @@ pub mod laws;
 pub mod mode;
 mod patience;
 pub mod program;
-mod reported;
 pub mod run;
 mod text;
 mod writing;

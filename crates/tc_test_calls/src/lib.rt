@@ -4,11 +4,9 @@
 
 mod attributes;
 mod messages;
-mod whole;
 
 pub use attributes::{
     SeenAttribute, is_option_settled, read_attribute, read_attributes, read_option, read_options,
     see_attribute, see_option,
 };
 pub use messages::{Seen, emitted, read_action, read_tc, see_action, see_tc};
-pub use whole::Whole;

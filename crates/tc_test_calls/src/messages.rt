@@ -1,9 +1,8 @@
 //! What is seen of a message.
 
-use crate::whole::Whole;
 use std::alloc::{AllocError, Allocator, Global};
 use std::fmt::Debug;
-use tc_wire::{Emitable, Res, TcActionMessage, TcMessage};
+use tc_wire::{Emitable, Res, TcActionMessage, TcMessage, WholeMessage};
 
 /// What the calls of a message return.
 #[derive(Drop)]
@@ -51,7 +50,7 @@ pub fn emitted<A: Allocator, M: Emitable>(
 }
 
 // What bytes are parsed as, as text, and whether that is the message.
-fn parsed_again<M: Whole<Global> + Debug + Drop>(
+fn parsed_again<M: WholeMessage<Global> + PartialEq + Debug + Drop>(
     alloc: Global,
     message: &M,
     bytes: &[u8],
@@ -62,7 +61,10 @@ fn parsed_again<M: Whole<Global> + Debug + Drop>(
     }
 }
 
-fn see<M: Whole<Global> + Debug + Drop>(alloc: Global, message: &M) -> Result<Seen, AllocError> {
+fn see<M: WholeMessage<Global> + PartialEq + Clone + Debug + Drop>(
+    alloc: Global,
+    message: &M,
+) -> Result<Seen, AllocError> {
     let emitted = emitted(alloc, message)?;
     let (again, reads_back) = match &emitted {
         Some(bytes) => parsed_again(alloc, message, bytes)?,
@@ -73,12 +75,15 @@ fn see<M: Whole<Global> + Debug + Drop>(alloc: Global, message: &M) -> Result<Se
         emitted,
         again,
         reads_back,
-        is_settled: message.reads_back(),
-        is_cloned: message.copied()? == *message,
+        is_settled: message.is_settled(),
+        is_cloned: message.clone()? == *message,
     })
 }
 
-fn read<M: Whole<Global> + Debug + Drop>(alloc: Global, bytes: &[u8]) -> Res<Seen> {
+fn read<M: WholeMessage<Global> + PartialEq + Clone + Debug + Drop>(
+    alloc: Global,
+    bytes: &[u8],
+) -> Res<Seen> {
     Ok(see(alloc, &M::parse(alloc, bytes)?)?)
 }
 

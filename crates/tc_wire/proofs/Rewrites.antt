@@ -6,7 +6,7 @@ use Rattle.tc_meaning.specs.Whole.{Words, Correspond, action_words}
 use Rattle.tc_laws.specs.Loose.{nuls_act}
 use Rattle.tc_laws.specs.Norm.{norm_act}
 use Rattle.tc_laws.specs.Rewriting.{Rewrites, SettlesIn, Ends}
-use Rattle.tc_wire.specs.Rewriting.{Refused, RefusedOf, WrittenOf, Settles, SettlesAct, TrimmedOf}
+use Rattle.tc_wire.specs.Rewriting.{Refused, RefusedOf, WrittenOf, SettlesAct, TrimmedOf}
 use Rattle.tc_wire.specs.declared.rewriting.RewriteError.{RewriteError}
 use Rattle.tc_wire.specs.declared.rewriting.RewriteError.TheVariants.{Decode, DoesNotFit, OutOfMemory}
 

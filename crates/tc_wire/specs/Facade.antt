@@ -6,7 +6,7 @@ pub use Rattle.nla_frames.specs.declared.error.DecodeError.TheVariants.{OutOfMem
 pub use Rattle.nla_frames.specs.Emission.{Writes, HasRoom}
 pub use Rattle.tc_canon.specs.Canonical.{CanonTc, CanonAct}
 pub use Rattle.tc_meaning.specs.Message.{Message}
-pub use Rattle.tc_meaning.specs.Whole.{Words, tc_words, action_words}
+pub use Rattle.tc_meaning.specs.Whole.{Words, Correspond, tc_words, action_words}
 pub use Rattle.tc_meaning.specs.Whole.{ReadsTc, FaultTc, read_tc, tc_bytes, TypedTc, FitsTc, SettledTc}
 pub use Rattle.tc_meaning.specs.Whole.{ReadsAct, FaultAct, read_act, act_bytes, TypedAct, FitsAct, SettledAct}
 pub use Rattle.tc_action_messages.specs.ActionMessage.{action_message}

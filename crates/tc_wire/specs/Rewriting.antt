@@ -11,7 +11,7 @@ use Rattle.tc_laws.specs.Norm.{norm_tc, norm_act}
 use Rattle.tc_laws.specs.Rewriting.{SettlesIn}
 use Rattle.tc_wire.specs.declared.rewriting.RewriteError.{RewriteError}
 use Rattle.tc_wire.specs.declared.rewriting.RewriteError.TheVariants.{Decode, DoesNotFit, OutOfMemory}
-pub use Rattle.tc_laws.specs.Rewriting.{RewritesTc, RewritesAct}
+pub use Rattle.tc_laws.specs.Rewriting.{Rewrites, RewritesTc, RewritesAct}
 
 -- ---- refusals
 

@@ -5,6 +5,7 @@
 
 pub mod helpers;
 pub mod rewriting;
+mod whole;
 
 // Whole messages, and what is done to their bytes.
 pub use rewriting::{RewriteError, rewrite_action, rewrite_tc, settle_action, settle_tc};
@@ -13,6 +14,7 @@ pub use tc_action_messages::{
 };
 pub use tc_canon::{is_canonical_action, is_canonical_tc};
 pub use tc_messages::TcMessage;
+pub use whole::WholeMessage;
 
 // The traits by which they are read and written, and why bytes are refused.
 pub use nla_frames::{

@@ -1,20 +1,19 @@
 //! The timed calls on messages about actions.
 
 ghost use Rattle.std.specs.Prelude.{◌≡◌, ◌≢◌};
-ghost use Rattle.tc_ffi.specs.Words.{action};
+ghost use Rattle.tc_wire.specs.Facade.{action_words};
 ghost use Rattle.tc_ffi.specs.Checks.{Says};
 ghost use Rattle.tc_ffi.specs.Timed.{Parses, MeasuresEach, JudgesEach, Emits};
 
 use super::timed;
-use crate::called::Called;
-use crate::told::number;
+use crate::verdict::number;
 use std::alloc::Global;
-use tc_wire::TcActionMessage;
+use tc_wire::{TcActionMessage, is_canonical_action};
 
 /// Reads a message, and drops it.
 #[unsafe(no_mangle)]
 pub extern "C" fn bench_action_parse(alloc: Global, bytes: &[u8]) -> u32
-    ensures { Parses action bytes.now result }
+    ensures { Parses action_words bytes.now result }
 {
     timed::parse::<TcActionMessage>(alloc, bytes)
 }
@@ -22,7 +21,7 @@ pub extern "C" fn bench_action_parse(alloc: Global, bytes: &[u8]) -> u32
 /// Reads a message, and writes the length of its bytes into each slot.
 #[unsafe(no_mangle)]
 pub extern "C" fn bench_action_length(alloc: Global, bytes: &[u8], lengths: &mut [usize]) -> u32
-    ensures { MeasuresEach action bytes.now lengths.new result }
+    ensures { MeasuresEach action_words bytes.now lengths.new result }
 {
     timed::length::<TcActionMessage>(alloc, bytes, lengths)
 }
@@ -30,7 +29,7 @@ pub extern "C" fn bench_action_length(alloc: Global, bytes: &[u8], lengths: &mut
 /// Reads a message, and writes into each slot whether it can be written.
 #[unsafe(no_mangle)]
 pub extern "C" fn bench_action_fits(alloc: Global, bytes: &[u8], verdicts: &mut [u8]) -> u32
-    ensures { JudgesEach action bytes.now verdicts.new result }
+    ensures { JudgesEach action_words bytes.now verdicts.new result }
 {
     timed::fits::<TcActionMessage>(alloc, bytes, verdicts)
 }
@@ -43,7 +42,7 @@ pub extern "C" fn bench_action_emit(
     buffer: &mut [u8],
     again: usize,
 ) -> u32
-    ensures emits { Emits action bytes.now buffer.old buffer.new result }
+    ensures emits { Emits action_words bytes.now buffer.old buffer.new result }
     ensures kept { result ≢ 0 → buffer.new ≡ buffer.old }
 {
     timed::emit::<TcActionMessage>(alloc, bytes, buffer, again)
@@ -52,7 +51,7 @@ pub extern "C" fn bench_action_emit(
 /// 1 if the bytes are a canonical message, 0 if not.
 #[unsafe(no_mangle)]
 pub extern "C" fn bench_action_canonical(bytes: &[u8]) -> u8
-    ensures { Says result (action.Canon bytes.now) }
+    ensures { Says result (action_words.Canonical bytes.now) }
 {
-    number(TcActionMessage::is_canonical(bytes))
+    number(is_canonical_action(bytes))
 }

@@ -1,20 +1,19 @@
 //! The timed calls on messages about queueing disciplines, classes, filters and chains.
 
 ghost use Rattle.std.specs.Prelude.{◌≡◌, ◌≢◌};
-ghost use Rattle.tc_ffi.specs.Words.{tc};
+ghost use Rattle.tc_wire.specs.Facade.{tc_words};
 ghost use Rattle.tc_ffi.specs.Checks.{Says};
 ghost use Rattle.tc_ffi.specs.Timed.{Parses, MeasuresEach, JudgesEach, Emits};
 
 use super::timed;
-use crate::called::Called;
-use crate::told::number;
+use crate::verdict::number;
 use std::alloc::Global;
-use tc_wire::TcMessage;
+use tc_wire::{TcMessage, is_canonical_tc};
 
 /// Reads a message, and drops it.
 #[unsafe(no_mangle)]
 pub extern "C" fn bench_tc_parse(alloc: Global, bytes: &[u8]) -> u32
-    ensures { Parses tc bytes.now result }
+    ensures { Parses tc_words bytes.now result }
 {
     timed::parse::<TcMessage>(alloc, bytes)
 }
@@ -22,7 +21,7 @@ pub extern "C" fn bench_tc_parse(alloc: Global, bytes: &[u8]) -> u32
 /// Reads a message, and writes the length of its bytes into each slot.
 #[unsafe(no_mangle)]
 pub extern "C" fn bench_tc_length(alloc: Global, bytes: &[u8], lengths: &mut [usize]) -> u32
-    ensures { MeasuresEach tc bytes.now lengths.new result }
+    ensures { MeasuresEach tc_words bytes.now lengths.new result }
 {
     timed::length::<TcMessage>(alloc, bytes, lengths)
 }
@@ -30,7 +29,7 @@ pub extern "C" fn bench_tc_length(alloc: Global, bytes: &[u8], lengths: &mut [us
 /// Reads a message, and writes into each slot whether it can be written.
 #[unsafe(no_mangle)]
 pub extern "C" fn bench_tc_fits(alloc: Global, bytes: &[u8], verdicts: &mut [u8]) -> u32
-    ensures { JudgesEach tc bytes.now verdicts.new result }
+    ensures { JudgesEach tc_words bytes.now verdicts.new result }
 {
     timed::fits::<TcMessage>(alloc, bytes, verdicts)
 }
@@ -38,7 +37,7 @@ pub extern "C" fn bench_tc_fits(alloc: Global, bytes: &[u8], verdicts: &mut [u8]
 /// Reads a message, writes it at the front of the buffer, and again so many times.
 #[unsafe(no_mangle)]
 pub extern "C" fn bench_tc_emit(alloc: Global, bytes: &[u8], buffer: &mut [u8], again: usize) -> u32
-    ensures emits { Emits tc bytes.now buffer.old buffer.new result }
+    ensures emits { Emits tc_words bytes.now buffer.old buffer.new result }
     ensures kept { result ≢ 0 → buffer.new ≡ buffer.old }
 {
     timed::emit::<TcMessage>(alloc, bytes, buffer, again)
@@ -47,7 +46,7 @@ pub extern "C" fn bench_tc_emit(alloc: Global, bytes: &[u8], buffer: &mut [u8], 
 /// 1 if the bytes are a canonical message, 0 if not.
 #[unsafe(no_mangle)]
 pub extern "C" fn bench_tc_canonical(bytes: &[u8]) -> u8
-    ensures { Says result (tc.Canon bytes.now) }
+    ensures { Says result (tc_words.Canonical bytes.now) }
 {
-    number(TcMessage::is_canonical(bytes))
+    number(is_canonical_tc(bytes))
 }

@@ -4,12 +4,12 @@ ghost use Rattle.std.specs.Prelude.{◌≡◌, ◌≢◌};
 ghost use Rattle.tc_ffi.specs.Timed.{Parses, MeasuresEach, JudgesEach, Emits};
 
 use super::repeat::{judge, measure, write};
-use crate::called::Called;
 use std::alloc::Global;
 use tc_status::{DOES_NOT_FIT, NO_ROOM, OK, status_of};
+use tc_wire::WholeMessage;
 
 /// Reads a message, and drops it.
-pub fn parse<M: Called>(alloc: Global, bytes: &[u8]) -> u32
+pub fn parse<M: WholeMessage<Global> + Drop>(alloc: Global, bytes: &[u8]) -> u32
     ensures { Parses M.words bytes.now result }
 {
     match M::read(alloc, bytes) {
@@ -19,12 +19,16 @@ pub fn parse<M: Called>(alloc: Global, bytes: &[u8]) -> u32
 }
 
 /// Reads a message, and writes the length of its bytes into each slot.
-pub fn length<M: Called>(alloc: Global, bytes: &[u8], lengths: &mut [usize]) -> u32
+pub fn length<M: WholeMessage<Global> + Drop>(
+    alloc: Global,
+    bytes: &[u8],
+    lengths: &mut [usize],
+) -> u32
     ensures { MeasuresEach M.words bytes.now lengths.new result }
 {
     match M::read(alloc, bytes) {
         Ok(message) => {
-            if !message.can_be_written() {
+            if !message.is_writable() {
                 return DOES_NOT_FIT;
             }
             measure(&message, lengths);
@@ -35,7 +39,7 @@ pub fn length<M: Called>(alloc: Global, bytes: &[u8], lengths: &mut [usize]) -> 
 }
 
 /// Reads a message, and writes into each slot whether it can be written.
-pub fn fits<M: Called>(alloc: Global, bytes: &[u8], verdicts: &mut [u8]) -> u32
+pub fn fits<M: WholeMessage<Global> + Drop>(alloc: Global, bytes: &[u8], verdicts: &mut [u8]) -> u32
     ensures { JudgesEach M.words bytes.now verdicts.new result }
 {
     match M::read(alloc, bytes) {
@@ -48,16 +52,21 @@ pub fn fits<M: Called>(alloc: Global, bytes: &[u8], verdicts: &mut [u8]) -> u32
 }
 
 /// Reads a message, writes it at the front of the buffer, and again so many times.
-pub fn emit<M: Called>(alloc: Global, bytes: &[u8], buffer: &mut [u8], again: usize) -> u32
+pub fn emit<M: WholeMessage<Global> + Drop>(
+    alloc: Global,
+    bytes: &[u8],
+    buffer: &mut [u8],
+    again: usize,
+) -> u32
     ensures emits { Emits M.words bytes.now buffer.old buffer.new result }
     ensures kept { result ≢ 0 → buffer.new ≡ buffer.old }
 {
     match M::read(alloc, bytes) {
         Ok(message) => {
-            if !message.can_be_written() {
+            if !message.is_writable() {
                 return DOES_NOT_FIT;
             }
-            if buffer.len() < message.len() {
+            if buffer.len() < message.written_len() {
                 return NO_ROOM;
             }
             write(&message, buffer, again);

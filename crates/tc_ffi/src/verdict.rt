@@ -1,12 +1,14 @@
-//! What C is told of bytes.
+//! What is said of bytes to C.
 
-ghost use Rattle.std.specs.Prelude.{◌≡◌, ◌≤◌, length};
+ghost use Rattle.std.specs.Prelude.{◌≡◌, ◌≤◌, [], length};
 ghost use Rattle.tc_status.specs.Status.{numbers_of};
 ghost use Rattle.tc_ffi.specs.Checks.{IsJudged, IsCounted, Numbers, Says};
 
-use crate::called::Called;
-use nla_frames::DecodeError;
+use std::alloc::Global;
+use tc_message_json::HasForm;
+use tc_outline::{What, locate};
 use tc_status::numbers_of;
+use tc_wire::{DecodeError, WholeMessage};
 
 /// What is said of the message that bytes read as: `struct vtc_verdict`.
 #[repr(C)]
@@ -34,31 +36,31 @@ pub struct VtcFault {
 }
 
 /// What is said of a message, and of the bytes that it was read of.
-pub fn judged<M: Called>(message: &M, bytes: &[u8]) -> VtcVerdict
-    ensures { IsJudged M.words bytes.now (M.see message.now) result }
+pub fn judged<M: WholeMessage<Global>>(message: &M, bytes: &[u8]) -> VtcVerdict
+    ensures { IsJudged M.words bytes.now (M.message message.now) result }
 {
     let (fits, length) = fits_in(message);
     VtcVerdict {
         length,
         fits,
-        settled: number(message.reads_back()),
+        settled: number(message.is_settled()),
         canonical: number(M::is_canonical(bytes)),
     }
 }
 
 // Whether a message can be written, as a number, and how many bytes it has; 0 where it can't.
-fn fits_in<M: Called>(message: &M) -> (u8, usize)
-    ensures fits { Says result.0 (M.words.Fits (M.see message.now)) }
-    ensures counted { IsCounted M.words (M.see message.now) result.1 }
+fn fits_in<M: WholeMessage<Global>>(message: &M) -> (u8, usize)
+    ensures fits { Says result.0 (M.words.Fits (M.message message.now)) }
+    ensures counted { IsCounted (M.words.Fits (M.message message.now)) (M.words.bytes (M.message message.now)) result.1 }
 {
-    match message.measured() {
+    match message.measure() {
         Some(length) => (1, length),
         None => (0, 0),
     }
 }
 
 /// A fault of bytes.
-pub fn fault_of<M: Called>(fault: &DecodeError, bytes: &[u8]) -> VtcFault
+pub fn fault_of<M: HasForm>(fault: &DecodeError, bytes: &[u8]) -> VtcFault
     ensures numbers { (result.first, result.second) ≡ numbers_of fault.now }
     ensures place { result.offset ≤ length bytes.now }
 {
@@ -66,7 +68,17 @@ pub fn fault_of<M: Called>(fault: &DecodeError, bytes: &[u8]) -> VtcFault
     VtcFault {
         first,
         second,
-        offset: M::fault_at(bytes),
+        offset: place_of(bytes, M::what()),
+    }
+}
+
+// Where the first fault of bytes is in them.
+fn place_of(bytes: &[u8], what: What) -> usize
+    ensures { result ≤ length bytes.now }
+{
+    match locate(bytes, what) {
+        Some(fault) => fault.offset,
+        None => 0,
     }
 }
 

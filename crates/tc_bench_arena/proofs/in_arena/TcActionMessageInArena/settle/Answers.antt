@@ -1,7 +1,0 @@
-use Rattle.std.proofs.Common.{inr}
-use Rattle.tc_wire.specs.Facade.{action_words}
-use Rattle.tc_bench_arena.proofs.Memory.{no-memory}
-use Rattle.tc_bench_arena.proofs.in_arena.TcActionMessageInArena.settle.Goals as goal
-
-pub returns-in-Err-OutOfMemory : goal.returns-in-Err-OutOfMemory
-returns-in-Err-OutOfMemory c = inr (no-memory action_words c.args.bytes.now)

@@ -1,0 +1,3 @@
+mod Canonical
+mod Events
+mod Same

@@ -1,0 +1,19 @@
+-- The bytes of two messages are the same if and only if the same is shown of them.
+use Rattle.std.proofs.Common.{◌≡◌, ◌↔◌, ℕ, List, [], ap}
+use Rattle.nla_frames.specs.Value.{IsBytes}
+use Rattle.tc_forms.specs.declared.form.Form.{Form}
+use Rattle.tc_forms.specs.Sent.{events}
+use Rattle.tc_forms.specs.Shown.{shown_of}
+use Rattle.tc_forms.specs.Tables.{Table}
+use Rattle.tc_forms.specs.Widths.{deepest}
+use Rattle.tc_forms.proofs.Law.{shown_injective}
+use Rattle.tc_message_json.proofs.Events.{one_json}
+
+same_shown : (table : Table) (form : Form) (a b : List ℕ) → IsBytes a → IsBytes b → shown_of table form a ≡ shown_of table form b → a ≡ b
+unfolding shown_of
+same_shown table form a b are are' e = shown_injective table deepest [] form a b are are' e
+
+pub same_sent : (table : Table) (form : Form) (a b : List ℕ) → IsBytes a → IsBytes b
+    → (a ≡ b) ↔ (events (shown_of table form a) ≡ events (shown_of table form b))
+same_sent table form a b are are' =
+    (λ e. ap (λ (x : List ℕ). events (shown_of table form x)) e, λ e. same_shown table form a b are are' (one_json _ _ e))

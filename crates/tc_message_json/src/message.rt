@@ -1,0 +1,47 @@
+//! The types of messages that have a form.
+
+ghost use Rattle.std.specs.Prelude.{◌≡◌};
+ghost use Rattle.tc_forms.specs.declared.form.Form.{Form};
+ghost use Rattle.tc_kinds.specs.Table.{tc_message, action_message};
+
+use std::alloc::Allocator;
+use tc_forms::Form;
+use tc_kinds::{ACTION_MESSAGE, TC_MESSAGE};
+use tc_outline::What;
+use tc_wire::{Emitable, TcActionMessage, TcMessage};
+
+/// A type of messages whose bytes have a form in `TcTables`.
+pub trait HasForm: Emitable {
+    ghost form: { Form };
+
+    /// The form of its bytes.
+    fn form() -> Form
+        ensures { result ≡ form };
+
+    /// What its messages speak of, for the place of a fault.
+    fn what() -> What;
+}
+
+impl<A: Allocator> HasForm for TcMessage<A> {
+    ghost form = { tc_message };
+
+    fn form() -> Form {
+        TC_MESSAGE
+    }
+
+    fn what() -> What {
+        What::Qdisc
+    }
+}
+
+impl<A: Allocator> HasForm for TcActionMessage<A> {
+    ghost form = { action_message };
+
+    fn form() -> Form {
+        ACTION_MESSAGE
+    }
+
+    fn what() -> What {
+        What::Action
+    }
+}
