@@ -213,8 +213,7 @@ fn errors_name_their_place(rt: HostRuntime) -> Result<(), Fail> {
     for rows in [made(alloc)?, captured(alloc)?] {
         for row in &rows {
             if let Expected::Accepted {
-                canonical: true,
-                ..
+                canonical: true, ..
             } = &row.expected
             {
                 assert_eq!(rt; broken(alloc, row, &mut named)?.as_str(), "");

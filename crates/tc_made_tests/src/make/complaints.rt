@@ -109,8 +109,6 @@ fn a_long_line(rt: HostRuntime) -> Result<(), Fail> {
         run.status == 1
             && run.written.as_slice() == b"1400000032000000000000000000000000000000\n".as_slice()
     );
-    assert!(rt;
-        run.errors.as_slice() == b"tcmake: line 1: longer than 33554432 bytes\n".as_slice()
-    );
+    assert!(rt; run.errors.as_slice() == b"tcmake: line 1: longer than 33554432 bytes\n".as_slice());
     Ok(())
 }

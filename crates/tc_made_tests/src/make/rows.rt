@@ -48,10 +48,8 @@ fn is_made_so(alloc: Global, row: &Row) -> Result<bool, Fail> {
     match &row.expected {
         Expected::Refused(_) => {
             let run = run_of(alloc, input, "", Making::AsGiven)?;
-            Ok(
-                wrote(alloc, &run, &input.bytes)?
-                    && run_of(alloc, input, "", Making::Checked)?.status == 1,
-            )
+            Ok(wrote(alloc, &run, &input.bytes)?
+                && run_of(alloc, input, "", Making::Checked)?.status == 1)
         }
         Expected::Accepted {
             fits,
@@ -59,9 +57,8 @@ fn is_made_so(alloc: Global, row: &Row) -> Result<bool, Fail> {
             canonical,
             emitted,
         } => {
-            let says = format!(in alloc;
-                "\"fits\":{fits},\"settled\":{settled},\"canonical\":{canonical},"
-            )?;
+            let says =
+                format!(in alloc; "\"fits\":{fits},\"settled\":{settled},\"canonical\":{canonical},")?;
             let run = run_of(alloc, input, says.as_str(), Making::Checked)?;
             if !wrote(alloc, &run, &input.bytes)? {
                 return Ok(false);

@@ -45,12 +45,11 @@ enum Makes {
 }
 
 const CHECKED: Making = Making::Checked;
-
 const SETTLE: Making = Making::Settled;
-
 const AS_GIVEN: Making = Making::AsGiven;
 
-const NOTICES: &str = "/attributes/1/Options/0/Flower/MplsBos: found 3, settled to 1
+const NOTICES: &str =
+    "/attributes/1/Options/0/Flower/MplsBos: found 3, settled to 1
 tcmake: line 1: /attributes/1/Options/0/Flower/pad: found \"000001\", dropped
 tcmake: line 1: /attributes/1/Options/0/Flower/word: found 32836, dropped";
 
@@ -111,24 +110,16 @@ fn is_so(alloc: Global, cell: &Cell) -> Result<bool, Fail> {
     } else {
         format!(in alloc; "tcmake: line 1: {said}\n")?
     };
-    Ok(
-        run.status == u8::from(written.is_empty())
-            && run.written.as_slice() == written.as_bytes()
-            && run.errors.as_slice() == errors.as_bytes(),
-    )
+    Ok(run.status == u8::from(written.is_empty())
+        && run.written.as_slice() == written.as_bytes()
+        && run.errors.as_slice() == errors.as_bytes())
 }
 
 #[test]
 fn each_cell_of_the_table(rt: HostRuntime) -> Result<(), Fail> {
     let alloc = rt.alloc();
     for cell in &CELLS {
-        assert!(rt;
-            is_so(alloc, cell)?,
-            "{} {:?} of {}",
-            cell.says,
-            cell.making,
-            cell.message.1
-        );
+        assert!(rt; is_so(alloc, cell)?, "{} {:?} of {}", cell.says, cell.making, cell.message.1);
     }
     Ok(())
 }
@@ -137,7 +128,8 @@ fn each_cell_of_the_table(rt: HostRuntime) -> Result<(), Fail> {
 #[test]
 fn raw_messages(rt: HostRuntime) -> Result<(), Fail> {
     let alloc = rt.alloc();
-    let lines = br#"{"refused":"BufferTooSmall","len":1,"needed":4,"message":{"raw":"00"}}
+    let lines =
+        br#"{"refused":"BufferTooSmall","len":1,"needed":4,"message":{"raw":"00"}}
 {"raw":"00"}
 {"type":"RTM_NEWACTION","refused":"BufferTooSmall","len":1,"needed":4,"message":{"raw":"00"}}
 "#;
