@@ -65,9 +65,24 @@ pub(crate) fn message_of<T: Tables>(
     }
     let bytes = bytes_of(alloc, forms.table, forms.of(holds), json)?;
     match making {
-        Making::Settled => settled_message(alloc, forms.table, forms.of(holds), holds, json, &bytes),
+        Making::Settled => settled_message(
+            alloc,
+            forms.table,
+            forms.of(holds),
+            holds,
+            json,
+            &bytes,
+        ),
         Making::Checked => {
-            check(alloc, forms.table, forms.of(holds), holds, line, json, &bytes)?;
+            check(
+                alloc,
+                forms.table,
+                forms.of(holds),
+                holds,
+                line,
+                json,
+                &bytes,
+            )?;
             unchanged(alloc, bytes)
         }
         Making::AsGiven | Making::Restored => unchanged(alloc, bytes),
