@@ -1,6 +1,6 @@
 //! The bytes of a message.
 
-ghost use Rattle.std.specs.Prelude.{◌≡◌, ◌×◌, ℕ, None, IfOk, OnOk, codes};
+ghost use Rattle.std.specs.Prelude.{◌≡◌, ℕ, None, IfOk, OnOk, codes};
 ghost use Rattle.serde_json.specs.Find.{get};
 ghost use Rattle.serde_json.specs.View.{view};
 ghost use Rattle.tc_make.specs.Made.{IsAsSaid, IsMade, Settles, StandsFor, form_of};
