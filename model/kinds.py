@@ -44,7 +44,12 @@ def camel(name): return "".join(part.capitalize() for part in name.split("_"))
 NAMED = {"tc_sizespec.linklayer": "TC_LINKLAYER_"}
 HANDLES = "ClassId Baseclass".split()
 IN_HEX = "act_simple.Data choke.Stab gred.Stab red.Stab act_ct.Labels act_ct.LabelsMask".split()
-OTHERWISE = {"act_ct.NatIpv4Min": IPV4, "act_ct.NatIpv4Max": IPV4}
+OTHERWISE = {"act_ct.NatIpv4Min": IPV4, "act_ct.NatIpv4Max": IPV4, "rsvp.Dst": IPV4, "rsvp.Src": IPV4, "rsvp6.Dst": IPV6, "rsvp6.Src": IPV6,
+             "atm.Hdr": array(U8)}
+# The attributes of rsvp and rsvp6 are those of one enum; their addresses differ. What iproute2 puts behind prio's record is a nest.
+FACTS["tables"]["rsvp6"] = FACTS["tables"]["rsvp"]
+FACTS["kinds"]["filter"]["rsvp6"]["options"]["table"] = "rsvp6"
+FACTS["tables"]["prio_tail"]["attrs"][0].update(form="nested", table="prio_tail")
 JOINED = {"from_layer_to_layer": "layers"}
 
 def number_of(kind, enum=None):

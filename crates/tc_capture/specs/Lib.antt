@@ -15,3 +15,4 @@ pub mod PcapNg
 pub mod Block
 pub mod Section
 pub mod Capture
+pub mod Written

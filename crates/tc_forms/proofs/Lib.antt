@@ -6,3 +6,5 @@ pub mod Law
 pub mod Ordered
 pub mod Sending
 pub mod Making
+pub mod Single
+pub mod FirstRows

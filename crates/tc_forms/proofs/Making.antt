@@ -8,12 +8,16 @@ use Rattle.std.specs.Prelude.{option_and_then}
 use Rattle.tc_forms.specs.AttributesMade.{kinded_made, attribute_made, layered_by, layered_made}
 use Rattle.tc_forms.specs.Places.{layer_of, part_at, rows_under}
 use Rattle.tc_forms.specs.Tables.{Row}
-use Rattle.std.proofs.lemmas.List.{drop_all, reverse-append}
+use Rattle.std.proofs.lemmas.List.{drop_all, length-append, length-drop, reverse-append}
+use Rattle.std.proofs.lemmas.Nat.{div-add-mod', mod-mul-add}
+use Rattle.std.proofs.lemmas.Bool.{cond-true, le-leb}
+use Rattle.std.proofs.Common.{slice_set, ◌*◌}
+use Rattle.std.specs.Prelude.{nat_le}
 use Rattle.nla_frames.specs.Value.{le_bytes, be_bytes}
 use Rattle.nla_frames.specs.Frame.{header}
 use Rattle.std.specs.Prelude.{Bool, false}
-use Rattle.tc_forms.specs.Appended.{Appended, Fails}
-use Rattle.tc_forms.specs.AttributesMade.{each_under}
+use Rattle.tc_forms.specs.Appended.{Appended, Stops}
+use Rattle.tc_forms.specs.AttributesMade.{each_under, framed_with, pad_or}
 use Rattle.tc_forms.specs.Frames.{frame_bytes}
 use Rattle.std.specs.Prelude.{true}
 use Rattle.tc_forms.specs.Kinds.{own_told, kind_told}
@@ -25,7 +29,7 @@ use Rattle.tc_forms.specs.Values.{plain_made}
 use Rattle.serde_json.specs.Data.{Data, Items, no_items, item}
 use Rattle.serde_json.specs.View.{view, items_view}
 use Rattle.serde_json.specs.declared.value.Value.{Value}
-use Rattle.tc_forms.specs.declared.error.MakeError.{MakeError}
+use Rattle.tc_forms.specs.declared.maker.Stop.{Stop}
 use Rattle.tc_forms.specs.declared.form.Form.{Form}
 use Rattle.tc_forms.specs.declared.form.Field.{Field as CodeField}
 use Rattle.tc_forms.specs.declared.form.Form.TheVariants as form
@@ -37,13 +41,13 @@ same_some : {X : Type 0} (x y : X) → Some x ≡ Some y → x ≡ y
 same_some x y e = ap (λ o. unwrap_or o x) e
 
 -- bytes after bytes
-pub then_appended : {T : Type 0} (a b old mid new : List ℕ) (r : Result T MakeError) → Some (old ++ a) ≡ Some mid → Appended (Some b) mid new r
+pub then_appended : {T : Type 0} (a b old mid new : List ℕ) (r : Result T Stop) → Some (old ++ a) ≡ Some mid → Appended (Some b) mid new r
     → Appended (Some (a ++ b)) old new r
 then_appended a b old mid new (Ok u) first second =
     ap Some (sym (append_assoc old a b)) ∙ ap (λ m. Some (m ++ b)) (same_some (old ++ a) mid first) ∙ second
 then_appended a b old mid new (Err e) first second = λ not. absurd (none_not_some b (sym (second not)))
 
-pub appended_as : {T : Type 0} (x y : Option (List ℕ)) (old new : List ℕ) (r : Result T MakeError) → x ≡ y → Appended x old new r → Appended y old new r
+pub appended_as : {T : Type 0} (x y : Option (List ℕ)) (old new : List ℕ) (r : Result T Stop) → x ≡ y → Appended x old new r → Appended y old new r
 appended_as x y old new r e h = subst (λ o. Appended o old new r) e h
 
 pub le_step : (w n : ℕ) → (w ≡ 0 → ⊥) → (n % 256 ∷ []) ++ le_bytes (w - 1) (n / 256) ≡ le_bytes w n
@@ -55,7 +59,7 @@ take_le zero m n h = refl
 take_le (suc w) zero n h = absurd (omega (arith, h))
 take_le (suc w) (suc m) n h = ap (λ b. n % 256 ∷ b) (take_le w m (n / 256) (omega (arith, h)))
 
-pub put_taken : {T : Type 0} (w n : ℕ) (old new : List ℕ) (r : Result T MakeError) → w ≤ 8 → Appended (Some (take w (le_bytes 8 n))) old new r
+pub put_taken : {T : Type 0} (w n : ℕ) (old new : List ℕ) (r : Result T Stop) → w ≤ 8 → Appended (Some (take w (le_bytes 8 n))) old new r
     → Appended (Some (le_bytes w n)) old new r
 put_taken w n old new r h k = appended_as (Some (take w (le_bytes 8 n))) (Some (le_bytes w n)) old new r (ap Some (take_le w 8 n h)) k
 
@@ -81,13 +85,13 @@ none_of None start e = refl
 none_of (Some a) start e = absurd (none_not_some (start ++ a) e)
 
 -- a part that fails
-pub joined_fails : (w rest all : Option (List ℕ)) (start now : List ℕ) (e : MakeError) → option_map (λ b. now ++ b) (joined w rest) ≡ option_map (λ b. start ++ b) all
-    → Fails w e → Fails all e
+pub joined_fails : (w rest all : Option (List ℕ)) (start now : List ℕ) (e : Stop) → option_map (λ b. now ++ b) (joined w rest) ≡ option_map (λ b. start ++ b) all
+    → Stops w e → Stops all e
 joined_fails w rest all start now e left fails not =
     none_of all start (ap (λ x. option_map (λ b. now ++ b) (joined x rest)) (sym (fails not)) ∙ left)
 
 -- the last part
-pub last_appended : {T : Type 0} (w all : Option (List ℕ)) (start now new : List ℕ) (r : Result T MakeError)
+pub last_appended : {T : Type 0} (w all : Option (List ℕ)) (start now new : List ℕ) (r : Result T Stop)
     → option_map (λ b. now ++ b) w ≡ option_map (λ b. start ++ b) all → Appended w now new r → Appended all start new r
 last_appended w all start now new (Ok u) left h = sym left ∙ h
 last_appended w all start now new (Err e) left h = λ not. none_of all start (ap (option_map (λ b. now ++ b)) (sym (h not)) ∙ left)
@@ -136,7 +140,7 @@ items_same One Two k same (item d ds) =
     ap (λ x. joined (or_raw (raw_of d) x) (each_under One false k ds)) (same d) ∙ ap (joined (or_raw (raw_of d) (Two k d))) (items_same One Two k same ds)
 
 pub list_made : {T : Type 0} (table : Table) (Made : List ℕ → Form → Data → Option (List ℕ)) (i : ℕ) (k layer : List ℕ) (rows : List Row) (d : Data) (ds : Items)
-    (old new : List ℕ) (r : Result T MakeError) → Some ds ≡ as_array d → layer ≡ layer_of (part_at table i) → rows ≡ rows_under table i k
+    (old new : List ℕ) (r : Result T Stop) → Some ds ≡ as_array d → layer ≡ layer_of (part_at table i) → rows ≡ rows_under table i k
     → Appended (each_under (layered_by Made rows false layer) false k ds) old new r
     → Appended (option_and_then (each_under (layered_made table Made i) false k) (as_array d)) old new r
 list_made table Made i k layer rows d ds old new r found el er h =
@@ -148,7 +152,7 @@ list_made table Made i k layer rows d ds old new r found el er h =
     h
 
 pub own_made : {T : Type 0} (table : Table) (Made : List ℕ → Form → Data → Option (List ℕ)) (i : ℕ) (k : List ℕ) (rows : List Row) (d : Data) (ds : Items)
-    (old new : List ℕ) (r : Result T MakeError) → Some ds ≡ as_array d → k ≡ own_told ds → rows ≡ rows_under table i k
+    (old new : List ℕ) (r : Result T Stop) → Some ds ≡ as_array d → k ≡ own_told ds → rows ≡ rows_under table i k
     → Appended (each_under (layered_by Made rows true []) false k ds) old new r
     → Appended (option_and_then (λ es. each_under (kinded_made table Made i) false (own_told es) es) (as_array d)) old new r
 own_made table Made i k rows d ds old new r found ek er h =
@@ -160,7 +164,7 @@ own_made table Made i k rows d ds old new r found ek er h =
 
 -- ---- levels
 
-pub level_made : {T : Type 0} (table : Table) (n m : ℕ) (k : List ℕ) (f shape : Form) (d : Data) (x : Option (List ℕ)) (old new : List ℕ) (r : Result T MakeError)
+pub level_made : {T : Type 0} (table : Table) (n m : ℕ) (k : List ℕ) (f shape : Form) (d : Data) (x : Option (List ℕ)) (old new : List ℕ) (r : Result T Stop)
     → n ≡ m + 1 → f ≡ shape → None ≡ raw_of d → x ≡ in_form table (make table m) k shape d → Appended x old new r → Appended (make table n k f d) old new r
 level_made table n m k f shape d x old new r deeper same not_raw is h =
     appended_as x (make table n k f d) old new r
@@ -197,7 +201,7 @@ framed_so value pad word =
     ∙ sym (append_assoc (le_bytes 2 (4 + length value)) (le_bytes 2 word) (value ++ pad))
 
 -- bytes, and then what may fail
-pub then_maybe : {T : Type 0} (a : List ℕ) (x : Option (List ℕ)) (old mid new : List ℕ) (r : Result T MakeError) → Some (old ++ a) ≡ Some mid → Appended x mid new r
+pub then_maybe : {T : Type 0} (a : List ℕ) (x : Option (List ℕ)) (old mid new : List ℕ) (r : Result T Stop) → Some (old ++ a) ≡ Some mid → Appended x mid new r
     → Appended (option_map (λ b. a ++ b) x) old new r
 then_maybe a (Some b) old mid new r first second = then_appended a b old mid new r first second
 then_maybe a None old mid new (Ok u) first second = absurd (none_not_some new second)
@@ -212,3 +216,116 @@ framed_maybe value word (Some pad) = ap Some (framed_so value pad word)
 pub not_some : {X : Type 0} (o : Option X) → ((x : X) → o ≡ Some x → ⊥) → o ≡ None
 not_some None h = refl
 not_some (Some x) h = absurd (h x refl)
+
+-- ---- a frame in its place
+
+header_fits : (old v : List ℕ) → length old + 4 ≤ length (old ++ (0 ∷ 0 ∷ 0 ∷ 0 ∷ v))
+header_fits old v = let e = length-append old (0 ∷ 0 ∷ 0 ∷ 0 ∷ v) in omega (arith, e)
+
+take_front : (a b : List ℕ) → take (length a) (a ++ b) ≡ a
+take_front [] b = refl
+take_front (x ∷ a) b = ap (λ l. x ∷ l) (take_front a b)
+
+drop_header : (a v : List ℕ) → drop (length a + 4) (a ++ (0 ∷ 0 ∷ 0 ∷ 0 ∷ v)) ≡ v
+drop_header [] v = refl
+drop_header (x ∷ a) v = let next : length (x ∷ a) + 4 ≡ suc (length a + 4) = omega arith in ap (λ n. drop n (x ∷ (a ++ (0 ∷ 0 ∷ 0 ∷ 0 ∷ v)))) next ∙ drop_header a v
+
+module _ (wanted : Option (List ℕ)) (old mid now : List ℕ) (start : ℕ) (place : start ≡ length old) (room : mid ≡ old ++ 0 ∷ 0 ∷ 0 ∷ 0 ∷ [])
+    (made : option_map (λ b. mid ++ b) wanted ≡ Some now) where
+  now_is : (v : List ℕ) → wanted ≡ Some v → now ≡ old ++ (0 ∷ 0 ∷ 0 ∷ 0 ∷ v)
+  now_is v e =
+      sym (same_some (mid ++ v) now (sym (ap (option_map (λ b. mid ++ b)) e) ∙ made)) ∙ ap (λ m. m ++ v) room ∙ append_assoc old (0 ∷ 0 ∷ 0 ∷ 0 ∷ []) v
+
+  -- its header has room
+  pub has_room : start + 4 ≤ length now
+  has_room = go wanted refl
+    where
+      go : (o : Option (List ℕ)) → wanted ≡ o → start + 4 ≤ length now
+      go None e = absurd (none_not_some now (sym (ap (option_map (λ b. mid ++ b)) e) ∙ made))
+      go (Some v) e = subst (λ n. n + 4 ≤ length now) (sym place) (subst (λ b. length old + 4 ≤ length b) (sym (now_is v e)) (header_fits old v))
+
+  pub framed_here : {T : Type 0} (word : ℕ) (pad : Option Data) (new : List ℕ) (r : Result T Stop)
+      → Appended (framed_with word (drop (start + 4) now) pad) (take start now) new r
+      → Appended (option_and_then (λ v. framed_with word v pad) wanted) old new r
+  framed_here word pad new r h = go wanted refl
+    where
+      go : (o : Option (List ℕ)) → wanted ≡ o → Appended (option_and_then (λ v. framed_with word v pad) wanted) old new r
+      go None e = absurd (none_not_some now (sym (ap (option_map (λ b. mid ++ b)) e) ∙ made))
+      go (Some v) e =
+          let at : take start now ≡ old = ap (λ n. take n now) place ∙ ap (take (length old)) (now_is v e) ∙ take_front old (0 ∷ 0 ∷ 0 ∷ 0 ∷ v) in
+          let value : drop (start + 4) now ≡ v = ap (λ n. drop (n + 4) now) place ∙ ap (drop (length old + 4)) (now_is v e) ∙ drop_header old v in
+          subst (λ o. Appended (option_and_then (λ v. framed_with word v pad) o) old new r) (sym e)
+          (subst (λ b. Appended (framed_with word v pad) b new r) at (subst (λ b. Appended (framed_with word b pad) (take start now) new r) value h))
+
+-- four bytes over those at a place
+pub patched : (xs : List ℕ) (n a b c d : ℕ) → n + 4 ≤ length xs
+    → slice_set (slice_set (slice_set (slice_set xs n a) (n + 1) b) (n + 2) c) (n + 3) d ≡ take n xs ++ (a ∷ b ∷ c ∷ d ∷ drop (n + 4) xs)
+patched [] n a b c d h = absurd (omega (arith, h))
+patched (w ∷ []) zero a b c d h = absurd (omega (arith, h))
+patched (w ∷ x ∷ []) zero a b c d h = absurd (omega (arith, h))
+patched (w ∷ x ∷ y ∷ []) zero a b c d h = absurd (omega (arith, h))
+patched (w ∷ x ∷ y ∷ z ∷ xs) zero a b c d h = refl
+patched (x ∷ xs) (suc n) a b c d h =
+    let one : suc n + 1 ≡ suc (n + 1) = omega arith in
+    let two : suc n + 2 ≡ suc (n + 2) = omega arith in
+    let three : suc n + 3 ≡ suc (n + 3) = omega arith in
+    let four : suc (n + 4) ≡ suc n + 4 = omega arith in
+    ap (λ (i : ℕ). slice_set (slice_set (slice_set (slice_set (x ∷ xs) (suc n) a) i b) (suc n + 2) c) (suc n + 3) d) one
+    ∙ ap (λ (i : ℕ). slice_set (slice_set (slice_set (slice_set (x ∷ xs) (suc n) a) (suc (n + 1)) b) i c) (suc n + 3) d) two
+    ∙ ap (λ (i : ℕ). slice_set (slice_set (slice_set (slice_set (x ∷ xs) (suc n) a) (suc (n + 1)) b) (suc (n + 2)) c) i d) three
+    ∙ ap (λ l. x ∷ l) (patched xs n a b c d (omega (arith, h)))
+    ∙ ap (λ (i : ℕ). x ∷ (take n xs ++ (a ∷ b ∷ c ∷ d ∷ drop i (x ∷ xs)))) four
+
+upper_byte : (m : ℕ) → m < 65536 → m / 256 ≡ m / 256 % 256
+upper_byte m h =
+    let whole = div-add-mod' m 256 in
+    let lt : m / 256 < 256 = omega (arith, whole, h) in
+    let nought : m / 256 ≡ 0 * 256 + m / 256 = omega arith in
+    sym (ap (λ n. n % 256) nought ∙ mod-mul-add 0 256 (m / 256) lt)
+
+frame_of : (v pad : List ℕ) (word : ℕ) → 4 + length v < 65536 → word < 65536
+    → ((4 + length v) % 256 ∷ (4 + length v) / 256 ∷ word % 256 ∷ word / 256 ∷ (v ++ pad)) ≡ frame_bytes (record { word = word; value = v; pad = pad })
+unfolding header
+frame_of v pad word h k =
+    ap (λ (n : ℕ). (4 + length v) % 256 ∷ n ∷ word % 256 ∷ word / 256 ∷ (v ++ pad)) (upper_byte (4 + length v) h)
+    ∙ ap (λ (n : ℕ). (4 + length v) % 256 ∷ (4 + length v) / 256 % 256 ∷ word % 256 ∷ n ∷ (v ++ pad)) (upper_byte word k)
+
+frame_maybe : (v : List ℕ) (word : ℕ) (x : Option (List ℕ)) → 4 + length v < 65536 → word < 65536
+    → option_map (λ b. ((4 + length v) % 256 ∷ (4 + length v) / 256 ∷ word % 256 ∷ word / 256 ∷ v) ++ b) x
+    ≡ option_map (λ pad. frame_bytes (record { word = word; value = v; pad = pad })) x
+frame_maybe v word None h k = refl
+frame_maybe v word (Some pad) h k = ap Some (frame_of v pad word h k)
+
+pub framed_end : {T : Type 0} (old mid new : List ℕ) (start n l0 l1 w0 w1 word : ℕ) (x : Option (List ℕ)) (told : Option Data) (r : Result T Stop)
+    → start + 4 ≤ length old → n ≡ length old - start → n ≤ 65535 → word < 65536 → l0 ≡ n % 256 → l1 ≡ n / 256 → w0 ≡ word % 256 → w1 ≡ word / 256
+    → mid ≡ take start old ++ (l0 ∷ l1 ∷ w0 ∷ w1 ∷ drop (start + 4) old) → x ≡ pad_or (drop (start + 4) old) told → Appended x mid new r
+    → Appended (framed_with word (drop (start + 4) old) told) (take start old) new r
+framed_end old mid new start n l0 l1 w0 w1 word x told r room is_n few small e0 e1 e2 e3 is_mid is_x h =
+    let v = drop (start + 4) old in
+    let behind = length-drop (start + 4) old in
+    let all : n ≡ 4 + length v = omega (arith, room, is_n, behind) in
+    let short : 4 + length v < 65536 = omega (arith, all, few) in
+    let fits : nat_le (length v) 65531 ≡ true = le-leb (length v) 65531 (omega (arith, short)) in
+    let bytes = (4 + length v) % 256 ∷ (4 + length v) / 256 ∷ word % 256 ∷ word / 256 ∷ v in
+    let exact : l0 ∷ l1 ∷ w0 ∷ w1 ∷ v ≡ bytes =
+    ap (λ (k : ℕ). k ∷ l1 ∷ w0 ∷ w1 ∷ v) (e0 ∙ ap (λ (k : ℕ). k % 256) all)
+    ∙ ap (λ (k : ℕ). (4 + length v) % 256 ∷ k ∷ w0 ∷ w1 ∷ v) (e1 ∙ ap (λ (k : ℕ). k / 256) all)
+    ∙ ap (λ (k : ℕ). (4 + length v) % 256 ∷ (4 + length v) / 256 ∷ k ∷ w1 ∷ v) e2
+    ∙ ap (λ (k : ℕ). (4 + length v) % 256 ∷ (4 + length v) / 256 ∷ word % 256 ∷ k ∷ v) e3 in
+    let there : Some (take start old ++ bytes) ≡ Some mid = ap Some (ap (λ b. take start old ++ b) (sym exact) ∙ sym is_mid) in
+    appended_as (option_map (λ b. bytes ++ b) x) (framed_with word v told) (take start old) new r
+    (frame_maybe v word x short small
+    ∙ ap (λ o. option_map (λ pad. frame_bytes (record { word = word; value = v; pad = pad })) o) is_x
+    ∙ sym (cond-true (nat_le (length v) 65531) (option_map (λ pad. frame_bytes (record { word = word; value = v; pad = pad })) (pad_or v told)) None fits))
+    (then_maybe bytes x (take start old) mid new r there h)
+
+four_more : (m : ℕ) → (m + 4) % 4 ≡ m % 4
+four_more m = omega arith
+
+-- zeros after as many bytes, where its header counts too
+pub pad_is : (old : List ℕ) (start n : ℕ) → start + 4 ≤ length old → n ≡ length old - start
+    → Some (replicate {A = ℕ} ((4 - n % 4) % 4) 0) ≡ pad_or (drop (start + 4) old) None
+pad_is old start n room is_n =
+    let behind = length-drop (start + 4) old in
+    let all : n ≡ length (drop (start + 4) old) + 4 = omega (arith, room, is_n, behind) in
+    ap (λ (k : ℕ). Some (replicate {A = ℕ} ((4 - k) % 4) 0)) (ap (λ (k : ℕ). k % 4) all ∙ four_more (length (drop (start + 4) old)))

@@ -29,10 +29,14 @@ abbrev pub pad_or : List ℕ → Option Data → Option (List ℕ)
 pad_or value None = Some (zero_pad value)
 pad_or value (Some d) = hex_made d
 
-abbrev pub framed : Option ℕ → Option (List ℕ) → Data → Option (List ℕ)
-framed (Some word) (Some value) d =
+-- a frame of a value that fits
+abbrev pub framed_with : ℕ → List ℕ → Option Data → Option (List ℕ)
+framed_with word value told =
     if nat_le (length value) 65531
-    then option_map (λ pad. frame_bytes (record { word = word; value = value; pad = pad })) (pad_or value (get (codes "pad") d)) else None
+    then option_map (λ pad. frame_bytes (record { word = word; value = value; pad = pad })) (pad_or value told) else None
+
+abbrev pub framed : Option ℕ → Option (List ℕ) → Data → Option (List ℕ)
+framed (Some word) (Some value) d = framed_with word value (get (codes "pad") d)
 framed word value d = None
 
 abbrev pub other_made : Data → Data → Option (List ℕ)

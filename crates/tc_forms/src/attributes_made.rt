@@ -2,22 +2,22 @@
 
 ghost use Rattle.serde_json.specs.Find.{get};
 ghost use Rattle.serde_json.specs.View.{items_view, view};
-ghost use Rattle.std.specs.Prelude.{None, Some, [], codes, length, option_and_then, option_map, true, unwrap_or, ◌++◌, ◌∷◌, ◌≡◌, ◌≤◌};
+ghost use Rattle.std.specs.Prelude.{IfErr, IfOk, IfSome, None, OnOk, Some, [], codes, drop, false, length, option_and_then, option_map, take, true, unwrap_or, ◌+◌, ◌++◌, ◌∷◌, ◌≡◌, ◌≤◌};
 ghost use Rattle.tc_forms.specs.Appended.{Appended};
-ghost use Rattle.tc_forms.specs.Attributes.{other};
-ghost use Rattle.tc_forms.specs.AttributesMade.{by_kind_made, framed, other_made, pad_or, unlayered, word_made, word_or};
-ghost use Rattle.tc_forms.specs.Frames.{frame_bytes};
+ghost use Rattle.tc_forms.specs.AttributesMade.{by_kind_made, framed_with, other_made, unlayered, word_made, word_or};
 ghost use Rattle.tc_forms.specs.Kinds.{kind_told, kind_value, own_told};
 ghost use Rattle.tc_forms.specs.Places.{rows_under};
+ghost use Rattle.tc_forms.specs.Raw.{one};
 ghost use Rattle.tc_forms.specs.RowLists.{rows_in};
+ghost use Rattle.tc_forms.specs.Rows.{is_reserved};
+ghost use Rattle.tc_forms.specs.declared.maker.Stop.TheVariants.{OutOfMemory};
 
-use crate::error::{MakeError, Wanted};
-use crate::maker::Maker;
-use crate::rows::{RowList, rows_under};
+use crate::error::Wanted;
+use crate::maker::{Maker, Step, Stop};
+use crate::rows::{RowList, is_reserved, rows_under};
 use crate::tables::Tables;
-use crate::values_made::{make_hex, make_hex_at};
+use crate::values_made::make_hex_at;
 use serde_json::Value;
-use std::mem;
 
 // What an object of one member holds, if it has a name.
 pub(crate) fn unlayered<'v>(layer: &str, value: &'v Value) -> Option<&'v Value>
@@ -29,7 +29,45 @@ pub(crate) fn unlayered<'v>(layer: &str, value: &'v Value) -> Option<&'v Value>
     value.get(layer)
 }
 
-// The kind that an item tells, in a list that has kinds.
+// The member of an object that has no other, if its name isn't reserved.
+#[inline(always)]
+pub(crate) fn named_member<'v>(value: &'v Value) -> Option<(&'v str, &'v Value)>
+    ensures only { IfSome result (λ m. view value.now ≡ one m.0.now (view m.1.now)) }
+    ensures free { IfSome result (λ m. is_reserved m.0.now ≡ false) }
+{
+    match only_member(value) {
+        Some((name, held)) if !is_reserved(name) => Some((name, held)),
+        _ => None,
+    }
+}
+
+// The member of an object that has no other.
+#[inline(always)]
+fn only_member<'v>(value: &'v Value) -> Option<(&'v str, &'v Value)>
+    ensures { IfSome result (λ m. view value.now ≡ one m.0.now (view m.1.now)) }
+{
+    let members = match value.as_object() {
+        Some(members) => members,
+        None => return None,
+    };
+    if members.len() != 1 {
+        return None;
+    }
+    match members.first_key_value() {
+        Some((name, held)) => Some((name.as_str(), held)),
+        None => None,
+    }
+}
+
+// The error of an attribute that no row has.
+pub(crate) fn no_row<'v>(maker: &mut Maker<'v>, has: bool, value: &'v Value) -> Stop {
+    match value.get("Kind") {
+        Some(kind) if has => maker.wrong_member("Kind", kind, Wanted::Text),
+        _ => maker.unknown(value, Wanted::Attribute),
+    }
+}
+
+// The kind that an item has, in a list with kinds.
 pub(crate) fn kind_told<'v>(has: bool, value: &'v Value) -> Option<&'v str>
     ensures { option_map (λ t. t.now) result ≡ kind_told has (view value.now) }
 {
@@ -86,22 +124,25 @@ pub(crate) fn make_kind<'v>(
     maker: &mut Maker<'v>,
     kind: &'v str,
     value: &'v Value,
-) -> Result<(), MakeError>
+) -> Result<(), Stop>
     ensures { Appended (by_kind_made (λ k f d. None) [] true [] (view value.now) (Some kind.now)) maker.old.bytes.items maker.new.bytes.items result }
 {
     let word = match word_or(1, value) {
         Some(word) => word,
-        None => return Err(maker.wrong_member(value, "word", Wanted::Word)),
+        None => return Err(maker.wrong_or_missing(value, "word", Wanted::Word)),
     };
-    let before = begin(maker);
+    let start = match begin(maker) {
+        Ok(start) => start,
+        Err(e) => return Err(e),
+    };
     match make_kind_value(maker, kind, value) {
-        Ok(()) => end(maker, before, word, value),
+        Ok(()) => end(maker, start, word, "Kind", value, value.get("pad")),
         Err(e) => Err(e),
     }
 }
 
 // A kind's text, with a NUL unless it is bare.
-fn make_kind_value<'v>(maker: &mut Maker<'v>, kind: &str, value: &'v Value) -> Result<(), MakeError>
+fn make_kind_value<'v>(maker: &mut Maker<'v>, kind: &str, value: &'v Value) -> Result<(), Stop>
     ensures { Appended (kind_value kind.now (get (codes "bare") (view value.now))) maker.old.bytes.items maker.new.bytes.items result }
 {
     let bare = match value.get("bare") {
@@ -111,12 +152,12 @@ fn make_kind_value<'v>(maker: &mut Maker<'v>, kind: &str, value: &'v Value) -> R
     match bare.as_bool() {
         Some(true) => maker.put(kind.as_bytes()),
         Some(false) => make_text_of(maker, kind),
-        None => Err(maker.wrong_member(value, "bare", Wanted::Bool)),
+        None => Err(maker.wrong_member("bare", bare, Wanted::Bool)),
     }
 }
 
 // A text and a NUL.
-fn make_text_of(maker: &mut Maker<'_>, text: &str) -> Result<(), MakeError>
+fn make_text_of(maker: &mut Maker<'_>, text: &str) -> Result<(), Stop>
     ensures { Appended (Some (text.now ++ 0 ∷ [])) maker.old.bytes.items maker.new.bytes.items result }
 {
     match maker.put(text.as_bytes()) {
@@ -130,21 +171,35 @@ pub(crate) fn make_other<'v>(
     maker: &mut Maker<'v>,
     other: &'v Value,
     value: &'v Value,
-) -> Result<(), MakeError>
+) -> Result<(), Stop>
     ensures { Appended (other_made (view value.now) (view other.now)) maker.old.bytes.items maker.new.bytes.items result }
 {
     let word = match word_at(other, "word") {
         Some(word) => word,
-        None => return Err(maker.wrong_within("Other", other, "word", Wanted::Word)),
+        None => {
+            let stop = maker.wrong_or_missing(other, "word", Wanted::Word);
+            maker.at(Step::Member("Other"));
+            return Err(stop);
+        }
     };
     let held = match other.get("value") {
         Some(held) => held,
-        None => return Err(maker.wrong_within("Other", other, "value", Wanted::Member)),
+        None => {
+            let stop = maker.missing(other, "value");
+            maker.at(Step::Member("Other"));
+            return Err(stop);
+        }
     };
-    let before = begin(maker);
-    match make_hex(maker, held) {
-        Ok(()) => end(maker, before, word, value),
-        Err(e) => Err(e),
+    let start = match begin(maker) {
+        Ok(start) => start,
+        Err(e) => return Err(e),
+    };
+    match make_hex_at(maker, "value", held) {
+        Ok(()) => end(maker, start, word, "Other", value, value.get("pad")),
+        Err(e) => {
+            maker.at(Step::Member("Other"));
+            Err(e)
+        }
     }
 }
 
@@ -167,7 +222,7 @@ fn word_of(value: &Value) -> Option<u16>
     }
 }
 
-// The word that is told, or else this one.
+// The word that a member says, or else this one.
 pub(crate) fn word_or(word: u16, value: &Value) -> Option<u16>
     ensures { result ≡ word_or word (get (codes "word") (view value.now)) }
 {
@@ -177,64 +232,57 @@ pub(crate) fn word_or(word: u16, value: &Value) -> Option<u16>
     }
 }
 
-// Begins the value of an attribute: the bytes before it are set aside.
-pub(crate) fn begin(maker: &mut Maker<'_>) -> Vec<u8>
-    ensures before { result.items ≡ maker.old.bytes.items }
-    ensures empty { maker.new.bytes.items ≡ [] }
+// Begins an attribute: room for its length and its word, at the place that is returned.
+#[inline(always)]
+pub(crate) fn begin(maker: &mut Maker<'_>) -> Result<usize, Stop>
+    ensures place { IfOk result (λ n. n ≡ length maker.old.bytes.items) }
+    ensures room { OnOk result (maker.new.bytes.items ≡ maker.old.bytes.items ++ (0 ∷ 0 ∷ 0 ∷ 0 ∷ [])) }
+    ensures memory { IfErr result (λ e. e ≡ OutOfMemory) }
 {
-    let empty = Vec::new(maker.alloc);
-    mem::replace(&mut maker.bytes, empty)
-}
-
-// Ends the value of an attribute.
-pub(crate) fn end<'v>(
-    maker: &mut Maker<'v>,
-    before: Vec<u8>,
-    word: u16,
-    value: &'v Value,
-) -> Result<(), MakeError>
-    ensures { Appended (framed (Some word) (Some maker.old.bytes.items) (view value.now)) before.items maker.new.bytes.items result }
-{
-    let payload = mem::replace(&mut maker.bytes, before);
-    let len = payload.len();
-    if len > 65531 {
-        return Err(maker.wrong(value, Wanted::Fitting));
-    }
-    put_frame(maker, word, &payload, value)
-}
-
-// Appends a frame.
-fn put_frame<'v>(
-    maker: &mut Maker<'v>,
-    word: u16,
-    payload: &[u8],
-    value: &'v Value,
-) -> Result<(), MakeError>
-    requires { length payload.now ≤ 65531 }
-    ensures { Appended (option_map (λ p. frame_bytes (record { word = word; value = payload.now; pad = p })) (pad_or payload.now (get (codes "pad") (view value.now)))) maker.old.bytes.items maker.new.bytes.items result }
-{
-    let len = payload.len();
-    match maker.put_little(len as u64 + 4, 2) {
-        Ok(()) => {}
-        Err(e) => return Err(e),
-    }
-    match maker.put_little(u64::from(word), 2) {
-        Ok(()) => {}
-        Err(e) => return Err(e),
-    }
-    match maker.put(payload) {
-        Ok(()) => put_pad(maker, payload, value),
+    let start = maker.bytes.len();
+    match maker.put(&[0, 0, 0, 0]) {
+        Ok(()) => Ok(start),
         Err(e) => Err(e),
     }
 }
 
-// Appends the padding that is told, or else zeros.
-fn put_pad<'v>(maker: &mut Maker<'v>, payload: &[u8], value: &'v Value) -> Result<(), MakeError>
-    requires { length payload.now ≤ 65531 }
-    ensures { Appended (pad_or payload.now (get (codes "pad") (view value.now))) maker.old.bytes.items maker.new.bytes.items result }
+// Ends an attribute that began at a place: its length and its word, and padding.
+pub(crate) fn end<'v>(
+    maker: &mut Maker<'v>,
+    start: usize,
+    word: u16,
+    name: &'static str,
+    value: &'v Value,
+    pad: Option<&'v Value>,
+) -> Result<(), Stop>
+    requires { start + 4 ≤ length maker.old.bytes.items }
+    ensures { Appended (framed_with word (drop (start + 4) maker.old.bytes.items) (option_map (λ p. view p.now) pad.entry)) (take start maker.old.bytes.items) maker.new.bytes.items result }
 {
-    match value.get("pad") {
-        Some(pad) => make_hex_at(maker, "pad", pad),
-        None => maker.put_zeros((4 - payload.len() % 4) % 4),
+    let len = maker.bytes.len() - start;
+    if len > 65535 {
+        return Err(maker.wrong_or_missing(value, name, Wanted::Fitting));
     }
+    patch(
+        maker,
+        start,
+        (len % 256) as u8,
+        (len / 256) as u8,
+        (word % 256) as u8,
+        (word / 256) as u8,
+    );
+    match pad {
+        Some(pad) => make_hex_at(maker, "pad", pad),
+        None => maker.put_zeros((4 - len % 4) % 4),
+    }
+}
+
+// Writes four bytes over those at a place.
+fn patch(maker: &mut Maker<'_>, start: usize, a: u8, b: u8, c: u8, d: u8)
+    requires { start + 4 ≤ length maker.old.bytes.items }
+    ensures { maker.new.bytes.items ≡ take start maker.old.bytes.items ++ (a ∷ b ∷ c ∷ d ∷ drop (start + 4) maker.old.bytes.items) }
+{
+    maker.bytes[start] = a;
+    maker.bytes[start + 1] = b;
+    maker.bytes[start + 2] = c;
+    maker.bytes[start + 3] = d;
 }

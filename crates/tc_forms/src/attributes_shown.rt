@@ -10,6 +10,7 @@ ghost use Rattle.tc_forms.specs.Places.{rows_under};
 ghost use Rattle.tc_forms.specs.RowLists.{rows_in};
 ghost use Rattle.tc_forms.specs.Sent.{Sent, events, items_events, members_events};
 
+use crate::events::{Stopped, begin_map, end_map, key, string, truth, unsigned};
 use crate::records::{is_blank, split};
 use crate::rows::{RowList, rows_under, type_of};
 use crate::tables::Tables;
@@ -102,7 +103,7 @@ pub(crate) fn rows_after<T: Tables>(
     }
 }
 
-// The first kind that a list tells.
+// The first kind in a list.
 pub(crate) fn own_kind(bytes: &[u8]) -> &str
     ensures { result.now ≡ own_kind (length bytes.now) bytes.now }
 {
@@ -125,13 +126,14 @@ pub(crate) fn send_tail<S: Serializer>(
     bytes: &[u8],
     alloc: Global,
     out: &mut S,
-) -> Result<(), S::Error>
+    error: &mut Option<S::Error>,
+) -> Result<(), Stopped>
     ensures { OnOk result (Sent (items_events (tail_shown bytes.now)) (S.written out.old) (S.written out.new)) }
 {
     if bytes.is_empty() {
         return Ok(());
     }
-    send_raw(bytes, alloc, out)
+    send_raw(bytes, alloc, out, error)
 }
 
 // A kind.
@@ -143,14 +145,15 @@ pub(crate) fn send_kind<S: Serializer>(
     pad: &[u8],
     alloc: Global,
     out: &mut S,
-) -> Result<(), S::Error>
+    error: &mut Option<S::Error>,
+) -> Result<(), Stopped>
     ensures { OnOk result (Sent (events (kind_shown (record { word = word; value = value.now; pad = pad.now }) kind.now)) (S.written out.old) (S.written out.new)) }
 {
-    out.begin_map(None)?;
-    out.key("Kind")?;
-    out.str(kind)?;
-    send_kind_told(word, value, pad, alloc, out)?;
-    out.end_map()
+    begin_map(out, error)?;
+    key("Kind", out, error)?;
+    string(kind, out, error)?;
+    send_kind_told(word, value, pad, alloc, out, error)?;
+    end_map(out, error)
 }
 
 // That no NUL ends a kind, its word, and its padding.
@@ -160,15 +163,16 @@ fn send_kind_told<S: Serializer>(
     pad: &[u8],
     alloc: Global,
     out: &mut S,
-) -> Result<(), S::Error>
+    error: &mut Option<S::Error>,
+) -> Result<(), Stopped>
     ensures { OnOk result (Sent (members_events (bare_told value.now (told 1 (record { word = word; value = value.now; pad = pad.now })))) (S.written out.old) (S.written out.new)) }
 {
     if ends_in_nul(value) {
-        return send_told(1, word, value, pad, alloc, out);
+        return send_told(1, word, value, pad, alloc, out, error);
     }
-    out.key("bare")?;
-    out.bool(true)?;
-    send_told(1, word, value, pad, alloc, out)
+    key("bare", out, error)?;
+    truth(true, out, error)?;
+    send_told(1, word, value, pad, alloc, out, error)
 }
 
 // True where the last byte is a NUL.
@@ -187,15 +191,16 @@ pub(crate) fn send_told<S: Serializer>(
     pad: &[u8],
     alloc: Global,
     out: &mut S,
-) -> Result<(), S::Error>
+    error: &mut Option<S::Error>,
+) -> Result<(), Stopped>
     ensures { OnOk result (Sent (members_events (told wanted (record { word = word; value = value.now; pad = pad.now }))) (S.written out.old) (S.written out.new)) }
 {
     if word == wanted {
-        return send_pad(word, value, pad, alloc, out);
+        return send_pad(word, value, pad, alloc, out, error);
     }
-    out.key("word")?;
-    out.u64(u64::from(word))?;
-    send_pad(word, value, pad, alloc, out)
+    key("word", out, error)?;
+    unsigned(u64::from(word), out, error)?;
+    send_pad(word, value, pad, alloc, out, error)
 }
 
 #[inline(always)]
@@ -205,14 +210,15 @@ pub(crate) fn send_pad<S: Serializer>(
     pad: &[u8],
     alloc: Global,
     out: &mut S,
-) -> Result<(), S::Error>
+    error: &mut Option<S::Error>,
+) -> Result<(), Stopped>
     ensures { OnOk result (Sent (members_events (pad_told (record { word = word; value = value.now; pad = pad.now }))) (S.written out.old) (S.written out.new)) }
 {
     if is_blank(Some((4 - value.len() % 4) % 4), pad) {
         return Ok(());
     }
-    out.key("pad")?;
-    send_hex(pad, alloc, out)
+    key("pad", out, error)?;
+    send_hex(pad, alloc, out, error)
 }
 
 // An attribute that no row has.
@@ -223,14 +229,15 @@ pub(crate) fn send_other<S: Serializer>(
     pad: &[u8],
     alloc: Global,
     out: &mut S,
-) -> Result<(), S::Error>
+    error: &mut Option<S::Error>,
+) -> Result<(), Stopped>
     ensures { OnOk result (Sent (events (other (record { word = word; value = value.now; pad = pad.now }))) (S.written out.old) (S.written out.new)) }
 {
-    out.begin_map(None)?;
-    out.key("Other")?;
-    send_word_and_hex(word, value, pad, alloc, out)?;
-    send_pad(word, value, pad, alloc, out)?;
-    out.end_map()
+    begin_map(out, error)?;
+    key("Other", out, error)?;
+    send_word_and_hex(word, value, pad, alloc, out, error)?;
+    send_pad(word, value, pad, alloc, out, error)?;
+    end_map(out, error)
 }
 
 fn send_word_and_hex<S: Serializer>(
@@ -239,26 +246,35 @@ fn send_word_and_hex<S: Serializer>(
     pad: &[u8],
     alloc: Global,
     out: &mut S,
-) -> Result<(), S::Error>
+    error: &mut Option<S::Error>,
+) -> Result<(), Stopped>
     ensures { OnOk result (Sent (events (word_and_hex (record { word = word; value = value.now; pad = pad.now }))) (S.written out.old) (S.written out.new)) }
 {
-    out.begin_map(None)?;
-    send_word(word, out)?;
-    out.key("value")?;
-    send_hex(value, alloc, out)?;
-    out.end_map()
+    begin_map(out, error)?;
+    send_word(word, out, error)?;
+    key("value", out, error)?;
+    send_hex(value, alloc, out, error)?;
+    end_map(out, error)
 }
 
-fn send_word<S: Serializer>(word: u16, out: &mut S) -> Result<(), S::Error>
+fn send_word<S: Serializer>(
+    word: u16,
+    out: &mut S,
+    error: &mut Option<S::Error>,
+) -> Result<(), Stopped>
     ensures { OnOk result (Sent (members_events (member (codes "word") (number (unsigned word)) no_members)) (S.written out.old) (S.written out.new)) }
 {
-    out.key("word")?;
-    out.u64(u64::from(word))
+    key("word", out, error)?;
+    unsigned(u64::from(word), out, error)
 }
 
-pub(crate) fn send_tab<S: Serializer>(word: u16, out: &mut S) -> Result<(), S::Error>
+pub(crate) fn send_tab<S: Serializer>(
+    word: u16,
+    out: &mut S,
+    error: &mut Option<S::Error>,
+) -> Result<(), Stopped>
     ensures { OnOk result (Sent (members_events (member (codes "tab") (number (unsigned word)) no_members)) (S.written out.old) (S.written out.new)) }
 {
-    out.key("tab")?;
-    out.u64(u64::from(word))
+    key("tab", out, error)?;
+    unsigned(u64::from(word), out, error)
 }

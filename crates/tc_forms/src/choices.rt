@@ -8,6 +8,7 @@ ghost use Rattle.tc_forms.specs.Search.{first, held};
 ghost use Rattle.tc_forms.specs.Sent.{Sent, events};
 ghost use Rattle.tc_forms.specs.Tables.{choice_view, choices_view};
 
+use crate::events::{Stopped, begin_map, end_map, key};
 use crate::form::Choice;
 use crate::rows::{is_reserved, is_same};
 use crate::values_shown::send_hex;
@@ -98,13 +99,14 @@ pub(crate) fn send_unknown<S: Serializer>(
     bytes: &[u8],
     alloc: Global,
     out: &mut S,
-) -> Result<(), S::Error>
+    error: &mut Option<S::Error>,
+) -> Result<(), Stopped>
     ensures { OnOk result (Sent (events (one (codes "Other") (hex bytes.now))) (S.written out.old) (S.written out.new)) }
 {
-    out.begin_map(None)?;
-    out.key("Other")?;
-    send_hex(bytes, alloc, out)?;
-    out.end_map()
+    begin_map(out, error)?;
+    key("Other", out, error)?;
+    send_hex(bytes, alloc, out, error)?;
+    end_map(out, error)
 }
 
 // The first choice whose name has a member.

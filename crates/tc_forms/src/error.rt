@@ -3,6 +3,7 @@
 ghost use Rattle.std.specs.Prelude.{◌≡◌};
 ghost use Rattle.tc_forms.specs.declared.error.MakeError.TheVariants.{OutOfMemory};
 
+use crate::form::{Choice, Name};
 use std::alloc::AllocError;
 use std::error::Error;
 use std::fmt;
@@ -12,9 +13,11 @@ use std::fmt;
 pub enum Wanted {
     /// Bytes in `{"raw":".."}`: forms don't nest so deep.
     Raw,
-    /// An object with a member that names a choice.
-    Variant,
-    /// An object with the member of this name.
+    /// An object.
+    Object,
+    /// An object with a member that names one of these choices.
+    Variant(&'static [Choice<'static>]),
+    /// The member of this name.
     Name(&'static str),
     /// The name of an attribute of the table.
     Attribute,
@@ -29,8 +32,8 @@ pub enum Wanted {
         /// The most.
         most: u64,
     },
-    /// The name of a number, or `{"Other":n}`.
-    NamedNumber,
+    /// The name of a number among these, or `{"Other":n}`.
+    NamedNumber(&'static [Name<'static>]),
     /// `true` or `false`.
     Bool,
     /// `true`.
@@ -58,7 +61,9 @@ pub enum Wanted {
 impl fmt::Display for Wanted {
     fn fmt<W: fmt::Write>(&self, f: &mut fmt::Formatter<W>) -> fmt::Result {
         match self {
-            Wanted::Name(name) => write!(f, "an object with \"{name}\""),
+            Wanted::Name(name) => write!(f, "the name \"{name}\""),
+            Wanted::Variant(choices) => write_choices(choices, f),
+            Wanted::NamedNumber(names) => write_names(names, f),
             Wanted::Number { least, most } => write!(f, "a number from {least} to {most}"),
             Wanted::HexOf(len) => write!(f, "{len} bytes in lower-case hex"),
             _ => f.write_str(self.text()),
@@ -71,13 +76,13 @@ impl Wanted {
     fn text(&self) -> &'static str {
         match self {
             Wanted::Raw => "bytes in {\"raw\":\"..\"}",
-            Wanted::Variant => "an object that names a choice",
-            Wanted::Name(_) => "an object with a name",
+            Wanted::Object => "an object",
+            Wanted::Variant(_) | Wanted::Name(_) => "a name",
             Wanted::Attribute => "the name of an attribute of the table",
             Wanted::Member => "a member of this name",
             Wanted::List => "a list",
             Wanted::Number { .. } => "a number",
-            Wanted::NamedNumber => "the name of a number, or {\"Other\":n}",
+            Wanted::NamedNumber(_) => "the name of a number",
             Wanted::Bool => "true or false",
             Wanted::True => "true",
             Wanted::Text => "a text",
@@ -90,6 +95,24 @@ impl Wanted {
             Wanted::Fitting => "a value that is written as at most 65531 bytes",
         }
     }
+}
+
+fn write_names<W: fmt::Write>(names: &[Name<'_>], f: &mut fmt::Formatter<W>) -> fmt::Result {
+    f.write_str("the name of a number, or {\"Other\":n}")?;
+    for (place, name) in names.iter().enumerate() {
+        f.write_str(if place == 0 { ": " } else { ", " })?;
+        f.write_str(name.name)?;
+    }
+    Ok(())
+}
+
+fn write_choices<W: fmt::Write>(choices: &[Choice<'_>], f: &mut fmt::Formatter<W>) -> fmt::Result {
+    f.write_str("the name of a choice, or {\"Other\":\"..\"}")?;
+    for (place, choice) in choices.iter().enumerate() {
+        f.write_str(if place == 0 { ": " } else { ", " })?;
+        f.write_str(choice.name)?;
+    }
+    Ok(())
 }
 
 /// Why no bytes are made.

@@ -21,6 +21,7 @@ mod attributes_made;
 mod attributes_shown;
 mod choices;
 mod error;
+mod events;
 mod form;
 mod laws;
 mod make;

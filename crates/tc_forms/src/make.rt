@@ -2,32 +2,32 @@
 
 ghost use Rattle.serde_json.specs.Find.{as_array, get};
 ghost use Rattle.serde_json.specs.View.{items_view, view};
-ghost use Rattle.std.specs.Prelude.{codes, false, option_and_then, true};
+ghost use Rattle.std.specs.Prelude.{codes, false, option_and_then, option_map, true, ◌≡◌};
 ghost use Rattle.tc_forms.specs.Appended.{Appended, Found};
-ghost use Rattle.tc_forms.specs.AttributesMade.{attribute_made, by_row_made, each_under, framed, indexed_made, kinded_made, layered_by, layered_made, row_made, word_made, word_or};
+ghost use Rattle.tc_forms.specs.AttributesMade.{attribute_made, by_row_made, each_under, framed, framed_with, indexed_made, kinded_made, layered_by, layered_made, row_made, word_made, word_or};
 ghost use Rattle.tc_forms.specs.Choices.{by_choice_made, choice_made, is_choice};
 ghost use Rattle.tc_forms.specs.Kinds.{own_told};
 ghost use Rattle.tc_forms.specs.Made.{made_of, make};
-ghost use Rattle.tc_forms.specs.Raw.{or_raw, raw_of};
+ghost use Rattle.tc_forms.specs.Raw.{one, or_raw, raw_of};
 ghost use Rattle.tc_forms.specs.Records.{each_made, field_made, fields_made};
 ghost use Rattle.tc_forms.specs.RowLists.{rows_in};
-ghost use Rattle.tc_forms.specs.Rows.{counts};
+ghost use Rattle.tc_forms.specs.Rows.{counts, is_reserved};
 ghost use Rattle.tc_forms.specs.Search.{held};
 ghost use Rattle.tc_forms.specs.Tables.{choices_view, field_view, fields_view};
 
 use crate::attributes_made::{
-    begin, end, kind_behind, kind_told, make_kind, make_other, own_told, rows_behind, unlayered,
-    word_at, word_or,
+    begin, end, kind_behind, kind_told, make_kind, make_other, named_member, no_row, own_told,
+    rows_behind, unlayered, word_at, word_or,
 };
 use crate::choices::choice_held;
 use crate::error::{MakeError, Wanted};
 use crate::form::{Choice, Field, Form, Row};
-use crate::maker::{Maker, Step};
+use crate::maker::{Maker, Step, Stop};
 use crate::places::{choices_at, fields_at, form_at, layer_at};
 use crate::records::{make_blank, make_rest};
-use crate::rows::{RowList, row_held_in, rows_under};
+use crate::rows::{RowList, is_same, row_held_in, row_of_name_in, rows_under};
 use crate::tables::Tables;
-use crate::values_made::{make_hex, make_plain, raw_of};
+use crate::values_made::{make_hex_at, make_plain, raw_of};
 use crate::widths::DEEPEST;
 use serde_json::Value;
 use std::alloc::Global;
@@ -45,7 +45,8 @@ pub fn made<T: Tables>(
     let mut maker = Maker::new(alloc);
     match make_form(&mut maker, table, DEEPEST, "", form, json) {
         Ok(()) => Ok(maker.bytes),
-        Err(e) => Err(e),
+        Err(Stop::OutOfMemory) => Err(MakeError::OutOfMemory),
+        Err(Stop::Wrong) => Err(maker.into_error()),
     }
 }
 
@@ -58,19 +59,19 @@ fn make_form<'v, T: Tables>(
     kind: &'v str,
     form: Form,
     value: &'v Value,
-) -> Result<(), MakeError>
+) -> Result<(), Stop>
     ensures { Appended (make (T.parts_of table) depth kind.now form (view value.now)) maker.old.bytes.items maker.new.bytes.items result }
 {
     let raw = match raw_of(maker.alloc, value) {
         Ok(raw) => raw,
-        Err(_) => return Err(MakeError::OutOfMemory),
+        Err(_) => return Err(Stop::OutOfMemory),
     };
     if let Some(bytes) = raw {
         return maker.put(&bytes);
     }
     let inner = match depth.checked_sub(1) {
         Some(inner) => inner,
-        None => return Err(maker.wrong(value, Wanted::Raw)),
+        None => return Err(maker.unfit(value, Wanted::Raw)),
     };
     match form {
         Form::Record(place) => make_fields(
@@ -119,9 +120,9 @@ fn make_fields<'v, T: Tables>(
     table: T,
     depth: u8,
     kind: &'v str,
-    fields: &[Field<'v>],
+    fields: &'static [Field<'static>],
     value: &'v Value,
-) -> Result<(), MakeError>
+) -> Result<(), Stop>
     ensures { Appended (fields_made (T.parts_of table) (make (T.parts_of table) depth kind.now) (fields_view fields.now) (view value.now)) maker.old.bytes.items maker.new.bytes.items result }
 {
     for field in fields.iter() {
@@ -139,25 +140,21 @@ fn make_field<'v, T: Tables>(
     table: T,
     depth: u8,
     kind: &'v str,
-    field: &Field<'v>,
+    field: &Field<'static>,
     value: &'v Value,
-) -> Result<(), MakeError>
+) -> Result<(), Stop>
     ensures { Appended (field_made (T.parts_of table) (make (T.parts_of table) depth kind.now) (field_view field.now) (get field.now.name.now (view value.now))) maker.old.bytes.items maker.new.bytes.items result }
 {
-    match maker.enter(Step::Member(field.name)) {
-        Ok(()) => {}
-        Err(e) => return Err(e),
-    }
     let held = match value.get(field.name) {
         Some(held) => held,
-        None => return make_blank(maker, table, field),
+        None => return make_blank(maker, table, field, value),
     };
     match make_form(maker, table, depth, kind, field.form, held) {
-        Ok(()) => {
-            maker.leave();
-            Ok(())
+        Ok(()) => Ok(()),
+        Err(e) => {
+            maker.at(Step::Member(field.name));
+            Err(e)
         }
-        Err(e) => Err(e),
     }
 }
 
@@ -169,12 +166,12 @@ fn make_elements<'v, T: Tables>(
     kind: &'v str,
     form: Form,
     value: &'v Value,
-) -> Result<(), MakeError>
+) -> Result<(), Stop>
     ensures { Appended (option_and_then (each_made (make (T.parts_of table) depth kind.now form)) (as_array (view value.now))) maker.old.bytes.items maker.new.bytes.items result }
 {
     let items = match value.as_array() {
         Some(items) => items,
-        None => return Err(maker.wrong(value, Wanted::List)),
+        None => return Err(maker.unfit(value, Wanted::List)),
     };
     make_each_of_elements(maker, table, depth, kind, form, items.as_slice())
 }
@@ -187,7 +184,7 @@ fn make_each_of_elements<'v, T: Tables>(
     kind: &'v str,
     form: Form,
     items: &'v [Value],
-) -> Result<(), MakeError>
+) -> Result<(), Stop>
     ensures { Appended (each_made (make (T.parts_of table) depth kind.now form) (items_view items.now)) maker.old.bytes.items maker.new.bytes.items result }
 {
     for (place, item) in items.iter().enumerate() {
@@ -208,19 +205,15 @@ fn make_element<'v, T: Tables>(
     form: Form,
     place: usize,
     value: &'v Value,
-) -> Result<(), MakeError>
+) -> Result<(), Stop>
     ensures { Appended (make (T.parts_of table) depth kind.now form (view value.now)) maker.old.bytes.items maker.new.bytes.items result }
 {
-    match maker.enter(Step::Item(place)) {
-        Ok(()) => {}
-        Err(e) => return Err(e),
-    }
     match make_form(maker, table, depth, kind, form, value) {
-        Ok(()) => {
-            maker.leave();
-            Ok(())
+        Ok(()) => Ok(()),
+        Err(e) => {
+            maker.at(Step::Item(place));
+            Err(e)
         }
-        Err(e) => Err(e),
     }
 }
 
@@ -232,12 +225,12 @@ fn make_list<'v, T: Tables>(
     kind: &'v str,
     place: usize,
     value: &'v Value,
-) -> Result<(), MakeError>
+) -> Result<(), Stop>
     ensures { Appended (option_and_then (each_under (layered_made (T.parts_of table) (make (T.parts_of table) depth) place) false kind.now) (as_array (view value.now))) maker.old.bytes.items maker.new.bytes.items result }
 {
     let items = match value.as_array() {
         Some(items) => items,
-        None => return Err(maker.wrong(value, Wanted::List)),
+        None => return Err(maker.unfit(value, Wanted::List)),
     };
     let layer = layer_at(table, place);
     let rows = rows_under(table, place, kind);
@@ -263,7 +256,7 @@ fn make_each_of_list<'v, T: Tables>(
     layer: &'static str,
     rows: &RowList<'static>,
     items: &'v [Value],
-) -> Result<(), MakeError>
+) -> Result<(), Stop>
     ensures { Appended (each_under (layered_by (make (T.parts_of table) depth) (rows_in rows.now) has layer.now) false kind.now (items_view items.now)) maker.old.bytes.items maker.new.bytes.items result }
 {
     for (place, item) in items.iter().enumerate() {
@@ -275,6 +268,7 @@ fn make_each_of_list<'v, T: Tables>(
     Ok(())
 }
 
+// An item of a list, at a place of it.
 #[cycle(make)]
 fn make_item<'v, T: Tables>(
     maker: &mut Maker<'v>,
@@ -286,31 +280,106 @@ fn make_item<'v, T: Tables>(
     rows: &RowList<'static>,
     place: usize,
     value: &'v Value,
-) -> Result<(), MakeError>
+) -> Result<(), Stop>
     ensures { Appended (or_raw (raw_of (view value.now)) (layered_by (make (T.parts_of table) depth) (rows_in rows.now) has layer.now kind.now (view value.now))) maker.old.bytes.items maker.new.bytes.items result }
 {
-    match maker.enter(Step::Layered(place, layer)) {
-        Ok(()) => {}
-        Err(e) => return Err(e),
+    match make_layered(maker, table, depth, kind, has, layer, rows, value) {
+        Ok(()) => Ok(()),
+        Err(e) => {
+            maker.at(Step::Item(place));
+            Err(e)
+        }
     }
+}
+
+// An attribute in its layer, or raw bytes.
+#[cycle(make)]
+fn make_layered<'v, T: Tables>(
+    maker: &mut Maker<'v>,
+    table: T,
+    depth: u8,
+    kind: &'v str,
+    has: bool,
+    layer: &'static str,
+    rows: &RowList<'static>,
+    value: &'v Value,
+) -> Result<(), Stop>
+    ensures { Appended (or_raw (raw_of (view value.now)) (layered_by (make (T.parts_of table) depth) (rows_in rows.now) has layer.now kind.now (view value.now))) maker.old.bytes.items maker.new.bytes.items result }
+{
+    match named_member(value) {
+        Some((name, held)) => make_named_layer(
+            maker, table, depth, kind, has, layer, rows, name, held, value,
+        ),
+        None => make_any_layered(maker, table, depth, kind, has, layer, rows, value),
+    }
+}
+
+// The same of an object with one member.
+#[cycle(make)]
+fn make_named_layer<'v, T: Tables>(
+    maker: &mut Maker<'v>,
+    table: T,
+    depth: u8,
+    kind: &'v str,
+    has: bool,
+    layer: &'static str,
+    rows: &RowList<'static>,
+    name: &'v str,
+    held: &'v Value,
+    value: &'v Value,
+) -> Result<(), Stop>
+    requires only { view value.now ≡ one name.now (view held.now) }
+    requires free { is_reserved name.now ≡ false }
+    ensures { Appended (or_raw (raw_of (view value.now)) (layered_by (make (T.parts_of table) depth) (rows_in rows.now) has layer.now kind.now (view value.now))) maker.old.bytes.items maker.new.bytes.items result }
+{
+    if layer.is_empty() {
+        return make_by_name(maker, table, depth, kind, has, rows, name, held, value);
+    }
+    if !is_same(layer, name) {
+        return Err(maker.unknown(value, Wanted::Name(layer)));
+    }
+    match make_attribute(maker, table, depth, kind, has, rows, held) {
+        Ok(()) => Ok(()),
+        Err(e) => {
+            maker.at(Step::Member(layer));
+            Err(e)
+        }
+    }
+}
+
+// The same of any other value.
+#[cycle(make)]
+fn make_any_layered<'v, T: Tables>(
+    maker: &mut Maker<'v>,
+    table: T,
+    depth: u8,
+    kind: &'v str,
+    has: bool,
+    layer: &'static str,
+    rows: &RowList<'static>,
+    value: &'v Value,
+) -> Result<(), Stop>
+    ensures { Appended (or_raw (raw_of (view value.now)) (layered_by (make (T.parts_of table) depth) (rows_in rows.now) has layer.now kind.now (view value.now))) maker.old.bytes.items maker.new.bytes.items result }
+{
     let raw = match raw_of(maker.alloc, value) {
         Ok(raw) => raw,
-        Err(_) => return Err(MakeError::OutOfMemory),
+        Err(_) => return Err(Stop::OutOfMemory),
     };
     if let Some(bytes) = raw {
-        maker.leave();
         return maker.put(&bytes);
     }
     let held = match unlayered(layer, value) {
         Some(held) => held,
-        None => return Err(maker.missing()),
+        None => return Err(maker.unknown(value, Wanted::Name(layer))),
     };
     match make_attribute(maker, table, depth, kind, has, rows, held) {
-        Ok(()) => {
-            maker.leave();
-            Ok(())
+        Ok(()) => Ok(()),
+        Err(e) => {
+            if !layer.is_empty() {
+                maker.at(Step::Member(layer));
+            }
+            Err(e)
         }
-        Err(e) => Err(e),
     }
 }
 
@@ -322,12 +391,12 @@ fn make_in_force<'v, T: Tables>(
     kind: &'v str,
     list: usize,
     value: &'v Value,
-) -> Result<(), MakeError>
+) -> Result<(), Stop>
     ensures { Appended (option_and_then (each_under (kinded_made (T.parts_of table) (make (T.parts_of table) depth) list) true kind.now) (as_array (view value.now))) maker.old.bytes.items maker.new.bytes.items result }
 {
     let items = match value.as_array() {
         Some(items) => items,
-        None => return Err(maker.wrong(value, Wanted::List)),
+        None => return Err(maker.unfit(value, Wanted::List)),
     };
     make_each_of_kinded(maker, table, depth, kind, list, items.as_slice())
 }
@@ -339,12 +408,12 @@ fn make_own<'v, T: Tables>(
     depth: u8,
     list: usize,
     value: &'v Value,
-) -> Result<(), MakeError>
+) -> Result<(), Stop>
     ensures { Appended (option_and_then (λ ds. each_under (kinded_made (T.parts_of table) (make (T.parts_of table) depth) list) false (own_told ds) ds) (as_array (view value.now))) maker.old.bytes.items maker.new.bytes.items result }
 {
     let items = match value.as_array() {
         Some(items) => items,
-        None => return Err(maker.wrong(value, Wanted::List)),
+        None => return Err(maker.unfit(value, Wanted::List)),
     };
     let all = items.as_slice();
     let kind = own_told(all);
@@ -360,7 +429,7 @@ fn make_each_of_kinded<'v, T: Tables>(
     kind: &'v str,
     list: usize,
     items: &'v [Value],
-) -> Result<(), MakeError>
+) -> Result<(), Stop>
     ensures { Appended (each_under (kinded_made (T.parts_of table) (make (T.parts_of table) depth) list) true kind.now (items_view items.now)) maker.old.bytes.items maker.new.bytes.items result }
 {
     let mut so_far = kind;
@@ -385,28 +454,37 @@ fn make_kinded<'v, T: Tables>(
     rows: &RowList<'static>,
     place: usize,
     value: &'v Value,
-) -> Result<(), MakeError>
+) -> Result<(), Stop>
     ensures { Appended (or_raw (raw_of (view value.now)) (attribute_made (make (T.parts_of table) depth) (rows_in rows.now) true kind.now (view value.now))) maker.old.bytes.items maker.new.bytes.items result }
 {
-    match maker.enter(Step::Item(place)) {
-        Ok(()) => {}
-        Err(e) => return Err(e),
+    match make_raw_or_kinded(maker, table, depth, kind, rows, value) {
+        Ok(()) => Ok(()),
+        Err(e) => {
+            maker.at(Step::Item(place));
+            Err(e)
+        }
     }
+}
+
+#[cycle(make)]
+fn make_raw_or_kinded<'v, T: Tables>(
+    maker: &mut Maker<'v>,
+    table: T,
+    depth: u8,
+    kind: &'v str,
+    rows: &RowList<'static>,
+    value: &'v Value,
+) -> Result<(), Stop>
+    ensures { Appended (or_raw (raw_of (view value.now)) (attribute_made (make (T.parts_of table) depth) (rows_in rows.now) true kind.now (view value.now))) maker.old.bytes.items maker.new.bytes.items result }
+{
     let raw = match raw_of(maker.alloc, value) {
         Ok(raw) => raw,
-        Err(_) => return Err(MakeError::OutOfMemory),
+        Err(_) => return Err(Stop::OutOfMemory),
     };
     if let Some(bytes) = raw {
-        maker.leave();
         return maker.put(&bytes);
     }
-    match make_attribute(maker, table, depth, kind, true, rows, value) {
-        Ok(()) => {
-            maker.leave();
-            Ok(())
-        }
-        Err(e) => Err(e),
-    }
+    make_attribute(maker, table, depth, kind, true, rows, value)
 }
 
 #[cycle(make)]
@@ -418,12 +496,85 @@ fn make_attribute<'v, T: Tables>(
     has: bool,
     rows: &RowList<'static>,
     value: &'v Value,
-) -> Result<(), MakeError>
+) -> Result<(), Stop>
+    ensures { Appended (attribute_made (make (T.parts_of table) depth) (rows_in rows.now) has kind.now (view value.now)) maker.old.bytes.items maker.new.bytes.items result }
+{
+    match named_member(value) {
+        Some((name, held)) => make_by_name(maker, table, depth, kind, has, rows, name, held, value),
+        None => make_any_attribute(maker, table, depth, kind, has, rows, value),
+    }
+}
+
+// An attribute that is an object of one member.
+#[cycle(make)]
+fn make_by_name<'v, T: Tables>(
+    maker: &mut Maker<'v>,
+    table: T,
+    depth: u8,
+    kind: &'v str,
+    has: bool,
+    rows: &RowList<'static>,
+    name: &'v str,
+    held: &'v Value,
+    value: &'v Value,
+) -> Result<(), Stop>
+    requires only { view value.now ≡ one name.now (view held.now) }
+    requires free { is_reserved name.now ≡ false }
+    ensures { Appended (attribute_made (make (T.parts_of table) depth) (rows_in rows.now) has kind.now (view value.now)) maker.old.bytes.items maker.new.bytes.items result }
+{
+    match row_of_name_in(rows, name) {
+        Some(row) => make_value(
+            maker, table, depth, kind, row.word, row.form, row.name, held, value, None,
+        ),
+        None => Err(maker.unknown(value, Wanted::Attribute)),
+    }
+}
+
+// An attribute of this word, whose value is of this form.
+#[cycle(make)]
+fn make_value<'v, T: Tables>(
+    maker: &mut Maker<'v>,
+    table: T,
+    depth: u8,
+    kind: &'v str,
+    word: u16,
+    form: Form,
+    name: &'static str,
+    held: &'v Value,
+    value: &'v Value,
+    pad: Option<&'v Value>,
+) -> Result<(), Stop>
+    ensures { Appended (option_and_then (λ v. framed_with word v (option_map (λ p. view p.now) pad.entry)) (make (T.parts_of table) depth kind.now form (view held.now))) maker.old.bytes.items maker.new.bytes.items result }
+{
+    let start = match begin(maker) {
+        Ok(start) => start,
+        Err(e) => return Err(e),
+    };
+    match make_form(maker, table, depth, kind, form, held) {
+        Ok(()) => end(maker, start, word, name, value, pad),
+        Err(e) => {
+            maker.at(Step::Member(name));
+            Err(e)
+        }
+    }
+}
+
+// Any other attribute.
+#[cycle(make)]
+fn make_any_attribute<'v, T: Tables>(
+    maker: &mut Maker<'v>,
+    table: T,
+    depth: u8,
+    kind: &'v str,
+    has: bool,
+    rows: &RowList<'static>,
+    value: &'v Value,
+) -> Result<(), Stop>
     ensures { Appended (attribute_made (make (T.parts_of table) depth) (rows_in rows.now) has kind.now (view value.now)) maker.old.bytes.items maker.new.bytes.items result }
 {
     match kind_told(has, value) {
         Some(told) => make_kind(maker, told, value),
-        None => make_by_row(maker, table, depth, kind, rows, value),
+        None => make_by_row(maker, table, depth, kind, has, rows, value),
     }
 }
 
@@ -433,14 +584,15 @@ fn make_by_row<'v, T: Tables>(
     table: T,
     depth: u8,
     kind: &'v str,
+    has: bool,
     rows: &RowList<'static>,
     value: &'v Value,
-) -> Result<(), MakeError>
+) -> Result<(), Stop>
     ensures { Appended (by_row_made (make (T.parts_of table) depth) (rows_in rows.now) true kind.now (view value.now) (get (codes "Other") (view value.now))) maker.old.bytes.items maker.new.bytes.items result }
 {
     match value.get("Other") {
         Some(other) => make_other(maker, other, value),
-        None => make_row(maker, table, depth, kind, rows, value),
+        None => make_row(maker, table, depth, kind, has, rows, value),
     }
 }
 
@@ -450,14 +602,15 @@ fn make_row<'v, T: Tables>(
     table: T,
     depth: u8,
     kind: &'v str,
+    has: bool,
     rows: &RowList<'static>,
     value: &'v Value,
-) -> Result<(), MakeError>
+) -> Result<(), Stop>
     ensures { Appended (row_made (make (T.parts_of table) depth) (rows_in rows.now) true kind.now (view value.now) (held (λ r. r.name) counts (rows_in rows.now) (view value.now))) maker.old.bytes.items maker.new.bytes.items result }
 {
     match row_held_in(rows, value) {
         Some((row, held)) => make_held(maker, table, depth, kind, row, held, value),
-        None => Err(maker.unknown(value)),
+        None => Err(no_row(maker, has, value)),
     }
 }
 
@@ -467,28 +620,28 @@ fn make_held<'v, T: Tables>(
     table: T,
     depth: u8,
     kind: &'v str,
-    row: Row<'v>,
+    row: Row<'static>,
     held: &'v Value,
     value: &'v Value,
-) -> Result<(), MakeError>
+) -> Result<(), Stop>
     ensures { Appended (framed (word_or row.entry.word (get (codes "word") (view value.now))) (make (T.parts_of table) depth kind.now row.entry.form (view held.now)) (view value.now)) maker.old.bytes.items maker.new.bytes.items result }
 {
     let word = match word_or(row.word, value) {
         Some(word) => word,
-        None => return Err(maker.wrong_member(value, "word", Wanted::Word)),
+        None => return Err(maker.wrong_or_missing(value, "word", Wanted::Word)),
     };
-    match maker.enter(Step::Member(row.name)) {
-        Ok(()) => {}
-        Err(e) => return Err(e),
-    }
-    let before = begin(maker);
-    match make_form(maker, table, depth, kind, row.form, held) {
-        Ok(()) => {
-            maker.leave();
-            end(maker, before, word, value)
-        }
-        Err(e) => Err(e),
-    }
+    make_value(
+        maker,
+        table,
+        depth,
+        kind,
+        word,
+        row.form,
+        row.name,
+        held,
+        value,
+        value.get("pad"),
+    )
 }
 
 #[cycle(make)]
@@ -499,12 +652,12 @@ fn make_indexed<'v, T: Tables>(
     kind: &'v str,
     place: usize,
     value: &'v Value,
-) -> Result<(), MakeError>
+) -> Result<(), Stop>
     ensures { Appended (option_and_then (each_under (indexed_made (T.parts_of table) (make (T.parts_of table) depth) place) false kind.now) (as_array (view value.now))) maker.old.bytes.items maker.new.bytes.items result }
 {
     let items = match value.as_array() {
         Some(items) => items,
-        None => return Err(maker.wrong(value, Wanted::List)),
+        None => return Err(maker.unfit(value, Wanted::List)),
     };
     make_each_of_indexed(maker, table, depth, kind, place, items.as_slice())
 }
@@ -517,7 +670,7 @@ fn make_each_of_indexed<'v, T: Tables>(
     kind: &'v str,
     list: usize,
     items: &'v [Value],
-) -> Result<(), MakeError>
+) -> Result<(), Stop>
     ensures { Appended (each_under (indexed_made (T.parts_of table) (make (T.parts_of table) depth) list) false kind.now (items_view items.now)) maker.old.bytes.items maker.new.bytes.items result }
 {
     for (place, item) in items.iter().enumerate() {
@@ -538,19 +691,34 @@ fn make_one_indexed<'v, T: Tables>(
     list: usize,
     place: usize,
     value: &'v Value,
-) -> Result<(), MakeError>
+) -> Result<(), Stop>
     ensures { Appended (or_raw (raw_of (view value.now)) (indexed_made (T.parts_of table) (make (T.parts_of table) depth) list kind.now (view value.now))) maker.old.bytes.items maker.new.bytes.items result }
 {
-    match maker.enter(Step::Item(place)) {
-        Ok(()) => {}
-        Err(e) => return Err(e),
+    match make_raw_or_framed(maker, table, depth, kind, list, value) {
+        Ok(()) => Ok(()),
+        Err(e) => {
+            maker.at(Step::Item(place));
+            Err(e)
+        }
     }
+}
+
+#[cycle(make)]
+fn make_raw_or_framed<'v, T: Tables>(
+    maker: &mut Maker<'v>,
+    table: T,
+    depth: u8,
+    kind: &'v str,
+    list: usize,
+    value: &'v Value,
+) -> Result<(), Stop>
+    ensures { Appended (or_raw (raw_of (view value.now)) (indexed_made (T.parts_of table) (make (T.parts_of table) depth) list kind.now (view value.now))) maker.old.bytes.items maker.new.bytes.items result }
+{
     let raw = match raw_of(maker.alloc, value) {
         Ok(raw) => raw,
-        Err(_) => return Err(MakeError::OutOfMemory),
+        Err(_) => return Err(Stop::OutOfMemory),
     };
     if let Some(bytes) = raw {
-        maker.leave();
         return maker.put(&bytes);
     }
     make_framed(maker, table, depth, kind, form_at(table, list), value)
@@ -564,23 +732,29 @@ fn make_framed<'v, T: Tables>(
     kind: &'v str,
     form: Form,
     value: &'v Value,
-) -> Result<(), MakeError>
+) -> Result<(), Stop>
     ensures { Appended (framed (option_and_then word_made (get (codes "tab") (view value.now))) (option_and_then (make (T.parts_of table) depth kind.now form) (get (codes "attributes") (view value.now))) (view value.now)) maker.old.bytes.items maker.new.bytes.items result }
 {
     let word = match word_at(value, "tab") {
         Some(word) => word,
-        None => return Err(maker.wrong_member(value, "tab", Wanted::Word)),
+        None => return Err(maker.wrong_or_missing(value, "tab", Wanted::Word)),
     };
     let held = match value.get("attributes") {
         Some(held) => held,
-        None => return Err(maker.wrong_member(value, "attributes", Wanted::Member)),
+        None => return Err(maker.missing(value, "attributes")),
     };
-    maker.leave();
-    let before = begin(maker);
-    match make_form(maker, table, depth, kind, form, held) {
-        Ok(()) => end(maker, before, word, value),
-        Err(e) => Err(e),
-    }
+    make_value(
+        maker,
+        table,
+        depth,
+        kind,
+        word,
+        form,
+        "attributes",
+        held,
+        value,
+        value.get("pad"),
+    )
 }
 
 #[cycle(make)]
@@ -589,13 +763,13 @@ fn make_choice<'v, T: Tables>(
     table: T,
     depth: u8,
     kind: &'v str,
-    choices: &[Choice<'v>],
+    choices: &'static [Choice<'static>],
     value: &'v Value,
-) -> Result<(), MakeError>
+) -> Result<(), Stop>
     ensures { Appended (by_choice_made (make (T.parts_of table) depth kind.now) (choices_view choices.now) (view value.now)) maker.old.bytes.items maker.new.bytes.items result }
 {
     match value.get("Other") {
-        Some(held) => make_hex(maker, held),
+        Some(held) => make_hex_at(maker, "Other", held),
         None => make_chosen(maker, table, depth, kind, choices, value),
     }
 }
@@ -606,17 +780,24 @@ fn make_chosen<'v, T: Tables>(
     table: T,
     depth: u8,
     kind: &'v str,
-    choices: &[Choice<'v>],
+    choices: &'static [Choice<'static>],
     value: &'v Value,
-) -> Result<(), MakeError>
+) -> Result<(), Stop>
     ensures { Appended (choice_made (make (T.parts_of table) depth kind.now) (held (λ c. c.name) is_choice (choices_view choices.now) (view value.now))) maker.old.bytes.items maker.new.bytes.items result }
 {
     let (choice, held) = match choice_held(choices, value) {
         Some(found) => found,
-        None => return Err(maker.wrong(value, Wanted::Variant)),
+        None => return Err(maker.unknown(value, Wanted::Variant(choices))),
     };
     match maker.put(choice.prefix) {
-        Ok(()) => make_form(maker, table, depth, kind, choice.form, held),
-        Err(e) => Err(e),
+        Ok(()) => {}
+        Err(e) => return Err(e),
+    }
+    match make_form(maker, table, depth, kind, choice.form, held) {
+        Ok(()) => Ok(()),
+        Err(e) => {
+            maker.at(Step::Member(choice.name));
+            Err(e)
+        }
     }
 }

@@ -1,6 +1,6 @@
 //! The bytes that are made, and the place in the JSON that they are made of.
 
-ghost use Rattle.std.specs.Prelude.{◌≡◌, ◌∷◌, [], Some, replicate, IfErr};
+ghost use Rattle.std.specs.Prelude.{◌≡◌, ◌∷◌, [], Some, replicate};
 ghost use Rattle.nla_frames.specs.Value.{le_bytes, be_bytes};
 ghost use Rattle.tc_forms.specs.Appended.{Appended};
 ghost use Rattle.tc_forms.specs.declared.error.MakeError.TheVariants.{OutOfMemory};
@@ -9,6 +9,15 @@ use crate::error::{MakeError, Wanted};
 use serde_json::Value;
 use std::alloc::{AllocError, Global};
 
+/// Why making stops; what is wrong and where is set aside.
+#[derive(Clone, Copy)]
+pub enum Stop {
+    /// Memory ran out.
+    OutOfMemory,
+    /// The JSON isn't what it has to be.
+    Wrong,
+}
+
 /// A step of a JSON pointer.
 #[derive(Clone, Copy)]
 pub enum Step<'v> {
@@ -16,54 +25,61 @@ pub enum Step<'v> {
     Member(&'v str),
     /// To an item of a list.
     Item(usize),
-    /// To an item of a list, and to its layer, if it has one.
-    Layered(usize, &'v str),
 }
 
-/// What is being made, and of which part of the JSON.
+/// The bytes so far, and what is wrong in the JSON that they are made of.
 #[derive(Drop)]
 pub struct Maker<'v> {
     /// The allocator.
     pub alloc: Global,
     /// The bytes so far.
     pub bytes: Vec<u8>,
+    // What was found; None if there was no memory for it.
+    found: Option<String>,
+    wanted: Wanted,
+    // The steps to its place, the last one first.
     steps: Vec<Step<'v>>,
+    // True if there was no memory for one of them.
+    is_lost: bool,
 }
 
 impl<'v> Maker<'v> {
-    /// Nothing so far, of the whole JSON.
+    /// Nothing so far.
     pub fn new(alloc: Global) -> Maker<'v>
         ensures { result.bytes.items ≡ [] }
     {
         Maker {
             alloc,
             bytes: Vec::new(alloc),
+            found: None,
+            wanted: Wanted::Member,
             steps: Vec::new(alloc),
+            is_lost: false,
         }
     }
 
     /// Appends bytes.
-    pub fn put(&mut self, bytes: &[u8]) -> Result<(), MakeError>
+    pub fn put(&mut self, bytes: &[u8]) -> Result<(), Stop>
         ensures { Appended (Some bytes.now) self.old.bytes.items self.new.bytes.items result }
     {
         match self.bytes.extend_from_slice(bytes) {
             Ok(()) => Ok(()),
-            Err(_) => Err(MakeError::OutOfMemory),
+            Err(_) => Err(Stop::OutOfMemory),
         }
     }
 
     /// Appends one byte.
-    pub fn put_byte(&mut self, byte: u8) -> Result<(), MakeError>
+    pub fn put_byte(&mut self, byte: u8) -> Result<(), Stop>
         ensures { Appended (Some (byte ∷ [])) self.old.bytes.items self.new.bytes.items result }
     {
         match self.bytes.push(byte) {
             Ok(()) => Ok(()),
-            Err(_) => Err(MakeError::OutOfMemory),
+            Err(_) => Err(Stop::OutOfMemory),
         }
     }
 
     /// Appends so many zeros.
-    pub fn put_zeros(&mut self, count: usize) -> Result<(), MakeError>
+    pub fn put_zeros(&mut self, count: usize) -> Result<(), Stop>
         ensures { Appended (Some (replicate count 0)) self.old.bytes.items self.new.bytes.items result }
     {
         if count == 0 {
@@ -77,7 +93,7 @@ impl<'v> Maker<'v> {
 
     /// Appends the lowest bytes of a number, least significant first.
     #[tactic(auto, using(crate::proofs::Making::put_taken))]
-    pub fn put_little(&mut self, number: u64, width: usize) -> Result<(), MakeError>
+    pub fn put_little(&mut self, number: u64, width: usize) -> Result<(), Stop>
         ensures { Appended (Some (le_bytes width number)) self.old.bytes.items self.new.bytes.items result }
     {
         if width > 8 {
@@ -87,7 +103,7 @@ impl<'v> Maker<'v> {
     }
 
     // The same, byte by byte.
-    fn put_little_by_one(&mut self, number: u64, width: usize) -> Result<(), MakeError>
+    fn put_little_by_one(&mut self, number: u64, width: usize) -> Result<(), Stop>
         ensures { Appended (Some (le_bytes width number)) self.old.bytes.items self.new.bytes.items result }
     {
         if width == 0 {
@@ -100,7 +116,7 @@ impl<'v> Maker<'v> {
     }
 
     /// Appends the lowest bytes of a number, most significant first.
-    pub fn put_big(&mut self, number: u64, width: usize) -> Result<(), MakeError>
+    pub fn put_big(&mut self, number: u64, width: usize) -> Result<(), Stop>
         ensures { Appended (Some (be_bytes width number)) self.old.bytes.items self.new.bytes.items result }
     {
         if width == 0 {
@@ -112,143 +128,108 @@ impl<'v> Maker<'v> {
         }
     }
 
-    /// Goes to a part of this place.
-    pub fn enter(&mut self, step: Step<'v>) -> Result<(), MakeError>
-        ensures bytes { self.new.bytes ≡ self.old.bytes }
-        ensures only_memory { IfErr result (λ e. e ≡ OutOfMemory) }
-    {
-        match self.steps.push(step) {
-            Ok(()) => Ok(()),
-            Err(_) => Err(MakeError::OutOfMemory),
+    /// Adds a step in front of those to what is wrong.
+    pub fn at(&mut self, step: Step<'v>) {
+        if self.steps.push(step).is_err() {
+            self.is_lost = true;
         }
     }
 
-    /// Goes back to what this place is a part of.
-    pub fn leave(&mut self)
-        ensures { self.new.bytes ≡ self.old.bytes }
-    {
-        self.steps.pop();
+    /// The value isn't what is wanted.
+    pub fn wrong(&mut self, found: &Value, wanted: Wanted) -> Stop {
+        self.found = found_text(self.alloc, found).ok();
+        self.wanted = wanted;
+        Stop::Wrong
     }
 
-    /// The error of the value at this place.
-    pub fn wrong(&mut self, found: &'v Value, wanted: Wanted) -> MakeError
-        ensures { self.new.bytes ≡ self.old.bytes }
-    {
+    /// A form doesn't make bytes of the value. If it has a member "raw", that isn't hex.
+    pub fn unfit(&mut self, found: &Value, wanted: Wanted) -> Stop {
         match found.get("raw") {
-            Some(raw) => self.wrong_at("raw", raw, Wanted::Hex),
-            None => self.wrong_here(found, wanted),
+            Some(raw) => self.wrong_member("raw", raw, Wanted::Hex),
+            None => self.wrong(found, wanted),
         }
     }
 
-    /// The error of a member of the value at this place.
-    pub fn wrong_at(&mut self, name: &'static str, found: &Value, wanted: Wanted) -> MakeError
-        ensures { self.new.bytes ≡ self.old.bytes }
-    {
-        match self.enter(Step::Member(name)) {
-            Ok(()) => self.wrong_here(found, wanted),
-            Err(e) => e,
-        }
+    /// The member of the value isn't what is wanted.
+    pub fn wrong_member(&mut self, name: &'static str, found: &Value, wanted: Wanted) -> Stop {
+        let stop = self.wrong(found, wanted);
+        self.at(Step::Member(name));
+        stop
     }
 
-    fn wrong_here(&self, found: &Value, wanted: Wanted) -> MakeError {
-        match found_text(self.alloc, found) {
-            Ok(found) => self.wrong_text(found, wanted),
-            Err(_) => MakeError::OutOfMemory,
-        }
-    }
-
-    /// The error of a member of the value at this place, which may be missing.
-    pub fn wrong_member(
-        &mut self,
-        value: &'v Value,
-        name: &'static str,
-        wanted: Wanted,
-    ) -> MakeError
-        ensures { self.new.bytes ≡ self.old.bytes }
-    {
-        match self.enter(Step::Member(name)) {
-            Ok(()) => {}
-            Err(e) => return e,
-        }
+    /// The member of the value isn't what is wanted, or isn't there.
+    pub fn wrong_or_missing(&mut self, value: &Value, name: &'static str, wanted: Wanted) -> Stop {
         match value.get(name) {
-            Some(found) => self.wrong_here(found, wanted),
-            None => self.missing(),
+            Some(found) => self.wrong_member(name, found, wanted),
+            None => self.missing(value, name),
         }
     }
 
-    /// The error of a member of what this place has by a name.
-    pub fn wrong_within(
-        &mut self,
-        outer: &'static str,
-        value: &'v Value,
-        name: &'static str,
-        wanted: Wanted,
-    ) -> MakeError
-        ensures { self.new.bytes ≡ self.old.bytes }
-    {
-        match self.enter(Step::Member(outer)) {
-            Ok(()) => self.wrong_member(value, name, wanted),
-            Err(e) => e,
+    /// The value has no such member.
+    pub fn missing(&mut self, value: &Value, name: &'static str) -> Stop {
+        if !value.is_object() {
+            return self.unfit(value, Wanted::Object);
         }
-    }
-
-    /// The error of a member that isn't there; its name is the last step of this place.
-    pub fn missing(&self) -> MakeError {
-        match String::from_str(self.alloc, "nothing") {
-            Ok(found) => self.wrong_text(found, Wanted::Member),
-            Err(_) => MakeError::OutOfMemory,
-        }
-    }
-
-    /// The error of an attribute that the table doesn't have.
-    pub fn unknown(&mut self, value: &'v Value) -> MakeError
-        ensures { self.new.bytes ≡ self.old.bytes }
-    {
         if value.get("raw").is_some() {
-            return self.wrong(value, Wanted::Attribute);
+            return self.unfit(value, Wanted::Member);
         }
+        self.found = String::from_str(self.alloc, "nothing").ok();
+        self.wanted = Wanted::Member;
+        self.at(Step::Member(name));
+        Stop::Wrong
+    }
+
+    /// No member of the value has a name that is wanted.
+    pub fn unknown(&mut self, value: &'v Value, wanted: Wanted) -> Stop {
         let members = match value.as_object() {
-            Some(members) => members,
-            None => return self.wrong_here(value, Wanted::Attribute),
+            Some(members) if value.get("raw").is_none() => members,
+            _ => return self.unfit(value, wanted),
         };
         match members.first_key_value() {
-            Some((name, _)) => self.wrong_name(name.as_str()),
-            None => self.wrong_here(value, Wanted::Attribute),
+            Some((name, _)) => self.wrong_name(name.as_str(), wanted),
+            None => self.wrong(value, wanted),
         }
     }
 
-    fn wrong_name(&self, name: &str) -> MakeError {
-        match Value::try_from_str(self.alloc, name) {
-            Ok(name) => self.wrong_here(&name, Wanted::Attribute),
-            Err(_) => MakeError::OutOfMemory,
-        }
+    // A member has another name than one that is wanted.
+    fn wrong_name(&mut self, name: &'v str, wanted: Wanted) -> Stop {
+        self.found = match Value::try_from_str(self.alloc, name) {
+            Ok(name) => found_text(self.alloc, &name).ok(),
+            Err(_) => None,
+        };
+        self.wanted = wanted;
+        self.at(Step::Member(name));
+        Stop::Wrong
     }
 
-    fn wrong_text(&self, found: String, wanted: Wanted) -> MakeError {
-        match self.path() {
-            Ok(path) => MakeError::Wrong {
+    /// What is wrong, with its place.
+    pub fn into_error(self) -> MakeError {
+        if self.is_lost {
+            return MakeError::OutOfMemory;
+        }
+        let path = match self.path() {
+            Ok(path) => path,
+            Err(_) => return MakeError::OutOfMemory,
+        };
+        let Maker { found, wanted, .. } = self;
+        match found {
+            Some(found) => MakeError::Wrong {
                 path,
                 found,
                 wanted,
             },
-            Err(_) => MakeError::OutOfMemory,
+            None => MakeError::OutOfMemory,
         }
     }
 
-    // This place, as a JSON pointer.
+    // The place of what is wrong, as a JSON pointer.
     fn path(&self) -> Result<String, AllocError> {
         let mut path = String::new(self.alloc);
-        for step in &self.steps {
+        for step in self.steps.iter().rev() {
             path.push('/')?;
             match step {
                 Step::Member(name) => push_escaped(&mut path, name)?,
-                Step::Item(index) | Step::Layered(index, "") => {
-                    path.push_str(format!(in self.alloc; "{index}")?.as_str())?
-                }
-                Step::Layered(index, layer) => {
-                    path.push_str(format!(in self.alloc; "{index}/")?.as_str())?;
-                    push_escaped(&mut path, layer)?
-                }
+                Step::Item(index) => { path.push_str(format!(in self.alloc; "{index}")?.as_str())? }
             }
         }
         Ok(path)

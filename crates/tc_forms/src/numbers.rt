@@ -13,9 +13,10 @@ ghost use Rattle.tc_forms.specs.Values.{plain_shown};
 ghost use Rattle.tc_forms.specs.Tables.{no_table, names_view};
 ghost use Rattle.tc_forms.specs.Widths.{number_width};
 
-use crate::error::{MakeError, Wanted};
+use crate::error::Wanted;
+use crate::events::{Stopped, begin_map, end_map, key, signed, string, unsigned};
 use crate::form::{Form, Name, Number};
-use crate::maker::Maker;
+use crate::maker::{Maker, Stop};
 use crate::rows::is_same;
 use crate::values_shown::send_raw;
 use serde::Serializer;
@@ -132,13 +133,14 @@ pub(crate) fn send_bytes_number<S: Serializer>(
     bytes: &[u8],
     alloc: Global,
     out: &mut S,
-) -> Result<(), S::Error>
+    error: &mut Option<S::Error>,
+) -> Result<(), Stopped>
     ensures { OnOk result (Sent (events (plain_shown no_table (Form.Number number) bytes.now)) (S.written out.old) (S.written out.new)) }
 {
     if bytes.len() != number.width() {
-        return send_raw(bytes, alloc, out);
+        return send_raw(bytes, alloc, out, error);
     }
-    send_number(number, bits_of(number, bytes), out)
+    send_number(number, bits_of(number, bytes), out, error)
 }
 
 #[inline(always)]
@@ -146,16 +148,17 @@ pub(crate) fn send_number<S: Serializer>(
     which: Number,
     bits: u64,
     out: &mut S,
-) -> Result<(), S::Error>
+    error: &mut Option<S::Error>,
+) -> Result<(), Stopped>
     requires { bits < 2 * half which }
     ensures { OnOk result (Sent (events (number (num which bits))) (S.written out.old) (S.written out.new)) }
 {
     let half = half(which);
     if is_signed(which) && bits >= half {
         let above = half - 1 - (bits - half);
-        out.i64(-1 - (above as i64))
+        signed(-1 - (above as i64), out, error)
     } else {
-        out.u64(bits)
+        unsigned(bits, out, error)
     }
 }
 
@@ -165,33 +168,34 @@ pub(crate) fn send_named<S: Serializer>(
     which: Number,
     bits: u64,
     out: &mut S,
-) -> Result<(), S::Error>
+    error: &mut Option<S::Error>,
+) -> Result<(), Stopped>
     requires { bits < 2 * half which }
     ensures { OnOk result (Sent (events (named_or (names_view names.now) bits (one (codes "Other") (number (num which bits))) (name_of (names_view names.now) bits))) (S.written out.old) (S.written out.new)) }
 {
     if let Some(name) = name_of(names, bits) {
         if let Some(again) = number_of(names, name) {
             if again == bits {
-                return out.str(name);
+                return string(name, out, error);
             }
         }
     }
-    out.begin_map(None)?;
-    out.key("Other")?;
-    send_number(which, bits, out)?;
-    out.end_map()
+    begin_map(out, error)?;
+    key("Other", out, error)?;
+    send_number(which, bits, out, error)?;
+    end_map(out, error)
 }
 
 pub(crate) fn make_number<'v>(
     maker: &mut Maker<'v>,
     which: Number,
     value: &'v Value,
-) -> Result<(), MakeError>
+) -> Result<(), Stop>
     ensures { Appended (number_made which (view value.now)) maker.old.bytes.items maker.new.bytes.items result }
 {
     match bits_in(which, value) {
         Some(bits) => put_bits(maker, which, bits),
-        None => Err(maker.wrong(value, wanted(which))),
+        None => Err(maker.unfit(value, wanted(which))),
     }
 }
 
@@ -236,7 +240,7 @@ fn bits_in(which: Number, value: &Value) -> Option<u64>
     }
 }
 
-fn put_bits(maker: &mut Maker<'_>, which: Number, bits: u64) -> Result<(), MakeError>
+fn put_bits(maker: &mut Maker<'_>, which: Number, bits: u64) -> Result<(), Stop>
     ensures { Appended (Some (bytes_of which bits)) maker.old.bytes.items maker.new.bytes.items result }
 {
     if is_big(which) {
@@ -248,10 +252,10 @@ fn put_bits(maker: &mut Maker<'_>, which: Number, bits: u64) -> Result<(), MakeE
 
 pub(crate) fn make_named<'v>(
     maker: &mut Maker<'v>,
-    names: &[Name<'v>],
+    names: &'static [Name<'static>],
     which: Number,
     value: &'v Value,
-) -> Result<(), MakeError>
+) -> Result<(), Stop>
     ensures { Appended (named_made which (option_and_then (number_of (names_view names.now)) (as_str (view value.now))) (view value.now)) maker.old.bytes.items maker.new.bytes.items result }
 {
     if let Some(name) = value.as_str() {
@@ -262,11 +266,11 @@ pub(crate) fn make_named<'v>(
     match value.get("Other") {
         Some(other) => match bits_in(which, other) {
             Some(bits) => put_bits(maker, which, bits),
-            None => Err(maker.wrong_at("Other", other, wanted(which))),
+            None => Err(maker.wrong_member("Other", other, wanted(which))),
         },
         None => match bits_in(which, value) {
             Some(bits) => put_bits(maker, which, bits),
-            None => Err(maker.wrong(value, Wanted::NamedNumber)),
+            None => Err(maker.unfit(value, Wanted::NamedNumber(names))),
         },
     }
 }

@@ -9,9 +9,9 @@ ghost use Rattle.tc_forms.specs.Sent.{Sent, members_events};
 ghost use Rattle.tc_forms.specs.Tables.{field_view, fields_view};
 ghost use Rattle.tc_forms.specs.Widths.{width};
 
-use crate::error::MakeError;
+use crate::events::{Stopped, key};
 use crate::form::{Field, Form};
-use crate::maker::Maker;
+use crate::maker::{Maker, Stop};
 use crate::rows::is_same;
 use crate::tables::Tables;
 use crate::values_made::make_hex_at;
@@ -46,14 +46,15 @@ pub(crate) fn send_rest<S: Serializer>(
     bytes: &[u8],
     alloc: Global,
     out: &mut S,
-) -> Result<(), S::Error>
+    error: &mut Option<S::Error>,
+) -> Result<(), Stopped>
     ensures { OnOk result (Sent (members_events (rest_member bytes.now)) (S.written out.old) (S.written out.new)) }
 {
     if bytes.is_empty() {
         return Ok(());
     }
-    out.key("rest")?;
-    send_hex(bytes, alloc, out)
+    key("rest", out, error)?;
+    send_hex(bytes, alloc, out, error)
 }
 
 // True for as many zeros as the field has bytes.
@@ -109,22 +110,22 @@ pub(crate) fn names_apart(fields: &[Field<'_>]) -> bool
     is_free("raw", fields) && is_free("rest", fields) && are_apart(fields)
 }
 
-// Padding that isn't told.
+// Padding that isn't shown.
 pub(crate) fn make_blank<'v, T: Tables>(
     maker: &mut Maker<'v>,
     table: T,
-    field: &Field<'v>,
-) -> Result<(), MakeError>
+    field: &Field<'static>,
+    value: &'v Value,
+) -> Result<(), Stop>
     ensures { Appended (field_made (T.parts_of table) (λ f d. None) (field_view field.now) None) maker.old.bytes.items maker.new.bytes.items result }
 {
     if !is_pad(field.form) {
-        return Err(maker.missing());
+        return Err(maker.missing(value, field.name));
     }
-    maker.leave();
     maker.put_zeros(fixed_width(table, field.form).unwrap_or(0))
 }
 
-pub(crate) fn make_rest<'v>(maker: &mut Maker<'v>, value: &'v Value) -> Result<(), MakeError>
+pub(crate) fn make_rest<'v>(maker: &mut Maker<'v>, value: &'v Value) -> Result<(), Stop>
     ensures { Appended (rest_made (get (codes "rest") (view value.now))) maker.old.bytes.items maker.new.bytes.items result }
 {
     match value.get("rest") {

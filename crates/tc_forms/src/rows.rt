@@ -1,7 +1,7 @@
 //! The rows of a list of attributes, by kind, by type and by name.
 
 ghost use Rattle.serde_json.specs.View.{view};
-ghost use Rattle.std.specs.Prelude.{bytes_eq, option_map, ◌≡◌};
+ghost use Rattle.std.specs.Prelude.{IfSome, IsTrue, None, Some, bytes_eq, option_map, ◌≡◌};
 ghost use Rattle.tc_forms.specs.Places.{kind_place, part_at, rows_of, rows_under};
 ghost use Rattle.tc_forms.specs.RowLists.{rows_in};
 ghost use Rattle.tc_forms.specs.Rows.{counts, is_reserved, of_name, of_type, shown_row, type_of};
@@ -130,7 +130,7 @@ fn row_of_name<'a>(rows: &[Row<'a>], name: &str) -> Option<Row<'a>>
 
 // The first row of a name among those of a list.
 #[inline(always)]
-fn row_of_name_in<'a>(rows: &RowList<'a>, name: &str) -> Option<Row<'a>>
+pub(crate) fn row_of_name_in<'a>(rows: &RowList<'a>, name: &str) -> Option<Row<'a>>
     ensures { option_map row_view result ≡ first (of_name name.now) (rows_in rows.now) }
 {
     match row_of_name(rows.own, name) {
@@ -142,6 +142,55 @@ fn row_of_name_in<'a>(rows: &RowList<'a>, name: &str) -> Option<Row<'a>>
 /// The row of a type, if it is the row of its name too.
 #[inline(always)]
 pub(crate) fn shown_row<'a>(rows: &RowList<'a>, word: u16) -> Option<Row<'a>>
+    ensures { option_map row_view result ≡ shown_row (rows_in rows.now) word }
+{
+    match numbered_row(rows.own, word) {
+        Some(row) => Some(row),
+        None => searched_row(rows, word),
+    }
+}
+
+// The row of a type at the place that it has where rows are numbered from 1 on, if no row before it has its type or its name.
+#[inline(always)]
+fn numbered_row<'a>(rows: &[Row<'a>], word: u16) -> Option<Row<'a>>
+    ensures of_type { IfSome result (λ r. first (of_type word) (rows_view rows.now) ≡ Some (row_view r)) }
+    ensures of_name { IfSome result (λ r. first (of_name r.name.now) (rows_view rows.now) ≡ Some (row_view r)) }
+{
+    let number = usize::from(type_of(word));
+    if number == 0 || number > rows.len() {
+        return None;
+    }
+    let (before, from) = rows.split_at(number - 1);
+    let row = match from.split_first() {
+        Some((row, _)) => row,
+        None => return None,
+    };
+    if !is_of_type(word, row) {
+        return None;
+    }
+    if !are_others(before, word, row.name) {
+        return None;
+    }
+    Some(*row)
+}
+
+// True if none of the rows has the type or the name.
+#[inline(always)]
+fn are_others(rows: &[Row<'_>], word: u16, name: &str) -> bool
+    ensures of_type { IsTrue result → first (of_type word) (rows_view rows.now) ≡ None }
+    ensures of_name { IsTrue result → first (of_name name.now) (rows_view rows.now) ≡ None }
+{
+    for row in rows.iter() {
+        if type_of(row.word) == type_of(word) || is_same(row.name, name) {
+            return false;
+        }
+    }
+    true
+}
+
+// The row of a type, if it is the row of its name too, wherever it is.
+#[inline(always)]
+fn searched_row<'a>(rows: &RowList<'a>, word: u16) -> Option<Row<'a>>
     ensures { option_map row_view result ≡ shown_row (rows_in rows.now) word }
 {
     let row = match row_of_type_in(rows, word) {

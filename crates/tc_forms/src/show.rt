@@ -19,6 +19,7 @@ use crate::attributes_shown::{
     send_tail, send_told,
 };
 use crate::choices::{behind, chosen, send_unknown};
+use crate::events::{Stopped, begin_map, begin_seq, end_map, end_seq, key};
 use crate::form::{Choice, Field, Form};
 use crate::numbers::send_bytes_number;
 use crate::places::{choices_at, fields_at, form_at, layer_at};
@@ -64,7 +65,14 @@ pub fn send_shown<S: Serializer, T: Tables>(
 ) -> Result<(), S::Error>
     ensures { OnOk result (Sent (events (shown_of (T.parts_of table) form bytes.now)) (S.written out.old) (S.written out.new)) }
 {
-    send_form(table, DEEPEST, "", form, bytes, alloc, out)
+    let mut error = None;
+    match send_form(table, DEEPEST, "", form, bytes, alloc, out, &mut error) {
+        Ok(()) => Ok(()),
+        Err(Stopped::Failed) => match error {
+            Some(e) => Err(e),
+            None => Err(out.custom("the format failed")),
+        },
+    }
 }
 
 // The same at a depth.
@@ -77,16 +85,17 @@ fn send_form<S: Serializer, T: Tables>(
     bytes: &[u8],
     alloc: Global,
     out: &mut S,
-) -> Result<(), S::Error>
+    error: &mut Option<S::Error>,
+) -> Result<(), Stopped>
     ensures { OnOk result (Sent (events (show (T.parts_of table) depth kind.now form bytes.now)) (S.written out.old) (S.written out.new)) }
 {
     let inner = match depth.checked_sub(1) {
         Some(inner) => inner,
-        None => return send_raw(bytes, alloc, out),
+        None => return send_raw(bytes, alloc, out, error),
     };
     match form {
-        Form::Number(number) => send_bytes_number(number, bytes, alloc, out),
-        Form::Record(place) => send_record(table, inner, kind, place, bytes, alloc, out),
+        Form::Number(number) => send_bytes_number(number, bytes, alloc, out, error),
+        Form::Record(place) => send_record(table, inner, kind, place, bytes, alloc, out, error),
         Form::Array(place) => send_elements(
             table,
             inner,
@@ -95,6 +104,7 @@ fn send_form<S: Serializer, T: Tables>(
             bytes,
             alloc,
             out,
+            error,
         ),
         Form::Times(_, place) => send_elements(
             table,
@@ -104,11 +114,12 @@ fn send_form<S: Serializer, T: Tables>(
             bytes,
             alloc,
             out,
+            error,
         ),
-        Form::List(place) => send_list(table, inner, kind, place, bytes, alloc, out),
-        Form::InForce(place) => send_kinded(table, inner, kind, place, bytes, alloc, out),
-        Form::Own(place) => send_own(table, inner, place, bytes, alloc, out),
-        Form::Indexed(place) => send_indexed(table, inner, kind, place, bytes, alloc, out),
+        Form::List(place) => send_list(table, inner, kind, place, bytes, alloc, out, error),
+        Form::InForce(place) => send_kinded(table, inner, kind, place, bytes, alloc, out, error),
+        Form::Own(place) => send_own(table, inner, place, bytes, alloc, out, error),
+        Form::Indexed(place) => send_indexed(table, inner, kind, place, bytes, alloc, out, error),
         Form::Choice(place) => send_choice(
             table,
             inner,
@@ -117,8 +128,9 @@ fn send_form<S: Serializer, T: Tables>(
             bytes,
             alloc,
             out,
+            error,
         ),
-        _ => send_plain(table, form, bytes, alloc, out),
+        _ => send_plain(table, form, bytes, alloc, out, error),
     }
 }
 
@@ -132,16 +144,17 @@ fn send_record<S: Serializer, T: Tables>(
     bytes: &[u8],
     alloc: Global,
     out: &mut S,
-) -> Result<(), S::Error>
+    error: &mut Option<S::Error>,
+) -> Result<(), Stopped>
     ensures { OnOk result (Sent (events (shown (T.parts_of table) (show (T.parts_of table) depth) kind.now (Form.Record place) bytes.now)) (S.written out.old) (S.written out.new)) }
 {
     let fields = fields_at(table, place);
     if !names_apart(fields) || !are_enough(table, bytes.len(), fields) {
-        return send_raw(bytes, alloc, out);
+        return send_raw(bytes, alloc, out, error);
     }
-    out.begin_map(None)?;
-    send_fields(table, depth, kind, fields, bytes, alloc, out)?;
-    out.end_map()
+    begin_map(out, error)?;
+    send_fields(table, depth, kind, fields, bytes, alloc, out, error)?;
+    end_map(out, error)
 }
 
 #[cycle(send)]
@@ -153,17 +166,18 @@ fn send_fields<S: Serializer, T: Tables>(
     bytes: &[u8],
     alloc: Global,
     out: &mut S,
-) -> Result<(), S::Error>
+    error: &mut Option<S::Error>,
+) -> Result<(), Stopped>
     ensures { OnOk result (Sent (members_events (members (T.parts_of table) (show (T.parts_of table) depth kind.now) (fields_view fields.now) bytes.now)) (S.written out.old) (S.written out.new)) }
 {
     let mut left = bytes;
     for field in fields.iter() {
         let width = fixed_width(table, field.form);
         let (chunk, after) = split(left, width);
-        send_field(table, depth, kind, field, chunk, alloc, out)?;
+        send_field(table, depth, kind, field, chunk, alloc, out, error)?;
         left = after;
     }
-    send_rest(left, alloc, out)
+    send_rest(left, alloc, out, error)
 }
 
 // A field, if it isn't blank padding.
@@ -177,15 +191,16 @@ fn send_field<S: Serializer, T: Tables>(
     chunk: &[u8],
     alloc: Global,
     out: &mut S,
-) -> Result<(), S::Error>
+    error: &mut Option<S::Error>,
+) -> Result<(), Stopped>
     ensures { OnOk result ((after : Members) (end : Log) → Sent (members_events after) (S.written out.new) end
         → Sent (members_events (field_member (T.parts_of table) (show (T.parts_of table) depth kind.now) (field_view field.now) chunk.now after)) (S.written out.old) end) }
 {
     if is_pad(field.form) && is_blank(fixed_width(table, field.form), chunk) {
         return Ok(());
     }
-    out.key(field.name)?;
-    send_form(table, depth, kind, field.form, chunk, alloc, out)
+    key(field.name, out, error)?;
+    send_form(table, depth, kind, field.form, chunk, alloc, out, error)
 }
 
 #[inline(never)]
@@ -198,12 +213,13 @@ fn send_elements<S: Serializer, T: Tables>(
     bytes: &[u8],
     alloc: Global,
     out: &mut S,
-) -> Result<(), S::Error>
+    error: &mut Option<S::Error>,
+) -> Result<(), Stopped>
     ensures { OnOk result (Sent (events (array (elements_of (show (T.parts_of table) depth kind.now) form (fixed (T.parts_of table) form) bytes.now))) (S.written out.old) (S.written out.new)) }
 {
-    out.begin_seq(None)?;
-    send_elements_of(table, depth, kind, form, bytes, alloc, out)?;
-    out.end_seq()
+    begin_seq(out, error)?;
+    send_elements_of(table, depth, kind, form, bytes, alloc, out, error)?;
+    end_seq(out, error)
 }
 
 #[cycle(send)]
@@ -215,12 +231,13 @@ fn send_elements_of<S: Serializer, T: Tables>(
     bytes: &[u8],
     alloc: Global,
     out: &mut S,
-) -> Result<(), S::Error>
+    error: &mut Option<S::Error>,
+) -> Result<(), Stopped>
     ensures { OnOk result (Sent (items_events (elements_of (show (T.parts_of table) depth kind.now) form (fixed (T.parts_of table) form) bytes.now)) (S.written out.old) (S.written out.new)) }
 {
     match fixed_width(table, form) {
-        Some(width) => send_each_element(table, depth, kind, form, width, bytes, alloc, out),
-        None => send_form(table, depth, kind, form, bytes, alloc, out),
+        Some(width) => send_each_element(table, depth, kind, form, width, bytes, alloc, out, error),
+        None => send_form(table, depth, kind, form, bytes, alloc, out, error),
     }
 }
 
@@ -234,7 +251,8 @@ fn send_each_element<S: Serializer, T: Tables>(
     bytes: &[u8],
     alloc: Global,
     out: &mut S,
-) -> Result<(), S::Error>
+    error: &mut Option<S::Error>,
+) -> Result<(), Stopped>
     ensures { OnOk result (Sent (items_events (elements (show (T.parts_of table) depth kind.now) (length bytes.now) form width bytes.now)) (S.written out.old) (S.written out.new)) }
 {
     let mut left = bytes;
@@ -243,13 +261,13 @@ fn send_each_element<S: Serializer, T: Tables>(
             return Ok(());
         }
         let (element, after) = split(left, Some(width));
-        send_form(table, depth, kind, form, element, alloc, out)?;
+        send_form(table, depth, kind, form, element, alloc, out, error)?;
         left = after;
     }
     if left.is_empty() {
         return Ok(());
     }
-    send_form(table, depth, kind, form, left, alloc, out)
+    send_form(table, depth, kind, form, left, alloc, out, error)
 }
 
 #[inline(never)]
@@ -262,10 +280,11 @@ fn send_list<S: Serializer, T: Tables>(
     bytes: &[u8],
     alloc: Global,
     out: &mut S,
-) -> Result<(), S::Error>
+    error: &mut Option<S::Error>,
+) -> Result<(), Stopped>
     ensures { OnOk result (Sent (events (shown (T.parts_of table) (show (T.parts_of table) depth) kind.now (Form.List place) bytes.now)) (S.written out.old) (S.written out.new)) }
 {
-    out.begin_seq(None)?;
+    begin_seq(out, error)?;
     send_attributes(
         table,
         depth,
@@ -276,8 +295,9 @@ fn send_list<S: Serializer, T: Tables>(
         bytes,
         alloc,
         out,
+        error,
     )?;
-    out.end_seq()
+    end_seq(out, error)
 }
 
 // The same under its own kind.
@@ -290,11 +310,12 @@ fn send_own<S: Serializer, T: Tables>(
     bytes: &[u8],
     alloc: Global,
     out: &mut S,
-) -> Result<(), S::Error>
+    error: &mut Option<S::Error>,
+) -> Result<(), Stopped>
     ensures { OnOk result (Sent (events (shown (T.parts_of table) (show (T.parts_of table) depth) [] (Form.Own place) bytes.now)) (S.written out.old) (S.written out.new)) }
 {
     let kind = own_kind(bytes);
-    out.begin_seq(None)?;
+    begin_seq(out, error)?;
     send_attributes(
         table,
         depth,
@@ -305,8 +326,9 @@ fn send_own<S: Serializer, T: Tables>(
         bytes,
         alloc,
         out,
+        error,
     )?;
-    out.end_seq()
+    end_seq(out, error)
 }
 
 #[cycle(send)]
@@ -320,21 +342,22 @@ fn send_attributes<S: Serializer, T: Tables>(
     bytes: &[u8],
     alloc: Global,
     out: &mut S,
-) -> Result<(), S::Error>
+    error: &mut Option<S::Error>,
+) -> Result<(), Stopped>
     ensures { OnOk result (Sent (items_events (frames (λ k c. layered layer.now (attribute (show (T.parts_of table) depth) (rows_in rows.now) has k c)) false (length bytes.now) kind.now bytes.now)) (S.written out.old) (S.written out.new)) }
 {
     let mut left = bytes;
     for _count in 0..bytes.len() {
         let (word, value, pad, after) = match front(left) {
             Some(frame) => frame,
-            None => return send_tail(left, alloc, out),
+            None => return send_tail(left, alloc, out, error),
         };
         send_item(
-            table, depth, kind, has, layer, rows, word, value, pad, alloc, out,
+            table, depth, kind, has, layer, rows, word, value, pad, alloc, out, error,
         )?;
         left = after;
     }
-    send_tail(left, alloc, out)
+    send_tail(left, alloc, out, error)
 }
 
 #[inline(never)]
@@ -347,12 +370,13 @@ fn send_kinded<S: Serializer, T: Tables>(
     bytes: &[u8],
     alloc: Global,
     out: &mut S,
-) -> Result<(), S::Error>
+    error: &mut Option<S::Error>,
+) -> Result<(), Stopped>
     ensures { OnOk result (Sent (events (array (frames (λ k c. attribute (show (T.parts_of table) depth) (rows_under (T.parts_of table) place k) true k c) true (length bytes.now) kind.now bytes.now))) (S.written out.old) (S.written out.new)) }
 {
-    out.begin_seq(None)?;
-    send_kinded_attributes(table, depth, kind, place, bytes, alloc, out)?;
-    out.end_seq()
+    begin_seq(out, error)?;
+    send_kinded_attributes(table, depth, kind, place, bytes, alloc, out, error)?;
+    end_seq(out, error)
 }
 
 #[cycle(send)]
@@ -364,7 +388,8 @@ fn send_kinded_attributes<S: Serializer, T: Tables>(
     bytes: &[u8],
     alloc: Global,
     out: &mut S,
-) -> Result<(), S::Error>
+    error: &mut Option<S::Error>,
+) -> Result<(), Stopped>
     ensures { OnOk result (Sent (items_events (frames (λ k c. attribute (show (T.parts_of table) depth) (rows_under (T.parts_of table) place k) true k c) true (length bytes.now) kind.now bytes.now)) (S.written out.old) (S.written out.new)) }
 {
     let mut left = bytes;
@@ -373,16 +398,16 @@ fn send_kinded_attributes<S: Serializer, T: Tables>(
     for _count in 0..bytes.len() {
         let (word, value, pad, after) = match front(left) {
             Some(frame) => frame,
-            None => return send_tail(left, alloc, out),
+            None => return send_tail(left, alloc, out, error),
         };
         rows = rows_after(table, place, word, value, so_far, &rows);
         so_far = kind_after(true, word, value, so_far);
         send_attribute(
-            table, depth, so_far, true, &rows, word, value, pad, alloc, out,
+            table, depth, so_far, true, &rows, word, value, pad, alloc, out, error,
         )?;
         left = after;
     }
-    send_tail(left, alloc, out)
+    send_tail(left, alloc, out, error)
 }
 
 // An attribute in its layer.
@@ -400,16 +425,21 @@ fn send_item<S: Serializer, T: Tables>(
     pad: &[u8],
     alloc: Global,
     out: &mut S,
-) -> Result<(), S::Error>
+    error: &mut Option<S::Error>,
+) -> Result<(), Stopped>
     ensures { OnOk result (Sent (events (layered layer.now (attribute (show (T.parts_of table) depth) (rows_in rows.now) has kind.now (record { word = word; value = value.now; pad = pad.now })))) (S.written out.old) (S.written out.new)) }
 {
     if layer.is_empty() {
-        return send_attribute(table, depth, kind, has, rows, word, value, pad, alloc, out);
+        return send_attribute(
+            table, depth, kind, has, rows, word, value, pad, alloc, out, error,
+        );
     }
-    out.begin_map(None)?;
-    out.key(layer)?;
-    send_attribute(table, depth, kind, has, rows, word, value, pad, alloc, out)?;
-    out.end_map()
+    begin_map(out, error)?;
+    key(layer, out, error)?;
+    send_attribute(
+        table, depth, kind, has, rows, word, value, pad, alloc, out, error,
+    )?;
+    end_map(out, error)
 }
 
 #[cycle(send)]
@@ -424,12 +454,15 @@ fn send_attribute<S: Serializer, T: Tables>(
     pad: &[u8],
     alloc: Global,
     out: &mut S,
-) -> Result<(), S::Error>
+    error: &mut Option<S::Error>,
+) -> Result<(), Stopped>
     ensures { OnOk result (Sent (events (attribute (show (T.parts_of table) depth) (rows_in rows.now) has kind.now (record { word = word; value = value.now; pad = pad.now }))) (S.written out.old) (S.written out.new)) }
 {
     match kind_in(has, word, value) {
-        Some(told) => send_kind(told, word, value, pad, alloc, out),
-        None => send_by_row(table, depth, kind, rows, word, value, pad, alloc, out),
+        Some(told) => send_kind(told, word, value, pad, alloc, out, error),
+        None => send_by_row(
+            table, depth, kind, rows, word, value, pad, alloc, out, error,
+        ),
     }
 }
 
@@ -445,18 +478,19 @@ fn send_by_row<S: Serializer, T: Tables>(
     pad: &[u8],
     alloc: Global,
     out: &mut S,
-) -> Result<(), S::Error>
+    error: &mut Option<S::Error>,
+) -> Result<(), Stopped>
     ensures { OnOk result (Sent (events (by_row (show (T.parts_of table) depth) (rows_in rows.now) false kind.now (record { word = word; value = value.now; pad = pad.now }) (shown_row (rows_in rows.now) word))) (S.written out.old) (S.written out.new)) }
 {
     match shown_row(rows, word) {
         Some(row) => {
-            out.begin_map(None)?;
-            out.key(row.name)?;
-            send_form(table, depth, kind, row.form, value, alloc, out)?;
-            send_told(row.word, word, value, pad, alloc, out)?;
-            out.end_map()
+            begin_map(out, error)?;
+            key(row.name, out, error)?;
+            send_form(table, depth, kind, row.form, value, alloc, out, error)?;
+            send_told(row.word, word, value, pad, alloc, out, error)?;
+            end_map(out, error)
         }
-        None => send_other(word, value, pad, alloc, out),
+        None => send_other(word, value, pad, alloc, out, error),
     }
 }
 
@@ -470,12 +504,22 @@ fn send_indexed<S: Serializer, T: Tables>(
     bytes: &[u8],
     alloc: Global,
     out: &mut S,
-) -> Result<(), S::Error>
+    error: &mut Option<S::Error>,
+) -> Result<(), Stopped>
     ensures { OnOk result (Sent (events (shown (T.parts_of table) (show (T.parts_of table) depth) kind.now (Form.Indexed place) bytes.now)) (S.written out.old) (S.written out.new)) }
 {
-    out.begin_seq(None)?;
-    send_each_indexed(table, depth, kind, form_at(table, place), bytes, alloc, out)?;
-    out.end_seq()
+    begin_seq(out, error)?;
+    send_each_indexed(
+        table,
+        depth,
+        kind,
+        form_at(table, place),
+        bytes,
+        alloc,
+        out,
+        error,
+    )?;
+    end_seq(out, error)
 }
 
 #[cycle(send)]
@@ -487,19 +531,22 @@ fn send_each_indexed<S: Serializer, T: Tables>(
     bytes: &[u8],
     alloc: Global,
     out: &mut S,
-) -> Result<(), S::Error>
+    error: &mut Option<S::Error>,
+) -> Result<(), Stopped>
     ensures { OnOk result (Sent (items_events (frames (λ k c. indexed c (show (T.parts_of table) depth k form c.value)) false (length bytes.now) kind.now bytes.now)) (S.written out.old) (S.written out.new)) }
 {
     let mut left = bytes;
     for _count in 0..bytes.len() {
         let (word, value, pad, after) = match front(left) {
             Some(frame) => frame,
-            None => return send_tail(left, alloc, out),
+            None => return send_tail(left, alloc, out, error),
         };
-        send_one_indexed(table, depth, kind, form, word, value, pad, alloc, out)?;
+        send_one_indexed(
+            table, depth, kind, form, word, value, pad, alloc, out, error,
+        )?;
         left = after;
     }
-    send_tail(left, alloc, out)
+    send_tail(left, alloc, out, error)
 }
 
 #[cycle(send)]
@@ -513,14 +560,15 @@ fn send_one_indexed<S: Serializer, T: Tables>(
     pad: &[u8],
     alloc: Global,
     out: &mut S,
-) -> Result<(), S::Error>
+    error: &mut Option<S::Error>,
+) -> Result<(), Stopped>
     ensures { OnOk result (Sent (events (indexed (record { word = word; value = value.now; pad = pad.now }) (show (T.parts_of table) depth kind.now form value.now))) (S.written out.old) (S.written out.new)) }
 {
-    out.begin_map(None)?;
-    send_tab(word, out)?;
-    send_attributes_member(table, depth, kind, form, value, alloc, out)?;
-    send_pad(word, value, pad, alloc, out)?;
-    out.end_map()
+    begin_map(out, error)?;
+    send_tab(word, out, error)?;
+    send_attributes_member(table, depth, kind, form, value, alloc, out, error)?;
+    send_pad(word, value, pad, alloc, out, error)?;
+    end_map(out, error)
 }
 
 #[cycle(send)]
@@ -532,11 +580,12 @@ fn send_attributes_member<S: Serializer, T: Tables>(
     value: &[u8],
     alloc: Global,
     out: &mut S,
-) -> Result<(), S::Error>
+    error: &mut Option<S::Error>,
+) -> Result<(), Stopped>
     ensures { OnOk result (Sent (members_events (member (codes "attributes") (show (T.parts_of table) depth kind.now form value.now) no_members)) (S.written out.old) (S.written out.new)) }
 {
-    out.key("attributes")?;
-    send_form(table, depth, kind, form, value, alloc, out)
+    key("attributes", out, error)?;
+    send_form(table, depth, kind, form, value, alloc, out, error)
 }
 
 #[inline(never)]
@@ -549,13 +598,14 @@ fn send_choice<S: Serializer, T: Tables>(
     bytes: &[u8],
     alloc: Global,
     out: &mut S,
-) -> Result<(), S::Error>
+    error: &mut Option<S::Error>,
+) -> Result<(), Stopped>
     ensures { OnOk result (Sent (events (by_choice (show (T.parts_of table) depth kind.now) bytes.now (chosen (choices_view choices.now) bytes.now))) (S.written out.old) (S.written out.new)) }
 {
     match chosen(choices, bytes) {
         Some(choice) => {
-            out.begin_map(None)?;
-            out.key(choice.name)?;
+            begin_map(out, error)?;
+            key(choice.name, out, error)?;
             send_form(
                 table,
                 depth,
@@ -564,9 +614,10 @@ fn send_choice<S: Serializer, T: Tables>(
                 behind(bytes, choice.prefix.len()),
                 alloc,
                 out,
+                error,
             )?;
-            out.end_map()
+            end_map(out, error)
         }
-        None => send_unknown(bytes, alloc, out),
+        None => send_unknown(bytes, alloc, out, error),
     }
 }

@@ -7,9 +7,9 @@ ghost use Rattle.tc_forms.specs.Raw.{hex_made, hex_of, raw_of};
 ghost use Rattle.tc_forms.specs.Tables.{no_table};
 ghost use Rattle.tc_forms.specs.Values.{ipv4_of, ipv6_of, mac_of, plain_made};
 
-use crate::error::{MakeError, Wanted};
+use crate::error::Wanted;
 use crate::form::Form;
-use crate::maker::Maker;
+use crate::maker::{Maker, Stop};
 use crate::numbers::{make_named, make_number};
 use crate::places::names_at;
 use crate::tables::Tables;
@@ -19,9 +19,13 @@ use std::alloc::{AllocError, Global};
 use tc_texts::{handle_from_tc_text, read_hex, read_ipv4, read_ipv6, read_mac};
 
 // The bytes of `{"raw":"dead"}`.
+#[inline(always)]
 pub(crate) fn raw_of(alloc: Global, value: &Value) -> Result<Option<Vec<u8>>, AllocError>
     ensures { IfOk result (λ r. option_map (λ v. v.items) r ≡ raw_of (view value.now)) }
 {
+    if !value.is_object() {
+        return Ok(None);
+    }
     match value.get("raw") {
         Some(held) => hex_of(alloc, held),
         None => Ok(None),
@@ -55,7 +59,7 @@ pub(crate) fn make_plain<'v, T: Tables>(
     table: T,
     form: Form,
     value: &'v Value,
-) -> Result<(), MakeError>
+) -> Result<(), Stop>
     ensures { Appended (plain_made (T.parts_of table) form (view value.now)) maker.old.bytes.items maker.new.bytes.items result }
 {
     match form {
@@ -72,57 +76,57 @@ pub(crate) fn make_plain<'v, T: Tables>(
         Form::Mac => make_mac(maker, value),
         Form::Ipv4 => make_ipv4(maker, value),
         Form::Ipv6 => make_ipv6(maker, value),
-        _ => Err(maker.wrong(value, Wanted::Raw)),
+        _ => Err(maker.unfit(value, Wanted::Raw)),
     }
 }
 
-fn make_handle<'v>(maker: &mut Maker<'v>, value: &'v Value) -> Result<(), MakeError>
+fn make_handle<'v>(maker: &mut Maker<'v>, value: &'v Value) -> Result<(), Stop>
     ensures { Appended (plain_made no_table Form.Handle (view value.now)) maker.old.bytes.items maker.new.bytes.items result }
 {
     let text = match value.as_str() {
         Some(text) => text,
-        None => return Err(maker.wrong(value, Wanted::Handle)),
+        None => return Err(maker.unfit(value, Wanted::Handle)),
     };
     match handle_from_tc_text(text) {
         Some(handle) => maker.put_little(u64::from(handle), 4),
-        None => Err(maker.wrong(value, Wanted::Handle)),
+        None => Err(maker.unfit(value, Wanted::Handle)),
     }
 }
 
-fn make_flag<'v>(maker: &mut Maker<'v>, value: &'v Value) -> Result<(), MakeError>
+fn make_flag<'v>(maker: &mut Maker<'v>, value: &'v Value) -> Result<(), Stop>
     ensures { Appended (plain_made no_table Form.Flag (view value.now)) maker.old.bytes.items maker.new.bytes.items result }
 {
     match value.as_bool() {
         Some(true) => Ok(()),
-        _ => Err(maker.wrong(value, Wanted::True)),
+        _ => Err(maker.unfit(value, Wanted::True)),
     }
 }
 
-fn make_truth<'v>(maker: &mut Maker<'v>, value: &'v Value) -> Result<(), MakeError>
+fn make_truth<'v>(maker: &mut Maker<'v>, value: &'v Value) -> Result<(), Stop>
     ensures { Appended (plain_made no_table Form.Truth (view value.now)) maker.old.bytes.items maker.new.bytes.items result }
 {
     match value.as_bool() {
         Some(true) => maker.put_byte(1),
         Some(false) => maker.put_byte(0),
-        None => Err(maker.wrong(value, Wanted::Bool)),
+        None => Err(maker.unfit(value, Wanted::Bool)),
     }
 }
 
-fn make_bare<'v>(maker: &mut Maker<'v>, value: &'v Value) -> Result<(), MakeError>
+fn make_bare<'v>(maker: &mut Maker<'v>, value: &'v Value) -> Result<(), Stop>
     ensures { Appended (plain_made no_table Form.Bare (view value.now)) maker.old.bytes.items maker.new.bytes.items result }
 {
     match value.as_str() {
         Some(text) => maker.put(text.as_bytes()),
-        None => Err(maker.wrong(value, Wanted::Text)),
+        None => Err(maker.unfit(value, Wanted::Text)),
     }
 }
 
-fn make_text<'v>(maker: &mut Maker<'v>, value: &'v Value) -> Result<(), MakeError>
+fn make_text<'v>(maker: &mut Maker<'v>, value: &'v Value) -> Result<(), Stop>
     ensures { Appended (plain_made no_table Form.Text (view value.now)) maker.old.bytes.items maker.new.bytes.items result }
 {
     let text = match value.as_str() {
         Some(text) => text,
-        None => return Err(maker.wrong(value, Wanted::Text)),
+        None => return Err(maker.unfit(value, Wanted::Text)),
     };
     match maker.put(text.as_bytes()) {
         Ok(()) => maker.put_byte(0),
@@ -130,16 +134,16 @@ fn make_text<'v>(maker: &mut Maker<'v>, value: &'v Value) -> Result<(), MakeErro
     }
 }
 
-fn make_mac<'v>(maker: &mut Maker<'v>, value: &'v Value) -> Result<(), MakeError>
+fn make_mac<'v>(maker: &mut Maker<'v>, value: &'v Value) -> Result<(), Stop>
     ensures { Appended (plain_made no_table Form.Mac (view value.now)) maker.old.bytes.items maker.new.bytes.items result }
 {
     let text = match value.as_str() {
         Some(text) => text,
-        None => return Err(maker.wrong(value, Wanted::Mac)),
+        None => return Err(maker.unfit(value, Wanted::Mac)),
     };
     match mac_of(text) {
         Some(octets) => maker.put(&octets),
-        None => Err(maker.wrong(value, Wanted::Mac)),
+        None => Err(maker.unfit(value, Wanted::Mac)),
     }
 }
 
@@ -149,16 +153,16 @@ fn mac_of(text: &str) -> Option<[u8; 6]>
     read_mac(text)
 }
 
-fn make_ipv4<'v>(maker: &mut Maker<'v>, value: &'v Value) -> Result<(), MakeError>
+fn make_ipv4<'v>(maker: &mut Maker<'v>, value: &'v Value) -> Result<(), Stop>
     ensures { Appended (plain_made no_table Form.Ipv4 (view value.now)) maker.old.bytes.items maker.new.bytes.items result }
 {
     let text = match value.as_str() {
         Some(text) => text,
-        None => return Err(maker.wrong(value, Wanted::Ipv4)),
+        None => return Err(maker.unfit(value, Wanted::Ipv4)),
     };
     match ipv4_of(text) {
         Some(octets) => maker.put(&octets),
-        None => Err(maker.wrong(value, Wanted::Ipv4)),
+        None => Err(maker.unfit(value, Wanted::Ipv4)),
     }
 }
 
@@ -168,16 +172,16 @@ fn ipv4_of(text: &str) -> Option<[u8; 4]>
     read_ipv4(text)
 }
 
-fn make_ipv6<'v>(maker: &mut Maker<'v>, value: &'v Value) -> Result<(), MakeError>
+fn make_ipv6<'v>(maker: &mut Maker<'v>, value: &'v Value) -> Result<(), Stop>
     ensures { Appended (plain_made no_table Form.Ipv6 (view value.now)) maker.old.bytes.items maker.new.bytes.items result }
 {
     let text = match value.as_str() {
         Some(text) => text,
-        None => return Err(maker.wrong(value, Wanted::Ipv6)),
+        None => return Err(maker.unfit(value, Wanted::Ipv6)),
     };
     match ipv6_of(text) {
         Some(octets) => maker.put(&octets),
-        None => Err(maker.wrong(value, Wanted::Ipv6)),
+        None => Err(maker.unfit(value, Wanted::Ipv6)),
     }
 }
 
@@ -192,39 +196,39 @@ pub(crate) fn make_hex_at<'v>(
     maker: &mut Maker<'v>,
     name: &'static str,
     value: &'v Value,
-) -> Result<(), MakeError>
+) -> Result<(), Stop>
     ensures { Appended (hex_made (view value.now)) maker.old.bytes.items maker.new.bytes.items result }
 {
     match hex_of(maker.alloc, value) {
         Ok(Some(bytes)) => maker.put(&bytes),
-        Ok(None) => Err(maker.wrong_at(name, value, Wanted::Hex)),
-        Err(_) => Err(MakeError::OutOfMemory),
+        Ok(None) => Err(maker.wrong_member(name, value, Wanted::Hex)),
+        Err(_) => Err(Stop::OutOfMemory),
     }
 }
 
 // Bytes in hex.
-pub(crate) fn make_hex<'v>(maker: &mut Maker<'v>, value: &'v Value) -> Result<(), MakeError>
+pub(crate) fn make_hex<'v>(maker: &mut Maker<'v>, value: &'v Value) -> Result<(), Stop>
     ensures { Appended (hex_made (view value.now)) maker.old.bytes.items maker.new.bytes.items result }
 {
     match hex_of(maker.alloc, value) {
         Ok(Some(bytes)) => maker.put(&bytes),
-        Ok(None) => Err(maker.wrong(value, Wanted::Hex)),
-        Err(_) => Err(MakeError::OutOfMemory),
+        Ok(None) => Err(maker.unfit(value, Wanted::Hex)),
+        Err(_) => Err(Stop::OutOfMemory),
     }
 }
 
 // So many bytes in hex.
-fn make_hex_of<'v>(maker: &mut Maker<'v>, len: usize, value: &'v Value) -> Result<(), MakeError>
+fn make_hex_of<'v>(maker: &mut Maker<'v>, len: usize, value: &'v Value) -> Result<(), Stop>
     ensures { Appended (plain_made no_table (Form.Bytes len) (view value.now)) maker.old.bytes.items maker.new.bytes.items result }
 {
     match hex_of(maker.alloc, value) {
         Ok(Some(bytes)) => {
             if bytes.len() != len {
-                return Err(maker.wrong(value, Wanted::HexOf(len)));
+                return Err(maker.unfit(value, Wanted::HexOf(len)));
             }
             maker.put(&bytes)
         }
-        Ok(None) => Err(maker.wrong(value, Wanted::HexOf(len))),
-        Err(_) => Err(MakeError::OutOfMemory),
+        Ok(None) => Err(maker.unfit(value, Wanted::HexOf(len))),
+        Err(_) => Err(Stop::OutOfMemory),
     }
 }

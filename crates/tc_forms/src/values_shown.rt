@@ -6,6 +6,7 @@ ghost use Rattle.tc_forms.specs.Sent.{Sent, events};
 ghost use Rattle.tc_forms.specs.Tables.{no_table};
 ghost use Rattle.tc_forms.specs.Values.{plain_shown, text_in};
 
+use crate::events::{Stopped, begin_map, end_map, key, string, truth};
 use crate::form::Form;
 use crate::numbers::{bits_of, send_bytes_number, send_named};
 use crate::places::names_at;
@@ -22,92 +23,128 @@ pub(crate) fn send_plain<S: Serializer, T: Tables>(
     bytes: &[u8],
     alloc: Global,
     out: &mut S,
-) -> Result<(), S::Error>
+    error: &mut Option<S::Error>,
+) -> Result<(), Stopped>
     ensures { OnOk result (Sent (events (plain_shown (T.parts_of table) form bytes.now)) (S.written out.old) (S.written out.new)) }
 {
     match form {
-        Form::Number(number) => send_bytes_number(number, bytes, alloc, out),
+        Form::Number(number) => send_bytes_number(number, bytes, alloc, out, error),
         Form::Named(number, place) => {
             if bytes.len() != number.width() {
-                return send_raw(bytes, alloc, out);
+                return send_raw(bytes, alloc, out, error);
             }
-            send_named(names_at(table, place), number, bits_of(number, bytes), out)
+            send_named(
+                names_at(table, place),
+                number,
+                bits_of(number, bytes),
+                out,
+                error,
+            )
         }
-        Form::Handle => send_handle(bytes, alloc, out),
+        Form::Handle => send_handle(bytes, alloc, out, error),
         Form::Flag => {
             if !bytes.is_empty() {
-                return send_raw(bytes, alloc, out);
+                return send_raw(bytes, alloc, out, error);
             }
-            out.bool(true)
+            truth(true, out, error)
         }
-        Form::Truth => send_truth(bytes, alloc, out),
-        Form::Bare => send_bare(bytes, alloc, out),
-        Form::Text => send_text(bytes, alloc, out),
-        Form::Hex => send_hex(bytes, alloc, out),
+        Form::Truth => send_truth(bytes, alloc, out, error),
+        Form::Bare => send_bare(bytes, alloc, out, error),
+        Form::Text => send_text(bytes, alloc, out, error),
+        Form::Hex => send_hex(bytes, alloc, out, error),
         Form::Bytes(len) | Form::Pad(len) => {
             if bytes.len() != len {
-                return send_raw(bytes, alloc, out);
+                return send_raw(bytes, alloc, out, error);
             }
-            send_hex(bytes, alloc, out)
+            send_hex(bytes, alloc, out, error)
         }
-        Form::Mac => send_mac(bytes, alloc, out),
-        Form::Ipv4 => send_ipv4(bytes, alloc, out),
-        Form::Ipv6 => send_ipv6(bytes, alloc, out),
-        _ => send_raw(bytes, alloc, out),
+        Form::Mac => send_mac(bytes, alloc, out, error),
+        Form::Ipv4 => send_ipv4(bytes, alloc, out, error),
+        Form::Ipv6 => send_ipv6(bytes, alloc, out, error),
+        _ => send_raw(bytes, alloc, out, error),
     }
 }
 
 #[inline(never)]
-fn send_handle<S: Serializer>(bytes: &[u8], alloc: Global, out: &mut S) -> Result<(), S::Error>
+fn send_handle<S: Serializer>(
+    bytes: &[u8],
+    alloc: Global,
+    out: &mut S,
+    error: &mut Option<S::Error>,
+) -> Result<(), Stopped>
     ensures { OnOk result (Sent (events (plain_shown no_table Form.Handle bytes.now)) (S.written out.old) (S.written out.new)) }
 {
     match bytes {
-        [a, b, c, d] => out.str(handle_text(u32::from_le_bytes([*a, *b, *c, *d])).as_str()),
-        _ => send_raw(bytes, alloc, out),
+        [a, b, c, d] => string(
+            handle_text(u32::from_le_bytes([*a, *b, *c, *d])).as_str(),
+            out,
+            error,
+        ),
+        _ => send_raw(bytes, alloc, out, error),
     }
 }
 
 #[inline(never)]
-fn send_mac<S: Serializer>(bytes: &[u8], alloc: Global, out: &mut S) -> Result<(), S::Error>
+fn send_mac<S: Serializer>(
+    bytes: &[u8],
+    alloc: Global,
+    out: &mut S,
+    error: &mut Option<S::Error>,
+) -> Result<(), Stopped>
     ensures { OnOk result (Sent (events (plain_shown no_table Form.Mac bytes.now)) (S.written out.old) (S.written out.new)) }
 {
     match bytes.try_into() {
-        Ok(octets) => out.str(mac_text(octets).as_str()),
-        Err(_) => send_raw(bytes, alloc, out),
+        Ok(octets) => string(mac_text(octets).as_str(), out, error),
+        Err(_) => send_raw(bytes, alloc, out, error),
     }
 }
 
 #[inline(never)]
-fn send_ipv4<S: Serializer>(bytes: &[u8], alloc: Global, out: &mut S) -> Result<(), S::Error>
+fn send_ipv4<S: Serializer>(
+    bytes: &[u8],
+    alloc: Global,
+    out: &mut S,
+    error: &mut Option<S::Error>,
+) -> Result<(), Stopped>
     ensures { OnOk result (Sent (events (plain_shown no_table Form.Ipv4 bytes.now)) (S.written out.old) (S.written out.new)) }
 {
     match bytes.try_into() {
-        Ok(octets) => out.str(ipv4_text(octets).as_str()),
-        Err(_) => send_raw(bytes, alloc, out),
+        Ok(octets) => string(ipv4_text(octets).as_str(), out, error),
+        Err(_) => send_raw(bytes, alloc, out, error),
     }
 }
 
 #[inline(never)]
-fn send_ipv6<S: Serializer>(bytes: &[u8], alloc: Global, out: &mut S) -> Result<(), S::Error>
+fn send_ipv6<S: Serializer>(
+    bytes: &[u8],
+    alloc: Global,
+    out: &mut S,
+    error: &mut Option<S::Error>,
+) -> Result<(), Stopped>
     ensures { OnOk result (Sent (events (plain_shown no_table Form.Ipv6 bytes.now)) (S.written out.old) (S.written out.new)) }
 {
     match bytes.try_into() {
-        Ok(octets) => out.str(ipv6_text(octets).as_str()),
-        Err(_) => send_raw(bytes, alloc, out),
+        Ok(octets) => string(ipv6_text(octets).as_str(), out, error),
+        Err(_) => send_raw(bytes, alloc, out, error),
     }
 }
 
 #[inline(never)]
-fn send_truth<S: Serializer>(bytes: &[u8], alloc: Global, out: &mut S) -> Result<(), S::Error>
+fn send_truth<S: Serializer>(
+    bytes: &[u8],
+    alloc: Global,
+    out: &mut S,
+    error: &mut Option<S::Error>,
+) -> Result<(), Stopped>
     ensures { OnOk result (Sent (events (plain_shown no_table Form.Truth bytes.now)) (S.written out.old) (S.written out.new)) }
 {
     if is_byte(bytes, 0) {
-        return out.bool(false);
+        return truth(false, out, error);
     }
     if is_byte(bytes, 1) {
-        return out.bool(true);
+        return truth(true, out, error);
     }
-    send_raw(bytes, alloc, out)
+    send_raw(bytes, alloc, out, error)
 }
 
 fn is_byte(bytes: &[u8], byte: u8) -> bool
@@ -118,22 +155,32 @@ fn is_byte(bytes: &[u8], byte: u8) -> bool
 }
 
 #[inline(never)]
-fn send_bare<S: Serializer>(bytes: &[u8], alloc: Global, out: &mut S) -> Result<(), S::Error>
+fn send_bare<S: Serializer>(
+    bytes: &[u8],
+    alloc: Global,
+    out: &mut S,
+    error: &mut Option<S::Error>,
+) -> Result<(), Stopped>
     ensures { OnOk result (Sent (events (plain_shown no_table Form.Bare bytes.now)) (S.written out.old) (S.written out.new)) }
 {
     match str::from_utf8(bytes) {
-        Ok(text) => out.str(text),
-        Err(_) => send_raw(bytes, alloc, out),
+        Ok(text) => string(text, out, error),
+        Err(_) => send_raw(bytes, alloc, out, error),
     }
 }
 
 #[inline(never)]
-fn send_text<S: Serializer>(bytes: &[u8], alloc: Global, out: &mut S) -> Result<(), S::Error>
+fn send_text<S: Serializer>(
+    bytes: &[u8],
+    alloc: Global,
+    out: &mut S,
+    error: &mut Option<S::Error>,
+) -> Result<(), Stopped>
     ensures { OnOk result (Sent (events (plain_shown no_table Form.Text bytes.now)) (S.written out.old) (S.written out.new)) }
 {
     match text_in(bytes) {
-        Some(text) => out.str(text),
-        None => send_raw(bytes, alloc, out),
+        Some(text) => string(text, out, error),
+        None => send_raw(bytes, alloc, out, error),
     }
 }
 
@@ -143,13 +190,14 @@ pub(crate) fn send_raw<S: Serializer>(
     bytes: &[u8],
     alloc: Global,
     out: &mut S,
-) -> Result<(), S::Error>
+    error: &mut Option<S::Error>,
+) -> Result<(), Stopped>
     ensures { OnOk result (Sent (events (raw bytes.now)) (S.written out.old) (S.written out.new)) }
 {
-    out.begin_map(None)?;
-    out.key("raw")?;
-    send_hex(bytes, alloc, out)?;
-    out.end_map()
+    begin_map(out, error)?;
+    key("raw", out, error)?;
+    send_hex(bytes, alloc, out, error)?;
+    end_map(out, error)
 }
 
 // Bytes in hex.
@@ -158,12 +206,16 @@ pub(crate) fn send_hex<S: Serializer>(
     bytes: &[u8],
     alloc: Global,
     out: &mut S,
-) -> Result<(), S::Error>
+    error: &mut Option<S::Error>,
+) -> Result<(), Stopped>
     ensures { OnOk result (Sent (events (hex bytes.now)) (S.written out.old) (S.written out.new)) }
 {
     match hex_string(alloc, bytes) {
-        Ok(text) => out.str(text.as_str()),
-        Err(_) => Err(out.custom("out of memory")),
+        Ok(text) => string(text.as_str(), out, error),
+        Err(_) => {
+            *error = Some(out.custom("out of memory"));
+            Err(Stopped::Failed)
+        }
     }
 }
 

@@ -15,6 +15,7 @@ mod input;
 mod made;
 mod members;
 pub mod message;
+mod order;
 mod packet;
 mod packets;
 pub mod program;

@@ -85,8 +85,8 @@ fn request_for(alloc: Global, dump: Dump, bytes: &[u8]) -> Result<Request<Vec<u8
     }
 }
 
-// What is dumped under a message type.
-fn dump_of(kind: Option<u16>) -> Result<Dump, Complaint>
+/// What is dumped under a message type.
+pub(crate) fn dump_of(kind: Option<u16>) -> Result<Dump, Complaint>
     ensures { IfOk result (IsDumpOf kind) }
 {
     if let Some(kind) = kind {

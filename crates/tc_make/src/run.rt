@@ -1,6 +1,6 @@
 //! A whole run.
 
-ghost use Rattle.std.specs.Prelude.{◌≡◌, ◌++◌, ℕ, List, false, IfOk, OnOk};
+ghost use Rattle.std.specs.Prelude.{◌≡◌, ◌++◌, ℕ, List, true, false, IfOk, OnOk};
 ghost use Rattle.tc_make.specs.Answer.{Becomes, IsWire, IsWritten};
 ghost use Rattle.tc_make.specs.Written.{hex_line};
 
@@ -9,6 +9,7 @@ use crate::complaint::{Complaint, Notice};
 use crate::input::{Line, next_line};
 use crate::made::{Made, made_of};
 use crate::message::Forms;
+use crate::order::{make_in_order, make_line_by_line};
 use crate::packet::{CAPTURE, put_line, with_header};
 use crate::packets::Packet;
 use crate::restore::restored;
@@ -64,6 +65,13 @@ fn make_all<T: Tables, R: BufRead, W: Write, E: Write>(
     if request.pcap {
         write_all(writer, &CAPTURE)?;
     }
+    if request.making == Making::Restored {
+        return if request.in_order {
+            make_line_by_line(alloc, forms, request, reader, writer, errors, has_refused)
+        } else {
+            make_in_order(alloc, forms, request, reader, writer, errors, has_refused)
+        };
+    }
     let mut line = Vec::new(alloc);
     let mut out = Vec::new(alloc);
     let mut packet = Packet::new(alloc);
@@ -96,15 +104,25 @@ fn make_all<T: Tables, R: BufRead, W: Write, E: Write>(
             }
         }
     }
+    end_packet(packet, &mut out, writer)
+}
+
+/// Writes the last packet of a capture.
+pub(crate) fn end_packet<W: Write>(
+    packet: Packet,
+    out: &mut Vec<u8>,
+    writer: &mut W,
+) -> Result<(), Stop> {
+    let mut packet = packet;
     out.clear();
-    match packet.end(&mut out) {
-        Ok(()) => write_all(writer, &out),
+    match packet.end(out) {
+        Ok(()) => write_all(writer, out),
         Err(_) => Err(Stop::NoMemory),
     }
 }
 
-// True of a line that holds nothing.
-fn is_blank(line: &[u8]) -> bool {
+/// True of a line that holds nothing.
+pub(crate) fn is_blank(line: &[u8]) -> bool {
     line.iter().all(|byte| byte.is_ascii_whitespace())
 }
 
@@ -120,7 +138,7 @@ fn put_message<T: Tables, E: Write>(
     out: &mut Vec<u8>,
     errors: &mut E,
 ) -> Result<(), Complaint>
-    ensures hex { request.now.pcap ≡ false → OnOk result ((text : List ℕ) × (out.new.items ≡ out.old.items ++ text)
+    ensures hex { request.now.pcap ≡ false → request.now.stream ≡ false → OnOk result ((text : List ℕ) × (out.new.items ≡ out.old.items ++ text)
         × IsWritten (T.parts_of forms.table) forms.tc forms.action request.now.no_header request.now.making line.now text) }
 {
     match found {
@@ -129,11 +147,7 @@ fn put_message<T: Tables, E: Write>(
         Line::Whole | Line::End => (),
     }
     let made = make_line(alloc, forms, request.making, line)?;
-    if request.pcap {
-        put_in_packet(alloc, &made, packet, out)?;
-    } else {
-        put_hex(alloc, request.no_header, &made, out)?;
-    }
+    put_made(alloc, request, &made, packet, out)?;
     say_settled(alloc, errors, number, &made)
 }
 
@@ -154,6 +168,39 @@ fn make_line<T: Tables>(
         }
         Making::Checked | Making::Settled | Making::AsGiven => Ok(made),
     }
+}
+
+/// Appends a message as it is asked for.
+pub(crate) fn put_made(
+    alloc: Global,
+    request: &Request,
+    made: &Made,
+    packet: &mut Packet,
+    out: &mut Vec<u8>,
+) -> Result<(), Complaint>
+    ensures hex { request.now.pcap ≡ false → request.now.stream ≡ false
+        → OnOk result ((whole : List ℕ) × IsWire request.now.no_header made.now.given made.now.bytes.items whole
+        × (out.new.items ≡ out.old.items ++ hex_line whole)) }
+    ensures stream { request.now.pcap ≡ false → request.now.stream ≡ true
+        → OnOk result ((whole : List ℕ) × IsWire false made.now.given made.now.bytes.items whole
+        × (out.new.items ≡ out.old.items ++ whole)) }
+{
+    if request.pcap {
+        put_in_packet(alloc, made, packet, out)
+    } else if request.stream {
+        put_whole(alloc, made, out)
+    } else {
+        put_hex(alloc, request.no_header, made, out)
+    }
+}
+
+// Appends a message behind its netlink header; both are as long as a multiple of four.
+fn put_whole(alloc: Global, made: &Made, out: &mut Vec<u8>) -> Result<(), Complaint>
+    ensures { OnOk result ((whole : List ℕ) × IsWire false made.now.given made.now.bytes.items whole
+        × (out.new.items ≡ out.old.items ++ whole)) }
+{
+    let whole = with_header(alloc, &made.given, &made.bytes)?;
+    Ok(out.extend_from_slice(&whole)?)
 }
 
 // Appends a message to its packet; the packet before it, if that ends here, is appended to `out`.
@@ -193,7 +240,8 @@ fn say_settled<E: Write>(
     Ok(())
 }
 
-fn say<E: Write>(
+/// Says why no message is made of a line.
+pub(crate) fn say<E: Write>(
     alloc: Global,
     errors: &mut E,
     number: u64,

@@ -1,103 +1,117 @@
 //! Steps, and their order.
 
-ghost use Rattle.std.specs.Prelude.{◌≡◌, ◌++◌, List, [], true, not, All, IfOk, IsPermutation};
-ghost use Rattle.std.specs.HashSet as bag;
-ghost use Rattle.std.specs.List.{filter, list_any};
-ghost use Rattle.tc_order.specs.Order.{waits, IsOrder};
+ghost use Rattle.std.specs.Prelude.{◌≡◌, ◌++◌, ◌||◌, List, [], true, false, All, IfOk, IsPermutation, nat_lt};
+ghost use Rattle.std.specs.List.{list_any};
+ghost use Rattle.tc_order.specs.Counts.{count};
+ghost use Rattle.tc_order.specs.Order.{waits, swept, is_in_order, IsOrder, IsBehind};
 
-use crate::given::{Keys, given_by};
+use crate::counts::{Numbers, given_by, has_any, less};
+use crate::walk::walked;
 use std::alloc::{AllocError, Allocator};
 use std::hash::Hash;
 
 /// A step that gives others what they want, and wants what others give.
 #[derive(Drop, Debug)]
-pub struct Step<K, A: Allocator> {
-    /// The caller's number of it.
-    pub place: usize,
+pub struct Step<T, K, A: Allocator> {
+    /// The caller's name of it.
+    pub item: T,
     /// What it gives.
     pub gives: Vec<K, A>,
     /// What it wants. What no step gives counts as there.
     pub wants: Vec<K, A>,
+    /// True of a step that can't be made: neither it nor what needs it comes into an order.
+    pub is_barred: bool,
 }
 
 /// Steps in an order, and those that have none.
 #[derive(Drop, Debug)]
-pub struct Order<K, A: Allocator> {
+pub struct Order<T, K, A: Allocator> {
     /// Each step stands behind those that it needs.
-    pub order: Vec<Step<K, A>, A>,
-    /// Steps that need one another in a circle, and those that need such.
-    pub left: Vec<Step<K, A>, A>,
+    pub order: Vec<Step<T, K, A>, A>,
+    /// Steps that are barred or need one another in a circle, and those that need such.
+    pub left: Vec<Step<T, K, A>, A>,
 }
 
 /// Brings steps into an order in which each stands behind all that it needs: the steps that give what it wants. Steps that
-/// don't wait for others keep theirs.
-pub fn ordered<K: Eq + Hash + Copy + Drop, A: Allocator + Copy>(
+/// are in order already stay as they are.
+pub fn ordered<T: Drop, K: Eq + Hash + Copy + Drop, A: Allocator + Copy>(
     alloc: A,
-    steps: Vec<Step<K, A>, A>,
-) -> Result<Order<K, A>, AllocError>
+    steps: Vec<Step<T, K, A>, A>,
+) -> Result<Order<T, K, A>, AllocError>
     ensures once { IfOk result (λ made.
         IsPermutation steps.items (made.order.items ++ made.left.items)) }
     ensures behind { IfOk result (λ made. IsOrder K.eq steps.items made.order.items) }
+    ensures free { IfOk result (λ made. All (λ step. step.is_barred ≡ false) made.order.items) }
+    ensures stuck { IfOk result (λ made.
+        All (λ step. waits K.eq made.left.items step ≡ true) made.left.items) }
+    ensures same { IfOk result (λ made.
+        is_in_order K.eq steps.items ≡ true → made.order.items ≡ steps.items) }
+{
+    let (order, left) = swept(alloc, Vec::new(alloc), steps)?;
+    if left.is_empty() {
+        return Ok(Order { order, left });
+    }
+    let made = finished(alloc, order, left)?;
+    Ok(made)
+}
+
+// The same of steps behind an order. A walk brings nearly all of them in order at once.
+fn finished<T: Drop, K: Eq + Hash + Copy + Drop, A: Allocator + Copy>(
+    alloc: A,
+    order: Vec<Step<T, K, A>, A>,
+    left: Vec<Step<T, K, A>, A>,
+) -> Result<Order<T, K, A>, AllocError>
+    ensures sound { IfOk result (λ made. (all : List (Step T K A))
+        → IsBehind K.eq all order.items left.items → IsBehind K.eq all made.order.items made.left.items) }
     ensures stuck { IfOk result (λ made.
         All (λ step. waits K.eq made.left.items step ≡ true) made.left.items) }
 {
-    let rounds = steps.len();
-    let mut order = Vec::new(alloc);
-    let mut left = steps;
+    let rounds = left.len();
+    let mut order = order;
+    let mut left = left;
     for _ in 0..rounds {
-        let (ready, waiting) = round(alloc, left)?;
-        left = waiting;
-        if ready.is_empty() {
+        let count = left.len();
+        let steps = walked(alloc, left)?;
+        let (more, stay) = swept(alloc, order, steps)?;
+        order = more;
+        left = stay;
+        if left.len() == count {
             return Ok(Order { order, left });
         }
-        order = joined(order, ready)?;
     }
     Ok(Order { order, left })
 }
 
-// The steps that wait for none of these, and those that do.
-fn round<K: Eq + Hash + Copy + Drop, A: Allocator + Copy>(
+// Puts each step that waits for none of those left behind an order; the others stay.
+fn swept<T: Drop, K: Eq + Hash + Copy + Drop, A: Allocator + Copy>(
     alloc: A,
-    steps: Vec<Step<K, A>, A>,
-) -> Result<(Vec<Step<K, A>, A>, Vec<Step<K, A>, A>), AllocError>
-    ensures ready { IfOk result (λ made.
-        made.0.items ≡ filter (λ step. not (waits K.eq steps.items step)) steps.items) }
-    ensures waiting { IfOk result (λ made.
-        made.1.items ≡ filter (λ step. waits K.eq steps.items step) steps.items) }
+    order: Vec<Step<T, K, A>, A>,
+    steps: Vec<Step<T, K, A>, A>,
+) -> Result<(Vec<Step<T, K, A>, A>, Vec<Step<T, K, A>, A>), AllocError>
+    ensures { IfOk result (λ made.
+        (made.0.items, made.1.items) ≡ swept K.eq order.items [] steps.items) }
 {
-    let given = given_by(alloc, &steps)?;
-    let mut ready = Vec::new(alloc);
-    let mut waiting = Vec::new(alloc);
+    let mut counts = given_by(alloc, &steps)?;
+    let mut order = order;
+    let mut stay = Vec::new(alloc);
     for step in steps {
-        if wants_any(&given, &step) {
-            waiting.push(step)?;
+        if waits(&counts, &step) {
+            stay.push(step)?;
         } else {
-            ready.push(step)?;
+            counts = less(counts, &step.gives)?;
+            order.push(step)?;
         }
     }
-    Ok((ready, waiting))
+    Ok((order, stay))
 }
 
-// True if a step wants one of these.
-fn wants_any<K: Eq + Hash + Copy + Drop, A: Allocator + Copy>(
-    given: &Keys<K, A>,
-    step: &Step<K, A>,
+// True if a step is barred, or wants what is still to be given.
+fn waits<T: Drop, K: Eq + Hash + Copy + Drop, A: Allocator + Copy>(
+    counts: &Numbers<K, A>,
+    step: &Step<T, K, A>,
 ) -> bool
-    ensures { result ≡ list_any (λ key. bag.contains K.eq given.now key) step.now.wants.items }
+    ensures { result ≡ (step.now.is_barred
+        || list_any (λ key. nat_lt 0 (count K.eq counts.now key)) step.now.wants.items) }
 {
-    step.wants.iter().any(|key| given.contains(key))
-}
-
-// Steps behind others.
-fn joined<K: Drop, A: Allocator>(
-    order: Vec<Step<K, A>, A>,
-    ready: Vec<Step<K, A>, A>,
-) -> Result<Vec<Step<K, A>, A>, AllocError>
-    ensures { IfOk result (λ made. made.items ≡ order.items ++ ready.items) }
-{
-    let mut made = order;
-    for step in ready {
-        made.push(step)?;
-    }
-    Ok(made)
+    step.is_barred || has_any(counts, &step.wants)
 }

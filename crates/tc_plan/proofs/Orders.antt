@@ -1,19 +1,66 @@
--- The steps of dumps, and their order.
-use Rattle.std.proofs.Common.{◌≡◌, ℕ, ◌+◌, ◌++◌, ◌∷◌, [], Bool, List, length, IsPermutation, ap, arith}
+-- Steps of dumps, and their order.
+use Rattle.std.proofs.Common.{◌≡◌, Bool, false, List, [], ◌∷◌, ◌++◌, All, IsPermutation, map, refl, sym, ap, subst, ◌∙◌, ℕ, append_assoc, append-nil}
+use Rattle.std.specs.List.{Contains, AllByRecursion}
 use Rattle.std.proofs.lemmas.List.Sorted.{IsPermutation-sym, Contains-permutation}
+use Rattle.std.proofs.lemmas.List.Elements.{All-from_recursion, recursion_from_All}
 use Rattle.tc_order.specs.Order.{IsOrder, none, next}
 use Rattle.tc_order.specs.declared.order.Step.{Step}
-use Rattle.tc_plan.specs.declared.planned.Dump.{Dump}
-use Rattle.tc_plan.specs.Plans.{parts_at, parts_from}
+use Rattle.std.specs.Option.{option_to_list}
+use Rattle.std.proofs.lemmas.List.{map-append}
+use Rattle.std.proofs.lemmas.Grind.{flat_map-append}
+use Rattle.tc_plan.specs.Fates.{Parts, parts_of, needs_of, objects}
+use Rattle.tc_plan.specs.declared.entry.Entry.{Entry}
+use Rattle.tc_plan.specs.declared.entry.Item.{Item}
+use Rattle.tc_plan.specs.declared.key.Key.{Key}
 
 -- an order among steps is one among the same steps, whatever the order of these
-pub order_again : {K A : Type 0} (eq : K → K → Bool) (xs ys : List (Step K A)) → IsPermutation xs ys → (order : List (Step K A)) → IsOrder eq xs order → IsOrder eq ys order
+pub order_again : {T K A : Type 0} (eq : K → K → Bool) (xs ys : List (Step T K A)) → IsPermutation xs ys → (order : List (Step T K A)) → IsOrder eq xs order → IsOrder eq ys order
 order_again eq xs ys same _ none = none
 order_again eq xs ys same _ (next before step is finds) =
     next before step (order_again eq xs ys same before is)
     (λ other among needed. finds other (Contains-permutation ys xs other (IsPermutation-sym xs ys same) among) needed)
 
--- one more dump
-pub parts_more : {A : Type 0} (place n : ℕ) (ds : List (Dump A)) (d : Dump A) → place + length ds ≡ n → parts_from place (ds ++ d ∷ []) ≡ parts_from place ds ++ parts_at n d ∷ []
-parts_more place n [] d is = let same : place ≡ n = omega (arith, is) in ap (λ k. parts_at k d ∷ []) same
-parts_more place n (x ∷ ds) d is = ap (λ l. parts_at place x ∷ l) (parts_more (place + 1) n ds d (omega (arith, is)))
+module _ {X : Type 0} where
+  all_front : (P : X → Type 0) (xs ys : List X) → AllByRecursion P (xs ++ ys) → AllByRecursion P xs
+  all_front P [] ys all = tt
+  all_front P (x ∷ xs) ys all = (all.0, all_front P xs ys all.1)
+
+  -- what holds of all holds of the first of them
+  pub front_of : (P : X → Type 0) (xs ys : List X) → All P (xs ++ ys) → All P xs
+  front_of P xs ys all = All-from_recursion P xs (all_front P xs ys (recursion_from_All P (xs ++ ys) all))
+
+  both_by : (P Q R : X → Type 0) → ((x : X) → P x → Q x → R x) → (xs : List X) → AllByRecursion P xs → AllByRecursion Q xs → AllByRecursion R xs
+  both_by P Q R and [] p q = tt
+  both_by P Q R and (x ∷ xs) p q = (and x p.0 q.0, both_by P Q R and xs p.1 q.1)
+
+  -- two facts of all give a third
+  pub all_both : (P Q R : X → Type 0) → ((x : X) → P x → Q x → R x) → (xs : List X) → All P xs → All Q xs → All R xs
+  all_both P Q R and xs p q = All-from_recursion R xs (both_by P Q R and xs (recursion_from_All P xs p) (recursion_from_All Q xs q))
+
+  all_pushed : (P : X → Type 0) (xs : List X) (x : X) → AllByRecursion P xs → P x → AllByRecursion P (xs ++ x ∷ [])
+  all_pushed P [] x all here = (here, tt)
+  all_pushed P (y ∷ xs) x all here = (all.0, all_pushed P xs x all.1 here)
+
+  -- one more
+  pub all_more : (P : X → Type 0) (xs : List X) (x : X) → All P xs → P x → All P (xs ++ x ∷ [])
+  all_more P xs x all here = All-from_recursion P (xs ++ x ∷ []) (all_pushed P xs x (recursion_from_All P xs all) here)
+
+module _ {A : Type 0} where
+  -- one more step, and the parts of those to come
+  pub parts_more : (old new : List (Step Item Key A)) (step : Step Item Key A) (rest all : List Parts) (part : Parts) → new ≡ old ++ step ∷ []
+      → parts_of step ≡ part → map parts_of old ++ part ∷ rest ≡ all → map parts_of new ++ rest ≡ all
+  parts_more old new step rest all part pushed same is =
+      ap (λ l. map parts_of l ++ rest) pushed ∙ ap (λ l. l ++ rest) (map-append parts_of old (step ∷ []))
+      ∙ append_assoc (map parts_of old) (parts_of step ∷ []) rest ∙ ap (λ p. map parts_of old ++ p ∷ rest) same ∙ is
+
+  pub objects_more : (entries : List (Entry A)) (entry : Entry A) → objects (entries ++ entry ∷ []) ≡ objects entries ++ option_to_list entry.object
+  objects_more entries entry =
+      flat_map-append (λ (e : Entry A). option_to_list e.object) entries (entry ∷ []) ∙ ap (λ l. objects entries ++ l) (append-nil (option_to_list entry.object))
+
+  -- one more step, freed
+  pub needs_more : (old : List (Step ℕ Key A)) (front : List (Step Item Key A)) (new : List (Step ℕ Key A)) (more : List (Step Item Key A)) (step : Step ℕ Key A) (x : Step Item Key A)
+      → new ≡ old ++ step ∷ [] → more ≡ front ++ x ∷ [] → map (λ s. needs_of s.item s) old ≡ map (λ s. needs_of s.item.place s) front
+      → needs_of step.item step ≡ needs_of x.item.place x → map (λ s. needs_of s.item s) new ≡ map (λ s. needs_of s.item.place s) more
+  needs_more old front new more step x pushed is same one =
+      ap (map (λ s. needs_of s.item s)) pushed ∙ map-append (λ s. needs_of s.item s) old (step ∷ []) ∙ ap (λ l. l ++ needs_of step.item step ∷ []) same
+      ∙ ap (λ p. map (λ s. needs_of s.item.place s) front ++ p ∷ []) one ∙ sym (map-append (λ s. needs_of s.item.place s) front (x ∷ [])) ∙ ap (map (λ s. needs_of s.item.place s)) (sym is)

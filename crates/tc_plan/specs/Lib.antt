@@ -1,2 +1,2 @@
+pub mod Fates
 pub mod Needs
-pub mod Plans

@@ -1,16 +1,19 @@
 -- What the request that restores a dump needs: what gives a key that it wants.
-use Rattle.std.specs.Prelude.{ℕ, ℤ, negsuc, ◌*◌, ◌/◌, ◌%◌, Bool, ◌==◌, ◌&&◌, ◌||◌, List, [], ◌∷◌, ◌++◌, length, if◌then◌else◌}
-use Rattle.std.specs.List.{flat_map}
+use Rattle.std.specs.Prelude.{ℕ, ℤ, negsuc, ◌*◌, ◌/◌, ◌%◌, Bool, true, false, not, ◌==◌, ◌&&◌, ◌||◌, List, [], ◌∷◌, ◌++◌, length, if◌then◌else◌, bytes_eq, codes, string_bytes}
+use Rattle.std.specs.List.{flat_map, list_any}
 use Rattle.std.specs.Ordering.{int_eq}
 use Rattle.nla_frames.specs.DefaultNla.{kept_frame}
 use Rattle.nla_frames.specs.Frame.{type_of}
 use Rattle.nla_frames.specs.Value.{le_value}
 use Rattle.tc_records.specs.Header.{handle_number}
+use Rattle.tc_records.specs.declared.header.TcHeader.{TcHeader}
 use Rattle.tc_attributes.specs.declared.attribute.TcAttribute.{TcAttribute}
 use Rattle.tc_attributes.specs.declared.attribute.TcAttribute.TheVariants as attribute
 use Rattle.tc_messages.specs.declared.message.TcMessage.{TcMessage}
 use Rattle.tc_requests.specs.declared.restore_messages.Object.{Object}
 use Rattle.tc_requests.specs.declared.restore_messages.Object.TheVariants.{Qdisc, Class, Filter, Chain}
+use Rattle.tc_plan.specs.declared.fate.Fate.{Fate}
+use Rattle.tc_plan.specs.Fates.{is_refused}
 use Rattle.tc_plan.specs.declared.key.Key.{Key}
 use Rattle.tc_plan.specs.declared.key.Key.TheVariants as key
 
@@ -51,12 +54,35 @@ tables_of m = key.Tables m.header.index (handle_number m.header.parent)
 abbrev pub is_table : {A : Type 0} → TcMessage A → Bool
 is_table m = handle_number m.header.handle % 0x100000 == 0
 
--- a qdisc gives itself and its blocks, a class itself, a chain and a hash table themselves
+-- an attribute is the kind; it is the kind clsact
+abbrev pub is_kind : {A : Type 0} → TcAttribute A → Bool
+is_kind (attribute.Kind text) = true
+is_kind x = false
+
+abbrev pub is_clsact : {A : Type 0} → TcAttribute A → Bool
+is_clsact (attribute.Kind text) = bytes_eq (string_bytes text) (codes "clsact")
+is_clsact x = false
+
+abbrev pub has_kind : {A : Type 0} → List (TcAttribute A) → Bool
+has_kind attributes = list_any is_kind attributes
+
+-- a filter in the chain that a message is in
+abbrev pub in_chain : {A : Type 0} → TcMessage A → Key
+in_chain m = key.InChain m.header.index (handle_number m.header.parent) (chain_number m.attributes.items)
+
+-- a qdisc gives itself, clsact if it is that, and its blocks, a class itself, a chain itself; a filter that its chain has one, and
+-- a hash table itself
 abbrev pub gives : {A : Type 0} → Object → TcMessage A → List Key
-gives Qdisc m = key.Node m.header.index (handle_number m.header.handle) ∷ flat_map block_of m.attributes.items
+gives Qdisc m =
+    (key.Node m.header.index (handle_number m.header.handle) ∷ (if list_any is_clsact m.attributes.items then key.Clsact m.header.index ∷ [] else []))
+    ++ flat_map block_of m.attributes.items
 gives Class m = key.Node m.header.index (handle_number m.header.handle) ∷ []
 gives Chain m = chain_of m ∷ []
-gives Filter m = if is_table m then tables_of m ∷ [] else []
+gives Filter m = in_chain m ∷ (if is_table m then tables_of m ∷ [] else [])
+
+-- actions give themselves, unless they can't be made
+abbrev pub gives_actions : Fate → List Key
+gives_actions fate = if is_refused fate then [] else key.Actions ∷ []
 
 -- each wants its parent; a class its qdisc; a filter actions, since it may share one, its chain, and hash tables, which it may
 -- be in or link to
@@ -67,3 +93,29 @@ wants Chain m = parents m.header.index (handle_number m.header.parent)
 wants Filter m =
     (parents m.header.index (handle_number m.header.parent) ++ key.Actions ∷ chain_of m ∷ [])
     ++ (if is_table m then [] else tables_of m ∷ [])
+
+-- what a dump is, of which one is enough
+abbrev pub object : {A : Type 0} → Object → TcMessage A → List Key
+object Qdisc m = key.Node m.header.index (handle_number m.header.handle) ∷ []
+object Class m = key.Node m.header.index (handle_number m.header.handle) ∷ []
+object Chain m = chain_of m ∷ []
+object Filter m =
+    key.Filter m.header.index (handle_number m.header.parent) (chain_number m.attributes.items) (handle_number m.header.handle) m.header.info ∷ []
+
+-- a class whose parent is a class needs it among the dumps: htb would put it at the root
+abbrev pub must : Object → TcHeader → List Key
+must Class h =
+    if not (handle_number h.parent % 0x10000 == 0) && not (handle_number h.parent == 0xffffffff)
+    then key.Node h.index (handle_number h.parent) ∷ [] else []
+must kind h = []
+
+-- a filter or a chain under ffff:0 can't be under clsact, which has two sides
+abbrev pub must_not : Object → TcHeader → List Key
+must_not Filter h = if handle_number h.parent == 0xffff0000 then key.Clsact h.index ∷ [] else []
+must_not Chain h = if handle_number h.parent == 0xffff0000 then key.Clsact h.index ∷ [] else []
+must_not kind h = []
+
+-- a chain without a template is made by its filters
+abbrev pub made_by : {A : Type 0} → Object → TcMessage A → List Key
+made_by Chain m = if has_kind m.attributes.items then [] else in_chain m ∷ []
+made_by kind m = []

@@ -1,5 +1,8 @@
 //! What a request gives to others, or wants.
 
+ghost use Rattle.std.specs.Prelude.{◌≡◌};
+ghost use Rattle.tc_plan.specs.Fates.{is_shared};
+
 /// What a request gives to others, or wants.
 #[derive(Clone, Copy, PartialEq, Eq, Hash, Drop, Debug)]
 pub enum Key {
@@ -9,6 +12,10 @@ pub enum Key {
     Node {
         index: i32,
         handle: u32,
+    },
+    /// The clsact qdisc of an interface.
+    Clsact {
+        index: i32,
     },
     /// A block that interfaces share, by its number.
     Block {
@@ -20,9 +27,35 @@ pub enum Key {
         parent: u32,
         number: u32,
     },
+    /// A filter in this chain.
+    InChain {
+        index: i32,
+        parent: u32,
+        number: u32,
+    },
     /// The hash tables of u32 under this parent.
     Tables {
         index: i32,
         parent: u32,
     },
+    /// A filter of a chain, by the numbers of its header: its handle, its priority and its protocol.
+    Filter {
+        index: i32,
+        parent: u32,
+        number: u32,
+        handle: u32,
+        info: u32,
+    },
+}
+
+impl Key {
+    /// True of what is in a block that interfaces share, each of which dumps it.
+    pub(crate) fn is_shared(&self) -> bool
+        ensures { result ≡ is_shared self.now }
+    {
+        match self {
+            Key::Filter { index, .. } | Key::Chain { index, .. } => *index == -1,
+            _ => false,
+        }
+    }
 }

@@ -1,19 +1,30 @@
-//! What the requests that restore dumps need of one another, and an order in which each finds what it needs.
+//! What the requests that restore dumps need of one another, an order in which each finds what it needs, and what becomes of
+//! each dump.
 //!
 //! ```
-//! let plan = plan(alloc, &dumps)?;
-//! for step in &plan.order {
-//!     send(&dumps[step.place])?; // all that it needs of these dumps was sent before it
+//! let mut entries = Vec::new(alloc);
+//! for (place, (object, dump)) in dumps.iter().enumerate() {
+//!     entries.push(entry_of(alloc, place, Fate::Request, *object, dump)?)?;
 //! }
-//! // those in `plan.left` need one another in a circle
+//! let plan = plan(alloc, entries)?;
+//! for step in &plan.order {
+//!     // all that it needs of these dumps is before it; one with `Fate::Made` is made by another
+//!     if step.item.fate == Fate::Request {
+//!         send(step.item.place)?;
+//!     }
+//! }
+//! // those in `plan.left` can't be made, need such, or need one another in a circle
 //! ```
 #![tactic(auto)]
 
+pub mod entry;
+pub mod fate;
 pub mod key;
+mod keys;
 pub mod planned;
-pub mod step;
 
+pub use entry::{Entry, Item, entry_of, entry_of_actions};
+pub use fate::{Fate, Reason};
 pub use key::Key;
-pub use planned::{Dump, plan};
-pub use step::{step_of, step_of_actions};
+pub use planned::{circle, plan};
 pub use tc_order::{Order, Step, ordered};

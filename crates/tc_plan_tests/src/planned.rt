@@ -4,7 +4,7 @@ use nla_frames::ParseableBytes;
 use std::alloc::Global;
 use std::test::Fail;
 use tc_messages::TcMessage;
-use tc_plan::{Dump, Key, Order, Step, plan};
+use tc_plan::{Fate, Item, Key, Order, Step, circle, entry_of, plan};
 use tc_requests::Object;
 
 // A tree of classes, a chain, and a table of u32, each before what it needs.
@@ -62,30 +62,80 @@ static CIRCLE: [(Object, &str); 4] = [
     (Object::Qdisc, "0000000003000000000002000200010000000000"),
 ];
 
+// What can't be made: a class whose parent, a class, isn't there, and a qdisc under it; a second dump; a filter that doesn't say
+// its side of clsact.
+static REFUSED: [(Object, &str); 6] = [
+    // 1: at the root
+    (Object::Qdisc, "000000000300000000000100ffffffff00000000"),
+    // 1:20 under 1:2
+    (Object::Class, "0000000003000000200001000200010000000000"),
+    // 2: under 1:20
+    (Object::Qdisc, "0000000003000000000002002000010000000000"),
+    // 1: at the root
+    (Object::Qdisc, "000000000300000000000100ffffffff00000000"),
+    // clsact
+    (
+        Object::Qdisc,
+        "00000000040000000000fffff1ffffff000000000b000100636c7361637400",
+    ),
+    // ffff:0
+    (Object::Filter, "0000000004000000010000000000ffff080001c0"),
+];
+
+// A chain without a template, and the filter in it; a filter of a shared block that two interfaces dump.
+static MADE: [(Object, &str); 4] = [
+    (
+        Object::Chain,
+        "000000000300000000000000000001000000000008000b0005000000",
+    ),
+    (
+        Object::Filter,
+        "00000000030000000100000000000100080001c008000b0005000000",
+    ),
+    (Object::Filter, "00000000ffffffff0100000007000000080001c0"),
+    (Object::Filter, "00000000ffffffff0100000007000000080001c0"),
+];
+
 // The places of steps.
-fn places(alloc: Global, steps: &[Step<Key, Global>]) -> Result<String, Fail> {
+fn places(alloc: Global, steps: &[Step<Item, Key, Global>]) -> Result<String, Fail> {
     let mut text = String::new(alloc);
     for step in steps {
-        let place = format!(in alloc; "{} ", step.place)?;
+        let place = format!(in alloc; "{} ", step.item.place)?;
         text.push_str(&place)?;
     }
     Ok(text)
 }
 
-fn planned(alloc: Global, rows: &[(Object, &str)]) -> Result<Order<Key, Global>, Fail> {
-    let mut dumps = Vec::new(alloc);
-    for (object, text) in rows {
-        let bytes = hex::decode(alloc, text)?;
-        dumps.push(Dump::Message(*object, TcMessage::parse(alloc, &bytes)?))?;
+// The same with what becomes of them.
+fn fates(alloc: Global, steps: &[Step<Item, Key, Global>]) -> Result<String, Fail> {
+    let mut text = String::new(alloc);
+    for step in steps {
+        let place = step.item.place;
+        let fate = match &step.item.fate {
+            Fate::Request => format!(in alloc; "{place} request\n")?,
+            Fate::Made => format!(in alloc; "{place} made\n")?,
+            Fate::Refused(reason) => format!(in alloc; "{place} {reason}\n")?,
+        };
+        text.push_str(&fate)?;
     }
-    Ok(plan(alloc, &dumps)?)
+    Ok(text)
+}
+
+fn planned(alloc: Global, rows: &[(Object, &str)]) -> Result<Order<Item, Key, Global>, Fail> {
+    let mut entries = Vec::new(alloc);
+    for (place, (object, text)) in rows.iter().enumerate() {
+        let bytes = hex::decode(alloc, text)?;
+        let dump = TcMessage::parse(alloc, &bytes)?;
+        entries.push(entry_of(alloc, place, Fate::Request, *object, &dump)?)?;
+    }
+    Ok(plan(alloc, entries)?)
 }
 
 #[test]
 fn parents_before_children(rt: HostRuntime) -> Result<(), Fail> {
     let alloc = rt.alloc();
     let made = planned(alloc, &TREE)?;
-    assert!(rt; places(alloc, &made.order)?.as_str() == "7 8 2 4 5 0 1 3 6 ");
+    assert!(rt; places(alloc, &made.order)?.as_str() == "7 8 2 5 0 4 1 3 6 ");
     assert!(rt; made.left.is_empty());
     Ok(())
 }
@@ -104,6 +154,36 @@ fn circles_are_left(rt: HostRuntime) -> Result<(), Fail> {
     let alloc = rt.alloc();
     let made = planned(alloc, &CIRCLE)?;
     assert!(rt; places(alloc, &made.order)?.as_str() == "1 ");
-    assert!(rt; places(alloc, &made.left)?.as_str() == "0 2 3 ");
+    assert!(rt; places(alloc, &made.left)?.as_str() == "2 0 3 ");
+    let around = circle(alloc, &made.left)?;
+    assert!(rt; around.order.is_empty() && around.left.len() == 3);
+    Ok(())
+}
+
+#[test]
+fn what_cannot_be_made_has_a_reason(rt: HostRuntime) -> Result<(), Fail> {
+    let alloc = rt.alloc();
+    let made = planned(alloc, &REFUSED)?;
+    assert!(rt; fates(alloc, &made.order)?.as_str() == "0 request\n4 request\n");
+    assert!(
+        rt;
+        fates(alloc, &made.left)?.as_str()
+            == "1 the parent class is missing\n2 request\n3 a second dump of this\n5 the parent ffff: doesn't say which side of clsact\n"
+    );
+    // 2: needs 1:20, and is in no circle.
+    let around = circle(alloc, &made.left)?;
+    assert!(rt; around.order.len() == 4 && around.left.is_empty());
+    Ok(())
+}
+
+#[test]
+fn what_others_make_is_no_request(rt: HostRuntime) -> Result<(), Fail> {
+    let alloc = rt.alloc();
+    let made = planned(alloc, &MADE)?;
+    assert!(
+        rt;
+        fates(alloc, &made.order)?.as_str() == "0 made\n1 request\n2 request\n3 made\n"
+    );
+    assert!(rt; made.left.is_empty());
     Ok(())
 }

@@ -1,2 +1,3 @@
-mod Fronts
 mod Clean
+mod Puts
+mod Progress

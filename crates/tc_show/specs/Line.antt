@@ -1,14 +1,27 @@
 -- The line of JSON that a message is shown as.
 use Rattle.std.specs.Prelude.{◌≡◌, ◌⊎◌, ◌↔◌, ℕ, Bool, true, false, IsTrue, List, [], ◌∷◌, ◌++◌, Option, Some, None, Ok, Err, codes, ◌==◌, if◌then◌else◌}
-use Rattle.serde.specs.Event.{Event, boolean, unsigned, map_begins, map_ends}
+use Rattle.serde.specs.Event.{Event, boolean, unsigned, text, map_begins, map_ends, field_key}
+use Rattle.serde.specs.declared.name.Case.TheVariants.{AsIs}
 use Rattle.serde_json.specs.Sent.{IsTextOf}
 use Rattle.nla_frames.specs.Codec.{Codec}
 use Rattle.nla_frames.specs.Fault.{name_of}
 use Rattle.nla_frames.specs.declared.error.DecodeError.{DecodeError}
 use Rattle.nla_frames.specs.declared.error.DecodeError.TheVariants as fault
-use Rattle.tc_json.specs.Sent.{text_event, field}
-use Rattle.tc_show.specs.declared.found.Header.{Header}
+use Rattle.tc_capture.specs.declared.kind.Holds.{Holds}
+use Rattle.tc_capture.specs.declared.kind.Holds.TheVariants.{Tc, Action}
+use Rattle.tc_forms.specs.declared.form.Form.{Form}
+use Rattle.tc_forms.specs.Sent.{events}
+use Rattle.tc_forms.specs.Shown.{shown_of}
+use Rattle.tc_kinds.specs.Table.{tc_tables, tc_message, action_message}
 use Rattle.tc_show.specs.declared.found.Origin.{Origin}
+use Rattle.tc_show.specs.declared.json.Verdict.{Verdict}
+use Rattle.tc_show.specs.declared.json.Verdict.TheVariants.{Read, Refused}
+use Rattle.tc_show.specs.Found.{Header, Message}
+
+-- ---- members of an object
+
+abbrev pub field : List ℕ → List Event → List Event
+field name es = field_key name AsIs ∷ es
 
 -- a number under its name
 abbrev pub number_field : List ℕ → ℕ → List Event
@@ -16,7 +29,7 @@ number_field name n = field name (unsigned n ∷ [])
 
 -- a text under its name
 abbrev pub text_field : List ℕ → List ℕ → List Event
-text_field name t = field name (text_event t)
+text_field name t = field name (text t ∷ [])
 
 -- whether something is so, under its name
 abbrev pub bool_field : List ℕ → Bool → List Event
@@ -30,6 +43,12 @@ number_if name (Some n) = number_field name n
 abbrev pub text_if : List ℕ → Option (List ℕ) → List Event
 text_if name None = []
 text_if name (Some t) = text_field name t
+
+-- an object of these members
+abbrev pub object : List Event → List Event
+object members = map_begins None ∷ (members ++ map_ends ∷ [])
+
+-- ---- the packet and the netlink header of a message
 
 -- the packet of a message: the time, the number of the packet, and the packet type, where they are known
 abbrev pub packet_events : Option ℕ → Option ℕ → List Event
@@ -50,33 +69,38 @@ flags_events h = number_field (codes "flags") h.flags ++ number_events h.sequenc
 
 -- a netlink header: the name of the type, the flags, the sequence number and the port
 abbrev pub header_events : Header → List Event
-header_events h = text_field (codes "type") h.name.now ++ flags_events h
+header_events h = text_field (codes "type") h.name ++ flags_events h
 
 abbrev pub header_if : Option Header → List Event
 header_if None = []
 header_if (Some h) = header_events h
 
--- whether a message fits and is settled, and its bytes are canonical
-abbrev pub forms_events : Bool → Bool → List Event
-forms_events settled canonical = bool_field (codes "settled") settled ++ bool_field (codes "canonical") canonical
-
-abbrev pub verdict_events : Bool → Bool → Bool → List Event
-verdict_events fits settled canonical = bool_field (codes "fits") fits ++ forms_events settled canonical
-
--- an object of these members
-abbrev pub object : List Event → List Event
-object members = map_begins None ∷ (members ++ map_ends ∷ [])
-
 -- what each line begins with: its packet and its netlink header
 abbrev pub origin_events : Option (List ℕ) → Origin → Option Header → List Event
 origin_events time origin header = place_in_capture time origin.packet origin.packet_type ++ header_if header
 
--- a message that is read, after its origin
-abbrev pub read_events : Bool → Bool → Bool → List Event → List Event
-read_events fits settled canonical es = verdict_events fits settled canonical ++ field (codes "message") es
+-- ---- the message
 
-abbrev pub accepted_events : Option (List ℕ) → Origin → Option Header → Bool → Bool → Bool → List Event → List Event
-accepted_events time origin header fits settled canonical es = object (origin_events time origin header ++ read_events fits settled canonical es)
+-- the form of each of the two messages
+abbrev pub form_of : Holds → Form
+form_of Tc = tc_message
+form_of Action = action_message
+
+-- what is shown of the bytes of a message, whatever they are
+abbrev pub shown_events : Holds → List ℕ → List Event
+shown_events holds payload = events (shown_of tc_tables (form_of holds) payload)
+
+abbrev pub message_events : Holds → List ℕ → List Event
+message_events holds payload = field (codes "message") (shown_events holds payload)
+
+-- ---- what the codec says of it
+
+-- whether a message fits and is settled, and its bytes are canonical
+abbrev pub forms_events : Bool → Bool → List Event
+forms_events settled canonical = bool_field (codes "settled") settled ++ bool_field (codes "canonical") canonical
+
+abbrev pub read_events : Bool → Bool → Bool → List Event
+read_events fits settled canonical = bool_field (codes "fits") fits ++ forms_events settled canonical
 
 -- the numbers of a fault, each under its name
 abbrev pub fault_numbers : DecodeError → List Event
@@ -89,32 +113,60 @@ fault_numbers (fault.FrameTooShort length) = number_field (codes "length") lengt
 fault_numbers (fault.XstatsShort len) = number_field (codes "len") len
 fault_numbers e = []
 
--- a message that is refused: the name of the fault and its numbers, its offset and its path
+-- where the fault is
 abbrev pub place_events : ℕ → List ℕ → List Event
 place_events offset path = number_field (codes "offset") offset ++ text_field (codes "path") path
 
 abbrev pub details : DecodeError → ℕ → List ℕ → List Event
 details e offset path = fault_numbers e ++ place_events offset path
 
+-- a message that is refused: the name of the fault and its numbers, its offset and its path
 abbrev pub fault_events : DecodeError → ℕ → List ℕ → List Event
 fault_events e offset path = text_field (codes "refused") (name_of e) ++ details e offset path
 
-abbrev pub refused_events : Option (List ℕ) → Origin → Option Header → DecodeError → ℕ → List ℕ → List Event
-refused_events time origin header e offset path = object (origin_events time origin header ++ fault_events e offset path)
+abbrev pub verdict_events : Verdict → List Event
+verdict_events (Read fits settled canonical) = read_events fits settled canonical
+verdict_events (Refused e offset path) = fault_events e.now offset path.now
+
+-- ---- the line of a message
+
+-- after its origin
+abbrev pub told_events : List Event → Holds → List ℕ → List Event
+told_events verdict holds payload = verdict ++ message_events holds payload
+
+abbrev pub line_events : Option (List ℕ) → Message → List Event → List Event
+line_events time m verdict = object (origin_events time m.origin m.header ++ told_events verdict m.holds m.payload)
+
+module _ {X : Type 0} (codec : Codec (List ℕ) X) (Canonical : List ℕ → Type 0) (m : Message) where
+  -- the line of a message that is read as this value: what holds of the value, and of the bytes
+  abbrev pub IsAccepted : X → List ℕ → Type 0
+  IsAccepted x line =
+      (time : Option (List ℕ)) × (fits : Bool) × (settled : Bool) × (canonical : Bool)
+      × (IsTrue fits ↔ codec.Fits x) × (IsTrue settled ↔ codec.Settled [] x) × (IsTrue canonical ↔ Canonical m.payload)
+      × IsTextOf (Some (line_events time m (read_events fits settled canonical))) line
 
 -- the line of a message that is refused for this fault
-abbrev pub IsRefused : Origin → Option Header → DecodeError → List ℕ → Type 0
-IsRefused origin header e line =
-    (time : Option (List ℕ)) × (offset : ℕ) × (path : List ℕ) × IsTextOf (Some (refused_events time origin header e offset path)) line
+abbrev pub IsRefused : Message → DecodeError → List ℕ → Type 0
+IsRefused m e line =
+    (time : Option (List ℕ)) × (offset : ℕ) × (path : List ℕ) × IsTextOf (Some (line_events time m (fault_events e offset path))) line
 
--- a message under its name, where there is one
-abbrev pub message_if : Option (List Event) → List Event
-message_if None = []
-message_if (Some es) = field (codes "message") es
+module _ {X : Type 0} (codec : Codec (List ℕ) X) (Canonical : List ℕ → Type 0) (m : Message) where
+  -- the line of a message: of the value that its payload reads as, or of its first fault
+  abbrev pub IsLine : List ℕ → Type 0
+  IsLine line =
+      ((x : X) × (codec.read [] m.payload ≡ Ok x) × IsAccepted codec Canonical m x line)
+      ⊎ ((e : DecodeError) × (codec.read [] m.payload ≡ Err e) × IsRefused m e line)
 
--- the request that an answer of the kernel quotes: its netlink header, and the message where it is read
-abbrev pub request_events : Header → Option (List Event) → List Event
-request_events header message = field (codes "request") (object (header_events header ++ message_if message))
+-- ---- the line of an answer of the kernel
+
+-- the message of the request that it quotes: what is shown of its bytes, unless it is capped
+abbrev pub quoted_events : Bool → Holds → List ℕ → List Event
+quoted_events true holds payload = []
+quoted_events false holds payload = message_events holds payload
+
+-- the request: its netlink header, and its message where that is there
+abbrev pub request_events : Bool → Message → List Event
+request_events capped m = field (codes "request") (object (header_if m.header ++ quoted_events capped m.holds m.payload))
 
 -- where in it the fault is
 abbrev pub located_events : Option ℕ → Option (List ℕ) → List Event
@@ -127,39 +179,15 @@ said_events text offset path = text_if (codes "text") text ++ located_events off
 abbrev pub error_events : List ℕ → Option (List ℕ) → Option ℕ → Option (List ℕ) → List Event
 error_events errno text offset path = text_field (codes "errno") errno ++ said_events text offset path
 
--- an answer of the kernel, after its origin
-abbrev pub answer_events : List Event → Header → Option (List Event) → List Event
-answer_events error request message = error ++ request_events request message
+-- an answer of the kernel with this header to a request, after its origin, which is the request's
+abbrev pub answer_events : List Event → Bool → Message → List Event
+answer_events error capped m = error ++ request_events capped m
 
-abbrev pub answered_events : Option (List ℕ) → Origin → Header → List Event → Header → Option (List Event) → List Event
-answered_events time origin header error request message =
-    object (origin_events time origin (Some header) ++ answer_events error request message)
+abbrev pub answered_events : Option (List ℕ) → Header → List Event → Bool → Message → List Event
+answered_events time h error capped m = object (origin_events time m.origin (Some h) ++ answer_events error capped m)
 
-module _ {M X : Type 0} (codec : Codec (List ℕ) X) (see : M → X) (events : M → List Event)
-    (Canonical : List ℕ → Type 0) (payload : List ℕ) (origin : Origin) (header : Option Header) where
-  -- the line of this message: what is sent of it, and what holds of it and of the bytes that it is read from
-  abbrev pub IsAccepted : M → List ℕ → Type 0
-  IsAccepted m line =
-      (time : Option (List ℕ)) × (fits : Bool) × (settled : Bool) × (canonical : Bool)
-      × (IsTrue fits ↔ codec.Fits (see m)) × (IsTrue settled ↔ codec.Settled [] (see m)) × (IsTrue canonical ↔ Canonical payload)
-      × IsTextOf (Some (accepted_events time origin header fits settled canonical (events m))) line
-
-  -- the line of a payload: of the message that it reads as, or of its first fault
-  abbrev pub IsLine : List ℕ → Type 0
-  IsLine line =
-      ((m : M) × (codec.read [] payload ≡ Ok (see m)) × IsAccepted m line)
-      ⊎ ((e : DecodeError) × (codec.read [] payload ≡ Err e) × IsRefused origin header e line)
-
-module _ {M X : Type 0} (codec : Codec (List ℕ) X) (see : M → X) (events : M → List Event) where
-  -- the message of a request that an answer quotes: what its payload reads as; none where that isn't there, or isn't read
-  abbrev pub IsQuoted : Bool → List ℕ → Option (List Event) → Type 0
-  IsQuoted true payload message = message ≡ None
-  IsQuoted false payload message =
-      ((m : M) × (codec.read [] payload ≡ Ok (see m)) × (message ≡ Some (events m)))
-      ⊎ ((e : DecodeError) × (codec.read [] payload ≡ Err e) × (message ≡ None))
-
--- the line of an answer of the kernel to a request with this header, of which this message is shown
-abbrev pub IsAnswered : Origin → Header → List ℕ → Header → Option (List Event) → List ℕ → Type 0
-IsAnswered origin header errno request message line =
+-- its line
+unfoldable pub IsAnswered : Header → List ℕ → Bool → Message → List ℕ → Type 0
+IsAnswered h errno capped m line =
     (time : Option (List ℕ)) × (text : Option (List ℕ)) × (offset : Option ℕ) × (path : Option (List ℕ))
-    × IsTextOf (Some (answered_events time origin header (error_events errno text offset path) request message)) line
+    × IsTextOf (Some (answered_events time h (error_events errno text offset path) capped m)) line

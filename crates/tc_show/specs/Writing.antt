@@ -1,11 +1,7 @@
 -- What is written.
-use Rattle.std.specs.Prelude.{◌≡◌, ℕ, List, ◌++◌, Option, true}
+use Rattle.std.specs.Prelude.{ℕ, List, Option, true}
 use Rattle.std.specs.Io.KnownBytes.{Appends}
 use Rattle.tc_outline.specs.Page.{IsShown}
-
--- known bytes grow by the front of some bytes
-abbrev pub GrowsByFront : Option (List ℕ) → Option (List ℕ) → List ℕ → List ℕ → Type 0
-GrowsByFront old new bytes rest = (front : List ℕ) × (bytes ≡ front ++ rest) × Appends old new front
 
 -- known bytes grow by printable ASCII and line feeds
 abbrev pub GrowsClean : Option (List ℕ) → Option (List ℕ) → Type 0

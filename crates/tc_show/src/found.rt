@@ -1,6 +1,11 @@
 //! A message of traffic control that was found.
 
+ghost use Rattle.std.specs.Prelude.{◌≡◌};
+ghost use Rattle.tc_capture.specs.Message.{message_of};
+ghost use Rattle.tc_show.specs.Found.{header_view, header_with};
+
 use nla_frames::strip_nul;
+use tc_capture::order::Order;
 use tc_capture::{Holds, NetlinkMessage, Time, rtm_of};
 use tc_index::{Attribute, Attributes};
 use tc_names::Table;
@@ -50,10 +55,20 @@ pub(crate) struct Found<'a> {
 }
 
 impl<'a> Found<'a> {
+    ghost use Rattle.std.specs.Prelude.{◌≡◌, None, option_map};
+    ghost use Rattle.tc_capture.specs.Message.{message_of};
+    ghost use Rattle.tc_show.specs.Found.{header_view, message_view, message_in, nowhere};
+    ghost use Rattle.tc_show.specs.Shown.{type_name, interface_in};
+
     /// The message in a netlink message; `None` where that is no traffic control.
-    pub(crate) fn in_netlink(origin: Origin, message: &NetlinkMessage<'a>) -> Option<Found<'a>> {
+    pub(crate) fn in_netlink(origin: Origin, message: &NetlinkMessage<'a>) -> Option<Found<'a>>
+        ensures { option_map message_view result ≡ message_in origin (message_of message.now) }
+    {
         let rtm = rtm_of(message.kind)?;
-        let what = What::of_type(message.kind)?;
+        let what = match What::of_type(message.kind) {
+            Some(what) => what,
+            None => what_of(rtm.holds, message.payload),
+        };
         Some(Found {
             origin,
             header: Some(header_of(rtm.name, message)),
@@ -64,7 +79,9 @@ impl<'a> Found<'a> {
     }
 
     /// A message without the header of a netlink message.
-    pub(crate) fn alone(holds: Holds, payload: &'a [u8]) -> Found<'a> {
+    pub(crate) fn alone(holds: Holds, payload: &'a [u8]) -> Found<'a>
+        ensures { message_view result ≡ record { origin = nowhere; header = None; holds = holds; payload = payload.now } }
+    {
         Found {
             origin: NOWHERE,
             header: None,
@@ -75,7 +92,9 @@ impl<'a> Found<'a> {
     }
 
     /// The name of its type; empty where there is no header.
-    pub(crate) fn name(&self) -> &'static str {
+    pub(crate) fn name(&self) -> &'static str
+        ensures { result.now ≡ type_name (option_map header_view self.now.header) }
+    {
         match &self.header {
             Some(header) => header.name,
             None => "",
@@ -97,16 +116,25 @@ impl<'a> Found<'a> {
     }
 
     /// The number of its interface; `None` of an action message.
-    pub(crate) fn interface(&self) -> Option<u32> {
-        match (self.holds, self.payload) {
-            (Holds::Tc, [_, _, _, _, a, b, c, d, ..]) => Some(u32::from_le_bytes([*a, *b, *c, *d])),
-            _ => None,
+    pub(crate) fn interface(&self) -> Option<u32>
+        ensures { result ≡ interface_in self.now.holds self.now.payload.now }
+    {
+        match self.holds {
+            Holds::Tc => {
+                if self.payload.len() < 8 {
+                    return None;
+                }
+                Some(Order::Little.u32_at(self.payload, 4))
+            }
+            Holds::Action => None,
         }
     }
 }
 
 /// What is shown of the header of a message whose type has this name.
-pub(crate) fn header_of(name: &'static str, message: &NetlinkMessage<'_>) -> Header {
+pub(crate) fn header_of(name: &'static str, message: &NetlinkMessage<'_>) -> Header
+    ensures { header_view result ≡ header_with name.now (message_of message.now) }
+{
     Header {
         name,
         flags: message.flags,

@@ -1,42 +1,49 @@
 //! What is sent to serde of a message.
 
 ghost use Rattle.std.specs.Prelude.{OnOk, Some, option_map, codes, ◌++◌};
-ghost use Rattle.tc_json.specs.Sent.{Sent, field};
+ghost use Rattle.tc_forms.specs.Sent.{Sent};
+ghost use Rattle.tc_show.specs.Found.{header_view, message_view};
 ghost use Rattle.tc_show.specs.Line.{bool_field, number_field, text_field, number_if, text_if, packet_events, place_in_capture, port_events, number_events};
-ghost use Rattle.tc_show.specs.Line.{flags_events, header_events, header_if, origin_events, forms_events, verdict_events, object};
-ghost use Rattle.tc_show.specs.Line.{read_events, accepted_events, fault_numbers, place_events, details, fault_events, refused_events};
-ghost use Rattle.tc_show.specs.Line.{message_if, request_events, located_events, said_events, error_events, answer_events, answered_events};
+ghost use Rattle.tc_show.specs.Line.{flags_events, header_events, header_if, origin_events, forms_events, read_events, object};
+ghost use Rattle.tc_show.specs.Line.{shown_events, message_events, fault_numbers, place_events, details, fault_events, verdict_events};
+ghost use Rattle.tc_show.specs.Line.{told_events, line_events};
+ghost use Rattle.tc_show.specs.Line.{quoted_events, request_events, located_events, said_events, error_events, answer_events, answered_events};
 
-use crate::found::{Header, Origin};
+use crate::found::{Found, Header, Origin};
+use crate::shows::form_of;
 use nla_frames::DecodeError;
 use serde::{Described, Serialize, Serializer};
 use std::alloc::Global;
-use tc_json::Show;
+use tc_capture::Holds;
+use tc_forms::send_shown;
+use tc_kinds::TcTables;
 
-/// A message that is read.
-#[derive(Drop)]
-pub(crate) struct Accepted<'t, 'a, M> {
-    pub(crate) time: Option<&'t str>,
-    pub(crate) origin: Origin,
-    pub(crate) header: Option<Header>,
-    pub(crate) fits: bool,
-    pub(crate) settled: bool,
-    pub(crate) canonical: bool,
-    pub(crate) message: &'a M,
-    pub(crate) alloc: Global,
+/// What the codec says of a message.
+#[derive(Clone, Copy)]
+pub(crate) enum Verdict<'e, 'p> {
+    /// It is read.
+    Read {
+        fits: bool,
+        settled: bool,
+        canonical: bool,
+    },
+    /// It is refused.
+    Refused {
+        error: &'e DecodeError,
+        /// Where the fault is in the message, in bytes.
+        offset: u64,
+        /// Where it is in the message as a tree.
+        path: &'p str,
+    },
 }
 
-/// A message that is refused.
+/// The line of a message.
 #[derive(Drop)]
-pub(crate) struct Refused<'t, 'e, 'p> {
+pub(crate) struct MessageLine<'t, 'a, 'e, 'p> {
     pub(crate) time: Option<&'t str>,
-    pub(crate) origin: Origin,
-    pub(crate) header: Option<Header>,
-    pub(crate) error: &'e DecodeError,
-    /// Where the fault is in the message, in bytes.
-    pub(crate) offset: u64,
-    /// Where it is in the message as a tree.
-    pub(crate) path: &'p str,
+    pub(crate) found: Found<'a>,
+    pub(crate) verdict: Verdict<'e, 'p>,
+    pub(crate) alloc: Global,
 }
 
 /// What an answer of the kernel says of a request.
@@ -51,24 +58,23 @@ pub(crate) struct Said<'n, 't, 'p> {
     pub(crate) path: Option<&'p str>,
 }
 
-/// An answer of the kernel to a request.
+/// The line of an answer of the kernel to a request.
 #[derive(Drop)]
-pub(crate) struct Answered<'s, 'n, 't, 'p, 'a, M> {
+pub(crate) struct AnswerLine<'s, 'n, 't, 'p, 'a> {
     pub(crate) time: Option<&'s str>,
-    pub(crate) origin: Origin,
     pub(crate) header: Header,
     pub(crate) said: Said<'n, 't, 'p>,
-    pub(crate) request: Header,
-    /// The message of the request, where it is read.
-    pub(crate) message: &'a Option<M>,
+    /// True if the payload of the request isn't there.
+    pub(crate) is_capped: bool,
+    pub(crate) request: Found<'a>,
     pub(crate) alloc: Global,
 }
 
-impl<'t, 'a, M: Show> Described for Accepted<'t, 'a, M> {
-    ghost writes = { λ l. Sent (accepted_events (option_map (λ t. t.now) l.time) l.origin l.header l.fits l.settled l.canonical (M.events l.message.now)) };
+impl<'t, 'a, 'e, 'p> Described for MessageLine<'t, 'a, 'e, 'p> {
+    ghost writes = { λ l. Sent (line_events (option_map (λ t. t.now) l.time) (message_view l.found) (verdict_events l.verdict)) };
 }
 
-impl<'t, 'a, M: Show> Serialize for Accepted<'t, 'a, M> {
+impl<'t, 'a, 'e, 'p> Serialize for MessageLine<'t, 'a, 'e, 'p> {
     fn serialize<S: Serializer>(&self, out: &mut S) -> Result<(), S::Error> {
         out.begin_map(None)?;
         self.show_members(out)?;
@@ -76,25 +82,13 @@ impl<'t, 'a, M: Show> Serialize for Accepted<'t, 'a, M> {
     }
 }
 
-impl<'t, 'e, 'p> Described for Refused<'t, 'e, 'p> {
-    ghost writes = { λ l. Sent (refused_events (option_map (λ t. t.now) l.time) l.origin l.header l.error.now l.offset l.path.now) };
-}
-
-impl<'t, 'e, 'p> Serialize for Refused<'t, 'e, 'p> {
-    fn serialize<S: Serializer>(&self, out: &mut S) -> Result<(), S::Error> {
-        out.begin_map(None)?;
-        self.show_members(out)?;
-        out.end_map()
-    }
-}
-
-impl<'s, 'n, 't, 'p, 'a, M: Show> Described for Answered<'s, 'n, 't, 'p, 'a, M> {
-    ghost writes = { λ l. Sent (answered_events (option_map (λ t. t.now) l.time) l.origin l.header
+impl<'s, 'n, 't, 'p, 'a> Described for AnswerLine<'s, 'n, 't, 'p, 'a> {
+    ghost writes = { λ l. Sent (answered_events (option_map (λ t. t.now) l.time) (header_view l.header)
         (error_events l.said.errno.now (option_map (λ t. t.now) l.said.text) l.said.offset (option_map (λ t. t.now) l.said.path))
-        l.request (option_map M.events l.message.now)) };
+        l.is_capped (message_view l.request)) };
 }
 
-impl<'s, 'n, 't, 'p, 'a, M: Show> Serialize for Answered<'s, 'n, 't, 'p, 'a, M> {
+impl<'s, 'n, 't, 'p, 'a> Serialize for AnswerLine<'s, 'n, 't, 'p, 'a> {
     fn serialize<S: Serializer>(&self, out: &mut S) -> Result<(), S::Error> {
         out.begin_map(None)?;
         self.show_members(out)?;
@@ -102,67 +96,42 @@ impl<'s, 'n, 't, 'p, 'a, M: Show> Serialize for Answered<'s, 'n, 't, 'p, 'a, M> 
     }
 }
 
-impl<'t, 'a, M: Show> Accepted<'t, 'a, M> {
+impl<'t, 'a, 'e, 'p> MessageLine<'t, 'a, 'e, 'p> {
     fn show_members<S: Serializer>(&self, out: &mut S) -> Result<(), S::Error>
-        ensures { OnOk result (Sent (origin_events (option_map (λ t. t.now) self.now.time) self.now.origin self.now.header
-            ++ read_events self.now.fits self.now.settled self.now.canonical (M.events self.now.message.now))
+        ensures { OnOk result (Sent (origin_events (option_map (λ t. t.now) self.now.time) self.now.found.origin (option_map header_view self.now.found.header)
+            ++ told_events (verdict_events self.now.verdict) self.now.found.holds self.now.found.payload.now)
             (S.written out.old) (S.written out.new)) }
     {
-        show_origin(self.time, &self.origin, &self.header, out)?;
-        self.show_read(out)
+        show_origin(self.time, &self.found.origin, &self.found.header, out)?;
+        self.show_told(out)
     }
 
-    fn show_read<S: Serializer>(&self, out: &mut S) -> Result<(), S::Error>
-        ensures { OnOk result (Sent (read_events self.now.fits self.now.settled self.now.canonical (M.events self.now.message.now))
+    fn show_told<S: Serializer>(&self, out: &mut S) -> Result<(), S::Error>
+        ensures { OnOk result (Sent (told_events (verdict_events self.now.verdict) self.now.found.holds self.now.found.payload.now)
             (S.written out.old) (S.written out.new)) }
     {
-        show_verdict(self.fits, self.settled, self.canonical, out)?;
-        show_message(self.message, self.alloc, out)
+        show_verdict(&self.verdict, out)?;
+        show_message(self.found.holds, self.found.payload, self.alloc, out)
     }
 }
 
-impl<'t, 'e, 'p> Refused<'t, 'e, 'p> {
+impl<'s, 'n, 't, 'p, 'a> AnswerLine<'s, 'n, 't, 'p, 'a> {
     fn show_members<S: Serializer>(&self, out: &mut S) -> Result<(), S::Error>
-        ensures { OnOk result (Sent (origin_events (option_map (λ t. t.now) self.now.time) self.now.origin self.now.header
-            ++ fault_events self.now.error.now self.now.offset self.now.path.now) (S.written out.old) (S.written out.new)) }
-    {
-        show_origin(self.time, &self.origin, &self.header, out)?;
-        self.show_fault(out)
-    }
-
-    fn show_fault<S: Serializer>(&self, out: &mut S) -> Result<(), S::Error>
-        ensures { OnOk result (Sent (fault_events self.now.error.now self.now.offset self.now.path.now) (S.written out.old) (S.written out.new)) }
-    {
-        show_text("refused", self.error.name(), out)?;
-        self.show_details(out)
-    }
-
-    fn show_details<S: Serializer>(&self, out: &mut S) -> Result<(), S::Error>
-        ensures { OnOk result (Sent (details self.now.error.now self.now.offset self.now.path.now) (S.written out.old) (S.written out.new)) }
-    {
-        show_numbers(self.error, out)?;
-        show_place(self.offset, self.path, out)
-    }
-}
-
-impl<'s, 'n, 't, 'p, 'a, M: Show> Answered<'s, 'n, 't, 'p, 'a, M> {
-    fn show_members<S: Serializer>(&self, out: &mut S) -> Result<(), S::Error>
-        ensures { OnOk result (Sent (origin_events (option_map (λ t. t.now) self.now.time) self.now.origin (Some self.now.header)
+        ensures { OnOk result (Sent (origin_events (option_map (λ t. t.now) self.now.time) self.now.request.origin (Some (header_view self.now.header))
             ++ answer_events (error_events self.now.said.errno.now (option_map (λ t. t.now) self.now.said.text) self.now.said.offset
-            (option_map (λ t. t.now) self.now.said.path)) self.now.request (option_map M.events self.now.message.now))
-            (S.written out.old) (S.written out.new)) }
+            (option_map (λ t. t.now) self.now.said.path)) self.now.is_capped (message_view self.now.request)) (S.written out.old) (S.written out.new)) }
     {
-        show_origin(self.time, &self.origin, &Some(self.header), out)?;
+        show_origin(self.time, &self.request.origin, &Some(self.header), out)?;
         self.show_answer(out)
     }
 
     fn show_answer<S: Serializer>(&self, out: &mut S) -> Result<(), S::Error>
         ensures { OnOk result (Sent (answer_events (error_events self.now.said.errno.now (option_map (λ t. t.now) self.now.said.text)
-            self.now.said.offset (option_map (λ t. t.now) self.now.said.path)) self.now.request (option_map M.events self.now.message.now))
+            self.now.said.offset (option_map (λ t. t.now) self.now.said.path)) self.now.is_capped (message_view self.now.request))
             (S.written out.old) (S.written out.new)) }
     {
         show_error(&self.said, out)?;
-        show_request(&self.request, self.message, self.alloc, out)
+        show_request(self.is_capped, &self.request, self.alloc, out)
     }
 }
 
@@ -195,56 +164,58 @@ fn show_located<S: Serializer>(
 }
 
 // The request that is answered.
-fn show_request<S: Serializer, M: Show>(
-    header: &Header,
-    message: &Option<M>,
+fn show_request<S: Serializer>(
+    is_capped: bool,
+    request: &Found<'_>,
     alloc: Global,
     out: &mut S,
 ) -> Result<(), S::Error>
-    ensures { OnOk result (Sent (request_events header.now (option_map M.events message.now)) (S.written out.old) (S.written out.new)) }
+    ensures { OnOk result (Sent (request_events is_capped (message_view request.now)) (S.written out.old) (S.written out.new)) }
 {
     out.key("request")?;
-    show_object(header, message, alloc, out)
+    show_object(is_capped, request, alloc, out)
 }
 
-fn show_object<S: Serializer, M: Show>(
-    header: &Header,
-    message: &Option<M>,
+fn show_object<S: Serializer>(
+    is_capped: bool,
+    request: &Found<'_>,
     alloc: Global,
     out: &mut S,
 ) -> Result<(), S::Error>
-    ensures { OnOk result (Sent (object (header_events header.now ++ message_if (option_map M.events message.now)))
-        (S.written out.old) (S.written out.new)) }
+    ensures { OnOk result (Sent (object (header_if (option_map header_view request.now.header)
+        ++ quoted_events is_capped request.now.holds request.now.payload.now)) (S.written out.old) (S.written out.new)) }
 {
     out.begin_map(None)?;
-    show_quoted(header, message, alloc, out)?;
+    show_quoted(is_capped, request, alloc, out)?;
     out.end_map()
 }
 
-fn show_quoted<S: Serializer, M: Show>(
-    header: &Header,
-    message: &Option<M>,
+fn show_quoted<S: Serializer>(
+    is_capped: bool,
+    request: &Found<'_>,
     alloc: Global,
     out: &mut S,
 ) -> Result<(), S::Error>
-    ensures { OnOk result (Sent (header_events header.now ++ message_if (option_map M.events message.now))
-        (S.written out.old) (S.written out.new)) }
+    ensures { OnOk result (Sent (header_if (option_map header_view request.now.header)
+        ++ quoted_events is_capped request.now.holds request.now.payload.now) (S.written out.old) (S.written out.new)) }
 {
-    show_header(header, out)?;
-    show_message_if(message, alloc, out)
+    show_header_if(&request.header, out)?;
+    show_payload(is_capped, request, alloc, out)
 }
 
-fn show_message_if<S: Serializer, M: Show>(
-    message: &Option<M>,
+fn show_payload<S: Serializer>(
+    is_capped: bool,
+    request: &Found<'_>,
     alloc: Global,
     out: &mut S,
 ) -> Result<(), S::Error>
-    ensures { OnOk result (Sent (message_if (option_map M.events message.now)) (S.written out.old) (S.written out.new)) }
+    ensures { OnOk result (Sent (quoted_events is_capped request.now.holds request.now.payload.now)
+        (S.written out.old) (S.written out.new)) }
 {
-    match message {
-        Some(message) => show_message(message, alloc, out),
-        None => Ok(()),
+    if is_capped {
+        return Ok(());
     }
+    show_message(request.holds, request.payload, alloc, out)
 }
 
 // What each line begins with.
@@ -254,14 +225,15 @@ fn show_origin<S: Serializer>(
     header: &Option<Header>,
     out: &mut S,
 ) -> Result<(), S::Error>
-    ensures { OnOk result (Sent (origin_events (option_map (λ t. t.now) time.entry) origin.now header.now) (S.written out.old) (S.written out.new)) }
+    ensures { OnOk result (Sent (origin_events (option_map (λ t. t.now) time.entry) origin.now (option_map header_view header.now))
+        (S.written out.old) (S.written out.new)) }
 {
     show_place_in_capture(time, origin, out)?;
     show_header_if(header, out)
 }
 
 fn show_header_if<S: Serializer>(header: &Option<Header>, out: &mut S) -> Result<(), S::Error>
-    ensures { OnOk result (Sent (header_if header.now) (S.written out.old) (S.written out.new)) }
+    ensures { OnOk result (Sent (header_if (option_map header_view header.now)) (S.written out.old) (S.written out.new)) }
 {
     match header {
         Some(header) => show_header(header, out),
@@ -298,14 +270,14 @@ fn show_packet_type<S: Serializer>(packet_type: Option<u16>, out: &mut S) -> Res
 }
 
 fn show_header<S: Serializer>(header: &Header, out: &mut S) -> Result<(), S::Error>
-    ensures { OnOk result (Sent (header_events header.now) (S.written out.old) (S.written out.new)) }
+    ensures { OnOk result (Sent (header_events (header_view header.now)) (S.written out.old) (S.written out.new)) }
 {
     show_text("type", header.name, out)?;
     show_flags(header, out)
 }
 
 fn show_flags<S: Serializer>(header: &Header, out: &mut S) -> Result<(), S::Error>
-    ensures { OnOk result (Sent (flags_events header.now) (S.written out.old) (S.written out.new)) }
+    ensures { OnOk result (Sent (flags_events (header_view header.now)) (S.written out.old) (S.written out.new)) }
 {
     show_number("flags", u64::from(header.flags), out)?;
     show_numbers_of(header, out)
@@ -327,13 +299,31 @@ fn show_port<S: Serializer>(port: u32, out: &mut S) -> Result<(), S::Error>
     show_number("portid", u64::from(port), out)
 }
 
-fn show_verdict<S: Serializer>(
+// What the codec says of a message.
+fn show_verdict<S: Serializer>(verdict: &Verdict<'_, '_>, out: &mut S) -> Result<(), S::Error>
+    ensures { OnOk result (Sent (verdict_events verdict.now) (S.written out.old) (S.written out.new)) }
+{
+    match *verdict {
+        Verdict::Read {
+            fits,
+            settled,
+            canonical,
+        } => show_read(fits, settled, canonical, out),
+        Verdict::Refused {
+            error,
+            offset,
+            path,
+        } => show_fault(error, offset, path, out),
+    }
+}
+
+fn show_read<S: Serializer>(
     fits: bool,
     settled: bool,
     canonical: bool,
     out: &mut S,
 ) -> Result<(), S::Error>
-    ensures { OnOk result (Sent (verdict_events fits settled canonical) (S.written out.old) (S.written out.new)) }
+    ensures { OnOk result (Sent (read_events fits settled canonical) (S.written out.old) (S.written out.new)) }
 {
     show_bool("fits", fits, out)?;
     show_forms(settled, canonical, out)
@@ -346,15 +336,53 @@ fn show_forms<S: Serializer>(settled: bool, canonical: bool, out: &mut S) -> Res
     show_bool("canonical", canonical, out)
 }
 
-fn show_message<S: Serializer, M: Show>(
-    message: &M,
+// The bytes of a message, whatever they are.
+fn show_message<S: Serializer>(
+    holds: Holds,
+    payload: &[u8],
     alloc: Global,
     out: &mut S,
 ) -> Result<(), S::Error>
-    ensures { OnOk result (Sent (field (codes "message") (M.events message.now)) (S.written out.old) (S.written out.new)) }
+    ensures { OnOk result (Sent (message_events holds payload.now) (S.written out.old) (S.written out.new)) }
 {
     out.key("message")?;
-    message.show(alloc, out)
+    show_bytes(holds, payload, alloc, out)
+}
+
+fn show_bytes<S: Serializer>(
+    holds: Holds,
+    payload: &[u8],
+    alloc: Global,
+    out: &mut S,
+) -> Result<(), S::Error>
+    ensures { OnOk result (Sent (shown_events holds payload.now) (S.written out.old) (S.written out.new)) }
+{
+    send_shown(TcTables, form_of(holds), payload, alloc, out)
+}
+
+// The fault of a message that is refused.
+fn show_fault<S: Serializer>(
+    error: &DecodeError,
+    offset: u64,
+    path: &str,
+    out: &mut S,
+) -> Result<(), S::Error>
+    ensures { OnOk result (Sent (fault_events error.now offset path.now) (S.written out.old) (S.written out.new)) }
+{
+    show_text("refused", error.name(), out)?;
+    show_details(error, offset, path, out)
+}
+
+fn show_details<S: Serializer>(
+    error: &DecodeError,
+    offset: u64,
+    path: &str,
+    out: &mut S,
+) -> Result<(), S::Error>
+    ensures { OnOk result (Sent (details error.now offset path.now) (S.written out.old) (S.written out.new)) }
+{
+    show_numbers(error, out)?;
+    show_place(offset, path, out)
 }
 
 fn show_place<S: Serializer>(offset: u64, path: &str, out: &mut S) -> Result<(), S::Error>

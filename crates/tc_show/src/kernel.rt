@@ -1,36 +1,40 @@
 //! Answers of the kernel to requests of traffic control.
 
-ghost use Rattle.std.specs.Prelude.{◌≡◌, IfOk, List, Option, option_map};
-ghost use Rattle.serde.specs.Event.{Event};
-ghost use Rattle.tc_show.specs.Line.{IsQuoted, IsAnswered};
+ghost use Rattle.std.specs.Prelude.{◌≡◌, IfOk};
+ghost use Rattle.tc_show.specs.Found.{header_view, message_view};
+ghost use Rattle.tc_show.specs.Line.{IsAnswered};
 
-use crate::desk::{Desk, layout_of};
 use crate::found::{Found, Header, Origin, header_of};
-use crate::json::{Answered, Said};
+use crate::json::{AnswerLine, Said};
 use crate::line::json_of;
 use crate::pages::{show_name, show_time_of, some_text, text_of, time_page};
-use crate::shows::Shows;
-use nla_frames::{DecodeError, strip_nul};
+use crate::shower::{Shower, layout_of};
+use nla_frames::strip_nul;
 use std::alloc::{AllocError, Allocator, Global};
 use std::str;
-use tc_capture::{Answer, Holds, NLMSG_HEADER_LEN, NetlinkMessage, answer_in, errno_name};
+use tc_capture::{Answer, NLMSG_HEADER_LEN, NetlinkMessage, answer_in, errno_name};
 use tc_outline::{Layout, Page, outline, path_at};
-use tc_wire::{TcActionMessage, TcMessage};
 
 /// An answer of the kernel to a request of traffic control.
 #[derive(Clone, Copy)]
 pub(crate) struct Reply<'a> {
     pub(crate) header: Header,
     pub(crate) answer: Answer<'a>,
-    /// The netlink header of the request.
-    pub(crate) quoted: Header,
     /// The request; of a capped answer its payload is empty.
     pub(crate) request: Found<'a>,
 }
 
 impl<'a> Reply<'a> {
+    ghost use Rattle.std.specs.Prelude.{◌≡◌};
+    ghost use Rattle.tc_capture.specs.Answer.{answer_in};
+    ghost use Rattle.tc_capture.specs.Message.{message_of};
+    ghost use Rattle.tc_show.specs.Found.{answer_with};
+    ghost use Rattle.tc_show.specs.Replies.{reply_thing};
+
     /// The answer in a netlink message; `None` where that is none, an acknowledgement, or of another request.
-    pub(crate) fn in_netlink(origin: Origin, message: &NetlinkMessage<'a>) -> Option<Reply<'a>> {
+    pub(crate) fn in_netlink(origin: Origin, message: &NetlinkMessage<'a>) -> Option<Reply<'a>>
+        ensures { reply_thing result ≡ answer_with origin (message_of message.now) (answer_in (message_of message.now)) }
+    {
         let answer = answer_in(message)?;
         if answer.error == 0 {
             return None;
@@ -39,7 +43,6 @@ impl<'a> Reply<'a> {
         Some(Reply {
             header: header_of("NLMSG_ERROR", message),
             answer,
-            quoted: request.header?,
             request,
         })
     }
@@ -83,32 +86,57 @@ impl<'a> Reply<'a> {
     }
 }
 
-impl<'a, A: Allocator + Copy> Desk<'a, A> {
-    ghost use Rattle.std.specs.Prelude.{◌≡◌, true};
+impl<'a, A: Allocator + Copy> Shower<'a, A> {
+    ghost use Rattle.std.specs.Prelude.{◌≡◌, ◌∷◌, [], List, ℕ, true, false, OnOk};
+    ghost use Rattle.tc_show.specs.Found.{header_view, message_view};
+    ghost use Rattle.tc_show.specs.Replies.{thing_view};
+    ghost use Rattle.tc_show.specs.Shown.{ShowsAnswer};
+    ghost use Rattle.tc_show.specs.State.{state_of, Grows, Puts};
 
     /// Shows an answer where its request is chosen.
     pub(crate) fn put_reply(&mut self, reply: &Reply<'_>) -> Result<(), AllocError>
-        ensures form { self.new.paper.is_json ≡ self.old.paper.is_json }
+        ensures form { self.new.output.is_json ≡ self.old.output.is_json }
+        ensures put { OnOk result (Puts (thing_view reply.now ∷ []) (state_of self.old) (state_of self.new)) }
     {
         if !self.asked.chosen.takes(&reply.request) {
-            self.tally.left_out = self.tally.left_out.saturating_add(1);
+            self.counts.left_out = self.counts.left_out.saturating_add(1);
             return Ok(());
         }
-        self.tally.answers = self.tally.answers.saturating_add(1);
+        self.counts.answers = self.counts.answers.saturating_add(1);
+        self.show_reply(reply)
+    }
+
+    // Shows an answer.
+    fn show_reply(&mut self, reply: &Reply<'_>) -> Result<(), AllocError>
+        ensures form { self.new.output.is_json ≡ self.old.output.is_json }
+        ensures put { OnOk result ((text : List ℕ) × ShowsAnswer self.old.output.is_json (header_view reply.now.header) reply.now.answer.is_capped
+            (message_view reply.now.request) text × Grows text false (state_of self.old) (state_of self.new)) }
+    {
         let mut errno = Page::new(self.alloc, Layout::OneLine);
         reply.show_errno(&mut errno)?;
         self.count_row("NLMSG_ERROR", text_of(&errno))?;
-        if self.paper.is_json() {
-            let line = reply_line(self.alloc, self.json, text_of(&errno), reply)?;
-            self.put_json(&line)
+        if self.output.is_json() {
+            self.put_reply_line(text_of(&errno), reply)
         } else {
             self.put_reply_outline(text_of(&errno), reply)
         }
     }
 
+    fn put_reply_line(&mut self, errno: &str, reply: &Reply<'_>) -> Result<(), AllocError>
+        requires { self.old.output.is_json ≡ true }
+        ensures form { self.new.output.is_json ≡ self.old.output.is_json }
+        ensures put { OnOk result ((text : List ℕ) × ShowsAnswer true (header_view reply.now.header) reply.now.answer.is_capped
+            (message_view reply.now.request) text × Grows text false (state_of self.old) (state_of self.new)) }
+    {
+        let line = reply_line(self.alloc, self.json, errno, reply)?;
+        self.put_json(&line)
+    }
+
     // What the kernel says, and the outline of the request, indented.
     fn put_reply_outline(&mut self, errno: &str, reply: &Reply<'_>) -> Result<(), AllocError>
-        ensures form { self.new.paper.is_json ≡ self.old.paper.is_json }
+        ensures form { self.new.output.is_json ≡ self.old.output.is_json }
+        ensures put { OnOk result ((text : List ℕ) × ShowsAnswer false (header_view reply.now.header) reply.now.answer.is_capped
+            (message_view reply.now.request) text × Grows text false (state_of self.old) (state_of self.new)) }
     {
         show_said(self.alloc, &mut self.page, errno, reply)?;
         let mut request = Page::new(self.alloc, layout_of(self.asked.form));
@@ -167,69 +195,23 @@ fn show_said<A: Allocator + Copy>(
 }
 
 // The line of JSON.
+#[tactic(auto, unfolding(crate::specs::Line::IsAnswered))]
 fn reply_line<A: Allocator + Copy>(
     alloc: A,
     json: Global,
     errno: &str,
     reply: &Reply<'_>,
-) -> Result<Vec<u8>, AllocError> {
-    match reply.request.holds {
-        Holds::Tc => reply_as::<A, TcMessage<A>>(alloc, json, errno, reply),
-        Holds::Action => reply_as::<A, TcActionMessage<A>>(alloc, json, errno, reply),
-    }
-}
-
-fn reply_as<A: Allocator + Copy, M: Shows<A> + Drop>(
-    alloc: A,
-    json: Global,
-    errno: &str,
-    reply: &Reply<'_>,
 ) -> Result<Vec<u8>, AllocError>
-    ensures { IfOk result (λ line. (message : Option (List Event))
-        × IsQuoted M.codec M.see M.events reply.now.answer.is_capped reply.now.request.payload.now message
-        × IsAnswered reply.now.request.origin reply.now.header errno.now reply.now.quoted message line.items) }
-{
-    let message = quoted_message::<A, M>(alloc, reply.answer.is_capped, reply.request.payload)?;
-    answered_line(alloc, json, errno, reply, &message)
-}
-
-// The message of a request that is quoted, where it is read.
-fn quoted_message<A: Allocator + Copy, M: Shows<A> + Drop>(
-    alloc: A,
-    is_capped: bool,
-    payload: &[u8],
-) -> Result<Option<M>, AllocError>
-    ensures { IfOk result (λ message. IsQuoted M.codec M.see M.events is_capped payload.now (option_map M.events message)) }
-{
-    if is_capped {
-        return Ok(None);
-    }
-    match M::parse(alloc, payload) {
-        Ok(message) => Ok(Some(message)),
-        Err(DecodeError::OutOfMemory) => Err(AllocError),
-        Err(_) => Ok(None),
-    }
-}
-
-// The line of an answer to a request with this message, where it is read.
-fn answered_line<A: Allocator + Copy, M: Shows<A>>(
-    alloc: A,
-    json: Global,
-    errno: &str,
-    reply: &Reply<'_>,
-    message: &Option<M>,
-) -> Result<Vec<u8>, AllocError>
-    ensures { IfOk result (λ line. IsAnswered reply.now.request.origin reply.now.header errno.now reply.now.quoted
-        (option_map M.events message.now) line.items) }
+    ensures { IfOk result (λ line. IsAnswered (header_view reply.now.header) errno.now reply.now.answer.is_capped
+        (message_view reply.now.request) line.items) }
 {
     let time = time_page(alloc, &reply.request.origin)?;
     let mut text = Page::new(alloc, Layout::OneLine);
     let mut path = Page::new(alloc, Layout::OneLine);
     reply.show_text(&mut text)?;
     reply.show_path(&mut path)?;
-    let line = Answered {
+    let line = AnswerLine {
         time: some_text(&time),
-        origin: reply.request.origin,
         header: reply.header,
         said: Said {
             errno,
@@ -237,8 +219,8 @@ fn answered_line<A: Allocator + Copy, M: Shows<A>>(
             offset: reply.offset(),
             path: some_text(&path),
         },
-        request: reply.quoted,
-        message,
+        is_capped: reply.answer.is_capped,
+        request: reply.request,
         alloc: json,
     };
     json_of(json, &line)

@@ -1,12 +1,14 @@
 //! A message as a line of JSON.
 
-ghost use Rattle.std.specs.Prelude.{IfOk, Some, []};
+ghost use Rattle.std.specs.Prelude.{◌≡◌, IfOk, Some, None, [], is_some, true};
 ghost use Rattle.serde.specs.Event.{Log};
 ghost use Rattle.serde_json.specs.Sent.{IsTextOf};
+ghost use Rattle.tc_show.specs.Codecs.{IsLineOf, is_refused, is_fault};
+ghost use Rattle.tc_show.specs.Found.{message_view};
 ghost use Rattle.tc_show.specs.Line.{IsAccepted, IsRefused, IsLine};
 
 use crate::found::Found;
-use crate::json::{Accepted, Refused};
+use crate::json::{MessageLine, Verdict};
 use crate::pages::{show_place, some_text, text_of, time_page};
 use crate::shows::Shows;
 use nla_frames::DecodeError;
@@ -24,11 +26,15 @@ pub(crate) struct Line {
 }
 
 /// The line of a message.
+#[tactic(auto, unfolding(crate::specs::Codecs::IsLineOf, crate::specs::Codecs::is_refused))]
 pub(crate) fn line_of<A: Allocator + Copy>(
     alloc: A,
     json: Global,
     found: &Found<'_>,
-) -> Result<Line, AllocError> {
+) -> Result<Line, AllocError>
+    ensures line { IfOk result (λ line. IsLineOf (message_view found.now) line.json.items) }
+    ensures fault { IfOk result (λ line. is_some line.fault ≡ is_refused (message_view found.now)) }
+{
     match found.holds {
         Holds::Tc => line_as::<A, TcMessage<A>>(alloc, json, found),
         Holds::Action => line_as::<A, TcActionMessage<A>>(alloc, json, found),
@@ -40,8 +46,8 @@ fn line_as<A: Allocator + Copy, M: Shows<A> + Drop>(
     json: Global,
     found: &Found<'_>,
 ) -> Result<Line, AllocError>
-    ensures { IfOk result (λ line.
-        IsLine M.codec M.see M.events M.Canonical found.now.payload.now found.now.origin found.now.header line.json.items) }
+    ensures line { IfOk result (λ line. IsLine M.codec M.Canonical (message_view found.now) line.json.items) }
+    ensures fault { IfOk result (λ line. is_some line.fault ≡ is_fault (M.codec.read [] found.now.payload.now)) }
 {
     match M::parse(alloc, found.payload) {
         Ok(message) => accepted_line(alloc, json, found, &message),
@@ -57,21 +63,21 @@ fn accepted_line<A: Allocator + Copy, M: Shows<A>>(
     found: &Found<'_>,
     message: &M,
 ) -> Result<Line, AllocError>
-    ensures { IfOk result (λ line.
-        IsAccepted M.codec M.see M.events M.Canonical found.now.payload.now found.now.origin found.now.header message.now line.json.items) }
+    ensures fault { IfOk result (λ line. line.fault ≡ None) }
+    ensures line { IfOk result (λ line. IsAccepted M.codec M.Canonical (message_view found.now) (M.see message.now) line.json.items) }
 {
     let time = time_page(alloc, &found.origin)?;
     let fits = message.fits();
     let settled = message.reads_back();
     let canonical = M::are_canonical(found.payload);
-    let line = Accepted {
+    let line = MessageLine {
         time: some_text(&time),
-        origin: found.origin,
-        header: found.header,
-        fits,
-        settled,
-        canonical,
-        message,
+        found: *found,
+        verdict: Verdict::Read {
+            fits,
+            settled,
+            canonical,
+        },
         alloc: json,
     };
     let json = json_of(json, &line)?;
@@ -85,18 +91,21 @@ fn refused_line<A: Allocator + Copy>(
     found: &Found<'_>,
     error: &DecodeError,
 ) -> Result<Line, AllocError>
-    ensures { IfOk result (λ line. IsRefused found.now.origin found.now.header error.now line.json.items) }
+    ensures fault { IfOk result (λ line. is_some line.fault ≡ true) }
+    ensures line { IfOk result (λ line. IsRefused (message_view found.now) error.now line.json.items) }
 {
     let time = time_page(alloc, &found.origin)?;
     let mut path = Page::new(alloc, Layout::OneLine);
     let offset = show_place(&mut path, found)?;
-    let line = Refused {
+    let line = MessageLine {
         time: some_text(&time),
-        origin: found.origin,
-        header: found.header,
-        error,
-        offset: offset as u64,
-        path: text_of(&path),
+        found: *found,
+        verdict: Verdict::Refused {
+            error,
+            offset: offset as u64,
+            path: text_of(&path),
+        },
+        alloc: json,
     };
     let json = json_of(json, &line)?;
     Ok(Line {

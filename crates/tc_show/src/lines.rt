@@ -1,13 +1,15 @@
 //! Lines of hex.
 
-ghost use Rattle.std.specs.Prelude.{◌≡◌, false};
+ghost use Rattle.std.specs.Prelude.{◌≡◌, false, List, OnOk};
+ghost use Rattle.tc_show.specs.Found.{Thing};
+ghost use Rattle.tc_show.specs.State.{state_of, Progress, Puts};
 ghost use Rattle.tc_show.specs.Writing.{GrowsClean};
 
-use crate::capture::{MOST_PIECE, after_put};
-use crate::desk::Desk;
+use crate::capture::MOST_PIECE;
 use crate::found::{Found, NOWHERE};
 use crate::input::Input;
-use crate::note::Note;
+use crate::notice::Notice;
+use crate::shower::Shower;
 use crate::status::Stop;
 use std::alloc::{AllocError, Allocator};
 use std::io::{Read, Write};
@@ -32,18 +34,19 @@ fn is_blank(byte: u8) -> bool {
 
 /// Shows lines of hex to their end.
 pub(crate) fn show_lines<A: Allocator + Copy, R: Read, W: Write>(
-    desk: &mut Desk<'_, A>,
+    shower: &mut Shower<'_, A>,
     input: &mut Input<A>,
     reader: &mut R,
     writer: &mut W,
 ) -> Result<(), Stop>
-    ensures form { desk.new.paper.is_json ≡ desk.old.paper.is_json }
-    ensures clean { desk.old.paper.is_json ≡ false → GrowsClean (W.contents writer.old) (W.contents writer.new) }
+    ensures form { shower.new.output.is_json ≡ shower.old.output.is_json }
+    ensures clean { shower.old.output.is_json ≡ false → GrowsClean (W.contents writer.old) (W.contents writer.new) }
+    ensures ran { OnOk result (Progress (W.contents writer.old) (W.contents writer.new) (state_of shower.old) (state_of shower.new)) }
 {
     // How many bytes of the rest have no line feed.
     let mut looked_at = 0usize;
     for _ in 0..u64::MAX {
-        if !show_line(desk, input, &mut looked_at, reader, writer)? {
+        if !show_line(shower, input, &mut looked_at, reader, writer)? {
             break;
         }
     }
@@ -52,26 +55,28 @@ pub(crate) fn show_lines<A: Allocator + Copy, R: Read, W: Write>(
 
 // Shows the next line, or reads more of it. False where the input ends.
 fn show_line<A: Allocator + Copy, R: Read, W: Write>(
-    desk: &mut Desk<'_, A>,
+    shower: &mut Shower<'_, A>,
     input: &mut Input<A>,
     looked_at: &mut usize,
     reader: &mut R,
     writer: &mut W,
 ) -> Result<bool, Stop>
-    ensures form { desk.new.paper.is_json ≡ desk.old.paper.is_json }
-    ensures clean { desk.old.paper.is_json ≡ false → GrowsClean (W.contents writer.old) (W.contents writer.new) }
+    ensures form { shower.new.output.is_json ≡ shower.old.output.is_json }
+    ensures clean { shower.old.output.is_json ≡ false → GrowsClean (W.contents writer.old) (W.contents writer.new) }
+    ensures ran { OnOk result (Progress (W.contents writer.old) (W.contents writer.new) (state_of shower.old) (state_of shower.new)) }
 {
     match end_of_line(input.rest(), *looked_at) {
         Some(end) => {
-            let put = put_front(desk, input, end);
+            put_front(shower, input, end)?;
             input.use_up(end.saturating_add(1));
             *looked_at = 0;
-            after_put(desk, put, writer)
+            shower.write_much(writer)?;
+            Ok(true)
         }
         None => {
             let len = input.rest().len();
             *looked_at = if len > MOST_LINE { 0 } else { len };
-            more_of_line(desk, input, len, reader, writer)
+            more_of_line(shower, input, len, reader, writer)
         }
     }
 }
@@ -80,31 +85,44 @@ fn show_line<A: Allocator + Copy, R: Read, W: Write>(
 // ends, and the line with it.
 #[tactic(auto, using(crate::proofs::Clean::clean_none))]
 fn more_of_line<A: Allocator + Copy, R: Read, W: Write>(
-    desk: &mut Desk<'_, A>,
+    shower: &mut Shower<'_, A>,
     input: &mut Input<A>,
     len: usize,
     reader: &mut R,
     writer: &mut W,
 ) -> Result<bool, Stop>
-    ensures form { desk.new.paper.is_json ≡ desk.old.paper.is_json }
-    ensures clean { desk.old.paper.is_json ≡ false → GrowsClean (W.contents writer.old) (W.contents writer.new) }
+    ensures form { shower.new.output.is_json ≡ shower.old.output.is_json }
+    ensures clean { shower.old.output.is_json ≡ false → GrowsClean (W.contents writer.old) (W.contents writer.new) }
+    ensures ran { OnOk result (Progress (W.contents writer.old) (W.contents writer.new) (state_of shower.old) (state_of shower.new)) }
 {
-    desk.write(writer)?;
+    shower.write(writer)?;
     if len > MOST_LINE {
-        let at = input.offset();
-        let goes_on = skip_line(input, reader)?;
-        let long = input
-            .offset()
-            .saturating_sub(at)
-            .saturating_sub(u64::from(goes_on));
-        desk.put_hole(Note::Skipped(long), at)?;
-        return Ok(goes_on);
+        return pass_over(shower, input, reader);
     }
     if input.more(reader)? {
         return Ok(true);
     }
-    put_front(desk, input, len)?;
+    put_front(shower, input, len)?;
     Ok(false)
+}
+
+// Skips a line that is too long. False where the input ends in it.
+fn pass_over<A: Allocator + Copy, R: Read>(
+    shower: &mut Shower<'_, A>,
+    input: &mut Input<A>,
+    reader: &mut R,
+) -> Result<bool, Stop>
+    ensures form { shower.new.output.is_json ≡ shower.old.output.is_json }
+    ensures put { OnOk result ((things : List Thing) × Puts things (state_of shower.old) (state_of shower.new)) }
+{
+    let at = input.offset();
+    let goes_on = skip_line(input, reader)?;
+    let long = input
+        .offset()
+        .saturating_sub(at)
+        .saturating_sub(u64::from(goes_on));
+    shower.put_hole(Notice::Skipped(long), at)?;
+    Ok(goes_on)
 }
 
 // Where the first line feed is, at this place or after it.
@@ -142,23 +160,27 @@ fn skip_line<A: Allocator + Copy, R: Read>(
 
 // Shows the line that so many bytes are.
 fn put_front<A: Allocator + Copy>(
-    desk: &mut Desk<'_, A>,
+    shower: &mut Shower<'_, A>,
     input: &Input<A>,
     len: usize,
 ) -> Result<(), AllocError>
-    ensures form { desk.new.paper.is_json ≡ desk.old.paper.is_json }
+    ensures form { shower.new.output.is_json ≡ shower.old.output.is_json }
+    ensures put { OnOk result ((things : List Thing) × Puts things (state_of shower.old) (state_of shower.new)) }
 {
     let rest = input.rest();
     let (line, _) = rest.split_at(len.min(rest.len()));
-    desk.put_text(line, input.offset())
+    shower.put_text(line, input.offset())
 }
 
-impl<'a, A: Allocator + Copy> Desk<'a, A> {
-    ghost use Rattle.std.specs.Prelude.{◌≡◌};
+impl<'a, A: Allocator + Copy> Shower<'a, A> {
+    ghost use Rattle.std.specs.Prelude.{◌≡◌, List, OnOk};
+    ghost use Rattle.tc_show.specs.Found.{Thing, things_on_line};
+    ghost use Rattle.tc_show.specs.State.{state_of, Puts};
 
     // Shows a line of text.
     fn put_text(&mut self, line: &[u8], at: u64) -> Result<(), AllocError>
-        ensures form { self.new.paper.is_json ≡ self.old.paper.is_json }
+        ensures form { self.new.output.is_json ≡ self.old.output.is_json }
+        ensures put { OnOk result ((things : List Thing) × Puts things (state_of self.old) (state_of self.new)) }
     {
         let digits = digits_in(self.alloc, line)?;
         if digits.is_empty() {
@@ -167,13 +189,14 @@ impl<'a, A: Allocator + Copy> Desk<'a, A> {
         match hex::decode(self.alloc, digits.as_slice()) {
             Ok(bytes) => self.put_bytes(&bytes, at),
             Err(hex::FromHexError::OutOfMemory) => Err(AllocError),
-            Err(_) => self.put_hole(Note::NoHex, at),
+            Err(_) => self.put_hole(Notice::NoHex, at),
         }
     }
 
     // Shows the bytes of a line.
     fn put_bytes(&mut self, bytes: &[u8], at: u64) -> Result<(), AllocError>
-        ensures form { self.new.paper.is_json ≡ self.old.paper.is_json }
+        ensures form { self.new.output.is_json ≡ self.old.output.is_json }
+        ensures put { OnOk result (Puts (things_on_line self.old.asked.now.without_header bytes.now) (state_of self.old) (state_of self.new)) }
     {
         match self.asked.without_header {
             None => self.put_messages(NOWHERE, bytes, true, at),

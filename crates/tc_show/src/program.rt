@@ -1,6 +1,7 @@
 //! The program: what it is asked for is done over its streams, and how it ends is its exit status.
 
-ghost use Rattle.std.specs.Prelude.{◌≡◌, ◌≢◌};
+ghost use Rattle.std.specs.Prelude.{◌≡◌, ◌≢◌, OnOk};
+ghost use Rattle.tc_show.specs.State.{Ran};
 ghost use Rattle.tc_show.specs.Status.{status_of};
 ghost use Rattle.tc_show.specs.Writing.{GrowsClean};
 ghost use Rattle.tc_show.specs.declared.asked.Form.TheVariants.{Json};
@@ -12,7 +13,6 @@ use crate::names::{interface_of, names_in};
 use crate::packets::Packets;
 use crate::run::{Ended, run};
 use crate::status::{Stop, status_of};
-use crate::writing::write_all;
 use clap::error::ErrorKind;
 use std::alloc::{Allocator, Global};
 use std::io::{self, Input, Print, Read, Write};
@@ -20,6 +20,7 @@ use std::process::ExitCode;
 use std::rt::{Env, Files};
 use std::{env, fs};
 use tc_outline::Interfaces;
+use tc_streams::complain;
 
 /// The whole program: reads its arguments, shows the messages of its input on standard output, and returns the exit
 /// status. Why it ended early is written to `errors`.
@@ -127,7 +128,10 @@ pub fn serve<A: Allocator + Copy, R: Read, W: Write, E: Write>(
     writer: &mut W,
     errors: &mut E,
 ) -> u8
-    ensures status { (ended : Ended) × (result ≡ status_of ended.outcome ended.has_refused) }
+    // The status says how the run ended. Where it came to the end of its input, what is shown of all things in it is written, and the status
+    // says whether one of them is refused or broken.
+    ensures status { (ended : Ended) × (result ≡ status_of ended.outcome ended.has_refused)
+        × OnOk ended.outcome (Ran asked.now ended.has_refused (W.contents writer.old) (W.contents writer.new)) }
     // No byte of a message reaches the output but as printable ASCII.
     ensures clean { asked.now.form ≢ Json → GrowsClean (W.contents writer.old) (W.contents writer.new) }
 {
@@ -161,12 +165,4 @@ fn complain_of_packets<E: Write>(json: Global, errors: &mut E, packets: &Packets
         Ok(text) => complain(errors, text.as_str(), status),
         Err(_) => complain(errors, "tcshow: no route netlink\n", status),
     }
-}
-
-// Writes why nothing more is shown, if it can, and returns a status.
-fn complain<E: Write>(errors: &mut E, text: &str, status: u8) -> u8
-    ensures { result ≡ status }
-{
-    let _ = write_all(errors, text.as_bytes());
-    status
 }

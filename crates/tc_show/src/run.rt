@@ -1,15 +1,16 @@
 //! A whole run.
 
-ghost use Rattle.std.specs.Prelude.{◌≡◌, ◌≢◌, false};
+ghost use Rattle.std.specs.Prelude.{◌≡◌, ◌≢◌, false, OnOk};
 ghost use Rattle.tc_show.specs.declared.asked.Form.TheVariants.{Json};
+ghost use Rattle.tc_show.specs.State.{state_of, Progress, Ends, Completes, Ran};
 ghost use Rattle.tc_show.specs.Writing.{GrowsClean};
 
 use crate::asked::Asked;
 use crate::capture::show_capture;
-use crate::desk::Desk;
 use crate::input::Input;
 use crate::lines::{is_hex_text, show_lines};
 use crate::packets::Packets;
+use crate::shower::Shower;
 use crate::status::Stop;
 use std::alloc::{Allocator, Global};
 use std::io::{Read, Write};
@@ -34,51 +35,51 @@ pub fn run<A: Allocator + Copy, R: Read, W: Write>(
     reader: &mut R,
     writer: &mut W,
 ) -> Ended
+    ensures ran { OnOk result.outcome (Ran asked.now result.has_refused (W.contents writer.old) (W.contents writer.new)) }
     ensures clean { asked.now.form ≢ Json → GrowsClean (W.contents writer.old) (W.contents writer.new) }
 {
-    let mut desk = Desk::new(alloc, json, asked);
-    let outcome = show_and_write(&mut desk, reader, writer);
+    let mut shower = Shower::new(alloc, json, asked);
+    let outcome = show_and_write(&mut shower, reader, writer);
     Ended {
         outcome,
-        has_refused: desk.tally.has_refused(),
-        packets: desk.packets,
+        has_refused: shower.counts.has_refused(),
+        packets: shower.packets,
     }
 }
 
 // Shows all messages, and writes what is shown, however it ends.
 fn show_and_write<A: Allocator + Copy, R: Read, W: Write>(
-    desk: &mut Desk<'_, A>,
+    shower: &mut Shower<'_, A>,
     reader: &mut R,
     writer: &mut W,
 ) -> Result<(), Stop>
-    ensures clean { desk.old.paper.is_json ≡ false → GrowsClean (W.contents writer.old) (W.contents writer.new) }
+    ensures clean { shower.old.output.is_json ≡ false → GrowsClean (W.contents writer.old) (W.contents writer.new) }
+    ensures ran { OnOk result (Completes (W.contents writer.old) (W.contents writer.new) (state_of shower.old) (state_of shower.new)) }
 {
-    let shown = show(desk, reader, writer);
-    let written = desk.write(writer);
-    first_stop(shown, written)
-}
-
-fn first_stop(shown: Result<(), Stop>, written: Result<(), Stop>) -> Result<(), Stop> {
-    match shown {
-        Ok(()) => written,
-        Err(stop) => Err(stop),
+    match show(shower, reader, writer) {
+        Ok(()) => shower.write(writer),
+        Err(stop) => {
+            let _ = shower.write(writer);
+            Err(stop)
+        }
     }
 }
 
 // Shows all messages, and their summary.
 #[tactic(auto, using(crate::proofs::Clean::clean_none))]
 fn show<A: Allocator + Copy, R: Read, W: Write>(
-    desk: &mut Desk<'_, A>,
+    shower: &mut Shower<'_, A>,
     reader: &mut R,
     writer: &mut W,
 ) -> Result<(), Stop>
-    ensures form { desk.new.paper.is_json ≡ desk.old.paper.is_json }
-    ensures clean { desk.old.paper.is_json ≡ false → GrowsClean (W.contents writer.old) (W.contents writer.new) }
+    ensures form { shower.new.output.is_json ≡ shower.old.output.is_json }
+    ensures clean { shower.old.output.is_json ≡ false → GrowsClean (W.contents writer.old) (W.contents writer.new) }
+    ensures ran { OnOk result (Ends (W.contents writer.old) (W.contents writer.new) (state_of shower.old) (state_of shower.new)) }
 {
-    let mut input = first_of(desk.alloc, reader)?;
-    show_input(desk, &mut input, reader, writer)?;
-    desk.put_summary()?;
-    if desk.packets.are_foreign() {
+    let mut input = first_of(shower.alloc, reader)?;
+    show_input(shower, &mut input, reader, writer)?;
+    shower.put_summary()?;
+    if shower.packets.are_foreign() {
         return Err(Stop::NoRoute);
     }
     Ok(())
@@ -100,17 +101,18 @@ fn first_of<A: Allocator + Copy, R: Read>(alloc: A, reader: &mut R) -> Result<In
 // Shows a capture, or lines of hex.
 #[tactic(auto, using(crate::proofs::Clean::clean_none))]
 fn show_input<A: Allocator + Copy, R: Read, W: Write>(
-    desk: &mut Desk<'_, A>,
+    shower: &mut Shower<'_, A>,
     input: &mut Input<A>,
     reader: &mut R,
     writer: &mut W,
 ) -> Result<(), Stop>
-    ensures form { desk.new.paper.is_json ≡ desk.old.paper.is_json }
-    ensures clean { desk.old.paper.is_json ≡ false → GrowsClean (W.contents writer.old) (W.contents writer.new) }
+    ensures form { shower.new.output.is_json ≡ shower.old.output.is_json }
+    ensures clean { shower.old.output.is_json ≡ false → GrowsClean (W.contents writer.old) (W.contents writer.new) }
+    ensures ran { OnOk result (Progress (W.contents writer.old) (W.contents writer.new) (state_of shower.old) (state_of shower.new)) }
 {
     match Capture::of_first(input.rest()) {
-        Some(capture) => show_capture(desk, input, capture, reader, writer),
-        None if is_hex_text(input.rest()) => show_lines(desk, input, reader, writer),
+        Some(capture) => show_capture(shower, input, capture, reader, writer),
+        None if is_hex_text(input.rest()) => show_lines(shower, input, reader, writer),
         None => Err(Stop::NoCapture),
     }
 }

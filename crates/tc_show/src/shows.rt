@@ -1,16 +1,19 @@
-//! The types of messages that are shown.
+//! The two messages, and what the codec says of them.
 
-ghost use Rattle.std.specs.Prelude.{◌↔◌, IsTrue, List, ℕ, []};
+ghost use Rattle.std.specs.Prelude.{◌≡◌, ◌↔◌, IsTrue, List, ℕ, []};
 ghost use Rattle.tc_wire.specs.Facade.{CanonTc, CanonAct};
+ghost use Rattle.tc_show.specs.Line.{form_of};
 
 use std::alloc::Allocator;
-use tc_json::Show;
+use tc_capture::Holds;
+use tc_forms::Form;
+use tc_kinds::{ACTION_MESSAGE, TC_MESSAGE};
 use tc_wire::{
     Emitable, ParseableBytes, TcActionMessage, TcMessage, is_canonical_action, is_canonical_tc,
 };
 
-/// A type of message that is shown.
-pub(crate) trait Shows<A: Allocator>: ParseableBytes<A> + Emitable + Show {
+/// A type of message of which the codec says whether it fits, is settled, and has canonical bytes.
+pub(crate) trait Shows<A: Allocator>: ParseableBytes<A> + Emitable {
     ghost Canonical: { List ℕ → Type 0 };
 
     /// True if the message's bytes, where it can be written, read back as itself.
@@ -43,5 +46,15 @@ impl<A: Allocator + Copy> Shows<A> for TcActionMessage<A> {
 
     fn are_canonical(bytes: &[u8]) -> bool {
         is_canonical_action(bytes)
+    }
+}
+
+/// The form of each of the two messages.
+pub(crate) fn form_of(holds: Holds) -> Form
+    ensures { result ≡ form_of holds }
+{
+    match holds {
+        Holds::Tc => TC_MESSAGE,
+        Holds::Action => ACTION_MESSAGE,
     }
 }

@@ -31,6 +31,17 @@ impl From<AllocError> for Stop {
     }
 }
 
+impl From<tc_streams::Stop> for Stop {
+    fn from(stop: tc_streams::Stop) -> Stop {
+        match stop {
+            tc_streams::Stop::Closed => Stop::Closed,
+            tc_streams::Stop::Read => Stop::Read,
+            tc_streams::Stop::Write => Stop::Write,
+            tc_streams::Stop::NoMemory => Stop::NoMemory,
+        }
+    }
+}
+
 /// The exit status: 3 if a stream failed or memory ran out, 2 if there was no capture or none of route netlink, 1 if
 /// something was refused, else 0.
 pub fn status_of(outcome: Result<(), Stop>, has_refused: bool) -> u8

@@ -1,6 +1,6 @@
 //! How many messages of each type and kind there were, and how many of each fault.
 
-use crate::tally::Tally;
+use crate::counts::Counts;
 use serde::Serialize;
 use std::alloc::{AllocError, Allocator, Global};
 use tc_outline::Page;
@@ -40,7 +40,7 @@ pub(crate) struct Summary {
 #[derive(Drop, Serialize)]
 pub(crate) struct SummaryLine<'a> {
     pub(crate) summary: &'a Summary,
-    pub(crate) all: &'a Tally,
+    pub(crate) all: &'a Counts,
 }
 
 impl Summary {
@@ -109,7 +109,7 @@ impl Summary {
     /// Shows it as lines.
     pub(crate) fn show<A: Allocator>(
         &self,
-        all: &Tally,
+        all: &Counts,
         page: &mut Page<A>,
     ) -> Result<(), AllocError> {
         page.text("summary")?;
@@ -119,7 +119,7 @@ impl Summary {
         for row in &self.faults {
             show_row(page, "refused", row.name, row.count)?;
         }
-        show_tally(page, all)
+        show_counts(page, all)
     }
 }
 
@@ -143,7 +143,7 @@ fn show_word<A: Allocator>(page: &mut Page<A>, word: &str) -> Result<(), AllocEr
     page.text(word)
 }
 
-fn show_tally<A: Allocator>(page: &mut Page<A>, all: &Tally) -> Result<(), AllocError> {
+fn show_counts<A: Allocator>(page: &mut Page<A>, all: &Counts) -> Result<(), AllocError> {
     show_row(page, "messages", "", all.shown)?;
     show_row(page, "answers", "", all.answers)?;
     show_row(page, "refused", "", all.refused)?;
@@ -153,7 +153,7 @@ fn show_tally<A: Allocator>(page: &mut Page<A>, all: &Tally) -> Result<(), Alloc
     show_holes(page, all)
 }
 
-fn show_foreign<A: Allocator>(page: &mut Page<A>, all: &Tally) -> Result<(), AllocError> {
+fn show_foreign<A: Allocator>(page: &mut Page<A>, all: &Counts) -> Result<(), AllocError> {
     show_row(page, "packets of other link types", "", all.other_links)?;
     show_row(
         page,
@@ -163,7 +163,7 @@ fn show_foreign<A: Allocator>(page: &mut Page<A>, all: &Tally) -> Result<(), All
     )
 }
 
-fn show_holes<A: Allocator>(page: &mut Page<A>, all: &Tally) -> Result<(), AllocError> {
+fn show_holes<A: Allocator>(page: &mut Page<A>, all: &Counts) -> Result<(), AllocError> {
     show_row(page, "cut", "", all.cut)?;
     show_row(page, "skipped", "", all.skipped)?;
     show_row(page, "broken", "", all.broken)?;

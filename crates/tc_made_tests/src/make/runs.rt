@@ -18,6 +18,10 @@ pub(crate) const HEX: Request = Request {
     no_header: false,
     pcap: false,
     making: Making::Checked,
+    in_order: false,
+    index: None,
+    stream: false,
+    verbose: false,
 };
 
 /// A capture in place of lines of hex.
@@ -25,6 +29,10 @@ pub(crate) const PCAP: Request = Request {
     no_header: false,
     pcap: true,
     making: Making::Checked,
+    in_order: false,
+    index: None,
+    stream: false,
+    verbose: false,
 };
 
 /// Messages without a netlink header, made so.
@@ -33,6 +41,10 @@ pub(crate) fn bare(making: Making) -> Request {
         no_header: true,
         pcap: false,
         making,
+        in_order: false,
+        index: None,
+        stream: false,
+        verbose: false,
     }
 }
 

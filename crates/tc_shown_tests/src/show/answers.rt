@@ -59,7 +59,7 @@ static ONE_LINE: &str =
 static JSON: &str =
     r#"{"time":"1700000000.123456000","packet":1,"packet_type":7,"type":"NLMSG_ERROR","flags":512,"seq":155,"portid":77,"errno":"EINVAL","text":"NLA_F_NESTED is missing","offset":44,"path":"/attributes/1/Options/1/Flower/Actions","request":{"type":"RTM_NEWTFILTER","flags":1536,"seq":155,"message":{"header":{"family":"Unspec","index":3,"handle":"0:0","parent":"ffff:fff2","info":39387144},"attributes":[{"Kind":"flower"},{"Options":[{"Flower":{"IpProto":6}},{"Flower":{"Actions":[{"tab":1,"attributes":[{"Kind":"gact"}]}]}}]}]}}}
 {"time":"1700000000.123456000","packet":2,"type":"NLMSG_ERROR","flags":768,"seq":155,"errno":"EINVAL","text":"NLA_F_NESTED is missing","offset":44,"request":{"type":"RTM_NEWTFILTER","flags":1536,"seq":155}}
-{"time":"1700000000.123456000","packet":6,"type":"NLMSG_ERROR","flags":0,"seq":9,"errno":"777","request":{"type":"RTM_NEWQDISC","flags":1536,"seq":9}}
+{"time":"1700000000.123456000","packet":6,"type":"NLMSG_ERROR","flags":0,"seq":9,"errno":"777","request":{"type":"RTM_NEWQDISC","flags":1536,"seq":9,"message":{"raw":"00000000"}}}
 "#;
 
 #[test]

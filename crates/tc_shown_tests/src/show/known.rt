@@ -50,7 +50,7 @@ static ONE_LINE: &str = "RTM_NEWACTION family unspec actions {action 1 {index 5 
 
 static JSON: &str =
     r#"{"type":"RTM_NEWQDISC","flags":1536,"seq":5,"fits":true,"settled":true,"canonical":true,"message":{"header":{"family":"Unspec","index":2,"handle":"1:","parent":"root","info":0},"attributes":[{"Kind":"fq_codel"},{"Options":[{"FqCodel":{"Limit":10240}}]}]}}
-{"type":"RTM_NEWQDISC","flags":1536,"seq":5,"refused":"WrongLength","expected":4,"got":3,"offset":44,"path":"/attributes/1/Options/0/FqCodel/Limit"}
+{"type":"RTM_NEWQDISC","flags":1536,"seq":5,"refused":"WrongLength","expected":4,"got":3,"offset":44,"path":"/attributes/1/Options/0/FqCodel/Limit","message":{"header":{"family":"Unspec","index":2,"handle":"1:","parent":"root","info":0},"attributes":[{"Kind":"fq_codel"},{"Options":[{"FqCodel":{"Limit":{"raw":"002800"}}}]}]}}
 "#;
 
 #[test]

@@ -2,7 +2,8 @@ use Rattle.tc_forms.specs.AttributesMade.{attribute_made, each_under, indexed_ma
 use Rattle.tc_forms.specs.Choices.{by_choice_made}
 use Rattle.tc_forms.specs.Kinds.{own_told}
 use Rattle.tc_forms.specs.Made.{make}
-use Rattle.tc_forms.specs.Raw.{or_raw, raw_of}
+use Rattle.tc_forms.specs.Raw.{one, or_raw, raw_of}
+use Rattle.tc_forms.specs.Rows.{is_reserved}
 use Rattle.tc_forms.specs.Records.{each_made, fields_made}
 use Rattle.tc_forms.specs.Tables.{choices_view, fields_view}
 use Rattle.tc_forms.specs.Values.{plain_made}
@@ -13,7 +14,7 @@ use Rattle.serde_json.specs.View.{view, items_view}
 use Rattle.tc_forms.specs.declared.form.Form.TheVariants as form
 use Rattle.tc_forms.proofs.Making.{items_under, under_over, not_some, appended_as, joined_more, joined_fails, items_here, items_over, fields_here, level_made, raw_made, plain_in_form}
 use Rattle.std.proofs.Common.{subst}
-use Rattle.tc_forms.specs.Appended.{Appended, Fails}
+use Rattle.tc_forms.specs.Appended.{Stops}
 use Rattle.serde_json.specs.Find.{get}
 use Rattle.std.specs.Prelude.{codes}
 use Rattle.tc_forms.specs.AttributesMade.{framed, word_made}
@@ -21,6 +22,10 @@ use Rattle.tc_forms.specs.Places.{rows_under}
 use Rattle.tc_forms.proofs.Making.{own_made, list_made}
 use Rattle.tc_forms.specs.AttributesMade.{layered_by, kinded_made}
 use Rattle.tc_forms.specs.RowLists.{rows_in}
+use Rattle.std.specs.Prelude.{bytes_eq}
+use Rattle.std.proofs.Common.{[], rules}
+use Rattle.tc_forms.specs.AttributesMade.{framed_with}
+use Rattle.tc_forms.proofs.Single.{attribute_one, layered_other, layered_same}
 use Rattle.tc_forms.proofs.make.+make.Goals as goal
 
 pub make_each_of_elements-loop-place-preserved : goal.make_each_of_elements-loop-place-preserved
@@ -156,7 +161,7 @@ make_each_of_kinded-returns-in-Err g t c =
     let Made = make (g.T.Tables.parts_of c.args.table) c.args.depth in
     let same_rows = c.rows_behind-rows.ensures ∙ ap (rows_under (g.T.Tables.parts_of c.args.table) c.args.list) (sym c.kind_behind-so_far.ensures) in
     joined_fails (or_raw (raw_of (view x)) (One next (view x))) (each_under One true next (items_view (drop (i + 1) vs))) (each_under One true c.args.kind.now (items_view vs)) c.args.maker.now.bytes.items now
-    c.in-Err.e left (subst (λ rows. Fails (or_raw (raw_of (view x)) (attribute_made Made rows true next (view x))) c.in-Err.e) same_rows c.in-Err.ensures)
+    c.in-Err.e left (subst (λ rows. Stops (or_raw (raw_of (view x)) (attribute_made Made rows true next (view x))) c.in-Err.e) same_rows c.in-Err.ensures)
 
 pub make_each_of_kinded-returns : goal.make_each_of_kinded-returns
 make_each_of_kinded-returns g t c =
@@ -284,21 +289,19 @@ make_list-returns g t c =
     c.make_each_of_list.result (ap (λ vs. Some (items_view vs)) c.as_slice.ensures.value ∙ c.in-Some.ensures) c.layer_at-layer.ensures c.rows_under-rows.ensures
     c.make_each_of_list.ensures
 
-pub make_one_indexed-returns : goal.make_one_indexed-returns
-make_one_indexed-returns g t c =
+pub make_raw_or_framed-returns : goal.make_raw_or_framed-returns
+make_raw_or_framed-returns g t c =
     let table = g.T.Tables.parts_of c.args.table in
     let Made = make table c.args.depth in
     let k = c.args.kind.now in
     let d = view c.args.value.now in
-    let not_raw : None ≡ raw_of d = sym (ap (option_map (λ v. v.items)) (not_some c.in-Ok-raw_of.raw c.in_default.not-Some)) ∙ c.in-Ok-raw_of.ensures in
+    let not_raw : None ≡ raw_of d = sym (ap (option_map (λ v. v.items)) (not_some c.in-Ok.raw c.in_default.not-Some)) ∙ c.in-Ok.ensures in
     let whole = or_raw (raw_of d) (indexed_made table Made c.args.list k d) in
-    let held = subst (λ v. Appended (framed (option_and_then word_made (get (codes "tab") d)) (option_and_then (Made k c.form_at.result) (get (codes "attributes") d)) d) v.items
-    c.make_framed.new.maker.bytes.items c.make_framed.result) c.enter.ensures.bytes c.make_framed.ensures in
     appended_as (framed (option_and_then word_made (get (codes "tab") d)) (option_and_then (Made k c.form_at.result) (get (codes "attributes") d)) d) whole
     c.args.maker.now.bytes.items c.make_framed.new.maker.bytes.items c.make_framed.result
     (ap (λ f. framed (option_and_then word_made (get (codes "tab") d)) (option_and_then (Made k f) (get (codes "attributes") d)) d) c.form_at.ensures
     ∙ ap (λ o. or_raw o (indexed_made table Made c.args.list k d)) not_raw)
-    held
+    c.make_framed.ensures
 
 pub make_own-returns : goal.make_own-returns
 make_own-returns g t c =
@@ -306,3 +309,52 @@ make_own-returns g t c =
     (view c.args.value.now) (items_view c.as_slice-all.result.now) c.args.maker.now.bytes.items c.make_each_of_list.new.maker.bytes.items c.make_each_of_list.result
     (ap (λ vs. Some (items_view vs)) c.as_slice-all.ensures.value ∙ c.in-Some.ensures)
     (c.own_told-kind.ensures) c.rows_under-rows.ensures c.make_each_of_list.ensures
+
+pub make_by_name-returns-in-Some : goal.make_by_name-returns-in-Some
+make_by_name-returns-in-Some g t c =
+    let only : view c.args.value.now ≡ one c.args.name.now (view c.args.held.now) = search rules in
+    let free : is_reserved c.args.name.now ≡ false = search rules in
+    let Made = make (g.T.Tables.parts_of c.args.table) c.args.depth in
+    let rows = rows_in c.args.rows.now in
+    let k = c.args.kind.now in
+    let d = view c.args.held.now in
+    appended_as _ (attribute_made Made rows c.args.has k (view c.args.value.now)) c.args.maker.now.bytes.items c.make_value.new.maker.bytes.items c.make_value.result
+    (sym (ap (attribute_made Made rows c.args.has k) only ∙ attribute_one Made rows c.args.has k c.args.name.now d free
+    ∙ ap (option_and_then (λ r. option_and_then (λ v. framed_with r.word v None) (Made k r.form d))) (sym c.in-Some.ensures)))
+    c.make_value.ensures
+
+pub make_by_name-returns-in-None : goal.make_by_name-returns-in-None
+make_by_name-returns-in-None g t c =
+    let only : view c.args.value.now ≡ one c.args.name.now (view c.args.held.now) = search rules in
+    let free : is_reserved c.args.name.now ≡ false = search rules in
+    let Made = make (g.T.Tables.parts_of c.args.table) c.args.depth in
+    let rows = rows_in c.args.rows.now in
+    let k = c.args.kind.now in
+    let d = view c.args.held.now in
+    λ not. ap (attribute_made Made rows c.args.has k) only ∙ attribute_one Made rows c.args.has k c.args.name.now d free
+    ∙ ap (option_and_then (λ r. option_and_then (λ v. framed_with r.word v None) (Made k r.form d))) (sym c.in-None.ensures)
+
+pub make_named_layer-returns-then-not-is_same : goal.make_named_layer-returns-then-not-is_same
+make_named_layer-returns-then-not-is_same g t c =
+    let only : view c.args.value.now ≡ one c.args.name.now (view c.args.held.now) = search rules in
+    let free : is_reserved c.args.name.now ≡ false = search rules in
+    let Made = make (g.T.Tables.parts_of c.args.table) c.args.depth in
+    let rows = rows_in c.args.rows.now in
+    let k = c.args.kind.now in
+    let full : c.args.layer.now ≡ [] → ⊥ = search rules in
+    let differs : bytes_eq c.args.layer.now c.args.name.now ≡ false = search rules in
+    λ not. ap (λ x. or_raw (raw_of x) (layered_by Made rows c.args.has c.args.layer.now k x)) only
+    ∙ layered_other Made rows c.args.has k c.args.name.now (view c.args.held.now) free c.args.layer.now full differs
+
+pub make_named_layer-returns-in-Ok : goal.make_named_layer-returns-in-Ok
+make_named_layer-returns-in-Ok g t c =
+    let only : view c.args.value.now ≡ one c.args.name.now (view c.args.held.now) = search rules in
+    let free : is_reserved c.args.name.now ≡ false = search rules in
+    let Made = make (g.T.Tables.parts_of c.args.table) c.args.depth in
+    let rows = rows_in c.args.rows.now in
+    let k = c.args.kind.now in
+    let full : c.args.layer.now ≡ [] → ⊥ = search rules in
+    let same : bytes_eq c.args.layer.now c.args.name.now ≡ true = search rules in
+    ap (option_map (λ b. c.args.maker.now.bytes.items ++ b)) (ap (λ x. or_raw (raw_of x) (layered_by Made rows c.args.has c.args.layer.now k x)) only
+    ∙ layered_same Made rows c.args.has k c.args.name.now (view c.args.held.now) free c.args.layer.now full same)
+    ∙ c.in-Ok.ensures

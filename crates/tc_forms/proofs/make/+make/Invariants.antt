@@ -13,73 +13,97 @@ use Rattle.tc_forms.specs.AttributesMade.{layered_by, kinded_made}
 use Rattle.tc_forms.proofs.make.+make.Given as goal
 
 abbrev pub decreases-make_form : goal.decreases-make_form
-decreases-make_form g l = 8 * l.depth + 0
+decreases-make_form g l = 12 * l.depth + 0
 
 abbrev pub decreases-make_field : goal.decreases-make_field
-decreases-make_field g l = 8 * l.depth + 1
+decreases-make_field g l = 12 * l.depth + 1
 
 abbrev pub decreases-make_fields : goal.decreases-make_fields
-decreases-make_fields g l = 8 * l.depth + 2
+decreases-make_fields g l = 12 * l.depth + 2
 
 abbrev pub decreases-make_element : goal.decreases-make_element
-decreases-make_element g l = 8 * l.depth + 1
+decreases-make_element g l = 12 * l.depth + 1
 
 abbrev pub decreases-make_each_of_elements : goal.decreases-make_each_of_elements
-decreases-make_each_of_elements g l = 8 * l.depth + 2
+decreases-make_each_of_elements g l = 12 * l.depth + 2
 
 abbrev pub decreases-make_elements : goal.decreases-make_elements
-decreases-make_elements g l = 8 * l.depth + 3
+decreases-make_elements g l = 12 * l.depth + 3
 
-abbrev pub decreases-make_list : goal.decreases-make_list
-decreases-make_list g l = 8 * l.depth + 7
+abbrev pub decreases-make_value : goal.decreases-make_value
+decreases-make_value g l = 12 * l.depth + 1
 
-abbrev pub decreases-make_each_of_list : goal.decreases-make_each_of_list
-decreases-make_each_of_list g l = 8 * l.depth + 6
-
-abbrev pub decreases-make_item : goal.decreases-make_item
-decreases-make_item g l = 8 * l.depth + 5
-
-abbrev pub decreases-make_attribute : goal.decreases-make_attribute
-decreases-make_attribute g l = 8 * l.depth + 4
-
-abbrev pub decreases-make_by_row : goal.decreases-make_by_row
-decreases-make_by_row g l = 8 * l.depth + 3
-
-abbrev pub decreases-make_row : goal.decreases-make_row
-decreases-make_row g l = 8 * l.depth + 2
+abbrev pub decreases-make_by_name : goal.decreases-make_by_name
+decreases-make_by_name g l = 12 * l.depth + 2
 
 abbrev pub decreases-make_held : goal.decreases-make_held
-decreases-make_held g l = 8 * l.depth + 1
+decreases-make_held g l = 12 * l.depth + 2
 
-abbrev pub decreases-make_in_force : goal.decreases-make_in_force
-decreases-make_in_force g l = 8 * l.depth + 7
+abbrev pub decreases-make_row : goal.decreases-make_row
+decreases-make_row g l = 12 * l.depth + 3
+
+abbrev pub decreases-make_by_row : goal.decreases-make_by_row
+decreases-make_by_row g l = 12 * l.depth + 4
+
+abbrev pub decreases-make_any_attribute : goal.decreases-make_any_attribute
+decreases-make_any_attribute g l = 12 * l.depth + 5
+
+abbrev pub decreases-make_attribute : goal.decreases-make_attribute
+decreases-make_attribute g l = 12 * l.depth + 6
+
+abbrev pub decreases-make_named_layer : goal.decreases-make_named_layer
+decreases-make_named_layer g l = 12 * l.depth + 7
+
+abbrev pub decreases-make_any_layered : goal.decreases-make_any_layered
+decreases-make_any_layered g l = 12 * l.depth + 7
+
+abbrev pub decreases-make_layered : goal.decreases-make_layered
+decreases-make_layered g l = 12 * l.depth + 8
+
+abbrev pub decreases-make_item : goal.decreases-make_item
+decreases-make_item g l = 12 * l.depth + 9
+
+abbrev pub decreases-make_each_of_list : goal.decreases-make_each_of_list
+decreases-make_each_of_list g l = 12 * l.depth + 10
+
+abbrev pub decreases-make_list : goal.decreases-make_list
+decreases-make_list g l = 12 * l.depth + 11
 
 abbrev pub decreases-make_own : goal.decreases-make_own
-decreases-make_own g l = 8 * l.depth + 7
+decreases-make_own g l = 12 * l.depth + 11
 
-abbrev pub decreases-make_each_of_kinded : goal.decreases-make_each_of_kinded
-decreases-make_each_of_kinded g l = 8 * l.depth + 6
+abbrev pub decreases-make_raw_or_kinded : goal.decreases-make_raw_or_kinded
+decreases-make_raw_or_kinded g l = 12 * l.depth + 7
 
 abbrev pub decreases-make_kinded : goal.decreases-make_kinded
-decreases-make_kinded g l = 8 * l.depth + 5
+decreases-make_kinded g l = 12 * l.depth + 8
 
-abbrev pub decreases-make_indexed : goal.decreases-make_indexed
-decreases-make_indexed g l = 8 * l.depth + 4
+abbrev pub decreases-make_each_of_kinded : goal.decreases-make_each_of_kinded
+decreases-make_each_of_kinded g l = 12 * l.depth + 9
 
-abbrev pub decreases-make_each_of_indexed : goal.decreases-make_each_of_indexed
-decreases-make_each_of_indexed g l = 8 * l.depth + 3
-
-abbrev pub decreases-make_one_indexed : goal.decreases-make_one_indexed
-decreases-make_one_indexed g l = 8 * l.depth + 2
+abbrev pub decreases-make_in_force : goal.decreases-make_in_force
+decreases-make_in_force g l = 12 * l.depth + 10
 
 abbrev pub decreases-make_framed : goal.decreases-make_framed
-decreases-make_framed g l = 8 * l.depth + 1
+decreases-make_framed g l = 12 * l.depth + 2
 
-abbrev pub decreases-make_choice : goal.decreases-make_choice
-decreases-make_choice g l = 8 * l.depth + 2
+abbrev pub decreases-make_raw_or_framed : goal.decreases-make_raw_or_framed
+decreases-make_raw_or_framed g l = 12 * l.depth + 3
+
+abbrev pub decreases-make_one_indexed : goal.decreases-make_one_indexed
+decreases-make_one_indexed g l = 12 * l.depth + 4
+
+abbrev pub decreases-make_each_of_indexed : goal.decreases-make_each_of_indexed
+decreases-make_each_of_indexed g l = 12 * l.depth + 5
+
+abbrev pub decreases-make_indexed : goal.decreases-make_indexed
+decreases-make_indexed g l = 12 * l.depth + 6
 
 abbrev pub decreases-make_chosen : goal.decreases-make_chosen
-decreases-make_chosen g l = 8 * l.depth + 1
+decreases-make_chosen g l = 12 * l.depth + 1
+
+abbrev pub decreases-make_choice : goal.decreases-make_choice
+decreases-make_choice g l = 12 * l.depth + 2
 
 -- what is to be appended from here is what was to be appended from the start
 abbrev pub invariant-make_fields-loop-field : goal.invariant-make_fields-loop-field

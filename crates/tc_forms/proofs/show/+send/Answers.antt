@@ -137,7 +137,7 @@ send_own-returns g t c =
     let inner = show table c.args.depth in
     let b = c.args.bytes.now in
     let own = own_kind (length b) b in
-    let first = g.S.Serializer.written c.begin_seq.new.self in
+    let first = g.S.Serializer.written c.begin_seq.new.out in
     let last = g.S.Serializer.written c.send_attributes.new.out in
     on_ok_weaker c.end_seq.result
     (list_sent (frames (λ j x. attribute inner (rows_under table c.args.place j) true j x) false (length b) own b) _ first last _ c.in_ok-begin_seq.ensures
@@ -187,7 +187,7 @@ send_list-returns g t c =
     let inner = show table c.args.depth in
     let b = c.args.bytes.now in
     let k = c.args.kind.now in
-    let first = g.S.Serializer.written c.begin_seq.new.self in
+    let first = g.S.Serializer.written c.begin_seq.new.out in
     let last = g.S.Serializer.written c.send_attributes.new.out in
     on_ok_weaker c.end_seq.result
     (list_sent (frames (λ j x. layered (layer_of (part_at table c.args.place)) (attribute inner (rows_under table c.args.place j) false j x)) false (length b) k b) _ first last _
@@ -206,7 +206,7 @@ send_indexed-returns g t c =
     let table = g.T.Tables.parts_of c.args.table in
     let b = c.args.bytes.now in
     let k = c.args.kind.now in
-    let first = g.S.Serializer.written c.begin_seq.new.self in
+    let first = g.S.Serializer.written c.begin_seq.new.out in
     let last = g.S.Serializer.written c.send_each_indexed.new.out in
     on_ok_weaker c.end_seq.result
     (list_sent (frames (λ j x. indexed x (show table c.args.depth j (form_of c.args.place (part_at table c.args.place)) x.value)) false (length b) k b) _ first last _

@@ -9,4 +9,4 @@ returns-in-Ok g c =
     let whole : c.in-Ok.octets ≡ c.args.bytes.now = search rules in
     let long : length c.args.bytes.now ≡ 6 = c.in-Ok.ensures.1.long in
     let same = c.as_str.ensures.value ∙ c.mac_text.ensures ∙ ap mac_text whole in
-    on_ok_weaker c.str.result (mac_sent c.args.bytes.now c.as_str.result.now _ _ long same) c.str.ensures
+    on_ok_weaker c.string.result (mac_sent c.args.bytes.now c.as_str.result.now _ _ long same) c.string.ensures

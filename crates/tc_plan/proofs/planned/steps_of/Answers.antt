@@ -1,25 +1,38 @@
-use Rattle.std.proofs.Common.{◌≡◌, ◌<◌, ◌≤◌, ◌++◌, ◌∷◌, ◌+◌, [], take, map, length, ap, sym, subst, ◌∙◌, arith}
-use Rattle.std.proofs.lemmas.List.{take_more, map-append, length-take-le}
-use Rattle.tc_plan.specs.Plans.{parts_of, parts_at, parts_from}
-use Rattle.tc_plan.proofs.Orders.{parts_more}
+use Rattle.std.proofs.Common.{◌≡◌, ◌∷◌, ◌++◌, [], All, List, map, sym, ap, subst, ◌∙◌, append_assoc, append-nil, arith}
+use Rattle.std.proofs.lemmas.List.{nil_from_length}
+use Rattle.std.specs.Vec.Iter.{into_iter_items}
+use Rattle.tc_plan.specs.Fates.{parts_of, parts_among, gifts, objects, is_refused, fate_among, gives_by, IsSetOf, same_key}
+use Rattle.tc_plan.proofs.Orders.{all_more, parts_more, objects_more}
 use Rattle.tc_plan.proofs.planned.steps_of.Goals as goal
 
-pub loop-place-preserved : goal.loop-place-preserved
-loop-place-preserved g c =
-    let i = c.loop-place.place in
-    let xs = c.args.dumps.now in
-    let x = c.index-dumps-place.result in
-    let step = c.in_ok-step.step in
-    let old = c.loop-place.steps.items in
-    let lt : i < length xs = c.loop-place-test.true in
-    let le : i ≤ length xs = omega (arith, lt) in
-    let long : length (take i xs) ≡ i = length-take-le i xs le in
-    let more : take (i + 1) xs ≡ take i xs ++ x ∷ [] =
-    subst (λ y. take (i + 1) xs ≡ take i xs ++ y ∷ []) (sym c.index-dumps-place.is) (take_more xs i x lt) in
-    let pushed : map parts_of c.push.new.self.items ≡ map parts_of (old ++ step ∷ []) = ap (map parts_of) c.in_ok-push.ensures.items in
-    let apart : map parts_of (old ++ step ∷ []) ≡ map parts_of old ++ parts_of step ∷ [] = map-append parts_of old (step ∷ []) in
-    let before : map parts_of old ++ parts_of step ∷ [] ≡ parts_from 0 (take i xs) ++ parts_of step ∷ [] = ap (λ l. l ++ parts_of step ∷ []) c.loop-place.invariant in
-    let last : parts_from 0 (take i xs) ++ parts_of step ∷ [] ≡ parts_from 0 (take i xs) ++ parts_at i x ∷ [] =
-    ap (λ p. parts_from 0 (take i xs) ++ p ∷ []) c.in_ok-step.ensures in
-    let all : parts_from 0 (take i xs ++ x ∷ []) ≡ parts_from 0 (take i xs) ++ parts_at i x ∷ [] = parts_more 0 i (take i xs) x (omega (arith, long)) in
-    pushed ∙ apart ∙ before ∙ last ∙ sym all ∙ ap (parts_from 0) (sym more)
+pub loop-entry-preserved : goal.loop-entry-preserved
+loop-entry-preserved g c =
+    let inv = c.loop-entry.invariant in
+    let entries = c.args.entries.items in
+    let yielded = c.loop-entry.yielded in
+    let x = c.in-Some.entry in
+    let rest = into_iter_items c.next.new.self in
+    let step = c.step_by-step.result in
+    let old = c.loop-entry.steps.items in
+    let fate = c.fate_among-fate.ensures (gifts entries) (objects yielded) inv.given inv.before in
+    record {
+      all = append_assoc yielded (x ∷ []) rest ∙ rw (← c.in-Some.ensures.steps.0) inv.all;
+      parts = parts_more old c.push.new.self.items step (parts_among (gifts entries) (yielded ++ x ∷ []) rest) (parts_among (gifts entries) [] entries) _ c.in_ok-push.ensures.items
+      (c.step_by-step.ensures.parts ∙ ap (λ f. (x.place, f, gives_by f x.gives.items, x.wants.items)) fate)
+      (subst (λ l. map parts_of old ++ parts_among (gifts entries) yielded l ≡ parts_among (gifts entries) [] entries) c.in-Some.ensures.steps.0 inv.parts);
+      barred = subst (All (λ s. s.is_barred ≡ is_refused s.item.fate)) (sym c.in_ok-push.ensures.items)
+      (all_more (λ s. s.is_barred ≡ is_refused s.item.fate) old step inv.barred c.step_by-step.ensures.barred);
+      given = inv.given;
+      before = subst (IsSetOf same_key c.in_ok-before.before) (sym (objects_more yielded x)) (c.in_ok-before.ensures (objects yielded) inv.before);
+    }
+
+pub returns-clause-parts : goal.returns-clause-parts
+returns-clause-parts g c =
+    let inv = c.loop-entry.invariant in
+    let entries = c.args.entries.items in
+    let none : into_iter_items c.loop-entry.entry-iterator ≡ [] = nil_from_length _ (omega (arith, c.loop-entry.entry-iterator.rest.ok.0, c.in-None.ensures.steps.0)) in
+    sym (append-nil (map parts_of c.loop-entry.steps.items))
+    ∙ subst (λ l. map parts_of c.loop-entry.steps.items ++ parts_among (gifts entries) c.loop-entry.yielded l ≡ parts_among (gifts entries) [] entries) none inv.parts
+
+pub returns-clause-barred : goal.returns-clause-barred
+returns-clause-barred g c = c.loop-entry.invariant.barred

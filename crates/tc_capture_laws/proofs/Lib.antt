@@ -1,0 +1,13 @@
+pub mod FrontPieces
+pub mod EachPiece
+pub mod Joins
+pub mod PartJoins
+pub mod MoreBytes
+pub mod Faults
+pub mod Numbers
+pub mod MessageReads
+pub mod Steps
+pub mod PcapReads
+pub mod PcapNgReads
+pub mod StreamReads
+pub mod Agrees

@@ -1,0 +1,6 @@
+use Rattle.std.proofs.Common.{arith}
+use Rattle.tc_capture_laws.proofs.PcapNgReads.{pcapng-read}
+use Rattle.tc_capture_laws.proofs.files.pcapng_is_read.Goals as goal
+
+pub returns : goal.returns
+returns c order longest packets room least all = pcapng-read order longest c.args.most packets room (omega arith) least all

@@ -1,0 +1,163 @@
+//! Events sent to a format of serde, whose error is set aside: what is handed back of it through many calls is one byte.
+
+ghost use Rattle.serde.specs.Event.{Logs, boolean, field_key, map_begins, map_ends, seq_begins, seq_ends, signed, text, unsigned};
+ghost use Rattle.serde.specs.declared.name.Case.TheVariants.{AsIs};
+ghost use Rattle.std.specs.Prelude.{None, OnOk};
+
+use serde::Serializer;
+
+/// The format failed, and its error is set aside.
+#[derive(Clone, Copy)]
+pub(crate) enum Stopped {
+    /// The format failed.
+    Failed,
+}
+
+/// An object begins.
+pub(crate) fn begin_map<S: Serializer>(
+    out: &mut S,
+    error: &mut Option<S::Error>,
+) -> Result<(), Stopped>
+    ensures { OnOk result (Logs (S.written out.old) (S.written out.new) (map_begins None)) }
+{
+    match out.begin_map(None) {
+        Ok(()) => Ok(()),
+        Err(e) => {
+            *error = Some(e);
+            Err(Stopped::Failed)
+        }
+    }
+}
+
+/// An object ends.
+pub(crate) fn end_map<S: Serializer>(
+    out: &mut S,
+    error: &mut Option<S::Error>,
+) -> Result<(), Stopped>
+    ensures { OnOk result (Logs (S.written out.old) (S.written out.new) (map_ends)) }
+{
+    match out.end_map() {
+        Ok(()) => Ok(()),
+        Err(e) => {
+            *error = Some(e);
+            Err(Stopped::Failed)
+        }
+    }
+}
+
+/// A list begins.
+pub(crate) fn begin_seq<S: Serializer>(
+    out: &mut S,
+    error: &mut Option<S::Error>,
+) -> Result<(), Stopped>
+    ensures { OnOk result (Logs (S.written out.old) (S.written out.new) (seq_begins None)) }
+{
+    match out.begin_seq(None) {
+        Ok(()) => Ok(()),
+        Err(e) => {
+            *error = Some(e);
+            Err(Stopped::Failed)
+        }
+    }
+}
+
+/// A list ends.
+pub(crate) fn end_seq<S: Serializer>(
+    out: &mut S,
+    error: &mut Option<S::Error>,
+) -> Result<(), Stopped>
+    ensures { OnOk result (Logs (S.written out.old) (S.written out.new) (seq_ends)) }
+{
+    match out.end_seq() {
+        Ok(()) => Ok(()),
+        Err(e) => {
+            *error = Some(e);
+            Err(Stopped::Failed)
+        }
+    }
+}
+
+/// The name of a member.
+pub(crate) fn key<S: Serializer>(
+    name: &str,
+    out: &mut S,
+    error: &mut Option<S::Error>,
+) -> Result<(), Stopped>
+    ensures { OnOk result (Logs (S.written out.old) (S.written out.new) (field_key name.now AsIs)) }
+{
+    match out.key(name) {
+        Ok(()) => Ok(()),
+        Err(e) => {
+            *error = Some(e);
+            Err(Stopped::Failed)
+        }
+    }
+}
+
+/// A text.
+pub(crate) fn string<S: Serializer>(
+    value: &str,
+    out: &mut S,
+    error: &mut Option<S::Error>,
+) -> Result<(), Stopped>
+    ensures { OnOk result (Logs (S.written out.old) (S.written out.new) (text value.now)) }
+{
+    match out.str(value) {
+        Ok(()) => Ok(()),
+        Err(e) => {
+            *error = Some(e);
+            Err(Stopped::Failed)
+        }
+    }
+}
+
+/// `true` or `false`.
+pub(crate) fn truth<S: Serializer>(
+    value: bool,
+    out: &mut S,
+    error: &mut Option<S::Error>,
+) -> Result<(), Stopped>
+    ensures { OnOk result (Logs (S.written out.old) (S.written out.new) (boolean value)) }
+{
+    match out.bool(value) {
+        Ok(()) => Ok(()),
+        Err(e) => {
+            *error = Some(e);
+            Err(Stopped::Failed)
+        }
+    }
+}
+
+/// A number.
+pub(crate) fn unsigned<S: Serializer>(
+    value: u64,
+    out: &mut S,
+    error: &mut Option<S::Error>,
+) -> Result<(), Stopped>
+    ensures { OnOk result (Logs (S.written out.old) (S.written out.new) (unsigned value)) }
+{
+    match out.u64(value) {
+        Ok(()) => Ok(()),
+        Err(e) => {
+            *error = Some(e);
+            Err(Stopped::Failed)
+        }
+    }
+}
+
+/// A number that may be negative.
+pub(crate) fn signed<S: Serializer>(
+    value: i64,
+    out: &mut S,
+    error: &mut Option<S::Error>,
+) -> Result<(), Stopped>
+    ensures { OnOk result (Logs (S.written out.old) (S.written out.new) (signed value)) }
+{
+    match out.i64(value) {
+        Ok(()) => Ok(()),
+        Err(e) => {
+            *error = Some(e);
+            Err(Stopped::Failed)
+        }
+    }
+}

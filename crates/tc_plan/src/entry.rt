@@ -1,0 +1,398 @@
+//! What a dump gives and wants, and what has to be so among others.
+
+ghost use Rattle.std.specs.Prelude.{◌≡◌, ◌∷◌, ◌++◌, ◌%◌, ◌==◌, if◌then◌else◌, [], not, bytes_eq, codes, string_bytes, IfOk};
+ghost use Rattle.std.specs.List.{flat_map, list_any};
+ghost use Rattle.std.specs.Option.{option_to_list};
+ghost use Rattle.tc_records.specs.Header.{handle_number};
+ghost use Rattle.tc_plan.specs.Needs.{chain_number, block_of, gives, wants, parents, object, must, must_not, made_by, is_kind, is_clsact, has_kind, gives_actions};
+ghost use Rattle.tc_plan.specs.declared.key.Key.TheVariants.{Actions, Chain, Tables, Clsact, InChain};
+
+use crate::fate::Fate;
+use crate::key::Key;
+use nla_frames::{NLA_TYPE_MASK, Nla};
+use std::alloc::{AllocError, Allocator};
+use tc_attributes::TcAttribute;
+use tc_messages::TcMessage;
+use tc_records::TcHeader;
+use tc_requests::Object;
+
+/// A dump in a plan: its place, and what becomes of it.
+#[derive(Drop, Debug)]
+pub struct Item {
+    /// The caller's number of it.
+    pub place: usize,
+    /// What becomes of it.
+    pub fate: Fate,
+}
+
+/// What a plan has to know of a dump.
+#[derive(Drop, Debug)]
+pub struct Entry<A: Allocator> {
+    /// The caller's number of it.
+    pub place: usize,
+    /// What becomes of it by itself.
+    pub fate: Fate,
+    /// What its request gives others.
+    pub gives: Vec<Key, A>,
+    /// What its request wants of others.
+    pub wants: Vec<Key, A>,
+    /// What it is, of which one dump is enough.
+    pub object: Option<Key>,
+    /// What a dump has to give: the class that is a class's parent.
+    pub must: Option<Key>,
+    /// What no dump may give: clsact, where its parent doesn't say the side.
+    pub must_not: Option<Key>,
+    /// What makes it, if a dump gives that: the filters of a chain without a template.
+    pub made_by: Option<Key>,
+}
+
+/// What a plan has to know of this dump; `place` is the caller's number of it.
+pub fn entry_of<A: Allocator + Copy>(
+    alloc: A,
+    place: usize,
+    fate: Fate,
+    kind: Object,
+    dump: &TcMessage<A>,
+) -> Result<Entry<A>, AllocError>
+    ensures place { IfOk result (λ entry. entry.place ≡ place) }
+    ensures fate { IfOk result (λ entry. entry.fate ≡ fate) }
+    ensures gives { IfOk result (λ entry. entry.gives.items ≡ gives kind dump.now) }
+    ensures wants { IfOk result (λ entry. entry.wants.items ≡ wants kind dump.now) }
+    ensures object { IfOk result (λ entry. option_to_list entry.object ≡ object kind dump.now) }
+    ensures must { IfOk result (λ entry. option_to_list entry.must ≡ must kind dump.now.header) }
+    ensures must_not { IfOk result (λ entry. option_to_list entry.must_not ≡ must_not kind dump.now.header) }
+    ensures made_by { IfOk result (λ entry. option_to_list entry.made_by ≡ made_by kind dump.now) }
+{
+    Ok(Entry {
+        place,
+        fate,
+        gives: given(alloc, kind, dump)?,
+        wants: wanted(alloc, kind, dump)?,
+        object: object_of(kind, dump),
+        must: must_of(kind, &dump.header),
+        must_not: must_not_of(kind, &dump.header),
+        made_by: made_by(kind, dump),
+    })
+}
+
+/// The same of actions that stand by themselves. Those that can't be made are needed by none, since a filter has its own in full.
+pub fn entry_of_actions<A: Allocator + Copy>(
+    alloc: A,
+    place: usize,
+    fate: Fate,
+) -> Result<Entry<A>, AllocError>
+    ensures place { IfOk result (λ entry. entry.place ≡ place) }
+    ensures gives { IfOk result (λ entry. entry.gives.items ≡ gives_actions fate) }
+    ensures fate { IfOk result (λ entry. entry.fate ≡ fate) }
+    ensures wants { IfOk result (λ entry. entry.wants.items ≡ []) }
+    ensures free { IfOk result (λ entry. option_to_list entry.object ≡ []) }
+{
+    let mut gives = Vec::new(alloc);
+    if !fate.is_refused() {
+        gives.push(Key::Actions)?;
+    }
+    Ok(Entry {
+        place,
+        fate,
+        gives,
+        wants: Vec::new(alloc),
+        object: None,
+        must: None,
+        must_not: None,
+        made_by: None,
+    })
+}
+
+// What a dump is.
+fn object_of<A: Allocator>(kind: Object, dump: &TcMessage<A>) -> Option<Key>
+    ensures { option_to_list result ≡ object kind dump.now }
+{
+    let header = &dump.header;
+    let index = header.index;
+    let handle = u32::from(header.handle);
+    let parent = u32::from(header.parent);
+    let number = chain_number(&dump.attributes);
+    Some(match kind {
+        Object::Qdisc | Object::Class => Key::Node { index, handle },
+        Object::Chain => Key::Chain {
+            index,
+            parent,
+            number,
+        },
+        Object::Filter => Key::Filter {
+            index,
+            parent,
+            number,
+            handle,
+            info: header.info,
+        },
+    })
+}
+
+// The class that is a class's parent.
+fn must_of(kind: Object, header: &TcHeader) -> Option<Key>
+    ensures { option_to_list result ≡ must kind header.now }
+{
+    let handle = u32::from(header.parent);
+    match kind {
+        Object::Class if handle % 0x1_0000 != 0 && handle != 0xFFFF_FFFF => Some(Key::Node {
+            index: header.index,
+            handle,
+        }),
+        _ => None,
+    }
+}
+
+// Clsact, where a parent doesn't say the side.
+fn must_not_of(kind: Object, header: &TcHeader) -> Option<Key>
+    ensures { option_to_list result ≡ must_not kind header.now }
+{
+    match kind {
+        Object::Filter | Object::Chain if u32::from(header.parent) == 0xFFFF_0000 => {
+            Some(Key::Clsact {
+                index: header.index,
+            })
+        }
+        _ => None,
+    }
+}
+
+// The filters of a chain without a template.
+fn made_by<A: Allocator>(kind: Object, dump: &TcMessage<A>) -> Option<Key>
+    ensures { option_to_list result ≡ made_by kind dump.now }
+{
+    match kind {
+        Object::Chain if !has_kind(&dump.attributes) => Some(Key::InChain {
+            index: dump.header.index,
+            parent: u32::from(dump.header.parent),
+            number: chain_number(&dump.attributes),
+        }),
+        _ => None,
+    }
+}
+
+fn has_kind<A: Allocator>(attributes: &[TcAttribute<A>]) -> bool
+    ensures { result ≡ has_kind attributes.now }
+{
+    attributes.iter().any(|attribute| is_kind(attribute))
+}
+
+fn is_kind<A: Allocator>(attribute: &TcAttribute<A>) -> bool
+    ensures { result ≡ is_kind attribute.now }
+{
+    matches!(attribute, TcAttribute::Kind(_))
+}
+
+// True of the kind clsact.
+fn is_clsact<A: Allocator>(attribute: &TcAttribute<A>) -> bool
+    ensures { result ≡ is_clsact attribute.now }
+{
+    match attribute {
+        TcAttribute::Kind(kind) => kind.as_str() == "clsact",
+        _ => false,
+    }
+}
+
+fn has_clsact<A: Allocator>(attributes: &[TcAttribute<A>]) -> bool
+    ensures { result ≡ list_any is_clsact attributes.now }
+{
+    attributes.iter().any(|attribute| is_clsact(attribute))
+}
+
+// Keys, and clsact if these are the attributes of that.
+fn clsact<A: Allocator>(
+    keys: Vec<Key, A>,
+    index: i32,
+    attributes: &[TcAttribute<A>],
+) -> Result<Vec<Key, A>, AllocError>
+    ensures { IfOk result (λ made. made.items
+        ≡ keys.items ++ (if list_any is_clsact attributes.now then Clsact index ∷ [] else [])) }
+{
+    if has_clsact(attributes) {
+        with(keys, Some(Key::Clsact { index }))
+    } else {
+        Ok(keys)
+    }
+}
+
+fn given<A: Allocator + Copy>(
+    alloc: A,
+    kind: Object,
+    dump: &TcMessage<A>,
+) -> Result<Vec<Key, A>, AllocError>
+    ensures { IfOk result (λ keys. keys.items ≡ gives kind dump.now) }
+{
+    let header = &dump.header;
+    let handle = u32::from(header.handle);
+    let parent = u32::from(header.parent);
+    let index = header.index;
+    match kind {
+        Object::Qdisc => {
+            let keys = clsact(one(alloc, Key::Node { index, handle })?, index, &dump.attributes)?;
+            blocks(keys, &dump.attributes)
+        }
+        Object::Class => one(alloc, Key::Node { index, handle }),
+        Object::Chain => one(
+            alloc,
+            Key::Chain {
+                index,
+                parent,
+                number: chain_number(&dump.attributes),
+            },
+        ),
+        Object::Filter => {
+            let keys = one(
+                alloc,
+                Key::InChain {
+                    index,
+                    parent,
+                    number: chain_number(&dump.attributes),
+                },
+            )?;
+            if handle % 0x10_0000 == 0 {
+                with(keys, Some(Key::Tables { index, parent }))
+            } else {
+                Ok(keys)
+            }
+        }
+    }
+}
+
+fn one<A: Allocator>(alloc: A, key: Key) -> Result<Vec<Key, A>, AllocError>
+    ensures { IfOk result (λ keys. keys.items ≡ key ∷ []) }
+{
+    let mut keys = Vec::with_capacity(alloc, 1)?;
+    keys.push(key)?;
+    Ok(keys)
+}
+
+// These keys, and the blocks of a qdisc: `TCA_INGRESS_BLOCK` and `TCA_EGRESS_BLOCK`.
+fn blocks<A: Allocator>(
+    keys: Vec<Key, A>,
+    attributes: &[TcAttribute<A>],
+) -> Result<Vec<Key, A>, AllocError>
+    ensures { IfOk result (λ made. made.items ≡ keys.items ++ flat_map block_of attributes.now) }
+{
+    let mut made = keys;
+    for attribute in attributes {
+        made = with(made, block_of(attribute))?;
+    }
+    Ok(made)
+}
+
+// Keys, and one more if there is one.
+fn with<A: Allocator>(keys: Vec<Key, A>, key: Option<Key>) -> Result<Vec<Key, A>, AllocError>
+    ensures { IfOk result (λ made. made.items ≡ keys.items ++ option_to_list key) }
+{
+    let mut made = keys;
+    if let Some(key) = key {
+        made.push(key)?;
+    }
+    Ok(made)
+}
+
+// The block that an attribute names.
+fn block_of<A: Allocator>(attribute: &TcAttribute<A>) -> Option<Key>
+    ensures { option_to_list result ≡ block_of attribute.now }
+{
+    match attribute {
+        TcAttribute::Other(nla) => {
+            let kind = nla.kind() & NLA_TYPE_MASK;
+            match nla.value() {
+                [a, b, c, d] if kind == 13 || kind == 14 => Some(Key::Block {
+                    number: u32::from_le_bytes([*a, *b, *c, *d]),
+                }),
+                _ => None,
+            }
+        }
+        _ => None,
+    }
+}
+
+// The number of the chain that a message names first; 0 where it names none.
+fn chain_number<A: Allocator>(attributes: &[TcAttribute<A>]) -> u32
+    ensures { result ≡ chain_number attributes.now }
+{
+    for attribute in attributes {
+        if let TcAttribute::Chain(number) = attribute {
+            return *number;
+        }
+    }
+    0
+}
+
+fn wanted<A: Allocator + Copy>(
+    alloc: A,
+    kind: Object,
+    dump: &TcMessage<A>,
+) -> Result<Vec<Key, A>, AllocError>
+    ensures { IfOk result (λ keys. keys.items ≡ wants kind dump.now) }
+{
+    let header = &dump.header;
+    let mut keys = parents(alloc, header)?;
+    match kind {
+        Object::Qdisc | Object::Chain => Ok(keys),
+        Object::Class => {
+            keys.push(Key::Node {
+                index: header.index,
+                handle: u32::from(header.handle) / 0x1_0000 * 0x1_0000,
+            })?;
+            Ok(keys)
+        }
+        Object::Filter => wanted_by_filter(keys, header, chain_number(&dump.attributes)),
+    }
+}
+
+// What a filter wants beside its parents: actions, its chain, and hash tables if it isn't one.
+fn wanted_by_filter<A: Allocator>(
+    keys: Vec<Key, A>,
+    header: &TcHeader,
+    number: u32,
+) -> Result<Vec<Key, A>, AllocError>
+    ensures { IfOk result (λ made. made.items
+        ≡ (keys.items ++ Actions
+        ∷ Chain header.now.index (handle_number header.now.parent) number ∷ [])
+        ++ (if handle_number header.now.handle % 0x100000 == 0
+        then [] else Tables header.now.index (handle_number header.now.parent) ∷ [])) }
+{
+    let index = header.index;
+    let parent = u32::from(header.parent);
+    let mut made = keys;
+    made.push(Key::Actions)?;
+    made.push(Key::Chain {
+        index,
+        parent,
+        number,
+    })?;
+    if u32::from(header.handle) % 0x10_0000 == 0 {
+        Ok(made)
+    } else {
+        with(made, Some(Key::Tables { index, parent }))
+    }
+}
+
+// The interface of what is in a block that interfaces share: `TCM_IFINDEX_MAGIC_BLOCK`.
+const SHARED: i32 = -1;
+
+// The qdisc or class that a parent names, and its qdisc; the block, where interfaces share one.
+fn parents<A: Allocator>(alloc: A, header: &TcHeader) -> Result<Vec<Key, A>, AllocError>
+    ensures { IfOk result (λ keys. keys.items
+        ≡ parents header.now.index (handle_number header.now.parent)) }
+{
+    let index = header.index;
+    let parent = u32::from(header.parent);
+    let mut keys = Vec::with_capacity(alloc, 5)?;
+    if index == SHARED {
+        keys.push(Key::Block { number: parent })?;
+    } else if parent != 0xFFFF_FFFF && parent != 0xFFFF_FFF1 {
+        keys.push(Key::Node {
+            index,
+            handle: parent,
+        })?;
+        keys.push(Key::Node {
+            index,
+            handle: parent / 0x1_0000 * 0x1_0000,
+        })?;
+    }
+    Ok(keys)
+}

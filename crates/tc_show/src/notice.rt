@@ -1,0 +1,39 @@
+//! What is said of an input where it holds no message.
+
+use serde::Serialize;
+use std::alloc::{AllocError, Global};
+use tc_capture::CaptureError;
+
+/// Why something of an input isn't shown as messages.
+#[derive(Clone, Copy)]
+pub(crate) enum Notice {
+    /// The capture holds only the first bytes.
+    Cut(CaptureError),
+    /// It is whole, but longer than what is read: so many bytes.
+    Skipped(u64),
+    /// It can't be read on.
+    Broken(CaptureError),
+    /// A line isn't hex.
+    NoHex,
+}
+
+impl Notice {
+    /// What is said.
+    pub(crate) fn text(&self, alloc: Global) -> Result<String, AllocError> {
+        match self {
+            Notice::Cut(fault) => format!(in alloc; "cut: {fault}"),
+            Notice::Skipped(length) => format!(in alloc; "skipped: {length} bytes"),
+            Notice::Broken(fault) => format!(in alloc; "broken: {fault}"),
+            Notice::NoHex => format!(in alloc; "broken: no hex"),
+        }
+    }
+}
+
+/// A notice as a line of JSON.
+#[derive(Drop, Serialize)]
+pub(crate) struct NoticeLine<'a> {
+    /// What is said.
+    pub(crate) note: &'a str,
+    /// Where it is in the input, in bytes.
+    pub(crate) at: u64,
+}
