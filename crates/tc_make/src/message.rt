@@ -85,7 +85,13 @@ pub(crate) fn message_of<T: Tables>(
             )?;
             unchanged(alloc, bytes)
         }
-        Making::AsGiven | Making::Restored => unchanged(alloc, bytes),
+        Making::Restored => {
+            if let Verdict::Refused(error) = verdict_on(alloc, holds, &bytes)? {
+                return Err(unreadable(alloc, holds, &bytes, error));
+            }
+            unchanged(alloc, bytes)
+        }
+        Making::AsGiven => unchanged(alloc, bytes),
     }
 }
 
