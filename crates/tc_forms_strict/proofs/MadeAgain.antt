@@ -1,5 +1,5 @@
 -- The bytes of which JSON is shown are made of it, unless memory runs out.
-use Rattle.std.proofs.Common.{◌≡◌, ℕ, List, [], Some, refl, sym, ◌∙◌, subst}
+use Rattle.std.proofs.Common.{◌≡◌, ℕ, Bool, true, false, List, [], Some, refl, sym, ◌∙◌, subst}
 use Rattle.nla_frames.specs.Value.{IsBytes}
 use Rattle.serde_json.specs.Data.{Data}
 use Rattle.tc_forms.specs.declared.error.MakeError.{MakeError}
@@ -28,3 +28,7 @@ module _ (table : Table) (f : Form) (bytes : List ℕ) (h : IsBytes bytes) (json
   pub only_memory : (e : MakeError) → Fails (made_of table f json) e → e ≡ OutOfMemory
   only_memory OutOfMemory fails = refl
   only_memory (Wrong path found wanted) fails = absurd (none_not_some bytes (sym (fails (λ e. cc)) ∙ stands))
+
+pub not_both : (b : Bool) → b ≡ true → b ≡ false → ⊥
+not_both true e f = cc
+not_both false e f = cc

@@ -69,9 +69,7 @@ fn with_output<'a>(alloc: Global, command: Command<'a>) -> Result<Command<'a>, A
         "stream",
         "Write netlink messages one after the other, without lines of hex",
     );
-    let stream = stream
-        .conflicts_with("pcap")?
-        .conflicts_with("no-header")?;
+    let stream = stream.conflicts_with("pcap")?.conflicts_with("no-header")?;
     command
         .arg(no_header.conflicts_with("pcap")?)?
         .arg(pcap)?

@@ -45,9 +45,14 @@ pub(crate) enum Complaint {
         error: DecodeError,
     },
     /// The codec refuses the bytes for another fault than the line says.
-    OtherFault { said: DecodeError, error: DecodeError },
+    OtherFault {
+        said: DecodeError,
+        error: DecodeError,
+    },
     /// The codec reads the bytes, and the line says that it refuses them.
-    Readable { said: DecodeError },
+    Readable {
+        said: DecodeError,
+    },
     /// The bytes aren't canonical: what is there, and what would be in its place.
     NotCanonical(Difference),
     /// The message can't be written: a payload would have more than 65531 bytes.

@@ -132,15 +132,7 @@ fn is_member(name: &str) -> bool {
 fn is_of_refused(name: &str) -> bool {
     matches!(
         name,
-        "refused"
-            | "len"
-            | "needed"
-            | "length"
-            | "left"
-            | "expected"
-            | "got"
-            | "offset"
-            | "path"
+        "refused" | "len" | "needed" | "length" | "left" | "expected" | "got" | "offset" | "path"
     )
 }
 
@@ -224,11 +216,7 @@ const PACKET_TYPE: Numbered = Numbered {
 };
 
 // The message type, and what the payload is; a line without a type shows that by its header.
-fn type_in(
-    alloc: Global,
-    json: &Value,
-    message: &Value,
-) -> Result<(Option<u16>, Holds), Complaint>
+fn type_in(alloc: Global, json: &Value, message: &Value) -> Result<(Option<u16>, Holds), Complaint>
     ensures { IfOk result (λ given. IsTyped (view json.now) (view message.now) given.0 given.1) }
 {
     match json.get("type") {

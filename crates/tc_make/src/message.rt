@@ -1,6 +1,6 @@
 //! The bytes of a message.
 
-ghost use Rattle.std.specs.Prelude.{◌≡◌, ◌×◌, ℕ, None, IfOk, OnOk, codes};
+ghost use Rattle.std.specs.Prelude.{◌≡◌, ℕ, None, IfOk, OnOk, codes};
 ghost use Rattle.serde_json.specs.Find.{get};
 ghost use Rattle.serde_json.specs.View.{view};
 ghost use Rattle.tc_make.specs.Made.{IsAsSaid, IsMade, Settles, StandsFor, form_of};
@@ -65,12 +65,33 @@ pub(crate) fn message_of<T: Tables>(
     }
     let bytes = bytes_of(alloc, forms.table, forms.of(holds), json)?;
     match making {
-        Making::Settled => settled_message(alloc, forms.table, forms.of(holds), holds, json, &bytes),
+        Making::Settled => settled_message(
+            alloc,
+            forms.table,
+            forms.of(holds),
+            holds,
+            json,
+            &bytes,
+        ),
         Making::Checked => {
-            check(alloc, forms.table, forms.of(holds), holds, line, json, &bytes)?;
+            check(
+                alloc,
+                forms.table,
+                forms.of(holds),
+                holds,
+                line,
+                json,
+                &bytes,
+            )?;
             unchanged(alloc, bytes)
         }
-        Making::AsGiven | Making::Restored => unchanged(alloc, bytes),
+        Making::Restored => {
+            if let Verdict::Refused(error) = verdict_on(alloc, holds, &bytes)? {
+                return Err(unreadable(alloc, holds, &bytes, error));
+            }
+            unchanged(alloc, bytes)
+        }
+        Making::AsGiven => unchanged(alloc, bytes),
     }
 }
 

@@ -16,9 +16,7 @@ use std::io::{BufRead, Write};
 use tc_capture::Holds;
 use tc_forms::Tables;
 use tc_messages::TcMessage;
-use tc_plan::{
-    Entry, Fate, Item, Key, Reason, Step, circle, entry_of, entry_of_actions, plan,
-};
+use tc_plan::{Entry, Fate, Item, Key, Reason, Step, circle, entry_of, entry_of_actions, plan};
 use tc_requests::RestoreError;
 
 /// The dumps of lines, and the requests that restore them.

@@ -38,7 +38,15 @@ pub fn run<T: Tables, R: BufRead, W: Write, E: Write>(
     errors: &mut E,
 ) -> Ended {
     let mut has_refused = false;
-    let outcome = make_all(alloc, forms, request, reader, writer, errors, &mut has_refused);
+    let outcome = make_all(
+        alloc,
+        forms,
+        request,
+        reader,
+        writer,
+        errors,
+        &mut has_refused,
+    );
     Ended {
         outcome,
         has_refused,
@@ -154,7 +162,10 @@ fn make_line<T: Tables>(
 {
     let made = made_of(alloc, forms, line, making)?;
     match making {
-        Making::Restored => restored(alloc, made),
+        Making::Restored => {
+            let request = restored(alloc, made)?;
+            Ok(request)
+        }
         Making::Checked | Making::Settled | Making::AsGiven => Ok(made),
     }
 }
@@ -204,12 +215,7 @@ fn put_in_packet(
 }
 
 // Appends a message as a line of hex.
-fn put_hex(
-    alloc: Global,
-    no_header: bool,
-    made: &Made,
-    out: &mut Vec<u8>,
-) -> Result<(), Complaint>
+fn put_hex(alloc: Global, no_header: bool, made: &Made, out: &mut Vec<u8>) -> Result<(), Complaint>
     ensures { OnOk result ((whole : List ℕ) × IsWire no_header made.now.given made.now.bytes.items whole
         × (out.new.items ≡ out.old.items ++ hex_line whole)) }
 {

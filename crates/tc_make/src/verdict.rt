@@ -107,7 +107,8 @@ pub(crate) fn said_in(alloc: Global, json: &Value) -> Result<Said, Complaint>
     }
 }
 
-const FAULTS: &str = "BufferTooSmall, FrameHeaderShort, FrameTooLong, FrameTooShort, WrongLength, NotUtf8, SelectorShort, XstatsShort, MissingKind or DuplicateKind";
+const FAULTS: &str =
+    "BufferTooSmall, FrameHeaderShort, FrameTooLong, FrameTooShort, WrongLength, NotUtf8, SelectorShort, XstatsShort, MissingKind or DuplicateKind";
 
 // The fault that a line names, with its numbers.
 fn fault_of(alloc: Global, json: &Value, held: &Value, name: &str) -> Result<DecodeError, Complaint>

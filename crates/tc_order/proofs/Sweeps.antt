@@ -53,9 +53,9 @@ module _ {T K A : Type 0} (eq : K → K → Bool) where
       let two = or_false x.is_barred _ free in
       let apart = All-from_recursion (λ y. needs eq x y ≡ false) left (none_needed x left two.1) in (
         subst (IsPermutation steps) (sym (append_assoc order (x ∷ []) (stay ++ rest)))
-        (IsPermutation-trans steps (order ++ left) (order ++ (x ∷ (stay ++ rest))) is.0 (IsPermutation-append_right order left (x ∷ (stay ++ rest)) (IsPermutation-middle stay x rest))),
+            (IsPermutation-trans steps (order ++ left) (order ++ (x ∷ (stay ++ rest))) is.0 (IsPermutation-append_right order left (x ∷ (stay ++ rest)) (IsPermutation-middle stay x rest))),
         next order x is.1 (λ other among needed. ⊎_elim (λ found. found) (λ found. absurd (cc (needed, All-contains (λ y. needs eq x y ≡ false) left other apart found)))
-        (Contains-append_cases order left other (Contains-permutation steps (order ++ left) other is.0 among))),
+            (Contains-append_cases order left other (Contains-permutation steps (order ++ left) other is.0 among))),
         All-from_recursion (λ s. s.is_barred ≡ false) (order ++ x ∷ []) (all_more (λ s. s.is_barred ≡ false) order x (recursion_from_All (λ s. s.is_barred ≡ false) order is.2) two.0),
       )
 

@@ -75,5 +75,6 @@ pub(crate) fn has_any<K: Eq + Hash + Copy + Drop, A: Allocator + Copy>(
 ) -> bool
     ensures { result ≡ list_any (λ key. nat_lt 0 (count K.eq counts.now key)) keys.now }
 {
-    keys.iter().any(|key| counts.get(key).copied().unwrap_or(0) > 0)
+    keys.iter()
+        .any(|key| counts.get(key).copied().unwrap_or(0) > 0)
 }

@@ -1,6 +1,6 @@
 -- Steps of dumps, and their order.
-use Rattle.std.proofs.Common.{◌≡◌, Bool, false, List, [], ◌∷◌, ◌++◌, All, IsPermutation, map, refl, sym, ap, subst, ◌∙◌, ℕ, append_assoc, append-nil}
-use Rattle.std.specs.List.{Contains, AllByRecursion}
+use Rattle.std.proofs.Common.{◌≡◌, Bool, List, [], ◌∷◌, ◌++◌, All, IsPermutation, map, sym, ap, ◌∙◌, ℕ, append_assoc, append-nil}
+use Rattle.std.specs.List.{AllByRecursion}
 use Rattle.std.proofs.lemmas.List.Sorted.{IsPermutation-sym, Contains-permutation}
 use Rattle.std.proofs.lemmas.List.Elements.{All-from_recursion, recursion_from_All}
 use Rattle.tc_order.specs.Order.{IsOrder, none, next}

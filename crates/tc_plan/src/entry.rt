@@ -4,8 +4,9 @@ ghost use Rattle.std.specs.Prelude.{◌≡◌, ◌∷◌, ◌++◌, ◌%◌, ◌
 ghost use Rattle.std.specs.List.{flat_map, list_any};
 ghost use Rattle.std.specs.Option.{option_to_list};
 ghost use Rattle.tc_records.specs.Header.{handle_number};
-ghost use Rattle.tc_plan.specs.Needs.{chain_number, block_of, gives, wants, parents, object, must, must_not, made_by, is_kind, is_clsact, has_kind, gives_actions};
-ghost use Rattle.tc_plan.specs.declared.key.Key.TheVariants.{Actions, Chain, Tables, Clsact, InChain};
+ghost use Rattle.tc_plan.specs.Needs.{chain_number, block_of, gives, wants, parents, object, must, must_not, made_by, is_kind, is_clsact, has_kind, gives_actions, chain_of, in_chain};
+ghost use Rattle.tc_requests.specs.declared.restore_messages.Object.TheVariants as kinds;
+ghost use Rattle.tc_plan.specs.declared.key.Key.TheVariants.{Actions, Chain, Node, Tables};
 
 use crate::fate::Fate;
 use crate::key::Key;
@@ -199,17 +200,18 @@ fn has_clsact<A: Allocator>(attributes: &[TcAttribute<A>]) -> bool
     attributes.iter().any(|attribute| is_clsact(attribute))
 }
 
-// Keys, and clsact if these are the attributes of that.
+// Keys, and this one if these are the attributes of that.
 fn clsact<A: Allocator>(
     keys: Vec<Key, A>,
-    index: i32,
+    key: Key,
     attributes: &[TcAttribute<A>],
 ) -> Result<Vec<Key, A>, AllocError>
     ensures { IfOk result (λ made. made.items
-        ≡ keys.items ++ (if list_any is_clsact attributes.now then Clsact index ∷ [] else [])) }
+        ≡ keys.items ++ (if list_any is_clsact attributes.now then key ∷ [] else [])) }
 {
     if has_clsact(attributes) {
-        with(keys, Some(Key::Clsact { index }))
+        let made = with(keys, Some(key))?;
+        Ok(made)
     } else {
         Ok(keys)
     }
@@ -222,39 +224,95 @@ fn given<A: Allocator + Copy>(
 ) -> Result<Vec<Key, A>, AllocError>
     ensures { IfOk result (λ keys. keys.items ≡ gives kind dump.now) }
 {
-    let header = &dump.header;
-    let handle = u32::from(header.handle);
-    let parent = u32::from(header.parent);
-    let index = header.index;
     match kind {
-        Object::Qdisc => {
-            let keys = clsact(one(alloc, Key::Node { index, handle })?, index, &dump.attributes)?;
-            blocks(keys, &dump.attributes)
-        }
-        Object::Class => one(alloc, Key::Node { index, handle }),
-        Object::Chain => one(
-            alloc,
-            Key::Chain {
-                index,
-                parent,
-                number: chain_number(&dump.attributes),
-            },
-        ),
-        Object::Filter => {
-            let keys = one(
-                alloc,
-                Key::InChain {
-                    index,
-                    parent,
-                    number: chain_number(&dump.attributes),
-                },
-            )?;
-            if handle % 0x10_0000 == 0 {
-                with(keys, Some(Key::Tables { index, parent }))
-            } else {
-                Ok(keys)
-            }
-        }
+        Object::Qdisc => given_by_qdisc(alloc, dump),
+        Object::Class => given_by_class(alloc, dump),
+        Object::Chain => given_by_chain(alloc, dump),
+        Object::Filter => given_by_filter(alloc, dump),
+    }
+}
+
+fn given_by_qdisc<A: Allocator + Copy>(
+    alloc: A,
+    dump: &TcMessage<A>,
+) -> Result<Vec<Key, A>, AllocError>
+    ensures { IfOk result (λ keys. keys.items ≡ gives kinds.Qdisc dump.now) }
+{
+    let index = dump.header.index;
+    let keys = one(alloc, node_of(&dump.header))?;
+    let keys = clsact(keys, Key::Clsact { index }, &dump.attributes)?;
+    let keys = blocks(keys, &dump.attributes)?;
+    Ok(keys)
+}
+
+fn given_by_class<A: Allocator + Copy>(
+    alloc: A,
+    dump: &TcMessage<A>,
+) -> Result<Vec<Key, A>, AllocError>
+    ensures { IfOk result (λ keys. keys.items ≡ gives kinds.Class dump.now) }
+{
+    let keys = one(alloc, node_of(&dump.header))?;
+    Ok(keys)
+}
+
+fn given_by_chain<A: Allocator + Copy>(
+    alloc: A,
+    dump: &TcMessage<A>,
+) -> Result<Vec<Key, A>, AllocError>
+    ensures { IfOk result (λ keys. keys.items ≡ gives kinds.Chain dump.now) }
+{
+    let keys = one(alloc, chain_of(dump))?;
+    Ok(keys)
+}
+
+fn given_by_filter<A: Allocator + Copy>(
+    alloc: A,
+    dump: &TcMessage<A>,
+) -> Result<Vec<Key, A>, AllocError>
+    ensures { IfOk result (λ keys. keys.items ≡ gives kinds.Filter dump.now) }
+{
+    let mut keys = one(alloc, in_chain(dump))?;
+    if u32::from(dump.header.handle) % 0x10_0000 == 0 {
+        keys.push(tables_of(&dump.header))?;
+    }
+    Ok(keys)
+}
+
+fn node_of(header: &TcHeader) -> Key
+    ensures { result ≡ Node header.now.index (handle_number header.now.handle) }
+{
+    Key::Node {
+        index: header.index,
+        handle: u32::from(header.handle),
+    }
+}
+
+fn tables_of(header: &TcHeader) -> Key
+    ensures { result ≡ Tables header.now.index (handle_number header.now.parent) }
+{
+    Key::Tables {
+        index: header.index,
+        parent: u32::from(header.parent),
+    }
+}
+
+fn chain_of<A: Allocator>(dump: &TcMessage<A>) -> Key
+    ensures { result ≡ chain_of dump.now }
+{
+    Key::Chain {
+        index: dump.header.index,
+        parent: u32::from(dump.header.parent),
+        number: chain_number(&dump.attributes),
+    }
+}
+
+fn in_chain<A: Allocator>(dump: &TcMessage<A>) -> Key
+    ensures { result ≡ in_chain dump.now }
+{
+    Key::InChain {
+        index: dump.header.index,
+        parent: u32::from(dump.header.parent),
+        number: chain_number(&dump.attributes),
     }
 }
 

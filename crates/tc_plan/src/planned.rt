@@ -96,10 +96,7 @@ fn copied<A: Allocator + Copy>(alloc: A, keys: &[Key]) -> Result<Vec<Key, A>, Al
 }
 
 // All that dumps give.
-fn given_by<A: Allocator + Copy>(
-    alloc: A,
-    entries: &[Entry<A>],
-) -> Result<Keys<Key, A>, AllocError>
+fn given_by<A: Allocator + Copy>(alloc: A, entries: &[Entry<A>]) -> Result<Keys<Key, A>, AllocError>
     ensures { IfOk result (λ set. IsSetOf same_key set (gifts entries.now)) }
 {
     let keys = keys_of(alloc, entries)?;

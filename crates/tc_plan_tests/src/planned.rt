@@ -165,8 +165,7 @@ fn what_cannot_be_made_has_a_reason(rt: HostRuntime) -> Result<(), Fail> {
     let alloc = rt.alloc();
     let made = planned(alloc, &REFUSED)?;
     assert!(rt; fates(alloc, &made.order)?.as_str() == "0 request\n4 request\n");
-    assert!(
-        rt;
+    assert!(rt;
         fates(alloc, &made.left)?.as_str()
             == "1 the parent class is missing\n2 request\n3 a second dump of this\n5 the parent ffff: doesn't say which side of clsact\n"
     );
@@ -180,10 +179,7 @@ fn what_cannot_be_made_has_a_reason(rt: HostRuntime) -> Result<(), Fail> {
 fn what_others_make_is_no_request(rt: HostRuntime) -> Result<(), Fail> {
     let alloc = rt.alloc();
     let made = planned(alloc, &MADE)?;
-    assert!(
-        rt;
-        fates(alloc, &made.order)?.as_str() == "0 made\n1 request\n2 request\n3 made\n"
-    );
+    assert!(rt; fates(alloc, &made.order)?.as_str() == "0 made\n1 request\n2 request\n3 made\n");
     assert!(rt; made.left.is_empty());
     Ok(())
 }

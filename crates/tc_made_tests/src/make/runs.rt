@@ -59,7 +59,14 @@ pub(crate) struct Outcome {
 /// A run over lines.
 pub(crate) fn made(alloc: Global, request: &Request, lines: &[u8]) -> Outcome {
     let (mut reader, mut written, mut errors) = (lines, Vec::new(alloc), Vec::new(alloc));
-    let status = serve(alloc, FORMS, request, &mut reader, &mut written, &mut errors);
+    let status = serve(
+        alloc,
+        FORMS,
+        request,
+        &mut reader,
+        &mut written,
+        &mut errors,
+    );
     Outcome {
         status,
         written,

@@ -18,6 +18,6 @@ loop-preserved g c =
     let less : length c.in_ok-more.stay.items ≤ length c.loop.left.items = later_length g.K.PartialEq.eq c.loop.order.items c.loop.left.items c.in_ok-steps.steps.items
     c.in_ok-more.more.items c.in_ok-more.stay.items c.in_ok-steps.ensures c.in_ok-more.ensures in (
       λ all behind. later_swept g.K.PartialEq.eq c.loop.order.items c.loop.left.items c.in_ok-steps.steps.items c.in_ok-more.more.items c.in_ok-more.stay.items
-      c.in_ok-steps.ensures c.in_ok-more.ensures all (c.loop.invariant.0 all behind),
+          c.in_ok-steps.ensures c.in_ok-more.ensures all (c.loop.invariant.0 all behind),
       omega (arith, less, c.loop.invariant.1, c.len.ensures, c.len-count.ensures, c.if-len-count.false),
     )

@@ -36,6 +36,6 @@ loop-step-preserved g c =
     let free : waits eq (stay ++ x ∷ rest) x ≡ false = sym (waits_by_counts eq c.loop-step.counts (stay ++ x ∷ rest) x counts) ∙ sym c.waits.ensures ∙ c.if-waits.false in (
       ap (λ l. swept eq l stay rest) c.in_ok-push-2.ensures.items ∙ sym (sweep_goes eq order stay x rest old is free) ∙ inv.0,
       λ q. c.in_ok-counts-2.ensures (given (stay ++ x ∷ rest)) counts q
-      ∙ ap (λ l. count_by (eq q) (given (stay ++ x ∷ rest)) - count_by (eq q) l) c.deref-else-waits.ensures.value
-      ∙ count_less (eq q) stay x rest,
+          ∙ ap (λ l. count_by (eq q) (given (stay ++ x ∷ rest)) - count_by (eq q) l) c.deref-else-waits.ensures.value
+          ∙ count_less (eq q) stay x rest,
     )

@@ -19,5 +19,5 @@ pub returns-in-Filter : goal.returns-in-Filter
 returns-in-Filter g c =
     let number = c.chain_number.ensures ∙ ap chain_number c.deref.ensures.value in
     subst (λ l. IfOk c.wanted_by_filter.result (λ keys. keys.items ≡ l))
-    (wanted_by c.args.dump.now c.args.object c.in_ok-keys.keys.items c.chain_number.result c.in-Filter.is c.in_ok-keys.ensures number)
+    (wanted_by c.args.dump.now c.args.kind c.in_ok-keys.keys.items c.chain_number.result c.in-Filter.is c.in_ok-keys.ensures number)
     c.wanted_by_filter.ensures

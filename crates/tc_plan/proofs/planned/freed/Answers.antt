@@ -1,6 +1,5 @@
-use Rattle.std.proofs.Common.{◌≡◌, ◌∷◌, ◌++◌, ◌+◌, [], false, All, take, map, sym, ap, subst, ◌∙◌}
-use Rattle.std.proofs.lemmas.List.{take_more, map-append}
-use Rattle.tc_plan.specs.Fates.{needs_of}
+use Rattle.std.proofs.Common.{◌≡◌, ◌∷◌, ◌++◌, ◌+◌, [], false, All, take, sym, subst}
+use Rattle.std.proofs.lemmas.List.{take_more}
 use Rattle.tc_plan.proofs.Orders.{all_more, needs_more}
 use Rattle.tc_plan.proofs.planned.freed.Goals as goal
 

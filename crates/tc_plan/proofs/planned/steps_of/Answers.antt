@@ -1,7 +1,7 @@
-use Rattle.std.proofs.Common.{◌≡◌, ◌∷◌, ◌++◌, [], All, List, map, sym, ap, subst, ◌∙◌, append_assoc, append-nil, arith}
+use Rattle.std.proofs.Common.{◌≡◌, ◌∷◌, ◌++◌, [], All, map, sym, ap, subst, ◌∙◌, append_assoc, append-nil, arith}
 use Rattle.std.proofs.lemmas.List.{nil_from_length}
 use Rattle.std.specs.Vec.Iter.{into_iter_items}
-use Rattle.tc_plan.specs.Fates.{parts_of, parts_among, gifts, objects, is_refused, fate_among, gives_by, IsSetOf, same_key}
+use Rattle.tc_plan.specs.Fates.{parts_of, parts_among, gifts, objects, is_refused, gives_by, IsSetOf, same_key}
 use Rattle.tc_plan.proofs.Orders.{all_more, parts_more, objects_more}
 use Rattle.tc_plan.proofs.planned.steps_of.Goals as goal
 
@@ -18,10 +18,10 @@ loop-entry-preserved g c =
     record {
       all = append_assoc yielded (x ∷ []) rest ∙ rw (← c.in-Some.ensures.steps.0) inv.all;
       parts = parts_more old c.push.new.self.items step (parts_among (gifts entries) (yielded ++ x ∷ []) rest) (parts_among (gifts entries) [] entries) _ c.in_ok-push.ensures.items
-      (c.step_by-step.ensures.parts ∙ ap (λ f. (x.place, f, gives_by f x.gives.items, x.wants.items)) fate)
-      (subst (λ l. map parts_of old ++ parts_among (gifts entries) yielded l ≡ parts_among (gifts entries) [] entries) c.in-Some.ensures.steps.0 inv.parts);
+          (c.step_by-step.ensures.parts ∙ ap (λ f. (x.place, f, gives_by f x.gives.items, x.wants.items)) fate)
+          (subst (λ l. map parts_of old ++ parts_among (gifts entries) yielded l ≡ parts_among (gifts entries) [] entries) c.in-Some.ensures.steps.0 inv.parts);
       barred = subst (All (λ s. s.is_barred ≡ is_refused s.item.fate)) (sym c.in_ok-push.ensures.items)
-      (all_more (λ s. s.is_barred ≡ is_refused s.item.fate) old step inv.barred c.step_by-step.ensures.barred);
+          (all_more (λ s. s.is_barred ≡ is_refused s.item.fate) old step inv.barred c.step_by-step.ensures.barred);
       given = inv.given;
       before = subst (IsSetOf same_key c.in_ok-before.before) (sym (objects_more yielded x)) (c.in_ok-before.ensures (objects yielded) inv.before);
     }
