@@ -12,11 +12,47 @@ pub(crate) const VALUES: &[&str] = &["alloc", "_alloc"];
 /// Traits that only contracts name. (One that isn't listed stays as a trait with nothing in it.)
 pub(crate) const MARKERS: &[&str] = &["Drop", "FrameMeaning", "BytesMeaning", "CanonMeaning"];
 
+/// How a frame is written in Rust.
+const PUT_FRAME: &str = "let (header, rest) = buffer.split_at_mut(NLA_HEADER_SIZE);
+        let (word, len) = put_padded(rest, self);
+        put_header(header,";
+const PUT_PADDED: &str = "#[inline(always)]
+fn put_padded<T: Nla>(buffer: &mut [u8], item: &T) -> (u16, usize) {
+    let (word, len) = item.put_row(buffer);$;b
+    (word, len)
+}";
+const PUT_ROW: &str = "fn put_value(&self, buffer: &mut [u8]) -> usize;
+
+    /// Its `nla_type`, and how many bytes its value has, which it writes as `put_value` does.
+    #[doc(hidden)]
+    fn put_row(&self, buffer: &mut [u8]) -> (u16, usize) {
+        (self.kind(), self.put_value(buffer))
+    }";
+const PUT_VIEW: &str = "fn put_value(&self, buffer: &mut [u8]) -> usize {
+        self.put_row(buffer).1
+    }
+
+    #[inline(always)]
+    fn put_row(&self, buffer: &mut [u8]) -> (u16, usize) {
+        let (word, value) = self.$v();
+        (word, value.put(buffer))
+    }";
+const PUT_ONE_OF: &str = "fn put_value(&self, buffer: &mut [u8]) -> usize {
+        self.put_row(buffer).1
+    }
+
+    #[inline(always)]
+    fn put_row(&self, buffer: &mut [u8]) -> (u16, usize) {
+        match self {$*a}
+    }";
+
 /// Rules, each applied to a whole file, one after the other.
 pub(crate) const RULES: &[Rule] = &[
     // Without an allocator a derive needs no bounds of its own.
     ("# [ derive_where ( $*x ; A ) ]", "#[derive($*x)]"),
     ("# [ derive_where ( $*x ) ]", "#[derive($*x)]"),
+    // A variant has a byte of its own, as in Rattle: that of one in another would be told by what the inner one holds.
+    ("pub enum $x < A : Allocator = Global > {", "#[repr(u8)]\npub enum $x {"),
     // Allocators: parameters and arguments of types,
     (": Allocator + Copy", ": Allocator"),
     (": Allocator + Clone", ": Allocator"),
@@ -81,11 +117,15 @@ pub(crate) const RULES: &[Rule] = &[
     ("< W : Write >", ""),
     ("W : Write ,", ""),
     ("Formatter < W >", "Formatter<'_>"),
-    // Bounds that rustc can see: a header of four bytes, and what follows it.
-    (
-        "let word = self . kind ( ) ; let len = put_padded ( & mut buffer [ NLA_HEADER_SIZE .. ] , self ) ; put_header ( buffer ,",
-        "let (header, rest) = buffer.split_at_mut(NLA_HEADER_SIZE);\n        let word = self.kind();\n        let len = put_padded(rest, self);\n        put_header(header,",
-    ),
+    // Loops and bounds that rustc can see: over a list, and a header of four bytes before what follows it.
+    ("let mut left = items ; while let [ item , after @ .. ] = left { $;b left = after ; }", "for item in items {$;b\n    }"),
+    ("let word = self . kind ( ) ; let len = put_padded ( & mut buffer [ NLA_HEADER_SIZE .. ] , self ) ; put_header ( buffer ,", PUT_FRAME),
+    ("fn put_padded < T : Nla > ( buffer : & mut [ u8 ] , item : & T ) -> usize { let len = item . put_value ( buffer ) ; $;b len }", PUT_PADDED),
+    // An attribute's word and value in one step, since rustc tells its variant twice otherwise.
+    ("fn put_value ( & self , buffer : & mut [ u8 ] ) -> usize ;", PUT_ROW),
+    ("fn put_value ( & self , buffer : & mut [ u8 ] ) -> usize { self . $v ( ) . 1 . put ( buffer ) }", PUT_VIEW),
+    ("fn put_value ( & self , buffer : & mut [ u8 ] ) -> usize { match self { $*a } }", PUT_ONE_OF),
+    ("=> $x . put_value ( buffer ) ,", "=> $x.put_row(buffer),"),
     ("# [ rattlefmt :: skip ]", "#[rustfmt::skip]"),
     // Calls of std that Rust has under another name, or had later.
     ("parse_ascii ( $x . as_bytes ( ) )", "from_str($x)"),
@@ -163,7 +203,7 @@ pub(crate) const UNKNOWN: &[&str] = &[
 ];
 
 /// Attributes that Rust has too, and macros of `core` and `std`.
-pub(crate) const ATTRIBUTES: &[&str] = &["allow", "cfg", "default", "derive", "inline", "must_use", "rustfmt", "test"];
+pub(crate) const ATTRIBUTES: &[&str] = &["allow", "cfg", "default", "doc", "derive", "inline", "must_use", "repr", "rustfmt", "test"];
 pub(crate) const MACROS: &[&str] = &["assert", "format", "format_args", "macro_rules", "matches", "stringify", "write"];
 
 /// Lints that erased modules don't meet: contracts used what is now unused, and some code is easier to prove than what clippy prefers.
