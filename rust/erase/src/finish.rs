@@ -2,7 +2,7 @@
 
 use crate::items::without_imports;
 use crate::pattern::{Rule, rewrite};
-use crate::rules::{ARMS, ATTRIBUTES, CORE, LOST_IMPORTS, MACROS, NEEDS, RULES, SHIMS, STD, UNKNOWN};
+use crate::rules::{ARMS, ATTRIBUTES, CORE, LOST_IMPORTS, MACROS, MODULES, NEEDS, RULES, SHIMS, STD, UNKNOWN};
 use crate::token::{Token, after_group, text_of};
 use crate::{Fault, Source, duties, fault};
 
@@ -87,7 +87,7 @@ fn rename_paths(all: &mut [Token], krate: &str, crates: &[&str], is_user: bool) 
             all[at].text = "core".into();
         } else if name == "std" && !(is_user && STD.contains(&next)) {
             return Err(fault(&all[at], "a module of std that isn't known"));
-        } else if name == "crate" && next != "fallible" && next != "user" {
+        } else if name == "crate" && !MODULES.contains(&next) {
             all[at] = word(&format!("crate::{krate}"));
         } else if crates.contains(&name.as_str()) || SHIMS.contains(&name.as_str()) {
             all[at] = word(&format!("crate::{name}"));

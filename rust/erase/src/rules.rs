@@ -10,7 +10,7 @@ pub(crate) const ALLOCATORS: &[&str] = &["A", "Global"];
 pub(crate) const VALUES: &[&str] = &["alloc", "_alloc"];
 
 /// Traits that only contracts name. (One that isn't listed stays as a trait with nothing in it.)
-pub(crate) const MARKERS: &[&str] = &["Drop", "FrameMeaning", "BytesMeaning", "CanonMeaning"];
+pub(crate) const MARKERS: &[&str] = &["Drop", "FrameMeaning", "BytesMeaning", "CanonMeaning", "Described"];
 
 /// How a frame is written in Rust.
 const PUT_FRAME: &str = "let (header, rest) = buffer.split_at_mut(NLA_HEADER_SIZE);
@@ -149,7 +149,23 @@ pub(crate) const USER_RULES: &[Rule] = &[
     (". to_string ( %v ) ?", ".to_string()"),
     (". clone ( ) ?", ".clone()"),
     ("{ self . clone ( ) }", "{ Ok(self.clone()) }"),
+    // Over the real `serde` and `serde_json`.
+    ("=> $x . to_string ( %v ) ,", "=> Ok($x.to_string()),"),
+    ("match $*x . push ( $*y ) {", "match $*x.try_push($*y) {"),
+    ("Value :: try_from_str ( %v , $*x )", "fallible::text($*x).map(Value::String)"),
+    (". first_key_value ( )", ".iter().next()"),
+    ("crate :: read :: read_json", "crate::strict::read_json"),
+    ("impl < $-g > Serialize for $-x { $;b }", SERIALIZE),
 ];
+
+/// What is sent as events, as a value of the real `serde`.
+pub(crate) const SERIALIZE: &str = "impl<$-g> Serialize for $-x {$;b}
+
+impl<$-g> ::serde::Serialize for $-x {
+    fn serialize<R: ::serde::Serializer>(&self, to: R) -> Result<R::Ok, R::Error> {
+        crate::serde::serialize(self, to)
+    }
+}";
 
 /// Functions of tests that name one of these, or one of those functions, are left out: no allocator can be handed to what is erased.
 pub(crate) const LEFT_OUT: &[&str] = &["Failing", "Abort"];
@@ -177,11 +193,12 @@ pub(crate) const DUTIES: &[Rule] = &[("length $x . now", "$x.len()"), ("length $
 pub(crate) const LOST_IMPORTS: &[&str] = &["Allocator", "Global", "AllocFailed", "std::fmt::Write", "std::string::String", "Abort", "thiserror::Error"];
 
 /// Modules of `std` that are in `core` too, and those that programs and tests use beside them.
-pub(crate) const CORE: &[&str] = &["cmp", "convert", "fmt", "hash", "iter", "marker", "mem", "net", "ops", "slice", "str"];
+pub(crate) const CORE: &[&str] = &["cmp", "convert", "error", "fmt", "hash", "iter", "marker", "mem", "net", "ops", "slice", "str"];
 pub(crate) const STD: &[&str] = &["collections", "hash", "process"];
 
-/// Crates that a module of the shims stands for.
-pub(crate) const SHIMS: &[&str] = &["arrayvec", "bitflags", "byteorder", "hex", "itoa"];
+/// Modules of the shims, beside those crates that one stands for.
+pub(crate) const MODULES: &[&str] = &["fallible", "serde", "strict", "user"];
+pub(crate) const SHIMS: &[&str] = &["arrayvec", "bitflags", "byteorder", "hex", "itoa", "serde"];
 
 /// What has to be imported where one of these words is, since it isn't in the prelude of `core`.
 pub(crate) const NEEDS: &[(&str, &str)] = &[
@@ -192,6 +209,7 @@ pub(crate) const NEEDS: &[(&str, &str)] = &[
     ("try_grow", "crate::fallible::Fallible as _"),
     ("try_extend", "crate::fallible::Fallible as _"),
     ("from_str", "core::str::FromStr as _"),
+    ("to_string", "alloc::string::ToString as _"),
     ("try_push_str", "crate::user::Growing as _"),
     ("try_to_vec", "crate::user::Copying as _"),
 ];
