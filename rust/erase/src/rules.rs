@@ -137,6 +137,8 @@ pub(crate) const RULES: &[Rule] = &[
 pub(crate) const USER_RULES: &[Rule] = &[
     ("( rt : HostRuntime )", "()"),
     ("assert ! ( rt ; $*x )", "assert!($*x)"),
+    ("assert_eq ! ( rt ; $*x )", "assert_eq!($*x)"),
+    (". repeat ( %v , $*n ) ?", ".repeat($*n)"),
     (". expect ( & rt , $*x )", ".expect($*x)"),
     ("Fail :: new ( format_args ! ( $*x ) )", "Fail::from(format!($*x))"),
     ("Fail :: new (", "Fail::from("),
@@ -222,7 +224,7 @@ pub(crate) const UNKNOWN: &[&str] = &[
 
 /// Attributes that Rust has too, and macros of `core` and `std`.
 pub(crate) const ATTRIBUTES: &[&str] = &["allow", "cfg", "default", "doc", "derive", "inline", "must_use", "repr", "rustfmt", "test"];
-pub(crate) const MACROS: &[&str] = &["assert", "format", "format_args", "macro_rules", "matches", "stringify", "write"];
+pub(crate) const MACROS: &[&str] = &["assert", "assert_eq", "format", "format_args", "macro_rules", "matches", "stringify", "write"];
 
 /// Lints that erased modules don't meet: contracts used what is now unused, and some code is easier to prove than what clippy prefers.
 pub(crate) const LINTS: &str = "dead_code, missing_docs, unused_imports, unused_variables, clippy::if_same_then_else, clippy::large_enum_variant, \
