@@ -115,7 +115,7 @@ fn read_crate(folder: &Path, path: &mut Vec<String>, files: &mut Vec<Source>) ->
 fn without_allocators(docs: &[&str]) -> String {
     let mut is_code = false;
     let line = |line: &&str| {
-        let is_fence = *line == "//! ```";
+        let is_fence = line.starts_with("//! ```");
         is_code ^= is_fence;
         match line.contains("[in alloc; ") {
             _ if is_fence && is_code => "//! ```ignore".to_string(),

@@ -228,5 +228,6 @@ pub(crate) const MACROS: &[&str] = &["assert", "assert_eq", "format", "format_ar
 
 /// Lints that erased modules don't meet: contracts used what is now unused, and some code is easier to prove than what clippy prefers.
 pub(crate) const LINTS: &str = "dead_code, missing_docs, unused_imports, unused_variables, clippy::if_same_then_else, clippy::large_enum_variant, \
-    clippy::len_zero, clippy::manual_div_ceil, clippy::manual_find, clippy::manual_is_multiple_of, clippy::manual_map, clippy::needless_range_loop, \
-    clippy::question_mark, clippy::redundant_static_lifetimes, clippy::single_match, clippy::wrong_self_convention";
+    clippy::len_zero, clippy::manual_div_ceil, clippy::manual_find, clippy::manual_is_multiple_of, clippy::manual_map, clippy::manual_ok_err, clippy::needless_lifetimes, \
+    clippy::needless_match, clippy::needless_range_loop, clippy::question_mark, clippy::redundant_closure, clippy::redundant_static_lifetimes, clippy::single_match, \
+    clippy::too_many_arguments, clippy::type_complexity, clippy::wrong_self_convention, rustdoc::broken_intra_doc_links";
