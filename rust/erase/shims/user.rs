@@ -71,3 +71,12 @@ pub(crate) fn formatted(text: core::fmt::Arguments<'_>) -> Result<String, AllocE
     core::fmt::write(&mut all, text).map_err(|_| AllocError)?;
     Ok(all.0)
 }
+
+/// The items of an iterator.
+pub(crate) fn collected<T>(items: impl Iterator<Item = T>) -> Result<Vec<T>, AllocError> {
+    let mut all = Vec::new();
+    for item in items {
+        all.try_push(item)?;
+    }
+    Ok(all)
+}

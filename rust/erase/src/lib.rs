@@ -80,7 +80,7 @@ pub fn erase(from: Crates<'_>) -> Result<Erased, Fault> {
             laws::drop_functions(&mut file, &left_out).map_err(|why| file.at(&why))?;
         }
         file.tokens = items::without_imports(&file.tokens, &|path| from.omitted.contains(&format!("{own}::{}", path[0]).as_str()));
-        let text = finish::finished(&file, &crates, if is_user { rules::USER_RULES } else { &[] }).map_err(|why| file.at(&why))?;
+        let text = finish::finished(&file, &crates, is_user).map_err(|why| file.at(&why))?;
         modules.insert(file.path, (file.docs, text));
     }
     Ok(Erased { modules })

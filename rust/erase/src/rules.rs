@@ -10,7 +10,7 @@ pub(crate) const ALLOCATORS: &[&str] = &["A", "Global"];
 pub(crate) const VALUES: &[&str] = &["alloc", "_alloc"];
 
 /// Traits that only contracts name. (One that isn't listed stays as a trait with nothing in it.)
-pub(crate) const MARKERS: &[&str] = &["Drop", "FrameMeaning", "BytesMeaning", "CanonMeaning", "Described"];
+pub(crate) const MARKERS: &[&str] = &["Drop", "FrameMeaning", "BytesMeaning", "CanonMeaning", "Described", "AllocGlobal", "Eprint"];
 
 /// How a frame is written in Rust.
 const PUT_FRAME: &str = "let (header, rest) = buffer.split_at_mut(NLA_HEADER_SIZE);
@@ -158,6 +158,37 @@ pub(crate) const USER_RULES: &[Rule] = &[
     (". first_key_value ( )", ".iter().next()"),
     ("crate :: read :: read_json", "crate::strict::read_json"),
     ("impl < $-g > Serialize for $-x { $;b }", SERIALIZE),
+    ("serde_json :: to_vec ( %v , ", "crate::jsontext::to_vec("),
+    ("# [ serde ( rename = $t ) ] $f :", "$f as $t:"),
+    ("# [ derive ( $*d , Serialize ) ] $-v struct $x $-g { $;f }", "crate::jsontext::sent! { #[derive($*d)] $-v struct $x $-g {$;f} }"),
+    // Streams, files and arguments are those of the module `host`.
+    ("use std :: { env , fs }", "use crate::host::{env, fs}"),
+    ("std :: env", "crate::host::env"),
+    ("std :: fs", "crate::host::fs"),
+    ("std :: io", "crate::host::io"),
+    ("std :: rt", "crate::host::rt"),
+    ("std :: convert :: AsStr", "crate::host::AsStr"),
+    ("Vec :: from_iter ( %v , $*x )", "crate::user::collected($*x)"),
+    ("use tc_forms_text :: { ReadError , read_json } ;", "use crate::strict::read_json;\nuse tc_forms_text::ReadError;"),
+    ("W : Write", "W: crate::host::io::Write"),
+    ("< B : Allocator >", ""),
+    ("Page < B >", "Page"),
+];
+
+/// Rules of `tc_show`, before those of programs: it has a second allocator.
+pub(crate) const SHOW_RULES: &[Rule] = &[
+    ("pub ( crate ) json : Global ,", ""),
+    ("json : Global ,", ""),
+    ("{ alloc , json ,", "{"),
+    ("( alloc , json ,", "("),
+    ("serve ( alloc , alloc ,", "serve("),
+    ("self . json ,", ""),
+    ("( self . json )", "()"),
+    ("Summary :: new ( json )", "Summary::new()"),
+    ("json_of ( json ,", "json_of("),
+    ("complain_of_packets ( json ,", "complain_of_packets("),
+    ("alloc : json ,", ""),
+    ("format ! ( in json ; $*x )", "crate::user::formatted(format_args!($*x))"),
 ];
 
 /// What is sent as events, as a value of the real `serde`.
@@ -199,8 +230,8 @@ pub(crate) const CORE: &[&str] = &["cmp", "convert", "error", "fmt", "hash", "it
 pub(crate) const STD: &[&str] = &["collections", "hash", "process"];
 
 /// Modules of the shims, beside those crates that one stands for.
-pub(crate) const MODULES: &[&str] = &["fallible", "serde", "strict", "user"];
-pub(crate) const SHIMS: &[&str] = &["arrayvec", "bitflags", "byteorder", "hex", "itoa", "serde"];
+pub(crate) const MODULES: &[&str] = &["fallible", "host", "jsontext", "serde", "strict", "user"];
+pub(crate) const SHIMS: &[&str] = &["arrayvec", "bitflags", "byteorder", "clap", "hex", "itoa", "serde"];
 
 /// What has to be imported where one of these words is, since it isn't in the prelude of `core`.
 pub(crate) const NEEDS: &[(&str, &str)] = &[
@@ -212,22 +243,23 @@ pub(crate) const NEEDS: &[(&str, &str)] = &[
     ("try_extend", "crate::fallible::Fallible as _"),
     ("from_str", "core::str::FromStr as _"),
     ("to_string", "alloc::string::ToString as _"),
+    ("write_char", "core::fmt::Write as _"),
     ("try_push_str", "crate::user::Growing as _"),
     ("try_to_vec", "crate::user::Copying as _"),
 ];
 
 /// Words that would be left of a form that no rule knows.
 pub(crate) const UNKNOWN: &[&str] = &[
-    "ghost", "requires", "ensures", "Allocator", "Global", "AllocFailed", "Drop", "alloc", "_alloc", "derive_where", "final", "thiserror", "rt", "HostRuntime",
+    "ghost", "requires", "ensures", "Allocator", "Global", "AllocFailed", "Drop", "alloc", "_alloc", "derive_where", "final", "thiserror",
     "push_reserved", "parse_ascii", "unsafe",
 ];
 
 /// Attributes that Rust has too, and macros of `core` and `std`.
 pub(crate) const ATTRIBUTES: &[&str] = &["allow", "cfg", "default", "doc", "derive", "inline", "must_use", "repr", "rustfmt", "test"];
-pub(crate) const MACROS: &[&str] = &["assert", "assert_eq", "format", "format_args", "macro_rules", "matches", "stringify", "write"];
+pub(crate) const MACROS: &[&str] = &["assert", "assert_eq", "format", "format_args", "macro_rules", "matches", "sent", "stringify", "write"];
 
 /// Lints that erased modules don't meet: contracts used what is now unused, and some code is easier to prove than what clippy prefers.
-pub(crate) const LINTS: &str = "dead_code, missing_docs, unused_imports, unused_variables, clippy::if_same_then_else, clippy::large_enum_variant, \
+pub(crate) const LINTS: &str = "dead_code, missing_docs, unused_doc_comments, unused_imports, unused_labels, unused_variables, clippy::if_same_then_else, clippy::large_enum_variant, \
     clippy::len_zero, clippy::manual_div_ceil, clippy::manual_find, clippy::manual_is_multiple_of, clippy::manual_map, clippy::manual_ok_err, clippy::needless_lifetimes, \
     clippy::needless_match, clippy::needless_range_loop, clippy::question_mark, clippy::redundant_closure, clippy::redundant_static_lifetimes, clippy::single_match, \
     clippy::too_many_arguments, clippy::type_complexity, clippy::wrong_self_convention, rustdoc::broken_intra_doc_links";
