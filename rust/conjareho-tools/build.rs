@@ -17,7 +17,6 @@ const PROGRAMS: &[&str] = &[
     "tc_streams",
     "tc_report",
     "tc_show",
-    "tc_make",
 ];
 
 /// Modules for which `shims/strict.rs` stands.

@@ -154,6 +154,7 @@ pub(crate) const USER_RULES: &[Rule] = &[
     // Over the real `serde` and `serde_json`.
     ("=> $x . to_string ( %v ) ,", "=> Ok($x.to_string()),"),
     ("match $*x . push ( $*y ) {", "match $*x.try_push($*y) {"),
+    (". push ( $*y ) . is_err ( )", ".try_push($*y).is_err()"),
     ("Value :: try_from_str ( %v , $*x )", "fallible::text($*x).map(Value::String)"),
     (". first_key_value ( )", ".iter().next()"),
     ("crate :: read :: read_json", "crate::strict::read_json"),
