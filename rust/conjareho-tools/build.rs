@@ -17,6 +17,9 @@ const PROGRAMS: &[&str] = &[
     "tc_streams",
     "tc_report",
     "tc_show",
+    "tc_order",
+    "tc_plan",
+    "tc_make",
 ];
 
 /// Modules for which `shims/strict.rs` stands.

@@ -5,6 +5,24 @@ pub use ::clap::ArgAction;
 use crate::fallible::AllocError;
 use std::marker::PhantomData;
 
+pub mod builder {
+    /// What a value has to be.
+    pub struct ValueParser(pub(super) ::clap::builder::ValueParser);
+
+    impl ValueParser {
+        /// A number of this range.
+        pub fn signed(least: i64, most: i64) -> ValueParser {
+            ValueParser(::clap::builder::RangedI64ValueParser::<i32>::new().range(least..=most).into())
+        }
+    }
+
+    impl From<&[&'static str]> for ValueParser {
+        fn from(words: &[&'static str]) -> ValueParser {
+            ValueParser(::clap::builder::PossibleValuesParser::new(words).into())
+        }
+    }
+}
+
 pub mod error {
     #[derive(Clone, Copy, PartialEq, Eq, Debug)]
     pub enum ErrorKind {
@@ -65,12 +83,16 @@ impl<'a> Arg<'a> {
     pub fn help(self, text: &'a str) -> Self {
         self.with(|it| it.help(kept(text)))
     }
-    pub fn value_parser(self, words: &[&'static str]) -> Self {
-        self.with(|it| it.value_parser(::clap::builder::PossibleValuesParser::new(words)))
+    pub fn value_parser(self, parser: impl Into<builder::ValueParser>) -> Self {
+        self.with(|it| it.value_parser(parser.into().0))
     }
     pub fn hide_possible_values(self, yes: bool) -> Self {
         self.with(|it| it.hide_possible_values(yes))
     }
+    pub fn requires_arg(self, name: &'a str) -> Res<Self> {
+        Ok(self.with(|it| it.requires(kept(name))))
+    }
+
     pub fn conflicts_with(self, name: &'a str) -> Res<Self> {
         Ok(self.with(|it| it.conflicts_with(kept(name))))
     }
@@ -108,6 +130,10 @@ impl<'w> ArgMatches<'w> {
     pub fn get_str(&self, name: &str) -> Option<&'w str> {
         self.0.get_one::<String>(name).map(String::as_str)
     }
+    pub fn get_one<T: Clone + Send + Sync + 'static>(&self, name: &str) -> Option<T> {
+        self.0.get_one::<T>(name).cloned()
+    }
+
     pub fn get_flag(&self, name: &str) -> bool {
         self.0.get_flag(name)
     }

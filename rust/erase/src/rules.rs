@@ -138,6 +138,9 @@ pub(crate) const USER_RULES: &[Rule] = &[
     ("( rt : HostRuntime )", "()"),
     ("assert ! ( rt ; $*x )", "assert!($*x)"),
     ("assert_eq ! ( rt ; $*x )", "assert_eq!($*x)"),
+    (", BuildHasherDefault < FoldHasher >", ""),
+    (". insert ( $*x ) ?", ".insert($*x)"),
+    (". sort_by_key ( $*f ) ?", ".sort_by_key($*f)"),
     (". repeat ( %v , $*n ) ?", ".repeat($*n)"),
     (". expect ( & rt , $*x )", ".expect($*x)"),
     ("Fail :: new ( format_args ! ( $*x ) )", "Fail::from(format!($*x))"),
@@ -224,7 +227,7 @@ pub(crate) const CHECKS: &[Rule] = &[
 pub(crate) const DUTIES: &[Rule] = &[("length $x . now", "$x.len()"), ("length $x . old . $f . now", "$x.$f.len()"), ("≤", "<=")];
 
 /// Imports of these have no use any more.
-pub(crate) const LOST_IMPORTS: &[&str] = &["Allocator", "Global", "AllocFailed", "std::fmt::Write", "std::string::String", "Abort", "thiserror::Error"];
+pub(crate) const LOST_IMPORTS: &[&str] = &["Allocator", "Global", "AllocFailed", "std::fmt::Write", "std::string::String", "Abort", "thiserror::Error", "BuildHasherDefault", "FoldHasher"];
 
 /// Modules of `std` that are in `core` too, and those that programs and tests use beside them.
 pub(crate) const CORE: &[&str] = &["cmp", "convert", "error", "fmt", "hash", "iter", "marker", "mem", "net", "ops", "slice", "str"];
