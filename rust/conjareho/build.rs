@@ -19,7 +19,8 @@ const STRICT: &[&str] = &["tc_forms_text::read", "tc_forms_text::repeated"];
 fn main() {
     let here = env::var_os("CARGO_MANIFEST_DIR").expect("cargo names the folder of the package");
     let sources = Path::new(&here).join("../../crates");
-    let (users, omitted) = if env::var_os("CARGO_FEATURE_SERDE").is_some() { (FORMS, STRICT) } else { (&[][..], OMITTED) };
+    let (users, omitted) =
+        if env::var_os("CARGO_FEATURE_SERDE").is_some() { (FORMS, STRICT) } else { (&[][..], OMITTED) };
     for name in CRATES.iter().chain(users) {
         println!("cargo::rerun-if-changed={}", sources.join(name).join("src").display());
     }

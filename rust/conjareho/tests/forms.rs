@@ -52,5 +52,7 @@ fn faults_name_their_places() {
     assert_eq!(fault(r#"{"header":{"index":1,"index":2}}"#), "/header/index: found twice, wanted once");
     assert_eq!(fault("{\"header\":\n{,"), "not JSON at line 2 column 2");
     assert_eq!(fault(&"[".repeat(200)), "more than 127 levels deep at line 1 column 128");
-    assert!(fault(r#"{"header":{"family":"Unspec","index":0.5}}"#).starts_with("/header/index: found 0.5, wanted a number"));
+    assert!(
+        fault(r#"{"header":{"family":"Unspec","index":0.5}}"#).starts_with("/header/index: found 0.5, wanted a number")
+    );
 }

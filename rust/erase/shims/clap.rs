@@ -1,8 +1,8 @@
 //! The builder of arguments, over the real `clap`; some of its calls fail where there is no memory, as in the sources.
 
+use crate::fallible::AllocError;
 use crate::host::{AsStr, io::Print};
 pub use ::clap::ArgAction;
-use crate::fallible::AllocError;
 use std::marker::PhantomData;
 
 pub mod builder {

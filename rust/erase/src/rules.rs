@@ -227,7 +227,8 @@ pub(crate) const CHECKS: &[Rule] = &[
 pub(crate) const DUTIES: &[Rule] = &[("length $x . now", "$x.len()"), ("length $x . old . $f . now", "$x.$f.len()"), ("≤", "<=")];
 
 /// Imports of these have no use any more.
-pub(crate) const LOST_IMPORTS: &[&str] = &["Allocator", "Global", "AllocFailed", "std::fmt::Write", "std::string::String", "Abort", "thiserror::Error", "BuildHasherDefault", "FoldHasher"];
+pub(crate) const LOST_IMPORTS: &[&str] =
+    &["Allocator", "Global", "AllocFailed", "std::fmt::Write", "std::string::String", "Abort", "thiserror::Error", "BuildHasherDefault", "FoldHasher"];
 
 /// Modules of `std` that are in `core` too, and those that programs and tests use beside them.
 pub(crate) const CORE: &[&str] = &["cmp", "convert", "error", "fmt", "hash", "iter", "marker", "mem", "net", "ops", "slice", "str"];
@@ -254,8 +255,8 @@ pub(crate) const NEEDS: &[(&str, &str)] = &[
 
 /// Words that would be left of a form that no rule knows.
 pub(crate) const UNKNOWN: &[&str] = &[
-    "ghost", "requires", "ensures", "Allocator", "Global", "AllocFailed", "Drop", "alloc", "_alloc", "derive_where", "final", "thiserror",
-    "push_reserved", "parse_ascii", "unsafe",
+    "ghost", "requires", "ensures", "Allocator", "Global", "AllocFailed", "Drop", "alloc", "_alloc", "derive_where", "final", "thiserror", "push_reserved",
+    "parse_ascii", "unsafe",
 ];
 
 /// Attributes that Rust has too, and macros of `core` and `std`.
