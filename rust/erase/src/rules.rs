@@ -264,7 +264,10 @@ pub(crate) const ATTRIBUTES: &[&str] = &["allow", "cfg", "default", "doc", "deri
 pub(crate) const MACROS: &[&str] = &["assert", "assert_eq", "format", "format_args", "macro_rules", "matches", "sent", "stringify", "unreachable", "write"];
 
 /// Lints that erased modules don't meet: contracts used what is now unused, and some code is easier to prove than what clippy prefers.
-pub(crate) const LINTS: &str = "dead_code, missing_docs, unused_doc_comments, unused_imports, unused_labels, unused_variables, clippy::if_same_then_else, clippy::large_enum_variant, \
-    clippy::len_zero, clippy::manual_div_ceil, clippy::manual_find, clippy::manual_is_multiple_of, clippy::manual_map, clippy::manual_ok_err, clippy::needless_lifetimes, \
-    clippy::needless_match, clippy::needless_range_loop, clippy::question_mark, clippy::redundant_closure, clippy::redundant_static_lifetimes, clippy::single_match, \
-    clippy::too_many_arguments, clippy::type_complexity, clippy::wrong_self_convention, rustdoc::broken_intra_doc_links";
+pub(crate) const LINTS: &str = "dead_code, missing_docs, unused_doc_comments, unused_imports, unused_labels, unused_variables, \
+    clippy::collapsible_if, clippy::explicit_auto_deref, clippy::if_same_then_else, clippy::large_enum_variant, clippy::len_zero, \
+    clippy::manual_div_ceil, clippy::manual_find, clippy::manual_is_multiple_of, clippy::manual_map, clippy::manual_ok_err, \
+    clippy::manual_range_contains, clippy::needless_lifetimes, clippy::needless_match, clippy::needless_question_mark, clippy::needless_range_loop, \
+    clippy::nonminimal_bool, clippy::ptr_arg, clippy::question_mark, clippy::redundant_closure, clippy::redundant_pattern_matching, \
+    clippy::redundant_static_lifetimes, clippy::result_large_err, clippy::single_match, clippy::too_many_arguments, clippy::type_complexity, \
+    clippy::wrong_self_convention, rustdoc::broken_intra_doc_links";
