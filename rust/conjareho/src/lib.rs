@@ -14,8 +14,21 @@ extern crate alloc;
 pub mod bitflags;
 #[path = "../../erase/shims/fallible.rs"]
 mod fallible;
+#[cfg(feature = "serde")]
+#[path = "../../erase/shims/hex.rs"]
+mod hex;
+#[cfg(feature = "serde")]
+#[path = "../../erase/shims/events.rs"]
+mod serde;
 #[path = "../../erase/shims/small.rs"]
 mod small;
+#[cfg(feature = "serde")]
+#[path = "../../erase/shims/strict.rs"]
+mod strict;
+#[cfg(feature = "serde")]
+#[path = "../../erase/shims/user.rs"]
+#[allow(dead_code)] // what programs and tests use besides
+mod user;
 
 mod bytes;
 mod netlink;
@@ -53,4 +66,13 @@ pub mod index {
 /// Captures of netlink: pcap, pcapng, files of `rtmon` and streams.
 pub mod capture {
     pub use crate::tc_capture::*;
+}
+
+/// Any bytes as JSON and back, without loss, by the tables of all kinds that Linux has.
+#[cfg(feature = "serde")]
+pub mod forms {
+    pub use crate::strict::read_json;
+    pub use crate::tc_forms::*;
+    pub use crate::tc_forms_text::*;
+    pub use crate::tc_kinds::*;
 }

@@ -38,10 +38,7 @@ pub trait Flags: Sized + 'static {
 
     /// The flag of a name.
     fn from_name(name: &str) -> Option<Self> {
-        Self::flags()
-            .iter()
-            .find(|flag| flag.name == name && !name.is_empty())
-            .map(|flag| Self::from_bits_retain(flag.value.bits()))
+        Self::flags().iter().find(|flag| flag.name == name && !name.is_empty()).map(|flag| Self::from_bits_retain(flag.value.bits()))
     }
 
     /// True if all flags of the other are set.

@@ -1,6 +1,7 @@
 //! As much of the crate `hex` as is used.
 
 use crate::fallible::{self, AllocError};
+use alloc::{string::String, vec::Vec};
 
 /// Why a text isn't hex.
 #[derive(Clone, Copy, PartialEq, Eq, Debug)]

@@ -27,6 +27,13 @@ pub mod arrayvec {
         }
     }
 
+    impl<const N: usize> core::fmt::Write for ArrayString<N> {
+        fn write_str(&mut self, text: &str) -> core::fmt::Result {
+            self.push_str(text);
+            Ok(())
+        }
+    }
+
     impl<const N: usize> core::fmt::Display for ArrayString<N> {
         fn fmt(&self, f: &mut core::fmt::Formatter<'_>) -> core::fmt::Result {
             f.pad(self.as_str())
@@ -100,16 +107,17 @@ pub(crate) mod byteorder {
 
 /// Numbers as decimal digits.
 pub(crate) mod itoa {
-    pub(crate) struct Buffer([u8; 3]);
+    pub(crate) struct Buffer(super::arrayvec::ArrayString<20>);
 
     impl Buffer {
         pub(crate) fn new() -> Buffer {
-            Buffer(*b"000")
+            Buffer(super::arrayvec::ArrayString::new())
         }
 
-        pub(crate) fn format(&mut self, n: u8) -> &str {
-            self.0 = [n / 100, n / 10 % 10, n % 10].map(|digit| b'0' + digit);
-            core::str::from_utf8(&self.0[usize::from(n < 100) + usize::from(n < 10)..]).expect("digits")
+        pub(crate) fn format(&mut self, n: impl core::fmt::Display) -> &str {
+            *self = Buffer::new();
+            core::fmt::write(&mut self.0, format_args!("{n}")).expect("at most twenty characters");
+            self.0.as_str()
         }
     }
 }

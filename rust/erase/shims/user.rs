@@ -1,6 +1,10 @@
 //! What programs and tests use besides: growth of texts and slices that can fail, and the failure of a test.
 
-use crate::fallible::{self, AllocError};
+use crate::fallible::{self, AllocError, Fallible};
+#[cfg(test)]
+use alloc::boxed::Box;
+use alloc::string::String;
+use alloc::vec::Vec;
 
 /// Why a test failed.
 #[cfg(test)]
@@ -16,6 +20,20 @@ impl Growing<str> for String {
         self.try_reserve(text.len()).map_err(|_| AllocError)?;
         self.push_str(text);
         Ok(())
+    }
+}
+
+impl Fallible<char> for String {
+    fn try_grow(&mut self, more: usize) -> Result<(), AllocError> {
+        self.try_reserve(more).map_err(|_| AllocError)
+    }
+
+    fn try_push(&mut self, item: char) -> Result<(), AllocError> {
+        self.try_push_str(item.encode_utf8(&mut [0; 4]))
+    }
+
+    fn try_extend(&mut self, more: &[char]) -> Result<(), AllocError> {
+        more.iter().try_for_each(|c| self.try_push(*c))
     }
 }
 
@@ -52,4 +70,13 @@ pub(crate) fn formatted(text: core::fmt::Arguments<'_>) -> Result<String, AllocE
     let mut all = Text(String::new());
     core::fmt::write(&mut all, text).map_err(|_| AllocError)?;
     Ok(all.0)
+}
+
+/// The items of an iterator.
+pub(crate) fn collected<T>(items: impl Iterator<Item = T>) -> Result<Vec<T>, AllocError> {
+    let mut all = Vec::new();
+    for item in items {
+        all.try_push(item)?;
+    }
+    Ok(all)
 }

@@ -1,24 +1,26 @@
 //! The last steps on a file: the rules, paths, imports, and the refusal of what is left.
 
 use crate::items::without_imports;
-use crate::pattern::{Rule, rewrite};
-use crate::rules::{ARMS, ATTRIBUTES, CORE, LOST_IMPORTS, MACROS, NEEDS, RULES, SHIMS, STD, UNKNOWN};
+use crate::pattern::rewrite;
+use crate::rules::{ARMS, ATTRIBUTES, CORE, LOST_IMPORTS, MACROS, MODULES, NEEDS, RULES, SHIMS, SHOW_RULES, STD, UNKNOWN, USER_RULES};
 use crate::token::{Token, after_group, text_of};
 use crate::{Fault, Source, duties, fault};
 
 /// A file in Rust. Tests and programs have more rules.
-pub(crate) fn finished(file: &Source, crates: &[&str], more: &[Rule]) -> Result<String, Fault> {
+pub(crate) fn finished(file: &Source, crates: &[&str], is_user: bool) -> Result<String, Fault> {
+    let own = if file.path[0] == "tc_show" { SHOW_RULES } else { &[] };
+    let more = own.iter().chain(if is_user { USER_RULES } else { &[] });
     let is_lost = |path: &[&str]| LOST_IMPORTS.contains(&path.join("::").as_str()) || path.last().is_some_and(|name| LOST_IMPORTS.contains(name));
     let mut all = duties::checked(without_imports(&file.tokens, &is_lost))?;
     let errors = errors(&mut all)?;
-    for rule in more.iter().chain(RULES) {
+    for rule in more.chain(RULES) {
         all = rewrite(&all, rule);
     }
     all = without_imports(&all, &|path| path.last().is_some_and(|name| crate::rules::MARKERS.contains(name)));
     refuse_unknown(&all)?;
     let defaults: Vec<_> =
         all.windows(7).filter(|words| words[0].is("fn") && words[1].is("default_in") && words[3].is(")")).map(|words| words[6].text.clone()).collect();
-    rename_paths(&mut all, &file.path[0], crates, !more.is_empty())?;
+    rename_paths(&mut all, &file.path[0], crates, is_user)?;
     let text = text_of(&all) + &errors;
     let is_needed = |word: &str, path: &str| all.iter().any(|token| token.is(word)) && !text.contains(&format!("use {path};"));
     let mut uses: Vec<_> = NEEDS.iter().filter(|(word, path)| is_needed(word, path)).map(|(_, path)| format!("use {path};\n")).collect();
@@ -87,7 +89,7 @@ fn rename_paths(all: &mut [Token], krate: &str, crates: &[&str], is_user: bool) 
             all[at].text = "core".into();
         } else if name == "std" && !(is_user && STD.contains(&next)) {
             return Err(fault(&all[at], "a module of std that isn't known"));
-        } else if name == "crate" && next != "fallible" && next != "user" {
+        } else if name == "crate" && !MODULES.contains(&next) {
             all[at] = word(&format!("crate::{krate}"));
         } else if crates.contains(&name.as_str()) || SHIMS.contains(&name.as_str()) {
             all[at] = word(&format!("crate::{name}"));

@@ -52,7 +52,7 @@ pub struct Crates<'a> {
     pub codec: &'a [&'a str],
     /// Crates of programs or of tests over it.
     pub users: &'a [&'a str],
-    /// Modules that are left out, such as `tc_texts::address`, with what exports them.
+    /// Modules that are left out, such as `tc_texts::address`, with what exports them; of users, functions too.
     pub omitted: &'a [&'a str],
 }
 
@@ -73,12 +73,14 @@ pub fn erase(from: Crates<'_>) -> Result<Erased, Fault> {
     let mut modules = BTreeMap::new();
     for mut file in files {
         let is_user = from.users.contains(&file.path[0].as_str());
-        if is_user {
-            laws::drop_functions(&mut file, rules::LEFT_OUT).map_err(|why| file.at(&why))?;
-        }
         let own = file.path.join("::");
+        if is_user {
+            let in_file = from.omitted.iter().filter_map(|path| path.strip_prefix(&format!("{own}::")));
+            let left_out: Vec<_> = rules::LEFT_OUT.iter().copied().chain(in_file).collect();
+            laws::drop_functions(&mut file, &left_out).map_err(|why| file.at(&why))?;
+        }
         file.tokens = items::without_imports(&file.tokens, &|path| from.omitted.contains(&format!("{own}::{}", path[0]).as_str()));
-        let text = finish::finished(&file, &crates, if is_user { rules::USER_RULES } else { &[] }).map_err(|why| file.at(&why))?;
+        let text = finish::finished(&file, &crates, is_user).map_err(|why| file.at(&why))?;
         modules.insert(file.path, (file.docs, text));
     }
     Ok(Erased { modules })
@@ -113,7 +115,7 @@ fn read_crate(folder: &Path, path: &mut Vec<String>, files: &mut Vec<Source>) ->
 fn without_allocators(docs: &[&str]) -> String {
     let mut is_code = false;
     let line = |line: &&str| {
-        let is_fence = *line == "//! ```";
+        let is_fence = line.starts_with("//! ```");
         is_code ^= is_fence;
         match line.contains("[in alloc; ") {
             _ if is_fence && is_code => "//! ```ignore".to_string(),

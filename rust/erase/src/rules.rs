@@ -10,13 +10,49 @@ pub(crate) const ALLOCATORS: &[&str] = &["A", "Global"];
 pub(crate) const VALUES: &[&str] = &["alloc", "_alloc"];
 
 /// Traits that only contracts name. (One that isn't listed stays as a trait with nothing in it.)
-pub(crate) const MARKERS: &[&str] = &["Drop", "FrameMeaning", "BytesMeaning", "CanonMeaning"];
+pub(crate) const MARKERS: &[&str] = &["Drop", "FrameMeaning", "BytesMeaning", "CanonMeaning", "Described", "AllocGlobal", "Eprint"];
+
+/// How a frame is written in Rust.
+const PUT_FRAME: &str = "let (header, rest) = buffer.split_at_mut(NLA_HEADER_SIZE);
+        let (word, len) = put_padded(rest, self);
+        put_header(header,";
+const PUT_PADDED: &str = "#[inline(always)]
+fn put_padded<T: Nla>(buffer: &mut [u8], item: &T) -> (u16, usize) {
+    let (word, len) = item.put_row(buffer);$;b
+    (word, len)
+}";
+const PUT_ROW: &str = "fn put_value(&self, buffer: &mut [u8]) -> usize;
+
+    /// Its `nla_type`, and how many bytes its value has, which it writes as `put_value` does.
+    #[doc(hidden)]
+    fn put_row(&self, buffer: &mut [u8]) -> (u16, usize) {
+        (self.kind(), self.put_value(buffer))
+    }";
+const PUT_VIEW: &str = "fn put_value(&self, buffer: &mut [u8]) -> usize {
+        self.put_row(buffer).1
+    }
+
+    #[inline(always)]
+    fn put_row(&self, buffer: &mut [u8]) -> (u16, usize) {
+        let (word, value) = self.$v();
+        (word, value.put(buffer))
+    }";
+const PUT_ONE_OF: &str = "fn put_value(&self, buffer: &mut [u8]) -> usize {
+        self.put_row(buffer).1
+    }
+
+    #[inline(always)]
+    fn put_row(&self, buffer: &mut [u8]) -> (u16, usize) {
+        match self {$*a}
+    }";
 
 /// Rules, each applied to a whole file, one after the other.
 pub(crate) const RULES: &[Rule] = &[
     // Without an allocator a derive needs no bounds of its own.
     ("# [ derive_where ( $*x ; A ) ]", "#[derive($*x)]"),
     ("# [ derive_where ( $*x ) ]", "#[derive($*x)]"),
+    // A variant has a byte of its own, as in Rattle: that of one in another would be told by what the inner one holds.
+    ("pub enum $x < A : Allocator = Global > {", "#[repr(u8)]\npub enum $x {"),
     // Allocators: parameters and arguments of types,
     (": Allocator + Copy", ": Allocator"),
     (": Allocator + Clone", ": Allocator"),
@@ -81,11 +117,15 @@ pub(crate) const RULES: &[Rule] = &[
     ("< W : Write >", ""),
     ("W : Write ,", ""),
     ("Formatter < W >", "Formatter<'_>"),
-    // Bounds that rustc can see: a header of four bytes, and what follows it.
-    (
-        "let word = self . kind ( ) ; let len = put_padded ( & mut buffer [ NLA_HEADER_SIZE .. ] , self ) ; put_header ( buffer ,",
-        "let (header, rest) = buffer.split_at_mut(NLA_HEADER_SIZE);\n        let word = self.kind();\n        let len = put_padded(rest, self);\n        put_header(header,",
-    ),
+    // Loops and bounds that rustc can see: over a list, and a header of four bytes before what follows it.
+    ("let mut left = items ; while let [ item , after @ .. ] = left { $;b left = after ; }", "for item in items {$;b\n    }"),
+    ("let word = self . kind ( ) ; let len = put_padded ( & mut buffer [ NLA_HEADER_SIZE .. ] , self ) ; put_header ( buffer ,", PUT_FRAME),
+    ("fn put_padded < T : Nla > ( buffer : & mut [ u8 ] , item : & T ) -> usize { let len = item . put_value ( buffer ) ; $;b len }", PUT_PADDED),
+    // An attribute's word and value in one step, since rustc tells its variant twice otherwise.
+    ("fn put_value ( & self , buffer : & mut [ u8 ] ) -> usize ;", PUT_ROW),
+    ("fn put_value ( & self , buffer : & mut [ u8 ] ) -> usize { self . $v ( ) . 1 . put ( buffer ) }", PUT_VIEW),
+    ("fn put_value ( & self , buffer : & mut [ u8 ] ) -> usize { match self { $*a } }", PUT_ONE_OF),
+    ("=> $x . put_value ( buffer ) ,", "=> $x.put_row(buffer),"),
     ("# [ rattlefmt :: skip ]", "#[rustfmt::skip]"),
     // Calls of std that Rust has under another name, or had later.
     ("parse_ascii ( $x . as_bytes ( ) )", "from_str($x)"),
@@ -97,6 +137,11 @@ pub(crate) const RULES: &[Rule] = &[
 pub(crate) const USER_RULES: &[Rule] = &[
     ("( rt : HostRuntime )", "()"),
     ("assert ! ( rt ; $*x )", "assert!($*x)"),
+    ("assert_eq ! ( rt ; $*x )", "assert_eq!($*x)"),
+    (", BuildHasherDefault < FoldHasher >", ""),
+    (". insert ( $*x ) ?", ".insert($*x)"),
+    (". sort_by_key ( $*f ) ?", ".sort_by_key($*f)"),
+    (". repeat ( %v , $*n ) ?", ".repeat($*n)"),
     (". expect ( & rt , $*x )", ".expect($*x)"),
     ("Fail :: new ( format_args ! ( $*x ) )", "Fail::from(format!($*x))"),
     ("Fail :: new (", "Fail::from("),
@@ -109,7 +154,55 @@ pub(crate) const USER_RULES: &[Rule] = &[
     (". to_string ( %v ) ?", ".to_string()"),
     (". clone ( ) ?", ".clone()"),
     ("{ self . clone ( ) }", "{ Ok(self.clone()) }"),
+    // Over the real `serde` and `serde_json`.
+    ("=> $x . to_string ( %v ) ,", "=> Ok($x.to_string()),"),
+    ("match $*x . push ( $*y ) {", "match $*x.try_push($*y) {"),
+    (". push ( $*y ) . is_err ( )", ".try_push($*y).is_err()"),
+    ("Value :: try_from_str ( %v , $*x )", "fallible::text($*x).map(Value::String)"),
+    (". first_key_value ( )", ".iter().next()"),
+    ("crate :: read :: read_json", "crate::strict::read_json"),
+    ("impl < $-g > Serialize for $-x { $;b }", SERIALIZE),
+    ("serde_json :: to_vec ( %v , ", "crate::jsontext::to_vec("),
+    ("# [ serde ( rename = $t ) ] $f :", "$f as $t:"),
+    ("# [ derive ( $*d , Serialize ) ] $-v struct $x $-g { $;f }", "crate::jsontext::sent! { #[derive($*d)] $-v struct $x $-g {$;f} }"),
+    // Streams, files and arguments are those of the module `host`.
+    ("use std :: { env , fs }", "use crate::host::{env, fs}"),
+    ("std :: env", "crate::host::env"),
+    ("std :: fs", "crate::host::fs"),
+    ("std :: io", "crate::host::io"),
+    ("std :: rt", "crate::host::rt"),
+    ("std :: convert :: AsStr", "crate::host::AsStr"),
+    ("Vec :: from_iter ( %v , $*x )", "crate::user::collected($*x)"),
+    ("use tc_forms_text :: { ReadError , read_json } ;", "use crate::strict::read_json;\nuse tc_forms_text::ReadError;"),
+    ("W : Write", "W: crate::host::io::Write"),
+    ("< B : Allocator >", ""),
+    ("Page < B >", "Page"),
 ];
+
+/// Rules of `tc_show`, before those of programs: it has a second allocator.
+pub(crate) const SHOW_RULES: &[Rule] = &[
+    ("pub ( crate ) json : Global ,", ""),
+    ("json : Global ,", ""),
+    ("{ alloc , json ,", "{"),
+    ("( alloc , json ,", "("),
+    ("serve ( alloc , alloc ,", "serve("),
+    ("self . json ,", ""),
+    ("( self . json )", "()"),
+    ("Summary :: new ( json )", "Summary::new()"),
+    ("json_of ( json ,", "json_of("),
+    ("complain_of_packets ( json ,", "complain_of_packets("),
+    ("alloc : json ,", ""),
+    ("format ! ( in json ; $*x )", "crate::user::formatted(format_args!($*x))"),
+];
+
+/// What is sent as events, as a value of the real `serde`.
+pub(crate) const SERIALIZE: &str = "impl<$-g> Serialize for $-x {$;b}
+
+impl<$-g> ::serde::Serialize for $-x {
+    fn serialize<R: ::serde::Serializer>(&self, to: R) -> Result<R::Ok, R::Error> {
+        crate::serde::serialize(self, to)
+    }
+}";
 
 /// Functions of tests that name one of these, or one of those functions, are left out: no allocator can be handed to what is erased.
 pub(crate) const LEFT_OUT: &[&str] = &["Failing", "Abort"];
@@ -134,14 +227,16 @@ pub(crate) const CHECKS: &[Rule] = &[
 pub(crate) const DUTIES: &[Rule] = &[("length $x . now", "$x.len()"), ("length $x . old . $f . now", "$x.$f.len()"), ("≤", "<=")];
 
 /// Imports of these have no use any more.
-pub(crate) const LOST_IMPORTS: &[&str] = &["Allocator", "Global", "AllocFailed", "std::fmt::Write", "std::string::String", "Abort", "thiserror::Error"];
+pub(crate) const LOST_IMPORTS: &[&str] =
+    &["Allocator", "Global", "AllocFailed", "std::fmt::Write", "std::string::String", "Abort", "thiserror::Error", "BuildHasherDefault", "FoldHasher"];
 
 /// Modules of `std` that are in `core` too, and those that programs and tests use beside them.
-pub(crate) const CORE: &[&str] = &["cmp", "convert", "fmt", "hash", "iter", "marker", "mem", "net", "ops", "slice", "str"];
+pub(crate) const CORE: &[&str] = &["cmp", "convert", "error", "fmt", "hash", "iter", "marker", "mem", "net", "ops", "slice", "str"];
 pub(crate) const STD: &[&str] = &["collections", "hash", "process"];
 
-/// Crates that a module of the shims stands for.
-pub(crate) const SHIMS: &[&str] = &["arrayvec", "bitflags", "byteorder", "hex", "itoa"];
+/// Modules of the shims, beside those crates that one stands for.
+pub(crate) const MODULES: &[&str] = &["fallible", "host", "jsontext", "serde", "strict", "user"];
+pub(crate) const SHIMS: &[&str] = &["arrayvec", "bitflags", "byteorder", "clap", "hex", "itoa", "serde"];
 
 /// What has to be imported where one of these words is, since it isn't in the prelude of `core`.
 pub(crate) const NEEDS: &[(&str, &str)] = &[
@@ -152,21 +247,27 @@ pub(crate) const NEEDS: &[(&str, &str)] = &[
     ("try_grow", "crate::fallible::Fallible as _"),
     ("try_extend", "crate::fallible::Fallible as _"),
     ("from_str", "core::str::FromStr as _"),
+    ("to_string", "alloc::string::ToString as _"),
+    ("write_char", "core::fmt::Write as _"),
     ("try_push_str", "crate::user::Growing as _"),
     ("try_to_vec", "crate::user::Copying as _"),
 ];
 
 /// Words that would be left of a form that no rule knows.
 pub(crate) const UNKNOWN: &[&str] = &[
-    "ghost", "requires", "ensures", "Allocator", "Global", "AllocFailed", "Drop", "alloc", "_alloc", "derive_where", "final", "thiserror", "rt", "HostRuntime",
-    "push_reserved", "parse_ascii", "unsafe",
+    "ghost", "requires", "ensures", "Allocator", "Global", "AllocFailed", "Drop", "alloc", "_alloc", "derive_where", "final", "thiserror", "push_reserved",
+    "parse_ascii", "unsafe",
 ];
 
 /// Attributes that Rust has too, and macros of `core` and `std`.
-pub(crate) const ATTRIBUTES: &[&str] = &["allow", "cfg", "default", "derive", "inline", "must_use", "rustfmt", "test"];
-pub(crate) const MACROS: &[&str] = &["assert", "format", "format_args", "macro_rules", "matches", "stringify", "write"];
+pub(crate) const ATTRIBUTES: &[&str] = &["allow", "cfg", "default", "doc", "derive", "inline", "must_use", "repr", "rustfmt", "test"];
+pub(crate) const MACROS: &[&str] = &["assert", "assert_eq", "format", "format_args", "macro_rules", "matches", "sent", "stringify", "unreachable", "write"];
 
 /// Lints that erased modules don't meet: contracts used what is now unused, and some code is easier to prove than what clippy prefers.
-pub(crate) const LINTS: &str = "dead_code, missing_docs, unused_imports, unused_variables, clippy::if_same_then_else, clippy::large_enum_variant, \
-    clippy::len_zero, clippy::manual_div_ceil, clippy::manual_find, clippy::manual_is_multiple_of, clippy::manual_map, clippy::needless_range_loop, \
-    clippy::question_mark, clippy::redundant_static_lifetimes, clippy::single_match, clippy::wrong_self_convention";
+pub(crate) const LINTS: &str = "dead_code, missing_docs, unused_doc_comments, unused_imports, unused_labels, unused_variables, \
+    clippy::collapsible_if, clippy::explicit_auto_deref, clippy::if_same_then_else, clippy::large_enum_variant, clippy::len_zero, \
+    clippy::manual_div_ceil, clippy::manual_find, clippy::manual_is_multiple_of, clippy::manual_map, clippy::manual_ok_err, \
+    clippy::manual_range_contains, clippy::needless_lifetimes, clippy::needless_match, clippy::needless_question_mark, clippy::needless_range_loop, \
+    clippy::nonminimal_bool, clippy::ptr_arg, clippy::question_mark, clippy::redundant_closure, clippy::redundant_pattern_matching, \
+    clippy::redundant_static_lifetimes, clippy::result_large_err, clippy::single_match, clippy::too_many_arguments, clippy::type_complexity, \
+    clippy::wrong_self_convention, rustdoc::broken_intra_doc_links";

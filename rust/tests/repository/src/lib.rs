@@ -10,8 +10,12 @@ pub mod bitflags;
 mod fallible;
 #[path = "../../../erase/shims/hex.rs"]
 mod hex;
+#[path = "../../../erase/shims/events.rs"]
+mod serde;
 #[path = "../../../erase/shims/small.rs"]
 mod small;
+#[path = "../../../erase/shims/strict.rs"]
+mod strict;
 #[path = "../../../erase/shims/user.rs"]
 #[allow(dead_code)] // what the programs use besides
 mod user;

@@ -1,0 +1,53 @@
+//! The programs, erased with the codec.
+#![forbid(unsafe_code)]
+
+extern crate alloc;
+
+#[path = "../../erase/shims/bitflags.rs"]
+#[allow(dead_code)] // what the codec exports besides
+mod bitflags;
+#[path = "../../erase/shims/clap.rs"]
+mod clap;
+#[path = "../../erase/shims/fallible.rs"]
+mod fallible;
+#[path = "../../erase/shims/hex.rs"]
+mod hex;
+#[path = "../../erase/shims/host.rs"]
+pub mod host;
+#[path = "../../erase/shims/jsontext.rs"]
+mod jsontext;
+#[path = "../../erase/shims/events.rs"]
+mod serde;
+#[path = "../../erase/shims/small.rs"]
+mod small;
+#[path = "../../erase/shims/strict.rs"]
+mod strict;
+#[path = "../../erase/shims/user.rs"]
+#[allow(dead_code)] // what tests use besides
+mod user;
+
+use small::{arrayvec, byteorder, itoa};
+
+// The erased crates, each a private module.
+include!(concat!(env!("OUT_DIR"), "/programs.rs"));
+
+use host::HostRuntime;
+use std::process::ExitCode;
+use tc_kinds::{ACTION_MESSAGE, TC_MESSAGE, TcTables};
+use tc_make::message::Forms;
+
+/// Shows the traffic control messages of a capture, or of lines of hex.
+pub fn tcshow() -> ExitCode {
+    tc_show::program::tcshow(&HostRuntime, &mut HostRuntime.stderr())
+}
+
+/// Makes traffic control messages of JSON.
+pub fn tcmake() -> ExitCode {
+    let forms = Forms { table: TcTables, tc: TC_MESSAGE, action: ACTION_MESSAGE };
+    tc_make::program::tcmake(&HostRuntime, forms, &mut HostRuntime.stderr())
+}
+
+/// Reads a traffic control message as hex text, and reports on it.
+pub fn tcrewrite() -> ExitCode {
+    tc_report::program::tcrewrite(&HostRuntime, &mut HostRuntime.stderr())
+}

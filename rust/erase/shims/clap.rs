@@ -1,0 +1,140 @@
+//! The builder of arguments, over the real `clap`; some of its calls fail where there is no memory, as in the sources.
+
+use crate::fallible::AllocError;
+use crate::host::{AsStr, io::Print};
+pub use ::clap::ArgAction;
+use std::marker::PhantomData;
+
+pub mod builder {
+    /// What a value has to be.
+    pub struct ValueParser(pub(super) ::clap::builder::ValueParser);
+
+    impl ValueParser {
+        /// A number of this range.
+        pub fn signed(least: i64, most: i64) -> ValueParser {
+            ValueParser(::clap::builder::RangedI64ValueParser::<i32>::new().range(least..=most).into())
+        }
+    }
+
+    impl From<&[&'static str]> for ValueParser {
+        fn from(words: &[&'static str]) -> ValueParser {
+            ValueParser(::clap::builder::PossibleValuesParser::new(words).into())
+        }
+    }
+}
+
+pub mod error {
+    #[derive(Clone, Copy, PartialEq, Eq, Debug)]
+    pub enum ErrorKind {
+        OutOfMemory,
+        Other(::clap::error::ErrorKind),
+    }
+}
+
+#[derive(Debug)]
+pub struct Error(Option<::clap::Error>);
+
+impl From<AllocError> for Error {
+    fn from(_e: AllocError) -> Error {
+        Error(None)
+    }
+}
+
+impl Error {
+    pub fn kind(&self) -> error::ErrorKind {
+        self.0.as_ref().map_or(error::ErrorKind::OutOfMemory, |e| error::ErrorKind::Other(e.kind()))
+    }
+    pub fn use_stderr(&self) -> bool {
+        self.0.as_ref().is_none_or(|e| e.use_stderr())
+    }
+    pub fn print<R: Print>(&self, _rt: &R) -> std::io::Result<()> {
+        self.0.as_ref().map_or(Ok(()), |e| e.print())
+    }
+}
+
+type Res<T> = Result<T, AllocError>;
+
+// Texts live as long as the program.
+fn kept(text: &str) -> &'static str {
+    Box::leak(text.into())
+}
+
+pub struct Arg<'a>(::clap::Arg, PhantomData<&'a str>);
+
+impl<'a> Arg<'a> {
+    fn with(self, f: impl FnOnce(::clap::Arg) -> ::clap::Arg) -> Self {
+        Arg(f(self.0), PhantomData)
+    }
+    pub fn new(name: &'a str) -> Self {
+        Arg(::clap::Arg::new(kept(name)), PhantomData)
+    }
+    pub fn long(self, name: &'a str) -> Self {
+        self.with(|it| it.long(kept(name)))
+    }
+    pub fn short(self, letter: char) -> Self {
+        self.with(|it| it.short(letter))
+    }
+    pub fn value_name(self, name: &'a str) -> Self {
+        self.with(|it| it.value_name(kept(name)))
+    }
+    pub fn action(self, action: ArgAction) -> Self {
+        self.with(|it| it.action(action))
+    }
+    pub fn help(self, text: &'a str) -> Self {
+        self.with(|it| it.help(kept(text)))
+    }
+    pub fn value_parser(self, parser: impl Into<builder::ValueParser>) -> Self {
+        self.with(|it| it.value_parser(parser.into().0))
+    }
+    pub fn hide_possible_values(self, yes: bool) -> Self {
+        self.with(|it| it.hide_possible_values(yes))
+    }
+    pub fn requires_arg(self, name: &'a str) -> Res<Self> {
+        Ok(self.with(|it| it.requires(kept(name))))
+    }
+
+    pub fn conflicts_with(self, name: &'a str) -> Res<Self> {
+        Ok(self.with(|it| it.conflicts_with(kept(name))))
+    }
+}
+
+pub struct Command<'a>(::clap::Command, PhantomData<&'a str>);
+
+impl<'a> Command<'a> {
+    pub fn new(name: &'a str) -> Self {
+        Command(::clap::Command::new(kept(name)), PhantomData)
+    }
+    pub fn version(self, text: &'a str) -> Self {
+        Command(self.0.version(kept(text)), PhantomData)
+    }
+    pub fn about(self, text: &'a str) -> Self {
+        Command(self.0.about(kept(text)), PhantomData)
+    }
+    pub fn after_help(self, text: &'a str) -> Self {
+        Command(self.0.after_help(kept(text)), PhantomData)
+    }
+    pub fn arg(self, arg: Arg<'a>) -> Res<Self> {
+        Ok(Command(self.0.arg(arg.0), PhantomData))
+    }
+    pub fn try_get_matches_from<'w, S: AsStr>(self, words: &'w [S]) -> Result<ArgMatches<'w>, Error> {
+        match self.0.try_get_matches_from(words.iter().map(AsStr::as_str)) {
+            Ok(matches) => Ok(ArgMatches(Box::leak(Box::new(matches)), PhantomData)),
+            Err(e) => Err(Error(Some(e))),
+        }
+    }
+}
+
+pub struct ArgMatches<'w>(&'static ::clap::ArgMatches, PhantomData<&'w str>);
+
+impl<'w> ArgMatches<'w> {
+    pub fn get_str(&self, name: &str) -> Option<&'w str> {
+        self.0.get_one::<String>(name).map(String::as_str)
+    }
+    pub fn get_one<T: Clone + Send + Sync + 'static>(&self, name: &str) -> Option<T> {
+        self.0.get_one::<T>(name).cloned()
+    }
+
+    pub fn get_flag(&self, name: &str) -> bool {
+        self.0.get_flag(name)
+    }
+}

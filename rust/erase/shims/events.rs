@@ -1,0 +1,145 @@
+//! The serializer that the sources send events to, and the same events as a value of the real `serde`.
+
+use crate::fallible::{self, AllocError, Fallible as _};
+use ::serde::ser::{Error as _, SerializeMap as _, SerializeSeq as _};
+use alloc::{string::String, vec::Vec};
+use core::cell::Cell;
+
+/// What events are sent to.
+pub trait Serializer: Sized {
+    /// Why an event isn't taken.
+    type Error;
+    /// `true` or `false`.
+    fn bool(&mut self, v: bool) -> Result<(), Self::Error>;
+    /// A signed number.
+    fn i64(&mut self, v: i64) -> Result<(), Self::Error>;
+    /// A number.
+    fn u64(&mut self, v: u64) -> Result<(), Self::Error>;
+    /// A text.
+    fn str(&mut self, v: &str) -> Result<(), Self::Error>;
+    /// A list begins; its length may be known.
+    fn begin_seq(&mut self, len: Option<usize>) -> Result<(), Self::Error>;
+    /// It ends.
+    fn end_seq(&mut self) -> Result<(), Self::Error>;
+    /// An object begins; its length may be known.
+    fn begin_map(&mut self, len: Option<usize>) -> Result<(), Self::Error>;
+    /// It ends.
+    fn end_map(&mut self) -> Result<(), Self::Error>;
+    /// The name of the member that comes next.
+    fn key(&mut self, name: &str) -> Result<(), Self::Error>;
+    /// An error with this text.
+    fn custom(&self, message: &str) -> Self::Error;
+}
+
+/// What can be sent.
+pub trait Serialize {
+    /// Sends it.
+    fn serialize<S: Serializer>(&self, out: &mut S) -> Result<(), S::Error>;
+}
+
+enum Event {
+    Bool(bool),
+    I64(i64),
+    U64(u64),
+    Text(String),
+    List,
+    Object,
+    End,
+}
+
+impl Serializer for Vec<Event> {
+    type Error = AllocError;
+
+    fn bool(&mut self, v: bool) -> Result<(), AllocError> {
+        self.try_push(Event::Bool(v))
+    }
+
+    fn i64(&mut self, v: i64) -> Result<(), AllocError> {
+        self.try_push(Event::I64(v))
+    }
+
+    fn u64(&mut self, v: u64) -> Result<(), AllocError> {
+        self.try_push(Event::U64(v))
+    }
+
+    fn str(&mut self, v: &str) -> Result<(), AllocError> {
+        self.try_push(Event::Text(fallible::text(v)?))
+    }
+
+    fn begin_seq(&mut self, _len: Option<usize>) -> Result<(), AllocError> {
+        self.try_push(Event::List)
+    }
+
+    fn end_seq(&mut self) -> Result<(), AllocError> {
+        self.try_push(Event::End)
+    }
+
+    fn begin_map(&mut self, _len: Option<usize>) -> Result<(), AllocError> {
+        self.try_push(Event::Object)
+    }
+
+    fn end_map(&mut self) -> Result<(), AllocError> {
+        self.try_push(Event::End)
+    }
+
+    fn key(&mut self, name: &str) -> Result<(), AllocError> {
+        self.str(name)
+    }
+
+    fn custom(&self, _message: &str) -> AllocError {
+        AllocError
+    }
+}
+
+/// The value that comes next.
+struct Next<'a>(&'a Cell<&'a [Event]>);
+
+impl<'a> Next<'a> {
+    /// Whether a list or an object goes on; where it ends, the end is taken.
+    fn goes_on(&self) -> bool {
+        let is_end = matches!(self.0.get(), [Event::End, ..] | []);
+        if is_end {
+            self.take();
+        }
+        !is_end
+    }
+
+    fn take(&self) -> Option<&'a Event> {
+        let (first, rest) = self.0.get().split_first()?;
+        self.0.set(rest);
+        Some(first)
+    }
+}
+
+impl ::serde::Serialize for Next<'_> {
+    fn serialize<S: ::serde::Serializer>(&self, to: S) -> Result<S::Ok, S::Error> {
+        match self.take() {
+            Some(Event::Bool(v)) => to.serialize_bool(*v),
+            Some(Event::I64(v)) => to.serialize_i64(*v),
+            Some(Event::U64(v)) => to.serialize_u64(*v),
+            Some(Event::Text(v)) => to.serialize_str(v),
+            Some(Event::List) => {
+                let mut list = to.serialize_seq(None)?;
+                while self.goes_on() {
+                    list.serialize_element(self)?;
+                }
+                list.end()
+            }
+            Some(Event::Object) => {
+                let mut object = to.serialize_map(None)?;
+                while self.goes_on() {
+                    object.serialize_entry(self, self)?;
+                }
+                object.end()
+            }
+            Some(Event::End) | None => Err(S::Error::custom("an end without a beginning")),
+        }
+    }
+}
+
+/// Sends a value to a serializer of the real `serde`.
+pub fn serialize<T: Serialize, S: ::serde::Serializer>(value: &T, to: S) -> Result<S::Ok, S::Error> {
+    let mut events = Vec::new();
+    value.serialize(&mut events).map_err(S::Error::custom)?;
+    ::serde::Serialize::serialize(&Next(&Cell::new(&events)), to)
+}

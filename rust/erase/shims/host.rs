@@ -1,0 +1,95 @@
+//! The streams, files and arguments of the program, from a runtime that is passed down.
+
+use std::os::fd::{AsFd, BorrowedFd};
+
+/// What `main` gets.
+pub struct HostRuntime;
+
+/// What is a text.
+pub trait AsStr {
+    fn as_str(&self) -> &str;
+}
+impl AsStr for String {
+    fn as_str(&self) -> &str {
+        self
+    }
+}
+impl AsStr for &str {
+    fn as_str(&self) -> &str {
+        self
+    }
+}
+
+// A stream of its own, without the buffer of std.
+fn stream(fd: BorrowedFd<'_>) -> std::fs::File {
+    fd.try_clone_to_owned().map(std::fs::File::from).unwrap_or_else(|_| std::fs::File::open("/dev/null").expect("/dev/null"))
+}
+
+impl HostRuntime {
+    pub fn stderr(&self) -> std::fs::File {
+        stream(std::io::stderr().as_fd())
+    }
+}
+
+pub mod io {
+    use super::{AsFd, HostRuntime, stream};
+    pub use std::io::{BufRead, Error, ErrorKind, Read, Result, Write};
+
+    pub trait Input {
+        fn reader(&self) -> std::fs::File;
+    }
+    impl Input for HostRuntime {
+        fn reader(&self) -> std::fs::File {
+            stream(std::io::stdin().as_fd())
+        }
+    }
+    pub trait Print {
+        fn out(&self) -> std::fs::File;
+    }
+    impl Print for HostRuntime {
+        fn out(&self) -> std::fs::File {
+            stream(std::io::stdout().as_fd())
+        }
+    }
+    pub fn writer<R: Print>(rt: &R) -> std::fs::File {
+        rt.out()
+    }
+
+    pub struct BufReader;
+    impl BufReader {
+        #[allow(clippy::new_ret_no_self)]
+        pub fn new<R: Read>(reader: R) -> Result<std::io::BufReader<R>> {
+            Ok(std::io::BufReader::new(reader))
+        }
+    }
+}
+
+pub mod rt {
+    pub trait Env {}
+    impl Env for super::HostRuntime {}
+    pub trait Files {}
+    impl Files for super::HostRuntime {}
+}
+
+pub mod env {
+    use std::io::{Error, ErrorKind};
+
+    pub type Args = std::vec::IntoIter<String>;
+
+    /// The arguments, the program's name first; an error if one is no text.
+    pub fn args<R: super::rt::Env>(_rt: &R) -> Result<Args, Error> {
+        let words: Result<Vec<String>, _> = std::env::args_os().map(|word| word.into_string()).collect();
+        words.map(Vec::into_iter).map_err(|_| ErrorKind::InvalidInput.into())
+    }
+}
+
+pub mod fs {
+    use std::io::Error;
+
+    pub fn open<R: super::rt::Files>(_rt: &R, path: &str) -> Result<std::fs::File, Error> {
+        std::fs::File::open(path)
+    }
+    pub fn read_to_string<R: super::rt::Files>(_rt: &R, path: &str) -> Result<String, Error> {
+        std::fs::read_to_string(path)
+    }
+}

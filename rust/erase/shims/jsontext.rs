@@ -1,0 +1,159 @@
+//! What is sent as events, as JSON.
+
+use crate::fallible::{AllocError, Fallible as _};
+use crate::serde::{Serialize, Serializer};
+
+impl<T: Serialize> Serialize for &T {
+    fn serialize<S: Serializer>(&self, out: &mut S) -> Result<(), S::Error> {
+        (**self).serialize(out)
+    }
+}
+
+impl Serialize for &str {
+    fn serialize<S: Serializer>(&self, out: &mut S) -> Result<(), S::Error> {
+        out.str(self)
+    }
+}
+
+impl Serialize for String {
+    fn serialize<S: Serializer>(&self, out: &mut S) -> Result<(), S::Error> {
+        out.str(self)
+    }
+}
+
+impl Serialize for u64 {
+    fn serialize<S: Serializer>(&self, out: &mut S) -> Result<(), S::Error> {
+        out.u64(*self)
+    }
+}
+
+impl<T: Serialize> Serialize for Vec<T> {
+    fn serialize<S: Serializer>(&self, out: &mut S) -> Result<(), S::Error> {
+        out.begin_seq(Some(self.len()))?;
+        for item in self {
+            item.serialize(out)?;
+        }
+        out.end_seq()
+    }
+}
+
+/// Sends the fields of a struct, each under its name or the one that stands behind it.
+macro_rules! sent {
+    ($(#[$of:meta])* $see:vis struct $name:ident $(<$life:lifetime>)? {
+        $($(#[$about:meta])* $sees:vis $field:ident $(as $key:literal)? : $type:ty),* $(,)?
+    }) => {
+        $(#[$of])* $see struct $name $(<$life>)? { $($(#[$about])* $sees $field: $type),* }
+
+        impl $(<$life>)? crate::serde::Serialize for $name $(<$life>)? {
+            fn serialize<S: crate::serde::Serializer>(&self, out: &mut S) -> Result<(), S::Error> {
+                out.begin_map(None)?;
+                $(
+                    let key = stringify!($field);
+                    $(let key = $key;)?
+                    out.key(key)?;
+                    crate::serde::Serialize::serialize(&self.$field, out)?;
+                )*
+                out.end_map()
+            }
+        }
+    };
+}
+pub(crate) use sent;
+
+/// JSON as it is written.
+struct Text {
+    bytes: Vec<u8>,
+    /// True where a member or an item needs no comma before it.
+    is_first: bool,
+}
+
+impl std::io::Write for Text {
+    fn write(&mut self, bytes: &[u8]) -> std::io::Result<usize> {
+        self.bytes.try_extend(bytes).map_err(|_| std::io::ErrorKind::OutOfMemory)?;
+        Ok(bytes.len())
+    }
+
+    fn flush(&mut self) -> std::io::Result<()> {
+        Ok(())
+    }
+}
+
+impl Text {
+    fn put(&mut self, bytes: &[u8]) -> Result<(), AllocError> {
+        self.bytes.try_extend(bytes)
+    }
+
+    /// An item begins: its comma, unless it comes behind a key or first.
+    fn item(&mut self) -> Result<(), AllocError> {
+        if std::mem::replace(&mut self.is_first, false) { Ok(()) } else { self.put(b",") }
+    }
+
+    fn open(&mut self, bracket: &[u8]) -> Result<(), AllocError> {
+        self.item()?;
+        self.is_first = true;
+        self.put(bracket)
+    }
+
+    fn close(&mut self, bracket: &[u8]) -> Result<(), AllocError> {
+        self.is_first = false;
+        self.put(bracket)
+    }
+
+    fn plain<T: ?Sized + ::serde::Serialize>(&mut self, v: &T) -> Result<(), AllocError> {
+        self.item()?;
+        serde_json::to_writer(self, v).map_err(|_| AllocError)
+    }
+}
+
+impl Serializer for Text {
+    type Error = AllocError;
+
+    fn bool(&mut self, v: bool) -> Result<(), AllocError> {
+        self.plain(&v)
+    }
+
+    fn i64(&mut self, v: i64) -> Result<(), AllocError> {
+        self.plain(&v)
+    }
+
+    fn u64(&mut self, v: u64) -> Result<(), AllocError> {
+        self.plain(&v)
+    }
+
+    fn str(&mut self, v: &str) -> Result<(), AllocError> {
+        self.plain(v)
+    }
+
+    fn begin_seq(&mut self, _len: Option<usize>) -> Result<(), AllocError> {
+        self.open(b"[")
+    }
+
+    fn end_seq(&mut self) -> Result<(), AllocError> {
+        self.close(b"]")
+    }
+
+    fn begin_map(&mut self, _len: Option<usize>) -> Result<(), AllocError> {
+        self.open(b"{")
+    }
+
+    fn end_map(&mut self) -> Result<(), AllocError> {
+        self.close(b"}")
+    }
+
+    fn key(&mut self, name: &str) -> Result<(), AllocError> {
+        self.plain(name)?;
+        self.is_first = true;
+        self.put(b":")
+    }
+
+    fn custom(&self, _message: &str) -> AllocError {
+        AllocError
+    }
+}
+
+/// A value as JSON.
+pub(crate) fn to_vec<T: Serialize>(value: &T) -> Result<Vec<u8>, AllocError> {
+    let mut text = Text { bytes: Vec::new(), is_first: true };
+    value.serialize(&mut text)?;
+    Ok(text.bytes)
+}
