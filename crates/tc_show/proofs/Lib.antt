@@ -1,3 +1,4 @@
 mod Clean
 mod Puts
 mod Progress
+mod ByCodec

@@ -174,10 +174,10 @@ located_events offset path = number_if (codes "offset") offset ++ text_if (codes
 
 -- what the kernel says of it: the name of the error, a text, and the place
 abbrev pub said_events : Option (List ℕ) → Option ℕ → Option (List ℕ) → List Event
-said_events text offset path = text_if (codes "text") text ++ located_events offset path
+said_events said offset path = text_if (codes "text") said ++ located_events offset path
 
 abbrev pub error_events : List ℕ → Option (List ℕ) → Option ℕ → Option (List ℕ) → List Event
-error_events errno text offset path = text_field (codes "errno") errno ++ said_events text offset path
+error_events errno said offset path = text_field (codes "errno") errno ++ said_events said offset path
 
 -- an answer of the kernel with this header to a request, after its origin, which is the request's
 abbrev pub answer_events : List Event → Bool → Message → List Event
@@ -189,5 +189,5 @@ answered_events time h error capped m = object (origin_events time m.origin (Som
 -- its line
 unfoldable pub IsAnswered : Header → List ℕ → Bool → Message → List ℕ → Type 0
 IsAnswered h errno capped m line =
-    (time : Option (List ℕ)) × (text : Option (List ℕ)) × (offset : Option ℕ) × (path : Option (List ℕ))
-    × IsTextOf (Some (answered_events time h (error_events errno text offset path) capped m)) line
+    (time : Option (List ℕ)) × (said : Option (List ℕ)) × (offset : Option ℕ) × (path : Option (List ℕ))
+    × IsTextOf (Some (answered_events time h (error_events errno said offset path) capped m)) line

@@ -26,7 +26,6 @@ pub(crate) struct Line {
 }
 
 /// The line of a message.
-#[tactic(auto, unfolding(crate::specs::Codecs::IsLineOf, crate::specs::Codecs::is_refused))]
 pub(crate) fn line_of<A: Allocator + Copy>(
     alloc: A,
     json: Global,
