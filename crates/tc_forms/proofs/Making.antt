@@ -192,26 +192,12 @@ plain_in_form table Made k (form.Indexed i) d r a t l m o x c = absurd (x i refl
 plain_in_form table Made k (form.Choice i) d r a t l m o x c = absurd (c i refl)
 plain_in_form table Made k f d r a t l m o x c = refl
 
--- a frame, part by part
-pub framed_so : (value pad : List ℕ) (word : ℕ)
-    → le_bytes 2 (length value + 4) ++ (le_bytes 2 word ++ (value ++ pad)) ≡ frame_bytes (record { word = word; value = value; pad = pad })
-unfolding header
-framed_so value pad word =
-    ap (λ n. le_bytes 2 n ++ (le_bytes 2 word ++ (value ++ pad))) (omega arith)
-    ∙ sym (append_assoc (le_bytes 2 (4 + length value)) (le_bytes 2 word) (value ++ pad))
-
 -- bytes, and then what may fail
 pub then_maybe : {T : Type 0} (a : List ℕ) (x : Option (List ℕ)) (old mid new : List ℕ) (r : Result T Stop) → Some (old ++ a) ≡ Some mid → Appended x mid new r
     → Appended (option_map (λ b. a ++ b) x) old new r
 then_maybe a (Some b) old mid new r first second = then_appended a b old mid new r first second
 then_maybe a None old mid new (Ok u) first second = absurd (none_not_some new second)
 then_maybe a None old mid new (Err e) first second = λ not. refl
-
-pub framed_maybe : (value : List ℕ) (word : ℕ) (x : Option (List ℕ))
-    → option_map (λ b. le_bytes 2 (length value + 4) ++ b) (option_map (λ b. le_bytes 2 word ++ b) (option_map (λ b. value ++ b) x))
-    ≡ option_map (λ pad. frame_bytes (record { word = word; value = value; pad = pad })) x
-framed_maybe value word None = refl
-framed_maybe value word (Some pad) = ap Some (framed_so value pad word)
 
 pub not_some : {X : Type 0} (o : Option X) → ((x : X) → o ≡ Some x → ⊥) → o ≡ None
 not_some None h = refl

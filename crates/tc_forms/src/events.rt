@@ -2,7 +2,7 @@
 
 ghost use Rattle.serde.specs.Event.{Logs, boolean, field_key, map_begins, map_ends, seq_begins, seq_ends, signed, text, unsigned};
 ghost use Rattle.serde.specs.declared.name.Case.TheVariants.{AsIs};
-ghost use Rattle.std.specs.Prelude.{None, OnOk};
+ghost use Rattle.std.specs.Prelude.{IsOk, None, OnOk};
 
 use serde::Serializer;
 
@@ -13,14 +13,12 @@ pub(crate) enum Stopped {
     Failed,
 }
 
-/// An object begins.
-pub(crate) fn begin_map<S: Serializer>(
-    out: &mut S,
-    error: &mut Option<S::Error>,
-) -> Result<(), Stopped>
-    ensures { OnOk result (Logs (S.written out.old) (S.written out.new) (map_begins None)) }
+// Sets the error of a step aside.
+#[inline(always)]
+fn step<E: Drop>(sent: Result<(), E>, error: &mut Option<E>) -> Result<(), Stopped>
+    ensures { IsOk result → IsOk sent }
 {
-    match out.begin_map(None) {
+    match sent {
         Ok(()) => Ok(()),
         Err(e) => {
             *error = Some(e);
@@ -29,20 +27,24 @@ pub(crate) fn begin_map<S: Serializer>(
     }
 }
 
+/// An object begins.
+pub(crate) fn begin_map<S: Serializer>(
+    out: &mut S,
+    error: &mut Option<S::Error>,
+) -> Result<(), Stopped>
+    ensures { OnOk result (Logs (S.written out.old) (S.written out.new) (map_begins None)) }
+{
+    step(out.begin_map(None), error)
+}
+
 /// An object ends.
 pub(crate) fn end_map<S: Serializer>(
     out: &mut S,
     error: &mut Option<S::Error>,
 ) -> Result<(), Stopped>
-    ensures { OnOk result (Logs (S.written out.old) (S.written out.new) (map_ends)) }
+    ensures { OnOk result (Logs (S.written out.old) (S.written out.new) map_ends) }
 {
-    match out.end_map() {
-        Ok(()) => Ok(()),
-        Err(e) => {
-            *error = Some(e);
-            Err(Stopped::Failed)
-        }
-    }
+    step(out.end_map(), error)
 }
 
 /// A list begins.
@@ -52,13 +54,7 @@ pub(crate) fn begin_seq<S: Serializer>(
 ) -> Result<(), Stopped>
     ensures { OnOk result (Logs (S.written out.old) (S.written out.new) (seq_begins None)) }
 {
-    match out.begin_seq(None) {
-        Ok(()) => Ok(()),
-        Err(e) => {
-            *error = Some(e);
-            Err(Stopped::Failed)
-        }
-    }
+    step(out.begin_seq(None), error)
 }
 
 /// A list ends.
@@ -66,15 +62,9 @@ pub(crate) fn end_seq<S: Serializer>(
     out: &mut S,
     error: &mut Option<S::Error>,
 ) -> Result<(), Stopped>
-    ensures { OnOk result (Logs (S.written out.old) (S.written out.new) (seq_ends)) }
+    ensures { OnOk result (Logs (S.written out.old) (S.written out.new) seq_ends) }
 {
-    match out.end_seq() {
-        Ok(()) => Ok(()),
-        Err(e) => {
-            *error = Some(e);
-            Err(Stopped::Failed)
-        }
-    }
+    step(out.end_seq(), error)
 }
 
 /// The name of a member.
@@ -85,13 +75,7 @@ pub(crate) fn key<S: Serializer>(
 ) -> Result<(), Stopped>
     ensures { OnOk result (Logs (S.written out.old) (S.written out.new) (field_key name.now AsIs)) }
 {
-    match out.key(name) {
-        Ok(()) => Ok(()),
-        Err(e) => {
-            *error = Some(e);
-            Err(Stopped::Failed)
-        }
-    }
+    step(out.key(name), error)
 }
 
 /// A text.
@@ -102,13 +86,7 @@ pub(crate) fn string<S: Serializer>(
 ) -> Result<(), Stopped>
     ensures { OnOk result (Logs (S.written out.old) (S.written out.new) (text value.now)) }
 {
-    match out.str(value) {
-        Ok(()) => Ok(()),
-        Err(e) => {
-            *error = Some(e);
-            Err(Stopped::Failed)
-        }
-    }
+    step(out.str(value), error)
 }
 
 /// `true` or `false`.
@@ -119,13 +97,7 @@ pub(crate) fn truth<S: Serializer>(
 ) -> Result<(), Stopped>
     ensures { OnOk result (Logs (S.written out.old) (S.written out.new) (boolean value)) }
 {
-    match out.bool(value) {
-        Ok(()) => Ok(()),
-        Err(e) => {
-            *error = Some(e);
-            Err(Stopped::Failed)
-        }
-    }
+    step(out.bool(value), error)
 }
 
 /// A number.
@@ -136,13 +108,7 @@ pub(crate) fn unsigned<S: Serializer>(
 ) -> Result<(), Stopped>
     ensures { OnOk result (Logs (S.written out.old) (S.written out.new) (unsigned value)) }
 {
-    match out.u64(value) {
-        Ok(()) => Ok(()),
-        Err(e) => {
-            *error = Some(e);
-            Err(Stopped::Failed)
-        }
-    }
+    step(out.u64(value), error)
 }
 
 /// A number that may be negative.
@@ -153,11 +119,5 @@ pub(crate) fn signed<S: Serializer>(
 ) -> Result<(), Stopped>
     ensures { OnOk result (Logs (S.written out.old) (S.written out.new) (signed value)) }
 {
-    match out.i64(value) {
-        Ok(()) => Ok(()),
-        Err(e) => {
-            *error = Some(e);
-            Err(Stopped::Failed)
-        }
-    }
+    step(out.i64(value), error)
 }

@@ -188,33 +188,15 @@ fn make_each_of_elements<'v, T: Tables>(
     ensures { Appended (each_made (make (T.parts_of table) depth kind.now form) (items_view items.now)) maker.old.bytes.items maker.new.bytes.items result }
 {
     for (place, item) in items.iter().enumerate() {
-        match make_element(maker, table, depth, kind, form, place, item) {
+        match make_form(maker, table, depth, kind, form, item) {
             Ok(()) => {}
-            Err(e) => return Err(e),
+            Err(e) => {
+                maker.at(Step::Item(place));
+                return Err(e);
+            }
         }
     }
     Ok(())
-}
-
-#[cycle(make)]
-fn make_element<'v, T: Tables>(
-    maker: &mut Maker<'v>,
-    table: T,
-    depth: u8,
-    kind: &'v str,
-    form: Form,
-    place: usize,
-    value: &'v Value,
-) -> Result<(), Stop>
-    ensures { Appended (make (T.parts_of table) depth kind.now form (view value.now)) maker.old.bytes.items maker.new.bytes.items result }
-{
-    match make_form(maker, table, depth, kind, form, value) {
-        Ok(()) => Ok(()),
-        Err(e) => {
-            maker.at(Step::Item(place));
-            Err(e)
-        }
-    }
 }
 
 #[cycle(make)]
@@ -260,41 +242,20 @@ fn make_each_of_list<'v, T: Tables>(
     ensures { Appended (each_under (layered_by (make (T.parts_of table) depth) (rows_in rows.now) has layer.now) false kind.now (items_view items.now)) maker.old.bytes.items maker.new.bytes.items result }
 {
     for (place, item) in items.iter().enumerate() {
-        match make_item(maker, table, depth, kind, has, layer, rows, place, item) {
+        match make_item(maker, table, depth, kind, has, layer, rows, item) {
             Ok(()) => {}
-            Err(e) => return Err(e),
+            Err(e) => {
+                maker.at(Step::Item(place));
+                return Err(e);
+            }
         }
     }
     Ok(())
 }
 
-// An item of a list, at a place of it.
-#[cycle(make)]
-fn make_item<'v, T: Tables>(
-    maker: &mut Maker<'v>,
-    table: T,
-    depth: u8,
-    kind: &'v str,
-    has: bool,
-    layer: &'static str,
-    rows: &RowList<'static>,
-    place: usize,
-    value: &'v Value,
-) -> Result<(), Stop>
-    ensures { Appended (or_raw (raw_of (view value.now)) (layered_by (make (T.parts_of table) depth) (rows_in rows.now) has layer.now kind.now (view value.now))) maker.old.bytes.items maker.new.bytes.items result }
-{
-    match make_layered(maker, table, depth, kind, has, layer, rows, value) {
-        Ok(()) => Ok(()),
-        Err(e) => {
-            maker.at(Step::Item(place));
-            Err(e)
-        }
-    }
-}
-
 // An attribute in its layer, or raw bytes.
 #[cycle(make)]
-fn make_layered<'v, T: Tables>(
+fn make_item<'v, T: Tables>(
     maker: &mut Maker<'v>,
     table: T,
     depth: u8,
@@ -437,9 +398,12 @@ fn make_each_of_kinded<'v, T: Tables>(
     for (place, item) in items.iter().enumerate() {
         rows = rows_behind(table, list, item, so_far, &rows);
         so_far = kind_behind(item, so_far);
-        match make_kinded(maker, table, depth, so_far, &rows, place, item) {
+        match make_kinded(maker, table, depth, so_far, &rows, item) {
             Ok(()) => {}
-            Err(e) => return Err(e),
+            Err(e) => {
+                maker.at(Step::Item(place));
+                return Err(e);
+            }
         }
     }
     Ok(())
@@ -447,27 +411,6 @@ fn make_each_of_kinded<'v, T: Tables>(
 
 #[cycle(make)]
 fn make_kinded<'v, T: Tables>(
-    maker: &mut Maker<'v>,
-    table: T,
-    depth: u8,
-    kind: &'v str,
-    rows: &RowList<'static>,
-    place: usize,
-    value: &'v Value,
-) -> Result<(), Stop>
-    ensures { Appended (or_raw (raw_of (view value.now)) (attribute_made (make (T.parts_of table) depth) (rows_in rows.now) true kind.now (view value.now))) maker.old.bytes.items maker.new.bytes.items result }
-{
-    match make_raw_or_kinded(maker, table, depth, kind, rows, value) {
-        Ok(()) => Ok(()),
-        Err(e) => {
-            maker.at(Step::Item(place));
-            Err(e)
-        }
-    }
-}
-
-#[cycle(make)]
-fn make_raw_or_kinded<'v, T: Tables>(
     maker: &mut Maker<'v>,
     table: T,
     depth: u8,
@@ -674,9 +617,12 @@ fn make_each_of_indexed<'v, T: Tables>(
     ensures { Appended (each_under (indexed_made (T.parts_of table) (make (T.parts_of table) depth) list) false kind.now (items_view items.now)) maker.old.bytes.items maker.new.bytes.items result }
 {
     for (place, item) in items.iter().enumerate() {
-        match make_one_indexed(maker, table, depth, kind, list, place, item) {
+        match make_one_indexed(maker, table, depth, kind, list, item) {
             Ok(()) => {}
-            Err(e) => return Err(e),
+            Err(e) => {
+                maker.at(Step::Item(place));
+                return Err(e);
+            }
         }
     }
     Ok(())
@@ -684,27 +630,6 @@ fn make_each_of_indexed<'v, T: Tables>(
 
 #[cycle(make)]
 fn make_one_indexed<'v, T: Tables>(
-    maker: &mut Maker<'v>,
-    table: T,
-    depth: u8,
-    kind: &'v str,
-    list: usize,
-    place: usize,
-    value: &'v Value,
-) -> Result<(), Stop>
-    ensures { Appended (or_raw (raw_of (view value.now)) (indexed_made (T.parts_of table) (make (T.parts_of table) depth) list kind.now (view value.now))) maker.old.bytes.items maker.new.bytes.items result }
-{
-    match make_raw_or_framed(maker, table, depth, kind, list, value) {
-        Ok(()) => Ok(()),
-        Err(e) => {
-            maker.at(Step::Item(place));
-            Err(e)
-        }
-    }
-}
-
-#[cycle(make)]
-fn make_raw_or_framed<'v, T: Tables>(
     maker: &mut Maker<'v>,
     table: T,
     depth: u8,

@@ -36,7 +36,7 @@ make_each_of_elements-loop-place-preserved g t c =
     let now = c.loop-place.maker.bytes.items in
     let left = ap (option_map (λ b. now ++ b)) (sym (items_here One vs i c.index-items-place.result c.loop-place-test.true c.index-items-place.is)) ∙ c.loop-place.invariant in
     joined_more (One (view c.index-items-place.result)) (each_made One (items_view (drop (i + 1) vs))) (each_made One (items_view vs)) c.args.maker.now.bytes.items now
-    c.make_element.new.maker.bytes.items left c.in-Ok.ensures
+    c.make_form.new.maker.bytes.items left c.in-Ok.ensures
 
 pub make_each_of_elements-returns-in-Err : goal.make_each_of_elements-returns-in-Err
 make_each_of_elements-returns-in-Err g t c =
@@ -289,8 +289,8 @@ make_list-returns g t c =
     c.make_each_of_list.result (ap (λ vs. Some (items_view vs)) c.as_slice.ensures.value ∙ c.in-Some.ensures) c.layer_at-layer.ensures c.rows_under-rows.ensures
     c.make_each_of_list.ensures
 
-pub make_raw_or_framed-returns : goal.make_raw_or_framed-returns
-make_raw_or_framed-returns g t c =
+pub make_one_indexed-returns : goal.make_one_indexed-returns
+make_one_indexed-returns g t c =
     let table = g.T.Tables.parts_of c.args.table in
     let Made = make table c.args.depth in
     let k = c.args.kind.now in

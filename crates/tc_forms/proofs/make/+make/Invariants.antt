@@ -21,9 +21,6 @@ decreases-make_field g l = 12 * l.depth + 1
 abbrev pub decreases-make_fields : goal.decreases-make_fields
 decreases-make_fields g l = 12 * l.depth + 2
 
-abbrev pub decreases-make_element : goal.decreases-make_element
-decreases-make_element g l = 12 * l.depth + 1
-
 abbrev pub decreases-make_each_of_elements : goal.decreases-make_each_of_elements
 decreases-make_each_of_elements g l = 12 * l.depth + 2
 
@@ -57,11 +54,8 @@ decreases-make_named_layer g l = 12 * l.depth + 7
 abbrev pub decreases-make_any_layered : goal.decreases-make_any_layered
 decreases-make_any_layered g l = 12 * l.depth + 7
 
-abbrev pub decreases-make_layered : goal.decreases-make_layered
-decreases-make_layered g l = 12 * l.depth + 8
-
 abbrev pub decreases-make_item : goal.decreases-make_item
-decreases-make_item g l = 12 * l.depth + 9
+decreases-make_item g l = 12 * l.depth + 8
 
 abbrev pub decreases-make_each_of_list : goal.decreases-make_each_of_list
 decreases-make_each_of_list g l = 12 * l.depth + 10
@@ -72,11 +66,8 @@ decreases-make_list g l = 12 * l.depth + 11
 abbrev pub decreases-make_own : goal.decreases-make_own
 decreases-make_own g l = 12 * l.depth + 11
 
-abbrev pub decreases-make_raw_or_kinded : goal.decreases-make_raw_or_kinded
-decreases-make_raw_or_kinded g l = 12 * l.depth + 7
-
 abbrev pub decreases-make_kinded : goal.decreases-make_kinded
-decreases-make_kinded g l = 12 * l.depth + 8
+decreases-make_kinded g l = 12 * l.depth + 7
 
 abbrev pub decreases-make_each_of_kinded : goal.decreases-make_each_of_kinded
 decreases-make_each_of_kinded g l = 12 * l.depth + 9
@@ -87,11 +78,8 @@ decreases-make_in_force g l = 12 * l.depth + 10
 abbrev pub decreases-make_framed : goal.decreases-make_framed
 decreases-make_framed g l = 12 * l.depth + 2
 
-abbrev pub decreases-make_raw_or_framed : goal.decreases-make_raw_or_framed
-decreases-make_raw_or_framed g l = 12 * l.depth + 3
-
 abbrev pub decreases-make_one_indexed : goal.decreases-make_one_indexed
-decreases-make_one_indexed g l = 12 * l.depth + 4
+decreases-make_one_indexed g l = 12 * l.depth + 3
 
 abbrev pub decreases-make_each_of_indexed : goal.decreases-make_each_of_indexed
 decreases-make_each_of_indexed g l = 12 * l.depth + 5
