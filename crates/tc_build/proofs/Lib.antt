@@ -1,3 +1,0 @@
-mod Alike
-mod Made
-mod Unread

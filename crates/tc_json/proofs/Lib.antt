@@ -1,3 +1,0 @@
-pub mod Sends
-pub mod Rows
-pub mod ClassStatistics

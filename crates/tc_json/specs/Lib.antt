@@ -1,4 +1,0 @@
-pub mod Sent
-pub mod Records
-pub mod Events
-pub mod Rows

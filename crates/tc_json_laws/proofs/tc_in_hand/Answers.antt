@@ -1,4 +1,0 @@
-use Rattle.tc_json_laws.proofs.tc_in_hand.Goals as goal
-
-pub returns : goal.returns
-returns g c = record { header = c.header_in_hand.ensures; body = rw c.deref.ensures.value at c.list_in_hand.ensures }

@@ -1,4 +1,0 @@
-pub mod Apart
-pub mod Exact
-pub mod Injective
-pub mod Tree
