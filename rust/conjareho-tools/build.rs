@@ -15,11 +15,11 @@ const PROGRAMS: &[&str] = &[
     "tc_kinds",
     "tc_outline",
     "tc_streams",
-    "tc_report",
-    "tc_show",
+    "tcrewrite_lib",
+    "tcshow_lib",
     "tc_order",
     "tc_plan",
-    "tc_make",
+    "tcmake_lib",
 ];
 
 /// Modules for which `shims/strict.rs` stands.

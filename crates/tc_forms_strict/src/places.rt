@@ -21,7 +21,12 @@ impl fmt::Display for Difference {
         if !self.path.is_empty() {
             write!(f, "{}: ", self.path)?;
         }
-        write!(f, "found {}, wanted {}", text_or_nothing(&self.found), text_or_nothing(&self.wanted))
+        write!(
+            f,
+            "found {}, wanted {}",
+            text_or_nothing(&self.found),
+            text_or_nothing(&self.wanted)
+        )
     }
 }
 

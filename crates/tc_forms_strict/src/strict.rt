@@ -6,8 +6,8 @@ ghost use Rattle.serde_json.specs.View.{view};
 ghost use Rattle.tc_forms.specs.Made.{made_of};
 ghost use Rattle.tc_forms_strict.specs.Strict.{IsMemory, json_of};
 
-use crate::places::first_difference;
 use crate::error::StrictError;
+use crate::places::first_difference;
 use crate::same::is_same;
 use serde_json::{Value, to_value};
 use std::alloc::{AllocError, Global};

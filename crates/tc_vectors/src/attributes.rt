@@ -2,8 +2,8 @@
 
 use crate::worked::{are_read, are_refused};
 use std::test::Fail;
-use tc_test_calls::{read_attribute, see_attribute};
 use tc_wire::TcAttribute;
+use tests_calls::{read_attribute, see_attribute};
 
 #[test]
 fn presence_is_written_whatever_it_says(rt: HostRuntime) -> Result<(), Fail> {

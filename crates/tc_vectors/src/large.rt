@@ -4,11 +4,11 @@
 use crate::worked::{NO_HEADER, shown_action, shown_tc};
 use std::alloc::{AllocError, Global};
 use std::test::Fail;
-use tc_test_calls::{Seen, read_action, read_tc};
-use tc_test_messages::{
+use tc_wire::settle_action;
+use tests_calls::{Seen, read_action, read_tc};
+use tests_messages::{
     Expected, MANY_ATTRIBUTES, MANY_KEYS, MANY_LETTERS, MANY_NULS, Row, large_messages,
 };
-use tc_wire::settle_action;
 
 /// A text so many times.
 fn repeated(alloc: Global, text: &str, count: usize) -> Result<String, AllocError> {

@@ -5,9 +5,9 @@ use nla_frames::DefaultNla;
 use std::alloc::{AllocError, Global};
 use std::test::Fail;
 use tc_canon::is_canonical_tc;
-use tc_test_calls::{read_tc, see_tc};
-use tc_test_messages::{Form, too_long};
 use tc_wire::{TcAttribute, TcMessage, TcOption, TcQdiscFqCodelOption, TcQdiscIngressOption};
+use tests_calls::{read_tc, see_tc};
+use tests_messages::{Form, too_long};
 
 /// An attribute of an unknown type with so many bytes.
 fn long(alloc: Global, length: usize) -> Result<DefaultNla, AllocError> {

@@ -6,8 +6,8 @@ use nla_frames::DecodeError;
 use std::alloc::{AllocError, Global};
 use std::test::Fail;
 use tc_canon::is_canonical_tc;
-use tc_test_messages::{Form, too_long};
 use tc_wire::{RewriteError, rewrite_action, rewrite_tc, settle_action, settle_tc};
+use tests_messages::{Form, too_long};
 
 fn is_rewritten(alloc: Global, row: &str) -> Result<bool, Fail> {
     let Some((frames, _, written)) = cells(row) else {

@@ -6,8 +6,8 @@ use crate::worked::{ACTION_FAULTS, ACTIONS, ACTIONS_UNSETTLED};
 use std::alloc::Global;
 use std::test::Fail;
 use tc_canon::is_canonical_action;
-use tc_test_messages::{Form, too_long};
 use tc_wire::{RewriteError, rewrite_action, settle_action};
+use tests_messages::{Form, too_long};
 
 /// Action messages with warnings in hex, what they are settled as, and after how many rewrites.
 #[rattlefmt::skip]

@@ -12,8 +12,8 @@ use tc_options::TcFilterU32Option;
 use tc_records::{
     TcActionMessageHeader, TcActionType, TcHeader, TcMirror, TcMirrorActionType, TcNat, TcTunnelKey,
 };
-use tc_test_calls::{Seen, see_action, see_attribute, see_option, see_tc};
 use tc_wire::{TcAttribute, TcMessage, TcOption, TcQdiscFqCodelOption};
+use tests_calls::{Seen, see_action, see_attribute, see_option, see_tc};
 
 // A frame of fq_codel's limit, 5 packets.
 const LIMIT: [u8; 8] = [8, 0, 2, 0, 5, 0, 0, 0];

@@ -9,8 +9,8 @@ use std::alloc::{AllocError, Allocator, Global};
 use std::test::Fail;
 use tc_options::{TcOption, TcQdiscFqCodelOption};
 use tc_records::TcHeader;
-use tc_test_calls::see_tc;
 use tc_wire::{TcAttribute, TcMessage};
+use tests_calls::see_tc;
 
 /// A kind, empty for none, the other options after it, each a word and its value, and what the attributes are upgraded to.
 type Row = (&'static str, &'static [(u16, &'static [u8])], &'static str);

@@ -3,8 +3,8 @@
 
 use std::process::ExitCode;
 use tc_kinds::{ACTION_MESSAGE, TC_MESSAGE, TcTables};
-use tc_roundtrip::mode::Messages;
-use tc_roundtrip::program::tcforms;
+use tcforms_lib::mode::Messages;
+use tcforms_lib::program::tcforms;
 
 fn main(rt: HostRuntime) -> ExitCode {
     let messages = Messages {

@@ -3,8 +3,8 @@
 
 use std::process::ExitCode;
 use tc_kinds::{ACTION_MESSAGE, TC_MESSAGE, TcTables};
-use tc_make::message::Forms;
-use tc_make::program::tcmake;
+use tcmake_lib::message::Forms;
+use tcmake_lib::program::tcmake;
 
 fn main(rt: HostRuntime) -> ExitCode {
     let forms = Forms {

@@ -2,7 +2,7 @@
 #![tactic(auto)]
 
 use std::process::ExitCode;
-use tc_report::program::tcrewrite;
+use tcrewrite_lib::program::tcrewrite;
 
 fn main(rt: HostRuntime) -> ExitCode {
     tcrewrite(&rt, &mut rt.stderr())

@@ -2,7 +2,7 @@
 #![tactic(auto)]
 
 use std::process::ExitCode;
-use tc_show::program::tcshow;
+use tcshow_lib::program::tcshow;
 
 fn main(rt: HostRuntime) -> ExitCode {
     tcshow(&rt, &mut rt.stderr())

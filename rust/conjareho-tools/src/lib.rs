@@ -34,20 +34,20 @@ include!(concat!(env!("OUT_DIR"), "/programs.rs"));
 use host::HostRuntime;
 use std::process::ExitCode;
 use tc_kinds::{ACTION_MESSAGE, TC_MESSAGE, TcTables};
-use tc_make::message::Forms;
+use tcmake_lib::message::Forms;
 
 /// Shows the traffic control messages of a capture, or of lines of hex.
 pub fn tcshow() -> ExitCode {
-    tc_show::program::tcshow(&HostRuntime, &mut HostRuntime.stderr())
+    tcshow_lib::program::tcshow(&HostRuntime, &mut HostRuntime.stderr())
 }
 
 /// Makes traffic control messages of JSON.
 pub fn tcmake() -> ExitCode {
     let forms = Forms { table: TcTables, tc: TC_MESSAGE, action: ACTION_MESSAGE };
-    tc_make::program::tcmake(&HostRuntime, forms, &mut HostRuntime.stderr())
+    tcmake_lib::program::tcmake(&HostRuntime, forms, &mut HostRuntime.stderr())
 }
 
 /// Reads a traffic control message as hex text, and reports on it.
 pub fn tcrewrite() -> ExitCode {
-    tc_report::program::tcrewrite(&HostRuntime, &mut HostRuntime.stderr())
+    tcrewrite_lib::program::tcrewrite(&HostRuntime, &mut HostRuntime.stderr())
 }

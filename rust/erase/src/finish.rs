@@ -8,7 +8,7 @@ use crate::{Fault, Source, duties, fault};
 
 /// A file in Rust. Tests and programs have more rules.
 pub(crate) fn finished(file: &Source, crates: &[&str], is_user: bool) -> Result<String, Fault> {
-    let own = if file.path[0] == "tc_show" { SHOW_RULES } else { &[] };
+    let own = if file.path[0] == "tcshow_lib" { SHOW_RULES } else { &[] };
     let more = own.iter().chain(if is_user { USER_RULES } else { &[] });
     let is_lost = |path: &[&str]| LOST_IMPORTS.contains(&path.join("::").as_str()) || path.last().is_some_and(|name| LOST_IMPORTS.contains(name));
     let mut all = duties::checked(without_imports(&file.tokens, &is_lost))?;

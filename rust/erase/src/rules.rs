@@ -179,7 +179,7 @@ pub(crate) const USER_RULES: &[Rule] = &[
     ("Page < B >", "Page"),
 ];
 
-/// Rules of `tc_show`, before those of programs: it has a second allocator.
+/// Rules of `tcshow_lib`, before those of programs: it has a second allocator.
 pub(crate) const SHOW_RULES: &[Rule] = &[
     ("pub ( crate ) json : Global ,", ""),
     ("json : Global ,", ""),

@@ -9,28 +9,28 @@ include!("../../conjareho/crates.rs");
 
 /// The crates of tests, and those of forms. Those of refused memory are left out: `rust/tests/refusals` does the same for the erased codec.
 const TESTS: &[&str] = &[
-    "tc_test_messages",
-    "tc_test_captures",
-    "tc_test_calls",
-    "tc_parts_tests",
+    "tests_messages",
+    "tests_captures",
+    "tests_calls",
+    "tests_parts",
     "tc_vectors",
-    "tc_texts_tests",
-    "tc_capture_tests",
+    "tests_texts",
+    "tests_capture",
     "tc_forms",
     "tc_forms_text",
     "tc_kinds",
-    "tc_forms_tests",
+    "tests_forms",
 ];
 
 /// Tests of how large Rattle's values are, of refused memory, of random bytes, and of lines of a program; and what `shims/strict.rs`
 /// stands for. Where a text isn't JSON, `serde_json` says another column than Rattle's.
 const OMITTED: &[&str] = &[
     "tc_vectors::sizes",
-    "tc_parts_tests::refusals",
-    "tc_forms_tests::random",
-    "tc_forms_tests::lines",
-    "tc_forms_tests::wrong::texts",
-    "tc_forms_tests::wrong::a_thousand_levels",
+    "tests_parts::refusals",
+    "tests_forms::random",
+    "tests_forms::lines",
+    "tests_forms::wrong::texts",
+    "tests_forms::wrong::a_thousand_levels",
     "tc_forms_text::read",
     "tc_forms_text::repeated",
 ];

@@ -3,7 +3,7 @@
 use crate::tables::{bytes_of, cells, rows};
 use std::alloc::Global;
 use std::test::Fail;
-use tc_test_calls::read_attribute;
+use tests_calls::read_attribute;
 
 // In each table: a kind, a frame in hex, and the attribute that it is read as under the kind.
 

@@ -8,7 +8,7 @@ use tc_options::{
     TcFilterBpfOption, TcFilterMatchAllOption, TcFilterU32Option, TcQdiscFqCodelOption,
     TcQdiscIngressOption,
 };
-use tc_test_calls::{is_option_settled, read_option};
+use tests_calls::{is_option_settled, read_option};
 
 // In each table: a frame in hex, what it is read as, and what is written of that, where it isn't the same.
 

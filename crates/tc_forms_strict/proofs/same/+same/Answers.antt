@@ -6,6 +6,6 @@ pub same_items-returns-then-len : goal.same_items-returns-then-len
 same_items-returns-then-len t c = (
   λ e. cc,
   λ same.
-  let e : length c.args.one.now.items ≡ length c.args.other.now.items = same_length c.args.one.now.items c.args.other.now.items same in
-  absurd (omega arith),
+      let e : length c.args.one.now.items ≡ length c.args.other.now.items = same_length c.args.one.now.items c.args.other.now.items same in
+      absurd (omega arith),
 )

@@ -1,8 +1,0 @@
-use Rattle.tc_report.proofs.Reports.{some_report, one_report}
-use Rattle.tc_report.proofs.laws.one_report.Goals as goal
-
-pub returns-clause-some : goal.returns-clause-some
-returns-clause-some c = some_report c.args.mode c.args.text.now
-
-pub returns-clause-only : goal.returns-clause-only
-returns-clause-only c = one_report c.args.mode c.args.text.now

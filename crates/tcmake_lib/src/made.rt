@@ -1,0 +1,80 @@
+//! A message of a line.
+
+ghost use Rattle.std.specs.Prelude.{IfOk};
+ghost use Rattle.serde_json.specs.View.{view};
+ghost use Rattle.tcmake_lib.specs.Answer.{IsMessage};
+ghost use Rattle.tcmake_lib.specs.Line.{IsGiven, message_in};
+ghost use Rattle.tcmake_lib.specs.Made.{IsMade, form_of};
+
+use crate::arguments::Making;
+use crate::complaint::Complaint;
+use crate::given::{Given, given_of};
+use crate::message::{Forms, message_of};
+use serde_json::Value;
+use std::alloc::Global;
+use tc_forms::Tables;
+use tc_forms_strict::Difference;
+use tc_forms_text::{ReadError, read_json};
+
+/// A message, and what a line says of it.
+#[derive(Drop)]
+pub(crate) struct Made {
+    pub(crate) given: Given,
+    pub(crate) bytes: Vec<u8>,
+    /// The places that settling changed.
+    pub(crate) settled: Vec<Difference>,
+}
+
+/// The message of a line.
+pub(crate) fn made_of<T: Tables>(
+    alloc: Global,
+    forms: Forms<T>,
+    line: &[u8],
+    making: Making,
+) -> Result<Made, Complaint>
+    // Number, time, flags and message type are the line's.
+    ensures { IfOk result (λ made. IsMessage (T.parts_of forms.table) forms.tc forms.action making line.now made.given made.bytes.items) }
+{
+    let json = match read_json(alloc, line) {
+        Ok(json) => json,
+        Err(error) => return Err(unread(error, line)),
+    };
+    made_of_json(alloc, forms, &json, making)
+}
+
+fn made_of_json<T: Tables>(
+    alloc: Global,
+    forms: Forms<T>,
+    json: &Value,
+    making: Making,
+) -> Result<Made, Complaint>
+    ensures given { IfOk result (λ made. IsGiven (view json.now) made.given) }
+    ensures made { IfOk result (λ made. IsMade (T.parts_of forms.table) (form_of forms.tc forms.action made.given.holds) making made.given.holds
+        (view json.now) (message_in (view json.now)) made.bytes.items) }
+{
+    let given = given_of(alloc, json)?;
+    let message = match json.get("message") {
+        Some(message) => message_of(alloc, forms, making, given.holds, json, message)?,
+        None => message_of(alloc, forms, making, given.holds, json, json)?,
+    };
+    Ok(Made {
+        given,
+        bytes: message.bytes,
+        settled: message.settled,
+    })
+}
+
+// Why a line isn't read as JSON.
+fn unread(error: ReadError, line: &[u8]) -> Complaint {
+    match error {
+        ReadError::OutOfMemory => Complaint::NoMemory,
+        ReadError::NotJson { .. } if is_one_part(line) => Complaint::OnePart,
+        error => Complaint::Read(error),
+    }
+}
+
+// True of a line of JSON that is written on several lines: a bracket alone, or what is indented.
+fn is_one_part(line: &[u8]) -> bool {
+    matches!(line.trim_ascii(), b"{" | b"}" | b"}," | b"[" | b"]" | b"],")
+        || matches!(line, [b' ', b' ', ..] | [b'\t', ..])
+}

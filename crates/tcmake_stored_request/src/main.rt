@@ -1,0 +1,16 @@
+//! The program `tcmake` once more, for a stored run: with the argument `--request`, on dumps.
+#![tactic(auto)]
+
+use std::process::ExitCode;
+use tc_kinds::{ACTION_MESSAGE, TC_MESSAGE, TcTables};
+use tcmake_lib::message::Forms;
+use tcmake_lib::program::tcmake;
+
+fn main(rt: HostRuntime) -> ExitCode {
+    let forms = Forms {
+        table: TcTables,
+        tc: TC_MESSAGE,
+        action: ACTION_MESSAGE,
+    };
+    tcmake(&rt, forms, &mut rt.stderr())
+}

@@ -1,0 +1,98 @@
+//! A whole run: a text is read, and a report on it is written.
+
+ghost use Rattle.std.specs.Prelude.{◌≡◌, Err, IfOk, IfErr, IfSome};
+ghost use Rattle.std.specs.Io.KnownBytes.{Consumes};
+ghost use Rattle.tcrewrite_lib.specs.Answer.{report_of};
+ghost use Rattle.tcrewrite_lib.specs.Text.{looked_at};
+ghost use Rattle.tcrewrite_lib.specs.Report.{IsReport, no_memory};
+ghost use Rattle.tcrewrite_lib.specs.Run.{Reports, RunReports};
+
+use crate::answer::{Answer, answer_text};
+use crate::mode::Mode;
+use crate::patience::Patience;
+use crate::text::{TextError, read_text};
+use crate::writing::write_text;
+use std::alloc::Allocator;
+use std::io::{Read, Write};
+
+/// Why a run ended early.
+#[derive(Drop, PartialEq, Eq, Debug)]
+pub enum RunError {
+    /// The reader failed.
+    Read,
+
+    /// The writer failed.
+    Write,
+}
+
+// The report on what the reader gives.
+fn prepare<A: Allocator + Copy, R: Read>(
+    alloc: A,
+    mode: Mode,
+    reader: &mut R,
+    patience: &mut Patience,
+) -> Result<Answer<A>, TextError>
+    ensures { IfOk result (λ answer. IfSome (R.remaining reader.old) (λ all.
+        Consumes (R.remaining reader.old) (R.remaining reader.new) (looked_at all)
+        × IsReport mode (looked_at all) (report_of answer))) }
+{
+    let text = read_text(alloc, reader, patience)?;
+    Ok(answer_text(alloc, mode, text)?)
+}
+
+// Writes a report that is ready, and returns its status.
+fn finish<W: Write>(
+    writer: &mut W,
+    text: &str,
+    status: u8,
+    patience: &mut Patience,
+) -> Result<u8, RunError>
+    ensures written { IfOk result (λ s.
+        Reports (W.contents writer.old) (W.contents writer.new) s
+        (record { text = text.now; status = status })) }
+    ensures fault { IfErr result (λ e. e ≡ RunError.Write) }
+{
+    if write_text(writer, text, patience) {
+        Ok(status)
+    } else {
+        Err(RunError::Write)
+    }
+}
+
+// Writes that a growth was refused, and returns the status of that.
+fn finish_without_memory<W: Write>(writer: &mut W, patience: &mut Patience) -> Result<u8, RunError>
+    ensures written { IfOk result (λ status.
+        Reports (W.contents writer.old) (W.contents writer.new) status no_memory) }
+    ensures fault { IfErr result (λ e. e ≡ RunError.Write) }
+{
+    finish(writer, "refused OutOfMemory\n", 1, patience)
+}
+
+/// Reads a text, writes the report on it, and returns the exit status. No memory is asked for once it
+/// writes. A call that was interrupted is tried again, 1,024 times at most.
+pub fn run<A: Allocator + Copy, R: Read, W: Write>(
+    alloc: A,
+    mode: Mode,
+    reader: &mut R,
+    writer: &mut W,
+) -> Result<u8, RunError>
+    ensures report { IfOk result (λ status.
+        RunReports mode (R.remaining reader.old) (R.remaining reader.new)
+        (W.contents writer.old) (W.contents writer.new) status) }
+    ensures nothing_written { result ≡ Err RunError.Read → writer.new ≡ writer.old }
+{
+    let mut patience = Patience::new();
+    match prepare(alloc, mode, reader, &mut patience) {
+        Ok(answer) => finish(writer, answer.text.as_str(), answer.status, &mut patience),
+        Err(TextError::OutOfMemory) => finish_without_memory(writer, &mut patience),
+        Err(TextError::Fault) => Err(RunError::Read),
+    }
+}
+
+/// Writes that a growth was refused before there was a text, and returns the exit status.
+pub(crate) fn without_memory<W: Write>(writer: &mut W) -> Result<u8, RunError>
+    ensures { IfOk result (λ status.
+        Reports (W.contents writer.old) (W.contents writer.new) status no_memory) }
+{
+    finish_without_memory(writer, &mut Patience::new())
+}

@@ -1,9 +1,0 @@
-//! The program `tcshow` once more, for a stored run with each choice of messages and the names of interfaces.
-#![tactic(auto)]
-
-use std::process::ExitCode;
-use tc_show::program::tcshow;
-
-fn main(rt: HostRuntime) -> ExitCode {
-    tcshow(&rt, &mut rt.stderr())
-}

@@ -1,0 +1,15 @@
+use Rattle.std.proofs.lemmas.Result.{on_ok_weaker}
+use Rattle.tcshow_lib.proofs.Clean.{clean_step}
+use Rattle.tcshow_lib.proofs.Progress.{completes}
+use Rattle.tcshow_lib.proofs.run.show_and_write.Goals as goal
+
+pub returns-in-Ok-clause-clean : goal.returns-in-Ok-clause-clean
+returns-in-Ok-clause-clean g c = clean_step _ _ _ _ _ c.show.ensures.clean c.show.ensures.form c.write.ensures.clean
+
+pub returns-in-Err-clause-clean : goal.returns-in-Err-clause-clean
+returns-in-Err-clause-clean g c = clean_step _ _ _ _ _ c.show.ensures.clean c.show.ensures.form c.write-in-Err.ensures.clean
+
+pub returns-in-Ok-clause-ran : goal.returns-in-Ok-clause-ran
+returns-in-Ok-clause-ran g c =
+    let f = c.write.ensures.front in
+    on_ok_weaker c.write.result (λ none. completes _ _ _ _ _ _ f.0 c.in-Ok.ensures.ran f.1 none c.write.ensures.empty) f.2

@@ -1,0 +1,12 @@
+use Rattle.std.proofs.lemmas.Result.{on_ok_weaker}
+use Rattle.tcshow_lib.specs.Found.{header_view, message_view}
+use Rattle.tcshow_lib.specs.State.{state_of}
+use Rattle.tcshow_lib.proofs.Puts.{puts_answer}
+use Rattle.tcshow_lib.proofs.shower.Shower.put_reply.Goals as goal
+
+pub returns-clause-put : goal.returns-clause-put
+returns-clause-put g c =
+    on_ok_weaker c.show_reply.result
+    (λ x. puts_answer (header_view c.args.reply.now.header) c.args.reply.now.answer.is_capped (message_view c.args.reply.now.request) x.0 c.takes.result
+    (state_of c.args.self.now) (state_of c.show_reply.new.self) c.if-not-takes.false c.takes.ensures x.1 x.2)
+    c.show_reply.ensures.put

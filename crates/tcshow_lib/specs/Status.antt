@@ -1,0 +1,19 @@
+-- The exit status.
+use Rattle.std.specs.Prelude.{ℕ, Bool, true, false, Result, Ok, Err}
+use Rattle.tcshow_lib.specs.declared.status.Stop.{Stop}
+use Rattle.tcshow_lib.specs.declared.status.Stop.TheVariants.{NoCapture, NoRoute, Closed, Read, Write, NoMemory}
+
+-- 1 if something was refused
+abbrev pub refused_status : Bool → ℕ
+refused_status true = 1
+refused_status false = 0
+
+-- a stream that failed comes before an input without route netlink, and this before what was refused; a closed output ends a run as its input does
+abbrev pub status_of : {X : Type 0} → Result X Stop → Bool → ℕ
+status_of (Err Read) refused = 3
+status_of (Err Write) refused = 3
+status_of (Err NoMemory) refused = 3
+status_of (Err NoCapture) refused = 2
+status_of (Err NoRoute) refused = 2
+status_of (Err Closed) refused = refused_status refused
+status_of (Ok x) refused = refused_status refused

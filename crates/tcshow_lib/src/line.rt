@@ -1,0 +1,124 @@
+//! A message as a line of JSON.
+
+ghost use Rattle.std.specs.Prelude.{◌≡◌, IfOk, Some, None, [], is_some, true};
+ghost use Rattle.serde.specs.Event.{Log};
+ghost use Rattle.serde_json.specs.Sent.{IsTextOf};
+ghost use Rattle.tcshow_lib.specs.Codecs.{IsLineOf, is_refused, is_fault};
+ghost use Rattle.tcshow_lib.specs.Found.{message_view};
+ghost use Rattle.tcshow_lib.specs.Line.{IsAccepted, IsRefused, IsLine};
+
+use crate::found::Found;
+use crate::json::{MessageLine, Verdict};
+use crate::pages::{show_place, some_text, text_of, time_page};
+use crate::shows::Shows;
+use nla_frames::DecodeError;
+use serde::Serialize;
+use std::alloc::{AllocError, Allocator, Global};
+use tc_capture::Holds;
+use tc_outline::{Layout, Page};
+use tc_wire::{TcActionMessage, TcMessage};
+
+/// A message as JSON, and the name of its fault where it is refused.
+#[derive(Drop)]
+pub(crate) struct Line {
+    pub(crate) json: Vec<u8>,
+    pub(crate) fault: Option<&'static str>,
+}
+
+/// The line of a message.
+pub(crate) fn line_of<A: Allocator + Copy>(
+    alloc: A,
+    json: Global,
+    found: &Found<'_>,
+) -> Result<Line, AllocError>
+    ensures line { IfOk result (λ line. IsLineOf (message_view found.now) line.json.items) }
+    ensures fault { IfOk result (λ line. is_some line.fault ≡ is_refused (message_view found.now)) }
+{
+    match found.holds {
+        Holds::Tc => line_as::<A, TcMessage<A>>(alloc, json, found),
+        Holds::Action => line_as::<A, TcActionMessage<A>>(alloc, json, found),
+    }
+}
+
+fn line_as<A: Allocator + Copy, M: Shows<A> + Drop>(
+    alloc: A,
+    json: Global,
+    found: &Found<'_>,
+) -> Result<Line, AllocError>
+    ensures line { IfOk result (λ line. IsLine M.codec M.Canonical (message_view found.now) line.json.items) }
+    ensures fault { IfOk result (λ line. is_some line.fault ≡ is_fault (M.codec.read [] found.now.payload.now)) }
+{
+    match M::parse(alloc, found.payload) {
+        Ok(message) => accepted_line(alloc, json, found, &message),
+        Err(DecodeError::OutOfMemory) => Err(AllocError),
+        Err(error) => refused_line(alloc, json, found, &error),
+    }
+}
+
+// The line of a message that is read.
+fn accepted_line<A: Allocator + Copy, M: Shows<A>>(
+    alloc: A,
+    json: Global,
+    found: &Found<'_>,
+    message: &M,
+) -> Result<Line, AllocError>
+    ensures fault { IfOk result (λ line. line.fault ≡ None) }
+    ensures line { IfOk result (λ line. IsAccepted M.codec M.Canonical (message_view found.now) (M.see message.now) line.json.items) }
+{
+    let time = time_page(alloc, &found.origin)?;
+    let fits = message.fits();
+    let settled = message.reads_back();
+    let canonical = M::are_canonical(found.payload);
+    let line = MessageLine {
+        time: some_text(&time),
+        found: *found,
+        verdict: Verdict::Read {
+            fits,
+            settled,
+            canonical,
+        },
+        alloc: json,
+    };
+    let json = json_of(json, &line)?;
+    Ok(Line { json, fault: None })
+}
+
+// The line of a message that is refused.
+fn refused_line<A: Allocator + Copy>(
+    alloc: A,
+    json: Global,
+    found: &Found<'_>,
+    error: &DecodeError,
+) -> Result<Line, AllocError>
+    ensures fault { IfOk result (λ line. is_some line.fault ≡ true) }
+    ensures line { IfOk result (λ line. IsRefused (message_view found.now) error.now line.json.items) }
+{
+    let time = time_page(alloc, &found.origin)?;
+    let mut path = Page::new(alloc, Layout::OneLine);
+    let offset = show_place(&mut path, found)?;
+    let line = MessageLine {
+        time: some_text(&time),
+        found: *found,
+        verdict: Verdict::Refused {
+            error,
+            offset: offset as u64,
+            path: text_of(&path),
+        },
+        alloc: json,
+    };
+    let json = json_of(json, &line)?;
+    Ok(Line {
+        json,
+        fault: Some(error.name()),
+    })
+}
+
+/// A value as JSON.
+pub(crate) fn json_of<T: Serialize>(alloc: Global, value: &T) -> Result<Vec<u8>, AllocError>
+    ensures { IfOk result (λ json. (log : Log) × T.writes value.now (Some []) log × IsTextOf log json.items) }
+{
+    match serde_json::to_vec(alloc, value) {
+        Ok(json) => Ok(json),
+        Err(_) => Err(AllocError),
+    }
+}

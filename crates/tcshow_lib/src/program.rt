@@ -1,0 +1,168 @@
+//! The program: what it is asked for is done over its streams, and how it ends is its exit status.
+
+ghost use Rattle.std.specs.Prelude.{◌≡◌, ◌≢◌, OnOk};
+ghost use Rattle.tcshow_lib.specs.State.{Ran};
+ghost use Rattle.tcshow_lib.specs.Status.{status_of};
+ghost use Rattle.tcshow_lib.specs.Writing.{GrowsClean};
+ghost use Rattle.tcshow_lib.specs.declared.asked.Form.TheVariants.{Json};
+ghost use Rattle.tcshow_lib.specs.declared.run.Ended.{Ended};
+
+use crate::arguments::{Request, request_of};
+use crate::asked::{Asked, Chosen};
+use crate::names::{interface_of, names_in};
+use crate::packets::Packets;
+use crate::run::{Ended, run};
+use crate::status::{Stop, status_of};
+use clap::error::ErrorKind;
+use std::alloc::{Allocator, Global};
+use std::io::{self, Input, Print, Read, Write};
+use std::process::ExitCode;
+use std::rt::{Env, Files};
+use std::{env, fs};
+use tc_outline::Interfaces;
+use tc_streams::complain;
+
+/// The whole program: reads its arguments, shows the messages of its input on standard output, and returns the exit
+/// status. Why it ended early is written to `errors`.
+pub fn tcshow<R: Env + AllocGlobal + Files + Input + Print + Eprint, E: Write>(
+    rt: &R,
+    errors: &mut E,
+) -> ExitCode {
+    let alloc = rt.alloc();
+    let words = match env::args(rt) {
+        Ok(words) => Vec::from_iter(alloc, words),
+        Err(_) => return ExitCode::from(complain(errors, "tcshow: an argument is no text\n", 2)),
+    };
+    let words = match words {
+        Ok(words) => words,
+        Err(_) => return ExitCode::from(complain(errors, NO_MEMORY, 3)),
+    };
+    match request_of(alloc, words.as_slice()) {
+        Ok(request) => ExitCode::from(show(rt, &request, errors)),
+        Err(error) => {
+            if error.kind() == ErrorKind::OutOfMemory {
+                return ExitCode::from(complain(errors, NO_MEMORY, 3));
+            }
+            let _ = error.print(rt);
+            ExitCode::from(if error.use_stderr() { 2 } else { 0 })
+        }
+    }
+}
+
+const NO_MEMORY: &str = "tcshow: out of memory\n";
+
+// Reads the names of interfaces, where there is a file of them.
+fn show<R: AllocGlobal + Files + Input + Print, E: Write>(
+    rt: &R,
+    request: &Request<'_>,
+    errors: &mut E,
+) -> u8 {
+    match request.names {
+        None => show_with(rt, request, "", errors),
+        Some(path) => match fs::read_to_string(rt, path) {
+            Ok(text) => show_with(rt, request, text.as_str(), errors),
+            Err(_) => complain(errors, "tcshow: the file of names can't be read\n", 2),
+        },
+    }
+}
+
+// Shows what is asked for, with names of interfaces in this text.
+fn show_with<R: AllocGlobal + Files + Input + Print, E: Write>(
+    rt: &R,
+    request: &Request<'_>,
+    text: &str,
+    errors: &mut E,
+) -> u8 {
+    match names_in(rt.alloc(), text) {
+        Ok(Some(names)) => show_named(rt, request, names.as_slice(), errors),
+        Ok(None) => complain(
+            errors,
+            "tcshow: a line of names isn't a number and a name\n",
+            2,
+        ),
+        Err(_) => complain(errors, NO_MEMORY, 3),
+    }
+}
+
+fn show_named<R: AllocGlobal + Files + Input + Print, E: Write>(
+    rt: &R,
+    request: &Request<'_>,
+    names: &[(u32, &str)],
+    errors: &mut E,
+) -> u8 {
+    let interface = match request.interface {
+        None => None,
+        Some(word) => match interface_of(names, word) {
+            Some(number) => Some(number),
+            None => return complain(errors, "tcshow: unknown interface\n", 2),
+        },
+    };
+    let asked = Asked {
+        form: request.form,
+        without_header: request.without_header,
+        chosen: Chosen {
+            kind: request.kind,
+            rtm: request.rtm,
+            interface,
+        },
+        names: Interfaces { names },
+        has_summary: request.has_summary,
+    };
+    let mut writer = io::writer(rt);
+    let alloc = rt.alloc();
+    match request.file {
+        None => serve(alloc, alloc, &asked, &mut rt.reader(), &mut writer, errors),
+        Some(path) => match fs::open(rt, path) {
+            Ok(mut file) => serve(alloc, alloc, &asked, &mut file, &mut writer, errors),
+            Err(_) => complain(errors, "tcshow: the file can't be read\n", 2),
+        },
+    }
+}
+
+/// Shows all messages of an input, and returns the exit status.
+pub fn serve<A: Allocator + Copy, R: Read, W: Write, E: Write>(
+    alloc: A,
+    json: Global,
+    asked: &Asked<'_>,
+    reader: &mut R,
+    writer: &mut W,
+    errors: &mut E,
+) -> u8
+    // The status says how the run ended. Where it came to the end of its input, what is shown of all things in it is written, and the status
+    // says whether one of them is refused or broken.
+    ensures status { (ended : Ended) × (result ≡ status_of ended.outcome ended.has_refused)
+        × OnOk ended.outcome (Ran asked.now ended.has_refused (W.contents writer.old) (W.contents writer.new)) }
+    // No byte of a message reaches the output but as printable ASCII.
+    ensures clean { asked.now.form ≢ Json → GrowsClean (W.contents writer.old) (W.contents writer.new) }
+{
+    let ended = run(alloc, json, asked, reader, writer);
+    let status = status_of(ended.outcome, ended.has_refused);
+    if matches!(ended.outcome, Err(Stop::NoRoute)) {
+        return complain_of_packets(json, errors, &ended.packets, status);
+    }
+    match reason(&ended) {
+        Some(text) => complain(errors, text, status),
+        None => status,
+    }
+}
+
+// Why a run ended early, if that is said.
+fn reason(ended: &Ended) -> Option<&'static str> {
+    match ended.outcome {
+        Ok(()) | Err(Stop::Closed | Stop::NoRoute) => None,
+        Err(Stop::NoCapture) => Some("tcshow: no capture, and no hex\n"),
+        Err(Stop::Read) => Some("tcshow: read failed\n"),
+        Err(Stop::Write) => Some("tcshow: write failed\n"),
+        Err(Stop::NoMemory) => Some(NO_MEMORY),
+    }
+}
+
+// Writes what a capture without route netlink has, if it can, and returns a status.
+fn complain_of_packets<E: Write>(json: Global, errors: &mut E, packets: &Packets, status: u8) -> u8
+    ensures { result ≡ status }
+{
+    match format!(in json; "tcshow: {packets}\n") {
+        Ok(text) => complain(errors, text.as_str(), status),
+        Err(_) => complain(errors, "tcshow: no route netlink\n", status),
+    }
+}

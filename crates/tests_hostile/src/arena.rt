@@ -1,0 +1,77 @@
+//! Messages in an arena: it is emptied after each, and may take no more than it is given.
+
+use bumpalo::Bump;
+use std::alloc::Global;
+use std::test::Fail;
+use tc_wire::{DecodeError, Emitable, ParseableBytes, TcActionMessage, TcMessage};
+use tests_messages::{Expected, Form, Row, captured, large_messages, made};
+
+/// How many bytes a message has that bytes are parsed as in the arena, or why it isn't parsed.
+fn length_in(arena: &Bump, bytes: &[u8], form: Form) -> Result<Option<usize>, DecodeError> {
+    match form {
+        Form::Tc => {
+            let message = TcMessage::parse(arena, bytes)?;
+            Ok(message.checked_len())
+        }
+        Form::Action => {
+            let message = TcActionMessage::parse(arena, bytes)?;
+            Ok(message.checked_len())
+        }
+    }
+}
+
+/// True if the message of a row is parsed in the arena as the row says.
+fn is_as_expected(arena: &Bump, row: &Row) -> bool {
+    let length = length_in(arena, &row.input.bytes, row.input.form);
+    match (&row.expected, length) {
+        (Expected::Refused(name), Err(fault)) => fault.name() == name.as_str(),
+        (Expected::Accepted { fits, emitted, .. }, Ok(length)) => {
+            if *fits {
+                length == Some(emitted.len())
+            } else {
+                length.is_none()
+            }
+        }
+        _ => false,
+    }
+}
+
+/// Parses the message of each row in the arena, which is emptied after each; fails at the first that isn't as the row
+/// says.
+fn parse_all(arena: &mut Bump, rows: &[Row]) -> Result<(), Fail> {
+    for row in rows {
+        if !is_as_expected(arena, row) {
+            return Err(Fail::new(format_args!("{:?}", row.input)));
+        }
+        arena.reset()?;
+    }
+    Ok(())
+}
+
+/// An arena with room for so many bytes, which takes no more.
+fn arena_of(alloc: Global, size: usize) -> Result<Bump, Fail> {
+    let arena = Bump::try_with_capacity(alloc, size)?;
+    arena.set_allocation_limit(Some(arena.allocated_bytes()));
+    Ok(arena)
+}
+
+#[test]
+fn an_arena_serves_message_after_message(rt: HostRuntime) -> Result<(), Fail> {
+    let alloc = rt.alloc();
+    let mut arena = arena_of(alloc, 1 << 16)?;
+    parse_all(&mut arena, &made(alloc)?)?;
+    parse_all(&mut arena, &captured(alloc)?)
+}
+
+#[test]
+fn a_full_arena_is_out_of_memory(rt: HostRuntime) -> Result<(), Fail> {
+    let alloc = rt.alloc();
+    let mut arena = arena_of(alloc, 4096)?;
+    let large = large_messages(alloc)?;
+    let row = large.first().ok_or("large messages")?;
+    let length = length_in(&arena, &row.input.bytes, row.input.form);
+    assert!(rt; length == Err(DecodeError::OutOfMemory));
+    arena.reset()?;
+    let rows = made(alloc)?;
+    parse_all(&mut arena, rows.get(..1).ok_or("69 rows")?)
+}

@@ -1,0 +1,81 @@
+//! The arguments of the program.
+
+use failing_alloc::Failing;
+use std::alloc::Global;
+use std::env::{self, FillError};
+use std::rt::Env;
+use tcrewrite_lib::arguments::{Request, request_from};
+use tcrewrite_lib::mode::Mode;
+
+#[test]
+fn knows_two_words(rt: HostRuntime) {
+    assert!(rt; Mode::from_word("tc") == Some(Mode::Tc));
+    assert!(rt; Mode::from_word("action") == Some(Mode::Action));
+    assert!(rt; Mode::from_word("actions") == None);
+    assert!(rt; Mode::from_word("TC") == None);
+    assert!(rt; Mode::from_word("") == None);
+}
+
+// The arguments of a program.
+#[derive(Clone, Copy)]
+struct Words(&'static [&'static str]);
+
+impl Env for Words {
+    fn arg(&self, i: usize, buf: &mut [u8]) -> Result<usize, FillError> {
+        let Some(word) = self.0.get(i) else {
+            return Err(FillError::NotPresent);
+        };
+        if word.len() > buf.len() {
+            return Err(FillError::TooLong);
+        }
+        buf[..word.len()].copy_from_slice(word.as_bytes());
+        Ok(word.len())
+    }
+
+    fn var(&self, _name: &str, _buf: &mut [u8]) -> Result<usize, FillError> {
+        Err(FillError::NotPresent)
+    }
+
+    fn var_at(&self, _i: usize, _buf: &mut [u8]) -> Result<usize, FillError> {
+        Err(FillError::NotPresent)
+    }
+}
+
+// What is asked for by these arguments.
+fn request_of(alloc: Global, words: &'static [&'static str]) -> Request {
+    request_from(alloc, env::args(&(Words(words), alloc)))
+}
+
+// The program's name comes first.
+#[test]
+fn takes_one_word_at_most(rt: HostRuntime) {
+    let alloc = rt.alloc();
+    let (tc, action) = (Request::Report(Mode::Tc), Request::Report(Mode::Action));
+    assert!(rt; request_of(alloc, &[]) == tc);
+    assert!(rt; request_of(alloc, &["tcrewrite"]) == tc);
+    assert!(rt; request_of(alloc, &["tcrewrite", "tc"]) == tc);
+    assert!(rt; request_of(alloc, &["tcrewrite", "action"]) == action);
+    assert!(rt; request_of(alloc, &["tcrewrite", ""]) == Request::Usage);
+    assert!(rt; request_of(alloc, &["tcrewrite", "--help"]) == Request::Usage);
+    assert!(rt; request_of(alloc, &["tcrewrite", "tc", "action"]) == Request::Usage);
+    assert!(rt; request_of(alloc, &["tc", "tc", "tc", "tc"]) == Request::Usage);
+}
+
+// Where a request for memory is refused, the call returns so, or a smaller request serves; the words are never taken for others.
+#[test]
+fn arguments_take_memory(rt: HostRuntime) {
+    let words = Words(&["tcrewrite", "tc"]);
+    let mut refusals = 0;
+    for at in 1..1000u64 {
+        let failing = Failing::new(rt.alloc(), at);
+        let read = request_from(&failing, env::args(&(words, &failing)));
+        if read != Request::NoMemory {
+            assert!(rt; read == Request::Report(Mode::Tc), "request {at}");
+            if !failing.has_refused() {
+                break;
+            }
+        }
+        refusals = at;
+    }
+    assert!(rt; 2 < refusals && refusals < 999, "{refusals} requests");
+}

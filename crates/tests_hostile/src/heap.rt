@@ -1,0 +1,132 @@
+//! Memory in bytes, counted by a heap of a given size: what a parse takes, what a message holds, and that all of it is given back.
+
+use linked_list_allocator::LocalHeap;
+use std::alloc::{AllocError, Global};
+use std::mem::size_of;
+use std::test::Fail;
+use tc_wire::{
+    DecodeError, DefaultNla, ParseableBytes, TcActionMessage, TcAttribute, TcMessage, TcOption,
+};
+use tests_messages::{Form, Row, captured, large_messages, made};
+
+/// How many bytes the heap takes for so many: units of 16, and one at least.
+fn block(size: usize) -> usize {
+    size.max(16).saturating_add(15) / 16 * 16
+}
+
+/// How many bytes the heap takes for so many attributes.
+fn attributes(count: usize) -> usize {
+    block(count.saturating_mul(size_of::<TcAttribute<&LocalHeap>>()))
+}
+
+/// How many bytes the heap takes for so many options.
+fn options(count: usize) -> usize {
+    block(count.saturating_mul(size_of::<TcOption<&LocalHeap>>()))
+}
+
+/// How many bytes of a heap a message holds that bytes are parsed as, or why it isn't parsed; and how many are taken once it is dropped.
+fn held_by(heap: &LocalHeap, bytes: &[u8]) -> (Result<usize, DecodeError>, usize) {
+    let held = match TcMessage::parse(heap, bytes) {
+        Ok(message) => {
+            let held = heap.used();
+            drop(message);
+            Ok(held)
+        }
+        Err(fault) => Err(fault),
+    };
+    (held, heap.used())
+}
+
+/// As `held_by`, of an action message.
+fn held_by_action(heap: &LocalHeap, bytes: &[u8]) -> (Result<usize, DecodeError>, usize) {
+    let held = match TcActionMessage::parse(heap, bytes) {
+        Ok(message) => {
+            let held = heap.used();
+            drop(message);
+            Ok(held)
+        }
+        Err(fault) => Err(fault),
+    };
+    (held, heap.used())
+}
+
+/// How many bytes of a heap of this size the stored message holds, and how many are taken once it is dropped.
+fn held_in(alloc: Global, size: usize) -> Result<(Result<usize, DecodeError>, usize), Fail> {
+    let rows = made(alloc)?;
+    let first = rows.first().ok_or("69 rows")?;
+    Ok(held_by(&LocalHeap::new(alloc, size)?, &first.input.bytes))
+}
+
+// A list has room for an attribute for every eight of its bytes at first: for three in 28 bytes, and for one option in eight. With the eight
+// letters of the kind, that is what the message holds, and all that its parse takes.
+#[test]
+fn a_parse_takes_what_the_message_holds(rt: HostRuntime) -> Result<(), Fail> {
+    let alloc = rt.alloc();
+    let held = attributes(3)
+        .saturating_add(options(1))
+        .saturating_add(block(8));
+    assert!(rt; held_in(alloc, 65536)? == (Ok(held), 0));
+    assert!(rt; held_in(alloc, held)? == (Ok(held), 0));
+    let less = held.saturating_sub(16);
+    assert!(rt; held_in(alloc, less)? == (Err(DecodeError::OutOfMemory), 0));
+    Ok(())
+}
+
+/// For each byte of a message, a parse takes at most so many, and this many more.
+const BYTES_A_BYTE: usize = 32;
+
+/// True if the message of a row is parsed in a heap of so much memory, and gives all of it back.
+fn suffices(alloc: Global, row: &Row) -> Result<bool, AllocError> {
+    let bytes = row.input.bytes.as_slice();
+    let size = bytes.len().saturating_add(4).saturating_mul(BYTES_A_BYTE);
+    let heap = LocalHeap::new(alloc, size)?;
+    let (held, left) = match row.input.form {
+        Form::Tc => held_by(&heap, bytes),
+        Form::Action => held_by_action(&heap, bytes),
+    };
+    Ok(held != Err(DecodeError::OutOfMemory) && left == 0)
+}
+
+/// Checks the messages of rows, and fails at the first whose parse takes more, or keeps some.
+fn suffice(alloc: Global, rows: &[Row]) -> Result<(), Fail> {
+    for row in rows {
+        if !suffices(alloc, row)? {
+            return Err(Fail::new(format_args!("{:?}", row.input)));
+        }
+    }
+    Ok(())
+}
+
+#[test]
+fn a_parse_takes_32_bytes_a_byte(rt: HostRuntime) -> Result<(), Fail> {
+    let alloc = rt.alloc();
+    suffice(alloc, &made(alloc)?)?;
+    suffice(alloc, &captured(alloc)?)?;
+    suffice(alloc, &large_messages(alloc)?)
+}
+
+/// The message that version 1 read of the kind sfq and its options, of which it kept a header.
+fn of_version_1(heap: &LocalHeap) -> Result<TcMessage<&LocalHeap>, AllocError> {
+    let kept = DefaultNla::new(0x8002, [1, 2, 3, 4].to_vec(heap)?);
+    let mut list = Vec::with_capacity(heap, 1)?;
+    list.push(TcOption::Other(kept))?;
+    let mut message = TcMessage::default_in(heap);
+    message
+        .attributes
+        .push(TcAttribute::Kind("sfq".to_string(heap)?))?;
+    message.attributes.push(TcAttribute::Options(list))?;
+    Ok(message)
+}
+
+// The list of options is freed, and their bytes are moved.
+#[test]
+fn an_upgrade_frees_the_list(rt: HostRuntime) -> Result<(), Fail> {
+    let heap = LocalHeap::new(rt.alloc(), 65536)?;
+    let message = of_version_1(&heap)?;
+    let before = heap.used();
+    let message = message.upgrade();
+    assert!(rt; before.saturating_sub(heap.used()) == options(1));
+    drop(message);
+    assert!(rt; heap.used() == 0);
+    Ok(())
+}

@@ -1,0 +1,116 @@
+//! Complaints about lines.
+
+use crate::make::runs::{HEX, made};
+use std::alloc::Global;
+use std::test::Fail;
+
+// Lines of which no message is made, and what is said of them.
+static ROWS: [(&str, &str); 18] = [
+    (
+        r#"{"type":"RTM_NEWQDISC","seq":-1,"message":{"header":{"family":"Unspec","index":2,"handle":"1:","parent":"root","info":0},"attributes":[{"Kind":"fq_codel"}]}}"#,
+        r#"/seq: found -1, wanted a number from 0 to 4294967295"#,
+    ),
+    (
+        r#"{"type":"RTM_NEWQDISC","seq":4294967296,"message":{"header":{"family":"Unspec","index":2,"handle":"1:","parent":"root","info":0},"attributes":[{"Kind":"fq_codel"}]}}"#,
+        r#"/seq: found 4294967296, wanted a number from 0 to 4294967295"#,
+    ),
+    (
+        r#"{"type":"RTM_NEWQDISC","flags":"x","message":{"header":{"family":"Unspec","index":2,"handle":"1:","parent":"root","info":0},"attributes":[{"Kind":"fq_codel"}]}}"#,
+        r#"/flags: found "x", wanted a number from 0 to 65535"#,
+    ),
+    (
+        r#"{"type":"RTM_NEWLINK","message":{"header":{"family":"Unspec","index":2,"handle":"1:","parent":"root","info":0},"attributes":[{"Kind":"fq_codel"}]}}"#,
+        r#"/type: found "RTM_NEWLINK", wanted RTM_NEWQDISC, RTM_DELQDISC, RTM_GETQDISC, the same of TCLASS, TFILTER, ACTION or CHAIN, or NLMSG_ERROR"#,
+    ),
+    (
+        r#"{"type":"RTM_NEWQDISC","time":12,"message":{"header":{"family":"Unspec","index":2,"handle":"1:","parent":"root","info":0},"attributes":[{"Kind":"fq_codel"}]}}"#,
+        r#"/time: found 12, wanted seconds, a point and nine digits"#,
+    ),
+    (
+        r#"{"type":"RTM_NEWQDISC","portid":[],"message":{"header":{"family":"Unspec","index":2,"handle":"1:","parent":"root","info":0},"attributes":[{"Kind":"fq_codel"}]}}"#,
+        r#"/portid: found a list of 0, wanted a number from 0 to 4294967295"#,
+    ),
+    (
+        r#"{"type":"RTM_NEWQDISC","packet":"1","message":{"header":{"family":"Unspec","index":2,"handle":"1:","parent":"root","info":0},"attributes":[{"Kind":"fq_codel"}]}}"#,
+        r#"/packet: found "1", wanted the number of a packet"#,
+    ),
+    (
+        r#"{"type":"RTM_NEWQDISC","packet_type":65536,"message":{"header":{"family":"Unspec","index":2,"handle":"1:","parent":"root","info":0},"attributes":[{"Kind":"fq_codel"}]}}"#,
+        r#"/packet_type: found 65536, wanted a number from 0 to 65535"#,
+    ),
+    (
+        r#"{"type":"RTM_NEWQDISC","sequence":1,"message":{"header":{"family":"Unspec","index":2,"handle":"1:","parent":"root","info":0},"attributes":[{"Kind":"fq_codel"}]}}"#,
+        r#"/sequence: found a member that a line doesn't have"#,
+    ),
+    (
+        r#"{"type":"RTM_NEWQDISC","\u001b[31m":1,"message":{"header":{"family":"Unspec","index":2,"handle":"1:","parent":"root","info":0},"attributes":[{"Kind":"fq_codel"}]}}"#,
+        r#"/\u001b[31m: found a member that a line doesn't have"#,
+    ),
+    (
+        r#"{"type":"RTM_NEWQDISC","message":{"header":{"family":"Unspec","index":2,"handle":"1:","parent":"root","info":0,"a\u001b\u0007\n":1},"attributes":[]}}"#,
+        r#"/header/a\u001b\u0007\u000a: found 1, wanted nothing"#,
+    ),
+    (
+        r#"{"type":"RTM_NEWQDISC","a\u0007b":1,"a\u0007b":2,"message":{"header":{"family":"Unspec","index":2,"handle":"1:","parent":"root","info":0},"attributes":[{"Kind":"fq_codel"}]}}"#,
+        r#"/a\u0007b: found twice, wanted once"#,
+    ),
+    (
+        r#"{"summary":{"messages":[],"faults":[]},"all":{}}"#,
+        r#"holds no message, but a summary"#,
+    ),
+    (
+        r#"{"note":"cut: 16 bytes needed, 3 left","at":24}"#,
+        r#"holds no message, but a note on a capture"#,
+    ),
+    (
+        r#"{"#,
+        r#"a part of JSON on several lines; wanted all of it on one, as jq -c writes it"#,
+    ),
+    (
+        r#"  "type": "RTM_NEWQDISC","#,
+        r#"a part of JSON on several lines; wanted all of it on one, as jq -c writes it"#,
+    ),
+    (
+        r#"}"#,
+        r#"a part of JSON on several lines; wanted all of it on one, as jq -c writes it"#,
+    ),
+    (
+        r#"{"type":"RTM_NEWQDISC","message":[[[[[[[[[[[[[[[[[[[[[[[[[[[[[[[[[[[[[[[[[[[[[[[[[[[[[[[[[[[[[[[[[[[[[[[[[[[[[[[[[[[[[[[[[[[[[[[[[[[[[[[[[[[[[[[[[[[[[[[[[[[[[[[[]]]]]]]]]]]]]]]]]]]]]]]]]]]]]]]]]]]]]]]]]]]]]]]]]]]]]]]]]]]]]]]]]]]]]]]]]]]]]]]]]]]]]]]]]]]]]]]]]]]]]]]]]]]]]]]]]]]]]]]]]]]]]]]]}"#,
+        r#"lists and objects nest more than 127 deep"#,
+    ),
+];
+
+// True if this, and nothing more, is said of a line, and nothing is made.
+fn is_said(alloc: Global, line: &str, complaint: &str) -> Result<bool, Fail> {
+    let run = made(alloc, &HEX, line.as_bytes());
+    let want = format!(in alloc; "tcmake: line 1: {complaint}\n")?;
+    Ok(run.status == 1 && run.written.is_empty() && run.errors.as_slice() == want.as_bytes())
+}
+
+#[test]
+fn each_complaint(rt: HostRuntime) -> Result<(), Fail> {
+    let alloc = rt.alloc();
+    for (line, complaint) in &ROWS {
+        assert!(rt; is_said(alloc, line, complaint)?, "{complaint}");
+    }
+    Ok(())
+}
+
+// A line that is too long gets a complaint, and the next is made.
+#[test]
+fn a_long_line(rt: HostRuntime) -> Result<(), Fail> {
+    let alloc = rt.alloc();
+    let mut lines = vec![in alloc; b' '; 33_554_433]?;
+    lines.extend_from_slice(
+        b"\n{\"type\":\"RTM_GETACTION\",\"message\":{\"header\":{\"family\":\"Unspec\"},\"attributes\":[]}}",
+    )?;
+    let run = made(alloc, &HEX, &lines);
+    assert!(rt;
+        run.status == 1
+            && run.written.as_slice() == b"1400000032000000000000000000000000000000\n".as_slice()
+    );
+    assert!(rt;
+        run.errors.as_slice() == b"tcmake: line 1: longer than 33554432 bytes\n".as_slice()
+    );
+    Ok(())
+}

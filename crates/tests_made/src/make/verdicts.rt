@@ -1,0 +1,152 @@
+//! What a line says of its message, what the codec finds, and what is made.
+
+use crate::make::runs::{bare, made};
+use std::alloc::Global;
+use std::test::Fail;
+use tcmake_lib::arguments::Making;
+
+// A canonical message.
+const CANONICAL: (&str, &str) = (
+    r#"{"header":{"family":"Unspec","index":2,"handle":"1:","parent":"root","info":0},"attributes":[{"Kind":"u32"}]}"#,
+    "000000000200000000000100ffffffff000000000800010075333200",
+);
+
+// One with a number out of its range, flags of another `nla_type`, and padding that isn't zeros.
+const LOOSE: (&str, &str) = (
+    r#"{"header":{"family":"Unspec","index":2,"handle":"1:","parent":"root","info":0},"attributes":[{"Kind":"flower"},{"Options":[{"Flower":{"MplsBos":3,"pad":"000001","word":32836}}]}]}"#,
+    "000000000200000000000100ffffffff000000000b000100666c6f77657200000c0002000500448003000001",
+);
+
+// The same as it is settled.
+const SETTLED: &str =
+    "000000000200000000000100ffffffff000000000b000100666c6f77657200000c0002000500440001000000";
+
+// One that the codec refuses: a chain of two bytes.
+const REFUSED: (&str, &str) = (
+    r#"{"header":{"family":"Unspec","index":2,"handle":"1:","parent":"root","info":0},"attributes":[{"Chain":{"raw":"0700"}}]}"#,
+    "000000000200000000000100ffffffff0000000006000b0007000000",
+);
+
+// What is made of a line with these members beside a message, and what is said: of a line that is made, nothing or a notice.
+struct Cell {
+    says: &'static str,
+    message: (&'static str, &'static str),
+    making: Making,
+    makes: Makes,
+    said: &'static str,
+}
+
+// The bytes that the message shows, those that settling makes of the loose one, or none.
+#[derive(Clone, Copy)]
+enum Makes {
+    Given,
+    Settled,
+    Nothing,
+}
+
+const CHECKED: Making = Making::Checked;
+
+const SETTLE: Making = Making::Settled;
+
+const AS_GIVEN: Making = Making::AsGiven;
+
+const NOTICES: &str = "/attributes/1/Options/0/Flower/MplsBos: found 3, settled to 1
+tcmake: line 1: /attributes/1/Options/0/Flower/pad: found \"000001\", dropped
+tcmake: line 1: /attributes/1/Options/0/Flower/word: found 32836, dropped";
+
+#[rattlefmt::skip]
+static CELLS: [Cell; 25] = [
+    // `refused` and its numbers
+    Cell { says: r#""refused":"WrongLength","expected":4,"got":2,"#, message: REFUSED, making: CHECKED, makes: Makes::Given, said: "" },
+    Cell { says: r#""refused":"WrongLength","expected":4,"got":2,"offset":24,"path":"/attributes/0/Chain","#, message: REFUSED, making: CHECKED,
+        makes: Makes::Given, said: "" },
+    Cell { says: r#""refused":"WrongLength","expected":4,"got":3,"#, message: REFUSED, making: CHECKED, makes: Makes::Nothing,
+        said: "/refused: found WrongLength, value of 3 bytes, 4 expected; wanted WrongLength, value of 2 bytes, 4 expected" },
+    Cell { says: r#""refused":"NotUtf8","#, message: REFUSED, making: CHECKED, makes: Makes::Nothing,
+        said: "/refused: found NotUtf8, text is not UTF-8; wanted WrongLength, value of 2 bytes, 4 expected" },
+    Cell { says: r#""refused":"WrongLength","expected":4,"#, message: REFUSED, making: CHECKED, makes: Makes::Nothing,
+        said: "/got: found nothing, wanted a number of bytes" },
+    Cell { says: r#""refused":"Wrong","#, message: REFUSED, making: CHECKED, makes: Makes::Nothing,
+        said: "/refused: found \"Wrong\", wanted BufferTooSmall, FrameHeaderShort, FrameTooLong, FrameTooShort, WrongLength, NotUtf8, SelectorShort, XstatsShort, MissingKind or DuplicateKind" },
+    Cell { says: r#""refused":"NotUtf8","#, message: CANONICAL, making: CHECKED, makes: Makes::Nothing,
+        said: "/refused: found NotUtf8, wanted none of a message that the codec reads" },
+    Cell { says: r#""refused":"WrongLength","expected":4,"got":2,"#, message: REFUSED, making: SETTLE, makes: Makes::Nothing,
+        said: "holds no message, but why one was refused" },
+    Cell { says: r#""refused":"WrongLength","expected":4,"got":2,"#, message: REFUSED, making: AS_GIVEN, makes: Makes::Given, said: "" },
+    Cell { says: r#""refused":"NotUtf8","#, message: CANONICAL, making: AS_GIVEN, makes: Makes::Given, said: "" },
+    // `fits`, `settled`, `canonical`
+    Cell { says: r#""fits":true,"settled":true,"canonical":true,"#, message: CANONICAL, making: CHECKED, makes: Makes::Given, said: "" },
+    Cell { says: r#""fits":true,"settled":false,"canonical":false,"#, message: LOOSE, making: CHECKED, makes: Makes::Given, said: "" },
+    Cell { says: r#""fits":true,"#, message: LOOSE, making: CHECKED, makes: Makes::Given, said: "" },
+    Cell { says: r#""canonical":true,"#, message: LOOSE, making: CHECKED, makes: Makes::Nothing, said: "/canonical: found true, wanted false" },
+    Cell { says: r#""settled":true,"#, message: LOOSE, making: CHECKED, makes: Makes::Nothing, said: "/settled: found true, wanted false" },
+    Cell { says: r#""fits":false,"canonical":true,"#, message: CANONICAL, making: CHECKED, makes: Makes::Nothing, said: "/fits: found false, wanted true" },
+    Cell { says: r#""fits":1,"#, message: CANONICAL, making: CHECKED, makes: Makes::Nothing, said: "/fits: found 1, wanted true or false" },
+    Cell { says: r#""fits":true,"#, message: REFUSED, making: CHECKED, makes: Makes::Nothing,
+        said: "/attributes/0/Chain: found a message that the codec refuses, value of 2 bytes, 4 expected" },
+    Cell { says: r#""canonical":true,"#, message: LOOSE, making: SETTLE, makes: Makes::Settled, said: NOTICES },
+    Cell { says: r#""canonical":true,"#, message: LOOSE, making: AS_GIVEN, makes: Makes::Given, said: "" },
+    // none of them
+    Cell { says: "", message: CANONICAL, making: CHECKED, makes: Makes::Given, said: "" },
+    Cell { says: "", message: LOOSE, making: CHECKED, makes: Makes::Nothing, said: "/attributes/1/Options/0/Flower/MplsBos: found 3, wanted 1" },
+    Cell { says: "", message: CANONICAL, making: SETTLE, makes: Makes::Given, said: "" },
+    Cell { says: "", message: REFUSED, making: SETTLE, makes: Makes::Nothing,
+        said: "/attributes/0/Chain: found a message that the codec refuses, value of 2 bytes, 4 expected" },
+    Cell { says: "", message: REFUSED, making: AS_GIVEN, makes: Makes::Given, said: "" },
+];
+
+// True if what is made of a cell's line, and what is said of it, is what is wanted.
+fn is_so(alloc: Global, cell: &Cell) -> Result<bool, Fail> {
+    let (says, json) = (cell.says, cell.message.0);
+    let line = format!(in alloc; "{{\"type\":\"RTM_NEWQDISC\",{says}\"message\":{json}}}")?;
+    let run = made(alloc, &bare(cell.making), line.as_bytes());
+    let said = cell.said;
+    let written = match cell.makes {
+        Makes::Given => format!(in alloc; "{}\n", cell.message.1)?,
+        Makes::Settled => format!(in alloc; "{SETTLED}\n")?,
+        Makes::Nothing => String::new(alloc),
+    };
+    let errors = if said.is_empty() {
+        String::new(alloc)
+    } else {
+        format!(in alloc; "tcmake: line 1: {said}\n")?
+    };
+    Ok(
+        run.status == u8::from(written.is_empty())
+            && run.written.as_slice() == written.as_bytes()
+            && run.errors.as_slice() == errors.as_bytes(),
+    )
+}
+
+#[test]
+fn each_cell_of_the_table(rt: HostRuntime) -> Result<(), Fail> {
+    let alloc = rt.alloc();
+    for cell in &CELLS {
+        assert!(rt;
+            is_so(alloc, cell)?,
+            "{} {:?} of {}",
+            cell.says,
+            cell.making,
+            cell.message.1
+        );
+    }
+    Ok(())
+}
+
+// A message that is raw has to have a type.
+#[test]
+fn raw_messages(rt: HostRuntime) -> Result<(), Fail> {
+    let alloc = rt.alloc();
+    let lines = br#"{"refused":"BufferTooSmall","len":1,"needed":4,"message":{"raw":"00"}}
+{"raw":"00"}
+{"type":"RTM_NEWACTION","refused":"BufferTooSmall","len":1,"needed":4,"message":{"raw":"00"}}
+"#;
+    let run = made(alloc, &bare(Making::Checked), lines);
+    let said =
+        b"tcmake: line 1: /type: found nothing, wanted a message type, since the message is raw
+tcmake: line 2: /type: found nothing, wanted a message type, since the message is raw
+";
+    assert!(rt; run.status == 1 && run.written.as_slice() == b"00\n".as_slice());
+    assert!(rt; run.errors.as_slice() == said.as_slice());
+    Ok(())
+}

@@ -1,0 +1,84 @@
+//! Answers of the kernel to requests.
+
+use crate::show::runs::{all_in, shown};
+use std::test::Fail;
+use tcshow_lib::asked::{Chosen, Form};
+
+// pcap, a packet for each: EINVAL of a request, with a text and a place, from the port 77, of packet type 7; the same, capped; an
+// acknowledgement; EEXIST of a request for links; NLMSG_DONE; an error 777 of a request that is cut.
+const ANSWERS: &str =
+    "d4c3b2a102000400000000000000000000001000fd00000000f1536540e20100980000009800000000070338000000000000\
+     00000000000088000000020000029b0000004d000000eaffffff500000002c0000069b000000000000000000000003000000\
+     00000000f2ffffff080059020b000100666c6f77657200002000020005000900060000001400030010000100090001006761\
+     6374000000001c0001004e4c415f465f4e4553544544206973206d697373696e6700080002003c00000000f1536540e20100\
+     58000000580000000004033800000000000000000000000048000000020000039b00000000000000eaffffff500000002c00\
+     00069b000000000000001c0001004e4c415f465f4e4553544544206973206d697373696e6700080002003c00000000f15365\
+     40e2010034000000340000000004033800000000000000000000000024000000020000019b00000000000000000000005000\
+     00002c0000069b0000000000000000f1536540e2010044000000440000000004033800000000000000000000000034000000\
+     020000000900000000000000efffffff200000001000000609000000000000000000000000000000000000000000000000f1\
+     536540e2010024000000240000000004033800000000000000000000000014000000030002009b0000000000000000000000\
+     00f1536540e2010038000000380000000004033800000000000000000000000028000000020000000900000000000000f7fc\
+     ffff1400000024000006090000000000000000000000";
+
+static LINES: &str =
+    r#"1700000000.123456000 NLMSG_ERROR EINVAL seq 155 "NLA_F_NESTED is missing" at 44 /attributes/1/Options/1/Flower/Actions
+  RTM_NEWTFILTER index 3 handle 0x0 parent ffff:fff2 pref 601 protocol ip (0x0800)
+  kind flower
+  options
+    ip_proto 6
+    actions
+      action 1
+        kind gact
+
+1700000000.123456000 NLMSG_ERROR EINVAL seq 155 "NLA_F_NESTED is missing" at 44
+  RTM_NEWTFILTER
+
+1700000000.123456000 NLMSG_ERROR 777 seq 9
+  RTM_NEWQDISC
+  refused BufferTooSmall len 4 needed 20 offset 0 path /header
+
+summary
+  2 NLMSG_ERROR EINVAL
+  1 NLMSG_ERROR 777
+  0 messages
+  3 answers
+  0 refused
+  0 left out
+  3 other netlink messages
+  0 packets of other link types
+  0 packets of other netlink families
+  0 cut
+  0 skipped
+  0 broken
+"#;
+
+static ONE_LINE: &str =
+    r#"1700000000.123456000 NLMSG_ERROR EINVAL seq 155 "NLA_F_NESTED is missing" at 44 /attributes/1/Options/1/Flower/Actions {RTM_NEWTFILTER index 3 handle 0x0 parent ffff:fff2 pref 601 protocol ip (0x0800) kind flower options {ip_proto 6 actions {action 1 {kind gact}}}}
+"#;
+
+static JSON: &str =
+    r#"{"time":"1700000000.123456000","packet":1,"packet_type":7,"type":"NLMSG_ERROR","flags":512,"seq":155,"portid":77,"errno":"EINVAL","text":"NLA_F_NESTED is missing","offset":44,"path":"/attributes/1/Options/1/Flower/Actions","request":{"type":"RTM_NEWTFILTER","flags":1536,"seq":155,"message":{"header":{"family":"Unspec","index":3,"handle":"0:0","parent":"ffff:fff2","info":39387144},"attributes":[{"Kind":"flower"},{"Options":[{"Flower":{"IpProto":6}},{"Flower":{"Actions":[{"tab":1,"attributes":[{"Kind":"gact"}]}]}}]}]}}}
+{"time":"1700000000.123456000","packet":2,"type":"NLMSG_ERROR","flags":768,"seq":155,"errno":"EINVAL","text":"NLA_F_NESTED is missing","offset":44,"request":{"type":"RTM_NEWTFILTER","flags":1536,"seq":155}}
+{"time":"1700000000.123456000","packet":6,"type":"NLMSG_ERROR","flags":0,"seq":9,"errno":"777","request":{"type":"RTM_NEWQDISC","flags":1536,"seq":9,"message":{"raw":"00000000"}}}
+"#;
+
+#[test]
+fn answers(rt: HostRuntime) -> Result<(), Fail> {
+    let alloc = rt.alloc();
+    let capture = hex::decode(alloc, ANSWERS)?;
+    let mut asked = all_in(Form::Lines);
+    asked.has_summary = true;
+    let run = shown(alloc, &asked, &capture);
+    assert!(rt; run.status == 0 && run.written.as_slice() == LINES.as_bytes());
+    let run = shown(alloc, &all_in(Form::Json), &capture);
+    assert!(rt; run.status == 0 && run.written.as_slice() == JSON.as_bytes());
+    let mut asked = all_in(Form::OneLine);
+    asked.chosen = Chosen {
+        kind: Some("flower"),
+        rtm: None,
+        interface: Some(3),
+    };
+    let run = shown(alloc, &asked, &capture);
+    assert!(rt; run.status == 0 && run.written.as_slice() == ONE_LINE.as_bytes());
+    Ok(())
+}

@@ -1,0 +1,113 @@
+//! Known messages and what is shown of them.
+
+use crate::show::runs::{all_in, shown};
+use std::test::Fail;
+use tc_outline::Interfaces;
+use tcshow_lib::asked::{Chosen, Form};
+
+// In hex: a qdisc of fq_codel with a limit of 10240 packets; the same with a limit of three bytes; NLMSG_DONE; a list of actions with an
+// index of 5.
+static TEXT: &str =
+    "40000000 2400 0006 05000000 00000000 000000000200000000000100ffffffff00000000 0d00010066715f636f64656c00000000 0c0002000800020000280000
+40000000 2400 0006 05000000 00000000 000000000200000000000100ffffffff00000000 0d00010066715f636f64656c00000000 0c0002000700020000280000
+14000000 0300 0200 05000000 00000000 00000000
+30000000 3000 0000 07000000 00000000 00000000 1c000100 18000100 08000300 05000000 0b0001006d697272656400 00
+";
+
+static LINES: &str = "RTM_NEWQDISC index 2 (eth0) handle 1: parent root
+kind fq_codel
+options
+  limit 10240p
+
+RTM_NEWQDISC index 2 (eth0) handle 1: parent root
+kind fq_codel
+options
+refused WrongLength expected 4 got 3 offset 44 path /attributes/1/Options/0/FqCodel/Limit
+
+RTM_NEWACTION family unspec
+actions
+  action 1
+    index 5
+    kind mirred
+
+summary
+  2 RTM_NEWQDISC fq_codel
+  1 RTM_NEWACTION mirred
+  1 refused WrongLength
+  3 messages
+  0 answers
+  1 refused
+  0 left out
+  1 other netlink messages
+  0 packets of other link types
+  0 packets of other netlink families
+  0 cut
+  0 skipped
+  0 broken
+";
+
+static ONE_LINE: &str = "RTM_NEWACTION family unspec actions {action 1 {index 5 kind mirred}}\n";
+
+static JSON: &str =
+    r#"{"type":"RTM_NEWQDISC","flags":1536,"seq":5,"fits":true,"settled":true,"canonical":true,"message":{"header":{"family":"Unspec","index":2,"handle":"1:","parent":"root","info":0},"attributes":[{"Kind":"fq_codel"},{"Options":[{"FqCodel":{"Limit":10240}}]}]}}
+{"type":"RTM_NEWQDISC","flags":1536,"seq":5,"refused":"WrongLength","expected":4,"got":3,"offset":44,"path":"/attributes/1/Options/0/FqCodel/Limit","message":{"header":{"family":"Unspec","index":2,"handle":"1:","parent":"root","info":0},"attributes":[{"Kind":"fq_codel"},{"Options":[{"FqCodel":{"Limit":{"raw":"002800"}}}]}]}}
+"#;
+
+#[test]
+fn known_messages(rt: HostRuntime) -> Result<(), Fail> {
+    let alloc = rt.alloc();
+    let mut asked = all_in(Form::Lines);
+    asked.names = Interfaces {
+        names: &[(2, "eth0")],
+    };
+    asked.has_summary = true;
+    let run = shown(alloc, &asked, TEXT.as_bytes());
+    assert!(rt; run.status == 1);
+    assert!(rt; run.written.as_slice() == LINES.as_bytes());
+    let mut asked = all_in(Form::OneLine);
+    asked.chosen = Chosen {
+        kind: Some("mirred"),
+        rtm: None,
+        interface: None,
+    };
+    let run = shown(alloc, &asked, TEXT.as_bytes());
+    assert!(rt; run.status == 0 && run.written.as_slice() == ONE_LINE.as_bytes());
+    asked.chosen = Chosen {
+        kind: None,
+        rtm: Some("RTM_NEWACTION"),
+        interface: None,
+    };
+    let run = shown(alloc, &asked, TEXT.as_bytes());
+    assert!(rt; run.status == 0 && run.written.as_slice() == ONE_LINE.as_bytes());
+    let mut asked = all_in(Form::Json);
+    asked.chosen = Chosen {
+        kind: None,
+        rtm: None,
+        interface: Some(2),
+    };
+    let run = shown(alloc, &asked, TEXT.as_bytes());
+    assert!(rt; run.status == 1 && run.written.as_slice() == JSON.as_bytes());
+    asked.chosen = Chosen {
+        kind: None,
+        rtm: None,
+        interface: Some(3),
+    };
+    let run = shown(alloc, &asked, TEXT.as_bytes());
+    assert!(rt; run.status == 0 && run.written.is_empty());
+    Ok(())
+}
+
+#[test]
+fn no_capture(rt: HostRuntime) -> Result<(), Fail> {
+    let alloc = rt.alloc();
+    for input in [b"".as_slice(), b"\x7fELF", b"\x01\x02", b"text"] {
+        let run = shown(alloc, &all_in(Form::Lines), input);
+        assert!(rt; run.status == 2 && run.written.is_empty());
+        assert!(rt; run.errors.as_slice() == b"tcshow: no capture, and no hex\n".as_slice());
+    }
+    for input in [b"#".as_slice(), b"\n\n\n\n\n", b"# text"] {
+        let run = shown(alloc, &all_in(Form::Lines), input);
+        assert!(rt; run.status == 0 && run.written.is_empty());
+    }
+    Ok(())
+}
