@@ -2,7 +2,7 @@
 
 ghost use Rattle.serde.specs.Event.{Logs, boolean, field_key, map_begins, map_ends, seq_begins, seq_ends, signed, text, unsigned};
 ghost use Rattle.serde.specs.declared.name.Case.TheVariants.{AsIs};
-ghost use Rattle.std.specs.Prelude.{IsOk, None, OnOk};
+ghost use Rattle.std.specs.Prelude.{None, OnOk};
 
 use serde::Serializer;
 
@@ -13,12 +13,14 @@ pub(crate) enum Stopped {
     Failed,
 }
 
-// Sets the error of a step aside.
-#[inline(always)]
-fn step<E: Drop>(sent: Result<(), E>, error: &mut Option<E>) -> Result<(), Stopped>
-    ensures { IsOk result → IsOk sent }
+/// An object begins.
+pub(crate) fn begin_map<S: Serializer>(
+    out: &mut S,
+    error: &mut Option<S::Error>,
+) -> Result<(), Stopped>
+    ensures { OnOk result (Logs (S.written out.old) (S.written out.new) (map_begins None)) }
 {
-    match sent {
+    match out.begin_map(None) {
         Ok(()) => Ok(()),
         Err(e) => {
             *error = Some(e);
@@ -27,24 +29,20 @@ fn step<E: Drop>(sent: Result<(), E>, error: &mut Option<E>) -> Result<(), Stopp
     }
 }
 
-/// An object begins.
-pub(crate) fn begin_map<S: Serializer>(
-    out: &mut S,
-    error: &mut Option<S::Error>,
-) -> Result<(), Stopped>
-    ensures { OnOk result (Logs (S.written out.old) (S.written out.new) (map_begins None)) }
-{
-    step(out.begin_map(None), error)
-}
-
 /// An object ends.
 pub(crate) fn end_map<S: Serializer>(
     out: &mut S,
     error: &mut Option<S::Error>,
 ) -> Result<(), Stopped>
-    ensures { OnOk result (Logs (S.written out.old) (S.written out.new) map_ends) }
+    ensures { OnOk result (Logs (S.written out.old) (S.written out.new) (map_ends)) }
 {
-    step(out.end_map(), error)
+    match out.end_map() {
+        Ok(()) => Ok(()),
+        Err(e) => {
+            *error = Some(e);
+            Err(Stopped::Failed)
+        }
+    }
 }
 
 /// A list begins.
@@ -54,7 +52,13 @@ pub(crate) fn begin_seq<S: Serializer>(
 ) -> Result<(), Stopped>
     ensures { OnOk result (Logs (S.written out.old) (S.written out.new) (seq_begins None)) }
 {
-    step(out.begin_seq(None), error)
+    match out.begin_seq(None) {
+        Ok(()) => Ok(()),
+        Err(e) => {
+            *error = Some(e);
+            Err(Stopped::Failed)
+        }
+    }
 }
 
 /// A list ends.
@@ -62,9 +66,15 @@ pub(crate) fn end_seq<S: Serializer>(
     out: &mut S,
     error: &mut Option<S::Error>,
 ) -> Result<(), Stopped>
-    ensures { OnOk result (Logs (S.written out.old) (S.written out.new) seq_ends) }
+    ensures { OnOk result (Logs (S.written out.old) (S.written out.new) (seq_ends)) }
 {
-    step(out.end_seq(), error)
+    match out.end_seq() {
+        Ok(()) => Ok(()),
+        Err(e) => {
+            *error = Some(e);
+            Err(Stopped::Failed)
+        }
+    }
 }
 
 /// The name of a member.
@@ -75,7 +85,13 @@ pub(crate) fn key<S: Serializer>(
 ) -> Result<(), Stopped>
     ensures { OnOk result (Logs (S.written out.old) (S.written out.new) (field_key name.now AsIs)) }
 {
-    step(out.key(name), error)
+    match out.key(name) {
+        Ok(()) => Ok(()),
+        Err(e) => {
+            *error = Some(e);
+            Err(Stopped::Failed)
+        }
+    }
 }
 
 /// A text.
@@ -86,7 +102,13 @@ pub(crate) fn string<S: Serializer>(
 ) -> Result<(), Stopped>
     ensures { OnOk result (Logs (S.written out.old) (S.written out.new) (text value.now)) }
 {
-    step(out.str(value), error)
+    match out.str(value) {
+        Ok(()) => Ok(()),
+        Err(e) => {
+            *error = Some(e);
+            Err(Stopped::Failed)
+        }
+    }
 }
 
 /// `true` or `false`.
@@ -97,7 +119,13 @@ pub(crate) fn truth<S: Serializer>(
 ) -> Result<(), Stopped>
     ensures { OnOk result (Logs (S.written out.old) (S.written out.new) (boolean value)) }
 {
-    step(out.bool(value), error)
+    match out.bool(value) {
+        Ok(()) => Ok(()),
+        Err(e) => {
+            *error = Some(e);
+            Err(Stopped::Failed)
+        }
+    }
 }
 
 /// A number.
@@ -108,7 +136,13 @@ pub(crate) fn unsigned<S: Serializer>(
 ) -> Result<(), Stopped>
     ensures { OnOk result (Logs (S.written out.old) (S.written out.new) (unsigned value)) }
 {
-    step(out.u64(value), error)
+    match out.u64(value) {
+        Ok(()) => Ok(()),
+        Err(e) => {
+            *error = Some(e);
+            Err(Stopped::Failed)
+        }
+    }
 }
 
 /// A number that may be negative.
@@ -119,5 +153,11 @@ pub(crate) fn signed<S: Serializer>(
 ) -> Result<(), Stopped>
     ensures { OnOk result (Logs (S.written out.old) (S.written out.new) (signed value)) }
 {
-    step(out.i64(value), error)
+    match out.i64(value) {
+        Ok(()) => Ok(()),
+        Err(e) => {
+            *error = Some(e);
+            Err(Stopped::Failed)
+        }
+    }
 }
