@@ -1,10 +1,10 @@
 //! Messages made of JSON.
 
-ghost use Rattle.std.specs.Prelude.{◌≡◌, ◌≢◌, ◌⊎◌, IfErr, IfOk, IsUtf8, List, None, OnErr, OnOk, ℕ};
+ghost use Rattle.std.specs.Prelude.{◌≡◌, ◌≢◌, ◌⊎◌, IfErr, IfOk, IsUtf8, None, OnOk};
 ghost use Rattle.serde_json.specs.Read.{read};
 ghost use Rattle.serde_json.specs.View.{view};
 ghost use Rattle.tc_message_json.specs.Made.{IsGiven, IsMadeOf};
-ghost use Rattle.tc_ffi.specs.Calls.{Keeps, IsPlaced};
+ghost use Rattle.tc_ffi.specs.Calls.{Keeps};
 ghost use Rattle.tc_ffi.specs.Makes.{IsReadAs, IsText, Makes};
 
 use crate::place::place;

@@ -1,6 +1,5 @@
 //! Bytes into a buffer of C.
 
-ghost use Rattle.std.specs.Prelude.{◌≡◌, ◌≢◌};
 ghost use Rattle.tc_ffi.specs.Calls.{Keeps, IsPlaced};
 
 use tc_status::{NO_ROOM, OK};

@@ -1,6 +1,6 @@
 //! What is said of bytes to C.
 
-ghost use Rattle.std.specs.Prelude.{◌≡◌, ◌≤◌, [], length};
+ghost use Rattle.std.specs.Prelude.{◌≡◌, ◌≤◌, length};
 ghost use Rattle.tc_status.specs.Status.{numbers_of};
 ghost use Rattle.tc_ffi.specs.Checks.{IsJudged, IsCounted, Numbers, Says};
 

@@ -1,5 +1,5 @@
 -- Canonical bytes read as a settled message that fits, and are what is written of it.
-use Rattle.std.proofs.Common.{◌≡◌, ℕ, List, Ok, Err, sym, subst}
+use Rattle.std.proofs.Common.{◌≡◌, ℕ, List, Ok, Err, subst}
 use Rattle.tc_wire.specs.Facade.{DecodeError, Message, Words, Correspond}
 
 module _ (w : Words Message) (bytes : List ℕ) (law : Correspond w bytes) (canonical : w.Canonical bytes) where

@@ -1,4 +1,3 @@
-use Rattle.std.proofs.Common.{[]}
 use Rattle.tc_kinds.specs.Table.{tc_tables, action_message}
 use Rattle.tc_meaning.specs.Whole.{act_bytes}
 use Rattle.tc_meaning.proofs.MessageTheorems.{act_laws}
