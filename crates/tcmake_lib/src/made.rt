@@ -9,9 +9,10 @@ ghost use Rattle.tcmake_lib.specs.Made.{IsMade, form_of};
 use crate::arguments::Making;
 use crate::complaint::Complaint;
 use crate::given::{Given, given_of};
-use crate::message::{Forms, message_of};
+use crate::message::{Forms, Message, message_of};
 use serde_json::Value;
 use std::alloc::Global;
+use tc_capture::Holds;
 use tc_forms::Tables;
 use tc_forms_strict::Difference;
 use tc_forms_text::{ReadError, read_json};
@@ -53,15 +54,29 @@ fn made_of_json<T: Tables>(
         (view json.now) (message_in (view json.now)) made.bytes.items) }
 {
     let given = given_of(alloc, json)?;
-    let message = match json.get("message") {
-        Some(message) => message_of(alloc, forms, making, given.holds, json, message)?,
-        None => message_of(alloc, forms, making, given.holds, json, json)?,
-    };
+    let message = message_in(alloc, forms, making, given.holds, json)?;
     Ok(Made {
         given,
         bytes: message.bytes,
         settled: message.settled,
     })
+}
+
+// The message that is made of a line's.
+fn message_in<T: Tables>(
+    alloc: Global,
+    forms: Forms<T>,
+    making: Making,
+    holds: Holds,
+    json: &Value,
+) -> Result<Message, Complaint>
+    ensures { IfOk result (λ m. IsMade (T.parts_of forms.table) (form_of forms.tc forms.action holds) making holds
+        (view json.now) (message_in (view json.now)) m.bytes.items) }
+{
+    match json.get("message") {
+        Some(message) => message_of(alloc, forms, making, holds, json, message),
+        None => message_of(alloc, forms, making, holds, json, json),
+    }
 }
 
 // Why a line isn't read as JSON.

@@ -209,15 +209,21 @@ fn settled_message<T: Tables>(
 fn settled_bytes(alloc: Global, holds: Holds, bytes: &[u8]) -> Result<Vec<u8>, Complaint>
     ensures { IfOk result (λ settled. (count : ℕ) × Settles holds bytes.now settled.items count) }
 {
-    let settled = match holds {
-        Holds::Tc => settle_tc(alloc, bytes),
-        Holds::Action => settle_action(alloc, bytes),
-    };
-    match settled {
+    match settle(alloc, holds, bytes) {
         Ok((settled, _)) => Ok(settled),
         Err(RewriteError::Decode(error)) => Err(unreadable(alloc, holds, bytes, error)),
         Err(RewriteError::DoesNotFit) => Err(Complaint::DoesNotFit),
         Err(RewriteError::OutOfMemory) => Err(Complaint::NoMemory),
+    }
+}
+
+// The same, and after how many rewrites.
+fn settle(alloc: Global, holds: Holds, bytes: &[u8]) -> Result<(Vec<u8>, usize), RewriteError>
+    ensures { IfOk result (λ settled. Settles holds bytes.now settled.0.items settled.1) }
+{
+    match holds {
+        Holds::Tc => settle_tc(alloc, bytes),
+        Holds::Action => settle_action(alloc, bytes),
     }
 }
 

@@ -148,7 +148,8 @@ fn put_message<T: Tables, E: Write>(
     }
     let made = make_line(alloc, forms, request.making, line)?;
     put_made(alloc, request, &made, packet, out)?;
-    say_settled(alloc, errors, number, &made)
+    say_settled(alloc, errors, number, &made)?;
+    Ok(())
 }
 
 // The message that a line becomes.
@@ -200,7 +201,8 @@ fn put_whole(alloc: Global, made: &Made, out: &mut Vec<u8>) -> Result<(), Compla
         × (out.new.items ≡ out.old.items ++ whole)) }
 {
     let whole = with_header(alloc, &made.given, &made.bytes)?;
-    Ok(out.extend_from_slice(&whole)?)
+    out.extend_from_slice(&whole)?;
+    Ok(())
 }
 
 // Appends a message to its packet; the packet before it, if that ends here, is appended to `out`.
@@ -220,10 +222,12 @@ fn put_hex(alloc: Global, no_header: bool, made: &Made, out: &mut Vec<u8>) -> Re
         × (out.new.items ≡ out.old.items ++ hex_line whole)) }
 {
     if no_header {
-        return put_line(alloc, out, &made.bytes);
+        put_line(alloc, out, &made.bytes)?;
+        return Ok(());
     }
     let whole = with_header(alloc, &made.given, &made.bytes)?;
-    put_line(alloc, out, &whole)
+    put_line(alloc, out, &whole)?;
+    Ok(())
 }
 
 fn say_settled<E: Write>(
