@@ -15,8 +15,8 @@ pub(crate) const CAPTURE: [u8; 24] = [
     0x4d, 0x3c, 0xb2, 0xa1, 2, 0, 4, 0, 0, 0, 0, 0, 0, 0, 0, 0, 0, 0, 0x10, 0, 253, 0, 0, 0,
 ];
 
-// The longest packet of a capture, in bytes.
-const MOST_PACKET: u32 = 0x10_0000;
+// The longest packet of a capture, in bytes: with its header in the file 1 MiB, which is as much as `tcshow` reads at once.
+const MOST_PACKET: u32 = 0x10_0000 - 16;
 
 /// Appends bytes in hex, as a line.
 pub(crate) fn put_line(alloc: Global, out: &mut Vec<u8>, bytes: &[u8]) -> Result<(), Complaint>

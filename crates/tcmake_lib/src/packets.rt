@@ -3,7 +3,7 @@
 use crate::complaint::Complaint;
 use crate::given::PacketOf;
 use crate::packet::{fits_in_packet, put_packet, seconds_of};
-use std::alloc::Global;
+use std::alloc::{AllocError, Global};
 
 /// The messages of a packet, as long as more may come.
 #[derive(Drop)]
@@ -37,8 +37,19 @@ impl Packet {
         if !self.takes(of, message) {
             self.end(out)?;
         }
+        self.pad()?;
         self.bytes.extend_from_slice(message)?;
         self.of = Some(*of);
+        Ok(())
+    }
+
+    // Appends zeros up to a multiple of four, where the next message begins.
+    fn pad(&mut self) -> Result<(), AllocError> {
+        for _ in 0..3u8 {
+            if self.bytes.len() % 4 != 0 {
+                self.bytes.push(0)?;
+            }
+        }
         Ok(())
     }
 
@@ -47,7 +58,7 @@ impl Packet {
         match &self.of {
             Some(this) => of.number.is_some()
                 && this == of
-                && fits_in_packet(self.bytes.len().saturating_add(message.len())),
+                && fits_in_packet(padded_len(self.bytes.len()).saturating_add(message.len())),
             None => true,
         }
     }
@@ -61,4 +72,11 @@ impl Packet {
         self.bytes.clear();
         Ok(())
     }
+}
+
+// A length with the padding of a message that isn't the last.
+fn padded_len(len: usize) -> usize {
+    (len / 4)
+        .saturating_add((len % 4 != 0) as usize)
+        .saturating_mul(4)
 }
