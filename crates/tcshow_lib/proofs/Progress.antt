@@ -6,7 +6,7 @@ use Rattle.std.specs.Io.KnownBytes.{Appends}
 use Rattle.tcshow_lib.specs.declared.asked.Asked.{Asked}
 use Rattle.tcshow_lib.specs.Found.{Thing}
 use Rattle.tcshow_lib.specs.Shown.{ShowsEach, ShowsSummary}
-use Rattle.tcshow_lib.specs.State.{State, Grows, Puts, Progress, Ends, Completes, Ran, start, is_json, choice_view}
+use Rattle.tcshow_lib.specs.State.{State, Puts, Progress, Ends, Completes, Ran, start, is_json, choice_view}
 use Rattle.tc_streams.specs.Written.{GrowsByFront}
 use Rattle.tcshow_lib.proofs.Puts.{each_append, or_assoc, or_false, puts_none}
 

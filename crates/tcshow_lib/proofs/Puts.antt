@@ -1,6 +1,6 @@
 -- What is put on the output, one after the other.
 use Rattle.std.proofs.Common.{◌≡◌, ◌∙◌, ℕ, Bool, true, false, List, [], ◌∷◌, ◌++◌, refl, sym, ap, subst, append_assoc, append-nil}
-use Rattle.std.specs.Prelude.{◌||◌, Option, Some, option_map, is_some}
+use Rattle.std.specs.Prelude.{◌||◌, is_some}
 use Rattle.tc_outline.specs.declared.what.What.{What}
 use Rattle.tc_outline.specs.Located.{items_of_message, message_fault}
 use Rattle.tcshow_lib.specs.Found.{Header, Message, Thing, message, answer, hole, other}

@@ -45,9 +45,7 @@ pub(crate) fn layout_of(form: Form) -> Layout {
 }
 
 impl<'a, A: Allocator + Copy> Shower<'a, A> {
-    ghost use Rattle.std.specs.Prelude.{◌≡◌, ◌≢◌, ◌↔◌, IsTrue, true, false};
-    ghost use Rattle.std.specs.Prelude.{List, ℕ, Bool, [], OnOk, is_some};
-    ghost use Rattle.tcshow_lib.specs.declared.asked.Form.TheVariants.{Json};
+    ghost use Rattle.std.specs.Prelude.{◌≡◌, true, false, List, ℕ, [], OnOk, is_some};
     ghost use Rattle.tcshow_lib.specs.Shown.{ended, IsPage, ShowsNotice, ShowsSummary};
     ghost use Rattle.tcshow_lib.specs.State.{start, state_of, Grows, Progress};
     ghost use Rattle.tcshow_lib.specs.Writing.{GrowsClean};

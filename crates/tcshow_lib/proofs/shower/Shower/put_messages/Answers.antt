@@ -1,4 +1,4 @@
-use Rattle.std.proofs.Common.{◌∙◌, List, [], ◌∷◌, ◌++◌, map, ap, sym, append_assoc}
+use Rattle.std.proofs.Common.{◌∙◌, [], ◌∷◌, ◌++◌, map, ap, sym, append_assoc}
 use Rattle.tc_capture.specs.Message.{message_of}
 use Rattle.tc_capture.specs.Messages.{messages_left}
 use Rattle.tc_capture.specs.Outcome.{seen}

@@ -1,4 +1,4 @@
-use Rattle.std.proofs.Common.{◌∙◌, List, [], ◌∷◌, option_map, subst, sym, ap}
+use Rattle.std.proofs.Common.{◌∙◌, [], ◌∷◌, option_map, subst, sym, ap}
 use Rattle.std.proofs.lemmas.Result.{on_ok_weaker}
 use Rattle.tc_capture.specs.Answer.{answer_in}
 use Rattle.tc_capture.specs.Message.{message_of}

@@ -1,4 +1,4 @@
-use Rattle.std.proofs.Common.{◌∙◌, List, [], ◌∷◌, subst, sym, ap}
+use Rattle.std.proofs.Common.{◌∙◌, [], ◌∷◌, subst, sym, ap}
 use Rattle.tcshow_lib.specs.Found.{Thing}
 use Rattle.tcshow_lib.specs.Replies.{reply_thing}
 use Rattle.tcshow_lib.specs.State.{state_of, Puts}

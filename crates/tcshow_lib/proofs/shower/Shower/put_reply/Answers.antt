@@ -1,7 +1,7 @@
 use Rattle.std.proofs.lemmas.Result.{on_ok_weaker}
 use Rattle.tcshow_lib.specs.Found.{header_view, message_view}
 use Rattle.tcshow_lib.specs.State.{state_of}
-use Rattle.tcshow_lib.proofs.Puts.{puts_answer}
+use Rattle.tcshow_lib.proofs.Puts.{grows_none, puts_answer, puts_no_answer}
 use Rattle.tcshow_lib.proofs.shower.Shower.put_reply.Goals as goal
 
 pub returns-clause-put : goal.returns-clause-put
@@ -10,3 +10,9 @@ returns-clause-put g c =
     (λ x. puts_answer (header_view c.args.reply.now.header) c.args.reply.now.answer.is_capped (message_view c.args.reply.now.request) x.0 c.takes.result
     (state_of c.args.self.now) (state_of c.show_reply.new.self) c.if-not-takes.false c.takes.ensures x.1 x.2)
     c.show_reply.ensures.put
+
+pub returns-then-not-takes-clause-put : goal.returns-then-not-takes-clause-put
+returns-then-not-takes-clause-put g c =
+    let s = state_of c.args.self.now in
+    puts_no_answer (header_view c.args.reply.now.header) c.args.reply.now.answer.is_capped (message_view c.args.reply.now.request) c.takes.result s s
+    c.if-not-takes.true c.takes.ensures (grows_none s)
