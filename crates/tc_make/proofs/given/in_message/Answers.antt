@@ -1,4 +1,4 @@
-use Rattle.std.proofs.Common.{refl}
+use Rattle.std.proofs.Common.{inl, refl}
 use Rattle.tc_make.proofs.given.in_message.Goals as goal
 
 pub returns : goal.returns
