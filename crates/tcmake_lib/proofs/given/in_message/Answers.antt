@@ -1,10 +1,5 @@
-<<<<<<< HEAD:crates/tcmake_lib/proofs/given/in_message/Answers.antt
-use Rattle.std.proofs.Common.{refl}
-use Rattle.tcmake_lib.proofs.given.in_message.Goals as goal
-=======
 use Rattle.std.proofs.Common.{inl, refl}
-use Rattle.tc_make.proofs.given.in_message.Goals as goal
->>>>>>> 78670201537658a70cf59773c986d9d8414dc943:crates/tc_make/proofs/given/in_message/Answers.antt
+use Rattle.tcmake_lib.proofs.given.in_message.Goals as goal
 
 pub returns : goal.returns
 returns c = record {
