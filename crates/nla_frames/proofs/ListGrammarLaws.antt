@@ -155,14 +155,6 @@ module _ {X : Type 0} (reads : Reads X) (sets : Sets Frame) where
     fault = λ e. (IsListFault-read_list first bytes e is, read_list-IsListFault first bytes e);
   }
 
-  -- no list has a reading and a fault
-  pub reading_or_fault : (first : List ℕ) (bytes : List ℕ) (xs : List X) (e : DecodeError) → ListReads reads sets first bytes xs
-      → IsListFault reads sets first bytes e → ⊥
-  reading_or_fault first bytes xs e reading fault =
-      let ok = read_list-ListReads first bytes xs reading in
-      let err = read_list-IsListFault first bytes e fault in
-      cc
-
   -- a list has one reading
   pub one_reading : (first : List ℕ) (bytes : List ℕ) (xs ys : List X) → ListReads reads sets first bytes xs → ListReads reads sets first bytes ys → xs ≡ ys
   one_reading first bytes xs ys one other =

@@ -1,16 +1,14 @@
 -- A scan of a list of frames that holds its own kind, and what is read after it.
-use Rattle.std.proofs.Common.{◌≡◌, ℕ, ◌≤◌, List, [], ◌∷◌, ◌++◌, map, length, Option, Some, Ok, Err, refl, sym, ap, subst, ◌∙◌, arith}
+use Rattle.std.proofs.Common.{◌≡◌, ℕ, ◌≤◌, List, [], ◌∷◌, ◌++◌, map, length, Option, Ok, Err, refl, sym, ap, subst, ◌∙◌, arith}
 use Rattle.std.specs.Borrow.{Bor}
-use Rattle.std.specs.Str.{IsUtf8}
 use Rattle.std.proofs.lemmas.List.{append-nil}
 use Rattle.nla_frames.specs.declared.error.DecodeError.{DecodeError}
-use Rattle.nla_frames.specs.declared.error.DecodeError.TheVariants.{NotUtf8, MissingKind, DuplicateKind}
+use Rattle.nla_frames.specs.declared.error.DecodeError.TheVariants.{MissingKind, DuplicateKind}
 use Rattle.nla_frames.specs.declared.buffer.NlaBuffer.{NlaBuffer}
 use Rattle.nla_frames.specs.declared.only_kind.OnlyKind.{OnlyKind}
 use Rattle.nla_frames.specs.declared.only_kind.OnlyKind.TheVariants.{Missing, One, Several}
-use Rattle.nla_frames.specs.Fault.{Outcome, Gives, read_as, refused, ◌>>=◌}
-use Rattle.nla_frames.specs.Value.{strip, text}
-use Rattle.nla_frames.specs.Frame.{Frame, type_of}
+use Rattle.nla_frames.specs.Fault.{Outcome, Gives, refused, ◌>>=◌}
+use Rattle.nla_frames.specs.Frame.{Frame}
 use Rattle.nla_frames.specs.Buffer.{frame_of}
 use Rattle.nla_frames.specs.Cutting.{cut, items_of}
 use Rattle.nla_frames.specs.Place.{kind_before}
@@ -18,7 +16,6 @@ use Rattle.nla_frames.specs.Reading.{Reads, before, read_each, read_list, keep, 
 use Rattle.nla_frames.specs.OnlyKind.{text_set, Tells}
 use Rattle.nla_frames.proofs.Outcomes.{Gives-err, Gives-exact}
 use Rattle.nla_frames.proofs.OwnKinds.{kinds_set-append}
-use Rattle.nla_frames.proofs.Texts.{text-ok, text-err}
 use Rattle.nla_frames.proofs.ReadingSteps.{starts, goes_on, breaks, refuses, is_done}
 use Rattle.tc_meaning.specs.Own.{only_kind, read_own}
 use Rattle.tc_meaning.specs.OwnGrammar.{first_look, kinds_found}
@@ -115,19 +112,3 @@ module _ {X : Type 0} (reads : Reads X) (bytes : List ℕ) where
         several [] more = absurd (omega (arith, more))
         several (a ∷ []) more = absurd (omega (arith, more))
         several (a ∷ b ∷ kinds) more = refl
-
--- ---- the first look
-
--- a frame of type 1 that has a text
-pub kind_found : (f : Frame) (bytes front kind : List ℕ) → type_of f.word ≡ 1 → bytes ≡ f.value → front ≡ strip bytes → IsUtf8 front → kind ≡ front
-    → ◌≡◌ {A = Outcome (Option (List ℕ))} (read_as (Some kind)) (first_look [] f)
-kind_found f bytes front kind one same is_front is_text is =
-    let reads : text f.value ≡ read_as kind = rw (is, ← same) (text-ok bytes front is_front is_text) in
-    rw (one, reads) refl
-
--- one that has none
-pub kind_refused : (f : Frame) (bytes front : List ℕ) → type_of f.word ≡ 1 → bytes ≡ f.value → front ≡ strip bytes → (IsUtf8 front → ⊥)
-    → ◌≡◌ {A = Outcome (Option (List ℕ))} (refused NotUtf8) (first_look [] f)
-kind_refused f bytes front one same is_front not =
-    let refuses : text f.value ≡ refused NotUtf8 = rw (← same) (text-err bytes front is_front not) in
-    rw (one, refuses) refl

@@ -6,7 +6,6 @@ pub mod laws;
 
 pub use actions::action::TcAction;
 pub use actions::attribute::TcActionAttribute;
-pub use actions::scan::kind_told;
 pub use tc_action_options::{
     TcActionMirror, TcActionMirrorOption, TcActionNat, TcActionNatOption, TcActionOption,
     TcActionTunnelKey, TcActionTunnelKeyOption,

@@ -34,10 +34,10 @@ use nla_frames::{
     kind_then, list_settled_under, parse_list_with, parse_string, parse_u8, parse_u32,
 };
 use std::alloc::{Allocator, Global};
-use tc_actions::{TcStats2, TcXstats, kind_told};
+use tc_actions::{TcStats2, TcXstats};
 use tc_options::{TcOption, VecTcOption, is_known_kind};
 use tc_records::TcStats;
-use tc_values::{Either, Items, Record, Value};
+use tc_values::{Either, Items, Record, Value, kind_told};
 
 /// An attribute of a message.
 ///

@@ -150,11 +150,6 @@ action-grammar kind word value xs w =
     let own = (one_own read_action_attribute value w).reading xs in
     (λ is. own.0 (list.0 is), λ is. list.1 (own.1 is))
 
--- an action reads as nothing but attributes under its type
-pub action-attributes : (kind : List ℕ) (f : Frame) (x : Attribute) → read_action kind f ≡ Ok x
-    → (xs : List Attribute) × (x ≡ known (type_of f.word) (items (attributes_of xs)))
-action-attributes kind f x e = let s = seen_list (type_of f.word) (read_own read_action_attribute f.value) x e in (s.0, s.1)
-
 -- neighbours in an action
 pub action-exchanges : (kind : List ℕ) (word : ℕ) → Exchanges (ReadsAction kind word)
 action-exchanges kind word front one two back fs f g gs a b c d xs is =

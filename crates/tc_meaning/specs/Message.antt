@@ -60,12 +60,6 @@ module _ (layout : List Field) (rows : Rows) where
   abbrev pub ReadsMessage : List ℕ → Message → Type 0
   ReadsMessage = ReadsWith kind_of_frame layout rows
 
-  abbrev pub MessageFault : List ℕ → DecodeError → Type 0
-  MessageFault = FaultWith kind_of_frame layout rows
-
-  abbrev pub read_message : List ℕ → Outcome Message
-  read_message = read_with kind_of_frame layout rows
-
   -- the bytes of a message
   unfoldable pub message_bytes : Message → List ℕ
   message_bytes m = fields_bytes layout m.header ++ list_bytes (table_codec (table rows)).write m.body
@@ -89,9 +83,6 @@ module _ (layout : List Field) (rows : Rows) where
   pub record SettledByPlace (sets : Sets Attribute) (m : Message) : Type 0 where
     pub header : SettledFields layout m.header
     pub body : SettledAtEach (table_codec (table rows)).Settled sets [] m.body
-
-  abbrev pub SettledMessage : Message → Type 0
-  SettledMessage = SettledWith kind_of_attribute
 
 -- a message has one reading and no fault, or no reading and one fault
 pub record OneReading (reads : Reads Attribute) (sets : Sets Frame) (layout : List Field) (bytes : List ℕ) (outcome : Outcome Message) : Type 0 where

@@ -1,9 +1,16 @@
-//! Options in the variant of a kind.
+//! The kind that a frame sets, and options in the variant of a kind.
 
 ghost use Rattle.std.specs.Prelude.{◌≡◌, ◌↔◌, true, IsTrue};
 ghost use Rattle.std.specs.Str.{bytes_eq};
+ghost use Rattle.nla_frames.specs.Fault.{seen};
+ghost use Rattle.nla_frames.specs.Buffer.{frame_of};
+ghost use Rattle.nla_frames.specs.OnlyKind.{text_set};
+ghost use Rattle.tc_meaning.specs.OwnGrammar.{first_look};
 
-use nla_frames::Settle;
+use nla_frames::{DecodeError, NlaBuffer, Res, Settle, strip_nul};
+
+// The type of the attribute that holds the kind: `TCA_KIND` in a message, `TCA_ACT_KIND` in an action.
+const TCA_KIND: u16 = 1;
 
 /// True if an option of the kind `own`, written and read again under `kind`, is the same: if both kinds are one, and it
 /// is settled under that.
@@ -13,4 +20,18 @@ pub fn is_settled_of_kind<T: Settle>(attribute: &T, own: &str, kind: &str) -> bo
     ensures typed { IsTrue result → T.codec.Typed (T.see attribute.now) }
 {
     kind == own && attribute.is_settled_under(kind)
+}
+
+/// The kind that a frame sets: the text of a frame of type 1, whatever its flags are, and `None` for any other frame;
+/// `NotUtf8` if the payload is no text.
+pub fn kind_told<'a>(frame: &NlaBuffer<'a>) -> Res<Option<&'a str>>
+    ensures { seen text_set result ≡ first_look [] (frame_of frame.now) }
+{
+    if frame.kind() != TCA_KIND {
+        return Ok(None);
+    }
+    match std::str::from_utf8(strip_nul(frame.value())) {
+        Ok(kind) => Ok(Some(kind)),
+        Err(_) => Err(DecodeError::NotUtf8),
+    }
 }

@@ -8,6 +8,6 @@ pub mod same;
 pub mod value;
 
 pub use body::{Body, Either, Items, NoBody, Record};
-pub use kind::is_settled_of_kind;
+pub use kind::{is_settled_of_kind, kind_told};
 pub use same::{Same, same_row};
 pub use value::Value;

@@ -2,7 +2,6 @@
 //! contract speaks of what it holds.
 
 ghost use Rattle.std.specs.Prelude.{◌<◌, ◌^◌};
-ghost use Rattle.std.specs.Int.{w32, cast_unsigned};
 ghost use Rattle.nla_frames.specs.Value.{IsBytes, IsText};
 
 /// A number of one byte.
@@ -18,16 +17,6 @@ pub fn u16_in_hand(number: u16)
 /// A number of four bytes.
 pub fn u32_in_hand(number: u32)
     ensures { number < 256 ^ 4 }
-{}
-
-/// A number of eight bytes.
-pub fn u64_in_hand(number: u64)
-    ensures { number < 256 ^ 8 }
-{}
-
-/// A signed number of four bytes.
-pub fn i32_in_hand(number: i32)
-    ensures { cast_unsigned w32 number < 256 ^ 4 }
 {}
 
 /// Bytes.

@@ -6,15 +6,13 @@ ghost use Rattle.std.specs.Result.{MatchResult};
 ghost use Rattle.nla_frames.specs.Fault.{Gives, IfRefused, seen, refused};
 ghost use Rattle.nla_frames.specs.Buffer.{frame_of};
 ghost use Rattle.nla_frames.specs.Reading.{read_list, keep};
-ghost use Rattle.nla_frames.specs.OnlyKind.{text_set};
 ghost use Rattle.tc_meaning.specs.Own.{read_own};
 ghost use Rattle.tc_meaning.specs.OwnGrammar.{first_look, OwnReads, OwnFault};
 ghost use Rattle.tc_actions.specs.Scan.{Scanned};
 
-use crate::actions::types::TCA_ACT_KIND;
 use nla_frames::{
     DecodeError, NlaBuffer, NlasIterator, OnlyKind, ParseableParametrized, Res, first_capacity,
-    parse_frames_with, strip_nul,
+    parse_frames_with,
 };
 use std::alloc::Allocator;
 use tc_meaning::laws::own_grammar;
@@ -61,18 +59,4 @@ fn scan<'a, A: Allocator>(alloc: A, bytes: &'a [u8]) -> Res<(Vec<NlaBuffer<'a>, 
         frames.push(frame)?;
     }
     Ok((frames, only))
-}
-
-/// The kind that a frame sets: the text of a frame of type 1, whatever its flags are, and `None` for any other frame;
-/// `NotUtf8` if the payload is no text.
-pub fn kind_told<'a>(frame: &NlaBuffer<'a>) -> Res<Option<&'a str>>
-    ensures { seen text_set result ≡ first_look [] (frame_of frame.now) }
-{
-    if frame.kind() != TCA_ACT_KIND {
-        return Ok(None);
-    }
-    match std::str::from_utf8(strip_nul(frame.value())) {
-        Ok(kind) => Ok(Some(kind)),
-        Err(_) => Err(DecodeError::NotUtf8),
-    }
 }
