@@ -1,5 +1,6 @@
 -- What is found in the object that an attribute is shown as, and in what a reader of JSON makes of it.
-use Rattle.std.proofs.Common.{◌≡◌, ℕ, inl, inr, Bool, true, false, List, [], ◌∷◌, ◌++◌, length, Option, Some, None, refl, ap, sym, ◌∙◌, cond, true≢false}
+use Rattle.std.proofs.Common.{◌≡◌, ℕ, inl, inr, Bool, true, false, List, [], ◌∷◌, ◌++◌, length, Option, Some, None, refl, ap, sym, ◌∙◌, cond, true≢false, ◌-◌}
+use Rattle.std.proofs.Common.{suc, take, arith}
 use Rattle.std.specs.Prelude.{option_and_then, option_map, unwrap_or, is_none, bytes_eq, codes, not, ◌&&◌, ◌==◌, nat_le}
 use Rattle.std.proofs.lemmas.Bool.{cases_Bool, cond-true, cond-false, cond_both, and_parts, and_from, eqb-true, or_parts}
 use Rattle.std.proofs.lemmas.Slice.Eq.{bytes_eq-Decides}
@@ -7,7 +8,6 @@ use Rattle.nla_frames.specs.Frame.{padding}
 use Rattle.nla_frames.specs.Value.{strip, ends_in_nul}
 use Rattle.std.specs.Str.{is_utf8}
 use Rattle.tc_forms.specs.Kinds.{kind_text, kind_value}
-use Rattle.std.proofs.Common.{◌-◌, suc, take, arith}
 use Rattle.serde_json.specs.Data.{Data, boolean, number, string, object, unsigned, Members, no_members, member}
 use Rattle.serde_json.specs.Find.{get, get_member, as_str}
 use Rattle.tc_forms.specs.Attributes.{bare_told, kind_shown, pad_told, told}
@@ -129,18 +129,14 @@ get_pad_told c = go (is_blank (Some (padding (length c.value))) c.pad)
     go false = refl
 
 pub not_pad_told : (q : List ℕ) (c : PaddedFrame) → bytes_eq q (codes "pad") ≡ false → get_member q (pad_told c) ≡ None
-not_pad_told q c e = go (is_blank (Some (padding (length c.value))) c.pad)
-  where
-    go : (t : Bool) → get_member q (cond t no_members (member (codes "pad") (hex c.pad) no_members)) ≡ None
-    go true = refl
-    go false = passes q (codes "pad") (hex c.pad) no_members e
+not_pad_told q c e =
+    cond_both (is_blank (Some (padding (length c.value))) c.pad) no_members (member (codes "pad") (hex c.pad) no_members) (λ ms. get_member q ms ≡ None)
+    (λ blank. refl) (λ told. passes q (codes "pad") (hex c.pad) no_members e)
 
 pub get_told : (word : ℕ) (c : PaddedFrame) (q : List ℕ) → bytes_eq q (codes "word") ≡ false → get_member q (told word c) ≡ get_member q (pad_told c)
-get_told word c q e = go (c.word == word)
-  where
-    go : (t : Bool) → get_member q (cond t (pad_told c) (member (codes "word") (number (unsigned c.word)) (pad_told c))) ≡ get_member q (pad_told c)
-    go true = refl
-    go false = passes q (codes "word") (number (unsigned c.word)) (pad_told c) e
+get_told word c q e =
+    cond_both (c.word == word) (pad_told c) (member (codes "word") (number (unsigned c.word)) (pad_told c)) (λ ms. get_member q ms ≡ get_member q (pad_told c))
+    (λ same. refl) (λ other. passes q (codes "word") (number (unsigned c.word)) (pad_told c) e)
 
 word_told : (word : ℕ) (c : PaddedFrame) → get_member (codes "word") (told word c) ≡ word_seen word c
 word_told word c = go (c.word == word)
@@ -150,11 +146,9 @@ word_told word c = go (c.word == word)
     go false = here (codes "word") (number (unsigned c.word)) (pad_told c)
 
 pub get_bare_told : (v : List ℕ) (ms : Members) (q : List ℕ) → bytes_eq q (codes "bare") ≡ false → get_member q (bare_told v ms) ≡ get_member q ms
-get_bare_told v ms q e = go (ends_in_nul v)
-  where
-    go : (t : Bool) → get_member q (cond t ms (member (codes "bare") (boolean true) ms)) ≡ get_member q ms
-    go true = refl
-    go false = passes q (codes "bare") (boolean true) ms e
+get_bare_told v ms q e =
+    cond_both (ends_in_nul v) ms (member (codes "bare") (boolean true) ms) (λ xs. get_member q xs ≡ get_member q ms)
+    (λ ends. refl) (λ bare. passes q (codes "bare") (boolean true) ms e)
 
 bare_is_told : (v : List ℕ) (ms : Members) → get_member (codes "bare") ms ≡ None → get_member (codes "bare") (bare_told v ms) ≡ bare_seen v
 bare_is_told v ms none = go (ends_in_nul v)

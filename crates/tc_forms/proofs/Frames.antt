@@ -1,10 +1,10 @@
 -- Frames, and elements one after the other, are made again of what is shown of them.
-use Rattle.std.proofs.Common.{◌≡◌, ℕ, zero, suc, ◌≤◌, ◌+◌, Bool, true, List, [], ◌∷◌, ◌++◌, length, take, drop, Option, Some, None, refl, ap, sym, ◌∙◌, cond, arith, append_assoc}
-use Rattle.std.specs.Prelude.{nat_le, ◌&&◌, unwrap_or}
+use Rattle.std.proofs.Common.{◌≡◌, ℕ, zero, suc, ◌≤◌, ◌+◌, Bool, true, List, [], ◌∷◌, ◌++◌, length, take, drop, Option, Some, None, refl, ap, sym, ◌∙◌, cond}
+use Rattle.std.proofs.Common.{arith, append_assoc}
+use Rattle.std.specs.Prelude.{nat_le, ◌&&◌, unwrap_or, false}
 use Rattle.std.proofs.lemmas.Bool.{cond_both, and_parts, leb-true, le-leb}
 use Rattle.std.proofs.lemmas.List.{append-nil, take-append-drop, drop_at, length-append, length-drop, length-take}
 use Rattle.nla_frames.specs.Value.{IsBytes}
-use Rattle.std.specs.Prelude.{false}
 use Rattle.nla_frames.specs.Frame.{header, padding}
 use Rattle.nla_frames.specs.Grammar.{length_at}
 use Rattle.nla_frames.specs.Cutting.{frame_of_length}

@@ -1,5 +1,6 @@
 -- Bytes are made again of what is shown of them, by any table, in any form and under any kind.
-use Rattle.std.proofs.Common.{◌≡◌, ℕ, zero, suc, inl, inr, Bool, true, false, List, [], ◌∷◌, ◌++◌, length, take, drop, Option, Some, None, refl, ap, sym, ◌∙◌, cond, true≢false, subst, arith}
+use Rattle.std.proofs.Common.{◌≡◌, ℕ, zero, suc, inl, inr, Bool, true, false, List, [], ◌∷◌, ◌++◌, length, take, drop, Option, Some, None, refl, ap, sym, ◌∙◌}
+use Rattle.std.proofs.Common.{cond, true≢false, subst, arith}
 use Rattle.std.specs.Prelude.{option_and_then, option_map, unwrap_or, bytes_eq, codes, ◌&&◌, ◌||◌, ◌==◌, ◌-◌, slice_index}
 use Rattle.std.specs.Str.{is_utf8}
 use Rattle.std.proofs.lemmas.Bool.{cases_Bool, cond_both, and_parts, eqb-true, eq-eqb}
@@ -13,7 +14,8 @@ use Rattle.tc_forms.specs.declared.form.Number.{Number}
 use Rattle.tc_forms.specs.declared.form.Form.{Form}
 use Rattle.tc_forms.specs.declared.form.Form.TheVariants as form
 use Rattle.tc_forms.specs.Attributes.{attribute, by_kind, by_row, frames, indexed, layered, pad_told}
-use Rattle.tc_forms.specs.AttributesMade.{attribute_made, by_kind_made, by_row_made, each_under, indexed_made, kinded_made, layered_made, row_made, unlayered, word_made, word_or}
+use Rattle.tc_forms.specs.AttributesMade.{attribute_made, by_kind_made, by_row_made, each_under, indexed_made, kinded_made, layered_made, row_made, unlayered}
+use Rattle.tc_forms.specs.AttributesMade.{word_made, word_or}
 use Rattle.tc_forms.specs.Choices.{by_choice, by_choice_made, choice_made, chosen, follows, is_choice, other_or}
 use Rattle.tc_forms.specs.Frames.{PaddedFrame, frame_bytes}
 use Rattle.tc_forms.specs.Kinds.{kind_text, kind_value, kind_in, kind_told, own_kind}
@@ -28,10 +30,12 @@ use Rattle.tc_forms.specs.Shown.{show, shown}
 use Rattle.tc_forms.specs.Tables.{Choice, Row, Table}
 use Rattle.tc_forms.specs.Values.{text_in, text_or_raw, truth_made}
 use Rattle.tc_forms.specs.Widths.{fixed, number_width}
-use Rattle.tc_forms.proofs.Leaves.{hex_made-hex, raw_of-raw, mac_of-mac_text, ipv4_of-ipv4_text, ipv6_of-ipv6_text, number_again, handle_again, bytes_of-bits_of}
+use Rattle.tc_forms.proofs.Leaves.{hex_made-hex, raw_of-raw, mac_of-mac_text, ipv4_of-ipv4_text, ipv6_of-ipv6_text, number_again, handle_again}
+use Rattle.tc_forms.proofs.Leaves.{bytes_of-bits_of}
 use Rattle.tc_forms.proofs.Frames.{Stands, frames_again, own_again, elements_of-again}
 use Rattle.tc_forms.proofs.RecordsAgain.{record_again, record_not_raw, swapped, here, passes}
-use Rattle.tc_forms.proofs.Found.{bare_seen, kind_finds, kind_again, get_pad_told, not_pad_told, none_not_some, some_is, Guarded, guarded, held_again, pad_seen, Finds, finds, word_again, framed_again, plain}
+use Rattle.tc_forms.proofs.Found.{bare_seen, kind_finds, kind_again, get_pad_told, not_pad_told, none_not_some, some_is, Guarded, guarded, held_again}
+use Rattle.tc_forms.proofs.Found.{pad_seen, Finds, finds, word_again, framed_again, plain}
 
 no_bytes : (b : List ℕ) → length b ≡ 0 → [] ≡ b
 no_bytes [] e = refl

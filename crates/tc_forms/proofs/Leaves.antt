@@ -1,9 +1,11 @@
 -- Plain values are made again of what is shown of them.
-use Rattle.std.proofs.Common.{◌≡◌, ℕ, zero, suc, ◌-◌, ◌*◌, ◌^◌, ◌<◌, ◌≤◌, Bool, true, false, List, [], ◌∷◌, ◌++◌, length, get_or, reverse, negsuc, Option, Some, None, refl, ap, sym, ◌∙◌, subst, arith, cond, inl, inr}
-use Rattle.std.specs.Prelude.{option_map, option_and_then, bytes_eq, nat_lt}
-use Rattle.std.proofs.lemmas.Bool.{and_parts, eqb-true, eq-eqb, cases_lt, cases_Bool, cond-true, ltb-true, ltb-false, lt-ltb, cond_both}
+use Rattle.std.proofs.Common.{◌≡◌, ℕ, zero, suc, ◌-◌, ◌*◌, ◌^◌, ◌<◌, ◌≤◌, Bool, true, false, List, [], ◌∷◌, ◌++◌, length, get_or, reverse, negsuc, Option}
+use Rattle.std.proofs.Common.{Some, None, refl, ap, sym, ◌∙◌, subst, arith, cond, inl, inr, append-nil, lit≤}
+use Rattle.std.specs.Prelude.{option_map, option_and_then, bytes_eq, nat_lt, IfSome, MatchOption, is_none, unwrap_or, take, replicate, ◌==◌, ◌&&◌}
+use Rattle.std.proofs.lemmas.Bool.{and_parts, eqb-true, eq-eqb, cases_lt, cases_Bool, cond-true, ltb-true, ltb-false, lt-ltb, cond_both, true≢false, and_from}
+use Rattle.std.proofs.lemmas.Bool.{cond-false, false_from_ne_true}
 use Rattle.std.proofs.lemmas.Slice.Eq.{bytes_eq-Decides}
-use Rattle.std.proofs.lemmas.List.{reverse-reverse, length-reverse, get_or-reverse, get_or_past}
+use Rattle.std.proofs.lemmas.List.{reverse-reverse, length-reverse, get_or-reverse, get_or_past, append_cancel_left, take_at, drop_at, length-append}
 use Rattle.hex.specs.Hex.{decode_of, decode_sized}
 use Rattle.hex.specs.Hex as kit
 use Rattle.tc_forms.specs.Kinds.{kind_text}
@@ -15,14 +17,11 @@ use Rattle.std.specs.Net.Addr.{segments_of, octets_of}
 use Rattle.std.specs.Net.Reader.{read_ipv4, read_ipv6}
 use Rattle.std.proofs.NetLemmas.Ipv4.{read_ipv4_complete}
 use Rattle.std.proofs.NetLemmas.Ipv6.{read_ipv6_complete, EndsGroups-nil}
-use Rattle.std.proofs.Common.{append-nil, lit≤}
 use Rattle.std.proofs.Math.Nat.{pow-le-pow_right}
 use Rattle.tc_texts.specs.Addresses.{mac_text, ipv4_text, ipv6_text}
 use Rattle.tc_texts.proofs.Ipv6.{dotted, colon_hex, colon_hex_unique}
 use Rattle.tc_texts.specs.Handle.{handle_text, handle_of}
 use Rattle.tc_texts.specs.Reading.{IsOctets, ReadsBack, IsNoHex}
-use Rattle.std.specs.Prelude.{IfSome, MatchOption, is_none, unwrap_or}
-use Rattle.std.proofs.lemmas.Bool.{true≢false}
 use Rattle.tc_texts.proofs.HexTexts.{decode_of-hex_text}
 use Rattle.tc_texts.proofs.Mac as mac
 use Rattle.tc_texts.proofs.Handles.{handle_of-handle_text}
@@ -33,12 +32,8 @@ use Rattle.tc_forms.specs.Raw.{all_bytes, decoded, hex, hex_made, hex_of, of_len
 use Rattle.tc_forms.specs.Records.{all_zero}
 use Rattle.tc_forms.specs.Values.{ipv4_of, ipv6_of, mac_digits, mac_of, text_in}
 use Rattle.tc_forms.specs.Widths.{number_width}
-use Rattle.std.specs.Prelude.{take}
 use Rattle.std.specs.Str.{IsUtf8, is_utf8}
 use Rattle.std.proofs.lemmas.Str.{IsUtf8-from_is_utf8, is_utf8-from_IsUtf8}
-use Rattle.std.proofs.lemmas.List.{append_cancel_left, take_at, drop_at, length-append}
-use Rattle.std.proofs.lemmas.Bool.{and_from, cond-false, false_from_ne_true}
-use Rattle.std.specs.Prelude.{replicate, ◌==◌, ◌&&◌}
 
 pub same_bytes : (b : List ℕ) → bytes_eq b b ≡ true
 same_bytes b = (bytes_eq-Decides b b).1 refl

@@ -1,32 +1,25 @@
 -- What is appended, part by part.
-use Rattle.std.proofs.Common.{◌≡◌, ℕ, zero, suc, ◌+◌, ◌-◌, ◌/◌, ◌%◌, ◌<◌, ◌≤◌, List, [], ◌∷◌, ◌++◌, length, get_or, drop, take, reverse, replicate, Option, Some, None, Result, Ok, Err, refl, subst, sym, ap, ◌∙◌, append_assoc, arith}
-use Rattle.std.specs.Prelude.{option_map, is_none, unwrap_or}
-use Rattle.std.proofs.lemmas.Bool.{true≢false}
-use Rattle.std.proofs.Common.{add-one}
-use Rattle.serde_json.specs.Find.{get, as_array}
-use Rattle.std.specs.Prelude.{option_and_then}
-use Rattle.tc_forms.specs.AttributesMade.{kinded_made, attribute_made, layered_by, layered_made}
-use Rattle.tc_forms.specs.Places.{layer_of, part_at, rows_under}
-use Rattle.tc_forms.specs.Tables.{Row}
-use Rattle.std.proofs.lemmas.List.{drop_all, length-append, length-drop, reverse-append}
-use Rattle.std.proofs.lemmas.Nat.{div-add-mod', mod-mul-add}
+use Rattle.std.proofs.Common.{◌≡◌, ℕ, zero, suc, ◌+◌, ◌-◌, ◌/◌, ◌%◌, ◌<◌, ◌≤◌, List, [], ◌∷◌, ◌++◌, length, get_or, drop, take, reverse, replicate, Option}
+use Rattle.std.proofs.Common.{Some, None, Result, Ok, Err, refl, subst, sym, ap, ◌∙◌, append_assoc, arith, add-one, slice_set, ◌*◌}
+use Rattle.std.specs.Prelude.{option_map, unwrap_or, option_and_then, nat_le, Bool, false, true}
 use Rattle.std.proofs.lemmas.Bool.{cond-true, le-leb}
-use Rattle.std.proofs.Common.{slice_set, ◌*◌}
-use Rattle.std.specs.Prelude.{nat_le}
+use Rattle.serde_json.specs.Find.{get, as_array}
+use Rattle.tc_forms.specs.AttributesMade.{layered_by, layered_made, each_under, framed_with, pad_or}
+use Rattle.tc_forms.specs.Places.{layer_of, part_at, rows_under}
+use Rattle.tc_forms.specs.Tables.{Table, field_view, fields_view}
+use Rattle.std.proofs.lemmas.List.{take_at, drop_all, length-append, length-drop, reverse-append}
+use Rattle.std.proofs.lemmas.Nat.{div-add-mod', mod-mul-add}
 use Rattle.nla_frames.specs.Value.{le_bytes, be_bytes}
 use Rattle.nla_frames.specs.Frame.{header}
-use Rattle.std.specs.Prelude.{Bool, false}
+use Rattle.tc_forms.proofs.Found.{none_not_some, some_is}
 use Rattle.tc_forms.specs.Appended.{Appended, Stops}
-use Rattle.tc_forms.specs.AttributesMade.{each_under, framed_with, pad_or}
 use Rattle.tc_forms.specs.Frames.{frame_bytes}
-use Rattle.std.specs.Prelude.{true}
-use Rattle.tc_forms.specs.Kinds.{own_told, kind_told}
+use Rattle.tc_forms.specs.Kinds.{kind_told}
 use Rattle.tc_forms.specs.Made.{in_form, make}
 use Rattle.tc_forms.specs.Raw.{or_raw, raw_of}
 use Rattle.tc_forms.specs.Records.{each_made, field_made, fields_made, joined}
-use Rattle.tc_forms.specs.Tables.{Table, field_view, fields_view}
 use Rattle.tc_forms.specs.Values.{plain_made}
-use Rattle.serde_json.specs.Data.{Data, Items, no_items, item}
+use Rattle.serde_json.specs.Data.{Data, Items}
 use Rattle.serde_json.specs.View.{view, items_view}
 use Rattle.serde_json.specs.declared.value.Value.{Value}
 use Rattle.tc_forms.specs.declared.maker.Stop.{Stop}
@@ -34,17 +27,11 @@ use Rattle.tc_forms.specs.declared.form.Form.{Form}
 use Rattle.tc_forms.specs.declared.form.Field.{Field as CodeField}
 use Rattle.tc_forms.specs.declared.form.Form.TheVariants as form
 
-none_not_some : {X : Type 0} (x : X) → None ≡ Some x → ⊥
-none_not_some x e = true≢false (ap is_none e)
-
-same_some : {X : Type 0} (x y : X) → Some x ≡ Some y → x ≡ y
-same_some x y e = ap (λ o. unwrap_or o x) e
-
 -- bytes after bytes
 pub then_appended : {T : Type 0} (a b old mid new : List ℕ) (r : Result T Stop) → Some (old ++ a) ≡ Some mid → Appended (Some b) mid new r
     → Appended (Some (a ++ b)) old new r
 then_appended a b old mid new (Ok u) first second =
-    ap Some (sym (append_assoc old a b)) ∙ ap (λ m. Some (m ++ b)) (same_some (old ++ a) mid first) ∙ second
+    ap Some (sym (append_assoc old a b)) ∙ ap (λ m. Some (m ++ b)) (some_is (old ++ a) mid first) ∙ second
 then_appended a b old mid new (Err e) first second = λ not. absurd (none_not_some b (sym (second not)))
 
 pub appended_as : {T : Type 0} (x y : Option (List ℕ)) (old new : List ℕ) (r : Result T Stop) → x ≡ y → Appended x old new r → Appended y old new r
@@ -78,7 +65,7 @@ pub joined_more : (w rest all : Option (List ℕ)) (start now new : List ℕ) �
 joined_more None rest all start now new left done = absurd (none_not_some new done)
 joined_more (Some a) None all start now new left done = left
 joined_more (Some a) (Some b) all start now new left done =
-    ap (λ m. Some (m ++ b)) (sym (same_some (now ++ a) new done)) ∙ ap Some (append_assoc now a b) ∙ left
+    ap (λ m. Some (m ++ b)) (sym (some_is (now ++ a) new done)) ∙ ap Some (append_assoc now a b) ∙ left
 
 none_of : (all : Option (List ℕ)) (start : List ℕ) → None ≡ option_map (λ b. start ++ b) all → all ≡ None
 none_of None start e = refl
@@ -89,12 +76,6 @@ pub joined_fails : (w rest all : Option (List ℕ)) (start now : List ℕ) (e : 
     → Stops w e → Stops all e
 joined_fails w rest all start now e left fails not =
     none_of all start (ap (λ x. option_map (λ b. now ++ b) (joined x rest)) (sym (fails not)) ∙ left)
-
--- the last part
-pub last_appended : {T : Type 0} (w all : Option (List ℕ)) (start now new : List ℕ) (r : Result T Stop)
-    → option_map (λ b. now ++ b) w ≡ option_map (λ b. start ++ b) all → Appended w now new r → Appended all start new r
-last_appended w all start now new (Ok u) left h = sym left ∙ h
-last_appended w all start now new (Err e) left h = λ not. none_of all start (ap (option_map (λ b. now ++ b)) (sym (h not)) ∙ left)
 
 -- items, of which one is next
 pub items_here : (One : Data → Option (List ℕ)) (vs : List Value) (i : ℕ) (x : Value) → i < length vs → x ≡ get_or vs i x
@@ -129,37 +110,33 @@ items_under One has (v ∷ vs) (suc i) x k next lt is e =
     items_under One has vs i x k next (omega (arith, lt)) is e
     ∙ ap (λ (n : ℕ). joined (or_raw (raw_of (view x)) (One next (view x))) (each_under One has next (items_view (drop n (v ∷ vs))))) more
 
+module _ (One : List ℕ → Data → Option (List ℕ)) (has : Bool) (vs : List Value) (i : ℕ) (x : Value) (k next start now : List ℕ) (all : Option (List ℕ))
+    (lt : i < length vs) (is : x ≡ get_or vs i x) (e : next ≡ unwrap_or (kind_told has (view x)) k)
+    (left : option_map (λ b. now ++ b) (each_under One has k (items_view (drop i vs))) ≡ option_map (λ b. start ++ b) all) where
+  under_here : option_map (λ b. now ++ b) (joined (or_raw (raw_of (view x)) (One next (view x))) (each_under One has next (items_view (drop (i + 1) vs))))
+      ≡ option_map (λ b. start ++ b) all
+  under_here = ap (option_map (λ b. now ++ b)) (sym (items_under One has vs i x k next lt is e)) ∙ left
+
+  pub under_more : (new : List ℕ) → option_map (λ b. now ++ b) (or_raw (raw_of (view x)) (One next (view x))) ≡ Some new
+      → option_map (λ b. new ++ b) (each_under One has next (items_view (drop (i + 1) vs))) ≡ option_map (λ b. start ++ b) all
+  under_more new made =
+      joined_more (or_raw (raw_of (view x)) (One next (view x))) (each_under One has next (items_view (drop (i + 1) vs))) all start now new under_here made
+
+  pub under_fails : (s : Stop) → Stops (or_raw (raw_of (view x)) (One next (view x))) s → Stops all s
+  under_fails s fails =
+      joined_fails (or_raw (raw_of (view x)) (One next (view x))) (each_under One has next (items_view (drop (i + 1) vs))) all start now s under_here fails
+
 pub under_over : (One : List ℕ → Data → Option (List ℕ)) (has : Bool) (vs : List Value) (i : ℕ) (k : List ℕ) → length vs ≤ i → each_under One has k (items_view (drop i vs)) ≡ Some []
 under_over One has vs i k over = ap (λ xs. each_under One has k (items_view xs)) (drop_all i vs over)
 
--- where no kind is told, items that are made alike under the one kind
-pub items_same : (One Two : List ℕ → Data → Option (List ℕ)) (k : List ℕ) → ((d : Data) → One k d ≡ Two k d) → (ds : Items)
-    → each_under One false k ds ≡ each_under Two false k ds
-items_same One Two k same no_items = refl
-items_same One Two k same (item d ds) =
-    ap (λ x. joined (or_raw (raw_of d) x) (each_under One false k ds)) (same d) ∙ ap (joined (or_raw (raw_of d) (Two k d))) (items_same One Two k same ds)
-
-pub list_made : {T : Type 0} (table : Table) (Made : List ℕ → Form → Data → Option (List ℕ)) (i : ℕ) (k layer : List ℕ) (rows : List Row) (d : Data) (ds : Items)
-    (old new : List ℕ) (r : Result T Stop) → Some ds ≡ as_array d → layer ≡ layer_of (part_at table i) → rows ≡ rows_under table i k
-    → Appended (each_under (layered_by Made rows false layer) false k ds) old new r
+pub list_made : {T : Type 0} (table : Table) (Made : List ℕ → Form → Data → Option (List ℕ)) (i : ℕ) (k layer : List ℕ) (d : Data) (ds : Items) (old new : List ℕ)
+    (r : Result T Stop) → Some ds ≡ as_array d → layer ≡ layer_of (part_at table i)
+    → Appended (each_under (λ j x. layered_by Made (rows_under table i j) false layer j x) false k ds) old new r
     → Appended (option_and_then (each_under (layered_made table Made i) false k) (as_array d)) old new r
-list_made table Made i k layer rows d ds old new r found el er h =
-    let own = layer_of (part_at table i) in
-    let All = each_under (layered_made table Made i) false k in
-    appended_as (each_under (layered_by Made rows false layer) false k ds) (option_and_then All (as_array d)) old new r
-    (items_same (layered_by Made rows false layer) (layered_made table Made i) k
-    (λ x. ap (λ l. layered_by Made rows false l k x) el ∙ ap (λ q. layered_by Made q false own k x) er) ds ∙ ap (option_and_then All) found)
-    h
-
-pub own_made : {T : Type 0} (table : Table) (Made : List ℕ → Form → Data → Option (List ℕ)) (i : ℕ) (k : List ℕ) (rows : List Row) (d : Data) (ds : Items)
-    (old new : List ℕ) (r : Result T Stop) → Some ds ≡ as_array d → k ≡ own_told ds → rows ≡ rows_under table i k
-    → Appended (each_under (layered_by Made rows true []) false k ds) old new r
-    → Appended (option_and_then (λ es. each_under (kinded_made table Made i) false (own_told es) es) (as_array d)) old new r
-own_made table Made i k rows d ds old new r found ek er h =
-    let Each = kinded_made table Made i in
-    appended_as (each_under (layered_by Made rows true []) false k ds) (option_and_then (λ es. each_under Each false (own_told es) es) (as_array d)) old new r
-    (items_same (layered_by Made rows true []) Each k (λ x. ap (λ q. attribute_made Made q true k x) er) ds ∙ ap (λ j. each_under Each false j ds) ek
-    ∙ ap (option_and_then (λ es. each_under Each false (own_told es) es)) found)
+list_made table Made i k layer d ds old new r found el h =
+    appended_as (each_under (λ j x. layered_by Made (rows_under table i j) false layer j x) false k ds) _ old new r
+    (ap (λ l. each_under (λ j x. layered_by Made (rows_under table i j) false l j x) false k ds) el
+    ∙ ap (option_and_then (each_under (layered_made table Made i) false k)) found)
     h
 
 -- ---- levels
@@ -175,9 +152,6 @@ level_made table n m k f shape d x old new r deeper same not_raw is h =
 pub raw_made : (table : Table) (n : ℕ) (k : List ℕ) (f : Form) (d : Data) (b : List ℕ) → Some b ≡ raw_of d → Some b ≡ make table n k f d
 raw_made table zero k f d b e = e
 raw_made table (suc n) k f d b e = ap (λ o. or_raw o (in_form table (make table n) k f d)) e
-
-pub not_made : (table : Table) (n : ℕ) (k : List ℕ) (f : Form) (d : Data) → n ≡ 0 → None ≡ raw_of d → make table n k f d ≡ None
-not_made table n k f d e none = ap (λ j. make table j k f d) e ∙ sym none
 
 pub plain_in_form : (table : Table) (Made : List ℕ → Form → Data → Option (List ℕ)) (k : List ℕ) (f : Form) (d : Data) → ((i : ℕ) → f ≡ form.Record i → ⊥)
     → ((i : ℕ) → f ≡ form.Array i → ⊥) → ((n i : ℕ) → f ≡ form.Times n i → ⊥) → ((i : ℕ) → f ≡ form.List i → ⊥) → ((i : ℕ) → f ≡ form.InForce i → ⊥)
@@ -208,10 +182,6 @@ not_some (Some x) h = absurd (h x refl)
 header_fits : (old v : List ℕ) → length old + 4 ≤ length (old ++ (0 ∷ 0 ∷ 0 ∷ 0 ∷ v))
 header_fits old v = let e = length-append old (0 ∷ 0 ∷ 0 ∷ 0 ∷ v) in omega (arith, e)
 
-take_front : (a b : List ℕ) → take (length a) (a ++ b) ≡ a
-take_front [] b = refl
-take_front (x ∷ a) b = ap (λ l. x ∷ l) (take_front a b)
-
 drop_header : (a v : List ℕ) → drop (length a + 4) (a ++ (0 ∷ 0 ∷ 0 ∷ 0 ∷ v)) ≡ v
 drop_header [] v = refl
 drop_header (x ∷ a) v = let next : length (x ∷ a) + 4 ≡ suc (length a + 4) = omega arith in ap (λ n. drop n (x ∷ (a ++ (0 ∷ 0 ∷ 0 ∷ 0 ∷ v)))) next ∙ drop_header a v
@@ -220,7 +190,7 @@ module _ (wanted : Option (List ℕ)) (old mid now : List ℕ) (start : ℕ) (pl
     (made : option_map (λ b. mid ++ b) wanted ≡ Some now) where
   now_is : (v : List ℕ) → wanted ≡ Some v → now ≡ old ++ (0 ∷ 0 ∷ 0 ∷ 0 ∷ v)
   now_is v e =
-      sym (same_some (mid ++ v) now (sym (ap (option_map (λ b. mid ++ b)) e) ∙ made)) ∙ ap (λ m. m ++ v) room ∙ append_assoc old (0 ∷ 0 ∷ 0 ∷ 0 ∷ []) v
+      sym (some_is (mid ++ v) now (sym (ap (option_map (λ b. mid ++ b)) e) ∙ made)) ∙ ap (λ m. m ++ v) room ∙ append_assoc old (0 ∷ 0 ∷ 0 ∷ 0 ∷ []) v
 
   -- its header has room
   pub has_room : start + 4 ≤ length now
@@ -238,7 +208,7 @@ module _ (wanted : Option (List ℕ)) (old mid now : List ℕ) (start : ℕ) (pl
       go : (o : Option (List ℕ)) → wanted ≡ o → Appended (option_and_then (λ v. framed_with word v pad) wanted) old new r
       go None e = absurd (none_not_some now (sym (ap (option_map (λ b. mid ++ b)) e) ∙ made))
       go (Some v) e =
-          let at : take start now ≡ old = ap (λ n. take n now) place ∙ ap (take (length old)) (now_is v e) ∙ take_front old (0 ∷ 0 ∷ 0 ∷ 0 ∷ v) in
+          let at : take start now ≡ old = ap (λ n. take n now) place ∙ ap (take (length old)) (now_is v e) ∙ take_at old (0 ∷ 0 ∷ 0 ∷ 0 ∷ v) (length old) refl in
           let value : drop (start + 4) now ≡ v = ap (λ n. drop (n + 4) now) place ∙ ap (drop (length old + 4)) (now_is v e) ∙ drop_header old v in
           subst (λ o. Appended (option_and_then (λ v. framed_with word v pad) o) old new r) (sym e)
           (subst (λ b. Appended (framed_with word v pad) b new r) at (subst (λ b. Appended (framed_with word b pad) (take start now) new r) value h))

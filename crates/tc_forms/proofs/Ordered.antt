@@ -1,12 +1,13 @@
 -- The order of members makes no difference: bytes are made again of what a reader of JSON makes of what is shown.
-use Rattle.std.proofs.Common.{◌≡◌, ℕ, zero, suc, Bool, true, false, List, [], ◌∷◌, length, take, drop, Option, Some, None, refl, ap, sym, ◌∙◌, cond, true≢false, Ordering, Less, Equal, Greater, inl, inr}
+use Rattle.std.proofs.Common.{◌≡◌, ℕ, zero, suc, Bool, true, false, List, [], ◌∷◌, length, take, drop, Option, Some, None, refl, ap, sym, ◌∙◌, cond}
+use Rattle.std.proofs.Common.{true≢false, Ordering, Less, Equal, Greater, inl, inr}
 use Rattle.std.specs.Prelude.{option_map, option_and_then, unwrap_or, bytes_eq, codes, not, ◌&&◌, ◌||◌, ◌==◌}
 use Rattle.std.specs.Str.{is_utf8}
 use Rattle.std.specs.Ordering.{match_ordering, nat_cmp}
 use Rattle.std.specs.Cmp.Lexicographic.{slice_cmp}
 use Rattle.std.proofs.lemmas.Bool.{cases_Bool, cond_both, and_parts}
 use Rattle.std.proofs.lemmas.Slice.Eq.{bytes_eq-Decides}
-use Rattle.nla_frames.specs.Value.{IsBytes}
+use Rattle.nla_frames.specs.Value.{IsBytes, ends_in_nul}
 use Rattle.nla_frames.specs.Frame.{padding}
 use Rattle.nla_frames.proofs.Bytes.{IsBytes-drop}
 use Rattle.serde_json.specs.Data.{Data, number, string, boolean, object, unsigned, item, Members, no_members, member, put}
@@ -14,8 +15,8 @@ use Rattle.serde_json.specs.Find.{get_member}
 use Rattle.serde_json.proofs.Views.{get_member-put, get_member-put_other}
 use Rattle.tc_forms.specs.declared.form.Form.{Form}
 use Rattle.tc_forms.specs.declared.form.Form.TheVariants as form
-use Rattle.nla_frames.specs.Value.{ends_in_nul}
-use Rattle.tc_forms.specs.Attributes.{bare_told, attribute, by_kind, by_row, first_or_tail, frames, indexed, layered, pad_told, tail_shown, told, word_and_hex}
+use Rattle.tc_forms.specs.Attributes.{bare_told, attribute, by_kind, by_row, first_or_tail, frames, indexed, layered, pad_told, tail_shown, told}
+use Rattle.tc_forms.specs.Attributes.{word_and_hex}
 use Rattle.tc_forms.specs.AttributesMade.{each_under, indexed_made, kinded_made, layered_made}
 use Rattle.tc_forms.specs.Choices.{by_choice, chosen, follows, is_choice}
 use Rattle.tc_forms.specs.Frames.{PaddedFrame, after_first, frame_bytes, front}
@@ -25,7 +26,8 @@ use Rattle.tc_forms.specs.Numbers.{bits_of, is_number, name_of, named_or, num, n
 use Rattle.tc_forms.specs.Ordered.{ordered, ordered_items, ordered_members}
 use Rattle.tc_forms.specs.Places.{choices_of, fields_of, form_of, layer_of, names_of, part_at, rows_under}
 use Rattle.tc_forms.specs.Raw.{hex, hex_made, one, or_raw, raw, raw_of}
-use Rattle.tc_forms.specs.Records.{after_field, are_apart, are_enough, each_made, elements, elements_of, field_of, fields_made, is_blank, is_free, is_pad, members, names_apart}
+use Rattle.tc_forms.specs.Records.{after_field, are_apart, are_enough, each_made, elements, elements_of, field_of, fields_made, is_blank, is_free, is_pad}
+use Rattle.tc_forms.specs.Records.{members, names_apart}
 use Rattle.tc_forms.specs.Rows.{counts, of_type, shown_row, type_of}
 use Rattle.tc_forms.specs.Search.{first}
 use Rattle.tc_forms.specs.Shown.{show, shown}
@@ -35,7 +37,8 @@ use Rattle.tc_forms.specs.Widths.{field_width, fixed, number_width}
 use Rattle.tc_forms.proofs.Leaves.{hex_made-hex, raw_of-raw}
 use Rattle.tc_forms.proofs.Frames.{Stands, frames_again, own_again, elements_of-again}
 use Rattle.tc_forms.proofs.RecordsAgain.{here, passes, absent, swapped, not-false, fields_again}
-use Rattle.tc_forms.proofs.Found.{bare_seen, kind_finds, get_bare_told, no_bare_told, get_pad_told, not_pad_told, get_told, none_not_some, guarded, word_seen, pad_seen, Finds, finds, plain}
+use Rattle.tc_forms.proofs.Found.{bare_seen, kind_finds, get_bare_told, no_bare_told, get_pad_told, not_pad_told, get_told, none_not_some, guarded, pad_seen}
+use Rattle.tc_forms.proofs.Found.{Finds, finds, plain}
 use Rattle.tc_forms.proofs.Law.{Holds, Again, kind_found, other_found, other_finds, row_found, in_list, in_layer, choice_found, indexed_found, level_again}
 
 -- each member as it is read
@@ -101,11 +104,8 @@ cond_read false d b e = refl
 
 named_read : (names : List Name) (n : ℕ) (d : Data) (o : Option (List ℕ)) → ordered d ≡ d → ordered (named_or names n d o) ≡ named_or names n d o
 named_read names n d None e = e
-named_read names n d (Some name) e = go (is_number (number_of names name) n)
-  where
-    go : (t : Bool) → ordered (cond t (string name) d) ≡ cond t (string name) d
-    go true = refl
-    go false = e
+named_read names n d (Some name) e =
+    cond_both (is_number (number_of names name) n) (string name) d (λ x. ordered x ≡ x) (λ is. refl) (λ other. e)
 
 text_read : (b : List ℕ) (o : Option (List ℕ)) → ordered (text_or_raw b o) ≡ text_or_raw b o
 text_read b None = refl
@@ -134,51 +134,32 @@ plain_read table f b = refl
 abbrev read : Members → Data
 read ms = object (ordered_members ms no_members)
 
-word_seen_read : (word : ℕ) (c : PaddedFrame) → option_map ordered (word_seen word c) ≡ word_seen word c
-word_seen_read word c = go (c.word == word)
-  where
-    go : (t : Bool) → option_map ordered (cond t None (Some (number (unsigned c.word)))) ≡ cond t None (Some (number (unsigned c.word)))
-    go true = refl
-    go false = refl
+seen_read : (t : Bool) (d : Data) → ordered d ≡ d → option_map ordered (cond t None (Some d)) ≡ cond t None (Some d)
+seen_read true d e = refl
+seen_read false d e = ap Some e
 
 pad_seen_read : (c : PaddedFrame) → option_map ordered (pad_seen c) ≡ pad_seen c
-pad_seen_read c = go (is_blank (Some (padding (length c.value))) c.pad)
-  where
-    go : (t : Bool) → option_map ordered (cond t None (Some (hex c.pad))) ≡ cond t None (Some (hex c.pad))
-    go true = refl
-    go false = refl
-
-bare_seen_read : (v : List ℕ) → option_map ordered (bare_seen v) ≡ bare_seen v
-bare_seen_read v = go (ends_in_nul v)
-  where
-    go : (t : Bool) → option_map ordered (cond t None (Some (boolean true))) ≡ cond t None (Some (boolean true))
-    go true = refl
-    go false = refl
+pad_seen_read c = seen_read (is_blank (Some (padding (length c.value))) c.pad) (hex c.pad) refl
 
 finds_read : (ms : Members) (name : List ℕ) (x : Data) (mark : Option Data) (word : ℕ) (c : PaddedFrame) → Apart ms → option_map ordered mark ≡ mark
     → Finds (object ms) name x mark word c → Finds (read ms) name (ordered x) mark word c
 finds_read ms name x mark word c a kept_mark f = record {
   it = read_so ms name a ∙ ap (option_map ordered) f.it;
   bare = read_so ms (codes "bare") a ∙ ap (option_map ordered) f.bare ∙ kept_mark;
-  word = read_so ms (codes "word") a ∙ ap (option_map ordered) f.word ∙ word_seen_read word c;
+  word = read_so ms (codes "word") a ∙ ap (option_map ordered) f.word ∙ seen_read (c.word == word) (number (unsigned c.word)) refl;
   pad = read_so ms (codes "pad") a ∙ ap (option_map ordered) f.pad ∙ pad_seen_read c;
   none = λ q own w p b. read_so ms q a ∙ ap (option_map ordered) (f.none q own w p b);
   no_text = refl;
 }
 
 pub pad_apart : (c : PaddedFrame) → Apart (pad_told c)
-pad_apart c = go (is_blank (Some (padding (length c.value))) c.pad)
-  where
-    go : (t : Bool) → Apart (cond t no_members (member (codes "pad") (hex c.pad) no_members))
-    go true = tt
-    go false = (refl, tt)
+pad_apart c =
+    cond_both (is_blank (Some (padding (length c.value))) c.pad) no_members (member (codes "pad") (hex c.pad) no_members) Apart (λ blank. tt) (λ told. (refl, tt))
 
 pub told_apart : (word : ℕ) (c : PaddedFrame) → Apart (told word c)
-told_apart word c = go (c.word == word)
-  where
-    go : (t : Bool) → Apart (cond t (pad_told c) (member (codes "word") (number (unsigned c.word)) (pad_told c)))
-    go true = pad_apart c
-    go false = (not_pad_told (codes "word") c refl, pad_apart c)
+told_apart word c =
+    cond_both (c.word == word) (pad_told c) (member (codes "word") (number (unsigned c.word)) (pad_told c)) Apart (λ same. pad_apart c)
+    (λ other. (not_pad_told (codes "word") c refl, pad_apart c))
 
 pub named_apart : (name : List ℕ) (x : Data) (word : ℕ) (c : PaddedFrame) → bytes_eq name (codes "word") ≡ false → bytes_eq name (codes "pad") ≡ false
     → Apart (member name x (told word c))
@@ -241,7 +222,7 @@ module _ (Inner : List ℕ → Form → List ℕ → Data) where
         by_kind_read (Some t) e =
             kind_found Reads Made again rows has k c t _ e s
             (finds_read (member (codes "Kind") (string t) (bare_told c.value (told 1 c))) (codes "Kind") (string t) (bare_seen c.value) 1 c (kind_apart t c)
-            (bare_seen_read c.value) (kind_finds t c))
+            (seen_read (ends_in_nul c.value) (boolean true) refl) (kind_finds t c))
         by_kind_read None e = by_row_read (shown_row rows c.word) refl e
 
 -- ---- what is shown, as it is read

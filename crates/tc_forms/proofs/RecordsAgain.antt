@@ -1,7 +1,7 @@
 -- Records are made again of what is shown of them.
 use Rattle.std.proofs.Common.{◌≡◌, ℕ, inl, inr, Bool, true, false, List, [], ◌∷◌, ◌++◌, length, Option, Some, None, refl, ap, sym, ◌∙◌, cond, true≢false}
-use Rattle.std.specs.Prelude.{option_and_then, unwrap_or, replicate, ◌==◌, bytes_eq, codes, not, ◌&&◌}
 use Rattle.std.proofs.Common.{Ordering, Less, Equal, Greater}
+use Rattle.std.specs.Prelude.{option_and_then, unwrap_or, replicate, ◌==◌, bytes_eq, codes, not, ◌&&◌}
 use Rattle.std.specs.Ordering.{match_ordering, nat_cmp, is_eq}
 use Rattle.std.specs.Cmp.Lexicographic.{slice_cmp}
 use Rattle.std.proofs.lemmas.Bool.{cases_Bool, cond_both, and_parts, eqb-true}
@@ -14,7 +14,8 @@ use Rattle.serde_json.specs.Data.{Data, object, Members, no_members, member}
 use Rattle.serde_json.specs.Find.{get_member}
 use Rattle.tc_forms.specs.declared.form.Form.{Form}
 use Rattle.tc_forms.specs.Raw.{hex, hex_made, raw_of}
-use Rattle.tc_forms.specs.Records.{after_field, all_zero, are_apart, field_made, field_member, field_of, fields_made, is_blank, is_free, is_pad, members, names_apart, rest_made, rest_member, zeros}
+use Rattle.tc_forms.specs.Records.{after_field, all_zero, are_apart, field_made, field_member, field_of, fields_made, is_blank, is_free, is_pad, members}
+use Rattle.tc_forms.specs.Records.{names_apart, rest_made, rest_member, zeros}
 use Rattle.tc_forms.specs.Tables.{Field, Table}
 use Rattle.tc_forms.specs.Widths.{field_width}
 use Rattle.tc_forms.proofs.Leaves.{all_zeros, same_bytes, hex_made-hex}

@@ -1,35 +1,28 @@
 -- Events that are sent one after the other.
-use Rattle.std.proofs.Common.{◌≡◌, ℕ, zero, suc, ◌+◌, ◌-◌, ◌<◌, ◌≤◌, true, false, List, [], ◌∷◌, ◌++◌, length, drop, take, Some, None, refl, subst, sym, ap, ◌∙◌, append_assoc, append-nil, arith}
-use Rattle.std.specs.Prelude.{◌==◌}
-use Rattle.std.proofs.lemmas.Bool.{cond-true, cond-false, false_from_ne_true, eq-eqb}
+use Rattle.std.proofs.Common.{◌≡◌, ℕ, zero, suc, ◌+◌, ◌-◌, ◌<◌, ◌≤◌, true, false, List, [], ◌∷◌, ◌++◌, length, drop, take, Some, None, refl, subst, sym, ap}
+use Rattle.std.proofs.Common.{◌∙◌, append_assoc, append-nil, arith, get_or, add-one}
+use Rattle.std.specs.Prelude.{◌==◌, Bool, Option, option_map, unwrap_or}
+use Rattle.std.proofs.lemmas.Bool.{cond-true, cond-false, false_from_ne_true, eq-eqb, eqb-true, true≢false}
 use Rattle.std.specs.Str.{IsUtf8, is_utf8}
 use Rattle.std.proofs.lemmas.Str.{IsUtf8-from_is_utf8, is_utf8-from_IsUtf8}
-use Rattle.serde.specs.Event.{Event, Log, Logs, text}
+use Rattle.serde.specs.Event.{Event, Log, Logs, text, field_key, seq_begins, seq_ends}
 use Rattle.tc_texts.specs.Addresses.{mac_text}
 use Rattle.tc_forms.specs.declared.form.Form.TheVariants as form
-use Rattle.std.proofs.Common.{get_or, add-one}
 use Rattle.std.proofs.lemmas.List.{drop_all}
-use Rattle.tc_forms.specs.Attributes.{attribute, first_or_tail, frames, layered, tail_shown}
+use Rattle.tc_forms.specs.Attributes.{first_or_tail, frames, tail_shown}
 use Rattle.tc_forms.specs.Frames.{PaddedFrame, after_first, front}
 use Rattle.tc_forms.specs.Kinds.{kind_in, own_kind, own_or}
 use Rattle.tc_forms.specs.Raw.{raw}
 use Rattle.tc_forms.specs.Records.{after_field, elements, field_member, field_of, members, rest_member}
-use Rattle.tc_forms.specs.Places.{layer_of, part_at, rows_under}
 use Rattle.tc_forms.specs.Sent.{Sent, events, items_events, members_events}
 use Rattle.tc_forms.specs.Shown.{show, shown}
-use Rattle.tc_forms.specs.Tables.{Row, Table, field_view, fields_view, no_table}
+use Rattle.tc_forms.specs.Tables.{Table, field_view, fields_view, no_table}
 use Rattle.tc_forms.specs.Values.{plain_shown}
 use Rattle.tc_forms.specs.Widths.{field_width}
-use Rattle.std.specs.Prelude.{Bool, Option, option_map, unwrap_or}
 use Rattle.tc_forms.specs.declared.form.Form.{Form}
 use Rattle.tc_forms.specs.declared.form.Field.{Field as CodeField}
-use Rattle.serde.specs.Event.{field_key}
 use Rattle.serde.specs.declared.name.Case.TheVariants.{AsIs}
-use Rattle.serde_json.specs.Data.{no_members, member}
-use Rattle.serde_json.specs.Data.{Data, Items, item, array, Members, no_members, member, string}
-use Rattle.serde.specs.Event.{seq_begins, seq_ends, field_key}
-use Rattle.serde.specs.declared.name.Case.TheVariants.{AsIs}
-use Rattle.std.proofs.lemmas.Bool.{eqb-true, true≢false}
+use Rattle.serde_json.specs.Data.{no_members, member, Data, Items, array, Members, string}
 
 drop_here : {X : Type 0} (xs : List X) (i : ℕ) (d : X) → i < length xs → drop i xs ≡ get_or xs i d ∷ drop (i + 1) xs
 drop_here [] i d lt = absurd (omega arith)
@@ -146,9 +139,6 @@ module _ (table : Table) (Inner : Form → List ℕ → Data) (fs : List CodeFie
 pub show_deeper : (table : Table) (n m : ℕ) (k : List ℕ) (f : Form) (b : List ℕ) → n ≡ m + 1 → show table n k f b ≡ shown table (show table m) k f b
 show_deeper table n m k f b e = ap (λ j. show table j k f b) (e ∙ add-one m)
 
-pub show_flat : (table : Table) (k : List ℕ) (f : Form) (b : List ℕ) → show table zero k f b ≡ raw b
-show_flat table k f b = refl
-
 pub level_sent : (table : Table) (n m : ℕ) (k : List ℕ) (f shape : Form) (b : List ℕ) (d : Data) (old new : Log) → n ≡ m + 1 → f ≡ shape
     → shown table (show table m) k shape b ≡ d → Sent (events d) old new → Sent (events (show table n k f b)) old new
 level_sent table n m k f shape b d old new deeper same is sent =
@@ -205,10 +195,6 @@ module _ (len i : ℕ) (b left : List ℕ) (before : own_kind len b ≡ own_kind
       own_step c lt found ∙ ap (λ o. unwrap_or o (own_kind (len - (i + 1)) (after_first left))) (sym told)
       ∙ ap (own_kind (len - (i + 1))) (sym is_after)
 
-  pub own_over : len ≤ i → [] ≡ own_kind len b
-  own_over over =
-      let none : len - i ≡ 0 = omega (arith, over) in sym (before ∙ ap (λ n. own_kind n left) none)
-
 -- ---- texts without a NUL
 
 pub bare_sent : (b t : List ℕ) (old new : Log) → t ≡ b → IsUtf8 b → Logs old new (text t) → Sent (events (plain_shown no_table form.Bare b)) old new
@@ -233,33 +219,3 @@ pub key_sent : (name : List ℕ) (d : Data) (old mid new : Log) → Logs old mid
 key_sent name d old mid new h e =
     sent_then (field_key name AsIs ∷ []) (events d ++ []) old mid new (sent_one (field_key name AsIs) old mid h)
     (subst (λ es. Sent es mid new) (sym (append-nil (events d))) e)
-
--- where no kind is set, frames that are shown alike under the one kind
-frames_same : (One Two : List ℕ → PaddedFrame → Data) (k : List ℕ) → ((c : PaddedFrame) → One k c ≡ Two k c) → (n : ℕ) (b : List ℕ)
-    → frames One false n k b ≡ frames Two false n k b
-frames_same One Two k same zero b = refl
-frames_same One Two k same (suc n) b = go (front b) (frames_same One Two k same n (after_first b))
-  where
-    go : (o : Option PaddedFrame) → frames One false n k (after_first b) ≡ frames Two false n k (after_first b)
-        → first_or_tail One false k b (λ j. frames One false n j (after_first b)) o ≡ first_or_tail Two false k b (λ j. frames Two false n j (after_first b)) o
-    go None later = refl
-    go (Some c) later = ap (λ d. item d (frames One false n k (after_first b))) (same c) ∙ ap (item (Two k c)) later
-
-pub attributes_sent : (table : Table) (Inner : List ℕ → Form → List ℕ → Data) (i : ℕ) (has : Bool) (layer : List ℕ) (rows : List Row) (n : ℕ) (k b : List ℕ)
-    (old new : Log) → layer ≡ layer_of (part_at table i) → rows ≡ rows_under table i k
-    → Sent (items_events (frames (λ j x. layered layer (attribute Inner rows has j x)) false n k b)) old new
-    → Sent (items_events (frames (λ j x. layered (layer_of (part_at table i)) (attribute Inner (rows_under table i j) has j x)) false n k b)) old new
-attributes_sent table Inner i has layer rows n k b old new el er h =
-    let own = layer_of (part_at table i) in
-    subst (λ ds. Sent (items_events ds) old new)
-    (frames_same (λ j x. layered layer (attribute Inner rows has j x)) (λ j x. layered own (attribute Inner (rows_under table i j) has j x)) k
-    (λ c. ap (λ r. layered layer (attribute Inner r has k c)) er ∙ ap (λ l. layered l (attribute Inner (rows_under table i k) has k c)) el) n b) h
-
-pub own_sent : (table : Table) (Inner : List ℕ → Form → List ℕ → Data) (i : ℕ) (rows : List Row) (k own b : List ℕ) (old new : Log) → k ≡ own → rows ≡ rows_under table i k
-    → Sent (items_events (frames (λ j x. attribute Inner rows true j x) false (length b) k b)) old new
-    → Sent (items_events (frames (λ j x. attribute Inner (rows_under table i j) true j x) false (length b) own b)) old new
-own_sent table Inner i rows k own b old new ek er h =
-    let Each : List ℕ → PaddedFrame → Data = λ j x. attribute Inner (rows_under table i j) true j x in
-    subst (λ j. Sent (items_events (frames Each false (length b) j b)) old new) ek
-    (subst (λ ds. Sent (items_events ds) old new)
-    (frames_same (λ j x. attribute Inner rows true j x) Each k (λ c. ap (λ r. attribute Inner r true k c) er) (length b) b) h)

@@ -2,19 +2,17 @@
 
 ghost use Rattle.serde_json.specs.Find.{get};
 ghost use Rattle.serde_json.specs.View.{items_view, view};
-ghost use Rattle.std.specs.Prelude.{IfErr, IfOk, IfSome, None, OnOk, Some, [], codes, drop, false, length, option_and_then, option_map, take, true, unwrap_or, ◌+◌, ◌++◌, ◌∷◌, ◌≡◌, ◌≤◌};
+ghost use Rattle.std.specs.Prelude.{IfErr, IfOk, None, OnOk, Some, [], codes, drop, false, length, option_and_then, option_map, take, true, unwrap_or, ◌+◌, ◌++◌, ◌∷◌, ◌≡◌, ◌≤◌};
 ghost use Rattle.tc_forms.specs.Appended.{Appended};
 ghost use Rattle.tc_forms.specs.AttributesMade.{by_kind_made, framed_with, other_made, unlayered, word_made, word_or};
 ghost use Rattle.tc_forms.specs.Kinds.{kind_told, kind_value, own_told};
 ghost use Rattle.tc_forms.specs.Places.{rows_under};
-ghost use Rattle.tc_forms.specs.Raw.{one};
 ghost use Rattle.tc_forms.specs.RowLists.{rows_in};
-ghost use Rattle.tc_forms.specs.Rows.{is_reserved};
 ghost use Rattle.tc_forms.specs.declared.maker.Stop.TheVariants.{OutOfMemory};
 
 use crate::error::Wanted;
 use crate::maker::{Maker, Step, Stop};
-use crate::rows::{RowList, is_reserved, rows_under};
+use crate::rows::{RowList, rows_under};
 use crate::tables::Tables;
 use crate::values_made::make_hex_at;
 use serde_json::Value;
@@ -27,36 +25,6 @@ pub(crate) fn unlayered<'v>(layer: &str, value: &'v Value) -> Option<&'v Value>
         return Some(value);
     }
     value.get(layer)
-}
-
-// The member of an object that has no other, if its name isn't reserved.
-#[inline(always)]
-pub(crate) fn named_member<'v>(value: &'v Value) -> Option<(&'v str, &'v Value)>
-    ensures only { IfSome result (λ m. view value.now ≡ one m.0.now (view m.1.now)) }
-    ensures free { IfSome result (λ m. is_reserved m.0.now ≡ false) }
-{
-    match only_member(value) {
-        Some((name, held)) if !is_reserved(name) => Some((name, held)),
-        _ => None,
-    }
-}
-
-// The member of an object that has no other.
-#[inline(always)]
-fn only_member<'v>(value: &'v Value) -> Option<(&'v str, &'v Value)>
-    ensures { IfSome result (λ m. view value.now ≡ one m.0.now (view m.1.now)) }
-{
-    let members = match value.as_object() {
-        Some(members) => members,
-        None => return None,
-    };
-    if members.len() != 1 {
-        return None;
-    }
-    match members.first_key_value() {
-        Some((name, held)) => Some((name.as_str(), held)),
-        None => None,
-    }
 }
 
 // The error of an attribute that no row has.
@@ -81,10 +49,10 @@ pub(crate) fn kind_told<'v>(has: bool, value: &'v Value) -> Option<&'v str>
 }
 
 // The kind from an item on.
-pub(crate) fn kind_behind<'v>(value: &'v Value, kind: &'v str) -> &'v str
-    ensures { result.now ≡ unwrap_or (kind_told true (view value.now)) kind.now }
+pub(crate) fn kind_behind<'v>(in_force: bool, value: &'v Value, kind: &'v str) -> &'v str
+    ensures { result.now ≡ unwrap_or (kind_told in_force (view value.now)) kind.now }
 {
-    match kind_told(true, value) {
+    match kind_told(in_force, value) {
         Some(set) => set,
         None => kind,
     }
@@ -94,14 +62,15 @@ pub(crate) fn kind_behind<'v>(value: &'v Value, kind: &'v str) -> &'v str
 pub(crate) fn rows_behind<T: Tables>(
     table: T,
     list: usize,
+    in_force: bool,
     value: &Value,
     kind: &str,
     rows: &RowList<'static>,
 ) -> RowList<'static>
     requires { rows_in rows.now ≡ rows_under (T.parts_of table) list kind.now }
-    ensures { rows_in result ≡ rows_under (T.parts_of table) list (unwrap_or (kind_told true (view value.now)) kind.now) }
+    ensures { rows_in result ≡ rows_under (T.parts_of table) list (unwrap_or (kind_told in_force (view value.now)) kind.now) }
 {
-    match kind_told(true, value) {
+    match kind_told(in_force, value) {
         Some(set) => rows_under(table, list, set),
         None => *rows,
     }

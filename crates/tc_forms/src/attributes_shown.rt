@@ -89,15 +89,16 @@ pub(crate) fn kind_after<'a>(has: bool, word: u16, value: &'a [u8], kind: &'a st
 pub(crate) fn rows_after<T: Tables>(
     table: T,
     place: usize,
+    in_force: bool,
     word: u16,
     value: &[u8],
     kind: &str,
     rows: &RowList<'static>,
 ) -> RowList<'static>
     requires { rows_in rows.now ≡ rows_under (T.parts_of table) place kind.now }
-    ensures { rows_in result ≡ rows_under (T.parts_of table) place (unwrap_or (kind_in true (record { word = word; value = value.now; pad = [] })) kind.now) }
+    ensures { rows_in result ≡ rows_under (T.parts_of table) place (unwrap_or (kind_in in_force (record { word = word; value = value.now; pad = [] })) kind.now) }
 {
-    match kind_in(true, word, value) {
+    match kind_in(in_force, word, value) {
         Some(set) => rows_under(table, place, set),
         None => *rows,
     }

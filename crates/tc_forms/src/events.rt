@@ -13,11 +13,11 @@ pub(crate) enum Stopped {
     Failed,
 }
 
+/// What was sent, or that the format failed.
+pub(crate) type Done = Result<(), Stopped>;
+
 /// An object begins.
-pub(crate) fn begin_map<S: Serializer>(
-    out: &mut S,
-    error: &mut Option<S::Error>,
-) -> Result<(), Stopped>
+pub(crate) fn begin_map<S: Serializer>(out: &mut S, error: &mut Option<S::Error>) -> Done
     ensures { OnOk result (Logs (S.written out.old) (S.written out.new) (map_begins None)) }
 {
     match out.begin_map(None) {
@@ -30,10 +30,7 @@ pub(crate) fn begin_map<S: Serializer>(
 }
 
 /// An object ends.
-pub(crate) fn end_map<S: Serializer>(
-    out: &mut S,
-    error: &mut Option<S::Error>,
-) -> Result<(), Stopped>
+pub(crate) fn end_map<S: Serializer>(out: &mut S, error: &mut Option<S::Error>) -> Done
     ensures { OnOk result (Logs (S.written out.old) (S.written out.new) (map_ends)) }
 {
     match out.end_map() {
@@ -46,10 +43,7 @@ pub(crate) fn end_map<S: Serializer>(
 }
 
 /// A list begins.
-pub(crate) fn begin_seq<S: Serializer>(
-    out: &mut S,
-    error: &mut Option<S::Error>,
-) -> Result<(), Stopped>
+pub(crate) fn begin_seq<S: Serializer>(out: &mut S, error: &mut Option<S::Error>) -> Done
     ensures { OnOk result (Logs (S.written out.old) (S.written out.new) (seq_begins None)) }
 {
     match out.begin_seq(None) {
@@ -62,10 +56,7 @@ pub(crate) fn begin_seq<S: Serializer>(
 }
 
 /// A list ends.
-pub(crate) fn end_seq<S: Serializer>(
-    out: &mut S,
-    error: &mut Option<S::Error>,
-) -> Result<(), Stopped>
+pub(crate) fn end_seq<S: Serializer>(out: &mut S, error: &mut Option<S::Error>) -> Done
     ensures { OnOk result (Logs (S.written out.old) (S.written out.new) (seq_ends)) }
 {
     match out.end_seq() {
@@ -78,11 +69,7 @@ pub(crate) fn end_seq<S: Serializer>(
 }
 
 /// The name of a member.
-pub(crate) fn key<S: Serializer>(
-    name: &str,
-    out: &mut S,
-    error: &mut Option<S::Error>,
-) -> Result<(), Stopped>
+pub(crate) fn key<S: Serializer>(name: &str, out: &mut S, error: &mut Option<S::Error>) -> Done
     ensures { OnOk result (Logs (S.written out.old) (S.written out.new) (field_key name.now AsIs)) }
 {
     match out.key(name) {
@@ -95,11 +82,7 @@ pub(crate) fn key<S: Serializer>(
 }
 
 /// A text.
-pub(crate) fn string<S: Serializer>(
-    value: &str,
-    out: &mut S,
-    error: &mut Option<S::Error>,
-) -> Result<(), Stopped>
+pub(crate) fn string<S: Serializer>(value: &str, out: &mut S, error: &mut Option<S::Error>) -> Done
     ensures { OnOk result (Logs (S.written out.old) (S.written out.new) (text value.now)) }
 {
     match out.str(value) {
@@ -112,11 +95,7 @@ pub(crate) fn string<S: Serializer>(
 }
 
 /// `true` or `false`.
-pub(crate) fn truth<S: Serializer>(
-    value: bool,
-    out: &mut S,
-    error: &mut Option<S::Error>,
-) -> Result<(), Stopped>
+pub(crate) fn truth<S: Serializer>(value: bool, out: &mut S, error: &mut Option<S::Error>) -> Done
     ensures { OnOk result (Logs (S.written out.old) (S.written out.new) (boolean value)) }
 {
     match out.bool(value) {
@@ -129,11 +108,7 @@ pub(crate) fn truth<S: Serializer>(
 }
 
 /// A number.
-pub(crate) fn unsigned<S: Serializer>(
-    value: u64,
-    out: &mut S,
-    error: &mut Option<S::Error>,
-) -> Result<(), Stopped>
+pub(crate) fn unsigned<S: Serializer>(value: u64, out: &mut S, error: &mut Option<S::Error>) -> Done
     ensures { OnOk result (Logs (S.written out.old) (S.written out.new) (unsigned value)) }
 {
     match out.u64(value) {
@@ -146,11 +121,7 @@ pub(crate) fn unsigned<S: Serializer>(
 }
 
 /// A number that may be negative.
-pub(crate) fn signed<S: Serializer>(
-    value: i64,
-    out: &mut S,
-    error: &mut Option<S::Error>,
-) -> Result<(), Stopped>
+pub(crate) fn signed<S: Serializer>(value: i64, out: &mut S, error: &mut Option<S::Error>) -> Done
     ensures { OnOk result (Logs (S.written out.old) (S.written out.new) (signed value)) }
 {
     match out.i64(value) {

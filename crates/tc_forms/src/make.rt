@@ -2,22 +2,22 @@
 
 ghost use Rattle.serde_json.specs.Find.{as_array, get};
 ghost use Rattle.serde_json.specs.View.{items_view, view};
-ghost use Rattle.std.specs.Prelude.{codes, false, option_and_then, option_map, true, ◌≡◌};
+ghost use Rattle.std.specs.Prelude.{[], codes, false, option_and_then, option_map, true, ◌≡◌};
 ghost use Rattle.tc_forms.specs.Appended.{Appended, Found};
-ghost use Rattle.tc_forms.specs.AttributesMade.{attribute_made, by_row_made, each_under, framed, framed_with, indexed_made, kinded_made, layered_by, layered_made, row_made, word_made, word_or};
+ghost use Rattle.tc_forms.specs.AttributesMade.{attribute_made, by_row_made, each_under, framed, framed_with, indexed_made, kinded_made, layered_by, layered_made, word_made, word_or};
 ghost use Rattle.tc_forms.specs.Choices.{by_choice_made, choice_made, is_choice};
 ghost use Rattle.tc_forms.specs.Kinds.{own_told};
+ghost use Rattle.tc_forms.specs.Places.{rows_under};
 ghost use Rattle.tc_forms.specs.Made.{made_of, make};
-ghost use Rattle.tc_forms.specs.Raw.{one, or_raw, raw_of};
+ghost use Rattle.tc_forms.specs.Raw.{or_raw, raw_of};
 ghost use Rattle.tc_forms.specs.Records.{each_made, field_made, fields_made};
 ghost use Rattle.tc_forms.specs.RowLists.{rows_in};
-ghost use Rattle.tc_forms.specs.Rows.{counts, is_reserved};
 ghost use Rattle.tc_forms.specs.Search.{held};
 ghost use Rattle.tc_forms.specs.Tables.{choices_view, field_view, fields_view};
 
 use crate::attributes_made::{
-    begin, end, kind_behind, kind_told, make_kind, make_other, named_member, no_row, own_told,
-    rows_behind, unlayered, word_at, word_or,
+    begin, end, kind_behind, kind_told, make_kind, make_other, no_row, own_told, rows_behind,
+    unlayered, word_at, word_or,
 };
 use crate::choices::choice_held;
 use crate::error::{MakeError, Wanted};
@@ -25,7 +25,7 @@ use crate::form::{Choice, Field, Form, Row};
 use crate::maker::{Maker, Step, Stop};
 use crate::places::{choices_at, fields_at, form_at, layer_at};
 use crate::records::{make_blank, make_rest};
-use crate::rows::{RowList, is_same, row_held_in, row_of_name_in, rows_under};
+use crate::rows::{RowList, row_held_in, rows_under};
 use crate::tables::Tables;
 use crate::values_made::{make_hex_at, make_plain, raw_of};
 use crate::widths::DEEPEST;
@@ -215,17 +215,8 @@ fn make_list<'v, T: Tables>(
         None => return Err(maker.unfit(value, Wanted::List)),
     };
     let layer = layer_at(table, place);
-    let rows = rows_under(table, place, kind);
-    make_each_of_list(
-        maker,
-        table,
-        depth,
-        kind,
-        false,
-        layer,
-        &rows,
-        items.as_slice(),
-    )
+    let all = items.as_slice();
+    make_each_of_list(maker, table, depth, kind, place, false, false, layer, all)
 }
 
 #[cycle(make)]
@@ -234,15 +225,20 @@ fn make_each_of_list<'v, T: Tables>(
     table: T,
     depth: u8,
     kind: &'v str,
+    list: usize,
+    in_force: bool,
     has: bool,
     layer: &'static str,
-    rows: &RowList<'static>,
     items: &'v [Value],
 ) -> Result<(), Stop>
-    ensures { Appended (each_under (layered_by (make (T.parts_of table) depth) (rows_in rows.now) has layer.now) false kind.now (items_view items.now)) maker.old.bytes.items maker.new.bytes.items result }
+    ensures { Appended (each_under (λ k d. layered_by (make (T.parts_of table) depth) (rows_under (T.parts_of table) list k) has layer.now k d) in_force kind.now (items_view items.now)) maker.old.bytes.items maker.new.bytes.items result }
 {
+    let mut so_far = kind;
+    let mut rows = rows_under(table, list, kind);
     for (place, item) in items.iter().enumerate() {
-        match make_item(maker, table, depth, kind, has, layer, rows, item) {
+        rows = rows_behind(table, list, in_force, item, so_far, &rows);
+        so_far = kind_behind(in_force, item, so_far);
+        match make_item(maker, table, depth, so_far, has, layer, &rows, item) {
             Ok(()) => {}
             Err(e) => {
                 maker.at(Step::Item(place));
@@ -256,61 +252,6 @@ fn make_each_of_list<'v, T: Tables>(
 // An attribute in its layer, or raw bytes.
 #[cycle(make)]
 fn make_item<'v, T: Tables>(
-    maker: &mut Maker<'v>,
-    table: T,
-    depth: u8,
-    kind: &'v str,
-    has: bool,
-    layer: &'static str,
-    rows: &RowList<'static>,
-    value: &'v Value,
-) -> Result<(), Stop>
-    ensures { Appended (or_raw (raw_of (view value.now)) (layered_by (make (T.parts_of table) depth) (rows_in rows.now) has layer.now kind.now (view value.now))) maker.old.bytes.items maker.new.bytes.items result }
-{
-    match named_member(value) {
-        Some((name, held)) => make_named_layer(
-            maker, table, depth, kind, has, layer, rows, name, held, value,
-        ),
-        None => make_any_layered(maker, table, depth, kind, has, layer, rows, value),
-    }
-}
-
-// The same of an object with one member.
-#[cycle(make)]
-fn make_named_layer<'v, T: Tables>(
-    maker: &mut Maker<'v>,
-    table: T,
-    depth: u8,
-    kind: &'v str,
-    has: bool,
-    layer: &'static str,
-    rows: &RowList<'static>,
-    name: &'v str,
-    held: &'v Value,
-    value: &'v Value,
-) -> Result<(), Stop>
-    requires only { view value.now ≡ one name.now (view held.now) }
-    requires free { is_reserved name.now ≡ false }
-    ensures { Appended (or_raw (raw_of (view value.now)) (layered_by (make (T.parts_of table) depth) (rows_in rows.now) has layer.now kind.now (view value.now))) maker.old.bytes.items maker.new.bytes.items result }
-{
-    if layer.is_empty() {
-        return make_by_name(maker, table, depth, kind, has, rows, name, held, value);
-    }
-    if !is_same(layer, name) {
-        return Err(maker.unknown(value, Wanted::Name(layer)));
-    }
-    match make_attribute(maker, table, depth, kind, has, rows, held) {
-        Ok(()) => Ok(()),
-        Err(e) => {
-            maker.at(Step::Member(layer));
-            Err(e)
-        }
-    }
-}
-
-// The same of any other value.
-#[cycle(make)]
-fn make_any_layered<'v, T: Tables>(
     maker: &mut Maker<'v>,
     table: T,
     depth: u8,
@@ -359,7 +300,16 @@ fn make_in_force<'v, T: Tables>(
         Some(items) => items,
         None => return Err(maker.unfit(value, Wanted::List)),
     };
-    make_each_of_kinded(maker, table, depth, kind, list, items.as_slice())
+    let all = items.as_slice();
+    let layer = no_layer();
+    make_each_of_list(maker, table, depth, kind, list, true, true, layer, all)
+}
+
+// The layer of a list that has none.
+fn no_layer() -> &'static str
+    ensures { result.now ≡ [] }
+{
+    ""
 }
 
 #[cycle(make)]
@@ -378,99 +328,7 @@ fn make_own<'v, T: Tables>(
     };
     let all = items.as_slice();
     let kind = own_told(all);
-    let rows = rows_under(table, list, kind);
-    make_each_of_list(maker, table, depth, kind, true, "", &rows, all)
-}
-
-#[cycle(make)]
-fn make_each_of_kinded<'v, T: Tables>(
-    maker: &mut Maker<'v>,
-    table: T,
-    depth: u8,
-    kind: &'v str,
-    list: usize,
-    items: &'v [Value],
-) -> Result<(), Stop>
-    ensures { Appended (each_under (kinded_made (T.parts_of table) (make (T.parts_of table) depth) list) true kind.now (items_view items.now)) maker.old.bytes.items maker.new.bytes.items result }
-{
-    let mut so_far = kind;
-    let mut rows = rows_under(table, list, kind);
-    for (place, item) in items.iter().enumerate() {
-        rows = rows_behind(table, list, item, so_far, &rows);
-        so_far = kind_behind(item, so_far);
-        match make_kinded(maker, table, depth, so_far, &rows, item) {
-            Ok(()) => {}
-            Err(e) => {
-                maker.at(Step::Item(place));
-                return Err(e);
-            }
-        }
-    }
-    Ok(())
-}
-
-#[cycle(make)]
-fn make_kinded<'v, T: Tables>(
-    maker: &mut Maker<'v>,
-    table: T,
-    depth: u8,
-    kind: &'v str,
-    rows: &RowList<'static>,
-    value: &'v Value,
-) -> Result<(), Stop>
-    ensures { Appended (or_raw (raw_of (view value.now)) (attribute_made (make (T.parts_of table) depth) (rows_in rows.now) true kind.now (view value.now))) maker.old.bytes.items maker.new.bytes.items result }
-{
-    let raw = match raw_of(maker.alloc, value) {
-        Ok(raw) => raw,
-        Err(_) => return Err(Stop::OutOfMemory),
-    };
-    if let Some(bytes) = raw {
-        return maker.put(&bytes);
-    }
-    make_attribute(maker, table, depth, kind, true, rows, value)
-}
-
-#[cycle(make)]
-fn make_attribute<'v, T: Tables>(
-    maker: &mut Maker<'v>,
-    table: T,
-    depth: u8,
-    kind: &'v str,
-    has: bool,
-    rows: &RowList<'static>,
-    value: &'v Value,
-) -> Result<(), Stop>
-    ensures { Appended (attribute_made (make (T.parts_of table) depth) (rows_in rows.now) has kind.now (view value.now)) maker.old.bytes.items maker.new.bytes.items result }
-{
-    match named_member(value) {
-        Some((name, held)) => make_by_name(maker, table, depth, kind, has, rows, name, held, value),
-        None => make_any_attribute(maker, table, depth, kind, has, rows, value),
-    }
-}
-
-// An attribute that is an object of one member.
-#[cycle(make)]
-fn make_by_name<'v, T: Tables>(
-    maker: &mut Maker<'v>,
-    table: T,
-    depth: u8,
-    kind: &'v str,
-    has: bool,
-    rows: &RowList<'static>,
-    name: &'v str,
-    held: &'v Value,
-    value: &'v Value,
-) -> Result<(), Stop>
-    requires only { view value.now ≡ one name.now (view held.now) }
-    requires free { is_reserved name.now ≡ false }
-    ensures { Appended (attribute_made (make (T.parts_of table) depth) (rows_in rows.now) has kind.now (view value.now)) maker.old.bytes.items maker.new.bytes.items result }
-{
-    match row_of_name_in(rows, name) {
-        Some(row) => make_value(
-            maker, table, depth, kind, row.word, row.form, row.name, held, value, None,
-        ),
-        None => Err(maker.unknown(value, Wanted::Attribute)),
-    }
+    make_each_of_list(maker, table, depth, kind, list, false, true, "", all)
 }
 
 // An attribute of this word, whose value is of this form.
@@ -502,9 +360,8 @@ fn make_value<'v, T: Tables>(
     }
 }
 
-// Any other attribute.
 #[cycle(make)]
-fn make_any_attribute<'v, T: Tables>(
+fn make_attribute<'v, T: Tables>(
     maker: &mut Maker<'v>,
     table: T,
     depth: u8,
@@ -533,24 +390,9 @@ fn make_by_row<'v, T: Tables>(
 ) -> Result<(), Stop>
     ensures { Appended (by_row_made (make (T.parts_of table) depth) (rows_in rows.now) true kind.now (view value.now) (get (codes "Other") (view value.now))) maker.old.bytes.items maker.new.bytes.items result }
 {
-    match value.get("Other") {
-        Some(other) => make_other(maker, other, value),
-        None => make_row(maker, table, depth, kind, has, rows, value),
+    if let Some(other) = value.get("Other") {
+        return make_other(maker, other, value);
     }
-}
-
-#[cycle(make)]
-fn make_row<'v, T: Tables>(
-    maker: &mut Maker<'v>,
-    table: T,
-    depth: u8,
-    kind: &'v str,
-    has: bool,
-    rows: &RowList<'static>,
-    value: &'v Value,
-) -> Result<(), Stop>
-    ensures { Appended (row_made (make (T.parts_of table) depth) (rows_in rows.now) true kind.now (view value.now) (held (λ r. r.name) counts (rows_in rows.now) (view value.now))) maker.old.bytes.items maker.new.bytes.items result }
-{
     match row_held_in(rows, value) {
         Some((row, held)) => make_held(maker, table, depth, kind, row, held, value),
         None => Err(no_row(maker, has, value)),

@@ -3,6 +3,7 @@
 ghost use Rattle.serde_json.specs.View.{view};
 ghost use Rattle.std.specs.Prelude.{IfSome, IsTrue, None, Some, bytes_eq, option_map, ◌≡◌};
 ghost use Rattle.tc_forms.specs.Places.{kind_place, part_at, rows_of, rows_under};
+ghost use Rattle.tc_forms.specs.Raw.{one};
 ghost use Rattle.tc_forms.specs.RowLists.{rows_in};
 ghost use Rattle.tc_forms.specs.Rows.{counts, is_reserved, of_name, of_type, shown_row, type_of};
 ghost use Rattle.tc_forms.specs.Search.{first, held};
@@ -130,7 +131,7 @@ fn row_of_name<'a>(rows: &[Row<'a>], name: &str) -> Option<Row<'a>>
 
 // The first row of a name among those of a list.
 #[inline(always)]
-pub(crate) fn row_of_name_in<'a>(rows: &RowList<'a>, name: &str) -> Option<Row<'a>>
+fn row_of_name_in<'a>(rows: &RowList<'a>, name: &str) -> Option<Row<'a>>
     ensures { option_map row_view result ≡ first (of_name name.now) (rows_in rows.now) }
 {
     match row_of_name(rows.own, name) {
@@ -228,11 +229,42 @@ pub(crate) fn is_same(a: &str, b: &str) -> bool
     a == b
 }
 
+// The member of an object that has no other.
+#[inline(always)]
+fn only_member<'v>(value: &'v Value) -> Option<(&'v str, &'v Value)>
+    ensures { IfSome result (λ m. view value.now ≡ one m.0.now (view m.1.now)) }
+{
+    let members = match value.as_object() {
+        Some(members) => members,
+        None => return None,
+    };
+    if members.len() != 1 {
+        return None;
+    }
+    match members.first_key_value() {
+        Some((name, held)) => Some((name.as_str(), held)),
+        None => None,
+    }
+}
+
 // The first row of a list whose name has a member.
 pub(crate) fn row_held_in<'a, 'v>(
     rows: &RowList<'a>,
     value: &'v Value,
 ) -> Option<(Row<'a>, &'v Value)>
+    ensures { option_map (λ m. (row_view m.0, view m.1.now)) result ≡ held (λ r. r.name) counts (rows_in rows.now) (view value.now) }
+{
+    match only_member(value) {
+        Some((name, held)) => match row_of_name_in(rows, name) {
+            Some(row) => Some((row, held)),
+            None => None,
+        },
+        None => row_held_of_two(rows, value),
+    }
+}
+
+// The same, of an object of any members.
+fn row_held_of_two<'a, 'v>(rows: &RowList<'a>, value: &'v Value) -> Option<(Row<'a>, &'v Value)>
     ensures { option_map (λ m. (row_view m.0, view m.1.now)) result ≡ held (λ r. r.name) counts (rows_in rows.now) (view value.now) }
 {
     match row_held(rows.own, value) {

@@ -23,7 +23,7 @@ use crate::events::{Stopped, begin_map, begin_seq, end_map, end_seq, key};
 use crate::form::{Choice, Field, Form};
 use crate::numbers::send_bytes_number;
 use crate::places::{choices_at, fields_at, form_at, layer_at};
-use crate::records::{are_enough, is_blank, is_pad, names_apart, send_rest, split};
+use crate::records::{are_enough, is_blank, is_pad, send_rest, split};
 use crate::rows::{RowList, rows_under, shown_row};
 use crate::tables::Tables;
 use crate::values_shown::{send_plain, send_raw};
@@ -75,9 +75,30 @@ pub fn send_shown<S: Serializer, T: Tables>(
     }
 }
 
-// The same at a depth.
+// The same at a depth. A number, which most fields and attributes are, takes no call.
+#[inline(always)]
 #[cycle(send)]
 fn send_form<S: Serializer, T: Tables>(
+    table: T,
+    depth: u8,
+    kind: &str,
+    form: Form,
+    bytes: &[u8],
+    alloc: Global,
+    out: &mut S,
+    error: &mut Option<S::Error>,
+) -> Result<(), Stopped>
+    ensures { OnOk result (Sent (events (show (T.parts_of table) depth kind.now form bytes.now)) (S.written out.old) (S.written out.new)) }
+{
+    match form {
+        Form::Number(number) if depth > 0 => send_bytes_number(number, bytes, alloc, out, error),
+        _ => send_any(table, depth, kind, form, bytes, alloc, out, error),
+    }
+}
+
+#[inline(never)]
+#[cycle(send)]
+fn send_any<S: Serializer, T: Tables>(
     table: T,
     depth: u8,
     kind: &str,
@@ -94,7 +115,6 @@ fn send_form<S: Serializer, T: Tables>(
         None => return send_raw(bytes, alloc, out, error),
     };
     match form {
-        Form::Number(number) => send_bytes_number(number, bytes, alloc, out, error),
         Form::Record(place) => send_record(table, inner, kind, place, bytes, alloc, out, error),
         Form::Array(place) => send_elements(
             table,
@@ -149,7 +169,7 @@ fn send_record<S: Serializer, T: Tables>(
     ensures { OnOk result (Sent (events (shown (T.parts_of table) (show (T.parts_of table) depth) kind.now (Form.Record place) bytes.now)) (S.written out.old) (S.written out.new)) }
 {
     let fields = fields_at(table, place);
-    if !names_apart(fields) || !are_enough(table, bytes.len(), fields) {
+    if !table.names_apart(place) || !are_enough(table, bytes.len(), fields) {
         return send_raw(bytes, alloc, out, error);
     }
     begin_map(out, error)?;
@@ -285,17 +305,9 @@ fn send_list<S: Serializer, T: Tables>(
     ensures { OnOk result (Sent (events (shown (T.parts_of table) (show (T.parts_of table) depth) kind.now (Form.List place) bytes.now)) (S.written out.old) (S.written out.new)) }
 {
     begin_seq(out, error)?;
+    let layer = layer_at(table, place);
     send_attributes(
-        table,
-        depth,
-        kind,
-        false,
-        layer_at(table, place),
-        &rows_under(table, place, kind),
-        bytes,
-        alloc,
-        out,
-        error,
+        table, depth, kind, place, false, false, layer, bytes, alloc, out, error,
     )?;
     end_seq(out, error)
 }
@@ -317,43 +329,40 @@ fn send_own<S: Serializer, T: Tables>(
     let kind = own_kind(bytes);
     begin_seq(out, error)?;
     send_attributes(
-        table,
-        depth,
-        kind,
-        true,
-        "",
-        &rows_under(table, place, kind),
-        bytes,
-        alloc,
-        out,
-        error,
+        table, depth, kind, place, false, true, "", bytes, alloc, out, error,
     )?;
     end_seq(out, error)
 }
 
+// The attributes of a list; its kinds are in force, or the one kind is.
 #[cycle(send)]
 fn send_attributes<S: Serializer, T: Tables>(
     table: T,
     depth: u8,
     kind: &str,
+    place: usize,
+    in_force: bool,
     has: bool,
     layer: &str,
-    rows: &RowList<'static>,
     bytes: &[u8],
     alloc: Global,
     out: &mut S,
     error: &mut Option<S::Error>,
 ) -> Result<(), Stopped>
-    ensures { OnOk result (Sent (items_events (frames (λ k c. layered layer.now (attribute (show (T.parts_of table) depth) (rows_in rows.now) has k c)) false (length bytes.now) kind.now bytes.now)) (S.written out.old) (S.written out.new)) }
+    ensures { OnOk result (Sent (items_events (frames (λ k c. layered layer.now (attribute (show (T.parts_of table) depth) (rows_under (T.parts_of table) place k) has k c)) in_force (length bytes.now) kind.now bytes.now)) (S.written out.old) (S.written out.new)) }
 {
     let mut left = bytes;
+    let mut so_far = kind;
+    let mut rows = rows_under(table, place, kind);
     for _count in 0..bytes.len() {
         let (word, value, pad, after) = match front(left) {
             Some(frame) => frame,
             None => return send_tail(left, alloc, out, error),
         };
+        rows = rows_after(table, place, in_force, word, value, so_far, &rows);
+        so_far = kind_after(in_force, word, value, so_far);
         send_item(
-            table, depth, kind, has, layer, rows, word, value, pad, alloc, out, error,
+            table, depth, so_far, has, layer, &rows, word, value, pad, alloc, out, error,
         )?;
         left = after;
     }
@@ -375,39 +384,10 @@ fn send_kinded<S: Serializer, T: Tables>(
     ensures { OnOk result (Sent (events (array (frames (λ k c. attribute (show (T.parts_of table) depth) (rows_under (T.parts_of table) place k) true k c) true (length bytes.now) kind.now bytes.now))) (S.written out.old) (S.written out.new)) }
 {
     begin_seq(out, error)?;
-    send_kinded_attributes(table, depth, kind, place, bytes, alloc, out, error)?;
+    send_attributes(
+        table, depth, kind, place, true, true, "", bytes, alloc, out, error,
+    )?;
     end_seq(out, error)
-}
-
-#[cycle(send)]
-fn send_kinded_attributes<S: Serializer, T: Tables>(
-    table: T,
-    depth: u8,
-    kind: &str,
-    place: usize,
-    bytes: &[u8],
-    alloc: Global,
-    out: &mut S,
-    error: &mut Option<S::Error>,
-) -> Result<(), Stopped>
-    ensures { OnOk result (Sent (items_events (frames (λ k c. attribute (show (T.parts_of table) depth) (rows_under (T.parts_of table) place k) true k c) true (length bytes.now) kind.now bytes.now)) (S.written out.old) (S.written out.new)) }
-{
-    let mut left = bytes;
-    let mut so_far = kind;
-    let mut rows = rows_under(table, place, kind);
-    for _count in 0..bytes.len() {
-        let (word, value, pad, after) = match front(left) {
-            Some(frame) => frame,
-            None => return send_tail(left, alloc, out, error),
-        };
-        rows = rows_after(table, place, word, value, so_far, &rows);
-        so_far = kind_after(true, word, value, so_far);
-        send_attribute(
-            table, depth, so_far, true, &rows, word, value, pad, alloc, out, error,
-        )?;
-        left = after;
-    }
-    send_tail(left, alloc, out, error)
 }
 
 // An attribute in its layer.

@@ -1,8 +1,8 @@
 //! How many bytes a form takes.
 
-ghost use Rattle.std.specs.Prelude.{◌≡◌};
+ghost use Rattle.std.specs.Prelude.{option_and_then, ◌*◌, ◌≡◌};
 ghost use Rattle.tc_forms.specs.Tables.{fields_view};
-ghost use Rattle.tc_forms.specs.Widths.{fields_width, fixed, number_width, width};
+ghost use Rattle.tc_forms.specs.Widths.{counted, fields_width, fixed, number_width, width};
 
 use crate::form::{Field, Form, Number};
 use crate::places::{fields_at, form_at};
@@ -26,8 +26,9 @@ impl Number {
 }
 
 /// How many bytes a form takes, where that is fixed.
+#[inline(always)]
 #[cycle(width)]
-pub(crate) fn width<T: Tables>(table: T, depth: u8, form: Form) -> Option<usize>
+fn width<T: Tables>(table: T, depth: u8, form: Form) -> Option<usize>
     ensures { result ≡ width depth (T.parts_of table) form }
 {
     let inner = match depth.checked_sub(1) {
@@ -43,10 +44,7 @@ pub(crate) fn width<T: Tables>(table: T, depth: u8, form: Form) -> Option<usize>
         Form::Mac => Some(6),
         Form::Ipv6 => Some(16),
         Form::Record(place) => fields_width(table, inner, fields_at(table, place)),
-        Form::Times(count, place) => match width(table, inner, form_at(table, place)) {
-            Some(width) => count.checked_mul(width),
-            None => None,
-        },
+        Form::Times(count, place) => times_width(table, inner, count, form_at(table, place)),
         Form::Text
         | Form::Bare
         | Form::Hex
@@ -59,7 +57,20 @@ pub(crate) fn width<T: Tables>(table: T, depth: u8, form: Form) -> Option<usize>
     }
 }
 
+// How many bytes so many elements take.
+#[inline(never)]
+#[cycle(width)]
+fn times_width<T: Tables>(table: T, depth: u8, count: usize, form: Form) -> Option<usize>
+    ensures { result ≡ option_and_then (λ w. counted (count * w)) (width depth (T.parts_of table) form) }
+{
+    match width(table, depth, form) {
+        Some(width) => count.checked_mul(width),
+        None => None,
+    }
+}
+
 // How many bytes the fields take.
+#[inline(never)]
 #[cycle(width)]
 fn fields_width<T: Tables>(table: T, depth: u8, fields: &[Field<'_>]) -> Option<usize>
     ensures { result ≡ fields_width (width depth (T.parts_of table)) 0 (fields_view fields.now) }
@@ -84,15 +95,5 @@ fn fields_width<T: Tables>(table: T, depth: u8, fields: &[Field<'_>]) -> Option<
 pub(crate) fn fixed_width<T: Tables>(table: T, form: Form) -> Option<usize>
     ensures { result ≡ fixed (T.parts_of table) form }
 {
-    match form {
-        Form::Number(number) | Form::Named(number, _) => Some(number.width()),
-        Form::Handle | Form::Ipv4 => Some(4),
-        Form::Flag => Some(0),
-        Form::Truth => Some(1),
-        Form::Bytes(len) | Form::Pad(len) => Some(len),
-        Form::Mac => Some(6),
-        Form::Ipv6 => Some(16),
-        Form::Record(_) | Form::Times(_, _) => width(table, DEEPEST, form),
-        _ => None,
-    }
+    width(table, DEEPEST, form)
 }

@@ -1,6 +1,5 @@
 use Rattle.std.proofs.Common.{◌≡◌, ◌-◌, Some, length, drop, ap, refl, sym, ◌∙◌, ◌+◌, ◌%◌, rules}
-use Rattle.std.specs.Prelude.{option_map}
-use Rattle.std.specs.Prelude.{replicate}
+use Rattle.std.specs.Prelude.{option_map, replicate}
 use Rattle.serde_json.specs.View.{view}
 use Rattle.tc_forms.specs.AttributesMade.{pad_or}
 use Rattle.tc_forms.specs.Raw.{hex_made}

@@ -1,15 +1,14 @@
-use Rattle.tc_forms.specs.AttributesMade.{each_under, indexed_made}
+use Rattle.tc_forms.specs.AttributesMade.{each_under, indexed_made, layered_by}
 use Rattle.tc_forms.specs.Made.{make}
 use Rattle.tc_forms.specs.Records.{each_made, fields_made}
 use Rattle.tc_forms.specs.Tables.{fields_view}
 use denote.Text.{Utf8}
 use denote.Shadow.{shadow}
 use Rattle.std.proofs.Common.{◌≡◌, ◌+◌, ◌*◌, drop, ◌++◌}
-use Rattle.std.specs.Prelude.{option_map, true, false}
+use Rattle.std.specs.Prelude.{option_map, false}
 use Rattle.serde_json.specs.View.{view, items_view}
 use Rattle.tc_forms.specs.Places.{rows_under}
 use Rattle.tc_forms.specs.RowLists.{rows_in}
-use Rattle.tc_forms.specs.AttributesMade.{layered_by, kinded_made}
 use Rattle.tc_forms.proofs.make.+make.Given as goal
 
 abbrev pub decreases-make_form : goal.decreases-make_form
@@ -30,29 +29,14 @@ decreases-make_elements g l = 12 * l.depth + 3
 abbrev pub decreases-make_value : goal.decreases-make_value
 decreases-make_value g l = 12 * l.depth + 1
 
-abbrev pub decreases-make_by_name : goal.decreases-make_by_name
-decreases-make_by_name g l = 12 * l.depth + 2
-
 abbrev pub decreases-make_held : goal.decreases-make_held
 decreases-make_held g l = 12 * l.depth + 2
-
-abbrev pub decreases-make_row : goal.decreases-make_row
-decreases-make_row g l = 12 * l.depth + 3
 
 abbrev pub decreases-make_by_row : goal.decreases-make_by_row
 decreases-make_by_row g l = 12 * l.depth + 4
 
-abbrev pub decreases-make_any_attribute : goal.decreases-make_any_attribute
-decreases-make_any_attribute g l = 12 * l.depth + 5
-
 abbrev pub decreases-make_attribute : goal.decreases-make_attribute
 decreases-make_attribute g l = 12 * l.depth + 6
-
-abbrev pub decreases-make_named_layer : goal.decreases-make_named_layer
-decreases-make_named_layer g l = 12 * l.depth + 7
-
-abbrev pub decreases-make_any_layered : goal.decreases-make_any_layered
-decreases-make_any_layered g l = 12 * l.depth + 7
 
 abbrev pub decreases-make_item : goal.decreases-make_item
 decreases-make_item g l = 12 * l.depth + 8
@@ -66,14 +50,8 @@ decreases-make_list g l = 12 * l.depth + 11
 abbrev pub decreases-make_own : goal.decreases-make_own
 decreases-make_own g l = 12 * l.depth + 11
 
-abbrev pub decreases-make_kinded : goal.decreases-make_kinded
-decreases-make_kinded g l = 12 * l.depth + 7
-
-abbrev pub decreases-make_each_of_kinded : goal.decreases-make_each_of_kinded
-decreases-make_each_of_kinded g l = 12 * l.depth + 9
-
 abbrev pub decreases-make_in_force : goal.decreases-make_in_force
-decreases-make_in_force g l = 12 * l.depth + 10
+decreases-make_in_force g l = 12 * l.depth + 11
 
 abbrev pub decreases-make_framed : goal.decreases-make_framed
 decreases-make_framed g l = 12 * l.depth + 2
@@ -104,19 +82,14 @@ invariant-make_each_of_elements-loop-place g l =
     option_map (λ b. l.maker.bytes.items ++ b) (each_made (make (g.T.Tables.parts_of l.table) l.depth l.kind l.form) (items_view (drop l.place l.items)))
     ≡ option_map (λ b. l.initial.maker.bytes.items ++ b) (each_made (make (g.T.Tables.parts_of l.table) l.depth l.kind l.form) (items_view l.items))
 
-abbrev pub invariant-make_each_of_list-loop-place : goal.invariant-make_each_of_list-loop-place
-invariant-make_each_of_list-loop-place g l =
-    option_map (λ b. l.maker.bytes.items ++ b) (each_under (layered_by (make (g.T.Tables.parts_of l.table) l.depth) (rows_in l.rows) l.has l.layer) false l.kind (items_view (drop l.place l.items)))
-    ≡ option_map (λ b. l.initial.maker.bytes.items ++ b) (each_under (layered_by (make (g.T.Tables.parts_of l.table) l.depth) (rows_in l.rows) l.has l.layer) false l.kind (items_view l.items))
-
 abbrev pub invariant-make_each_of_indexed-loop-place : goal.invariant-make_each_of_indexed-loop-place
 invariant-make_each_of_indexed-loop-place g l =
     option_map (λ b. l.maker.bytes.items ++ b) (each_under (indexed_made (g.T.Tables.parts_of l.table) (make (g.T.Tables.parts_of l.table) l.depth) l.list) false l.kind (items_view (drop l.place l.items)))
     ≡ option_map (λ b. l.initial.maker.bytes.items ++ b) (each_under (indexed_made (g.T.Tables.parts_of l.table) (make (g.T.Tables.parts_of l.table) l.depth) l.list) false l.kind (items_view l.items))
 
-abbrev pub invariant-make_each_of_kinded-loop-place : goal.invariant-make_each_of_kinded-loop-place
-invariant-make_each_of_kinded-loop-place g l =
+abbrev pub invariant-make_each_of_list-loop-place : goal.invariant-make_each_of_list-loop-place
+invariant-make_each_of_list-loop-place g l =
     shadow (Utf8 l.so_far)
     × ((rows_in l.rows ≡ rows_under (g.T.Tables.parts_of l.table) l.list l.so_far)
-    × (option_map (λ b. l.maker.bytes.items ++ b) (each_under (kinded_made (g.T.Tables.parts_of l.table) (make (g.T.Tables.parts_of l.table) l.depth) l.list) true l.so_far (items_view (drop l.place l.items)))
-    ≡ option_map (λ b. l.initial.maker.bytes.items ++ b) (each_under (kinded_made (g.T.Tables.parts_of l.table) (make (g.T.Tables.parts_of l.table) l.depth) l.list) true l.kind (items_view l.items))))
+    × (option_map (λ b. l.maker.bytes.items ++ b) (each_under (λ k d. layered_by (make (g.T.Tables.parts_of l.table) l.depth) (rows_under (g.T.Tables.parts_of l.table) l.list k) l.has l.layer k d) l.in_force l.so_far (items_view (drop l.place l.items)))
+    ≡ option_map (λ b. l.initial.maker.bytes.items ++ b) (each_under (λ k d. layered_by (make (g.T.Tables.parts_of l.table) l.depth) (rows_under (g.T.Tables.parts_of l.table) l.list k) l.has l.layer k d) l.in_force l.kind (items_view l.items))))

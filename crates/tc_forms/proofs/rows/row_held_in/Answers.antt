@@ -1,16 +1,20 @@
-use Rattle.std.proofs.Common.{sym, ◌∙◌}
+use Rattle.std.proofs.Common.{ap, sym, ◌∙◌}
+use Rattle.std.specs.Prelude.{option_map}
 use Rattle.serde_json.specs.View.{view}
 use Rattle.tc_forms.specs.Rows.{counts}
-use Rattle.tc_forms.specs.Tables.{row_view, rows_view}
-use Rattle.tc_forms.proofs.Found.{held_of_two, held_of_second}
+use Rattle.tc_forms.specs.RowLists.{rows_in}
+use Rattle.tc_forms.specs.Search.{held}
+use Rattle.tc_forms.proofs.Single.{held_one}
 use Rattle.tc_forms.proofs.rows.row_held_in.Goals as goal
 
-pub returns-in-Some : goal.returns-in-Some
-returns-in-Some c =
-    held_of_two (λ r. r.name) counts (view c.args.value.now) (rows_view c.args.rows.now.own.now) (rows_view c.args.rows.now.common.now)
-    (row_view c.in-Some.found.0, view c.in-Some.found.1.now) c.in-Some.ensures
+pub returns-in-Some-row_of_name_in : goal.returns-in-Some-row_of_name_in
+returns-in-Some-row_of_name_in c =
+    ap (option_map (λ r. (r, view c.in-Some.held.now))) c.in-Some-row_of_name_in.ensures
+    ∙ sym (held_one (rows_in c.args.rows.now) c.in-Some.name.now (view c.in-Some.held.now))
+    ∙ ap (held (λ r. r.name) counts (rows_in c.args.rows.now)) (sym c.in-Some.ensures)
 
-pub returns-in-None : goal.returns-in-None
-returns-in-None c =
-    c.row_held-in-None.ensures
-    ∙ sym (held_of_second (λ r. r.name) counts (view c.args.value.now) (rows_view c.args.rows.now.own.now) (rows_view c.args.rows.now.common.now) c.in-None.ensures)
+pub returns-in-None-row_of_name_in : goal.returns-in-None-row_of_name_in
+returns-in-None-row_of_name_in c =
+    ap (option_map (λ r. (r, view c.in-Some.held.now))) c.in-None-row_of_name_in.ensures
+    ∙ sym (held_one (rows_in c.args.rows.now) c.in-Some.name.now (view c.in-Some.held.now))
+    ∙ ap (held (λ r. r.name) counts (rows_in c.args.rows.now)) (sym c.in-Some.ensures)

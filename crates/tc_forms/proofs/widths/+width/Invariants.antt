@@ -6,6 +6,9 @@ use Rattle.tc_forms.proofs.widths.+width.Given as goal
 abbrev pub decreases-width : goal.decreases-width
 decreases-width g l = 2 * l.depth
 
+abbrev pub decreases-times_width : goal.decreases-times_width
+decreases-times_width g l = 2 * l.depth + 1
+
 abbrev pub decreases-fields_width : goal.decreases-fields_width
 decreases-fields_width g l = 2 * l.depth + 1
 

@@ -1,7 +1,7 @@
 use Rattle.std.proofs.Common.{sym, ◌∙◌}
 use Rattle.serde_json.specs.View.{view}
 use Rattle.tc_forms.proofs.Single.{only_is}
-use Rattle.tc_forms.proofs.attributes_made.only_member.Goals as goal
+use Rattle.tc_forms.proofs.rows.only_member.Goals as goal
 
 pub returns-in-Some-first_key_value : goal.returns-in-Some-first_key_value
 returns-in-Some-first_key_value c =
