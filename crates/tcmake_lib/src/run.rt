@@ -77,7 +77,8 @@ fn restore<T: Tables, R: BufRead, W: Write, E: Write>(
     }
 }
 
-/// What makes messages of lines.
+// What makes messages of lines.
+#[derive(Clone, Copy)]
 struct MessageMaker<T> {
     alloc: Global,
     forms: Forms<T>,
@@ -106,7 +107,8 @@ impl<T: Tables> Maker for MessageMaker<T> {
     }
 }
 
-/// What makes requests of lines that show dumps.
+// What makes requests of lines that show dumps.
+#[derive(Clone, Copy)]
 struct RequestMaker<T> {
     alloc: Global,
     forms: Forms<T>,

@@ -3,12 +3,12 @@ use Rattle.std.proofs.Common.{◌≡◌, ◌≢◌, ℕ, ◌<◌, ◌≤◌, ◌
 use Rattle.std.proofs.lemmas.List.Elements.{All-head, All-tail, All-append}
 use Rattle.std.proofs.BufReadLemmas.{Consumes_shown}
 use Rattle.std.proofs.KnownBytes.{Consumes-trans, Consumes-nil, Consumes-kept}
-use Rattle.std.specs.Prelude.{Option, OnSome, IfSome, take}
+use Rattle.std.specs.Prelude.{⊤, Option, OnSome, IfSome, take}
 use Rattle.std.specs.Io.{StartsWith}
 use Rattle.std.specs.Io.BufRead.{DropsConsumable}
 use Rattle.std.specs.Io.KnownBytes.{Consumes, IsAtEnd, Keeps}
 use Rattle.tcmake_lines.specs.Ends.{TakesPart, IsEmptyAtEnd, IsLast, with_end}
-use Rattle.tcmake_lines.specs.Lines.{lines_of, in_front, Reads, AreLines, IsFound, IsNext, EndsLine}
+use Rattle.tcmake_lines.specs.Lines.{lines_of, in_front, Reads, AreLines, IsFound, IsNext, EndsLine, is_end}
 use Rattle.tcmake_lines.specs.declared.input.Ends.{Ends}
 use Rattle.tcmake_lines.specs.declared.input.Found.{Found}
 use Rattle.tcmake_lines.specs.declared.input.Found.TheVariants.{Whole, TooLong, NoMemory, End}
@@ -162,3 +162,21 @@ part_then a b c found kept text part ends same all taken p h = (
   Consumes-trans a b c text part taken (subst (λ l. Consumes b c l) same p.taken),
   h,
 )
+
+-- ---- the end
+
+no_end : false ≡ true → ⊥
+no_end e = subst (λ b. cond b ⊥ ⊤) e tt
+
+pub at_end : (a c : Option (List ℕ)) (found : Found) (kept : List ℕ) → is_end found ≡ true → IsNext found kept a c → IsAtEnd a
+at_end a c Whole kept e h = absurd (no_end e)
+at_end a c TooLong kept e h = absurd (no_end e)
+at_end a c NoMemory kept e h = absurd (no_end e)
+at_end a c End kept e h = h
+
+pub line_found : (a c : Option (List ℕ)) (found : Found) (kept : List ℕ) → is_end found ≡ false → IsNext found kept a c
+    → (line : List ℕ) × Reads a c (line ∷ []) × IsFound found line kept
+line_found a c Whole kept e h = h
+line_found a c TooLong kept e h = h
+line_found a c NoMemory kept e h = h
+line_found a c End kept e h = absurd (no_end (sym e))

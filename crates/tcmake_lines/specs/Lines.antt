@@ -1,5 +1,5 @@
 -- The lines of an input.
-use Rattle.std.specs.Prelude.{◌≡◌, ◌≢◌, ◌<◌, ◌≤◌, ◌==◌, ⊤, ℕ, true, List, [], ◌∷◌, ◌++◌, length, slice_index, Option, Some, None, if◌then◌else◌}
+use Rattle.std.specs.Prelude.{◌≡◌, ◌≢◌, ◌<◌, ◌≤◌, ◌==◌, ⊤, ℕ, Bool, true, false, List, [], ◌∷◌, ◌++◌, length, slice_index, Option, Some, None, if◌then◌else◌}
 use Rattle.std.specs.Io.KnownBytes.{IsAtEnd}
 use Rattle.std.specs.Char.{is_ascii_whitespace}
 use Rattle.tcmake_lines.specs.declared.input.Found.{Found}
@@ -36,6 +36,12 @@ IsFound Whole line kept = (kept ≡ line) × (length line ≤ most_line)
 IsFound TooLong line kept = most_line < length line
 IsFound NoMemory line kept = 0 < length line
 IsFound End line kept = ⊥
+
+abbrev pub is_end : Found → Bool
+is_end Whole = false
+is_end TooLong = false
+is_end NoMemory = false
+is_end End = true
 
 -- the next line is read, or the input is at its end
 abbrev pub IsNext : Found → List ℕ → Option (List ℕ) → Option (List ℕ) → Type 0

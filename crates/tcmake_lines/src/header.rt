@@ -64,10 +64,23 @@ fn header_of(given: &Given, bytes: &[u8]) -> [u8; 16]
     netlink_header_of(len, kind, given.flags, given.sequence, given.port)
 }
 
+/// The messages of a packet with one more.
+pub(crate) fn joined(packet: Vec<u8>, given: &Given, bytes: &[u8]) -> Result<Vec<u8>, AllocError>
+    requires { HasHeader given.now bytes.now }
+    ensures made { IfOk result (λ made. made.items ≡ padded packet.items ++ whole given.now bytes.now) }
+    ensures room { IfOk result (λ made. length made.items ≡ length (padded packet.items) + (length bytes.now + 16)) }
+{
+    let mut made = packet;
+    pad(&mut made)?;
+    put_whole(&mut made, given, bytes)?;
+    Ok(made)
+}
+
 /// The same alone.
 pub(crate) fn whole_of(alloc: Global, given: &Given, bytes: &[u8]) -> Result<Vec<u8>, AllocError>
     requires { HasHeader given.now bytes.now }
-    ensures { IfOk result (λ made. made.items ≡ whole given.now bytes.now) }
+    ensures made { IfOk result (λ made. made.items ≡ whole given.now bytes.now) }
+    ensures room { IfOk result (λ made. length made.items ≡ length bytes.now + 16) }
 {
     let mut made = Vec::new(alloc);
     put_whole(&mut made, given, bytes)?;

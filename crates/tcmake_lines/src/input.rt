@@ -85,7 +85,11 @@ fn found_at_end(line: &[u8], found: Found) -> Found
 }
 
 // Reads a part of a line, and keeps it.
-fn next_part<R: BufRead>(input: &mut R, line: &mut Vec<u8>, found: Found) -> Result<(Ends, Found), Stop>
+fn next_part<R: BufRead>(
+    input: &mut R,
+    line: &mut Vec<u8>,
+    found: Found,
+) -> Result<(Ends, Found), Stop>
     requires { length line.old.items ≤ 33554432 }
     ensures bound { length line.new.items ≤ 33554432 }
     ensures part { IfOk result (λ r. (part : List ℕ) × TakesPart r.0 part (R.remaining input.old) (R.remaining input.new)

@@ -5,9 +5,10 @@ ghost use Rattle.std.specs.Option.{ForSome};
 
 use crate::form::{Form, MOST_MESSAGES};
 use crate::given::{Given, PacketOf, is_same};
-use crate::header::{file_header, packet_header_of, pad, put_hex, put_whole, whole_of};
+use crate::header::{file_header, joined, packet_header_of, pad, put_hex, whole_of};
 use std::alloc::{AllocError, Global};
 use std::io::Write;
+use std::mem;
 use tc_streams::{Stop, write_all};
 
 /// Messages on their way to an output.
@@ -26,7 +27,7 @@ pub struct Output {
 }
 
 impl Output {
-    ghost use Rattle.std.specs.Prelude.{◌≡◌, ◌+◌, ◌++◌, [], false, None, Some, OnOk, is_some, nat_le, length, if◌then◌else◌};
+    ghost use Rattle.std.specs.Prelude.{◌≡◌, ◌≤◌, ◌+◌, ◌++◌, [], true, None, Some, OnOk, nat_le, length};
     ghost use Rattle.std.specs.Io.KnownBytes.{Appends};
     ghost use Rattle.tcmake_lines.specs.State.{brought, ended, ended_by, is_taken, held_in, held_then, held_with};
     ghost use Rattle.tcmake_lines.specs.declared.form.Form.TheVariants.{Capture};
@@ -56,11 +57,15 @@ impl Output {
 
     // True if the packet has room for a message.
     fn has_room(&self, bytes: &[u8]) -> bool
-        ensures { result ≡ nat_le (length (padded self.now.packet.items) + (length bytes.now + 16)) 1048544 }
+        ensures is { result ≡ nat_le (length (padded self.now.packet.items) + (length bytes.now + 16)) 1048544 }
+        ensures room { result ≡ true → length (padded self.now.packet.items) + (length bytes.now + 16) ≤ 1048544 }
     {
         let len = self.packet.len();
         let padding = (4 - len % 4) % 4;
-        len.saturating_add(padding).saturating_add(bytes.len()).saturating_add(16) <= MOST_MESSAGES
+        len.saturating_add(padding)
+            .saturating_add(bytes.len())
+            .saturating_add(16)
+            <= MOST_MESSAGES
     }
 
     /// What comes before the first message.
@@ -108,17 +113,22 @@ impl Output {
         ensures text { OnOk result (self.new.text.items ≡ self.old.text.items ++ ended_by (held_in self.old) given.now bytes.now) }
     {
         if self.takes(given, bytes) {
-            pad(&mut self.packet)?;
-            return put_whole(&mut self.packet, given, bytes);
+            let before = mem::replace(&mut self.packet, Vec::new(self.alloc));
+            let after = joined(before, given, bytes)?;
+            self.packet = after;
+            return Ok(());
         }
         self.end()?;
+        let first = whole_of(self.alloc, given, bytes)?;
         self.of = Some(given.packet);
-        put_whole(&mut self.packet, given, bytes)
+        self.packet = first;
+        Ok(())
     }
 
     // True if a message is of the packet, and has room in it.
     fn takes(&self, given: &Given, bytes: &[u8]) -> bool
-        ensures { result ≡ is_taken (held_in self.now) given.now bytes.now }
+        ensures is { result ≡ is_taken (held_in self.now) given.now bytes.now }
+        ensures room { result ≡ true → length (padded self.now.packet.items) + (length bytes.now + 16) ≤ 1048544 }
     {
         match &self.of {
             Some(of) => is_same(of, &given.packet) && self.has_room(bytes),

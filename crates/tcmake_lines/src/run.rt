@@ -1,7 +1,7 @@
 //! A whole run.
 
 ghost use Rattle.std.specs.Prelude.{◌≡◌, ◌||◌, ℕ, true, false, List, IfOk, OnOk};
-ghost use Rattle.tcmake_lines.specs.Lines.{IsFound};
+ghost use Rattle.tcmake_lines.specs.Lines.{IsFound, is_end};
 ghost use Rattle.tcmake_lines.specs.Parts.{Ran};
 ghost use Rattle.tcmake_lines.specs.State.{PutsLine, PutsOrNot, state_of};
 
@@ -39,15 +39,7 @@ pub fn run<M: Maker, R: BufRead, W: Write, E: Write>(
         (R.remaining reader.old) (W.contents writer.old) (W.contents writer.new)) }
 {
     let mut has_refused = false;
-    let outcome = make_all(
-        alloc,
-        maker,
-        form,
-        reader,
-        writer,
-        errors,
-        &mut has_refused,
-    );
+    let outcome = make_all(alloc, maker, form, reader, writer, errors, &mut has_refused);
     Ended {
         outcome,
         has_refused,
@@ -73,14 +65,21 @@ fn make_all<M: Maker, R: BufRead, W: Write, E: Write>(
     for number in 1..u64::MAX {
         output.write(writer)?;
         let found = next_line(reader, &mut line)?;
-        if found == Found::End {
+        if is_end(found) {
             output.end()?;
-            return output.write(writer);
+            output.write(writer)?;
+            return Ok(());
         }
         let is_wrong = put_line(alloc, maker, found, &line, number, &mut output, errors)?;
         *has_refused = either(*has_refused, is_wrong);
     }
     Err(Stop::Read)
+}
+
+fn is_end(found: Found) -> bool
+    ensures { result ≡ is_end found }
+{
+    matches!(found, Found::End)
 }
 
 fn either(one: bool, other: bool) -> bool

@@ -32,6 +32,15 @@ pub(crate) const PCAP: Request = Request {
     verbose: false,
 };
 
+/// Messages one after the other in place of lines of hex.
+pub(crate) const STREAM: Request = Request {
+    form: Form::Stream,
+    making: Making::AsGiven,
+    in_order: false,
+    index: None,
+    verbose: false,
+};
+
 /// Messages without a netlink header, made so.
 pub(crate) fn bare(making: Making) -> Request {
     Request {
@@ -39,7 +48,7 @@ pub(crate) fn bare(making: Making) -> Request {
         making,
         in_order: false,
         index: None,
-            verbose: false,
+        verbose: false,
     }
 }
 

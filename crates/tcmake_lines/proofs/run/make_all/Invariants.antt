@@ -8,4 +8,5 @@ use Rattle.tcmake_lines.proofs.run.make_all.Given as goal
 abbrev pub invariant-loop-number : goal.invariant-loop-number
 invariant-loop-number g l =
     (lines : List (List ℕ)) × Reads (g.R.Read.remaining l.fn.reader) (g.R.Read.remaining l.reader) lines
-    × Until (g.M.Maker.Makes l.maker) (g.M.Maker.Passes l.maker) l.form (g.W.Write.contents l.fn.writer) (g.W.Write.contents l.writer) (state_of l.output) l.has_refused lines
+    × Until (g.M.Maker.Makes l.maker) (g.M.Maker.Passes l.maker) l.fn.form (g.W.Write.contents l.fn.writer) (g.W.Write.contents l.writer)
+    (state_of l.output) l.has_refused lines
