@@ -15,13 +15,13 @@ pub held_taken : (of : Option PacketOf) (packet new : List ℕ) (g : Given) (byt
 held_taken None packet new g bytes h is = absurd (not_true h)
 held_taken (Some p) packet new g bytes h is =
     let old : Packet = record { of = p; bytes = packet } in
-    let then : Bool → Packet = λ b. if b then joined old g bytes else alone g bytes in
+    let next : Bool → Packet = λ b. if b then joined old g bytes else alone g bytes in
     let with : List ℕ → Packet = λ l. record { of = p; bytes = l } in
-    ap (λ l. Some (with l)) is ∙ ap (λ b. Some (then b)) (sym h)
+    ap (λ l. Some (with l)) is ∙ ap (λ b. Some (next b)) (sym h)
 
 -- or another begins
 pub held_alone : (held : Option Packet) (g : Given) (bytes : List ℕ) → is_taken held g bytes ≡ false → Some (alone g bytes) ≡ Some (held_with held g bytes)
 held_alone None g bytes h = refl
 held_alone (Some p) g bytes h =
-    let then : Bool → Packet = λ b. if b then joined p g bytes else alone g bytes in
-    ap (λ b. Some (then b)) (sym h)
+    let next : Bool → Packet = λ b. if b then joined p g bytes else alone g bytes in
+    ap (λ b. Some (next b)) (sym h)

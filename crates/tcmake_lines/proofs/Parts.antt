@@ -8,8 +8,10 @@ use Rattle.tcmake_lines.specs.declared.form.Form.{Form}
 use Rattle.tcmake_lines.specs.declared.form.Form.TheVariants.{Hex, Bare, Stream, Capture}
 use Rattle.tcmake_lines.specs.declared.given.Given.{Given}
 use Rattle.tcmake_lines.specs.Parts.{Part, message, nothing, complaint, messages_of, is_complaint, has_complaint, Becomes, BecomeEach, Ran}
-use Rattle.tcmake_lines.specs.Lines.{AreLines}
-use Rattle.tcmake_lines.specs.State.{State, PutsMessage, PutsPart, PutsLine, brought, held_then, held_with, ended, ended_by}
+use Rattle.tcmake_lines.specs.Lines.{AreLines, IsFound}
+use Rattle.tcmake_lines.specs.declared.input.Found.{Found}
+use Rattle.tcmake_lines.specs.declared.input.Found.TheVariants.{Whole}
+use Rattle.tcmake_lines.specs.State.{State, PutsMessage, PutsPart, PutsLine, PutsOrNot, brought, held_then, held_with, ended, ended_by}
 use Rattle.tcmake_lines.specs.Written.{Message, Packet, alone, joined, takes, packet_text, packets_behind, text_behind, text_of, header_of}
 
 -- ---- a message more
@@ -158,3 +160,18 @@ module _ (Makes : List ℕ → Given → List ℕ → Type 0) (Passes : List ℕ
         output = subst (λ t. Appends a c t) (sym whole) (Appends-trans a b c h.bytes n.text h.output more);
         said = h.said;
       }
+
+-- ---- a line
+
+-- a message that is put on the output, or can't be written
+pub puts_line : (Makes : List ℕ → Given → List ℕ → Type 0) (Passes : List ℕ → Type 0) (line : List ℕ) (g : Given) (bytes : List ℕ) (wrong : Bool) (old new : State)
+    → Makes line g bytes → PutsOrNot g bytes wrong old new → PutsLine Makes Passes line wrong old new
+puts_line Makes Passes line g bytes true old new made h = (complaint, tt, refl, h)
+puts_line Makes Passes line g bytes false old new made h = (message (record { given = g; bytes = bytes }), (made, h.0), refl, h.1)
+
+-- a line that is there
+pub puts_whole : (Makes : List ℕ → Given → List ℕ → Type 0) (Passes : List ℕ → Type 0) (found : Found) (line kept : List ℕ) (wrong : Bool) (old new : State)
+    → found ≡ Whole → IsFound found line kept → PutsLine Makes Passes kept wrong old new → PutsLine Makes Passes line wrong old new
+puts_whole Makes Passes found line kept wrong old new is h p =
+    let here = subst (λ f. IsFound f line kept) is h in
+    subst (λ l. PutsLine Makes Passes l wrong old new) here.0 p

@@ -1,4 +1,4 @@
-use Rattle.std.proofs.Common.{◌∙◌, ◌++◌, ap, sym}
+use Rattle.std.proofs.Common.{◌∙◌, ◌++◌, Some, ap, sym}
 use Rattle.tcmake_lines.specs.State.{held_in}
 use Rattle.tcmake_lines.specs.Written.{padded, whole}
 use Rattle.tcmake_lines.proofs.Packets.{held_taken, held_alone}
