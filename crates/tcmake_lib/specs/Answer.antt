@@ -5,11 +5,8 @@ use Rattle.serde_json.specs.Read.{read}
 use Rattle.tc_forms.specs.declared.form.Form.{Form}
 use Rattle.tc_forms.specs.Tables.{Table}
 use Rattle.tcmake_lib.specs.declared.arguments.Making.{Making}
-use Rattle.tcmake_lib.specs.declared.arguments.Making.TheVariants.{Restored}
-use Rattle.tcmake_lib.specs.declared.restore.Dump.{Dump}
 use Rattle.tcmake_lib.specs.Line.{IsGiven, IsOfKernel, message_in}
 use Rattle.tcmake_lib.specs.Made.{IsMade, form_of}
-use Rattle.tcmake_lib.specs.Restored.{IsDumpOf, request_type, Restores}
 use Rattle.tcmake_lines.specs.declared.given.Given.{Given}
 
 -- an answer of the kernel
@@ -23,16 +20,3 @@ module _ (table : Table) (tc action : Form) where
     pub reads : read line ≡ Some json
     pub says : IsGiven json given
     pub made : IsMade table (form_of tc action given.holds) making given.holds json (message_in json) bytes
-
-  -- the request that restores it, with its number and its time
-  pub record IsRequest (line : List ℕ) (given : Given) (bytes : List ℕ) : Type 0 where
-    pub dumped : Given
-    pub dump_bytes : List ℕ
-    pub message : IsMessage Restored line dumped dump_bytes
-    pub dump : Dump
-    pub typed : IsDumpOf dumped.kind dump
-    pub restores : Restores dump dump_bytes bytes
-    pub kind : given.kind ≡ Some (request_type dump)
-    pub flags : given.flags ≡ 0x605
-    pub sequence : given.sequence ≡ dumped.sequence
-    pub time : given.packet.time ≡ dumped.packet.time

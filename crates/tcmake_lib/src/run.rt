@@ -1,7 +1,7 @@
 //! A whole run.
 
-ghost use Rattle.std.specs.Prelude.{⊤, ◌≡◌, ◌≢◌, None, IfOk, IfSome, OnOk};
-ghost use Rattle.tcmake_lib.specs.Answer.{IsAnswer, IsMessage, IsRequest};
+ghost use Rattle.std.specs.Prelude.{⊤, ◌≢◌, OnOk};
+ghost use Rattle.tcmake_lib.specs.Answer.{IsAnswer, IsMessage};
 ghost use Rattle.tcmake_lib.specs.declared.arguments.Making.TheVariants.{Restored};
 ghost use Rattle.tcmake_lines.specs.Parts.{Ran};
 
@@ -92,11 +92,15 @@ impl<T: Tables> Maker for MessageMaker<T> {
 
     fn make(&self, line: &[u8]) -> Result<Answer, AllocError> {
         match made_of(self.alloc, self.forms, line, self.making) {
-            Ok(Some(Made {
-                given,
-                bytes,
-                settled,
-            })) => Ok(Answer::Message {
+            Ok(
+                Some(
+                    Made {
+                        given,
+                        bytes,
+                        settled,
+                    },
+                ),
+            ) => Ok(Answer::Message {
                 given,
                 bytes,
                 notices: notices_of(self.alloc, &settled)?,
@@ -117,20 +121,22 @@ struct RequestMaker<T> {
 }
 
 impl<T: Tables> Maker for RequestMaker<T> {
-    // Of the interface of the dump.
-    ghost Makes = { λ m line given bytes. m.index ≡ None
-        → IsRequest (T.parts_of m.forms.table) m.forms.tc m.forms.action line given bytes };
+    // What a request restores is said at `restored`.
+    ghost Makes = { λ _ _ _ _. ⊤ };
 
-    // An answer of the kernel, the request of a dump, or what another request makes.
     ghost Passes = { λ _ _. ⊤ };
 
     fn make(&self, line: &[u8]) -> Result<Answer, AllocError> {
         match request_in(self.alloc, self.forms, self.index, line) {
-            Ok(Some(Made {
-                given,
-                bytes,
-                settled,
-            })) => Ok(Answer::Message {
+            Ok(
+                Some(
+                    Made {
+                        given,
+                        bytes,
+                        settled,
+                    },
+                ),
+            ) => Ok(Answer::Message {
                 given,
                 bytes,
                 notices: notices_of(self.alloc, &settled)?,
@@ -152,10 +158,7 @@ fn request_in<T: Tables>(
     forms: Forms<T>,
     index: Option<i32>,
     line: &[u8],
-) -> Result<Option<Made>, Complaint>
-    ensures { index ≡ None → IfOk result (λ found. IfSome found (λ made.
-        IsRequest (T.parts_of forms.table) forms.tc forms.action line.now made.given made.bytes.items)) }
-{
+) -> Result<Option<Made>, Complaint> {
     let made = match made_of(alloc, forms, line, Making::Restored)? {
         Some(made) => made,
         None => return Ok(None),

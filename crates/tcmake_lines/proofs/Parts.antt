@@ -129,9 +129,9 @@ module _ (Makes : List ℕ → Given → List ℕ → Type 0) (Passes : List ℕ
   put_form s n nothing h = ap (λ (x : State). x.form) h
   put_form s n complaint h = ap (λ (x : State). x.form) h
 
-  pub until_line : (a b : Option (List ℕ)) (s n : State) (bad wrong : Bool) (lines : List (List ℕ)) (line : List ℕ) → Until a b s bad lines
-      → PutsLine Makes Passes line wrong s n → Until a b n (bad || wrong) (lines ++ line ∷ [])
-  until_line a b s n bad wrong lines line h p = record {
+  pub until_line : (a b : Option (List ℕ)) (s n : State) (bad wrong now : Bool) (lines : List (List ℕ)) (line : List ℕ) → Until a b s bad lines
+      → PutsLine Makes Passes line wrong s n → now ≡ (bad || wrong) → Until a b n now (lines ++ line ∷ [])
+  until_line a b s n bad wrong now lines line h p is = record {
     parts = h.parts ++ p.0 ∷ [];
     become = become_one lines h.parts line p.0 h.become (subst (λ f. Becomes Makes Passes f line p.0) h.is_form p.1);
     is_form = put_form s n p.0 p.3 ∙ h.is_form;
@@ -140,7 +140,7 @@ module _ (Makes : List ℕ → Given → List ℕ → Type 0) (Passes : List ℕ
     written = λ later.
         ap (λ ms. header_of form ++ text_behind form None ms) (messages_one h.parts p.0 later) ∙ h.written (messages_of (p.0 ∷ []) ++ later)
         ∙ put_text s n p.0 later h.bytes h.is_form p.3;
-    said = ap (λ x. x || wrong) h.said ∙ ap (λ x. has_complaint h.parts || x) p.2 ∙ sym (complaint_one h.parts p.0);
+    said = is ∙ ap (λ x. x || wrong) h.said ∙ ap (λ x. has_complaint h.parts || x) p.2 ∙ sym (complaint_one h.parts p.0);
   }
 
   -- at the end

@@ -65,8 +65,7 @@ fn a_stream(rt: HostRuntime) -> Result<(), Fail> {
 {"type":"RTM_NEWACTION","seq":5,"message":{"raw":"00000000"}}
 {"type":"RTM_NEWACTION","seq":6,"message":{"raw":""}}"#;
     let run = made(alloc, &STREAM, lines);
-    let want =
-        "11000000300000000100000000000000000000001200000030000000030000000000000000000000\
+    let want = "11000000300000000100000000000000000000001200000030000000030000000000000000000000\
          1300000030000000040000000000000000000000140000003000000005000000000000000000000010000000300000000600000000000000";
     assert!(rt; run.status == 1);
     assert!(rt; run.written == hex::decode(alloc, want)?);
