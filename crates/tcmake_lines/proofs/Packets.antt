@@ -4,7 +4,7 @@ use Rattle.std.specs.Prelude.{⊤, Option, if◌then◌else◌}
 use Rattle.tcmake_lines.specs.declared.given.Given.{Given}
 use Rattle.tcmake_lines.specs.declared.given.PacketOf.{PacketOf}
 use Rattle.tcmake_lines.specs.State.{held_with, is_taken, packet_view}
-use Rattle.tcmake_lines.specs.Written.{Packet, alone, joined, padded, takes, whole}
+use Rattle.tcmake_lines.specs.Written.{Packet, alone, joined, padded, whole}
 
 not_true : false ≡ true → ⊥
 not_true e = subst (λ b. cond b ⊥ ⊤) e tt

@@ -1,5 +1,5 @@
 -- Parts of a run, one after the other.
-use Rattle.std.proofs.Common.{◌≡◌, ℕ, Bool, true, false, List, [], ◌∷◌, ◌++◌, None, Some, cond, refl, sym, ap, subst, ◌∙◌, append_assoc, append-nil}
+use Rattle.std.proofs.Common.{◌≡◌, ℕ, Bool, true, false, List, [], ◌∷◌, ◌++◌, None, Some, refl, sym, ap, subst, ◌∙◌, append_assoc, append-nil}
 use Rattle.std.proofs.KnownBytes.{Appends-trans, Appends-nil}
 use Rattle.std.specs.List.{flat_map}
 use Rattle.std.specs.Prelude.{Option, ◌||◌, if◌then◌else◌}
@@ -11,8 +11,8 @@ use Rattle.tcmake_lines.specs.Parts.{Part, message, nothing, complaint, messages
 use Rattle.tcmake_lines.specs.Lines.{AreLines, IsFound}
 use Rattle.tcmake_lines.specs.declared.input.Found.{Found}
 use Rattle.tcmake_lines.specs.declared.input.Found.TheVariants.{Whole}
-use Rattle.tcmake_lines.specs.State.{State, PutsMessage, PutsPart, PutsLine, PutsOrNot, brought, held_then, held_with, ended, ended_by}
-use Rattle.tcmake_lines.specs.Written.{Message, Packet, alone, joined, takes, packet_text, packets_behind, text_behind, text_of, header_of}
+use Rattle.tcmake_lines.specs.State.{State, PutsPart, PutsLine, PutsOrNot, brought, held_then, ended}
+use Rattle.tcmake_lines.specs.Written.{Message, Packet, alone, joined, takes, packet_text, packets_behind, text_behind, header_of}
 
 -- ---- a message more
 

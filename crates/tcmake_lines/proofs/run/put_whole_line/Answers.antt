@@ -1,6 +1,6 @@
 use Rattle.std.proofs.Common.{IfOk, subst}
 use Rattle.std.proofs.lemmas.Result.{IfOk-weaker}
-use Rattle.tcmake_lines.specs.State.{PutsLine, PutsOrNot, state_of}
+use Rattle.tcmake_lines.specs.State.{PutsOrNot, state_of}
 use Rattle.tcmake_lines.specs.Parts.{IsAnswer}
 use Rattle.tcmake_lines.proofs.Parts.{puts_line}
 use Rattle.tcmake_lines.proofs.run.put_whole_line.Goals as goal
