@@ -15,7 +15,6 @@ mod line;
 pub mod mode;
 pub mod program;
 pub mod run;
-pub mod status;
 
 pub use answer::answer_line;
 pub use line::Complaint;

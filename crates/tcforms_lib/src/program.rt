@@ -1,12 +1,16 @@
 //! The program: it answers the lines of standard input, and how it ends is its exit status.
 
+ghost use Rattle.std.specs.Prelude.{◌≡◌};
+ghost use Rattle.tc_streams.specs.Status.{status_of};
+ghost use Rattle.tcforms_lib.specs.declared.run.Ended.{Ended};
+
 use crate::mode::Messages;
 use crate::run::run;
-use crate::status::{Stop, status_of};
 use std::alloc::Global;
 use std::io::{self, BufRead, BufReader, Input, Print, Write};
 use std::process::ExitCode;
 use tc_forms::Tables;
+use tc_streams::{Stop, complain, status_of};
 
 /// The whole program: answers the lines of standard input on standard output, and returns the exit status. Complaints are
 /// written to `errors`.
@@ -18,9 +22,11 @@ pub fn tcforms<T: Tables, R: AllocGlobal + Input + Print, E: Write>(
     let mut writer = io::writer(rt);
     ExitCode::from(match BufReader::new(rt.alloc(), rt.reader()) {
         Ok(reader) => serve(rt.alloc(), messages, reader, &mut writer, errors),
-        Err(_) => complain(errors, "tcforms: out of memory\n", 3),
+        Err(_) => complain(errors, NO_MEMORY, 3),
     })
 }
+
+const NO_MEMORY: &str = "tcforms: out of memory\n";
 
 /// Answers all lines of an input, and returns the exit status.
 pub fn serve<T: Tables, R: BufRead + Drop, W: Write, E: Write>(
@@ -29,18 +35,15 @@ pub fn serve<T: Tables, R: BufRead + Drop, W: Write, E: Write>(
     reader: R,
     writer: &mut W,
     errors: &mut E,
-) -> u8 {
+) -> u8
+    ensures { (ended : Ended) × (result ≡ status_of ended.outcome ended.has_refused) }
+{
     let ended = run(alloc, messages, reader, writer, errors);
     let status = status_of(ended.outcome, ended.has_refused);
     match ended.outcome {
         Ok(()) | Err(Stop::Closed) => status,
+        Err(Stop::NoMemory) => complain(errors, NO_MEMORY, status),
         Err(Stop::Read) => complain(errors, "tcforms: read failed\n", status),
         Err(Stop::Write) => complain(errors, "tcforms: write failed\n", status),
     }
-}
-
-// Writes why nothing more is answered, if it can, and returns a status.
-fn complain<E: Write>(errors: &mut E, text: &str, status: u8) -> u8 {
-    let _ = errors.write_all(text.as_bytes());
-    status
 }

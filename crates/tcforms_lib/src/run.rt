@@ -3,10 +3,10 @@
 use crate::answer::answer_line;
 use crate::line::Complaint;
 use crate::mode::Messages;
-use crate::status::Stop;
 use std::alloc::Global;
 use std::io::{BufRead, Error, ErrorKind, Write};
 use tc_forms::Tables;
+use tc_streams::{Stop, write_all};
 
 /// How a run ended.
 #[derive(Clone, Copy, PartialEq, Eq, Debug)]
@@ -74,18 +74,9 @@ fn complaint_of(fault: &Error) -> Result<Complaint, Stop> {
     }
 }
 
-// Writes all bytes.
-fn write_all<W: Write>(writer: &mut W, bytes: &[u8]) -> Result<(), Stop> {
-    match writer.write_all(bytes) {
-        Ok(()) => Ok(()),
-        Err(fault) if fault.kind() == ErrorKind::BrokenPipe => Err(Stop::Closed),
-        Err(_) => Err(Stop::Write),
-    }
-}
-
 // Says why a line has no answer, if it can.
 fn say<E: Write>(alloc: Global, errors: &mut E, number: u64, complaint: Complaint) {
     if let Ok(text) = format!(in alloc; "tcforms: line {number}: {complaint}\n") {
-        let _ = errors.write_all(text.as_bytes());
+        let _ = write_all(errors, text.as_bytes());
     }
 }

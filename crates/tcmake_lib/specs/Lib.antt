@@ -2,6 +2,5 @@ pub mod Line
 pub mod Verdict
 pub mod Made
 pub mod Written
-pub mod Status
 pub mod Restored
 pub mod Answer

@@ -8,7 +8,7 @@ use Rattle.tc_capture.specs.Kind.{rtm_at}
 use Rattle.tc_capture.specs.declared.kind.Holds.{Holds}
 use Rattle.tc_capture.specs.declared.kind.Holds.TheVariants.{Tc, Action}
 use Rattle.tc_capture.specs.declared.time.Time.{Time}
-use Rattle.tcmake_lib.specs.declared.given.Given.{Given}
+use Rattle.tcmake_lines.specs.declared.given.Given.{Given}
 
 -- a member: a number from 0 on, true or false, a text
 abbrev pub number_in : List ℕ → Data → Option ℕ
@@ -71,6 +71,10 @@ pub record IsBeside (line message : Data) (g : Given) : Type 0 where
   pub packet : g.packet.number ≡ number_in (codes "packet") line
   pub packet_type : g.packet.packet_type ≡ unwrap_or (number_in (codes "packet_type") line) 4
   pub time : IsTime line g.packet.time
+
+-- an answer of the kernel, which holds no message
+abbrev pub IsOfKernel : Data → Type 0
+IsOfKernel json = text_in (codes "type") json ≡ Some (codes "NLMSG_ERROR")
 
 abbrev pub IsGiven : Data → Given → Type 0
 IsGiven json g = IsBeside (beside json) (message_in json) g

@@ -4,6 +4,7 @@ use clap::builder::ValueParser;
 use clap::{Arg, ArgAction, Command, Error};
 use std::alloc::{AllocError, Global};
 use std::convert::AsStr;
+use tcmake_lines::Form;
 
 /// What is made of a line.
 #[derive(Clone, Copy, PartialEq, Eq, Debug)]
@@ -21,18 +22,14 @@ pub enum Making {
 /// What the arguments say.
 #[derive(Clone, Copy, Debug)]
 pub struct Request {
-    /// True if lines of hex have no netlink header.
-    pub no_header: bool,
-    /// True if a capture is written in place of lines of hex.
-    pub pcap: bool,
+    /// How messages are written.
+    pub form: Form,
     /// What is made of a line.
     pub making: Making,
     /// True if requests keep the order of the lines.
     pub in_order: bool,
     /// The interface of requests, in place of that of the dumps.
     pub index: Option<i32>,
-    /// True if netlink messages are written one after the other in place of lines of hex.
-    pub stream: bool,
     /// True if what another request makes is named.
     pub verbose: bool,
 }
@@ -140,8 +137,15 @@ fn command<'a>(alloc: Global) -> Result<Command<'a>, AllocError> {
 pub fn request_of<'a, S: AsStr>(alloc: Global, words: &'a [S]) -> Result<Request, Error> {
     let matches = command(alloc)?.try_get_matches_from(words)?;
     Ok(Request {
-        no_header: matches.get_flag("no-header"),
-        pcap: matches.get_flag("pcap"),
+        form: if matches.get_flag("no-header") {
+            Form::Bare
+        } else if matches.get_flag("pcap") {
+            Form::Capture
+        } else if matches.get_flag("stream") {
+            Form::Stream
+        } else {
+            Form::Hex
+        },
         making: if matches.get_flag("settle") {
             Making::Settled
         } else if matches.get_flag("as-given") {
@@ -153,7 +157,6 @@ pub fn request_of<'a, S: AsStr>(alloc: Global, words: &'a [S]) -> Result<Request
         },
         in_order: matches.get_flag("in-order"),
         index: matches.get_one("index"),
-        stream: matches.get_flag("stream"),
         verbose: matches.get_flag("verbose"),
     })
 }

@@ -8,20 +8,19 @@ use tc_forms::MakeError;
 use tc_forms_strict::{Difference, StrictError};
 use tc_forms_text::ReadError;
 use tc_requests::RestoreError;
+use tcmake_lines::run::LONG_LINE;
 
 /// Why no message is made of a line.
 #[derive(Drop)]
 pub(crate) enum Complaint {
     /// It is longer than the longest line.
-    TooLong,
+    LongLine,
     /// It isn't read as JSON.
     Read(ReadError),
     /// It is a part of JSON that goes on on other lines.
     OnePart,
     /// It says that a message was refused, and holds none.
     Refused,
-    /// It is an answer of the kernel, and holds none.
-    Answer,
     /// It is a summary, and holds none.
     Summary,
     /// It is a note on a place of a capture, and holds none.
@@ -59,8 +58,8 @@ pub(crate) enum Complaint {
     DoesNotFit,
     /// No request restores what it shows.
     Restore(RestoreError),
-    /// The message is too long for its header, or for a capture.
-    TooLongPacket,
+    /// The message is too long to be written.
+    TooLong,
     /// Memory ran out.
     NoMemory,
 }
@@ -206,16 +205,15 @@ impl Complaint {
     // The text of one that holds nothing.
     fn text(&self) -> &'static str {
         match self {
-            Complaint::TooLong => "longer than 33554432 bytes",
+            Complaint::LongLine => LONG_LINE,
             Complaint::OnePart =>
                 "a part of JSON on several lines; wanted all of it on one, as jq -c writes it",
             Complaint::Refused => "holds no message, but why one was refused",
-            Complaint::Answer => "holds no message, but an answer of the kernel",
             Complaint::Summary => "holds no message, but a summary",
             Complaint::Note => "holds no message, but a note on a capture",
             Complaint::DoesNotFit =>
                 "found a message that doesn't fit: a payload would have more than 65531 bytes",
-            Complaint::TooLongPacket => "the message is too long to be written",
+            Complaint::TooLong => "the message is too long to be written",
             Complaint::NoMemory => "out of memory",
             _ => "",
         }

@@ -1,68 +1,27 @@
 //! What a line says of its message.
 
-ghost use Rattle.std.specs.Prelude.{◌≡◌, Some, None, IfOk, IfSome, codes, unwrap_or};
+ghost use Rattle.std.specs.Prelude.{◌≡◌, Some, IfOk, IfSome, IsTrue, codes, unwrap_or};
 ghost use Rattle.serde_json.specs.Data.{object, no_members};
 ghost use Rattle.serde_json.specs.View.{view};
 ghost use Rattle.tc_capture.specs.Kind.{rtm_at};
-ghost use Rattle.tcmake_lib.specs.Line.{IsBeside, IsGiven, IsTime, IsTimeText, IsTyped, holds_by_header, number_in};
+ghost use Rattle.tcmake_lib.specs.Line.{IsBeside, IsGiven, IsOfKernel, IsTime, IsTimeText, IsTyped, holds_by_header, number_in};
 
 use crate::complaint::Complaint;
 use crate::members::{Numbered, missing, number_of, number_or, wrong};
 use serde_json::Value;
 use std::alloc::Global;
 use tc_capture::{Holds, Time, rtm_of};
-
-/// What a line says of its message, beside the message.
-#[derive(Clone, Copy)]
-pub(crate) struct Given {
-    pub(crate) holds: Holds,
-    /// `nlmsg_type`; none where the line holds the message alone.
-    pub(crate) kind: Option<u16>,
-    pub(crate) flags: u16,
-    pub(crate) sequence: u32,
-    /// `nlmsg_pid`.
-    pub(crate) port: u32,
-    pub(crate) packet: PacketOf,
-}
-
-/// The packet that a message is in.
-#[derive(Clone, Copy, PartialEq, Eq)]
-pub(crate) struct PacketOf {
-    /// Its number; none of one that holds this message alone.
-    pub(crate) number: Option<u64>,
-    pub(crate) time: Time,
-    /// The packet type of the cooked header.
-    pub(crate) packet_type: u16,
-}
+use tcmake_lines::{Given, OUTGOING, PacketOf, packet_at};
 
 const NO_TIME: Time = Time {
     seconds: 0,
     nanoseconds: 0,
 };
 
-// The packet type `PACKET_OUTGOING`.
-const OUTGOING: u16 = 4;
-
-/// A packet of one message, sent by this machine at a time.
-pub(crate) fn packet_at(time: Time) -> PacketOf
-    ensures number { result.number ≡ None }
-    ensures time { result.time ≡ time }
-    ensures packet_type { result.packet_type ≡ 4 }
-{
-    PacketOf {
-        number: None,
-        time,
-        packet_type: OUTGOING,
-    }
-}
-
 /// What a line says of its message.
 pub(crate) fn given_of(alloc: Global, json: &Value) -> Result<Given, Complaint>
     ensures { IfOk result (IsGiven (view json.now)) }
 {
-    if is_answer(json) {
-        return Err(Complaint::Answer);
-    }
     match json.get("message") {
         Some(message) => in_line(alloc, json, message),
         None => match without_message(json) {
@@ -89,10 +48,15 @@ fn in_message(json: &Value) -> Result<Given, Complaint>
     })
 }
 
-// True of an answer of the kernel.
-fn is_answer(json: &Value) -> bool {
+/// True of an answer of the kernel.
+pub(crate) fn is_answer(json: &Value) -> bool
+    ensures { IsTrue result → IsOfKernel (view json.now) }
+{
     match json.get("type") {
-        Some(name) => name.as_str() == Some("NLMSG_ERROR"),
+        Some(held) => match held.as_str() {
+            Some(name) => name == "NLMSG_ERROR",
+            None => false,
+        },
         None => false,
     }
 }

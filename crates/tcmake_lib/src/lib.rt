@@ -11,16 +11,11 @@
 pub mod arguments;
 mod complaint;
 mod given;
-mod input;
 mod made;
 mod members;
 pub mod message;
 mod order;
-mod packet;
-mod packets;
 pub mod program;
 mod restore;
 pub mod run;
-pub mod status;
 mod verdict;
-mod writing;

@@ -1,14 +1,14 @@
 //! A message of a line.
 
-ghost use Rattle.std.specs.Prelude.{IfOk};
+ghost use Rattle.std.specs.Prelude.{IfOk, MatchOption};
 ghost use Rattle.serde_json.specs.View.{view};
-ghost use Rattle.tcmake_lib.specs.Answer.{IsMessage};
+ghost use Rattle.tcmake_lib.specs.Answer.{IsAnswer, IsMessage};
 ghost use Rattle.tcmake_lib.specs.Line.{IsGiven, message_in};
 ghost use Rattle.tcmake_lib.specs.Made.{IsMade, form_of};
 
 use crate::arguments::Making;
 use crate::complaint::Complaint;
-use crate::given::{Given, given_of};
+use crate::given::{given_of, is_answer};
 use crate::message::{Forms, Message, message_of};
 use serde_json::Value;
 use std::alloc::Global;
@@ -16,6 +16,7 @@ use tc_capture::Holds;
 use tc_forms::Tables;
 use tc_forms_strict::Difference;
 use tc_forms_text::{ReadError, read_json};
+use tcmake_lines::Given;
 
 /// A message, and what a line says of it.
 #[derive(Drop)]
@@ -26,21 +27,26 @@ pub(crate) struct Made {
     pub(crate) settled: Vec<Difference>,
 }
 
-/// The message of a line.
+/// The message of a line; none of an answer of the kernel.
 pub(crate) fn made_of<T: Tables>(
     alloc: Global,
     forms: Forms<T>,
     line: &[u8],
     making: Making,
-) -> Result<Made, Complaint>
+) -> Result<Option<Made>, Complaint>
     // Number, time, flags and message type are the line's.
-    ensures { IfOk result (λ made. IsMessage (T.parts_of forms.table) forms.tc forms.action making line.now made.given made.bytes.items) }
+    ensures { IfOk result (λ found. MatchOption found (IsAnswer line.now)
+        (λ made. IsMessage (T.parts_of forms.table) forms.tc forms.action making line.now made.given made.bytes.items)) }
 {
     let json = match read_json(alloc, line) {
         Ok(json) => json,
         Err(error) => return Err(unread(error, line)),
     };
-    made_of_json(alloc, forms, &json, making)
+    if is_answer(&json) {
+        return Ok(None);
+    }
+    let made = made_of_json(alloc, forms, &json, making)?;
+    Ok(Some(made))
 }
 
 fn made_of_json<T: Tables>(

@@ -1,15 +1,10 @@
 //! Requests in an order in which each finds what it needs.
 
 use crate::arguments::{Making, Request};
-use crate::complaint::{Complaint, Found};
-use crate::input::{Line, next_line};
+use crate::complaint::{Complaint, Found as FoundValue};
 use crate::made::{Made, made_of};
 use crate::message::Forms;
-use crate::packets::Packet;
 use crate::restore::{Dump, dump_of, restored};
-use crate::run::{end_packet, is_blank, put_made, say};
-use crate::status::Stop;
-use crate::writing::write_all;
 use nla_frames::ParseableBytes;
 use std::alloc::Global;
 use std::io::{BufRead, Write};
@@ -18,6 +13,9 @@ use tc_forms::Tables;
 use tc_messages::TcMessage;
 use tc_plan::{Entry, Fate, Item, Key, Reason, Step, circle, entry_of, entry_of_actions, plan};
 use tc_requests::RestoreError;
+use tc_streams::Stop;
+use tcmake_lines::run::{put_message, say};
+use tcmake_lines::{Found, Output, is_blank, next_line};
 
 /// The dumps of lines, and the requests that restore them.
 #[derive(Drop)]
@@ -79,7 +77,7 @@ const NLM_F_REQUEST: u16 = 1;
 const NLM_F_DUMP: u16 = 0x300;
 
 /// The message of a dump, of this interface if one is given; none of the request of a dump, which captures of dumps have.
-fn dumped(made: Made, index: Option<i32>) -> Result<Option<Made>, Complaint> {
+pub(crate) fn dumped(made: Made, index: Option<i32>) -> Result<Option<Made>, Complaint> {
     let flags = made.given.flags;
     if flags & NLM_F_REQUEST == 0 {
         return Ok(Some(with_index(made, index)));
@@ -89,7 +87,7 @@ fn dumped(made: Made, index: Option<i32>) -> Result<Option<Made>, Complaint> {
     }
     Err(Complaint::Member {
         name: "flags",
-        found: Found::Number(u64::from(flags)),
+        found: FoundValue::Number(u64::from(flags)),
         wanted: "those of a dump, without NLM_F_REQUEST (1)",
     })
 }
@@ -123,7 +121,7 @@ fn index_set(bytes: Vec<u8>, index: i32) -> Vec<u8> {
 }
 
 /// Makes the requests of all lines of an input, in an order in which each finds what it needs.
-pub(crate) fn make_in_order<T: Tables, R: BufRead, W: Write, E: Write>(
+pub(crate) fn restore_in_order<T: Tables, R: BufRead, W: Write, E: Write>(
     alloc: Global,
     forms: Forms<T>,
     request: &Request,
@@ -132,11 +130,14 @@ pub(crate) fn make_in_order<T: Tables, R: BufRead, W: Write, E: Write>(
     errors: &mut E,
     has_refused: &mut bool,
 ) -> Result<(), Stop> {
+    let mut output = Output::new(alloc, request.form);
+    output.begin()?;
+    output.write(writer)?;
     let mut requests = Requests::new(alloc);
     let mut line = Vec::new(alloc);
     for number in 1..u64::MAX {
         let found = next_line(reader, &mut line)?;
-        if found == Line::End {
+        if found == Found::End {
             break;
         }
         let kept = match dump_in(alloc, forms, request, found, &line) {
@@ -146,7 +147,7 @@ pub(crate) fn make_in_order<T: Tables, R: BufRead, W: Write, E: Write>(
         };
         if let Err(complaint) = kept {
             *has_refused = true;
-            say(alloc, errors, number, &complaint)?;
+            say_complaint(alloc, errors, number, &complaint)?;
         }
     }
     let Requests { entries, lines } = requests;
@@ -160,62 +161,22 @@ pub(crate) fn make_in_order<T: Tables, R: BufRead, W: Write, E: Write>(
         request,
         &lines,
         &plan.order,
+        &mut output,
         writer,
         errors,
         has_refused,
     )
 }
 
-/// The same in the order of the lines.
-pub(crate) fn make_line_by_line<T: Tables, R: BufRead, W: Write, E: Write>(
+fn say_complaint<E: Write>(
     alloc: Global,
-    forms: Forms<T>,
-    request: &Request,
-    reader: &mut R,
-    writer: &mut W,
     errors: &mut E,
-    has_refused: &mut bool,
+    number: u64,
+    complaint: &Complaint,
 ) -> Result<(), Stop> {
-    let mut line = Vec::new(alloc);
-    let mut out = Vec::new(alloc);
-    let mut packet = Packet::new(alloc);
-    for number in 1..u64::MAX {
-        let found = next_line(reader, &mut line)?;
-        if found == Line::End {
-            break;
-        }
-        out.clear();
-        match put_line_request(alloc, forms, request, found, &line, &mut packet, &mut out) {
-            Ok(()) => write_all(writer, &out)?,
-            Err(Complaint::Restore(RestoreError::MadeByKernel)) => {
-                say_made(alloc, request, errors, number)?;
-            }
-            Err(complaint) => {
-                *has_refused = true;
-                say(alloc, errors, number, &complaint)?;
-            }
-        }
-    }
-    end_packet(packet, &mut out, writer)
-}
-
-// Appends the request of a line.
-fn put_line_request<T: Tables>(
-    alloc: Global,
-    forms: Forms<T>,
-    request: &Request,
-    found: Line,
-    line: &[u8],
-    packet: &mut Packet,
-    out: &mut Vec<u8>,
-) -> Result<(), Complaint> {
-    match dump_in(alloc, forms, request, found, line)? {
-        Some(dump) => {
-            let made = restored(alloc, dump)?;
-            put_made(alloc, request, &made, packet, out)
-        }
-        None => Ok(()),
-    }
+    let text = format!(in alloc; "{complaint}")?;
+    say(alloc, errors, number, text.as_str())?;
+    Ok(())
 }
 
 // The dump of a line. A blank line has none, nor has an answer of the kernel or the request of a dump.
@@ -223,21 +184,20 @@ fn dump_in<T: Tables>(
     alloc: Global,
     forms: Forms<T>,
     request: &Request,
-    found: Line,
+    found: Found,
     line: &[u8],
 ) -> Result<Option<Made>, Complaint> {
     match found {
-        Line::TooLong => return Err(Complaint::TooLong),
-        Line::NoMemory => return Err(Complaint::NoMemory),
-        Line::Whole | Line::End => (),
+        Found::TooLong => return Err(Complaint::LongLine),
+        Found::NoMemory => return Err(Complaint::NoMemory),
+        Found::Whole | Found::End => (),
     }
     if is_blank(line) {
         return Ok(None);
     }
-    match made_of(alloc, forms, line, Making::Restored) {
-        Ok(made) => dumped(made, request.index),
-        Err(Complaint::Answer) => Ok(None),
-        Err(complaint) => Err(complaint),
+    match made_of(alloc, forms, line, Making::Restored)? {
+        Some(made) => dumped(made, request.index),
+        None => Ok(None),
     }
 }
 
@@ -249,11 +209,13 @@ fn say_made<E: Write>(
     number: u64,
 ) -> Result<(), Stop> {
     if request.verbose {
-        let text = format!(in alloc; "tcmake: line {number}: made by another request\n")?;
-        let _ = write_all(errors, text.as_bytes());
+        say(alloc, errors, number, MADE_BY_ANOTHER)?;
     }
     Ok(())
 }
+
+/// What is said of a dump that another request makes.
+pub(crate) const MADE_BY_ANOTHER: &str = "made by another request";
 
 // Says why each of these isn't made.
 fn say_left<E: Write>(
@@ -287,9 +249,8 @@ fn say_reason<E: Write>(
     reason: &Reason,
 ) -> Result<(), Stop> {
     if let Some(planned) = lines.get(place) {
-        let number = planned.number;
-        let text = format!(in alloc; "tcmake: line {number}: {reason}\n")?;
-        let _ = write_all(errors, text.as_bytes());
+        let text = format!(in alloc; "{reason}")?;
+        say(alloc, errors, planned.number, text.as_str())?;
     }
     Ok(())
 }
@@ -300,28 +261,44 @@ fn put_all<W: Write, E: Write>(
     request: &Request,
     lines: &[Planned],
     order: &[Step<Item, Key, Global>],
+    output: &mut Output,
     writer: &mut W,
     errors: &mut E,
     has_refused: &mut bool,
 ) -> Result<(), Stop> {
-    let mut out = Vec::new(alloc);
-    let mut packet = Packet::new(alloc);
     for step in order {
         if let Some(planned) = lines.get(step.item.place) {
-            out.clear();
             match (&planned.made, &step.item.fate) {
                 (Some(made), Fate::Request) => {
-                    match put_made(alloc, request, made, &mut packet, &mut out) {
-                        Ok(()) => write_all(writer, &out)?,
-                        Err(complaint) => {
-                            *has_refused = true;
-                            say(alloc, errors, planned.number, &complaint)?;
-                        }
+                    if put_request(alloc, made, planned.number, output, errors)? {
+                        *has_refused = true;
                     }
+                    output.write(writer)?;
                 }
                 _ => say_made(alloc, request, errors, planned.number)?,
             }
         }
     }
-    end_packet(packet, &mut out, writer)
+    output.end()?;
+    output.write(writer)
+}
+
+// Puts a request on the output. True if it can't be written.
+fn put_request<E: Write>(
+    alloc: Global,
+    made: &Made,
+    number: u64,
+    output: &mut Output,
+    errors: &mut E,
+) -> Result<bool, Stop> {
+    let notices = Vec::new(alloc);
+    put_message(
+        alloc,
+        &made.given,
+        &made.bytes,
+        &notices,
+        number,
+        output,
+        errors,
+    )
 }

@@ -1,10 +1,15 @@
 //! The program: what it is asked for is done over its streams, and how it ends is its exit status.
 
+ghost use Rattle.std.specs.Prelude.{◌≡◌, ◌≢◌, OnOk};
+ghost use Rattle.tc_streams.specs.Status.{status_of};
+ghost use Rattle.tcmake_lib.specs.Answer.{IsAnswer, IsMessage};
+ghost use Rattle.tcmake_lib.specs.declared.arguments.Making.TheVariants.{Restored};
+ghost use Rattle.tcmake_lines.specs.Parts.{Ran};
+ghost use Rattle.tcmake_lines.specs.declared.run.Ended.{Ended};
+
 use crate::arguments::{Request, request_of};
 use crate::message::Forms;
 use crate::run::run;
-use crate::status::{Stop, status_of};
-use crate::writing::write_all;
 use clap::error::ErrorKind;
 use std::alloc::Global;
 use std::env;
@@ -12,6 +17,7 @@ use std::io::{self, BufRead, BufReader, Input, Print, Write};
 use std::process::ExitCode;
 use std::rt::Env;
 use tc_forms::Tables;
+use tc_streams::{Stop, complain, status_of};
 
 /// The whole program: reads its arguments, makes messages of the lines of standard input, writes them to standard output, and
 /// returns the exit status. Complaints are written to `errors`.
@@ -64,7 +70,15 @@ pub fn serve<T: Tables, R: BufRead, W: Write, E: Write>(
     reader: &mut R,
     writer: &mut W,
     errors: &mut E,
-) -> u8 {
+) -> u8
+    // The status says how the run ended. Where it came to the end of its input, each line of it became a message, nothing or a complaint;
+    // the messages are written in their order, in the form that is asked for, and the status says whether there was a complaint. Requests have
+    // an order of their own.
+    ensures status { (ended : Ended) × (result ≡ status_of ended.outcome ended.has_refused)
+        × (request.now.making ≢ Restored → OnOk ended.outcome (Ran
+        (IsMessage (T.parts_of forms.table) forms.tc forms.action request.now.making) IsAnswer request.now.form ended.has_refused
+        (R.remaining reader.old) (W.contents writer.old) (W.contents writer.new))) }
+{
     let ended = run(alloc, forms, request, reader, writer, errors);
     let status = status_of(ended.outcome, ended.has_refused);
     match ended.outcome {
@@ -73,10 +87,4 @@ pub fn serve<T: Tables, R: BufRead, W: Write, E: Write>(
         Err(Stop::Write) => complain(errors, "tcmake: write failed\n", status),
         Err(Stop::NoMemory) => complain(errors, NO_MEMORY, status),
     }
-}
-
-// Writes why nothing more is made, if it can, and returns a status.
-fn complain<E: Write>(errors: &mut E, text: &str, status: u8) -> u8 {
-    let _ = write_all(errors, text.as_bytes());
-    status
 }

@@ -9,7 +9,6 @@ ghost use Rattle.tcmake_lib.specs.declared.restore.Dump.TheVariants.{Of, Actions
 ghost use Rattle.tc_requests.specs.RequestOf.{new_type};
 
 use crate::complaint::{Complaint, Found};
-use crate::given::{Given, packet_at};
 use crate::made::Made;
 use nla_frames::{Emitable, ParseableBytes};
 use std::alloc::Global;
@@ -17,6 +16,7 @@ use tc_action_messages::TcActionMessage;
 use tc_capture::Holds;
 use tc_messages::TcMessage;
 use tc_requests::{Object, RTM_NEWACTION, Request, request_of, request_of_actions};
+use tcmake_lines::{Given, packet_at};
 
 /// What is dumped.
 #[derive(Clone, Copy)]
@@ -152,6 +152,6 @@ fn emitted<M: Emitable>(alloc: Global, message: &M) -> Result<Vec<u8>, Complaint
             message.emit(&mut bytes);
             Ok(bytes)
         }
-        None => Err(Complaint::TooLongPacket),
+        None => Err(Complaint::TooLong),
     }
 }

@@ -1,32 +1,23 @@
 //! A whole run.
 
-ghost use Rattle.std.specs.Prelude.{◌≡◌, ◌++◌, ℕ, List, true, false, IfOk, OnOk};
-ghost use Rattle.tcmake_lib.specs.Answer.{Becomes, IsWire, IsWritten};
-ghost use Rattle.tcmake_lib.specs.Written.{hex_line};
+ghost use Rattle.std.specs.Prelude.{⊤, ◌≢◌, OnOk};
+ghost use Rattle.tcmake_lib.specs.Answer.{IsAnswer, IsMessage};
+ghost use Rattle.tcmake_lib.specs.declared.arguments.Making.TheVariants.{Restored};
+ghost use Rattle.tcmake_lines.specs.Parts.{Ran};
 
 use crate::arguments::{Making, Request};
 use crate::complaint::{Complaint, Notice};
-use crate::input::{Line, next_line};
 use crate::made::{Made, made_of};
 use crate::message::Forms;
-use crate::order::{make_in_order, make_line_by_line};
-use crate::packet::{CAPTURE, put_line, with_header};
-use crate::packets::Packet;
+use crate::order::{MADE_BY_ANOTHER, dumped, restore_in_order};
 use crate::restore::restored;
-use crate::status::Stop;
-use crate::writing::write_all;
-use std::alloc::Global;
+use std::alloc::{AllocError, Global};
 use std::io::{BufRead, Write};
 use tc_forms::Tables;
-
-/// How a run ended.
-#[derive(Clone, Copy, PartialEq, Eq, Debug)]
-pub struct Ended {
-    /// Why it ended before the end of its input, if it did.
-    pub outcome: Result<(), Stop>,
-    /// True if of a line no message was made.
-    pub has_refused: bool,
-}
+use tc_forms_strict::Difference;
+use tc_requests::RestoreError;
+use tcmake_lines::run::{Ended, run as run_lines};
+use tcmake_lines::{Answer, Maker};
 
 /// Makes messages of all lines of an input. Complaints, and what was settled, are written to `errors`.
 pub fn run<T: Tables, R: BufRead, W: Write, E: Write>(
@@ -36,9 +27,42 @@ pub fn run<T: Tables, R: BufRead, W: Write, E: Write>(
     reader: &mut R,
     writer: &mut W,
     errors: &mut E,
+) -> Ended
+    ensures { request.now.making ≢ Restored → OnOk result.outcome (Ran
+        (IsMessage (T.parts_of forms.table) forms.tc forms.action request.now.making) IsAnswer request.now.form result.has_refused
+        (R.remaining reader.old) (W.contents writer.old) (W.contents writer.new)) }
+{
+    if request.making == Making::Restored {
+        return restore(alloc, forms, request, reader, writer, errors);
+    }
+    let maker = MessageMaker {
+        alloc,
+        forms,
+        making: request.making,
+    };
+    run_lines(alloc, &maker, request.form, reader, writer, errors)
+}
+
+// Makes requests of all lines, in their order or in one in which each finds what it needs.
+fn restore<T: Tables, R: BufRead, W: Write, E: Write>(
+    alloc: Global,
+    forms: Forms<T>,
+    request: &Request,
+    reader: &mut R,
+    writer: &mut W,
+    errors: &mut E,
 ) -> Ended {
+    if request.in_order {
+        let maker = RequestMaker {
+            alloc,
+            forms,
+            index: request.index,
+            verbose: request.verbose,
+        };
+        return run_lines(alloc, &maker, request.form, reader, writer, errors);
+    }
     let mut has_refused = false;
-    let outcome = make_all(
+    let outcome = restore_in_order(
         alloc,
         forms,
         request,
@@ -53,205 +77,117 @@ pub fn run<T: Tables, R: BufRead, W: Write, E: Write>(
     }
 }
 
-fn make_all<T: Tables, R: BufRead, W: Write, E: Write>(
-    alloc: Global,
-    forms: Forms<T>,
-    request: &Request,
-    reader: &mut R,
-    writer: &mut W,
-    errors: &mut E,
-    has_refused: &mut bool,
-) -> Result<(), Stop> {
-    if request.pcap {
-        write_all(writer, &CAPTURE)?;
-    }
-    if request.making == Making::Restored {
-        return if request.in_order {
-            make_line_by_line(alloc, forms, request, reader, writer, errors, has_refused)
-        } else {
-            make_in_order(alloc, forms, request, reader, writer, errors, has_refused)
-        };
-    }
-    let mut line = Vec::new(alloc);
-    let mut out = Vec::new(alloc);
-    let mut packet = Packet::new(alloc);
-    for number in 1..u64::MAX {
-        let found = next_line(reader, &mut line)?;
-        if found == Line::End {
-            break;
-        }
-        if is_blank(&line) && found == Line::Whole {
-            continue;
-        }
-        out.clear();
-        let put = put_message(
-            alloc,
-            forms,
-            request,
-            found,
-            &line,
-            number,
-            &mut packet,
-            &mut out,
-            errors,
-        );
-        match put {
-            Ok(()) => write_all(writer, &out)?,
-            Err(Complaint::Answer) => {}
-            Err(complaint) => {
-                *has_refused = true;
-                say(alloc, errors, number, &complaint)?;
-            }
-        }
-    }
-    end_packet(packet, &mut out, writer)
-}
-
-/// Writes the last packet of a capture.
-pub(crate) fn end_packet<W: Write>(
-    packet: Packet,
-    out: &mut Vec<u8>,
-    writer: &mut W,
-) -> Result<(), Stop> {
-    let mut packet = packet;
-    out.clear();
-    match packet.end(out) {
-        Ok(()) => write_all(writer, out),
-        Err(_) => Err(Stop::NoMemory),
-    }
-}
-
-/// True of a line that holds nothing.
-pub(crate) fn is_blank(line: &[u8]) -> bool {
-    line.iter().all(|byte| byte.is_ascii_whitespace())
-}
-
-// Appends the message of a line, and says what was settled in it.
-fn put_message<T: Tables, E: Write>(
-    alloc: Global,
-    forms: Forms<T>,
-    request: &Request,
-    found: Line,
-    line: &[u8],
-    number: u64,
-    packet: &mut Packet,
-    out: &mut Vec<u8>,
-    errors: &mut E,
-) -> Result<(), Complaint>
-    ensures hex { request.now.pcap ≡ false → request.now.stream ≡ false → OnOk result ((text : List ℕ) × (out.new.items ≡ out.old.items ++ text)
-        × IsWritten (T.parts_of forms.table) forms.tc forms.action request.now.no_header request.now.making line.now text) }
-{
-    match found {
-        Line::TooLong => return Err(Complaint::TooLong),
-        Line::NoMemory => return Err(Complaint::NoMemory),
-        Line::Whole | Line::End => (),
-    }
-    let made = make_line(alloc, forms, request.making, line)?;
-    put_made(alloc, request, &made, packet, out)?;
-    say_settled(alloc, errors, number, &made)?;
-    Ok(())
-}
-
-// The message that a line becomes.
-fn make_line<T: Tables>(
+// What makes messages of lines.
+#[derive(Clone, Copy)]
+struct MessageMaker<T> {
     alloc: Global,
     forms: Forms<T>,
     making: Making,
-    line: &[u8],
-) -> Result<Made, Complaint>
-    ensures { IfOk result (λ made. Becomes (T.parts_of forms.table) forms.tc forms.action making line.now made.given made.bytes.items) }
-{
-    let made = made_of(alloc, forms, line, making)?;
-    match making {
-        Making::Restored => {
-            let request = restored(alloc, made)?;
-            Ok(request)
+}
+
+impl<T: Tables> Maker for MessageMaker<T> {
+    ghost Makes = { λ m line given bytes. IsMessage (T.parts_of m.forms.table) m.forms.tc m.forms.action m.making line given bytes };
+
+    ghost Passes = { λ _ line. IsAnswer line };
+
+    fn make(&self, line: &[u8]) -> Result<Answer, AllocError> {
+        match made_of(self.alloc, self.forms, line, self.making) {
+            Ok(
+                Some(
+                    Made {
+                        given,
+                        bytes,
+                        settled,
+                    },
+                ),
+            ) => Ok(Answer::Message {
+                given,
+                bytes,
+                notices: notices_of(self.alloc, &settled)?,
+            }),
+            Ok(None) => Ok(Answer::Nothing { notice: None }),
+            Err(complaint) => Ok(Answer::Complaint(text_of(self.alloc, &complaint)?)),
         }
-        Making::Checked | Making::Settled | Making::AsGiven => Ok(made),
     }
 }
 
-/// Appends a message as it is asked for.
-pub(crate) fn put_made(
+// What makes requests of lines that show dumps.
+#[derive(Clone, Copy)]
+struct RequestMaker<T> {
     alloc: Global,
-    request: &Request,
-    made: &Made,
-    packet: &mut Packet,
-    out: &mut Vec<u8>,
-) -> Result<(), Complaint>
-    ensures hex { request.now.pcap ≡ false → request.now.stream ≡ false
-        → OnOk result ((whole : List ℕ) × IsWire request.now.no_header made.now.given made.now.bytes.items whole
-        × (out.new.items ≡ out.old.items ++ hex_line whole)) }
-    ensures stream { request.now.pcap ≡ false → request.now.stream ≡ true
-        → OnOk result ((whole : List ℕ) × IsWire false made.now.given made.now.bytes.items whole
-        × (out.new.items ≡ out.old.items ++ whole)) }
-{
-    if request.pcap {
-        put_in_packet(alloc, made, packet, out)
-    } else if request.stream {
-        put_whole(alloc, made, out)
+    forms: Forms<T>,
+    index: Option<i32>,
+    verbose: bool,
+}
+
+impl<T: Tables> Maker for RequestMaker<T> {
+    // What a request restores is said at `restored`.
+    ghost Makes = { λ _ _ _ _. ⊤ };
+
+    ghost Passes = { λ _ _. ⊤ };
+
+    fn make(&self, line: &[u8]) -> Result<Answer, AllocError> {
+        match request_in(self.alloc, self.forms, self.index, line) {
+            Ok(
+                Some(
+                    Made {
+                        given,
+                        bytes,
+                        settled,
+                    },
+                ),
+            ) => Ok(Answer::Message {
+                given,
+                bytes,
+                notices: notices_of(self.alloc, &settled)?,
+            }),
+            Ok(None) => Ok(Answer::Nothing { notice: None }),
+            Err(Complaint::Restore(RestoreError::MadeByKernel)) => {
+                Ok(Answer::Nothing {
+                    notice: made_by_another(self.alloc, self.verbose)?,
+                })
+            }
+            Err(complaint) => Ok(Answer::Complaint(text_of(self.alloc, &complaint)?)),
+        }
+    }
+}
+
+// The request that restores what a line shows.
+fn request_in<T: Tables>(
+    alloc: Global,
+    forms: Forms<T>,
+    index: Option<i32>,
+    line: &[u8],
+) -> Result<Option<Made>, Complaint> {
+    let made = match made_of(alloc, forms, line, Making::Restored)? {
+        Some(made) => made,
+        None => return Ok(None),
+    };
+    match dumped(made, index)? {
+        Some(dump) => Ok(Some(restored(alloc, dump)?)),
+        None => Ok(None),
+    }
+}
+
+// What is said of a dump that another request makes, if that is asked for.
+fn made_by_another(alloc: Global, verbose: bool) -> Result<Option<String>, AllocError> {
+    if verbose {
+        Ok(Some(String::from_str(alloc, MADE_BY_ANOTHER)?))
     } else {
-        put_hex(alloc, request.no_header, made, out)
+        Ok(None)
     }
 }
 
-// Appends a message behind its netlink header; both are as long as a multiple of four.
-fn put_whole(alloc: Global, made: &Made, out: &mut Vec<u8>) -> Result<(), Complaint>
-    ensures { OnOk result ((whole : List ℕ) × IsWire false made.now.given made.now.bytes.items whole
-        × (out.new.items ≡ out.old.items ++ whole)) }
-{
-    let whole = with_header(alloc, &made.given, &made.bytes)?;
-    out.extend_from_slice(&whole)?;
-    Ok(())
-}
-
-// Appends a message to its packet; the packet before it, if that ends here, is appended to `out`.
-fn put_in_packet(
-    alloc: Global,
-    made: &Made,
-    packet: &mut Packet,
-    out: &mut Vec<u8>,
-) -> Result<(), Complaint> {
-    let whole = with_header(alloc, &made.given, &made.bytes)?;
-    packet.add(&made.given.packet, &whole, out)
-}
-
-// Appends a message as a line of hex.
-fn put_hex(alloc: Global, no_header: bool, made: &Made, out: &mut Vec<u8>) -> Result<(), Complaint>
-    ensures { OnOk result ((whole : List ℕ) × IsWire no_header made.now.given made.now.bytes.items whole
-        × (out.new.items ≡ out.old.items ++ hex_line whole)) }
-{
-    if no_header {
-        put_line(alloc, out, &made.bytes)?;
-        return Ok(());
-    }
-    let whole = with_header(alloc, &made.given, &made.bytes)?;
-    put_line(alloc, out, &whole)?;
-    Ok(())
-}
-
-fn say_settled<E: Write>(
-    alloc: Global,
-    errors: &mut E,
-    number: u64,
-    made: &Made,
-) -> Result<(), Complaint> {
-    for place in &made.settled {
+// What is said of places that settling changed.
+fn notices_of(alloc: Global, settled: &[Difference]) -> Result<Vec<String>, AllocError> {
+    let mut notices = Vec::new(alloc);
+    for place in settled {
         let notice = Notice(place);
-        let text = format!(in alloc; "tcmake: line {number}: {notice}\n")?;
-        let _ = write_all(errors, text.as_bytes());
+        notices.push(format!(in alloc; "{notice}")?)?;
     }
-    Ok(())
+    Ok(notices)
 }
 
-/// Says why no message is made of a line.
-pub(crate) fn say<E: Write>(
-    alloc: Global,
-    errors: &mut E,
-    number: u64,
-    complaint: &Complaint,
-) -> Result<(), Stop> {
-    let text = format!(in alloc; "tcmake: line {number}: {complaint}\n")?;
-    let _ = write_all(errors, text.as_bytes());
-    Ok(())
+fn text_of(alloc: Global, complaint: &Complaint) -> Result<String, AllocError> {
+    format!(in alloc; "{complaint}")
 }

@@ -9,4 +9,3 @@ mod patience;
 pub mod program;
 pub mod run;
 mod text;
-mod writing;

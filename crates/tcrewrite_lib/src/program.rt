@@ -8,14 +8,13 @@ ghost use Rattle.tcrewrite_lib.specs.declared.arguments.Request.TheVariants.{Rep
 ghost use Rattle.tcrewrite_lib.specs.declared.run.RunError.{RunError};
 
 use crate::arguments::{Request, request_from};
-use crate::patience::Patience;
 use crate::run::{RunError, run, without_memory};
-use crate::writing::write_text;
 use std::alloc::Allocator;
 use std::env;
 use std::io::{self, Input, Print, Read, Write};
 use std::process::ExitCode;
 use std::rt::Env;
+use tc_streams::complain;
 
 /// The whole program: reads its arguments, reports on the text of standard input on standard output, and returns the
 /// exit status. Where there is no report, it writes why to `errors`.
@@ -64,12 +63,4 @@ pub fn exit_status<E: Write>(outcome: Result<u8, RunError>, errors: &mut E) -> u
         Err(RunError::Read) => complain(errors, "read failed\n", 3),
         Err(RunError::Write) => complain(errors, "write failed\n", 3),
     }
-}
-
-// Writes why there is no report, if it can, and returns a status.
-fn complain<E: Write>(errors: &mut E, text: &str, status: u8) -> u8
-    ensures { result ≡ status }
-{
-    write_text(errors, text, &mut Patience::new());
-    status
 }

@@ -11,9 +11,9 @@ use crate::answer::{Answer, answer_text};
 use crate::mode::Mode;
 use crate::patience::Patience;
 use crate::text::{TextError, read_text};
-use crate::writing::write_text;
 use std::alloc::Allocator;
 use std::io::{Read, Write};
+use tc_streams::write_all;
 
 /// Why a run ended early.
 #[derive(Drop, PartialEq, Eq, Debug)]
@@ -41,35 +41,29 @@ fn prepare<A: Allocator + Copy, R: Read>(
 }
 
 // Writes a report that is ready, and returns its status.
-fn finish<W: Write>(
-    writer: &mut W,
-    text: &str,
-    status: u8,
-    patience: &mut Patience,
-) -> Result<u8, RunError>
+fn finish<W: Write>(writer: &mut W, text: &str, status: u8) -> Result<u8, RunError>
     ensures written { IfOk result (λ s.
         Reports (W.contents writer.old) (W.contents writer.new) s
         (record { text = text.now; status = status })) }
     ensures fault { IfErr result (λ e. e ≡ RunError.Write) }
 {
-    if write_text(writer, text, patience) {
-        Ok(status)
-    } else {
-        Err(RunError::Write)
+    match write_all(writer, text.as_bytes()) {
+        Ok(()) => Ok(status),
+        Err(_) => Err(RunError::Write),
     }
 }
 
 // Writes that a growth was refused, and returns the status of that.
-fn finish_without_memory<W: Write>(writer: &mut W, patience: &mut Patience) -> Result<u8, RunError>
+fn finish_without_memory<W: Write>(writer: &mut W) -> Result<u8, RunError>
     ensures written { IfOk result (λ status.
         Reports (W.contents writer.old) (W.contents writer.new) status no_memory) }
     ensures fault { IfErr result (λ e. e ≡ RunError.Write) }
 {
-    finish(writer, "refused OutOfMemory\n", 1, patience)
+    finish(writer, "refused OutOfMemory\n", 1)
 }
 
 /// Reads a text, writes the report on it, and returns the exit status. No memory is asked for once it
-/// writes. A call that was interrupted is tried again, 1,024 times at most.
+/// writes. A read that was interrupted is tried again, 1,024 times in all, and so is each write.
 pub fn run<A: Allocator + Copy, R: Read, W: Write>(
     alloc: A,
     mode: Mode,
@@ -83,8 +77,8 @@ pub fn run<A: Allocator + Copy, R: Read, W: Write>(
 {
     let mut patience = Patience::new();
     match prepare(alloc, mode, reader, &mut patience) {
-        Ok(answer) => finish(writer, answer.text.as_str(), answer.status, &mut patience),
-        Err(TextError::OutOfMemory) => finish_without_memory(writer, &mut patience),
+        Ok(answer) => finish(writer, answer.text.as_str(), answer.status),
+        Err(TextError::OutOfMemory) => finish_without_memory(writer),
         Err(TextError::Fault) => Err(RunError::Read),
     }
 }
@@ -94,5 +88,5 @@ pub(crate) fn without_memory<W: Write>(writer: &mut W) -> Result<u8, RunError>
     ensures { IfOk result (λ status.
         Reports (W.contents writer.old) (W.contents writer.new) status no_memory) }
 {
-    finish_without_memory(writer, &mut Patience::new())
+    finish_without_memory(writer)
 }

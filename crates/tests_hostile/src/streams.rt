@@ -148,14 +148,14 @@ fn ended(alloc: Global, reads: usize, writes: usize) -> std::result::Result<u8, 
 }
 
 #[test]
-fn tries_again_1024_times_in_all(rt: HostRuntime) {
+fn tries_again(rt: HostRuntime) {
     let alloc = rt.alloc();
     assert!(rt; ended(alloc, 1024, 0) == Ok(0));
-    assert!(rt; ended(alloc, 0, 1024) == Ok(0));
-    assert!(rt; ended(alloc, 1000, 24) == Ok(0));
+    assert!(rt; ended(alloc, 0, 1023) == Ok(0));
+    assert!(rt; ended(alloc, 1024, 1023) == Ok(0));
     assert!(rt; ended(alloc, 1025, 0) == Err(RunError::Read));
     assert!(rt; ended(alloc, usize::MAX, 0) == Err(RunError::Read));
-    assert!(rt; ended(alloc, 1000, 25) == Err(RunError::Write));
+    assert!(rt; ended(alloc, 0, 1024) == Err(RunError::Write));
     assert!(rt; ended(alloc, 0, usize::MAX) == Err(RunError::Write));
 }
 
@@ -181,10 +181,9 @@ fn tries_again_between_bytes(rt: HostRuntime) {
     assert!(rt; ended_after_all(alloc, 0, 7) == (Ok(0), 138));
     // 94 times 11 are more than 1,024
     assert!(rt; ended_after_all(alloc, 11, 0) == (Err(RunError::Read), 0));
-    // 128 times 8 are 1,024
-    assert!(rt; ended_after_all(alloc, 0, 8) == (Err(RunError::Write), 128));
-    // 97 times 10 leave 54
-    assert!(rt; ended_after_all(alloc, 10, 1) == (Err(RunError::Write), 54));
+    // each write has its own 1,024
+    assert!(rt; ended_after_all(alloc, 10, 1023) == (Ok(0), 138));
+    assert!(rt; ended_after_all(alloc, 0, 1024) == (Err(RunError::Write), 0));
 }
 
 // Whether a program ends with this status over a reader and a writer that take so many calls, and writes this to both outputs.

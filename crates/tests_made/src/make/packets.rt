@@ -1,6 +1,6 @@
 //! Packets as lines say them.
 
-use crate::make::runs::{HEX, PCAP, made};
+use crate::make::runs::{HEX, PCAP, STREAM, made};
 use std::test::Fail;
 
 // Two messages of one packet, and an answer of the kernel between them; a message of the next; one of the same number at another
@@ -48,5 +48,28 @@ fn a_line_of_hex(rt: HostRuntime) -> Result<(), Fail> {
     let want =
         b"34000000650005060403020108070605000000000200000000000100ffffffff000000000d00010066715f636f64656c00000000\n";
     assert!(rt; run.status == 0 && run.written.as_slice() == want.as_slice());
+    Ok(())
+}
+
+// Messages of a stream begin at multiples of four, and the last is padded too. Blank lines count, and so does a line that is wrong, of
+// which nothing is written.
+#[test]
+fn a_stream(rt: HostRuntime) -> Result<(), Fail> {
+    let alloc = rt.alloc();
+    let lines = br#"{"type":"RTM_NEWACTION","seq":1,"message":{"raw":"00"}}
+
+{"type":"RTM_NEWACTION","seq":"2","message":{"raw":"00"}}
+{"type":"RTM_NEWACTION","seq":3,"message":{"raw":"0000"}}
+{"type":"NLMSG_ERROR","seq":3,"errno":"EINVAL"}
+{"type":"RTM_NEWACTION","seq":4,"message":{"raw":"000000"}}
+{"type":"RTM_NEWACTION","seq":5,"message":{"raw":"00000000"}}
+{"type":"RTM_NEWACTION","seq":6,"message":{"raw":""}}"#;
+    let run = made(alloc, &STREAM, lines);
+    let want = "11000000300000000100000000000000000000001200000030000000030000000000000000000000\
+         1300000030000000040000000000000000000000140000003000000005000000000000000000000010000000300000000600000000000000";
+    assert!(rt; run.status == 1);
+    assert!(rt; run.written == hex::decode(alloc, want)?);
+    let said = b"tcmake: line 3: /seq: found \"2\", wanted a number from 0 to 4294967295\n";
+    assert!(rt; run.errors.as_slice() == said.as_slice());
     Ok(())
 }

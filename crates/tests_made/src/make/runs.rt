@@ -5,6 +5,7 @@ use tc_kinds::{ACTION_MESSAGE, TC_MESSAGE, TcTables};
 use tcmake_lib::arguments::{Making, Request};
 use tcmake_lib::message::Forms;
 use tcmake_lib::program::serve;
+use tcmake_lines::Form;
 
 /// The forms of both messages.
 pub(crate) const FORMS: Forms<TcTables> = Forms {
@@ -15,35 +16,38 @@ pub(crate) const FORMS: Forms<TcTables> = Forms {
 
 /// What is asked for without arguments.
 pub(crate) const HEX: Request = Request {
-    no_header: false,
-    pcap: false,
+    form: Form::Hex,
     making: Making::Checked,
     in_order: false,
     index: None,
-    stream: false,
     verbose: false,
 };
 
 /// A capture in place of lines of hex.
 pub(crate) const PCAP: Request = Request {
-    no_header: false,
-    pcap: true,
+    form: Form::Capture,
     making: Making::Checked,
     in_order: false,
     index: None,
-    stream: false,
+    verbose: false,
+};
+
+/// Messages one after the other in place of lines of hex.
+pub(crate) const STREAM: Request = Request {
+    form: Form::Stream,
+    making: Making::AsGiven,
+    in_order: false,
+    index: None,
     verbose: false,
 };
 
 /// Messages without a netlink header, made so.
 pub(crate) fn bare(making: Making) -> Request {
     Request {
-        no_header: true,
-        pcap: false,
+        form: Form::Bare,
         making,
         in_order: false,
         index: None,
-        stream: false,
         verbose: false,
     }
 }

@@ -1,6 +1,6 @@
 //! Streams that fail, that are interrupted, and that are closed.
 
-use crate::make::runs::{FORMS, PCAP, made};
+use crate::make::runs::{FORMS, HEX, PCAP, made};
 use std::alloc::Global;
 use std::io::{BufReader, Error, ErrorKind, Read, Result, Write};
 use std::test::Fail;
@@ -99,7 +99,7 @@ fn each_call_fails(rt: HostRuntime) -> std::result::Result<(), Fail> {
         );
         assert!(rt; errors.as_slice() == b"tcmake: read failed\n".as_slice());
     }
-    let (status, written, _) = run(alloc, (reads, 3), (999, 3, ErrorKind::TimedOut))?;
+    let (status, written, _) = run(alloc, (reads, 1023), (999, 1023, ErrorKind::TimedOut))?;
     assert!(rt; status == 0 && written == whole.written);
     for calls in 0..4usize {
         let (status, written, errors) = run(alloc, (999, 0), (calls, 0, ErrorKind::TimedOut))?;
@@ -115,5 +115,27 @@ fn each_call_fails(rt: HostRuntime) -> std::result::Result<(), Fail> {
         );
         assert!(rt; errors.is_empty());
     }
+    // interrupted too often
+    let (status, _, _) = run(alloc, (reads, 1024), (999, 0, ErrorKind::TimedOut))?;
+    assert!(rt; status == 3);
+    let (status, _, _) = run(alloc, (reads, 0), (999, 1024, ErrorKind::TimedOut))?;
+    assert!(rt; status == 3);
+    Ok(())
+}
+
+// A closed output is no failure, and what was wrong before it is said.
+#[test]
+fn a_closed_output(rt: HostRuntime) -> std::result::Result<(), Fail> {
+    let alloc = rt.alloc();
+    let mut from =
+        b"{}\n{\"type\":\"RTM_GETACTION\",\"message\":{\"header\":{\"family\":\"Unspec\"},\"attributes\":[]}}\n".as_slice();
+    let mut to = slowly(Vec::new(alloc), 0, 0, ErrorKind::BrokenPipe);
+    let mut errors = Vec::new(alloc);
+    let status = serve(alloc, FORMS, &HEX, &mut from, &mut to, &mut errors);
+    assert!(rt; status == 1 && to.inner.is_empty());
+    assert!(rt;
+        errors.starts_with(b"tcmake: line 1: ")
+            && errors.iter().filter(|byte| **byte == b'\n').count() == 1
+    );
     Ok(())
 }

@@ -55,7 +55,7 @@ tcmake: line 1: /attributes/1/Options/0/Flower/pad: found \"000001\", dropped
 tcmake: line 1: /attributes/1/Options/0/Flower/word: found 32836, dropped";
 
 #[rattlefmt::skip]
-static CELLS: [Cell; 25] = [
+static CELLS: [Cell; 27] = [
     // `refused` and its numbers
     Cell { says: r#""refused":"WrongLength","expected":4,"got":2,"#, message: REFUSED, making: CHECKED, makes: Makes::Given, said: "" },
     Cell { says: r#""refused":"WrongLength","expected":4,"got":2,"offset":24,"path":"/attributes/0/Chain","#, message: REFUSED, making: CHECKED,
@@ -85,10 +85,14 @@ static CELLS: [Cell; 25] = [
     Cell { says: r#""fits":true,"#, message: REFUSED, making: CHECKED, makes: Makes::Nothing,
         said: "/attributes/0/Chain: found a message that the codec refuses, value of 2 bytes, 4 expected" },
     Cell { says: r#""canonical":true,"#, message: LOOSE, making: SETTLE, makes: Makes::Settled, said: NOTICES },
+    Cell { says: r#""fits":true,"#, message: REFUSED, making: SETTLE, makes: Makes::Nothing,
+        said: "/attributes/0/Chain: found a message that the codec refuses, value of 2 bytes, 4 expected" },
     Cell { says: r#""canonical":true,"#, message: LOOSE, making: AS_GIVEN, makes: Makes::Given, said: "" },
     // none of them
     Cell { says: "", message: CANONICAL, making: CHECKED, makes: Makes::Given, said: "" },
     Cell { says: "", message: LOOSE, making: CHECKED, makes: Makes::Nothing, said: "/attributes/1/Options/0/Flower/MplsBos: found 3, wanted 1" },
+    Cell { says: "", message: REFUSED, making: CHECKED, makes: Makes::Nothing,
+        said: "/attributes/0/Chain: found a message that the codec refuses, value of 2 bytes, 4 expected" },
     Cell { says: "", message: CANONICAL, making: SETTLE, makes: Makes::Given, said: "" },
     Cell { says: "", message: REFUSED, making: SETTLE, makes: Makes::Nothing,
         said: "/attributes/0/Chain: found a message that the codec refuses, value of 2 bytes, 4 expected" },
@@ -147,6 +151,27 @@ fn raw_messages(rt: HostRuntime) -> Result<(), Fail> {
 tcmake: line 2: /type: found nothing, wanted a message type, since the message is raw
 ";
     assert!(rt; run.status == 1 && run.written.as_slice() == b"00\n".as_slice());
+    assert!(rt; run.errors.as_slice() == said.as_slice());
+    Ok(())
+}
+
+// A number out of its range is masked (2 of one bit is 0), and a warning loses the NULs at its end alone.
+#[test]
+fn settled_messages(rt: HostRuntime) -> Result<(), Fail> {
+    let alloc = rt.alloc();
+    let lines =
+        br#"{"type":"RTM_NEWQDISC","message":{"header":{"family":"Unspec","index":2,"handle":"1:","parent":"root","info":0},"attributes":[{"Kind":"flower"},{"Options":[{"Flower":{"MplsBos":2}}]}]}}
+{"type":"RTM_NEWACTION","message":{"header":{"family":"Unspec"},"attributes":[{"RootExtWarnMsg":"a\u0000"}]}}
+"#;
+    let run = made(alloc, &bare(Making::Settled), lines);
+    let want =
+        b"000000000200000000000100ffffffff000000000b000100666c6f77657200000c0002000500440000000000
+000000000600050061000000
+";
+    let said = b"tcmake: line 1: /attributes/1/Options/0/Flower/MplsBos: found 2, settled to 0
+tcmake: line 2: /attributes/0/RootExtWarnMsg: found \"a\\u0000\", settled to \"a\"
+";
+    assert!(rt; run.status == 0 && run.written.as_slice() == want.as_slice());
     assert!(rt; run.errors.as_slice() == said.as_slice());
     Ok(())
 }

@@ -1,0 +1,5 @@
+pub mod Ends
+pub mod Lines
+pub mod Written
+pub mod Parts
+pub mod State

@@ -1,0 +1,60 @@
+-- The lines of an input.
+use Rattle.std.specs.Prelude.{◌≡◌, ◌≢◌, ◌<◌, ◌≤◌, ◌==◌, ⊤, ℕ, Bool, true, false, List, [], ◌∷◌, ◌++◌, length, slice_index, Option, Some, None, if◌then◌else◌}
+use Rattle.std.specs.Io.KnownBytes.{IsAtEnd}
+use Rattle.std.specs.Char.{is_ascii_whitespace}
+use Rattle.tcmake_lines.specs.declared.input.Found.{Found}
+use Rattle.tcmake_lines.specs.declared.input.Found.TheVariants.{Whole, TooLong, NoMemory, End}
+
+-- a byte at the front of the first line
+abbrev pub in_front : ℕ → List (List ℕ) → List (List ℕ)
+in_front c [] = (c ∷ []) ∷ []
+in_front c (line ∷ lines) = (c ∷ line) ∷ lines
+
+-- the lines of some bytes, without their line feeds; behind the last line feed there is one only if bytes are there
+abbrev pub lines_of : List ℕ → List (List ℕ)
+lines_of [] = []
+lines_of (c ∷ cs) = if c == 10 then [] ∷ lines_of cs else in_front c (lines_of cs)
+
+-- these lines are read of an input, and what is left of it comes after them
+abbrev pub Reads : Option (List ℕ) → Option (List ℕ) → List (List ℕ) → Type 0
+Reads None new lines = ⊤
+Reads (Some xs) None lines = ⊥
+Reads (Some xs) (Some ys) lines = lines_of xs ≡ lines ++ lines_of ys
+
+-- these are all lines of an input, where its bytes are known
+abbrev pub AreLines : Option (List ℕ) → List (List ℕ) → Type 0
+AreLines None lines = ⊤
+AreLines (Some xs) lines = lines ≡ lines_of xs
+
+-- the longest line of which a message is made, in bytes
+abbrev pub most_line : ℕ
+most_line = 33554432
+
+-- what is kept of a line: all of it, or its front where it is too long or memory ran out
+abbrev pub IsFound : Found → List ℕ → List ℕ → Type 0
+IsFound Whole line kept = (kept ≡ line) × (length line ≤ most_line)
+IsFound TooLong line kept = most_line < length line
+IsFound NoMemory line kept = 0 < length line
+IsFound End line kept = ⊥
+
+abbrev pub is_end : Found → Bool
+is_end Whole = false
+is_end TooLong = false
+is_end NoMemory = false
+is_end End = true
+
+-- the next line is read, or the input is at its end
+abbrev pub IsNext : Found → List ℕ → Option (List ℕ) → Option (List ℕ) → Type 0
+IsNext End kept old new = IsAtEnd old
+IsNext found kept old new = (line : List ℕ) × Reads old new (line ∷ []) × IsFound found line kept
+
+-- where an input ends behind a line, that has bytes; else there is none
+abbrev pub EndsLine : Found → Found → List ℕ → Type 0
+EndsLine End found line = line ≡ []
+EndsLine Whole found line = (line ≢ []) × (Whole ≡ found)
+EndsLine TooLong found line = (line ≢ []) × (TooLong ≡ found)
+EndsLine NoMemory found line = (line ≢ []) × (NoMemory ≡ found)
+
+-- a line of blanks
+abbrev pub IsBlank : List ℕ → Type 0
+IsBlank line = (k : ℕ) → k < length line → is_ascii_whitespace (slice_index line k) ≡ true

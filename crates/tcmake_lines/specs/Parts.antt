@@ -1,0 +1,62 @@
+-- What becomes of lines.
+use Rattle.std.specs.Prelude.{◌≡◌, ◌⊎◌, ⊤, ℕ, Bool, true, false, ◌||◌, List, [], ◌∷◌, Option}
+use Rattle.std.specs.Io.KnownBytes.{Appends}
+use Rattle.tcmake_lines.specs.declared.form.Form.{Form}
+use Rattle.tcmake_lines.specs.declared.given.Given.{Given}
+use Rattle.tcmake_lines.specs.declared.maker.Answer.{Answer}
+use Rattle.tcmake_lines.specs.declared.maker.Answer.TheVariants as answered
+use Rattle.tcmake_lines.specs.Lines.{AreLines, IsBlank}
+use Rattle.tcmake_lines.specs.Written.{Message, IsWritable, written}
+
+-- a message, nothing, or a complaint
+pub data Part : Type 0 where
+  message : Message → Part
+  nothing : Part
+  complaint : Part
+
+-- the messages among them, in their order
+abbrev pub messages_of : List Part → List Message
+messages_of [] = []
+messages_of (message m ∷ parts) = m ∷ messages_of parts
+messages_of (nothing ∷ parts) = messages_of parts
+messages_of (complaint ∷ parts) = messages_of parts
+
+-- whether there is a complaint
+abbrev pub is_complaint : Part → Bool
+is_complaint (message m) = false
+is_complaint nothing = false
+is_complaint complaint = true
+
+abbrev pub has_complaint : List Part → Bool
+has_complaint [] = false
+has_complaint (part ∷ parts) = is_complaint part || has_complaint parts
+
+-- what makes messages of lines says which message a line becomes, and which lines hold none
+module _ (Makes : List ℕ → Given → List ℕ → Type 0) (Passes : List ℕ → Type 0) where
+  -- its answer to a line
+  abbrev pub IsAnswer : List ℕ → Answer → Type 0
+  IsAnswer line (answered.Message given bytes notices) = Makes line given bytes.items
+  IsAnswer line (answered.Nothing notice) = Passes line
+  IsAnswer line (answered.Complaint text) = ⊤
+
+  -- a line becomes a message that can be written, nothing if it is blank or holds no message, or a complaint
+  abbrev pub Becomes : Form → List ℕ → Part → Type 0
+  Becomes form line (message m) = Makes line m.given m.bytes × IsWritable form m.given m.bytes
+  Becomes form line nothing = IsBlank line ⊎ Passes line
+  Becomes form line complaint = ⊤
+
+  -- each of some lines becomes one part
+  abbrev pub BecomeEach : Form → List (List ℕ) → List Part → Type 0
+  BecomeEach form [] [] = ⊤
+  BecomeEach form (line ∷ lines) (part ∷ parts) = Becomes form line part × BecomeEach form lines parts
+  BecomeEach form [] (part ∷ parts) = ⊥
+  BecomeEach form (line ∷ lines) [] = ⊥
+
+  -- a run that comes to the end of its input: the messages of its lines are written in their order, and whether there is a complaint is known
+  pub record Ran (form : Form) (bad : Bool) (input old new : Option (List ℕ)) : Type 0 where
+    pub lines : List (List ℕ)
+    pub parts : List Part
+    pub all : AreLines input lines
+    pub become : BecomeEach form lines parts
+    pub output : Appends old new (written form (messages_of parts))
+    pub said : bad ≡ has_complaint parts

@@ -1,0 +1,175 @@
+//! Messages on their way to an output.
+
+ghost use Rattle.std.specs.Prelude.{◌≤◌, ◌<◌, ◌^◌, length};
+ghost use Rattle.std.specs.Option.{ForSome};
+
+use crate::form::{Form, MOST_MESSAGES};
+use crate::given::{Given, PacketOf, is_same};
+use crate::header::{file_header, joined, packet_header_of, pad, put_hex, whole_of};
+use std::alloc::{AllocError, Global};
+use std::io::Write;
+use std::mem;
+use tc_streams::{Stop, write_all};
+
+/// Messages on their way to an output.
+#[derive(Drop)]
+pub struct Output {
+    alloc: Global,
+    form: Form,
+    // The packet that may take the next message; none before the first.
+    of: Option<PacketOf>,
+    // Its messages, behind their netlink headers.
+    packet: Vec<u8>,
+    // What is to be written.
+    text: Vec<u8>,
+    ghost time: { ForSome of (λ p. p.time.seconds < 2 ^ 32) },
+    ghost room: { length packet.items ≤ 1048544 },
+}
+
+impl Output {
+    ghost use Rattle.std.specs.Prelude.{◌≡◌, ◌≤◌, ◌+◌, ◌++◌, [], true, None, Some, OnOk, nat_le, length};
+    ghost use Rattle.std.specs.Io.KnownBytes.{Appends};
+    ghost use Rattle.tcmake_lines.specs.State.{brought, ended, ended_by, is_taken, held_in, held_then, held_with};
+    ghost use Rattle.tcmake_lines.specs.declared.form.Form.TheVariants.{Capture};
+    ghost use Rattle.tcmake_lines.specs.Written.{HasHeader, HasPacket, IsWritable, header_of, padded};
+
+    /// Nothing yet.
+    pub fn new(alloc: Global, form: Form) -> Output
+        ensures form { result.form ≡ form }
+        ensures held { held_in result ≡ None }
+        ensures text { result.text.items ≡ [] }
+    {
+        Output {
+            alloc,
+            form,
+            of: None,
+            packet: Vec::new(alloc),
+            text: Vec::new(alloc),
+        }
+    }
+
+    /// The form that messages are written in.
+    pub fn form(&self) -> Form
+        ensures { result ≡ self.now.form }
+    {
+        self.form
+    }
+
+    // True if the packet has room for a message.
+    fn has_room(&self, bytes: &[u8]) -> bool
+        ensures is { result ≡ nat_le (length (padded self.now.packet.items) + (length bytes.now + 16)) 1048544 }
+        ensures room { result ≡ true → length (padded self.now.packet.items) + (length bytes.now + 16) ≤ 1048544 }
+    {
+        let len = self.packet.len();
+        let padding = (4 - len % 4) % 4;
+        len.saturating_add(padding)
+            .saturating_add(bytes.len())
+            .saturating_add(16)
+            <= MOST_MESSAGES
+    }
+
+    /// What comes before the first message.
+    pub fn begin(&mut self) -> Result<(), AllocError>
+        ensures form { self.new.form ≡ self.old.form }
+        ensures held { held_in self.new ≡ held_in self.old }
+        ensures text { OnOk result (self.new.text.items ≡ self.old.text.items ++ header_of self.old.form) }
+    {
+        if self.form == Form::Capture {
+            return self.text.extend_from_slice(&file_header());
+        }
+        Ok(())
+    }
+
+    /// Puts a message on it.
+    pub fn put(&mut self, given: &Given, bytes: &[u8]) -> Result<(), AllocError>
+        requires { IsWritable self.old.form given.now bytes.now }
+        ensures form { self.new.form ≡ self.old.form }
+        ensures held { OnOk result (held_in self.new ≡ held_then self.old.form (held_in self.old) given.now bytes.now) }
+        ensures text { OnOk result (self.new.text.items
+            ≡ self.old.text.items ++ brought self.old.form (held_in self.old) given.now bytes.now) }
+    {
+        match self.form {
+            Form::Hex => {
+                let whole = whole_of(self.alloc, given, bytes)?;
+                put_hex(self.alloc, &mut self.text, &whole)
+            }
+            Form::Bare => put_hex(self.alloc, &mut self.text, bytes),
+            Form::Stream => {
+                let mut whole = whole_of(self.alloc, given, bytes)?;
+                pad(&mut whole)?;
+                self.text.extend_from_slice(&whole)
+            }
+            Form::Capture => self.put_in_packet(given, bytes),
+        }
+    }
+
+    // Puts a message into its packet; the packet before it, if that ends here, is to be written.
+    fn put_in_packet(&mut self, given: &Given, bytes: &[u8]) -> Result<(), AllocError>
+        requires capture { self.old.form ≡ Capture }
+        requires header { HasHeader given.now bytes.now }
+        requires packet { HasPacket given.now bytes.now }
+        ensures form { self.new.form ≡ self.old.form }
+        ensures held { OnOk result (held_in self.new ≡ Some (held_with (held_in self.old) given.now bytes.now)) }
+        ensures text { OnOk result (self.new.text.items ≡ self.old.text.items ++ ended_by (held_in self.old) given.now bytes.now) }
+    {
+        if self.takes(given, bytes) {
+            let before = mem::replace(&mut self.packet, Vec::new(self.alloc));
+            let after = joined(before, given, bytes)?;
+            self.packet = after;
+            return Ok(());
+        }
+        self.end()?;
+        let first = whole_of(self.alloc, given, bytes)?;
+        self.of = Some(given.packet);
+        self.packet = first;
+        Ok(())
+    }
+
+    // True if a message is of the packet, and has room in it.
+    fn takes(&self, given: &Given, bytes: &[u8]) -> bool
+        ensures is { result ≡ is_taken (held_in self.now) given.now bytes.now }
+        ensures room { result ≡ true → length (padded self.now.packet.items) + (length bytes.now + 16) ≤ 1048544 }
+    {
+        match &self.of {
+            Some(of) => is_same(of, &given.packet) && self.has_room(bytes),
+            None => false,
+        }
+    }
+
+    /// Ends the packet, if there is one.
+    pub fn end(&mut self) -> Result<(), AllocError>
+        ensures form { self.new.form ≡ self.old.form }
+        ensures held { OnOk result (held_in self.new ≡ None) }
+        ensures text { OnOk result (self.new.text.items ≡ self.old.text.items ++ ended self.old.form (held_in self.old)) }
+    {
+        if self.form != Form::Capture {
+            self.of = None;
+            return Ok(());
+        }
+        if let Some(of) = &self.of {
+            let header = packet_header_of(
+                of.time.seconds as u32,
+                of.time.nanoseconds,
+                self.packet.len() as u32 + 16,
+                of.packet_type,
+            );
+            self.text.extend_from_slice(&header)?;
+            self.text.extend_from_slice(&self.packet)?;
+        }
+        self.of = None;
+        self.packet.clear();
+        Ok(())
+    }
+
+    /// Writes what is to be written.
+    pub fn write<W: Write>(&mut self, writer: &mut W) -> Result<(), Stop>
+        ensures form { self.new.form ≡ self.old.form }
+        ensures held { held_in self.new ≡ held_in self.old }
+        ensures text { self.new.text.items ≡ [] }
+        ensures written { OnOk result (Appends (W.contents writer.old) (W.contents writer.new) self.old.text.items) }
+    {
+        let outcome = write_all(writer, &self.text);
+        self.text.clear();
+        outcome
+    }
+}

@@ -1,0 +1,184 @@
+//! A whole run.
+
+ghost use Rattle.std.specs.Prelude.{◌≡◌, ◌||◌, ℕ, true, false, List, IfOk, OnOk};
+ghost use Rattle.tcmake_lines.specs.Lines.{IsFound, is_end};
+ghost use Rattle.tcmake_lines.specs.Parts.{Ran};
+ghost use Rattle.tcmake_lines.specs.State.{PutsLine, PutsOrNot, state_of};
+
+use crate::form::{Form, check};
+use crate::given::Given;
+use crate::input::{Found, is_blank, next_line};
+use crate::maker::{Answer, Maker};
+use crate::output::Output;
+use std::alloc::{AllocError, Global};
+use std::io::{BufRead, Write};
+use tc_streams::{Stop, write_all};
+
+/// What is said of a line that is longer than [`MOST_LINE`](crate::MOST_LINE).
+pub const LONG_LINE: &str = "longer than 33554432 bytes";
+
+/// How a run ended.
+#[derive(Clone, Copy, PartialEq, Eq, Debug)]
+pub struct Ended {
+    /// Why it ended before the end of its input, if it did.
+    pub outcome: Result<(), Stop>,
+    /// True if something was wrong with a line.
+    pub has_refused: bool,
+}
+
+/// Makes messages of all lines of an input, and writes them. Complaints and notices are written to `errors`.
+pub fn run<M: Maker, R: BufRead, W: Write, E: Write>(
+    alloc: Global,
+    maker: &M,
+    form: Form,
+    reader: &mut R,
+    writer: &mut W,
+    errors: &mut E,
+) -> Ended
+    ensures { OnOk result.outcome (Ran (M.Makes maker.now) (M.Passes maker.now) form result.has_refused
+        (R.remaining reader.old) (W.contents writer.old) (W.contents writer.new)) }
+{
+    let mut has_refused = false;
+    let outcome = make_all(alloc, maker, form, reader, writer, errors, &mut has_refused);
+    Ended {
+        outcome,
+        has_refused,
+    }
+}
+
+fn make_all<M: Maker, R: BufRead, W: Write, E: Write>(
+    alloc: Global,
+    maker: &M,
+    form: Form,
+    reader: &mut R,
+    writer: &mut W,
+    errors: &mut E,
+    has_refused: &mut bool,
+) -> Result<(), Stop>
+    requires { has_refused.old ≡ false }
+    ensures { OnOk result (Ran (M.Makes maker.now) (M.Passes maker.now) form has_refused.new
+        (R.remaining reader.old) (W.contents writer.old) (W.contents writer.new)) }
+{
+    let mut output = Output::new(alloc, form);
+    output.begin()?;
+    let mut line = Vec::new(alloc);
+    for number in 1..u64::MAX {
+        output.write(writer)?;
+        let found = next_line(reader, &mut line)?;
+        if is_end(found) {
+            output.end()?;
+            output.write(writer)?;
+            return Ok(());
+        }
+        let is_wrong = put_line(alloc, maker, found, &line, number, &mut output, errors)?;
+        *has_refused = either(*has_refused, is_wrong);
+    }
+    Err(Stop::Read)
+}
+
+fn is_end(found: Found) -> bool
+    ensures { result ≡ is_end found }
+{
+    matches!(found, Found::End)
+}
+
+fn either(one: bool, other: bool) -> bool
+    ensures { result ≡ (one || other) }
+{
+    one || other
+}
+
+// Puts what becomes of a line on the output. True if something is wrong with the line.
+fn put_line<M: Maker, E: Write>(
+    alloc: Global,
+    maker: &M,
+    found: Found,
+    line: &[u8],
+    number: u64,
+    output: &mut Output,
+    errors: &mut E,
+) -> Result<bool, Stop>
+    ensures { (whole : List ℕ) → IsFound found whole line.now → IfOk result (λ is_wrong. PutsLine (M.Makes maker.now) (M.Passes maker.now) whole is_wrong
+        (state_of output.old) (state_of output.new)) }
+{
+    match found {
+        Found::Whole => put_whole_line(alloc, maker, line, number, output, errors),
+        Found::TooLong => complain(alloc, errors, number, LONG_LINE),
+        Found::NoMemory => complain(alloc, errors, number, "out of memory"),
+        Found::End => Ok(false),
+    }
+}
+
+// The same of a line that is there.
+fn put_whole_line<M: Maker, E: Write>(
+    alloc: Global,
+    maker: &M,
+    line: &[u8],
+    number: u64,
+    output: &mut Output,
+    errors: &mut E,
+) -> Result<bool, Stop>
+    ensures { IfOk result (λ is_wrong. PutsLine (M.Makes maker.now) (M.Passes maker.now) line.now is_wrong
+        (state_of output.old) (state_of output.new)) }
+{
+    if is_blank(line) {
+        return Ok(false);
+    }
+    match maker.make(line)? {
+        Answer::Message {
+            given,
+            bytes,
+            notices,
+        } => put_message(alloc, &given, &bytes, &notices, number, output, errors),
+        Answer::Nothing { notice } => {
+            if let Some(notice) = &notice {
+                say(alloc, errors, number, notice.as_str())?;
+            }
+            Ok(false)
+        }
+        Answer::Complaint(complaint) => complain(alloc, errors, number, complaint.as_str()),
+    }
+}
+
+/// Puts a message on the output, and says what was changed in it. True if it can't be written, which is said then.
+pub fn put_message<E: Write>(
+    alloc: Global,
+    given: &Given,
+    bytes: &[u8],
+    notices: &[String],
+    number: u64,
+    output: &mut Output,
+    errors: &mut E,
+) -> Result<bool, Stop>
+    ensures { IfOk result (λ is_wrong. PutsOrNot given.now bytes.now is_wrong (state_of output.old) (state_of output.new)) }
+{
+    if let Err(fault) = check(output.form(), given, bytes) {
+        let complaint = format!(in alloc; "{fault}")?;
+        return complain(alloc, errors, number, complaint.as_str());
+    }
+    output.put(given, bytes)?;
+    for notice in notices {
+        say(alloc, errors, number, notice.as_str())?;
+    }
+    Ok(false)
+}
+
+// Says what is wrong with a line.
+fn complain<E: Write>(alloc: Global, errors: &mut E, number: u64, text: &str) -> Result<bool, Stop>
+    ensures { IfOk result (λ is_wrong. is_wrong ≡ true) }
+{
+    say(alloc, errors, number, text)?;
+    Ok(true)
+}
+
+/// Says something of a line, if it can. Fails only where memory runs out.
+pub fn say<E: Write>(
+    alloc: Global,
+    errors: &mut E,
+    number: u64,
+    text: &str,
+) -> Result<(), AllocError> {
+    let text = format!(in alloc; "tcmake: line {number}: {text}\n")?;
+    let _ = write_all(errors, text.as_bytes());
+    Ok(())
+}
