@@ -3,14 +3,17 @@
 // namespace of its own.
 //
 // script:   try NAME                    what follows up to the next try belongs to NAME
-//           link NUMBER                 makes the dummy link dNUMBER, which stays down, so that no packet is
-//           counted send TYPE FLAGS PAYLOAD     a request: message type and flags in decimal, the payload after
-//           nlmsghdr in hex
+//           link NUMBER                 makes the dummy link dNUMBER, which stays down, so that no packet is counted
+//           send TYPE FLAGS PAYLOAD     a request: message type and flags in decimal, the payload after nlmsghdr in hex
+//           run COMMAND                 runs a command by the shell
 // answers:  try NAME
 //           got TYPE PAYLOAD            a message that came back, masked (see `mask`)
 //           ack ERRNO OFFSET SENTENCE   how the request ended: offset is that of the attribute at fault in the
-//           payload, or - end ERRNO                   the end of a dump died STATUS                 the process of
-//           the try ended otherwise than by itself
+//                                       payload, or -
+//           end ERRNO                   the end of a dump
+//           said LINE                   a line that a command wrote, to either stream
+//           status NUMBER               how the command ended
+//           died STATUS                 the process of the try ended otherwise than by itself
 // The last line is `finished`. One eBPF program, which lets every packet through, is open as descriptor 100 in all
 // tries.
 #define _GNU_SOURCE
@@ -25,6 +28,7 @@
 #include <stdio.h>
 #include <stdlib.h>
 #include <string.h>
+#include <sys/mount.h>
 #include <sys/reboot.h>
 #include <sys/socket.h>
 #include <sys/syscall.h>
@@ -245,8 +249,9 @@ static void open_namespace(void) {
     int one = 1, size = 1 << 21;
     struct timeval wait = {.tv_sec = 5};
 
-    if (unshare(CLONE_NEWNET))
+    if (unshare(CLONE_NEWNET | CLONE_NEWNS))
         fprintf(answers, "ack %d - no namespace\n", errno);
+    mount("sysfs", "/sys", "sysfs", 0, NULL); // the links of this namespace, not those of the host
     netlink = socket(AF_NETLINK, SOCK_RAW, NETLINK_ROUTE);
     setsockopt(netlink, SOL_NETLINK, NETLINK_EXT_ACK, &one, sizeof one);
     setsockopt(netlink, SOL_NETLINK, NETLINK_CAP_ACK, &one, sizeof one);
@@ -278,6 +283,20 @@ static int from_hex(const char *text, unsigned char *bytes) {
     return n;
 }
 
+static void run(const char *command) {
+    char whole[4096], *line = NULL;
+    size_t room = 0;
+
+    snprintf(whole, sizeof whole, "{ %s\n} 2>&1", command);
+    fflush(answers);
+    FILE *said = popen(whole, "r");
+    while (said && getline(&line, &room, said) > 0)
+        fprintf(answers, "said %.*s\n", (int)strcspn(line, "\n"), line);
+    int status = said ? pclose(said) : -1;
+    fprintf(answers, "status %d\n", WIFEXITED(status) ? WEXITSTATUS(status) : 128);
+    free(line);
+}
+
 static void try(char *line) {
     static unsigned char payload[1 << 16];
     char *rest;
@@ -289,6 +308,8 @@ static void try(char *line) {
             make_link(number);
         else if (sscanf(line, "send %d %d %n", &type, &flags, &at) == 2)
             talk(type, flags, payload, from_hex(line + at, payload), 0);
+        else if (!strncmp(line, "run ", 4))
+            run(line + 4);
         else
             fprintf(answers, "%s\n", line);
     }
@@ -323,6 +344,8 @@ int main(void) {
     char *script = whole_file(folder, "script");
     if (answers && script) {
         fprintf(answers, "kernel %s\n", system.release);
+        setenv("PATH", "/usr/sbin:/usr/bin:/sbin:/bin", 1);
+        mount("proc", "/proc", "proc", 0, NULL);
         load_modules();
         open_program();
         for (from = script; *from; from = to) {

@@ -199,7 +199,7 @@ class Message:
         self.type = OBJECTS[self.object] + number
         self.mode = mode_of(self.type)
         self.after = [it for it in fields.get("after", "").split(",") if it]
-        self.links = [int(fields[key]) for key in ("link", "links") if key in fields]
+        self.links = [int(fields[key]) for key in ("link", "links") if int(fields.get(key, -1)) > 0]
         self.header = bytes(4)
         if self.mode == "tc":
             protocol = int(fields.get("protocol", "0"), 16)

@@ -1,11 +1,13 @@
 pub mod HandleText
 pub mod Requests
 pub mod Named
+pub mod Places
 pub mod Numbers
 pub mod CodelTimes
 pub mod Restoring
 pub mod RestoredRaw
 pub mod RestoredActions
 pub mod RestoredOptions
+pub mod Standing
 pub mod RestoredMessages
 pub mod RequestOf

@@ -21,7 +21,8 @@ use Rattle.tc_requests.specs.declared.restore_error.RestoreError.TheVariants.{Si
 use Rattle.tc_requests.specs.Restoring.{Restored, ◌>>=◌, stays, left_out, each, sole_kind}
 use Rattle.tc_requests.specs.RestoredActions.{estimates, is_of}
 use Rattle.tc_requests.specs.RestoredRaw.{raw_restored}
-use Rattle.tc_requests.specs.RestoredOptions.{actions_restored, options_restored}
+use Rattle.tc_requests.specs.RestoredOptions.{options_restored}
+use Rattle.tc_requests.specs.Standing.{standing_restored}
 
 -- a size table is dumped as its parameters alone, 28 bytes, the last four of them the table's size
 abbrev pub lacks_table : List ℕ → Bool
@@ -55,9 +56,10 @@ abbrev pub tc_restored : {A : Type 0} → TcMessage A → Restored Message
 tc_restored m =
     each (attribute_restored (kind_of_message m) m.header.info) 1 m.attributes.items >>= some_left >>= λ body. Ok (record { header = header_scalars m.header; body = body })
 
--- actions are restored; the number of them and a warning are left out
+-- actions that stand by themselves are restored; the number of them and a warning are left out
 abbrev pub action_attribute_restored : {A : Type 0} → ℕ → TcActionMessageAttribute A → Restored (Option Attribute)
-action_attribute_restored n (action_attribute.Actions actions) = actions_restored 1 actions.items
+action_attribute_restored n (action_attribute.Actions actions) =
+    standing_restored actions.items >>= λ xs. stays (known 1 (items (attributes_of xs)))
 action_attribute_restored n (action_attribute.RootCount count) = left_out
 action_attribute_restored n (action_attribute.RootExtWarnMsg text) = left_out
 action_attribute_restored n x = stays (action_message_attribute x)

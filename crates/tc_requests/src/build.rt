@@ -1,12 +1,12 @@
 //! Builders of requests.
 
-ghost use Rattle.std.specs.Prelude.{◌≡◌, ◌∷◌, [], map, string_bytes, IfOk, IfErr};
+ghost use Rattle.std.specs.Prelude.{◌≡◌, ◌∷◌, ◌==◌, [], false, None, map, string_bytes, IfOk, IfErr};
 ghost use Rattle.std.specs.List.{AllByRecursion};
 ghost use Rattle.nla_frames.specs.DefaultNla.{kept_frame};
 ghost use Rattle.nla_frames.specs.declared.family.AddressFamily.TheVariants.{Unspec};
 ghost use Rattle.tc_canon.specs.Canonical.{CanonTc, CanonAct};
-ghost use Rattle.tc_canon.specs.Descriptor.{table};
-ghost use Rattle.tc_canon.specs.Tables.Actions.{action_attributes};
+ghost use Rattle.tc_canon.specs.Descriptor.{table, is_known};
+ghost use Rattle.tc_canon.specs.Tables.Actions.{action_attributes, action_option_kinds};
 ghost use Rattle.tc_meaning.specs.Own.{SettledOwn};
 ghost use Rattle.tc_meaning.specs.Tree.{known, items, attributes_of};
 ghost use Rattle.tc_meaning.specs.Meaning.{table_codec};
@@ -21,17 +21,21 @@ ghost use Rattle.tc_actions.specs.ActionAttribute.{action_attribute};
 ghost use Rattle.tc_action_messages.specs.ActionMessage.{action_message};
 ghost use Rattle.tc_action_messages.specs.ActionMessageAttribute.{action_message_attribute};
 ghost use Rattle.tc_requests.specs.Requests.{request_header, kind_of, chain_of, parts_of, options_of, raw_option, SettledOption, SettledActionOption};
-ghost use Rattle.tc_requests.specs.Named.{Names};
+ghost use Rattle.tc_requests.specs.Named.{Names, NamesOf, NamesAction};
+ghost use Rattle.tc_requests.specs.Places.{doubled, doubled_in};
 ghost use Rattle.tc_requests.specs.declared.error.RequestError.TheVariants.{OutOfMemory};
 
 use crate::error::RequestError;
 use crate::kinds::{ActionKindOption, FilterOption, OptionOf, QdiscOption, TcKindOption};
+use crate::places::{doubled, doubled_in};
 use crate::settled::{first_unsettled, settled_options};
 use crate::target::Target;
 use nla_frames::{AddressFamily, DefaultNla};
 use std::alloc::Allocator;
 use tc_action_messages::{TcActionMessage, TcActionMessageAttribute};
-use tc_actions::{TcAction, TcActionAttribute, TcActionOption};
+use tc_actions::{
+    TcAction, TcActionAttribute, TcActionMirror, TcActionNat, TcActionOption, TcActionTunnelKey,
+};
 use tc_attributes::TcAttribute;
 use tc_messages::TcMessage;
 use tc_options::TcOption;
@@ -50,13 +54,13 @@ pub fn qdisc<O: QdiscOption<A>, A: Allocator + Copy>(
     ensures settled { IfOk result (λ m. SettledTc (tc_message m)) }
     ensures canonical { IfOk result (λ m.
         FitsTc (tc_message m) → CanonTc (tc_bytes (tc_message m))) }
-    ensures named { IfErr result (Names (SettledOption O.name) (map (λ o. tc_option (O.variant o)) options.items)) }
+    ensures named { IfErr result (NamesOf (SettledOption O.name) (map (λ o. tc_option (O.variant o)) options.items) (doubled_in (map O.variant options.items))) }
 {
     message(alloc, target.header(0), None, options)
 }
 
 /// A request about a filter of a priority and a protocol, an EtherType: its kind, its chain if one is given, and options of
-/// this kind.
+/// this kind, whose actions have places of their own.
 pub fn filter<O: FilterOption<A>, A: Allocator + Copy>(
     alloc: A,
     target: &Target,
@@ -72,7 +76,8 @@ pub fn filter<O: FilterOption<A>, A: Allocator + Copy>(
     ensures settled { IfOk result (λ m. SettledTc (tc_message m)) }
     ensures canonical { IfOk result (λ m.
         FitsTc (tc_message m) → CanonTc (tc_bytes (tc_message m))) }
-    ensures named { IfErr result (Names (SettledOption O.name) (map (λ o. tc_option (O.variant o)) options.items)) }
+    ensures apart { IfOk result (λ _. doubled_in (map O.variant options.items) ≡ None) }
+    ensures named { IfErr result (NamesOf (SettledOption O.name) (map (λ o. tc_option (O.variant o)) options.items) (doubled_in (map O.variant options.items))) }
 {
     message(
         alloc,
@@ -96,11 +101,15 @@ fn message<O: TcKindOption<A>, A: Allocator + Copy>(
     ensures settled { IfOk result (λ m. SettledTc (tc_message m)) }
     ensures canonical { IfOk result (λ m.
         FitsTc (tc_message m) → CanonTc (tc_bytes (tc_message m))) }
-    ensures named { IfErr result (Names (SettledOption O.name) (map (λ o. tc_option (O.variant o)) options.items)) }
+    ensures apart { IfOk result (λ _. doubled_in (map O.variant options.items) ≡ None) }
+    ensures named { IfErr result (NamesOf (SettledOption O.name) (map (λ o. tc_option (O.variant o)) options.items) (doubled_in (map O.variant options.items))) }
 {
     // A law, which does nothing.
     O::known_kind();
     let options = settled_options(alloc, O::kind(), options)?;
+    if let Some(place) = doubled_in(&options) {
+        return Err(RequestError::SamePlace(place));
+    }
     let attributes = parts(alloc, O::kind(), chain, options)?;
     Ok(sealed(TcMessage { header, attributes }))
 }
@@ -200,13 +209,14 @@ pub fn action<O: ActionKindOption<A>, A: Allocator + Copy>(
         listed made ≡ kind_of O.name ∷ options_of (map (λ o. action_option (O.variant o)) options.items) ∷ []) }
     ensures settled { IfOk result (λ made.
         SettledOwn (table_codec (table action_attributes)).Settled (listed made)) }
-    ensures named { IfErr result (Names (SettledActionOption O.name) (map (λ o. action_option (O.variant o)) options.items)) }
+    ensures counted { IfOk result (λ _. (place == 0) ≡ false) }
+    ensures named { IfErr result (NamesAction place false (SettledActionOption O.name) (map (λ o. action_option (O.variant o)) options.items)) }
 {
     action_of(alloc, place, O::kind(), options)
 }
 
-/// An action of a kind whose options aren't known, such as `gact`, for this place in its list: its kind, and options that are
-/// kept raw. Under a kind whose options are known (`mirred`, `nat`, `tunnel_key`) none is settled.
+/// An action of a kind whose options aren't known, such as `gact`, for this place in its list, counted from 1: its kind, and
+/// options that are kept raw. A kind whose options are known (`mirred`, `nat`, `tunnel_key`) is refused.
 pub fn raw_action<A: Allocator + Copy>(
     alloc: A,
     place: u16,
@@ -218,10 +228,23 @@ pub fn raw_action<A: Allocator + Copy>(
         ∷ options_of (map (λ nla. raw_option (kept_frame nla)) options.items) ∷ []) }
     ensures settled { IfOk result (λ made.
         SettledOwn (table_codec (table action_attributes)).Settled (listed made)) }
-    ensures named { IfErr result (Names (SettledActionOption kind.now)
+    ensures counted { IfOk result (λ _. (place == 0) ≡ false) }
+    ensures unknown { IfOk result (λ _. is_known action_option_kinds kind.now ≡ false) }
+    ensures named { IfErr result (NamesAction place (is_known action_option_kinds kind.now) (SettledActionOption kind.now)
         (map (λ nla. raw_option (kept_frame nla)) options.items)) }
 {
-    action_of(alloc, place, kind, options)
+    let made = action_of(alloc, place, kind, options)?;
+    if is_known_kind(kind) {
+        return Err(RequestError::KnownKind);
+    }
+    Ok(made)
+}
+
+// True of the kinds of actions whose options are known.
+fn is_known_kind(kind: &str) -> bool
+    ensures { result ≡ is_known action_option_kinds kind.now }
+{
+    kind == TcActionMirror::KIND || kind == TcActionNat::KIND || kind == TcActionTunnelKey::KIND
 }
 
 // An action of a kind and of options that are settled under it.
@@ -236,9 +259,13 @@ fn action_of<O: OptionOf<TcActionOption<A>>, A: Allocator + Copy>(
         listed made ≡ kind_of kind.now ∷ options_of (map (λ o. action_option (O.variant o)) options.items) ∷ []) }
     ensures settled { IfOk result (λ made.
         SettledOwn (table_codec (table action_attributes)).Settled (listed made)) }
+    ensures counted { IfOk result (λ _. (place == 0) ≡ false) }
     ensures named { IfErr result
-        (Names (SettledActionOption kind.now) (map (λ o. action_option (O.variant o)) options.items)) }
+        (NamesAction place false (SettledActionOption kind.now) (map (λ o. action_option (O.variant o)) options.items)) }
 {
+    if place == 0 {
+        return Err(RequestError::NoPlace);
+    }
     let options = settled_options(alloc, kind, options)?;
     let kind = TcActionAttribute::Kind(String::from_str(alloc, kind)?);
     let mut attributes = Vec::with_capacity(alloc, 2)?;
@@ -250,7 +277,7 @@ fn action_of<O: OptionOf<TcActionOption<A>>, A: Allocator + Copy>(
     })
 }
 
-/// A request about these actions. Their types `tab` are to be their places, counted from 1.
+/// A request about these actions. Their types `tab` are to be their places, counted from 1, each once.
 pub fn action_message<A: Allocator + Copy>(
     alloc: A,
     actions: Vec<TcAction<A>, A>,
@@ -261,11 +288,15 @@ pub fn action_message<A: Allocator + Copy>(
     ensures settled { IfOk result (λ m. SettledAct (action_message m)) }
     ensures canonical { IfOk result (λ m.
         FitsAct (action_message m) → CanonAct (act_bytes (action_message m))) }
+    ensures apart { IfOk result (λ _. doubled actions.items ≡ None) }
     ensures named { IfErr result
-        (Names ((table_codec an_action).Settled []) (map tc_action actions.items)) }
+        (NamesOf ((table_codec an_action).Settled []) (map tc_action actions.items) (doubled actions.items)) }
 {
-    match first_unsettled(&actions, "") {
-        Some(place) => Err(RequestError::NotSettled { place }),
+    if let Some(place) = first_unsettled(&actions, "") {
+        return Err(RequestError::NotSettled { place });
+    }
+    match doubled(&actions) {
+        Some(place) => Err(RequestError::SamePlace(place)),
         None => message_of_actions(alloc, actions),
     }
 }

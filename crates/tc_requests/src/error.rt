@@ -14,6 +14,18 @@ pub enum RequestError {
     #[error("part {place} does not read back as itself")]
     NotSettled { place: usize },
 
+    /// The place of an action is 0: places are counted from 1, and Linux passes over an action at 0.
+    #[error("an action at place 0")]
+    NoPlace,
+
+    /// Two actions of a list have this place: Linux takes the last of them alone.
+    #[error("two actions at place {0}")]
+    SamePlace(u16),
+
+    /// Options of an action are kept raw, and those of its kind are known.
+    #[error("raw options under a kind whose options are known")]
+    KnownKind,
+
     /// The allocator failed.
     #[error("out of memory")]
     OutOfMemory,

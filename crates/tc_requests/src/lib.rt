@@ -19,6 +19,7 @@ pub mod error;
 pub mod handle;
 pub mod kinds;
 mod numbers;
+mod places;
 mod restore;
 mod restore_actions;
 pub mod restore_error;
@@ -26,6 +27,7 @@ pub mod restore_messages;
 mod restore_options;
 mod restore_raw;
 mod settled;
+mod standing;
 pub mod target;
 
 pub use build::{action, action_message, chain, filter, plain_qdisc, qdisc, raw_action};

@@ -37,12 +37,17 @@ pub enum RestoreError {
     #[error("more than 32 actions")]
     TooManyActions,
 
+    /// An action that no filter holds goes on in a chain (`goto chain`), which is one of its filter's block.
+    #[error("goto chain of an action that no filter has")]
+    GotoChain,
+
     /// Statistics are all that there is.
     #[error("nothing but statistics")]
     NothingLeft,
 
-    /// The kernel makes it by itself: a qdisc without a handle, which is a default; a class of a kind that makes its classes
-    /// (prio, tbf, mq, ..), or a root class; a classifier, dumped without a handle before its filters; u32's root table.
+    /// The kernel makes it by itself, or with another: a qdisc without a handle, which is a default; a class of a kind that makes
+    /// its classes (prio, tbf, mq, ..), or a root class; a classifier, dumped without a handle before its filters; u32's root
+    /// table; actions that only filters hold.
     #[error("made by the kernel itself")]
     MadeByKernel,
 

@@ -17,6 +17,7 @@ use crate::restore_actions::has_estimator;
 use crate::restore_error::RestoreError;
 use crate::restore_options::restored_options;
 use crate::restore_raw::restored_raw;
+use crate::standing::standing_restored;
 use std::alloc::Allocator;
 use tc_action_messages::{TcActionMessage, TcActionMessageAttribute};
 use tc_attributes::TcAttribute;
@@ -95,7 +96,7 @@ pub fn request_of<A: Allocator + Copy>(
     })
 }
 
-/// The same of actions.
+/// The same of actions that stand by themselves: those that only filters hold are left out, as they are made with these.
 pub fn request_of_actions<A: Allocator + Copy>(
     alloc: A,
     dump: TcActionMessage<A>,
@@ -220,7 +221,7 @@ impl<A: Allocator + Copy> Restore<A> for TcActionMessageAttribute<A> {
     ) -> Result<Option<TcActionMessageAttribute<A>>, RestoreError> {
         match self {
             TcActionMessageAttribute::Actions(actions) => {
-                let actions = restore_all(alloc, actions, "", 0)?;
+                let actions = standing_restored(alloc, actions)?;
                 Ok(Some(TcActionMessageAttribute::Actions(actions)))
             }
             TcActionMessageAttribute::RootCount(_) => Ok(None),

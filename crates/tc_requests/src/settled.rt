@@ -30,6 +30,7 @@ pub(crate) fn settled_options<T: Settle + Drop, O: OptionOf<T>, A: Allocator + C
     kind: &str,
     options: Vec<O, A>,
 ) -> Result<Vec<T, A>, RequestError>
+    ensures made { IfOk result (λ made. made.items ≡ map O.variant options.items) }
     ensures seen { IfOk result (λ made.
         map T.see made.items ≡ map (λ o. T.see (O.variant o)) options.items) }
     ensures settled { IfOk result (λ made.

@@ -1,0 +1,144 @@
+//! Actions that stand by themselves and those that only filters hold; places of actions in their lists.
+
+use nla_frames::{DefaultNla, Emitable, ParseableBytes};
+use std::alloc::Global;
+use std::test::Fail;
+use tc_action_messages::TcActionMessage;
+use tc_actions::{TcAction, TcActionNatOption};
+use tc_options::{TcFilterFlowerOption, TcFilterMatchAllOption, TcFilterU32Option};
+use tc_records::TcNat;
+use tc_requests::{
+    RequestError, RestoreError, Target, action, action_message, filter, raw_action,
+    request_of_actions,
+};
+
+// What Linux dumps of mirred: three actions that a filter holds each (1 reference, 1 of a filter), and one that stands alone (1, 0).
+#[rattlefmt::skip]
+static STANDING: &str =
+"000000000800030004000000e4020100b80000000b0001006d69727265640000040005005000040004000600140001000000\
+0000000000000000000000000000040006001400070000000000000000000000000000000000040006001800030000000000\
+0000000000000000000000000000000008000a00000000004c00020020000200010000000000000003000000010000000100\
+0000020000000b00000004000300240001006305000000000000630500000000000000000000000000000000000000000000\
+b80001000b0001006d6972726564000004000500500004000400060014000100000000000000000000000000000000000400\
+0600140007000000000000000000000000000000000004000600180003000000000000000000000000000000000000000000\
+08000a00000000004c000200200002000200000000000000040000000100000001000000010000000b000000040003002400\
+01004005000000000000400500000000000000000000000000000000000000000000b80002000b0001006d69727265640000\
+0400050050000400040006001400010000000000000000000000000000000000040006001400070000000000000000000000\
+0000000000000400060018000300000000000000000000000000000000000000000008000a00000000004c00020020000200\
+0300000000000000040000000100000001000000010000000b00000004000300240001000605000000000000060500000000\
+000000000000000000000000000000000000b80003000b0001006d6972726564000004000500500004000400060014000100\
+0000000000000000000000000000000004000600140007000000000000000000000000000000000004000600180003000000\
+00000000000000000000000000000000000008000a00000000004c0002002000020058000000000000000300000001000000\
+00000000020000000b0000000400030024000100c204000000000000c2040000000000000000000000000000000000000000\
+0000";
+
+// The last of them alone, as the first of its list.
+#[rattlefmt::skip]
+static STANDING_RESTORED: &str =
+"0000000038000100340001000b0001006d6972726564000024000280200002005800000000000000030000000100000000000000020000000b000000";
+
+// What it dumps of nat, pedit and police: each held by one filter, its counts at another byte.
+#[rattlefmt::skip]
+static HELD: [&str; 3] = [
+"000000000800030001000000bc000100b8000000080001006e61740050000400040006001400010000000000000000000000\
+0000000000000400060014000700000000000000000000000000000000000400060018000300000000000000000000000000\
+000000000000000008000a0000000000540002002800010001000000000000000300000001000000010000000a0700010506\
+0708ffffffff0100000004000300240002002f050000000000002f0500000000000000000000000000000000000000000000",
+"000000000800030001000000e4000100e00000000a0001007065646974000000040005005000040004000600140001000000\
+0000000000000000000000000000040006001400070000000000000000000000000000000000040006001800030000000000\
+0000000000000000000000000000000008000a00000000007400020018000500140006000600010002000000060002000000\
+00003400040001000000000000000300000001000000010000000100000000ffffff0a000000080000000000000000000000\
+00000000240001000005000000000000000500000000000000000000000000000000000000000000",
+"000000000800030001000000d4000100d00000000b000100706f6c6963650000040005005000040004000600140001000000\
+0000000000000000000000000000040006001400070000000000000000000000000000000000040006001800030000000000\
+0000000000000000000000000000000008000a0000000000640002003c00010001000000020000000000000000881300f807\
+0000000100000000000048e8010000000000000000000000000001000000010000000000000024000600fe04000000000000\
+fe0400000000000000000000000000000000000000000000",
+];
+
+// Actions that go on in chain 8: one that no filter holds, and one that only its filter holds.
+static GOTO_CHAIN: &str =
+    "00000000300001002c0000000900010067616374000000001c000200180002000400000000000000080000200100000000000000";
+
+static GOTO_CHAIN_HELD: &str =
+    "00000000300001002c0000000900010067616374000000001c000200180002000400000000000000080000200100000001000000";
+
+// The bytes of a message in hex.
+fn text<M: Emitable>(alloc: Global, message: &M) -> Result<String, RestoreError> {
+    if !message.fits() {
+        return Ok(String::new(alloc));
+    }
+    let mut bytes = vec![in alloc; 0; message.buffer_len()]?;
+    message.emit(&mut bytes);
+    Ok(hex::encode(alloc, &bytes)?)
+}
+
+// The request that restores actions, or why there is none.
+fn outcome(alloc: Global, dump: &str) -> Result<String, Fail> {
+    let bytes = hex::decode(alloc, dump)?;
+    match request_of_actions(alloc, TcActionMessage::parse(alloc, &bytes)?) {
+        Ok(request) => Ok(text(alloc, &request.message)?),
+        Err(e) => Ok(format!(in alloc; "{e:?}")?),
+    }
+}
+
+#[test]
+fn actions_that_stand_alone(rt: HostRuntime) -> Result<(), Fail> {
+    let alloc = rt.alloc();
+    assert!(rt; outcome(alloc, STANDING)?.as_str() == STANDING_RESTORED);
+    for dump in HELD {
+        assert!(rt; outcome(alloc, dump)?.as_str() == "MadeByKernel");
+    }
+    assert!(rt; outcome(alloc, GOTO_CHAIN)?.as_str() == "GotoChain");
+    assert!(rt; outcome(alloc, GOTO_CHAIN_HELD)?.as_str() == "MadeByKernel");
+    Ok(())
+}
+
+// A nat action for a place.
+fn nat(alloc: Global, place: u16) -> Result<TcAction, RequestError> {
+    let parms = TcActionNatOption::Parms(TcNat::default());
+    action(alloc, place, vec![in alloc; parms]?)
+}
+
+// Two of them.
+fn two(alloc: Global, first: u16, second: u16) -> Result<Vec<TcAction>, RequestError> {
+    Ok(vec![in alloc; nat(alloc, first)?, nat(alloc, second)?]?)
+}
+
+// What an error says.
+fn said<M: Drop>(alloc: Global, outcome: Result<M, RequestError>) -> Result<String, Fail> {
+    match outcome {
+        Ok(_) => Ok(String::new(alloc)),
+        Err(e) => Ok(format!(in alloc; "{e}")?),
+    }
+}
+
+#[test]
+fn places_of_actions(rt: HostRuntime) -> Result<(), Fail> {
+    let alloc = rt.alloc();
+    let raw = |place, kind| raw_action(alloc, place, kind, Vec::<DefaultNla<Global>>::new(alloc));
+    assert!(rt; said(alloc, nat(alloc, 0))?.as_str() == "an action at place 0");
+    assert!(rt; said(alloc, raw(0, "gact"))?.as_str() == "an action at place 0");
+    assert!(rt; said(alloc, raw(1, "gact"))?.is_empty());
+    assert!(rt;
+        said(alloc, raw(1, "nat"))?.as_str() == "raw options under a kind whose options are known"
+    );
+    assert!(rt; said(alloc, action_message(alloc, two(alloc, 1, 2)?))?.is_empty());
+    assert!(rt;
+        said(alloc, action_message(alloc, two(alloc, 2, 2)?))?.as_str() == "two actions at place 2"
+    );
+    let about = Target::default();
+    let flower = vec![in alloc; TcFilterFlowerOption::Actions(two(alloc, 3, 3)?)]?;
+    assert!(rt;
+        said(alloc, filter(alloc, &about, 1, 0x0800, None, flower))?.as_str()
+            == "two actions at place 3"
+    );
+    let u32_options = vec![in alloc; TcFilterU32Option::Action(two(alloc, 4, 4)?)]?;
+    assert!(rt;
+        said(alloc, filter(alloc, &about, 1, 0x0800, None, u32_options))?.as_str()
+            == "two actions at place 4"
+    );
+    let apart = vec![in alloc; TcFilterMatchAllOption::Action(two(alloc, 1, 2)?)]?;
+    assert!(rt; said(alloc, filter(alloc, &about, 1, 0x0800, None, apart))?.is_empty());
+    Ok(())
+}
