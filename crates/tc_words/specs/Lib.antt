@@ -1,0 +1,9 @@
+pub mod Digits
+pub mod Calendar
+pub mod Times
+pub mod Handles
+pub mod Types
+pub mod Hex
+pub mod HexSeen
+pub mod Links
+pub mod LinksSeen
