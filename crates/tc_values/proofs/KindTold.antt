@@ -1,5 +1,5 @@
 -- The kind that a frame of type 1 sets: its text, where it has one.
-use Rattle.std.proofs.Common.{◌≡◌, List, ℕ, Option, Some, refl, sym}
+use Rattle.std.proofs.Common.{◌≡◌, List, [], ℕ, Option, Some, refl}
 use Rattle.std.specs.Str.{IsUtf8}
 use Rattle.nla_frames.specs.declared.error.DecodeError.TheVariants.{NotUtf8}
 use Rattle.nla_frames.specs.Fault.{Outcome, read_as, refused}

@@ -1,5 +1,6 @@
 pub mod AnyKind
 pub mod Bodies
+mod KindTold
 pub mod Lists
 pub mod Measures
 pub mod OfKinds

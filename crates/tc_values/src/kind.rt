@@ -1,6 +1,6 @@
 //! The kind that a frame sets, and options in the variant of a kind.
 
-ghost use Rattle.std.specs.Prelude.{◌≡◌, ◌↔◌, true, IsTrue};
+ghost use Rattle.std.specs.Prelude.{◌≡◌, ◌↔◌, [], true, IsTrue};
 ghost use Rattle.std.specs.Str.{bytes_eq};
 ghost use Rattle.nla_frames.specs.Fault.{seen};
 ghost use Rattle.nla_frames.specs.Buffer.{frame_of};

@@ -16,6 +16,7 @@ use nla_frames::{
 };
 use std::alloc::Allocator;
 use tc_meaning::laws::own_grammar;
+use tc_values::kind_told;
 
 /// The values of the frames that the bytes are, each read under the kind that one of them sets, or the first fault: of
 /// a broken frame or of a kind that isn't UTF-8, of no kind or of several, of a frame that is refused.
