@@ -92,7 +92,7 @@ fn refuse(all: &[Token], words: &[&str]) -> Result<(), Fault> {
 
 /// A module's own comment, whose examples allocate as Rust does. They are no tests, since they don't say what they import.
 fn without_allocators(docs: String) -> String {
-    let changes = [("//! ```\n//! ", "//! ```ignore\n//! "), ("[in alloc; ", "["), ("]?)", "])"), ("(alloc, ", "(")];
+    let changes = [("```rust\n", "```\n"), ("//! ```\n//! ", "//! ```ignore\n//! "), ("[in alloc; ", "["), ("]?)", "])"), ("(alloc, ", "(")];
     changes.iter().fold(docs, |docs, (from, to)| docs.replace(from, to))
 }
 
@@ -110,7 +110,7 @@ impl Erased {
             let keyword = ["pub(crate) mod", "pub mod", "mod"].into_iter().find(|keyword| text.contains(&declaration(keyword))).unwrap_or("mod");
             text = text.replacen(&declaration(keyword), &self.nested(inner, keyword), 1);
         }
-        format!("{}\n{keyword} {} {{\n{text}\n}}\n", docs.replace("//!", "///"), path[path.len() - 1])
+        format!("{}{keyword} {} {{\n{text}\n}}\n", docs.replace("//!", "///"), path[path.len() - 1])
     }
 
     /// All of it as files below a folder: `NAME.rs` of each crate and of each module.
