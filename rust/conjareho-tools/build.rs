@@ -22,16 +22,13 @@ const PROGRAMS: &[&str] = &[
     "tcmake_lib",
 ];
 
-/// Modules for which `shims/strict.rs` stands.
-const STRICT: &[&str] = &["tc_forms_text::read", "tc_forms_text::repeated"];
-
 fn main() {
     let here = env::var_os("CARGO_MANIFEST_DIR").expect("cargo names the folder of the package");
     let sources = Path::new(&here).join("../../crates");
     for name in CRATES.iter().chain(PROGRAMS) {
         println!("cargo::rerun-if-changed={}", sources.join(name).join("src").display());
     }
-    let from = Crates { folder: &sources, codec: CRATES, users: PROGRAMS, omitted: STRICT };
+    let from = Crates { folder: &sources, codec: CRATES, users: PROGRAMS, omitted: &[] };
     let erased = erase::erase(from).unwrap_or_else(|fault| panic!("{fault}"));
     let out = env::var_os("OUT_DIR").expect("cargo names the folder for what is made");
     fs::write(Path::new(&out).join("programs.rs"), erased.bundle())

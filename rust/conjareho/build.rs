@@ -13,14 +13,11 @@ const OMITTED: &[&str] = &["tc_texts::address", "tc_texts::hex_text"];
 /// The crates of forms, behind the feature `serde`.
 const FORMS: &[&str] = &["tc_forms", "tc_forms_text", "tc_kinds"];
 
-/// Modules for which `shims/strict.rs` stands.
-const STRICT: &[&str] = &["tc_forms_text::read", "tc_forms_text::repeated"];
-
 fn main() {
     let here = env::var_os("CARGO_MANIFEST_DIR").expect("cargo names the folder of the package");
     let sources = Path::new(&here).join("../../crates");
     let (users, omitted) =
-        if env::var_os("CARGO_FEATURE_SERDE").is_some() { (FORMS, STRICT) } else { (&[][..], OMITTED) };
+        if env::var_os("CARGO_FEATURE_SERDE").is_some() { (FORMS, &[][..]) } else { (&[][..], OMITTED) };
     for name in CRATES.iter().chain(users) {
         println!("cargo::rerun-if-changed={}", sources.join(name).join("src").display());
     }

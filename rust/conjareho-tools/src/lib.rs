@@ -26,7 +26,7 @@ mod strict;
 #[allow(dead_code)] // what tests use besides
 mod user;
 
-use small::{arrayvec, byteorder, itoa};
+use small::{arrayvec, itoa};
 
 // The erased crates, each a private module.
 include!(concat!(env!("OUT_DIR"), "/programs.rs"));

@@ -33,7 +33,7 @@ mod user;
 mod bytes;
 mod netlink;
 
-use small::{arrayvec, byteorder, itoa};
+use small::{arrayvec, itoa};
 
 // The erased crates, each a private module.
 include!(concat!(env!("OUT_DIR"), "/codec.rs"));
@@ -71,7 +71,6 @@ pub mod capture {
 /// Any bytes as JSON and back, without loss, by the tables of all kinds that Linux has.
 #[cfg(feature = "serde")]
 pub mod forms {
-    pub use crate::strict::read_json;
     pub use crate::tc_forms::*;
     pub use crate::tc_forms_text::*;
     pub use crate::tc_kinds::*;

@@ -143,3 +143,9 @@ pub fn serialize<T: Serialize, S: ::serde::Serializer>(value: &T, to: S) -> Resu
     value.serialize(&mut events).map_err(S::Error::custom)?;
     ::serde::Serialize::serialize(&Next(&Cell::new(&events)), to)
 }
+
+impl<T: crate::tc_forms::Tables> ::serde::Serialize for crate::tc_forms::Shown<'_, T> {
+    fn serialize<S: ::serde::Serializer>(&self, to: S) -> Result<S::Ok, S::Error> {
+        serialize(self, to)
+    }
+}

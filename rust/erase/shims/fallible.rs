@@ -1,7 +1,14 @@
 //! Collections whose growth can fail, over `try_reserve`.
-#![allow(dead_code)] // each erased crate uses some of it
+#![allow(dead_code, unused_imports)] // each erased crate uses some of it
 
-use alloc::{string::String, vec::Vec};
+use prelude::{String, Vec};
+
+/// What each erased module imports.
+pub(crate) mod prelude {
+    pub(crate) use crate::fallible::{self, AllocError, Fallible as _};
+    pub(crate) use alloc::{string::String, string::ToString as _, vec::Vec};
+    pub(crate) use core::{fmt::Write as _, str::FromStr as _};
+}
 
 /// Memory ran out.
 #[derive(Clone, Copy, PartialEq, Eq, Debug)]
@@ -36,8 +43,7 @@ pub(crate) fn filled<T: Clone>(item: T, len: usize) -> Result<Vec<T>, AllocError
 pub(crate) fn text(text: &str) -> Result<String, AllocError> {
     let mut copy = String::new();
     copy.try_reserve_exact(text.len()).map_err(|_| AllocError)?;
-    copy.push_str(text);
-    Ok(copy)
+    Ok(copy + text)
 }
 
 pub(crate) trait Fallible<T> {

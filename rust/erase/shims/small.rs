@@ -1,4 +1,4 @@
-//! What stands for the crates arrayvec, byteorder and itoa, as far as the codec uses them.
+//! What stands for the crates arrayvec and itoa, as far as the codec uses them.
 #![allow(dead_code)] // each erased crate uses some of it
 
 /// Texts and lists of a fixed room.
@@ -67,57 +67,15 @@ pub mod arrayvec {
     }
 }
 
-/// Numbers in bytes.
-pub(crate) mod byteorder {
-    pub(crate) trait ByteOrder {
-        const IS_BIG: bool;
-
-        fn number<const N: usize>(bytes: &[u8]) -> [u8; N] {
-            let mut number: [u8; N] = *bytes.first_chunk().expect("the bytes of a number");
-            if Self::IS_BIG {
-                number.reverse();
-            }
-            number
-        }
-
-        fn read_u16(bytes: &[u8]) -> u16 {
-            u16::from_le_bytes(Self::number(bytes))
-        }
-
-        fn read_u32(bytes: &[u8]) -> u32 {
-            u32::from_le_bytes(Self::number(bytes))
-        }
-
-        fn read_u64(bytes: &[u8]) -> u64 {
-            u64::from_le_bytes(Self::number(bytes))
-        }
-    }
-
-    pub(crate) struct LittleEndian;
-    pub(crate) struct BigEndian;
-
-    impl ByteOrder for LittleEndian {
-        const IS_BIG: bool = false;
-    }
-
-    impl ByteOrder for BigEndian {
-        const IS_BIG: bool = true;
-    }
-}
-
 /// Numbers as decimal digits.
 pub(crate) mod itoa {
-    pub(crate) struct Buffer(super::arrayvec::ArrayString<20>);
+    pub(crate) type Buffer = super::arrayvec::ArrayString<20>;
 
     impl Buffer {
-        pub(crate) fn new() -> Buffer {
-            Buffer(super::arrayvec::ArrayString::new())
-        }
-
         pub(crate) fn format(&mut self, n: impl core::fmt::Display) -> &str {
             *self = Buffer::new();
-            core::fmt::write(&mut self.0, format_args!("{n}")).expect("at most twenty characters");
-            self.0.as_str()
+            core::fmt::write(self, format_args!("{n}")).expect("at most twenty characters");
+            self.as_str()
         }
     }
 }

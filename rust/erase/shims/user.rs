@@ -50,12 +50,21 @@ impl<T: Clone> Copying<T> for [T] {
     }
 }
 
-/// These items as a list.
-pub(crate) fn list<T, const N: usize>(list: [T; N]) -> Result<Vec<T>, AllocError> {
-    let mut items = fallible::with_capacity(N)?;
-    items.extend(list);
-    Ok(items)
+/// What each erased module of a program or of tests imports.
+#[allow(unused_imports)]
+pub(crate) mod prelude {
+    pub(crate) use super::{Copying as _, Growing as _, Showing as _};
+    pub(crate) use crate::fallible::prelude::*;
 }
+
+/// Text of what is shown.
+pub(crate) trait Showing: core::fmt::Display {
+    fn try_to_string(&self) -> Result<String, AllocError> {
+        formatted(format_args!("{self}"))
+    }
+}
+
+impl<T: core::fmt::Display + ?Sized> Showing for T {}
 
 /// Text as it is formatted, into a string that grows where there is memory.
 pub(crate) fn formatted(text: core::fmt::Arguments<'_>) -> Result<String, AllocError> {

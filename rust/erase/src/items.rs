@@ -1,13 +1,15 @@
 //! Items: functions and imports.
 
 use crate::Fault;
-use crate::token::{Token, after_angle, after_group};
+use crate::token::{Token, after_group};
 
-/// A function: from its attributes and its visibility at `start` to `end`, with its `fn` at `at`, and its `{` or its `;` at `body`.
+/// A function: from its attributes and its visibility at `start` to `end`, with its `fn` at `at`, the place behind its parameters at
+/// `close`, and its `{` or its `;` at `body`.
 pub(crate) struct Function {
-    pub name: String,
+    pub name: &'static str,
     pub start: usize,
     pub at: usize,
+    pub close: usize,
     pub body: usize,
     pub end: usize,
     /// True if it can write to what it is given.
@@ -20,7 +22,7 @@ pub(crate) struct Function {
 pub(crate) fn functions(all: &[Token]) -> Result<Vec<Function>, Fault> {
     let mut found = Vec::new();
     for at in (0..all.len().saturating_sub(3)).filter(|at| all[*at].is("fn") && all[at + 1].is_word()) {
-        let open = if all[at + 2].is("<") { after_angle(all, at + 2)? } else { at + 2 };
+        let open = if all[at + 2].is("<") { after_group(all, at + 2)? } else { at + 2 };
         let close = after_group(all, open)?;
         let mut body = close;
         while !all[body].is("{") && !all[body].is(";") {
@@ -28,61 +30,35 @@ pub(crate) fn functions(all: &[Token]) -> Result<Vec<Function>, Fault> {
         }
         let end = if all[body].is("{") { after_group(all, body)? } else { body + 1 };
         let writes = all[open..close].iter().any(|token| token.is("mut") || token.is("HostRuntime"));
-        let name = all[at + 1].text.clone();
-        found.push(Function { name, start: item_start(all, at), at, body, end, writes, does_nothing: body == close && !writes });
+        let does_nothing = !writes && !all[close].is("-");
+        found.push(Function { name: all[at + 1].text, start: item_start(all, at), at, close, body, end, writes, does_nothing });
     }
     Ok(found)
 }
 
 /// Where the item of this keyword begins: its attributes and its visibility.
-fn item_start(all: &[Token], mut at: usize) -> usize {
-    while at > 0 {
-        let opens = |open: &usize| all[*open].is("#") && after_group(all, open + 1).ok() == Some(at);
-        at = match all[at - 1].text.as_str() {
-            "pub" | "final" | "const" => at - 1,
-            ")" if at >= 4 && all[at - 4].is("pub") => at - 4,
-            "]" => match (at.saturating_sub(200)..at).rev().find(opens) {
-                Some(open) => open,
-                None => return at,
-            },
-            _ => return at,
-        };
-    }
-    at
+fn item_start(all: &[Token], at: usize) -> usize {
+    all[..at].iter().rposition(|token| matches!(token.text, ";" | "{" | "}")).map_or(0, |end| end + 1)
 }
 
-/// The file without imports and declarations of modules that are lost, by their paths. Names in braces are asked for one by one.
-pub(crate) fn without_imports(all: &[Token], is_lost: &dyn Fn(&[&str]) -> bool) -> Vec<Token> {
-    let mut out: Vec<Token> = Vec::new();
-    let mut at = 0;
-    while at < all.len() {
-        let end = (at..all.len()).find(|end| all[*end].is(";")).unwrap_or(at);
-        if !(all[at].is("use") || all[at].is("mod") && at + 2 == end) {
-            out.push(all[at].clone());
-            at += 1;
+/// Makes an import with braces one import for each name, and takes out the imports and the declarations of modules that are lost, by
+/// their paths.
+pub(crate) fn drop_imports(all: &mut Vec<Token>, is_lost: &dyn Fn(&[&str]) -> bool) {
+    for at in (0..all.len()).rev() {
+        let len = all.iter().skip(at).position(|token| token.is(";")).unwrap_or(0);
+        if !all.get(at).is_some_and(|token| token.is("use") || token.is("mod") && len == 2) {
             continue;
         }
-        let open = all[at..end].iter().position(|token| token.is("{")).map_or(end, |len| at + len);
-        let path = |tokens: &[Token]| tokens.iter().filter(|token| token.is_word()).map(|token| token.text.clone()).collect::<Vec<_>>();
-        let before = path(&all[at + 1..open]);
-        let is_kept = |name: &&[Token]| {
-            let whole = [before.clone(), path(name)].concat();
-            let alias = whole.iter().position(|word| word == "as").unwrap_or(whole.len());
-            !name.is_empty() && !is_lost(&whole[..alias].iter().map(String::as_str).collect::<Vec<_>>())
+        let (start, end) = (item_start(all, at), at + len);
+        let open = (at..end).find(|open| all[*open].is("{"));
+        let names = open.map_or(vec![&all[end..end]], |open| all[open + 1..end - 1].split(|token| token.is(",")).collect());
+        let paths = names.iter().map(|name| [&all[start..open.unwrap_or(end)], name].concat());
+        let is_kept = |item: &Vec<Token>| {
+            let words = item[at + 1 - start..].iter().filter(|token| token.is_word()).map(|token| token.text);
+            let path: Vec<_> = words.take_while(|word| *word != "as").collect();
+            item.last().is_some_and(|last| !last.is(":")) && !is_lost(&path)
         };
-        let names = if open < end { all[open + 1..end - 1].split(|token| token.is(",")).filter(is_kept).collect() } else { Vec::new() };
-        if open < end && !names.is_empty() {
-            out.extend_from_slice(&all[at..=open]);
-            let comma = Token { text: ",".into(), before: String::new(), ..all[open].clone() };
-            out.extend(names.join(&comma));
-            out.extend_from_slice(&all[end - 1..=end]);
-        } else if open == end && !is_lost(&before.iter().map(String::as_str).take_while(|word| *word != "as").collect::<Vec<_>>()) {
-            out.extend_from_slice(&all[at..=end]);
-        } else {
-            let is_in_crate = out.len() > 3 && out[out.len() - 1].is(")") && out[out.len() - 4].is("pub");
-            out.truncate(out.len() - if is_in_crate { 4 } else { usize::from(out.last().is_some_and(|last| last.is("pub"))) });
-        }
-        at = end + 1;
+        let new: Vec<_> = paths.filter(is_kept).flat_map(|item| [item, vec![all[end]]].concat()).collect();
+        all.splice(start..=end, new);
     }
-    out
 }

@@ -1,13 +1,12 @@
 //! Takes out of Rattle sources what Rust doesn't have: contracts, ghost items, laws and their calls, the bound `Drop`, and
 //! allocators. What is left is Rust, and is not proved: it is made from sources that are.
 //!
-//! It takes out nothing else, and rewrites only what the tables of `rules.rs` name. A form that it doesn't know is a [`Fault`]
-//! with its file and line. `ghosts.rs` and `laws.rs` take out, `duties.rs` checks and documents what a `requires` asked, and
-//! `finish.rs` applies the tables.
+//! It takes out nothing else, and rewrites only what the tables of `rules.rs` name, by the patterns of `pattern.rs`. A form that it
+//! doesn't know is a [`Fault`] with its file and line. `laws.rs` takes out laws and their calls, `duties.rs` checks and documents
+//! what a `requires` asked, and `finish.rs` applies the tables.
 
 mod duties;
 mod finish;
-mod ghosts;
 mod items;
 mod laws;
 mod pattern;
@@ -15,32 +14,20 @@ mod rules;
 mod token;
 
 use std::collections::BTreeMap;
-use std::path::{Path, PathBuf};
+use std::path::Path;
 use std::{fs, io};
 use token::Token;
 
 /// A form that isn't known, or a file that can't be read: `FILE:LINE: WHY`.
 pub type Fault = String;
 
-fn fault(at: &Token, why: &str) -> Fault {
-    format!("{}: {why}", at.line)
-}
-
 /// A file of a crate.
 struct Source {
-    file: PathBuf,
     /// Its crate and the modules that it is in.
     path: Vec<String>,
     /// Its own comment, `//!`.
     docs: String,
     tokens: Vec<Token>,
-}
-
-impl Source {
-    /// A fault in this file.
-    fn at(&self, fault: &str) -> Fault {
-        format!("{}:{fault}", self.file.display())
-    }
 }
 
 /// What is to be erased.
@@ -52,104 +39,86 @@ pub struct Crates<'a> {
     pub codec: &'a [&'a str],
     /// Crates of programs or of tests over it.
     pub users: &'a [&'a str],
-    /// Modules that are left out, such as `tc_texts::address`, with what exports them; of users, functions too.
+    /// Modules and functions that are left out, such as `tc_texts::address`, with what exports them.
     pub omitted: &'a [&'a str],
 }
 
 /// The erased modules of some crates, by their paths, the crate's name first: the module's own comment, and its text.
-pub struct Erased {
-    modules: BTreeMap<Vec<String>, (String, String)>,
-}
+pub struct Erased(BTreeMap<Vec<String>, (String, String)>);
 
 /// Erases crates. Each becomes a module at the root of one crate, beside the shims.
 pub fn erase(from: Crates<'_>) -> Result<Erased, Fault> {
     let crates = [from.codec, from.users].concat();
     let mut files = Vec::new();
     for krate in &crates {
-        read_crate(&from.folder.join(krate).join("src"), &mut vec![krate.to_string()], &mut files)?;
+        read_crate(&from.folder.join(krate).join("src"), &[krate.to_string()], &mut files)?;
     }
     files.retain(|file| !from.omitted.contains(&file.path.join("::").as_str()));
-    laws::drop_laws(&mut files)?;
-    let mut modules = BTreeMap::new();
-    for mut file in files {
+    laws::drop_laws(&mut files, from.omitted)?;
+    let finished = files.into_iter().map(|file| {
         let is_user = from.users.contains(&file.path[0].as_str());
-        let own = file.path.join("::");
-        if is_user {
-            let in_file = from.omitted.iter().filter_map(|path| path.strip_prefix(&format!("{own}::")));
-            let left_out: Vec<_> = rules::LEFT_OUT.iter().copied().chain(in_file).collect();
-            laws::drop_functions(&mut file, &left_out).map_err(|why| file.at(&why))?;
-        }
-        file.tokens = items::without_imports(&file.tokens, &|path| from.omitted.contains(&format!("{own}::{}", path[0]).as_str()));
-        let text = finish::finished(&file, &crates, is_user).map_err(|why| file.at(&why))?;
-        modules.insert(file.path, (file.docs, text));
-    }
-    Ok(Erased { modules })
+        Ok((file.path.clone(), (file.docs.clone(), finish::finished(file, &crates, is_user)?)))
+    });
+    finished.collect::<Result<_, Fault>>().map(Erased)
 }
 
-fn read_crate(folder: &Path, path: &mut Vec<String>, files: &mut Vec<Source>) -> Result<(), Fault> {
-    for entry in fs::read_dir(folder).map_err(|e| format!("{}: {e}", folder.display()))?.flatten() {
+fn read_crate(folder: &Path, path: &[String], files: &mut Vec<Source>) -> Result<(), Fault> {
+    let unread = |e: io::Error| format!("{}: {e}", folder.display());
+    for entry in fs::read_dir(folder).map_err(unread)?.flatten() {
         let file = entry.path();
         let stem = file.file_stem().unwrap_or_default().to_string_lossy().into_owned();
-        if stem != "lib" {
-            path.push(stem.clone());
-        }
+        let path = if stem == "lib" { path.to_vec() } else { [path, &[stem]].concat() };
         if file.is_dir() {
-            read_crate(&file, path, files)?;
+            read_crate(&file, &path, files)?;
         } else if file.extension().is_some_and(|extension| extension == "rt") {
-            let text = fs::read_to_string(&file).map_err(|e| format!("{}: {e}", file.display()))?;
-            let docs: Vec<_> = text.lines().take_while(|line| line.starts_with("//!")).collect();
-            let rest = text.lines().skip(docs.len()).collect::<Vec<_>>().join("\n");
-            let mut source = Source { file, path: path.clone(), docs: without_allocators(&docs), tokens: Vec::new() };
-            let all = token::tokens(&rest, docs.len() + 1).and_then(|all| ghosts::without_ghosts(&all));
-            source.tokens = all.map_err(|why| source.at(&why))?;
-            files.push(source);
-        }
-        if stem != "lib" {
-            path.pop();
+            let stands = rules::STOOD_FOR.iter().find(|(module, _)| *module == path.join("::"));
+            let text = stands.map_or_else(|| fs::read_to_string(&file), |(_, shim)| Ok(shim.to_string())).map_err(unread)?;
+            let docs: String = text.lines().take_while(|line| line.starts_with("//!")).map(|line| format!("{line}\n")).collect();
+            let rest = text[docs.len().min(text.len())..].to_string();
+            let mut tokens = token::tokens(rest.leak(), file.display().to_string().leak(), 1 + docs.lines().count())?;
+            rules::GHOSTS.iter().for_each(|rule| pattern::rewrite(&mut tokens, rule));
+            refuse(&tokens, &["ghost", "requires", "ensures"])?;
+            files.push(Source { path, docs: without_allocators(docs), tokens });
         }
     }
     Ok(())
 }
 
+/// A fault where one of these words is left.
+fn refuse(all: &[Token], words: &[&str]) -> Result<(), Fault> {
+    let left = all.iter().find(|token| words.contains(&token.text));
+    left.map_or(Ok(()), |token| Err(token.fault(&format!("`{}` in a form that isn't known", token.text))))
+}
+
 /// A module's own comment, whose examples allocate as Rust does. They are no tests, since they don't say what they import.
-fn without_allocators(docs: &[&str]) -> String {
-    let mut is_code = false;
-    let line = |line: &&str| {
-        let is_fence = line.starts_with("//! ```");
-        is_code ^= is_fence;
-        match line.contains("[in alloc; ") {
-            _ if is_fence && is_code => "//! ```ignore".to_string(),
-            true => line.replace("(alloc, ", "(").replace("[in alloc; ", "[").replace("]?)", "])"),
-            false => line.replace("(alloc, ", "("),
-        }
-    };
-    docs.iter().map(line).collect::<Vec<_>>().join("\n")
+fn without_allocators(docs: String) -> String {
+    let changes = [("```rust\n", "```\n"), ("//! ```\n//! ", "//! ```ignore\n//! "), ("[in alloc; ", "["), ("]?)", "])"), ("(alloc, ", "(")];
+    changes.iter().fold(docs, |docs, (from, to)| docs.replace(from, to))
 }
 
 impl Erased {
     /// All of it as nested modules, for an `include!`.
     pub fn bundle(&self) -> String {
-        let crates = self.modules.keys().filter(|path| path.len() == 1);
+        let crates = self.0.keys().filter(|path| path.len() == 1);
         crates.map(|path| self.nested(path, &format!("#[allow({})]\nmod", rules::LINTS))).collect()
     }
 
     fn nested(&self, path: &[String], keyword: &str) -> String {
-        let (docs, text) = &self.modules[path];
-        let mut text = text.clone();
-        for inner in self.modules.keys().filter(|inner| inner.len() == path.len() + 1 && inner.starts_with(path)) {
-            let declared = |keyword: &&str| text.contains(&format!("{keyword} {};", inner[path.len()]));
-            let keyword = ["pub(crate) mod", "pub mod", "mod"].into_iter().find(declared).unwrap_or("mod");
-            text = text.replacen(&format!("{keyword} {};", inner[path.len()]), &self.nested(inner, keyword), 1);
+        let (docs, mut text) = self.0[path].clone();
+        for inner in self.0.keys().filter(|inner| inner.len() == path.len() + 1 && inner.starts_with(path)) {
+            let declaration = |keyword: &str| format!("{keyword} {};", inner[path.len()]);
+            let keyword = ["pub(crate) mod", "pub mod", "mod"].into_iter().find(|keyword| text.contains(&declaration(keyword))).unwrap_or("mod");
+            text = text.replacen(&declaration(keyword), &self.nested(inner, keyword), 1);
         }
-        format!("{}\n{keyword} {} {{\n{text}\n}}\n", docs.replace("//!", "///"), path[path.len() - 1])
+        format!("{}{keyword} {} {{\n{text}\n}}\n", docs.replace("//!", "///"), path[path.len() - 1])
     }
 
     /// All of it as files below a folder: `NAME.rs` of each crate and of each module.
     pub fn write(&self, folder: &Path) -> io::Result<()> {
-        for (path, (docs, text)) in &self.modules {
+        for (path, (docs, text)) in &self.0 {
             let file = folder.join(path.join("/")).with_extension("rs");
             fs::create_dir_all(file.parent().unwrap_or(folder))?;
-            fs::write(file, format!("{docs}\n\n{}\n", text.trim_start()))?;
+            fs::write(file, format!("{docs}\n{text}\n"))?;
         }
         Ok(())
     }

@@ -5,12 +5,41 @@ use crate::pattern::Rule;
 /// Crates of laws, beside those whose names end in `_laws`.
 pub(crate) const LAW_CRATES: &[&str] = &["tc_meaning"];
 
-/// Types of allocators, and the names of their values.
-pub(crate) const ALLOCATORS: &[&str] = &["A", "Global"];
-pub(crate) const VALUES: &[&str] = &["alloc", "_alloc"];
+/// Modules for which a shim stands.
+pub(crate) const STOOD_FOR: &[(&str, &str)] = &[("tc_forms_text::read", "pub use crate::strict::*;"), ("tc_forms_text::repeated", "")];
 
-/// Traits that only contracts name. (One that isn't listed stays as a trait with nothing in it.)
-pub(crate) const MARKERS: &[&str] = &["Drop", "FrameMeaning", "BytesMeaning", "CanonMeaning", "Described", "AllocGlobal", "Eprint"];
+/// Classes of words: types of allocators, the names of their values, traits that only contracts name (one that isn't listed stays
+/// as a trait with nothing in it), and modules of `std` for which `host` stands.
+pub(crate) const CLASSES: &[(&str, &[&str])] = &[
+    ("%A", &["A", "Global"]),
+    ("%v", &["alloc", "_alloc"]),
+    ("%M", &["Drop", "FrameMeaning", "BytesMeaning", "CanonMeaning", "Described", "AllocGlobal", "Eprint"]),
+    ("%H", &["env", "fs", "io", "rt"]),
+];
+
+/// Imports of these have no use any more.
+pub(crate) const LOST_IMPORTS: &[&str] = &[
+    "Abort", "AllocError", "AllocFailed", "AllocGlobal", "Allocator", "BuildHasherDefault", "BytesMeaning", "CanonMeaning", "Described", "Eprint", "Failing",
+    "FoldHasher", "FrameMeaning", "Global", "String", "byteorder", "thiserror",
+];
+
+/// Contracts, ghost items, and the attributes of proofs. What a `requires` asks stays before the body, for `duties.rs`.
+pub(crate) const GHOSTS: &[Rule] = &[
+    ("ensures { $;c }", ""),
+    ("ensures $n { $;c }", ""),
+    ("requires { $;c }", "(required $;c)"),
+    ("requires $n { $;c }", "(required $n: $;c)"),
+    ("pub ghost", "ghost"),
+    ("ghost use $*p ;", ""),
+    ("ghost $n : { $;t } = { $;v } ;", ""),
+    ("ghost $n : { $;t } ;", ""),
+    ("ghost $n : { $;t } ,", ""),
+    ("ghost $n : { $;t } }", "}"),
+    ("ghost $n = { $;v } ;", ""),
+    ("# ! [ tactic ( $;t ) ]", ""),
+    ("# [ tactic ( $;t ) ]", ""),
+    ("# [ cycle ( $;t ) ]", ""),
+];
 
 /// How a frame is written in Rust.
 const PUT_FRAME: &str = "let (header, rest) = buffer.split_at_mut(NLA_HEADER_SIZE);
@@ -46,54 +75,56 @@ const PUT_ONE_OF: &str = "fn put_value(&self, buffer: &mut [u8]) -> usize {
         match self {$*a}
     }";
 
+const ERROR: &str = "impl core::fmt::Display for $x {
+    fn fmt(&self, f: &mut core::fmt::Formatter<'_>) -> core::fmt::Result {$;b}
+}
+
+impl core::error::Error for $x {}";
+const DEFAULT: &str = "impl $x {$;a$;c}
+
+impl Default for $x {
+    fn default() -> $x {$;b}
+}";
+
 /// Rules, each applied to a whole file, one after the other.
 pub(crate) const RULES: &[Rule] = &[
-    // Without an allocator a derive needs no bounds of its own.
+    // Errors: what `thiserror` derives.
+    ("# [ derive ( $*d , Error $*e ) ] pub enum $x { $*v }", "#[derive($*d$*e)]\npub enum $x {$*v}\n\ntexts $x { match self { $@v } }"),
+    (
+        "# [ derive ( $*d , Error $*e ) ] # [ error ( $t ) ] pub struct $x { $*f }",
+        "#[derive($*d$*e)]\npub struct $x {$*f}\n\ntexts $x { let $x { $@f } = self; write!(f, $t) }",
+    ),
+    ("texts $x { $;b }", ERROR),
+    ("# [ error ( $t ) ]", ""),
+    // Without an allocator a derive needs no bounds of its own, and Rust's `Default` will do.
     ("# [ derive_where ( $*x ; A ) ]", "#[derive($*x)]"),
     ("# [ derive_where ( $*x ) ]", "#[derive($*x)]"),
+    ("impl < %A > $x < %A > { $;a pub fn default_in ( %v ) -> $x < %A > { $;b } $;c }", DEFAULT),
+    (":: default_in (", "::default("),
     // A variant has a byte of its own, as in Rattle: that of one in another would be told by what the inner one holds.
-    ("pub enum $x < A : Allocator = Global > {", "#[repr(u8)]\npub enum $x {"),
-    // Allocators: parameters and arguments of types,
-    (": Allocator + Copy", ": Allocator"),
-    (": Allocator + Clone", ": Allocator"),
-    (": Allocator = Global", ": Allocator"),
-    ("< %A : Allocator >", ""),
-    ("< %A : Allocator ,", "<"),
-    (", %A : Allocator ,", ","),
-    (", %A : Allocator >", ">"),
+    ("pub enum $x < %A > {", "#[repr(u8)]\npub enum $x {"),
+    // Allocators: types, values, parameters and fields.
     (":: < %A >", ""),
     ("< %A >", ""),
     ("< %A ,", "<"),
     (", %A >", ">"),
-    (", %A ,", ","),
-    // parameters of functions, and fields,
-    ("pub ( crate ) %n : %A ,", ""),
-    ("pub %n : %A ,", ""),
-    ("%n : %A ,", ""),
-    (", %n : %A )", ")"),
-    ("( %n : %A )", "()"),
-    // and their values.
-    ("let %n = %v ;", ""),
-    ("%n : %v ,", ""),
+    ("pub ( crate ) %v ,", ""),
+    ("pub %v ,", ""),
+    ("let %v = %v ;", ""),
     ("( %v , ", "("),
     ("( %v )", "()"),
     (", %v )", ")"),
     (", %v , ", ","),
     ("{ %v , ", "{"),
     // Traits that only contracts name. In Rattle, types have a size, and a method that no impl writes says so.
-    ("pub trait %M { }", ""),
-    ("pub trait %M : %M { }", ""),
-    ("impl %M for $-x { }", ""),
-    ("impl < $-g > %M for $-x { }", ""),
     ("# [ derive ( %M ) ]", ""),
     ("derive ( %M , ", "derive("),
-    ("derive ( $-x , %M )", "derive($-x)"),
     ("derive ( $-x , %M , ", "derive($-x, "),
     (": %M + ", ": "),
-    (": %M {", " {"),
-    (": %M ,", ","),
-    (": %M >", ">"),
     ("+ %M", ""),
+    (": %M", ""),
+    ("pub trait %M { }", ""),
+    ("impl $-g %M for $-x { }", ""),
     ("trait $x {", "trait $x: Sized {"),
     ("trait $x < $t > {", "trait $x<$t>: Sized {"),
     ("trait $x < const $n : usize > {", "trait $x<const $n: usize>: Sized {"),
@@ -108,7 +139,6 @@ pub(crate) const RULES: &[Rule] = &[
     (". reserve ( $*x ) ?", ".try_grow($*x)?"),
     (". extend_from_slice (", ".try_extend("),
     (". push_reserved (", ".push("),
-    ("std :: alloc ::", "crate::fallible::"),
     // A clone can't fail, so the one that is written by hand is derived.
     ("impl Clone for TcFilterFlowerOption { $;b }", ""),
     ("pub enum TcFilterFlowerOption {", "#[derive(Clone)]\npub enum TcFilterFlowerOption {"),
@@ -131,6 +161,14 @@ pub(crate) const RULES: &[Rule] = &[
     ("parse_ascii ( $x . as_bytes ( ) )", "from_str($x)"),
     ("Ipv4Addr :: from_octets (", "Ipv4Addr::from("),
     ("Ipv6Addr :: from_octets (", "Ipv6Addr::from("),
+    (":: self ;", ";"),
+    ("$x :: self as $y", "$x as $y"),
+    // Numbers in bytes.
+    ("LittleEndian :: $r ( $x )", "$r::from_le_bytes(*$x.first_chunk().expect(\"its bytes\"))"),
+    ("BigEndian :: $r ( $x )", "$r::from_be_bytes(*$x.first_chunk().expect(\"its bytes\"))"),
+    ("read_u16 ::", "u16::"),
+    ("read_u32 ::", "u32::"),
+    ("read_u64 ::", "u64::"),
 ];
 
 /// Rules of programs and tests, before those above.
@@ -142,72 +180,46 @@ pub(crate) const USER_RULES: &[Rule] = &[
     (". insert ( $*x ) ?", ".insert($*x)"),
     (". sort_by_key ( $*f ) ?", ".sort_by_key($*f)"),
     (". repeat ( %v , $*n ) ?", ".repeat($*n)"),
-    (". expect ( & rt , $*x )", ".expect($*x)"),
+    ("std :: test ::", "crate::user::"),
     ("Fail :: new ( format_args ! ( $*x ) )", "Fail::from(format!($*x))"),
     ("Fail :: new (", "Fail::from("),
-    ("std :: test ::", "crate::user::"),
     ("format ! ( in %v ; $*x )", "crate::user::formatted(format_args!($*x))"),
-    ("vec ! [ in %v ; $*x ; $*n ]", "fallible::filled($*x, $*n)"),
-    ("vec ! [ in %v ; $*x ]", "crate::user::list([$*x])"),
     (". push_str ( $*x ) ?", ".try_push_str($*x)?"),
     (". to_vec ( %v )", ".try_to_vec()"),
-    (". to_string ( %v ) ?", ".to_string()"),
+    (". to_string ( %v )", ".try_to_string()"),
     (". clone ( ) ?", ".clone()"),
-    ("{ self . clone ( ) }", "{ Ok(self.clone()) }"),
     // Over the real `serde` and `serde_json`.
-    ("=> $x . to_string ( %v ) ,", "=> Ok($x.to_string()),"),
     ("match $*x . push ( $*y ) {", "match $*x.try_push($*y) {"),
     (". push ( $*y ) . is_err ( )", ".try_push($*y).is_err()"),
     ("Value :: try_from_str ( %v , $*x )", "fallible::text($*x).map(Value::String)"),
     (". first_key_value ( )", ".iter().next()"),
-    ("crate :: read :: read_json", "crate::strict::read_json"),
-    ("impl < $-g > Serialize for $-x { $;b }", SERIALIZE),
     ("serde_json :: to_vec ( %v , ", "crate::jsontext::to_vec("),
     ("# [ serde ( rename = $t ) ] $f :", "$f as $t:"),
     ("# [ derive ( $*d , Serialize ) ] $-v struct $x $-g { $;f }", "crate::jsontext::sent! { #[derive($*d)] $-v struct $x $-g {$;f} }"),
     // Streams, files and arguments are those of the module `host`.
-    ("use std :: { env , fs }", "use crate::host::{env, fs}"),
-    ("std :: env", "crate::host::env"),
-    ("std :: fs", "crate::host::fs"),
-    ("std :: io", "crate::host::io"),
-    ("std :: rt", "crate::host::rt"),
+    ("std :: %H", "crate::host::%H"),
     ("std :: convert :: AsStr", "crate::host::AsStr"),
     ("Vec :: from_iter ( %v , $*x )", "crate::user::collected($*x)"),
-    ("use tc_forms_text :: { ReadError , read_json } ;", "use crate::strict::read_json;\nuse tc_forms_text::ReadError;"),
     ("W : Write", "W: crate::host::io::Write"),
-    ("< B : Allocator >", ""),
-    ("Page < B >", "Page"),
 ];
 
 /// Rules of `tcshow_lib`, before those of programs: it has a second allocator.
 pub(crate) const SHOW_RULES: &[Rule] = &[
+    ("alloc , alloc ,", "alloc,"),
+    ("alloc , json ,", "alloc,"),
+    ("alloc : json ,", ""),
     ("pub ( crate ) json : Global ,", ""),
     ("json : Global ,", ""),
-    ("{ alloc , json ,", "{"),
-    ("( alloc , json ,", "("),
-    ("serve ( alloc , alloc ,", "serve("),
+    ("( json ,", "("),
     ("self . json ,", ""),
     ("( self . json )", "()"),
     ("Summary :: new ( json )", "Summary::new()"),
-    ("json_of ( json ,", "json_of("),
-    ("complain_of_packets ( json ,", "complain_of_packets("),
-    ("alloc : json ,", ""),
-    ("format ! ( in json ; $*x )", "crate::user::formatted(format_args!($*x))"),
+    ("in json ;", "in alloc;"),
+    ("< B : Allocator >", ""),
+    ("Page < B >", "Page"),
 ];
 
-/// What is sent as events, as a value of the real `serde`.
-pub(crate) const SERIALIZE: &str = "impl<$-g> Serialize for $-x {$;b}
-
-impl<$-g> ::serde::Serialize for $-x {
-    fn serialize<R: ::serde::Serializer>(&self, to: R) -> Result<R::Ok, R::Error> {
-        crate::serde::serialize(self, to)
-    }
-}";
-
-/// Functions of tests that name one of these, or one of those functions, are left out: no allocator can be handed to what is erased.
-pub(crate) const LEFT_OUT: &[&str] = &["Failing", "Abort"];
-
-/// What `thiserror` derives: the variants of an enum as the arms of a `match`, and the fields of a struct as a pattern.
+/// What is left of an enum's variants as the arms of a `match`, and of a struct's fields as a pattern.
 pub(crate) const ARMS: &[Rule] = &[
     ("# [ error ( $t ) ] $v ( $-f ) ,", "Self::$v(it) => write!(f, $t, it),"),
     ("# [ error ( $t ) ] $v { $-f } ,", "Self::$v { $-f } => write!(f, $t),"),
@@ -226,48 +238,23 @@ pub(crate) const CHECKS: &[Rule] = &[
 /// A duty in Rust.
 pub(crate) const DUTIES: &[Rule] = &[("length $x . now", "$x.len()"), ("length $x . old . $f . now", "$x.$f.len()"), ("≤", "<=")];
 
-/// Imports of these have no use any more.
-pub(crate) const LOST_IMPORTS: &[&str] =
-    &["Allocator", "Global", "AllocFailed", "std::fmt::Write", "std::string::String", "Abort", "thiserror::Error", "BuildHasherDefault", "FoldHasher"];
-
 /// Modules of `std` that are in `core` too, and those that programs and tests use beside them.
 pub(crate) const CORE: &[&str] = &["cmp", "convert", "error", "fmt", "hash", "iter", "marker", "mem", "net", "ops", "slice", "str"];
 pub(crate) const STD: &[&str] = &["collections", "hash", "process"];
 
 /// Modules of the shims, beside those crates that one stands for.
 pub(crate) const MODULES: &[&str] = &["fallible", "host", "jsontext", "serde", "strict", "user"];
-pub(crate) const SHIMS: &[&str] = &["arrayvec", "bitflags", "byteorder", "clap", "hex", "itoa", "serde"];
-
-/// What has to be imported where one of these words is, since it isn't in the prelude of `core`.
-pub(crate) const NEEDS: &[(&str, &str)] = &[
-    ("Vec", "alloc::vec::Vec"),
-    ("String", "alloc::string::String"),
-    ("fallible", "crate::fallible"),
-    ("try_push", "crate::fallible::Fallible as _"),
-    ("try_grow", "crate::fallible::Fallible as _"),
-    ("try_extend", "crate::fallible::Fallible as _"),
-    ("from_str", "core::str::FromStr as _"),
-    ("to_string", "alloc::string::ToString as _"),
-    ("write_char", "core::fmt::Write as _"),
-    ("try_push_str", "crate::user::Growing as _"),
-    ("try_to_vec", "crate::user::Copying as _"),
-];
+pub(crate) const SHIMS: &[&str] = &["arrayvec", "bitflags", "clap", "hex", "itoa", "serde"];
 
 /// Words that would be left of a form that no rule knows.
-pub(crate) const UNKNOWN: &[&str] = &[
-    "ghost", "requires", "ensures", "Allocator", "Global", "AllocFailed", "Drop", "alloc", "_alloc", "derive_where", "final", "thiserror", "push_reserved",
-    "parse_ascii", "unsafe",
-];
+pub(crate) const UNKNOWN: &[&str] =
+    &["Allocator", "Global", "AllocFailed", "Drop", "alloc", "_alloc", "derive_where", "final", "thiserror", "push_reserved", "parse_ascii", "unsafe"];
 
-/// Attributes that Rust has too, and macros of `core` and `std`.
+/// Attributes that Rust has too, and macros: of `core` and `std`, and of the sources' own.
 pub(crate) const ATTRIBUTES: &[&str] = &["allow", "cfg", "default", "doc", "derive", "inline", "must_use", "repr", "rustfmt", "test"];
-pub(crate) const MACROS: &[&str] = &["assert", "assert_eq", "format", "format_args", "macro_rules", "matches", "sent", "stringify", "unreachable", "write"];
+pub(crate) const MACROS: &[&str] =
+    &["any_of", "assert", "assert_eq", "flags", "format", "format_args", "macro_rules", "matches", "sent", "stringify", "unreachable", "write"];
 
 /// Lints that erased modules don't meet: contracts used what is now unused, and some code is easier to prove than what clippy prefers.
 pub(crate) const LINTS: &str = "dead_code, missing_docs, unused_doc_comments, unused_imports, unused_labels, unused_variables, \
-    clippy::collapsible_if, clippy::explicit_auto_deref, clippy::if_same_then_else, clippy::large_enum_variant, clippy::len_zero, \
-    clippy::manual_div_ceil, clippy::manual_find, clippy::manual_is_multiple_of, clippy::manual_map, clippy::manual_ok_err, \
-    clippy::manual_range_contains, clippy::needless_lifetimes, clippy::needless_match, clippy::needless_question_mark, clippy::needless_range_loop, \
-    clippy::nonminimal_bool, clippy::ptr_arg, clippy::question_mark, clippy::redundant_closure, clippy::redundant_pattern_matching, \
-    clippy::redundant_static_lifetimes, clippy::result_large_err, clippy::single_match, clippy::too_many_arguments, clippy::type_complexity, \
-    clippy::wrong_self_convention, rustdoc::broken_intra_doc_links";
+    clippy::complexity, clippy::style, clippy::large_enum_variant, clippy::result_large_err, rustdoc::broken_intra_doc_links";

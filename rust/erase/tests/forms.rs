@@ -22,6 +22,7 @@ fn left_of(test: &str, files: &[(&str, &str)]) -> Result<String, String> {
 fn left_of_one(test: &str, text: &str) -> Result<String, String> {
     let all = left_of(test, &[("one/src/lib.rt", text)])?;
     let (_, inner) = all.split_once("mod one {\n").expect("the module");
+    let inner = inner.strip_prefix("use crate::fallible::prelude::*;\n").expect("its prelude");
     Ok(inner.strip_suffix("}\n").expect("its end").replace("< ", "<").replace("( ", "("))
 }
 
@@ -40,7 +41,7 @@ fn braces_in_texts_do_not_count() {
 #[test]
 fn allocators_go() {
     let text = "use std::alloc::{AllocError, Allocator};\npub fn f<A: Allocator + Copy, T>(alloc: A, t: &T) -> Result<Vec<T, A>, AllocError> {\n    let a = g::<A>(alloc, t)?;\n    h(alloc)\n}\n";
-    let left = "use alloc::vec::Vec;\nuse crate::fallible;\nuse crate::fallible::{AllocError};\npub fn f<T>(t: &T) -> Result<Vec<T>, AllocError> {\n    let a = g(t)?;\n    h()\n}\n";
+    let left = "pub fn f<T>(t: &T) -> Result<Vec<T>, AllocError> {\n    let a = g(t)?;\n    h()\n}\n";
     assert_eq!(left_of_one("allocators", text).unwrap(), left);
 }
 
@@ -77,15 +78,16 @@ fn a_cut_length_panics() {
 fn errors_are_written_out() {
     let text = "use thiserror::Error;\n#[derive(Debug, Error)]\npub enum E {\n    /// A.\n    #[error(\"a {n}\")]\n    A { n: usize },\n    #[error(\"{0}\")]\n    B(F),\n}\n";
     let left = left_of_one("errors", text).unwrap();
-    assert!(left.starts_with("#[derive(Debug)]\npub enum E {\n    /// A.\n    A { n: usize },\n    B(F),\n}\n"), "{left}");
-    assert!(left.contains("Self::A { n }"), "{left}");
+    assert!(left.starts_with("#[derive(Debug)]\npub enum E {\n    /// A.\n    A { n: usize },\n    B(F),}\n"), "{left}");
+    assert!(left.contains("A { n } => write!(f, \"a {n}\"),"), "{left}");
+    assert!(left.contains("B(it) => write!(f, \"{0}\", it),"), "{left}");
     assert!(left.contains("impl core::error::Error for E {}"), "{left}");
 }
 
 #[test]
 fn what_is_not_known_is_an_error() {
     let file = "one/src/lib.rt";
-    assert_eq!(left_of_one("ghost", "\n\nghost fn f() {}\n").unwrap_err(), format!("{file}:3: a ghost item of a form that isn't known"));
+    assert_eq!(left_of_one("ghost", "\n\nghost fn f() {}\n").unwrap_err(), format!("{file}:3: `ghost` in a form that isn't known"));
     assert_eq!(left_of_one("where", "fn f<A>(a: A)\n-> u8 where A: Allocator {}\n").unwrap_err(), format!("{file}:2: `Allocator` in a form that isn't known"));
     assert_eq!(left_of_one("std", "use std::thread::spawn;\n").unwrap_err(), format!("{file}:1: a module of std that isn't known"));
     assert_eq!(left_of_one("macro", "fn f() -> u8 {\n    other!(1)\n}\n").unwrap_err(), format!("{file}:2: an attribute or a macro that isn't known"));

@@ -22,17 +22,19 @@ const TESTS: &[&str] = &[
     "tests_forms",
 ];
 
-/// Tests of how large Rattle's values are, of refused memory, of random bytes, and of lines of a program; and what `shims/strict.rs`
-/// stands for. Where a text isn't JSON, `serde_json` says another column than Rattle's.
+/// Tests of how large Rattle's values are, of refused memory, of random bytes, and of lines of a program. Where a text isn't JSON, `serde_json` says another column than Rattle's.
 const OMITTED: &[&str] = &[
     "tc_vectors::sizes",
+    "tc_vectors::upgrade::is_right",
+    "tc_vectors::upgrade::is_upgraded_without_memory",
+    "tc_vectors::upgrade::worked",
+    "tests_parts::actions::every_refused_allocation_is_reported",
+    "tests_parts::actions::is_read",
     "tests_parts::refusals",
     "tests_forms::random",
     "tests_forms::lines",
     "tests_forms::wrong::texts",
     "tests_forms::wrong::a_thousand_levels",
-    "tc_forms_text::read",
-    "tc_forms_text::repeated",
 ];
 
 fn main() {

@@ -23,6 +23,6 @@ mod strict;
 #[allow(dead_code)] // what the programs use besides
 mod user;
 
-use small::{arrayvec, byteorder, itoa};
+use small::{arrayvec, itoa};
 
 include!(concat!(env!("OUT_DIR"), "/tests.rs"));
