@@ -1,0 +1,231 @@
+//! Known texts: what is in brackets, verdicts and handles as `tc` 6.1 writes them of a message (`tc -d monitor file`); the names of
+//! verdicts that `tc` has no name for as linux/pkt_cls.h has them.
+
+use std::alloc::{AllocError, Global};
+use tc_units::{
+    Name, Unit, prefix_of, put_flags, put_named, put_number, put_u32_handle, put_verdict,
+};
+
+// What is put.
+enum Put {
+    Number(Unit),
+    Verdict,
+    Handle,
+}
+
+// The text of a number.
+fn text_of(alloc: Global, put: &Put, n: u64) -> Result<Vec<u8>, AllocError> {
+    let mut out = Vec::new(alloc);
+    match put {
+        Put::Number(unit) => put_number(&mut out, *unit, n)?,
+        Put::Verdict => put_verdict(&mut out, (n % 0x1_0000_0000) as u32)?,
+        Put::Handle => put_u32_handle(&mut out, (n % 0x1_0000_0000) as u32)?,
+    }
+    Ok(out)
+}
+
+// True if a number has this text.
+fn is_known(alloc: Global, put: &Put, n: u64, text: &str) -> bool {
+    match text_of(alloc, put, n) {
+        Ok(out) => out.as_slice() == text.as_bytes(),
+        Err(_) => false,
+    }
+}
+
+static RATES: [(u64, &str); 18] = [
+    (0, "0 B/s (0bit)"),
+    (1, "1 B/s (8bit)"),
+    (124, "124 B/s (992bit)"),
+    (125, "125 B/s (1Kbit)"),
+    (126, "126 B/s (1008bit)"),
+    (1000, "1000 B/s (8Kbit)"),
+    (12345, "12345 B/s (98760bit)"),
+    (124_999, "124999 B/s (999992bit)"),
+    (125_000, "125000 B/s (1Mbit)"),
+    (125_001, "125001 B/s (1Mbit)"),
+    (1_250_000, "1250000 B/s (10Mbit)"),
+    (123_456_789, "123456789 B/s (987654Kbit)"),
+    (125_000_000, "125000000 B/s (1Gbit)"),
+    (0xffff_ffff, "4294967295 B/s (34359Mbit)"),
+    (1_000_000_000, "1000000000 B/s (8Gbit)"),
+    (12_500_000_000, "12500000000 B/s (100Gbit)"),
+    (125_000_000_000, "125000000000 B/s (1Tbit)"),
+    (1_250_000_000_000_000, "1250000000000000 B/s (10000Tbit)"),
+];
+
+static TICKS: [(u64, &str); 5] = [
+    (15_625, "15625 ticks (1ms)"),
+    (31_250, "31250 ticks (2ms)"),
+    (156_250, "156250 ticks (10ms)"),
+    (1_562_500, "1562500 ticks (100ms)"),
+    (15_625_000, "15625000 ticks (1s)"),
+];
+
+static MICROSECONDS: [(u64, &str); 5] = [
+    (999, "999us"),
+    (4999, "4999us"),
+    (5000, "5000us (5ms)"),
+    (100_000, "100000us (100ms)"),
+    (1_000_000, "1000000us (1s)"),
+];
+
+static PROBABILITIES: [(u64, &str); 7] = [
+    (429_497, "429497 (0.01%)"),
+    (4_294_967, "4294967 (0.1%)"),
+    (6_442_451, "6442451 (0.15%)"),
+    (42_949_673, "42949673 (1%)"),
+    (64_424_509, "64424509 (1.5%)"),
+    (0x8000_0000, "2147483648 (50%)"),
+    (0xffff_ffff, "4294967295 (100%)"),
+];
+
+static VERDICTS: [(u64, &str); 15] = [
+    (0xffff_ffff, "continue"),
+    (0, "pass"),
+    (1, "reclassify"),
+    (2, "drop"),
+    (3, "pipe"),
+    (4, "stolen"),
+    (5, "queued"),
+    (6, "repeat"),
+    (7, "redirect"),
+    (8, "trap"),
+    (9, "9"),
+    (0x1000_0000, "jump 0"),
+    (0x1000_000a, "jump 10"),
+    (0x2000_002a, "goto chain 42"),
+    (0x2fff_ffff, "goto chain 268435455"),
+];
+
+static HANDLES: [(u64, &str); 9] = [
+    (0x8000_0800, "800::800"),
+    (0x8008_0800, "800:80:800"),
+    (0x8000_0000, "800:"),
+    (0x8000_5000, "800:5"),
+    (0x0010_0801, "1::801"),
+    (0x0000_0801, ":801"),
+    (0x7ff0_0abc, "7ff::abc"),
+    (0x801f_f001, "801:ff:1"),
+    (0x8000_0fff, "800::fff"),
+];
+
+#[test]
+fn numbers_in_units(rt: HostRuntime) {
+    let alloc = rt.alloc();
+    for (n, text) in &RATES {
+        assert!(rt;
+            is_known(alloc, &Put::Number(Unit::BytesPerSecond), *n, text),
+            "{text}"
+        );
+    }
+    for (n, text) in &TICKS {
+        assert!(rt;
+            is_known(alloc, &Put::Number(Unit::Ticks), *n, text),
+            "{text}"
+        );
+    }
+    for (n, text) in &MICROSECONDS {
+        assert!(rt;
+            is_known(alloc, &Put::Number(Unit::Microseconds), *n, text),
+            "{text}"
+        );
+    }
+    for (n, text) in &PROBABILITIES {
+        assert!(rt;
+            is_known(alloc, &Put::Number(Unit::Probability), *n, text),
+            "{text}"
+        );
+    }
+    assert!(rt;
+        is_known(
+            alloc,
+            &Put::Number(Unit::Hex),
+            0xfedc_ba98_7654_3210,
+            "0xfedcba9876543210"
+        )
+    );
+    assert!(rt;
+        is_known(
+            alloc,
+            &Put::Number(Unit::ClockTicks),
+            250,
+            "250 clock_t (2500ms)"
+        )
+    );
+    assert!(rt;
+        is_known(
+            alloc,
+            &Put::Number(Unit::Power),
+            63,
+            "63 (9223372036854775808)"
+        )
+    );
+}
+
+#[test]
+fn verdicts_and_handles(rt: HostRuntime) {
+    let alloc = rt.alloc();
+    for (n, text) in &VERDICTS {
+        assert!(rt; is_known(alloc, &Put::Verdict, *n, text), "{text}");
+    }
+    for (n, text) in &HANDLES {
+        assert!(rt; is_known(alloc, &Put::Handle, *n, text), "{text}");
+    }
+}
+
+// Flags of linux/pkt_cls.h.
+static FLAGS: [Name<'static>; 4] = [
+    Name {
+        number: 1,
+        name: "skip_hw",
+    },
+    Name {
+        number: 2,
+        name: "skip_sw",
+    },
+    Name {
+        number: 4,
+        name: "in_hw",
+    },
+    Name {
+        number: 8,
+        name: "not_in_hw",
+    },
+];
+
+// True if a flag word has this text.
+fn has_flags(alloc: Global, n: u64, text: &str) -> bool {
+    let mut out = Vec::new(alloc);
+    match put_flags(&mut out, &FLAGS, n) {
+        Ok(()) => out.as_slice() == text.as_bytes(),
+        Err(_) => false,
+    }
+}
+
+// True if a protocol has this text.
+fn is_protocol(alloc: Global, n: u64, text: &str) -> bool {
+    let names = [Name {
+        number: 0x0800,
+        name: "ip",
+    }];
+    let mut out = Vec::new(alloc);
+    match put_named(&mut out, Unit::LongHex, &names, n) {
+        Ok(()) => out.as_slice() == text.as_bytes(),
+        Err(_) => false,
+    }
+}
+
+#[test]
+fn flags_names_and_prefixes(rt: HostRuntime) {
+    let alloc = rt.alloc();
+    assert!(rt; has_flags(alloc, 9, " skip_hw not_in_hw (0x9)"));
+    assert!(rt; has_flags(alloc, 0x108, " not_in_hw 0x100 (0x108)"));
+    assert!(rt; has_flags(alloc, 0, " 0x0"));
+    assert!(rt; is_protocol(alloc, 0x0800, "ip (0x0800)"));
+    assert!(rt; is_protocol(alloc, 0x0801, "0x0801"));
+    assert!(rt; prefix_of(&[255, 255, 0, 0]) == Some(16));
+    assert!(rt; prefix_of(&[255, 255, 128, 0]) == Some(17));
+    assert!(rt; prefix_of(&[255, 0, 255, 0]) == None);
+    assert!(rt; prefix_of(&[255, 255, 255, 255]) == Some(32));
+    assert!(rt; prefix_of(&[0, 0, 0, 0]) == Some(0));
+}

@@ -1,0 +1,5 @@
+//! Tests alone: of the texts of values.
+#![tactic(auto)]
+
+#[cfg(test)]
+mod known;
