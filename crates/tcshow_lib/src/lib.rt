@@ -12,7 +12,6 @@ mod capture;
 mod chosen;
 mod counts;
 mod found;
-mod input;
 mod json;
 mod kernel;
 mod line;

@@ -1,0 +1,84 @@
+-- What is left of an input, while it is read and used.
+use Rattle.std.proofs.Common.{◌≡◌, ◌∙◌, ℕ, ◌+◌, ◌-◌, ◌<◌, ◌≤◌, List, [], ◌++◌, length, take, drop, Some, None, Bool, true, false, IfSome}
+use Rattle.std.proofs.Common.{refl, sym, ap, subst, append_assoc, append-nil, take-append-drop, arith}
+use Rattle.std.proofs.lemmas.List.{length-append, length-take-le, take-append-le}
+use Rattle.std.proofs.KnownBytes.{Consumes-nil, Consumes-trans, Consumes-kept, Keeps-refl}
+use Rattle.std.specs.Prelude.{Option}
+use Rattle.std.specs.Io.KnownBytes.{Keeps, Consumes, IsAtEnd, prepend_known}
+use Rattle.tc_input.specs.Left.{ReadsMore, PassesOver}
+
+-- more is read, and all that is left stays
+pub read_keeps : (old new : List ℕ) (a b : Option (List ℕ)) (some : Bool) → ReadsMore old new a b some → Keeps (prepend_known old a) (prepend_known new b)
+read_keeps old new None b some h = tt
+read_keeps old new (Some x) None some h = absurd h.taken
+read_keeps old new (Some x) (Some y) some h = ap (λ l. l ++ y) h.grown ∙ append_assoc old h.bytes y ∙ ap (λ l. old ++ l) (sym h.taken)
+
+-- none is read
+pub read_none : (old new : List ℕ) (a b : Option (List ℕ)) (some : Bool) → ReadsMore old new a b some → some ≡ false → new ≡ old
+read_none old new a b some h is = h.grown ∙ ap (λ l. old ++ l) (h.none is).0 ∙ append-nil old
+
+-- the front of the rest is used up
+pub used_up : (n : ℕ) (rest : List ℕ) (reader : Option (List ℕ)) → Consumes (prepend_known rest reader) (prepend_known (drop n rest) reader) (take n rest)
+used_up n rest None = tt
+used_up n rest (Some x) = ap (λ l. l ++ x) (sym (take-append-drop n rest)) ∙ append_assoc (take n rest) (drop n rest) x
+
+-- ---- bytes that are passed over
+
+-- so many are to be passed over, of which these are
+pub record Passed (before after : Option (List ℕ)) (count left : ℕ) : Type 0 where
+  pub bytes : List ℕ
+  pub all : length bytes + left ≡ count
+  pub taken : Consumes before after bytes
+
+pub passed_none : (a : Option (List ℕ)) (count : ℕ) → Passed a a count count
+passed_none a count = record { bytes = []; all = omega arith; taken = Consumes-nil a }
+
+pub passed_used : (before reader : Option (List ℕ)) (rest : List ℕ) (count left n : ℕ) → Passed before (prepend_known rest reader) count left
+    → n ≤ length rest → n ≤ left → Passed before (prepend_known (drop n rest) reader) count (left - n)
+passed_used before reader rest count left n h inside few = record {
+  bytes = h.bytes ++ take n rest;
+  all = omega (arith, h.all, length-append h.bytes (take n rest), length-take-le n rest inside);
+  taken = Consumes-trans before (prepend_known rest reader) (prepend_known (drop n rest) reader) h.bytes (take n rest) h.taken (used_up n rest reader);
+}
+
+pub passed_kept : (before mid after : Option (List ℕ)) (count left : ℕ) → Passed before mid count left → Keeps mid after → Passed before after count left
+passed_kept before mid after count left h kept = record { bytes = h.bytes; all = h.all; taken = Consumes-kept before mid after h.bytes h.taken kept }
+
+pub passes_all : (before after : Option (List ℕ)) (count left : ℕ) → Passed before after count left → left ≡ 0 → PassesOver before after count true
+passes_all before after count left h is = (h.bytes, omega (arith, h.all), h.taken)
+
+-- the reader ends before that
+pub passes_some : (before mid after : Option (List ℕ)) (rest new : List ℕ) (count left : ℕ) (some : Bool) → Passed before (prepend_known rest mid) count left
+    → 0 < left → rest ≡ [] → ReadsMore rest new mid after some → some ≡ false → PassesOver before (prepend_known new after) count false
+passes_some None mid after rest new count left some h long none m is = tt
+passes_some (Some b) None after rest new count left some h long none m is = absurd h.taken
+passes_some (Some b) (Some x) None rest new count left some h long none m is = absurd m.taken
+passes_some (Some b) (Some x) (Some y) rest new count left some h long none m is =
+    let end = m.none is in
+    let nothing : x ≡ [] = m.taken ∙ ap (λ l. l ++ y) end.0 ∙ end.1 in
+    let all : b ≡ h.bytes = h.taken ∙ ap (λ l. h.bytes ++ (l ++ x)) none ∙ ap (λ l. h.bytes ++ l) nothing ∙ append-nil h.bytes in
+    let few : length h.bytes < count = omega (arith, h.all) in
+    subst (λ (l : List ℕ). length l < count) (sym all) few
+
+-- ---- the first four bytes
+
+pub first_all : (file mid after : Option (List ℕ)) (rest new : List ℕ) (some : Bool) → Keeps file (prepend_known rest mid) → ReadsMore rest new mid after some
+    → some ≡ false → IfSome file (λ bytes. take 4 new ≡ take 4 bytes)
+first_all None mid after rest new some kept m is = tt
+first_all (Some f) None after rest new some kept m is = absurd kept
+first_all (Some f) (Some x) None rest new some kept m is = absurd m.taken
+first_all (Some f) (Some x) (Some y) rest new some kept m is =
+    let end = m.none is in
+    let nothing : x ≡ [] = m.taken ∙ ap (λ l. l ++ y) end.0 ∙ end.1 in
+    let whole : rest ≡ f = sym (append-nil rest) ∙ ap (λ l. rest ++ l) (sym nothing) ∙ kept in
+    ap (take 4) (read_none rest new (Some x) (Some y) some m is ∙ whole)
+
+pub first_four : (file reader : Option (List ℕ)) (rest : List ℕ) → Keeps file (prepend_known rest reader) → 4 ≤ length rest
+    → IfSome file (λ bytes. take 4 rest ≡ take 4 bytes)
+first_four None reader rest kept four = tt
+first_four (Some f) None rest kept four = absurd kept
+first_four (Some f) (Some x) rest kept four = sym (take-append-le 4 rest x four) ∙ ap (take 4) kept
+
+pub begun : (a : Option (List ℕ)) (rest : List ℕ) → rest ≡ [] → Keeps a (prepend_known rest a)
+begun None rest none = tt
+begun (Some x) rest none = ap (λ l. l ++ x) none
