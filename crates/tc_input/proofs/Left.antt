@@ -2,10 +2,19 @@
 use Rattle.std.proofs.Common.{◌≡◌, ◌∙◌, ℕ, ◌+◌, ◌-◌, ◌<◌, ◌≤◌, List, [], ◌++◌, length, take, drop, Some, None, Bool, true, false, IfSome}
 use Rattle.std.proofs.Common.{refl, sym, ap, subst, append_assoc, append-nil, take-append-drop, arith}
 use Rattle.std.proofs.lemmas.List.{length-append, length-take-le, take-append-le}
-use Rattle.std.proofs.KnownBytes.{Consumes-nil, Consumes-trans, Consumes-kept, Keeps-refl}
+use Rattle.std.proofs.KnownBytes.{Consumes-nil, Consumes-trans, Consumes-kept, Keeps-trans}
 use Rattle.std.specs.Prelude.{Option}
 use Rattle.std.specs.Io.KnownBytes.{Keeps, Consumes, IsAtEnd, prepend_known}
 use Rattle.tc_input.specs.Left.{ReadsMore, PassesOver}
+
+pub kept_then : (a b c : Option (List ℕ)) → Keeps a b → Keeps b c → Keeps a c
+kept_then a b c p q = Keeps-trans a b c p q
+
+pub kept_consumes : (a b c : Option (List ℕ)) (bytes : List ℕ) → Keeps a b → Consumes b c bytes → Consumes a c bytes
+kept_consumes None b c bytes p q = tt
+kept_consumes (Some x) None c bytes p q = absurd p
+kept_consumes (Some x) (Some y) None bytes p q = absurd q
+kept_consumes (Some x) (Some y) (Some z) bytes p q = sym p ∙ q
 
 -- more is read, and all that is left stays
 pub read_keeps : (old new : List ℕ) (a b : Option (List ℕ)) (some : Bool) → ReadsMore old new a b some → Keeps (prepend_known old a) (prepend_known new b)

@@ -1,16 +1,18 @@
 -- The lines of a text: the first of them, and then the others.
-use Rattle.std.proofs.Common.{◌≡◌, ◌≢◌, ◌∙◌, ℕ, ◌+◌, ◌<◌, ◌≤◌, List, [], ◌∷◌, ◌++◌, length, take, drop, Some, None, Bool, true, false}
-use Rattle.std.proofs.Common.{refl, sym, ap, subst, append_assoc, append-nil, take-append-drop, arith}
-use Rattle.std.specs.Prelude.{Option, All, ◌==◌, if◌then◌else◌}
+use Rattle.std.proofs.Common.{◌≡◌, ◌≢◌, ◌∙◌, ℕ, suc, ◌+◌, ◌<◌, ◌≤◌, List, [], ◌∷◌, ◌++◌, length, take, drop, Some, None, Bool, true, false}
+use Rattle.std.proofs.Common.{refl, sym, ap, subst, append_assoc, append-nil, take-append-drop, drop-cons, add_assoc, add-one, arith}
+use Rattle.std.specs.Prelude.{Option, All, slice_index, ◌==◌, if◌then◌else◌}
 use Rattle.std.proofs.lemmas.Bool.{ne_eqb}
-use Rattle.std.proofs.lemmas.List.{length-append}
-use Rattle.std.proofs.lemmas.List.Elements.{All-append, All-head, All-tail, All-same}
+use Rattle.std.proofs.lemmas.List.{length-append, length-drop, length-take-le, drop-drop}
+use Rattle.std.proofs.Math.Seq.{take-append-add}
+use Rattle.std.proofs.lemmas.List.Elements.{All-append, All-head, All-tail, All-same, All-more}
 use Rattle.std.proofs.KnownBytes.{Consumes-nil, Consumes-trans, Consumes-kept}
 use Rattle.std.specs.Io.KnownBytes.{Keeps, Consumes, IsAtEnd, prepend_known}
 use Rattle.tc_input.specs.Left.{Gives, ReadsMore}
 use Rattle.tc_input.specs.Lines.{on_first, lines_of, lines_left, most_line, HasNoFeed, EndsLine, PassesLine, IsLineGap}
 use Rattle.tc_input.specs.declared.lines.LineGap.TheVariants.{Long}
 use Rattle.tc_input.proofs.Left.{read_keeps, read_none}
+use Rattle.tc_input.proofs.Comments.{whole_taken}
 
 -- a byte that is no line feed
 lines-other : (b : ℕ) (bytes : List ℕ) → b ≢ 10 → lines_of (b ∷ bytes) ≡ on_first b (lines_of bytes)
@@ -82,20 +84,22 @@ pub record InLine (n : ℕ) (before now : Option (List ℕ)) : Type 0 where
   pub none : HasNoFeed line
   pub taken : Consumes before now line
 
+rest_gone : (rest : List ℕ) (reader : Option (List ℕ)) → Consumes (prepend_known rest reader) (prepend_known [] reader) rest
+rest_gone rest None = tt
+rest_gone rest (Some x) = refl
+
 -- what was read of it
 pub line_begun : (rest : List ℕ) (reader : Option (List ℕ)) → HasNoFeed rest → InLine (length rest) (prepend_known rest reader) (prepend_known [] reader)
-line_begun rest None none = record { line = rest; long = omega arith; none = none; taken = tt }
-line_begun rest (Some x) none = record { line = rest; long = omega arith; none = none; taken = refl }
+line_begun rest reader none = record { line = rest; long = omega arith; none = none; taken = rest_gone rest reader }
 
 pub line_more : (n : ℕ) (before reader : Option (List ℕ)) (rest : List ℕ) → InLine n before (prepend_known rest reader) → HasNoFeed rest
     → InLine n before (prepend_known [] reader)
 line_more n before reader rest h none =
-    let next = line_begun rest reader none in
     record {
       line = h.line ++ rest;
       long = omega (arith, h.long, length-append h.line rest);
       none = All-append (λ b. b ≢ 10) h.line rest h.none none;
-      taken = Consumes-trans before (prepend_known rest reader) (prepend_known [] reader) h.line rest h.taken next.taken;
+      taken = Consumes-trans before (prepend_known rest reader) (prepend_known [] reader) h.line rest h.taken (rest_gone rest reader);
     }
 
 pub line_kept : (n : ℕ) (before now after : Option (List ℕ)) → InLine n before now → Keeps now after → InLine n before after
@@ -128,3 +132,41 @@ pub gives_long : (n : ℕ) (before after : Option (List ℕ)) (on : Bool) (rest 
     → IsLineGap (Long k on) rest before after
 gives_long n before after true rest k long h = (h.0, omega (arith, long, h.1), long_line before after h.0 h.2 h.3)
 gives_long n before after false rest k long h = (h.0, omega (arith, long, h.1), long_end before after h.0 h.2 h.3 h.4)
+
+-- ---- the search for a line feed
+
+take_both : (n k : ℕ) (xs : List ℕ) → n ≤ length xs → take (n + k) xs ≡ take n xs ++ take k (drop n xs)
+take_both n k xs inside =
+    let front = length-take-le n xs inside in
+    ap (take (n + k)) (sym (take-append-drop n xs)) ∙ ap (λ (j : ℕ). take (j + k) (take n xs ++ drop n xs)) (sym front)
+    ∙ take-append-add (take n xs) (drop n xs) k
+
+pub feed_at : (bytes : List ℕ) (place : ℕ) → place < length bytes → slice_index bytes place ≡ 10 → HasNoFeed (take place bytes) → EndsLine bytes place
+feed_at bytes place inside is none = (none, drop-cons bytes place 0 inside ∙ ap (λ b. b ∷ drop (suc place) bytes) is ∙ ap (λ (j : ℕ). 10 ∷ drop j bytes) (sym (add-one place)))
+
+pub no_feed_more : (bytes : List ℕ) (place : ℕ) → place < length bytes → slice_index bytes place ≢ 10 → HasNoFeed (take place bytes)
+    → HasNoFeed (take (place + 1) bytes)
+no_feed_more bytes place inside other none = All-more (λ b. b ≢ 10) bytes place 0 inside none other
+
+pub no_feed_all : (bytes : List ℕ) (n : ℕ) → length bytes ≤ n → HasNoFeed (take n bytes) → HasNoFeed bytes
+no_feed_all bytes n whole none = All-same (λ b. b ≢ 10) bytes (take n bytes) (sym (whole_taken bytes n whole)) none
+
+-- the front has none, and the first of the others is here
+pub feed_behind : (bytes : List ℕ) (n place : ℕ) → n ≤ length bytes → HasNoFeed (take n bytes) → EndsLine (drop n bytes) place → EndsLine bytes (n + place)
+feed_behind bytes n place inside front ends = (
+  All-same (λ b. b ≢ 10) (take (n + place) bytes) (take n bytes ++ take place (drop n bytes)) (take_both n place bytes inside)
+      (All-append (λ b. b ≢ 10) (take n bytes) (take place (drop n bytes)) front ends.0),
+  sym (drop-drop place n bytes) ∙ ends.1 ∙ ap (λ l. 10 ∷ l) (drop-drop (place + 1) n bytes ∙ ap (λ (j : ℕ). drop j bytes) (sym (add_assoc n place 1))),
+)
+
+pub no_feed_both : (bytes : List ℕ) (n : ℕ) → HasNoFeed (take n bytes) → HasNoFeed (drop n bytes) → HasNoFeed bytes
+no_feed_both bytes n front after =
+    All-same (λ b. b ≢ 10) bytes (take n bytes ++ drop n bytes) (sym (take-append-drop n bytes)) (All-append (λ b. b ≢ 10) (take n bytes) (drop n bytes) front after)
+
+-- a line that ends is the first of what is left
+pub ends_line : (bytes : List ℕ) (place : ℕ) (reader : Option (List ℕ)) → EndsLine bytes place
+    → Gives (lines_left (prepend_known bytes reader)) (take place bytes ∷ []) (lines_left (prepend_known (drop (place + 1) bytes) reader))
+ends_line bytes place reader ends = gives_line bytes (take place bytes) (drop (place + 1) bytes) reader ends.0 (cut_at bytes place ends.1)
+
+pub ends_inside : (bytes : List ℕ) (place : ℕ) → EndsLine bytes place → place < length bytes
+ends_inside bytes place ends = omega (arith, ap length ends.1, length-drop place bytes)

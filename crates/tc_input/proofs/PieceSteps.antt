@@ -144,12 +144,11 @@ module _ (most : ℕ) where
       absurd (omega (arith, length-take most ([] {A = ℕ}), front.some, front.within))
   first-is s (b ∷ xs) ys next is =
       let front = front-is s (take most (b ∷ xs)) next is in
-      let inside : next.0.used ≤ length (b ∷ xs) = omega (arith, length-take most (b ∷ xs), front.within) in
-      (
+      let inside : next.0.used ≤ length (b ∷ xs) = omega (arith, length-take most (b ∷ xs), front.within) in (
         inside,
         pieces-one s b (xs ++ ys) ∙ ap (piece_and_more most (pieces_in most) s (b ∷ (xs ++ ys))) (still s (b ∷ xs) ys (Ok next) is (λ x. x))
-        ∙ ap (λ (l : List ℕ). record { what = read next.0.packet; bytes = take next.0.used (b ∷ (xs ++ ys)) } ∷ pieces_in most next.1 l)
-        (drop-append-le next.0.used (b ∷ xs) ys inside),
+            ∙ ap (λ (l : List ℕ). record { what = read next.0.packet; bytes = take next.0.used (b ∷ (xs ++ ys)) } ∷ pieces_in most next.1 l)
+            (drop-append-le next.0.used (b ∷ xs) ys inside),
       )
 
   -- it can't be read, whatever is behind it
@@ -200,7 +199,7 @@ module _ (most : ℕ) where
       (lt-ltb most needed long)
       ∙ ap (λ (t : Bool). if t then passed go needed bytes else left_over (Short needed (length bytes)) bytes)
       (false_from_ne_true (nat_le needed (length bytes)) (λ here. not_here (leb-true needed (length bytes) here) gone))
-      where
+    where
       not_here : {a b : ℕ} → a ≤ b → b < a → ⊥
       not_here p q = omega (arith, p, q)
 
@@ -237,8 +236,8 @@ gap_cut s bytes None needed left seen some is few = (Short needed left, tt)
 gap_cut s bytes (Some more) needed left seen some is few = (
   Short needed (length (bytes ++ more)),
   ap (map (λ (p : Piece). p.what))
-  (wanting-is 1048576 s bytes more needed left (window-seen bytes more seen) some is
-  ∙ short-unread 1048576 (pieces_in 1048576 s) (bytes ++ more) needed left few),
+      (wanting-is 1048576 s bytes more needed left (window-seen bytes more seen) some is
+      ∙ short-unread 1048576 (pieces_in 1048576 s) (bytes ++ more) needed left few),
 )
 
 pub gap_passed : (s : State) (bytes : List ℕ) (reader after : Option (List ℕ)) (needed left : ℕ) → IsSeen bytes reader → 0 < length bytes
@@ -261,8 +260,8 @@ gap_lost s bytes None after needed left seen some is long over = (Short needed l
 gap_lost s bytes (Some more) after needed left seen some is long over = (
   Short needed (length (bytes ++ more)),
   ap (map (λ (p : Piece). p.what))
-  (wanting-is 1048576 s bytes more needed left (window-seen bytes more seen) some is
-  ∙ lost-unread 1048576 (pieces_in 1048576 s) (bytes ++ more) needed left long over),
+      (wanting-is 1048576 s bytes more needed left (window-seen bytes more seen) some is
+      ∙ lost-unread 1048576 (pieces_in 1048576 s) (bytes ++ more) needed left long over),
 )
 
 -- what was read before changes nothing

@@ -148,6 +148,7 @@ impl<A: Allocator + Copy> Input<A> {
 }
 
 // Reads bytes once, and returns how many: none at the end of the input alone.
+#[tactic(auto, using(crate::proofs::Left::kept_then, crate::proofs::Left::kept_consumes))]
 fn read_part<R: Read>(part: &mut [u8], reader: &mut R) -> Result<usize, Stop>
     requires { 0 < length part.old }
     ensures inside { IfOk result (λ count. count ≤ length part.new) }

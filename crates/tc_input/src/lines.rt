@@ -23,6 +23,7 @@ pub enum LineGap {
 }
 
 // Where the first line feed is.
+#[tactic(auto, using(crate::proofs::LineSteps::feed_at, crate::proofs::LineSteps::no_feed_more, crate::proofs::LineSteps::no_feed_all))]
 fn feed_in(bytes: &[u8]) -> Option<usize>
     ensures { MatchOption result (HasNoFeed bytes.now) (EndsLine bytes.now) }
 {
@@ -41,6 +42,7 @@ impl<A: Allocator + Copy> Input<A> {
     ghost use Rattle.tc_input.specs.Lines.{HasNoFeed, EndsLine, PassesLine, IsLineGap, lines_left, most_line};
 
     /// Where the first line ends in what was read.
+    #[tactic(auto, using(crate::proofs::LineSteps::feed_behind, crate::proofs::LineSteps::no_feed_both, crate::proofs::LineSteps::ends_line, crate::proofs::LineSteps::ends_inside))]
     pub fn line_end(&mut self) -> Option<usize>
         ensures same { rest_of self.new ≡ rest_of self.old }
         ensures inside { IfSome result (λ end. end < length (rest_of self.old)) }

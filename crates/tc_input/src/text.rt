@@ -54,6 +54,7 @@ fn is_blank(byte: u8) -> bool
 }
 
 // What comes before the comment.
+#[tactic(auto, using(crate::proofs::Comments::before_is_all, crate::proofs::Comments::before_is_front, crate::proofs::Comments::no_sign_more))]
 fn before_comment(line: &[u8]) -> &[u8]
     ensures { result.now ≡ take_while is_before_comment line.now }
 {

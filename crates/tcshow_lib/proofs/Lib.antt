@@ -2,3 +2,4 @@ mod Clean
 mod Puts
 mod Progress
 mod ByCodec
+mod InOrder

@@ -4,5 +4,6 @@ pub mod Found
 pub mod Line
 pub mod Codecs
 pub mod Shown
-pub mod State
 pub mod Replies
+pub mod Reading
+pub mod State

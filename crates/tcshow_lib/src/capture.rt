@@ -31,11 +31,13 @@ pub(crate) fn show_capture<A: Allocator + Copy, R: Read, W: Write>(
 ) -> Result<(), Stop>
     ensures form { shower.new.output.is_json ≡ shower.old.output.is_json }
     ensures clean { shower.old.output.is_json ≡ false → GrowsClean (W.contents writer.old) (W.contents writer.new) }
-    ensures ran { OnOk result ((things : List Thing) × Progress things (W.contents writer.old) (W.contents writer.new) (state_of shower.old) (state_of shower.new)
+    ensures ran { OnOk result ((things : List Thing)
+        × Progress things (W.contents writer.old) (W.contents writer.new) (state_of shower.old) (state_of shower.new)
         × Gives (capture_left packets.old.count (place_of capture) (left_of input.old (R.remaining reader.old))) things (Some [])) }
 {
     for _ in 0..u64::MAX {
-        if !show_piece(shower, packets, input, &mut capture, reader, writer)? {
+        let goes_on = show_piece(shower, packets, input, &mut capture, reader, writer)?;
+        if !goes_on {
             return Ok(());
         }
     }
@@ -180,7 +182,8 @@ impl<'a, A: Allocator + Copy> Shower<'a, A> {
     ) -> Result<(), AllocError>
         ensures form { self.new.output.is_json ≡ self.old.output.is_json }
         ensures count { packets.new.count ≡ count_after packets.old.count packet.now.link }
-        ensures put { OnOk result (Puts (things_of (number_after packets.old.count packet.now.link) (captured_of packet.now)) (state_of self.old) (state_of self.new)) }
+        ensures put { OnOk result (Puts (things_of (number_after packets.old.count packet.now.link) (captured_of packet.now))
+            (state_of self.old) (state_of self.new)) }
     {
         let number = packets.count(packet);
         let contents = packet.contents();

@@ -49,11 +49,13 @@ pub(crate) fn show_lines<A: Allocator + Copy, R: Read, W: Write>(
 ) -> Result<(), Stop>
     ensures form { shower.new.output.is_json ≡ shower.old.output.is_json }
     ensures clean { shower.old.output.is_json ≡ false → GrowsClean (W.contents writer.old) (W.contents writer.new) }
-    ensures ran { OnOk result ((things : List Thing) × Progress things (W.contents writer.old) (W.contents writer.new) (state_of shower.old) (state_of shower.new)
+    ensures ran { OnOk result ((things : List Thing)
+        × Progress things (W.contents writer.old) (W.contents writer.new) (state_of shower.old) (state_of shower.new)
         × Gives (text_left (state_of shower.old).header (left_of input.old (R.remaining reader.old))) things (Some [])) }
 {
     for _ in 0..u64::MAX {
-        if !show_line(shower, input, reader, writer)? {
+        let goes_on = show_line(shower, input, reader, writer)?;
+        if !goes_on {
             return Ok(());
         }
     }
@@ -125,7 +127,8 @@ fn put_front<A: Allocator + Copy>(
 ) -> Result<(), AllocError>
     requires { len ≤ length (rest_of input.now) }
     ensures form { shower.new.output.is_json ≡ shower.old.output.is_json }
-    ensures put { OnOk result (Puts (things_said (state_of shower.old).header (on_line (take len (rest_of input.now)))) (state_of shower.old) (state_of shower.new)) }
+    ensures put { OnOk result (Puts (things_said (state_of shower.old).header (on_line (take len (rest_of input.now))))
+        (state_of shower.old) (state_of shower.new)) }
 {
     let (line, _) = input.rest().split_at(len);
     shower.put_text(line, input.offset())

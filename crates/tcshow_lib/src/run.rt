@@ -1,6 +1,9 @@
 //! A whole run.
 
-ghost use Rattle.std.specs.Prelude.{◌≡◌, ◌≢◌, false, OnOk};
+ghost use Rattle.std.specs.Prelude.{◌≡◌, ◌≢◌, false, List, OnOk};
+ghost use Rattle.tc_input.specs.Left.{rest_of, left_of};
+ghost use Rattle.tcshow_lib.specs.Found.{Thing};
+ghost use Rattle.tcshow_lib.specs.Reading.{AreIn, Begins};
 ghost use Rattle.tcshow_lib.specs.declared.asked.Form.TheVariants.{Json};
 ghost use Rattle.tcshow_lib.specs.State.{state_of, Progress, Ends, Completes, Ran};
 ghost use Rattle.tcshow_lib.specs.Writing.{GrowsClean};
@@ -55,8 +58,10 @@ fn show_and_write<A: Allocator + Copy, R: Read, W: Write>(
     reader: &mut R,
     writer: &mut W,
 ) -> Result<(), Stop>
+    requires { packets.old.count ≡ 0 }
     ensures clean { shower.old.output.is_json ≡ false → GrowsClean (W.contents writer.old) (W.contents writer.new) }
-    ensures ran { OnOk result (Completes (W.contents writer.old) (W.contents writer.new) (state_of shower.old) (state_of shower.new)) }
+    ensures ran { OnOk result ((things : List Thing) × AreIn (R.remaining reader.old) (state_of shower.old).header things
+        × Completes things (W.contents writer.old) (W.contents writer.new) (state_of shower.old) (state_of shower.new)) }
 {
     match show(shower, packets, reader, writer) {
         Ok(()) => shower.write(writer),
@@ -75,9 +80,11 @@ fn show<A: Allocator + Copy, R: Read, W: Write>(
     reader: &mut R,
     writer: &mut W,
 ) -> Result<(), Stop>
+    requires { packets.old.count ≡ 0 }
     ensures form { shower.new.output.is_json ≡ shower.old.output.is_json }
     ensures clean { shower.old.output.is_json ≡ false → GrowsClean (W.contents writer.old) (W.contents writer.new) }
-    ensures ran { OnOk result (Ends (W.contents writer.old) (W.contents writer.new) (state_of shower.old) (state_of shower.new)) }
+    ensures ran { OnOk result ((things : List Thing) × AreIn (R.remaining reader.old) (state_of shower.old).header things
+        × Ends things (W.contents writer.old) (W.contents writer.new) (state_of shower.old) (state_of shower.new)) }
 {
     let mut input = Input::begin(shower.alloc, reader)?;
     show_input(shower, packets, &mut input, reader, writer)?;
@@ -97,9 +104,12 @@ fn show_input<A: Allocator + Copy, R: Read, W: Write>(
     reader: &mut R,
     writer: &mut W,
 ) -> Result<(), Stop>
+    requires { packets.old.count ≡ 0 }
     ensures form { shower.new.output.is_json ≡ shower.old.output.is_json }
     ensures clean { shower.old.output.is_json ≡ false → GrowsClean (W.contents writer.old) (W.contents writer.new) }
-    ensures ran { OnOk result (Progress (W.contents writer.old) (W.contents writer.new) (state_of shower.old) (state_of shower.new)) }
+    ensures ran { OnOk result ((things : List Thing)
+        × Begins (rest_of input.old) (left_of input.old (R.remaining reader.old)) (state_of shower.old).header things
+        × Progress things (W.contents writer.old) (W.contents writer.new) (state_of shower.old) (state_of shower.new)) }
 {
     match Capture::of_first(input.first()) {
         Some(capture) => show_capture(shower, packets, input, capture, reader, writer),

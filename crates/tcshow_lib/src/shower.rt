@@ -172,7 +172,7 @@ impl<'a, A: Allocator + Copy> Shower<'a, A> {
     pub(crate) fn write_much<W: Write>(&mut self, writer: &mut W) -> Result<(), Stop>
         ensures form { self.new.output.is_json ≡ self.old.output.is_json }
         ensures clean { self.old.output.is_json ≡ false → GrowsClean (W.contents writer.old) (W.contents writer.new) }
-        ensures ran { OnOk result (Progress (W.contents writer.old) (W.contents writer.new) (state_of self.old) (state_of self.new)) }
+        ensures ran { OnOk result (Progress [] (W.contents writer.old) (W.contents writer.new) (state_of self.old) (state_of self.new)) }
     {
         if self.output.len() < MOST_KEPT {
             return Ok(());
@@ -187,7 +187,7 @@ impl<'a, A: Allocator + Copy> Shower<'a, A> {
             × OnOk result (rest ≡ []) }
         ensures empty { state_of self.new ≡ record (state_of self.old) { text = [] } }
         ensures clean { self.old.output.is_json ≡ false → GrowsClean (W.contents writer.old) (W.contents writer.new) }
-        ensures ran { OnOk result (Progress (W.contents writer.old) (W.contents writer.new) (state_of self.old) (state_of self.new)) }
+        ensures ran { OnOk result (Progress [] (W.contents writer.old) (W.contents writer.new) (state_of self.old) (state_of self.new)) }
     {
         self.output.write(writer)
     }
