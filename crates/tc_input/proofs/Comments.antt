@@ -1,21 +1,16 @@
 -- What comes before the number sign that begins a comment.
-use Rattle.std.proofs.Common.{◌≡◌, ◌≢◌, ◌∙◌, ℕ, suc, ◌+◌, ◌<◌, ◌≤◌, List, [], ◌∷◌, ◌++◌, length, take, drop, refl, sym, ap, cond, not, min, Bool, append-nil, take-append-drop, drop-cons, arith}
-use Rattle.std.proofs.Math.Seq.{take-length}
-use Rattle.std.proofs.lemmas.List.{take_min}
+use Rattle.std.proofs.Common.{◌≡◌, ◌≢◌, ◌∙◌, ℕ, suc, ◌+◌, ◌<◌, ◌≤◌, List, [], ◌∷◌, ◌++◌, length, take, drop, Bool, cond, not}
+use Rattle.std.proofs.Common.{refl, sym, ap, append-nil, take-append-drop, drop-cons, arith}
 use Rattle.std.specs.Prelude.{All, slice_index}
 use Rattle.std.specs.List.{take_while}
 use Rattle.std.proofs.lemmas.Bool.{ne_eqb}
 use Rattle.std.proofs.lemmas.List.Elements.{All-head, All-tail, All-more, All-same}
 use Rattle.std.proofs.lemmas.List.Sums.{take_while-cons}
 use Rattle.tc_input.specs.Text.{is_before_comment}
+use Rattle.tc_input.proofs.Left.{whole_taken}
 
 abbrev pub HasNoSign : List ℕ → Type 0
 HasNoSign bytes = All (λ b. b ≢ 35) bytes
-
-pub whole_taken : (xs : List ℕ) (n : ℕ) → length xs ≤ n → take n xs ≡ xs
-whole_taken xs n fits =
-    let whole : min n (length xs) ≡ length xs = omega (arith, fits) in
-    sym (take_min n xs) ∙ ap (λ (j : ℕ). take j xs) whole ∙ take-length xs
 
 before-all : (xs ys : List ℕ) → HasNoSign xs → take_while is_before_comment (xs ++ ys) ≡ xs ++ take_while is_before_comment ys
 before-all [] ys none = refl
@@ -28,7 +23,8 @@ before-all (x ∷ xs) ys none =
 pub before_is_all : (line : List ℕ) (n : ℕ) → length line ≤ n → HasNoSign (take n line) → line ≡ take_while is_before_comment line
 before_is_all line n whole none =
     let all : take n line ≡ line = whole_taken line n whole in
-    sym (append-nil line) ∙ sym (before-all line [] (All-same (λ b. b ≢ 35) line (take n line) (sym all) none)) ∙ ap (take_while is_before_comment) (append-nil line)
+    let front = before-all line [] (All-same (λ b. b ≢ 35) line (take n line) (sym all) none) in
+    sym (append-nil line) ∙ sym front ∙ ap (take_while is_before_comment) (append-nil line)
 
 -- what is before the sign
 pub before_is_front : (line : List ℕ) (n : ℕ) → n < length line → slice_index line n ≡ 35 → HasNoSign (take n line)

@@ -1,11 +1,20 @@
 -- What is left of an input, while it is read and used.
 use Rattle.std.proofs.Common.{◌≡◌, ◌∙◌, ℕ, ◌+◌, ◌-◌, ◌<◌, ◌≤◌, List, [], ◌++◌, length, take, drop, Some, None, Bool, true, false, IfSome}
 use Rattle.std.proofs.Common.{refl, sym, ap, subst, append_assoc, append-nil, take-append-drop, arith}
-use Rattle.std.proofs.lemmas.List.{length-append, length-take-le, take-append-le}
+use Rattle.std.proofs.Math.Seq.{take-length}
+use Rattle.std.proofs.lemmas.List.{length-append, length-drop, length-take-le, take_min, take-append-le, drop-append-le}
 use Rattle.std.proofs.KnownBytes.{Consumes-nil, Consumes-trans, Consumes-kept, Keeps-trans}
-use Rattle.std.specs.Prelude.{Option}
+use Rattle.std.specs.Prelude.{Option, min, if◌then◌else◌}
 use Rattle.std.specs.Io.KnownBytes.{Keeps, Consumes, IsAtEnd, prepend_known}
 use Rattle.tc_input.specs.Left.{ReadsMore, PassesOver}
+
+pub whole_taken : (xs : List ℕ) (n : ℕ) → length xs ≤ n → take n xs ≡ xs
+whole_taken xs n fits =
+    let whole : min n (length xs) ≡ length xs = omega (arith, fits) in
+    sym (take_min n xs) ∙ ap (λ (j : ℕ). take j xs) whole ∙ take-length xs
+
+pub all_taken : (xs : List ℕ) (n : ℕ) → length xs ≤ n → xs ≡ take n xs
+all_taken xs n fits = sym (whole_taken xs n fits)
 
 pub kept_then : (a b c : Option (List ℕ)) → Keeps a b → Keeps b c → Keeps a c
 kept_then a b c p q = Keeps-trans a b c p q
@@ -31,6 +40,19 @@ pub used_up : (n : ℕ) (rest : List ℕ) (reader : Option (List ℕ)) → Consu
 used_up n rest None = tt
 used_up n rest (Some x) = ap (λ l. l ++ x) (sym (take-append-drop n rest)) ∙ append_assoc (take n rest) (drop n rest) x
 
+-- all of it is used
+pub used_rest : (rest new : List ℕ) (reader : Option (List ℕ)) → new ≡ [] → Consumes (prepend_known rest reader) (prepend_known new reader) rest
+used_rest rest new None used = tt
+used_rest rest new (Some x) used = ap (λ l. rest ++ (l ++ x)) (sym used)
+
+-- what was searched, when more is read
+pub searched_more : (grown : Bool) (old new other : List ℕ) (used searched : ℕ) → new ≡ (if grown then old ++ other else old) → used + searched ≤ length old
+    → take searched (drop used new) ≡ take searched (drop used old)
+searched_more false old new other used searched is inside = ap (λ l. take searched (drop used l)) is
+searched_more true old new other used searched is inside =
+    ap (λ l. take searched (drop used l)) is ∙ ap (take searched) (drop-append-le used old other (omega (arith, inside)))
+    ∙ take-append-le searched (drop used old) other (omega (arith, length-drop used old, inside))
+
 -- ---- bytes that are passed over
 
 -- so many are to be passed over, of which these are
@@ -42,19 +64,30 @@ pub record Passed (before after : Option (List ℕ)) (count left : ℕ) : Type 0
 pub passed_none : (a : Option (List ℕ)) (count : ℕ) → Passed a a count count
 passed_none a count = record { bytes = []; all = omega arith; taken = Consumes-nil a }
 
-pub passed_used : (before reader : Option (List ℕ)) (rest : List ℕ) (count left n : ℕ) → Passed before (prepend_known rest reader) count left
-    → n ≤ length rest → n ≤ left → Passed before (prepend_known (drop n rest) reader) count (left - n)
-passed_used before reader rest count left n h inside few = record {
-  bytes = h.bytes ++ take n rest;
-  all = omega (arith, h.all, length-append h.bytes (take n rest), length-take-le n rest inside);
-  taken = Consumes-trans before (prepend_known rest reader) (prepend_known (drop n rest) reader) h.bytes (take n rest) h.taken (used_up n rest reader);
-}
+-- all that was read is used
+pub passed_rest : (before reader : Option (List ℕ)) (rest new : List ℕ) (count left here : ℕ) → Passed before (prepend_known rest reader) count left
+    → here ≡ length rest → here ≤ left → new ≡ [] → Passed before (prepend_known new reader) count (left - here)
+passed_rest before reader rest new count left here h is few used =
+    let gone : Consumes (prepend_known rest reader) (prepend_known new reader) rest = used_rest rest new reader used in
+    record {
+      bytes = h.bytes ++ rest;
+      all = omega (arith, h.all, length-append h.bytes rest, is, few);
+      taken = Consumes-trans before (prepend_known rest reader) (prepend_known new reader) h.bytes rest h.taken gone;
+    }
 
 pub passed_kept : (before mid after : Option (List ℕ)) (count left : ℕ) → Passed before mid count left → Keeps mid after → Passed before after count left
 passed_kept before mid after count left h kept = record { bytes = h.bytes; all = h.all; taken = Consumes-kept before mid after h.bytes h.taken kept }
 
-pub passes_all : (before after : Option (List ℕ)) (count left : ℕ) → Passed before after count left → left ≡ 0 → PassesOver before after count true
-passes_all before after count left h is = (h.bytes, omega (arith, h.all), h.taken)
+-- the last of them are used
+pub passes_front : (before reader : Option (List ℕ)) (rest new : List ℕ) (count left : ℕ) → Passed before (prepend_known rest reader) count left
+    → left ≤ length rest → new ≡ drop left rest → PassesOver before (prepend_known new reader) count true
+passes_front before reader rest new count left h here used =
+    let gone : Consumes (prepend_known rest reader) (prepend_known new reader) (take left rest) =
+    subst (λ (l : List ℕ). Consumes (prepend_known rest reader) (prepend_known l reader) (take left rest)) (sym used) (used_up left rest reader) in (
+      h.bytes ++ take left rest,
+      length-append h.bytes (take left rest) ∙ ap (λ (n : ℕ). length h.bytes + n) (length-take-le left rest here) ∙ h.all,
+      Consumes-trans before (prepend_known rest reader) (prepend_known new reader) h.bytes (take left rest) h.taken gone,
+    )
 
 -- the reader ends before that
 pub passes_some : (before mid after : Option (List ℕ)) (rest new : List ℕ) (count left : ℕ) (some : Bool) → Passed before (prepend_known rest mid) count left

@@ -11,8 +11,7 @@ use Rattle.std.specs.Io.KnownBytes.{Keeps, Consumes, IsAtEnd, prepend_known}
 use Rattle.tc_input.specs.Left.{Gives, ReadsMore}
 use Rattle.tc_input.specs.Lines.{on_first, lines_of, lines_left, most_line, HasNoFeed, EndsLine, PassesLine, IsLineGap}
 use Rattle.tc_input.specs.declared.lines.LineGap.TheVariants.{Long}
-use Rattle.tc_input.proofs.Left.{read_keeps, read_none}
-use Rattle.tc_input.proofs.Comments.{whole_taken}
+use Rattle.tc_input.proofs.Left.{read_keeps, read_none, used_rest, whole_taken}
 
 -- a byte that is no line feed
 lines-other : (b : ℕ) (bytes : List ℕ) → b ≢ 10 → lines_of (b ∷ bytes) ≡ on_first b (lines_of bytes)
@@ -46,7 +45,8 @@ pub cut_at : (bytes : List ℕ) (place : ℕ) → drop place bytes ≡ 10 ∷ dr
 cut_at bytes place is = sym (take-append-drop place bytes) ∙ ap (λ l. take place bytes ++ l) is
 
 -- bytes at the front are used
-feed_gone : (reader : Option (List ℕ)) (rest front after : List ℕ) → rest ≡ front ++ after → Consumes (prepend_known rest reader) (prepend_known after reader) front
+feed_gone : (reader : Option (List ℕ)) (rest front after : List ℕ) → rest ≡ front ++ after
+    → Consumes (prepend_known rest reader) (prepend_known after reader) front
 feed_gone None rest front after is = tt
 feed_gone (Some x) rest front after is = ap (λ l. l ++ x) is ∙ append_assoc front after x
 
@@ -54,12 +54,14 @@ at_end : (new : List ℕ) (reader : Option (List ℕ)) → new ≡ [] → IsAtEn
 at_end new None none end = tt
 at_end new (Some x) none end = ap (λ l. l ++ x) none ∙ end
 
-long_line : (before after : Option (List ℕ)) (line : List ℕ) → HasNoFeed line → Consumes before after (line ++ 10 ∷ []) → Gives (lines_left before) (line ∷ []) (lines_left after)
+long_line : (before after : Option (List ℕ)) (line : List ℕ) → HasNoFeed line → Consumes before after (line ++ 10 ∷ [])
+    → Gives (lines_left before) (line ∷ []) (lines_left after)
 long_line None after line none h = tt
 long_line (Some x) None line none h = absurd h
 long_line (Some x) (Some y) line none h = ap lines_of (h ∙ append_assoc line (10 ∷ []) y) ∙ lines-first line y none
 
-long_end : (before after : Option (List ℕ)) (line : List ℕ) → HasNoFeed line → Consumes before after line → IsAtEnd after → Gives (lines_left before) (line ∷ []) (Some [])
+long_end : (before after : Option (List ℕ)) (line : List ℕ) → HasNoFeed line → Consumes before after line → IsAtEnd after
+    → Gives (lines_left before) (line ∷ []) (Some [])
 long_end None after line none h end = tt
 long_end (Some x) None line none h end = absurd h
 long_end (Some x) (Some y) line none h end = ap lines_of (h ∙ ap (λ l. line ++ l) end ∙ append-nil line) ∙ lines-last line none
@@ -84,23 +86,19 @@ pub record InLine (n : ℕ) (before now : Option (List ℕ)) : Type 0 where
   pub none : HasNoFeed line
   pub taken : Consumes before now line
 
-rest_gone : (rest : List ℕ) (reader : Option (List ℕ)) → Consumes (prepend_known rest reader) (prepend_known [] reader) rest
-rest_gone rest None = tt
-rest_gone rest (Some x) = refl
-
 -- what was read of it
-pub line_begun : (rest : List ℕ) (reader : Option (List ℕ)) → HasNoFeed rest → InLine (length rest) (prepend_known rest reader) (prepend_known [] reader)
-line_begun rest reader none = record { line = rest; long = omega arith; none = none; taken = rest_gone rest reader }
+pub line_begun : (rest new : List ℕ) (reader : Option (List ℕ)) → HasNoFeed rest → new ≡ []
+    → InLine (length rest) (prepend_known rest reader) (prepend_known new reader)
+line_begun rest new reader none used = record { line = rest; long = omega arith; none = none; taken = used_rest rest new reader used }
 
-pub line_more : (n : ℕ) (before reader : Option (List ℕ)) (rest : List ℕ) → InLine n before (prepend_known rest reader) → HasNoFeed rest
-    → InLine n before (prepend_known [] reader)
-line_more n before reader rest h none =
-    record {
-      line = h.line ++ rest;
-      long = omega (arith, h.long, length-append h.line rest);
-      none = All-append (λ b. b ≢ 10) h.line rest h.none none;
-      taken = Consumes-trans before (prepend_known rest reader) (prepend_known [] reader) h.line rest h.taken (rest_gone rest reader);
-    }
+pub line_more : (n : ℕ) (before reader : Option (List ℕ)) (rest new : List ℕ) → InLine n before (prepend_known rest reader) → HasNoFeed rest → new ≡ []
+    → InLine n before (prepend_known new reader)
+line_more n before reader rest new h none used = record {
+  line = h.line ++ rest;
+  long = omega (arith, h.long, length-append h.line rest);
+  none = All-append (λ b. b ≢ 10) h.line rest h.none none;
+  taken = Consumes-trans before (prepend_known rest reader) (prepend_known new reader) h.line rest h.taken (used_rest rest new reader used);
+}
 
 pub line_kept : (n : ℕ) (before now after : Option (List ℕ)) → InLine n before now → Keeps now after → InLine n before after
 line_kept n before now after h kept = record { line = h.line; long = h.long; none = h.none; taken = Consumes-kept before now after h.line h.taken kept }
@@ -114,17 +112,18 @@ line_ended n before mid after rest new some h empty m is =
     (kept.line, kept.long, kept.none, kept.taken, at_end new after nothing (m.none is).1)
 
 -- a line feed ends it
-pub line_fed : (n : ℕ) (before reader : Option (List ℕ)) (rest : List ℕ) (place : ℕ) → InLine n before (prepend_known rest reader) → EndsLine rest place
-    → PassesLine n before (prepend_known (drop (place + 1) rest) reader) true
-line_fed n before reader rest place h ends =
+pub line_fed : (n : ℕ) (before reader : Option (List ℕ)) (rest new : List ℕ) (place : ℕ) → InLine n before (prepend_known rest reader) → EndsLine rest place
+    → new ≡ drop (place + 1) rest → PassesLine n before (prepend_known new reader) true
+line_fed n before reader rest new place h ends used =
     let last = take place rest in
-    let cut : rest ≡ (last ++ 10 ∷ []) ++ drop (place + 1) rest = cut_at rest place ends.1 ∙ sym (append_assoc last (10 ∷ []) (drop (place + 1) rest)) in
-    let gone = feed_gone reader rest (last ++ 10 ∷ []) (drop (place + 1) rest) cut in (
+    let cut : rest ≡ (last ++ 10 ∷ []) ++ new =
+    cut_at rest place ends.1 ∙ ap (λ l. last ++ 10 ∷ l) (sym used) ∙ sym (append_assoc last (10 ∷ []) new) in
+    let gone = feed_gone reader rest (last ++ 10 ∷ []) new cut in (
       h.line ++ last,
       omega (arith, h.long, length-append h.line last),
       All-append (λ b. b ≢ 10) h.line last h.none ends.0,
-      subst (Consumes before (prepend_known (drop (place + 1) rest) reader)) (sym (append_assoc h.line last (10 ∷ [])))
-          (Consumes-trans before (prepend_known rest reader) (prepend_known (drop (place + 1) rest) reader) h.line (last ++ 10 ∷ []) h.taken gone),
+      subst (Consumes before (prepend_known new reader)) (sym (append_assoc h.line last (10 ∷ [])))
+          (Consumes-trans before (prepend_known rest reader) (prepend_known new reader) h.line (last ++ 10 ∷ []) h.taken gone),
     )
 
 -- so that it is a line of what was left
@@ -142,7 +141,9 @@ take_both n k xs inside =
     ∙ take-append-add (take n xs) (drop n xs) k
 
 pub feed_at : (bytes : List ℕ) (place : ℕ) → place < length bytes → slice_index bytes place ≡ 10 → HasNoFeed (take place bytes) → EndsLine bytes place
-feed_at bytes place inside is none = (none, drop-cons bytes place 0 inside ∙ ap (λ b. b ∷ drop (suc place) bytes) is ∙ ap (λ (j : ℕ). 10 ∷ drop j bytes) (sym (add-one place)))
+feed_at bytes place inside is none =
+    let found : drop place bytes ≡ 10 ∷ drop (suc place) bytes = drop-cons bytes place 0 inside ∙ ap (λ b. b ∷ drop (suc place) bytes) is in
+    (none, found ∙ ap (λ (j : ℕ). 10 ∷ drop j bytes) (sym (add-one place)))
 
 pub no_feed_more : (bytes : List ℕ) (place : ℕ) → place < length bytes → slice_index bytes place ≢ 10 → HasNoFeed (take place bytes)
     → HasNoFeed (take (place + 1) bytes)
@@ -161,7 +162,8 @@ feed_behind bytes n place inside front ends = (
 
 pub no_feed_both : (bytes : List ℕ) (n : ℕ) → HasNoFeed (take n bytes) → HasNoFeed (drop n bytes) → HasNoFeed bytes
 no_feed_both bytes n front after =
-    All-same (λ b. b ≢ 10) bytes (take n bytes ++ drop n bytes) (sym (take-append-drop n bytes)) (All-append (λ b. b ≢ 10) (take n bytes) (drop n bytes) front after)
+    All-same (λ b. b ≢ 10) bytes (take n bytes ++ drop n bytes) (sym (take-append-drop n bytes))
+    (All-append (λ b. b ≢ 10) (take n bytes) (drop n bytes) front after)
 
 -- a line that ends is the first of what is left
 pub ends_line : (bytes : List ℕ) (place : ℕ) (reader : Option (List ℕ)) → EndsLine bytes place
@@ -170,3 +172,13 @@ ends_line bytes place reader ends = gives_line bytes (take place bytes) (drop (p
 
 pub ends_inside : (bytes : List ℕ) (place : ℕ) → EndsLine bytes place → place < length bytes
 ends_inside bytes place ends = omega (arith, ap length ends.1, length-drop place bytes)
+
+-- the search begins behind what was searched
+pub first_here : (rest now after : List ℕ) (n place : ℕ) → n ≤ length rest → HasNoFeed (take n rest) → now ≡ rest → after ≡ drop n now → EndsLine after place
+    → EndsLine rest (n + place)
+first_here rest now after n place inside front same is ends =
+    feed_behind rest n place inside front (subst (λ (l : List ℕ). EndsLine l place) (is ∙ ap (drop n) same) ends)
+
+pub none_here : (rest now after : List ℕ) (n : ℕ) → HasNoFeed (take n rest) → now ≡ rest → after ≡ drop n now → HasNoFeed after → HasNoFeed rest
+none_here rest now after n front same is none =
+    no_feed_both rest n front (All-same (λ b. b ≢ 10) (drop n rest) after (ap (drop n) (sym same) ∙ sym is) none)

@@ -1,23 +1,25 @@
 -- The pieces of a capture: the first of them, and then the others.
-use Rattle.std.proofs.Common.{◌≡◌, ◌⊎◌, ◌∙◌, ℕ, zero, suc, ◌-◌, ◌+◌, ◌<◌, ◌≤◌, List, [], ◌∷◌, ◌++◌, length, take, drop, map, Some, None, Ok, Err, Bool, true, false}
+use Rattle.std.proofs.Common.{◌≡◌, ◌⊎◌, ◌∙◌, ℕ, zero, suc, ◌-◌, ◌+◌, ◌<◌, ◌≤◌, List, [], ◌∷◌, ◌++◌, length, take, drop, map}
+use Rattle.std.proofs.Common.{Some, None, Ok, Err, Bool, true, false}
 use Rattle.std.proofs.Common.{refl, sym, ap, subst, inl, inr, append-nil, arith}
-use Rattle.std.specs.Prelude.{Option, min, nat_lt, nat_le, ◌&&◌, if◌then◌else◌}
+use Rattle.std.specs.Prelude.{Option, Result, IfOk, ◌==◌, min, nat_lt, nat_le, ◌&&◌, if◌then◌else◌}
 use Rattle.std.proofs.Math.Seq.{take-append-add}
 use Rattle.std.proofs.Math.Seq.{take-length}
-use Rattle.std.proofs.lemmas.Bool.{ltb-true, ltb-false, leb-true, lt-ltb, le-leb, le-ltb, false_from_ne_true}
-use Rattle.std.proofs.lemmas.List.{length-append, length-drop, length-take, take_min, take-append-le, drop-append-le, drop_at}
+use Rattle.std.proofs.lemmas.Bool.{eqb-true, eqb-false, ltb-true, ltb-false, leb-true, lt-ltb, le-leb, le-ltb, false_from_ne_true}
+use Rattle.std.proofs.lemmas.List.{length-append, length-drop, length-take, take_min, take-append-le, drop-append-le, drop_at, nil_from_length}
 use Rattle.std.proofs.KnownBytes.{Keeps-trans}
 use Rattle.std.specs.Io.KnownBytes.{Keeps, IsAtEnd, prepend_known}
 use Rattle.tc_capture.specs.declared.error.CaptureError.{CaptureError}
 use Rattle.tc_capture.specs.declared.error.CaptureError.TheVariants.{Short, MessageTooShort, NotPcap, NoByteOrder, BlockLength, BlockEnd, BodyTooShort}
 use Rattle.tc_capture.specs.declared.error.CaptureError.TheVariants.{NoInterface, TooManyInterfaces}
-use Rattle.tc_capture.specs.declared.pcap.Pcap.{Pcap as PcapFile}
+use Rattle.tc_capture.specs.declared.pcap.Variant.{Variant}
 use Rattle.tc_capture.specs.declared.pcap.Variant.TheVariants.{Microseconds, Nanoseconds, Modified}
-use Rattle.tc_capture.specs.Outcome.{Outcome, then_read}
+use Rattle.tc_capture.specs.Outcome.{Outcome, then_read, paired}
 use Rattle.tc_capture.specs.Stream.{next_in_stream}
-use Rattle.tc_capture.specs.Pcap.{pcap_header, next_in_pcap}
+use Rattle.tc_capture.specs.Pcap.{record_header_len, pcap_header, next_in_pcap}
 use Rattle.tc_capture.specs.PcapNg.{next_block, next_in_section}
-use Rattle.tc_capture.specs.Front.{Front}
+use Rattle.tc_capture.specs.declared.piece.Piece.{Piece as CodePiece}
+use Rattle.tc_capture.specs.Front.{Front, front_of}
 use Rattle.tc_capture.specs.Capture.{State, in_stream, before_header, in_pcap, in_section, next_piece}
 use Rattle.tc_capture_laws.specs.Fronts.{IsFront, IsShort, WantsMore}
 use Rattle.tc_capture_laws.specs.Pieces.{What, Piece, read, skipped, rest, passed, left_over, unread, piece_and_more, pieces_up_to, pieces_in}
@@ -29,27 +31,27 @@ use Rattle.tc_input.specs.declared.pieces.Gap.{Gap}
 use Rattle.tc_input.specs.declared.pieces.Gap.TheVariants.{More, Skipped, Broken, Cut, End}
 
 settled-stays : {X : Type 0} {o p : Outcome X} → WantsMore o ⊎ (p ≡ o) → (WantsMore o → ⊥) → p ≡ o
-settled-stays (inl wants) no = absurd (no wants)
-settled-stays (inr same) no = same
-
-take-nil : (n : ℕ) → take n ([] {A = ℕ}) ≡ []
-take-nil zero = refl
-take-nil (suc n) = refl
+settled-stays (inl wants) settled = absurd (settled wants)
+settled-stays (inr same) settled = same
 
 then-wants : {X Y : Type 0} (o : Outcome X) (f : X → Outcome Y) → WantsMore o → WantsMore (then_read o f)
 then-wants (Ok x) f wants = absurd wants
 then-wants (Err e) f wants = wants
 
 -- nothing is there to be read
-pcap-wants : (file : PcapFile) → WantsMore (next_in_pcap file [])
-unfolding next_in_pcap
-pcap-wants file = elim file.variant [ Microseconds ↦ tt | Nanoseconds ↦ tt | Modified ↦ tt ]
+first-wants : {X : Type 0} (n : ℕ) (o : Outcome X) → 0 < n → WantsMore (if nat_lt 0 n then Err (Short n 0) else o)
+first-wants n o some = subst (λ (t : Bool). WantsMore (if t then Err (Short n 0) else o)) (sym (lt-ltb 0 n some)) tt
+
+header-some : (v : Variant) → 0 < record_header_len v
+header-some Microseconds = omega arith
+header-some Nanoseconds = omega arith
+header-some Modified = omega arith
 
 nothing-wants : (s : State) → WantsMore (next_piece s [])
-unfolding next_in_stream pcap_header next_in_section next_block
+unfolding next_in_stream pcap_header next_in_pcap next_in_section next_block
 nothing-wants (in_stream time) = tt
 nothing-wants before_header = tt
-nothing-wants (in_pcap file) = then-wants (next_in_pcap file []) (λ front. Ok (front, in_pcap file)) (pcap-wants file)
+nothing-wants (in_pcap file) = then-wants (next_in_pcap file []) _ (first-wants (record_header_len file.variant) _ (header-some file.variant))
 nothing-wants (in_section section) = tt
 
 module _ (most : ℕ) where
@@ -60,8 +62,8 @@ module _ (most : ℕ) where
 
   -- the same pieces, where what comes after the first of them is the same
   module _ (n : ℕ) (bytes : List ℕ) (some : 0 < length bytes) (few : length bytes ≤ suc n) where
-    passed-same : (go on : List ℕ → List Piece) → ((after : List ℕ) → length after ≤ n → go after ≡ on after) → (needed : ℕ) (a b : Bool) → nat_lt most needed ≡ a
-        → (if a && b then passed go needed bytes else left_over (Short needed (length bytes)) bytes)
+    passed-same : (go on : List ℕ → List Piece) → ((after : List ℕ) → length after ≤ n → go after ≡ on after) → (needed : ℕ) (a b : Bool)
+        → nat_lt most needed ≡ a → (if a && b then passed go needed bytes else left_over (Short needed (length bytes)) bytes)
         ≡ (if a && b then passed on needed bytes else left_over (Short needed (length bytes)) bytes)
     passed-same go on later needed false b long = refl
     passed-same go on later needed true false long = refl
@@ -133,15 +135,17 @@ module _ (most : ℕ) where
       → next_piece s (take most (xs ++ ys)) ≡ found
   still s xs ys found is settled =
       let w = window xs ys (nat_lt (length xs) most) refl in
-      ap (next_piece s) w.1 ∙ settled-stays (next_piece-stays (take most xs) w.0 s) (λ x. settled (subst (λ (o : Outcome (Front × State)). WantsMore o) is x)) ∙ is
+      let wants : WantsMore (next_piece s (take most xs)) → ⊥ = λ x. settled (subst (λ (o : Outcome (Front × State)). WantsMore o) is x) in
+      ap (next_piece s) w.1 ∙ settled-stays (next_piece-stays (take most xs) w.0 s) wants ∙ is
 
   -- the first piece is there, and more bytes are behind it
   pub first-is : (s : State) (xs ys : List ℕ) (next : Front × State) → next_piece s (take most xs) ≡ Ok next
       → (next.0.used ≤ length xs) × (pieces_in most s (xs ++ ys)
       ≡ record { what = read next.0.packet; bytes = take next.0.used (xs ++ ys) } ∷ pieces_in most next.1 (drop next.0.used xs ++ ys))
   first-is s [] ys next is =
-      let front = front-is s (take most []) next is in
-      absurd (omega (arith, length-take most ([] {A = ℕ}), front.some, front.within))
+      let nothing : List ℕ = [] in
+      let front = front-is s (take most nothing) next is in
+      absurd (omega (arith, length-take most nothing, front.some, front.within))
   first-is s (b ∷ xs) ys next is =
       let front = front-is s (take most (b ∷ xs)) next is in
       let inside : next.0.used ≤ length (b ∷ xs) = omega (arith, length-take most (b ∷ xs), front.within) in (
@@ -153,23 +157,24 @@ module _ (most : ℕ) where
 
   -- it can't be read, whatever is behind it
   unread-broken : (go : List ℕ → List Piece) (bytes : List ℕ) (e : CaptureError) → (IsShort e → ⊥) → unread most go bytes e ≡ left_over e bytes
-  unread-broken go bytes (Short needed left) no = absurd (no tt)
-  unread-broken go bytes (MessageTooShort long) no = refl
-  unread-broken go bytes NotPcap no = refl
-  unread-broken go bytes NoByteOrder no = refl
-  unread-broken go bytes (BlockLength long) no = refl
-  unread-broken go bytes (BlockEnd long end) no = refl
-  unread-broken go bytes (BodyTooShort needed left) no = refl
-  unread-broken go bytes (NoInterface interface) no = refl
-  unread-broken go bytes TooManyInterfaces no = refl
+  unread-broken go bytes (Short needed left) other = absurd (other tt)
+  unread-broken go bytes (MessageTooShort long) other = refl
+  unread-broken go bytes NotPcap other = refl
+  unread-broken go bytes NoByteOrder other = refl
+  unread-broken go bytes (BlockLength long) other = refl
+  unread-broken go bytes (BlockEnd long end) other = refl
+  unread-broken go bytes (BodyTooShort needed left) other = refl
+  unread-broken go bytes (NoInterface interface) other = refl
+  unread-broken go bytes TooManyInterfaces other = refl
 
   pub broken-is : (s : State) (xs ys : List ℕ) (e : CaptureError) → next_piece s (take most xs) ≡ Err e → (IsShort e → ⊥)
       → pieces_in most s (xs ++ ys) ≡ left_over e (xs ++ ys)
-  broken-is s [] ys e is no =
-      absurd (no (subst (λ (o : Outcome (Front × State)). WantsMore o) (ap (next_piece s) (sym (take-nil most)) ∙ is) (nothing-wants s)))
-  broken-is s (b ∷ xs) ys e is no =
-      pieces-one s b (xs ++ ys) ∙ ap (piece_and_more most (pieces_in most) s (b ∷ (xs ++ ys))) (still s (b ∷ xs) ys (Err e) is no)
-      ∙ unread-broken (pieces_in most s) (b ∷ (xs ++ ys)) e no
+  broken-is s [] ys e is other =
+      let nothing : next_piece s [] ≡ Err e = ap (next_piece s) (sym (all-taken [] (omega arith))) ∙ is in
+      absurd (other (subst (λ (o : Outcome (Front × State)). WantsMore o) nothing (nothing-wants s)))
+  broken-is s (b ∷ xs) ys e is other =
+      pieces-one s b (xs ++ ys) ∙ ap (piece_and_more most (pieces_in most) s (b ∷ (xs ++ ys))) (still s (b ∷ xs) ys (Err e) is other)
+      ∙ unread-broken (pieces_in most s) (b ∷ (xs ++ ys)) e other
 
   -- more bytes are wanted, and all that are looked at are there
   pub wanting-is : (s : State) (xs ys : List ℕ) (needed left : ℕ) → take most (xs ++ ys) ≡ take most xs → 0 < length xs
@@ -217,10 +222,40 @@ gives_piece s bytes (Some more) next is = ap (map (λ (p : Piece). p.what)) (fir
 pub piece_inside : (s : State) (bytes : List ℕ) (next : Front × State) → next_piece s (take 1048576 bytes) ≡ Ok next → next.0.used ≤ length bytes
 piece_inside s bytes next is = (first-is 1048576 s bytes [] next is).0
 
+-- and of what is read in code
+pub read_inside : (r : Outcome CodePiece) (s t : State) (bytes : List ℕ) → paired r front_of t ≡ next_piece s (take 1048576 bytes)
+    → IfOk r (λ piece. piece.used ≤ length bytes)
+read_inside (Ok piece) s t bytes is = piece_inside s bytes (front_of piece, t) (sym is)
+read_inside (Err e) s t bytes is = tt
+
+pub read_gives : (r : Outcome CodePiece) (s t : State) (bytes : List ℕ) → paired r front_of t ≡ next_piece s (take 1048576 bytes)
+    → IfOk r (λ piece. (reader : Option (List ℕ)) → Gives (pieces_left s (prepend_known bytes reader)) (read (front_of piece).packet ∷ [])
+    (pieces_left t (prepend_known (drop piece.used bytes) reader)))
+read_gives (Ok piece) s t bytes is = λ reader. gives_piece s bytes reader (front_of piece, t) (sym is)
+read_gives (Err e) s t bytes is = tt
+
+pub not_short : (e : CaptureError) → ((needed left : ℕ) → e ≡ Short needed left → ⊥) → IsShort e → ⊥
+not_short (Short needed left) other short = other needed left refl
+not_short (MessageTooShort long) other short = short
+not_short NotPcap other short = short
+not_short NoByteOrder other short = short
+not_short (BlockLength long) other short = short
+not_short (BlockEnd long end) other short = short
+not_short (BodyTooShort needed left) other short = short
+not_short (NoInterface interface) other short = short
+not_short TooManyInterfaces other short = short
+
 pub gap_broken : (s : State) (bytes : List ℕ) (reader : Option (List ℕ)) (e : CaptureError) → next_piece s (take 1048576 bytes) ≡ Err e → (IsShort e → ⊥)
     → (fault : CaptureError) × Gives (pieces_left s (prepend_known bytes reader)) (rest fault ∷ []) (Some [])
-gap_broken s bytes None e is no = (e, tt)
-gap_broken s bytes (Some more) e is no = (e, ap (map (λ (p : Piece). p.what)) (broken-is 1048576 s bytes more e is no))
+gap_broken s bytes None e is other = (e, tt)
+gap_broken s bytes (Some more) e is other = (e, ap (map (λ (p : Piece). p.what)) (broken-is 1048576 s bytes more e is other))
+
+pub empty_is : (bytes : List ℕ) (t : Bool) → (t ≡ (length bytes == 0)) → t ≡ true → bytes ≡ []
+empty_is bytes t is empty = nil_from_length bytes (eqb-true (length bytes) 0 (sym is ∙ empty))
+
+pub not_empty : (now bytes : List ℕ) (t : Bool) → now ≡ bytes → (t ≡ (length now == 0)) → t ≡ false → 0 < length bytes
+not_empty now [] t same is other = absurd (eqb-false (length now) 0 (sym is ∙ other) (ap length same))
+not_empty now (b ∷ bytes) t same is other = omega arith
 
 pub gap_end : (s : State) (bytes : List ℕ) (reader : Option (List ℕ)) → bytes ≡ [] → IsSeen bytes reader
     → Gives (pieces_left s (prepend_known bytes reader)) [] (Some [])
@@ -247,7 +282,7 @@ gap_passed s bytes None after needed left seen some is long over = tt
 gap_passed s bytes (Some more) None needed left seen some is long over = absurd over.2
 gap_passed s bytes (Some more) (Some after) needed left seen some is long over =
     let here : needed ≤ length (bytes ++ more) = omega (arith, ap length over.2, length-append over.0 after, over.1) in
-    let gone : drop needed (bytes ++ more) ≡ after = ap (drop needed) over.2 ∙ drop_at over.0 after needed (sym over.1) in
+    let gone : drop needed (bytes ++ more) ≡ after = ap (drop needed) over.2 ∙ drop_at over.0 after needed over.1 in
     ap (map (λ (p : Piece). p.what))
     (wanting-is 1048576 s bytes more needed left (window-seen bytes more seen) some is
     ∙ passed-unread 1048576 (pieces_in 1048576 s) (bytes ++ more) needed left long here)
@@ -277,3 +312,9 @@ gap_kept (Skipped n) s before now after kept h = gives_kept s before now (skippe
 gap_kept (Broken e) s before now after kept h = (h.0, gives_kept s before now (rest h.0 ∷ []) (Some []) kept h.1)
 gap_kept (Cut e) s before now after kept h = (h.0, gives_kept s before now (rest h.0 ∷ []) (Some []) kept h.1)
 gap_kept End s before now after kept h = gives_kept s before now [] (Some []) kept h
+
+-- of an outcome, unless it fails
+pub ok_gap_kept : {E : Type 0} (r : Result Gap E) (s : State) (before now after : Option (List ℕ)) → Keeps before now
+    → IfOk r (λ gap. IsGap gap s now after) → IfOk r (λ gap. IsGap gap s before after)
+ok_gap_kept (Ok gap) s before now after kept h = gap_kept gap s before now after kept h
+ok_gap_kept (Err e) s before now after kept h = tt

@@ -12,7 +12,7 @@ pub data OnLine : Type 0 where
   nothing : OnLine
   no_hex : OnLine
   too_long : OnLine
-  bytes : List ℕ → OnLine
+  octets : List ℕ → OnLine
 
 -- a blank, a tab and a carriage return
 abbrev pub is_blank : ℕ → Bool
@@ -27,7 +27,7 @@ abbrev pub digits_of : List ℕ → List ℕ
 digits_of line = filter (λ b. not (is_blank b)) (take_while is_before_comment line)
 
 abbrev pub decoded : Result (List ℕ) FromHexError → OnLine
-decoded (Ok bs) = bytes bs
+decoded (Ok bs) = octets bs
 decoded (Err e) = no_hex
 
 abbrev pub on_digits : List ℕ → OnLine
@@ -43,4 +43,4 @@ abbrev pub seen_on_line : {A : Type 0} → CodeOnLine A → OnLine
 seen_on_line code.Nothing = nothing
 seen_on_line code.NoHex = no_hex
 seen_on_line code.TooLong = too_long
-seen_on_line (code.Bytes bs) = bytes bs.items
+seen_on_line (code.Bytes bs) = octets bs.items

@@ -1,6 +1,6 @@
 //! The input, a part at a time.
 
-ghost use Rattle.std.specs.Prelude.{◌≡◌, ◌≤◌, ◌<◌, All, ◌≢◌, drop, take, length, IfOk};
+ghost use Rattle.std.specs.Prelude.{◌≡◌, ◌+◌, ◌≤◌, ◌<◌, All, ◌≢◌, drop, take, length, IfOk};
 ghost use Rattle.std.specs.Io.KnownBytes.{Consumes, IsAtEnd};
 
 use std::alloc::{AllocError, Allocator};
@@ -28,7 +28,7 @@ pub struct Input<A: Allocator> {
     offset: u64,
     // Where a read puts its bytes.
     part: Vec<u8, A>,
-    ghost inside: { used ≤ length bytes.items },
+    ghost inside: { used + searched ≤ length bytes.items },
     ghost no_feed: { All (λ b. b ≢ 10) (take searched (drop used bytes.items)) },
     ghost room: { 0 < length part.items },
 }
@@ -79,6 +79,14 @@ impl<A: Allocator + Copy> Input<A> {
         self.used = self.used.saturating_add(count).min(self.bytes.len());
     }
 
+    /// All that was read is used.
+    pub fn use_all(&mut self)
+        ensures { rest_of self.new ≡ [] }
+    {
+        let all = self.rest().len();
+        self.use_up(all);
+    }
+
     // Moves the rest to the front.
     fn forget(&mut self)
         ensures { rest_of self.new ≡ rest_of self.old }
@@ -113,12 +121,13 @@ impl<A: Allocator + Copy> Input<A> {
     {
         let mut left = count;
         'parts: for _ in 0..u64::MAX {
-            let here = self.rest().len().min(left);
-            self.use_up(here);
-            left -= here;
-            if left == 0 {
+            let here = self.rest().len();
+            if left <= here {
+                self.use_up(left);
                 return Ok(true);
             }
+            self.use_all();
+            left -= here;
             if !self.more(reader)? {
                 return Ok(false);
             }

@@ -1,6 +1,6 @@
 //! Lines of text.
 
-ghost use Rattle.std.specs.Prelude.{MatchOption};
+ghost use Rattle.std.specs.Prelude.{◌<◌, length, MatchOption, IfSome};
 ghost use Rattle.tc_input.specs.Lines.{HasNoFeed, EndsLine};
 
 use crate::input::{Input, MOST_PIECE};
@@ -25,7 +25,8 @@ pub enum LineGap {
 // Where the first line feed is.
 #[tactic(auto, using(crate::proofs::LineSteps::feed_at, crate::proofs::LineSteps::no_feed_more, crate::proofs::LineSteps::no_feed_all))]
 fn feed_in(bytes: &[u8]) -> Option<usize>
-    ensures { MatchOption result (HasNoFeed bytes.now) (EndsLine bytes.now) }
+    ensures found { MatchOption result (HasNoFeed bytes.now) (EndsLine bytes.now) }
+    ensures inside { IfSome result (λ place. place < length bytes.now) }
 {
     'bytes: for place in 0..bytes.len() {
         if bytes[place] == b'\n' {
@@ -42,19 +43,17 @@ impl<A: Allocator + Copy> Input<A> {
     ghost use Rattle.tc_input.specs.Lines.{HasNoFeed, EndsLine, PassesLine, IsLineGap, lines_left, most_line};
 
     /// Where the first line ends in what was read.
-    #[tactic(auto, using(crate::proofs::LineSteps::feed_behind, crate::proofs::LineSteps::no_feed_both, crate::proofs::LineSteps::ends_line, crate::proofs::LineSteps::ends_inside))]
     pub fn line_end(&mut self) -> Option<usize>
         ensures same { rest_of self.new ≡ rest_of self.old }
-        ensures inside { IfSome result (λ end. end < length (rest_of self.old)) }
+        ensures inside { IfSome result (λ end. end < length (rest_of self.new)) }
         ensures ends { IfSome result (EndsLine (rest_of self.old)) }
-        ensures line { IfSome result (λ end. (reader : Option (List ℕ)) → Gives (lines_left (left_of self.old reader)) (take end (rest_of self.old) ∷ [])
-            (lines_left (prepend_known (drop (end + 1) (rest_of self.old)) reader))) }
+        ensures line { IfSome result (λ end. (reader : Option (List ℕ)) → Gives (lines_left (left_of self.old reader)) (take end (rest_of self.new) ∷ [])
+            (lines_left (prepend_known (drop (end + 1) (rest_of self.new)) reader))) }
         ensures none { IsNone result → HasNoFeed (rest_of self.old) }
     {
-        let searched = self.searched.min(self.rest().len());
-        let (_, after) = self.rest().split_at(searched);
+        let (_, after) = self.rest().split_at(self.searched);
         match feed_in(after) {
-            Some(place) => Some(searched + place),
+            Some(place) => Some(self.searched + place),
             None => {
                 self.searched = self.rest().len();
                 None
@@ -62,10 +61,19 @@ impl<A: Allocator + Copy> Input<A> {
         }
     }
 
+    /// The line is used that ends there, and the line feed.
+    pub fn use_line(&mut self, end: usize)
+        requires { end < length (rest_of self.old) }
+        ensures { rest_of self.new ≡ drop (end + 1) (rest_of self.old) }
+    {
+        self.use_up(end + 1);
+    }
+
     /// Reads more of a text where no line ends in what was read, or passes over a line that is too long.
     pub fn read_line<R: Read>(&mut self, reader: &mut R) -> Result<LineGap, Stop>
         requires { HasNoFeed (rest_of self.old) }
-        ensures { IfOk result (λ gap. IsLineGap gap (rest_of self.new) (left_of self.old (R.remaining reader.old)) (left_of self.new (R.remaining reader.new))) }
+        ensures { IfOk result (λ gap. IsLineGap gap (rest_of self.new) (left_of self.old (R.remaining reader.old))
+            (left_of self.new (R.remaining reader.new))) }
     {
         if self.rest().len() > MOST_LINE {
             return self.pass_over_line(reader);
@@ -80,7 +88,8 @@ impl<A: Allocator + Copy> Input<A> {
     fn pass_over_line<R: Read>(&mut self, reader: &mut R) -> Result<LineGap, Stop>
         requires none { HasNoFeed (rest_of self.old) }
         requires long { most_line < length (rest_of self.old) }
-        ensures { IfOk result (λ gap. IsLineGap gap (rest_of self.new) (left_of self.old (R.remaining reader.old)) (left_of self.new (R.remaining reader.new))) }
+        ensures { IfOk result (λ gap. IsLineGap gap (rest_of self.new) (left_of self.old (R.remaining reader.old))
+            (left_of self.new (R.remaining reader.new))) }
     {
         let at = self.offset();
         let goes_on = self.skip_line(reader)?;
@@ -110,13 +119,5 @@ impl<A: Allocator + Copy> Input<A> {
             }
         }
         Err(Stop::Read)
-    }
-
-    // All that was read is used.
-    fn use_all(&mut self)
-        ensures { rest_of self.new ≡ [] }
-    {
-        let all = self.rest().len();
-        self.use_up(all);
     }
 }

@@ -34,7 +34,10 @@ pub enum Gap {
 fn front_of_rest(bytes: &[u8]) -> &[u8]
     ensures { result.now ≡ take 1048576 bytes.now }
 {
-    bytes.split_at(bytes.len().min(MOST_PIECE)).0
+    if bytes.len() <= MOST_PIECE {
+        return bytes;
+    }
+    bytes.split_at(MOST_PIECE).0
 }
 
 /// The piece at the front of what was read of a capture.
@@ -63,31 +66,45 @@ pub fn read_on<A: Allocator + Copy, R: Read>(
     requires { next_piece (state_of capture.now) (take 1048576 (rest_of input.old)) ≡ Err fault }
     ensures { IfOk result (λ gap. IsGap gap (state_of capture.now) (left_of input.old (R.remaining reader.old)) (left_of input.new (R.remaining reader.new))) }
 {
-    let CaptureError::Short { needed, .. } = fault else {
-        return Ok(Gap::Broken(fault));
-    };
+    match fault {
+        CaptureError::Short { needed, left } => read_more(capture, input, needed, left, reader),
+        _ => Ok(Gap::Broken(fault)),
+    }
+}
+
+// The same where so many bytes are wanted, and so many are there.
+fn read_more<A: Allocator + Copy, R: Read>(
+    capture: &Capture,
+    input: &mut Input<A>,
+    needed: usize,
+    left: usize,
+    reader: &mut R,
+) -> Result<Gap, Stop>
+    requires { next_piece (state_of capture.now) (take 1048576 (rest_of input.old)) ≡ Err (Short needed left) }
+    ensures { IfOk result (λ gap. IsGap gap (state_of capture.now) (left_of input.old (R.remaining reader.old)) (left_of input.new (R.remaining reader.new))) }
+{
     if input.rest().len() >= MOST_PIECE {
-        return pass_over(capture, input, needed, reader);
+        return pass_over(capture, input, needed, left, reader);
     }
     if input.more(reader)? {
         return Ok(Gap::More);
     }
-    pass_over(capture, input, needed, reader)
+    pass_over(capture, input, needed, left, reader)
 }
 
-// Passes over a piece that is too long, or says how the capture ends, where no more is to be read of what is at its front.
+// Passes over a piece that is too long, or says how the capture ends, where no more is read of what is at its front.
 fn pass_over<A: Allocator + Copy, R: Read>(
     capture: &Capture,
     input: &mut Input<A>,
     needed: usize,
+    left: usize,
     reader: &mut R,
 ) -> Result<Gap, Stop>
-    requires short { (left : ℕ) × (next_piece (state_of capture.now) (take 1048576 (rest_of input.old)) ≡ Err (Short needed left)) }
+    requires short { next_piece (state_of capture.now) (take 1048576 (rest_of input.old)) ≡ Err (Short needed left) }
     requires seen { IsSeen (rest_of input.old) (R.remaining reader.old) }
     ensures { IfOk result (λ gap. IsGap gap (state_of capture.now) (left_of input.old (R.remaining reader.old)) (left_of input.new (R.remaining reader.new))) }
 {
-    let left = input.rest().len();
-    if left == 0 {
+    if input.rest().is_empty() {
         return Ok(Gap::End);
     }
     if needed <= MOST_PIECE {

@@ -42,7 +42,7 @@ pub fn on_line<A: Allocator + Copy>(alloc: A, line: &[u8]) -> Result<OnLine<A>, 
 fn digits_in<A: Allocator>(alloc: A, line: &[u8]) -> Result<Vec<u8, A>, AllocError>
     ensures { IfOk result (λ digits. digits.items ≡ digits_of line.now) }
 {
-    let mut digits = before_comment(line).to_vec(alloc)?;
+    let mut digits = Vec::from_slice(alloc, before_comment(line))?;
     digits.retain(|byte| !is_blank(*byte));
     Ok(digits)
 }
@@ -54,7 +54,6 @@ fn is_blank(byte: u8) -> bool
 }
 
 // What comes before the comment.
-#[tactic(auto, using(crate::proofs::Comments::before_is_all, crate::proofs::Comments::before_is_front, crate::proofs::Comments::no_sign_more))]
 fn before_comment(line: &[u8]) -> &[u8]
     ensures { result.now ≡ take_while is_before_comment line.now }
 {

@@ -1,17 +1,18 @@
 -- What is found in an input, in its order.
-use Rattle.std.proofs.Common.{◌≡◌, ◌∙◌, ℕ, Bool, true, false, List, [], ◌∷◌, ◌++◌, take, refl, sym, ap, subst, append_assoc, append-nil}
+use Rattle.std.proofs.Common.{◌≡◌, ◌∙◌, ◌<◌, ℕ, Bool, true, false, List, [], ◌∷◌, ◌++◌, length, take, refl, sym, ap, subst, append_assoc, append-nil}
 use Rattle.std.specs.Prelude.{Option, Some, None, IfSome, if◌then◌else◌}
+use Rattle.std.proofs.lemmas.Bool.{lt-ltb}
 use Rattle.std.specs.Io.KnownBytes.{Keeps, prepend_known}
 use Rattle.tc_capture.specs.declared.kind.Holds.{Holds}
 use Rattle.tc_capture.specs.Capture.{State, capture_at}
 use Rattle.tc_capture_laws.specs.Pieces.{What, skipped, rest}
-use Rattle.tc_input.specs.declared.lines.LineGap.TheVariants as gap
+use Rattle.tc_input.specs.declared.lines.LineGap.TheVariants as line_gap
 use Rattle.tc_input.specs.declared.pieces.Gap.{Gap}
 use Rattle.tc_input.specs.declared.pieces.Gap.TheVariants.{More, Skipped, Broken, Cut, End}
 use Rattle.tc_input.specs.Left.{Gives}
-use Rattle.tc_input.specs.Lines.{most_line, lines_left, lines_of}
+use Rattle.tc_input.specs.Lines.{most_line, lines_left, lines_of, IsLineGap}
 use Rattle.tc_input.specs.Pieces.{found_in, pieces_left, IsGap}
-use Rattle.tc_input.specs.Text.{on_line}
+use Rattle.tc_input.specs.Text.{OnLine, too_long, digits_of, on_digits, on_line}
 use Rattle.tcshow_lib.specs.Found.{Thing, hole}
 use Rattle.tcshow_lib.specs.Reading.{things_in_piece, packets_after, things_in_pieces, things_in_gap, is_passed, things_said, things_on_lines, is_hex_text}
 use Rattle.tcshow_lib.specs.Reading.{things_by, things_in_file, AreIn, Begins, capture_left, text_left, GivesUpTo}
@@ -77,6 +78,12 @@ line_gives header line (Some b) now gone None h used = absurd h
 line_gives header line (Some b) now gone (Some r) h used =
     ap (things_on_lines header) h ∙ ap (λ l. things_said header (on_line line) ++ things_on_lines header (lines_of (l ++ r))) (sym used)
 
+pub first_gives : (header : Option Holds) (line : List ℕ) (before after : Option (List ℕ)) → Gives (lines_left before) (line ∷ []) (lines_left after)
+    → Gives (text_left header before) (things_said header (on_line line)) (text_left header after)
+first_gives header line None after h = tt
+first_gives header line (Some b) None h = absurd h
+first_gives header line (Some b) (Some a) h = ap (things_on_lines header) h
+
 pub text_kept : (header : Option Holds) (before after : Option (List ℕ)) → Keeps before after → Gives (text_left header before) [] (text_left header after)
 text_kept header None after kept = tt
 text_kept header (Some x) None kept = absurd kept
@@ -86,6 +93,23 @@ pub last_gives : (header : Option Holds) (line : List ℕ) (before : Option (Lis
     → Gives (text_left header before) (things_said header (on_line line)) (Some [])
 last_gives header line None h = tt
 last_gives header line (Some b) h = ap (things_on_lines header) h
+
+-- a line that is too long
+said-long : (line : List ℕ) → most_line < length line → on_line line ≡ too_long
+said-long line long = ap (λ (t : Bool). if t then too_long else on_digits (digits_of line)) (lt-ltb most_line (length line) long)
+
+pub long_gives : (header : Option Holds) (n : ℕ) (on : Bool) (now : List ℕ) (before after : Option (List ℕ)) → IsLineGap (line_gap.Long n on) now before after
+    → GivesUpTo on (text_left header before) (hole false ∷ []) (text_left header after)
+long_gives header n true now before after h =
+    subst (λ (said : OnLine). Gives (text_left header before) (things_said header said) (text_left header after)) (said-long h.0 h.1)
+    (first_gives header h.0 before after h.2)
+long_gives header n false now before after h =
+    subst (λ (said : OnLine). Gives (text_left header before) (things_said header said) (Some [])) (said-long h.0 h.1) (last_gives header h.0 before h.2)
+
+-- the header that lines have stays
+pub same_header : (h k : Option Holds) (on : Bool) (xs : List Thing) (before after : Option (List ℕ)) → h ≡ k
+    → GivesUpTo on (text_left h before) xs (text_left h after) → GivesUpTo on (text_left k before) xs (text_left k after)
+same_header h k on xs before after same given = subst (λ (j : Option Holds). GivesUpTo on (text_left j before) xs (text_left j after)) same given
 
 -- ---- of an input
 

@@ -13,7 +13,7 @@ use Rattle.tc_input.specs.declared.pieces.Gap.TheVariants.{More, Skipped, Broken
 use Rattle.tc_input.specs.Left.{Gives}
 use Rattle.tc_input.specs.Lines.{lines_of, lines_left}
 use Rattle.tc_input.specs.Pieces.{found_in, pieces_left}
-use Rattle.tc_input.specs.Text.{OnLine, nothing, no_hex, too_long, bytes, on_line}
+use Rattle.tc_input.specs.Text.{OnLine, nothing, no_hex, too_long, octets, on_line}
 use Rattle.tcshow_lib.specs.Found.{Thing, hole, things_of, things_on_line}
 
 -- ---- of a capture
@@ -74,7 +74,7 @@ abbrev pub things_said : Option Holds → OnLine → List Thing
 things_said header nothing = []
 things_said header no_hex = hole true ∷ []
 things_said header too_long = hole false ∷ []
-things_said header (bytes bs) = things_on_line header bs
+things_said header (octets bs) = things_on_line header bs
 
 abbrev pub things_on_lines : Option Holds → List (List ℕ) → List Thing
 things_on_lines header lines = flat_map (λ (line : List ℕ). things_said header (on_line line)) lines

@@ -58,7 +58,7 @@ fn show_piece<A: Allocator + Copy, R: Read, W: Write>(
     ensures ran { IfOk result (λ goes_on. (things : List Thing)
         × Progress things (W.contents writer.old) (W.contents writer.new) (state_of shower.old) (state_of shower.new)
         × GivesUpTo goes_on (capture_left packets.old.count (place_of capture.old) (left_of input.old (R.remaining reader.old))) things
-            (capture_left packets.new.count (place_of capture.new) (left_of input.new (R.remaining reader.new)))) }
+        (capture_left packets.new.count (place_of capture.new) (left_of input.new (R.remaining reader.new)))) }
 {
     let at = input.offset();
     match next_piece(capture, input) {
@@ -90,7 +90,7 @@ fn goes_on<A: Allocator + Copy, R: Read, W: Write>(
     ensures ran { IfOk result (λ goes_on. (things : List Thing)
         × Progress things (W.contents writer.old) (W.contents writer.new) (state_of shower.old) (state_of shower.new)
         × ((n : ℕ) → GivesUpTo goes_on (capture_left n (place_of capture.now) (left_of input.old (R.remaining reader.old))) things
-            (capture_left n (place_of capture.now) (left_of input.new (R.remaining reader.new))))) }
+        (capture_left n (place_of capture.now) (left_of input.new (R.remaining reader.new))))) }
 {
     let at = input.offset();
     shower.write(writer)?;

@@ -24,6 +24,5 @@ mod pages;
 pub mod program;
 pub mod run;
 mod shower;
-mod shows;
 pub mod status;
 mod summary;

@@ -74,12 +74,12 @@ fn show_line<A: Allocator + Copy, R: Read, W: Write>(
     ensures ran { IfOk result (λ goes_on. (things : List Thing)
         × Progress things (W.contents writer.old) (W.contents writer.new) (state_of shower.old) (state_of shower.new)
         × GivesUpTo goes_on (text_left (state_of shower.old).header (left_of input.old (R.remaining reader.old))) things
-            (text_left (state_of shower.old).header (left_of input.new (R.remaining reader.new)))) }
+        (text_left (state_of shower.old).header (left_of input.new (R.remaining reader.new)))) }
 {
     match input.line_end() {
         Some(end) => {
             put_front(shower, input, end)?;
-            input.use_up(end.saturating_add(1));
+            input.use_line(end);
             shower.write_much(writer)?;
             Ok(true)
         }
@@ -101,19 +101,19 @@ fn more_of_line<A: Allocator + Copy, R: Read, W: Write>(
     ensures ran { IfOk result (λ goes_on. (things : List Thing)
         × Progress things (W.contents writer.old) (W.contents writer.new) (state_of shower.old) (state_of shower.new)
         × GivesUpTo goes_on (text_left (state_of shower.old).header (left_of input.old (R.remaining reader.old))) things
-            (text_left (state_of shower.old).header (left_of input.new (R.remaining reader.new)))) }
+        (text_left (state_of shower.old).header (left_of input.new (R.remaining reader.new)))) }
 {
     let at = input.offset();
     shower.write(writer)?;
-    match input.read_line(reader)? {
+    let gap = input.read_line(reader)?;
+    match gap {
         LineGap::More => Ok(true),
         LineGap::Long(length, goes_on) => {
             shower.put_hole(Notice::Skipped(length), at)?;
             Ok(goes_on)
         }
         LineGap::Last => {
-            let len = input.rest().len();
-            put_front(shower, input, len)?;
+            shower.put_text(input.rest(), input.offset())?;
             Ok(false)
         }
     }

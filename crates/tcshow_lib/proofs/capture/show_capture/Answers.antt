@@ -28,8 +28,7 @@ loop-init g c = record { form = refl; clean = λ _. clean_none _; ran = ([], pro
 pub returns-then-not-goes_on-clause-ran : goal.returns-then-not-goes_on-clause-ran
 returns-then-not-goes_on-clause-ran g c =
     let before = c.loop.invariant.ran in
-    let next = c.in_ok-goes_on.ensures.ran in
-    (
+    let next = c.in_ok-goes_on.ensures.ran in (
       before.0 ++ next.0,
       progress_then before.0 next.0 _ _ _ _ _ _ before.1 next.1,
       gives_then before.0 next.0 _ _ _ before.2 (subst (λ on. GivesUpTo on _ next.0 _) c.if-not-goes_on.true next.2),

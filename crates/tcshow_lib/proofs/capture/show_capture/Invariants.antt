@@ -14,5 +14,5 @@ invariant-loop g l = record {
   clean : l.fn.shower.output.is_json ≡ false → GrowsClean (g.W.Write.contents l.fn.writer) (g.W.Write.contents l.writer);
   ran : (things : List Thing) × Progress things (g.W.Write.contents l.fn.writer) (g.W.Write.contents l.writer) (state_of l.fn.shower) (state_of l.shower)
       × Gives (capture_left l.fn.packets.count (place_of l.fn.capture) (left_of l.fn.input (g.R.Read.remaining l.fn.reader))) things
-        (capture_left l.packets.count (place_of l.capture) (left_of l.input (g.R.Read.remaining l.reader)));
+      (capture_left l.packets.count (place_of l.capture) (left_of l.input (g.R.Read.remaining l.reader)));
 }

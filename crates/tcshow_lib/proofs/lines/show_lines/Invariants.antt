@@ -13,5 +13,5 @@ invariant-loop g l = record {
   clean : l.fn.shower.output.is_json ≡ false → GrowsClean (g.W.Write.contents l.fn.writer) (g.W.Write.contents l.writer);
   ran : (things : List Thing) × Progress things (g.W.Write.contents l.fn.writer) (g.W.Write.contents l.writer) (state_of l.fn.shower) (state_of l.shower)
       × Gives (text_left (state_of l.fn.shower).header (left_of l.fn.input (g.R.Read.remaining l.fn.reader))) things
-        (text_left (state_of l.fn.shower).header (left_of l.input (g.R.Read.remaining l.reader)));
+      (text_left (state_of l.fn.shower).header (left_of l.input (g.R.Read.remaining l.reader)));
 }

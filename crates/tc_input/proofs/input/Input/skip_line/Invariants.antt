@@ -1,7 +1,7 @@
 use Rattle.std.proofs.Common.{◌≡◌, [], length}
 use Rattle.tc_input.specs.Left.{rest_of, left_of}
 use Rattle.tc_input.proofs.LineSteps.{InLine}
-use Rattle.tc_input.proofs.lines.Input.skip_line.Given as goal
+use Rattle.tc_input.proofs.input.Input.skip_line.Given as goal
 
 -- all that was read is of the line, and used
 abbrev pub invariant-parts : goal.invariant-parts
