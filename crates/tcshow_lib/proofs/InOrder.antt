@@ -68,6 +68,11 @@ module _ (n : ℕ) (s : State) where
   gap_gives (Cut e) before after h = rest_gives before (rest h.0 ∷ []) h.1
   gap_gives End before after h = rest_gives before [] h
 
+-- the place of a capture stays
+pub same_place : (n : ℕ) (s t : State) (on : Bool) (xs : List Thing) (before : Option (List ℕ)) (after : Option (List Thing)) → s ≡ t
+    → GivesUpTo on (capture_left n s before) xs after → GivesUpTo on (capture_left n t before) xs after
+same_place n s t on xs before after same given = subst (λ (k : State). GivesUpTo on (capture_left n k before) xs after) same given
+
 -- ---- of lines of hex
 
 pub line_gives : (header : Option Holds) (line : List ℕ) (before : Option (List ℕ)) (now gone : List ℕ) (reader : Option (List ℕ))

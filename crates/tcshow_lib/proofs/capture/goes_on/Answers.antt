@@ -4,8 +4,8 @@ use Rattle.tcshow_lib.proofs.InOrder.{gap_gives}
 use Rattle.tcshow_lib.proofs.Progress.{progress_more}
 use Rattle.tcshow_lib.proofs.capture.goes_on.Goals as goal
 
-pub returns-in_ok-put_gap-clause-ran : goal.returns-in_ok-put_gap-clause-ran
-returns-in_ok-put_gap-clause-ran g c =
+pub returns-clause-ran : goal.returns-clause-ran
+returns-clause-ran g c =
     let gap = c.in_ok-gap.gap in (
       things_in_gap gap,
       progress_more (things_in_gap gap) _ _ _ _ _ c.in_ok-write.ensures.ran c.in_ok-put_gap.ensures.put,

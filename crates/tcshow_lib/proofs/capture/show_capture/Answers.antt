@@ -6,15 +6,15 @@ use Rattle.tcshow_lib.proofs.Progress.{progress_none, progress_then}
 use Rattle.tcshow_lib.proofs.capture.show_capture.Goals as goal
 
 pub returns-in_err-goes_on-clause-clean : goal.returns-in_err-goes_on-clause-clean
-returns-in_err-goes_on-clause-clean g c = clean_step _ _ _ _ _ c.loop.invariant.clean c.loop.invariant.form c.show_piece-goes_on.ensures.clean
+returns-in_err-goes_on-clause-clean g c = clean_step _ _ _ _ _ c.loop.invariant.clean c.loop.invariant.form c.show_piece.ensures.clean
 
 pub loop-preserved : goal.loop-preserved
 loop-preserved g c =
     let before = c.loop.invariant.ran in
     let next = c.in_ok-goes_on.ensures.ran in
     record {
-      form = c.show_piece-goes_on.ensures.form ∙ c.loop.invariant.form;
-      clean = clean_step _ _ _ _ _ c.loop.invariant.clean c.loop.invariant.form c.show_piece-goes_on.ensures.clean;
+      form = c.show_piece.ensures.form ∙ c.loop.invariant.form;
+      clean = clean_step _ _ _ _ _ c.loop.invariant.clean c.loop.invariant.form c.show_piece.ensures.clean;
       ran = (
         before.0 ++ next.0,
         progress_then before.0 next.0 _ _ _ _ _ _ before.1 next.1,
@@ -35,4 +35,4 @@ returns-then-not-goes_on-clause-ran g c =
     )
 
 pub returns-then-not-goes_on-clause-clean : goal.returns-then-not-goes_on-clause-clean
-returns-then-not-goes_on-clause-clean g c = clean_step _ _ _ _ _ c.loop.invariant.clean c.loop.invariant.form c.show_piece-goes_on.ensures.clean
+returns-then-not-goes_on-clause-clean g c = clean_step _ _ _ _ _ c.loop.invariant.clean c.loop.invariant.form c.show_piece.ensures.clean

@@ -26,12 +26,12 @@ returns-in_ok-put_hole-in-Long-clause-ran g c =
 pub returns-in_ok-put_text-in-Last-clause-ran : goal.returns-in_ok-put_text-in-Last-clause-ran
 returns-in_ok-put_text-in-Last-clause-ran g c =
     let gap = subst (λ gap. IsLineGap gap _ _ _) c.in-Last.is c.in_ok-gap.ensures in
-    let line = c.rest-in-Last.result.now in
+    let line = c.rest.result.now in
     let header = (state_of c.args.shower.now).header in
     let put =
-    subst (λ h. Puts (things_said h (on_line line)) (state_of c.write.new.shower) (state_of c.put_text-in-Last.new.self)) c.in_ok-write.ensures.ran.header
+    subst (λ h. Puts (things_said h (on_line line)) (state_of c.write.new.self) (state_of c.put_text.new.self)) c.in_ok-write.ensures.ran.header
     c.in_ok-put_text-in-Last.ensures.put in (
       things_said header (on_line line),
       progress_more (things_said header (on_line line)) _ _ _ _ _ c.in_ok-write.ensures.ran put,
-      last_gives header line _ (subst (λ l. Gives (lines_left _) (l ∷ []) (Some [])) (sym c.rest-in-Last.ensures) gap),
+      last_gives header line _ (subst (λ l. Gives (lines_left _) (l ∷ []) (Some [])) (sym c.rest.ensures) gap),
     )

@@ -13,5 +13,5 @@ returns-in_ok-write_much-in-Some-clause-ran g c =
     let line = take c.in-Some.end (rest_of c.line_end.new.self) in (
       things_said header (on_line line),
       puts_progress _ _ _ _ _ _ c.in_ok-put_front-in-Some.ensures.put c.in_ok-write_much-in-Some.ensures.ran,
-      line_gives header line _ _ _ _ (c.in-Some.ensures.line _) c.use_line-in-Some.ensures,
+      line_gives header line _ _ _ _ (c.in-Some.ensures.line _) c.use_line.ensures,
     )

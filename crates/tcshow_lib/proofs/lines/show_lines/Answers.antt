@@ -6,7 +6,7 @@ use Rattle.tcshow_lib.proofs.Progress.{progress_none, progress_then}
 use Rattle.tcshow_lib.proofs.lines.show_lines.Goals as goal
 
 pub returns-in_err-goes_on-clause-clean : goal.returns-in_err-goes_on-clause-clean
-returns-in_err-goes_on-clause-clean g c = clean_step _ _ _ _ _ c.loop.invariant.clean c.loop.invariant.form c.show_line-goes_on.ensures.clean
+returns-in_err-goes_on-clause-clean g c = clean_step _ _ _ _ _ c.loop.invariant.clean c.loop.invariant.form c.show_line.ensures.clean
 
 pub loop-preserved : goal.loop-preserved
 loop-preserved g c =
@@ -14,8 +14,8 @@ loop-preserved g c =
     let next = c.in_ok-goes_on.ensures.ran in
     let given = same_header _ _ _ next.0 _ _ before.1.header next.2 in
     record {
-      form = c.show_line-goes_on.ensures.form ∙ c.loop.invariant.form;
-      clean = clean_step _ _ _ _ _ c.loop.invariant.clean c.loop.invariant.form c.show_line-goes_on.ensures.clean;
+      form = c.show_line.ensures.form ∙ c.loop.invariant.form;
+      clean = clean_step _ _ _ _ _ c.loop.invariant.clean c.loop.invariant.form c.show_line.ensures.clean;
       ran = (
         before.0 ++ next.0,
         progress_then before.0 next.0 _ _ _ _ _ _ before.1 next.1,
@@ -36,4 +36,4 @@ returns-then-not-goes_on-clause-ran g c =
     )
 
 pub returns-then-not-goes_on-clause-clean : goal.returns-then-not-goes_on-clause-clean
-returns-then-not-goes_on-clause-clean g c = clean_step _ _ _ _ _ c.loop.invariant.clean c.loop.invariant.form c.show_line-goes_on.ensures.clean
+returns-then-not-goes_on-clause-clean g c = clean_step _ _ _ _ _ c.loop.invariant.clean c.loop.invariant.form c.show_line.ensures.clean
