@@ -19,6 +19,7 @@ pub mod pcapng;
 pub mod piece;
 pub mod stream;
 pub mod time;
+pub mod written;
 
 pub use answer::{Answer, answer_in};
 pub use capture::Capture;
@@ -30,3 +31,4 @@ pub use messages::Messages;
 pub use packet::{Contents, Link, Packet};
 pub use piece::Piece;
 pub use time::Time;
+pub use written::CAPTURE;

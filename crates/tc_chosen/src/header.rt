@@ -1,7 +1,8 @@
 //! What the header of a traffic control message says.
 
 ghost use Rattle.std.specs.Prelude.{◌≡◌, ◌≤◌};
-ghost use Rattle.tc_chosen.specs.Header.{number_at, interface_in, handle_in, parent_in, may_be_filter, may_be_chain, priority_in, chain_from, chain_of, chain_in};
+ghost use Rattle.tc_chosen.specs.Header.{number_at, interface_in, handle_in, parent_in, may_be_filter};
+ghost use Rattle.tc_chosen.specs.Header.{may_be_chain, priority_in, chain_from, chain_of, chain_in};
 ghost use Rattle.tc_chosen.specs.Kinds.{frames_in};
 
 use crate::kinds::behind;

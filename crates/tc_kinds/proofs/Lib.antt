@@ -1,0 +1,3 @@
+pub mod Apart
+pub mod EachPart
+pub mod Records

@@ -19,4 +19,9 @@ impl Tables for TcTables {
     fn part(self, place: usize) -> Part<'static> {
         parts::tc_tables(place)
     }
+
+    #[tactic(auto, using(crate::proofs::Apart::names_are_apart))]
+    fn names_apart(self, _place: usize) -> bool {
+        true
+    }
 }

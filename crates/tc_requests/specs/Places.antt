@@ -1,5 +1,5 @@
 -- The places of actions in their lists.
-use Rattle.std.specs.Prelude.{ℕ, Bool, ◌==◌, List, [], ◌∷◌, map, Option, Some, None, if◌then◌else◌}
+use Rattle.std.specs.Prelude.{ℕ, Bool, ◌==◌, List, [], ◌∷◌, map, Option, Some, None, is_some, if◌then◌else◌}
 use Rattle.std.specs.List.{list_any}
 use Rattle.tc_actions.specs.declared.actions.action.TcAction.{TcAction}
 use Rattle.tc_flower.specs.declared.filters.flower.options.TcFilterFlowerOption.TheVariants as flower
@@ -24,11 +24,7 @@ actions_of (U32 (u32.Action actions)) = actions.items
 actions_of (MatchAll (matchall.Action actions)) = actions.items
 actions_of option = []
 
-abbrev pub or_else : {X : Type 0} → Option X → Option X → Option X
-or_else (Some x) other = Some x
-or_else None other = other
-
 -- the same of the first option that has such actions
 abbrev pub doubled_in : {A : Type 0} → List (TcOption A) → Option ℕ
 doubled_in [] = None
-doubled_in (option ∷ options) = or_else (doubled (actions_of option)) (doubled_in options)
+doubled_in (option ∷ options) = if is_some (doubled (actions_of option)) then doubled (actions_of option) else doubled_in options

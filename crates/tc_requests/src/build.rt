@@ -292,9 +292,28 @@ pub fn action_message<A: Allocator + Copy>(
     ensures named { IfErr result
         (NamesOf ((table_codec an_action).Settled []) (map tc_action actions.items) (doubled actions.items)) }
 {
-    if let Some(place) = first_unsettled(&actions, "") {
-        return Err(RequestError::NotSettled { place });
+    match first_unsettled(&actions, "") {
+        Some(place) => Err(RequestError::NotSettled { place }),
+        None => message_apart(alloc, actions),
     }
+}
+
+// A message of settled actions, whose places are to differ.
+fn message_apart<A: Allocator + Copy>(
+    alloc: A,
+    actions: Vec<TcAction<A>, A>,
+) -> Result<TcActionMessage<A>, RequestError>
+    requires { AllByRecursion ((table_codec an_action).Settled []) (map tc_action actions.items) }
+    ensures header { IfOk result (λ m. m.header.family ≡ Unspec) }
+    ensures attributes { IfOk result (λ m. map action_message_attribute m.attributes.items
+        ≡ known 1 (items (attributes_of (map tc_action actions.items))) ∷ []) }
+    ensures settled { IfOk result (λ m. SettledAct (action_message m)) }
+    ensures canonical { IfOk result (λ m.
+        FitsAct (action_message m) → CanonAct (act_bytes (action_message m))) }
+    ensures apart { IfOk result (λ _. doubled actions.items ≡ None) }
+    ensures named { IfErr result
+        (NamesOf ((table_codec an_action).Settled []) (map tc_action actions.items) (doubled actions.items)) }
+{
     match doubled(&actions) {
         Some(place) => Err(RequestError::SamePlace(place)),
         None => message_of_actions(alloc, actions),

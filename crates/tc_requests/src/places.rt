@@ -32,8 +32,9 @@ pub(crate) fn doubled_in<A: Allocator>(options: &[TcOption<A>]) -> Option<u16>
     ensures { result ≡ doubled_in options.now }
 {
     for option in options {
-        if let Some(place) = doubled_of(option) {
-            return Some(place);
+        let place = doubled_of(option);
+        if place.is_some() {
+            return place;
         }
     }
     None

@@ -89,13 +89,17 @@ fn attribute_says<A: Allocator>(asked: Asked, kind: &str, attribute: &TcActionAt
     ensures { result ≡ attribute_says asked kind.now attribute.now }
 {
     match attribute {
-        TcActionAttribute::Options(options) => {
-            options
-                .iter()
-                .any(|option| option_says(asked, kind, option))
-        }
+        TcActionAttribute::Options(options) => any_option_says(asked, kind, options),
         _ => false,
     }
+}
+
+fn any_option_says<A: Allocator>(asked: Asked, kind: &str, options: &[TcActionOption<A>]) -> bool
+    ensures { result ≡ list_any (option_says asked kind.now) options.now }
+{
+    options
+        .iter()
+        .any(|option| option_says(asked, kind, option))
 }
 
 fn option_says<A: Allocator>(asked: Asked, kind: &str, option: &TcActionOption<A>) -> bool

@@ -1,5 +1,6 @@
 -- The days of the calendar, from the first of January 1970 on.
-use Rattle.std.specs.Prelude.{ℕ, zero, suc, ◌+◌, ◌-◌, ◌%◌, ◌==◌, ◌&&◌, ◌||◌, Bool, List, [], ◌∷◌, take, sum, slice_index, not, Option, Some, None, nat_le, nat_lt, if◌then◌else◌}
+use Rattle.std.specs.Prelude.{ℕ, zero, suc, ◌+◌, ◌-◌, ◌%◌, ◌==◌, ◌&&◌, ◌||◌, Bool, List}
+use Rattle.std.specs.Prelude.{[], ◌∷◌, take, sum, slice_index, not, Option, Some, None, nat_le, nat_lt, if◌then◌else◌}
 
 -- each fourth year has a leap day, but of the full centuries only each fourth
 abbrev pub is_leap : ℕ → Bool

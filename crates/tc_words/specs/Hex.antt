@@ -1,5 +1,6 @@
 -- The lines of a dump in hex, each of which begins with an offset (xxd, tcpdump -x, Wireshark).
-use Rattle.std.specs.Prelude.{ℕ, suc, ◌+◌, ◌*◌, ◌==◌, ◌&&◌, ◌||◌, Bool, List, [], ◌∷◌, ◌++◌, take, drop, slice_index, is_some, Option, Some, None, option_map, option_and_then, nat_le, if◌then◌else◌}
+use Rattle.std.specs.Prelude.{ℕ, suc, ◌+◌, ◌*◌, ◌==◌, ◌&&◌, ◌||◌, Bool, List, [], ◌∷◌}
+use Rattle.std.specs.Prelude.{◌++◌, take, drop, slice_index, is_some, Option, Some, None, option_map, option_and_then, nat_le, if◌then◌else◌}
 use Rattle.tc_words.specs.Digits.{digit, digits_of}
 
 -- a blank, a tabulator or the end of a line

@@ -1,7 +1,8 @@
 //! The lines of a dump in hex, each of which begins with an offset.
 
 ghost use Rattle.std.specs.Prelude.{◌≡◌, ◌≤◌, length, slice_index, option_map};
-ghost use Rattle.tc_words.specs.Hex.{is_blank, front_length, columns_length, is_digit, without_blanks, without_0x, ends_offset, columns_in, line_with, line_of_digits, line_of};
+ghost use Rattle.tc_words.specs.Hex.{is_blank, front_length, columns_length, is_digit, without_blanks};
+ghost use Rattle.tc_words.specs.Hex.{without_0x, ends_offset, columns_in, line_with, line_of_digits, line_of};
 ghost use Rattle.tc_words.specs.HexSeen.{seen_line};
 
 use crate::digits::{digit, digits_of};

@@ -1,7 +1,8 @@
 //! Times as they are given on a command line.
 
 ghost use Rattle.std.specs.Prelude.{◌≡◌, ◌≤◌, ◌+◌, length, take, drop, IfSome};
-ghost use Rattle.tc_words.specs.Times.{add_decimal, add_decimal_char, decimals_of, seconds_in, time_of_seconds, has_marks, is_date_time, part, date_in, second_of, clock_in, nanoseconds_in, end_in, time_of_date, time_of_word};
+ghost use Rattle.tc_words.specs.Times.{add_decimal, add_decimal_char, decimals_of, seconds_in, time_of_seconds, has_marks, is_date_time};
+ghost use Rattle.tc_words.specs.Times.{part, date_in, second_of, clock_in, nanoseconds_in, end_in, time_of_date, time_of_word};
 
 use crate::calendar::days_of_date;
 use crate::digits::{digit, number_of};

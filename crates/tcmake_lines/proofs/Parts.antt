@@ -164,7 +164,8 @@ module _ (Makes : List ℕ → Given → List ℕ → Type 0) (Passes : List ℕ
 -- ---- a line
 
 -- a message that is put on the output, or can't be written
-pub puts_line : (Makes : List ℕ → Given → List ℕ → Type 0) (Passes : List ℕ → Type 0) (line : List ℕ) (g : Given) (bytes : List ℕ) (wrong : Bool) (old new : State)
+pub puts_line : (Makes : List ℕ → Given → List ℕ → Type 0) (Passes : List ℕ → Type 0)
+    (line : List ℕ) (g : Given) (bytes : List ℕ) (wrong : Bool) (old new : State)
     → Makes line g bytes → PutsOrNot g bytes wrong old new → PutsLine Makes Passes line wrong old new
 puts_line Makes Passes line g bytes true old new made h = (complaint, tt, refl, h)
 puts_line Makes Passes line g bytes false old new made h = (message (record { given = g; bytes = bytes }), (made, h.0), refl, h.1)

@@ -1,4 +1,5 @@
 mod Clean
 mod Puts
 mod Progress
-mod ByCodec
+mod ByWords
+mod InOrder

@@ -21,11 +21,12 @@ nothing = record { no_text = refl; no_fault = refl }
 -- ---- a text more
 
 pub grows_none : (s : State) → Grows [] false s s
-grows_none s = record { json = refl; choice = refl; summary = refl; text = sym (append-nil s.text); bad = sym (or_false s.bad) }
+grows_none s = record { json = refl; header = refl; choice = refl; summary = refl; text = sym (append-nil s.text); bad = sym (or_false s.bad) }
 
 pub grows_then : (t u : List ℕ) (b c : Bool) (s m n : State) → Grows t b s m → Grows u c m n → Grows (t ++ u) (b || c) s n
 grows_then t u b c s m n g h = record {
   json = h.json ∙ g.json;
+  header = h.header ∙ g.header;
   choice = h.choice ∙ g.choice;
   summary = h.summary ∙ g.summary;
   text = h.text ∙ ap (λ x. x ++ u) g.text ∙ append_assoc s.text t u;

@@ -2,7 +2,8 @@ pub mod Status
 pub mod Writing
 pub mod Found
 pub mod Line
-pub mod Codecs
+pub mod ByWords
 pub mod Shown
-pub mod State
 pub mod Replies
+pub mod Reading
+pub mod State

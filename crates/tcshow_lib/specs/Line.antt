@@ -3,7 +3,6 @@ use Rattle.std.specs.Prelude.{◌≡◌, ◌⊎◌, ◌↔◌, ℕ, Bool, true, 
 use Rattle.serde.specs.Event.{Event, boolean, unsigned, text, map_begins, map_ends, field_key}
 use Rattle.serde.specs.declared.name.Case.TheVariants.{AsIs}
 use Rattle.serde_json.specs.Sent.{IsTextOf}
-use Rattle.nla_frames.specs.Codec.{Codec}
 use Rattle.nla_frames.specs.Fault.{name_of}
 use Rattle.nla_frames.specs.declared.error.DecodeError.{DecodeError}
 use Rattle.nla_frames.specs.declared.error.DecodeError.TheVariants as fault
@@ -12,6 +11,8 @@ use Rattle.tc_capture.specs.declared.kind.Holds.TheVariants.{Tc, Action}
 use Rattle.tc_forms.specs.declared.form.Form.{Form}
 use Rattle.tc_forms.specs.Sent.{events}
 use Rattle.tc_forms.specs.Shown.{shown_of}
+use Rattle.tc_meaning.specs.Message.{Message as Meaning}
+use Rattle.tc_meaning.specs.Whole.{Words}
 use Rattle.tc_kinds.specs.Table.{tc_tables, tc_message, action_message}
 use Rattle.tcshow_lib.specs.declared.found.Origin.{Origin}
 use Rattle.tcshow_lib.specs.declared.json.Verdict.{Verdict}
@@ -137,12 +138,12 @@ told_events verdict holds payload = verdict ++ message_events holds payload
 abbrev pub line_events : Option (List ℕ) → Message → List Event → List Event
 line_events time m verdict = object (origin_events time m.origin m.header ++ told_events verdict m.holds m.payload)
 
-module _ {X : Type 0} (codec : Codec (List ℕ) X) (Canonical : List ℕ → Type 0) (m : Message) where
+module _ (words : Words Meaning) (m : Message) where
   -- the line of a message that is read as this value: what holds of the value, and of the bytes
-  abbrev pub IsAccepted : X → List ℕ → Type 0
+  abbrev pub IsAccepted : Meaning → List ℕ → Type 0
   IsAccepted x line =
       (time : Option (List ℕ)) × (fits : Bool) × (settled : Bool) × (canonical : Bool)
-      × (IsTrue fits ↔ codec.Fits x) × (IsTrue settled ↔ codec.Settled [] x) × (IsTrue canonical ↔ Canonical m.payload)
+      × (IsTrue fits ↔ words.Fits x) × (IsTrue settled ↔ words.Settled x) × (IsTrue canonical ↔ words.Canonical m.payload)
       × IsTextOf (Some (line_events time m (read_events fits settled canonical))) line
 
 -- the line of a message that is refused for this fault
@@ -150,12 +151,12 @@ abbrev pub IsRefused : Message → DecodeError → List ℕ → Type 0
 IsRefused m e line =
     (time : Option (List ℕ)) × (offset : ℕ) × (path : List ℕ) × IsTextOf (Some (line_events time m (fault_events e offset path))) line
 
-module _ {X : Type 0} (codec : Codec (List ℕ) X) (Canonical : List ℕ → Type 0) (m : Message) where
+module _ (words : Words Meaning) (m : Message) where
   -- the line of a message: of the value that its payload reads as, or of its first fault
   abbrev pub IsLine : List ℕ → Type 0
   IsLine line =
-      ((x : X) × (codec.read [] m.payload ≡ Ok x) × IsAccepted codec Canonical m x line)
-      ⊎ ((e : DecodeError) × (codec.read [] m.payload ≡ Err e) × IsRefused m e line)
+      ((x : Meaning) × words.Reads m.payload x × IsAccepted words m x line)
+      ⊎ ((e : DecodeError) × words.Fault m.payload e × IsRefused m e line)
 
 -- ---- the line of an answer of the kernel
 

@@ -7,7 +7,7 @@ use Rattle.tc_capture.specs.Order.{number}
 use Rattle.tc_outline.specs.declared.what.What.{What}
 use Rattle.tc_outline.specs.Located.{items_of_message, message_fault}
 use Rattle.tc_outline.specs.Page.{IsShown}
-use Rattle.tcshow_lib.specs.Codecs.{is_refused, IsLineOf}
+use Rattle.tcshow_lib.specs.ByWords.{is_refused, IsLineOf}
 use Rattle.tcshow_lib.specs.Found.{Header, Message, Thing, message, answer, other, hole}
 use Rattle.tcshow_lib.specs.Line.{IsAnswered}
 

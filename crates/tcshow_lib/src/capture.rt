@@ -1,26 +1,29 @@
 //! A capture, packet by packet.
 
-ghost use Rattle.std.specs.Prelude.{◌≡◌, false, List, OnOk};
+ghost use Rattle.std.specs.Prelude.{◌≡◌, ℕ, false, List, [], Some, Err, take, OnOk, IfOk};
+ghost use Rattle.tc_capture.specs.Capture.{next_piece};
+ghost use Rattle.tc_capture.specs.Capture.{state_of as place_of};
+ghost use Rattle.tc_input.specs.Left.{rest_of, left_of, Gives};
 ghost use Rattle.tcshow_lib.specs.Found.{Thing, other_than_outgoing};
+ghost use Rattle.tcshow_lib.specs.Reading.{capture_left, is_passed, GivesUpTo};
 ghost use Rattle.tcshow_lib.specs.State.{state_of, Progress, Puts};
 ghost use Rattle.tcshow_lib.specs.Writing.{GrowsClean};
 
 use crate::found::{Found, Origin};
-use crate::input::Input;
 use crate::kernel::Reply;
 use crate::notice::Notice;
+use crate::packets::Packets;
 use crate::shower::Shower;
 use crate::status::Stop;
 use std::alloc::{AllocError, Allocator};
 use std::io::{Read, Write};
 use tc_capture::{Capture, CaptureError, Contents, Messages, NetlinkMessage, Packet, Piece, Res};
-
-/// The longest piece of an input that is read as a whole, in bytes. `--help` names it.
-pub(crate) const MOST_PIECE: usize = 1_048_576;
+use tc_input::{Gap, Input, next_piece, read_on};
 
 /// Shows a capture to its end.
 pub(crate) fn show_capture<A: Allocator + Copy, R: Read, W: Write>(
     shower: &mut Shower<'_, A>,
+    packets: &mut Packets,
     input: &mut Input<A>,
     mut capture: Capture,
     reader: &mut R,
@@ -28,19 +31,23 @@ pub(crate) fn show_capture<A: Allocator + Copy, R: Read, W: Write>(
 ) -> Result<(), Stop>
     ensures form { shower.new.output.is_json ≡ shower.old.output.is_json }
     ensures clean { shower.old.output.is_json ≡ false → GrowsClean (W.contents writer.old) (W.contents writer.new) }
-    ensures ran { OnOk result (Progress (W.contents writer.old) (W.contents writer.new) (state_of shower.old) (state_of shower.new)) }
+    ensures ran { OnOk result ((things : List Thing)
+        × Progress things (W.contents writer.old) (W.contents writer.new) (state_of shower.old) (state_of shower.new)
+        × Gives (capture_left packets.old.count (place_of capture) (left_of input.old (R.remaining reader.old))) things (Some [])) }
 {
     for _ in 0..u64::MAX {
-        if !show_piece(shower, input, &mut capture, reader, writer)? {
-            break;
+        let goes_on = show_piece(shower, packets, input, &mut capture, reader, writer)?;
+        if !goes_on {
+            return Ok(());
         }
     }
-    Ok(())
+    Err(Stop::Read)
 }
 
 // Shows the next piece of a capture. False where the capture ends.
 fn show_piece<A: Allocator + Copy, R: Read, W: Write>(
     shower: &mut Shower<'_, A>,
+    packets: &mut Packets,
     input: &mut Input<A>,
     capture: &mut Capture,
     reader: &mut R,
@@ -48,65 +55,58 @@ fn show_piece<A: Allocator + Copy, R: Read, W: Write>(
 ) -> Result<bool, Stop>
     ensures form { shower.new.output.is_json ≡ shower.old.output.is_json }
     ensures clean { shower.old.output.is_json ≡ false → GrowsClean (W.contents writer.old) (W.contents writer.new) }
-    ensures ran { OnOk result (Progress (W.contents writer.old) (W.contents writer.new) (state_of shower.old) (state_of shower.new)) }
+    ensures ran { IfOk result (λ goes_on. (things : List Thing)
+        × Progress things (W.contents writer.old) (W.contents writer.new) (state_of shower.old) (state_of shower.new)
+        × GivesUpTo goes_on (capture_left packets.old.count (place_of capture.old) (left_of input.old (R.remaining reader.old))) things
+        (capture_left packets.new.count (place_of capture.new) (left_of input.new (R.remaining reader.new)))) }
 {
     let at = input.offset();
-    match capture.next(input.rest()) {
+    match next_piece(capture, input) {
         Ok(piece) => {
-            shower.put_piece(&piece, at)?;
+            shower.put_piece(packets, &piece, at)?;
             let used = piece.used;
             input.use_up(used);
             shower.write_much(writer)?;
             Ok(true)
         }
-        Err(fault) => goes_on(shower, input, fault, reader, writer),
+        Err(fault) => goes_on(shower, input, capture, fault, reader, writer),
     }
 }
 
-// What comes where the front of the input is no whole piece: more of it is read, or a piece is skipped that is too
-// long. False where the capture ends.
+// What comes where no piece is at the front of what was read: more is read, or a piece is passed over that is too long.
+// False where the capture ends.
 #[tactic(auto, using(crate::proofs::Clean::clean_then, crate::proofs::Clean::clean_none))]
 fn goes_on<A: Allocator + Copy, R: Read, W: Write>(
     shower: &mut Shower<'_, A>,
     input: &mut Input<A>,
+    capture: &Capture,
     fault: CaptureError,
     reader: &mut R,
     writer: &mut W,
 ) -> Result<bool, Stop>
+    requires { next_piece (place_of capture.now) (take 1048576 (rest_of input.old)) ≡ Err fault }
     ensures form { shower.new.output.is_json ≡ shower.old.output.is_json }
     ensures clean { shower.old.output.is_json ≡ false → GrowsClean (W.contents writer.old) (W.contents writer.new) }
-    ensures ran { OnOk result (Progress (W.contents writer.old) (W.contents writer.new) (state_of shower.old) (state_of shower.new)) }
+    ensures ran { IfOk result (λ goes_on. (things : List Thing)
+        × Progress things (W.contents writer.old) (W.contents writer.new) (state_of shower.old) (state_of shower.new)
+        × ((n : ℕ) → GivesUpTo goes_on (capture_left n (place_of capture.now) (left_of input.old (R.remaining reader.old))) things
+        (capture_left n (place_of capture.now) (left_of input.new (R.remaining reader.new))))) }
 {
     let at = input.offset();
-    let CaptureError::Short { needed, left } = fault else {
-        shower.put_hole(Notice::Broken(fault), at)?;
-        return Ok(false);
-    };
     shower.write(writer)?;
-    if needed > MOST_PIECE {
-        return pass_over(shower, input, needed, reader);
-    }
-    if input.more(reader)? {
-        return Ok(true);
-    }
-    shower.put_cut(fault, left, at)?;
-    Ok(false)
+    let gap = read_on(capture, input, fault, reader)?;
+    shower.put_gap(gap, at)?;
+    Ok(is_passed(gap))
 }
 
-// Skips a piece that is too long. False where the capture ends in it.
-fn pass_over<A: Allocator + Copy, R: Read>(
-    shower: &mut Shower<'_, A>,
-    input: &mut Input<A>,
-    needed: usize,
-    reader: &mut R,
-) -> Result<bool, Stop>
-    ensures form { shower.new.output.is_json ≡ shower.old.output.is_json }
-    ensures put { OnOk result ((things : List Thing) × Puts things (state_of shower.old) (state_of shower.new)) }
+// True where a capture goes on.
+fn is_passed(gap: Gap) -> bool
+    ensures { result ≡ is_passed gap }
 {
-    let at = input.offset();
-    let is_whole = input.skip(needed, reader)?;
-    shower.put_long(needed, is_whole, at, input.offset())?;
-    Ok(is_whole)
+    match gap {
+        Gap::More | Gap::Skipped(_) => true,
+        Gap::Broken(_) | Gap::Cut(_) | Gap::End => false,
+    }
 }
 
 // A packet type, where it isn't the usual one: `PACKET_OUTGOING`.
@@ -120,12 +120,15 @@ fn other_than_outgoing(packet_type: Option<u16>) -> Option<u16>
 }
 
 impl<'a, A: Allocator + Copy> Shower<'a, A> {
-    ghost use Rattle.std.specs.Prelude.{◌≡◌, ◌∷◌, [], true, not, List, Option, ℕ, OnOk};
+    ghost use Rattle.std.specs.Prelude.{◌≡◌, ◌∷◌, [], true, OnOk};
     ghost use Rattle.tc_capture.specs.Outcome.{seen};
+    ghost use Rattle.tc_capture.specs.Front.{front_of};
     ghost use Rattle.tc_capture.specs.Packet.{captured_of, contents_of};
+    ghost use Rattle.tc_capture_laws.specs.Pieces.{read};
     ghost use Rattle.tc_capture.specs.Answer.{answer_in};
     ghost use Rattle.tc_capture.specs.Message.{message_of};
-    ghost use Rattle.tcshow_lib.specs.Found.{Thing, hole, is_fault, thing_of, thing_in, things_in, things_held, things_of, answer_with};
+    ghost use Rattle.tcshow_lib.specs.Reading.{things_in_piece, things_in_gap, packets_after, count_after, number_after};
+    ghost use Rattle.tcshow_lib.specs.Found.{hole, is_fault, thing_of, thing_in, things_in, things_held, things_of, answer_with};
     ghost use Rattle.tcshow_lib.specs.State.{state_of, Puts};
 
     /// Counts a place without a message, and says what is there.
@@ -137,54 +140,55 @@ impl<'a, A: Allocator + Copy> Shower<'a, A> {
         self.put_notice(notice, at)
     }
 
-    // Says that a capture ends within a piece, of which so many bytes are there.
-    fn put_cut(&mut self, fault: CaptureError, left: usize, at: u64) -> Result<(), AllocError>
+    // Says what comes where no piece is.
+    fn put_gap(&mut self, gap: Gap, at: u64) -> Result<(), AllocError>
         ensures form { self.new.output.is_json ≡ self.old.output.is_json }
-        ensures put { OnOk result ((things : List Thing) × Puts things (state_of self.old) (state_of self.new)) }
+        ensures put { OnOk result (Puts (things_in_gap gap) (state_of self.old) (state_of self.new)) }
     {
-        if left == 0 {
-            return Ok(());
+        match gap {
+            Gap::More | Gap::End => Ok(()),
+            Gap::Skipped(length) => self.put_hole(Notice::Skipped(length as u64), at),
+            Gap::Broken(fault) => self.put_hole(Notice::Broken(fault), at),
+            Gap::Cut(fault) => self.put_hole(Notice::Cut(fault), at),
         }
-        self.put_hole(Notice::Cut(fault), at)
-    }
-
-    // Says of a piece that is too long that it was skipped, or that the input ends in it: here.
-    fn put_long(
-        &mut self,
-        needed: usize,
-        is_whole: bool,
-        at: u64,
-        here: u64,
-    ) -> Result<(), AllocError>
-        ensures form { self.new.output.is_json ≡ self.old.output.is_json }
-        ensures put { OnOk result (Puts (hole (not is_whole) ∷ []) (state_of self.old) (state_of self.new)) }
-    {
-        if is_whole {
-            return self.put_hole(Notice::Skipped(needed as u64), at);
-        }
-        let left = here.saturating_sub(at) as usize;
-        self.put_hole(Notice::Broken(CaptureError::Short { needed, left }), at)
     }
 
     // Shows the messages of a piece of a capture.
-    fn put_piece(&mut self, piece: &Piece<'_>, at: u64) -> Result<(), AllocError>
+    fn put_piece(
+        &mut self,
+        packets: &mut Packets,
+        piece: &Piece<'_>,
+        at: u64,
+    ) -> Result<(), AllocError>
         ensures form { self.new.output.is_json ≡ self.old.output.is_json }
-        ensures put { OnOk result ((things : List Thing) × Puts things (state_of self.old) (state_of self.new)) }
+        ensures count { packets.new.count ≡ packets_after packets.old.count (read (front_of piece.now).packet) }
+        ensures put { OnOk result (Puts (things_in_piece packets.old.count (read (front_of piece.now).packet)) (state_of self.old) (state_of self.new)) }
     {
         match &piece.packet {
-            Ok(Some(packet)) => self.put_packet(packet, at.saturating_add(packet.at as u64)),
+            Ok(Some(packet)) => {
+                self.put_packet(packets, packet, at.saturating_add(packet.at as u64))
+            }
             Ok(None) => Ok(()),
             Err(fault) => self.put_hole(Notice::Broken(*fault), at),
         }
     }
 
     // Shows the messages of a packet, whose bytes are at this place of the input.
-    fn put_packet(&mut self, packet: &Packet<'_>, at: u64) -> Result<(), AllocError>
+    fn put_packet(
+        &mut self,
+        packets: &mut Packets,
+        packet: &Packet<'_>,
+        at: u64,
+    ) -> Result<(), AllocError>
         ensures form { self.new.output.is_json ≡ self.old.output.is_json }
-        ensures put { OnOk result ((number : Option ℕ) × Puts (things_of number (captured_of packet.now)) (state_of self.old) (state_of self.new)) }
+        ensures count { packets.new.count ≡ count_after packets.old.count packet.now.link }
+        ensures put { OnOk result (Puts (things_of (number_after packets.old.count packet.now.link) (captured_of packet.now))
+            (state_of self.old) (state_of self.new)) }
     {
-        let number = self.packets.count(packet);
-        self.put_contents(number, packet, &packet.contents(), at)
+        let number = packets.count(packet);
+        let contents = packet.contents();
+        packets.meet(&contents);
+        self.put_contents(number, packet, &contents, at)
     }
 
     // Shows what a packet holds.
@@ -205,7 +209,6 @@ impl<'a, A: Allocator + Copy> Shower<'a, A> {
                     messages,
                 },
             ) => {
-                self.packets.count_route();
                 let origin = Origin {
                     time: packet.time,
                     packet: number,
@@ -233,12 +236,10 @@ impl<'a, A: Allocator + Copy> Shower<'a, A> {
     {
         match contents {
             Contents::Route { .. } => {}
-            Contents::Family(number) => {
-                self.packets.count_family(*number);
+            Contents::Family(_) => {
                 self.counts.other_families = self.counts.other_families.saturating_add(1);
             }
-            Contents::LinkType(number) => {
-                self.packets.count_link(*number);
+            Contents::LinkType(_) => {
                 self.counts.other_links = self.counts.other_links.saturating_add(1);
             }
         }

@@ -1,22 +1,21 @@
 //! What is sent to serde of a message.
 
-ghost use Rattle.std.specs.Prelude.{OnOk, Some, option_map, codes, ◌++◌};
+ghost use Rattle.std.specs.Prelude.{◌≡◌, OnOk, Some, option_map, codes, ◌++◌};
 ghost use Rattle.tc_forms.specs.Sent.{Sent};
 ghost use Rattle.tcshow_lib.specs.Found.{header_view, message_view};
 ghost use Rattle.tcshow_lib.specs.Line.{bool_field, number_field, text_field, number_if, text_if, packet_events, place_in_capture, port_events, number_events};
 ghost use Rattle.tcshow_lib.specs.Line.{flags_events, header_events, header_if, origin_events, forms_events, read_events, object};
-ghost use Rattle.tcshow_lib.specs.Line.{shown_events, message_events, fault_numbers, place_events, details, fault_events, verdict_events};
+ghost use Rattle.tcshow_lib.specs.Line.{form_of, shown_events, message_events, fault_numbers, place_events, details, fault_events, verdict_events};
 ghost use Rattle.tcshow_lib.specs.Line.{told_events, line_events};
 ghost use Rattle.tcshow_lib.specs.Line.{quoted_events, request_events, located_events, said_events, error_events, answer_events, answered_events};
 
 use crate::found::{Found, Header, Origin};
-use crate::shows::form_of;
 use nla_frames::DecodeError;
 use serde::{Described, Serialize, Serializer};
 use std::alloc::Global;
 use tc_capture::Holds;
-use tc_forms::send_shown;
-use tc_kinds::TcTables;
+use tc_forms::{Form, send_shown};
+use tc_kinds::{ACTION_MESSAGE, TC_MESSAGE, TcTables};
 
 /// What the codec says of a message.
 #[derive(Clone, Copy)]
@@ -347,6 +346,16 @@ fn show_message<S: Serializer>(
 {
     out.key("message")?;
     show_bytes(holds, payload, alloc, out)
+}
+
+// The form of each of the two messages.
+fn form_of(holds: Holds) -> Form
+    ensures { result ≡ form_of holds }
+{
+    match holds {
+        Holds::Tc => TC_MESSAGE,
+        Holds::Action => ACTION_MESSAGE,
+    }
 }
 
 fn show_bytes<S: Serializer>(

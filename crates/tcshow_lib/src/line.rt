@@ -3,20 +3,19 @@
 ghost use Rattle.std.specs.Prelude.{◌≡◌, IfOk, Some, None, [], is_some, true};
 ghost use Rattle.serde.specs.Event.{Log};
 ghost use Rattle.serde_json.specs.Sent.{IsTextOf};
-ghost use Rattle.tcshow_lib.specs.Codecs.{IsLineOf, is_refused, is_fault};
+ghost use Rattle.tcshow_lib.specs.ByWords.{IsLineOf, is_refused, is_fault};
 ghost use Rattle.tcshow_lib.specs.Found.{message_view};
 ghost use Rattle.tcshow_lib.specs.Line.{IsAccepted, IsRefused, IsLine};
 
 use crate::found::Found;
 use crate::json::{MessageLine, Verdict};
 use crate::pages::{show_place, some_text, text_of, time_page};
-use crate::shows::Shows;
 use nla_frames::DecodeError;
 use serde::Serialize;
 use std::alloc::{AllocError, Allocator, Global};
 use tc_capture::Holds;
 use tc_outline::{Layout, Page};
-use tc_wire::{TcActionMessage, TcMessage};
+use tc_wire::{TcActionMessage, TcMessage, WholeMessage};
 
 /// A message as JSON, and the name of its fault where it is refused.
 #[derive(Drop)]
@@ -40,15 +39,17 @@ pub(crate) fn line_of<A: Allocator + Copy>(
     }
 }
 
-fn line_as<A: Allocator + Copy, M: Shows<A> + Drop>(
+#[tactic(auto, using(crate::proofs::ByWords::read_is, crate::proofs::ByWords::fault_is))]
+fn line_as<A: Allocator + Copy, M: WholeMessage<A> + Drop>(
     alloc: A,
     json: Global,
     found: &Found<'_>,
 ) -> Result<Line, AllocError>
-    ensures line { IfOk result (λ line. IsLine M.codec M.Canonical (message_view found.now) line.json.items) }
-    ensures fault { IfOk result (λ line. is_some line.fault ≡ is_fault (M.codec.read [] found.now.payload.now)) }
+    ensures line { IfOk result (λ line. IsLine M.words (message_view found.now) line.json.items) }
+    ensures fault { IfOk result (λ line. is_some line.fault ≡ is_fault (M.words.read found.now.payload.now)) }
 {
-    match M::parse(alloc, found.payload) {
+    M::correspond(found.payload);
+    match M::read(alloc, found.payload) {
         Ok(message) => accepted_line(alloc, json, found, &message),
         Err(DecodeError::OutOfMemory) => Err(AllocError),
         Err(error) => refused_line(alloc, json, found, &error),
@@ -56,19 +57,19 @@ fn line_as<A: Allocator + Copy, M: Shows<A> + Drop>(
 }
 
 // The line of a message that is read.
-fn accepted_line<A: Allocator + Copy, M: Shows<A>>(
+fn accepted_line<A: Allocator + Copy, M: WholeMessage<A>>(
     alloc: A,
     json: Global,
     found: &Found<'_>,
     message: &M,
 ) -> Result<Line, AllocError>
     ensures fault { IfOk result (λ line. line.fault ≡ None) }
-    ensures line { IfOk result (λ line. IsAccepted M.codec M.Canonical (message_view found.now) (M.see message.now) line.json.items) }
+    ensures line { IfOk result (λ line. IsAccepted M.words (message_view found.now) (M.message message.now) line.json.items) }
 {
     let time = time_page(alloc, &found.origin)?;
-    let fits = message.fits();
-    let settled = message.reads_back();
-    let canonical = M::are_canonical(found.payload);
+    let fits = message.is_writable();
+    let settled = message.is_settled();
+    let canonical = M::is_canonical(found.payload);
     let line = MessageLine {
         time: some_text(&time),
         found: *found,

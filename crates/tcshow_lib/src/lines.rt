@@ -1,35 +1,43 @@
 //! Lines of hex.
 
-ghost use Rattle.std.specs.Prelude.{◌≡◌, false, List, OnOk};
+ghost use Rattle.std.specs.Prelude.{◌≡◌, false, List, Some, [], take, length, ◌≤◌, OnOk, IfOk};
+ghost use Rattle.tc_input.specs.Left.{rest_of, left_of, Gives};
+ghost use Rattle.tc_input.specs.Lines.{HasNoFeed};
+ghost use Rattle.tc_input.specs.Text.{on_line};
 ghost use Rattle.tcshow_lib.specs.Found.{Thing};
+ghost use Rattle.tcshow_lib.specs.Reading.{is_hex_text, is_hex_digit, is_blank, things_said, text_left, GivesUpTo};
 ghost use Rattle.tcshow_lib.specs.State.{state_of, Progress, Puts};
 ghost use Rattle.tcshow_lib.specs.Writing.{GrowsClean};
 
-use crate::capture::MOST_PIECE;
 use crate::found::{Found, NOWHERE};
-use crate::input::Input;
 use crate::notice::Notice;
 use crate::shower::Shower;
 use crate::status::Stop;
 use std::alloc::{AllocError, Allocator};
 use std::io::{Read, Write};
-
-// The longest line that is read, in bytes of text: two digits and a blank for each byte of the longest piece.
-const MOST_LINE: usize = 3 * MOST_PIECE;
+use tc_input::{Input, LineGap, OnLine, on_line};
 
 /// True if lines of hex may begin with these bytes: digits, blanks and comments.
-pub(crate) fn is_hex_text(first: &[u8]) -> bool {
+pub(crate) fn is_hex_text(first: &[u8]) -> bool
+    ensures { result ≡ is_hex_text first.now }
+{
     match first.first() {
-        Some(byte) => byte.is_ascii_hexdigit()
-            || is_blank(*byte)
-            || *byte == b'#'
-            || *byte == b'\n',
+        Some(byte) => is_hex_digit(*byte) || is_blank(*byte),
         None => false,
     }
 }
 
-fn is_blank(byte: u8) -> bool {
-    matches!(byte, b' ' | b'\t' | b'\r')
+fn is_hex_digit(byte: u8) -> bool
+    ensures { result ≡ is_hex_digit byte }
+{
+    matches!(byte, b'0'..=b'9' | b'a'..=b'f' | b'A'..=b'F')
+}
+
+// A blank, the beginning of a comment, or the end of a line.
+fn is_blank(byte: u8) -> bool
+    ensures { result ≡ is_blank byte }
+{
+    matches!(byte, b' ' | b'\t' | b'\r' | b'#' | b'\n')
 }
 
 /// Shows lines of hex to their end.
@@ -41,121 +49,74 @@ pub(crate) fn show_lines<A: Allocator + Copy, R: Read, W: Write>(
 ) -> Result<(), Stop>
     ensures form { shower.new.output.is_json ≡ shower.old.output.is_json }
     ensures clean { shower.old.output.is_json ≡ false → GrowsClean (W.contents writer.old) (W.contents writer.new) }
-    ensures ran { OnOk result (Progress (W.contents writer.old) (W.contents writer.new) (state_of shower.old) (state_of shower.new)) }
+    ensures ran { OnOk result ((things : List Thing)
+        × Progress things (W.contents writer.old) (W.contents writer.new) (state_of shower.old) (state_of shower.new)
+        × Gives (text_left (state_of shower.old).header (left_of input.old (R.remaining reader.old))) things (Some [])) }
 {
-    // How many bytes of the rest have no line feed.
-    let mut looked_at = 0usize;
     for _ in 0..u64::MAX {
-        if !show_line(shower, input, &mut looked_at, reader, writer)? {
-            break;
+        let goes_on = show_line(shower, input, reader, writer)?;
+        if !goes_on {
+            return Ok(());
         }
     }
-    Ok(())
+    Err(Stop::Read)
 }
 
 // Shows the next line, or reads more of it. False where the input ends.
 fn show_line<A: Allocator + Copy, R: Read, W: Write>(
     shower: &mut Shower<'_, A>,
     input: &mut Input<A>,
-    looked_at: &mut usize,
     reader: &mut R,
     writer: &mut W,
 ) -> Result<bool, Stop>
     ensures form { shower.new.output.is_json ≡ shower.old.output.is_json }
     ensures clean { shower.old.output.is_json ≡ false → GrowsClean (W.contents writer.old) (W.contents writer.new) }
-    ensures ran { OnOk result (Progress (W.contents writer.old) (W.contents writer.new) (state_of shower.old) (state_of shower.new)) }
+    ensures ran { IfOk result (λ goes_on. (things : List Thing)
+        × Progress things (W.contents writer.old) (W.contents writer.new) (state_of shower.old) (state_of shower.new)
+        × GivesUpTo goes_on (text_left (state_of shower.old).header (left_of input.old (R.remaining reader.old))) things
+        (text_left (state_of shower.old).header (left_of input.new (R.remaining reader.new)))) }
 {
-    match end_of_line(input.rest(), *looked_at) {
+    match input.line_end() {
         Some(end) => {
             put_front(shower, input, end)?;
-            input.use_up(end.saturating_add(1));
-            *looked_at = 0;
+            input.use_line(end);
             shower.write_much(writer)?;
             Ok(true)
         }
-        None => {
-            let len = input.rest().len();
-            *looked_at = if len > MOST_LINE { 0 } else { len };
-            more_of_line(shower, input, len, reader, writer)
-        }
+        None => more_of_line(shower, input, reader, writer),
     }
 }
 
-// Reads more of a line of which so many bytes are there, or passes over one that is too long. False where the input
-// ends, and the line with it.
+// Reads more of a line, or passes over one that is too long. False where the input ends, and the line with it.
 #[tactic(auto, using(crate::proofs::Clean::clean_none))]
 fn more_of_line<A: Allocator + Copy, R: Read, W: Write>(
     shower: &mut Shower<'_, A>,
     input: &mut Input<A>,
-    len: usize,
     reader: &mut R,
     writer: &mut W,
 ) -> Result<bool, Stop>
+    requires { HasNoFeed (rest_of input.old) }
     ensures form { shower.new.output.is_json ≡ shower.old.output.is_json }
     ensures clean { shower.old.output.is_json ≡ false → GrowsClean (W.contents writer.old) (W.contents writer.new) }
-    ensures ran { OnOk result (Progress (W.contents writer.old) (W.contents writer.new) (state_of shower.old) (state_of shower.new)) }
-{
-    shower.write(writer)?;
-    if len > MOST_LINE {
-        return pass_over(shower, input, reader);
-    }
-    if input.more(reader)? {
-        return Ok(true);
-    }
-    put_front(shower, input, len)?;
-    Ok(false)
-}
-
-// Skips a line that is too long. False where the input ends in it.
-fn pass_over<A: Allocator + Copy, R: Read>(
-    shower: &mut Shower<'_, A>,
-    input: &mut Input<A>,
-    reader: &mut R,
-) -> Result<bool, Stop>
-    ensures form { shower.new.output.is_json ≡ shower.old.output.is_json }
-    ensures put { OnOk result ((things : List Thing) × Puts things (state_of shower.old) (state_of shower.new)) }
+    ensures ran { IfOk result (λ goes_on. (things : List Thing)
+        × Progress things (W.contents writer.old) (W.contents writer.new) (state_of shower.old) (state_of shower.new)
+        × GivesUpTo goes_on (text_left (state_of shower.old).header (left_of input.old (R.remaining reader.old))) things
+        (text_left (state_of shower.old).header (left_of input.new (R.remaining reader.new)))) }
 {
     let at = input.offset();
-    let goes_on = skip_line(input, reader)?;
-    let long = input
-        .offset()
-        .saturating_sub(at)
-        .saturating_sub(u64::from(goes_on));
-    shower.put_hole(Notice::Skipped(long), at)?;
-    Ok(goes_on)
-}
-
-// Where the first line feed is, at this place or after it.
-fn end_of_line(bytes: &[u8], from: usize) -> Option<usize> {
-    let from = from.min(bytes.len());
-    let (_, rest) = bytes.split_at(from);
-    match rest.iter().position(|byte| *byte == b'\n') {
-        Some(place) => Some(from.saturating_add(place)),
-        None => None,
-    }
-}
-
-// Passes over what is left of a line. False where the input ends in it.
-fn skip_line<A: Allocator + Copy, R: Read>(
-    input: &mut Input<A>,
-    reader: &mut R,
-) -> Result<bool, Stop> {
-    for _ in 0..u64::MAX {
-        match end_of_line(input.rest(), 0) {
-            Some(end) => {
-                input.use_up(end.saturating_add(1));
-                return Ok(true);
-            }
-            None => {
-                let all = input.rest().len();
-                input.use_up(all);
-                if !input.more(reader)? {
-                    return Ok(false);
-                }
-            }
+    shower.write(writer)?;
+    let gap = input.read_line(reader)?;
+    match gap {
+        LineGap::More => Ok(true),
+        LineGap::Long(length, goes_on) => {
+            shower.put_hole(Notice::Skipped(length), at)?;
+            Ok(goes_on)
+        }
+        LineGap::Last => {
+            shower.put_text(input.rest(), input.offset())?;
+            Ok(false)
         }
     }
-    Ok(false)
 }
 
 // Shows the line that so many bytes are.
@@ -164,32 +125,32 @@ fn put_front<A: Allocator + Copy>(
     input: &Input<A>,
     len: usize,
 ) -> Result<(), AllocError>
+    requires { len ≤ length (rest_of input.now) }
     ensures form { shower.new.output.is_json ≡ shower.old.output.is_json }
-    ensures put { OnOk result ((things : List Thing) × Puts things (state_of shower.old) (state_of shower.new)) }
+    ensures put { OnOk result (Puts (things_said (state_of shower.old).header (on_line (take len (rest_of input.now))))
+        (state_of shower.old) (state_of shower.new)) }
 {
-    let rest = input.rest();
-    let (line, _) = rest.split_at(len.min(rest.len()));
+    let (line, _) = input.rest().split_at(len);
     shower.put_text(line, input.offset())
 }
 
 impl<'a, A: Allocator + Copy> Shower<'a, A> {
-    ghost use Rattle.std.specs.Prelude.{◌≡◌, List, OnOk};
-    ghost use Rattle.tcshow_lib.specs.Found.{Thing, things_on_line};
+    ghost use Rattle.std.specs.Prelude.{◌≡◌, OnOk};
+    ghost use Rattle.tc_input.specs.Text.{on_line};
+    ghost use Rattle.tcshow_lib.specs.Found.{things_on_line};
+    ghost use Rattle.tcshow_lib.specs.Reading.{things_said};
     ghost use Rattle.tcshow_lib.specs.State.{state_of, Puts};
 
     // Shows a line of text.
     fn put_text(&mut self, line: &[u8], at: u64) -> Result<(), AllocError>
         ensures form { self.new.output.is_json ≡ self.old.output.is_json }
-        ensures put { OnOk result ((things : List Thing) × Puts things (state_of self.old) (state_of self.new)) }
+        ensures put { OnOk result (Puts (things_said (state_of self.old).header (on_line line.now)) (state_of self.old) (state_of self.new)) }
     {
-        let digits = digits_in(self.alloc, line)?;
-        if digits.is_empty() {
-            return Ok(());
-        }
-        match hex::decode(self.alloc, digits.as_slice()) {
-            Ok(bytes) => self.put_bytes(&bytes, at),
-            Err(hex::FromHexError::OutOfMemory) => Err(AllocError),
-            Err(_) => self.put_hole(Notice::NoHex, at),
+        match on_line(self.alloc, line)? {
+            OnLine::Nothing => Ok(()),
+            OnLine::NoHex => self.put_hole(Notice::NoHex, at),
+            OnLine::TooLong => self.put_hole(Notice::Skipped(line.len() as u64), at),
+            OnLine::Bytes(bytes) => self.put_bytes(&bytes, at),
         }
     }
 
@@ -203,16 +164,4 @@ impl<'a, A: Allocator + Copy> Shower<'a, A> {
             Some(holds) => self.put_message(&Found::alone(holds, bytes)),
         }
     }
-}
-
-// A line without its comment and its blanks.
-fn digits_in<A: Allocator>(alloc: A, line: &[u8]) -> Result<Vec<u8, A>, AllocError> {
-    let end = match line.iter().position(|byte| *byte == b'#') {
-        Some(place) => place,
-        None => line.len(),
-    };
-    let (front, _) = line.split_at(end.min(line.len()));
-    let mut digits = front.to_vec(alloc)?;
-    digits.retain(|byte| !is_blank(*byte));
-    Ok(digits)
 }

@@ -1,7 +1,7 @@
 //! The packets of a capture.
 
 use std::fmt;
-use tc_capture::{Link, Packet};
+use tc_capture::{Contents, Link, Packet, Res};
 
 /// What was met of the packets of a capture.
 #[derive(Clone, Copy, Default)]
@@ -17,8 +17,14 @@ pub struct Packets {
 }
 
 impl Packets {
+    ghost use Rattle.std.specs.Prelude.{◌≡◌};
+    ghost use Rattle.tcshow_lib.specs.Reading.{count_after, number_after};
+
     /// One more packet, of which the number is returned, from 1 on; none of a stream, which has no packets.
-    pub(crate) fn count(&mut self, packet: &Packet<'_>) -> Option<u64> {
+    pub(crate) fn count(&mut self, packet: &Packet<'_>) -> Option<u64>
+        ensures count { self.new.count ≡ count_after self.old.count packet.now.link }
+        ensures number { result ≡ number_after self.old.count packet.now.link }
+    {
         if matches!(packet.link, Link::Plain) {
             return None;
         }
@@ -26,19 +32,20 @@ impl Packets {
         Some(self.count)
     }
 
-    /// It is of route netlink.
-    pub(crate) fn count_route(&mut self) {
-        self.route = self.route.saturating_add(1);
-    }
-
-    /// It has another link type.
-    pub(crate) fn count_link(&mut self, number: u32) {
-        self.link.get_or_insert(number);
-    }
-
-    /// It is of another netlink family.
-    pub(crate) fn count_family(&mut self, number: u16) {
-        self.family.get_or_insert(number);
+    /// What one of them holds.
+    pub(crate) fn meet(&mut self, contents: &Res<Contents<'_>>)
+        ensures { self.new.count ≡ self.old.count }
+    {
+        match contents {
+            Ok(Contents::Route { .. }) => self.route = self.route.saturating_add(1),
+            Ok(Contents::Family(number)) => {
+                self.family.get_or_insert(*number);
+            }
+            Ok(Contents::LinkType(number)) => {
+                self.link.get_or_insert(*number);
+            }
+            Err(_) => {}
+        }
     }
 
     /// True if there are packets of something else, and none of route netlink.

@@ -131,7 +131,7 @@ pub fn serve<A: Allocator + Copy, R: Read, W: Write, E: Write>(
     // The status says how the run ended. Where it came to the end of its input, what is shown of all things in it is written, and the status
     // says whether one of them is refused or broken.
     ensures status { (ended : Ended) × (result ≡ status_of ended.outcome ended.has_refused)
-        × OnOk ended.outcome (Ran asked.now ended.has_refused (W.contents writer.old) (W.contents writer.new)) }
+        × OnOk ended.outcome (Ran asked.now ended.has_refused (R.remaining reader.old) (W.contents writer.old) (W.contents writer.new)) }
     // No byte of a message reaches the output but as printable ASCII.
     ensures clean { asked.now.form ≢ Json → GrowsClean (W.contents writer.old) (W.contents writer.new) }
 {

@@ -1,13 +1,15 @@
 //! A whole run.
 
-ghost use Rattle.std.specs.Prelude.{◌≡◌, ◌≢◌, false, OnOk};
+ghost use Rattle.std.specs.Prelude.{◌≡◌, ◌≢◌, false, List, OnOk};
+ghost use Rattle.tc_input.specs.Left.{rest_of, left_of};
+ghost use Rattle.tcshow_lib.specs.Found.{Thing};
+ghost use Rattle.tcshow_lib.specs.Reading.{AreIn, Begins};
 ghost use Rattle.tcshow_lib.specs.declared.asked.Form.TheVariants.{Json};
 ghost use Rattle.tcshow_lib.specs.State.{state_of, Progress, Ends, Completes, Ran};
 ghost use Rattle.tcshow_lib.specs.Writing.{GrowsClean};
 
 use crate::asked::Asked;
 use crate::capture::show_capture;
-use crate::input::Input;
 use crate::lines::{is_hex_text, show_lines};
 use crate::packets::Packets;
 use crate::shower::Shower;
@@ -15,6 +17,7 @@ use crate::status::Stop;
 use std::alloc::{Allocator, Global};
 use std::io::{Read, Write};
 use tc_capture::Capture;
+use tc_input::Input;
 
 /// How a run ended.
 #[derive(Clone, Copy)]
@@ -35,28 +38,32 @@ pub fn run<A: Allocator + Copy, R: Read, W: Write>(
     reader: &mut R,
     writer: &mut W,
 ) -> Ended
-    ensures ran { OnOk result.outcome (Ran asked.now result.has_refused (W.contents writer.old) (W.contents writer.new)) }
+    ensures ran { OnOk result.outcome (Ran asked.now result.has_refused (R.remaining reader.old) (W.contents writer.old) (W.contents writer.new)) }
     ensures clean { asked.now.form ≢ Json → GrowsClean (W.contents writer.old) (W.contents writer.new) }
 {
     let mut shower = Shower::new(alloc, json, asked);
-    let outcome = show_and_write(&mut shower, reader, writer);
+    let mut packets = Packets::default();
+    let outcome = show_and_write(&mut shower, &mut packets, reader, writer);
     Ended {
         outcome,
         has_refused: shower.counts.has_refused(),
-        packets: shower.packets,
+        packets,
     }
 }
 
 // Shows all messages, and writes what is shown, however it ends.
 fn show_and_write<A: Allocator + Copy, R: Read, W: Write>(
     shower: &mut Shower<'_, A>,
+    packets: &mut Packets,
     reader: &mut R,
     writer: &mut W,
 ) -> Result<(), Stop>
+    requires { packets.old.count ≡ 0 }
     ensures clean { shower.old.output.is_json ≡ false → GrowsClean (W.contents writer.old) (W.contents writer.new) }
-    ensures ran { OnOk result (Completes (W.contents writer.old) (W.contents writer.new) (state_of shower.old) (state_of shower.new)) }
+    ensures ran { OnOk result ((things : List Thing) × AreIn (R.remaining reader.old) (state_of shower.old).header things
+        × Completes things (W.contents writer.old) (W.contents writer.new) (state_of shower.old) (state_of shower.new)) }
 {
-    match show(shower, reader, writer) {
+    match show(shower, packets, reader, writer) {
         Ok(()) => shower.write(writer),
         Err(stop) => {
             let _ = shower.write(writer);
@@ -69,50 +76,48 @@ fn show_and_write<A: Allocator + Copy, R: Read, W: Write>(
 #[tactic(auto, using(crate::proofs::Clean::clean_none))]
 fn show<A: Allocator + Copy, R: Read, W: Write>(
     shower: &mut Shower<'_, A>,
+    packets: &mut Packets,
     reader: &mut R,
     writer: &mut W,
 ) -> Result<(), Stop>
+    requires { packets.old.count ≡ 0 }
     ensures form { shower.new.output.is_json ≡ shower.old.output.is_json }
     ensures clean { shower.old.output.is_json ≡ false → GrowsClean (W.contents writer.old) (W.contents writer.new) }
-    ensures ran { OnOk result (Ends (W.contents writer.old) (W.contents writer.new) (state_of shower.old) (state_of shower.new)) }
+    ensures ran { OnOk result ((things : List Thing) × AreIn (R.remaining reader.old) (state_of shower.old).header things
+        × Ends things (W.contents writer.old) (W.contents writer.new) (state_of shower.old) (state_of shower.new)) }
 {
-    let mut input = first_of(shower.alloc, reader)?;
-    show_input(shower, &mut input, reader, writer)?;
+    let mut input = Input::begin(shower.alloc, reader)?;
+    show_input(shower, packets, &mut input, reader, writer)?;
     shower.put_summary()?;
-    if shower.packets.are_foreign() {
+    if packets.are_foreign() {
         return Err(Stop::NoRoute);
     }
     Ok(())
-}
-
-// The first bytes of an input: four, where there are so many.
-fn first_of<A: Allocator + Copy, R: Read>(alloc: A, reader: &mut R) -> Result<Input<A>, Stop> {
-    let mut input = Input::new(alloc)?;
-    for _ in 0..4u8 {
-        if input.rest().len() < 4 {
-            if !input.more(reader)? {
-                break;
-            }
-        }
-    }
-    Ok(input)
 }
 
 // Shows a capture, or lines of hex.
 #[tactic(auto, using(crate::proofs::Clean::clean_none))]
 fn show_input<A: Allocator + Copy, R: Read, W: Write>(
     shower: &mut Shower<'_, A>,
+    packets: &mut Packets,
     input: &mut Input<A>,
     reader: &mut R,
     writer: &mut W,
 ) -> Result<(), Stop>
+    requires { packets.old.count ≡ 0 }
     ensures form { shower.new.output.is_json ≡ shower.old.output.is_json }
     ensures clean { shower.old.output.is_json ≡ false → GrowsClean (W.contents writer.old) (W.contents writer.new) }
-    ensures ran { OnOk result (Progress (W.contents writer.old) (W.contents writer.new) (state_of shower.old) (state_of shower.new)) }
+    ensures ran { OnOk result ((things : List Thing)
+        × Begins (rest_of input.old) (left_of input.old (R.remaining reader.old)) (state_of shower.old).header things
+        × Progress things (W.contents writer.old) (W.contents writer.new) (state_of shower.old) (state_of shower.new)) }
 {
-    match Capture::of_first(input.rest()) {
-        Some(capture) => show_capture(shower, input, capture, reader, writer),
-        None if is_hex_text(input.rest()) => show_lines(shower, input, reader, writer),
-        None => Err(Stop::NoCapture),
+    match Capture::of_first(input.first()) {
+        Some(capture) => show_capture(shower, packets, input, capture, reader, writer),
+        None => {
+            if !is_hex_text(input.first()) {
+                return Err(Stop::NoCapture);
+            }
+            show_lines(shower, input, reader, writer)
+        }
     }
 }

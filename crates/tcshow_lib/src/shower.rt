@@ -9,7 +9,6 @@ use crate::found::Found;
 use crate::line::json_of;
 use crate::notice::{Notice, NoticeLine};
 use crate::output::Output;
-use crate::packets::Packets;
 use crate::pages::text_of;
 use crate::status::Stop;
 use crate::summary::{Summary, SummaryLine};
@@ -32,7 +31,6 @@ pub(crate) struct Shower<'a, A: Allocator> {
     /// What is shown and not yet written.
     pub(crate) output: Output<A>,
     pub(crate) counts: Counts,
-    pub(crate) packets: Packets,
     summary: Summary,
 }
 
@@ -61,7 +59,6 @@ impl<'a, A: Allocator + Copy> Shower<'a, A> {
             page: Page::new(alloc, layout_of(asked.form)),
             output: Output::new(alloc, is_json(asked.form)),
             counts: Counts::default(),
-            packets: Packets::default(),
             summary: Summary::new(json),
         }
     }
@@ -175,7 +172,7 @@ impl<'a, A: Allocator + Copy> Shower<'a, A> {
     pub(crate) fn write_much<W: Write>(&mut self, writer: &mut W) -> Result<(), Stop>
         ensures form { self.new.output.is_json ≡ self.old.output.is_json }
         ensures clean { self.old.output.is_json ≡ false → GrowsClean (W.contents writer.old) (W.contents writer.new) }
-        ensures ran { OnOk result (Progress (W.contents writer.old) (W.contents writer.new) (state_of self.old) (state_of self.new)) }
+        ensures ran { OnOk result (Progress [] (W.contents writer.old) (W.contents writer.new) (state_of self.old) (state_of self.new)) }
     {
         if self.output.len() < MOST_KEPT {
             return Ok(());
@@ -190,7 +187,7 @@ impl<'a, A: Allocator + Copy> Shower<'a, A> {
             × OnOk result (rest ≡ []) }
         ensures empty { state_of self.new ≡ record (state_of self.old) { text = [] } }
         ensures clean { self.old.output.is_json ≡ false → GrowsClean (W.contents writer.old) (W.contents writer.new) }
-        ensures ran { OnOk result (Progress (W.contents writer.old) (W.contents writer.new) (state_of self.old) (state_of self.new)) }
+        ensures ran { OnOk result (Progress [] (W.contents writer.old) (W.contents writer.new) (state_of self.old) (state_of self.new)) }
     {
         self.output.write(writer)
     }

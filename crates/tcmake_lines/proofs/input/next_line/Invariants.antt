@@ -7,4 +7,5 @@ use Rattle.tcmake_lines.proofs.input.next_line.Given as goal
 abbrev pub invariant-loop : goal.invariant-loop
 invariant-loop g l =
     (length l.line.items ≤ 33554432)
-    × ((text : List ℕ) × All (λ c. c ≢ 10) text × Consumes (g.R.Read.remaining l.fn.input) (g.R.Read.remaining l.input) text × IsFound l.found text l.line.items)
+    × ((text : List ℕ) × All (λ c. c ≢ 10) text × Consumes (g.R.Read.remaining l.fn.input) (g.R.Read.remaining l.input) text
+    × IsFound l.found text l.line.items)

@@ -11,7 +11,8 @@ loop-number-init g c =
     let Makes = g.M.Maker.Makes c.args.maker.now in
     let Passes = g.M.Maker.Passes c.args.maker.now in
     let form = c.begin.ensures.form ∙ c.new-output.ensures.form in
-    let header = c.in_ok-begin.ensures.text ∙ ap (λ t. t ++ header_of c.new-output.result.form) c.new-output.ensures.text ∙ ap header_of c.new-output.ensures.form in
+    let empty = ap (λ t. t ++ header_of c.new-output.result.form) c.new-output.ensures.text in
+    let header = c.in_ok-begin.ensures.text ∙ empty ∙ ap header_of c.new-output.ensures.form in
     let begun =
     until_begin Makes Passes c.args.form (g.W.Write.contents c.args.writer.now) (state_of c.begin.new.self) form
     (c.begin.ensures.held ∙ c.new-output.ensures.held) header in (

@@ -1,5 +1,28 @@
+use Rattle.std.proofs.Common.{◌∙◌, ap, take}
+use Rattle.std.proofs.lemmas.Result.{IfOk-weaker}
+use Rattle.tc_capture.specs.Capture.{state_of as place_of, next_piece}
+use Rattle.tc_capture.specs.Front.{front_of}
+use Rattle.tc_capture_laws.specs.Pieces.{read}
+use Rattle.tc_input.specs.Left.{rest_of}
+use Rattle.tcshow_lib.specs.Reading.{things_in_piece}
+use Rattle.tcshow_lib.proofs.InOrder.{piece_gives, same_place}
 use Rattle.tcshow_lib.proofs.Progress.{puts_progress}
 use Rattle.tcshow_lib.proofs.capture.show_piece.Goals as goal
 
 pub returns-in_ok-write_much-in-Ok-clause-ran : goal.returns-in_ok-write_much-in-Ok-clause-ran
-returns-in_ok-write_much-in-Ok-clause-ran g c = puts_progress _ _ _ _ _ c.in_ok-put_piece-in-Ok.ensures.put c.in_ok-write_much-in-Ok.ensures.ran
+returns-in_ok-write_much-in-Ok-clause-ran g c =
+    let what = read (front_of c.in-Ok.piece).packet in (
+      things_in_piece c.args.packets.now.count what,
+      puts_progress _ _ _ _ _ _ c.in_ok-put_piece-in-Ok.ensures.put c.in_ok-write_much-in-Ok.ensures.ran,
+      piece_gives _ _ what _ _ _ _ _ _ (c.in-Ok.ensures.piece _) c.use_up.ensures c.put_piece.ensures.count,
+    )
+
+pub goes_on-requires : goal.goes_on-requires
+goes_on-requires g c =
+    ap (λ k. next_piece (place_of k) (take 1048576 (rest_of c.args.input.now))) c.in-Err.ensures.unchanged ∙ c.in-Err.ensures.none
+
+pub returns-in-Err-clause-ran : goal.returns-in-Err-clause-ran
+returns-in-Err-clause-ran g c =
+    let n = c.args.packets.now.count in
+    IfOk-weaker c.goes_on.result _ _ (λ on x. (x.0, x.1, same_place n _ _ on x.0 _ _ (ap place_of c.in-Err.ensures.unchanged) (x.2 n)))
+    c.goes_on.ensures.ran

@@ -2,7 +2,7 @@ use Rattle.std.specs.Prelude.{is_some}
 use Rattle.std.proofs.lemmas.Result.{IfOk-weaker}
 use Rattle.tc_capture.specs.declared.kind.Holds.TheVariants.{Tc, Action}
 use Rattle.tcshow_lib.specs.Found.{message_view}
-use Rattle.tcshow_lib.proofs.ByCodec.{line_is, refused_is}
+use Rattle.tcshow_lib.proofs.ByWords.{line_is, refused_is}
 use Rattle.tcshow_lib.proofs.line.line_of.Goals as goal
 
 pub returns-in-Tc-clause-line : goal.returns-in-Tc-clause-line

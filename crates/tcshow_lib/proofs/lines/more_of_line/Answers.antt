@@ -1,7 +1,37 @@
-use Rattle.std.proofs.lemmas.Result.{on_ok_weaker}
+use Rattle.std.proofs.Common.{[], ◌∷◌, false, sym, subst}
+use Rattle.tc_input.specs.Lines.{IsLineGap, lines_left}
+use Rattle.tc_input.specs.Left.{Gives}
+use Rattle.tc_input.specs.Text.{on_line}
+use Rattle.std.specs.Prelude.{Some}
+use Rattle.tcshow_lib.specs.Found.{hole}
+use Rattle.tcshow_lib.specs.Reading.{things_said}
+use Rattle.tcshow_lib.specs.State.{state_of, Puts}
+use Rattle.tcshow_lib.proofs.InOrder.{text_kept, long_gives, last_gives}
 use Rattle.tcshow_lib.proofs.Progress.{progress_more}
 use Rattle.tcshow_lib.proofs.lines.more_of_line.Goals as goal
 
-pub returns-then-len-gt-MOST_LINE-clause-ran : goal.returns-then-len-gt-MOST_LINE-clause-ran
-returns-then-len-gt-MOST_LINE-clause-ran g c =
-    on_ok_weaker c.pass_over.result (λ p. progress_more _ _ _ _ _ c.in_ok-write.ensures.ran p) c.pass_over.ensures.put
+pub returns-in-More-clause-ran : goal.returns-in-More-clause-ran
+returns-in-More-clause-ran g c =
+    let gap = subst (λ gap. IsLineGap gap _ _ _) c.in-More.is c.in_ok-gap.ensures in
+    ([], c.in_ok-write.ensures.ran, text_kept _ _ _ gap)
+
+pub returns-in_ok-put_hole-in-Long-clause-ran : goal.returns-in_ok-put_hole-in-Long-clause-ran
+returns-in_ok-put_hole-in-Long-clause-ran g c =
+    let gap = subst (λ gap. IsLineGap gap _ _ _) c.in-Long.is c.in_ok-gap.ensures in (
+      hole false ∷ [],
+      progress_more (hole false ∷ []) _ _ _ _ _ c.in_ok-write.ensures.ran c.in_ok-put_hole-in-Long.ensures.put,
+      long_gives _ c.in-Long.length c.in-Long.goes_on _ _ _ gap,
+    )
+
+pub returns-in_ok-put_text-in-Last-clause-ran : goal.returns-in_ok-put_text-in-Last-clause-ran
+returns-in_ok-put_text-in-Last-clause-ran g c =
+    let gap = subst (λ gap. IsLineGap gap _ _ _) c.in-Last.is c.in_ok-gap.ensures in
+    let line = c.rest.result.now in
+    let header = (state_of c.args.shower.now).header in
+    let put =
+    subst (λ h. Puts (things_said h (on_line line)) (state_of c.write.new.self) (state_of c.put_text.new.self)) c.in_ok-write.ensures.ran.header
+    c.in_ok-put_text-in-Last.ensures.put in (
+      things_said header (on_line line),
+      progress_more (things_said header (on_line line)) _ _ _ _ _ c.in_ok-write.ensures.ran put,
+      last_gives header line _ (subst (λ l. Gives (lines_left _) (l ∷ []) (Some [])) (sym c.rest.ensures) gap),
+    )

@@ -12,4 +12,5 @@ returns-in-Err-clause-clean g c = clean_step _ _ _ _ _ c.show.ensures.clean c.sh
 pub returns-in-Ok-clause-ran : goal.returns-in-Ok-clause-ran
 returns-in-Ok-clause-ran g c =
     let f = c.write.ensures.front in
-    on_ok_weaker c.write.result (λ none. completes _ _ _ _ _ _ f.0 c.in-Ok.ensures.ran f.1 none c.write.ensures.empty) f.2
+    let ends = c.in-Ok.ensures.ran in
+    on_ok_weaker c.write.result (λ none. (ends.0, ends.1, completes ends.0 _ _ _ _ _ _ f.0 ends.2 f.1 none c.write.ensures.empty)) f.2

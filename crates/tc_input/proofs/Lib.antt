@@ -1,0 +1,4 @@
+pub mod Left
+pub mod Comments
+pub mod LineSteps
+pub mod PieceSteps

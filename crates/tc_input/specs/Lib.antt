@@ -1,0 +1,4 @@
+pub mod Left
+pub mod Pieces
+pub mod Lines
+pub mod Text
