@@ -1,13 +1,8 @@
 //! Erases the codec and its tests into one file of nested modules.
 
-use erase::Crates;
-use std::env;
-use std::fs;
-use std::path::Path;
-
 include!("../../conjareho/crates.rs");
 
-/// The crates of tests, and those of forms. Those of refused memory are left out: `rust/tests/refusals` does the same for the erased codec.
+/// The crates of tests. Those of refused memory are left out: `rust/tests/refusals` does the same for the erased codec.
 const TESTS: &[&str] = &[
     "tests_messages",
     "tests_captures",
@@ -16,9 +11,6 @@ const TESTS: &[&str] = &[
     "tc_vectors",
     "tests_texts",
     "tests_capture",
-    "tc_forms",
-    "tc_forms_text",
-    "tc_kinds",
     "tests_forms",
 ];
 
@@ -38,12 +30,7 @@ const OMITTED: &[&str] = &[
 ];
 
 fn main() {
-    let here = env::var_os("CARGO_MANIFEST_DIR").expect("cargo names the folder of the package");
-    let folder = Path::new(&here).join("../../../crates");
-    println!("cargo::rerun-if-changed={}", folder.display());
-    let from = Crates { folder: &folder, codec: CRATES, users: TESTS, omitted: OMITTED };
-    let erased = erase::erase(from).unwrap_or_else(|fault| panic!("{fault}"));
-    let out = env::var_os("OUT_DIR").expect("cargo names the folder for what is made");
-    fs::write(Path::new(&out).join("tests.rs"), erased.bundle())
-        .expect("the folder for what is made can be written to");
+    let here = std::env::var_os("CARGO_MANIFEST_DIR").expect("cargo names the folder of the package");
+    let users = [FORMS, TESTS].concat();
+    write_erased(&Path::new(&here).join("../../../crates"), &users, OMITTED, "tests.rs");
 }
