@@ -1,0 +1,36 @@
+-- Names of numbers.
+use Rattle.std.specs.Prelude.{List, None, Option, Some, [], bytes_eq, if◌then◌else◌, map, ℕ, ◌++◌, ◌==◌, ◌∷◌}
+use Rattle.tc_units.specs.Numerals.{bracketed}
+use Rattle.tc_units.specs.Units.{number_text}
+use Rattle.tc_units.specs.declared.names.Name.{Name as CodeName}
+use Rattle.tc_units.specs.declared.unit.Unit.{Unit}
+
+pub record Name : Type 0 where
+  pub number : ℕ
+  pub name : List ℕ
+
+-- the first name of a number
+abbrev pub name_of : List Name → ℕ → Option (List ℕ)
+name_of [] n = None
+name_of (x ∷ xs) n = if x.number == n then Some x.name else name_of xs n
+
+-- a number behind its name, or alone
+abbrev pub named : Option (List ℕ) → List ℕ → List ℕ
+named None number = number
+named (Some name) number = name ++ bracketed number
+
+abbrev pub named_text : Unit → List Name → ℕ → List ℕ
+named_text unit names n = named (name_of names n) (number_text unit n)
+
+-- the first number of a name
+abbrev pub number_of : List Name → List ℕ → Option ℕ
+number_of [] name = None
+number_of (x ∷ xs) name = if bytes_eq x.name name then Some x.number else number_of xs name
+
+-- ---- what the code's values say
+
+abbrev pub name_view : CodeName → Name
+name_view x = record { number = x.number; name = x.name.now }
+
+abbrev pub names_view : List CodeName → List Name
+names_view xs = map name_view xs

@@ -1,0 +1,67 @@
+//! Spans of time.
+
+ghost use Rattle.std.specs.Prelude.{OnOk, ◌++◌, ◌≡◌};
+ghost use Rattle.tc_units.specs.Times.{clock_text, ticks_text, time_in, time_text};
+
+use crate::numerals::{put_decimal, put_wide};
+use std::alloc::{AllocError, Allocator};
+
+/// Puts nanoseconds in the longest of s, ms, us and ns that counts them exactly.
+#[inline(never)]
+pub(crate) fn put_time<A: Allocator>(out: &mut Vec<u8, A>, ns: u128) -> Result<(), AllocError>
+    ensures { OnOk result (out.new.items ≡ out.old.items ++ time_text ns) }
+{
+    if ns % 1_000_000_000 == 0 {
+        put_wide(out, ns / 1_000_000_000)?;
+        return out.extend_from_slice(b"s");
+    }
+    if ns % 1_000_000 == 0 {
+        put_wide(out, ns / 1_000_000)?;
+        return out.extend_from_slice(b"ms");
+    }
+    if ns % 1_000 == 0 {
+        put_wide(out, ns / 1_000)?;
+        return out.extend_from_slice(b"us");
+    }
+    put_wide(out, ns)?;
+    out.extend_from_slice(b"ns")
+}
+
+/// Puts so many units of this name, and the time in a longer unit where that is exact.
+pub(crate) fn put_time_in<A: Allocator>(
+    out: &mut Vec<u8, A>,
+    each: u32,
+    name: &[u8],
+    n: u64,
+) -> Result<(), AllocError>
+    ensures { OnOk result (out.new.items ≡ out.old.items ++ time_in each name.now n) }
+{
+    put_decimal(out, n)?;
+    out.extend_from_slice(name)?;
+    if n > 0 && n % 1000 == 0 {
+        out.extend_from_slice(b" (")?;
+        put_time(out, n as u128 * each as u128)?;
+        out.extend_from_slice(b")")?;
+    }
+    Ok(())
+}
+
+/// Puts ticks of the packet scheduler, and their time.
+pub(crate) fn put_ticks<A: Allocator>(out: &mut Vec<u8, A>, n: u64) -> Result<(), AllocError>
+    ensures { OnOk result (out.new.items ≡ out.old.items ++ ticks_text n) }
+{
+    put_decimal(out, n)?;
+    out.extend_from_slice(b" ticks (")?;
+    put_time(out, n as u128 * 64)?;
+    out.extend_from_slice(b")")
+}
+
+/// Puts hundredths of a second, and their time.
+pub(crate) fn put_clock<A: Allocator>(out: &mut Vec<u8, A>, n: u64) -> Result<(), AllocError>
+    ensures { OnOk result (out.new.items ≡ out.old.items ++ clock_text n) }
+{
+    put_decimal(out, n)?;
+    out.extend_from_slice(b" clock_t (")?;
+    put_time(out, n as u128 * 10_000_000)?;
+    out.extend_from_slice(b")")
+}
