@@ -19,6 +19,7 @@ const PROGRAMS: &[&str] = &[
     "tcshow_lib",
     "tc_order",
     "tc_plan",
+    "tcmake_lines",
     "tcmake_lib",
 ];
 

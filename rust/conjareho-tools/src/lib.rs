@@ -27,6 +27,7 @@ mod strict;
 mod user;
 
 use small::{arrayvec, itoa};
+use user::memchr;
 
 // The erased crates, each a private module.
 include!(concat!(env!("OUT_DIR"), "/programs.rs"));

@@ -13,10 +13,11 @@ fn is_law_module(name: &str) -> bool {
 /// Takes out laws: the modules that hold nothing else, the functions elsewhere, what imports them, and their calls. Modules and
 /// functions that are omitted go with them.
 pub(crate) fn drop_laws(files: &mut Vec<Source>, omitted: &[&str]) -> Result<(), Fault> {
-    // The names of laws, and those of other functions, with whether one of these can write.
+    // The names of laws, and those of modules and other functions, with whether one of these can write.
     let (mut laws, mut others) = (BTreeSet::new(), BTreeMap::new());
     let is_of_laws = |file: &Source| file.path.iter().any(|name| is_law_module(name));
     for file in files.iter() {
+        others.entry(&*file.path[file.path.len() - 1].clone().leak()).or_insert(false);
         for function in functions(&file.tokens)? {
             if function.does_nothing {
                 laws.insert(function.name);
