@@ -70,13 +70,17 @@ has_kind attributes = list_any is_kind attributes
 abbrev pub in_chain : {A : Type 0} → TcMessage A → Key
 in_chain m = key.InChain m.header.index (handle_number m.header.parent) (chain_number m.attributes.items)
 
+-- a class; one whose minor number is 0 is a root class, which its qdisc makes, and its handle is that of the qdisc
+abbrev pub class_of : TcHeader → List Key
+class_of h = if handle_number h.handle % 0x10000 == 0 then [] else key.Node h.index (handle_number h.handle) ∷ []
+
 -- a qdisc gives itself, clsact if it is that, and its blocks, a class itself, a chain itself; a filter that its chain has one, and
 -- a hash table itself
 abbrev pub gives : {A : Type 0} → Object → TcMessage A → List Key
 gives Qdisc m =
     (key.Node m.header.index (handle_number m.header.handle) ∷ (if list_any is_clsact m.attributes.items then key.Clsact m.header.index ∷ [] else []))
     ++ flat_map block_of m.attributes.items
-gives Class m = key.Node m.header.index (handle_number m.header.handle) ∷ []
+gives Class m = class_of m.header
 gives Chain m = chain_of m ∷ []
 gives Filter m = in_chain m ∷ (if is_table m then tables_of m ∷ [] else [])
 
@@ -97,7 +101,7 @@ wants Filter m =
 -- what a dump is, of which one is enough
 abbrev pub object : {A : Type 0} → Object → TcMessage A → List Key
 object Qdisc m = key.Node m.header.index (handle_number m.header.handle) ∷ []
-object Class m = key.Node m.header.index (handle_number m.header.handle) ∷ []
+object Class m = class_of m.header
 object Chain m = chain_of m ∷ []
 object Filter m =
     key.Filter m.header.index (handle_number m.header.parent) (chain_number m.attributes.items) (handle_number m.header.handle) m.header.info ∷ []

@@ -4,7 +4,7 @@ ghost use Rattle.std.specs.Prelude.{◌≡◌, ◌∷◌, ◌++◌, ◌%◌, ◌
 ghost use Rattle.std.specs.List.{flat_map, list_any};
 ghost use Rattle.std.specs.Option.{option_to_list};
 ghost use Rattle.tc_records.specs.Header.{handle_number};
-ghost use Rattle.tc_plan.specs.Needs.{chain_number, block_of, gives, wants, parents, object, must, must_not, made_by, is_kind, is_clsact, has_kind, gives_actions, chain_of, in_chain};
+ghost use Rattle.tc_plan.specs.Needs.{chain_number, block_of, gives, wants, parents, object, must, must_not, made_by, is_kind, is_clsact, has_kind, gives_actions, class_of, chain_of, in_chain};
 ghost use Rattle.tc_requests.specs.declared.restore_messages.Object.TheVariants as kinds;
 ghost use Rattle.tc_plan.specs.declared.key.Key.TheVariants.{Actions, Chain, Node, Tables};
 
@@ -108,26 +108,29 @@ pub fn entry_of_actions<A: Allocator + Copy>(
 fn object_of<A: Allocator>(kind: Object, dump: &TcMessage<A>) -> Option<Key>
     ensures { option_to_list result ≡ object kind dump.now }
 {
-    let header = &dump.header;
-    let index = header.index;
-    let handle = u32::from(header.handle);
-    let parent = u32::from(header.parent);
-    let number = chain_number(&dump.attributes);
-    Some(match kind {
-        Object::Qdisc | Object::Class => Key::Node { index, handle },
-        Object::Chain => Key::Chain {
-            index,
-            parent,
-            number,
-        },
-        Object::Filter => Key::Filter {
-            index,
-            parent,
-            number,
-            handle,
-            info: header.info,
-        },
-    })
+    match kind {
+        Object::Qdisc => Some(node_of(&dump.header)),
+        Object::Class => class_of(&dump.header),
+        Object::Chain => Some(chain_of(dump)),
+        Object::Filter => Some(Key::Filter {
+            index: dump.header.index,
+            parent: u32::from(dump.header.parent),
+            number: chain_number(&dump.attributes),
+            handle: u32::from(dump.header.handle),
+            info: dump.header.info,
+        }),
+    }
+}
+
+// A class that isn't a root class.
+fn class_of(header: &TcHeader) -> Option<Key>
+    ensures { option_to_list result ≡ class_of header.now }
+{
+    if u32::from(header.handle) % 0x1_0000 == 0 {
+        None
+    } else {
+        Some(node_of(header))
+    }
 }
 
 // The class that is a class's parent.
@@ -251,7 +254,7 @@ fn given_by_class<A: Allocator + Copy>(
 ) -> Result<Vec<Key, A>, AllocError>
     ensures { IfOk result (λ keys. keys.items ≡ gives kinds.Class dump.now) }
 {
-    let keys = one(alloc, node_of(&dump.header))?;
+    let keys = with(Vec::new(alloc), class_of(&dump.header))?;
     Ok(keys)
 }
 

@@ -96,6 +96,16 @@ static MADE: [(Object, &str); 4] = [
     (Object::Filter, "00000000ffffffff0100000007000000080001c0"),
 ];
 
+// A class of hfsc, its root class, which has the handle of the qdisc, and the qdisc.
+static ROOT_CLASS: [(Object, &str); 3] = [
+    // 1:1 under 1:
+    (Object::Class, "0000000003000000010001000000010000000000"),
+    // 1: at the root, a class
+    (Object::Class, "000000000300000000000100ffffffff00000000"),
+    // 1: at the root
+    (Object::Qdisc, "000000000300000000000100ffffffff00000000"),
+];
+
 // The places of steps.
 fn places(alloc: Global, steps: &[Step<Item, Key, Global>]) -> Result<String, Fail> {
     let mut text = String::new(alloc);
@@ -136,6 +146,15 @@ fn parents_before_children(rt: HostRuntime) -> Result<(), Fail> {
     let alloc = rt.alloc();
     let made = planned(alloc, &TREE)?;
     assert!(rt; places(alloc, &made.order)?.as_str() == "7 8 2 5 0 4 1 3 6 ");
+    assert!(rt; made.left.is_empty());
+    Ok(())
+}
+
+#[test]
+fn root_classes_behind_their_qdisc(rt: HostRuntime) -> Result<(), Fail> {
+    let alloc = rt.alloc();
+    let made = planned(alloc, &ROOT_CLASS)?;
+    assert!(rt; places(alloc, &made.order)?.as_str() == "2 0 1 ");
     assert!(rt; made.left.is_empty());
     Ok(())
 }
