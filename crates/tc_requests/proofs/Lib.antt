@@ -1,5 +1,7 @@
 mod Firsts
 mod KindTold
+mod Placing
+mod Naming
 mod Settling
 mod Steps
 mod CodelTimes

@@ -4,6 +4,7 @@ ghost use Rattle.std.specs.Prelude.{◌≡◌, ◌+◌, ◌≤◌, length, map};
 ghost use Rattle.std.specs.List.{list_any};
 ghost use Rattle.tc_actions.specs.Action.{tc_action};
 ghost use Rattle.tc_requests.specs.Restoring.{Gives, seen};
+ghost use Rattle.tc_requests.specs.RestoredActions.{kind_of_action};
 ghost use Rattle.tc_requests.specs.Standing.{parameters, use_at, use_in, use_of_generic, use_of, answer, answer_if, option_says, attribute_says, says, standing, are_held, standing_restored};
 
 use crate::numbers::number_at;
@@ -73,8 +74,15 @@ fn any_to_chain<A: Allocator>(actions: &[TcAction<A>]) -> bool
 fn says<A: Allocator>(asked: Asked, action: &TcAction<A>) -> bool
     ensures { result ≡ says asked action.now }
 {
-    let kind = sole_kind(&action.attributes);
+    let kind = kind_of_action(action);
     any_says(asked, kind, &action.attributes)
+}
+
+// The one kind that an action sets, or "".
+fn kind_of_action<A: Allocator>(action: &TcAction<A>) -> &str
+    ensures { result.now ≡ kind_of_action action.now.attributes.items }
+{
+    sole_kind(&action.attributes)
 }
 
 fn any_says<A: Allocator>(asked: Asked, kind: &str, attributes: &[TcActionAttribute<A>]) -> bool

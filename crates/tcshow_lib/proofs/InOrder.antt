@@ -27,6 +27,11 @@ gives_then xs ys (Some x) None c p q = absurd p
 gives_then xs ys (Some x) (Some y) None p q = absurd q
 gives_then xs ys (Some x) (Some y) (Some z) p q = p ∙ ap (λ l. xs ++ l) q ∙ sym (append_assoc xs ys z)
 
+-- whether they go on
+pub on_is : (t u : Bool) (before : Option (List Thing)) (xs : List Thing) (after : Option (List Thing)) → t ≡ u → GivesUpTo u before xs after
+    → GivesUpTo t before xs after
+on_is t u before xs after same given = subst (λ (b : Bool). GivesUpTo b before xs after) (sym same) given
+
 -- the last of them
 pub gives_last : (xs ys : List Thing) (a b : Option (List Thing)) → Gives a xs b → Gives b ys (Some []) → Gives a (xs ++ ys) (Some [])
 gives_last xs ys a b p q = gives_then xs ys a b (Some []) p q
@@ -125,7 +130,7 @@ pub capture_begins : (header : Option Holds) (first : List ℕ) (file : Option (
     → capture_at (take 4 first) ≡ Some s → n ≡ 0 → Gives (capture_left n s file) things (Some []) → Begins first file header things
 unfolding things_in_file
 capture_begins header first None s n things is none h = tt
-capture_begins header first (Some bytes) s n things is none h same =
+capture_begins header first (Some bytes) s n things is none h = λ same.
     ap (λ (found : Option State). things_by header found bytes) (ap capture_at (sym same) ∙ is)
     ∙ ap (λ k. Some (things_in_pieces k (found_in s bytes))) (sym none)
     ∙ all_are (things_in_pieces n (found_in s bytes)) things h
@@ -134,7 +139,7 @@ pub text_begins : (header : Option Holds) (first : List ℕ) (file : Option (Lis
     → is_hex_text (take 4 first) ≡ true → Gives (text_left header file) things (Some []) → Begins first file header things
 unfolding things_in_file
 text_begins header first None things is hex h = tt
-text_begins header first (Some bytes) things is hex h same =
+text_begins header first (Some bytes) things is hex h = λ same.
     ap (λ (found : Option State). things_by header found bytes) (ap capture_at (sym same) ∙ is)
     ∙ ap (λ (t : Bool). if t then Some (things_on_lines header (lines_of bytes)) else None) (ap is_hex_text (sym same) ∙ hex)
     ∙ all_are (things_on_lines header (lines_of bytes)) things h

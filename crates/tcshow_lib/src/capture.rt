@@ -186,9 +186,9 @@ impl<'a, A: Allocator + Copy> Shower<'a, A> {
             (state_of self.old) (state_of self.new)) }
     {
         let number = packets.count(packet);
-        let contents = packet.contents();
-        packets.meet(&contents);
-        self.put_contents(number, packet, &contents, at)
+        let held = packet.contents();
+        packets.meet(&held);
+        self.put_contents(number, packet, &held, at)
     }
 
     // Shows what a packet holds.

@@ -62,7 +62,7 @@ fn a_stream(rt: HostRuntime) -> Result<(), Fail> {
 {"type":"RTM_NEWACTION","seq":3,"message":{"raw":"0000"}}
 {"type":"NLMSG_ERROR","seq":3,"errno":"EINVAL"}
 {"type":"RTM_NEWACTION","seq":4,"message":{"raw":"000000"}}
-{"type":"RTM_NEWACTION","seq":5,"message":{"raw":"00000000"}}
+{"type":"RTM_NEWACTION","seq":5,"message":{"header":{"family":"Unspec"},"attributes":[]}}
 {"type":"RTM_NEWACTION","seq":6,"message":{"raw":""}}"#;
     let run = made(alloc, &STREAM, lines);
     let want = "11000000300000000100000000000000000000001200000030000000030000000000000000000000\

@@ -166,7 +166,7 @@ fn settled_messages(rt: HostRuntime) -> Result<(), Fail> {
     let run = made(alloc, &bare(Making::Settled), lines);
     let want =
         b"000000000200000000000100ffffffff000000000b000100666c6f77657200000c0002000500440000000000
-000000000600050061000000
+000000000500050061000000
 ";
     let said = b"tcmake: line 1: /attributes/1/Options/0/Flower/MplsBos: found 2, settled to 0
 tcmake: line 2: /attributes/0/RootExtWarnMsg: found \"a\\u0000\", settled to \"a\"

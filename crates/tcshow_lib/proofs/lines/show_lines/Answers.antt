@@ -1,7 +1,9 @@
-use Rattle.std.proofs.Common.{◌∙◌, ◌++◌, [], Some, refl, subst}
-use Rattle.tcshow_lib.specs.Reading.{GivesUpTo}
+use Rattle.std.proofs.Common.{◌∙◌, ◌++◌, [], Some, true, false, refl, sym}
+use Rattle.tc_input.specs.Left.{left_of}
+use Rattle.tcshow_lib.specs.Reading.{text_left}
+use Rattle.tcshow_lib.specs.State.{state_of}
 use Rattle.tcshow_lib.proofs.Clean.{clean_none, clean_step}
-use Rattle.tcshow_lib.proofs.InOrder.{gives_none, gives_then, same_header}
+use Rattle.tcshow_lib.proofs.InOrder.{gives_none, gives_then, on_is, same_header}
 use Rattle.tcshow_lib.proofs.Progress.{progress_none, progress_then}
 use Rattle.tcshow_lib.proofs.lines.show_lines.Goals as goal
 
@@ -12,14 +14,19 @@ pub loop-preserved : goal.loop-preserved
 loop-preserved g c =
     let before = c.loop.invariant.ran in
     let next = c.in_ok-goes_on.ensures.ran in
-    let given = same_header _ _ _ next.0 _ _ before.1.header next.2 in
+    let header = (state_of c.args.shower.now).header in
+    let left = left_of c.loop.input (g.R.Read.remaining c.loop.reader) in
+    let after = left_of c.show_line.new.input (g.R.Read.remaining c.show_line.new.reader) in
+    let a = text_left header left in
+    let b = text_left header after in
+    let given = same_header (state_of c.loop.shower).header header c.in_ok-goes_on.goes_on next.0 left after before.1.header next.2 in
     record {
       form = c.show_line.ensures.form ∙ c.loop.invariant.form;
       clean = clean_step _ _ _ _ _ c.loop.invariant.clean c.loop.invariant.form c.show_line.ensures.clean;
       ran = (
         before.0 ++ next.0,
         progress_then before.0 next.0 _ _ _ _ _ _ before.1 next.1,
-        gives_then before.0 next.0 _ _ _ before.2 (subst (λ on. GivesUpTo on _ next.0 _) c.if-not-goes_on.false given),
+        gives_then before.0 next.0 _ a b before.2 (on_is true c.in_ok-goes_on.goes_on a next.0 b (sym c.if-not-goes_on.false) given),
       );
     }
 
@@ -29,10 +36,16 @@ loop-init g c = record { form = refl; clean = λ _. clean_none _; ran = ([], pro
 pub returns-then-not-goes_on-clause-ran : goal.returns-then-not-goes_on-clause-ran
 returns-then-not-goes_on-clause-ran g c =
     let before = c.loop.invariant.ran in
-    let next = c.in_ok-goes_on.ensures.ran in (
+    let next = c.in_ok-goes_on.ensures.ran in
+    let header = (state_of c.args.shower.now).header in
+    let left = left_of c.loop.input (g.R.Read.remaining c.loop.reader) in
+    let after = left_of c.show_line.new.input (g.R.Read.remaining c.show_line.new.reader) in
+    let a = text_left header left in
+    let b = text_left header after in
+    let given = same_header (state_of c.loop.shower).header header c.in_ok-goes_on.goes_on next.0 left after before.1.header next.2 in (
       before.0 ++ next.0,
       progress_then before.0 next.0 _ _ _ _ _ _ before.1 next.1,
-      gives_then before.0 next.0 _ _ _ before.2 (subst (λ on. GivesUpTo on _ next.0 _) c.if-not-goes_on.true given),
+      gives_then before.0 next.0 _ a (Some []) before.2 (on_is false c.in_ok-goes_on.goes_on a next.0 b (sym c.if-not-goes_on.true) given),
     )
 
 pub returns-then-not-goes_on-clause-clean : goal.returns-then-not-goes_on-clause-clean

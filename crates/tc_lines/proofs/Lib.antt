@@ -1,0 +1,4 @@
+pub mod Indents
+pub mod Stacks
+pub mod Walked
+pub mod Walks

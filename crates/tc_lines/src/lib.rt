@@ -1,0 +1,29 @@
+//! JSON of messages as lines for people: each leaf is in one line, named and shown by its column.
+//!
+//! [`lines_of`] sends what `tc_forms` shows of bytes to a format of serde that writes lines, so that the lines and the JSON of a message say
+//! the same. A line is a line feed, two blanks for each level, a name, and what it has:
+//!
+//! ```text
+//! kind htb
+//! options
+//!   parms
+//!     rate
+//!       rate 125000 B/s (1Mbit)
+//!     buffer 15625 ticks (1ms)
+//! ```
+//!
+//! Columns come from a table of the caller's, by places: that of the message, and from there those of what is within. A kind selects the
+//! columns of what is behind it in its list. A member without a column is shown as it is, in one line with all that is within.
+#![tactic(auto)]
+
+mod column;
+mod error;
+mod leaves;
+mod lines;
+mod log;
+mod outline;
+mod walk;
+
+pub use column::{Column, Columns, How};
+pub use error::LinesError;
+pub use outline::lines_of;

@@ -1,0 +1,52 @@
+//! The events that lines were sent. They exist only in proofs.
+
+ghost use base.Fml.{ftrue};
+ghost use Rattle.serde.specs.Event.{Log as Events};
+ghost use Rattle.serde_json.specs.Logged.{log_code};
+ghost use Rattle.std.specs.Prelude.{Some, [], ◌≡◌};
+
+use serde::Case;
+use std::marker::Model;
+
+/// The events that lines were sent.
+#[derive(Drop)]
+pub(crate) struct Log {
+    ghost events: { Events } by { log_code },
+}
+
+impl Model for Log {
+    ghost also_owns = { λ _. ftrue };
+}
+
+/// One call of a method, or `Lost` where what was written is not known.
+#[derive(Clone, Copy, Drop)]
+pub(crate) enum Note<'a> {
+    Bool(bool),
+    I64(i64),
+    U64(u64),
+    Text(&'a str),
+    Unit,
+    BeginSeq(Option<usize>),
+    EndSeq,
+    BeginMap(Option<usize>),
+    EndMap,
+    Key(&'a str, Case),
+    Lost,
+}
+
+impl Log {
+    ghost use Rattle.tc_lines.specs.Log.{noted};
+
+    pub(crate) fn new() -> Log
+        ensures { result.events ≡ Some [] }
+    {
+        Log {}
+    }
+
+    #[inline(always)]
+    pub(crate) fn then(&self, _note: &Note<'_>) -> Log
+        ensures { result.events ≡ noted self.now.events _note.now }
+    {
+        Log {}
+    }
+}
