@@ -27,9 +27,11 @@ fn below(folder: &Path, roots: &[&str], others: &[String]) -> Vec<String> {
 }
 
 /// What is left of crates of the codec and of users of it, in a file below `OUT_DIR`, which is made anew where a crate has changed.
+/// A crate that is omitted is left out with those below it alone.
 fn write_erased(folder: &Path, users: &[&str], omitted: &[&str], name: &str) {
     let codec = below(folder, CODEC, &[]);
-    let users = below(folder, users, &codec);
+    let left_out = omitted.iter().filter(|name| !name.contains("::")).map(|name| name.to_string());
+    let users = below(folder, users, &codec.iter().cloned().chain(left_out).collect::<Vec<_>>());
     println!("cargo::rerun-if-changed={}", folder.join("../crates.txt").display());
     for name in codec.iter().chain(&users) {
         println!("cargo::rerun-if-changed={}", folder.join(name).join("src").display());
