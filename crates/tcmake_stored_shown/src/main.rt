@@ -25,7 +25,14 @@ fn main(rt: HostRuntime) -> ExitCode {
         names: Interfaces { names: &[] },
         has_summary: false,
     };
-    tcshow_lib::program::serve(alloc, alloc, &asked, &mut rt.reader(), &mut lines, &mut errors);
+    tcshow_lib::program::serve(
+        alloc,
+        alloc,
+        &asked,
+        &mut rt.reader(),
+        &mut lines,
+        &mut errors,
+    );
     let forms = Forms {
         table: TcTables,
         tc: TC_MESSAGE,

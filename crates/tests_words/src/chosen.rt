@@ -57,9 +57,18 @@ fn takes(
 }
 
 fn of_kinds<'a>(kinds: &'a [&'a str]) -> Chosen<'a> {
-    let mut chosen = Chosen::ALL;
-    chosen.kinds = kinds;
-    chosen
+    Chosen {
+        kinds,
+        types: &[],
+        interfaces: &[],
+        handles: &[],
+        parents: &[],
+        chains: &[],
+        priorities: &[],
+        since: None,
+        until: None,
+        refused: false,
+    }
 }
 
 #[test]
