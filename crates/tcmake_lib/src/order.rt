@@ -8,6 +8,7 @@ use crate::restore::{Dump, dump_of, restored};
 use nla_frames::ParseableBytes;
 use std::alloc::Global;
 use std::io::{BufRead, Write};
+use tc_action_messages::TcActionMessage;
 use tc_capture::Holds;
 use tc_forms::Tables;
 use tc_messages::TcMessage;
@@ -47,14 +48,18 @@ impl Requests {
     /// Keeps the dump of a line.
     pub(crate) fn keep(&mut self, alloc: Global, number: u64, dump: Made) -> Result<(), Complaint> {
         let place = self.lines.len();
-        let message = match dump_of(dump.given.kind)? {
-            Dump::Of(object) => Some((object, TcMessage::parse(alloc, &dump.bytes)?)),
-            Dump::Actions => None,
-        };
+        let bytes = dump.bytes.clone()?;
+        let kind = dump_of(dump.given.kind)?;
         let (fate, made) = fate_of(restored(alloc, dump))?;
-        let entry = match message {
-            Some((object, message)) => entry_of(alloc, place, fate, object, &message)?,
-            None => entry_of_actions(alloc, place, fate)?,
+        let entry = match kind {
+            Dump::Of(object) => {
+                let message = TcMessage::parse(alloc, &bytes)?;
+                entry_of(alloc, place, fate, object, &message)?
+            }
+            Dump::Actions => {
+                let message = TcActionMessage::parse(alloc, &bytes)?;
+                entry_of_actions(alloc, place, fate, &message)?
+            }
         };
         self.lines.push(Planned { number, made })?;
         Ok(self.entries.push(entry)?)
