@@ -117,13 +117,16 @@ action_by kind index = []
 abbrev pub standing_action : {A : Type 0} → TcAction A → List Key
 standing_action action = action_by (name_of (kind_of_action action.attributes.items)) (standing_index action)
 
--- those of an attribute, and of a dump of actions
-abbrev pub actions_in : {A : Type 0} → TcActionMessageAttribute A → List Key
-actions_in (action_attribute.Actions actions) = flat_map standing_action actions.items
+-- the actions of an attribute, and those of it and of a dump that stand by themselves
+abbrev pub actions_in : {A : Type 0} → TcActionMessageAttribute A → List (TcAction A)
+actions_in (action_attribute.Actions actions) = actions.items
 actions_in x = []
 
+abbrev pub standing_in : {A : Type 0} → TcActionMessageAttribute A → List Key
+standing_in attribute = flat_map standing_action (actions_in attribute)
+
 abbrev pub standing_objects : {A : Type 0} → TcActionMessage A → List Key
-standing_objects m = flat_map actions_in m.attributes.items
+standing_objects m = flat_map standing_in m.attributes.items
 
 -- what a dump is, of which one is enough
 abbrev pub object : {A : Type 0} → Object → TcMessage A → List Key

@@ -5,7 +5,7 @@ ghost use Rattle.std.specs.List.{flat_map, list_any};
 ghost use Rattle.std.specs.Option.{option_to_list};
 ghost use Rattle.tc_records.specs.Header.{handle_number};
 ghost use Rattle.tc_plan.specs.Needs.{chain_number, block_of, gives, wants, parents, object, must, must_not, made_by, is_kind, is_clsact, has_kind, gives_actions, class_of, chain_of, in_chain};
-ghost use Rattle.tc_plan.specs.Needs.{name_of, action_by, standing_action, actions_in, standing_objects};
+ghost use Rattle.tc_plan.specs.Needs.{name_of, action_by, standing_action, actions_in, standing_in, standing_objects};
 ghost use Rattle.tc_requests.specs.declared.restore_messages.Object.TheVariants as kinds;
 ghost use Rattle.tc_plan.specs.declared.key.Key.TheVariants.{Actions, Chain, Node, Tables};
 
@@ -113,28 +113,26 @@ fn standing_objects<A: Allocator + Copy>(
     alloc: A,
     attributes: &[TcActionMessageAttribute<A>],
 ) -> Result<Vec<Key, A>, AllocError>
-    ensures { IfOk result (λ keys. keys.items ≡ flat_map actions_in attributes.now) }
+    ensures { IfOk result (λ keys. keys.items ≡ flat_map standing_in attributes.now) }
 {
     let mut keys = Vec::new(alloc);
     for attribute in attributes {
-        keys = with_actions_in(keys, attribute)?;
+        keys = with_actions(keys, actions_in(attribute))?;
     }
     Ok(keys)
 }
 
-// Keys, and the actions of an attribute that stand by themselves.
-fn with_actions_in<A: Allocator>(
-    keys: Vec<Key, A>,
-    attribute: &TcActionMessageAttribute<A>,
-) -> Result<Vec<Key, A>, AllocError>
-    ensures { IfOk result (λ made. made.items ≡ keys.items ++ actions_in attribute.now) }
+// The actions of an attribute.
+fn actions_in<A: Allocator>(attribute: &TcActionMessageAttribute<A>) -> &[TcAction<A>]
+    ensures { result.now ≡ actions_in attribute.now }
 {
     match attribute {
-        TcActionMessageAttribute::Actions(actions) => with_actions(keys, actions),
-        _ => Ok(keys),
+        TcActionMessageAttribute::Actions(actions) => actions,
+        _ => &[],
     }
 }
 
+// Keys, and those of these actions that stand by themselves.
 fn with_actions<A: Allocator>(
     keys: Vec<Key, A>,
     actions: &[TcAction<A>],

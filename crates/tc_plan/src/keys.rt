@@ -2,6 +2,7 @@
 
 ghost use Rattle.std.specs.Prelude.{◌≡◌, ◌++◌, List, IfOk};
 ghost use Rattle.std.specs.List.{list_any};
+ghost use Rattle.std.specs.HashSet as bag;
 ghost use Rattle.tc_plan.specs.Fates.{IsSetOf};
 
 use std::alloc::{AllocError, Allocator};
@@ -18,7 +19,8 @@ pub(crate) fn set_of<K: Eq + Hash + Copy + Drop, A: Allocator + Copy>(
 ) -> Result<Keys<K, A>, AllocError>
     ensures { IfOk result (λ set. IsSetOf K.eq set keys.now) }
 {
-    with_keys(HashSet::new(alloc), keys)
+    let made = with_keys(HashSet::new(alloc), keys)?;
+    Ok(made)
 }
 
 // A set with these keys too.
@@ -38,8 +40,7 @@ pub(crate) fn with_keys<K: Eq + Hash + Copy + Drop, A: Allocator + Copy>(
 
 // True if one of these keys is in a set.
 pub(crate) fn any_in<K: Eq + Hash + Copy + Drop, A: Allocator>(set: &Keys<K, A>, keys: &[K]) -> bool
-    ensures { (all : List K) → IsSetOf K.eq set.now all
-        → result ≡ list_any (λ key. list_any (K.eq key) all) keys.now }
+    ensures { result ≡ list_any (λ key. bag.contains K.eq set.now key) keys.now }
 {
     keys.iter().any(|key| set.contains(key))
 }

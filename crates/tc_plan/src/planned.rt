@@ -2,7 +2,7 @@
 
 ghost use Rattle.std.specs.Prelude.{◌≡◌, ◌++◌, List, [], true, false, All, map, IfOk, IsPermutation};
 ghost use Rattle.tc_order.specs.Order.{waits, IsOrder};
-ghost use Rattle.tc_plan.specs.Fates.{parts_of, parts_among, needs_of, gifts, same_key, is_refused, IsSetOf, among, lacks, again, fate_by, gives_by};
+ghost use Rattle.tc_plan.specs.Fates.{parts_of, parts_among, needs_of, gifts, same_key, is_refused, IsSetOf, among, any_among, lacks, again, fate_by, gives_by};
 
 use crate::entry::{Entry, Item};
 use crate::fate::{Fate, Reason};
@@ -136,8 +136,9 @@ fn steps_of<A: Allocator + Copy>(
             must_not,
             made_by,
         } = entry;
-        let fate = fate_among(&given, &before, &objects, must, must_not, made_by, fate);
-        before = with_keys(before, &objects)?;
+        let own = objects.as_slice();
+        let fate = fate_among(&given, &before, own, must, must_not, made_by, fate);
+        before = with_keys(before, own)?;
         let step = step_by(place, fate, gives, wants);
         steps.push(step)?;
     }
@@ -194,7 +195,7 @@ fn fate_among<A: Allocator>(
 {
     match fate {
         Fate::Request => {
-            if any_in(before, own) {
+            if is_again(before, own) {
                 again(own)
             } else if lacks(given, must) {
                 Fate::Refused(Reason::NoParent)
@@ -208,6 +209,14 @@ fn fate_among<A: Allocator>(
         }
         fate => fate,
     }
+}
+
+// True if a dump before has one of the objects of this one.
+fn is_again<A: Allocator>(before: &Keys<Key, A>, own: &[Key]) -> bool
+    ensures { (keys : List Key) → IsSetOf same_key before.now keys
+        → result ≡ any_among keys own.now }
+{
+    any_in(before, own)
 }
 
 // What becomes of a second dump.

@@ -109,10 +109,13 @@ abbrev pub index_in : {A : Type 0} → List ℕ → List (TcActionOption A) → 
 index_in kind [] = None
 index_in kind (option ∷ options) = either (index_by kind option) (index_in kind options)
 
+abbrev pub index_under : {A : Type 0} → List ℕ → TcActionAttribute A → Option ℕ
+index_under kind (attribute.Options options) = index_in kind options.items
+index_under kind x = None
+
 abbrev pub first_index : {A : Type 0} → List ℕ → List (TcActionAttribute A) → Option ℕ
 first_index kind [] = None
-first_index kind (attribute.Options options ∷ attributes) = either (index_in kind options.items) (first_index kind attributes)
-first_index kind (x ∷ attributes) = first_index kind attributes
+first_index kind (x ∷ attributes) = either (index_under kind x) (first_index kind attributes)
 
 abbrev pub index_of : {A : Type 0} → TcAction A → Option ℕ
 index_of action = first_index (kind_of_action action.attributes.items) action.attributes.items

@@ -6,7 +6,7 @@ ghost use Rattle.tc_actions.specs.Action.{tc_action};
 ghost use Rattle.tc_requests.specs.Restoring.{Gives, seen};
 ghost use Rattle.tc_requests.specs.RestoredActions.{kind_of_action};
 ghost use Rattle.tc_requests.specs.Standing.{parameters, use_at, use_in, use_of_generic, use_of, answer, answer_if, option_says, attribute_says, says, standing, are_held, standing_restored};
-ghost use Rattle.tc_requests.specs.Standing.{index_by, index_in, first_index, index_of, standing_index};
+ghost use Rattle.tc_requests.specs.Standing.{index_by, index_in, index_under, first_index, index_of, standing_index};
 
 use crate::numbers::number_at;
 use crate::restore::{is_of, restore_all, sole_kind};
@@ -112,13 +112,20 @@ fn first_index<A: Allocator>(kind: &str, attributes: &[TcActionAttribute<A>]) ->
     ensures { result ≡ first_index kind.now attributes.now }
 {
     for attribute in attributes {
-        if let TcActionAttribute::Options(options) = attribute {
-            if let Some(index) = index_in(kind, options) {
-                return Some(index);
-            }
+        if let Some(index) = index_under(kind, attribute) {
+            return Some(index);
         }
     }
     None
+}
+
+fn index_under<A: Allocator>(kind: &str, attribute: &TcActionAttribute<A>) -> Option<u32>
+    ensures { result ≡ index_under kind.now attribute.now }
+{
+    match attribute {
+        TcActionAttribute::Options(options) => index_in(kind, options),
+        _ => None,
+    }
 }
 
 fn index_in<A: Allocator>(kind: &str, options: &[TcActionOption<A>]) -> Option<u32>

@@ -79,7 +79,16 @@ fn fate_of(made: Result<Made, Complaint>) -> Result<(Fate, Option<Made>), Compla
 // Flags of `linux/netlink.h`.
 const NLM_F_REQUEST: u16 = 1;
 
+// Its bits are those of `NLM_F_REPLACE` and `NLM_F_EXCL` where the type isn't a GET.
 const NLM_F_DUMP: u16 = 0x300;
+
+// True of the type of a GET: the types of rtnetlink go in fours, NEW, DEL, GET and SET.
+fn is_get(kind: Option<u16>) -> bool {
+    match kind {
+        Some(kind) => kind % 4 == 2,
+        None => false,
+    }
+}
 
 /// The message of a dump, of this interface if one is given; none of the request of a dump, which captures of dumps have.
 pub(crate) fn dumped(made: Made, index: Option<i32>) -> Result<Option<Made>, Complaint> {
@@ -87,7 +96,7 @@ pub(crate) fn dumped(made: Made, index: Option<i32>) -> Result<Option<Made>, Com
     if flags & NLM_F_REQUEST == 0 {
         return Ok(Some(with_index(made, index)));
     }
-    if flags & NLM_F_DUMP == NLM_F_DUMP {
+    if flags & NLM_F_DUMP == NLM_F_DUMP && is_get(made.given.kind) {
         return Ok(None);
     }
     Err(Complaint::Member {

@@ -5,8 +5,10 @@ use std::alloc::Global;
 use std::test::Fail;
 use tc_action_messages::TcActionMessage;
 use tc_messages::TcMessage;
-use tc_plan::{Entry, Fate, Item, Key, Order, Step, circle, entry_of, entry_of_actions, plan};
-use tc_requests::Object;
+use tc_plan::{
+    Entry, Fate, Item, Key, Order, Reason, Step, circle, entry_of, entry_of_actions, plan,
+};
+use tc_requests::{Object, RestoreError};
 
 // A tree of classes, a chain, and a table of u32, each before what it needs.
 static TREE: [(Object, &str); 9] = [
@@ -270,11 +272,17 @@ fn actions_before_filters_and_once(rt: HostRuntime) -> Result<(), Fail> {
     for (place, (object, text)) in ACTIONS.iter().enumerate() {
         entries.push(entry(alloc, place, *object, text)?)?;
     }
+    // One that can't be made: the filter has its own in full.
+    let dump = TcActionMessage::default_in(alloc);
+    let fate = Fate::Refused(Reason::Restore(RestoreError::GotoChain));
+    entries.push(entry_of_actions(alloc, 6, fate, &dump)?)?;
     let made = plan(alloc, entries)?;
     assert!(rt;
         fates(alloc, &made.order)?.as_str()
             == "1 request\n3 request\n4 request\n5 request\n0 request\n"
     );
-    assert!(rt; fates(alloc, &made.left)?.as_str() == "2 a second dump of this\n");
+    let reason = RestoreError::GotoChain;
+    let left = format!(in alloc; "2 a second dump of this\n6 can't be restored: {reason}\n")?;
+    assert!(rt; fates(alloc, &made.left)?.as_str() == left.as_str());
     Ok(())
 }

@@ -4,4 +4,4 @@ use Rattle.tc_requests.proofs.standing.first_index.Given as goal
 
 -- the first of those to come is the first of all
 abbrev pub invariant-loop-attribute : goal.invariant-loop-attribute
-invariant-loop-attribute g l = first_index l.fn.kind.now (drop l.attribute-index l.attributes) ≡ first_index l.fn.kind.now l.attributes
+invariant-loop-attribute g l = first_index l.kind (drop l.attribute-index l.attributes) ≡ first_index l.kind l.attributes
