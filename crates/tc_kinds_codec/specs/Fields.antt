@@ -23,7 +23,8 @@ pub data FieldSaid : Type 0 where
 
 -- `AddressFamily`, in the order of their numbers in the tables
 abbrev pub family_names : List (List ℕ)
-family_names = codes "Unspec" ∷ codes "Unix" ∷ codes "Inet" ∷ codes "Bridge" ∷ codes "Inet6" ∷ codes "Netlink" ∷ codes "Packet" ∷ codes "Mpls" ∷ []
+family_names =
+    codes "Unspec" ∷ codes "Unix" ∷ codes "Inet" ∷ codes "Bridge" ∷ codes "Inet6" ∷ codes "Netlink" ∷ codes "Packet" ∷ codes "Mpls" ∷ []
 
 -- `TcActionType`, in the order of their numbers in the tables
 abbrev pub action_type_names : List (List ℕ)
