@@ -7,8 +7,7 @@ ghost use Rattle.tcshow_lib.specs.Found.{header_view, header_with};
 use nla_frames::strip_nul;
 use tc_capture::order::Order;
 use tc_capture::{Holds, NetlinkMessage, Time, rtm_of};
-use tc_index::{Attribute, Attributes};
-use tc_names::Table;
+use tc_index::{Attribute, Attributes, Table};
 use tc_outline::What;
 
 /// What is shown of the header of a netlink message.
