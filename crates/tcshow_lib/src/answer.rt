@@ -7,7 +7,7 @@ use crate::line::line_of;
 use crate::pages::show_origin;
 use crate::shower::Shower;
 use std::alloc::{AllocError, Allocator};
-use tc_outline::{Fault, outline};
+use tc_outline::{Fault, Interfaces, outline};
 
 // The name of a fault, where there is one.
 fn name_of(fault: &Option<Fault>) -> Option<&'static str>
@@ -30,7 +30,8 @@ impl<'a, A: Allocator + Copy> Shower<'a, A> {
         ensures form { self.new.output.is_json ≡ self.old.output.is_json }
         ensures put { OnOk result (Puts (message (message_view found.now) ∷ []) (state_of self.old) (state_of self.new)) }
     {
-        if !self.asked.chosen.takes(found) {
+        let taken = self.takes(found)?;
+        if !taken {
             self.counts.left_out = self.counts.left_out.saturating_add(1);
             return Ok(());
         }
@@ -58,7 +59,10 @@ impl<'a, A: Allocator + Copy> Shower<'a, A> {
             × Grows text bad (state_of self.old) (state_of self.new)) }
     {
         show_origin(&mut self.page, found)?;
-        let names = self.asked.names;
+        let names = self.links.with(self.asked.names.names)?;
+        let names = Interfaces {
+            names: names.as_slice(),
+        };
         let fault = outline(&mut self.page, found.payload, found.what, &names)?;
         self.put_page()?;
         self.count_fault(name_of(&fault))

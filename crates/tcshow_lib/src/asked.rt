@@ -1,6 +1,7 @@
 //! What is asked for.
 
 use tc_capture::Holds;
+use tc_chosen::Chosen;
 use tc_outline::Interfaces;
 
 /// How messages are shown.
@@ -12,17 +13,6 @@ pub enum Form {
     OneLine,
     /// As a line of JSON.
     Json,
-}
-
-/// Which messages are shown.
-#[derive(Clone, Copy)]
-pub struct Chosen<'a> {
-    /// Those of this kind; of actions, those whose first action is of it.
-    pub kind: Option<&'a str>,
-    /// Those of the message type with this name.
-    pub rtm: Option<&'a str>,
-    /// Those of the interface with this number.
-    pub interface: Option<u32>,
 }
 
 /// What a run does.

@@ -13,7 +13,7 @@ use nla_frames::strip_nul;
 use std::alloc::{AllocError, Allocator, Global};
 use std::str;
 use tc_capture::{Answer, NLMSG_HEADER_LEN, NetlinkMessage, answer_in, errno_name};
-use tc_outline::{Layout, Page, outline, path_at};
+use tc_outline::{Interfaces, Layout, Page, outline, path_at};
 
 /// An answer of the kernel to a request of traffic control.
 #[derive(Clone, Copy)]
@@ -98,7 +98,7 @@ impl<'a, A: Allocator + Copy> Shower<'a, A> {
         ensures form { self.new.output.is_json ≡ self.old.output.is_json }
         ensures put { OnOk result (Puts (thing_view reply.now ∷ []) (state_of self.old) (state_of self.new)) }
     {
-        if !self.asked.chosen.takes(&reply.request) {
+        if !self.takes_request(&reply.request) {
             self.counts.left_out = self.counts.left_out.saturating_add(1);
             return Ok(());
         }
@@ -142,7 +142,10 @@ impl<'a, A: Allocator + Copy> Shower<'a, A> {
         let mut request = Page::new(self.alloc, layout_of(self.asked.form));
         show_name(&mut request, &reply.request)?;
         if !reply.answer.is_capped {
-            let names = self.asked.names;
+            let names = self.links.with(self.asked.names.names)?;
+            let names = Interfaces {
+                names: names.as_slice(),
+            };
             let _ = outline(
                 &mut request,
                 reply.request.payload,

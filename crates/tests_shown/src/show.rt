@@ -4,8 +4,10 @@
 mod answers;
 mod arguments;
 mod captures;
+mod choices;
 mod counts;
 mod cuts;
+mod dumps;
 mod formats;
 mod holes;
 mod known;

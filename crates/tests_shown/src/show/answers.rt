@@ -2,7 +2,7 @@
 
 use crate::show::runs::{all_in, shown};
 use std::test::Fail;
-use tcshow_lib::asked::{Chosen, Form};
+use tcshow_lib::asked::Form;
 
 // pcap, a packet for each: EINVAL of a request, with a text and a place, from the port 77, of packet type 7; the same, capped; an
 // acknowledgement; EEXIST of a request for links; NLMSG_DONE; an error 777 of a request that is cut.
@@ -73,11 +73,9 @@ fn answers(rt: HostRuntime) -> Result<(), Fail> {
     let run = shown(alloc, &all_in(Form::Json), &capture);
     assert!(rt; run.status == 0 && run.written.as_slice() == JSON.as_bytes());
     let mut asked = all_in(Form::OneLine);
-    asked.chosen = Chosen {
-        kind: Some("flower"),
-        rtm: None,
-        interface: Some(3),
-    };
+    asked.chosen.kinds = &["flower"];
+    asked.chosen.interfaces = &[3];
+    asked.chosen.refused = true;
     let run = shown(alloc, &asked, &capture);
     assert!(rt; run.status == 0 && run.written.as_slice() == ONE_LINE.as_bytes());
     Ok(())

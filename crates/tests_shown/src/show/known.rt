@@ -2,8 +2,9 @@
 
 use crate::show::runs::{all_in, shown};
 use std::test::Fail;
+use tc_chosen::{Chosen, Types};
 use tc_outline::Interfaces;
-use tcshow_lib::asked::{Chosen, Form};
+use tcshow_lib::asked::Form;
 
 // In hex: a qdisc of fq_codel with a limit of 10240 packets; the same with a limit of three bytes; NLMSG_DONE; a list of actions with an
 // index of 5.
@@ -65,33 +66,21 @@ fn known_messages(rt: HostRuntime) -> Result<(), Fail> {
     assert!(rt; run.status == 1);
     assert!(rt; run.written.as_slice() == LINES.as_bytes());
     let mut asked = all_in(Form::OneLine);
-    asked.chosen = Chosen {
-        kind: Some("mirred"),
-        rtm: None,
-        interface: None,
-    };
+    asked.chosen.kinds = &["mirred"];
     let run = shown(alloc, &asked, TEXT.as_bytes());
     assert!(rt; run.status == 0 && run.written.as_slice() == ONE_LINE.as_bytes());
-    asked.chosen = Chosen {
-        kind: None,
-        rtm: Some("RTM_NEWACTION"),
-        interface: None,
-    };
+    asked.chosen = Chosen::ALL;
+    asked.chosen.types = &[Types {
+        first: 48,
+        last: 48,
+    }];
     let run = shown(alloc, &asked, TEXT.as_bytes());
     assert!(rt; run.status == 0 && run.written.as_slice() == ONE_LINE.as_bytes());
     let mut asked = all_in(Form::Json);
-    asked.chosen = Chosen {
-        kind: None,
-        rtm: None,
-        interface: Some(2),
-    };
+    asked.chosen.interfaces = &[2];
     let run = shown(alloc, &asked, TEXT.as_bytes());
     assert!(rt; run.status == 1 && run.written.as_slice() == JSON.as_bytes());
-    asked.chosen = Chosen {
-        kind: None,
-        rtm: None,
-        interface: Some(3),
-    };
+    asked.chosen.interfaces = &[3];
     let run = shown(alloc, &asked, TEXT.as_bytes());
     assert!(rt; run.status == 0 && run.written.is_empty());
     Ok(())
