@@ -3,5 +3,6 @@
 #![tactic(auto)]
 
 mod root;
+mod tables;
 
 pub use root::{KindColumns, Root};

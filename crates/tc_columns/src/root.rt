@@ -1,9 +1,15 @@
 //! What messages speak of, and the columns of each.
 
-ghost use Rattle.tc_lines.specs.Columns.{no_table};
+ghost use Rattle.std.specs.Prelude.{map, option_map, ◌≡◌};
+ghost use Rattle.tc_columns.specs.Kinds.{interface_in, root_place, under_part};
+ghost use Rattle.tc_columns.specs.Tables.{all_columns, all_names};
+ghost use Rattle.tc_forms.specs.Places.{kind_place};
+ghost use Rattle.tc_forms.specs.Tables.{kinds_view};
+ghost use Rattle.tc_kinds.specs.Table.{tc_tables};
 
-use tc_forms::Form;
-use tc_kinds::{ACTION_MESSAGE, TC_MESSAGE};
+use crate::tables;
+use tc_forms::{Form, KindRows, Part, Tables};
+use tc_kinds::{ACTION_MESSAGE, TC_MESSAGE, TcTables};
 use tc_lines::{Column, Columns};
 use tc_units::Name;
 
@@ -28,7 +34,7 @@ pub enum Root {
 
 impl Root {
     /// What messages of this `nlmsg_type` and these `nlmsg_flags` speak of, where it is traffic control; `kind` is the text of the
-    /// message's first `TCA_KIND`, or empty.
+    /// message's first `TCA_KIND`, or empty. An `RTM_DELACTION` with `NLM_F_ROOT` is a flush.
     pub fn of(kind_of_message: u16, flags: u16, kind: &str) -> Option<Root> {
         match kind_of_message {
             36..=38 => Some(Root::Qdisc),
@@ -49,6 +55,21 @@ impl Root {
             _ => TC_MESSAGE,
         }
     }
+
+    // The place of its columns.
+    fn place(self) -> usize
+        ensures { result ≡ root_place self }
+    {
+        match self {
+            Root::Qdisc => 6000,
+            Root::Class => 6001,
+            Root::Filter => 6002,
+            Root::U32Filter => 6003,
+            Root::Chain => 6004,
+            Root::Action => 6005,
+            Root::Flush => 6006,
+        }
+    }
 }
 
 /// The columns of messages that speak of one thing. They take no memory.
@@ -62,24 +83,57 @@ pub struct KindColumns<'a> {
     pub all: bool,
 }
 
-impl<'a> Columns for KindColumns<'a> {
-    ghost says = { no_table };
+// The place of the columns of a kind, or else this one.
+fn kind_place(kind: &str, others: usize, kinds: &[KindRows<'_>]) -> usize
+    ensures { result ≡ kind_place kind.now others (kinds_view kinds.now) }
+{
+    match kinds.split_first() {
+        Some((it, _)) if it.kind == kind => it.rows,
+        Some((_, behind)) => kind_place(kind, others, behind),
+        None => others,
+    }
+}
 
-    ghost begins = { 0 };
+// The first name of an interface.
+fn interface_in<'a>(interfaces: &[(u32, &'a str)], number: u64) -> Option<&'a str>
+    ensures { option_map (λ t. t.now) result ≡ interface_in (map (λ x. (x.0, x.1.now)) interfaces.now) number }
+{
+    match interfaces.split_first() {
+        Some((interface, _)) if interface.0 as u64 == number => Some(interface.1),
+        Some((_, others)) => interface_in(others, number),
+        None => None,
+    }
+}
+
+impl<'a> Columns for KindColumns<'a> {
+    ghost says = { λ c. record { columns = all_columns; under = λ p k. under_part (tc_tables p) p k; names = all_names; interface = interface_in (map (λ x. (x.0, x.1.now)) c.interfaces.now); all = c.all } };
+
+    ghost begins = { λ c. root_place c.root };
 
     fn root(self) -> usize {
-        0
+        self.root.place()
     }
 
-    fn columns(self, _place: usize) -> &'static [Column<'static>] {
-        &[]
+    fn columns(self, place: usize) -> &'static [Column<'static>] {
+        tables::all_columns(place)
     }
 
-    fn under(self, place: usize, _kind: &str) -> usize {
-        place
+    fn under(self, place: usize, kind: &str) -> usize {
+        match TcTables.part(place) {
+            Part::Kinds(_, others, kinds) => kind_place(kind, others, kinds),
+            _ => place,
+        }
     }
 
-    fn names(self, _place: usize) -> &'static [Name<'static>] {
-        &[]
+    fn names(self, place: usize) -> &'static [Name<'static>] {
+        tables::all_names(place)
+    }
+
+    fn interface(&self, number: u64) -> Option<&str> {
+        interface_in(self.interfaces, number)
+    }
+
+    fn all(self) -> bool {
+        self.all
     }
 }

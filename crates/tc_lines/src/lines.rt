@@ -23,13 +23,14 @@ pub(crate) struct Lines<C: Columns + Drop> {
     columns: C,
     walk: Walk,
     log: Log,
-    ghost follows: { Follows C.says C.begins log.events (state_of walk) },
+    ghost follows: { Follows (C.says columns) (C.begins columns) log.events (state_of walk) },
 }
 
 impl<C: Columns + Drop> Lines<C> {
     /// No lines yet.
     pub(crate) fn new(alloc: Global, columns: C) -> Result<Lines<C>, LinesError>
-        ensures { IfOk result (λ l. l.log.events ≡ Some []) }
+        ensures events { IfOk result (λ l. l.log.events ≡ Some []) }
+        ensures columns { IfOk result (λ l. l.columns ≡ columns) }
     {
         let walk = Walk::new(alloc, columns.root())?;
         Ok(Lines {
@@ -41,7 +42,7 @@ impl<C: Columns + Drop> Lines<C> {
 
     /// The text.
     pub(crate) fn into_text(self) -> Vec<u8>
-        ensures { (d : Data) → self.log.events ≡ Some (events d) → result.items ≡ lines C.says C.begins d }
+        ensures { (d : Data) → self.log.events ≡ Some (events d) → result.items ≡ lines (C.says self.columns) (C.begins self.columns) d }
     {
         let Lines { walk, .. } = self;
         walk.out
