@@ -1,13 +1,12 @@
 -- The columns of messages that speak of one thing.
-use Rattle.std.specs.Prelude.{List, None, Option, Some, [], if◌then◌else◌, ℕ, ◌==◌, ◌∷◌}
+use Rattle.std.specs.Prelude.{List, ℕ}
 use Rattle.tc_columns.specs.Tables.{all_columns, all_names}
-use Rattle.tc_columns.specs.declared.root.KindColumns.{KindColumns}
 use Rattle.tc_columns.specs.declared.root.Root.{Root}
 use Rattle.tc_columns.specs.declared.root.Root.TheVariants as root
 use Rattle.tc_forms.specs.Places.{kind_place}
 use Rattle.tc_forms.specs.Tables.{Kinds, Part}
 use Rattle.tc_kinds.specs.Table.{tc_tables}
-use Rattle.tc_lines.specs.Columns.{Table}
+use Rattle.tc_lines.specs.Columns.{Given, Table, interface_in}
 
 -- where the columns of a message are
 abbrev pub root_place : Root → ℕ
@@ -24,7 +23,12 @@ abbrev pub under_part : Part → ℕ → List ℕ → ℕ
 under_part (Kinds common others kinds) place kind = kind_place kind others kinds
 under_part part place kind = place
 
--- the first name of an interface
-abbrev pub interface_in : List (ℕ × List ℕ) → ℕ → Option (List ℕ)
-interface_in [] n = None
-interface_in (x ∷ xs) n = if x.0 == n then Some x.1 else interface_in xs n
+abbrev pub kind_table : Given → Table
+kind_table g =
+    record {
+      columns = all_columns;
+      under = λ p kind. under_part (tc_tables p) p kind;
+      names = all_names;
+      interface = λ n. interface_in g.interfaces n;
+      all = g.all
+    }

@@ -1,11 +1,10 @@
 //! What messages speak of, and the columns of each.
 
 ghost use Rattle.std.specs.Prelude.{map, option_map, ◌≡◌};
-ghost use Rattle.tc_columns.specs.Kinds.{interface_in, root_place, under_part};
-ghost use Rattle.tc_columns.specs.Tables.{all_columns, all_names};
+ghost use Rattle.tc_columns.specs.Kinds.{kind_table, root_place};
 ghost use Rattle.tc_forms.specs.Places.{kind_place};
 ghost use Rattle.tc_forms.specs.Tables.{kinds_view};
-ghost use Rattle.tc_kinds.specs.Table.{tc_tables};
+ghost use Rattle.tc_lines.specs.Columns.{interface_in};
 
 use crate::tables;
 use tc_forms::{Form, KindRows, Part, Tables};
@@ -106,9 +105,9 @@ fn interface_in<'a>(interfaces: &[(u32, &'a str)], number: u64) -> Option<&'a st
 }
 
 impl<'a> Columns for KindColumns<'a> {
-    ghost says = { λ c. record { columns = all_columns; under = λ p k. under_part (tc_tables p) p k; names = all_names; interface = interface_in (map (λ x. (x.0, x.1.now)) c.interfaces.now); all = c.all } };
+    ghost given = { λ c. record { root = root_place c.root; all = c.all; interfaces = map (λ x. (x.0, x.1.now)) c.interfaces.now } };
 
-    ghost begins = { λ c. root_place c.root };
+    ghost says = { kind_table };
 
     fn root(self) -> usize {
         self.root.place()

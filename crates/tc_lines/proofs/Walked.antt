@@ -1,15 +1,18 @@
 -- What the events of JSON do: they write its lines.
-use Rattle.std.proofs.Common.{◌≡◌, ℕ, suc, zero, Bool, true, false, List, [], ◌∷◌, ◌++◌, Option, Some, None, refl, sym, subst, ap, ◌∙◌}
+use Rattle.std.proofs.Common.{◌≡◌, ℕ, suc, zero, Bool, true, false, List, [], ◌∷◌, ◌++◌, Option, Some, None, IfSome, ◌×◌, append_assoc, refl, sym, subst, ap, ◌∙◌}
 use Rattle.std.specs.Coded.{Coded-set, coded_list, coded_ℕ}
 use Rattle.std.proofs.Math.Logic.{∥∥₁_elim}
+use Rattle.std.proofs.lemmas.Option.{none-some}
 use Rattle.std.specs.Prelude.{if◌then◌else◌, option_and_then}
-use Rattle.serde.specs.Event.{Event, Log, map_ends, seq_ends, text}
+use Rattle.serde.specs.Event.{Event, Log, Logs, boolean as truth, map_ends, nothing, seq_ends, text, unsigned as number_sent}
 use Rattle.serde_json.specs.Data.{Data, Items, Members, array, boolean, float, item, member, negative, no_items, no_members, null, number, object, string, unsigned}
 use Rattle.tc_forms.specs.Sent.{Sent, events, items_events, members_events}
-use Rattle.tc_lines.specs.Columns.{Column, Table, depth_in, has_elements, in_line, is_nested, opened, place_in}
+use Rattle.serde_json.specs.Logged.{then}
+use Rattle.tc_lines.specs.Columns.{Column, Given, Table, depth_in, has_elements, in_line, is_nested, opened, place_in}
 use Rattle.tc_lines.specs.declared.column.How.{How}
 use Rattle.tc_lines.specs.declared.column.How.TheVariants.{Below, Count, Elements, Family, First, Flags, From, Handle, Hidden, InLine, Index, Info, Interface, Kind, Named, Number, Plain, Slash, Text, Through, To, Verdict, Within}
 use Rattle.tc_lines.specs.Lines.{Written, at, begins, begun, column, element, head, inside, inside_items, inside_members, inside_name, item_lines, items, lines, members, opening, place_behind, put, value}
+use Rattle.tc_lines.specs.Log.{interface_marks, marked, marks}
 use Rattle.tc_lines.specs.Walk.{Follows, State, between, go_inside, note, step, walked}
 use Rattle.tc_lines.specs.declared.walk.Frame.{Frame}
 use Rattle.tc_lines.specs.declared.walk.Frame.TheVariants.{InItems, InMembers}
@@ -193,6 +196,64 @@ module _ (t : Table) where
   lines_written root d log s e h =
       ∥∥₁_elim (subst (λ l. Follows t root l s) e h) (Coded-set (coded_list coded_ℕ) _ _) (λ x. ap out_of (sym x ∙ a-value d (begun root) 0 root false [] (Through root) 0))
 
--- what is sent to an empty log is all of it
-pub sent_all : (es : List Event) (old new : Log) → old ≡ Some [] → Sent es old new → new ≡ Some es
-sent_all es old new e h = subst (λ o. Sent es o new) e h
+-- ---- what the caller gave stays the same
+
+abbrev interfaces_of : List Event → List (ℕ × List ℕ)
+interfaces_of (number_sent n ∷ text name ∷ es) = (n, name) ∷ interfaces_of es
+interfaces_of es = []
+
+abbrev behind_marks : List Event → List Event
+behind_marks (nothing ∷ es) = es
+behind_marks (e ∷ es) = behind_marks es
+behind_marks [] = []
+
+abbrev given_of : List Event → Given
+given_of (number_sent root ∷ truth all ∷ es) = record { root = root; all = all; interfaces = interfaces_of es }
+given_of es = record { root = 0; all = false; interfaces = [] }
+
+abbrev sent_of : List Event → List Event
+sent_of (a ∷ b ∷ es) = behind_marks es
+sent_of es = []
+
+interfaces_back : (xs : List (ℕ × List ℕ)) (es : List Event) → interfaces_of (interface_marks xs ++ es) ≡ xs
+interfaces_back [] es = refl
+interfaces_back (x ∷ xs) es = ap (λ l. x ∷ l) (interfaces_back xs es)
+
+sent_back : (xs : List (ℕ × List ℕ)) (es : List Event) → behind_marks (interface_marks xs ++ es) ≡ es
+sent_back [] es = refl
+sent_back (x ∷ xs) es = sent_back xs es
+
+given_back : (g : Given) (es : List Event) → given_of (marks g ++ es) ≡ g
+given_back g es = ap (λ l. record { root = g.root; all = g.all; interfaces = l }) (interfaces_back g.interfaces es)
+
+abbrev held : Log → List Event
+held None = []
+held (Some es) = es
+
+-- what is sent where nothing was, is all of it, and by what the caller gave
+all_sent : (g k : Given) (es : List Event) (before new : Log) → before ≡ marked g (Some []) → Sent es before (marked k new)
+    → marked k new ≡ Some (marks g ++ es)
+all_sent g k es before new e h =
+    subst (λ o. Sent es o (marked k new)) e h ∙ ap Some (append_assoc (marks g) [] es)
+
+events_sent : (g k : Given) (es : List Event) (new : Log) → marked k new ≡ Some (marks g ++ es) → new ≡ Some es
+events_sent g k es None h = absurd (none-some _ h)
+events_sent g k es (Some fs) h =
+    ap Some (sym (sent_back k.interfaces fs) ∙ ap (λ l. sent_of (held l)) h ∙ sent_back g.interfaces es)
+
+same_given : (g k : Given) (es : List Event) (new : Log) → marked k new ≡ Some (marks g ++ es) → k ≡ g
+same_given g k es None h = absurd (none-some _ h)
+same_given g k es (Some fs) h = sym (given_back k fs) ∙ ap (λ l. given_of (held l)) h ∙ given_back g es
+
+pub lines_given : (says : Given → Table) (g k : Given) (d : Data) (before new : Log) (out : List ℕ)
+    → before ≡ marked g (Some []) → Sent (events d) before (marked k new)
+    → ((d : Data) → new ≡ Some (events d) → out ≡ lines (says k) k.root d) → out ≡ lines (says g) g.root d
+lines_given says g k d before new out e h written =
+    let all = all_sent g k (events d) before new e h in
+    subst (λ x. out ≡ lines (says x) x.root d) (same_given g k (events d) new all) (written d (events_sent g k (events d) new all))
+
+-- one event more
+pub marked_logs : (g : Given) (log : Log) (event : Option Event) → IfSome event (Logs (marked g log) (marked g (option_and_then (then log) event)))
+marked_logs g log None = tt
+marked_logs g None (Some e) = tt
+marked_logs g (Some es) (Some e) = ap Some (sym (append_assoc (marks g) es (e ∷ [])))

@@ -1,5 +1,5 @@
 -- Columns, by places and by names in JSON.
-use Rattle.std.specs.Prelude.{Bool, List, None, Option, Some, [], bytes_eq, codes, false, if◌then◌else◌, map, true, unwrap_or, ℕ, ◌+◌, ◌∷◌}
+use Rattle.std.specs.Prelude.{Bool, List, None, Option, Some, [], bytes_eq, codes, false, if◌then◌else◌, map, true, unwrap_or, ℕ, ◌+◌, ◌==◌, ◌×◌, ◌∷◌}
 use Rattle.tc_lines.specs.declared.column.Column.{Column as CodeColumn}
 use Rattle.tc_lines.specs.declared.column.How.{How}
 use Rattle.tc_lines.specs.declared.column.How.TheVariants.{Below, Elements, First, From, Hidden, Info, Family, Index, InLine, Number, Plain, Slash, Through, To, Within}
@@ -19,6 +19,17 @@ pub record Table : Type 0 where
   pub names : ℕ → List Name
   pub interface : ℕ → Option (List ℕ)
   pub all : Bool
+
+-- what the caller gives: the place where a message begins, whether paddings are shown, and names of interfaces
+pub record Given : Type 0 where
+  pub root : ℕ
+  pub all : Bool
+  pub interfaces : List (ℕ × List ℕ)
+
+-- the first name of an interface
+abbrev pub interface_in : List (ℕ × List ℕ) → ℕ → Option (List ℕ)
+interface_in [] n = None
+interface_in (x ∷ xs) n = if x.0 == n then Some x.1 else interface_in xs n
 
 -- the column of a name
 abbrev pub find : List Column → List ℕ → Option Column

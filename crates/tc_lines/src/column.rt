@@ -1,7 +1,7 @@
 //! Columns: how the values of attributes and fields are shown, by their places and their names in JSON.
 
-ghost use Rattle.std.specs.Prelude.{option_map, ◌≡◌, ℕ};
-ghost use Rattle.tc_lines.specs.Columns.{Table, columns_view};
+ghost use Rattle.std.specs.Prelude.{option_map, ◌≡◌};
+ghost use Rattle.tc_lines.specs.Columns.{Given, Table, columns_view};
 ghost use Rattle.tc_units.specs.Names.{names_view};
 
 use tc_units::{Name, Unit};
@@ -83,33 +83,33 @@ pub struct Column<'a> {
     pub how: How,
 }
 
-/// Columns, by places, and the place where a message begins.
+/// Columns, by places, and the place where a message begins: by what the caller gives.
 pub trait Columns: Copy {
-    ghost says: { Self → Table };
+    ghost given: { Self → Given };
 
-    ghost begins: { Self → ℕ };
+    ghost says: { Given → Table };
 
     /// The place of the columns of a message.
     fn root(self) -> usize
-        ensures { result ≡ begins self };
+        ensures { result ≡ (given self).root };
 
     /// The columns at a place.
     fn columns(self, place: usize) -> &'static [Column<'static>]
-        ensures { columns_view result.now ≡ (says self).columns place };
+        ensures { columns_view result.now ≡ (says (given self)).columns place };
 
     /// The place of a list's columns under a kind.
     fn under(self, place: usize, kind: &str) -> usize
-        ensures { result ≡ (says self).under place kind.now };
+        ensures { result ≡ (says (given self)).under place kind.now };
 
     /// The names at a place.
     fn names(self, place: usize) -> &'static [Name<'static>]
-        ensures { names_view result.now ≡ (says self).names place };
+        ensures { names_view result.now ≡ (says (given self)).names place };
 
     /// What the caller calls an interface.
     fn interface(&self, number: u64) -> Option<&str>
-        ensures { option_map (λ t. t.now) result ≡ (says self.now).interface number };
+        ensures { option_map (λ t. t.now) result ≡ (says (given self.now)).interface number };
 
     /// Whether paddings are shown.
     fn all(self) -> bool
-        ensures { result ≡ (says self).all };
+        ensures { result ≡ (says (given self)).all };
 }

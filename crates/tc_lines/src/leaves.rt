@@ -150,7 +150,7 @@ pub(crate) fn put_line<A: Allocator>(
 
 /// The name at a place that has no other.
 pub(crate) fn name_at<C: Columns>(columns: C, place: usize) -> &'static str
-    ensures { result.now ≡ name_at (C.says columns) place }
+    ensures { result.now ≡ name_at (C.says (C.given columns)) place }
 {
     match name_of(columns.names(place), 0) {
         Some(name) => name,
@@ -164,7 +164,7 @@ fn put_interface<C: Columns, A: Allocator>(
     out: &mut Vec<u8, A>,
     n: u64,
 ) -> Result<(), AllocError>
-    ensures { OnOk result (out.new.items ≡ out.old.items ++ interface_text (C.says columns) n) }
+    ensures { OnOk result (out.new.items ≡ out.old.items ++ interface_text (C.says (C.given columns)) n) }
 {
     put_decimal(out, n)?;
     put_called(out, columns.interface(n))
@@ -172,7 +172,7 @@ fn put_interface<C: Columns, A: Allocator>(
 
 // Puts a name in brackets, if there is one.
 fn put_called<A: Allocator>(out: &mut Vec<u8, A>, name: Option<&str>) -> Result<(), AllocError>
-    ensures { OnOk result (out.new.items ≡ out.old.items ++ called (option_map (λ t. t.now) name)) }
+    ensures { OnOk result (out.new.items ≡ out.old.items ++ called (option_map (λ t. t.now) name.entry)) }
 {
     let name = match name {
         Some(name) => name,
@@ -216,7 +216,7 @@ fn put_info<C: Columns, A: Allocator>(
     of: &InfoOf,
     n: u64,
 ) -> Result<(), AllocError>
-    ensures { OnOk result (out.new.items ≡ out.old.items ++ info_text (C.says columns) of.now n) }
+    ensures { OnOk result (out.new.items ≡ out.old.items ++ info_text (C.says (C.given columns)) of.now n) }
 {
     match of {
         InfoOf::Pref(names) => put_pref(out, columns.names(*names), n),
@@ -242,7 +242,7 @@ fn put_number_in<C: Columns, A: Allocator>(
     how: &How,
     n: u64,
 ) -> Result<(), AllocError>
-    ensures { OnOk result (out.new.items ≡ out.old.items ++ number_in (C.says columns) how.now n) }
+    ensures { OnOk result (out.new.items ≡ out.old.items ++ number_in (C.says (C.given columns)) how.now n) }
 {
     match how {
         How::Flags(place) => put_flags(out, columns.names(*place), n),
@@ -271,7 +271,7 @@ fn put_number_behind<C: Columns, A: Allocator>(
     how: &How,
     n: u64,
 ) -> Result<(), AllocError>
-    ensures { OnOk result (out.new.items ≡ out.old.items ++ number_behind (C.says columns) how.now n) }
+    ensures { OnOk result (out.new.items ≡ out.old.items ++ number_behind (C.says (C.given columns)) how.now n) }
 {
     match how {
         How::Number(unit) => put_number(out, *unit, n),
@@ -393,7 +393,7 @@ fn put_text_in<C: Columns, A: Allocator>(
     how: &How,
     text: &str,
 ) -> Result<(), AllocError>
-    ensures { OnOk result (out.new.items ≡ out.old.items ++ text_in (C.says columns) depth how.now text.now) }
+    ensures { OnOk result (out.new.items ≡ out.old.items ++ text_in (C.says (C.given columns)) depth how.now text.now) }
 {
     match how {
         How::To(_) => put_quoted(out, text.as_bytes()),
@@ -424,7 +424,7 @@ fn put_text_behind<C: Columns, A: Allocator>(
     how: &How,
     text: &str,
 ) -> Result<(), AllocError>
-    ensures { OnOk result (out.new.items ≡ out.old.items ++ text_behind (C.says columns) how.now text.now) }
+    ensures { OnOk result (out.new.items ≡ out.old.items ++ text_behind (C.says (C.given columns)) how.now text.now) }
 {
     match how {
         How::Text(keys, names) => put_with_number(
@@ -478,7 +478,7 @@ pub(crate) fn put_boolean<C: Columns, A: Allocator>(
     how: &How,
     b: bool,
 ) -> Result<(), AllocError>
-    ensures { OnOk result (out.new.items ≡ out.old.items ++ leaf (C.says columns) _depth how.now (boolean b)) }
+    ensures { OnOk result (out.new.items ≡ out.old.items ++ leaf (C.says (C.given columns)) _depth how.now (boolean b)) }
 {
     if is_hidden(columns.all(), how) {
         return Ok(());
@@ -498,7 +498,7 @@ pub(crate) fn put_unsigned<C: Columns, A: Allocator>(
     how: &How,
     n: u64,
 ) -> Result<(), AllocError>
-    ensures { OnOk result (out.new.items ≡ out.old.items ++ leaf (C.says columns) _depth how.now (unsigned n)) }
+    ensures { OnOk result (out.new.items ≡ out.old.items ++ leaf (C.says (C.given columns)) _depth how.now (unsigned n)) }
 {
     if is_hidden(columns.all(), how) {
         return Ok(());
@@ -514,7 +514,7 @@ pub(crate) fn put_signed<C: Columns, A: Allocator>(
     how: &How,
     n: i64,
 ) -> Result<(), AllocError>
-    ensures { OnOk result (out.new.items ≡ out.old.items ++ leaf (C.says columns) _depth how.now (signed n)) }
+    ensures { OnOk result (out.new.items ≡ out.old.items ++ leaf (C.says (C.given columns)) _depth how.now (signed n)) }
 {
     if is_hidden(columns.all(), how) {
         return Ok(());
@@ -534,7 +534,7 @@ pub(crate) fn put_string<C: Columns, A: Allocator>(
     how: &How,
     value: &str,
 ) -> Result<(), AllocError>
-    ensures { OnOk result (out.new.items ≡ out.old.items ++ leaf (C.says columns) depth how.now (text value.now)) }
+    ensures { OnOk result (out.new.items ≡ out.old.items ++ leaf (C.says (C.given columns)) depth how.now (text value.now)) }
 {
     if is_hidden(columns.all(), how) {
         return Ok(());
@@ -549,7 +549,7 @@ pub(crate) fn put_null<C: Columns, A: Allocator>(
     _depth: usize,
     how: &How,
 ) -> Result<(), AllocError>
-    ensures { OnOk result (out.new.items ≡ out.old.items ++ leaf (C.says columns) _depth how.now nothing) }
+    ensures { OnOk result (out.new.items ≡ out.old.items ++ leaf (C.says (C.given columns)) _depth how.now nothing) }
 {
     if is_hidden(columns.all(), how) {
         return Ok(());

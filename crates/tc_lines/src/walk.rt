@@ -188,7 +188,7 @@ fn put_opening<C: Columns>(
     depth: usize,
     how: &How,
 ) -> Result<(), AllocError>
-    ensures { OnOk result (out.new.items ≡ out.old.items ++ opening (C.says columns) depth how.now) }
+    ensures { OnOk result (out.new.items ≡ out.old.items ++ opening (C.says (C.given columns)) depth how.now) }
 {
     match how {
         How::Hidden if columns.all() => Ok(()),
@@ -231,7 +231,7 @@ fn put_element<C: Columns>(
     base: usize,
     each: bool,
 ) -> Result<(), AllocError>
-    ensures { OnOk result (out.new.items ≡ out.old.items ++ element (C.says columns) depth base each) }
+    ensures { OnOk result (out.new.items ≡ out.old.items ++ element (C.says (C.given columns)) depth base each) }
 {
     if each {
         return put_line(out, depth, name_at(columns, base).as_bytes());
@@ -257,7 +257,7 @@ fn note<C: Columns>(
     value: &str,
     frames: &mut Vec<Frame>,
 ) -> Result<(), AllocError>
-    ensures { OnOk result (reverse frames.new.items ≡ note (C.says columns) (text value.now) how.now (reverse frames.old.items)) }
+    ensures { OnOk result (reverse frames.new.items ≡ note (C.says (C.given columns)) (text value.now) how.now (reverse frames.old.items)) }
 {
     match how {
         How::Kind => note_kind(columns, value, frames),
@@ -267,7 +267,7 @@ fn note<C: Columns>(
 
 // Notes a kind.
 fn note_kind<C: Columns>(columns: C, value: &str, frames: &mut Vec<Frame>) -> Result<(), AllocError>
-    ensures { OnOk result (reverse frames.new.items ≡ note (C.says columns) (text value.now) How.Kind (reverse frames.old.items)) }
+    ensures { OnOk result (reverse frames.new.items ≡ note (C.says (C.given columns)) (text value.now) How.Kind (reverse frames.old.items)) }
 {
     let top = match pop(frames) {
         Some(top) => top,
@@ -339,7 +339,7 @@ impl Walk {
 
     /// A truth value.
     pub(crate) fn boolean<C: Columns>(&mut self, columns: C, b: bool) -> Result<(), LinesError>
-        ensures { OnOk result (step (C.says columns) (boolean b) (state_of self.old) ≡ Some (state_of self.new)) }
+        ensures { OnOk result (step (C.says (C.given columns)) (boolean b) (state_of self.old) ≡ Some (state_of self.new)) }
     {
         put_boolean(columns, &mut self.out, self.depth, &self.how, b)?;
         self.leaf_done(false);
@@ -348,7 +348,7 @@ impl Walk {
 
     /// A number.
     pub(crate) fn unsigned<C: Columns>(&mut self, columns: C, n: u64) -> Result<(), LinesError>
-        ensures { OnOk result (step (C.says columns) (unsigned n) (state_of self.old) ≡ Some (state_of self.new)) }
+        ensures { OnOk result (step (C.says (C.given columns)) (unsigned n) (state_of self.old) ≡ Some (state_of self.new)) }
     {
         put_unsigned(columns, &mut self.out, self.depth, &self.how, n)?;
         self.leaf_done(false);
@@ -357,7 +357,7 @@ impl Walk {
 
     /// A number that may be negative.
     pub(crate) fn signed<C: Columns>(&mut self, columns: C, n: i64) -> Result<(), LinesError>
-        ensures { OnOk result (step (C.says columns) (signed n) (state_of self.old) ≡ Some (state_of self.new)) }
+        ensures { OnOk result (step (C.says (C.given columns)) (signed n) (state_of self.old) ≡ Some (state_of self.new)) }
     {
         put_signed(columns, &mut self.out, self.depth, &self.how, n)?;
         self.leaf_done(is_block(n));
@@ -366,7 +366,7 @@ impl Walk {
 
     /// Nothing.
     pub(crate) fn null<C: Columns>(&mut self, columns: C) -> Result<(), LinesError>
-        ensures { OnOk result (step (C.says columns) nothing (state_of self.old) ≡ Some (state_of self.new)) }
+        ensures { OnOk result (step (C.says (C.given columns)) nothing (state_of self.old) ≡ Some (state_of self.new)) }
     {
         put_null(columns, &mut self.out, self.depth, &self.how)?;
         self.leaf_done(false);
@@ -375,7 +375,7 @@ impl Walk {
 
     /// A text.
     pub(crate) fn text<C: Columns>(&mut self, columns: C, value: &str) -> Result<(), LinesError>
-        ensures { OnOk result (step (C.says columns) (text value.now) (state_of self.old) ≡ Some (state_of self.new)) }
+        ensures { OnOk result (step (C.says (C.given columns)) (text value.now) (state_of self.old) ≡ Some (state_of self.new)) }
     {
         put_string(columns, &mut self.out, self.depth, &self.how, value)?;
         match self.inside.checked_sub(1) {
@@ -391,7 +391,7 @@ impl Walk {
 
     /// The name of a member.
     pub(crate) fn key<C: Columns>(&mut self, columns: C, name: &str) -> Result<(), LinesError>
-        ensures { OnOk result (step (C.says columns) (field_key name.now AsIs) (state_of self.old) ≡ Some (state_of self.new)) }
+        ensures { OnOk result (step (C.says (C.given columns)) (field_key name.now AsIs) (state_of self.old) ≡ Some (state_of self.new)) }
     {
         match self.inside.checked_sub(1) {
             Some(_) => {
@@ -412,7 +412,7 @@ impl Walk {
         name: &str,
         top: Option<Frame>,
     ) -> Result<(), LinesError>
-        ensures { OnOk result (key_in (C.says columns) name.now (state_of self.old) top ≡ Some (state_of self.new)) }
+        ensures { OnOk result (key_in (C.says (C.given columns)) name.now (state_of self.old) top ≡ Some (state_of self.new)) }
     {
         match top {
             Some(Frame::InMembers(depth, base, place, inline)) => {
@@ -436,7 +436,7 @@ impl Walk {
         inline: bool,
         column: &Column<'_>,
     ) -> Result<(), LinesError>
-        ensures { OnOk result (state_of self.new ≡ named (C.says columns) depth inline (column_view column.now) (state_of self.old)) }
+        ensures { OnOk result (state_of self.new ≡ named (C.says (C.given columns)) depth inline (column_view column.now) (state_of self.old)) }
     {
         if has_name(columns.all(), &column.how) {
             put_name(&mut self.out, depth, inline, column.name.as_bytes())?;
@@ -451,7 +451,7 @@ impl Walk {
 
     // Within a line.
     fn go_inside<C: Columns>(&mut self, columns: C) -> Result<(), LinesError>
-        ensures { OnOk result (state_of self.new ≡ go_inside (C.says columns) (state_of self.old)) }
+        ensures { OnOk result (state_of self.new ≡ go_inside (C.says (C.given columns)) (state_of self.old)) }
     {
         put_opening(columns, &mut self.out, self.depth, &self.how)?;
         self.partner = NONE;
@@ -479,7 +479,7 @@ impl Walk {
         columns: C,
         _len: Option<usize>,
     ) -> Result<(), LinesError>
-        ensures { OnOk result (step (C.says columns) (map_begins _len) (state_of self.old) ≡ Some (state_of self.new)) }
+        ensures { OnOk result (step (C.says (C.given columns)) (map_begins _len) (state_of self.old) ≡ Some (state_of self.new)) }
     {
         match self.inside.checked_sub(1) {
             Some(_) => self.deeper(),
@@ -492,7 +492,7 @@ impl Walk {
 
     // An object begins in what is open.
     fn map_in<C: Columns>(&mut self, columns: C, top: Option<Frame>) -> Result<(), LinesError>
-        ensures { OnOk result (state_of self.new ≡ map_in (C.says columns) (state_of self.old) top) }
+        ensures { OnOk result (state_of self.new ≡ map_in (C.says (C.given columns)) (state_of self.old) top) }
     {
         match top {
             Some(Frame::InItems(depth, base, place, each)) => {
@@ -511,7 +511,7 @@ impl Walk {
         place: usize,
         each: bool,
     ) -> Result<(), LinesError>
-        ensures { OnOk result (state_of self.new ≡ between (self.old.out.items ++ element (C.says columns) depth base each) (if each then NONE else self.old.partner)
+        ensures { OnOk result (state_of self.new ≡ between (self.old.out.items ++ element (C.says (C.given columns)) depth base each) (if each then NONE else self.old.partner)
             (Frame.InMembers depth base place each ∷ reverse self.old.frames.items)) }
     {
         put_element(columns, &mut self.out, depth, base, each)?;
@@ -525,7 +525,7 @@ impl Walk {
 
     // An object of a column begins.
     fn open_map<C: Columns>(&mut self, columns: C) -> Result<(), LinesError>
-        ensures { OnOk result (state_of self.new ≡ open_map (C.says columns) (state_of self.old)) }
+        ensures { OnOk result (state_of self.new ≡ open_map (C.says (C.given columns)) (state_of self.old)) }
     {
         if !is_nested(&self.how) {
             return self.go_inside(columns);
@@ -546,7 +546,7 @@ impl Walk {
 
     // A list of a column begins.
     fn open_seq<C: Columns>(&mut self, columns: C) -> Result<(), LinesError>
-        ensures { OnOk result (state_of self.new ≡ open_seq (C.says columns) (state_of self.old)) }
+        ensures { OnOk result (state_of self.new ≡ open_seq (C.says (C.given columns)) (state_of self.old)) }
     {
         if !is_nested(&self.how) {
             return self.go_inside(columns);
@@ -568,7 +568,7 @@ impl Walk {
         columns: C,
         _len: Option<usize>,
     ) -> Result<(), LinesError>
-        ensures { OnOk result (step (C.says columns) (seq_begins _len) (state_of self.old) ≡ Some (state_of self.new)) }
+        ensures { OnOk result (step (C.says (C.given columns)) (seq_begins _len) (state_of self.old) ≡ Some (state_of self.new)) }
     {
         match self.inside.checked_sub(1) {
             Some(_) => self.deeper(),
@@ -588,7 +588,7 @@ impl Walk {
 
     /// An object ends.
     pub(crate) fn end_map<C: Columns>(&mut self, _columns: C) -> Result<(), LinesError>
-        ensures { OnOk result (step (C.says _columns) map_ends (state_of self.old) ≡ Some (state_of self.new)) }
+        ensures { OnOk result (step (C.says (C.given _columns)) map_ends (state_of self.old) ≡ Some (state_of self.new)) }
     {
         match self.inside.checked_sub(1) {
             Some(inside) => {
@@ -615,7 +615,7 @@ impl Walk {
 
     /// A list ends.
     pub(crate) fn end_seq<C: Columns>(&mut self, _columns: C) -> Result<(), LinesError>
-        ensures { OnOk result (step (C.says _columns) seq_ends (state_of self.old) ≡ Some (state_of self.new)) }
+        ensures { OnOk result (step (C.says (C.given _columns)) seq_ends (state_of self.old) ≡ Some (state_of self.new)) }
     {
         match self.inside.checked_sub(1) {
             Some(inside) => {

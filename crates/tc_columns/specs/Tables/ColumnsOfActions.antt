@@ -447,7 +447,7 @@ struct_tc_nat =
     ∷ column (codes "old_addr") (codes "old_addr") how.Plain
     ∷ column (codes "new_addr") (codes "new_addr") how.Plain
     ∷ column (codes "mask") (codes "mask") how.Plain
-    ∷ column (codes "flags") (codes "flags") (how.Named unit.LongHex 24007)
+    ∷ column (codes "flags") (codes "flags") (how.Named unit.Hex 24007)
     ∷ []
 
 -- `list action`: the rows of nat

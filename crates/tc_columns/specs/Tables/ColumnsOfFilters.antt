@@ -542,7 +542,7 @@ struct_tc_u32_key =
     column (codes "mask") (codes "mask") (how.Number unit.Hex)
     ∷ column (codes "val") (codes "val") (how.Number unit.Hex)
     ∷ column (codes "off") (codes "off") (how.Number unit.Bytes)
-    ∷ column (codes "offmask") (codes "offmask") (how.Number unit.Hex)
+    ∷ column (codes "offmask") (codes "offmask") how.Plain
     ∷ []
 
 -- `struct tc_u32_pcnt`

@@ -1074,7 +1074,7 @@ const STRUCT_TC_NAT: [Column<'static>; 5] = [
     Column {
         key: "flags",
         name: "flags",
-        how: How::Named(Unit::LongHex, 24007),
+        how: How::Named(Unit::Hex, 24007),
     },
 ];
 

@@ -1660,7 +1660,7 @@ const STRUCT_TC_U32_KEY: [Column<'static>; 4] = [
     Column {
         key: "offmask",
         name: "offmask",
-        how: How::Number(Unit::Hex),
+        how: How::Plain,
     },
 ];
 

@@ -3,4 +3,4 @@ use Rattle.tc_lines.proofs.Indents.{indent_more}
 use Rattle.tc_lines.proofs.leaves.+put_indent.Goals as goal
 
 pub returns : goal.returns
-returns t c = grind (arith, indent_more c.args.depth (c.args.depth - 1), append_assoc)
+returns g t c = grind (arith, indent_more c.args.depth (c.args.depth - 1), append_assoc)
