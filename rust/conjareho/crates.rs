@@ -2,7 +2,7 @@ use std::fs;
 use std::path::Path;
 
 /// The crates that the codec, its requests, index and captures are made of, with those below them.
-const CODEC: &[&str] = &["tc_wire", "tc_names", "tc_index", "tc_requests", "tc_capture"];
+const CODEC: &[&str] = &["tc_wire", "tc_index", "tc_requests", "tc_capture"];
 
 /// The crates of forms.
 #[allow(dead_code)] // programs have more

@@ -1,8 +1,8 @@
 -- The attributes of a message as C sees them.
 use Rattle.std.specs.Prelude.{◌≡◌, ℕ, List, [], ◌∷◌, ◌++◌, length, take, drop, map, Option, Some, option_map, slice_get}
-use Rattle.tc_names.specs.declared.row.Table.{Table}
-use Rattle.tc_names.specs.declared.row.Table.TheVariants as the
-use Rattle.tc_names.specs.Listed.{table_of}
+use Rattle.tc_index.specs.declared.table.Table.{Table}
+use Rattle.tc_index.specs.declared.table.Table.TheVariants as the
+use Rattle.tc_index.specs.Tables.{table_of}
 use Rattle.tc_index.specs.Seen.{SeenNode}
 use Rattle.tc_ffi_index.specs.declared.node.VtcNode.{VtcNode}
 

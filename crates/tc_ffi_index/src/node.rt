@@ -3,8 +3,7 @@
 ghost use Rattle.std.specs.Prelude.{◌≡◌, Some};
 ghost use Rattle.tc_ffi_index.specs.Nodes.{table_at, node_at};
 
-use tc_index::{Attribute, Slot};
-use tc_names::Table;
+use tc_index::{Attribute, Slot, Table};
 
 /// An attribute of a message: `struct vtc_node`.
 #[repr(C)]

@@ -1,3 +1,4 @@
+pub mod Tables
 pub mod Nesting
 pub mod Attributes
 pub mod Seen

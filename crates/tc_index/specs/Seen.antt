@@ -4,12 +4,10 @@ use Rattle.std.specs.Borrow.{Bor}
 use Rattle.nla_frames.specs.Frame.{Frame, type_of}
 use Rattle.nla_frames.specs.Cutting.{cut, items_of}
 use Rattle.nla_frames.specs.Place.{Sets}
-use Rattle.tc_canon.specs.Descriptor.{Class, raw, list_of, by_kind, Table, is_known}
+use Rattle.tc_canon.specs.Descriptor.{Table}
 use Rattle.tc_canon.specs.Kind.{kind_of_frame}
-use Rattle.tc_names.specs.declared.row.Table.{Table as ListedTable}
-use Rattle.tc_names.specs.declared.row.Row.{Row}
-use Rattle.tc_names.specs.declared.row.Row.TheVariants.{Kept, Plain, Nested, Unread, Options}
-use Rattle.tc_names.specs.Listed.{table_of, class_of, kinds_at}
+use Rattle.tc_index.specs.declared.table.Table.{Table as ListedTable}
+use Rattle.tc_index.specs.Tables.{table_of}
 use Rattle.tc_index.specs.declared.attribute.Attribute.{Attribute}
 use Rattle.tc_index.specs.declared.attribute.Node.{Node}
 use Rattle.tc_index.specs.declared.attribute.BrokenFrame.{BrokenFrame}
@@ -95,13 +93,3 @@ inner_of depth p =
 abbrev pub GivesFirst : ℕ → Level → Level → Result Attribute BrokenFrame → Type 0
 GivesFirst depth old new (Ok a) = left_in depth old ≡ (Ok (placed_of a) ∷ inner_of depth (placed_of a)) ++ left_in depth new
 GivesFirst depth old new (Err broken) = left_in depth old ≡ Err broken ∷ []
-
--- ---- rows
-
--- what a value is, by the row of its type
-abbrev pub class_of_row : Row → List ℕ → Class
-class_of_row Kept k = raw
-class_of_row (Plain form name kernel) k = class_of form
-class_of_row (Nested form name kernel) k = class_of form
-class_of_row (Unread form name kernel) k = raw
-class_of_row (Options form name kernel) k = if is_known (kinds_at form) k then list_of (by_kind (kinds_at form)) else raw

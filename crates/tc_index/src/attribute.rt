@@ -4,8 +4,8 @@ ghost use Rattle.std.specs.Prelude.{◌≡◌};
 ghost use Rattle.nla_frames.specs.Frame.{type_of};
 ghost use Rattle.tc_index.specs.Seen.{placed_of, node_seen, node_of};
 
+use crate::table::Table;
 use nla_frames::{DecodeError, NLA_TYPE_MASK};
-use tc_names::Table;
 use thiserror::Error;
 
 /// An attribute of a message.

@@ -4,8 +4,8 @@ ghost use Rattle.std.specs.Prelude.{◌≡◌, ◌≤◌};
 
 use crate::attribute::{Attribute, BrokenFrame};
 use crate::level::Level;
+use crate::table::Table;
 use nla_frames::{DecodeError, Res};
-use tc_names::Table;
 
 /// The attributes of a message, each before those in it; then the first broken frame if there is one, then nothing.
 #[derive(Drop)]
@@ -24,7 +24,7 @@ pub struct Attributes<'a> {
 impl<'a> Attributes<'a> {
     ghost use Rattle.std.specs.Prelude.{◌+◌, ◌<◌, ◌^◌, ◌++◌, [], length, slice_index_or, slice_set};
     ghost use Rattle.nla_frames.specs.Fault.{seen};
-    ghost use Rattle.tc_names.specs.Listed.{table_of};
+    ghost use Rattle.tc_index.specs.Tables.{table_of};
     ghost use Rattle.tc_index.specs.Attributes.{after_header, message_items, tc_items, action_items};
     ghost use Rattle.tc_index.specs.Seen.{placed_of, sets_if, inner_of, outer_of, lists_left, items_left};
 

@@ -1,14 +1,14 @@
 //! All attributes of a message, into an array.
 
 ghost use Rattle.std.specs.Prelude.{◌≡◌, ◌+◌, ◌<◌, ◌^◌, Option, Some, length, map, slice_set};
-ghost use Rattle.tc_names.specs.Listed.{table_of};
+ghost use Rattle.tc_index.specs.Tables.{table_of};
 ghost use Rattle.tc_index.specs.Attributes.{message_items};
 ghost use Rattle.tc_index.specs.Seen.{SeenNode, placed_of, node_of, node_seen, left_in, sets_if};
 ghost use Rattle.tc_index.specs.Nodes.{nodes_of, tc_nodes, action_nodes, Fills, FillsBy, KeepsBehind, Puts};
 
 use crate::attribute::{Attribute, Node};
 use crate::level::Level;
-use tc_names::Table;
+use crate::table::Table;
 
 /// What an array holds of an attribute.
 pub trait Slot: Copy {

@@ -4,8 +4,8 @@ ghost use Rattle.std.specs.Prelude.{◌≡◌, ◌+◌, ◌<◌, ◌≤◌, ◌^
 
 use crate::attribute::{Attribute, BrokenFrame};
 use crate::nesting::list_in;
+use crate::table::Table;
 use nla_frames::{NLA_HEADER_SIZE, NlaBuffer, strip_nul};
-use tc_names::Table;
 
 /// What is left of a list of attributes.
 #[derive(Clone, Copy)]
@@ -27,7 +27,7 @@ impl<'a> Level<'a> {
     ghost use Rattle.nla_frames.specs.Buffer.{frame_of, first_of};
     ghost use Rattle.nla_frames.specs.Cutting.{next_frame};
     ghost use Rattle.nla_frames.specs.Place.{kind_then};
-    ghost use Rattle.tc_names.specs.Listed.{table_of};
+    ghost use Rattle.tc_index.specs.Tables.{table_of};
     ghost use Rattle.tc_index.specs.Attributes.{with_inner, attributes_in, to_fault, message_items};
     ghost use Rattle.tc_index.specs.Seen.{placed_of, sets_if, inner_of, left_in, left_in_some, GivesFirst};
 

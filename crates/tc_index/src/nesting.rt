@@ -1,14 +1,16 @@
 //! Which attributes hold attributes.
 
-ghost use Rattle.std.specs.Prelude.{◌≡◌, List, ℕ, option_map, slice_index_or};
+ghost use Rattle.std.specs.Prelude.{◌≡◌, List, ℕ, option_map};
 ghost use Rattle.nla_frames.specs.Cutting.{cut, items_of};
-ghost use Rattle.tc_names.specs.declared.row.Row.TheVariants.{Kept};
-ghost use Rattle.tc_names.specs.Listed.{table_of, rows_in, kinds_in, kinds_at, class_of};
-ghost use Rattle.tc_index.specs.Nesting.{class_at, class_in, inner_table, inner_kind, list_in, first_kind, known_table, table_under};
-ghost use Rattle.tc_index.specs.Seen.{list_found, class_of_row};
+ghost use Rattle.tc_canon.specs.Descriptor.{by_kind};
+ghost use Rattle.tc_canon.specs.Tables.Actions.{action_option_kinds};
+ghost use Rattle.tc_canon.specs.Tables.Options.{option_kinds};
+ghost use Rattle.tc_index.specs.Tables.{table_of, rows_in};
+ghost use Rattle.tc_index.specs.Nesting.{class_at, class_in, list_in, first_kind, known_table, table_under};
+ghost use Rattle.tc_index.specs.Seen.{list_found};
 
+use crate::table::Table;
 use nla_frames::{NlasIterator, strip_nul};
-use tc_names::{Form, Row, Table, kinds, rows};
 
 /// The list of attributes in an attribute, and the kind in force there; `None` where its value is no list.
 pub fn list_in<'a>(
@@ -30,77 +32,81 @@ pub fn list_in<'a>(
 }
 
 /// The table of the attributes in an attribute of a table's rows.
+#[tactic(auto, using(crate::proofs::Rows::no_list, crate::proofs::Rows::options_list))]
 fn inner_table(table: Table, number: u16, kind: &[u8]) -> Option<Table>
-    ensures table { option_map table_of result
-        ≡ inner_table (class_at (rows_in table) number kind.now) kind.now }
-    ensures kind { (value : List ℕ)
-        → inner_kind (class_at (rows_in table) number kind.now) kind.now value ≡ kind.now }
+    ensures { (value : List ℕ) → option_map (λ t. (table_of t, kind.now)) result
+        ≡ list_in (class_at (rows_in table) number kind.now) kind.now value }
 {
-    table_in_row(row_at(rows(table), number), kind)
-}
-
-/// The row of a type.
-fn row_at(rows: &'static [Row], number: u16) -> &'static Row
-    ensures { result.now ≡ slice_index_or rows.now number Kept }
-{
-    match rows.get(usize::from(number)) {
-        Some(row) => row,
-        None => &Row::Kept,
-    }
-}
-
-#[tactic(auto, using(crate::proofs::Rows::known_list))]
-fn table_in_row(row: &Row, kind: &[u8]) -> Option<Table>
-    ensures { option_map table_of result ≡ inner_table (class_of_row row.now kind.now) kind.now }
-{
-    match row {
-        Row::Plain(form, _, _) => table_in_form(*form, kind),
-        Row::Nested(form, _, _) => table_in_form(*form, kind),
-        Row::Options(form, _, _) => options_table(*form, kind),
-        Row::Kept => None,
-        Row::Unread(_, _, _) => None,
-    }
-}
-
-fn table_in_form(form: Form, kind: &[u8]) -> Option<Table>
-    ensures { option_map table_of result ≡ inner_table (class_of form) kind.now }
-{
-    match form {
-        Form::ListOf(inner) => Some(table_under(inner, kind)),
+    match table {
+        Table::Message => match number {
+            2 => options_table(kind),
+            7 => Some(Table::Stats2),
+            _ => None,
+        },
+        Table::ActionMessage => match number {
+            1 => Some(Table::Actions),
+            _ => None,
+        },
+        Table::Action => match number {
+            2 => Some(action_options_table(kind)),
+            4 => Some(Table::Stats2),
+            _ => None,
+        },
+        Table::Flower => match number {
+            3 => Some(Table::Actions),
+            99 => Some(Table::Mpls),
+            _ => None,
+        },
+        Table::Mpls => match number {
+            1 => Some(Table::Lse),
+            _ => None,
+        },
+        Table::U32 => match number {
+            7 => Some(Table::Actions),
+            _ => None,
+        },
+        Table::MatchAll => match number {
+            2 => Some(Table::Actions),
+            _ => None,
+        },
         _ => None,
     }
 }
 
-/// The table of a message's options under a known kind.
-fn options_table(form: Form, kind: &[u8]) -> Option<Table>
-    ensures { option_map table_of result ≡ known_table (kinds_at form) kind.now }
+/// The table of a message's options; `None` under an unknown kind.
+fn options_table(kind: &[u8]) -> Option<Table>
+    ensures { option_map table_of result ≡ known_table option_kinds kind.now }
 {
-    match form {
-        Form::ListOf(inner) => known_table(inner, kind),
-        _ => None,
+    if kind == b"fq_codel".as_slice() {
+        Some(Table::FqCodel)
+    } else if kind == b"ingress".as_slice() {
+        Some(Table::Ingress)
+    } else if kind == b"flower".as_slice() {
+        Some(Table::Flower)
+    } else if kind == b"u32".as_slice() {
+        Some(Table::U32)
+    } else if kind == b"matchall".as_slice() {
+        Some(Table::MatchAll)
+    } else if kind == b"bpf".as_slice() {
+        Some(Table::Bpf)
+    } else {
+        None
     }
 }
 
-/// A table by kind is that of the kind, where it is known.
-fn table_under(table: Table, kind: &[u8]) -> Table
-    ensures { table_of result ≡ table_under (table_of table) kind.now }
+/// The table of an action's options.
+fn action_options_table(kind: &[u8]) -> Table
+    ensures { table_of result ≡ table_under (by_kind action_option_kinds) kind.now }
 {
-    match known_table(table, kind) {
-        Some(known) => known,
-        None => table,
+    if kind == b"mirred".as_slice() {
+        Table::Mirror
+    } else if kind == b"nat".as_slice() {
+        Table::Nat
+    } else if kind == b"tunnel_key".as_slice() {
+        Table::TunnelKey
+    } else {
+        Table::ActionOptions
     }
-}
-
-/// The table of a known kind, of a table by kind.
-fn known_table(table: Table, kind: &[u8]) -> Option<Table>
-    ensures { option_map table_of result ≡ known_table (kinds_in table) kind.now }
-{
-    for known in kinds(table) {
-        if kind == known.kind.as_bytes() {
-            return Some(known.table);
-        }
-    }
-    None
 }
 
 /// The kind that the first `TCA_ACT_KIND` of an action tells; empty where none does.

@@ -3,9 +3,6 @@ use Rattle.std.specs.Prelude.{◌≡◌, ℕ, zero, suc, ◌+◌, ◌-◌, List,
 use Rattle.tc_canon.specs.Descriptor.{Class, le, be, masked, array, raw, text, warning, presence, truth, fields, selector, pair}
 use Rattle.tc_canon.specs.Descriptor.{Rows, others, types, unread, options, little}
 use Rattle.tc_canon.specs.Layouts.{selector_head}
-use Rattle.tc_names.specs.declared.row.Form.TheVariants as kept
-use Rattle.tc_names.specs.Named.{Named, named_at, name_of, form_of}
-use Rattle.tc_names.specs.declared.row.Form.{Form as NamedForm}
 use Rattle.tc_forms.specs.declared.form.Form.{Form}
 use Rattle.tc_forms.specs.declared.form.Form.TheVariants as form
 use Rattle.tc_forms.specs.declared.form.Number.{Number}
@@ -13,6 +10,7 @@ use Rattle.tc_forms.specs.declared.form.Number.TheVariants as number
 use Rattle.tc_forms.specs.Tables.{Row, Table}
 use Rattle.tc_forms.specs.Rows.{shown_row}
 use Rattle.tc_kinds_codec.specs.Tables.{fields_at}
+use Rattle.tc_kinds_codec.specs.Named.{Look, alone, anything, compared, Named, named_at, name_of, look_named}
 use Rattle.tc_kinds_codec.specs.Records.{layout_of}
 
 -- ---- what a value is on the wire. Bytes that the codec keeps raw may be anything; lists are compared on their own
@@ -64,12 +62,7 @@ abbrev pub wire_beside : Class → Table → Form → Class
 wire_beside raw table f = raw
 wire_beside class table f = wire_of_form table f
 
--- ---- how a value is shown: a form that holds no other, or one that is compared on its own
-
-pub data Look : Type 0 where
-  alone : Form → Look
-  anything : Look
-  compared : Look
+-- ---- how a value is shown
 
 abbrev pub look_of : Form → Look
 look_of (form.Record i) = compared
@@ -77,29 +70,6 @@ look_of (form.List i) = compared
 look_of (form.Indexed i) = compared
 look_of (form.Choice i) = compared
 look_of f = alone f
-
-abbrev pub look_named : NamedForm → Look
-look_named kept.U8 = alone (form.Number number.U8)
-look_named kept.U16 = alone (form.Number number.U16)
-look_named kept.U32 = alone (form.Number number.U32)
-look_named kept.U16Be = alone (form.Number number.U16Be)
-look_named kept.U32Be = alone (form.Number number.U32Be)
-look_named kept.Bits1 = alone (form.Number number.U8)
-look_named kept.Bits3 = alone (form.Number number.U8)
-look_named kept.Bits20 = alone (form.Number number.U32)
-look_named kept.Handle = alone form.Handle
-look_named kept.Flags = alone (form.Number number.U32)
-look_named kept.Mac = alone form.Mac
-look_named kept.Ipv4 = alone form.Ipv4
-look_named kept.Ipv6 = alone form.Ipv6
-look_named kept.Labels = alone (form.Bytes 16)
-look_named kept.Tag = alone (form.Bytes 8)
-look_named kept.Bytes = anything
-look_named kept.Text = alone form.Text
-look_named kept.Warning = alone form.Bare
-look_named kept.Presence = alone form.Flag
-look_named kept.Truth = alone form.Truth
-look_named f = compared
 
 abbrev pub look_beside : Look → Form → Look
 look_beside anything f = anything
@@ -115,7 +85,7 @@ pub record Said : Type 0 where
   pub look : Look
 
 abbrev pub said_of : ℕ → ℕ → Class → Named → Said
-said_of n flags class x = record { type = n; word = n + flags; name = name_of x; wire = wire_of class; look = look_named (form_of x) }
+said_of n flags class x = record { type = n; word = n + flags; name = name_of x; wire = wire_of class; look = look_named x }
 
 -- of so many types from one on
 abbrev pub said_from : ℕ → ℕ → ℕ → Class → List Named → List Said

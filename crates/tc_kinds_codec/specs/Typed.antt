@@ -1,6 +1,6 @@
 -- Where the typed kinds are in the table.
 use Rattle.std.specs.Prelude.{ℕ, List, [], ◌∷◌, codes, map, option_map, unwrap_or}
-use Rattle.tc_names.specs.Named.{NamedKind}
+use Rattle.tc_kinds_codec.specs.Named.{NamedKind}
 use Rattle.tc_forms.specs.declared.form.Form.{Form}
 use Rattle.tc_forms.specs.Tables.{Row}
 use Rattle.tc_kinds.specs.Table.{tc_tables, tc_message, action_message}

@@ -9,8 +9,8 @@ ghost use Rattle.tc_canon.specs.Tables.Flower.{flower_options, mpls_options, lse
 ghost use Rattle.tc_canon.specs.Tables.Messages.{attributes, action_message_attributes};
 ghost use Rattle.tc_canon.specs.Tables.Options.{fq_codel_options, u32_options, matchall_options, bpf_options};
 ghost use Rattle.tc_canon.specs.Tables.Statistics.{stats2};
-ghost use Rattle.tc_names.specs.Names as names;
-ghost use Rattle.tc_names.specs.RecordNames as fields;
+ghost use Rattle.tc_kinds_codec.specs.Names as names;
+ghost use Rattle.tc_kinds_codec.specs.RecordNames as fields;
 ghost use Rattle.tc_kinds.specs.Table.{tc_tables, tc_message, action_message};
 ghost use Rattle.tc_kinds_codec.specs.Tables.{form_at};
 ghost use Rattle.tc_kinds_codec.specs.Said.{HasRows, behind_kind};

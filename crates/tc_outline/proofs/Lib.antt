@@ -1,2 +1,2 @@
 pub mod OwnKinds
-pub mod Meanings
+pub mod Checks

@@ -1,3 +1,4 @@
 pub mod Page
 pub mod Fault
+pub mod Check
 pub mod Located

@@ -1,24 +1,19 @@
 //! The first fault of a message, and its place.
 
-ghost use Rattle.std.specs.Prelude.{◌≡◌, ◌≢◌, option_map};
-ghost use Rattle.nla_frames.specs.Frame.{type_of};
-ghost use Rattle.tc_names.specs.declared.row.Table.TheVariants.{Actions};
-ghost use Rattle.tc_names.specs.Listed.{class_of, table_of};
-ghost use Rattle.tc_index.specs.Nesting.{class_in};
+ghost use Rattle.std.specs.Prelude.{◌≡◌, option_map};
 ghost use Rattle.tc_index.specs.Seen.{placed_of};
 ghost use Rattle.tc_outline.specs.Located.{own_fault};
-ghost use Rattle.tc_outline.specs.Fault.{value_fault};
 
 mod action;
 mod value;
 
+use crate::check::{Check, check_of};
 use crate::page::Page;
 use crate::path::Path;
-use action::action_fault;
+use action::place_in;
 use nla_frames::DecodeError;
 use std::alloc::{AllocError, Allocator};
 use tc_index::Attribute;
-use tc_names::{Form, Table};
 use value::error_of;
 
 /// Why a message is refused, and where.
@@ -87,35 +82,19 @@ fn show_counts<A: Allocator>(
     show_count(page, other, m)
 }
 
-// The fault of an attribute itself, those in it aside. Its place is the last one of the path.
-pub(crate) fn fault_of(attribute: &Attribute<'_>, form: Form, path: &Path) -> Option<Fault>
-    requires { attribute.now.table ≢ Actions → class_of form
-        ≡ class_in (table_of attribute.now.table) (type_of attribute.now.word) attribute.now.kind.now }
+// The fault of an attribute itself, those in it aside. Its place is the last one of the path, but where it is within an action.
+pub(crate) fn fault_of(attribute: &Attribute<'_>, path: &Path) -> Option<Fault>
     ensures { option_map (λ fault. fault.error) result ≡ own_fault (placed_of attribute.now) }
 {
-    match attribute.table {
-        Table::Actions => action_fault(attribute, path),
-        _ => value_fault(attribute, form, path),
-    }
-}
-
-fn value_fault(attribute: &Attribute<'_>, form: Form, path: &Path) -> Option<Fault>
-    ensures { option_map (λ fault. fault.error) result
-        ≡ value_fault (class_of form) attribute.now.kind.now attribute.now.value.now }
-{
-    match error_of(form, attribute.value, attribute.kind) {
-        None => None,
-        Some(error) => Some(fault_at(attribute.offset, error, path)),
-    }
-}
-
-// A fault whose place is the last one of the path.
-fn fault_at(offset: usize, error: DecodeError, path: &Path) -> Fault
-    ensures { result.error ≡ error }
-{
-    Fault {
+    let check = check_of(attribute.table, attribute.number());
+    let error = error_of(check, attribute.value, attribute.kind)?;
+    let (offset, path) = match check {
+        Check::Action => place_in(attribute, path),
+        _ => (attribute.offset, *path),
+    };
+    Some(Fault {
         offset,
         error,
-        path: *path,
-    }
+        path,
+    })
 }

@@ -24,17 +24,14 @@
 //! | the header's `info` | of a filter `pref 49152 protocol ip (0x0800)`, of a qdisc `refcnt 2`, of a class `leaf 8001:`; nothing if it is 0 |
 #![tactic(auto)]
 
+mod check;
 mod fault;
-mod header;
-mod meaning;
 mod message;
 mod names;
-mod number;
 mod page;
 mod path;
 mod reader;
-mod show;
-mod unit;
+mod tree;
 mod what;
 
 pub use fault::Fault;

@@ -1,8 +1,10 @@
 //! The place of an attribute in a message as a tree.
 
 use crate::page::Page;
+use crate::tree::{held_in, list_of_message, row_in};
 use std::alloc::{AllocError, Allocator};
-use tc_names::Table;
+use tc_forms::Form;
+use tc_index::{Attribute, Table};
 
 // An attribute on the way to a place.
 #[derive(Clone, Copy)]
@@ -12,8 +14,41 @@ struct Step {
     // Where its value ends in the message.
     end: usize,
     table: Table,
-    // The variant's name; empty of one that is not known.
-    name: &'static str,
+    // Its type, if it is known.
+    number: Option<u16>,
+    // The kind in force.
+    kind: Kind,
+}
+
+// A kind that tables may know: none has more than sixteen bytes.
+#[derive(Clone, Copy)]
+struct Kind {
+    bytes: [u8; 16],
+    len: usize,
+}
+
+const NO_KIND: Kind = Kind {
+    bytes: [0; 16],
+    len: 0,
+};
+
+impl Kind {
+    fn new(kind: &[u8]) -> Kind {
+        let mut kept = NO_KIND;
+        for (byte, from) in kept.bytes.iter_mut().zip(kind.iter()) {
+            *byte = *from;
+        }
+        kept.len = kind.len();
+        kept
+    }
+
+    // The kind; empty of one that is too long.
+    fn text(&self) -> &[u8] {
+        match self.bytes.get(..self.len) {
+            Some(text) => text,
+            None => &[],
+        }
+    }
 }
 
 /// The place of an attribute: the place of each list that it is in, and its own.
@@ -30,7 +65,8 @@ impl Path {
             index: 0,
             end: 0,
             table: Table::Message,
-            name: "",
+            number: None,
+            kind: NO_KIND,
         };
         Path {
             steps: [step; 6],
@@ -39,7 +75,36 @@ impl Path {
     }
 
     // Goes on to the next attribute at this depth.
-    pub(crate) fn enter(&mut self, depth: usize, end: usize, table: Table, name: &'static str) {
+    pub(crate) fn enter(&mut self, attribute: &Attribute<'_>) {
+        let number = attribute.number();
+        let has_options = number == 2 && matches!(attribute.table, Table::Message | Table::Action);
+        let step = Step {
+            index: 0,
+            end: attribute.offset.saturating_add(attribute.value.len()),
+            table: attribute.table,
+            number: Some(number),
+            kind: if has_options {
+                Kind::new(attribute.kind)
+            } else {
+                NO_KIND
+            },
+        };
+        self.enter_step(usize::from(attribute.depth), step);
+    }
+
+    // Goes on to the next frame of an action, whose type may not be known.
+    pub(crate) fn enter_in_action(&mut self, action: &Attribute<'_>, number: Option<u16>) {
+        let step = Step {
+            index: 0,
+            end: action.offset,
+            table: Table::Action,
+            number,
+            kind: NO_KIND,
+        };
+        self.enter_step(usize::from(action.depth).saturating_add(1), step);
+    }
+
+    fn enter_step(&mut self, depth: usize, step: Step) {
         if depth >= 6 {
             return;
         }
@@ -48,20 +113,9 @@ impl Path {
         } else {
             0
         };
-        self.steps[depth] = Step {
-            index,
-            end,
-            table,
-            name,
-        };
+        self.steps[depth] = step;
+        self.steps[depth].index = index;
         self.len = depth + 1;
-    }
-
-    // Gives the place its name.
-    pub(crate) fn name(&mut self, name: &'static str) {
-        if 0 < self.len && self.len <= 6 {
-            self.steps[self.len - 1].name = name;
-        }
     }
 
     // Goes on to what is at this offset, in the innermost list that it is in.
@@ -74,7 +128,14 @@ impl Path {
                 break;
             }
         }
-        self.enter(depth, offset, Table::ActionOptions, "");
+        let step = Step {
+            index: 0,
+            end: offset,
+            table: Table::ActionOptions,
+            number: None,
+            kind: NO_KIND,
+        };
+        self.enter_step(depth, step);
     }
 
     /// Writes it as a JSON pointer, such as `/attributes/1/Options/0/Flower/Actions/1`; `/header` is the header of the
@@ -83,45 +144,47 @@ impl Path {
         if self.len == 0 {
             return page.text("/header");
         }
+        let mut list = list_of_message(self.steps[0].table);
         let mut has_fields = true;
         for (at, step) in self.steps.iter().enumerate() {
             if at < self.len {
                 if has_fields {
                     page.text("/attributes")?;
                 }
-                step.show(page)?;
+                page.text("/")?;
+                page.number(step.index as u64)?;
                 has_fields = matches!(step.table, Table::Actions);
+                list = match list {
+                    Form::Indexed(place) => held_in(place),
+                    _ => show_name(page, list, step)?,
+                };
             }
         }
         Ok(())
     }
 }
 
-impl Step {
-    fn show<A: Allocator>(&self, page: &mut Page<A>) -> Result<(), AllocError> {
-        page.text("/")?;
-        page.number(self.index as u64)?;
-        if self.name.is_empty() || matches!(self.table, Table::Actions) {
-            return Ok(());
+// The name of an attribute in a list, if it has one. The form of its value.
+fn show_name<A: Allocator>(
+    page: &mut Page<A>,
+    list: Form,
+    step: &Step,
+) -> Result<Form, AllocError> {
+    let number = match step.number {
+        Some(number) => number,
+        None => return Ok(Form::Hex),
+    };
+    if let Some((layer, row)) = row_in(list, step.kind.text(), number) {
+        if !layer.is_empty() {
+            page.text("/")?;
+            page.text(layer)?;
         }
-        page.text(layer_of(self.table))?;
         page.text("/")?;
-        page.text(self.name)
+        page.text(row.name)?;
+        return Ok(row.form);
     }
-}
-
-// The variant that holds the options of a kind, as a step of a pointer; empty of any other table.
-fn layer_of(table: Table) -> &'static str {
-    match table {
-        Table::FqCodel => "/FqCodel",
-        Table::Ingress => "/Ingress",
-        Table::Flower => "/Flower",
-        Table::U32 => "/U32",
-        Table::MatchAll => "/MatchAll",
-        Table::Bpf => "/Bpf",
-        Table::Mirror => "/Mirror",
-        Table::Nat => "/Nat",
-        Table::TunnelKey => "/TunnelKey",
-        _ => "",
+    if number == 1 && matches!(list, Form::InForce(_) | Form::Own(_)) {
+        page.text("/Kind")?;
     }
+    Ok(Form::Hex)
 }

@@ -1,13 +1,11 @@
 //! The attributes of a message up to the first fault.
 
 ghost use Rattle.std.specs.Prelude.{◌≡◌, ◌≤◌, length, IfSome, option_map};
-ghost use Rattle.std.specs.Result.{result_err};
 ghost use Rattle.nla_frames.specs.Fault.{seen};
 ghost use Rattle.tc_index.specs.Seen.{placed_of, items_left};
 ghost use Rattle.tc_outline.specs.Located.{own_fault, first_fault, items_of_message, message_fault};
 
 use crate::fault::{Fault, fault_of};
-use crate::meaning::{Meaning, meaning_of};
 use crate::path::Path;
 use crate::what::What;
 use nla_frames::{DecodeError, Res};
@@ -31,17 +29,18 @@ fn first_fault(attributes: Attributes<'_>) -> Option<Fault>
     for attribute in attributes {
         match attribute {
             Err(broken) => return Some(broken_at(&path, broken)),
-            Ok(attribute) => match step(&mut path, &attribute) {
-                Ok(_) => {}
-                Err(fault) => return Some(fault),
-            },
+            Ok(attribute) => {
+                if let Some(fault) = step(&mut path, &attribute) {
+                    return Some(fault);
+                }
+            }
         }
     }
     None
 }
 
 // The fault at a place in a message of this length.
-pub(crate) fn within(fault: Fault, len: usize) -> Fault
+fn within(fault: Fault, len: usize) -> Fault
     ensures place { result.offset ≤ len }
     ensures error { result.error ≡ fault.error }
 {
@@ -53,7 +52,7 @@ pub(crate) fn within(fault: Fault, len: usize) -> Fault
 }
 
 // The attributes of a message. Its fault where its header is short.
-pub(crate) fn attributes_of(bytes: &[u8], what: What) -> Res<Attributes<'_>>
+fn attributes_of(bytes: &[u8], what: What) -> Res<Attributes<'_>>
     ensures { seen items_left result ≡ items_of_message what bytes.now }
 {
     match what {
@@ -63,7 +62,7 @@ pub(crate) fn attributes_of(bytes: &[u8], what: What) -> Res<Attributes<'_>>
 }
 
 // The fault that a broken frame after an attribute is.
-pub(crate) fn broken_at(before: &Path, broken: BrokenFrame) -> Fault
+fn broken_at(before: &Path, broken: BrokenFrame) -> Fault
     ensures { result.error ≡ broken.fault }
 {
     let mut path = *before;
@@ -75,22 +74,12 @@ pub(crate) fn broken_at(before: &Path, broken: BrokenFrame) -> Fault
     }
 }
 
-// Goes on to an attribute: what it is, or its own fault.
-pub(crate) fn step(path: &mut Path, attribute: &Attribute<'_>) -> Result<Meaning, Fault>
-    ensures { option_map (λ fault. fault.error) (result_err result) ≡ own_fault (placed_of attribute.now) }
+// Goes on to an attribute. Its own fault, if it has one.
+fn step(path: &mut Path, attribute: &Attribute<'_>) -> Option<Fault>
+    ensures { option_map (λ fault. fault.error) result ≡ own_fault (placed_of attribute.now) }
 {
-    let meaning = meaning_of(attribute);
-    enter(path, attribute, meaning.name);
-    match fault_of(attribute, meaning.form, path) {
-        Some(fault) => Err(fault),
-        None => Ok(meaning),
-    }
-}
-
-// Goes on to an attribute, which has this name.
-fn enter(path: &mut Path, attribute: &Attribute<'_>, name: &'static str) {
-    let end = attribute.offset.saturating_add(attribute.value.len());
-    path.enter(usize::from(attribute.depth), end, attribute.table, name);
+    path.enter(attribute);
+    fault_of(attribute, path)
 }
 
 /// The place of the attribute whose header begins at this offset, four bytes before its value; none where none does.
@@ -98,7 +87,7 @@ pub fn path_at(bytes: &[u8], what: What, offset: usize) -> Option<Path> {
     let mut path = Path::new();
     for attribute in attributes_of(bytes, what).ok()? {
         let attribute = attribute.ok()?;
-        enter(&mut path, &attribute, meaning_of(&attribute).name);
+        path.enter(&attribute);
         if attribute.offset == offset.saturating_add(4) {
             return Some(path);
         }
@@ -107,7 +96,7 @@ pub fn path_at(bytes: &[u8], what: What, offset: usize) -> Option<Path> {
 }
 
 // The fault of a message without a whole header.
-pub(crate) fn header_fault(error: DecodeError) -> Fault
+fn header_fault(error: DecodeError) -> Fault
     ensures place { result.offset ≡ 0 }
     ensures error { result.error ≡ error }
 {

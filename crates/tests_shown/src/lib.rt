@@ -1,10 +1,8 @@
-//! Tests alone, of messages that are shown: names, attributes with their places, outlines, JSON, and the program `tcshow`.
+//! Tests alone, of messages that are shown: attributes with their places, outlines, JSON, and the program `tcshow`.
 #![tactic(auto)]
 
 #[cfg(test)]
 mod as_json;
-#[cfg(test)]
-mod names;
 #[cfg(test)]
 mod outline;
 #[cfg(test)]

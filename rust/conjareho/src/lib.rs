@@ -60,7 +60,6 @@ pub mod requests {
 /// All attributes of a message, each before those in it, without memory.
 pub mod index {
     pub use crate::tc_index::*;
-    pub use crate::tc_names::*;
 }
 
 /// Captures of netlink: pcap, pcapng, files of `rtmon` and streams.

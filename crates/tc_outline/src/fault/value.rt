@@ -1,34 +1,29 @@
-//! Which values a form takes.
+//! What is wrong with a value.
 
-ghost use Rattle.std.specs.Prelude.{◌≡◌};
+ghost use Rattle.std.specs.Prelude.{◌≡◌, None, Some, length, nat_lt, if◌then◌else◌};
 ghost use Rattle.std.specs.Str.{is_utf8};
+ghost use Rattle.nla_frames.specs.declared.error.DecodeError.TheVariants.{BufferTooSmall};
 ghost use Rattle.nla_frames.specs.Value.{exactly, strip, text};
-ghost use Rattle.tc_names.specs.Listed.{class_of, layout};
-ghost use Rattle.tc_meaning.specs.Layout.{size_of};
-ghost use Rattle.tc_meaning.specs.Content.{read_record, read_selector, read_xstats};
-ghost use Rattle.tc_outline.specs.Fault.{fault_of, value_fault};
+ghost use Rattle.tc_meaning.specs.Content.{read_selector, read_xstats};
+ghost use Rattle.tc_outline.specs.Check.{check_fault};
+ghost use Rattle.tc_outline.specs.Fault.{fault_of};
 
+use super::action::own_error;
+use crate::check::Check;
 use nla_frames::{DecodeError, parse_u32, strip_nul};
-use tc_names::{Fixed, Form};
 
-// What is wrong with a value of this form, under this kind.
-pub(super) fn error_of(form: Form, value: &[u8], kind: &[u8]) -> Option<DecodeError>
-    ensures { result ≡ value_fault (class_of form) kind.now value.now }
+// What is wrong with a value, under this kind.
+pub(super) fn error_of(check: Check, value: &[u8], kind: &[u8]) -> Option<DecodeError>
+    ensures { result ≡ check_fault check kind.now value.now }
 {
-    match form {
-        Form::U8 | Form::Bits1 | Form::Bits3 | Form::Truth => width_error(1, value),
-        Form::U16 | Form::U16Be => width_error(2, value),
-        Form::U32 | Form::U32Be | Form::Bits20 | Form::Handle | Form::Flags | Form::Ipv4 => {
-            width_error(4, value)
-        }
-        Form::Mac => width_error(6, value),
-        Form::Tag | Form::FlagsPair => width_error(8, value),
-        Form::Ipv6 | Form::Labels => width_error(16, value),
-        Form::Text | Form::Warning => text_error(value),
-        Form::Record(fixed) => record_error(fixed, value),
-        Form::Selector => selector_error(value),
-        Form::Statistics => statistics_error(value, kind),
-        Form::Bytes | Form::Presence | Form::ListOf(_) => None,
+    match check {
+        Check::Any => None,
+        Check::Bytes(expected) => width_error(expected, value),
+        Check::Fields(needed) => fields_error(needed, value),
+        Check::Text => text_error(value),
+        Check::Selector => selector_error(value),
+        Check::Xstats => statistics_error(value, kind),
+        Check::Action => own_error(value),
     }
 }
 
@@ -61,10 +56,9 @@ pub(super) fn is_text(value: &[u8]) -> bool
     }
 }
 
-fn record_error(fixed: Fixed, value: &[u8]) -> Option<DecodeError>
-    ensures { result ≡ fault_of (read_record (layout fixed) value.now) }
+fn fields_error(needed: usize, value: &[u8]) -> Option<DecodeError>
+    ensures { result ≡ (if nat_lt (length value.now) needed then Some (BufferTooSmall (length value.now) needed) else None) }
 {
-    let needed = size_of(fixed);
     let len = value.len();
     if len < needed {
         return Some(DecodeError::BufferTooSmall { len, needed });
@@ -97,25 +91,8 @@ fn statistics_error(value: &[u8], kind: &[u8]) -> Option<DecodeError>
     }
     let (number, rest) = value.split_at(4);
     match parse_u32(number) {
-        Ok(0) => record_error(Fixed::QdiscStats, rest),
-        Ok(1) => record_error(Fixed::ClassStats, rest),
+        Ok(0) => fields_error(36, rest),
+        Ok(1) => fields_error(24, rest),
         _ => None,
-    }
-}
-
-// How many bytes a record has.
-fn size_of(fixed: Fixed) -> usize
-    ensures { result ≡ size_of (layout fixed) }
-{
-    match fixed {
-        Fixed::ActionHeader => 4,
-        Fixed::FlagsPair => 8,
-        Fixed::StatsBasic | Fixed::SelectorHead | Fixed::SelectorKey => 16,
-        Fixed::Header | Fixed::StatsQueue | Fixed::Generic => 20,
-        Fixed::ClassStats | Fixed::TunnelKey => 24,
-        Fixed::Mirror => 28,
-        Fixed::Times => 32,
-        Fixed::QdiscStats | Fixed::Nat => 36,
-        Fixed::Stats => 40,
     }
 }

@@ -2,8 +2,7 @@
 
 use std::alloc::Global;
 use std::test::Fail;
-use tc_index::{Attribute, Attributes};
-use tc_names::Table;
+use tc_index::{Attribute, Attributes, Table};
 use tc_outline::{Interfaces, Layout, Page, What, outline};
 use tc_wire::Res;
 use tests_messages::{Form, Input, captured};

@@ -1,7 +1,6 @@
 //! Attributes of messages, worked by hand.
 
-use tc_index::{Attributes, Node, index_action, index_tc};
-use tc_names::Table;
+use tc_index::{Attributes, Node, Table, index_action, index_tc};
 use tc_wire::DecodeError;
 
 /// Where a value begins, how many bytes it has, the word, the table and the depth.

@@ -1,5 +1,5 @@
 use Rattle.std.proofs.Common.{List, length, ap, sym, arith}
-use Rattle.tc_names.specs.Listed.{table_of}
+use Rattle.tc_index.specs.Tables.{table_of}
 use Rattle.tc_index.specs.Attributes.{Item}
 use Rattle.tc_index.specs.Seen.{left_in, sets_if}
 use Rattle.tc_index.specs.Nodes.{nodes_of}

@@ -1,8 +1,8 @@
-use Rattle.std.proofs.Common.{Some}
-use Rattle.tc_index.proofs.Rows.{class-in, same-kind}
+use Rattle.tc_index.proofs.Rows.{class-in}
 use Rattle.tc_index.proofs.nesting.list_in.Goals as goal
 
 pub returns-in-Some : goal.returns-in-Some
-returns-in-Some c =
-    rw (class-in c.args.table c.args.number c.args.kind.now c.in_default.not-Actions)
-    (same-kind _ c.args.kind.now c.args.value.now (Some c.in-Some.inner) c.in-Some.ensures.table (c.in-Some.ensures.kind c.args.value.now))
+returns-in-Some c = rw (class-in c.args.table c.args.number c.args.kind.now c.in_default.not-Actions) (c.in-Some.ensures c.args.value.now)
+
+pub returns-in-None : goal.returns-in-None
+returns-in-None c = rw (class-in c.args.table c.args.number c.args.kind.now c.in_default.not-Actions) (c.in-None.ensures c.args.value.now)

@@ -1,4 +1,4 @@
-use Rattle.tc_names.specs.Listed.{table_of}
+use Rattle.tc_index.specs.Tables.{table_of}
 use Rattle.tc_index.proofs.Walks.{entered}
 use Rattle.tc_index.proofs.level.Level.in_attribute.Goals as goal
 

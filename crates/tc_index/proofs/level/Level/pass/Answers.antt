@@ -1,4 +1,4 @@
-use Rattle.tc_names.specs.Listed.{table_of}
+use Rattle.tc_index.specs.Tables.{table_of}
 use Rattle.tc_index.specs.Attributes.{with_inner, attributes_in}
 use Rattle.tc_index.specs.Seen.{sets_if}
 use Rattle.std.proofs.Common.{◌-◌}

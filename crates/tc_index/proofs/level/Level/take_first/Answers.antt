@@ -1,5 +1,5 @@
 use Rattle.std.proofs.Common.{◌-◌}
-use Rattle.tc_names.specs.Listed.{table_of}
+use Rattle.tc_index.specs.Tables.{table_of}
 use Rattle.tc_index.specs.Attributes.{with_inner, attributes_in}
 use Rattle.tc_index.specs.Seen.{placed_of, sets_if}
 use Rattle.tc_index.proofs.Walks.{takes-one, fault-given}

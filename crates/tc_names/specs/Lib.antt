@@ -1,4 +1,0 @@
-pub mod Named
-pub mod Names
-pub mod RecordNames
-pub mod Listed
