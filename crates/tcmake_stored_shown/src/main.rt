@@ -17,6 +17,7 @@ fn main(rt: HostRuntime) -> ExitCode {
     let mut lines = Vec::new(alloc);
     let asked = Asked {
         form: tcshow_lib::asked::Form::Json,
+        all: false,
         without_header: None,
         chosen: Chosen::ALL,
         names: Interfaces { names: &[] },

@@ -4,10 +4,10 @@ ghost use Rattle.std.specs.Prelude.{◌≡◌, is_some, option_map};
 
 use crate::found::Found;
 use crate::line::line_of;
-use crate::pages::show_origin;
+use crate::pages::{begin_message, columns_of};
 use crate::shower::Shower;
 use std::alloc::{AllocError, Allocator};
-use tc_outline::{Fault, Interfaces, outline};
+use tc_outline::{Fault, outline};
 
 // The name of a fault, where there is one.
 fn name_of(fault: &Option<Fault>) -> Option<&'static str>
@@ -58,12 +58,10 @@ impl<'a, A: Allocator + Copy> Shower<'a, A> {
         ensures put { OnOk result ((text : List ℕ) × (bad : Bool) × ShowsMessage false (message_view found.now) text bad
             × Grows text bad (state_of self.old) (state_of self.new)) }
     {
-        show_origin(&mut self.page, found)?;
+        begin_message(&mut self.page, found)?;
         let names = self.links.with(self.asked.names.names)?;
-        let names = Interfaces {
-            names: names.as_slice(),
-        };
-        let fault = outline(&mut self.page, found.payload, found.what, &names)?;
+        let columns = columns_of(self.asked, names.as_slice(), found);
+        let fault = outline(self.json, &mut self.page, found.payload, columns)?;
         self.put_page()?;
         self.count_fault(name_of(&fault))
     }

@@ -28,6 +28,8 @@ pub struct Request<'a> {
     pub names: Option<&'a str>,
     /// How messages are shown.
     pub form: Form,
+    /// True if paddings are shown too.
+    pub all: bool,
     /// What lines of hex without a netlink header are.
     pub without_header: Option<Holds>,
     /// The kinds of the messages that are shown, or of their actions.
@@ -52,6 +54,32 @@ pub struct Request<'a> {
     pub refused: bool,
     /// True if the messages are counted at the end.
     pub has_summary: bool,
+    /// When outlines are in colours.
+    pub colours: Colours,
+    /// True if they are, where that is settled.
+    pub in_colours: bool,
+}
+
+/// When outlines are in colours.
+#[derive(Clone, Copy, PartialEq, Eq)]
+pub enum Colours {
+    /// On a terminal.
+    Auto,
+    /// Always.
+    Always,
+    /// Never.
+    Never,
+}
+
+impl Colours {
+    // True if they are, on a terminal that allows them or not.
+    pub(crate) fn are_on(self, is_allowed: bool) -> bool {
+        match self {
+            Colours::Auto => is_allowed,
+            Colours::Always => true,
+            Colours::Never => false,
+        }
+    }
 }
 
 const ABOUT: &str =
@@ -134,10 +162,20 @@ fn with_input<'a>(alloc: Global, command: Command<'a>) -> Result<Command<'a>, Al
 fn with_forms<'a>(alloc: Global, command: Command<'a>) -> Result<Command<'a>, AllocError> {
     let one_line = flag(alloc, "oneline", "Show each message on one line").help_heading(FORMS);
     let json = flag(alloc, "json", "Show each message as a line of JSON").help_heading(FORMS);
+    let all = flag(alloc, "all", "Show paddings in outlines too").help_heading(FORMS);
+    let colour = option(
+        alloc,
+        "color",
+        "WHEN",
+        "Outlines in colours: auto (on a terminal, unless NO_COLOR is set), always or never",
+    )
+    .help_heading(FORMS);
     let summary = flag(alloc, "summary", "Count the messages at the end").help_heading(FORMS);
     command
         .arg(one_line.conflicts_with("json")?)?
         .arg(json)?
+        .arg(all)?
+        .arg(colour.value_parser(["auto", "always", "never"].as_slice()))?
         .arg(summary)
 }
 
@@ -247,6 +285,14 @@ fn form_of(matches: &ArgMatches<'_>) -> Form {
     }
 }
 
+fn colours_of(matches: &ArgMatches<'_>) -> Colours {
+    match matches.get_str("color") {
+        Some("always") => Colours::Always,
+        Some("never") => Colours::Never,
+        _ => Colours::Auto,
+    }
+}
+
 fn without_header(matches: &ArgMatches<'_>) -> Option<Holds> {
     match matches.get_str("no-header") {
         Some("tc") => Some(Holds::Tc),
@@ -301,6 +347,7 @@ pub fn request_of<'a, S: AsStr>(alloc: Global, words: &'a [S]) -> Result<Request
         },
         names: matches.get_str("names"),
         form: form_of(&matches),
+        all: matches.get_flag("all"),
         without_header: without_header(&matches),
         kinds: words_of(alloc, &matches, "kind")?,
         types: words_of(alloc, &matches, "type")?,
@@ -313,5 +360,7 @@ pub fn request_of<'a, S: AsStr>(alloc: Global, words: &'a [S]) -> Result<Request
         until: matches.get_str("until"),
         refused: matches.get_flag("refused"),
         has_summary: matches.get_flag("summary"),
+        colours: colours_of(&matches),
+        in_colours: false,
     })
 }

@@ -24,6 +24,8 @@ pub struct Asked<'a> {
     pub without_header: Option<Holds>,
     /// Which messages are shown.
     pub chosen: Chosen<'a>,
+    /// True if paddings are shown too.
+    pub all: bool,
     /// The names of interfaces.
     pub names: Interfaces<'a>,
     /// True if the messages are counted at the end.

@@ -97,14 +97,6 @@ impl<'a> Found<'a> {
         }
     }
 
-    /// True if its own header is whole.
-    pub(crate) fn has_header(&self) -> bool {
-        match self.holds {
-            Holds::Tc => self.payload.len() >= 20,
-            Holds::Action => self.payload.len() >= 4,
-        }
-    }
-
     /// Its kind: the last `TCA_KIND` of a traffic control message, the kind of the first action of an action message;
     /// empty where it has none.
     pub(crate) fn kind(&self) -> &'a [u8] {

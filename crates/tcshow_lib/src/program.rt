@@ -8,7 +8,7 @@ ghost use Rattle.tcshow_lib.specs.declared.asked.Form.TheVariants.{Json};
 ghost use Rattle.tcshow_lib.specs.declared.run.Ended.{Ended};
 
 use crate::arguments::{Request, Task, request_of};
-use crate::asked::Asked;
+use crate::asked::{Asked, Form};
 use crate::choice::{Choice, NoChoice};
 use crate::kinds::{write_all_kinds, write_kind, write_schema_of_line};
 use crate::names::names_in;
@@ -22,14 +22,16 @@ use std::process::ExitCode;
 use std::rt::{Env, Files};
 use std::{env, fs};
 use tc_chosen::Chosen;
+use tc_colours::Coloured;
 use tc_outline::Interfaces;
 use tc_streams::{complain, write_all};
 use tc_words::LINK_FORMS;
 
 /// The whole program: reads its arguments, shows the messages of its input on standard output, and returns the exit
-/// status. Why it ended early is written to `errors`.
+/// status. Why it ended early is written to `errors`. `is_terminal` says whether standard output is a terminal.
 pub fn tcshow<R: Env + AllocGlobal + Files + Input + Print + Eprint, E: Write>(
     rt: &R,
+    is_terminal: bool,
     errors: &mut E,
 ) -> ExitCode {
     let alloc = rt.alloc();
@@ -42,7 +44,11 @@ pub fn tcshow<R: Env + AllocGlobal + Files + Input + Print + Eprint, E: Write>(
         Err(_) => return ExitCode::from(complain(errors, NO_MEMORY, 3)),
     };
     match request_of(alloc, words.as_slice()) {
-        Ok(request) => ExitCode::from(perform(rt, &request, errors)),
+        Ok(mut request) => {
+            request.in_colours = request.form == Form::Lines
+                && request.colours.are_on(is_terminal && allows_colours(rt));
+            ExitCode::from(perform(rt, &request, errors))
+        }
         Err(error) => {
             if error.kind() == ErrorKind::OutOfMemory {
                 return ExitCode::from(complain(errors, NO_MEMORY, 3));
@@ -50,6 +56,14 @@ pub fn tcshow<R: Env + AllocGlobal + Files + Input + Print + Eprint, E: Write>(
             let _ = error.print(rt);
             ExitCode::from(if error.use_stderr() { 2 } else { 0 })
         }
+    }
+}
+
+// True unless `NO_COLOR` is set to some text.
+fn allows_colours<R: Env + AllocGlobal>(rt: &R) -> bool {
+    match env::var(rt, "NO_COLOR") {
+        Ok(text) => text.as_str().is_empty(),
+        Err(_) => true,
     }
 }
 
@@ -152,17 +166,33 @@ fn show_chosen<R: AllocGlobal + Files + Input + Print, E: Write>(
 ) -> u8 {
     let asked = Asked {
         form: request.form,
+        all: request.all,
         without_header: request.without_header,
         chosen,
         names: Interfaces { names },
         has_summary: request.has_summary,
     };
     let mut writer = io::writer(rt);
+    if request.in_colours {
+        let mut writer = Coloured::new(rt.alloc(), writer);
+        return show_file(rt, request.file, &asked, &mut writer, errors);
+    }
+    show_file(rt, request.file, &asked, &mut writer, errors)
+}
+
+// Shows what is asked for of a file, or of standard input.
+fn show_file<R: AllocGlobal + Files + Input, W: Write, E: Write>(
+    rt: &R,
+    file: Option<&str>,
+    asked: &Asked<'_>,
+    writer: &mut W,
+    errors: &mut E,
+) -> u8 {
     let alloc = rt.alloc();
-    match request.file {
-        None => serve(alloc, alloc, &asked, &mut rt.reader(), &mut writer, errors),
+    match file {
+        None => serve(alloc, alloc, asked, &mut rt.reader(), writer, errors),
         Some(path) => match fs::open(rt, path) {
-            Ok(mut file) => serve(alloc, alloc, &asked, &mut file, &mut writer, errors),
+            Ok(mut file) => serve(alloc, alloc, asked, &mut file, writer, errors),
             Err(_) => complain(errors, "tcshow: the file can't be read\n", 2),
         },
     }

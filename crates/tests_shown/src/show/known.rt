@@ -15,17 +15,18 @@ static TEXT: &str =
 30000000 3000 0000 07000000 00000000 00000000 1c000100 18000100 08000300 05000000 0b0001006d697272656400 00
 ";
 
-static LINES: &str = "RTM_NEWQDISC index 2 (eth0) handle 1: parent root
+static LINES: &str = "RTM_NEWQDISC create excl seq 5 index 2 (eth0) handle 1: parent root
 kind fq_codel
 options
   limit 10240p
 
-RTM_NEWQDISC index 2 (eth0) handle 1: parent root
+RTM_NEWQDISC create excl seq 5 index 2 (eth0) handle 1: parent root
 kind fq_codel
 options
+  limit raw 002800
 refused WrongLength expected 4 got 3 offset 44 path /attributes/1/Options/0/FqCodel/Limit
 
-RTM_NEWACTION family unspec
+RTM_NEWACTION seq 7
 actions
   action 1
     index 5
@@ -47,7 +48,7 @@ summary
   0 broken
 ";
 
-static ONE_LINE: &str = "RTM_NEWACTION family unspec actions {action 1 {index 5 kind mirred}}\n";
+static ONE_LINE: &str = "RTM_NEWACTION seq 7 actions {action 1 {index 5 kind mirred}}\n";
 
 static JSON: &str =
     r#"{"type":"RTM_NEWQDISC","flags":1536,"seq":5,"fits":true,"settled":true,"canonical":true,"message":{"header":{"family":"Unspec","index":2,"handle":"1:","parent":"root","info":0},"attributes":[{"Kind":"fq_codel"},{"Options":[{"FqCodel":{"Limit":10240}}]}]}}

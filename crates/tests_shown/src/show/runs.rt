@@ -14,6 +14,7 @@ pub(crate) static FORMS: [Form; 3] = [Form::Lines, Form::OneLine, Form::Json];
 pub(crate) fn chosen_in<'a>(form: Form, chosen: Chosen<'a>) -> Asked<'a> {
     Asked {
         form,
+        all: false,
         without_header: None,
         chosen,
         names: Interfaces { names: &[] },
