@@ -8,7 +8,7 @@ use Rattle.tc_outline.specs.Page.{IsShown, escaped_byte, is_printable, is_shown,
 as_it_is : (a p : Bool) (b : ℕ) (escaped : List ℕ) → IsTrue (p || (true && a)) → (if a then b ∷ [] else if p then b ∷ [] else escaped) ≡ b ∷ []
 as_it_is true p b escaped h = refl
 as_it_is false true b escaped h = refl
-as_it_is false false b escaped h = absurd h
+as_it_is false false b escaped h = absurd (cc h)
 
 each : (text : List ℕ) → ByRecursion (λ b. IsTrue (is_shown true b)) text → shown text ≡ text
 each [] h = refl

@@ -57,15 +57,13 @@ impl<A: Allocator> Page<A> {
     }
 
     /// A text. What is no printable ASCII in it is written as `\x1b`.
-    pub fn text(&mut self, text: &str) -> Result<(), AllocError>
-        ensures { has_lines self.new ≡ has_lines self.old }
-    {
+    pub fn text(&mut self, text: &str) -> Result<(), AllocError> {
         self.escaped(text.as_bytes())
     }
 
     /// Lines: what goes on with the line that is begun, and after it each line behind a line feed and two blanks for each level.
     pub fn lines(&mut self, text: &[u8]) -> Result<(), AllocError>
-        ensures form { has_lines self.new ≡ has_lines self.old }
+        ensures form { has_lines self.old ≡ true → has_lines self.new ≡ true }
         ensures text { has_lines self.old ≡ true → OnOk result (text_on self.new ≡ text_on self.old ++ shown text.now) }
     {
         if self.has_lines {
@@ -76,9 +74,7 @@ impl<A: Allocator> Page<A> {
     }
 
     // The same on one line: its lines in the braces of their depths.
-    fn on_one_line(&mut self, text: &[u8]) -> Result<(), AllocError>
-        ensures { has_lines self.new ≡ has_lines self.old }
-    {
+    fn on_one_line(&mut self, text: &[u8]) -> Result<(), AllocError> {
         for (at, line) in text.split(|byte| *byte == b'\n').enumerate() {
             if at == 0 {
                 self.escaped(line)?;
@@ -138,16 +134,12 @@ impl<A: Allocator> Page<A> {
     }
 
     /// A blank.
-    pub fn blank(&mut self) -> Result<(), AllocError>
-        ensures { has_lines self.new ≡ has_lines self.old }
-    {
+    pub fn blank(&mut self) -> Result<(), AllocError> {
         self.byte(b' ')
     }
 
     /// Begins what is shown at this depth: a new line, or a blank and the braces of lists that begin or end.
-    pub fn begin(&mut self, depth: usize) -> Result<(), AllocError>
-        ensures { has_lines self.new ≡ has_lines self.old }
-    {
+    pub fn begin(&mut self, depth: usize) -> Result<(), AllocError> {
         if self.has_lines {
             self.line(depth)
         } else {
@@ -169,9 +161,7 @@ impl<A: Allocator> Page<A> {
         Ok(())
     }
 
-    fn line(&mut self, depth: usize) -> Result<(), AllocError>
-        ensures { has_lines self.new ≡ has_lines self.old }
-    {
+    fn line(&mut self, depth: usize) -> Result<(), AllocError> {
         self.line_feed()?;
         for _ in 0..depth {
             self.text("  ")?;
@@ -179,9 +169,7 @@ impl<A: Allocator> Page<A> {
         Ok(())
     }
 
-    fn braces(&mut self, depth: usize) -> Result<(), AllocError>
-        ensures { has_lines self.new ≡ has_lines self.old }
-    {
+    fn braces(&mut self, depth: usize) -> Result<(), AllocError> {
         let before = self.depth;
         self.depth = depth;
         if depth > before {
@@ -223,9 +211,7 @@ impl<A: Allocator> Page<A> {
         Ok(())
     }
 
-    fn escaped(&mut self, text: &[u8]) -> Result<(), AllocError>
-        ensures { has_lines self.new ≡ has_lines self.old }
-    {
+    fn escaped(&mut self, text: &[u8]) -> Result<(), AllocError> {
         if is_printable(text) {
             return self.bytes.extend_from_slice(text);
         }

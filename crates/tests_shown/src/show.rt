@@ -12,6 +12,7 @@ mod formats;
 mod holes;
 mod known;
 mod memory;
+mod outlines;
 mod random;
 mod runs;
 mod streams;

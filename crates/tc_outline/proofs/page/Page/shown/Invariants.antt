@@ -1,4 +1,4 @@
-use Rattle.std.proofs.Common.{take, ◌++◌, ◌≡◌, ◌×◌}
+use Rattle.std.proofs.Common.{take, ◌++◌, ◌≡◌}
 use Rattle.tc_outline.specs.Page.{shown}
 use Rattle.tc_outline.specs.Text.{has_lines, text_on}
 use Rattle.tc_outline.proofs.page.Page.shown.Given as goal
