@@ -2,10 +2,11 @@
 use Rattle.std.specs.Prelude.{ℕ, ◌+◌, ◌*◌, ◌==◌, ◌&&◌, ◌||◌, Bool, true, false, List, [], ◌∷◌, Option, Some, None, bytes_eq, nat_le, not}
 use Rattle.std.specs.Borrow.{Bor}
 use Rattle.std.specs.List.{list_any}
+use Rattle.tc_capture.specs.declared.kind.Holds.{Holds}
 use Rattle.tc_capture.specs.declared.time.Time.{Time}
 use Rattle.tc_chosen.specs.declared.types.Types.{Types}
 use Rattle.tc_chosen.specs.declared.chosen.Chosen.{Chosen}
-use Rattle.tc_chosen.specs.declared.chosen.Message.{Message}
+use Rattle.tc_chosen.specs.declared.chosen.Message.{Message as CodeMessage}
 use Rattle.tc_chosen.specs.Kinds.{kinds_in}
 use Rattle.tc_chosen.specs.Header.{interface_in, handle_in, parent_in, chain_in, priority_in}
 
@@ -52,22 +53,33 @@ is_within since until time = is_since since time && is_until until time
 
 -- ---- each option, of a message
 
+-- a message of traffic control: when it was captured, its type where it has a netlink header, which of the two messages it is, and its bytes
+pub record Message : Type 0 where
+  pub time : Option Time
+  pub rtm : Option ℕ
+  pub holds : Holds
+  pub payload : List ℕ
+
+-- what contracts see of one
+abbrev pub seen_message : CodeMessage → Message
+seen_message m = record { time = m.time; rtm = m.rtm; holds = m.holds; payload = m.payload.now }
+
 abbrev pub has_asked_kind : Chosen → Message → Bool
-has_asked_kind c m = asks c.kinds.now (list_any (is_kind c.kinds.now) (kinds_in m.holds m.payload.now))
+has_asked_kind c m = asks c.kinds.now (list_any (is_kind c.kinds.now) (kinds_in m.holds m.payload))
 
 abbrev pub has_asked_type : Chosen → Message → Bool
 has_asked_type c m = asks c.types.now (is_in c.types.now m.rtm)
 
 abbrev pub has_asked_place : Chosen → Message → Bool
 has_asked_place c m =
-    asks c.interfaces.now (is_among c.interfaces.now (interface_in m.holds m.payload.now))
-    && asks c.handles.now (is_among c.handles.now (handle_in m.holds m.payload.now))
-    && asks c.parents.now (is_among c.parents.now (parent_in m.holds m.payload.now))
+    asks c.interfaces.now (is_among c.interfaces.now (interface_in m.holds m.payload))
+    && asks c.handles.now (is_among c.handles.now (handle_in m.holds m.payload))
+    && asks c.parents.now (is_among c.parents.now (parent_in m.holds m.payload))
 
 abbrev pub has_asked_chain : Chosen → Message → Bool
 has_asked_chain c m =
-    asks c.chains.now (is_among c.chains.now (chain_in m.rtm m.holds m.payload.now))
-    && asks c.priorities.now (is_among c.priorities.now (priority_in m.rtm m.holds m.payload.now))
+    asks c.chains.now (is_among c.chains.now (chain_in m.rtm m.holds m.payload))
+    && asks c.priorities.now (is_among c.priorities.now (priority_in m.rtm m.holds m.payload))
 
 -- all options
 abbrev pub is_chosen : Chosen → Message → Bool

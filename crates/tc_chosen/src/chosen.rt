@@ -49,7 +49,7 @@ pub struct Message<'a> {
 
 impl<'a> Chosen<'a> {
     ghost use Rattle.std.specs.Prelude.{◌≡◌, ◌&&◌, ◌||◌};
-    ghost use Rattle.tc_chosen.specs.Chosen.{has_asked_kind, has_asked_type, has_asked_place, has_asked_chain, is_chosen, is_chosen_verdict};
+    ghost use Rattle.tc_chosen.specs.Chosen.{seen_message, has_asked_kind, has_asked_type, has_asked_place, has_asked_chain, is_chosen, is_chosen_verdict};
 
     /// Every message.
     pub const ALL: Chosen<'static> = Chosen {
@@ -67,7 +67,7 @@ impl<'a> Chosen<'a> {
 
     /// True of a message that is chosen by what it holds.
     pub fn takes(&self, message: &Message<'_>) -> bool
-        ensures { result ≡ is_chosen self.now message.now }
+        ensures { result ≡ is_chosen self.now (seen_message message.now) }
     {
         is_within(self.since, self.until, message.time)
             && self.takes_type(message)
@@ -84,19 +84,19 @@ impl<'a> Chosen<'a> {
     }
 
     fn takes_kind(&self, message: &Message<'_>) -> bool
-        ensures { result ≡ has_asked_kind self.now message.now }
+        ensures { result ≡ has_asked_kind self.now (seen_message message.now) }
     {
         self.kinds.is_empty() || has_kind(self.kinds, message.holds, message.payload)
     }
 
     fn takes_type(&self, message: &Message<'_>) -> bool
-        ensures { result ≡ has_asked_type self.now message.now }
+        ensures { result ≡ has_asked_type self.now (seen_message message.now) }
     {
         self.types.is_empty() || is_in(self.types, message.rtm)
     }
 
     fn takes_place(&self, message: &Message<'_>) -> bool
-        ensures { result ≡ has_asked_place self.now message.now }
+        ensures { result ≡ has_asked_place self.now (seen_message message.now) }
     {
         let (holds, payload) = (message.holds, message.payload);
         takes(self.interfaces, interface_in(holds, payload))
@@ -105,7 +105,7 @@ impl<'a> Chosen<'a> {
     }
 
     fn takes_chain(&self, message: &Message<'_>) -> bool
-        ensures { result ≡ has_asked_chain self.now message.now }
+        ensures { result ≡ has_asked_chain self.now (seen_message message.now) }
     {
         let (rtm, holds, payload) = (message.rtm, message.holds, message.payload);
         (self.chains.is_empty() || is_among(self.chains, chain_in(rtm, holds, payload)))

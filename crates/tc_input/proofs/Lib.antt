@@ -2,3 +2,4 @@ pub mod Left
 pub mod Comments
 pub mod LineSteps
 pub mod PieceSteps
+pub mod LongLines

@@ -2,3 +2,4 @@ pub mod Left
 pub mod Pieces
 pub mod Lines
 pub mod Text
+pub mod Dumps

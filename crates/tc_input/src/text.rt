@@ -1,11 +1,12 @@
 //! A line of hex.
 
-ghost use Rattle.std.specs.Prelude.{◌≡◌, IfOk};
-ghost use Rattle.std.specs.List.{take_while};
-ghost use Rattle.tc_input.specs.Text.{is_blank, is_before_comment, digits_of, on_line, seen_on_line};
+ghost use Rattle.std.specs.Prelude.{◌≡◌, IfOk, option_map};
+ghost use Rattle.tc_hex.specs.Hex.{bytes_of_hex};
+ghost use Rattle.tc_input.specs.Text.{is_before_comment, before_comment, on_line, seen_on_line};
 
 use crate::lines::MOST_LINE;
 use std::alloc::{AllocError, Allocator};
+use tc_hex::push_hex;
 
 /// What a line says.
 #[derive(Drop)]
@@ -20,42 +21,40 @@ pub enum OnLine<A: Allocator> {
     Bytes(Vec<u8, A>),
 }
 
-/// What a line of hex says: digits, blanks between them, and a comment behind them.
+/// What a line of hex says: digits with blanks, colons and `0x` among them, and a comment behind them.
 pub fn on_line<A: Allocator + Copy>(alloc: A, line: &[u8]) -> Result<OnLine<A>, AllocError>
     ensures { IfOk result (λ said. seen_on_line said ≡ on_line line.now) }
 {
     if line.len() > MOST_LINE {
         return Ok(OnLine::TooLong);
     }
-    let digits = digits_in(alloc, line)?;
-    if digits.is_empty() {
-        return Ok(OnLine::Nothing);
+    match bytes_of(alloc, before_comment(line))? {
+        Some(bytes) => {
+            if bytes.is_empty() {
+                Ok(OnLine::Nothing)
+            } else {
+                Ok(OnLine::Bytes(bytes))
+            }
+        }
+        None => Ok(OnLine::NoHex),
     }
-    match hex::decode(alloc, digits.as_slice()) {
-        Ok(bytes) => Ok(OnLine::Bytes(bytes)),
-        Err(hex::FromHexError::OutOfMemory) => Err(AllocError),
-        Err(_) => Ok(OnLine::NoHex),
-    }
 }
 
-// A line without its comment and its blanks.
-fn digits_in<A: Allocator>(alloc: A, line: &[u8]) -> Result<Vec<u8, A>, AllocError>
-    ensures { IfOk result (λ digits. digits.items ≡ digits_of line.now) }
+/// The bytes of hex.
+pub(crate) fn bytes_of<A: Allocator>(
+    alloc: A,
+    text: &[u8],
+) -> Result<Option<Vec<u8, A>>, AllocError>
+    ensures { IfOk result (λ bytes. option_map (λ b. b.items) bytes ≡ bytes_of_hex text.now) }
 {
-    let mut digits = Vec::from_slice(alloc, before_comment(line))?;
-    digits.retain(|byte| !is_blank(*byte));
-    Ok(digits)
+    let mut bytes = Vec::new(alloc);
+    let is_hex = push_hex(&mut bytes, text)?;
+    Ok(if is_hex { Some(bytes) } else { None })
 }
 
-fn is_blank(byte: u8) -> bool
-    ensures { result ≡ is_blank byte }
-{
-    matches!(byte, b' ' | b'\t' | b'\r')
-}
-
-// What comes before the comment.
-fn before_comment(line: &[u8]) -> &[u8]
-    ensures { result.now ≡ take_while is_before_comment line.now }
+/// What comes before the comment of a line.
+pub(crate) fn before_comment(line: &[u8]) -> &[u8]
+    ensures { result.now ≡ before_comment line.now }
 {
     'bytes: for place in 0..line.len() {
         if line[place] == b'#' {

@@ -1,30 +1,33 @@
 -- What the events of JSON do: they write its lines.
-use Rattle.std.proofs.Common.{◌≡◌, ℕ, suc, zero, ◌+◌, Bool, true, false, List, [], ◌∷◌, ◌++◌, Option, Some, None, refl, sym, subst, ap, ◌∙◌, append_assoc}
+use Rattle.std.proofs.Common.{◌≡◌, ℕ, suc, zero, Bool, true, false, List, [], ◌∷◌, ◌++◌, Option, Some, None, IfSome, ◌×◌, append_assoc, refl, sym, subst, ap, ◌∙◌}
 use Rattle.std.specs.Coded.{Coded-set, coded_list, coded_ℕ}
 use Rattle.std.proofs.Math.Logic.{∥∥₁_elim}
+use Rattle.std.proofs.lemmas.Option.{none-some}
 use Rattle.std.specs.Prelude.{if◌then◌else◌, option_and_then}
-use Rattle.std.proofs.lemmas.List.{append-nil}
-use Rattle.serde.specs.Event.{Event, Log, field_key, map_ends, seq_ends, text}
+use Rattle.serde.specs.Event.{Event, Log, Logs, boolean as truth, map_ends, nothing, seq_ends, text, unsigned as number_sent}
 use Rattle.serde_json.specs.Data.{Data, Items, Members, array, boolean, float, item, member, negative, no_items, no_members, null, number, object, string, unsigned}
 use Rattle.tc_forms.specs.Sent.{Sent, events, items_events, members_events}
-use Rattle.tc_lines.specs.Columns.{Table, column_of, depth_in, has_elements, is_nested, place_in}
+use Rattle.serde_json.specs.Logged.{then}
+use Rattle.tc_lines.specs.Columns.{Column, Given, Table, depth_in, has_elements, in_line, is_nested, opened, place_in}
 use Rattle.tc_lines.specs.declared.column.How.{How}
-use Rattle.tc_lines.specs.declared.column.How.TheVariants.{Below, Elements, Flags, Hidden, Kind, Named, Number, Plain, Text, Through, Verdict, Within}
-use Rattle.tc_lines.specs.Lines.{element, element_depth, head, inside, inside_items, inside_members, inside_name, item_lines, items, lines, members, next_of, next_place, opening, place_behind, value}
+use Rattle.tc_lines.specs.declared.column.How.TheVariants.{Below, Count, Elements, Family, First, Flags, From, Handle, Hidden, InLine, Index, Info, Interface, Kind, Named, Number, Plain, Slash, Text, Through, To, Verdict, Within}
+use Rattle.tc_lines.specs.Lines.{Written, at, begins, begun, column, element, head, inside, inside_items, inside_members, inside_name, item_lines, items, lines, members, opening, place_behind, put, value}
+use Rattle.tc_lines.specs.Log.{interface_marks, marked, marks}
 use Rattle.tc_lines.specs.Walk.{Follows, State, between, go_inside, note, step, walked}
 use Rattle.tc_lines.specs.declared.walk.Frame.{Frame}
 use Rattle.tc_lines.specs.declared.walk.Frame.TheVariants.{InItems, InMembers}
 
 -- within a line, so deep and one more
-abbrev within : List ℕ → List Frame → How → ℕ → ℕ → State
-within out fs h n m = record { out = out; frames = fs; how = h; depth = n; inside = suc m }
+abbrev within : Written → List Frame → How → ℕ → ℕ → State
+within w fs h n m = record { out = w.text; partner = w.partner; frames = fs; how = h; depth = n; inside = suc m }
 
 -- at the value of a column
-abbrev at : List ℕ → List Frame → How → ℕ → State
-at out fs h n = record { out = out; frames = fs; how = h; depth = n; inside = 0 }
+abbrev behind : Written → List Frame → How → ℕ → State
+behind w fs h n = record { out = w.text; partner = w.partner; frames = fs; how = h; depth = n; inside = 0 }
 
-three : (a b c d : List ℕ) → a ++ b ++ c ++ d ≡ a ++ (b ++ (c ++ d))
-three a b c d = append_assoc (a ++ b) c d ∙ append_assoc a b (c ++ d)
+-- between values
+abbrev among : Written → List Frame → State
+among w fs = between w.text w.partner fs
 
 module _ (t : Table) where
   pub walked-append : (es fs : List Event) (s : Option State) → walked t (es ++ fs) s ≡ walked t fs (walked t es s)
@@ -39,150 +42,149 @@ module _ (t : Table) where
   -- ---- within one line
 
   mutual
-    inside-data : (d : Data) (out : List ℕ) (fs : List Frame) (h : How) (n m : ℕ)
-        → walked t (events d) (Some (within out fs h n m)) ≡ Some (within (out ++ inside t h d) fs h n m)
-    inside-data null out fs h n m = refl
-    inside-data (boolean b) out fs h n m = refl
-    inside-data (number (unsigned k)) out fs h n m = refl
-    inside-data (number (negative z)) out fs h n m = refl
-    inside-data (number (float x)) out fs h n m = refl
-    inside-data (string s) out fs h n m = refl
-    inside-data (array ds) out fs h n m =
-        both (items_events ds) (seq_ends ∷ []) (Some (within out fs h n (suc m))) _ _ (inside-items ds out fs h n (suc m)) refl
-    inside-data (object ms) out fs h n m =
-        both (members_events ms) (map_ends ∷ []) (Some (within out fs h n (suc m))) _ _ (inside-members ms out fs h n (suc m)) refl
+    inside-data : (d : Data) (w : Written) (fs : List Frame) (h : How) (n m : ℕ)
+        → walked t (events d) (Some (within w fs h n m)) ≡ Some (within (inside t n h d w) fs h n m)
+    inside-data null w fs h n m = refl
+    inside-data (boolean b) w fs h n m = refl
+    inside-data (number (unsigned k)) w fs h n m = refl
+    inside-data (number (negative z)) w fs h n m = refl
+    inside-data (number (float x)) w fs h n m = refl
+    inside-data (string s) w fs h n m = refl
+    inside-data (array ds) w fs h n m =
+        both (items_events ds) (seq_ends ∷ []) (Some (within w fs h n (suc m))) _ _ (inside-items ds w fs h n (suc m)) refl
+    inside-data (object ms) w fs h n m =
+        both (members_events ms) (map_ends ∷ []) (Some (within w fs h n (suc m))) _ _ (inside-members ms w fs h n (suc m)) refl
 
-    inside-items : (ds : Items) (out : List ℕ) (fs : List Frame) (h : How) (n m : ℕ)
-        → walked t (items_events ds) (Some (within out fs h n m)) ≡ Some (within (out ++ inside_items t h ds) fs h n m)
-    inside-items no_items out fs h n m = ap (λ o. Some (within o fs h n m)) (sym (append-nil out))
-    inside-items (item d ds) out fs h n m =
-        both (events d) (items_events ds) (Some (within out fs h n m)) _ _ (inside-data d out fs h n m) (inside-items ds (out ++ inside t h d) fs h n m)
-        ∙ ap (λ o. Some (within o fs h n m)) (append_assoc out (inside t h d) (inside_items t h ds))
+    inside-items : (ds : Items) (w : Written) (fs : List Frame) (h : How) (n m : ℕ)
+        → walked t (items_events ds) (Some (within w fs h n m)) ≡ Some (within (inside_items t n h ds w) fs h n m)
+    inside-items no_items w fs h n m = refl
+    inside-items (item d ds) w fs h n m =
+        both (events d) (items_events ds) (Some (within w fs h n m)) _ _ (inside-data d w fs h n m) (inside-items ds (inside t n h d w) fs h n m)
 
-    inside-members : (ms : Members) (out : List ℕ) (fs : List Frame) (h : How) (n m : ℕ)
-        → walked t (members_events ms) (Some (within out fs h n m)) ≡ Some (within (out ++ inside_members t h ms) fs h n m)
-    inside-members no_members out fs h n m = ap (λ o. Some (within o fs h n m)) (sym (append-nil out))
-    inside-members (member k d ms) out fs h n m =
-        both (events d) (members_events ms) (Some (within (out ++ inside_name k) fs h n m)) _ _ (inside-data d (out ++ inside_name k) fs h n m)
-        (inside-members ms (out ++ inside_name k ++ inside t h d) fs h n m)
-        ∙ ap (λ o. Some (within o fs h n m)) (three out (inside_name k) (inside t h d) (inside_members t h ms))
+    inside-members : (ms : Members) (w : Written) (fs : List Frame) (h : How) (n m : ℕ)
+        → walked t (members_events ms) (Some (within w fs h n m)) ≡ Some (within (inside_members t n h ms w) fs h n m)
+    inside-members no_members w fs h n m = refl
+    inside-members (member k d ms) w fs h n m =
+        let named = put (inside_name k) false w in
+        both (events d) (members_events ms) (Some (within named fs h n m)) _ _ (inside-data d named fs h n m)
+        (inside-members ms (inside t n h d named) fs h n m)
 
   -- ---- in lines
 
-  noted : (v : List ℕ) (h : How) (n base place next : ℕ) (fs : List Frame)
-      → note t (text v) h (InMembers n base place next ∷ fs) ≡ InMembers n base place (next_place t base (string v) h next) ∷ fs
-  noted v Plain n base place next fs = refl
-  noted v Hidden n base place next fs = refl
-  noted v Kind n base place next fs = refl
-  noted v (Number u) n base place next fs = refl
-  noted v (Named u xs) n base place next fs = refl
-  noted v (Flags xs) n base place next fs = refl
-  noted v (Text xs ys) n base place next fs = refl
-  noted v (Verdict xs) n base place next fs = refl
-  noted v (Within p) n base place next fs = refl
-  noted v (Through p) n base place next fs = refl
-  noted v (Below p) n base place next fs = refl
-  noted v (Elements p) n base place next fs = refl
-
-  abbrev places_behind : ℕ → ℕ → Items → ℕ
-  places_behind base place no_items = place
-  places_behind base place (item d ds) = places_behind base (place_behind t base place d) ds
+  noted : (v : List ℕ) (h : How) (n base place : ℕ) (inline : Bool) (fs : List Frame)
+      → note t (text v) h (InMembers n base place inline ∷ fs) ≡ InMembers n base (place_behind t base (text v) h place) inline ∷ fs
+  noted v Plain n base place inline fs = refl
+  noted v Hidden n base place inline fs = refl
+  noted v Kind n base place inline fs = refl
+  noted v (Number u) n base place inline fs = refl
+  noted v (Named u xs) n base place inline fs = refl
+  noted v (Flags xs) n base place inline fs = refl
+  noted v (Text xs ys) n base place inline fs = refl
+  noted v (Verdict xs) n base place inline fs = refl
+  noted v Interface n base place inline fs = refl
+  noted v (Index p) n base place inline fs = refl
+  noted v (Handle u) n base place inline fs = refl
+  noted v Count n base place inline fs = refl
+  noted v (Family xs ys) n base place inline fs = refl
+  noted v (Info i) n base place inline fs = refl
+  noted v (First p) n base place inline fs = refl
+  noted v (From p) n base place inline fs = refl
+  noted v (Slash xs p) n base place inline fs = refl
+  noted v (To p) n base place inline fs = refl
+  noted v (Within p) n base place inline fs = refl
+  noted v (Through p) n base place inline fs = refl
+  noted v (Below p) n base place inline fs = refl
+  noted v (Elements p) n base place inline fs = refl
+  noted v (InLine p) n base place inline fs = refl
 
   -- what these items do in a list, and these members in an object
   abbrev AreWritten : Items → Type 0
   AreWritten ds =
-      (out : List ℕ) (n base place : ℕ) (each : Bool) (fs : List Frame)
-      → walked t (items_events ds) (Some (between out (InItems n base place each ∷ fs)))
-      ≡ Some (between (out ++ items t n each base place ds) (InItems n base (places_behind base place ds) each ∷ fs))
+      (w : Written) (n base : ℕ) (each : Bool) (fs : List Frame)
+      → walked t (items_events ds) (Some (among w (InItems n base w.place each ∷ fs)))
+      ≡ Some (among (items t n each base ds w) (InItems n base (items t n each base ds w).place each ∷ fs))
 
   abbrev HaveLines : Members → Type 0
   HaveLines ms =
-      (out : List ℕ) (n base place next : ℕ) (fs : List Frame)
-      → walked t (members_events ms) (Some (between out (InMembers n base place next ∷ fs)))
-      ≡ Some (between (out ++ members t n base place ms) (InMembers n base place (next_of t base place next ms) ∷ fs))
+      (w : Written) (n base : ℕ) (inline : Bool) (fs : List Frame)
+      → walked t (members_events ms) (Some (among w (InMembers n base w.place inline ∷ fs)))
+      ≡ Some (among (members t n inline base ms w) (InMembers n base (members t n inline base ms w).place inline ∷ fs))
 
-  an-array : (b : Bool) (ds : Items) → AreWritten ds → (out : List ℕ) (fs : List Frame) (h : How) (n : ℕ)
+  an-array : (b : Bool) (ds : Items) → AreWritten ds → (w : Written) (fs : List Frame) (h : How) (n : ℕ)
       → walked t (items_events ds ++ seq_ends ∷ [])
-      (Some (if b then between out (InItems (depth_in h n) (place_in h) (place_in h) (has_elements h) ∷ fs) else go_inside (at out fs h n)))
-      ≡ Some (between (out ++ (if b then items t (depth_in h n) (has_elements h) (place_in h) (place_in h) ds else opening n h ++ inside_items t h ds)) fs)
-  an-array true ds all out fs h n =
-      both (items_events ds) (seq_ends ∷ []) (Some (between out (InItems (depth_in h n) (place_in h) (place_in h) (has_elements h) ∷ fs))) _ _
-      (all out (depth_in h n) (place_in h) (place_in h) (has_elements h) fs) refl
-  an-array false ds all out fs h n =
-      both (items_events ds) (seq_ends ∷ []) (Some (within (out ++ opening n h) fs h n zero)) _ _ (inside-items ds (out ++ opening n h) fs h n zero) refl
-      ∙ ap (λ o. Some (between o fs)) (append_assoc out (opening n h) (inside_items t h ds))
+      (Some (if b then between w.text w.partner (InItems (depth_in h n) (place_in h) (place_in h) (has_elements h) ∷ fs) else go_inside t (behind w fs h n)))
+      ≡ Some (among (if b then items t (depth_in h n) (has_elements h) (place_in h) ds (at (place_in h) w) else inside_items t n (opened h) ds (put (opening t n h) true w)) fs)
+  an-array true ds all w fs h n =
+      both (items_events ds) (seq_ends ∷ []) (Some (among w (InItems (depth_in h n) (place_in h) (place_in h) (has_elements h) ∷ fs))) _ _
+      (all (at (place_in h) w) (depth_in h n) (place_in h) (has_elements h) fs) refl
+  an-array false ds all w fs h n =
+      both (items_events ds) (seq_ends ∷ []) (Some (within (put (opening t n h) true w) fs (opened h) n zero)) _ _
+      (inside-items ds (put (opening t n h) true w) fs (opened h) n zero) refl
 
-  an-object : (b : Bool) (ms : Members) → HaveLines ms → (out : List ℕ) (k base place next : ℕ) (fs : List Frame) (h : How) (n : ℕ)
+  an-object : (b : Bool) (ms : Members) → HaveLines ms → (w : Written) (k base place : ℕ) (inline : Bool) (fs : List Frame) (h : How) (n : ℕ)
       → walked t (members_events ms ++ map_ends ∷ [])
-      (Some (if b then between out (InMembers (depth_in h n) (place_in h) (place_in h) (place_in h) ∷ InMembers k base place next ∷ fs)
-      else go_inside (at out (InMembers k base place next ∷ fs) h n)))
-      ≡ Some (between (out ++ (if b then members t (depth_in h n) (place_in h) (place_in h) ms else opening n h ++ inside_members t h ms)) (InMembers k base place next ∷ fs))
-  an-object true ms all out k base place next fs h n =
+      (Some (if b
+      then between w.text w.partner (InMembers (depth_in h n) (place_in h) (place_in h) (in_line h) ∷ InMembers k base place inline ∷ fs)
+      else go_inside t (behind w (InMembers k base place inline ∷ fs) h n)))
+      ≡ Some (among (if b then members t (depth_in h n) (in_line h) (place_in h) ms (at (place_in h) w) else inside_members t n (opened h) ms (put (opening t n h) true w)) (InMembers k base place inline ∷ fs))
+  an-object true ms all w k base place inline fs h n =
       both (members_events ms) (map_ends ∷ [])
-      (Some (between out (InMembers (depth_in h n) (place_in h) (place_in h) (place_in h) ∷ InMembers k base place next ∷ fs))) _ _
-      (all out (depth_in h n) (place_in h) (place_in h) (place_in h) (InMembers k base place next ∷ fs)) refl
-  an-object false ms all out k base place next fs h n =
-      both (members_events ms) (map_ends ∷ []) (Some (within (out ++ opening n h) (InMembers k base place next ∷ fs) h n zero)) _ _
-      (inside-members ms (out ++ opening n h) (InMembers k base place next ∷ fs) h n zero) refl
-      ∙ ap (λ o. Some (between o (InMembers k base place next ∷ fs))) (append_assoc out (opening n h) (inside_members t h ms))
+      (Some (among w (InMembers (depth_in h n) (place_in h) (place_in h) (in_line h) ∷ InMembers k base place inline ∷ fs))) _ _
+      (all (at (place_in h) w) (depth_in h n) (place_in h) (in_line h) (InMembers k base place inline ∷ fs)) refl
+  an-object false ms all w k base place inline fs h n =
+      both (members_events ms) (map_ends ∷ [])
+      (Some (within (put (opening t n h) true w) (InMembers k base place inline ∷ fs) (opened h) n zero)) _ _
+      (inside-members ms (put (opening t n h) true w) (InMembers k base place inline ∷ fs) (opened h) n zero) refl
 
   mutual
-    a-value : (d : Data) (out : List ℕ) (k base place next : ℕ) (fs : List Frame) (h : How) (n : ℕ)
-        → walked t (events d) (Some (at out (InMembers k base place next ∷ fs) h n))
-        ≡ Some (between (out ++ value t n h d) (InMembers k base place (next_place t base d h next) ∷ fs))
-    a-value null out k base place next fs h n = refl
-    a-value (boolean b) out k base place next fs h n = refl
-    a-value (number (unsigned x)) out k base place next fs h n = refl
-    a-value (number (negative z)) out k base place next fs h n = refl
-    a-value (number (float x)) out k base place next fs h n = refl
-    a-value (string v) out k base place next fs h n = ap (λ l. Some (between (out ++ value t n h (string v)) l)) (noted v h k base place next fs)
-    a-value (array ds) out k base place next fs h n = an-array (is_nested h) ds (all-items ds) out (InMembers k base place next ∷ fs) h n
-    a-value (object ms) out k base place next fs h n = an-object (is_nested h) ms (all-members ms) out k base place next fs h n
+    a-value : (d : Data) (w : Written) (k base : ℕ) (inline : Bool) (fs : List Frame) (h : How) (n : ℕ)
+        → walked t (events d) (Some (behind w (InMembers k base w.place inline ∷ fs) h n))
+        ≡ Some (among (value t n base h d w) (InMembers k base (value t n base h d w).place inline ∷ fs))
+    a-value null w k base inline fs h n = refl
+    a-value (boolean b) w k base inline fs h n = refl
+    a-value (number (unsigned x)) w k base inline fs h n = refl
+    a-value (number (negative z)) w k base inline fs h n = refl
+    a-value (number (float x)) w k base inline fs h n = refl
+    a-value (string v) w k base inline fs h n =
+        ap (λ l. Some (among (value t n base h (string v) w) l)) (noted v h k base w.place inline fs)
+    a-value (array ds) w k base inline fs h n = an-array (is_nested h) ds (all-items ds) w (InMembers k base w.place inline ∷ fs) h n
+    a-value (object ms) w k base inline fs h n = an-object (is_nested h) ms (all-members ms) w k base w.place inline fs h n
 
-    all-members : (ms : Members) (out : List ℕ) (n base place next : ℕ) (fs : List Frame)
-        → walked t (members_events ms) (Some (between out (InMembers n base place next ∷ fs)))
-        ≡ Some (between (out ++ members t n base place ms) (InMembers n base place (next_of t base place next ms) ∷ fs))
-    all-members no_members out n base place next fs = ap (λ o. Some (between o (InMembers n base place next ∷ fs))) (sym (append-nil out))
-    all-members (member key d ms) out n base place next fs =
-        let c = column_of (t.columns place) (t.columns base) key in
-        let begun = out ++ head n c.name c.how in
-        both (events d) (members_events ms) (Some (at begun (InMembers n base place next ∷ fs) c.how n)) _ _
-        (a-value d begun n base place next fs c.how n)
-        (all-members ms (begun ++ value t n c.how d) n base place (next_place t base d c.how next) fs)
-        ∙ ap (λ o. Some (between o (InMembers n base place (next_of t base place (next_place t base d c.how next) ms) ∷ fs)))
-        (three out (head n c.name c.how) (value t n c.how d) (members t n base place ms))
+    all-members : (ms : Members) (w : Written) (n base : ℕ) (inline : Bool) (fs : List Frame)
+        → walked t (members_events ms) (Some (among w (InMembers n base w.place inline ∷ fs)))
+        ≡ Some (among (members t n inline base ms w) (InMembers n base (members t n inline base ms w).place inline ∷ fs))
+    all-members no_members w n base inline fs = refl
+    all-members (member key d ms) w n base inline fs =
+        let c = column t base key w in
+        let named = put (head t n inline c) (begins t inline c) w in
+        both (events d) (members_events ms) (Some (behind named (InMembers n base w.place inline ∷ fs) c.how n)) _ _
+        (a-value d named n base inline fs c.how n) (all-members ms (value t n base c.how d named) n base inline fs)
 
-    all-items : (ds : Items) (out : List ℕ) (n base place : ℕ) (each : Bool) (fs : List Frame)
-        → walked t (items_events ds) (Some (between out (InItems n base place each ∷ fs)))
-        ≡ Some (between (out ++ items t n each base place ds) (InItems n base (places_behind base place ds) each ∷ fs))
-    all-items no_items out n base place each fs = ap (λ o. Some (between o (InItems n base place each ∷ fs))) (sym (append-nil out))
-    all-items (item d ds) out n base place each fs =
-        let behind = place_behind t base place d in
-        both (events d) (items_events ds) (Some (between out (InItems n base place each ∷ fs))) _ _ (an-item d out n base place each fs)
-        (all-items ds (out ++ item_lines t n each base place d) n base behind each fs)
-        ∙ ap (λ o. Some (between o (InItems n base (places_behind base behind ds) each ∷ fs)))
-        (append_assoc out (item_lines t n each base place d) (items t n each base behind ds))
+    all-items : (ds : Items) (w : Written) (n base : ℕ) (each : Bool) (fs : List Frame)
+        → walked t (items_events ds) (Some (among w (InItems n base w.place each ∷ fs)))
+        ≡ Some (among (items t n each base ds w) (InItems n base (items t n each base ds w).place each ∷ fs))
+    all-items no_items w n base each fs = refl
+    all-items (item d ds) w n base each fs =
+        both (events d) (items_events ds) (Some (among w (InItems n base w.place each ∷ fs))) _ _ (an-item d w n base each fs)
+        (all-items ds (item_lines t n each base d w) n base each fs)
 
-    an-item : (d : Data) (out : List ℕ) (n base place : ℕ) (each : Bool) (fs : List Frame)
-        → walked t (events d) (Some (between out (InItems n base place each ∷ fs)))
-        ≡ Some (between (out ++ item_lines t n each base place d) (InItems n base (place_behind t base place d) each ∷ fs))
-    an-item null out n base place each fs = refl
-    an-item (boolean b) out n base place each fs = refl
-    an-item (number (unsigned x)) out n base place each fs = refl
-    an-item (number (negative z)) out n base place each fs = refl
-    an-item (number (float x)) out n base place each fs = refl
-    an-item (string v) out n base place each fs = refl
-    an-item (array ds) out n base place each fs =
-        both (items_events ds) (seq_ends ∷ []) (Some (within (out ++ []) (InItems n base place each ∷ fs) Plain 0 zero)) _ _
-        (inside-items ds (out ++ []) (InItems n base place each ∷ fs) Plain 0 zero) refl
-        ∙ ap (λ o. Some (between (o ++ inside_items t Plain ds) (InItems n base place each ∷ fs))) (append-nil out)
-    an-item (object ms) out n base place each fs =
-        let begun = out ++ element n each in
+    an-item : (d : Data) (w : Written) (n base : ℕ) (each : Bool) (fs : List Frame)
+        → walked t (events d) (Some (among w (InItems n base w.place each ∷ fs)))
+        ≡ Some (among (item_lines t n each base d w) (InItems n base (item_lines t n each base d w).place each ∷ fs))
+    an-item null w n base each fs = refl
+    an-item (boolean b) w n base each fs = refl
+    an-item (number (unsigned x)) w n base each fs = refl
+    an-item (number (negative z)) w n base each fs = refl
+    an-item (number (float x)) w n base each fs = refl
+    an-item (string v) w n base each fs = refl
+    an-item (array ds) w n base each fs =
+        both (items_events ds) (seq_ends ∷ []) (Some (within (put [] true w) (InItems n base w.place each ∷ fs) Plain 0 zero)) _ _
+        (inside-items ds (put [] true w) (InItems n base w.place each ∷ fs) Plain 0 zero) refl
+    an-item (object ms) w n base each fs =
+        let named = put (element t n base each) each w in
         both (members_events ms) (map_ends ∷ [])
-        (Some (between begun (InMembers (element_depth n each) base place place ∷ InItems n base place each ∷ fs))) _ _
-        (all-members ms begun (element_depth n each) base place place (InItems n base place each ∷ fs)) refl
-        ∙ ap (λ o. Some (between o (InItems n base (next_of t base place place ms) each ∷ fs)))
-        (append_assoc out (element n each) (members t (element_depth n each) base place ms))
+        (Some (among named (InMembers n base w.place each ∷ InItems n base w.place each ∷ fs))) _ _
+        (all-members ms named n base each (InItems n base w.place each ∷ fs)) refl
 
   -- the text, where there is one
   abbrev out_of : Option State → List ℕ
@@ -192,8 +194,66 @@ module _ (t : Table) where
   -- the events of JSON write its lines
   pub lines_written : (root : ℕ) (d : Data) (log : Log) (s : State) → log ≡ Some (events d) → Follows t root log s → s.out ≡ lines t root d
   lines_written root d log s e h =
-      ∥∥₁_elim (subst (λ l. Follows t root l s) e h) (Coded-set (coded_list coded_ℕ) _ _) (λ x. ap out_of (sym x ∙ a-value d [] 0 root root root [] (Through root) 0))
+      ∥∥₁_elim (subst (λ l. Follows t root l s) e h) (Coded-set (coded_list coded_ℕ) _ _) (λ x. ap out_of (sym x ∙ a-value d (begun root) 0 root false [] (Through root) 0))
 
--- what is sent to an empty log is all of it
-pub sent_all : (es : List Event) (old new : Log) → old ≡ Some [] → Sent es old new → new ≡ Some es
-sent_all es old new e h = subst (λ o. Sent es o new) e h
+-- ---- what the caller gave stays the same
+
+abbrev interfaces_of : List Event → List (ℕ × List ℕ)
+interfaces_of (number_sent n ∷ text name ∷ es) = (n, name) ∷ interfaces_of es
+interfaces_of es = []
+
+abbrev behind_marks : List Event → List Event
+behind_marks (nothing ∷ es) = es
+behind_marks (e ∷ es) = behind_marks es
+behind_marks [] = []
+
+abbrev given_of : List Event → Given
+given_of (number_sent root ∷ truth all ∷ es) = record { root = root; all = all; interfaces = interfaces_of es }
+given_of es = record { root = 0; all = false; interfaces = [] }
+
+abbrev sent_of : List Event → List Event
+sent_of (a ∷ b ∷ es) = behind_marks es
+sent_of es = []
+
+interfaces_back : (xs : List (ℕ × List ℕ)) (es : List Event) → interfaces_of (interface_marks xs ++ es) ≡ xs
+interfaces_back [] es = refl
+interfaces_back (x ∷ xs) es = ap (λ l. x ∷ l) (interfaces_back xs es)
+
+sent_back : (xs : List (ℕ × List ℕ)) (es : List Event) → behind_marks (interface_marks xs ++ es) ≡ es
+sent_back [] es = refl
+sent_back (x ∷ xs) es = sent_back xs es
+
+given_back : (g : Given) (es : List Event) → given_of (marks g ++ es) ≡ g
+given_back g es = ap (λ l. record { root = g.root; all = g.all; interfaces = l }) (interfaces_back g.interfaces es)
+
+abbrev held : Log → List Event
+held None = []
+held (Some es) = es
+
+-- what is sent where nothing was, is all of it, and by what the caller gave
+all_sent : (g k : Given) (es : List Event) (before new : Log) → before ≡ marked g (Some []) → Sent es before (marked k new)
+    → marked k new ≡ Some (marks g ++ es)
+all_sent g k es before new e h =
+    subst (λ o. Sent es o (marked k new)) e h ∙ ap Some (append_assoc (marks g) [] es)
+
+events_sent : (g k : Given) (es : List Event) (new : Log) → marked k new ≡ Some (marks g ++ es) → new ≡ Some es
+events_sent g k es None h = absurd (none-some _ h)
+events_sent g k es (Some fs) h =
+    ap Some (sym (sent_back k.interfaces fs) ∙ ap (λ l. sent_of (held l)) h ∙ sent_back g.interfaces es)
+
+same_given : (g k : Given) (es : List Event) (new : Log) → marked k new ≡ Some (marks g ++ es) → k ≡ g
+same_given g k es None h = absurd (none-some _ h)
+same_given g k es (Some fs) h = sym (given_back k fs) ∙ ap (λ l. given_of (held l)) h ∙ given_back g es
+
+pub lines_given : (says : Given → Table) (g k : Given) (d : Data) (before new : Log) (out : List ℕ)
+    → before ≡ marked g (Some []) → Sent (events d) before (marked k new)
+    → ((d : Data) → new ≡ Some (events d) → out ≡ lines (says k) k.root d) → out ≡ lines (says g) g.root d
+lines_given says g k d before new out e h written =
+    let all = all_sent g k (events d) before new e h in
+    subst (λ x. out ≡ lines (says x) x.root d) (same_given g k (events d) new all) (written d (events_sent g k (events d) new all))
+
+-- one event more
+pub marked_logs : (g : Given) (log : Log) (event : Option Event) → IfSome event (Logs (marked g log) (marked g (option_and_then (then log) event)))
+marked_logs g log None = tt
+marked_logs g None (Some e) = tt
+marked_logs g (Some es) (Some e) = ap Some (sym (append_assoc (marks g) es (e ∷ [])))

@@ -1,44 +1,64 @@
 -- Columns, by places and by names in JSON.
-use Rattle.std.specs.Prelude.{Bool, List, None, Option, Some, [], bytes_eq, false, if◌then◌else◌, map, true, unwrap_or, ℕ, ◌+◌, ◌∷◌}
+use Rattle.std.specs.Prelude.{Bool, List, None, Option, Some, [], bytes_eq, codes, false, if◌then◌else◌, map, true, unwrap_or, ℕ, ◌+◌, ◌==◌, ◌×◌, ◌∷◌}
 use Rattle.tc_lines.specs.declared.column.Column.{Column as CodeColumn}
 use Rattle.tc_lines.specs.declared.column.How.{How}
-use Rattle.tc_lines.specs.declared.column.How.TheVariants.{Below, Elements, Hidden, Plain, Through, Within}
+use Rattle.tc_lines.specs.declared.column.How.TheVariants.{Below, Elements, First, From, Hidden, Info, Family, Index, InLine, Number, Plain, Slash, Through, To, Within}
 use Rattle.tc_units.specs.Names.{Name}
+use Rattle.tc_units.specs.declared.unit.Unit.TheVariants.{LongHex}
 
 pub record Column : Type 0 where
   pub key : List ℕ
   pub name : List ℕ
   pub how : How
 
--- the columns at each place, the place of a list's columns under a kind, and the names at each place
+-- the columns at each place, the place of a list's columns under a kind, the names at each place, what the caller calls an
+-- interface, and whether paddings are shown
 pub record Table : Type 0 where
   pub columns : ℕ → List Column
   pub under : ℕ → List ℕ → ℕ
   pub names : ℕ → List Name
+  pub interface : ℕ → Option (List ℕ)
+  pub all : Bool
 
--- a table of no columns
-abbrev pub no_table : Table
-no_table = record { columns = λ p. []; under = λ p k. p; names = λ p. [] }
+-- what the caller gives: the place where a message begins, whether paddings are shown, and names of interfaces
+pub record Given : Type 0 where
+  pub root : ℕ
+  pub all : Bool
+  pub interfaces : List (ℕ × List ℕ)
+
+-- the first name of an interface
+abbrev pub interface_in : List (ℕ × List ℕ) → ℕ → Option (List ℕ)
+interface_in [] n = None
+interface_in (x ∷ xs) n = if x.0 == n then Some x.1 else interface_in xs n
 
 -- the column of a name
 abbrev pub find : List Column → List ℕ → Option Column
 find [] key = None
 find (c ∷ cs) key = if bytes_eq c.key key then Some c else find cs key
 
--- what has no column is shown as it is
-abbrev pub plain : List ℕ → Column
-plain key = record { key = key; name = key; how = Plain }
+-- what has no column is shown as it is, and the word of an attribute in hex
+abbrev pub unnamed : List ℕ → Column
+unnamed key =
+    if bytes_eq key (codes "word") then record { key = key; name = key; how = Number LongHex }
+    else if bytes_eq key (codes "Other") then record { key = key; name = codes "other"; how = Plain }
+    else record { key = key; name = key; how = Plain }
 
--- the column of a name, among those of a kind or else those of every kind
-abbrev pub column_of : List Column → List Column → List ℕ → Column
-column_of own others key = unwrap_or (find own key) (unwrap_or (find others key) (plain key))
+-- the first that there is
+abbrev pub or : Option Column → Option Column → Option Column
+or None d = d
+or (Some c) d = Some c
 
--- true where what is within has lines of its own
+-- the column of a name, among those of a partner, of a kind, or of every kind
+abbrev pub column_of : List Column → List Column → List Column → List ℕ → Column
+column_of partner own others key = unwrap_or (or (find partner key) (or (find own key) (find others key))) (unnamed key)
+
+-- true where what is within has lines or words of its own
 abbrev pub is_nested : How → Bool
 is_nested (Within p) = true
 is_nested (Through p) = true
 is_nested (Below p) = true
 is_nested (Elements p) = true
+is_nested (InLine p) = true
 is_nested h = false
 
 -- the place of the columns of what is within
@@ -47,11 +67,13 @@ place_in (Within p) = p
 place_in (Through p) = p
 place_in (Below p) = p
 place_in (Elements p) = p
+place_in (InLine p) = p
 place_in h = 0
 
 -- the depth of the lines within, behind a line of this depth
 abbrev pub depth_in : How → ℕ → ℕ
 depth_in (Through p) n = n
+depth_in (InLine p) n = n
 depth_in h n = n + 1
 
 -- true where each element has a line of its own
@@ -59,17 +81,37 @@ abbrev pub has_elements : How → Bool
 has_elements (Elements p) = true
 has_elements h = false
 
--- true where the name has a line
-abbrev pub has_line : How → Bool
-has_line Hidden = false
-has_line (Through p) = false
-has_line (Below p) = false
-has_line h = true
+-- true where what is within stands in one line
+abbrev pub in_line : How → Bool
+in_line (InLine p) = true
+in_line h = false
 
--- true for padding
-abbrev pub is_hidden : How → Bool
-is_hidden Hidden = true
-is_hidden h = false
+-- true where the name is shown
+abbrev pub has_name : Bool → How → Bool
+has_name all Hidden = all
+has_name all (Through p) = false
+has_name all (Below p) = false
+has_name all (InLine p) = false
+has_name all (Slash p q) = false
+has_name all (To p) = false
+has_name all (Family p q) = false
+has_name all (Info i) = false
+has_name all (Index p) = false
+has_name all h = true
+
+-- true for padding that isn't shown
+abbrev pub is_hidden : Bool → How → Bool
+is_hidden all Hidden = if all then false else true
+is_hidden all h = false
+
+-- how what is in an object or a list is shown, all within one line
+abbrev pub opened : How → How
+opened Hidden = Plain
+opened (First p) = Plain
+opened (From p) = Plain
+opened (Slash p q) = Plain
+opened (To p) = Plain
+opened h = h
 
 -- ---- what the code's values say
 

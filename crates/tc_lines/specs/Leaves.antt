@@ -1,18 +1,26 @@
--- The texts of leaves, each behind a blank.
+-- The texts of leaves.
 use Rattle.std.specs.Char.{digit_char}
 use Rattle.std.specs.Fmt.{signed_decimal}
 use Rattle.std.specs.List.{list_all}
-use Rattle.std.specs.Prelude.{Bool, List, None, Option, Some, [], codes, decimal, flat_map, if◌then◌else◌, length, nat_le, nat_lt, ℕ, ◌%◌, ◌&&◌, ◌++◌, ◌/◌, ◌==◌, ◌||◌, ◌∷◌}
+use Rattle.std.specs.Ordering.{int_eq}
+use Rattle.std.specs.Prelude.{Bool, List, None, Option, Some, [], codes, decimal, flat_map, if◌then◌else◌, length, nat_le, nat_lt, suc, unwrap_or, zero, ℕ, ℤ, ◌%◌, negsuc, ◌&&◌, ◌*◌, ◌+◌, ◌++◌, ◌/◌, ◌==◌, ◌||◌, ◌∷◌}
+use Rattle.hex.specs.Hex.{decode_sized}
+use Rattle.nla_frames.specs.Value.{le_value}
 use Rattle.serde.specs.Event as event
 use Rattle.serde.specs.Event.{Event}
+use Rattle.tc_forms.specs.Raw.{decoded}
 use Rattle.tc_lines.specs.Columns.{Table, is_hidden}
 use Rattle.tc_lines.specs.declared.column.How.{How}
 use Rattle.tc_lines.specs.declared.column.How.TheVariants as how
+use Rattle.tc_lines.specs.declared.column.InfoOf.{InfoOf}
+use Rattle.tc_lines.specs.declared.column.InfoOf.TheVariants as info
+use Rattle.tc_texts.specs.Handle.{handle_of, handle_text}
 use Rattle.tc_units.specs.Flags.{flags_text}
-use Rattle.tc_units.specs.Names.{Name, named_text, number_of}
+use Rattle.tc_units.specs.Names.{Name, name_of, named_text, number_of}
 use Rattle.tc_units.specs.Units.{number_text}
 use Rattle.tc_units.specs.Values.{verdict_text}
-use Rattle.tc_units.specs.declared.unit.Unit.TheVariants.{Plain}
+use Rattle.tc_units.specs.declared.unit.Unit.{Unit}
+use Rattle.tc_units.specs.declared.unit.Unit.TheVariants.{LongHex, Plain}
 
 -- printable ASCII
 abbrev pub is_printable : ℕ → Bool
@@ -40,6 +48,15 @@ quoted_byte b = if b == 34 || b == 92 then 92 ∷ b ∷ [] else escaped_byte b
 abbrev pub quoted : List ℕ → List ℕ
 quoted text = if is_word text then text else 34 ∷ (flat_map quoted_byte text ++ 34 ∷ [])
 
+-- two blanks for each level
+abbrev pub indent : ℕ → List ℕ
+indent zero = []
+indent (suc n) = codes "  " ++ indent n
+
+-- a line begins: a line feed, its depth, a name
+abbrev pub line : ℕ → List ℕ → List ℕ
+line n name = codes "\n" ++ (indent n ++ escaped name)
+
 -- a text that is a name of a number, by the names for people
 abbrev pub with_number : List Name → List ℕ → Option ℕ → List ℕ
 with_number names text None = quoted text
@@ -49,32 +66,102 @@ abbrev pub verdict_or : List ℕ → Option ℕ → List ℕ
 verdict_or text None = quoted text
 verdict_or text (Some n) = verdict_text (n % 0x100000000)
 
+-- a handle as a number in this unit
+abbrev pub handle_or : Unit → List ℕ → Option ℕ → List ℕ
+handle_or unit text None = quoted text
+handle_or unit text (Some n) = number_text unit n
+
+-- four bytes in hex as a number, little-endian
+abbrev pub count_or : List ℕ → Option (List ℕ) → List ℕ
+count_or text None = quoted text
+count_or text (Some bytes) = decimal (le_value bytes)
+
+-- an address family, if it isn't the unspecified one, 0
+abbrev pub family_or : List Name → List ℕ → Option ℕ → List ℕ
+family_or names text None = codes " family " ++ quoted text
+family_or names text (Some n) = if n == 0 then [] else codes " family " ++ named_text Plain names n
+
+-- a mask: the length of its prefix, or else a line of its own
+abbrev pub slash_or : ℕ → List ℕ → List ℕ → Option ℕ → List ℕ
+slash_or n name text None = line n name ++ (codes " " ++ quoted text)
+slash_or n name text (Some len) = codes "/" ++ decimal len
+
+-- the name of an interface in brackets, if there is one
+abbrev pub called : Option (List ℕ) → List ℕ
+called None = []
+called (Some name) = codes " (" ++ (quoted name ++ codes ")")
+
+-- `TCM_IFINDEX_MAGIC_BLOCK`
+abbrev pub is_block : ℤ → Bool
+is_block z = int_eq z (negsuc 0)
+
 abbrev pub truth : Bool → List ℕ
 truth b = if b then codes " true" else codes " false"
 
 module _ (t : Table) where
+  -- the name at a place that has no other
+  abbrev pub name_at : ℕ → List ℕ
+  name_at p = unwrap_or (name_of (t.names p) 0) []
+
+  -- the number of an interface
+  abbrev pub interface_text : ℕ → List ℕ
+  interface_text n = decimal n ++ called (t.interface n)
+
+  -- the last number of a header, if it isn't 0
+  abbrev pub info_text : InfoOf → ℕ → List ℕ
+  info_text info.Refcnt n = codes " refcnt " ++ decimal n
+  info_text info.Leaf n = codes " leaf " ++ handle_text (n % 0x100000000)
+  info_text (info.Pref p) n =
+      codes " pref " ++ (decimal (n / 0x10000) ++ (codes " protocol " ++ named_text LongHex (t.names p) (n % 0x100 * 0x100 + n / 0x100 % 0x100)))
+  info_text info.Number n = codes " info " ++ decimal n
+
+  -- a number by its column, behind a blank
+  abbrev pub number_behind : How → ℕ → List ℕ
+  number_behind (how.Number u) n = number_text u n
+  number_behind (how.Named u p) n = named_text u (t.names p) n
+  number_behind (how.Verdict p) n = verdict_text (n % 0x100000000)
+  number_behind how.Interface n = interface_text n
+  number_behind (how.From p) n = decimal n ++ codes "-"
+  number_behind h n = decimal n
+
   -- a number by its column
   abbrev pub number_in : How → ℕ → List ℕ
-  number_in (how.Number u) n = codes " " ++ number_text u n
-  number_in (how.Named u p) n = codes " " ++ named_text u (t.names p) n
   number_in (how.Flags p) n = flags_text (t.names p) n
-  number_in (how.Verdict p) n = codes " " ++ verdict_text (n % 0x100000000)
-  number_in h n = codes " " ++ decimal n
+  number_in (how.To p) n = decimal n
+  number_in (how.Info i) n = if n == 0 then [] else info_text i n
+  number_in (how.Index p) n = codes " index " ++ interface_text n
+  number_in (how.Family p q) n = codes " family " ++ decimal n
+  number_in h n = codes " " ++ number_behind h n
+
+  -- a number below zero by its column; an interface of -1 stands for a block, which is named elsewhere
+  abbrev pub signed_in : How → ℤ → List ℕ
+  signed_in (how.Index p) z = if is_block z then [] else codes " index " ++ signed_decimal z
+  signed_in h z = codes " " ++ signed_decimal z
+
+  -- a text by its column, behind a blank
+  abbrev pub text_behind : How → List ℕ → List ℕ
+  text_behind (how.Text p q) s = with_number (t.names q) s (number_of (t.names p) s)
+  text_behind (how.Verdict p) s = verdict_or s (number_of (t.names p) s)
+  text_behind (how.Handle u) s = handle_or u s (handle_of s)
+  text_behind how.Count s = count_or s (decoded (decode_sized s 4))
+  text_behind (how.From p) s = quoted s ++ codes "-"
+  text_behind h s = quoted s
 
   -- a text by its column
-  abbrev pub text_in : How → List ℕ → List ℕ
-  text_in (how.Text p q) s = codes " " ++ with_number (t.names q) s (number_of (t.names p) s)
-  text_in (how.Verdict p) s = codes " " ++ verdict_or s (number_of (t.names p) s)
-  text_in h s = codes " " ++ quoted s
+  abbrev pub text_in : ℕ → How → List ℕ → List ℕ
+  text_in n (how.To p) s = quoted s
+  text_in n (how.Slash p q) s = slash_or n (name_at q) s (number_of (t.names p) s)
+  text_in n (how.Family p q) s = family_or (t.names q) s (number_of (t.names p) s)
+  text_in n h s = codes " " ++ text_behind h s
 
-  -- a leaf by its column and its event
-  abbrev pub shown_leaf : How → Event → List ℕ
-  shown_leaf h (event.boolean b) = truth b
-  shown_leaf h (event.unsigned n) = number_in h n
-  shown_leaf h (event.signed z) = codes " " ++ signed_decimal z
-  shown_leaf h (event.text s) = text_in h s
-  shown_leaf h e = codes " null"
+  -- a leaf at this depth, by its column and its event
+  abbrev pub shown_leaf : ℕ → How → Event → List ℕ
+  shown_leaf n h (event.boolean b) = truth b
+  shown_leaf n h (event.unsigned x) = number_in h x
+  shown_leaf n h (event.signed z) = signed_in h z
+  shown_leaf n h (event.text s) = text_in n h s
+  shown_leaf n h e = codes " null"
 
   -- padding isn't shown
-  abbrev pub leaf : How → Event → List ℕ
-  leaf h e = if is_hidden h then [] else shown_leaf h e
+  abbrev pub leaf : ℕ → How → Event → List ℕ
+  leaf n h e = if is_hidden t.all h then [] else shown_leaf n h e

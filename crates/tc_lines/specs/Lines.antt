@@ -1,106 +1,149 @@
 -- The lines of JSON: each leaf is in one line, and each line is a name, with what it has.
-use Rattle.std.specs.Prelude.{Bool, List, [], bytes_eq, codes, if◌then◌else◌, suc, zero, ℕ, ◌+◌, ◌++◌}
+use Rattle.std.specs.Prelude.{Bool, List, [], bytes_eq, codes, false, if◌then◌else◌, true, ℕ, ◌+◌, ◌++◌}
 use Rattle.serde.specs.Event as event
+use Rattle.serde.specs.Event.{Event}
 use Rattle.serde_json.specs.Data.{Data, Items, Members, array, boolean, item, member, no_items, no_members, null, number, object, string}
 use Rattle.serde_json.specs.Events.{number_event}
-use Rattle.tc_lines.specs.Columns.{Table, column_of, depth_in, has_elements, has_line, is_nested, place_in}
-use Rattle.tc_lines.specs.Leaves.{escaped, leaf}
+use Rattle.tc_lines.specs.Columns.{Column, Table, column_of, depth_in, has_elements, has_name, in_line, is_nested, opened, place_in}
+use Rattle.tc_lines.specs.Leaves.{escaped, is_block, leaf, line, name_at}
 use Rattle.tc_lines.specs.declared.column.How.{How}
-use Rattle.tc_lines.specs.declared.column.How.TheVariants.{Hidden, Kind, Plain, Through}
+use Rattle.tc_lines.specs.declared.column.How.TheVariants.{First, From, Hidden, Index, Kind, Plain, Slash, Through, To}
 
--- two blanks for each level
-abbrev pub indent : ℕ → List ℕ
-indent zero = []
-indent (suc n) = codes "  " ++ indent n
+-- what is written so far; the place of the columns that are asked for first, since what they name belongs to what was written last,
+-- as a mask to its address; and the place of the columns under the kind in force
+pub record Written : Type 0 where
+  pub text : List ℕ
+  pub partner : ℕ
+  pub place : ℕ
 
--- a line begins: a line feed, its depth, a name
-abbrev pub line : ℕ → List ℕ → List ℕ
-line n name = codes "\n" ++ (indent n ++ escaped name)
+-- the place of no columns
+abbrev pub NONE : ℕ
+NONE = 65535
 
--- what begins at a name, whose value has a line or not
-abbrev pub head : ℕ → List ℕ → How → List ℕ
-head n name h = if has_line h then line n name else []
+-- nothing yet, at the columns of a place
+abbrev pub begun : ℕ → Written
+begun root = record { text = []; partner = NONE; place = root }
 
--- padding that isn't empty has a line after all
-abbrev pub opening : ℕ → How → List ℕ
-opening n Hidden = line n (codes "pad")
-opening n h = []
+abbrev pub at : ℕ → Written → Written
+at p w = record { text = w.text; partner = w.partner; place = p }
 
--- an element of its own begins
-abbrev pub element : ℕ → Bool → List ℕ
-element n each = if each then line n (codes "-") else []
-
--- the depth of the lines of an element
-abbrev pub element_depth : ℕ → Bool → ℕ
-element_depth n each = if each then n + 1 else n
+-- a text that begins a line or not; a line has no partner yet
+abbrev pub put : List ℕ → Bool → Written → Written
+put text starts w = record { text = w.text ++ text; partner = if starts then NONE else w.partner; place = w.place }
 
 -- a name within a line
 abbrev pub inside_name : List ℕ → List ℕ
 inside_name key = if bytes_eq key (codes "Other") then [] else codes " " ++ escaped key
 
+-- a name is a word of a line, or begins one
+abbrev pub name_text : ℕ → Bool → List ℕ → List ℕ
+name_text n inline name = if inline then codes " " ++ escaped name else line n name
+
+-- true for the number that stands for a block
+abbrev pub says_block : Event → Bool
+says_block (event.signed z) = is_block z
+says_block e = false
+
+-- the partner behind a leaf
+abbrev pub partner_by : How → Bool → ℕ → ℕ
+partner_by (First q) block p = q
+partner_by (From q) block p = q
+partner_by (Index q) block p = if block then q else p
+partner_by (Slash x q) block p = NONE
+partner_by (To q) block p = NONE
+partner_by h block p = p
+
+abbrev pub partner_behind : How → Event → ℕ → ℕ
+partner_behind h e p = partner_by h (says_block e) p
+
 module _ (t : Table) where
+  -- the name of a value
+  abbrev pub head : ℕ → Bool → Column → List ℕ
+  head n inline c = if has_name t.all c.how then name_text n inline c.name else []
+
+  -- true where it begins a line
+  abbrev pub begins : Bool → Column → Bool
+  begins inline c = if has_name t.all c.how then (if inline then false else true) else false
+
+  -- an element begins, by the name of its columns, if each has a line of its own
+  abbrev pub element : ℕ → ℕ → Bool → List ℕ
+  element n base each = if each then line n (name_at t base) else []
+
+  -- a value without a name so far has one after all where it is no leaf
+  abbrev pub opening : ℕ → How → List ℕ
+  opening n Hidden = if t.all then [] else line n (codes "pad")
+  opening n (Slash p q) = line n (name_at t q)
+  opening n (To q) = line n (name_at t q)
+  opening n h = []
+
+  -- the place behind a leaf: a kind selects it
+  abbrev pub place_behind : ℕ → Event → How → ℕ → ℕ
+  place_behind base (event.text name) Kind p = t.under base name
+  place_behind base e h p = p
+
+  -- a leaf, and one within a line
+  abbrev pub leaf_of : ℕ → ℕ → How → Event → Written → Written
+  leaf_of n base h e w =
+      record { text = w.text ++ leaf t n h e; partner = partner_behind h e w.partner; place = place_behind base e h w.place }
+
+  abbrev pub leaf_inside : ℕ → How → Event → Written → Written
+  leaf_inside n h e w = put (leaf t n h e) false w
+
   -- all within one line, by one column
   abbrev mutual
-    pub inside : How → Data → List ℕ
-    inside h null = leaf t h event.nothing
-    inside h (boolean b) = leaf t h (event.boolean b)
-    inside h (number x) = leaf t h (number_event x)
-    inside h (string s) = leaf t h (event.text s)
-    inside h (array ds) = inside_items h ds
-    inside h (object ms) = inside_members h ms
+    pub inside : ℕ → How → Data → Written → Written
+    inside n h null w = leaf_inside n h event.nothing w
+    inside n h (boolean b) w = leaf_inside n h (event.boolean b) w
+    inside n h (number x) w = leaf_inside n h (number_event x) w
+    inside n h (string s) w = leaf_inside n h (event.text s) w
+    inside n h (array ds) w = inside_items n h ds w
+    inside n h (object ms) w = inside_members n h ms w
 
-    pub inside_items : How → Items → List ℕ
-    inside_items h no_items = []
-    inside_items h (item d ds) = inside h d ++ inside_items h ds
+    pub inside_items : ℕ → How → Items → Written → Written
+    inside_items n h no_items w = w
+    inside_items n h (item d ds) w = inside_items n h ds (inside n h d w)
 
-    pub inside_members : How → Members → List ℕ
-    inside_members h no_members = []
-    inside_members h (member key d ms) = inside_name key ++ (inside h d ++ inside_members h ms)
+    pub inside_members : ℕ → How → Members → Written → Written
+    inside_members n h no_members w = w
+    inside_members n h (member key d ms) w = inside_members n h ms (inside n h d (put (inside_name key) false w))
 
-  -- the place behind a value: a kind selects it
-  abbrev pub next_place : ℕ → Data → How → ℕ → ℕ
-  next_place base (string name) Kind p = t.under base name
-  next_place base d h p = p
-
-  abbrev pub next_of : ℕ → ℕ → ℕ → Members → ℕ
-  next_of base place p no_members = p
-  next_of base place p (member key d ms) = next_of base place (next_place base d (column_of (t.columns place) (t.columns base) key).how p) ms
-
-  abbrev pub place_behind : ℕ → ℕ → Data → ℕ
-  place_behind base place (object ms) = next_of base place place ms
-  place_behind base place d = place
+  -- the column of a member
+  abbrev pub column : ℕ → List ℕ → Written → Column
+  column base key w = column_of (t.columns w.partner) (t.columns w.place) (t.columns base) key
 
   abbrev mutual
-    -- a value, by its column, behind the beginning of its line at this depth
-    pub value : ℕ → How → Data → List ℕ
-    value n h null = leaf t h event.nothing
-    value n h (boolean b) = leaf t h (event.boolean b)
-    value n h (number x) = leaf t h (number_event x)
-    value n h (string s) = leaf t h (event.text s)
-    value n h (array ds) =
-        if is_nested h then items (depth_in h n) (has_elements h) (place_in h) (place_in h) ds else opening n h ++ inside_items h ds
-    value n h (object ms) =
-        if is_nested h then members (depth_in h n) (place_in h) (place_in h) ms else opening n h ++ inside_members h ms
+    -- a value, by its column, behind its name at this depth, in a list whose columns under no kind are at a place
+    pub value : ℕ → ℕ → How → Data → Written → Written
+    value n base h null w = leaf_of n base h event.nothing w
+    value n base h (boolean b) w = leaf_of n base h (event.boolean b) w
+    value n base h (number x) w = leaf_of n base h (number_event x) w
+    value n base h (string s) w = leaf_of n base h (event.text s) w
+    value n base h (array ds) w =
+        at w.place (if is_nested h then items (depth_in h n) (has_elements h) (place_in h) ds (at (place_in h) w)
+        else inside_items n (opened h) ds (put (opening n h) true w))
+    value n base h (object ms) w =
+        at w.place (if is_nested h then members (depth_in h n) (in_line h) (place_in h) ms (at (place_in h) w)
+        else inside_members n (opened h) ms (put (opening n h) true w))
 
     -- members, each by the column of its name
-    pub members : ℕ → ℕ → ℕ → Members → List ℕ
-    members n base place no_members = []
-    members n base place (member key d ms) =
-        head n (column_of (t.columns place) (t.columns base) key).name (column_of (t.columns place) (t.columns base) key).how ++ (value n (column_of (t.columns place) (t.columns base) key).how d ++ members n base place ms)
+    pub members : ℕ → Bool → ℕ → Members → Written → Written
+    members n inline base no_members w = w
+    members n inline base (member key d ms) w =
+        members n inline base ms (value n base (column base key w).how d (put (head n inline (column base key w)) (begins inline (column base key w)) w))
 
     -- items, the columns of each by the last kind before it
-    pub items : ℕ → Bool → ℕ → ℕ → Items → List ℕ
-    items n each base place no_items = []
-    items n each base place (item d ds) = item_lines n each base place d ++ items n each base (place_behind base place d) ds
+    pub items : ℕ → Bool → ℕ → Items → Written → Written
+    items n each base no_items w = w
+    items n each base (item d ds) w = items n each base ds (item_lines n each base d w)
 
-    pub item_lines : ℕ → Bool → ℕ → ℕ → Data → List ℕ
-    item_lines n each base place (object ms) = element n each ++ members (element_depth n each) base place ms
-    item_lines n each base place null = leaf t Plain event.nothing
-    item_lines n each base place (boolean b) = leaf t Plain (event.boolean b)
-    item_lines n each base place (number x) = leaf t Plain (number_event x)
-    item_lines n each base place (string s) = leaf t Plain (event.text s)
-    item_lines n each base place (array ds) = inside_items Plain ds
+    pub item_lines : ℕ → Bool → ℕ → Data → Written → Written
+    item_lines n each base (object ms) w = members n each base ms (put (element n base each) each w)
+    item_lines n each base null w = leaf_inside 0 Plain event.nothing w
+    item_lines n each base (boolean b) w = leaf_inside 0 Plain (event.boolean b) w
+    item_lines n each base (number x) w = leaf_inside 0 Plain (number_event x) w
+    item_lines n each base (string s) w = leaf_inside 0 Plain (event.text s) w
+    item_lines n each base (array ds) w = at w.place (inside_items 0 Plain ds (put [] true w))
 
   -- the lines of a message, by the columns at a place
   abbrev pub lines : ℕ → Data → List ℕ
-  lines root d = value 0 (Through root) d
+  lines root d = (value 0 root (Through root) d (begun root)).text

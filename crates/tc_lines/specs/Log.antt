@@ -1,7 +1,8 @@
 -- What a note makes of the events so far.
-use Rattle.std.specs.Prelude.{None, Option, Some, option_and_then}
+use Rattle.std.specs.Prelude.{List, None, Option, Some, [], option_and_then, option_map, ℕ, ◌++◌, ◌×◌, ◌∷◌}
 use Rattle.serde.specs.Event.{Event, Log, boolean, field_key, map_begins, map_ends, nothing, seq_begins, seq_ends, signed, text, unsigned}
 use Rattle.serde_json.specs.Logged.{then}
+use Rattle.tc_lines.specs.Columns.{Given}
 use Rattle.tc_lines.specs.declared.log.Note.{Note}
 use Rattle.tc_lines.specs.declared.log.Note.TheVariants as note
 
@@ -20,3 +21,14 @@ event_of note.Lost = None
 
 abbrev pub noted : Log → Note → Log
 noted log n = option_and_then (then log) (event_of n)
+
+-- what is known of a format that writes lines: what the caller gave, marked as events, and behind it the events of the lines
+abbrev pub interface_marks : List (ℕ × List ℕ) → List Event
+interface_marks [] = nothing ∷ []
+interface_marks (x ∷ xs) = unsigned x.0 ∷ text x.1 ∷ interface_marks xs
+
+abbrev pub marks : Given → List Event
+marks g = unsigned g.root ∷ boolean g.all ∷ interface_marks g.interfaces
+
+abbrev pub marked : Given → Log → Log
+marked g log = option_map (λ es. marks g ++ es) log

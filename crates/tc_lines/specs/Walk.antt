@@ -1,13 +1,13 @@
 -- What is kept of the events so far: the text, and where it is in the tree.
-use Rattle.std.specs.Prelude.{IfSome, List, None, Option, Some, [], if◌then◌else◌, option_and_then, reverse, suc, zero, ℕ, ◌++◌, ◌≡◌, ◌∷◌}
+use Rattle.std.specs.Prelude.{Bool, IfSome, List, None, Option, Some, [], false, option_and_then, reverse, suc, zero, ℕ, ◌++◌, ◌≡◌, ◌∷◌, if◌then◌else◌}
 use Rattle.serde.specs.Event as event
 use Rattle.serde.specs.Event.{Event, Log}
 use Rattle.serde.specs.declared.name.Case.TheVariants.{AsIs}
-use Rattle.tc_lines.specs.Columns.{Table, column_of, depth_in, has_elements, is_nested, place_in}
+use Rattle.tc_lines.specs.Columns.{Column, Table, column_of, depth_in, has_elements, in_line, is_nested, opened, place_in}
 use Rattle.tc_lines.specs.declared.column.How.{How}
 use Rattle.tc_lines.specs.declared.column.How.TheVariants.{Kind, Plain, Through}
 use Rattle.tc_lines.specs.Leaves.{leaf}
-use Rattle.tc_lines.specs.Lines.{element, element_depth, head, inside_name, opening}
+use Rattle.tc_lines.specs.Lines.{NONE, begins, element, head, inside_name, opening, partner_behind, partner_by}
 use Rattle.tc_lines.specs.declared.walk.Frame.{Frame}
 use Rattle.tc_lines.specs.declared.walk.Frame.TheVariants.{InItems, InMembers}
 use Rattle.tc_lines.specs.declared.walk.Walk.{Walk}
@@ -16,18 +16,20 @@ use Rattle.tc_lines.specs.declared.walk.Walk.{Walk}
 -- many objects and lists are open within one line
 pub record State : Type 0 where
   pub out : List ℕ
+  pub partner : ℕ
   pub frames : List Frame
   pub how : How
   pub depth : ℕ
   pub inside : ℕ
 
 -- between values
-abbrev pub between : List ℕ → List Frame → State
-between out frames = record { out = out; frames = frames; how = Plain; depth = 0; inside = 0 }
+abbrev pub between : List ℕ → ℕ → List Frame → State
+between out partner frames = record { out = out; partner = partner; frames = frames; how = Plain; depth = 0; inside = 0 }
 
 -- before a message, by the columns at a place
 abbrev pub start : ℕ → State
-start root = record { out = []; frames = InMembers 0 root root root ∷ []; how = Through root; depth = 0; inside = 0 }
+start root =
+    record { out = []; partner = NONE; frames = InMembers 0 root root false ∷ []; how = Through root; depth = 0; inside = 0 }
 
 -- the innermost
 abbrev pub first_of : List Frame → Option Frame
@@ -36,61 +38,29 @@ first_of (f ∷ fs) = Some f
 
 -- a value within one line is done
 abbrev pub done : ℕ → State → State
-done zero s = between s.out s.frames
+done zero s = between s.out s.partner s.frames
 done (suc m) s = record s { inside = suc m }
 
--- a leaf is done
-abbrev pub leaf_done : ℕ → State → State
-leaf_done zero s = between s.out s.frames
-leaf_done (suc m) s = s
-
--- at the value of a column, whose line begins with a name
-abbrev pub named : ℕ → List ℕ → How → State → State
-named n name h s = record s { out = s.out ++ head n name h; how = h; depth = n }
-
--- an object or a list within one line
-abbrev pub go_inside : State → State
-go_inside s = record s { out = s.out ++ opening s.depth s.how; inside = 1 }
+-- a leaf that is no kind is done
+abbrev pub leaf_done : ℕ → Bool → State → State
+leaf_done zero block s = between s.out (partner_by s.how block s.partner) s.frames
+leaf_done (suc m) block s = s
 
 -- one deeper within a line
 abbrev pub deeper : State → State
 deeper s = record s { inside = suc s.inside }
 
-abbrev pub open_map : State → State
-open_map s =
-    if is_nested s.how then between s.out (InMembers (depth_in s.how s.depth) (place_in s.how) (place_in s.how) (place_in s.how) ∷ s.frames)
-    else go_inside s
-
-abbrev pub open_seq : State → State
-open_seq s =
-    if is_nested s.how then between s.out (InItems (depth_in s.how s.depth) (place_in s.how) (place_in s.how) (has_elements s.how) ∷ s.frames)
-    else go_inside s
-
--- an object begins: in a list, or as the value of a column
-abbrev pub map_in : State → Option Frame → State
-map_in s (Some (InItems n base place each)) =
-    between (s.out ++ element n each) (InMembers (element_depth n each) base place place ∷ s.frames)
-map_in s f = open_map s
-
-abbrev pub take_map : ℕ → State → State
-take_map zero s = map_in s (first_of s.frames)
-take_map (suc m) s = deeper s
-
-abbrev pub take_seq : ℕ → State → State
-take_seq zero s = open_seq s
-take_seq (suc m) s = deeper s
-
 -- the items behind an object are those of the kind that it says
 abbrev pub settle : ℕ → List Frame → List Frame
-settle next (InItems n base place each ∷ fs) = InItems n base next each ∷ fs
-settle next fs = fs
+settle place (InItems n base p each ∷ fs) = InItems n base place each ∷ fs
+settle place fs = fs
 
 abbrev pub close_map : State → List Frame → Option State
-close_map s (InMembers n base place next ∷ fs) = Some (between s.out (settle next fs))
+close_map s (InMembers n base place inline ∷ fs) = Some (between s.out s.partner (settle place fs))
 close_map s fs = None
 
 abbrev pub close_seq : State → List Frame → Option State
-close_seq s (InItems n base place each ∷ fs) = Some (between s.out fs)
+close_seq s (InItems n base place each ∷ fs) = Some (between s.out s.partner fs)
 close_seq s fs = None
 
 abbrev pub end_map : ℕ → State → Option State
@@ -102,18 +72,53 @@ end_seq zero s = close_seq s s.frames
 end_seq (suc m) s = Some (done m s)
 
 module _ (t : Table) where
+  -- at the value of a column, behind its name
+  abbrev pub named : ℕ → Bool → Column → State → State
+  named n inline c s =
+      record s { out = s.out ++ head t n inline c; partner = if begins t inline c then NONE else s.partner; how = c.how; depth = n }
+
+  -- an object or a list within one line
+  abbrev pub go_inside : State → State
+  go_inside s = record s { out = s.out ++ opening t s.depth s.how; partner = NONE; how = opened s.how; inside = 1 }
+
+  abbrev pub open_map : State → State
+  open_map s =
+      if is_nested s.how
+      then between s.out s.partner (InMembers (depth_in s.how s.depth) (place_in s.how) (place_in s.how) (in_line s.how) ∷ s.frames)
+      else go_inside s
+
+  abbrev pub open_seq : State → State
+  open_seq s =
+      if is_nested s.how
+      then between s.out s.partner (InItems (depth_in s.how s.depth) (place_in s.how) (place_in s.how) (has_elements s.how) ∷ s.frames)
+      else go_inside s
+
+  -- an object begins: in a list, or as the value of a column
+  abbrev pub map_in : State → Option Frame → State
+  map_in s (Some (InItems n base place each)) =
+      between (s.out ++ element t n base each) (if each then NONE else s.partner) (InMembers n base place each ∷ s.frames)
+  map_in s f = open_map s
+
+  abbrev pub take_map : ℕ → State → State
+  take_map zero s = map_in s (first_of s.frames)
+  take_map (suc m) s = deeper s
+
+  abbrev pub take_seq : ℕ → State → State
+  take_seq zero s = open_seq s
+  take_seq (suc m) s = deeper s
+
   -- a kind is noted for what is behind it
   abbrev pub note : Event → How → List Frame → List Frame
-  note (event.text name) Kind (InMembers n base place next ∷ fs) = InMembers n base place (t.under base name) ∷ fs
+  note (event.text name) Kind (InMembers n base place inline ∷ fs) = InMembers n base (t.under base name) inline ∷ fs
   note e h fs = fs
 
   abbrev pub take_leaf : ℕ → Event → State → State
-  take_leaf zero e s = between (s.out ++ leaf t s.how e) (note e s.how s.frames)
-  take_leaf (suc m) e s = record s { out = s.out ++ leaf t s.how e }
+  take_leaf zero e s = between (s.out ++ leaf t s.depth s.how e) (partner_behind s.how e s.partner) (note e s.how s.frames)
+  take_leaf (suc m) e s = record s { out = s.out ++ leaf t s.depth s.how e }
 
   abbrev pub key_in : List ℕ → State → Option Frame → Option State
-  key_in k s (Some (InMembers n base place next)) =
-      Some (named n (column_of (t.columns place) (t.columns base) k).name (column_of (t.columns place) (t.columns base) k).how s)
+  key_in k s (Some (InMembers n base place inline)) =
+      Some (named n inline (column_of (t.columns s.partner) (t.columns place) (t.columns base) k) s)
   key_in k s f = None
 
   abbrev pub take_key : ℕ → List ℕ → State → Option State
@@ -147,4 +152,5 @@ module _ (t : Table) where
 -- ---- what the code's values say
 
 abbrev pub state_of : Walk → State
-state_of w = record { out = w.out.items; frames = reverse w.frames.items; how = w.how; depth = w.depth; inside = w.inside }
+state_of w =
+    record { out = w.out.items; partner = w.partner; frames = reverse w.frames.items; how = w.how; depth = w.depth; inside = w.inside }

@@ -3,15 +3,21 @@
 ghost use Rattle.serde.specs.Event.{boolean, nothing, signed, text, unsigned};
 ghost use Rattle.std.specs.Char.{digit_char};
 ghost use Rattle.std.specs.List.{list_all};
-ghost use Rattle.std.specs.Prelude.{OnOk, Option, [], decimal, flat_map, ◌++◌, ◌<◌, ◌∷◌, ◌≡◌};
+ghost use Rattle.hex.specs.Hex.{decode_sized};
+ghost use Rattle.std.specs.Fmt.{signed_decimal};
+ghost use Rattle.std.specs.Prelude.{OnOk, Option, [], codes, decimal, flat_map, option_map, ◌%◌, ◌*◌, ◌+◌, ◌++◌, ◌/◌, ◌<◌, ◌∷◌, ◌≡◌};
+ghost use Rattle.tc_forms.specs.Raw.{decoded};
+ghost use Rattle.tc_texts.specs.Handle.{handle_text};
 ghost use Rattle.tc_lines.specs.Columns.{is_hidden};
-ghost use Rattle.tc_units.specs.Names.{names_view};
-ghost use Rattle.tc_lines.specs.Leaves.{escaped, escaped_byte, is_plain, is_printable, is_word, leaf, number_in, quoted, quoted_byte, text_in, truth, verdict_or, with_number};
+ghost use Rattle.tc_units.specs.Names.{named_text, names_view};
+ghost use Rattle.tc_lines.specs.Leaves.{called, count_or, escaped, escaped_byte, family_or, handle_or, indent, info_text, interface_text, is_block, is_plain, is_printable, is_word, leaf, line, name_at, number_behind, number_in, quoted, quoted_byte, slash_or, text_behind, text_in, verdict_or, with_number};
 
-use crate::column::{Columns, How};
+use crate::column::{Columns, How, InfoOf};
+use hex::FromHex;
 use itoa::Buffer;
 use std::alloc::{AllocError, Allocator};
-use tc_units::{Name, Unit, number_of, put_flags, put_named, put_number, put_verdict};
+use tc_texts::{handle_from_tc_text, handle_text};
+use tc_units::{Name, Unit, name_of, number_of, put_flags, put_named, put_number, put_verdict};
 
 // Puts a number in decimal.
 fn put_decimal<A: Allocator>(out: &mut Vec<u8, A>, n: u64) -> Result<(), AllocError>
@@ -117,6 +123,118 @@ fn put_quoted<A: Allocator>(out: &mut Vec<u8, A>, text: &[u8]) -> Result<(), All
     out.extend_from_slice(&[34])
 }
 
+// Puts two blanks for each level.
+fn put_indent<A: Allocator>(out: &mut Vec<u8, A>, depth: usize) -> Result<(), AllocError>
+    ensures { OnOk result (out.new.items ≡ out.old.items ++ indent depth) }
+{
+    if depth == 0 {
+        return Ok(());
+    }
+    out.extend_from_slice(b"  ")?;
+    put_indent(out, depth - 1)?;
+    Ok(())
+}
+
+/// Puts the beginning of a line.
+pub(crate) fn put_line<A: Allocator>(
+    out: &mut Vec<u8, A>,
+    depth: usize,
+    name: &[u8],
+) -> Result<(), AllocError>
+    ensures { OnOk result (out.new.items ≡ out.old.items ++ line depth name.now) }
+{
+    out.extend_from_slice(b"\n")?;
+    put_indent(out, depth)?;
+    put_escaped(out, name)
+}
+
+/// The name at a place that has no other.
+pub(crate) fn name_at<C: Columns>(columns: C, place: usize) -> &'static str
+    ensures { result.now ≡ name_at (C.says (C.given columns)) place }
+{
+    match name_of(columns.names(place), 0) {
+        Some(name) => name,
+        None => "",
+    }
+}
+
+// Puts the number of an interface.
+fn put_interface<C: Columns, A: Allocator>(
+    columns: C,
+    out: &mut Vec<u8, A>,
+    n: u64,
+) -> Result<(), AllocError>
+    ensures { OnOk result (out.new.items ≡ out.old.items ++ interface_text (C.says (C.given columns)) n) }
+{
+    put_decimal(out, n)?;
+    put_called(out, columns.interface(n))
+}
+
+// Puts a name in brackets, if there is one.
+fn put_called<A: Allocator>(out: &mut Vec<u8, A>, name: Option<&str>) -> Result<(), AllocError>
+    ensures { OnOk result (out.new.items ≡ out.old.items ++ called (option_map (λ t. t.now) name.entry)) }
+{
+    let name = match name {
+        Some(name) => name,
+        None => return Ok(()),
+    };
+    out.extend_from_slice(b" (")?;
+    put_quoted(out, name.as_bytes())?;
+    out.extend_from_slice(b")")
+}
+
+// Puts a header's priority and its protocol, big-endian in the lower half.
+fn put_pref<A: Allocator>(
+    out: &mut Vec<u8, A>,
+    names: &[Name<'_>],
+    n: u64,
+) -> Result<(), AllocError>
+    ensures { OnOk result (out.new.items ≡ out.old.items ++ (codes " pref " ++ (decimal (n / 0x10000) ++ (codes " protocol " ++ named_text Unit.LongHex (names_view names.now) (n % 0x100 * 0x100 + n / 0x100 % 0x100))))) }
+{
+    out.extend_from_slice(b" pref ")?;
+    put_decimal(out, n / 0x10000)?;
+    out.extend_from_slice(b" protocol ")?;
+    put_named(
+        out,
+        Unit::LongHex,
+        names,
+        n % 0x100 * 0x100 + n / 0x100 % 0x100,
+    )
+}
+
+// Puts the handle of a qdisc.
+fn put_handle<A: Allocator>(out: &mut Vec<u8, A>, n: u64) -> Result<(), AllocError>
+    ensures { OnOk result (out.new.items ≡ out.old.items ++ handle_text (n % 0x100000000)) }
+{
+    out.extend_from_slice(handle_text((n % 0x1_0000_0000) as u32).as_bytes())
+}
+
+// Puts the last number of a header.
+fn put_info<C: Columns, A: Allocator>(
+    columns: C,
+    out: &mut Vec<u8, A>,
+    of: &InfoOf,
+    n: u64,
+) -> Result<(), AllocError>
+    ensures { OnOk result (out.new.items ≡ out.old.items ++ info_text (C.says (C.given columns)) of.now n) }
+{
+    match of {
+        InfoOf::Pref(names) => put_pref(out, columns.names(*names), n),
+        InfoOf::Leaf => {
+            out.extend_from_slice(b" leaf ")?;
+            put_handle(out, n)
+        }
+        InfoOf::Refcnt => {
+            out.extend_from_slice(b" refcnt ")?;
+            put_decimal(out, n)
+        }
+        InfoOf::Number => {
+            out.extend_from_slice(b" info ")?;
+            put_decimal(out, n)
+        }
+    }
+}
+
 // Puts a number by its column.
 fn put_number_in<C: Columns, A: Allocator>(
     columns: C,
@@ -124,16 +242,46 @@ fn put_number_in<C: Columns, A: Allocator>(
     how: &How,
     n: u64,
 ) -> Result<(), AllocError>
-    ensures { OnOk result (out.new.items ≡ out.old.items ++ number_in C.says how.now n) }
+    ensures { OnOk result (out.new.items ≡ out.old.items ++ number_in (C.says (C.given columns)) how.now n) }
 {
-    if let How::Flags(place) = how {
-        return put_flags(out, columns.names(*place), n);
+    match how {
+        How::Flags(place) => put_flags(out, columns.names(*place), n),
+        How::To(_) => put_decimal(out, n),
+        How::Info(_) if n == 0 => Ok(()),
+        How::Info(of) => put_info(columns, out, of, n),
+        How::Index(_) => {
+            out.extend_from_slice(b" index ")?;
+            put_interface(columns, out, n)
+        }
+        How::Family(_, _) => {
+            out.extend_from_slice(b" family ")?;
+            put_decimal(out, n)
+        }
+        _ => {
+            out.extend_from_slice(b" ")?;
+            put_number_behind(columns, out, how, n)
+        }
     }
-    out.extend_from_slice(b" ")?;
+}
+
+// Puts a number behind a blank.
+fn put_number_behind<C: Columns, A: Allocator>(
+    columns: C,
+    out: &mut Vec<u8, A>,
+    how: &How,
+    n: u64,
+) -> Result<(), AllocError>
+    ensures { OnOk result (out.new.items ≡ out.old.items ++ number_behind (C.says (C.given columns)) how.now n) }
+{
     match how {
         How::Number(unit) => put_number(out, *unit, n),
         How::Named(unit, place) => put_named(out, *unit, columns.names(*place), n),
         How::Verdict(_) => put_verdict(out, (n % 0x1_0000_0000) as u32),
+        How::Interface => put_interface(columns, out, n),
+        How::From(_) => {
+            put_decimal(out, n)?;
+            out.extend_from_slice(b"-")
+        }
         _ => put_decimal(out, n),
     }
 }
@@ -167,16 +315,117 @@ fn put_verdict_or<A: Allocator>(
     }
 }
 
+// Puts a handle as a number in a unit, or else a text.
+fn put_handle_or<A: Allocator>(
+    out: &mut Vec<u8, A>,
+    unit: Unit,
+    text: &str,
+    number: Option<u32>,
+) -> Result<(), AllocError>
+    ensures { OnOk result (out.new.items ≡ out.old.items ++ handle_or unit text.now number) }
+{
+    match number {
+        Some(n) => put_number(out, unit, n as u64),
+        None => put_quoted(out, text.as_bytes()),
+    }
+}
+
+// Puts four bytes in hex as a number, or else a text.
+fn put_count<A: Allocator>(out: &mut Vec<u8, A>, text: &str) -> Result<(), AllocError>
+    ensures { OnOk result (out.new.items ≡ out.old.items ++ count_or text.now (decoded (decode_sized text.now 4))) }
+{
+    match <[u8; 4]>::from_hex(text.as_bytes()) {
+        Ok(octets) => put_decimal(out, u32::from_le_bytes(octets) as u64),
+        Err(_) => put_quoted(out, text.as_bytes()),
+    }
+}
+
+// Puts an address family, if it isn't number 0.
+fn put_family_or<A: Allocator>(
+    out: &mut Vec<u8, A>,
+    names: &[Name<'_>],
+    text: &str,
+    number: Option<u64>,
+) -> Result<(), AllocError>
+    ensures { OnOk result (out.new.items ≡ out.old.items ++ family_or (names_view names.now) text.now number) }
+{
+    match number {
+        Some(0) => Ok(()),
+        Some(n) => {
+            out.extend_from_slice(b" family ")?;
+            put_named(out, Unit::Plain, names, n)
+        }
+        None => {
+            out.extend_from_slice(b" family ")?;
+            put_quoted(out, text.as_bytes())
+        }
+    }
+}
+
+// Puts the length of a prefix, or else a line of its own.
+fn put_slash_or<A: Allocator>(
+    out: &mut Vec<u8, A>,
+    depth: usize,
+    name: &str,
+    text: &str,
+    number: Option<u64>,
+) -> Result<(), AllocError>
+    ensures { OnOk result (out.new.items ≡ out.old.items ++ slash_or depth name.now text.now number) }
+{
+    match number {
+        Some(len) => {
+            out.extend_from_slice(b"/")?;
+            put_decimal(out, len)
+        }
+        None => {
+            put_line(out, depth, name.as_bytes())?;
+            out.extend_from_slice(b" ")?;
+            put_quoted(out, text.as_bytes())
+        }
+    }
+}
+
 // Puts a text by its column.
 fn put_text_in<C: Columns, A: Allocator>(
+    columns: C,
+    out: &mut Vec<u8, A>,
+    depth: usize,
+    how: &How,
+    text: &str,
+) -> Result<(), AllocError>
+    ensures { OnOk result (out.new.items ≡ out.old.items ++ text_in (C.says (C.given columns)) depth how.now text.now) }
+{
+    match how {
+        How::To(_) => put_quoted(out, text.as_bytes()),
+        How::Slash(masks, own) => put_slash_or(
+            out,
+            depth,
+            name_at(columns, *own),
+            text,
+            number_of(columns.names(*masks), text),
+        ),
+        How::Family(keys, names) => put_family_or(
+            out,
+            columns.names(*names),
+            text,
+            number_of(columns.names(*keys), text),
+        ),
+        _ => {
+            out.extend_from_slice(b" ")?;
+            put_text_behind(columns, out, how, text)
+        }
+    }
+}
+
+// Puts a text behind a blank.
+fn put_text_behind<C: Columns, A: Allocator>(
     columns: C,
     out: &mut Vec<u8, A>,
     how: &How,
     text: &str,
 ) -> Result<(), AllocError>
-    ensures { OnOk result (out.new.items ≡ out.old.items ++ text_in C.says how.now text.now) }
+    ensures { OnOk result (out.new.items ≡ out.old.items ++ text_behind (C.says (C.given columns)) how.now text.now) }
 {
-    out.extend_from_slice(b" ")?;
     match how {
         How::Text(keys, names) => put_with_number(
             out,
@@ -185,27 +434,53 @@ fn put_text_in<C: Columns, A: Allocator>(
             number_of(columns.names(*keys), text),
         ),
         How::Verdict(keys) => put_verdict_or(out, text, number_of(columns.names(*keys), text)),
+        How::Handle(unit) => put_handle_or(out, *unit, text, handle_from_tc_text(text)),
+        How::Count => put_count(out, text),
+        How::From(_) => {
+            put_quoted(out, text.as_bytes())?;
+            out.extend_from_slice(b"-")
+        }
         _ => put_quoted(out, text.as_bytes()),
     }
 }
 
-// True for a column that isn't shown.
-pub(crate) fn is_hidden(how: &How) -> bool
-    ensures { result ≡ is_hidden how.now }
+// True for the number that stands for a block.
+pub(crate) fn is_block(n: i64) -> bool
+    ensures { result ≡ is_block n }
 {
-    matches!(how, How::Hidden)
+    n == -1
+}
+
+// Puts a number below zero.
+fn put_negative<A: Allocator>(out: &mut Vec<u8, A>, before: &[u8], n: i64) -> Result<(), AllocError>
+    ensures { OnOk result (out.new.items ≡ out.old.items ++ (before.now ++ signed_decimal n)) }
+{
+    out.extend_from_slice(before)?;
+    let mut buffer = Buffer::new();
+    out.extend_from_slice(buffer.format(n).as_bytes())
+}
+
+// True for padding that isn't shown.
+pub(crate) fn is_hidden(all: bool, how: &How) -> bool
+    ensures { result ≡ is_hidden all how.now }
+{
+    match how {
+        How::Hidden => !all,
+        _ => false,
+    }
 }
 
 /// Puts the leaf of a boolean.
 pub(crate) fn put_boolean<C: Columns, A: Allocator>(
-    _columns: C,
+    columns: C,
     out: &mut Vec<u8, A>,
+    _depth: usize,
     how: &How,
     b: bool,
 ) -> Result<(), AllocError>
-    ensures { OnOk result (out.new.items ≡ out.old.items ++ leaf C.says how.now (boolean b)) }
+    ensures { OnOk result (out.new.items ≡ out.old.items ++ leaf (C.says (C.given columns)) _depth how.now (boolean b)) }
 {
-    if is_hidden(how) {
+    if is_hidden(columns.all(), how) {
         return Ok(());
     }
     if b {
@@ -219,12 +494,13 @@ pub(crate) fn put_boolean<C: Columns, A: Allocator>(
 pub(crate) fn put_unsigned<C: Columns, A: Allocator>(
     columns: C,
     out: &mut Vec<u8, A>,
+    _depth: usize,
     how: &How,
     n: u64,
 ) -> Result<(), AllocError>
-    ensures { OnOk result (out.new.items ≡ out.old.items ++ leaf C.says how.now (unsigned n)) }
+    ensures { OnOk result (out.new.items ≡ out.old.items ++ leaf (C.says (C.given columns)) _depth how.now (unsigned n)) }
 {
-    if is_hidden(how) {
+    if is_hidden(columns.all(), how) {
         return Ok(());
     }
     put_number_in(columns, out, how, n)
@@ -232,45 +508,50 @@ pub(crate) fn put_unsigned<C: Columns, A: Allocator>(
 
 /// Puts the leaf of a number that may be negative.
 pub(crate) fn put_signed<C: Columns, A: Allocator>(
-    _columns: C,
+    columns: C,
     out: &mut Vec<u8, A>,
+    _depth: usize,
     how: &How,
     n: i64,
 ) -> Result<(), AllocError>
-    ensures { OnOk result (out.new.items ≡ out.old.items ++ leaf C.says how.now (signed n)) }
+    ensures { OnOk result (out.new.items ≡ out.old.items ++ leaf (C.says (C.given columns)) _depth how.now (signed n)) }
 {
-    if is_hidden(how) {
+    if is_hidden(columns.all(), how) {
         return Ok(());
     }
-    out.extend_from_slice(b" ")?;
-    let mut buffer = Buffer::new();
-    out.extend_from_slice(buffer.format(n).as_bytes())
+    match how {
+        How::Index(_) if is_block(n) => Ok(()),
+        How::Index(_) => put_negative(out, b" index ", n),
+        _ => put_negative(out, b" ", n),
+    }
 }
 
 /// Puts the leaf of a text.
 pub(crate) fn put_string<C: Columns, A: Allocator>(
     columns: C,
     out: &mut Vec<u8, A>,
+    depth: usize,
     how: &How,
     value: &str,
 ) -> Result<(), AllocError>
-    ensures { OnOk result (out.new.items ≡ out.old.items ++ leaf C.says how.now (text value.now)) }
+    ensures { OnOk result (out.new.items ≡ out.old.items ++ leaf (C.says (C.given columns)) depth how.now (text value.now)) }
 {
-    if is_hidden(how) {
+    if is_hidden(columns.all(), how) {
         return Ok(());
     }
-    put_text_in(columns, out, how, value)
+    put_text_in(columns, out, depth, how, value)
 }
 
 /// Puts the leaf of nothing.
 pub(crate) fn put_null<C: Columns, A: Allocator>(
-    _columns: C,
+    columns: C,
     out: &mut Vec<u8, A>,
+    _depth: usize,
     how: &How,
 ) -> Result<(), AllocError>
-    ensures { OnOk result (out.new.items ≡ out.old.items ++ leaf C.says how.now nothing) }
+    ensures { OnOk result (out.new.items ≡ out.old.items ++ leaf (C.says (C.given columns)) _depth how.now nothing) }
 {
-    if is_hidden(how) {
+    if is_hidden(columns.all(), how) {
         return Ok(());
     }
     out.extend_from_slice(b" null")

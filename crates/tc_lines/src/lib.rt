@@ -13,7 +13,9 @@
 //! ```
 //!
 //! Columns come from a table of the caller's, by places: that of the message, and from there those of what is within. A kind selects the
-//! columns of what is behind it in its list. A member without a column is shown as it is, in one line with all that is within.
+//! columns of what is behind it in its list. A member without a column is shown as it is, in one line with all that is within. A mask
+//! stands in the line of its address, and the greatest of a range in that of the least: `ipv4_dst 10.8.0.0/16`, `ports_dst 80-90`. A header
+//! is no line of its own: its words go on with the line that the caller has begun.
 #![tactic(auto)]
 
 mod column;
@@ -24,6 +26,6 @@ mod log;
 mod outline;
 mod walk;
 
-pub use column::{Column, Columns, How};
+pub use column::{Column, Columns, How, InfoOf};
 pub use error::LinesError;
 pub use outline::lines_of;

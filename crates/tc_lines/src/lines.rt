@@ -7,7 +7,7 @@ ghost use Rattle.std.specs.Prelude.{IfOk, IfSome, None, OnOk, Some, [], ◌≡�
 ghost use Rattle.tc_lines.specs.Columns.{Table};
 ghost use Rattle.tc_forms.specs.Sent.{events};
 ghost use Rattle.tc_lines.specs.Lines.{lines};
-ghost use Rattle.tc_lines.specs.Log.{event_of};
+ghost use Rattle.tc_lines.specs.Log.{event_of, marked};
 ghost use Rattle.tc_lines.specs.Walk.{Follows, State, state_of, step};
 
 use crate::column::Columns;
@@ -23,13 +23,13 @@ pub(crate) struct Lines<C: Columns + Drop> {
     columns: C,
     walk: Walk,
     log: Log,
-    ghost follows: { Follows C.says C.begins log.events (state_of walk) },
+    ghost follows: { Follows (C.says (C.given columns)) (C.given columns).root log.events (state_of walk) },
 }
 
 impl<C: Columns + Drop> Lines<C> {
     /// No lines yet.
     pub(crate) fn new(alloc: Global, columns: C) -> Result<Lines<C>, LinesError>
-        ensures { IfOk result (λ l. l.log.events ≡ Some []) }
+        ensures { IfOk result (λ l. marked (C.given l.columns) l.log.events ≡ marked (C.given columns) (Some [])) }
     {
         let walk = Walk::new(alloc, columns.root())?;
         Ok(Lines {
@@ -41,7 +41,7 @@ impl<C: Columns + Drop> Lines<C> {
 
     /// The text.
     pub(crate) fn into_text(self) -> Vec<u8>
-        ensures { (d : Data) → self.log.events ≡ Some (events d) → result.items ≡ lines C.says C.begins d }
+        ensures { (d : Data) → self.log.events ≡ Some (events d) → result.items ≡ lines (C.says (C.given self.columns)) (C.given self.columns).root d }
     {
         let Lines { walk, .. } = self;
         walk.out
@@ -51,95 +51,95 @@ impl<C: Columns + Drop> Lines<C> {
 impl<C: Columns + Drop> Serializer for Lines<C> {
     type Error = LinesError;
 
-    ghost written = { λ s. s.log.events };
+    ghost written = { λ s. marked (C.given s.columns) s.log.events };
 
     #[inline(always)]
     fn bool(&mut self, v: bool) -> Result<(), LinesError> {
         if let Err(error) = self.walk.boolean(self.columns, v) {
-            self.log = after(&self.log, Note::Lost);
+            self.log = after(&self.columns, &self.log, Note::Lost);
             return Err(error);
         }
-        self.log = after(&self.log, Note::Bool(v));
+        self.log = after(&self.columns, &self.log, Note::Bool(v));
         Ok(())
     }
 
     #[inline(always)]
     fn i64(&mut self, v: i64) -> Result<(), LinesError> {
         if let Err(error) = self.walk.signed(self.columns, v) {
-            self.log = after(&self.log, Note::Lost);
+            self.log = after(&self.columns, &self.log, Note::Lost);
             return Err(error);
         }
-        self.log = after(&self.log, Note::I64(v));
+        self.log = after(&self.columns, &self.log, Note::I64(v));
         Ok(())
     }
 
     #[inline(always)]
     fn u64(&mut self, v: u64) -> Result<(), LinesError> {
         if let Err(error) = self.walk.unsigned(self.columns, v) {
-            self.log = after(&self.log, Note::Lost);
+            self.log = after(&self.columns, &self.log, Note::Lost);
             return Err(error);
         }
-        self.log = after(&self.log, Note::U64(v));
+        self.log = after(&self.columns, &self.log, Note::U64(v));
         Ok(())
     }
 
     #[inline(always)]
     fn str(&mut self, v: &str) -> Result<(), LinesError> {
         if let Err(error) = self.walk.text(self.columns, v) {
-            self.log = after(&self.log, Note::Lost);
+            self.log = after(&self.columns, &self.log, Note::Lost);
             return Err(error);
         }
-        self.log = after(&self.log, Note::Text(v));
+        self.log = after(&self.columns, &self.log, Note::Text(v));
         Ok(())
     }
 
     #[inline(always)]
     fn unit(&mut self) -> Result<(), LinesError> {
         if let Err(error) = self.walk.null(self.columns) {
-            self.log = after(&self.log, Note::Lost);
+            self.log = after(&self.columns, &self.log, Note::Lost);
             return Err(error);
         }
-        self.log = after(&self.log, Note::Unit);
+        self.log = after(&self.columns, &self.log, Note::Unit);
         Ok(())
     }
 
     #[inline(always)]
     fn begin_seq(&mut self, len: Option<usize>) -> Result<(), LinesError> {
         if let Err(error) = self.walk.begin_seq(self.columns, len) {
-            self.log = after(&self.log, Note::Lost);
+            self.log = after(&self.columns, &self.log, Note::Lost);
             return Err(error);
         }
-        self.log = after(&self.log, Note::BeginSeq(len));
+        self.log = after(&self.columns, &self.log, Note::BeginSeq(len));
         Ok(())
     }
 
     #[inline(always)]
     fn end_seq(&mut self) -> Result<(), LinesError> {
         if let Err(error) = self.walk.end_seq(self.columns) {
-            self.log = after(&self.log, Note::Lost);
+            self.log = after(&self.columns, &self.log, Note::Lost);
             return Err(error);
         }
-        self.log = after(&self.log, Note::EndSeq);
+        self.log = after(&self.columns, &self.log, Note::EndSeq);
         Ok(())
     }
 
     #[inline(always)]
     fn begin_map(&mut self, len: Option<usize>) -> Result<(), LinesError> {
         if let Err(error) = self.walk.begin_map(self.columns, len) {
-            self.log = after(&self.log, Note::Lost);
+            self.log = after(&self.columns, &self.log, Note::Lost);
             return Err(error);
         }
-        self.log = after(&self.log, Note::BeginMap(len));
+        self.log = after(&self.columns, &self.log, Note::BeginMap(len));
         Ok(())
     }
 
     #[inline(always)]
     fn end_map(&mut self) -> Result<(), LinesError> {
         if let Err(error) = self.walk.end_map(self.columns) {
-            self.log = after(&self.log, Note::Lost);
+            self.log = after(&self.columns, &self.log, Note::Lost);
             return Err(error);
         }
-        self.log = after(&self.log, Note::EndMap);
+        self.log = after(&self.columns, &self.log, Note::EndMap);
         Ok(())
     }
 
@@ -148,64 +148,64 @@ impl<C: Columns + Drop> Serializer for Lines<C> {
         match case {
             Case::AsIs => self.key_as_is(name),
             _ => {
-                self.log = after(&self.log, Note::Lost);
+                self.log = after(&self.columns, &self.log, Note::Lost);
                 Err(LinesError::NotJson)
             }
         }
     }
 
     fn i128(&mut self, _v: i128) -> Result<(), LinesError> {
-        self.log = after(&self.log, Note::Lost);
+        self.log = after(&self.columns, &self.log, Note::Lost);
         Err(LinesError::NotJson)
     }
 
     fn u128(&mut self, _v: u128) -> Result<(), LinesError> {
-        self.log = after(&self.log, Note::Lost);
+        self.log = after(&self.columns, &self.log, Note::Lost);
         Err(LinesError::NotJson)
     }
 
     fn f32(&mut self, _v: f32) -> Result<(), LinesError> {
-        self.log = after(&self.log, Note::Lost);
+        self.log = after(&self.columns, &self.log, Note::Lost);
         Err(LinesError::NotJson)
     }
 
     fn f64(&mut self, _v: f64) -> Result<(), LinesError> {
-        self.log = after(&self.log, Note::Lost);
+        self.log = after(&self.columns, &self.log, Note::Lost);
         Err(LinesError::NotJson)
     }
 
     fn char(&mut self, _v: char) -> Result<(), LinesError> {
-        self.log = after(&self.log, Note::Lost);
+        self.log = after(&self.columns, &self.log, Note::Lost);
         Err(LinesError::NotJson)
     }
 
     fn bytes(&mut self, _v: &[u8]) -> Result<(), LinesError> {
-        self.log = after(&self.log, Note::Lost);
+        self.log = after(&self.columns, &self.log, Note::Lost);
         Err(LinesError::NotJson)
     }
 
     fn str_cased(&mut self, _name: &str, _case: Case) -> Result<(), LinesError> {
-        self.log = after(&self.log, Note::Lost);
+        self.log = after(&self.columns, &self.log, Note::Lost);
         Err(LinesError::NotJson)
     }
 
     fn variant_key(&mut self, _name: &str, _case: Case) -> Result<(), LinesError> {
-        self.log = after(&self.log, Note::Lost);
+        self.log = after(&self.columns, &self.log, Note::Lost);
         Err(LinesError::NotJson)
     }
 
     fn begin_key(&mut self) -> Result<(), LinesError> {
-        self.log = after(&self.log, Note::Lost);
+        self.log = after(&self.columns, &self.log, Note::Lost);
         Err(LinesError::NotJson)
     }
 
     fn end_key(&mut self) -> Result<(), LinesError> {
-        self.log = after(&self.log, Note::Lost);
+        self.log = after(&self.columns, &self.log, Note::Lost);
         Err(LinesError::NotJson)
     }
 
     fn flatten_next(&mut self) -> Result<(), LinesError> {
-        self.log = after(&self.log, Note::Lost);
+        self.log = after(&self.columns, &self.log, Note::Lost);
         Err(LinesError::NotJson)
     }
 
@@ -217,20 +217,21 @@ impl<C: Columns + Drop> Serializer for Lines<C> {
 impl<C: Columns + Drop> Lines<C> {
     // The name of a member, as it is.
     fn key_as_is(&mut self, name: &str) -> Result<(), LinesError>
-        ensures { OnOk result (Logs self.old.log.events self.new.log.events (field_key name.now AsIs)) }
+        ensures log { OnOk result (Logs (marked (C.given self.old.columns) self.old.log.events) (marked (C.given self.old.columns) self.new.log.events) (field_key name.now AsIs)) }
+        ensures columns { self.new.columns ≡ self.old.columns }
     {
         if let Err(error) = self.walk.key(self.columns, name) {
-            self.log = after(&self.log, Note::Lost);
+            self.log = after(&self.columns, &self.log, Note::Lost);
             return Err(error);
         }
-        self.log = after(&self.log, Note::Key(name, Case::AsIs));
+        self.log = after(&self.columns, &self.log, Note::Key(name, Case::AsIs));
         Ok(())
     }
 }
 
 #[inline(always)]
-fn after(log: &Log, note: Note<'_>) -> Log
-    ensures logs { IfSome (event_of note.entry) (Logs log.now.events result.events) }
+fn after<C: Columns>(_columns: &C, log: &Log, note: Note<'_>) -> Log
+    ensures logs { IfSome (event_of note.entry) (Logs (marked (C.given _columns.now) log.now.events) (marked (C.given _columns.now) result.events)) }
     ensures follows { (t : Table) (root : ℕ) (old new : State) → Follows t root log.now.events old
         → IfSome (event_of note.entry) (λ e. step t e old ≡ Some new) → Follows t root result.events new }
     ensures lost { note.entry ≡ Note.Lost → result.events ≡ None }

@@ -18,7 +18,7 @@ pub fn lines_of<T: Tables, C: Columns + Drop>(
     columns: C,
     bytes: &[u8],
 ) -> Result<Vec<u8>, LinesError>
-    ensures { IfOk result (λ text. text.items ≡ lines C.says C.begins (shown_of (T.parts_of table) form bytes.now)) }
+    ensures { IfOk result (λ text. text.items ≡ lines (C.says (C.given columns)) (C.given columns).root (shown_of (T.parts_of table) form bytes.now)) }
 {
     let mut lines = Lines::new(alloc, columns)?;
     send_shown(table, form, bytes, alloc, &mut lines)?;

@@ -2,21 +2,25 @@
 
 ghost use Rattle.serde.specs.Event.{boolean, field_key, map_begins, map_ends, nothing, seq_begins, seq_ends, signed, text, unsigned};
 ghost use Rattle.serde.specs.declared.name.Case.TheVariants.{AsIs};
-ghost use Rattle.std.specs.Prelude.{IfOk, IfSome, List, MatchOption, None, OnOk, Option, Some, [], bytes_eq, option_map, reverse, ◌+◌, ◌++◌, ◌∷◌, ◌≡◌, ℕ};
-ghost use Rattle.tc_lines.specs.Columns.{column_of, column_view, columns_view, depth_in, find, has_elements, has_line, is_nested, place_in};
-ghost use Rattle.tc_lines.specs.Lines.{element, element_depth, indent, inside_name, line, opening};
+ghost use Rattle.std.specs.Prelude.{IfOk, IfSome, List, MatchOption, None, OnOk, Option, Some, [], bytes_eq, false, if◌then◌else◌, option_map, reverse, ◌+◌, ◌++◌, ◌∷◌, ◌≡◌, ℕ};
+ghost use Rattle.tc_lines.specs.Columns.{Column as ColumnSaid, column_of, column_view, columns_view, depth_in, find, has_elements, has_name, in_line, is_nested, opened, place_in, unnamed};
+ghost use Rattle.tc_lines.specs.Lines.{NONE, begins, element, head, inside_name, name_text, opening, partner_by};
 ghost use Rattle.tc_lines.specs.Walk.{between, close_map, close_seq, deeper, done, first_of, go_inside, key_in, leaf_done, map_in, named, note, open_map, open_seq, settle, start, state_of, step};
 
 use crate::column::{Column, Columns, How};
 use crate::error::LinesError;
-use crate::leaves::{put_boolean, put_escaped, put_null, put_signed, put_string, put_unsigned};
+use crate::leaves::{
+    is_block, name_at, put_boolean, put_escaped, put_line, put_null, put_signed, put_string,
+    put_unsigned,
+};
 use std::alloc::{AllocError, Global};
+use tc_units::Unit;
 
 /// An object or a list that is open.
 #[derive(Clone, Copy, Drop)]
 pub(crate) enum Frame {
-    // An object: the depth of its lines, the place of its list under no kind, its place, and that of what is behind it.
-    InMembers(usize, usize, usize, usize),
+    // An object: the depth of its lines, the place of its list under no kind, its place, and whether it stands in one line.
+    InMembers(usize, usize, usize, bool),
     // A list: the depth of its lines, its place under no kind, its place, and whether each element has a line of its own.
     InItems(usize, usize, usize, bool),
 }
@@ -25,6 +29,8 @@ pub(crate) enum Frame {
 #[derive(Drop)]
 pub(crate) struct Walk {
     pub out: Vec<u8>,
+    // The place of the columns that are asked for first.
+    pub partner: usize,
     // The innermost is last.
     pub frames: Vec<Frame>,
     pub how: How,
@@ -32,26 +38,8 @@ pub(crate) struct Walk {
     pub inside: usize,
 }
 
-// Puts two blanks for each level.
-fn put_indent(out: &mut Vec<u8>, depth: usize) -> Result<(), AllocError>
-    ensures { OnOk result (out.new.items ≡ out.old.items ++ indent depth) }
-{
-    if depth == 0 {
-        return Ok(());
-    }
-    out.extend_from_slice(b"  ")?;
-    put_indent(out, depth - 1)?;
-    Ok(())
-}
-
-// Puts the beginning of a line.
-fn put_line(out: &mut Vec<u8>, depth: usize, name: &[u8]) -> Result<(), AllocError>
-    ensures { OnOk result (out.new.items ≡ out.old.items ++ line depth name.now) }
-{
-    out.extend_from_slice(b"\n")?;
-    put_indent(out, depth)?;
-    put_escaped(out, name)
-}
+// The place of no columns.
+const NONE: usize = 65535;
 
 // The column of a name in JSON.
 fn find(columns: &[Column<'static>], key: &str) -> Option<Column<'static>>
@@ -64,21 +52,49 @@ fn find(columns: &[Column<'static>], key: &str) -> Option<Column<'static>>
     }
 }
 
-// The name and the column of a name in JSON, among those of a kind or else those of every kind.
+// The column of a name in JSON, among those of a partner, of a kind or of every kind.
 fn column_of<'k>(
+    partner: &[Column<'static>],
     own: &[Column<'static>],
     others: &[Column<'static>],
     key: &'k str,
-) -> (&'k str, How)
-    ensures name { result.0.now ≡ (column_of (columns_view own.now) (columns_view others.now) key.now).name }
-    ensures how { result.1 ≡ (column_of (columns_view own.now) (columns_view others.now) key.now).how }
+) -> Column<'k>
+    ensures { column_view result ≡ column_of (columns_view partner.now) (columns_view own.now) (columns_view others.now) key.now }
 {
+    if let Some(column) = find(partner, key) {
+        return column;
+    }
     if let Some(column) = find(own, key) {
-        return (column.name, column.how);
+        return column;
     }
     match find(others, key) {
-        Some(column) => (column.name, column.how),
-        None => (key, How::Plain),
+        Some(column) => column,
+        None => unnamed(key),
+    }
+}
+
+// The column of a name that has none.
+fn unnamed(key: &str) -> Column<'_>
+    ensures { column_view result ≡ unnamed key.now }
+{
+    if is_same(key, "word") {
+        return Column {
+            key,
+            name: key,
+            how: How::Number(Unit::LongHex),
+        };
+    }
+    if is_same(key, "Other") {
+        return Column {
+            key,
+            name: "other",
+            how: How::Plain,
+        };
+    }
+    Column {
+        key,
+        name: key,
+        how: How::Plain,
     }
 }
 
@@ -93,7 +109,8 @@ fn is_nested(how: &How) -> bool
     ensures { result ≡ is_nested how.now }
 {
     match how {
-        How::Within(_) | How::Through(_) | How::Below(_) | How::Elements(_) => true,
+        How::Within(_) | How::Through(_) | How::Below(_) | How::Elements(_) | How::InLine(_) =>
+            true,
         _ => false,
     }
 }
@@ -103,8 +120,11 @@ fn place_in(how: &How) -> usize
     ensures { result ≡ place_in how.now }
 {
     match how {
-        How::Within(place) | How::Through(place) | How::Below(place) | How::Elements(place) =>
-            *place,
+        How::Within(place)
+        | How::Through(place)
+        | How::Below(place)
+        | How::Elements(place)
+        | How::InLine(place) => *place,
         _ => 0,
     }
 }
@@ -114,7 +134,7 @@ fn depth_in(how: &How, depth: usize) -> Option<usize>
     ensures { IfSome result (λ n. n ≡ depth_in how.now depth) }
 {
     match how {
-        How::Through(_) => Some(depth),
+        How::Through(_) | How::InLine(_) => Some(depth),
         _ => depth.checked_add(1),
     }
 }
@@ -126,32 +146,95 @@ fn has_elements(how: &How) -> bool
     matches!(how, How::Elements(_))
 }
 
-// True where the name has a line.
-fn has_line(how: &How) -> bool
-    ensures { result ≡ has_line how.now }
+// True where what is within stands in one line.
+fn in_line(how: &How) -> bool
+    ensures { result ≡ in_line how.now }
+{
+    matches!(how, How::InLine(_))
+}
+
+// True where the name is shown.
+fn has_name(all: bool, how: &How) -> bool
+    ensures { result ≡ has_name all how.now }
 {
     match how {
-        How::Hidden | How::Through(_) | How::Below(_) => false,
+        How::Hidden => all,
+        How::Through(_)
+        | How::Below(_)
+        | How::InLine(_)
+        | How::Slash(_, _)
+        | How::To(_)
+        | How::Family(_, _)
+        | How::Info(_)
+        | How::Index(_) => false,
         _ => true,
     }
 }
 
-// Puts the line of padding that isn't empty.
-fn put_opening(out: &mut Vec<u8>, depth: usize, how: &How) -> Result<(), AllocError>
-    ensures { OnOk result (out.new.items ≡ out.old.items ++ opening depth how.now) }
+// How what is in an object or a list is shown, all within one line.
+fn opened(how: &How) -> How
+    ensures { result ≡ opened how.now }
 {
     match how {
+        How::Hidden | How::First(_) | How::From(_) | How::Slash(_, _) | How::To(_) => How::Plain,
+        _ => *how,
+    }
+}
+
+// Puts the line of a value without a name so far that is no leaf.
+fn put_opening<C: Columns>(
+    columns: C,
+    out: &mut Vec<u8>,
+    depth: usize,
+    how: &How,
+) -> Result<(), AllocError>
+    ensures { OnOk result (out.new.items ≡ out.old.items ++ opening (C.says (C.given columns)) depth how.now) }
+{
+    match how {
+        How::Hidden if columns.all() => Ok(()),
         How::Hidden => put_line(out, depth, b"pad"),
+        How::Slash(_, own) | How::To(own) => {
+            put_line(out, depth, name_at(columns, *own).as_bytes())
+        }
         _ => Ok(()),
     }
 }
 
-// Puts the line of an element.
-fn put_element(out: &mut Vec<u8>, depth: usize, each: bool) -> Result<(), AllocError>
-    ensures { OnOk result (out.new.items ≡ out.old.items ++ element depth each) }
+// Puts a name, which is a word of a line, or begins one.
+fn put_name(out: &mut Vec<u8>, depth: usize, inline: bool, name: &[u8]) -> Result<(), AllocError>
+    ensures { OnOk result (out.new.items ≡ out.old.items ++ name_text depth inline name.now) }
+{
+    if inline {
+        out.extend_from_slice(b" ")?;
+        return put_escaped(out, name);
+    }
+    put_line(out, depth, name)
+}
+
+// The partner behind a leaf.
+fn partner_by(how: &How, block: bool, partner: usize) -> usize
+    ensures { result ≡ partner_by how.now block partner }
+{
+    match how {
+        How::First(place) | How::From(place) => *place,
+        How::Index(place) if block => *place,
+        How::Slash(_, _) | How::To(_) => NONE,
+        _ => partner,
+    }
+}
+
+// Puts the beginning of an element.
+fn put_element<C: Columns>(
+    columns: C,
+    out: &mut Vec<u8>,
+    depth: usize,
+    base: usize,
+    each: bool,
+) -> Result<(), AllocError>
+    ensures { OnOk result (out.new.items ≡ out.old.items ++ element (C.says (C.given columns)) depth base each) }
 {
     if each {
-        return put_line(out, depth, b"-");
+        return put_line(out, depth, name_at(columns, base).as_bytes());
     }
     Ok(())
 }
@@ -174,7 +257,7 @@ fn note<C: Columns>(
     value: &str,
     frames: &mut Vec<Frame>,
 ) -> Result<(), AllocError>
-    ensures { OnOk result (reverse frames.new.items ≡ note C.says (text value.now) how.now (reverse frames.old.items)) }
+    ensures { OnOk result (reverse frames.new.items ≡ note (C.says (C.given columns)) (text value.now) how.now (reverse frames.old.items)) }
 {
     match how {
         How::Kind => note_kind(columns, value, frames),
@@ -184,24 +267,24 @@ fn note<C: Columns>(
 
 // Notes a kind.
 fn note_kind<C: Columns>(columns: C, value: &str, frames: &mut Vec<Frame>) -> Result<(), AllocError>
-    ensures { OnOk result (reverse frames.new.items ≡ note C.says (text value.now) How.Kind (reverse frames.old.items)) }
+    ensures { OnOk result (reverse frames.new.items ≡ note (C.says (C.given columns)) (text value.now) How.Kind (reverse frames.old.items)) }
 {
     let top = match pop(frames) {
         Some(top) => top,
         None => return Ok(()),
     };
     match top {
-        Frame::InMembers(depth, base, place, _) => push(
+        Frame::InMembers(depth, base, _, inline) => push(
             frames,
-            Frame::InMembers(depth, base, place, columns.under(base, value)),
+            Frame::InMembers(depth, base, columns.under(base, value), inline),
         ),
         Frame::InItems(_, _, _, _) => push(frames, top),
     }
 }
 
 // The items behind an object are those of the kind that it says.
-fn settle(next: usize, frames: &mut Vec<Frame>) -> Result<(), AllocError>
-    ensures { OnOk result (reverse frames.new.items ≡ settle next (reverse frames.old.items)) }
+fn settle(place: usize, frames: &mut Vec<Frame>) -> Result<(), AllocError>
+    ensures { OnOk result (reverse frames.new.items ≡ settle place (reverse frames.old.items)) }
 {
     let top = match pop(frames) {
         Some(top) => top,
@@ -209,7 +292,7 @@ fn settle(next: usize, frames: &mut Vec<Frame>) -> Result<(), AllocError>
     };
     match top {
         Frame::InItems(depth, base, _, each) => {
-            push(frames, Frame::InItems(depth, base, next, each))
+            push(frames, Frame::InItems(depth, base, place, each))
         }
         Frame::InMembers(_, _, _, _) => push(frames, top),
     }
@@ -221,9 +304,10 @@ impl Walk {
         ensures { IfOk result (λ w. state_of w ≡ start root) }
     {
         let mut frames = Vec::new(alloc);
-        push(&mut frames, Frame::InMembers(0, root, root, root))?;
+        push(&mut frames, Frame::InMembers(0, root, root, false))?;
         Ok(Walk {
             out: Vec::new(alloc),
+            partner: NONE,
             frames,
             how: How::Through(root),
             depth: 0,
@@ -233,68 +317,72 @@ impl Walk {
 
     // Between values.
     fn rest(&mut self)
-        ensures { state_of self.new ≡ between self.old.out.items (reverse self.old.frames.items) }
+        ensures { state_of self.new ≡ between self.old.out.items self.old.partner (reverse self.old.frames.items) }
     {
         self.how = How::Plain;
         self.depth = 0;
         self.inside = 0;
     }
 
-    // A leaf that is no text is done.
-    fn leaf_done(&mut self)
-        ensures { state_of self.new ≡ leaf_done self.old.inside (state_of self.old) }
+    // A leaf that is no kind is done.
+    fn leaf_done(&mut self, block: bool)
+        ensures { state_of self.new ≡ leaf_done self.old.inside block (state_of self.old) }
     {
         match self.inside.checked_sub(1) {
             Some(_) => {}
-            None => self.rest(),
+            None => {
+                self.partner = partner_by(&self.how, block, self.partner);
+                self.rest();
+            }
         }
     }
 
     /// A truth value.
     pub(crate) fn boolean<C: Columns>(&mut self, columns: C, b: bool) -> Result<(), LinesError>
-        ensures { OnOk result (step C.says (boolean b) (state_of self.old) ≡ Some (state_of self.new)) }
+        ensures { OnOk result (step (C.says (C.given columns)) (boolean b) (state_of self.old) ≡ Some (state_of self.new)) }
     {
-        put_boolean(columns, &mut self.out, &self.how, b)?;
-        self.leaf_done();
+        put_boolean(columns, &mut self.out, self.depth, &self.how, b)?;
+        self.leaf_done(false);
         Ok(())
     }
 
     /// A number.
     pub(crate) fn unsigned<C: Columns>(&mut self, columns: C, n: u64) -> Result<(), LinesError>
-        ensures { OnOk result (step C.says (unsigned n) (state_of self.old) ≡ Some (state_of self.new)) }
+        ensures { OnOk result (step (C.says (C.given columns)) (unsigned n) (state_of self.old) ≡ Some (state_of self.new)) }
     {
-        put_unsigned(columns, &mut self.out, &self.how, n)?;
-        self.leaf_done();
+        put_unsigned(columns, &mut self.out, self.depth, &self.how, n)?;
+        self.leaf_done(false);
         Ok(())
     }
 
     /// A number that may be negative.
     pub(crate) fn signed<C: Columns>(&mut self, columns: C, n: i64) -> Result<(), LinesError>
-        ensures { OnOk result (step C.says (signed n) (state_of self.old) ≡ Some (state_of self.new)) }
+        ensures { OnOk result (step (C.says (C.given columns)) (signed n) (state_of self.old) ≡ Some (state_of self.new)) }
     {
-        put_signed(columns, &mut self.out, &self.how, n)?;
-        self.leaf_done();
+        put_signed(columns, &mut self.out, self.depth, &self.how, n)?;
+        self.leaf_done(is_block(n));
         Ok(())
     }
 
     /// Nothing.
     pub(crate) fn null<C: Columns>(&mut self, columns: C) -> Result<(), LinesError>
-        ensures { OnOk result (step C.says nothing (state_of self.old) ≡ Some (state_of self.new)) }
+        ensures { OnOk result (step (C.says (C.given columns)) nothing (state_of self.old) ≡ Some (state_of self.new)) }
     {
-        put_null(columns, &mut self.out, &self.how)?;
-        self.leaf_done();
+        put_null(columns, &mut self.out, self.depth, &self.how)?;
+        self.leaf_done(false);
         Ok(())
     }
 
     /// A text.
     pub(crate) fn text<C: Columns>(&mut self, columns: C, value: &str) -> Result<(), LinesError>
-        ensures { OnOk result (step C.says (text value.now) (state_of self.old) ≡ Some (state_of self.new)) }
+        ensures { OnOk result (step (C.says (C.given columns)) (text value.now) (state_of self.old) ≡ Some (state_of self.new)) }
     {
-        put_string(columns, &mut self.out, &self.how, value)?;
+        put_string(columns, &mut self.out, self.depth, &self.how, value)?;
         match self.inside.checked_sub(1) {
             Some(_) => Ok(()),
             None => {
                 note(columns, &self.how, value, &mut self.frames)?;
+                self.partner = partner_by(&self.how, false, self.partner);
                 self.rest();
                 Ok(())
             }
@@ -303,7 +391,7 @@ impl Walk {
 
     /// The name of a member.
     pub(crate) fn key<C: Columns>(&mut self, columns: C, name: &str) -> Result<(), LinesError>
-        ensures { OnOk result (step C.says (field_key name.now AsIs) (state_of self.old) ≡ Some (state_of self.new)) }
+        ensures { OnOk result (step (C.says (C.given columns)) (field_key name.now AsIs) (state_of self.old) ≡ Some (state_of self.new)) }
     {
         match self.inside.checked_sub(1) {
             Some(_) => {
@@ -324,34 +412,50 @@ impl Walk {
         name: &str,
         top: Option<Frame>,
     ) -> Result<(), LinesError>
-        ensures { OnOk result (key_in C.says name.now (state_of self.old) top ≡ Some (state_of self.new)) }
+        ensures { OnOk result (key_in (C.says (C.given columns)) name.now (state_of self.old) top ≡ Some (state_of self.new)) }
     {
         match top {
-            Some(Frame::InMembers(depth, base, place, _)) => {
-                let (shown, how) = column_of(columns.columns(place), columns.columns(base), name);
-                self.at_column(depth, shown, how)
+            Some(Frame::InMembers(depth, base, place, inline)) => {
+                let column = column_of(
+                    columns.columns(self.partner),
+                    columns.columns(place),
+                    columns.columns(base),
+                    name,
+                );
+                self.at_column(columns, depth, inline, &column)
             }
             _ => Err(LinesError::NotJson),
         }
     }
 
     // At the value of a column.
-    fn at_column(&mut self, depth: usize, name: &str, how: How) -> Result<(), LinesError>
-        ensures { OnOk result (state_of self.new ≡ named depth name.now how (state_of self.old)) }
+    fn at_column<C: Columns>(
+        &mut self,
+        columns: C,
+        depth: usize,
+        inline: bool,
+        column: &Column<'_>,
+    ) -> Result<(), LinesError>
+        ensures { OnOk result (state_of self.new ≡ named (C.says (C.given columns)) depth inline (column_view column.now) (state_of self.old)) }
     {
-        if has_line(&how) {
-            put_line(&mut self.out, depth, name.as_bytes())?;
+        if has_name(columns.all(), &column.how) {
+            put_name(&mut self.out, depth, inline, column.name.as_bytes())?;
+            if !inline {
+                self.partner = NONE;
+            }
         }
-        self.how = how;
+        self.how = column.how;
         self.depth = depth;
         Ok(())
     }
 
     // Within a line.
-    fn go_inside(&mut self) -> Result<(), LinesError>
-        ensures { OnOk result (state_of self.new ≡ go_inside (state_of self.old)) }
+    fn go_inside<C: Columns>(&mut self, columns: C) -> Result<(), LinesError>
+        ensures { OnOk result (state_of self.new ≡ go_inside (C.says (C.given columns)) (state_of self.old)) }
     {
-        put_opening(&mut self.out, self.depth, &self.how)?;
+        put_opening(columns, &mut self.out, self.depth, &self.how)?;
+        self.partner = NONE;
+        self.how = opened(&self.how);
         self.inside = 1;
         Ok(())
     }
@@ -372,82 +476,80 @@ impl Walk {
     /// An object begins.
     pub(crate) fn begin_map<C: Columns>(
         &mut self,
-        _columns: C,
+        columns: C,
         _len: Option<usize>,
     ) -> Result<(), LinesError>
-        ensures { OnOk result (step C.says (map_begins _len) (state_of self.old) ≡ Some (state_of self.new)) }
+        ensures { OnOk result (step (C.says (C.given columns)) (map_begins _len) (state_of self.old) ≡ Some (state_of self.new)) }
     {
         match self.inside.checked_sub(1) {
             Some(_) => self.deeper(),
             None => {
                 let top = top(&mut self.frames)?;
-                self.map_in(top)
+                self.map_in(columns, top)
             }
         }
     }
 
     // An object begins in what is open.
-    fn map_in(&mut self, top: Option<Frame>) -> Result<(), LinesError>
-        ensures { OnOk result (state_of self.new ≡ map_in (state_of self.old) top) }
+    fn map_in<C: Columns>(&mut self, columns: C, top: Option<Frame>) -> Result<(), LinesError>
+        ensures { OnOk result (state_of self.new ≡ map_in (C.says (C.given columns)) (state_of self.old) top) }
     {
         match top {
             Some(Frame::InItems(depth, base, place, each)) => {
-                self.begin_element(depth, base, place, each)
+                self.begin_element(columns, depth, base, place, each)
             }
-            _ => self.open_map(),
+            _ => self.open_map(columns),
         }
     }
 
     // An object of a list begins.
-    fn begin_element(
+    fn begin_element<C: Columns>(
         &mut self,
+        columns: C,
         depth: usize,
         base: usize,
         place: usize,
         each: bool,
     ) -> Result<(), LinesError>
-        ensures { OnOk result (state_of self.new ≡ between (self.old.out.items ++ element depth each)
-            (Frame.InMembers (element_depth depth each) base place place ∷ reverse self.old.frames.items)) }
+        ensures { OnOk result (state_of self.new ≡ between (self.old.out.items ++ element (C.says (C.given columns)) depth base each) (if each then NONE else self.old.partner)
+            (Frame.InMembers depth base place each ∷ reverse self.old.frames.items)) }
     {
-        put_element(&mut self.out, depth, each)?;
-        let lines = match element_depth(depth, each) {
-            Some(lines) => lines,
-            None => return Err(LinesError::NotJson),
-        };
-        push(
-            &mut self.frames,
-            Frame::InMembers(lines, base, place, place),
-        )?;
+        put_element(columns, &mut self.out, depth, base, each)?;
+        if each {
+            self.partner = NONE;
+        }
+        push(&mut self.frames, Frame::InMembers(depth, base, place, each))?;
         self.rest();
         Ok(())
     }
 
     // An object of a column begins.
-    fn open_map(&mut self) -> Result<(), LinesError>
-        ensures { OnOk result (state_of self.new ≡ open_map (state_of self.old)) }
+    fn open_map<C: Columns>(&mut self, columns: C) -> Result<(), LinesError>
+        ensures { OnOk result (state_of self.new ≡ open_map (C.says (C.given columns)) (state_of self.old)) }
     {
         if !is_nested(&self.how) {
-            return self.go_inside();
+            return self.go_inside(columns);
         }
         let place = place_in(&self.how);
+        let inline = in_line(&self.how);
         let depth = match depth_in(&self.how, self.depth) {
             Some(depth) => depth,
             None => return Err(LinesError::NotJson),
         };
         push(
             &mut self.frames,
-            Frame::InMembers(depth, place, place, place),
+            Frame::InMembers(depth, place, place, inline),
         )?;
         self.rest();
         Ok(())
     }
 
     // A list of a column begins.
-    fn open_seq(&mut self) -> Result<(), LinesError>
-        ensures { OnOk result (state_of self.new ≡ open_seq (state_of self.old)) }
+    fn open_seq<C: Columns>(&mut self, columns: C) -> Result<(), LinesError>
+        ensures { OnOk result (state_of self.new ≡ open_seq (C.says (C.given columns)) (state_of self.old)) }
     {
         if !is_nested(&self.how) {
-            return self.go_inside();
+            return self.go_inside(columns);
         }
         let place = place_in(&self.how);
         let each = has_elements(&self.how);
@@ -463,14 +565,14 @@ impl Walk {
     /// A list begins.
     pub(crate) fn begin_seq<C: Columns>(
         &mut self,
-        _columns: C,
+        columns: C,
         _len: Option<usize>,
     ) -> Result<(), LinesError>
-        ensures { OnOk result (step C.says (seq_begins _len) (state_of self.old) ≡ Some (state_of self.new)) }
+        ensures { OnOk result (step (C.says (C.given columns)) (seq_begins _len) (state_of self.old) ≡ Some (state_of self.new)) }
     {
         match self.inside.checked_sub(1) {
             Some(_) => self.deeper(),
-            None => self.open_seq(),
+            None => self.open_seq(columns),
         }
     }
 
@@ -486,7 +588,7 @@ impl Walk {
 
     /// An object ends.
     pub(crate) fn end_map<C: Columns>(&mut self, _columns: C) -> Result<(), LinesError>
-        ensures { OnOk result (step C.says map_ends (state_of self.old) ≡ Some (state_of self.new)) }
+        ensures { OnOk result (step (C.says (C.given _columns)) map_ends (state_of self.old) ≡ Some (state_of self.new)) }
     {
         match self.inside.checked_sub(1) {
             Some(inside) => {
@@ -502,8 +604,8 @@ impl Walk {
         ensures { OnOk result (close_map (state_of self.old) (reverse self.old.frames.items) ≡ Some (state_of self.new)) }
     {
         match pop(&mut self.frames) {
-            Some(Frame::InMembers(_, _, _, next)) => {
-                settle(next, &mut self.frames)?;
+            Some(Frame::InMembers(_, _, place, _)) => {
+                settle(place, &mut self.frames)?;
                 self.rest();
                 Ok(())
             }
@@ -513,7 +615,7 @@ impl Walk {
 
     /// A list ends.
     pub(crate) fn end_seq<C: Columns>(&mut self, _columns: C) -> Result<(), LinesError>
-        ensures { OnOk result (step C.says seq_ends (state_of self.old) ≡ Some (state_of self.new)) }
+        ensures { OnOk result (step (C.says (C.given _columns)) seq_ends (state_of self.old) ≡ Some (state_of self.new)) }
     {
         match self.inside.checked_sub(1) {
             Some(inside) => {
@@ -567,15 +669,4 @@ fn top(frames: &mut Vec<Frame>) -> Result<Option<Frame>, AllocError>
     };
     push(frames, frame)?;
     Ok(Some(frame))
-}
-
-// The depth of the lines of an element.
-fn element_depth(depth: usize, each: bool) -> Option<usize>
-    ensures { IfSome result (λ n. n ≡ element_depth depth each) }
-{
-    if each {
-        depth.checked_add(1)
-    } else {
-        Some(depth)
-    }
 }

@@ -1,4 +1,6 @@
 pub mod Page
+pub mod Text
 pub mod Fault
 pub mod Check
 pub mod Located
+pub mod Outline

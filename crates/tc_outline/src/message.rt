@@ -1,32 +1,62 @@
 //! A message as lines.
 
-ghost use Rattle.std.specs.Prelude.{◌≡◌, ◌≤◌, length, IfOk, IfSome, option_map};
+ghost use Rattle.std.specs.Prelude.{◌≡◌, ◌≤◌, ◌++◌, [], List, ℕ, None, true, length, IfOk, IfSome, option_map};
 ghost use Rattle.tc_outline.specs.Located.{items_of_message, message_fault};
+ghost use Rattle.tc_outline.specs.Outline.{shown_lines, what_of};
+ghost use Rattle.tc_outline.specs.Text.{has_lines, text_on};
 
 use crate::fault::Fault;
-use crate::names::Interfaces;
-use crate::page::Page;
+use crate::page::{Layout, Page};
 use crate::reader::locate;
 use crate::what::What;
-use std::alloc::{AllocError, Allocator};
+use std::alloc::{AllocError, Allocator, Global};
+use tc_columns::{KindColumns, Root};
+use tc_kinds::TcTables;
+use tc_lines::lines_of;
 
-/// Shows a message, the payload of a netlink message, where the page ends. Its header comes on the line that is begun,
-/// each attribute on a line of its own, and where the message is refused its first fault on the last one; that fault is
-/// returned.
+// Which of the two messages speaks of this.
+fn what_of(root: Root) -> What
+    ensures { result ≡ what_of root }
+{
+    match root {
+        Root::Action | Root::Flush => What::Action,
+        Root::Filter | Root::U32Filter => What::Filter,
+        Root::Qdisc => What::Qdisc,
+        Root::Class => What::Class,
+        Root::Chain => What::Chain,
+    }
+}
+
+// The line of a fault.
+fn line_of(alloc: Global, fault: &Fault) -> Result<Page<Global>, AllocError> {
+    let mut line = Page::new(alloc, Layout::Lines);
+    line.begin(0)?;
+    fault.show(&mut line)?;
+    Ok(line)
+}
+
+/// Shows a message, the payload of a netlink message, where the page ends, by these columns. Its header goes on with the line that is
+/// begun, each attribute has a line of its own, and where the message is refused its first fault the last one; that fault is returned.
 pub fn outline<A: Allocator>(
+    alloc: Global,
     page: &mut Page<A>,
     bytes: &[u8],
-    what: What,
-    _names: &Interfaces<'_>,
+    columns: KindColumns<'_>,
 ) -> Result<Option<Fault>, AllocError>
+    // Where the page has lines, they are those of what is shown of the bytes, and the fault's.
+    ensures text { has_lines page.old ≡ true → IfOk result (λ found. (line : List ℕ) × (text_on page.new ≡ (text_on page.old ++ shown_lines columns bytes.now) ++ line)
+        × (found ≡ None → line ≡ [])) }
     ensures error { IfOk result (λ found. option_map (λ fault. fault.error) found
-        ≡ message_fault (items_of_message what bytes.now)) }
+        ≡ message_fault (items_of_message (what_of columns.root) bytes.now)) }
     ensures place { IfOk result (λ found. IfSome found (λ fault. fault.offset ≤ length bytes.now)) }
 {
-    let fault = locate(bytes, what);
+    match lines_of(alloc, TcTables, columns.root.form(), columns, bytes) {
+        Ok(text) => page.lines(&text)?,
+        Err(_) => return Err(AllocError),
+    }
+    let fault = locate(bytes, what_of(columns.root));
     if let Some(fault) = &fault {
-        page.begin(0)?;
-        fault.show(page)?;
+        page.lines(line_of(alloc, fault)?.bytes())?;
     }
     page.end()?;
     Ok(fault)

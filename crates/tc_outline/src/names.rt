@@ -1,4 +1,4 @@
-//! Names for numbers.
+//! Names that the caller knows.
 
 /// The names of interfaces by their numbers, as the caller knows them.
 #[derive(Clone, Copy, Debug)]

@@ -7,7 +7,7 @@ mod texts;
 
 use itoa::Buffer;
 use std::alloc::{AllocError, Allocator};
-use texts::{is_printable, is_word};
+use texts::{are_shown, is_printable, is_word, margin_of};
 
 /// How a message is laid out.
 #[derive(Clone, Copy, PartialEq, Eq, Debug)]
@@ -29,6 +29,11 @@ pub struct Page<A: Allocator> {
 }
 
 impl<A: Allocator> Page<A> {
+    ghost use Rattle.std.specs.Char.{digit_char};
+    ghost use Rattle.std.specs.Prelude.{◌≡◌, ◌++◌, ◌∷◌, [], ◌/◌, ◌%◌, OnOk, true};
+    ghost use Rattle.tc_outline.specs.Page.{escaped_byte, shown};
+    ghost use Rattle.tc_outline.specs.Text.{has_lines, text_on};
+
     /// An empty page.
     pub fn new(alloc: A, layout: Layout) -> Self {
         Page {
@@ -56,6 +61,32 @@ impl<A: Allocator> Page<A> {
         self.escaped(text.as_bytes())
     }
 
+    /// Lines: what goes on with the line that is begun, and after it each line behind a line feed and two blanks for each level.
+    pub fn lines(&mut self, text: &[u8]) -> Result<(), AllocError>
+        ensures form { has_lines self.old ≡ true → has_lines self.new ≡ true }
+        ensures text { has_lines self.old ≡ true → OnOk result (text_on self.new ≡ text_on self.old ++ shown text.now) }
+    {
+        if self.has_lines {
+            self.shown(text)
+        } else {
+            self.on_one_line(text)
+        }
+    }
+
+    // The same on one line: its lines in the braces of their depths.
+    fn on_one_line(&mut self, text: &[u8]) -> Result<(), AllocError> {
+        for (at, line) in text.split(|byte| *byte == b'\n').enumerate() {
+            if at == 0 {
+                self.escaped(line)?;
+            } else {
+                let (blanks, line) = line.split_at(margin_of(line));
+                self.begin(blanks.len() / 2)?;
+                self.escaped(line)?;
+            }
+        }
+        Ok(())
+    }
+
     /// A text in quotes, unless it consists of letters, digits, `_`, `-` and `.` alone.
     pub fn quoted(&mut self, text: &[u8]) -> Result<(), AllocError> {
         if is_word(text) {
@@ -71,40 +102,10 @@ impl<A: Allocator> Page<A> {
         self.byte(b'"')
     }
 
-    /// A name such as `MemoryLimit` as `memory_limit`.
-    pub fn name(&mut self, name: &str) -> Result<(), AllocError> {
-        for (at, byte) in name.as_bytes().iter().enumerate() {
-            if byte.is_ascii_uppercase() && at != 0 {
-                self.byte(b'_')?;
-            }
-            self.escaped_byte(byte.to_ascii_lowercase())?;
-        }
-        Ok(())
-    }
-
     /// A number.
     pub fn number(&mut self, n: u64) -> Result<(), AllocError> {
         let mut buffer = Buffer::new();
         self.text(buffer.format(n))
-    }
-
-    /// A signed number.
-    pub fn signed(&mut self, n: i64) -> Result<(), AllocError> {
-        let mut buffer = Buffer::new();
-        self.text(buffer.format(n))
-    }
-
-    /// A number in hex, without zeros in front.
-    pub fn hex_number(&mut self, n: u64) -> Result<(), AllocError> {
-        let mut begun = false;
-        for place in 0..16u32 {
-            let digit = (n >> (60 - 4 * place)) % 16;
-            if begun || digit != 0 || place == 15 {
-                begun = true;
-                self.digit(digit as u8)?;
-            }
-        }
-        Ok(())
     }
 
     /// Bytes in hex; `empty` where there are none.
@@ -118,10 +119,18 @@ impl<A: Allocator> Page<A> {
         Ok(())
     }
 
-    /// A byte as two digits in hex.
-    pub fn hex_byte(&mut self, byte: u8) -> Result<(), AllocError> {
-        self.digit(byte >> 4)?;
-        self.digit(byte & 0xf)
+    /// The last digit of a number in hex.
+    pub fn hex_digit(&mut self, n: u16) -> Result<(), AllocError> {
+        self.digit((n % 16) as u8)
+    }
+
+    // A byte as two digits in hex.
+    fn hex_byte(&mut self, byte: u8) -> Result<(), AllocError>
+        ensures form { has_lines self.new ≡ has_lines self.old }
+        ensures text { OnOk result (text_on self.new ≡ text_on self.old ++ digit_char (byte / 16) ∷ digit_char (byte % 16) ∷ []) }
+    {
+        self.digit(byte / 16)?;
+        self.digit(byte % 16)
     }
 
     /// A blank.
@@ -139,7 +148,9 @@ impl<A: Allocator> Page<A> {
     }
 
     /// Ends a message: the braces of the lists that are open.
-    pub fn end(&mut self) -> Result<(), AllocError> {
+    pub fn end(&mut self) -> Result<(), AllocError>
+        ensures { has_lines self.old ≡ true → text_on self.new ≡ text_on self.old }
+    {
         let open = self.depth;
         self.depth = 0;
         if !self.has_lines {
@@ -170,9 +181,32 @@ impl<A: Allocator> Page<A> {
         self.blank()
     }
 
-    fn line_feed(&mut self) -> Result<(), AllocError> {
+    fn line_feed(&mut self) -> Result<(), AllocError>
+        ensures form { has_lines self.new ≡ has_lines self.old }
+        ensures text { has_lines self.old ≡ true → OnOk result (text_on self.new ≡ text_on self.old ++ 10 ∷ []) }
+    {
         if self.has_lines {
             self.bytes.push(b'\n')?;
+        }
+        Ok(())
+    }
+
+    // Text and line feeds.
+    #[tactic(auto, using(crate::proofs::Shown::shown_is))]
+    fn shown(&mut self, text: &[u8]) -> Result<(), AllocError>
+        requires { has_lines self.old ≡ true }
+        ensures form { has_lines self.new ≡ has_lines self.old }
+        ensures text { OnOk result (text_on self.new ≡ text_on self.old ++ shown text.now) }
+    {
+        if are_shown(text) {
+            return self.bytes.extend_from_slice(text);
+        }
+        for byte in text {
+            if *byte == b'\n' {
+                self.line_feed()?;
+            } else {
+                self.escaped_byte(*byte)?;
+            }
         }
         Ok(())
     }
@@ -187,7 +221,10 @@ impl<A: Allocator> Page<A> {
         Ok(())
     }
 
-    fn escaped_byte(&mut self, byte: u8) -> Result<(), AllocError> {
+    fn escaped_byte(&mut self, byte: u8) -> Result<(), AllocError>
+        ensures form { has_lines self.new ≡ has_lines self.old }
+        ensures text { OnOk result (text_on self.new ≡ text_on self.old ++ escaped_byte byte) }
+    {
         if 0x20 <= byte && byte <= 0x7e {
             return self.byte(byte);
         }
@@ -199,6 +236,8 @@ impl<A: Allocator> Page<A> {
     // A digit in hex.
     fn digit(&mut self, digit: u8) -> Result<(), AllocError>
         requires { digit < 16 }
+        ensures form { has_lines self.new ≡ has_lines self.old }
+        ensures text { OnOk result (text_on self.new ≡ text_on self.old ++ digit_char digit ∷ []) }
     {
         if digit < 10 {
             self.byte(b'0' + digit)
@@ -210,6 +249,8 @@ impl<A: Allocator> Page<A> {
     // A byte that is printable.
     fn byte(&mut self, byte: u8) -> Result<(), AllocError>
         requires { IsTrue (is_printable byte) }
+        ensures form { has_lines self.new ≡ has_lines self.old }
+        ensures text { OnOk result (text_on self.new ≡ text_on self.old ++ byte ∷ []) }
     {
         self.bytes.push(byte)?;
         Ok(())

@@ -1,10 +1,35 @@
 //! What the attributes of a kind are, for people.
 
+use crate::example::write_example;
 use std::fmt;
 use tc_forms::{Choice, Field, Form, KindRows, Name, Number, Part, Row, Tables};
+use tc_units::Name as Bit;
 
 // How deep attributes are explained.
 const DEEPEST: u8 = 12;
+
+/// What is known of numbers beside their forms, by the place of the part of the table that they are in, and their names.
+pub trait Notes: Copy {
+    /// What a number counts; empty where that isn't known.
+    fn unit(self, place: usize, name: &str) -> &'static str;
+
+    /// The names of the bits of a flag word.
+    fn bits(self, place: usize, name: &str) -> &'static [Bit<'static>];
+}
+
+/// Nothing is known.
+#[derive(Clone, Copy)]
+pub struct NoNotes;
+
+impl Notes for NoNotes {
+    fn unit(self, _place: usize, _name: &str) -> &'static str {
+        ""
+    }
+
+    fn bits(self, _place: usize, _name: &str) -> &'static [Bit<'static>] {
+        &[]
+    }
+}
 
 // The form of a number, in a word.
 fn number_word(of: Number) -> &'static str {
@@ -69,19 +94,39 @@ fn indent<W: fmt::Write>(out: &mut W, depth: u8) -> fmt::Result {
     Ok(())
 }
 
-// A line: a name and a form.
-fn write_line<W: fmt::Write>(out: &mut W, depth: u8, name: &str, form: Form) -> fmt::Result {
+// A line: a name, a form and a unit; below it the names of bits.
+fn write_line<N: Notes, W: fmt::Write>(
+    notes: N,
+    place: usize,
+    depth: u8,
+    name: &str,
+    form: Form,
+    out: &mut W,
+) -> fmt::Result {
     indent(out, depth)?;
     out.write_str(name)?;
     out.write_str(": ")?;
     write_form(out, form)?;
-    out.write_char('\n')
+    let unit = notes.unit(place, name);
+    if !unit.is_empty() {
+        out.write_str(", ")?;
+        out.write_str(unit)?;
+    }
+    out.write_char('\n')?;
+    for bit in notes.bits(place, name) {
+        indent(out, depth.saturating_sub(1))?;
+        out.write_str(bit.name)?;
+        let number = bit.number;
+        write!(out, " = {number:#x}\n")?;
+    }
+    Ok(())
 }
 
 // What is within a form.
 #[cycle(explain)]
-fn explain_form<T: Tables, W: fmt::Write>(
+fn explain_form<T: Tables, N: Notes, W: fmt::Write>(
     table: T,
+    notes: N,
     depth: u8,
     form: Form,
     out: &mut W,
@@ -94,12 +139,12 @@ fn explain_form<T: Tables, W: fmt::Write>(
         return Ok(());
     };
     match table.part(place) {
-        Part::One(form) => explain_form(table, inner, form, out),
+        Part::One(form) => explain_form(table, notes, inner, form, out),
         Part::Names(names) => write_names(out, inner, names),
-        Part::Fields(fields) => explain_fields(table, inner, fields, out),
-        Part::Rows(_, rows) => explain_rows(table, inner, rows, out),
+        Part::Fields(fields) => explain_fields(table, notes, place, inner, fields, out),
+        Part::Rows(_, rows) => explain_rows(table, notes, place, inner, rows, out),
         Part::Kinds(_, _, _) => Ok(()),
-        Part::Choices(choices) => explain_choices(table, inner, choices, out),
+        Part::Choices(choices) => explain_choices(table, notes, place, inner, choices, out),
     }
 }
 
@@ -115,43 +160,49 @@ fn write_names<W: fmt::Write>(out: &mut W, depth: u8, names: &[Name<'_>]) -> fmt
 }
 
 #[cycle(explain)]
-fn explain_fields<T: Tables, W: fmt::Write>(
+fn explain_fields<T: Tables, N: Notes, W: fmt::Write>(
     table: T,
+    notes: N,
+    place: usize,
     depth: u8,
     fields: &[Field<'_>],
     out: &mut W,
 ) -> fmt::Result {
     for field in fields {
-        write_line(out, depth, field.name, field.form)?;
-        explain_form(table, depth, field.form, out)?;
+        write_line(notes, place, depth, field.name, field.form, out)?;
+        explain_form(table, notes, depth, field.form, out)?;
     }
     Ok(())
 }
 
 #[cycle(explain)]
-fn explain_rows<T: Tables, W: fmt::Write>(
+fn explain_rows<T: Tables, N: Notes, W: fmt::Write>(
     table: T,
+    notes: N,
+    place: usize,
     depth: u8,
     rows: &[Row<'_>],
     out: &mut W,
 ) -> fmt::Result {
     for row in rows {
-        write_line(out, depth, row.name, row.form)?;
-        explain_form(table, depth, row.form, out)?;
+        write_line(notes, place, depth, row.name, row.form, out)?;
+        explain_form(table, notes, depth, row.form, out)?;
     }
     Ok(())
 }
 
 #[cycle(explain)]
-fn explain_choices<T: Tables, W: fmt::Write>(
+fn explain_choices<T: Tables, N: Notes, W: fmt::Write>(
     table: T,
+    notes: N,
+    place: usize,
     depth: u8,
     choices: &[Choice<'_>],
     out: &mut W,
 ) -> fmt::Result {
     for choice in choices {
-        write_line(out, depth, choice.name, choice.form)?;
-        explain_form(table, depth, choice.form, out)?;
+        write_line(notes, place, depth, choice.name, choice.form, out)?;
+        explain_form(table, notes, depth, choice.form, out)?;
     }
     Ok(())
 }
@@ -205,9 +256,10 @@ fn kinds_of<T: Tables>(table: T, place: usize) -> &'static [KindRows<'static>] {
     &[]
 }
 
-/// Writes the attributes of a kind, by the list with kinds at a place. False where the list has no such kind.
-pub fn explain_kind<T: Tables, W: fmt::Write>(
+/// Writes the attributes of a kind and an example, by the list with kinds at a place. False where the list has no such kind.
+pub fn explain_kind<T: Tables, N: Notes, W: fmt::Write>(
     table: T,
+    notes: N,
     place: usize,
     kind: &str,
     out: &mut W,
@@ -216,7 +268,9 @@ pub fn explain_kind<T: Tables, W: fmt::Write>(
         if one.kind == kind {
             out.write_str(kind)?;
             out.write_char('\n')?;
-            explain_form(table, DEEPEST, Form::List(one.rows), out)?;
+            explain_form(table, notes, DEEPEST, Form::List(one.rows), out)?;
+            out.write_str("example: ")?;
+            write_example(table, DEEPEST, kind, one.rows, out)?;
             return Ok(true);
         }
     }

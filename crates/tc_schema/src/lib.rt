@@ -3,10 +3,11 @@
 #![tactic(auto)]
 
 mod defs;
+mod example;
 pub mod explain;
 pub mod line;
 pub mod output;
 
 pub use defs::Schema;
-pub use explain::{explain_kind, knows_kind, list_with_kinds, write_kinds};
+pub use explain::{NoNotes, Notes, explain_kind, knows_kind, list_with_kinds, write_kinds};
 pub use line::write_schema;

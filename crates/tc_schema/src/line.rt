@@ -5,7 +5,7 @@ use std::alloc::Allocator;
 use std::fmt;
 use tc_forms::{Form, Tables};
 
-// What a line begins with, and what is said of a message.
+// What a line begins with, and what is said of a message, of an answer, of a place without a message, and at the end.
 const BEGINNING: &str = r##"{"$schema":"https://json-schema.org/draft/2020-12/schema",
 "title":"A line of tcshow --json",
 "type":"object","properties":{
@@ -25,9 +25,11 @@ const BEGINNING: &str = r##"{"$schema":"https://json-schema.org/draft/2020-12/sc
 "errno":{"type":"string"},"text":{"type":"string"},
 "request":{"type":"object","properties":{"type":{"type":"string"},"flags":{"type":"integer"},"seq":{"type":"integer"},
 "portid":{"type":"integer"},"message":{"$ref":"#/$defs/message"}},"required":["type","flags","seq"],"additionalProperties":false},
+"note":{"type":"string"},"at":{"type":"integer","minimum":0},
+"summary":{"type":"object"},"all":{"type":"object","additionalProperties":{"type":"integer","minimum":0}},
 "message":{"$ref":"#/$defs/message"}},
 "oneOf":[{"required":["message","settled","canonical","fits"]},{"required":["message","refused","offset","path"]},{"required":["errno",
-"request"]}],
+"request"]},{"required":["note","at"]},{"required":["summary","all"]}],
 "additionalProperties":false,
 "##;
 

@@ -2,6 +2,7 @@
 use Rattle.std.specs.Prelude.{Bool, List, [], codes, decimal, if◌then◌else◌, nat_lt, ℕ, ◌%◌, ◌&&◌, ◌*◌, ◌+◌, ◌++◌, ◌/◌, ◌==◌, ◌^◌, ◌||◌, ◌∷◌}
 use Rattle.tc_units.specs.Numerals.{bracketed, hex_text, long_hex_text}
 use Rattle.tc_units.specs.Times.{clock_text, ticks_text, time_in}
+use Rattle.tc_units.specs.Values.{u32_handle_text}
 use Rattle.tc_units.specs.declared.unit.Unit.{Unit}
 use Rattle.tc_units.specs.declared.unit.Unit.TheVariants as unit
 
@@ -62,3 +63,4 @@ number_text unit.ClockTicks n = clock_text n
 number_text unit.Percent n = decimal n ++ codes "%"
 number_text unit.Probability n = probability_text n
 number_text unit.Power n = power_text n
+number_text unit.U32Handle n = u32_handle_text n

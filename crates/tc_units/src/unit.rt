@@ -37,4 +37,6 @@ pub enum Unit {
     Probability,
     /// The exponent of a power of two.
     Power,
+    /// The handle of a filter of kind u32, as `tc` writes it.
+    U32Handle,
 }

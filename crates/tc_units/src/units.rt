@@ -6,6 +6,7 @@ ghost use Rattle.tc_units.specs.Units.{bits_text, decimals, number_text, percent
 use crate::numerals::{put_decimal, put_hex, put_long_hex, put_wide};
 use crate::times::{put_clock, put_ticks, put_time_in};
 use crate::unit::Unit;
+use crate::values::put_u32_handle;
 use std::alloc::{AllocError, Allocator};
 
 /// Puts a number in its unit: exact, and behind it in brackets what it is to people.
@@ -30,6 +31,7 @@ pub fn put_number<A: Allocator>(out: &mut Vec<u8, A>, unit: Unit, n: u64) -> Res
         Unit::Percent => put_counted(out, n, b"%"),
         Unit::Probability => put_probability(out, n),
         Unit::Power => put_power(out, n),
+        Unit::U32Handle => put_u32_handle(out, n),
     }
 }
 

@@ -44,7 +44,7 @@ pub fn put_verdict<A: Allocator>(out: &mut Vec<u8, A>, n: u32) -> Result<(), All
 }
 
 /// Puts the handle of a filter of kind u32 as tc writes it: `800::800`.
-pub fn put_u32_handle<A: Allocator>(out: &mut Vec<u8, A>, n: u32) -> Result<(), AllocError>
+pub fn put_u32_handle<A: Allocator>(out: &mut Vec<u8, A>, n: u64) -> Result<(), AllocError>
     ensures { OnOk result (out.new.items ≡ out.old.items ++ u32_handle_text n) }
 {
     if n == 0 {
@@ -55,31 +55,31 @@ pub fn put_u32_handle<A: Allocator>(out: &mut Vec<u8, A>, n: u32) -> Result<(), 
     put_node(out, n % 0x1000)
 }
 
-fn put_table<A: Allocator>(out: &mut Vec<u8, A>, n: u32) -> Result<(), AllocError>
+fn put_table<A: Allocator>(out: &mut Vec<u8, A>, n: u64) -> Result<(), AllocError>
     ensures { OnOk result (out.new.items ≡ out.old.items ++ table_text n) }
 {
     if n == 0 {
         return Ok(());
     }
-    put_digits(out, n as u64)?;
+    put_digits(out, n)?;
     out.extend_from_slice(b":")
 }
 
-fn put_bucket<A: Allocator>(out: &mut Vec<u8, A>, n: u32) -> Result<(), AllocError>
+fn put_bucket<A: Allocator>(out: &mut Vec<u8, A>, n: u64) -> Result<(), AllocError>
     ensures { OnOk result (out.new.items ≡ out.old.items ++ bucket_text n) }
 {
     if n == 0 {
         return Ok(());
     }
-    put_digits(out, n as u64)
+    put_digits(out, n)
 }
 
-fn put_node<A: Allocator>(out: &mut Vec<u8, A>, n: u32) -> Result<(), AllocError>
+fn put_node<A: Allocator>(out: &mut Vec<u8, A>, n: u64) -> Result<(), AllocError>
     ensures { OnOk result (out.new.items ≡ out.old.items ++ node_text n) }
 {
     if n == 0 {
         return Ok(());
     }
     out.extend_from_slice(b":")?;
-    put_digits(out, n as u64)
+    put_digits(out, n)
 }

@@ -3,12 +3,13 @@
 
 use std::io;
 use std::process::ExitCode;
+use tc_chosen::Chosen;
 use tc_kinds::{ACTION_MESSAGE, TC_MESSAGE, TcTables};
 use tc_outline::Interfaces;
 use tcmake_lib::arguments::{Making, Request};
 use tcmake_lib::message::Forms;
 use tcmake_lines::Form;
-use tcshow_lib::asked::{Asked, Chosen};
+use tcshow_lib::asked::Asked;
 
 fn main(rt: HostRuntime) -> ExitCode {
     let alloc = rt.alloc();
@@ -16,12 +17,9 @@ fn main(rt: HostRuntime) -> ExitCode {
     let mut lines = Vec::new(alloc);
     let asked = Asked {
         form: tcshow_lib::asked::Form::Json,
+        all: false,
         without_header: None,
-        chosen: Chosen {
-            kind: None,
-            rtm: None,
-            interface: None,
-        },
+        chosen: Chosen::ALL,
         names: Interfaces { names: &[] },
         has_summary: false,
     };

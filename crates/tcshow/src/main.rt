@@ -1,9 +1,10 @@
 //! Shows the traffic control messages of a capture, or of lines of hex.
 #![tactic(auto)]
 
+use std::io::IsTerminal;
 use std::process::ExitCode;
 use tcshow_lib::program::tcshow;
 
 fn main(rt: HostRuntime) -> ExitCode {
-    tcshow(&rt, &mut rt.stderr())
+    tcshow(&rt, rt.stdout().is_terminal(), &mut rt.stderr())
 }

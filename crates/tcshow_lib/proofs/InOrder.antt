@@ -1,7 +1,6 @@
 -- What is found in an input, in its order.
 use Rattle.std.proofs.Common.{◌≡◌, ◌∙◌, ◌<◌, ℕ, Bool, true, false, List, [], ◌∷◌, ◌++◌, length, take, refl, sym, ap, subst, append_assoc, append-nil}
 use Rattle.std.specs.Prelude.{Option, Some, None, IfSome, if◌then◌else◌}
-use Rattle.std.proofs.lemmas.Bool.{lt-ltb}
 use Rattle.std.specs.Io.KnownBytes.{Keeps, prepend_known}
 use Rattle.tc_capture.specs.declared.kind.Holds.{Holds}
 use Rattle.tc_capture.specs.Capture.{State, capture_at}
@@ -12,9 +11,11 @@ use Rattle.tc_input.specs.declared.pieces.Gap.TheVariants.{More, Skipped, Broken
 use Rattle.tc_input.specs.Left.{Gives}
 use Rattle.tc_input.specs.Lines.{most_line, lines_left, lines_of, IsLineGap}
 use Rattle.tc_input.specs.Pieces.{found_in, pieces_left, IsGap}
-use Rattle.tc_input.specs.Text.{OnLine, too_long, digits_of, on_digits, on_line}
+use Rattle.tc_input.specs.Text.{OnLine, on_line}
+use Rattle.tc_input.proofs.LongLines.{long_is_apart, long_is_said}
 use Rattle.tcshow_lib.specs.Found.{Thing, hole}
 use Rattle.tcshow_lib.specs.Reading.{things_in_piece, packets_after, things_in_pieces, things_in_gap, is_passed, things_said, things_on_lines, is_hex_text}
+use Rattle.tcshow_lib.specs.Reading.{things_dumped, things_by_place, things_at, dump_by_place, dump_after}
 use Rattle.tcshow_lib.specs.Reading.{things_by, things_in_file, AreIn, Begins, capture_left, text_left, GivesUpTo}
 
 pub gives_none : (a : Option (List Thing)) → Gives a [] a
@@ -80,46 +81,75 @@ same_place n s t on xs before after same given = subst (λ (k : State). GivesUpT
 
 -- ---- of lines of hex
 
-pub line_gives : (header : Option Holds) (line : List ℕ) (before : Option (List ℕ)) (now gone : List ℕ) (reader : Option (List ℕ))
-    → Gives (lines_left before) (line ∷ []) (lines_left (prepend_known gone reader)) → now ≡ gone
-    → Gives (text_left header before) (things_said header (on_line line)) (text_left header (prepend_known now reader))
-line_gives header line None now gone reader h used = tt
-line_gives header line (Some b) now gone None h used = absurd h
-line_gives header line (Some b) now gone (Some r) h used =
-    ap (things_on_lines header) h ∙ ap (λ l. things_said header (on_line line) ++ things_on_lines header (lines_of (l ++ r))) (sym used)
+module _ (header : Option Holds) (dump line : List ℕ) where
+  pub line_gives : (next : List ℕ) (before : Option (List ℕ)) (now gone : List ℕ) (reader : Option (List ℕ))
+      → Gives (lines_left before) (line ∷ []) (lines_left (prepend_known gone reader)) → now ≡ gone → next ≡ dump_after dump line
+      → Gives (text_left header dump before) (things_at header dump line) (text_left header next (prepend_known now reader))
+  line_gives next None now gone reader h used kept = tt
+  line_gives next (Some b) now gone None h used kept = absurd h
+  line_gives next (Some b) now gone (Some r) h used kept =
+      ap (things_on_lines header dump) h
+      ∙ ap (λ l. things_at header dump line ++ things_on_lines header (dump_after dump line) (lines_of (l ++ r))) (sym used)
+      ∙ ap (λ d. things_at header dump line ++ things_on_lines header d (lines_of (now ++ r))) (sym kept)
 
-pub first_gives : (header : Option Holds) (line : List ℕ) (before after : Option (List ℕ)) → Gives (lines_left before) (line ∷ []) (lines_left after)
-    → Gives (text_left header before) (things_said header (on_line line)) (text_left header after)
-first_gives header line None after h = tt
-first_gives header line (Some b) None h = absurd h
-first_gives header line (Some b) (Some a) h = ap (things_on_lines header) h
+  first_gives : (before after : Option (List ℕ)) → Gives (lines_left before) (line ∷ []) (lines_left after)
+      → Gives (text_left header dump before) (things_at header dump line) (text_left header (dump_after dump line) after)
+  first_gives None after h = tt
+  first_gives (Some b) None h = absurd h
+  first_gives (Some b) (Some a) h = ap (things_on_lines header dump) h
 
-pub text_kept : (header : Option Holds) (before after : Option (List ℕ)) → Keeps before after → Gives (text_left header before) [] (text_left header after)
-text_kept header None after kept = tt
-text_kept header (Some x) None kept = absurd kept
-text_kept header (Some x) (Some y) kept = ap (λ l. things_on_lines header (lines_of l)) (sym kept)
+  -- the last line, and the dump that ends with it
+  pub last_gives : (before : Option (List ℕ)) → Gives (lines_left before) (line ∷ []) (Some [])
+      → Gives (text_left header dump before) (things_at header dump line ++ things_dumped header (dump_after dump line)) (Some [])
+  last_gives None h = tt
+  last_gives (Some b) h = ap (things_on_lines header dump) h ∙ sym (append-nil (things_at header dump line ++ things_dumped header (dump_after dump line)))
 
-pub last_gives : (header : Option Holds) (line : List ℕ) (before : Option (List ℕ)) → Gives (lines_left before) (line ∷ []) (Some [])
-    → Gives (text_left header before) (things_said header (on_line line)) (Some [])
-last_gives header line None h = tt
-last_gives header line (Some b) h = ap (things_on_lines header) h
+  -- a line that is too long is no line of a dump
+  module _ (long : most_line < length line) where
+    long_things : things_at header dump line ≡ things_dumped header dump ++ (hole false ∷ [])
+    long_things =
+        ap (things_by_place header dump line) (long_is_apart line long dump)
+        ∙ ap (λ (said : OnLine). things_dumped header dump ++ things_said header said) (long_is_said line long)
 
--- a line that is too long
-said-long : (line : List ℕ) → most_line < length line → on_line line ≡ too_long
-said-long line long = ap (λ (t : Bool). if t then too_long else on_digits (digits_of line)) (lt-ltb most_line (length line) long)
+    no_dump : dump_after dump line ≡ []
+    no_dump = ap (dump_by_place dump) (long_is_apart line long dump)
 
-pub long_gives : (header : Option Holds) (n : ℕ) (on : Bool) (now : List ℕ) (before after : Option (List ℕ)) → IsLineGap (line_gap.Long n on) now before after
-    → GivesUpTo on (text_left header before) (hole false ∷ []) (text_left header after)
-long_gives header n true now before after h =
-    subst (λ (said : OnLine). Gives (text_left header before) (things_said header said) (text_left header after)) (said-long h.0 h.1)
-    (first_gives header h.0 before after h.2)
-long_gives header n false now before after h =
-    subst (λ (said : OnLine). Gives (text_left header before) (things_said header said) (Some [])) (said-long h.0 h.1) (last_gives header h.0 before h.2)
+    long_goes_on : (next : List ℕ) (before after : Option (List ℕ)) → Gives (lines_left before) (line ∷ []) (lines_left after) → next ≡ []
+        → Gives (text_left header dump before) (things_dumped header dump ++ (hole false ∷ [])) (text_left header next after)
+    long_goes_on next before after h none =
+        subst (λ d. Gives (text_left header dump before) (things_dumped header dump ++ (hole false ∷ [])) (text_left header d after)) (no_dump ∙ sym none)
+        (subst (λ xs. Gives (text_left header dump before) xs (text_left header (dump_after dump line) after)) long_things (first_gives before after h))
+
+    long_ends : (before : Option (List ℕ)) → Gives (lines_left before) (line ∷ []) (Some [])
+        → Gives (text_left header dump before) (things_dumped header dump ++ (hole false ∷ [])) (Some [])
+    long_ends before h =
+        let all : things_at header dump line ++ things_dumped header (dump_after dump line) ≡ things_dumped header dump ++ (hole false ∷ []) =
+        ap (λ d. things_at header dump line ++ things_dumped header d) no_dump ∙ append-nil (things_at header dump line) ∙ long_things in
+        subst (λ xs. Gives (text_left header dump before) xs (Some [])) all (last_gives before h)
+
+pub text_kept : (header : Option Holds) (dump : List ℕ) (before after : Option (List ℕ)) → Keeps before after
+    → Gives (text_left header dump before) [] (text_left header dump after)
+text_kept header dump None after kept = tt
+text_kept header dump (Some x) None kept = absurd kept
+text_kept header dump (Some x) (Some y) kept = ap (λ l. things_on_lines header dump (lines_of l)) (sym kept)
+
+pub long_gives : (header : Option Holds) (dump next : List ℕ) (n : ℕ) (on : Bool) (now : List ℕ) (before after : Option (List ℕ))
+    → IsLineGap (line_gap.Long n on) now before after → next ≡ []
+    → GivesUpTo on (text_left header dump before) (things_dumped header dump ++ (hole false ∷ [])) (text_left header next after)
+long_gives header dump next n true now before after h none = long_goes_on header dump h.0 h.1 next before after h.2 none
+long_gives header dump next n false now before after h none = long_ends header dump h.0 h.1 before h.2
+
+-- no bytes of a dump were read yet
+pub none_dumped : (header : Option Holds) (dump : List ℕ) (left : Option (List ℕ)) → dump ≡ []
+    → Gives (text_left header [] left) [] (text_left header dump left)
+none_dumped header dump left none =
+    subst (λ (d : List ℕ). Gives (text_left header [] left) [] (text_left header d left)) (sym none) (gives_none (text_left header [] left))
 
 -- the header that lines have stays
-pub same_header : (h k : Option Holds) (on : Bool) (xs : List Thing) (before after : Option (List ℕ)) → h ≡ k
-    → GivesUpTo on (text_left h before) xs (text_left h after) → GivesUpTo on (text_left k before) xs (text_left k after)
-same_header h k on xs before after same given = subst (λ (j : Option Holds). GivesUpTo on (text_left j before) xs (text_left j after)) same given
+pub same_header : (h k : Option Holds) (d e : List ℕ) (on : Bool) (xs : List Thing) (before after : Option (List ℕ)) → h ≡ k
+    → GivesUpTo on (text_left h d before) xs (text_left h e after) → GivesUpTo on (text_left k d before) xs (text_left k e after)
+same_header h k d e on xs before after same given =
+    subst (λ (j : Option Holds). GivesUpTo on (text_left j d before) xs (text_left j e after)) same given
 
 -- ---- of an input
 
@@ -136,13 +166,13 @@ capture_begins header first (Some bytes) s n things is none h = λ same.
     ∙ all_are (things_in_pieces n (found_in s bytes)) things h
 
 pub text_begins : (header : Option Holds) (first : List ℕ) (file : Option (List ℕ)) (things : List Thing) → capture_at (take 4 first) ≡ None
-    → is_hex_text (take 4 first) ≡ true → Gives (text_left header file) things (Some []) → Begins first file header things
+    → is_hex_text (take 4 first) ≡ true → Gives (text_left header [] file) things (Some []) → Begins first file header things
 unfolding things_in_file
 text_begins header first None things is hex h = tt
 text_begins header first (Some bytes) things is hex h = λ same.
     ap (λ (found : Option State). things_by header found bytes) (ap capture_at (sym same) ∙ is)
-    ∙ ap (λ (t : Bool). if t then Some (things_on_lines header (lines_of bytes)) else None) (ap is_hex_text (sym same) ∙ hex)
-    ∙ all_are (things_on_lines header (lines_of bytes)) things h
+    ∙ ap (λ (t : Bool). if t then Some (things_on_lines header [] (lines_of bytes)) else None) (ap is_hex_text (sym same) ∙ hex)
+    ∙ all_are (things_on_lines header [] (lines_of bytes)) things h
 
 -- the first bytes of an input are those of the file
 pub begun_are : (header : Option Holds) (first : List ℕ) (file left : Option (List ℕ)) (things : List Thing) → Keeps file left

@@ -3,3 +3,4 @@ mod Puts
 mod Progress
 mod ByWords
 mod InOrder
+mod Dumps

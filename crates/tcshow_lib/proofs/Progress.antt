@@ -7,7 +7,7 @@ use Rattle.tcshow_lib.specs.declared.asked.Asked.{Asked}
 use Rattle.tcshow_lib.specs.Found.{Thing}
 use Rattle.tcshow_lib.specs.Reading.{AreIn}
 use Rattle.tcshow_lib.specs.Shown.{ShowsEach, ShowsSummary}
-use Rattle.tcshow_lib.specs.State.{State, Puts, Progress, Ends, Completes, Ran, start, is_json, choice_view}
+use Rattle.tcshow_lib.specs.State.{State, Puts, Progress, Ends, Completes, Ran, start, is_json}
 use Rattle.tc_streams.specs.Written.{GrowsByFront}
 use Rattle.tcshow_lib.proofs.Puts.{each_append, or_assoc, or_false, puts_none}
 
@@ -108,5 +108,5 @@ pub ran : (asked : Asked) (file a b : Option (List ℕ)) (s n : State) (fault : 
 ran asked file a b s n fault start same h =
     let begun = subst (λ (x : State). Completes h.0 a b x n) start h.2 in
     let is_fault = same ∙ begun.6 in
-    let shown = subst (λ x. ShowsEach (is_json asked.form) (choice_view asked.chosen) h.0 begun.0 x) (sym is_fault) begun.3 in
+    let shown = subst (λ x. ShowsEach (is_json asked.form) asked.chosen h.0 begun.0 x) (sym is_fault) begun.3 in
     (h.0, begun.0, begun.2, subst (λ (x : State). AreIn file x.header h.0) start h.1, shown, begun.4, begun.5)

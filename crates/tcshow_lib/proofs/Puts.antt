@@ -4,7 +4,9 @@ use Rattle.std.specs.Prelude.{◌||◌, is_some}
 use Rattle.tc_outline.specs.declared.what.What.{What}
 use Rattle.tc_outline.specs.Located.{items_of_message, message_fault}
 use Rattle.tcshow_lib.specs.Found.{Header, Message, Thing, message, answer, hole, other}
-use Rattle.tcshow_lib.specs.Shown.{Choice, IsPage, IsTaken, IfTaken, Nothing, Shows, ShowsEach, ShowsMessage, ShowsAnswer, ShowsNotice}
+use Rattle.tc_chosen.specs.declared.chosen.Chosen.{Chosen}
+use Rattle.tcshow_lib.specs.Chosen.{is_asked, is_taken}
+use Rattle.tcshow_lib.specs.Shown.{IsPage, IfTaken, Nothing, Shows, ShowsEach, ShowsMessage, ShowsAnswer, ShowsNotice}
 use Rattle.tcshow_lib.specs.State.{State, Grows, Puts}
 
 pub or_assoc : (a b c : Bool) → ((a || b) || c) ≡ (a || (b || c))
@@ -52,7 +54,7 @@ pub page_counted : (what : What) (m : Message) (b : Bool) (s a n : State) → (t
     → (text : List ℕ) × (bad : Bool) × ShowsMessage false m text bad × Grows text bad s n
 page_counted what m b s a n p e h = (p.0, b, (what, p.1, e), grows_counted p.0 b s a n p.2 h)
 
-pub each_append : (json : Bool) (choice : Choice) (xs ys : List Thing) (t u : List ℕ) (b c : Bool) → ShowsEach json choice xs t b → ShowsEach json choice ys u c
+pub each_append : (json : Bool) (choice : Chosen) (xs ys : List Thing) (t u : List ℕ) (b c : Bool) → ShowsEach json choice xs t b → ShowsEach json choice ys u c
     → ShowsEach json choice (xs ++ ys) (t ++ u) (b || c)
 each_append json choice [] ys t u b c h k =
     subst (λ x. ShowsEach json choice ys (x ++ u) (b || c)) (sym h.no_text) (subst (λ x. ShowsEach json choice ys u (x || c)) (sym h.no_fault) k)
@@ -79,26 +81,26 @@ pub puts_one : (x : Thing) (t : List ℕ) (b : Bool) (s n : State) → Shows s.j
 puts_one x t b s n h g = (t, b, (t, [], b, false, h, nothing, sym (append-nil t), sym (or_false b)), g)
 
 -- a message that is chosen, and one that isn't
-pub puts_message : (m : Message) (t : List ℕ) (b taken : Bool) (s n : State) → taken ≡ true → IsTaken s.choice m taken
+pub puts_message : (m : Message) (t : List ℕ) (b taken : Bool) (s n : State) → taken ≡ true → taken ≡ is_taken s.choice m
     → ShowsMessage s.json m t b → Grows t b s n → Puts (message m ∷ []) s n
-puts_message m t b taken s n is_taken h shown g =
-    puts_one (message m) t b s n (taken, h, subst (λ x. IfTaken x (ShowsMessage s.json m t b) t b) (sym is_taken) shown) g
+puts_message m t b taken s n is h shown g =
+    puts_one (message m) t b s n (subst (λ x. IfTaken x (ShowsMessage s.json m t b) t b) (sym is ∙ h) shown) g
 
-pub puts_no_message : (m : Message) (taken : Bool) (s n : State) → taken ≡ false → IsTaken s.choice m taken → Grows [] false s n → Puts (message m ∷ []) s n
+pub puts_no_message : (m : Message) (taken : Bool) (s n : State) → taken ≡ false → taken ≡ is_taken s.choice m → Grows [] false s n → Puts (message m ∷ []) s n
 puts_no_message m taken s n is_not h g =
-    puts_one (message m) [] false s n (taken, h, subst (λ x. IfTaken x (ShowsMessage s.json m [] false) [] false) (sym is_not) nothing) g
+    puts_one (message m) [] false s n (subst (λ x. IfTaken x (ShowsMessage s.json m [] false) [] false) (sym is_not ∙ h) nothing) g
 
-pub puts_answer : (h : Header) (capped : Bool) (m : Message) (t : List ℕ) (taken : Bool) (s n : State) → taken ≡ true → IsTaken s.choice m taken
+pub puts_answer : (h : Header) (capped : Bool) (m : Message) (t : List ℕ) (taken : Bool) (s n : State) → taken ≡ true → taken ≡ is_asked s.choice m
     → ShowsAnswer s.json h capped m t → Grows t false s n → Puts (answer h capped m ∷ []) s n
-puts_answer h capped m t taken s n is_taken k shown g =
+puts_answer h capped m t taken s n is k shown g =
     puts_one (answer h capped m) t false s n
-    (taken, k, subst (λ x. IfTaken x (ShowsAnswer s.json h capped m t × (false ≡ false)) t false) (sym is_taken) (shown, refl)) g
+    (subst (λ x. IfTaken x (ShowsAnswer s.json h capped m t × (false ≡ false)) t false) (sym is ∙ k) (shown, refl)) g
 
-pub puts_no_answer : (h : Header) (capped : Bool) (m : Message) (taken : Bool) (s n : State) → taken ≡ false → IsTaken s.choice m taken → Grows [] false s n
-    → Puts (answer h capped m ∷ []) s n
+pub puts_no_answer : (h : Header) (capped : Bool) (m : Message) (taken : Bool) (s n : State) → taken ≡ false → taken ≡ is_asked s.choice m
+    → Grows [] false s n → Puts (answer h capped m ∷ []) s n
 puts_no_answer h capped m taken s n is_not k g =
     puts_one (answer h capped m) [] false s n
-    (taken, k, subst (λ x. IfTaken x (ShowsAnswer s.json h capped m [] × (false ≡ false)) [] false) (sym is_not) nothing) g
+    (subst (λ x. IfTaken x (ShowsAnswer s.json h capped m [] × (false ≡ false)) [] false) (sym is_not ∙ k) nothing) g
 
 pub puts_hole : (fault : Bool) (t : List ℕ) (s n : State) → ShowsNotice s.json t → Grows t fault s n → Puts (hole fault ∷ []) s n
 puts_hole fault t s n h g = puts_one (hole fault) t fault s n (h, refl) g

@@ -18,8 +18,9 @@ abbrev pub other_than_outgoing : Option ℕ → Option ℕ
 other_than_outgoing None = None
 other_than_outgoing (Some n) = if n == 4 then None else Some n
 
--- a netlink header: the name of the type, the flags, the sequence number and the port
+-- a netlink header: the type and its name, the flags, the sequence number and the port
 pub record Header : Type 0 where
+  pub kind : ℕ
   pub name : List ℕ
   pub flags : ℕ
   pub sequence : ℕ
@@ -43,7 +44,7 @@ pub data Thing : Type 0 where
 -- ---- a netlink message
 
 abbrev pub header_with : List ℕ → Netlink → Header
-header_with name m = record { name = name; flags = m.flags; sequence = m.sequence; port = m.port }
+header_with name m = record { kind = m.kind; name = name; flags = m.flags; sequence = m.sequence; port = m.port }
 
 -- the message of traffic control that it is
 abbrev pub message_with : Origin → Netlink → Named → Message
@@ -101,7 +102,7 @@ things_on_line (Some holds) bytes = message (record { origin = nowhere; header =
 -- ---- what the code's values say
 
 abbrev pub header_view : CodeHeader → Header
-header_view h = record { name = h.name.now; flags = h.flags; sequence = h.sequence; port = h.port }
+header_view h = record { kind = h.kind; name = h.name.now; flags = h.flags; sequence = h.sequence; port = h.port }
 
 abbrev pub message_view : CodeFound → Message
 message_view f = record { origin = f.origin; header = option_map header_view f.header; holds = f.holds; payload = f.payload.now }

@@ -3,6 +3,7 @@ pub mod Writing
 pub mod Found
 pub mod Line
 pub mod ByWords
+pub mod Chosen
 pub mod Shown
 pub mod Replies
 pub mod Reading

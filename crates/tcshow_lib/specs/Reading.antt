@@ -1,7 +1,6 @@
 -- What is found in an input: the pieces of a capture, or the lines of a text, in their order.
 use Rattle.std.specs.Prelude.{◌≡◌, ℕ, ◌+◌, ◌-◌, ◌^◌, min, Bool, true, false, ◌||◌, ◌&&◌, ◌==◌, nat_le, List, [], ◌∷◌, ◌++◌, take}
 use Rattle.std.specs.Prelude.{Option, Some, None, Ok, Err, IfSome, option_map, if◌then◌else◌}
-use Rattle.std.specs.List.{flat_map}
 use Rattle.tc_capture.specs.declared.kind.Holds.{Holds}
 use Rattle.tc_capture.specs.declared.packet.Link.{Link}
 use Rattle.tc_capture.specs.declared.packet.Link.TheVariants.{Plain, Cooked, Other}
@@ -10,6 +9,7 @@ use Rattle.tc_capture_laws.specs.Pieces as pieces
 use Rattle.tc_capture_laws.specs.Pieces.{What}
 use Rattle.tc_input.specs.declared.pieces.Gap.{Gap}
 use Rattle.tc_input.specs.declared.pieces.Gap.TheVariants.{More, Skipped, Broken, Cut, End}
+use Rattle.tc_input.specs.Dumps.{Place, begins, goes_on, apart, place_at}
 use Rattle.tc_input.specs.Left.{Gives}
 use Rattle.tc_input.specs.Lines.{lines_of, lines_left}
 use Rattle.tc_input.specs.Pieces.{found_in, pieces_left}
@@ -76,8 +76,32 @@ things_said header no_hex = hole true ∷ []
 things_said header too_long = hole false ∷ []
 things_said header (octets bs) = things_on_line header bs
 
-abbrev pub things_on_lines : Option Holds → List (List ℕ) → List Thing
-things_on_lines header lines = flat_map (λ (line : List ℕ). things_said header (on_line line)) lines
+-- what is found in a dump, where there is one
+abbrev pub things_dumped : Option Holds → List ℕ → List Thing
+things_dumped header [] = []
+things_dumped header (b ∷ dump) = things_on_line header (b ∷ dump)
+
+-- what is known to be found after one more line, behind the bytes of a dump: nothing yet where the dump goes on
+abbrev pub things_by_place : Option Holds → List ℕ → List ℕ → Place → List Thing
+things_by_place header dump line (begins bytes) = things_dumped header dump
+things_by_place header dump line (goes_on bytes) = []
+things_by_place header dump line apart = things_dumped header dump ++ things_said header (on_line line)
+
+abbrev pub things_at : Option Holds → List ℕ → List ℕ → List Thing
+things_at header dump line = things_by_place header dump line (place_at dump line)
+
+-- the bytes of the dump then
+abbrev pub dump_by_place : List ℕ → Place → List ℕ
+dump_by_place dump (begins bytes) = bytes
+dump_by_place dump (goes_on bytes) = dump ++ bytes
+dump_by_place dump apart = []
+
+abbrev pub dump_after : List ℕ → List ℕ → List ℕ
+dump_after dump line = dump_by_place dump (place_at dump line)
+
+abbrev pub things_on_lines : Option Holds → List ℕ → List (List ℕ) → List Thing
+things_on_lines header dump [] = things_dumped header dump
+things_on_lines header dump (line ∷ lines) = things_at header dump line ++ things_on_lines header (dump_after dump line) lines
 
 abbrev pub is_hex_digit : ℕ → Bool
 is_hex_digit b = (nat_le 48 b && nat_le b 57) || (nat_le 97 b && nat_le b 102) || (nat_le 65 b && nat_le b 70)
@@ -96,7 +120,7 @@ is_hex_text (b ∷ first) = is_hex_digit b || is_blank b
 -- by its first four bytes
 abbrev pub things_by : Option Holds → Option State → List ℕ → Option (List Thing)
 things_by header (Some s) file = Some (things_in_pieces 0 (found_in s file))
-things_by header None file = if is_hex_text (take 4 file) then Some (things_on_lines header (lines_of file)) else None
+things_by header None file = if is_hex_text (take 4 file) then Some (things_on_lines header [] (lines_of file)) else None
 
 -- what is found in a file that is a capture, or lines of hex
 unfoldable pub things_in_file : Option Holds → List ℕ → Option (List Thing)
@@ -115,8 +139,8 @@ Begins first file header things = IfSome file (λ bytes. take 4 first ≡ take 4
 abbrev pub capture_left : ℕ → State → Option (List ℕ) → Option (List Thing)
 capture_left n s left = option_map (things_in_pieces n) (pieces_left s left)
 
-abbrev pub text_left : Option Holds → Option (List ℕ) → Option (List Thing)
-text_left header left = option_map (things_on_lines header) (lines_left left)
+abbrev pub text_left : Option Holds → List ℕ → Option (List ℕ) → Option (List Thing)
+text_left header dump left = option_map (things_on_lines header dump) (lines_left left)
 
 -- these come first, and then what is left; or they are all
 abbrev pub GivesUpTo : Bool → Option (List Thing) → List Thing → Option (List Thing) → Type 0

@@ -1,13 +1,11 @@
 -- What is shown of what is found: of each thing a text, one after the other, and whether one of them is refused or broken.
-use Rattle.std.specs.Prelude.{◌≡◌, ℕ, Bool, true, false, IsTrue, ◌||◌, List, [], ◌∷◌, ◌++◌, Option, Some, None, is_some, length, drop, nat_lt, if◌then◌else◌}
-use Rattle.tc_capture.specs.declared.kind.Holds.{Holds}
-use Rattle.tc_capture.specs.declared.kind.Holds.TheVariants.{Tc, Action}
-use Rattle.tc_capture.specs.declared.order.Order.TheVariants.{Little}
-use Rattle.tc_capture.specs.Order.{number}
+use Rattle.std.specs.Prelude.{◌≡◌, ℕ, Bool, true, false, ◌||◌, List, [], ◌∷◌, ◌++◌, is_some}
+use Rattle.tc_chosen.specs.declared.chosen.Chosen.{Chosen}
 use Rattle.tc_outline.specs.declared.what.What.{What}
 use Rattle.tc_outline.specs.Located.{items_of_message, message_fault}
 use Rattle.tc_outline.specs.Page.{IsShown}
 use Rattle.tcshow_lib.specs.ByWords.{is_refused, IsLineOf}
+use Rattle.tcshow_lib.specs.Chosen.{is_asked, is_taken}
 use Rattle.tcshow_lib.specs.Found.{Header, Message, Thing, message, answer, other, hole}
 use Rattle.tcshow_lib.specs.Line.{IsAnswered}
 
@@ -18,37 +16,6 @@ ended line = line ++ 10 ∷ []
 -- a page of printable ASCII and line feeds, and the line feed that ends it
 abbrev pub IsPage : List ℕ → Type 0
 IsPage text = (page : List ℕ) × IsShown true page × (text ≡ ended page)
-
--- ---- what is chosen
-
--- the name of a type, a kind, and the number of an interface, where they are asked for
-pub record Choice : Type 0 where
-  pub name : Option (List ℕ)
-  pub kind : Option (List ℕ)
-  pub interface : Option ℕ
-
-abbrev pub type_name : Option Header → List ℕ
-type_name None = []
-type_name (Some h) = h.name
-
-abbrev pub IsOfType : Option (List ℕ) → Message → Type 0
-IsOfType None m = Unit {0}
-IsOfType (Some name) m = type_name m.header ≡ name
-
--- the number of the interface of a traffic control message: four bytes at 4, little-endian
-abbrev pub interface_in : Holds → List ℕ → Option ℕ
-interface_in Tc bytes = if nat_lt (length bytes) 8 then None else Some (number Little 4 (drop 4 bytes))
-interface_in Action bytes = None
-
-abbrev pub IsOfInterface : Option ℕ → Message → Type 0
-IsOfInterface None m = Unit {0}
-IsOfInterface (Some n) m = interface_in m.holds m.payload ≡ Some n
-
--- a message that is taken is of the type and of the interface that are asked for, and all of these are taken where no kind is asked for
-pub record IsTaken (choice : Choice) (m : Message) (taken : Bool) : Type 0 where
-  pub of_type : IsTrue taken → IsOfType choice.name m
-  pub of_interface : IsTrue taken → IsOfInterface choice.interface m
-  pub all : choice.kind ≡ None → IsOfType choice.name m → IsOfInterface choice.interface m → IsTrue taken
 
 -- ---- what is shown of a thing
 
@@ -81,15 +48,14 @@ abbrev pub IfTaken : Bool → Type 0 → List ℕ → Bool → Type 0
 IfTaken true Shown text bad = Shown
 IfTaken false Shown text bad = Nothing text bad
 
-abbrev pub Shows : Bool → Choice → Thing → List ℕ → Bool → Type 0
-Shows json choice (message m) text bad = (taken : Bool) × IsTaken choice m taken × IfTaken taken (ShowsMessage json m text bad) text bad
-Shows json choice (answer h capped m) text bad =
-    (taken : Bool) × IsTaken choice m taken × IfTaken taken (ShowsAnswer json h capped m text × (bad ≡ false)) text bad
+abbrev pub Shows : Bool → Chosen → Thing → List ℕ → Bool → Type 0
+Shows json choice (message m) text bad = IfTaken (is_taken choice m) (ShowsMessage json m text bad) text bad
+Shows json choice (answer h capped m) text bad = IfTaken (is_asked choice m) (ShowsAnswer json h capped m text × (bad ≡ false)) text bad
 Shows json choice other text bad = Nothing text bad
 Shows json choice (hole fault) text bad = ShowsNotice json text × (bad ≡ fault)
 
 -- of several things one text after the other
-abbrev pub ShowsEach : Bool → Choice → List Thing → List ℕ → Bool → Type 0
+abbrev pub ShowsEach : Bool → Chosen → List Thing → List ℕ → Bool → Type 0
 ShowsEach json choice [] text bad = Nothing text bad
 ShowsEach json choice (x ∷ xs) text bad =
     (first : List ℕ) × (later : List ℕ) × (b : Bool) × (c : Bool) × Shows json choice x first b × ShowsEach json choice xs later c

@@ -1,29 +1,26 @@
 -- What a run has come to.
-use Rattle.std.specs.Prelude.{◌≡◌, ℕ, Bool, true, false, not, [], ◌||◌, ◌==◌, List, ◌++◌, Option, option_map}
+use Rattle.std.specs.Prelude.{◌≡◌, ℕ, Bool, true, false, not, [], ◌||◌, ◌==◌, List, ◌++◌, Option}
 use Rattle.std.specs.Io.KnownBytes.{Appends}
 use Rattle.tc_capture.specs.declared.kind.Holds.{Holds}
+use Rattle.tc_chosen.specs.declared.chosen.Chosen.{Chosen}
 use Rattle.tcshow_lib.specs.declared.asked.Asked.{Asked}
-use Rattle.tcshow_lib.specs.declared.asked.Chosen.{Chosen}
 use Rattle.tcshow_lib.specs.declared.asked.Form.{Form}
 use Rattle.tcshow_lib.specs.declared.asked.Form.TheVariants.{Lines, OneLine, Json}
 use Rattle.tcshow_lib.specs.declared.counts.Counts.{Counts}
 use Rattle.tcshow_lib.specs.declared.shower.Shower.{Shower}
 use Rattle.tcshow_lib.specs.Found.{Thing}
 use Rattle.tcshow_lib.specs.Reading.{AreIn}
-use Rattle.tcshow_lib.specs.Shown.{Choice, ShowsEach, ShowsSummary}
+use Rattle.tcshow_lib.specs.Shown.{ShowsEach, ShowsSummary}
 
 -- the form, what a line of hex holds, what is chosen, whether a summary is asked for, the text that isn't written yet, and whether something
 -- was refused or broken
 pub record State : Type 0 where
   pub json : Bool
   pub header : Option Holds
-  pub choice : Choice
+  pub choice : Chosen
   pub summary : Bool
   pub text : List ℕ
   pub bad : Bool
-
-abbrev pub choice_view : Chosen → Choice
-choice_view c = record { name = option_map (λ t. t.now) c.rtm; kind = option_map (λ t. t.now) c.kind; interface = c.interface }
 
 abbrev pub is_json : Form → Bool
 is_json Lines = false
@@ -37,7 +34,7 @@ abbrev pub state_of : {A : Type 0} → Shower A → State
 state_of s = record {
   json = s.output.is_json;
   header = s.asked.now.without_header;
-  choice = choice_view s.asked.now.chosen;
+  choice = s.asked.now.chosen;
   summary = s.asked.now.has_summary;
   text = s.output.bytes.items;
   bad = is_bad s.counts;
@@ -86,7 +83,7 @@ abbrev pub start : Asked → State
 start asked = record {
   json = is_json asked.form;
   header = asked.without_header;
-  choice = choice_view asked.chosen;
+  choice = asked.chosen;
   summary = asked.has_summary;
   text = [];
   bad = false;
@@ -97,5 +94,5 @@ start asked = record {
 abbrev pub Ran : Asked → Bool → Option (List ℕ) → Option (List ℕ) → Option (List ℕ) → Type 0
 Ran asked fault file old new =
     (things : List Thing) × (text : List ℕ) × (summary : List ℕ) × AreIn file asked.without_header things
-    × ShowsEach (is_json asked.form) (choice_view asked.chosen) things text fault
+    × ShowsEach (is_json asked.form) asked.chosen things text fault
     × ShowsSummary (is_json asked.form) asked.has_summary summary × Appends old new (text ++ summary)

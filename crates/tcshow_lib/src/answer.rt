@@ -4,7 +4,7 @@ ghost use Rattle.std.specs.Prelude.{◌≡◌, is_some, option_map};
 
 use crate::found::Found;
 use crate::line::line_of;
-use crate::pages::show_origin;
+use crate::pages::{begin_message, columns_of};
 use crate::shower::Shower;
 use std::alloc::{AllocError, Allocator};
 use tc_outline::{Fault, outline};
@@ -30,7 +30,8 @@ impl<'a, A: Allocator + Copy> Shower<'a, A> {
         ensures form { self.new.output.is_json ≡ self.old.output.is_json }
         ensures put { OnOk result (Puts (message (message_view found.now) ∷ []) (state_of self.old) (state_of self.new)) }
     {
-        if !self.asked.chosen.takes(found) {
+        let taken = self.takes(found)?;
+        if !taken {
             self.counts.left_out = self.counts.left_out.saturating_add(1);
             return Ok(());
         }
@@ -57,9 +58,10 @@ impl<'a, A: Allocator + Copy> Shower<'a, A> {
         ensures put { OnOk result ((text : List ℕ) × (bad : Bool) × ShowsMessage false (message_view found.now) text bad
             × Grows text bad (state_of self.old) (state_of self.new)) }
     {
-        show_origin(&mut self.page, found)?;
-        let names = self.asked.names;
-        let fault = outline(&mut self.page, found.payload, found.what, &names)?;
+        begin_message(&mut self.page, found)?;
+        let names = self.links.with(self.asked.names.names)?;
+        let columns = columns_of(self.asked, names.as_slice(), found);
+        let fault = outline(self.json, &mut self.page, found.payload, columns)?;
         self.put_page()?;
         self.count_fault(name_of(&fault))
     }

@@ -1,6 +1,7 @@
 //! What is asked for.
 
 use tc_capture::Holds;
+use tc_chosen::Chosen;
 use tc_outline::Interfaces;
 
 /// How messages are shown.
@@ -14,17 +15,6 @@ pub enum Form {
     Json,
 }
 
-/// Which messages are shown.
-#[derive(Clone, Copy)]
-pub struct Chosen<'a> {
-    /// Those of this kind; of actions, those whose first action is of it.
-    pub kind: Option<&'a str>,
-    /// Those of the message type with this name.
-    pub rtm: Option<&'a str>,
-    /// Those of the interface with this number.
-    pub interface: Option<u32>,
-}
-
 /// What a run does.
 #[derive(Clone, Copy)]
 pub struct Asked<'a> {
@@ -34,6 +24,8 @@ pub struct Asked<'a> {
     pub without_header: Option<Holds>,
     /// Which messages are shown.
     pub chosen: Chosen<'a>,
+    /// True if paddings are shown too.
+    pub all: bool,
     /// The names of interfaces.
     pub names: Interfaces<'a>,
     /// True if the messages are counted at the end.

@@ -307,7 +307,7 @@ impl<'a, A: Allocator + Copy> Shower<'a, A> {
             Some(reply) => self.put_reply(&reply),
             None => {
                 self.counts.others = self.counts.others.saturating_add(1);
-                Ok(())
+                self.learn(message)
             }
         }
     }

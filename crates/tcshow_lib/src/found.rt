@@ -4,15 +4,15 @@ ghost use Rattle.std.specs.Prelude.{◌≡◌};
 ghost use Rattle.tc_capture.specs.Message.{message_of};
 ghost use Rattle.tcshow_lib.specs.Found.{header_view, header_with};
 
-use nla_frames::strip_nul;
-use tc_capture::order::Order;
+use nla_frames::{NlasIterator, strip_nul};
 use tc_capture::{Holds, NetlinkMessage, Time, rtm_of};
-use tc_index::{Attribute, Attributes, Table};
 use tc_outline::What;
 
 /// What is shown of the header of a netlink message.
 #[derive(Clone, Copy)]
 pub(crate) struct Header {
+    /// `nlmsg_type`.
+    pub(crate) kind: u16,
     /// The name of the message type, such as `RTM_NEWQDISC`.
     pub(crate) name: &'static str,
     /// `nlmsg_flags`.
@@ -57,7 +57,6 @@ impl<'a> Found<'a> {
     ghost use Rattle.std.specs.Prelude.{◌≡◌, None, option_map};
     ghost use Rattle.tc_capture.specs.Message.{message_of};
     ghost use Rattle.tcshow_lib.specs.Found.{header_view, message_view, message_in, nowhere};
-    ghost use Rattle.tcshow_lib.specs.Shown.{type_name, interface_in};
 
     /// The message in a netlink message; `None` where that is no traffic control.
     pub(crate) fn in_netlink(origin: Origin, message: &NetlinkMessage<'a>) -> Option<Found<'a>>
@@ -91,20 +90,10 @@ impl<'a> Found<'a> {
     }
 
     /// The name of its type; empty where there is no header.
-    pub(crate) fn name(&self) -> &'static str
-        ensures { result.now ≡ type_name (option_map header_view self.now.header) }
-    {
+    pub(crate) fn name(&self) -> &'static str {
         match &self.header {
             Some(header) => header.name,
             None => "",
-        }
-    }
-
-    /// True if its own header is whole.
-    pub(crate) fn has_header(&self) -> bool {
-        match self.holds {
-            Holds::Tc => self.payload.len() >= 20,
-            Holds::Action => self.payload.len() >= 4,
         }
     }
 
@@ -113,21 +102,6 @@ impl<'a> Found<'a> {
     pub(crate) fn kind(&self) -> &'a [u8] {
         kind_in(self.holds, self.payload)
     }
-
-    /// The number of its interface; `None` of an action message.
-    pub(crate) fn interface(&self) -> Option<u32>
-        ensures { result ≡ interface_in self.now.holds self.now.payload.now }
-    {
-        match self.holds {
-            Holds::Tc => {
-                if self.payload.len() < 8 {
-                    return None;
-                }
-                Some(Order::Little.u32_at(self.payload, 4))
-            }
-            Holds::Action => None,
-        }
-    }
 }
 
 /// What is shown of the header of a message whose type has this name.
@@ -135,6 +109,7 @@ pub(crate) fn header_of(name: &'static str, message: &NetlinkMessage<'_>) -> Hea
     ensures { header_view result ≡ header_with name.now (message_of message.now) }
 {
     Header {
+        kind: message.kind,
         name,
         flags: message.flags,
         sequence: message.sequence,
@@ -155,24 +130,25 @@ fn what_of(holds: Holds, payload: &[u8]) -> What {
 
 fn kind_in(holds: Holds, payload: &[u8]) -> &[u8] {
     match holds {
-        Holds::Tc => match Attributes::of_tc(payload) {
-            Ok(attributes) => last_kind(attributes),
-            Err(_) => &[],
-        },
-        Holds::Action => match Attributes::of_action(payload) {
-            Ok(attributes) => first_action_kind(attributes),
-            Err(_) => &[],
-        },
+        Holds::Tc => last_kind(behind(20, payload)),
+        Holds::Action => first_action_kind(behind(4, payload)),
     }
 }
 
-fn last_kind<'a>(attributes: Attributes<'a>) -> &'a [u8] {
-    let mut kind: &'a [u8] = &[];
-    for attribute in attributes {
-        match attribute {
-            Ok(attribute) => {
-                if is_kind_of_message(&attribute) {
-                    kind = strip_nul(attribute.value);
+// What follows a header of that many bytes.
+fn behind(header: usize, payload: &[u8]) -> &[u8] {
+    let (_, rest) = payload.split_at(header.min(payload.len()));
+    rest
+}
+
+// The last kind, up to the first broken attribute.
+fn last_kind(bytes: &[u8]) -> &[u8] {
+    let mut kind: &[u8] = &[];
+    for frame in NlasIterator::new(bytes) {
+        match frame {
+            Ok(frame) => {
+                if frame.kind() == 1 {
+                    kind = strip_nul(frame.value());
                 }
             }
             Err(_) => return kind,
@@ -181,12 +157,15 @@ fn last_kind<'a>(attributes: Attributes<'a>) -> &'a [u8] {
     kind
 }
 
-fn first_action_kind<'a>(attributes: Attributes<'a>) -> &'a [u8] {
-    for attribute in attributes {
-        match attribute {
-            Ok(attribute) => {
-                if is_kind_of_action(&attribute) {
-                    return strip_nul(attribute.value);
+// The kind of the first action that has one, in the first list of actions.
+fn first_action_kind(bytes: &[u8]) -> &[u8] {
+    let actions = first_value(bytes, 1);
+    for action in NlasIterator::new(actions) {
+        match action {
+            Ok(action) => {
+                let kind = first_value(action.value(), 1);
+                if !kind.is_empty() {
+                    return strip_nul(kind);
                 }
             }
             Err(_) => return &[],
@@ -195,10 +174,17 @@ fn first_action_kind<'a>(attributes: Attributes<'a>) -> &'a [u8] {
     &[]
 }
 
-fn is_kind_of_message(attribute: &Attribute<'_>) -> bool {
-    matches!(attribute.table, Table::Message) && attribute.number() == 1
-}
-
-fn is_kind_of_action(attribute: &Attribute<'_>) -> bool {
-    matches!(attribute.table, Table::Action) && attribute.number() == 1
+// The payload of the first attribute of a type; none where there is no such attribute.
+fn first_value(bytes: &[u8], number: u16) -> &[u8] {
+    for frame in NlasIterator::new(bytes) {
+        match frame {
+            Ok(frame) => {
+                if frame.kind() == number {
+                    return frame.value();
+                }
+            }
+            Err(_) => return &[],
+        }
+    }
+    &[]
 }

@@ -7,7 +7,9 @@ ghost use Rattle.tcshow_lib.specs.Line.{IsAnswered};
 use crate::found::{Found, Header, Origin, header_of};
 use crate::json::{AnswerLine, Said};
 use crate::line::json_of;
-use crate::pages::{show_name, show_time_of, some_text, text_of, time_page};
+use crate::pages::{
+    columns_of, show_netlink, show_numbers, show_time_of, some_text, text_of, time_page,
+};
 use crate::shower::{Shower, layout_of};
 use nla_frames::strip_nul;
 use std::alloc::{AllocError, Allocator, Global};
@@ -98,7 +100,7 @@ impl<'a, A: Allocator + Copy> Shower<'a, A> {
         ensures form { self.new.output.is_json ≡ self.old.output.is_json }
         ensures put { OnOk result (Puts (thing_view reply.now ∷ []) (state_of self.old) (state_of self.new)) }
     {
-        if !self.asked.chosen.takes(&reply.request) {
+        if !self.takes_request(&reply.request) {
             self.counts.left_out = self.counts.left_out.saturating_add(1);
             return Ok(());
         }
@@ -140,15 +142,11 @@ impl<'a, A: Allocator + Copy> Shower<'a, A> {
     {
         show_said(self.alloc, &mut self.page, errno, reply)?;
         let mut request = Page::new(self.alloc, layout_of(self.asked.form));
-        show_name(&mut request, &reply.request)?;
+        show_netlink(&mut request, &reply.request)?;
         if !reply.answer.is_capped {
-            let names = self.asked.names;
-            let _ = outline(
-                &mut request,
-                reply.request.payload,
-                reply.request.what,
-                &names,
-            )?;
+            let names = self.links.with(self.asked.names.names)?;
+            let columns = columns_of(self.asked, names.as_slice(), &reply.request);
+            let _ = outline(self.json, &mut request, reply.request.payload, columns)?;
         }
         put_indented(&mut self.page, text_of(&request))?;
         self.put_page()
@@ -175,8 +173,7 @@ fn show_said<A: Allocator + Copy>(
     page.text(reply.header.name)?;
     page.blank()?;
     page.text(errno)?;
-    page.text(" seq ")?;
-    page.number(u64::from(reply.header.sequence))?;
+    show_numbers(page, &reply.header)?;
     if let Some(text) = reply.answer.text {
         page.blank()?;
         page.quoted(strip_nul(text))?;

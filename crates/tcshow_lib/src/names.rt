@@ -1,24 +1,28 @@
 //! The names of interfaces.
 
 use std::alloc::{AllocError, Allocator};
+use std::str;
+use tc_words::link_of_line;
 
-/// The names in a text: on each line a number and a name, with blanks between them, and comments after `#`. `None`
-/// where a line is none of these.
-pub(crate) fn names_in<'a, A: Allocator>(
+/// The names in a text: on each line a number and a name, or what `ip -o link` writes, and comments after `#`. The number
+/// of the first line that is none of these, from 1 on, where there is one.
+pub fn names_in<'a, A: Allocator>(
     alloc: A,
     text: &'a str,
-) -> Result<Option<Vec<(u32, &'a str), A>>, AllocError> {
+) -> Result<Result<Vec<(u32, &'a str), A>, u64>, AllocError> {
     let mut names = Vec::new(alloc);
+    let mut count = 0u64;
     for line in text.lines() {
+        count = count.saturating_add(1);
         let line = without_comment(line).trim();
         if !line.is_empty() {
             match name_in(line) {
                 Some(named) => names.push(named)?,
-                None => return Ok(None),
+                None => return Ok(Err(count)),
             }
         }
     }
-    Ok(Some(names))
+    Ok(Ok(names))
 }
 
 fn without_comment(line: &str) -> &str {
@@ -29,9 +33,9 @@ fn without_comment(line: &str) -> &str {
 }
 
 fn name_in(line: &str) -> Option<(u32, &str)> {
-    let (number, name) = line.split_once(' ')?;
-    match number.parse::<u32>() {
-        Ok(number) => Some((number, name.trim())),
+    let link = link_of_line(line.as_bytes())?;
+    match str::from_utf8(link.name) {
+        Ok(name) => Some((link.index, name)),
         Err(_) => None,
     }
 }

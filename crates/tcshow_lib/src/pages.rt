@@ -1,10 +1,12 @@
 //! What is shown of a message beside its attributes.
 
-use crate::found::{Found, Origin};
+use crate::asked::Asked;
+use crate::found::{Found, Header, Origin};
 use std::alloc::{AllocError, Allocator};
 use std::str;
-use tc_capture::Time;
-use tc_outline::{Layout, Page, locate};
+use tc_capture::{Holds, Time};
+use tc_columns::{KindColumns, Root};
+use tc_outline::{Layout, Page, What, locate};
 
 /// The text on a page.
 pub(crate) fn text_of<A: Allocator>(page: &Page<A>) -> &str {
@@ -23,23 +25,107 @@ fn show_time<A: Allocator>(page: &mut Page<A>, time: &Time) -> Result<(), AllocE
     Ok(())
 }
 
-/// Shows the time and the type of a message, and a blank before its header, if it has a whole one.
-pub(crate) fn show_origin<A: Allocator>(
+/// Begins the line of a message: its time, and its netlink header.
+pub(crate) fn begin_message<A: Allocator>(
     page: &mut Page<A>,
     found: &Found<'_>,
 ) -> Result<(), AllocError> {
     show_time_of(page, &found.origin)?;
-    show_name(page, found)
+    show_netlink(page, found)
 }
 
-/// Shows the type of a message, and a blank before its header, if it has a whole one.
-pub(crate) fn show_name<A: Allocator>(
+/// Shows the netlink header of a message: its type, its flags in words, its sequence number, and the port where it isn't 0. Of a message
+/// without one it shows what it holds.
+pub(crate) fn show_netlink<A: Allocator>(
     page: &mut Page<A>,
     found: &Found<'_>,
 ) -> Result<(), AllocError> {
     match &found.header {
-        Some(header) => show_type(page, header.name, found),
-        None => Ok(()),
+        Some(header) => {
+            page.text(header.name)?;
+            show_numbers(page, header)
+        }
+        None => page.text(match found.holds {
+            Holds::Tc => "tc",
+            Holds::Action => "action",
+        }),
+    }
+}
+
+/// Shows the flags, the sequence number and the port of a netlink header.
+pub(crate) fn show_numbers<A: Allocator>(
+    page: &mut Page<A>,
+    header: &Header,
+) -> Result<(), AllocError> {
+    show_flags(page, header)?;
+    page.text(" seq ")?;
+    page.number(u64::from(header.sequence))?;
+    if header.port == 0 {
+        return Ok(());
+    }
+    page.text(" port ")?;
+    page.number(u64::from(header.port))
+}
+
+// Shows flags in words, and bits without one in hex.
+fn show_flags<A: Allocator>(page: &mut Page<A>, header: &Header) -> Result<(), AllocError> {
+    let mut rest = header.flags;
+    for words in [FLAGS.as_slice(), flags_of(header.name)] {
+        for (bit, word) in words {
+            if header.flags & bit != 0 {
+                page.blank()?;
+                page.text(word)?;
+                rest &= !bit;
+            }
+        }
+    }
+    if rest == 0 {
+        return Ok(());
+    }
+    page.text(" 0x")?;
+    for shift in [12u16, 8, 4, 0] {
+        page.hex_digit(rest >> shift)?;
+    }
+    Ok(())
+}
+
+// The flags of every netlink message (`NLM_F_REQUEST` and so on of `linux/netlink.h`).
+const FLAGS: [(u16, &str); 6] = [
+    (0x01, "request"),
+    (0x02, "multi"),
+    (0x04, "ack"),
+    (0x08, "echo"),
+    (0x10, "dump_intr"),
+    (0x20, "dump_filtered"),
+];
+
+// Those of requests that make something, that ask for it, and that delete it; of answers. `NLM_F_ROOT` of a request that deletes flushes.
+const MAKING: [(u16, &str); 4] = [
+    (0x400, "create"),
+    (0x200, "excl"),
+    (0x100, "replace"),
+    (0x800, "append"),
+];
+
+const ASKING: [(u16, &str); 3] = [(0x100, "root"), (0x200, "match"), (0x400, "atomic")];
+
+const DELETING: [(u16, &str); 2] = [(0x100, "nonrec"), (0x200, "bulk")];
+
+const FLUSHING: [(u16, &str); 1] = [(0x100, "root")];
+
+const ANSWERING: [(u16, &str); 2] = [(0x100, "capped"), (0x200, "ack_tlvs")];
+
+fn flags_of(name: &str) -> &'static [(u16, &'static str)] {
+    if name == "NLMSG_ERROR" {
+        &ANSWERING
+    } else if name == "RTM_DELACTION" {
+        &FLUSHING
+    } else if name.starts_with("RTM_NEW") {
+        &MAKING
+    } else if name.starts_with("RTM_GET") {
+        &ASKING
+    } else {
+        &DELETING
     }
 }
 
@@ -55,16 +141,38 @@ pub(crate) fn show_time_of<A: Allocator>(
     Ok(())
 }
 
-fn show_type<A: Allocator>(
-    page: &mut Page<A>,
-    name: &str,
+/// The columns that a message is shown by, with these names of interfaces.
+pub(crate) fn columns_of<'a>(
+    asked: &Asked<'_>,
+    interfaces: &'a [(u32, &'a str)],
     found: &Found<'_>,
-) -> Result<(), AllocError> {
-    page.text(name)?;
-    if found.has_header() {
-        page.blank()?;
+) -> KindColumns<'a> {
+    KindColumns {
+        root: root_of(found),
+        interfaces,
+        all: asked.all,
     }
-    Ok(())
+}
+
+// What a message speaks of: that of its type, and of one without a netlink header as far as its kind says so.
+fn root_of(found: &Found<'_>) -> Root {
+    match found.what {
+        What::Qdisc => Root::Qdisc,
+        What::Class => Root::Class,
+        What::Filter if found.kind() == b"u32".as_slice() => Root::U32Filter,
+        What::Filter => Root::Filter,
+        What::Chain => Root::Chain,
+        What::Action if is_flush(&found.header) => Root::Flush,
+        What::Action => Root::Action,
+    }
+}
+
+// True of what answers a flush: its flags have `NLM_F_ROOT`.
+fn is_flush(header: &Option<Header>) -> bool {
+    match header {
+        Some(header) => header.name == "RTM_DELACTION" && header.flags & 0x100 != 0,
+        None => false,
+    }
 }
 
 /// A page with the time of a packet, if it has one.

@@ -7,9 +7,11 @@ ghost use Rattle.tcshow_lib.specs.Writing.{GrowsClean};
 ghost use Rattle.tcshow_lib.specs.declared.asked.Form.TheVariants.{Json};
 ghost use Rattle.tcshow_lib.specs.declared.run.Ended.{Ended};
 
-use crate::arguments::{Request, request_of};
-use crate::asked::{Asked, Chosen};
-use crate::names::{interface_of, names_in};
+use crate::arguments::{Request, Task, request_of};
+use crate::asked::{Asked, Form};
+use crate::choice::{Choice, NoChoice};
+use crate::kinds::{write_all_kinds, write_kind, write_schema_of_line};
+use crate::names::names_in;
 use crate::packets::Packets;
 use crate::run::{Ended, run};
 use crate::status::{Stop, status_of};
@@ -19,13 +21,17 @@ use std::io::{self, Input, Print, Read, Write};
 use std::process::ExitCode;
 use std::rt::{Env, Files};
 use std::{env, fs};
+use tc_chosen::Chosen;
+use tc_colours::Coloured;
 use tc_outline::Interfaces;
-use tc_streams::complain;
+use tc_streams::{complain, write_all};
+use tc_words::LINK_FORMS;
 
 /// The whole program: reads its arguments, shows the messages of its input on standard output, and returns the exit
-/// status. Why it ended early is written to `errors`.
+/// status. Why it ended early is written to `errors`. `is_terminal` says whether standard output is a terminal.
 pub fn tcshow<R: Env + AllocGlobal + Files + Input + Print + Eprint, E: Write>(
     rt: &R,
+    is_terminal: bool,
     errors: &mut E,
 ) -> ExitCode {
     let alloc = rt.alloc();
@@ -38,7 +44,11 @@ pub fn tcshow<R: Env + AllocGlobal + Files + Input + Print + Eprint, E: Write>(
         Err(_) => return ExitCode::from(complain(errors, NO_MEMORY, 3)),
     };
     match request_of(alloc, words.as_slice()) {
-        Ok(request) => ExitCode::from(show(rt, &request, errors)),
+        Ok(mut request) => {
+            request.in_colours = request.form == Form::Lines
+                && request.colours.are_on(is_terminal && allows_colours(rt));
+            ExitCode::from(perform(rt, &request, errors))
+        }
         Err(error) => {
             if error.kind() == ErrorKind::OutOfMemory {
                 return ExitCode::from(complain(errors, NO_MEMORY, 3));
@@ -49,7 +59,62 @@ pub fn tcshow<R: Env + AllocGlobal + Files + Input + Print + Eprint, E: Write>(
     }
 }
 
+// True unless `NO_COLOR` is set to some text.
+fn allows_colours<R: Env + AllocGlobal>(rt: &R) -> bool {
+    match env::var(rt, "NO_COLOR") {
+        Ok(text) => text.as_str().is_empty(),
+        Err(_) => true,
+    }
+}
+
 const NO_MEMORY: &str = "tcshow: out of memory\n";
+
+// Does what is asked for.
+fn perform<R: AllocGlobal + Files + Input + Print, E: Write>(
+    rt: &R,
+    request: &Request<'_>,
+    errors: &mut E,
+) -> u8 {
+    match request.task {
+        Task::Show => show(rt, request, errors),
+        Task::Schema => print_schema(rt, errors),
+        Task::Explain(None) => print_kinds(rt, errors),
+        Task::Explain(Some(kind)) => print_kind(rt, kind, errors),
+    }
+}
+
+fn print_schema<R: AllocGlobal + Print, E: Write>(rt: &R, errors: &mut E) -> u8 {
+    let mut text = String::new(rt.alloc());
+    match write_schema_of_line(rt.alloc(), &mut text) {
+        Ok(()) => print(rt, text.as_str(), errors),
+        Err(_) => complain(errors, NO_MEMORY, 3),
+    }
+}
+
+fn print_kinds<R: AllocGlobal + Print, E: Write>(rt: &R, errors: &mut E) -> u8 {
+    let mut text = String::new(rt.alloc());
+    match write_all_kinds(&mut text) {
+        Ok(()) => print(rt, text.as_str(), errors),
+        Err(_) => complain(errors, NO_MEMORY, 3),
+    }
+}
+
+fn print_kind<R: AllocGlobal + Print, E: Write>(rt: &R, kind: &str, errors: &mut E) -> u8 {
+    let mut text = String::new(rt.alloc());
+    match write_kind(kind, &mut text) {
+        Ok(true) => print(rt, text.as_str(), errors),
+        Ok(false) => complain_of_choice(rt.alloc(), NoChoice::Kind(kind), errors),
+        Err(_) => complain(errors, NO_MEMORY, 3),
+    }
+}
+
+// Writes a text on standard output, and returns the exit status.
+fn print<R: Print, E: Write>(rt: &R, text: &str, errors: &mut E) -> u8 {
+    match write_all(&mut io::writer(rt), text.as_bytes()) {
+        Ok(()) | Err(tc_streams::Stop::Closed) => 0,
+        Err(_) => complain(errors, "tcshow: write failed\n", 3),
+    }
+}
 
 // Reads the names of interfaces, where there is a file of them.
 fn show<R: AllocGlobal + Files + Input + Print, E: Write>(
@@ -74,12 +139,8 @@ fn show_with<R: AllocGlobal + Files + Input + Print, E: Write>(
     errors: &mut E,
 ) -> u8 {
     match names_in(rt.alloc(), text) {
-        Ok(Some(names)) => show_named(rt, request, names.as_slice(), errors),
-        Ok(None) => complain(
-            errors,
-            "tcshow: a line of names isn't a number and a name\n",
-            2,
-        ),
+        Ok(Ok(names)) => show_named(rt, request, names.as_slice(), errors),
+        Ok(Err(line)) => complain_of_names(rt.alloc(), line, errors),
         Err(_) => complain(errors, NO_MEMORY, 3),
     }
 }
@@ -90,30 +151,48 @@ fn show_named<R: AllocGlobal + Files + Input + Print, E: Write>(
     names: &[(u32, &str)],
     errors: &mut E,
 ) -> u8 {
-    let interface = match request.interface {
-        None => None,
-        Some(word) => match interface_of(names, word) {
-            Some(number) => Some(number),
-            None => return complain(errors, "tcshow: unknown interface\n", 2),
-        },
-    };
+    match Choice::of_request(rt.alloc(), request, names) {
+        Ok(choice) => show_chosen(rt, request, names, choice.chosen(), errors),
+        Err(none) => complain_of_choice(rt.alloc(), none, errors),
+    }
+}
+
+fn show_chosen<R: AllocGlobal + Files + Input + Print, E: Write>(
+    rt: &R,
+    request: &Request<'_>,
+    names: &[(u32, &str)],
+    chosen: Chosen<'_>,
+    errors: &mut E,
+) -> u8 {
     let asked = Asked {
         form: request.form,
+        all: request.all,
         without_header: request.without_header,
-        chosen: Chosen {
-            kind: request.kind,
-            rtm: request.rtm,
-            interface,
-        },
+        chosen,
         names: Interfaces { names },
         has_summary: request.has_summary,
     };
     let mut writer = io::writer(rt);
+    if request.in_colours {
+        let mut writer = Coloured::new(rt.alloc(), writer);
+        return show_file(rt, request.file, &asked, &mut writer, errors);
+    }
+    show_file(rt, request.file, &asked, &mut writer, errors)
+}
+
+// Shows what is asked for of a file, or of standard input.
+fn show_file<R: AllocGlobal + Files + Input, W: Write, E: Write>(
+    rt: &R,
+    file: Option<&str>,
+    asked: &Asked<'_>,
+    writer: &mut W,
+    errors: &mut E,
+) -> u8 {
     let alloc = rt.alloc();
-    match request.file {
-        None => serve(alloc, alloc, &asked, &mut rt.reader(), &mut writer, errors),
+    match file {
+        None => serve(alloc, alloc, asked, &mut rt.reader(), writer, errors),
         Some(path) => match fs::open(rt, path) {
-            Ok(mut file) => serve(alloc, alloc, &asked, &mut file, &mut writer, errors),
+            Ok(mut file) => serve(alloc, alloc, asked, &mut file, writer, errors),
             Err(_) => complain(errors, "tcshow: the file can't be read\n", 2),
         },
     }
@@ -164,5 +243,21 @@ fn complain_of_packets<E: Write>(json: Global, errors: &mut E, packets: &Packets
     match format!(in json; "tcshow: {packets}\n") {
         Ok(text) => complain(errors, text.as_str(), status),
         Err(_) => complain(errors, "tcshow: no route netlink\n", status),
+    }
+}
+
+// Writes which line of a file of names isn't read, if it can, and returns the status of a wrong usage.
+fn complain_of_names<E: Write>(alloc: Global, line: u64, errors: &mut E) -> u8 {
+    match format!(in alloc; "tcshow: names, line {line}: {LINK_FORMS}\n") {
+        Ok(text) => complain(errors, text.as_str(), 2),
+        Err(_) => complain(errors, NO_MEMORY, 3),
+    }
+}
+
+// Writes which word isn't known, and what there is.
+fn complain_of_choice<E: Write>(alloc: Global, none: NoChoice<'_>, errors: &mut E) -> u8 {
+    match none.text(alloc) {
+        Ok(text) => complain(errors, text.as_str(), 2),
+        Err(_) => complain(errors, NO_MEMORY, 3),
     }
 }

@@ -7,6 +7,7 @@ use crate::asked::{Asked, Form};
 use crate::counts::Counts;
 use crate::found::Found;
 use crate::line::json_of;
+use crate::links::Links;
 use crate::notice::{Notice, NoticeLine};
 use crate::output::Output;
 use crate::pages::text_of;
@@ -31,6 +32,8 @@ pub(crate) struct Shower<'a, A: Allocator> {
     /// What is shown and not yet written.
     pub(crate) output: Output<A>,
     pub(crate) counts: Counts,
+    /// The names of interfaces that were told.
+    pub(crate) links: Links,
     summary: Summary,
 }
 
@@ -59,6 +62,7 @@ impl<'a, A: Allocator + Copy> Shower<'a, A> {
             page: Page::new(alloc, layout_of(asked.form)),
             output: Output::new(alloc, is_json(asked.form)),
             counts: Counts::default(),
+            links: Links::new(json),
             summary: Summary::new(json),
         }
     }

@@ -1,6 +1,5 @@
 //! Attributes with their places, messages as lines, faults with their places, and allocations that fail.
 
-mod every;
 mod faults;
 mod index;
 mod memory;

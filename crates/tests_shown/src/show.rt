@@ -4,12 +4,15 @@
 mod answers;
 mod arguments;
 mod captures;
+mod choices;
 mod counts;
 mod cuts;
+mod dumps;
 mod formats;
 mod holes;
 mod known;
 mod memory;
+mod outlines;
 mod random;
 mod runs;
 mod streams;

@@ -19,7 +19,7 @@ fn text_of(alloc: Global, put: &Put, n: u64) -> Result<Vec<u8>, AllocError> {
     match put {
         Put::Number(unit) => put_number(&mut out, *unit, n)?,
         Put::Verdict => put_verdict(&mut out, (n % 0x1_0000_0000) as u32)?,
-        Put::Handle => put_u32_handle(&mut out, (n % 0x1_0000_0000) as u32)?,
+        Put::Handle => put_u32_handle(&mut out, n)?,
     }
     Ok(out)
 }

@@ -1,13 +1,31 @@
 //! Which texts are written as they are.
 
-ghost use Rattle.std.specs.Prelude.{◌↔◌, IsTrue};
-ghost use Rattle.tc_outline.specs.Page.{IsPrintable};
+ghost use Rattle.std.specs.Prelude.{◌↔◌, ◌≤◌, IsTrue, length, true};
+ghost use Rattle.tc_outline.specs.Page.{IsPrintable, IsShown};
 
 // True if each byte is printable ASCII.
 pub(super) fn is_printable(text: &[u8]) -> bool
     ensures { IsTrue result ↔ IsPrintable text.now }
 {
     text.iter().all(|byte| 0x20 <= *byte && *byte <= 0x7e)
+}
+
+// True if each byte is printable ASCII or a line feed.
+pub(super) fn are_shown(text: &[u8]) -> bool
+    ensures { IsTrue result ↔ IsShown true text.now }
+{
+    text.iter()
+        .all(|byte| 0x20 <= *byte && *byte <= 0x7e || *byte == b'\n')
+}
+
+// How many blanks a line begins with.
+pub(super) fn margin_of(line: &[u8]) -> usize
+    ensures { result ≤ length line.now }
+{
+    match line.iter().position(|byte| *byte != b' ') {
+        Some(at) => at,
+        None => line.len(),
+    }
 }
 
 // True if the text needs no quotes.

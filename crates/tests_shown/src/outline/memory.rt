@@ -3,7 +3,8 @@
 use crate::outline::messages::TWO_ACTIONS;
 use failing_alloc::Failing;
 use std::test::Fail;
-use tc_outline::{Interfaces, Layout, Page, outline};
+use tc_columns::KindColumns;
+use tc_outline::{Layout, Page, outline};
 
 #[test]
 fn each_request_refused(rt: HostRuntime) -> Result<(), Fail> {
@@ -11,15 +12,15 @@ fn each_request_refused(rt: HostRuntime) -> Result<(), Fail> {
     for at in 1..1000u64 {
         let failing = Failing::new(rt.alloc(), at);
         let mut page = Page::new(&failing, Layout::Lines);
-        let outcome = outline(
-            &mut page,
-            &bytes,
-            TWO_ACTIONS.what,
-            &Interfaces { names: &[] },
-        );
+        let columns = KindColumns {
+            root: TWO_ACTIONS.root,
+            interfaces: &[],
+            all: false,
+        };
+        let outcome = outline(rt.alloc(), &mut page, &bytes, columns);
         assert!(rt; outcome.is_err() == failing.has_refused());
         if outcome.is_ok() {
-            assert!(rt; at > 4);
+            assert!(rt; at > 1);
             return Ok(());
         }
     }

@@ -1,7 +1,8 @@
 //! Refused messages: the fault, its numbers and its place.
 
 use std::test::Fail;
-use tc_outline::{Interfaces, Layout, Page, What, locate, outline};
+use tc_columns::{KindColumns, Root};
+use tc_outline::{Layout, Page, What, locate, outline};
 
 // What a message speaks of, its bytes in hex, and its last line.
 static REFUSED: [(What, &str, &str); 18] = [
@@ -128,13 +129,28 @@ fn last_line(text: &str) -> &str {
     }
 }
 
+fn root_of(what: What) -> Root {
+    match what {
+        What::Action => Root::Action,
+        What::Chain => Root::Chain,
+        What::Filter => Root::Filter,
+        What::Class => Root::Class,
+        What::Qdisc => Root::Qdisc,
+    }
+}
+
 #[test]
 fn refused_messages(rt: HostRuntime) -> Result<(), Fail> {
     let alloc = rt.alloc();
     for (what, digits, last) in REFUSED {
         let bytes = hex::decode(alloc, digits.as_bytes())?;
         let mut page = Page::new(alloc, Layout::Lines);
-        let fault = outline(&mut page, &bytes, what, &Interfaces { names: &[] })?;
+        let columns = KindColumns {
+            root: root_of(what),
+            interfaces: &[],
+            all: false,
+        };
+        let fault = outline(alloc, &mut page, &bytes, columns)?;
         let text = std::str::from_utf8(page.bytes())
             .ok()
             .ok_or("a page is text")?;

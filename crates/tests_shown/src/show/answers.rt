@@ -2,7 +2,7 @@
 
 use crate::show::runs::{all_in, shown};
 use std::test::Fail;
-use tcshow_lib::asked::{Chosen, Form};
+use tcshow_lib::asked::Form;
 
 // pcap, a packet for each: EINVAL of a request, with a text and a place, from the port 77, of packet type 7; the same, capped; an
 // acknowledgement; EEXIST of a request for links; NLMSG_DONE; an error 777 of a request that is cut.
@@ -21,20 +21,20 @@ const ANSWERS: &str =
      ffff1400000024000006090000000000000000000000";
 
 static LINES: &str =
-    r#"1700000000.123456000 NLMSG_ERROR EINVAL seq 155 "NLA_F_NESTED is missing" at 44 /attributes/1/Options/1/Flower/Actions
-  RTM_NEWTFILTER index 3 handle 0x0 parent ffff:fff2 pref 601 protocol ip (0x0800)
+    r#"1700000000.123456000 NLMSG_ERROR EINVAL ack_tlvs seq 155 port 77 "NLA_F_NESTED is missing" at 44 /attributes/1/Options/1/Flower/Actions
+  RTM_NEWTFILTER create excl seq 155 index 3 handle 0x0 parent ffff:fff2 pref 601 protocol ip (0x0800)
   kind flower
   options
-    ip_proto 6
+    ip_proto tcp (6)
     actions
       action 1
         kind gact
 
-1700000000.123456000 NLMSG_ERROR EINVAL seq 155 "NLA_F_NESTED is missing" at 44
-  RTM_NEWTFILTER
+1700000000.123456000 NLMSG_ERROR EINVAL capped ack_tlvs seq 155 "NLA_F_NESTED is missing" at 44
+  RTM_NEWTFILTER create excl seq 155
 
 1700000000.123456000 NLMSG_ERROR 777 seq 9
-  RTM_NEWQDISC
+  RTM_NEWQDISC create excl seq 9 raw 00000000
   refused BufferTooSmall len 4 needed 20 offset 0 path /header
 
 summary
@@ -53,7 +53,7 @@ summary
 "#;
 
 static ONE_LINE: &str =
-    r#"1700000000.123456000 NLMSG_ERROR EINVAL seq 155 "NLA_F_NESTED is missing" at 44 /attributes/1/Options/1/Flower/Actions {RTM_NEWTFILTER index 3 handle 0x0 parent ffff:fff2 pref 601 protocol ip (0x0800) kind flower options {ip_proto 6 actions {action 1 {kind gact}}}}
+    r#"1700000000.123456000 NLMSG_ERROR EINVAL ack_tlvs seq 155 port 77 "NLA_F_NESTED is missing" at 44 /attributes/1/Options/1/Flower/Actions {RTM_NEWTFILTER create excl seq 155 index 3 handle 0x0 parent ffff:fff2 pref 601 protocol ip (0x0800) kind flower options {ip_proto tcp (6) actions {action 1 {kind gact}}}}
 "#;
 
 static JSON: &str =
@@ -73,11 +73,9 @@ fn answers(rt: HostRuntime) -> Result<(), Fail> {
     let run = shown(alloc, &all_in(Form::Json), &capture);
     assert!(rt; run.status == 0 && run.written.as_slice() == JSON.as_bytes());
     let mut asked = all_in(Form::OneLine);
-    asked.chosen = Chosen {
-        kind: Some("flower"),
-        rtm: None,
-        interface: Some(3),
-    };
+    asked.chosen.kinds = &["flower"];
+    asked.chosen.interfaces = &[3];
+    asked.chosen.refused = true;
     let run = shown(alloc, &asked, &capture);
     assert!(rt; run.status == 0 && run.written.as_slice() == ONE_LINE.as_bytes());
     Ok(())

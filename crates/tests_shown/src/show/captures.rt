@@ -148,7 +148,8 @@ const MODIFIED_BIG: &str =
 
 // A message as it is shown on one line, after a time or none.
 fn line_of(alloc: Global, time: &str) -> Result<String, Fail> {
-    let line = "RTM_NEWQDISC index 2 handle 1: parent root kind fq_codel options {limit 10240p}\n";
+    let line =
+        "RTM_NEWQDISC create excl seq 5 index 2 handle 1: parent root kind fq_codel options {limit 10240p}\n";
     Ok(format!(in alloc; "{time}{line}")?)
 }
 

@@ -3,7 +3,8 @@
 use crate::show::runs::{all_in, shown};
 use std::alloc::Global;
 use std::test::Fail;
-use tcshow_lib::asked::{Asked, Chosen, Form};
+use tc_chosen::Types;
+use tcshow_lib::asked::{Asked, Form};
 
 // Parts of a pcapng, and how often they are in it: a section with interfaces of the link types 253 and 1; then packets, with a qdisc;
 // with one that is refused; with an answer of the kernel; with a qdisc that isn't chosen; with another netlink message; of another
@@ -55,11 +56,10 @@ fn capture(alloc: Global) -> Result<Vec<u8>, Fail> {
 // All qdiscs that are made, and counts.
 fn asked_in(form: Form) -> Asked<'static> {
     let mut asked = all_in(form);
-    asked.chosen = Chosen {
-        kind: None,
-        rtm: Some("RTM_NEWQDISC"),
-        interface: None,
-    };
+    asked.chosen.types = &[Types {
+        first: 36,
+        last: 36,
+    }];
     asked.has_summary = true;
     asked
 }

@@ -48,12 +48,12 @@ fn long_pieces_are_skipped(rt: HostRuntime) -> Result<(), Fail> {
     let run = shown(alloc, &alone_in(Form::OneLine, Holds::Action), &text);
     assert!(rt; run.status == 1);
     let want =
-        "broken: no hex at 0\n refused BufferTooSmall len 1 needed 4 offset 0 path /header\n";
+        "broken: no hex at 0\naction raw 00 refused BufferTooSmall len 1 needed 4 offset 0 path /header\n";
     assert!(rt; run.written.get(..want.len()) == Some(want.as_bytes()));
     let (_, rest) = run.written.split_at(want.len().min(run.written.len()));
     let mut lines = rest.split(|byte| *byte == b'\n');
     assert!(rt; lines.next().ok_or("a line")?.get(..9) == Some(b"skipped: ".as_slice()));
-    assert!(rt; lines.next() == Some(b"family unspec".as_slice()));
+    assert!(rt; lines.next() == Some(b"action".as_slice()));
     assert!(rt; lines.next() == Some(b"broken: no hex at 3300036".as_slice()));
     Ok(())
 }

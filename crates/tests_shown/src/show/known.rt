@@ -2,8 +2,9 @@
 
 use crate::show::runs::{all_in, shown};
 use std::test::Fail;
+use tc_chosen::{Chosen, Types};
 use tc_outline::Interfaces;
-use tcshow_lib::asked::{Chosen, Form};
+use tcshow_lib::asked::Form;
 
 // In hex: a qdisc of fq_codel with a limit of 10240 packets; the same with a limit of three bytes; NLMSG_DONE; a list of actions with an
 // index of 5.
@@ -14,17 +15,18 @@ static TEXT: &str =
 30000000 3000 0000 07000000 00000000 00000000 1c000100 18000100 08000300 05000000 0b0001006d697272656400 00
 ";
 
-static LINES: &str = "RTM_NEWQDISC index 2 (eth0) handle 1: parent root
+static LINES: &str = "RTM_NEWQDISC create excl seq 5 index 2 (eth0) handle 1: parent root
 kind fq_codel
 options
   limit 10240p
 
-RTM_NEWQDISC index 2 (eth0) handle 1: parent root
+RTM_NEWQDISC create excl seq 5 index 2 (eth0) handle 1: parent root
 kind fq_codel
 options
+  limit raw 002800
 refused WrongLength expected 4 got 3 offset 44 path /attributes/1/Options/0/FqCodel/Limit
 
-RTM_NEWACTION family unspec
+RTM_NEWACTION seq 7
 actions
   action 1
     index 5
@@ -46,7 +48,7 @@ summary
   0 broken
 ";
 
-static ONE_LINE: &str = "RTM_NEWACTION family unspec actions {action 1 {index 5 kind mirred}}\n";
+static ONE_LINE: &str = "RTM_NEWACTION seq 7 actions {action 1 {index 5 kind mirred}}\n";
 
 static JSON: &str =
     r#"{"type":"RTM_NEWQDISC","flags":1536,"seq":5,"fits":true,"settled":true,"canonical":true,"message":{"header":{"family":"Unspec","index":2,"handle":"1:","parent":"root","info":0},"attributes":[{"Kind":"fq_codel"},{"Options":[{"FqCodel":{"Limit":10240}}]}]}}
@@ -65,33 +67,21 @@ fn known_messages(rt: HostRuntime) -> Result<(), Fail> {
     assert!(rt; run.status == 1);
     assert!(rt; run.written.as_slice() == LINES.as_bytes());
     let mut asked = all_in(Form::OneLine);
-    asked.chosen = Chosen {
-        kind: Some("mirred"),
-        rtm: None,
-        interface: None,
-    };
+    asked.chosen.kinds = &["mirred"];
     let run = shown(alloc, &asked, TEXT.as_bytes());
     assert!(rt; run.status == 0 && run.written.as_slice() == ONE_LINE.as_bytes());
-    asked.chosen = Chosen {
-        kind: None,
-        rtm: Some("RTM_NEWACTION"),
-        interface: None,
-    };
+    asked.chosen = Chosen::ALL;
+    asked.chosen.types = &[Types {
+        first: 48,
+        last: 48,
+    }];
     let run = shown(alloc, &asked, TEXT.as_bytes());
     assert!(rt; run.status == 0 && run.written.as_slice() == ONE_LINE.as_bytes());
     let mut asked = all_in(Form::Json);
-    asked.chosen = Chosen {
-        kind: None,
-        rtm: None,
-        interface: Some(2),
-    };
+    asked.chosen.interfaces = &[2];
     let run = shown(alloc, &asked, TEXT.as_bytes());
     assert!(rt; run.status == 1 && run.written.as_slice() == JSON.as_bytes());
-    asked.chosen = Chosen {
-        kind: None,
-        rtm: None,
-        interface: Some(3),
-    };
+    asked.chosen.interfaces = &[3];
     let run = shown(alloc, &asked, TEXT.as_bytes());
     assert!(rt; run.status == 0 && run.written.is_empty());
     Ok(())

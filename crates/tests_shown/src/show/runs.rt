@@ -2,26 +2,29 @@
 
 use std::alloc::Global;
 use tc_capture::Holds;
+use tc_chosen::Chosen;
 use tc_outline::Interfaces;
-use tcshow_lib::asked::{Asked, Chosen, Form};
+use tcshow_lib::asked::{Asked, Form};
 use tcshow_lib::program::serve;
 
 /// The forms that messages are shown in.
 pub(crate) static FORMS: [Form; 3] = [Form::Lines, Form::OneLine, Form::Json];
 
-/// What a run does that shows all messages.
-pub(crate) fn all_in(form: Form) -> Asked<'static> {
+/// What a run does that shows the messages that are chosen.
+pub(crate) fn chosen_in<'a>(form: Form, chosen: Chosen<'a>) -> Asked<'a> {
     Asked {
         form,
+        all: false,
         without_header: None,
-        chosen: Chosen {
-            kind: None,
-            rtm: None,
-            interface: None,
-        },
+        chosen,
         names: Interfaces { names: &[] },
         has_summary: false,
     }
+}
+
+/// What a run does that shows all messages.
+pub(crate) fn all_in(form: Form) -> Asked<'static> {
+    chosen_in(form, Chosen::ALL)
 }
 
 /// The same, where each line of hex is a message without a netlink header.

@@ -1,11 +1,11 @@
 use Rattle.std.proofs.Common.{ℕ, List, [], ◌∷◌, ◌++◌, Option, Some, None, IfSome, ◌≡◌, option_and_then, refl, subst, sym, ap, ◌∙◌}
 use mathlib.Core.Logic.{∥∥₁_map}
-use Rattle.serde.specs.Event.{Event, Log}
+use Rattle.serde.specs.Event.{Event, Log, Logs}
 use Rattle.serde_json.specs.Logged.{then}
 use Rattle.tc_lines.specs.Columns.{Table}
-use Rattle.tc_lines.specs.Log.{event_of}
+use Rattle.tc_lines.specs.Log.{event_of, marked}
 use Rattle.tc_lines.specs.Walk.{Follows, State, start, step, walked}
-use Rattle.tc_lines.proofs.Walked.{walked-append}
+use Rattle.tc_lines.proofs.Walked.{marked_logs, walked-append}
 use Rattle.tc_lines.proofs.lines.after.Goals as goal
 
 extends : (t : Table) (root : ℕ) (old new : State) (log : Log) (event : Option Event) → IfSome event (λ e. step t e old ≡ Some new)
@@ -17,5 +17,11 @@ extends t root old new (Some es) (Some e) taken h =
     walked-append t es (e ∷ []) (Some (start root)) ∙ ap (walked t (e ∷ [])) h ∙ taken
 
 pub returns-clause-follows : goal.returns-clause-follows
-returns-clause-follows c t root old new h took =
+returns-clause-follows g c t root old new h took =
     subst (λ log. Follows t root log new) (sym c.then.ensures) (∥∥₁_map h (extends t root old new c.args.log.now.events (event_of c.args.note) took))
+
+pub returns-clause-logs : goal.returns-clause-logs
+returns-clause-logs g c =
+    let given = g.C.Columns.given c.args._columns.now in
+    subst (λ log. IfSome (event_of c.args.note) (Logs (marked given c.args.log.now.events) (marked given log))) (sym c.then.ensures)
+    (marked_logs given c.args.log.now.events (event_of c.args.note))

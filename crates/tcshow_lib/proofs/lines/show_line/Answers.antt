@@ -1,7 +1,6 @@
 use Rattle.std.proofs.Common.{◌+◌, drop, take}
 use Rattle.tc_input.specs.Left.{left_of, rest_of}
-use Rattle.tc_input.specs.Text.{on_line}
-use Rattle.tcshow_lib.specs.Reading.{things_said}
+use Rattle.tcshow_lib.specs.Reading.{things_at}
 use Rattle.tcshow_lib.specs.State.{state_of}
 use Rattle.tcshow_lib.proofs.InOrder.{line_gives}
 use Rattle.tcshow_lib.proofs.Progress.{puts_progress}
@@ -13,8 +12,8 @@ returns-in_ok-write_much-in-Some-clause-ran g c =
     let reader = g.R.Read.remaining c.args.reader.now in
     let rest = rest_of c.line_end.new.self in
     let line = take c.in-Some.end rest in (
-      things_said header (on_line line),
-      puts_progress (things_said header (on_line line)) _ _ _ _ _ c.in_ok-put_front-in-Some.ensures.put c.in_ok-write_much-in-Some.ensures.ran,
-      line_gives header line (left_of c.args.input.now reader) (rest_of c.use_line.new.self) (drop (c.in-Some.end + 1) rest) reader
-          (c.in-Some.ensures.line reader) c.use_line.ensures,
+      things_at header c.args.dump.now.items line,
+      puts_progress (things_at header c.args.dump.now.items line) _ _ _ _ _ c.in_ok-put_front-in-Some.ensures.put c.in_ok-write_much-in-Some.ensures.ran,
+      line_gives header c.args.dump.now.items line c.put_front.new.dump.items (left_of c.args.input.now reader) (rest_of c.use_line.new.self) (drop (c.in-Some.end + 1) rest) reader
+          (c.in-Some.ensures.line reader) c.use_line.ensures c.in_ok-put_front-in-Some.ensures.dump,
     )

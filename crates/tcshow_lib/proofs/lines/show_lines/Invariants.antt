@@ -1,4 +1,4 @@
-use Rattle.std.proofs.Common.{◌≡◌, false, List}
+use Rattle.std.proofs.Common.{◌≡◌, false, List, []}
 use Rattle.tc_input.specs.Left.{left_of, Gives}
 use Rattle.tcshow_lib.specs.Found.{Thing}
 use Rattle.tcshow_lib.specs.Reading.{text_left}
@@ -12,6 +12,6 @@ invariant-loop g l = record {
   form : l.shower.output.is_json ≡ l.fn.shower.output.is_json;
   clean : l.fn.shower.output.is_json ≡ false → GrowsClean (g.W.Write.contents l.fn.writer) (g.W.Write.contents l.writer);
   ran : (things : List Thing) × Progress things (g.W.Write.contents l.fn.writer) (g.W.Write.contents l.writer) (state_of l.fn.shower) (state_of l.shower)
-      × Gives (text_left (state_of l.fn.shower).header (left_of l.fn.input (g.R.Read.remaining l.fn.reader))) things
-      (text_left (state_of l.fn.shower).header (left_of l.input (g.R.Read.remaining l.reader)));
+      × Gives (text_left (state_of l.fn.shower).header [] (left_of l.fn.input (g.R.Read.remaining l.fn.reader))) things
+      (text_left (state_of l.fn.shower).header l.dump.items (left_of l.input (g.R.Read.remaining l.reader)));
 }

@@ -7,12 +7,12 @@ use Rattle.tcshow_lib.proofs.shower.Shower.put_reply.Goals as goal
 pub returns-clause-put : goal.returns-clause-put
 returns-clause-put g c =
     on_ok_weaker c.show_reply.result
-    (λ x. puts_answer (header_view c.args.reply.now.header) c.args.reply.now.answer.is_capped (message_view c.args.reply.now.request) x.0 c.takes.result
-    (state_of c.args.self.now) (state_of c.show_reply.new.self) c.if-not-takes.false c.takes.ensures x.1 x.2)
+    (λ x. puts_answer (header_view c.args.reply.now.header) c.args.reply.now.answer.is_capped (message_view c.args.reply.now.request) x.0 c.takes_request.result
+    (state_of c.args.self.now) (state_of c.show_reply.new.self) c.if-not-takes_request.false c.takes_request.ensures x.1 x.2)
     c.show_reply.ensures.put
 
-pub returns-then-not-takes-clause-put : goal.returns-then-not-takes-clause-put
-returns-then-not-takes-clause-put g c =
+pub returns-then-not-takes_request-clause-put : goal.returns-then-not-takes_request-clause-put
+returns-then-not-takes_request-clause-put g c =
     let s = state_of c.args.self.now in
-    puts_no_answer (header_view c.args.reply.now.header) c.args.reply.now.answer.is_capped (message_view c.args.reply.now.request) c.takes.result s s
-    c.if-not-takes.true c.takes.ensures (grows_none s)
+    puts_no_answer (header_view c.args.reply.now.header) c.args.reply.now.answer.is_capped (message_view c.args.reply.now.request) c.takes_request.result s s
+    c.if-not-takes_request.true c.takes_request.ensures (grows_none s)

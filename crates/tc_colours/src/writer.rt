@@ -1,0 +1,46 @@
+//! A writer of outlines in colours.
+
+use crate::paint::paint;
+use std::alloc::Global;
+use std::io::{Error, ErrorKind, Result, Write};
+
+/// A writer that hands on outlines in colours. Each write is to end with a line.
+#[derive(Drop)]
+pub struct Coloured<W: Write + Drop> {
+    inner: W,
+    alloc: Global,
+    is_first: bool,
+}
+
+impl<W: Write + Drop> Coloured<W> {
+    /// A writer to another; what is written first begins a paragraph.
+    pub fn new(alloc: Global, inner: W) -> Coloured<W> {
+        Coloured {
+            inner,
+            alloc,
+            is_first: true,
+        }
+    }
+
+    /// The other writer.
+    pub fn into_inner(self) -> W {
+        let Coloured { inner, .. } = self;
+        inner
+    }
+}
+
+impl<W: Write + Drop> Write for Coloured<W> {
+    fn write(&mut self, buf: &[u8]) -> Result<usize> {
+        let mut out = Vec::new(self.alloc);
+        match paint(&mut out, self.is_first, buf) {
+            Ok(is_first) => self.is_first = is_first,
+            Err(_) => return Err(Error::from(ErrorKind::OutOfMemory)),
+        }
+        self.inner.write_all(&out)?;
+        Ok(buf.len())
+    }
+
+    fn flush(&mut self) -> Result<()> {
+        self.inner.flush()
+    }
+}

@@ -1,0 +1,34 @@
+-- The columns of messages that speak of one thing.
+use Rattle.std.specs.Prelude.{List, ℕ}
+use Rattle.tc_columns.specs.Tables.{all_columns, all_names}
+use Rattle.tc_columns.specs.declared.root.Root.{Root}
+use Rattle.tc_columns.specs.declared.root.Root.TheVariants as root
+use Rattle.tc_forms.specs.Places.{kind_place}
+use Rattle.tc_forms.specs.Tables.{Kinds, Part}
+use Rattle.tc_kinds.specs.Table.{tc_tables}
+use Rattle.tc_lines.specs.Columns.{Given, Table, interface_in}
+
+-- where the columns of a message are
+abbrev pub root_place : Root → ℕ
+root_place root.Qdisc = 6000
+root_place root.Class = 6001
+root_place root.Filter = 6002
+root_place root.U32Filter = 6003
+root_place root.Chain = 6004
+root_place root.Action = 6005
+root_place root.Flush = 6006
+
+-- the columns of a kind are where its rows are in the tables of all kinds
+abbrev pub under_part : Part → ℕ → List ℕ → ℕ
+under_part (Kinds common others kinds) place kind = kind_place kind others kinds
+under_part part place kind = place
+
+abbrev pub kind_table : Given → Table
+kind_table g =
+    record {
+      columns = all_columns;
+      under = λ p kind. under_part (tc_tables p) p kind;
+      names = all_names;
+      interface = λ n. interface_in g.interfaces n;
+      all = g.all
+    }

@@ -1,0 +1,7 @@
+//! Tests alone: of the lines of messages.
+#![tactic(auto)]
+
+#[cfg(test)]
+mod known;
+#[cfg(test)]
+mod parts;

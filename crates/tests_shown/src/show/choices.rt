@@ -1,0 +1,214 @@
+//! Messages that are chosen.
+
+use crate::show::runs::{Outcome, chosen_in, shown};
+use std::alloc::Global;
+use std::str;
+use std::test::Fail;
+use tc_chosen::Chosen;
+use tcshow_lib::arguments::request_of;
+use tcshow_lib::asked::Form;
+use tcshow_lib::choice::Choice;
+use tcshow_lib::names::names_in;
+
+// What Linux answered tc, a message a line: a qdisc of bfifo, handle 1:; a filter of u32 with an action of mirred, handle 800::800, parent
+// 1:, chain 0, priority 1, index 7; one of flower with such an action, priority 49152, chain 3, index 3; such an action alone; a chain 7;
+// and a qdisc whose header is cut.
+static LINES: &str =
+    "38000000240000060700000000000000000000000400000000000100ffffffff000000000a000100626669666f00000008000200b80b0000\n\
+440100002c000006070000000000000000000000070000000008d0800000010008000e00080001007533320008000b000000000010010200240005000100\
+0100000000000000000000000000ffffffff010203070c00000000000000080002000000d08008000b0008000000b8000700b40001000b0001006d697272\
+6564000050000400040006001400010000000000000000000000000000000000040006001400070000000000000000000000000000000000040006001800\
+0300000000000000000000000000000000000000000008000a00000000004c00020020000200010000000000000004000000010000000100000001000000\
+080000000400030024000100400000000000000040000000000000000000000000000000000000000000000004000c001c00090000000000000000000000\
+0000000000000000000000000000\n\
+200100002c0000060700000000000000000000000300000001000000f2ffffff080000c00b000100666c6f776572000008000b0000000000e80002000600\
+08000800000008000c000103030708000d00ffffffff08001600080000000800560000000000bc000300b80001000b0001006d6972726564000004000500\
+5000040004000600140001000000000000000000000000000000000004000600140007000000000000000000000000000000000004000600180003000000\
+00000000000000000000000000000000000008000a00000000004c0002002000020001000000000000000300000001000000010000000200000004000000\
+04000300240001002200000000000000220000000000000000000000000000000000000000000000\n\
+d000000030000006070000000000000000000000bc000100b80001000b0001006d6972726564000044000400140001000000000000000000000000000000\
+000014000700000000000000000000000000000000001800030000000000000000000000000000000000000000000600060000ff00000c00090000000000\
+0300000008000a000000000048000200200002000700000000000000ffffffff01000000000000000400000002000000240001001d000000000000001d00\
+00000000000000000000000000000000000000000000\n\
+5c0000006400000607000000000000000000000007000000000000000000ffff0000000008000b00070000000b000100666c6f7765720000240002000a00\
+040000000000000000000a000500ffffffffffff00000600080000000000\n\
+180000002400000605000000000000000000000002000000\n";
+
+// pcap: a qdisc of fq_codel, captured at 1700000000.123456.
+static CAPTURE: &str =
+    "d4c3b2a102000400000000000000000000001000fd00000000f1536540e2010050000000500000000004033800000000000000000000000040000000\
+240000060500000000000000000000000200000000000100ffffffff000000000d00010066715f636f64656c000000000c0002000800020000280000";
+
+// How many lines of JSON are shown of an input, and the status; none where the words choose nothing.
+fn run(alloc: Global, words: &[&str], input: &[u8]) -> Result<Option<(usize, u8)>, Fail> {
+    let request = request_of(alloc, words)?;
+    let choice = match Choice::of_request(alloc, &request, &[]) {
+        Ok(choice) => choice,
+        Err(_) => return Ok(None),
+    };
+    let asked = chosen_in(Form::Json, choice.chosen());
+    let Outcome {
+        status,
+        written,
+        ..
+    } = shown(alloc, &asked, input);
+    Ok(Some((
+        written.iter().filter(|byte| **byte == b'\n').count(),
+        status,
+    )))
+}
+
+#[test]
+fn each_option(rt: HostRuntime) -> Result<(), Fail> {
+    let alloc = rt.alloc();
+    let all: [(&[&str], usize, u8); 28] = [
+        (&["tcshow"], 6, 1),
+        (&["tcshow", "--kind", "bfifo"], 1, 0),
+        (&["tcshow", "--kind", "mirred"], 3, 0),
+        (&["tcshow", "--kind", "mirred", "--kind", "bfifo"], 4, 0),
+        (
+            &[
+                "tcshow", "--kind", "mirred", "--kind", "bfifo", "--dev", "7",
+            ],
+            1,
+            0,
+        ),
+        (&["tcshow", "--type", "newqdisc"], 2, 1),
+        (&["tcshow", "--type", "RTM_NEWTFILTER"], 2, 0),
+        (&["tcshow", "--type", "tclass"], 0, 0),
+        (&["tcshow", "--type", "action", "--type", "100"], 2, 0),
+        (&["tcshow", "--dev", "7"], 2, 0),
+        (&["tcshow", "--dev", "7", "--dev", "3"], 3, 0),
+        (&["tcshow", "--handle", "1:"], 1, 0),
+        (&["tcshow", "--handle", "80d::800"], 1, 0),
+        (&["tcshow", "--handle", "0x1"], 1, 0),
+        (&["tcshow", "--parent", "root"], 1, 0),
+        (&["tcshow", "--parent", "1:", "--parent", "ffff:"], 2, 0),
+        (&["tcshow", "--chain", "0"], 2, 0),
+        (&["tcshow", "--chain", "7"], 1, 0),
+        (&["tcshow", "--pref", "14"], 1, 0),
+        (&["tcshow", "--pref", "49152"], 1, 0),
+        (&["tcshow", "--refused"], 1, 1),
+        (&["tcshow", "--refused", "--kind", "bfifo"], 0, 0),
+        (&["tcshow", "--since", "0"], 0, 0),
+        (&["tcshow", "--until", "2026-11-26T14:00:00Z"], 0, 0),
+        (&["tcshow", "--handle", "0x1", "--pref", "49152"], 1, 0),
+        (&["tcshow", "--handle", "0x1", "--pref", "14"], 0, 0),
+        (&["tcshow", "--kind", "mirred", "--chain", "0"], 2, 0),
+        (&["tcshow", "--type", "36", "--parent", "root"], 1, 0),
+    ];
+    for (words, count, status) in all {
+        assert!(rt;
+            run(alloc, words, LINES.as_bytes())? == Some((count, status)),
+            "{words:?}"
+        );
+    }
+    Ok(())
+}
+
+#[test]
+fn times(rt: HostRuntime) -> Result<(), Fail> {
+    let alloc = rt.alloc();
+    let capture = hex::decode(alloc, CAPTURE)?;
+    let all: [(&[&str], usize); 6] = [
+        (&["tcshow", "--since", "1700000000.123456"], 1),
+        (&["tcshow", "--since", "1700000000.123456001"], 0),
+        (&["tcshow", "--since", "2023-11-14T22:13:20Z"], 1),
+        (&["tcshow", "--until", "2023-11-14T22:13:20.123456Z"], 1),
+        (&["tcshow", "--until", "1700000000"], 0),
+        (
+            &["tcshow", "--since", "1700000000", "--until", "1700000001"],
+            1,
+        ),
+    ];
+    for (words, count) in all {
+        assert!(rt;
+            run(alloc, words, &capture)? == Some((count, 0)),
+            "{words:?}"
+        );
+    }
+    Ok(())
+}
+
+#[test]
+fn unknown_words(rt: HostRuntime) -> Result<(), Fail> {
+    let alloc = rt.alloc();
+    for (option, word, known) in [
+        (
+            "--kind",
+            "fq_code",
+            "unknown kind 'fq_code'; the kinds are:\n",
+        ),
+        ("--kind", "Htb", "\nhtb\n"),
+        ("--kind", "gac", "\ngact\n"),
+        (
+            "--type",
+            "newclass",
+            "unknown type 'newclass': a type is one of qdisc, tclass,",
+        ),
+        (
+            "--dev",
+            "eth0",
+            "unknown interface 'eth0': an interface is a number, or a name",
+        ),
+        (
+            "--handle",
+            "10",
+            "unknown handle '10': a handle is one such as 1:10",
+        ),
+        (
+            "--parent",
+            "1:2:3:4",
+            "unknown handle '1:2:3:4': a handle is one such as 1:10",
+        ),
+        (
+            "--since",
+            "today",
+            "unknown time 'today': a time is seconds since 1970",
+        ),
+        (
+            "--until",
+            "2026-02-30T00:00:00Z",
+            "unknown time '2026-02-30T00:00:00Z': ",
+        ),
+    ] {
+        let words = ["tcshow", option, word];
+        let request = request_of(alloc, &words)?;
+        let said = match Choice::of_request(alloc, &request, &[(7, "eth7")]) {
+            Err(none) => none.text(alloc)?,
+            Ok(_) => String::new(alloc),
+        };
+        assert!(rt; said.contains(known), "{option} {word}");
+    }
+    Ok(())
+}
+
+#[test]
+fn names(rt: HostRuntime) -> Result<(), Fail> {
+    let alloc = rt.alloc();
+    let text =
+        "# names\n\n7 eth7 # of the test\n5: veth0@if6: <BROADCAST,MULTICAST> mtu 1500 qdisc noop state DOWN\n";
+    let names = names_in(alloc, text)?;
+    assert!(rt;
+        matches!(names, Ok(names) if names.as_slice() == [(7, "eth7"), (5, "veth0")].as_slice())
+    );
+    for (text, line) in [("eth7", 1), ("7 eth7\n\n8\n", 3), ("5: :", 1)] {
+        let names = names_in(alloc, text)?;
+        assert!(rt; matches!(names, Err(at) if at == line), "{text}");
+    }
+    Ok(())
+}
+
+// A message of a link, which names the interface 2, and a qdisc of it.
+static LINK: &str =
+    "2c00000010000000010000000000000000000100020000000000000000000000 0900 0300 6574683900 000000
+34000000240000060100000000000000000000000200000000000100ffffffff000000000d00010066715f636f64656c00000000
+";
+
+#[test]
+fn links_name(rt: HostRuntime) {
+    let asked = chosen_in(Form::OneLine, Chosen::ALL);
+    let run = shown(rt.alloc(), &asked, LINK.as_bytes());
+    let text = str::from_utf8(&run.written).unwrap_or("");
+    assert!(rt; run.status == 0 && text.contains("index 2 (eth9) handle 1: parent root"));
+}

@@ -1,0 +1,97 @@
+//! Dumps with offsets: a netlink message as xxd, tcpdump 4.99 and tshark 4.0 print it, and plain.
+
+use crate::show::runs::{all_in, shown};
+use std::alloc::Global;
+use std::test::Fail;
+use tcshow_lib::asked::Form;
+
+const PLAIN: &str = "380000002400050681f12469000000000000000004000000\
+0000ffffffffffff000000000a000100626669666f00000008000200b80b0000";
+
+// xxd
+const XXD: &str = "00000000: 3800 0000 2400 0506 81f1 2469 0000 0000  8...$.....$i....
+00000010: 0000 0000 0400 0000 0000 ffff ffff ffff  ................
+00000020: 0000 0000 0a00 0100 6266 6966 6f00 0000  ........bfifo...
+00000030: 0800 0200 b80b 0000                      ........";
+
+// xxd -g1 -u
+const XXD_SINGLE: &str =
+    "00000000: 38 00 00 00 24 00 05 06 81 F1 24 69 00 00 00 00  8...$.....$i....
+00000010: 00 00 00 00 04 00 00 00 00 00 FF FF FF FF FF FF  ................
+00000020: 00 00 00 00 0A 00 01 00 62 66 69 66 6F 00 00 00  ........bfifo...
+00000030: 08 00 02 00 B8 0B 00 00                          ........";
+
+// tcpdump -x
+const TCPDUMP: &str = "\t0x0000:  3800 0000 2400 0506 81f1 2469 0000 0000
+\t0x0010:  0000 0000 0400 0000 0000 ffff ffff ffff
+\t0x0020:  0000 0000 0a00 0100 6266 6966 6f00 0000
+\t0x0030:  0800 0200 b80b 0000";
+
+// tcpdump -X
+const TCPDUMP_TEXT: &str = "\t0x0000:  3800 0000 2400 0506 81f1 2469 0000 0000  8...$.....$i....
+\t0x0010:  0000 0000 0400 0000 0000 ffff ffff ffff  ................
+\t0x0020:  0000 0000 0a00 0100 6266 6966 6f00 0000  ........bfifo...
+\t0x0030:  0800 0200 b80b 0000                      ........";
+
+// tshark -x, with a carriage return as in a text of Windows
+const TSHARK: &str = "0000  38 00 00 00 24 00 05 06 81 f1 24 69 00 00 00 00   8...$.....$i....\r
+0010  00 00 00 00 04 00 00 00 00 00 ff ff ff ff ff ff   ................\r
+0020  00 00 00 00 0a 00 01 00 62 66 69 66 6f 00 00 00   ........bfifo...\r
+0030  08 00 02 00 b8 0b 00 00                           ........\r";
+
+// Plain, as it is pasted.
+const PASTED: &str = "0x38 0x00 0x00 0x00 2400:0506 81f12469 00000000 # a bfifo
+# on one line: 38:00:00:00:24:00:05:06:81:F1:24:69
+38:00:00:00:24:00:05:06:81:F1:24:69:00:00:00:00:00:00:00:00:04:00:00:00:00:00:ff:ff:ff:ff:ff:ff:00:00:00:00:0a:00:01:00:62:66:69:66:6f:00:00:00:08:00:02:00:b8:0b:00:00";
+
+// What is shown of texts, one after the other, and the status.
+fn shown_of(alloc: Global, texts: &[&str]) -> Result<(Vec<u8>, u8), Fail> {
+    let mut all = Vec::new(alloc);
+    for text in texts {
+        all.extend_from_slice(text.as_bytes())?;
+        all.push(b'\n')?;
+    }
+    let run = shown(alloc, &all_in(Form::Json), &all);
+    Ok((run.written, run.status))
+}
+
+#[test]
+fn dumps(rt: HostRuntime) -> Result<(), Fail> {
+    let alloc = rt.alloc();
+    let (one, status) = shown_of(alloc, &[PLAIN])?;
+    assert!(rt;
+        status == 0
+            && one.starts_with(b"{\"type\":\"RTM_NEWQDISC\",\"flags\":1541,\"seq\":1764028801,")
+    );
+    for text in &[XXD, XXD_SINGLE, TCPDUMP, TCPDUMP_TEXT, TSHARK] {
+        let (written, status) = shown_of(alloc, &[text])?;
+        assert!(rt; status == 0 && written == one, "{text}");
+    }
+    let mut six = Vec::new(alloc);
+    for _ in 0..6u8 {
+        six.extend_from_slice(&one)?;
+    }
+    let texts = [XXD, TCPDUMP, PLAIN, "", TSHARK, "# text", XXD_SINGLE, PLAIN];
+    let (written, status) = shown_of(alloc, &texts)?;
+    assert!(rt; status == 0 && written == six);
+    let (written, status) = shown_of(alloc, &[PASTED])?;
+    assert!(rt; status == 1 && written.ends_with(&one));
+    Ok(())
+}
+
+// A line of a dump that isn't there is missed.
+#[test]
+fn gaps(rt: HostRuntime) -> Result<(), Fail> {
+    let alloc = rt.alloc();
+    let texts = [
+        "00000000: 3800 0000 2400 0506 81f1 2469 0000 0000  8...$.....$i....",
+        "00000020: 0000 0000 0a00 0100 6266 6966 6f00 0000  ........bfifo...",
+    ];
+    let (written, status) = shown_of(alloc, &texts)?;
+    assert!(rt; status == 1);
+    assert!(rt;
+        written.as_slice()
+            == b"{\"note\":\"broken: 56 bytes needed, 16 left\",\"at\":68}\n{\"note\":\"broken: no hex\",\"at\":68}\n".as_slice()
+    );
+    Ok(())
+}
