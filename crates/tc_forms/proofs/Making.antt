@@ -3,18 +3,18 @@ use Rattle.std.proofs.Common.{◌≡◌, ℕ, zero, suc, ◌+◌, ◌-◌, ◌/�
 use Rattle.std.proofs.Common.{Some, None, Result, Ok, Err, refl, subst, sym, ap, ◌∙◌, append_assoc, arith, add-one, slice_set, ◌*◌}
 use Rattle.std.specs.Prelude.{option_map, unwrap_or, option_and_then, nat_le, Bool, false, true}
 use Rattle.std.proofs.lemmas.Bool.{cond-true, le-leb}
-use Rattle.serde_json.specs.Find.{get, as_array}
-use Rattle.tc_forms.specs.AttributesMade.{layered_by, layered_made, each_under, framed_with, pad_or}
-use Rattle.tc_forms.specs.Places.{layer_of, part_at, rows_under}
+use Rattle.serde_json.specs.Find.{get}
+use Rattle.tc_forms.specs.AttributesMade.{each_under, framed_with, pad_or}
 use Rattle.tc_forms.specs.Tables.{Table, field_view, fields_view}
-use Rattle.std.proofs.lemmas.List.{take_at, drop_all, length-append, length-drop, reverse-append}
+use Rattle.std.proofs.lemmas.List.{drop_all, length-drop, reverse-append}
 use Rattle.std.proofs.lemmas.Nat.{div-add-mod', mod-mul-add}
 use Rattle.nla_frames.specs.Value.{le_bytes, be_bytes}
 use Rattle.nla_frames.specs.Frame.{header}
 use Rattle.tc_forms.proofs.Found.{none_not_some, some_is}
+use Rattle.tc_forms.proofs.Sending.{drop_here}
 use Rattle.tc_forms.specs.Appended.{Appended, Stops}
 use Rattle.tc_forms.specs.Frames.{frame_bytes}
-use Rattle.tc_forms.specs.Kinds.{kind_told}
+use Rattle.tc_forms.specs.Kinds.{kind_told, own_told}
 use Rattle.tc_forms.specs.Made.{in_form, make}
 use Rattle.tc_forms.specs.Raw.{or_raw, raw_of}
 use Rattle.tc_forms.specs.Records.{each_made, field_made, fields_made, joined}
@@ -80,35 +80,25 @@ joined_fails w rest all start now e left fails not =
 -- items, of which one is next
 pub items_here : (One : Data → Option (List ℕ)) (vs : List Value) (i : ℕ) (x : Value) → i < length vs → x ≡ get_or vs i x
     → each_made One (items_view (drop i vs)) ≡ joined (One (view x)) (each_made One (items_view (drop (i + 1) vs)))
-items_here One [] i x lt is = absurd (omega arith)
-items_here One (v ∷ vs) zero x lt is = ap (λ y. joined (One (view y)) (each_made One (items_view vs))) (sym is)
-items_here One (v ∷ vs) (suc i) x lt is =
-    let next : suc (i + 1) ≡ suc i + 1 = omega arith in
-    items_here One vs i x (omega (arith, lt)) is ∙ ap (λ (n : ℕ). joined (One (view x)) (each_made One (items_view (drop n (v ∷ vs))))) next
+items_here One vs i x lt is =
+    ap (λ ws. each_made One (items_view ws)) (drop_here vs i x lt)
+    ∙ ap (λ (y : Value). joined (One (view y)) (each_made One (items_view (drop (i + 1) vs)))) (sym is)
 
 pub items_over : (One : Data → Option (List ℕ)) (vs : List Value) (i : ℕ) → length vs ≤ i → each_made One (items_view (drop i vs)) ≡ Some []
 items_over One vs i over = ap (λ xs. each_made One (items_view xs)) (drop_all i vs over)
 
 pub fields_here : (table : Table) (Made : Form → Data → Option (List ℕ)) (fs : List CodeField) (i : ℕ) (d : CodeField) (x : Data) → i < length fs
     → fields_made table Made (fields_view (drop i fs)) x ≡ joined (field_made table Made (field_view (get_or fs i d)) (get (get_or fs i d).name.now x)) (fields_made table Made (fields_view (drop (i + 1) fs)) x)
-fields_here table Made [] i d x lt = absurd (omega arith)
-fields_here table Made (f ∷ fs) zero d x lt = refl
-fields_here table Made (f ∷ fs) (suc i) d x lt =
-    let next : suc (i + 1) ≡ suc i + 1 = omega arith in
-    fields_here table Made fs i d x (omega (arith, lt))
-    ∙ ap (λ (n : ℕ). joined (field_made table Made (field_view (get_or fs i d)) (get (get_or fs i d).name.now x)) (fields_made table Made (fields_view (drop n (f ∷ fs))) x)) next
+fields_here table Made fs i d x lt = ap (λ gs. fields_made table Made (fields_view gs) x) (drop_here fs i d lt)
 
 pub items_under : (One : List ℕ → Data → Option (List ℕ)) (has : Bool) (vs : List Value) (i : ℕ) (x : Value) (k next : List ℕ) → i < length vs → x ≡ get_or vs i x
     → next ≡ unwrap_or (kind_told has (view x)) k
     → each_under One has k (items_view (drop i vs)) ≡ joined (or_raw (raw_of (view x)) (One next (view x))) (each_under One has next (items_view (drop (i + 1) vs)))
-items_under One has [] i x k next lt is e = absurd (omega arith)
-items_under One has (v ∷ vs) zero x k next lt is e =
-    ap (λ (y : Value). joined (or_raw (raw_of (view y)) (One (unwrap_or (kind_told has (view y)) k) (view y))) (each_under One has (unwrap_or (kind_told has (view y)) k) (items_view vs))) (sym is)
-    ∙ ap (λ j. joined (or_raw (raw_of (view x)) (One j (view x))) (each_under One has j (items_view vs))) (sym e)
-items_under One has (v ∷ vs) (suc i) x k next lt is e =
-    let more : suc (i + 1) ≡ suc i + 1 = omega arith in
-    items_under One has vs i x k next (omega (arith, lt)) is e
-    ∙ ap (λ (n : ℕ). joined (or_raw (raw_of (view x)) (One next (view x))) (each_under One has next (items_view (drop n (v ∷ vs))))) more
+items_under One has vs i x k next lt is e =
+    let rest = items_view (drop (i + 1) vs) in
+    let Here : List ℕ → Data → Option (List ℕ) = λ j d. joined (or_raw (raw_of d) (One j d)) (each_under One has j rest) in
+    ap (λ ws. each_under One has k (items_view ws)) (drop_here vs i x lt)
+    ∙ ap (λ (y : Value). Here (unwrap_or (kind_told has (view y)) k) (view y)) (sym is) ∙ ap (λ j. Here j (view x)) (sym e)
 
 module _ (One : List ℕ → Data → Option (List ℕ)) (has : Bool) (vs : List Value) (i : ℕ) (x : Value) (k next start now : List ℕ) (all : Option (List ℕ))
     (lt : i < length vs) (is : x ≡ get_or vs i x) (e : next ≡ unwrap_or (kind_told has (view x)) k)
@@ -129,15 +119,11 @@ module _ (One : List ℕ → Data → Option (List ℕ)) (has : Bool) (vs : List
 pub under_over : (One : List ℕ → Data → Option (List ℕ)) (has : Bool) (vs : List Value) (i : ℕ) (k : List ℕ) → length vs ≤ i → each_under One has k (items_view (drop i vs)) ≡ Some []
 under_over One has vs i k over = ap (λ xs. each_under One has k (items_view xs)) (drop_all i vs over)
 
-pub list_made : {T : Type 0} (table : Table) (Made : List ℕ → Form → Data → Option (List ℕ)) (i : ℕ) (k layer : List ℕ) (d : Data) (ds : Items) (old new : List ℕ)
-    (r : Result T Stop) → Some ds ≡ as_array d → layer ≡ layer_of (part_at table i)
-    → Appended (each_under (λ j x. layered_by Made (rows_under table i j) false layer j x) false k ds) old new r
-    → Appended (option_and_then (each_under (layered_made table Made i) false k) (as_array d)) old new r
-list_made table Made i k layer d ds old new r found el h =
-    appended_as (each_under (λ j x. layered_by Made (rows_under table i j) false layer j x) false k ds) _ old new r
-    (ap (λ l. each_under (λ j x. layered_by Made (rows_under table i j) false l j x) false k ds) el
-    ∙ ap (option_and_then (each_under (layered_made table Made i) false k)) found)
-    h
+-- each under the kind that the items set
+pub under_own : (One : List ℕ → Data → Option (List ℕ)) (o : Option Items) (k : List ℕ) → k ≡ unwrap_or (option_map own_told o) []
+    → option_and_then (each_under One false k) o ≡ option_and_then (λ ds. each_under One false (own_told ds) ds) o
+under_own One None k e = refl
+under_own One (Some ds) k e = ap (λ j. each_under One false j ds) e
 
 -- ---- levels
 
@@ -178,40 +164,6 @@ not_some None h = refl
 not_some (Some x) h = absurd (h x refl)
 
 -- ---- a frame in its place
-
-header_fits : (old v : List ℕ) → length old + 4 ≤ length (old ++ (0 ∷ 0 ∷ 0 ∷ 0 ∷ v))
-header_fits old v = let e = length-append old (0 ∷ 0 ∷ 0 ∷ 0 ∷ v) in omega (arith, e)
-
-drop_header : (a v : List ℕ) → drop (length a + 4) (a ++ (0 ∷ 0 ∷ 0 ∷ 0 ∷ v)) ≡ v
-drop_header [] v = refl
-drop_header (x ∷ a) v = let next : length (x ∷ a) + 4 ≡ suc (length a + 4) = omega arith in ap (λ n. drop n (x ∷ (a ++ (0 ∷ 0 ∷ 0 ∷ 0 ∷ v)))) next ∙ drop_header a v
-
-module _ (wanted : Option (List ℕ)) (old mid now : List ℕ) (start : ℕ) (place : start ≡ length old) (room : mid ≡ old ++ 0 ∷ 0 ∷ 0 ∷ 0 ∷ [])
-    (made : option_map (λ b. mid ++ b) wanted ≡ Some now) where
-  now_is : (v : List ℕ) → wanted ≡ Some v → now ≡ old ++ (0 ∷ 0 ∷ 0 ∷ 0 ∷ v)
-  now_is v e =
-      sym (some_is (mid ++ v) now (sym (ap (option_map (λ b. mid ++ b)) e) ∙ made)) ∙ ap (λ m. m ++ v) room ∙ append_assoc old (0 ∷ 0 ∷ 0 ∷ 0 ∷ []) v
-
-  -- its header has room
-  pub has_room : start + 4 ≤ length now
-  has_room = go wanted refl
-    where
-      go : (o : Option (List ℕ)) → wanted ≡ o → start + 4 ≤ length now
-      go None e = absurd (none_not_some now (sym (ap (option_map (λ b. mid ++ b)) e) ∙ made))
-      go (Some v) e = subst (λ n. n + 4 ≤ length now) (sym place) (subst (λ b. length old + 4 ≤ length b) (sym (now_is v e)) (header_fits old v))
-
-  pub framed_here : {T : Type 0} (word : ℕ) (pad : Option Data) (new : List ℕ) (r : Result T Stop)
-      → Appended (framed_with word (drop (start + 4) now) pad) (take start now) new r
-      → Appended (option_and_then (λ v. framed_with word v pad) wanted) old new r
-  framed_here word pad new r h = go wanted refl
-    where
-      go : (o : Option (List ℕ)) → wanted ≡ o → Appended (option_and_then (λ v. framed_with word v pad) wanted) old new r
-      go None e = absurd (none_not_some now (sym (ap (option_map (λ b. mid ++ b)) e) ∙ made))
-      go (Some v) e =
-          let at : take start now ≡ old = ap (λ n. take n now) place ∙ ap (take (length old)) (now_is v e) ∙ take_at old (0 ∷ 0 ∷ 0 ∷ 0 ∷ v) (length old) refl in
-          let value : drop (start + 4) now ≡ v = ap (λ n. drop (n + 4) now) place ∙ ap (drop (length old + 4)) (now_is v e) ∙ drop_header old v in
-          subst (λ o. Appended (option_and_then (λ v. framed_with word v pad) o) old new r) (sym e)
-          (subst (λ b. Appended (framed_with word v pad) b new r) at (subst (λ b. Appended (framed_with word b pad) (take start now) new r) value h))
 
 -- four bytes over those at a place
 pub patched : (xs : List ℕ) (n a b c d : ℕ) → n + 4 ≤ length xs

@@ -24,7 +24,7 @@ use Rattle.tc_forms.specs.declared.form.Field.{Field as CodeField}
 use Rattle.serde.specs.declared.name.Case.TheVariants.{AsIs}
 use Rattle.serde_json.specs.Data.{no_members, member, Data, Items, array, Members, string}
 
-drop_here : {X : Type 0} (xs : List X) (i : ℕ) (d : X) → i < length xs → drop i xs ≡ get_or xs i d ∷ drop (i + 1) xs
+pub drop_here : {X : Type 0} (xs : List X) (i : ℕ) (d : X) → i < length xs → drop i xs ≡ get_or xs i d ∷ drop (i + 1) xs
 drop_here [] i d lt = absurd (omega arith)
 drop_here (y ∷ xs) zero d lt = refl
 drop_here (y ∷ xs) (suc i) d lt =

@@ -67,3 +67,8 @@ module _ (Inner : List ℕ → Form → List ℕ → Data) (rows : List Row) (ha
   -- an attribute
   abbrev pub attribute : List ℕ → PaddedFrame → Data
   attribute kind c = by_kind kind c (kind_in has c)
+
+  -- an attribute in its layer, or in an indexed list one that holds this form
+  abbrev pub listed : Option Form → List ℕ → List ℕ → PaddedFrame → Data
+  listed None layer kind c = layered layer (attribute kind c)
+  listed (Some f) layer kind c = indexed c (Inner kind f c.value)

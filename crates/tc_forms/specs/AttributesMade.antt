@@ -73,6 +73,12 @@ module _ (Inner : List ℕ → Form → Data → Option (List ℕ)) (rows : List
   abbrev pub layered_by : List ℕ → List ℕ → Data → Option (List ℕ)
   layered_by layer kind d = option_and_then (attribute_made kind) (unlayered layer d)
 
+  -- an attribute in its layer, or in an indexed list one that holds this form
+  abbrev pub listed_made : Option Form → List ℕ → List ℕ → Data → Option (List ℕ)
+  listed_made None layer kind d = layered_by layer kind d
+  listed_made (Some f) layer kind d =
+      framed (option_and_then word_made (get (codes "tab") d)) (option_and_then (Inner kind f) (get (codes "attributes") d)) d
+
 module _ (table : Table) (Inner : List ℕ → Form → Data → Option (List ℕ)) where
   abbrev pub indexed_made : ℕ → List ℕ → Data → Option (List ℕ)
   indexed_made i kind d =

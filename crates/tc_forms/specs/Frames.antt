@@ -3,11 +3,16 @@ use Rattle.std.specs.Prelude.{List, None, Option, Some, drop, if◌then◌else�
 use Rattle.nla_frames.specs.Frame.{header, padding}
 use Rattle.nla_frames.specs.Grammar.{length_at}
 use Rattle.nla_frames.specs.Value.{le_value}
+use Rattle.tc_forms.specs.declared.attributes_shown.Frame.{Frame}
 
 pub record PaddedFrame : Type 0 where
   pub word : ℕ
   pub value : List ℕ
   pub pad : List ℕ
+
+-- what the code's value says
+abbrev pub frame_view : Frame → PaddedFrame
+frame_view f = record { word = f.word; value = f.value.now; pad = f.pad.now }
 
 -- its bytes: the length, the word, the value, the padding
 abbrev pub frame_bytes : PaddedFrame → List ℕ

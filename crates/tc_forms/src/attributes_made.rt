@@ -1,20 +1,16 @@
 //! Attributes that hold no others, and frames, made.
 
-ghost use Rattle.serde_json.specs.Find.{get};
+ghost use Rattle.serde_json.specs.Find.{as_array, get};
 ghost use Rattle.serde_json.specs.View.{items_view, view};
 ghost use Rattle.std.specs.Prelude.{IfErr, IfOk, None, OnOk, Some, [], codes, drop, false, length, option_and_then, option_map, take, true, unwrap_or, ◌+◌, ◌++◌, ◌∷◌, ◌≡◌, ◌≤◌};
 ghost use Rattle.tc_forms.specs.Appended.{Appended};
 ghost use Rattle.tc_forms.specs.AttributesMade.{by_kind_made, framed_with, other_made, unlayered, word_made, word_or};
 ghost use Rattle.tc_forms.specs.Kinds.{kind_told, kind_value, own_told};
-ghost use Rattle.tc_forms.specs.Places.{rows_under};
-ghost use Rattle.tc_forms.specs.RowLists.{rows_in};
 ghost use Rattle.tc_forms.specs.declared.maker.Stop.TheVariants.{OutOfMemory};
 
 use crate::error::Wanted;
 use crate::maker::{Maker, Step, Stop};
-use crate::rows::{RowList, rows_under};
-use crate::tables::Tables;
-use crate::values_made::make_hex_at;
+use crate::values_made::{make_hex_at, put_text};
 use serde_json::Value;
 
 // What an object of one member holds, if it has a name.
@@ -48,42 +44,23 @@ pub(crate) fn kind_told<'v>(has: bool, value: &'v Value) -> Option<&'v str>
     }
 }
 
-// The kind from an item on.
-pub(crate) fn kind_behind<'v>(in_force: bool, value: &'v Value, kind: &'v str) -> &'v str
-    ensures { result.now ≡ unwrap_or (kind_told in_force (view value.now)) kind.now }
+// The first kind that the items of a list set.
+pub(crate) fn own_told<'v>(value: &'v Value) -> &'v str
+    ensures { result.now ≡ unwrap_or (option_map own_told (as_array (view value.now))) [] }
 {
-    match kind_told(in_force, value) {
-        Some(set) => set,
-        None => kind,
+    match value.as_array() {
+        Some(items) => first_told(items.as_slice()),
+        None => "",
     }
 }
 
-// The rows from an item on.
-pub(crate) fn rows_behind<T: Tables>(
-    table: T,
-    list: usize,
-    in_force: bool,
-    value: &Value,
-    kind: &str,
-    rows: &RowList<'static>,
-) -> RowList<'static>
-    requires { rows_in rows.now ≡ rows_under (T.parts_of table) list kind.now }
-    ensures { rows_in result ≡ rows_under (T.parts_of table) list (unwrap_or (kind_told in_force (view value.now)) kind.now) }
-{
-    match kind_told(in_force, value) {
-        Some(set) => rows_under(table, list, set),
-        None => *rows,
-    }
-}
-
-// The first kind that items tell.
-pub(crate) fn own_told<'v>(items: &'v [Value]) -> &'v str
+fn first_told<'v>(items: &'v [Value]) -> &'v str
     ensures { result.now ≡ own_told (items_view items.now) }
 {
     match items.split_first() {
         Some((first, others)) => match kind_told(true, first) {
             Some(told) => told,
-            None => own_told(others),
+            None => first_told(others),
         },
         None => "",
     }
@@ -116,22 +93,12 @@ fn make_kind_value<'v>(maker: &mut Maker<'v>, kind: &str, value: &'v Value) -> R
 {
     let bare = match value.get("bare") {
         Some(bare) => bare,
-        None => return make_text_of(maker, kind),
+        None => return put_text(maker, kind),
     };
     match bare.as_bool() {
         Some(true) => maker.put(kind.as_bytes()),
-        Some(false) => make_text_of(maker, kind),
+        Some(false) => put_text(maker, kind),
         None => Err(maker.wrong_member("bare", bare, Wanted::Bool)),
-    }
-}
-
-// A text and a NUL.
-fn make_text_of(maker: &mut Maker<'_>, text: &str) -> Result<(), Stop>
-    ensures { Appended (Some (text.now ++ 0 ∷ [])) maker.old.bytes.items maker.new.bytes.items result }
-{
-    match maker.put(text.as_bytes()) {
-        Ok(()) => maker.put_byte(0),
-        Err(e) => Err(e),
     }
 }
 

@@ -8,13 +8,12 @@ ghost use Rattle.tc_forms.specs.Search.{first, held};
 ghost use Rattle.tc_forms.specs.Sent.{Sent, events};
 ghost use Rattle.tc_forms.specs.Tables.{choice_view, choices_view};
 
-use crate::events::{Stopped, begin_map, end_map, key};
+use crate::events::{Aside, Stopped, begin_map, end_map, key};
 use crate::form::Choice;
 use crate::rows::{is_reserved, is_same};
 use crate::values_shown::send_hex;
 use serde::Serializer;
 use serde_json::Value;
-use std::alloc::Global;
 
 /// True for a choice that can be shown.
 pub(crate) fn is_choice(choice: &Choice<'_>) -> bool
@@ -97,16 +96,15 @@ pub(crate) fn behind(bytes: &[u8], place: usize) -> &[u8]
 #[inline(never)]
 pub(crate) fn send_unknown<S: Serializer>(
     bytes: &[u8],
-    alloc: Global,
     out: &mut S,
-    error: &mut Option<S::Error>,
+    aside: &mut Aside<S::Error>,
 ) -> Result<(), Stopped>
     ensures { OnOk result (Sent (events (one (codes "Other") (hex bytes.now))) (S.written out.old) (S.written out.new)) }
 {
-    begin_map(out, error)?;
-    key("Other", out, error)?;
-    send_hex(bytes, alloc, out, error)?;
-    end_map(out, error)
+    begin_map(out, aside)?;
+    key("Other", out, aside)?;
+    send_hex(bytes, out, aside)?;
+    end_map(out, aside)
 }
 
 // The first choice whose name has a member.

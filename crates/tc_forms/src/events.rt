@@ -5,6 +5,7 @@ ghost use Rattle.serde.specs.declared.name.Case.TheVariants.{AsIs};
 ghost use Rattle.std.specs.Prelude.{None, OnOk};
 
 use serde::Serializer;
+use std::alloc::Global;
 
 /// The format failed, and its error is set aside.
 #[derive(Clone, Copy)]
@@ -13,121 +14,130 @@ pub(crate) enum Stopped {
     Failed,
 }
 
+/// What calls that send are given beside the format.
+#[derive(Drop)]
+pub(crate) struct Aside<E> {
+    /// Takes the texts of bytes in hex.
+    pub alloc: Global,
+    /// The format's error, once it failed.
+    pub error: Option<E>,
+}
+
 /// What was sent, or that the format failed.
 pub(crate) type Done = Result<(), Stopped>;
 
 /// An object begins.
-pub(crate) fn begin_map<S: Serializer>(out: &mut S, error: &mut Option<S::Error>) -> Done
+pub(crate) fn begin_map<S: Serializer>(out: &mut S, aside: &mut Aside<S::Error>) -> Done
     ensures { OnOk result (Logs (S.written out.old) (S.written out.new) (map_begins None)) }
 {
     match out.begin_map(None) {
         Ok(()) => Ok(()),
         Err(e) => {
-            *error = Some(e);
+            aside.error = Some(e);
             Err(Stopped::Failed)
         }
     }
 }
 
 /// An object ends.
-pub(crate) fn end_map<S: Serializer>(out: &mut S, error: &mut Option<S::Error>) -> Done
+pub(crate) fn end_map<S: Serializer>(out: &mut S, aside: &mut Aside<S::Error>) -> Done
     ensures { OnOk result (Logs (S.written out.old) (S.written out.new) (map_ends)) }
 {
     match out.end_map() {
         Ok(()) => Ok(()),
         Err(e) => {
-            *error = Some(e);
+            aside.error = Some(e);
             Err(Stopped::Failed)
         }
     }
 }
 
 /// A list begins.
-pub(crate) fn begin_seq<S: Serializer>(out: &mut S, error: &mut Option<S::Error>) -> Done
+pub(crate) fn begin_seq<S: Serializer>(out: &mut S, aside: &mut Aside<S::Error>) -> Done
     ensures { OnOk result (Logs (S.written out.old) (S.written out.new) (seq_begins None)) }
 {
     match out.begin_seq(None) {
         Ok(()) => Ok(()),
         Err(e) => {
-            *error = Some(e);
+            aside.error = Some(e);
             Err(Stopped::Failed)
         }
     }
 }
 
 /// A list ends.
-pub(crate) fn end_seq<S: Serializer>(out: &mut S, error: &mut Option<S::Error>) -> Done
+pub(crate) fn end_seq<S: Serializer>(out: &mut S, aside: &mut Aside<S::Error>) -> Done
     ensures { OnOk result (Logs (S.written out.old) (S.written out.new) (seq_ends)) }
 {
     match out.end_seq() {
         Ok(()) => Ok(()),
         Err(e) => {
-            *error = Some(e);
+            aside.error = Some(e);
             Err(Stopped::Failed)
         }
     }
 }
 
 /// The name of a member.
-pub(crate) fn key<S: Serializer>(name: &str, out: &mut S, error: &mut Option<S::Error>) -> Done
+pub(crate) fn key<S: Serializer>(name: &str, out: &mut S, aside: &mut Aside<S::Error>) -> Done
     ensures { OnOk result (Logs (S.written out.old) (S.written out.new) (field_key name.now AsIs)) }
 {
     match out.key(name) {
         Ok(()) => Ok(()),
         Err(e) => {
-            *error = Some(e);
+            aside.error = Some(e);
             Err(Stopped::Failed)
         }
     }
 }
 
 /// A text.
-pub(crate) fn string<S: Serializer>(value: &str, out: &mut S, error: &mut Option<S::Error>) -> Done
+pub(crate) fn string<S: Serializer>(value: &str, out: &mut S, aside: &mut Aside<S::Error>) -> Done
     ensures { OnOk result (Logs (S.written out.old) (S.written out.new) (text value.now)) }
 {
     match out.str(value) {
         Ok(()) => Ok(()),
         Err(e) => {
-            *error = Some(e);
+            aside.error = Some(e);
             Err(Stopped::Failed)
         }
     }
 }
 
 /// `true` or `false`.
-pub(crate) fn truth<S: Serializer>(value: bool, out: &mut S, error: &mut Option<S::Error>) -> Done
+pub(crate) fn truth<S: Serializer>(value: bool, out: &mut S, aside: &mut Aside<S::Error>) -> Done
     ensures { OnOk result (Logs (S.written out.old) (S.written out.new) (boolean value)) }
 {
     match out.bool(value) {
         Ok(()) => Ok(()),
         Err(e) => {
-            *error = Some(e);
+            aside.error = Some(e);
             Err(Stopped::Failed)
         }
     }
 }
 
 /// A number.
-pub(crate) fn unsigned<S: Serializer>(value: u64, out: &mut S, error: &mut Option<S::Error>) -> Done
+pub(crate) fn unsigned<S: Serializer>(value: u64, out: &mut S, aside: &mut Aside<S::Error>) -> Done
     ensures { OnOk result (Logs (S.written out.old) (S.written out.new) (unsigned value)) }
 {
     match out.u64(value) {
         Ok(()) => Ok(()),
         Err(e) => {
-            *error = Some(e);
+            aside.error = Some(e);
             Err(Stopped::Failed)
         }
     }
 }
 
 /// A number that may be negative.
-pub(crate) fn signed<S: Serializer>(value: i64, out: &mut S, error: &mut Option<S::Error>) -> Done
+pub(crate) fn signed<S: Serializer>(value: i64, out: &mut S, aside: &mut Aside<S::Error>) -> Done
     ensures { OnOk result (Logs (S.written out.old) (S.written out.new) (signed value)) }
 {
     match out.i64(value) {
         Ok(()) => Ok(()),
         Err(e) => {
-            *error = Some(e);
+            aside.error = Some(e);
             Err(Stopped::Failed)
         }
     }

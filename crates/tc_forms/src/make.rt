@@ -4,7 +4,7 @@ ghost use Rattle.serde_json.specs.Find.{as_array, get};
 ghost use Rattle.serde_json.specs.View.{items_view, view};
 ghost use Rattle.std.specs.Prelude.{[], codes, false, option_and_then, option_map, true, ◌≡◌};
 ghost use Rattle.tc_forms.specs.Appended.{Appended, Found};
-ghost use Rattle.tc_forms.specs.AttributesMade.{attribute_made, by_row_made, each_under, framed, framed_with, indexed_made, kinded_made, layered_by, layered_made, word_made, word_or};
+ghost use Rattle.tc_forms.specs.AttributesMade.{attribute_made, by_row_made, each_under, framed, framed_with, layered_by, listed_made, word_made, word_or};
 ghost use Rattle.tc_forms.specs.Choices.{by_choice_made, choice_made, is_choice};
 ghost use Rattle.tc_forms.specs.Kinds.{own_told};
 ghost use Rattle.tc_forms.specs.Places.{rows_under};
@@ -16,16 +16,15 @@ ghost use Rattle.tc_forms.specs.Search.{held};
 ghost use Rattle.tc_forms.specs.Tables.{choices_view, field_view, fields_view};
 
 use crate::attributes_made::{
-    begin, end, kind_behind, kind_told, make_kind, make_other, no_row, own_told, rows_behind,
-    unlayered, word_at, word_or,
+    begin, end, kind_told, make_kind, make_other, no_row, own_told, unlayered, word_at, word_or,
 };
 use crate::choices::choice_held;
 use crate::error::{MakeError, Wanted};
 use crate::form::{Choice, Field, Form, Row};
 use crate::maker::{Maker, Step, Stop};
-use crate::places::{choices_at, fields_at, form_at, layer_at};
+use crate::places::{At, choices_at, fields_at, form_at, layer_at};
 use crate::records::{make_blank, make_rest};
-use crate::rows::{RowList, row_held_in, rows_under};
+use crate::rows::{RowList, kind_from, row_held_in, rows_from, rows_under};
 use crate::tables::Tables;
 use crate::values_made::{make_hex_at, make_plain, raw_of};
 use crate::widths::DEEPEST;
@@ -43,24 +42,28 @@ pub fn made<T: Tables>(
     ensures { Found (λ v. v.items) (made_of (T.parts_of table) form (view json.now)) result }
 {
     let mut maker = Maker::new(alloc);
-    match make_form(&mut maker, table, DEEPEST, "", form, json) {
+    let at = At {
+        table,
+        depth: DEEPEST,
+        kind: "",
+    };
+    match make_form(&mut maker, &at, form, json) {
         Ok(()) => Ok(maker.bytes),
         Err(Stop::OutOfMemory) => Err(MakeError::OutOfMemory),
         Err(Stop::Wrong) => Err(maker.into_error()),
     }
 }
 
-// Appends the bytes that JSON stands for in a form, at a depth.
+// Appends the bytes that JSON stands for in a form, where it stands.
 #[cycle(make)]
 fn make_form<'v, T: Tables>(
     maker: &mut Maker<'v>,
-    table: T,
-    depth: u8,
-    kind: &'v str,
+    at: &At<'v, T>,
     form: Form,
     value: &'v Value,
 ) -> Result<(), Stop>
-    ensures { Appended (make (T.parts_of table) depth kind.now form (view value.now)) maker.old.bytes.items maker.new.bytes.items result }
+    ensures { Appended (make (T.parts_of at.now.table) at.now.depth at.now.kind.now form (view value.now))
+        maker.old.bytes.items maker.new.bytes.items result }
 {
     let raw = match raw_of(maker.alloc, value) {
         Ok(raw) => raw,
@@ -69,64 +72,53 @@ fn make_form<'v, T: Tables>(
     if let Some(bytes) = raw {
         return maker.put(&bytes);
     }
-    let inner = match depth.checked_sub(1) {
+    let inner = match at.depth.checked_sub(1) {
         Some(inner) => inner,
         None => return Err(maker.unfit(value, Wanted::Raw)),
     };
+    let within = At {
+        table: at.table,
+        depth: inner,
+        kind: at.kind,
+    };
     match form {
-        Form::Record(place) => make_fields(
-            maker,
-            table,
-            inner,
-            kind,
-            fields_at(table, place),
-            value,
-        ),
-        Form::Array(place) => make_elements(
-            maker,
-            table,
-            inner,
-            kind,
-            form_at(table, place),
-            value,
-        ),
-        Form::Times(_, place) => make_elements(
-            maker,
-            table,
-            inner,
-            kind,
-            form_at(table, place),
-            value,
-        ),
-        Form::List(place) => make_list(maker, table, inner, kind, place, value),
-        Form::InForce(place) => make_in_force(maker, table, inner, kind, place, value),
-        Form::Own(place) => make_own(maker, table, inner, place, value),
-        Form::Indexed(place) => make_indexed(maker, table, inner, kind, place, value),
-        Form::Choice(place) => make_choice(
-            maker,
-            table,
-            inner,
-            kind,
-            choices_at(table, place),
-            value,
-        ),
-        _ => make_plain(maker, table, form, value),
+        Form::Record(place) => make_fields(maker, &within, fields_at(at.table, place), value),
+        Form::Array(place) => make_elements(maker, &within, form_at(at.table, place), value),
+        Form::Times(_, place) => make_elements(maker, &within, form_at(at.table, place), value),
+        Form::List(place) => {
+            let layer = layer_at(at.table, place);
+            make_list(maker, &within, place, false, false, layer, None, value)
+        }
+        Form::InForce(place) => make_list(maker, &within, place, true, true, "", None, value),
+        Form::Own(place) => {
+            let own = At {
+                table: at.table,
+                depth: inner,
+                kind: own_told(value),
+            };
+            make_list(maker, &own, place, false, true, "", None, value)
+        }
+        Form::Indexed(place) => {
+            let held = Some(form_at(at.table, place));
+            make_list(maker, &within, place, false, false, "", held, value)
+        }
+        Form::Choice(place) => make_choice(maker, &within, choices_at(at.table, place), value),
+        _ => make_plain(maker, at.table, form, value),
     }
 }
 
 #[cycle(make)]
 fn make_fields<'v, T: Tables>(
     maker: &mut Maker<'v>,
-    table: T,
-    depth: u8,
-    kind: &'v str,
+    at: &At<'v, T>,
     fields: &'static [Field<'static>],
     value: &'v Value,
 ) -> Result<(), Stop>
-    ensures { Appended (fields_made (T.parts_of table) (make (T.parts_of table) depth kind.now) (fields_view fields.now) (view value.now)) maker.old.bytes.items maker.new.bytes.items result }
+    ensures { Appended (fields_made (T.parts_of at.now.table) (make (T.parts_of at.now.table) at.now.depth at.now.kind.now)
+        (fields_view fields.now) (view value.now)) maker.old.bytes.items maker.new.bytes.items result }
 {
     for field in fields.iter() {
-        match make_field(maker, table, depth, kind, field, value) {
+        match make_field(maker, at, field, value) {
             Ok(()) => {}
             Err(e) => return Err(e),
         }
@@ -137,22 +129,35 @@ fn make_fields<'v, T: Tables>(
 #[cycle(make)]
 fn make_field<'v, T: Tables>(
     maker: &mut Maker<'v>,
-    table: T,
-    depth: u8,
-    kind: &'v str,
+    at: &At<'v, T>,
     field: &Field<'static>,
     value: &'v Value,
 ) -> Result<(), Stop>
-    ensures { Appended (field_made (T.parts_of table) (make (T.parts_of table) depth kind.now) (field_view field.now) (get field.now.name.now (view value.now))) maker.old.bytes.items maker.new.bytes.items result }
+    ensures { Appended (field_made (T.parts_of at.now.table) (make (T.parts_of at.now.table) at.now.depth at.now.kind.now)
+        (field_view field.now) (get field.now.name.now (view value.now))) maker.old.bytes.items maker.new.bytes.items result }
 {
-    let held = match value.get(field.name) {
-        Some(held) => held,
-        None => return make_blank(maker, table, field, value),
-    };
-    match make_form(maker, table, depth, kind, field.form, held) {
+    match value.get(field.name) {
+        Some(held) => make_member(maker, at, field.name, field.form, held),
+        None => make_blank(maker, at.table, field, value),
+    }
+}
+
+// What a member holds, in its form.
+#[cycle(make)]
+fn make_member<'v, T: Tables>(
+    maker: &mut Maker<'v>,
+    at: &At<'v, T>,
+    name: &'static str,
+    form: Form,
+    held: &'v Value,
+) -> Result<(), Stop>
+    ensures { Appended (make (T.parts_of at.now.table) at.now.depth at.now.kind.now form (view held.now))
+        maker.old.bytes.items maker.new.bytes.items result }
+{
+    match make_form(maker, at, form, held) {
         Ok(()) => Ok(()),
         Err(e) => {
-            maker.at(Step::Member(field.name));
+            maker.at(Step::Member(name));
             Err(e)
         }
     }
@@ -161,34 +166,31 @@ fn make_field<'v, T: Tables>(
 #[cycle(make)]
 fn make_elements<'v, T: Tables>(
     maker: &mut Maker<'v>,
-    table: T,
-    depth: u8,
-    kind: &'v str,
+    at: &At<'v, T>,
     form: Form,
     value: &'v Value,
 ) -> Result<(), Stop>
-    ensures { Appended (option_and_then (each_made (make (T.parts_of table) depth kind.now form)) (as_array (view value.now))) maker.old.bytes.items maker.new.bytes.items result }
+    ensures { Appended (option_and_then (each_made (make (T.parts_of at.now.table) at.now.depth at.now.kind.now form))
+        (as_array (view value.now))) maker.old.bytes.items maker.new.bytes.items result }
 {
-    let items = match value.as_array() {
-        Some(items) => items,
-        None => return Err(maker.unfit(value, Wanted::List)),
-    };
-    make_each_of_elements(maker, table, depth, kind, form, items.as_slice())
+    match value.as_array() {
+        Some(items) => make_each_of_elements(maker, at, form, items.as_slice()),
+        None => Err(maker.unfit(value, Wanted::List)),
+    }
 }
 
 #[cycle(make)]
 fn make_each_of_elements<'v, T: Tables>(
     maker: &mut Maker<'v>,
-    table: T,
-    depth: u8,
-    kind: &'v str,
+    at: &At<'v, T>,
     form: Form,
     items: &'v [Value],
 ) -> Result<(), Stop>
-    ensures { Appended (each_made (make (T.parts_of table) depth kind.now form) (items_view items.now)) maker.old.bytes.items maker.new.bytes.items result }
+    ensures { Appended (each_made (make (T.parts_of at.now.table) at.now.depth at.now.kind.now form) (items_view items.now))
+        maker.old.bytes.items maker.new.bytes.items result }
 {
     for (place, item) in items.iter().enumerate() {
-        match make_form(maker, table, depth, kind, form, item) {
+        match make_form(maker, at, form, item) {
             Ok(()) => {}
             Err(e) => {
                 maker.at(Step::Item(place));
@@ -202,43 +204,54 @@ fn make_each_of_elements<'v, T: Tables>(
 #[cycle(make)]
 fn make_list<'v, T: Tables>(
     maker: &mut Maker<'v>,
-    table: T,
-    depth: u8,
-    kind: &'v str,
-    place: usize,
+    at: &At<'v, T>,
+    list: usize,
+    in_force: bool,
+    has: bool,
+    layer: &'static str,
+    held: Option<Form>,
     value: &'v Value,
 ) -> Result<(), Stop>
-    ensures { Appended (option_and_then (each_under (layered_made (T.parts_of table) (make (T.parts_of table) depth) place) false kind.now) (as_array (view value.now))) maker.old.bytes.items maker.new.bytes.items result }
+    ensures { Appended (option_and_then (each_under (λ k d. listed_made (make (T.parts_of at.now.table) at.now.depth)
+        (rows_under (T.parts_of at.now.table) list k) has held layer.now k d) in_force at.now.kind.now) (as_array (view value.now)))
+        maker.old.bytes.items maker.new.bytes.items result }
 {
-    let items = match value.as_array() {
-        Some(items) => items,
-        None => return Err(maker.unfit(value, Wanted::List)),
-    };
-    let layer = layer_at(table, place);
-    let all = items.as_slice();
-    make_each_of_list(maker, table, depth, kind, place, false, false, layer, all)
+    match value.as_array() {
+        Some(items) => {
+            let all = items.as_slice();
+            make_each_of_list(maker, at, list, in_force, has, layer, held, all)
+        }
+        None => Err(maker.unfit(value, Wanted::List)),
+    }
 }
 
 #[cycle(make)]
 fn make_each_of_list<'v, T: Tables>(
     maker: &mut Maker<'v>,
-    table: T,
-    depth: u8,
-    kind: &'v str,
+    at: &At<'v, T>,
     list: usize,
     in_force: bool,
     has: bool,
     layer: &'static str,
+    held: Option<Form>,
     items: &'v [Value],
 ) -> Result<(), Stop>
-    ensures { Appended (each_under (λ k d. layered_by (make (T.parts_of table) depth) (rows_under (T.parts_of table) list k) has layer.now k d) in_force kind.now (items_view items.now)) maker.old.bytes.items maker.new.bytes.items result }
+    ensures { Appended (each_under (λ k d. listed_made (make (T.parts_of at.now.table) at.now.depth)
+        (rows_under (T.parts_of at.now.table) list k) has held layer.now k d) in_force at.now.kind.now (items_view items.now))
+        maker.old.bytes.items maker.new.bytes.items result }
 {
-    let mut so_far = kind;
-    let mut rows = rows_under(table, list, kind);
+    let mut so_far = at.kind;
+    let mut rows = rows_under(at.table, list, at.kind);
     for (place, item) in items.iter().enumerate() {
-        rows = rows_behind(table, list, in_force, item, so_far, &rows);
-        so_far = kind_behind(in_force, item, so_far);
-        match make_item(maker, table, depth, so_far, has, layer, &rows, item) {
+        let set = kind_told(in_force, item);
+        rows = rows_from(at.table, list, set, so_far, &rows);
+        so_far = kind_from(set, so_far);
+        let under = At {
+            table: at.table,
+            depth: at.depth,
+            kind: so_far,
+        };
+        match make_item(maker, &under, has, layer, held, &rows, item) {
             Ok(()) => {}
             Err(e) => {
                 maker.at(Step::Item(place));
@@ -249,19 +262,19 @@ fn make_each_of_list<'v, T: Tables>(
     Ok(())
 }
 
-// An attribute in its layer, or raw bytes.
+// An attribute of a list, or raw bytes.
 #[cycle(make)]
 fn make_item<'v, T: Tables>(
     maker: &mut Maker<'v>,
-    table: T,
-    depth: u8,
-    kind: &'v str,
+    at: &At<'v, T>,
     has: bool,
     layer: &'static str,
+    held: Option<Form>,
     rows: &RowList<'static>,
     value: &'v Value,
 ) -> Result<(), Stop>
-    ensures { Appended (or_raw (raw_of (view value.now)) (layered_by (make (T.parts_of table) depth) (rows_in rows.now) has layer.now kind.now (view value.now))) maker.old.bytes.items maker.new.bytes.items result }
+    ensures { Appended (or_raw (raw_of (view value.now)) (listed_made (make (T.parts_of at.now.table) at.now.depth) (rows_in rows.now) has held
+        layer.now at.now.kind.now (view value.now))) maker.old.bytes.items maker.new.bytes.items result }
 {
     let raw = match raw_of(maker.alloc, value) {
         Ok(raw) => raw,
@@ -270,11 +283,30 @@ fn make_item<'v, T: Tables>(
     if let Some(bytes) = raw {
         return maker.put(&bytes);
     }
+    match held {
+        Some(form) => make_indexed(maker, at, form, value),
+        None => make_layered(maker, at, has, layer, rows, value),
+    }
+}
+
+// An attribute in its layer.
+#[cycle(make)]
+fn make_layered<'v, T: Tables>(
+    maker: &mut Maker<'v>,
+    at: &At<'v, T>,
+    has: bool,
+    layer: &'static str,
+    rows: &RowList<'static>,
+    value: &'v Value,
+) -> Result<(), Stop>
+    ensures { Appended (layered_by (make (T.parts_of at.now.table) at.now.depth) (rows_in rows.now) has layer.now at.now.kind.now (view value.now))
+        maker.old.bytes.items maker.new.bytes.items result }
+{
     let held = match unlayered(layer, value) {
         Some(held) => held,
         None => return Err(maker.unknown(value, Wanted::Name(layer))),
     };
-    match make_attribute(maker, table, depth, kind, has, rows, held) {
+    match make_attribute(maker, at, has, rows, held) {
         Ok(()) => Ok(()),
         Err(e) => {
             if !layer.is_empty() {
@@ -286,115 +318,38 @@ fn make_item<'v, T: Tables>(
 }
 
 #[cycle(make)]
-fn make_in_force<'v, T: Tables>(
-    maker: &mut Maker<'v>,
-    table: T,
-    depth: u8,
-    kind: &'v str,
-    list: usize,
-    value: &'v Value,
-) -> Result<(), Stop>
-    ensures { Appended (option_and_then (each_under (kinded_made (T.parts_of table) (make (T.parts_of table) depth) list) true kind.now) (as_array (view value.now))) maker.old.bytes.items maker.new.bytes.items result }
-{
-    let items = match value.as_array() {
-        Some(items) => items,
-        None => return Err(maker.unfit(value, Wanted::List)),
-    };
-    let all = items.as_slice();
-    let layer = no_layer();
-    make_each_of_list(maker, table, depth, kind, list, true, true, layer, all)
-}
-
-// The layer of a list that has none.
-fn no_layer() -> &'static str
-    ensures { result.now ≡ [] }
-{
-    ""
-}
-
-#[cycle(make)]
-fn make_own<'v, T: Tables>(
-    maker: &mut Maker<'v>,
-    table: T,
-    depth: u8,
-    list: usize,
-    value: &'v Value,
-) -> Result<(), Stop>
-    ensures { Appended (option_and_then (λ ds. each_under (kinded_made (T.parts_of table) (make (T.parts_of table) depth) list) false (own_told ds) ds) (as_array (view value.now))) maker.old.bytes.items maker.new.bytes.items result }
-{
-    let items = match value.as_array() {
-        Some(items) => items,
-        None => return Err(maker.unfit(value, Wanted::List)),
-    };
-    let all = items.as_slice();
-    let kind = own_told(all);
-    make_each_of_list(maker, table, depth, kind, list, false, true, "", all)
-}
-
-// An attribute of this word, whose value is of this form.
-#[cycle(make)]
-fn make_value<'v, T: Tables>(
-    maker: &mut Maker<'v>,
-    table: T,
-    depth: u8,
-    kind: &'v str,
-    word: u16,
-    form: Form,
-    name: &'static str,
-    held: &'v Value,
-    value: &'v Value,
-    pad: Option<&'v Value>,
-) -> Result<(), Stop>
-    ensures { Appended (option_and_then (λ v. framed_with word v (option_map (λ p. view p.now) pad.entry)) (make (T.parts_of table) depth kind.now form (view held.now))) maker.old.bytes.items maker.new.bytes.items result }
-{
-    let start = match begin(maker) {
-        Ok(start) => start,
-        Err(e) => return Err(e),
-    };
-    match make_form(maker, table, depth, kind, form, held) {
-        Ok(()) => end(maker, start, word, name, value, pad),
-        Err(e) => {
-            maker.at(Step::Member(name));
-            Err(e)
-        }
-    }
-}
-
-#[cycle(make)]
 fn make_attribute<'v, T: Tables>(
     maker: &mut Maker<'v>,
-    table: T,
-    depth: u8,
-    kind: &'v str,
+    at: &At<'v, T>,
     has: bool,
     rows: &RowList<'static>,
     value: &'v Value,
 ) -> Result<(), Stop>
-    ensures { Appended (attribute_made (make (T.parts_of table) depth) (rows_in rows.now) has kind.now (view value.now)) maker.old.bytes.items maker.new.bytes.items result }
+    ensures { Appended (attribute_made (make (T.parts_of at.now.table) at.now.depth) (rows_in rows.now) has at.now.kind.now (view value.now))
+        maker.old.bytes.items maker.new.bytes.items result }
 {
     match kind_told(has, value) {
-        Some(told) => make_kind(maker, told, value),
-        None => make_by_row(maker, table, depth, kind, has, rows, value),
+        Some(kind) => make_kind(maker, kind, value),
+        None => make_by_row(maker, at, has, rows, value),
     }
 }
 
 #[cycle(make)]
 fn make_by_row<'v, T: Tables>(
     maker: &mut Maker<'v>,
-    table: T,
-    depth: u8,
-    kind: &'v str,
+    at: &At<'v, T>,
     has: bool,
     rows: &RowList<'static>,
     value: &'v Value,
 ) -> Result<(), Stop>
-    ensures { Appended (by_row_made (make (T.parts_of table) depth) (rows_in rows.now) true kind.now (view value.now) (get (codes "Other") (view value.now))) maker.old.bytes.items maker.new.bytes.items result }
+    ensures { Appended (by_row_made (make (T.parts_of at.now.table) at.now.depth) (rows_in rows.now) true at.now.kind.now (view value.now)
+        (get (codes "Other") (view value.now))) maker.old.bytes.items maker.new.bytes.items result }
 {
     if let Some(other) = value.get("Other") {
         return make_other(maker, other, value);
     }
     match row_held_in(rows, value) {
-        Some((row, held)) => make_held(maker, table, depth, kind, row, held, value),
+        Some((row, held)) => make_held(maker, at, row, held, value),
         None => Err(no_row(maker, has, value)),
     }
 }
@@ -402,169 +357,107 @@ fn make_by_row<'v, T: Tables>(
 #[cycle(make)]
 fn make_held<'v, T: Tables>(
     maker: &mut Maker<'v>,
-    table: T,
-    depth: u8,
-    kind: &'v str,
+    at: &At<'v, T>,
     row: Row<'static>,
     held: &'v Value,
     value: &'v Value,
 ) -> Result<(), Stop>
-    ensures { Appended (framed (word_or row.entry.word (get (codes "word") (view value.now))) (make (T.parts_of table) depth kind.now row.entry.form (view held.now)) (view value.now)) maker.old.bytes.items maker.new.bytes.items result }
+    ensures { Appended (framed (word_or row.entry.word (get (codes "word") (view value.now)))
+        (make (T.parts_of at.now.table) at.now.depth at.now.kind.now row.entry.form (view held.now)) (view value.now))
+        maker.old.bytes.items maker.new.bytes.items result }
 {
-    let word = match word_or(row.word, value) {
-        Some(word) => word,
-        None => return Err(maker.wrong_or_missing(value, "word", Wanted::Word)),
-    };
-    make_value(
-        maker,
-        table,
-        depth,
-        kind,
-        word,
-        row.form,
-        row.name,
-        held,
-        value,
-        value.get("pad"),
-    )
+    match word_or(row.word, value) {
+        Some(word) => {
+            let pad = value.get("pad");
+            make_value(maker, at, word, row.form, row.name, held, value, pad)
+        }
+        None => Err(maker.wrong_or_missing(value, "word", Wanted::Word)),
+    }
 }
 
+// An attribute of this word, whose value is of this form.
+#[cycle(make)]
+fn make_value<'v, T: Tables>(
+    maker: &mut Maker<'v>,
+    at: &At<'v, T>,
+    word: u16,
+    form: Form,
+    name: &'static str,
+    held: &'v Value,
+    value: &'v Value,
+    pad: Option<&'v Value>,
+) -> Result<(), Stop>
+    ensures { Appended (option_and_then (λ v. framed_with word v (option_map (λ p. view p.now) pad.entry))
+        (make (T.parts_of at.now.table) at.now.depth at.now.kind.now form (view held.now)))
+        maker.old.bytes.items maker.new.bytes.items result }
+{
+    let start = match begin(maker) {
+        Ok(start) => start,
+        Err(e) => return Err(e),
+    };
+    match make_member(maker, at, name, form, held) {
+        Ok(()) => end(maker, start, word, name, value, pad),
+        Err(e) => Err(e),
+    }
+}
+
+// An attribute of any type, which holds this form.
 #[cycle(make)]
 fn make_indexed<'v, T: Tables>(
     maker: &mut Maker<'v>,
-    table: T,
-    depth: u8,
-    kind: &'v str,
-    place: usize,
-    value: &'v Value,
-) -> Result<(), Stop>
-    ensures { Appended (option_and_then (each_under (indexed_made (T.parts_of table) (make (T.parts_of table) depth) place) false kind.now) (as_array (view value.now))) maker.old.bytes.items maker.new.bytes.items result }
-{
-    let items = match value.as_array() {
-        Some(items) => items,
-        None => return Err(maker.unfit(value, Wanted::List)),
-    };
-    make_each_of_indexed(maker, table, depth, kind, place, items.as_slice())
-}
-
-#[cycle(make)]
-fn make_each_of_indexed<'v, T: Tables>(
-    maker: &mut Maker<'v>,
-    table: T,
-    depth: u8,
-    kind: &'v str,
-    list: usize,
-    items: &'v [Value],
-) -> Result<(), Stop>
-    ensures { Appended (each_under (indexed_made (T.parts_of table) (make (T.parts_of table) depth) list) false kind.now (items_view items.now)) maker.old.bytes.items maker.new.bytes.items result }
-{
-    for (place, item) in items.iter().enumerate() {
-        match make_one_indexed(maker, table, depth, kind, list, item) {
-            Ok(()) => {}
-            Err(e) => {
-                maker.at(Step::Item(place));
-                return Err(e);
-            }
-        }
-    }
-    Ok(())
-}
-
-#[cycle(make)]
-fn make_one_indexed<'v, T: Tables>(
-    maker: &mut Maker<'v>,
-    table: T,
-    depth: u8,
-    kind: &'v str,
-    list: usize,
-    value: &'v Value,
-) -> Result<(), Stop>
-    ensures { Appended (or_raw (raw_of (view value.now)) (indexed_made (T.parts_of table) (make (T.parts_of table) depth) list kind.now (view value.now))) maker.old.bytes.items maker.new.bytes.items result }
-{
-    let raw = match raw_of(maker.alloc, value) {
-        Ok(raw) => raw,
-        Err(_) => return Err(Stop::OutOfMemory),
-    };
-    if let Some(bytes) = raw {
-        return maker.put(&bytes);
-    }
-    make_framed(maker, table, depth, kind, form_at(table, list), value)
-}
-
-#[cycle(make)]
-fn make_framed<'v, T: Tables>(
-    maker: &mut Maker<'v>,
-    table: T,
-    depth: u8,
-    kind: &'v str,
+    at: &At<'v, T>,
     form: Form,
     value: &'v Value,
 ) -> Result<(), Stop>
-    ensures { Appended (framed (option_and_then word_made (get (codes "tab") (view value.now))) (option_and_then (make (T.parts_of table) depth kind.now form) (get (codes "attributes") (view value.now))) (view value.now)) maker.old.bytes.items maker.new.bytes.items result }
+    ensures { Appended (framed (option_and_then word_made (get (codes "tab") (view value.now)))
+        (option_and_then (make (T.parts_of at.now.table) at.now.depth at.now.kind.now form) (get (codes "attributes") (view value.now)))
+        (view value.now)) maker.old.bytes.items maker.new.bytes.items result }
 {
     let word = match word_at(value, "tab") {
         Some(word) => word,
         None => return Err(maker.wrong_or_missing(value, "tab", Wanted::Word)),
     };
-    let held = match value.get("attributes") {
-        Some(held) => held,
-        None => return Err(maker.missing(value, "attributes")),
-    };
-    make_value(
-        maker,
-        table,
-        depth,
-        kind,
-        word,
-        form,
-        "attributes",
-        held,
-        value,
-        value.get("pad"),
-    )
+    match value.get("attributes") {
+        Some(held) => {
+            let pad = value.get("pad");
+            make_value(maker, at, word, form, "attributes", held, value, pad)
+        }
+        None => Err(maker.missing(value, "attributes")),
+    }
 }
 
 #[cycle(make)]
 fn make_choice<'v, T: Tables>(
     maker: &mut Maker<'v>,
-    table: T,
-    depth: u8,
-    kind: &'v str,
+    at: &At<'v, T>,
     choices: &'static [Choice<'static>],
     value: &'v Value,
 ) -> Result<(), Stop>
-    ensures { Appended (by_choice_made (make (T.parts_of table) depth kind.now) (choices_view choices.now) (view value.now)) maker.old.bytes.items maker.new.bytes.items result }
+    ensures { Appended (by_choice_made (make (T.parts_of at.now.table) at.now.depth at.now.kind.now) (choices_view choices.now) (view value.now))
+        maker.old.bytes.items maker.new.bytes.items result }
 {
     match value.get("Other") {
         Some(held) => make_hex_at(maker, "Other", held),
-        None => make_chosen(maker, table, depth, kind, choices, value),
+        None => make_chosen(maker, at, choices, value),
     }
 }
 
 #[cycle(make)]
 fn make_chosen<'v, T: Tables>(
     maker: &mut Maker<'v>,
-    table: T,
-    depth: u8,
-    kind: &'v str,
+    at: &At<'v, T>,
     choices: &'static [Choice<'static>],
     value: &'v Value,
 ) -> Result<(), Stop>
-    ensures { Appended (choice_made (make (T.parts_of table) depth kind.now) (held (λ c. c.name) is_choice (choices_view choices.now) (view value.now))) maker.old.bytes.items maker.new.bytes.items result }
+    ensures { Appended (choice_made (make (T.parts_of at.now.table) at.now.depth at.now.kind.now)
+        (held (λ c. c.name) is_choice (choices_view choices.now) (view value.now))) maker.old.bytes.items maker.new.bytes.items result }
 {
     let (choice, held) = match choice_held(choices, value) {
         Some(found) => found,
         None => return Err(maker.unknown(value, Wanted::Variant(choices))),
     };
     match maker.put(choice.prefix) {
-        Ok(()) => {}
-        Err(e) => return Err(e),
-    }
-    match make_form(maker, table, depth, kind, choice.form, held) {
-        Ok(()) => Ok(()),
-        Err(e) => {
-            maker.at(Step::Member(choice.name));
-            Err(e)
-        }
+        Ok(()) => make_member(maker, at, choice.name, choice.form, held),
+        Err(e) => Err(e),
     }
 }

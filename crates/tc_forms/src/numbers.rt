@@ -14,14 +14,13 @@ ghost use Rattle.tc_forms.specs.Tables.{no_table, names_view};
 ghost use Rattle.tc_forms.specs.Widths.{number_width};
 
 use crate::error::Wanted;
-use crate::events::{Stopped, begin_map, end_map, key, signed, string, unsigned};
+use crate::events::{Aside, Stopped, begin_map, end_map, key, signed, string, unsigned};
 use crate::form::{Form, Name, Number};
 use crate::maker::{Maker, Stop};
 use crate::rows::is_same;
 use crate::values_shown::send_raw;
 use serde::Serializer;
 use serde_json::Value;
-use std::alloc::Global;
 
 /// The name of a number.
 pub(crate) fn name_of<'a>(names: &[Name<'a>], number: u64) -> Option<&'a str>
@@ -131,16 +130,15 @@ pub(crate) fn is_signed(number: Number) -> bool
 pub(crate) fn send_bytes_number<S: Serializer>(
     number: Number,
     bytes: &[u8],
-    alloc: Global,
     out: &mut S,
-    error: &mut Option<S::Error>,
+    aside: &mut Aside<S::Error>,
 ) -> Result<(), Stopped>
     ensures { OnOk result (Sent (events (plain_shown no_table (Form.Number number) bytes.now)) (S.written out.old) (S.written out.new)) }
 {
     if bytes.len() != number.width() {
-        return send_raw(bytes, alloc, out, error);
+        return send_raw(bytes, out, aside);
     }
-    send_number(number, bits_of(number, bytes), out, error)
+    send_number(number, bits_of(number, bytes), out, aside)
 }
 
 #[inline(always)]
@@ -148,7 +146,7 @@ pub(crate) fn send_number<S: Serializer>(
     which: Number,
     bits: u64,
     out: &mut S,
-    error: &mut Option<S::Error>,
+    aside: &mut Aside<S::Error>,
 ) -> Result<(), Stopped>
     requires { bits < 2 * half which }
     ensures { OnOk result (Sent (events (number (num which bits))) (S.written out.old) (S.written out.new)) }
@@ -156,9 +154,9 @@ pub(crate) fn send_number<S: Serializer>(
     let half = half(which);
     if is_signed(which) && bits >= half {
         let above = half - 1 - (bits - half);
-        signed(-1 - (above as i64), out, error)
+        signed(-1 - (above as i64), out, aside)
     } else {
-        unsigned(bits, out, error)
+        unsigned(bits, out, aside)
     }
 }
 
@@ -168,7 +166,7 @@ pub(crate) fn send_named<S: Serializer>(
     which: Number,
     bits: u64,
     out: &mut S,
-    error: &mut Option<S::Error>,
+    aside: &mut Aside<S::Error>,
 ) -> Result<(), Stopped>
     requires { bits < 2 * half which }
     ensures { OnOk result (Sent (events (named_or (names_view names.now) bits (one (codes "Other") (number (num which bits))) (name_of (names_view names.now) bits))) (S.written out.old) (S.written out.new)) }
@@ -176,14 +174,14 @@ pub(crate) fn send_named<S: Serializer>(
     if let Some(name) = name_of(names, bits) {
         if let Some(again) = number_of(names, name) {
             if again == bits {
-                return string(name, out, error);
+                return string(name, out, aside);
             }
         }
     }
-    begin_map(out, error)?;
-    key("Other", out, error)?;
-    send_number(which, bits, out, error)?;
-    end_map(out, error)
+    begin_map(out, aside)?;
+    key("Other", out, aside)?;
+    send_number(which, bits, out, aside)?;
+    end_map(out, aside)
 }
 
 pub(crate) fn make_number<'v>(

@@ -7,6 +7,17 @@ ghost use Rattle.tc_forms.specs.Tables.{choices_view, fields_view, names_view};
 use crate::form::{Choice, Field, Form, Name, Part};
 use crate::tables::Tables;
 
+/// Where a form stands: in this table, with so many levels left, under this kind.
+#[derive(Clone, Copy)]
+pub(crate) struct At<'k, T> {
+    /// The table.
+    pub table: T,
+    /// How many levels may nest from here on.
+    pub depth: u8,
+    /// The kind in force.
+    pub kind: &'k str,
+}
+
 /// The names at a place.
 pub(crate) fn names_at<T: Tables>(table: T, place: usize) -> &'static [Name<'static>]
     ensures { names_view result.now ≡ names_of (part_at (T.parts_of table) place) }

@@ -9,7 +9,7 @@ ghost use Rattle.tc_forms.specs.Sent.{Sent, members_events};
 ghost use Rattle.tc_forms.specs.Tables.{field_view, fields_view};
 ghost use Rattle.tc_forms.specs.Widths.{width};
 
-use crate::events::{Stopped, key};
+use crate::events::{Aside, Stopped, key};
 use crate::form::{Field, Form};
 use crate::maker::{Maker, Stop};
 use crate::rows::is_same;
@@ -19,7 +19,6 @@ use crate::values_shown::send_hex;
 use crate::widths::fixed_width;
 use serde::Serializer;
 use serde_json::Value;
-use std::alloc::Global;
 
 /// True for padding.
 #[inline(always)]
@@ -44,17 +43,16 @@ pub(crate) fn split(bytes: &[u8], width: Option<usize>) -> (&[u8], &[u8])
 // The bytes behind a record.
 pub(crate) fn send_rest<S: Serializer>(
     bytes: &[u8],
-    alloc: Global,
     out: &mut S,
-    error: &mut Option<S::Error>,
+    aside: &mut Aside<S::Error>,
 ) -> Result<(), Stopped>
     ensures { OnOk result (Sent (members_events (rest_member bytes.now)) (S.written out.old) (S.written out.new)) }
 {
     if bytes.is_empty() {
         return Ok(());
     }
-    key("rest", out, error)?;
-    send_hex(bytes, alloc, out, error)
+    key("rest", out, aside)?;
+    send_hex(bytes, out, aside)
 }
 
 // True for as many zeros as the field has bytes.

@@ -1,7 +1,7 @@
 //! The rows of a list of attributes, by kind, by type and by name.
 
 ghost use Rattle.serde_json.specs.View.{view};
-ghost use Rattle.std.specs.Prelude.{IfSome, IsTrue, None, Some, bytes_eq, option_map, ◌≡◌};
+ghost use Rattle.std.specs.Prelude.{IfSome, IsTrue, None, Some, bytes_eq, option_map, unwrap_or, ◌≡◌};
 ghost use Rattle.tc_forms.specs.Places.{kind_place, part_at, rows_of, rows_under};
 ghost use Rattle.tc_forms.specs.Raw.{one};
 ghost use Rattle.tc_forms.specs.RowLists.{rows_in};
@@ -44,6 +44,35 @@ pub(crate) fn rows_under<T: Tables>(table: T, place: usize, kind: &str) -> RowLi
             own: &[],
             common: &[],
         },
+    }
+}
+
+/// The rows from where a kind is set on, if one is.
+#[inline(always)]
+pub(crate) fn rows_from<T: Tables>(
+    table: T,
+    place: usize,
+    set: Option<&str>,
+    kind: &str,
+    rows: &RowList<'static>,
+) -> RowList<'static>
+    requires { rows_in rows.now ≡ rows_under (T.parts_of table) place kind.now }
+    ensures { rows_in result ≡ rows_under (T.parts_of table) place (unwrap_or (option_map (λ t. t.now) set.entry) kind.now) }
+{
+    match set {
+        Some(set) => rows_under(table, place, set),
+        None => *rows,
+    }
+}
+
+/// The kind from there on.
+#[inline(always)]
+pub(crate) fn kind_from<'a>(set: Option<&'a str>, kind: &'a str) -> &'a str
+    ensures { result.now ≡ unwrap_or (option_map (λ t. t.now) set.entry) kind.now }
+{
+    match set {
+        Some(set) => set,
+        None => kind,
     }
 }
 

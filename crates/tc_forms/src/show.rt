@@ -3,8 +3,9 @@
 ghost use Rattle.serde.specs.Event.{Log};
 ghost use Rattle.serde_json.specs.Data.{Members, array, member, no_members};
 ghost use Rattle.std.specs.Prelude.{[], OnOk, codes, false, length, true};
-ghost use Rattle.tc_forms.specs.Attributes.{attribute, by_row, frames, indexed, layered};
+ghost use Rattle.tc_forms.specs.Attributes.{attribute, by_row, frames, indexed, listed};
 ghost use Rattle.tc_forms.specs.Choices.{by_choice, chosen};
+ghost use Rattle.tc_forms.specs.Frames.{frame_view};
 ghost use Rattle.tc_forms.specs.Places.{rows_under};
 ghost use Rattle.tc_forms.specs.Records.{elements, elements_of, field_member, members};
 ghost use Rattle.tc_forms.specs.RowLists.{rows_in};
@@ -15,16 +16,16 @@ ghost use Rattle.tc_forms.specs.Tables.{choices_view, field_view, fields_view};
 ghost use Rattle.tc_forms.specs.Widths.{fixed, width};
 
 use crate::attributes_shown::{
-    front, kind_after, kind_in, own_kind, rows_after, send_kind, send_other, send_pad, send_tab,
-    send_tail, send_told,
+    Frame, front, kind_in, own_kind, send_kind, send_other, send_pad, send_tail, send_told,
+    send_word,
 };
 use crate::choices::{behind, chosen, send_unknown};
-use crate::events::{Stopped, begin_map, begin_seq, end_map, end_seq, key};
+use crate::events::{Aside, Stopped, begin_map, begin_seq, end_map, end_seq, key};
 use crate::form::{Choice, Field, Form};
 use crate::numbers::send_bytes_number;
-use crate::places::{choices_at, fields_at, form_at, layer_at};
+use crate::places::{At, choices_at, fields_at, form_at, layer_at};
 use crate::records::{are_enough, is_blank, is_pad, send_rest, split};
-use crate::rows::{RowList, rows_under, shown_row};
+use crate::rows::{RowList, kind_from, rows_from, rows_under, shown_row};
 use crate::tables::Tables;
 use crate::values_shown::{send_plain, send_raw};
 use crate::widths::{DEEPEST, fixed_width};
@@ -65,215 +66,204 @@ pub fn send_shown<S: Serializer, T: Tables>(
 ) -> Result<(), S::Error>
     ensures { OnOk result (Sent (events (shown_of (T.parts_of table) form bytes.now)) (S.written out.old) (S.written out.new)) }
 {
-    let mut error = None;
-    match send_form(table, DEEPEST, "", form, bytes, alloc, out, &mut error) {
+    let mut aside = Aside { alloc, error: None };
+    let at = At {
+        table,
+        depth: DEEPEST,
+        kind: "",
+    };
+    match send_form(&at, form, bytes, out, &mut aside) {
         Ok(()) => Ok(()),
-        Err(Stopped::Failed) => match error {
+        Err(Stopped::Failed) => match aside.error {
             Some(e) => Err(e),
             None => Err(out.custom("the format failed")),
         },
     }
 }
 
-// The same at a depth. A number, which most fields and attributes are, takes no call.
+// The same where it stands. A number, which most fields and attributes are, takes no call.
 #[inline(always)]
 #[cycle(send)]
 fn send_form<S: Serializer, T: Tables>(
-    table: T,
-    depth: u8,
-    kind: &str,
+    at: &At<'_, T>,
     form: Form,
     bytes: &[u8],
-    alloc: Global,
     out: &mut S,
-    error: &mut Option<S::Error>,
+    aside: &mut Aside<S::Error>,
 ) -> Result<(), Stopped>
-    ensures { OnOk result (Sent (events (show (T.parts_of table) depth kind.now form bytes.now)) (S.written out.old) (S.written out.new)) }
+    ensures { OnOk result (Sent (events (show (T.parts_of at.now.table) at.now.depth at.now.kind.now form bytes.now))
+        (S.written out.old) (S.written out.new)) }
 {
     match form {
-        Form::Number(number) if depth > 0 => send_bytes_number(number, bytes, alloc, out, error),
-        _ => send_any(table, depth, kind, form, bytes, alloc, out, error),
+        Form::Number(number) if at.depth > 0 => send_bytes_number(number, bytes, out, aside),
+        _ => send_any(at, form, bytes, out, aside),
     }
 }
 
 #[inline(never)]
 #[cycle(send)]
 fn send_any<S: Serializer, T: Tables>(
-    table: T,
-    depth: u8,
-    kind: &str,
+    at: &At<'_, T>,
     form: Form,
     bytes: &[u8],
-    alloc: Global,
     out: &mut S,
-    error: &mut Option<S::Error>,
+    aside: &mut Aside<S::Error>,
 ) -> Result<(), Stopped>
-    ensures { OnOk result (Sent (events (show (T.parts_of table) depth kind.now form bytes.now)) (S.written out.old) (S.written out.new)) }
+    ensures { OnOk result (Sent (events (show (T.parts_of at.now.table) at.now.depth at.now.kind.now form bytes.now))
+        (S.written out.old) (S.written out.new)) }
 {
-    let inner = match depth.checked_sub(1) {
+    let inner = match at.depth.checked_sub(1) {
         Some(inner) => inner,
-        None => return send_raw(bytes, alloc, out, error),
+        None => return send_raw(bytes, out, aside),
+    };
+    let within = At {
+        table: at.table,
+        depth: inner,
+        kind: at.kind,
     };
     match form {
-        Form::Record(place) => send_record(table, inner, kind, place, bytes, alloc, out, error),
-        Form::Array(place) => send_elements(
-            table,
-            inner,
-            kind,
-            form_at(table, place),
-            bytes,
-            alloc,
-            out,
-            error,
-        ),
-        Form::Times(_, place) => send_elements(
-            table,
-            inner,
-            kind,
-            form_at(table, place),
-            bytes,
-            alloc,
-            out,
-            error,
-        ),
-        Form::List(place) => send_list(table, inner, kind, place, bytes, alloc, out, error),
-        Form::InForce(place) => send_kinded(table, inner, kind, place, bytes, alloc, out, error),
-        Form::Own(place) => send_own(table, inner, place, bytes, alloc, out, error),
-        Form::Indexed(place) => send_indexed(table, inner, kind, place, bytes, alloc, out, error),
-        Form::Choice(place) => send_choice(
-            table,
-            inner,
-            kind,
-            choices_at(table, place),
-            bytes,
-            alloc,
-            out,
-            error,
-        ),
-        _ => send_plain(table, form, bytes, alloc, out, error),
+        Form::Record(place) => send_record(&within, place, bytes, out, aside),
+        Form::Array(place) => {
+            send_elements(&within, form_at(at.table, place), bytes, out, aside)
+        }
+        Form::Times(_, place) => {
+            send_elements(&within, form_at(at.table, place), bytes, out, aside)
+        }
+        Form::List(place) => {
+            let layer = layer_at(at.table, place);
+            send_list(&within, place, false, false, layer, None, bytes, out, aside)
+        }
+        Form::InForce(place) => {
+            send_list(&within, place, true, true, "", None, bytes, out, aside)
+        }
+        Form::Own(place) => {
+            let own = At {
+                table: at.table,
+                depth: inner,
+                kind: own_kind(bytes),
+            };
+            send_list(&own, place, false, true, "", None, bytes, out, aside)
+        }
+        Form::Indexed(place) => {
+            let held = Some(form_at(at.table, place));
+            send_list(&within, place, false, false, "", held, bytes, out, aside)
+        }
+        Form::Choice(place) => {
+            send_choice(&within, choices_at(at.table, place), bytes, out, aside)
+        }
+        _ => send_plain(at.table, form, bytes, out, aside),
     }
 }
 
 #[inline(never)]
 #[cycle(send)]
 fn send_record<S: Serializer, T: Tables>(
-    table: T,
-    depth: u8,
-    kind: &str,
+    at: &At<'_, T>,
     place: usize,
     bytes: &[u8],
-    alloc: Global,
     out: &mut S,
-    error: &mut Option<S::Error>,
+    aside: &mut Aside<S::Error>,
 ) -> Result<(), Stopped>
-    ensures { OnOk result (Sent (events (shown (T.parts_of table) (show (T.parts_of table) depth) kind.now (Form.Record place) bytes.now)) (S.written out.old) (S.written out.new)) }
+    ensures { OnOk result (Sent (events (shown (T.parts_of at.now.table) (show (T.parts_of at.now.table) at.now.depth)
+        at.now.kind.now (Form.Record place) bytes.now)) (S.written out.old) (S.written out.new)) }
 {
-    let fields = fields_at(table, place);
-    if !table.names_apart(place) || !are_enough(table, bytes.len(), fields) {
-        return send_raw(bytes, alloc, out, error);
+    let fields = fields_at(at.table, place);
+    if !at.table.names_apart(place) || !are_enough(at.table, bytes.len(), fields) {
+        return send_raw(bytes, out, aside);
     }
-    begin_map(out, error)?;
-    send_fields(table, depth, kind, fields, bytes, alloc, out, error)?;
-    end_map(out, error)
+    begin_map(out, aside)?;
+    send_fields(at, fields, bytes, out, aside)?;
+    end_map(out, aside)
 }
 
 #[cycle(send)]
 fn send_fields<S: Serializer, T: Tables>(
-    table: T,
-    depth: u8,
-    kind: &str,
+    at: &At<'_, T>,
     fields: &[Field<'_>],
     bytes: &[u8],
-    alloc: Global,
     out: &mut S,
-    error: &mut Option<S::Error>,
+    aside: &mut Aside<S::Error>,
 ) -> Result<(), Stopped>
-    ensures { OnOk result (Sent (members_events (members (T.parts_of table) (show (T.parts_of table) depth kind.now) (fields_view fields.now) bytes.now)) (S.written out.old) (S.written out.new)) }
+    ensures { OnOk result (Sent (members_events (members (T.parts_of at.now.table)
+        (show (T.parts_of at.now.table) at.now.depth at.now.kind.now) (fields_view fields.now) bytes.now))
+        (S.written out.old) (S.written out.new)) }
 {
     let mut left = bytes;
     for field in fields.iter() {
-        let width = fixed_width(table, field.form);
+        let width = fixed_width(at.table, field.form);
         let (chunk, after) = split(left, width);
-        send_field(table, depth, kind, field, chunk, alloc, out, error)?;
+        send_field(at, field, chunk, out, aside)?;
         left = after;
     }
-    send_rest(left, alloc, out, error)
+    send_rest(left, out, aside)
 }
 
 // A field, if it isn't blank padding.
 #[inline(always)]
 #[cycle(send)]
 fn send_field<S: Serializer, T: Tables>(
-    table: T,
-    depth: u8,
-    kind: &str,
+    at: &At<'_, T>,
     field: &Field<'_>,
     chunk: &[u8],
-    alloc: Global,
     out: &mut S,
-    error: &mut Option<S::Error>,
+    aside: &mut Aside<S::Error>,
 ) -> Result<(), Stopped>
     ensures { OnOk result ((after : Members) (end : Log) → Sent (members_events after) (S.written out.new) end
-        → Sent (members_events (field_member (T.parts_of table) (show (T.parts_of table) depth kind.now) (field_view field.now) chunk.now after)) (S.written out.old) end) }
+        → Sent (members_events (field_member (T.parts_of at.now.table) (show (T.parts_of at.now.table) at.now.depth at.now.kind.now)
+        (field_view field.now) chunk.now after)) (S.written out.old) end) }
 {
-    if is_pad(field.form) && is_blank(fixed_width(table, field.form), chunk) {
+    if is_pad(field.form) && is_blank(fixed_width(at.table, field.form), chunk) {
         return Ok(());
     }
-    key(field.name, out, error)?;
-    send_form(table, depth, kind, field.form, chunk, alloc, out, error)
+    key(field.name, out, aside)?;
+    send_form(at, field.form, chunk, out, aside)
 }
 
 #[inline(never)]
 #[cycle(send)]
 fn send_elements<S: Serializer, T: Tables>(
-    table: T,
-    depth: u8,
-    kind: &str,
+    at: &At<'_, T>,
     form: Form,
     bytes: &[u8],
-    alloc: Global,
     out: &mut S,
-    error: &mut Option<S::Error>,
+    aside: &mut Aside<S::Error>,
 ) -> Result<(), Stopped>
-    ensures { OnOk result (Sent (events (array (elements_of (show (T.parts_of table) depth kind.now) form (fixed (T.parts_of table) form) bytes.now))) (S.written out.old) (S.written out.new)) }
+    ensures { OnOk result (Sent (events (array (elements_of (show (T.parts_of at.now.table) at.now.depth at.now.kind.now) form
+        (fixed (T.parts_of at.now.table) form) bytes.now))) (S.written out.old) (S.written out.new)) }
 {
-    begin_seq(out, error)?;
-    send_elements_of(table, depth, kind, form, bytes, alloc, out, error)?;
-    end_seq(out, error)
+    begin_seq(out, aside)?;
+    send_elements_of(at, form, bytes, out, aside)?;
+    end_seq(out, aside)
 }
 
 #[cycle(send)]
 fn send_elements_of<S: Serializer, T: Tables>(
-    table: T,
-    depth: u8,
-    kind: &str,
+    at: &At<'_, T>,
     form: Form,
     bytes: &[u8],
-    alloc: Global,
     out: &mut S,
-    error: &mut Option<S::Error>,
+    aside: &mut Aside<S::Error>,
 ) -> Result<(), Stopped>
-    ensures { OnOk result (Sent (items_events (elements_of (show (T.parts_of table) depth kind.now) form (fixed (T.parts_of table) form) bytes.now)) (S.written out.old) (S.written out.new)) }
+    ensures { OnOk result (Sent (items_events (elements_of (show (T.parts_of at.now.table) at.now.depth at.now.kind.now) form
+        (fixed (T.parts_of at.now.table) form) bytes.now)) (S.written out.old) (S.written out.new)) }
 {
-    match fixed_width(table, form) {
-        Some(width) => send_each_element(table, depth, kind, form, width, bytes, alloc, out, error),
-        None => send_form(table, depth, kind, form, bytes, alloc, out, error),
+    match fixed_width(at.table, form) {
+        Some(width) => send_each_element(at, form, width, bytes, out, aside),
+        None => send_form(at, form, bytes, out, aside),
     }
 }
 
 #[cycle(send)]
 fn send_each_element<S: Serializer, T: Tables>(
-    table: T,
-    depth: u8,
-    kind: &str,
+    at: &At<'_, T>,
     form: Form,
     width: usize,
     bytes: &[u8],
-    alloc: Global,
     out: &mut S,
-    error: &mut Option<S::Error>,
+    aside: &mut Aside<S::Error>,
 ) -> Result<(), Stopped>
-    ensures { OnOk result (Sent (items_events (elements (show (T.parts_of table) depth kind.now) (length bytes.now) form width bytes.now)) (S.written out.old) (S.written out.new)) }
+    ensures { OnOk result (Sent (items_events (elements (show (T.parts_of at.now.table) at.now.depth at.now.kind.now) (length bytes.now)
+        form width bytes.now)) (S.written out.old) (S.written out.new)) }
 {
     let mut left = bytes;
     for _count in 0..bytes.len() {
@@ -281,323 +271,200 @@ fn send_each_element<S: Serializer, T: Tables>(
             return Ok(());
         }
         let (element, after) = split(left, Some(width));
-        send_form(table, depth, kind, form, element, alloc, out, error)?;
+        send_form(at, form, element, out, aside)?;
         left = after;
     }
     if left.is_empty() {
         return Ok(());
     }
-    send_form(table, depth, kind, form, left, alloc, out, error)
+    send_form(at, form, left, out, aside)
 }
 
+// A list of attributes; its kinds are in force, or the one kind is.
 #[inline(never)]
 #[cycle(send)]
 fn send_list<S: Serializer, T: Tables>(
-    table: T,
-    depth: u8,
-    kind: &str,
-    place: usize,
-    bytes: &[u8],
-    alloc: Global,
-    out: &mut S,
-    error: &mut Option<S::Error>,
-) -> Result<(), Stopped>
-    ensures { OnOk result (Sent (events (shown (T.parts_of table) (show (T.parts_of table) depth) kind.now (Form.List place) bytes.now)) (S.written out.old) (S.written out.new)) }
-{
-    begin_seq(out, error)?;
-    let layer = layer_at(table, place);
-    send_attributes(
-        table, depth, kind, place, false, false, layer, bytes, alloc, out, error,
-    )?;
-    end_seq(out, error)
-}
-
-// The same under its own kind.
-#[inline(never)]
-#[cycle(send)]
-fn send_own<S: Serializer, T: Tables>(
-    table: T,
-    depth: u8,
-    place: usize,
-    bytes: &[u8],
-    alloc: Global,
-    out: &mut S,
-    error: &mut Option<S::Error>,
-) -> Result<(), Stopped>
-    ensures { OnOk result (Sent (events (shown (T.parts_of table) (show (T.parts_of table) depth) [] (Form.Own place) bytes.now)) (S.written out.old) (S.written out.new)) }
-{
-    let kind = own_kind(bytes);
-    begin_seq(out, error)?;
-    send_attributes(
-        table, depth, kind, place, false, true, "", bytes, alloc, out, error,
-    )?;
-    end_seq(out, error)
-}
-
-// The attributes of a list; its kinds are in force, or the one kind is.
-#[cycle(send)]
-fn send_attributes<S: Serializer, T: Tables>(
-    table: T,
-    depth: u8,
-    kind: &str,
+    at: &At<'_, T>,
     place: usize,
     in_force: bool,
     has: bool,
     layer: &str,
+    held: Option<Form>,
     bytes: &[u8],
-    alloc: Global,
     out: &mut S,
-    error: &mut Option<S::Error>,
+    aside: &mut Aside<S::Error>,
 ) -> Result<(), Stopped>
-    ensures { OnOk result (Sent (items_events (frames (λ k c. layered layer.now (attribute (show (T.parts_of table) depth) (rows_under (T.parts_of table) place k) has k c)) in_force (length bytes.now) kind.now bytes.now)) (S.written out.old) (S.written out.new)) }
+    ensures { OnOk result (Sent (events (array (frames (λ k c. listed (show (T.parts_of at.now.table) at.now.depth)
+        (rows_under (T.parts_of at.now.table) place k) has held layer.now k c) in_force (length bytes.now) at.now.kind.now bytes.now)))
+        (S.written out.old) (S.written out.new)) }
+{
+    begin_seq(out, aside)?;
+    send_attributes(at, place, in_force, has, layer, held, bytes, out, aside)?;
+    end_seq(out, aside)
+}
+
+#[cycle(send)]
+fn send_attributes<S: Serializer, T: Tables>(
+    at: &At<'_, T>,
+    place: usize,
+    in_force: bool,
+    has: bool,
+    layer: &str,
+    held: Option<Form>,
+    bytes: &[u8],
+    out: &mut S,
+    aside: &mut Aside<S::Error>,
+) -> Result<(), Stopped>
+    ensures { OnOk result (Sent (items_events (frames (λ k c. listed (show (T.parts_of at.now.table) at.now.depth)
+        (rows_under (T.parts_of at.now.table) place k) has held layer.now k c) in_force (length bytes.now) at.now.kind.now bytes.now))
+        (S.written out.old) (S.written out.new)) }
 {
     let mut left = bytes;
-    let mut so_far = kind;
-    let mut rows = rows_under(table, place, kind);
+    let mut so_far = at.kind;
+    let mut rows = rows_under(at.table, place, at.kind);
     for _count in 0..bytes.len() {
-        let (word, value, pad, after) = match front(left) {
-            Some(frame) => frame,
-            None => return send_tail(left, alloc, out, error),
+        let (frame, after) = match front(left) {
+            Some(found) => found,
+            None => return send_tail(left, out, aside),
         };
-        rows = rows_after(table, place, in_force, word, value, so_far, &rows);
-        so_far = kind_after(in_force, word, value, so_far);
-        send_item(
-            table, depth, so_far, has, layer, &rows, word, value, pad, alloc, out, error,
-        )?;
+        let set = kind_in(in_force, &frame);
+        rows = rows_from(at.table, place, set, so_far, &rows);
+        so_far = kind_from(set, so_far);
+        let under = At {
+            table: at.table,
+            depth: at.depth,
+            kind: so_far,
+        };
+        send_item(&under, has, layer, held, &rows, &frame, out, aside)?;
         left = after;
     }
-    send_tail(left, alloc, out, error)
+    send_tail(left, out, aside)
 }
 
-#[inline(never)]
-#[cycle(send)]
-fn send_kinded<S: Serializer, T: Tables>(
-    table: T,
-    depth: u8,
-    kind: &str,
-    place: usize,
-    bytes: &[u8],
-    alloc: Global,
-    out: &mut S,
-    error: &mut Option<S::Error>,
-) -> Result<(), Stopped>
-    ensures { OnOk result (Sent (events (array (frames (λ k c. attribute (show (T.parts_of table) depth) (rows_under (T.parts_of table) place k) true k c) true (length bytes.now) kind.now bytes.now))) (S.written out.old) (S.written out.new)) }
-{
-    begin_seq(out, error)?;
-    send_attributes(
-        table, depth, kind, place, true, true, "", bytes, alloc, out, error,
-    )?;
-    end_seq(out, error)
-}
-
-// An attribute in its layer.
+// An attribute of a list.
 #[inline(always)]
 #[cycle(send)]
 fn send_item<S: Serializer, T: Tables>(
-    table: T,
-    depth: u8,
-    kind: &str,
+    at: &At<'_, T>,
     has: bool,
     layer: &str,
+    held: Option<Form>,
     rows: &RowList<'static>,
-    word: u16,
-    value: &[u8],
-    pad: &[u8],
-    alloc: Global,
+    frame: &Frame<'_>,
     out: &mut S,
-    error: &mut Option<S::Error>,
+    aside: &mut Aside<S::Error>,
 ) -> Result<(), Stopped>
-    ensures { OnOk result (Sent (events (layered layer.now (attribute (show (T.parts_of table) depth) (rows_in rows.now) has kind.now (record { word = word; value = value.now; pad = pad.now })))) (S.written out.old) (S.written out.new)) }
+    ensures { OnOk result (Sent (events (listed (show (T.parts_of at.now.table) at.now.depth) (rows_in rows.now) has held
+        layer.now at.now.kind.now (frame_view frame.now))) (S.written out.old) (S.written out.new)) }
 {
-    if layer.is_empty() {
-        return send_attribute(
-            table, depth, kind, has, rows, word, value, pad, alloc, out, error,
-        );
+    match held {
+        Some(form) => send_indexed(at, form, frame, out, aside),
+        None if layer.is_empty() => send_attribute(at, has, rows, frame, out, aside),
+        None => {
+            begin_map(out, aside)?;
+            key(layer, out, aside)?;
+            send_attribute(at, has, rows, frame, out, aside)?;
+            end_map(out, aside)
+        }
     }
-    begin_map(out, error)?;
-    key(layer, out, error)?;
-    send_attribute(
-        table, depth, kind, has, rows, word, value, pad, alloc, out, error,
-    )?;
-    end_map(out, error)
 }
 
 #[cycle(send)]
 fn send_attribute<S: Serializer, T: Tables>(
-    table: T,
-    depth: u8,
-    kind: &str,
+    at: &At<'_, T>,
     has: bool,
     rows: &RowList<'static>,
-    word: u16,
-    value: &[u8],
-    pad: &[u8],
-    alloc: Global,
+    frame: &Frame<'_>,
     out: &mut S,
-    error: &mut Option<S::Error>,
+    aside: &mut Aside<S::Error>,
 ) -> Result<(), Stopped>
-    ensures { OnOk result (Sent (events (attribute (show (T.parts_of table) depth) (rows_in rows.now) has kind.now (record { word = word; value = value.now; pad = pad.now }))) (S.written out.old) (S.written out.new)) }
+    ensures { OnOk result (Sent (events (attribute (show (T.parts_of at.now.table) at.now.depth) (rows_in rows.now) has at.now.kind.now
+        (frame_view frame.now))) (S.written out.old) (S.written out.new)) }
 {
-    match kind_in(has, word, value) {
-        Some(told) => send_kind(told, word, value, pad, alloc, out, error),
-        None => send_by_row(
-            table, depth, kind, rows, word, value, pad, alloc, out, error,
-        ),
+    match kind_in(has, frame) {
+        Some(kind) => send_kind(kind, frame, out, aside),
+        None => send_by_row(at, rows, frame, out, aside),
     }
 }
 
 #[inline(always)]
 #[cycle(send)]
 fn send_by_row<S: Serializer, T: Tables>(
-    table: T,
-    depth: u8,
-    kind: &str,
+    at: &At<'_, T>,
     rows: &RowList<'static>,
-    word: u16,
-    value: &[u8],
-    pad: &[u8],
-    alloc: Global,
+    frame: &Frame<'_>,
     out: &mut S,
-    error: &mut Option<S::Error>,
+    aside: &mut Aside<S::Error>,
 ) -> Result<(), Stopped>
-    ensures { OnOk result (Sent (events (by_row (show (T.parts_of table) depth) (rows_in rows.now) false kind.now (record { word = word; value = value.now; pad = pad.now }) (shown_row (rows_in rows.now) word))) (S.written out.old) (S.written out.new)) }
+    ensures { OnOk result (Sent (events (by_row (show (T.parts_of at.now.table) at.now.depth) (rows_in rows.now) false at.now.kind.now
+        (frame_view frame.now) (shown_row (rows_in rows.now) frame.now.word))) (S.written out.old) (S.written out.new)) }
 {
-    match shown_row(rows, word) {
+    match shown_row(rows, frame.word) {
         Some(row) => {
-            begin_map(out, error)?;
-            key(row.name, out, error)?;
-            send_form(table, depth, kind, row.form, value, alloc, out, error)?;
-            send_told(row.word, word, value, pad, alloc, out, error)?;
-            end_map(out, error)
+            begin_map(out, aside)?;
+            key(row.name, out, aside)?;
+            send_form(at, row.form, frame.value, out, aside)?;
+            send_told(row.word, frame, out, aside)?;
+            end_map(out, aside)
         }
-        None => send_other(word, value, pad, alloc, out, error),
+        None => send_other(frame, out, aside),
     }
 }
 
-#[inline(never)]
+// An attribute of any type, which holds this form.
 #[cycle(send)]
 fn send_indexed<S: Serializer, T: Tables>(
-    table: T,
-    depth: u8,
-    kind: &str,
-    place: usize,
-    bytes: &[u8],
-    alloc: Global,
-    out: &mut S,
-    error: &mut Option<S::Error>,
-) -> Result<(), Stopped>
-    ensures { OnOk result (Sent (events (shown (T.parts_of table) (show (T.parts_of table) depth) kind.now (Form.Indexed place) bytes.now)) (S.written out.old) (S.written out.new)) }
-{
-    begin_seq(out, error)?;
-    send_each_indexed(
-        table,
-        depth,
-        kind,
-        form_at(table, place),
-        bytes,
-        alloc,
-        out,
-        error,
-    )?;
-    end_seq(out, error)
-}
-
-#[cycle(send)]
-fn send_each_indexed<S: Serializer, T: Tables>(
-    table: T,
-    depth: u8,
-    kind: &str,
+    at: &At<'_, T>,
     form: Form,
-    bytes: &[u8],
-    alloc: Global,
+    frame: &Frame<'_>,
     out: &mut S,
-    error: &mut Option<S::Error>,
+    aside: &mut Aside<S::Error>,
 ) -> Result<(), Stopped>
-    ensures { OnOk result (Sent (items_events (frames (λ k c. indexed c (show (T.parts_of table) depth k form c.value)) false (length bytes.now) kind.now bytes.now)) (S.written out.old) (S.written out.new)) }
+    ensures { OnOk result (Sent (events (indexed (frame_view frame.now) (show (T.parts_of at.now.table) at.now.depth at.now.kind.now form
+        frame.now.value.now))) (S.written out.old) (S.written out.new)) }
 {
-    let mut left = bytes;
-    for _count in 0..bytes.len() {
-        let (word, value, pad, after) = match front(left) {
-            Some(frame) => frame,
-            None => return send_tail(left, alloc, out, error),
-        };
-        send_one_indexed(
-            table, depth, kind, form, word, value, pad, alloc, out, error,
-        )?;
-        left = after;
-    }
-    send_tail(left, alloc, out, error)
-}
-
-#[cycle(send)]
-fn send_one_indexed<S: Serializer, T: Tables>(
-    table: T,
-    depth: u8,
-    kind: &str,
-    form: Form,
-    word: u16,
-    value: &[u8],
-    pad: &[u8],
-    alloc: Global,
-    out: &mut S,
-    error: &mut Option<S::Error>,
-) -> Result<(), Stopped>
-    ensures { OnOk result (Sent (events (indexed (record { word = word; value = value.now; pad = pad.now }) (show (T.parts_of table) depth kind.now form value.now))) (S.written out.old) (S.written out.new)) }
-{
-    begin_map(out, error)?;
-    send_tab(word, out, error)?;
-    send_attributes_member(table, depth, kind, form, value, alloc, out, error)?;
-    send_pad(word, value, pad, alloc, out, error)?;
-    end_map(out, error)
+    begin_map(out, aside)?;
+    send_word("tab", frame.word, out, aside)?;
+    send_attributes_member(at, form, frame.value, out, aside)?;
+    send_pad(frame, out, aside)?;
+    end_map(out, aside)
 }
 
 #[cycle(send)]
 fn send_attributes_member<S: Serializer, T: Tables>(
-    table: T,
-    depth: u8,
-    kind: &str,
+    at: &At<'_, T>,
     form: Form,
     value: &[u8],
-    alloc: Global,
     out: &mut S,
-    error: &mut Option<S::Error>,
+    aside: &mut Aside<S::Error>,
 ) -> Result<(), Stopped>
-    ensures { OnOk result (Sent (members_events (member (codes "attributes") (show (T.parts_of table) depth kind.now form value.now) no_members)) (S.written out.old) (S.written out.new)) }
+    ensures { OnOk result (Sent (members_events (member (codes "attributes") (show (T.parts_of at.now.table) at.now.depth at.now.kind.now
+        form value.now) no_members)) (S.written out.old) (S.written out.new)) }
 {
-    key("attributes", out, error)?;
-    send_form(table, depth, kind, form, value, alloc, out, error)
+    key("attributes", out, aside)?;
+    send_form(at, form, value, out, aside)
 }
 
 #[inline(never)]
 #[cycle(send)]
 fn send_choice<S: Serializer, T: Tables>(
-    table: T,
-    depth: u8,
-    kind: &str,
+    at: &At<'_, T>,
     choices: &[Choice<'_>],
     bytes: &[u8],
-    alloc: Global,
     out: &mut S,
-    error: &mut Option<S::Error>,
+    aside: &mut Aside<S::Error>,
 ) -> Result<(), Stopped>
-    ensures { OnOk result (Sent (events (by_choice (show (T.parts_of table) depth kind.now) bytes.now (chosen (choices_view choices.now) bytes.now))) (S.written out.old) (S.written out.new)) }
+    ensures { OnOk result (Sent (events (by_choice (show (T.parts_of at.now.table) at.now.depth at.now.kind.now) bytes.now
+        (chosen (choices_view choices.now) bytes.now))) (S.written out.old) (S.written out.new)) }
 {
     match chosen(choices, bytes) {
         Some(choice) => {
-            begin_map(out, error)?;
-            key(choice.name, out, error)?;
-            send_form(
-                table,
-                depth,
-                kind,
-                choice.form,
-                behind(bytes, choice.prefix.len()),
-                alloc,
-                out,
-                error,
-            )?;
-            end_map(out, error)
+            let held = behind(bytes, choice.prefix.len());
+            begin_map(out, aside)?;
+            key(choice.name, out, aside)?;
+            send_form(at, choice.form, held, out, aside)?;
+            end_map(out, aside)
         }
-        None => send_unknown(bytes, alloc, out, error),
+        None => send_unknown(bytes, out, aside),
     }
 }

@@ -1,7 +1,7 @@
 //! Values that hold no others, made.
 
 ghost use Rattle.serde_json.specs.View.{view};
-ghost use Rattle.std.specs.Prelude.{IfOk, option_map, ◌≡◌};
+ghost use Rattle.std.specs.Prelude.{IfOk, Some, [], option_map, ◌++◌, ◌∷◌, ◌≡◌};
 ghost use Rattle.tc_forms.specs.Appended.{Appended};
 ghost use Rattle.tc_forms.specs.Raw.{hex_made, hex_of, raw_of};
 ghost use Rattle.tc_forms.specs.Tables.{no_table};
@@ -124,10 +124,16 @@ fn make_bare<'v>(maker: &mut Maker<'v>, value: &'v Value) -> Result<(), Stop>
 fn make_text<'v>(maker: &mut Maker<'v>, value: &'v Value) -> Result<(), Stop>
     ensures { Appended (plain_made no_table Form.Text (view value.now)) maker.old.bytes.items maker.new.bytes.items result }
 {
-    let text = match value.as_str() {
-        Some(text) => text,
-        None => return Err(maker.unfit(value, Wanted::Text)),
-    };
+    match value.as_str() {
+        Some(text) => put_text(maker, text),
+        None => Err(maker.unfit(value, Wanted::Text)),
+    }
+}
+
+// A text and a NUL.
+pub(crate) fn put_text(maker: &mut Maker<'_>, text: &str) -> Result<(), Stop>
+    ensures { Appended (Some (text.now ++ 0 ∷ [])) maker.old.bytes.items maker.new.bytes.items result }
+{
     match maker.put(text.as_bytes()) {
         Ok(()) => maker.put_byte(0),
         Err(e) => Err(e),
