@@ -5,6 +5,7 @@ use Rattle.std.specs.Prelude.{◌==◌, ◌&&◌, ◌||◌, is_some, option_map,
 use Rattle.std.specs.Str.{bytes_eq}
 use Rattle.tc_canon.specs.Descriptor.{Class, raw, list_of, own_list, Table, table, by_kind, Rows, others, types, unread, options}
 use Rattle.tc_canon.specs.Descriptor.{Kinds, unknown, kind, is_known, is_within}
+use Rattle.tc_canon.specs.Tables.Flower.{flower_options}
 use Rattle.tc_index.specs.declared.table.Table.{Table as ListedTable}
 use Rattle.tc_index.specs.declared.table.Table.TheVariants as the
 use Rattle.tc_index.specs.Tables.{rows_in, table_of}
@@ -58,6 +59,10 @@ not_within m n other = go (cases_lt n m)
     go : (n < m) ⊎ (m ≤ n) → is_within m m n ≡ false
     go (inl below) = rw (lt-leb m n below) refl
     go (inr above) = rw (le-leb m n above, lt-leb n m (omega (arith, other))) refl
+
+-- flower has two lists: its actions, and labels of MPLS
+pub flower_no_list : (n : ℕ) (k value : List ℕ) → (n ≡ 3 → ⊥) → (n ≡ 99 → ⊥) → list_in (class_at flower_options n k) k value ≡ None
+flower_no_list n k value actions mpls = no_list flower_options n k value (rw (not_within 3 n actions, not_within 99 n mpls) refl)
 
 -- a table that isn't a list of actions is by its rows
 pub class-in : (t : ListedTable) (n : ℕ) (k : List ℕ) → (t ≡ the.Actions → ⊥) → class_in (table_of t) n k ≡ class_at (rows_in t) n k

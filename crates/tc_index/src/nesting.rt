@@ -32,7 +32,7 @@ pub fn list_in<'a>(
 }
 
 /// The table of the attributes in an attribute of a table's rows.
-#[tactic(auto, using(crate::proofs::Rows::no_list, crate::proofs::Rows::options_list))]
+#[tactic(auto, using(crate::proofs::Rows::no_list, crate::proofs::Rows::flower_no_list, crate::proofs::Rows::options_list))]
 fn inner_table(table: Table, number: u16, kind: &[u8]) -> Option<Table>
     ensures { (value : List ℕ) → option_map (λ t. (table_of t, kind.now)) result
         ≡ list_in (class_at (rows_in table) number kind.now) kind.now value }

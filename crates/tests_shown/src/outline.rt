@@ -4,5 +4,6 @@ mod faults;
 mod index;
 mod memory;
 mod messages;
+mod paths;
 mod places;
 mod shown;
