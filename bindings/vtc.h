@@ -168,7 +168,8 @@ uint32_t vtc_action_make_as_given(const char *json, size_t len, uint8_t *buffer,
  * above. So a flag of a type that isn't the type's own ("word"), padding other than zeros ("pad"), bytes behind a record
  * ("rest") and a kind without its NUL ("bare") go where reading drops them. It is VTC_NO_MESSAGE where those bytes can't
  * be read, with the place of the first fault; where what is read can't be written; and where a value would change,
- * with the place, the value and what it would become. */
+ * with the place, the value and what it would become. All else that is shown is a value: also the padding of a header or
+ * a record ("padding"), and an action's place with its flags ("tab"). */
 uint32_t vtc_make(const char *json, size_t len, uint8_t *buffer, size_t room, size_t *length,
                   char *why, size_t why_room, size_t *why_length);
 uint32_t vtc_action_make(const char *json, size_t len, uint8_t *buffer, size_t room, size_t *length,

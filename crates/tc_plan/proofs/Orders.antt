@@ -5,7 +5,6 @@ use Rattle.std.proofs.lemmas.List.Sorted.{IsPermutation-sym, Contains-permutatio
 use Rattle.std.proofs.lemmas.List.Elements.{All-from_recursion, recursion_from_All}
 use Rattle.tc_order.specs.Order.{IsOrder, none, next}
 use Rattle.tc_order.specs.declared.order.Step.{Step}
-use Rattle.std.specs.Option.{option_to_list}
 use Rattle.std.proofs.lemmas.List.{map-append}
 use Rattle.std.proofs.lemmas.Grind.{flat_map-append}
 use Rattle.tc_plan.specs.Fates.{Parts, parts_of, needs_of, objects}
@@ -53,9 +52,9 @@ module _ {A : Type 0} where
       ap (λ l. map parts_of l ++ rest) pushed ∙ ap (λ l. l ++ rest) (map-append parts_of old (step ∷ []))
       ∙ append_assoc (map parts_of old) (parts_of step ∷ []) rest ∙ ap (λ p. map parts_of old ++ p ∷ rest) same ∙ is
 
-  pub objects_more : (entries : List (Entry A)) (entry : Entry A) → objects (entries ++ entry ∷ []) ≡ objects entries ++ option_to_list entry.object
+  pub objects_more : (entries : List (Entry A)) (entry : Entry A) → objects (entries ++ entry ∷ []) ≡ objects entries ++ entry.objects.items
   objects_more entries entry =
-      flat_map-append (λ (e : Entry A). option_to_list e.object) entries (entry ∷ []) ∙ ap (λ l. objects entries ++ l) (append-nil (option_to_list entry.object))
+      flat_map-append (λ (e : Entry A). e.objects.items) entries (entry ∷ []) ∙ ap (λ l. objects entries ++ l) (append-nil entry.objects.items)
 
   -- one more step, freed
   pub needs_more : (old : List (Step ℕ Key A)) (front : List (Step Item Key A)) (new : List (Step ℕ Key A)) (more : List (Step Item Key A)) (step : Step ℕ Key A) (x : Step Item Key A)

@@ -1,7 +1,6 @@
 -- What becomes of a dump among others.
 use Rattle.std.specs.Prelude.{◌≡◌, ℕ, negsuc, Bool, true, false, List, [], ◌∷◌, ◌++◌, Option, Some, None, if◌then◌else◌, not}
 use Rattle.std.specs.List.{list_any, flat_map}
-use Rattle.std.specs.Option.{option_to_list}
 use Rattle.std.specs.HashSet as bag
 use Rattle.std.specs.HashSet.{HashSet}
 use Rattle.std.specs.Ordering.{int_eq}
@@ -43,31 +42,34 @@ abbrev pub lacks : List Key → Option Key → Bool
 lacks keys (Some k) = not (list_any (same_key k) keys)
 lacks keys None = false
 
+-- one of these is among those
+abbrev pub any_among : List Key → List Key → Bool
+any_among keys own = list_any (λ k. list_any (same_key k) keys) own
+
 -- a second dump of the same object: one of a shared block is made by the first
-abbrev pub again : Option Key → Fate
-again (Some k) = if is_shared k then Made else Refused Twice
-again None = Refused Twice
+abbrev pub again : List Key → Fate
+again own = if list_any is_shared own then Made else Refused Twice
 
 -- what becomes of a dump, by what all give and which objects are before it: one that can't be restored, or that the kernel makes,
 -- stays that; then a second dump, a class without its parent, one that doesn't say its side of clsact, and a chain that its filters make
-abbrev pub fate_by : List Key → List Key → Option Key → Option Key → Option Key → Option Key → Fate → Fate
-fate_by given before object must must_not made_by Request =
-    if among before object then again object
+abbrev pub fate_by : List Key → List Key → List Key → Option Key → Option Key → Option Key → Fate → Fate
+fate_by given before own must must_not made_by Request =
+    if any_among before own then again own
     else if lacks given must then Refused NoParent
     else if among given must_not then Refused NoSide
     else if among given made_by then Made
     else Request
-fate_by given before object must must_not made_by fate = fate
+fate_by given before own must must_not made_by fate = fate
 
 abbrev pub fate_among : {A : Type 0} → List Key → List Key → Entry A → Fate
-fate_among given before entry = fate_by given before entry.object entry.must entry.must_not entry.made_by entry.fate
+fate_among given before entry = fate_by given before entry.objects.items entry.must entry.must_not entry.made_by entry.fate
 
 -- all that dumps give, and their objects
 abbrev pub gifts : {A : Type 0} → List (Entry A) → List Key
 gifts entries = flat_map (λ entry. entry.gives.items) entries
 
 abbrev pub objects : {A : Type 0} → List (Entry A) → List Key
-objects entries = flat_map (λ entry. option_to_list entry.object) entries
+objects entries = flat_map (λ entry. entry.objects.items) entries
 
 -- a second dump gives nothing, since the first gives it
 abbrev pub gives_by : Fate → List Key → List Key

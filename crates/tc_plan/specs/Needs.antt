@@ -1,5 +1,5 @@
 -- What the request that restores a dump needs: what gives a key that it wants.
-use Rattle.std.specs.Prelude.{ℕ, ℤ, negsuc, ◌*◌, ◌/◌, ◌%◌, Bool, true, false, not, ◌==◌, ◌&&◌, ◌||◌, List, [], ◌∷◌, ◌++◌, length, if◌then◌else◌, bytes_eq, codes, string_bytes}
+use Rattle.std.specs.Prelude.{ℕ, ℤ, negsuc, ◌*◌, ◌-◌, ◌/◌, ◌%◌, Bool, true, false, not, ◌==◌, ◌&&◌, ◌||◌, nat_le, List, [], ◌∷◌, ◌++◌, length, replicate, Option, Some, None, if◌then◌else◌, bytes_eq, codes, string_bytes}
 use Rattle.std.specs.List.{flat_map, list_any}
 use Rattle.std.specs.Ordering.{int_eq}
 use Rattle.nla_frames.specs.DefaultNla.{kept_frame}
@@ -7,9 +7,15 @@ use Rattle.nla_frames.specs.Frame.{type_of}
 use Rattle.nla_frames.specs.Value.{le_value}
 use Rattle.tc_records.specs.Header.{handle_number}
 use Rattle.tc_records.specs.declared.header.TcHeader.{TcHeader}
+use Rattle.tc_actions.specs.declared.actions.action.TcAction.{TcAction}
+use Rattle.tc_action_messages.specs.declared.attribute.TcActionMessageAttribute.{TcActionMessageAttribute}
+use Rattle.tc_action_messages.specs.declared.attribute.TcActionMessageAttribute.TheVariants as action_attribute
+use Rattle.tc_action_messages.specs.declared.message.TcActionMessage.{TcActionMessage}
 use Rattle.tc_attributes.specs.declared.attribute.TcAttribute.{TcAttribute}
 use Rattle.tc_attributes.specs.declared.attribute.TcAttribute.TheVariants as attribute
 use Rattle.tc_messages.specs.declared.message.TcMessage.{TcMessage}
+use Rattle.tc_requests.specs.RestoredActions.{kind_of_action}
+use Rattle.tc_requests.specs.Standing.{standing_index}
 use Rattle.tc_requests.specs.declared.restore_messages.Object.{Object}
 use Rattle.tc_requests.specs.declared.restore_messages.Object.TheVariants.{Qdisc, Class, Filter, Chain}
 use Rattle.tc_plan.specs.declared.fate.Fate.{Fate}
@@ -97,6 +103,30 @@ wants Chain m = parents m.header.index (handle_number m.header.parent)
 wants Filter m =
     (parents m.header.index (handle_number m.header.parent) ++ key.Actions ∷ chain_of m ∷ [])
     ++ (if is_table m then [] else tables_of m ∷ [])
+
+-- a kind with zeros behind it; one of more than 16 bytes the kernel doesn't have
+abbrev pub name_of : List ℕ → Option (List ℕ)
+name_of kind = if nat_le (length kind) 16 then Some (kind ++ replicate (16 - length kind) 0) else None
+
+-- an action of a kind, if it is one that the kernel has and an index is known
+abbrev pub action_by : Option (List ℕ) → Option ℕ → List Key
+action_by (Some kind) (Some index) = key.Action kind index ∷ []
+action_by kind index = []
+
+-- an action that stands by itself
+abbrev pub standing_action : {A : Type 0} → TcAction A → List Key
+standing_action action = action_by (name_of (kind_of_action action.attributes.items)) (standing_index action)
+
+-- the actions of an attribute, and those of it and of a dump that stand by themselves
+abbrev pub actions_in : {A : Type 0} → TcActionMessageAttribute A → List (TcAction A)
+actions_in (action_attribute.Actions actions) = actions.items
+actions_in x = []
+
+abbrev pub standing_in : {A : Type 0} → TcActionMessageAttribute A → List Key
+standing_in attribute = flat_map standing_action (actions_in attribute)
+
+abbrev pub standing_objects : {A : Type 0} → TcActionMessage A → List Key
+standing_objects m = flat_map standing_in m.attributes.items
 
 -- what a dump is, of which one is enough
 abbrev pub object : {A : Type 0} → Object → TcMessage A → List Key

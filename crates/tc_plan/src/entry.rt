@@ -5,6 +5,7 @@ ghost use Rattle.std.specs.List.{flat_map, list_any};
 ghost use Rattle.std.specs.Option.{option_to_list};
 ghost use Rattle.tc_records.specs.Header.{handle_number};
 ghost use Rattle.tc_plan.specs.Needs.{chain_number, block_of, gives, wants, parents, object, must, must_not, made_by, is_kind, is_clsact, has_kind, gives_actions, class_of, chain_of, in_chain};
+ghost use Rattle.tc_plan.specs.Needs.{name_of, action_by, standing_action, actions_in, standing_in, standing_objects};
 ghost use Rattle.tc_requests.specs.declared.restore_messages.Object.TheVariants as kinds;
 ghost use Rattle.tc_plan.specs.declared.key.Key.TheVariants.{Actions, Chain, Node, Tables};
 
@@ -12,10 +13,12 @@ use crate::fate::Fate;
 use crate::key::Key;
 use nla_frames::{NLA_TYPE_MASK, Nla};
 use std::alloc::{AllocError, Allocator};
+use tc_action_messages::{TcActionMessage, TcActionMessageAttribute};
+use tc_actions::TcAction;
 use tc_attributes::TcAttribute;
 use tc_messages::TcMessage;
 use tc_records::TcHeader;
-use tc_requests::Object;
+use tc_requests::{Object, kind_of_action, standing_index};
 
 /// A dump in a plan: its place, and what becomes of it.
 #[derive(Drop, Debug)]
@@ -37,8 +40,8 @@ pub struct Entry<A: Allocator> {
     pub gives: Vec<Key, A>,
     /// What its request wants of others.
     pub wants: Vec<Key, A>,
-    /// What it is, of which one dump is enough.
-    pub object: Option<Key>,
+    /// What it is, of which one dump is enough; of actions each that stands by itself.
+    pub objects: Vec<Key, A>,
     /// What a dump has to give: the class that is a class's parent.
     pub must: Option<Key>,
     /// What no dump may give: clsact, where its parent doesn't say the side.
@@ -59,7 +62,7 @@ pub fn entry_of<A: Allocator + Copy>(
     ensures fate { IfOk result (λ entry. entry.fate ≡ fate) }
     ensures gives { IfOk result (λ entry. entry.gives.items ≡ gives kind dump.now) }
     ensures wants { IfOk result (λ entry. entry.wants.items ≡ wants kind dump.now) }
-    ensures object { IfOk result (λ entry. option_to_list entry.object ≡ object kind dump.now) }
+    ensures objects { IfOk result (λ entry. entry.objects.items ≡ object kind dump.now) }
     ensures must { IfOk result (λ entry. option_to_list entry.must ≡ must kind dump.now.header) }
     ensures must_not { IfOk result (λ entry. option_to_list entry.must_not ≡ must_not kind dump.now.header) }
     ensures made_by { IfOk result (λ entry. option_to_list entry.made_by ≡ made_by kind dump.now) }
@@ -69,7 +72,7 @@ pub fn entry_of<A: Allocator + Copy>(
         fate,
         gives: given(alloc, kind, dump)?,
         wants: wanted(alloc, kind, dump)?,
-        object: object_of(kind, dump),
+        objects: with(Vec::new(alloc), object_of(kind, dump))?,
         must: must_of(kind, &dump.header),
         must_not: must_not_of(kind, &dump.header),
         made_by: made_by(kind, dump),
@@ -81,12 +84,13 @@ pub fn entry_of_actions<A: Allocator + Copy>(
     alloc: A,
     place: usize,
     fate: Fate,
+    dump: &TcActionMessage<A>,
 ) -> Result<Entry<A>, AllocError>
     ensures place { IfOk result (λ entry. entry.place ≡ place) }
     ensures gives { IfOk result (λ entry. entry.gives.items ≡ gives_actions fate) }
     ensures fate { IfOk result (λ entry. entry.fate ≡ fate) }
     ensures wants { IfOk result (λ entry. entry.wants.items ≡ []) }
-    ensures free { IfOk result (λ entry. option_to_list entry.object ≡ []) }
+    ensures objects { IfOk result (λ entry. entry.objects.items ≡ standing_objects dump.now) }
 {
     let mut gives = Vec::new(alloc);
     if !fate.is_refused() {
@@ -97,11 +101,78 @@ pub fn entry_of_actions<A: Allocator + Copy>(
         fate,
         gives,
         wants: Vec::new(alloc),
-        object: None,
+        objects: standing_objects(alloc, &dump.attributes)?,
         must: None,
         must_not: None,
         made_by: None,
     })
+}
+
+// The actions of a dump that stand by themselves.
+fn standing_objects<A: Allocator + Copy>(
+    alloc: A,
+    attributes: &[TcActionMessageAttribute<A>],
+) -> Result<Vec<Key, A>, AllocError>
+    ensures { IfOk result (λ keys. keys.items ≡ flat_map standing_in attributes.now) }
+{
+    let mut keys = Vec::new(alloc);
+    for attribute in attributes {
+        keys = with_actions(keys, actions_in(attribute))?;
+    }
+    Ok(keys)
+}
+
+// The actions of an attribute.
+fn actions_in<A: Allocator>(attribute: &TcActionMessageAttribute<A>) -> &[TcAction<A>]
+    ensures { result.now ≡ actions_in attribute.now }
+{
+    match attribute {
+        TcActionMessageAttribute::Actions(actions) => actions,
+        _ => &[],
+    }
+}
+
+// Keys, and those of these actions that stand by themselves.
+fn with_actions<A: Allocator>(
+    keys: Vec<Key, A>,
+    actions: &[TcAction<A>],
+) -> Result<Vec<Key, A>, AllocError>
+    ensures { IfOk result (λ made. made.items ≡ keys.items ++ flat_map standing_action actions.now) }
+{
+    let mut made = keys;
+    for action in actions {
+        made = with(made, standing_action(action))?;
+    }
+    Ok(made)
+}
+
+// An action that stands by itself.
+fn standing_action<A: Allocator>(action: &TcAction<A>) -> Option<Key>
+    ensures { option_to_list result ≡ standing_action action.now }
+{
+    action_by(name_of(kind_of_action(action)), standing_index(action))
+}
+
+fn action_by(kind: Option<[u8; 16]>, index: Option<u32>) -> Option<Key>
+    ensures { option_to_list result ≡ action_by kind index }
+{
+    match (kind, index) {
+        (Some(kind), Some(index)) => Some(Key::Action { kind, index }),
+        _ => None,
+    }
+}
+
+// A kind with zeros behind it. One of more bytes the kernel doesn't have (`IFNAMSIZ`).
+fn name_of(kind: &str) -> Option<[u8; 16]>
+    ensures { result ≡ name_of kind.now }
+{
+    let bytes = kind.as_bytes();
+    if bytes.len() > 16 {
+        return None;
+    }
+    let mut name = [0; 16];
+    name[..bytes.len()].copy_from_slice(bytes);
+    Some(name)
 }
 
 // What a dump is.

@@ -8,6 +8,11 @@ ghost use Rattle.tc_plan.specs.Fates.{is_shared};
 pub enum Key {
     /// Actions that stand by themselves; a filter may share one by its index.
     Actions,
+    /// An action, by its kind, with zeros behind it, and its index among those of that kind.
+    Action {
+        kind: [u8; 16],
+        index: u32,
+    },
     /// A qdisc or a class of an interface, by the number of its handle.
     Node {
         index: i32,

@@ -1,6 +1,8 @@
 //! Sets of keys.
 
-ghost use Rattle.std.specs.Prelude.{◌∷◌, ◌++◌, List, [], IfOk};
+ghost use Rattle.std.specs.Prelude.{◌≡◌, ◌++◌, List, IfOk};
+ghost use Rattle.std.specs.List.{list_any};
+ghost use Rattle.std.specs.HashSet as bag;
 ghost use Rattle.tc_plan.specs.Fates.{IsSetOf};
 
 use std::alloc::{AllocError, Allocator};
@@ -17,22 +19,28 @@ pub(crate) fn set_of<K: Eq + Hash + Copy + Drop, A: Allocator + Copy>(
 ) -> Result<Keys<K, A>, AllocError>
     ensures { IfOk result (λ set. IsSetOf K.eq set keys.now) }
 {
-    let mut set = HashSet::new(alloc);
-    for key in keys {
-        set.insert(*key)?;
-    }
-    Ok(set)
+    let made = with_keys(HashSet::new(alloc), keys)?;
+    Ok(made)
 }
 
-// A set with one key more.
-pub(crate) fn with_key<K: Eq + Hash + Copy + Drop, A: Allocator + Copy>(
+// A set with these keys too.
+pub(crate) fn with_keys<K: Eq + Hash + Copy + Drop, A: Allocator + Copy>(
     set: Keys<K, A>,
-    key: K,
+    keys: &[K],
 ) -> Result<Keys<K, A>, AllocError>
-    ensures { IfOk result (λ made. (keys : List K) → IsSetOf K.eq set keys
-        → IsSetOf K.eq made (keys ++ key ∷ [])) }
+    ensures { IfOk result (λ made. (before : List K) → IsSetOf K.eq set before
+        → IsSetOf K.eq made (before ++ keys.now)) }
 {
     let mut made = set;
-    made.insert(key)?;
+    for key in keys {
+        made.insert(*key)?;
+    }
     Ok(made)
+}
+
+// True if one of these keys is in a set.
+pub(crate) fn any_in<K: Eq + Hash + Copy + Drop, A: Allocator>(set: &Keys<K, A>, keys: &[K]) -> bool
+    ensures { result ≡ list_any (λ key. bag.contains K.eq set.now key) keys.now }
+{
+    keys.iter().any(|key| set.contains(key))
 }

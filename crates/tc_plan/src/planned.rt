@@ -1,14 +1,13 @@
 //! Dumps in the order in which their requests work.
 
 ghost use Rattle.std.specs.Prelude.{◌≡◌, ◌++◌, List, [], true, false, All, map, IfOk, IsPermutation};
-ghost use Rattle.std.specs.Option.{option_to_list};
 ghost use Rattle.tc_order.specs.Order.{waits, IsOrder};
-ghost use Rattle.tc_plan.specs.Fates.{parts_of, parts_among, needs_of, gifts, same_key, is_refused, IsSetOf, among, lacks, again, fate_by, gives_by};
+ghost use Rattle.tc_plan.specs.Fates.{parts_of, parts_among, needs_of, gifts, same_key, is_refused, IsSetOf, among, any_among, lacks, again, fate_by, gives_by};
 
 use crate::entry::{Entry, Item};
 use crate::fate::{Fate, Reason};
 use crate::key::Key;
-use crate::keys::{Keys, set_of, with_key};
+use crate::keys::{Keys, any_in, set_of, with_keys};
 use std::alloc::{AllocError, Allocator};
 use std::collections::HashSet;
 use tc_order::{Order, Step, ordered};
@@ -132,13 +131,14 @@ fn steps_of<A: Allocator + Copy>(
             fate,
             gives,
             wants,
-            object,
+            objects,
             must,
             must_not,
             made_by,
         } = entry;
-        let fate = fate_among(&given, &before, object, must, must_not, made_by, fate);
-        before = with_object(before, object)?;
+        let own = objects.as_slice();
+        let fate = fate_among(&given, &before, own, must, must_not, made_by, fate);
+        before = with_keys(before, own)?;
         let step = step_by(place, fate, gives, wants);
         steps.push(step)?;
     }
@@ -183,7 +183,7 @@ fn gives_by<A: Allocator>(fate: &Fate, gives: Vec<Key, A>) -> Vec<Key, A>
 fn fate_among<A: Allocator>(
     given: &Keys<Key, A>,
     before: &Keys<Key, A>,
-    object: Option<Key>,
+    own: &[Key],
     must: Option<Key>,
     must_not: Option<Key>,
     made_by: Option<Key>,
@@ -191,12 +191,12 @@ fn fate_among<A: Allocator>(
 ) -> Fate
     ensures { (keys : List Key) → (objects : List Key)
         → IsSetOf same_key given.now keys → IsSetOf same_key before.now objects
-        → result ≡ fate_by keys objects object must must_not made_by fate }
+        → result ≡ fate_by keys objects own.now must must_not made_by fate }
 {
     match fate {
         Fate::Request => {
-            if has(before, object) {
-                again(object)
+            if is_again(before, own) {
+                again(own)
             } else if lacks(given, must) {
                 Fate::Refused(Reason::NoParent)
             } else if has(given, must_not) {
@@ -211,13 +211,22 @@ fn fate_among<A: Allocator>(
     }
 }
 
-// What becomes of a second dump.
-fn again(object: Option<Key>) -> Fate
-    ensures { result ≡ again object }
+// True if a dump before has one of the objects of this one.
+fn is_again<A: Allocator>(before: &Keys<Key, A>, own: &[Key]) -> bool
+    ensures { (keys : List Key) → IsSetOf same_key before.now keys
+        → result ≡ any_among keys own.now }
 {
-    match object {
-        Some(object) if object.is_shared() => Fate::Made,
-        _ => Fate::Refused(Reason::Twice),
+    any_in(before, own)
+}
+
+// What becomes of a second dump.
+fn again(own: &[Key]) -> Fate
+    ensures { result ≡ again own.now }
+{
+    if own.iter().any(|key| key.is_shared()) {
+        Fate::Made
+    } else {
+        Fate::Refused(Reason::Twice)
     }
 }
 
@@ -238,22 +247,5 @@ fn lacks<A: Allocator>(set: &Keys<Key, A>, key: Option<Key>) -> bool
     match key {
         Some(key) => !set.contains(&key),
         None => false,
-    }
-}
-
-// A set with the object of one dump more, if it has one.
-fn with_object<A: Allocator + Copy>(
-    set: Keys<Key, A>,
-    object: Option<Key>,
-) -> Result<Keys<Key, A>, AllocError>
-    ensures { IfOk result (λ made. (keys : List Key) → IsSetOf same_key set keys
-        → IsSetOf same_key made (keys ++ option_to_list object)) }
-{
-    match object {
-        Some(object) => {
-            let made = with_key(set, object)?;
-            Ok(made)
-        }
-        None => Ok(set),
     }
 }

@@ -35,9 +35,10 @@ parameters kind =
     else if bytes_eq kind (codes "pedit") then 2 ∷ 4 ∷ []
     else 2 ∷ []
 
--- what these numbers of a record say: what comes after the action, how many hold it, and how many of these are filters
+-- what these numbers of a record say: the action's index, which is first in each record, what comes after the action, how many
+-- hold it, and how many of these are filters
 abbrev pub use_at : ℕ → ℕ → ℕ → List ℕ → Use
-use_at next held bound bytes = record { next = number_at next bytes; references = number_at held bytes; filters = number_at bound bytes }
+use_at next held bound bytes = record { index = number_at 0 bytes; next = number_at next bytes; references = number_at held bytes; filters = number_at bound bytes }
 
 -- the record of parameters: its first 20 bytes are the same for all kinds (`tc_gen`) but police, whose record has 56 or more
 abbrev pub use_in : List ℕ → List ℕ → Option Use
@@ -47,7 +48,7 @@ use_in kind bytes =
     else None
 
 abbrev pub use_of_generic : TcActionGeneric → Use
-use_of_generic g = record { next = cast_unsigned w32 (action_type_number g.action); references = cast_unsigned w32 g.refcnt; filters = cast_unsigned w32 g.bindcnt }
+use_of_generic g = record { index = g.index; next = cast_unsigned w32 (action_type_number g.action); references = cast_unsigned w32 g.refcnt; filters = cast_unsigned w32 g.bindcnt }
 
 -- what an option of an action of a kind says, if it has the parameters
 abbrev pub use_of : {A : Type 0} → List ℕ → TcActionOption A → Option Use
@@ -91,3 +92,34 @@ standing_restored actions =
     if list_any (says ToChain) (standing actions) then Err GotoChain
     else if are_held actions then Err MadeByKernel
     else each action_restored 1 (standing actions)
+
+-- the first index but 0 that the parameters of an action name: 0 asks for a free one
+abbrev pub index_if : Option Use → Option ℕ
+index_if (Some u) = if u.index == 0 then None else Some u.index
+index_if None = None
+
+abbrev pub index_by : {A : Type 0} → List ℕ → TcActionOption A → Option ℕ
+index_by kind option = index_if (use_of kind option)
+
+abbrev pub either : Option ℕ → Option ℕ → Option ℕ
+either (Some n) other = Some n
+either None other = other
+
+abbrev pub index_in : {A : Type 0} → List ℕ → List (TcActionOption A) → Option ℕ
+index_in kind [] = None
+index_in kind (option ∷ options) = either (index_by kind option) (index_in kind options)
+
+abbrev pub index_under : {A : Type 0} → List ℕ → TcActionAttribute A → Option ℕ
+index_under kind (attribute.Options options) = index_in kind options.items
+index_under kind x = None
+
+abbrev pub first_index : {A : Type 0} → List ℕ → List (TcActionAttribute A) → Option ℕ
+first_index kind [] = None
+first_index kind (x ∷ attributes) = either (index_under kind x) (first_index kind attributes)
+
+abbrev pub index_of : {A : Type 0} → TcAction A → Option ℕ
+index_of action = first_index (kind_of_action action.attributes.items) action.attributes.items
+
+-- the index of an action that stands by itself
+abbrev pub standing_index : {A : Type 0} → TcAction A → Option ℕ
+standing_index action = if says Held action then None else index_of action

@@ -27,7 +27,7 @@ pub mod restore_messages;
 mod restore_options;
 mod restore_raw;
 mod settled;
-mod standing;
+pub mod standing;
 pub mod target;
 
 pub use build::{action, action_message, chain, filter, plain_qdisc, qdisc, raw_action};
@@ -38,4 +38,5 @@ pub use restore_error::RestoreError;
 pub use restore_messages::{
     NEW_FLAGS, Object, RTM_NEWACTION, Request, request_of, request_of_actions,
 };
+pub use standing::{kind_of_action, standing_index};
 pub use target::Target;

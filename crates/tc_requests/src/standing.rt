@@ -6,6 +6,7 @@ ghost use Rattle.tc_actions.specs.Action.{tc_action};
 ghost use Rattle.tc_requests.specs.Restoring.{Gives, seen};
 ghost use Rattle.tc_requests.specs.RestoredActions.{kind_of_action};
 ghost use Rattle.tc_requests.specs.Standing.{parameters, use_at, use_in, use_of_generic, use_of, answer, answer_if, option_says, attribute_says, says, standing, are_held, standing_restored};
+ghost use Rattle.tc_requests.specs.Standing.{index_by, index_in, index_under, first_index, index_of, standing_index};
 
 use crate::numbers::number_at;
 use crate::restore::{is_of, restore_all, sole_kind};
@@ -21,6 +22,8 @@ use tc_records::TcActionGeneric;
 // What the parameters of an action say of its use.
 #[derive(Clone, Copy)]
 pub(crate) struct Use {
+    // Its number among those of its kind; 0 asks for a free one.
+    pub(crate) index: u32,
     // What comes after it.
     pub(crate) next: u32,
     // How many hold it.
@@ -78,11 +81,71 @@ fn says<A: Allocator>(asked: Asked, action: &TcAction<A>) -> bool
     any_says(asked, kind, &action.attributes)
 }
 
-// The one kind that an action sets, or "".
-fn kind_of_action<A: Allocator>(action: &TcAction<A>) -> &str
+/// The one kind that an action sets (`TCA_ACT_KIND`), or "".
+pub fn kind_of_action<A: Allocator>(action: &TcAction<A>) -> &str
     ensures { result.now ≡ kind_of_action action.now.attributes.items }
 {
     sole_kind(&action.attributes)
+}
+
+/// The index of an action that stands by itself, by which filters share it (`tc_gen.index`). None of one that only filters hold,
+/// and of one whose parameters name no index, or 0, for which the kernel takes a free one.
+pub fn standing_index<A: Allocator>(action: &TcAction<A>) -> Option<u32>
+    ensures { result ≡ standing_index action.now }
+{
+    if says(Asked::Held, action) {
+        None
+    } else {
+        index_of(action)
+    }
+}
+
+// The index that the parameters of an action name, if it isn't 0.
+fn index_of<A: Allocator>(action: &TcAction<A>) -> Option<u32>
+    ensures { result ≡ index_of action.now }
+{
+    let kind = kind_of_action(action);
+    first_index(kind, &action.attributes)
+}
+
+fn first_index<A: Allocator>(kind: &str, attributes: &[TcActionAttribute<A>]) -> Option<u32>
+    ensures { result ≡ first_index kind.now attributes.now }
+{
+    for attribute in attributes {
+        if let Some(index) = index_under(kind, attribute) {
+            return Some(index);
+        }
+    }
+    None
+}
+
+fn index_under<A: Allocator>(kind: &str, attribute: &TcActionAttribute<A>) -> Option<u32>
+    ensures { result ≡ index_under kind.now attribute.now }
+{
+    match attribute {
+        TcActionAttribute::Options(options) => index_in(kind, options),
+        _ => None,
+    }
+}
+
+fn index_in<A: Allocator>(kind: &str, options: &[TcActionOption<A>]) -> Option<u32>
+    ensures { result ≡ index_in kind.now options.now }
+{
+    for option in options {
+        if let Some(index) = index_by(kind, option) {
+            return Some(index);
+        }
+    }
+    None
+}
+
+fn index_by<A: Allocator>(kind: &str, option: &TcActionOption<A>) -> Option<u32>
+    ensures { result ≡ index_by kind.now option.now }
+{
+    match use_of(kind, option) {
+        Some(found) if found.index != 0 => Some(found.index),
+        _ => None,
+    }
 }
 
 fn any_says<A: Allocator>(asked: Asked, kind: &str, attributes: &[TcActionAttribute<A>]) -> bool
@@ -160,6 +223,7 @@ fn use_of_generic(generic: &TcActionGeneric) -> Use
     ensures { result ≡ use_of_generic generic.now }
 {
     Use {
+        index: generic.index,
         next: i32::from(generic.action).cast_unsigned(),
         references: generic.refcnt.cast_unsigned(),
         filters: generic.bindcnt.cast_unsigned(),
@@ -207,6 +271,7 @@ fn use_at(bytes: &[u8], next: usize, held: usize, bound: usize) -> Use
     ensures { result ≡ use_at next held bound bytes.now }
 {
     Use {
+        index: number_at(bytes, 0),
         next: number_at(bytes, next),
         references: number_at(bytes, held),
         filters: number_at(bytes, bound),

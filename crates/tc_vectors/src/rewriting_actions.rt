@@ -79,6 +79,15 @@ fn warnings(rt: HostRuntime) -> Result<(), Fail> {
     Ok(())
 }
 
+// The header stays.
+#[test]
+fn a_warning_of_a_family(rt: HostRuntime) -> Result<(), Fail> {
+    let (settled, rewrites) = settle_action(rt.alloc(), &[2, 0, 0, 0, 6, 0, 5, 0, 97, 0, 0, 0])?;
+    assert!(rt; settled.as_slice() == &[2, 0, 0, 0, 5, 0, 5, 0, 97, 0, 0, 0][..]);
+    assert!(rt; rewrites == 1);
+    Ok(())
+}
+
 #[test]
 fn refused(rt: HostRuntime) -> Result<(), Fail> {
     let alloc = rt.alloc();

@@ -8,6 +8,7 @@ use crate::restore::{Dump, dump_of, restored};
 use nla_frames::ParseableBytes;
 use std::alloc::Global;
 use std::io::{BufRead, Write};
+use tc_action_messages::TcActionMessage;
 use tc_capture::Holds;
 use tc_forms::Tables;
 use tc_messages::TcMessage;
@@ -47,14 +48,18 @@ impl Requests {
     /// Keeps the dump of a line.
     pub(crate) fn keep(&mut self, alloc: Global, number: u64, dump: Made) -> Result<(), Complaint> {
         let place = self.lines.len();
-        let message = match dump_of(dump.given.kind)? {
-            Dump::Of(object) => Some((object, TcMessage::parse(alloc, &dump.bytes)?)),
-            Dump::Actions => None,
-        };
+        let bytes = dump.bytes.clone()?;
+        let kind = dump_of(dump.given.kind)?;
         let (fate, made) = fate_of(restored(alloc, dump))?;
-        let entry = match message {
-            Some((object, message)) => entry_of(alloc, place, fate, object, &message)?,
-            None => entry_of_actions(alloc, place, fate)?,
+        let entry = match kind {
+            Dump::Of(object) => {
+                let message = TcMessage::parse(alloc, &bytes)?;
+                entry_of(alloc, place, fate, object, &message)?
+            }
+            Dump::Actions => {
+                let message = TcActionMessage::parse(alloc, &bytes)?;
+                entry_of_actions(alloc, place, fate, &message)?
+            }
         };
         self.lines.push(Planned { number, made })?;
         Ok(self.entries.push(entry)?)
@@ -74,7 +79,16 @@ fn fate_of(made: Result<Made, Complaint>) -> Result<(Fate, Option<Made>), Compla
 // Flags of `linux/netlink.h`.
 const NLM_F_REQUEST: u16 = 1;
 
+// Its bits are those of `NLM_F_REPLACE` and `NLM_F_EXCL` where the type isn't a GET.
 const NLM_F_DUMP: u16 = 0x300;
+
+// True of the type of a GET: the types of rtnetlink go in fours, NEW, DEL, GET and SET.
+fn is_get(kind: Option<u16>) -> bool {
+    match kind {
+        Some(kind) => kind % 4 == 2,
+        None => false,
+    }
+}
 
 /// The message of a dump, of this interface if one is given; none of the request of a dump, which captures of dumps have.
 pub(crate) fn dumped(made: Made, index: Option<i32>) -> Result<Option<Made>, Complaint> {
@@ -82,7 +96,7 @@ pub(crate) fn dumped(made: Made, index: Option<i32>) -> Result<Option<Made>, Com
     if flags & NLM_F_REQUEST == 0 {
         return Ok(Some(with_index(made, index)));
     }
-    if flags & NLM_F_DUMP == NLM_F_DUMP {
+    if flags & NLM_F_DUMP == NLM_F_DUMP && is_get(made.given.kind) {
         return Ok(None);
     }
     Err(Complaint::Member {

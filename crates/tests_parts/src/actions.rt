@@ -134,6 +134,13 @@ fn the_default_has_no_kind(rt: HostRuntime) {
     assert!(rt; are_written(from_ref(&default), &[4, 0, 1, 0]));
 }
 
+// Attributes of the same value and of different types.
+#[test]
+fn an_index_is_no_count(rt: HostRuntime) {
+    let index: TcActionAttribute = TcActionAttribute::Index(5);
+    assert!(rt; index != TcActionAttribute::InHwCount(5));
+}
+
 #[test]
 fn a_cookie_has_at_most_65531_bytes(rt: HostRuntime) -> Result<(), Fail> {
     let alloc = rt.alloc();

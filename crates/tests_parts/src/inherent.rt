@@ -45,16 +45,24 @@ fn actions_and_keys(rt: HostRuntime) {
     assert!(rt; is_short(TcU32Key::parse(zeros(15)), 16));
 }
 
+/// True if a record was read that is empty.
+fn is_empty<R: PartialEq + Default + Drop>(read: Res<R>) -> bool {
+    match read {
+        Ok(record) => record == R::default(),
+        Err(_) => false,
+    }
+}
+
 // Of zeros, each of its bytes a zero, a record is read that is empty; the selector takes memory, and has no keys.
 #[test]
 fn of_zeros(rt: HostRuntime) -> Result<(), Fail> {
-    assert!(rt; TcHeader::parse(zeros(20))? == TcHeader::default());
-    assert!(rt; TcActionMessageHeader::parse(zeros(4))? == TcActionMessageHeader::default());
-    assert!(rt; TcStats::parse(zeros(40))? == TcStats::default());
-    assert!(rt; TcStatsBasic::parse(zeros(16))? == TcStatsBasic::default());
-    assert!(rt; TcStatsQueue::parse(zeros(20))? == TcStatsQueue::default());
-    assert!(rt; TcFqCodelQdStats::parse(zeros(36))? == TcFqCodelQdStats::default());
-    assert!(rt; TcFqCodelClStats::parse(zeros(24))? == TcFqCodelClStats::default());
+    assert!(rt; is_empty(TcHeader::parse(zeros(20))));
+    assert!(rt; is_empty(TcActionMessageHeader::parse(zeros(4))));
+    assert!(rt; is_empty(TcStats::parse(zeros(40))));
+    assert!(rt; is_empty(TcStatsBasic::parse(zeros(16))));
+    assert!(rt; is_empty(TcStatsQueue::parse(zeros(20))));
+    assert!(rt; is_empty(TcFqCodelQdStats::parse(zeros(36))));
+    assert!(rt; is_empty(TcFqCodelClStats::parse(zeros(24))));
     assert!(rt; TcNat::parse(zeros(36))?.generic.index == 0);
     assert!(rt; TcU32Selector::parse(rt.alloc(), zeros(16))?.keys.is_empty());
     Ok(())

@@ -3,13 +3,13 @@
 use nla_frames::{DefaultNla, Emitable, ParseableBytes};
 use std::alloc::Global;
 use std::test::Fail;
-use tc_action_messages::TcActionMessage;
+use tc_action_messages::{TcActionMessage, TcActionMessageAttribute};
 use tc_actions::{TcAction, TcActionNatOption};
 use tc_options::{TcFilterFlowerOption, TcFilterMatchAllOption, TcFilterU32Option};
 use tc_records::TcNat;
 use tc_requests::{
-    RequestError, RestoreError, Target, action, action_message, filter, raw_action,
-    request_of_actions,
+    RequestError, RestoreError, Target, action, action_message, filter, kind_of_action, raw_action,
+    request_of_actions, standing_index,
 };
 
 // What Linux dumps of mirred: three actions that a filter holds each (1 reference, 1 of a filter), and one that stands alone (1, 0).
@@ -63,6 +63,16 @@ static GOTO_CHAIN: &str =
 static GOTO_CHAIN_HELD: &str =
     "00000000300001002c0000000900010067616374000000001c000200180002000400000000000000080000200100000001000000";
 
+// A gact and a police that no filter holds.
+static GACT: &str =
+    "00000000300001002c0000000900010067616374000000001c000200180002000600000000000000000000000100000000000000";
+
+#[rattlefmt::skip]
+static POLICE: &str =
+"000000005400010050000000\
+0b000100706f6c6963650000400002003c00010007090a0b02000000000000000088130\
+0f8070000000100000000000048e80100000000000000000000000000010000000000000000000000";
+
 // The bytes of a message in hex.
 fn text<M: Emitable>(alloc: Global, message: &M) -> Result<String, RestoreError> {
     if !message.fits() {
@@ -91,6 +101,35 @@ fn actions_that_stand_alone(rt: HostRuntime) -> Result<(), Fail> {
     }
     assert!(rt; outcome(alloc, GOTO_CHAIN)?.as_str() == "GotoChain");
     assert!(rt; outcome(alloc, GOTO_CHAIN_HELD)?.as_str() == "MadeByKernel");
+    Ok(())
+}
+
+// The kinds of actions, and their indices where they stand by themselves.
+fn indices(alloc: Global, dump: &str) -> Result<String, Fail> {
+    let bytes = hex::decode(alloc, dump)?;
+    let mut text = String::new(alloc);
+    for attribute in &TcActionMessage::parse(alloc, &bytes)?.attributes {
+        if let TcActionMessageAttribute::Actions(actions) = attribute {
+            for action in actions {
+                let kind = kind_of_action(action);
+                let index = match standing_index(action) {
+                    Some(index) => format!(in alloc; "{kind} {index} ")?,
+                    None => format!(in alloc; "{kind} - ")?,
+                };
+                text.push_str(&index)?;
+            }
+        }
+    }
+    Ok(text)
+}
+
+#[test]
+fn indices_of_actions(rt: HostRuntime) -> Result<(), Fail> {
+    let alloc = rt.alloc();
+    assert!(rt; indices(alloc, STANDING)?.as_str() == "mirred - mirred - mirred - mirred 88 ");
+    assert!(rt; indices(alloc, GACT)?.as_str() == "gact 6 ");
+    assert!(rt; indices(alloc, POLICE)?.as_str() == "police 185207047 ");
+    assert!(rt; indices(alloc, HELD[1])?.as_str() == "pedit - ");
     Ok(())
 }
 

@@ -3,9 +3,12 @@
 use nla_frames::ParseableBytes;
 use std::alloc::Global;
 use std::test::Fail;
+use tc_action_messages::TcActionMessage;
 use tc_messages::TcMessage;
-use tc_plan::{Fate, Item, Key, Order, Step, circle, entry_of, plan};
-use tc_requests::Object;
+use tc_plan::{
+    Entry, Fate, Item, Key, Order, Reason, Step, circle, entry_of, entry_of_actions, plan,
+};
+use tc_requests::{Object, RestoreError};
 
 // A tree of classes, a chain, and a table of u32, each before what it needs.
 static TREE: [(Object, &str); 9] = [
@@ -106,6 +109,44 @@ static ROOT_CLASS: [(Object, &str); 3] = [
     (Object::Qdisc, "000000000300000000000100ffffffff00000000"),
 ];
 
+// Dumps of actions, and a filter that may share any of them; a dump without an object is one of actions.
+static ACTIONS: [(Option<Object>, &str); 6] = [
+    // ffff:fff2
+    (
+        Some(Object::Filter),
+        "000000000300000001000000f2ffffff080001c0",
+    ),
+    // gact 4
+    (
+        None,
+        "00000000300001002c0000000900010067616374000000001c0002001800020004000000000000000000000001000000\
+00000000",
+    ),
+    // gact 5, and gact 4 again
+    (
+        None,
+        "000000005c0001002c0000000900010067616374000000001c0002001800020005000000000000000000000001000000\
+000000002c0001000900010067616374000000001c000200180002000400000000000000000000000100000000000000",
+    ),
+    // nat 4
+    (
+        None,
+        "000000003c00010038000000080001006e6174002c0002002800010004000000000000000000000001000000\
+000000000a07000105060708ffffffff01000000",
+    ),
+    // gact with a free index, twice
+    (
+        None,
+        "00000000300001002c0000000900010067616374000000001c0002001800020000000000000000000000000001000000\
+00000000",
+    ),
+    (
+        None,
+        "00000000300001002c0000000900010067616374000000001c0002001800020000000000000000000000000001000000\
+00000000",
+    ),
+];
+
 // The places of steps.
 fn places(alloc: Global, steps: &[Step<Item, Key, Global>]) -> Result<String, Fail> {
     let mut text = String::new(alloc);
@@ -200,5 +241,48 @@ fn what_others_make_is_no_request(rt: HostRuntime) -> Result<(), Fail> {
     let made = planned(alloc, &MADE)?;
     assert!(rt; fates(alloc, &made.order)?.as_str() == "0 made\n1 request\n2 request\n3 made\n");
     assert!(rt; made.left.is_empty());
+    Ok(())
+}
+
+// What a plan has to know of a dump; without an object it is one of actions.
+fn entry(
+    alloc: Global,
+    place: usize,
+    object: Option<Object>,
+    text: &str,
+) -> Result<Entry<Global>, Fail> {
+    let bytes = hex::decode(alloc, text)?;
+    let entry = match object {
+        Some(object) => {
+            let dump = TcMessage::parse(alloc, &bytes)?;
+            entry_of(alloc, place, Fate::Request, object, &dump)?
+        }
+        None => {
+            let dump = TcActionMessage::parse(alloc, &bytes)?;
+            entry_of_actions(alloc, place, Fate::Request, &dump)?
+        }
+    };
+    Ok(entry)
+}
+
+#[test]
+fn actions_before_filters_and_once(rt: HostRuntime) -> Result<(), Fail> {
+    let alloc = rt.alloc();
+    let mut entries = Vec::new(alloc);
+    for (place, (object, text)) in ACTIONS.iter().enumerate() {
+        entries.push(entry(alloc, place, *object, text)?)?;
+    }
+    // One that can't be made: the filter has its own in full.
+    let dump = TcActionMessage::default_in(alloc);
+    let fate = Fate::Refused(Reason::Restore(RestoreError::GotoChain));
+    entries.push(entry_of_actions(alloc, 6, fate, &dump)?)?;
+    let made = plan(alloc, entries)?;
+    assert!(rt;
+        fates(alloc, &made.order)?.as_str()
+            == "1 request\n3 request\n4 request\n5 request\n0 request\n"
+    );
+    let reason = RestoreError::GotoChain;
+    let left = format!(in alloc; "2 a second dump of this\n6 can't be restored: {reason}\n")?;
+    assert!(rt; fates(alloc, &made.left)?.as_str() == left.as_str());
     Ok(())
 }

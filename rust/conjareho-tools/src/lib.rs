@@ -26,7 +26,8 @@ mod strict;
 #[allow(dead_code)] // what tests use besides
 mod user;
 
-use small::{arrayvec, itoa};
+use ::itoa;
+use small::arrayvec;
 use user::memchr;
 
 // The erased crates, each a private module.

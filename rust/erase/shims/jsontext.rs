@@ -1,6 +1,7 @@
 //! What is sent as events, as JSON.
 
-use crate::fallible::{AllocError, Fallible as _};
+use crate::fallible::{self, AllocError, Fallible as _};
+use crate::itoa::Buffer;
 use crate::serde::{Serialize, Serializer};
 
 impl<T: Serialize> Serialize for &T {
@@ -78,30 +79,38 @@ impl std::io::Write for Text {
     }
 }
 
+/// True if the text stands in JSON as it is.
+fn is_plain(text: &str) -> bool {
+    text.bytes().all(|byte| !matches!(byte, ..b' ' | b'"' | b'\\'))
+}
+
 impl Text {
-    fn put(&mut self, bytes: &[u8]) -> Result<(), AllocError> {
-        self.bytes.try_extend(bytes)
+    /// An item begins: its comma, unless it comes behind a key or first, and room for it.
+    fn item(&mut self, len: usize) -> Result<(), AllocError> {
+        self.bytes.try_grow(len + 1)?;
+        if !std::mem::replace(&mut self.is_first, false) {
+            self.bytes.push(b',');
+        }
+        Ok(())
     }
 
-    /// An item begins: its comma, unless it comes behind a key or first.
-    fn item(&mut self) -> Result<(), AllocError> {
-        if std::mem::replace(&mut self.is_first, false) { Ok(()) } else { self.put(b",") }
-    }
-
-    fn open(&mut self, bracket: &[u8]) -> Result<(), AllocError> {
-        self.item()?;
+    fn open(&mut self, bracket: u8) -> Result<(), AllocError> {
+        self.item(1)?;
         self.is_first = true;
-        self.put(bracket)
+        self.bytes.push(bracket);
+        Ok(())
     }
 
-    fn close(&mut self, bracket: &[u8]) -> Result<(), AllocError> {
+    fn close(&mut self, bracket: u8) -> Result<(), AllocError> {
         self.is_first = false;
-        self.put(bracket)
+        self.bytes.try_push(bracket)
     }
 
-    fn plain<T: ?Sized + ::serde::Serialize>(&mut self, v: &T) -> Result<(), AllocError> {
-        self.item()?;
-        serde_json::to_writer(self, v).map_err(|_| AllocError)
+    /// A text that stands as it is.
+    fn put(&mut self, text: &str) -> Result<(), AllocError> {
+        self.item(text.len())?;
+        self.bytes.extend_from_slice(text.as_bytes());
+        Ok(())
     }
 }
 
@@ -109,41 +118,48 @@ impl Serializer for Text {
     type Error = AllocError;
 
     fn bool(&mut self, v: bool) -> Result<(), AllocError> {
-        self.plain(&v)
+        self.put(if v { "true" } else { "false" })
     }
 
     fn i64(&mut self, v: i64) -> Result<(), AllocError> {
-        self.plain(&v)
+        self.put(Buffer::new().format(v))
     }
 
     fn u64(&mut self, v: u64) -> Result<(), AllocError> {
-        self.plain(&v)
+        self.put(Buffer::new().format(v))
     }
 
     fn str(&mut self, v: &str) -> Result<(), AllocError> {
-        self.plain(v)
+        self.item(v.len() + 2)?;
+        if !is_plain(v) {
+            return serde_json::to_writer(self, v).map_err(|_| AllocError);
+        }
+        self.bytes.push(b'"');
+        self.bytes.extend_from_slice(v.as_bytes());
+        self.bytes.push(b'"');
+        Ok(())
     }
 
     fn begin_seq(&mut self, _len: Option<usize>) -> Result<(), AllocError> {
-        self.open(b"[")
+        self.open(b'[')
     }
 
     fn end_seq(&mut self) -> Result<(), AllocError> {
-        self.close(b"]")
+        self.close(b']')
     }
 
     fn begin_map(&mut self, _len: Option<usize>) -> Result<(), AllocError> {
-        self.open(b"{")
+        self.open(b'{')
     }
 
     fn end_map(&mut self) -> Result<(), AllocError> {
-        self.close(b"}")
+        self.close(b'}')
     }
 
     fn key(&mut self, name: &str) -> Result<(), AllocError> {
-        self.plain(name)?;
+        self.str(name)?;
         self.is_first = true;
-        self.put(b":")
+        self.bytes.try_push(b':')
     }
 
     fn custom(&self, _message: &str) -> AllocError {
@@ -153,7 +169,7 @@ impl Serializer for Text {
 
 /// A value as JSON.
 pub(crate) fn to_vec<T: Serialize>(value: &T) -> Result<Vec<u8>, AllocError> {
-    let mut text = Text { bytes: Vec::new(), is_first: true };
+    let mut text = Text { bytes: fallible::with_capacity(1024)?, is_first: true };
     value.serialize(&mut text)?;
     Ok(text.bytes)
 }

@@ -13,6 +13,7 @@ pub(crate) fn finished(mut file: Source, crates: &[&str], is_user: bool) -> Resu
     let (users, prelude) = if is_user { (USER_RULES, "user") } else { (&[][..], "fallible") };
     own.iter().chain(users).chain(RULES).for_each(|rule| rewrite(all, rule));
     refuse(all, UNKNOWN)?;
+    let own: Vec<_> = all.windows(3).filter(|words| words[0].is("mod") && words[2].is(";")).map(|words| words[1].text).collect();
     for at in (0..all.len().saturating_sub(3)).rev() {
         let (token, next) = (all[at], all[at + 3].text);
         let is = |i: usize, text: &str| all[at + i].is(text);
@@ -30,6 +31,7 @@ pub(crate) fn finished(mut file: Source, crates: &[&str], is_user: bool) -> Resu
             "std" if CORE.contains(&next) => "core",
             "std" => return Err(token.fault("a module of std that isn't known")),
             "crate" if !MODULES.contains(&next) => format!("crate::{}", file.path[0]).leak(),
+            name if own.contains(&name) => name,
             name if crates.contains(&name) || SHIMS.contains(&name) => format!("crate::{name}").leak(),
             name => name,
         };

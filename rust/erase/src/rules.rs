@@ -6,7 +6,7 @@ use crate::pattern::Rule;
 pub(crate) const LAW_CRATES: &[&str] = &["tc_meaning"];
 
 /// Modules for which a shim stands.
-pub(crate) const STOOD_FOR: &[(&str, &str)] = &[("tc_forms_text::read", "pub use crate::strict::*;"), ("tc_forms_text::repeated", "")];
+pub(crate) const STOOD_FOR: &[(&str, &str)] = &[("tc_forms_text::read", "pub use crate::strict::*;"), ("tc_forms_text::repeated", ""), ("tc_lines::log", "")];
 
 /// Classes of words: types of allocators, the names of their values, traits that only contracts name (one that isn't listed stays
 /// as a trait with nothing in it), and modules of `std` for which `host` stands.
@@ -19,8 +19,8 @@ pub(crate) const CLASSES: &[(&str, &[&str])] = &[
 
 /// Imports of these have no use any more.
 pub(crate) const LOST_IMPORTS: &[&str] = &[
-    "Abort", "AllocError", "AllocFailed", "AllocGlobal", "Allocator", "BuildHasherDefault", "BytesMeaning", "CanonMeaning", "Described", "Eprint", "Failing",
-    "FoldHasher", "FrameMeaning", "Global", "String", "byteorder", "thiserror",
+    "Abort", "AllocError", "AllocFailed", "AllocGlobal", "Allocator", "BuildHasherDefault", "BytesMeaning", "CanonMeaning", "Case", "Described", "Eprint",
+    "Failing", "FoldHasher", "FrameMeaning", "Global", "Log", "Note", "String", "byteorder", "thiserror",
 ];
 
 /// Contracts, ghost items, and the attributes of proofs. What a `requires` asks stays before the body, for `duties.rs`.
@@ -119,7 +119,7 @@ pub(crate) const RULES: &[Rule] = &[
     // Traits that only contracts name. In Rattle, types have a size, and a method that no impl writes says so.
     ("# [ derive ( %M ) ]", ""),
     ("derive ( %M , ", "derive("),
-    ("derive ( $-x , %M , ", "derive($-x, "),
+    ("derive ( $-x , %M $-y )", "derive($-x$-y)"),
     (": %M + ", ": "),
     ("+ %M", ""),
     (": %M", ""),
@@ -143,8 +143,8 @@ pub(crate) const RULES: &[Rule] = &[
     ("impl Clone for TcFilterFlowerOption { $;b }", ""),
     ("pub enum TcFilterFlowerOption {", "#[derive(Clone)]\npub enum TcFilterFlowerOption {"),
     // Rust's formatter isn't generic.
-    ("< W : fmt :: Write >", ""),
-    ("< W : Write >", ""),
+    ("< W : fmt :: Write > ( $*x Formatter < W >", "($*x Formatter<'_>"),
+    ("< W : Write > ( $*x Formatter < W >", "($*x Formatter<'_>"),
     ("W : Write ,", ""),
     ("Formatter < W >", "Formatter<'_>"),
     // Loops and bounds that rustc can see: over a list, and a header of four bytes before what follows it.
@@ -198,6 +198,13 @@ pub(crate) const USER_RULES: &[Rule] = &[
     ("serde_json :: to_vec ( %v , ", "crate::jsontext::to_vec("),
     ("# [ serde ( rename = $t ) ] $f :", "$f as $t:"),
     ("# [ derive ( $*d , Serialize ) ] $-v struct $x $-g { $;f }", "crate::jsontext::sent! { #[derive($*d)] $-v struct $x $-g {$;f} }"),
+    // A serializer of lines, without the log of what it was sent, and without methods for what isn't JSON.
+    ("self . log = after ( $*x ) ;", ""),
+    ("log : Log $*x ,", ""),
+    ("# [ inline ( always ) ] fn after ( $*x ) -> Log { $;b }", ""),
+    ("# [ inline ( always ) ] fn unit ( & mut self ) -> $-r { $;b }", ""),
+    ("fn $x ( & mut self $*p ) -> Result < ( ) , LinesError > { Err ( LinesError :: NotJson ) }", ""),
+    ("fn key_cased ( $*a , case : Case ) -> $-r { match case { Case :: AsIs => $*x , _ => { $;y } } }", "fn key($*a) -> $-r {$*x}"),
     // Streams, files and arguments are those of the module `host`.
     ("std :: %H", "crate::host::%H"),
     ("std :: convert :: AsStr", "crate::host::AsStr"),

@@ -12,6 +12,9 @@ const TESTS: &[&str] = &[
     "tests_texts",
     "tests_capture",
     "tests_forms",
+    "tests_units",
+    "tests_words",
+    "tests_hex",
 ];
 
 /// Tests of how large Rattle's values are, of refused memory, of random bytes, and of lines of a program. Where a text isn't JSON, `serde_json` says another column than Rattle's.

@@ -1,6 +1,6 @@
 //! Streams that fail, that are interrupted, and that are closed.
 
-use crate::make::runs::{FORMS, HEX, PCAP, made};
+use crate::make::runs::{FORMS, HEX, Outcome, PCAP, made};
 use std::alloc::Global;
 use std::io::{BufReader, Error, ErrorKind, Read, Result, Write};
 use std::test::Fail;
@@ -51,7 +51,16 @@ impl<T: Write> Write for Slow<T> {
     }
 }
 
-fn slowly<T>(inner: T, calls: usize, interruptions: usize, fault: ErrorKind) -> Slow<T> {
+// How many calls of a stream succeed, how often each is interrupted before it does, and how the stream then fails.
+type Stream = (usize, usize, ErrorKind);
+
+// Calls that time out after so many, each of them interrupted so often.
+fn calls(count: usize, interruptions: usize) -> Stream {
+    (count, interruptions, ErrorKind::TimedOut)
+}
+
+fn slowly<T>(inner: T, stream: Stream) -> Slow<T> {
+    let (calls, interruptions, fault) = stream;
     Slow {
         inner,
         left: interruptions,
@@ -66,60 +75,87 @@ static LINES: &str =
 {"packet":2,"type":"RTM_NEWQDISC","seq":6,"message":{"header":{"family":"Unspec","index":2,"handle":"1:","parent":"root","info":0},"attributes":[{"Kind":"fq_codel"}]}}
 "#;
 
-// The status of a run over streams of so many calls, and what it wrote to both outputs.
-fn run(
-    alloc: Global,
-    reader: (usize, usize),
-    writer: (usize, usize, ErrorKind),
-) -> Result<(u8, Vec<u8>, Vec<u8>)> {
-    let from = slowly(LINES.as_bytes(), reader.0, reader.1, ErrorKind::TimedOut);
+// A run over streams of so many calls.
+fn run(alloc: Global, reader: Stream, writer: Stream) -> Result<Outcome> {
+    let from = slowly(LINES.as_bytes(), reader);
     let mut from = BufReader::with_capacity(alloc, 64, from)?;
-    let mut to = slowly(Vec::new(alloc), writer.0, writer.1, writer.2);
+    let mut to = slowly(Vec::new(alloc), writer);
     let mut errors = Vec::new(alloc);
     let status = serve(alloc, FORMS, &PCAP, &mut from, &mut to, &mut errors);
-    Ok((status, to.inner, errors))
+    Ok(Outcome {
+        status,
+        written: to.inner,
+        errors,
+    })
 }
 
-// True of the front of some bytes.
-fn is_front(front: &[u8], bytes: &[u8]) -> bool {
-    bytes.get(..front.len()) == Some(front)
+// True if a run over such streams writes the front of these bytes, and ends with this status and complaint.
+fn ends(alloc: Global, whole: &[u8], streams: (Stream, Stream), end: (u8, &str)) -> Result<bool> {
+    let run = run(alloc, streams.0, streams.1)?;
+    Ok(
+        run.status == end.0
+            && whole.starts_with(&run.written)
+            && run.errors.as_slice() == end.1.as_bytes(),
+    )
+}
+
+// True if a run writes all of these bytes whose streams are interrupted as often as they may be.
+fn is_whole(alloc: Global, whole: &[u8], reads: usize) -> Result<bool> {
+    let run = run(alloc, calls(reads, 1023), calls(999, 1023))?;
+    Ok(run.status == 0 && run.written.as_slice() == whole)
+}
+
+// How many reads take all lines and find their end.
+fn reads_of_all() -> usize {
+    (LINES.len().saturating_add(6) / 7).saturating_add(1)
+}
+
+// What is written of the lines, which is a capture of two messages.
+fn whole(alloc: Global) -> std::result::Result<Vec<u8>, Fail> {
+    let run = made(alloc, &PCAP, LINES.as_bytes());
+    if run.status == 0 && run.written.len() == 24 + 2 * 84 {
+        Ok(run.written)
+    } else {
+        Err(Fail::new("a capture of two messages"))
+    }
+}
+
+static READ_FAILED: (u8, &str) = (3, "tcmake: read failed\n");
+
+static WRITE_FAILED: (u8, &str) = (3, "tcmake: write failed\n");
+
+#[test]
+fn each_read_fails(rt: HostRuntime) -> std::result::Result<(), Fail> {
+    let alloc = rt.alloc();
+    let whole = whole(alloc)?;
+    for count in 0..reads_of_all() {
+        let streams = (calls(count, 1), calls(999, 1));
+        assert!(rt; ends(alloc, &whole, streams, READ_FAILED)?, "{count} reads");
+    }
+    assert!(rt; is_whole(alloc, &whole, reads_of_all())?);
+    // interrupted too often
+    let streams = (calls(reads_of_all(), 1024), calls(999, 0));
+    assert!(rt; ends(alloc, &whole, streams, READ_FAILED)?);
+    Ok(())
 }
 
 #[test]
-fn each_call_fails(rt: HostRuntime) -> std::result::Result<(), Fail> {
+fn each_write_fails(rt: HostRuntime) -> std::result::Result<(), Fail> {
     let alloc = rt.alloc();
-    let whole = made(alloc, &PCAP, LINES.as_bytes());
-    assert!(rt; whole.status == 0 && whole.written.len() == 24 + 2 * 84);
-    let reads = (LINES.len().saturating_add(6) / 7).saturating_add(1);
-    for calls in 0..reads {
-        let (status, written, errors) = run(alloc, (calls, 1), (999, 1, ErrorKind::TimedOut))?;
+    let whole = whole(alloc)?;
+    for count in 0..4usize {
+        let streams = (calls(999, 0), calls(count, 0));
         assert!(rt;
-            status == 3 && is_front(&written, &whole.written),
-            "{calls} reads"
+            ends(alloc, &whole, streams, WRITE_FAILED)?,
+            "{count} writes"
         );
-        assert!(rt; errors.as_slice() == b"tcmake: read failed\n".as_slice());
-    }
-    let (status, written, _) = run(alloc, (reads, 1023), (999, 1023, ErrorKind::TimedOut))?;
-    assert!(rt; status == 0 && written == whole.written);
-    for calls in 0..4usize {
-        let (status, written, errors) = run(alloc, (999, 0), (calls, 0, ErrorKind::TimedOut))?;
-        assert!(rt;
-            status == 3 && is_front(&written, &whole.written),
-            "{calls} writes"
-        );
-        assert!(rt; errors.as_slice() == b"tcmake: write failed\n".as_slice());
-        let (status, written, errors) = run(alloc, (999, 0), (calls, 0, ErrorKind::BrokenPipe))?;
-        assert!(rt;
-            status == 0 && is_front(&written, &whole.written),
-            "{calls} writes"
-        );
-        assert!(rt; errors.is_empty());
+        // one that is closed is no failure
+        let closed = (calls(999, 0), (count, 0, ErrorKind::BrokenPipe));
+        assert!(rt; ends(alloc, &whole, closed, (0, ""))?, "{count} writes");
     }
     // interrupted too often
-    let (status, _, _) = run(alloc, (reads, 1024), (999, 0, ErrorKind::TimedOut))?;
-    assert!(rt; status == 3);
-    let (status, _, _) = run(alloc, (reads, 0), (999, 1024, ErrorKind::TimedOut))?;
-    assert!(rt; status == 3);
+    let streams = (calls(reads_of_all(), 0), calls(999, 1024));
+    assert!(rt; ends(alloc, &whole, streams, WRITE_FAILED)?);
     Ok(())
 }
 
@@ -129,7 +165,7 @@ fn a_closed_output(rt: HostRuntime) -> std::result::Result<(), Fail> {
     let alloc = rt.alloc();
     let mut from =
         b"{}\n{\"type\":\"RTM_GETACTION\",\"message\":{\"header\":{\"family\":\"Unspec\"},\"attributes\":[]}}\n".as_slice();
-    let mut to = slowly(Vec::new(alloc), 0, 0, ErrorKind::BrokenPipe);
+    let mut to = slowly(Vec::new(alloc), (0, 0, ErrorKind::BrokenPipe));
     let mut errors = Vec::new(alloc);
     let status = serve(alloc, FORMS, &HEX, &mut from, &mut to, &mut errors);
     assert!(rt; status == 1 && to.inner.is_empty());

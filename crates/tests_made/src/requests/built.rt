@@ -119,16 +119,32 @@ fn limit(alloc: Global) -> Result<TcMessage, RequestError> {
     )
 }
 
+fn clsact_qdisc(alloc: Global) -> Result<TcMessage, RequestError> {
+    plain_qdisc(alloc, &target(0xFFFF_0000, 0xFFFF_FFF1), "clsact")
+}
+
+fn ninth_chain(alloc: Global) -> Result<TcMessage, RequestError> {
+    chain(alloc, &target(0, 0xFFFF_FFF2), 9)
+}
+
+// True if a request is built, and has these bytes.
+fn has_bytes<M: Emitable + Drop>(
+    alloc: Global,
+    built: Result<M, RequestError>,
+    bytes: &str,
+) -> Result<bool, RequestError> {
+    let built = built?;
+    Ok(text(alloc, &built)?.as_str() == bytes)
+}
+
 #[test]
 fn known_bytes(rt: HostRuntime) -> Result<(), Fail> {
     let alloc = rt.alloc();
-    assert!(rt; text(alloc, &limit(alloc)?)?.as_str() == QDISC);
-    assert!(rt; text(alloc, &two_actions(alloc)?)?.as_str() == FILTER);
-    assert!(rt; text(alloc, &redirect(alloc)?)?.as_str() == ACTIONS);
-    let clsact = plain_qdisc(alloc, &target(0xFFFF_0000, 0xFFFF_FFF1), "clsact")?;
-    assert!(rt; text(alloc, &clsact)?.as_str() == CLSACT);
-    let chain = chain(alloc, &target(0, 0xFFFF_FFF2), 9)?;
-    assert!(rt; text(alloc, &chain)?.as_str() == CHAIN);
+    assert!(rt; has_bytes(alloc, limit(alloc), QDISC)?);
+    assert!(rt; has_bytes(alloc, two_actions(alloc), FILTER)?);
+    assert!(rt; has_bytes(alloc, redirect(alloc), ACTIONS)?);
+    assert!(rt; has_bytes(alloc, clsact_qdisc(alloc), CLSACT)?);
+    assert!(rt; has_bytes(alloc, ninth_chain(alloc), CHAIN)?);
     Ok(())
 }
 
@@ -140,23 +156,43 @@ fn named<M: Drop>(outcome: Result<M, RequestError>) -> Option<usize> {
     }
 }
 
+// A filter with a number in its range, and one that isn't.
+fn beyond(alloc: Global) -> Result<TcMessage, RequestError> {
+    let mut options = one(alloc, TcFilterFlowerOption::MplsBos(1))?;
+    options.push(TcFilterFlowerOption::MplsBos(3))?;
+    filter(alloc, &target(0, 0xFFFF_FFF2), 1, 0x8847, None, options)
+}
+
+// A qdisc whose limit is kept raw.
+fn kept_limit(alloc: Global) -> Result<TcMessage, RequestError> {
+    let limit = TcQdiscFqCodelOption::Other(DefaultNla::new(2, Vec::new(alloc)));
+    qdisc(alloc, &target(0, 0xFFFF_FFF2), one(alloc, limit)?)
+}
+
+// A nat action whose options are kept raw.
+fn kept_nat(alloc: Global) -> Result<TcAction, RequestError> {
+    raw_action(
+        alloc,
+        1,
+        "nat",
+        one(alloc, DefaultNla::new(9, Vec::new(alloc)))?,
+    )
+}
+
+// A nat action, and one without a kind.
+fn without_kind(alloc: Global) -> Result<TcActionMessage, RequestError> {
+    let mut actions = one(alloc, nat(alloc)?)?;
+    actions.push(TcAction::default_in(alloc))?;
+    action_message(alloc, actions)
+}
+
 #[test]
-fn parts_that_are_not_settled(rt: HostRuntime) -> Result<(), Fail> {
+fn parts_that_are_not_settled(rt: HostRuntime) {
     let alloc = rt.alloc();
-    let about = target(0, 0xFFFF_FFF2);
-    let options = vec![in alloc;
-        TcFilterFlowerOption::MplsBos(1),
-        TcFilterFlowerOption::MplsBos(3),
-    ]?;
-    assert!(rt; named(filter(alloc, &about, 1, 0x8847, None, options)) == Some(1));
-    let taken = DefaultNla::new(2, Vec::new(alloc));
-    let options = vec![in alloc; TcQdiscFqCodelOption::Other(taken)]?;
-    assert!(rt; named(qdisc(alloc, &about, options)) == Some(0));
-    let known = vec![in alloc; DefaultNla::new(9, Vec::new(alloc))]?;
-    assert!(rt; named(raw_action(alloc, 1, "nat", known)) == Some(0));
-    let actions = vec![in alloc; nat(alloc)?, TcAction::default_in(alloc)]?;
-    assert!(rt; named(action_message(alloc, actions)) == Some(1));
-    Ok(())
+    assert!(rt; named(beyond(alloc)) == Some(1));
+    assert!(rt; named(kept_limit(alloc)) == Some(0));
+    assert!(rt; named(kept_nat(alloc)) == Some(0));
+    assert!(rt; named(without_kind(alloc)) == Some(1));
 }
 
 #[test]

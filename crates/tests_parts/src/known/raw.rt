@@ -1,6 +1,7 @@
 //! The raw buffers: the bytes that were read, padding too, and a record's bytes.
 
 use super::records::COUNTED;
+use nla_frames::DecodeError;
 use std::test::Fail;
 use tc_raw::{
     TcActionGenericBuffer, TcActionMessageBuffer, TcFqCodelClStatsBuffer, TcFqCodelQdStatsBuffer,
@@ -14,12 +15,20 @@ use tc_records::{
 
 /// True if as many bytes are kept as the record has, unchanged, and the record itself has zeros from one place to another.
 fn is_kept(kept: &[u8], written: &[u8], len: usize, from: usize, to: usize) -> bool {
-    if from > to || to > len || len > COUNTED.len() {
+    if kept.len() != len || written.len() != len || len > COUNTED.len() {
         return false;
     }
-    let mut bytes = COUNTED;
-    bytes[from..to].fill(0);
-    kept == &COUNTED[..len] && written == &bytes[..len]
+    for at in 0..len {
+        let wanted = if from <= at && at < to {
+            0
+        } else {
+            COUNTED[at]
+        };
+        if kept[at] != COUNTED[at] || written[at] != wanted {
+            return false;
+        }
+    }
+    true
 }
 
 #[test]
@@ -88,6 +97,12 @@ fn selectors(rt: HostRuntime) -> Result<(), Fail> {
     assert!(rt; is_kept(&kept, &written, 16, 16, 16));
     let kept = TcU32SelectorBuffer::read_from_prefix(&COUNTED)?.as_bytes();
     assert!(rt; TcU32SelectorBuffer::new_checked(&COUNTED)?.as_bytes() == kept);
+    // it counts three keys, the last of which is cut
+    let cut = DecodeError::SelectorShort {
+        len: 63,
+        needed: 64,
+    };
+    assert!(rt; TcU32SelectorBuffer::new_checked(&COUNTED[..63]).err() == Some(cut));
     let record = TcU32Selector::parse(rt.alloc(), &COUNTED)?;
     let written = TcU32SelectorBuffer::from(&record).as_bytes();
     assert!(rt; is_kept(&kept, &written, 16, 3, 4));

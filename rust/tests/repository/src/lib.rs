@@ -23,6 +23,7 @@ mod strict;
 #[allow(dead_code)] // what the programs use besides
 mod user;
 
-use small::{arrayvec, itoa};
+use ::itoa;
+use small::arrayvec;
 
 include!(concat!(env!("OUT_DIR"), "/tests.rs"));

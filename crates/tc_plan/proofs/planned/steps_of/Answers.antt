@@ -1,7 +1,7 @@
 use Rattle.std.proofs.Common.{◌≡◌, ◌∷◌, ◌++◌, [], All, map, sym, ap, subst, ◌∙◌, append_assoc, append-nil, arith}
 use Rattle.std.proofs.lemmas.List.{nil_from_length}
 use Rattle.std.specs.Vec.Iter.{into_iter_items}
-use Rattle.tc_plan.specs.Fates.{parts_of, parts_among, gifts, objects, is_refused, gives_by, IsSetOf, same_key}
+use Rattle.tc_plan.specs.Fates.{parts_of, parts_among, gifts, objects, is_refused, gives_by, fate_by, IsSetOf, same_key}
 use Rattle.tc_plan.proofs.Orders.{all_more, parts_more, objects_more}
 use Rattle.tc_plan.proofs.planned.steps_of.Goals as goal
 
@@ -14,7 +14,9 @@ loop-entry-preserved g c =
     let rest = into_iter_items c.next.new.self in
     let step = c.step_by-step.result in
     let old = c.loop-entry.steps.items in
-    let fate = c.fate_among-fate.ensures (gifts entries) (objects yielded) inv.given inv.before in
+    let own : c.as_slice-own.result.now ≡ x.objects.items = c.as_slice-own.ensures.value in
+    let fate = c.fate_among-fate.ensures (gifts entries) (objects yielded) inv.given inv.before
+    ∙ ap (λ o. fate_by (gifts entries) (objects yielded) o x.must x.must_not x.made_by x.fate) own in
     record {
       all = append_assoc yielded (x ∷ []) rest ∙ rw (← c.in-Some.ensures.steps.0) inv.all;
       parts = parts_more old c.push.new.self.items step (parts_among (gifts entries) (yielded ++ x ∷ []) rest) (parts_among (gifts entries) [] entries) _ c.in_ok-push.ensures.items
@@ -23,7 +25,7 @@ loop-entry-preserved g c =
       barred = subst (All (λ s. s.is_barred ≡ is_refused s.item.fate)) (sym c.in_ok-push.ensures.items)
           (all_more (λ s. s.is_barred ≡ is_refused s.item.fate) old step inv.barred c.step_by-step.ensures.barred);
       given = inv.given;
-      before = subst (IsSetOf same_key c.in_ok-before.before) (sym (objects_more yielded x)) (c.in_ok-before.ensures (objects yielded) inv.before);
+      before = subst (IsSetOf same_key c.in_ok-before.before) (ap (λ o. objects yielded ++ o) own ∙ sym (objects_more yielded x)) (c.in_ok-before.ensures (objects yielded) inv.before);
     }
 
 pub returns-clause-parts : goal.returns-clause-parts

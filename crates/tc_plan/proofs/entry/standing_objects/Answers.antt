@@ -1,0 +1,15 @@
+use Rattle.std.proofs.Common.{◌≡◌, ◌++◌, ◌∷◌, ◌+◌, [], take, ap, sym, subst, ◌∙◌}
+use Rattle.std.specs.List.{flat_map}
+use Rattle.std.proofs.lemmas.List.{take_more}
+use Rattle.tc_plan.proofs.Lists.{given_more}
+use Rattle.tc_plan.specs.Needs.{standing_action, standing_in}
+use Rattle.tc_plan.proofs.entry.standing_objects.Goals as goal
+
+pub loop-attribute-preserved : goal.loop-attribute-preserved
+loop-attribute-preserved g c =
+    let i = c.loop-attribute.attribute-index in
+    let xs = c.args.attributes.now in
+    let x = c.attribute-item.result in
+    let more : take (i + 1) xs ≡ take i xs ++ x ∷ [] = subst (λ y. take (i + 1) xs ≡ take i xs ++ y ∷ []) (sym c.attribute-item.is) (take_more xs i x c.loop-attribute-test.true) in
+    let old = c.loop-attribute.keys.items in
+    given_more standing_in [] old c.in_ok-keys.keys.items xs i x more (c.in_ok-keys.ensures ∙ ap (λ l. old ++ flat_map standing_action l) c.actions_in.ensures) c.loop-attribute.invariant
