@@ -148,11 +148,7 @@ fn is_refused(line: &[u8]) -> bool {
 
 // Puts a text in a colour.
 #[tactic(auto, using(crate::proofs::Adding::adds_between))]
-fn put<A: Allocator>(
-    out: &mut Vec<u8, A>,
-    colour: Colour,
-    text: &[u8],
-) -> Result<(), AllocError>
+fn put<A: Allocator>(out: &mut Vec<u8, A>, colour: Colour, text: &[u8]) -> Result<(), AllocError>
     ensures { OnOk result (Adds out.old.items out.new.items text.now) }
 {
     if text.is_empty() {

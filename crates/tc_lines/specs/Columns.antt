@@ -1,5 +1,5 @@
 -- Columns, by places and by names in JSON.
-use Rattle.std.specs.Prelude.{Bool, List, None, Option, Some, [], bytes_eq, codes, false, if◌then◌else◌, map, true, unwrap_or, ℕ, ◌+◌, ◌==◌, ◌×◌, ◌∷◌}
+use Rattle.std.specs.Prelude.{Bool, List, None, Option, Some, [], bytes_eq, codes, false, if◌then◌else◌, map, true, unwrap_or, ℕ, ◌+◌, ◌==◌, ◌∷◌}
 use Rattle.tc_lines.specs.declared.column.Column.{Column as CodeColumn}
 use Rattle.tc_lines.specs.declared.column.How.{How}
 use Rattle.tc_lines.specs.declared.column.How.TheVariants.{Below, Elements, First, From, Hidden, Info, Family, Index, InLine, Number, Plain, Slash, Through, To, Within}

@@ -1,11 +1,11 @@
 -- The texts of leaves.
 use Rattle.std.specs.Char.{digit_char}
 use Rattle.std.specs.Fmt.{signed_decimal}
+use Rattle.std.specs.Int.{from_le_bytes, w32}
 use Rattle.std.specs.List.{list_all}
 use Rattle.std.specs.Ordering.{int_eq}
 use Rattle.std.specs.Prelude.{Bool, List, None, Option, Some, [], codes, decimal, flat_map, if◌then◌else◌, length, nat_le, nat_lt, suc, unwrap_or, zero, ℕ, ℤ, ◌%◌, negsuc, ◌&&◌, ◌*◌, ◌+◌, ◌++◌, ◌/◌, ◌==◌, ◌||◌, ◌∷◌}
 use Rattle.hex.specs.Hex.{decode_sized}
-use Rattle.nla_frames.specs.Value.{le_value}
 use Rattle.serde.specs.Event as event
 use Rattle.serde.specs.Event.{Event}
 use Rattle.tc_forms.specs.Raw.{decoded}
@@ -74,7 +74,7 @@ handle_or unit text (Some n) = number_text unit n
 -- four bytes in hex as a number, little-endian
 abbrev pub count_or : List ℕ → Option (List ℕ) → List ℕ
 count_or text None = quoted text
-count_or text (Some bytes) = decimal (le_value bytes)
+count_or text (Some bytes) = decimal (from_le_bytes w32 bytes)
 
 -- an address family, if it isn't the unspecified one, 0
 abbrev pub family_or : List Name → List ℕ → Option ℕ → List ℕ

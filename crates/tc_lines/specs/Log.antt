@@ -1,5 +1,5 @@
 -- What a note makes of the events so far.
-use Rattle.std.specs.Prelude.{List, None, Option, Some, [], option_and_then, option_map, ℕ, ◌++◌, ◌×◌, ◌∷◌}
+use Rattle.std.specs.Prelude.{List, None, Option, Some, [], option_and_then, option_map, ℕ, ◌++◌, ◌∷◌}
 use Rattle.serde.specs.Event.{Event, Log, boolean, field_key, map_begins, map_ends, nothing, seq_begins, seq_ends, signed, text, unsigned}
 use Rattle.serde_json.specs.Logged.{then}
 use Rattle.tc_lines.specs.Columns.{Given}

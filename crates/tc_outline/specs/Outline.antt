@@ -1,11 +1,13 @@
 -- What an outline shows.
-use Rattle.std.specs.Prelude.{List, ℕ}
-use Rattle.tc_columns.specs.Kinds.{form_of, root_place, table_of}
+use Rattle.std.specs.Prelude.{List, map, ℕ}
+use Rattle.tc_columns.specs.Kinds.{kind_table, root_place}
 use Rattle.tc_columns.specs.declared.root.KindColumns.{KindColumns}
 use Rattle.tc_columns.specs.declared.root.Root.{Root}
 use Rattle.tc_columns.specs.declared.root.Root.TheVariants as root
 use Rattle.tc_forms.specs.Shown.{shown_of}
-use Rattle.tc_kinds.specs.Table.{tc_tables}
+use Rattle.tc_forms.specs.declared.form.Form.{Form}
+use Rattle.tc_kinds.specs.Table.{action_message, tc_message, tc_tables}
+use Rattle.tc_lines.specs.Columns.{Given}
 use Rattle.tc_lines.specs.Lines.{lines}
 use Rattle.tc_outline.specs.Page.{shown}
 use Rattle.tc_outline.specs.declared.what.What.{What}
@@ -21,6 +23,16 @@ what_of root.Chain = what.Chain
 what_of root.Action = what.Action
 what_of root.Flush = what.Action
 
--- the lines of what is shown of bytes as JSON, by these columns
-abbrev pub shown_lines : KindColumns → List ℕ → List ℕ
-shown_lines columns bytes = shown (lines (table_of columns) (root_place columns.root) (shown_of tc_tables (form_of columns.root) bytes))
+-- the form of messages that speak of this
+abbrev pub form_of : Root → Form
+form_of root.Action = action_message
+form_of root.Flush = action_message
+form_of it = tc_message
+
+-- what columns are told: where they begin, whether paddings are shown, and what interfaces are called
+abbrev pub given_by : KindColumns → Given
+given_by c = record { root = root_place c.root; all = c.all; interfaces = map (λ x. (x.0, x.1.now)) c.interfaces.now }
+
+-- the lines of what is shown of bytes as JSON
+abbrev pub shown_lines : Given → Form → List ℕ → List ℕ
+shown_lines given form bytes = shown (lines (kind_table given) given.root (shown_of tc_tables form bytes))

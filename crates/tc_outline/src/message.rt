@@ -2,7 +2,7 @@
 
 ghost use Rattle.std.specs.Prelude.{◌≡◌, ◌≤◌, ◌++◌, [], List, ℕ, None, true, length, IfOk, IfSome, option_map};
 ghost use Rattle.tc_outline.specs.Located.{items_of_message, message_fault};
-ghost use Rattle.tc_outline.specs.Outline.{shown_lines, what_of};
+ghost use Rattle.tc_outline.specs.Outline.{form_of, given_by, shown_lines, what_of};
 ghost use Rattle.tc_outline.specs.Text.{has_lines, text_on};
 
 use crate::fault::Fault;
@@ -11,7 +11,8 @@ use crate::reader::locate;
 use crate::what::What;
 use std::alloc::{AllocError, Allocator, Global};
 use tc_columns::{KindColumns, Root};
-use tc_kinds::TcTables;
+use tc_forms::Form;
+use tc_kinds::{ACTION_MESSAGE, TC_MESSAGE, TcTables};
 use tc_lines::lines_of;
 
 // Which of the two messages speaks of this.
@@ -24,6 +25,16 @@ fn what_of(root: Root) -> What
         Root::Qdisc => What::Qdisc,
         Root::Class => What::Class,
         Root::Chain => What::Chain,
+    }
+}
+
+// The form of messages that speak of this.
+fn form_of(root: Root) -> Form
+    ensures { result ≡ form_of root }
+{
+    match root {
+        Root::Action | Root::Flush => ACTION_MESSAGE,
+        _ => TC_MESSAGE,
     }
 }
 
@@ -44,13 +55,13 @@ pub fn outline<A: Allocator>(
     columns: KindColumns<'_>,
 ) -> Result<Option<Fault>, AllocError>
     // Where the page has lines, they are those of what is shown of the bytes, and the fault's.
-    ensures text { has_lines page.old ≡ true → IfOk result (λ found. (line : List ℕ) × (text_on page.new ≡ (text_on page.old ++ shown_lines columns bytes.now) ++ line)
+    ensures text { has_lines page.old ≡ true → IfOk result (λ found. (line : List ℕ) × (text_on page.new ≡ (text_on page.old ++ shown_lines (given_by columns) (form_of columns.root) bytes.now) ++ line)
         × (found ≡ None → line ≡ [])) }
     ensures error { IfOk result (λ found. option_map (λ fault. fault.error) found
         ≡ message_fault (items_of_message (what_of columns.root) bytes.now)) }
     ensures place { IfOk result (λ found. IfSome found (λ fault. fault.offset ≤ length bytes.now)) }
 {
-    match lines_of(alloc, TcTables, columns.root.form(), columns, bytes) {
+    match lines_of(alloc, TcTables, form_of(columns.root), columns, bytes) {
         Ok(text) => page.lines(&text)?,
         Err(_) => return Err(AllocError),
     }

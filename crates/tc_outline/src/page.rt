@@ -31,7 +31,7 @@ pub struct Page<A: Allocator> {
 impl<A: Allocator> Page<A> {
     ghost use Rattle.std.specs.Char.{digit_char};
     ghost use Rattle.std.specs.Prelude.{◌≡◌, ◌++◌, ◌∷◌, [], ◌/◌, ◌%◌, OnOk, true};
-    ghost use Rattle.tc_outline.specs.Page.{escaped_byte, shown};
+    ghost use Rattle.tc_outline.specs.Page.{escaped_byte, shown, shown_byte};
     ghost use Rattle.tc_outline.specs.Text.{has_lines, text_on};
 
     /// An empty page.
@@ -202,13 +202,21 @@ impl<A: Allocator> Page<A> {
             return self.bytes.extend_from_slice(text);
         }
         for byte in text {
-            if *byte == b'\n' {
-                self.line_feed()?;
-            } else {
-                self.escaped_byte(*byte)?;
-            }
+            self.shown_byte(*byte)?;
         }
         Ok(())
+    }
+
+    fn shown_byte(&mut self, byte: u8) -> Result<(), AllocError>
+        requires { has_lines self.old ≡ true }
+        ensures form { has_lines self.new ≡ has_lines self.old }
+        ensures text { OnOk result (text_on self.new ≡ text_on self.old ++ shown_byte byte) }
+    {
+        if byte == b'\n' {
+            self.line_feed()
+        } else {
+            self.escaped_byte(byte)
+        }
     }
 
     fn escaped(&mut self, text: &[u8]) -> Result<(), AllocError> {

@@ -140,7 +140,7 @@ fn explain_form<T: Tables, N: Notes, W: fmt::Write>(
     };
     match table.part(place) {
         Part::One(form) => explain_form(table, notes, inner, form, out),
-        Part::Names(names) => write_names(out, inner, names),
+        Part::Names(names) => write_names(out, inner, form, names),
         Part::Fields(fields) => explain_fields(table, notes, place, inner, fields, out),
         Part::Rows(_, rows) => explain_rows(table, notes, place, inner, rows, out),
         Part::Kinds(_, _, _) => Ok(()),
@@ -148,15 +148,36 @@ fn explain_form<T: Tables, N: Notes, W: fmt::Write>(
     }
 }
 
-// The names of numbers.
-fn write_names<W: fmt::Write>(out: &mut W, depth: u8, names: &[Name<'_>]) -> fmt::Result {
+// The names of numbers in a form.
+fn write_names<W: fmt::Write>(
+    out: &mut W,
+    depth: u8,
+    form: Form,
+    names: &[Name<'_>],
+) -> fmt::Result {
     for name in names {
         indent(out, depth)?;
         out.write_str(name.name)?;
-        let number = name.number;
-        write!(out, " = {number}\n")?;
+        out.write_str(" = ")?;
+        write_number(out, form, name.number)?;
+        out.write_char('\n')?;
     }
     Ok(())
+}
+
+// A number in a form, which may be signed.
+fn write_number<W: fmt::Write>(out: &mut W, form: Form, number: u64) -> fmt::Result {
+    let all: u64 = match form {
+        Form::Named(Number::I8, _) => 0x100,
+        Form::Named(Number::I16, _) => 0x1_0000,
+        Form::Named(Number::I32, _) => 0x1_0000_0000,
+        _ => 0,
+    };
+    if all / 2 <= number && number < all {
+        let below = all - number;
+        return write!(out, "-{below}");
+    }
+    write!(out, "{number}")
 }
 
 #[cycle(explain)]

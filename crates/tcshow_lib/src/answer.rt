@@ -62,6 +62,7 @@ impl<'a, A: Allocator + Copy> Shower<'a, A> {
         let names = self.links.with(self.asked.names.names)?;
         let columns = columns_of(self.asked, names.as_slice(), found);
         let fault = outline(self.json, &mut self.page, found.payload, columns)?;
+        drop(names);
         self.put_page()?;
         self.count_fault(name_of(&fault))
     }

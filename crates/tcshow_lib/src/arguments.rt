@@ -92,6 +92,7 @@ A handle is one such as 1:10, ffff:, root, 800::800 or 0x1. A time is in seconds
 Hex is a message a line, with blanks, colons and 0x among the digits and comments after #, or a dump with offsets, as xxd, tcpdump -x
 and Wireshark print it; offset 0 begins a message.
 A packet, block or message of more than 1 MiB is skipped, with a line that says so.
+In outlines a tick is one of the packet scheduler, 64 ns as in Linux since 2.6.31; clock_t is a hundredth of a second.
 Captures of big-endian hosts can be opened, but their netlink messages, which are big-endian too, are refused.
 
 Exit status: 0; 1 if a message was refused, or the input is broken or cut; 2 for a wrong usage, no capture,

@@ -15,7 +15,7 @@ mod counts;
 mod found;
 mod json;
 mod kernel;
-mod kinds;
+pub mod kinds;
 mod line;
 mod lines;
 mod links;

@@ -1,7 +1,8 @@
 //! Which texts are written as they are.
 
-ghost use Rattle.std.specs.Prelude.{◌↔◌, ◌≤◌, IsTrue, length, true};
-ghost use Rattle.tc_outline.specs.Page.{IsPrintable, IsShown};
+ghost use Rattle.std.specs.List.{list_all};
+ghost use Rattle.std.specs.Prelude.{◌↔◌, ◌≡◌, ◌≤◌, IsTrue, length, true};
+ghost use Rattle.tc_outline.specs.Page.{IsPrintable, IsShown, is_shown};
 
 // True if each byte is printable ASCII.
 pub(super) fn is_printable(text: &[u8]) -> bool
@@ -11,11 +12,31 @@ pub(super) fn is_printable(text: &[u8]) -> bool
 }
 
 // True if each byte is printable ASCII or a line feed.
+#[tactic(auto, using(crate::proofs::Shown::all_shown))]
 pub(super) fn are_shown(text: &[u8]) -> bool
     ensures { IsTrue result ↔ IsShown true text.now }
 {
-    text.iter()
-        .all(|byte| 0x20 <= *byte && *byte <= 0x7e || *byte == b'\n')
+    all_shown(text)
+}
+
+// The same. It looks at each byte, whatever the others are, so that many are looked at at once.
+#[tactic(auto, using(std::proofs::lemmas::List::Folds::list_all_more))]
+fn all_shown(text: &[u8]) -> bool
+    ensures { result ≡ list_all (is_shown true) text.now }
+{
+    let mut are_shown = true;
+    for byte in text {
+        if !is_shown(*byte) {
+            are_shown = false;
+        }
+    }
+    are_shown
+}
+
+fn is_shown(byte: u8) -> bool
+    ensures { result ≡ is_shown true byte }
+{
+    0x20 <= byte && byte <= 0x7e || byte == b'\n'
 }
 
 // How many blanks a line begins with.

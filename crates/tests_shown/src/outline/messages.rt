@@ -108,7 +108,7 @@ pub(crate) const U32: Shown = Shown {
         "    hoff 0B",
         "    hmask 0x0",
         "    keys",
-        "      key mask 0xffffffff val 0x1020307 off 12B offmask 0x0",
+        "      key mask 0xffffffff val 0x1020307 off 12B offmask 0",
     ],
 };
 
@@ -150,7 +150,7 @@ pub(crate) const TWO_ACTIONS: Shown = Shown {
         "          old_addr 0.0.0.0",
         "          new_addr 4.4.4.4",
         "          mask 255.255.255.255",
-        "          flags ingress (0x0000)",
+        "          flags ingress (0x0)",
         "      cookie cafe",
         "  flags 0x0",
         "  eth_type ip (0x0800)",
@@ -213,7 +213,7 @@ ffffff00010000000400030024000200000000000000000000000000000000000000000000000000
         "          old_addr 10.0.0.0",
         "          new_addr 11.0.0.0",
         "          mask 255.255.255.0",
-        "          flags egress (0x0001)",
+        "          flags egress (0x1)",
         "        tm",
         "          install 0 clock_t (0s)",
         "          lastuse 0 clock_t (0s)",
@@ -249,7 +249,7 @@ f00001000f00010074756e6e656c5f6b657900005000040004000600140001000000000000000000
         "    hoff 0B",
         "    hmask 0x0",
         "    keys",
-        "      key mask 0xffffffff val 0xa090013 off 12B offmask 0x0",
+        "      key mask 0xffffffff val 0xa090013 off 12B offmask 0",
         "  hash 806:",
         "  flags not_in_hw (0x8)",
         "  action",
@@ -315,7 +315,7 @@ pub(crate) const NAT: Shown = Shown {
         "        old_addr 10.0.0.0",
         "        new_addr 11.0.0.0",
         "        mask 255.255.255.0",
-        "        flags egress (0x0001)",
+        "        flags egress (0x1)",
     ],
 };
 

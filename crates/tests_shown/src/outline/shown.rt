@@ -84,7 +84,7 @@ static ONE_LINE: &str =
     " index 3 (eth0) handle 0x0 parent ffff:fff2 pref 601 protocol ip (0x0800) kind flower options \
 {ip_proto tcp (6) ipv4_dst 10.8.0.1/32 actions {action 1 {kind mirred options {parms {index 0 capab 0 action pipe refcnt 0 \
 bindcnt 0 eaction egress_mirror (2) ifindex 6 (\"wan \\x1b[2J\")}}} action 2 {kind nat options {parms {index 33 capab 0 \
-action pass refcnt 0 bindcnt 0 old_addr 0.0.0.0 new_addr 4.4.4.4 mask 255.255.255.255 flags ingress (0x0000)}} cookie cafe}} flags \
+action pass refcnt 0 bindcnt 0 old_addr 0.0.0.0 new_addr 4.4.4.4 mask 255.255.255.255 flags ingress (0x0)}} cookie cafe}} flags \
 0x0 eth_type ip (0x0800)}";
 
 // Paddings are lines of their own where they are asked for.

@@ -34,7 +34,8 @@ static LINES: &str =
   RTM_NEWTFILTER create excl seq 155
 
 1700000000.123456000 NLMSG_ERROR 777 seq 9
-  RTM_NEWQDISC create excl seq 9 raw 00000000
+  RTM_NEWQDISC create excl seq 9
+  raw 00000000
   refused BufferTooSmall len 4 needed 20 offset 0 path /header
 
 summary

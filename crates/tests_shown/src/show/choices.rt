@@ -8,6 +8,7 @@ use tc_chosen::Chosen;
 use tcshow_lib::arguments::request_of;
 use tcshow_lib::asked::Form;
 use tcshow_lib::choice::Choice;
+use tcshow_lib::kinds::write_kind;
 use tcshow_lib::names::names_in;
 
 // What Linux answered tc, a message a line: a qdisc of bfifo, handle 1:; a filter of u32 with an action of mirred, handle 800::800, parent
@@ -211,4 +212,26 @@ fn links_name(rt: HostRuntime) {
     let run = shown(rt.alloc(), &asked, LINK.as_bytes());
     let text = str::from_utf8(&run.written).unwrap_or("");
     assert!(rt; run.status == 0 && text.contains("index 2 (eth9) handle 1: parent root"));
+}
+
+#[test]
+fn kinds_are_explained(rt: HostRuntime) -> Result<(), Fail> {
+    let mut text = String::new(rt.alloc());
+    assert!(rt; write_kind("htb", &mut text)? && !write_kind("Htb", &mut text)?);
+    let text = text.as_str();
+    assert!(rt;
+        text.starts_with(
+            "htb\n  Options: attributes\n    Parms: record\n      rate: record\n        cell_log: u8"
+        )
+    );
+    assert!(rt;
+        text.contains("        linklayer: u8\n          Unaware = 0\n")
+            && text.contains("\n    Rate64: u64, bytes a second\n")
+    );
+    assert!(rt;
+        text.contains(
+            "\nexample: [{\"Kind\":\"htb\"},{\"Options\":[{\"Htb\":{\"Parms\":{\"rate\":{\"cell_log\":1,"
+        )
+    );
+    Ok(())
 }
