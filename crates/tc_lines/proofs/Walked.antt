@@ -1,13 +1,12 @@
 -- What the events of JSON do: they write its lines.
-use Rattle.std.proofs.Common.{◌≡◌, ℕ, suc, zero, Bool, true, false, List, [], ◌∷◌, ◌++◌, Option, Some, None, IfSome, append_assoc, refl, sym, subst, ap, ◌∙◌}
+use Rattle.std.proofs.Common.{◌≡◌, ℕ, suc, zero, Bool, true, false, List, [], ◌∷◌, ◌++◌, Option, Some, None, append_assoc, refl, sym, subst, ap, ◌∙◌}
 use Rattle.std.specs.Coded.{Coded-set, coded_list, coded_ℕ}
 use Rattle.std.proofs.Math.Logic.{∥∥₁_elim}
 use Rattle.std.proofs.lemmas.Option.{none-some}
 use Rattle.std.specs.Prelude.{if◌then◌else◌, option_and_then}
-use Rattle.serde.specs.Event.{Event, Log, Logs, boolean as truth, map_ends, nothing, seq_ends, text, unsigned as number_sent}
+use Rattle.serde.specs.Event.{Event, Log, boolean as truth, map_ends, nothing, seq_ends, text, unsigned as number_sent}
 use Rattle.serde_json.specs.Data.{Data, Items, Members, array, boolean, float, item, member, negative, no_items, no_members, null, number, object, string, unsigned}
 use Rattle.tc_forms.specs.Sent.{Sent, events, items_events, members_events}
-use Rattle.serde_json.specs.Logged.{then}
 use Rattle.tc_lines.specs.Columns.{Column, Given, Table, depth_in, has_elements, in_line, is_nested, opened, place_in}
 use Rattle.tc_lines.specs.declared.column.How.{How}
 use Rattle.tc_lines.specs.declared.column.How.TheVariants.{Below, Count, Elements, Family, First, Flags, From, Handle, Hidden, InLine, Index, Info, Interface, Kind, Named, Number, Plain, Slash, Text, Through, To, Verdict, Within}
@@ -251,9 +250,3 @@ pub lines_given : (says : Given → Table) (g k : Given) (d : Data) (before new 
 lines_given says g k d before new out e h written =
     let all = all_sent g k (events d) before new e h in
     subst (λ x. out ≡ lines (says x) x.root d) (same_given g k (events d) new all) (written d (events_sent g k (events d) new all))
-
--- one event more
-pub marked_logs : (g : Given) (log : Log) (event : Option Event) → IfSome event (Logs (marked g log) (marked g (option_and_then (then log) event)))
-marked_logs g log None = tt
-marked_logs g None (Some e) = tt
-marked_logs g (Some es) (Some e) = ap Some (sym (append_assoc (marks g) es (e ∷ [])))
