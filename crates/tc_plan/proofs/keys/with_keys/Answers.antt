@@ -5,8 +5,15 @@ use Rattle.tc_plan.proofs.keys.with_keys.Goals as goal
 
 pub loop-key-preserved : goal.loop-key-preserved
 loop-key-preserved g c = λ before is q.
-    let old = c.loop-key.invariant before is q in
-    grind (arith, common_steps, list_any-append, g.met.K.Eq.laws, old, c.key-item.is, c.in_ok-insert.ensures.updates)
+    grind (
+      arith,
+      common_steps,
+      list_any-append,
+      g.met.K.Eq.laws,
+      c.loop-key.invariant before is q,
+      c.key-item.is,
+      c.in_ok-insert.ensures.updates,
+    )
 
 pub returns : goal.returns
 returns g c = λ before is q. grind (arith, common_steps, c.loop-key.invariant before is q)
