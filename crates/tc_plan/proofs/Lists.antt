@@ -10,7 +10,7 @@ module _ {X : Type 0} where
   any_same p q same (x ∷ xs) = ap (λ b. b || list_any p xs) (same x) ∙ ap (λ b. q x || b) (any_same p q same xs)
 
 -- one more element, as at a step of a loop
-pub given_more : {X Y : Type 0} (f : X → List Y) (first old new : List Y) (xs : List X) (i : ℕ) (x : X) → take (i + 1) xs ≡ take i xs ++ x ∷ []
-    → new ≡ old ++ f x → old ≡ first ++ flat_map f (take i xs) → new ≡ first ++ flat_map f (take (i + 1) xs)
+pub given_more : {X Y : Type 0} (f : X → List Y) (first old new : List Y) (xs : List X) (i : ℕ) (x : X)
+    → take (i + 1) xs ≡ take i xs ++ x ∷ [] → new ≡ old ++ f x → old ≡ first ++ flat_map f (take i xs) → new ≡ first ++ flat_map f (take (i + 1) xs)
 given_more f first old new xs i x more pushed before =
     pushed ∙ ap (λ l. l ++ f x) before ∙ flat_map_more f first (take i xs) x ∙ ap (λ l. first ++ flat_map f l) (sym more)

@@ -36,7 +36,7 @@ pub enum Reason {
     #[error("can't be restored: {0}")]
     Restore(RestoreError),
 
-    /// Another dump of the same object is before it.
+    /// Another dump of the same object is before it, or of one of these actions.
     #[error("a second dump of this")]
     Twice,
 

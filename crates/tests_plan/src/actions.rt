@@ -108,7 +108,8 @@ fn actions_that_stand_alone(rt: HostRuntime) -> Result<(), Fail> {
 fn indices(alloc: Global, dump: &str) -> Result<String, Fail> {
     let bytes = hex::decode(alloc, dump)?;
     let mut text = String::new(alloc);
-    for attribute in &TcActionMessage::parse(alloc, &bytes)?.attributes {
+    let message = TcActionMessage::parse(alloc, &bytes)?;
+    for attribute in &message.attributes {
         if let TcActionMessageAttribute::Actions(actions) = attribute {
             for action in actions {
                 let kind = kind_of_action(action);

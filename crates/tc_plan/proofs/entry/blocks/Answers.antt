@@ -9,6 +9,8 @@ loop-attribute-preserved g c =
     let i = c.loop-attribute.attribute-index in
     let xs = c.args.attributes.now in
     let x = c.attribute-item.result in
-    let more : take (i + 1) xs ≡ take i xs ++ x ∷ [] = subst (λ y. take (i + 1) xs ≡ take i xs ++ y ∷ []) (sym c.attribute-item.is) (take_more xs i x c.loop-attribute-test.true) in
+    let more : take (i + 1) xs ≡ take i xs ++ x ∷ [] =
+    subst (λ y. take (i + 1) xs ≡ take i xs ++ y ∷ []) (sym c.attribute-item.is) (take_more xs i x c.loop-attribute-test.true) in
     let old = c.loop-attribute.made.items in
-    given_more block_of c.args.keys.items old c.in_ok-made.made.items xs i x more (c.in_ok-made.ensures ∙ ap (λ l. old ++ l) c.block_of.ensures) c.loop-attribute.invariant
+    given_more block_of c.args.keys.items old c.in_ok-made.made.items xs i x more
+    (c.in_ok-made.ensures ∙ ap (λ l. old ++ l) c.block_of.ensures) c.loop-attribute.invariant

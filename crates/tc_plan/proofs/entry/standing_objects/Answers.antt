@@ -10,6 +10,8 @@ loop-attribute-preserved g c =
     let i = c.loop-attribute.attribute-index in
     let xs = c.args.attributes.now in
     let x = c.attribute-item.result in
-    let more : take (i + 1) xs ≡ take i xs ++ x ∷ [] = subst (λ y. take (i + 1) xs ≡ take i xs ++ y ∷ []) (sym c.attribute-item.is) (take_more xs i x c.loop-attribute-test.true) in
+    let more : take (i + 1) xs ≡ take i xs ++ x ∷ [] =
+    subst (λ y. take (i + 1) xs ≡ take i xs ++ y ∷ []) (sym c.attribute-item.is) (take_more xs i x c.loop-attribute-test.true) in
     let old = c.loop-attribute.keys.items in
-    given_more standing_in [] old c.in_ok-keys.keys.items xs i x more (c.in_ok-keys.ensures ∙ ap (λ l. old ++ flat_map standing_action l) c.actions_in.ensures) c.loop-attribute.invariant
+    given_more standing_in [] old c.in_ok-keys.keys.items xs i x more
+    (c.in_ok-keys.ensures ∙ ap (λ l. old ++ flat_map standing_action l) c.actions_in.ensures) c.loop-attribute.invariant

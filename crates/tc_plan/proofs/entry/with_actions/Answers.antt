@@ -9,6 +9,8 @@ loop-action-preserved g c =
     let i = c.loop-action.action-index in
     let xs = c.args.actions.now in
     let x = c.action-item.result in
-    let more : take (i + 1) xs ≡ take i xs ++ x ∷ [] = subst (λ y. take (i + 1) xs ≡ take i xs ++ y ∷ []) (sym c.action-item.is) (take_more xs i x c.loop-action-test.true) in
+    let more : take (i + 1) xs ≡ take i xs ++ x ∷ [] =
+    subst (λ y. take (i + 1) xs ≡ take i xs ++ y ∷ []) (sym c.action-item.is) (take_more xs i x c.loop-action-test.true) in
     let old = c.loop-action.made.items in
-    given_more standing_action c.args.keys.items old c.in_ok-made.made.items xs i x more (c.in_ok-made.ensures ∙ ap (λ l. old ++ l) c.standing_action.ensures) c.loop-action.invariant
+    given_more standing_action c.args.keys.items old c.in_ok-made.made.items xs i x more
+    (c.in_ok-made.ensures ∙ ap (λ l. old ++ l) c.standing_action.ensures) c.loop-action.invariant
