@@ -34,13 +34,14 @@ use user::memchr;
 include!(concat!(env!("OUT_DIR"), "/programs.rs"));
 
 use host::HostRuntime;
+use std::io::IsTerminal as _;
 use std::process::ExitCode;
 use tc_kinds::{ACTION_MESSAGE, TC_MESSAGE, TcTables};
 use tcmake_lib::message::Forms;
 
 /// Shows the traffic control messages of a capture, or of lines of hex.
 pub fn tcshow() -> ExitCode {
-    tcshow_lib::program::tcshow(&HostRuntime, &mut HostRuntime.stderr())
+    tcshow_lib::program::tcshow(&HostRuntime, std::io::stdout().is_terminal(), &mut HostRuntime.stderr())
 }
 
 /// Makes traffic control messages of JSON.

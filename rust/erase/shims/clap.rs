@@ -2,12 +2,12 @@
 
 use crate::fallible::AllocError;
 use crate::host::{AsStr, io::Print};
-pub use ::clap::ArgAction;
+pub use ::clap::{ArgAction, value_parser};
 use std::marker::PhantomData;
 
 pub mod builder {
     /// What a value has to be.
-    pub struct ValueParser(pub(super) ::clap::builder::ValueParser);
+    pub struct ValueParser(pub(crate) ::clap::builder::ValueParser);
 
     impl ValueParser {
         /// A number of this range.
@@ -86,8 +86,14 @@ impl<'a> Arg<'a> {
     pub fn value_parser(self, parser: impl Into<builder::ValueParser>) -> Self {
         self.with(|it| it.value_parser(parser.into().0))
     }
-    pub fn hide_possible_values(self, yes: bool) -> Self {
-        self.with(|it| it.hide_possible_values(yes))
+    pub fn help_heading(self, text: &'a str) -> Self {
+        self.with(|it| it.help_heading(kept(text)))
+    }
+    pub fn num_args(self, range: std::ops::RangeInclusive<usize>) -> Self {
+        self.with(|it| it.num_args(range))
+    }
+    pub fn default_missing_value(self, word: &'a str) -> Self {
+        self.with(|it| it.default_missing_value(kept(word)))
     }
     pub fn requires_arg(self, name: &'a str) -> Res<Self> {
         Ok(self.with(|it| it.requires(kept(name))))
@@ -129,6 +135,10 @@ pub struct ArgMatches<'w>(&'static ::clap::ArgMatches, PhantomData<&'w str>);
 impl<'w> ArgMatches<'w> {
     pub fn get_str(&self, name: &str) -> Option<&'w str> {
         self.0.get_one::<String>(name).map(String::as_str)
+    }
+    /// All words of an option, as they were given.
+    pub fn get_strs(&self, name: &str) -> Option<&'w [&'w str]> {
+        Some(self.0.get_raw(name)?.filter_map(|word| word.to_str()).collect::<Vec<_>>().leak())
     }
     pub fn get_one<T: Clone + Send + Sync + 'static>(&self, name: &str) -> Option<T> {
         self.0.get_one::<T>(name).cloned()

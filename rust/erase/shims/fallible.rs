@@ -28,10 +28,10 @@ pub(crate) fn with_capacity<T>(len: usize) -> Result<Vec<T>, AllocError> {
     Ok(items)
 }
 
-pub(crate) fn copy(bytes: &[u8]) -> Result<Vec<u8>, AllocError> {
-    let mut items = with_capacity(bytes.len())?;
-    items.extend_from_slice(bytes);
-    Ok(items)
+pub(crate) fn copy<T: Clone>(items: &[T]) -> Result<Vec<T>, AllocError> {
+    let mut copy = with_capacity(items.len())?;
+    copy.extend_from_slice(items);
+    Ok(copy)
 }
 
 pub(crate) fn filled<T: Clone>(item: T, len: usize) -> Result<Vec<T>, AllocError> {

@@ -81,6 +81,11 @@ pub mod env {
         let words: Result<Vec<String>, _> = std::env::args_os().map(|word| word.into_string()).collect();
         words.map(Vec::into_iter).map_err(|_| ErrorKind::InvalidInput.into())
     }
+
+    /// What a variable of the environment says.
+    pub fn var<R: super::rt::Env>(_rt: &R, name: &str) -> Result<String, std::env::VarError> {
+        std::env::var(name)
+    }
 }
 
 pub mod fs {

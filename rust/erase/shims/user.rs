@@ -44,9 +44,7 @@ pub(crate) trait Copying<T> {
 
 impl<T: Clone> Copying<T> for [T] {
     fn try_to_vec(&self) -> Result<Vec<T>, AllocError> {
-        let mut copy = fallible::with_capacity(self.len())?;
-        copy.extend_from_slice(self);
-        Ok(copy)
+        fallible::copy(self)
     }
 }
 

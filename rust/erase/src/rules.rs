@@ -201,10 +201,13 @@ pub(crate) const USER_RULES: &[Rule] = &[
     // A serializer of lines, without the log of what it was sent, and without methods for what isn't JSON.
     ("self . log = after ( $*x ) ;", ""),
     ("log : Log $*x ,", ""),
-    ("# [ inline ( always ) ] fn after ( $*x ) -> Log { $;b }", ""),
+    ("# [ inline ( always ) ] fn after $-x -> Log { $;b }", ""),
     ("# [ inline ( always ) ] fn unit ( & mut self ) -> $-r { $;b }", ""),
     ("fn $x ( & mut self $*p ) -> Result < ( ) , LinesError > { Err ( LinesError :: NotJson ) }", ""),
     ("fn key_cased ( $*a , case : Case ) -> $-r { match case { Case :: AsIs => $*x , _ => { $;y } } }", "fn key($*a) -> $-r {$*x}"),
+    // What the shims of `clap` and `arrayvec` do without.
+    ("value_parser ! ( $t )", "clap::builder::ValueParser(::clap::value_parser!($t).into())"),
+    ("handle_text ( $*x ) . as_bytes ( )", "handle_text($*x).as_str().as_bytes()"),
     // Streams, files and arguments are those of the module `host`.
     ("std :: %H", "crate::host::%H"),
     ("std :: convert :: AsStr", "crate::host::AsStr"),
@@ -222,7 +225,7 @@ pub(crate) const SHOW_RULES: &[Rule] = &[
     ("( json ,", "("),
     ("self . json ,", ""),
     ("( self . json )", "()"),
-    ("Summary :: new ( json )", "Summary::new()"),
+    (":: new ( json )", "::new()"),
     ("in json ;", "in alloc;"),
     ("< B : Allocator >", ""),
     ("Page < B >", "Page"),
@@ -248,7 +251,7 @@ pub(crate) const CHECKS: &[Rule] = &[
 pub(crate) const DUTIES: &[Rule] = &[("length $x . now", "$x.len()"), ("length $x . old . $f . now", "$x.$f.len()"), ("≤", "<=")];
 
 /// Modules of `std` that are in `core` too, and those that programs and tests use beside them.
-pub(crate) const CORE: &[&str] = &["cmp", "convert", "error", "fmt", "hash", "iter", "marker", "mem", "net", "ops", "slice", "str"];
+pub(crate) const CORE: &[&str] = &["cmp", "convert", "error", "fmt", "hash", "iter", "marker", "mem", "net", "ops", "result", "slice", "str"];
 pub(crate) const STD: &[&str] = &["collections", "hash", "process"];
 
 /// Modules of the shims, beside those crates that one stands for.
@@ -262,7 +265,7 @@ pub(crate) const UNKNOWN: &[&str] =
 /// Attributes that Rust has too, and macros: of `core` and `std`, and of the sources' own.
 pub(crate) const ATTRIBUTES: &[&str] = &["allow", "cfg", "default", "doc", "derive", "inline", "must_use", "repr", "rustfmt", "test"];
 pub(crate) const MACROS: &[&str] =
-    &["any_of", "assert", "assert_eq", "flags", "format", "format_args", "macro_rules", "matches", "sent", "stringify", "unreachable", "write"];
+    &["any_of", "assert", "assert_eq", "flags", "format", "format_args", "macro_rules", "matches", "sent", "stringify", "unreachable", "value_parser", "write"];
 
 /// Lints that erased modules don't meet: contracts used what is now unused, and some code is easier to prove than what clippy prefers.
 pub(crate) const LINTS: &str = "dead_code, missing_docs, unused_doc_comments, unused_imports, unused_labels, unused_variables, \

@@ -15,6 +15,8 @@ const TESTS: &[&str] = &[
     "tests_units",
     "tests_words",
     "tests_hex",
+    "tests_lines",
+    "tests_colours",
 ];
 
 /// Tests of how large Rattle's values are, of refused memory, of random bytes, and of lines of a program. Where a text isn't JSON, `serde_json` says another column than Rattle's.

@@ -10,6 +10,9 @@ pub mod bitflags;
 mod fallible;
 #[path = "../../../erase/shims/hex.rs"]
 mod hex;
+#[path = "../../../erase/shims/host.rs"]
+#[allow(dead_code, unused_imports)] // what the programs use besides
+mod host;
 #[path = "../../../erase/shims/jsontext.rs"]
 #[allow(dead_code, unused_imports, unused_macros)] // what the programs send
 mod jsontext;
