@@ -151,7 +151,7 @@ fn is_read(alloc: Global, row: &str, is_settled: bool) -> Result<bool, Fail> {
 }
 
 /// Checks each row of messages, and fails at the first that is read, written or settled otherwise.
-pub(crate) fn are_read(alloc: Global, table: &str, is_settled: bool) -> Result<(), Fail> {
+fn are_read(alloc: Global, table: &str, is_settled: bool) -> Result<(), Fail> {
     for row in rows(table) {
         if !is_read(alloc, row, is_settled)? {
             return Err(Fail::new(row));
@@ -181,7 +181,7 @@ fn is_refused(alloc: Global, row: &str) -> Result<bool, AllocError> {
 }
 
 /// Checks each row of messages, and fails at the first that isn't refused with its fault.
-pub(crate) fn are_refused(alloc: Global, table: &str) -> Result<(), Fail> {
+fn are_refused(alloc: Global, table: &str) -> Result<(), Fail> {
     for row in rows(table) {
         if !is_refused(alloc, row)? {
             return Err(Fail::new(row));
