@@ -4,8 +4,8 @@
 //! name cyan and what it has green, and what is refused, cut or broken red. It takes text a line at a time, so each write is to end with a line.
 #![tactic(auto)]
 
-mod paint;
+mod lines;
 mod writer;
 
-pub use paint::paint;
+pub use lines::paint;
 pub use writer::Coloured;

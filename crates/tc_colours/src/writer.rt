@@ -1,6 +1,6 @@
 //! A writer of outlines in colours.
 
-use crate::paint::paint;
+use crate::lines::paint;
 use std::alloc::Global;
 use std::io::{Error, ErrorKind, Result, Write};
 

@@ -1,6 +1,6 @@
 use Rattle.std.proofs.Common.{◌≡◌, ◌++◌, List, ℕ, length}
 use Rattle.tc_colours.specs.Colours.{Adds}
-use Rattle.tc_colours.proofs.paint.paint.Given as goal
+use Rattle.tc_colours.proofs.lines.paint.Given as goal
 
 -- what is put are the lines before the rest
 abbrev pub invariant-lines : goal.invariant-lines
