@@ -59,6 +59,13 @@ fn a_law_goes_and_a_function_of_its_name_stays() {
 }
 
 #[test]
+fn a_module_hides_the_shim_of_its_name() {
+    let files = [("one/src/lib.rt", "mod hex;\npub use hex::line;\n"), ("one/src/hex.rt", "pub fn line() -> u8 {\n    1\n}\n")];
+    assert!(left_of("modules", &files).unwrap().contains("pub use hex::line;"));
+    assert!(left_of_one("shims", "pub use hex::decode;\n").unwrap().contains("pub use crate::hex::decode;"));
+}
+
+#[test]
 fn a_duty_is_checked_and_documented() {
     let text = "/// The rest.\npub fn rest(bytes: &[u8]) -> &[u8]\n    requires header { 4 ≤ length bytes.now }\n{\n    &bytes[4..]\n}\n";
     let left = left_of_one("duties", text).unwrap();
