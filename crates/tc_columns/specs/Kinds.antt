@@ -30,5 +30,5 @@ kind_table g =
       under = λ p kind. under_part (tc_tables p) p kind;
       names = all_names;
       interface = λ n. interface_in g.interfaces n;
-      all = g.all
+      all = g.all;
     }
