@@ -30,10 +30,10 @@ fn have_choices(columns: &[Column<'static>], choices: &[Choice<'static>]) -> boo
 
 // The rows at a place.
 fn rows_at(place: usize) -> &'static [Row<'static>] {
-    match TcTables.part(place) {
-        Part::Rows(_, rows) => rows,
-        _ => &[],
+    if let Part::Rows(_, rows) = TcTables.part(place) {
+        return rows;
     }
+    &[]
 }
 
 fn have_part(columns: &[Column<'static>], part: Part<'static>) -> bool {
