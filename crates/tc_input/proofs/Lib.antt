@@ -3,3 +3,4 @@ pub mod Comments
 pub mod LineSteps
 pub mod PieceSteps
 pub mod LongLines
+pub mod Alone

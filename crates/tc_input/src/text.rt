@@ -41,6 +41,7 @@ pub fn on_line<A: Allocator + Copy>(alloc: A, line: &[u8]) -> Result<OnLine<A>, 
 }
 
 /// The bytes of hex.
+#[tactic(auto, using(crate::proofs::Alone::hex_alone, crate::proofs::Alone::no_hex_alone))]
 pub(crate) fn bytes_of<A: Allocator>(
     alloc: A,
     text: &[u8],
@@ -49,7 +50,10 @@ pub(crate) fn bytes_of<A: Allocator>(
 {
     let mut bytes = Vec::new(alloc);
     let is_hex = push_hex(&mut bytes, text)?;
-    Ok(if is_hex { Some(bytes) } else { None })
+    if is_hex {
+        return Ok(Some(bytes));
+    }
+    Ok(None)
 }
 
 /// What comes before the comment of a line.

@@ -1,0 +1,18 @@
+-- Hex that is put behind nothing.
+use Rattle.std.proofs.Common.{◌≡◌, ◌∙◌, ℕ, Bool, true, false, List, [], refl, sym, ap}
+use Rattle.std.specs.Prelude.{Option, Some, None}
+use Rattle.tc_hex.specs.Hex.{behind, if_hex}
+
+behind-nil : (o : Option (List ℕ)) → behind [] o ≡ o
+unfolding behind
+behind-nil None = refl
+behind-nil (Some bytes) = refl
+
+alone : (before after : List ℕ) (o : Option (List ℕ)) (is : Bool) → before ≡ [] → behind before o ≡ if_hex is after → if_hex is after ≡ o
+alone before after o is none h = sym h ∙ ap (λ l. behind l o) none ∙ behind-nil o
+
+pub hex_alone : (before after : List ℕ) (o : Option (List ℕ)) (is : Bool) → before ≡ [] → behind before o ≡ if_hex is after → is ≡ true → Some after ≡ o
+hex_alone before after o is none h yes = ap (λ t. if_hex t after) (sym yes) ∙ alone before after o is none h
+
+pub no_hex_alone : (before after : List ℕ) (o : Option (List ℕ)) (is : Bool) → before ≡ [] → behind before o ≡ if_hex is after → is ≡ false → None ≡ o
+no_hex_alone before after o is none h no = ap (λ t. if_hex t after) (sym no) ∙ alone before after o is none h
