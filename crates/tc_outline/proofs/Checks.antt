@@ -1,13 +1,12 @@
 -- What is asked of a type is what the codec's reading of it asks.
-use Rattle.std.proofs.Common.{◌≡◌, ◌⊎◌, ℕ, zero, suc, ◌+◌, ◌<◌, ◌≤◌, List, [], ◌∷◌, length, Option, Some, None, Ok, Err, Bool, true, false}
+use Rattle.std.proofs.Common.{◌≡◌, ◌⊎◌, ℕ, zero, suc, ◌+◌, ◌<◌, ◌≤◌, List, length, Some, None, Ok, Err, Bool, true, false}
 use Rattle.std.proofs.Common.{refl, sym, ap, ◌∙◌, arith, inl, inr, get_or, add-zero, zero-add}
-use Rattle.std.specs.Prelude.{◌==◌, nat_le, nat_lt, not, if◌then◌else◌}
-use Rattle.std.specs.Str.{is_utf8}
+use Rattle.std.specs.Prelude.{◌==◌, ◌&&◌, nat_le, nat_lt, not, if◌then◌else◌}
 use Rattle.std.proofs.lemmas.Bool.{cases_lt, le-leb, lt-leb, ne_eqb}
 use Rattle.nla_frames.specs.declared.error.DecodeError.{DecodeError}
-use Rattle.nla_frames.specs.declared.error.DecodeError.TheVariants.{WrongLength, NotUtf8, BufferTooSmall}
+use Rattle.nla_frames.specs.declared.error.DecodeError.TheVariants.{WrongLength, BufferTooSmall}
 use Rattle.nla_frames.specs.Fault.{Outcome, seen}
-use Rattle.nla_frames.specs.Value.{exactly, le_number, le_value, be_number, be_value, strip, text as read_text}
+use Rattle.nla_frames.specs.Value.{exactly, le_number, le_value, be_number, be_value, text as read_text}
 use Rattle.tc_canon.specs.Descriptor.{Class, le, be, masked, array, raw, text, warning, presence, truth, fields, selector, pair, xstats}
 use Rattle.tc_canon.specs.Descriptor.{list_of, own_list, Rows, others, types, unread, options, is_within, is_known, by_kind}
 use Rattle.tc_canon.specs.Layouts.{size_of}
@@ -141,7 +140,7 @@ at-type : (rows : Rows) (n : ℕ) → get_or (checks_of rows) n Any ≡ check_by
 at-type rows n = go (cases_lt n (count_of rows))
   where
     go : (n < count_of rows) ⊎ (count_of rows ≤ n) → get_or (checks_of rows) n Any ≡ check_by rows n
-    go (inl low) = from-at (count_of rows) 0 n rows low ∙ ap (check_by rows) zero-add
+    go (inl low) = from-at (count_of rows) 0 n rows low ∙ ap (check_by rows) (zero-add n)
     go (inr high) = from-behind (count_of rows) 0 n rows high ∙ sym (behind rows n high)
 
 -- so the checks of a table ask what its reading asks

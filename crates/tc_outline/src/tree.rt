@@ -61,10 +61,10 @@ fn rows_of_kind(kind: &[u8], others: usize, kinds: &[KindRows<'_>]) -> usize {
 }
 
 fn rows_at(place: usize) -> &'static [Row<'static>] {
-    match TcTables.part(place) {
-        Part::Rows(_, rows) => rows,
-        _ => &[],
+    if let Part::Rows(_, rows) = TcTables.part(place) {
+        return rows;
     }
+    &[]
 }
 
 fn row_of(rows: &'static [Row<'static>], number: u16) -> Option<Row<'static>> {

@@ -1,0 +1,213 @@
+"""The notation of the files beside this one, which README.md has: reads them into blocks, and reports mistakes with file and line."""
+import os
+import re
+
+HERE = os.path.dirname(os.path.abspath(__file__))
+NESTED = 0x8000  # NLA_F_NESTED
+NUMBERS = {'u8': ('U8', 1), 'u16': ('U16', 2), 'u32': ('U32', 4), 'u64': ('U64', 8), 's8': ('I8', 1), 's16': ('I16', 2), 's32': ('I32', 4),
+           's64': ('I64', 8), 'be16': ('U16Be', 2), 'be32': ('U32Be', 4), 'be64': ('U64Be', 8)}
+LEAVES = {'handle': ('Handle', 4), 'flag': ('Flag', 0), 'bool': ('Truth', 1), 'text': ('Text', None), 'bare': ('Bare', None), 'hex': ('Hex', None),
+          'mac': ('Mac', 6), 'ipv4': ('Ipv4', 4), 'ipv6': ('Ipv6', 16)}
+NAMED = {'struct': ('struct', 'Record'), 'list': ('list', 'List'), 'nested': ('list', 'List'), 'inforce': ('list', 'InForce'), 'own': ('list', 'Own'),
+         'choice': ('choice', 'Choice'), 'enum': ('enum', 'Named'), 'bits': ('bits', 'Number')}
+UNITS = 'bytes packets bytes/s packets/s kbit/s ns us ms s ticks clock_t percent probability ifindex log2 hex u32_handle'.split()
+SHOWN = ['names', 'mask', 'end', 'as']  # how it is shown to people, each behind the unit with a name
+KINDS, MARKS = ['qdisc', 'filter', 'action'], ['raw', 'Other', 'word', 'pad', 'Kind', 'bare']
+RESERVED = {'list': MARKS, 'choice': MARKS, 'struct': ['raw', 'rest']}
+faults, blocks, kinds, aliases, messages, files, elements = [], {}, [], {}, [], {}, {}
+
+def fault(where, text):
+    faults.append('%s:%d: %s' % (where + (text,)))
+
+class Form:
+    """A form: what it is (a number, a leaf, struct, array ..), the name or number that it is of, the form within it, and a list's layer."""
+    def __init__(self, what, of=None, inner=None, layer=''):
+        self.what, self.of, self.inner, self.layer = what, of, inner, layer
+
+    def __iter__(self):
+        return iter([self] + list(self.inner or []))
+
+class Line:
+    """A line of a block: a number, the kernel's name, the name in JSON, the form, the unit."""
+    def __init__(self, where, name, form=None, number=None, kernel='', unit='', **more):
+        self.where, self.name, self.form, self.number, self.kernel, self.unit = where, name, form, number, kernel, unit
+        self.__dict__.update(more)
+
+    def word(self):
+        return self.number | NESTED * (self.form.what == 'nested')
+
+class Block:
+    """A block: its sort (struct, list, qdisc ..), its names and its lines, the layers and the width at which it is used, and its parts by layer."""
+    def __init__(self, where, sort, words):
+        self.where, self.sort, self.words, self.name, self.lines, self.layers, self.bits, self.parts = where, sort, words, words[0], [], [], 32, {}
+
+def number(where, text):
+    if re.fullmatch(r'0x[0-9a-f]+', text):
+        return int(text, 16)
+    if not re.fullmatch(r'-?\d+|1<<\d+', text):
+        fault(where, 'no number: %s' % text)
+    return 1 << int(text[3:]) if text.startswith('1<<') else int(re.sub(r'\D', '', text) or 0) * (-1 if text[0] == '-' else 1)
+
+def read_form(where, words):
+    """The form at the front of the words, and the words behind it."""
+    word, rest = (words + [''])[0], words[1:]
+    plural = re.fullmatch(r'(.*)\[(\d*)\]', rest[0] if word == 'struct' and rest else word)
+    if plural:
+        inner, rest = read_form(where, ['struct', plural[1]] + rest[1:] if word == 'struct' else [plural[1]] + rest)
+        return Form('times' if plural[2] else 'array', int(plural[2] or 0), inner), rest
+    if word in NUMBERS:
+        named = rest[:1] in (['enum'], ['bits']) and len(rest) > 1
+        return (Form(rest[0], rest[1], Form('number', word)), rest[2:]) if named else (Form('number', word), rest)
+    if word in LEAVES or word == 'kind':
+        return Form('kind' if word == 'kind' else 'leaf', word), rest
+    if word in ('bytes', 'pad') and rest:
+        return Form(word, number(where, rest[0])), rest[1:]
+    if word in NAMED and rest:
+        layered = word in ('list', 'nested') and rest[1:2] == ['in'] and len(rest) > 2
+        return Form(word, rest[0], None, rest[2] if layered else ''), rest[3 if layered else 1:]
+    if word == 'indexed':
+        inner, rest = read_form(where, rest)
+        return Form('indexed', None, inner), rest
+    if word not in aliases:
+        fault(where, 'no such form: %s' % (word or 'none'))
+    return aliases.get(word, Form('leaf', 'hex')), rest if word in aliases else []
+
+def shown_of(words):
+    """How a line is shown to people, and the words before."""
+    shown = {}
+    while len(words) > 1 and words[-2] in SHOWN:
+        shown[words[-2]], words = words[-1], words[:-2]
+    return words, shown
+
+def form_and_unit(where, words, units=UNITS):
+    form, rest = read_form(where, words)
+    if ' '.join(rest) not in [''] + units:
+        fault(where, '%s: %s' % ('no such unit' if units else 'not understood', ' '.join(rest)))
+    return form, ' '.join(rest)
+
+def only_form(where, words):
+    return form_and_unit(where, words, [])[0]
+
+def read_line(block, where, words):
+    if block.sort in KINDS and words[0] == 'options':
+        return Line(where, 'options', only_form(where, words[1:]))
+    if block.sort in KINDS and words[0] == 'statistics' and len(words) > 2:
+        return Line(where, 'statistics', only_form(where, words[2:]), kernel=words[1])
+    if block.sort == 'struct' and len(words) > 1:
+        form, unit = form_and_unit(where, shown_of(words[1:])[0])
+        return Line(where, words[0], form, unit=unit, people=shown_of(words[1:])[1])
+    if block.sort in ('enum', 'bits', 'names') and len(words) == 3:
+        return Line(where, words[2], None, number(where, words[0]), words[1])
+    if block.sort == 'list' and len(words) > 3 and words[3] in ('options', 'statistics') and 'else' in words[5:-2]:
+        end, at = words.index('else'), (number(where, words[0]), words[1])
+        other = Line(where, words[end + 1], only_form(where, words[end + 2:]), *at)
+        return Line(where, words[2], Form('by kind', (words[3], words[5:end])), *at, other=other)
+    if block.sort == 'list' and len(words) > 3:
+        form, unit = form_and_unit(where, shown_of(words[3:])[0])
+        return Line(where, words[2], form, number(where, words[0]), words[1], unit, people=shown_of(words[3:])[1])
+    if block.sort == 'choice' and len(words) > 1:
+        more = re.fullmatch(r'(?:starts ((?:[0-9a-f]{2})+) )?(?:length (\d+) )?(.*)', ' '.join(words[1:]))
+        return Line(where, words[0], only_form(where, more[3].split()), prefix=bytes.fromhex(more[1] or ''), length=more[2])
+    return fault(where, 'not understood: %s' % ' '.join(words))
+
+def read(path):
+    block = None
+    for at, text in enumerate(open(os.path.join(HERE, path), encoding='utf-8'), 1):
+        where, words = (path, at), text.split('#')[0].split()
+        if not words:
+            continue
+        if text[0].isspace() and block:
+            line = read_line(block, where, words)
+            block.lines += [line] if line else []
+        elif words[0] == 'form' and len(words) > 2:
+            aliases[words[1]] = only_form(where, words[2:])
+        elif words[0] == 'message' and len(words) > 2:
+            messages.append((words[1], text.partition('#')[2].strip(), only_form(where, words[2:])))
+        elif words[0] in KINDS and len(words) > 1:
+            block = Block(where, words[0], words[1:])
+            kinds.append(block)
+        elif words[0] in ('struct', 'list', 'enum', 'bits', 'names', 'choice') and len(words) == 2:
+            block = Block(where, words[0], words[1:])
+            if blocks.setdefault((block.sort, block.name), block) is not block:
+                fault(where, 'a second %s %s' % (block.sort, block.name))
+        else:
+            fault(where, 'not understood: %s' % text.strip())
+
+def named(form):
+    """The block that a form names."""
+    return blocks.get((NAMED[form.what][0], form.of)) if form.what in NAMED else None
+
+def width(form, seen=()):
+    """How many bytes a form takes, where that is fixed."""
+    if form.what in ('number', 'enum', 'bits'):
+        return NUMBERS[(form.inner or form).of][1]
+    if form.what in ('leaf', 'bytes', 'pad'):
+        return LEAVES[form.of][1] if form.what == 'leaf' else form.of
+    within = [width(form.inner, seen)] * form.of if form.what == 'times' else [None]
+    if form.what == 'struct' and named(form) and form.of not in seen:
+        within = [width(x.form, seen + (form.of,)) for x in named(form).lines]
+    return None if None in within else sum(within)
+
+def twice(what, lines, values):
+    for i, value in enumerate(values):
+        if value in values[:i]:
+            fault(lines[i].where, 'a second %s %s: that of %s:%d' % ((what, value) + lines[values.index(value)].where))
+
+def check_use(where, form):
+    """That what a form names is there, and that the numbers of an enum have room."""
+    for f in form:
+        block = named(f)
+        if f.what in NAMED and not block:
+            fault(where, 'no such %s: %s' % (NAMED[f.what][0], f.of))
+        elif block and f.inner:
+            bits, lowest = 8 * NUMBERS[f.inner.of][1], min(x.number for x in block.lines)
+            if max(x.number for x in block.lines) >> bits or lowest < -(1 << bits - 1) or lowest < 0 and block.layers and block.bits != bits:
+                fault(where, '%s %s has a number that %s has no room for' % (block.sort, f.of, f.inner.of))
+            block.bits = bits
+        if block and f.layer not in block.layers:
+            block.layers.append(f.layer)
+
+def check_people(block, x):
+    """That what a line is shown with is there: names, and the line before it whose mask or end it is."""
+    people = getattr(x, 'people', {})
+    names = blocks.get(('names', people.get('names')))
+    if 'names' in people and not names:
+        fault(x.where, 'no such names: %s' % people['names'])
+    elif names:
+        names.layers.append('')
+    for what in ('mask', 'end'):
+        if what in people and people[what] not in [y.name for y in block.lines if y is not x]:
+            fault(x.where, 'no such line: %s' % people[what])
+
+def check(block):
+    for x in block.lines:
+        for y in ([x] if x.form else []) + ([x.other] if hasattr(x, 'other') else []):
+            check_use(y.where, y.form)
+        if x.name in RESERVED.get(block.sort, []) and x.form.what != 'kind':
+            fault(x.where, 'the name %s is reserved' % x.name)
+        if block.sort == 'struct' and x is not block.lines[-1] and width(x.form, (block.name,)) is None:
+            fault(x.where, 'a field without a fixed width that is not the last')
+        if block.sort == 'list' and not 0 < x.number < 0x4000:
+            fault(x.where, 'an attribute has no type %d' % x.number)
+        check_people(block, x)
+    for what in ['name'] + (['number', 'kernel'] if block.sort in ('list', 'enum', 'bits', 'names') else []):
+        twice('name' if what == 'kernel' else what, block.lines, [getattr(x, what) for x in block.lines])
+
+def check_all():
+    for block in list(blocks.values()) + kinds:
+        check(block)
+    for name, form in [(m[0], m[2]) for m in messages] + list(aliases.items()):
+        check_use((name, 0), form)
+    for of in (['qdisc', 'filter'], ['action']):
+        names = [(k, name) for k in kinds if k.sort in of for name in k.words]
+        twice('kind', [k for k, _ in names], [name for _, name in names])
+    for block in blocks.values():
+        if not block.layers:
+            fault(block.where, 'nothing uses %s %s' % (block.sort, block.name))
+
+def read_all():
+    paths = sorted(os.path.relpath(os.path.join(folder, name), HERE) for folder, _, names in os.walk(HERE) for name in names)
+    for path in [p for p in paths if p not in ('generate', 'notation.py', 'prove', 'columns', 'README.md')]:
+        read(path)
+    if not faults:
+        check_all()
