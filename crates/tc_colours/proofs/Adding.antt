@@ -37,3 +37,12 @@ adds_between o m n p text h k l = subst (λ x. Adds o p x) (append-nil text) (ad
 -- the two parts of a text
 pub adds_parts : (o m n text : List ℕ) (at : ℕ) → Adds o m (take at text) → Adds m n (drop at text) → Adds o n text
 adds_parts o m n text at h k = subst (λ x. Adds o n x) (take-append-drop at text) (adds_then o m n (take at text) (drop at text) h k)
+
+-- a line more
+pub adds_line : (o m n lines front rest line others : List ℕ) (at : ℕ) → lines ≡ front ++ rest → Adds o m front → line ≡ take at rest → others ≡ drop at rest
+    → Adds m n line → (f : List ℕ) × (lines ≡ f ++ others) × Adds o n f
+adds_line o m n lines front rest line others at e h l r k = (
+  front ++ line,
+  e ∙ ap (λ x. front ++ x) (sym (take-append-drop at rest) ∙ ap (λ x. x ++ drop at rest) (sym l) ∙ ap (λ x. line ++ x) (sym r)) ∙ sym (append_assoc front line others),
+  adds_then o m n front line h k,
+)
