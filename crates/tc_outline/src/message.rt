@@ -55,10 +55,12 @@ pub fn outline<A: Allocator>(
     columns: KindColumns<'_>,
 ) -> Result<Option<Fault>, AllocError>
     // Where the page has lines, they are those of what is shown of the bytes, and the fault's.
-    ensures text { has_lines page.old ≡ true → IfOk result (λ found. (line : List ℕ) × (text_on page.new ≡ (text_on page.old ++ shown_lines (given_by columns) (form_of columns.root) bytes.now) ++ line)
+    ensures text { has_lines page.old ≡ true → IfOk result (λ found. (line : List ℕ)
+        × (text_on page.new
+        ≡ (text_on page.old ++ shown_lines (given_by columns.entry) (form_of columns.entry.root) bytes.now) ++ line)
         × (found ≡ None → line ≡ [])) }
     ensures error { IfOk result (λ found. option_map (λ fault. fault.error) found
-        ≡ message_fault (items_of_message (what_of columns.root) bytes.now)) }
+        ≡ message_fault (items_of_message (what_of columns.entry.root) bytes.now)) }
     ensures place { IfOk result (λ found. IfSome found (λ fault. fault.offset ≤ length bytes.now)) }
 {
     match lines_of(alloc, TcTables, form_of(columns.root), columns, bytes) {

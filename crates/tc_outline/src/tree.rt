@@ -38,10 +38,10 @@ pub(crate) fn row_in(list: Form, kind: &[u8], number: u16) -> Option<(&'static s
             match TcTables.part(place) {
                 Part::Rows(layer, rows) => Some((layer, row_of(rows, number)?)),
                 Part::Kinds(common, others, kinds) => {
-                    let own = rows_at(rows_of_kind(kind, others, kinds));
+                    let own = rows_at(TcTables, rows_of_kind(kind, others, kinds));
                     match row_of(own, number) {
                         Some(row) => Some(("", row)),
-                        None => Some(("", row_of(rows_at(common), number)?)),
+                        None => Some(("", row_of(rows_at(TcTables, common), number)?)),
                     }
                 }
                 _ => None,
@@ -60,8 +60,8 @@ fn rows_of_kind(kind: &[u8], others: usize, kinds: &[KindRows<'_>]) -> usize {
     others
 }
 
-fn rows_at(place: usize) -> &'static [Row<'static>] {
-    if let Part::Rows(_, rows) = TcTables.part(place) {
+fn rows_at<T: Tables>(table: T, place: usize) -> &'static [Row<'static>] {
+    if let Part::Rows(_, rows) = table.part(place) {
         return rows;
     }
     &[]
