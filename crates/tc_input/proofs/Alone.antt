@@ -12,7 +12,7 @@ alone : (before after : List ℕ) (o : Option (List ℕ)) (is : Bool) → before
 alone before after o is none h = sym h ∙ ap (λ l. behind l o) none ∙ behind-nil o
 
 pub hex_alone : (before after : List ℕ) (o : Option (List ℕ)) (is : Bool) → before ≡ [] → behind before o ≡ if_hex is after → is ≡ true → Some after ≡ o
-hex_alone before after o is none h yes = ap (λ t. if_hex t after) (sym yes) ∙ alone before after o is none h
+hex_alone before after o is none h it = ap (λ t. if_hex t after) (sym it) ∙ alone before after o is none h
 
 pub no_hex_alone : (before after : List ℕ) (o : Option (List ℕ)) (is : Bool) → before ≡ [] → behind before o ≡ if_hex is after → is ≡ false → None ≡ o
-no_hex_alone before after o is none h no = ap (λ t. if_hex t after) (sym no) ∙ alone before after o is none h
+no_hex_alone before after o is none h it = ap (λ t. if_hex t after) (sym it) ∙ alone before after o is none h

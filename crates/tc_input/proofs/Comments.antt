@@ -1,6 +1,6 @@
 -- What comes before the number sign that begins a comment.
 use Rattle.std.proofs.Common.{◌≡◌, ◌≢◌, ◌∙◌, ℕ, suc, ◌+◌, ◌<◌, ◌≤◌, List, [], ◌∷◌, ◌++◌, length, take, drop, Bool, cond, not}
-use Rattle.std.proofs.Common.{refl, sym, ap, append-nil, take-append-drop, drop-cons, arith}
+use Rattle.std.proofs.Common.{refl, sym, ap, append-nil, take-append-drop, drop-cons}
 use Rattle.std.specs.Prelude.{All, slice_index}
 use Rattle.std.specs.List.{take_while}
 use Rattle.std.proofs.lemmas.Bool.{ne_eqb}

@@ -1,12 +1,12 @@
 -- The lines of a text: the first of them, and then the others.
 use Rattle.std.proofs.Common.{◌≡◌, ◌≢◌, ◌∙◌, ℕ, suc, ◌+◌, ◌<◌, ◌≤◌, List, [], ◌∷◌, ◌++◌, length, take, drop, Some, None, Bool, true, false}
 use Rattle.std.proofs.Common.{refl, sym, ap, subst, append_assoc, append-nil, take-append-drop, drop-cons, add_assoc, add-one, arith}
-use Rattle.std.specs.Prelude.{Option, All, slice_index, ◌==◌, if◌then◌else◌}
+use Rattle.std.specs.Prelude.{Option, slice_index, if◌then◌else◌}
 use Rattle.std.proofs.lemmas.Bool.{ne_eqb}
 use Rattle.std.proofs.lemmas.List.{length-append, length-drop, length-take-le, drop-drop}
 use Rattle.std.proofs.Math.Seq.{take-append-add}
 use Rattle.std.proofs.lemmas.List.Elements.{All-append, All-head, All-tail, All-same, All-more}
-use Rattle.std.proofs.KnownBytes.{Consumes-nil, Consumes-trans, Consumes-kept}
+use Rattle.std.proofs.KnownBytes.{Consumes-trans, Consumes-kept}
 use Rattle.std.specs.Io.KnownBytes.{Keeps, Consumes, IsAtEnd, prepend_known}
 use Rattle.tc_input.specs.Left.{Gives, ReadsMore}
 use Rattle.tc_input.specs.Lines.{on_first, lines_of, lines_left, most_line, HasNoFeed, EndsLine, PassesLine, IsLineGap}

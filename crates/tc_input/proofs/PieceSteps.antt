@@ -8,7 +8,7 @@ use Rattle.std.proofs.Math.Seq.{take-length}
 use Rattle.std.proofs.lemmas.Bool.{eqb-true, eqb-false, ltb-true, ltb-false, leb-true, lt-ltb, le-leb, le-ltb, false_from_ne_true}
 use Rattle.std.proofs.lemmas.List.{length-append, length-drop, length-take, take_min, take-append-le, drop-append-le, drop_at, nil_from_length}
 use Rattle.std.proofs.KnownBytes.{Keeps-trans}
-use Rattle.std.specs.Io.KnownBytes.{Keeps, IsAtEnd, prepend_known}
+use Rattle.std.specs.Io.KnownBytes.{Keeps, prepend_known}
 use Rattle.tc_capture.specs.declared.error.CaptureError.{CaptureError}
 use Rattle.tc_capture.specs.declared.error.CaptureError.TheVariants.{Short, MessageTooShort, NotPcap, NoByteOrder, BlockLength, BlockEnd, BodyTooShort}
 use Rattle.tc_capture.specs.declared.error.CaptureError.TheVariants.{NoInterface, TooManyInterfaces}
@@ -21,7 +21,7 @@ use Rattle.tc_capture.specs.PcapNg.{next_block, next_in_section}
 use Rattle.tc_capture.specs.declared.piece.Piece.{Piece as CodePiece}
 use Rattle.tc_capture.specs.Front.{Front, front_of}
 use Rattle.tc_capture.specs.Capture.{State, in_stream, before_header, in_pcap, in_section, next_piece}
-use Rattle.tc_capture_laws.specs.Fronts.{IsFront, IsShort, WantsMore}
+use Rattle.tc_capture_laws.specs.Fronts.{IsShort, WantsMore}
 use Rattle.tc_capture_laws.specs.Pieces.{What, Piece, read, skipped, rest, passed, left_over, unread, piece_and_more, pieces_up_to, pieces_in}
 use Rattle.tc_capture_laws.proofs.FrontPieces.{front-is}
 use Rattle.tc_capture_laws.proofs.MoreBytes.{next_piece-stays}

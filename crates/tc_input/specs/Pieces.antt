@@ -1,5 +1,5 @@
 -- The pieces of what is left of a capture.
-use Rattle.std.specs.Prelude.{◌⊎◌, ◌≤◌, ℕ, length, List, [], ◌∷◌, map, Option, Some, None, option_map}
+use Rattle.std.specs.Prelude.{◌⊎◌, ◌≤◌, ℕ, length, List, [], ◌∷◌, map, Option, Some, option_map}
 use Rattle.std.specs.Io.KnownBytes.{Keeps, IsAtEnd}
 use Rattle.tc_capture.specs.Capture.{State}
 use Rattle.tc_capture.specs.declared.error.CaptureError.{CaptureError}

@@ -1,8 +1,9 @@
 //! Dumps in the order in which their requests work.
 
+ghost use Rattle.std.specs.List.{list_any};
 ghost use Rattle.std.specs.Prelude.{◌≡◌, ◌++◌, List, [], true, false, All, map, IfOk, IsPermutation};
 ghost use Rattle.tc_order.specs.Order.{waits, IsOrder};
-ghost use Rattle.tc_plan.specs.Fates.{parts_of, parts_among, needs_of, gifts, same_key, is_refused, IsSetOf, among, any_among, lacks, again, fate_by, gives_by};
+ghost use Rattle.tc_plan.specs.Fates.{parts_of, parts_among, needs_of, gifts, same_key, is_refused, IsSetOf, among, any_among, lacks, again, fate_by, gives_by, is_shared};
 
 use crate::entry::{Entry, Item};
 use crate::fate::{Fate, Reason};
@@ -223,10 +224,20 @@ fn is_again<A: Allocator>(before: &Keys<Key, A>, own: &[Key]) -> bool
 fn again(own: &[Key]) -> Fate
     ensures { result ≡ again own.now }
 {
-    if own.iter().any(|key| key.is_shared()) {
+    if any_shared(own) {
         Fate::Made
     } else {
         Fate::Refused(Reason::Twice)
+    }
+}
+
+// True if one of these is in a block that interfaces share.
+fn any_shared(own: &[Key]) -> bool
+    ensures { result ≡ list_any is_shared own.now }
+{
+    match own.split_first() {
+        Some((first, others)) => first.is_shared() || any_shared(others),
+        None => false,
     }
 }
 

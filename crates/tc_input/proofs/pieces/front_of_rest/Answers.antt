@@ -1,4 +1,3 @@
-use Rattle.std.proofs.Common.{arith}
 use Rattle.tc_input.proofs.Left.{all_taken}
 use Rattle.tc_input.proofs.pieces.front_of_rest.Goals as goal
 

@@ -1,4 +1,4 @@
-use Rattle.std.proofs.Common.{◌∙◌, ap, arith, length, sym, subst}
+use Rattle.std.proofs.Common.{◌∙◌, arith, sym, subst}
 use Rattle.tc_capture.specs.Capture.{state_of}
 use Rattle.tc_input.specs.Left.{rest_of, PassesOver}
 use Rattle.tc_input.proofs.PieceSteps.{gap_end, gap_cut, gap_passed, gap_lost, empty_is, not_empty}

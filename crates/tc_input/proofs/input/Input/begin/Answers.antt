@@ -1,4 +1,4 @@
-use Rattle.std.proofs.Common.{◌∙◌, ap, arith, length}
+use Rattle.std.proofs.Common.{ap, arith, length}
 use Rattle.std.proofs.lemmas.List.{length-append}
 use Rattle.tc_input.specs.Left.{rest_of}
 use Rattle.tc_input.proofs.Left.{kept_then, read_keeps, begun, first_all, first_four}

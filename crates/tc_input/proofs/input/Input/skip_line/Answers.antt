@@ -1,6 +1,5 @@
-use Rattle.std.proofs.Common.{◌∙◌, ap, drop, refl, sym, subst}
+use Rattle.std.proofs.Common.{◌∙◌, ap, drop, refl}
 use Rattle.tc_input.specs.Left.{rest_of}
-use Rattle.tc_input.specs.Lines.{HasNoFeed}
 use Rattle.tc_input.proofs.Left.{read_keeps}
 use Rattle.tc_input.proofs.LineSteps.{line_begun, line_more, line_kept, line_ended, line_fed}
 use Rattle.tc_input.proofs.input.Input.skip_line.Goals as goal
