@@ -109,6 +109,14 @@ static ROOT_CLASS: [(Object, &str); 3] = [
     (Object::Qdisc, "000000000300000000000100ffffffff00000000"),
 ];
 
+// A class and its qdisc: one step is left where the other is made.
+static ONE_LEFT: [(Object, &str); 2] = [
+    // 1:1 under 1:
+    (Object::Class, "0000000003000000010001000000010000000000"),
+    // 1: at the root
+    (Object::Qdisc, "000000000300000000000100ffffffff00000000"),
+];
+
 // Dumps of actions, and a filter that may share any of them; a dump without an object is one of actions.
 static ACTIONS: [(Option<Object>, &str); 6] = [
     // ffff:fff2
@@ -187,6 +195,15 @@ fn parents_before_children(rt: HostRuntime) -> Result<(), Fail> {
     let alloc = rt.alloc();
     let made = planned(alloc, &TREE)?;
     assert!(rt; places(alloc, &made.order)?.as_str() == "7 8 2 5 0 4 1 3 6 ");
+    assert!(rt; made.left.is_empty());
+    Ok(())
+}
+
+#[test]
+fn one_that_is_left_comes_last(rt: HostRuntime) -> Result<(), Fail> {
+    let alloc = rt.alloc();
+    let made = planned(alloc, &ONE_LEFT)?;
+    assert!(rt; places(alloc, &made.order)?.as_str() == "1 0 ");
     assert!(rt; made.left.is_empty());
     Ok(())
 }
