@@ -59,7 +59,8 @@ impl<'a, A: Allocator + Copy> Shower<'a, A> {
             × Grows text bad (state_of self.old) (state_of self.new)) }
     {
         begin_message(&mut self.page, found)?;
-        let names = self.links.with(self.asked.names.names)?;
+        let given = self.asked.names;
+        let names = self.links.with(given.names)?;
         let columns = columns_of(self.asked, names.as_slice(), found);
         let fault = outline(self.json, &mut self.page, found.payload, columns)?;
         drop(names);

@@ -144,7 +144,8 @@ impl<'a, A: Allocator + Copy> Shower<'a, A> {
         let mut request = Page::new(self.alloc, layout_of(self.asked.form));
         show_netlink(&mut request, &reply.request)?;
         if !reply.answer.is_capped {
-            let names = self.links.with(self.asked.names.names)?;
+            let given = self.asked.names;
+            let names = self.links.with(given.names)?;
             let columns = columns_of(self.asked, names.as_slice(), &reply.request);
             let _ = outline(self.json, &mut request, reply.request.payload, columns)?;
         }

@@ -175,8 +175,8 @@ impl<'a, A: Allocator + Copy> Shower<'a, A> {
         at: u64,
     ) -> Result<(), AllocError>
         ensures form { self.new.output.is_json ≡ self.old.output.is_json }
-        ensures dump { OnOk result (dump.new.items ≡ dump_by_place dump.old.items (seen_place place.entry)) }
-        ensures put { OnOk result (Puts (things_by_place (state_of self.old).header dump.old.items line.now (seen_place place.entry))
+        ensures dump { OnOk result (dump.new.items ≡ dump_by_place dump.old.items (seen_place place)) }
+        ensures put { OnOk result (Puts (things_by_place (state_of self.old).header dump.old.items line.now (seen_place place))
             (state_of self.old) (state_of self.new)) }
     {
         match place {
@@ -197,7 +197,7 @@ impl<'a, A: Allocator + Copy> Shower<'a, A> {
         at: u64,
     ) -> Result<(), AllocError>
         ensures form { self.new.output.is_json ≡ self.old.output.is_json }
-        ensures dump { OnOk result (dump.new.items ≡ bytes.entry.items) }
+        ensures dump { OnOk result (dump.new.items ≡ bytes.items) }
         ensures put { OnOk result (Puts (things_dumped (state_of self.old).header dump.old.items) (state_of self.old) (state_of self.new)) }
     {
         self.put_dump(dump.as_slice(), at)?;

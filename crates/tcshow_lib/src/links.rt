@@ -40,7 +40,7 @@ impl Links {
     /// The names that were given, and behind them those that were told.
     pub(crate) fn with<'a>(
         &'a self,
-        given: &[(u32, &'a str)],
+        given: &'a [(u32, &'a str)],
     ) -> Result<Vec<(u32, &'a str)>, AllocError> {
         let mut all = Vec::new(self.alloc);
         for name in given {
