@@ -72,8 +72,11 @@ fn lines_of_messages(rt: HostRuntime) -> Result<(), Fail> {
 #[test]
 fn on_one_line(rt: HostRuntime) -> Result<(), Fail> {
     let alloc = rt.alloc();
-    let mut columns = columns_of(TWO_ACTIONS.root);
-    columns.interfaces = &[(3, "eth0"), (6, "wan \x1b[2J")];
+    let columns = KindColumns {
+        root: TWO_ACTIONS.root,
+        interfaces: &[(3, "eth0"), (6, "wan \x1b[2J")],
+        all: false,
+    };
     let (text, _) = text_of(alloc, Layout::OneLine, columns, TWO_ACTIONS.hex)?;
     assert_eq!(rt; text.as_str(), ONE_LINE);
     Ok(())

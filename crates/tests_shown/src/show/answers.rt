@@ -1,7 +1,8 @@
 //! Answers of the kernel to requests.
 
-use crate::show::runs::{all_in, shown};
+use crate::show::runs::{all_in, chosen_in, shown};
 use std::test::Fail;
+use tc_chosen::Chosen;
 use tcshow_lib::asked::Form;
 
 // pcap, a packet for each: EINVAL of a request, with a text and a place, from the port 77, of packet type 7; the same, capped; an
@@ -63,6 +64,22 @@ static JSON: &str =
 {"time":"1700000000.123456000","packet":6,"type":"NLMSG_ERROR","flags":0,"seq":9,"errno":"777","request":{"type":"RTM_NEWQDISC","flags":1536,"seq":9,"message":{"raw":"00000000"}}}
 "#;
 
+// Refused messages of a kind and an interface.
+fn refused_flower() -> Chosen<'static> {
+    Chosen {
+        kinds: &["flower"],
+        types: &[],
+        interfaces: &[3],
+        handles: &[],
+        parents: &[],
+        chains: &[],
+        priorities: &[],
+        since: None,
+        until: None,
+        refused: true,
+    }
+}
+
 #[test]
 fn answers(rt: HostRuntime) -> Result<(), Fail> {
     let alloc = rt.alloc();
@@ -73,10 +90,7 @@ fn answers(rt: HostRuntime) -> Result<(), Fail> {
     assert!(rt; run.status == 0 && run.written.as_slice() == LINES.as_bytes());
     let run = shown(alloc, &all_in(Form::Json), &capture);
     assert!(rt; run.status == 0 && run.written.as_slice() == JSON.as_bytes());
-    let mut asked = all_in(Form::OneLine);
-    asked.chosen.kinds = &["flower"];
-    asked.chosen.interfaces = &[3];
-    asked.chosen.refused = true;
+    let asked = chosen_in(Form::OneLine, refused_flower());
     let run = shown(alloc, &asked, &capture);
     assert!(rt; run.status == 0 && run.written.as_slice() == ONE_LINE.as_bytes());
     Ok(())

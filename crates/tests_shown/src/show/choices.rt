@@ -191,11 +191,11 @@ fn names(rt: HostRuntime) -> Result<(), Fail> {
         "# names\n\n7 eth7 # of the test\n5: veth0@if6: <BROADCAST,MULTICAST> mtu 1500 qdisc noop state DOWN\n";
     let names = names_in(alloc, text)?;
     assert!(rt;
-        matches!(names, Ok(names) if names.as_slice() == [(7, "eth7"), (5, "veth0")].as_slice())
+        matches!(&names, Ok(names) if names.as_slice() == [(7, "eth7"), (5, "veth0")].as_slice())
     );
     for (text, line) in [("eth7", 1), ("7 eth7\n\n8\n", 3), ("5: :", 1)] {
         let names = names_in(alloc, text)?;
-        assert!(rt; matches!(names, Err(at) if at == line), "{text}");
+        assert!(rt; matches!(&names, Err(at) if *at == line), "{text}");
     }
     Ok(())
 }

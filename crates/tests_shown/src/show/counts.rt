@@ -1,9 +1,9 @@
 //! Counts at the end of a run.
 
-use crate::show::runs::{all_in, shown};
+use crate::show::runs::{chosen_in, shown};
 use std::alloc::Global;
 use std::test::Fail;
-use tc_chosen::Types;
+use tc_chosen::{Chosen, Types};
 use tcshow_lib::asked::{Asked, Form};
 
 // Parts of a pcapng, and how often they are in it: a section with interfaces of the link types 253 and 1; then packets, with a qdisc;
@@ -55,11 +55,12 @@ fn capture(alloc: Global) -> Result<Vec<u8>, Fail> {
 
 // All qdiscs that are made, and counts.
 fn asked_in(form: Form) -> Asked<'static> {
-    let mut asked = all_in(form);
-    asked.chosen.types = &[Types {
+    let mut chosen = Chosen::ALL;
+    chosen.types = &[Types {
         first: 36,
         last: 36,
     }];
+    let mut asked = chosen_in(form, chosen);
     asked.has_summary = true;
     asked
 }

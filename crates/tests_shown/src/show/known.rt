@@ -1,6 +1,6 @@
 //! Known messages and what is shown of them.
 
-use crate::show::runs::{all_in, shown};
+use crate::show::runs::{all_in, chosen_in, shown};
 use std::test::Fail;
 use tc_chosen::{Chosen, Types};
 use tc_outline::Interfaces;
@@ -55,6 +55,34 @@ static JSON: &str =
 {"type":"RTM_NEWQDISC","flags":1536,"seq":5,"refused":"WrongLength","expected":4,"got":3,"offset":44,"path":"/attributes/1/Options/0/FqCodel/Limit","message":{"header":{"family":"Unspec","index":2,"handle":"1:","parent":"root","info":0},"attributes":[{"Kind":"fq_codel"},{"Options":[{"FqCodel":{"Limit":{"raw":"002800"}}}]}]}}
 "#;
 
+// Messages of kinds, of types, and of interfaces.
+fn of_kinds(kinds: &'static [&'static str]) -> Chosen<'static> {
+    Chosen {
+        kinds,
+        types: &[],
+        interfaces: &[],
+        handles: &[],
+        parents: &[],
+        chains: &[],
+        priorities: &[],
+        since: None,
+        until: None,
+        refused: false,
+    }
+}
+
+fn of_types(types: &'static [Types]) -> Chosen<'static> {
+    let mut chosen = Chosen::ALL;
+    chosen.types = types;
+    chosen
+}
+
+fn of_interfaces(interfaces: &'static [u32]) -> Chosen<'static> {
+    let mut chosen = Chosen::ALL;
+    chosen.interfaces = interfaces;
+    chosen
+}
+
 #[test]
 fn known_messages(rt: HostRuntime) -> Result<(), Fail> {
     let alloc = rt.alloc();
@@ -66,22 +94,20 @@ fn known_messages(rt: HostRuntime) -> Result<(), Fail> {
     let run = shown(alloc, &asked, TEXT.as_bytes());
     assert!(rt; run.status == 1);
     assert!(rt; run.written.as_slice() == LINES.as_bytes());
-    let mut asked = all_in(Form::OneLine);
-    asked.chosen.kinds = &["mirred"];
+    let asked = chosen_in(Form::OneLine, of_kinds(&["mirred"]));
     let run = shown(alloc, &asked, TEXT.as_bytes());
     assert!(rt; run.status == 0 && run.written.as_slice() == ONE_LINE.as_bytes());
-    asked.chosen = Chosen::ALL;
-    asked.chosen.types = &[Types {
+    let types = &[Types {
         first: 48,
         last: 48,
     }];
+    let asked = chosen_in(Form::OneLine, of_types(types));
     let run = shown(alloc, &asked, TEXT.as_bytes());
     assert!(rt; run.status == 0 && run.written.as_slice() == ONE_LINE.as_bytes());
-    let mut asked = all_in(Form::Json);
-    asked.chosen.interfaces = &[2];
+    let asked = chosen_in(Form::Json, of_interfaces(&[2]));
     let run = shown(alloc, &asked, TEXT.as_bytes());
     assert!(rt; run.status == 1 && run.written.as_slice() == JSON.as_bytes());
-    asked.chosen.interfaces = &[3];
+    let asked = chosen_in(Form::Json, of_interfaces(&[3]));
     let run = shown(alloc, &asked, TEXT.as_bytes());
     assert!(rt; run.status == 0 && run.written.is_empty());
     Ok(())
