@@ -98,8 +98,12 @@ fn with_paddings(rt: HostRuntime) -> Result<(), Fail> {
     let (text, _) = text_of(alloc, Layout::Lines, columns, FQ_CODEL.hex)?;
     columns.all = true;
     let (all, _) = text_of(alloc, Layout::Lines, columns, FQ_CODEL.hex)?;
-    let more = all.as_str().lines().count() - text.as_str().lines().count();
-    assert_eq!(rt; more, PADDINGS);
+    let more = all
+        .as_str()
+        .lines()
+        .count()
+        .checked_sub(text.as_str().lines().count());
+    assert!(rt; more == Some(PADDINGS));
     Ok(())
 }
 
