@@ -48,7 +48,9 @@ frame-takes bytes f after found =
     let l = length_at bytes in
     let value : length (drop 4 (take l bytes)) ≡ length f.value = ap (λ (x : Frame). length x.value) next.frame in
     let rest : length (drop (padding l) (drop l bytes)) ≡ length after = ap length next.rest in
-    omega (arith, next.whole, next.long, value, rest, length-drop 4 (take l bytes), length-take-le l bytes next.whole, length-drop (padding l) (drop l bytes), length-drop l bytes)
+    let front = length-take-le l bytes next.whole in
+    let behind = length-drop (padding l) (drop l bytes) in
+    omega (arith, next.whole, next.long, value, rest, front, behind, length-drop 4 (take l bytes), length-drop l bytes)
 
 -- a list of frames
 abbrev Fewer : Gives → Sets Frame → List ℕ → Type 0
@@ -67,8 +69,9 @@ each-count gives sets few = by_frames (Fewer gives sets) none broken more
     more : (bytes : List ℕ) (f : Frame) (after : List ℕ) → next_frame bytes ≡ Ok (f, after) → Fewer gives sets after → Fewer gives sets bytes
     more bytes f after is later k at =
         let rest = each gives sets (kind_then sets k f) (at + frame_length f) (items_of (cut after)) in
+        let taken = frame-takes bytes f after is in
         rw (items-next_frame bytes (f, after) is)
-        (omega (arith, count-append (gives k (at + 4) f) rest, few k (at + 4) f, later (kind_then sets k f) (at + frame_length f), frame-takes bytes f after is))
+        (omega (arith, count-append (gives k (at + 4) f) rest, few k (at + 4) f, later (kind_then sets k f) (at + frame_length f), taken))
 
 -- an attribute and those in it
 inner-count : (walk : Walk) → ((t : Table) (k : List ℕ) (depth at : ℕ) (bytes : List ℕ) → 4 * count (walk t k depth at bytes) ≤ length bytes)
@@ -90,7 +93,8 @@ list-count (suc n) t k depth at bytes =
 pub message-count : (header : ℕ) (t : Table) (sets : Sets Frame) (bytes : List ℕ) → length (nodes_of (message_items 4 header t sets bytes)) ≤ length bytes / 4
 message-count header t sets bytes =
     let body = each (with_inner (attributes_in 4) t 0) sets [] header (items_of (cut (drop header bytes))) in
-    let few = each-count (with_inner (attributes_in 4) t 0) sets (λ k at f. inner-count (attributes_in 4) (list-count 4) t 0 k at f) (drop header bytes) [] header in
+    let few = each-count (with_inner (attributes_in 4) t 0) sets (λ k at f. inner-count (attributes_in 4) (list-count 4) t 0 k at f)
+    (drop header bytes) [] header in
     omega (arith, nodes-count body, few, length-drop header bytes)
 
 pub tc-count : (bytes : List ℕ) → length (tc_nodes bytes) ≤ length bytes / 4

@@ -28,7 +28,8 @@ module _ {X : Type 0} where
           let left : length slots - n ≡ suc (length slots - suc n) = omega arith in
           let at : suc n + length xs ≡ n + suc (length xs) = omega arith in
           let back : drop (suc n + length xs) (set slots n x) ≡ drop (suc n + length xs) slots = drop-set-lt (suc n + length xs) slots n x (omega arith) in
-          later (omega (arith, same)) ∙ rw (front, same, back, left, at) (append_assoc (take n slots) (x ∷ []) (take (length slots - suc n) xs ++ drop (n + suc (length xs)) slots))
+          later (omega (arith, same))
+          ∙ rw (front, same, back, left, at) (append_assoc (take n slots) (x ∷ []) (take (length slots - suc n) xs ++ drop (n + suc (length xs)) slots))
       go later (inr past) =
           let none : length slots - n ≡ 0 = omega arith in
           rw (set_past slots n x past, none, drop_all (n + suc (length xs)) slots (omega arith)) (filled-past (suc n) xs slots (omega arith) ∙ whole)
@@ -70,5 +71,6 @@ some-seen (n ∷ slots) = ap (λ (xs : List (Option SeenNode)). Some (node_seen 
 pub fills_nodes : (nodes : List SeenNode) (old new : List Node) → FillsBy (λ (n : Node). Some (node_seen n)) nodes old new → Fills nodes old new
 fills_nodes nodes old new fills =
     one-some _ _ (sym (some-seen new) ∙ fills
-    ∙ rw (some-seen old) (ap₂ (λ (xs ys : List (Option SeenNode)). xs ++ ys) (take-map Some (length old) nodes) (drop-map Some (length nodes) (map node_seen old))
+    ∙ rw (some-seen old) (ap₂ (λ (xs ys : List (Option SeenNode)). xs ++ ys)
+    (take-map Some (length old) nodes) (drop-map Some (length nodes) (map node_seen old))
     ∙ sym (map-append Some (take (length old) nodes) (drop (length nodes) (map node_seen old)))))

@@ -31,7 +31,8 @@ all-to_fault P (Err broken ∷ xs) all = (all.0, tt)
 -- ---- bytes that stand at a place
 
 -- a part of them
-part : (whole bytes : List ℕ) (at from n : ℕ) → StandsAt whole at bytes → from + n ≤ length bytes → StandsAt whole (at + from) (drop from (take (from + n) bytes))
+part : (whole bytes : List ℕ) (at from n : ℕ) → StandsAt whole at bytes → from + n ≤ length bytes
+    → StandsAt whole (at + from) (drop from (take (from + n) bytes))
 part whole bytes at from n stands inside =
     let b = drop at whole in
     let same : take (from + n) bytes ≡ take (from + n) b = ap (take (from + n)) (sym stands) ∙ take-take (from + n) (length bytes) b inside in
@@ -63,7 +64,8 @@ module _ (bytes : List ℕ) (f : Frame) (after : List ℕ) (found : next_frame b
       rest =
           let next = next_frame-is bytes (f, after) found in
           let pads : padding (4 + length f.value) ≡ padding (length f.value) = omega arith in
-          let whole_frame : length_at bytes + padding (length_at bytes) ≡ frame_length f = ap (λ (n : ℕ). n + padding n) long ∙ ap (λ (n : ℕ). 4 + length f.value + n) pads in
+          let whole_frame : length_at bytes + padding (length_at bytes) ≡ frame_length f =
+          ap (λ (n : ℕ). n + padding n) long ∙ ap (λ (n : ℕ). 4 + length f.value + n) pads in
           sym next.rest ∙ drop-drop (padding (length_at bytes)) (length_at bytes) bytes ∙ ap (λ (n : ℕ). drop n bytes) whole_frame
 
       go : (length bytes < frame_length f) ⊎ (frame_length f ≤ length bytes) → StandsAt whole (at + frame_length f) after
@@ -93,7 +95,8 @@ module _ (whole : List ℕ) where
         broken : (bytes : List ℕ) (e : DecodeError) → 0 < length bytes → next_frame bytes ≡ Err e → Standing whole gives sets bytes
         broken bytes e some is k at stands = rw (cut_refused bytes e some is) (tt, tt)
 
-        more : (bytes : List ℕ) (f : Frame) (after : List ℕ) → next_frame bytes ≡ Ok (f, after) → Standing whole gives sets after → Standing whole gives sets bytes
+        more : (bytes : List ℕ) (f : Frame) (after : List ℕ) → next_frame bytes ≡ Ok (f, after)
+            → Standing whole gives sets after → Standing whole gives sets bytes
         more bytes f after is later k at stands =
             rw (items-next_frame bytes (f, after) is)
             (all-append (Stands whole) (gives k (at + 4) f) (each gives sets (kind_then sets k f) (at + frame_length f) (items_of (cut after)))
@@ -109,7 +112,8 @@ module _ (whole : List ℕ) where
       go None = tt
       go (Some list) = all list.0 list.1 (suc depth) at f.value stands
 
-  list-stands : (n : ℕ) (t : Table) (k : List ℕ) (depth at : ℕ) (bytes : List ℕ) → StandsAt whole at bytes → AllByRecursion (Stands whole) (attributes_in n t k depth at bytes)
+  list-stands : (n : ℕ) (t : Table) (k : List ℕ) (depth at : ℕ) (bytes : List ℕ) → StandsAt whole at bytes
+      → AllByRecursion (Stands whole) (attributes_in n t k depth at bytes)
   unfolding attributes_in
   list-stands zero t k depth at bytes stands = tt
   list-stands (suc n) t k depth at bytes stands =
@@ -120,4 +124,5 @@ pub message-stands : (header : ℕ) (t : Table) (sets : Sets Frame) (bytes : Lis
 message-stands header t sets bytes =
     let body : StandsAt bytes header (drop header bytes) = take_all (length (drop header bytes)) (drop header bytes) (omega arith) in
     all-to_fault (Stands bytes) _
-    (each-stands bytes (with_inner (attributes_in 4) t 0) sets (λ k at f. inner-stands bytes (attributes_in 4) (list-stands bytes 4) t 0 k at f) (drop header bytes) [] header body)
+    (each-stands bytes (with_inner (attributes_in 4) t 0) sets (λ k at f. inner-stands bytes (attributes_in 4) (list-stands bytes 4) t 0 k at f)
+    (drop header bytes) [] header body)

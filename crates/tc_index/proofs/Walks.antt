@@ -34,7 +34,8 @@ pub first-given : (gives : Gives) (sets : Sets Frame) (k : List ℕ) (at : ℕ) 
     → each gives sets k at (items_of (cut rest)) ≡ gives k (at + 4) f ++ each gives sets (kind_then sets k f) (at + n) (items_of (cut (drop n rest)))
 first-given gives sets k at rest f n takes =
     rw (items-next_frame rest (f, drop n rest) takes.next)
-    (ap (λ (items : List Item). gives k (at + 4) f ++ items) (place gives sets (kind_then sets k f) (at + frame_length f) (at + n) (drop n rest) (where_is takes.all)))
+    (ap (λ (items : List Item). gives k (at + 4) f ++ items)
+    (place gives sets (kind_then sets k f) (at + frame_length f) (at + n) (drop n rest) (where_is takes.all)))
   where
     where_is : (n ≡ frame_length f) ⊎ (drop n rest ≡ []) → (at + frame_length f ≡ at + n) ⊎ (drop n rest ≡ [])
     where_is (inl same) = inl (ap (λ (x : ℕ). at + x) (sym same))
@@ -91,7 +92,8 @@ pub enters : (before after : List Level) (d : ℕ) (level inner : Level) (items 
     → items ≡ left_in (d + 1) inner → left_in (d + 1) inner ++ levels_left 0 (take (d + 1) after) ≡ items ++ (left_in d level ++ levels_left 0 (take d before))
 enters before after d level inner items low four kept is =
     let counted : length (take d before) ≡ d = length-take-le d before (omega arith) in
-    let taken : take (d + 1) after ≡ take d before ++ level ∷ [] = ap (λ (ls : List Level). take (d + 1) ls) kept ∙ take_more_set before d level (omega arith) in
+    let taken : take (d + 1) after ≡ take d before ++ level ∷ [] =
+    ap (λ (ls : List Level). take (d + 1) ls) kept ∙ take_more_set before d level (omega arith) in
     let around : levels_left 0 (take (d + 1) after) ≡ left_in d level ++ levels_left 0 (take d before) =
     ap (levels_left 0) taken ∙ levels-more 0 (take d before) level ∙ rw (counted, zero-add) refl in
     ap₂ (λ (xs ys : List Item). xs ++ ys) (sym is) around

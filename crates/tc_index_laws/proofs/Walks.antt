@@ -55,9 +55,9 @@ module _ (gives : Gives) (sets : Sets Frame) (reads : Reads Attribute) (depth : 
   each-at (Ok f ∷ frames) k at xs here e =
       let first = then-ok (reads k f) (λ x. before (x ∷ []) (read_each reads sets (kind_then sets k f) frames)) xs e in
       let rest = before-ok first.0 (read_each reads sets (kind_then sets k f) frames) xs first.2 in
-      subst (λ (ys : List Attribute). AreAt (gives k (at + 4) f ++ each gives sets (kind_then sets k f) (at + frame_length f) frames) (spots_in depth (attributes_of ys)))
-      rest.2
-      (at-append (gives k (at + 4) f) (each gives sets (kind_then sets k f) (at + frame_length f) frames) (spots_of depth first.0) (spots_in depth (attributes_of rest.0))
+      let later = each gives sets (kind_then sets k f) (at + frame_length f) frames in
+      subst (λ (ys : List Attribute). AreAt (gives k (at + 4) f ++ later) (spots_in depth (attributes_of ys))) rest.2
+      (at-append (gives k (at + 4) f) later (spots_of depth first.0) (spots_in depth (attributes_of rest.0))
       (one k (at + 4) f first.0 here first.1)
       (each-at frames (kind_then sets k f) (at + frame_length f) rest.0 (goes_on k f here) rest.1))
 
@@ -76,7 +76,9 @@ list-at : (t : Table) (n : ℕ) → TableAt t n → (k v : List ℕ) (xs : List 
 unfolding attributes_in read_list
 list-at t n one k v xs e depth at =
     each-at (with_inner (attributes_in n) (table_under t k) depth) keep (table_codec t).read depth (λ j. j ≡ k) (λ j f here. here)
-    (λ j at f x here is. subst (λ (i : List ℕ). (table_codec t).read i f ≡ Ok x → AreAt (with_inner (attributes_in n) (table_under t k) depth i at f) (spots_of depth x)) (sym here) (λ read. one k f x read depth at) is)
+    (λ j at f x here is. subst
+    (λ (i : List ℕ). (table_codec t).read i f ≡ Ok x → AreAt (with_inner (attributes_in n) (table_under t k) depth i at f) (spots_of depth x))
+    (sym here) (λ read. one k f x read depth at) is)
     (items_of (cut v)) k at xs refl e
 
 nested-at : (t : Table) (n : ℕ) → TableAt t n → ClassAt (list_of t) (suc n)
@@ -130,8 +132,8 @@ own-at rows n one k v content e depth at =
 
 -- ---- values that are no lists
 
-plain : {X : Type 0} (into : X → Content) (o : Outcome X) (content : Content) → ((x : X) (depth : ℕ) → spots_within depth (into x) ≡ []) → seen into o ≡ Ok content → (depth : ℕ)
-    → AreAt [] (spots_within depth content)
+plain : {X : Type 0} (into : X → Content) (o : Outcome X) (content : Content) → ((x : X) (depth : ℕ) → spots_within depth (into x) ≡ [])
+    → seen into o ≡ Ok content → (depth : ℕ) → AreAt [] (spots_within depth content)
 plain into o content no_list e depth =
     let r = seen-ok into o content e in
     rw (← r.2, no_list r.0 depth) refl
@@ -150,7 +152,8 @@ xstats-at k v content e depth = by_kind_of (is_fq_codel k) e
     by_length false h = by_number (le_value (take 4 v)) (drop 4 v) h
 
     by_kind_of : (b : Bool)
-        → (if b then (if nat_lt (length v) 4 then Err (XstatsShort (length v)) else read_statistics (le_value (take 4 v)) (drop 4 v) v) else Ok (is_bytes v)) ≡ Ok content
+        → (if b then (if nat_lt (length v) 4 then Err (XstatsShort (length v)) else read_statistics (le_value (take 4 v)) (drop 4 v) v) else Ok (is_bytes v))
+        ≡ Ok content
         → AreAt [] (spots_within depth content)
     by_kind_of true h = by_length (nat_lt (length v) 4) h
     by_kind_of false h = let same : is_bytes v ≡ content = cc in rw (← same) refl
@@ -159,15 +162,17 @@ xstats-at k v content e depth = by_kind_of (is_fq_codel k) e
 
 -- an attribute of a class, and those in its value
 abbrev InnerAt : Class → ℕ → List ℕ → Frame → Attribute → Type 0
-InnerAt c n k f x = (depth at : ℕ) → found (depth, type_of f.word) ∷ map spot_of (within (attributes_in n) (list_in c k f.value) (suc depth) at f.value) ≡ map found (spots_of depth x)
+InnerAt c n k f x = (depth at : ℕ)
+    → found (depth, type_of f.word) ∷ map spot_of (within (attributes_in n) (list_in c k f.value) (suc depth) at f.value) ≡ map found (spots_of depth x)
 
-known-at : (c : Class) (n m : ℕ) → ClassAt c n → (k : List ℕ) (f : Frame) (x : Attribute) → m ≡ type_of f.word → seen (known m) ((class_codec c).read k f.value) ≡ Ok x
-    → InnerAt c n k f x
+known-at : (c : Class) (n m : ℕ) → ClassAt c n → (k : List ℕ) (f : Frame) (x : Attribute) → m ≡ type_of f.word
+    → seen (known m) ((class_codec c).read k f.value) ≡ Ok x → InnerAt c n k f x
 known-at c n m one k f x same e depth at =
     let r = seen-ok (known m) ((class_codec c).read k f.value) x e in
     let inner = within (attributes_in n) (list_in c k f.value) (suc depth) at f.value in
     subst (λ (y : Attribute). found (depth, type_of f.word) ∷ map spot_of inner ≡ map found (spots_of depth y)) r.2
-    (ap₂ (λ (s : Result Spot BrokenFrame) (t : List (Result Spot BrokenFrame)). s ∷ t) (ap (λ (l : ℕ). found (depth, l)) (sym same)) (one k f.value r.0 r.1 (suc depth) at))
+    (ap₂ (λ (s : Result Spot BrokenFrame) (t : List (Result Spot BrokenFrame)). s ∷ t)
+    (ap (λ (l : ℕ). found (depth, l)) (sym same)) (one k f.value r.0 r.1 (suc depth) at))
 
 raw-at : (n : ℕ) (k : List ℕ) (f : Frame) (x : Attribute) → ((depth : ℕ) → spots_of depth x ≡ (depth, type_of f.word) ∷ []) → InnerAt raw n k f x
 raw-at n k f x alone depth at = rw (alone depth) refl
@@ -247,8 +252,8 @@ mutual
   table-at (every class) n low k f x e depth at = known-at class n (type_of f.word) (class-at class n low) k f x refl e depth at
   table-at (by_kind kinds) n low k f x e depth at = kinds-at kinds n low (by_kind kinds) (λ m j. refl) k f x e depth at
 
-  rows-at : (rows : Rows) (n : ℕ) → lists_at rows ≤ n → (m : ℕ) (k : List ℕ) (f : Frame) (x : Attribute) → m ≡ type_of f.word → (rows_codec rows m).read k f ≡ Ok x
-      → InnerAt (class_at rows m k) n k f x
+  rows-at : (rows : Rows) (n : ℕ) → lists_at rows ≤ n → (m : ℕ) (k : List ℕ) (f : Frame) (x : Attribute) → m ≡ type_of f.word
+      → (rows_codec rows m).read k f ≡ Ok x → InnerAt (class_at rows m k) n k f x
   rows-at others n low m k f x same e = let is : other f.word f.value ≡ x = cc in raw-at n k f x (λ depth. rw (← is) refl)
   rows-at (types first last flags class rows) n low m k f x same e =
       types-at n m k f x same (is_within first last m) flags class rows (λ h. known-at class n m (class-at class n (omega arith)) k f x same h)
@@ -259,8 +264,8 @@ mutual
       (list-class (by_kind kinds) n (omega arith) (λ p l j g y h depth at. kinds-at kinds p l (by_kind kinds) (λ i q. refl) j g y h depth at))
       (λ h. rows-at rows n (omega arith) m k f x same h) e
 
-  kinds-at : (kinds : Kinds) (n : ℕ) → lists_under kinds ≤ n → (t : Table) → ((m : ℕ) (k : List ℕ) → class_in t m k ≡ raw) → (k : List ℕ) (f : Frame) (x : Attribute)
-      → (kinds_codec kinds).read k f ≡ Ok x → (depth at : ℕ)
+  kinds-at : (kinds : Kinds) (n : ℕ) → lists_under kinds ≤ n → (t : Table) → ((m : ℕ) (k : List ℕ) → class_in t m k ≡ raw)
+      → (k : List ℕ) (f : Frame) (x : Attribute) → (kinds_codec kinds).read k f ≡ Ok x → (depth at : ℕ)
       → AreAt (with_inner (attributes_in n) (unwrap_or (known_table kinds k) t) depth k at f) (spots_of depth x)
   kinds-at unknown n low t no_class k f x e depth at = let is : other f.word f.value ≡ x = cc in rw (no_class (type_of f.word) k, ← is) refl
   kinds-at (kind name rows kinds) n low t no_class k f x e depth at =
