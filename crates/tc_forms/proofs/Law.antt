@@ -13,12 +13,12 @@ use Rattle.serde_json.specs.Find.{get, as_str}
 use Rattle.tc_forms.specs.declared.form.Number.{Number}
 use Rattle.tc_forms.specs.declared.form.Form.{Form}
 use Rattle.tc_forms.specs.declared.form.Form.TheVariants as form
-use Rattle.tc_forms.specs.Attributes.{attribute, by_kind, by_row, frames, indexed, layered, pad_told}
+use Rattle.tc_forms.specs.Attributes.{attribute, by_kind, by_row, frames, indexed, layered, pad_member}
 use Rattle.tc_forms.specs.AttributesMade.{attribute_made, by_kind_made, by_row_made, each_under, indexed_made, kinded_made, layered_made, row_made, unlayered}
 use Rattle.tc_forms.specs.AttributesMade.{word_made, word_or}
 use Rattle.tc_forms.specs.Choices.{by_choice, by_choice_made, choice_made, chosen, follows, is_choice, other_or}
 use Rattle.tc_forms.specs.Frames.{PaddedFrame, frame_bytes}
-use Rattle.tc_forms.specs.Kinds.{kind_text, kind_value, kind_in, kind_told, own_kind}
+use Rattle.tc_forms.specs.Kinds.{kind_text, kind_value, kind_in, kind_named, own_kind}
 use Rattle.tc_forms.specs.Made.{in_form, make}
 use Rattle.tc_forms.specs.Numbers.{bits_of, bytes_of, is_number, name_of, named_made, named_or, num, number_of}
 use Rattle.tc_forms.specs.Places.{choices_of, fields_of, form_of, layer_of, names_of, part_at, rows_under}
@@ -34,7 +34,7 @@ use Rattle.tc_forms.proofs.Leaves.{hex_made-hex, raw_of-raw, mac_of-mac_text, ip
 use Rattle.tc_forms.proofs.Leaves.{bytes_of-bits_of}
 use Rattle.tc_forms.proofs.Frames.{Stands, frames_again, own_again, elements_of-again}
 use Rattle.tc_forms.proofs.RecordsAgain.{record_again, record_not_raw, swapped, here, passes}
-use Rattle.tc_forms.proofs.Found.{bare_seen, kind_finds, kind_again, get_pad_told, not_pad_told, none_not_some, some_is, Guarded, guarded, held_again}
+use Rattle.tc_forms.proofs.Found.{bare_seen, kind_finds, kind_again, get_pad_member, not_pad_member, none_not_some, some_is, Guarded, guarded, held_again}
 use Rattle.tc_forms.proofs.Found.{pad_seen, Finds, finds, word_again, framed_again, plain}
 
 no_bytes : (b : List ℕ) → length b ≡ 0 → [] ≡ b
@@ -61,11 +61,12 @@ kind_word has c t e =
       | inr fails ↦ absurd (none_not_some t (sym (ap (λ x. cond x (kind_text c.value) None) fails) ∙ e))
     ]
 
-not_raw : (d : Data) (name : List ℕ) (x : Data) (mark : Option Data) (word : ℕ) (c : PaddedFrame) → Finds d name x mark word c → bytes_eq (codes "raw") name ≡ false → raw_of d ≡ None
+not_raw : (d : Data) (name : List ℕ) (x : Data) (mark : Option Data) (word : ℕ) (c : PaddedFrame) → Finds d name x mark word c
+    → bytes_eq (codes "raw") name ≡ false → raw_of d ≡ None
 not_raw d name x mark word c f e = ap (option_and_then hex_made) (f.none (codes "raw") e refl refl refl)
 
--- a kind told nowhere
-no_kind : (has : Bool) (d : Data) → get (codes "Kind") d ≡ None → kind_told has d ≡ None
+-- no kind is named
+no_kind : (has : Bool) (d : Data) → get (codes "Kind") d ≡ None → kind_named has d ≡ None
 no_kind true d e = ap (option_and_then as_str) e
 no_kind false d e = refl
 
@@ -74,14 +75,15 @@ module _ (Inner : List ℕ → Form → List ℕ → Data) (Made : List ℕ → 
   -- what is wanted of an attribute's JSON
   pub record Again (k : List ℕ) (c : PaddedFrame) (d : Data) : Type 0 where
     pub made : attribute_made Made rows has k d ≡ Some (frame_bytes c)
-    pub kind : kind_told has d ≡ kind_in has c
+    pub kind : kind_named has d ≡ kind_in has c
     pub not_raw : raw_of d ≡ None
     pub no_text : as_str d ≡ None
 
-  pub kind_found : (k : List ℕ) (c : PaddedFrame) (t : List ℕ) (d : Data) → kind_in has c ≡ Some t → Stands c → Finds d (codes "Kind") (string t) (bare_seen c.value) 1 c → Again k c d
+  pub kind_found : (k : List ℕ) (c : PaddedFrame) (t : List ℕ) (d : Data) → kind_in has c ≡ Some t → Stands c
+      → Finds d (codes "Kind") (string t) (bare_seen c.value) 1 c → Again k c d
   kind_found k c t d e s f =
       let both = kind_word has c t e in
-      let kind : kind_told has d ≡ Some t = ap (λ h. kind_told h d) both.0 ∙ ap (option_and_then as_str) f.it in
+      let kind : kind_named has d ≡ Some t = ap (λ h. kind_named h d) both.0 ∙ ap (option_and_then as_str) f.it in
       record {
         made =
             ap (by_kind_made Made rows has k d) kind
@@ -128,10 +130,10 @@ module _ (Inner : List ℕ → Form → List ℕ → Data) (Made : List ℕ → 
         no_text = f.no_text;
       }
 
-  pub other_finds : (c : PaddedFrame) (x : Data) → Finds (object (member (codes "Other") x (pad_told c))) (codes "Other") x None c.word c
+  pub other_finds : (c : PaddedFrame) (x : Data) → Finds (object (member (codes "Other") x (pad_member c))) (codes "Other") x None c.word c
   other_finds c x =
       subst (λ ms. Finds (object (member (codes "Other") x ms)) (codes "Other") x None c.word c)
-      (ap (λ t. cond t (pad_told c) (member (codes "word") (number (unsigned c.word)) (pad_told c))) (eq-eqb c.word c.word refl))
+      (ap (λ t. cond t (pad_member c) (member (codes "word") (number (unsigned c.word)) (pad_member c))) (eq-eqb c.word c.word refl))
       (finds (codes "Other") x c.word c refl refl refl)
 
   pub attribute_again : (k : List ℕ) (c : PaddedFrame) → Stands c → Again k c (attribute Inner rows has k c)
@@ -143,7 +145,8 @@ module _ (Inner : List ℕ → Form → List ℕ → Data) (Made : List ℕ → 
           let g = guarded rows (λ (q : Row). q.name) counts (λ q. type_of q.word == type_of c.word) (first (of_type c.word) rows) r is in
           let own = plain r.name g.passed in
           row_found k c r (Inner k r.form c.value) _ e s g
-          (finds r.name (Inner k r.form c.value) r.word c (swapped r.name (codes "word") own.word) (swapped r.name (codes "pad") own.pad) (swapped r.name (codes "bare") own.bare))
+          (finds r.name (Inner k r.form c.value) r.word c (swapped r.name (codes "word") own.word) (swapped r.name (codes "pad") own.pad)
+          (swapped r.name (codes "bare") own.bare))
           (again k r.form c.value s.value)
 
       by_kind_again : (o : Option (List ℕ)) → kind_in has c ≡ o → Again k c (by_kind Inner rows has k c o)
@@ -165,7 +168,8 @@ module _ (Inner : List ℕ → Form → List ℕ → Data) (Made : List ℕ → 
     where
       no_bytes_held : (t : Bool) → bytes_eq (codes "raw") (x ∷ layer) ≡ t → raw_of (one (x ∷ layer) d) ≡ None
       no_bytes_held true e =
-          ap (option_and_then hex_made) (ap (λ (n : List ℕ). get n (one (x ∷ layer) d)) ((bytes_eq-Decides (codes "raw") (x ∷ layer)).0 e) ∙ here (x ∷ layer) d no_members)
+          ap (option_and_then hex_made) (ap (λ (n : List ℕ). get n (one (x ∷ layer) d)) ((bytes_eq-Decides (codes "raw") (x ∷ layer)).0 e)
+          ∙ here (x ∷ layer) d no_members)
           ∙ ap (option_and_then hex_of) a.no_text
       no_bytes_held false e = ap (option_and_then hex_made) (passes (codes "raw") (x ∷ layer) d no_members e)
 
@@ -240,20 +244,24 @@ module _ (table : Table) (Inner : List ℕ → Form → List ℕ → Data) (Made
       (λ j c s. (attribute_again Inner Made again (rows_under table i j) true j c s).kind)
       (λ j c s. in_list Inner Made again (rows_under table i j) true j c _ (attribute_again Inner Made again (rows_under table i j) true j c s)) n k b h
 
-  pub indexed_found : (k : List ℕ) (i : ℕ) (c : PaddedFrame) (x d : Data) → Stands c → get (codes "raw") d ≡ None → get (codes "tab") d ≡ Some (number (unsigned c.word))
+  pub indexed_found : (k : List ℕ) (i : ℕ) (c : PaddedFrame) (x d : Data) → Stands c → get (codes "raw") d ≡ None
+      → get (codes "tab") d ≡ Some (number (unsigned c.word))
       → get (codes "attributes") d ≡ Some x → get (codes "pad") d ≡ pad_seen c → Made k (form_of i (part_at table i)) x ≡ Some c.value
       → or_raw (raw_of d) (indexed_made table Made i k d) ≡ Some (frame_bytes c)
   indexed_found k i c x d s no_raw tab held pad made =
       ap (λ o. or_raw (option_and_then hex_made o) (indexed_made table Made i k d)) no_raw
-      ∙ framed_again c d (option_and_then word_made (get (codes "tab") d)) (option_and_then (Made k (form_of i (part_at table i))) (get (codes "attributes") d)) s
+      ∙ framed_again c d (option_and_then word_made (get (codes "tab") d))
+      (option_and_then (Made k (form_of i (part_at table i))) (get (codes "attributes") d)) s
       (ap (option_and_then word_made) tab ∙ s.word) (ap (option_and_then (Made k (form_of i (part_at table i)))) held ∙ made) pad
 
   indexed_again : (k : List ℕ) (i : ℕ) (c : PaddedFrame) → Stands c
-      → or_raw (raw_of (indexed c (Inner k (form_of i (part_at table i)) c.value))) (indexed_made table Made i k (indexed c (Inner k (form_of i (part_at table i)) c.value)))
+      → or_raw (raw_of (indexed c (Inner k (form_of i (part_at table i)) c.value)))
+      (indexed_made table Made i k (indexed c (Inner k (form_of i (part_at table i)) c.value)))
       ≡ Some (frame_bytes c)
   indexed_again k i c s =
       let x = Inner k (form_of i (part_at table i)) c.value in
-      indexed_found k i c x (indexed c x) s (not_pad_told (codes "raw") c refl) refl refl (get_pad_told c) (again k (form_of i (part_at table i)) c.value s.value)
+      indexed_found k i c x (indexed c x) s (not_pad_member (codes "raw") c refl) refl refl (get_pad_member c)
+      (again k (form_of i (part_at table i)) c.value s.value)
 
   -- ---- any form
 
@@ -272,8 +280,10 @@ module _ (table : Table) (Inner : List ℕ → Form → List ℕ → Data) (Made
       by_text (Some t) e = ap Some (text_again b t e)
   level_again k form.Bare b h = tested k form.Bare (is_utf8 b) _ b h (λ e. refl)
   level_again k form.Hex b h = hex_made-hex b h
-  level_again k (form.Bytes n) b h = tested k (form.Bytes n) (length b == n) _ b h (λ e. ap (option_and_then (of_length n)) (hex_made-hex b h) ∙ ap (λ t. cond t (Some b) None) e)
-  level_again k (form.Pad n) b h = tested k (form.Pad n) (length b == n) _ b h (λ e. ap (option_and_then (of_length n)) (hex_made-hex b h) ∙ ap (λ t. cond t (Some b) None) e)
+  level_again k (form.Bytes n) b h = tested k (form.Bytes n) (length b == n) _ b h
+      (λ e. ap (option_and_then (of_length n)) (hex_made-hex b h) ∙ ap (λ t. cond t (Some b) None) e)
+  level_again k (form.Pad n) b h = tested k (form.Pad n) (length b == n) _ b h
+      (λ e. ap (option_and_then (of_length n)) (hex_made-hex b h) ∙ ap (λ t. cond t (Some b) None) e)
   level_again k form.Mac b h = tested k form.Mac (length b == 6) _ b h (λ e. mac_of-mac_text b (eqb-true _ _ e) h)
   level_again k form.Ipv4 b h = tested k form.Ipv4 (length b == 4) _ b h (λ e. ipv4_of-ipv4_text b (eqb-true _ _ e) h)
   level_again k form.Ipv6 b h = tested k form.Ipv6 (length b == 16) _ b h (λ e. ipv6_of-ipv6_text b (eqb-true _ _ e) h)
@@ -301,7 +311,8 @@ module _ (table : Table) (Inner : List ℕ → Form → List ℕ → Data) (Made
       ap (λ j. each_under (kinded_made table Made i) false j (frames One false (length b) own b))
       (own_again One (λ j c s. (attribute_again Inner Made again (rows_under table i j) true j c s).kind) (length b) own b h)
       ∙ frames_again (kinded_made table Made i) One false (λ j c s. refl)
-      (λ j c s. in_list Inner Made again (rows_under table i j) true j c _ (attribute_again Inner Made again (rows_under table i j) true j c s)) (length b) own b h
+      (λ j c s. in_list Inner Made again (rows_under table i j) true j c _ (attribute_again Inner Made again (rows_under table i j) true j c s))
+      (length b) own b h
   level_again k (form.Indexed i) b h =
       frames_again (indexed_made table Made i) (λ j c. indexed c (Inner j (form_of i (part_at table i)) c.value)) false (λ j c s. refl)
       (λ j c s. indexed_again j i c s) (length b) k b h

@@ -15,12 +15,12 @@ use Rattle.serde_json.specs.Find.{get_member}
 use Rattle.serde_json.proofs.Views.{get_member-put, get_member-put_other}
 use Rattle.tc_forms.specs.declared.form.Form.{Form}
 use Rattle.tc_forms.specs.declared.form.Form.TheVariants as form
-use Rattle.tc_forms.specs.Attributes.{bare_told, attribute, by_kind, by_row, first_or_tail, frames, indexed, layered, pad_told, tail_shown, told}
+use Rattle.tc_forms.specs.Attributes.{bare_member, attribute, by_kind, by_row, first_or_tail, frames, indexed, layered, pad_member, tail_shown, beside}
 use Rattle.tc_forms.specs.Attributes.{word_and_hex}
 use Rattle.tc_forms.specs.AttributesMade.{each_under, indexed_made, kinded_made, layered_made}
 use Rattle.tc_forms.specs.Choices.{by_choice, chosen, follows, is_choice}
 use Rattle.tc_forms.specs.Frames.{PaddedFrame, after_first, frame_bytes, front}
-use Rattle.tc_forms.specs.Kinds.{kind_in, own_kind, own_told}
+use Rattle.tc_forms.specs.Kinds.{kind_in, own_kind, own_kind_named}
 use Rattle.tc_forms.specs.Made.{in_form, make}
 use Rattle.tc_forms.specs.Numbers.{bits_of, is_number, name_of, named_or, num, number_of}
 use Rattle.tc_forms.specs.Ordered.{ordered, ordered_items, ordered_members}
@@ -37,7 +37,8 @@ use Rattle.tc_forms.specs.Widths.{field_width, fixed, number_width}
 use Rattle.tc_forms.proofs.Leaves.{hex_made-hex, raw_of-raw}
 use Rattle.tc_forms.proofs.Frames.{Stands, frames_again, own_again, elements_of-again}
 use Rattle.tc_forms.proofs.RecordsAgain.{here, passes, absent, swapped, not-false, fields_again}
-use Rattle.tc_forms.proofs.Found.{bare_seen, kind_finds, get_bare_told, no_bare_told, get_pad_told, not_pad_told, get_told, none_not_some, guarded, pad_seen}
+use Rattle.tc_forms.proofs.Found.{bare_seen, kind_finds, get_bare_member, no_bare_beside, get_pad_member}
+use Rattle.tc_forms.proofs.Found.{not_pad_member, get_beside, none_not_some, guarded, pad_seen}
 use Rattle.tc_forms.proofs.Found.{Finds, finds, plain}
 use Rattle.tc_forms.proofs.Law.{Holds, Again, kind_found, other_found, other_finds, row_found, in_list, in_layer, choice_found, indexed_found, level_again}
 
@@ -115,7 +116,8 @@ plain_read : (table : Table) (f : Form) (b : List ℕ) → ordered (plain_shown 
 plain_read table (form.Number k) b = cond_read (length b == number_width k) _ b refl
 plain_read table (form.Named k i) b =
     cond_read (length b == number_width k) _ b
-    (named_read (names_of (part_at table i)) (bits_of k b) (one (codes "Other") (number (num k (bits_of k b)))) (name_of (names_of (part_at table i)) (bits_of k b)) refl)
+    (named_read (names_of (part_at table i)) (bits_of k b) (one (codes "Other") (number (num k (bits_of k b))))
+    (name_of (names_of (part_at table i)) (bits_of k b)) refl)
 plain_read table form.Handle b = cond_read (length b == 4) _ b refl
 plain_read table form.Flag b = cond_read (length b == 0) _ b refl
 plain_read table form.Truth b = cond_read (bytes_eq b (0 ∷ []) || bytes_eq b (1 ∷ [])) _ b refl
@@ -152,26 +154,29 @@ finds_read ms name x mark word c a kept_mark f = record {
   no_text = refl;
 }
 
-pub pad_apart : (c : PaddedFrame) → Apart (pad_told c)
+pub pad_apart : (c : PaddedFrame) → Apart (pad_member c)
 pad_apart c =
-    cond_both (is_blank (Some (padding (length c.value))) c.pad) no_members (member (codes "pad") (hex c.pad) no_members) Apart (λ blank. tt) (λ told. (refl, tt))
+    cond_both (is_blank (Some (padding (length c.value))) c.pad) no_members (member (codes "pad") (hex c.pad) no_members) Apart
+    (λ blank. tt) (λ shown. (refl, tt))
 
-pub told_apart : (word : ℕ) (c : PaddedFrame) → Apart (told word c)
-told_apart word c =
-    cond_both (c.word == word) (pad_told c) (member (codes "word") (number (unsigned c.word)) (pad_told c)) Apart (λ same. pad_apart c)
-    (λ other. (not_pad_told (codes "word") c refl, pad_apart c))
+pub beside_apart : (word : ℕ) (c : PaddedFrame) → Apart (beside word c)
+beside_apart word c =
+    cond_both (c.word == word) (pad_member c) (member (codes "word") (number (unsigned c.word)) (pad_member c)) Apart (λ same. pad_apart c)
+    (λ other. (not_pad_member (codes "word") c refl, pad_apart c))
 
 pub named_apart : (name : List ℕ) (x : Data) (word : ℕ) (c : PaddedFrame) → bytes_eq name (codes "word") ≡ false → bytes_eq name (codes "pad") ≡ false
-    → Apart (member name x (told word c))
-named_apart name x word c w p = (get_told word c name w ∙ not_pad_told name c p, told_apart word c)
+    → Apart (member name x (beside word c))
+named_apart name x word c w p = (get_beside word c name w ∙ not_pad_member name c p, beside_apart word c)
 
-pub kind_apart : (t : List ℕ) (c : PaddedFrame) → Apart (member (codes "Kind") (string t) (bare_told c.value (told 1 c)))
-kind_apart t c =
-    (get_bare_told c.value (told 1 c) (codes "Kind") refl ∙ get_told 1 c (codes "Kind") refl ∙ not_pad_told (codes "Kind") c refl, go (ends_in_nul c.value))
+pub kind_apart : (t : List ℕ) (c : PaddedFrame) → Apart (member (codes "Kind") (string t) (bare_member c.value (beside 1 c)))
+kind_apart t c = (
+  get_bare_member c.value (beside 1 c) (codes "Kind") refl ∙ get_beside 1 c (codes "Kind") refl ∙ not_pad_member (codes "Kind") c refl,
+  go (ends_in_nul c.value),
+)
   where
-    go : (b : Bool) → Apart (cond b (told 1 c) (member (codes "bare") (boolean true) (told 1 c)))
-    go true = told_apart 1 c
-    go false = (no_bare_told 1 c, told_apart 1 c)
+    go : (b : Bool) → Apart (cond b (beside 1 c) (member (codes "bare") (boolean true) (beside 1 c)))
+    go true = beside_apart 1 c
+    go false = (no_bare_beside 1 c, beside_apart 1 c)
 
 layered_read : (layer : List ℕ) (d : Data) → ordered (layered layer d) ≡ layered layer (ordered d)
 layered_read [] d = refl
@@ -186,7 +191,8 @@ frames_read : (One : List ℕ → PaddedFrame → Data) (has : Bool) (n : ℕ) (
 frames_read One has zero k b = tail_read b
 frames_read One has (suc n) k b = go (front b) (λ j. frames_read One has n j (after_first b))
   where
-    go : (o : Option PaddedFrame) → ((j : List ℕ) → ordered_items (frames One has n j (after_first b)) ≡ frames (λ j c. ordered (One j c)) has n j (after_first b))
+    go : (o : Option PaddedFrame)
+        → ((j : List ℕ) → ordered_items (frames One has n j (after_first b)) ≡ frames (λ j c. ordered (One j c)) has n j (after_first b))
         → ordered_items (first_or_tail One has k b (λ j. frames One has n j (after_first b)) o)
         ≡ first_or_tail (λ j c. ordered (One j c)) has k b (λ j. frames (λ j c. ordered (One j c)) has n j (after_first b)) o
     go None e = tail_read b
@@ -202,18 +208,20 @@ module _ (Inner : List ℕ → Form → List ℕ → Data) where
     attribute_read : (k : List ℕ) (c : PaddedFrame) → Stands c → Again Reads Made again rows has k c (ordered (attribute Inner rows has k c))
     attribute_read k c s = by_kind_read (kind_in has c) refl
       where
-        by_row_read : (o : Option Row) → shown_row rows c.word ≡ o → kind_in has c ≡ None → Again Reads Made again rows has k c (ordered (by_row Inner rows has k c o))
+        by_row_read : (o : Option Row) → shown_row rows c.word ≡ o → kind_in has c ≡ None
+            → Again Reads Made again rows has k c (ordered (by_row Inner rows has k c o))
         by_row_read None is e =
             let x = word_and_hex c in
-            let ms = member (codes "Other") x (pad_told c) in
+            let ms = member (codes "Other") x (pad_member c) in
             other_found Reads Made again rows has k c (ordered x) _ e s
-            (finds_read ms (codes "Other") x None c.word c (not_pad_told (codes "Other") c refl, pad_apart c) refl (other_finds Reads Made again rows has c x)) refl refl
+            (finds_read ms (codes "Other") x None c.word c (not_pad_member (codes "Other") c refl, pad_apart c) refl
+            (other_finds Reads Made again rows has c x)) refl refl
         by_row_read (Some r) is e =
             let g = guarded rows (λ (q : Row). q.name) counts (λ q. type_of q.word == type_of c.word) (first (of_type c.word) rows) r is in
             let own = plain r.name g.passed in
             let x = Inner k r.form c.value in
             row_found Reads Made again rows has k c r (ordered x) _ e s g
-            (finds_read (member r.name x (told r.word c)) r.name x None r.word c (named_apart r.name x r.word c own.word own.pad) refl
+            (finds_read (member r.name x (beside r.word c)) r.name x None r.word c (named_apart r.name x r.word c own.word own.pad) refl
             (finds r.name x r.word c (swapped r.name (codes "word") own.word) (swapped r.name (codes "pad") own.pad)
             (swapped r.name (codes "bare") own.bare)))
             (again k r.form c.value s.value)
@@ -221,7 +229,7 @@ module _ (Inner : List ℕ → Form → List ℕ → Data) where
         by_kind_read : (o : Option (List ℕ)) → kind_in has c ≡ o → Again Reads Made again rows has k c (ordered (by_kind Inner rows has k c o))
         by_kind_read (Some t) e =
             kind_found Reads Made again rows has k c t _ e s
-            (finds_read (member (codes "Kind") (string t) (bare_told c.value (told 1 c))) (codes "Kind") (string t) (bare_seen c.value) 1 c (kind_apart t c)
+            (finds_read (member (codes "Kind") (string t) (bare_member c.value (beside 1 c))) (codes "Kind") (string t) (bare_seen c.value) 1 c (kind_apart t c)
             (seen_read (ends_in_nul c.value) (boolean true) refl) (kind_finds t c))
         by_kind_read None e = by_row_read (shown_row rows c.word) refl e
 
@@ -314,11 +322,11 @@ module _ (table : Table) (Inner : List ℕ → Form → List ℕ → Data) (Made
       ≡ Some (frame_bytes c)
   indexed_read k i c s =
       let x = Inner k (form_of i (part_at table i)) c.value in
-      let ms = member (codes "tab") (number (unsigned c.word)) (member (codes "attributes") x (pad_told c)) in
-      let apart : Apart ms = (not_pad_told (codes "tab") c refl, (not_pad_told (codes "attributes") c refl, pad_apart c)) in
+      let ms = member (codes "tab") (number (unsigned c.word)) (member (codes "attributes") x (pad_member c)) in
+      let apart : Apart ms = (not_pad_member (codes "tab") c refl, (not_pad_member (codes "attributes") c refl, pad_apart c)) in
       indexed_found table All Made again k i c (ordered x) (read ms) s
-      (read_so ms (codes "raw") apart ∙ ap (option_map ordered) (not_pad_told (codes "raw") c refl)) (read_so ms (codes "tab") apart)
-      (read_so ms (codes "attributes") apart) (read_so ms (codes "pad") apart ∙ ap (option_map ordered) (get_pad_told c) ∙ pad_seen_read c)
+      (read_so ms (codes "raw") apart ∙ ap (option_map ordered) (not_pad_member (codes "raw") c refl)) (read_so ms (codes "tab") apart)
+      (read_so ms (codes "attributes") apart) (read_so ms (codes "pad") apart ∙ ap (option_map ordered) (get_pad_member c) ∙ pad_seen_read c)
       (again k (form_of i (part_at table i)) c.value s.value)
 
   choice_read : (k : List ℕ) (i : ℕ) (b : List ℕ) (o : Option Choice) → IsBytes b → chosen (choices_of (part_at table i)) b ≡ o
@@ -366,7 +374,7 @@ module _ (table : Table) (Inner : List ℕ → Form → List ℕ → Data) (Made
       let ds = ordered_items (frames One false (length b) own b) in
       let Each = kinded_made table Made i in
       ap (λ j. each_under Each false j ds)
-      (ap own_told (frames_read One false (length b) own b)
+      (ap own_kind_named (frames_read One false (length b) own b)
       ∙ own_again (λ j c. ordered (One j c)) (λ j c s. (attribute_read Inner Made again (rows_under table i j) true j c s).kind) (length b) own b h)
       ∙ ap (each_under Each false own) (frames_read One false (length b) own b)
       ∙ frames_again Each (λ j c. ordered (One j c)) false (λ j c s. refl)

@@ -131,7 +131,8 @@ module _ (table : Table) (Inner : Form → List ℕ → Data) (Made : Form → D
         finds.1 ∙ past_field table Inner rest f chunk after (not-false _ unlike_rest.0),
       ) in
       joined_made (field_made table Made f (get_member f.name ms)) (fields_made table Made fs (object ms)) chunk later b
-      (ap (field_made table Made f) (finds.0 f.name (free_here f fs)) ∙ field_again f fs chunk later (IsBytes-field_of w b h) own.0 (swapped rest f.name (not-false _ unlike_rest.0)))
+      (ap (field_made table Made f) (finds.0 f.name (free_here f fs))
+      ∙ field_again f fs chunk later (IsBytes-field_of w b h) own.0 (swapped rest f.name (not-false _ unlike_rest.0)))
       (fields_again fs later ms (IsBytes-after_field w b h) finds_later own.1 unlike_rest.1) (whole_again w b)
     where
       field_again : (f : Field) (fs : List Field) (chunk later : List ℕ) → IsBytes chunk → is_free f.name fs ≡ true → bytes_eq f.name rest ≡ false
