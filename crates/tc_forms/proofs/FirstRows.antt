@@ -22,8 +22,8 @@ first_behind see test (suc n) (y ∷ ys) e =
     ]
 
 -- the first behind them
-pub first_there : {X Y : Type 0} (see : Y → X) (test : X → Bool) (n : ℕ) (ys behind : List Y) (y : Y) → first test (map see (take n ys)) ≡ None → drop n ys ≡ y ∷ behind
-    → test (see y) ≡ true → first test (map see ys) ≡ Some (see y)
+pub first_there : {X Y : Type 0} (see : Y → X) (test : X → Bool) (n : ℕ) (ys behind : List Y) (y : Y) → first test (map see (take n ys)) ≡ None
+    → drop n ys ≡ y ∷ behind → test (see y) ≡ true → first test (map see ys) ≡ Some (see y)
 first_there see test n ys behind y none is passes =
     first_behind see test n ys none ∙ ap (λ zs. first test (map see zs)) is ∙ cond-true (test (see y)) (Some (see y)) (first test (map see behind)) passes
 
@@ -32,7 +32,8 @@ pub shown_at : (own common : List Row) (word : ℕ) (r : Row) → first (of_type
     → Some r ≡ shown_row (own ++ common) word
 shown_at own common word r typed named =
     let both = and_parts (counts r) (type_of r.word == type_of word) (first_passes (of_type word) own r typed) in
-    sym (ap (λ o. option_and_then (row_if word) (option_and_then (λ x. first (of_name x.name) (own ++ common)) o)) (sym (first_of_two (of_type word) own common r (sym typed)))
+    sym (ap (λ o. option_and_then (row_if word) (option_and_then (λ x. first (of_name x.name) (own ++ common)) o))
+    (sym (first_of_two (of_type word) own common r (sym typed)))
     ∙ ap (option_and_then (row_if word)) (sym (first_of_two (of_name r.name) own common r (sym named)))
     ∙ cond-true (type_of r.word == type_of word) (Some r) None both.1)
 

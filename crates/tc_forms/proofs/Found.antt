@@ -10,7 +10,7 @@ use Rattle.std.specs.Str.{is_utf8}
 use Rattle.tc_forms.specs.Kinds.{kind_text, kind_value}
 use Rattle.serde_json.specs.Data.{Data, boolean, number, string, object, unsigned, Members, no_members, member}
 use Rattle.serde_json.specs.Find.{get, get_member, as_str}
-use Rattle.tc_forms.specs.Attributes.{bare_told, kind_shown, pad_told, told}
+use Rattle.tc_forms.specs.Attributes.{bare_member, kind_shown, pad_member, beside}
 use Rattle.tc_forms.specs.AttributesMade.{framed, pad_or, word_or}
 use Rattle.tc_forms.specs.Frames.{PaddedFrame, frame_bytes}
 use Rattle.tc_forms.specs.Raw.{hex}
@@ -53,8 +53,8 @@ pub record Guarded {X : Type 0} (xs : List X) (name : X → List ℕ) (passes : 
   pub second_too : second x ≡ true
 
 module _ {X : Type 0} (xs : List X) (name : X → List ℕ) (passes : X → Bool) (second : X → Bool) where
-  by_name : (n : List ℕ) (x : X) (p : Option X) → first (λ y. passes y && bytes_eq (name y) n) xs ≡ p → option_and_then (λ y. cond (second y) (Some y) None) p ≡ Some x
-      → Guarded xs name passes second x
+  by_name : (n : List ℕ) (x : X) (p : Option X) → first (λ y. passes y && bytes_eq (name y) n) xs ≡ p
+      → option_and_then (λ y. cond (second y) (Some y) None) p ≡ Some x → Guarded xs name passes second x
   by_name n x None is e = absurd (none_not_some x e)
   by_name n x (Some y) is e =
       elim (cases_Bool (second y)) [
@@ -89,11 +89,13 @@ module _ {X : Type 0} (xs : List X) (name : X → List ℕ) (passes : X → Bool
                   ∙ ap (λ t. cond t (Some (y, v)) (held name passes ys d)) pass ∙ ap (λ (z : X). Some (z, v)) mine
               | inr differs ↦
                   ap (λ o. held_or name passes y o (held name passes ys d)) (others y pass differs)
-                  ∙ held_again ys d v n x (sym (ap (λ t. cond t (Some y) (first (λ y. passes y && bytes_eq (name y) n) ys)) (ap (λ t. t && bytes_eq (name y) n) pass ∙ differs)) ∙ e) found others
+                  ∙ held_again ys d v n x (sym (ap (λ t. cond t (Some y) (first (λ y. passes y && bytes_eq (name y) n) ys))
+                  (ap (λ t. t && bytes_eq (name y) n) pass ∙ differs)) ∙ e) found others
             ]
         | inr fails ↦
             skipped (get (name y) d) fails
-            ∙ held_again ys d v n x (sym (ap (λ t. cond t (Some y) (first (λ y. passes y && bytes_eq (name y) n) ys)) (ap (λ t. t && bytes_eq (name y) n) fails)) ∙ e) found others
+            ∙ held_again ys d v n x (sym (ap (λ t. cond t (Some y) (first (λ y. passes y && bytes_eq (name y) n) ys))
+            (ap (λ t. t && bytes_eq (name y) n) fails)) ∙ e) found others
       ]
     where
       skipped : (o : Option Data) → passes y ≡ false → held_or name passes y o (held name passes ys d) ≡ held name passes ys d
@@ -111,7 +113,7 @@ pad_seen c = cond (is_blank (Some (padding (length c.value))) c.pad) None (Some 
 abbrev pub bare_seen : List ℕ → Option Data
 bare_seen value = cond (ends_in_nul value) None (Some (boolean true))
 
--- a member of this name, the mark of a bare kind, the word where it is told, the padding where it is told, and no other
+-- a member of this name, the mark of a bare kind, the word and the padding where they stand beside, and no other
 pub record Finds (d : Data) (name : List ℕ) (x : Data) (mark : Option Data) (wanted : ℕ) (c : PaddedFrame) : Type 0 where
   pub it : get name d ≡ Some x
   pub bare : get (codes "bare") d ≡ mark
@@ -121,67 +123,70 @@ pub record Finds (d : Data) (name : List ℕ) (x : Data) (mark : Option Data) (w
       → get q d ≡ None
   pub no_text : as_str d ≡ None
 
-pub get_pad_told : (c : PaddedFrame) → get_member (codes "pad") (pad_told c) ≡ pad_seen c
-get_pad_told c = go (is_blank (Some (padding (length c.value))) c.pad)
+pub get_pad_member : (c : PaddedFrame) → get_member (codes "pad") (pad_member c) ≡ pad_seen c
+get_pad_member c = go (is_blank (Some (padding (length c.value))) c.pad)
   where
     go : (t : Bool) → get_member (codes "pad") (cond t no_members (member (codes "pad") (hex c.pad) no_members)) ≡ cond t None (Some (hex c.pad))
     go true = refl
     go false = refl
 
-pub not_pad_told : (q : List ℕ) (c : PaddedFrame) → bytes_eq q (codes "pad") ≡ false → get_member q (pad_told c) ≡ None
-not_pad_told q c e =
+pub not_pad_member : (q : List ℕ) (c : PaddedFrame) → bytes_eq q (codes "pad") ≡ false → get_member q (pad_member c) ≡ None
+not_pad_member q c e =
     cond_both (is_blank (Some (padding (length c.value))) c.pad) no_members (member (codes "pad") (hex c.pad) no_members) (λ ms. get_member q ms ≡ None)
-    (λ blank. refl) (λ told. passes q (codes "pad") (hex c.pad) no_members e)
+    (λ blank. refl) (λ shown. passes q (codes "pad") (hex c.pad) no_members e)
 
-pub get_told : (word : ℕ) (c : PaddedFrame) (q : List ℕ) → bytes_eq q (codes "word") ≡ false → get_member q (told word c) ≡ get_member q (pad_told c)
-get_told word c q e =
-    cond_both (c.word == word) (pad_told c) (member (codes "word") (number (unsigned c.word)) (pad_told c)) (λ ms. get_member q ms ≡ get_member q (pad_told c))
-    (λ same. refl) (λ other. passes q (codes "word") (number (unsigned c.word)) (pad_told c) e)
+pub get_beside : (word : ℕ) (c : PaddedFrame) (q : List ℕ) → bytes_eq q (codes "word") ≡ false → get_member q (beside word c) ≡ get_member q (pad_member c)
+get_beside word c q e =
+    cond_both (c.word == word) (pad_member c) (member (codes "word") (number (unsigned c.word)) (pad_member c))
+    (λ ms. get_member q ms ≡ get_member q (pad_member c))
+    (λ same. refl) (λ other. passes q (codes "word") (number (unsigned c.word)) (pad_member c) e)
 
-word_told : (word : ℕ) (c : PaddedFrame) → get_member (codes "word") (told word c) ≡ word_seen word c
-word_told word c = go (c.word == word)
+word_beside : (word : ℕ) (c : PaddedFrame) → get_member (codes "word") (beside word c) ≡ word_seen word c
+word_beside word c = go (c.word == word)
   where
-    go : (t : Bool) → get_member (codes "word") (cond t (pad_told c) (member (codes "word") (number (unsigned c.word)) (pad_told c))) ≡ cond t None (Some (number (unsigned c.word)))
-    go true = not_pad_told (codes "word") c refl
-    go false = here (codes "word") (number (unsigned c.word)) (pad_told c)
+    go : (t : Bool) → get_member (codes "word") (cond t (pad_member c) (member (codes "word") (number (unsigned c.word)) (pad_member c)))
+        ≡ cond t None (Some (number (unsigned c.word)))
+    go true = not_pad_member (codes "word") c refl
+    go false = here (codes "word") (number (unsigned c.word)) (pad_member c)
 
-pub get_bare_told : (v : List ℕ) (ms : Members) (q : List ℕ) → bytes_eq q (codes "bare") ≡ false → get_member q (bare_told v ms) ≡ get_member q ms
-get_bare_told v ms q e =
+pub get_bare_member : (v : List ℕ) (ms : Members) (q : List ℕ) → bytes_eq q (codes "bare") ≡ false → get_member q (bare_member v ms) ≡ get_member q ms
+get_bare_member v ms q e =
     cond_both (ends_in_nul v) ms (member (codes "bare") (boolean true) ms) (λ xs. get_member q xs ≡ get_member q ms)
     (λ ends. refl) (λ bare. passes q (codes "bare") (boolean true) ms e)
 
-bare_is_told : (v : List ℕ) (ms : Members) → get_member (codes "bare") ms ≡ None → get_member (codes "bare") (bare_told v ms) ≡ bare_seen v
-bare_is_told v ms none = go (ends_in_nul v)
+bare_is_seen : (v : List ℕ) (ms : Members) → get_member (codes "bare") ms ≡ None → get_member (codes "bare") (bare_member v ms) ≡ bare_seen v
+bare_is_seen v ms none = go (ends_in_nul v)
   where
     go : (t : Bool) → get_member (codes "bare") (cond t ms (member (codes "bare") (boolean true) ms)) ≡ cond t None (Some (boolean true))
     go true = none
     go false = here (codes "bare") (boolean true) ms
 
-pub no_bare_told : (word : ℕ) (c : PaddedFrame) → get_member (codes "bare") (told word c) ≡ None
-no_bare_told word c = get_told word c (codes "bare") refl ∙ not_pad_told (codes "bare") c refl
+pub no_bare_beside : (word : ℕ) (c : PaddedFrame) → get_member (codes "bare") (beside word c) ≡ None
+no_bare_beside word c = get_beside word c (codes "bare") refl ∙ not_pad_member (codes "bare") c refl
 
 pub kind_finds : (t : List ℕ) (c : PaddedFrame) → Finds (kind_shown c t) (codes "Kind") (string t) (bare_seen c.value) 1 c
 kind_finds t c =
-    let marks = told 1 c in
-    let ms = bare_told c.value marks in
+    let marks = beside 1 c in
+    let ms = bare_member c.value marks in
     record {
       it = here (codes "Kind") (string t) ms;
-      bare = passes (codes "bare") (codes "Kind") (string t) ms refl ∙ bare_is_told c.value marks (no_bare_told 1 c);
-      word = passes (codes "word") (codes "Kind") (string t) ms refl ∙ get_bare_told c.value marks (codes "word") refl ∙ word_told 1 c;
+      bare = passes (codes "bare") (codes "Kind") (string t) ms refl ∙ bare_is_seen c.value marks (no_bare_beside 1 c);
+      word = passes (codes "word") (codes "Kind") (string t) ms refl ∙ get_bare_member c.value marks (codes "word") refl ∙ word_beside 1 c;
       pad =
-          passes (codes "pad") (codes "Kind") (string t) ms refl ∙ get_bare_told c.value marks (codes "pad") refl ∙ get_told 1 c (codes "pad") refl ∙ get_pad_told c;
-      none = λ q own w p b. passes q (codes "Kind") (string t) ms own ∙ get_bare_told c.value marks q b ∙ get_told 1 c q w ∙ not_pad_told q c p;
+          passes (codes "pad") (codes "Kind") (string t) ms refl ∙ get_bare_member c.value marks (codes "pad") refl ∙ get_beside 1 c (codes "pad") refl
+          ∙ get_pad_member c;
+      none = λ q own w p b. passes q (codes "Kind") (string t) ms own ∙ get_bare_member c.value marks q b ∙ get_beside 1 c q w ∙ not_pad_member q c p;
       no_text = refl;
     }
 
 pub finds : (name : List ℕ) (x : Data) (word : ℕ) (c : PaddedFrame) → bytes_eq (codes "word") name ≡ false → bytes_eq (codes "pad") name ≡ false
-    → bytes_eq (codes "bare") name ≡ false → Finds (object (member name x (told word c))) name x None word c
+    → bytes_eq (codes "bare") name ≡ false → Finds (object (member name x (beside word c))) name x None word c
 finds name x word c no_word no_pad no_bare = record {
-  it = here name x (told word c);
-  bare = passes (codes "bare") name x (told word c) no_bare ∙ no_bare_told word c;
-  word = passes (codes "word") name x (told word c) no_word ∙ word_told word c;
-  pad = passes (codes "pad") name x (told word c) no_pad ∙ get_told word c (codes "pad") refl ∙ get_pad_told c;
-  none = λ q own w p b. passes q name x (told word c) own ∙ get_told word c q w ∙ not_pad_told q c p;
+  it = here name x (beside word c);
+  bare = passes (codes "bare") name x (beside word c) no_bare ∙ no_bare_beside word c;
+  word = passes (codes "word") name x (beside word c) no_word ∙ word_beside word c;
+  pad = passes (codes "pad") name x (beside word c) no_pad ∙ get_beside word c (codes "pad") refl ∙ get_pad_member c;
+  none = λ q own w p b. passes q name x (beside word c) own ∙ get_beside word c q w ∙ not_pad_member q c p;
   no_text = refl;
 }
 
@@ -197,8 +202,8 @@ pad_again c s =
     cond_both (is_blank (Some (padding (length c.value))) c.pad) None (Some (hex c.pad)) (λ o. pad_or c.value o ≡ Some c.pad)
     (λ e. ap Some (sym (blank (Some (padding (length c.value))) c.pad e))) (λ e. hex_made-hex c.pad s.pad)
 
-pub framed_again : (c : PaddedFrame) (d : Data) (w : Option ℕ) (v : Option (List ℕ)) → Stands c → w ≡ Some c.word → v ≡ Some c.value → get (codes "pad") d ≡ pad_seen c
-    → framed w v d ≡ Some (frame_bytes c)
+pub framed_again : (c : PaddedFrame) (d : Data) (w : Option ℕ) (v : Option (List ℕ)) → Stands c → w ≡ Some c.word → v ≡ Some c.value
+    → get (codes "pad") d ≡ pad_seen c → framed w v d ≡ Some (frame_bytes c)
 framed_again c d w v s ew ev ep =
     ap (λ o. framed o v d) ew ∙ ap (λ o. framed (Some c.word) o d) ev
     ∙ ap (λ o. cond (nat_le (length c.value) 65531) (option_map (λ pad. frame_bytes (record { word = c.word; value = c.value; pad = pad })) o) None)
@@ -219,7 +224,8 @@ pub kind_again : (v t : List ℕ) → kind_text v ≡ Some t → kind_value t (b
 unfolding strip
 kind_again v t e =
     cond_both (is_utf8 (strip v)) (Some (strip v)) None (λ o. o ≡ Some t → kind_value t (bare_seen v) ≡ Some v)
-    (λ holds same. ap (λ (x : List ℕ). kind_value x (bare_seen v)) (sym (some_is (strip v) t same)) ∙ go (ends_in_nul v) refl) (λ fails same. absurd (none_not_some t same)) e
+    (λ holds same. ap (λ (x : List ℕ). kind_value x (bare_seen v)) (sym (some_is (strip v) t same)) ∙ go (ends_in_nul v) refl)
+    (λ fails same. absurd (none_not_some t same)) e
   where
     go : (b : Bool) → ends_in_nul v ≡ b → kind_value (cond b (take (length v - 1) v) v) (cond b None (Some (boolean true))) ≡ Some v
     go true ends = ap Some (ends_so v ends)

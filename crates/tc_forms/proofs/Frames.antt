@@ -16,7 +16,7 @@ use Rattle.tc_forms.specs.declared.form.Form.{Form}
 use Rattle.tc_forms.specs.Attributes.{first_or_tail, frames, tail_shown}
 use Rattle.tc_forms.specs.AttributesMade.{as_word, each_under}
 use Rattle.tc_forms.specs.Frames.{PaddedFrame, after_first, frame_at, frame_bytes}
-use Rattle.tc_forms.specs.Kinds.{kind_in, kind_told, own_kind, own_or, own_told}
+use Rattle.tc_forms.specs.Kinds.{kind_in, kind_named, own_kind, own_or, own_kind_named}
 use Rattle.tc_forms.specs.Raw.{or_raw, raw, raw_of}
 use Rattle.tc_forms.specs.Records.{each_made, elements, elements_of, joined}
 use Rattle.tc_forms.specs.Tables.{Table}
@@ -70,12 +70,12 @@ in_front b h e =
     }
 
 module _ (Made : List ℕ → Data → Option (List ℕ)) (One : List ℕ → PaddedFrame → Data) (has : Bool)
-    (kinds : (k : List ℕ) (c : PaddedFrame) → Stands c → kind_told has (One k c) ≡ kind_in has c) where
+    (kinds : (k : List ℕ) (c : PaddedFrame) → Stands c → kind_named has (One k c) ≡ kind_in has c) where
   tail_under : (k b : List ℕ) → IsBytes b → each_under Made has k (tail_shown b) ≡ Some b
   tail_under k [] h = refl
   tail_under k (x ∷ b) h =
       let d = raw (x ∷ b) in
-      let later = unwrap_or (kind_told has d) k in
+      let later = unwrap_or (kind_named has d) k in
       joined_made (or_raw (raw_of d) (Made later d)) (Some []) (x ∷ b) [] (x ∷ b) (ap (λ o. or_raw o (Made later d)) (raw_of-raw (x ∷ b) h)) refl
       (append-nil (x ∷ b))
 
@@ -98,21 +98,21 @@ module _ (Made : List ℕ → Data → Option (List ℕ)) (One : List ℕ → Pa
         (λ e. tail_under k b h)
 
 -- the own kind is the same before and after
-module _ (One : List ℕ → PaddedFrame → Data) (kinds : (k : List ℕ) (c : PaddedFrame) → Stands c → kind_told true (One k c) ≡ kind_in true c) where
-  own_tail : (b : List ℕ) → own_told (tail_shown b) ≡ []
+module _ (One : List ℕ → PaddedFrame → Data) (kinds : (k : List ℕ) (c : PaddedFrame) → Stands c → kind_named true (One k c) ≡ kind_in true c) where
+  own_tail : (b : List ℕ) → own_kind_named (tail_shown b) ≡ []
   own_tail [] = refl
   own_tail (x ∷ b) = refl
 
-  pub own_again : (n : ℕ) (k b : List ℕ) → IsBytes b → own_told (frames One false n k b) ≡ own_kind n b
+  pub own_again : (n : ℕ) (k b : List ℕ) → IsBytes b → own_kind_named (frames One false n k b) ≡ own_kind n b
   own_again zero k b h = own_tail b
   own_again (suc n) k b h =
       let c = frame_at (length_at b) b in
       let after = after_first b in
       cond_both (nat_le 4 (length_at b) && nat_le (length_at b) (length b)) (Some c) None
-      (λ o. own_told (first_or_tail One false k b (λ j. frames One false n j after) o) ≡ own_or o (own_kind n after))
+      (λ o. own_kind_named (first_or_tail One false k b (λ j. frames One false n j after) o) ≡ own_or o (own_kind n after))
       (λ e.
       let j = k in
-      ap (λ o. unwrap_or o (own_told (frames One false n j after))) (kinds j c (in_front b h e).stands)
+      ap (λ o. unwrap_or o (own_kind_named (frames One false n j after))) (kinds j c (in_front b h e).stands)
       ∙ ap (unwrap_or (kind_in true c))
       (own_again n j after (IsBytes-drop (padding (length_at b)) (drop (length_at b) b) (IsBytes-drop (length_at b) b h))))
       (λ e. own_tail b)

@@ -69,7 +69,8 @@ pub ipv4_of-ipv4_text : (b : List ℕ) → length b ≡ 4 → IsBytes b → ipv4
 ipv4_of-ipv4_text b len h =
     let read : read_ipv4 (ipv4_text b) ≡ Some (b, []) =
     rw append-nil at (read_ipv4_complete (ipv4_text b) b [] (dotted (ipv4_text b) b (len, kit_bytes b h) refl) (lit≤ tt)) in
-    ap (λ r. with_text ipv4_text (ipv4_text b) (option_and_then (of_length 4) (option_map (λ x. x.0) r))) read ∙ ap (with_text ipv4_text (ipv4_text b)) (sized 4 b len)
+    ap (λ r. with_text ipv4_text (ipv4_text b) (option_and_then (of_length 4) (option_map (λ x. x.0) r))) read
+    ∙ ap (with_text ipv4_text (ipv4_text b)) (sized 4 b len)
     ∙ passed ipv4_text b h
 
 pub ipv6_of-ipv6_text : (b : List ℕ) → length b ≡ 16 → IsBytes b → ipv6_of (ipv6_text b) ≡ Some b
@@ -202,7 +203,8 @@ pub first_byte : (b : List ℕ) (first : ℕ) (others : List ℕ) → IsBytes b 
 first_byte b first others h e = (subst IsBytes e h).each 0
 
 pub front_bytes : (b : List ℕ) (last : ℕ) (others : List ℕ) → IsBytes b → b ≡ others ++ last ∷ [] → IsBytes others
-front_bytes b last others h e = subst IsBytes (take_at others (last ∷ []) (length others) refl) (IsBytes-take (length others) (others ++ last ∷ []) (subst IsBytes e h))
+front_bytes b last others h e = subst IsBytes (take_at others (last ∷ []) (length others) refl)
+    (IsBytes-take (length others) (others ++ last ∷ []) (subst IsBytes e h))
 
 pub last_byte : (b : List ℕ) (last : ℕ) (others : List ℕ) → IsBytes b → b ≡ others ++ last ∷ [] → last < 256
 last_byte b last others h e =
@@ -263,7 +265,8 @@ ipv4_so text r = reads_so ipv4_text 4 text (option_map (λ x. x.0) (read_ipv4 te
 
 pub ipv6_so : (text : List ℕ) (r : Option (List ℕ)) → IfSome r (IsOctets 16) → ReadsBack ipv6_text 16 text r → r ≡ ipv6_of text
 ipv6_so text r = reads_so ipv6_text 16 text (option_map (λ x. octets_of x.0) (read_ipv6 text)) r (λ o h e.
-    let read : read_ipv6 text ≡ Some (segments_of o, []) = rw append-nil at (read_ipv6_complete text (segments_of o) [] (colon_hex text o h e) EndsGroups-nil) in
+    let read : read_ipv6 text ≡ Some (segments_of o, []) =
+    rw append-nil at (read_ipv6_complete text (segments_of o) [] (colon_hex text o h e) EndsGroups-nil) in
     ap (option_map (λ x. octets_of x.0)) read ∙ ap Some (colon_hex_unique text (segments_of o) o h (colon_hex text o h e) e))
 
 pub hex_so : (text : List ℕ) (r : Option (List ℕ)) → IfSome r IsBytes → MatchOption r (IsNoHex text) (λ b. text ≡ hex_text b) → r ≡ hex_of text
@@ -275,7 +278,8 @@ pub seen_as : {V : Type 0} (text : List ℕ) (items : V → List ℕ) (o p : Opt
     → MatchOption (option_map items p) (IsNoHex text) (λ b. text ≡ hex_text b)
 seen_as {V} text items o p e h = go p (subst (λ (x : Option V). MatchOption x (IsNoHex text) (λ v. text ≡ hex_text (items v))) e h)
   where
-    go : (x : Option V) → MatchOption x (IsNoHex text) (λ v. text ≡ hex_text (items v)) → MatchOption (option_map items x) (IsNoHex text) (λ b. text ≡ hex_text b)
+    go : (x : Option V) → MatchOption x (IsNoHex text) (λ v. text ≡ hex_text (items v))
+        → MatchOption (option_map items x) (IsNoHex text) (λ b. text ≡ hex_text b)
     go None k = k
     go (Some v) k = k
 

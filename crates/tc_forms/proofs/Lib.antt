@@ -2,8 +2,8 @@ pub mod Leaves
 pub mod Frames
 pub mod RecordsAgain
 pub mod Found
-pub mod Law
 pub mod Ordered
+pub mod Law
 pub mod Sending
 pub mod Making
 pub mod Single

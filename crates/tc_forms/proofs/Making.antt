@@ -14,7 +14,7 @@ use Rattle.tc_forms.proofs.Found.{none_not_some, some_is}
 use Rattle.tc_forms.proofs.Sending.{drop_here}
 use Rattle.tc_forms.specs.Appended.{Appended, Stops}
 use Rattle.tc_forms.specs.Frames.{frame_bytes}
-use Rattle.tc_forms.specs.Kinds.{kind_told, own_told}
+use Rattle.tc_forms.specs.Kinds.{kind_named, own_kind_named}
 use Rattle.tc_forms.specs.Made.{in_form, make}
 use Rattle.tc_forms.specs.Raw.{or_raw, raw_of}
 use Rattle.tc_forms.specs.Records.{each_made, field_made, fields_made, joined}
@@ -72,8 +72,8 @@ none_of None start e = refl
 none_of (Some a) start e = absurd (none_not_some (start ++ a) e)
 
 -- a part that fails
-pub joined_fails : (w rest all : Option (List ℕ)) (start now : List ℕ) (e : Stop) → option_map (λ b. now ++ b) (joined w rest) ≡ option_map (λ b. start ++ b) all
-    → Stops w e → Stops all e
+pub joined_fails : (w rest all : Option (List ℕ)) (start now : List ℕ) (e : Stop)
+    → option_map (λ b. now ++ b) (joined w rest) ≡ option_map (λ b. start ++ b) all → Stops w e → Stops all e
 joined_fails w rest all start now e left fails not =
     none_of all start (ap (λ x. option_map (λ b. now ++ b) (joined x rest)) (sym (fails not)) ∙ left)
 
@@ -88,20 +88,22 @@ pub items_over : (One : Data → Option (List ℕ)) (vs : List Value) (i : ℕ) 
 items_over One vs i over = ap (λ xs. each_made One (items_view xs)) (drop_all i vs over)
 
 pub fields_here : (table : Table) (Made : Form → Data → Option (List ℕ)) (fs : List CodeField) (i : ℕ) (d : CodeField) (x : Data) → i < length fs
-    → fields_made table Made (fields_view (drop i fs)) x ≡ joined (field_made table Made (field_view (get_or fs i d)) (get (get_or fs i d).name.now x)) (fields_made table Made (fields_view (drop (i + 1) fs)) x)
+    → fields_made table Made (fields_view (drop i fs)) x
+    ≡ joined (field_made table Made (field_view (get_or fs i d)) (get (get_or fs i d).name.now x)) (fields_made table Made (fields_view (drop (i + 1) fs)) x)
 fields_here table Made fs i d x lt = ap (λ gs. fields_made table Made (fields_view gs) x) (drop_here fs i d lt)
 
-pub items_under : (One : List ℕ → Data → Option (List ℕ)) (has : Bool) (vs : List Value) (i : ℕ) (x : Value) (k next : List ℕ) → i < length vs → x ≡ get_or vs i x
-    → next ≡ unwrap_or (kind_told has (view x)) k
-    → each_under One has k (items_view (drop i vs)) ≡ joined (or_raw (raw_of (view x)) (One next (view x))) (each_under One has next (items_view (drop (i + 1) vs)))
+pub items_under : (One : List ℕ → Data → Option (List ℕ)) (has : Bool) (vs : List Value) (i : ℕ) (x : Value) (k next : List ℕ) → i < length vs
+    → x ≡ get_or vs i x → next ≡ unwrap_or (kind_named has (view x)) k
+    → each_under One has k (items_view (drop i vs))
+    ≡ joined (or_raw (raw_of (view x)) (One next (view x))) (each_under One has next (items_view (drop (i + 1) vs)))
 items_under One has vs i x k next lt is e =
     let rest = items_view (drop (i + 1) vs) in
     let Here : List ℕ → Data → Option (List ℕ) = λ j d. joined (or_raw (raw_of d) (One j d)) (each_under One has j rest) in
     ap (λ ws. each_under One has k (items_view ws)) (drop_here vs i x lt)
-    ∙ ap (λ (y : Value). Here (unwrap_or (kind_told has (view y)) k) (view y)) (sym is) ∙ ap (λ j. Here j (view x)) (sym e)
+    ∙ ap (λ (y : Value). Here (unwrap_or (kind_named has (view y)) k) (view y)) (sym is) ∙ ap (λ j. Here j (view x)) (sym e)
 
 module _ (One : List ℕ → Data → Option (List ℕ)) (has : Bool) (vs : List Value) (i : ℕ) (x : Value) (k next start now : List ℕ) (all : Option (List ℕ))
-    (lt : i < length vs) (is : x ≡ get_or vs i x) (e : next ≡ unwrap_or (kind_told has (view x)) k)
+    (lt : i < length vs) (is : x ≡ get_or vs i x) (e : next ≡ unwrap_or (kind_named has (view x)) k)
     (left : option_map (λ b. now ++ b) (each_under One has k (items_view (drop i vs))) ≡ option_map (λ b. start ++ b) all) where
   under_here : option_map (λ b. now ++ b) (joined (or_raw (raw_of (view x)) (One next (view x))) (each_under One has next (items_view (drop (i + 1) vs))))
       ≡ option_map (λ b. start ++ b) all
@@ -116,12 +118,13 @@ module _ (One : List ℕ → Data → Option (List ℕ)) (has : Bool) (vs : List
   under_fails s fails =
       joined_fails (or_raw (raw_of (view x)) (One next (view x))) (each_under One has next (items_view (drop (i + 1) vs))) all start now s under_here fails
 
-pub under_over : (One : List ℕ → Data → Option (List ℕ)) (has : Bool) (vs : List Value) (i : ℕ) (k : List ℕ) → length vs ≤ i → each_under One has k (items_view (drop i vs)) ≡ Some []
+pub under_over : (One : List ℕ → Data → Option (List ℕ)) (has : Bool) (vs : List Value) (i : ℕ) (k : List ℕ) → length vs ≤ i
+    → each_under One has k (items_view (drop i vs)) ≡ Some []
 under_over One has vs i k over = ap (λ xs. each_under One has k (items_view xs)) (drop_all i vs over)
 
 -- each under the kind that the items set
-pub under_own : (One : List ℕ → Data → Option (List ℕ)) (o : Option Items) (k : List ℕ) → k ≡ unwrap_or (option_map own_told o) []
-    → option_and_then (each_under One false k) o ≡ option_and_then (λ ds. each_under One false (own_told ds) ds) o
+pub under_own : (One : List ℕ → Data → Option (List ℕ)) (o : Option Items) (k : List ℕ) → k ≡ unwrap_or (option_map own_kind_named o) []
+    → option_and_then (each_under One false k) o ≡ option_and_then (λ ds. each_under One false (own_kind_named ds) ds) o
 under_own One None k e = refl
 under_own One (Some ds) k e = ap (λ j. each_under One false j ds) e
 
@@ -204,11 +207,11 @@ frame_maybe : (v : List ℕ) (word : ℕ) (x : Option (List ℕ)) → 4 + length
 frame_maybe v word None h k = refl
 frame_maybe v word (Some pad) h k = ap Some (frame_of v pad word h k)
 
-pub framed_end : {T : Type 0} (old mid new : List ℕ) (start n l0 l1 w0 w1 word : ℕ) (x : Option (List ℕ)) (told : Option Data) (r : Result T Stop)
+pub framed_end : {T : Type 0} (old mid new : List ℕ) (start n l0 l1 w0 w1 word : ℕ) (x : Option (List ℕ)) (given : Option Data) (r : Result T Stop)
     → start + 4 ≤ length old → n ≡ length old - start → n ≤ 65535 → word < 65536 → l0 ≡ n % 256 → l1 ≡ n / 256 → w0 ≡ word % 256 → w1 ≡ word / 256
-    → mid ≡ take start old ++ (l0 ∷ l1 ∷ w0 ∷ w1 ∷ drop (start + 4) old) → x ≡ pad_or (drop (start + 4) old) told → Appended x mid new r
-    → Appended (framed_with word (drop (start + 4) old) told) (take start old) new r
-framed_end old mid new start n l0 l1 w0 w1 word x told r room is_n few small e0 e1 e2 e3 is_mid is_x h =
+    → mid ≡ take start old ++ (l0 ∷ l1 ∷ w0 ∷ w1 ∷ drop (start + 4) old) → x ≡ pad_or (drop (start + 4) old) given → Appended x mid new r
+    → Appended (framed_with word (drop (start + 4) old) given) (take start old) new r
+framed_end old mid new start n l0 l1 w0 w1 word x given r room is_n few small e0 e1 e2 e3 is_mid is_x h =
     let v = drop (start + 4) old in
     let behind = length-drop (start + 4) old in
     let all : n ≡ 4 + length v = omega (arith, room, is_n, behind) in
@@ -221,10 +224,10 @@ framed_end old mid new start n l0 l1 w0 w1 word x told r room is_n few small e0 
     ∙ ap (λ (k : ℕ). (4 + length v) % 256 ∷ (4 + length v) / 256 ∷ k ∷ w1 ∷ v) e2
     ∙ ap (λ (k : ℕ). (4 + length v) % 256 ∷ (4 + length v) / 256 ∷ word % 256 ∷ k ∷ v) e3 in
     let there : Some (take start old ++ bytes) ≡ Some mid = ap Some (ap (λ b. take start old ++ b) (sym exact) ∙ sym is_mid) in
-    appended_as (option_map (λ b. bytes ++ b) x) (framed_with word v told) (take start old) new r
+    appended_as (option_map (λ b. bytes ++ b) x) (framed_with word v given) (take start old) new r
     (frame_maybe v word x short small
     ∙ ap (λ o. option_map (λ pad. frame_bytes (record { word = word; value = v; pad = pad })) o) is_x
-    ∙ sym (cond-true (nat_le (length v) 65531) (option_map (λ pad. frame_bytes (record { word = word; value = v; pad = pad })) (pad_or v told)) None fits))
+    ∙ sym (cond-true (nat_le (length v) 65531) (option_map (λ pad. frame_bytes (record { word = word; value = v; pad = pad })) (pad_or v given)) None fits))
     (then_maybe bytes x (take start old) mid new r there h)
 
 four_more : (m : ℕ) → (m + 4) % 4 ≡ m % 4

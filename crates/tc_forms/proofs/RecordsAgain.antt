@@ -1,7 +1,7 @@
 -- Records are made again of what is shown of them.
 use Rattle.std.proofs.Common.{◌≡◌, ℕ, inl, inr, Bool, true, false, List, [], ◌∷◌, ◌++◌, length, Option, Some, None, refl, ap, sym, ◌∙◌, cond, true≢false}
 use Rattle.std.proofs.Common.{Ordering, Less, Equal, Greater}
-use Rattle.std.specs.Prelude.{option_and_then, unwrap_or, replicate, ◌==◌, bytes_eq, codes, not, ◌&&◌}
+use Rattle.std.specs.Prelude.{option_map, unwrap_or, replicate, ◌==◌, bytes_eq, codes, not, ◌&&◌}
 use Rattle.std.specs.Ordering.{match_ordering, nat_cmp, is_eq}
 use Rattle.std.specs.Cmp.Lexicographic.{slice_cmp}
 use Rattle.std.proofs.lemmas.Bool.{cases_Bool, cond_both, and_parts, eqb-true}
@@ -10,12 +10,12 @@ use Rattle.std.proofs.lemmas.List.{append-nil, take-append-drop}
 use Rattle.std.proofs.lemmas.Map.Text.{is_eq-slice_cmp}
 use Rattle.nla_frames.specs.Value.{IsBytes}
 use Rattle.nla_frames.proofs.Bytes.{IsBytes-take, IsBytes-drop, IsBytes-nil}
-use Rattle.serde_json.specs.Data.{Data, object, Members, no_members, member}
-use Rattle.serde_json.specs.Find.{get_member}
+use Rattle.serde_json.specs.Data.{Data, Members, no_members, member, string}
+use Rattle.serde_json.specs.Find.{get, get_member}
 use Rattle.tc_forms.specs.declared.form.Form.{Form}
-use Rattle.tc_forms.specs.Raw.{hex, hex_made, raw_of}
+use Rattle.tc_forms.specs.Raw.{hex, hex_made}
 use Rattle.tc_forms.specs.Records.{after_field, all_zero, are_apart, field_made, field_member, field_of, fields_made, is_blank, is_free, is_pad, members}
-use Rattle.tc_forms.specs.Records.{names_apart, rest_made, rest_member, zeros}
+use Rattle.tc_forms.specs.Records.{rest_made, rest_member, zeros}
 use Rattle.tc_forms.specs.Tables.{Field, Table}
 use Rattle.tc_forms.specs.Widths.{field_width}
 use Rattle.tc_forms.proofs.Leaves.{all_zeros, same_bytes, hex_made-hex}
@@ -90,13 +90,13 @@ module _ (table : Table) (Inner : Form → List ℕ → Data) where
       past_field name f (field_of (field_width table f) b) (members table Inner fs (after_field (field_width table f) b)) (not-false _ both.0)
       ∙ absent name fs (after_field (field_width table f) b) both.1 e
 
-module _ (table : Table) (Inner : Form → List ℕ → Data) (Made : Form → Data → Option (List ℕ))
-    (again : (f : Form) (b : List ℕ) → IsBytes b → Made f (Inner f b) ≡ Some b) where
-  -- among these members, each field from here on is found, and what is left
-  abbrev Finds : Members → List Field → List ℕ → Type 0
-  Finds ms fs b =
-      ((name : List ℕ) → is_free name fs ≡ false → get_member name ms ≡ get_member name (members table Inner fs b))
-      × (get_member rest ms ≡ get_member rest (members table Inner fs b))
+module _ (table : Table) (Inner : Form → List ℕ → Data) (Made : Form → Data → Option (List ℕ)) (read : Data → Data)
+    (again : (f : Form) (b : List ℕ) → IsBytes b → Made f (read (Inner f b)) ≡ Some b) (of_text : (s : List ℕ) → read (string s) ≡ string s) where
+  -- in this object, as it is read, each field from here on is found, and what is left
+  abbrev Finds : Data → List Field → List ℕ → Type 0
+  Finds d fs b =
+      ((name : List ℕ) → is_free name fs ≡ false → get name d ≡ option_map read (get_member name (members table Inner fs b)))
+      × (get rest d ≡ option_map read (get_member rest (members table Inner fs b)))
 
   free_later : (name : List ℕ) (f : Field) (fs : List Field) → is_free name fs ≡ false → is_free name (f ∷ fs) ≡ false
   free_later name f fs e = elim (not (bytes_eq name f.name)) as (λ t. (t && is_free name fs) ≡ false) [ true ↦ e | false ↦ refl ]
@@ -112,51 +112,39 @@ module _ (table : Table) (Inner : Form → List ℕ → Data) (Made : Form → D
         | inr differs ↦ differs
       ]
 
-  rest_again : (b : List ℕ) → IsBytes b → rest_made (get_member rest (rest_member b)) ≡ Some b
+  rest_again : (b : List ℕ) → IsBytes b → rest_made (option_map read (get_member rest (rest_member b))) ≡ Some b
   rest_again [] h = refl
-  rest_again (x ∷ b) h = hex_made-hex (x ∷ b) h
+  rest_again (x ∷ b) h = ap hex_made (of_text _) ∙ hex_made-hex (x ∷ b) h
 
-  pub fields_again : (fs : List Field) (b : List ℕ) (ms : Members) → IsBytes b → Finds ms fs b → are_apart fs ≡ true → is_free rest fs ≡ true
-      → fields_made table Made fs (object ms) ≡ Some b
-  fields_again [] b ms h finds apart_all free = ap rest_made finds.1 ∙ rest_again b h
-  fields_again (f ∷ fs) b ms h finds apart_all free =
+  pub fields_again : (fs : List Field) (b : List ℕ) (d : Data) → IsBytes b → Finds d fs b → are_apart fs ≡ true → is_free rest fs ≡ true
+      → fields_made table Made fs d ≡ Some b
+  fields_again [] b d h finds apart_all free = ap rest_made finds.1 ∙ rest_again b h
+  fields_again (f ∷ fs) b d h finds apart_all free =
       let w = field_width table f in
       let chunk = field_of w b in
       let later = after_field w b in
       let after = members table Inner fs later in
       let own = and_parts (is_free f.name fs) (are_apart fs) apart_all in
       let unlike_rest = and_parts (not (bytes_eq rest f.name)) (is_free rest fs) free in
-      let finds_later : Finds ms fs later = (
-        λ name e. finds.0 name (free_later name f fs e) ∙ past_field table Inner name f chunk after (apart name f.name fs e own.0),
-        finds.1 ∙ past_field table Inner rest f chunk after (not-false _ unlike_rest.0),
+      let finds_later : Finds d fs later = (
+        λ name e. finds.0 name (free_later name f fs e)
+            ∙ ap (option_map read) (past_field table Inner name f chunk after (apart name f.name fs e own.0)),
+        finds.1 ∙ ap (option_map read) (past_field table Inner rest f chunk after (not-false _ unlike_rest.0)),
       ) in
-      joined_made (field_made table Made f (get_member f.name ms)) (fields_made table Made fs (object ms)) chunk later b
-      (ap (field_made table Made f) (finds.0 f.name (free_here f fs)) ∙ field_again f fs chunk later (IsBytes-field_of w b h) own.0 (swapped rest f.name (not-false _ unlike_rest.0)))
-      (fields_again fs later ms (IsBytes-after_field w b h) finds_later own.1 unlike_rest.1) (whole_again w b)
+      joined_made (field_made table Made f (get f.name d)) (fields_made table Made fs d) chunk later b
+      (ap (field_made table Made f) (finds.0 f.name (free_here f fs))
+      ∙ field_again f fs chunk later (IsBytes-field_of w b h) own.0 (swapped rest f.name (not-false _ unlike_rest.0)))
+      (fields_again fs later d (IsBytes-after_field w b h) finds_later own.1 unlike_rest.1) (whole_again w b)
     where
       field_again : (f : Field) (fs : List Field) (chunk later : List ℕ) → IsBytes chunk → is_free f.name fs ≡ true → bytes_eq f.name rest ≡ false
-          → field_made table Made f (get_member f.name (field_member table Inner f chunk (members table Inner fs later))) ≡ Some chunk
+          → field_made table Made f (option_map read (get_member f.name (field_member table Inner f chunk (members table Inner fs later)))) ≡ Some chunk
       field_again f fs chunk later h own unlike =
           let pads = zeros (field_width table f) in
           let after = members table Inner fs later in
           cond_both (is_pad f.form && is_blank (field_width table f) chunk) after (member f.name (Inner f.form chunk) after)
-          (λ ms. field_made table Made f (get_member f.name ms) ≡ Some chunk)
+          (λ ms. field_made table Made f (option_map read (get_member f.name ms)) ≡ Some chunk)
           (λ e.
           let both = and_parts (is_pad f.form) (is_blank (field_width table f) chunk) e in
-          ap (field_made table Made f) (absent table Inner f.name fs later own unlike) ∙ ap (λ t. cond t (Some pads) None) both.0
+          ap (λ o. field_made table Made f (option_map read o)) (absent table Inner f.name fs later own unlike) ∙ ap (λ t. cond t (Some pads) None) both.0
           ∙ ap Some (sym (blank (field_width table f) chunk both.1)))
-          (λ e. ap (field_made table Made f) (here f.name (Inner f.form chunk) after) ∙ again f.form chunk h)
-
-  -- a record, of any fields
-  pub record_again : (fs : List Field) (b : List ℕ) → IsBytes b → names_apart fs ≡ true → fields_made table Made fs (object (members table Inner fs b)) ≡ Some b
-  record_again fs b h e =
-      let all = and_parts (is_free (codes "raw") fs && is_free rest fs) (are_apart fs) e in
-      let names = and_parts (is_free (codes "raw") fs) (is_free rest fs) all.0 in
-      fields_again fs b (members table Inner fs b) h (λ name e. refl, refl) all.1 names.1
-
-  -- it isn't taken for what is raw
-  pub record_not_raw : (fs : List Field) (b : List ℕ) → names_apart fs ≡ true → raw_of (object (members table Inner fs b)) ≡ None
-  record_not_raw fs b e =
-      let all = and_parts (is_free (codes "raw") fs && is_free rest fs) (are_apart fs) e in
-      let names = and_parts (is_free (codes "raw") fs) (is_free rest fs) all.0 in
-      ap (option_and_then hex_made) (absent table Inner (codes "raw") fs b names.0 refl)
+          (λ e. ap (λ o. field_made table Made f (option_map read o)) (here f.name (Inner f.form chunk) after) ∙ again f.form chunk h)

@@ -52,7 +52,8 @@ mac_sent b t old new long same h =
 -- ---- frames
 
 module _ (One : List ℕ → PaddedFrame → Data) (has : Bool) (len i : ℕ) (start_kind kind b left : List ℕ) (start mid new : Log)
-    (before : (end : Log) → Sent (items_events (frames One has (len - i) kind left)) mid end → Sent (items_events (frames One has len start_kind b)) start end) where
+    (before : (end : Log) → Sent (items_events (frames One has (len - i) kind left)) mid end
+    → Sent (items_events (frames One has len start_kind b)) start end) where
   pub frames_more : (next after : List ℕ) (c : PaddedFrame) → i < len → Some c ≡ front left → after ≡ after_first left → next ≡ unwrap_or (kind_in has c) kind
       → Sent (events (One next c)) mid new
       → (end : Log) → Sent (items_events (frames One has (len - (i + 1)) next after)) new end → Sent (items_events (frames One has len start_kind b)) start end
@@ -116,11 +117,14 @@ module _ (table : Table) (Inner : Form → List ℕ → Data) (f : Form) (w len 
 -- ---- fields
 
 module _ (table : Table) (Inner : Form → List ℕ → Data) (fs : List CodeField) (i : ℕ) (b left : List ℕ) (start mid new : Log)
-    (before : (end : Log) → Sent (members_events (members table Inner (fields_view (drop i fs)) left)) mid end → Sent (members_events (members table Inner (fields_view fs) b)) start end) where
+    (before : (end : Log) → Sent (members_events (members table Inner (fields_view (drop i fs)) left)) mid end
+    → Sent (members_events (members table Inner (fields_view fs) b)) start end) where
   pub fields_more : (d : CodeField) (chunk after : List ℕ) → i < length fs → chunk ≡ field_of (field_width table (field_view (get_or fs i d))) left
       → after ≡ after_field (field_width table (field_view (get_or fs i d))) left
-      → ((rest : Members) (end : Log) → Sent (members_events rest) new end → Sent (members_events (field_member table Inner (field_view (get_or fs i d)) chunk rest)) mid end)
-      → (end : Log) → Sent (members_events (members table Inner (fields_view (drop (i + 1) fs)) after)) new end → Sent (members_events (members table Inner (fields_view fs) b)) start end
+      → ((rest : Members) (end : Log) → Sent (members_events rest) new end
+      → Sent (members_events (field_member table Inner (field_view (get_or fs i d)) chunk rest)) mid end)
+      → (end : Log) → Sent (members_events (members table Inner (fields_view (drop (i + 1) fs)) after)) new end
+      → Sent (members_events (members table Inner (fields_view fs) b)) start end
   fields_more d chunk after lt is_chunk is_after sent end later =
       let f = field_view (get_or fs i d) in
       let here : drop i fs ≡ get_or fs i d ∷ drop (i + 1) fs = drop_here fs i d lt in
@@ -158,7 +162,8 @@ list_sent ds old first last new h k e =
     (sent_then (items_events ds) (seq_ends ∷ []) first last new k (sent_one seq_ends last new e))
 
 -- a form that holds no other
-pub plain_when : (table : Table) (Inner : List ℕ → Form → List ℕ → Data) (k : List ℕ) (f : Form) (b : List ℕ) → ((i : ℕ) → f ≡ form.Record i → ⊥) → ((i : ℕ) → f ≡ form.Array i → ⊥)
+pub plain_when : (table : Table) (Inner : List ℕ → Form → List ℕ → Data) (k : List ℕ) (f : Form) (b : List ℕ) → ((i : ℕ) → f ≡ form.Record i → ⊥)
+    → ((i : ℕ) → f ≡ form.Array i → ⊥)
     → ((n i : ℕ) → f ≡ form.Times n i → ⊥) → ((i : ℕ) → f ≡ form.List i → ⊥) → ((i : ℕ) → f ≡ form.InForce i → ⊥) → ((i : ℕ) → f ≡ form.Own i → ⊥)
     → ((i : ℕ) → f ≡ form.Indexed i → ⊥) → ((i : ℕ) → f ≡ form.Choice i → ⊥) → shown table Inner k f b ≡ plain_shown table f b
 plain_when table Inner k (form.Record i) b r a t l m o x c = absurd (r i refl)
@@ -187,12 +192,12 @@ module _ (len i : ℕ) (b left : List ℕ) (before : own_kind len b ≡ own_kind
       before ∙ ap (λ n. own_kind n left) one_less ∙ ap (λ o. own_or o (own_kind (len - (i + 1)) (after_first left))) (sym found)
 
   pub own_here : (c : PaddedFrame) (t : List ℕ) → i < len → Some c ≡ front left → Some t ≡ kind_in true c → t ≡ own_kind len b
-  own_here c t lt found told = sym (own_step c lt found ∙ ap (λ o. unwrap_or o (own_kind (len - (i + 1)) (after_first left))) (sym told))
+  own_here c t lt found sets = sym (own_step c lt found ∙ ap (λ o. unwrap_or o (own_kind (len - (i + 1)) (after_first left))) (sym sets))
 
   pub own_later : (c : PaddedFrame) (after : List ℕ) → i < len → Some c ≡ front left → None ≡ kind_in true c → after ≡ after_first left
       → own_kind len b ≡ own_kind (len - (i + 1)) after
-  own_later c after lt found told is_after =
-      own_step c lt found ∙ ap (λ o. unwrap_or o (own_kind (len - (i + 1)) (after_first left))) (sym told)
+  own_later c after lt found sets is_after =
+      own_step c lt found ∙ ap (λ o. unwrap_or o (own_kind (len - (i + 1)) (after_first left))) (sym sets)
       ∙ ap (own_kind (len - (i + 1))) (sym is_after)
 
 -- ---- texts without a NUL
@@ -209,9 +214,10 @@ bare_raw b old new not h =
     subst (λ d. Sent (events d) old new) (sym shown) h
 
 -- an option that is none, seen
-pub not_told : {X : Type 0} (o : Option X) (wanted : Option (List ℕ)) (see : X → List ℕ) → ((x : X) → o ≡ Some x → ⊥) → option_map see o ≡ wanted → None ≡ wanted
-not_told None wanted see h e = e
-not_told (Some x) wanted see h e = absurd (h x refl)
+pub none_wanted : {X : Type 0} (o : Option X) (wanted : Option (List ℕ)) (see : X → List ℕ) → ((x : X) → o ≡ Some x → ⊥) → option_map see o ≡ wanted
+    → None ≡ wanted
+none_wanted None wanted see h e = e
+none_wanted (Some x) wanted see h e = absurd (h x refl)
 
 -- a member alone
 pub key_sent : (name : List ℕ) (d : Data) (old mid new : Log) → Logs old mid (field_key name AsIs) → Sent (events d) mid new

@@ -18,27 +18,27 @@ tail_shown [] = no_items
 tail_shown b = item (raw b) no_items
 
 -- a word that isn't the row's, and padding that isn't zeros, are members of their own
-abbrev pub pad_told : PaddedFrame → Members
-pad_told c = if is_blank (Some (padding (length c.value))) c.pad then no_members else member (codes "pad") (hex c.pad) no_members
+abbrev pub pad_member : PaddedFrame → Members
+pad_member c = if is_blank (Some (padding (length c.value))) c.pad then no_members else member (codes "pad") (hex c.pad) no_members
 
-abbrev pub told : ℕ → PaddedFrame → Members
-told word c = if c.word == word then pad_told c else member (codes "word") (number (unsigned c.word)) (pad_told c)
+abbrev pub beside : ℕ → PaddedFrame → Members
+beside word c = if c.word == word then pad_member c else member (codes "word") (number (unsigned c.word)) (pad_member c)
 
 abbrev pub word_and_hex : PaddedFrame → Data
 word_and_hex c = object (member (codes "word") (number (unsigned c.word)) (member (codes "value") (hex c.value) no_members))
 
 abbrev pub other : PaddedFrame → Data
-other c = object (member (codes "Other") (word_and_hex c) (pad_told c))
+other c = object (member (codes "Other") (word_and_hex c) (pad_member c))
 
 -- a kind whose text no NUL ends is bare
-abbrev pub bare_told : List ℕ → Members → Members
-bare_told value after = if ends_in_nul value then after else member (codes "bare") (boolean true) after
+abbrev pub bare_member : List ℕ → Members → Members
+bare_member value after = if ends_in_nul value then after else member (codes "bare") (boolean true) after
 
 abbrev pub kind_shown : PaddedFrame → List ℕ → Data
-kind_shown c t = object (member (codes "Kind") (string t) (bare_told c.value (told 1 c)))
+kind_shown c t = object (member (codes "Kind") (string t) (bare_member c.value (beside 1 c)))
 
 abbrev pub indexed : PaddedFrame → Data → Data
-indexed c held = object (member (codes "tab") (number (unsigned c.word)) (member (codes "attributes") held (pad_told c)))
+indexed c held = object (member (codes "tab") (number (unsigned c.word)) (member (codes "attributes") held (pad_member c)))
 
 -- within an object of one member, if it has a name
 abbrev pub layered : List ℕ → Data → Data
@@ -58,7 +58,7 @@ module _ (One : List ℕ → PaddedFrame → Data) (has : Bool) where
 module _ (Inner : List ℕ → Form → List ℕ → Data) (rows : List Row) (has : Bool) where
   abbrev pub by_row : List ℕ → PaddedFrame → Option Row → Data
   by_row kind c None = other c
-  by_row kind c (Some r) = object (member r.name (Inner kind r.form c.value) (told r.word c))
+  by_row kind c (Some r) = object (member r.name (Inner kind r.form c.value) (beside r.word c))
 
   abbrev pub by_kind : List ℕ → PaddedFrame → Option (List ℕ) → Data
   by_kind kind c (Some t) = kind_shown c t

@@ -3,7 +3,7 @@ use Rattle.std.specs.Prelude.{Bool, List, None, Option, Some, [], codes, false, 
 use Rattle.serde_json.specs.Data.{Data, Items, item, no_items}
 use Rattle.serde_json.specs.Find.{as_number, as_u64, get}
 use Rattle.tc_forms.specs.Frames.{frame_bytes, zero_pad}
-use Rattle.tc_forms.specs.Kinds.{kind_told, kind_value}
+use Rattle.tc_forms.specs.Kinds.{kind_named, kind_value}
 use Rattle.tc_forms.specs.Places.{form_of, layer_of, part_at, rows_under}
 use Rattle.tc_forms.specs.Raw.{hex_made, or_raw, raw_of}
 use Rattle.tc_forms.specs.Records.{joined}
@@ -19,21 +19,21 @@ as_word n = if nat_le n 0xffff then Some n else None
 abbrev pub word_made : Data → Option ℕ
 word_made d = option_and_then as_word (option_and_then as_u64 (as_number d))
 
--- the word that is told, or else the row's
+-- the word that stands beside an attribute, or else the row's
 abbrev pub word_or : ℕ → Option Data → Option ℕ
 word_or word None = Some word
 word_or word (Some d) = word_made d
 
--- the padding that is told, or else zeros
+-- the padding that stands beside an attribute, or else zeros
 abbrev pub pad_or : List ℕ → Option Data → Option (List ℕ)
 pad_or value None = Some (zero_pad value)
 pad_or value (Some d) = hex_made d
 
 -- a frame of a value that fits
 abbrev pub framed_with : ℕ → List ℕ → Option Data → Option (List ℕ)
-framed_with word value told =
+framed_with word value given =
     if nat_le (length value) 65531
-    then option_map (λ pad. frame_bytes (record { word = word; value = value; pad = pad })) (pad_or value told) else None
+    then option_map (λ pad. frame_bytes (record { word = word; value = value; pad = pad })) (pad_or value given) else None
 
 abbrev pub framed : Option ℕ → Option (List ℕ) → Data → Option (List ℕ)
 framed (Some word) (Some value) d = framed_with word value (get (codes "pad") d)
@@ -46,7 +46,7 @@ other_made d x = framed (option_and_then word_made (get (codes "word") x)) (opti
 abbrev pub each_under : (List ℕ → Data → Option (List ℕ)) → Bool → List ℕ → Items → Option (List ℕ)
 each_under One has kind no_items = Some []
 each_under One has kind (item d ds) =
-    joined (or_raw (raw_of d) (One (unwrap_or (kind_told has d) kind) d)) (each_under One has (unwrap_or (kind_told has d) kind) ds)
+    joined (or_raw (raw_of d) (One (unwrap_or (kind_named has d) kind) d)) (each_under One has (unwrap_or (kind_named has d) kind) ds)
 
 -- what an object of one member holds, if it has a name
 abbrev pub unlayered : List ℕ → Data → Option Data
@@ -67,7 +67,7 @@ module _ (Inner : List ℕ → Form → Data → Option (List ℕ)) (rows : List
   by_kind_made kind d None = by_row_made kind d (get (codes "Other") d)
 
   abbrev pub attribute_made : List ℕ → Data → Option (List ℕ)
-  attribute_made kind d = by_kind_made kind d (kind_told has d)
+  attribute_made kind d = by_kind_made kind d (kind_named has d)
 
   -- an attribute in its layer
   abbrev pub layered_by : List ℕ → List ℕ → Data → Option (List ℕ)

@@ -1,5 +1,6 @@
 -- Choices by length or by the first bytes.
-use Rattle.std.specs.Prelude.{Bool, List, None, Option, Some, bytes_eq, codes, drop, if◌then◌else◌, length, not, option_and_then, option_map, take, unwrap_or, ℕ, ◌&&◌, ◌++◌, ◌==◌}
+use Rattle.std.specs.Prelude.{Bool, List, None, Option, Some, bytes_eq, codes, drop, if◌then◌else◌, length, not, option_and_then, option_map}
+use Rattle.std.specs.Prelude.{take, unwrap_or, ℕ, ◌&&◌, ◌++◌, ◌==◌}
 use Rattle.serde_json.specs.Data.{Data}
 use Rattle.serde_json.specs.Find.{get}
 use Rattle.tc_forms.specs.Raw.{hex, hex_made, one}

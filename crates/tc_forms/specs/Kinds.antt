@@ -1,5 +1,6 @@
 -- The kind in force in a list: the text of an attribute of type 1. It may lack its NUL, and sets the kind even so.
-use Rattle.std.specs.Prelude.{Bool, List, None, Option, Some, [], codes, if◌then◌else◌, option_and_then, option_map, suc, true, unwrap_or, zero, ℕ, ◌&&◌, ◌++◌, ◌==◌, ◌∷◌}
+use Rattle.std.specs.Prelude.{Bool, List, None, Option, Some, [], codes, if◌then◌else◌, option_and_then, option_map, suc, true, unwrap_or, zero, ℕ}
+use Rattle.std.specs.Prelude.{◌&&◌, ◌++◌, ◌==◌, ◌∷◌}
 use Rattle.std.specs.Str.{is_utf8}
 use Rattle.nla_frames.specs.Value.{strip}
 use Rattle.serde_json.specs.Data.{Data, Items, item, no_items}
@@ -19,20 +20,20 @@ abbrev pub own_or : Option PaddedFrame → List ℕ → List ℕ
 own_or None later = []
 own_or (Some c) later = unwrap_or (kind_in true c) later
 
--- the first kind that a list tells; none is the empty text
+-- the first kind that a list sets; none is the empty text
 abbrev pub own_kind : ℕ → List ℕ → List ℕ
 own_kind zero b = []
 own_kind (suc n) b = own_or (front b) (own_kind n (after_first b))
 
 -- ---- in JSON
 
--- the kind that an item tells, in a list that has kinds
-abbrev pub kind_told : Bool → Data → Option (List ℕ)
-kind_told has d = if has then option_and_then as_str (get (codes "Kind") d) else None
+-- the kind that an item names, in a list that has kinds
+abbrev pub kind_named : Bool → Data → Option (List ℕ)
+kind_named has d = if has then option_and_then as_str (get (codes "Kind") d) else None
 
-abbrev pub own_told : Items → List ℕ
-own_told no_items = []
-own_told (item d ds) = unwrap_or (kind_told true d) (own_told ds)
+abbrev pub own_kind_named : Items → List ℕ
+own_kind_named no_items = []
+own_kind_named (item d ds) = unwrap_or (kind_named true d) (own_kind_named ds)
 
 -- a kind's text, with a NUL unless it is bare
 abbrev pub kind_value : List ℕ → Option Data → Option (List ℕ)

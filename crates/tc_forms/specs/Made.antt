@@ -4,7 +4,7 @@ use Rattle.serde_json.specs.Data.{Data}
 use Rattle.serde_json.specs.Find.{as_array}
 use Rattle.tc_forms.specs.AttributesMade.{each_under, indexed_made, kinded_made, layered_made}
 use Rattle.tc_forms.specs.Choices.{by_choice_made}
-use Rattle.tc_forms.specs.Kinds.{own_told}
+use Rattle.tc_forms.specs.Kinds.{own_kind_named}
 use Rattle.tc_forms.specs.Places.{choices_of, fields_of, form_of, part_at}
 use Rattle.tc_forms.specs.Raw.{or_raw, raw_of}
 use Rattle.tc_forms.specs.Records.{each_made, fields_made}
@@ -23,7 +23,7 @@ module _ (table : Table) (Inner : List ℕ → Form → Data → Option (List �
   in_form kind (form.Times n i) d = option_and_then (each_made (Inner kind (form_of i (part_at table i)))) (as_array d)
   in_form kind (form.List i) d = option_and_then (each_under (layered_made table Inner i) false kind) (as_array d)
   in_form kind (form.InForce i) d = option_and_then (each_under (kinded_made table Inner i) true kind) (as_array d)
-  in_form kind (form.Own i) d = option_and_then (λ ds. each_under (kinded_made table Inner i) false (own_told ds) ds) (as_array d)
+  in_form kind (form.Own i) d = option_and_then (λ ds. each_under (kinded_made table Inner i) false (own_kind_named ds) ds) (as_array d)
   in_form kind (form.Indexed i) d = option_and_then (each_under (indexed_made table Inner i) false kind) (as_array d)
   in_form kind (form.Choice i) d = by_choice_made (Inner kind) (choices_of (part_at table i)) d
   in_form kind f d = plain_made table f d

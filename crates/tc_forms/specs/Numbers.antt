@@ -1,5 +1,6 @@
 -- Numbers: their bits in bytes, and their JSON; with names or without.
-use Rattle.std.specs.Prelude.{Bool, List, None, Option, Some, [], bytes_eq, codes, false, if◌then◌else◌, nat_lt, negsuc, option_and_then, option_map, reverse, true, unwrap_or, ℕ, ◌*◌, ◌-◌, ◌==◌, ◌^◌, ◌∷◌}
+use Rattle.std.specs.Prelude.{Bool, List, None, Option, Some, [], bytes_eq, codes, false, if◌then◌else◌, nat_lt, negsuc, option_and_then, option_map}
+use Rattle.std.specs.Prelude.{reverse, true, unwrap_or, ℕ, ◌*◌, ◌-◌, ◌==◌, ◌^◌, ◌∷◌}
 use Rattle.nla_frames.specs.Value.{le_bytes, le_value}
 use Rattle.serde_json.specs.Data.{Data, Num, negative, string, unsigned}
 use Rattle.serde_json.specs.Find.{as_number, get}

@@ -1,5 +1,6 @@
 -- Bytes in hex, and those that don't follow their form: `{"raw":"dead"}`.
-use Rattle.std.specs.Prelude.{Bool, Err, List, None, Ok, Option, Result, Some, [], bytes_eq, codes, if◌then◌else◌, length, nat_lt, option_and_then, true, ℕ, ◌&&◌, ◌==◌, ◌∷◌}
+use Rattle.std.specs.Prelude.{Bool, Err, List, None, Ok, Option, Result, Some, [], bytes_eq, codes, if◌then◌else◌, length, nat_lt, option_and_then, true, ℕ}
+use Rattle.std.specs.Prelude.{◌&&◌, ◌==◌, ◌∷◌}
 use Rattle.hex.specs.Hex.{decode_of}
 use Rattle.hex.specs.declared.error.FromHexError.{FromHexError}
 use Rattle.serde_json.specs.Data.{Data, member, no_members, object, string}

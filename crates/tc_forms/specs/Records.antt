@@ -1,5 +1,6 @@
 -- Records: one field after the other, and what is behind them; and elements of one form.
-use Rattle.std.specs.Prelude.{Bool, List, None, Option, Some, [], bytes_eq, codes, drop, false, if◌then◌else◌, length, nat_le, not, replicate, suc, take, true, unwrap_or, zero, ℕ, ◌&&◌, ◌++◌, ◌-◌, ◌==◌, ◌∷◌}
+use Rattle.std.specs.Prelude.{Bool, List, None, Option, Some, [], bytes_eq, codes, drop, false, if◌then◌else◌, length, nat_le, not, replicate, suc}
+use Rattle.std.specs.Prelude.{take, true, unwrap_or, zero, ℕ, ◌&&◌, ◌++◌, ◌-◌, ◌==◌, ◌∷◌}
 use Rattle.serde_json.specs.Data.{Data, Items, Members, item, member, no_items, no_members}
 use Rattle.serde_json.specs.Find.{get}
 use Rattle.tc_forms.specs.Raw.{hex, hex_made}
@@ -95,7 +96,7 @@ rest_made None = Some []
 rest_made (Some d) = hex_made d
 
 module _ (table : Table) (Inner : Form → Data → Option (List ℕ)) where
-  -- padding that isn't told is zeros
+  -- a field of padding that JSON leaves out is zeros
   abbrev pub field_made : Field → Option Data → Option (List ℕ)
   field_made f None = if is_pad f.form then Some (zeros (field_width table f)) else None
   field_made f (Some d) = Inner f.form d

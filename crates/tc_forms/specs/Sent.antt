@@ -1,4 +1,4 @@
--- What is sent to a format of serde: the events of JSON, one after the other. The lengths of lists and objects aren't told.
+-- What is sent to a format of serde: the events of JSON, one after the other. The lengths of lists and objects aren't sent.
 use Rattle.std.specs.Prelude.{◌≡◌, List, [], ◌∷◌, ◌++◌, Some, None, ⊤}
 use Rattle.serde.specs.Event as event
 use Rattle.serde.specs.Event.{Event, Log}

@@ -1,7 +1,8 @@
 -- Values that hold no others: what is shown of their bytes, and the bytes that are made of it.
 use Rattle.std.specs.Net.Addr.{octets_of}
 use Rattle.std.specs.Net.Reader.{read_ipv4, read_ipv6}
-use Rattle.std.specs.Prelude.{Bool, List, None, Option, Some, [], bytes_eq, codes, false, if◌then◌else◌, length, option_and_then, option_map, slice_index, take, true, ℕ, ◌&&◌, ◌++◌, ◌-◌, ◌==◌, ◌||◌, ◌∷◌}
+use Rattle.std.specs.Prelude.{Bool, List, None, Option, Some, [], bytes_eq, codes, false, if◌then◌else◌, length, option_and_then, option_map, slice_index}
+use Rattle.std.specs.Prelude.{take, true, ℕ, ◌&&◌, ◌++◌, ◌-◌, ◌==◌, ◌||◌, ◌∷◌}
 use Rattle.std.specs.Str.{is_utf8}
 use Rattle.hex.specs.Hex.{decode_sized}
 use Rattle.nla_frames.specs.Value.{le_bytes, le_value}
@@ -32,7 +33,8 @@ abbrev pub plain_shown : Table → Form → List ℕ → Data
 plain_shown table (form.Number k) b = if length b == number_width k then number (num k (bits_of k b)) else raw b
 plain_shown table (form.Named k i) b =
     if length b == number_width k
-    then named_or (names_of (part_at table i)) (bits_of k b) (one (codes "Other") (number (num k (bits_of k b)))) (name_of (names_of (part_at table i)) (bits_of k b))
+    then named_or (names_of (part_at table i)) (bits_of k b) (one (codes "Other") (number (num k (bits_of k b))))
+    (name_of (names_of (part_at table i)) (bits_of k b))
     else raw b
 plain_shown table form.Handle b = if length b == 4 then string (handle_text (le_value b)) else raw b
 plain_shown table form.Flag b = if length b == 0 then boolean true else raw b

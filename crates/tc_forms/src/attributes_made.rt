@@ -2,10 +2,11 @@
 
 ghost use Rattle.serde_json.specs.Find.{as_array, get};
 ghost use Rattle.serde_json.specs.View.{items_view, view};
-ghost use Rattle.std.specs.Prelude.{IfErr, IfOk, None, OnOk, Some, [], codes, drop, false, length, option_and_then, option_map, take, true, unwrap_or, ◌+◌, ◌++◌, ◌∷◌, ◌≡◌, ◌≤◌};
+ghost use Rattle.std.specs.Prelude.{IfErr, IfOk, None, OnOk, Some, [], codes, drop, false, length, option_and_then, option_map, take, true, unwrap_or};
+ghost use Rattle.std.specs.Prelude.{◌+◌, ◌++◌, ◌∷◌, ◌≡◌, ◌≤◌};
 ghost use Rattle.tc_forms.specs.Appended.{Appended};
 ghost use Rattle.tc_forms.specs.AttributesMade.{by_kind_made, framed_with, other_made, unlayered, word_made, word_or};
-ghost use Rattle.tc_forms.specs.Kinds.{kind_told, kind_value, own_told};
+ghost use Rattle.tc_forms.specs.Kinds.{kind_named, kind_value, own_kind_named};
 ghost use Rattle.tc_forms.specs.declared.maker.Stop.TheVariants.{OutOfMemory};
 
 use crate::error::Wanted;
@@ -32,8 +33,8 @@ pub(crate) fn no_row<'v>(maker: &mut Maker<'v>, has: bool, value: &'v Value) -> 
 }
 
 // The kind that an item has, in a list with kinds.
-pub(crate) fn kind_told<'v>(has: bool, value: &'v Value) -> Option<&'v str>
-    ensures { option_map (λ t. t.now) result ≡ kind_told has (view value.now) }
+pub(crate) fn kind_named<'v>(has: bool, value: &'v Value) -> Option<&'v str>
+    ensures { option_map (λ t. t.now) result ≡ kind_named has (view value.now) }
 {
     if !has {
         return None;
@@ -45,22 +46,22 @@ pub(crate) fn kind_told<'v>(has: bool, value: &'v Value) -> Option<&'v str>
 }
 
 // The first kind that the items of a list set.
-pub(crate) fn own_told<'v>(value: &'v Value) -> &'v str
-    ensures { result.now ≡ unwrap_or (option_map own_told (as_array (view value.now))) [] }
+pub(crate) fn own_kind_named<'v>(value: &'v Value) -> &'v str
+    ensures { result.now ≡ unwrap_or (option_map own_kind_named (as_array (view value.now))) [] }
 {
     match value.as_array() {
-        Some(items) => first_told(items.as_slice()),
+        Some(items) => first_kind_named(items.as_slice()),
         None => "",
     }
 }
 
-fn first_told<'v>(items: &'v [Value]) -> &'v str
-    ensures { result.now ≡ own_told (items_view items.now) }
+fn first_kind_named<'v>(items: &'v [Value]) -> &'v str
+    ensures { result.now ≡ own_kind_named (items_view items.now) }
 {
     match items.split_first() {
-        Some((first, others)) => match kind_told(true, first) {
-            Some(told) => told,
-            None => first_told(others),
+        Some((first, others)) => match kind_named(true, first) {
+            Some(kind) => kind,
+            None => first_kind_named(others),
         },
         None => "",
     }
@@ -163,7 +164,7 @@ pub(crate) fn word_or(word: u16, value: &Value) -> Option<u16>
     ensures { result ≡ word_or word (get (codes "word") (view value.now)) }
 {
     match value.get("word") {
-        Some(told) => word_of(told),
+        Some(named) => word_of(named),
         None => Some(word),
     }
 }
@@ -192,7 +193,8 @@ pub(crate) fn end<'v>(
     pad: Option<&'v Value>,
 ) -> Result<(), Stop>
     requires { start + 4 ≤ length maker.old.bytes.items }
-    ensures { Appended (framed_with word (drop (start + 4) maker.old.bytes.items) (option_map (λ p. view p.now) pad.entry)) (take start maker.old.bytes.items) maker.new.bytes.items result }
+    ensures { Appended (framed_with word (drop (start + 4) maker.old.bytes.items) (option_map (λ p. view p.now) pad.entry))
+        (take start maker.old.bytes.items) maker.new.bytes.items result }
 {
     let len = maker.bytes.len() - start;
     if len > 65535 {

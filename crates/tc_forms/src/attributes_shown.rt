@@ -3,7 +3,7 @@
 ghost use Rattle.nla_frames.specs.Value.{ends_in_nul, le_value};
 ghost use Rattle.serde_json.specs.Data.{member, no_members, number, unsigned};
 ghost use Rattle.std.specs.Prelude.{IfSome, OnOk, length, option_map, take, ◌≡◌, ◌≤◌};
-ghost use Rattle.tc_forms.specs.Attributes.{bare_told, kind_shown, other, pad_told, tail_shown, told, word_and_hex};
+ghost use Rattle.tc_forms.specs.Attributes.{bare_member, kind_shown, other, pad_member, tail_shown, beside, word_and_hex};
 ghost use Rattle.tc_forms.specs.Frames.{after_first, frame_view, front};
 ghost use Rattle.tc_forms.specs.Kinds.{kind_in, kind_text, own_kind};
 ghost use Rattle.tc_forms.specs.Sent.{Sent, events, items_events, members_events};
@@ -127,24 +127,24 @@ pub(crate) fn send_kind<S: Serializer>(
     begin_map(out, aside)?;
     key("Kind", out, aside)?;
     string(kind, out, aside)?;
-    send_kind_told(frame, out, aside)?;
+    send_kind_beside(frame, out, aside)?;
     end_map(out, aside)
 }
 
 // That no NUL ends a kind, its word, and its padding.
-fn send_kind_told<S: Serializer>(
+fn send_kind_beside<S: Serializer>(
     frame: &Frame<'_>,
     out: &mut S,
     aside: &mut Aside<S::Error>,
 ) -> Result<(), Stopped>
-    ensures { OnOk result (Sent (members_events (bare_told frame.now.value.now (told 1 (frame_view frame.now)))) (S.written out.old) (S.written out.new)) }
+    ensures { OnOk result (Sent (members_events (bare_member frame.now.value.now (beside 1 (frame_view frame.now)))) (S.written out.old) (S.written out.new)) }
 {
     if ends_in_nul(frame.value) {
-        return send_told(1, frame, out, aside);
+        return send_beside(1, frame, out, aside);
     }
     key("bare", out, aside)?;
     truth(true, out, aside)?;
-    send_told(1, frame, out, aside)
+    send_beside(1, frame, out, aside)
 }
 
 // True where the last byte is a NUL.
@@ -156,13 +156,13 @@ fn ends_in_nul(value: &[u8]) -> bool
 
 // The word, if it isn't this one, and the padding, if it isn't zeros.
 #[inline(always)]
-pub(crate) fn send_told<S: Serializer>(
+pub(crate) fn send_beside<S: Serializer>(
     wanted: u16,
     frame: &Frame<'_>,
     out: &mut S,
     aside: &mut Aside<S::Error>,
 ) -> Result<(), Stopped>
-    ensures { OnOk result (Sent (members_events (told wanted (frame_view frame.now))) (S.written out.old) (S.written out.new)) }
+    ensures { OnOk result (Sent (members_events (beside wanted (frame_view frame.now))) (S.written out.old) (S.written out.new)) }
 {
     if frame.word == wanted {
         return send_pad(frame, out, aside);
@@ -178,7 +178,7 @@ pub(crate) fn send_pad<S: Serializer>(
     out: &mut S,
     aside: &mut Aside<S::Error>,
 ) -> Result<(), Stopped>
-    ensures { OnOk result (Sent (members_events (pad_told (frame_view frame.now))) (S.written out.old) (S.written out.new)) }
+    ensures { OnOk result (Sent (members_events (pad_member (frame_view frame.now))) (S.written out.old) (S.written out.new)) }
 {
     if is_blank(Some((4 - frame.value.len() % 4) % 4), frame.pad) {
         return Ok(());

@@ -6,7 +6,7 @@ ghost use Rattle.std.specs.Prelude.{[], codes, false, option_and_then, option_ma
 ghost use Rattle.tc_forms.specs.Appended.{Appended, Found};
 ghost use Rattle.tc_forms.specs.AttributesMade.{attribute_made, by_row_made, each_under, framed, framed_with, layered_by, listed_made, word_made, word_or};
 ghost use Rattle.tc_forms.specs.Choices.{by_choice_made, choice_made, is_choice};
-ghost use Rattle.tc_forms.specs.Kinds.{own_told};
+ghost use Rattle.tc_forms.specs.Kinds.{own_kind_named};
 ghost use Rattle.tc_forms.specs.Places.{rows_under};
 ghost use Rattle.tc_forms.specs.Made.{made_of, make};
 ghost use Rattle.tc_forms.specs.Raw.{or_raw, raw_of};
@@ -16,7 +16,8 @@ ghost use Rattle.tc_forms.specs.Search.{held};
 ghost use Rattle.tc_forms.specs.Tables.{choices_view, field_view, fields_view};
 
 use crate::attributes_made::{
-    begin, end, kind_told, make_kind, make_other, no_row, own_told, unlayered, word_at, word_or,
+    begin, end, kind_named, make_kind, make_other, no_row, own_kind_named, unlayered, word_at,
+    word_or,
 };
 use crate::choices::choice_held;
 use crate::error::{MakeError, Wanted};
@@ -54,7 +55,7 @@ pub fn made<T: Tables>(
     }
 }
 
-// Appends the bytes that JSON stands for in a form, where it stands.
+// Appends the bytes that a JSON value stands for in a form.
 #[cycle(make)]
 fn make_form<'v, T: Tables>(
     maker: &mut Maker<'v>,
@@ -94,7 +95,7 @@ fn make_form<'v, T: Tables>(
             let own = At {
                 table: at.table,
                 depth: inner,
-                kind: own_told(value),
+                kind: own_kind_named(value),
             };
             make_list(maker, &own, place, false, true, "", None, value)
         }
@@ -243,7 +244,7 @@ fn make_each_of_list<'v, T: Tables>(
     let mut so_far = at.kind;
     let mut rows = rows_under(at.table, list, at.kind);
     for (place, item) in items.iter().enumerate() {
-        let set = kind_told(in_force, item);
+        let set = kind_named(in_force, item);
         rows = rows_from(at.table, list, set, so_far, &rows);
         so_far = kind_from(set, so_far);
         let under = At {
@@ -328,7 +329,7 @@ fn make_attribute<'v, T: Tables>(
     ensures { Appended (attribute_made (make (T.parts_of at.now.table) at.now.depth) (rows_in rows.now) has at.now.kind.now (view value.now))
         maker.old.bytes.items maker.new.bytes.items result }
 {
-    match kind_told(has, value) {
+    match kind_named(has, value) {
         Some(kind) => make_kind(maker, kind, value),
         None => make_by_row(maker, at, has, rows, value),
     }

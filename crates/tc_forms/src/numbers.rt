@@ -169,7 +169,8 @@ pub(crate) fn send_named<S: Serializer>(
     aside: &mut Aside<S::Error>,
 ) -> Result<(), Stopped>
     requires { bits < 2 * half which }
-    ensures { OnOk result (Sent (events (named_or (names_view names.now) bits (one (codes "Other") (number (num which bits))) (name_of (names_view names.now) bits))) (S.written out.old) (S.written out.new)) }
+    ensures { OnOk result (Sent (events (named_or (names_view names.now) bits (one (codes "Other") (number (num which bits)))
+        (name_of (names_view names.now) bits))) (S.written out.old) (S.written out.new)) }
 {
     if let Some(name) = name_of(names, bits) {
         if let Some(again) = number_of(names, name) {
@@ -254,7 +255,8 @@ pub(crate) fn make_named<'v>(
     which: Number,
     value: &'v Value,
 ) -> Result<(), Stop>
-    ensures { Appended (named_made which (option_and_then (number_of (names_view names.now)) (as_str (view value.now))) (view value.now)) maker.old.bytes.items maker.new.bytes.items result }
+    ensures { Appended (named_made which (option_and_then (number_of (names_view names.now)) (as_str (view value.now))) (view value.now))
+        maker.old.bytes.items maker.new.bytes.items result }
 {
     if let Some(name) = value.as_str() {
         if let Some(bits) = number_of(names, name) {

@@ -16,7 +16,7 @@ ghost use Rattle.tc_forms.specs.Tables.{choices_view, field_view, fields_view};
 ghost use Rattle.tc_forms.specs.Widths.{fixed, width};
 
 use crate::attributes_shown::{
-    Frame, front, kind_in, own_kind, send_kind, send_other, send_pad, send_tail, send_told,
+    Frame, front, kind_in, own_kind, send_beside, send_kind, send_other, send_pad, send_tail,
     send_word,
 };
 use crate::choices::{behind, chosen, send_unknown};
@@ -81,7 +81,7 @@ pub fn send_shown<S: Serializer, T: Tables>(
     }
 }
 
-// The same where it stands. A number, which most fields and attributes are, takes no call.
+// Sends what is shown of bytes within others. Most fields and attributes are numbers, and a number needs no call of `send_any`.
 #[inline(always)]
 #[cycle(send)]
 fn send_form<S: Serializer, T: Tables>(
@@ -404,7 +404,7 @@ fn send_by_row<S: Serializer, T: Tables>(
             begin_map(out, aside)?;
             key(row.name, out, aside)?;
             send_form(at, row.form, frame.value, out, aside)?;
-            send_told(row.word, frame, out, aside)?;
+            send_beside(row.word, frame, out, aside)?;
             end_map(out, aside)
         }
         None => send_other(frame, out, aside),

@@ -11,7 +11,7 @@ use Rattle.tc_forms.specs.Shown.{shown_of}
 use Rattle.tc_forms.specs.Tables.{Table}
 use Rattle.tc_forms.specs.Widths.{deepest}
 use Rattle.tc_forms.proofs.Found.{none_not_some, some_is}
-use Rattle.tc_forms.proofs.Ordered.{shown_read}
+use Rattle.tc_forms.proofs.Law.{shown_read}
 use Rattle.tc_forms_strict.specs.Strict.{json_of}
 
 module _ (table : Table) (f : Form) (bytes : List ℕ) (h : IsBytes bytes) (json : Data) (is : json_of table f bytes ≡ json) where

@@ -1,5 +1,6 @@
 -- The text of JSON is read as this JSON, its members in the order of their names, and has no name twice.
-use Rattle.std.proofs.Common.{◌≡◌, ◌≢◌, ℕ, zero, suc, ◌≤◌, pos, negsuc, List, [], Some, None, refl, ap, sym, ◌∙◌, append-nil, arith, subst, inl, inr, true≢false}
+use Rattle.std.proofs.Common.{ℕ, zero, suc, pos, negsuc, List, [], Some, None, refl, ap, sym, append-nil, arith, subst, inl, inr, true≢false}
+use Rattle.std.proofs.Common.{◌≡◌, ◌≢◌, ◌≤◌, ◌∙◌}
 use Rattle.std.specs.Prelude.{option_map, option_and_then, All, IsSomeAnd, bytes_eq}
 use Rattle.std.proofs.lemmas.Bool.{cases_Bool}
 use Rattle.std.proofs.lemmas.List.Elements.{All-cons}
@@ -11,7 +12,8 @@ use Rattle.json.specs.Lex.{tokens}
 use Rattle.json.specs.Tree.{json_tokens, depth, items_depth, members_depth}
 use Rattle.json.specs.Strict.{keys, AreDistinct, HasUniqueKeys, ItemsHaveUniqueKeys, MembersHaveUniqueKeys}
 use Rattle.json.proofs.Printed.Trees.{value-json_tokens}
-use Rattle.serde_json.specs.Data.{Num, unsigned, negative, float, Data, null, boolean, number, string, array, object, Items, no_items, item, Members, no_members, member, put}
+use Rattle.serde_json.specs.Data.{Num, unsigned, negative, float, Data, null, boolean, number, string, array, object, Items}
+use Rattle.serde_json.specs.Data.{no_items, item, Members, no_members, member, put}
 use Rattle.serde_json.specs.Find.{get_member}
 use Rattle.serde_json.specs.Read.{of_json, of_items, of_members, read}
 use Rattle.serde_json.specs.Written.{number_text, outline, items_outline, members_outline}

@@ -1,7 +1,8 @@
 -- JSON whose text is read as it is: it nests at most so deep, its numbers are integers of 64 bits, and no object in it has a
 -- name twice.
 use Rattle.std.specs.Prelude.{ℕ, zero, suc, ◌<◌, ◌^◌, pos, negsuc}
-use Rattle.serde_json.specs.Data.{Num, unsigned, negative, float, Data, null, boolean, number, string, array, object, Items, no_items, item, Members, no_members, member}
+use Rattle.serde_json.specs.Data.{Num, unsigned, negative, float, Data, null, boolean, number, string, array, object}
+use Rattle.serde_json.specs.Data.{Items, no_items, item, Members, no_members, member}
 use Rattle.tc_forms.proofs.Ordered.{Apart}
 
 -- an integer that a reader keeps

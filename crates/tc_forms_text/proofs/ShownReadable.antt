@@ -10,7 +10,7 @@ use Rattle.nla_frames.proofs.Bytes.{IsBytes-take, IsBytes-drop}
 use Rattle.serde_json.specs.Data.{Data, boolean, number, unsigned, array, object, no_members, member}
 use Rattle.tc_forms.specs.declared.form.Form.{Form}
 use Rattle.tc_forms.specs.declared.form.Form.TheVariants as form
-use Rattle.tc_forms.specs.Attributes.{tail_shown, first_or_tail, frames, pad_told, told, bare_told, indexed, layered, by_row, by_kind, attribute}
+use Rattle.tc_forms.specs.Attributes.{tail_shown, first_or_tail, frames, pad_member, beside, bare_member, indexed, layered, by_row, by_kind, attribute}
 use Rattle.tc_forms.specs.Choices.{chosen, by_choice}
 use Rattle.tc_forms.specs.Frames.{PaddedFrame, frame_at, after_first}
 use Rattle.tc_forms.specs.Kinds.{kind_in, own_kind}
@@ -24,7 +24,7 @@ use Rattle.tc_forms.specs.Tables.{Field, Row, Choice, Table}
 use Rattle.tc_forms.specs.Widths.{field_width, fixed}
 use Rattle.tc_forms.proofs.Leaves.{little_small}
 use Rattle.tc_forms.proofs.RecordsAgain.{IsBytes-field_of, IsBytes-after_field, absent, swapped, not-false}
-use Rattle.tc_forms.proofs.Found.{not_pad_told, guarded, plain}
+use Rattle.tc_forms.proofs.Found.{not_pad_member, guarded, plain}
 use Rattle.tc_forms.proofs.Ordered.{Apart, pad_apart, named_apart, kind_apart}
 use Rattle.tc_forms_text.proofs.Readable.{Readable, ItemsReadable, MembersReadable, deeper}
 use Rattle.tc_forms_text.proofs.ReadableValues.{raw_readable, tested, plain_readable}
@@ -41,20 +41,20 @@ small b h =
     let low = little_small (take 2 (drop 2 b)) (IsBytes-take 2 (drop 2 b) (IsBytes-drop 2 b h)) (omega (arith, length-take 2 (drop 2 b))) in
     record { word = omega (arith, low); value = IsBytes-drop 4 _ (IsBytes-take (length_at b) b h) }
 
-pad_readable : (c : PaddedFrame) (n : ℕ) → MembersReadable (pad_told c) n
+pad_readable : (c : PaddedFrame) (n : ℕ) → MembersReadable (pad_member c) n
 pad_readable c n =
     cond_both (is_blank (Some (padding (length c.value))) c.pad) no_members (member (codes "pad") (hex c.pad) no_members) (λ ms. MembersReadable ms n)
     (λ e. tt) (λ e. (tt, tt))
 
-told_readable : (word : ℕ) (c : PaddedFrame) (n : ℕ) → Small c → MembersReadable (told word c) n
-told_readable word c n s =
-    cond_both (c.word == word) (pad_told c) (member (codes "word") (number (unsigned c.word)) (pad_told c)) (λ ms. MembersReadable ms n)
+beside_readable : (word : ℕ) (c : PaddedFrame) (n : ℕ) → Small c → MembersReadable (beside word c) n
+beside_readable word c n s =
+    cond_both (c.word == word) (pad_member c) (member (codes "word") (number (unsigned c.word)) (pad_member c)) (λ ms. MembersReadable ms n)
     (λ e. pad_readable c n) (λ e. (s.word, pad_readable c n))
 
-kind_readable : (c : PaddedFrame) (n : ℕ) → Small c → MembersReadable (bare_told c.value (told 1 c)) n
+kind_readable : (c : PaddedFrame) (n : ℕ) → Small c → MembersReadable (bare_member c.value (beside 1 c)) n
 kind_readable c n s =
-    cond_both (ends_in_nul c.value) (told 1 c) (member (codes "bare") (boolean true) (told 1 c)) (λ ms. MembersReadable ms n)
-    (λ e. told_readable 1 c n s) (λ e. (tt, told_readable 1 c n s))
+    cond_both (ends_in_nul c.value) (beside 1 c) (member (codes "bare") (boolean true) (beside 1 c)) (λ ms. MembersReadable ms n)
+    (λ e. beside_readable 1 c n s) (λ e. (tt, beside_readable 1 c n s))
 
 layered_readable : (layer : List ℕ) (d : Data) (n : ℕ) → Readable d n → Readable (layered layer d) (suc n)
 layered_readable [] d n h = deeper d n h
@@ -131,11 +131,11 @@ module _ (Inner : List ℕ → Form → List ℕ → Data) (m : ℕ) (inner : (k
     (rows : List Row) (has : Bool) where
   row_readable : (k : List ℕ) (c : PaddedFrame) → Small c → (o : Option Row) → shown_row rows c.word ≡ o → Readable (by_row Inner rows has k c o) (suc (suc m))
   row_readable k c s None is =
-      ((not_pad_told (codes "Other") c refl, pad_apart c), (((refl, (refl, tt)), (s.word, (tt, tt))), pad_readable c (suc m)))
+      ((not_pad_member (codes "Other") c refl, pad_apart c), (((refl, (refl, tt)), (s.word, (tt, tt))), pad_readable c (suc m)))
   row_readable k c s (Some r) is =
       let g = guarded rows (λ (q : Row). q.name) counts (λ q. type_of q.word == type_of c.word) (first (of_type c.word) rows) r is in
       let own = plain r.name g.passed in
-      (named_apart r.name (Inner k r.form c.value) r.word c own.word own.pad, (inner k r.form c.value s.value, told_readable r.word c (suc m) s))
+      (named_apart r.name (Inner k r.form c.value) r.word c own.word own.pad, (inner k r.form c.value s.value, beside_readable r.word c (suc m) s))
 
   attribute_readable : (k : List ℕ) (c : PaddedFrame) → Small c → Readable (attribute Inner rows has k c) (suc (suc m))
   attribute_readable k c s = go (kind_in has c)
@@ -163,7 +163,7 @@ module _ (table : Table) (Inner : List ℕ → Form → List ℕ → Data) (m : 
 
   indexed_readable : (i : ℕ) (k : List ℕ) (c : PaddedFrame) → Small c → Readable (indexed c (Inner k (form_of i (part_at table i)) c.value)) (suc (suc m))
   indexed_readable i k c s = (
-    (not_pad_told (codes "tab") c refl, (not_pad_told (codes "attributes") c refl, pad_apart c)),
+    (not_pad_member (codes "tab") c refl, (not_pad_member (codes "attributes") c refl, pad_apart c)),
     (s.word, (inner k (form_of i (part_at table i)) c.value s.value, pad_readable c (suc m))),
   )
 

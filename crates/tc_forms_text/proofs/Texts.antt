@@ -13,7 +13,7 @@ use Rattle.tc_forms.specs.Tables.{Table}
 use Rattle.tc_forms.specs.Shown.{shown_of}
 use Rattle.tc_forms.specs.Widths.{deepest}
 use Rattle.tc_forms.proofs.Found.{none_not_some, some_is}
-use Rattle.tc_forms.proofs.Ordered.{shown_read}
+use Rattle.tc_forms.proofs.Law.{shown_read}
 use Rattle.tc_forms_text.specs.declared.error.ReadError.TheVariants.{OutOfMemory, NotJson, TooDeep, Repeated}
 use Rattle.tc_forms_text.specs.declared.error.TextError.{TextError}
 use Rattle.tc_forms_text.specs.declared.error.TextError.TheVariants.{Read, Make}

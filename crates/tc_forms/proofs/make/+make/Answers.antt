@@ -12,7 +12,7 @@ use Rattle.serde_json.specs.View.{view, items_view}
 use Rattle.tc_forms.specs.declared.form.Form.TheVariants as form
 use Rattle.tc_forms.proofs.Making.{under_over, appended_as, joined_more, joined_fails, items_here, items_over, fields_here, level_made, raw_made}
 use Rattle.tc_forms.proofs.Making.{plain_in_form, under_own, under_more, under_fails}
-use Rattle.tc_forms.proofs.Sending.{not_told}
+use Rattle.tc_forms.proofs.Sending.{none_wanted}
 use Rattle.tc_forms.specs.Appended.{Stops}
 use Rattle.tc_forms.specs.Places.{rows_under}
 use Rattle.tc_forms.proofs.make.+make.Goals as goal
@@ -53,7 +53,7 @@ make_each_of_list-loop-place-preserved g t c =
     listed_made (make table c.args.at.now.depth) rows c.args.has c.args.held c.args.layer.now k d in
     let d = view c.index-items-place.result in
     let now = c.loop-place.maker.bytes.items in
-    let is_next = c.kind_from-so_far.ensures ∙ ap (λ o. unwrap_or o c.loop-place.so_far.now) c.kind_told-set.ensures in
+    let is_next = c.kind_from-so_far.ensures ∙ ap (λ o. unwrap_or o c.loop-place.so_far.now) c.kind_named-set.ensures in
     let same = c.rows_from-rows.ensures ∙ ap Rows (sym c.kind_from-so_far.ensures) in
     let made = ap (λ rows. option_map (λ b. now ++ b) (or_raw (raw_of d) (One rows c.kind_from-so_far.result.now d))) (sym same)
     ∙ c.in-Ok.ensures in
@@ -69,7 +69,7 @@ make_each_of_list-returns-in-Err g t c =
     let One : List Row → List ℕ → Data → Option (List ℕ) = λ rows k d.
     listed_made (make table c.args.at.now.depth) rows c.args.has c.args.held c.args.layer.now k d in
     let d = view c.index-items-place.result in
-    let is_next = c.kind_from-so_far.ensures ∙ ap (λ o. unwrap_or o c.loop-place.so_far.now) c.kind_told-set.ensures in
+    let is_next = c.kind_from-so_far.ensures ∙ ap (λ o. unwrap_or o c.loop-place.so_far.now) c.kind_named-set.ensures in
     let same = c.rows_from-rows.ensures ∙ ap Rows (sym c.kind_from-so_far.ensures) in
     under_fails (λ k x. One (Rows k) k x) c.args.in_force c.args.items.now c.loop-place.place c.index-items-place.result c.loop-place.so_far.now
     c.kind_from-so_far.result.now c.args.maker.now.bytes.items c.loop-place.maker.bytes.items _ c.loop-place-test.true
@@ -110,7 +110,7 @@ make_form-returns-in-Record g t c =
     let d = view c.args.value.now in let m = c.in-Some-checked_sub.inner in
     level_made table c.args.at.now.depth m k c.args.form (form.Record c.in-Record.place) d _ _ _ _
     (omega (arith, c.in-Some-checked_sub.ensures.0, c.in-Some-checked_sub.ensures.1)) c.in-Record.is
-    (not_told c.in-Ok.raw (raw_of d) (λ v. v.items) c.in_default.not-Some c.in-Ok.ensures)
+    (none_wanted c.in-Ok.raw (raw_of d) (λ v. v.items) c.in_default.not-Some c.in-Ok.ensures)
     (ap (λ fs. fields_made table (make table m k) fs d) c.fields_at.ensures) c.make_fields.ensures
 
 pub make_form-returns-in-Array : goal.make_form-returns-in-Array
@@ -119,7 +119,7 @@ make_form-returns-in-Array g t c =
     let d = view c.args.value.now in let m = c.in-Some-checked_sub.inner in
     level_made table c.args.at.now.depth m k c.args.form (form.Array c.in-Array.place) d _ _ _ _
     (omega (arith, c.in-Some-checked_sub.ensures.0, c.in-Some-checked_sub.ensures.1)) c.in-Array.is
-    (not_told c.in-Ok.raw (raw_of d) (λ v. v.items) c.in_default.not-Some c.in-Ok.ensures)
+    (none_wanted c.in-Ok.raw (raw_of d) (λ v. v.items) c.in_default.not-Some c.in-Ok.ensures)
     (ap (λ f. option_and_then (each_made (make table m k f)) (as_array d)) c.form_at.ensures) c.make_elements.ensures
 
 pub make_form-returns-in-Times : goal.make_form-returns-in-Times
@@ -128,7 +128,7 @@ make_form-returns-in-Times g t c =
     let d = view c.args.value.now in let m = c.in-Some-checked_sub.inner in
     level_made table c.args.at.now.depth m k c.args.form (form.Times c.in-Times.field-0 c.in-Times.place) d _ _ _ _
     (omega (arith, c.in-Some-checked_sub.ensures.0, c.in-Some-checked_sub.ensures.1)) c.in-Times.is
-    (not_told c.in-Ok.raw (raw_of d) (λ v. v.items) c.in_default.not-Some c.in-Ok.ensures)
+    (none_wanted c.in-Ok.raw (raw_of d) (λ v. v.items) c.in_default.not-Some c.in-Ok.ensures)
     (ap (λ f. option_and_then (each_made (make table m k f)) (as_array d)) c.form_at-in-Times.ensures) c.make_elements-in-Times.ensures
 
 pub make_form-returns-in-List : goal.make_form-returns-in-List
@@ -137,7 +137,7 @@ make_form-returns-in-List g t c =
     let d = view c.args.value.now in let m = c.in-Some-checked_sub.inner in
     level_made table c.args.at.now.depth m k c.args.form (form.List c.in-List.place) d _ _ _ _
     (omega (arith, c.in-Some-checked_sub.ensures.0, c.in-Some-checked_sub.ensures.1)) c.in-List.is
-    (not_told c.in-Ok.raw (raw_of d) (λ v. v.items) c.in_default.not-Some c.in-Ok.ensures)
+    (none_wanted c.in-Ok.raw (raw_of d) (λ v. v.items) c.in_default.not-Some c.in-Ok.ensures)
     (ap (λ l. option_and_then (each_under (λ j x. layered_by (make table m) (rows_under table c.in-List.place j) false l j x) false k)
     (as_array d)) c.layer_at-layer.ensures) c.make_list.ensures
 
@@ -147,7 +147,7 @@ make_form-returns-in-Indexed g t c =
     let d = view c.args.value.now in let m = c.in-Some-checked_sub.inner in
     level_made table c.args.at.now.depth m k c.args.form (form.Indexed c.in-Indexed.place) d _ _ _ _
     (omega (arith, c.in-Some-checked_sub.ensures.0, c.in-Some-checked_sub.ensures.1)) c.in-Indexed.is
-    (not_told c.in-Ok.raw (raw_of d) (λ v. v.items) c.in_default.not-Some c.in-Ok.ensures)
+    (none_wanted c.in-Ok.raw (raw_of d) (λ v. v.items) c.in_default.not-Some c.in-Ok.ensures)
     (ap (λ f. option_and_then (each_under (λ j x. listed_made (make table m) (rows_under table c.in-Indexed.place j) false (Some f) [] j x) false k)
     (as_array d)) c.form_at-in-Indexed.ensures) c.make_list-in-Indexed.ensures
 
@@ -157,7 +157,7 @@ make_form-returns-in-InForce g t c =
     let d = view c.args.value.now in let m = c.in-Some-checked_sub.inner in
     level_made table c.args.at.now.depth m k c.args.form (form.InForce c.in-InForce.place) d _ _ _ _
     (omega (arith, c.in-Some-checked_sub.ensures.0, c.in-Some-checked_sub.ensures.1)) c.in-InForce.is
-    (not_told c.in-Ok.raw (raw_of d) (λ v. v.items) c.in_default.not-Some c.in-Ok.ensures)
+    (none_wanted c.in-Ok.raw (raw_of d) (λ v. v.items) c.in_default.not-Some c.in-Ok.ensures)
     refl c.make_list-in-InForce.ensures
 
 pub make_form-returns-in-Own : goal.make_form-returns-in-Own
@@ -166,8 +166,8 @@ make_form-returns-in-Own g t c =
     let d = view c.args.value.now in let m = c.in-Some-checked_sub.inner in
     level_made table c.args.at.now.depth m k c.args.form (form.Own c.in-Own.place) d _ _ _ _
     (omega (arith, c.in-Some-checked_sub.ensures.0, c.in-Some-checked_sub.ensures.1)) c.in-Own.is
-    (not_told c.in-Ok.raw (raw_of d) (λ v. v.items) c.in_default.not-Some c.in-Ok.ensures)
-    (under_own (kinded_made table (make table m) c.in-Own.place) (as_array d) _ c.own_told.ensures) c.make_list-in-Own.ensures
+    (none_wanted c.in-Ok.raw (raw_of d) (λ v. v.items) c.in_default.not-Some c.in-Ok.ensures)
+    (under_own (kinded_made table (make table m) c.in-Own.place) (as_array d) _ c.own_kind_named.ensures) c.make_list-in-Own.ensures
 
 pub make_form-returns-in-Choice : goal.make_form-returns-in-Choice
 make_form-returns-in-Choice g t c =
@@ -175,7 +175,7 @@ make_form-returns-in-Choice g t c =
     let d = view c.args.value.now in let m = c.in-Some-checked_sub.inner in
     level_made table c.args.at.now.depth m k c.args.form (form.Choice c.in-Choice.place) d _ _ _ _
     (omega (arith, c.in-Some-checked_sub.ensures.0, c.in-Some-checked_sub.ensures.1)) c.in-Choice.is
-    (not_told c.in-Ok.raw (raw_of d) (λ v. v.items) c.in_default.not-Some c.in-Ok.ensures)
+    (none_wanted c.in-Ok.raw (raw_of d) (λ v. v.items) c.in_default.not-Some c.in-Ok.ensures)
     (ap (λ cs. by_choice_made (make table m k) cs d) c.choices_at.ensures) c.make_choice.ensures
 
 pub make_form-returns-in_default-form : goal.make_form-returns-in_default-form
@@ -184,7 +184,7 @@ make_form-returns-in_default-form g t c =
     let d = view c.args.value.now in let m = c.in-Some-checked_sub.inner in
     level_made table c.args.at.now.depth m k c.args.form c.args.form d _ _ _ _
     (omega (arith, c.in-Some-checked_sub.ensures.0, c.in-Some-checked_sub.ensures.1)) refl
-    (not_told c.in-Ok.raw (raw_of d) (λ v. v.items) c.in_default.not-Some c.in-Ok.ensures)
+    (none_wanted c.in-Ok.raw (raw_of d) (λ v. v.items) c.in_default.not-Some c.in-Ok.ensures)
     (plain_in_form table (make table m) k c.args.form d c.in_default-form.not-Record c.in_default-form.not-Array
     c.in_default-form.not-Times c.in_default-form.not-List c.in_default-form.not-InForce c.in_default-form.not-Own
     c.in_default-form.not-Indexed c.in_default-form.not-Choice) c.make_plain.ensures

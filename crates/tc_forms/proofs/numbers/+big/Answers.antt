@@ -5,7 +5,8 @@ use Rattle.tc_forms.proofs.numbers.+big.Goals as goal
 
 pub overflow_mul-result : goal.overflow_mul-result
 overflow_mul-result t c =
-    let small = big_small c.in-Some.others.now (front_bytes c.args.bytes.now c.in-Some.last.now c.in-Some.others.now (IsBytes-slice c.args.bytes.now c.type_inv.bytes) c.in-Some.ensures.cases.0)
+    let small = big_small c.in-Some.others.now (front_bytes c.args.bytes.now c.in-Some.last.now c.in-Some.others.now
+    (IsBytes-slice c.args.bytes.now c.type_inv.bytes) c.in-Some.ensures.cases.0)
     (omega (arith, c.in-Some.ensures.cases.1, c.requires)) in
     omega (arith, small, c.big.ensures)
 

@@ -5,7 +5,8 @@ use Rattle.tc_forms.proofs.numbers.+little_by_one.Goals as goal
 
 pub overflow_mul-result : goal.overflow_mul-result
 overflow_mul-result t c =
-    let small = little_small c.in-Some.others.now (tail_bytes c.args.bytes.now c.in-Some.first.now c.in-Some.others.now (IsBytes-slice c.args.bytes.now c.type_inv.bytes) c.in-Some.ensures.cases.0)
+    let small = little_small c.in-Some.others.now (tail_bytes c.args.bytes.now c.in-Some.first.now c.in-Some.others.now
+    (IsBytes-slice c.args.bytes.now c.type_inv.bytes) c.in-Some.ensures.cases.0)
     (omega (arith, c.in-Some.ensures.cases.1, c.requires)) in
     omega (arith, small, c.little_by_one.ensures)
 

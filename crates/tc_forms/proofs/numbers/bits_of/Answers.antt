@@ -11,4 +11,8 @@ returns-then-is_big c =
 pub returns-else-is_big : goal.returns-else-is_big
 returns-else-is_big c =
     let value = bits_found c.args.number false c.args.bytes.now c.little.result (sym c.is_big.ensures ∙ c.if-is_big.false) c.little.ensures in
-    record { value = value; small = bits_small c.args.number c.args.bytes.now c.little.result c.requires (IsBytes-slice c.args.bytes.now c.type_inv.bytes) value }
+    record {
+      value = value;
+      small = bits_small c.args.number c.args.bytes.now c.little.result c.requires
+          (IsBytes-slice c.args.bytes.now c.type_inv.bytes) value;
+    }

@@ -17,5 +17,6 @@ returns-clause-of_name c =
     let there : drop (c.from-number.result - 1) c.args.rows.now ≡ c.in-Some.row.now ∷ c.in-Some.field-0-1.now = search rules in
     let typed = sym c.is_of_type.ensures ∙ c.if-not-is_of_type.false in
     first_there row_view (of_name c.in-Some.row.now.name.now) (c.from-number.result - 1) c.args.rows.now c.in-Some.field-0-1.now c.in-Some.row.now
-    (subst (λ b. first (of_name c.in-Some.row.now.name.now) (rows_view b) ≡ None) c.split_at.ensures.front (c.are_others.ensures.of_name c.if-not-are_others.false))
+    (subst (λ b. first (of_name c.in-Some.row.now.name.now) (rows_view b) ≡ None) c.split_at.ensures.front
+    (c.are_others.ensures.of_name c.if-not-are_others.false))
     there (of_own_name c.args.word (row_view c.in-Some.row.now) typed)

@@ -13,4 +13,5 @@ returns-in-Some c =
 pub returns-in-None : goal.returns-in-None
 returns-in-None c =
     c.row_held-in-None.ensures
-    ∙ sym (held_of_second (λ r. r.name) counts (view c.args.value.now) (rows_view c.args.rows.now.own.now) (rows_view c.args.rows.now.common.now) c.in-None.ensures)
+    ∙ sym (held_of_second (λ r. r.name) counts (view c.args.value.now) (rows_view c.args.rows.now.own.now)
+    (rows_view c.args.rows.now.common.now) c.in-None.ensures)

@@ -14,4 +14,5 @@ decreases-fields_width g l = 2 * l.depth + 1
 
 abbrev pub invariant-fields_width-loop-field : goal.invariant-fields_width-loop-field
 invariant-fields_width-loop-field g l =
-    fields_width (width l.depth (g.T.Tables.parts_of l.table)) l.total (fields_view (drop l.field-index l.fields)) ≡ fields_width (width l.depth (g.T.Tables.parts_of l.table)) 0 (fields_view l.fields)
+    fields_width (width l.depth (g.T.Tables.parts_of l.table)) l.total (fields_view (drop l.field-index l.fields))
+    ≡ fields_width (width l.depth (g.T.Tables.parts_of l.table)) 0 (fields_view l.fields)
