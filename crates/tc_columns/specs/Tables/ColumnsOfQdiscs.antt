@@ -274,9 +274,21 @@ columns_of_qdiscs_303 place =
 abbrev pub list_choke_in_choke : List Column
 list_choke_in_choke =
     column (codes "Choke") (codes "choke") (how.Through 3648)
-    ∷ column (codes "Parms") (codes "parms") (how.Within 3925)
+    ∷ column (codes "Parms") (codes "parms") (how.Within 3649)
     ∷ column (codes "Stab") (codes "stab") how.Plain
     ∷ column (codes "MaxP") (codes "max_p") (how.Number unit.Probability)
+    ∷ []
+
+-- `struct tc_red_qopt_packets`
+abbrev pub struct_tc_red_qopt_packets : List Column
+struct_tc_red_qopt_packets =
+    column (codes "limit") (codes "limit") (how.Number unit.Packets)
+    ∷ column (codes "qth_min") (codes "qth_min") (how.Number unit.Packets)
+    ∷ column (codes "qth_max") (codes "qth_max") (how.Number unit.Packets)
+    ∷ column (codes "Wlog") (codes "Wlog") (how.Number unit.Power)
+    ∷ column (codes "Plog") (codes "Plog") (how.Number unit.Power)
+    ∷ column (codes "Scell_log") (codes "Scell_log") (how.Number unit.Power)
+    ∷ column (codes "flags") (codes "flags") (how.Flags 24031)
     ∷ []
 
 -- `struct tc_choke_xstats`
@@ -292,30 +304,31 @@ struct_tc_choke_xstats =
 -- the statistics of choke
 abbrev pub statistics_qdisc_choke : List Column
 statistics_qdisc_choke =
-    column (codes "Choke") (codes "choke") (how.Through 3649)
+    column (codes "Choke") (codes "choke") (how.Through 3650)
     ∷ []
 
 -- `list tc`: the rows of choke
 abbrev pub list_tc_qdisc_choke : List Column
 list_tc_qdisc_choke =
     column (codes "Options") (codes "options") (how.Within 3648)
-    ∷ column (codes "Xstats") (codes "xstats") (how.Within 3650)
+    ∷ column (codes "Xstats") (codes "xstats") (how.Within 3651)
     ∷ []
 
 -- `list stats`: the rows of choke
 abbrev pub list_stats_qdisc_choke : List Column
 list_stats_qdisc_choke =
-    column (codes "App") (codes "app") (how.Within 3650)
+    column (codes "App") (codes "app") (how.Within 3651)
     ∷ []
 
 unfoldable pub columns_of_qdiscs_304 : ℕ → List Column
 columns_of_qdiscs_304 place =
     if place == 3648 then list_choke_in_choke else (
-    if place == 3649 then struct_tc_choke_xstats else (
-    if place == 3650 then statistics_qdisc_choke else (
-    if place == 3651 then list_tc_qdisc_choke else (
-    if place == 3652 then list_stats_qdisc_choke else (
-    [])))))
+    if place == 3649 then struct_tc_red_qopt_packets else (
+    if place == 3650 then struct_tc_choke_xstats else (
+    if place == 3651 then statistics_qdisc_choke else (
+    if place == 3652 then list_tc_qdisc_choke else (
+    if place == 3653 then list_stats_qdisc_choke else (
+    []))))))
 
 -- `list codel`
 abbrev pub list_codel_in_codel : List Column
@@ -447,7 +460,7 @@ abbrev pub struct_tc_etf_qopt : List Column
 struct_tc_etf_qopt =
     column (codes "delta") (codes "delta") (how.Number unit.Nanoseconds)
     ∷ column (codes "clockid") (codes "clockid") (how.Named unit.Plain 24005)
-    ∷ column (codes "flags") (codes "flags") (how.Flags 24031)
+    ∷ column (codes "flags") (codes "flags") (how.Flags 24032)
     ∷ []
 
 -- `list tc`: the rows of etf
@@ -506,12 +519,25 @@ columns_of_qdiscs_309 place =
 -- `struct tc_fifo_qopt`
 abbrev pub struct_tc_fifo_qopt : List Column
 struct_tc_fifo_qopt =
-    column (codes "limit") (codes "limit") how.Plain
+    column (codes "limit") (codes "limit") (how.Number unit.Bytes)
     ∷ []
 
--- `list tc`: the rows of pfifo, pfifo_head_drop, bfifo
+-- `struct tc_fifo_qopt_packets`
+abbrev pub struct_tc_fifo_qopt_packets : List Column
+struct_tc_fifo_qopt_packets =
+    column (codes "limit") (codes "limit") (how.Number unit.Packets)
+    ∷ []
+
+-- `list tc`: the rows of pfifo, pfifo_head_drop
 abbrev pub list_tc_qdisc_pfifo : List Column
 list_tc_qdisc_pfifo =
+    column (codes "Options") (codes "options") (how.Within 3721)
+    ∷ column (codes "Xstats") (codes "xstats") (how.Within 3006)
+    ∷ []
+
+-- `list tc`: the rows of bfifo
+abbrev pub list_tc_qdisc_bfifo : List Column
+list_tc_qdisc_bfifo =
     column (codes "Options") (codes "options") (how.Within 3720)
     ∷ column (codes "Xstats") (codes "xstats") (how.Within 3006)
     ∷ []
@@ -519,8 +545,10 @@ list_tc_qdisc_pfifo =
 unfoldable pub columns_of_qdiscs_310 : ℕ → List Column
 columns_of_qdiscs_310 place =
     if place == 3720 then struct_tc_fifo_qopt else (
-    if place == 3721 then list_tc_qdisc_pfifo else (
-    []))
+    if place == 3721 then struct_tc_fifo_qopt_packets else (
+    if place == 3722 then list_tc_qdisc_pfifo else (
+    if place == 3723 then list_tc_qdisc_bfifo else (
+    []))))
 
 -- `list fq`
 abbrev pub list_fq_in_fq : List Column
@@ -782,7 +810,7 @@ struct_tc_gred_sopt =
     column (codes "DPs") (codes "DPs") how.Plain
     ∷ column (codes "def_DP") (codes "def_DP") how.Plain
     ∷ column (codes "grio") (codes "grio") how.Plain
-    ∷ column (codes "flags") (codes "flags") (how.Flags 24032)
+    ∷ column (codes "flags") (codes "flags") (how.Flags 24031)
     ∷ column (codes "pad1") (codes "pad1") how.Plain
     ∷ []
 
@@ -806,7 +834,7 @@ list_gred_vq =
     ∷ column (codes "StatForcedMark") (codes "stat_forced_mark") (how.Number unit.Packets)
     ∷ column (codes "StatPdrop") (codes "stat_pdrop") (how.Number unit.Packets)
     ∷ column (codes "StatOther") (codes "stat_other") (how.Number unit.Packets)
-    ∷ column (codes "Flags") (codes "flags") (how.Flags 24032)
+    ∷ column (codes "Flags") (codes "flags") (how.Flags 24031)
     ∷ []
 
 -- `list tc`: the rows of gred
@@ -1469,14 +1497,14 @@ struct_tc_red_qopt =
     ∷ column (codes "Wlog") (codes "Wlog") (how.Number unit.Power)
     ∷ column (codes "Plog") (codes "Plog") (how.Number unit.Power)
     ∷ column (codes "Scell_log") (codes "Scell_log") (how.Number unit.Power)
-    ∷ column (codes "flags") (codes "flags") (how.Flags 24032)
+    ∷ column (codes "flags") (codes "flags") (how.Flags 24031)
     ∷ []
 
 -- `struct tca_red_flags`
 abbrev pub struct_tca_red_flags : List Column
 struct_tca_red_flags =
-    column (codes "value") (codes "value") (how.Flags 24032)
-    ∷ column (codes "selector") (codes "selector") (how.Flags 24032)
+    column (codes "value") (codes "value") (how.Flags 24031)
+    ∷ column (codes "selector") (codes "selector") (how.Flags 24031)
     ∷ []
 
 -- `struct tc_red_xstats`
@@ -1611,7 +1639,7 @@ struct_tc_sfq_qopt_v1 =
     ∷ column (codes "Wlog") (codes "Wlog") how.Plain
     ∷ column (codes "Plog") (codes "Plog") how.Plain
     ∷ column (codes "Scell_log") (codes "Scell_log") how.Plain
-    ∷ column (codes "flags") (codes "flags") (how.Flags 24032)
+    ∷ column (codes "flags") (codes "flags") (how.Flags 24031)
     ∷ column (codes "max_P") (codes "max_P") (how.Number unit.Probability)
     ∷ column (codes "stats") (codes "stats") (how.Within 3951)
     ∷ []

@@ -162,7 +162,7 @@ abbrev pub statistics : List Column
 statistics =
     column (codes "Cake") (codes "cake") (how.Through 3613)
     ∷ column (codes "Cbq") (codes "cbq") (how.Through 3625)
-    ∷ column (codes "Choke") (codes "choke") (how.Through 3649)
+    ∷ column (codes "Choke") (codes "choke") (how.Through 3650)
     ∷ column (codes "Codel") (codes "codel") (how.Through 3661)
     ∷ column (codes "Drr") (codes "drr") (how.Through 3673)
     ∷ column (codes "Fq") (codes "fq") (how.Through 3733)

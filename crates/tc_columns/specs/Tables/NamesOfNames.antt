@@ -561,14 +561,6 @@ bits_tcf_cbq_lss_flags =
     ∷ name 2 (codes "isolated")
     ∷ []
 
--- `bits tc_etf`
-abbrev pub bits_tc_etf : List Name
-bits_tc_etf =
-    name 1 (codes "deadline_mode_on")
-    ∷ name 2 (codes "offload_on")
-    ∷ name 4 (codes "skip_sock_check")
-    ∷ []
-
 -- `bits tc_red`
 abbrev pub bits_tc_red : List Name
 bits_tc_red =
@@ -576,6 +568,14 @@ bits_tc_red =
     ∷ name 2 (codes "harddrop")
     ∷ name 4 (codes "adaptative")
     ∷ name 8 (codes "nodrop")
+    ∷ []
+
+-- `bits tc_etf`
+abbrev pub bits_tc_etf : List Name
+bits_tc_etf =
+    name 1 (codes "deadline_mode_on")
+    ∷ name 2 (codes "offload_on")
+    ∷ name 4 (codes "skip_sock_check")
     ∷ []
 
 -- `bits taprio_flag`
@@ -594,8 +594,8 @@ names_of_names_2002 place =
     if place == 24028 then bits_tca_act_flag else (
     if place == 24029 then bits_tcf_cbq_lss_change else (
     if place == 24030 then bits_tcf_cbq_lss_flags else (
-    if place == 24031 then bits_tc_etf else (
-    if place == 24032 then bits_tc_red else (
+    if place == 24031 then bits_tc_red else (
+    if place == 24032 then bits_tc_etf else (
     if place == 24033 then bits_taprio_flag else (
     []))))))))))
 

@@ -371,7 +371,7 @@ const STATISTICS: [Column<'static>; 17] = [
     Column {
         key: "Choke",
         name: "choke",
-        how: How::Through(3649),
+        how: How::Through(3650),
     },
     Column {
         key: "Codel",

@@ -1653,22 +1653,6 @@ const BITS_TCF_CBQ_LSS_FLAGS: [Name<'static>; 2] = [
     },
 ];
 
-// `bits tc_etf`
-const BITS_TC_ETF: [Name<'static>; 3] = [
-    Name {
-        number: 1,
-        name: "deadline_mode_on",
-    },
-    Name {
-        number: 2,
-        name: "offload_on",
-    },
-    Name {
-        number: 4,
-        name: "skip_sock_check",
-    },
-];
-
 // `bits tc_red`
 const BITS_TC_RED: [Name<'static>; 4] = [
     Name {
@@ -1686,6 +1670,22 @@ const BITS_TC_RED: [Name<'static>; 4] = [
     Name {
         number: 8,
         name: "nodrop",
+    },
+];
+
+// `bits tc_etf`
+const BITS_TC_ETF: [Name<'static>; 3] = [
+    Name {
+        number: 1,
+        name: "deadline_mode_on",
+    },
+    Name {
+        number: 2,
+        name: "offload_on",
+    },
+    Name {
+        number: 4,
+        name: "skip_sock_check",
     },
 ];
 
@@ -1713,8 +1713,8 @@ pub(crate) fn names_of_names_2002(place: usize) -> &'static [Name<'static>]
         24028 => &BITS_TCA_ACT_FLAG,
         24029 => &BITS_TCF_CBQ_LSS_CHANGE,
         24030 => &BITS_TCF_CBQ_LSS_FLAGS,
-        24031 => &BITS_TC_ETF,
-        24032 => &BITS_TC_RED,
+        24031 => &BITS_TC_RED,
+        24032 => &BITS_TC_ETF,
         24033 => &BITS_TAPRIO_FLAG,
         _ => &[],
     }
