@@ -487,8 +487,8 @@ struct_tc_pedit_sel =
 -- `struct tc_pedit_key`
 abbrev pub struct_tc_pedit_key : List Column
 struct_tc_pedit_key =
-    column (codes "mask") (codes "mask") (how.Number unit.Hex)
-    ∷ column (codes "val") (codes "val") (how.Number unit.Hex)
+    column (codes "mask") (codes "mask") (how.Number unit.NetworkHex)
+    ∷ column (codes "val") (codes "val") (how.Number unit.NetworkHex)
     ∷ column (codes "off") (codes "off") how.Plain
     ∷ column (codes "at") (codes "at") how.Plain
     ∷ column (codes "offmask") (codes "offmask") (how.Number unit.Hex)

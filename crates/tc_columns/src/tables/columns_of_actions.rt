@@ -1165,12 +1165,12 @@ const STRUCT_TC_PEDIT_KEY: [Column<'static>; 6] = [
     Column {
         key: "mask",
         name: "mask",
-        how: How::Number(Unit::Hex),
+        how: How::Number(Unit::NetworkHex),
     },
     Column {
         key: "val",
         name: "val",
-        how: How::Number(Unit::Hex),
+        how: How::Number(Unit::NetworkHex),
     },
     Column {
         key: "off",
