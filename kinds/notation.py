@@ -10,7 +10,7 @@ LEAVES = {'handle': ('Handle', 4), 'flag': ('Flag', 0), 'bool': ('Truth', 1), 't
           'mac': ('Mac', 6), 'ipv4': ('Ipv4', 4), 'ipv6': ('Ipv6', 16)}
 NAMED = {'struct': ('struct', 'Record'), 'list': ('list', 'List'), 'nested': ('list', 'List'), 'inforce': ('list', 'InForce'), 'own': ('list', 'Own'),
          'choice': ('choice', 'Choice'), 'enum': ('enum', 'Named'), 'bits': ('bits', 'Number')}
-UNITS = 'bytes packets bytes/s packets/s kbit/s ns us ms s ticks clock_t percent probability ifindex log2 hex u32_handle'.split()
+UNITS = 'bytes packets bytes/s packets/s kbit/s ns us ms s ticks clock_t percent probability ifindex log2 hex net_hex u32_handle'.split()
 SHOWN = ['names', 'mask', 'end', 'as']  # how it is shown to people, each behind the unit with a name
 KINDS, MARKS = ['qdisc', 'filter', 'action'], ['raw', 'Other', 'word', 'pad', 'Kind', 'bare']
 RESERVED = {'list': MARKS, 'choice': MARKS, 'struct': ['raw', 'rest']}

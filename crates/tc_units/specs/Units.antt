@@ -44,11 +44,16 @@ probability_text n = decimal n ++ bracketed (percent_text (thousandths n))
 abbrev pub power_text : ℕ → List ℕ
 power_text n = decimal n ++ (if nat_lt n 64 then bracketed (decimal (2 ^ n)) else [])
 
+-- four bytes in the other order
+abbrev pub swapped : ℕ → ℕ
+swapped n = n % 0x100 * 0x1000000 + n / 0x100 % 0x100 * 0x10000 + n / 0x10000 % 0x100 * 0x100 + n / 0x1000000 % 0x100
+
 -- a number in its unit
 abbrev pub number_text : Unit → ℕ → List ℕ
 number_text unit.Plain n = decimal n
 number_text unit.Hex n = hex_text n
 number_text unit.LongHex n = long_hex_text n
+number_text unit.NetworkHex n = hex_text (swapped n)
 number_text unit.Bytes n = decimal n ++ codes "B"
 number_text unit.Packets n = decimal n ++ codes "p"
 number_text unit.BytesPerSecond n = rate_text n

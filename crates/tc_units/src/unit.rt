@@ -9,6 +9,8 @@ pub enum Unit {
     Hex,
     /// A protocol's number: hex, at least four digits.
     LongHex,
+    /// Four bytes of a packet, which are big-endian, as a little-endian number: hex of the big-endian one.
+    NetworkHex,
     /// Bytes.
     Bytes,
     /// Packets.

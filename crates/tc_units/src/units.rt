@@ -1,7 +1,7 @@
 //! Numbers with their units.
 
 ghost use Rattle.std.specs.Prelude.{OnOk, decimal, ◌++◌, ◌≡◌};
-ghost use Rattle.tc_units.specs.Units.{bits_text, decimals, number_text, percent_text, power_text, probability_text, rate_text, scaled, stays, thousandths};
+ghost use Rattle.tc_units.specs.Units.{bits_text, decimals, number_text, percent_text, power_text, probability_text, rate_text, scaled, stays, swapped, thousandths};
 
 use crate::numerals::{put_decimal, put_hex, put_long_hex, put_wide};
 use crate::times::{put_clock, put_ticks, put_time_in};
@@ -17,6 +17,7 @@ pub fn put_number<A: Allocator>(out: &mut Vec<u8, A>, unit: Unit, n: u64) -> Res
         Unit::Plain => put_decimal(out, n),
         Unit::Hex => put_hex(out, n),
         Unit::LongHex => put_long_hex(out, n),
+        Unit::NetworkHex => put_hex(out, swapped(n)),
         Unit::Bytes => put_counted(out, n, b"B"),
         Unit::Packets => put_counted(out, n, b"p"),
         Unit::BytesPerSecond => put_rate(out, n),
@@ -33,6 +34,16 @@ pub fn put_number<A: Allocator>(out: &mut Vec<u8, A>, unit: Unit, n: u64) -> Res
         Unit::Power => put_power(out, n),
         Unit::U32Handle => put_u32_handle(out, n),
     }
+}
+
+// The number whose four bytes are in the other order.
+fn swapped(n: u64) -> u64
+    ensures { result ≡ swapped n }
+{
+    n % 0x100 * 0x100_0000
+        + n / 0x100 % 0x100 * 0x1_0000
+        + n / 0x1_0000 % 0x100 * 0x100
+        + n / 0x100_0000 % 0x100
 }
 
 // Puts a number and the name of its unit.

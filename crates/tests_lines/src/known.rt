@@ -6,11 +6,11 @@ use tc_columns::{KindColumns, Root};
 use tc_kinds::TcTables;
 use tc_lines::lines_of;
 
-// A message: its root, its bytes in hex, and its lines, of which the first goes on with the line of the header.
-struct Known {
-    root: Root,
-    digits: &'static str,
-    lines: &'static [&'static str],
+/// A message: its root, its bytes in hex, and its lines, of which the first goes on with the line of the header.
+pub(crate) struct Known {
+    pub(crate) root: Root,
+    pub(crate) digits: &'static str,
+    pub(crate) lines: &'static [&'static str],
 }
 
 // The lines of a message; as without memory, where its digits are none.
@@ -48,8 +48,8 @@ fn joined(alloc: Global, lines: &[&str]) -> Result<Vec<u8>, AllocError> {
     Ok(text)
 }
 
-// True if a message has these lines.
-fn is_known(alloc: Global, known: &Known, all: bool) -> bool {
+/// True if a message has these lines.
+pub(crate) fn is_known(alloc: Global, known: &Known, all: bool) -> bool {
     match (text_of(alloc, known, all), joined(alloc, known.lines)) {
         (Ok(text), Ok(lines)) => text.as_slice() == lines.as_slice(),
         _ => false,

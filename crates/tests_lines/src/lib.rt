@@ -2,6 +2,8 @@
 #![tactic(auto)]
 
 #[cfg(test)]
+mod by_kind;
+#[cfg(test)]
 mod known;
 #[cfg(test)]
 mod parts;

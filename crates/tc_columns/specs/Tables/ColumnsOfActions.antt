@@ -227,7 +227,7 @@ list_gate_in_gate =
     ∷ column (codes "CycleTime") (codes "cycle_time") (how.Number unit.Nanoseconds)
     ∷ column (codes "CycleTimeExt") (codes "cycle_time_ext") (how.Number unit.Nanoseconds)
     ∷ column (codes "Flags") (codes "flags") how.Plain
-    ∷ column (codes "Clockid") (codes "clockid") how.Plain
+    ∷ column (codes "Clockid") (codes "clockid") (how.Named unit.Plain 24005)
     ∷ []
 
 -- `struct tc_gate`
@@ -275,7 +275,7 @@ list_ife_in_ife =
     ∷ column (codes "Tm") (codes "tm") (how.Within 8)
     ∷ column (codes "Dmac") (codes "dmac") how.Plain
     ∷ column (codes "Smac") (codes "smac") how.Plain
-    ∷ column (codes "Type") (codes "type") (how.Named unit.LongHex 24005)
+    ∷ column (codes "Type") (codes "type") (how.Named unit.LongHex 24006)
     ∷ column (codes "Metalst") (codes "metalst") (how.Within 686)
     ∷ column (codes "Pad") (codes "pad") how.Hidden
     ∷ []
@@ -284,7 +284,7 @@ list_ife_in_ife =
 abbrev pub struct_tc_ife : List Column
 struct_tc_ife =
     column (codes "generic") (codes "generic") (how.Through 6)
-    ∷ column (codes "flags") (codes "flags") (how.Flags 24006)
+    ∷ column (codes "flags") (codes "flags") (how.Flags 24007)
     ∷ column (codes "padding") (codes "padding") how.Plain
     ∷ []
 
@@ -404,7 +404,7 @@ list_mpls_in_mpls =
     ∷ column (codes "Tm") (codes "tm") (how.Within 8)
     ∷ column (codes "Parms") (codes "parms") (how.Within 721)
     ∷ column (codes "Pad") (codes "pad") how.Hidden
-    ∷ column (codes "Proto") (codes "proto") (how.Named unit.LongHex 24005)
+    ∷ column (codes "Proto") (codes "proto") (how.Named unit.LongHex 24006)
     ∷ column (codes "Label") (codes "label") how.Plain
     ∷ column (codes "Tc") (codes "tc") how.Plain
     ∷ column (codes "Ttl") (codes "ttl") how.Plain
@@ -447,7 +447,7 @@ struct_tc_nat =
     ∷ column (codes "old_addr") (codes "old_addr") how.Plain
     ∷ column (codes "new_addr") (codes "new_addr") how.Plain
     ∷ column (codes "mask") (codes "mask") how.Plain
-    ∷ column (codes "flags") (codes "flags") (how.Named unit.Hex 24007)
+    ∷ column (codes "flags") (codes "flags") (how.Named unit.Hex 24008)
     ∷ []
 
 -- `list action`: the rows of nat
@@ -487,8 +487,8 @@ struct_tc_pedit_sel =
 -- `struct tc_pedit_key`
 abbrev pub struct_tc_pedit_key : List Column
 struct_tc_pedit_key =
-    column (codes "mask") (codes "mask") (how.Number unit.Hex)
-    ∷ column (codes "val") (codes "val") (how.Number unit.Hex)
+    column (codes "mask") (codes "mask") (how.Number unit.NetworkHex)
+    ∷ column (codes "val") (codes "val") (how.Number unit.NetworkHex)
     ∷ column (codes "off") (codes "off") how.Plain
     ∷ column (codes "at") (codes "at") how.Plain
     ∷ column (codes "offmask") (codes "offmask") (how.Number unit.Hex)
@@ -652,13 +652,13 @@ list_skbedit_in_skbedit =
     column (codes "Skbedit") (codes "skbedit") (how.Through 792)
     ∷ column (codes "Tm") (codes "tm") (how.Within 8)
     ∷ column (codes "Parms") (codes "parms") (how.Within 793)
-    ∷ column (codes "Priority") (codes "priority") how.Plain
+    ∷ column (codes "Priority") (codes "priority") (how.Number unit.Hex)
     ∷ column (codes "QueueMapping") (codes "queue_mapping") how.Plain
     ∷ column (codes "Mark") (codes "mark") (how.Number unit.Hex)
     ∷ column (codes "Pad") (codes "pad") how.Hidden
-    ∷ column (codes "Ptype") (codes "ptype") how.Plain
+    ∷ column (codes "Ptype") (codes "ptype") (how.Named unit.Plain 24009)
     ∷ column (codes "Mask") (codes "mask") (how.Number unit.Hex)
-    ∷ column (codes "Flags") (codes "flags") (how.Flags 24008)
+    ∷ column (codes "Flags") (codes "flags") (how.Flags 24010)
     ∷ column (codes "QueueMappingMax") (codes "queue_mapping_max") how.Plain
     ∷ []
 
@@ -689,7 +689,7 @@ list_skbmod_in_skbmod =
     ∷ column (codes "Parms") (codes "parms") (how.Within 805)
     ∷ column (codes "Dmac") (codes "dmac") how.Plain
     ∷ column (codes "Smac") (codes "smac") how.Plain
-    ∷ column (codes "Etype") (codes "etype") (how.Named unit.LongHex 24005)
+    ∷ column (codes "Etype") (codes "etype") (how.Named unit.LongHex 24006)
     ∷ column (codes "Pad") (codes "pad") how.Hidden
     ∷ []
 
@@ -698,7 +698,7 @@ abbrev pub struct_tc_skbmod : List Column
 struct_tc_skbmod =
     column (codes "generic") (codes "generic") (how.Through 6)
     ∷ column (codes "padding") (codes "padding") how.Plain
-    ∷ column (codes "flags") (codes "flags") (how.Flags 24009)
+    ∷ column (codes "flags") (codes "flags") (how.Flags 24011)
     ∷ []
 
 -- `list action`: the rows of skbmod
@@ -738,7 +738,7 @@ list_tunnel_key_in_tunnelkey =
 abbrev pub struct_tc_tunnel_key : List Column
 struct_tc_tunnel_key =
     column (codes "generic") (codes "generic") (how.Through 6)
-    ∷ column (codes "t_action") (codes "t_action") (how.Named unit.Plain 24010)
+    ∷ column (codes "t_action") (codes "t_action") (how.Named unit.Plain 24012)
     ∷ []
 
 -- `list tunnel_key_opts`
@@ -770,7 +770,7 @@ list_vlan_in_vlan =
     ∷ column (codes "Tm") (codes "tm") (how.Within 8)
     ∷ column (codes "Parms") (codes "parms") (how.Within 829)
     ∷ column (codes "PushVlanId") (codes "push_vlan_id") how.Plain
-    ∷ column (codes "PushVlanProtocol") (codes "push_vlan_protocol") (how.Named unit.LongHex 24005)
+    ∷ column (codes "PushVlanProtocol") (codes "push_vlan_protocol") (how.Named unit.LongHex 24006)
     ∷ column (codes "Pad") (codes "pad") how.Hidden
     ∷ column (codes "PushVlanPriority") (codes "push_vlan_priority") how.Plain
     ∷ column (codes "PushEthDst") (codes "push_eth_dst") how.Plain

@@ -36,7 +36,7 @@ choice_ematch =
 -- `struct ematch_container`
 abbrev pub struct_ematch_container : List Column
 struct_ematch_container =
-    column (codes "flags") (codes "flags") (how.Flags 24011)
+    column (codes "flags") (codes "flags") (how.Flags 24013)
     ∷ column (codes "padding") (codes "padding") how.Plain
     ∷ column (codes "first") (codes "first") how.Plain
     ∷ []
@@ -44,7 +44,7 @@ struct_ematch_container =
 -- `struct ematch_cmp`
 abbrev pub struct_ematch_cmp : List Column
 struct_ematch_cmp =
-    column (codes "flags") (codes "flags") (how.Flags 24011)
+    column (codes "flags") (codes "flags") (how.Flags 24013)
     ∷ column (codes "padding") (codes "padding") how.Plain
     ∷ column (codes "match") (codes "match") (how.Within 1805)
     ∷ []
@@ -55,14 +55,14 @@ struct_tcf_em_cmp =
     column (codes "val") (codes "val") (how.Number unit.Hex)
     ∷ column (codes "mask") (codes "mask") (how.Number unit.Hex)
     ∷ column (codes "off") (codes "off") (how.Number unit.Bytes)
-    ∷ column (codes "align_flags") (codes "align_flags") (how.Number unit.Hex)
-    ∷ column (codes "layer_opnd") (codes "layer_opnd") (how.Number unit.Hex)
+    ∷ column (codes "align_flags") (codes "align_flags") (how.Named unit.Hex 24014)
+    ∷ column (codes "layer_opnd") (codes "layer_opnd") (how.Named unit.Hex 24015)
     ∷ []
 
 -- `struct ematch_nbyte`
 abbrev pub struct_ematch_nbyte : List Column
 struct_ematch_nbyte =
-    column (codes "flags") (codes "flags") (how.Flags 24011)
+    column (codes "flags") (codes "flags") (how.Flags 24013)
     ∷ column (codes "padding") (codes "padding") how.Plain
     ∷ column (codes "match") (codes "match") (how.Within 1807)
     ∷ column (codes "needle") (codes "needle") how.Plain
@@ -78,7 +78,7 @@ struct_tcf_em_nbyte =
 -- `struct ematch_u32`
 abbrev pub struct_ematch_u32 : List Column
 struct_ematch_u32 =
-    column (codes "flags") (codes "flags") (how.Flags 24011)
+    column (codes "flags") (codes "flags") (how.Flags 24013)
     ∷ column (codes "padding") (codes "padding") how.Plain
     ∷ column (codes "match") (codes "match") (how.Within 2522)
     ∷ []
@@ -86,7 +86,7 @@ struct_ematch_u32 =
 -- `struct ematch_meta`
 abbrev pub struct_ematch_meta : List Column
 struct_ematch_meta =
-    column (codes "flags") (codes "flags") (how.Flags 24011)
+    column (codes "flags") (codes "flags") (how.Flags 24013)
     ∷ column (codes "padding") (codes "padding") how.Plain
     ∷ column (codes "attributes") (codes "attributes") (how.Through 1810)
     ∷ []
@@ -133,7 +133,7 @@ struct_tcf_meta_val =
 -- `struct ematch_text`
 abbrev pub struct_ematch_text : List Column
 struct_ematch_text =
-    column (codes "flags") (codes "flags") (how.Flags 24011)
+    column (codes "flags") (codes "flags") (how.Flags 24013)
     ∷ column (codes "padding") (codes "padding") how.Plain
     ∷ column (codes "match") (codes "match") (how.Within 1815)
     ∷ column (codes "pattern") (codes "pattern") how.Plain
@@ -153,7 +153,7 @@ struct_tcf_em_text =
 -- `struct ematch_canid`
 abbrev pub struct_ematch_canid : List Column
 struct_ematch_canid =
-    column (codes "flags") (codes "flags") (how.Flags 24011)
+    column (codes "flags") (codes "flags") (how.Flags 24013)
     ∷ column (codes "padding") (codes "padding") how.Plain
     ∷ column (codes "match") (codes "match") (how.Elements 1817)
     ∷ []
@@ -168,7 +168,7 @@ struct_can_filter =
 -- `struct ematch_ipset`
 abbrev pub struct_ematch_ipset : List Column
 struct_ematch_ipset =
-    column (codes "flags") (codes "flags") (how.Flags 24011)
+    column (codes "flags") (codes "flags") (how.Flags 24013)
     ∷ column (codes "padding") (codes "padding") how.Plain
     ∷ column (codes "match") (codes "match") (how.Within 1819)
     ∷ []
@@ -184,7 +184,7 @@ struct_xt_set_info =
 -- `struct ematch_ipt`
 abbrev pub struct_ematch_ipt : List Column
 struct_ematch_ipt =
-    column (codes "flags") (codes "flags") (how.Flags 24011)
+    column (codes "flags") (codes "flags") (how.Flags 24013)
     ∷ column (codes "padding") (codes "padding") how.Plain
     ∷ column (codes "attributes") (codes "attributes") (how.Through 1821)
     ∷ []

@@ -49,8 +49,8 @@ list_bpf_in_bpf =
     ∷ column (codes "Ops") (codes "ops") (how.Elements 4205)
     ∷ column (codes "ProgFd") (codes "prog_fd") how.Plain
     ∷ column (codes "ProgName") (codes "prog_name") how.Plain
-    ∷ column (codes "Flags") (codes "flags") (how.Flags 24012)
-    ∷ column (codes "FlagsGeneric") (codes "flags_generic") (how.Flags 24013)
+    ∷ column (codes "Flags") (codes "flags") (how.Flags 24016)
+    ∷ column (codes "FlagsGeneric") (codes "flags_generic") (how.Flags 24017)
     ∷ column (codes "ProgTag") (codes "prog_tag") how.Plain
     ∷ column (codes "ProgId") (codes "prog_id") how.Plain
     ∷ []
@@ -94,7 +94,7 @@ columns_of_filters_202 place =
 abbrev pub list_flow_in_flow : List Column
 list_flow_in_flow =
     column (codes "Flow") (codes "flow") (how.Through 2436)
-    ∷ column (codes "Keys") (codes "keys") (how.Flags 24014)
+    ∷ column (codes "Keys") (codes "keys") (how.Flags 24018)
     ∷ column (codes "Mode") (codes "mode") (how.Text 2437 14437)
     ∷ column (codes "Baseclass") (codes "baseclass") how.Plain
     ∷ column (codes "Rshift") (codes "rshift") how.Plain
@@ -132,7 +132,7 @@ list_flower_in_flower =
     ∷ column (codes "EthDstMask") (codes "eth_dst_mask") how.Plain
     ∷ column (codes "EthSrc") (codes "eth_src") (how.First 30004)
     ∷ column (codes "EthSrcMask") (codes "eth_src_mask") how.Plain
-    ∷ column (codes "EthType") (codes "eth_type") (how.Named unit.LongHex 24005)
+    ∷ column (codes "EthType") (codes "eth_type") (how.Named unit.LongHex 24006)
     ∷ column (codes "IpProto") (codes "ip_proto") (how.Named unit.Plain 24004)
     ∷ column (codes "Ipv4Src") (codes "ipv4_src") (how.First 30005)
     ∷ column (codes "Ipv4SrcMask") (codes "ipv4_src_mask") how.Plain
@@ -146,10 +146,10 @@ list_flower_in_flower =
     ∷ column (codes "TcpDst") (codes "tcp_dst") how.Plain
     ∷ column (codes "UdpSrc") (codes "udp_src") how.Plain
     ∷ column (codes "UdpDst") (codes "udp_dst") how.Plain
-    ∷ column (codes "Flags") (codes "flags") (how.Flags 24013)
+    ∷ column (codes "Flags") (codes "flags") (how.Flags 24017)
     ∷ column (codes "VlanId") (codes "vlan_id") how.Plain
     ∷ column (codes "VlanPrio") (codes "vlan_prio") how.Plain
-    ∷ column (codes "VlanEthType") (codes "vlan_eth_type") (how.Named unit.LongHex 24005)
+    ∷ column (codes "VlanEthType") (codes "vlan_eth_type") (how.Named unit.LongHex 24006)
     ∷ column (codes "EncKeyId") (codes "enc_key_id") how.Plain
     ∷ column (codes "EncKeyIpv4Src") (codes "enc_key_ipv4_src") (how.First 30009)
     ∷ column (codes "EncKeyIpv4SrcMask") (codes "enc_key_ipv4_src_mask") how.Plain
@@ -171,8 +171,8 @@ list_flower_in_flower =
     ∷ column (codes "EncKeyUdpSrcPortMask") (codes "enc_key_udp_src_port_mask") (how.Number unit.Hex)
     ∷ column (codes "EncKeyUdpDstPort") (codes "enc_key_udp_dst_port") how.Plain
     ∷ column (codes "EncKeyUdpDstPortMask") (codes "enc_key_udp_dst_port_mask") (how.Number unit.Hex)
-    ∷ column (codes "KeyFlags") (codes "key_flags") (how.Flags 24018)
-    ∷ column (codes "KeyFlagsMask") (codes "key_flags_mask") (how.Flags 24018)
+    ∷ column (codes "KeyFlags") (codes "key_flags") (how.Flags 24022)
+    ∷ column (codes "KeyFlagsMask") (codes "key_flags_mask") (how.Flags 24022)
     ∷ column (codes "Icmpv4Code") (codes "icmpv4_code") how.Plain
     ∷ column (codes "Icmpv4CodeMask") (codes "icmpv4_code_mask") (how.Number unit.Hex)
     ∷ column (codes "Icmpv4Type") (codes "icmpv4_type") how.Plain
@@ -185,7 +185,7 @@ list_flower_in_flower =
     ∷ column (codes "ArpSipMask") (codes "arp_sip_mask") how.Plain
     ∷ column (codes "ArpTip") (codes "arp_tip") (how.First 30014)
     ∷ column (codes "ArpTipMask") (codes "arp_tip_mask") how.Plain
-    ∷ column (codes "ArpOp") (codes "arp_op") (how.Named unit.Plain 24019)
+    ∷ column (codes "ArpOp") (codes "arp_op") (how.Named unit.Plain 24023)
     ∷ column (codes "ArpOpMask") (codes "arp_op_mask") (how.Number unit.Hex)
     ∷ column (codes "ArpSha") (codes "arp_sha") (how.First 30015)
     ∷ column (codes "ArpShaMask") (codes "arp_sha_mask") how.Plain
@@ -195,15 +195,15 @@ list_flower_in_flower =
     ∷ column (codes "MplsBos") (codes "mpls_bos") how.Plain
     ∷ column (codes "MplsTc") (codes "mpls_tc") how.Plain
     ∷ column (codes "MplsLabel") (codes "mpls_label") how.Plain
-    ∷ column (codes "TcpFlags") (codes "tcp_flags") (how.Flags 24020)
-    ∷ column (codes "TcpFlagsMask") (codes "tcp_flags_mask") (how.Flags 24020)
+    ∷ column (codes "TcpFlags") (codes "tcp_flags") (how.Flags 24024)
+    ∷ column (codes "TcpFlagsMask") (codes "tcp_flags_mask") (how.Flags 24024)
     ∷ column (codes "IpTos") (codes "ip_tos") (how.Number unit.Hex)
     ∷ column (codes "IpTosMask") (codes "ip_tos_mask") (how.Number unit.Hex)
     ∷ column (codes "IpTtl") (codes "ip_ttl") how.Plain
     ∷ column (codes "IpTtlMask") (codes "ip_ttl_mask") (how.Number unit.Hex)
     ∷ column (codes "CvlanId") (codes "cvlan_id") how.Plain
     ∷ column (codes "CvlanPrio") (codes "cvlan_prio") how.Plain
-    ∷ column (codes "CvlanEthType") (codes "cvlan_eth_type") (how.Named unit.LongHex 24005)
+    ∷ column (codes "CvlanEthType") (codes "cvlan_eth_type") (how.Named unit.LongHex 24006)
     ∷ column (codes "EncKeyIpTos") (codes "enc_key_ip_tos") (how.Number unit.Hex)
     ∷ column (codes "EncKeyIpTosMask") (codes "enc_key_ip_tos_mask") (how.Number unit.Hex)
     ∷ column (codes "EncKeyIpTtl") (codes "enc_key_ip_ttl") how.Plain
@@ -215,8 +215,8 @@ list_flower_in_flower =
     ∷ column (codes "PortSrcMax") (codes "port_src_max") how.Plain
     ∷ column (codes "PortDstMin") (codes "ports_dst") (how.From 30018)
     ∷ column (codes "PortDstMax") (codes "port_dst_max") how.Plain
-    ∷ column (codes "CtState") (codes "ct_state") (how.Flags 24021)
-    ∷ column (codes "CtStateMask") (codes "ct_state_mask") (how.Flags 24021)
+    ∷ column (codes "CtState") (codes "ct_state") (how.Flags 24025)
+    ∷ column (codes "CtStateMask") (codes "ct_state_mask") (how.Flags 24025)
     ∷ column (codes "CtZone") (codes "ct_zone") how.Plain
     ∷ column (codes "CtZoneMask") (codes "ct_zone_mask") (how.Number unit.Hex)
     ∷ column (codes "CtMark") (codes "ct_mark") (how.Number unit.Hex)
@@ -234,8 +234,8 @@ list_flower_in_flower =
     ∷ column (codes "Cfm") (codes "cfm") (how.Within 2455)
     ∷ column (codes "Spi") (codes "spi") (how.Number unit.Hex)
     ∷ column (codes "SpiMask") (codes "spi_mask") (how.Number unit.Hex)
-    ∷ column (codes "EncFlags") (codes "enc_flags") (how.Flags 24018)
-    ∷ column (codes "EncFlagsMask") (codes "enc_flags_mask") (how.Flags 24018)
+    ∷ column (codes "EncFlags") (codes "enc_flags") (how.Flags 24022)
+    ∷ column (codes "EncFlagsMask") (codes "enc_flags_mask") (how.Flags 24022)
     ∷ []
 
 -- `list enc_opts`
@@ -360,7 +360,7 @@ list_matchall_in_matchall =
     column (codes "MatchAll") (codes "match_all") (how.Through 2472)
     ∷ column (codes "ClassId") (codes "class_id") how.Plain
     ∷ column (codes "Action") (codes "action") (how.Within 1203)
-    ∷ column (codes "Flags") (codes "flags") (how.Flags 24013)
+    ∷ column (codes "Flags") (codes "flags") (how.Flags 24017)
     ∷ column (codes "Pnct") (codes "pnct") (how.Within 2473)
     ∷ column (codes "Pad") (codes "pad") how.Hidden
     ∷ []
@@ -517,14 +517,14 @@ list_u32_in_u32 =
     ∷ column (codes "Indev") (codes "indev") how.Plain
     ∷ column (codes "Pnct") (codes "pnct") (how.Within 2523)
     ∷ column (codes "Mark") (codes "mark") (how.Within 2524)
-    ∷ column (codes "Flags") (codes "flags") (how.Flags 24013)
+    ∷ column (codes "Flags") (codes "flags") (how.Flags 24017)
     ∷ column (codes "Pad") (codes "pad") how.Hidden
     ∷ []
 
 -- `struct tc_u32_sel`
 abbrev pub struct_tc_u32_sel : List Column
 struct_tc_u32_sel =
-    column (codes "flags") (codes "flags") (how.Flags 24022)
+    column (codes "flags") (codes "flags") (how.Flags 24026)
     ∷ column (codes "offshift") (codes "offshift") how.Plain
     ∷ column (codes "nkeys") (codes "nkeys") how.Plain
     ∷ column (codes "padding") (codes "padding") how.Plain

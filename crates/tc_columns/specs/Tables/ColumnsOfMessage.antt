@@ -77,8 +77,8 @@ choice_unknown =
 -- `struct tca_dump_flags`
 abbrev pub struct_tca_dump_flags : List Column
 struct_tca_dump_flags =
-    column (codes "value") (codes "value") (how.Flags 24023)
-    ∷ column (codes "selector") (codes "selector") (how.Flags 24023)
+    column (codes "value") (codes "value") (how.Flags 24027)
+    ∷ column (codes "selector") (codes "selector") (how.Flags 24027)
     ∷ []
 
 -- `struct action_message`
@@ -108,8 +108,8 @@ list_action_message =
 -- `struct tca_root_flags`
 abbrev pub struct_tca_root_flags : List Column
 struct_tca_root_flags =
-    column (codes "flags") (codes "flags") (how.Flags 24024)
-    ∷ column (codes "selector") (codes "selector") (how.Flags 24024)
+    column (codes "flags") (codes "flags") (how.Flags 24028)
+    ∷ column (codes "selector") (codes "selector") (how.Flags 24028)
     ∷ []
 
 unfoldable pub columns_of_message_250 : ℕ → List Column

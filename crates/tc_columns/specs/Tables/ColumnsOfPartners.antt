@@ -26,55 +26,55 @@ nat_port_max_end_of_ct =
 -- what is behind `EthDst` of `list flower`
 abbrev pub eth_dst_mask_mask_of_flower : List Column
 eth_dst_mask_mask_of_flower =
-    column (codes "EthDstMask") (codes "eth_dst_mask") (how.Slash 24015 30003)
+    column (codes "EthDstMask") (codes "eth_dst_mask") (how.Slash 24019 30003)
     ∷ []
 
 -- what is behind `EthSrc` of `list flower`
 abbrev pub eth_src_mask_mask_of_flower : List Column
 eth_src_mask_mask_of_flower =
-    column (codes "EthSrcMask") (codes "eth_src_mask") (how.Slash 24015 30004)
+    column (codes "EthSrcMask") (codes "eth_src_mask") (how.Slash 24019 30004)
     ∷ []
 
 -- what is behind `Ipv4Src` of `list flower`
 abbrev pub ipv4_src_mask_mask_of_flower : List Column
 ipv4_src_mask_mask_of_flower =
-    column (codes "Ipv4SrcMask") (codes "ipv4_src_mask") (how.Slash 24016 30005)
+    column (codes "Ipv4SrcMask") (codes "ipv4_src_mask") (how.Slash 24020 30005)
     ∷ []
 
 -- what is behind `Ipv4Dst` of `list flower`
 abbrev pub ipv4_dst_mask_mask_of_flower : List Column
 ipv4_dst_mask_mask_of_flower =
-    column (codes "Ipv4DstMask") (codes "ipv4_dst_mask") (how.Slash 24016 30006)
+    column (codes "Ipv4DstMask") (codes "ipv4_dst_mask") (how.Slash 24020 30006)
     ∷ []
 
 -- what is behind `Ipv6Src` of `list flower`
 abbrev pub ipv6_src_mask_mask_of_flower : List Column
 ipv6_src_mask_mask_of_flower =
-    column (codes "Ipv6SrcMask") (codes "ipv6_src_mask") (how.Slash 24017 30007)
+    column (codes "Ipv6SrcMask") (codes "ipv6_src_mask") (how.Slash 24021 30007)
     ∷ []
 
 -- what is behind `Ipv6Dst` of `list flower`
 abbrev pub ipv6_dst_mask_mask_of_flower : List Column
 ipv6_dst_mask_mask_of_flower =
-    column (codes "Ipv6DstMask") (codes "ipv6_dst_mask") (how.Slash 24017 30008)
+    column (codes "Ipv6DstMask") (codes "ipv6_dst_mask") (how.Slash 24021 30008)
     ∷ []
 
 -- what is behind `EncKeyIpv4Src` of `list flower`
 abbrev pub enc_key_ipv4_src_mask_mask_of_flower : List Column
 enc_key_ipv4_src_mask_mask_of_flower =
-    column (codes "EncKeyIpv4SrcMask") (codes "enc_key_ipv4_src_mask") (how.Slash 24016 30009)
+    column (codes "EncKeyIpv4SrcMask") (codes "enc_key_ipv4_src_mask") (how.Slash 24020 30009)
     ∷ []
 
 -- what is behind `EncKeyIpv4Dst` of `list flower`
 abbrev pub enc_key_ipv4_dst_mask_mask_of_flower : List Column
 enc_key_ipv4_dst_mask_mask_of_flower =
-    column (codes "EncKeyIpv4DstMask") (codes "enc_key_ipv4_dst_mask") (how.Slash 24016 30010)
+    column (codes "EncKeyIpv4DstMask") (codes "enc_key_ipv4_dst_mask") (how.Slash 24020 30010)
     ∷ []
 
 -- what is behind `EncKeyIpv6Src` of `list flower`
 abbrev pub enc_key_ipv6_src_mask_mask_of_flower : List Column
 enc_key_ipv6_src_mask_mask_of_flower =
-    column (codes "EncKeyIpv6SrcMask") (codes "enc_key_ipv6_src_mask") (how.Slash 24017 30011)
+    column (codes "EncKeyIpv6SrcMask") (codes "enc_key_ipv6_src_mask") (how.Slash 24021 30011)
     ∷ []
 
 unfoldable pub columns_of_partners_2500 : ℕ → List Column
@@ -96,31 +96,31 @@ columns_of_partners_2500 place =
 -- what is behind `EncKeyIpv6Dst` of `list flower`
 abbrev pub enc_key_ipv6_dst_mask_mask_of_flower : List Column
 enc_key_ipv6_dst_mask_mask_of_flower =
-    column (codes "EncKeyIpv6DstMask") (codes "enc_key_ipv6_dst_mask") (how.Slash 24017 30012)
+    column (codes "EncKeyIpv6DstMask") (codes "enc_key_ipv6_dst_mask") (how.Slash 24021 30012)
     ∷ []
 
 -- what is behind `ArpSip` of `list flower`
 abbrev pub arp_sip_mask_mask_of_flower : List Column
 arp_sip_mask_mask_of_flower =
-    column (codes "ArpSipMask") (codes "arp_sip_mask") (how.Slash 24016 30013)
+    column (codes "ArpSipMask") (codes "arp_sip_mask") (how.Slash 24020 30013)
     ∷ []
 
 -- what is behind `ArpTip` of `list flower`
 abbrev pub arp_tip_mask_mask_of_flower : List Column
 arp_tip_mask_mask_of_flower =
-    column (codes "ArpTipMask") (codes "arp_tip_mask") (how.Slash 24016 30014)
+    column (codes "ArpTipMask") (codes "arp_tip_mask") (how.Slash 24020 30014)
     ∷ []
 
 -- what is behind `ArpSha` of `list flower`
 abbrev pub arp_sha_mask_mask_of_flower : List Column
 arp_sha_mask_mask_of_flower =
-    column (codes "ArpShaMask") (codes "arp_sha_mask") (how.Slash 24015 30015)
+    column (codes "ArpShaMask") (codes "arp_sha_mask") (how.Slash 24019 30015)
     ∷ []
 
 -- what is behind `ArpTha` of `list flower`
 abbrev pub arp_tha_mask_mask_of_flower : List Column
 arp_tha_mask_mask_of_flower =
-    column (codes "ArpThaMask") (codes "arp_tha_mask") (how.Slash 24015 30016)
+    column (codes "ArpThaMask") (codes "arp_tha_mask") (how.Slash 24019 30016)
     ∷ []
 
 -- what is behind `PortSrcMin` of `list flower`

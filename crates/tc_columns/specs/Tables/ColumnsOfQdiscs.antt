@@ -159,8 +159,8 @@ struct_tc_cbq_xstats =
 -- `struct tc_cbq_lssopt`
 abbrev pub struct_tc_cbq_lssopt : List Column
 struct_tc_cbq_lssopt =
-    column (codes "change") (codes "change") (how.Flags 24025)
-    ∷ column (codes "flags") (codes "flags") (how.Flags 24026)
+    column (codes "change") (codes "change") (how.Flags 24029)
+    ∷ column (codes "flags") (codes "flags") (how.Flags 24030)
     ∷ column (codes "ewma_log") (codes "ewma_log") how.Plain
     ∷ column (codes "level") (codes "level") how.Plain
     ∷ column (codes "maxidle") (codes "maxidle") how.Plain
@@ -274,9 +274,21 @@ columns_of_qdiscs_303 place =
 abbrev pub list_choke_in_choke : List Column
 list_choke_in_choke =
     column (codes "Choke") (codes "choke") (how.Through 3648)
-    ∷ column (codes "Parms") (codes "parms") (how.Within 3925)
+    ∷ column (codes "Parms") (codes "parms") (how.Within 3649)
     ∷ column (codes "Stab") (codes "stab") how.Plain
     ∷ column (codes "MaxP") (codes "max_p") (how.Number unit.Probability)
+    ∷ []
+
+-- `struct tc_red_qopt_packets`
+abbrev pub struct_tc_red_qopt_packets : List Column
+struct_tc_red_qopt_packets =
+    column (codes "limit") (codes "limit") (how.Number unit.Packets)
+    ∷ column (codes "qth_min") (codes "qth_min") (how.Number unit.Packets)
+    ∷ column (codes "qth_max") (codes "qth_max") (how.Number unit.Packets)
+    ∷ column (codes "Wlog") (codes "Wlog") (how.Number unit.Power)
+    ∷ column (codes "Plog") (codes "Plog") (how.Number unit.Power)
+    ∷ column (codes "Scell_log") (codes "Scell_log") (how.Number unit.Power)
+    ∷ column (codes "flags") (codes "flags") (how.Flags 24031)
     ∷ []
 
 -- `struct tc_choke_xstats`
@@ -292,30 +304,31 @@ struct_tc_choke_xstats =
 -- the statistics of choke
 abbrev pub statistics_qdisc_choke : List Column
 statistics_qdisc_choke =
-    column (codes "Choke") (codes "choke") (how.Through 3649)
+    column (codes "Choke") (codes "choke") (how.Through 3650)
     ∷ []
 
 -- `list tc`: the rows of choke
 abbrev pub list_tc_qdisc_choke : List Column
 list_tc_qdisc_choke =
     column (codes "Options") (codes "options") (how.Within 3648)
-    ∷ column (codes "Xstats") (codes "xstats") (how.Within 3650)
+    ∷ column (codes "Xstats") (codes "xstats") (how.Within 3651)
     ∷ []
 
 -- `list stats`: the rows of choke
 abbrev pub list_stats_qdisc_choke : List Column
 list_stats_qdisc_choke =
-    column (codes "App") (codes "app") (how.Within 3650)
+    column (codes "App") (codes "app") (how.Within 3651)
     ∷ []
 
 unfoldable pub columns_of_qdiscs_304 : ℕ → List Column
 columns_of_qdiscs_304 place =
     if place == 3648 then list_choke_in_choke else (
-    if place == 3649 then struct_tc_choke_xstats else (
-    if place == 3650 then statistics_qdisc_choke else (
-    if place == 3651 then list_tc_qdisc_choke else (
-    if place == 3652 then list_stats_qdisc_choke else (
-    [])))))
+    if place == 3649 then struct_tc_red_qopt_packets else (
+    if place == 3650 then struct_tc_choke_xstats else (
+    if place == 3651 then statistics_qdisc_choke else (
+    if place == 3652 then list_tc_qdisc_choke else (
+    if place == 3653 then list_stats_qdisc_choke else (
+    []))))))
 
 -- `list codel`
 abbrev pub list_codel_in_codel : List Column
@@ -446,8 +459,8 @@ list_etf_in_etf =
 abbrev pub struct_tc_etf_qopt : List Column
 struct_tc_etf_qopt =
     column (codes "delta") (codes "delta") (how.Number unit.Nanoseconds)
-    ∷ column (codes "clockid") (codes "clockid") how.Plain
-    ∷ column (codes "flags") (codes "flags") (how.Flags 24027)
+    ∷ column (codes "clockid") (codes "clockid") (how.Named unit.Plain 24005)
+    ∷ column (codes "flags") (codes "flags") (how.Flags 24032)
     ∷ []
 
 -- `list tc`: the rows of etf
@@ -506,12 +519,25 @@ columns_of_qdiscs_309 place =
 -- `struct tc_fifo_qopt`
 abbrev pub struct_tc_fifo_qopt : List Column
 struct_tc_fifo_qopt =
-    column (codes "limit") (codes "limit") how.Plain
+    column (codes "limit") (codes "limit") (how.Number unit.Bytes)
     ∷ []
 
--- `list tc`: the rows of pfifo, pfifo_head_drop, bfifo
+-- `struct tc_fifo_qopt_packets`
+abbrev pub struct_tc_fifo_qopt_packets : List Column
+struct_tc_fifo_qopt_packets =
+    column (codes "limit") (codes "limit") (how.Number unit.Packets)
+    ∷ []
+
+-- `list tc`: the rows of pfifo, pfifo_head_drop
 abbrev pub list_tc_qdisc_pfifo : List Column
 list_tc_qdisc_pfifo =
+    column (codes "Options") (codes "options") (how.Within 3721)
+    ∷ column (codes "Xstats") (codes "xstats") (how.Within 3006)
+    ∷ []
+
+-- `list tc`: the rows of bfifo
+abbrev pub list_tc_qdisc_bfifo : List Column
+list_tc_qdisc_bfifo =
     column (codes "Options") (codes "options") (how.Within 3720)
     ∷ column (codes "Xstats") (codes "xstats") (how.Within 3006)
     ∷ []
@@ -519,8 +545,10 @@ list_tc_qdisc_pfifo =
 unfoldable pub columns_of_qdiscs_310 : ℕ → List Column
 columns_of_qdiscs_310 place =
     if place == 3720 then struct_tc_fifo_qopt else (
-    if place == 3721 then list_tc_qdisc_pfifo else (
-    []))
+    if place == 3721 then struct_tc_fifo_qopt_packets else (
+    if place == 3722 then list_tc_qdisc_pfifo else (
+    if place == 3723 then list_tc_qdisc_bfifo else (
+    []))))
 
 -- `list fq`
 abbrev pub list_fq_in_fq : List Column
@@ -533,7 +561,7 @@ list_fq_in_fq =
     ∷ column (codes "RateEnable") (codes "rate_enable") how.Plain
     ∷ column (codes "FlowDefaultRate") (codes "flow_default_rate") (how.Number unit.BytesPerSecond)
     ∷ column (codes "FlowMaxRate") (codes "flow_max_rate") (how.Number unit.BytesPerSecond)
-    ∷ column (codes "BucketsLog") (codes "buckets_log") how.Plain
+    ∷ column (codes "BucketsLog") (codes "buckets_log") (how.Number unit.Power)
     ∷ column (codes "FlowRefillDelay") (codes "flow_refill_delay") (how.Number unit.Microseconds)
     ∷ column (codes "OrphanMask") (codes "orphan_mask") (how.Number unit.Hex)
     ∷ column (codes "LowRateThreshold") (codes "low_rate_threshold") (how.Number unit.BytesPerSecond)
@@ -759,21 +787,21 @@ list_gred_in_gred =
 abbrev pub struct_tc_gred_qopt : List Column
 struct_tc_gred_qopt =
     column (codes "limit") (codes "limit") (how.Number unit.Bytes)
-    ∷ column (codes "qth_min") (codes "qth_min") how.Plain
-    ∷ column (codes "qth_max") (codes "qth_max") how.Plain
+    ∷ column (codes "qth_min") (codes "qth_min") (how.Number unit.Bytes)
+    ∷ column (codes "qth_max") (codes "qth_max") (how.Number unit.Bytes)
     ∷ column (codes "DP") (codes "DP") how.Plain
-    ∷ column (codes "backlog") (codes "backlog") how.Plain
-    ∷ column (codes "qave") (codes "qave") how.Plain
-    ∷ column (codes "forced") (codes "forced") how.Plain
-    ∷ column (codes "early") (codes "early") how.Plain
-    ∷ column (codes "other") (codes "other") how.Plain
-    ∷ column (codes "pdrop") (codes "pdrop") how.Plain
-    ∷ column (codes "Wlog") (codes "Wlog") how.Plain
-    ∷ column (codes "Plog") (codes "Plog") how.Plain
-    ∷ column (codes "Scell_log") (codes "Scell_log") how.Plain
+    ∷ column (codes "backlog") (codes "backlog") (how.Number unit.Bytes)
+    ∷ column (codes "qave") (codes "qave") (how.Number unit.Bytes)
+    ∷ column (codes "forced") (codes "forced") (how.Number unit.Packets)
+    ∷ column (codes "early") (codes "early") (how.Number unit.Packets)
+    ∷ column (codes "other") (codes "other") (how.Number unit.Packets)
+    ∷ column (codes "pdrop") (codes "pdrop") (how.Number unit.Packets)
+    ∷ column (codes "Wlog") (codes "Wlog") (how.Number unit.Power)
+    ∷ column (codes "Plog") (codes "Plog") (how.Number unit.Power)
+    ∷ column (codes "Scell_log") (codes "Scell_log") (how.Number unit.Power)
     ∷ column (codes "prio") (codes "prio") how.Plain
-    ∷ column (codes "packets") (codes "packets") how.Plain
-    ∷ column (codes "bytesin") (codes "bytesin") how.Plain
+    ∷ column (codes "packets") (codes "packets") (how.Number unit.Packets)
+    ∷ column (codes "bytesin") (codes "bytesin") (how.Number unit.Bytes)
     ∷ []
 
 -- `struct tc_gred_sopt`
@@ -782,7 +810,7 @@ struct_tc_gred_sopt =
     column (codes "DPs") (codes "DPs") how.Plain
     ∷ column (codes "def_DP") (codes "def_DP") how.Plain
     ∷ column (codes "grio") (codes "grio") how.Plain
-    ∷ column (codes "flags") (codes "flags") (how.Flags 24028)
+    ∷ column (codes "flags") (codes "flags") (how.Flags 24031)
     ∷ column (codes "pad1") (codes "pad1") how.Plain
     ∷ []
 
@@ -797,16 +825,16 @@ abbrev pub list_gred_vq : List Column
 list_gred_vq =
     column (codes "Pad") (codes "pad") how.Hidden
     ∷ column (codes "Dp") (codes "dp") how.Plain
-    ∷ column (codes "StatBytes") (codes "stat_bytes") how.Plain
-    ∷ column (codes "StatPackets") (codes "stat_packets") how.Plain
-    ∷ column (codes "StatBacklog") (codes "stat_backlog") how.Plain
-    ∷ column (codes "StatProbDrop") (codes "stat_prob_drop") how.Plain
-    ∷ column (codes "StatProbMark") (codes "stat_prob_mark") how.Plain
-    ∷ column (codes "StatForcedDrop") (codes "stat_forced_drop") how.Plain
-    ∷ column (codes "StatForcedMark") (codes "stat_forced_mark") how.Plain
-    ∷ column (codes "StatPdrop") (codes "stat_pdrop") how.Plain
-    ∷ column (codes "StatOther") (codes "stat_other") how.Plain
-    ∷ column (codes "Flags") (codes "flags") (how.Flags 24028)
+    ∷ column (codes "StatBytes") (codes "stat_bytes") (how.Number unit.Bytes)
+    ∷ column (codes "StatPackets") (codes "stat_packets") (how.Number unit.Packets)
+    ∷ column (codes "StatBacklog") (codes "stat_backlog") (how.Number unit.Bytes)
+    ∷ column (codes "StatProbDrop") (codes "stat_prob_drop") (how.Number unit.Packets)
+    ∷ column (codes "StatProbMark") (codes "stat_prob_mark") (how.Number unit.Packets)
+    ∷ column (codes "StatForcedDrop") (codes "stat_forced_drop") (how.Number unit.Packets)
+    ∷ column (codes "StatForcedMark") (codes "stat_forced_mark") (how.Number unit.Packets)
+    ∷ column (codes "StatPdrop") (codes "stat_pdrop") (how.Number unit.Packets)
+    ∷ column (codes "StatOther") (codes "stat_other") (how.Number unit.Packets)
+    ∷ column (codes "Flags") (codes "flags") (how.Flags 24031)
     ∷ []
 
 -- `list tc`: the rows of gred
@@ -1417,7 +1445,7 @@ list_qfq_in_qfq =
 abbrev pub struct_tc_qfq_stats : List Column
 struct_tc_qfq_stats =
     column (codes "weight") (codes "weight") how.Plain
-    ∷ column (codes "lmax") (codes "lmax") how.Plain
+    ∷ column (codes "lmax") (codes "lmax") (how.Number unit.Bytes)
     ∷ []
 
 -- the statistics of qfq
@@ -1469,14 +1497,14 @@ struct_tc_red_qopt =
     ∷ column (codes "Wlog") (codes "Wlog") (how.Number unit.Power)
     ∷ column (codes "Plog") (codes "Plog") (how.Number unit.Power)
     ∷ column (codes "Scell_log") (codes "Scell_log") (how.Number unit.Power)
-    ∷ column (codes "flags") (codes "flags") (how.Flags 24028)
+    ∷ column (codes "flags") (codes "flags") (how.Flags 24031)
     ∷ []
 
 -- `struct tca_red_flags`
 abbrev pub struct_tca_red_flags : List Column
 struct_tca_red_flags =
-    column (codes "value") (codes "value") (how.Flags 24028)
-    ∷ column (codes "selector") (codes "selector") (how.Flags 24028)
+    column (codes "value") (codes "value") (how.Flags 24031)
+    ∷ column (codes "selector") (codes "selector") (how.Flags 24031)
     ∷ []
 
 -- `struct tc_red_xstats`
@@ -1534,7 +1562,7 @@ struct_tc_sfb_xstats =
     ∷ column (codes "queuedrop") (codes "queuedrop") how.Plain
     ∷ column (codes "childdrop") (codes "childdrop") how.Plain
     ∷ column (codes "marked") (codes "marked") how.Plain
-    ∷ column (codes "maxqlen") (codes "maxqlen") how.Plain
+    ∷ column (codes "maxqlen") (codes "maxqlen") (how.Number unit.Packets)
     ∷ column (codes "maxprob") (codes "maxprob") how.Plain
     ∷ column (codes "avgprob") (codes "avgprob") how.Plain
     ∷ []
@@ -1544,13 +1572,13 @@ abbrev pub struct_tc_sfb_qopt : List Column
 struct_tc_sfb_qopt =
     column (codes "rehash_interval") (codes "rehash_interval") (how.Number unit.Milliseconds)
     ∷ column (codes "warmup_time") (codes "warmup_time") (how.Number unit.Milliseconds)
-    ∷ column (codes "max") (codes "max") how.Plain
-    ∷ column (codes "bin_size") (codes "bin_size") how.Plain
+    ∷ column (codes "max") (codes "max") (how.Number unit.Packets)
+    ∷ column (codes "bin_size") (codes "bin_size") (how.Number unit.Packets)
     ∷ column (codes "increment") (codes "increment") how.Plain
     ∷ column (codes "decrement") (codes "decrement") how.Plain
-    ∷ column (codes "limit") (codes "limit") how.Plain
-    ∷ column (codes "penalty_rate") (codes "penalty_rate") how.Plain
-    ∷ column (codes "penalty_burst") (codes "penalty_burst") how.Plain
+    ∷ column (codes "limit") (codes "limit") (how.Number unit.Packets)
+    ∷ column (codes "penalty_rate") (codes "penalty_rate") (how.Number unit.PacketsPerSecond)
+    ∷ column (codes "penalty_burst") (codes "penalty_burst") (how.Number unit.Packets)
     ∷ []
 
 -- the statistics of sfb
@@ -1611,7 +1639,7 @@ struct_tc_sfq_qopt_v1 =
     ∷ column (codes "Wlog") (codes "Wlog") how.Plain
     ∷ column (codes "Plog") (codes "Plog") how.Plain
     ∷ column (codes "Scell_log") (codes "Scell_log") how.Plain
-    ∷ column (codes "flags") (codes "flags") (how.Flags 24028)
+    ∷ column (codes "flags") (codes "flags") (how.Flags 24031)
     ∷ column (codes "max_P") (codes "max_P") (how.Number unit.Probability)
     ∷ column (codes "stats") (codes "stats") (how.Within 3951)
     ∷ []
@@ -1690,12 +1718,12 @@ list_taprio =
     ∷ column (codes "SchedEntryList") (codes "sched_entry_list") (how.Within 3974)
     ∷ column (codes "SchedBaseTime") (codes "sched_base_time") (how.Number unit.Nanoseconds)
     ∷ column (codes "SchedSingleEntry") (codes "sched_single_entry") (how.Within 3975)
-    ∷ column (codes "SchedClockid") (codes "sched_clockid") how.Plain
+    ∷ column (codes "SchedClockid") (codes "sched_clockid") (how.Named unit.Plain 24005)
     ∷ column (codes "Pad") (codes "pad") how.Hidden
     ∷ column (codes "AdminSched") (codes "admin_sched") (how.Within 3972)
     ∷ column (codes "SchedCycleTime") (codes "sched_cycle_time") (how.Number unit.Nanoseconds)
     ∷ column (codes "SchedCycleTimeExtension") (codes "sched_cycle_time_extension") (how.Number unit.Nanoseconds)
-    ∷ column (codes "Flags") (codes "flags") (how.Flags 24029)
+    ∷ column (codes "Flags") (codes "flags") (how.Flags 24033)
     ∷ column (codes "TxtimeDelay") (codes "txtime_delay") (how.Number unit.Nanoseconds)
     ∷ column (codes "TcEntry") (codes "tc_entry") (how.Within 3977)
     ∷ []
@@ -1708,12 +1736,12 @@ list_taprio_in_taprio =
     ∷ column (codes "SchedEntryList") (codes "sched_entry_list") (how.Within 3974)
     ∷ column (codes "SchedBaseTime") (codes "sched_base_time") (how.Number unit.Nanoseconds)
     ∷ column (codes "SchedSingleEntry") (codes "sched_single_entry") (how.Within 3975)
-    ∷ column (codes "SchedClockid") (codes "sched_clockid") how.Plain
+    ∷ column (codes "SchedClockid") (codes "sched_clockid") (how.Named unit.Plain 24005)
     ∷ column (codes "Pad") (codes "pad") how.Hidden
     ∷ column (codes "AdminSched") (codes "admin_sched") (how.Within 3972)
     ∷ column (codes "SchedCycleTime") (codes "sched_cycle_time") (how.Number unit.Nanoseconds)
     ∷ column (codes "SchedCycleTimeExtension") (codes "sched_cycle_time_extension") (how.Number unit.Nanoseconds)
-    ∷ column (codes "Flags") (codes "flags") (how.Flags 24029)
+    ∷ column (codes "Flags") (codes "flags") (how.Flags 24033)
     ∷ column (codes "TxtimeDelay") (codes "txtime_delay") (how.Number unit.Nanoseconds)
     ∷ column (codes "TcEntry") (codes "tc_entry") (how.Within 3977)
     ∷ []

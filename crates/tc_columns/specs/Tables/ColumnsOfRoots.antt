@@ -92,7 +92,7 @@ header_filter =
     column (codes "family") (codes "family") (how.Family 3002 15002)
     ∷ column (codes "index") (codes "index") (how.Index 30019)
     ∷ column (codes "handle") (codes "handle") (how.Handle unit.Hex)
-    ∷ column (codes "info") (codes "info") (how.Info (info.Pref 24005))
+    ∷ column (codes "info") (codes "info") (how.Info (info.Pref 24006))
     ∷ []
 
 -- its header
@@ -101,7 +101,7 @@ header_u32_filter =
     column (codes "family") (codes "family") (how.Family 3002 15002)
     ∷ column (codes "index") (codes "index") (how.Index 30019)
     ∷ column (codes "handle") (codes "handle") (how.Handle unit.U32Handle)
-    ∷ column (codes "info") (codes "info") (how.Info (info.Pref 24005))
+    ∷ column (codes "info") (codes "info") (how.Info (info.Pref 24006))
     ∷ []
 
 -- its header
@@ -162,7 +162,7 @@ abbrev pub statistics : List Column
 statistics =
     column (codes "Cake") (codes "cake") (how.Through 3613)
     ∷ column (codes "Cbq") (codes "cbq") (how.Through 3625)
-    ∷ column (codes "Choke") (codes "choke") (how.Through 3649)
+    ∷ column (codes "Choke") (codes "choke") (how.Through 3650)
     ∷ column (codes "Codel") (codes "codel") (how.Through 3661)
     ∷ column (codes "Drr") (codes "drr") (how.Through 3673)
     ∷ column (codes "Fq") (codes "fq") (how.Through 3733)

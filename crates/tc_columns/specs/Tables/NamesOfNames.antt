@@ -62,6 +62,15 @@ names_ip_proto =
     ∷ name 136 (codes "udplite")
     ∷ []
 
+-- `names clockid`
+abbrev pub names_clockid : List Name
+names_clockid =
+    name 0 (codes "REALTIME")
+    ∷ name 1 (codes "MONOTONIC")
+    ∷ name 7 (codes "BOOTTIME")
+    ∷ name 11 (codes "TAI")
+    ∷ []
+
 -- `names eth_p`
 abbrev pub names_eth_p : List Name
 names_eth_p =
@@ -101,6 +110,15 @@ names_nat_direction =
     ∷ name 1 (codes "egress")
     ∷ []
 
+-- `names packet_type`
+abbrev pub names_packet_type : List Name
+names_packet_type =
+    name 0 (codes "host")
+    ∷ name 1 (codes "broadcast")
+    ∷ name 2 (codes "multicast")
+    ∷ name 3 (codes "otherhost")
+    ∷ []
+
 -- `bits skbedit_f`
 abbrev pub bits_skbedit_f : List Name
 bits_skbedit_f =
@@ -123,6 +141,22 @@ bits_skbmod_f =
     ∷ name 16 (codes "ecn")
     ∷ []
 
+unfoldable pub names_of_names_2000 : ℕ → List Name
+names_of_names_2000 place =
+    if place == 24000 then bits_tca_act_flags else (
+    if place == 24001 then bits_tca_act_hw_stats else (
+    if place == 24002 then bits_tca_csum_update_flag else (
+    if place == 24003 then bits_tca_ct_act else (
+    if place == 24004 then names_ip_proto else (
+    if place == 24005 then names_clockid else (
+    if place == 24006 then names_eth_p else (
+    if place == 24007 then bits_ife else (
+    if place == 24008 then names_nat_direction else (
+    if place == 24009 then names_packet_type else (
+    if place == 24010 then bits_skbedit_f else (
+    if place == 24011 then bits_skbmod_f else (
+    []))))))))))))
+
 -- `names tunnel_key_act`
 abbrev pub names_tunnel_key_act : List Name
 names_tunnel_key_act =
@@ -139,21 +173,30 @@ bits_tcf_em =
     ∷ name 8 (codes "simple")
     ∷ []
 
-unfoldable pub names_of_names_2000 : ℕ → List Name
-names_of_names_2000 place =
-    if place == 24000 then bits_tca_act_flags else (
-    if place == 24001 then bits_tca_act_hw_stats else (
-    if place == 24002 then bits_tca_csum_update_flag else (
-    if place == 24003 then bits_tca_ct_act else (
-    if place == 24004 then names_ip_proto else (
-    if place == 24005 then names_eth_p else (
-    if place == 24006 then bits_ife else (
-    if place == 24007 then names_nat_direction else (
-    if place == 24008 then bits_skbedit_f else (
-    if place == 24009 then bits_skbmod_f else (
-    if place == 24010 then names_tunnel_key_act else (
-    if place == 24011 then bits_tcf_em else (
-    []))))))))))))
+-- `names em_align`
+abbrev pub names_em_align : List Name
+names_em_align =
+    name 1 (codes "u8")
+    ∷ name 2 (codes "u16")
+    ∷ name 4 (codes "u32")
+    ∷ name 17 (codes "u8_trans")
+    ∷ name 18 (codes "u16_trans")
+    ∷ name 20 (codes "u32_trans")
+    ∷ []
+
+-- `names em_layer_opnd`
+abbrev pub names_em_layer_opnd : List Name
+names_em_layer_opnd =
+    name 0 (codes "link_eq")
+    ∷ name 1 (codes "network_eq")
+    ∷ name 2 (codes "transport_eq")
+    ∷ name 16 (codes "link_gt")
+    ∷ name 17 (codes "network_gt")
+    ∷ name 18 (codes "transport_gt")
+    ∷ name 32 (codes "link_lt")
+    ∷ name 33 (codes "network_lt")
+    ∷ name 34 (codes "transport_lt")
+    ∷ []
 
 -- `bits tca_bpf_flag`
 abbrev pub bits_tca_bpf_flag : List Name
@@ -438,6 +481,22 @@ names_arp_op =
     ∷ name 2 (codes "reply")
     ∷ []
 
+unfoldable pub names_of_names_2001 : ℕ → List Name
+names_of_names_2001 place =
+    if place == 24012 then names_tunnel_key_act else (
+    if place == 24013 then bits_tcf_em else (
+    if place == 24014 then names_em_align else (
+    if place == 24015 then names_em_layer_opnd else (
+    if place == 24016 then bits_tca_bpf_flag else (
+    if place == 24017 then bits_tca_cls_flags else (
+    if place == 24018 then bits_flow_key else (
+    if place == 24019 then masks_mac else (
+    if place == 24020 then masks_ipv4 else (
+    if place == 24021 then masks_ipv6 else (
+    if place == 24022 then bits_flower_key_flags else (
+    if place == 24023 then names_arp_op else (
+    []))))))))))))
+
 -- `bits tcp_flags`
 abbrev pub bits_tcp_flags : List Name
 bits_tcp_flags =
@@ -477,22 +536,6 @@ bits_tca_dump_flags =
     name 1 (codes "terse")
     ∷ []
 
-unfoldable pub names_of_names_2001 : ℕ → List Name
-names_of_names_2001 place =
-    if place == 24012 then bits_tca_bpf_flag else (
-    if place == 24013 then bits_tca_cls_flags else (
-    if place == 24014 then bits_flow_key else (
-    if place == 24015 then masks_mac else (
-    if place == 24016 then masks_ipv4 else (
-    if place == 24017 then masks_ipv6 else (
-    if place == 24018 then bits_flower_key_flags else (
-    if place == 24019 then names_arp_op else (
-    if place == 24020 then bits_tcp_flags else (
-    if place == 24021 then bits_flower_ct_flags else (
-    if place == 24022 then bits_tc_u32 else (
-    if place == 24023 then bits_tca_dump_flags else (
-    []))))))))))))
-
 -- `bits tca_act_flag`
 abbrev pub bits_tca_act_flag : List Name
 bits_tca_act_flag =
@@ -518,14 +561,6 @@ bits_tcf_cbq_lss_flags =
     ∷ name 2 (codes "isolated")
     ∷ []
 
--- `bits tc_etf`
-abbrev pub bits_tc_etf : List Name
-bits_tc_etf =
-    name 1 (codes "deadline_mode_on")
-    ∷ name 2 (codes "offload_on")
-    ∷ name 4 (codes "skip_sock_check")
-    ∷ []
-
 -- `bits tc_red`
 abbrev pub bits_tc_red : List Name
 bits_tc_red =
@@ -533,6 +568,14 @@ bits_tc_red =
     ∷ name 2 (codes "harddrop")
     ∷ name 4 (codes "adaptative")
     ∷ name 8 (codes "nodrop")
+    ∷ []
+
+-- `bits tc_etf`
+abbrev pub bits_tc_etf : List Name
+bits_tc_etf =
+    name 1 (codes "deadline_mode_on")
+    ∷ name 2 (codes "offload_on")
+    ∷ name 4 (codes "skip_sock_check")
     ∷ []
 
 -- `bits taprio_flag`
@@ -544,13 +587,17 @@ bits_taprio_flag =
 
 unfoldable pub names_of_names_2002 : ℕ → List Name
 names_of_names_2002 place =
-    if place == 24024 then bits_tca_act_flag else (
-    if place == 24025 then bits_tcf_cbq_lss_change else (
-    if place == 24026 then bits_tcf_cbq_lss_flags else (
-    if place == 24027 then bits_tc_etf else (
-    if place == 24028 then bits_tc_red else (
-    if place == 24029 then bits_taprio_flag else (
-    []))))))
+    if place == 24024 then bits_tcp_flags else (
+    if place == 24025 then bits_flower_ct_flags else (
+    if place == 24026 then bits_tc_u32 else (
+    if place == 24027 then bits_tca_dump_flags else (
+    if place == 24028 then bits_tca_act_flag else (
+    if place == 24029 then bits_tcf_cbq_lss_change else (
+    if place == 24030 then bits_tcf_cbq_lss_flags else (
+    if place == 24031 then bits_tc_red else (
+    if place == 24032 then bits_tc_etf else (
+    if place == 24033 then bits_taprio_flag else (
+    []))))))))))
 
 unfoldable pub names_of_names : ℕ → List Name
 names_of_names place =

@@ -566,7 +566,7 @@ const LIST_GATE_IN_GATE: [Column<'static>; 11] = [
     Column {
         key: "Clockid",
         name: "clockid",
-        how: How::Plain,
+        how: How::Named(Unit::Plain, 24005),
     },
 ];
 
@@ -664,7 +664,7 @@ const LIST_IFE_IN_IFE: [Column<'static>; 8] = [
     Column {
         key: "Type",
         name: "type",
-        how: How::Named(Unit::LongHex, 24005),
+        how: How::Named(Unit::LongHex, 24006),
     },
     Column {
         key: "Metalst",
@@ -688,7 +688,7 @@ const STRUCT_TC_IFE: [Column<'static>; 3] = [
     Column {
         key: "flags",
         name: "flags",
-        how: How::Flags(24006),
+        how: How::Flags(24007),
     },
     Column {
         key: "padding",
@@ -968,7 +968,7 @@ const LIST_MPLS_IN_MPLS: [Column<'static>; 9] = [
     Column {
         key: "Proto",
         name: "proto",
-        how: How::Named(Unit::LongHex, 24005),
+        how: How::Named(Unit::LongHex, 24006),
     },
     Column {
         key: "Label",
@@ -1074,7 +1074,7 @@ const STRUCT_TC_NAT: [Column<'static>; 5] = [
     Column {
         key: "flags",
         name: "flags",
-        how: How::Named(Unit::Hex, 24007),
+        how: How::Named(Unit::Hex, 24008),
     },
 ];
 
@@ -1165,12 +1165,12 @@ const STRUCT_TC_PEDIT_KEY: [Column<'static>; 6] = [
     Column {
         key: "mask",
         name: "mask",
-        how: How::Number(Unit::Hex),
+        how: How::Number(Unit::NetworkHex),
     },
     Column {
         key: "val",
         name: "val",
-        how: How::Number(Unit::Hex),
+        how: How::Number(Unit::NetworkHex),
     },
     Column {
         key: "off",
@@ -1574,7 +1574,7 @@ const LIST_SKBEDIT_IN_SKBEDIT: [Column<'static>; 11] = [
     Column {
         key: "Priority",
         name: "priority",
-        how: How::Plain,
+        how: How::Number(Unit::Hex),
     },
     Column {
         key: "QueueMapping",
@@ -1594,7 +1594,7 @@ const LIST_SKBEDIT_IN_SKBEDIT: [Column<'static>; 11] = [
     Column {
         key: "Ptype",
         name: "ptype",
-        how: How::Plain,
+        how: How::Named(Unit::Plain, 24009),
     },
     Column {
         key: "Mask",
@@ -1604,7 +1604,7 @@ const LIST_SKBEDIT_IN_SKBEDIT: [Column<'static>; 11] = [
     Column {
         key: "Flags",
         name: "flags",
-        how: How::Flags(24008),
+        how: How::Flags(24010),
     },
     Column {
         key: "QueueMappingMax",
@@ -1669,7 +1669,7 @@ const LIST_SKBMOD_IN_SKBMOD: [Column<'static>; 7] = [
     Column {
         key: "Etype",
         name: "etype",
-        how: How::Named(Unit::LongHex, 24005),
+        how: How::Named(Unit::LongHex, 24006),
     },
     Column {
         key: "Pad",
@@ -1693,7 +1693,7 @@ const STRUCT_TC_SKBMOD: [Column<'static>; 3] = [
     Column {
         key: "flags",
         name: "flags",
-        how: How::Flags(24009),
+        how: How::Flags(24011),
     },
 ];
 
@@ -1805,7 +1805,7 @@ const STRUCT_TC_TUNNEL_KEY: [Column<'static>; 2] = [
     Column {
         key: "t_action",
         name: "t_action",
-        how: How::Named(Unit::Plain, 24010),
+        how: How::Named(Unit::Plain, 24012),
     },
 ];
 
@@ -1873,7 +1873,7 @@ const LIST_VLAN_IN_VLAN: [Column<'static>; 9] = [
     Column {
         key: "PushVlanProtocol",
         name: "push_vlan_protocol",
-        how: How::Named(Unit::LongHex, 24005),
+        how: How::Named(Unit::LongHex, 24006),
     },
     Column {
         key: "Pad",

@@ -91,7 +91,7 @@ const STRUCT_EMATCH_CONTAINER: [Column<'static>; 3] = [
     Column {
         key: "flags",
         name: "flags",
-        how: How::Flags(24011),
+        how: How::Flags(24013),
     },
     Column {
         key: "padding",
@@ -110,7 +110,7 @@ const STRUCT_EMATCH_CMP: [Column<'static>; 3] = [
     Column {
         key: "flags",
         name: "flags",
-        how: How::Flags(24011),
+        how: How::Flags(24013),
     },
     Column {
         key: "padding",
@@ -144,12 +144,12 @@ const STRUCT_TCF_EM_CMP: [Column<'static>; 5] = [
     Column {
         key: "align_flags",
         name: "align_flags",
-        how: How::Number(Unit::Hex),
+        how: How::Named(Unit::Hex, 24014),
     },
     Column {
         key: "layer_opnd",
         name: "layer_opnd",
-        how: How::Number(Unit::Hex),
+        how: How::Named(Unit::Hex, 24015),
     },
 ];
 
@@ -158,7 +158,7 @@ const STRUCT_EMATCH_NBYTE: [Column<'static>; 4] = [
     Column {
         key: "flags",
         name: "flags",
-        how: How::Flags(24011),
+        how: How::Flags(24013),
     },
     Column {
         key: "padding",
@@ -196,7 +196,7 @@ const STRUCT_EMATCH_U32: [Column<'static>; 3] = [
     Column {
         key: "flags",
         name: "flags",
-        how: How::Flags(24011),
+        how: How::Flags(24013),
     },
     Column {
         key: "padding",
@@ -215,7 +215,7 @@ const STRUCT_EMATCH_META: [Column<'static>; 3] = [
     Column {
         key: "flags",
         name: "flags",
-        how: How::Flags(24011),
+        how: How::Flags(24013),
     },
     Column {
         key: "padding",
@@ -307,7 +307,7 @@ const STRUCT_EMATCH_TEXT: [Column<'static>; 4] = [
     Column {
         key: "flags",
         name: "flags",
-        how: How::Flags(24011),
+        how: How::Flags(24013),
     },
     Column {
         key: "padding",
@@ -365,7 +365,7 @@ const STRUCT_EMATCH_CANID: [Column<'static>; 3] = [
     Column {
         key: "flags",
         name: "flags",
-        how: How::Flags(24011),
+        how: How::Flags(24013),
     },
     Column {
         key: "padding",
@@ -398,7 +398,7 @@ const STRUCT_EMATCH_IPSET: [Column<'static>; 3] = [
     Column {
         key: "flags",
         name: "flags",
-        how: How::Flags(24011),
+        how: How::Flags(24013),
     },
     Column {
         key: "padding",
@@ -436,7 +436,7 @@ const STRUCT_EMATCH_IPT: [Column<'static>; 3] = [
     Column {
         key: "flags",
         name: "flags",
-        how: How::Flags(24011),
+        how: How::Flags(24013),
     },
     Column {
         key: "padding",

@@ -142,12 +142,12 @@ const LIST_BPF_IN_BPF: [Column<'static>; 12] = [
     Column {
         key: "Flags",
         name: "flags",
-        how: How::Flags(24012),
+        how: How::Flags(24016),
     },
     Column {
         key: "FlagsGeneric",
         name: "flags_generic",
-        how: How::Flags(24013),
+        how: How::Flags(24017),
     },
     Column {
         key: "ProgTag",
@@ -245,7 +245,7 @@ const LIST_FLOW_IN_FLOW: [Column<'static>; 13] = [
     Column {
         key: "Keys",
         name: "keys",
-        how: How::Flags(24014),
+        how: How::Flags(24018),
     },
     Column {
         key: "Mode",
@@ -374,7 +374,7 @@ const LIST_FLOWER_IN_FLOWER: [Column<'static>; 112] = [
     Column {
         key: "EthType",
         name: "eth_type",
-        how: How::Named(Unit::LongHex, 24005),
+        how: How::Named(Unit::LongHex, 24006),
     },
     Column {
         key: "IpProto",
@@ -444,7 +444,7 @@ const LIST_FLOWER_IN_FLOWER: [Column<'static>; 112] = [
     Column {
         key: "Flags",
         name: "flags",
-        how: How::Flags(24013),
+        how: How::Flags(24017),
     },
     Column {
         key: "VlanId",
@@ -459,7 +459,7 @@ const LIST_FLOWER_IN_FLOWER: [Column<'static>; 112] = [
     Column {
         key: "VlanEthType",
         name: "vlan_eth_type",
-        how: How::Named(Unit::LongHex, 24005),
+        how: How::Named(Unit::LongHex, 24006),
     },
     Column {
         key: "EncKeyId",
@@ -569,12 +569,12 @@ const LIST_FLOWER_IN_FLOWER: [Column<'static>; 112] = [
     Column {
         key: "KeyFlags",
         name: "key_flags",
-        how: How::Flags(24018),
+        how: How::Flags(24022),
     },
     Column {
         key: "KeyFlagsMask",
         name: "key_flags_mask",
-        how: How::Flags(24018),
+        how: How::Flags(24022),
     },
     Column {
         key: "Icmpv4Code",
@@ -639,7 +639,7 @@ const LIST_FLOWER_IN_FLOWER: [Column<'static>; 112] = [
     Column {
         key: "ArpOp",
         name: "arp_op",
-        how: How::Named(Unit::Plain, 24019),
+        how: How::Named(Unit::Plain, 24023),
     },
     Column {
         key: "ArpOpMask",
@@ -689,12 +689,12 @@ const LIST_FLOWER_IN_FLOWER: [Column<'static>; 112] = [
     Column {
         key: "TcpFlags",
         name: "tcp_flags",
-        how: How::Flags(24020),
+        how: How::Flags(24024),
     },
     Column {
         key: "TcpFlagsMask",
         name: "tcp_flags_mask",
-        how: How::Flags(24020),
+        how: How::Flags(24024),
     },
     Column {
         key: "IpTos",
@@ -729,7 +729,7 @@ const LIST_FLOWER_IN_FLOWER: [Column<'static>; 112] = [
     Column {
         key: "CvlanEthType",
         name: "cvlan_eth_type",
-        how: How::Named(Unit::LongHex, 24005),
+        how: How::Named(Unit::LongHex, 24006),
     },
     Column {
         key: "EncKeyIpTos",
@@ -789,12 +789,12 @@ const LIST_FLOWER_IN_FLOWER: [Column<'static>; 112] = [
     Column {
         key: "CtState",
         name: "ct_state",
-        how: How::Flags(24021),
+        how: How::Flags(24025),
     },
     Column {
         key: "CtStateMask",
         name: "ct_state_mask",
-        how: How::Flags(24021),
+        how: How::Flags(24025),
     },
     Column {
         key: "CtZone",
@@ -884,12 +884,12 @@ const LIST_FLOWER_IN_FLOWER: [Column<'static>; 112] = [
     Column {
         key: "EncFlags",
         name: "enc_flags",
-        how: How::Flags(24018),
+        how: How::Flags(24022),
     },
     Column {
         key: "EncFlagsMask",
         name: "enc_flags_mask",
-        how: How::Flags(24018),
+        how: How::Flags(24022),
     },
 ];
 
@@ -1163,7 +1163,7 @@ const LIST_MATCHALL_IN_MATCHALL: [Column<'static>; 6] = [
     Column {
         key: "Flags",
         name: "flags",
-        how: How::Flags(24013),
+        how: How::Flags(24017),
     },
     Column {
         key: "Pnct",
@@ -1577,7 +1577,7 @@ const LIST_U32_IN_U32: [Column<'static>; 13] = [
     Column {
         key: "Flags",
         name: "flags",
-        how: How::Flags(24013),
+        how: How::Flags(24017),
     },
     Column {
         key: "Pad",
@@ -1591,7 +1591,7 @@ const STRUCT_TC_U32_SEL: [Column<'static>; 10] = [
     Column {
         key: "flags",
         name: "flags",
-        how: How::Flags(24022),
+        how: How::Flags(24026),
     },
     Column {
         key: "offshift",

@@ -228,12 +228,12 @@ const STRUCT_TCA_DUMP_FLAGS: [Column<'static>; 2] = [
     Column {
         key: "value",
         name: "value",
-        how: How::Flags(24023),
+        how: How::Flags(24027),
     },
     Column {
         key: "selector",
         name: "selector",
-        how: How::Flags(24023),
+        how: How::Flags(24027),
     },
 ];
 
@@ -299,12 +299,12 @@ const STRUCT_TCA_ROOT_FLAGS: [Column<'static>; 2] = [
     Column {
         key: "flags",
         name: "flags",
-        how: How::Flags(24024),
+        how: How::Flags(24028),
     },
     Column {
         key: "selector",
         name: "selector",
-        how: How::Flags(24024),
+        how: How::Flags(24028),
     },
 ];
 

@@ -34,63 +34,63 @@ const NAT_PORT_MAX_END_OF_CT: [Column<'static>; 1] = [Column {
 const ETH_DST_MASK_MASK_OF_FLOWER: [Column<'static>; 1] = [Column {
     key: "EthDstMask",
     name: "eth_dst_mask",
-    how: How::Slash(24015, 30003),
+    how: How::Slash(24019, 30003),
 }];
 
 // what is behind `EthSrc` of `list flower`
 const ETH_SRC_MASK_MASK_OF_FLOWER: [Column<'static>; 1] = [Column {
     key: "EthSrcMask",
     name: "eth_src_mask",
-    how: How::Slash(24015, 30004),
+    how: How::Slash(24019, 30004),
 }];
 
 // what is behind `Ipv4Src` of `list flower`
 const IPV4_SRC_MASK_MASK_OF_FLOWER: [Column<'static>; 1] = [Column {
     key: "Ipv4SrcMask",
     name: "ipv4_src_mask",
-    how: How::Slash(24016, 30005),
+    how: How::Slash(24020, 30005),
 }];
 
 // what is behind `Ipv4Dst` of `list flower`
 const IPV4_DST_MASK_MASK_OF_FLOWER: [Column<'static>; 1] = [Column {
     key: "Ipv4DstMask",
     name: "ipv4_dst_mask",
-    how: How::Slash(24016, 30006),
+    how: How::Slash(24020, 30006),
 }];
 
 // what is behind `Ipv6Src` of `list flower`
 const IPV6_SRC_MASK_MASK_OF_FLOWER: [Column<'static>; 1] = [Column {
     key: "Ipv6SrcMask",
     name: "ipv6_src_mask",
-    how: How::Slash(24017, 30007),
+    how: How::Slash(24021, 30007),
 }];
 
 // what is behind `Ipv6Dst` of `list flower`
 const IPV6_DST_MASK_MASK_OF_FLOWER: [Column<'static>; 1] = [Column {
     key: "Ipv6DstMask",
     name: "ipv6_dst_mask",
-    how: How::Slash(24017, 30008),
+    how: How::Slash(24021, 30008),
 }];
 
 // what is behind `EncKeyIpv4Src` of `list flower`
 const ENC_KEY_IPV4_SRC_MASK_MASK_OF_FLOWER: [Column<'static>; 1] = [Column {
     key: "EncKeyIpv4SrcMask",
     name: "enc_key_ipv4_src_mask",
-    how: How::Slash(24016, 30009),
+    how: How::Slash(24020, 30009),
 }];
 
 // what is behind `EncKeyIpv4Dst` of `list flower`
 const ENC_KEY_IPV4_DST_MASK_MASK_OF_FLOWER: [Column<'static>; 1] = [Column {
     key: "EncKeyIpv4DstMask",
     name: "enc_key_ipv4_dst_mask",
-    how: How::Slash(24016, 30010),
+    how: How::Slash(24020, 30010),
 }];
 
 // what is behind `EncKeyIpv6Src` of `list flower`
 const ENC_KEY_IPV6_SRC_MASK_MASK_OF_FLOWER: [Column<'static>; 1] = [Column {
     key: "EncKeyIpv6SrcMask",
     name: "enc_key_ipv6_src_mask",
-    how: How::Slash(24017, 30011),
+    how: How::Slash(24021, 30011),
 }];
 
 #[tactic(auto, unfolding(crate::specs::Tables::ColumnsOfPartners::columns_of_partners_2500))]
@@ -118,35 +118,35 @@ pub(crate) fn columns_of_partners_2500(place: usize) -> &'static [Column<'static
 const ENC_KEY_IPV6_DST_MASK_MASK_OF_FLOWER: [Column<'static>; 1] = [Column {
     key: "EncKeyIpv6DstMask",
     name: "enc_key_ipv6_dst_mask",
-    how: How::Slash(24017, 30012),
+    how: How::Slash(24021, 30012),
 }];
 
 // what is behind `ArpSip` of `list flower`
 const ARP_SIP_MASK_MASK_OF_FLOWER: [Column<'static>; 1] = [Column {
     key: "ArpSipMask",
     name: "arp_sip_mask",
-    how: How::Slash(24016, 30013),
+    how: How::Slash(24020, 30013),
 }];
 
 // what is behind `ArpTip` of `list flower`
 const ARP_TIP_MASK_MASK_OF_FLOWER: [Column<'static>; 1] = [Column {
     key: "ArpTipMask",
     name: "arp_tip_mask",
-    how: How::Slash(24016, 30014),
+    how: How::Slash(24020, 30014),
 }];
 
 // what is behind `ArpSha` of `list flower`
 const ARP_SHA_MASK_MASK_OF_FLOWER: [Column<'static>; 1] = [Column {
     key: "ArpShaMask",
     name: "arp_sha_mask",
-    how: How::Slash(24015, 30015),
+    how: How::Slash(24019, 30015),
 }];
 
 // what is behind `ArpTha` of `list flower`
 const ARP_THA_MASK_MASK_OF_FLOWER: [Column<'static>; 1] = [Column {
     key: "ArpThaMask",
     name: "arp_tha_mask",
-    how: How::Slash(24015, 30016),
+    how: How::Slash(24019, 30016),
 }];
 
 // what is behind `PortSrcMin` of `list flower`

@@ -532,12 +532,12 @@ const STRUCT_TC_CBQ_LSSOPT: [Column<'static>; 8] = [
     Column {
         key: "change",
         name: "change",
-        how: How::Flags(24025),
+        how: How::Flags(24029),
     },
     Column {
         key: "flags",
         name: "flags",
-        how: How::Flags(24026),
+        how: How::Flags(24030),
     },
     Column {
         key: "ewma_log",
@@ -798,7 +798,7 @@ const LIST_CHOKE_IN_CHOKE: [Column<'static>; 4] = [
     Column {
         key: "Parms",
         name: "parms",
-        how: How::Within(3925),
+        how: How::Within(3649),
     },
     Column {
         key: "Stab",
@@ -809,6 +809,45 @@ const LIST_CHOKE_IN_CHOKE: [Column<'static>; 4] = [
         key: "MaxP",
         name: "max_p",
         how: How::Number(Unit::Probability),
+    },
+];
+
+// `struct tc_red_qopt_packets`
+const STRUCT_TC_RED_QOPT_PACKETS: [Column<'static>; 7] = [
+    Column {
+        key: "limit",
+        name: "limit",
+        how: How::Number(Unit::Packets),
+    },
+    Column {
+        key: "qth_min",
+        name: "qth_min",
+        how: How::Number(Unit::Packets),
+    },
+    Column {
+        key: "qth_max",
+        name: "qth_max",
+        how: How::Number(Unit::Packets),
+    },
+    Column {
+        key: "Wlog",
+        name: "Wlog",
+        how: How::Number(Unit::Power),
+    },
+    Column {
+        key: "Plog",
+        name: "Plog",
+        how: How::Number(Unit::Power),
+    },
+    Column {
+        key: "Scell_log",
+        name: "Scell_log",
+        how: How::Number(Unit::Power),
+    },
+    Column {
+        key: "flags",
+        name: "flags",
+        how: How::Flags(24031),
     },
 ];
 
@@ -845,7 +884,7 @@ const STRUCT_TC_CHOKE_XSTATS: [Column<'static>; 5] = [
 const STATISTICS_QDISC_CHOKE: [Column<'static>; 1] = [Column {
     key: "Choke",
     name: "choke",
-    how: How::Through(3649),
+    how: How::Through(3650),
 }];
 
 // `list tc`: the rows of choke
@@ -858,7 +897,7 @@ const LIST_TC_QDISC_CHOKE: [Column<'static>; 2] = [
     Column {
         key: "Xstats",
         name: "xstats",
-        how: How::Within(3650),
+        how: How::Within(3651),
     },
 ];
 
@@ -866,7 +905,7 @@ const LIST_TC_QDISC_CHOKE: [Column<'static>; 2] = [
 const LIST_STATS_QDISC_CHOKE: [Column<'static>; 1] = [Column {
     key: "App",
     name: "app",
-    how: How::Within(3650),
+    how: How::Within(3651),
 }];
 
 #[tactic(auto, unfolding(crate::specs::Tables::ColumnsOfQdiscs::columns_of_qdiscs_304))]
@@ -875,10 +914,11 @@ pub(crate) fn columns_of_qdiscs_304(place: usize) -> &'static [Column<'static>]
 {
     match place {
         3648 => &LIST_CHOKE_IN_CHOKE,
-        3649 => &STRUCT_TC_CHOKE_XSTATS,
-        3650 => &STATISTICS_QDISC_CHOKE,
-        3651 => &LIST_TC_QDISC_CHOKE,
-        3652 => &LIST_STATS_QDISC_CHOKE,
+        3649 => &STRUCT_TC_RED_QOPT_PACKETS,
+        3650 => &STRUCT_TC_CHOKE_XSTATS,
+        3651 => &STATISTICS_QDISC_CHOKE,
+        3652 => &LIST_TC_QDISC_CHOKE,
+        3653 => &LIST_STATS_QDISC_CHOKE,
         _ => &[],
     }
 }
@@ -1154,12 +1194,12 @@ const STRUCT_TC_ETF_QOPT: [Column<'static>; 3] = [
     Column {
         key: "clockid",
         name: "clockid",
-        how: How::Plain,
+        how: How::Named(Unit::Plain, 24005),
     },
     Column {
         key: "flags",
         name: "flags",
-        how: How::Flags(24027),
+        how: How::Flags(24032),
     },
 ];
 
@@ -1273,11 +1313,32 @@ pub(crate) fn columns_of_qdiscs_309(place: usize) -> &'static [Column<'static>]
 const STRUCT_TC_FIFO_QOPT: [Column<'static>; 1] = [Column {
     key: "limit",
     name: "limit",
-    how: How::Plain,
+    how: How::Number(Unit::Bytes),
 }];
 
-// `list tc`: the rows of pfifo, pfifo_head_drop, bfifo
+// `struct tc_fifo_qopt_packets`
+const STRUCT_TC_FIFO_QOPT_PACKETS: [Column<'static>; 1] = [Column {
+    key: "limit",
+    name: "limit",
+    how: How::Number(Unit::Packets),
+}];
+
+// `list tc`: the rows of pfifo, pfifo_head_drop
 const LIST_TC_QDISC_PFIFO: [Column<'static>; 2] = [
+    Column {
+        key: "Options",
+        name: "options",
+        how: How::Within(3721),
+    },
+    Column {
+        key: "Xstats",
+        name: "xstats",
+        how: How::Within(3006),
+    },
+];
+
+// `list tc`: the rows of bfifo
+const LIST_TC_QDISC_BFIFO: [Column<'static>; 2] = [
     Column {
         key: "Options",
         name: "options",
@@ -1296,7 +1357,9 @@ pub(crate) fn columns_of_qdiscs_310(place: usize) -> &'static [Column<'static>]
 {
     match place {
         3720 => &STRUCT_TC_FIFO_QOPT,
-        3721 => &LIST_TC_QDISC_PFIFO,
+        3721 => &STRUCT_TC_FIFO_QOPT_PACKETS,
+        3722 => &LIST_TC_QDISC_PFIFO,
+        3723 => &LIST_TC_QDISC_BFIFO,
         _ => &[],
     }
 }
@@ -1346,7 +1409,7 @@ const LIST_FQ_IN_FQ: [Column<'static>; 18] = [
     Column {
         key: "BucketsLog",
         name: "buckets_log",
-        how: How::Plain,
+        how: How::Number(Unit::Power),
     },
     Column {
         key: "FlowRefillDelay",
@@ -1960,12 +2023,12 @@ const STRUCT_TC_GRED_QOPT: [Column<'static>; 16] = [
     Column {
         key: "qth_min",
         name: "qth_min",
-        how: How::Plain,
+        how: How::Number(Unit::Bytes),
     },
     Column {
         key: "qth_max",
         name: "qth_max",
-        how: How::Plain,
+        how: How::Number(Unit::Bytes),
     },
     Column {
         key: "DP",
@@ -1975,47 +2038,47 @@ const STRUCT_TC_GRED_QOPT: [Column<'static>; 16] = [
     Column {
         key: "backlog",
         name: "backlog",
-        how: How::Plain,
+        how: How::Number(Unit::Bytes),
     },
     Column {
         key: "qave",
         name: "qave",
-        how: How::Plain,
+        how: How::Number(Unit::Bytes),
     },
     Column {
         key: "forced",
         name: "forced",
-        how: How::Plain,
+        how: How::Number(Unit::Packets),
     },
     Column {
         key: "early",
         name: "early",
-        how: How::Plain,
+        how: How::Number(Unit::Packets),
     },
     Column {
         key: "other",
         name: "other",
-        how: How::Plain,
+        how: How::Number(Unit::Packets),
     },
     Column {
         key: "pdrop",
         name: "pdrop",
-        how: How::Plain,
+        how: How::Number(Unit::Packets),
     },
     Column {
         key: "Wlog",
         name: "Wlog",
-        how: How::Plain,
+        how: How::Number(Unit::Power),
     },
     Column {
         key: "Plog",
         name: "Plog",
-        how: How::Plain,
+        how: How::Number(Unit::Power),
     },
     Column {
         key: "Scell_log",
         name: "Scell_log",
-        how: How::Plain,
+        how: How::Number(Unit::Power),
     },
     Column {
         key: "prio",
@@ -2025,12 +2088,12 @@ const STRUCT_TC_GRED_QOPT: [Column<'static>; 16] = [
     Column {
         key: "packets",
         name: "packets",
-        how: How::Plain,
+        how: How::Number(Unit::Packets),
     },
     Column {
         key: "bytesin",
         name: "bytesin",
-        how: How::Plain,
+        how: How::Number(Unit::Bytes),
     },
 ];
 
@@ -2054,7 +2117,7 @@ const STRUCT_TC_GRED_SOPT: [Column<'static>; 5] = [
     Column {
         key: "flags",
         name: "flags",
-        how: How::Flags(24028),
+        how: How::Flags(24031),
     },
     Column {
         key: "pad1",
@@ -2085,52 +2148,52 @@ const LIST_GRED_VQ: [Column<'static>; 12] = [
     Column {
         key: "StatBytes",
         name: "stat_bytes",
-        how: How::Plain,
+        how: How::Number(Unit::Bytes),
     },
     Column {
         key: "StatPackets",
         name: "stat_packets",
-        how: How::Plain,
+        how: How::Number(Unit::Packets),
     },
     Column {
         key: "StatBacklog",
         name: "stat_backlog",
-        how: How::Plain,
+        how: How::Number(Unit::Bytes),
     },
     Column {
         key: "StatProbDrop",
         name: "stat_prob_drop",
-        how: How::Plain,
+        how: How::Number(Unit::Packets),
     },
     Column {
         key: "StatProbMark",
         name: "stat_prob_mark",
-        how: How::Plain,
+        how: How::Number(Unit::Packets),
     },
     Column {
         key: "StatForcedDrop",
         name: "stat_forced_drop",
-        how: How::Plain,
+        how: How::Number(Unit::Packets),
     },
     Column {
         key: "StatForcedMark",
         name: "stat_forced_mark",
-        how: How::Plain,
+        how: How::Number(Unit::Packets),
     },
     Column {
         key: "StatPdrop",
         name: "stat_pdrop",
-        how: How::Plain,
+        how: How::Number(Unit::Packets),
     },
     Column {
         key: "StatOther",
         name: "stat_other",
-        how: How::Plain,
+        how: How::Number(Unit::Packets),
     },
     Column {
         key: "Flags",
         name: "flags",
-        how: How::Flags(24028),
+        how: How::Flags(24031),
     },
 ];
 
@@ -3484,7 +3547,7 @@ const STRUCT_TC_QFQ_STATS: [Column<'static>; 2] = [
     Column {
         key: "lmax",
         name: "lmax",
-        how: How::Plain,
+        how: How::Number(Unit::Bytes),
     },
 ];
 
@@ -3604,7 +3667,7 @@ const STRUCT_TC_RED_QOPT: [Column<'static>; 7] = [
     Column {
         key: "flags",
         name: "flags",
-        how: How::Flags(24028),
+        how: How::Flags(24031),
     },
 ];
 
@@ -3613,12 +3676,12 @@ const STRUCT_TCA_RED_FLAGS: [Column<'static>; 2] = [
     Column {
         key: "value",
         name: "value",
-        how: How::Flags(24028),
+        how: How::Flags(24031),
     },
     Column {
         key: "selector",
         name: "selector",
-        how: How::Flags(24028),
+        how: How::Flags(24031),
     },
 ];
 
@@ -3739,7 +3802,7 @@ const STRUCT_TC_SFB_XSTATS: [Column<'static>; 9] = [
     Column {
         key: "maxqlen",
         name: "maxqlen",
-        how: How::Plain,
+        how: How::Number(Unit::Packets),
     },
     Column {
         key: "maxprob",
@@ -3768,12 +3831,12 @@ const STRUCT_TC_SFB_QOPT: [Column<'static>; 9] = [
     Column {
         key: "max",
         name: "max",
-        how: How::Plain,
+        how: How::Number(Unit::Packets),
     },
     Column {
         key: "bin_size",
         name: "bin_size",
-        how: How::Plain,
+        how: How::Number(Unit::Packets),
     },
     Column {
         key: "increment",
@@ -3788,17 +3851,17 @@ const STRUCT_TC_SFB_QOPT: [Column<'static>; 9] = [
     Column {
         key: "limit",
         name: "limit",
-        how: How::Plain,
+        how: How::Number(Unit::Packets),
     },
     Column {
         key: "penalty_rate",
         name: "penalty_rate",
-        how: How::Plain,
+        how: How::Number(Unit::PacketsPerSecond),
     },
     Column {
         key: "penalty_burst",
         name: "penalty_burst",
-        how: How::Plain,
+        how: How::Number(Unit::Packets),
     },
 ];
 
@@ -3938,7 +4001,7 @@ const STRUCT_TC_SFQ_QOPT_V1: [Column<'static>; 12] = [
     Column {
         key: "flags",
         name: "flags",
-        how: How::Flags(24028),
+        how: How::Flags(24031),
     },
     Column {
         key: "max_P",
@@ -4095,7 +4158,7 @@ const LIST_TAPRIO: [Column<'static>; 12] = [
     Column {
         key: "SchedClockid",
         name: "sched_clockid",
-        how: How::Plain,
+        how: How::Named(Unit::Plain, 24005),
     },
     Column {
         key: "Pad",
@@ -4120,7 +4183,7 @@ const LIST_TAPRIO: [Column<'static>; 12] = [
     Column {
         key: "Flags",
         name: "flags",
-        how: How::Flags(24029),
+        how: How::Flags(24033),
     },
     Column {
         key: "TxtimeDelay",
@@ -4164,7 +4227,7 @@ const LIST_TAPRIO_IN_TAPRIO: [Column<'static>; 13] = [
     Column {
         key: "SchedClockid",
         name: "sched_clockid",
-        how: How::Plain,
+        how: How::Named(Unit::Plain, 24005),
     },
     Column {
         key: "Pad",
@@ -4189,7 +4252,7 @@ const LIST_TAPRIO_IN_TAPRIO: [Column<'static>; 13] = [
     Column {
         key: "Flags",
         name: "flags",
-        how: How::Flags(24029),
+        how: How::Flags(24033),
     },
     Column {
         key: "TxtimeDelay",

@@ -193,7 +193,7 @@ const HEADER_FILTER: [Column<'static>; 4] = [
     Column {
         key: "info",
         name: "info",
-        how: How::Info(InfoOf::Pref(24005)),
+        how: How::Info(InfoOf::Pref(24006)),
     },
 ];
 
@@ -217,7 +217,7 @@ const HEADER_U32_FILTER: [Column<'static>; 4] = [
     Column {
         key: "info",
         name: "info",
-        how: How::Info(InfoOf::Pref(24005)),
+        how: How::Info(InfoOf::Pref(24006)),
     },
 ];
 
@@ -371,7 +371,7 @@ const STATISTICS: [Column<'static>; 17] = [
     Column {
         key: "Choke",
         name: "choke",
-        how: How::Through(3649),
+        how: How::Through(3650),
     },
     Column {
         key: "Codel",

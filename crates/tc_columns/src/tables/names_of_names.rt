@@ -165,6 +165,26 @@ const NAMES_IP_PROTO: [Name<'static>; 16] = [
     },
 ];
 
+// `names clockid`
+const NAMES_CLOCKID: [Name<'static>; 4] = [
+    Name {
+        number: 0,
+        name: "REALTIME",
+    },
+    Name {
+        number: 1,
+        name: "MONOTONIC",
+    },
+    Name {
+        number: 7,
+        name: "BOOTTIME",
+    },
+    Name {
+        number: 11,
+        name: "TAI",
+    },
+];
+
 // `names eth_p`
 const NAMES_ETH_P: [Name<'static>; 21] = [
     Name {
@@ -271,6 +291,26 @@ const NAMES_NAT_DIRECTION: [Name<'static>; 2] = [
     },
 ];
 
+// `names packet_type`
+const NAMES_PACKET_TYPE: [Name<'static>; 4] = [
+    Name {
+        number: 0,
+        name: "host",
+    },
+    Name {
+        number: 1,
+        name: "broadcast",
+    },
+    Name {
+        number: 2,
+        name: "multicast",
+    },
+    Name {
+        number: 3,
+        name: "otherhost",
+    },
+];
+
 // `bits skbedit_f`
 const BITS_SKBEDIT_F: [Name<'static>; 7] = [
     Name {
@@ -327,6 +367,27 @@ const BITS_SKBMOD_F: [Name<'static>; 5] = [
     },
 ];
 
+#[tactic(auto, unfolding(crate::specs::Tables::NamesOfNames::names_of_names_2000))]
+pub(crate) fn names_of_names_2000(place: usize) -> &'static [Name<'static>]
+    ensures { names_view result.now ≡ names_of_names_2000 place }
+{
+    match place {
+        24000 => &BITS_TCA_ACT_FLAGS,
+        24001 => &BITS_TCA_ACT_HW_STATS,
+        24002 => &BITS_TCA_CSUM_UPDATE_FLAG,
+        24003 => &BITS_TCA_CT_ACT,
+        24004 => &NAMES_IP_PROTO,
+        24005 => &NAMES_CLOCKID,
+        24006 => &NAMES_ETH_P,
+        24007 => &BITS_IFE,
+        24008 => &NAMES_NAT_DIRECTION,
+        24009 => &NAMES_PACKET_TYPE,
+        24010 => &BITS_SKBEDIT_F,
+        24011 => &BITS_SKBMOD_F,
+        _ => &[],
+    }
+}
+
 // `names tunnel_key_act`
 const NAMES_TUNNEL_KEY_ACT: [Name<'static>; 2] = [
     Name {
@@ -359,26 +420,73 @@ const BITS_TCF_EM: [Name<'static>; 4] = [
     },
 ];
 
-#[tactic(auto, unfolding(crate::specs::Tables::NamesOfNames::names_of_names_2000))]
-pub(crate) fn names_of_names_2000(place: usize) -> &'static [Name<'static>]
-    ensures { names_view result.now ≡ names_of_names_2000 place }
-{
-    match place {
-        24000 => &BITS_TCA_ACT_FLAGS,
-        24001 => &BITS_TCA_ACT_HW_STATS,
-        24002 => &BITS_TCA_CSUM_UPDATE_FLAG,
-        24003 => &BITS_TCA_CT_ACT,
-        24004 => &NAMES_IP_PROTO,
-        24005 => &NAMES_ETH_P,
-        24006 => &BITS_IFE,
-        24007 => &NAMES_NAT_DIRECTION,
-        24008 => &BITS_SKBEDIT_F,
-        24009 => &BITS_SKBMOD_F,
-        24010 => &NAMES_TUNNEL_KEY_ACT,
-        24011 => &BITS_TCF_EM,
-        _ => &[],
-    }
-}
+// `names em_align`
+const NAMES_EM_ALIGN: [Name<'static>; 6] = [
+    Name {
+        number: 1,
+        name: "u8",
+    },
+    Name {
+        number: 2,
+        name: "u16",
+    },
+    Name {
+        number: 4,
+        name: "u32",
+    },
+    Name {
+        number: 17,
+        name: "u8_trans",
+    },
+    Name {
+        number: 18,
+        name: "u16_trans",
+    },
+    Name {
+        number: 20,
+        name: "u32_trans",
+    },
+];
+
+// `names em_layer_opnd`
+const NAMES_EM_LAYER_OPND: [Name<'static>; 9] = [
+    Name {
+        number: 0,
+        name: "link_eq",
+    },
+    Name {
+        number: 1,
+        name: "network_eq",
+    },
+    Name {
+        number: 2,
+        name: "transport_eq",
+    },
+    Name {
+        number: 16,
+        name: "link_gt",
+    },
+    Name {
+        number: 17,
+        name: "network_gt",
+    },
+    Name {
+        number: 18,
+        name: "transport_gt",
+    },
+    Name {
+        number: 32,
+        name: "link_lt",
+    },
+    Name {
+        number: 33,
+        name: "network_lt",
+    },
+    Name {
+        number: 34,
+        name: "transport_lt",
+    },
+];
 
 // `bits tca_bpf_flag`
 const BITS_TCA_BPF_FLAG: [Name<'static>; 1] = [Name {
@@ -1382,6 +1490,27 @@ const NAMES_ARP_OP: [Name<'static>; 2] = [
     },
 ];
 
+#[tactic(auto, unfolding(crate::specs::Tables::NamesOfNames::names_of_names_2001))]
+pub(crate) fn names_of_names_2001(place: usize) -> &'static [Name<'static>]
+    ensures { names_view result.now ≡ names_of_names_2001 place }
+{
+    match place {
+        24012 => &NAMES_TUNNEL_KEY_ACT,
+        24013 => &BITS_TCF_EM,
+        24014 => &NAMES_EM_ALIGN,
+        24015 => &NAMES_EM_LAYER_OPND,
+        24016 => &BITS_TCA_BPF_FLAG,
+        24017 => &BITS_TCA_CLS_FLAGS,
+        24018 => &BITS_FLOW_KEY,
+        24019 => &MASKS_MAC,
+        24020 => &MASKS_IPV4,
+        24021 => &MASKS_IPV6,
+        24022 => &BITS_FLOWER_KEY_FLAGS,
+        24023 => &NAMES_ARP_OP,
+        _ => &[],
+    }
+}
+
 // `bits tcp_flags`
 const BITS_TCP_FLAGS: [Name<'static>; 8] = [
     Name {
@@ -1472,27 +1601,6 @@ const BITS_TCA_DUMP_FLAGS: [Name<'static>; 1] = [Name {
     name: "terse",
 }];
 
-#[tactic(auto, unfolding(crate::specs::Tables::NamesOfNames::names_of_names_2001))]
-pub(crate) fn names_of_names_2001(place: usize) -> &'static [Name<'static>]
-    ensures { names_view result.now ≡ names_of_names_2001 place }
-{
-    match place {
-        24012 => &BITS_TCA_BPF_FLAG,
-        24013 => &BITS_TCA_CLS_FLAGS,
-        24014 => &BITS_FLOW_KEY,
-        24015 => &MASKS_MAC,
-        24016 => &MASKS_IPV4,
-        24017 => &MASKS_IPV6,
-        24018 => &BITS_FLOWER_KEY_FLAGS,
-        24019 => &NAMES_ARP_OP,
-        24020 => &BITS_TCP_FLAGS,
-        24021 => &BITS_FLOWER_CT_FLAGS,
-        24022 => &BITS_TC_U32,
-        24023 => &BITS_TCA_DUMP_FLAGS,
-        _ => &[],
-    }
-}
-
 // `bits tca_act_flag`
 const BITS_TCA_ACT_FLAG: [Name<'static>; 2] = [
     Name {
@@ -1545,22 +1653,6 @@ const BITS_TCF_CBQ_LSS_FLAGS: [Name<'static>; 2] = [
     },
 ];
 
-// `bits tc_etf`
-const BITS_TC_ETF: [Name<'static>; 3] = [
-    Name {
-        number: 1,
-        name: "deadline_mode_on",
-    },
-    Name {
-        number: 2,
-        name: "offload_on",
-    },
-    Name {
-        number: 4,
-        name: "skip_sock_check",
-    },
-];
-
 // `bits tc_red`
 const BITS_TC_RED: [Name<'static>; 4] = [
     Name {
@@ -1581,6 +1673,22 @@ const BITS_TC_RED: [Name<'static>; 4] = [
     },
 ];
 
+// `bits tc_etf`
+const BITS_TC_ETF: [Name<'static>; 3] = [
+    Name {
+        number: 1,
+        name: "deadline_mode_on",
+    },
+    Name {
+        number: 2,
+        name: "offload_on",
+    },
+    Name {
+        number: 4,
+        name: "skip_sock_check",
+    },
+];
+
 // `bits taprio_flag`
 const BITS_TAPRIO_FLAG: [Name<'static>; 2] = [
     Name {
@@ -1598,12 +1706,16 @@ pub(crate) fn names_of_names_2002(place: usize) -> &'static [Name<'static>]
     ensures { names_view result.now ≡ names_of_names_2002 place }
 {
     match place {
-        24024 => &BITS_TCA_ACT_FLAG,
-        24025 => &BITS_TCF_CBQ_LSS_CHANGE,
-        24026 => &BITS_TCF_CBQ_LSS_FLAGS,
-        24027 => &BITS_TC_ETF,
-        24028 => &BITS_TC_RED,
-        24029 => &BITS_TAPRIO_FLAG,
+        24024 => &BITS_TCP_FLAGS,
+        24025 => &BITS_FLOWER_CT_FLAGS,
+        24026 => &BITS_TC_U32,
+        24027 => &BITS_TCA_DUMP_FLAGS,
+        24028 => &BITS_TCA_ACT_FLAG,
+        24029 => &BITS_TCF_CBQ_LSS_CHANGE,
+        24030 => &BITS_TCF_CBQ_LSS_FLAGS,
+        24031 => &BITS_TC_RED,
+        24032 => &BITS_TC_ETF,
+        24033 => &BITS_TAPRIO_FLAG,
         _ => &[],
     }
 }

@@ -76,6 +76,7 @@ use Rattle.tc_kinds.specs.Parts.Qdiscs.{
   list_taprio_tc_entry,
   list_tbf_in_tbf,
   list_tc_qdisc_atm,
+  list_tc_qdisc_bfifo,
   list_tc_qdisc_cake,
   list_tc_qdisc_cbq,
   list_tc_qdisc_cbs,
@@ -175,6 +176,7 @@ use Rattle.tc_kinds.specs.Parts.Qdiscs.{
   struct_tc_drr_stats,
   struct_tc_etf_qopt,
   struct_tc_fifo_qopt,
+  struct_tc_fifo_qopt_packets,
   struct_tc_fq_codel_cl_stats,
   struct_tc_fq_codel_qd_stats,
   struct_tc_fq_pie_xstats,
@@ -202,6 +204,7 @@ use Rattle.tc_kinds.specs.Parts.Qdiscs.{
   struct_tc_prio_qopt,
   struct_tc_qfq_stats,
   struct_tc_red_qopt,
+  struct_tc_red_qopt_packets,
   struct_tc_red_xstats,
   struct_tc_service_curve,
   struct_tc_sfb_qopt,
@@ -264,11 +267,12 @@ pub qdiscs_choke_apart : (place : ℕ) → Apart (parts_of_qdiscs_choke place)
 unfolding parts_of_qdiscs_choke
 qdiscs_choke_apart place =
     at (place == 3648) (apart list_choke_in_choke refl) (
-    at (place == 3649) (apart struct_tc_choke_xstats refl) (
-    at (place == 3650) (apart statistics_qdisc_choke refl) (
-    at (place == 3651) (apart list_tc_qdisc_choke refl) (
-    at (place == 3652) (apart list_stats_qdisc_choke refl) (
-    none)))))
+    at (place == 3649) (apart struct_tc_red_qopt_packets refl) (
+    at (place == 3650) (apart struct_tc_choke_xstats refl) (
+    at (place == 3651) (apart statistics_qdisc_choke refl) (
+    at (place == 3652) (apart list_tc_qdisc_choke refl) (
+    at (place == 3653) (apart list_stats_qdisc_choke refl) (
+    none))))))
 
 pub qdiscs_codel_apart : (place : ℕ) → Apart (parts_of_qdiscs_codel place)
 unfolding parts_of_qdiscs_codel
@@ -318,8 +322,10 @@ pub qdiscs_fifo_apart : (place : ℕ) → Apart (parts_of_qdiscs_fifo place)
 unfolding parts_of_qdiscs_fifo
 qdiscs_fifo_apart place =
     at (place == 3720) (apart struct_tc_fifo_qopt refl) (
-    at (place == 3721) (apart list_tc_qdisc_pfifo refl) (
-    none))
+    at (place == 3721) (apart struct_tc_fifo_qopt_packets refl) (
+    at (place == 3722) (apart list_tc_qdisc_pfifo refl) (
+    at (place == 3723) (apart list_tc_qdisc_bfifo refl) (
+    none))))
 
 pub qdiscs_fq_apart : (place : ℕ) → Apart (parts_of_qdiscs_fq place)
 unfolding parts_of_qdiscs_fq

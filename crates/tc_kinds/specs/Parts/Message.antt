@@ -59,15 +59,15 @@ list_tc =
     ∷ kind_rows (codes "cake") 3620
     ∷ kind_rows (codes "cbq") 3632
     ∷ kind_rows (codes "cbs") 3638
-    ∷ kind_rows (codes "choke") 3651
+    ∷ kind_rows (codes "choke") 3652
     ∷ kind_rows (codes "codel") 3663
     ∷ kind_rows (codes "drr") 3675
     ∷ kind_rows (codes "dsmark") 3685
     ∷ kind_rows (codes "etf") 3698
     ∷ kind_rows (codes "ets") 3711
-    ∷ kind_rows (codes "pfifo") 3721
-    ∷ kind_rows (codes "pfifo_head_drop") 3721
-    ∷ kind_rows (codes "bfifo") 3721
+    ∷ kind_rows (codes "pfifo") 3722
+    ∷ kind_rows (codes "pfifo_head_drop") 3722
+    ∷ kind_rows (codes "bfifo") 3723
     ∷ kind_rows (codes "fq") 3736
     ∷ kind_rows (codes "fq_codel") 3749
     ∷ kind_rows (codes "fq_pie") 3759

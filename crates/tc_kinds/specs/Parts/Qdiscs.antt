@@ -338,9 +338,22 @@ parts_of_qdiscs_cbs place =
 abbrev pub list_choke_in_choke : Part
 list_choke_in_choke =
     Rows (codes "Choke")
-    (row 1 (codes "Parms") (form.Record 3925)
+    (row 1 (codes "Parms") (form.Record 3649)
     ∷ row 2 (codes "Stab") form.Hex
     ∷ row 3 (codes "MaxP") (form.Number number.U32)
+    ∷ [])
+
+-- `struct tc_red_qopt_packets`
+abbrev pub struct_tc_red_qopt_packets : Part
+struct_tc_red_qopt_packets =
+    Fields
+    (field (codes "limit") (form.Number number.U32)
+    ∷ field (codes "qth_min") (form.Number number.U32)
+    ∷ field (codes "qth_max") (form.Number number.U32)
+    ∷ field (codes "Wlog") (form.Number number.U8)
+    ∷ field (codes "Plog") (form.Number number.U8)
+    ∷ field (codes "Scell_log") (form.Number number.U8)
+    ∷ field (codes "flags") (form.Number number.U8)
     ∷ [])
 
 -- `struct tc_choke_xstats`
@@ -358,7 +371,7 @@ struct_tc_choke_xstats =
 abbrev pub statistics_qdisc_choke : Part
 statistics_qdisc_choke =
     Fields
-    (field (codes "Choke") (form.Record 3649)
+    (field (codes "Choke") (form.Record 3650)
     ∷ [])
 
 -- `list tc`: the rows of choke
@@ -366,24 +379,25 @@ abbrev pub list_tc_qdisc_choke : Part
 list_tc_qdisc_choke =
     Rows []
     (row 2 (codes "Options") (form.List 3648)
-    ∷ row 4 (codes "Xstats") (form.Record 3650)
+    ∷ row 4 (codes "Xstats") (form.Record 3651)
     ∷ [])
 
 -- `list stats`: the rows of choke
 abbrev pub list_stats_qdisc_choke : Part
 list_stats_qdisc_choke =
     Rows []
-    (row 4 (codes "App") (form.Record 3650)
+    (row 4 (codes "App") (form.Record 3651)
     ∷ [])
 
 unfoldable pub parts_of_qdiscs_choke : Table
 parts_of_qdiscs_choke place =
     if place == 3648 then list_choke_in_choke else (
-    if place == 3649 then struct_tc_choke_xstats else (
-    if place == 3650 then statistics_qdisc_choke else (
-    if place == 3651 then list_tc_qdisc_choke else (
-    if place == 3652 then list_stats_qdisc_choke else (
-    One form.Hex)))))
+    if place == 3649 then struct_tc_red_qopt_packets else (
+    if place == 3650 then struct_tc_choke_xstats else (
+    if place == 3651 then statistics_qdisc_choke else (
+    if place == 3652 then list_tc_qdisc_choke else (
+    if place == 3653 then list_stats_qdisc_choke else (
+    One form.Hex))))))
 
 -- `list codel`
 abbrev pub list_codel_in_codel : Part
@@ -592,9 +606,24 @@ struct_tc_fifo_qopt =
     (field (codes "limit") (form.Number number.U32)
     ∷ [])
 
--- `list tc`: the rows of pfifo, pfifo_head_drop, bfifo
+-- `struct tc_fifo_qopt_packets`
+abbrev pub struct_tc_fifo_qopt_packets : Part
+struct_tc_fifo_qopt_packets =
+    Fields
+    (field (codes "limit") (form.Number number.U32)
+    ∷ [])
+
+-- `list tc`: the rows of pfifo, pfifo_head_drop
 abbrev pub list_tc_qdisc_pfifo : Part
 list_tc_qdisc_pfifo =
+    Rows []
+    (row 2 (codes "Options") (form.Record 3721)
+    ∷ row 4 (codes "Xstats") (form.Choice 3006)
+    ∷ [])
+
+-- `list tc`: the rows of bfifo
+abbrev pub list_tc_qdisc_bfifo : Part
+list_tc_qdisc_bfifo =
     Rows []
     (row 2 (codes "Options") (form.Record 3720)
     ∷ row 4 (codes "Xstats") (form.Choice 3006)
@@ -603,8 +632,10 @@ list_tc_qdisc_pfifo =
 unfoldable pub parts_of_qdiscs_fifo : Table
 parts_of_qdiscs_fifo place =
     if place == 3720 then struct_tc_fifo_qopt else (
-    if place == 3721 then list_tc_qdisc_pfifo else (
-    One form.Hex))
+    if place == 3721 then struct_tc_fifo_qopt_packets else (
+    if place == 3722 then list_tc_qdisc_pfifo else (
+    if place == 3723 then list_tc_qdisc_bfifo else (
+    One form.Hex))))
 
 -- `list fq`
 abbrev pub list_fq_in_fq : Part

@@ -26,7 +26,7 @@ list_stats =
     Kinds 4802 4803
     (kind_rows (codes "cake") 3621
     ∷ kind_rows (codes "cbq") 3633
-    ∷ kind_rows (codes "choke") 3652
+    ∷ kind_rows (codes "choke") 3653
     ∷ kind_rows (codes "codel") 3664
     ∷ kind_rows (codes "drr") 3676
     ∷ kind_rows (codes "fq") 3737

@@ -151,7 +151,7 @@ const LIST_TC: [KindRows<'static>; 54] = [
     },
     KindRows {
         kind: "choke",
-        rows: 3651,
+        rows: 3652,
     },
     KindRows {
         kind: "codel",
@@ -175,15 +175,15 @@ const LIST_TC: [KindRows<'static>; 54] = [
     },
     KindRows {
         kind: "pfifo",
-        rows: 3721,
+        rows: 3722,
     },
     KindRows {
         kind: "pfifo_head_drop",
-        rows: 3721,
+        rows: 3722,
     },
     KindRows {
         kind: "bfifo",
-        rows: 3721,
+        rows: 3723,
     },
     KindRows {
         kind: "fq",

@@ -830,7 +830,7 @@ const LIST_CHOKE_IN_CHOKE: [Row<'static>; 3] = [
     Row {
         word: 1,
         name: "Parms",
-        form: Form::Record(3925),
+        form: Form::Record(3649),
     },
     Row {
         word: 2,
@@ -841,6 +841,38 @@ const LIST_CHOKE_IN_CHOKE: [Row<'static>; 3] = [
         word: 3,
         name: "MaxP",
         form: Form::Number(Number::U32),
+    },
+];
+
+// `struct tc_red_qopt_packets`
+const STRUCT_TC_RED_QOPT_PACKETS: [Field<'static>; 7] = [
+    Field {
+        name: "limit",
+        form: Form::Number(Number::U32),
+    },
+    Field {
+        name: "qth_min",
+        form: Form::Number(Number::U32),
+    },
+    Field {
+        name: "qth_max",
+        form: Form::Number(Number::U32),
+    },
+    Field {
+        name: "Wlog",
+        form: Form::Number(Number::U8),
+    },
+    Field {
+        name: "Plog",
+        form: Form::Number(Number::U8),
+    },
+    Field {
+        name: "Scell_log",
+        form: Form::Number(Number::U8),
+    },
+    Field {
+        name: "flags",
+        form: Form::Number(Number::U8),
     },
 ];
 
@@ -871,7 +903,7 @@ const STRUCT_TC_CHOKE_XSTATS: [Field<'static>; 5] = [
 // the statistics of choke
 const STATISTICS_QDISC_CHOKE: [Field<'static>; 1] = [Field {
     name: "Choke",
-    form: Form::Record(3649),
+    form: Form::Record(3650),
 }];
 
 // `list tc`: the rows of choke
@@ -884,7 +916,7 @@ const LIST_TC_QDISC_CHOKE: [Row<'static>; 2] = [
     Row {
         word: 4,
         name: "Xstats",
-        form: Form::Record(3650),
+        form: Form::Record(3651),
     },
 ];
 
@@ -892,7 +924,7 @@ const LIST_TC_QDISC_CHOKE: [Row<'static>; 2] = [
 const LIST_STATS_QDISC_CHOKE: [Row<'static>; 1] = [Row {
     word: 4,
     name: "App",
-    form: Form::Record(3650),
+    form: Form::Record(3651),
 }];
 
 #[tactic(auto, unfolding(crate::specs::Parts::Qdiscs::parts_of_qdiscs_choke))]
@@ -901,10 +933,11 @@ pub(crate) fn parts_of_qdiscs_choke(place: usize) -> Part<'static>
 {
     match place {
         3648 => Part::Rows("Choke", &LIST_CHOKE_IN_CHOKE),
-        3649 => Part::Fields(&STRUCT_TC_CHOKE_XSTATS),
-        3650 => Part::Fields(&STATISTICS_QDISC_CHOKE),
-        3651 => Part::Rows("", &LIST_TC_QDISC_CHOKE),
-        3652 => Part::Rows("", &LIST_STATS_QDISC_CHOKE),
+        3649 => Part::Fields(&STRUCT_TC_RED_QOPT_PACKETS),
+        3650 => Part::Fields(&STRUCT_TC_CHOKE_XSTATS),
+        3651 => Part::Fields(&STATISTICS_QDISC_CHOKE),
+        3652 => Part::Rows("", &LIST_TC_QDISC_CHOKE),
+        3653 => Part::Rows("", &LIST_STATS_QDISC_CHOKE),
         _ => Part::One(Form::Hex),
     }
 }
@@ -1257,8 +1290,28 @@ const STRUCT_TC_FIFO_QOPT: [Field<'static>; 1] = [Field {
     form: Form::Number(Number::U32),
 }];
 
-// `list tc`: the rows of pfifo, pfifo_head_drop, bfifo
+// `struct tc_fifo_qopt_packets`
+const STRUCT_TC_FIFO_QOPT_PACKETS: [Field<'static>; 1] = [Field {
+    name: "limit",
+    form: Form::Number(Number::U32),
+}];
+
+// `list tc`: the rows of pfifo, pfifo_head_drop
 const LIST_TC_QDISC_PFIFO: [Row<'static>; 2] = [
+    Row {
+        word: 2,
+        name: "Options",
+        form: Form::Record(3721),
+    },
+    Row {
+        word: 4,
+        name: "Xstats",
+        form: Form::Choice(3006),
+    },
+];
+
+// `list tc`: the rows of bfifo
+const LIST_TC_QDISC_BFIFO: [Row<'static>; 2] = [
     Row {
         word: 2,
         name: "Options",
@@ -1277,7 +1330,9 @@ pub(crate) fn parts_of_qdiscs_fifo(place: usize) -> Part<'static>
 {
     match place {
         3720 => Part::Fields(&STRUCT_TC_FIFO_QOPT),
-        3721 => Part::Rows("", &LIST_TC_QDISC_PFIFO),
+        3721 => Part::Fields(&STRUCT_TC_FIFO_QOPT_PACKETS),
+        3722 => Part::Rows("", &LIST_TC_QDISC_PFIFO),
+        3723 => Part::Rows("", &LIST_TC_QDISC_BFIFO),
         _ => Part::One(Form::Hex),
     }
 }

@@ -59,7 +59,7 @@ const LIST_STATS: [KindRows<'static>; 17] = [
     },
     KindRows {
         kind: "choke",
-        rows: 3652,
+        rows: 3653,
     },
     KindRows {
         kind: "codel",

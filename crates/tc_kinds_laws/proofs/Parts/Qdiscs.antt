@@ -79,6 +79,7 @@ use Rattle.tc_kinds.specs.Parts.Qdiscs.{
   list_taprio_tc_entry,
   list_tbf_in_tbf,
   list_tc_qdisc_atm,
+  list_tc_qdisc_bfifo,
   list_tc_qdisc_cake,
   list_tc_qdisc_cbq,
   list_tc_qdisc_cbs,
@@ -178,6 +179,7 @@ use Rattle.tc_kinds.specs.Parts.Qdiscs.{
   struct_tc_drr_stats,
   struct_tc_etf_qopt,
   struct_tc_fifo_qopt,
+  struct_tc_fifo_qopt_packets,
   struct_tc_fq_codel_cl_stats,
   struct_tc_fq_codel_qd_stats,
   struct_tc_fq_pie_xstats,
@@ -205,6 +207,7 @@ use Rattle.tc_kinds.specs.Parts.Qdiscs.{
   struct_tc_prio_qopt,
   struct_tc_qfq_stats,
   struct_tc_red_qopt,
+  struct_tc_red_qopt_packets,
   struct_tc_red_xstats,
   struct_tc_service_curve,
   struct_tc_sfb_qopt,
@@ -265,14 +268,15 @@ qdiscs_cbs_sound place =
     none)))
 
 pub qdiscs_choke_sound : (place : ℕ) → Sound (parts_of_qdiscs_choke place)
-unfolding parts_of_qdiscs_choke tc_tables all_of_qdiscs parts_of_qdiscs_red
+unfolding parts_of_qdiscs_choke tc_tables all_of_qdiscs
 qdiscs_choke_sound place =
     at (place == 3648) (sound list_choke_in_choke refl) (
-    at (place == 3649) (sound struct_tc_choke_xstats refl) (
-    at (place == 3650) (sound statistics_qdisc_choke refl) (
-    at (place == 3651) (sound list_tc_qdisc_choke refl) (
-    at (place == 3652) (sound list_stats_qdisc_choke refl) (
-    none)))))
+    at (place == 3649) (sound struct_tc_red_qopt_packets refl) (
+    at (place == 3650) (sound struct_tc_choke_xstats refl) (
+    at (place == 3651) (sound statistics_qdisc_choke refl) (
+    at (place == 3652) (sound list_tc_qdisc_choke refl) (
+    at (place == 3653) (sound list_stats_qdisc_choke refl) (
+    none))))))
 
 pub qdiscs_codel_sound : (place : ℕ) → Sound (parts_of_qdiscs_codel place)
 unfolding parts_of_qdiscs_codel tc_tables all_of_qdiscs
@@ -322,8 +326,10 @@ pub qdiscs_fifo_sound : (place : ℕ) → Sound (parts_of_qdiscs_fifo place)
 unfolding parts_of_qdiscs_fifo tc_tables all_of_message all_of_qdiscs parts_of_message
 qdiscs_fifo_sound place =
     at (place == 3720) (sound struct_tc_fifo_qopt refl) (
-    at (place == 3721) (sound list_tc_qdisc_pfifo refl) (
-    none))
+    at (place == 3721) (sound struct_tc_fifo_qopt_packets refl) (
+    at (place == 3722) (sound list_tc_qdisc_pfifo refl) (
+    at (place == 3723) (sound list_tc_qdisc_bfifo refl) (
+    none))))
 
 pub qdiscs_fq_sound : (place : ℕ) → Sound (parts_of_qdiscs_fq place)
 unfolding parts_of_qdiscs_fq tc_tables all_of_elements all_of_qdiscs parts_of_elements parts_of_qdiscs_prio
