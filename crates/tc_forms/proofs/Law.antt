@@ -9,12 +9,12 @@ use Rattle.std.proofs.lemmas.Slice.Eq.{bytes_eq-Decides}
 use Rattle.std.proofs.lemmas.List.{take-append-drop}
 use Rattle.nla_frames.specs.Value.{IsBytes, ends_in_nul}
 use Rattle.nla_frames.proofs.Bytes.{IsBytes-drop}
-use Rattle.serde_json.specs.Data.{Data, number, string, object, unsigned, no_members, member, boolean, item, Members, Items, no_items}
+use Rattle.serde_json.specs.Data.{Data, number, string, array, object, unsigned, no_members, member, boolean, item, Members, Items, no_items}
 use Rattle.serde_json.specs.Find.{get, as_str}
 use Rattle.tc_forms.specs.declared.form.Number.{Number}
 use Rattle.tc_forms.specs.declared.form.Form.{Form}
 use Rattle.tc_forms.specs.Attributes.{attribute, by_kind, by_row, frames, indexed, layered, pad_member, bare_member, first_or_tail, tail_shown, beside}
-use Rattle.tc_forms.specs.Attributes.{word_and_hex}
+use Rattle.tc_forms.specs.Attributes.{kind_shown, word_and_hex}
 use Rattle.tc_forms.specs.AttributesMade.{attribute_made, by_kind_made, by_row_made, each_under, indexed_made, kinded_made, layered_made, row_made, unlayered}
 use Rattle.tc_forms.specs.AttributesMade.{word_made, word_or}
 use Rattle.tc_forms.specs.Choices.{by_choice, by_choice_made, choice_made, chosen, follows, is_choice, other_or}
@@ -373,7 +373,7 @@ module _ (read : Data → Data) (r : Reader read) where
         by_kind_again : (o : Option (List ℕ)) → kind_in has c ≡ o → Again Made rows has k c (read (by_kind Inner rows has k c o))
         by_kind_again (Some t) e =
             kind_found Made rows has k c t _ e s
-            (subst (λ x. Finds _ (codes "Kind") x (bare_seen c.value) 1 c) (r.of_text t)
+            (subst (λ x. Finds (read (kind_shown c t)) (codes "Kind") x (bare_seen c.value) 1 c) (r.of_text t)
             (finds_read (member (codes "Kind") (string t) (bare_member c.value (beside 1 c))) (codes "Kind") (string t) (bare_seen c.value) 1 c (kind_apart t c)
             (seen_read (ends_in_nul c.value) (boolean true) (r.of_truth true)) (kind_finds t c)))
         by_kind_again None e = by_row_again (shown_row rows c.word) refl e
