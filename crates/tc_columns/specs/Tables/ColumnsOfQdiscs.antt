@@ -1636,9 +1636,9 @@ struct_tc_sfq_qopt_v1 =
     ∷ column (codes "limit") (codes "limit") (how.Number unit.Bytes)
     ∷ column (codes "qth_min") (codes "qth_min") (how.Number unit.Bytes)
     ∷ column (codes "qth_max") (codes "qth_max") (how.Number unit.Bytes)
-    ∷ column (codes "Wlog") (codes "Wlog") how.Plain
-    ∷ column (codes "Plog") (codes "Plog") how.Plain
-    ∷ column (codes "Scell_log") (codes "Scell_log") how.Plain
+    ∷ column (codes "Wlog") (codes "Wlog") (how.Number unit.Power)
+    ∷ column (codes "Plog") (codes "Plog") (how.Number unit.Power)
+    ∷ column (codes "Scell_log") (codes "Scell_log") (how.Number unit.Power)
     ∷ column (codes "flags") (codes "flags") (how.Flags 24031)
     ∷ column (codes "max_P") (codes "max_P") (how.Number unit.Probability)
     ∷ column (codes "stats") (codes "stats") (how.Within 3951)

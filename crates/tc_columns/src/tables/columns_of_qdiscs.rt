@@ -3986,17 +3986,17 @@ const STRUCT_TC_SFQ_QOPT_V1: [Column<'static>; 12] = [
     Column {
         key: "Wlog",
         name: "Wlog",
-        how: How::Plain,
+        how: How::Number(Unit::Power),
     },
     Column {
         key: "Plog",
         name: "Plog",
-        how: How::Plain,
+        how: How::Number(Unit::Power),
     },
     Column {
         key: "Scell_log",
         name: "Scell_log",
-        how: How::Plain,
+        how: How::Number(Unit::Power),
     },
     Column {
         key: "flags",
