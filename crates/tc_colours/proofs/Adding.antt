@@ -43,6 +43,7 @@ pub adds_line : (o m n lines front rest line others : List ℕ) (at : ℕ) → l
     → Adds m n line → (f : List ℕ) × (lines ≡ f ++ others) × Adds o n f
 adds_line o m n lines front rest line others at e h l r k = (
   front ++ line,
-  e ∙ ap (λ x. front ++ x) (sym (take-append-drop at rest) ∙ ap (λ x. x ++ drop at rest) (sym l) ∙ ap (λ x. line ++ x) (sym r)) ∙ sym (append_assoc front line others),
+  e ∙ ap (λ x. front ++ x) (sym (take-append-drop at rest) ∙ ap (λ x. x ++ drop at rest) (sym l) ∙ ap (λ x. line ++ x) (sym r))
+      ∙ sym (append_assoc front line others),
   adds_then o m n front line h k,
 )

@@ -1,7 +1,7 @@
 //! Outlines in colours, for a terminal.
 //!
-//! [`Coloured`] is a writer that hands on what is written to it, with colours: the first line of each paragraph bold, of each other line the
-//! name cyan and what it has green, and what is refused, cut or broken red. It takes text a line at a time, so each write is to end with a line.
+//! [`Coloured`] writes what is written to it to another writer, with colours. The first line of a paragraph is bold; in each other line the
+//! name is cyan and the value green. A line that says what is refused, cut or broken is red. Each write has to end with a whole line.
 #![tactic(auto)]
 
 mod lines;

@@ -27,8 +27,8 @@ fn code_of(colour: Colour) -> &'static [u8]
     }
 }
 
-/// Puts lines in colours at the end of a text, and returns whether what follows begins a paragraph, as they do or not. Without its
-/// colours, what is put is the lines.
+/// Puts lines in colours at the end of a text; `is_first` says whether they begin a paragraph. Returns whether what follows them does.
+/// Without its colours, what is put is the lines.
 pub fn paint<A: Allocator>(
     out: &mut Vec<u8, A>,
     is_first: bool,
@@ -47,7 +47,7 @@ pub fn paint<A: Allocator>(
     Ok(is_first)
 }
 
-// How many bytes the first line has, with its line feed.
+// The length of the first line, with its line feed.
 fn line_of(lines: &[u8]) -> usize
     requires { 0 < length lines.now }
     ensures some { 0 < result }
@@ -59,7 +59,7 @@ fn line_of(lines: &[u8]) -> usize
     }
 }
 
-// Puts a line, which is the first of its paragraph or not.
+// Puts a line; `is_first` says whether it is the first of its paragraph.
 #[tactic(auto, using(crate::proofs::Adding::adds_parts))]
 fn put_line<A: Allocator>(
     out: &mut Vec<u8, A>,
@@ -97,7 +97,7 @@ fn put_words<A: Allocator>(
     }
 }
 
-// Puts a name, and what it has.
+// Puts a name and its value.
 #[tactic(auto, using(crate::proofs::Adding::adds_parts))]
 fn put_pair<A: Allocator>(out: &mut Vec<u8, A>, words: &[u8]) -> Result<(), AllocError>
     ensures { OnOk result (Adds out.old.items out.new.items words.now) }
@@ -108,7 +108,7 @@ fn put_pair<A: Allocator>(out: &mut Vec<u8, A>, words: &[u8]) -> Result<(), Allo
     Ok(())
 }
 
-// How many bytes a line has without its line feed.
+// The length of a line without its line feed.
 fn end_of(line: &[u8]) -> usize
     ensures { result ≤ length line.now }
 {
@@ -128,7 +128,7 @@ fn margin_of(line: &[u8]) -> usize
     }
 }
 
-// How many bytes the first word has.
+// The length of the first word.
 fn word_of(line: &[u8]) -> usize
     ensures { result ≤ length line.now }
 {

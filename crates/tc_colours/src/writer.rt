@@ -4,7 +4,7 @@ use crate::lines::paint;
 use std::alloc::Global;
 use std::io::{Error, ErrorKind, Result, Write};
 
-/// A writer that hands on outlines in colours. Each write is to end with a line.
+/// A writer of outlines in colours to another writer. Each write has to end with a whole line.
 #[derive(Drop)]
 pub struct Coloured<W: Write + Drop> {
     inner: W,

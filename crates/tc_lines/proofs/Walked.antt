@@ -5,12 +5,15 @@ use Rattle.std.proofs.Math.Logic.{∥∥₁_elim}
 use Rattle.std.proofs.lemmas.Option.{none-some}
 use Rattle.std.specs.Prelude.{if◌then◌else◌, option_and_then}
 use Rattle.serde.specs.Event.{Event, Log, boolean as truth, map_ends, nothing, seq_ends, text, unsigned as number_sent}
-use Rattle.serde_json.specs.Data.{Data, Items, Members, array, boolean, float, item, member, negative, no_items, no_members, null, number, object, string, unsigned}
+use Rattle.serde_json.specs.Data.{Data, Items, Members, array, boolean, float, item, member, negative, no_items, no_members, null, number, object}
+use Rattle.serde_json.specs.Data.{string, unsigned}
 use Rattle.tc_forms.specs.Sent.{Sent, events, items_events, members_events}
 use Rattle.tc_lines.specs.Columns.{Column, Given, Table, depth_in, has_elements, in_line, is_nested, opened, place_in}
 use Rattle.tc_lines.specs.declared.column.How.{How}
-use Rattle.tc_lines.specs.declared.column.How.TheVariants.{Below, Count, Elements, Family, First, Flags, From, Handle, Hidden, InLine, Index, Info, Interface, Kind, Named, Number, Plain, Slash, Text, Through, To, Verdict, Within}
-use Rattle.tc_lines.specs.Lines.{Written, at, begins, begun, column, element, head, inside, inside_items, inside_members, inside_name, item_lines, items, lines, members, opening, place_behind, put, value}
+use Rattle.tc_lines.specs.declared.column.How.TheVariants.{Below, Count, Elements, Family, First, Flags, From, Handle, Hidden, InLine, Index, Info}
+use Rattle.tc_lines.specs.declared.column.How.TheVariants.{Interface, Kind, Named, Number, Plain, Slash, Text, Through, To, Verdict, Within}
+use Rattle.tc_lines.specs.Lines.{Written, at, begins, begun, column, element, head, inside, inside_items, inside_members, inside_name, item_lines}
+use Rattle.tc_lines.specs.Lines.{items, lines, members, opening, place_behind, put, value}
 use Rattle.tc_lines.specs.Log.{interface_marks, marked, marks}
 use Rattle.tc_lines.specs.Walk.{Follows, State, between, go_inside, note, step, walked}
 use Rattle.tc_lines.specs.declared.walk.Frame.{Frame}
@@ -112,7 +115,8 @@ module _ (t : Table) where
   an-array : (b : Bool) (ds : Items) → AreWritten ds → (w : Written) (fs : List Frame) (h : How) (n : ℕ)
       → walked t (items_events ds ++ seq_ends ∷ [])
       (Some (if b then between w.text w.partner (InItems (depth_in h n) (place_in h) (place_in h) (has_elements h) ∷ fs) else go_inside t (behind w fs h n)))
-      ≡ Some (among (if b then items t (depth_in h n) (has_elements h) (place_in h) ds (at (place_in h) w) else inside_items t n (opened h) ds (put (opening t n h) true w)) fs)
+      ≡ Some (among (if b then items t (depth_in h n) (has_elements h) (place_in h) ds (at (place_in h) w)
+      else inside_items t n (opened h) ds (put (opening t n h) true w)) fs)
   an-array true ds all w fs h n =
       both (items_events ds) (seq_ends ∷ []) (Some (among w (InItems (depth_in h n) (place_in h) (place_in h) (has_elements h) ∷ fs))) _ _
       (all (at (place_in h) w) (depth_in h n) (place_in h) (has_elements h) fs) refl
@@ -125,7 +129,8 @@ module _ (t : Table) where
       (Some (if b
       then between w.text w.partner (InMembers (depth_in h n) (place_in h) (place_in h) (in_line h) ∷ InMembers k base place inline ∷ fs)
       else go_inside t (behind w (InMembers k base place inline ∷ fs) h n)))
-      ≡ Some (among (if b then members t (depth_in h n) (in_line h) (place_in h) ms (at (place_in h) w) else inside_members t n (opened h) ms (put (opening t n h) true w)) (InMembers k base place inline ∷ fs))
+      ≡ Some (among (if b then members t (depth_in h n) (in_line h) (place_in h) ms (at (place_in h) w)
+      else inside_members t n (opened h) ms (put (opening t n h) true w)) (InMembers k base place inline ∷ fs))
   an-object true ms all w k base place inline fs h n =
       both (members_events ms) (map_ends ∷ [])
       (Some (among w (InMembers (depth_in h n) (place_in h) (place_in h) (in_line h) ∷ InMembers k base place inline ∷ fs))) _ _
@@ -193,7 +198,8 @@ module _ (t : Table) where
   -- the events of JSON write its lines
   pub lines_written : (root : ℕ) (d : Data) (log : Log) (s : State) → log ≡ Some (events d) → Follows t root log s → s.out ≡ lines t root d
   lines_written root d log s e h =
-      ∥∥₁_elim (subst (λ l. Follows t root l s) e h) (Coded-set (coded_list coded_ℕ) _ _) (λ x. ap out_of (sym x ∙ a-value d (begun root) 0 root false [] (Through root) 0))
+      ∥∥₁_elim (subst (λ l. Follows t root l s) e h) (Coded-set (coded_list coded_ℕ) _ _)
+      (λ x. ap out_of (sym x ∙ a-value d (begun root) 0 root false [] (Through root) 0))
 
 -- ---- what the caller gave stays the same
 

@@ -2,7 +2,8 @@
 use Rattle.std.specs.Prelude.{Bool, List, None, Option, Some, [], bytes_eq, codes, false, if◌then◌else◌, map, true, unwrap_or, ℕ, ◌+◌, ◌==◌, ◌∷◌}
 use Rattle.tc_lines.specs.declared.column.Column.{Column as CodeColumn}
 use Rattle.tc_lines.specs.declared.column.How.{How}
-use Rattle.tc_lines.specs.declared.column.How.TheVariants.{Below, Elements, First, From, Hidden, Info, Family, Index, InLine, Number, Plain, Slash, Through, To, Within}
+use Rattle.tc_lines.specs.declared.column.How.TheVariants.{Below, Elements, First, From, Hidden, Info, Family, Index, InLine, Number, Plain, Slash}
+use Rattle.tc_lines.specs.declared.column.How.TheVariants.{Through, To, Within}
 use Rattle.tc_units.specs.Names.{Name}
 use Rattle.tc_units.specs.declared.unit.Unit.TheVariants.{LongHex}
 

@@ -4,7 +4,8 @@ use Rattle.std.specs.Fmt.{signed_decimal}
 use Rattle.std.specs.Int.{from_le_bytes, w32}
 use Rattle.std.specs.List.{list_all}
 use Rattle.std.specs.Ordering.{int_eq}
-use Rattle.std.specs.Prelude.{Bool, List, None, Option, Some, [], codes, decimal, flat_map, if◌then◌else◌, length, nat_le, nat_lt, suc, unwrap_or, zero, ℕ, ℤ, ◌%◌, negsuc, ◌&&◌, ◌*◌, ◌+◌, ◌++◌, ◌/◌, ◌==◌, ◌||◌, ◌∷◌}
+use Rattle.std.specs.Prelude.{Bool, List, None, Option, Some, [], codes, decimal, flat_map, if◌then◌else◌, length, nat_le, nat_lt, suc, unwrap_or}
+use Rattle.std.specs.Prelude.{zero, ℕ, ℤ, ◌%◌, negsuc, ◌&&◌, ◌*◌, ◌+◌, ◌++◌, ◌/◌, ◌==◌, ◌||◌, ◌∷◌}
 use Rattle.hex.specs.Hex.{decode_sized}
 use Rattle.serde.specs.Event as event
 use Rattle.serde.specs.Event.{Event}
@@ -30,9 +31,6 @@ is_printable b = nat_le 0x20 b && nat_le b 0x7e
 abbrev pub escaped_byte : ℕ → List ℕ
 escaped_byte b = if is_printable b then b ∷ [] else 92 ∷ 120 ∷ digit_char (b / 16) ∷ digit_char (b % 16) ∷ []
 
-abbrev pub escaped : List ℕ → List ℕ
-escaped text = flat_map escaped_byte text
-
 -- a letter, a digit, or one of `-`, `.`, `:` and `_`
 abbrev pub is_plain : ℕ → Bool
 is_plain b = nat_le 48 b && nat_le b 58 || nat_le 65 b && nat_le b 90 || nat_le 97 b && nat_le b 122 || b == 45 || b == 46 || b == 95
@@ -55,7 +53,7 @@ indent (suc n) = codes "  " ++ indent n
 
 -- a line begins: a line feed, its depth, a name
 abbrev pub line : ℕ → List ℕ → List ℕ
-line n name = codes "\n" ++ (indent n ++ escaped name)
+line n name = codes "\n" ++ (indent n ++ name)
 
 -- a text that is a name of a number, by the names for people
 abbrev pub with_number : List Name → List ℕ → Option ℕ → List ℕ

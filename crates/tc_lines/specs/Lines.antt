@@ -1,15 +1,15 @@
--- The lines of JSON: each leaf is in one line, and each line is a name, with what it has.
+-- The lines of JSON: each leaf is in one line, and a line is a name and a value.
 use Rattle.std.specs.Prelude.{Bool, List, [], bytes_eq, codes, false, if◌then◌else◌, true, ℕ, ◌+◌, ◌++◌}
 use Rattle.serde.specs.Event as event
 use Rattle.serde.specs.Event.{Event}
 use Rattle.serde_json.specs.Data.{Data, Items, Members, array, boolean, item, member, no_items, no_members, null, number, object, string}
 use Rattle.serde_json.specs.Events.{number_event}
 use Rattle.tc_lines.specs.Columns.{Column, Table, column_of, depth_in, has_elements, has_name, in_line, is_nested, opened, place_in}
-use Rattle.tc_lines.specs.Leaves.{escaped, is_block, leaf, line, name_at}
+use Rattle.tc_lines.specs.Leaves.{is_block, leaf, line, name_at}
 use Rattle.tc_lines.specs.declared.column.How.{How}
 use Rattle.tc_lines.specs.declared.column.How.TheVariants.{First, From, Hidden, Index, Kind, Plain, Slash, Through, To}
 
--- what is written so far; the place of the columns that are asked for first, since what they name belongs to what was written last,
+-- what is written so far; the place of the columns that are looked up first, since what they name belongs to what was written last,
 -- as a mask to its address; and the place of the columns under the kind in force
 pub record Written : Type 0 where
   pub text : List ℕ
@@ -33,11 +33,11 @@ put text starts w = record { text = w.text ++ text; partner = if starts then NON
 
 -- a name within a line
 abbrev pub inside_name : List ℕ → List ℕ
-inside_name key = if bytes_eq key (codes "Other") then [] else codes " " ++ escaped key
+inside_name key = if bytes_eq key (codes "Other") then [] else codes " " ++ key
 
 -- a name is a word of a line, or begins one
 abbrev pub name_text : ℕ → Bool → List ℕ → List ℕ
-name_text n inline name = if inline then codes " " ++ escaped name else line n name
+name_text n inline name = if inline then codes " " ++ name else line n name
 
 -- true for the number that stands for a block
 abbrev pub says_block : Event → Bool

@@ -11,9 +11,9 @@ use tc_units::{Name, Unit};
 pub enum How {
     /// As it is.
     Plain,
-    /// Not at all, unless there is anything in it: padding.
+    /// Padding: shown where the caller asks for it, or where it doesn't follow its form.
     Hidden,
-    /// A kind, which selects the columns of what is behind it in its list.
+    /// A kind: it selects the columns of the items after it in its list.
     Kind,
     /// A number in this unit.
     Number(Unit),
@@ -21,31 +21,31 @@ pub enum How {
     Named(Unit, usize),
     /// A flag word whose bits have the names at this place.
     Flags(usize),
-    /// One of the names at the first place, those of JSON; shown by the second, those of the same numbers for people, and its number.
+    /// One of the names in JSON at the first place; shown as the name of the same number at the second place, and the number.
     Text(usize, usize),
     /// What an action says of a packet; the names at this place are those of JSON.
     Verdict(usize),
     /// The number of an interface, with the name that the caller knows.
     Interface,
-    /// The same, and its own name, in a header; of a block (-1) nothing, and the members after it are asked for among the columns at this
-    /// place first.
+    /// The same in a header, behind its own name. Of a block (-1) nothing is shown, and the members after it are looked up in the columns
+    /// at this place first.
     Index(usize),
     /// A handle, as a number in this unit.
     Handle(Unit),
     /// Four bytes in hex, as a little-endian number.
     Count,
-    /// An address family, and its own name, unless it is number 0; by names as `Text`.
+    /// An address family behind its own name, or nothing if it is 0. The places are as in `Text`.
     Family(usize, usize),
-    /// The last number of a header, and its own name, unless it is 0.
+    /// The last number of a header behind its own name, or nothing if it is 0.
     Info(InfoOf),
-    /// As it is; what comes next is asked for among the columns at this place first, and stands in the same line.
+    /// As it is. The members after it are looked up in the columns at this place first, and stand in the same line.
     First(usize),
     /// The same, with `-` behind it: the least of a range.
     From(usize),
-    /// A mask behind its address: `/` and the number that the mask has by the names at the first place, the length of its prefix; or else
-    /// a line of its own, whose name is that of 0 at the second place.
+    /// A mask behind its address: `/` and the length of its prefix, by the names at the first place. A mask of no prefix has a line of its
+    /// own, with the name of 0 at the second place.
     Slash(usize, usize),
-    /// The greatest of a range, behind `-`; where it is no leaf, it has a line of its own, whose name is that of 0 at this place.
+    /// The greatest of a range, behind `-`. Where it is no leaf, it has a line of its own, with the name of 0 at this place.
     To(usize),
     /// What is within has lines of its own below this one, by the columns at this place.
     Within(usize),
@@ -53,7 +53,7 @@ pub enum How {
     Through(usize),
     /// The same, without this line.
     Below(usize),
-    /// The same, each element in a line of its own, whose name is that of 0 at this place.
+    /// The same, and each element has a line of its own, with the name of 0 at this place.
     Elements(usize),
     /// What is within has words in the line before this one, by the columns at this place.
     InLine(usize),

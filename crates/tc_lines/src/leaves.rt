@@ -10,7 +10,9 @@ ghost use Rattle.tc_forms.specs.Raw.{decoded};
 ghost use Rattle.tc_texts.specs.Handle.{handle_text};
 ghost use Rattle.tc_lines.specs.Columns.{is_hidden};
 ghost use Rattle.tc_units.specs.Names.{named_text, names_view};
-ghost use Rattle.tc_lines.specs.Leaves.{called, count_or, escaped, escaped_byte, family_or, handle_or, indent, info_text, interface_text, is_block, is_plain, is_printable, is_word, leaf, line, name_at, number_behind, number_in, quoted, quoted_byte, slash_or, text_behind, text_in, verdict_or, with_number};
+ghost use Rattle.tc_lines.specs.Leaves.{called, count_or, escaped_byte, family_or, handle_or, indent, info_text, interface_text, is_block, is_plain};
+ghost use Rattle.tc_lines.specs.Leaves.{is_printable, is_word, leaf, line, name_at, number_behind, number_in, quoted, quoted_byte, slash_or};
+ghost use Rattle.tc_lines.specs.Leaves.{text_behind, text_in, verdict_or, with_number};
 
 use crate::column::{Columns, How, InfoOf};
 use hex::FromHex;
@@ -50,16 +52,6 @@ fn put_byte<A: Allocator>(out: &mut Vec<u8, A>, b: u8) -> Result<(), AllocError>
         return out.extend_from_slice(&[b]);
     }
     out.extend_from_slice(&[b'\\', b'x', digit(b / 16), digit(b % 16)])
-}
-
-/// Puts a text whose bytes are escaped where they aren't printable.
-pub(crate) fn put_escaped<A: Allocator>(out: &mut Vec<u8, A>, text: &[u8]) -> Result<(), AllocError>
-    ensures { OnOk result (out.new.items ≡ out.old.items ++ escaped text.now) }
-{
-    for b in text {
-        put_byte(out, *b)?;
-    }
-    Ok(())
 }
 
 // True for a letter, a digit, or one of `-`, `.`, `:` and `_`.
@@ -135,6 +127,26 @@ fn put_indent<A: Allocator>(out: &mut Vec<u8, A>, depth: usize) -> Result<(), Al
     Ok(())
 }
 
+// Puts a line feed and two blanks for each level.
+#[inline(always)]
+fn put_margin<A: Allocator>(out: &mut Vec<u8, A>, depth: usize) -> Result<(), AllocError>
+    ensures { OnOk result (out.new.items ≡ out.old.items ++ (codes "\n" ++ indent depth)) }
+{
+    match depth {
+        0 => out.extend_from_slice(b"\n"),
+        1 => out.extend_from_slice(b"\n  "),
+        2 => out.extend_from_slice(b"\n    "),
+        3 => out.extend_from_slice(b"\n      "),
+        4 => out.extend_from_slice(b"\n        "),
+        5 => out.extend_from_slice(b"\n          "),
+        6 => out.extend_from_slice(b"\n            "),
+        _ => {
+            out.extend_from_slice(b"\n")?;
+            put_indent(out, depth)
+        }
+    }
+}
+
 /// Puts the beginning of a line.
 pub(crate) fn put_line<A: Allocator>(
     out: &mut Vec<u8, A>,
@@ -143,9 +155,8 @@ pub(crate) fn put_line<A: Allocator>(
 ) -> Result<(), AllocError>
     ensures { OnOk result (out.new.items ≡ out.old.items ++ line depth name.now) }
 {
-    out.extend_from_slice(b"\n")?;
-    put_indent(out, depth)?;
-    put_escaped(out, name)
+    put_margin(out, depth)?;
+    out.extend_from_slice(name)
 }
 
 /// The name at a place that has no other.
@@ -189,7 +200,8 @@ fn put_pref<A: Allocator>(
     names: &[Name<'_>],
     n: u64,
 ) -> Result<(), AllocError>
-    ensures { OnOk result (out.new.items ≡ out.old.items ++ (codes " pref " ++ (decimal (n / 0x10000) ++ (codes " protocol " ++ named_text Unit.LongHex (names_view names.now) (n % 0x100 * 0x100 + n / 0x100 % 0x100))))) }
+    ensures { OnOk result (out.new.items ≡ out.old.items ++ (codes " pref " ++ (decimal (n / 0x10000)
+        ++ (codes " protocol " ++ named_text Unit.LongHex (names_view names.now) (n % 0x100 * 0x100 + n / 0x100 % 0x100))))) }
 {
     out.extend_from_slice(b" pref ")?;
     put_decimal(out, n / 0x10000)?;

@@ -1,7 +1,7 @@
-//! JSON of messages as lines for people: each leaf is in one line, named and shown by its column.
+//! Messages as lines for people: each leaf of their JSON is in one line, with the name and the unit of its column.
 //!
 //! [`lines_of`] sends what `tc_forms` shows of bytes to a format of serde that writes lines, so that the lines and the JSON of a message say
-//! the same. A line is a line feed, two blanks for each level, a name, and what it has:
+//! the same. A line is a line feed, two blanks for each level, a name and a value:
 //!
 //! ```text
 //! kind htb
@@ -15,7 +15,7 @@
 //! Columns come from a table of the caller's, by places: that of the message, and from there those of what is within. A kind selects the
 //! columns of what is behind it in its list. A member without a column is shown as it is, in one line with all that is within. A mask
 //! stands in the line of its address, and the greatest of a range in that of the least: `ipv4_dst 10.8.0.0/16`, `ports_dst 80-90`. A header
-//! is no line of its own: its words go on with the line that the caller has begun.
+//! has no line of its own: its words continue the line that the caller has begun.
 #![tactic(auto)]
 
 mod column;

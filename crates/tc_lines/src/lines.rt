@@ -27,11 +27,11 @@ pub(crate) struct Lines<C: Columns + Drop> {
 }
 
 impl<C: Columns + Drop> Lines<C> {
-    /// No lines yet.
-    pub(crate) fn new(alloc: Global, columns: C) -> Result<Lines<C>, LinesError>
+    /// No lines yet, and room for so many bytes.
+    pub(crate) fn new(alloc: Global, columns: C, room: usize) -> Result<Lines<C>, LinesError>
         ensures { IfOk result (λ l. marked (C.given l.columns) l.log.events ≡ marked (C.given columns) (Some [])) }
     {
-        let walk = Walk::new(alloc, columns.root())?;
+        let walk = Walk::new(alloc, columns.root(), room)?;
         Ok(Lines {
             columns,
             walk,
@@ -217,7 +217,8 @@ impl<C: Columns + Drop> Serializer for Lines<C> {
 impl<C: Columns + Drop> Lines<C> {
     // The name of a member, as it is.
     fn key_as_is(&mut self, name: &str) -> Result<(), LinesError>
-        ensures log { OnOk result (Logs (marked (C.given self.old.columns) self.old.log.events) (marked (C.given self.old.columns) self.new.log.events) (field_key name.now AsIs)) }
+        ensures log { OnOk result (Logs (marked (C.given self.old.columns) self.old.log.events)
+            (marked (C.given self.old.columns) self.new.log.events) (field_key name.now AsIs)) }
         ensures columns { self.new.columns ≡ self.old.columns }
     {
         if let Err(error) = self.walk.key(self.columns, name) {

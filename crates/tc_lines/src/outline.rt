@@ -20,7 +20,7 @@ pub fn lines_of<T: Tables, C: Columns + Drop>(
 ) -> Result<Vec<u8>, LinesError>
     ensures { IfOk result (λ text. text.items ≡ lines (C.says (C.given columns)) (C.given columns).root (shown_of (T.parts_of table) form bytes.now)) }
 {
-    let mut lines = Lines::new(alloc, columns)?;
+    let mut lines = Lines::new(alloc, columns, bytes.len().saturating_mul(4))?;
     send_shown(table, form, bytes, alloc, &mut lines)?;
     Ok(lines.into_text())
 }

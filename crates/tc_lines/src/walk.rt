@@ -2,16 +2,18 @@
 
 ghost use Rattle.serde.specs.Event.{boolean, field_key, map_begins, map_ends, nothing, seq_begins, seq_ends, signed, text, unsigned};
 ghost use Rattle.serde.specs.declared.name.Case.TheVariants.{AsIs};
-ghost use Rattle.std.specs.Prelude.{IfOk, IfSome, List, MatchOption, None, OnOk, Option, Some, [], bytes_eq, false, if◌then◌else◌, option_map, reverse, ◌+◌, ◌++◌, ◌∷◌, ◌≡◌, ℕ};
-ghost use Rattle.tc_lines.specs.Columns.{Column as ColumnSaid, column_of, column_view, columns_view, depth_in, find, has_elements, has_name, in_line, is_nested, opened, place_in, unnamed};
+ghost use Rattle.std.specs.Prelude.{IfOk, IfSome, List, MatchOption, None, OnOk, Option, Some, [], bytes_eq, false, if◌then◌else◌, option_map};
+ghost use Rattle.std.specs.Prelude.{reverse, ◌+◌, ◌++◌, ◌∷◌, ◌≡◌, ℕ};
+ghost use Rattle.tc_lines.specs.Columns.{Column as ColumnSaid, column_of, column_view, columns_view, depth_in, find, has_elements, has_name, in_line};
+ghost use Rattle.tc_lines.specs.Columns.{is_nested, opened, place_in, unnamed};
 ghost use Rattle.tc_lines.specs.Lines.{NONE, begins, element, head, inside_name, name_text, opening, partner_by};
-ghost use Rattle.tc_lines.specs.Walk.{between, close_map, close_seq, deeper, done, first_of, go_inside, key_in, leaf_done, map_in, named, note, open_map, open_seq, settle, start, state_of, step};
+ghost use Rattle.tc_lines.specs.Walk.{between, close_map, close_seq, deeper, done, first_of, go_inside, key_in, leaf_done, map_in, named, note};
+ghost use Rattle.tc_lines.specs.Walk.{open_map, open_seq, settle, start, state_of, step};
 
 use crate::column::{Column, Columns, How};
 use crate::error::LinesError;
 use crate::leaves::{
-    is_block, name_at, put_boolean, put_escaped, put_line, put_null, put_signed, put_string,
-    put_unsigned,
+    is_block, name_at, put_boolean, put_line, put_null, put_signed, put_string, put_unsigned,
 };
 use std::alloc::{AllocError, Global};
 use tc_units::Unit;
@@ -29,7 +31,7 @@ pub(crate) enum Frame {
 #[derive(Drop)]
 pub(crate) struct Walk {
     pub out: Vec<u8>,
-    // The place of the columns that are asked for first.
+    // The place of the columns that are looked up first.
     pub partner: usize,
     // The innermost is last.
     pub frames: Vec<Frame>,
@@ -42,33 +44,36 @@ pub(crate) struct Walk {
 const NONE: usize = 65535;
 
 // The column of a name in JSON.
-fn find(columns: &[Column<'static>], key: &str) -> Option<Column<'static>>
-    ensures { option_map column_view result ≡ find (columns_view columns.now) key.now }
+fn find(columns: &'static [Column<'static>], key: &str) -> Option<&'static Column<'static>>
+    ensures { option_map (λ c. column_view c.now) result ≡ find (columns_view columns.now) key.now }
 {
-    match columns.split_first() {
-        Some((column, _)) if is_same(column.key, key) => Some(*column),
-        Some((_, others)) => find(others, key),
-        None => None,
+    for column in columns.iter() {
+        if is_same(column.key, key) {
+            return Some(column);
+        }
     }
+    None
 }
 
 // The column of a name in JSON, among those of a partner, of a kind or of every kind.
-fn column_of<'k>(
-    partner: &[Column<'static>],
-    own: &[Column<'static>],
-    others: &[Column<'static>],
+fn column_of<'k, C: Columns>(
+    columns: C,
+    partner: usize,
+    own: usize,
+    others: usize,
     key: &'k str,
 ) -> Column<'k>
-    ensures { column_view result ≡ column_of (columns_view partner.now) (columns_view own.now) (columns_view others.now) key.now }
+    ensures { column_view result ≡ column_of ((C.says (C.given columns)).columns partner) ((C.says (C.given columns)).columns own)
+        ((C.says (C.given columns)).columns others) key.now }
 {
-    if let Some(column) = find(partner, key) {
-        return column;
+    if let Some(column) = find(columns.columns(partner), key) {
+        return *column;
     }
-    if let Some(column) = find(own, key) {
-        return column;
+    if let Some(column) = find(columns.columns(own), key) {
+        return *column;
     }
-    match find(others, key) {
-        Some(column) => column,
+    match find(columns.columns(others), key) {
+        Some(column) => *column,
         None => unnamed(key),
     }
 }
@@ -98,10 +103,11 @@ fn unnamed(key: &str) -> Column<'_>
     }
 }
 
+#[inline(always)]
 fn is_same(a: &str, b: &str) -> bool
     ensures { result ≡ bytes_eq a.now b.now }
 {
-    a == b
+    a.len() == b.len() && a == b
 }
 
 // True where what is within has lines of its own.
@@ -206,7 +212,7 @@ fn put_name(out: &mut Vec<u8>, depth: usize, inline: bool, name: &[u8]) -> Resul
 {
     if inline {
         out.extend_from_slice(b" ")?;
-        return put_escaped(out, name);
+        return out.extend_from_slice(name);
     }
     put_line(out, depth, name)
 }
@@ -247,7 +253,7 @@ fn put_inside_name(out: &mut Vec<u8>, key: &str) -> Result<(), AllocError>
         return Ok(());
     }
     out.extend_from_slice(b" ")?;
-    put_escaped(out, key.as_bytes())
+    out.extend_from_slice(key.as_bytes())
 }
 
 // Notes a kind for what is behind it.
@@ -286,27 +292,25 @@ fn note_kind<C: Columns>(columns: C, value: &str, frames: &mut Vec<Frame>) -> Re
 fn settle(place: usize, frames: &mut Vec<Frame>) -> Result<(), AllocError>
     ensures { OnOk result (reverse frames.new.items ≡ settle place (reverse frames.old.items)) }
 {
-    let top = match pop(frames) {
-        Some(top) => top,
-        None => return Ok(()),
-    };
-    match top {
-        Frame::InItems(depth, base, _, each) => {
+    match top(frames) {
+        Some(Frame::InItems(depth, base, before, each)) if before != place => {
+            let _ = pop(frames);
             push(frames, Frame::InItems(depth, base, place, each))
         }
-        Frame::InMembers(_, _, _, _) => push(frames, top),
+        _ => Ok(()),
     }
 }
 
 impl Walk {
-    /// A walk that begins at the columns of a place.
-    pub(crate) fn new(alloc: Global, root: usize) -> Result<Walk, AllocError>
+    /// A walk that begins at the columns of a place, with room for a text of so many bytes.
+    pub(crate) fn new(alloc: Global, root: usize, room: usize) -> Result<Walk, AllocError>
         ensures { IfOk result (λ w. state_of w ≡ start root) }
     {
-        let mut frames = Vec::new(alloc);
+        let out = Vec::with_capacity(alloc, room)?;
+        let mut frames = Vec::with_capacity(alloc, 16)?;
         push(&mut frames, Frame::InMembers(0, root, root, false))?;
         Ok(Walk {
-            out: Vec::new(alloc),
+            out,
             partner: NONE,
             frames,
             how: How::Through(root),
@@ -399,7 +403,7 @@ impl Walk {
                 Ok(())
             }
             None => {
-                let top = top(&mut self.frames)?;
+                let top = top(&self.frames);
                 self.key_in(columns, name, top)
             }
         }
@@ -416,12 +420,7 @@ impl Walk {
     {
         match top {
             Some(Frame::InMembers(depth, base, place, inline)) => {
-                let column = column_of(
-                    columns.columns(self.partner),
-                    columns.columns(place),
-                    columns.columns(base),
-                    name,
-                );
+                let column = column_of(columns, self.partner, place, base, name);
                 self.at_column(columns, depth, inline, &column)
             }
             _ => Err(LinesError::NotJson),
@@ -484,7 +483,7 @@ impl Walk {
         match self.inside.checked_sub(1) {
             Some(_) => self.deeper(),
             None => {
-                let top = top(&mut self.frames)?;
+                let top = top(&self.frames);
                 self.map_in(columns, top)
             }
         }
@@ -511,8 +510,8 @@ impl Walk {
         place: usize,
         each: bool,
     ) -> Result<(), LinesError>
-        ensures { OnOk result (state_of self.new ≡ between (self.old.out.items ++ element (C.says (C.given columns)) depth base each) (if each then NONE else self.old.partner)
-            (Frame.InMembers depth base place each ∷ reverse self.old.frames.items)) }
+        ensures { OnOk result (state_of self.new ≡ between (self.old.out.items ++ element (C.says (C.given columns)) depth base each)
+            (if each then NONE else self.old.partner) (Frame.InMembers depth base place each ∷ reverse self.old.frames.items)) }
     {
         put_element(columns, &mut self.out, depth, base, each)?;
         if each {
@@ -659,14 +658,12 @@ fn pop(frames: &mut Vec<Frame>) -> Option<Frame>
 }
 
 // The innermost.
-fn top(frames: &mut Vec<Frame>) -> Result<Option<Frame>, AllocError>
-    ensures top { IfOk result (λ f. f ≡ first_of (reverse frames.old.items)) }
-    ensures same { OnOk result (reverse frames.new.items ≡ reverse frames.old.items) }
+#[tactic(auto, using(crate::proofs::Stacks::reverse_snoc))]
+fn top(frames: &[Frame]) -> Option<Frame>
+    ensures { result ≡ first_of (reverse frames.now) }
 {
-    let frame = match pop(frames) {
-        Some(frame) => frame,
-        None => return Ok(None),
-    };
-    push(frames, frame)?;
-    Ok(Some(frame))
+    match frames.split_last() {
+        Some((frame, _)) => Some(*frame),
+        None => None,
+    }
 }

@@ -42,7 +42,8 @@ kinds-is n (Ok f ∷ items) = go (type_of f.word == 1) (is_utf8 (strip f.value))
   where
     go : (a b : Bool) → error_after n items ≡ kinds_error n (read_kinds items) → error_after (one_more n) items ≡ kinds_error (one_more n) (read_kinds items)
         → (if a then (if b then error_after (one_more n) items else Some NotUtf8) else error_after n items)
-        ≡ kinds_error n (if a then ((if b then Ok (strip f.value) else Err NotUtf8) >>= λ kind. seen (λ ks. kind ∷ ks) (read_kinds items)) else read_kinds items)
+        ≡ kinds_error n (if a then ((if b then Ok (strip f.value) else Err NotUtf8) >>= λ kind. seen (λ ks. kind ∷ ks) (read_kinds items))
+        else read_kinds items)
     go false b same more = same
     go true false same more = refl
     go true true same more = more ∙ kind-more n (strip f.value) (read_kinds items)

@@ -13,7 +13,8 @@ as_it_is false false b escaped h = absurd (cc h)
 
 each : (text : List ℕ) → ByRecursion (λ b. IsTrue (is_shown true b)) text → shown text ≡ text
 each [] h = refl
-each (b ∷ bs) h = ap (λ x. x ++ shown bs) (as_it_is (b == 10) (is_printable b) b (92 ∷ 120 ∷ digit_char (b / 16) ∷ digit_char (b % 16) ∷ []) h.0) ∙ ap (λ x. b ∷ x) (each bs h.1)
+each (b ∷ bs) h = ap (λ x. x ++ shown bs) (as_it_is (b == 10) (is_printable b) b (92 ∷ 120 ∷ digit_char (b / 16) ∷ digit_char (b % 16) ∷ []) h.0)
+    ∙ ap (λ x. b ∷ x) (each bs h.1)
 
 pub shown_is : (text : List ℕ) → IsShown true text → shown text ≡ text
 shown_is text h = each text (recursion_from_All (λ b. IsTrue (is_shown true b)) text h)

@@ -1,19 +1,19 @@
 //! The first fault of a message, and its place.
 
-ghost use Rattle.std.specs.Prelude.{◌≡◌, option_map};
+ghost use Rattle.std.specs.Prelude.{◌≡◌};
 ghost use Rattle.tc_index.specs.Seen.{placed_of};
 ghost use Rattle.tc_outline.specs.Located.{own_fault};
 
 mod action;
 mod value;
 
-use crate::check::{Check, check_of};
+use crate::check::check_of;
 use crate::page::Page;
 use crate::path::Path;
 use action::place_in;
 use nla_frames::DecodeError;
 use std::alloc::{AllocError, Allocator};
-use tc_index::Attribute;
+use tc_index::{Attribute, Table};
 use value::error_of;
 
 /// Why a message is refused, and where.
@@ -82,19 +82,25 @@ fn show_counts<A: Allocator>(
     show_count(page, other, m)
 }
 
-// The fault of an attribute itself, those in it aside. Its place is the last one of the path, but where it is within an action.
-pub(crate) fn fault_of(attribute: &Attribute<'_>, path: &Path) -> Option<Fault>
-    ensures { option_map (λ fault. fault.error) result ≡ own_fault (placed_of attribute.now) }
+// What is wrong with an attribute itself, those in it aside.
+pub(crate) fn error_in(attribute: &Attribute<'_>) -> Option<DecodeError>
+    ensures { result ≡ own_fault (placed_of attribute.now) }
 {
     let check = check_of(attribute.table, attribute.number());
-    let error = error_of(check, attribute.value, attribute.kind)?;
-    let (offset, path) = match check {
-        Check::Action => place_in(attribute, path),
+    error_of(check, attribute.value, attribute.kind)
+}
+
+// The fault of an attribute itself. Its place is the last one of the path, but where it is within an action.
+pub(crate) fn fault_at(attribute: &Attribute<'_>, path: &Path, error: DecodeError) -> Fault
+    ensures { result.error ≡ error }
+{
+    let (offset, path) = match attribute.table {
+        Table::Actions => place_in(attribute, path),
         _ => (attribute.offset, *path),
     };
-    Some(Fault {
+    Fault {
         offset,
         error,
         path,
-    })
+    }
 }

@@ -1,9 +1,8 @@
 //! Messages of traffic control shown to people, of every kind: a line for each attribute, from bytes alone.
 //!
-//! [`outline`] writes a message on a [`Page`]: its header, then what its bytes say by the columns of its kind (`tc_columns`), each attribute
-//! on a line of its own, indented by its depth, in the order of the wire. A message that is refused has all its lines, and last the fault
-//! with its numbers, its offset and its path. [`locate`] finds that fault alone. No byte of a message reaches the page but as printable
-//! ASCII.
+//! [`outline`] writes a message on a [`Page`]: its header, then each attribute on a line of its own, indented by its depth, in the order of
+//! the wire, by the columns of its kind (`tc_columns`). A message that the codec refuses has all its lines, and then a line of the fault with
+//! its numbers, its offset and its path. [`locate`] finds that fault alone. A page holds printable ASCII and line feeds alone.
 #![tactic(auto)]
 
 mod check;

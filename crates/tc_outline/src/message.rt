@@ -15,7 +15,7 @@ use tc_forms::Form;
 use tc_kinds::{ACTION_MESSAGE, TC_MESSAGE, TcTables};
 use tc_lines::lines_of;
 
-// Which of the two messages speaks of this.
+// What a message of this root is about.
 fn what_of(root: Root) -> What
     ensures { result ≡ what_of root }
 {
@@ -28,7 +28,7 @@ fn what_of(root: Root) -> What
     }
 }
 
-// The form of messages that speak of this.
+// The form of messages of this root.
 fn form_of(root: Root) -> Form
     ensures { result ≡ form_of root }
 {
@@ -46,8 +46,8 @@ fn line_of(alloc: Global, fault: &Fault) -> Result<Page<Global>, AllocError> {
     Ok(line)
 }
 
-/// Shows a message, the payload of a netlink message, where the page ends, by these columns. Its header goes on with the line that is
-/// begun, each attribute has a line of its own, and where the message is refused its first fault the last one; that fault is returned.
+/// Adds a message, the payload of a netlink message, to a page, by these columns. The words of its header continue the line that is begun,
+/// and each attribute has a line of its own. The last line of a message that the codec refuses is its first fault, which is returned.
 pub fn outline<A: Allocator>(
     alloc: Global,
     page: &mut Page<A>,

@@ -2,14 +2,14 @@
 
 ghost use Rattle.std.specs.Prelude.{◌≡◌, ◌≤◌, length, IfSome, option_map};
 ghost use Rattle.nla_frames.specs.Fault.{seen};
-ghost use Rattle.tc_index.specs.Seen.{placed_of, items_left};
-ghost use Rattle.tc_outline.specs.Located.{own_fault, first_fault, items_of_message, message_fault};
+ghost use Rattle.tc_index.specs.Seen.{items_left};
+ghost use Rattle.tc_outline.specs.Located.{first_fault, items_of_message, message_fault};
 
-use crate::fault::{Fault, fault_of};
+use crate::fault::{Fault, error_in, fault_at};
 use crate::path::Path;
 use crate::what::What;
 use nla_frames::{DecodeError, Res};
-use tc_index::{Attribute, Attributes, BrokenFrame};
+use tc_index::{Attributes, BrokenFrame};
 
 /// The first fault of a message in the order of reading, and its place. None of a message that can be read.
 pub fn locate(bytes: &[u8], what: What) -> Option<Fault>
@@ -30,8 +30,9 @@ fn first_fault(attributes: Attributes<'_>) -> Option<Fault>
         match attribute {
             Err(broken) => return Some(broken_at(&path, broken)),
             Ok(attribute) => {
-                if let Some(fault) = step(&mut path, &attribute) {
-                    return Some(fault);
+                path.enter(&attribute);
+                if let Some(error) = error_in(&attribute) {
+                    return Some(fault_at(&attribute, &path, error));
                 }
             }
         }
@@ -72,14 +73,6 @@ fn broken_at(before: &Path, broken: BrokenFrame) -> Fault
         error: broken.fault,
         path,
     }
-}
-
-// Goes on to an attribute. Its own fault, if it has one.
-fn step(path: &mut Path, attribute: &Attribute<'_>) -> Option<Fault>
-    ensures { option_map (λ fault. fault.error) result ≡ own_fault (placed_of attribute.now) }
-{
-    path.enter(attribute);
-    fault_of(attribute, path)
 }
 
 /// The place of the attribute whose header begins at this offset, four bytes before its value; none where none does.

@@ -26,9 +26,7 @@ fn all_shown(text: &[u8]) -> bool
 {
     let mut are_shown = true;
     for byte in text {
-        if !is_shown(*byte) {
-            are_shown = false;
-        }
+        are_shown = are_shown & is_shown(*byte);
     }
     are_shown
 }
