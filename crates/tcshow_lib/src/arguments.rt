@@ -244,13 +244,13 @@ static OPTIONS: [(&str, Value, &str, &str); 19] = [
     ),
 ];
 
-fn option(
+fn option<'a>(
     alloc: Global,
-    name: &'static str,
+    name: &'a str,
     value: Value,
-    heading: &'static str,
-    help: &'static str,
-) -> Arg<'static> {
+    heading: &'a str,
+    help: &'a str,
+) -> Arg<'a> {
     let option = Arg::new(alloc, name)
         .long(name)
         .help_heading(heading)
@@ -258,7 +258,7 @@ fn option(
     with_value(option, value)
 }
 
-fn with_value(option: Arg<'static>, value: Value) -> Arg<'static> {
+fn with_value<'a>(option: Arg<'a>, value: Value) -> Arg<'a> {
     match value {
         Value::Nothing => option.action(ArgAction::SetTrue),
         Value::Text(name) => option.value_name(name).action(ArgAction::Set),
@@ -284,7 +284,7 @@ fn with_value(option: Arg<'static>, value: Value) -> Arg<'static> {
 }
 
 // The file, which may stand behind `--read` too.
-fn file(alloc: Global) -> Result<Arg<'static>, AllocError> {
+fn file<'a>(alloc: Global) -> Result<Arg<'a>, AllocError> {
     Arg::new(alloc, "FILE")
         .value_name("FILE")
         .action(ArgAction::Set)
@@ -292,11 +292,11 @@ fn file(alloc: Global) -> Result<Arg<'static>, AllocError> {
         .conflicts_with("read")
 }
 
-fn read(alloc: Global) -> Arg<'static> {
+fn read<'a>(alloc: Global) -> Arg<'a> {
     option(alloc, "read", Value::Text("FILE"), INPUT, "The same").short('r')
 }
 
-fn begun(alloc: Global, file: Arg<'static>) -> Result<Command<'static>, AllocError> {
+fn begun<'a>(alloc: Global, file: Arg<'a>) -> Result<Command<'a>, AllocError> {
     Command::new(alloc, "tcshow")
         .version("0.1.0")
         .about(ABOUT)
@@ -304,7 +304,7 @@ fn begun(alloc: Global, file: Arg<'static>) -> Result<Command<'static>, AllocErr
         .arg(file)
 }
 
-fn command(alloc: Global) -> Result<Command<'static>, AllocError> {
+fn command<'a>(alloc: Global) -> Result<Command<'a>, AllocError> {
     let forms = ArgGroup::new(alloc, "forms").args(&["oneline", "json"])?;
     let tables = ArgGroup::new(alloc, "tables").args(&["explain", "schema"])?;
     let mut command = begun(alloc, file(alloc)?)?
