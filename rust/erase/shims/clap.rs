@@ -104,6 +104,17 @@ impl<'a> Arg<'a> {
     }
 }
 
+pub struct ArgGroup<'a>(::clap::ArgGroup, PhantomData<&'a str>);
+
+impl<'a> ArgGroup<'a> {
+    pub fn new(name: &'a str) -> Self {
+        ArgGroup(::clap::ArgGroup::new(kept(name)), PhantomData)
+    }
+    pub fn args(self, names: &[&'a str]) -> Res<Self> {
+        Ok(ArgGroup(self.0.args(names.iter().map(|name| kept(name))), PhantomData))
+    }
+}
+
 pub struct Command<'a>(::clap::Command, PhantomData<&'a str>);
 
 impl<'a> Command<'a> {
@@ -121,6 +132,9 @@ impl<'a> Command<'a> {
     }
     pub fn arg(self, arg: Arg<'a>) -> Res<Self> {
         Ok(Command(self.0.arg(arg.0), PhantomData))
+    }
+    pub fn group(self, group: ArgGroup<'a>) -> Res<Self> {
+        Ok(Command(self.0.group(group.0), PhantomData))
     }
     pub fn try_get_matches_from<'w, S: AsStr>(self, words: &'w [S]) -> Result<ArgMatches<'w>, Error> {
         match self.0.try_get_matches_from(words.iter().map(AsStr::as_str)) {
