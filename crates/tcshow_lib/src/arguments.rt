@@ -251,35 +251,44 @@ fn option<'a>(
     heading: &'a str,
     help: &'a str,
 ) -> Arg<'a> {
-    let option = Arg::new(alloc, name)
-        .long(name)
-        .help_heading(heading)
-        .help(help);
-    with_value(option, value)
+    let option = described(alloc, name, heading, help).action(action_of(value));
+    with_form(with_name(option, value), value)
 }
 
-fn with_value<'a>(option: Arg<'a>, value: Value) -> Arg<'a> {
+fn described<'a>(alloc: Global, name: &'a str, heading: &'a str, help: &'a str) -> Arg<'a> {
+    Arg::new(alloc, name)
+        .long(name)
+        .help_heading(heading)
+        .help(help)
+}
+
+fn action_of(value: Value) -> ArgAction {
     match value {
-        Value::Nothing => option.action(ArgAction::SetTrue),
-        Value::Text(name) => option.value_name(name).action(ArgAction::Set),
-        Value::TextOrNothing(name) => option
-            .value_name(name)
-            .action(ArgAction::Set)
-            .num_args(0..=1)
-            .default_missing_value(""),
-        Value::Word(name, words) => option
-            .value_name(name)
-            .action(ArgAction::Set)
-            .value_parser(words),
-        Value::Texts(name) => option.value_name(name).action(ArgAction::Append),
-        Value::Numbers(name) => option
-            .value_name(name)
-            .action(ArgAction::Append)
-            .value_parser(value_parser!(u32)),
-        Value::ShortNumbers(name) => option
-            .value_name(name)
-            .action(ArgAction::Append)
-            .value_parser(value_parser!(u16)),
+        Value::Nothing => ArgAction::SetTrue,
+        Value::Text(_) | Value::TextOrNothing(_) | Value::Word(..) => ArgAction::Set,
+        Value::Texts(_) | Value::Numbers(_) | Value::ShortNumbers(_) => ArgAction::Append,
+    }
+}
+
+fn with_name<'a>(option: Arg<'a>, value: Value) -> Arg<'a> {
+    match value {
+        Value::Nothing => option,
+        Value::Text(name)
+        | Value::TextOrNothing(name)
+        | Value::Word(name, _)
+        | Value::Texts(name)
+        | Value::Numbers(name)
+        | Value::ShortNumbers(name) => option.value_name(name),
+    }
+}
+
+fn with_form<'a>(option: Arg<'a>, value: Value) -> Arg<'a> {
+    match value {
+        Value::Nothing | Value::Text(_) | Value::Texts(_) => option,
+        Value::TextOrNothing(_) => option.num_args(0..=1).default_missing_value(""),
+        Value::Word(_, words) => option.value_parser(words),
+        Value::Numbers(_) => option.value_parser(value_parser!(u32)),
+        Value::ShortNumbers(_) => option.value_parser(value_parser!(u16)),
     }
 }
 

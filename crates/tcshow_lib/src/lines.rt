@@ -261,7 +261,8 @@ impl<'a, A: Allocator + Copy> Shower<'a, A> {
         if dump.is_empty() {
             return Ok(());
         }
-        self.put_bytes(dump, self.dump_at)
+        let at = self.dump_at;
+        self.put_bytes(dump, at)
     }
 
     // Shows a line of text that is no line of a dump.
