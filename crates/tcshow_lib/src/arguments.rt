@@ -314,8 +314,10 @@ fn begun<'a>(alloc: Global, file: Arg<'a>) -> Result<Command<'a>, AllocError> {
 }
 
 fn command<'a>(alloc: Global) -> Result<Command<'a>, AllocError> {
-    let forms = ArgGroup::new(alloc, "forms").args(&["oneline", "json"])?;
-    let tables = ArgGroup::new(alloc, "tables").args(&["explain", "schema"])?;
+    let forms = ArgGroup::new(alloc, "forms").arg("oneline")?.arg("json")?;
+    let tables = ArgGroup::new(alloc, "tables")
+        .arg("explain")?
+        .arg("schema")?;
     let mut command = begun(alloc, file(alloc)?)?
         .group(forms)?
         .group(tables)?

@@ -105,8 +105,8 @@ impl<'a> ArgGroup<'a> {
     pub fn new(name: &'a str) -> Self {
         ArgGroup(::clap::ArgGroup::new(kept(name)), PhantomData)
     }
-    pub fn args(self, names: &[&'a str]) -> Res<Self> {
-        Ok(ArgGroup(self.0.args(names.iter().map(|name| kept(name))), PhantomData))
+    pub fn arg(self, name: &'a str) -> Res<Self> {
+        Ok(ArgGroup(self.0.arg(kept(name)), PhantomData))
     }
 }
 
