@@ -1,7 +1,7 @@
 -- Hex that is put behind nothing.
 use Rattle.std.proofs.Common.{◌≡◌, ◌∙◌, ℕ, Bool, true, false, List, [], refl, sym, ap}
 use Rattle.std.specs.Prelude.{Option, Some, None}
-use Rattle.tc_hex.specs.Hex.{behind, if_hex}
+use Rattle.tc_words.specs.Pasted.{behind, if_hex}
 
 behind-nil : (o : Option (List ℕ)) → behind [] o ≡ o
 unfolding behind

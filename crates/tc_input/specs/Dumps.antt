@@ -1,6 +1,6 @@
 -- The lines of a dump: a line at offset 0 begins one, and one at the offset where the bytes so far end goes on. All others are apart.
 use Rattle.std.specs.Prelude.{ℕ, List, ◌==◌, if◌then◌else◌, length, nat_lt, Option, Some, None}
-use Rattle.tc_hex.specs.Hex.{bytes_of_hex}
+use Rattle.tc_words.specs.Pasted.{bytes_of_hex}
 use Rattle.tc_input.specs.Lines.{most_line}
 use Rattle.tc_input.specs.Text.{before_comment}
 use Rattle.tc_input.specs.declared.dumps.Place.{Place as CodePlace}

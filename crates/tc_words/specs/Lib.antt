@@ -5,5 +5,6 @@ pub mod Handles
 pub mod Types
 pub mod Hex
 pub mod HexSeen
+pub mod Pasted
 pub mod Links
 pub mod LinksSeen

@@ -1,5 +1,5 @@
 -- What is found in a dump.
-use Rattle.std.proofs.Common.{◌≡◌, ◌==◌, ℕ, Bool, false, List, [], ◌∷◌, length, subst, true≢false}
+use Rattle.std.proofs.Common.{◌≡◌, ◌==◌, ℕ, false, List, [], ◌∷◌, length, subst, true≢false}
 use Rattle.std.specs.Prelude.{Option}
 use Rattle.tc_capture.specs.declared.kind.Holds.{Holds}
 use Rattle.tcshow_lib.specs.Found.{things_on_line}

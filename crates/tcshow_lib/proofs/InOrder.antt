@@ -11,7 +11,7 @@ use Rattle.tc_input.specs.declared.pieces.Gap.TheVariants.{More, Skipped, Broken
 use Rattle.tc_input.specs.Left.{Gives}
 use Rattle.tc_input.specs.Lines.{most_line, lines_left, lines_of, IsLineGap}
 use Rattle.tc_input.specs.Pieces.{found_in, pieces_left, IsGap}
-use Rattle.tc_input.specs.Text.{OnLine, on_line}
+use Rattle.tc_input.specs.Text.{OnLine}
 use Rattle.tc_input.proofs.LongLines.{long_is_apart, long_is_said}
 use Rattle.tcshow_lib.specs.Found.{Thing, hole}
 use Rattle.tcshow_lib.specs.Reading.{things_in_piece, packets_after, things_in_pieces, things_in_gap, is_passed, things_said, things_on_lines, is_hex_text}

@@ -1,5 +1,6 @@
 -- What is found in an input. The code's values have references to bytes and names; these are the same without them.
-use Rattle.std.specs.Prelude.{ℕ, Bool, true, false, List, [], ◌∷◌, Option, Some, None, Ok, Err, codes, map, option_map, ◌==◌, if◌then◌else◌}
+use Rattle.std.specs.Prelude.{ℕ, Bool, true, false, List, [], ◌∷◌, length, drop, slice_index, Option, Some, None, Ok, Err, codes, map, option_map}
+use Rattle.std.specs.Prelude.{◌==◌, ◌&&◌, nat_lt, if◌then◌else◌}
 use Rattle.tc_capture.specs.declared.kind.Holds.{Holds}
 use Rattle.tc_capture.specs.Answer.{Answer, answer_in}
 use Rattle.tc_capture.specs.Kind.{Named, rtm_at}
@@ -95,8 +96,17 @@ things_of number p = things_held number p (contents_in p.link p.bytes)
 abbrev pub nowhere : Origin
 nowhere = record { time = None; packet = None; packet_type = None }
 
+-- whether bytes begin with the cooked header of route netlink: the hardware type at 2, of two bytes and big-endian, is ARPHRD_NETLINK, 824, and
+-- the family at 14 is NETLINK_ROUTE, 0
+abbrev pub is_cooked : List ℕ → Bool
+is_cooked bytes = slice_index bytes 2 == 3 && slice_index bytes 3 == 56 && slice_index bytes 14 == 0 && slice_index bytes 15 == 0
+
+-- the messages behind a cooked header, where there is one
+abbrev pub behind_cooked : List ℕ → List ℕ
+behind_cooked bytes = if nat_lt (length bytes) 16 then bytes else if is_cooked bytes then drop 16 bytes else bytes
+
 abbrev pub things_on_line : Option Holds → List ℕ → List Thing
-things_on_line None bytes = things_in nowhere bytes
+things_on_line None bytes = things_in nowhere (behind_cooked bytes)
 things_on_line (Some holds) bytes = message (record { origin = nowhere; header = None; holds = holds; payload = bytes }) ∷ []
 
 -- ---- what the code's values say

@@ -1,7 +1,7 @@
 //! The arguments of the program.
 
 use crate::asked::Form;
-use clap::{Arg, ArgAction, ArgMatches, Command, Error, value_parser};
+use clap::{Arg, ArgAction, ArgGroup, ArgMatches, Command, Error, value_parser};
 use std::alloc::{AllocError, Global};
 use std::convert::AsStr;
 use tc_capture::Holds;
@@ -90,7 +90,7 @@ const NOTES: &str =
 A handle is one such as 1:10, ffff:, root, 800::800 or 0x1. A time is in seconds since 1970, with decimals, or 2026-11-26T14:00:00Z.
 
 Hex is a message a line, with blanks, colons and 0x among the digits and comments after #, or a dump with offsets, as xxd, tcpdump -x
-and Wireshark print it; offset 0 begins a message.
+and Wireshark print it; offset 0 begins a message. The cooked header of nlmon may stand before it.
 A packet, block or message of more than 1 MiB is skipped, with a line that says so.
 In outlines a tick is one of the packet scheduler, 64 ns as in Linux since 2.6.31; clock_t is a hundredth of a second.
 Captures of big-endian hosts can be opened, but their netlink messages, which are big-endian too, are refused.
@@ -107,173 +107,225 @@ const CHOICE: &str = "Which messages are shown";
 
 const TABLES: &str = "What there is";
 
-fn option<'a>(alloc: Global, name: &'a str, value: &'a str, help: &'a str) -> Arg<'a> {
+// What stands behind an option.
+#[derive(Clone, Copy)]
+enum Value {
+    // Nothing.
+    Nothing,
+    // A text, called so.
+    Text(&'static str),
+    // A text or nothing.
+    TextOrNothing(&'static str),
+    // One of these words.
+    Word(&'static str, &'static [&'static str]),
+    // A text, as often as the option is given.
+    Texts(&'static str),
+    // A number of 32 bits, as often.
+    Numbers(&'static str),
+    // A number of 16 bits, as often.
+    ShortNumbers(&'static str),
+}
+
+// The options: the name, what stands behind it, and what the help says below which heading.
+static OPTIONS: [(&str, Value, &str, &str); 19] = [
+    (
+        "no-header",
+        Value::Word("WHAT", &["tc", "action"]),
+        INPUT,
+        "Lines of hex are messages without a netlink header",
+    ),
+    (
+        "names",
+        Value::Text("FILE"),
+        INPUT,
+        "Names of interfaces, in lines such as '7 eth0' or those of 'ip -o link'",
+    ),
+    (
+        "oneline",
+        Value::Nothing,
+        FORMS,
+        "Show each message on one line",
+    ),
+    (
+        "json",
+        Value::Nothing,
+        FORMS,
+        "Show each message as a line of JSON",
+    ),
+    (
+        "all",
+        Value::Nothing,
+        FORMS,
+        "Show paddings in outlines too",
+    ),
+    (
+        "color",
+        Value::Word("WHEN", &["auto", "always", "never"]),
+        FORMS,
+        "Outlines in colours: auto (on a terminal, unless NO_COLOR is set), always or never",
+    ),
+    (
+        "summary",
+        Value::Nothing,
+        FORMS,
+        "Count the messages at the end",
+    ),
+    (
+        "kind",
+        Value::Texts("KIND"),
+        CHOICE,
+        "Show messages of this kind, and filters and action messages with an action of it",
+    ),
+    (
+        "type",
+        Value::Texts("TYPE"),
+        CHOICE,
+        "Show messages of this type: newtclass, RTM_NEWTCLASS, tclass for all three, or a number",
+    ),
+    (
+        "dev",
+        Value::Texts("DEV"),
+        CHOICE,
+        "Show messages of the interface with this number or name",
+    ),
+    (
+        "handle",
+        Value::Texts("HANDLE"),
+        CHOICE,
+        "Show messages with this handle",
+    ),
+    (
+        "parent",
+        Value::Texts("HANDLE"),
+        CHOICE,
+        "Show messages with this parent",
+    ),
+    (
+        "chain",
+        Value::Numbers("CHAIN"),
+        CHOICE,
+        "Show filters of this chain, and the chain",
+    ),
+    (
+        "pref",
+        Value::ShortNumbers("PREF"),
+        CHOICE,
+        "Show filters of this priority",
+    ),
+    (
+        "since",
+        Value::Text("TIME"),
+        CHOICE,
+        "Show messages captured at this time or later",
+    ),
+    (
+        "until",
+        Value::Text("TIME"),
+        CHOICE,
+        "Show messages captured at this time or earlier",
+    ),
+    (
+        "refused",
+        Value::Nothing,
+        CHOICE,
+        "Show messages that are refused, and refusals of the kernel",
+    ),
+    (
+        "explain",
+        Value::TextOrNothing("KIND"),
+        TABLES,
+        "Print the attributes of a kind: names, forms and units; without KIND all kinds",
+    ),
+    (
+        "schema",
+        Value::Nothing,
+        TABLES,
+        "Print the JSON Schema of the lines of --json",
+    ),
+];
+
+fn option<'a>(
+    alloc: Global,
+    name: &'a str,
+    value: Value,
+    heading: &'a str,
+    help: &'a str,
+) -> Arg<'a> {
+    let option = described(alloc, name, heading, help).action(action_of(value));
+    with_form(with_name(option, value), value)
+}
+
+fn described<'a>(alloc: Global, name: &'a str, heading: &'a str, help: &'a str) -> Arg<'a> {
     Arg::new(alloc, name)
         .long(name)
-        .value_name(value)
-        .action(ArgAction::Set)
+        .help_heading(heading)
         .help(help)
 }
 
-// An option that chooses messages, and can be given several times.
-fn chooses<'a>(alloc: Global, name: &'a str, value: &'a str, help: &'a str) -> Arg<'a> {
-    option(alloc, name, value, help)
-        .action(ArgAction::Append)
-        .help_heading(CHOICE)
+fn action_of(value: Value) -> ArgAction {
+    match value {
+        Value::Nothing => ArgAction::SetTrue,
+        Value::Text(_) | Value::TextOrNothing(_) | Value::Word(..) => ArgAction::Set,
+        Value::Texts(_) | Value::Numbers(_) | Value::ShortNumbers(_) => ArgAction::Append,
+    }
 }
 
-fn flag<'a>(alloc: Global, name: &'a str, help: &'a str) -> Arg<'a> {
-    Arg::new(alloc, name)
-        .long(name)
-        .action(ArgAction::SetTrue)
-        .help(help)
+fn with_name<'a>(option: Arg<'a>, value: Value) -> Arg<'a> {
+    match value {
+        Value::Nothing => option,
+        Value::Text(name)
+        | Value::TextOrNothing(name)
+        | Value::Word(name, _)
+        | Value::Texts(name)
+        | Value::Numbers(name)
+        | Value::ShortNumbers(name) => option.value_name(name),
+    }
 }
 
-// The options that say what is read.
-fn with_input<'a>(alloc: Global, command: Command<'a>) -> Result<Command<'a>, AllocError> {
-    let file = Arg::new(alloc, "FILE")
+fn with_form<'a>(option: Arg<'a>, value: Value) -> Arg<'a> {
+    match value {
+        Value::Nothing | Value::Text(_) | Value::Texts(_) => option,
+        Value::TextOrNothing(_) => option.num_args(0..=1).default_missing_value(""),
+        Value::Word(_, words) => option.value_parser(words),
+        Value::Numbers(_) => option.value_parser(value_parser!(u32)),
+        Value::ShortNumbers(_) => option.value_parser(value_parser!(u16)),
+    }
+}
+
+// The file, which may stand behind `--read` too.
+fn file<'a>(alloc: Global) -> Result<Arg<'a>, AllocError> {
+    Arg::new(alloc, "FILE")
         .value_name("FILE")
         .action(ArgAction::Set)
-        .help("Read FILE in place of standard input");
-    let read = option(alloc, "read", "FILE", "The same")
-        .short('r')
-        .help_heading(INPUT);
-    let header = option(
-        alloc,
-        "no-header",
-        "WHAT",
-        "Lines of hex are messages without a netlink header",
-    )
-    .help_heading(INPUT);
-    let names = option(
-        alloc,
-        "names",
-        "FILE",
-        "Names of interfaces, in lines such as '7 eth0' or those of 'ip -o link'",
-    )
-    .help_heading(INPUT);
-    command
-        .arg(file.conflicts_with("read")?)?
-        .arg(read)?
-        .arg(header.value_parser(["tc", "action"].as_slice()))?
-        .arg(names)
+        .help("Read FILE in place of standard input")
+        .conflicts_with("read")
 }
 
-// The options that say how messages are shown.
-fn with_forms<'a>(alloc: Global, command: Command<'a>) -> Result<Command<'a>, AllocError> {
-    let one_line = flag(alloc, "oneline", "Show each message on one line").help_heading(FORMS);
-    let json = flag(alloc, "json", "Show each message as a line of JSON").help_heading(FORMS);
-    let all = flag(alloc, "all", "Show paddings in outlines too").help_heading(FORMS);
-    let colour = option(
-        alloc,
-        "color",
-        "WHEN",
-        "Outlines in colours: auto (on a terminal, unless NO_COLOR is set), always or never",
-    )
-    .help_heading(FORMS);
-    let summary = flag(alloc, "summary", "Count the messages at the end").help_heading(FORMS);
-    command
-        .arg(one_line.conflicts_with("json")?)?
-        .arg(json)?
-        .arg(all)?
-        .arg(colour.value_parser(["auto", "always", "never"].as_slice()))?
-        .arg(summary)
+fn read<'a>(alloc: Global) -> Arg<'a> {
+    option(alloc, "read", Value::Text("FILE"), INPUT, "The same").short('r')
 }
 
-// The options that choose messages by what they are of.
-fn with_choice<'a>(alloc: Global, command: Command<'a>) -> Result<Command<'a>, AllocError> {
-    let kind = chooses(
-        alloc,
-        "kind",
-        "KIND",
-        "Show messages of this kind, and filters and action messages with an action of it",
-    );
-    let rtm = chooses(
-        alloc,
-        "type",
-        "TYPE",
-        "Show messages of this type: newtclass, RTM_NEWTCLASS, tclass for all three, or a number",
-    );
-    let interface = chooses(
-        alloc,
-        "dev",
-        "DEV",
-        "Show messages of the interface with this number or name",
-    );
-    command.arg(kind)?.arg(rtm)?.arg(interface)
-}
-
-// The options that choose messages by where they belong.
-fn with_places<'a>(alloc: Global, command: Command<'a>) -> Result<Command<'a>, AllocError> {
-    let handle = chooses(alloc, "handle", "HANDLE", "Show messages with this handle");
-    let parent = chooses(alloc, "parent", "HANDLE", "Show messages with this parent");
-    let chain = chooses(
-        alloc,
-        "chain",
-        "CHAIN",
-        "Show filters of this chain, and the chain",
-    );
-    let pref = chooses(alloc, "pref", "PREF", "Show filters of this priority");
-    command
-        .arg(handle)?
-        .arg(parent)?
-        .arg(chain.value_parser(value_parser!(u32)))?
-        .arg(pref.value_parser(value_parser!(u16)))
-}
-
-// The options that choose messages by when they were captured, and by whether they are refused.
-fn with_times<'a>(alloc: Global, command: Command<'a>) -> Result<Command<'a>, AllocError> {
-    let since = option(
-        alloc,
-        "since",
-        "TIME",
-        "Show messages captured at this time or later",
-    )
-    .help_heading(CHOICE);
-    let until = option(
-        alloc,
-        "until",
-        "TIME",
-        "Show messages captured at this time or earlier",
-    )
-    .help_heading(CHOICE);
-    let refused = flag(
-        alloc,
-        "refused",
-        "Show messages that are refused, and refusals of the kernel",
-    )
-    .help_heading(CHOICE);
-    command.arg(since)?.arg(until)?.arg(refused)
-}
-
-// The options that print what is known of messages.
-fn with_tables<'a>(alloc: Global, command: Command<'a>) -> Result<Command<'a>, AllocError> {
-    let explain = option(
-        alloc,
-        "explain",
-        "KIND",
-        "Print the attributes of a kind: names, forms and units; without KIND all kinds",
-    )
-    .num_args(0..=1)
-    .default_missing_value("")
-    .help_heading(TABLES);
-    let schema = flag(
-        alloc,
-        "schema",
-        "Print the JSON Schema of the lines of --json",
-    )
-    .help_heading(TABLES);
-    command.arg(explain.conflicts_with("schema")?)?.arg(schema)
+fn begun<'a>(alloc: Global, file: Arg<'a>) -> Result<Command<'a>, AllocError> {
+    Command::new(alloc, "tcshow")
+        .version("0.1.0")
+        .about(ABOUT)
+        .after_help(NOTES)
+        .arg(file)
 }
 
 fn command<'a>(alloc: Global) -> Result<Command<'a>, AllocError> {
-    let command = Command::new(alloc, "tcshow")
-        .version("0.1.0")
-        .about(ABOUT)
-        .after_help(NOTES);
-    let command = with_forms(alloc, with_input(alloc, command)?)?;
-    let command = with_places(alloc, with_choice(alloc, command)?)?;
-    with_tables(alloc, with_times(alloc, command)?)
+    let forms = ArgGroup::new(alloc, "forms").arg("oneline")?.arg("json")?;
+    let tables = ArgGroup::new(alloc, "tables")
+        .arg("explain")?
+        .arg("schema")?;
+    let mut command = begun(alloc, file(alloc)?)?
+        .group(forms)?
+        .group(tables)?
+        .arg(read(alloc))?;
+    for (name, value, heading, help) in &OPTIONS {
+        command = command.arg(option(alloc, *name, *value, *heading, *help))?;
+    }
+    Ok(command)
 }
 
 fn form_of(matches: &ArgMatches<'_>) -> Form {

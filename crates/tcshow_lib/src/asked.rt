@@ -1,5 +1,6 @@
 //! What is asked for.
 
+use crate::arguments::Request;
 use tc_capture::Holds;
 use tc_chosen::Chosen;
 use tc_outline::Interfaces;
@@ -30,4 +31,22 @@ pub struct Asked<'a> {
     pub names: Interfaces<'a>,
     /// True if the messages are counted at the end.
     pub has_summary: bool,
+}
+
+impl<'a> Asked<'a> {
+    /// What a request asks for, where it chooses these messages, and interfaces have these names.
+    pub fn of_request(
+        request: &Request<'_>,
+        chosen: Chosen<'a>,
+        names: &'a [(u32, &'a str)],
+    ) -> Asked<'a> {
+        Asked {
+            form: request.form,
+            without_header: request.without_header,
+            chosen,
+            all: request.all,
+            names: Interfaces { names },
+            has_summary: request.has_summary,
+        }
+    }
 }

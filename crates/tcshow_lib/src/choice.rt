@@ -39,7 +39,7 @@ impl<'a> From<AllocError> for NoChoice<'a> {
 }
 
 impl<'a> NoChoice<'a> {
-    /// What is said of it: the word, and what there is.
+    /// The complaint about it: the word that isn't known, and the words that are.
     pub fn text(&self, alloc: Global) -> Result<String, fmt::Error> {
         let mut text = String::new(alloc);
         match *self {

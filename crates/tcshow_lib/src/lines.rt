@@ -3,7 +3,7 @@
 ghost use Rattle.std.specs.Prelude.{◌≡◌, false, List, Some, [], take, length, ◌≤◌, OnOk, IfOk};
 ghost use Rattle.tc_input.specs.Left.{rest_of, left_of, Gives};
 ghost use Rattle.tc_input.specs.Lines.{HasNoFeed};
-ghost use Rattle.tcshow_lib.specs.Found.{Thing};
+ghost use Rattle.tcshow_lib.specs.Found.{Thing, is_cooked, behind_cooked};
 ghost use Rattle.tcshow_lib.specs.Reading.{is_hex_text, is_hex_digit, is_blank, things_at, dump_after, text_left, GivesUpTo};
 ghost use Rattle.tcshow_lib.specs.State.{state_of, Progress, Puts};
 ghost use Rattle.tcshow_lib.specs.Writing.{GrowsClean};
@@ -37,6 +37,29 @@ fn is_blank(byte: u8) -> bool
     ensures { result ≡ is_blank byte }
 {
     matches!(byte, b' ' | b'\t' | b'\r' | b'#' | b'\n')
+}
+
+// True of bytes that begin with the cooked header of route netlink, as frames of nlmon do.
+fn is_cooked(bytes: &[u8]) -> bool
+    requires { 16 ≤ length bytes.now }
+    ensures { result ≡ is_cooked bytes.now }
+{
+    bytes[2] == 3 && bytes[3] == 0x38 && bytes[14] == 0 && bytes[15] == 0
+}
+
+// The messages behind a cooked header, where there is one.
+fn behind_cooked(bytes: &[u8]) -> &[u8]
+    ensures { result.now ≡ behind_cooked bytes.now }
+{
+    if bytes.len() < 16 {
+        return bytes;
+    }
+    if is_cooked(bytes) {
+        let (_, rest) = bytes.split_at(16);
+        rest
+    } else {
+        bytes
+    }
 }
 
 /// Shows lines of hex to their end.
@@ -153,7 +176,7 @@ impl<'a, A: Allocator + Copy> Shower<'a, A> {
             ++ things_dumped (state_of self.old).header (dump_after dump.old.items line.now)) (state_of self.old) (state_of self.new)) }
     {
         self.put_text(dump, line, at)?;
-        self.put_dump(dump.as_slice(), at)
+        self.put_dump(dump.as_slice())
     }
 
     // Shows a line of text, behind the bytes of a dump.
@@ -189,7 +212,7 @@ impl<'a, A: Allocator + Copy> Shower<'a, A> {
         }
     }
 
-    // Shows a dump that ends where another begins with these bytes.
+    // Shows a dump that ends where another begins with these bytes, at this place of the input.
     fn put_begun(
         &mut self,
         dump: &mut Vec<u8, A>,
@@ -200,8 +223,9 @@ impl<'a, A: Allocator + Copy> Shower<'a, A> {
         ensures dump { OnOk result (dump.new.items ≡ bytes.items) }
         ensures put { OnOk result (Puts (things_dumped (state_of self.old).header dump.old.items) (state_of self.old) (state_of self.new)) }
     {
-        self.put_dump(dump.as_slice(), at)?;
+        self.put_dump(dump.as_slice())?;
         *dump = bytes;
+        self.dump_at = at;
         Ok(())
     }
 
@@ -212,7 +236,7 @@ impl<'a, A: Allocator + Copy> Shower<'a, A> {
         ensures put { OnOk result (Puts (things_dumped (state_of self.old).header dump.old.items
             ++ things_said (state_of self.old).header (on_line line.now)) (state_of self.old) (state_of self.new)) }
     {
-        self.put_dump(dump.as_slice(), at)?;
+        self.put_dump(dump.as_slice())?;
         dump.clear();
         self.put_alone(line, at)
     }
@@ -224,19 +248,20 @@ impl<'a, A: Allocator + Copy> Shower<'a, A> {
         ensures put { OnOk result (Puts (things_dumped (state_of self.old).header dump.old.items ++ (hole false ∷ []))
             (state_of self.old) (state_of self.new)) }
     {
-        self.put_dump(dump.as_slice(), at)?;
+        self.put_dump(dump.as_slice())?;
         dump.clear();
         self.put_hole(Notice::Skipped(length), at)
     }
 
     // Shows what a dump has.
-    fn put_dump(&mut self, dump: &[u8], at: u64) -> Result<(), AllocError>
+    fn put_dump(&mut self, dump: &[u8]) -> Result<(), AllocError>
         ensures form { self.new.output.is_json ≡ self.old.output.is_json }
         ensures put { OnOk result (Puts (things_dumped (state_of self.old).header dump.now) (state_of self.old) (state_of self.new)) }
     {
         if dump.is_empty() {
             return Ok(());
         }
+        let at = self.dump_at;
         self.put_bytes(dump, at)
     }
 
@@ -259,7 +284,7 @@ impl<'a, A: Allocator + Copy> Shower<'a, A> {
         ensures put { OnOk result (Puts (things_on_line self.old.asked.now.without_header bytes.now) (state_of self.old) (state_of self.new)) }
     {
         match self.asked.without_header {
-            None => self.put_messages(NOWHERE, bytes, true, at),
+            None => self.put_messages(NOWHERE, behind_cooked(bytes), true, at),
             Some(holds) => self.put_message(&Found::alone(holds, bytes)),
         }
     }

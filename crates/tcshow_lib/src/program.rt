@@ -23,7 +23,6 @@ use std::rt::{Env, Files};
 use std::{env, fs};
 use tc_chosen::Chosen;
 use tc_colours::Coloured;
-use tc_outline::Interfaces;
 use tc_streams::{complain, write_all};
 use tc_words::LINK_FORMS;
 
@@ -164,14 +163,7 @@ fn show_chosen<R: AllocGlobal + Files + Input + Print, E: Write>(
     chosen: Chosen<'_>,
     errors: &mut E,
 ) -> u8 {
-    let asked = Asked {
-        form: request.form,
-        all: request.all,
-        without_header: request.without_header,
-        chosen,
-        names: Interfaces { names },
-        has_summary: request.has_summary,
-    };
+    let asked = Asked::of_request(request, chosen, names);
     let mut writer = io::writer(rt);
     if request.in_colours {
         let mut writer = Coloured::new(rt.alloc(), writer);

@@ -34,6 +34,8 @@ pub(crate) struct Shower<'a, A: Allocator> {
     pub(crate) counts: Counts,
     /// The names of interfaces that were told.
     pub(crate) links: Links,
+    /// Where the dump that is read began in the input, in bytes.
+    pub(crate) dump_at: u64,
     summary: Summary,
 }
 
@@ -63,6 +65,7 @@ impl<'a, A: Allocator + Copy> Shower<'a, A> {
             output: Output::new(alloc, is_json(asked.form)),
             counts: Counts::default(),
             links: Links::new(json),
+            dump_at: 0,
             summary: Summary::new(json),
         }
     }

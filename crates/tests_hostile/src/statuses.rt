@@ -15,7 +15,7 @@ struct Row {
 }
 
 // Each status in each mode.
-static ROWS: [Row; 6] = [
+static ROWS: [Row; 7] = [
     Row {
         mode: Mode::Tc,
         text: "0000000000000000000000000000000000000000",
@@ -44,6 +44,12 @@ static ROWS: [Row; 6] = [
         mode: Mode::Action,
         text: "000000000800010004000100",
         report: "refused MissingKind\n",
+        status: 1,
+    },
+    Row {
+        mode: Mode::Action,
+        text: "00000000200001001c000100080001006e617400080001006e6174000500030000000000",
+        report: "refused DuplicateKind\n",
         status: 1,
     },
     Row {

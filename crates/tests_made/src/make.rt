@@ -1,6 +1,7 @@
 //! Runs of `tcmake`.
 
 mod complaints;
+mod dumps;
 mod packets;
 mod rows;
 mod runs;

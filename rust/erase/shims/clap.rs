@@ -59,41 +59,36 @@ fn kept(text: &str) -> &'static str {
     Box::leak(text.into())
 }
 
+// The calls that take a text.
+macro_rules! texts {
+    ($($name:ident)*) => {$(
+        pub fn $name(self, text: &'a str) -> Self {
+            self.with(|it| it.$name(kept(text)))
+        }
+    )*};
+}
+
 pub struct Arg<'a>(::clap::Arg, PhantomData<&'a str>);
 
 impl<'a> Arg<'a> {
     fn with(self, f: impl FnOnce(::clap::Arg) -> ::clap::Arg) -> Self {
         Arg(f(self.0), PhantomData)
     }
+    texts!(long value_name help help_heading default_missing_value);
     pub fn new(name: &'a str) -> Self {
         Arg(::clap::Arg::new(kept(name)), PhantomData)
-    }
-    pub fn long(self, name: &'a str) -> Self {
-        self.with(|it| it.long(kept(name)))
     }
     pub fn short(self, letter: char) -> Self {
         self.with(|it| it.short(letter))
     }
-    pub fn value_name(self, name: &'a str) -> Self {
-        self.with(|it| it.value_name(kept(name)))
-    }
     pub fn action(self, action: ArgAction) -> Self {
         self.with(|it| it.action(action))
-    }
-    pub fn help(self, text: &'a str) -> Self {
-        self.with(|it| it.help(kept(text)))
     }
     pub fn value_parser(self, parser: impl Into<builder::ValueParser>) -> Self {
         self.with(|it| it.value_parser(parser.into().0))
     }
-    pub fn help_heading(self, text: &'a str) -> Self {
-        self.with(|it| it.help_heading(kept(text)))
-    }
     pub fn num_args(self, range: std::ops::RangeInclusive<usize>) -> Self {
         self.with(|it| it.num_args(range))
-    }
-    pub fn default_missing_value(self, word: &'a str) -> Self {
-        self.with(|it| it.default_missing_value(kept(word)))
     }
     pub fn requires_arg(self, name: &'a str) -> Res<Self> {
         Ok(self.with(|it| it.requires(kept(name))))
@@ -104,23 +99,32 @@ impl<'a> Arg<'a> {
     }
 }
 
+pub struct ArgGroup<'a>(::clap::ArgGroup, PhantomData<&'a str>);
+
+impl<'a> ArgGroup<'a> {
+    pub fn new(name: &'a str) -> Self {
+        ArgGroup(::clap::ArgGroup::new(kept(name)), PhantomData)
+    }
+    pub fn arg(self, name: &'a str) -> Res<Self> {
+        Ok(ArgGroup(self.0.arg(kept(name)), PhantomData))
+    }
+}
+
 pub struct Command<'a>(::clap::Command, PhantomData<&'a str>);
 
 impl<'a> Command<'a> {
     pub fn new(name: &'a str) -> Self {
         Command(::clap::Command::new(kept(name)), PhantomData)
     }
-    pub fn version(self, text: &'a str) -> Self {
-        Command(self.0.version(kept(text)), PhantomData)
+    fn with(self, f: impl FnOnce(::clap::Command) -> ::clap::Command) -> Self {
+        Command(f(self.0), PhantomData)
     }
-    pub fn about(self, text: &'a str) -> Self {
-        Command(self.0.about(kept(text)), PhantomData)
-    }
-    pub fn after_help(self, text: &'a str) -> Self {
-        Command(self.0.after_help(kept(text)), PhantomData)
-    }
+    texts!(version about after_help);
     pub fn arg(self, arg: Arg<'a>) -> Res<Self> {
         Ok(Command(self.0.arg(arg.0), PhantomData))
+    }
+    pub fn group(self, group: ArgGroup<'a>) -> Res<Self> {
+        Ok(Command(self.0.group(group.0), PhantomData))
     }
     pub fn try_get_matches_from<'w, S: AsStr>(self, words: &'w [S]) -> Result<ArgMatches<'w>, Error> {
         match self.0.try_get_matches_from(words.iter().map(AsStr::as_str)) {

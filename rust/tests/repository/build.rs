@@ -9,12 +9,9 @@ const TESTS: &[&str] = &[
     "tests_calls",
     "tests_parts",
     "tc_vectors",
-    "tests_texts",
-    "tests_capture",
+    "tests_input",
     "tests_forms",
     "tests_units",
-    "tests_words",
-    "tests_hex",
     "tests_lines",
     "tests_colours",
 ];

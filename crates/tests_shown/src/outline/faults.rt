@@ -27,7 +27,12 @@ fn is_located(alloc: Global, input: &Input) -> bool {
 }
 
 fn are_located(alloc: Global, inputs: &[Input]) -> bool {
-    inputs.iter().all(|input| is_located(alloc, input))
+    for input in inputs {
+        if !is_located(alloc, input) {
+            return false;
+        }
+    }
+    true
 }
 
 #[test]

@@ -4,7 +4,7 @@
 use tc_columns::Root;
 
 /// A message in hex, and its lines.
-#[derive(Drop)]
+#[derive(Clone, Copy)]
 pub(crate) struct Shown {
     pub root: Root,
     pub hex: &'static str,
@@ -12,7 +12,7 @@ pub(crate) struct Shown {
 }
 
 /// A qdisc as Linux dumps it.
-pub(crate) const FQ_CODEL: Shown = Shown {
+pub(crate) static FQ_CODEL: Shown = Shown {
     root: Root::Qdisc,
     hex: "000000000700000000000180ffffffff020000000d00010066715f636f64656c00000000440002000800010087130000\
 0800020000280000080003009f860100080004000100000008000600ea05000008000800400000000800090000000002\
@@ -77,7 +77,7 @@ pub(crate) const FQ_CODEL: Shown = Shown {
 };
 
 /// A u32 filter with an action, as tc sends it.
-pub(crate) const U32: Shown = Shown {
+pub(crate) static U32: Shown = Shown {
     root: Root::U32Filter,
     hex: "0000000003000000000000000000010008000e0008000100753332006000020038000700340001000b0001006d697272\
 656400002400028020000200000000000000000004000000000000000000000001000000040000002400050001000100\
@@ -113,7 +113,7 @@ pub(crate) const U32: Shown = Shown {
 };
 
 /// A flower filter with two actions, as tc sends it.
-pub(crate) const TWO_ACTIONS: Shown = Shown {
+pub(crate) static TWO_ACTIONS: Shown = Shown {
     root: Root::Filter,
     hex: "000000000300000000000000f2ffffff080059020b000100666c6f7765720000a4000200050009000600000008000c00\
 0a08000108000d00ffffffff78000300340001000b0001006d6972726564000024000280200002000000000000000000\
@@ -158,7 +158,7 @@ pub(crate) const TWO_ACTIONS: Shown = Shown {
 };
 
 /// A flower filter on label stack entries.
-pub(crate) const MPLS: Shown = Shown {
+pub(crate) static MPLS: Shown = Shown {
     root: Root::Filter,
     hex: "000000000700000028000000f2ffffff884728000b000100666c6f776572000008000b00000000002801020006000800\
 884700004c0063802c000180050001000100000005000200ff0000000500030000000000050004000100000008000500\
@@ -224,7 +224,7 @@ ffffff00010000000400030024000200000000000000000000000000000000000000000000000000
 };
 
 /// A u32 filter with a tunnel, as Linux announces it.
-pub(crate) const TUNNEL_KEY: Shown = Shown {
+pub(crate) static TUNNEL_KEY: Shown = Shown {
     root: Root::U32Filter,
     hex: "000000000700000000086080f3ffffff08003f01080001007533320008000b00000000004c0102002400050001000100\
 000000000000000000000000ffffffff0a0900130c00000000000000080002000000608008000b0008000000f4000700\
@@ -296,7 +296,7 @@ f00001000f00010074756e6e656c5f6b657900005000040004000600140001000000000000000000
 };
 
 /// An action as tc sends it.
-pub(crate) const NAT: Shown = Shown {
+pub(crate) static NAT: Shown = Shown {
     root: Root::Action,
     hex: "000000003c00010038000100080001006e6174002c000280280001000000000000000000020000000000000000000000\
 0a0000000b000000ffffff0001000000",
@@ -320,7 +320,7 @@ pub(crate) const NAT: Shown = Shown {
 };
 
 /// A dump of actions.
-pub(crate) const ACTIONS: Shown = Shown {
+pub(crate) static ACTIONS: Shown = Shown {
     root: Root::Action,
     hex: "0000000008000300020000007c010100b80000000b0001006d6972726564000004000500500004000400060014000100\
 000000000000000000000000000000000400060014000700000000000000000000000000000000000400060018000300\
@@ -402,7 +402,7 @@ pub(crate) const ACTIONS: Shown = Shown {
 };
 
 /// Options that are no attributes, with both flags, unknown types, and a known one with flags that are not written.
-pub(crate) const UNKNOWN_KIND: Shown = Shown {
+pub(crate) static UNKNOWN_KIND: Shown = Shown {
     root: Root::Qdisc,
     hex: "000000000200000000000100ffffffff020000000800010068746200080002c0010203040600634011ee000004000900\
 08000b80070000000400638004000a0005000a0001000000",
@@ -422,7 +422,7 @@ pub(crate) const UNKNOWN_KIND: Shown = Shown {
 };
 
 /// Texts with control bytes, quotes and letters that are not ASCII; bytes that are no text.
-pub(crate) const HOSTILE: Shown = Shown {
+pub(crate) static HOSTILE: Shown = Shown {
     root: Root::Filter,
     hex: "0a000000feffffff010000000000ffff00030a000b000100666c6f776572000018000200140002001b5b33316d225c0a\
 c3a97fc29b2000000b0005001b5b48ff00410a00",
@@ -439,7 +439,7 @@ c3a97fc29b2000000b0005001b5b48ff00410a00",
 };
 
 /// A class, with its leaf, a kind without a NUL, and statistics that are too short.
-pub(crate) const CLASS: Shown = Shown {
+pub(crate) static CLASS: Shown = Shown {
     root: Root::Class,
     hex: "00000000090000000500010000000100000012a00800010068667363090004000102030405000000",
     lines: &[

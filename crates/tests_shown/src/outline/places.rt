@@ -1,8 +1,10 @@
 //! Refused messages: the fault, its numbers and its place.
 
+use std::alloc::Global;
+use std::str;
 use std::test::Fail;
 use tc_columns::{KindColumns, Root};
-use tc_outline::{Layout, Page, What, locate, outline};
+use tc_outline::{Fault, Layout, Page, What, locate, outline};
 
 // What a message speaks of, its bytes in hex, and its last line.
 static REFUSED: [(What, &str, &str); 18] = [
@@ -139,26 +141,39 @@ fn root_of(what: What) -> Root {
     }
 }
 
+// True if a page ends with this line.
+fn ends_with(page: &[u8], last: &str) -> bool {
+    match str::from_utf8(page) {
+        Ok(text) => last_line(text) == last,
+        Err(_) => false,
+    }
+}
+
+// True if the fault of a message is found where it is shown.
+fn is_found(bytes: &[u8], what: What, shown: Option<Fault>) -> bool {
+    match (locate(bytes, what), shown) {
+        (Some(found), Some(shown)) => found.offset == shown.offset && found.error == shown.error,
+        _ => false,
+    }
+}
+
+// True if this is the last line of a message that is refused.
+fn is_refused(alloc: Global, what: What, digits: &str, last: &str) -> Result<bool, Fail> {
+    let bytes = hex::decode(alloc, digits.as_bytes())?;
+    let mut page = Page::new(alloc, Layout::Lines);
+    let columns = KindColumns {
+        root: root_of(what),
+        interfaces: &[],
+        all: false,
+    };
+    let fault = outline(alloc, &mut page, &bytes, columns)?;
+    Ok(ends_with(page.bytes(), last) && is_found(&bytes, what, fault))
+}
+
 #[test]
 fn refused_messages(rt: HostRuntime) -> Result<(), Fail> {
-    let alloc = rt.alloc();
-    for (what, digits, last) in REFUSED {
-        let bytes = hex::decode(alloc, digits.as_bytes())?;
-        let mut page = Page::new(alloc, Layout::Lines);
-        let columns = KindColumns {
-            root: root_of(what),
-            interfaces: &[],
-            all: false,
-        };
-        let fault = outline(alloc, &mut page, &bytes, columns)?;
-        let text = std::str::from_utf8(page.bytes())
-            .ok()
-            .ok_or("a page is text")?;
-        assert_eq!(rt; last_line(text), last);
-        let shown = fault.ok_or("it is refused")?;
-        let found = locate(&bytes, what).ok_or("it has a fault")?;
-        assert_eq!(rt; found.offset, shown.offset);
-        assert!(rt; found.error == shown.error);
+    for (what, digits, last) in &REFUSED {
+        assert!(rt; is_refused(rt.alloc(), *what, digits, last)?, "{last}");
     }
     Ok(())
 }

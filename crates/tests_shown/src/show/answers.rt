@@ -1,13 +1,13 @@
 //! Answers of the kernel to requests.
 
-use crate::show::runs::{all_in, chosen_in, shown};
+use crate::show::runs::{all_in, chosen_in, gives};
 use std::test::Fail;
 use tc_chosen::Chosen;
 use tcshow_lib::asked::Form;
 
 // pcap, a packet for each: EINVAL of a request, with a text and a place, from the port 77, of packet type 7; the same, capped; an
 // acknowledgement; EEXIST of a request for links; NLMSG_DONE; an error 777 of a request that is cut.
-const ANSWERS: &str =
+static ANSWERS: &str =
     "d4c3b2a102000400000000000000000000001000fd00000000f1536540e20100980000009800000000070338000000000000\
      00000000000088000000020000029b0000004d000000eaffffff500000002c0000069b000000000000000000000003000000\
      00000000f2ffffff080059020b000100666c6f77657200002000020005000900060000001400030010000100090001006761\
@@ -86,12 +86,10 @@ fn answers(rt: HostRuntime) -> Result<(), Fail> {
     let capture = hex::decode(alloc, ANSWERS)?;
     let mut asked = all_in(Form::Lines);
     asked.has_summary = true;
-    let run = shown(alloc, &asked, &capture);
-    assert!(rt; run.status == 0 && run.written.as_slice() == LINES.as_bytes());
-    let run = shown(alloc, &all_in(Form::Json), &capture);
-    assert!(rt; run.status == 0 && run.written.as_slice() == JSON.as_bytes());
+    assert!(rt; gives(alloc, &asked, &capture, 0, LINES.as_bytes(), ""));
+    let asked = all_in(Form::Json);
+    assert!(rt; gives(alloc, &asked, &capture, 0, JSON.as_bytes(), ""));
     let asked = chosen_in(Form::OneLine, refused_flower());
-    let run = shown(alloc, &asked, &capture);
-    assert!(rt; run.status == 0 && run.written.as_slice() == ONE_LINE.as_bytes());
+    assert!(rt; gives(alloc, &asked, &capture, 0, ONE_LINE.as_bytes(), ""));
     Ok(())
 }

@@ -7,24 +7,45 @@ use tc_capture::Holds;
 use tcshow_lib::arguments::{Request, Task, request_of};
 use tcshow_lib::asked::Form;
 
-fn request<'a>(alloc: Global, words: &'a [&'a str]) -> Result<Request<'a>, Error> {
-    request_of(alloc, words)
+// True if a request has what stands without words: how messages are shown, and which are.
+fn is_default(request: &Request<'_>) -> bool {
+    request.form == Form::Lines
+        && request.file.is_none()
+        && request.names.is_none()
+        && request.without_header.is_none()
+        && !request.has_summary
+        && request.task == Task::Show
 }
 
-#[test]
-fn each_option(rt: HostRuntime) -> Result<(), Fail> {
-    let alloc = rt.alloc();
-    let none = request(alloc, &["tcshow"])?;
-    assert!(rt; none.form == Form::Lines && none.file.is_none() && none.names.is_none());
-    assert!(rt; none.without_header.is_none() && !none.has_summary && none.kinds.is_empty());
-    assert!(rt; none.types.is_empty() && none.interfaces.is_empty() && none.task == Task::Show);
-    assert!(rt; none.since.is_none() && none.until.is_none() && !none.refused);
+fn chooses_all(request: &Request<'_>) -> bool {
+    request.kinds.is_empty()
+        && request.types.is_empty()
+        && request.interfaces.is_empty()
+        && request.since.is_none()
+        && request.until.is_none()
+        && !request.refused
+}
+
+// Each of these says whether words are taken as what they say.
+fn no_words(alloc: Global) -> Result<bool, Error> {
+    let request = request_of(alloc, &["tcshow"])?;
+    Ok(is_default(&request) && chooses_all(&request))
+}
+
+fn files_and_kinds(alloc: Global) -> Result<bool, Error> {
     let words = [
         "tcshow", "-r", "a", "--json", "--names", "b", "--kind", "u32",
     ];
-    let some = request(alloc, &words)?;
-    assert!(rt; some.form == Form::Json && some.file == Some("a") && some.names == Some("b"));
-    assert!(rt; some.kinds.as_slice() == ["u32"].as_slice());
+    let request = request_of(alloc, &words)?;
+    Ok(
+        request.form == Form::Json
+            && request.file == Some("a")
+            && request.names == Some("b")
+            && request.kinds.as_slice() == ["u32"].as_slice(),
+    )
+}
+
+fn types_and_interfaces(alloc: Global) -> Result<bool, Error> {
     let words = [
         "tcshow",
         "--oneline",
@@ -35,44 +56,81 @@ fn each_option(rt: HostRuntime) -> Result<(), Fail> {
         "--no-header",
         "tc",
     ];
-    let other = request(alloc, &words)?;
-    assert!(rt;
-        other.form == Form::OneLine && other.types.as_slice() == ["RTM_NEWQDISC"].as_slice()
-    );
-    assert!(rt;
-        other.interfaces.as_slice() == ["7"].as_slice() && other.without_header == Some(Holds::Tc)
-    );
+    let request = request_of(alloc, &words)?;
+    Ok(
+        request.form == Form::OneLine
+            && request.types.as_slice() == ["RTM_NEWQDISC"].as_slice()
+            && request.interfaces.as_slice() == ["7"].as_slice()
+            && request.without_header == Some(Holds::Tc),
+    )
+}
+
+fn a_summary(alloc: Global) -> Result<bool, Error> {
     let words = ["tcshow", "--no-header", "action", "--summary"];
-    let last = request(alloc, &words)?;
-    assert!(rt; last.without_header == Some(Holds::Action) && last.has_summary);
+    let request = request_of(alloc, &words)?;
+    Ok(request.without_header == Some(Holds::Action) && request.has_summary)
+}
+
+fn times(alloc: Global) -> Result<bool, Error> {
     let words = ["tcshow", "a", "--refused", "--since", "1", "--until", "2"];
-    let file = request(alloc, &words)?;
-    assert!(rt; file.file == Some("a") && file.refused);
-    assert!(rt; file.since == Some("1") && file.until == Some("2"));
+    let request = request_of(alloc, &words)?;
+    Ok(
+        request.file == Some("a")
+            && request.refused
+            && request.since == Some("1")
+            && request.until == Some("2"),
+    )
+}
+
+fn places(alloc: Global) -> Result<bool, Error> {
     let words = [
         "tcshow", "--chain", "0", "--chain", "7", "--pref", "49152", "--handle", "1:", "--parent",
         "2:",
     ];
-    let places = request(alloc, &words)?;
-    assert!(rt;
-        places.chains.as_slice() == [0, 7].as_slice()
-            && places.priorities.as_slice() == [49152].as_slice()
-    );
-    assert!(rt;
-        places.handles.as_slice() == ["1:"].as_slice()
-            && places.parents.as_slice() == ["2:"].as_slice()
-    );
-    assert!(rt; request(alloc, &["tcshow", "--schema"])?.task == Task::Schema);
-    assert!(rt; request(alloc, &["tcshow", "--explain"])?.task == Task::Explain(None));
-    assert!(rt;
-        request(alloc, &["tcshow", "--explain", "htb"])?.task == Task::Explain(Some("htb"))
-    );
+    let request = request_of(alloc, &words)?;
+    Ok(
+        request.chains.as_slice() == [0, 7].as_slice()
+            && request.priorities.as_slice() == [49152].as_slice()
+            && request.handles.as_slice() == ["1:"].as_slice()
+            && request.parents.as_slice() == ["2:"].as_slice(),
+    )
+}
+
+fn asks_for(alloc: Global, words: &[&str], task: Task<'_>) -> Result<bool, Error> {
+    let request = request_of(alloc, words)?;
+    Ok(request.task == task)
+}
+
+#[test]
+fn each_option(rt: HostRuntime) -> Result<(), Fail> {
+    let alloc = rt.alloc();
+    assert!(rt; no_words(alloc)?);
+    assert!(rt; files_and_kinds(alloc)?);
+    assert!(rt; types_and_interfaces(alloc)?);
+    assert!(rt; a_summary(alloc)?);
+    assert!(rt; times(alloc)?);
+    assert!(rt; places(alloc)?);
+    assert!(rt; asks_for(alloc, &["tcshow", "--schema"], Task::Schema)?);
+    assert!(rt; asks_for(alloc, &["tcshow", "--explain"], Task::Explain(None))?);
+    let kind = Task::Explain(Some("htb"));
+    assert!(rt; asks_for(alloc, &["tcshow", "--explain", "htb"], kind)?);
     Ok(())
 }
 
-// The status of words that aren't taken.
+// Words that aren't taken, and the status.
+static OTHERS: [(&[&str], i32); 8] = [
+    (&["tcshow", "--help"], 0),
+    (&["tcshow", "--version"], 0),
+    (&["tcshow", "a", "b"], 2),
+    (&["tcshow", "a", "--read", "a"], 2),
+    (&["tcshow", "--pref", "65536"], 2),
+    (&["tcshow", "--schema", "--explain"], 2),
+    (&["tcshow", "--json", "--oneline"], 2),
+    (&["tcshow", "--no-header", "qdisc"], 2),
+];
+
 fn status_of(alloc: Global, words: &[&str]) -> i32 {
-    match request(alloc, words) {
+    match request_of(alloc, words) {
         Ok(_) => 9,
         Err(error) => error.exit_code(),
     }
@@ -80,13 +138,7 @@ fn status_of(alloc: Global, words: &[&str]) -> i32 {
 
 #[test]
 fn other_words(rt: HostRuntime) {
-    let alloc = rt.alloc();
-    assert!(rt; status_of(alloc, &["tcshow", "--help"]) == 0);
-    assert!(rt; status_of(alloc, &["tcshow", "--version"]) == 0);
-    assert!(rt; status_of(alloc, &["tcshow", "a", "b"]) == 2);
-    assert!(rt; status_of(alloc, &["tcshow", "a", "--read", "a"]) == 2);
-    assert!(rt; status_of(alloc, &["tcshow", "--pref", "65536"]) == 2);
-    assert!(rt; status_of(alloc, &["tcshow", "--schema", "--explain"]) == 2);
-    assert!(rt; status_of(alloc, &["tcshow", "--json", "--oneline"]) == 2);
-    assert!(rt; status_of(alloc, &["tcshow", "--no-header", "qdisc"]) == 2);
+    for (words, status) in &OTHERS {
+        assert!(rt; status_of(rt.alloc(), words) == *status, "{words:?}");
+    }
 }

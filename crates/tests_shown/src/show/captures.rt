@@ -1,7 +1,7 @@
 //! Captures made by hand, of bytes that the formats' specifications give, and what is shown of them.
 
-use crate::show::runs::{all_in, shown};
-use std::alloc::Global;
+use crate::show::runs::{all_in, gives, shown};
+use std::alloc::{AllocError, Global};
 use std::test::Fail;
 use tcshow_lib::asked::Form;
 
@@ -146,100 +146,95 @@ const MODIFIED_BIG: &str =
      033800000000000000000000000040000000240000060500000000000000000000000200000000000100ffffffff00000000\
      0d00010066715f636f64656c000000000c0002000800020000280000";
 
-// A message as it is shown on one line, after a time or none.
-fn line_of(alloc: Global, time: &str) -> Result<String, Fail> {
-    let line =
-        "RTM_NEWQDISC create excl seq 5 index 2 handle 1: parent root kind fq_codel options {limit 10240p}\n";
-    Ok(format!(in alloc; "{time}{line}")?)
+// A part of what is written of a capture.
+#[derive(Clone, Copy)]
+enum Part {
+    // The message on a line, with the time of its packet.
+    Timed,
+    // After 250 seconds.
+    Early,
+    // Without a time.
+    Untimed,
+    // A notice.
+    Says(&'static str),
 }
 
-const TIME: &str = "1700000000.123456000 ";
+static TIMED: &str =
+    "1700000000.123456000 RTM_NEWQDISC create excl seq 5 index 2 handle 1: parent root kind fq_codel options {limit 10240p}\n";
 
-// True if a capture gives this output, status and complaint.
-fn gives(
-    alloc: Global,
-    capture: &str,
-    parts: &[&str],
-    status: u8,
-    complaint: &str,
-) -> Result<bool, Fail> {
-    let mut want = String::new(alloc);
-    for part in parts {
-        want.push_str(part)?;
+static EARLY: &str =
+    "250.000000000 RTM_NEWQDISC create excl seq 5 index 2 handle 1: parent root kind fq_codel options {limit 10240p}\n";
+
+static UNTIMED: &str =
+    "RTM_NEWQDISC create excl seq 5 index 2 handle 1: parent root kind fq_codel options {limit 10240p}\n";
+
+fn text_of(part: Part) -> &'static str {
+    match part {
+        Part::Timed => TIMED,
+        Part::Early => EARLY,
+        Part::Untimed => UNTIMED,
+        Part::Says(text) => text,
     }
-    let bytes = hex::decode(alloc, capture)?;
-    let run = shown(alloc, &all_in(Form::OneLine), &bytes);
-    Ok(
-        run.status == status
-            && run.written.as_slice() == want.as_bytes()
-            && run.errors.as_slice() == complaint.as_bytes(),
-    )
+}
+
+// Captures, what is written of each, the status, and the complaint.
+#[rattlefmt::skip]
+static ROWS: [(&str, &[Part], u8, &str); 18] = [
+    // zeros behind messages
+    (ZEROS, &[Part::Timed], 0, ""),
+    (BROKEN_IN_PACKET, &[Part::Timed, Part::Says("broken: message length 15 under 16 at 120\n"), Part::Timed], 1, ""),
+    (ZEROS_IN_STREAM, &[Part::Untimed, Part::Says("broken: message length 0 under 16 at 64\n")], 1, ""),
+    // lengths that lie
+    (LONG_RECORD, &[Part::Timed, Part::Says("broken: 4294967311 bytes needed, 192 left at 120\n")], 1, ""),
+    (LONG_BLOCK, &[Part::Timed, Part::Says("broken: 4294967292 bytes needed, 204 left at 160\n")], 1, ""),
+    (LONG_MESSAGE, &[Part::Untimed, Part::Says("broken: 4294967296 bytes needed, 128 left at 64\n")], 1, ""),
+    (LONG_IN_PACKET, &[Part::Timed, Part::Says("broken: 4294967295 bytes needed, 64 left at 120\n")], 1, ""),
+    // blocks of pcapng
+    (PACKET_BLOCK, &[Part::Timed], 0, ""),
+    (EARLIER, &[Part::Early, Part::Untimed], 0, ""),
+    (UNKNOWN_INTERFACE, &[Part::Says("broken: unknown interface 9 at 48\n"), Part::Timed], 1, ""),
+    (
+        SHORT_BODY,
+        &[
+            Part::Says("broken: block body of 4 bytes, 20 needed at 48\nbroken: block body of 4 bytes, 8 needed at 64\n"),
+            Part::Timed,
+            Part::Says("broken: unknown interface 1 at 212\n"),
+        ],
+        1,
+        "",
+    ),
+    // other packets
+    (ETHERNET, &[], 2, "tcshow: no route netlink in 2 packets, but link type 1\n"),
+    (GENERIC, &[], 2, "tcshow: no route netlink in 2 packets, but netlink family 16\n"),
+    (MIXED, &[Part::Timed], 0, ""),
+    (MIXED_BLOCKS, &[Part::Timed], 0, ""),
+    (NO_PACKETS, &[], 0, ""),
+    // modified pcap
+    (MODIFIED, &[Part::Timed, Part::Timed], 0, ""),
+    (MODIFIED_BIG, &[Part::Timed], 0, ""),
+];
+
+// Texts one after the other.
+fn joined(alloc: Global, parts: &[Part]) -> Result<String, AllocError> {
+    let mut text = String::new(alloc);
+    for part in parts {
+        text.push_str(text_of(*part))?;
+    }
+    Ok(text)
 }
 
 #[test]
-fn zeros_behind_messages(rt: HostRuntime) -> Result<(), Fail> {
+fn each_capture(rt: HostRuntime) -> Result<(), Fail> {
     let alloc = rt.alloc();
-    let (timed, bare) = (line_of(alloc, TIME)?, line_of(alloc, "")?);
-    let (timed, bare) = (timed.as_str(), bare.as_str());
-    assert!(rt; gives(alloc, ZEROS, &[timed], 0, "")?);
-    let fault = "broken: message length 15 under 16 at 120\n";
-    assert!(rt; gives(alloc, BROKEN_IN_PACKET, &[timed, fault, timed], 1, "")?);
-    let fault = "broken: message length 0 under 16 at 64\n";
-    assert!(rt; gives(alloc, ZEROS_IN_STREAM, &[bare, fault], 1, "")?);
-    Ok(())
-}
-
-#[test]
-fn lengths_that_lie(rt: HostRuntime) -> Result<(), Fail> {
-    let alloc = rt.alloc();
-    let (timed, bare) = (line_of(alloc, TIME)?, line_of(alloc, "")?);
-    let (timed, bare) = (timed.as_str(), bare.as_str());
-    let fault = "broken: 4294967311 bytes needed, 192 left at 120\n";
-    assert!(rt; gives(alloc, LONG_RECORD, &[timed, fault], 1, "")?);
-    let fault = "broken: 4294967292 bytes needed, 204 left at 160\n";
-    assert!(rt; gives(alloc, LONG_BLOCK, &[timed, fault], 1, "")?);
-    let fault = "broken: 4294967296 bytes needed, 128 left at 64\n";
-    assert!(rt; gives(alloc, LONG_MESSAGE, &[bare, fault], 1, "")?);
-    let fault = "broken: 4294967295 bytes needed, 64 left at 120\n";
-    assert!(rt; gives(alloc, LONG_IN_PACKET, &[timed, fault], 1, "")?);
-    Ok(())
-}
-
-#[test]
-fn blocks(rt: HostRuntime) -> Result<(), Fail> {
-    let alloc = rt.alloc();
-    let (timed, bare) = (line_of(alloc, TIME)?, line_of(alloc, "")?);
-    let (timed, bare) = (timed.as_str(), bare.as_str());
-    assert!(rt; gives(alloc, PACKET_BLOCK, &[timed], 0, "")?);
-    let second = line_of(alloc, "250.000000000 ")?;
-    assert!(rt; gives(alloc, EARLIER, &[second.as_str(), bare], 0, "")?);
-    let fault = "broken: unknown interface 9 at 48\n";
-    assert!(rt; gives(alloc, UNKNOWN_INTERFACE, &[fault, timed], 1, "")?);
-    let faults = "broken: block body of 4 bytes, 20 needed at 48\n\
-        broken: block body of 4 bytes, 8 needed at 64\n";
-    let unknown = "broken: unknown interface 1 at 212\n";
-    assert!(rt; gives(alloc, SHORT_BODY, &[faults, timed, unknown], 1, "")?);
-    Ok(())
-}
-
-#[test]
-fn other_packets(rt: HostRuntime) -> Result<(), Fail> {
-    let alloc = rt.alloc();
-    let timed = line_of(alloc, TIME)?;
-    let complaint = "tcshow: no route netlink in 2 packets, but link type 1\n";
-    assert!(rt; gives(alloc, ETHERNET, &[], 2, complaint)?);
-    let complaint = "tcshow: no route netlink in 2 packets, but netlink family 16\n";
-    assert!(rt; gives(alloc, GENERIC, &[], 2, complaint)?);
-    assert!(rt; gives(alloc, MIXED, &[timed.as_str()], 0, "")?);
-    assert!(rt; gives(alloc, MIXED_BLOCKS, &[timed.as_str()], 0, "")?);
-    assert!(rt; gives(alloc, NO_PACKETS, &[], 0, "")?);
-    let mut asked = all_in(Form::Lines);
-    asked.has_summary = true;
-    let bytes = hex::decode(alloc, MIXED)?;
-    let run = shown(alloc, &asked, &bytes);
-    assert!(rt; run.written.ends_with(COUNTS.as_bytes()));
-    let run = shown(alloc, &asked, &hex::decode(alloc, MIXED_BLOCKS)?);
-    assert!(rt; run.written.ends_with(BLOCK_COUNTS.as_bytes()));
+    let asked = all_in(Form::OneLine);
+    for (capture, parts, status, complaint) in &ROWS {
+        let want = joined(alloc, parts)?;
+        let bytes = hex::decode(alloc, capture)?;
+        assert!(rt;
+            gives(alloc, &asked, &bytes, *status, want.as_bytes(), complaint),
+            "{want}"
+        );
+    }
     Ok(())
 }
 
@@ -265,12 +260,18 @@ static BLOCK_COUNTS: &str = "
   0 broken
 ";
 
+// True if what is written of a capture, and counted, ends with this.
+fn ends_with(alloc: Global, capture: &str, counts: &str) -> Result<bool, Fail> {
+    let mut asked = all_in(Form::Lines);
+    asked.has_summary = true;
+    let bytes = hex::decode(alloc, capture)?;
+    let run = shown(alloc, &asked, &bytes);
+    Ok(run.written.ends_with(counts.as_bytes()))
+}
+
 #[test]
-fn modified_pcap(rt: HostRuntime) -> Result<(), Fail> {
-    let alloc = rt.alloc();
-    let timed = line_of(alloc, TIME)?;
-    let timed = timed.as_str();
-    assert!(rt; gives(alloc, MODIFIED, &[timed, timed], 0, "")?);
-    assert!(rt; gives(alloc, MODIFIED_BIG, &[timed], 0, "")?);
+fn counts_of_other_packets(rt: HostRuntime) -> Result<(), Fail> {
+    assert!(rt; ends_with(rt.alloc(), MIXED, COUNTS)?);
+    assert!(rt; ends_with(rt.alloc(), MIXED_BLOCKS, BLOCK_COUNTS)?);
     Ok(())
 }

@@ -1,19 +1,19 @@
 //! Messages that are chosen.
 
-use crate::show::runs::{Outcome, chosen_in, shown};
-use std::alloc::Global;
+use crate::show::runs::{chosen_in, gives, shown};
+use std::alloc::{AllocError, Global};
 use std::str;
 use std::test::Fail;
 use tc_chosen::Chosen;
 use tcshow_lib::arguments::request_of;
-use tcshow_lib::asked::Form;
+use tcshow_lib::asked::{Asked, Form};
 use tcshow_lib::choice::Choice;
 use tcshow_lib::kinds::write_kind;
 use tcshow_lib::names::names_in;
 
-// What Linux answered tc, a message a line: a qdisc of bfifo, handle 1:; a filter of u32 with an action of mirred, handle 800::800, parent
-// 1:, chain 0, priority 1, index 7; one of flower with such an action, priority 49152, chain 3, index 3; such an action alone; a chain 7;
-// and a qdisc whose header is cut.
+// What Linux answered tc, a message a line: a qdisc of bfifo, handle 1:; a filter of u32 with an action of mirred, handle 80d::800, parent
+// 1:, chain 0, priority 14, index 7; one of flower with such an action, handle 0x1, priority 49152, chain 0, index 3; such an action alone; a
+// chain 7; and a qdisc whose header is cut.
 static LINES: &str =
     "38000000240000060700000000000000000000000400000000000100ffffffff000000000a000100626669666f00000008000200b80b0000\n\
 440100002c000006070000000000000000000000070000000008d0800000010008000e00080001007533320008000b000000000010010200240005000100\
@@ -43,160 +43,250 @@ static CAPTURE: &str =
 // How many lines of JSON are shown of an input, and the status; none where the words choose nothing.
 fn run(alloc: Global, words: &[&str], input: &[u8]) -> Result<Option<(usize, u8)>, Fail> {
     let request = request_of(alloc, words)?;
-    let choice = match Choice::of_request(alloc, &request, &[]) {
-        Ok(choice) => choice,
-        Err(_) => return Ok(None),
-    };
-    let asked = chosen_in(Form::Json, choice.chosen());
-    let Outcome {
-        status,
-        written,
-        ..
-    } = shown(alloc, &asked, input);
-    Ok(Some((
-        written.iter().filter(|byte| **byte == b'\n').count(),
-        status,
-    )))
+    match Choice::of_request(alloc, &request, &[]) {
+        Ok(choice) => Ok(Some(count_of(alloc, choice.chosen(), input))),
+        Err(_) => Ok(None),
+    }
 }
+
+// The same of what is chosen.
+fn count_of(alloc: Global, chosen: Chosen<'_>, input: &[u8]) -> (usize, u8) {
+    let run = shown(alloc, &chosen_in(Form::Json, chosen), input);
+    let mut lines = 0usize;
+    for byte in &run.written {
+        if *byte == b'\n' {
+            lines = lines.wrapping_add(1);
+        }
+    }
+    (lines, run.status)
+}
+
+// Words, how many lines are shown of the messages, and the status.
+static OPTIONS: [(&[&str], usize, u8); 28] = [
+    (&["tcshow"], 6, 1),
+    (&["tcshow", "--kind", "bfifo"], 1, 0),
+    (&["tcshow", "--kind", "mirred"], 3, 0),
+    (&["tcshow", "--kind", "mirred", "--kind", "bfifo"], 4, 0),
+    (
+        &[
+            "tcshow", "--kind", "mirred", "--kind", "bfifo", "--dev", "7",
+        ],
+        1,
+        0,
+    ),
+    (&["tcshow", "--type", "newqdisc"], 2, 1),
+    (&["tcshow", "--type", "RTM_NEWTFILTER"], 2, 0),
+    (&["tcshow", "--type", "tclass"], 0, 0),
+    (&["tcshow", "--type", "action", "--type", "100"], 2, 0),
+    (&["tcshow", "--dev", "7"], 2, 0),
+    (&["tcshow", "--dev", "7", "--dev", "3"], 3, 0),
+    (&["tcshow", "--handle", "1:"], 1, 0),
+    (&["tcshow", "--handle", "80d::800"], 1, 0),
+    (&["tcshow", "--handle", "0x1"], 1, 0),
+    (&["tcshow", "--parent", "root"], 1, 0),
+    (&["tcshow", "--parent", "1:", "--parent", "ffff:"], 2, 0),
+    (&["tcshow", "--chain", "0"], 2, 0),
+    (&["tcshow", "--chain", "7"], 1, 0),
+    (&["tcshow", "--pref", "14"], 1, 0),
+    (&["tcshow", "--pref", "49152"], 1, 0),
+    (&["tcshow", "--refused"], 1, 1),
+    (&["tcshow", "--refused", "--kind", "bfifo"], 0, 0),
+    (&["tcshow", "--since", "0"], 0, 0),
+    (&["tcshow", "--until", "2026-11-26T14:00:00Z"], 0, 0),
+    (&["tcshow", "--handle", "0x1", "--pref", "49152"], 1, 0),
+    (&["tcshow", "--handle", "0x1", "--pref", "14"], 0, 0),
+    (&["tcshow", "--kind", "mirred", "--chain", "0"], 2, 0),
+    (&["tcshow", "--type", "36", "--parent", "root"], 1, 0),
+];
 
 #[test]
 fn each_option(rt: HostRuntime) -> Result<(), Fail> {
-    let alloc = rt.alloc();
-    let all: [(&[&str], usize, u8); 28] = [
-        (&["tcshow"], 6, 1),
-        (&["tcshow", "--kind", "bfifo"], 1, 0),
-        (&["tcshow", "--kind", "mirred"], 3, 0),
-        (&["tcshow", "--kind", "mirred", "--kind", "bfifo"], 4, 0),
-        (
-            &[
-                "tcshow", "--kind", "mirred", "--kind", "bfifo", "--dev", "7",
-            ],
-            1,
-            0,
-        ),
-        (&["tcshow", "--type", "newqdisc"], 2, 1),
-        (&["tcshow", "--type", "RTM_NEWTFILTER"], 2, 0),
-        (&["tcshow", "--type", "tclass"], 0, 0),
-        (&["tcshow", "--type", "action", "--type", "100"], 2, 0),
-        (&["tcshow", "--dev", "7"], 2, 0),
-        (&["tcshow", "--dev", "7", "--dev", "3"], 3, 0),
-        (&["tcshow", "--handle", "1:"], 1, 0),
-        (&["tcshow", "--handle", "80d::800"], 1, 0),
-        (&["tcshow", "--handle", "0x1"], 1, 0),
-        (&["tcshow", "--parent", "root"], 1, 0),
-        (&["tcshow", "--parent", "1:", "--parent", "ffff:"], 2, 0),
-        (&["tcshow", "--chain", "0"], 2, 0),
-        (&["tcshow", "--chain", "7"], 1, 0),
-        (&["tcshow", "--pref", "14"], 1, 0),
-        (&["tcshow", "--pref", "49152"], 1, 0),
-        (&["tcshow", "--refused"], 1, 1),
-        (&["tcshow", "--refused", "--kind", "bfifo"], 0, 0),
-        (&["tcshow", "--since", "0"], 0, 0),
-        (&["tcshow", "--until", "2026-11-26T14:00:00Z"], 0, 0),
-        (&["tcshow", "--handle", "0x1", "--pref", "49152"], 1, 0),
-        (&["tcshow", "--handle", "0x1", "--pref", "14"], 0, 0),
-        (&["tcshow", "--kind", "mirred", "--chain", "0"], 2, 0),
-        (&["tcshow", "--type", "36", "--parent", "root"], 1, 0),
-    ];
-    for (words, count, status) in all {
+    for (words, count, status) in &OPTIONS {
         assert!(rt;
-            run(alloc, words, LINES.as_bytes())? == Some((count, status)),
+            run(rt.alloc(), words, LINES.as_bytes())? == Some((*count, *status)),
             "{words:?}"
         );
     }
     Ok(())
 }
 
+// The same of the capture.
+static TIMES: [(&[&str], usize); 6] = [
+    (&["tcshow", "--since", "1700000000.123456"], 1),
+    (&["tcshow", "--since", "1700000000.123456001"], 0),
+    (&["tcshow", "--since", "2023-11-14T22:13:20Z"], 1),
+    (&["tcshow", "--until", "2023-11-14T22:13:20.123456Z"], 1),
+    (&["tcshow", "--until", "1700000000"], 0),
+    (
+        &["tcshow", "--since", "1700000000", "--until", "1700000001"],
+        1,
+    ),
+];
+
 #[test]
 fn times(rt: HostRuntime) -> Result<(), Fail> {
-    let alloc = rt.alloc();
-    let capture = hex::decode(alloc, CAPTURE)?;
-    let all: [(&[&str], usize); 6] = [
-        (&["tcshow", "--since", "1700000000.123456"], 1),
-        (&["tcshow", "--since", "1700000000.123456001"], 0),
-        (&["tcshow", "--since", "2023-11-14T22:13:20Z"], 1),
-        (&["tcshow", "--until", "2023-11-14T22:13:20.123456Z"], 1),
-        (&["tcshow", "--until", "1700000000"], 0),
-        (
-            &["tcshow", "--since", "1700000000", "--until", "1700000001"],
-            1,
-        ),
-    ];
-    for (words, count) in all {
+    let capture = hex::decode(rt.alloc(), CAPTURE)?;
+    for (words, count) in &TIMES {
         assert!(rt;
-            run(alloc, words, &capture)? == Some((count, 0)),
+            run(rt.alloc(), words, &capture)? == Some((*count, 0)),
             "{words:?}"
         );
     }
     Ok(())
+}
+
+// Options with words that aren't known, and a part of the complaint.
+static UNKNOWN: [(&str, &str, &str); 9] = [
+    (
+        "--kind",
+        "fq_code",
+        "unknown kind 'fq_code'; the kinds are:\n",
+    ),
+    ("--kind", "Htb", "\nhtb\n"),
+    ("--kind", "gac", "\ngact\n"),
+    (
+        "--type",
+        "newclass",
+        "unknown type 'newclass': a type is one of qdisc, tclass,",
+    ),
+    (
+        "--dev",
+        "eth0",
+        "unknown interface 'eth0': an interface is a number, or a name",
+    ),
+    (
+        "--handle",
+        "10",
+        "unknown handle '10': a handle is one such as 1:10",
+    ),
+    (
+        "--parent",
+        "1:2:3:4",
+        "unknown handle '1:2:3:4': a handle is one such as 1:10",
+    ),
+    (
+        "--since",
+        "today",
+        "unknown time 'today': a time is seconds since 1970",
+    ),
+    (
+        "--until",
+        "2026-02-30T00:00:00Z",
+        "unknown time '2026-02-30T00:00:00Z': ",
+    ),
+];
+
+// True if the complaint about an option has this part.
+fn complains(alloc: Global, option: &str, word: &str, part: &str) -> Result<bool, Fail> {
+    let words = ["tcshow", option, word];
+    let request = request_of(alloc, &words)?;
+    match Choice::of_request(alloc, &request, &[(7, "eth7")]) {
+        Err(none) => Ok(none.text(alloc)?.contains(part)),
+        Ok(_) => Ok(false),
+    }
 }
 
 #[test]
 fn unknown_words(rt: HostRuntime) -> Result<(), Fail> {
-    let alloc = rt.alloc();
-    for (option, word, known) in [
-        (
-            "--kind",
-            "fq_code",
-            "unknown kind 'fq_code'; the kinds are:\n",
-        ),
-        ("--kind", "Htb", "\nhtb\n"),
-        ("--kind", "gac", "\ngact\n"),
-        (
-            "--type",
-            "newclass",
-            "unknown type 'newclass': a type is one of qdisc, tclass,",
-        ),
-        (
-            "--dev",
-            "eth0",
-            "unknown interface 'eth0': an interface is a number, or a name",
-        ),
-        (
-            "--handle",
-            "10",
-            "unknown handle '10': a handle is one such as 1:10",
-        ),
-        (
-            "--parent",
-            "1:2:3:4",
-            "unknown handle '1:2:3:4': a handle is one such as 1:10",
-        ),
-        (
-            "--since",
-            "today",
-            "unknown time 'today': a time is seconds since 1970",
-        ),
-        (
-            "--until",
-            "2026-02-30T00:00:00Z",
-            "unknown time '2026-02-30T00:00:00Z': ",
-        ),
-    ] {
-        let words = ["tcshow", option, word];
-        let request = request_of(alloc, &words)?;
-        let said = match Choice::of_request(alloc, &request, &[(7, "eth7")]) {
-            Err(none) => none.text(alloc)?,
-            Ok(_) => String::new(alloc),
-        };
-        assert!(rt; said.contains(known), "{option} {word}");
+    for (option, word, part) in &UNKNOWN {
+        assert!(rt;
+            complains(rt.alloc(), option, word, part)?,
+            "{option} {word}"
+        );
     }
     Ok(())
 }
 
+static SOME_NAMES: &str =
+    "# names\n\n7 eth7 # of the test\n5: veth0@if6: <BROADCAST,MULTICAST> mtu 1500 qdisc noop state DOWN\n";
+
+// Texts with a line that is no name, and its number.
+static NO_NAMES: [(&str, u64); 3] = [("eth7", 1), ("7 eth7\n\n8\n", 3), ("5: :", 1)];
+
+// The number of the line that is no name, 0 where there is none.
+fn wrong_line(alloc: Global, text: &str) -> Result<u64, AllocError> {
+    Ok(match names_in(alloc, text)? {
+        Ok(_) => 0,
+        Err(line) => line,
+    })
+}
+
+fn are_names(alloc: Global, text: &str, want: &[(u32, &str)]) -> Result<bool, AllocError> {
+    Ok(match names_in(alloc, text)? {
+        Ok(names) => names.as_slice() == want,
+        Err(_) => false,
+    })
+}
+
 #[test]
 fn names(rt: HostRuntime) -> Result<(), Fail> {
-    let alloc = rt.alloc();
-    let text =
-        "# names\n\n7 eth7 # of the test\n5: veth0@if6: <BROADCAST,MULTICAST> mtu 1500 qdisc noop state DOWN\n";
-    let names = names_in(alloc, text)?;
-    assert!(rt;
-        matches!(&names, Ok(names) if names.as_slice() == [(7, "eth7"), (5, "veth0")].as_slice())
-    );
-    for (text, line) in [("eth7", 1), ("7 eth7\n\n8\n", 3), ("5: :", 1)] {
-        let names = names_in(alloc, text)?;
-        assert!(rt; matches!(&names, Err(at) if *at == line), "{text}");
+    assert!(rt; are_names(rt.alloc(), SOME_NAMES, &[(7, "eth7"), (5, "veth0")])?);
+    for (text, line) in &NO_NAMES {
+        assert!(rt; wrong_line(rt.alloc(), text)? == *line, "{text}");
     }
+    Ok(())
+}
+
+// The names of interfaces as `ip -o link` prints them and as people write them; and qdiscs: of fq_codel, the one that is chosen; of htb; of
+// fq_codel below another; and of fq_codel at another interface.
+static NAMES: &str = "# names of interfaces
+7: eth7@if8: <BROADCAST,MULTICAST,UP> mtu 1500 qdisc fq_codel state UP
+8 eth8
+";
+
+static QDISCS: &str = "\
+34000000240000060100000000000000000000000700000000000100ffffffff000000000d00010066715f636f64656c00000000
+2c000000240000060200000000000000000000000700000000000100ffffffff000000000800010068746200
+3400000028000006030000000000000000000000070000000100010000000100000000000d00010066715f636f64656c00000000
+34000000240000060400000000000000000000000800000000000100ffffffff000000000d00010066715f636f64656c00000000
+";
+
+static CHOSEN: &str =
+    "RTM_NEWQDISC create excl seq 1 index 7 (eth7) handle 1: parent root kind fq_codel\n";
+
+// An action message without a netlink header, and what is shown of it.
+static BARE: &str = "00000000100001000c000100080001006e617400\n";
+
+static BARE_LINE: &str = "action actions {action 1 {kind nat}}\n";
+
+// True if a run by these words, with the names of a text, writes this and nothing else.
+fn writes(
+    alloc: Global,
+    words: &[&str],
+    names: &str,
+    input: &str,
+    want: &str,
+) -> Result<bool, Fail> {
+    let request = request_of(alloc, words)?;
+    let Ok(names) = names_in(alloc, names)? else {
+        return Ok(false);
+    };
+    let Ok(choice) = Choice::of_request(alloc, &request, &names) else {
+        return Ok(false);
+    };
+    let asked = Asked::of_request(&request, choice.chosen(), &names);
+    Ok(gives(alloc, &asked, input.as_bytes(), 0, want.as_bytes(), ""))
+}
+
+#[test]
+fn words_of_a_command_line(rt: HostRuntime) -> Result<(), Fail> {
+    let words = [
+        "tcshow",
+        "--oneline",
+        "--names",
+        "names",
+        "--dev",
+        "eth7",
+        "--kind",
+        "fq_codel",
+        "--type",
+        "newqdisc",
+        "--handle",
+        "1:",
+    ];
+    assert!(rt; writes(rt.alloc(), &words, NAMES, QDISCS, CHOSEN)?);
+    let words = ["tcshow", "--oneline", "--no-header", "action"];
+    assert!(rt; writes(rt.alloc(), &words, "", BARE, BARE_LINE)?);
     Ok(())
 }
 

@@ -87,13 +87,17 @@ static JSON: &str = r#"
 {"summary":{"messages":[{"type":"RTM_NEWQDISC","kind":"pfifo","count":4},{"type":"RTM_NEWQDISC","kind":"fq_codel","count":3},{"type":"NLMSG_ERROR","kind":"EINVAL","count":2}],"faults":[{"name":"WrongLength","count":3}]},"all":{"shown":7,"answers":2,"refused":3,"left_out":4,"others":5,"other_links":6,"other_families":8,"cut":9,"skipped":0,"broken":10}}
 "#;
 
+// True if a run over a capture is refused something, and ends with these counts.
+fn ends_with(alloc: Global, form: Form, capture: &[u8], counts: &str) -> bool {
+    let run = shown(alloc, &asked_in(form), capture);
+    run.status == 1 && run.written.ends_with(counts.as_bytes())
+}
+
 #[test]
 fn counts(rt: HostRuntime) -> Result<(), Fail> {
     let alloc = rt.alloc();
     let bytes = capture(alloc)?;
-    let run = shown(alloc, &asked_in(Form::Lines), &bytes);
-    assert!(rt; run.status == 1 && run.written.ends_with(LINES.as_bytes()));
-    let run = shown(alloc, &asked_in(Form::Json), &bytes);
-    assert!(rt; run.status == 1 && run.written.ends_with(JSON.as_bytes()));
+    assert!(rt; ends_with(alloc, Form::Lines, &bytes, LINES));
+    assert!(rt; ends_with(alloc, Form::Json, &bytes, JSON));
     Ok(())
 }

@@ -1,10 +1,10 @@
 //! Captures that are cut, and that are changed.
 
 use crate::show::runs::{FORMS, all_in, is_clean, is_front, shown};
-use std::alloc::Global;
+use std::alloc::{AllocError, Global};
 use std::test::Fail;
 use tcshow_lib::asked::Form;
-use tests_captures::{FORMATS, file_of, messages};
+use tests_captures::{FORMATS, Format, file_of, messages};
 
 // What a run says of a place where a capture is cut, up to the numbers.
 fn note_of(form: Form) -> &'static [u8] {
@@ -23,34 +23,55 @@ fn is_answer_and_cut(form: Form, written: &[u8], answer: &[u8]) -> bool {
     }
 }
 
+// A file of two messages, how many of its bytes are those of the first, and the answer to that.
+#[derive(Drop)]
+struct TwoMessages {
+    file: Vec<u8>,
+    first: usize,
+    answer: Vec<u8>,
+}
+
+fn two_messages(
+    alloc: Global,
+    form: Form,
+    format: (Format, bool),
+    messages: &[Vec<u8>],
+) -> Result<TwoMessages, AllocError> {
+    let file = file_of(alloc, format.0, format.1, messages)?;
+    let (first, _) = messages.split_at(messages.len().min(1));
+    let one = file_of(alloc, format.0, format.1, first)?;
+    let answer = shown(alloc, &all_in(form), &one).written;
+    Ok(TwoMessages {
+        first: one.len(),
+        file,
+        answer,
+    })
+}
+
+// True if of so many bytes of a file the answer to the first message is shown, if that is whole, and a note where it is cut.
+fn is_shown_to(alloc: Global, form: Form, two: &TwoMessages, end: usize) -> bool {
+    let (front, _) = two.file.split_at(end.min(two.file.len()));
+    let run = shown(alloc, &all_in(form), front);
+    let want: &[u8] = if end < two.first {
+        &[]
+    } else {
+        two.answer.as_slice()
+    };
+    let is_cut = run.written.len() > want.len();
+    is_answer_and_cut(form, &run.written, want) && run.status == u8::from(is_cut)
+}
+
 #[test]
 fn each_cut(rt: HostRuntime) -> Result<(), Fail> {
     let alloc = rt.alloc();
     let mut all = messages(alloc)?;
     all.truncate(2);
-    for (format, is_big) in FORMATS {
-        let file = file_of(alloc, format, is_big, &all)?;
-        let (first, _) = all.split_at(all.len().min(1));
-        let one = file_of(alloc, format, is_big, first)?;
+    for format in FORMATS {
         for form in FORMS {
-            let asked = all_in(form);
-            let answer = shown(alloc, &asked, &one).written;
-            assert!(rt; !answer.is_empty());
-            for end in (4..file.len()).step_by(11) {
-                let (front, _) = file.split_at(end.min(file.len()));
-                let run = shown(alloc, &asked, front);
-                // the answer to the first message, if that is whole
-                let want: &[u8] = if end < one.len() {
-                    &[]
-                } else {
-                    answer.as_slice()
-                };
-                assert!(rt;
-                    is_answer_and_cut(form, &run.written, want),
-                    "{format:?} {end}"
-                );
-                let is_cut = run.written.len() > want.len();
-                assert!(rt; run.status == u8::from(is_cut), "{format:?} {end}");
+            let two = two_messages(alloc, form, format, &all)?;
+            assert!(rt; !two.answer.is_empty());
+            for end in (4..two.file.len()).step_by(11) {
+                assert!(rt; is_shown_to(alloc, form, &two, end), "{format:?} {end}");
             }
         }
     }

@@ -1,7 +1,7 @@
 //! Dumps with offsets: a netlink message as xxd, tcpdump 4.99 and tshark 4.0 print it, and plain.
 
-use crate::show::runs::{all_in, shown};
-use std::alloc::Global;
+use crate::show::runs::{all_in, shown, writes};
+use std::alloc::{AllocError, Global};
 use std::test::Fail;
 use tcshow_lib::asked::Form;
 
@@ -39,21 +39,63 @@ const TSHARK: &str = "0000  38 00 00 00 24 00 05 06 81 f1 24 69 00 00 00 00   8.
 0020  00 00 00 00 0a 00 01 00 62 66 69 66 6f 00 00 00   ........bfifo...\r
 0030  08 00 02 00 b8 0b 00 00                           ........\r";
 
+// The same with the cooked header of nlmon: tcpdump -xx, tshark -x, and plain.
+const TCPDUMP_FRAME: &str = "\t0x0000:  0004 0338 0000 0000 0000 0000 0000 0000
+\t0x0010:  3800 0000 2400 0506 81f1 2469 0000 0000
+\t0x0020:  0000 0000 0400 0000 0000 ffff ffff ffff
+\t0x0030:  0000 0000 0a00 0100 6266 6966 6f00 0000
+\t0x0040:  0800 0200 b80b 0000";
+
+const TSHARK_FRAME: &str = "0000  00 04 03 38 00 00 00 00 00 00 00 00 00 00 00 00   ...8............
+0010  38 00 00 00 24 00 05 06 81 f1 24 69 00 00 00 00   8...$.....$i....
+0020  00 00 00 00 04 00 00 00 00 00 ff ff ff ff ff ff   ................
+0030  00 00 00 00 0a 00 01 00 62 66 69 66 6f 00 00 00   ........bfifo...
+0040  08 00 02 00 b8 0b 00 00                           ........";
+
+const PLAIN_FRAME: &str =
+    "00040338000000000000000000000000380000002400050681f12469000000000000000004000000\
+0000ffffffffffff000000000a000100626669666f00000008000200b80b0000";
+
 // Plain, as it is pasted.
 const PASTED: &str = "0x38 0x00 0x00 0x00 2400:0506 81f12469 00000000 # a bfifo
 # on one line: 38:00:00:00:24:00:05:06:81:F1:24:69
 38:00:00:00:24:00:05:06:81:F1:24:69:00:00:00:00:00:00:00:00:04:00:00:00:00:00:ff:ff:ff:ff:ff:ff:00:00:00:00:0a:00:01:00:62:66:69:66:6f:00:00:00:08:00:02:00:b8:0b:00:00";
 
-// What is shown of texts, one after the other, and the status.
-fn shown_of(alloc: Global, texts: &[&str]) -> Result<(Vec<u8>, u8), Fail> {
-    let mut all = Vec::new(alloc);
+// Texts, each behind the one before, on lines of their own.
+fn joined(alloc: Global, texts: &[&str]) -> Result<String, AllocError> {
+    let mut all = String::new(alloc);
     for text in texts {
-        all.extend_from_slice(text.as_bytes())?;
-        all.push(b'\n')?;
+        all.push_str(text)?;
+        all.push_str("\n")?;
     }
-    let run = shown(alloc, &all_in(Form::Json), &all);
+    Ok(all)
+}
+
+// What is shown of texts, one after the other, and the status.
+fn shown_of(alloc: Global, texts: &[&str]) -> Result<(Vec<u8>, u8), AllocError> {
+    let text = joined(alloc, texts)?;
+    let run = shown(alloc, &all_in(Form::Json), text.as_bytes());
     Ok((run.written, run.status))
 }
+
+// True if this is shown of texts so many times, and nothing is wrong.
+fn are_shown(alloc: Global, texts: &[&str], one: &[u8], times: usize) -> Result<bool, AllocError> {
+    let (written, status) = shown_of(alloc, texts)?;
+    Ok(status == 0 && written == one.repeat(alloc, times)?)
+}
+
+static DUMPS: [&str; 8] = [
+    XXD,
+    XXD_SINGLE,
+    TCPDUMP,
+    TCPDUMP_TEXT,
+    TSHARK,
+    TCPDUMP_FRAME,
+    TSHARK_FRAME,
+    PLAIN_FRAME,
+];
+
+static ALL: [&str; 8] = [XXD, TCPDUMP, PLAIN, "", TSHARK, "# text", XXD_SINGLE, PLAIN];
 
 #[test]
 fn dumps(rt: HostRuntime) -> Result<(), Fail> {
@@ -63,35 +105,24 @@ fn dumps(rt: HostRuntime) -> Result<(), Fail> {
         status == 0
             && one.starts_with(b"{\"type\":\"RTM_NEWQDISC\",\"flags\":1541,\"seq\":1764028801,")
     );
-    for text in &[XXD, XXD_SINGLE, TCPDUMP, TCPDUMP_TEXT, TSHARK] {
-        let (written, status) = shown_of(alloc, &[text])?;
-        assert!(rt; status == 0 && written == one, "{text}");
+    for text in &DUMPS {
+        assert!(rt; are_shown(alloc, &[*text], &one, 1)?, "{text}");
     }
-    let mut six = Vec::new(alloc);
-    for _ in 0..6u8 {
-        six.extend_from_slice(&one)?;
-    }
-    let texts = [XXD, TCPDUMP, PLAIN, "", TSHARK, "# text", XXD_SINGLE, PLAIN];
-    let (written, status) = shown_of(alloc, &texts)?;
-    assert!(rt; status == 0 && written == six);
+    assert!(rt; are_shown(alloc, &ALL, &one, 6)?);
     let (written, status) = shown_of(alloc, &[PASTED])?;
     assert!(rt; status == 1 && written.ends_with(&one));
     Ok(())
 }
 
 // A line of a dump that isn't there is missed.
+static GAP: &str = "00000000: 3800 0000 2400 0506 81f1 2469 0000 0000  8...$.....$i....
+00000020: 0000 0000 0a00 0100 6266 6966 6f00 0000  ........bfifo...
+";
+
+static GAP_SHOWN: &str =
+    "{\"note\":\"broken: 56 bytes needed, 16 left\",\"at\":0}\n{\"note\":\"broken: no hex\",\"at\":68}\n";
+
 #[test]
-fn gaps(rt: HostRuntime) -> Result<(), Fail> {
-    let alloc = rt.alloc();
-    let texts = [
-        "00000000: 3800 0000 2400 0506 81f1 2469 0000 0000  8...$.....$i....",
-        "00000020: 0000 0000 0a00 0100 6266 6966 6f00 0000  ........bfifo...",
-    ];
-    let (written, status) = shown_of(alloc, &texts)?;
-    assert!(rt; status == 1);
-    assert!(rt;
-        written.as_slice()
-            == b"{\"note\":\"broken: 56 bytes needed, 16 left\",\"at\":68}\n{\"note\":\"broken: no hex\",\"at\":68}\n".as_slice()
-    );
-    Ok(())
+fn gaps(rt: HostRuntime) {
+    assert!(rt; writes(rt.alloc(), &all_in(Form::Json), GAP, 1, GAP_SHOWN));
 }

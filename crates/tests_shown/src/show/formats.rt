@@ -59,30 +59,68 @@ fn without_packet(alloc: Global, lines: &[u8]) -> Result<Vec<u8>, AllocError> {
     Ok(text)
 }
 
+// True if messages are shown the same of a file in a format, but for the numbers of packets.
+fn is_same(
+    alloc: Global,
+    form: Form,
+    format: (Format, bool),
+    messages: &[Vec<u8>],
+    want: &[u8],
+) -> Result<bool, AllocError> {
+    let file = file_of(alloc, format.0, format.1, messages)?;
+    let run = shown(alloc, &all_in(form), &file);
+    if run.status != 0 || !run.errors.is_empty() {
+        return Ok(false);
+    }
+    let written = without_packet(alloc, &run.written)?;
+    Ok(written.as_slice() == want)
+}
+
+// True if the same JSON is shown of lines of hex, but for the times.
+fn is_same_of_hex(alloc: Global, messages: &[Vec<u8>], want: &[u8]) -> Result<bool, AllocError> {
+    let text = hex_of(alloc, messages)?;
+    let run = shown(alloc, &all_in(Form::Json), &text);
+    let want = without_time(alloc, want)?;
+    Ok(run.status == 0 && run.written == want)
+}
+
+// How many lines there are.
+fn lines_of(written: &[u8]) -> usize {
+    let mut count = 0usize;
+    for byte in written {
+        if *byte == b'\n' {
+            count = count.wrapping_add(1);
+        }
+    }
+    count
+}
+
+// What is shown of a stream of messages.
+fn of_stream(alloc: Global, form: Form, messages: &[Vec<u8>]) -> Result<Vec<u8>, AllocError> {
+    let stream = file_of(alloc, Format::Stream, false, messages)?;
+    Ok(shown(alloc, &all_in(form), &stream).written)
+}
+
 #[test]
 fn each_format_is_shown_the_same(rt: HostRuntime) -> Result<(), Fail> {
     let alloc = rt.alloc();
     let all = messages(alloc)?;
-    let stream = file_of(alloc, Format::Stream, false, &all)?;
     for form in FORMS {
-        let first = shown(alloc, &all_in(form), &stream);
-        for (format, is_big) in FORMATS {
-            let file = file_of(alloc, format, is_big, &all)?;
-            let run = shown(alloc, &all_in(form), &file);
-            assert!(rt;
-                run.status == 0 && run.errors.is_empty(),
-                "{format:?} {is_big}"
-            );
-            let written = without_packet(alloc, &run.written)?;
-            assert!(rt; written == first.written, "{format:?} {is_big}");
+        let first = of_stream(alloc, form, &all)?;
+        for format in FORMATS {
+            assert!(rt; is_same(alloc, form, format, &all, &first)?, "{format:?}");
         }
-        let lines = first.written.iter().filter(|byte| **byte == b'\n').count();
+        let lines = lines_of(&first);
         assert!(rt; lines == 20 || form == Form::Lines && 20 < lines);
-        if form == Form::Json {
-            let run = shown(alloc, &all_in(form), &hex_of(alloc, &all)?);
-            assert!(rt; run.status == 0);
-            assert!(rt; run.written == without_time(alloc, &first.written)?);
-        }
     }
+    Ok(())
+}
+
+#[test]
+fn hex_is_shown_the_same(rt: HostRuntime) -> Result<(), Fail> {
+    let alloc = rt.alloc();
+    let all = messages(alloc)?;
+    let first = of_stream(alloc, Form::Json, &all)?;
+    assert!(rt; is_same_of_hex(alloc, &all, &first)?);
     Ok(())
 }

@@ -1,7 +1,6 @@
 //! Known messages and what is shown of them.
 
-use crate::show::runs::{all_in, chosen_in, shown};
-use std::test::Fail;
+use crate::show::runs::{all_in, chosen_in, gives, writes};
 use tc_chosen::{Chosen, Types};
 use tc_outline::Interfaces;
 use tcshow_lib::asked::Form;
@@ -84,46 +83,49 @@ fn of_interfaces(interfaces: &'static [u32]) -> Chosen<'static> {
 }
 
 #[test]
-fn known_messages(rt: HostRuntime) -> Result<(), Fail> {
+fn known_messages(rt: HostRuntime) {
     let alloc = rt.alloc();
     let mut asked = all_in(Form::Lines);
     asked.names = Interfaces {
         names: &[(2, "eth0")],
     };
     asked.has_summary = true;
-    let run = shown(alloc, &asked, TEXT.as_bytes());
-    assert!(rt; run.status == 1);
-    assert!(rt; run.written.as_slice() == LINES.as_bytes());
+    assert!(rt; writes(alloc, &asked, TEXT, 1, LINES));
     let asked = chosen_in(Form::OneLine, of_kinds(&["mirred"]));
-    let run = shown(alloc, &asked, TEXT.as_bytes());
-    assert!(rt; run.status == 0 && run.written.as_slice() == ONE_LINE.as_bytes());
+    assert!(rt; writes(alloc, &asked, TEXT, 0, ONE_LINE));
     let types = &[Types {
         first: 48,
         last: 48,
     }];
     let asked = chosen_in(Form::OneLine, of_types(types));
-    let run = shown(alloc, &asked, TEXT.as_bytes());
-    assert!(rt; run.status == 0 && run.written.as_slice() == ONE_LINE.as_bytes());
+    assert!(rt; writes(alloc, &asked, TEXT, 0, ONE_LINE));
     let asked = chosen_in(Form::Json, of_interfaces(&[2]));
-    let run = shown(alloc, &asked, TEXT.as_bytes());
-    assert!(rt; run.status == 1 && run.written.as_slice() == JSON.as_bytes());
+    assert!(rt; writes(alloc, &asked, TEXT, 1, JSON));
     let asked = chosen_in(Form::Json, of_interfaces(&[3]));
-    let run = shown(alloc, &asked, TEXT.as_bytes());
-    assert!(rt; run.status == 0 && run.written.is_empty());
-    Ok(())
+    assert!(rt; writes(alloc, &asked, TEXT, 0, ""));
 }
 
+// What is neither a capture nor hex, and hex without a message.
+static NO_CAPTURES: [&[u8]; 4] = [b"", b"\x7fELF", b"\x01\x02", b"text"];
+
+static NO_MESSAGES: [&str; 3] = ["#", "\n\n\n\n\n", "# text"];
+
 #[test]
-fn no_capture(rt: HostRuntime) -> Result<(), Fail> {
-    let alloc = rt.alloc();
-    for input in [b"".as_slice(), b"\x7fELF", b"\x01\x02", b"text"] {
-        let run = shown(alloc, &all_in(Form::Lines), input);
-        assert!(rt; run.status == 2 && run.written.is_empty());
-        assert!(rt; run.errors.as_slice() == b"tcshow: no capture, and no hex\n".as_slice());
+fn no_capture(rt: HostRuntime) {
+    let asked = all_in(Form::Lines);
+    for input in &NO_CAPTURES {
+        assert!(rt;
+            gives(
+                rt.alloc(),
+                &asked,
+                input,
+                2,
+                b"",
+                "tcshow: no capture, and no hex\n"
+            )
+        );
     }
-    for input in [b"#".as_slice(), b"\n\n\n\n\n", b"# text"] {
-        let run = shown(alloc, &all_in(Form::Lines), input);
-        assert!(rt; run.status == 0 && run.written.is_empty());
+    for input in &NO_MESSAGES {
+        assert!(rt; writes(rt.alloc(), &asked, input, 0, ""));
     }
-    Ok(())
 }

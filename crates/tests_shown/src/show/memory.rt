@@ -1,10 +1,51 @@
 //! Memory that is refused.
 
-use crate::show::runs::{FORMS, all_in, is_front, shown};
+use crate::show::runs::{FORMS, Outcome, all_in, is_front, shown};
 use failing_alloc::Failing;
+use std::alloc::Global;
 use std::test::Fail;
+use tcshow_lib::asked::Asked;
 use tcshow_lib::program::serve;
 use tests_captures::{Format, file_of, messages};
+
+// The status of a run over a file where the request for memory of this number is refused, what it wrote, and whether one was refused.
+fn run_at(alloc: Global, at: u64, asked: &Asked<'_>, mut file: &[u8]) -> (Outcome, bool) {
+    let failing = Failing::new(alloc, at);
+    let (mut written, mut errors) = (Vec::new(alloc), Vec::new(alloc));
+    let status = serve(&failing, alloc, asked, &mut file, &mut written, &mut errors);
+    let outcome = Outcome {
+        status,
+        written,
+        errors,
+    };
+    (outcome, failing.has_refused())
+}
+
+// True if a run says that there was no memory, and wrote the front of what is written else; or all of it, where no request was refused.
+fn is_right(run: &Outcome, has_refused: bool, whole: &[u8]) -> bool {
+    if has_refused {
+        run.status == 3
+            && run.errors.as_slice() == b"tcshow: out of memory\n".as_slice()
+            && is_front(&run.written, whole)
+    } else {
+        run.status == 0 && run.written.as_slice() == whole
+    }
+}
+
+// How many requests are refused before none is; none where a run isn't right.
+fn refusals_of(alloc: Global, asked: &Asked<'_>, file: &[u8]) -> Option<u64> {
+    let whole = shown(alloc, asked, file);
+    for at in 1..10_000u64 {
+        let (run, has_refused) = run_at(alloc, at, asked, file);
+        if !is_right(&run, has_refused, &whole.written) {
+            return None;
+        }
+        if !has_refused {
+            return Some(at);
+        }
+    }
+    None
+}
 
 #[test]
 fn each_request_refused(rt: HostRuntime) -> Result<(), Fail> {
@@ -15,30 +56,11 @@ fn each_request_refused(rt: HostRuntime) -> Result<(), Fail> {
     for form in FORMS {
         let mut asked = all_in(form);
         asked.has_summary = true;
-        let whole = shown(alloc, &asked, &file);
-        let mut refusals = 0;
-        for at in 1..10_000u64 {
-            let failing = Failing::new(alloc, at);
-            let mut reader = file.as_slice();
-            let (mut written, mut errors) = (Vec::new(alloc), Vec::new(alloc));
-            let status = serve(
-                &failing,
-                alloc,
-                &asked,
-                &mut reader,
-                &mut written,
-                &mut errors,
-            );
-            if !failing.has_refused() {
-                assert!(rt; status == 0 && written == whole.written);
-                break;
-            }
-            assert!(rt; status == 3, "request {at}");
-            assert!(rt; errors.as_slice() == b"tcshow: out of memory\n".as_slice());
-            assert!(rt; is_front(&written, &whole.written), "request {at}");
-            refusals = at;
-        }
-        assert!(rt; 4 < refusals && refusals < 9_999, "{refusals} requests");
+        let refusals = refusals_of(alloc, &asked, &file);
+        assert!(rt;
+            matches!(refusals, Some(count) if 5 < count),
+            "{refusals:?}"
+        );
     }
     Ok(())
 }

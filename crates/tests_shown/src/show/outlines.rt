@@ -1,12 +1,19 @@
 //! The options of outlines, and the flags of netlink headers in words.
 
-use crate::show::runs::{all_in, shown};
+use crate::show::runs::{all_in, writes};
 use std::alloc::Global;
-use std::test::Fail;
 use tcshow_lib::arguments::{Colours, request_of};
 use tcshow_lib::asked::Form;
 
-// What `--color` says of these words; none where they aren't taken.
+// Words, and the colours that they ask for; none where they aren't taken.
+static COLOURS: [(&[&str], Option<Colours>); 5] = [
+    (&["tcshow"], Some(Colours::Auto)),
+    (&["tcshow", "--color", "auto"], Some(Colours::Auto)),
+    (&["tcshow", "--color", "always"], Some(Colours::Always)),
+    (&["tcshow", "--color", "never"], Some(Colours::Never)),
+    (&["tcshow", "--color", "on"], None),
+];
+
 fn colours_of(alloc: Global, words: &[&str]) -> Option<Colours> {
     match request_of(alloc, words) {
         Ok(request) => Some(request.colours),
@@ -14,19 +21,22 @@ fn colours_of(alloc: Global, words: &[&str]) -> Option<Colours> {
     }
 }
 
+// True if words ask for paddings.
+fn asks_for_all(alloc: Global, words: &[&str]) -> bool {
+    match request_of(alloc, words) {
+        Ok(request) => request.all,
+        Err(_) => false,
+    }
+}
+
 #[test]
-fn options(rt: HostRuntime) -> Result<(), Fail> {
+fn options(rt: HostRuntime) {
     let alloc = rt.alloc();
-    assert!(rt; colours_of(alloc, &["tcshow"]) == Some(Colours::Auto));
-    assert!(rt; colours_of(alloc, &["tcshow", "--color", "auto"]) == Some(Colours::Auto));
-    assert!(rt; colours_of(alloc, &["tcshow", "--color", "always"]) == Some(Colours::Always));
-    assert!(rt; colours_of(alloc, &["tcshow", "--color", "never"]) == Some(Colours::Never));
-    assert!(rt; colours_of(alloc, &["tcshow", "--color", "on"]).is_none());
-    let words = ["tcshow", "--all"];
-    assert!(rt; request_of(alloc, words.as_slice())?.all);
-    let words = ["tcshow"];
-    assert!(rt; !request_of(alloc, words.as_slice())?.all);
-    Ok(())
+    for (words, colours) in &COLOURS {
+        assert!(rt; colours_of(alloc, words) == *colours, "{words:?}");
+    }
+    assert!(rt; asks_for_all(alloc, &["tcshow", "--all"]));
+    assert!(rt; !asks_for_all(alloc, &["tcshow"]));
 }
 
 // In hex, netlink headers of `linux/netlink.h` with empty messages: RTM_NEWQDISC with all flags but NLM_F_REPLACE and of the sequence number 1,
@@ -46,6 +56,5 @@ RTM_DELACTION request root seq 4
 
 #[test]
 fn flags_in_words(rt: HostRuntime) {
-    let run = shown(rt.alloc(), &all_in(Form::OneLine), HEADERS.as_bytes());
-    assert!(rt; run.status == 1 && run.written.as_slice() == LINES.as_bytes());
+    assert!(rt; writes(rt.alloc(), &all_in(Form::OneLine), HEADERS, 1, LINES));
 }

@@ -53,6 +53,39 @@ pub(crate) fn shown(alloc: Global, asked: &Asked<'_>, input: &[u8]) -> Outcome {
     }
 }
 
+/// True if a run over an input ends with this status, and writes and complains this.
+pub(crate) fn gives(
+    alloc: Global,
+    asked: &Asked<'_>,
+    input: &[u8],
+    status: u8,
+    written: &[u8],
+    complaint: &str,
+) -> bool {
+    let run = shown(alloc, asked, input);
+    run.status == status
+        && run.written.as_slice() == written
+        && run.errors.as_slice() == complaint.as_bytes()
+}
+
+/// The same of texts, without a complaint.
+pub(crate) fn writes(
+    alloc: Global,
+    asked: &Asked<'_>,
+    input: &str,
+    status: u8,
+    written: &str,
+) -> bool {
+    gives(
+        alloc,
+        asked,
+        input.as_bytes(),
+        status,
+        written.as_bytes(),
+        "",
+    )
+}
+
 /// True of the front of some bytes.
 pub(crate) fn is_front(front: &[u8], bytes: &[u8]) -> bool {
     match bytes.get(..front.len()) {

@@ -1,6 +1,6 @@
 //! Streams that fail, that are interrupted, and that are closed.
 
-use crate::show::runs::{all_in, is_front, shown};
+use crate::show::runs::{Outcome, all_in, is_front, shown};
 use std::alloc::Global;
 use std::io::{Error, ErrorKind, Read, Result, Write};
 use std::test::Fail;
@@ -53,7 +53,16 @@ impl<T: Write> Write for Slow<T> {
     }
 }
 
-fn slowly<T>(inner: T, calls: usize, interruptions: usize, fault: ErrorKind) -> Slow<T> {
+// How many calls of a stream succeed, how often each is interrupted before it does, and how the stream then fails.
+type Stream = (usize, usize, ErrorKind);
+
+// Calls that time out after so many, each of them interrupted so often.
+fn calls(count: usize, interruptions: usize) -> Stream {
+    (count, interruptions, ErrorKind::TimedOut)
+}
+
+fn slowly<T>(inner: T, stream: Stream) -> Slow<T> {
+    let (calls, interruptions, fault) = stream;
     Slow {
         inner,
         left: interruptions,
@@ -63,77 +72,98 @@ fn slowly<T>(inner: T, calls: usize, interruptions: usize, fault: ErrorKind) -> 
     }
 }
 
-// The status of a run over streams of so many calls, and what it wrote to both outputs.
-fn run(
-    alloc: Global,
-    file: &[u8],
-    reader: (usize, usize),
-    writer: (usize, usize, ErrorKind),
-) -> (u8, Vec<u8>, Vec<u8>) {
-    let mut from = slowly(file, reader.0, reader.1, ErrorKind::TimedOut);
-    let mut to = slowly(Vec::new(alloc), writer.0, writer.1, writer.2);
+// A run over streams of so many calls.
+fn run(alloc: Global, file: &[u8], reader: Stream, writer: Stream) -> Outcome {
+    let mut from = slowly(file, reader);
+    let mut to = slowly(Vec::new(alloc), writer);
     let mut errors = Vec::new(alloc);
     let asked = all_in(Form::OneLine);
     let status = serve(alloc, alloc, &asked, &mut from, &mut to, &mut errors);
-    (status, to.inner, errors)
+    Outcome {
+        status,
+        written: to.inner,
+        errors,
+    }
 }
 
-#[test]
-fn each_call_fails(rt: HostRuntime) -> std::result::Result<(), Fail> {
-    let alloc = rt.alloc();
+// A file, and what is written of it.
+#[derive(Drop)]
+struct Answered {
+    file: Vec<u8>,
+    written: Vec<u8>,
+}
+
+// True if a run over such streams writes the front of what is written, and ends with this status and complaint.
+fn ends(alloc: Global, whole: &Answered, streams: (Stream, Stream), end: (u8, &str)) -> bool {
+    let run = run(alloc, &whole.file, streams.0, streams.1);
+    run.status == end.0
+        && is_front(&run.written, &whole.written)
+        && run.errors.as_slice() == end.1.as_bytes()
+}
+
+// True if a run writes all whose streams are interrupted as often as they may be.
+fn is_whole(alloc: Global, whole: &Answered) -> bool {
+    let run = run(
+        alloc,
+        &whole.file,
+        calls(reads_of(whole), 1023),
+        calls(999, 1023),
+    );
+    run.status == 0 && run.written == whole.written
+}
+
+// How many reads take all of a file and find its end.
+fn reads_of(whole: &Answered) -> usize {
+    (whole.file.len() / 7).saturating_add(2)
+}
+
+// A stream of two messages.
+fn stored(alloc: Global) -> std::result::Result<Answered, Fail> {
     let mut all = messages(alloc)?;
     all.truncate(2);
     let file = file_of(alloc, Format::Stream, false, &all)?;
-    let whole = shown(alloc, &all_in(Form::OneLine), &file);
-    let reads = (file.len() / 7).saturating_add(2);
-    for calls in 0..reads {
-        let (status, written, errors) = run(
-            alloc,
-            &file,
-            (calls, 1),
-            (999, 1, ErrorKind::TimedOut),
-        );
-        assert!(rt;
-            status == 3 && is_front(&written, &whole.written),
-            "{calls} reads"
-        );
-        assert!(rt; errors.as_slice() == b"tcshow: read failed\n".as_slice());
+    let run = shown(alloc, &all_in(Form::OneLine), &file);
+    Ok(Answered {
+        file,
+        written: run.written,
+    })
+}
+
+static READ_FAILED: (u8, &str) = (3, "tcshow: read failed\n");
+
+static WRITE_FAILED: (u8, &str) = (3, "tcshow: write failed\n");
+
+#[test]
+fn each_read_fails(rt: HostRuntime) -> std::result::Result<(), Fail> {
+    let alloc = rt.alloc();
+    let whole = stored(alloc)?;
+    for count in 0..reads_of(&whole) {
+        let streams = (calls(count, 1), calls(999, 1));
+        assert!(rt; ends(alloc, &whole, streams, READ_FAILED), "{count} reads");
     }
-    let (status, written, _) = run(
-        alloc,
-        &file,
-        (reads, 1023),
-        (999, 1023, ErrorKind::TimedOut),
-    );
-    assert!(rt; status == 0 && written == whole.written);
-    for calls in 0..4usize {
-        let (status, written, errors) = run(
-            alloc,
-            &file,
-            (999, 0),
-            (calls, 0, ErrorKind::TimedOut),
-        );
+    assert!(rt; is_whole(alloc, &whole));
+    // interrupted too often
+    let streams = (calls(reads_of(&whole), 1024), calls(999, 0));
+    assert!(rt; ends(alloc, &whole, streams, READ_FAILED));
+    Ok(())
+}
+
+#[test]
+fn each_write_fails(rt: HostRuntime) -> std::result::Result<(), Fail> {
+    let alloc = rt.alloc();
+    let whole = stored(alloc)?;
+    for count in 0..4usize {
+        let streams = (calls(999, 0), calls(count, 0));
         assert!(rt;
-            status == 3 && is_front(&written, &whole.written),
-            "{calls} writes"
+            ends(alloc, &whole, streams, WRITE_FAILED),
+            "{count} writes"
         );
-        assert!(rt; errors.as_slice() == b"tcshow: write failed\n".as_slice());
-        let (status, written, errors) = run(
-            alloc,
-            &file,
-            (999, 0),
-            (calls, 0, ErrorKind::BrokenPipe),
-        );
-        assert!(rt;
-            status == 0 && is_front(&written, &whole.written),
-            "{calls} writes"
-        );
-        assert!(rt; errors.is_empty());
+        // one that is closed is no failure
+        let closed = (calls(999, 0), (count, 0, ErrorKind::BrokenPipe));
+        assert!(rt; ends(alloc, &whole, closed, (0, "")), "{count} writes");
     }
     // interrupted too often
-    let (status, _, _) = run(alloc, &file, (reads, 1024), (999, 0, ErrorKind::TimedOut));
-    assert!(rt; status == 3);
-    let (status, _, _) = run(alloc, &file, (reads, 0), (999, 1024, ErrorKind::TimedOut));
-    assert!(rt; status == 3);
+    let streams = (calls(reads_of(&whole), 0), calls(999, 1024));
+    assert!(rt; ends(alloc, &whole, streams, WRITE_FAILED));
     Ok(())
 }

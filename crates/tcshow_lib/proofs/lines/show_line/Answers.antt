@@ -14,6 +14,7 @@ returns-in_ok-write_much-in-Some-clause-ran g c =
     let line = take c.in-Some.end rest in (
       things_at header c.args.dump.now.items line,
       puts_progress (things_at header c.args.dump.now.items line) _ _ _ _ _ c.in_ok-put_front-in-Some.ensures.put c.in_ok-write_much-in-Some.ensures.ran,
-      line_gives header c.args.dump.now.items line c.put_front.new.dump.items (left_of c.args.input.now reader) (rest_of c.use_line.new.self) (drop (c.in-Some.end + 1) rest) reader
+      line_gives header c.args.dump.now.items line c.put_front.new.dump.items (left_of c.args.input.now reader)
+          (rest_of c.use_line.new.self) (drop (c.in-Some.end + 1) rest) reader
           (c.in-Some.ensures.line reader) c.use_line.ensures c.in_ok-put_front-in-Some.ensures.dump,
     )

@@ -1,4 +1,4 @@
-use Rattle.std.proofs.Common.{◌∙◌, ◌++◌}
+use Rattle.std.proofs.Common.{◌∙◌}
 use Rattle.std.proofs.lemmas.Result.{on_ok_weaker}
 use Rattle.tcshow_lib.specs.Reading.{things_at, things_dumped, dump_after}
 use Rattle.tcshow_lib.specs.State.{state_of}

@@ -10,6 +10,7 @@ use Rattle.tcshow_lib.proofs.shower.Shower.put_outline.Goals as goal
 pub returns-clause-put : goal.returns-clause-put
 returns-clause-put g c =
     on_ok_weaker c.count_fault.result
-    (page_counted (what_of c.columns_of-columns.result.root) (message_view c.args.found.now) (is_some c.name_of.result) (state_of c.args.self.now) (state_of c.put_page.new.self)
+    (page_counted (what_of c.columns_of-columns.result.root) (message_view c.args.found.now) (is_some c.name_of.result)
+    (state_of c.args.self.now) (state_of c.put_page.new.self)
     (state_of c.count_fault.new.self) c.in_ok-put_page.ensures.put (c.name_of.ensures ∙ ap is_some c.in_ok-fault.ensures.error))
     c.count_fault.ensures.counted
