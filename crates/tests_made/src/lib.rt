@@ -6,4 +6,6 @@ mod build;
 #[cfg(test)]
 mod make;
 #[cfg(test)]
+mod message_json;
+#[cfg(test)]
 mod requests;

@@ -1,5 +1,8 @@
-//! Requests that are built, with their bytes; parts that aren't settled; and dumps made into requests.
+//! Requests that are built, with their bytes; parts that aren't settled; dumps made into requests, and the order in which these
+//! work; actions that stand alone or share a place.
 
+mod actions;
 mod built;
+mod planned;
 mod readme;
 mod restored;

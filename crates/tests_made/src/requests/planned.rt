@@ -165,27 +165,59 @@ fn places(alloc: Global, steps: &[Step<Item, Key, Global>]) -> Result<String, Fa
     Ok(text)
 }
 
-// The same with what becomes of them.
+// What becomes of a step, as a line.
+fn fate(alloc: Global, item: &Item) -> Result<String, Fail> {
+    let place = item.place;
+    match &item.fate {
+        Fate::Request => Ok(format!(in alloc; "{place} request\n")?),
+        Fate::Made => Ok(format!(in alloc; "{place} made\n")?),
+        Fate::Refused(reason) => Ok(format!(in alloc; "{place} {reason}\n")?),
+    }
+}
+
+// What becomes of steps.
 fn fates(alloc: Global, steps: &[Step<Item, Key, Global>]) -> Result<String, Fail> {
     let mut text = String::new(alloc);
     for step in steps {
-        let place = step.item.place;
-        let fate = match &step.item.fate {
-            Fate::Request => format!(in alloc; "{place} request\n")?,
-            Fate::Made => format!(in alloc; "{place} made\n")?,
-            Fate::Refused(reason) => format!(in alloc; "{place} {reason}\n")?,
-        };
-        text.push_str(&fate)?;
+        let line = fate(alloc, &step.item)?;
+        text.push_str(&line)?;
     }
     Ok(text)
+}
+
+// What a plan has to know of a dump; without an object it is one of actions.
+fn entry(
+    alloc: Global,
+    place: usize,
+    object: Option<Object>,
+    text: &str,
+) -> Result<Entry<Global>, Fail> {
+    let bytes = hex::decode(alloc, text)?;
+    match object {
+        Some(object) => entry_of_object(alloc, place, object, &bytes),
+        None => entry_without_object(alloc, place, &bytes),
+    }
+}
+
+fn entry_of_object(
+    alloc: Global,
+    place: usize,
+    object: Object,
+    bytes: &[u8],
+) -> Result<Entry<Global>, Fail> {
+    let dump = TcMessage::parse(alloc, bytes)?;
+    Ok(entry_of(alloc, place, Fate::Request, object, &dump)?)
+}
+
+fn entry_without_object(alloc: Global, place: usize, bytes: &[u8]) -> Result<Entry<Global>, Fail> {
+    let dump = TcActionMessage::parse(alloc, bytes)?;
+    Ok(entry_of_actions(alloc, place, Fate::Request, &dump)?)
 }
 
 fn planned(alloc: Global, rows: &[(Object, &str)]) -> Result<Order<Item, Key, Global>, Fail> {
     let mut entries = Vec::new(alloc);
     for (place, (object, text)) in rows.iter().enumerate() {
-        let bytes = hex::decode(alloc, text)?;
-        let dump = TcMessage::parse(alloc, &bytes)?;
-        entries.push(entry_of(alloc, place, Fate::Request, *object, &dump)?)?;
+        entries.push(entry(alloc, place, Some(*object), text)?)?;
     }
     Ok(plan(alloc, entries)?)
 }
@@ -261,39 +293,26 @@ fn what_others_make_is_no_request(rt: HostRuntime) -> Result<(), Fail> {
     Ok(())
 }
 
-// What a plan has to know of a dump; without an object it is one of actions.
-fn entry(
-    alloc: Global,
-    place: usize,
-    object: Option<Object>,
-    text: &str,
-) -> Result<Entry<Global>, Fail> {
-    let bytes = hex::decode(alloc, text)?;
-    let entry = match object {
-        Some(object) => {
-            let dump = TcMessage::parse(alloc, &bytes)?;
-            entry_of(alloc, place, Fate::Request, object, &dump)?
-        }
-        None => {
-            let dump = TcActionMessage::parse(alloc, &bytes)?;
-            entry_of_actions(alloc, place, Fate::Request, &dump)?
-        }
-    };
-    Ok(entry)
+// Actions that can't be made: the filter has its own in full.
+fn refused_actions(alloc: Global, place: usize) -> Result<Entry<Global>, Fail> {
+    let dump = TcActionMessage::default_in(alloc);
+    let fate = Fate::Refused(Reason::Restore(RestoreError::GotoChain));
+    Ok(entry_of_actions(alloc, place, fate, &dump)?)
+}
+
+fn planned_actions(alloc: Global) -> Result<Order<Item, Key, Global>, Fail> {
+    let mut entries = Vec::new(alloc);
+    for (place, (object, text)) in ACTIONS.iter().enumerate() {
+        entries.push(entry(alloc, place, *object, text)?)?;
+    }
+    entries.push(refused_actions(alloc, 6)?)?;
+    Ok(plan(alloc, entries)?)
 }
 
 #[test]
 fn actions_before_filters_and_once(rt: HostRuntime) -> Result<(), Fail> {
     let alloc = rt.alloc();
-    let mut entries = Vec::new(alloc);
-    for (place, (object, text)) in ACTIONS.iter().enumerate() {
-        entries.push(entry(alloc, place, *object, text)?)?;
-    }
-    // One that can't be made: the filter has its own in full.
-    let dump = TcActionMessage::default_in(alloc);
-    let fate = Fate::Refused(Reason::Restore(RestoreError::GotoChain));
-    entries.push(entry_of_actions(alloc, 6, fate, &dump)?)?;
-    let made = plan(alloc, entries)?;
+    let made = planned_actions(alloc)?;
     assert!(rt;
         fates(alloc, &made.order)?.as_str()
             == "1 request\n3 request\n4 request\n5 request\n0 request\n"

@@ -8,8 +8,8 @@ use tc_actions::{TcAction, TcActionNatOption};
 use tc_options::{TcFilterFlowerOption, TcFilterMatchAllOption, TcFilterU32Option};
 use tc_records::TcNat;
 use tc_requests::{
-    RequestError, RestoreError, Target, action, action_message, filter, kind_of_action, raw_action,
-    request_of_actions, standing_index,
+    FilterOption, RequestError, RestoreError, Target, action, action_message, filter,
+    kind_of_action, raw_action, request_of_actions, standing_index,
 };
 
 // What Linux dumps of mirred: three actions that a filter holds each (1 reference, 1 of a filter), and one that stands alone (1, 0).
@@ -104,22 +104,35 @@ fn actions_that_stand_alone(rt: HostRuntime) -> Result<(), Fail> {
     Ok(())
 }
 
-// The kinds of actions, and their indices where they stand by themselves.
+// The kind of an action, and its index where it stands by itself.
+fn index(alloc: Global, action: &TcAction) -> Result<String, Fail> {
+    let kind = kind_of_action(action);
+    match standing_index(action) {
+        Some(index) => Ok(format!(in alloc; "{kind} {index} ")?),
+        None => Ok(format!(in alloc; "{kind} - ")?),
+    }
+}
+
+// The same of the actions of an attribute.
+fn indices_in(alloc: Global, attribute: &TcActionMessageAttribute) -> Result<String, Fail> {
+    let mut text = String::new(alloc);
+    if let TcActionMessageAttribute::Actions(actions) = attribute {
+        for action in actions {
+            let one = index(alloc, action)?;
+            text.push_str(&one)?;
+        }
+    }
+    Ok(text)
+}
+
+// The same of a dump.
 fn indices(alloc: Global, dump: &str) -> Result<String, Fail> {
     let bytes = hex::decode(alloc, dump)?;
-    let mut text = String::new(alloc);
     let message = TcActionMessage::parse(alloc, &bytes)?;
+    let mut text = String::new(alloc);
     for attribute in &message.attributes {
-        if let TcActionMessageAttribute::Actions(actions) = attribute {
-            for action in actions {
-                let kind = kind_of_action(action);
-                let index = match standing_index(action) {
-                    Some(index) => format!(in alloc; "{kind} {index} ")?,
-                    None => format!(in alloc; "{kind} - ")?,
-                };
-                text.push_str(&index)?;
-            }
-        }
+        let some = indices_in(alloc, attribute)?;
+        text.push_str(&some)?;
     }
     Ok(text)
 }
@@ -153,32 +166,54 @@ fn said<M: Drop>(alloc: Global, outcome: Result<M, RequestError>) -> Result<Stri
     }
 }
 
+// An action without options for a place.
+fn raw(alloc: Global, place: u16, kind: &str) -> Result<TcAction, RequestError> {
+    raw_action(alloc, place, kind, Vec::<DefaultNla<Global>>::new(alloc))
+}
+
 #[test]
 fn places_of_actions(rt: HostRuntime) -> Result<(), Fail> {
     let alloc = rt.alloc();
-    let raw = |place, kind| raw_action(alloc, place, kind, Vec::<DefaultNla<Global>>::new(alloc));
     assert!(rt; said(alloc, nat(alloc, 0))?.as_str() == "an action at place 0");
-    assert!(rt; said(alloc, raw(0, "gact"))?.as_str() == "an action at place 0");
-    assert!(rt; said(alloc, raw(1, "gact"))?.is_empty());
+    assert!(rt; said(alloc, raw(alloc, 0, "gact"))?.as_str() == "an action at place 0");
+    assert!(rt; said(alloc, raw(alloc, 1, "gact"))?.is_empty());
     assert!(rt;
-        said(alloc, raw(1, "nat"))?.as_str() == "raw options under a kind whose options are known"
+        said(alloc, raw(alloc, 1, "nat"))?.as_str()
+            == "raw options under a kind whose options are known"
     );
-    assert!(rt; said(alloc, action_message(alloc, two(alloc, 1, 2)?))?.is_empty());
-    assert!(rt;
-        said(alloc, action_message(alloc, two(alloc, 2, 2)?))?.as_str() == "two actions at place 2"
-    );
-    let about = Target::default();
-    let flower = vec![in alloc; TcFilterFlowerOption::Actions(two(alloc, 3, 3)?)]?;
-    assert!(rt;
-        said(alloc, filter(alloc, &about, 1, 0x0800, None, flower))?.as_str()
-            == "two actions at place 3"
-    );
-    let u32_options = vec![in alloc; TcFilterU32Option::Action(two(alloc, 4, 4)?)]?;
-    assert!(rt;
-        said(alloc, filter(alloc, &about, 1, 0x0800, None, u32_options))?.as_str()
-            == "two actions at place 4"
-    );
-    let apart = vec![in alloc; TcFilterMatchAllOption::Action(two(alloc, 1, 2)?)]?;
-    assert!(rt; said(alloc, filter(alloc, &about, 1, 0x0800, None, apart))?.is_empty());
+    Ok(())
+}
+
+// What is said of a message with two actions at these places.
+fn said_of_message(alloc: Global, first: u16, second: u16) -> Result<String, Fail> {
+    said(alloc, action_message(alloc, two(alloc, first, second)?))
+}
+
+#[test]
+fn places_in_a_message(rt: HostRuntime) -> Result<(), Fail> {
+    let alloc = rt.alloc();
+    assert!(rt; said_of_message(alloc, 1, 2)?.is_empty());
+    assert!(rt; said_of_message(alloc, 2, 2)?.as_str() == "two actions at place 2");
+    Ok(())
+}
+
+// What is said of a filter with this option.
+fn said_of_filter<O: FilterOption<Global>>(alloc: Global, option: O) -> Result<String, Fail> {
+    let options = vec![in alloc; option]?;
+    said(
+        alloc,
+        filter(alloc, &Target::default(), 1, 0x0800, None, options),
+    )
+}
+
+#[test]
+fn places_in_a_filter(rt: HostRuntime) -> Result<(), Fail> {
+    let alloc = rt.alloc();
+    let flower = TcFilterFlowerOption::Actions(two(alloc, 3, 3)?);
+    assert!(rt; said_of_filter(alloc, flower)?.as_str() == "two actions at place 3");
+    let u32_option = TcFilterU32Option::Action(two(alloc, 4, 4)?);
+    assert!(rt; said_of_filter(alloc, u32_option)?.as_str() == "two actions at place 4");
+    let apart = TcFilterMatchAllOption::Action(two(alloc, 1, 2)?);
+    assert!(rt; said_of_filter(alloc, apart)?.is_empty());
     Ok(())
 }

@@ -93,3 +93,17 @@ fn nothing_is_lost(rt: HostRuntime) -> Result<(), Fail> {
     );
     Ok(())
 }
+
+// A warning that ends in two NULs: of each message that is read of it, until it is settled, one goes.
+#[test]
+fn unsettled_messages_are_not_made(rt: HostRuntime) -> Result<(), Fail> {
+    let alloc = rt.alloc();
+    let text =
+        r#"{"header":{"family":"Unspec"},"attributes":[{"RootExtWarnMsg":"a\u0000\u0000"}]}"#;
+    let why = reason(alloc, made_of_actions(alloc, text)?)?;
+    assert!(rt;
+        why.as_str() == r#"/attributes/0/RootExtWarnMsg: found "a\u0000\u0000", wanted "a""#,
+        "{why}"
+    );
+    Ok(())
+}
