@@ -1,8 +1,8 @@
 //! A message's attributes by their classes.
 
+use crate::calls::{read_attribute, see_attribute};
 use std::test::Fail;
 use tc_wire::TcAttribute;
-use tests_calls::{read_attribute, see_attribute};
 
 #[test]
 fn presence_is_written_whatever_it_says(rt: HostRuntime) -> Result<(), Fail> {

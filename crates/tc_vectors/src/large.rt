@@ -1,11 +1,11 @@
 //! Large messages: a list of 4,096 attributes, a selector of 255 keys, a text of 60,000 letters, and a warning of 300 NULs. What they are read
 //! as is spelled here by itself.
 
+use crate::calls::{Seen, read_action, read_tc};
 use crate::worked::{NO_HEADER, shown_action, shown_tc};
 use std::alloc::{AllocError, Global};
 use std::test::Fail;
 use tc_wire::settle_action;
-use tests_calls::{Seen, read_action, read_tc};
 use tests_messages::{
     Expected, MANY_ATTRIBUTES, MANY_KEYS, MANY_LETTERS, MANY_NULS, Row, large_messages,
 };

@@ -1,12 +1,12 @@
 //! Messages that are too long to be written, and the longest that are not.
 
+use crate::calls::{read_tc, see_tc};
 use crate::made::{kind, options, with};
 use nla_frames::DefaultNla;
 use std::alloc::{AllocError, Global};
 use std::test::Fail;
 use tc_canon::is_canonical_tc;
 use tc_wire::{TcAttribute, TcMessage, TcOption, TcQdiscFqCodelOption, TcQdiscIngressOption};
-use tests_calls::{read_tc, see_tc};
 use tests_messages::{Form, too_long};
 
 /// An attribute of an unknown type with so many bytes.

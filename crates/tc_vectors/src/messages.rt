@@ -1,12 +1,12 @@
 //! Worked messages.
 
+use crate::calls::{read_attributes, read_option, read_options, see_tc};
 use crate::made::{kept, with};
 use crate::tables::after_zeros;
 use crate::worked::{NO_HEADER, fault_of, is_read_as, shown_tc};
 use std::alloc::{AllocError, Global};
 use std::test::Fail;
 use tc_wire::{DecodeError, TcAttribute, TcHeader, TcMessage};
-use tests_calls::{read_attributes, read_option, read_options, see_tc};
 
 /// A message about a qdisc `fq_codel` with a limit of 10240 packets: its header, its kind and its options.
 #[rattlefmt::skip]

@@ -1,5 +1,6 @@
 //! Values made by hand: which of them read back as themselves, and as what the others do.
 
+use crate::calls::{Seen, see_action, see_attribute, see_option, see_tc};
 use crate::made::{kept, kind, options, pushed, raw, with};
 use crate::tables::{after_zeros, settles};
 use crate::worked::{NO_HEADER, shown_action, shown_tc};
@@ -13,7 +14,6 @@ use tc_records::{
     TcActionMessageHeader, TcActionType, TcHeader, TcMirror, TcMirrorActionType, TcNat, TcTunnelKey,
 };
 use tc_wire::{TcAttribute, TcMessage, TcOption, TcQdiscFqCodelOption};
-use tests_calls::{Seen, see_action, see_attribute, see_option, see_tc};
 
 // A frame of fq_codel's limit, 5 packets.
 const LIMIT: [u8; 8] = [8, 0, 2, 0, 5, 0, 0, 0];

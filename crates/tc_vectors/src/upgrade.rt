@@ -1,5 +1,6 @@
 //! Messages that version 1 read, which had no raw options, and what they are upgraded to.
 
+use crate::calls::see_tc;
 use crate::made::{kept, kind, options, pushed, with};
 use crate::settled::reads_back_as;
 use crate::tables::after_zeros;
@@ -10,7 +11,6 @@ use std::test::Fail;
 use tc_options::{TcOption, TcQdiscFqCodelOption};
 use tc_records::TcHeader;
 use tc_wire::{TcAttribute, TcMessage};
-use tests_calls::see_tc;
 
 /// A kind, empty for none, the other options after it, each a word and its value, and what the attributes are upgraded to.
 type Row = (&'static str, &'static [(u16, &'static [u8])], &'static str);

@@ -1,12 +1,12 @@
 //! Worked messages: what they are read as, what is written of them, and why others are refused.
 
+use crate::calls::{Seen, read_action, read_tc, see_action};
 use crate::tables::{after_zeros, cells, is_shown, or_same, pair, rows};
 use nla_frames::{AddressFamily, DecodeError};
 use std::alloc::{AllocError, Global};
 use std::test::Fail;
 use tc_action_messages::TcActionMessage;
 use tc_canon::{is_canonical_action, is_canonical_tc};
-use tests_calls::{Seen, read_action, read_tc, see_action};
 
 // A row of messages that are read: frames in hex, the attributes that they are read as, and the frames that are written of these, where they
 // aren't the same, which only canonical ones are. A row of those that are refused: frames in hex, and the first fault in them.

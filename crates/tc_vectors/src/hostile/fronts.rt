@@ -1,10 +1,10 @@
 //! The first of the worked messages, cut at every length, and with another length of its option.
 
+use crate::calls::{read_attributes, read_tc};
 use std::alloc::Global;
 use std::process::Abort;
 use std::test::Fail;
 use tc_wire::{DecodeError, is_canonical_tc};
-use tests_calls::{read_attributes, read_tc};
 use tests_messages::made;
 
 // The fault of so many of its first bytes.
