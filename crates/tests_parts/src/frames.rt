@@ -81,8 +81,7 @@ fn is_emitted(kept: &DefaultNla) -> bool {
 fn an_unknown_frame_is_kept(rt: HostRuntime) -> Result<(), Fail> {
     let alloc = rt.alloc();
     assert!(rt; are_equal(kept(alloc), unknown(alloc), 99));
-    let clone: Result<DefaultNla, AllocError> = unknown(alloc)?.clone();
-    assert!(rt; are_equal(kept(alloc), clone, 99));
+    assert!(rt; are_equal(kept(alloc), Ok(unknown(alloc)?.clone()?), 99));
     assert!(rt; is_emitted(&kept(alloc)?));
     Ok(())
 }
