@@ -1,11 +1,11 @@
 //! Large messages: a list of 4,096 attributes, a selector of 255 keys, a text of 60,000 letters, and a warning of 300 NULs. What they are read
 //! as is spelled here by itself.
 
+use crate::calls::{Seen, read_action, read_tc};
 use crate::worked::{NO_HEADER, shown_action, shown_tc};
 use std::alloc::{AllocError, Global};
 use std::test::Fail;
 use tc_wire::settle_action;
-use tests_calls::{Seen, read_action, read_tc};
 use tests_messages::{
     Expected, MANY_ATTRIBUTES, MANY_KEYS, MANY_LETTERS, MANY_NULS, Row, large_messages,
 };
@@ -66,35 +66,54 @@ fn is_read_as(alloc: Global, rows: &[Row], place: usize, attributes: &str) -> Re
     Ok(is_seen(&read_tc(alloc, &row.input.bytes)?, row, &text, true))
 }
 
+/// The kind of many letters as `Debug` shows it.
+fn letters(alloc: Global) -> Result<String, AllocError> {
+    let letters = repeated(alloc, "a", MANY_LETTERS)?;
+    format!(in alloc; "[Kind(\"{letters}\")]")
+}
+
+/// The attributes of the message of this place as `Debug` shows them.
+fn attributes_of(alloc: Global, place: usize) -> Result<String, AllocError> {
+    match place {
+        0 => chains(alloc),
+        1 => selector(alloc),
+        _ => letters(alloc),
+    }
+}
+
 #[test]
 fn are_read_and_written(rt: HostRuntime) -> Result<(), Fail> {
     let alloc = rt.alloc();
     let rows = large_messages(alloc)?;
-    assert!(rt; is_read_as(alloc, &rows, 0, &chains(alloc)?)?);
-    assert!(rt; is_read_as(alloc, &rows, 1, &selector(alloc)?)?);
-    let letters = repeated(alloc, "a", MANY_LETTERS)?;
-    assert!(rt;
-        is_read_as(
-            alloc,
-            &rows,
-            2,
-            &format!(in alloc; "[Kind(\"{letters}\")]")?
-        )?
-    );
+    for place in 0..3 {
+        assert!(rt;
+            is_read_as(alloc, &rows, place, &attributes_of(alloc, place)?)?,
+            "{place}"
+        );
+    }
     Ok(())
 }
 
-// One of the NULs ends the text, so the others are read; each rewrite takes one away.
+/// The message with the warning as `Debug` shows it: one of the NULs ends the text, so the others are read.
+fn warning(alloc: Global) -> Result<String, AllocError> {
+    let nuls = repeated(alloc, "\\0", MANY_NULS - 1)?;
+    shown_action(alloc, &format!(in alloc; "[RootExtWarnMsg(\"a{nuls}\")]")?)
+}
+
+/// True if the warning is settled without its NULs, of which each rewrite takes one away.
+fn is_settled(alloc: Global, bytes: &[u8]) -> Result<bool, Fail> {
+    let (settled, rewrites) = settle_action(alloc, bytes)?;
+    let wanted = [0, 0, 0, 0, 5, 0, 5, 0, b'a', 0, 0, 0];
+    Ok(settled.as_slice() == wanted.as_slice() && rewrites == MANY_NULS)
+}
+
 #[test]
 fn a_warning_is_settled(rt: HostRuntime) -> Result<(), Fail> {
     let alloc = rt.alloc();
     let rows = large_messages(alloc)?;
     let row = rows.get(3).ok_or("four rows")?;
-    let nuls = repeated(alloc, "\\0", MANY_NULS - 1)?;
-    let text = shown_action(alloc, &format!(in alloc; "[RootExtWarnMsg(\"a{nuls}\")]")?)?;
+    let text = warning(alloc)?;
     assert!(rt; is_seen(&read_action(alloc, &row.input.bytes)?, row, &text, false));
-    let (settled, rewrites) = settle_action(alloc, &row.input.bytes)?;
-    assert!(rt; settled.as_slice() == &[0, 0, 0, 0, 5, 0, 5, 0, b'a', 0, 0, 0][..]);
-    assert!(rt; rewrites == MANY_NULS);
+    assert!(rt; is_settled(alloc, &row.input.bytes)?);
     Ok(())
 }

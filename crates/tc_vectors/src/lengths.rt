@@ -1,12 +1,12 @@
 //! Messages that are too long to be written, and the longest that are not.
 
+use crate::calls::{read_tc, see_tc};
 use crate::made::{kind, options, with};
 use nla_frames::DefaultNla;
 use std::alloc::{AllocError, Global};
 use std::test::Fail;
 use tc_canon::is_canonical_tc;
 use tc_wire::{TcAttribute, TcMessage, TcOption, TcQdiscFqCodelOption, TcQdiscIngressOption};
-use tests_calls::{read_tc, see_tc};
 use tests_messages::{Form, too_long};
 
 /// An attribute of an unknown type with so many bytes.
@@ -32,17 +32,26 @@ fn fits(alloc: Global, length: usize) -> Result<bool, AllocError> {
     Ok(see_tc(alloc, &message)?.emitted.is_some())
 }
 
+/// True if the message of these bytes doesn't fit, is settled, and is the one that is made with an option of 65527 bytes.
+fn is_read_as_made(alloc: Global, bytes: &[u8]) -> Result<bool, Fail> {
+    let read = read_tc(alloc, bytes)?;
+    let made = see_tc(alloc, &with_ingress_option(alloc, 65527)?)?;
+    Ok(read.emitted.is_none() && read.is_settled && read.text == made.text)
+}
+
 #[test]
 fn of_options(rt: HostRuntime) -> Result<(), Fail> {
     let alloc = rt.alloc();
     let bytes = too_long(alloc, Form::Tc)?.bytes;
-    assert!(rt; bytes.len() == 65568);
-    assert!(rt; !is_canonical_tc(&bytes));
-    let read = read_tc(alloc, &bytes)?;
-    assert!(rt; read.emitted.is_none() && read.is_settled);
-    assert!(rt; read.text == see_tc(alloc, &with_ingress_option(alloc, 65527)?)?.text);
-    assert!(rt; fits(alloc, 65524)?);
-    assert!(rt; !fits(alloc, 65525)?);
+    assert!(rt; bytes.len() == 65568 && !is_canonical_tc(&bytes));
+    assert!(rt; is_read_as_made(alloc, &bytes)?);
+    Ok(())
+}
+
+#[test]
+fn of_an_option(rt: HostRuntime) -> Result<(), Fail> {
+    assert!(rt; fits(rt.alloc(), 65524)?);
+    assert!(rt; !fits(rt.alloc(), 65525)?);
     Ok(())
 }
 

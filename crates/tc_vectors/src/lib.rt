@@ -1,4 +1,4 @@
-//! Tests alone, of messages, their attributes and their options: what no contract says, and worked bytes.
+//! Tests alone, of messages, their attributes and their options: what no contract says, worked bytes, and hostile ones.
 #![tactic(auto)]
 
 #[cfg(test)]
@@ -6,11 +6,15 @@ mod action_messages;
 #[cfg(test)]
 mod attributes;
 #[cfg(test)]
+mod calls;
+#[cfg(test)]
 mod canonical;
 #[cfg(test)]
 mod exports;
 #[cfg(test)]
 mod flower;
+#[cfg(test)]
+mod hostile;
 #[cfg(test)]
 mod known;
 #[cfg(test)]

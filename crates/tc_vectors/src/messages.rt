@@ -1,12 +1,12 @@
 //! Worked messages.
 
+use crate::calls::{read_attributes, read_option, read_options, see_tc};
 use crate::made::{kept, with};
 use crate::tables::after_zeros;
 use crate::worked::{NO_HEADER, fault_of, is_read_as, shown_tc};
 use std::alloc::{AllocError, Global};
 use std::test::Fail;
 use tc_wire::{DecodeError, TcAttribute, TcHeader, TcMessage};
-use tests_calls::{read_attributes, read_option, read_options, see_tc};
 
 /// A message about a qdisc `fq_codel` with a limit of 10240 packets: its header, its kind and its options.
 #[rattlefmt::skip]
@@ -70,15 +70,18 @@ fn options() -> &'static [u8] {
     &FQ_CODEL[36..]
 }
 
+/// True if its options are read under a kind as the first text, and the frame in them as the second.
+fn are_options(alloc: Global, kind: &str, list: &str, first: &str) -> Result<bool, Fail> {
+    let read = read_options(alloc, kind, options())?;
+    Ok(read.0.as_str() == list && read.1.as_str() == first)
+}
+
+// Under another kind, the payload and the frame in it are kept raw.
 #[test]
 fn options_go_by_the_kind(rt: HostRuntime) -> Result<(), Fail> {
-    let (options_read, first) = read_options(rt.alloc(), "fq_codel", options())?;
-    assert!(rt; options_read.as_str() == "[FqCodel(Limit(10240))]");
-    assert!(rt; first.as_str() == "[FqCodel(Limit(10240))]");
-    // under another kind, the payload and the frame in it are kept raw
-    let (options_read, first) = read_options(rt.alloc(), "sfq", options())?;
-    assert!(rt; options_read.as_str() == KEPT);
-    assert!(rt; first.as_str() == KEPT_LIMIT);
+    let limit = "[FqCodel(Limit(10240))]";
+    assert!(rt; are_options(rt.alloc(), "fq_codel", limit, limit)?);
+    assert!(rt; are_options(rt.alloc(), "sfq", KEPT, KEPT_LIMIT)?);
     Ok(())
 }
 
@@ -89,8 +92,7 @@ static KEPT_LIMIT: &str = "[Other(DefaultNla { word: 2, value: [0, 40, 0, 0] })]
 #[test]
 fn an_option_is_read_alone(rt: HostRuntime) -> Result<(), Fail> {
     let read = read_option(rt.alloc(), "fq_codel", &LIMIT)?;
-    assert!(rt; read.is("FqCodel(Limit(10240))", &LIMIT));
-    assert!(rt; read.is_settled);
+    assert!(rt; read.is("FqCodel(Limit(10240))", &LIMIT) && read.is_settled);
     Ok(())
 }
 
@@ -119,14 +121,23 @@ fn has_one_attribute(message: TcMessage) -> bool {
     header == TcHeader::default() && attributes.len() == 1
 }
 
+/// True if the message without an index has no attributes.
+fn is_empty(alloc: Global) -> Result<bool, AllocError> {
+    let text = shown_tc(alloc, NO_HEADER, "[]")?;
+    Ok(see_tc(alloc, &without_index(alloc))?.text == text)
+}
+
+/// True if the message with an attribute that is kept raw is written as its frame.
+fn is_kept(alloc: Global) -> Result<bool, AllocError> {
+    let bytes = after_zeros(alloc, 20, "05000180 ab000000")?;
+    Ok(see_tc(alloc, &with_kept(alloc)?)?.is_emitted_as(&bytes))
+}
+
 #[test]
 fn messages_are_made(rt: HostRuntime) -> Result<(), Fail> {
     let alloc = rt.alloc();
     assert!(rt; TcMessage::with_index(alloc, 7).header.index == 7);
-    let empty = see_tc(alloc, &without_index(alloc))?;
-    assert!(rt; empty.text == shown_tc(alloc, NO_HEADER, "[]")?);
-    let made = see_tc(alloc, &with_kept(alloc)?)?;
-    assert!(rt; made.is_emitted_as(&after_zeros(alloc, 20, "05000180 ab000000")?));
+    assert!(rt; is_empty(alloc)? && is_kept(alloc)?);
     assert!(rt; has_one_attribute(with_kept(alloc)?));
     Ok(())
 }

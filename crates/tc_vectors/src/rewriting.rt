@@ -9,19 +9,28 @@ use tc_canon::is_canonical_tc;
 use tc_wire::{RewriteError, rewrite_action, rewrite_tc, settle_action, settle_tc};
 use tests_messages::{Form, too_long};
 
+/// True if bytes are rewritten as others.
+fn becomes(alloc: Global, bytes: &[u8], written: &[u8]) -> Result<bool, RewriteError> {
+    Ok(rewrite_tc(alloc, bytes)?.as_slice() == written)
+}
+
+/// True if bytes are settled as others, with one rewrite where they aren't the same.
+fn is_settled_as(alloc: Global, bytes: &[u8], written: &[u8]) -> Result<bool, RewriteError> {
+    let (settled, rewrites) = settle_tc(alloc, bytes)?;
+    Ok(
+        settled.as_slice() == written
+            && rewrites == usize::from(bytes != written)
+            && is_canonical_tc(&settled),
+    )
+}
+
 fn is_rewritten(alloc: Global, row: &str) -> Result<bool, Fail> {
     let Some((frames, _, written)) = cells(row) else {
         return Ok(false);
     };
     let bytes = after_zeros(alloc, 20, frames)?;
     let written = after_zeros(alloc, 20, or_same(frames, written))?;
-    let (settled, rewrites) = settle_tc(alloc, &bytes)?;
-    Ok(
-        rewrite_tc(alloc, &bytes)? == written
-            && settled == written
-            && rewrites == usize::from(bytes != written)
-            && is_canonical_tc(&settled),
-    )
+    Ok(becomes(alloc, &bytes, &written)? && is_settled_as(alloc, &bytes, &written)?)
 }
 
 fn are_rewritten(alloc: Global, table: &str) -> Result<(), Fail> {

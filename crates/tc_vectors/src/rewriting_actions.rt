@@ -20,18 +20,34 @@ static WARNINGS: [(&str, &str, usize); 6] = [
     ("08000380 06000000 07000500 61000000", "08000300 06000000 05000500 61000000", 2),
 ];
 
+/// True if bytes are rewritten as others.
+fn becomes(alloc: Global, bytes: &[u8], written: &[u8]) -> Result<bool, RewriteError> {
+    Ok(rewrite_action(alloc, bytes)?.as_slice() == written)
+}
+
+/// True if bytes are settled as others, after so many rewrites.
+fn is_settled_as(
+    alloc: Global,
+    bytes: &[u8],
+    wanted: &[u8],
+    count: usize,
+) -> Result<bool, RewriteError> {
+    let (settled, rewrites) = settle_action(alloc, bytes)?;
+    Ok(settled.as_slice() == wanted && rewrites == count)
+}
+
 fn is_rewritten(alloc: Global, row: &str, is_settled: bool) -> Result<bool, Fail> {
     let Some((frames, _, written)) = cells(row) else {
         return Ok(false);
     };
     let bytes = after_zeros(alloc, 4, frames)?;
     let written = after_zeros(alloc, 4, or_same(frames, written))?;
-    if rewrite_action(alloc, &bytes)? != written {
+    if !becomes(alloc, &bytes, &written)? {
         return Ok(false);
     }
     // what isn't settled takes further rewrites
-    let (settled, rewrites) = settle_action(alloc, &bytes)?;
-    Ok(!is_settled || settled == written && rewrites == usize::from(bytes != written))
+    let rewrites = usize::from(bytes != written);
+    Ok(!is_settled || is_settled_as(alloc, &bytes, &written, rewrites)?)
 }
 
 fn are_rewritten(alloc: Global, table: &str, is_settled: bool) -> Result<(), Fail> {
@@ -56,8 +72,7 @@ fn is_settled_after(
 ) -> Result<bool, Fail> {
     let mut bytes = after_zeros(alloc, 4, row.0)?;
     let wanted = after_zeros(alloc, 4, row.1)?;
-    let (settled, rewrites) = settle_action(alloc, &bytes)?;
-    if settled != wanted || rewrites != row.2 {
+    if !is_settled_as(alloc, &bytes, &wanted, row.2)? {
         return Ok(false);
     }
     for _ in 0..row.2 {
@@ -82,9 +97,9 @@ fn warnings(rt: HostRuntime) -> Result<(), Fail> {
 // The header stays.
 #[test]
 fn a_warning_of_a_family(rt: HostRuntime) -> Result<(), Fail> {
-    let (settled, rewrites) = settle_action(rt.alloc(), &[2, 0, 0, 0, 6, 0, 5, 0, 97, 0, 0, 0])?;
-    assert!(rt; settled.as_slice() == &[2, 0, 0, 0, 5, 0, 5, 0, 97, 0, 0, 0][..]);
-    assert!(rt; rewrites == 1);
+    let bytes = [2, 0, 0, 0, 6, 0, 5, 0, 97, 0, 0, 0];
+    let settled = [2, 0, 0, 0, 5, 0, 5, 0, 97, 0, 0, 0];
+    assert!(rt; is_settled_as(rt.alloc(), &bytes, &settled, 1)?);
     Ok(())
 }
 

@@ -1,5 +1,6 @@
 //! Values made by hand: which of them read back as themselves, and as what the others do.
 
+use crate::calls::{Seen, see_action, see_attribute, see_option, see_tc};
 use crate::made::{kept, kind, options, pushed, raw, with};
 use crate::tables::{after_zeros, settles};
 use crate::worked::{NO_HEADER, shown_action, shown_tc};
@@ -13,7 +14,6 @@ use tc_records::{
     TcActionMessageHeader, TcActionType, TcHeader, TcMirror, TcMirrorActionType, TcNat, TcTunnelKey,
 };
 use tc_wire::{TcAttribute, TcMessage, TcOption, TcQdiscFqCodelOption};
-use tests_calls::{Seen, see_action, see_attribute, see_option, see_tc};
 
 // A frame of fq_codel's limit, 5 packets.
 const LIMIT: [u8; 8] = [8, 0, 2, 0, 5, 0, 0, 0];
@@ -222,17 +222,24 @@ fn of_family(alloc: Global, family: AddressFamily) -> TcMessage {
     message
 }
 
+/// True if the first message is settled, and the second, which isn't, is written as the same bytes, and these are read as the first.
+fn is_named(named: &Seen, other: &Seen) -> bool {
+    let mut bytes = [0; 20];
+    bytes[0] = 2;
+    named.is_settled
+        && !other.is_settled
+        && named.is_emitted_as(&bytes)
+        && other.is_emitted_as(&bytes)
+        && other.again == named.text
+}
+
+// The second family is a number that has a name.
 #[test]
 fn of_a_header(rt: HostRuntime) -> Result<(), Fail> {
     let alloc = rt.alloc();
-    let mut bytes = [0; 20];
-    bytes[0] = 2;
     let named = see_tc(alloc, &of_family(alloc, AddressFamily::Inet))?;
-    assert!(rt; named.is_settled && named.is_emitted_as(&bytes));
-    // a number that has a name
     let other = see_tc(alloc, &of_family(alloc, AddressFamily::Other(2)))?;
-    assert!(rt; !other.is_settled && other.is_emitted_as(&bytes));
-    assert!(rt; other.again == named.text);
+    assert!(rt; is_named(&named, &other));
     Ok(())
 }
 
@@ -273,14 +280,15 @@ fn is_settled_of_type(alloc: Global, word: u16) -> Result<bool, AllocError> {
 #[test]
 fn of_options_under_a_kind(rt: HostRuntime) -> Result<(), Fail> {
     let alloc = rt.alloc();
-    assert!(rt; are_settled_under(alloc, "fq_codel", true)?);
-    assert!(rt; are_settled_under(alloc, "fq_codel\0", false)?);
-    assert!(rt; are_settled_under(alloc, "sfq", false)?);
-    assert!(rt; are_settled_under(alloc, "", false)?);
-    assert!(rt; !is_settled_of_type(alloc, 2)?);
-    assert!(rt; !is_settled_of_type(alloc, 0x8002)?);
-    assert!(rt; is_settled_of_type(alloc, 99)?);
-    assert!(rt; is_settled_of_type(alloc, 0xc063)?);
+    for kind in ["fq_codel", "fq_codel\0", "sfq", ""] {
+        assert!(rt;
+            are_settled_under(alloc, kind, kind == "fq_codel")?,
+            "{kind}"
+        );
+    }
+    for (word, is_settled) in [(2, false), (0x8002, false), (99, true), (0xc063, true)] {
+        assert!(rt; is_settled_of_type(alloc, word)? == is_settled, "{word}");
+    }
     Ok(())
 }
 

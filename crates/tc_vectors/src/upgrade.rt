@@ -1,5 +1,6 @@
 //! Messages that version 1 read, which had no raw options, and what they are upgraded to.
 
+use crate::calls::see_tc;
 use crate::made::{kept, kind, options, pushed, with};
 use crate::settled::reads_back_as;
 use crate::tables::after_zeros;
@@ -10,7 +11,6 @@ use std::test::Fail;
 use tc_options::{TcOption, TcQdiscFqCodelOption};
 use tc_records::TcHeader;
 use tc_wire::{TcAttribute, TcMessage};
-use tests_calls::see_tc;
 
 /// A kind, empty for none, the other options after it, each a word and its value, and what the attributes are upgraded to.
 type Row = (&'static str, &'static [(u16, &'static [u8])], &'static str);
@@ -33,7 +33,8 @@ static ROWS: [Row; 8] = [
     ("fq_codel\0", &[(2, &[1])], "[Kind(\"fq_codel\\0\"), OptionsRaw(DefaultNla { word: 2, value: [1] })]"),
 ];
 
-fn other<A: Allocator>(alloc: A, row: &(u16, &[u8])) -> Result<TcOption<A>, AllocError> {
+/// An option that no table has.
+pub(crate) fn other<A: Allocator>(alloc: A, row: &(u16, &[u8])) -> Result<TcOption<A>, AllocError> {
     Ok(TcOption::Other(kept(alloc, row.0, row.1)?))
 }
 
@@ -133,7 +134,6 @@ fn written_as_they_came(rt: HostRuntime) -> Result<(), Fail> {
     let alloc = rt.alloc();
     let message = made(alloc, &WITHOUT_KIND)?.upgrade();
     let bytes = after_zeros(alloc, 20, "0c000200 08000200 00280000")?;
-    assert!(rt; message.is_settled());
-    assert!(rt; reads_back_as(alloc, &message, &bytes, WITHOUT_KIND.2)?);
+    assert!(rt; message.is_settled() && reads_back_as(alloc, &message, &bytes, WITHOUT_KIND.2)?);
     Ok(())
 }

@@ -1,12 +1,12 @@
 //! Worked messages: what they are read as, what is written of them, and why others are refused.
 
+use crate::calls::{Seen, read_action, read_tc, see_action};
 use crate::tables::{after_zeros, cells, is_shown, or_same, pair, rows};
 use nla_frames::{AddressFamily, DecodeError};
 use std::alloc::{AllocError, Global};
 use std::test::Fail;
 use tc_action_messages::TcActionMessage;
 use tc_canon::{is_canonical_action, is_canonical_tc};
-use tests_calls::{Seen, read_action, read_tc, see_action};
 
 // A row of messages that are read: frames in hex, the attributes that they are read as, and the frames that are written of these, where they
 // aren't the same, which only canonical ones are. A row of those that are refused: frames in hex, and the first fault in them.
@@ -256,24 +256,27 @@ static INET: &str =
 static UNSPEC: &str =
     "TcActionMessage { header: TcActionMessageHeader { family: Unspec }, attributes: [] }";
 
+/// What is seen of an action message of this family.
+fn of_family(alloc: Global, family: AddressFamily) -> Result<Seen, AllocError> {
+    let mut message = TcActionMessage::default_in(alloc);
+    message.header.family = family;
+    see_action(alloc, &message)
+}
+
+/// True if a message of a number that has a name is written, and not settled.
+fn is_unsettled(seen: &Seen) -> bool {
+    !seen.is_settled && !seen.reads_back && seen.is_emitted_as(&[2, 0, 0, 0])
+}
+
 // A header with a family, and with padding that isn't zero; and one that is short.
 #[test]
 fn headers_of_action_messages(rt: HostRuntime) -> Result<(), Fail> {
     let alloc = rt.alloc();
-    assert!(rt;
-        is_seen(
-            &read_action(alloc, &[2, 0, 0, 7])?,
-            INET,
-            &[2, 0, 0, 0],
-            true
-        )
-    );
-    let mut message = TcActionMessage::default_in(alloc);
-    assert!(rt; is_seen(&see_action(alloc, &message)?, UNSPEC, &[0; 4], true));
-    message.header.family = AddressFamily::Other(2);
-    let named = see_action(alloc, &message)?;
-    assert!(rt; !named.is_settled && !named.reads_back);
-    assert!(rt; named.is_emitted_as(&[2, 0, 0, 0]));
+    let padded = read_action(alloc, &[2, 0, 0, 7])?;
+    assert!(rt; is_seen(&padded, INET, &[2, 0, 0, 0], true));
+    let empty = of_family(alloc, AddressFamily::Unspec)?;
+    assert!(rt; is_seen(&empty, UNSPEC, &[0; 4], true));
+    assert!(rt; is_unsettled(&of_family(alloc, AddressFamily::Other(2))?));
     let fault = DecodeError::BufferTooSmall { len: 3, needed: 4 };
     assert!(rt; read_action(alloc, &[0; 3]).err() == Some(fault));
     Ok(())

@@ -5,7 +5,6 @@ use crate::rows::{Row, RowUnder, are_known, are_known_under, are_written};
 use failing_alloc::Failing;
 use nla_frames::{DecodeError, Nla, NlaBuffer, Parseable, Res, Settle};
 use std::alloc::Global;
-use std::process::Abort;
 use std::slice::from_ref;
 use std::test::Fail;
 use tc_actions::{TcAction, TcActionAttribute};
@@ -15,10 +14,14 @@ fn action(alloc: Global, frame: &[u8]) -> Res<TcAction> {
     TcAction::parse(alloc, &NlaBuffer::new_checked(frame)?)
 }
 
-/// True if the action of a frame is settled, and is written as this one.
-fn is_rewritten(alloc: Global, frame: &[u8], written: &[u8]) -> Result<bool, DecodeError> {
+/// True if the action of a frame is settled, and is written as the frame, but for the flag at this place.
+fn is_rewritten(alloc: Global, frame: &[u8], flag: usize) -> Result<bool, Fail> {
     let read = action(alloc, frame)?;
-    Ok(read.is_settled() && are_written(from_ref(&read), written))
+    let mut written = frame.to_vec(alloc)?;
+    if let Some(byte) = written.get_mut(flag) {
+        *byte = 0x80;
+    }
+    Ok(read.is_settled() && are_written(from_ref(&read), &written))
 }
 
 #[rattlefmt::skip]
@@ -37,48 +40,27 @@ fn of_an_action(rt: HostRuntime) -> Result<(), Fail> {
     are_known_under::<TcActionAttribute>(rt.alloc(), &ATTRIBUTES)
 }
 
-/// Of a kind that has statistics, and of one that has none.
+/// Statistics of a kind that has some, and of one that has none; options of an unknown kind, which are kept; the kind last; an action with a flag,
+/// which is read away; a truth value of 2, which is written as 1.
 #[rattlefmt::skip]
-static STATISTICS_OF_ACTIONS: [Row; 2] = [
+static ACTIONS: [Row; 6] = [
     (&[0x20, 0, 1, 0, 13, 0, 1, 0, 0x66, 0x71, 0x5f, 0x63, 0x6f, 0x64, 0x65, 0x6c, 0, 0, 0, 0, 12, 0, 4, 0, 8, 0, 4, 0, 2, 0, 0, 0], "TcAction { tab: 1, attributes: [Kind(\"fq_codel\"), Stats([App(FqCodel(Other([2, 0, 0, 0])))])] }", &[]),
     (&[0x18, 0, 1, 0, 8, 0, 1, 0, 0x6e, 0x61, 0x74, 0, 12, 0, 4, 0, 8, 0, 4, 0, 2, 0, 0, 0], "TcAction { tab: 1, attributes: [Kind(\"nat\"), Stats([App(Other([2, 0, 0, 0]))])] }", &[]),
-];
-
-#[test]
-fn statistics_are_read_under_the_kind_of_the_action(rt: HostRuntime) -> Result<(), Fail> {
-    are_known::<TcAction>(rt.alloc(), &STATISTICS_OF_ACTIONS)
-}
-
-#[rattlefmt::skip]
-static OPTIONS_OF_AN_UNKNOWN_KIND: [Row; 1] = [
     (&[0x1c, 0, 1, 0, 9, 0, 1, 0, 0x67, 0x61, 0x63, 0x74, 0, 0, 0, 0, 12, 0, 2, 0x80, 8, 0, 1, 0, 0, 0, 0, 0], "TcAction { tab: 1, attributes: [Kind(\"gact\"), Options([Other(DefaultNla { word: 1, value: [0, 0, 0, 0] })])] }", &[]),
-];
-
-#[test]
-fn options_of_an_unknown_kind_are_kept(rt: HostRuntime) -> Result<(), Fail> {
-    are_known::<TcAction>(rt.alloc(), &OPTIONS_OF_AN_UNKNOWN_KIND)
-}
-
-#[rattlefmt::skip]
-static KIND_LAST: [Row; 1] = [
     (&[0x20, 0, 1, 0, 12, 0, 2, 0x80, 5, 0, 12, 0, 7, 0, 0, 0, 15, 0, 1, 0, 0x74, 0x75, 0x6e, 0x6e, 0x65, 0x6c, 0x5f, 0x6b, 0x65, 0x79, 0, 0], "TcAction { tab: 1, attributes: [Options([TunnelKey(EncTos(7))]), Kind(\"tunnel_key\")] }", &[]),
+    (&[20, 0, 1, 0x80, 8, 0, 3, 0, 5, 0, 0, 0, 8, 0, 1, 0, 0x6e, 0x61, 0x74, 0], "TcAction { tab: 1, attributes: [Index(5), Kind(\"nat\")] }", &[20, 0, 1, 0, 8, 0, 3, 0, 5, 0, 0, 0, 8, 0, 1, 0, 0x6e, 0x61, 0x74, 0]),
+    (&[0x20, 0, 1, 0, 15, 0, 1, 0, 0x74, 0x75, 0x6e, 0x6e, 0x65, 0x6c, 0x5f, 0x6b, 0x65, 0x79, 0, 0, 12, 0, 2, 0x80, 5, 0, 10, 0, 2, 0, 0, 0], "TcAction { tab: 1, attributes: [Kind(\"tunnel_key\"), Options([TunnelKey(NoCsum(true))])] }", &[0x20, 0, 1, 0, 15, 0, 1, 0, 0x74, 0x75, 0x6e, 0x6e, 0x65, 0x6c, 0x5f, 0x6b, 0x65, 0x79, 0, 0, 12, 0, 2, 0x80, 5, 0, 10, 0, 1, 0, 0, 0]),
 ];
 
 #[test]
-fn the_kind_may_stand_last(rt: HostRuntime) -> Result<(), Fail> {
-    are_known::<TcAction>(rt.alloc(), &KIND_LAST)
+fn are_read_and_written(rt: HostRuntime) -> Result<(), Fail> {
+    are_known::<TcAction>(rt.alloc(), &ACTIONS)
 }
 
-#[rattlefmt::skip]
-static FLAGS: [Row; 1] = [
-    (&[20, 0, 1, 0x80, 8, 0, 3, 0, 5, 0, 0, 0, 8, 0, 1, 0, 0x6e, 0x61, 0x74, 0], "TcAction { tab: 1, attributes: [Index(5), Kind(\"nat\")] }", &[20, 0, 1, 0, 8, 0, 3, 0, 5, 0, 0, 0, 8, 0, 1, 0, 0x6e, 0x61, 0x74, 0]),
-];
-
+// Made by hand, flags are written and not settled.
 #[test]
-fn flags_of_an_action_are_read_away(rt: HostRuntime) -> Result<(), Fail> {
+fn flags_of_an_action_are_written(rt: HostRuntime) -> Result<(), Fail> {
     let alloc = rt.alloc();
-    are_known::<TcAction>(alloc, &FLAGS)?;
-    // made by hand, flags are written and not settled
     let kind = TcActionAttribute::Kind("nat".to_string(alloc)?);
     let mut made: TcAction = TcAction::default_in(alloc);
     made.tab = 0x8001;
@@ -117,16 +99,6 @@ fn faults_of_an_action_have_their_order(rt: HostRuntime) {
     assert!(rt; fault_of(alloc, &text_last) == too_short);
 }
 
-#[rattlefmt::skip]
-static TRUTH_VALUES: [Row; 1] = [
-    (&[0x20, 0, 1, 0, 15, 0, 1, 0, 0x74, 0x75, 0x6e, 0x6e, 0x65, 0x6c, 0x5f, 0x6b, 0x65, 0x79, 0, 0, 12, 0, 2, 0x80, 5, 0, 10, 0, 2, 0, 0, 0], "TcAction { tab: 1, attributes: [Kind(\"tunnel_key\"), Options([TunnelKey(NoCsum(true))])] }", &[0x20, 0, 1, 0, 15, 0, 1, 0, 0x74, 0x75, 0x6e, 0x6e, 0x65, 0x6c, 0x5f, 0x6b, 0x65, 0x79, 0, 0, 12, 0, 2, 0x80, 5, 0, 10, 0, 1, 0, 0, 0]),
-];
-
-#[test]
-fn a_truth_value_is_written_as_one(rt: HostRuntime) -> Result<(), Fail> {
-    are_known::<TcAction>(rt.alloc(), &TRUTH_VALUES)
-}
-
 #[test]
 fn the_default_has_no_kind(rt: HostRuntime) {
     let default: TcAction = TcAction::default_in(rt.alloc());
@@ -151,48 +123,50 @@ fn a_cookie_has_at_most_65531_bytes(rt: HostRuntime) -> Result<(), Fail> {
     Ok(())
 }
 
+// What `tc` sends has the flag in the word of its options, and what Linux reports hasn't.
 #[test]
-fn what_tc_sends_is_written_as_it_came(rt: HostRuntime) -> Result<(), Fail> {
-    let alloc = rt.alloc();
-    assert!(rt; is_rewritten(alloc, &MIRRED_SENT, &MIRRED_SENT)?);
-    assert!(rt; is_rewritten(alloc, &TUNNEL_KEY_SENT, &TUNNEL_KEY_SENT)?);
-    assert!(rt; is_rewritten(alloc, &NAT_TOLD, &NAT_TOLD)?);
+fn options_are_written_with_the_nested_flag(rt: HostRuntime) -> Result<(), Fail> {
+    for frame in [MIRRED_SENT.as_slice(), &TUNNEL_KEY_SENT, &NAT_TOLD] {
+        assert!(rt; is_rewritten(rt.alloc(), frame, frame.len())?, "{frame:?}");
+    }
+    for (frame, flag) in [(GACT_TOLD.as_slice(), 111), (&MIRRED_TOLD, 107)] {
+        assert!(rt; is_rewritten(rt.alloc(), frame, flag)?, "{frame:?}");
+    }
     Ok(())
 }
 
-#[test]
-fn options_are_written_with_the_nested_flag(rt: HostRuntime) -> Result<(), Fail> {
-    let mut gact = GACT_TOLD;
-    gact[111] = 0x80;
-    assert!(rt; is_rewritten(rt.alloc(), &GACT_TOLD, &gact)?);
-    let mut mirred = MIRRED_TOLD;
-    mirred[107] = 0x80;
-    assert!(rt; is_rewritten(rt.alloc(), &MIRRED_TOLD, &mirred)?);
-    Ok(())
+/// True if an action is settled and written as its frame, which takes no memory.
+fn is_written_without_memory(
+    failing: &Failing<Global>,
+    action: &TcAction<&Failing<Global>>,
+    frame: &[u8],
+) -> bool {
+    failing.refuse(1);
+    action.is_settled() && are_written(from_ref(action), frame) && !failing.has_refused()
 }
 
 /// True if an action is read although the request of this number was to be refused: none had it. Where one was refused, the read fails for that.
-fn is_read(rt: &impl Abort, alloc: Global, frame: &[u8], at: u64) -> Result<bool, Fail> {
+fn is_read(alloc: Global, frame: &[u8], at: u64) -> Result<bool, Fail> {
     let failing = Failing::new(alloc, at);
-    let result = TcAction::parse(&failing, &NlaBuffer::new_checked(frame)?);
-    if failing.has_refused() {
-        assert!(rt; result.err() == Some(DecodeError::OutOfMemory), "at {at}");
-        return Ok(false);
+    let read = TcAction::parse(&failing, &NlaBuffer::new_checked(frame)?);
+    let is_right = match &read {
+        Ok(action) => {
+            !failing.has_refused() && is_written_without_memory(&failing, action, frame)
+        }
+        Err(fault) => failing.has_refused() && *fault == DecodeError::OutOfMemory,
+    };
+    if is_right {
+        Ok(read.is_ok())
+    } else {
+        Err(Fail::new(format_args!("request {at}")))
     }
-    let read = result?;
-    // what follows takes no memory
-    failing.refuse(1);
-    assert!(rt; read.is_settled());
-    assert!(rt; are_written(from_ref(&read), frame));
-    assert!(rt; !failing.has_refused());
-    Ok(true)
 }
 
 #[test]
 fn every_refused_allocation_is_reported(rt: HostRuntime) -> Result<(), Fail> {
     let mut is_done = false;
     for at in 1..1000u64 {
-        is_done = is_read(&rt, rt.alloc(), &NAT_TOLD, at)?;
+        is_done = is_read(rt.alloc(), &NAT_TOLD, at)?;
         if is_done {
             break;
         }

@@ -50,19 +50,39 @@ fn faults_are_printed_and_named(rt: HostRuntime) -> Result<(), Fail> {
     Ok(())
 }
 
+/// The attribute of an unknown type that the frame is.
+fn unknown(alloc: Global) -> Result<DefaultNla, AllocError> {
+    Ok(DefaultNla::new(99, [0xde, 0xad].to_vec(alloc)?))
+}
+
+/// True if two attributes that are kept are of this type, and equal.
+fn are_equal(kept: Res<DefaultNla>, other: Result<DefaultNla, AllocError>, kind: u16) -> bool {
+    match (&kept, &other) {
+        (Ok(kept), Ok(other)) => kept.kind() == kind && *kept == *other,
+        _ => false,
+    }
+}
+
+/// The attribute that the frame is read as.
+fn kept(alloc: Global) -> Res<DefaultNla> {
+    DefaultNla::parse(alloc, &NlaBuffer::new_checked(&UNKNOWN)?)
+}
+
+fn is_emitted(kept: &DefaultNla) -> bool {
+    let mut buffer = [0x55; 10];
+    if !kept.fits() || kept.frame_len() > buffer.len() {
+        return false;
+    }
+    kept.emit_frame(&mut buffer);
+    buffer == [0x06, 0, 0x63, 0, 0xde, 0xad, 0, 0, 0x55, 0x55]
+}
+
 #[test]
 fn an_unknown_frame_is_kept(rt: HostRuntime) -> Result<(), Fail> {
-    let frame = NlaBuffer::new_checked(&UNKNOWN)?;
-    let kept = DefaultNla::parse(rt.alloc(), &frame)?;
-    assert!(rt; kept.kind() == 99);
-    assert!(rt; kept == DefaultNla::new(99, [0xde, 0xad].to_vec(rt.alloc())?));
-    assert!(rt; kept == kept.clone()?);
-
-    let mut buffer = [0x55; 10];
-    assert!(rt; kept.fits());
-    assert!(rt; kept.frame_len() <= buffer.len());
-    kept.emit_frame(&mut buffer);
-    assert!(rt; buffer == [0x06, 0, 0x63, 0, 0xde, 0xad, 0, 0, 0x55, 0x55]);
+    let alloc = rt.alloc();
+    assert!(rt; are_equal(kept(alloc), unknown(alloc), 99));
+    assert!(rt; are_equal(kept(alloc), Ok(unknown(alloc)?.clone()?), 99));
+    assert!(rt; is_emitted(&kept(alloc)?));
     Ok(())
 }
 
@@ -86,12 +106,23 @@ fn frames_come_one_by_one(rt: HostRuntime) {
     assert!(rt; frames.next() == None);
 }
 
+/// True if the first two frames are a list of two attributes of these words and values.
+fn is_list(list: &[DefaultNla]) -> bool {
+    match list {
+        [first, second] => {
+            first.kind() == 0x0001
+                && first.value() == [7].as_slice()
+                && second.kind() == 0x8002
+                && second.value().is_empty()
+        }
+        _ => false,
+    }
+}
+
 #[test]
 fn lists_and_texts_are_read(rt: HostRuntime) -> Result<(), Fail> {
     let list: Vec<DefaultNla> = parse_list(rt.alloc(), &FRAMES[..12])?;
-    let first = DefaultNla::new(0x0001, [7].to_vec(rt.alloc())?);
-    let second = DefaultNla::new(0x8002, Vec::new(rt.alloc()));
-    assert!(rt; list.len() == 2 && list[0] == first && list[1] == second);
+    assert!(rt; is_list(&list));
     assert!(rt; parse_string(rt.alloc(), b"sfq\0")?.as_str() == "sfq");
     Ok(())
 }

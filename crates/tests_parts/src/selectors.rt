@@ -1,6 +1,7 @@
 //! The selector of u32 and its keys.
 
 use nla_frames::{DecodeError, Emitable};
+use std::alloc::{AllocError, Global};
 use std::test::Fail;
 use tc_records::{TcU32Key, TcU32Selector, TcU32SelectorFlags};
 
@@ -12,31 +13,56 @@ const KEY: TcU32Key = TcU32Key {
     offmask: 0,
 };
 
-#[test]
-fn offsets_and_masks_have_their_own_order(rt: HostRuntime) -> Result<(), Fail> {
-    let alloc = rt.alloc();
-    #[rattlefmt::skip]
-    let bytes = [
-        1, 0, 1, 0, 0x0f, 0, 0, 0, 0, 0, 0, 0, 0, 0, 0, 0,
-        0xff, 0xff, 0xff, 0xff, 0x0a, 0, 0, 1, 16, 0, 0, 0, 0, 0, 0, 0,
-    ];
+/// A selector with that key, and no others.
+#[rattlefmt::skip]
+static BYTES: [u8; 32] = [
+    1, 0, 1, 0, 0x0f, 0, 0, 0, 0, 0, 0, 0, 0, 0, 0, 0,
+    0xff, 0xff, 0xff, 0xff, 0x0a, 0, 0, 1, 16, 0, 0, 0, 0, 0, 0, 0,
+];
+
+/// A selector that counts so many keys, and has none.
+fn empty(alloc: Global, nkeys: u8) -> TcU32Selector {
     let mut selector = TcU32Selector::default_in(alloc);
     selector.flags = TcU32SelectorFlags::Terminal;
     selector.offmask = 0x0f00;
-    selector.nkeys = 1;
-    // a key is announced, and none is there
-    assert!(rt; !selector.fits());
+    selector.nkeys = nkeys;
+    selector
+}
+
+/// A selector that counts so many keys, and has that one.
+fn with_key(alloc: Global, nkeys: u8) -> Result<TcU32Selector, AllocError> {
+    let mut selector = empty(alloc, nkeys);
     selector.keys.push(KEY)?;
-    assert!(rt; selector.fits());
-    assert!(rt; selector.buffer_len() == 32);
+    Ok(selector)
+}
+
+/// True if bytes are read as a selector.
+fn is_read_as(alloc: Global, bytes: &[u8], selector: &TcU32Selector) -> bool {
+    match &TcU32Selector::parse(alloc, bytes) {
+        Ok(read) => *read == *selector,
+        Err(_) => false,
+    }
+}
+
+/// True if a selector is written as those bytes, which are read as it; what follows the key is dropped.
+fn is_written(alloc: Global, selector: &TcU32Selector) -> bool {
+    if !selector.fits() || selector.buffer_len() != 32 {
+        return false;
+    }
     let mut buffer = [0x55; 40];
     selector.emit(&mut buffer);
-    assert!(rt; &buffer[..32] == &bytes[..]);
-    assert!(rt; &buffer[32..] == &[0x55; 8][..]);
-    // what follows the key is dropped
-    assert!(rt; TcU32Selector::parse(alloc, &buffer)? == selector);
-    selector.nkeys = 2;
-    assert!(rt; !selector.fits());
+    buffer[..32] == BYTES[..]
+        && buffer[32..] == [0x55; 8][..]
+        && is_read_as(alloc, &buffer, selector)
+}
+
+#[test]
+fn offsets_and_masks_have_their_own_order(rt: HostRuntime) -> Result<(), Fail> {
+    let alloc = rt.alloc();
+    assert!(rt; is_written(alloc, &with_key(alloc, 1)?));
+    // more keys are counted than there are
+    assert!(rt; !empty(alloc, 1).fits());
+    assert!(rt; !with_key(alloc, 2)?.fits());
     Ok(())
 }
 

@@ -8,29 +8,20 @@ use tc_actions::{TcFqCodelXstats, TcStats2, TcXstats};
 use tc_records::TcFqCodelClStats;
 
 #[rattlefmt::skip]
-static STATISTICS: [RowUnder; 5] = [
+static STATISTICS: [RowUnder; 8] = [
     ("", &[20, 0, 1, 0, 1, 2, 3, 4, 5, 6, 7, 8, 9, 10, 11, 12, 0, 0, 0, 0], "Basic(TcStatsBasic { bytes: 578437695752307201, packets: 202050057 })"),
     ("", &[24, 0, 3, 0, 1, 2, 3, 4, 5, 6, 7, 8, 9, 10, 11, 12, 13, 14, 15, 16, 17, 18, 19, 20], "Queue(TcStatsQueue { qlen: 67305985, backlog: 134678021, drops: 202050057, requeues: 269422093, overlimits: 336794129 })"),
     ("", &[20, 0, 7, 0, 1, 2, 3, 4, 5, 6, 7, 8, 9, 10, 11, 12, 0, 0, 0, 0], "BasicHw(TcStatsBasic { bytes: 578437695752307201, packets: 202050057 })"),
     ("sfq", &[7, 0, 4, 0, 0xa1, 0xa2, 0xa3, 0], "App(Other([161, 162, 163]))"),
     ("", &[7, 0, 2, 0x80, 0xa1, 0xa2, 0xa3, 0], "Other(DefaultNla { word: 32770, value: [161, 162, 163] })"),
-];
-
-#[test]
-fn of_statistics(rt: HostRuntime) -> Result<(), Fail> {
-    are_known_under::<TcStats2>(rt.alloc(), &STATISTICS)
-}
-
-#[rattlefmt::skip]
-static STATISTICS_OF_FQ_CODEL: [RowUnder; 3] = [
     ("fq_codel", &[44, 0, 4, 0, 0, 0, 0, 0, 1, 2, 3, 4, 5, 6, 7, 8, 9, 10, 11, 12, 13, 14, 15, 16, 17, 18, 19, 20, 21, 22, 23, 24, 25, 26, 27, 28, 29, 30, 31, 32, 33, 34, 35, 36], "App(FqCodel(Qdisc(TcFqCodelQdStats { maxpacket: 67305985, drop_overlimit: 134678021, ecn_mark: 202050057, new_flow_count: 269422093, new_flows_len: 336794129, old_flows_len: 404166165, ce_mark: 471538201, memory_usage: 538910237, drop_overmemory: 606282273 })))"),
     ("fq_codel", &[32, 0, 4, 0, 1, 0, 0, 0, 1, 2, 3, 4, 5, 6, 7, 8, 9, 10, 11, 12, 13, 14, 15, 16, 17, 18, 19, 20, 21, 22, 23, 24], "App(FqCodel(Class(TcFqCodelClStats { deficit: 67305985, ldelay: 134678021, count: 202050057, lastcount: 269422093, dropping: 336794129, drop_next: 404166165 })))"),
     ("fq_codel", &[8, 0, 4, 0, 2, 0, 0, 0], "App(FqCodel(Other([2, 0, 0, 0])))"),
 ];
 
 #[test]
-fn of_fq_codel(rt: HostRuntime) -> Result<(), Fail> {
-    are_known_under::<TcStats2>(rt.alloc(), &STATISTICS_OF_FQ_CODEL)
+fn of_statistics(rt: HostRuntime) -> Result<(), Fail> {
+    are_known_under::<TcStats2>(rt.alloc(), &STATISTICS)
 }
 
 fn fault_of_statistics(alloc: Global, bytes: &[u8]) -> Option<DecodeError> {
@@ -55,21 +46,23 @@ fn short_statistics(rt: HostRuntime) -> Result<(), Fail> {
     Ok(())
 }
 
+/// True if statistics are those of a class, all zero, and written so.
+fn are_of_a_class(read: &TcFqCodelXstats) -> bool {
+    let class: TcFqCodelXstats = TcFqCodelXstats::Class(TcFqCodelClStats::default());
+    if *read != class || !read.is_settled() || !read.fits() || read.buffer_len() != 28 {
+        return false;
+    }
+    let mut buffer = [0x55; 30];
+    read.emit(&mut buffer);
+    buffer[..4] == [1, 0, 0, 0][..] && buffer[4..28] == [0; 24][..] && buffer[28..] == [0x55; 2][..]
+}
+
 #[test]
 fn what_follows_the_statistics_of_a_class_is_dropped(rt: HostRuntime) -> Result<(), Fail> {
     let mut bytes = [0; 40];
     bytes[0] = 1;
     bytes[39] = 0xff;
-    let read = TcFqCodelXstats::parse(rt.alloc(), &bytes)?;
-    assert!(rt; read == TcFqCodelXstats::Class(TcFqCodelClStats::default()));
-    assert!(rt; read.is_settled());
-    let mut buffer = [0x55; 30];
-    assert!(rt; read.fits());
-    assert!(rt; read.buffer_len() == 28);
-    read.emit(&mut buffer);
-    assert!(rt; &buffer[..4] == &[1, 0, 0, 0][..]);
-    assert!(rt; &buffer[4..28] == &[0; 24][..]);
-    assert!(rt; &buffer[28..] == &[0x55; 2][..]);
+    assert!(rt; are_of_a_class(&TcFqCodelXstats::parse(rt.alloc(), &bytes)?));
     Ok(())
 }
 

@@ -6,7 +6,6 @@ include!("../../conjareho/crates.rs");
 const TESTS: &[&str] = &[
     "tests_messages",
     "tests_captures",
-    "tests_calls",
     "tests_parts",
     "tc_vectors",
     "tests_input",
@@ -20,12 +19,14 @@ const TESTS: &[&str] = &[
 const OMITTED: &[&str] = &[
     "failing_alloc",
     "tcforms_lib",
+    "tc_vectors::hostile",
     "tc_vectors::sizes",
     "tc_vectors::upgrade::is_right",
     "tc_vectors::upgrade::is_upgraded_without_memory",
     "tc_vectors::upgrade::worked",
     "tests_parts::actions::every_refused_allocation_is_reported",
     "tests_parts::actions::is_read",
+    "tests_parts::actions::is_written_without_memory",
     "tests_parts::refusals",
     "tests_forms::random",
     "tests_forms::lines",

@@ -1,9 +1,9 @@
 //! The attributes of a message, type by type.
 
+use crate::calls::read_attribute;
 use crate::tables::{bytes_of, cells, rows};
 use std::alloc::Global;
 use std::test::Fail;
-use tests_calls::read_attribute;
 
 // In each table: a kind, a frame in hex, and the attribute that it is read as under the kind.
 

@@ -1,5 +1,6 @@
 //! The options of a message, type by type, by themselves and in the variant of their kind.
 
+use crate::calls::{is_option_settled, read_option};
 use crate::flower;
 use crate::tables::{are_known, bytes_of, cells, is_shown, or_same, pair, rows};
 use std::alloc::{AllocError, Global};
@@ -8,7 +9,6 @@ use tc_options::{
     TcFilterBpfOption, TcFilterMatchAllOption, TcFilterU32Option, TcQdiscFqCodelOption,
     TcQdiscIngressOption,
 };
-use tests_calls::{is_option_settled, read_option};
 
 // In each table: a frame in hex, what it is read as, and what is written of that, where it isn't the same.
 

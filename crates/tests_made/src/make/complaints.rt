@@ -1,6 +1,6 @@
 //! Complaints about lines.
 
-use crate::make::runs::{HEX, made};
+use crate::make::runs::{HEX, makes};
 use std::alloc::Global;
 use std::test::Fail;
 
@@ -82,9 +82,8 @@ static ROWS: [(&str, &str); 18] = [
 
 // True if this, and nothing more, is said of a line, and nothing is made.
 fn is_said(alloc: Global, line: &str, complaint: &str) -> Result<bool, Fail> {
-    let run = made(alloc, &HEX, line.as_bytes());
     let want = format!(in alloc; "tcmake: line 1: {complaint}\n")?;
-    Ok(run.status == 1 && run.written.is_empty() && run.errors.as_slice() == want.as_bytes())
+    Ok(makes(alloc, &HEX, line.as_bytes(), 1, b"", want.as_bytes()))
 }
 
 #[test]
@@ -104,13 +103,8 @@ fn a_long_line(rt: HostRuntime) -> Result<(), Fail> {
     lines.extend_from_slice(
         b"\n{\"type\":\"RTM_GETACTION\",\"message\":{\"header\":{\"family\":\"Unspec\"},\"attributes\":[]}}",
     )?;
-    let run = made(alloc, &HEX, &lines);
-    assert!(rt;
-        run.status == 1
-            && run.written.as_slice() == b"1400000032000000000000000000000000000000\n".as_slice()
-    );
-    assert!(rt;
-        run.errors.as_slice() == b"tcmake: line 1: longer than 33554432 bytes\n".as_slice()
-    );
+    let want = b"1400000032000000000000000000000000000000\n";
+    let said = b"tcmake: line 1: longer than 33554432 bytes\n";
+    assert!(rt; makes(alloc, &HEX, &lines, 1, want, said));
     Ok(())
 }

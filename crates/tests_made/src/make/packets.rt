@@ -1,6 +1,6 @@
 //! Packets as lines say them.
 
-use crate::make::runs::{HEX, PCAP, STREAM, made};
+use crate::make::runs::{HEX, PCAP, STREAM, makes};
 use std::test::Fail;
 
 // Two messages of one packet, and an answer of the kernel between them; a message of the next; one of the same number at another
@@ -32,23 +32,19 @@ static CAPTURE: &str =
 #[test]
 fn packets_of_lines(rt: HostRuntime) -> Result<(), Fail> {
     let alloc = rt.alloc();
-    let run = made(alloc, &PCAP, LINES.as_bytes());
-    assert!(rt; run.status == 0 && run.errors.is_empty());
-    assert!(rt; run.written == hex::decode(alloc, CAPTURE)?);
+    let want = hex::decode(alloc, CAPTURE)?;
+    assert!(rt; makes(alloc, &PCAP, LINES.as_bytes(), 0, &want, b""));
     Ok(())
 }
 
 // A line of hex for each message: the number and the port are the line's, and so is the type of the last but one in the table.
 #[test]
-fn a_line_of_hex(rt: HostRuntime) -> Result<(), Fail> {
-    let alloc = rt.alloc();
+fn a_line_of_hex(rt: HostRuntime) {
     let line =
         br#"{"type":"RTM_DELCHAIN","flags":1541,"seq":16909060,"portid":84281096,"message":{"header":{"family":"Unspec","index":2,"handle":"1:","parent":"root","info":0},"attributes":[{"Kind":"fq_codel"}]}}"#;
-    let run = made(alloc, &HEX, line);
     let want =
         b"34000000650005060403020108070605000000000200000000000100ffffffff000000000d00010066715f636f64656c00000000\n";
-    assert!(rt; run.status == 0 && run.written.as_slice() == want.as_slice());
-    Ok(())
+    assert!(rt; makes(rt.alloc(), &HEX, line, 0, want, b""));
 }
 
 // Messages of a stream begin at multiples of four, and the last is padded too. Blank lines count, and so does a line that is wrong, of
@@ -64,12 +60,10 @@ fn a_stream(rt: HostRuntime) -> Result<(), Fail> {
 {"type":"RTM_NEWACTION","seq":4,"message":{"raw":"000000"}}
 {"type":"RTM_NEWACTION","seq":5,"message":{"header":{"family":"Unspec"},"attributes":[]}}
 {"type":"RTM_NEWACTION","seq":6,"message":{"raw":""}}"#;
-    let run = made(alloc, &STREAM, lines);
     let want = "11000000300000000100000000000000000000001200000030000000030000000000000000000000\
          1300000030000000040000000000000000000000140000003000000005000000000000000000000010000000300000000600000000000000";
-    assert!(rt; run.status == 1);
-    assert!(rt; run.written == hex::decode(alloc, want)?);
+    let want = hex::decode(alloc, want)?;
     let said = b"tcmake: line 3: /seq: found \"2\", wanted a number from 0 to 4294967295\n";
-    assert!(rt; run.errors.as_slice() == said.as_slice());
+    assert!(rt; makes(alloc, &STREAM, lines, 1, &want, said));
     Ok(())
 }

@@ -42,15 +42,30 @@ fn wrote(alloc: Global, run: &Outcome, bytes: &[u8]) -> Result<bool, Fail> {
     Ok(run.status == 0 && run.written.as_slice() == line.as_bytes())
 }
 
+// True if these bytes are made of a message in this way.
+fn comes_back(
+    alloc: Global,
+    input: &Input,
+    says: &str,
+    making: Making,
+    bytes: &[u8],
+) -> Result<bool, Fail> {
+    wrote(alloc, &run_of(alloc, input, says, making)?, bytes)
+}
+
+// The status of a run over a message.
+fn status_of(alloc: Global, input: &Input, says: &str, making: Making) -> Result<u8, Fail> {
+    Ok(run_of(alloc, input, says, making)?.status)
+}
+
 // What is read comes back with what is known of it, and settled where it fits; what is refused comes back as it is given.
 fn is_made_so(alloc: Global, row: &Row) -> Result<bool, Fail> {
     let input = &row.input;
     match &row.expected {
         Expected::Refused(_) => {
-            let run = run_of(alloc, input, "", Making::AsGiven)?;
             Ok(
-                wrote(alloc, &run, &input.bytes)?
-                    && run_of(alloc, input, "", Making::Checked)?.status == 1,
+                comes_back(alloc, input, "", Making::AsGiven, &input.bytes)?
+                    && status_of(alloc, input, "", Making::Checked)? == 1,
             )
         }
         Expected::Accepted {
@@ -62,15 +77,13 @@ fn is_made_so(alloc: Global, row: &Row) -> Result<bool, Fail> {
             let says = format!(in alloc;
                 "\"fits\":{fits},\"settled\":{settled},\"canonical\":{canonical},"
             )?;
-            let run = run_of(alloc, input, says.as_str(), Making::Checked)?;
-            if !wrote(alloc, &run, &input.bytes)? {
+            if !comes_back(alloc, input, &says, Making::Checked, &input.bytes)? {
                 return Ok(false);
             }
-            let run = run_of(alloc, input, says.as_str(), Making::Settled)?;
             if *fits && *settled {
-                wrote(alloc, &run, emitted)
+                comes_back(alloc, input, &says, Making::Settled, emitted)
             } else {
-                Ok((run.status == 0) == *fits)
+                Ok((status_of(alloc, input, &says, Making::Settled)? == 0) == *fits)
             }
         }
     }

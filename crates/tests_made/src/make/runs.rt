@@ -77,3 +77,16 @@ pub(crate) fn made(alloc: Global, request: &Request, lines: &[u8]) -> Outcome {
         errors,
     }
 }
+
+/// True if a run over lines ends with this status, having written these bytes and said this.
+pub(crate) fn makes(
+    alloc: Global,
+    request: &Request,
+    lines: &[u8],
+    status: u8,
+    written: &[u8],
+    errors: &[u8],
+) -> bool {
+    let run = made(alloc, request, lines);
+    run.status == status && run.written.as_slice() == written && run.errors.as_slice() == errors
+}

@@ -1,6 +1,6 @@
 //! What a line says of its message, what the codec finds, and what is made.
 
-use crate::make::runs::{bare, made};
+use crate::make::runs::{bare, makes};
 use std::alloc::Global;
 use std::test::Fail;
 use tcmake_lib::arguments::Making;
@@ -103,7 +103,6 @@ static CELLS: [Cell; 27] = [
 fn is_so(alloc: Global, cell: &Cell) -> Result<bool, Fail> {
     let (says, json) = (cell.says, cell.message.0);
     let line = format!(in alloc; "{{\"type\":\"RTM_NEWQDISC\",{says}\"message\":{json}}}")?;
-    let run = made(alloc, &bare(cell.making), line.as_bytes());
     let said = cell.said;
     let written = match cell.makes {
         Makes::Given => format!(in alloc; "{}\n", cell.message.1)?,
@@ -115,11 +114,16 @@ fn is_so(alloc: Global, cell: &Cell) -> Result<bool, Fail> {
     } else {
         format!(in alloc; "tcmake: line 1: {said}\n")?
     };
-    Ok(
-        run.status == u8::from(written.is_empty())
-            && run.written.as_slice() == written.as_bytes()
-            && run.errors.as_slice() == errors.as_bytes(),
-    )
+    let status = u8::from(written.is_empty());
+    let request = bare(cell.making);
+    Ok(makes(
+        alloc,
+        &request,
+        line.as_bytes(),
+        status,
+        written.as_bytes(),
+        errors.as_bytes(),
+    ))
 }
 
 #[test]
@@ -139,31 +143,25 @@ fn each_cell_of_the_table(rt: HostRuntime) -> Result<(), Fail> {
 
 // A message that is raw has to have a type.
 #[test]
-fn raw_messages(rt: HostRuntime) -> Result<(), Fail> {
-    let alloc = rt.alloc();
+fn raw_messages(rt: HostRuntime) {
     let lines = br#"{"refused":"BufferTooSmall","len":1,"needed":4,"message":{"raw":"00"}}
 {"raw":"00"}
 {"type":"RTM_NEWACTION","refused":"BufferTooSmall","len":1,"needed":4,"message":{"raw":"00"}}
 "#;
-    let run = made(alloc, &bare(Making::Checked), lines);
     let said =
         b"tcmake: line 1: /type: found nothing, wanted a message type, since the message is raw
 tcmake: line 2: /type: found nothing, wanted a message type, since the message is raw
 ";
-    assert!(rt; run.status == 1 && run.written.as_slice() == b"00\n".as_slice());
-    assert!(rt; run.errors.as_slice() == said.as_slice());
-    Ok(())
+    assert!(rt; makes(rt.alloc(), &bare(Making::Checked), lines, 1, b"00\n", said));
 }
 
 // A number out of its range is masked (2 of one bit is 0), and a warning loses the NULs at its end alone.
 #[test]
-fn settled_messages(rt: HostRuntime) -> Result<(), Fail> {
-    let alloc = rt.alloc();
+fn settled_messages(rt: HostRuntime) {
     let lines =
         br#"{"type":"RTM_NEWQDISC","message":{"header":{"family":"Unspec","index":2,"handle":"1:","parent":"root","info":0},"attributes":[{"Kind":"flower"},{"Options":[{"Flower":{"MplsBos":2}}]}]}}
 {"type":"RTM_NEWACTION","message":{"header":{"family":"Unspec"},"attributes":[{"RootExtWarnMsg":"a\u0000"}]}}
 "#;
-    let run = made(alloc, &bare(Making::Settled), lines);
     let want =
         b"000000000200000000000100ffffffff000000000b000100666c6f77657200000c0002000500440000000000
 000000000500050061000000
@@ -171,7 +169,5 @@ fn settled_messages(rt: HostRuntime) -> Result<(), Fail> {
     let said = b"tcmake: line 1: /attributes/1/Options/0/Flower/MplsBos: found 2, settled to 0
 tcmake: line 2: /attributes/0/RootExtWarnMsg: found \"a\\u0000\", settled to \"a\"
 ";
-    assert!(rt; run.status == 0 && run.written.as_slice() == want.as_slice());
-    assert!(rt; run.errors.as_slice() == said.as_slice());
-    Ok(())
+    assert!(rt; makes(rt.alloc(), &bare(Making::Settled), lines, 0, want, said));
 }

@@ -2,6 +2,7 @@
 
 use bitflags::Flags;
 use nla_frames::{AddressFamily, Emitable};
+use std::alloc::{AllocError, Global};
 use std::net::Ipv4Addr;
 use std::test::Fail;
 use tc_records::{
@@ -218,9 +219,9 @@ const KEYS: [TcU32Key; 3] = [
     TcU32Key { mask: 0x3132_3334, val: 0x3536_3738, off: 0x3c3b_3a39, offmask: 0x403f_3e3d },
 ];
 
-#[test]
-fn u32_selector(rt: HostRuntime) -> Result<(), Fail> {
-    let mut selector = TcU32Selector::default_in(rt.alloc());
+/// The selector that the 64 bytes are.
+fn counted_selector(alloc: Global) -> Result<TcU32Selector, AllocError> {
+    let mut selector = TcU32Selector::default_in(alloc);
     selector.flags = TcU32SelectorFlags::Terminal;
     selector.offshift = 2;
     selector.nkeys = 3;
@@ -229,12 +230,16 @@ fn u32_selector(rt: HostRuntime) -> Result<(), Fail> {
     selector.offoff = 0x0a09;
     selector.hoff = 0x0c0b;
     selector.hmask = 0x0d0e_0f10;
-    for key in KEYS {
-        selector.keys.push(key)?;
-    }
+    selector.keys = KEYS.to_vec(alloc)?;
+    Ok(selector)
+}
+
+#[test]
+fn u32_selector(rt: HostRuntime) -> Result<(), Fail> {
     let read = TcU32Selector::parse(rt.alloc(), &COUNTED)?;
     let mut bytes = COUNTED;
     bytes[3] = 0;
-    assert!(rt; is_known(&read, &selector, &bytes));
+    let wanted = counted_selector(rt.alloc())?;
+    assert!(rt; is_known(&read, &wanted, &bytes));
     Ok(())
 }

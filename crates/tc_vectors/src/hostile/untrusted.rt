@@ -1,7 +1,7 @@
 //! Messages made by hand, captured and large; cut short and changed; and attributes of all types.
 
-use crate::alone::had_for_attributes;
-use crate::judge::judge;
+use super::alone::had_for_attributes;
+use super::judge::judge;
 use std::alloc::Global;
 use std::process::Abort;
 use std::test::Fail;

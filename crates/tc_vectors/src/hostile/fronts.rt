@@ -1,10 +1,9 @@
 //! The first of the worked messages, cut at every length, and with another length of its option.
 
+use crate::calls::{Seen, read_attributes, read_tc};
 use std::alloc::Global;
-use std::process::Abort;
 use std::test::Fail;
 use tc_wire::{DecodeError, is_canonical_tc};
-use tests_calls::{read_attributes, read_tc};
 use tests_messages::made;
 
 // The fault of so many of its first bytes.
@@ -34,25 +33,31 @@ fn first(alloc: Global) -> Result<Vec<u8>, Fail> {
     Ok(rows.first().ok_or("no rows")?.input.bytes.to_vec(alloc)?)
 }
 
-// Asserts of so many of its first bytes that they are refused, or read as a header alone, or with the kind, whose padding may be cut.
-fn is_front(rt: &impl Abort, alloc: Global, bytes: &[u8], count: usize) -> Result<(), Fail> {
-    let (front, _) = bytes.split_at(count.min(bytes.len()));
-    match read_tc(alloc, front) {
-        Err(found) => assert!(rt; fault_of_front(count) == Some(found), "{count}"),
-        Ok(seen) => {
-            let (attributes, written) = match count {
-                20 => ("attributes: []", 20),
-                _ => ("attributes: [Kind(\"fq_codel\")]", 36),
-            };
-            let written_bytes = bytes.get(..written).ok_or("48 bytes")?;
-            assert!(rt; fault_of_front(count).is_none(), "{count}");
-            assert!(rt; seen.text.contains(attributes), "{count}");
-            assert!(rt; seen.is_settled, "{count}");
-            assert!(rt; seen.is_emitted_as(written_bytes), "{count}");
-            assert!(rt; is_canonical_tc(front) == (count == written), "{count}");
+// True if so many of its first bytes may be read, and are read and written as a header alone, or with the kind, whose padding may be cut.
+fn is_front_seen(seen: &Seen, bytes: &[u8], count: usize) -> bool {
+    let (attributes, written) = match count {
+        20 => ("attributes: []", 20),
+        _ => ("attributes: [Kind(\"fq_codel\")]", 36),
+    };
+    match (bytes.get(..count), bytes.get(..written)) {
+        (Some(front), Some(written_bytes)) => {
+            fault_of_front(count).is_none()
+                && seen.text.contains(attributes)
+                && seen.is_settled
+                && seen.is_emitted_as(written_bytes)
+                && is_canonical_tc(front) == (count == written)
         }
+        _ => false,
     }
-    Ok(())
+}
+
+// True if so many of its first bytes are refused, or read as they have to be.
+fn is_front(alloc: Global, bytes: &[u8], count: usize) -> bool {
+    let (front, _) = bytes.split_at(count.min(bytes.len()));
+    match &read_tc(alloc, front) {
+        Err(found) => fault_of_front(count).as_ref() == Some(found),
+        Ok(seen) => is_front_seen(seen, bytes, count),
+    }
 }
 
 #[test]
@@ -60,7 +65,7 @@ fn cut_at_every_length(rt: HostRuntime) -> Result<(), Fail> {
     let bytes = first(rt.alloc())?;
     assert_eq!(rt; bytes.len(), 48);
     for count in 0..48usize {
-        is_front(&rt, rt.alloc(), &bytes, count)?;
+        assert!(rt; is_front(rt.alloc(), &bytes, count), "{count}");
     }
     Ok(())
 }

@@ -9,18 +9,18 @@ use tc_wire::{
 
 /// What the calls of an attribute or an option return.
 #[derive(Drop)]
-pub struct SeenAttribute {
+pub(crate) struct SeenAttribute {
     /// The attribute as `Debug` shows it.
-    pub text: String,
+    pub(crate) text: String,
     /// The bytes that are emitted, if it fits.
-    pub emitted: Option<Vec<u8>>,
+    pub(crate) emitted: Option<Vec<u8>>,
     /// What `is_settled_under` returns for the kind.
-    pub is_settled: bool,
+    pub(crate) is_settled: bool,
 }
 
 impl SeenAttribute {
     /// True if `Debug` shows it as this text, and these bytes are emitted.
-    pub fn is(&self, text: &str, bytes: &[u8]) -> bool {
+    pub(crate) fn is(&self, text: &str, bytes: &[u8]) -> bool {
         let is_emitted = match &self.emitted {
             Some(emitted) => emitted.as_slice() == bytes,
             None => false,
@@ -64,7 +64,7 @@ fn read<T: ParseableParametrized<Global> + Nla + Settle + Debug + Drop>(
 }
 
 /// What is seen of an attribute under a kind.
-pub fn see_attribute(
+pub(crate) fn see_attribute(
     alloc: Global,
     kind: &str,
     attribute: TcAttribute,
@@ -73,12 +73,12 @@ pub fn see_attribute(
 }
 
 /// What is seen of the attribute that a frame is parsed as under a kind, or its fault.
-pub fn read_attribute(alloc: Global, kind: &str, frame: &[u8]) -> Res<SeenAttribute> {
+pub(crate) fn read_attribute(alloc: Global, kind: &str, frame: &[u8]) -> Res<SeenAttribute> {
     read::<TcAttribute>(alloc, kind, frame)
 }
 
 /// What is seen of an option under a kind.
-pub fn see_option(
+pub(crate) fn see_option(
     alloc: Global,
     kind: &str,
     option: TcOption,
@@ -87,25 +87,25 @@ pub fn see_option(
 }
 
 /// What is seen of the option that a frame is parsed as under a kind, or its fault.
-pub fn read_option(alloc: Global, kind: &str, frame: &[u8]) -> Res<SeenAttribute> {
+pub(crate) fn read_option(alloc: Global, kind: &str, frame: &[u8]) -> Res<SeenAttribute> {
     read::<TcOption>(alloc, kind, frame)
 }
 
 /// True if the option that a frame is parsed as under a kind is settled under another.
-pub fn is_option_settled(alloc: Global, kind: &str, frame: &[u8], other: &str) -> Res<bool> {
+pub(crate) fn is_option_settled(alloc: Global, kind: &str, frame: &[u8], other: &str) -> Res<bool> {
     let option = TcOption::parse_with_param(alloc, &NlaBuffer::new_checked(frame)?, kind)?;
     Ok(option.is_settled_under(other))
 }
 
 /// The attributes of a message that bytes are parsed as, as `Debug` shows them, or their fault.
-pub fn read_attributes(alloc: Global, bytes: &[u8]) -> Res<String> {
+pub(crate) fn read_attributes(alloc: Global, bytes: &[u8]) -> Res<String> {
     let attributes = VecTcAttribute::parse(alloc, bytes)?.0;
     Ok(format!(in alloc; "{attributes:?}")?)
 }
 
 /// The options of a kind that the frame of a TCA_OPTIONS attribute is parsed as, as `Debug` shows them, or their fault; and what
 /// the frames in it are parsed as.
-pub fn read_options(alloc: Global, kind: &str, frame: &[u8]) -> Res<(String, String)> {
+pub(crate) fn read_options(alloc: Global, kind: &str, frame: &[u8]) -> Res<(String, String)> {
     let frame = NlaBuffer::new_checked(frame)?;
     let options = VecTcOption::parse_with_param(alloc, &frame, kind)?.0;
     let inner = NlaBuffer::new_checked(frame.value())?;

@@ -1,12 +1,12 @@
 //! Memory in bytes, counted by a heap of a given size: what a parse takes, what a message holds, and that all of it is given back.
 
+use crate::made::{kind, pushed, with};
+use crate::upgrade::other;
 use linked_list_allocator::LocalHeap;
 use std::alloc::{AllocError, Global};
 use std::mem::size_of;
 use std::test::Fail;
-use tc_wire::{
-    DecodeError, DefaultNla, ParseableBytes, TcActionMessage, TcAttribute, TcMessage, TcOption,
-};
+use tc_wire::{DecodeError, ParseableBytes, TcActionMessage, TcAttribute, TcMessage, TcOption};
 use tests_messages::{Form, Row, captured, large_messages, made};
 
 /// How many bytes the heap takes for so many: units of 16, and one at least.
@@ -107,15 +107,10 @@ fn a_parse_takes_32_bytes_a_byte(rt: HostRuntime) -> Result<(), Fail> {
 
 /// The message that version 1 read of the kind sfq and its options, of which it kept a header.
 fn of_version_1(heap: &LocalHeap) -> Result<TcMessage<&LocalHeap>, AllocError> {
-    let kept = DefaultNla::new(0x8002, [1, 2, 3, 4].to_vec(heap)?);
-    let mut list = Vec::with_capacity(heap, 1)?;
-    list.push(TcOption::Other(kept))?;
-    let mut message = TcMessage::default_in(heap);
-    message
-        .attributes
-        .push(TcAttribute::Kind("sfq".to_string(heap)?))?;
-    message.attributes.push(TcAttribute::Options(list))?;
-    Ok(message)
+    let list = Vec::with_capacity(heap, 1)?;
+    let list = pushed(list, other(heap, &(0x8002, &[1, 2, 3, 4])))?;
+    let message = with(TcMessage::default_in(heap), kind(heap, "sfq"))?;
+    with(message, Ok(TcAttribute::Options(list)))
 }
 
 // The list of options is freed, and their bytes are moved.

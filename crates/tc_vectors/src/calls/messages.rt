@@ -6,24 +6,24 @@ use tc_wire::{Emitable, Res, TcActionMessage, TcMessage, WholeMessage};
 
 /// What the calls of a message return.
 #[derive(Drop)]
-pub struct Seen {
+pub(crate) struct Seen {
     /// The message as `Debug` shows it.
-    pub text: String,
+    pub(crate) text: String,
     /// The bytes that are emitted, if it fits.
-    pub emitted: Option<Vec<u8>>,
+    pub(crate) emitted: Option<Vec<u8>>,
     /// What these bytes are parsed as, or their fault, as `Debug` shows it; empty if it doesn't fit.
-    pub again: String,
+    pub(crate) again: String,
     /// True if the emitted bytes are parsed as the message itself.
-    pub reads_back: bool,
+    pub(crate) reads_back: bool,
     /// What `is_settled` returns.
-    pub is_settled: bool,
+    pub(crate) is_settled: bool,
     /// True if a clone is equal to the message.
-    pub is_cloned: bool,
+    pub(crate) is_cloned: bool,
 }
 
 impl Seen {
     /// True if these bytes are emitted.
-    pub fn is_emitted_as(&self, bytes: &[u8]) -> bool {
+    pub(crate) fn is_emitted_as(&self, bytes: &[u8]) -> bool {
         match &self.emitted {
             Some(emitted) => emitted.as_slice() == bytes,
             None => false,
@@ -32,7 +32,7 @@ impl Seen {
 }
 
 /// The bytes of a message, if it fits. It is emitted to a longer buffer, whose other bytes stay.
-pub fn emitted<A: Allocator, M: Emitable>(
+pub(crate) fn emitted<A: Allocator, M: Emitable>(
     alloc: A,
     message: &M,
 ) -> Result<Option<Vec<u8, A>>, AllocError> {
@@ -88,21 +88,21 @@ fn read<M: WholeMessage<Global> + PartialEq + Clone + Debug + Drop>(
 }
 
 /// What is seen of a traffic control message.
-pub fn see_tc(alloc: Global, message: &TcMessage) -> Result<Seen, AllocError> {
+pub(crate) fn see_tc(alloc: Global, message: &TcMessage) -> Result<Seen, AllocError> {
     see(alloc, message)
 }
 
 /// What is seen of the traffic control message that bytes are parsed as, or their fault.
-pub fn read_tc(alloc: Global, bytes: &[u8]) -> Res<Seen> {
+pub(crate) fn read_tc(alloc: Global, bytes: &[u8]) -> Res<Seen> {
     read::<TcMessage>(alloc, bytes)
 }
 
 /// What is seen of an action message.
-pub fn see_action(alloc: Global, message: &TcActionMessage) -> Result<Seen, AllocError> {
+pub(crate) fn see_action(alloc: Global, message: &TcActionMessage) -> Result<Seen, AllocError> {
     see(alloc, message)
 }
 
 /// What is seen of the action message that bytes are parsed as, or their fault.
-pub fn read_action(alloc: Global, bytes: &[u8]) -> Res<Seen> {
+pub(crate) fn read_action(alloc: Global, bytes: &[u8]) -> Res<Seen> {
     read::<TcActionMessage>(alloc, bytes)
 }

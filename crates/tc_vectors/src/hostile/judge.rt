@@ -1,9 +1,9 @@
 //! What holds of untrusted input.
 
+use crate::calls::emitted;
 use std::alloc::Global;
 use std::test::Fail;
 use tc_wire::{DecodeError, RewriteError, TcActionMessage, TcMessage, WholeMessage};
-use tests_calls::emitted;
 use tests_messages::{Form, Input};
 
 /// What is wrong with what a call returned, if anything is.
