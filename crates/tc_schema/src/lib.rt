@@ -4,10 +4,15 @@
 
 mod defs;
 mod example;
-pub mod explain;
-pub mod line;
+mod explain;
+mod kinds;
+mod line;
+mod notes;
 pub mod output;
+mod texts;
 
 pub use defs::Schema;
-pub use explain::{NoNotes, Notes, explain_kind, knows_kind, list_with_kinds, write_kinds};
+pub use explain::{kinds_of, knows_kind, put_kind};
+pub use kinds::{LISTS, NOTES};
 pub use line::write_schema;
+pub use notes::{Named, Note, Noted};

@@ -1,0 +1,4 @@
+pub mod Examples
+pub mod Explained
+pub mod Notes
+pub mod Texts
