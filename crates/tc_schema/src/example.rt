@@ -2,23 +2,16 @@
 
 ghost use Rattle.std.specs.Prelude.{OnOk, [], codes, ◌++◌, ◌≡◌};
 ghost use Rattle.tc_forms.specs.Places.{form_of, layer_of, names_of};
-ghost use Rattle.tc_forms.specs.Records.{is_pad};
 ghost use Rattle.tc_forms.specs.Tables.{names_view, part_view};
 ghost use Rattle.tc_schema.specs.Examples.{example, first_example, kind_example, leaf_example, list_example, member_example, members_example, name_example, zeros};
 ghost use Rattle.tc_schema.specs.Texts.{member_view, members_of};
 
-use crate::texts::{Member, first_member, put, put_quoted};
+use crate::texts::{Member, first_member, is_pad, put, put_quoted};
 use std::alloc::{AllocError, Allocator};
 use tc_forms::{Form, Name, Part, Tables};
 
 // How deep an example goes.
 const DEEPEST: u8 = 12;
-
-fn is_pad(form: Form) -> bool
-    ensures { result ≡ is_pad form }
-{
-    matches!(form, Form::Pad(_))
-}
 
 // Puts zeros in hex.
 fn put_zeros<A: Allocator>(out: &mut Vec<u8, A>, count: usize) -> Result<(), AllocError>

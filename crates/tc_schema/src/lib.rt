@@ -2,17 +2,14 @@
 //! Both are written of any tables at run time.
 #![tactic(auto)]
 
-mod defs;
 mod example;
 mod explain;
 mod kinds;
-mod line;
 mod notes;
-pub mod output;
+mod schema;
 mod texts;
 
-pub use defs::Schema;
 pub use explain::{kinds_of, knows_kind, put_kind};
-pub use kinds::{LISTS, NOTES};
-pub use line::write_schema;
+pub use kinds::{LISTS, NOTES, PLACES};
 pub use notes::{Named, Note, Noted};
+pub use schema::{put_schema, put_schema_definitions};

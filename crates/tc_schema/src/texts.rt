@@ -1,6 +1,7 @@
 //! Texts that are put at the end of a vector: forms in words, numbers, texts in quotes. And the members of a part.
 
 ghost use Rattle.std.specs.Prelude.{MatchOption, OnOk, [], decimal, ◌++◌, ◌∷◌, ◌≡◌};
+ghost use Rattle.tc_forms.specs.Records.{is_pad};
 ghost use Rattle.tc_forms.specs.Tables.{part_view};
 ghost use Rattle.tc_schema.specs.Examples.{escaped, escapes, quoted};
 ghost use Rattle.tc_schema.specs.Texts.{form_text, member_view, members_of, number_word};
@@ -112,6 +113,13 @@ pub(crate) fn put_form<A: Allocator>(out: &mut Vec<u8, A>, form: Form) -> Result
         Form::Indexed(_) => put(out, "list"),
         Form::Choice(_) => put(out, "one of"),
     }
+}
+
+/// True for padding.
+pub(crate) fn is_pad(form: Form) -> bool
+    ensures { result ≡ is_pad form }
+{
+    matches!(form, Form::Pad(_))
 }
 
 // ---- members

@@ -1,9 +1,9 @@
 //! The kinds that the tables have.
 
-use std::alloc::{AllocError, Allocator, Global};
+use std::alloc::{AllocError, Allocator};
 use std::fmt;
 use tc_kinds::{ACTION_MESSAGE, TC_MESSAGE, TcTables};
-use tc_schema::{LISTS, NOTES, kinds_of, knows_kind, put_kind, write_schema};
+use tc_schema::{LISTS, NOTES, PLACES, kinds_of, knows_kind, put_kind, put_schema};
 
 /// True of a kind that a table has.
 pub(crate) fn is_known(kind: &str) -> bool {
@@ -29,7 +29,7 @@ pub fn explain<A: Allocator>(kind: &str, out: &mut Vec<u8, A>) -> Result<(), All
     put_kind(TcTables, &NOTES, second, kind, out)
 }
 
-/// Writes the JSON Schema of a line.
-pub(crate) fn write_schema_of_line<W: fmt::Write>(alloc: Global, out: &mut W) -> fmt::Result {
-    write_schema(alloc, TcTables, TC_MESSAGE, ACTION_MESSAGE, out)
+/// Puts the JSON Schema of a line.
+pub(crate) fn put_schema_of_line<A: Allocator>(out: &mut Vec<u8, A>) -> Result<(), AllocError> {
+    put_schema(TcTables, &PLACES, TC_MESSAGE, ACTION_MESSAGE, out)
 }

@@ -10,7 +10,7 @@ ghost use Rattle.tcshow_lib.specs.declared.run.Ended.{Ended};
 use crate::arguments::{Request, Task, request_of};
 use crate::asked::{Asked, Form};
 use crate::choice::{Choice, NoChoice};
-use crate::kinds::{explain, is_known, write_all_kinds, write_schema_of_line};
+use crate::kinds::{explain, is_known, put_schema_of_line, write_all_kinds};
 use crate::names::names_in;
 use crate::packets::Packets;
 use crate::run::{Ended, run};
@@ -84,9 +84,9 @@ fn perform<R: AllocGlobal + Files + Input + Print, E: Write>(
 }
 
 fn print_schema<R: AllocGlobal + Print, E: Write>(rt: &R, errors: &mut E) -> u8 {
-    let mut text = String::new(rt.alloc());
-    match write_schema_of_line(rt.alloc(), &mut text) {
-        Ok(()) => print(rt, text.as_bytes(), errors),
+    let mut text = Vec::new(rt.alloc());
+    match put_schema_of_line(&mut text) {
+        Ok(()) => print(rt, text.as_slice(), errors),
         Err(_) => complain(errors, NO_MEMORY, 3),
     }
 }
