@@ -7,7 +7,7 @@ ghost use Rattle.tc_schema.specs.Notes.{named_views, note_view, note_views, note
 ghost use Rattle.tc_schema.specs.Texts.{member_view, members_of};
 
 use crate::example::put_example;
-use crate::notes::{Named, Note, Noted, first_note, notes_at};
+use crate::notes::{Left, Named, Note, Noted, first_note, notes_at};
 use crate::texts::{Member, first_member, put, put_decimal, put_form};
 use std::alloc::{AllocError, Allocator};
 use tc_forms::{Form, KindRows, Name, Number, Part, Tables};
@@ -156,12 +156,12 @@ fn put_names<A: Allocator>(
     level: u8,
     all: u64,
     names: &[Name<'_>],
-    notes: &'static [Note<'static>],
+    left: Left,
 ) -> Result<(), AllocError>
-    ensures { OnOk result (out.new.items ≡ out.old.items ++ names_lines level all (names_view names.now) (note_views notes.now)) }
+    ensures { OnOk result (out.new.items ≡ out.old.items ++ names_lines level all (names_view names.now) (note_views left.entry.notes.now)) }
 {
     if let Some((first, others)) = names.split_first() {
-        let (note, behind) = first_note(notes);
+        let (note, behind) = first_note(left);
         put_name(out, level, all, first, note.kernel)?;
         put_names(out, level, all, others, behind)?;
     }
@@ -205,7 +205,9 @@ fn explain_form<T: Tables, A: Allocator>(
         Some(place) => place,
         None => return Ok(()),
     };
-    let own = notes_at(notes, place);
+    let own = Left {
+        notes: notes_at(notes, place),
+    };
     match table.part(place) {
         Part::One(form) => explain_form(table, notes, inner, form, out),
         Part::Names(names) => put_names(out, DEEPEST - inner, signed_of(form), names, own),
@@ -220,12 +222,12 @@ fn explain_members<T: Tables, A: Allocator>(
     notes: &'static [Noted<'static>],
     inner: u8,
     part: Part<'static>,
-    own: &'static [Note<'static>],
+    own: Left,
     out: &mut Vec<u8, A>,
 ) -> Result<(), AllocError>
     requires { inner ≤ 12 }
     ensures { OnOk result (out.new.items ≡ out.old.items ++
-        members_text (explained (T.parts_of table) (noted_views notes.now) inner) (deepest - inner) (members_of (part_view part.entry)) (note_views own.now)) }
+        members_text (explained (T.parts_of table) (noted_views notes.now) inner) (deepest - inner) (members_of (part_view part.entry)) (note_views own.entry.notes.now)) }
 {
     let mut left = part;
     let mut behind = own;

@@ -53,15 +53,19 @@ pub(crate) fn notes_at(notes: &'static [Noted<'static>], place: usize) -> &'stat
     &[]
 }
 
+/// The notes of members that are left.
+#[derive(Clone, Copy)]
+pub(crate) struct Left {
+    pub(crate) notes: &'static [Note<'static>],
+}
+
 // The note of the first member, and those of the others.
-pub(crate) fn first_note(
-    notes: &'static [Note<'static>],
-) -> (Note<'static>, &'static [Note<'static>])
-    ensures first { note_view result.0 ≡ first_note (note_views notes.now) }
-    ensures others { note_views result.1.now ≡ other_notes (note_views notes.now) }
+pub(crate) fn first_note(left: Left) -> (Note<'static>, Left)
+    ensures first { note_view result.0 ≡ first_note (note_views left.entry.notes.now) }
+    ensures others { note_views result.1.notes.now ≡ other_notes (note_views left.entry.notes.now) }
 {
-    if let Some((first, others)) = notes.split_first() {
-        return (*first, others);
+    match left.notes.split_first() {
+        Some((first, others)) => (*first, Left { notes: others }),
+        None => (NO_NOTE, Left { notes: &[] }),
     }
-    (NO_NOTE, &[])
 }
