@@ -1,173 +1,244 @@
 //! An example of what is shown in a form, as JSON.
 
-use crate::output::quoted;
-use std::fmt;
-use tc_forms::{Choice, Field, Form, Name, Part, Row, Tables};
+ghost use Rattle.std.specs.Prelude.{OnOk, [], codes, ◌++◌, ◌≡◌};
+ghost use Rattle.tc_forms.specs.Places.{form_of, layer_of, names_of};
+ghost use Rattle.tc_forms.specs.Tables.{names_view, part_view};
+ghost use Rattle.tc_schema.specs.Examples.{example, first_example, kind_example, leaf_example, list_example, member_example, members_example, name_example, zeros};
+ghost use Rattle.tc_schema.specs.Texts.{member_view, members_of};
 
-// Writes an example of what is shown in a form: of lists the first attribute, of records each field. What nests deeper than this is empty.
+use crate::texts::{Member, first_member, is_pad, put, put_quoted};
+use std::alloc::{AllocError, Allocator};
+use tc_forms::{Form, Name, Part, Tables};
+
+// How deep an example goes.
+const DEEPEST: u8 = 12;
+
+// Puts zeros in hex.
+fn put_zeros<A: Allocator>(out: &mut Vec<u8, A>, count: usize) -> Result<(), AllocError>
+    ensures { OnOk result (out.new.items ≡ out.old.items ++ zeros count) }
+{
+    match count.checked_sub(1) {
+        Some(others) => {
+            put(out, "00")?;
+            put_zeros(out, others)
+        }
+        None => Ok(()),
+    }
+}
+
+fn put_zero_bytes<A: Allocator>(out: &mut Vec<u8, A>, count: usize) -> Result<(), AllocError>
+    ensures { OnOk result (out.new.items ≡ out.old.items ++ (codes "\"" ++ (zeros count ++ codes "\""))) }
+{
+    put(out, "\"")?;
+    put_zeros(out, count)?;
+    put(out, "\"")
+}
+
+// An example of what is in a form that holds no others.
+fn leaf_example(form: Form) -> &'static str
+    ensures { result.now ≡ leaf_example form }
+{
+    match form {
+        Form::Number(_) => "1",
+        Form::Handle => "\"1:1\"",
+        Form::Flag | Form::Truth => "true",
+        Form::Text | Form::Bare => "\"text\"",
+        Form::Hex => "\"00ff\"",
+        Form::Mac => "\"02:00:00:00:00:01\"",
+        Form::Ipv4 => "\"192.0.2.1\"",
+        Form::Ipv6 => "\"2001:db8::1\"",
+        _ => "[]",
+    }
+}
+
+fn put_name<A: Allocator>(out: &mut Vec<u8, A>, names: &[Name<'_>]) -> Result<(), AllocError>
+    ensures { OnOk result (out.new.items ≡ out.old.items ++ name_example (names_view names.now)) }
+{
+    match names.split_first() {
+        Some((first, _)) => put_quoted(out, first.name),
+        None => put(out, "{\"Other\":1}"),
+    }
+}
+
+// The names at a place.
+fn names_at<T: Tables>(table: T, place: usize) -> &'static [Name<'static>]
+    ensures { names_view result.now ≡ names_of (T.parts_of table place) }
+{
+    if let Part::Names(names) = table.part(place) {
+        return names;
+    }
+    &[]
+}
+
+// The layer of a part.
+fn layer_of(part: Part<'static>) -> &'static str
+    ensures { result.now ≡ layer_of (part_view part.entry) }
+{
+    if let Part::Rows(layer, _) = part {
+        return layer;
+    }
+    ""
+}
+
+// The form at a place.
+fn form_of(place: usize, part: Part<'static>) -> Form
+    ensures { result ≡ form_of place (part_view part.entry) }
+{
+    match part {
+        Part::One(form) => form,
+        Part::Names(_) => Form::Hex,
+        Part::Fields(_) => Form::Record(place),
+        Part::Rows(_, _) | Part::Kinds(_, _, _) => Form::List(place),
+        Part::Choices(_) => Form::Choice(place),
+    }
+}
+
+// An example of what is in a form, at most so deep.
 #[cycle(example)]
-fn write_example_of<T: Tables, W: fmt::Write>(
+fn put_form<T: Tables, A: Allocator>(
     table: T,
     depth: u8,
     form: Form,
-    out: &mut W,
-) -> fmt::Result {
-    match form {
-        Form::Number(_) => out.write_str("1"),
-        Form::Handle => out.write_str("\"1:1\""),
-        Form::Flag | Form::Truth => out.write_str("true"),
-        Form::Text | Form::Bare => out.write_str("\"text\""),
-        Form::Hex => out.write_str("\"00ff\""),
-        Form::Bytes(count) | Form::Pad(count) => write_zeros(count, out),
-        Form::Mac => out.write_str("\"02:00:00:00:00:01\""),
-        Form::Ipv4 => out.write_str("\"192.0.2.1\""),
-        Form::Ipv6 => out.write_str("\"2001:db8::1\""),
-        Form::Named(_, place) | Form::Record(place) | Form::Choice(place) => {
-            write_part(table, depth, place, out)
-        }
-        Form::Array(place) | Form::Times(_, place) => {
-            out.write_char('[')?;
-            write_part(table, depth, place, out)?;
-            out.write_char(']')
-        }
-        Form::List(place) => write_part(table, depth, place, out),
-        Form::InForce(_) | Form::Own(_) | Form::Indexed(_) => out.write_str("[]"),
-    }
-}
-
-// Zeros in hex.
-fn write_zeros<W: fmt::Write>(count: usize, out: &mut W) -> fmt::Result {
-    out.write_char('"')?;
-    for _ in 0..count {
-        out.write_str("00")?;
-    }
-    out.write_char('"')
-}
-
-#[cycle(example)]
-fn write_part<T: Tables, W: fmt::Write>(
-    table: T,
-    depth: u8,
-    place: usize,
-    out: &mut W,
-) -> fmt::Result {
+    out: &mut Vec<u8, A>,
+) -> Result<(), AllocError>
+    ensures { OnOk result (out.new.items ≡ out.old.items ++ example (T.parts_of table) depth form) }
+{
     let inner = match depth.checked_sub(1) {
         Some(inner) => inner,
-        None => return out.write_str("[]"),
+        None => return put(out, "[]"),
     };
-    match table.part(place) {
-        Part::One(form) => write_example_of(table, inner, form, out),
-        Part::Names(names) => write_first_name(names, out),
-        Part::Fields(fields) => write_fields(table, inner, fields, out),
-        Part::Rows(layer, rows) => write_first_row(table, inner, layer, rows, out),
-        Part::Choices(choices) => write_first_choice(table, inner, choices, out),
-        Part::Kinds(_, _, _) => out.write_str("[]"),
-    }
-}
-
-fn write_first_name<W: fmt::Write>(names: &[Name<'_>], out: &mut W) -> fmt::Result {
-    match names {
-        [first, ..] => quoted(out, first.name),
-        [] => out.write_str("{\"Other\":1}"),
-    }
-}
-
-#[cycle(example)]
-fn write_fields<T: Tables, W: fmt::Write>(
-    table: T,
-    depth: u8,
-    fields: &[Field<'_>],
-    out: &mut W,
-) -> fmt::Result {
-    let mut between = '{';
-    for field in fields {
-        if !matches!(field.form, Form::Pad(_)) {
-            out.write_char(between)?;
-            write_member(table, depth, field.name, field.form, out)?;
-            between = ',';
+    match form {
+        Form::Named(_, place) => put_name(out, names_at(table, place)),
+        Form::Bytes(count) | Form::Pad(count) => put_zero_bytes(out, count),
+        Form::Record(place) => put_record(table, inner, table.part(place), out),
+        Form::Choice(place) => put_first(table, inner, table.part(place), out),
+        Form::Array(place) | Form::Times(_, place) => {
+            put_element(table, inner, form_of(place, table.part(place)), out)
         }
+        Form::List(place) => {
+            put(out, "[")?;
+            put_layered(table, inner, table.part(place), out)?;
+            put(out, "]")
+        }
+        _ => put(out, leaf_example(form)),
     }
-    out.write_char('}')
 }
 
 #[cycle(example)]
-fn write_first_row<T: Tables, W: fmt::Write>(
+fn put_element<T: Tables, A: Allocator>(
     table: T,
-    depth: u8,
-    layer: &str,
-    rows: &[Row<'_>],
-    out: &mut W,
-) -> fmt::Result {
-    out.write_char('[')?;
-    if let [first, ..] = rows {
-        write_attribute(table, depth, layer, first, out)?;
-    }
-    out.write_char(']')
-}
-
-// An attribute in its layer.
-#[cycle(example)]
-fn write_attribute<T: Tables, W: fmt::Write>(
-    table: T,
-    depth: u8,
-    layer: &str,
-    row: &Row<'_>,
-    out: &mut W,
-) -> fmt::Result {
-    out.write_char('{')?;
-    if layer.is_empty() {
-        write_member(table, depth, row.name, row.form, out)?;
-    } else {
-        quoted(out, layer)?;
-        out.write_str(":{")?;
-        write_member(table, depth, row.name, row.form, out)?;
-        out.write_char('}')?;
-    }
-    out.write_char('}')
-}
-
-#[cycle(example)]
-fn write_first_choice<T: Tables, W: fmt::Write>(
-    table: T,
-    depth: u8,
-    choices: &[Choice<'_>],
-    out: &mut W,
-) -> fmt::Result {
-    let [first, ..] = choices else {
-        return out.write_str("{\"Other\":\"\"}");
-    };
-    out.write_char('{')?;
-    write_member(table, depth, first.name, first.form, out)?;
-    out.write_char('}')
-}
-
-#[cycle(example)]
-fn write_member<T: Tables, W: fmt::Write>(
-    table: T,
-    depth: u8,
-    name: &str,
+    inner: u8,
     form: Form,
-    out: &mut W,
-) -> fmt::Result {
-    quoted(out, name)?;
-    out.write_char(':')?;
-    write_example_of(table, depth, form, out)
+    out: &mut Vec<u8, A>,
+) -> Result<(), AllocError>
+    ensures { OnOk result (out.new.items ≡ out.old.items ++ (codes "[" ++ (example (T.parts_of table) inner form ++ codes "]"))) }
+{
+    put(out, "[")?;
+    put_form(table, inner, form, out)?;
+    put(out, "]")
 }
 
-/// Writes an example of a kind and the first attribute behind it, by the rows at a place.
-pub(crate) fn write_example<T: Tables, W: fmt::Write>(
+// A member of an object.
+#[cycle(example)]
+fn put_member<T: Tables, A: Allocator>(
     table: T,
-    depth: u8,
-    kind: &str,
-    place: usize,
-    out: &mut W,
-) -> fmt::Result {
-    out.write_str("[{\"Kind\":")?;
-    quoted(out, kind)?;
-    out.write_char('}')?;
-    if let Part::Rows(layer, [first, ..]) = table.part(place) {
-        out.write_char(',')?;
-        write_attribute(table, depth, layer, first, out)?;
+    inner: u8,
+    member: Member<'static>,
+    out: &mut Vec<u8, A>,
+) -> Result<(), AllocError>
+    ensures { OnOk result (out.new.items ≡ out.old.items ++ member_example (example (T.parts_of table) inner) (member_view member.entry)) }
+{
+    put_quoted(out, member.name)?;
+    put(out, ":")?;
+    put_form(table, inner, member.form, out)
+}
+
+// An object of the first member.
+#[cycle(example)]
+fn put_first<T: Tables, A: Allocator>(
+    table: T,
+    inner: u8,
+    part: Part<'static>,
+    out: &mut Vec<u8, A>,
+) -> Result<(), AllocError>
+    ensures { OnOk result (out.new.items ≡ out.old.items ++ first_example (example (T.parts_of table) inner) (members_of (part_view part.entry))) }
+{
+    match first_member(part) {
+        Some((member, _)) => {
+            put(out, "{")?;
+            put_member(table, inner, member, out)?;
+            put(out, "}")
+        }
+        None => put(out, "{}"),
     }
-    out.write_str("]\n")
+}
+
+// An object of all members. Padding is shown only where it isn't zero.
+#[cycle(example)]
+fn put_record<T: Tables, A: Allocator>(
+    table: T,
+    inner: u8,
+    part: Part<'static>,
+    out: &mut Vec<u8, A>,
+) -> Result<(), AllocError>
+    ensures { OnOk result (out.new.items ≡ out.old.items ++
+        (codes "{" ++ members_example (example (T.parts_of table) inner) [] (members_of (part_view part.entry)))) }
+{
+    put(out, "{")?;
+    let mut left = part;
+    let mut between = "";
+    while let Some((member, others)) = first_member(left) {
+        if !is_pad(member.form) {
+            put(out, between)?;
+            put_member(table, inner, member, out)?;
+            between = ",";
+        }
+        left = others;
+    }
+    put(out, "}")
+}
+
+// The first attribute of a list, in its layer.
+#[cycle(example)]
+fn put_layered<T: Tables, A: Allocator>(
+    table: T,
+    inner: u8,
+    part: Part<'static>,
+    out: &mut Vec<u8, A>,
+) -> Result<(), AllocError>
+    ensures { OnOk result (out.new.items ≡ out.old.items ++
+        list_example (example (T.parts_of table) inner) (layer_of (part_view part.entry)) (members_of (part_view part.entry))) }
+{
+    if first_member(part).is_none() {
+        return Ok(());
+    }
+    let layer = layer_of(part);
+    if layer.is_empty() {
+        return put_first(table, inner, part, out);
+    }
+    put(out, "{")?;
+    put_quoted(out, layer)?;
+    put(out, ":")?;
+    put_first(table, inner, part, out)?;
+    put(out, "}")
+}
+
+/// Puts an example of a kind and the first attribute behind it, by the rows at a place.
+pub(crate) fn put_example<T: Tables, A: Allocator>(
+    table: T,
+    kind: &str,
+    rows: usize,
+    out: &mut Vec<u8, A>,
+) -> Result<(), AllocError>
+    ensures { OnOk result (out.new.items ≡ out.old.items ++ kind_example (T.parts_of table) kind.now rows) }
+{
+    put(out, "example: [{\"Kind\":")?;
+    put_quoted(out, kind)?;
+    put(out, "}")?;
+    let part = table.part(rows);
+    if first_member(part).is_some() {
+        put(out, ",")?;
+    }
+    put_layered(table, DEEPEST, part, out)?;
+    put(out, "]\n")
 }

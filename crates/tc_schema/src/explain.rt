@@ -1,79 +1,177 @@
 //! What the attributes of a kind are, for people.
 
-use crate::example::write_example;
-use std::fmt;
-use tc_forms::{Choice, Field, Form, KindRows, Name, Number, Part, Row, Tables};
-use tc_units::Name as Bit;
+ghost use Rattle.std.specs.Prelude.{OnOk, [], map, option_map, ◌+◌, ◌++◌, ◌-◌, ◌≡◌, ◌≤◌};
+ghost use Rattle.tc_forms.specs.Tables.{kinds_view, names_view, part_view};
+ghost use Rattle.tc_schema.specs.Explained.{deepest, explained, indent, is_known, kernel_text, kind_text, kinds_of, member_line, member_lines, members_text, named_line, named_lines, names_lines, place_in, rows_of_kind, signed_of, signed_text, unit_text};
+ghost use Rattle.tc_schema.specs.Notes.{named_views, note_view, note_views, noted_views};
+ghost use Rattle.tc_schema.specs.Texts.{member_view, members_of};
+
+use crate::example::put_example;
+use crate::notes::{Left, Named, Note, Noted, first_note, notes_at};
+use crate::texts::{Member, first_member, put, put_decimal, put_form};
+use std::alloc::{AllocError, Allocator};
+use tc_forms::{Form, KindRows, Name, Number, Part, Tables};
 
 // How deep attributes are explained.
 const DEEPEST: u8 = 12;
 
-/// What is known of numbers beside their forms, by the place of the part of the table that they are in, and their names.
-pub trait Notes: Copy {
-    /// What a number counts; empty where that isn't known.
-    fn unit(self, place: usize, name: &str) -> &'static str;
-
-    /// The names of the bits of a flag word.
-    fn bits(self, place: usize, name: &str) -> &'static [Bit<'static>];
-}
-
-/// Nothing is known.
-#[derive(Clone, Copy)]
-pub struct NoNotes;
-
-impl Notes for NoNotes {
-    fn unit(self, _place: usize, _name: &str) -> &'static str {
-        ""
-    }
-
-    fn bits(self, _place: usize, _name: &str) -> &'static [Bit<'static>] {
-        &[]
+fn put_indent<A: Allocator>(out: &mut Vec<u8, A>, level: u8) -> Result<(), AllocError>
+    ensures { OnOk result (out.new.items ≡ out.old.items ++ indent level) }
+{
+    match level.checked_sub(1) {
+        Some(outer) => {
+            put(out, "  ")?;
+            put_indent(out, outer)
+        }
+        None => Ok(()),
     }
 }
 
-// The form of a number, in a word.
-fn number_word(of: Number) -> &'static str {
-    match of {
-        Number::U8 => "u8",
-        Number::U16 => "u16",
-        Number::U32 => "u32",
-        Number::U64 => "u64",
-        Number::I8 => "i8",
-        Number::I16 => "i16",
-        Number::I32 => "i32",
-        Number::I64 => "i64",
-        Number::U16Be => "u16, big-endian",
-        Number::U32Be => "u32, big-endian",
-        Number::U64Be => "u64, big-endian",
+// Puts the kernel's name in brackets, and ends the line.
+fn put_kernel<A: Allocator>(out: &mut Vec<u8, A>, kernel: &str) -> Result<(), AllocError>
+    ensures { OnOk result (out.new.items ≡ out.old.items ++ kernel_text kernel.now) }
+{
+    if kernel.is_empty() {
+        return Ok(());
     }
+    put(out, " (")?;
+    put(out, kernel)?;
+    put(out, ")")
 }
 
-// A form, in a few words.
-fn write_form<W: fmt::Write>(out: &mut W, form: Form) -> fmt::Result {
+fn put_unit<A: Allocator>(out: &mut Vec<u8, A>, unit: &str) -> Result<(), AllocError>
+    ensures { OnOk result (out.new.items ≡ out.old.items ++ unit_text unit.now) }
+{
+    if unit.is_empty() {
+        return Ok(());
+    }
+    put(out, ", ")?;
+    put(out, unit)
+}
+
+// A line for a number and its name.
+fn put_named<A: Allocator>(
+    out: &mut Vec<u8, A>,
+    level: u8,
+    named: &Named<'_>,
+) -> Result<(), AllocError>
+    ensures { OnOk result (out.new.items ≡ out.old.items ++ named_line level named.now.name.now named.now.number.now named.now.kernel.now) }
+{
+    put_indent(out, level)?;
+    put(out, named.name)?;
+    put(out, " = ")?;
+    put(out, named.number)?;
+    put_kernel(out, named.kernel)?;
+    put(out, "\n")
+}
+
+fn put_all_named<A: Allocator>(
+    out: &mut Vec<u8, A>,
+    level: u8,
+    names: &[Named<'_>],
+) -> Result<(), AllocError>
+    ensures { OnOk result (out.new.items ≡ out.old.items ++ named_lines level (named_views names.now)) }
+{
+    if let Some((first, others)) = names.split_first() {
+        put_named(out, level, first)?;
+        put_all_named(out, level, others)?;
+    }
+    Ok(())
+}
+
+// A line for a member: a name, a form, a unit and the kernel's name.
+fn put_member_line<A: Allocator>(
+    out: &mut Vec<u8, A>,
+    level: u8,
+    member: Member<'static>,
+    note: Note<'static>,
+) -> Result<(), AllocError>
+    ensures { OnOk result (out.new.items ≡ out.old.items ++ member_line level (member_view member.entry) (note_view note.entry)) }
+{
+    put_indent(out, level)?;
+    put(out, member.name)?;
+    put(out, ": ")?;
+    put_form(out, member.form)?;
+    put_unit(out, note.unit)?;
+    put_kernel(out, note.kernel)?;
+    put(out, "\n")
+}
+
+// The same, and below it the names of numbers and bits.
+fn put_member<A: Allocator>(
+    out: &mut Vec<u8, A>,
+    level: u8,
+    member: Member<'static>,
+    note: Note<'static>,
+) -> Result<(), AllocError>
+    requires { level ≤ 12 }
+    ensures { OnOk result (out.new.items ≡ out.old.items ++ member_lines level (member_view member.entry) (note_view note.entry)) }
+{
+    put_member_line(out, level, member, note)?;
+    put_all_named(out, level + 1, note.names)
+}
+
+// How many numbers a signed form has; 0 for others.
+fn signed_of(form: Form) -> u64
+    ensures { result ≡ signed_of form }
+{
     match form {
-        Form::Number(of) | Form::Named(of, _) => out.write_str(number_word(of)),
-        Form::Handle => out.write_str("handle"),
-        Form::Flag => out.write_str("flag"),
-        Form::Truth => out.write_str("false or true"),
-        Form::Text | Form::Bare => out.write_str("text"),
-        Form::Hex => out.write_str("hex"),
-        Form::Bytes(count) => write!(out, "hex of {count} bytes"),
-        Form::Pad(count) => write!(out, "padding of {count} bytes"),
-        Form::Mac => out.write_str("MAC address"),
-        Form::Ipv4 => out.write_str("IPv4 address"),
-        Form::Ipv6 => out.write_str("IPv6 address"),
-        Form::Record(_) => out.write_str("record"),
-        Form::Array(_) => out.write_str("array"),
-        Form::Times(count, _) => write!(out, "array of {count}"),
-        Form::List(_) | Form::InForce(_) => out.write_str("attributes"),
-        Form::Own(_) => out.write_str("attributes by their kind"),
-        Form::Indexed(_) => out.write_str("list"),
-        Form::Choice(_) => out.write_str("one of"),
+        Form::Named(Number::I8, _) => 0x100,
+        Form::Named(Number::I16, _) => 0x1_0000,
+        Form::Named(Number::I32, _) => 0x1_0000_0000,
+        _ => 0,
     }
 }
 
-// The place that a form names.
-fn place_in(form: Form) -> Option<usize> {
+fn put_signed<A: Allocator>(out: &mut Vec<u8, A>, all: u64, n: u64) -> Result<(), AllocError>
+    ensures { OnOk result (out.new.items ≡ out.old.items ++ signed_text all n) }
+{
+    if all / 2 <= n && n < all {
+        put(out, "-")?;
+        return put_decimal(out, all - n);
+    }
+    put_decimal(out, n)
+}
+
+// A line for a number of the table and its name.
+fn put_name<A: Allocator>(
+    out: &mut Vec<u8, A>,
+    level: u8,
+    all: u64,
+    name: &Name<'_>,
+    kernel: &str,
+) -> Result<(), AllocError>
+    ensures { OnOk result (out.new.items ≡ out.old.items ++ named_line level name.now.name.now (signed_text all name.now.number) kernel.now) }
+{
+    put_indent(out, level)?;
+    put(out, name.name)?;
+    put(out, " = ")?;
+    put_signed(out, all, name.number)?;
+    put_kernel(out, kernel)?;
+    put(out, "\n")
+}
+
+fn put_names<A: Allocator>(
+    out: &mut Vec<u8, A>,
+    level: u8,
+    all: u64,
+    names: &[Name<'_>],
+    left: Left,
+) -> Result<(), AllocError>
+    ensures { OnOk result (out.new.items ≡ out.old.items ++ names_lines level all (names_view names.now) (note_views left.entry.notes.now)) }
+{
+    if let Some((first, others)) = names.split_first() {
+        let (note, behind) = first_note(left);
+        put_name(out, level, all, first, note.kernel)?;
+        put_names(out, level, all, others, behind)?;
+    }
+    Ok(())
+}
+
+// The place that a form names. The kinds within attributes have explanations of their own.
+fn place_in(form: Form) -> Option<usize>
+    ensures { result ≡ place_in form }
+{
     match form {
         Form::Named(_, place)
         | Form::Record(place)
@@ -87,232 +185,110 @@ fn place_in(form: Form) -> Option<usize> {
     }
 }
 
-fn indent<W: fmt::Write>(out: &mut W, depth: u8) -> fmt::Result {
-    for _ in depth..DEEPEST {
-        out.write_str("  ")?;
-    }
-    Ok(())
-}
-
-// A line: a name, a form and a unit; below it the names of bits.
-fn write_line<N: Notes, W: fmt::Write>(
-    notes: N,
-    place: usize,
-    depth: u8,
-    name: &str,
-    form: Form,
-    out: &mut W,
-) -> fmt::Result {
-    indent(out, depth)?;
-    out.write_str(name)?;
-    out.write_str(": ")?;
-    write_form(out, form)?;
-    let unit = notes.unit(place, name);
-    if !unit.is_empty() {
-        out.write_str(", ")?;
-        out.write_str(unit)?;
-    }
-    out.write_char('\n')?;
-    for bit in notes.bits(place, name) {
-        indent(out, depth.saturating_sub(1))?;
-        out.write_str(bit.name)?;
-        let number = bit.number;
-        write!(out, " = {number:#x}\n")?;
-    }
-    Ok(())
-}
-
 // What is within a form.
 #[cycle(explain)]
-fn explain_form<T: Tables, N: Notes, W: fmt::Write>(
+fn explain_form<T: Tables, A: Allocator>(
     table: T,
-    notes: N,
+    notes: &'static [Noted<'static>],
     depth: u8,
     form: Form,
-    out: &mut W,
-) -> fmt::Result {
+    out: &mut Vec<u8, A>,
+) -> Result<(), AllocError>
+    requires { depth ≤ 12 }
+    ensures { OnOk result (out.new.items ≡ out.old.items ++ explained (T.parts_of table) (noted_views notes.now) depth form) }
+{
     let inner = match depth.checked_sub(1) {
         Some(inner) => inner,
         None => return Ok(()),
     };
-    let Some(place) = place_in(form) else {
-        return Ok(());
+    let place = match place_in(form) {
+        Some(place) => place,
+        None => return Ok(()),
+    };
+    let own = Left {
+        notes: notes_at(notes, place),
     };
     match table.part(place) {
         Part::One(form) => explain_form(table, notes, inner, form, out),
-        Part::Names(names) => write_names(out, inner, form, names),
-        Part::Fields(fields) => explain_fields(table, notes, place, inner, fields, out),
-        Part::Rows(_, rows) => explain_rows(table, notes, place, inner, rows, out),
-        Part::Kinds(_, _, _) => Ok(()),
-        Part::Choices(choices) => explain_choices(table, notes, place, inner, choices, out),
+        Part::Names(names) => put_names(out, DEEPEST - inner, signed_of(form), names, own),
+        part => explain_members(table, notes, inner, part, own, out),
     }
 }
 
-// The names of numbers in a form.
-fn write_names<W: fmt::Write>(
-    out: &mut W,
-    depth: u8,
-    form: Form,
-    names: &[Name<'_>],
-) -> fmt::Result {
-    for name in names {
-        indent(out, depth)?;
-        out.write_str(name.name)?;
-        out.write_str(" = ")?;
-        write_number(out, form, name.number)?;
-        out.write_char('\n')?;
-    }
-    Ok(())
-}
-
-// A number in a form, which may be signed.
-fn write_number<W: fmt::Write>(out: &mut W, form: Form, number: u64) -> fmt::Result {
-    let all: u64 = match form {
-        Form::Named(Number::I8, _) => 0x100,
-        Form::Named(Number::I16, _) => 0x1_0000,
-        Form::Named(Number::I32, _) => 0x1_0000_0000,
-        _ => 0,
-    };
-    if all / 2 <= number && number < all {
-        let below = all - number;
-        return write!(out, "-{below}");
-    }
-    write!(out, "{number}")
-}
-
+// The members of a part, each with what is within.
 #[cycle(explain)]
-fn explain_fields<T: Tables, N: Notes, W: fmt::Write>(
+fn explain_members<T: Tables, A: Allocator>(
     table: T,
-    notes: N,
-    place: usize,
-    depth: u8,
-    fields: &[Field<'_>],
-    out: &mut W,
-) -> fmt::Result {
-    for field in fields {
-        write_line(notes, place, depth, field.name, field.form, out)?;
-        explain_form(table, notes, depth, field.form, out)?;
+    notes: &'static [Noted<'static>],
+    inner: u8,
+    part: Part<'static>,
+    own: Left,
+    out: &mut Vec<u8, A>,
+) -> Result<(), AllocError>
+    requires { inner ≤ 12 }
+    ensures { OnOk result (out.new.items ≡ out.old.items ++
+        members_text (explained (T.parts_of table) (noted_views notes.now) inner) (deepest - inner) (members_of (part_view part.entry)) (note_views own.entry.notes.now)) }
+{
+    let mut left = part;
+    let mut behind = own;
+    while let Some((member, others)) = first_member(left) {
+        let (note, after) = first_note(behind);
+        put_member(out, DEEPEST - inner, member, note)?;
+        explain_form(table, notes, inner, member.form, out)?;
+        left = others;
+        behind = after;
     }
     Ok(())
 }
 
-#[cycle(explain)]
-fn explain_rows<T: Tables, N: Notes, W: fmt::Write>(
-    table: T,
-    notes: N,
-    place: usize,
-    depth: u8,
-    rows: &[Row<'_>],
-    out: &mut W,
-) -> fmt::Result {
-    for row in rows {
-        write_line(notes, place, depth, row.name, row.form, out)?;
-        explain_form(table, notes, depth, row.form, out)?;
-    }
-    Ok(())
-}
+// ---- kinds
 
-#[cycle(explain)]
-fn explain_choices<T: Tables, N: Notes, W: fmt::Write>(
-    table: T,
-    notes: N,
-    place: usize,
-    depth: u8,
-    choices: &[Choice<'_>],
-    out: &mut W,
-) -> fmt::Result {
-    for choice in choices {
-        write_line(notes, place, depth, choice.name, choice.form, out)?;
-        explain_form(table, notes, depth, choice.form, out)?;
-    }
-    Ok(())
-}
-
-/// The first list with kinds in a form: its place.
-pub fn list_with_kinds<T: Tables>(table: T, form: Form) -> Option<usize> {
-    find_in_form(table, DEEPEST, form)
-}
-
-#[cycle(find)]
-fn find_in_form<T: Tables>(table: T, depth: u8, form: Form) -> Option<usize> {
-    let inner = depth.checked_sub(1)?;
-    let place = match form {
-        Form::Own(place) => place,
-        _ => place_in(form)?,
-    };
-    match table.part(place) {
-        Part::Kinds(_, _, _) => Some(place),
-        Part::One(form) => find_in_form(table, inner, form),
-        Part::Fields(fields) => find_in_fields(table, inner, fields),
-        Part::Rows(_, rows) => find_in_rows(table, inner, rows),
-        _ => None,
-    }
-}
-
-#[cycle(find)]
-fn find_in_fields<T: Tables>(table: T, depth: u8, fields: &[Field<'_>]) -> Option<usize> {
-    for field in fields {
-        if let Some(place) = find_in_form(table, depth, field.form) {
-            return Some(place);
-        }
-    }
-    None
-}
-
-#[cycle(find)]
-fn find_in_rows<T: Tables>(table: T, depth: u8, rows: &[Row<'_>]) -> Option<usize> {
-    for row in rows {
-        if let Some(place) = find_in_form(table, depth, row.form) {
-            return Some(place);
-        }
-    }
-    None
-}
-
-// The kinds of the list at a place.
-fn kinds_of<T: Tables>(table: T, place: usize) -> &'static [KindRows<'static>] {
+/// The kinds of the list with kinds at a place.
+pub fn kinds_of<T: Tables>(table: T, place: usize) -> &'static [KindRows<'static>]
+    ensures { kinds_view result.now ≡ kinds_of (T.parts_of table place) }
+{
     if let Part::Kinds(_, _, kinds) = table.part(place) {
         return kinds;
     }
     &[]
 }
 
-/// Writes the attributes of a kind and an example, by the list with kinds at a place. False where the list has no such kind.
-pub fn explain_kind<T: Tables, N: Notes, W: fmt::Write>(
+// The place of the rows of a kind.
+fn rows_of_kind(kinds: &[KindRows<'_>], kind: &str) -> Option<usize>
+    ensures { result ≡ rows_of_kind (kinds_view kinds.now) kind.now }
+{
+    match kinds.split_first() {
+        Some((it, _)) if it.kind == kind => Some(it.rows),
+        Some((_, others)) => rows_of_kind(others, kind),
+        None => None,
+    }
+}
+
+/// Puts what the attributes of a kind are, and an example, by the list with kinds at a place: a line for each attribute, field and choice
+/// with its name in JSON, its form, its unit and the kernel's name, and one for each name of a number. Nothing where the list has no such
+/// kind.
+pub fn put_kind<T: Tables, A: Allocator>(
     table: T,
-    notes: N,
+    notes: &'static [Noted<'static>],
     place: usize,
     kind: &str,
-    out: &mut W,
-) -> Result<bool, fmt::Error> {
-    for one in kinds_of(table, place) {
-        if one.kind == kind {
-            out.write_str(kind)?;
-            out.write_char('\n')?;
-            explain_form(table, notes, DEEPEST, Form::List(one.rows), out)?;
-            out.write_str("example: ")?;
-            write_example(table, DEEPEST, kind, one.rows, out)?;
-            return Ok(true);
-        }
-    }
-    Ok(false)
+    out: &mut Vec<u8, A>,
+) -> Result<(), AllocError>
+    ensures { OnOk result (out.new.items ≡ out.old.items ++ kind_text (T.parts_of table) (noted_views notes.now) place kind.now) }
+{
+    let rows = match rows_of_kind(kinds_of(table, place), kind) {
+        Some(rows) => rows,
+        None => return Ok(()),
+    };
+    put(out, kind)?;
+    put(out, "\n")?;
+    explain_form(table, notes, DEEPEST, Form::List(rows), out)?;
+    put_example(table, kind, rows, out)
 }
 
 /// True if the list with kinds at a place has this kind.
-pub fn knows_kind<T: Tables>(table: T, place: usize, kind: &str) -> bool {
-    for one in kinds_of(table, place) {
-        if one.kind == kind {
-            return true;
-        }
-    }
-    false
-}
-
-/// Writes the kinds of the list with kinds at a place, one a line.
-pub fn write_kinds<T: Tables, W: fmt::Write>(table: T, place: usize, out: &mut W) -> fmt::Result {
-    for one in kinds_of(table, place) {
-        out.write_str(one.kind)?;
-        out.write_char('\n')?;
-    }
-    Ok(())
+pub fn knows_kind<T: Tables>(table: T, place: usize, kind: &str) -> bool
+    ensures { result ≡ is_known (rows_of_kind (kinds_of (T.parts_of table place)) kind.now) }
+{
+    rows_of_kind(kinds_of(table, place), kind).is_some()
 }

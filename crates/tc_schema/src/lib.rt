@@ -2,12 +2,14 @@
 //! Both are written of any tables at run time.
 #![tactic(auto)]
 
-mod defs;
 mod example;
-pub mod explain;
-pub mod line;
-pub mod output;
+mod explain;
+mod kinds;
+mod notes;
+mod schema;
+mod texts;
 
-pub use defs::Schema;
-pub use explain::{NoNotes, Notes, explain_kind, knows_kind, list_with_kinds, write_kinds};
-pub use line::write_schema;
+pub use explain::{kinds_of, knows_kind, put_kind};
+pub use kinds::{LISTS, NOTES, PLACES};
+pub use notes::{Named, Note, Noted};
+pub use schema::{put_schema, put_schema_definitions};

@@ -10,7 +10,7 @@ ghost use Rattle.tcshow_lib.specs.declared.run.Ended.{Ended};
 use crate::arguments::{Request, Task, request_of};
 use crate::asked::{Asked, Form};
 use crate::choice::{Choice, NoChoice};
-use crate::kinds::{write_all_kinds, write_kind, write_schema_of_line};
+use crate::kinds::{explain, is_known, put_schema_of_line, write_all_kinds};
 use crate::names::names_in;
 use crate::packets::Packets;
 use crate::run::{Ended, run};
@@ -83,9 +83,9 @@ fn perform<R: AllocGlobal + Files + Input + Print, E: Write>(
 }
 
 fn print_schema<R: AllocGlobal + Print, E: Write>(rt: &R, errors: &mut E) -> u8 {
-    let mut text = String::new(rt.alloc());
-    match write_schema_of_line(rt.alloc(), &mut text) {
-        Ok(()) => print(rt, text.as_str(), errors),
+    let mut text = Vec::new(rt.alloc());
+    match put_schema_of_line(&mut text) {
+        Ok(()) => print(rt, text.as_slice(), errors),
         Err(_) => complain(errors, NO_MEMORY, 3),
     }
 }
@@ -93,23 +93,25 @@ fn print_schema<R: AllocGlobal + Print, E: Write>(rt: &R, errors: &mut E) -> u8 
 fn print_kinds<R: AllocGlobal + Print, E: Write>(rt: &R, errors: &mut E) -> u8 {
     let mut text = String::new(rt.alloc());
     match write_all_kinds(&mut text) {
-        Ok(()) => print(rt, text.as_str(), errors),
+        Ok(()) => print(rt, text.as_bytes(), errors),
         Err(_) => complain(errors, NO_MEMORY, 3),
     }
 }
 
 fn print_kind<R: AllocGlobal + Print, E: Write>(rt: &R, kind: &str, errors: &mut E) -> u8 {
-    let mut text = String::new(rt.alloc());
-    match write_kind(kind, &mut text) {
-        Ok(true) => print(rt, text.as_str(), errors),
-        Ok(false) => complain_of_choice(rt.alloc(), NoChoice::Kind(kind), errors),
+    if !is_known(kind) {
+        return complain_of_choice(rt.alloc(), NoChoice::Kind(kind), errors);
+    }
+    let mut text = Vec::new(rt.alloc());
+    match explain(kind, &mut text) {
+        Ok(()) => print(rt, text.as_slice(), errors),
         Err(_) => complain(errors, NO_MEMORY, 3),
     }
 }
 
 // Writes a text on standard output, and returns the exit status.
-fn print<R: Print, E: Write>(rt: &R, text: &str, errors: &mut E) -> u8 {
-    match write_all(&mut io::writer(rt), text.as_bytes()) {
+fn print<R: Print, E: Write>(rt: &R, text: &[u8], errors: &mut E) -> u8 {
+    match write_all(&mut io::writer(rt), text) {
         Ok(()) | Err(tc_streams::Stop::Closed) => 0,
         Err(_) => complain(errors, "tcshow: write failed\n", 3),
     }

@@ -8,7 +8,7 @@ use tc_chosen::Chosen;
 use tcshow_lib::arguments::request_of;
 use tcshow_lib::asked::{Asked, Form};
 use tcshow_lib::choice::Choice;
-use tcshow_lib::kinds::write_kind;
+use tcshow_lib::kinds::explain;
 use tcshow_lib::names::names_in;
 
 // What Linux answered tc, a message a line: a qdisc of bfifo, handle 1:; a filter of u32 with an action of mirred, handle 80d::800, parent
@@ -304,24 +304,45 @@ fn links_name(rt: HostRuntime) {
     assert!(rt; run.status == 0 && text.contains("index 2 (eth9) handle 1: parent root"));
 }
 
+// A kind in words: lines, the kernel's names in them as in linux/pkt_sched.h, its beginning and its end.
 #[test]
 fn kinds_are_explained(rt: HostRuntime) -> Result<(), Fail> {
-    let mut text = String::new(rt.alloc());
-    assert!(rt; write_kind("htb", &mut text)? && !write_kind("Htb", &mut text)?);
-    let text = text.as_str();
+    let mut text = Vec::new(rt.alloc());
+    explain("Htb", &mut text)?;
+    assert!(rt; text.is_empty());
+    explain("htb", &mut text)?;
+    let text = str::from_utf8(&text).unwrap_or("");
     assert!(rt;
         text.starts_with(
-            "htb\n  Options: attributes\n    Parms: record\n      rate: record\n        cell_log: u8"
+            "htb\n  Options: attributes (TCA_OPTIONS)\n    Parms: record (TCA_HTB_PARMS)\n      rate: record\n        cell_log: u8"
         )
     );
     assert!(rt;
-        text.contains("        linklayer: u8\n          Unaware = 0\n")
-            && text.contains("\n    Rate64: u64, bytes a second\n")
+        text.contains("        linklayer: u8\n          Unaware = 0 (TC_LINKLAYER_UNAWARE)\n")
+            && text.contains("\n    Rate64: u64, bytes a second (TCA_HTB_RATE64)\n")
     );
     assert!(rt;
         text.contains(
             "\nexample: [{\"Kind\":\"htb\"},{\"Options\":[{\"Htb\":{\"Parms\":{\"rate\":{\"cell_log\":1,"
         )
+    );
+    Ok(())
+}
+
+// Names of bits, and a number below zero with a name, as linux/pkt_cls.h has them.
+#[test]
+fn names_are_explained(rt: HostRuntime) -> Result<(), Fail> {
+    let mut text = Vec::new(rt.alloc());
+    explain("matchall", &mut text)?;
+    explain("gact", &mut text)?;
+    let text = str::from_utf8(&text).unwrap_or("");
+    assert!(rt;
+        text.contains(
+            "    Flags: u32 (TCA_MATCHALL_FLAGS)\n      skip_hw = 0x1 (TCA_CLS_FLAGS_SKIP_HW)\n      skip_sw = 0x2 (TCA_CLS_FLAGS_SKIP_SW)\n"
+        )
+    );
+    assert!(rt;
+        text.contains("Unspec = -1 (TC_ACT_UNSPEC)\n") && text.contains("Shot = 2 (TC_ACT_SHOT)\n")
     );
     Ok(())
 }

@@ -1,23 +1,35 @@
-use Rattle.std.proofs.Common.{◌+◌, ◌*◌}
+use denote.Shadow.{shadow}
+use denote.Text.{Utf8}
+use Rattle.std.proofs.Common.{length, ◌*◌, ◌+◌, ◌++◌, ◌≡◌}
+use Rattle.tc_forms.specs.Tables.{part_view}
+use Rattle.tc_schema.specs.Examples.{example, members_example}
+use Rattle.tc_schema.specs.Texts.{members_of}
 use Rattle.tc_schema.proofs.example.+example.Given as goal
 
-abbrev pub decreases-write_example_of : goal.decreases-write_example_of
-decreases-write_example_of g l = 5 * l.depth + 2
+abbrev pub decreases-put_form : goal.decreases-put_form
+decreases-put_form g l = 5 * l.depth
 
-abbrev pub decreases-write_part : goal.decreases-write_part
-decreases-write_part g l = 5 * l.depth + 1
+abbrev pub decreases-put_element : goal.decreases-put_element
+decreases-put_element g l = 5 * l.inner + 1
 
-abbrev pub decreases-write_member : goal.decreases-write_member
-decreases-write_member g l = 5 * l.depth + 3
+abbrev pub decreases-put_member : goal.decreases-put_member
+decreases-put_member g l = 5 * l.inner + 1
 
-abbrev pub decreases-write_attribute : goal.decreases-write_attribute
-decreases-write_attribute g l = 5 * l.depth + 4
+abbrev pub decreases-put_first : goal.decreases-put_first
+decreases-put_first g l = 5 * l.inner + 2
 
-abbrev pub decreases-write_first_row : goal.decreases-write_first_row
-decreases-write_first_row g l = 5 * l.depth + 5
+abbrev pub decreases-put_record : goal.decreases-put_record
+decreases-put_record g l = 5 * l.inner + 2
 
-abbrev pub decreases-write_fields : goal.decreases-write_fields
-decreases-write_fields g l = 5 * l.depth + 5
+abbrev pub decreases-put_layered : goal.decreases-put_layered
+decreases-put_layered g l = 5 * l.inner + 3
 
-abbrev pub decreases-write_first_choice : goal.decreases-write_first_choice
-decreases-write_first_choice g l = 5 * l.depth + 5
+abbrev pub decreases-put_record-loop-member : goal.decreases-put_record-loop-member
+decreases-put_record-loop-member g l = length (members_of (part_view l.left))
+
+-- what is to be appended from here is what was to be appended from the start
+abbrev pub invariant-put_record-loop-member : goal.invariant-put_record-loop-member
+invariant-put_record-loop-member g l =
+    shadow (Utf8 l.between)
+    × (l.out.items ++ members_example (example (g.T.Tables.parts_of l.table) l.inner) l.between (members_of (part_view l.left))
+    ≡ l.initial.out.items ++ members_example (example (g.T.Tables.parts_of l.table) l.inner) l.initial.between (members_of (part_view l.initial.left)))

@@ -1,0 +1,5 @@
+pub mod Examples
+pub mod Explained
+pub mod Notes
+pub mod Schema
+pub mod Texts

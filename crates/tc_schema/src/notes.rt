@@ -1,0 +1,71 @@
+//! What is known of the members of a part beside their names and forms.
+
+ghost use Rattle.std.specs.Prelude.{◌≡◌};
+ghost use Rattle.tc_schema.specs.Notes.{first_note, note_view, note_views, noted_views, notes_at, other_notes};
+
+/// A named number, or a bit of a flag word.
+#[derive(Clone, Copy)]
+pub struct Named<'a> {
+    /// The number, as it is written.
+    pub number: &'a str,
+    /// The name.
+    pub name: &'a str,
+    /// The kernel's name.
+    pub kernel: &'a str,
+}
+
+/// What is known of a member.
+#[derive(Clone, Copy)]
+pub struct Note<'a> {
+    /// The kernel's name; empty where it has none.
+    pub kernel: &'a str,
+    /// What it counts, in words; empty where that isn't known.
+    pub unit: &'a str,
+    /// The names of its numbers or bits, beside those of the table.
+    pub names: &'a [Named<'a>],
+}
+
+/// What is known of the members of a part, in their order.
+#[derive(Clone, Copy)]
+pub struct Noted<'a> {
+    /// The place of the part.
+    pub place: usize,
+    /// A note for each member.
+    pub notes: &'a [Note<'a>],
+}
+
+const NO_NOTE: Note<'static> = Note {
+    kernel: "",
+    unit: "",
+    names: &[],
+};
+
+// The notes of the part at a place.
+pub(crate) fn notes_at(notes: &'static [Noted<'static>], place: usize) -> &'static [Note<'static>]
+    ensures { note_views result.now ≡ notes_at (noted_views notes.now) place }
+{
+    if let Some((noted, others)) = notes.split_first() {
+        if noted.place == place {
+            return noted.notes;
+        }
+        return notes_at(others, place);
+    }
+    &[]
+}
+
+/// The notes of members that are left.
+#[derive(Clone, Copy)]
+pub(crate) struct Left {
+    pub(crate) notes: &'static [Note<'static>],
+}
+
+// The note of the first member, and those of the others.
+pub(crate) fn first_note(left: Left) -> (Note<'static>, Left)
+    ensures first { note_view result.0 ≡ first_note (note_views left.entry.notes.now) }
+    ensures others { note_views result.1.notes.now ≡ other_notes (note_views left.entry.notes.now) }
+{
+    match left.notes.split_first() {
+        Some((first, others)) => (*first, Left { notes: others }),
+        None => (NO_NOTE, Left { notes: &[] }),
+    }
+}
