@@ -7655,17 +7655,17 @@ const STRUCT_TC_SFQ_QOPT_V1: [Note<'static>; 12] = [
     },
     Note {
         kernel: "",
-        unit: "",
+        unit: "exponent of 2",
         names: &[],
     },
     Note {
         kernel: "",
-        unit: "",
+        unit: "exponent of 2",
         names: &[],
     },
     Note {
         kernel: "",
-        unit: "",
+        unit: "exponent of 2",
         names: &[],
     },
     Note {
