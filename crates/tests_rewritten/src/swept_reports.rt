@@ -1,12 +1,14 @@
 //! Reports on messages that were cut short or changed, and on attributes of all types and lengths.
 
-use crate::judge::Complaint;
 use crate::reports::mode_of;
 use std::alloc::{AllocError, Global};
 use std::process::Abort;
 use std::test::Fail;
 use tcrewrite_lib::run::run;
 use tests_messages::{Input, all_around, cut_and_changed, made};
+
+// What is wrong with a report, if anything is.
+type Complaint = Option<&'static str>;
 
 fn judge_refused(report: &str) -> Complaint {
     if !report.starts_with("refused ") {
