@@ -63,29 +63,19 @@ struct Givers<K: Eq + Hash, A: Allocator> {
     all: Vec<Giver, A>,
 }
 
-impl<K: Eq + Hash + Copy + Drop, A: Allocator + Copy> Givers<K, A> {
-    // The step at this place gives these.
-    fn add(&mut self, place: usize, keys: &[K]) -> Result<(), AllocError> {
-        for key in keys {
-            let before = self.last.insert(*key, self.all.len())?;
-            self.all.push(Giver { place, before })?;
-        }
-        Ok(())
-    }
-}
-
 fn givers_of<T, K: Eq + Hash + Copy + Drop, A: Allocator + Copy>(
     alloc: A,
     steps: &[Step<T, K, A>],
 ) -> Result<Givers<K, A>, AllocError> {
-    let mut givers = Givers {
-        last: HashMap::new(alloc),
-        all: Vec::new(alloc),
-    };
+    let mut last = HashMap::new(alloc);
+    let mut all = Vec::new(alloc);
     for (place, step) in steps.iter().enumerate() {
-        givers.add(place, &step.gives)?;
+        for key in &step.gives {
+            let before = last.insert(*key, all.len())?;
+            all.push(Giver { place, before })?;
+        }
     }
-    Ok(givers)
+    Ok(Givers { last, all })
 }
 
 // A visit of a step, whose wants before this one have been followed.

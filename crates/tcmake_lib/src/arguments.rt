@@ -1,7 +1,7 @@
 //! The arguments of the program.
 
 use clap::builder::ValueParser;
-use clap::{Arg, ArgAction, Command, Error};
+use clap::{Arg, ArgAction, ArgGroup, ArgMatches, Command, Error};
 use std::alloc::{AllocError, Global};
 use std::convert::AsStr;
 use tcmake_lines::Form;
@@ -46,90 +46,138 @@ gets a complaint, and so does what needs it.
 
 Exit status: 0; 1 if no message was made of a line; 2 for a wrong usage; 3 if a stream failed";
 
-fn flag<'a>(alloc: Global, name: &'a str, help: &'a str) -> Arg<'a> {
-    Arg::new(alloc, name)
-        .long(name)
-        .action(ArgAction::SetTrue)
-        .help(help)
-}
-
-// The options that say what is written.
-fn with_output<'a>(alloc: Global, command: Command<'a>) -> Result<Command<'a>, AllocError> {
-    let no_header = flag(
-        alloc,
-        "no-header",
-        "Write messages without a netlink header",
-    );
-    let pcap = flag(alloc, "pcap", "Write a capture, pcap with link type 253");
-    let stream = flag(
-        alloc,
+// The options: the name, what the help calls the number behind it, if there is one, and what the help says.
+static OPTIONS: [(&str, Option<&str>, &str); 9] = [
+    ("no-header", None, "Write messages without a netlink header"),
+    ("pcap", None, "Write a capture, pcap with link type 253"),
+    (
         "stream",
+        None,
         "Write netlink messages one after the other, without lines of hex",
-    );
-    let stream = stream.conflicts_with("pcap")?.conflicts_with("no-header")?;
-    command
-        .arg(no_header.conflicts_with("pcap")?)?
-        .arg(pcap)?
-        .arg(stream)
+    ),
+    (
+        "settle",
+        None,
+        "Make canonical messages: mask numbers, drop NULs at the end of warnings, set flags and padding",
+    ),
+    (
+        "as-given",
+        None,
+        "Make what lines show, whatever they say that the codec finds",
+    ),
+    (
+        "request",
+        None,
+        "Make of each dump the request that restores it, in an order that works",
+    ),
+    (
+        "in-order",
+        None,
+        "Keep the order of the lines, and read a line at a time",
+    ),
+    (
+        "index",
+        Some("N"),
+        "Make requests for the interface with this index",
+    ),
+    ("verbose", None, "Name the dumps that another request makes"),
+];
+
+fn option<'a>(alloc: Global, name: &'a str, number: Option<&'a str>, help: &'a str) -> Arg<'a> {
+    with_number(described(alloc, name, help), number)
 }
 
-// The options that say what is made; no two of them go together.
-fn with_making<'a>(alloc: Global, command: Command<'a>) -> Result<Command<'a>, AllocError> {
-    let settle = flag(
-        alloc,
-        "settle",
-        "Make canonical messages: mask numbers, drop NULs at the end of warnings, set flags and padding",
-    );
-    let as_given = flag(
-        alloc,
-        "as-given",
-        "Make what lines show, whatever they say that the codec finds",
-    );
-    let request = flag(
-        alloc,
-        "request",
-        "Make of each dump the request that restores it, in an order that works",
-    );
-    let settle = settle
-        .conflicts_with("as-given")?
-        .conflicts_with("request")?;
-    command
-        .arg(settle)?
-        .arg(as_given.conflicts_with("request")?)?
-        .arg(request)
+fn described<'a>(alloc: Global, name: &'a str, help: &'a str) -> Arg<'a> {
+    Arg::new(alloc, name).long(name).help(help)
+}
+
+fn with_number<'a>(option: Arg<'a>, number: Option<&'a str>) -> Arg<'a> {
+    match number {
+        None => option.action(ArgAction::SetTrue),
+        Some(name) => numbered(option, name),
+    }
+}
+
+// An option with the index of an interface.
+fn numbered<'a>(option: Arg<'a>, name: &'a str) -> Arg<'a> {
+    option
+        .value_name(name)
+        .action(ArgAction::Set)
+        .value_parser(ValueParser::signed(1, 2_147_483_647))
+}
+
+fn begun<'a>(alloc: Global) -> Command<'a> {
+    Command::new(alloc, "tcmake")
+        .version("0.1.0")
+        .about(ABOUT)
+        .after_help(NOTES)
+}
+
+// What is written; no two of these go together.
+fn output_group<'a>(alloc: Global) -> Result<ArgGroup<'a>, AllocError> {
+    ArgGroup::new(alloc, "output")
+        .arg("no-header")?
+        .arg("pcap")?
+        .arg("stream")
+}
+
+// What is made; no two of these go together.
+fn making_group<'a>(alloc: Global) -> Result<ArgGroup<'a>, AllocError> {
+    ArgGroup::new(alloc, "making")
+        .arg("settle")?
+        .arg("as-given")?
+        .arg("request")
 }
 
 // The options of requests.
-fn with_requests<'a>(alloc: Global, command: Command<'a>) -> Result<Command<'a>, AllocError> {
-    let in_order = flag(
-        alloc,
-        "in-order",
-        "Keep the order of the lines, and read a line at a time",
-    );
-    let index = Arg::new(alloc, "index")
-        .long("index")
-        .value_name("N")
-        .action(ArgAction::Set)
-        .value_parser(ValueParser::signed(1, 2_147_483_647))
-        .help("Make requests for the interface with this index");
-    let verbose = flag(
-        alloc,
-        "verbose",
-        "Name the dumps that another request makes",
-    );
-    command
-        .arg(in_order.requires_arg("request")?)?
-        .arg(index.requires_arg("request")?)?
-        .arg(verbose.requires_arg("request")?)
+fn request_group<'a>(alloc: Global) -> Result<ArgGroup<'a>, AllocError> {
+    ArgGroup::new(alloc, "requests")
+        .arg("in-order")?
+        .arg("index")?
+        .arg("verbose")?
+        .multiple(true)
+        .requires_arg("request")
+}
+
+fn with_groups<'a>(alloc: Global) -> Result<Command<'a>, AllocError> {
+    let output = output_group(alloc)?;
+    let making = making_group(alloc)?;
+    let requests = request_group(alloc)?;
+    begun(alloc).group(output)?.group(making)?.group(requests)
 }
 
 fn command<'a>(alloc: Global) -> Result<Command<'a>, AllocError> {
-    let command = Command::new(alloc, "tcmake")
-        .version("0.1.0")
-        .about(ABOUT)
-        .after_help(NOTES);
-    let command = with_making(alloc, with_output(alloc, command)?)?;
-    with_requests(alloc, command)
+    let mut command = with_groups(alloc)?;
+    for (name, number, help) in &OPTIONS {
+        command = command.arg(option(alloc, *name, *number, *help))?;
+    }
+    Ok(command)
+}
+
+// How messages are written.
+fn form_of(matches: &ArgMatches<'_>) -> Form {
+    if matches.get_flag("no-header") {
+        Form::Bare
+    } else if matches.get_flag("pcap") {
+        Form::Capture
+    } else if matches.get_flag("stream") {
+        Form::Stream
+    } else {
+        Form::Hex
+    }
+}
+
+// What is made of a line.
+fn making_of(matches: &ArgMatches<'_>) -> Making {
+    if matches.get_flag("settle") {
+        Making::Settled
+    } else if matches.get_flag("as-given") {
+        Making::AsGiven
+    } else if matches.get_flag("request") {
+        Making::Restored
+    } else {
+        Making::Checked
+    }
 }
 
 /// What the arguments say, the program's name first. The error is a mistake in them, a request for help or for the version, or that
@@ -137,24 +185,8 @@ fn command<'a>(alloc: Global) -> Result<Command<'a>, AllocError> {
 pub fn request_of<'a, S: AsStr>(alloc: Global, words: &'a [S]) -> Result<Request, Error> {
     let matches = command(alloc)?.try_get_matches_from(words)?;
     Ok(Request {
-        form: if matches.get_flag("no-header") {
-            Form::Bare
-        } else if matches.get_flag("pcap") {
-            Form::Capture
-        } else if matches.get_flag("stream") {
-            Form::Stream
-        } else {
-            Form::Hex
-        },
-        making: if matches.get_flag("settle") {
-            Making::Settled
-        } else if matches.get_flag("as-given") {
-            Making::AsGiven
-        } else if matches.get_flag("request") {
-            Making::Restored
-        } else {
-            Making::Checked
-        },
+        form: form_of(&matches),
+        making: making_of(&matches),
         in_order: matches.get_flag("in-order"),
         index: matches.get_one("index"),
         verbose: matches.get_flag("verbose"),

@@ -90,10 +90,6 @@ impl<'a> Arg<'a> {
     pub fn num_args(self, range: std::ops::RangeInclusive<usize>) -> Self {
         self.with(|it| it.num_args(range))
     }
-    pub fn requires_arg(self, name: &'a str) -> Res<Self> {
-        Ok(self.with(|it| it.requires(kept(name))))
-    }
-
     pub fn conflicts_with(self, name: &'a str) -> Res<Self> {
         Ok(self.with(|it| it.conflicts_with(kept(name))))
     }
@@ -107,6 +103,12 @@ impl<'a> ArgGroup<'a> {
     }
     pub fn arg(self, name: &'a str) -> Res<Self> {
         Ok(ArgGroup(self.0.arg(kept(name)), PhantomData))
+    }
+    pub fn multiple(self, yes: bool) -> Self {
+        ArgGroup(self.0.multiple(yes), PhantomData)
+    }
+    pub fn requires_arg(self, name: &'a str) -> Res<Self> {
+        Ok(ArgGroup(self.0.requires(kept(name)), PhantomData))
     }
 }
 
