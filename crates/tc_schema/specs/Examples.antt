@@ -1,5 +1,5 @@
 -- An example of what is shown in a form, as JSON: of lists and choices the first, of records each field.
-use Rattle.std.specs.Prelude.{Bool, List, [], codes, if◌then◌else◌, nat_lt, not, suc, zero, ℕ, ◌++◌, ◌==◌, ◌∷◌}
+use Rattle.std.specs.Prelude.{Bool, List, [], codes, false, if◌then◌else◌, nat_lt, suc, true, zero, ℕ, ◌++◌, ◌==◌, ◌∷◌}
 use Rattle.tc_forms.specs.Places.{form_of, layer_of, names_of}
 use Rattle.tc_forms.specs.Records.{is_pad}
 use Rattle.tc_forms.specs.Tables.{Name, Part, Table}
@@ -41,16 +41,22 @@ abbrev pub name_example : List Name → List ℕ
 name_example [] = codes "{\"Other\":1}"
 name_example (x ∷ xs) = quoted x.name
 
+-- before a member
+abbrev pub separator : Bool → List ℕ
+separator true = []
+separator false = codes ","
+
 module _ (Inner : Form → List ℕ) where
   -- a member of an object
   abbrev pub member_example : Member → List ℕ
   member_example m = quoted m.name ++ (codes ":" ++ Inner m.form)
 
-  -- all members, each behind this; padding is shown only where it isn't zero
-  abbrev pub members_example : List ℕ → List Member → List ℕ
-  members_example between [] = codes "}"
-  members_example between (m ∷ ms) =
-      if is_pad m.form then members_example between ms else between ++ (member_example m ++ members_example (codes ",") ms)
+  -- all members; padding is shown only where it isn't zero
+  abbrev pub members_example : Bool → List Member → List ℕ
+  members_example is_first [] = codes "}"
+  members_example is_first (m ∷ ms) =
+      if is_pad m.form then members_example is_first ms
+      else separator is_first ++ (member_example m ++ members_example false ms)
 
   abbrev pub first_example : List Member → List ℕ
   first_example [] = codes "{}"
@@ -69,7 +75,7 @@ module _ (Inner : Form → List ℕ) where
   example_by table (form.Named of i) = name_example (names_of (table i))
   example_by table (form.Bytes n) = codes "\"" ++ (zeros n ++ codes "\"")
   example_by table (form.Pad n) = codes "\"" ++ (zeros n ++ codes "\"")
-  example_by table (form.Record i) = codes "{" ++ members_example [] (members_of (table i))
+  example_by table (form.Record i) = codes "{" ++ members_example true (members_of (table i))
   example_by table (form.Choice i) = first_example (members_of (table i))
   example_by table (form.Array i) = codes "[" ++ (Inner (form_of i (table i)) ++ codes "]")
   example_by table (form.Times n i) = codes "[" ++ (Inner (form_of i (table i)) ++ codes "]")
@@ -87,8 +93,9 @@ comma [] = []
 comma (m ∷ ms) = codes ","
 
 -- a kind and the first attribute behind it, by the rows at a place
+abbrev pub behind_kind : Table → ℕ → List ℕ
+behind_kind table rows =
+    comma (members_of (table rows)) ++ (list_example (example table 12) (layer_of (table rows)) (members_of (table rows)) ++ codes "]\n")
+
 abbrev pub kind_example : Table → List ℕ → ℕ → List ℕ
-kind_example table kind rows =
-    codes "example: [{\"Kind\":" ++ (quoted kind ++ (codes "}"
-    ++ (comma (members_of (table rows))
-    ++ (list_example (example table 12) (layer_of (table rows)) (members_of (table rows)) ++ codes "]\n"))))
+kind_example table kind rows = (codes "example: [{\"Kind\":" ++ (quoted kind ++ codes "}")) ++ behind_kind table rows

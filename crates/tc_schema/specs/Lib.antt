@@ -1,5 +1,4 @@
 pub mod Examples
 pub mod Explained
 pub mod Notes
-pub mod Schema
 pub mod Texts

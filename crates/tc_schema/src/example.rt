@@ -1,12 +1,12 @@
 //! An example of what is shown in a form, as JSON.
 
-ghost use Rattle.std.specs.Prelude.{OnOk, [], codes, ◌++◌, ◌≡◌};
+ghost use Rattle.std.specs.Prelude.{OnOk, codes, true, ◌++◌, ◌≡◌};
 ghost use Rattle.tc_forms.specs.Places.{form_of, layer_of, names_of};
 ghost use Rattle.tc_forms.specs.Tables.{names_view, part_view};
-ghost use Rattle.tc_schema.specs.Examples.{example, first_example, kind_example, leaf_example, list_example, member_example, members_example, name_example, zeros};
+ghost use Rattle.tc_schema.specs.Examples.{behind_kind, comma, example, first_example, kind_example, leaf_example, list_example, member_example, members_example, name_example, separator, zeros};
 ghost use Rattle.tc_schema.specs.Texts.{member_view, members_of};
 
-use crate::texts::{Member, first_member, is_pad, put, put_quoted};
+use crate::texts::{Member, first_member, is_pad, put, put_quoted, put_quoted_between};
 use std::alloc::{AllocError, Allocator};
 use tc_forms::{Form, Name, Part, Tables};
 
@@ -17,13 +17,12 @@ const DEEPEST: u8 = 12;
 fn put_zeros<A: Allocator>(out: &mut Vec<u8, A>, count: usize) -> Result<(), AllocError>
     ensures { OnOk result (out.new.items ≡ out.old.items ++ zeros count) }
 {
-    match count.checked_sub(1) {
-        Some(others) => {
-            put(out, "00")?;
-            put_zeros(out, others)
-        }
-        None => Ok(()),
-    }
+    let others = match count.checked_sub(1) {
+        Some(others) => others,
+        None => return Ok(()),
+    };
+    put(out, "00")?;
+    put_zeros(out, others)
 }
 
 fn put_zero_bytes<A: Allocator>(out: &mut Vec<u8, A>, count: usize) -> Result<(), AllocError>
@@ -110,18 +109,29 @@ fn put_form<T: Tables, A: Allocator>(
     match form {
         Form::Named(_, place) => put_name(out, names_at(table, place)),
         Form::Bytes(count) | Form::Pad(count) => put_zero_bytes(out, count),
-        Form::Record(place) => put_record(table, inner, table.part(place), out),
+        Form::Record(place) => put_record(table, inner, place, out),
         Form::Choice(place) => put_first(table, inner, table.part(place), out),
         Form::Array(place) | Form::Times(_, place) => {
             put_element(table, inner, form_of(place, table.part(place)), out)
         }
-        Form::List(place) => {
-            put(out, "[")?;
-            put_layered(table, inner, table.part(place), out)?;
-            put(out, "]")
-        }
+        Form::List(place) => put_list(table, inner, place, out),
         _ => put(out, leaf_example(form)),
     }
+}
+
+#[cycle(example)]
+fn put_list<T: Tables, A: Allocator>(
+    table: T,
+    inner: u8,
+    place: usize,
+    out: &mut Vec<u8, A>,
+) -> Result<(), AllocError>
+    ensures { OnOk result (out.new.items ≡ out.old.items ++ (codes "[" ++
+        (list_example (example (T.parts_of table) inner) (layer_of (T.parts_of table place)) (members_of (T.parts_of table place)) ++ codes "]"))) }
+{
+    put(out, "[")?;
+    put_layered(table, inner, table.part(place), out)?;
+    put(out, "]")
 }
 
 #[cycle(example)]
@@ -173,25 +183,62 @@ fn put_first<T: Tables, A: Allocator>(
     }
 }
 
+// Puts what is before a member.
+fn put_separator<A: Allocator>(out: &mut Vec<u8, A>, is_first: bool) -> Result<(), AllocError>
+    ensures { OnOk result (out.new.items ≡ out.old.items ++ separator is_first) }
+{
+    if is_first {
+        return Ok(());
+    }
+    put(out, ",")
+}
+
+#[cycle(example)]
+fn put_next<T: Tables, A: Allocator>(
+    table: T,
+    inner: u8,
+    is_first: bool,
+    member: Member<'static>,
+    out: &mut Vec<u8, A>,
+) -> Result<(), AllocError>
+    ensures { OnOk result (out.new.items ≡ out.old.items ++
+        (separator is_first ++ member_example (example (T.parts_of table) inner) (member_view member.entry))) }
+{
+    put_separator(out, is_first)?;
+    put_member(table, inner, member, out)
+}
+
 // An object of all members. Padding is shown only where it isn't zero.
 #[cycle(example)]
 fn put_record<T: Tables, A: Allocator>(
+    table: T,
+    inner: u8,
+    place: usize,
+    out: &mut Vec<u8, A>,
+) -> Result<(), AllocError>
+    ensures { OnOk result (out.new.items ≡ out.old.items ++
+        (codes "{" ++ members_example (example (T.parts_of table) inner) true (members_of (T.parts_of table place)))) }
+{
+    put(out, "{")?;
+    put_members(table, inner, table.part(place), out)
+}
+
+#[cycle(example)]
+fn put_members<T: Tables, A: Allocator>(
     table: T,
     inner: u8,
     part: Part<'static>,
     out: &mut Vec<u8, A>,
 ) -> Result<(), AllocError>
     ensures { OnOk result (out.new.items ≡ out.old.items ++
-        (codes "{" ++ members_example (example (T.parts_of table) inner) [] (members_of (part_view part.entry)))) }
+        members_example (example (T.parts_of table) inner) true (members_of (part_view part.entry))) }
 {
-    put(out, "{")?;
     let mut left = part;
-    let mut between = "";
+    let mut is_first = true;
     while let Some((member, others)) = first_member(left) {
         if !is_pad(member.form) {
-            put(out, between)?;
-            put_member(table, inner, member, out)?;
-            between = ",";
+            put_next(table, inner, is_first, member, out)?;
+            is_first = false;
         }
         left = others;
     }
@@ -223,6 +270,30 @@ fn put_layered<T: Tables, A: Allocator>(
     put(out, "}")
 }
 
+// Puts a comma, where a part has members.
+fn put_comma<A: Allocator>(out: &mut Vec<u8, A>, part: Part<'static>) -> Result<(), AllocError>
+    ensures { OnOk result (out.new.items ≡ out.old.items ++ comma (members_of (part_view part.entry))) }
+{
+    match first_member(part) {
+        Some(_) => put(out, ","),
+        None => Ok(()),
+    }
+}
+
+// Puts the first attribute behind a kind, by the rows at a place.
+fn put_behind<T: Tables, A: Allocator>(
+    table: T,
+    rows: usize,
+    out: &mut Vec<u8, A>,
+) -> Result<(), AllocError>
+    ensures { OnOk result (out.new.items ≡ out.old.items ++ behind_kind (T.parts_of table) rows) }
+{
+    let part = table.part(rows);
+    put_comma(out, part)?;
+    put_layered(table, DEEPEST, part, out)?;
+    put(out, "]\n")
+}
+
 /// Puts an example of a kind and the first attribute behind it, by the rows at a place.
 pub(crate) fn put_example<T: Tables, A: Allocator>(
     table: T,
@@ -232,13 +303,6 @@ pub(crate) fn put_example<T: Tables, A: Allocator>(
 ) -> Result<(), AllocError>
     ensures { OnOk result (out.new.items ≡ out.old.items ++ kind_example (T.parts_of table) kind.now rows) }
 {
-    put(out, "example: [{\"Kind\":")?;
-    put_quoted(out, kind)?;
-    put(out, "}")?;
-    let part = table.part(rows);
-    if first_member(part).is_some() {
-        put(out, ",")?;
-    }
-    put_layered(table, DEEPEST, part, out)?;
-    put(out, "]\n")
+    put_quoted_between(out, "example: [{\"Kind\":", kind, "}")?;
+    put_behind(table, rows, out)
 }

@@ -18,13 +18,12 @@ const DEEPEST: u8 = 12;
 fn put_indent<A: Allocator>(out: &mut Vec<u8, A>, level: u8) -> Result<(), AllocError>
     ensures { OnOk result (out.new.items ≡ out.old.items ++ indent level) }
 {
-    match level.checked_sub(1) {
-        Some(outer) => {
-            put(out, "  ")?;
-            put_indent(out, outer)
-        }
-        None => Ok(()),
-    }
+    let outer = match level.checked_sub(1) {
+        Some(outer) => outer,
+        None => return Ok(()),
+    };
+    put(out, "  ")?;
+    put_indent(out, outer)
 }
 
 // Puts the kernel's name in brackets, and ends the line.
@@ -158,7 +157,7 @@ fn put_names<A: Allocator>(
     names: &[Name<'_>],
     left: Left,
 ) -> Result<(), AllocError>
-    ensures { OnOk result (out.new.items ≡ out.old.items ++ names_lines level all (names_view names.now) (note_views left.entry.notes.now)) }
+    ensures { OnOk result (out.new.items ≡ out.old.items ++ names_lines level all (names_view names.now) (note_views left.notes.now)) }
 {
     if let Some((first, others)) = names.split_first() {
         let (note, behind) = first_note(left);
@@ -211,7 +210,16 @@ fn explain_form<T: Tables, A: Allocator>(
     match table.part(place) {
         Part::One(form) => explain_form(table, notes, inner, form, out),
         Part::Names(names) => put_names(out, DEEPEST - inner, signed_of(form), names, own),
-        part => explain_members(table, notes, inner, part, own, out),
+        Part::Fields(fields) => {
+            explain_members(table, notes, inner, Part::Fields(fields), own, out)
+        }
+        Part::Rows(layer, rows) => {
+            explain_members(table, notes, inner, Part::Rows(layer, rows), own, out)
+        }
+        Part::Choices(choices) => {
+            explain_members(table, notes, inner, Part::Choices(choices), own, out)
+        }
+        Part::Kinds(_, _, _) => Ok(()),
     }
 }
 
@@ -227,7 +235,7 @@ fn explain_members<T: Tables, A: Allocator>(
 ) -> Result<(), AllocError>
     requires { inner ≤ 12 }
     ensures { OnOk result (out.new.items ≡ out.old.items ++
-        members_text (explained (T.parts_of table) (noted_views notes.now) inner) (deepest - inner) (members_of (part_view part.entry)) (note_views own.entry.notes.now)) }
+        members_text (explained (T.parts_of table) (noted_views notes.now) inner) (deepest - inner) (members_of (part_view part.entry)) (note_views own.notes.now)) }
 {
     let mut left = part;
     let mut behind = own;

@@ -61,8 +61,8 @@ pub(crate) struct Left {
 
 // The note of the first member, and those of the others.
 pub(crate) fn first_note(left: Left) -> (Note<'static>, Left)
-    ensures first { note_view result.0 ≡ first_note (note_views left.entry.notes.now) }
-    ensures others { note_views result.1.notes.now ≡ other_notes (note_views left.entry.notes.now) }
+    ensures first { note_view result.0 ≡ first_note (note_views left.notes.now) }
+    ensures others { note_views result.1.notes.now ≡ other_notes (note_views left.notes.now) }
 {
     match left.notes.split_first() {
         Some((first, others)) => (*first, Left { notes: others }),

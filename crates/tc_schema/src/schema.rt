@@ -1,10 +1,5 @@
 //! The JSON Schema of a line, and of what is shown of bytes in a form, by a table. What is shown in a part of the table is defined once, under its place.
 
-ghost use Rattle.std.specs.Prelude.{OnOk, codes, ◌++◌, ◌≡◌};
-ghost use Rattle.tc_forms.specs.Tables.{kinds_view, names_view, part_view};
-ghost use Rattle.tc_schema.specs.Schema.{bytes_schema, choice_schemas, choices_schema, closing, definition, definitions, element_schema, form_schema, indexed_schema, integer, item_schema, kinded_schema, kinds_behind, kinds_schema, leaf_schema, list_of, list_schema, member_schema, member_schemas, named_schema, names_between, names_schema, one_required, opening, part_schema, range_of, record_schema, reference, required, row_schema, rows_schema, schema_definitions, shown_schema};
-ghost use Rattle.tc_schema.specs.Texts.{member_view, members_of};
-
 use crate::texts::{Member, first_member, is_pad, put, put_decimal, put_quoted};
 use std::alloc::{AllocError, Allocator};
 use tc_forms::{Form, KindRows, Name, Number, Part, Tables};
@@ -52,9 +47,7 @@ const LINE: &str = r##"{"$schema":"https://json-schema.org/draft/2020-12/schema"
 "message":{"anyOf":[{"$ref":"#/$defs/tc"},{"$ref":"#/$defs/action"}]}"##;
 
 // The least and the greatest number.
-fn range_of(of: Number) -> &'static str
-    ensures { result.now ≡ range_of of }
-{
+fn range_of(of: Number) -> &'static str {
     match of {
         Number::U8 => "0,\"maximum\":255",
         Number::U16 | Number::U16Be => "0,\"maximum\":65535",
@@ -67,43 +60,33 @@ fn range_of(of: Number) -> &'static str
     }
 }
 
-fn put_integer<A: Allocator>(out: &mut Vec<u8, A>, of: Number) -> Result<(), AllocError>
-    ensures { OnOk result (out.new.items ≡ out.old.items ++ integer of) }
-{
+fn put_integer<A: Allocator>(out: &mut Vec<u8, A>, of: Number) -> Result<(), AllocError> {
     put(out, "{\"type\":\"integer\",\"minimum\":")?;
     put(out, range_of(of))?;
     put(out, "}")
 }
 
-fn put_bytes<A: Allocator>(out: &mut Vec<u8, A>, count: usize) -> Result<(), AllocError>
-    ensures { OnOk result (out.new.items ≡ out.old.items ++ bytes_schema count) }
-{
+fn put_bytes<A: Allocator>(out: &mut Vec<u8, A>, count: usize) -> Result<(), AllocError> {
     put(out, "{\"type\":\"string\",\"pattern\":\"^([0-9a-f]{2}){")?;
     put_decimal(out, count as u64)?;
     put(out, "}$\"}")
 }
 
 // Refers to the definition of a place.
-fn put_reference<A: Allocator>(out: &mut Vec<u8, A>, place: usize) -> Result<(), AllocError>
-    ensures { OnOk result (out.new.items ≡ out.old.items ++ reference place) }
-{
+fn put_reference<A: Allocator>(out: &mut Vec<u8, A>, place: usize) -> Result<(), AllocError> {
     put(out, "{\"$ref\":\"#/$defs/")?;
     put_decimal(out, place as u64)?;
     put(out, "\"}")
 }
 
 // An object of one member: before its value, and behind it.
-fn put_opening<A: Allocator>(out: &mut Vec<u8, A>, name: &str) -> Result<(), AllocError>
-    ensures { OnOk result (out.new.items ≡ out.old.items ++ opening name.now) }
-{
+fn put_opening<A: Allocator>(out: &mut Vec<u8, A>, name: &str) -> Result<(), AllocError> {
     put(out, "{\"type\":\"object\",\"properties\":{")?;
     put_quoted(out, name)?;
     put(out, ":")
 }
 
-fn put_closing<A: Allocator>(out: &mut Vec<u8, A>, name: &str) -> Result<(), AllocError>
-    ensures { OnOk result (out.new.items ≡ out.old.items ++ closing name.now) }
-{
+fn put_closing<A: Allocator>(out: &mut Vec<u8, A>, name: &str) -> Result<(), AllocError> {
     put(out, "},\"required\":[")?;
     put_quoted(out, name)?;
     put(out, "],\"additionalProperties\":false}")
@@ -115,9 +98,11 @@ const LIST: &str = "{\"type\":\"array\",\"items\":{\"anyOf\":[{\"$ref\":\"#/$def
 const RAW_OR: &str = "{\"anyOf\":[{\"$ref\":\"#/$defs/raw\"},";
 
 // A name, or a number without one.
-fn put_named<A: Allocator>(out: &mut Vec<u8, A>, of: Number, place: usize) -> Result<(), AllocError>
-    ensures { OnOk result (out.new.items ≡ out.old.items ++ named_schema of place) }
-{
+fn put_named<A: Allocator>(
+    out: &mut Vec<u8, A>,
+    of: Number,
+    place: usize,
+) -> Result<(), AllocError> {
     put(out, "{\"anyOf\":[")?;
     put_reference(out, place)?;
     put(out, ",")?;
@@ -128,9 +113,11 @@ fn put_named<A: Allocator>(out: &mut Vec<u8, A>, of: Number, place: usize) -> Re
 }
 
 // An attribute of a list, in its layer.
-fn put_item<A: Allocator>(out: &mut Vec<u8, A>, layer: &str, place: usize) -> Result<(), AllocError>
-    ensures { OnOk result (out.new.items ≡ out.old.items ++ item_schema layer.now place) }
-{
+fn put_item<A: Allocator>(
+    out: &mut Vec<u8, A>,
+    layer: &str,
+    place: usize,
+) -> Result<(), AllocError> {
     if layer.is_empty() {
         return put_reference(out, place);
     }
@@ -144,9 +131,7 @@ fn put_list<A: Allocator>(
     out: &mut Vec<u8, A>,
     place: usize,
     part: Part<'static>,
-) -> Result<(), AllocError>
-    ensures { OnOk result (out.new.items ≡ out.old.items ++ list_schema place (part_view part.entry)) }
-{
+) -> Result<(), AllocError> {
     put(out, LIST)?;
     match part {
         Part::Rows(layer, _) => put_item(out, layer, place)?,
@@ -160,9 +145,7 @@ fn put_element<A: Allocator>(
     out: &mut Vec<u8, A>,
     place: usize,
     part: Part<'static>,
-) -> Result<(), AllocError>
-    ensures { OnOk result (out.new.items ≡ out.old.items ++ element_schema place (part_view part.entry)) }
-{
+) -> Result<(), AllocError> {
     match part {
         Part::One(_) | Part::Fields(_) | Part::Choices(_) => put_reference(out, place),
         Part::Names(_) => put(out, "{\"$ref\":\"#/$defs/hex\"}"),
@@ -179,18 +162,14 @@ fn put_array<A: Allocator>(
     out: &mut Vec<u8, A>,
     place: usize,
     part: Part<'static>,
-) -> Result<(), AllocError>
-    ensures { OnOk result (out.new.items ≡ out.old.items ++ list_of (element_schema place (part_view part.entry))) }
-{
+) -> Result<(), AllocError> {
     put(out, LIST)?;
     put_element(out, place, part)?;
     put(out, "]}}")
 }
 
 // A list of attributes with kinds among them.
-fn put_kinded<A: Allocator>(out: &mut Vec<u8, A>, place: usize) -> Result<(), AllocError>
-    ensures { OnOk result (out.new.items ≡ out.old.items ++ kinded_schema place) }
-{
+fn put_kinded<A: Allocator>(out: &mut Vec<u8, A>, place: usize) -> Result<(), AllocError> {
     put(out, LIST)?;
     put(out, "{\"$ref\":\"#/$defs/kind\"},")?;
     put_reference(out, place)?;
@@ -202,9 +181,7 @@ fn put_indexed<A: Allocator>(
     out: &mut Vec<u8, A>,
     place: usize,
     part: Part<'static>,
-) -> Result<(), AllocError>
-    ensures { OnOk result (out.new.items ≡ out.old.items ++ list_of (indexed_schema (element_schema place (part_view part.entry)))) }
-{
+) -> Result<(), AllocError> {
     put(out, LIST)?;
     put(
         out,
@@ -218,9 +195,7 @@ fn put_indexed<A: Allocator>(
     )
 }
 
-fn leaf_schema(form: Form) -> &'static str
-    ensures { result.now ≡ leaf_schema form }
-{
+fn leaf_schema(form: Form) -> &'static str {
     match form {
         Form::Handle => "{\"$ref\":\"#/$defs/handle\"}",
         Form::Flag => "{\"const\":true}",
@@ -238,9 +213,7 @@ fn put_form<T: Tables, A: Allocator>(
     table: T,
     form: Form,
     out: &mut Vec<u8, A>,
-) -> Result<(), AllocError>
-    ensures { OnOk result (out.new.items ≡ out.old.items ++ form_schema (T.parts_of table) form) }
-{
+) -> Result<(), AllocError> {
     match form {
         Form::Number(of) => put_integer(out, of),
         Form::Named(of, place) => put_named(out, of, place),
@@ -259,9 +232,7 @@ fn put_shown<T: Tables, A: Allocator>(
     table: T,
     form: Form,
     out: &mut Vec<u8, A>,
-) -> Result<(), AllocError>
-    ensures { OnOk result (out.new.items ≡ out.old.items ++ shown_schema (T.parts_of table) form) }
-{
+) -> Result<(), AllocError> {
     put(out, RAW_OR)?;
     put_form(table, form, out)?;
     put(out, "]}")
@@ -273,9 +244,7 @@ fn put_names<A: Allocator>(
     out: &mut Vec<u8, A>,
     between: &str,
     names: &[Name<'_>],
-) -> Result<(), AllocError>
-    ensures { OnOk result (out.new.items ≡ out.old.items ++ names_between between.now (names_view names.now)) }
-{
+) -> Result<(), AllocError> {
     if let Some((first, others)) = names.split_first() {
         put(out, between)?;
         put_quoted(out, first.name)?;
@@ -284,9 +253,7 @@ fn put_names<A: Allocator>(
     Ok(())
 }
 
-fn put_kinds<A: Allocator>(out: &mut Vec<u8, A>, kinds: &[KindRows<'_>]) -> Result<(), AllocError>
-    ensures { OnOk result (out.new.items ≡ out.old.items ++ kinds_behind (kinds_view kinds.now)) }
-{
+fn put_kinds<A: Allocator>(out: &mut Vec<u8, A>, kinds: &[KindRows<'_>]) -> Result<(), AllocError> {
     if let Some((first, others)) = kinds.split_first() {
         put(out, ",")?;
         put_reference(out, first.rows)?;
@@ -300,9 +267,7 @@ fn put_required<A: Allocator>(
     out: &mut Vec<u8, A>,
     between: &str,
     part: Part<'static>,
-) -> Result<(), AllocError>
-    ensures { OnOk result (out.new.items ≡ out.old.items ++ required between.now (members_of (part_view part.entry))) }
-{
+) -> Result<(), AllocError> {
     let (member, others) = match first_member(part) {
         Some(parts) => parts,
         None => return Ok(()),
@@ -320,9 +285,7 @@ fn put_one_required<A: Allocator>(
     out: &mut Vec<u8, A>,
     between: &str,
     part: Part<'static>,
-) -> Result<(), AllocError>
-    ensures { OnOk result (out.new.items ≡ out.old.items ++ one_required between.now (members_of (part_view part.entry))) }
-{
+) -> Result<(), AllocError> {
     let (member, others) = match first_member(part) {
         Some(parts) => parts,
         None => return Ok(()),
@@ -338,9 +301,7 @@ fn put_member<T: Tables, A: Allocator>(
     table: T,
     member: Member<'static>,
     out: &mut Vec<u8, A>,
-) -> Result<(), AllocError>
-    ensures { OnOk result (out.new.items ≡ out.old.items ++ member_schema (T.parts_of table) (member_view member.entry)) }
-{
+) -> Result<(), AllocError> {
     put_quoted(out, member.name)?;
     put(out, ":")?;
     put_shown(table, member.form, out)?;
@@ -351,9 +312,7 @@ fn put_members<T: Tables, A: Allocator>(
     table: T,
     part: Part<'static>,
     out: &mut Vec<u8, A>,
-) -> Result<(), AllocError>
-    ensures { OnOk result (out.new.items ≡ out.old.items ++ member_schemas (T.parts_of table) (members_of (part_view part.entry))) }
-{
+) -> Result<(), AllocError> {
     if let Some((member, others)) = first_member(part) {
         put_member(table, member, out)?;
         put_members(table, others, out)?;
@@ -365,9 +324,7 @@ fn put_record<T: Tables, A: Allocator>(
     table: T,
     part: Part<'static>,
     out: &mut Vec<u8, A>,
-) -> Result<(), AllocError>
-    ensures { OnOk result (out.new.items ≡ out.old.items ++ record_schema (T.parts_of table) (members_of (part_view part.entry))) }
-{
+) -> Result<(), AllocError> {
     put(out, "{\"type\":\"object\",\"properties\":{")?;
     put_members(table, part, out)?;
     put(out, "\"rest\":{\"$ref\":\"#/$defs/hex\"}},\"required\":[")?;
@@ -380,9 +337,7 @@ fn put_row<T: Tables, A: Allocator>(
     table: T,
     part: Part<'static>,
     out: &mut Vec<u8, A>,
-) -> Result<(), AllocError>
-    ensures { OnOk result (out.new.items ≡ out.old.items ++ row_schema (T.parts_of table) (members_of (part_view part.entry))) }
-{
+) -> Result<(), AllocError> {
     if first_member(part).is_none() {
         return Ok(());
     }
@@ -401,9 +356,7 @@ fn put_rows<T: Tables, A: Allocator>(
     table: T,
     part: Part<'static>,
     out: &mut Vec<u8, A>,
-) -> Result<(), AllocError>
-    ensures { OnOk result (out.new.items ≡ out.old.items ++ rows_schema (T.parts_of table) (members_of (part_view part.entry))) }
-{
+) -> Result<(), AllocError> {
     put(out, "{\"anyOf\":[{\"$ref\":\"#/$defs/unknown\"}")?;
     put_row(table, part, out)?;
     put(out, "]}")
@@ -414,9 +367,7 @@ fn put_choices<T: Tables, A: Allocator>(
     table: T,
     part: Part<'static>,
     out: &mut Vec<u8, A>,
-) -> Result<(), AllocError>
-    ensures { OnOk result (out.new.items ≡ out.old.items ++ choice_schemas (T.parts_of table) (members_of (part_view part.entry))) }
-{
+) -> Result<(), AllocError> {
     if let Some((member, others)) = first_member(part) {
         put_opening(out, member.name)?;
         put_shown(table, member.form, out)?;
@@ -435,9 +386,7 @@ fn put_any_kind<A: Allocator>(
     every: usize,
     others: usize,
     kinds: &[KindRows<'_>],
-) -> Result<(), AllocError>
-    ensures { OnOk result (out.new.items ≡ out.old.items ++ kinds_schema every others (kinds_view kinds.now)) }
-{
+) -> Result<(), AllocError> {
     put(out, "{\"anyOf\":[")?;
     put_reference(out, every)?;
     put(out, ",")?;
@@ -446,9 +395,7 @@ fn put_any_kind<A: Allocator>(
     put(out, "]}")
 }
 
-fn put_enum<A: Allocator>(out: &mut Vec<u8, A>, names: &[Name<'_>]) -> Result<(), AllocError>
-    ensures { OnOk result (out.new.items ≡ out.old.items ++ names_schema (names_view names.now)) }
-{
+fn put_enum<A: Allocator>(out: &mut Vec<u8, A>, names: &[Name<'_>]) -> Result<(), AllocError> {
     put(out, "{\"enum\":[")?;
     put_names(out, "", names)?;
     put(out, "]}")
@@ -458,9 +405,7 @@ fn put_one_of<T: Tables, A: Allocator>(
     table: T,
     part: Part<'static>,
     out: &mut Vec<u8, A>,
-) -> Result<(), AllocError>
-    ensures { OnOk result (out.new.items ≡ out.old.items ++ choices_schema (T.parts_of table) (members_of (part_view part.entry))) }
-{
+) -> Result<(), AllocError> {
     put(out, "{\"oneOf\":[")?;
     put_choices(table, part, out)?;
     put(out, "]}")
@@ -470,9 +415,7 @@ fn put_part<T: Tables, A: Allocator>(
     table: T,
     part: Part<'static>,
     out: &mut Vec<u8, A>,
-) -> Result<(), AllocError>
-    ensures { OnOk result (out.new.items ≡ out.old.items ++ part_schema (T.parts_of table) (part_view part.entry)) }
-{
+) -> Result<(), AllocError> {
     match part {
         Part::One(form) => put_form(table, form, out),
         Part::Names(names) => put_enum(out, names),
@@ -487,9 +430,7 @@ fn put_definition<T: Tables, A: Allocator>(
     table: T,
     place: usize,
     out: &mut Vec<u8, A>,
-) -> Result<(), AllocError>
-    ensures { OnOk result (out.new.items ≡ out.old.items ++ definition (T.parts_of table) place) }
-{
+) -> Result<(), AllocError> {
     put(out, ",\n\"")?;
     put_decimal(out, place as u64)?;
     put(out, "\":")?;
@@ -501,9 +442,7 @@ fn put_definitions<T: Tables, A: Allocator>(
     table: T,
     places: &[usize],
     out: &mut Vec<u8, A>,
-) -> Result<(), AllocError>
-    ensures { OnOk result (out.new.items ≡ out.old.items ++ definitions (T.parts_of table) places.now) }
-{
+) -> Result<(), AllocError> {
     if let Some((first, others)) = places.split_first() {
         put_definition(table, *first, out)?;
         put_definitions(table, others, out)?;
@@ -519,9 +458,7 @@ pub fn put_schema_definitions<T: Tables, A: Allocator>(
     tc: Form,
     action: Form,
     out: &mut Vec<u8, A>,
-) -> Result<(), AllocError>
-    ensures { OnOk result (out.new.items ≡ out.old.items ++ schema_definitions (T.parts_of table) places.now tc action) }
-{
+) -> Result<(), AllocError> {
     put(out, ",\n\"tc\":")?;
     put_shown(table, tc, out)?;
     put(out, ",\n\"action\":")?;
@@ -536,9 +473,7 @@ pub fn put_schema<T: Tables, A: Allocator>(
     tc: Form,
     action: Form,
     out: &mut Vec<u8, A>,
-) -> Result<(), AllocError>
-    ensures { OnOk result (out.new.items ≡ out.old.items ++ (LINE.now ++ (schema_definitions (T.parts_of table) places.now tc action ++ codes "}}\n"))) }
-{
+) -> Result<(), AllocError> {
     put(out, LINE)?;
     put_schema_definitions(table, places, tc, action, out)?;
     put(out, "}}\n")

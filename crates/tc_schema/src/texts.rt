@@ -56,6 +56,20 @@ pub(crate) fn put_quoted<A: Allocator>(out: &mut Vec<u8, A>, text: &str) -> Resu
     put(out, "\"")
 }
 
+/// Puts a text in quotes between two others.
+pub(crate) fn put_quoted_between<A: Allocator>(
+    out: &mut Vec<u8, A>,
+    before: &str,
+    text: &str,
+    behind: &str,
+) -> Result<(), AllocError>
+    ensures { OnOk result (out.new.items ≡ out.old.items ++ (before.now ++ (quoted text.now ++ behind.now))) }
+{
+    put(out, before)?;
+    put_quoted(out, text)?;
+    put(out, behind)
+}
+
 // ---- forms in words
 
 fn number_word(of: Number) -> &'static str
