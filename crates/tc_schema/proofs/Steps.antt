@@ -1,11 +1,11 @@
 -- One step of what goes down a number.
-use Rattle.std.proofs.Common.{List, [], ◌≡◌, ℕ, suc, ◌++◌, ◌-◌, refl, subst, sym}
+use Rattle.std.proofs.Common.{List, Some, ap, ◌≡◌, ℕ, suc, ◌++◌, ◌-◌, refl, subst, sym}
 use Rattle.std.specs.Prelude.{codes}
 use Rattle.tc_forms.specs.Tables.{Table}
 use Rattle.tc_forms.specs.declared.form.Form.{Form}
-use Rattle.tc_schema.specs.Examples.{example, example_by, zeros}
-use Rattle.tc_schema.specs.Explained.{deepest, explained, indent, place_in, text_at}
-use Rattle.tc_schema.specs.Notes.{Noted}
+use Rattle.tc_schema.specs.Examples.{zeros}
+use Rattle.tc_schema.specs.Explained.{deepest, explained, indent, part_text, place_in, text_at}
+use Rattle.tc_schema.specs.Notes.{Noted, notes_at}
 
 pub indent_more : (n k : ℕ) → n ≡ suc k → indent n ≡ codes "  " ++ indent k
 indent_more n k e = subst (λ m. indent m ≡ codes "  " ++ indent k) (sym e) refl
@@ -13,10 +13,9 @@ indent_more n k e = subst (λ m. indent m ≡ codes "  " ++ indent k) (sym e) re
 pub zeros_more : (n k : ℕ) → n ≡ suc k → zeros n ≡ codes "00" ++ zeros k
 zeros_more n k e = subst (λ m. zeros m ≡ codes "00" ++ zeros k) (sym e) refl
 
-pub explained_more : (table : Table) (notes : List Noted) (n k : ℕ) (f : Form) → n ≡ suc k
-    → explained table notes n f ≡ text_at (explained table notes k) table notes (deepest - k) f (place_in f)
-explained_more table notes n k f e =
-    subst (λ m. explained table notes m f ≡ text_at (explained table notes k) table notes (deepest - k) f (place_in f)) (sym e) refl
-
-pub example_more : (table : Table) (n k : ℕ) (f : Form) → n ≡ suc k → example table n f ≡ example_by (example table k) table f
-example_more table n k f e = subst (λ m. example table m f ≡ example_by (example table k) table f) (sym e) refl
+-- what is within a form that names a place
+pub explained_at : (table : Table) (notes : List Noted) (n k : ℕ) (f : Form) (i : ℕ) → n ≡ suc k → place_in f ≡ Some i
+    → explained table notes n f ≡ part_text (explained table notes k) (deepest - k) f (table i) (notes_at notes i)
+explained_at table notes n k f i e p =
+    subst (λ m. explained table notes m f ≡ part_text (explained table notes k) (deepest - k) f (table i) (notes_at notes i)) (sym e)
+    (ap (text_at (explained table notes k) table notes (deepest - k) f) p)

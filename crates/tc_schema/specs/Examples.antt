@@ -2,7 +2,7 @@
 use Rattle.std.specs.Prelude.{Bool, List, [], codes, false, if◌then◌else◌, nat_lt, suc, true, zero, ℕ, ◌++◌, ◌==◌, ◌∷◌}
 use Rattle.tc_forms.specs.Places.{form_of, layer_of, names_of}
 use Rattle.tc_forms.specs.Records.{is_pad}
-use Rattle.tc_forms.specs.Tables.{Name, Part, Table}
+use Rattle.tc_forms.specs.Tables.{Name, Table}
 use Rattle.tc_forms.specs.declared.form.Form.{Form}
 use Rattle.tc_forms.specs.declared.form.Form.TheVariants as form
 use Rattle.tc_schema.specs.Texts.{Member, members_of}

@@ -1,5 +1,5 @@
 -- Forms in words, and the members of parts.
-use Rattle.std.specs.Prelude.{List, None, Option, Some, [], codes, decimal, map, ℕ, ◌++◌, ◌∷◌}
+use Rattle.std.specs.Prelude.{List, [], codes, decimal, map, ℕ, ◌++◌}
 use Rattle.tc_forms.specs.Tables.{Choice, Choices, Field, Fields, Part, Row, Rows}
 use Rattle.tc_forms.specs.declared.form.Form.{Form}
 use Rattle.tc_forms.specs.declared.form.Form.TheVariants as form

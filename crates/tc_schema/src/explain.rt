@@ -3,7 +3,7 @@
 ghost use Rattle.std.specs.Prelude.{OnOk, [], map, option_map, ◌+◌, ◌++◌, ◌-◌, ◌≡◌, ◌≤◌};
 ghost use Rattle.tc_forms.specs.Tables.{kinds_view, names_view, part_view};
 ghost use Rattle.tc_schema.specs.Explained.{deepest, explained, indent, is_known, kernel_text, kind_text, kinds_of, member_line, member_lines, members_text, named_line, named_lines, names_lines, place_in, rows_of_kind, signed_of, signed_text, unit_text};
-ghost use Rattle.tc_schema.specs.Notes.{named_views, note_view, note_views, noted_views};
+ghost use Rattle.tc_schema.specs.Notes.{named_views, note_view, note_views, noted_views, notes_at};
 ghost use Rattle.tc_schema.specs.Texts.{member_view, members_of};
 
 use crate::example::put_example;
@@ -204,23 +204,37 @@ fn explain_form<T: Tables, A: Allocator>(
         Some(place) => place,
         None => return Ok(()),
     };
+    match table.part(place) {
+        Part::One(form) => explain_form(table, notes, inner, form, out),
+        Part::Names(names) => {
+            let left = Left {
+                notes: notes_at(notes, place),
+            };
+            put_names(out, DEEPEST - inner, signed_of(form), names, left)
+        }
+        Part::Fields(_) => explain_part(table, notes, inner, place, out),
+        Part::Rows(_, _) => explain_part(table, notes, inner, place, out),
+        Part::Choices(_) => explain_part(table, notes, inner, place, out),
+        Part::Kinds(_, _, _) => Ok(()),
+    }
+}
+
+#[cycle(explain)]
+fn explain_part<T: Tables, A: Allocator>(
+    table: T,
+    notes: &'static [Noted<'static>],
+    inner: u8,
+    place: usize,
+    out: &mut Vec<u8, A>,
+) -> Result<(), AllocError>
+    requires { inner ≤ 12 }
+    ensures { OnOk result (out.new.items ≡ out.old.items ++ members_text (explained (T.parts_of table) (noted_views notes.now) inner)
+        (deepest - inner) (members_of (T.parts_of table place)) (notes_at (noted_views notes.now) place)) }
+{
     let own = Left {
         notes: notes_at(notes, place),
     };
-    match table.part(place) {
-        Part::One(form) => explain_form(table, notes, inner, form, out),
-        Part::Names(names) => put_names(out, DEEPEST - inner, signed_of(form), names, own),
-        Part::Fields(fields) => {
-            explain_members(table, notes, inner, Part::Fields(fields), own, out)
-        }
-        Part::Rows(layer, rows) => {
-            explain_members(table, notes, inner, Part::Rows(layer, rows), own, out)
-        }
-        Part::Choices(choices) => {
-            explain_members(table, notes, inner, Part::Choices(choices), own, out)
-        }
-        Part::Kinds(_, _, _) => Ok(()),
-    }
+    explain_members(table, notes, inner, table.part(place), own, out)
 }
 
 // The members of a part, each with what is within.

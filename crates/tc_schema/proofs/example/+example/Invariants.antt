@@ -1,4 +1,4 @@
-use Rattle.std.proofs.Common.{length, true, ◌*◌, ◌+◌, ◌++◌, ◌≡◌}
+use Rattle.std.proofs.Common.{length, ◌*◌, ◌+◌, ◌++◌, ◌≡◌}
 use Rattle.tc_forms.specs.Tables.{part_view}
 use Rattle.tc_schema.specs.Examples.{example, members_example}
 use Rattle.tc_schema.specs.Texts.{members_of}

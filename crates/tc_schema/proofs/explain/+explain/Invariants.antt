@@ -6,10 +6,13 @@ use Rattle.tc_schema.specs.Texts.{members_of}
 use Rattle.tc_schema.proofs.explain.+explain.Given as goal
 
 abbrev pub decreases-explain_form : goal.decreases-explain_form
-decreases-explain_form g l = 2 * l.depth
+decreases-explain_form g l = 3 * l.depth
 
 abbrev pub decreases-explain_members : goal.decreases-explain_members
-decreases-explain_members g l = 2 * l.inner + 1
+decreases-explain_members g l = 3 * l.inner + 1
+
+abbrev pub decreases-explain_part : goal.decreases-explain_part
+decreases-explain_part g l = 3 * l.inner + 2
 
 abbrev pub decreases-explain_members-loop-member : goal.decreases-explain_members-loop-member
 decreases-explain_members-loop-member g l = length (members_of (part_view l.left))
