@@ -177,7 +177,7 @@ static UNKNOWN: [(&str, &str, &str); 9] = [
 ];
 
 // True if the complaint about an option has this part.
-fn complains(alloc: Global, option: &str, word: &str, part: &str) -> Result<bool, Fail> {
+fn complains<'a>(alloc: Global, option: &'a str, word: &'a str, part: &str) -> Result<bool, Fail> {
     let words = ["tcshow", option, word];
     let request = request_of(alloc, &words)?;
     match Choice::of_request(alloc, &request, &[(7, "eth7")]) {
