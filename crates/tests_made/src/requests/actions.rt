@@ -197,9 +197,11 @@ fn places_in_a_message(rt: HostRuntime) -> Result<(), Fail> {
     Ok(())
 }
 
-// What is said of a filter with this option.
-fn said_of_filter<O: FilterOption<Global>>(alloc: Global, option: O) -> Result<String, Fail> {
-    let options = vec![in alloc; option]?;
+// What is said of a filter with these options.
+fn said_of_filter<O: FilterOption<Global>>(
+    alloc: Global,
+    options: Vec<O>,
+) -> Result<String, Fail> {
     said(
         alloc,
         filter(alloc, &Target::default(), 1, 0x0800, None, options),
@@ -209,11 +211,11 @@ fn said_of_filter<O: FilterOption<Global>>(alloc: Global, option: O) -> Result<S
 #[test]
 fn places_in_a_filter(rt: HostRuntime) -> Result<(), Fail> {
     let alloc = rt.alloc();
-    let flower = TcFilterFlowerOption::Actions(two(alloc, 3, 3)?);
+    let flower = vec![in alloc; TcFilterFlowerOption::Actions(two(alloc, 3, 3)?)]?;
     assert!(rt; said_of_filter(alloc, flower)?.as_str() == "two actions at place 3");
-    let u32_option = TcFilterU32Option::Action(two(alloc, 4, 4)?);
-    assert!(rt; said_of_filter(alloc, u32_option)?.as_str() == "two actions at place 4");
-    let apart = TcFilterMatchAllOption::Action(two(alloc, 1, 2)?);
+    let u32_options = vec![in alloc; TcFilterU32Option::Action(two(alloc, 4, 4)?)]?;
+    assert!(rt; said_of_filter(alloc, u32_options)?.as_str() == "two actions at place 4");
+    let apart = vec![in alloc; TcFilterMatchAllOption::Action(two(alloc, 1, 2)?)]?;
     assert!(rt; said_of_filter(alloc, apart)?.is_empty());
     Ok(())
 }
