@@ -198,10 +198,7 @@ fn places_in_a_message(rt: HostRuntime) -> Result<(), Fail> {
 }
 
 // What is said of a filter with these options.
-fn said_of_filter<O: FilterOption<Global>>(
-    alloc: Global,
-    options: Vec<O>,
-) -> Result<String, Fail> {
+fn said_of_filter<O: FilterOption<Global>>(alloc: Global, options: Vec<O>) -> Result<String, Fail> {
     said(
         alloc,
         filter(alloc, &Target::default(), 1, 0x0800, None, options),
