@@ -5,7 +5,9 @@ use Rattle.tc_forms.specs.declared.form.Form.{Form}
 use Rattle.tc_forms.specs.declared.form.Form.TheVariants as form
 use Rattle.tc_forms.specs.declared.form.Number.TheVariants as number
 use Rattle.tc_schema.specs.Examples.{kind_example}
-use Rattle.tc_schema.specs.Notes.{Named, Note, Noted, first_note, notes_at, other_notes}
+use Rattle.tc_schema.specs.Notes.{Named, NamesAt, Note, Noted, first_note, names_at, notes_at, other_notes}
+use Rattle.tc_schema.specs.declared.notes.Unit.{Unit}
+use Rattle.tc_schema.specs.declared.notes.Unit.TheVariants as unit
 use Rattle.tc_schema.specs.Texts.{Member, form_text, members_of}
 
 -- how deep attributes are explained
@@ -21,6 +23,25 @@ indent (suc n) = codes "  " ++ indent n
 abbrev pub kernel_text : List ℕ → List ℕ
 kernel_text [] = []
 kernel_text (c ∷ cs) = codes " (" ++ ((c ∷ cs) ++ codes ")")
+
+-- what a number counts, in words
+abbrev pub unit_word : Unit → List ℕ
+unit_word unit.Plain = []
+unit_word unit.Bytes = codes "bytes"
+unit_word unit.Packets = codes "packets"
+unit_word unit.BytesPerSecond = codes "bytes a second"
+unit_word unit.PacketsPerSecond = codes "packets a second"
+unit_word unit.KilobitsPerSecond = codes "1000 bits a second"
+unit_word unit.Nanoseconds = codes "nanoseconds"
+unit_word unit.Microseconds = codes "microseconds"
+unit_word unit.Milliseconds = codes "milliseconds"
+unit_word unit.Seconds = codes "seconds"
+unit_word unit.Ticks = codes "ticks of 64 ns"
+unit_word unit.ClockTicks = codes "hundredths of a second"
+unit_word unit.Percent = codes "percent"
+unit_word unit.Probability = codes "probability, 2^-32 each"
+unit_word unit.Power = codes "exponent of 2"
+unit_word unit.Interface = codes "interface"
 
 abbrev pub unit_text : List ℕ → List ℕ
 unit_text [] = []
@@ -38,10 +59,10 @@ named_lines level (x ∷ xs) = named_line level x.name x.number x.kernel ++ name
 -- a member: its name, its form, its unit and the kernel's name, and below it the names of its bits
 abbrev pub member_line : ℕ → Member → Note → List ℕ
 member_line level m note =
-    indent level ++ (m.name ++ (codes ": " ++ (form_text m.form ++ (unit_text note.unit ++ (kernel_text note.kernel ++ codes "\n")))))
+    indent level ++ (m.name ++ (codes ": " ++ (form_text m.form ++ (unit_text (unit_word note.unit) ++ (kernel_text note.kernel ++ codes "\n")))))
 
-abbrev pub member_lines : ℕ → Member → Note → List ℕ
-member_lines level m note = member_line level m note ++ named_lines (level + 1) note.names
+abbrev pub member_lines : List NamesAt → ℕ → Member → Note → List ℕ
+member_lines names level m note = member_line level m note ++ named_lines (level + 1) (names_at names note.names)
 
 -- ---- the names of numbers in a form, which may be signed
 
@@ -75,12 +96,12 @@ place_in (form.Choice i) = Some i
 place_in f = None
 
 -- `Inner` explains what is within a form
-module _ (Inner : Form → List ℕ) where
+module _ (Inner : Form → List ℕ) (names : List NamesAt) where
   -- each member in lines of its own, and below it what is within
   abbrev pub members_text : ℕ → List Member → List Note → List ℕ
   members_text level [] notes = []
   members_text level (m ∷ ms) notes =
-      member_lines level m (first_note notes) ++ (Inner m.form ++ members_text level ms (other_notes notes))
+      member_lines names level m (first_note notes) ++ (Inner m.form ++ members_text level ms (other_notes notes))
 
   abbrev pub part_text : ℕ → Form → Part → List Note → List ℕ
   part_text level f (One g) notes = Inner g
@@ -92,9 +113,9 @@ module _ (Inner : Form → List ℕ) where
   text_at table notes level f (Some i) = part_text level f (table i) (notes_at notes i)
 
 -- what is within a form, at most so deep
-abbrev pub explained : Table → List Noted → ℕ → Form → List ℕ
-explained table notes zero f = []
-explained table notes (suc n) f = text_at (explained table notes n) table notes (deepest - n) f (place_in f)
+abbrev pub explained : Table → List Noted → List NamesAt → ℕ → Form → List ℕ
+explained table notes names zero f = []
+explained table notes names (suc n) f = text_at (explained table notes names n) names table notes (deepest - n) f (place_in f)
 
 -- ---- kinds
 
@@ -111,11 +132,11 @@ abbrev pub is_known : Option ℕ → Bool
 is_known None = false
 is_known (Some rows) = true
 
-abbrev pub kind_at : Table → List Noted → List ℕ → Option ℕ → List ℕ
-kind_at table notes kind None = []
-kind_at table notes kind (Some rows) =
-    kind ++ (codes "\n" ++ (explained table notes deepest (form.List rows) ++ kind_example table kind rows))
+abbrev pub kind_at : Table → List Noted → List NamesAt → List ℕ → Option ℕ → List ℕ
+kind_at table notes names kind None = []
+kind_at table notes names kind (Some rows) =
+    kind ++ (codes "\n" ++ (explained table notes names deepest (form.List rows) ++ kind_example table kind rows))
 
 -- a kind of the list at a place: what its attributes are, and an example
-abbrev pub kind_text : Table → List Noted → ℕ → List ℕ → List ℕ
-kind_text table notes place kind = kind_at table notes kind (rows_of_kind (kinds_of (table place)) kind)
+abbrev pub kind_text : Table → List Noted → List NamesAt → ℕ → List ℕ → List ℕ
+kind_text table notes names place kind = kind_at table notes names kind (rows_of_kind (kinds_of (table place)) kind)

@@ -2,12 +2,12 @@
 
 ghost use Rattle.std.specs.Prelude.{OnOk, [], map, option_map, ◌+◌, ◌++◌, ◌-◌, ◌≡◌, ◌≤◌};
 ghost use Rattle.tc_forms.specs.Tables.{kinds_view, names_view, part_view};
-ghost use Rattle.tc_schema.specs.Explained.{deepest, explained, indent, is_known, kernel_text, kind_text, kinds_of, member_line, member_lines, members_text, named_line, named_lines, names_lines, place_in, rows_of_kind, signed_of, signed_text, unit_text};
-ghost use Rattle.tc_schema.specs.Notes.{named_views, note_view, note_views, noted_views, notes_at};
+ghost use Rattle.tc_schema.specs.Explained.{deepest, explained, indent, is_known, kernel_text, kind_text, kinds_of, member_line, member_lines, members_text, named_line, named_lines, names_lines, place_in, rows_of_kind, signed_of, signed_text, unit_text, unit_word};
+ghost use Rattle.tc_schema.specs.Notes.{named_views, names_at_views, note_view, note_views, noted_views, notes_at};
 ghost use Rattle.tc_schema.specs.Texts.{member_view, members_of};
 
 use crate::example::put_example;
-use crate::notes::{Left, Named, Note, Noted, first_note, notes_at};
+use crate::notes::{Left, Named, NamesAt, Note, Noted, Unit, first_note, names_at, notes_at};
 use crate::texts::{Member, first_member, put, put_decimal, put_form};
 use std::alloc::{AllocError, Allocator};
 use tc_forms::{Form, KindRows, Name, Number, Part, Tables};
@@ -36,6 +36,30 @@ fn put_kernel<A: Allocator>(out: &mut Vec<u8, A>, kernel: &str) -> Result<(), Al
     put(out, " (")?;
     put(out, kernel)?;
     put(out, ")")
+}
+
+// What a number counts, in words.
+fn unit_word(unit: Unit) -> &'static str
+    ensures { result.now ≡ unit_word unit }
+{
+    match unit {
+        Unit::Plain => "",
+        Unit::Bytes => "bytes",
+        Unit::Packets => "packets",
+        Unit::BytesPerSecond => "bytes a second",
+        Unit::PacketsPerSecond => "packets a second",
+        Unit::KilobitsPerSecond => "1000 bits a second",
+        Unit::Nanoseconds => "nanoseconds",
+        Unit::Microseconds => "microseconds",
+        Unit::Milliseconds => "milliseconds",
+        Unit::Seconds => "seconds",
+        Unit::Ticks => "ticks of 64 ns",
+        Unit::ClockTicks => "hundredths of a second",
+        Unit::Percent => "percent",
+        Unit::Probability => "probability, 2^-32 each",
+        Unit::Power => "exponent of 2",
+        Unit::Interface => "interface",
+    }
 }
 
 fn put_unit<A: Allocator>(out: &mut Vec<u8, A>, unit: &str) -> Result<(), AllocError>
@@ -91,7 +115,7 @@ fn put_member_line<A: Allocator>(
     put(out, member.name)?;
     put(out, ": ")?;
     put_form(out, member.form)?;
-    put_unit(out, note.unit)?;
+    put_unit(out, unit_word(note.unit))?;
     put_kernel(out, note.kernel)?;
     put(out, "\n")
 }
@@ -99,15 +123,17 @@ fn put_member_line<A: Allocator>(
 // The same, and below it the names of numbers and bits.
 fn put_member<A: Allocator>(
     out: &mut Vec<u8, A>,
+    names: &[NamesAt<'static>],
     level: u8,
     member: Member<'static>,
     note: Note<'static>,
 ) -> Result<(), AllocError>
     requires { level ≤ 12 }
-    ensures { OnOk result (out.new.items ≡ out.old.items ++ member_lines level (member_view member.entry) (note_view note.entry)) }
+    ensures { OnOk result (out.new.items ≡ out.old.items ++
+        member_lines (names_at_views names.now) level (member_view member.entry) (note_view note.entry)) }
 {
     put_member_line(out, level, member, note)?;
-    put_all_named(out, level + 1, note.names)
+    put_all_named(out, level + 1, names_at(names, note.names))
 }
 
 // How many numbers a signed form has; 0 for others.
@@ -188,13 +214,14 @@ fn place_in(form: Form) -> Option<usize>
 #[cycle(explain)]
 fn explain_form<T: Tables, A: Allocator>(
     table: T,
-    notes: &'static [Noted<'static>],
+    notes: &[Noted<'static>],
+    names: &[NamesAt<'static>],
     depth: u8,
     form: Form,
     out: &mut Vec<u8, A>,
 ) -> Result<(), AllocError>
     requires { depth ≤ 12 }
-    ensures { OnOk result (out.new.items ≡ out.old.items ++ explained (T.parts_of table) (noted_views notes.now) depth form) }
+    ensures { OnOk result (out.new.items ≡ out.old.items ++ explained (T.parts_of table) (noted_views notes.now) (names_at_views names.now) depth form) }
 {
     let inner = match depth.checked_sub(1) {
         Some(inner) => inner,
@@ -205,16 +232,16 @@ fn explain_form<T: Tables, A: Allocator>(
         None => return Ok(()),
     };
     match table.part(place) {
-        Part::One(form) => explain_form(table, notes, inner, form, out),
+        Part::One(form) => explain_form(table, notes, names, inner, form, out),
         Part::Names(names) => {
             let left = Left {
                 notes: notes_at(notes, place),
             };
             put_names(out, DEEPEST - inner, signed_of(form), names, left)
         }
-        Part::Fields(_) => explain_part(table, notes, inner, place, out),
-        Part::Rows(_, _) => explain_part(table, notes, inner, place, out),
-        Part::Choices(_) => explain_part(table, notes, inner, place, out),
+        Part::Fields(_) => explain_part(table, notes, names, inner, place, out),
+        Part::Rows(_, _) => explain_part(table, notes, names, inner, place, out),
+        Part::Choices(_) => explain_part(table, notes, names, inner, place, out),
         Part::Kinds(_, _, _) => Ok(()),
     }
 }
@@ -222,26 +249,28 @@ fn explain_form<T: Tables, A: Allocator>(
 #[cycle(explain)]
 fn explain_part<T: Tables, A: Allocator>(
     table: T,
-    notes: &'static [Noted<'static>],
+    notes: &[Noted<'static>],
+    names: &[NamesAt<'static>],
     inner: u8,
     place: usize,
     out: &mut Vec<u8, A>,
 ) -> Result<(), AllocError>
     requires { inner ≤ 12 }
-    ensures { OnOk result (out.new.items ≡ out.old.items ++ members_text (explained (T.parts_of table) (noted_views notes.now) inner)
+    ensures { OnOk result (out.new.items ≡ out.old.items ++ members_text (explained (T.parts_of table) (noted_views notes.now) (names_at_views names.now) inner) (names_at_views names.now)
         (deepest - inner) (members_of (T.parts_of table place)) (notes_at (noted_views notes.now) place)) }
 {
     let own = Left {
         notes: notes_at(notes, place),
     };
-    explain_members(table, notes, inner, table.part(place), own, out)
+    explain_members(table, notes, names, inner, table.part(place), own, out)
 }
 
 // The members of a part, each with what is within.
 #[cycle(explain)]
 fn explain_members<T: Tables, A: Allocator>(
     table: T,
-    notes: &'static [Noted<'static>],
+    notes: &[Noted<'static>],
+    names: &[NamesAt<'static>],
     inner: u8,
     part: Part<'static>,
     own: Left,
@@ -249,14 +278,14 @@ fn explain_members<T: Tables, A: Allocator>(
 ) -> Result<(), AllocError>
     requires { inner ≤ 12 }
     ensures { OnOk result (out.new.items ≡ out.old.items ++
-        members_text (explained (T.parts_of table) (noted_views notes.now) inner) (deepest - inner) (members_of (part_view part.entry)) (note_views own.notes.now)) }
+        members_text (explained (T.parts_of table) (noted_views notes.now) (names_at_views names.now) inner) (names_at_views names.now) (deepest - inner) (members_of (part_view part.entry)) (note_views own.notes.now)) }
 {
     let mut left = part;
     let mut behind = own;
     while let Some((member, others)) = first_member(left) {
         let (note, after) = first_note(behind);
-        put_member(out, DEEPEST - inner, member, note)?;
-        explain_form(table, notes, inner, member.form, out)?;
+        put_member(out, names, DEEPEST - inner, member, note)?;
+        explain_form(table, notes, names, inner, member.form, out)?;
         left = others;
         behind = after;
     }
@@ -291,12 +320,13 @@ fn rows_of_kind(kinds: &[KindRows<'_>], kind: &str) -> Option<usize>
 /// kind.
 pub fn put_kind<T: Tables, A: Allocator>(
     table: T,
-    notes: &'static [Noted<'static>],
+    notes: &[Noted<'static>],
+    names: &[NamesAt<'static>],
     place: usize,
     kind: &str,
     out: &mut Vec<u8, A>,
 ) -> Result<(), AllocError>
-    ensures { OnOk result (out.new.items ≡ out.old.items ++ kind_text (T.parts_of table) (noted_views notes.now) place kind.now) }
+    ensures { OnOk result (out.new.items ≡ out.old.items ++ kind_text (T.parts_of table) (noted_views notes.now) (names_at_views names.now) place kind.now) }
 {
     let rows = match rows_of_kind(kinds_of(table, place), kind) {
         Some(rows) => rows,
@@ -304,7 +334,7 @@ pub fn put_kind<T: Tables, A: Allocator>(
     };
     put(out, kind)?;
     put(out, "\n")?;
-    explain_form(table, notes, DEEPEST, Form::List(rows), out)?;
+    explain_form(table, notes, names, DEEPEST, Form::List(rows), out)?;
     put_example(table, kind, rows, out)
 }
 

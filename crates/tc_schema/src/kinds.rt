@@ -1,6 +1,6 @@
 //! What the files below `kinds/` say of the members of each part, in their order. Written by `kinds/columns`.
 
-use crate::notes::{Named, Note, Noted};
+use crate::notes::{Named, Note, Unit};
 
 /// The places of the lists with kinds: those of qdiscs and filters, and of actions.
 pub const LISTS: [usize; 2] = [3003, 0];
@@ -31,1191 +31,960 @@ pub static PLACES: [usize; 366] = [
     4201, 4202, 4203, 4204, 4205, 4206, 4800, 4801, 4802, 4803, 4804, 4805, 4806, 4807,
 ];
 
-/// What is known beside the forms, by the places of the table of `tc_kinds`.
-pub static NOTES: [Noted<'static>; 283] = [
-    Noted {
-        place: 1,
-        notes: &LIST_ACTION_OF_ALL,
-    },
-    Noted {
-        place: 2,
-        notes: &LIST_ACTION_BY_KIND,
-    },
-    Noted {
-        place: 3,
-        notes: &STRUCT_TCA_ACT_FLAGS,
-    },
-    Noted {
-        place: 4,
-        notes: &STRUCT_TCA_ACT_HW_STATS,
-    },
-    Noted {
-        place: 7,
-        notes: &ENUM_TC_ACT,
-    },
-    Noted {
-        place: 8,
-        notes: &STRUCT_TCF_T,
-    },
-    Noted {
-        place: 600,
-        notes: &LIST_ACT_BPF,
-    },
-    Noted {
-        place: 602,
-        notes: &LIST_ACTION_BY_KIND,
-    },
-    Noted {
-        place: 612,
-        notes: &LIST_CONNMARK,
-    },
-    Noted {
-        place: 614,
-        notes: &LIST_ACTION_BY_KIND,
-    },
-    Noted {
-        place: 624,
-        notes: &LIST_CSUM,
-    },
-    Noted {
-        place: 625,
-        notes: &STRUCT_TC_CSUM,
-    },
-    Noted {
-        place: 626,
-        notes: &LIST_ACTION_BY_KIND,
-    },
-    Noted {
-        place: 636,
-        notes: &LIST_CT,
-    },
-    Noted {
-        place: 638,
-        notes: &LIST_ACTION_BY_KIND,
-    },
-    Noted {
-        place: 648,
-        notes: &LIST_CTINFO,
-    },
-    Noted {
-        place: 650,
-        notes: &LIST_ACTION_BY_KIND,
-    },
-    Noted {
-        place: 660,
-        notes: &LIST_GACT,
-    },
-    Noted {
-        place: 663,
-        notes: &ENUM_PGACT,
-    },
-    Noted {
-        place: 664,
-        notes: &LIST_ACTION_BY_KIND,
-    },
-    Noted {
-        place: 672,
-        notes: &LIST_GATE,
-    },
-    Noted {
-        place: 674,
-        notes: &LIST_GATE_LIST,
-    },
-    Noted {
-        place: 675,
-        notes: &LIST_GATE_ENTRY,
-    },
-    Noted {
-        place: 676,
-        notes: &LIST_ACTION_BY_KIND,
-    },
-    Noted {
-        place: 684,
-        notes: &LIST_IFE,
-    },
-    Noted {
-        place: 685,
-        notes: &STRUCT_TC_IFE,
-    },
-    Noted {
-        place: 686,
-        notes: &LIST_IFE_META,
-    },
-    Noted {
-        place: 687,
-        notes: &LIST_ACTION_BY_KIND,
-    },
-    Noted {
-        place: 696,
-        notes: &LIST_IPT,
-    },
-    Noted {
-        place: 697,
-        notes: &LIST_IPT,
-    },
-    Noted {
-        place: 699,
-        notes: &LIST_ACTION_BY_KIND,
-    },
-    Noted {
-        place: 700,
-        notes: &LIST_ACTION_BY_KIND,
-    },
-    Noted {
-        place: 708,
-        notes: &LIST_MIRRED,
-    },
-    Noted {
-        place: 709,
-        notes: &STRUCT_TC_MIRRED,
-    },
-    Noted {
-        place: 710,
-        notes: &ENUM_TCA_MIRRED,
-    },
-    Noted {
-        place: 711,
-        notes: &LIST_ACTION_BY_KIND,
-    },
-    Noted {
-        place: 720,
-        notes: &LIST_MPLS,
-    },
-    Noted {
-        place: 722,
-        notes: &ENUM_TCA_MPLS_ACT,
-    },
-    Noted {
-        place: 723,
-        notes: &LIST_ACTION_BY_KIND,
-    },
-    Noted {
-        place: 732,
-        notes: &LIST_NAT,
-    },
-    Noted {
-        place: 733,
-        notes: &STRUCT_TC_NAT,
-    },
-    Noted {
-        place: 734,
-        notes: &LIST_ACTION_BY_KIND,
-    },
-    Noted {
-        place: 744,
-        notes: &LIST_PEDIT,
-    },
-    Noted {
-        place: 747,
-        notes: &LIST_PEDIT_KEYS_EX,
-    },
-    Noted {
-        place: 748,
-        notes: &LIST_PEDIT_KEY_EX,
-    },
-    Noted {
-        place: 749,
-        notes: &ENUM_PEDIT_HEADER_TYPE,
-    },
-    Noted {
-        place: 750,
-        notes: &ENUM_PEDIT_CMD,
-    },
-    Noted {
-        place: 751,
-        notes: &LIST_ACTION_BY_KIND,
-    },
-    Noted {
-        place: 756,
-        notes: &LIST_POLICE,
-    },
-    Noted {
-        place: 757,
-        notes: &LIST_POLICE,
-    },
-    Noted {
-        place: 758,
-        notes: &STRUCT_TC_POLICE,
-    },
-    Noted {
-        place: 759,
-        notes: &LIST_ACTION_BY_KIND,
-    },
-    Noted {
-        place: 768,
-        notes: &LIST_SAMPLE,
-    },
-    Noted {
-        place: 770,
-        notes: &LIST_ACTION_BY_KIND,
-    },
-    Noted {
-        place: 780,
-        notes: &LIST_SIMPLE,
-    },
-    Noted {
-        place: 782,
-        notes: &LIST_ACTION_BY_KIND,
-    },
-    Noted {
-        place: 792,
-        notes: &LIST_SKBEDIT,
-    },
-    Noted {
-        place: 794,
-        notes: &LIST_ACTION_BY_KIND,
-    },
-    Noted {
-        place: 804,
-        notes: &LIST_SKBMOD,
-    },
-    Noted {
-        place: 805,
-        notes: &STRUCT_TC_SKBMOD,
-    },
-    Noted {
-        place: 806,
-        notes: &LIST_ACTION_BY_KIND,
-    },
-    Noted {
-        place: 816,
-        notes: &LIST_TUNNEL_KEY,
-    },
-    Noted {
-        place: 817,
-        notes: &STRUCT_TC_TUNNEL_KEY,
-    },
-    Noted {
-        place: 818,
-        notes: &LIST_TUNNEL_KEY_OPTS,
-    },
-    Noted {
-        place: 819,
-        notes: &LIST_ACTION_BY_KIND,
-    },
-    Noted {
-        place: 828,
-        notes: &LIST_VLAN,
-    },
-    Noted {
-        place: 830,
-        notes: &ENUM_TCA_VLAN_ACT,
-    },
-    Noted {
-        place: 831,
-        notes: &LIST_ACTION_BY_KIND,
-    },
-    Noted {
-        place: 1800,
-        notes: &LIST_EMATCH_TREE,
-    },
-    Noted {
-        place: 1803,
-        notes: &STRUCT_EMATCH_CONTAINER,
-    },
-    Noted {
-        place: 1804,
-        notes: &STRUCT_EMATCH_CONTAINER,
-    },
-    Noted {
-        place: 1805,
-        notes: &STRUCT_TCF_EM_CMP,
-    },
-    Noted {
-        place: 1806,
-        notes: &STRUCT_EMATCH_NBYTE,
-    },
-    Noted {
-        place: 1807,
-        notes: &STRUCT_TCF_EM_NBYTE,
-    },
-    Noted {
-        place: 1808,
-        notes: &STRUCT_EMATCH_CONTAINER,
-    },
-    Noted {
-        place: 1809,
-        notes: &STRUCT_EMATCH_CONTAINER,
-    },
-    Noted {
-        place: 1810,
-        notes: &LIST_EM_META,
-    },
-    Noted {
-        place: 1813,
-        notes: &ENUM_TCF_EM_OPND,
-    },
-    Noted {
-        place: 1814,
-        notes: &STRUCT_EMATCH_NBYTE,
-    },
-    Noted {
-        place: 1815,
-        notes: &STRUCT_TCF_EM_TEXT,
-    },
-    Noted {
-        place: 1816,
-        notes: &STRUCT_EMATCH_CONTAINER,
-    },
-    Noted {
-        place: 1818,
-        notes: &STRUCT_EMATCH_CONTAINER,
-    },
-    Noted {
-        place: 1820,
-        notes: &STRUCT_EMATCH_CONTAINER,
-    },
-    Noted {
-        place: 1821,
-        notes: &LIST_EM_IPT,
-    },
-    Noted {
-        place: 2400,
-        notes: &LIST_BASIC,
-    },
-    Noted {
-        place: 2402,
-        notes: &LIST_TC_BY_KIND,
-    },
-    Noted {
-        place: 2412,
-        notes: &LIST_BPF,
-    },
-    Noted {
-        place: 2413,
-        notes: &LIST_TC_BY_KIND,
-    },
-    Noted {
-        place: 2424,
-        notes: &LIST_CGROUP,
-    },
-    Noted {
-        place: 2425,
-        notes: &LIST_TC_BY_KIND,
-    },
-    Noted {
-        place: 2436,
-        notes: &LIST_FLOW,
-    },
-    Noted {
-        place: 2437,
-        notes: &ENUM_FLOW_MODE,
-    },
-    Noted {
-        place: 2438,
-        notes: &LIST_TC_BY_KIND,
-    },
-    Noted {
-        place: 2448,
-        notes: &LIST_FLOWER,
-    },
-    Noted {
-        place: 2449,
-        notes: &LIST_ENC_OPTS,
-    },
-    Noted {
-        place: 2450,
-        notes: &LIST_ENC_OPT_GENEVE,
-    },
-    Noted {
-        place: 2451,
-        notes: &LIST_ENC_OPT_VXLAN,
-    },
-    Noted {
-        place: 2452,
-        notes: &LIST_ENC_OPT_ERSPAN,
-    },
-    Noted {
-        place: 2453,
-        notes: &LIST_ENC_OPT_GTP,
-    },
-    Noted {
-        place: 2454,
-        notes: &LIST_ENC_OPT_PFCP,
-    },
-    Noted {
-        place: 2455,
-        notes: &LIST_CFM,
-    },
-    Noted {
-        place: 2456,
-        notes: &LIST_MPLS_OPTS,
-    },
-    Noted {
-        place: 2457,
-        notes: &LIST_MPLS_LSE,
-    },
-    Noted {
-        place: 2458,
-        notes: &LIST_TC_BY_KIND,
-    },
-    Noted {
-        place: 2460,
-        notes: &LIST_FW,
-    },
-    Noted {
-        place: 2461,
-        notes: &LIST_TC_BY_KIND,
-    },
-    Noted {
-        place: 2472,
-        notes: &LIST_MATCHALL,
-    },
-    Noted {
-        place: 2473,
-        notes: &STRUCT_TC_MATCHALL_PCNT,
-    },
-    Noted {
-        place: 2474,
-        notes: &LIST_TC_BY_KIND,
-    },
-    Noted {
-        place: 2484,
-        notes: &LIST_ROUTE,
-    },
-    Noted {
-        place: 2485,
-        notes: &LIST_TC_BY_KIND,
-    },
-    Noted {
-        place: 2496,
-        notes: &LIST_RSVP,
-    },
-    Noted {
-        place: 2497,
-        notes: &LIST_RSVP,
-    },
-    Noted {
-        place: 2498,
-        notes: &STRUCT_TC_RSVP_PINFO,
-    },
-    Noted {
-        place: 2500,
-        notes: &LIST_TC_BY_KIND,
-    },
-    Noted {
-        place: 2501,
-        notes: &LIST_TC_BY_KIND,
-    },
-    Noted {
-        place: 2508,
-        notes: &LIST_TCINDEX,
-    },
-    Noted {
-        place: 2509,
-        notes: &LIST_TC_BY_KIND,
-    },
-    Noted {
-        place: 2520,
-        notes: &LIST_U32,
-    },
-    Noted {
-        place: 2521,
-        notes: &STRUCT_TC_U32_SEL,
-    },
-    Noted {
-        place: 2522,
-        notes: &STRUCT_TC_U32_KEY,
-    },
-    Noted {
-        place: 2523,
-        notes: &STRUCT_TC_U32_PCNT,
-    },
-    Noted {
-        place: 2525,
-        notes: &LIST_TC_BY_KIND,
-    },
-    Noted {
-        place: 3001,
-        notes: &STRUCT_TCMSG,
-    },
-    Noted {
-        place: 3002,
-        notes: &ENUM_ADDRESS_FAMILY,
-    },
-    Noted {
-        place: 3004,
-        notes: &LIST_TC_OF_ALL,
-    },
-    Noted {
-        place: 3005,
-        notes: &LIST_TC_BY_KIND,
-    },
-    Noted {
-        place: 3007,
-        notes: &STRUCT_TCA_DUMP_FLAGS,
-    },
-    Noted {
-        place: 3010,
-        notes: &LIST_ACTION_MESSAGE,
-    },
-    Noted {
-        place: 3011,
-        notes: &STRUCT_TCA_ROOT_FLAGS,
-    },
-    Noted {
-        place: 3600,
-        notes: &LIST_ATM,
-    },
-    Noted {
-        place: 3601,
-        notes: &LIST_TC_BY_KIND,
-    },
-    Noted {
-        place: 3612,
-        notes: &LIST_CAKE,
-    },
-    Noted {
-        place: 3613,
-        notes: &LIST_CAKE_STATS,
-    },
-    Noted {
-        place: 3614,
-        notes: &LIST_CAKE_TIN_STATS,
-    },
-    Noted {
-        place: 3615,
-        notes: &ENUM_CAKE_DIFFSERV,
-    },
-    Noted {
-        place: 3616,
-        notes: &ENUM_CAKE_ATM,
-    },
-    Noted {
-        place: 3617,
-        notes: &ENUM_CAKE_FLOW,
-    },
-    Noted {
-        place: 3618,
-        notes: &ENUM_CAKE_ACK,
-    },
-    Noted {
-        place: 3620,
-        notes: &LIST_TC_BY_KIND,
-    },
-    Noted {
-        place: 3621,
-        notes: &LIST_STATS_BY_KIND,
-    },
-    Noted {
-        place: 3624,
-        notes: &LIST_CBQ,
-    },
-    Noted {
-        place: 3626,
-        notes: &STRUCT_TC_CBQ_LSSOPT,
-    },
-    Noted {
-        place: 3632,
-        notes: &LIST_TC_BY_KIND,
-    },
-    Noted {
-        place: 3633,
-        notes: &LIST_STATS_BY_KIND,
-    },
-    Noted {
-        place: 3636,
-        notes: &LIST_CBS,
-    },
-    Noted {
-        place: 3637,
-        notes: &STRUCT_TC_CBS_QOPT,
-    },
-    Noted {
-        place: 3638,
-        notes: &LIST_TC_BY_KIND,
-    },
-    Noted {
-        place: 3648,
-        notes: &LIST_CHOKE,
-    },
-    Noted {
-        place: 3649,
-        notes: &STRUCT_TC_RED_QOPT_PACKETS,
-    },
-    Noted {
-        place: 3652,
-        notes: &LIST_TC_BY_KIND,
-    },
-    Noted {
-        place: 3653,
-        notes: &LIST_STATS_BY_KIND,
-    },
-    Noted {
-        place: 3660,
-        notes: &LIST_CODEL,
-    },
-    Noted {
-        place: 3661,
-        notes: &STRUCT_TC_CODEL_XSTATS,
-    },
-    Noted {
-        place: 3663,
-        notes: &LIST_TC_BY_KIND,
-    },
-    Noted {
-        place: 3664,
-        notes: &LIST_STATS_BY_KIND,
-    },
-    Noted {
-        place: 3672,
-        notes: &LIST_DRR,
-    },
-    Noted {
-        place: 3675,
-        notes: &LIST_TC_BY_KIND,
-    },
-    Noted {
-        place: 3676,
-        notes: &LIST_STATS_BY_KIND,
-    },
-    Noted {
-        place: 3684,
-        notes: &LIST_DSMARK,
-    },
-    Noted {
-        place: 3685,
-        notes: &LIST_TC_BY_KIND,
-    },
-    Noted {
-        place: 3696,
-        notes: &LIST_ETF,
-    },
-    Noted {
-        place: 3697,
-        notes: &STRUCT_TC_ETF_QOPT,
-    },
-    Noted {
-        place: 3698,
-        notes: &LIST_TC_BY_KIND,
-    },
-    Noted {
-        place: 3708,
-        notes: &LIST_ETS,
-    },
-    Noted {
-        place: 3709,
-        notes: &LIST_ETS_QUANTA,
-    },
-    Noted {
-        place: 3710,
-        notes: &LIST_ETS_PRIOMAP,
-    },
-    Noted {
-        place: 3711,
-        notes: &LIST_TC_BY_KIND,
-    },
-    Noted {
-        place: 3720,
-        notes: &STRUCT_TC_FIFO_QOPT,
-    },
-    Noted {
-        place: 3721,
-        notes: &STRUCT_TC_MATCHALL_PCNT,
-    },
-    Noted {
-        place: 3722,
-        notes: &LIST_TC_BY_KIND,
-    },
-    Noted {
-        place: 3723,
-        notes: &LIST_TC_BY_KIND,
-    },
-    Noted {
-        place: 3732,
-        notes: &LIST_FQ,
-    },
-    Noted {
-        place: 3733,
-        notes: &STRUCT_TC_FQ_QD_STATS,
-    },
-    Noted {
-        place: 3736,
-        notes: &LIST_TC_BY_KIND,
-    },
-    Noted {
-        place: 3737,
-        notes: &LIST_STATS_BY_KIND,
-    },
-    Noted {
-        place: 3744,
-        notes: &LIST_FQ_CODEL,
-    },
-    Noted {
-        place: 3746,
-        notes: &STRUCT_TC_FQ_CODEL_QD_STATS,
-    },
-    Noted {
-        place: 3747,
-        notes: &STRUCT_TC_FQ_CODEL_CL_STATS,
-    },
-    Noted {
-        place: 3749,
-        notes: &LIST_TC_BY_KIND,
-    },
-    Noted {
-        place: 3750,
-        notes: &LIST_STATS_BY_KIND,
-    },
-    Noted {
-        place: 3756,
-        notes: &LIST_FQ_PIE,
-    },
-    Noted {
-        place: 3759,
-        notes: &LIST_TC_BY_KIND,
-    },
-    Noted {
-        place: 3760,
-        notes: &LIST_STATS_BY_KIND,
-    },
-    Noted {
-        place: 3768,
-        notes: &LIST_GRED,
-    },
-    Noted {
-        place: 3769,
-        notes: &STRUCT_TC_GRED_QOPT,
-    },
-    Noted {
-        place: 3770,
-        notes: &STRUCT_TC_GRED_SOPT,
-    },
-    Noted {
-        place: 3771,
-        notes: &LIST_GRED_VQ_LIST,
-    },
-    Noted {
-        place: 3772,
-        notes: &LIST_GRED_VQ,
-    },
-    Noted {
-        place: 3773,
-        notes: &LIST_TC_BY_KIND,
-    },
-    Noted {
-        place: 3782,
-        notes: &LIST_HFSC,
-    },
-    Noted {
-        place: 3783,
-        notes: &STRUCT_TC_SERVICE_CURVE,
-    },
-    Noted {
-        place: 3784,
-        notes: &STRUCT_TC_HFSC_STATS,
-    },
-    Noted {
-        place: 3786,
-        notes: &LIST_TC_BY_KIND,
-    },
-    Noted {
-        place: 3787,
-        notes: &LIST_STATS_BY_KIND,
-    },
-    Noted {
-        place: 3792,
-        notes: &LIST_HHF,
-    },
-    Noted {
-        place: 3795,
-        notes: &LIST_TC_BY_KIND,
-    },
-    Noted {
-        place: 3796,
-        notes: &LIST_STATS_BY_KIND,
-    },
-    Noted {
-        place: 3804,
-        notes: &LIST_HTB,
-    },
-    Noted {
-        place: 3805,
-        notes: &STRUCT_TC_HTB_XSTATS,
-    },
-    Noted {
-        place: 3806,
-        notes: &STRUCT_TC_HTB_OPT,
-    },
-    Noted {
-        place: 3809,
-        notes: &LIST_TC_BY_KIND,
-    },
-    Noted {
-        place: 3810,
-        notes: &LIST_STATS_BY_KIND,
-    },
-    Noted {
-        place: 3817,
-        notes: &LIST_TC_BY_KIND,
-    },
-    Noted {
-        place: 3830,
-        notes: &LIST_MQPRIO,
-    },
-    Noted {
-        place: 3831,
-        notes: &ENUM_TC_MQPRIO_MODE,
-    },
-    Noted {
-        place: 3832,
-        notes: &ENUM_TC_MQPRIO_SHAPER,
-    },
-    Noted {
-        place: 3833,
-        notes: &LIST_MQPRIO_MIN_RATE,
-    },
-    Noted {
-        place: 3834,
-        notes: &LIST_MQPRIO_MAX_RATE,
-    },
-    Noted {
-        place: 3835,
-        notes: &LIST_MQPRIO_TC_ENTRY,
-    },
-    Noted {
-        place: 3836,
-        notes: &LIST_TC_BY_KIND,
-    },
-    Noted {
-        place: 3841,
-        notes: &LIST_TC_BY_KIND,
-    },
-    Noted {
-        place: 3852,
-        notes: &STRUCT_TC_NETEM_QOPT,
-    },
-    Noted {
-        place: 3853,
-        notes: &LIST_NETEM,
-    },
-    Noted {
-        place: 3854,
-        notes: &STRUCT_TC_NETEM_CORR,
-    },
-    Noted {
-        place: 3855,
-        notes: &STRUCT_TC_NETEM_REORDER,
-    },
-    Noted {
-        place: 3856,
-        notes: &STRUCT_TC_NETEM_REORDER,
-    },
-    Noted {
-        place: 3857,
-        notes: &LIST_NETEM_LOSS,
-    },
-    Noted {
-        place: 3858,
-        notes: &STRUCT_TC_NETEM_GIMODEL,
-    },
-    Noted {
-        place: 3859,
-        notes: &STRUCT_TC_NETEM_GEMODEL,
-    },
-    Noted {
-        place: 3860,
-        notes: &STRUCT_TC_NETEM_RATE,
-    },
-    Noted {
-        place: 3861,
-        notes: &STRUCT_TC_NETEM_SLOT,
-    },
-    Noted {
-        place: 3862,
-        notes: &LIST_TC_BY_KIND,
-    },
-    Noted {
-        place: 3866,
-        notes: &LIST_TC_BY_KIND,
-    },
-    Noted {
-        place: 3867,
-        notes: &LIST_TC_BY_KIND,
-    },
-    Noted {
-        place: 3876,
-        notes: &LIST_PIE,
-    },
-    Noted {
-        place: 3877,
-        notes: &STRUCT_TC_PIE_XSTATS,
-    },
-    Noted {
-        place: 3879,
-        notes: &LIST_TC_BY_KIND,
-    },
-    Noted {
-        place: 3880,
-        notes: &LIST_STATS_BY_KIND,
-    },
-    Noted {
-        place: 3888,
-        notes: &STRUCT_TC_PLUG_QOPT,
-    },
-    Noted {
-        place: 3889,
-        notes: &ENUM_TCQ_PLUG,
-    },
-    Noted {
-        place: 3890,
-        notes: &LIST_TC_BY_KIND,
-    },
-    Noted {
-        place: 3901,
-        notes: &LIST_PRIO,
-    },
-    Noted {
-        place: 3903,
-        notes: &LIST_TC_BY_KIND,
-    },
-    Noted {
-        place: 3904,
-        notes: &LIST_TC_BY_KIND,
-    },
-    Noted {
-        place: 3912,
-        notes: &LIST_QFQ,
-    },
-    Noted {
-        place: 3913,
-        notes: &STRUCT_TC_PLUG_QOPT,
-    },
-    Noted {
-        place: 3915,
-        notes: &LIST_TC_BY_KIND,
-    },
-    Noted {
-        place: 3916,
-        notes: &LIST_STATS_BY_KIND,
-    },
-    Noted {
-        place: 3924,
-        notes: &LIST_RED,
-    },
-    Noted {
-        place: 3925,
-        notes: &STRUCT_TC_RED_QOPT,
-    },
-    Noted {
-        place: 3926,
-        notes: &STRUCT_TCA_RED_FLAGS,
-    },
-    Noted {
-        place: 3927,
-        notes: &STRUCT_TC_RED_XSTATS,
-    },
-    Noted {
-        place: 3929,
-        notes: &LIST_TC_BY_KIND,
-    },
-    Noted {
-        place: 3930,
-        notes: &LIST_STATS_BY_KIND,
-    },
-    Noted {
-        place: 3936,
-        notes: &LIST_SFB,
-    },
-    Noted {
-        place: 3937,
-        notes: &STRUCT_TC_SFB_XSTATS,
-    },
-    Noted {
-        place: 3938,
-        notes: &STRUCT_TC_SFB_QOPT,
-    },
-    Noted {
-        place: 3940,
-        notes: &LIST_TC_BY_KIND,
-    },
-    Noted {
-        place: 3941,
-        notes: &LIST_STATS_BY_KIND,
-    },
-    Noted {
-        place: 3949,
-        notes: &STRUCT_TC_SFQ_QOPT,
-    },
-    Noted {
-        place: 3950,
-        notes: &STRUCT_TC_SFQ_QOPT_V1,
-    },
-    Noted {
-        place: 3951,
-        notes: &STRUCT_TC_SFQRED_STATS,
-    },
-    Noted {
-        place: 3952,
-        notes: &STRUCT_TC_FIFO_QOPT,
-    },
-    Noted {
-        place: 3954,
-        notes: &LIST_TC_BY_KIND,
-    },
-    Noted {
-        place: 3955,
-        notes: &LIST_STATS_BY_KIND,
-    },
-    Noted {
-        place: 3960,
-        notes: &STRUCT_TC_MATCHALL_PCNT,
-    },
-    Noted {
-        place: 3961,
-        notes: &LIST_TC_BY_KIND,
-    },
-    Noted {
-        place: 3972,
-        notes: &LIST_TAPRIO,
-    },
-    Noted {
-        place: 3973,
-        notes: &LIST_TAPRIO,
-    },
-    Noted {
-        place: 3974,
-        notes: &LIST_TAPRIO_ENTRY_LIST,
-    },
-    Noted {
-        place: 3975,
-        notes: &LIST_TAPRIO_ENTRY,
-    },
-    Noted {
-        place: 3976,
-        notes: &ENUM_TC_TAPRIO_CMD,
-    },
-    Noted {
-        place: 3977,
-        notes: &LIST_TAPRIO_TC_ENTRY,
-    },
-    Noted {
-        place: 3978,
-        notes: &LIST_TAPRIO_STATS,
-    },
-    Noted {
-        place: 3980,
-        notes: &LIST_TC_BY_KIND,
-    },
-    Noted {
-        place: 3981,
-        notes: &LIST_STATS_BY_KIND,
-    },
-    Noted {
-        place: 3984,
-        notes: &LIST_TBF,
-    },
-    Noted {
-        place: 3985,
-        notes: &STRUCT_TC_TBF_QOPT,
-    },
-    Noted {
-        place: 3986,
-        notes: &LIST_TC_BY_KIND,
-    },
-    Noted {
-        place: 4200,
-        notes: &STRUCT_TC_RATESPEC,
-    },
-    Noted {
-        place: 4201,
-        notes: &ENUM_TC_LINKLAYER,
-    },
-    Noted {
-        place: 4202,
-        notes: &LIST_STAB,
-    },
-    Noted {
-        place: 4203,
-        notes: &STRUCT_TC_SIZESPEC,
-    },
-    Noted {
-        place: 4204,
-        notes: &STRUCT_TC_ESTIMATOR,
-    },
-    Noted {
-        place: 4206,
-        notes: &ENUM_TC_FP,
-    },
-    Noted {
-        place: 4800,
-        notes: &STRUCT_TC_STATS,
-    },
-    Noted {
-        place: 4802,
-        notes: &LIST_STATS_OF_ALL,
-    },
-    Noted {
-        place: 4803,
-        notes: &LIST_STATS_BY_KIND,
-    },
-    Noted {
-        place: 4804,
-        notes: &STRUCT_GNET_STATS_BASIC,
-    },
-    Noted {
-        place: 4805,
-        notes: &STRUCT_GNET_STATS_QUEUE,
-    },
-    Noted {
-        place: 4806,
-        notes: &STRUCT_GNET_STATS_RATE_EST,
-    },
-    Noted {
-        place: 4807,
-        notes: &STRUCT_GNET_STATS_RATE_EST,
-    },
-];
+/// How many lists of names there are, at the places from 1 on.
+pub const NAMES: usize = 31;
+
+/// What is known of the members of the part at a place of the table of `tc_kinds`.
+pub fn notes_of(place: usize) -> &'static [Note<'static>] {
+    match place / 600 {
+        0 => notes_of_room_0(place),
+        1 => notes_of_room_1(place),
+        3 => notes_of_room_3(place),
+        4 => notes_of_room_4(place),
+        5 => notes_of_room_5(place),
+        6 => notes_of_room_6(place),
+        7 => notes_of_room_7(place),
+        8 => notes_of_room_8(place),
+        _ => &[],
+    }
+}
+
+fn notes_of_room_0(place: usize) -> &'static [Note<'static>] {
+    match place / 12 {
+        0 => notes_of_0(place),
+        _ => &[],
+    }
+}
+
+fn notes_of_room_1(place: usize) -> &'static [Note<'static>] {
+    match place / 12 {
+        50 => notes_of_50(place),
+        51 => notes_of_51(place),
+        52 => notes_of_52(place),
+        53 => notes_of_53(place),
+        54 => notes_of_54(place),
+        55 => notes_of_55(place),
+        56 => notes_of_56(place),
+        57 => notes_of_57(place),
+        58 => notes_of_58(place),
+        59 => notes_of_59(place),
+        60 => notes_of_60(place),
+        61 => notes_of_61(place),
+        62 => notes_of_62(place),
+        63 => notes_of_63(place),
+        64 => notes_of_64(place),
+        65 => notes_of_65(place),
+        66 => notes_of_66(place),
+        67 => notes_of_67(place),
+        68 => notes_of_68(place),
+        69 => notes_of_69(place),
+        _ => &[],
+    }
+}
+
+fn notes_of_room_3(place: usize) -> &'static [Note<'static>] {
+    match place / 12 {
+        150 => notes_of_150(place),
+        151 => notes_of_151(place),
+        _ => &[],
+    }
+}
+
+fn notes_of_room_4(place: usize) -> &'static [Note<'static>] {
+    match place / 12 {
+        200 => notes_of_200(place),
+        201 => notes_of_201(place),
+        202 => notes_of_202(place),
+        203 => notes_of_203(place),
+        204 => notes_of_204(place),
+        205 => notes_of_205(place),
+        206 => notes_of_206(place),
+        207 => notes_of_207(place),
+        208 => notes_of_208(place),
+        209 => notes_of_209(place),
+        210 => notes_of_210(place),
+        _ => &[],
+    }
+}
+
+fn notes_of_room_5(place: usize) -> &'static [Note<'static>] {
+    match place / 12 {
+        250 => notes_of_250(place),
+        _ => &[],
+    }
+}
+
+fn notes_of_room_6(place: usize) -> &'static [Note<'static>] {
+    match place / 12 {
+        300 => notes_of_300(place),
+        301 => notes_of_301(place),
+        302 => notes_of_302(place),
+        303 => notes_of_303(place),
+        304 => notes_of_304(place),
+        305 => notes_of_305(place),
+        306 => notes_of_306(place),
+        307 => notes_of_307(place),
+        308 => notes_of_308(place),
+        309 => notes_of_309(place),
+        310 => notes_of_310(place),
+        311 => notes_of_311(place),
+        312 => notes_of_312(place),
+        313 => notes_of_313(place),
+        314 => notes_of_314(place),
+        315 => notes_of_315(place),
+        316 => notes_of_316(place),
+        317 => notes_of_317(place),
+        318 => notes_of_318(place),
+        319 => notes_of_319(place),
+        320 => notes_of_320(place),
+        321 => notes_of_321(place),
+        322 => notes_of_322(place),
+        323 => notes_of_323(place),
+        324 => notes_of_324(place),
+        325 => notes_of_325(place),
+        326 => notes_of_326(place),
+        327 => notes_of_327(place),
+        328 => notes_of_328(place),
+        329 => notes_of_329(place),
+        330 => notes_of_330(place),
+        331 => notes_of_331(place),
+        332 => notes_of_332(place),
+        _ => &[],
+    }
+}
+
+fn notes_of_room_7(place: usize) -> &'static [Note<'static>] {
+    match place / 12 {
+        350 => notes_of_350(place),
+        _ => &[],
+    }
+}
+
+fn notes_of_room_8(place: usize) -> &'static [Note<'static>] {
+    match place / 12 {
+        400 => notes_of_400(place),
+        _ => &[],
+    }
+}
+
+fn notes_of_0(place: usize) -> &'static [Note<'static>] {
+    match place {
+        1 => &LIST_ACTION_OF_ALL,
+        2 => &LIST_ACTION_BY_KIND,
+        3 => &STRUCT_TCA_ACT_FLAGS,
+        4 => &STRUCT_TCA_ACT_HW_STATS,
+        7 => &ENUM_TC_ACT,
+        8 => &STRUCT_TCF_T,
+        _ => &[],
+    }
+}
+
+fn notes_of_50(place: usize) -> &'static [Note<'static>] {
+    match place {
+        600 => &LIST_ACT_BPF,
+        602 => &LIST_ACTION_BY_KIND,
+        _ => &[],
+    }
+}
+
+fn notes_of_51(place: usize) -> &'static [Note<'static>] {
+    match place {
+        612 => &LIST_CONNMARK,
+        614 => &LIST_ACTION_BY_KIND,
+        _ => &[],
+    }
+}
+
+fn notes_of_52(place: usize) -> &'static [Note<'static>] {
+    match place {
+        624 => &LIST_CSUM,
+        625 => &STRUCT_TC_CSUM,
+        626 => &LIST_ACTION_BY_KIND,
+        _ => &[],
+    }
+}
+
+fn notes_of_53(place: usize) -> &'static [Note<'static>] {
+    match place {
+        636 => &LIST_CT,
+        638 => &LIST_ACTION_BY_KIND,
+        _ => &[],
+    }
+}
+
+fn notes_of_54(place: usize) -> &'static [Note<'static>] {
+    match place {
+        648 => &LIST_CTINFO,
+        650 => &LIST_ACTION_BY_KIND,
+        _ => &[],
+    }
+}
+
+fn notes_of_55(place: usize) -> &'static [Note<'static>] {
+    match place {
+        660 => &LIST_GACT,
+        663 => &ENUM_PGACT,
+        664 => &LIST_ACTION_BY_KIND,
+        _ => &[],
+    }
+}
+
+fn notes_of_56(place: usize) -> &'static [Note<'static>] {
+    match place {
+        672 => &LIST_GATE,
+        674 => &LIST_GATE_LIST,
+        675 => &LIST_GATE_ENTRY,
+        676 => &LIST_ACTION_BY_KIND,
+        _ => &[],
+    }
+}
+
+fn notes_of_57(place: usize) -> &'static [Note<'static>] {
+    match place {
+        684 => &LIST_IFE,
+        685 => &STRUCT_TC_IFE,
+        686 => &LIST_IFE_META,
+        687 => &LIST_ACTION_BY_KIND,
+        _ => &[],
+    }
+}
+
+fn notes_of_58(place: usize) -> &'static [Note<'static>] {
+    match place {
+        696 => &LIST_IPT,
+        697 => &LIST_IPT,
+        699 => &LIST_ACTION_BY_KIND,
+        700 => &LIST_ACTION_BY_KIND,
+        _ => &[],
+    }
+}
+
+fn notes_of_59(place: usize) -> &'static [Note<'static>] {
+    match place {
+        708 => &LIST_MIRRED,
+        709 => &STRUCT_TC_MIRRED,
+        710 => &ENUM_TCA_MIRRED,
+        711 => &LIST_ACTION_BY_KIND,
+        _ => &[],
+    }
+}
+
+fn notes_of_60(place: usize) -> &'static [Note<'static>] {
+    match place {
+        720 => &LIST_MPLS,
+        722 => &ENUM_TCA_MPLS_ACT,
+        723 => &LIST_ACTION_BY_KIND,
+        _ => &[],
+    }
+}
+
+fn notes_of_61(place: usize) -> &'static [Note<'static>] {
+    match place {
+        732 => &LIST_NAT,
+        733 => &STRUCT_TC_NAT,
+        734 => &LIST_ACTION_BY_KIND,
+        _ => &[],
+    }
+}
+
+fn notes_of_62(place: usize) -> &'static [Note<'static>] {
+    match place {
+        744 => &LIST_PEDIT,
+        747 => &LIST_PEDIT_KEYS_EX,
+        748 => &LIST_PEDIT_KEY_EX,
+        749 => &ENUM_PEDIT_HEADER_TYPE,
+        750 => &ENUM_PEDIT_CMD,
+        751 => &LIST_ACTION_BY_KIND,
+        _ => &[],
+    }
+}
+
+fn notes_of_63(place: usize) -> &'static [Note<'static>] {
+    match place {
+        756 => &LIST_POLICE,
+        757 => &LIST_POLICE,
+        758 => &STRUCT_TC_POLICE,
+        759 => &LIST_ACTION_BY_KIND,
+        _ => &[],
+    }
+}
+
+fn notes_of_64(place: usize) -> &'static [Note<'static>] {
+    match place {
+        768 => &LIST_SAMPLE,
+        770 => &LIST_ACTION_BY_KIND,
+        _ => &[],
+    }
+}
+
+fn notes_of_65(place: usize) -> &'static [Note<'static>] {
+    match place {
+        780 => &LIST_SIMPLE,
+        782 => &LIST_ACTION_BY_KIND,
+        _ => &[],
+    }
+}
+
+fn notes_of_66(place: usize) -> &'static [Note<'static>] {
+    match place {
+        792 => &LIST_SKBEDIT,
+        794 => &LIST_ACTION_BY_KIND,
+        _ => &[],
+    }
+}
+
+fn notes_of_67(place: usize) -> &'static [Note<'static>] {
+    match place {
+        804 => &LIST_SKBMOD,
+        805 => &STRUCT_TC_SKBMOD,
+        806 => &LIST_ACTION_BY_KIND,
+        _ => &[],
+    }
+}
+
+fn notes_of_68(place: usize) -> &'static [Note<'static>] {
+    match place {
+        816 => &LIST_TUNNEL_KEY,
+        817 => &STRUCT_TC_TUNNEL_KEY,
+        818 => &LIST_TUNNEL_KEY_OPTS,
+        819 => &LIST_ACTION_BY_KIND,
+        _ => &[],
+    }
+}
+
+fn notes_of_69(place: usize) -> &'static [Note<'static>] {
+    match place {
+        828 => &LIST_VLAN,
+        830 => &ENUM_TCA_VLAN_ACT,
+        831 => &LIST_ACTION_BY_KIND,
+        _ => &[],
+    }
+}
+
+fn notes_of_150(place: usize) -> &'static [Note<'static>] {
+    match place {
+        1800 => &LIST_EMATCH_TREE,
+        1803 => &STRUCT_EMATCH_CONTAINER,
+        1804 => &STRUCT_EMATCH_CONTAINER,
+        1805 => &STRUCT_TCF_EM_CMP,
+        1806 => &STRUCT_EMATCH_NBYTE,
+        1807 => &STRUCT_TCF_EM_NBYTE,
+        1808 => &STRUCT_EMATCH_CONTAINER,
+        1809 => &STRUCT_EMATCH_CONTAINER,
+        1810 => &LIST_EM_META,
+        _ => &[],
+    }
+}
+
+fn notes_of_151(place: usize) -> &'static [Note<'static>] {
+    match place {
+        1813 => &ENUM_TCF_EM_OPND,
+        1814 => &STRUCT_EMATCH_NBYTE,
+        1815 => &STRUCT_TCF_EM_TEXT,
+        1816 => &STRUCT_EMATCH_CONTAINER,
+        1818 => &STRUCT_EMATCH_CONTAINER,
+        1820 => &STRUCT_EMATCH_CONTAINER,
+        1821 => &LIST_EM_IPT,
+        _ => &[],
+    }
+}
+
+fn notes_of_200(place: usize) -> &'static [Note<'static>] {
+    match place {
+        2400 => &LIST_BASIC,
+        2402 => &LIST_TC_BY_KIND,
+        _ => &[],
+    }
+}
+
+fn notes_of_201(place: usize) -> &'static [Note<'static>] {
+    match place {
+        2412 => &LIST_BPF,
+        2413 => &LIST_TC_BY_KIND,
+        _ => &[],
+    }
+}
+
+fn notes_of_202(place: usize) -> &'static [Note<'static>] {
+    match place {
+        2424 => &LIST_CGROUP,
+        2425 => &LIST_TC_BY_KIND,
+        _ => &[],
+    }
+}
+
+fn notes_of_203(place: usize) -> &'static [Note<'static>] {
+    match place {
+        2436 => &LIST_FLOW,
+        2437 => &ENUM_FLOW_MODE,
+        2438 => &LIST_TC_BY_KIND,
+        _ => &[],
+    }
+}
+
+fn notes_of_204(place: usize) -> &'static [Note<'static>] {
+    match place {
+        2448 => &LIST_FLOWER,
+        2449 => &LIST_ENC_OPTS,
+        2450 => &LIST_ENC_OPT_GENEVE,
+        2451 => &LIST_ENC_OPT_VXLAN,
+        2452 => &LIST_ENC_OPT_ERSPAN,
+        2453 => &LIST_ENC_OPT_GTP,
+        2454 => &LIST_ENC_OPT_PFCP,
+        2455 => &LIST_CFM,
+        2456 => &LIST_MPLS_OPTS,
+        2457 => &LIST_MPLS_LSE,
+        2458 => &LIST_TC_BY_KIND,
+        _ => &[],
+    }
+}
+
+fn notes_of_205(place: usize) -> &'static [Note<'static>] {
+    match place {
+        2460 => &LIST_FW,
+        2461 => &LIST_TC_BY_KIND,
+        _ => &[],
+    }
+}
+
+fn notes_of_206(place: usize) -> &'static [Note<'static>] {
+    match place {
+        2472 => &LIST_MATCHALL,
+        2473 => &STRUCT_TC_MATCHALL_PCNT,
+        2474 => &LIST_TC_BY_KIND,
+        _ => &[],
+    }
+}
+
+fn notes_of_207(place: usize) -> &'static [Note<'static>] {
+    match place {
+        2484 => &LIST_ROUTE,
+        2485 => &LIST_TC_BY_KIND,
+        _ => &[],
+    }
+}
+
+fn notes_of_208(place: usize) -> &'static [Note<'static>] {
+    match place {
+        2496 => &LIST_RSVP,
+        2497 => &LIST_RSVP,
+        2498 => &STRUCT_TC_RSVP_PINFO,
+        2500 => &LIST_TC_BY_KIND,
+        2501 => &LIST_TC_BY_KIND,
+        _ => &[],
+    }
+}
+
+fn notes_of_209(place: usize) -> &'static [Note<'static>] {
+    match place {
+        2508 => &LIST_TCINDEX,
+        2509 => &LIST_TC_BY_KIND,
+        _ => &[],
+    }
+}
+
+fn notes_of_210(place: usize) -> &'static [Note<'static>] {
+    match place {
+        2520 => &LIST_U32,
+        2521 => &STRUCT_TC_U32_SEL,
+        2522 => &STRUCT_TC_U32_KEY,
+        2523 => &STRUCT_TC_U32_PCNT,
+        2525 => &LIST_TC_BY_KIND,
+        _ => &[],
+    }
+}
+
+fn notes_of_250(place: usize) -> &'static [Note<'static>] {
+    match place {
+        3001 => &STRUCT_TCMSG,
+        3002 => &ENUM_ADDRESS_FAMILY,
+        3004 => &LIST_TC_OF_ALL,
+        3005 => &LIST_TC_BY_KIND,
+        3007 => &STRUCT_TCA_DUMP_FLAGS,
+        3010 => &LIST_ACTION_MESSAGE,
+        3011 => &STRUCT_TCA_ROOT_FLAGS,
+        _ => &[],
+    }
+}
+
+fn notes_of_300(place: usize) -> &'static [Note<'static>] {
+    match place {
+        3600 => &LIST_ATM,
+        3601 => &LIST_TC_BY_KIND,
+        _ => &[],
+    }
+}
+
+fn notes_of_301(place: usize) -> &'static [Note<'static>] {
+    match place {
+        3612 => &LIST_CAKE,
+        3613 => &LIST_CAKE_STATS,
+        3614 => &LIST_CAKE_TIN_STATS,
+        3615 => &ENUM_CAKE_DIFFSERV,
+        3616 => &ENUM_CAKE_ATM,
+        3617 => &ENUM_CAKE_FLOW,
+        3618 => &ENUM_CAKE_ACK,
+        3620 => &LIST_TC_BY_KIND,
+        3621 => &LIST_STATS_BY_KIND,
+        _ => &[],
+    }
+}
+
+fn notes_of_302(place: usize) -> &'static [Note<'static>] {
+    match place {
+        3624 => &LIST_CBQ,
+        3626 => &STRUCT_TC_CBQ_LSSOPT,
+        3632 => &LIST_TC_BY_KIND,
+        3633 => &LIST_STATS_BY_KIND,
+        _ => &[],
+    }
+}
+
+fn notes_of_303(place: usize) -> &'static [Note<'static>] {
+    match place {
+        3636 => &LIST_CBS,
+        3637 => &STRUCT_TC_CBS_QOPT,
+        3638 => &LIST_TC_BY_KIND,
+        _ => &[],
+    }
+}
+
+fn notes_of_304(place: usize) -> &'static [Note<'static>] {
+    match place {
+        3648 => &LIST_CHOKE,
+        3649 => &STRUCT_TC_RED_QOPT_PACKETS,
+        3652 => &LIST_TC_BY_KIND,
+        3653 => &LIST_STATS_BY_KIND,
+        _ => &[],
+    }
+}
+
+fn notes_of_305(place: usize) -> &'static [Note<'static>] {
+    match place {
+        3660 => &LIST_CODEL,
+        3661 => &STRUCT_TC_CODEL_XSTATS,
+        3663 => &LIST_TC_BY_KIND,
+        3664 => &LIST_STATS_BY_KIND,
+        _ => &[],
+    }
+}
+
+fn notes_of_306(place: usize) -> &'static [Note<'static>] {
+    match place {
+        3672 => &LIST_DRR,
+        3675 => &LIST_TC_BY_KIND,
+        3676 => &LIST_STATS_BY_KIND,
+        _ => &[],
+    }
+}
+
+fn notes_of_307(place: usize) -> &'static [Note<'static>] {
+    match place {
+        3684 => &LIST_DSMARK,
+        3685 => &LIST_TC_BY_KIND,
+        _ => &[],
+    }
+}
+
+fn notes_of_308(place: usize) -> &'static [Note<'static>] {
+    match place {
+        3696 => &LIST_ETF,
+        3697 => &STRUCT_TC_ETF_QOPT,
+        3698 => &LIST_TC_BY_KIND,
+        _ => &[],
+    }
+}
+
+fn notes_of_309(place: usize) -> &'static [Note<'static>] {
+    match place {
+        3708 => &LIST_ETS,
+        3709 => &LIST_ETS_QUANTA,
+        3710 => &LIST_ETS_PRIOMAP,
+        3711 => &LIST_TC_BY_KIND,
+        _ => &[],
+    }
+}
+
+fn notes_of_310(place: usize) -> &'static [Note<'static>] {
+    match place {
+        3720 => &STRUCT_TC_FIFO_QOPT,
+        3721 => &STRUCT_TC_MATCHALL_PCNT,
+        3722 => &LIST_TC_BY_KIND,
+        3723 => &LIST_TC_BY_KIND,
+        _ => &[],
+    }
+}
+
+fn notes_of_311(place: usize) -> &'static [Note<'static>] {
+    match place {
+        3732 => &LIST_FQ,
+        3733 => &STRUCT_TC_FQ_QD_STATS,
+        3736 => &LIST_TC_BY_KIND,
+        3737 => &LIST_STATS_BY_KIND,
+        _ => &[],
+    }
+}
+
+fn notes_of_312(place: usize) -> &'static [Note<'static>] {
+    match place {
+        3744 => &LIST_FQ_CODEL,
+        3746 => &STRUCT_TC_FQ_CODEL_QD_STATS,
+        3747 => &STRUCT_TC_FQ_CODEL_CL_STATS,
+        3749 => &LIST_TC_BY_KIND,
+        3750 => &LIST_STATS_BY_KIND,
+        _ => &[],
+    }
+}
+
+fn notes_of_313(place: usize) -> &'static [Note<'static>] {
+    match place {
+        3756 => &LIST_FQ_PIE,
+        3759 => &LIST_TC_BY_KIND,
+        3760 => &LIST_STATS_BY_KIND,
+        _ => &[],
+    }
+}
+
+fn notes_of_314(place: usize) -> &'static [Note<'static>] {
+    match place {
+        3768 => &LIST_GRED,
+        3769 => &STRUCT_TC_GRED_QOPT,
+        3770 => &STRUCT_TC_GRED_SOPT,
+        3771 => &LIST_GRED_VQ_LIST,
+        3772 => &LIST_GRED_VQ,
+        3773 => &LIST_TC_BY_KIND,
+        _ => &[],
+    }
+}
+
+fn notes_of_315(place: usize) -> &'static [Note<'static>] {
+    match place {
+        3782 => &LIST_HFSC,
+        3783 => &STRUCT_TC_SERVICE_CURVE,
+        3784 => &STRUCT_TC_HFSC_STATS,
+        3786 => &LIST_TC_BY_KIND,
+        3787 => &LIST_STATS_BY_KIND,
+        _ => &[],
+    }
+}
+
+fn notes_of_316(place: usize) -> &'static [Note<'static>] {
+    match place {
+        3792 => &LIST_HHF,
+        3795 => &LIST_TC_BY_KIND,
+        3796 => &LIST_STATS_BY_KIND,
+        _ => &[],
+    }
+}
+
+fn notes_of_317(place: usize) -> &'static [Note<'static>] {
+    match place {
+        3804 => &LIST_HTB,
+        3805 => &STRUCT_TC_HTB_XSTATS,
+        3806 => &STRUCT_TC_HTB_OPT,
+        3809 => &LIST_TC_BY_KIND,
+        3810 => &LIST_STATS_BY_KIND,
+        _ => &[],
+    }
+}
+
+fn notes_of_318(place: usize) -> &'static [Note<'static>] {
+    match place {
+        3817 => &LIST_TC_BY_KIND,
+        _ => &[],
+    }
+}
+
+fn notes_of_319(place: usize) -> &'static [Note<'static>] {
+    match place {
+        3830 => &LIST_MQPRIO,
+        3831 => &ENUM_TC_MQPRIO_MODE,
+        3832 => &ENUM_TC_MQPRIO_SHAPER,
+        3833 => &LIST_MQPRIO_MIN_RATE,
+        3834 => &LIST_MQPRIO_MAX_RATE,
+        3835 => &LIST_MQPRIO_TC_ENTRY,
+        3836 => &LIST_TC_BY_KIND,
+        _ => &[],
+    }
+}
+
+fn notes_of_320(place: usize) -> &'static [Note<'static>] {
+    match place {
+        3841 => &LIST_TC_BY_KIND,
+        _ => &[],
+    }
+}
+
+fn notes_of_321(place: usize) -> &'static [Note<'static>] {
+    match place {
+        3852 => &STRUCT_TC_NETEM_QOPT,
+        3853 => &LIST_NETEM,
+        3854 => &STRUCT_TC_NETEM_CORR,
+        3855 => &STRUCT_TC_NETEM_REORDER,
+        3856 => &STRUCT_TC_NETEM_REORDER,
+        3857 => &LIST_NETEM_LOSS,
+        3858 => &STRUCT_TC_NETEM_GIMODEL,
+        3859 => &STRUCT_TC_NETEM_GEMODEL,
+        3860 => &STRUCT_TC_NETEM_RATE,
+        3861 => &STRUCT_TC_NETEM_SLOT,
+        3862 => &LIST_TC_BY_KIND,
+        _ => &[],
+    }
+}
+
+fn notes_of_322(place: usize) -> &'static [Note<'static>] {
+    match place {
+        3866 => &LIST_TC_BY_KIND,
+        3867 => &LIST_TC_BY_KIND,
+        _ => &[],
+    }
+}
+
+fn notes_of_323(place: usize) -> &'static [Note<'static>] {
+    match place {
+        3876 => &LIST_PIE,
+        3877 => &STRUCT_TC_PIE_XSTATS,
+        3879 => &LIST_TC_BY_KIND,
+        3880 => &LIST_STATS_BY_KIND,
+        _ => &[],
+    }
+}
+
+fn notes_of_324(place: usize) -> &'static [Note<'static>] {
+    match place {
+        3888 => &STRUCT_TC_PLUG_QOPT,
+        3889 => &ENUM_TCQ_PLUG,
+        3890 => &LIST_TC_BY_KIND,
+        _ => &[],
+    }
+}
+
+fn notes_of_325(place: usize) -> &'static [Note<'static>] {
+    match place {
+        3901 => &LIST_PRIO,
+        3903 => &LIST_TC_BY_KIND,
+        3904 => &LIST_TC_BY_KIND,
+        _ => &[],
+    }
+}
+
+fn notes_of_326(place: usize) -> &'static [Note<'static>] {
+    match place {
+        3912 => &LIST_QFQ,
+        3913 => &STRUCT_TC_PLUG_QOPT,
+        3915 => &LIST_TC_BY_KIND,
+        3916 => &LIST_STATS_BY_KIND,
+        _ => &[],
+    }
+}
+
+fn notes_of_327(place: usize) -> &'static [Note<'static>] {
+    match place {
+        3924 => &LIST_RED,
+        3925 => &STRUCT_TC_RED_QOPT,
+        3926 => &STRUCT_TCA_RED_FLAGS,
+        3927 => &STRUCT_TC_RED_XSTATS,
+        3929 => &LIST_TC_BY_KIND,
+        3930 => &LIST_STATS_BY_KIND,
+        _ => &[],
+    }
+}
+
+fn notes_of_328(place: usize) -> &'static [Note<'static>] {
+    match place {
+        3936 => &LIST_SFB,
+        3937 => &STRUCT_TC_SFB_XSTATS,
+        3938 => &STRUCT_TC_SFB_QOPT,
+        3940 => &LIST_TC_BY_KIND,
+        3941 => &LIST_STATS_BY_KIND,
+        _ => &[],
+    }
+}
+
+fn notes_of_329(place: usize) -> &'static [Note<'static>] {
+    match place {
+        3949 => &STRUCT_TC_SFQ_QOPT,
+        3950 => &STRUCT_TC_SFQ_QOPT_V1,
+        3951 => &STRUCT_TC_SFQRED_STATS,
+        3952 => &STRUCT_TC_FIFO_QOPT,
+        3954 => &LIST_TC_BY_KIND,
+        3955 => &LIST_STATS_BY_KIND,
+        _ => &[],
+    }
+}
+
+fn notes_of_330(place: usize) -> &'static [Note<'static>] {
+    match place {
+        3960 => &STRUCT_TC_MATCHALL_PCNT,
+        3961 => &LIST_TC_BY_KIND,
+        _ => &[],
+    }
+}
+
+fn notes_of_331(place: usize) -> &'static [Note<'static>] {
+    match place {
+        3972 => &LIST_TAPRIO,
+        3973 => &LIST_TAPRIO,
+        3974 => &LIST_TAPRIO_ENTRY_LIST,
+        3975 => &LIST_TAPRIO_ENTRY,
+        3976 => &ENUM_TC_TAPRIO_CMD,
+        3977 => &LIST_TAPRIO_TC_ENTRY,
+        3978 => &LIST_TAPRIO_STATS,
+        3980 => &LIST_TC_BY_KIND,
+        3981 => &LIST_STATS_BY_KIND,
+        _ => &[],
+    }
+}
+
+fn notes_of_332(place: usize) -> &'static [Note<'static>] {
+    match place {
+        3984 => &LIST_TBF,
+        3985 => &STRUCT_TC_TBF_QOPT,
+        3986 => &LIST_TC_BY_KIND,
+        _ => &[],
+    }
+}
+
+fn notes_of_350(place: usize) -> &'static [Note<'static>] {
+    match place {
+        4200 => &STRUCT_TC_RATESPEC,
+        4201 => &ENUM_TC_LINKLAYER,
+        4202 => &LIST_STAB,
+        4203 => &STRUCT_TC_SIZESPEC,
+        4204 => &STRUCT_TC_ESTIMATOR,
+        4206 => &ENUM_TC_FP,
+        _ => &[],
+    }
+}
+
+fn notes_of_400(place: usize) -> &'static [Note<'static>] {
+    match place {
+        4800 => &STRUCT_TC_STATS,
+        4802 => &LIST_STATS_OF_ALL,
+        4803 => &LIST_STATS_BY_KIND,
+        4804 => &STRUCT_GNET_STATS_BASIC,
+        4805 => &STRUCT_GNET_STATS_QUEUE,
+        4806 => &STRUCT_GNET_STATS_RATE_EST,
+        4807 => &STRUCT_GNET_STATS_RATE_EST,
+        _ => &[],
+    }
+}
+
+/// The names at a place.
+pub fn names_of(place: usize) -> &'static [Named<'static>] {
+    match place / 600 {
+        0 => names_of_room_0(place),
+        _ => &[],
+    }
+}
+
+fn names_of_room_0(place: usize) -> &'static [Named<'static>] {
+    match place / 12 {
+        0 => names_of_0(place),
+        1 => names_of_1(place),
+        2 => names_of_2(place),
+        _ => &[],
+    }
+}
+
+fn names_of_0(place: usize) -> &'static [Named<'static>] {
+    match place {
+        1 => &BITS_TCA_ACT_FLAGS,
+        2 => &BITS_TCA_ACT_HW_STATS,
+        3 => &BITS_TCA_CSUM_UPDATE_FLAG,
+        4 => &BITS_TCA_CT_ACT,
+        5 => &NAMES_IP_PROTO,
+        6 => &NAMES_CLOCKID,
+        7 => &NAMES_ETH_P,
+        8 => &BITS_IFE,
+        9 => &BITS_TCA_NAT_FLAG,
+        10 => &NAMES_PACKET_TYPE,
+        11 => &BITS_SKBEDIT_F,
+        _ => &[],
+    }
+}
+
+fn names_of_1(place: usize) -> &'static [Named<'static>] {
+    match place {
+        12 => &BITS_SKBMOD_F,
+        13 => &NAMES_TUNNEL_KEY_ACT,
+        14 => &BITS_TCF_EM,
+        15 => &NAMES_EM_ALIGN,
+        16 => &NAMES_EM_LAYER_OPND,
+        17 => &BITS_TCA_BPF_FLAG,
+        18 => &BITS_TCA_CLS_FLAGS,
+        19 => &BITS_FLOW_KEY,
+        20 => &BITS_FLOWER_KEY_FLAGS,
+        21 => &NAMES_ARP_OP,
+        22 => &BITS_TCP_FLAGS,
+        23 => &BITS_FLOWER_CT_FLAGS,
+        _ => &[],
+    }
+}
+
+fn names_of_2(place: usize) -> &'static [Named<'static>] {
+    match place {
+        24 => &BITS_TC_U32,
+        25 => &BITS_TCA_DUMP_FLAGS,
+        26 => &BITS_TCA_ACT_FLAG,
+        27 => &BITS_TCF_CBQ_LSS_CHANGE,
+        28 => &BITS_TCF_CBQ_LSS_FLAGS,
+        29 => &BITS_TC_RED,
+        30 => &BITS_TC_ETF,
+        31 => &BITS_TAPRIO_FLAG,
+        _ => &[],
+    }
+}
 
 // `list action`
 const LIST_ACTION_OF_ALL: [Note<'static>; 8] = [
     Note {
         kernel: "TCA_ACT_INDEX",
-        unit: "",
-        names: &[],
+        unit: Unit::Plain,
+        names: 0,
     },
     Note {
         kernel: "TCA_ACT_STATS",
-        unit: "",
-        names: &[],
+        unit: Unit::Plain,
+        names: 0,
     },
     Note {
         kernel: "TCA_ACT_PAD",
-        unit: "",
-        names: &[],
+        unit: Unit::Plain,
+        names: 0,
     },
     Note {
         kernel: "TCA_ACT_COOKIE",
-        unit: "",
-        names: &[],
+        unit: Unit::Plain,
+        names: 0,
     },
     Note {
         kernel: "TCA_ACT_FLAGS",
-        unit: "",
-        names: &[],
+        unit: Unit::Plain,
+        names: 0,
     },
     Note {
         kernel: "TCA_ACT_HW_STATS",
-        unit: "",
-        names: &[],
+        unit: Unit::Plain,
+        names: 0,
     },
     Note {
         kernel: "TCA_ACT_USED_HW_STATS",
-        unit: "",
-        names: &[],
+        unit: Unit::Plain,
+        names: 0,
     },
     Note {
         kernel: "TCA_ACT_IN_HW_COUNT",
-        unit: "",
-        names: &[],
+        unit: Unit::Plain,
+        names: 0,
     },
 ];
 
 // `list action`
 const LIST_ACTION_BY_KIND: [Note<'static>; 1] = [Note {
     kernel: "TCA_ACT_OPTIONS",
-    unit: "",
-    names: &[],
+    unit: Unit::Plain,
+    names: 0,
 }];
 
 // `bits tca_act_flags`
@@ -1241,13 +1010,13 @@ const BITS_TCA_ACT_FLAGS: [Named<'static>; 3] = [
 const STRUCT_TCA_ACT_FLAGS: [Note<'static>; 2] = [
     Note {
         kernel: "",
-        unit: "",
-        names: &BITS_TCA_ACT_FLAGS,
+        unit: Unit::Plain,
+        names: 1,
     },
     Note {
         kernel: "",
-        unit: "",
-        names: &BITS_TCA_ACT_FLAGS,
+        unit: Unit::Plain,
+        names: 1,
     },
 ];
 
@@ -1269,13 +1038,13 @@ const BITS_TCA_ACT_HW_STATS: [Named<'static>; 2] = [
 const STRUCT_TCA_ACT_HW_STATS: [Note<'static>; 2] = [
     Note {
         kernel: "",
-        unit: "",
-        names: &BITS_TCA_ACT_HW_STATS,
+        unit: Unit::Plain,
+        names: 2,
     },
     Note {
         kernel: "",
-        unit: "",
-        names: &BITS_TCA_ACT_HW_STATS,
+        unit: Unit::Plain,
+        names: 2,
     },
 ];
 
@@ -1283,53 +1052,53 @@ const STRUCT_TCA_ACT_HW_STATS: [Note<'static>; 2] = [
 const ENUM_TC_ACT: [Note<'static>; 10] = [
     Note {
         kernel: "TC_ACT_UNSPEC",
-        unit: "",
-        names: &[],
+        unit: Unit::Plain,
+        names: 0,
     },
     Note {
         kernel: "TC_ACT_OK",
-        unit: "",
-        names: &[],
+        unit: Unit::Plain,
+        names: 0,
     },
     Note {
         kernel: "TC_ACT_RECLASSIFY",
-        unit: "",
-        names: &[],
+        unit: Unit::Plain,
+        names: 0,
     },
     Note {
         kernel: "TC_ACT_SHOT",
-        unit: "",
-        names: &[],
+        unit: Unit::Plain,
+        names: 0,
     },
     Note {
         kernel: "TC_ACT_PIPE",
-        unit: "",
-        names: &[],
+        unit: Unit::Plain,
+        names: 0,
     },
     Note {
         kernel: "TC_ACT_STOLEN",
-        unit: "",
-        names: &[],
+        unit: Unit::Plain,
+        names: 0,
     },
     Note {
         kernel: "TC_ACT_QUEUED",
-        unit: "",
-        names: &[],
+        unit: Unit::Plain,
+        names: 0,
     },
     Note {
         kernel: "TC_ACT_REPEAT",
-        unit: "",
-        names: &[],
+        unit: Unit::Plain,
+        names: 0,
     },
     Note {
         kernel: "TC_ACT_REDIRECT",
-        unit: "",
-        names: &[],
+        unit: Unit::Plain,
+        names: 0,
     },
     Note {
         kernel: "TC_ACT_TRAP",
-        unit: "",
-        names: &[],
+        unit: Unit::Plain,
+        names: 0,
     },
 ];
 
@@ -1337,23 +1106,23 @@ const ENUM_TC_ACT: [Note<'static>; 10] = [
 const STRUCT_TCF_T: [Note<'static>; 4] = [
     Note {
         kernel: "",
-        unit: "hundredths of a second",
-        names: &[],
+        unit: Unit::ClockTicks,
+        names: 0,
     },
     Note {
         kernel: "",
-        unit: "hundredths of a second",
-        names: &[],
+        unit: Unit::ClockTicks,
+        names: 0,
     },
     Note {
         kernel: "",
-        unit: "hundredths of a second",
-        names: &[],
+        unit: Unit::ClockTicks,
+        names: 0,
     },
     Note {
         kernel: "",
-        unit: "hundredths of a second",
-        names: &[],
+        unit: Unit::ClockTicks,
+        names: 0,
     },
 ];
 
@@ -1361,48 +1130,48 @@ const STRUCT_TCF_T: [Note<'static>; 4] = [
 const LIST_ACT_BPF: [Note<'static>; 9] = [
     Note {
         kernel: "TCA_ACT_BPF_TM",
-        unit: "",
-        names: &[],
+        unit: Unit::Plain,
+        names: 0,
     },
     Note {
         kernel: "TCA_ACT_BPF_PARMS",
-        unit: "",
-        names: &[],
+        unit: Unit::Plain,
+        names: 0,
     },
     Note {
         kernel: "TCA_ACT_BPF_OPS_LEN",
-        unit: "",
-        names: &[],
+        unit: Unit::Plain,
+        names: 0,
     },
     Note {
         kernel: "TCA_ACT_BPF_OPS",
-        unit: "",
-        names: &[],
+        unit: Unit::Plain,
+        names: 0,
     },
     Note {
         kernel: "TCA_ACT_BPF_FD",
-        unit: "",
-        names: &[],
+        unit: Unit::Plain,
+        names: 0,
     },
     Note {
         kernel: "TCA_ACT_BPF_NAME",
-        unit: "",
-        names: &[],
+        unit: Unit::Plain,
+        names: 0,
     },
     Note {
         kernel: "TCA_ACT_BPF_PAD",
-        unit: "",
-        names: &[],
+        unit: Unit::Plain,
+        names: 0,
     },
     Note {
         kernel: "TCA_ACT_BPF_TAG",
-        unit: "",
-        names: &[],
+        unit: Unit::Plain,
+        names: 0,
     },
     Note {
         kernel: "TCA_ACT_BPF_ID",
-        unit: "",
-        names: &[],
+        unit: Unit::Plain,
+        names: 0,
     },
 ];
 
@@ -1410,18 +1179,18 @@ const LIST_ACT_BPF: [Note<'static>; 9] = [
 const LIST_CONNMARK: [Note<'static>; 3] = [
     Note {
         kernel: "TCA_CONNMARK_PARMS",
-        unit: "",
-        names: &[],
+        unit: Unit::Plain,
+        names: 0,
     },
     Note {
         kernel: "TCA_CONNMARK_TM",
-        unit: "",
-        names: &[],
+        unit: Unit::Plain,
+        names: 0,
     },
     Note {
         kernel: "TCA_CONNMARK_PAD",
-        unit: "",
-        names: &[],
+        unit: Unit::Plain,
+        names: 0,
     },
 ];
 
@@ -1429,18 +1198,18 @@ const LIST_CONNMARK: [Note<'static>; 3] = [
 const LIST_CSUM: [Note<'static>; 3] = [
     Note {
         kernel: "TCA_CSUM_PARMS",
-        unit: "",
-        names: &[],
+        unit: Unit::Plain,
+        names: 0,
     },
     Note {
         kernel: "TCA_CSUM_TM",
-        unit: "",
-        names: &[],
+        unit: Unit::Plain,
+        names: 0,
     },
     Note {
         kernel: "TCA_CSUM_PAD",
-        unit: "",
-        names: &[],
+        unit: Unit::Plain,
+        names: 0,
     },
 ];
 
@@ -1487,13 +1256,13 @@ const BITS_TCA_CSUM_UPDATE_FLAG: [Named<'static>; 7] = [
 const STRUCT_TC_CSUM: [Note<'static>; 2] = [
     Note {
         kernel: "",
-        unit: "",
-        names: &[],
+        unit: Unit::Plain,
+        names: 0,
     },
     Note {
         kernel: "",
-        unit: "",
-        names: &BITS_TCA_CSUM_UPDATE_FLAG,
+        unit: Unit::Plain,
+        names: 3,
     },
 ];
 
@@ -1619,93 +1388,93 @@ const NAMES_IP_PROTO: [Named<'static>; 16] = [
 const LIST_CT: [Note<'static>; 18] = [
     Note {
         kernel: "TCA_CT_PARMS",
-        unit: "",
-        names: &[],
+        unit: Unit::Plain,
+        names: 0,
     },
     Note {
         kernel: "TCA_CT_TM",
-        unit: "",
-        names: &[],
+        unit: Unit::Plain,
+        names: 0,
     },
     Note {
         kernel: "TCA_CT_ACTION",
-        unit: "",
-        names: &BITS_TCA_CT_ACT,
+        unit: Unit::Plain,
+        names: 4,
     },
     Note {
         kernel: "TCA_CT_ZONE",
-        unit: "",
-        names: &[],
+        unit: Unit::Plain,
+        names: 0,
     },
     Note {
         kernel: "TCA_CT_MARK",
-        unit: "",
-        names: &[],
+        unit: Unit::Plain,
+        names: 0,
     },
     Note {
         kernel: "TCA_CT_MARK_MASK",
-        unit: "",
-        names: &[],
+        unit: Unit::Plain,
+        names: 0,
     },
     Note {
         kernel: "TCA_CT_LABELS",
-        unit: "",
-        names: &[],
+        unit: Unit::Plain,
+        names: 0,
     },
     Note {
         kernel: "TCA_CT_LABELS_MASK",
-        unit: "",
-        names: &[],
+        unit: Unit::Plain,
+        names: 0,
     },
     Note {
         kernel: "TCA_CT_NAT_IPV4_MIN",
-        unit: "",
-        names: &[],
+        unit: Unit::Plain,
+        names: 0,
     },
     Note {
         kernel: "TCA_CT_NAT_IPV4_MAX",
-        unit: "",
-        names: &[],
+        unit: Unit::Plain,
+        names: 0,
     },
     Note {
         kernel: "TCA_CT_NAT_IPV6_MIN",
-        unit: "",
-        names: &[],
+        unit: Unit::Plain,
+        names: 0,
     },
     Note {
         kernel: "TCA_CT_NAT_IPV6_MAX",
-        unit: "",
-        names: &[],
+        unit: Unit::Plain,
+        names: 0,
     },
     Note {
         kernel: "TCA_CT_NAT_PORT_MIN",
-        unit: "",
-        names: &[],
+        unit: Unit::Plain,
+        names: 0,
     },
     Note {
         kernel: "TCA_CT_NAT_PORT_MAX",
-        unit: "",
-        names: &[],
+        unit: Unit::Plain,
+        names: 0,
     },
     Note {
         kernel: "TCA_CT_PAD",
-        unit: "",
-        names: &[],
+        unit: Unit::Plain,
+        names: 0,
     },
     Note {
         kernel: "TCA_CT_HELPER_NAME",
-        unit: "",
-        names: &[],
+        unit: Unit::Plain,
+        names: 0,
     },
     Note {
         kernel: "TCA_CT_HELPER_FAMILY",
-        unit: "",
-        names: &[],
+        unit: Unit::Plain,
+        names: 0,
     },
     Note {
         kernel: "TCA_CT_HELPER_PROTO",
-        unit: "",
-        names: &NAMES_IP_PROTO,
+        unit: Unit::Plain,
+        names: 5,
     },
 ];
 
@@ -1713,53 +1482,53 @@ const LIST_CT: [Note<'static>; 18] = [
 const LIST_CTINFO: [Note<'static>; 10] = [
     Note {
         kernel: "TCA_CTINFO_PAD",
-        unit: "",
-        names: &[],
+        unit: Unit::Plain,
+        names: 0,
     },
     Note {
         kernel: "TCA_CTINFO_TM",
-        unit: "",
-        names: &[],
+        unit: Unit::Plain,
+        names: 0,
     },
     Note {
         kernel: "TCA_CTINFO_ACT",
-        unit: "",
-        names: &[],
+        unit: Unit::Plain,
+        names: 0,
     },
     Note {
         kernel: "TCA_CTINFO_ZONE",
-        unit: "",
-        names: &[],
+        unit: Unit::Plain,
+        names: 0,
     },
     Note {
         kernel: "TCA_CTINFO_PARMS_DSCP_MASK",
-        unit: "",
-        names: &[],
+        unit: Unit::Plain,
+        names: 0,
     },
     Note {
         kernel: "TCA_CTINFO_PARMS_DSCP_STATEMASK",
-        unit: "",
-        names: &[],
+        unit: Unit::Plain,
+        names: 0,
     },
     Note {
         kernel: "TCA_CTINFO_PARMS_CPMARK_MASK",
-        unit: "",
-        names: &[],
+        unit: Unit::Plain,
+        names: 0,
     },
     Note {
         kernel: "TCA_CTINFO_STATS_DSCP_SET",
-        unit: "",
-        names: &[],
+        unit: Unit::Plain,
+        names: 0,
     },
     Note {
         kernel: "TCA_CTINFO_STATS_DSCP_ERROR",
-        unit: "",
-        names: &[],
+        unit: Unit::Plain,
+        names: 0,
     },
     Note {
         kernel: "TCA_CTINFO_STATS_CPMARK_SET",
-        unit: "",
-        names: &[],
+        unit: Unit::Plain,
+        names: 0,
     },
 ];
 
@@ -1767,23 +1536,23 @@ const LIST_CTINFO: [Note<'static>; 10] = [
 const LIST_GACT: [Note<'static>; 4] = [
     Note {
         kernel: "TCA_GACT_TM",
-        unit: "",
-        names: &[],
+        unit: Unit::Plain,
+        names: 0,
     },
     Note {
         kernel: "TCA_GACT_PARMS",
-        unit: "",
-        names: &[],
+        unit: Unit::Plain,
+        names: 0,
     },
     Note {
         kernel: "TCA_GACT_PROB",
-        unit: "",
-        names: &[],
+        unit: Unit::Plain,
+        names: 0,
     },
     Note {
         kernel: "TCA_GACT_PAD",
-        unit: "",
-        names: &[],
+        unit: Unit::Plain,
+        names: 0,
     },
 ];
 
@@ -1791,18 +1560,18 @@ const LIST_GACT: [Note<'static>; 4] = [
 const ENUM_PGACT: [Note<'static>; 3] = [
     Note {
         kernel: "PGACT_NONE",
-        unit: "",
-        names: &[],
+        unit: Unit::Plain,
+        names: 0,
     },
     Note {
         kernel: "PGACT_NETRAND",
-        unit: "",
-        names: &[],
+        unit: Unit::Plain,
+        names: 0,
     },
     Note {
         kernel: "PGACT_DETERM",
-        unit: "",
-        names: &[],
+        unit: Unit::Plain,
+        names: 0,
     },
 ];
 
@@ -1834,89 +1603,89 @@ const NAMES_CLOCKID: [Named<'static>; 4] = [
 const LIST_GATE: [Note<'static>; 10] = [
     Note {
         kernel: "TCA_GATE_TM",
-        unit: "",
-        names: &[],
+        unit: Unit::Plain,
+        names: 0,
     },
     Note {
         kernel: "TCA_GATE_PARMS",
-        unit: "",
-        names: &[],
+        unit: Unit::Plain,
+        names: 0,
     },
     Note {
         kernel: "TCA_GATE_PAD",
-        unit: "",
-        names: &[],
+        unit: Unit::Plain,
+        names: 0,
     },
     Note {
         kernel: "TCA_GATE_PRIORITY",
-        unit: "",
-        names: &[],
+        unit: Unit::Plain,
+        names: 0,
     },
     Note {
         kernel: "TCA_GATE_ENTRY_LIST",
-        unit: "",
-        names: &[],
+        unit: Unit::Plain,
+        names: 0,
     },
     Note {
         kernel: "TCA_GATE_BASE_TIME",
-        unit: "nanoseconds",
-        names: &[],
+        unit: Unit::Nanoseconds,
+        names: 0,
     },
     Note {
         kernel: "TCA_GATE_CYCLE_TIME",
-        unit: "nanoseconds",
-        names: &[],
+        unit: Unit::Nanoseconds,
+        names: 0,
     },
     Note {
         kernel: "TCA_GATE_CYCLE_TIME_EXT",
-        unit: "nanoseconds",
-        names: &[],
+        unit: Unit::Nanoseconds,
+        names: 0,
     },
     Note {
         kernel: "TCA_GATE_FLAGS",
-        unit: "",
-        names: &[],
+        unit: Unit::Plain,
+        names: 0,
     },
     Note {
         kernel: "TCA_GATE_CLOCKID",
-        unit: "",
-        names: &NAMES_CLOCKID,
+        unit: Unit::Plain,
+        names: 6,
     },
 ];
 
 // `list gate_list`
 const LIST_GATE_LIST: [Note<'static>; 1] = [Note {
     kernel: "TCA_GATE_ONE_ENTRY",
-    unit: "",
-    names: &[],
+    unit: Unit::Plain,
+    names: 0,
 }];
 
 // `list gate_entry`
 const LIST_GATE_ENTRY: [Note<'static>; 5] = [
     Note {
         kernel: "TCA_GATE_ENTRY_INDEX",
-        unit: "",
-        names: &[],
+        unit: Unit::Plain,
+        names: 0,
     },
     Note {
         kernel: "TCA_GATE_ENTRY_GATE",
-        unit: "",
-        names: &[],
+        unit: Unit::Plain,
+        names: 0,
     },
     Note {
         kernel: "TCA_GATE_ENTRY_INTERVAL",
-        unit: "nanoseconds",
-        names: &[],
+        unit: Unit::Nanoseconds,
+        names: 0,
     },
     Note {
         kernel: "TCA_GATE_ENTRY_IPV",
-        unit: "",
-        names: &[],
+        unit: Unit::Plain,
+        names: 0,
     },
     Note {
         kernel: "TCA_GATE_ENTRY_MAX_OCTETS",
-        unit: "bytes",
-        names: &[],
+        unit: Unit::Bytes,
+        names: 0,
     },
 ];
 
@@ -2033,38 +1802,38 @@ const NAMES_ETH_P: [Named<'static>; 21] = [
 const LIST_IFE: [Note<'static>; 7] = [
     Note {
         kernel: "TCA_IFE_PARMS",
-        unit: "",
-        names: &[],
+        unit: Unit::Plain,
+        names: 0,
     },
     Note {
         kernel: "TCA_IFE_TM",
-        unit: "",
-        names: &[],
+        unit: Unit::Plain,
+        names: 0,
     },
     Note {
         kernel: "TCA_IFE_DMAC",
-        unit: "",
-        names: &[],
+        unit: Unit::Plain,
+        names: 0,
     },
     Note {
         kernel: "TCA_IFE_SMAC",
-        unit: "",
-        names: &[],
+        unit: Unit::Plain,
+        names: 0,
     },
     Note {
         kernel: "TCA_IFE_TYPE",
-        unit: "",
-        names: &NAMES_ETH_P,
+        unit: Unit::Plain,
+        names: 7,
     },
     Note {
         kernel: "TCA_IFE_METALST",
-        unit: "",
-        names: &[],
+        unit: Unit::Plain,
+        names: 0,
     },
     Note {
         kernel: "TCA_IFE_PAD",
-        unit: "",
-        names: &[],
+        unit: Unit::Plain,
+        names: 0,
     },
 ];
 
@@ -2079,18 +1848,18 @@ const BITS_IFE: [Named<'static>; 1] = [Named {
 const STRUCT_TC_IFE: [Note<'static>; 3] = [
     Note {
         kernel: "",
-        unit: "",
-        names: &[],
+        unit: Unit::Plain,
+        names: 0,
     },
     Note {
         kernel: "",
-        unit: "",
-        names: &BITS_IFE,
+        unit: Unit::Plain,
+        names: 8,
     },
     Note {
         kernel: "",
-        unit: "",
-        names: &[],
+        unit: Unit::Plain,
+        names: 0,
     },
 ];
 
@@ -2098,28 +1867,28 @@ const STRUCT_TC_IFE: [Note<'static>; 3] = [
 const LIST_IFE_META: [Note<'static>; 5] = [
     Note {
         kernel: "IFE_META_SKBMARK",
-        unit: "",
-        names: &[],
+        unit: Unit::Plain,
+        names: 0,
     },
     Note {
         kernel: "IFE_META_HASHID",
-        unit: "",
-        names: &[],
+        unit: Unit::Plain,
+        names: 0,
     },
     Note {
         kernel: "IFE_META_PRIO",
-        unit: "",
-        names: &[],
+        unit: Unit::Plain,
+        names: 0,
     },
     Note {
         kernel: "IFE_META_QMAP",
-        unit: "",
-        names: &[],
+        unit: Unit::Plain,
+        names: 0,
     },
     Note {
         kernel: "IFE_META_TCINDEX",
-        unit: "",
-        names: &[],
+        unit: Unit::Plain,
+        names: 0,
     },
 ];
 
@@ -2127,38 +1896,38 @@ const LIST_IFE_META: [Note<'static>; 5] = [
 const LIST_IPT: [Note<'static>; 7] = [
     Note {
         kernel: "TCA_IPT_TABLE",
-        unit: "",
-        names: &[],
+        unit: Unit::Plain,
+        names: 0,
     },
     Note {
         kernel: "TCA_IPT_HOOK",
-        unit: "",
-        names: &[],
+        unit: Unit::Plain,
+        names: 0,
     },
     Note {
         kernel: "TCA_IPT_INDEX",
-        unit: "",
-        names: &[],
+        unit: Unit::Plain,
+        names: 0,
     },
     Note {
         kernel: "TCA_IPT_CNT",
-        unit: "",
-        names: &[],
+        unit: Unit::Plain,
+        names: 0,
     },
     Note {
         kernel: "TCA_IPT_TM",
-        unit: "",
-        names: &[],
+        unit: Unit::Plain,
+        names: 0,
     },
     Note {
         kernel: "TCA_IPT_TARG",
-        unit: "",
-        names: &[],
+        unit: Unit::Plain,
+        names: 0,
     },
     Note {
         kernel: "TCA_IPT_PAD",
-        unit: "",
-        names: &[],
+        unit: Unit::Plain,
+        names: 0,
     },
 ];
 
@@ -2166,23 +1935,23 @@ const LIST_IPT: [Note<'static>; 7] = [
 const LIST_MIRRED: [Note<'static>; 4] = [
     Note {
         kernel: "TCA_MIRRED_TM",
-        unit: "",
-        names: &[],
+        unit: Unit::Plain,
+        names: 0,
     },
     Note {
         kernel: "TCA_MIRRED_PARMS",
-        unit: "",
-        names: &[],
+        unit: Unit::Plain,
+        names: 0,
     },
     Note {
         kernel: "TCA_MIRRED_PAD",
-        unit: "",
-        names: &[],
+        unit: Unit::Plain,
+        names: 0,
     },
     Note {
         kernel: "TCA_MIRRED_BLOCKID",
-        unit: "",
-        names: &[],
+        unit: Unit::Plain,
+        names: 0,
     },
 ];
 
@@ -2190,18 +1959,18 @@ const LIST_MIRRED: [Note<'static>; 4] = [
 const STRUCT_TC_MIRRED: [Note<'static>; 3] = [
     Note {
         kernel: "",
-        unit: "",
-        names: &[],
+        unit: Unit::Plain,
+        names: 0,
     },
     Note {
         kernel: "",
-        unit: "",
-        names: &[],
+        unit: Unit::Plain,
+        names: 0,
     },
     Note {
         kernel: "",
-        unit: "interface",
-        names: &[],
+        unit: Unit::Interface,
+        names: 0,
     },
 ];
 
@@ -2209,23 +1978,23 @@ const STRUCT_TC_MIRRED: [Note<'static>; 3] = [
 const ENUM_TCA_MIRRED: [Note<'static>; 4] = [
     Note {
         kernel: "TCA_EGRESS_REDIR",
-        unit: "",
-        names: &[],
+        unit: Unit::Plain,
+        names: 0,
     },
     Note {
         kernel: "TCA_EGRESS_MIRROR",
-        unit: "",
-        names: &[],
+        unit: Unit::Plain,
+        names: 0,
     },
     Note {
         kernel: "TCA_INGRESS_REDIR",
-        unit: "",
-        names: &[],
+        unit: Unit::Plain,
+        names: 0,
     },
     Note {
         kernel: "TCA_INGRESS_MIRROR",
-        unit: "",
-        names: &[],
+        unit: Unit::Plain,
+        names: 0,
     },
 ];
 
@@ -2233,43 +2002,43 @@ const ENUM_TCA_MIRRED: [Note<'static>; 4] = [
 const LIST_MPLS: [Note<'static>; 8] = [
     Note {
         kernel: "TCA_MPLS_TM",
-        unit: "",
-        names: &[],
+        unit: Unit::Plain,
+        names: 0,
     },
     Note {
         kernel: "TCA_MPLS_PARMS",
-        unit: "",
-        names: &[],
+        unit: Unit::Plain,
+        names: 0,
     },
     Note {
         kernel: "TCA_MPLS_PAD",
-        unit: "",
-        names: &[],
+        unit: Unit::Plain,
+        names: 0,
     },
     Note {
         kernel: "TCA_MPLS_PROTO",
-        unit: "",
-        names: &NAMES_ETH_P,
+        unit: Unit::Plain,
+        names: 7,
     },
     Note {
         kernel: "TCA_MPLS_LABEL",
-        unit: "",
-        names: &[],
+        unit: Unit::Plain,
+        names: 0,
     },
     Note {
         kernel: "TCA_MPLS_TC",
-        unit: "",
-        names: &[],
+        unit: Unit::Plain,
+        names: 0,
     },
     Note {
         kernel: "TCA_MPLS_TTL",
-        unit: "",
-        names: &[],
+        unit: Unit::Plain,
+        names: 0,
     },
     Note {
         kernel: "TCA_MPLS_BOS",
-        unit: "",
-        names: &[],
+        unit: Unit::Plain,
+        names: 0,
     },
 ];
 
@@ -2277,28 +2046,28 @@ const LIST_MPLS: [Note<'static>; 8] = [
 const ENUM_TCA_MPLS_ACT: [Note<'static>; 5] = [
     Note {
         kernel: "TCA_MPLS_ACT_POP",
-        unit: "",
-        names: &[],
+        unit: Unit::Plain,
+        names: 0,
     },
     Note {
         kernel: "TCA_MPLS_ACT_PUSH",
-        unit: "",
-        names: &[],
+        unit: Unit::Plain,
+        names: 0,
     },
     Note {
         kernel: "TCA_MPLS_ACT_MODIFY",
-        unit: "",
-        names: &[],
+        unit: Unit::Plain,
+        names: 0,
     },
     Note {
         kernel: "TCA_MPLS_ACT_DEC_TTL",
-        unit: "",
-        names: &[],
+        unit: Unit::Plain,
+        names: 0,
     },
     Note {
         kernel: "TCA_MPLS_ACT_MAC_PUSH",
-        unit: "",
-        names: &[],
+        unit: Unit::Plain,
+        names: 0,
     },
 ];
 
@@ -2306,18 +2075,18 @@ const ENUM_TCA_MPLS_ACT: [Note<'static>; 5] = [
 const LIST_NAT: [Note<'static>; 3] = [
     Note {
         kernel: "TCA_NAT_PARMS",
-        unit: "",
-        names: &[],
+        unit: Unit::Plain,
+        names: 0,
     },
     Note {
         kernel: "TCA_NAT_TM",
-        unit: "",
-        names: &[],
+        unit: Unit::Plain,
+        names: 0,
     },
     Note {
         kernel: "TCA_NAT_PAD",
-        unit: "",
-        names: &[],
+        unit: Unit::Plain,
+        names: 0,
     },
 ];
 
@@ -2339,28 +2108,28 @@ const BITS_TCA_NAT_FLAG: [Named<'static>; 2] = [
 const STRUCT_TC_NAT: [Note<'static>; 5] = [
     Note {
         kernel: "",
-        unit: "",
-        names: &[],
+        unit: Unit::Plain,
+        names: 0,
     },
     Note {
         kernel: "",
-        unit: "",
-        names: &[],
+        unit: Unit::Plain,
+        names: 0,
     },
     Note {
         kernel: "",
-        unit: "",
-        names: &[],
+        unit: Unit::Plain,
+        names: 0,
     },
     Note {
         kernel: "",
-        unit: "",
-        names: &[],
+        unit: Unit::Plain,
+        names: 0,
     },
     Note {
         kernel: "",
-        unit: "",
-        names: &BITS_TCA_NAT_FLAG,
+        unit: Unit::Plain,
+        names: 9,
     },
 ];
 
@@ -2368,49 +2137,49 @@ const STRUCT_TC_NAT: [Note<'static>; 5] = [
 const LIST_PEDIT: [Note<'static>; 5] = [
     Note {
         kernel: "TCA_PEDIT_TM",
-        unit: "",
-        names: &[],
+        unit: Unit::Plain,
+        names: 0,
     },
     Note {
         kernel: "TCA_PEDIT_PARMS",
-        unit: "",
-        names: &[],
+        unit: Unit::Plain,
+        names: 0,
     },
     Note {
         kernel: "TCA_PEDIT_PAD",
-        unit: "",
-        names: &[],
+        unit: Unit::Plain,
+        names: 0,
     },
     Note {
         kernel: "TCA_PEDIT_PARMS_EX",
-        unit: "",
-        names: &[],
+        unit: Unit::Plain,
+        names: 0,
     },
     Note {
         kernel: "TCA_PEDIT_KEYS_EX",
-        unit: "",
-        names: &[],
+        unit: Unit::Plain,
+        names: 0,
     },
 ];
 
 // `list pedit_keys_ex`
 const LIST_PEDIT_KEYS_EX: [Note<'static>; 1] = [Note {
     kernel: "TCA_PEDIT_KEY_EX",
-    unit: "",
-    names: &[],
+    unit: Unit::Plain,
+    names: 0,
 }];
 
 // `list pedit_key_ex`
 const LIST_PEDIT_KEY_EX: [Note<'static>; 2] = [
     Note {
         kernel: "TCA_PEDIT_KEY_EX_HTYPE",
-        unit: "",
-        names: &[],
+        unit: Unit::Plain,
+        names: 0,
     },
     Note {
         kernel: "TCA_PEDIT_KEY_EX_CMD",
-        unit: "",
-        names: &[],
+        unit: Unit::Plain,
+        names: 0,
     },
 ];
 
@@ -2418,33 +2187,33 @@ const LIST_PEDIT_KEY_EX: [Note<'static>; 2] = [
 const ENUM_PEDIT_HEADER_TYPE: [Note<'static>; 6] = [
     Note {
         kernel: "TCA_PEDIT_KEY_EX_HDR_TYPE_NETWORK",
-        unit: "",
-        names: &[],
+        unit: Unit::Plain,
+        names: 0,
     },
     Note {
         kernel: "TCA_PEDIT_KEY_EX_HDR_TYPE_ETH",
-        unit: "",
-        names: &[],
+        unit: Unit::Plain,
+        names: 0,
     },
     Note {
         kernel: "TCA_PEDIT_KEY_EX_HDR_TYPE_IP4",
-        unit: "",
-        names: &[],
+        unit: Unit::Plain,
+        names: 0,
     },
     Note {
         kernel: "TCA_PEDIT_KEY_EX_HDR_TYPE_IP6",
-        unit: "",
-        names: &[],
+        unit: Unit::Plain,
+        names: 0,
     },
     Note {
         kernel: "TCA_PEDIT_KEY_EX_HDR_TYPE_TCP",
-        unit: "",
-        names: &[],
+        unit: Unit::Plain,
+        names: 0,
     },
     Note {
         kernel: "TCA_PEDIT_KEY_EX_HDR_TYPE_UDP",
-        unit: "",
-        names: &[],
+        unit: Unit::Plain,
+        names: 0,
     },
 ];
 
@@ -2452,13 +2221,13 @@ const ENUM_PEDIT_HEADER_TYPE: [Note<'static>; 6] = [
 const ENUM_PEDIT_CMD: [Note<'static>; 2] = [
     Note {
         kernel: "TCA_PEDIT_KEY_EX_CMD_SET",
-        unit: "",
-        names: &[],
+        unit: Unit::Plain,
+        names: 0,
     },
     Note {
         kernel: "TCA_PEDIT_KEY_EX_CMD_ADD",
-        unit: "",
-        names: &[],
+        unit: Unit::Plain,
+        names: 0,
     },
 ];
 
@@ -2466,58 +2235,58 @@ const ENUM_PEDIT_CMD: [Note<'static>; 2] = [
 const LIST_POLICE: [Note<'static>; 11] = [
     Note {
         kernel: "TCA_POLICE_TBF",
-        unit: "",
-        names: &[],
+        unit: Unit::Plain,
+        names: 0,
     },
     Note {
         kernel: "TCA_POLICE_RATE",
-        unit: "",
-        names: &[],
+        unit: Unit::Plain,
+        names: 0,
     },
     Note {
         kernel: "TCA_POLICE_PEAKRATE",
-        unit: "",
-        names: &[],
+        unit: Unit::Plain,
+        names: 0,
     },
     Note {
         kernel: "TCA_POLICE_AVRATE",
-        unit: "bytes a second",
-        names: &[],
+        unit: Unit::BytesPerSecond,
+        names: 0,
     },
     Note {
         kernel: "TCA_POLICE_RESULT",
-        unit: "",
-        names: &[],
+        unit: Unit::Plain,
+        names: 0,
     },
     Note {
         kernel: "TCA_POLICE_TM",
-        unit: "",
-        names: &[],
+        unit: Unit::Plain,
+        names: 0,
     },
     Note {
         kernel: "TCA_POLICE_PAD",
-        unit: "",
-        names: &[],
+        unit: Unit::Plain,
+        names: 0,
     },
     Note {
         kernel: "TCA_POLICE_RATE64",
-        unit: "bytes a second",
-        names: &[],
+        unit: Unit::BytesPerSecond,
+        names: 0,
     },
     Note {
         kernel: "TCA_POLICE_PEAKRATE64",
-        unit: "bytes a second",
-        names: &[],
+        unit: Unit::BytesPerSecond,
+        names: 0,
     },
     Note {
         kernel: "TCA_POLICE_PKTRATE64",
-        unit: "packets a second",
-        names: &[],
+        unit: Unit::PacketsPerSecond,
+        names: 0,
     },
     Note {
         kernel: "TCA_POLICE_PKTBURST64",
-        unit: "ticks of 64 ns",
-        names: &[],
+        unit: Unit::Ticks,
+        names: 0,
     },
 ];
 
@@ -2525,53 +2294,53 @@ const LIST_POLICE: [Note<'static>; 11] = [
 const STRUCT_TC_POLICE: [Note<'static>; 10] = [
     Note {
         kernel: "",
-        unit: "",
-        names: &[],
+        unit: Unit::Plain,
+        names: 0,
     },
     Note {
         kernel: "",
-        unit: "",
-        names: &[],
+        unit: Unit::Plain,
+        names: 0,
     },
     Note {
         kernel: "",
-        unit: "",
-        names: &[],
+        unit: Unit::Plain,
+        names: 0,
     },
     Note {
         kernel: "",
-        unit: "ticks of 64 ns",
-        names: &[],
+        unit: Unit::Ticks,
+        names: 0,
     },
     Note {
         kernel: "",
-        unit: "bytes",
-        names: &[],
+        unit: Unit::Bytes,
+        names: 0,
     },
     Note {
         kernel: "",
-        unit: "",
-        names: &[],
+        unit: Unit::Plain,
+        names: 0,
     },
     Note {
         kernel: "",
-        unit: "",
-        names: &[],
+        unit: Unit::Plain,
+        names: 0,
     },
     Note {
         kernel: "",
-        unit: "",
-        names: &[],
+        unit: Unit::Plain,
+        names: 0,
     },
     Note {
         kernel: "",
-        unit: "",
-        names: &[],
+        unit: Unit::Plain,
+        names: 0,
     },
     Note {
         kernel: "",
-        unit: "",
-        names: &[],
+        unit: Unit::Plain,
+        names: 0,
     },
 ];
 
@@ -2579,33 +2348,33 @@ const STRUCT_TC_POLICE: [Note<'static>; 10] = [
 const LIST_SAMPLE: [Note<'static>; 6] = [
     Note {
         kernel: "TCA_SAMPLE_TM",
-        unit: "",
-        names: &[],
+        unit: Unit::Plain,
+        names: 0,
     },
     Note {
         kernel: "TCA_SAMPLE_PARMS",
-        unit: "",
-        names: &[],
+        unit: Unit::Plain,
+        names: 0,
     },
     Note {
         kernel: "TCA_SAMPLE_RATE",
-        unit: "",
-        names: &[],
+        unit: Unit::Plain,
+        names: 0,
     },
     Note {
         kernel: "TCA_SAMPLE_TRUNC_SIZE",
-        unit: "bytes",
-        names: &[],
+        unit: Unit::Bytes,
+        names: 0,
     },
     Note {
         kernel: "TCA_SAMPLE_PSAMPLE_GROUP",
-        unit: "",
-        names: &[],
+        unit: Unit::Plain,
+        names: 0,
     },
     Note {
         kernel: "TCA_SAMPLE_PAD",
-        unit: "",
-        names: &[],
+        unit: Unit::Plain,
+        names: 0,
     },
 ];
 
@@ -2613,23 +2382,23 @@ const LIST_SAMPLE: [Note<'static>; 6] = [
 const LIST_SIMPLE: [Note<'static>; 4] = [
     Note {
         kernel: "TCA_DEF_TM",
-        unit: "",
-        names: &[],
+        unit: Unit::Plain,
+        names: 0,
     },
     Note {
         kernel: "TCA_DEF_PARMS",
-        unit: "",
-        names: &[],
+        unit: Unit::Plain,
+        names: 0,
     },
     Note {
         kernel: "TCA_DEF_DATA",
-        unit: "",
-        names: &[],
+        unit: Unit::Plain,
+        names: 0,
     },
     Note {
         kernel: "TCA_DEF_PAD",
-        unit: "",
-        names: &[],
+        unit: Unit::Plain,
+        names: 0,
     },
 ];
 
@@ -2700,53 +2469,53 @@ const BITS_SKBEDIT_F: [Named<'static>; 7] = [
 const LIST_SKBEDIT: [Note<'static>; 10] = [
     Note {
         kernel: "TCA_SKBEDIT_TM",
-        unit: "",
-        names: &[],
+        unit: Unit::Plain,
+        names: 0,
     },
     Note {
         kernel: "TCA_SKBEDIT_PARMS",
-        unit: "",
-        names: &[],
+        unit: Unit::Plain,
+        names: 0,
     },
     Note {
         kernel: "TCA_SKBEDIT_PRIORITY",
-        unit: "",
-        names: &[],
+        unit: Unit::Plain,
+        names: 0,
     },
     Note {
         kernel: "TCA_SKBEDIT_QUEUE_MAPPING",
-        unit: "",
-        names: &[],
+        unit: Unit::Plain,
+        names: 0,
     },
     Note {
         kernel: "TCA_SKBEDIT_MARK",
-        unit: "",
-        names: &[],
+        unit: Unit::Plain,
+        names: 0,
     },
     Note {
         kernel: "TCA_SKBEDIT_PAD",
-        unit: "",
-        names: &[],
+        unit: Unit::Plain,
+        names: 0,
     },
     Note {
         kernel: "TCA_SKBEDIT_PTYPE",
-        unit: "",
-        names: &NAMES_PACKET_TYPE,
+        unit: Unit::Plain,
+        names: 10,
     },
     Note {
         kernel: "TCA_SKBEDIT_MASK",
-        unit: "",
-        names: &[],
+        unit: Unit::Plain,
+        names: 0,
     },
     Note {
         kernel: "TCA_SKBEDIT_FLAGS",
-        unit: "",
-        names: &BITS_SKBEDIT_F,
+        unit: Unit::Plain,
+        names: 11,
     },
     Note {
         kernel: "TCA_SKBEDIT_QUEUE_MAPPING_MAX",
-        unit: "",
-        names: &[],
+        unit: Unit::Plain,
+        names: 0,
     },
 ];
 
@@ -2754,33 +2523,33 @@ const LIST_SKBEDIT: [Note<'static>; 10] = [
 const LIST_SKBMOD: [Note<'static>; 6] = [
     Note {
         kernel: "TCA_SKBMOD_TM",
-        unit: "",
-        names: &[],
+        unit: Unit::Plain,
+        names: 0,
     },
     Note {
         kernel: "TCA_SKBMOD_PARMS",
-        unit: "",
-        names: &[],
+        unit: Unit::Plain,
+        names: 0,
     },
     Note {
         kernel: "TCA_SKBMOD_DMAC",
-        unit: "",
-        names: &[],
+        unit: Unit::Plain,
+        names: 0,
     },
     Note {
         kernel: "TCA_SKBMOD_SMAC",
-        unit: "",
-        names: &[],
+        unit: Unit::Plain,
+        names: 0,
     },
     Note {
         kernel: "TCA_SKBMOD_ETYPE",
-        unit: "",
-        names: &NAMES_ETH_P,
+        unit: Unit::Plain,
+        names: 7,
     },
     Note {
         kernel: "TCA_SKBMOD_PAD",
-        unit: "",
-        names: &[],
+        unit: Unit::Plain,
+        names: 0,
     },
 ];
 
@@ -2817,18 +2586,18 @@ const BITS_SKBMOD_F: [Named<'static>; 5] = [
 const STRUCT_TC_SKBMOD: [Note<'static>; 3] = [
     Note {
         kernel: "",
-        unit: "",
-        names: &[],
+        unit: Unit::Plain,
+        names: 0,
     },
     Note {
         kernel: "",
-        unit: "",
-        names: &[],
+        unit: Unit::Plain,
+        names: 0,
     },
     Note {
         kernel: "",
-        unit: "",
-        names: &BITS_SKBMOD_F,
+        unit: Unit::Plain,
+        names: 12,
     },
 ];
 
@@ -2836,73 +2605,73 @@ const STRUCT_TC_SKBMOD: [Note<'static>; 3] = [
 const LIST_TUNNEL_KEY: [Note<'static>; 14] = [
     Note {
         kernel: "TCA_TUNNEL_KEY_TM",
-        unit: "",
-        names: &[],
+        unit: Unit::Plain,
+        names: 0,
     },
     Note {
         kernel: "TCA_TUNNEL_KEY_PARMS",
-        unit: "",
-        names: &[],
+        unit: Unit::Plain,
+        names: 0,
     },
     Note {
         kernel: "TCA_TUNNEL_KEY_ENC_IPV4_SRC",
-        unit: "",
-        names: &[],
+        unit: Unit::Plain,
+        names: 0,
     },
     Note {
         kernel: "TCA_TUNNEL_KEY_ENC_IPV4_DST",
-        unit: "",
-        names: &[],
+        unit: Unit::Plain,
+        names: 0,
     },
     Note {
         kernel: "TCA_TUNNEL_KEY_ENC_IPV6_SRC",
-        unit: "",
-        names: &[],
+        unit: Unit::Plain,
+        names: 0,
     },
     Note {
         kernel: "TCA_TUNNEL_KEY_ENC_IPV6_DST",
-        unit: "",
-        names: &[],
+        unit: Unit::Plain,
+        names: 0,
     },
     Note {
         kernel: "TCA_TUNNEL_KEY_ENC_KEY_ID",
-        unit: "",
-        names: &[],
+        unit: Unit::Plain,
+        names: 0,
     },
     Note {
         kernel: "TCA_TUNNEL_KEY_PAD",
-        unit: "",
-        names: &[],
+        unit: Unit::Plain,
+        names: 0,
     },
     Note {
         kernel: "TCA_TUNNEL_KEY_ENC_DST_PORT",
-        unit: "",
-        names: &[],
+        unit: Unit::Plain,
+        names: 0,
     },
     Note {
         kernel: "TCA_TUNNEL_KEY_NO_CSUM",
-        unit: "",
-        names: &[],
+        unit: Unit::Plain,
+        names: 0,
     },
     Note {
         kernel: "TCA_TUNNEL_KEY_ENC_OPTS",
-        unit: "",
-        names: &[],
+        unit: Unit::Plain,
+        names: 0,
     },
     Note {
         kernel: "TCA_TUNNEL_KEY_ENC_TOS",
-        unit: "",
-        names: &[],
+        unit: Unit::Plain,
+        names: 0,
     },
     Note {
         kernel: "TCA_TUNNEL_KEY_ENC_TTL",
-        unit: "",
-        names: &[],
+        unit: Unit::Plain,
+        names: 0,
     },
     Note {
         kernel: "TCA_TUNNEL_KEY_NO_FRAG",
-        unit: "",
-        names: &[],
+        unit: Unit::Plain,
+        names: 0,
     },
 ];
 
@@ -2924,13 +2693,13 @@ const NAMES_TUNNEL_KEY_ACT: [Named<'static>; 2] = [
 const STRUCT_TC_TUNNEL_KEY: [Note<'static>; 2] = [
     Note {
         kernel: "",
-        unit: "",
-        names: &[],
+        unit: Unit::Plain,
+        names: 0,
     },
     Note {
         kernel: "",
-        unit: "",
-        names: &NAMES_TUNNEL_KEY_ACT,
+        unit: Unit::Plain,
+        names: 13,
     },
 ];
 
@@ -2938,18 +2707,18 @@ const STRUCT_TC_TUNNEL_KEY: [Note<'static>; 2] = [
 const LIST_TUNNEL_KEY_OPTS: [Note<'static>; 3] = [
     Note {
         kernel: "TCA_TUNNEL_KEY_ENC_OPTS_GENEVE",
-        unit: "",
-        names: &[],
+        unit: Unit::Plain,
+        names: 0,
     },
     Note {
         kernel: "TCA_TUNNEL_KEY_ENC_OPTS_VXLAN",
-        unit: "",
-        names: &[],
+        unit: Unit::Plain,
+        names: 0,
     },
     Note {
         kernel: "TCA_TUNNEL_KEY_ENC_OPTS_ERSPAN",
-        unit: "",
-        names: &[],
+        unit: Unit::Plain,
+        names: 0,
     },
 ];
 
@@ -2957,43 +2726,43 @@ const LIST_TUNNEL_KEY_OPTS: [Note<'static>; 3] = [
 const LIST_VLAN: [Note<'static>; 8] = [
     Note {
         kernel: "TCA_VLAN_TM",
-        unit: "",
-        names: &[],
+        unit: Unit::Plain,
+        names: 0,
     },
     Note {
         kernel: "TCA_VLAN_PARMS",
-        unit: "",
-        names: &[],
+        unit: Unit::Plain,
+        names: 0,
     },
     Note {
         kernel: "TCA_VLAN_PUSH_VLAN_ID",
-        unit: "",
-        names: &[],
+        unit: Unit::Plain,
+        names: 0,
     },
     Note {
         kernel: "TCA_VLAN_PUSH_VLAN_PROTOCOL",
-        unit: "",
-        names: &NAMES_ETH_P,
+        unit: Unit::Plain,
+        names: 7,
     },
     Note {
         kernel: "TCA_VLAN_PAD",
-        unit: "",
-        names: &[],
+        unit: Unit::Plain,
+        names: 0,
     },
     Note {
         kernel: "TCA_VLAN_PUSH_VLAN_PRIORITY",
-        unit: "",
-        names: &[],
+        unit: Unit::Plain,
+        names: 0,
     },
     Note {
         kernel: "TCA_VLAN_PUSH_ETH_DST",
-        unit: "",
-        names: &[],
+        unit: Unit::Plain,
+        names: 0,
     },
     Note {
         kernel: "TCA_VLAN_PUSH_ETH_SRC",
-        unit: "",
-        names: &[],
+        unit: Unit::Plain,
+        names: 0,
     },
 ];
 
@@ -3001,28 +2770,28 @@ const LIST_VLAN: [Note<'static>; 8] = [
 const ENUM_TCA_VLAN_ACT: [Note<'static>; 5] = [
     Note {
         kernel: "TCA_VLAN_ACT_POP",
-        unit: "",
-        names: &[],
+        unit: Unit::Plain,
+        names: 0,
     },
     Note {
         kernel: "TCA_VLAN_ACT_PUSH",
-        unit: "",
-        names: &[],
+        unit: Unit::Plain,
+        names: 0,
     },
     Note {
         kernel: "TCA_VLAN_ACT_MODIFY",
-        unit: "",
-        names: &[],
+        unit: Unit::Plain,
+        names: 0,
     },
     Note {
         kernel: "TCA_VLAN_ACT_POP_ETH",
-        unit: "",
-        names: &[],
+        unit: Unit::Plain,
+        names: 0,
     },
     Note {
         kernel: "TCA_VLAN_ACT_PUSH_ETH",
-        unit: "",
-        names: &[],
+        unit: Unit::Plain,
+        names: 0,
     },
 ];
 
@@ -3030,13 +2799,13 @@ const ENUM_TCA_VLAN_ACT: [Note<'static>; 5] = [
 const LIST_EMATCH_TREE: [Note<'static>; 2] = [
     Note {
         kernel: "TCA_EMATCH_TREE_HDR",
-        unit: "",
-        names: &[],
+        unit: Unit::Plain,
+        names: 0,
     },
     Note {
         kernel: "TCA_EMATCH_TREE_LIST",
-        unit: "",
-        names: &[],
+        unit: Unit::Plain,
+        names: 0,
     },
 ];
 
@@ -3068,18 +2837,18 @@ const BITS_TCF_EM: [Named<'static>; 4] = [
 const STRUCT_EMATCH_CONTAINER: [Note<'static>; 3] = [
     Note {
         kernel: "",
-        unit: "",
-        names: &BITS_TCF_EM,
+        unit: Unit::Plain,
+        names: 14,
     },
     Note {
         kernel: "",
-        unit: "",
-        names: &[],
+        unit: Unit::Plain,
+        names: 0,
     },
     Note {
         kernel: "",
-        unit: "",
-        names: &[],
+        unit: Unit::Plain,
+        names: 0,
     },
 ];
 
@@ -3170,28 +2939,28 @@ const NAMES_EM_LAYER_OPND: [Named<'static>; 9] = [
 const STRUCT_TCF_EM_CMP: [Note<'static>; 5] = [
     Note {
         kernel: "",
-        unit: "",
-        names: &[],
+        unit: Unit::Plain,
+        names: 0,
     },
     Note {
         kernel: "",
-        unit: "",
-        names: &[],
+        unit: Unit::Plain,
+        names: 0,
     },
     Note {
         kernel: "",
-        unit: "bytes",
-        names: &[],
+        unit: Unit::Bytes,
+        names: 0,
     },
     Note {
         kernel: "",
-        unit: "",
-        names: &NAMES_EM_ALIGN,
+        unit: Unit::Plain,
+        names: 15,
     },
     Note {
         kernel: "",
-        unit: "",
-        names: &NAMES_EM_LAYER_OPND,
+        unit: Unit::Plain,
+        names: 16,
     },
 ];
 
@@ -3199,23 +2968,23 @@ const STRUCT_TCF_EM_CMP: [Note<'static>; 5] = [
 const STRUCT_EMATCH_NBYTE: [Note<'static>; 4] = [
     Note {
         kernel: "",
-        unit: "",
-        names: &BITS_TCF_EM,
+        unit: Unit::Plain,
+        names: 14,
     },
     Note {
         kernel: "",
-        unit: "",
-        names: &[],
+        unit: Unit::Plain,
+        names: 0,
     },
     Note {
         kernel: "",
-        unit: "",
-        names: &[],
+        unit: Unit::Plain,
+        names: 0,
     },
     Note {
         kernel: "",
-        unit: "",
-        names: &[],
+        unit: Unit::Plain,
+        names: 0,
     },
 ];
 
@@ -3223,13 +2992,13 @@ const STRUCT_EMATCH_NBYTE: [Note<'static>; 4] = [
 const STRUCT_TCF_EM_NBYTE: [Note<'static>; 2] = [
     Note {
         kernel: "",
-        unit: "bytes",
-        names: &[],
+        unit: Unit::Bytes,
+        names: 0,
     },
     Note {
         kernel: "",
-        unit: "",
-        names: &[],
+        unit: Unit::Plain,
+        names: 0,
     },
 ];
 
@@ -3237,18 +3006,18 @@ const STRUCT_TCF_EM_NBYTE: [Note<'static>; 2] = [
 const LIST_EM_META: [Note<'static>; 3] = [
     Note {
         kernel: "TCA_EM_META_HDR",
-        unit: "",
-        names: &[],
+        unit: Unit::Plain,
+        names: 0,
     },
     Note {
         kernel: "TCA_EM_META_LVALUE",
-        unit: "",
-        names: &[],
+        unit: Unit::Plain,
+        names: 0,
     },
     Note {
         kernel: "TCA_EM_META_RVALUE",
-        unit: "",
-        names: &[],
+        unit: Unit::Plain,
+        names: 0,
     },
 ];
 
@@ -3256,18 +3025,18 @@ const LIST_EM_META: [Note<'static>; 3] = [
 const ENUM_TCF_EM_OPND: [Note<'static>; 3] = [
     Note {
         kernel: "TCF_EM_OPND_EQ",
-        unit: "",
-        names: &[],
+        unit: Unit::Plain,
+        names: 0,
     },
     Note {
         kernel: "TCF_EM_OPND_GT",
-        unit: "",
-        names: &[],
+        unit: Unit::Plain,
+        names: 0,
     },
     Note {
         kernel: "TCF_EM_OPND_LT",
-        unit: "",
-        names: &[],
+        unit: Unit::Plain,
+        names: 0,
     },
 ];
 
@@ -3275,33 +3044,33 @@ const ENUM_TCF_EM_OPND: [Note<'static>; 3] = [
 const STRUCT_TCF_EM_TEXT: [Note<'static>; 6] = [
     Note {
         kernel: "",
-        unit: "",
-        names: &[],
+        unit: Unit::Plain,
+        names: 0,
     },
     Note {
         kernel: "",
-        unit: "bytes",
-        names: &[],
+        unit: Unit::Bytes,
+        names: 0,
     },
     Note {
         kernel: "",
-        unit: "bytes",
-        names: &[],
+        unit: Unit::Bytes,
+        names: 0,
     },
     Note {
         kernel: "",
-        unit: "bytes",
-        names: &[],
+        unit: Unit::Bytes,
+        names: 0,
     },
     Note {
         kernel: "",
-        unit: "",
-        names: &[],
+        unit: Unit::Plain,
+        names: 0,
     },
     Note {
         kernel: "",
-        unit: "",
-        names: &[],
+        unit: Unit::Plain,
+        names: 0,
     },
 ];
 
@@ -3309,28 +3078,28 @@ const STRUCT_TCF_EM_TEXT: [Note<'static>; 6] = [
 const LIST_EM_IPT: [Note<'static>; 5] = [
     Note {
         kernel: "TCA_EM_IPT_HOOK",
-        unit: "",
-        names: &[],
+        unit: Unit::Plain,
+        names: 0,
     },
     Note {
         kernel: "TCA_EM_IPT_MATCH_NAME",
-        unit: "",
-        names: &[],
+        unit: Unit::Plain,
+        names: 0,
     },
     Note {
         kernel: "TCA_EM_IPT_MATCH_REVISION",
-        unit: "",
-        names: &[],
+        unit: Unit::Plain,
+        names: 0,
     },
     Note {
         kernel: "TCA_EM_IPT_NFPROTO",
-        unit: "",
-        names: &[],
+        unit: Unit::Plain,
+        names: 0,
     },
     Note {
         kernel: "TCA_EM_IPT_MATCH_DATA",
-        unit: "",
-        names: &[],
+        unit: Unit::Plain,
+        names: 0,
     },
 ];
 
@@ -3338,33 +3107,33 @@ const LIST_EM_IPT: [Note<'static>; 5] = [
 const LIST_BASIC: [Note<'static>; 6] = [
     Note {
         kernel: "TCA_BASIC_CLASSID",
-        unit: "",
-        names: &[],
+        unit: Unit::Plain,
+        names: 0,
     },
     Note {
         kernel: "TCA_BASIC_EMATCHES",
-        unit: "",
-        names: &[],
+        unit: Unit::Plain,
+        names: 0,
     },
     Note {
         kernel: "TCA_BASIC_ACT",
-        unit: "",
-        names: &[],
+        unit: Unit::Plain,
+        names: 0,
     },
     Note {
         kernel: "TCA_BASIC_POLICE",
-        unit: "",
-        names: &[],
+        unit: Unit::Plain,
+        names: 0,
     },
     Note {
         kernel: "TCA_BASIC_PCNT",
-        unit: "",
-        names: &[],
+        unit: Unit::Plain,
+        names: 0,
     },
     Note {
         kernel: "TCA_BASIC_PAD",
-        unit: "",
-        names: &[],
+        unit: Unit::Plain,
+        names: 0,
     },
 ];
 
@@ -3372,13 +3141,13 @@ const LIST_BASIC: [Note<'static>; 6] = [
 const LIST_TC_BY_KIND: [Note<'static>; 2] = [
     Note {
         kernel: "TCA_OPTIONS",
-        unit: "",
-        names: &[],
+        unit: Unit::Plain,
+        names: 0,
     },
     Note {
         kernel: "TCA_XSTATS",
-        unit: "",
-        names: &[],
+        unit: Unit::Plain,
+        names: 0,
     },
 ];
 
@@ -3422,58 +3191,58 @@ const BITS_TCA_CLS_FLAGS: [Named<'static>; 5] = [
 const LIST_BPF: [Note<'static>; 11] = [
     Note {
         kernel: "TCA_BPF_ACT",
-        unit: "",
-        names: &[],
+        unit: Unit::Plain,
+        names: 0,
     },
     Note {
         kernel: "TCA_BPF_POLICE",
-        unit: "",
-        names: &[],
+        unit: Unit::Plain,
+        names: 0,
     },
     Note {
         kernel: "TCA_BPF_CLASSID",
-        unit: "",
-        names: &[],
+        unit: Unit::Plain,
+        names: 0,
     },
     Note {
         kernel: "TCA_BPF_OPS_LEN",
-        unit: "",
-        names: &[],
+        unit: Unit::Plain,
+        names: 0,
     },
     Note {
         kernel: "TCA_BPF_OPS",
-        unit: "",
-        names: &[],
+        unit: Unit::Plain,
+        names: 0,
     },
     Note {
         kernel: "TCA_BPF_FD",
-        unit: "",
-        names: &[],
+        unit: Unit::Plain,
+        names: 0,
     },
     Note {
         kernel: "TCA_BPF_NAME",
-        unit: "",
-        names: &[],
+        unit: Unit::Plain,
+        names: 0,
     },
     Note {
         kernel: "TCA_BPF_FLAGS",
-        unit: "",
-        names: &BITS_TCA_BPF_FLAG,
+        unit: Unit::Plain,
+        names: 17,
     },
     Note {
         kernel: "TCA_BPF_FLAGS_GEN",
-        unit: "",
-        names: &BITS_TCA_CLS_FLAGS,
+        unit: Unit::Plain,
+        names: 18,
     },
     Note {
         kernel: "TCA_BPF_TAG",
-        unit: "",
-        names: &[],
+        unit: Unit::Plain,
+        names: 0,
     },
     Note {
         kernel: "TCA_BPF_ID",
-        unit: "",
-        names: &[],
+        unit: Unit::Plain,
+        names: 0,
     },
 ];
 
@@ -3481,18 +3250,18 @@ const LIST_BPF: [Note<'static>; 11] = [
 const LIST_CGROUP: [Note<'static>; 3] = [
     Note {
         kernel: "TCA_CGROUP_ACT",
-        unit: "",
-        names: &[],
+        unit: Unit::Plain,
+        names: 0,
     },
     Note {
         kernel: "TCA_CGROUP_POLICE",
-        unit: "",
-        names: &[],
+        unit: Unit::Plain,
+        names: 0,
     },
     Note {
         kernel: "TCA_CGROUP_EMATCHES",
-        unit: "",
-        names: &[],
+        unit: Unit::Plain,
+        names: 0,
     },
 ];
 
@@ -3594,63 +3363,63 @@ const BITS_FLOW_KEY: [Named<'static>; 18] = [
 const LIST_FLOW: [Note<'static>; 12] = [
     Note {
         kernel: "TCA_FLOW_KEYS",
-        unit: "",
-        names: &BITS_FLOW_KEY,
+        unit: Unit::Plain,
+        names: 19,
     },
     Note {
         kernel: "TCA_FLOW_MODE",
-        unit: "",
-        names: &[],
+        unit: Unit::Plain,
+        names: 0,
     },
     Note {
         kernel: "TCA_FLOW_BASECLASS",
-        unit: "",
-        names: &[],
+        unit: Unit::Plain,
+        names: 0,
     },
     Note {
         kernel: "TCA_FLOW_RSHIFT",
-        unit: "",
-        names: &[],
+        unit: Unit::Plain,
+        names: 0,
     },
     Note {
         kernel: "TCA_FLOW_ADDEND",
-        unit: "",
-        names: &[],
+        unit: Unit::Plain,
+        names: 0,
     },
     Note {
         kernel: "TCA_FLOW_MASK",
-        unit: "",
-        names: &[],
+        unit: Unit::Plain,
+        names: 0,
     },
     Note {
         kernel: "TCA_FLOW_XOR",
-        unit: "",
-        names: &[],
+        unit: Unit::Plain,
+        names: 0,
     },
     Note {
         kernel: "TCA_FLOW_DIVISOR",
-        unit: "",
-        names: &[],
+        unit: Unit::Plain,
+        names: 0,
     },
     Note {
         kernel: "TCA_FLOW_ACT",
-        unit: "",
-        names: &[],
+        unit: Unit::Plain,
+        names: 0,
     },
     Note {
         kernel: "TCA_FLOW_POLICE",
-        unit: "",
-        names: &[],
+        unit: Unit::Plain,
+        names: 0,
     },
     Note {
         kernel: "TCA_FLOW_EMATCHES",
-        unit: "",
-        names: &[],
+        unit: Unit::Plain,
+        names: 0,
     },
     Note {
         kernel: "TCA_FLOW_PERTURB",
-        unit: "seconds",
-        names: &[],
+        unit: Unit::Seconds,
+        names: 0,
     },
 ];
 
@@ -3658,13 +3427,13 @@ const LIST_FLOW: [Note<'static>; 12] = [
 const ENUM_FLOW_MODE: [Note<'static>; 2] = [
     Note {
         kernel: "FLOW_MODE_MAP",
-        unit: "",
-        names: &[],
+        unit: Unit::Plain,
+        names: 0,
     },
     Note {
         kernel: "FLOW_MODE_HASH",
-        unit: "",
-        names: &[],
+        unit: Unit::Plain,
+        names: 0,
     },
 ];
 
@@ -3798,558 +3567,558 @@ const BITS_FLOWER_CT_FLAGS: [Named<'static>; 6] = [
 const LIST_FLOWER: [Note<'static>; 111] = [
     Note {
         kernel: "TCA_FLOWER_CLASSID",
-        unit: "",
-        names: &[],
+        unit: Unit::Plain,
+        names: 0,
     },
     Note {
         kernel: "TCA_FLOWER_INDEV",
-        unit: "",
-        names: &[],
+        unit: Unit::Plain,
+        names: 0,
     },
     Note {
         kernel: "TCA_FLOWER_ACT",
-        unit: "",
-        names: &[],
+        unit: Unit::Plain,
+        names: 0,
     },
     Note {
         kernel: "TCA_FLOWER_KEY_ETH_DST",
-        unit: "",
-        names: &[],
+        unit: Unit::Plain,
+        names: 0,
     },
     Note {
         kernel: "TCA_FLOWER_KEY_ETH_DST_MASK",
-        unit: "",
-        names: &[],
+        unit: Unit::Plain,
+        names: 0,
     },
     Note {
         kernel: "TCA_FLOWER_KEY_ETH_SRC",
-        unit: "",
-        names: &[],
+        unit: Unit::Plain,
+        names: 0,
     },
     Note {
         kernel: "TCA_FLOWER_KEY_ETH_SRC_MASK",
-        unit: "",
-        names: &[],
+        unit: Unit::Plain,
+        names: 0,
     },
     Note {
         kernel: "TCA_FLOWER_KEY_ETH_TYPE",
-        unit: "",
-        names: &NAMES_ETH_P,
+        unit: Unit::Plain,
+        names: 7,
     },
     Note {
         kernel: "TCA_FLOWER_KEY_IP_PROTO",
-        unit: "",
-        names: &NAMES_IP_PROTO,
+        unit: Unit::Plain,
+        names: 5,
     },
     Note {
         kernel: "TCA_FLOWER_KEY_IPV4_SRC",
-        unit: "",
-        names: &[],
+        unit: Unit::Plain,
+        names: 0,
     },
     Note {
         kernel: "TCA_FLOWER_KEY_IPV4_SRC_MASK",
-        unit: "",
-        names: &[],
+        unit: Unit::Plain,
+        names: 0,
     },
     Note {
         kernel: "TCA_FLOWER_KEY_IPV4_DST",
-        unit: "",
-        names: &[],
+        unit: Unit::Plain,
+        names: 0,
     },
     Note {
         kernel: "TCA_FLOWER_KEY_IPV4_DST_MASK",
-        unit: "",
-        names: &[],
+        unit: Unit::Plain,
+        names: 0,
     },
     Note {
         kernel: "TCA_FLOWER_KEY_IPV6_SRC",
-        unit: "",
-        names: &[],
+        unit: Unit::Plain,
+        names: 0,
     },
     Note {
         kernel: "TCA_FLOWER_KEY_IPV6_SRC_MASK",
-        unit: "",
-        names: &[],
+        unit: Unit::Plain,
+        names: 0,
     },
     Note {
         kernel: "TCA_FLOWER_KEY_IPV6_DST",
-        unit: "",
-        names: &[],
+        unit: Unit::Plain,
+        names: 0,
     },
     Note {
         kernel: "TCA_FLOWER_KEY_IPV6_DST_MASK",
-        unit: "",
-        names: &[],
+        unit: Unit::Plain,
+        names: 0,
     },
     Note {
         kernel: "TCA_FLOWER_KEY_TCP_SRC",
-        unit: "",
-        names: &[],
+        unit: Unit::Plain,
+        names: 0,
     },
     Note {
         kernel: "TCA_FLOWER_KEY_TCP_DST",
-        unit: "",
-        names: &[],
+        unit: Unit::Plain,
+        names: 0,
     },
     Note {
         kernel: "TCA_FLOWER_KEY_UDP_SRC",
-        unit: "",
-        names: &[],
+        unit: Unit::Plain,
+        names: 0,
     },
     Note {
         kernel: "TCA_FLOWER_KEY_UDP_DST",
-        unit: "",
-        names: &[],
+        unit: Unit::Plain,
+        names: 0,
     },
     Note {
         kernel: "TCA_FLOWER_FLAGS",
-        unit: "",
-        names: &BITS_TCA_CLS_FLAGS,
+        unit: Unit::Plain,
+        names: 18,
     },
     Note {
         kernel: "TCA_FLOWER_KEY_VLAN_ID",
-        unit: "",
-        names: &[],
+        unit: Unit::Plain,
+        names: 0,
     },
     Note {
         kernel: "TCA_FLOWER_KEY_VLAN_PRIO",
-        unit: "",
-        names: &[],
+        unit: Unit::Plain,
+        names: 0,
     },
     Note {
         kernel: "TCA_FLOWER_KEY_VLAN_ETH_TYPE",
-        unit: "",
-        names: &NAMES_ETH_P,
+        unit: Unit::Plain,
+        names: 7,
     },
     Note {
         kernel: "TCA_FLOWER_KEY_ENC_KEY_ID",
-        unit: "",
-        names: &[],
+        unit: Unit::Plain,
+        names: 0,
     },
     Note {
         kernel: "TCA_FLOWER_KEY_ENC_IPV4_SRC",
-        unit: "",
-        names: &[],
+        unit: Unit::Plain,
+        names: 0,
     },
     Note {
         kernel: "TCA_FLOWER_KEY_ENC_IPV4_SRC_MASK",
-        unit: "",
-        names: &[],
+        unit: Unit::Plain,
+        names: 0,
     },
     Note {
         kernel: "TCA_FLOWER_KEY_ENC_IPV4_DST",
-        unit: "",
-        names: &[],
+        unit: Unit::Plain,
+        names: 0,
     },
     Note {
         kernel: "TCA_FLOWER_KEY_ENC_IPV4_DST_MASK",
-        unit: "",
-        names: &[],
+        unit: Unit::Plain,
+        names: 0,
     },
     Note {
         kernel: "TCA_FLOWER_KEY_ENC_IPV6_SRC",
-        unit: "",
-        names: &[],
+        unit: Unit::Plain,
+        names: 0,
     },
     Note {
         kernel: "TCA_FLOWER_KEY_ENC_IPV6_SRC_MASK",
-        unit: "",
-        names: &[],
+        unit: Unit::Plain,
+        names: 0,
     },
     Note {
         kernel: "TCA_FLOWER_KEY_ENC_IPV6_DST",
-        unit: "",
-        names: &[],
+        unit: Unit::Plain,
+        names: 0,
     },
     Note {
         kernel: "TCA_FLOWER_KEY_ENC_IPV6_DST_MASK",
-        unit: "",
-        names: &[],
+        unit: Unit::Plain,
+        names: 0,
     },
     Note {
         kernel: "TCA_FLOWER_KEY_TCP_SRC_MASK",
-        unit: "",
-        names: &[],
+        unit: Unit::Plain,
+        names: 0,
     },
     Note {
         kernel: "TCA_FLOWER_KEY_TCP_DST_MASK",
-        unit: "",
-        names: &[],
+        unit: Unit::Plain,
+        names: 0,
     },
     Note {
         kernel: "TCA_FLOWER_KEY_UDP_SRC_MASK",
-        unit: "",
-        names: &[],
+        unit: Unit::Plain,
+        names: 0,
     },
     Note {
         kernel: "TCA_FLOWER_KEY_UDP_DST_MASK",
-        unit: "",
-        names: &[],
+        unit: Unit::Plain,
+        names: 0,
     },
     Note {
         kernel: "TCA_FLOWER_KEY_SCTP_SRC_MASK",
-        unit: "",
-        names: &[],
+        unit: Unit::Plain,
+        names: 0,
     },
     Note {
         kernel: "TCA_FLOWER_KEY_SCTP_DST_MASK",
-        unit: "",
-        names: &[],
+        unit: Unit::Plain,
+        names: 0,
     },
     Note {
         kernel: "TCA_FLOWER_KEY_SCTP_SRC",
-        unit: "",
-        names: &[],
+        unit: Unit::Plain,
+        names: 0,
     },
     Note {
         kernel: "TCA_FLOWER_KEY_SCTP_DST",
-        unit: "",
-        names: &[],
+        unit: Unit::Plain,
+        names: 0,
     },
     Note {
         kernel: "TCA_FLOWER_KEY_ENC_UDP_SRC_PORT",
-        unit: "",
-        names: &[],
+        unit: Unit::Plain,
+        names: 0,
     },
     Note {
         kernel: "TCA_FLOWER_KEY_ENC_UDP_SRC_PORT_MASK",
-        unit: "",
-        names: &[],
+        unit: Unit::Plain,
+        names: 0,
     },
     Note {
         kernel: "TCA_FLOWER_KEY_ENC_UDP_DST_PORT",
-        unit: "",
-        names: &[],
+        unit: Unit::Plain,
+        names: 0,
     },
     Note {
         kernel: "TCA_FLOWER_KEY_ENC_UDP_DST_PORT_MASK",
-        unit: "",
-        names: &[],
+        unit: Unit::Plain,
+        names: 0,
     },
     Note {
         kernel: "TCA_FLOWER_KEY_FLAGS",
-        unit: "",
-        names: &BITS_FLOWER_KEY_FLAGS,
+        unit: Unit::Plain,
+        names: 20,
     },
     Note {
         kernel: "TCA_FLOWER_KEY_FLAGS_MASK",
-        unit: "",
-        names: &BITS_FLOWER_KEY_FLAGS,
+        unit: Unit::Plain,
+        names: 20,
     },
     Note {
         kernel: "TCA_FLOWER_KEY_ICMPV4_CODE",
-        unit: "",
-        names: &[],
+        unit: Unit::Plain,
+        names: 0,
     },
     Note {
         kernel: "TCA_FLOWER_KEY_ICMPV4_CODE_MASK",
-        unit: "",
-        names: &[],
+        unit: Unit::Plain,
+        names: 0,
     },
     Note {
         kernel: "TCA_FLOWER_KEY_ICMPV4_TYPE",
-        unit: "",
-        names: &[],
+        unit: Unit::Plain,
+        names: 0,
     },
     Note {
         kernel: "TCA_FLOWER_KEY_ICMPV4_TYPE_MASK",
-        unit: "",
-        names: &[],
+        unit: Unit::Plain,
+        names: 0,
     },
     Note {
         kernel: "TCA_FLOWER_KEY_ICMPV6_CODE",
-        unit: "",
-        names: &[],
+        unit: Unit::Plain,
+        names: 0,
     },
     Note {
         kernel: "TCA_FLOWER_KEY_ICMPV6_CODE_MASK",
-        unit: "",
-        names: &[],
+        unit: Unit::Plain,
+        names: 0,
     },
     Note {
         kernel: "TCA_FLOWER_KEY_ICMPV6_TYPE",
-        unit: "",
-        names: &[],
+        unit: Unit::Plain,
+        names: 0,
     },
     Note {
         kernel: "TCA_FLOWER_KEY_ICMPV6_TYPE_MASK",
-        unit: "",
-        names: &[],
+        unit: Unit::Plain,
+        names: 0,
     },
     Note {
         kernel: "TCA_FLOWER_KEY_ARP_SIP",
-        unit: "",
-        names: &[],
+        unit: Unit::Plain,
+        names: 0,
     },
     Note {
         kernel: "TCA_FLOWER_KEY_ARP_SIP_MASK",
-        unit: "",
-        names: &[],
+        unit: Unit::Plain,
+        names: 0,
     },
     Note {
         kernel: "TCA_FLOWER_KEY_ARP_TIP",
-        unit: "",
-        names: &[],
+        unit: Unit::Plain,
+        names: 0,
     },
     Note {
         kernel: "TCA_FLOWER_KEY_ARP_TIP_MASK",
-        unit: "",
-        names: &[],
+        unit: Unit::Plain,
+        names: 0,
     },
     Note {
         kernel: "TCA_FLOWER_KEY_ARP_OP",
-        unit: "",
-        names: &NAMES_ARP_OP,
+        unit: Unit::Plain,
+        names: 21,
     },
     Note {
         kernel: "TCA_FLOWER_KEY_ARP_OP_MASK",
-        unit: "",
-        names: &[],
+        unit: Unit::Plain,
+        names: 0,
     },
     Note {
         kernel: "TCA_FLOWER_KEY_ARP_SHA",
-        unit: "",
-        names: &[],
+        unit: Unit::Plain,
+        names: 0,
     },
     Note {
         kernel: "TCA_FLOWER_KEY_ARP_SHA_MASK",
-        unit: "",
-        names: &[],
+        unit: Unit::Plain,
+        names: 0,
     },
     Note {
         kernel: "TCA_FLOWER_KEY_ARP_THA",
-        unit: "",
-        names: &[],
+        unit: Unit::Plain,
+        names: 0,
     },
     Note {
         kernel: "TCA_FLOWER_KEY_ARP_THA_MASK",
-        unit: "",
-        names: &[],
+        unit: Unit::Plain,
+        names: 0,
     },
     Note {
         kernel: "TCA_FLOWER_KEY_MPLS_TTL",
-        unit: "",
-        names: &[],
+        unit: Unit::Plain,
+        names: 0,
     },
     Note {
         kernel: "TCA_FLOWER_KEY_MPLS_BOS",
-        unit: "",
-        names: &[],
+        unit: Unit::Plain,
+        names: 0,
     },
     Note {
         kernel: "TCA_FLOWER_KEY_MPLS_TC",
-        unit: "",
-        names: &[],
+        unit: Unit::Plain,
+        names: 0,
     },
     Note {
         kernel: "TCA_FLOWER_KEY_MPLS_LABEL",
-        unit: "",
-        names: &[],
+        unit: Unit::Plain,
+        names: 0,
     },
     Note {
         kernel: "TCA_FLOWER_KEY_TCP_FLAGS",
-        unit: "",
-        names: &BITS_TCP_FLAGS,
+        unit: Unit::Plain,
+        names: 22,
     },
     Note {
         kernel: "TCA_FLOWER_KEY_TCP_FLAGS_MASK",
-        unit: "",
-        names: &BITS_TCP_FLAGS,
+        unit: Unit::Plain,
+        names: 22,
     },
     Note {
         kernel: "TCA_FLOWER_KEY_IP_TOS",
-        unit: "",
-        names: &[],
+        unit: Unit::Plain,
+        names: 0,
     },
     Note {
         kernel: "TCA_FLOWER_KEY_IP_TOS_MASK",
-        unit: "",
-        names: &[],
+        unit: Unit::Plain,
+        names: 0,
     },
     Note {
         kernel: "TCA_FLOWER_KEY_IP_TTL",
-        unit: "",
-        names: &[],
+        unit: Unit::Plain,
+        names: 0,
     },
     Note {
         kernel: "TCA_FLOWER_KEY_IP_TTL_MASK",
-        unit: "",
-        names: &[],
+        unit: Unit::Plain,
+        names: 0,
     },
     Note {
         kernel: "TCA_FLOWER_KEY_CVLAN_ID",
-        unit: "",
-        names: &[],
+        unit: Unit::Plain,
+        names: 0,
     },
     Note {
         kernel: "TCA_FLOWER_KEY_CVLAN_PRIO",
-        unit: "",
-        names: &[],
+        unit: Unit::Plain,
+        names: 0,
     },
     Note {
         kernel: "TCA_FLOWER_KEY_CVLAN_ETH_TYPE",
-        unit: "",
-        names: &NAMES_ETH_P,
+        unit: Unit::Plain,
+        names: 7,
     },
     Note {
         kernel: "TCA_FLOWER_KEY_ENC_IP_TOS",
-        unit: "",
-        names: &[],
+        unit: Unit::Plain,
+        names: 0,
     },
     Note {
         kernel: "TCA_FLOWER_KEY_ENC_IP_TOS_MASK",
-        unit: "",
-        names: &[],
+        unit: Unit::Plain,
+        names: 0,
     },
     Note {
         kernel: "TCA_FLOWER_KEY_ENC_IP_TTL",
-        unit: "",
-        names: &[],
+        unit: Unit::Plain,
+        names: 0,
     },
     Note {
         kernel: "TCA_FLOWER_KEY_ENC_IP_TTL_MASK",
-        unit: "",
-        names: &[],
+        unit: Unit::Plain,
+        names: 0,
     },
     Note {
         kernel: "TCA_FLOWER_KEY_ENC_OPTS",
-        unit: "",
-        names: &[],
+        unit: Unit::Plain,
+        names: 0,
     },
     Note {
         kernel: "TCA_FLOWER_KEY_ENC_OPTS_MASK",
-        unit: "",
-        names: &[],
+        unit: Unit::Plain,
+        names: 0,
     },
     Note {
         kernel: "TCA_FLOWER_IN_HW_COUNT",
-        unit: "",
-        names: &[],
+        unit: Unit::Plain,
+        names: 0,
     },
     Note {
         kernel: "TCA_FLOWER_KEY_PORT_SRC_MIN",
-        unit: "",
-        names: &[],
+        unit: Unit::Plain,
+        names: 0,
     },
     Note {
         kernel: "TCA_FLOWER_KEY_PORT_SRC_MAX",
-        unit: "",
-        names: &[],
+        unit: Unit::Plain,
+        names: 0,
     },
     Note {
         kernel: "TCA_FLOWER_KEY_PORT_DST_MIN",
-        unit: "",
-        names: &[],
+        unit: Unit::Plain,
+        names: 0,
     },
     Note {
         kernel: "TCA_FLOWER_KEY_PORT_DST_MAX",
-        unit: "",
-        names: &[],
+        unit: Unit::Plain,
+        names: 0,
     },
     Note {
         kernel: "TCA_FLOWER_KEY_CT_STATE",
-        unit: "",
-        names: &BITS_FLOWER_CT_FLAGS,
+        unit: Unit::Plain,
+        names: 23,
     },
     Note {
         kernel: "TCA_FLOWER_KEY_CT_STATE_MASK",
-        unit: "",
-        names: &BITS_FLOWER_CT_FLAGS,
+        unit: Unit::Plain,
+        names: 23,
     },
     Note {
         kernel: "TCA_FLOWER_KEY_CT_ZONE",
-        unit: "",
-        names: &[],
+        unit: Unit::Plain,
+        names: 0,
     },
     Note {
         kernel: "TCA_FLOWER_KEY_CT_ZONE_MASK",
-        unit: "",
-        names: &[],
+        unit: Unit::Plain,
+        names: 0,
     },
     Note {
         kernel: "TCA_FLOWER_KEY_CT_MARK",
-        unit: "",
-        names: &[],
+        unit: Unit::Plain,
+        names: 0,
     },
     Note {
         kernel: "TCA_FLOWER_KEY_CT_MARK_MASK",
-        unit: "",
-        names: &[],
+        unit: Unit::Plain,
+        names: 0,
     },
     Note {
         kernel: "TCA_FLOWER_KEY_CT_LABELS",
-        unit: "",
-        names: &[],
+        unit: Unit::Plain,
+        names: 0,
     },
     Note {
         kernel: "TCA_FLOWER_KEY_CT_LABELS_MASK",
-        unit: "",
-        names: &[],
+        unit: Unit::Plain,
+        names: 0,
     },
     Note {
         kernel: "TCA_FLOWER_KEY_MPLS_OPTS",
-        unit: "",
-        names: &[],
+        unit: Unit::Plain,
+        names: 0,
     },
     Note {
         kernel: "TCA_FLOWER_KEY_HASH",
-        unit: "",
-        names: &[],
+        unit: Unit::Plain,
+        names: 0,
     },
     Note {
         kernel: "TCA_FLOWER_KEY_HASH_MASK",
-        unit: "",
-        names: &[],
+        unit: Unit::Plain,
+        names: 0,
     },
     Note {
         kernel: "TCA_FLOWER_KEY_NUM_OF_VLANS",
-        unit: "",
-        names: &[],
+        unit: Unit::Plain,
+        names: 0,
     },
     Note {
         kernel: "TCA_FLOWER_KEY_PPPOE_SID",
-        unit: "",
-        names: &[],
+        unit: Unit::Plain,
+        names: 0,
     },
     Note {
         kernel: "TCA_FLOWER_KEY_PPP_PROTO",
-        unit: "",
-        names: &[],
+        unit: Unit::Plain,
+        names: 0,
     },
     Note {
         kernel: "TCA_FLOWER_KEY_L2TPV3_SID",
-        unit: "",
-        names: &[],
+        unit: Unit::Plain,
+        names: 0,
     },
     Note {
         kernel: "TCA_FLOWER_L2_MISS",
-        unit: "",
-        names: &[],
+        unit: Unit::Plain,
+        names: 0,
     },
     Note {
         kernel: "TCA_FLOWER_KEY_CFM",
-        unit: "",
-        names: &[],
+        unit: Unit::Plain,
+        names: 0,
     },
     Note {
         kernel: "TCA_FLOWER_KEY_SPI",
-        unit: "",
-        names: &[],
+        unit: Unit::Plain,
+        names: 0,
     },
     Note {
         kernel: "TCA_FLOWER_KEY_SPI_MASK",
-        unit: "",
-        names: &[],
+        unit: Unit::Plain,
+        names: 0,
     },
     Note {
         kernel: "TCA_FLOWER_KEY_ENC_FLAGS",
-        unit: "",
-        names: &BITS_FLOWER_KEY_FLAGS,
+        unit: Unit::Plain,
+        names: 20,
     },
     Note {
         kernel: "TCA_FLOWER_KEY_ENC_FLAGS_MASK",
-        unit: "",
-        names: &BITS_FLOWER_KEY_FLAGS,
+        unit: Unit::Plain,
+        names: 20,
     },
 ];
 
@@ -4357,28 +4126,28 @@ const LIST_FLOWER: [Note<'static>; 111] = [
 const LIST_ENC_OPTS: [Note<'static>; 5] = [
     Note {
         kernel: "TCA_FLOWER_KEY_ENC_OPTS_GENEVE",
-        unit: "",
-        names: &[],
+        unit: Unit::Plain,
+        names: 0,
     },
     Note {
         kernel: "TCA_FLOWER_KEY_ENC_OPTS_VXLAN",
-        unit: "",
-        names: &[],
+        unit: Unit::Plain,
+        names: 0,
     },
     Note {
         kernel: "TCA_FLOWER_KEY_ENC_OPTS_ERSPAN",
-        unit: "",
-        names: &[],
+        unit: Unit::Plain,
+        names: 0,
     },
     Note {
         kernel: "TCA_FLOWER_KEY_ENC_OPTS_GTP",
-        unit: "",
-        names: &[],
+        unit: Unit::Plain,
+        names: 0,
     },
     Note {
         kernel: "TCA_FLOWER_KEY_ENC_OPTS_PFCP",
-        unit: "",
-        names: &[],
+        unit: Unit::Plain,
+        names: 0,
     },
 ];
 
@@ -4386,49 +4155,49 @@ const LIST_ENC_OPTS: [Note<'static>; 5] = [
 const LIST_ENC_OPT_GENEVE: [Note<'static>; 3] = [
     Note {
         kernel: "TCA_FLOWER_KEY_ENC_OPT_GENEVE_CLASS",
-        unit: "",
-        names: &[],
+        unit: Unit::Plain,
+        names: 0,
     },
     Note {
         kernel: "TCA_FLOWER_KEY_ENC_OPT_GENEVE_TYPE",
-        unit: "",
-        names: &[],
+        unit: Unit::Plain,
+        names: 0,
     },
     Note {
         kernel: "TCA_FLOWER_KEY_ENC_OPT_GENEVE_DATA",
-        unit: "",
-        names: &[],
+        unit: Unit::Plain,
+        names: 0,
     },
 ];
 
 // `list enc_opt_vxlan`
 const LIST_ENC_OPT_VXLAN: [Note<'static>; 1] = [Note {
     kernel: "TCA_FLOWER_KEY_ENC_OPT_VXLAN_GBP",
-    unit: "",
-    names: &[],
+    unit: Unit::Plain,
+    names: 0,
 }];
 
 // `list enc_opt_erspan`
 const LIST_ENC_OPT_ERSPAN: [Note<'static>; 4] = [
     Note {
         kernel: "TCA_FLOWER_KEY_ENC_OPT_ERSPAN_VER",
-        unit: "",
-        names: &[],
+        unit: Unit::Plain,
+        names: 0,
     },
     Note {
         kernel: "TCA_FLOWER_KEY_ENC_OPT_ERSPAN_INDEX",
-        unit: "",
-        names: &[],
+        unit: Unit::Plain,
+        names: 0,
     },
     Note {
         kernel: "TCA_FLOWER_KEY_ENC_OPT_ERSPAN_DIR",
-        unit: "",
-        names: &[],
+        unit: Unit::Plain,
+        names: 0,
     },
     Note {
         kernel: "TCA_FLOWER_KEY_ENC_OPT_ERSPAN_HWID",
-        unit: "",
-        names: &[],
+        unit: Unit::Plain,
+        names: 0,
     },
 ];
 
@@ -4436,13 +4205,13 @@ const LIST_ENC_OPT_ERSPAN: [Note<'static>; 4] = [
 const LIST_ENC_OPT_GTP: [Note<'static>; 2] = [
     Note {
         kernel: "TCA_FLOWER_KEY_ENC_OPT_GTP_PDU_TYPE",
-        unit: "",
-        names: &[],
+        unit: Unit::Plain,
+        names: 0,
     },
     Note {
         kernel: "TCA_FLOWER_KEY_ENC_OPT_GTP_QFI",
-        unit: "",
-        names: &[],
+        unit: Unit::Plain,
+        names: 0,
     },
 ];
 
@@ -4450,13 +4219,13 @@ const LIST_ENC_OPT_GTP: [Note<'static>; 2] = [
 const LIST_ENC_OPT_PFCP: [Note<'static>; 2] = [
     Note {
         kernel: "TCA_FLOWER_KEY_ENC_OPT_PFCP_TYPE",
-        unit: "",
-        names: &[],
+        unit: Unit::Plain,
+        names: 0,
     },
     Note {
         kernel: "TCA_FLOWER_KEY_ENC_OPT_PFCP_SEID",
-        unit: "",
-        names: &[],
+        unit: Unit::Plain,
+        names: 0,
     },
 ];
 
@@ -4464,49 +4233,49 @@ const LIST_ENC_OPT_PFCP: [Note<'static>; 2] = [
 const LIST_CFM: [Note<'static>; 2] = [
     Note {
         kernel: "TCA_FLOWER_KEY_CFM_MD_LEVEL",
-        unit: "",
-        names: &[],
+        unit: Unit::Plain,
+        names: 0,
     },
     Note {
         kernel: "TCA_FLOWER_KEY_CFM_OPCODE",
-        unit: "",
-        names: &[],
+        unit: Unit::Plain,
+        names: 0,
     },
 ];
 
 // `list mpls_opts`
 const LIST_MPLS_OPTS: [Note<'static>; 1] = [Note {
     kernel: "TCA_FLOWER_KEY_MPLS_OPTS_LSE",
-    unit: "",
-    names: &[],
+    unit: Unit::Plain,
+    names: 0,
 }];
 
 // `list mpls_lse`
 const LIST_MPLS_LSE: [Note<'static>; 5] = [
     Note {
         kernel: "TCA_FLOWER_KEY_MPLS_OPT_LSE_DEPTH",
-        unit: "",
-        names: &[],
+        unit: Unit::Plain,
+        names: 0,
     },
     Note {
         kernel: "TCA_FLOWER_KEY_MPLS_OPT_LSE_TTL",
-        unit: "",
-        names: &[],
+        unit: Unit::Plain,
+        names: 0,
     },
     Note {
         kernel: "TCA_FLOWER_KEY_MPLS_OPT_LSE_BOS",
-        unit: "",
-        names: &[],
+        unit: Unit::Plain,
+        names: 0,
     },
     Note {
         kernel: "TCA_FLOWER_KEY_MPLS_OPT_LSE_TC",
-        unit: "",
-        names: &[],
+        unit: Unit::Plain,
+        names: 0,
     },
     Note {
         kernel: "TCA_FLOWER_KEY_MPLS_OPT_LSE_LABEL",
-        unit: "",
-        names: &[],
+        unit: Unit::Plain,
+        names: 0,
     },
 ];
 
@@ -4514,28 +4283,28 @@ const LIST_MPLS_LSE: [Note<'static>; 5] = [
 const LIST_FW: [Note<'static>; 5] = [
     Note {
         kernel: "TCA_FW_CLASSID",
-        unit: "",
-        names: &[],
+        unit: Unit::Plain,
+        names: 0,
     },
     Note {
         kernel: "TCA_FW_POLICE",
-        unit: "",
-        names: &[],
+        unit: Unit::Plain,
+        names: 0,
     },
     Note {
         kernel: "TCA_FW_INDEV",
-        unit: "",
-        names: &[],
+        unit: Unit::Plain,
+        names: 0,
     },
     Note {
         kernel: "TCA_FW_ACT",
-        unit: "",
-        names: &[],
+        unit: Unit::Plain,
+        names: 0,
     },
     Note {
         kernel: "TCA_FW_MASK",
-        unit: "",
-        names: &[],
+        unit: Unit::Plain,
+        names: 0,
     },
 ];
 
@@ -4543,69 +4312,69 @@ const LIST_FW: [Note<'static>; 5] = [
 const LIST_MATCHALL: [Note<'static>; 5] = [
     Note {
         kernel: "TCA_MATCHALL_CLASSID",
-        unit: "",
-        names: &[],
+        unit: Unit::Plain,
+        names: 0,
     },
     Note {
         kernel: "TCA_MATCHALL_ACT",
-        unit: "",
-        names: &[],
+        unit: Unit::Plain,
+        names: 0,
     },
     Note {
         kernel: "TCA_MATCHALL_FLAGS",
-        unit: "",
-        names: &BITS_TCA_CLS_FLAGS,
+        unit: Unit::Plain,
+        names: 18,
     },
     Note {
         kernel: "TCA_MATCHALL_PCNT",
-        unit: "",
-        names: &[],
+        unit: Unit::Plain,
+        names: 0,
     },
     Note {
         kernel: "TCA_MATCHALL_PAD",
-        unit: "",
-        names: &[],
+        unit: Unit::Plain,
+        names: 0,
     },
 ];
 
 // `struct tc_matchall_pcnt`
 const STRUCT_TC_MATCHALL_PCNT: [Note<'static>; 1] = [Note {
     kernel: "",
-    unit: "packets",
-    names: &[],
+    unit: Unit::Packets,
+    names: 0,
 }];
 
 // `list route`
 const LIST_ROUTE: [Note<'static>; 6] = [
     Note {
         kernel: "TCA_ROUTE4_CLASSID",
-        unit: "",
-        names: &[],
+        unit: Unit::Plain,
+        names: 0,
     },
     Note {
         kernel: "TCA_ROUTE4_TO",
-        unit: "",
-        names: &[],
+        unit: Unit::Plain,
+        names: 0,
     },
     Note {
         kernel: "TCA_ROUTE4_FROM",
-        unit: "",
-        names: &[],
+        unit: Unit::Plain,
+        names: 0,
     },
     Note {
         kernel: "TCA_ROUTE4_IIF",
-        unit: "interface",
-        names: &[],
+        unit: Unit::Interface,
+        names: 0,
     },
     Note {
         kernel: "TCA_ROUTE4_POLICE",
-        unit: "",
-        names: &[],
+        unit: Unit::Plain,
+        names: 0,
     },
     Note {
         kernel: "TCA_ROUTE4_ACT",
-        unit: "",
-        names: &[],
+        unit: Unit::Plain,
+        names: 0,
     },
 ];
 
@@ -4613,33 +4382,33 @@ const LIST_ROUTE: [Note<'static>; 6] = [
 const LIST_RSVP: [Note<'static>; 6] = [
     Note {
         kernel: "TCA_RSVP_CLASSID",
-        unit: "",
-        names: &[],
+        unit: Unit::Plain,
+        names: 0,
     },
     Note {
         kernel: "TCA_RSVP_DST",
-        unit: "",
-        names: &[],
+        unit: Unit::Plain,
+        names: 0,
     },
     Note {
         kernel: "TCA_RSVP_SRC",
-        unit: "",
-        names: &[],
+        unit: Unit::Plain,
+        names: 0,
     },
     Note {
         kernel: "TCA_RSVP_PINFO",
-        unit: "",
-        names: &[],
+        unit: Unit::Plain,
+        names: 0,
     },
     Note {
         kernel: "TCA_RSVP_POLICE",
-        unit: "",
-        names: &[],
+        unit: Unit::Plain,
+        names: 0,
     },
     Note {
         kernel: "TCA_RSVP_ACT",
-        unit: "",
-        names: &[],
+        unit: Unit::Plain,
+        names: 0,
     },
 ];
 
@@ -4647,33 +4416,33 @@ const LIST_RSVP: [Note<'static>; 6] = [
 const STRUCT_TC_RSVP_PINFO: [Note<'static>; 6] = [
     Note {
         kernel: "",
-        unit: "",
-        names: &[],
+        unit: Unit::Plain,
+        names: 0,
     },
     Note {
         kernel: "",
-        unit: "",
-        names: &[],
+        unit: Unit::Plain,
+        names: 0,
     },
     Note {
         kernel: "",
-        unit: "",
-        names: &NAMES_IP_PROTO,
+        unit: Unit::Plain,
+        names: 5,
     },
     Note {
         kernel: "",
-        unit: "",
-        names: &[],
+        unit: Unit::Plain,
+        names: 0,
     },
     Note {
         kernel: "",
-        unit: "",
-        names: &[],
+        unit: Unit::Plain,
+        names: 0,
     },
     Note {
         kernel: "",
-        unit: "",
-        names: &[],
+        unit: Unit::Plain,
+        names: 0,
     },
 ];
 
@@ -4681,38 +4450,38 @@ const STRUCT_TC_RSVP_PINFO: [Note<'static>; 6] = [
 const LIST_TCINDEX: [Note<'static>; 7] = [
     Note {
         kernel: "TCA_TCINDEX_HASH",
-        unit: "",
-        names: &[],
+        unit: Unit::Plain,
+        names: 0,
     },
     Note {
         kernel: "TCA_TCINDEX_MASK",
-        unit: "",
-        names: &[],
+        unit: Unit::Plain,
+        names: 0,
     },
     Note {
         kernel: "TCA_TCINDEX_SHIFT",
-        unit: "",
-        names: &[],
+        unit: Unit::Plain,
+        names: 0,
     },
     Note {
         kernel: "TCA_TCINDEX_FALL_THROUGH",
-        unit: "",
-        names: &[],
+        unit: Unit::Plain,
+        names: 0,
     },
     Note {
         kernel: "TCA_TCINDEX_CLASSID",
-        unit: "",
-        names: &[],
+        unit: Unit::Plain,
+        names: 0,
     },
     Note {
         kernel: "TCA_TCINDEX_POLICE",
-        unit: "",
-        names: &[],
+        unit: Unit::Plain,
+        names: 0,
     },
     Note {
         kernel: "TCA_TCINDEX_ACT",
-        unit: "",
-        names: &[],
+        unit: Unit::Plain,
+        names: 0,
     },
 ];
 
@@ -4720,63 +4489,63 @@ const LIST_TCINDEX: [Note<'static>; 7] = [
 const LIST_U32: [Note<'static>; 12] = [
     Note {
         kernel: "TCA_U32_CLASSID",
-        unit: "",
-        names: &[],
+        unit: Unit::Plain,
+        names: 0,
     },
     Note {
         kernel: "TCA_U32_HASH",
-        unit: "",
-        names: &[],
+        unit: Unit::Plain,
+        names: 0,
     },
     Note {
         kernel: "TCA_U32_LINK",
-        unit: "",
-        names: &[],
+        unit: Unit::Plain,
+        names: 0,
     },
     Note {
         kernel: "TCA_U32_DIVISOR",
-        unit: "",
-        names: &[],
+        unit: Unit::Plain,
+        names: 0,
     },
     Note {
         kernel: "TCA_U32_SEL",
-        unit: "",
-        names: &[],
+        unit: Unit::Plain,
+        names: 0,
     },
     Note {
         kernel: "TCA_U32_POLICE",
-        unit: "",
-        names: &[],
+        unit: Unit::Plain,
+        names: 0,
     },
     Note {
         kernel: "TCA_U32_ACT",
-        unit: "",
-        names: &[],
+        unit: Unit::Plain,
+        names: 0,
     },
     Note {
         kernel: "TCA_U32_INDEV",
-        unit: "",
-        names: &[],
+        unit: Unit::Plain,
+        names: 0,
     },
     Note {
         kernel: "TCA_U32_PCNT",
-        unit: "",
-        names: &[],
+        unit: Unit::Plain,
+        names: 0,
     },
     Note {
         kernel: "TCA_U32_MARK",
-        unit: "",
-        names: &[],
+        unit: Unit::Plain,
+        names: 0,
     },
     Note {
         kernel: "TCA_U32_FLAGS",
-        unit: "",
-        names: &BITS_TCA_CLS_FLAGS,
+        unit: Unit::Plain,
+        names: 18,
     },
     Note {
         kernel: "TCA_U32_PAD",
-        unit: "",
-        names: &[],
+        unit: Unit::Plain,
+        names: 0,
     },
 ];
 
@@ -4808,53 +4577,53 @@ const BITS_TC_U32: [Named<'static>; 4] = [
 const STRUCT_TC_U32_SEL: [Note<'static>; 10] = [
     Note {
         kernel: "",
-        unit: "",
-        names: &BITS_TC_U32,
+        unit: Unit::Plain,
+        names: 24,
     },
     Note {
         kernel: "",
-        unit: "",
-        names: &[],
+        unit: Unit::Plain,
+        names: 0,
     },
     Note {
         kernel: "",
-        unit: "",
-        names: &[],
+        unit: Unit::Plain,
+        names: 0,
     },
     Note {
         kernel: "",
-        unit: "",
-        names: &[],
+        unit: Unit::Plain,
+        names: 0,
     },
     Note {
         kernel: "",
-        unit: "",
-        names: &[],
+        unit: Unit::Plain,
+        names: 0,
     },
     Note {
         kernel: "",
-        unit: "bytes",
-        names: &[],
+        unit: Unit::Bytes,
+        names: 0,
     },
     Note {
         kernel: "",
-        unit: "bytes",
-        names: &[],
+        unit: Unit::Bytes,
+        names: 0,
     },
     Note {
         kernel: "",
-        unit: "bytes",
-        names: &[],
+        unit: Unit::Bytes,
+        names: 0,
     },
     Note {
         kernel: "",
-        unit: "",
-        names: &[],
+        unit: Unit::Plain,
+        names: 0,
     },
     Note {
         kernel: "",
-        unit: "",
-        names: &[],
+        unit: Unit::Plain,
+        names: 0,
     },
 ];
 
@@ -4862,23 +4631,23 @@ const STRUCT_TC_U32_SEL: [Note<'static>; 10] = [
 const STRUCT_TC_U32_KEY: [Note<'static>; 4] = [
     Note {
         kernel: "",
-        unit: "",
-        names: &[],
+        unit: Unit::Plain,
+        names: 0,
     },
     Note {
         kernel: "",
-        unit: "",
-        names: &[],
+        unit: Unit::Plain,
+        names: 0,
     },
     Note {
         kernel: "",
-        unit: "bytes",
-        names: &[],
+        unit: Unit::Bytes,
+        names: 0,
     },
     Note {
         kernel: "",
-        unit: "",
-        names: &[],
+        unit: Unit::Plain,
+        names: 0,
     },
 ];
 
@@ -4886,18 +4655,18 @@ const STRUCT_TC_U32_KEY: [Note<'static>; 4] = [
 const STRUCT_TC_U32_PCNT: [Note<'static>; 3] = [
     Note {
         kernel: "",
-        unit: "packets",
-        names: &[],
+        unit: Unit::Packets,
+        names: 0,
     },
     Note {
         kernel: "",
-        unit: "packets",
-        names: &[],
+        unit: Unit::Packets,
+        names: 0,
     },
     Note {
         kernel: "",
-        unit: "packets",
-        names: &[],
+        unit: Unit::Packets,
+        names: 0,
     },
 ];
 
@@ -4905,33 +4674,33 @@ const STRUCT_TC_U32_PCNT: [Note<'static>; 3] = [
 const STRUCT_TCMSG: [Note<'static>; 6] = [
     Note {
         kernel: "",
-        unit: "",
-        names: &[],
+        unit: Unit::Plain,
+        names: 0,
     },
     Note {
         kernel: "",
-        unit: "",
-        names: &[],
+        unit: Unit::Plain,
+        names: 0,
     },
     Note {
         kernel: "",
-        unit: "interface",
-        names: &[],
+        unit: Unit::Interface,
+        names: 0,
     },
     Note {
         kernel: "",
-        unit: "",
-        names: &[],
+        unit: Unit::Plain,
+        names: 0,
     },
     Note {
         kernel: "",
-        unit: "",
-        names: &[],
+        unit: Unit::Plain,
+        names: 0,
     },
     Note {
         kernel: "",
-        unit: "",
-        names: &[],
+        unit: Unit::Plain,
+        names: 0,
     },
 ];
 
@@ -4939,43 +4708,43 @@ const STRUCT_TCMSG: [Note<'static>; 6] = [
 const ENUM_ADDRESS_FAMILY: [Note<'static>; 8] = [
     Note {
         kernel: "AF_UNSPEC",
-        unit: "",
-        names: &[],
+        unit: Unit::Plain,
+        names: 0,
     },
     Note {
         kernel: "AF_UNIX",
-        unit: "",
-        names: &[],
+        unit: Unit::Plain,
+        names: 0,
     },
     Note {
         kernel: "AF_INET",
-        unit: "",
-        names: &[],
+        unit: Unit::Plain,
+        names: 0,
     },
     Note {
         kernel: "AF_BRIDGE",
-        unit: "",
-        names: &[],
+        unit: Unit::Plain,
+        names: 0,
     },
     Note {
         kernel: "AF_INET6",
-        unit: "",
-        names: &[],
+        unit: Unit::Plain,
+        names: 0,
     },
     Note {
         kernel: "AF_NETLINK",
-        unit: "",
-        names: &[],
+        unit: Unit::Plain,
+        names: 0,
     },
     Note {
         kernel: "AF_PACKET",
-        unit: "",
-        names: &[],
+        unit: Unit::Plain,
+        names: 0,
     },
     Note {
         kernel: "AF_MPLS",
-        unit: "",
-        names: &[],
+        unit: Unit::Plain,
+        names: 0,
     },
 ];
 
@@ -4983,68 +4752,68 @@ const ENUM_ADDRESS_FAMILY: [Note<'static>; 8] = [
 const LIST_TC_OF_ALL: [Note<'static>; 13] = [
     Note {
         kernel: "TCA_STATS",
-        unit: "",
-        names: &[],
+        unit: Unit::Plain,
+        names: 0,
     },
     Note {
         kernel: "TCA_RATE",
-        unit: "",
-        names: &[],
+        unit: Unit::Plain,
+        names: 0,
     },
     Note {
         kernel: "TCA_FCNT",
-        unit: "",
-        names: &[],
+        unit: Unit::Plain,
+        names: 0,
     },
     Note {
         kernel: "TCA_STATS2",
-        unit: "",
-        names: &[],
+        unit: Unit::Plain,
+        names: 0,
     },
     Note {
         kernel: "TCA_STAB",
-        unit: "",
-        names: &[],
+        unit: Unit::Plain,
+        names: 0,
     },
     Note {
         kernel: "TCA_PAD",
-        unit: "",
-        names: &[],
+        unit: Unit::Plain,
+        names: 0,
     },
     Note {
         kernel: "TCA_DUMP_INVISIBLE",
-        unit: "",
-        names: &[],
+        unit: Unit::Plain,
+        names: 0,
     },
     Note {
         kernel: "TCA_CHAIN",
-        unit: "",
-        names: &[],
+        unit: Unit::Plain,
+        names: 0,
     },
     Note {
         kernel: "TCA_HW_OFFLOAD",
-        unit: "",
-        names: &[],
+        unit: Unit::Plain,
+        names: 0,
     },
     Note {
         kernel: "TCA_INGRESS_BLOCK",
-        unit: "",
-        names: &[],
+        unit: Unit::Plain,
+        names: 0,
     },
     Note {
         kernel: "TCA_EGRESS_BLOCK",
-        unit: "",
-        names: &[],
+        unit: Unit::Plain,
+        names: 0,
     },
     Note {
         kernel: "TCA_DUMP_FLAGS",
-        unit: "",
-        names: &[],
+        unit: Unit::Plain,
+        names: 0,
     },
     Note {
         kernel: "TCA_EXT_WARN_MSG",
-        unit: "",
-        names: &[],
+        unit: Unit::Plain,
+        names: 0,
     },
 ];
 
@@ -5059,13 +4828,13 @@ const BITS_TCA_DUMP_FLAGS: [Named<'static>; 1] = [Named {
 const STRUCT_TCA_DUMP_FLAGS: [Note<'static>; 2] = [
     Note {
         kernel: "",
-        unit: "",
-        names: &BITS_TCA_DUMP_FLAGS,
+        unit: Unit::Plain,
+        names: 25,
     },
     Note {
         kernel: "",
-        unit: "",
-        names: &BITS_TCA_DUMP_FLAGS,
+        unit: Unit::Plain,
+        names: 25,
     },
 ];
 
@@ -5073,28 +4842,28 @@ const STRUCT_TCA_DUMP_FLAGS: [Note<'static>; 2] = [
 const LIST_ACTION_MESSAGE: [Note<'static>; 5] = [
     Note {
         kernel: "TCA_ROOT_TAB",
-        unit: "",
-        names: &[],
+        unit: Unit::Plain,
+        names: 0,
     },
     Note {
         kernel: "TCA_ROOT_FLAGS",
-        unit: "",
-        names: &[],
+        unit: Unit::Plain,
+        names: 0,
     },
     Note {
         kernel: "TCA_ROOT_COUNT",
-        unit: "",
-        names: &[],
+        unit: Unit::Plain,
+        names: 0,
     },
     Note {
         kernel: "TCA_ROOT_TIME_DELTA",
-        unit: "milliseconds",
-        names: &[],
+        unit: Unit::Milliseconds,
+        names: 0,
     },
     Note {
         kernel: "TCA_ROOT_EXT_WARN_MSG",
-        unit: "",
-        names: &[],
+        unit: Unit::Plain,
+        names: 0,
     },
 ];
 
@@ -5116,13 +4885,13 @@ const BITS_TCA_ACT_FLAG: [Named<'static>; 2] = [
 const STRUCT_TCA_ROOT_FLAGS: [Note<'static>; 2] = [
     Note {
         kernel: "",
-        unit: "",
-        names: &BITS_TCA_ACT_FLAG,
+        unit: Unit::Plain,
+        names: 26,
     },
     Note {
         kernel: "",
-        unit: "",
-        names: &BITS_TCA_ACT_FLAG,
+        unit: Unit::Plain,
+        names: 26,
     },
 ];
 
@@ -5130,33 +4899,33 @@ const STRUCT_TCA_ROOT_FLAGS: [Note<'static>; 2] = [
 const LIST_ATM: [Note<'static>; 6] = [
     Note {
         kernel: "TCA_ATM_FD",
-        unit: "",
-        names: &[],
+        unit: Unit::Plain,
+        names: 0,
     },
     Note {
         kernel: "TCA_ATM_PTR",
-        unit: "",
-        names: &[],
+        unit: Unit::Plain,
+        names: 0,
     },
     Note {
         kernel: "TCA_ATM_HDR",
-        unit: "",
-        names: &[],
+        unit: Unit::Plain,
+        names: 0,
     },
     Note {
         kernel: "TCA_ATM_EXCESS",
-        unit: "",
-        names: &[],
+        unit: Unit::Plain,
+        names: 0,
     },
     Note {
         kernel: "TCA_ATM_ADDR",
-        unit: "",
-        names: &[],
+        unit: Unit::Plain,
+        names: 0,
     },
     Note {
         kernel: "TCA_ATM_STATE",
-        unit: "",
-        names: &[],
+        unit: Unit::Plain,
+        names: 0,
     },
 ];
 
@@ -5164,93 +4933,93 @@ const LIST_ATM: [Note<'static>; 6] = [
 const LIST_CAKE: [Note<'static>; 18] = [
     Note {
         kernel: "TCA_CAKE_PAD",
-        unit: "",
-        names: &[],
+        unit: Unit::Plain,
+        names: 0,
     },
     Note {
         kernel: "TCA_CAKE_BASE_RATE64",
-        unit: "bytes a second",
-        names: &[],
+        unit: Unit::BytesPerSecond,
+        names: 0,
     },
     Note {
         kernel: "TCA_CAKE_DIFFSERV_MODE",
-        unit: "",
-        names: &[],
+        unit: Unit::Plain,
+        names: 0,
     },
     Note {
         kernel: "TCA_CAKE_ATM",
-        unit: "",
-        names: &[],
+        unit: Unit::Plain,
+        names: 0,
     },
     Note {
         kernel: "TCA_CAKE_FLOW_MODE",
-        unit: "",
-        names: &[],
+        unit: Unit::Plain,
+        names: 0,
     },
     Note {
         kernel: "TCA_CAKE_OVERHEAD",
-        unit: "bytes",
-        names: &[],
+        unit: Unit::Bytes,
+        names: 0,
     },
     Note {
         kernel: "TCA_CAKE_RTT",
-        unit: "microseconds",
-        names: &[],
+        unit: Unit::Microseconds,
+        names: 0,
     },
     Note {
         kernel: "TCA_CAKE_TARGET",
-        unit: "microseconds",
-        names: &[],
+        unit: Unit::Microseconds,
+        names: 0,
     },
     Note {
         kernel: "TCA_CAKE_AUTORATE",
-        unit: "",
-        names: &[],
+        unit: Unit::Plain,
+        names: 0,
     },
     Note {
         kernel: "TCA_CAKE_MEMORY",
-        unit: "bytes",
-        names: &[],
+        unit: Unit::Bytes,
+        names: 0,
     },
     Note {
         kernel: "TCA_CAKE_NAT",
-        unit: "",
-        names: &[],
+        unit: Unit::Plain,
+        names: 0,
     },
     Note {
         kernel: "TCA_CAKE_RAW",
-        unit: "",
-        names: &[],
+        unit: Unit::Plain,
+        names: 0,
     },
     Note {
         kernel: "TCA_CAKE_WASH",
-        unit: "",
-        names: &[],
+        unit: Unit::Plain,
+        names: 0,
     },
     Note {
         kernel: "TCA_CAKE_MPU",
-        unit: "bytes",
-        names: &[],
+        unit: Unit::Bytes,
+        names: 0,
     },
     Note {
         kernel: "TCA_CAKE_INGRESS",
-        unit: "",
-        names: &[],
+        unit: Unit::Plain,
+        names: 0,
     },
     Note {
         kernel: "TCA_CAKE_ACK_FILTER",
-        unit: "",
-        names: &[],
+        unit: Unit::Plain,
+        names: 0,
     },
     Note {
         kernel: "TCA_CAKE_SPLIT_GSO",
-        unit: "",
-        names: &[],
+        unit: Unit::Plain,
+        names: 0,
     },
     Note {
         kernel: "TCA_CAKE_FWMARK",
-        unit: "",
-        names: &[],
+        unit: Unit::Plain,
+        names: 0,
     },
 ];
 
@@ -5258,83 +5027,83 @@ const LIST_CAKE: [Note<'static>; 18] = [
 const LIST_CAKE_STATS: [Note<'static>; 16] = [
     Note {
         kernel: "TCA_CAKE_STATS_PAD",
-        unit: "",
-        names: &[],
+        unit: Unit::Plain,
+        names: 0,
     },
     Note {
         kernel: "TCA_CAKE_STATS_CAPACITY_ESTIMATE64",
-        unit: "bytes a second",
-        names: &[],
+        unit: Unit::BytesPerSecond,
+        names: 0,
     },
     Note {
         kernel: "TCA_CAKE_STATS_MEMORY_LIMIT",
-        unit: "bytes",
-        names: &[],
+        unit: Unit::Bytes,
+        names: 0,
     },
     Note {
         kernel: "TCA_CAKE_STATS_MEMORY_USED",
-        unit: "bytes",
-        names: &[],
+        unit: Unit::Bytes,
+        names: 0,
     },
     Note {
         kernel: "TCA_CAKE_STATS_AVG_NETOFF",
-        unit: "bytes",
-        names: &[],
+        unit: Unit::Bytes,
+        names: 0,
     },
     Note {
         kernel: "TCA_CAKE_STATS_MIN_NETLEN",
-        unit: "bytes",
-        names: &[],
+        unit: Unit::Bytes,
+        names: 0,
     },
     Note {
         kernel: "TCA_CAKE_STATS_MAX_NETLEN",
-        unit: "bytes",
-        names: &[],
+        unit: Unit::Bytes,
+        names: 0,
     },
     Note {
         kernel: "TCA_CAKE_STATS_MIN_ADJLEN",
-        unit: "bytes",
-        names: &[],
+        unit: Unit::Bytes,
+        names: 0,
     },
     Note {
         kernel: "TCA_CAKE_STATS_MAX_ADJLEN",
-        unit: "bytes",
-        names: &[],
+        unit: Unit::Bytes,
+        names: 0,
     },
     Note {
         kernel: "TCA_CAKE_STATS_TIN_STATS",
-        unit: "",
-        names: &[],
+        unit: Unit::Plain,
+        names: 0,
     },
     Note {
         kernel: "TCA_CAKE_STATS_DEFICIT",
-        unit: "",
-        names: &[],
+        unit: Unit::Plain,
+        names: 0,
     },
     Note {
         kernel: "TCA_CAKE_STATS_COBALT_COUNT",
-        unit: "",
-        names: &[],
+        unit: Unit::Plain,
+        names: 0,
     },
     Note {
         kernel: "TCA_CAKE_STATS_DROPPING",
-        unit: "",
-        names: &[],
+        unit: Unit::Plain,
+        names: 0,
     },
     Note {
         kernel: "TCA_CAKE_STATS_DROP_NEXT_US",
-        unit: "microseconds",
-        names: &[],
+        unit: Unit::Microseconds,
+        names: 0,
     },
     Note {
         kernel: "TCA_CAKE_STATS_P_DROP",
-        unit: "",
-        names: &[],
+        unit: Unit::Plain,
+        names: 0,
     },
     Note {
         kernel: "TCA_CAKE_STATS_BLUE_TIMER_US",
-        unit: "microseconds",
-        names: &[],
+        unit: Unit::Microseconds,
+        names: 0,
     },
 ];
 
@@ -5342,128 +5111,128 @@ const LIST_CAKE_STATS: [Note<'static>; 16] = [
 const LIST_CAKE_TIN_STATS: [Note<'static>; 25] = [
     Note {
         kernel: "TCA_CAKE_TIN_STATS_PAD",
-        unit: "",
-        names: &[],
+        unit: Unit::Plain,
+        names: 0,
     },
     Note {
         kernel: "TCA_CAKE_TIN_STATS_SENT_PACKETS",
-        unit: "packets",
-        names: &[],
+        unit: Unit::Packets,
+        names: 0,
     },
     Note {
         kernel: "TCA_CAKE_TIN_STATS_SENT_BYTES64",
-        unit: "bytes",
-        names: &[],
+        unit: Unit::Bytes,
+        names: 0,
     },
     Note {
         kernel: "TCA_CAKE_TIN_STATS_DROPPED_PACKETS",
-        unit: "packets",
-        names: &[],
+        unit: Unit::Packets,
+        names: 0,
     },
     Note {
         kernel: "TCA_CAKE_TIN_STATS_DROPPED_BYTES64",
-        unit: "bytes",
-        names: &[],
+        unit: Unit::Bytes,
+        names: 0,
     },
     Note {
         kernel: "TCA_CAKE_TIN_STATS_ACKS_DROPPED_PACKETS",
-        unit: "packets",
-        names: &[],
+        unit: Unit::Packets,
+        names: 0,
     },
     Note {
         kernel: "TCA_CAKE_TIN_STATS_ACKS_DROPPED_BYTES64",
-        unit: "bytes",
-        names: &[],
+        unit: Unit::Bytes,
+        names: 0,
     },
     Note {
         kernel: "TCA_CAKE_TIN_STATS_ECN_MARKED_PACKETS",
-        unit: "packets",
-        names: &[],
+        unit: Unit::Packets,
+        names: 0,
     },
     Note {
         kernel: "TCA_CAKE_TIN_STATS_ECN_MARKED_BYTES64",
-        unit: "bytes",
-        names: &[],
+        unit: Unit::Bytes,
+        names: 0,
     },
     Note {
         kernel: "TCA_CAKE_TIN_STATS_BACKLOG_PACKETS",
-        unit: "packets",
-        names: &[],
+        unit: Unit::Packets,
+        names: 0,
     },
     Note {
         kernel: "TCA_CAKE_TIN_STATS_BACKLOG_BYTES",
-        unit: "bytes",
-        names: &[],
+        unit: Unit::Bytes,
+        names: 0,
     },
     Note {
         kernel: "TCA_CAKE_TIN_STATS_THRESHOLD_RATE64",
-        unit: "bytes a second",
-        names: &[],
+        unit: Unit::BytesPerSecond,
+        names: 0,
     },
     Note {
         kernel: "TCA_CAKE_TIN_STATS_TARGET_US",
-        unit: "microseconds",
-        names: &[],
+        unit: Unit::Microseconds,
+        names: 0,
     },
     Note {
         kernel: "TCA_CAKE_TIN_STATS_INTERVAL_US",
-        unit: "microseconds",
-        names: &[],
+        unit: Unit::Microseconds,
+        names: 0,
     },
     Note {
         kernel: "TCA_CAKE_TIN_STATS_WAY_INDIRECT_HITS",
-        unit: "",
-        names: &[],
+        unit: Unit::Plain,
+        names: 0,
     },
     Note {
         kernel: "TCA_CAKE_TIN_STATS_WAY_MISSES",
-        unit: "",
-        names: &[],
+        unit: Unit::Plain,
+        names: 0,
     },
     Note {
         kernel: "TCA_CAKE_TIN_STATS_WAY_COLLISIONS",
-        unit: "",
-        names: &[],
+        unit: Unit::Plain,
+        names: 0,
     },
     Note {
         kernel: "TCA_CAKE_TIN_STATS_PEAK_DELAY_US",
-        unit: "microseconds",
-        names: &[],
+        unit: Unit::Microseconds,
+        names: 0,
     },
     Note {
         kernel: "TCA_CAKE_TIN_STATS_AVG_DELAY_US",
-        unit: "microseconds",
-        names: &[],
+        unit: Unit::Microseconds,
+        names: 0,
     },
     Note {
         kernel: "TCA_CAKE_TIN_STATS_BASE_DELAY_US",
-        unit: "microseconds",
-        names: &[],
+        unit: Unit::Microseconds,
+        names: 0,
     },
     Note {
         kernel: "TCA_CAKE_TIN_STATS_SPARSE_FLOWS",
-        unit: "",
-        names: &[],
+        unit: Unit::Plain,
+        names: 0,
     },
     Note {
         kernel: "TCA_CAKE_TIN_STATS_BULK_FLOWS",
-        unit: "",
-        names: &[],
+        unit: Unit::Plain,
+        names: 0,
     },
     Note {
         kernel: "TCA_CAKE_TIN_STATS_UNRESPONSIVE_FLOWS",
-        unit: "",
-        names: &[],
+        unit: Unit::Plain,
+        names: 0,
     },
     Note {
         kernel: "TCA_CAKE_TIN_STATS_MAX_SKBLEN",
-        unit: "bytes",
-        names: &[],
+        unit: Unit::Bytes,
+        names: 0,
     },
     Note {
         kernel: "TCA_CAKE_TIN_STATS_FLOW_QUANTUM",
-        unit: "bytes",
-        names: &[],
+        unit: Unit::Bytes,
+        names: 0,
     },
 ];
 
@@ -5471,28 +5240,28 @@ const LIST_CAKE_TIN_STATS: [Note<'static>; 25] = [
 const ENUM_CAKE_DIFFSERV: [Note<'static>; 5] = [
     Note {
         kernel: "CAKE_DIFFSERV_DIFFSERV3",
-        unit: "",
-        names: &[],
+        unit: Unit::Plain,
+        names: 0,
     },
     Note {
         kernel: "CAKE_DIFFSERV_DIFFSERV4",
-        unit: "",
-        names: &[],
+        unit: Unit::Plain,
+        names: 0,
     },
     Note {
         kernel: "CAKE_DIFFSERV_DIFFSERV8",
-        unit: "",
-        names: &[],
+        unit: Unit::Plain,
+        names: 0,
     },
     Note {
         kernel: "CAKE_DIFFSERV_BESTEFFORT",
-        unit: "",
-        names: &[],
+        unit: Unit::Plain,
+        names: 0,
     },
     Note {
         kernel: "CAKE_DIFFSERV_PRECEDENCE",
-        unit: "",
-        names: &[],
+        unit: Unit::Plain,
+        names: 0,
     },
 ];
 
@@ -5500,18 +5269,18 @@ const ENUM_CAKE_DIFFSERV: [Note<'static>; 5] = [
 const ENUM_CAKE_ATM: [Note<'static>; 3] = [
     Note {
         kernel: "CAKE_ATM_NONE",
-        unit: "",
-        names: &[],
+        unit: Unit::Plain,
+        names: 0,
     },
     Note {
         kernel: "CAKE_ATM_ATM",
-        unit: "",
-        names: &[],
+        unit: Unit::Plain,
+        names: 0,
     },
     Note {
         kernel: "CAKE_ATM_PTM",
-        unit: "",
-        names: &[],
+        unit: Unit::Plain,
+        names: 0,
     },
 ];
 
@@ -5519,43 +5288,43 @@ const ENUM_CAKE_ATM: [Note<'static>; 3] = [
 const ENUM_CAKE_FLOW: [Note<'static>; 8] = [
     Note {
         kernel: "CAKE_FLOW_NONE",
-        unit: "",
-        names: &[],
+        unit: Unit::Plain,
+        names: 0,
     },
     Note {
         kernel: "CAKE_FLOW_SRC_IP",
-        unit: "",
-        names: &[],
+        unit: Unit::Plain,
+        names: 0,
     },
     Note {
         kernel: "CAKE_FLOW_DST_IP",
-        unit: "",
-        names: &[],
+        unit: Unit::Plain,
+        names: 0,
     },
     Note {
         kernel: "CAKE_FLOW_HOSTS",
-        unit: "",
-        names: &[],
+        unit: Unit::Plain,
+        names: 0,
     },
     Note {
         kernel: "CAKE_FLOW_FLOWS",
-        unit: "",
-        names: &[],
+        unit: Unit::Plain,
+        names: 0,
     },
     Note {
         kernel: "CAKE_FLOW_DUAL_SRC",
-        unit: "",
-        names: &[],
+        unit: Unit::Plain,
+        names: 0,
     },
     Note {
         kernel: "CAKE_FLOW_DUAL_DST",
-        unit: "",
-        names: &[],
+        unit: Unit::Plain,
+        names: 0,
     },
     Note {
         kernel: "CAKE_FLOW_TRIPLE",
-        unit: "",
-        names: &[],
+        unit: Unit::Plain,
+        names: 0,
     },
 ];
 
@@ -5563,64 +5332,64 @@ const ENUM_CAKE_FLOW: [Note<'static>; 8] = [
 const ENUM_CAKE_ACK: [Note<'static>; 3] = [
     Note {
         kernel: "CAKE_ACK_NONE",
-        unit: "",
-        names: &[],
+        unit: Unit::Plain,
+        names: 0,
     },
     Note {
         kernel: "CAKE_ACK_FILTER",
-        unit: "",
-        names: &[],
+        unit: Unit::Plain,
+        names: 0,
     },
     Note {
         kernel: "CAKE_ACK_AGGRESSIVE",
-        unit: "",
-        names: &[],
+        unit: Unit::Plain,
+        names: 0,
     },
 ];
 
 // `list stats`
 const LIST_STATS_BY_KIND: [Note<'static>; 1] = [Note {
     kernel: "TCA_STATS_APP",
-    unit: "",
-    names: &[],
+    unit: Unit::Plain,
+    names: 0,
 }];
 
 // `list cbq`
 const LIST_CBQ: [Note<'static>; 7] = [
     Note {
         kernel: "TCA_CBQ_LSSOPT",
-        unit: "",
-        names: &[],
+        unit: Unit::Plain,
+        names: 0,
     },
     Note {
         kernel: "TCA_CBQ_WRROPT",
-        unit: "",
-        names: &[],
+        unit: Unit::Plain,
+        names: 0,
     },
     Note {
         kernel: "TCA_CBQ_FOPT",
-        unit: "",
-        names: &[],
+        unit: Unit::Plain,
+        names: 0,
     },
     Note {
         kernel: "TCA_CBQ_OVL_STRATEGY",
-        unit: "",
-        names: &[],
+        unit: Unit::Plain,
+        names: 0,
     },
     Note {
         kernel: "TCA_CBQ_RATE",
-        unit: "",
-        names: &[],
+        unit: Unit::Plain,
+        names: 0,
     },
     Note {
         kernel: "TCA_CBQ_RTAB",
-        unit: "",
-        names: &[],
+        unit: Unit::Plain,
+        names: 0,
     },
     Note {
         kernel: "TCA_CBQ_POLICE",
-        unit: "",
-        names: &[],
+        unit: Unit::Plain,
+        names: 0,
     },
 ];
 
@@ -5676,84 +5445,84 @@ const BITS_TCF_CBQ_LSS_FLAGS: [Named<'static>; 2] = [
 const STRUCT_TC_CBQ_LSSOPT: [Note<'static>; 8] = [
     Note {
         kernel: "",
-        unit: "",
-        names: &BITS_TCF_CBQ_LSS_CHANGE,
+        unit: Unit::Plain,
+        names: 27,
     },
     Note {
         kernel: "",
-        unit: "",
-        names: &BITS_TCF_CBQ_LSS_FLAGS,
+        unit: Unit::Plain,
+        names: 28,
     },
     Note {
         kernel: "",
-        unit: "",
-        names: &[],
+        unit: Unit::Plain,
+        names: 0,
     },
     Note {
         kernel: "",
-        unit: "",
-        names: &[],
+        unit: Unit::Plain,
+        names: 0,
     },
     Note {
         kernel: "",
-        unit: "",
-        names: &[],
+        unit: Unit::Plain,
+        names: 0,
     },
     Note {
         kernel: "",
-        unit: "",
-        names: &[],
+        unit: Unit::Plain,
+        names: 0,
     },
     Note {
         kernel: "",
-        unit: "",
-        names: &[],
+        unit: Unit::Plain,
+        names: 0,
     },
     Note {
         kernel: "",
-        unit: "",
-        names: &[],
+        unit: Unit::Plain,
+        names: 0,
     },
 ];
 
 // `list cbs`
 const LIST_CBS: [Note<'static>; 1] = [Note {
     kernel: "TCA_CBS_PARMS",
-    unit: "",
-    names: &[],
+    unit: Unit::Plain,
+    names: 0,
 }];
 
 // `struct tc_cbs_qopt`
 const STRUCT_TC_CBS_QOPT: [Note<'static>; 6] = [
     Note {
         kernel: "",
-        unit: "",
-        names: &[],
+        unit: Unit::Plain,
+        names: 0,
     },
     Note {
         kernel: "",
-        unit: "",
-        names: &[],
+        unit: Unit::Plain,
+        names: 0,
     },
     Note {
         kernel: "",
-        unit: "bytes",
-        names: &[],
+        unit: Unit::Bytes,
+        names: 0,
     },
     Note {
         kernel: "",
-        unit: "bytes",
-        names: &[],
+        unit: Unit::Bytes,
+        names: 0,
     },
     Note {
         kernel: "",
-        unit: "1000 bits a second",
-        names: &[],
+        unit: Unit::KilobitsPerSecond,
+        names: 0,
     },
     Note {
         kernel: "",
-        unit: "1000 bits a second",
-        names: &[],
+        unit: Unit::KilobitsPerSecond,
+        names: 0,
     },
 ];
 
@@ -5761,18 +5530,18 @@ const STRUCT_TC_CBS_QOPT: [Note<'static>; 6] = [
 const LIST_CHOKE: [Note<'static>; 3] = [
     Note {
         kernel: "TCA_CHOKE_PARMS",
-        unit: "",
-        names: &[],
+        unit: Unit::Plain,
+        names: 0,
     },
     Note {
         kernel: "TCA_CHOKE_STAB",
-        unit: "",
-        names: &[],
+        unit: Unit::Plain,
+        names: 0,
     },
     Note {
         kernel: "TCA_CHOKE_MAX_P",
-        unit: "probability, 2^-32 each",
-        names: &[],
+        unit: Unit::Probability,
+        names: 0,
     },
 ];
 
@@ -5804,38 +5573,38 @@ const BITS_TC_RED: [Named<'static>; 4] = [
 const STRUCT_TC_RED_QOPT_PACKETS: [Note<'static>; 7] = [
     Note {
         kernel: "",
-        unit: "packets",
-        names: &[],
+        unit: Unit::Packets,
+        names: 0,
     },
     Note {
         kernel: "",
-        unit: "packets",
-        names: &[],
+        unit: Unit::Packets,
+        names: 0,
     },
     Note {
         kernel: "",
-        unit: "packets",
-        names: &[],
+        unit: Unit::Packets,
+        names: 0,
     },
     Note {
         kernel: "",
-        unit: "exponent of 2",
-        names: &[],
+        unit: Unit::Power,
+        names: 0,
     },
     Note {
         kernel: "",
-        unit: "exponent of 2",
-        names: &[],
+        unit: Unit::Power,
+        names: 0,
     },
     Note {
         kernel: "",
-        unit: "exponent of 2",
-        names: &[],
+        unit: Unit::Power,
+        names: 0,
     },
     Note {
         kernel: "",
-        unit: "",
-        names: &BITS_TC_RED,
+        unit: Unit::Plain,
+        names: 29,
     },
 ];
 
@@ -5843,28 +5612,28 @@ const STRUCT_TC_RED_QOPT_PACKETS: [Note<'static>; 7] = [
 const LIST_CODEL: [Note<'static>; 5] = [
     Note {
         kernel: "TCA_CODEL_TARGET",
-        unit: "microseconds",
-        names: &[],
+        unit: Unit::Microseconds,
+        names: 0,
     },
     Note {
         kernel: "TCA_CODEL_LIMIT",
-        unit: "packets",
-        names: &[],
+        unit: Unit::Packets,
+        names: 0,
     },
     Note {
         kernel: "TCA_CODEL_INTERVAL",
-        unit: "microseconds",
-        names: &[],
+        unit: Unit::Microseconds,
+        names: 0,
     },
     Note {
         kernel: "TCA_CODEL_ECN",
-        unit: "",
-        names: &[],
+        unit: Unit::Plain,
+        names: 0,
     },
     Note {
         kernel: "TCA_CODEL_CE_THRESHOLD",
-        unit: "microseconds",
-        names: &[],
+        unit: Unit::Microseconds,
+        names: 0,
     },
 ];
 
@@ -5872,92 +5641,92 @@ const LIST_CODEL: [Note<'static>; 5] = [
 const STRUCT_TC_CODEL_XSTATS: [Note<'static>; 9] = [
     Note {
         kernel: "",
-        unit: "",
-        names: &[],
+        unit: Unit::Plain,
+        names: 0,
     },
     Note {
         kernel: "",
-        unit: "",
-        names: &[],
+        unit: Unit::Plain,
+        names: 0,
     },
     Note {
         kernel: "",
-        unit: "",
-        names: &[],
+        unit: Unit::Plain,
+        names: 0,
     },
     Note {
         kernel: "",
-        unit: "microseconds",
-        names: &[],
+        unit: Unit::Microseconds,
+        names: 0,
     },
     Note {
         kernel: "",
-        unit: "microseconds",
-        names: &[],
+        unit: Unit::Microseconds,
+        names: 0,
     },
     Note {
         kernel: "",
-        unit: "",
-        names: &[],
+        unit: Unit::Plain,
+        names: 0,
     },
     Note {
         kernel: "",
-        unit: "",
-        names: &[],
+        unit: Unit::Plain,
+        names: 0,
     },
     Note {
         kernel: "",
-        unit: "",
-        names: &[],
+        unit: Unit::Plain,
+        names: 0,
     },
     Note {
         kernel: "",
-        unit: "",
-        names: &[],
+        unit: Unit::Plain,
+        names: 0,
     },
 ];
 
 // `list drr`
 const LIST_DRR: [Note<'static>; 1] = [Note {
     kernel: "TCA_DRR_QUANTUM",
-    unit: "bytes",
-    names: &[],
+    unit: Unit::Bytes,
+    names: 0,
 }];
 
 // `list dsmark`
 const LIST_DSMARK: [Note<'static>; 5] = [
     Note {
         kernel: "TCA_DSMARK_INDICES",
-        unit: "",
-        names: &[],
+        unit: Unit::Plain,
+        names: 0,
     },
     Note {
         kernel: "TCA_DSMARK_DEFAULT_INDEX",
-        unit: "",
-        names: &[],
+        unit: Unit::Plain,
+        names: 0,
     },
     Note {
         kernel: "TCA_DSMARK_SET_TC_INDEX",
-        unit: "",
-        names: &[],
+        unit: Unit::Plain,
+        names: 0,
     },
     Note {
         kernel: "TCA_DSMARK_MASK",
-        unit: "",
-        names: &[],
+        unit: Unit::Plain,
+        names: 0,
     },
     Note {
         kernel: "TCA_DSMARK_VALUE",
-        unit: "",
-        names: &[],
+        unit: Unit::Plain,
+        names: 0,
     },
 ];
 
 // `list etf`
 const LIST_ETF: [Note<'static>; 1] = [Note {
     kernel: "TCA_ETF_PARMS",
-    unit: "",
-    names: &[],
+    unit: Unit::Plain,
+    names: 0,
 }];
 
 // `bits tc_etf`
@@ -5983,18 +5752,18 @@ const BITS_TC_ETF: [Named<'static>; 3] = [
 const STRUCT_TC_ETF_QOPT: [Note<'static>; 3] = [
     Note {
         kernel: "",
-        unit: "nanoseconds",
-        names: &[],
+        unit: Unit::Nanoseconds,
+        names: 0,
     },
     Note {
         kernel: "",
-        unit: "",
-        names: &NAMES_CLOCKID,
+        unit: Unit::Plain,
+        names: 6,
     },
     Note {
         kernel: "",
-        unit: "",
-        names: &BITS_TC_ETF,
+        unit: Unit::Plain,
+        names: 30,
     },
 ];
 
@@ -6002,143 +5771,143 @@ const STRUCT_TC_ETF_QOPT: [Note<'static>; 3] = [
 const LIST_ETS: [Note<'static>; 6] = [
     Note {
         kernel: "TCA_ETS_NBANDS",
-        unit: "",
-        names: &[],
+        unit: Unit::Plain,
+        names: 0,
     },
     Note {
         kernel: "TCA_ETS_NSTRICT",
-        unit: "",
-        names: &[],
+        unit: Unit::Plain,
+        names: 0,
     },
     Note {
         kernel: "TCA_ETS_QUANTA",
-        unit: "",
-        names: &[],
+        unit: Unit::Plain,
+        names: 0,
     },
     Note {
         kernel: "TCA_ETS_QUANTA_BAND",
-        unit: "bytes",
-        names: &[],
+        unit: Unit::Bytes,
+        names: 0,
     },
     Note {
         kernel: "TCA_ETS_PRIOMAP",
-        unit: "",
-        names: &[],
+        unit: Unit::Plain,
+        names: 0,
     },
     Note {
         kernel: "TCA_ETS_PRIOMAP_BAND",
-        unit: "",
-        names: &[],
+        unit: Unit::Plain,
+        names: 0,
     },
 ];
 
 // `list ets_quanta`
 const LIST_ETS_QUANTA: [Note<'static>; 1] = [Note {
     kernel: "TCA_ETS_QUANTA_BAND",
-    unit: "bytes",
-    names: &[],
+    unit: Unit::Bytes,
+    names: 0,
 }];
 
 // `list ets_priomap`
 const LIST_ETS_PRIOMAP: [Note<'static>; 1] = [Note {
     kernel: "TCA_ETS_PRIOMAP_BAND",
-    unit: "",
-    names: &[],
+    unit: Unit::Plain,
+    names: 0,
 }];
 
 // `struct tc_fifo_qopt`
 const STRUCT_TC_FIFO_QOPT: [Note<'static>; 1] = [Note {
     kernel: "",
-    unit: "bytes",
-    names: &[],
+    unit: Unit::Bytes,
+    names: 0,
 }];
 
 // `list fq`
 const LIST_FQ: [Note<'static>; 17] = [
     Note {
         kernel: "TCA_FQ_PLIMIT",
-        unit: "packets",
-        names: &[],
+        unit: Unit::Packets,
+        names: 0,
     },
     Note {
         kernel: "TCA_FQ_FLOW_PLIMIT",
-        unit: "packets",
-        names: &[],
+        unit: Unit::Packets,
+        names: 0,
     },
     Note {
         kernel: "TCA_FQ_QUANTUM",
-        unit: "bytes",
-        names: &[],
+        unit: Unit::Bytes,
+        names: 0,
     },
     Note {
         kernel: "TCA_FQ_INITIAL_QUANTUM",
-        unit: "bytes",
-        names: &[],
+        unit: Unit::Bytes,
+        names: 0,
     },
     Note {
         kernel: "TCA_FQ_RATE_ENABLE",
-        unit: "",
-        names: &[],
+        unit: Unit::Plain,
+        names: 0,
     },
     Note {
         kernel: "TCA_FQ_FLOW_DEFAULT_RATE",
-        unit: "bytes a second",
-        names: &[],
+        unit: Unit::BytesPerSecond,
+        names: 0,
     },
     Note {
         kernel: "TCA_FQ_FLOW_MAX_RATE",
-        unit: "bytes a second",
-        names: &[],
+        unit: Unit::BytesPerSecond,
+        names: 0,
     },
     Note {
         kernel: "TCA_FQ_BUCKETS_LOG",
-        unit: "exponent of 2",
-        names: &[],
+        unit: Unit::Power,
+        names: 0,
     },
     Note {
         kernel: "TCA_FQ_FLOW_REFILL_DELAY",
-        unit: "microseconds",
-        names: &[],
+        unit: Unit::Microseconds,
+        names: 0,
     },
     Note {
         kernel: "TCA_FQ_ORPHAN_MASK",
-        unit: "",
-        names: &[],
+        unit: Unit::Plain,
+        names: 0,
     },
     Note {
         kernel: "TCA_FQ_LOW_RATE_THRESHOLD",
-        unit: "bytes a second",
-        names: &[],
+        unit: Unit::BytesPerSecond,
+        names: 0,
     },
     Note {
         kernel: "TCA_FQ_CE_THRESHOLD",
-        unit: "microseconds",
-        names: &[],
+        unit: Unit::Microseconds,
+        names: 0,
     },
     Note {
         kernel: "TCA_FQ_TIMER_SLACK",
-        unit: "nanoseconds",
-        names: &[],
+        unit: Unit::Nanoseconds,
+        names: 0,
     },
     Note {
         kernel: "TCA_FQ_HORIZON",
-        unit: "microseconds",
-        names: &[],
+        unit: Unit::Microseconds,
+        names: 0,
     },
     Note {
         kernel: "TCA_FQ_HORIZON_DROP",
-        unit: "",
-        names: &[],
+        unit: Unit::Plain,
+        names: 0,
     },
     Note {
         kernel: "TCA_FQ_PRIOMAP",
-        unit: "",
-        names: &[],
+        unit: Unit::Plain,
+        names: 0,
     },
     Note {
         kernel: "TCA_FQ_WEIGHTS",
-        unit: "",
-        names: &[],
+        unit: Unit::Plain,
+        names: 0,
     },
 ];
 
@@ -6146,83 +5915,83 @@ const LIST_FQ: [Note<'static>; 17] = [
 const STRUCT_TC_FQ_QD_STATS: [Note<'static>; 16] = [
     Note {
         kernel: "",
-        unit: "",
-        names: &[],
+        unit: Unit::Plain,
+        names: 0,
     },
     Note {
         kernel: "",
-        unit: "",
-        names: &[],
+        unit: Unit::Plain,
+        names: 0,
     },
     Note {
         kernel: "",
-        unit: "",
-        names: &[],
+        unit: Unit::Plain,
+        names: 0,
     },
     Note {
         kernel: "",
-        unit: "",
-        names: &[],
+        unit: Unit::Plain,
+        names: 0,
     },
     Note {
         kernel: "",
-        unit: "",
-        names: &[],
+        unit: Unit::Plain,
+        names: 0,
     },
     Note {
         kernel: "",
-        unit: "",
-        names: &[],
+        unit: Unit::Plain,
+        names: 0,
     },
     Note {
         kernel: "",
-        unit: "",
-        names: &[],
+        unit: Unit::Plain,
+        names: 0,
     },
     Note {
         kernel: "",
-        unit: "nanoseconds",
-        names: &[],
+        unit: Unit::Nanoseconds,
+        names: 0,
     },
     Note {
         kernel: "",
-        unit: "",
-        names: &[],
+        unit: Unit::Plain,
+        names: 0,
     },
     Note {
         kernel: "",
-        unit: "",
-        names: &[],
+        unit: Unit::Plain,
+        names: 0,
     },
     Note {
         kernel: "",
-        unit: "",
-        names: &[],
+        unit: Unit::Plain,
+        names: 0,
     },
     Note {
         kernel: "",
-        unit: "nanoseconds",
-        names: &[],
+        unit: Unit::Nanoseconds,
+        names: 0,
     },
     Note {
         kernel: "",
-        unit: "",
-        names: &[],
+        unit: Unit::Plain,
+        names: 0,
     },
     Note {
         kernel: "",
-        unit: "",
-        names: &[],
+        unit: Unit::Plain,
+        names: 0,
     },
     Note {
         kernel: "",
-        unit: "",
-        names: &[],
+        unit: Unit::Plain,
+        names: 0,
     },
     Note {
         kernel: "",
-        unit: "",
-        names: &[],
+        unit: Unit::Plain,
+        names: 0,
     },
 ];
 
@@ -6230,58 +5999,58 @@ const STRUCT_TC_FQ_QD_STATS: [Note<'static>; 16] = [
 const LIST_FQ_CODEL: [Note<'static>; 11] = [
     Note {
         kernel: "TCA_FQ_CODEL_TARGET",
-        unit: "microseconds",
-        names: &[],
+        unit: Unit::Microseconds,
+        names: 0,
     },
     Note {
         kernel: "TCA_FQ_CODEL_LIMIT",
-        unit: "packets",
-        names: &[],
+        unit: Unit::Packets,
+        names: 0,
     },
     Note {
         kernel: "TCA_FQ_CODEL_INTERVAL",
-        unit: "microseconds",
-        names: &[],
+        unit: Unit::Microseconds,
+        names: 0,
     },
     Note {
         kernel: "TCA_FQ_CODEL_ECN",
-        unit: "",
-        names: &[],
+        unit: Unit::Plain,
+        names: 0,
     },
     Note {
         kernel: "TCA_FQ_CODEL_FLOWS",
-        unit: "",
-        names: &[],
+        unit: Unit::Plain,
+        names: 0,
     },
     Note {
         kernel: "TCA_FQ_CODEL_QUANTUM",
-        unit: "bytes",
-        names: &[],
+        unit: Unit::Bytes,
+        names: 0,
     },
     Note {
         kernel: "TCA_FQ_CODEL_CE_THRESHOLD",
-        unit: "microseconds",
-        names: &[],
+        unit: Unit::Microseconds,
+        names: 0,
     },
     Note {
         kernel: "TCA_FQ_CODEL_DROP_BATCH_SIZE",
-        unit: "packets",
-        names: &[],
+        unit: Unit::Packets,
+        names: 0,
     },
     Note {
         kernel: "TCA_FQ_CODEL_MEMORY_LIMIT",
-        unit: "bytes",
-        names: &[],
+        unit: Unit::Bytes,
+        names: 0,
     },
     Note {
         kernel: "TCA_FQ_CODEL_CE_THRESHOLD_SELECTOR",
-        unit: "",
-        names: &[],
+        unit: Unit::Plain,
+        names: 0,
     },
     Note {
         kernel: "TCA_FQ_CODEL_CE_THRESHOLD_MASK",
-        unit: "",
-        names: &[],
+        unit: Unit::Plain,
+        names: 0,
     },
 ];
 
@@ -6289,48 +6058,48 @@ const LIST_FQ_CODEL: [Note<'static>; 11] = [
 const STRUCT_TC_FQ_CODEL_QD_STATS: [Note<'static>; 9] = [
     Note {
         kernel: "",
-        unit: "bytes",
-        names: &[],
+        unit: Unit::Bytes,
+        names: 0,
     },
     Note {
         kernel: "",
-        unit: "packets",
-        names: &[],
+        unit: Unit::Packets,
+        names: 0,
     },
     Note {
         kernel: "",
-        unit: "packets",
-        names: &[],
+        unit: Unit::Packets,
+        names: 0,
     },
     Note {
         kernel: "",
-        unit: "",
-        names: &[],
+        unit: Unit::Plain,
+        names: 0,
     },
     Note {
         kernel: "",
-        unit: "",
-        names: &[],
+        unit: Unit::Plain,
+        names: 0,
     },
     Note {
         kernel: "",
-        unit: "",
-        names: &[],
+        unit: Unit::Plain,
+        names: 0,
     },
     Note {
         kernel: "",
-        unit: "packets",
-        names: &[],
+        unit: Unit::Packets,
+        names: 0,
     },
     Note {
         kernel: "",
-        unit: "bytes",
-        names: &[],
+        unit: Unit::Bytes,
+        names: 0,
     },
     Note {
         kernel: "",
-        unit: "packets",
-        names: &[],
+        unit: Unit::Packets,
+        names: 0,
     },
 ];
 
@@ -6338,33 +6107,33 @@ const STRUCT_TC_FQ_CODEL_QD_STATS: [Note<'static>; 9] = [
 const STRUCT_TC_FQ_CODEL_CL_STATS: [Note<'static>; 6] = [
     Note {
         kernel: "",
-        unit: "bytes",
-        names: &[],
+        unit: Unit::Bytes,
+        names: 0,
     },
     Note {
         kernel: "",
-        unit: "microseconds",
-        names: &[],
+        unit: Unit::Microseconds,
+        names: 0,
     },
     Note {
         kernel: "",
-        unit: "",
-        names: &[],
+        unit: Unit::Plain,
+        names: 0,
     },
     Note {
         kernel: "",
-        unit: "",
-        names: &[],
+        unit: Unit::Plain,
+        names: 0,
     },
     Note {
         kernel: "",
-        unit: "",
-        names: &[],
+        unit: Unit::Plain,
+        names: 0,
     },
     Note {
         kernel: "",
-        unit: "microseconds",
-        names: &[],
+        unit: Unit::Microseconds,
+        names: 0,
     },
 ];
 
@@ -6372,63 +6141,63 @@ const STRUCT_TC_FQ_CODEL_CL_STATS: [Note<'static>; 6] = [
 const LIST_FQ_PIE: [Note<'static>; 12] = [
     Note {
         kernel: "TCA_FQ_PIE_LIMIT",
-        unit: "packets",
-        names: &[],
+        unit: Unit::Packets,
+        names: 0,
     },
     Note {
         kernel: "TCA_FQ_PIE_FLOWS",
-        unit: "",
-        names: &[],
+        unit: Unit::Plain,
+        names: 0,
     },
     Note {
         kernel: "TCA_FQ_PIE_TARGET",
-        unit: "microseconds",
-        names: &[],
+        unit: Unit::Microseconds,
+        names: 0,
     },
     Note {
         kernel: "TCA_FQ_PIE_TUPDATE",
-        unit: "microseconds",
-        names: &[],
+        unit: Unit::Microseconds,
+        names: 0,
     },
     Note {
         kernel: "TCA_FQ_PIE_ALPHA",
-        unit: "",
-        names: &[],
+        unit: Unit::Plain,
+        names: 0,
     },
     Note {
         kernel: "TCA_FQ_PIE_BETA",
-        unit: "",
-        names: &[],
+        unit: Unit::Plain,
+        names: 0,
     },
     Note {
         kernel: "TCA_FQ_PIE_QUANTUM",
-        unit: "bytes",
-        names: &[],
+        unit: Unit::Bytes,
+        names: 0,
     },
     Note {
         kernel: "TCA_FQ_PIE_MEMORY_LIMIT",
-        unit: "bytes",
-        names: &[],
+        unit: Unit::Bytes,
+        names: 0,
     },
     Note {
         kernel: "TCA_FQ_PIE_ECN_PROB",
-        unit: "percent",
-        names: &[],
+        unit: Unit::Percent,
+        names: 0,
     },
     Note {
         kernel: "TCA_FQ_PIE_ECN",
-        unit: "",
-        names: &[],
+        unit: Unit::Plain,
+        names: 0,
     },
     Note {
         kernel: "TCA_FQ_PIE_BYTEMODE",
-        unit: "",
-        names: &[],
+        unit: Unit::Plain,
+        names: 0,
     },
     Note {
         kernel: "TCA_FQ_PIE_DQ_RATE_ESTIMATOR",
-        unit: "",
-        names: &[],
+        unit: Unit::Plain,
+        names: 0,
     },
 ];
 
@@ -6436,33 +6205,33 @@ const LIST_FQ_PIE: [Note<'static>; 12] = [
 const LIST_GRED: [Note<'static>; 6] = [
     Note {
         kernel: "TCA_GRED_PARMS",
-        unit: "",
-        names: &[],
+        unit: Unit::Plain,
+        names: 0,
     },
     Note {
         kernel: "TCA_GRED_STAB",
-        unit: "",
-        names: &[],
+        unit: Unit::Plain,
+        names: 0,
     },
     Note {
         kernel: "TCA_GRED_DPS",
-        unit: "",
-        names: &[],
+        unit: Unit::Plain,
+        names: 0,
     },
     Note {
         kernel: "TCA_GRED_MAX_P",
-        unit: "probability, 2^-32 each",
-        names: &[],
+        unit: Unit::Probability,
+        names: 0,
     },
     Note {
         kernel: "TCA_GRED_LIMIT",
-        unit: "bytes",
-        names: &[],
+        unit: Unit::Bytes,
+        names: 0,
     },
     Note {
         kernel: "TCA_GRED_VQ_LIST",
-        unit: "",
-        names: &[],
+        unit: Unit::Plain,
+        names: 0,
     },
 ];
 
@@ -6470,83 +6239,83 @@ const LIST_GRED: [Note<'static>; 6] = [
 const STRUCT_TC_GRED_QOPT: [Note<'static>; 16] = [
     Note {
         kernel: "",
-        unit: "bytes",
-        names: &[],
+        unit: Unit::Bytes,
+        names: 0,
     },
     Note {
         kernel: "",
-        unit: "bytes",
-        names: &[],
+        unit: Unit::Bytes,
+        names: 0,
     },
     Note {
         kernel: "",
-        unit: "bytes",
-        names: &[],
+        unit: Unit::Bytes,
+        names: 0,
     },
     Note {
         kernel: "",
-        unit: "",
-        names: &[],
+        unit: Unit::Plain,
+        names: 0,
     },
     Note {
         kernel: "",
-        unit: "bytes",
-        names: &[],
+        unit: Unit::Bytes,
+        names: 0,
     },
     Note {
         kernel: "",
-        unit: "bytes",
-        names: &[],
+        unit: Unit::Bytes,
+        names: 0,
     },
     Note {
         kernel: "",
-        unit: "packets",
-        names: &[],
+        unit: Unit::Packets,
+        names: 0,
     },
     Note {
         kernel: "",
-        unit: "packets",
-        names: &[],
+        unit: Unit::Packets,
+        names: 0,
     },
     Note {
         kernel: "",
-        unit: "packets",
-        names: &[],
+        unit: Unit::Packets,
+        names: 0,
     },
     Note {
         kernel: "",
-        unit: "packets",
-        names: &[],
+        unit: Unit::Packets,
+        names: 0,
     },
     Note {
         kernel: "",
-        unit: "exponent of 2",
-        names: &[],
+        unit: Unit::Power,
+        names: 0,
     },
     Note {
         kernel: "",
-        unit: "exponent of 2",
-        names: &[],
+        unit: Unit::Power,
+        names: 0,
     },
     Note {
         kernel: "",
-        unit: "exponent of 2",
-        names: &[],
+        unit: Unit::Power,
+        names: 0,
     },
     Note {
         kernel: "",
-        unit: "",
-        names: &[],
+        unit: Unit::Plain,
+        names: 0,
     },
     Note {
         kernel: "",
-        unit: "packets",
-        names: &[],
+        unit: Unit::Packets,
+        names: 0,
     },
     Note {
         kernel: "",
-        unit: "bytes",
-        names: &[],
+        unit: Unit::Bytes,
+        names: 0,
     },
 ];
 
@@ -6554,99 +6323,99 @@ const STRUCT_TC_GRED_QOPT: [Note<'static>; 16] = [
 const STRUCT_TC_GRED_SOPT: [Note<'static>; 5] = [
     Note {
         kernel: "",
-        unit: "",
-        names: &[],
+        unit: Unit::Plain,
+        names: 0,
     },
     Note {
         kernel: "",
-        unit: "",
-        names: &[],
+        unit: Unit::Plain,
+        names: 0,
     },
     Note {
         kernel: "",
-        unit: "",
-        names: &[],
+        unit: Unit::Plain,
+        names: 0,
     },
     Note {
         kernel: "",
-        unit: "",
-        names: &BITS_TC_RED,
+        unit: Unit::Plain,
+        names: 29,
     },
     Note {
         kernel: "",
-        unit: "",
-        names: &[],
+        unit: Unit::Plain,
+        names: 0,
     },
 ];
 
 // `list gred_vq_list`
 const LIST_GRED_VQ_LIST: [Note<'static>; 1] = [Note {
     kernel: "TCA_GRED_VQ_ENTRY",
-    unit: "",
-    names: &[],
+    unit: Unit::Plain,
+    names: 0,
 }];
 
 // `list gred_vq`
 const LIST_GRED_VQ: [Note<'static>; 12] = [
     Note {
         kernel: "TCA_GRED_VQ_PAD",
-        unit: "",
-        names: &[],
+        unit: Unit::Plain,
+        names: 0,
     },
     Note {
         kernel: "TCA_GRED_VQ_DP",
-        unit: "",
-        names: &[],
+        unit: Unit::Plain,
+        names: 0,
     },
     Note {
         kernel: "TCA_GRED_VQ_STAT_BYTES",
-        unit: "bytes",
-        names: &[],
+        unit: Unit::Bytes,
+        names: 0,
     },
     Note {
         kernel: "TCA_GRED_VQ_STAT_PACKETS",
-        unit: "packets",
-        names: &[],
+        unit: Unit::Packets,
+        names: 0,
     },
     Note {
         kernel: "TCA_GRED_VQ_STAT_BACKLOG",
-        unit: "bytes",
-        names: &[],
+        unit: Unit::Bytes,
+        names: 0,
     },
     Note {
         kernel: "TCA_GRED_VQ_STAT_PROB_DROP",
-        unit: "packets",
-        names: &[],
+        unit: Unit::Packets,
+        names: 0,
     },
     Note {
         kernel: "TCA_GRED_VQ_STAT_PROB_MARK",
-        unit: "packets",
-        names: &[],
+        unit: Unit::Packets,
+        names: 0,
     },
     Note {
         kernel: "TCA_GRED_VQ_STAT_FORCED_DROP",
-        unit: "packets",
-        names: &[],
+        unit: Unit::Packets,
+        names: 0,
     },
     Note {
         kernel: "TCA_GRED_VQ_STAT_FORCED_MARK",
-        unit: "packets",
-        names: &[],
+        unit: Unit::Packets,
+        names: 0,
     },
     Note {
         kernel: "TCA_GRED_VQ_STAT_PDROP",
-        unit: "packets",
-        names: &[],
+        unit: Unit::Packets,
+        names: 0,
     },
     Note {
         kernel: "TCA_GRED_VQ_STAT_OTHER",
-        unit: "packets",
-        names: &[],
+        unit: Unit::Packets,
+        names: 0,
     },
     Note {
         kernel: "TCA_GRED_VQ_FLAGS",
-        unit: "",
-        names: &BITS_TC_RED,
+        unit: Unit::Plain,
+        names: 29,
     },
 ];
 
@@ -6654,18 +6423,18 @@ const LIST_GRED_VQ: [Note<'static>; 12] = [
 const LIST_HFSC: [Note<'static>; 3] = [
     Note {
         kernel: "TCA_HFSC_RSC",
-        unit: "",
-        names: &[],
+        unit: Unit::Plain,
+        names: 0,
     },
     Note {
         kernel: "TCA_HFSC_FSC",
-        unit: "",
-        names: &[],
+        unit: Unit::Plain,
+        names: 0,
     },
     Note {
         kernel: "TCA_HFSC_USC",
-        unit: "",
-        names: &[],
+        unit: Unit::Plain,
+        names: 0,
     },
 ];
 
@@ -6673,18 +6442,18 @@ const LIST_HFSC: [Note<'static>; 3] = [
 const STRUCT_TC_SERVICE_CURVE: [Note<'static>; 3] = [
     Note {
         kernel: "",
-        unit: "bytes a second",
-        names: &[],
+        unit: Unit::BytesPerSecond,
+        names: 0,
     },
     Note {
         kernel: "",
-        unit: "microseconds",
-        names: &[],
+        unit: Unit::Microseconds,
+        names: 0,
     },
     Note {
         kernel: "",
-        unit: "bytes a second",
-        names: &[],
+        unit: Unit::BytesPerSecond,
+        names: 0,
     },
 ];
 
@@ -6692,23 +6461,23 @@ const STRUCT_TC_SERVICE_CURVE: [Note<'static>; 3] = [
 const STRUCT_TC_HFSC_STATS: [Note<'static>; 4] = [
     Note {
         kernel: "",
-        unit: "bytes",
-        names: &[],
+        unit: Unit::Bytes,
+        names: 0,
     },
     Note {
         kernel: "",
-        unit: "bytes",
-        names: &[],
+        unit: Unit::Bytes,
+        names: 0,
     },
     Note {
         kernel: "",
-        unit: "",
-        names: &[],
+        unit: Unit::Plain,
+        names: 0,
     },
     Note {
         kernel: "",
-        unit: "",
-        names: &[],
+        unit: Unit::Plain,
+        names: 0,
     },
 ];
 
@@ -6716,38 +6485,38 @@ const STRUCT_TC_HFSC_STATS: [Note<'static>; 4] = [
 const LIST_HHF: [Note<'static>; 7] = [
     Note {
         kernel: "TCA_HHF_BACKLOG_LIMIT",
-        unit: "packets",
-        names: &[],
+        unit: Unit::Packets,
+        names: 0,
     },
     Note {
         kernel: "TCA_HHF_QUANTUM",
-        unit: "bytes",
-        names: &[],
+        unit: Unit::Bytes,
+        names: 0,
     },
     Note {
         kernel: "TCA_HHF_HH_FLOWS_LIMIT",
-        unit: "",
-        names: &[],
+        unit: Unit::Plain,
+        names: 0,
     },
     Note {
         kernel: "TCA_HHF_RESET_TIMEOUT",
-        unit: "microseconds",
-        names: &[],
+        unit: Unit::Microseconds,
+        names: 0,
     },
     Note {
         kernel: "TCA_HHF_ADMIT_BYTES",
-        unit: "bytes",
-        names: &[],
+        unit: Unit::Bytes,
+        names: 0,
     },
     Note {
         kernel: "TCA_HHF_EVICT_TIMEOUT",
-        unit: "microseconds",
-        names: &[],
+        unit: Unit::Microseconds,
+        names: 0,
     },
     Note {
         kernel: "TCA_HHF_NON_HH_WEIGHT",
-        unit: "",
-        names: &[],
+        unit: Unit::Plain,
+        names: 0,
     },
 ];
 
@@ -6755,48 +6524,48 @@ const LIST_HHF: [Note<'static>; 7] = [
 const LIST_HTB: [Note<'static>; 9] = [
     Note {
         kernel: "TCA_HTB_PARMS",
-        unit: "",
-        names: &[],
+        unit: Unit::Plain,
+        names: 0,
     },
     Note {
         kernel: "TCA_HTB_INIT",
-        unit: "",
-        names: &[],
+        unit: Unit::Plain,
+        names: 0,
     },
     Note {
         kernel: "TCA_HTB_CTAB",
-        unit: "",
-        names: &[],
+        unit: Unit::Plain,
+        names: 0,
     },
     Note {
         kernel: "TCA_HTB_RTAB",
-        unit: "",
-        names: &[],
+        unit: Unit::Plain,
+        names: 0,
     },
     Note {
         kernel: "TCA_HTB_DIRECT_QLEN",
-        unit: "packets",
-        names: &[],
+        unit: Unit::Packets,
+        names: 0,
     },
     Note {
         kernel: "TCA_HTB_RATE64",
-        unit: "bytes a second",
-        names: &[],
+        unit: Unit::BytesPerSecond,
+        names: 0,
     },
     Note {
         kernel: "TCA_HTB_CEIL64",
-        unit: "bytes a second",
-        names: &[],
+        unit: Unit::BytesPerSecond,
+        names: 0,
     },
     Note {
         kernel: "TCA_HTB_PAD",
-        unit: "",
-        names: &[],
+        unit: Unit::Plain,
+        names: 0,
     },
     Note {
         kernel: "TCA_HTB_OFFLOAD",
-        unit: "",
-        names: &[],
+        unit: Unit::Plain,
+        names: 0,
     },
 ];
 
@@ -6804,28 +6573,28 @@ const LIST_HTB: [Note<'static>; 9] = [
 const STRUCT_TC_HTB_XSTATS: [Note<'static>; 5] = [
     Note {
         kernel: "",
-        unit: "",
-        names: &[],
+        unit: Unit::Plain,
+        names: 0,
     },
     Note {
         kernel: "",
-        unit: "",
-        names: &[],
+        unit: Unit::Plain,
+        names: 0,
     },
     Note {
         kernel: "",
-        unit: "",
-        names: &[],
+        unit: Unit::Plain,
+        names: 0,
     },
     Note {
         kernel: "",
-        unit: "ticks of 64 ns",
-        names: &[],
+        unit: Unit::Ticks,
+        names: 0,
     },
     Note {
         kernel: "",
-        unit: "ticks of 64 ns",
-        names: &[],
+        unit: Unit::Ticks,
+        names: 0,
     },
 ];
 
@@ -6833,38 +6602,38 @@ const STRUCT_TC_HTB_XSTATS: [Note<'static>; 5] = [
 const STRUCT_TC_HTB_OPT: [Note<'static>; 7] = [
     Note {
         kernel: "",
-        unit: "",
-        names: &[],
+        unit: Unit::Plain,
+        names: 0,
     },
     Note {
         kernel: "",
-        unit: "",
-        names: &[],
+        unit: Unit::Plain,
+        names: 0,
     },
     Note {
         kernel: "",
-        unit: "ticks of 64 ns",
-        names: &[],
+        unit: Unit::Ticks,
+        names: 0,
     },
     Note {
         kernel: "",
-        unit: "ticks of 64 ns",
-        names: &[],
+        unit: Unit::Ticks,
+        names: 0,
     },
     Note {
         kernel: "",
-        unit: "bytes",
-        names: &[],
+        unit: Unit::Bytes,
+        names: 0,
     },
     Note {
         kernel: "",
-        unit: "",
-        names: &[],
+        unit: Unit::Plain,
+        names: 0,
     },
     Note {
         kernel: "",
-        unit: "",
-        names: &[],
+        unit: Unit::Plain,
+        names: 0,
     },
 ];
 
@@ -6872,28 +6641,28 @@ const STRUCT_TC_HTB_OPT: [Note<'static>; 7] = [
 const LIST_MQPRIO: [Note<'static>; 5] = [
     Note {
         kernel: "TCA_MQPRIO_MODE",
-        unit: "",
-        names: &[],
+        unit: Unit::Plain,
+        names: 0,
     },
     Note {
         kernel: "TCA_MQPRIO_SHAPER",
-        unit: "",
-        names: &[],
+        unit: Unit::Plain,
+        names: 0,
     },
     Note {
         kernel: "TCA_MQPRIO_MIN_RATE64",
-        unit: "",
-        names: &[],
+        unit: Unit::Plain,
+        names: 0,
     },
     Note {
         kernel: "TCA_MQPRIO_MAX_RATE64",
-        unit: "",
-        names: &[],
+        unit: Unit::Plain,
+        names: 0,
     },
     Note {
         kernel: "TCA_MQPRIO_TC_ENTRY",
-        unit: "",
-        names: &[],
+        unit: Unit::Plain,
+        names: 0,
     },
 ];
 
@@ -6901,13 +6670,13 @@ const LIST_MQPRIO: [Note<'static>; 5] = [
 const ENUM_TC_MQPRIO_MODE: [Note<'static>; 2] = [
     Note {
         kernel: "TC_MQPRIO_MODE_DCB",
-        unit: "",
-        names: &[],
+        unit: Unit::Plain,
+        names: 0,
     },
     Note {
         kernel: "TC_MQPRIO_MODE_CHANNEL",
-        unit: "",
-        names: &[],
+        unit: Unit::Plain,
+        names: 0,
     },
 ];
 
@@ -6915,41 +6684,41 @@ const ENUM_TC_MQPRIO_MODE: [Note<'static>; 2] = [
 const ENUM_TC_MQPRIO_SHAPER: [Note<'static>; 2] = [
     Note {
         kernel: "TC_MQPRIO_SHAPER_DCB",
-        unit: "",
-        names: &[],
+        unit: Unit::Plain,
+        names: 0,
     },
     Note {
         kernel: "TC_MQPRIO_SHAPER_BW_RATE",
-        unit: "",
-        names: &[],
+        unit: Unit::Plain,
+        names: 0,
     },
 ];
 
 // `list mqprio_min_rate`
 const LIST_MQPRIO_MIN_RATE: [Note<'static>; 1] = [Note {
     kernel: "TCA_MQPRIO_MIN_RATE64",
-    unit: "bytes a second",
-    names: &[],
+    unit: Unit::BytesPerSecond,
+    names: 0,
 }];
 
 // `list mqprio_max_rate`
 const LIST_MQPRIO_MAX_RATE: [Note<'static>; 1] = [Note {
     kernel: "TCA_MQPRIO_MAX_RATE64",
-    unit: "bytes a second",
-    names: &[],
+    unit: Unit::BytesPerSecond,
+    names: 0,
 }];
 
 // `list mqprio_tc_entry`
 const LIST_MQPRIO_TC_ENTRY: [Note<'static>; 2] = [
     Note {
         kernel: "TCA_MQPRIO_TC_ENTRY_INDEX",
-        unit: "",
-        names: &[],
+        unit: Unit::Plain,
+        names: 0,
     },
     Note {
         kernel: "TCA_MQPRIO_TC_ENTRY_FP",
-        unit: "",
-        names: &[],
+        unit: Unit::Plain,
+        names: 0,
     },
 ];
 
@@ -6957,38 +6726,38 @@ const LIST_MQPRIO_TC_ENTRY: [Note<'static>; 2] = [
 const STRUCT_TC_NETEM_QOPT: [Note<'static>; 7] = [
     Note {
         kernel: "",
-        unit: "ticks of 64 ns",
-        names: &[],
+        unit: Unit::Ticks,
+        names: 0,
     },
     Note {
         kernel: "",
-        unit: "packets",
-        names: &[],
+        unit: Unit::Packets,
+        names: 0,
     },
     Note {
         kernel: "",
-        unit: "probability, 2^-32 each",
-        names: &[],
+        unit: Unit::Probability,
+        names: 0,
     },
     Note {
         kernel: "",
-        unit: "packets",
-        names: &[],
+        unit: Unit::Packets,
+        names: 0,
     },
     Note {
         kernel: "",
-        unit: "probability, 2^-32 each",
-        names: &[],
+        unit: Unit::Probability,
+        names: 0,
     },
     Note {
         kernel: "",
-        unit: "ticks of 64 ns",
-        names: &[],
+        unit: Unit::Ticks,
+        names: 0,
     },
     Note {
         kernel: "",
-        unit: "",
-        names: &[],
+        unit: Unit::Plain,
+        names: 0,
     },
 ];
 
@@ -6996,73 +6765,73 @@ const STRUCT_TC_NETEM_QOPT: [Note<'static>; 7] = [
 const LIST_NETEM: [Note<'static>; 14] = [
     Note {
         kernel: "TCA_NETEM_CORR",
-        unit: "",
-        names: &[],
+        unit: Unit::Plain,
+        names: 0,
     },
     Note {
         kernel: "TCA_NETEM_DELAY_DIST",
-        unit: "",
-        names: &[],
+        unit: Unit::Plain,
+        names: 0,
     },
     Note {
         kernel: "TCA_NETEM_REORDER",
-        unit: "",
-        names: &[],
+        unit: Unit::Plain,
+        names: 0,
     },
     Note {
         kernel: "TCA_NETEM_CORRUPT",
-        unit: "",
-        names: &[],
+        unit: Unit::Plain,
+        names: 0,
     },
     Note {
         kernel: "TCA_NETEM_LOSS",
-        unit: "",
-        names: &[],
+        unit: Unit::Plain,
+        names: 0,
     },
     Note {
         kernel: "TCA_NETEM_RATE",
-        unit: "",
-        names: &[],
+        unit: Unit::Plain,
+        names: 0,
     },
     Note {
         kernel: "TCA_NETEM_ECN",
-        unit: "",
-        names: &[],
+        unit: Unit::Plain,
+        names: 0,
     },
     Note {
         kernel: "TCA_NETEM_RATE64",
-        unit: "bytes a second",
-        names: &[],
+        unit: Unit::BytesPerSecond,
+        names: 0,
     },
     Note {
         kernel: "TCA_NETEM_PAD",
-        unit: "",
-        names: &[],
+        unit: Unit::Plain,
+        names: 0,
     },
     Note {
         kernel: "TCA_NETEM_LATENCY64",
-        unit: "nanoseconds",
-        names: &[],
+        unit: Unit::Nanoseconds,
+        names: 0,
     },
     Note {
         kernel: "TCA_NETEM_JITTER64",
-        unit: "nanoseconds",
-        names: &[],
+        unit: Unit::Nanoseconds,
+        names: 0,
     },
     Note {
         kernel: "TCA_NETEM_SLOT",
-        unit: "",
-        names: &[],
+        unit: Unit::Plain,
+        names: 0,
     },
     Note {
         kernel: "TCA_NETEM_SLOT_DIST",
-        unit: "",
-        names: &[],
+        unit: Unit::Plain,
+        names: 0,
     },
     Note {
         kernel: "TCA_NETEM_PRNG_SEED",
-        unit: "",
-        names: &[],
+        unit: Unit::Plain,
+        names: 0,
     },
 ];
 
@@ -7070,18 +6839,18 @@ const LIST_NETEM: [Note<'static>; 14] = [
 const STRUCT_TC_NETEM_CORR: [Note<'static>; 3] = [
     Note {
         kernel: "",
-        unit: "probability, 2^-32 each",
-        names: &[],
+        unit: Unit::Probability,
+        names: 0,
     },
     Note {
         kernel: "",
-        unit: "probability, 2^-32 each",
-        names: &[],
+        unit: Unit::Probability,
+        names: 0,
     },
     Note {
         kernel: "",
-        unit: "probability, 2^-32 each",
-        names: &[],
+        unit: Unit::Probability,
+        names: 0,
     },
 ];
 
@@ -7089,13 +6858,13 @@ const STRUCT_TC_NETEM_CORR: [Note<'static>; 3] = [
 const STRUCT_TC_NETEM_REORDER: [Note<'static>; 2] = [
     Note {
         kernel: "",
-        unit: "probability, 2^-32 each",
-        names: &[],
+        unit: Unit::Probability,
+        names: 0,
     },
     Note {
         kernel: "",
-        unit: "probability, 2^-32 each",
-        names: &[],
+        unit: Unit::Probability,
+        names: 0,
     },
 ];
 
@@ -7103,13 +6872,13 @@ const STRUCT_TC_NETEM_REORDER: [Note<'static>; 2] = [
 const LIST_NETEM_LOSS: [Note<'static>; 2] = [
     Note {
         kernel: "NETEM_LOSS_GI",
-        unit: "",
-        names: &[],
+        unit: Unit::Plain,
+        names: 0,
     },
     Note {
         kernel: "NETEM_LOSS_GE",
-        unit: "",
-        names: &[],
+        unit: Unit::Plain,
+        names: 0,
     },
 ];
 
@@ -7117,28 +6886,28 @@ const LIST_NETEM_LOSS: [Note<'static>; 2] = [
 const STRUCT_TC_NETEM_GIMODEL: [Note<'static>; 5] = [
     Note {
         kernel: "",
-        unit: "probability, 2^-32 each",
-        names: &[],
+        unit: Unit::Probability,
+        names: 0,
     },
     Note {
         kernel: "",
-        unit: "probability, 2^-32 each",
-        names: &[],
+        unit: Unit::Probability,
+        names: 0,
     },
     Note {
         kernel: "",
-        unit: "probability, 2^-32 each",
-        names: &[],
+        unit: Unit::Probability,
+        names: 0,
     },
     Note {
         kernel: "",
-        unit: "probability, 2^-32 each",
-        names: &[],
+        unit: Unit::Probability,
+        names: 0,
     },
     Note {
         kernel: "",
-        unit: "probability, 2^-32 each",
-        names: &[],
+        unit: Unit::Probability,
+        names: 0,
     },
 ];
 
@@ -7146,23 +6915,23 @@ const STRUCT_TC_NETEM_GIMODEL: [Note<'static>; 5] = [
 const STRUCT_TC_NETEM_GEMODEL: [Note<'static>; 4] = [
     Note {
         kernel: "",
-        unit: "probability, 2^-32 each",
-        names: &[],
+        unit: Unit::Probability,
+        names: 0,
     },
     Note {
         kernel: "",
-        unit: "probability, 2^-32 each",
-        names: &[],
+        unit: Unit::Probability,
+        names: 0,
     },
     Note {
         kernel: "",
-        unit: "probability, 2^-32 each",
-        names: &[],
+        unit: Unit::Probability,
+        names: 0,
     },
     Note {
         kernel: "",
-        unit: "probability, 2^-32 each",
-        names: &[],
+        unit: Unit::Probability,
+        names: 0,
     },
 ];
 
@@ -7170,23 +6939,23 @@ const STRUCT_TC_NETEM_GEMODEL: [Note<'static>; 4] = [
 const STRUCT_TC_NETEM_RATE: [Note<'static>; 4] = [
     Note {
         kernel: "",
-        unit: "bytes a second",
-        names: &[],
+        unit: Unit::BytesPerSecond,
+        names: 0,
     },
     Note {
         kernel: "",
-        unit: "bytes",
-        names: &[],
+        unit: Unit::Bytes,
+        names: 0,
     },
     Note {
         kernel: "",
-        unit: "bytes",
-        names: &[],
+        unit: Unit::Bytes,
+        names: 0,
     },
     Note {
         kernel: "",
-        unit: "bytes",
-        names: &[],
+        unit: Unit::Bytes,
+        names: 0,
     },
 ];
 
@@ -7194,33 +6963,33 @@ const STRUCT_TC_NETEM_RATE: [Note<'static>; 4] = [
 const STRUCT_TC_NETEM_SLOT: [Note<'static>; 6] = [
     Note {
         kernel: "",
-        unit: "nanoseconds",
-        names: &[],
+        unit: Unit::Nanoseconds,
+        names: 0,
     },
     Note {
         kernel: "",
-        unit: "nanoseconds",
-        names: &[],
+        unit: Unit::Nanoseconds,
+        names: 0,
     },
     Note {
         kernel: "",
-        unit: "packets",
-        names: &[],
+        unit: Unit::Packets,
+        names: 0,
     },
     Note {
         kernel: "",
-        unit: "bytes",
-        names: &[],
+        unit: Unit::Bytes,
+        names: 0,
     },
     Note {
         kernel: "",
-        unit: "nanoseconds",
-        names: &[],
+        unit: Unit::Nanoseconds,
+        names: 0,
     },
     Note {
         kernel: "",
-        unit: "nanoseconds",
-        names: &[],
+        unit: Unit::Nanoseconds,
+        names: 0,
     },
 ];
 
@@ -7228,43 +6997,43 @@ const STRUCT_TC_NETEM_SLOT: [Note<'static>; 6] = [
 const LIST_PIE: [Note<'static>; 8] = [
     Note {
         kernel: "TCA_PIE_TARGET",
-        unit: "microseconds",
-        names: &[],
+        unit: Unit::Microseconds,
+        names: 0,
     },
     Note {
         kernel: "TCA_PIE_LIMIT",
-        unit: "packets",
-        names: &[],
+        unit: Unit::Packets,
+        names: 0,
     },
     Note {
         kernel: "TCA_PIE_TUPDATE",
-        unit: "microseconds",
-        names: &[],
+        unit: Unit::Microseconds,
+        names: 0,
     },
     Note {
         kernel: "TCA_PIE_ALPHA",
-        unit: "",
-        names: &[],
+        unit: Unit::Plain,
+        names: 0,
     },
     Note {
         kernel: "TCA_PIE_BETA",
-        unit: "",
-        names: &[],
+        unit: Unit::Plain,
+        names: 0,
     },
     Note {
         kernel: "TCA_PIE_ECN",
-        unit: "",
-        names: &[],
+        unit: Unit::Plain,
+        names: 0,
     },
     Note {
         kernel: "TCA_PIE_BYTEMODE",
-        unit: "",
-        names: &[],
+        unit: Unit::Plain,
+        names: 0,
     },
     Note {
         kernel: "TCA_PIE_DQ_RATE_ESTIMATOR",
-        unit: "",
-        names: &[],
+        unit: Unit::Plain,
+        names: 0,
     },
 ];
 
@@ -7272,48 +7041,48 @@ const LIST_PIE: [Note<'static>; 8] = [
 const STRUCT_TC_PIE_XSTATS: [Note<'static>; 9] = [
     Note {
         kernel: "",
-        unit: "",
-        names: &[],
+        unit: Unit::Plain,
+        names: 0,
     },
     Note {
         kernel: "",
-        unit: "microseconds",
-        names: &[],
+        unit: Unit::Microseconds,
+        names: 0,
     },
     Note {
         kernel: "",
-        unit: "bytes a second",
-        names: &[],
+        unit: Unit::BytesPerSecond,
+        names: 0,
     },
     Note {
         kernel: "",
-        unit: "",
-        names: &[],
+        unit: Unit::Plain,
+        names: 0,
     },
     Note {
         kernel: "",
-        unit: "",
-        names: &[],
+        unit: Unit::Plain,
+        names: 0,
     },
     Note {
         kernel: "",
-        unit: "",
-        names: &[],
+        unit: Unit::Plain,
+        names: 0,
     },
     Note {
         kernel: "",
-        unit: "",
-        names: &[],
+        unit: Unit::Plain,
+        names: 0,
     },
     Note {
         kernel: "",
-        unit: "",
-        names: &[],
+        unit: Unit::Plain,
+        names: 0,
     },
     Note {
         kernel: "",
-        unit: "",
-        names: &[],
+        unit: Unit::Plain,
+        names: 0,
     },
 ];
 
@@ -7321,13 +7090,13 @@ const STRUCT_TC_PIE_XSTATS: [Note<'static>; 9] = [
 const STRUCT_TC_PLUG_QOPT: [Note<'static>; 2] = [
     Note {
         kernel: "",
-        unit: "",
-        names: &[],
+        unit: Unit::Plain,
+        names: 0,
     },
     Note {
         kernel: "",
-        unit: "bytes",
-        names: &[],
+        unit: Unit::Bytes,
+        names: 0,
     },
 ];
 
@@ -7335,44 +7104,44 @@ const STRUCT_TC_PLUG_QOPT: [Note<'static>; 2] = [
 const ENUM_TCQ_PLUG: [Note<'static>; 4] = [
     Note {
         kernel: "TCQ_PLUG_BUFFER",
-        unit: "",
-        names: &[],
+        unit: Unit::Plain,
+        names: 0,
     },
     Note {
         kernel: "TCQ_PLUG_RELEASE_ONE",
-        unit: "",
-        names: &[],
+        unit: Unit::Plain,
+        names: 0,
     },
     Note {
         kernel: "TCQ_PLUG_RELEASE_INDEFINITE",
-        unit: "",
-        names: &[],
+        unit: Unit::Plain,
+        names: 0,
     },
     Note {
         kernel: "TCQ_PLUG_LIMIT",
-        unit: "",
-        names: &[],
+        unit: Unit::Plain,
+        names: 0,
     },
 ];
 
 // `list prio`
 const LIST_PRIO: [Note<'static>; 1] = [Note {
     kernel: "TCA_OPTIONS",
-    unit: "",
-    names: &[],
+    unit: Unit::Plain,
+    names: 0,
 }];
 
 // `list qfq`
 const LIST_QFQ: [Note<'static>; 2] = [
     Note {
         kernel: "TCA_QFQ_WEIGHT",
-        unit: "",
-        names: &[],
+        unit: Unit::Plain,
+        names: 0,
     },
     Note {
         kernel: "TCA_QFQ_LMAX",
-        unit: "bytes",
-        names: &[],
+        unit: Unit::Bytes,
+        names: 0,
     },
 ];
 
@@ -7380,33 +7149,33 @@ const LIST_QFQ: [Note<'static>; 2] = [
 const LIST_RED: [Note<'static>; 6] = [
     Note {
         kernel: "TCA_RED_PARMS",
-        unit: "",
-        names: &[],
+        unit: Unit::Plain,
+        names: 0,
     },
     Note {
         kernel: "TCA_RED_STAB",
-        unit: "",
-        names: &[],
+        unit: Unit::Plain,
+        names: 0,
     },
     Note {
         kernel: "TCA_RED_MAX_P",
-        unit: "probability, 2^-32 each",
-        names: &[],
+        unit: Unit::Probability,
+        names: 0,
     },
     Note {
         kernel: "TCA_RED_FLAGS",
-        unit: "",
-        names: &[],
+        unit: Unit::Plain,
+        names: 0,
     },
     Note {
         kernel: "TCA_RED_EARLY_DROP_BLOCK",
-        unit: "",
-        names: &[],
+        unit: Unit::Plain,
+        names: 0,
     },
     Note {
         kernel: "TCA_RED_MARK_BLOCK",
-        unit: "",
-        names: &[],
+        unit: Unit::Plain,
+        names: 0,
     },
 ];
 
@@ -7414,38 +7183,38 @@ const LIST_RED: [Note<'static>; 6] = [
 const STRUCT_TC_RED_QOPT: [Note<'static>; 7] = [
     Note {
         kernel: "",
-        unit: "bytes",
-        names: &[],
+        unit: Unit::Bytes,
+        names: 0,
     },
     Note {
         kernel: "",
-        unit: "bytes",
-        names: &[],
+        unit: Unit::Bytes,
+        names: 0,
     },
     Note {
         kernel: "",
-        unit: "bytes",
-        names: &[],
+        unit: Unit::Bytes,
+        names: 0,
     },
     Note {
         kernel: "",
-        unit: "exponent of 2",
-        names: &[],
+        unit: Unit::Power,
+        names: 0,
     },
     Note {
         kernel: "",
-        unit: "exponent of 2",
-        names: &[],
+        unit: Unit::Power,
+        names: 0,
     },
     Note {
         kernel: "",
-        unit: "exponent of 2",
-        names: &[],
+        unit: Unit::Power,
+        names: 0,
     },
     Note {
         kernel: "",
-        unit: "",
-        names: &BITS_TC_RED,
+        unit: Unit::Plain,
+        names: 29,
     },
 ];
 
@@ -7453,13 +7222,13 @@ const STRUCT_TC_RED_QOPT: [Note<'static>; 7] = [
 const STRUCT_TCA_RED_FLAGS: [Note<'static>; 2] = [
     Note {
         kernel: "",
-        unit: "",
-        names: &BITS_TC_RED,
+        unit: Unit::Plain,
+        names: 29,
     },
     Note {
         kernel: "",
-        unit: "",
-        names: &BITS_TC_RED,
+        unit: Unit::Plain,
+        names: 29,
     },
 ];
 
@@ -7467,79 +7236,79 @@ const STRUCT_TCA_RED_FLAGS: [Note<'static>; 2] = [
 const STRUCT_TC_RED_XSTATS: [Note<'static>; 4] = [
     Note {
         kernel: "",
-        unit: "packets",
-        names: &[],
+        unit: Unit::Packets,
+        names: 0,
     },
     Note {
         kernel: "",
-        unit: "packets",
-        names: &[],
+        unit: Unit::Packets,
+        names: 0,
     },
     Note {
         kernel: "",
-        unit: "packets",
-        names: &[],
+        unit: Unit::Packets,
+        names: 0,
     },
     Note {
         kernel: "",
-        unit: "packets",
-        names: &[],
+        unit: Unit::Packets,
+        names: 0,
     },
 ];
 
 // `list sfb`
 const LIST_SFB: [Note<'static>; 1] = [Note {
     kernel: "TCA_SFB_PARMS",
-    unit: "",
-    names: &[],
+    unit: Unit::Plain,
+    names: 0,
 }];
 
 // `struct tc_sfb_xstats`
 const STRUCT_TC_SFB_XSTATS: [Note<'static>; 9] = [
     Note {
         kernel: "",
-        unit: "",
-        names: &[],
+        unit: Unit::Plain,
+        names: 0,
     },
     Note {
         kernel: "",
-        unit: "",
-        names: &[],
+        unit: Unit::Plain,
+        names: 0,
     },
     Note {
         kernel: "",
-        unit: "",
-        names: &[],
+        unit: Unit::Plain,
+        names: 0,
     },
     Note {
         kernel: "",
-        unit: "",
-        names: &[],
+        unit: Unit::Plain,
+        names: 0,
     },
     Note {
         kernel: "",
-        unit: "",
-        names: &[],
+        unit: Unit::Plain,
+        names: 0,
     },
     Note {
         kernel: "",
-        unit: "",
-        names: &[],
+        unit: Unit::Plain,
+        names: 0,
     },
     Note {
         kernel: "",
-        unit: "packets",
-        names: &[],
+        unit: Unit::Packets,
+        names: 0,
     },
     Note {
         kernel: "",
-        unit: "",
-        names: &[],
+        unit: Unit::Plain,
+        names: 0,
     },
     Note {
         kernel: "",
-        unit: "",
-        names: &[],
+        unit: Unit::Plain,
+        names: 0,
     },
 ];
 
@@ -7547,48 +7316,48 @@ const STRUCT_TC_SFB_XSTATS: [Note<'static>; 9] = [
 const STRUCT_TC_SFB_QOPT: [Note<'static>; 9] = [
     Note {
         kernel: "",
-        unit: "milliseconds",
-        names: &[],
+        unit: Unit::Milliseconds,
+        names: 0,
     },
     Note {
         kernel: "",
-        unit: "milliseconds",
-        names: &[],
+        unit: Unit::Milliseconds,
+        names: 0,
     },
     Note {
         kernel: "",
-        unit: "packets",
-        names: &[],
+        unit: Unit::Packets,
+        names: 0,
     },
     Note {
         kernel: "",
-        unit: "packets",
-        names: &[],
+        unit: Unit::Packets,
+        names: 0,
     },
     Note {
         kernel: "",
-        unit: "",
-        names: &[],
+        unit: Unit::Plain,
+        names: 0,
     },
     Note {
         kernel: "",
-        unit: "",
-        names: &[],
+        unit: Unit::Plain,
+        names: 0,
     },
     Note {
         kernel: "",
-        unit: "packets",
-        names: &[],
+        unit: Unit::Packets,
+        names: 0,
     },
     Note {
         kernel: "",
-        unit: "packets a second",
-        names: &[],
+        unit: Unit::PacketsPerSecond,
+        names: 0,
     },
     Note {
         kernel: "",
-        unit: "packets",
-        names: &[],
+        unit: Unit::Packets,
+        names: 0,
     },
 ];
 
@@ -7596,28 +7365,28 @@ const STRUCT_TC_SFB_QOPT: [Note<'static>; 9] = [
 const STRUCT_TC_SFQ_QOPT: [Note<'static>; 5] = [
     Note {
         kernel: "",
-        unit: "bytes",
-        names: &[],
+        unit: Unit::Bytes,
+        names: 0,
     },
     Note {
         kernel: "",
-        unit: "seconds",
-        names: &[],
+        unit: Unit::Seconds,
+        names: 0,
     },
     Note {
         kernel: "",
-        unit: "packets",
-        names: &[],
+        unit: Unit::Packets,
+        names: 0,
     },
     Note {
         kernel: "",
-        unit: "",
-        names: &[],
+        unit: Unit::Plain,
+        names: 0,
     },
     Note {
         kernel: "",
-        unit: "",
-        names: &[],
+        unit: Unit::Plain,
+        names: 0,
     },
 ];
 
@@ -7625,63 +7394,63 @@ const STRUCT_TC_SFQ_QOPT: [Note<'static>; 5] = [
 const STRUCT_TC_SFQ_QOPT_V1: [Note<'static>; 12] = [
     Note {
         kernel: "",
-        unit: "",
-        names: &[],
+        unit: Unit::Plain,
+        names: 0,
     },
     Note {
         kernel: "",
-        unit: "packets",
-        names: &[],
+        unit: Unit::Packets,
+        names: 0,
     },
     Note {
         kernel: "",
-        unit: "",
-        names: &[],
+        unit: Unit::Plain,
+        names: 0,
     },
     Note {
         kernel: "",
-        unit: "bytes",
-        names: &[],
+        unit: Unit::Bytes,
+        names: 0,
     },
     Note {
         kernel: "",
-        unit: "bytes",
-        names: &[],
+        unit: Unit::Bytes,
+        names: 0,
     },
     Note {
         kernel: "",
-        unit: "bytes",
-        names: &[],
+        unit: Unit::Bytes,
+        names: 0,
     },
     Note {
         kernel: "",
-        unit: "exponent of 2",
-        names: &[],
+        unit: Unit::Power,
+        names: 0,
     },
     Note {
         kernel: "",
-        unit: "exponent of 2",
-        names: &[],
+        unit: Unit::Power,
+        names: 0,
     },
     Note {
         kernel: "",
-        unit: "exponent of 2",
-        names: &[],
+        unit: Unit::Power,
+        names: 0,
     },
     Note {
         kernel: "",
-        unit: "",
-        names: &BITS_TC_RED,
+        unit: Unit::Plain,
+        names: 29,
     },
     Note {
         kernel: "",
-        unit: "probability, 2^-32 each",
-        names: &[],
+        unit: Unit::Probability,
+        names: 0,
     },
     Note {
         kernel: "",
-        unit: "",
-        names: &[],
+        unit: Unit::Plain,
+        names: 0,
     },
 ];
 
@@ -7689,33 +7458,33 @@ const STRUCT_TC_SFQ_QOPT_V1: [Note<'static>; 12] = [
 const STRUCT_TC_SFQRED_STATS: [Note<'static>; 6] = [
     Note {
         kernel: "",
-        unit: "packets",
-        names: &[],
+        unit: Unit::Packets,
+        names: 0,
     },
     Note {
         kernel: "",
-        unit: "packets",
-        names: &[],
+        unit: Unit::Packets,
+        names: 0,
     },
     Note {
         kernel: "",
-        unit: "packets",
-        names: &[],
+        unit: Unit::Packets,
+        names: 0,
     },
     Note {
         kernel: "",
-        unit: "packets",
-        names: &[],
+        unit: Unit::Packets,
+        names: 0,
     },
     Note {
         kernel: "",
-        unit: "packets",
-        names: &[],
+        unit: Unit::Packets,
+        names: 0,
     },
     Note {
         kernel: "",
-        unit: "packets",
-        names: &[],
+        unit: Unit::Packets,
+        names: 0,
     },
 ];
 
@@ -7737,94 +7506,94 @@ const BITS_TAPRIO_FLAG: [Named<'static>; 2] = [
 const LIST_TAPRIO: [Note<'static>; 12] = [
     Note {
         kernel: "TCA_TAPRIO_ATTR_PRIOMAP",
-        unit: "",
-        names: &[],
+        unit: Unit::Plain,
+        names: 0,
     },
     Note {
         kernel: "TCA_TAPRIO_ATTR_SCHED_ENTRY_LIST",
-        unit: "",
-        names: &[],
+        unit: Unit::Plain,
+        names: 0,
     },
     Note {
         kernel: "TCA_TAPRIO_ATTR_SCHED_BASE_TIME",
-        unit: "nanoseconds",
-        names: &[],
+        unit: Unit::Nanoseconds,
+        names: 0,
     },
     Note {
         kernel: "TCA_TAPRIO_ATTR_SCHED_SINGLE_ENTRY",
-        unit: "",
-        names: &[],
+        unit: Unit::Plain,
+        names: 0,
     },
     Note {
         kernel: "TCA_TAPRIO_ATTR_SCHED_CLOCKID",
-        unit: "",
-        names: &NAMES_CLOCKID,
+        unit: Unit::Plain,
+        names: 6,
     },
     Note {
         kernel: "TCA_TAPRIO_PAD",
-        unit: "",
-        names: &[],
+        unit: Unit::Plain,
+        names: 0,
     },
     Note {
         kernel: "TCA_TAPRIO_ATTR_ADMIN_SCHED",
-        unit: "",
-        names: &[],
+        unit: Unit::Plain,
+        names: 0,
     },
     Note {
         kernel: "TCA_TAPRIO_ATTR_SCHED_CYCLE_TIME",
-        unit: "nanoseconds",
-        names: &[],
+        unit: Unit::Nanoseconds,
+        names: 0,
     },
     Note {
         kernel: "TCA_TAPRIO_ATTR_SCHED_CYCLE_TIME_EXTENSION",
-        unit: "nanoseconds",
-        names: &[],
+        unit: Unit::Nanoseconds,
+        names: 0,
     },
     Note {
         kernel: "TCA_TAPRIO_ATTR_FLAGS",
-        unit: "",
-        names: &BITS_TAPRIO_FLAG,
+        unit: Unit::Plain,
+        names: 31,
     },
     Note {
         kernel: "TCA_TAPRIO_ATTR_TXTIME_DELAY",
-        unit: "nanoseconds",
-        names: &[],
+        unit: Unit::Nanoseconds,
+        names: 0,
     },
     Note {
         kernel: "TCA_TAPRIO_ATTR_TC_ENTRY",
-        unit: "",
-        names: &[],
+        unit: Unit::Plain,
+        names: 0,
     },
 ];
 
 // `list taprio_entry_list`
 const LIST_TAPRIO_ENTRY_LIST: [Note<'static>; 1] = [Note {
     kernel: "TCA_TAPRIO_SCHED_ENTRY",
-    unit: "",
-    names: &[],
+    unit: Unit::Plain,
+    names: 0,
 }];
 
 // `list taprio_entry`
 const LIST_TAPRIO_ENTRY: [Note<'static>; 4] = [
     Note {
         kernel: "TCA_TAPRIO_SCHED_ENTRY_INDEX",
-        unit: "",
-        names: &[],
+        unit: Unit::Plain,
+        names: 0,
     },
     Note {
         kernel: "TCA_TAPRIO_SCHED_ENTRY_CMD",
-        unit: "",
-        names: &[],
+        unit: Unit::Plain,
+        names: 0,
     },
     Note {
         kernel: "TCA_TAPRIO_SCHED_ENTRY_GATE_MASK",
-        unit: "",
-        names: &[],
+        unit: Unit::Plain,
+        names: 0,
     },
     Note {
         kernel: "TCA_TAPRIO_SCHED_ENTRY_INTERVAL",
-        unit: "nanoseconds",
-        names: &[],
+        unit: Unit::Nanoseconds,
+        names: 0,
     },
 ];
 
@@ -7832,18 +7601,18 @@ const LIST_TAPRIO_ENTRY: [Note<'static>; 4] = [
 const ENUM_TC_TAPRIO_CMD: [Note<'static>; 3] = [
     Note {
         kernel: "TC_TAPRIO_CMD_SET_GATES",
-        unit: "",
-        names: &[],
+        unit: Unit::Plain,
+        names: 0,
     },
     Note {
         kernel: "TC_TAPRIO_CMD_SET_AND_HOLD",
-        unit: "",
-        names: &[],
+        unit: Unit::Plain,
+        names: 0,
     },
     Note {
         kernel: "TC_TAPRIO_CMD_SET_AND_RELEASE",
-        unit: "",
-        names: &[],
+        unit: Unit::Plain,
+        names: 0,
     },
 ];
 
@@ -7851,18 +7620,18 @@ const ENUM_TC_TAPRIO_CMD: [Note<'static>; 3] = [
 const LIST_TAPRIO_TC_ENTRY: [Note<'static>; 3] = [
     Note {
         kernel: "TCA_TAPRIO_TC_ENTRY_INDEX",
-        unit: "",
-        names: &[],
+        unit: Unit::Plain,
+        names: 0,
     },
     Note {
         kernel: "TCA_TAPRIO_TC_ENTRY_MAX_SDU",
-        unit: "bytes",
-        names: &[],
+        unit: Unit::Bytes,
+        names: 0,
     },
     Note {
         kernel: "TCA_TAPRIO_TC_ENTRY_FP",
-        unit: "",
-        names: &[],
+        unit: Unit::Plain,
+        names: 0,
     },
 ];
 
@@ -7870,18 +7639,18 @@ const LIST_TAPRIO_TC_ENTRY: [Note<'static>; 3] = [
 const LIST_TAPRIO_STATS: [Note<'static>; 3] = [
     Note {
         kernel: "TCA_TAPRIO_OFFLOAD_STATS_PAD",
-        unit: "",
-        names: &[],
+        unit: Unit::Plain,
+        names: 0,
     },
     Note {
         kernel: "TCA_TAPRIO_OFFLOAD_STATS_WINDOW_DROPS",
-        unit: "packets",
-        names: &[],
+        unit: Unit::Packets,
+        names: 0,
     },
     Note {
         kernel: "TCA_TAPRIO_OFFLOAD_STATS_TX_OVERRUNS",
-        unit: "packets",
-        names: &[],
+        unit: Unit::Packets,
+        names: 0,
     },
 ];
 
@@ -7889,43 +7658,43 @@ const LIST_TAPRIO_STATS: [Note<'static>; 3] = [
 const LIST_TBF: [Note<'static>; 8] = [
     Note {
         kernel: "TCA_TBF_PARMS",
-        unit: "",
-        names: &[],
+        unit: Unit::Plain,
+        names: 0,
     },
     Note {
         kernel: "TCA_TBF_RTAB",
-        unit: "",
-        names: &[],
+        unit: Unit::Plain,
+        names: 0,
     },
     Note {
         kernel: "TCA_TBF_PTAB",
-        unit: "",
-        names: &[],
+        unit: Unit::Plain,
+        names: 0,
     },
     Note {
         kernel: "TCA_TBF_RATE64",
-        unit: "bytes a second",
-        names: &[],
+        unit: Unit::BytesPerSecond,
+        names: 0,
     },
     Note {
         kernel: "TCA_TBF_PRATE64",
-        unit: "bytes a second",
-        names: &[],
+        unit: Unit::BytesPerSecond,
+        names: 0,
     },
     Note {
         kernel: "TCA_TBF_BURST",
-        unit: "bytes",
-        names: &[],
+        unit: Unit::Bytes,
+        names: 0,
     },
     Note {
         kernel: "TCA_TBF_PBURST",
-        unit: "bytes",
-        names: &[],
+        unit: Unit::Bytes,
+        names: 0,
     },
     Note {
         kernel: "TCA_TBF_PAD",
-        unit: "",
-        names: &[],
+        unit: Unit::Plain,
+        names: 0,
     },
 ];
 
@@ -7933,28 +7702,28 @@ const LIST_TBF: [Note<'static>; 8] = [
 const STRUCT_TC_TBF_QOPT: [Note<'static>; 5] = [
     Note {
         kernel: "",
-        unit: "",
-        names: &[],
+        unit: Unit::Plain,
+        names: 0,
     },
     Note {
         kernel: "",
-        unit: "",
-        names: &[],
+        unit: Unit::Plain,
+        names: 0,
     },
     Note {
         kernel: "",
-        unit: "bytes",
-        names: &[],
+        unit: Unit::Bytes,
+        names: 0,
     },
     Note {
         kernel: "",
-        unit: "ticks of 64 ns",
-        names: &[],
+        unit: Unit::Ticks,
+        names: 0,
     },
     Note {
         kernel: "",
-        unit: "ticks of 64 ns",
-        names: &[],
+        unit: Unit::Ticks,
+        names: 0,
     },
 ];
 
@@ -7962,33 +7731,33 @@ const STRUCT_TC_TBF_QOPT: [Note<'static>; 5] = [
 const STRUCT_TC_RATESPEC: [Note<'static>; 6] = [
     Note {
         kernel: "",
-        unit: "exponent of 2",
-        names: &[],
+        unit: Unit::Power,
+        names: 0,
     },
     Note {
         kernel: "",
-        unit: "",
-        names: &[],
+        unit: Unit::Plain,
+        names: 0,
     },
     Note {
         kernel: "",
-        unit: "bytes",
-        names: &[],
+        unit: Unit::Bytes,
+        names: 0,
     },
     Note {
         kernel: "",
-        unit: "",
-        names: &[],
+        unit: Unit::Plain,
+        names: 0,
     },
     Note {
         kernel: "",
-        unit: "bytes",
-        names: &[],
+        unit: Unit::Bytes,
+        names: 0,
     },
     Note {
         kernel: "",
-        unit: "bytes a second",
-        names: &[],
+        unit: Unit::BytesPerSecond,
+        names: 0,
     },
 ];
 
@@ -7996,18 +7765,18 @@ const STRUCT_TC_RATESPEC: [Note<'static>; 6] = [
 const ENUM_TC_LINKLAYER: [Note<'static>; 3] = [
     Note {
         kernel: "TC_LINKLAYER_UNAWARE",
-        unit: "",
-        names: &[],
+        unit: Unit::Plain,
+        names: 0,
     },
     Note {
         kernel: "TC_LINKLAYER_ETHERNET",
-        unit: "",
-        names: &[],
+        unit: Unit::Plain,
+        names: 0,
     },
     Note {
         kernel: "TC_LINKLAYER_ATM",
-        unit: "",
-        names: &[],
+        unit: Unit::Plain,
+        names: 0,
     },
 ];
 
@@ -8015,13 +7784,13 @@ const ENUM_TC_LINKLAYER: [Note<'static>; 3] = [
 const LIST_STAB: [Note<'static>; 2] = [
     Note {
         kernel: "TCA_STAB_BASE",
-        unit: "",
-        names: &[],
+        unit: Unit::Plain,
+        names: 0,
     },
     Note {
         kernel: "TCA_STAB_DATA",
-        unit: "",
-        names: &[],
+        unit: Unit::Plain,
+        names: 0,
     },
 ];
 
@@ -8029,43 +7798,43 @@ const LIST_STAB: [Note<'static>; 2] = [
 const STRUCT_TC_SIZESPEC: [Note<'static>; 8] = [
     Note {
         kernel: "",
-        unit: "exponent of 2",
-        names: &[],
+        unit: Unit::Power,
+        names: 0,
     },
     Note {
         kernel: "",
-        unit: "exponent of 2",
-        names: &[],
+        unit: Unit::Power,
+        names: 0,
     },
     Note {
         kernel: "",
-        unit: "",
-        names: &[],
+        unit: Unit::Plain,
+        names: 0,
     },
     Note {
         kernel: "",
-        unit: "bytes",
-        names: &[],
+        unit: Unit::Bytes,
+        names: 0,
     },
     Note {
         kernel: "",
-        unit: "",
-        names: &[],
+        unit: Unit::Plain,
+        names: 0,
     },
     Note {
         kernel: "",
-        unit: "bytes",
-        names: &[],
+        unit: Unit::Bytes,
+        names: 0,
     },
     Note {
         kernel: "",
-        unit: "bytes",
-        names: &[],
+        unit: Unit::Bytes,
+        names: 0,
     },
     Note {
         kernel: "",
-        unit: "",
-        names: &[],
+        unit: Unit::Plain,
+        names: 0,
     },
 ];
 
@@ -8073,13 +7842,13 @@ const STRUCT_TC_SIZESPEC: [Note<'static>; 8] = [
 const STRUCT_TC_ESTIMATOR: [Note<'static>; 2] = [
     Note {
         kernel: "",
-        unit: "exponent of 2",
-        names: &[],
+        unit: Unit::Power,
+        names: 0,
     },
     Note {
         kernel: "",
-        unit: "exponent of 2",
-        names: &[],
+        unit: Unit::Power,
+        names: 0,
     },
 ];
 
@@ -8087,13 +7856,13 @@ const STRUCT_TC_ESTIMATOR: [Note<'static>; 2] = [
 const ENUM_TC_FP: [Note<'static>; 2] = [
     Note {
         kernel: "TC_FP_EXPRESS",
-        unit: "",
-        names: &[],
+        unit: Unit::Plain,
+        names: 0,
     },
     Note {
         kernel: "TC_FP_PREEMPTIBLE",
-        unit: "",
-        names: &[],
+        unit: Unit::Plain,
+        names: 0,
     },
 ];
 
@@ -8101,48 +7870,48 @@ const ENUM_TC_FP: [Note<'static>; 2] = [
 const STRUCT_TC_STATS: [Note<'static>; 9] = [
     Note {
         kernel: "",
-        unit: "bytes",
-        names: &[],
+        unit: Unit::Bytes,
+        names: 0,
     },
     Note {
         kernel: "",
-        unit: "packets",
-        names: &[],
+        unit: Unit::Packets,
+        names: 0,
     },
     Note {
         kernel: "",
-        unit: "packets",
-        names: &[],
+        unit: Unit::Packets,
+        names: 0,
     },
     Note {
         kernel: "",
-        unit: "",
-        names: &[],
+        unit: Unit::Plain,
+        names: 0,
     },
     Note {
         kernel: "",
-        unit: "bytes a second",
-        names: &[],
+        unit: Unit::BytesPerSecond,
+        names: 0,
     },
     Note {
         kernel: "",
-        unit: "packets a second",
-        names: &[],
+        unit: Unit::PacketsPerSecond,
+        names: 0,
     },
     Note {
         kernel: "",
-        unit: "packets",
-        names: &[],
+        unit: Unit::Packets,
+        names: 0,
     },
     Note {
         kernel: "",
-        unit: "bytes",
-        names: &[],
+        unit: Unit::Bytes,
+        names: 0,
     },
     Note {
         kernel: "",
-        unit: "",
-        names: &[],
+        unit: Unit::Plain,
+        names: 0,
     },
 ];
 
@@ -8150,38 +7919,38 @@ const STRUCT_TC_STATS: [Note<'static>; 9] = [
 const LIST_STATS_OF_ALL: [Note<'static>; 7] = [
     Note {
         kernel: "TCA_STATS_BASIC",
-        unit: "",
-        names: &[],
+        unit: Unit::Plain,
+        names: 0,
     },
     Note {
         kernel: "TCA_STATS_RATE_EST",
-        unit: "",
-        names: &[],
+        unit: Unit::Plain,
+        names: 0,
     },
     Note {
         kernel: "TCA_STATS_QUEUE",
-        unit: "",
-        names: &[],
+        unit: Unit::Plain,
+        names: 0,
     },
     Note {
         kernel: "TCA_STATS_RATE_EST64",
-        unit: "",
-        names: &[],
+        unit: Unit::Plain,
+        names: 0,
     },
     Note {
         kernel: "TCA_STATS_PAD",
-        unit: "",
-        names: &[],
+        unit: Unit::Plain,
+        names: 0,
     },
     Note {
         kernel: "TCA_STATS_BASIC_HW",
-        unit: "",
-        names: &[],
+        unit: Unit::Plain,
+        names: 0,
     },
     Note {
         kernel: "TCA_STATS_PKT64",
-        unit: "packets",
-        names: &[],
+        unit: Unit::Packets,
+        names: 0,
     },
 ];
 
@@ -8189,18 +7958,18 @@ const LIST_STATS_OF_ALL: [Note<'static>; 7] = [
 const STRUCT_GNET_STATS_BASIC: [Note<'static>; 3] = [
     Note {
         kernel: "",
-        unit: "bytes",
-        names: &[],
+        unit: Unit::Bytes,
+        names: 0,
     },
     Note {
         kernel: "",
-        unit: "packets",
-        names: &[],
+        unit: Unit::Packets,
+        names: 0,
     },
     Note {
         kernel: "",
-        unit: "",
-        names: &[],
+        unit: Unit::Plain,
+        names: 0,
     },
 ];
 
@@ -8208,28 +7977,28 @@ const STRUCT_GNET_STATS_BASIC: [Note<'static>; 3] = [
 const STRUCT_GNET_STATS_QUEUE: [Note<'static>; 5] = [
     Note {
         kernel: "",
-        unit: "packets",
-        names: &[],
+        unit: Unit::Packets,
+        names: 0,
     },
     Note {
         kernel: "",
-        unit: "bytes",
-        names: &[],
+        unit: Unit::Bytes,
+        names: 0,
     },
     Note {
         kernel: "",
-        unit: "packets",
-        names: &[],
+        unit: Unit::Packets,
+        names: 0,
     },
     Note {
         kernel: "",
-        unit: "packets",
-        names: &[],
+        unit: Unit::Packets,
+        names: 0,
     },
     Note {
         kernel: "",
-        unit: "",
-        names: &[],
+        unit: Unit::Plain,
+        names: 0,
     },
 ];
 
@@ -8237,12 +8006,12 @@ const STRUCT_GNET_STATS_QUEUE: [Note<'static>; 5] = [
 const STRUCT_GNET_STATS_RATE_EST: [Note<'static>; 2] = [
     Note {
         kernel: "",
-        unit: "bytes a second",
-        names: &[],
+        unit: Unit::BytesPerSecond,
+        names: 0,
     },
     Note {
         kernel: "",
-        unit: "packets a second",
-        names: &[],
+        unit: Unit::PacketsPerSecond,
+        names: 0,
     },
 ];

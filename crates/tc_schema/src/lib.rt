@@ -10,6 +10,6 @@ mod schema;
 mod texts;
 
 pub use explain::{kinds_of, knows_kind, put_kind};
-pub use kinds::{LISTS, NOTES, PLACES};
-pub use notes::{Named, Note, Noted};
+pub use kinds::{LISTS, PLACES};
+pub use notes::{Named, NamesAt, Note, Noted, Unit, all_names, notes_at_places};
 pub use schema::{put_schema, put_schema_definitions};

@@ -1,7 +1,10 @@
 //! What is known of the members of a part beside their names and forms.
 
 ghost use Rattle.std.specs.Prelude.{◌≡◌};
-ghost use Rattle.tc_schema.specs.Notes.{first_note, note_view, note_views, noted_views, notes_at, other_notes};
+ghost use Rattle.tc_schema.specs.Notes.{first_note, named_views, names_at, names_at_views, note_view, note_views, noted_views, notes_at, other_notes};
+
+use crate::kinds::{NAMES, names_of, notes_of};
+use std::alloc::{AllocError, Allocator};
 
 /// A named number, or a bit of a flag word.
 #[derive(Clone, Copy)]
@@ -14,15 +17,52 @@ pub struct Named<'a> {
     pub kernel: &'a str,
 }
 
+/// What a number counts.
+#[derive(Clone, Copy)]
+pub enum Unit {
+    /// Nothing that is known.
+    Plain,
+    /// Bytes.
+    Bytes,
+    /// Packets.
+    Packets,
+    /// Bytes a second.
+    BytesPerSecond,
+    /// Packets a second.
+    PacketsPerSecond,
+    /// A thousand bits a second.
+    KilobitsPerSecond,
+    /// Nanoseconds.
+    Nanoseconds,
+    /// Microseconds.
+    Microseconds,
+    /// Milliseconds.
+    Milliseconds,
+    /// Seconds.
+    Seconds,
+    /// Ticks of the packet scheduler, 64 ns each.
+    Ticks,
+    /// Hundredths of a second (`USER_HZ`).
+    ClockTicks,
+    /// Hundredths.
+    Percent,
+    /// A probability: 2^-32 each.
+    Probability,
+    /// The exponent of a power of two.
+    Power,
+    /// Nothing: it is the number of an interface.
+    Interface,
+}
+
 /// What is known of a member.
 #[derive(Clone, Copy)]
 pub struct Note<'a> {
     /// The kernel's name; empty where it has none.
     pub kernel: &'a str,
-    /// What it counts, in words; empty where that isn't known.
-    pub unit: &'a str,
-    /// The names of its numbers or bits, beside those of the table.
-    pub names: &'a [Named<'a>],
+    /// What it counts.
+    pub unit: Unit,
+    /// The place of the names of its numbers or bits, beside those of the table; 0 where it has none.
+    pub names: usize,
 }
 
 /// What is known of the members of a part, in their order.
@@ -34,14 +74,36 @@ pub struct Noted<'a> {
     pub notes: &'a [Note<'a>],
 }
 
+/// The names of numbers or bits.
+#[derive(Clone, Copy)]
+pub struct NamesAt<'a> {
+    /// Their place.
+    pub place: usize,
+    /// The names.
+    pub names: &'a [Named<'a>],
+}
+
 const NO_NOTE: Note<'static> = Note {
     kernel: "",
-    unit: "",
-    names: &[],
+    unit: Unit::Plain,
+    names: 0,
 };
 
+// The names at a place.
+pub(crate) fn names_at(names: &[NamesAt<'static>], place: usize) -> &'static [Named<'static>]
+    ensures { named_views result.now ≡ names_at (names_at_views names.now) place }
+{
+    if let Some((it, others)) = names.split_first() {
+        if it.place == place {
+            return it.names;
+        }
+        return names_at(others, place);
+    }
+    &[]
+}
+
 // The notes of the part at a place.
-pub(crate) fn notes_at(notes: &'static [Noted<'static>], place: usize) -> &'static [Note<'static>]
+pub(crate) fn notes_at(notes: &[Noted<'static>], place: usize) -> &'static [Note<'static>]
     ensures { note_views result.now ≡ notes_at (noted_views notes.now) place }
 {
     if let Some((noted, others)) = notes.split_first() {
@@ -68,4 +130,31 @@ pub(crate) fn first_note(left: Left) -> (Note<'static>, Left)
         Some((first, others)) => (*first, Left { notes: others }),
         None => (NO_NOTE, Left { notes: &[] }),
     }
+}
+
+/// The notes of the parts at these places.
+pub fn notes_at_places<A: Allocator>(
+    alloc: A,
+    places: &[usize],
+) -> Result<Vec<Noted<'static>, A>, AllocError> {
+    let mut out = Vec::new(alloc);
+    for place in places {
+        out.push(Noted {
+            place: *place,
+            notes: notes_of(*place),
+        })?;
+    }
+    Ok(out)
+}
+
+/// All names that notes have.
+pub fn all_names<A: Allocator>(alloc: A) -> Result<Vec<NamesAt<'static>, A>, AllocError> {
+    let mut out = Vec::new(alloc);
+    for place in 1..=NAMES {
+        out.push(NamesAt {
+            place,
+            names: names_of(place),
+        })?;
+    }
+    Ok(out)
 }

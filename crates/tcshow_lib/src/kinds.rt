@@ -3,7 +3,9 @@
 use std::alloc::{AllocError, Allocator};
 use std::fmt;
 use tc_kinds::{ACTION_MESSAGE, TC_MESSAGE, TcTables};
-use tc_schema::{LISTS, NOTES, PLACES, kinds_of, knows_kind, put_kind, put_schema};
+use tc_schema::{
+    LISTS, PLACES, all_names, kinds_of, knows_kind, notes_at_places, put_kind, put_schema,
+};
 
 /// True of a kind that a table has.
 pub(crate) fn is_known(kind: &str) -> bool {
@@ -23,10 +25,24 @@ pub fn write_all_kinds<W: fmt::Write>(out: &mut W) -> fmt::Result {
 }
 
 /// Puts what the attributes of a kind are; nothing for a kind that no table has.
-pub fn explain<A: Allocator>(kind: &str, out: &mut Vec<u8, A>) -> Result<(), AllocError> {
-    let [first, second] = LISTS;
-    put_kind(TcTables, &NOTES, first, kind, out)?;
-    put_kind(TcTables, &NOTES, second, kind, out)
+pub fn explain<A: Allocator + Copy>(
+    alloc: A,
+    kind: &str,
+    out: &mut Vec<u8, A>,
+) -> Result<(), AllocError> {
+    let notes = notes_at_places(alloc, &PLACES)?;
+    let names = all_names(alloc)?;
+    for place in &LISTS {
+        put_kind(
+            TcTables,
+            notes.as_slice(),
+            names.as_slice(),
+            *place,
+            kind,
+            out,
+        )?;
+    }
+    Ok(())
 }
 
 /// Puts the JSON Schema of a line.

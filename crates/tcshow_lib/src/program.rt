@@ -103,7 +103,7 @@ fn print_kind<R: AllocGlobal + Print, E: Write>(rt: &R, kind: &str, errors: &mut
         return complain_of_choice(rt.alloc(), NoChoice::Kind(kind), errors);
     }
     let mut text = Vec::new(rt.alloc());
-    match explain(kind, &mut text) {
+    match explain(rt.alloc(), kind, &mut text) {
         Ok(()) => print(rt, text.as_slice(), errors),
         Err(_) => complain(errors, NO_MEMORY, 3),
     }

@@ -308,9 +308,9 @@ fn links_name(rt: HostRuntime) {
 #[test]
 fn kinds_are_explained(rt: HostRuntime) -> Result<(), Fail> {
     let mut text = Vec::new(rt.alloc());
-    explain("Htb", &mut text)?;
+    explain(rt.alloc(), "Htb", &mut text)?;
     assert!(rt; text.is_empty());
-    explain("htb", &mut text)?;
+    explain(rt.alloc(), "htb", &mut text)?;
     let text = str::from_utf8(&text).unwrap_or("");
     assert!(rt;
         text.starts_with(
@@ -333,8 +333,8 @@ fn kinds_are_explained(rt: HostRuntime) -> Result<(), Fail> {
 #[test]
 fn names_are_explained(rt: HostRuntime) -> Result<(), Fail> {
     let mut text = Vec::new(rt.alloc());
-    explain("matchall", &mut text)?;
-    explain("gact", &mut text)?;
+    explain(rt.alloc(), "matchall", &mut text)?;
+    explain(rt.alloc(), "gact", &mut text)?;
     let text = str::from_utf8(&text).unwrap_or("");
     assert!(rt;
         text.contains(

@@ -1,7 +1,7 @@
 use Rattle.std.proofs.Common.{length, ◌*◌, ◌+◌, ◌++◌, ◌-◌, ◌≡◌}
 use Rattle.tc_forms.specs.Tables.{part_view}
 use Rattle.tc_schema.specs.Explained.{deepest, explained, members_text}
-use Rattle.tc_schema.specs.Notes.{note_views, noted_views}
+use Rattle.tc_schema.specs.Notes.{names_at_views, note_views, noted_views}
 use Rattle.tc_schema.specs.Texts.{members_of}
 use Rattle.tc_schema.proofs.explain.+explain.Given as goal
 
@@ -20,6 +20,7 @@ decreases-explain_members-loop-member g l = length (members_of (part_view l.left
 -- what is to be appended from here is what was to be appended from the start
 abbrev pub invariant-explain_members-loop-member : goal.invariant-explain_members-loop-member
 invariant-explain_members-loop-member g l =
-    let Inner = explained (g.T.Tables.parts_of l.table) (noted_views l.notes) l.inner in
-    l.out.items ++ members_text Inner (deepest - l.inner) (members_of (part_view l.left)) (note_views l.behind.notes.now)
-    ≡ l.initial.out.items ++ members_text Inner (deepest - l.inner) (members_of (part_view l.initial.left)) (note_views l.initial.behind.notes.now)
+    let names = names_at_views l.names in
+    let Inner = explained (g.T.Tables.parts_of l.table) (noted_views l.notes) names l.inner in
+    l.out.items ++ members_text Inner names (deepest - l.inner) (members_of (part_view l.left)) (note_views l.behind.notes.now)
+    ≡ l.initial.out.items ++ members_text Inner names (deepest - l.inner) (members_of (part_view l.initial.left)) (note_views l.initial.behind.notes.now)
