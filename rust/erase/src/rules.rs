@@ -20,7 +20,7 @@ pub(crate) const CLASSES: &[(&str, &[&str])] = &[
 /// Imports of these have no use any more.
 pub(crate) const LOST_IMPORTS: &[&str] = &[
     "Abort", "AllocError", "AllocFailed", "AllocGlobal", "Allocator", "BuildHasherDefault", "BytesMeaning", "CanonMeaning", "Case", "Described", "Eprint",
-    "Failing", "FoldHasher", "FrameMeaning", "Global", "Log", "Note", "String", "byteorder", "thiserror",
+    "Failing", "FoldHasher", "FrameMeaning", "Global", "Log", "String", "byteorder", "thiserror",
 ];
 
 /// Contracts, ghost items, and the attributes of proofs. What a `requires` asks stays before the body, for `duties.rs`.
@@ -31,6 +31,7 @@ pub(crate) const GHOSTS: &[Rule] = &[
     ("requires $n { $;c }", "(required $n: $;c)"),
     ("pub ghost", "ghost"),
     ("ghost use $*p ;", ""),
+    ("use crate::log::{Log, Note};", ""),
     ("ghost $n : { $;t } = { $;v } ;", ""),
     ("ghost $n : { $;t } ;", ""),
     ("ghost $n : { $;t } ,", ""),
