@@ -18,7 +18,7 @@ use Rattle.tc_lines.specs.declared.column.InfoOf.TheVariants as info
 use Rattle.tc_texts.specs.Handle.{handle_of, handle_text}
 use Rattle.tc_units.specs.Flags.{flags_text}
 use Rattle.tc_units.specs.Names.{Name, name_of, named_text, number_of}
-use Rattle.tc_units.specs.Units.{number_text}
+use Rattle.tc_units.specs.Units.{number_text, signed_text}
 use Rattle.tc_units.specs.Values.{verdict_text}
 use Rattle.tc_units.specs.declared.unit.Unit.{Unit}
 use Rattle.tc_units.specs.declared.unit.Unit.TheVariants.{LongHex, Plain}
@@ -134,6 +134,7 @@ module _ (t : Table) where
   -- a number below zero by its column; an interface of -1 stands for a block, which is named elsewhere
   abbrev pub signed_in : How → ℤ → List ℕ
   signed_in (how.Index p) z = if is_block z then [] else codes " index " ++ signed_decimal z
+  signed_in (how.Number u) z = codes " " ++ signed_text u z
   signed_in h z = codes " " ++ signed_decimal z
 
   -- a text by its column, behind a blank

@@ -19,6 +19,7 @@ use hex::FromHex;
 use itoa::Buffer;
 use std::alloc::{AllocError, Allocator};
 use tc_texts::{handle_from_tc_text, handle_text};
+use tc_units::put_signed as put_signed_number;
 use tc_units::{Name, Unit, name_of, number_of, put_flags, put_named, put_number, put_verdict};
 
 // Puts a number in decimal.
@@ -534,6 +535,10 @@ pub(crate) fn put_signed<C: Columns, A: Allocator>(
     match how {
         How::Index(_) if is_block(n) => Ok(()),
         How::Index(_) => put_negative(out, b" index ", n),
+        How::Number(unit) => {
+            out.extend_from_slice(b" ")?;
+            put_signed_number(out, *unit, n)
+        }
         _ => put_negative(out, b" ", n),
     }
 }

@@ -10,14 +10,14 @@ time_text ns =
     else if ns % 1000 == 0 then decimal (ns / 1000) ++ codes "us"
     else decimal ns ++ codes "ns"
 
--- as many units of this name as there are, so many ns long each; behind it the time in a longer unit where that is exact
-abbrev pub time_in : ℕ → List ℕ → ℕ → List ℕ
-time_in each name n =
-    decimal n ++ (name ++ (if nat_lt 0 n && n % 1000 == 0 then bracketed (time_text (n * each)) else []))
+-- as many units of this name as there are, so many ns long each; behind it the time in a longer unit where that is exact; before both a sign, or nothing
+abbrev pub time_in : List ℕ → ℕ → List ℕ → ℕ → List ℕ
+time_in sign each name n =
+    sign ++ (decimal n ++ (name ++ (if nat_lt 0 n && n % 1000 == 0 then bracketed (sign ++ time_text (n * each)) else [])))
 
--- a tick of the packet scheduler is 64 ns
-abbrev pub ticks_text : ℕ → List ℕ
-ticks_text n = decimal n ++ (codes " ticks" ++ bracketed (time_text (n * 64)))
+-- a tick of the packet scheduler is 64 ns; before both numbers a sign, or nothing
+abbrev pub ticks_text : List ℕ → ℕ → List ℕ
+ticks_text sign n = sign ++ (decimal n ++ (codes " ticks" ++ bracketed (sign ++ time_text (n * 64))))
 
 -- what `clock_t` counts has a hundredth of a second
 abbrev pub clock_text : ℕ → List ℕ

@@ -1,5 +1,6 @@
 -- Numbers with their units: the exact number first, and in brackets what it is to people.
-use Rattle.std.specs.Prelude.{Bool, List, [], codes, decimal, if◌then◌else◌, nat_lt, ℕ, ◌%◌, ◌&&◌, ◌*◌, ◌+◌, ◌++◌, ◌/◌, ◌==◌, ◌^◌, ◌||◌, ◌∷◌}
+use Rattle.std.specs.Int.{is_negative}
+use Rattle.std.specs.Prelude.{Bool, List, [], codes, decimal, if◌then◌else◌, nat_lt, unsigned_abs, ℕ, ℤ, ◌%◌, ◌&&◌, ◌*◌, ◌+◌, ◌++◌, ◌/◌, ◌==◌, ◌^◌, ◌||◌, ◌∷◌}
 use Rattle.tc_units.specs.Numerals.{bracketed, hex_text, long_hex_text}
 use Rattle.tc_units.specs.Times.{clock_text, ticks_text, time_in}
 use Rattle.tc_units.specs.Values.{u32_handle_text}
@@ -59,13 +60,28 @@ number_text unit.Packets n = decimal n ++ codes "p"
 number_text unit.BytesPerSecond n = rate_text n
 number_text unit.PacketsPerSecond n = decimal n ++ codes " p/s"
 number_text unit.KilobitsPerSecond n = decimal n ++ codes " kbit/s"
-number_text unit.Nanoseconds n = time_in 1 (codes "ns") n
-number_text unit.Microseconds n = time_in 1000 (codes "us") n
-number_text unit.Milliseconds n = time_in 1000000 (codes "ms") n
+number_text unit.Nanoseconds n = time_in [] 1 (codes "ns") n
+number_text unit.Microseconds n = time_in [] 1000 (codes "us") n
+number_text unit.Milliseconds n = time_in [] 1000000 (codes "ms") n
 number_text unit.Seconds n = decimal n ++ codes "s"
-number_text unit.Ticks n = ticks_text n
+number_text unit.Ticks n = ticks_text [] n
 number_text unit.ClockTicks n = clock_text n
 number_text unit.Percent n = decimal n ++ codes "%"
 number_text unit.Probability n = probability_text n
 number_text unit.Power n = power_text n
 number_text unit.U32Handle n = u32_handle_text n
+
+-- a number below zero in its unit, by its amount
+abbrev pub below_zero_text : Unit → ℕ → List ℕ
+below_zero_text unit.Bytes n = codes "-" ++ (decimal n ++ codes "B")
+below_zero_text unit.Packets n = codes "-" ++ (decimal n ++ codes "p")
+below_zero_text unit.Nanoseconds n = time_in (codes "-") 1 (codes "ns") n
+below_zero_text unit.Microseconds n = time_in (codes "-") 1000 (codes "us") n
+below_zero_text unit.Milliseconds n = time_in (codes "-") 1000000 (codes "ms") n
+below_zero_text unit.Seconds n = codes "-" ++ (decimal n ++ codes "s")
+below_zero_text unit.Ticks n = ticks_text (codes "-") n
+below_zero_text u n = codes "-" ++ decimal n
+
+-- a number that may be below zero
+abbrev pub signed_text : Unit → ℤ → List ℕ
+signed_text u z = if is_negative z then below_zero_text u (unsigned_abs z) else number_text u (unsigned_abs z)

@@ -3,7 +3,7 @@
 //! | What | How it is written |
 //! |---|---|
 //! | a rate in bytes a second | `125000 B/s (1Mbit)`, in brackets as `tc` writes it |
-//! | bytes, packets | `1514B`, `10240p` |
+//! | bytes, packets | `1514B`, `-1514B`, `10240p` |
 //! | a time | `4999us`, `100000us (100ms)`: in brackets in the longest unit that counts it exactly |
 //! | ticks of the packet scheduler | `15625 ticks (1ms)` |
 //! | a probability | `42949673 (1%)`, rounded to thousandths of a percent |
@@ -30,5 +30,5 @@ pub use names::{Name, name_of, number_of, put_named};
 pub use numerals::put_hex;
 pub use prefix::prefix_of;
 pub use unit::Unit;
-pub use units::put_number;
+pub use units::{put_number, put_signed};
 pub use values::{put_u32_handle, put_verdict, verdict_name};

@@ -27,31 +27,40 @@ pub(crate) fn put_time<A: Allocator>(out: &mut Vec<u8, A>, ns: u128) -> Result<(
     out.extend_from_slice(b"ns")
 }
 
-/// Puts so many units of this name, and the time in a longer unit where that is exact.
+/// Puts so many units of this name, and the time in a longer unit where that is exact, both behind a sign.
 pub(crate) fn put_time_in<A: Allocator>(
     out: &mut Vec<u8, A>,
+    sign: &[u8],
     each: u32,
     name: &[u8],
     n: u64,
 ) -> Result<(), AllocError>
-    ensures { OnOk result (out.new.items ≡ out.old.items ++ time_in each name.now n) }
+    ensures { OnOk result (out.new.items ≡ out.old.items ++ time_in sign.now each name.now n) }
 {
+    out.extend_from_slice(sign)?;
     put_decimal(out, n)?;
     out.extend_from_slice(name)?;
     if n > 0 && n % 1000 == 0 {
         out.extend_from_slice(b" (")?;
+        out.extend_from_slice(sign)?;
         put_time(out, n as u128 * each as u128)?;
         out.extend_from_slice(b")")?;
     }
     Ok(())
 }
 
-/// Puts ticks of the packet scheduler, and their time.
-pub(crate) fn put_ticks<A: Allocator>(out: &mut Vec<u8, A>, n: u64) -> Result<(), AllocError>
-    ensures { OnOk result (out.new.items ≡ out.old.items ++ ticks_text n) }
+/// Puts ticks of the packet scheduler, and their time, both behind a sign.
+pub(crate) fn put_ticks<A: Allocator>(
+    out: &mut Vec<u8, A>,
+    sign: &[u8],
+    n: u64,
+) -> Result<(), AllocError>
+    ensures { OnOk result (out.new.items ≡ out.old.items ++ ticks_text sign.now n) }
 {
+    out.extend_from_slice(sign)?;
     put_decimal(out, n)?;
     out.extend_from_slice(b" ticks (")?;
+    out.extend_from_slice(sign)?;
     put_time(out, n as u128 * 64)?;
     out.extend_from_slice(b")")
 }

@@ -1,7 +1,8 @@
 //! Numbers with their units.
 
-ghost use Rattle.std.specs.Prelude.{OnOk, decimal, ◌++◌, ◌≡◌};
-ghost use Rattle.tc_units.specs.Units.{bits_text, decimals, number_text, percent_text, power_text, probability_text, rate_text, scaled, stays, swapped, thousandths};
+ghost use Rattle.std.specs.Prelude.{OnOk, codes, decimal, ◌++◌, ◌≡◌};
+ghost use Rattle.tc_units.specs.Units.{below_zero_text, bits_text, decimals, number_text, percent_text, power_text, probability_text, rate_text, scaled};
+ghost use Rattle.tc_units.specs.Units.{signed_text, stays, swapped, thousandths};
 
 use crate::numerals::{put_decimal, put_hex, put_long_hex, put_wide};
 use crate::times::{put_clock, put_ticks, put_time_in};
@@ -23,17 +24,53 @@ pub fn put_number<A: Allocator>(out: &mut Vec<u8, A>, unit: Unit, n: u64) -> Res
         Unit::BytesPerSecond => put_rate(out, n),
         Unit::PacketsPerSecond => put_counted(out, n, b" p/s"),
         Unit::KilobitsPerSecond => put_counted(out, n, b" kbit/s"),
-        Unit::Nanoseconds => put_time_in(out, 1, b"ns", n),
-        Unit::Microseconds => put_time_in(out, 1000, b"us", n),
-        Unit::Milliseconds => put_time_in(out, 1_000_000, b"ms", n),
+        Unit::Nanoseconds => put_time_in(out, b"", 1, b"ns", n),
+        Unit::Microseconds => put_time_in(out, b"", 1000, b"us", n),
+        Unit::Milliseconds => put_time_in(out, b"", 1_000_000, b"ms", n),
         Unit::Seconds => put_counted(out, n, b"s"),
-        Unit::Ticks => put_ticks(out, n),
+        Unit::Ticks => put_ticks(out, b"", n),
         Unit::ClockTicks => put_clock(out, n),
         Unit::Percent => put_counted(out, n, b"%"),
         Unit::Probability => put_probability(out, n),
         Unit::Power => put_power(out, n),
         Unit::U32Handle => put_u32_handle(out, n),
     }
+}
+
+/// Puts a number that may be below zero in its unit; a rate, a mask or a key that is has none.
+pub fn put_signed<A: Allocator>(out: &mut Vec<u8, A>, unit: Unit, n: i64) -> Result<(), AllocError>
+    ensures { OnOk result (out.new.items ≡ out.old.items ++ signed_text unit n) }
+{
+    let amount = n.unsigned_abs();
+    if n < 0 {
+        put_below_zero(out, unit, amount)
+    } else {
+        put_number(out, unit, amount)
+    }
+}
+
+// Puts a number below zero in its unit, by its amount.
+fn put_below_zero<A: Allocator>(out: &mut Vec<u8, A>, unit: Unit, n: u64) -> Result<(), AllocError>
+    ensures { OnOk result (out.new.items ≡ out.old.items ++ below_zero_text unit n) }
+{
+    match unit {
+        Unit::Bytes => put_minus(out, n, b"B"),
+        Unit::Packets => put_minus(out, n, b"p"),
+        Unit::Nanoseconds => put_time_in(out, b"-", 1, b"ns", n),
+        Unit::Microseconds => put_time_in(out, b"-", 1000, b"us", n),
+        Unit::Milliseconds => put_time_in(out, b"-", 1_000_000, b"ms", n),
+        Unit::Seconds => put_minus(out, n, b"s"),
+        Unit::Ticks => put_ticks(out, b"-", n),
+        _ => put_minus(out, n, b""),
+    }
+}
+
+// Puts a number below zero and the name of its unit.
+fn put_minus<A: Allocator>(out: &mut Vec<u8, A>, n: u64, name: &[u8]) -> Result<(), AllocError>
+    ensures { OnOk result (out.new.items ≡ out.old.items ++ (codes "-" ++ (decimal n ++ name.now))) }
+{
+    out.extend_from_slice(b"-")?;
+    put_counted(out, n, name)
 }
 
 // The number whose four bytes are in the other order.

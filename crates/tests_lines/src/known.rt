@@ -73,6 +73,23 @@ static HTB: Known = Known {
     ],
 };
 
+// A class that has overdrawn both of its buckets: -145 and -15625 ticks.
+static OVERDRAWN: Known = Known {
+    root: Root::Class,
+    digits: "0000000004000000100001000000010000000000080001006874620018000400010000000200000003000000\
+             6ffffffff7c2ffff",
+    lines: &[
+        " index 4 (eth0) handle 1:10 parent 1:",
+        "kind htb",
+        "xstats",
+        "  lends 1",
+        "  borrows 2",
+        "  giants 3",
+        "  tokens -145 ticks (-9280ns)",
+        "  ctokens -15625 ticks (-1ms)",
+    ],
+};
+
 static NETEM: Known = Known {
     root: Root::Qdisc,
     digits: "000000000400000000000100ffffffff000000000a0001006e6574656d0000003400020000000000e80300000000000000000000000000\
@@ -378,6 +395,7 @@ static SHORT: Known = Known {
 fn lines_are_known(rt: HostRuntime) {
     let alloc = rt.alloc();
     assert!(rt; is_known(alloc, &HTB, false));
+    assert!(rt; is_known(alloc, &OVERDRAWN, false));
     assert!(rt; is_known(alloc, &NETEM, false));
     assert!(rt; is_known(alloc, &CAKE, false));
     assert!(rt; is_known(alloc, &TBF, false));

@@ -3,7 +3,8 @@
 
 use std::alloc::{AllocError, Global};
 use tc_units::{
-    Name, Unit, prefix_of, put_flags, put_named, put_number, put_u32_handle, put_verdict,
+    Name, Unit, prefix_of, put_flags, put_named, put_number, put_signed, put_u32_handle,
+    put_verdict,
 };
 
 // What is put.
@@ -160,6 +161,40 @@ fn numbers_in_units(rt: HostRuntime) {
             "63 (9223372036854775808)"
         )
     );
+}
+
+#[rattlefmt::skip]
+static SIGNED: [(Unit, i64, &str); 16] = [
+    (Unit::Plain, -17, "-17"),
+    (Unit::Hex, -0x1f, "-31"),
+    (Unit::Bytes, -1514, "-1514B"),
+    (Unit::Bytes, 1514, "1514B"),
+    (Unit::Packets, -3, "-3p"),
+    (Unit::Nanoseconds, -999, "-999ns"),
+    (Unit::Nanoseconds, -5000, "-5000ns (-5us)"),
+    (Unit::Nanoseconds, i64::MIN, "-9223372036854775808ns"),
+    (Unit::Microseconds, -100_000, "-100000us (-100ms)"),
+    (Unit::Milliseconds, -1, "-1ms"),
+    (Unit::Milliseconds, -2000, "-2000ms (-2s)"),
+    (Unit::Seconds, -7, "-7s"),
+    (Unit::Ticks, -15_625, "-15625 ticks (-1ms)"),
+    (Unit::Ticks, 15_625, "15625 ticks (1ms)"),
+    (Unit::Ticks, 0, "0 ticks (0s)"),
+    (Unit::Probability, -1, "-1"),
+];
+
+// True if a number that may be below zero has this text.
+fn is_signed(alloc: Global, unit: Unit, n: i64, text: &str) -> bool {
+    let mut out = Vec::new(alloc);
+    put_signed(&mut out, unit, n).is_ok() && out.as_slice() == text.as_bytes()
+}
+
+#[test]
+fn numbers_below_zero(rt: HostRuntime) {
+    let alloc = rt.alloc();
+    for (unit, n, text) in &SIGNED {
+        assert!(rt; is_signed(alloc, *unit, *n, text), "{text}");
+    }
 }
 
 #[test]
