@@ -19,8 +19,10 @@ use hex::FromHex;
 use itoa::Buffer;
 use std::alloc::{AllocError, Allocator};
 use tc_texts::{handle_from_tc_text, handle_text};
-use tc_units::put_signed as put_signed_number;
-use tc_units::{Name, Unit, name_of, number_of, put_flags, put_named, put_number, put_verdict};
+use tc_units::{
+    Name, Unit, name_of, number_of, put_flags, put_named, put_number,
+    put_signed as put_signed_number, put_verdict,
+};
 
 // Puts a number in decimal.
 fn put_decimal<A: Allocator>(out: &mut Vec<u8, A>, n: u64) -> Result<(), AllocError>

@@ -937,7081 +937,2312 @@ fn names_of_2(place: usize) -> &'static [Named<'static>] {
 }
 
 // `list action`
+#[rattlefmt::skip]
 const LIST_ACTION_OF_ALL: [Note<'static>; 8] = [
-    Note {
-        kernel: "TCA_ACT_INDEX",
-        unit: Unit::Plain,
-        names: 0,
-    },
-    Note {
-        kernel: "TCA_ACT_STATS",
-        unit: Unit::Plain,
-        names: 0,
-    },
-    Note {
-        kernel: "TCA_ACT_PAD",
-        unit: Unit::Plain,
-        names: 0,
-    },
-    Note {
-        kernel: "TCA_ACT_COOKIE",
-        unit: Unit::Plain,
-        names: 0,
-    },
-    Note {
-        kernel: "TCA_ACT_FLAGS",
-        unit: Unit::Plain,
-        names: 0,
-    },
-    Note {
-        kernel: "TCA_ACT_HW_STATS",
-        unit: Unit::Plain,
-        names: 0,
-    },
-    Note {
-        kernel: "TCA_ACT_USED_HW_STATS",
-        unit: Unit::Plain,
-        names: 0,
-    },
-    Note {
-        kernel: "TCA_ACT_IN_HW_COUNT",
-        unit: Unit::Plain,
-        names: 0,
-    },
+    Note { kernel: "TCA_ACT_INDEX", unit: Unit::Plain, names: 0 },
+    Note { kernel: "TCA_ACT_STATS", unit: Unit::Plain, names: 0 },
+    Note { kernel: "TCA_ACT_PAD", unit: Unit::Plain, names: 0 },
+    Note { kernel: "TCA_ACT_COOKIE", unit: Unit::Plain, names: 0 },
+    Note { kernel: "TCA_ACT_FLAGS", unit: Unit::Plain, names: 0 },
+    Note { kernel: "TCA_ACT_HW_STATS", unit: Unit::Plain, names: 0 },
+    Note { kernel: "TCA_ACT_USED_HW_STATS", unit: Unit::Plain, names: 0 },
+    Note { kernel: "TCA_ACT_IN_HW_COUNT", unit: Unit::Plain, names: 0 },
 ];
 
 // `list action`
-const LIST_ACTION_BY_KIND: [Note<'static>; 1] = [Note {
-    kernel: "TCA_ACT_OPTIONS",
-    unit: Unit::Plain,
-    names: 0,
-}];
+#[rattlefmt::skip]
+const LIST_ACTION_BY_KIND: [Note<'static>; 1] = [
+    Note { kernel: "TCA_ACT_OPTIONS", unit: Unit::Plain, names: 0 },
+];
 
 // `bits tca_act_flags`
+#[rattlefmt::skip]
 const BITS_TCA_ACT_FLAGS: [Named<'static>; 3] = [
-    Named {
-        number: "0x1",
-        name: "no_percpu_stats",
-        kernel: "TCA_ACT_FLAGS_NO_PERCPU_STATS",
-    },
-    Named {
-        number: "0x2",
-        name: "skip_hw",
-        kernel: "TCA_ACT_FLAGS_SKIP_HW",
-    },
-    Named {
-        number: "0x4",
-        name: "skip_sw",
-        kernel: "TCA_ACT_FLAGS_SKIP_SW",
-    },
+    Named { number: "0x1", name: "no_percpu_stats", kernel: "TCA_ACT_FLAGS_NO_PERCPU_STATS" },
+    Named { number: "0x2", name: "skip_hw", kernel: "TCA_ACT_FLAGS_SKIP_HW" },
+    Named { number: "0x4", name: "skip_sw", kernel: "TCA_ACT_FLAGS_SKIP_SW" },
 ];
 
 // `struct tca_act_flags`
+#[rattlefmt::skip]
 const STRUCT_TCA_ACT_FLAGS: [Note<'static>; 2] = [
-    Note {
-        kernel: "",
-        unit: Unit::Plain,
-        names: 1,
-    },
-    Note {
-        kernel: "",
-        unit: Unit::Plain,
-        names: 1,
-    },
+    Note { kernel: "", unit: Unit::Plain, names: 1 },
+    Note { kernel: "", unit: Unit::Plain, names: 1 },
 ];
 
 // `bits tca_act_hw_stats`
+#[rattlefmt::skip]
 const BITS_TCA_ACT_HW_STATS: [Named<'static>; 2] = [
-    Named {
-        number: "0x1",
-        name: "immediate",
-        kernel: "TCA_ACT_HW_STATS_IMMEDIATE",
-    },
-    Named {
-        number: "0x2",
-        name: "delayed",
-        kernel: "TCA_ACT_HW_STATS_DELAYED",
-    },
+    Named { number: "0x1", name: "immediate", kernel: "TCA_ACT_HW_STATS_IMMEDIATE" },
+    Named { number: "0x2", name: "delayed", kernel: "TCA_ACT_HW_STATS_DELAYED" },
 ];
 
 // `struct tca_act_hw_stats`
+#[rattlefmt::skip]
 const STRUCT_TCA_ACT_HW_STATS: [Note<'static>; 2] = [
-    Note {
-        kernel: "",
-        unit: Unit::Plain,
-        names: 2,
-    },
-    Note {
-        kernel: "",
-        unit: Unit::Plain,
-        names: 2,
-    },
+    Note { kernel: "", unit: Unit::Plain, names: 2 },
+    Note { kernel: "", unit: Unit::Plain, names: 2 },
 ];
 
 // `enum tc_act`
+#[rattlefmt::skip]
 const ENUM_TC_ACT: [Note<'static>; 10] = [
-    Note {
-        kernel: "TC_ACT_UNSPEC",
-        unit: Unit::Plain,
-        names: 0,
-    },
-    Note {
-        kernel: "TC_ACT_OK",
-        unit: Unit::Plain,
-        names: 0,
-    },
-    Note {
-        kernel: "TC_ACT_RECLASSIFY",
-        unit: Unit::Plain,
-        names: 0,
-    },
-    Note {
-        kernel: "TC_ACT_SHOT",
-        unit: Unit::Plain,
-        names: 0,
-    },
-    Note {
-        kernel: "TC_ACT_PIPE",
-        unit: Unit::Plain,
-        names: 0,
-    },
-    Note {
-        kernel: "TC_ACT_STOLEN",
-        unit: Unit::Plain,
-        names: 0,
-    },
-    Note {
-        kernel: "TC_ACT_QUEUED",
-        unit: Unit::Plain,
-        names: 0,
-    },
-    Note {
-        kernel: "TC_ACT_REPEAT",
-        unit: Unit::Plain,
-        names: 0,
-    },
-    Note {
-        kernel: "TC_ACT_REDIRECT",
-        unit: Unit::Plain,
-        names: 0,
-    },
-    Note {
-        kernel: "TC_ACT_TRAP",
-        unit: Unit::Plain,
-        names: 0,
-    },
+    Note { kernel: "TC_ACT_UNSPEC", unit: Unit::Plain, names: 0 },
+    Note { kernel: "TC_ACT_OK", unit: Unit::Plain, names: 0 },
+    Note { kernel: "TC_ACT_RECLASSIFY", unit: Unit::Plain, names: 0 },
+    Note { kernel: "TC_ACT_SHOT", unit: Unit::Plain, names: 0 },
+    Note { kernel: "TC_ACT_PIPE", unit: Unit::Plain, names: 0 },
+    Note { kernel: "TC_ACT_STOLEN", unit: Unit::Plain, names: 0 },
+    Note { kernel: "TC_ACT_QUEUED", unit: Unit::Plain, names: 0 },
+    Note { kernel: "TC_ACT_REPEAT", unit: Unit::Plain, names: 0 },
+    Note { kernel: "TC_ACT_REDIRECT", unit: Unit::Plain, names: 0 },
+    Note { kernel: "TC_ACT_TRAP", unit: Unit::Plain, names: 0 },
 ];
 
 // `struct tcf_t`
+#[rattlefmt::skip]
 const STRUCT_TCF_T: [Note<'static>; 4] = [
-    Note {
-        kernel: "",
-        unit: Unit::ClockTicks,
-        names: 0,
-    },
-    Note {
-        kernel: "",
-        unit: Unit::ClockTicks,
-        names: 0,
-    },
-    Note {
-        kernel: "",
-        unit: Unit::ClockTicks,
-        names: 0,
-    },
-    Note {
-        kernel: "",
-        unit: Unit::ClockTicks,
-        names: 0,
-    },
+    Note { kernel: "", unit: Unit::ClockTicks, names: 0 },
+    Note { kernel: "", unit: Unit::ClockTicks, names: 0 },
+    Note { kernel: "", unit: Unit::ClockTicks, names: 0 },
+    Note { kernel: "", unit: Unit::ClockTicks, names: 0 },
 ];
 
 // `list act_bpf`
+#[rattlefmt::skip]
 const LIST_ACT_BPF: [Note<'static>; 9] = [
-    Note {
-        kernel: "TCA_ACT_BPF_TM",
-        unit: Unit::Plain,
-        names: 0,
-    },
-    Note {
-        kernel: "TCA_ACT_BPF_PARMS",
-        unit: Unit::Plain,
-        names: 0,
-    },
-    Note {
-        kernel: "TCA_ACT_BPF_OPS_LEN",
-        unit: Unit::Plain,
-        names: 0,
-    },
-    Note {
-        kernel: "TCA_ACT_BPF_OPS",
-        unit: Unit::Plain,
-        names: 0,
-    },
-    Note {
-        kernel: "TCA_ACT_BPF_FD",
-        unit: Unit::Plain,
-        names: 0,
-    },
-    Note {
-        kernel: "TCA_ACT_BPF_NAME",
-        unit: Unit::Plain,
-        names: 0,
-    },
-    Note {
-        kernel: "TCA_ACT_BPF_PAD",
-        unit: Unit::Plain,
-        names: 0,
-    },
-    Note {
-        kernel: "TCA_ACT_BPF_TAG",
-        unit: Unit::Plain,
-        names: 0,
-    },
-    Note {
-        kernel: "TCA_ACT_BPF_ID",
-        unit: Unit::Plain,
-        names: 0,
-    },
+    Note { kernel: "TCA_ACT_BPF_TM", unit: Unit::Plain, names: 0 },
+    Note { kernel: "TCA_ACT_BPF_PARMS", unit: Unit::Plain, names: 0 },
+    Note { kernel: "TCA_ACT_BPF_OPS_LEN", unit: Unit::Plain, names: 0 },
+    Note { kernel: "TCA_ACT_BPF_OPS", unit: Unit::Plain, names: 0 },
+    Note { kernel: "TCA_ACT_BPF_FD", unit: Unit::Plain, names: 0 },
+    Note { kernel: "TCA_ACT_BPF_NAME", unit: Unit::Plain, names: 0 },
+    Note { kernel: "TCA_ACT_BPF_PAD", unit: Unit::Plain, names: 0 },
+    Note { kernel: "TCA_ACT_BPF_TAG", unit: Unit::Plain, names: 0 },
+    Note { kernel: "TCA_ACT_BPF_ID", unit: Unit::Plain, names: 0 },
 ];
 
 // `list connmark`
+#[rattlefmt::skip]
 const LIST_CONNMARK: [Note<'static>; 3] = [
-    Note {
-        kernel: "TCA_CONNMARK_PARMS",
-        unit: Unit::Plain,
-        names: 0,
-    },
-    Note {
-        kernel: "TCA_CONNMARK_TM",
-        unit: Unit::Plain,
-        names: 0,
-    },
-    Note {
-        kernel: "TCA_CONNMARK_PAD",
-        unit: Unit::Plain,
-        names: 0,
-    },
+    Note { kernel: "TCA_CONNMARK_PARMS", unit: Unit::Plain, names: 0 },
+    Note { kernel: "TCA_CONNMARK_TM", unit: Unit::Plain, names: 0 },
+    Note { kernel: "TCA_CONNMARK_PAD", unit: Unit::Plain, names: 0 },
 ];
 
 // `list csum`
+#[rattlefmt::skip]
 const LIST_CSUM: [Note<'static>; 3] = [
-    Note {
-        kernel: "TCA_CSUM_PARMS",
-        unit: Unit::Plain,
-        names: 0,
-    },
-    Note {
-        kernel: "TCA_CSUM_TM",
-        unit: Unit::Plain,
-        names: 0,
-    },
-    Note {
-        kernel: "TCA_CSUM_PAD",
-        unit: Unit::Plain,
-        names: 0,
-    },
+    Note { kernel: "TCA_CSUM_PARMS", unit: Unit::Plain, names: 0 },
+    Note { kernel: "TCA_CSUM_TM", unit: Unit::Plain, names: 0 },
+    Note { kernel: "TCA_CSUM_PAD", unit: Unit::Plain, names: 0 },
 ];
 
 // `bits tca_csum_update_flag`
+#[rattlefmt::skip]
 const BITS_TCA_CSUM_UPDATE_FLAG: [Named<'static>; 7] = [
-    Named {
-        number: "0x1",
-        name: "ipv4hdr",
-        kernel: "TCA_CSUM_UPDATE_FLAG_IPV4HDR",
-    },
-    Named {
-        number: "0x2",
-        name: "icmp",
-        kernel: "TCA_CSUM_UPDATE_FLAG_ICMP",
-    },
-    Named {
-        number: "0x4",
-        name: "igmp",
-        kernel: "TCA_CSUM_UPDATE_FLAG_IGMP",
-    },
-    Named {
-        number: "0x8",
-        name: "tcp",
-        kernel: "TCA_CSUM_UPDATE_FLAG_TCP",
-    },
-    Named {
-        number: "0x10",
-        name: "udp",
-        kernel: "TCA_CSUM_UPDATE_FLAG_UDP",
-    },
-    Named {
-        number: "0x20",
-        name: "udplite",
-        kernel: "TCA_CSUM_UPDATE_FLAG_UDPLITE",
-    },
-    Named {
-        number: "0x40",
-        name: "sctp",
-        kernel: "TCA_CSUM_UPDATE_FLAG_SCTP",
-    },
+    Named { number: "0x1", name: "ipv4hdr", kernel: "TCA_CSUM_UPDATE_FLAG_IPV4HDR" },
+    Named { number: "0x2", name: "icmp", kernel: "TCA_CSUM_UPDATE_FLAG_ICMP" },
+    Named { number: "0x4", name: "igmp", kernel: "TCA_CSUM_UPDATE_FLAG_IGMP" },
+    Named { number: "0x8", name: "tcp", kernel: "TCA_CSUM_UPDATE_FLAG_TCP" },
+    Named { number: "0x10", name: "udp", kernel: "TCA_CSUM_UPDATE_FLAG_UDP" },
+    Named { number: "0x20", name: "udplite", kernel: "TCA_CSUM_UPDATE_FLAG_UDPLITE" },
+    Named { number: "0x40", name: "sctp", kernel: "TCA_CSUM_UPDATE_FLAG_SCTP" },
 ];
 
 // `struct tc_csum`
+#[rattlefmt::skip]
 const STRUCT_TC_CSUM: [Note<'static>; 2] = [
-    Note {
-        kernel: "",
-        unit: Unit::Plain,
-        names: 0,
-    },
-    Note {
-        kernel: "",
-        unit: Unit::Plain,
-        names: 3,
-    },
+    Note { kernel: "", unit: Unit::Plain, names: 0 },
+    Note { kernel: "", unit: Unit::Plain, names: 3 },
 ];
 
 // `bits tca_ct_act`
+#[rattlefmt::skip]
 const BITS_TCA_CT_ACT: [Named<'static>; 6] = [
-    Named {
-        number: "0x1",
-        name: "commit",
-        kernel: "TCA_CT_ACT_COMMIT",
-    },
-    Named {
-        number: "0x2",
-        name: "force",
-        kernel: "TCA_CT_ACT_FORCE",
-    },
-    Named {
-        number: "0x4",
-        name: "clear",
-        kernel: "TCA_CT_ACT_CLEAR",
-    },
-    Named {
-        number: "0x8",
-        name: "nat",
-        kernel: "TCA_CT_ACT_NAT",
-    },
-    Named {
-        number: "0x10",
-        name: "nat_src",
-        kernel: "TCA_CT_ACT_NAT_SRC",
-    },
-    Named {
-        number: "0x20",
-        name: "nat_dst",
-        kernel: "TCA_CT_ACT_NAT_DST",
-    },
+    Named { number: "0x1", name: "commit", kernel: "TCA_CT_ACT_COMMIT" },
+    Named { number: "0x2", name: "force", kernel: "TCA_CT_ACT_FORCE" },
+    Named { number: "0x4", name: "clear", kernel: "TCA_CT_ACT_CLEAR" },
+    Named { number: "0x8", name: "nat", kernel: "TCA_CT_ACT_NAT" },
+    Named { number: "0x10", name: "nat_src", kernel: "TCA_CT_ACT_NAT_SRC" },
+    Named { number: "0x20", name: "nat_dst", kernel: "TCA_CT_ACT_NAT_DST" },
 ];
 
 // `names ip_proto`
+#[rattlefmt::skip]
 const NAMES_IP_PROTO: [Named<'static>; 16] = [
-    Named {
-        number: "1",
-        name: "icmp",
-        kernel: "IPPROTO_ICMP",
-    },
-    Named {
-        number: "2",
-        name: "igmp",
-        kernel: "IPPROTO_IGMP",
-    },
-    Named {
-        number: "4",
-        name: "ipencap",
-        kernel: "IPPROTO_IPIP",
-    },
-    Named {
-        number: "6",
-        name: "tcp",
-        kernel: "IPPROTO_TCP",
-    },
-    Named {
-        number: "17",
-        name: "udp",
-        kernel: "IPPROTO_UDP",
-    },
-    Named {
-        number: "33",
-        name: "dccp",
-        kernel: "IPPROTO_DCCP",
-    },
-    Named {
-        number: "41",
-        name: "ipv6",
-        kernel: "IPPROTO_IPV6",
-    },
-    Named {
-        number: "46",
-        name: "rsvp",
-        kernel: "IPPROTO_RSVP",
-    },
-    Named {
-        number: "47",
-        name: "gre",
-        kernel: "IPPROTO_GRE",
-    },
-    Named {
-        number: "50",
-        name: "esp",
-        kernel: "IPPROTO_ESP",
-    },
-    Named {
-        number: "51",
-        name: "ah",
-        kernel: "IPPROTO_AH",
-    },
-    Named {
-        number: "58",
-        name: "icmpv6",
-        kernel: "IPPROTO_ICMPV6",
-    },
-    Named {
-        number: "103",
-        name: "pim",
-        kernel: "IPPROTO_PIM",
-    },
-    Named {
-        number: "115",
-        name: "l2tp",
-        kernel: "IPPROTO_L2TP",
-    },
-    Named {
-        number: "132",
-        name: "sctp",
-        kernel: "IPPROTO_SCTP",
-    },
-    Named {
-        number: "136",
-        name: "udplite",
-        kernel: "IPPROTO_UDPLITE",
-    },
+    Named { number: "1", name: "icmp", kernel: "IPPROTO_ICMP" },
+    Named { number: "2", name: "igmp", kernel: "IPPROTO_IGMP" },
+    Named { number: "4", name: "ipencap", kernel: "IPPROTO_IPIP" },
+    Named { number: "6", name: "tcp", kernel: "IPPROTO_TCP" },
+    Named { number: "17", name: "udp", kernel: "IPPROTO_UDP" },
+    Named { number: "33", name: "dccp", kernel: "IPPROTO_DCCP" },
+    Named { number: "41", name: "ipv6", kernel: "IPPROTO_IPV6" },
+    Named { number: "46", name: "rsvp", kernel: "IPPROTO_RSVP" },
+    Named { number: "47", name: "gre", kernel: "IPPROTO_GRE" },
+    Named { number: "50", name: "esp", kernel: "IPPROTO_ESP" },
+    Named { number: "51", name: "ah", kernel: "IPPROTO_AH" },
+    Named { number: "58", name: "icmpv6", kernel: "IPPROTO_ICMPV6" },
+    Named { number: "103", name: "pim", kernel: "IPPROTO_PIM" },
+    Named { number: "115", name: "l2tp", kernel: "IPPROTO_L2TP" },
+    Named { number: "132", name: "sctp", kernel: "IPPROTO_SCTP" },
+    Named { number: "136", name: "udplite", kernel: "IPPROTO_UDPLITE" },
 ];
 
 // `list ct`
+#[rattlefmt::skip]
 const LIST_CT: [Note<'static>; 18] = [
-    Note {
-        kernel: "TCA_CT_PARMS",
-        unit: Unit::Plain,
-        names: 0,
-    },
-    Note {
-        kernel: "TCA_CT_TM",
-        unit: Unit::Plain,
-        names: 0,
-    },
-    Note {
-        kernel: "TCA_CT_ACTION",
-        unit: Unit::Plain,
-        names: 4,
-    },
-    Note {
-        kernel: "TCA_CT_ZONE",
-        unit: Unit::Plain,
-        names: 0,
-    },
-    Note {
-        kernel: "TCA_CT_MARK",
-        unit: Unit::Plain,
-        names: 0,
-    },
-    Note {
-        kernel: "TCA_CT_MARK_MASK",
-        unit: Unit::Plain,
-        names: 0,
-    },
-    Note {
-        kernel: "TCA_CT_LABELS",
-        unit: Unit::Plain,
-        names: 0,
-    },
-    Note {
-        kernel: "TCA_CT_LABELS_MASK",
-        unit: Unit::Plain,
-        names: 0,
-    },
-    Note {
-        kernel: "TCA_CT_NAT_IPV4_MIN",
-        unit: Unit::Plain,
-        names: 0,
-    },
-    Note {
-        kernel: "TCA_CT_NAT_IPV4_MAX",
-        unit: Unit::Plain,
-        names: 0,
-    },
-    Note {
-        kernel: "TCA_CT_NAT_IPV6_MIN",
-        unit: Unit::Plain,
-        names: 0,
-    },
-    Note {
-        kernel: "TCA_CT_NAT_IPV6_MAX",
-        unit: Unit::Plain,
-        names: 0,
-    },
-    Note {
-        kernel: "TCA_CT_NAT_PORT_MIN",
-        unit: Unit::Plain,
-        names: 0,
-    },
-    Note {
-        kernel: "TCA_CT_NAT_PORT_MAX",
-        unit: Unit::Plain,
-        names: 0,
-    },
-    Note {
-        kernel: "TCA_CT_PAD",
-        unit: Unit::Plain,
-        names: 0,
-    },
-    Note {
-        kernel: "TCA_CT_HELPER_NAME",
-        unit: Unit::Plain,
-        names: 0,
-    },
-    Note {
-        kernel: "TCA_CT_HELPER_FAMILY",
-        unit: Unit::Plain,
-        names: 0,
-    },
-    Note {
-        kernel: "TCA_CT_HELPER_PROTO",
-        unit: Unit::Plain,
-        names: 5,
-    },
+    Note { kernel: "TCA_CT_PARMS", unit: Unit::Plain, names: 0 },
+    Note { kernel: "TCA_CT_TM", unit: Unit::Plain, names: 0 },
+    Note { kernel: "TCA_CT_ACTION", unit: Unit::Plain, names: 4 },
+    Note { kernel: "TCA_CT_ZONE", unit: Unit::Plain, names: 0 },
+    Note { kernel: "TCA_CT_MARK", unit: Unit::Plain, names: 0 },
+    Note { kernel: "TCA_CT_MARK_MASK", unit: Unit::Plain, names: 0 },
+    Note { kernel: "TCA_CT_LABELS", unit: Unit::Plain, names: 0 },
+    Note { kernel: "TCA_CT_LABELS_MASK", unit: Unit::Plain, names: 0 },
+    Note { kernel: "TCA_CT_NAT_IPV4_MIN", unit: Unit::Plain, names: 0 },
+    Note { kernel: "TCA_CT_NAT_IPV4_MAX", unit: Unit::Plain, names: 0 },
+    Note { kernel: "TCA_CT_NAT_IPV6_MIN", unit: Unit::Plain, names: 0 },
+    Note { kernel: "TCA_CT_NAT_IPV6_MAX", unit: Unit::Plain, names: 0 },
+    Note { kernel: "TCA_CT_NAT_PORT_MIN", unit: Unit::Plain, names: 0 },
+    Note { kernel: "TCA_CT_NAT_PORT_MAX", unit: Unit::Plain, names: 0 },
+    Note { kernel: "TCA_CT_PAD", unit: Unit::Plain, names: 0 },
+    Note { kernel: "TCA_CT_HELPER_NAME", unit: Unit::Plain, names: 0 },
+    Note { kernel: "TCA_CT_HELPER_FAMILY", unit: Unit::Plain, names: 0 },
+    Note { kernel: "TCA_CT_HELPER_PROTO", unit: Unit::Plain, names: 5 },
 ];
 
 // `list ctinfo`
+#[rattlefmt::skip]
 const LIST_CTINFO: [Note<'static>; 10] = [
-    Note {
-        kernel: "TCA_CTINFO_PAD",
-        unit: Unit::Plain,
-        names: 0,
-    },
-    Note {
-        kernel: "TCA_CTINFO_TM",
-        unit: Unit::Plain,
-        names: 0,
-    },
-    Note {
-        kernel: "TCA_CTINFO_ACT",
-        unit: Unit::Plain,
-        names: 0,
-    },
-    Note {
-        kernel: "TCA_CTINFO_ZONE",
-        unit: Unit::Plain,
-        names: 0,
-    },
-    Note {
-        kernel: "TCA_CTINFO_PARMS_DSCP_MASK",
-        unit: Unit::Plain,
-        names: 0,
-    },
-    Note {
-        kernel: "TCA_CTINFO_PARMS_DSCP_STATEMASK",
-        unit: Unit::Plain,
-        names: 0,
-    },
-    Note {
-        kernel: "TCA_CTINFO_PARMS_CPMARK_MASK",
-        unit: Unit::Plain,
-        names: 0,
-    },
-    Note {
-        kernel: "TCA_CTINFO_STATS_DSCP_SET",
-        unit: Unit::Plain,
-        names: 0,
-    },
-    Note {
-        kernel: "TCA_CTINFO_STATS_DSCP_ERROR",
-        unit: Unit::Plain,
-        names: 0,
-    },
-    Note {
-        kernel: "TCA_CTINFO_STATS_CPMARK_SET",
-        unit: Unit::Plain,
-        names: 0,
-    },
+    Note { kernel: "TCA_CTINFO_PAD", unit: Unit::Plain, names: 0 },
+    Note { kernel: "TCA_CTINFO_TM", unit: Unit::Plain, names: 0 },
+    Note { kernel: "TCA_CTINFO_ACT", unit: Unit::Plain, names: 0 },
+    Note { kernel: "TCA_CTINFO_ZONE", unit: Unit::Plain, names: 0 },
+    Note { kernel: "TCA_CTINFO_PARMS_DSCP_MASK", unit: Unit::Plain, names: 0 },
+    Note { kernel: "TCA_CTINFO_PARMS_DSCP_STATEMASK", unit: Unit::Plain, names: 0 },
+    Note { kernel: "TCA_CTINFO_PARMS_CPMARK_MASK", unit: Unit::Plain, names: 0 },
+    Note { kernel: "TCA_CTINFO_STATS_DSCP_SET", unit: Unit::Plain, names: 0 },
+    Note { kernel: "TCA_CTINFO_STATS_DSCP_ERROR", unit: Unit::Plain, names: 0 },
+    Note { kernel: "TCA_CTINFO_STATS_CPMARK_SET", unit: Unit::Plain, names: 0 },
 ];
 
 // `list gact`
+#[rattlefmt::skip]
 const LIST_GACT: [Note<'static>; 4] = [
-    Note {
-        kernel: "TCA_GACT_TM",
-        unit: Unit::Plain,
-        names: 0,
-    },
-    Note {
-        kernel: "TCA_GACT_PARMS",
-        unit: Unit::Plain,
-        names: 0,
-    },
-    Note {
-        kernel: "TCA_GACT_PROB",
-        unit: Unit::Plain,
-        names: 0,
-    },
-    Note {
-        kernel: "TCA_GACT_PAD",
-        unit: Unit::Plain,
-        names: 0,
-    },
+    Note { kernel: "TCA_GACT_TM", unit: Unit::Plain, names: 0 },
+    Note { kernel: "TCA_GACT_PARMS", unit: Unit::Plain, names: 0 },
+    Note { kernel: "TCA_GACT_PROB", unit: Unit::Plain, names: 0 },
+    Note { kernel: "TCA_GACT_PAD", unit: Unit::Plain, names: 0 },
 ];
 
 // `enum pgact`
+#[rattlefmt::skip]
 const ENUM_PGACT: [Note<'static>; 3] = [
-    Note {
-        kernel: "PGACT_NONE",
-        unit: Unit::Plain,
-        names: 0,
-    },
-    Note {
-        kernel: "PGACT_NETRAND",
-        unit: Unit::Plain,
-        names: 0,
-    },
-    Note {
-        kernel: "PGACT_DETERM",
-        unit: Unit::Plain,
-        names: 0,
-    },
+    Note { kernel: "PGACT_NONE", unit: Unit::Plain, names: 0 },
+    Note { kernel: "PGACT_NETRAND", unit: Unit::Plain, names: 0 },
+    Note { kernel: "PGACT_DETERM", unit: Unit::Plain, names: 0 },
 ];
 
 // `names clockid`
+#[rattlefmt::skip]
 const NAMES_CLOCKID: [Named<'static>; 4] = [
-    Named {
-        number: "0",
-        name: "REALTIME",
-        kernel: "CLOCK_REALTIME",
-    },
-    Named {
-        number: "1",
-        name: "MONOTONIC",
-        kernel: "CLOCK_MONOTONIC",
-    },
-    Named {
-        number: "7",
-        name: "BOOTTIME",
-        kernel: "CLOCK_BOOTTIME",
-    },
-    Named {
-        number: "11",
-        name: "TAI",
-        kernel: "CLOCK_TAI",
-    },
+    Named { number: "0", name: "REALTIME", kernel: "CLOCK_REALTIME" },
+    Named { number: "1", name: "MONOTONIC", kernel: "CLOCK_MONOTONIC" },
+    Named { number: "7", name: "BOOTTIME", kernel: "CLOCK_BOOTTIME" },
+    Named { number: "11", name: "TAI", kernel: "CLOCK_TAI" },
 ];
 
 // `list gate`
+#[rattlefmt::skip]
 const LIST_GATE: [Note<'static>; 10] = [
-    Note {
-        kernel: "TCA_GATE_TM",
-        unit: Unit::Plain,
-        names: 0,
-    },
-    Note {
-        kernel: "TCA_GATE_PARMS",
-        unit: Unit::Plain,
-        names: 0,
-    },
-    Note {
-        kernel: "TCA_GATE_PAD",
-        unit: Unit::Plain,
-        names: 0,
-    },
-    Note {
-        kernel: "TCA_GATE_PRIORITY",
-        unit: Unit::Plain,
-        names: 0,
-    },
-    Note {
-        kernel: "TCA_GATE_ENTRY_LIST",
-        unit: Unit::Plain,
-        names: 0,
-    },
-    Note {
-        kernel: "TCA_GATE_BASE_TIME",
-        unit: Unit::Nanoseconds,
-        names: 0,
-    },
-    Note {
-        kernel: "TCA_GATE_CYCLE_TIME",
-        unit: Unit::Nanoseconds,
-        names: 0,
-    },
-    Note {
-        kernel: "TCA_GATE_CYCLE_TIME_EXT",
-        unit: Unit::Nanoseconds,
-        names: 0,
-    },
-    Note {
-        kernel: "TCA_GATE_FLAGS",
-        unit: Unit::Plain,
-        names: 0,
-    },
-    Note {
-        kernel: "TCA_GATE_CLOCKID",
-        unit: Unit::Plain,
-        names: 6,
-    },
+    Note { kernel: "TCA_GATE_TM", unit: Unit::Plain, names: 0 },
+    Note { kernel: "TCA_GATE_PARMS", unit: Unit::Plain, names: 0 },
+    Note { kernel: "TCA_GATE_PAD", unit: Unit::Plain, names: 0 },
+    Note { kernel: "TCA_GATE_PRIORITY", unit: Unit::Plain, names: 0 },
+    Note { kernel: "TCA_GATE_ENTRY_LIST", unit: Unit::Plain, names: 0 },
+    Note { kernel: "TCA_GATE_BASE_TIME", unit: Unit::Nanoseconds, names: 0 },
+    Note { kernel: "TCA_GATE_CYCLE_TIME", unit: Unit::Nanoseconds, names: 0 },
+    Note { kernel: "TCA_GATE_CYCLE_TIME_EXT", unit: Unit::Nanoseconds, names: 0 },
+    Note { kernel: "TCA_GATE_FLAGS", unit: Unit::Plain, names: 0 },
+    Note { kernel: "TCA_GATE_CLOCKID", unit: Unit::Plain, names: 6 },
 ];
 
 // `list gate_list`
-const LIST_GATE_LIST: [Note<'static>; 1] = [Note {
-    kernel: "TCA_GATE_ONE_ENTRY",
-    unit: Unit::Plain,
-    names: 0,
-}];
+#[rattlefmt::skip]
+const LIST_GATE_LIST: [Note<'static>; 1] = [
+    Note { kernel: "TCA_GATE_ONE_ENTRY", unit: Unit::Plain, names: 0 },
+];
 
 // `list gate_entry`
+#[rattlefmt::skip]
 const LIST_GATE_ENTRY: [Note<'static>; 5] = [
-    Note {
-        kernel: "TCA_GATE_ENTRY_INDEX",
-        unit: Unit::Plain,
-        names: 0,
-    },
-    Note {
-        kernel: "TCA_GATE_ENTRY_GATE",
-        unit: Unit::Plain,
-        names: 0,
-    },
-    Note {
-        kernel: "TCA_GATE_ENTRY_INTERVAL",
-        unit: Unit::Nanoseconds,
-        names: 0,
-    },
-    Note {
-        kernel: "TCA_GATE_ENTRY_IPV",
-        unit: Unit::Plain,
-        names: 0,
-    },
-    Note {
-        kernel: "TCA_GATE_ENTRY_MAX_OCTETS",
-        unit: Unit::Bytes,
-        names: 0,
-    },
+    Note { kernel: "TCA_GATE_ENTRY_INDEX", unit: Unit::Plain, names: 0 },
+    Note { kernel: "TCA_GATE_ENTRY_GATE", unit: Unit::Plain, names: 0 },
+    Note { kernel: "TCA_GATE_ENTRY_INTERVAL", unit: Unit::Nanoseconds, names: 0 },
+    Note { kernel: "TCA_GATE_ENTRY_IPV", unit: Unit::Plain, names: 0 },
+    Note { kernel: "TCA_GATE_ENTRY_MAX_OCTETS", unit: Unit::Bytes, names: 0 },
 ];
 
 // `names eth_p`
+#[rattlefmt::skip]
 const NAMES_ETH_P: [Named<'static>; 21] = [
-    Named {
-        number: "0x1",
-        name: "802_3",
-        kernel: "ETH_P_802_3",
-    },
-    Named {
-        number: "0x3",
-        name: "all",
-        kernel: "ETH_P_ALL",
-    },
-    Named {
-        number: "0x4",
-        name: "802_2",
-        kernel: "ETH_P_802_2",
-    },
-    Named {
-        number: "0x5",
-        name: "snap",
-        kernel: "ETH_P_SNAP",
-    },
-    Named {
-        number: "0xc",
-        name: "can",
-        kernel: "ETH_P_CAN",
-    },
-    Named {
-        number: "0x60",
-        name: "loop",
-        kernel: "ETH_P_LOOP",
-    },
-    Named {
-        number: "0x800",
-        name: "ip",
-        kernel: "ETH_P_IP",
-    },
-    Named {
-        number: "0x806",
-        name: "arp",
-        kernel: "ETH_P_ARP",
-    },
-    Named {
-        number: "0x6558",
-        name: "teb",
-        kernel: "ETH_P_TEB",
-    },
-    Named {
-        number: "0x8035",
-        name: "rarp",
-        kernel: "ETH_P_RARP",
-    },
-    Named {
-        number: "0x809b",
-        name: "atalk",
-        kernel: "ETH_P_ATALK",
-    },
-    Named {
-        number: "0x8100",
-        name: "802.1Q",
-        kernel: "ETH_P_8021Q",
-    },
-    Named {
-        number: "0x8137",
-        name: "ipx",
-        kernel: "ETH_P_IPX",
-    },
-    Named {
-        number: "0x86dd",
-        name: "ipv6",
-        kernel: "ETH_P_IPV6",
-    },
-    Named {
-        number: "0x8847",
-        name: "mpls_uc",
-        kernel: "ETH_P_MPLS_UC",
-    },
-    Named {
-        number: "0x8848",
-        name: "mpls_mc",
-        kernel: "ETH_P_MPLS_MC",
-    },
-    Named {
-        number: "0x8863",
-        name: "ppp_disc",
-        kernel: "ETH_P_PPP_DISC",
-    },
-    Named {
-        number: "0x8864",
-        name: "ppp_ses",
-        kernel: "ETH_P_PPP_SES",
-    },
-    Named {
-        number: "0x88a2",
-        name: "aoe",
-        kernel: "ETH_P_AOE",
-    },
-    Named {
-        number: "0x88a8",
-        name: "802.1ad",
-        kernel: "ETH_P_8021AD",
-    },
-    Named {
-        number: "0x88ca",
-        name: "tipc",
-        kernel: "ETH_P_TIPC",
-    },
+    Named { number: "0x1", name: "802_3", kernel: "ETH_P_802_3" },
+    Named { number: "0x3", name: "all", kernel: "ETH_P_ALL" },
+    Named { number: "0x4", name: "802_2", kernel: "ETH_P_802_2" },
+    Named { number: "0x5", name: "snap", kernel: "ETH_P_SNAP" },
+    Named { number: "0xc", name: "can", kernel: "ETH_P_CAN" },
+    Named { number: "0x60", name: "loop", kernel: "ETH_P_LOOP" },
+    Named { number: "0x800", name: "ip", kernel: "ETH_P_IP" },
+    Named { number: "0x806", name: "arp", kernel: "ETH_P_ARP" },
+    Named { number: "0x6558", name: "teb", kernel: "ETH_P_TEB" },
+    Named { number: "0x8035", name: "rarp", kernel: "ETH_P_RARP" },
+    Named { number: "0x809b", name: "atalk", kernel: "ETH_P_ATALK" },
+    Named { number: "0x8100", name: "802.1Q", kernel: "ETH_P_8021Q" },
+    Named { number: "0x8137", name: "ipx", kernel: "ETH_P_IPX" },
+    Named { number: "0x86dd", name: "ipv6", kernel: "ETH_P_IPV6" },
+    Named { number: "0x8847", name: "mpls_uc", kernel: "ETH_P_MPLS_UC" },
+    Named { number: "0x8848", name: "mpls_mc", kernel: "ETH_P_MPLS_MC" },
+    Named { number: "0x8863", name: "ppp_disc", kernel: "ETH_P_PPP_DISC" },
+    Named { number: "0x8864", name: "ppp_ses", kernel: "ETH_P_PPP_SES" },
+    Named { number: "0x88a2", name: "aoe", kernel: "ETH_P_AOE" },
+    Named { number: "0x88a8", name: "802.1ad", kernel: "ETH_P_8021AD" },
+    Named { number: "0x88ca", name: "tipc", kernel: "ETH_P_TIPC" },
 ];
 
 // `list ife`
+#[rattlefmt::skip]
 const LIST_IFE: [Note<'static>; 7] = [
-    Note {
-        kernel: "TCA_IFE_PARMS",
-        unit: Unit::Plain,
-        names: 0,
-    },
-    Note {
-        kernel: "TCA_IFE_TM",
-        unit: Unit::Plain,
-        names: 0,
-    },
-    Note {
-        kernel: "TCA_IFE_DMAC",
-        unit: Unit::Plain,
-        names: 0,
-    },
-    Note {
-        kernel: "TCA_IFE_SMAC",
-        unit: Unit::Plain,
-        names: 0,
-    },
-    Note {
-        kernel: "TCA_IFE_TYPE",
-        unit: Unit::Plain,
-        names: 7,
-    },
-    Note {
-        kernel: "TCA_IFE_METALST",
-        unit: Unit::Plain,
-        names: 0,
-    },
-    Note {
-        kernel: "TCA_IFE_PAD",
-        unit: Unit::Plain,
-        names: 0,
-    },
+    Note { kernel: "TCA_IFE_PARMS", unit: Unit::Plain, names: 0 },
+    Note { kernel: "TCA_IFE_TM", unit: Unit::Plain, names: 0 },
+    Note { kernel: "TCA_IFE_DMAC", unit: Unit::Plain, names: 0 },
+    Note { kernel: "TCA_IFE_SMAC", unit: Unit::Plain, names: 0 },
+    Note { kernel: "TCA_IFE_TYPE", unit: Unit::Plain, names: 7 },
+    Note { kernel: "TCA_IFE_METALST", unit: Unit::Plain, names: 0 },
+    Note { kernel: "TCA_IFE_PAD", unit: Unit::Plain, names: 0 },
 ];
 
 // `bits ife`
-const BITS_IFE: [Named<'static>; 1] = [Named {
-    number: "0x1",
-    name: "encode",
-    kernel: "IFE_ENCODE",
-}];
+#[rattlefmt::skip]
+const BITS_IFE: [Named<'static>; 1] = [
+    Named { number: "0x1", name: "encode", kernel: "IFE_ENCODE" },
+];
 
 // `struct tc_ife`
+#[rattlefmt::skip]
 const STRUCT_TC_IFE: [Note<'static>; 3] = [
-    Note {
-        kernel: "",
-        unit: Unit::Plain,
-        names: 0,
-    },
-    Note {
-        kernel: "",
-        unit: Unit::Plain,
-        names: 8,
-    },
-    Note {
-        kernel: "",
-        unit: Unit::Plain,
-        names: 0,
-    },
+    Note { kernel: "", unit: Unit::Plain, names: 0 },
+    Note { kernel: "", unit: Unit::Plain, names: 8 },
+    Note { kernel: "", unit: Unit::Plain, names: 0 },
 ];
 
 // `list ife_meta`
+#[rattlefmt::skip]
 const LIST_IFE_META: [Note<'static>; 5] = [
-    Note {
-        kernel: "IFE_META_SKBMARK",
-        unit: Unit::Plain,
-        names: 0,
-    },
-    Note {
-        kernel: "IFE_META_HASHID",
-        unit: Unit::Plain,
-        names: 0,
-    },
-    Note {
-        kernel: "IFE_META_PRIO",
-        unit: Unit::Plain,
-        names: 0,
-    },
-    Note {
-        kernel: "IFE_META_QMAP",
-        unit: Unit::Plain,
-        names: 0,
-    },
-    Note {
-        kernel: "IFE_META_TCINDEX",
-        unit: Unit::Plain,
-        names: 0,
-    },
+    Note { kernel: "IFE_META_SKBMARK", unit: Unit::Plain, names: 0 },
+    Note { kernel: "IFE_META_HASHID", unit: Unit::Plain, names: 0 },
+    Note { kernel: "IFE_META_PRIO", unit: Unit::Plain, names: 0 },
+    Note { kernel: "IFE_META_QMAP", unit: Unit::Plain, names: 0 },
+    Note { kernel: "IFE_META_TCINDEX", unit: Unit::Plain, names: 0 },
 ];
 
 // `list ipt`
+#[rattlefmt::skip]
 const LIST_IPT: [Note<'static>; 7] = [
-    Note {
-        kernel: "TCA_IPT_TABLE",
-        unit: Unit::Plain,
-        names: 0,
-    },
-    Note {
-        kernel: "TCA_IPT_HOOK",
-        unit: Unit::Plain,
-        names: 0,
-    },
-    Note {
-        kernel: "TCA_IPT_INDEX",
-        unit: Unit::Plain,
-        names: 0,
-    },
-    Note {
-        kernel: "TCA_IPT_CNT",
-        unit: Unit::Plain,
-        names: 0,
-    },
-    Note {
-        kernel: "TCA_IPT_TM",
-        unit: Unit::Plain,
-        names: 0,
-    },
-    Note {
-        kernel: "TCA_IPT_TARG",
-        unit: Unit::Plain,
-        names: 0,
-    },
-    Note {
-        kernel: "TCA_IPT_PAD",
-        unit: Unit::Plain,
-        names: 0,
-    },
+    Note { kernel: "TCA_IPT_TABLE", unit: Unit::Plain, names: 0 },
+    Note { kernel: "TCA_IPT_HOOK", unit: Unit::Plain, names: 0 },
+    Note { kernel: "TCA_IPT_INDEX", unit: Unit::Plain, names: 0 },
+    Note { kernel: "TCA_IPT_CNT", unit: Unit::Plain, names: 0 },
+    Note { kernel: "TCA_IPT_TM", unit: Unit::Plain, names: 0 },
+    Note { kernel: "TCA_IPT_TARG", unit: Unit::Plain, names: 0 },
+    Note { kernel: "TCA_IPT_PAD", unit: Unit::Plain, names: 0 },
 ];
 
 // `list mirred`
+#[rattlefmt::skip]
 const LIST_MIRRED: [Note<'static>; 4] = [
-    Note {
-        kernel: "TCA_MIRRED_TM",
-        unit: Unit::Plain,
-        names: 0,
-    },
-    Note {
-        kernel: "TCA_MIRRED_PARMS",
-        unit: Unit::Plain,
-        names: 0,
-    },
-    Note {
-        kernel: "TCA_MIRRED_PAD",
-        unit: Unit::Plain,
-        names: 0,
-    },
-    Note {
-        kernel: "TCA_MIRRED_BLOCKID",
-        unit: Unit::Plain,
-        names: 0,
-    },
+    Note { kernel: "TCA_MIRRED_TM", unit: Unit::Plain, names: 0 },
+    Note { kernel: "TCA_MIRRED_PARMS", unit: Unit::Plain, names: 0 },
+    Note { kernel: "TCA_MIRRED_PAD", unit: Unit::Plain, names: 0 },
+    Note { kernel: "TCA_MIRRED_BLOCKID", unit: Unit::Plain, names: 0 },
 ];
 
 // `struct tc_mirred`
+#[rattlefmt::skip]
 const STRUCT_TC_MIRRED: [Note<'static>; 3] = [
-    Note {
-        kernel: "",
-        unit: Unit::Plain,
-        names: 0,
-    },
-    Note {
-        kernel: "",
-        unit: Unit::Plain,
-        names: 0,
-    },
-    Note {
-        kernel: "",
-        unit: Unit::Interface,
-        names: 0,
-    },
+    Note { kernel: "", unit: Unit::Plain, names: 0 },
+    Note { kernel: "", unit: Unit::Plain, names: 0 },
+    Note { kernel: "", unit: Unit::Interface, names: 0 },
 ];
 
 // `enum tca_mirred`
+#[rattlefmt::skip]
 const ENUM_TCA_MIRRED: [Note<'static>; 4] = [
-    Note {
-        kernel: "TCA_EGRESS_REDIR",
-        unit: Unit::Plain,
-        names: 0,
-    },
-    Note {
-        kernel: "TCA_EGRESS_MIRROR",
-        unit: Unit::Plain,
-        names: 0,
-    },
-    Note {
-        kernel: "TCA_INGRESS_REDIR",
-        unit: Unit::Plain,
-        names: 0,
-    },
-    Note {
-        kernel: "TCA_INGRESS_MIRROR",
-        unit: Unit::Plain,
-        names: 0,
-    },
+    Note { kernel: "TCA_EGRESS_REDIR", unit: Unit::Plain, names: 0 },
+    Note { kernel: "TCA_EGRESS_MIRROR", unit: Unit::Plain, names: 0 },
+    Note { kernel: "TCA_INGRESS_REDIR", unit: Unit::Plain, names: 0 },
+    Note { kernel: "TCA_INGRESS_MIRROR", unit: Unit::Plain, names: 0 },
 ];
 
 // `list mpls`
+#[rattlefmt::skip]
 const LIST_MPLS: [Note<'static>; 8] = [
-    Note {
-        kernel: "TCA_MPLS_TM",
-        unit: Unit::Plain,
-        names: 0,
-    },
-    Note {
-        kernel: "TCA_MPLS_PARMS",
-        unit: Unit::Plain,
-        names: 0,
-    },
-    Note {
-        kernel: "TCA_MPLS_PAD",
-        unit: Unit::Plain,
-        names: 0,
-    },
-    Note {
-        kernel: "TCA_MPLS_PROTO",
-        unit: Unit::Plain,
-        names: 7,
-    },
-    Note {
-        kernel: "TCA_MPLS_LABEL",
-        unit: Unit::Plain,
-        names: 0,
-    },
-    Note {
-        kernel: "TCA_MPLS_TC",
-        unit: Unit::Plain,
-        names: 0,
-    },
-    Note {
-        kernel: "TCA_MPLS_TTL",
-        unit: Unit::Plain,
-        names: 0,
-    },
-    Note {
-        kernel: "TCA_MPLS_BOS",
-        unit: Unit::Plain,
-        names: 0,
-    },
+    Note { kernel: "TCA_MPLS_TM", unit: Unit::Plain, names: 0 },
+    Note { kernel: "TCA_MPLS_PARMS", unit: Unit::Plain, names: 0 },
+    Note { kernel: "TCA_MPLS_PAD", unit: Unit::Plain, names: 0 },
+    Note { kernel: "TCA_MPLS_PROTO", unit: Unit::Plain, names: 7 },
+    Note { kernel: "TCA_MPLS_LABEL", unit: Unit::Plain, names: 0 },
+    Note { kernel: "TCA_MPLS_TC", unit: Unit::Plain, names: 0 },
+    Note { kernel: "TCA_MPLS_TTL", unit: Unit::Plain, names: 0 },
+    Note { kernel: "TCA_MPLS_BOS", unit: Unit::Plain, names: 0 },
 ];
 
 // `enum tca_mpls_act`
+#[rattlefmt::skip]
 const ENUM_TCA_MPLS_ACT: [Note<'static>; 5] = [
-    Note {
-        kernel: "TCA_MPLS_ACT_POP",
-        unit: Unit::Plain,
-        names: 0,
-    },
-    Note {
-        kernel: "TCA_MPLS_ACT_PUSH",
-        unit: Unit::Plain,
-        names: 0,
-    },
-    Note {
-        kernel: "TCA_MPLS_ACT_MODIFY",
-        unit: Unit::Plain,
-        names: 0,
-    },
-    Note {
-        kernel: "TCA_MPLS_ACT_DEC_TTL",
-        unit: Unit::Plain,
-        names: 0,
-    },
-    Note {
-        kernel: "TCA_MPLS_ACT_MAC_PUSH",
-        unit: Unit::Plain,
-        names: 0,
-    },
+    Note { kernel: "TCA_MPLS_ACT_POP", unit: Unit::Plain, names: 0 },
+    Note { kernel: "TCA_MPLS_ACT_PUSH", unit: Unit::Plain, names: 0 },
+    Note { kernel: "TCA_MPLS_ACT_MODIFY", unit: Unit::Plain, names: 0 },
+    Note { kernel: "TCA_MPLS_ACT_DEC_TTL", unit: Unit::Plain, names: 0 },
+    Note { kernel: "TCA_MPLS_ACT_MAC_PUSH", unit: Unit::Plain, names: 0 },
 ];
 
 // `list nat`
+#[rattlefmt::skip]
 const LIST_NAT: [Note<'static>; 3] = [
-    Note {
-        kernel: "TCA_NAT_PARMS",
-        unit: Unit::Plain,
-        names: 0,
-    },
-    Note {
-        kernel: "TCA_NAT_TM",
-        unit: Unit::Plain,
-        names: 0,
-    },
-    Note {
-        kernel: "TCA_NAT_PAD",
-        unit: Unit::Plain,
-        names: 0,
-    },
+    Note { kernel: "TCA_NAT_PARMS", unit: Unit::Plain, names: 0 },
+    Note { kernel: "TCA_NAT_TM", unit: Unit::Plain, names: 0 },
+    Note { kernel: "TCA_NAT_PAD", unit: Unit::Plain, names: 0 },
 ];
 
 // `bits tca_nat_flag`
+#[rattlefmt::skip]
 const BITS_TCA_NAT_FLAG: [Named<'static>; 2] = [
-    Named {
-        number: "0x0",
-        name: "ingress",
-        kernel: "TCA_NAT_FLAG_NONE",
-    },
-    Named {
-        number: "0x1",
-        name: "egress",
-        kernel: "TCA_NAT_FLAG_EGRESS",
-    },
+    Named { number: "0x0", name: "ingress", kernel: "TCA_NAT_FLAG_NONE" },
+    Named { number: "0x1", name: "egress", kernel: "TCA_NAT_FLAG_EGRESS" },
 ];
 
 // `struct tc_nat`
+#[rattlefmt::skip]
 const STRUCT_TC_NAT: [Note<'static>; 5] = [
-    Note {
-        kernel: "",
-        unit: Unit::Plain,
-        names: 0,
-    },
-    Note {
-        kernel: "",
-        unit: Unit::Plain,
-        names: 0,
-    },
-    Note {
-        kernel: "",
-        unit: Unit::Plain,
-        names: 0,
-    },
-    Note {
-        kernel: "",
-        unit: Unit::Plain,
-        names: 0,
-    },
-    Note {
-        kernel: "",
-        unit: Unit::Plain,
-        names: 9,
-    },
+    Note { kernel: "", unit: Unit::Plain, names: 0 },
+    Note { kernel: "", unit: Unit::Plain, names: 0 },
+    Note { kernel: "", unit: Unit::Plain, names: 0 },
+    Note { kernel: "", unit: Unit::Plain, names: 0 },
+    Note { kernel: "", unit: Unit::Plain, names: 9 },
 ];
 
 // `list pedit`
+#[rattlefmt::skip]
 const LIST_PEDIT: [Note<'static>; 5] = [
-    Note {
-        kernel: "TCA_PEDIT_TM",
-        unit: Unit::Plain,
-        names: 0,
-    },
-    Note {
-        kernel: "TCA_PEDIT_PARMS",
-        unit: Unit::Plain,
-        names: 0,
-    },
-    Note {
-        kernel: "TCA_PEDIT_PAD",
-        unit: Unit::Plain,
-        names: 0,
-    },
-    Note {
-        kernel: "TCA_PEDIT_PARMS_EX",
-        unit: Unit::Plain,
-        names: 0,
-    },
-    Note {
-        kernel: "TCA_PEDIT_KEYS_EX",
-        unit: Unit::Plain,
-        names: 0,
-    },
+    Note { kernel: "TCA_PEDIT_TM", unit: Unit::Plain, names: 0 },
+    Note { kernel: "TCA_PEDIT_PARMS", unit: Unit::Plain, names: 0 },
+    Note { kernel: "TCA_PEDIT_PAD", unit: Unit::Plain, names: 0 },
+    Note { kernel: "TCA_PEDIT_PARMS_EX", unit: Unit::Plain, names: 0 },
+    Note { kernel: "TCA_PEDIT_KEYS_EX", unit: Unit::Plain, names: 0 },
 ];
 
 // `list pedit_keys_ex`
-const LIST_PEDIT_KEYS_EX: [Note<'static>; 1] = [Note {
-    kernel: "TCA_PEDIT_KEY_EX",
-    unit: Unit::Plain,
-    names: 0,
-}];
+#[rattlefmt::skip]
+const LIST_PEDIT_KEYS_EX: [Note<'static>; 1] = [
+    Note { kernel: "TCA_PEDIT_KEY_EX", unit: Unit::Plain, names: 0 },
+];
 
 // `list pedit_key_ex`
+#[rattlefmt::skip]
 const LIST_PEDIT_KEY_EX: [Note<'static>; 2] = [
-    Note {
-        kernel: "TCA_PEDIT_KEY_EX_HTYPE",
-        unit: Unit::Plain,
-        names: 0,
-    },
-    Note {
-        kernel: "TCA_PEDIT_KEY_EX_CMD",
-        unit: Unit::Plain,
-        names: 0,
-    },
+    Note { kernel: "TCA_PEDIT_KEY_EX_HTYPE", unit: Unit::Plain, names: 0 },
+    Note { kernel: "TCA_PEDIT_KEY_EX_CMD", unit: Unit::Plain, names: 0 },
 ];
 
 // `enum pedit_header_type`
+#[rattlefmt::skip]
 const ENUM_PEDIT_HEADER_TYPE: [Note<'static>; 6] = [
-    Note {
-        kernel: "TCA_PEDIT_KEY_EX_HDR_TYPE_NETWORK",
-        unit: Unit::Plain,
-        names: 0,
-    },
-    Note {
-        kernel: "TCA_PEDIT_KEY_EX_HDR_TYPE_ETH",
-        unit: Unit::Plain,
-        names: 0,
-    },
-    Note {
-        kernel: "TCA_PEDIT_KEY_EX_HDR_TYPE_IP4",
-        unit: Unit::Plain,
-        names: 0,
-    },
-    Note {
-        kernel: "TCA_PEDIT_KEY_EX_HDR_TYPE_IP6",
-        unit: Unit::Plain,
-        names: 0,
-    },
-    Note {
-        kernel: "TCA_PEDIT_KEY_EX_HDR_TYPE_TCP",
-        unit: Unit::Plain,
-        names: 0,
-    },
-    Note {
-        kernel: "TCA_PEDIT_KEY_EX_HDR_TYPE_UDP",
-        unit: Unit::Plain,
-        names: 0,
-    },
+    Note { kernel: "TCA_PEDIT_KEY_EX_HDR_TYPE_NETWORK", unit: Unit::Plain, names: 0 },
+    Note { kernel: "TCA_PEDIT_KEY_EX_HDR_TYPE_ETH", unit: Unit::Plain, names: 0 },
+    Note { kernel: "TCA_PEDIT_KEY_EX_HDR_TYPE_IP4", unit: Unit::Plain, names: 0 },
+    Note { kernel: "TCA_PEDIT_KEY_EX_HDR_TYPE_IP6", unit: Unit::Plain, names: 0 },
+    Note { kernel: "TCA_PEDIT_KEY_EX_HDR_TYPE_TCP", unit: Unit::Plain, names: 0 },
+    Note { kernel: "TCA_PEDIT_KEY_EX_HDR_TYPE_UDP", unit: Unit::Plain, names: 0 },
 ];
 
 // `enum pedit_cmd`
+#[rattlefmt::skip]
 const ENUM_PEDIT_CMD: [Note<'static>; 2] = [
-    Note {
-        kernel: "TCA_PEDIT_KEY_EX_CMD_SET",
-        unit: Unit::Plain,
-        names: 0,
-    },
-    Note {
-        kernel: "TCA_PEDIT_KEY_EX_CMD_ADD",
-        unit: Unit::Plain,
-        names: 0,
-    },
+    Note { kernel: "TCA_PEDIT_KEY_EX_CMD_SET", unit: Unit::Plain, names: 0 },
+    Note { kernel: "TCA_PEDIT_KEY_EX_CMD_ADD", unit: Unit::Plain, names: 0 },
 ];
 
 // `list police`
+#[rattlefmt::skip]
 const LIST_POLICE: [Note<'static>; 11] = [
-    Note {
-        kernel: "TCA_POLICE_TBF",
-        unit: Unit::Plain,
-        names: 0,
-    },
-    Note {
-        kernel: "TCA_POLICE_RATE",
-        unit: Unit::Plain,
-        names: 0,
-    },
-    Note {
-        kernel: "TCA_POLICE_PEAKRATE",
-        unit: Unit::Plain,
-        names: 0,
-    },
-    Note {
-        kernel: "TCA_POLICE_AVRATE",
-        unit: Unit::BytesPerSecond,
-        names: 0,
-    },
-    Note {
-        kernel: "TCA_POLICE_RESULT",
-        unit: Unit::Plain,
-        names: 0,
-    },
-    Note {
-        kernel: "TCA_POLICE_TM",
-        unit: Unit::Plain,
-        names: 0,
-    },
-    Note {
-        kernel: "TCA_POLICE_PAD",
-        unit: Unit::Plain,
-        names: 0,
-    },
-    Note {
-        kernel: "TCA_POLICE_RATE64",
-        unit: Unit::BytesPerSecond,
-        names: 0,
-    },
-    Note {
-        kernel: "TCA_POLICE_PEAKRATE64",
-        unit: Unit::BytesPerSecond,
-        names: 0,
-    },
-    Note {
-        kernel: "TCA_POLICE_PKTRATE64",
-        unit: Unit::PacketsPerSecond,
-        names: 0,
-    },
-    Note {
-        kernel: "TCA_POLICE_PKTBURST64",
-        unit: Unit::Ticks,
-        names: 0,
-    },
+    Note { kernel: "TCA_POLICE_TBF", unit: Unit::Plain, names: 0 },
+    Note { kernel: "TCA_POLICE_RATE", unit: Unit::Plain, names: 0 },
+    Note { kernel: "TCA_POLICE_PEAKRATE", unit: Unit::Plain, names: 0 },
+    Note { kernel: "TCA_POLICE_AVRATE", unit: Unit::BytesPerSecond, names: 0 },
+    Note { kernel: "TCA_POLICE_RESULT", unit: Unit::Plain, names: 0 },
+    Note { kernel: "TCA_POLICE_TM", unit: Unit::Plain, names: 0 },
+    Note { kernel: "TCA_POLICE_PAD", unit: Unit::Plain, names: 0 },
+    Note { kernel: "TCA_POLICE_RATE64", unit: Unit::BytesPerSecond, names: 0 },
+    Note { kernel: "TCA_POLICE_PEAKRATE64", unit: Unit::BytesPerSecond, names: 0 },
+    Note { kernel: "TCA_POLICE_PKTRATE64", unit: Unit::PacketsPerSecond, names: 0 },
+    Note { kernel: "TCA_POLICE_PKTBURST64", unit: Unit::Ticks, names: 0 },
 ];
 
 // `struct tc_police`
+#[rattlefmt::skip]
 const STRUCT_TC_POLICE: [Note<'static>; 10] = [
-    Note {
-        kernel: "",
-        unit: Unit::Plain,
-        names: 0,
-    },
-    Note {
-        kernel: "",
-        unit: Unit::Plain,
-        names: 0,
-    },
-    Note {
-        kernel: "",
-        unit: Unit::Plain,
-        names: 0,
-    },
-    Note {
-        kernel: "",
-        unit: Unit::Ticks,
-        names: 0,
-    },
-    Note {
-        kernel: "",
-        unit: Unit::Bytes,
-        names: 0,
-    },
-    Note {
-        kernel: "",
-        unit: Unit::Plain,
-        names: 0,
-    },
-    Note {
-        kernel: "",
-        unit: Unit::Plain,
-        names: 0,
-    },
-    Note {
-        kernel: "",
-        unit: Unit::Plain,
-        names: 0,
-    },
-    Note {
-        kernel: "",
-        unit: Unit::Plain,
-        names: 0,
-    },
-    Note {
-        kernel: "",
-        unit: Unit::Plain,
-        names: 0,
-    },
+    Note { kernel: "", unit: Unit::Plain, names: 0 },
+    Note { kernel: "", unit: Unit::Plain, names: 0 },
+    Note { kernel: "", unit: Unit::Plain, names: 0 },
+    Note { kernel: "", unit: Unit::Ticks, names: 0 },
+    Note { kernel: "", unit: Unit::Bytes, names: 0 },
+    Note { kernel: "", unit: Unit::Plain, names: 0 },
+    Note { kernel: "", unit: Unit::Plain, names: 0 },
+    Note { kernel: "", unit: Unit::Plain, names: 0 },
+    Note { kernel: "", unit: Unit::Plain, names: 0 },
+    Note { kernel: "", unit: Unit::Plain, names: 0 },
 ];
 
 // `list sample`
+#[rattlefmt::skip]
 const LIST_SAMPLE: [Note<'static>; 6] = [
-    Note {
-        kernel: "TCA_SAMPLE_TM",
-        unit: Unit::Plain,
-        names: 0,
-    },
-    Note {
-        kernel: "TCA_SAMPLE_PARMS",
-        unit: Unit::Plain,
-        names: 0,
-    },
-    Note {
-        kernel: "TCA_SAMPLE_RATE",
-        unit: Unit::Plain,
-        names: 0,
-    },
-    Note {
-        kernel: "TCA_SAMPLE_TRUNC_SIZE",
-        unit: Unit::Bytes,
-        names: 0,
-    },
-    Note {
-        kernel: "TCA_SAMPLE_PSAMPLE_GROUP",
-        unit: Unit::Plain,
-        names: 0,
-    },
-    Note {
-        kernel: "TCA_SAMPLE_PAD",
-        unit: Unit::Plain,
-        names: 0,
-    },
+    Note { kernel: "TCA_SAMPLE_TM", unit: Unit::Plain, names: 0 },
+    Note { kernel: "TCA_SAMPLE_PARMS", unit: Unit::Plain, names: 0 },
+    Note { kernel: "TCA_SAMPLE_RATE", unit: Unit::Plain, names: 0 },
+    Note { kernel: "TCA_SAMPLE_TRUNC_SIZE", unit: Unit::Bytes, names: 0 },
+    Note { kernel: "TCA_SAMPLE_PSAMPLE_GROUP", unit: Unit::Plain, names: 0 },
+    Note { kernel: "TCA_SAMPLE_PAD", unit: Unit::Plain, names: 0 },
 ];
 
 // `list simple`
+#[rattlefmt::skip]
 const LIST_SIMPLE: [Note<'static>; 4] = [
-    Note {
-        kernel: "TCA_DEF_TM",
-        unit: Unit::Plain,
-        names: 0,
-    },
-    Note {
-        kernel: "TCA_DEF_PARMS",
-        unit: Unit::Plain,
-        names: 0,
-    },
-    Note {
-        kernel: "TCA_DEF_DATA",
-        unit: Unit::Plain,
-        names: 0,
-    },
-    Note {
-        kernel: "TCA_DEF_PAD",
-        unit: Unit::Plain,
-        names: 0,
-    },
+    Note { kernel: "TCA_DEF_TM", unit: Unit::Plain, names: 0 },
+    Note { kernel: "TCA_DEF_PARMS", unit: Unit::Plain, names: 0 },
+    Note { kernel: "TCA_DEF_DATA", unit: Unit::Plain, names: 0 },
+    Note { kernel: "TCA_DEF_PAD", unit: Unit::Plain, names: 0 },
 ];
 
 // `names packet_type`
+#[rattlefmt::skip]
 const NAMES_PACKET_TYPE: [Named<'static>; 4] = [
-    Named {
-        number: "0",
-        name: "host",
-        kernel: "PACKET_HOST",
-    },
-    Named {
-        number: "1",
-        name: "broadcast",
-        kernel: "PACKET_BROADCAST",
-    },
-    Named {
-        number: "2",
-        name: "multicast",
-        kernel: "PACKET_MULTICAST",
-    },
-    Named {
-        number: "3",
-        name: "otherhost",
-        kernel: "PACKET_OTHERHOST",
-    },
+    Named { number: "0", name: "host", kernel: "PACKET_HOST" },
+    Named { number: "1", name: "broadcast", kernel: "PACKET_BROADCAST" },
+    Named { number: "2", name: "multicast", kernel: "PACKET_MULTICAST" },
+    Named { number: "3", name: "otherhost", kernel: "PACKET_OTHERHOST" },
 ];
 
 // `bits skbedit_f`
+#[rattlefmt::skip]
 const BITS_SKBEDIT_F: [Named<'static>; 7] = [
-    Named {
-        number: "0x1",
-        name: "priority",
-        kernel: "SKBEDIT_F_PRIORITY",
-    },
-    Named {
-        number: "0x2",
-        name: "queue_mapping",
-        kernel: "SKBEDIT_F_QUEUE_MAPPING",
-    },
-    Named {
-        number: "0x4",
-        name: "mark",
-        kernel: "SKBEDIT_F_MARK",
-    },
-    Named {
-        number: "0x8",
-        name: "ptype",
-        kernel: "SKBEDIT_F_PTYPE",
-    },
-    Named {
-        number: "0x10",
-        name: "mask",
-        kernel: "SKBEDIT_F_MASK",
-    },
-    Named {
-        number: "0x20",
-        name: "inheritdsfield",
-        kernel: "SKBEDIT_F_INHERITDSFIELD",
-    },
-    Named {
-        number: "0x40",
-        name: "txq_skbhash",
-        kernel: "SKBEDIT_F_TXQ_SKBHASH",
-    },
+    Named { number: "0x1", name: "priority", kernel: "SKBEDIT_F_PRIORITY" },
+    Named { number: "0x2", name: "queue_mapping", kernel: "SKBEDIT_F_QUEUE_MAPPING" },
+    Named { number: "0x4", name: "mark", kernel: "SKBEDIT_F_MARK" },
+    Named { number: "0x8", name: "ptype", kernel: "SKBEDIT_F_PTYPE" },
+    Named { number: "0x10", name: "mask", kernel: "SKBEDIT_F_MASK" },
+    Named { number: "0x20", name: "inheritdsfield", kernel: "SKBEDIT_F_INHERITDSFIELD" },
+    Named { number: "0x40", name: "txq_skbhash", kernel: "SKBEDIT_F_TXQ_SKBHASH" },
 ];
 
 // `list skbedit`
+#[rattlefmt::skip]
 const LIST_SKBEDIT: [Note<'static>; 10] = [
-    Note {
-        kernel: "TCA_SKBEDIT_TM",
-        unit: Unit::Plain,
-        names: 0,
-    },
-    Note {
-        kernel: "TCA_SKBEDIT_PARMS",
-        unit: Unit::Plain,
-        names: 0,
-    },
-    Note {
-        kernel: "TCA_SKBEDIT_PRIORITY",
-        unit: Unit::Plain,
-        names: 0,
-    },
-    Note {
-        kernel: "TCA_SKBEDIT_QUEUE_MAPPING",
-        unit: Unit::Plain,
-        names: 0,
-    },
-    Note {
-        kernel: "TCA_SKBEDIT_MARK",
-        unit: Unit::Plain,
-        names: 0,
-    },
-    Note {
-        kernel: "TCA_SKBEDIT_PAD",
-        unit: Unit::Plain,
-        names: 0,
-    },
-    Note {
-        kernel: "TCA_SKBEDIT_PTYPE",
-        unit: Unit::Plain,
-        names: 10,
-    },
-    Note {
-        kernel: "TCA_SKBEDIT_MASK",
-        unit: Unit::Plain,
-        names: 0,
-    },
-    Note {
-        kernel: "TCA_SKBEDIT_FLAGS",
-        unit: Unit::Plain,
-        names: 11,
-    },
-    Note {
-        kernel: "TCA_SKBEDIT_QUEUE_MAPPING_MAX",
-        unit: Unit::Plain,
-        names: 0,
-    },
+    Note { kernel: "TCA_SKBEDIT_TM", unit: Unit::Plain, names: 0 },
+    Note { kernel: "TCA_SKBEDIT_PARMS", unit: Unit::Plain, names: 0 },
+    Note { kernel: "TCA_SKBEDIT_PRIORITY", unit: Unit::Plain, names: 0 },
+    Note { kernel: "TCA_SKBEDIT_QUEUE_MAPPING", unit: Unit::Plain, names: 0 },
+    Note { kernel: "TCA_SKBEDIT_MARK", unit: Unit::Plain, names: 0 },
+    Note { kernel: "TCA_SKBEDIT_PAD", unit: Unit::Plain, names: 0 },
+    Note { kernel: "TCA_SKBEDIT_PTYPE", unit: Unit::Plain, names: 10 },
+    Note { kernel: "TCA_SKBEDIT_MASK", unit: Unit::Plain, names: 0 },
+    Note { kernel: "TCA_SKBEDIT_FLAGS", unit: Unit::Plain, names: 11 },
+    Note { kernel: "TCA_SKBEDIT_QUEUE_MAPPING_MAX", unit: Unit::Plain, names: 0 },
 ];
 
 // `list skbmod`
+#[rattlefmt::skip]
 const LIST_SKBMOD: [Note<'static>; 6] = [
-    Note {
-        kernel: "TCA_SKBMOD_TM",
-        unit: Unit::Plain,
-        names: 0,
-    },
-    Note {
-        kernel: "TCA_SKBMOD_PARMS",
-        unit: Unit::Plain,
-        names: 0,
-    },
-    Note {
-        kernel: "TCA_SKBMOD_DMAC",
-        unit: Unit::Plain,
-        names: 0,
-    },
-    Note {
-        kernel: "TCA_SKBMOD_SMAC",
-        unit: Unit::Plain,
-        names: 0,
-    },
-    Note {
-        kernel: "TCA_SKBMOD_ETYPE",
-        unit: Unit::Plain,
-        names: 7,
-    },
-    Note {
-        kernel: "TCA_SKBMOD_PAD",
-        unit: Unit::Plain,
-        names: 0,
-    },
+    Note { kernel: "TCA_SKBMOD_TM", unit: Unit::Plain, names: 0 },
+    Note { kernel: "TCA_SKBMOD_PARMS", unit: Unit::Plain, names: 0 },
+    Note { kernel: "TCA_SKBMOD_DMAC", unit: Unit::Plain, names: 0 },
+    Note { kernel: "TCA_SKBMOD_SMAC", unit: Unit::Plain, names: 0 },
+    Note { kernel: "TCA_SKBMOD_ETYPE", unit: Unit::Plain, names: 7 },
+    Note { kernel: "TCA_SKBMOD_PAD", unit: Unit::Plain, names: 0 },
 ];
 
 // `bits skbmod_f`
+#[rattlefmt::skip]
 const BITS_SKBMOD_F: [Named<'static>; 5] = [
-    Named {
-        number: "0x1",
-        name: "dmac",
-        kernel: "SKBMOD_F_DMAC",
-    },
-    Named {
-        number: "0x2",
-        name: "smac",
-        kernel: "SKBMOD_F_SMAC",
-    },
-    Named {
-        number: "0x4",
-        name: "etype",
-        kernel: "SKBMOD_F_ETYPE",
-    },
-    Named {
-        number: "0x8",
-        name: "swapmac",
-        kernel: "SKBMOD_F_SWAPMAC",
-    },
-    Named {
-        number: "0x10",
-        name: "ecn",
-        kernel: "SKBMOD_F_ECN",
-    },
+    Named { number: "0x1", name: "dmac", kernel: "SKBMOD_F_DMAC" },
+    Named { number: "0x2", name: "smac", kernel: "SKBMOD_F_SMAC" },
+    Named { number: "0x4", name: "etype", kernel: "SKBMOD_F_ETYPE" },
+    Named { number: "0x8", name: "swapmac", kernel: "SKBMOD_F_SWAPMAC" },
+    Named { number: "0x10", name: "ecn", kernel: "SKBMOD_F_ECN" },
 ];
 
 // `struct tc_skbmod`
+#[rattlefmt::skip]
 const STRUCT_TC_SKBMOD: [Note<'static>; 3] = [
-    Note {
-        kernel: "",
-        unit: Unit::Plain,
-        names: 0,
-    },
-    Note {
-        kernel: "",
-        unit: Unit::Plain,
-        names: 0,
-    },
-    Note {
-        kernel: "",
-        unit: Unit::Plain,
-        names: 12,
-    },
+    Note { kernel: "", unit: Unit::Plain, names: 0 },
+    Note { kernel: "", unit: Unit::Plain, names: 0 },
+    Note { kernel: "", unit: Unit::Plain, names: 12 },
 ];
 
 // `list tunnel_key`
+#[rattlefmt::skip]
 const LIST_TUNNEL_KEY: [Note<'static>; 14] = [
-    Note {
-        kernel: "TCA_TUNNEL_KEY_TM",
-        unit: Unit::Plain,
-        names: 0,
-    },
-    Note {
-        kernel: "TCA_TUNNEL_KEY_PARMS",
-        unit: Unit::Plain,
-        names: 0,
-    },
-    Note {
-        kernel: "TCA_TUNNEL_KEY_ENC_IPV4_SRC",
-        unit: Unit::Plain,
-        names: 0,
-    },
-    Note {
-        kernel: "TCA_TUNNEL_KEY_ENC_IPV4_DST",
-        unit: Unit::Plain,
-        names: 0,
-    },
-    Note {
-        kernel: "TCA_TUNNEL_KEY_ENC_IPV6_SRC",
-        unit: Unit::Plain,
-        names: 0,
-    },
-    Note {
-        kernel: "TCA_TUNNEL_KEY_ENC_IPV6_DST",
-        unit: Unit::Plain,
-        names: 0,
-    },
-    Note {
-        kernel: "TCA_TUNNEL_KEY_ENC_KEY_ID",
-        unit: Unit::Plain,
-        names: 0,
-    },
-    Note {
-        kernel: "TCA_TUNNEL_KEY_PAD",
-        unit: Unit::Plain,
-        names: 0,
-    },
-    Note {
-        kernel: "TCA_TUNNEL_KEY_ENC_DST_PORT",
-        unit: Unit::Plain,
-        names: 0,
-    },
-    Note {
-        kernel: "TCA_TUNNEL_KEY_NO_CSUM",
-        unit: Unit::Plain,
-        names: 0,
-    },
-    Note {
-        kernel: "TCA_TUNNEL_KEY_ENC_OPTS",
-        unit: Unit::Plain,
-        names: 0,
-    },
-    Note {
-        kernel: "TCA_TUNNEL_KEY_ENC_TOS",
-        unit: Unit::Plain,
-        names: 0,
-    },
-    Note {
-        kernel: "TCA_TUNNEL_KEY_ENC_TTL",
-        unit: Unit::Plain,
-        names: 0,
-    },
-    Note {
-        kernel: "TCA_TUNNEL_KEY_NO_FRAG",
-        unit: Unit::Plain,
-        names: 0,
-    },
+    Note { kernel: "TCA_TUNNEL_KEY_TM", unit: Unit::Plain, names: 0 },
+    Note { kernel: "TCA_TUNNEL_KEY_PARMS", unit: Unit::Plain, names: 0 },
+    Note { kernel: "TCA_TUNNEL_KEY_ENC_IPV4_SRC", unit: Unit::Plain, names: 0 },
+    Note { kernel: "TCA_TUNNEL_KEY_ENC_IPV4_DST", unit: Unit::Plain, names: 0 },
+    Note { kernel: "TCA_TUNNEL_KEY_ENC_IPV6_SRC", unit: Unit::Plain, names: 0 },
+    Note { kernel: "TCA_TUNNEL_KEY_ENC_IPV6_DST", unit: Unit::Plain, names: 0 },
+    Note { kernel: "TCA_TUNNEL_KEY_ENC_KEY_ID", unit: Unit::Plain, names: 0 },
+    Note { kernel: "TCA_TUNNEL_KEY_PAD", unit: Unit::Plain, names: 0 },
+    Note { kernel: "TCA_TUNNEL_KEY_ENC_DST_PORT", unit: Unit::Plain, names: 0 },
+    Note { kernel: "TCA_TUNNEL_KEY_NO_CSUM", unit: Unit::Plain, names: 0 },
+    Note { kernel: "TCA_TUNNEL_KEY_ENC_OPTS", unit: Unit::Plain, names: 0 },
+    Note { kernel: "TCA_TUNNEL_KEY_ENC_TOS", unit: Unit::Plain, names: 0 },
+    Note { kernel: "TCA_TUNNEL_KEY_ENC_TTL", unit: Unit::Plain, names: 0 },
+    Note { kernel: "TCA_TUNNEL_KEY_NO_FRAG", unit: Unit::Plain, names: 0 },
 ];
 
 // `names tunnel_key_act`
+#[rattlefmt::skip]
 const NAMES_TUNNEL_KEY_ACT: [Named<'static>; 2] = [
-    Named {
-        number: "1",
-        name: "set",
-        kernel: "TCA_TUNNEL_KEY_ACT_SET",
-    },
-    Named {
-        number: "2",
-        name: "release",
-        kernel: "TCA_TUNNEL_KEY_ACT_RELEASE",
-    },
+    Named { number: "1", name: "set", kernel: "TCA_TUNNEL_KEY_ACT_SET" },
+    Named { number: "2", name: "release", kernel: "TCA_TUNNEL_KEY_ACT_RELEASE" },
 ];
 
 // `struct tc_tunnel_key`
+#[rattlefmt::skip]
 const STRUCT_TC_TUNNEL_KEY: [Note<'static>; 2] = [
-    Note {
-        kernel: "",
-        unit: Unit::Plain,
-        names: 0,
-    },
-    Note {
-        kernel: "",
-        unit: Unit::Plain,
-        names: 13,
-    },
+    Note { kernel: "", unit: Unit::Plain, names: 0 },
+    Note { kernel: "", unit: Unit::Plain, names: 13 },
 ];
 
 // `list tunnel_key_opts`
+#[rattlefmt::skip]
 const LIST_TUNNEL_KEY_OPTS: [Note<'static>; 3] = [
-    Note {
-        kernel: "TCA_TUNNEL_KEY_ENC_OPTS_GENEVE",
-        unit: Unit::Plain,
-        names: 0,
-    },
-    Note {
-        kernel: "TCA_TUNNEL_KEY_ENC_OPTS_VXLAN",
-        unit: Unit::Plain,
-        names: 0,
-    },
-    Note {
-        kernel: "TCA_TUNNEL_KEY_ENC_OPTS_ERSPAN",
-        unit: Unit::Plain,
-        names: 0,
-    },
+    Note { kernel: "TCA_TUNNEL_KEY_ENC_OPTS_GENEVE", unit: Unit::Plain, names: 0 },
+    Note { kernel: "TCA_TUNNEL_KEY_ENC_OPTS_VXLAN", unit: Unit::Plain, names: 0 },
+    Note { kernel: "TCA_TUNNEL_KEY_ENC_OPTS_ERSPAN", unit: Unit::Plain, names: 0 },
 ];
 
 // `list vlan`
+#[rattlefmt::skip]
 const LIST_VLAN: [Note<'static>; 8] = [
-    Note {
-        kernel: "TCA_VLAN_TM",
-        unit: Unit::Plain,
-        names: 0,
-    },
-    Note {
-        kernel: "TCA_VLAN_PARMS",
-        unit: Unit::Plain,
-        names: 0,
-    },
-    Note {
-        kernel: "TCA_VLAN_PUSH_VLAN_ID",
-        unit: Unit::Plain,
-        names: 0,
-    },
-    Note {
-        kernel: "TCA_VLAN_PUSH_VLAN_PROTOCOL",
-        unit: Unit::Plain,
-        names: 7,
-    },
-    Note {
-        kernel: "TCA_VLAN_PAD",
-        unit: Unit::Plain,
-        names: 0,
-    },
-    Note {
-        kernel: "TCA_VLAN_PUSH_VLAN_PRIORITY",
-        unit: Unit::Plain,
-        names: 0,
-    },
-    Note {
-        kernel: "TCA_VLAN_PUSH_ETH_DST",
-        unit: Unit::Plain,
-        names: 0,
-    },
-    Note {
-        kernel: "TCA_VLAN_PUSH_ETH_SRC",
-        unit: Unit::Plain,
-        names: 0,
-    },
+    Note { kernel: "TCA_VLAN_TM", unit: Unit::Plain, names: 0 },
+    Note { kernel: "TCA_VLAN_PARMS", unit: Unit::Plain, names: 0 },
+    Note { kernel: "TCA_VLAN_PUSH_VLAN_ID", unit: Unit::Plain, names: 0 },
+    Note { kernel: "TCA_VLAN_PUSH_VLAN_PROTOCOL", unit: Unit::Plain, names: 7 },
+    Note { kernel: "TCA_VLAN_PAD", unit: Unit::Plain, names: 0 },
+    Note { kernel: "TCA_VLAN_PUSH_VLAN_PRIORITY", unit: Unit::Plain, names: 0 },
+    Note { kernel: "TCA_VLAN_PUSH_ETH_DST", unit: Unit::Plain, names: 0 },
+    Note { kernel: "TCA_VLAN_PUSH_ETH_SRC", unit: Unit::Plain, names: 0 },
 ];
 
 // `enum tca_vlan_act`
+#[rattlefmt::skip]
 const ENUM_TCA_VLAN_ACT: [Note<'static>; 5] = [
-    Note {
-        kernel: "TCA_VLAN_ACT_POP",
-        unit: Unit::Plain,
-        names: 0,
-    },
-    Note {
-        kernel: "TCA_VLAN_ACT_PUSH",
-        unit: Unit::Plain,
-        names: 0,
-    },
-    Note {
-        kernel: "TCA_VLAN_ACT_MODIFY",
-        unit: Unit::Plain,
-        names: 0,
-    },
-    Note {
-        kernel: "TCA_VLAN_ACT_POP_ETH",
-        unit: Unit::Plain,
-        names: 0,
-    },
-    Note {
-        kernel: "TCA_VLAN_ACT_PUSH_ETH",
-        unit: Unit::Plain,
-        names: 0,
-    },
+    Note { kernel: "TCA_VLAN_ACT_POP", unit: Unit::Plain, names: 0 },
+    Note { kernel: "TCA_VLAN_ACT_PUSH", unit: Unit::Plain, names: 0 },
+    Note { kernel: "TCA_VLAN_ACT_MODIFY", unit: Unit::Plain, names: 0 },
+    Note { kernel: "TCA_VLAN_ACT_POP_ETH", unit: Unit::Plain, names: 0 },
+    Note { kernel: "TCA_VLAN_ACT_PUSH_ETH", unit: Unit::Plain, names: 0 },
 ];
 
 // `list ematch_tree`
+#[rattlefmt::skip]
 const LIST_EMATCH_TREE: [Note<'static>; 2] = [
-    Note {
-        kernel: "TCA_EMATCH_TREE_HDR",
-        unit: Unit::Plain,
-        names: 0,
-    },
-    Note {
-        kernel: "TCA_EMATCH_TREE_LIST",
-        unit: Unit::Plain,
-        names: 0,
-    },
+    Note { kernel: "TCA_EMATCH_TREE_HDR", unit: Unit::Plain, names: 0 },
+    Note { kernel: "TCA_EMATCH_TREE_LIST", unit: Unit::Plain, names: 0 },
 ];
 
 // `bits tcf_em`
+#[rattlefmt::skip]
 const BITS_TCF_EM: [Named<'static>; 4] = [
-    Named {
-        number: "0x1",
-        name: "and",
-        kernel: "TCF_EM_REL_AND",
-    },
-    Named {
-        number: "0x2",
-        name: "or",
-        kernel: "TCF_EM_REL_OR",
-    },
-    Named {
-        number: "0x4",
-        name: "invert",
-        kernel: "TCF_EM_INVERT",
-    },
-    Named {
-        number: "0x8",
-        name: "simple",
-        kernel: "TCF_EM_SIMPLE",
-    },
+    Named { number: "0x1", name: "and", kernel: "TCF_EM_REL_AND" },
+    Named { number: "0x2", name: "or", kernel: "TCF_EM_REL_OR" },
+    Named { number: "0x4", name: "invert", kernel: "TCF_EM_INVERT" },
+    Named { number: "0x8", name: "simple", kernel: "TCF_EM_SIMPLE" },
 ];
 
 // `struct ematch_container`
+#[rattlefmt::skip]
 const STRUCT_EMATCH_CONTAINER: [Note<'static>; 3] = [
-    Note {
-        kernel: "",
-        unit: Unit::Plain,
-        names: 14,
-    },
-    Note {
-        kernel: "",
-        unit: Unit::Plain,
-        names: 0,
-    },
-    Note {
-        kernel: "",
-        unit: Unit::Plain,
-        names: 0,
-    },
+    Note { kernel: "", unit: Unit::Plain, names: 14 },
+    Note { kernel: "", unit: Unit::Plain, names: 0 },
+    Note { kernel: "", unit: Unit::Plain, names: 0 },
 ];
 
 // `names em_align`
+#[rattlefmt::skip]
 const NAMES_EM_ALIGN: [Named<'static>; 6] = [
-    Named {
-        number: "0x1",
-        name: "u8",
-        kernel: "TCF_EM_ALIGN_U8",
-    },
-    Named {
-        number: "0x2",
-        name: "u16",
-        kernel: "TCF_EM_ALIGN_U16",
-    },
-    Named {
-        number: "0x4",
-        name: "u32",
-        kernel: "TCF_EM_ALIGN_U32",
-    },
-    Named {
-        number: "0x11",
-        name: "u8_trans",
-        kernel: "TCF_EM_ALIGN_U8|TCF_EM_CMP_TRANS<<4",
-    },
-    Named {
-        number: "0x12",
-        name: "u16_trans",
-        kernel: "TCF_EM_ALIGN_U16|TCF_EM_CMP_TRANS<<4",
-    },
-    Named {
-        number: "0x14",
-        name: "u32_trans",
-        kernel: "TCF_EM_ALIGN_U32|TCF_EM_CMP_TRANS<<4",
-    },
+    Named { number: "0x1", name: "u8", kernel: "TCF_EM_ALIGN_U8" },
+    Named { number: "0x2", name: "u16", kernel: "TCF_EM_ALIGN_U16" },
+    Named { number: "0x4", name: "u32", kernel: "TCF_EM_ALIGN_U32" },
+    Named { number: "0x11", name: "u8_trans", kernel: "TCF_EM_ALIGN_U8|TCF_EM_CMP_TRANS<<4" },
+    Named { number: "0x12", name: "u16_trans", kernel: "TCF_EM_ALIGN_U16|TCF_EM_CMP_TRANS<<4" },
+    Named { number: "0x14", name: "u32_trans", kernel: "TCF_EM_ALIGN_U32|TCF_EM_CMP_TRANS<<4" },
 ];
 
 // `names em_layer_opnd`
+#[rattlefmt::skip]
 const NAMES_EM_LAYER_OPND: [Named<'static>; 9] = [
-    Named {
-        number: "0x0",
-        name: "link_eq",
-        kernel: "TCF_LAYER_LINK|TCF_EM_OPND_EQ<<4",
-    },
-    Named {
-        number: "0x1",
-        name: "network_eq",
-        kernel: "TCF_LAYER_NETWORK|TCF_EM_OPND_EQ<<4",
-    },
-    Named {
-        number: "0x2",
-        name: "transport_eq",
-        kernel: "TCF_LAYER_TRANSPORT|TCF_EM_OPND_EQ<<4",
-    },
-    Named {
-        number: "0x10",
-        name: "link_gt",
-        kernel: "TCF_LAYER_LINK|TCF_EM_OPND_GT<<4",
-    },
-    Named {
-        number: "0x11",
-        name: "network_gt",
-        kernel: "TCF_LAYER_NETWORK|TCF_EM_OPND_GT<<4",
-    },
-    Named {
-        number: "0x12",
-        name: "transport_gt",
-        kernel: "TCF_LAYER_TRANSPORT|TCF_EM_OPND_GT<<4",
-    },
-    Named {
-        number: "0x20",
-        name: "link_lt",
-        kernel: "TCF_LAYER_LINK|TCF_EM_OPND_LT<<4",
-    },
-    Named {
-        number: "0x21",
-        name: "network_lt",
-        kernel: "TCF_LAYER_NETWORK|TCF_EM_OPND_LT<<4",
-    },
-    Named {
-        number: "0x22",
-        name: "transport_lt",
-        kernel: "TCF_LAYER_TRANSPORT|TCF_EM_OPND_LT<<4",
-    },
+    Named { number: "0x0", name: "link_eq", kernel: "TCF_LAYER_LINK|TCF_EM_OPND_EQ<<4" },
+    Named { number: "0x1", name: "network_eq", kernel: "TCF_LAYER_NETWORK|TCF_EM_OPND_EQ<<4" },
+    Named { number: "0x2", name: "transport_eq", kernel: "TCF_LAYER_TRANSPORT|TCF_EM_OPND_EQ<<4" },
+    Named { number: "0x10", name: "link_gt", kernel: "TCF_LAYER_LINK|TCF_EM_OPND_GT<<4" },
+    Named { number: "0x11", name: "network_gt", kernel: "TCF_LAYER_NETWORK|TCF_EM_OPND_GT<<4" },
+    Named { number: "0x12", name: "transport_gt", kernel: "TCF_LAYER_TRANSPORT|TCF_EM_OPND_GT<<4" },
+    Named { number: "0x20", name: "link_lt", kernel: "TCF_LAYER_LINK|TCF_EM_OPND_LT<<4" },
+    Named { number: "0x21", name: "network_lt", kernel: "TCF_LAYER_NETWORK|TCF_EM_OPND_LT<<4" },
+    Named { number: "0x22", name: "transport_lt", kernel: "TCF_LAYER_TRANSPORT|TCF_EM_OPND_LT<<4" },
 ];
 
 // `struct tcf_em_cmp`
+#[rattlefmt::skip]
 const STRUCT_TCF_EM_CMP: [Note<'static>; 5] = [
-    Note {
-        kernel: "",
-        unit: Unit::Plain,
-        names: 0,
-    },
-    Note {
-        kernel: "",
-        unit: Unit::Plain,
-        names: 0,
-    },
-    Note {
-        kernel: "",
-        unit: Unit::Bytes,
-        names: 0,
-    },
-    Note {
-        kernel: "",
-        unit: Unit::Plain,
-        names: 15,
-    },
-    Note {
-        kernel: "",
-        unit: Unit::Plain,
-        names: 16,
-    },
+    Note { kernel: "", unit: Unit::Plain, names: 0 },
+    Note { kernel: "", unit: Unit::Plain, names: 0 },
+    Note { kernel: "", unit: Unit::Bytes, names: 0 },
+    Note { kernel: "", unit: Unit::Plain, names: 15 },
+    Note { kernel: "", unit: Unit::Plain, names: 16 },
 ];
 
 // `struct ematch_nbyte`
+#[rattlefmt::skip]
 const STRUCT_EMATCH_NBYTE: [Note<'static>; 4] = [
-    Note {
-        kernel: "",
-        unit: Unit::Plain,
-        names: 14,
-    },
-    Note {
-        kernel: "",
-        unit: Unit::Plain,
-        names: 0,
-    },
-    Note {
-        kernel: "",
-        unit: Unit::Plain,
-        names: 0,
-    },
-    Note {
-        kernel: "",
-        unit: Unit::Plain,
-        names: 0,
-    },
+    Note { kernel: "", unit: Unit::Plain, names: 14 },
+    Note { kernel: "", unit: Unit::Plain, names: 0 },
+    Note { kernel: "", unit: Unit::Plain, names: 0 },
+    Note { kernel: "", unit: Unit::Plain, names: 0 },
 ];
 
 // `struct tcf_em_nbyte`
+#[rattlefmt::skip]
 const STRUCT_TCF_EM_NBYTE: [Note<'static>; 2] = [
-    Note {
-        kernel: "",
-        unit: Unit::Bytes,
-        names: 0,
-    },
-    Note {
-        kernel: "",
-        unit: Unit::Plain,
-        names: 0,
-    },
+    Note { kernel: "", unit: Unit::Bytes, names: 0 },
+    Note { kernel: "", unit: Unit::Plain, names: 0 },
 ];
 
 // `list em_meta`
+#[rattlefmt::skip]
 const LIST_EM_META: [Note<'static>; 3] = [
-    Note {
-        kernel: "TCA_EM_META_HDR",
-        unit: Unit::Plain,
-        names: 0,
-    },
-    Note {
-        kernel: "TCA_EM_META_LVALUE",
-        unit: Unit::Plain,
-        names: 0,
-    },
-    Note {
-        kernel: "TCA_EM_META_RVALUE",
-        unit: Unit::Plain,
-        names: 0,
-    },
+    Note { kernel: "TCA_EM_META_HDR", unit: Unit::Plain, names: 0 },
+    Note { kernel: "TCA_EM_META_LVALUE", unit: Unit::Plain, names: 0 },
+    Note { kernel: "TCA_EM_META_RVALUE", unit: Unit::Plain, names: 0 },
 ];
 
 // `enum tcf_em_opnd`
+#[rattlefmt::skip]
 const ENUM_TCF_EM_OPND: [Note<'static>; 3] = [
-    Note {
-        kernel: "TCF_EM_OPND_EQ",
-        unit: Unit::Plain,
-        names: 0,
-    },
-    Note {
-        kernel: "TCF_EM_OPND_GT",
-        unit: Unit::Plain,
-        names: 0,
-    },
-    Note {
-        kernel: "TCF_EM_OPND_LT",
-        unit: Unit::Plain,
-        names: 0,
-    },
+    Note { kernel: "TCF_EM_OPND_EQ", unit: Unit::Plain, names: 0 },
+    Note { kernel: "TCF_EM_OPND_GT", unit: Unit::Plain, names: 0 },
+    Note { kernel: "TCF_EM_OPND_LT", unit: Unit::Plain, names: 0 },
 ];
 
 // `struct tcf_em_text`
+#[rattlefmt::skip]
 const STRUCT_TCF_EM_TEXT: [Note<'static>; 6] = [
-    Note {
-        kernel: "",
-        unit: Unit::Plain,
-        names: 0,
-    },
-    Note {
-        kernel: "",
-        unit: Unit::Bytes,
-        names: 0,
-    },
-    Note {
-        kernel: "",
-        unit: Unit::Bytes,
-        names: 0,
-    },
-    Note {
-        kernel: "",
-        unit: Unit::Bytes,
-        names: 0,
-    },
-    Note {
-        kernel: "",
-        unit: Unit::Plain,
-        names: 0,
-    },
-    Note {
-        kernel: "",
-        unit: Unit::Plain,
-        names: 0,
-    },
+    Note { kernel: "", unit: Unit::Plain, names: 0 },
+    Note { kernel: "", unit: Unit::Bytes, names: 0 },
+    Note { kernel: "", unit: Unit::Bytes, names: 0 },
+    Note { kernel: "", unit: Unit::Bytes, names: 0 },
+    Note { kernel: "", unit: Unit::Plain, names: 0 },
+    Note { kernel: "", unit: Unit::Plain, names: 0 },
 ];
 
 // `list em_ipt`
+#[rattlefmt::skip]
 const LIST_EM_IPT: [Note<'static>; 5] = [
-    Note {
-        kernel: "TCA_EM_IPT_HOOK",
-        unit: Unit::Plain,
-        names: 0,
-    },
-    Note {
-        kernel: "TCA_EM_IPT_MATCH_NAME",
-        unit: Unit::Plain,
-        names: 0,
-    },
-    Note {
-        kernel: "TCA_EM_IPT_MATCH_REVISION",
-        unit: Unit::Plain,
-        names: 0,
-    },
-    Note {
-        kernel: "TCA_EM_IPT_NFPROTO",
-        unit: Unit::Plain,
-        names: 0,
-    },
-    Note {
-        kernel: "TCA_EM_IPT_MATCH_DATA",
-        unit: Unit::Plain,
-        names: 0,
-    },
+    Note { kernel: "TCA_EM_IPT_HOOK", unit: Unit::Plain, names: 0 },
+    Note { kernel: "TCA_EM_IPT_MATCH_NAME", unit: Unit::Plain, names: 0 },
+    Note { kernel: "TCA_EM_IPT_MATCH_REVISION", unit: Unit::Plain, names: 0 },
+    Note { kernel: "TCA_EM_IPT_NFPROTO", unit: Unit::Plain, names: 0 },
+    Note { kernel: "TCA_EM_IPT_MATCH_DATA", unit: Unit::Plain, names: 0 },
 ];
 
 // `list basic`
+#[rattlefmt::skip]
 const LIST_BASIC: [Note<'static>; 6] = [
-    Note {
-        kernel: "TCA_BASIC_CLASSID",
-        unit: Unit::Plain,
-        names: 0,
-    },
-    Note {
-        kernel: "TCA_BASIC_EMATCHES",
-        unit: Unit::Plain,
-        names: 0,
-    },
-    Note {
-        kernel: "TCA_BASIC_ACT",
-        unit: Unit::Plain,
-        names: 0,
-    },
-    Note {
-        kernel: "TCA_BASIC_POLICE",
-        unit: Unit::Plain,
-        names: 0,
-    },
-    Note {
-        kernel: "TCA_BASIC_PCNT",
-        unit: Unit::Plain,
-        names: 0,
-    },
-    Note {
-        kernel: "TCA_BASIC_PAD",
-        unit: Unit::Plain,
-        names: 0,
-    },
+    Note { kernel: "TCA_BASIC_CLASSID", unit: Unit::Plain, names: 0 },
+    Note { kernel: "TCA_BASIC_EMATCHES", unit: Unit::Plain, names: 0 },
+    Note { kernel: "TCA_BASIC_ACT", unit: Unit::Plain, names: 0 },
+    Note { kernel: "TCA_BASIC_POLICE", unit: Unit::Plain, names: 0 },
+    Note { kernel: "TCA_BASIC_PCNT", unit: Unit::Plain, names: 0 },
+    Note { kernel: "TCA_BASIC_PAD", unit: Unit::Plain, names: 0 },
 ];
 
 // `list tc`
+#[rattlefmt::skip]
 const LIST_TC_BY_KIND: [Note<'static>; 2] = [
-    Note {
-        kernel: "TCA_OPTIONS",
-        unit: Unit::Plain,
-        names: 0,
-    },
-    Note {
-        kernel: "TCA_XSTATS",
-        unit: Unit::Plain,
-        names: 0,
-    },
+    Note { kernel: "TCA_OPTIONS", unit: Unit::Plain, names: 0 },
+    Note { kernel: "TCA_XSTATS", unit: Unit::Plain, names: 0 },
 ];
 
 // `bits tca_bpf_flag`
-const BITS_TCA_BPF_FLAG: [Named<'static>; 1] = [Named {
-    number: "0x1",
-    name: "act_direct",
-    kernel: "TCA_BPF_FLAG_ACT_DIRECT",
-}];
+#[rattlefmt::skip]
+const BITS_TCA_BPF_FLAG: [Named<'static>; 1] = [
+    Named { number: "0x1", name: "act_direct", kernel: "TCA_BPF_FLAG_ACT_DIRECT" },
+];
 
 // `bits tca_cls_flags`
+#[rattlefmt::skip]
 const BITS_TCA_CLS_FLAGS: [Named<'static>; 5] = [
-    Named {
-        number: "0x1",
-        name: "skip_hw",
-        kernel: "TCA_CLS_FLAGS_SKIP_HW",
-    },
-    Named {
-        number: "0x2",
-        name: "skip_sw",
-        kernel: "TCA_CLS_FLAGS_SKIP_SW",
-    },
-    Named {
-        number: "0x4",
-        name: "in_hw",
-        kernel: "TCA_CLS_FLAGS_IN_HW",
-    },
-    Named {
-        number: "0x8",
-        name: "not_in_hw",
-        kernel: "TCA_CLS_FLAGS_NOT_IN_HW",
-    },
-    Named {
-        number: "0x10",
-        name: "verbose",
-        kernel: "TCA_CLS_FLAGS_VERBOSE",
-    },
+    Named { number: "0x1", name: "skip_hw", kernel: "TCA_CLS_FLAGS_SKIP_HW" },
+    Named { number: "0x2", name: "skip_sw", kernel: "TCA_CLS_FLAGS_SKIP_SW" },
+    Named { number: "0x4", name: "in_hw", kernel: "TCA_CLS_FLAGS_IN_HW" },
+    Named { number: "0x8", name: "not_in_hw", kernel: "TCA_CLS_FLAGS_NOT_IN_HW" },
+    Named { number: "0x10", name: "verbose", kernel: "TCA_CLS_FLAGS_VERBOSE" },
 ];
 
 // `list bpf`
+#[rattlefmt::skip]
 const LIST_BPF: [Note<'static>; 11] = [
-    Note {
-        kernel: "TCA_BPF_ACT",
-        unit: Unit::Plain,
-        names: 0,
-    },
-    Note {
-        kernel: "TCA_BPF_POLICE",
-        unit: Unit::Plain,
-        names: 0,
-    },
-    Note {
-        kernel: "TCA_BPF_CLASSID",
-        unit: Unit::Plain,
-        names: 0,
-    },
-    Note {
-        kernel: "TCA_BPF_OPS_LEN",
-        unit: Unit::Plain,
-        names: 0,
-    },
-    Note {
-        kernel: "TCA_BPF_OPS",
-        unit: Unit::Plain,
-        names: 0,
-    },
-    Note {
-        kernel: "TCA_BPF_FD",
-        unit: Unit::Plain,
-        names: 0,
-    },
-    Note {
-        kernel: "TCA_BPF_NAME",
-        unit: Unit::Plain,
-        names: 0,
-    },
-    Note {
-        kernel: "TCA_BPF_FLAGS",
-        unit: Unit::Plain,
-        names: 17,
-    },
-    Note {
-        kernel: "TCA_BPF_FLAGS_GEN",
-        unit: Unit::Plain,
-        names: 18,
-    },
-    Note {
-        kernel: "TCA_BPF_TAG",
-        unit: Unit::Plain,
-        names: 0,
-    },
-    Note {
-        kernel: "TCA_BPF_ID",
-        unit: Unit::Plain,
-        names: 0,
-    },
+    Note { kernel: "TCA_BPF_ACT", unit: Unit::Plain, names: 0 },
+    Note { kernel: "TCA_BPF_POLICE", unit: Unit::Plain, names: 0 },
+    Note { kernel: "TCA_BPF_CLASSID", unit: Unit::Plain, names: 0 },
+    Note { kernel: "TCA_BPF_OPS_LEN", unit: Unit::Plain, names: 0 },
+    Note { kernel: "TCA_BPF_OPS", unit: Unit::Plain, names: 0 },
+    Note { kernel: "TCA_BPF_FD", unit: Unit::Plain, names: 0 },
+    Note { kernel: "TCA_BPF_NAME", unit: Unit::Plain, names: 0 },
+    Note { kernel: "TCA_BPF_FLAGS", unit: Unit::Plain, names: 17 },
+    Note { kernel: "TCA_BPF_FLAGS_GEN", unit: Unit::Plain, names: 18 },
+    Note { kernel: "TCA_BPF_TAG", unit: Unit::Plain, names: 0 },
+    Note { kernel: "TCA_BPF_ID", unit: Unit::Plain, names: 0 },
 ];
 
 // `list cgroup`
+#[rattlefmt::skip]
 const LIST_CGROUP: [Note<'static>; 3] = [
-    Note {
-        kernel: "TCA_CGROUP_ACT",
-        unit: Unit::Plain,
-        names: 0,
-    },
-    Note {
-        kernel: "TCA_CGROUP_POLICE",
-        unit: Unit::Plain,
-        names: 0,
-    },
-    Note {
-        kernel: "TCA_CGROUP_EMATCHES",
-        unit: Unit::Plain,
-        names: 0,
-    },
+    Note { kernel: "TCA_CGROUP_ACT", unit: Unit::Plain, names: 0 },
+    Note { kernel: "TCA_CGROUP_POLICE", unit: Unit::Plain, names: 0 },
+    Note { kernel: "TCA_CGROUP_EMATCHES", unit: Unit::Plain, names: 0 },
 ];
 
 // `bits flow_key`
+#[rattlefmt::skip]
 const BITS_FLOW_KEY: [Named<'static>; 18] = [
-    Named {
-        number: "0x1",
-        name: "src",
-        kernel: "FLOW_KEY_SRC",
-    },
-    Named {
-        number: "0x2",
-        name: "dst",
-        kernel: "FLOW_KEY_DST",
-    },
-    Named {
-        number: "0x4",
-        name: "proto",
-        kernel: "FLOW_KEY_PROTO",
-    },
-    Named {
-        number: "0x8",
-        name: "proto_src",
-        kernel: "FLOW_KEY_PROTO_SRC",
-    },
-    Named {
-        number: "0x10",
-        name: "proto_dst",
-        kernel: "FLOW_KEY_PROTO_DST",
-    },
-    Named {
-        number: "0x20",
-        name: "iif",
-        kernel: "FLOW_KEY_IIF",
-    },
-    Named {
-        number: "0x40",
-        name: "priority",
-        kernel: "FLOW_KEY_PRIORITY",
-    },
-    Named {
-        number: "0x80",
-        name: "mark",
-        kernel: "FLOW_KEY_MARK",
-    },
-    Named {
-        number: "0x100",
-        name: "nfct",
-        kernel: "FLOW_KEY_NFCT",
-    },
-    Named {
-        number: "0x200",
-        name: "nfct_src",
-        kernel: "FLOW_KEY_NFCT_SRC",
-    },
-    Named {
-        number: "0x400",
-        name: "nfct_dst",
-        kernel: "FLOW_KEY_NFCT_DST",
-    },
-    Named {
-        number: "0x800",
-        name: "nfct_proto_src",
-        kernel: "FLOW_KEY_NFCT_PROTO_SRC",
-    },
-    Named {
-        number: "0x1000",
-        name: "nfct_proto_dst",
-        kernel: "FLOW_KEY_NFCT_PROTO_DST",
-    },
-    Named {
-        number: "0x2000",
-        name: "rtclassid",
-        kernel: "FLOW_KEY_RTCLASSID",
-    },
-    Named {
-        number: "0x4000",
-        name: "skuid",
-        kernel: "FLOW_KEY_SKUID",
-    },
-    Named {
-        number: "0x8000",
-        name: "skgid",
-        kernel: "FLOW_KEY_SKGID",
-    },
-    Named {
-        number: "0x10000",
-        name: "vlan_tag",
-        kernel: "FLOW_KEY_VLAN_TAG",
-    },
-    Named {
-        number: "0x20000",
-        name: "rxhash",
-        kernel: "FLOW_KEY_RXHASH",
-    },
+    Named { number: "0x1", name: "src", kernel: "FLOW_KEY_SRC" },
+    Named { number: "0x2", name: "dst", kernel: "FLOW_KEY_DST" },
+    Named { number: "0x4", name: "proto", kernel: "FLOW_KEY_PROTO" },
+    Named { number: "0x8", name: "proto_src", kernel: "FLOW_KEY_PROTO_SRC" },
+    Named { number: "0x10", name: "proto_dst", kernel: "FLOW_KEY_PROTO_DST" },
+    Named { number: "0x20", name: "iif", kernel: "FLOW_KEY_IIF" },
+    Named { number: "0x40", name: "priority", kernel: "FLOW_KEY_PRIORITY" },
+    Named { number: "0x80", name: "mark", kernel: "FLOW_KEY_MARK" },
+    Named { number: "0x100", name: "nfct", kernel: "FLOW_KEY_NFCT" },
+    Named { number: "0x200", name: "nfct_src", kernel: "FLOW_KEY_NFCT_SRC" },
+    Named { number: "0x400", name: "nfct_dst", kernel: "FLOW_KEY_NFCT_DST" },
+    Named { number: "0x800", name: "nfct_proto_src", kernel: "FLOW_KEY_NFCT_PROTO_SRC" },
+    Named { number: "0x1000", name: "nfct_proto_dst", kernel: "FLOW_KEY_NFCT_PROTO_DST" },
+    Named { number: "0x2000", name: "rtclassid", kernel: "FLOW_KEY_RTCLASSID" },
+    Named { number: "0x4000", name: "skuid", kernel: "FLOW_KEY_SKUID" },
+    Named { number: "0x8000", name: "skgid", kernel: "FLOW_KEY_SKGID" },
+    Named { number: "0x10000", name: "vlan_tag", kernel: "FLOW_KEY_VLAN_TAG" },
+    Named { number: "0x20000", name: "rxhash", kernel: "FLOW_KEY_RXHASH" },
 ];
 
 // `list flow`
+#[rattlefmt::skip]
 const LIST_FLOW: [Note<'static>; 12] = [
-    Note {
-        kernel: "TCA_FLOW_KEYS",
-        unit: Unit::Plain,
-        names: 19,
-    },
-    Note {
-        kernel: "TCA_FLOW_MODE",
-        unit: Unit::Plain,
-        names: 0,
-    },
-    Note {
-        kernel: "TCA_FLOW_BASECLASS",
-        unit: Unit::Plain,
-        names: 0,
-    },
-    Note {
-        kernel: "TCA_FLOW_RSHIFT",
-        unit: Unit::Plain,
-        names: 0,
-    },
-    Note {
-        kernel: "TCA_FLOW_ADDEND",
-        unit: Unit::Plain,
-        names: 0,
-    },
-    Note {
-        kernel: "TCA_FLOW_MASK",
-        unit: Unit::Plain,
-        names: 0,
-    },
-    Note {
-        kernel: "TCA_FLOW_XOR",
-        unit: Unit::Plain,
-        names: 0,
-    },
-    Note {
-        kernel: "TCA_FLOW_DIVISOR",
-        unit: Unit::Plain,
-        names: 0,
-    },
-    Note {
-        kernel: "TCA_FLOW_ACT",
-        unit: Unit::Plain,
-        names: 0,
-    },
-    Note {
-        kernel: "TCA_FLOW_POLICE",
-        unit: Unit::Plain,
-        names: 0,
-    },
-    Note {
-        kernel: "TCA_FLOW_EMATCHES",
-        unit: Unit::Plain,
-        names: 0,
-    },
-    Note {
-        kernel: "TCA_FLOW_PERTURB",
-        unit: Unit::Seconds,
-        names: 0,
-    },
+    Note { kernel: "TCA_FLOW_KEYS", unit: Unit::Plain, names: 19 },
+    Note { kernel: "TCA_FLOW_MODE", unit: Unit::Plain, names: 0 },
+    Note { kernel: "TCA_FLOW_BASECLASS", unit: Unit::Plain, names: 0 },
+    Note { kernel: "TCA_FLOW_RSHIFT", unit: Unit::Plain, names: 0 },
+    Note { kernel: "TCA_FLOW_ADDEND", unit: Unit::Plain, names: 0 },
+    Note { kernel: "TCA_FLOW_MASK", unit: Unit::Plain, names: 0 },
+    Note { kernel: "TCA_FLOW_XOR", unit: Unit::Plain, names: 0 },
+    Note { kernel: "TCA_FLOW_DIVISOR", unit: Unit::Plain, names: 0 },
+    Note { kernel: "TCA_FLOW_ACT", unit: Unit::Plain, names: 0 },
+    Note { kernel: "TCA_FLOW_POLICE", unit: Unit::Plain, names: 0 },
+    Note { kernel: "TCA_FLOW_EMATCHES", unit: Unit::Plain, names: 0 },
+    Note { kernel: "TCA_FLOW_PERTURB", unit: Unit::Seconds, names: 0 },
 ];
 
 // `enum flow_mode`
+#[rattlefmt::skip]
 const ENUM_FLOW_MODE: [Note<'static>; 2] = [
-    Note {
-        kernel: "FLOW_MODE_MAP",
-        unit: Unit::Plain,
-        names: 0,
-    },
-    Note {
-        kernel: "FLOW_MODE_HASH",
-        unit: Unit::Plain,
-        names: 0,
-    },
+    Note { kernel: "FLOW_MODE_MAP", unit: Unit::Plain, names: 0 },
+    Note { kernel: "FLOW_MODE_HASH", unit: Unit::Plain, names: 0 },
 ];
 
 // `bits flower_key_flags`
+#[rattlefmt::skip]
 const BITS_FLOWER_KEY_FLAGS: [Named<'static>; 6] = [
-    Named {
-        number: "0x1",
-        name: "is_fragment",
-        kernel: "TCA_FLOWER_KEY_FLAGS_IS_FRAGMENT",
-    },
-    Named {
-        number: "0x2",
-        name: "frag_is_first",
-        kernel: "TCA_FLOWER_KEY_FLAGS_FRAG_IS_FIRST",
-    },
-    Named {
-        number: "0x4",
-        name: "tunnel_csum",
-        kernel: "TCA_FLOWER_KEY_FLAGS_TUNNEL_CSUM",
-    },
-    Named {
-        number: "0x8",
-        name: "tunnel_dont_fragment",
-        kernel: "TCA_FLOWER_KEY_FLAGS_TUNNEL_DONT_FRAGMENT",
-    },
-    Named {
-        number: "0x10",
-        name: "tunnel_oam",
-        kernel: "TCA_FLOWER_KEY_FLAGS_TUNNEL_OAM",
-    },
-    Named {
-        number: "0x20",
-        name: "tunnel_crit_opt",
-        kernel: "TCA_FLOWER_KEY_FLAGS_TUNNEL_CRIT_OPT",
-    },
+    Named { number: "0x1", name: "is_fragment", kernel: "TCA_FLOWER_KEY_FLAGS_IS_FRAGMENT" },
+    Named { number: "0x2", name: "frag_is_first", kernel: "TCA_FLOWER_KEY_FLAGS_FRAG_IS_FIRST" },
+    Named { number: "0x4", name: "tunnel_csum", kernel: "TCA_FLOWER_KEY_FLAGS_TUNNEL_CSUM" },
+    Named { number: "0x8", name: "tunnel_dont_fragment", kernel: "TCA_FLOWER_KEY_FLAGS_TUNNEL_DONT_FRAGMENT" },
+    Named { number: "0x10", name: "tunnel_oam", kernel: "TCA_FLOWER_KEY_FLAGS_TUNNEL_OAM" },
+    Named { number: "0x20", name: "tunnel_crit_opt", kernel: "TCA_FLOWER_KEY_FLAGS_TUNNEL_CRIT_OPT" },
 ];
 
 // `names arp_op`
+#[rattlefmt::skip]
 const NAMES_ARP_OP: [Named<'static>; 2] = [
-    Named {
-        number: "1",
-        name: "request",
-        kernel: "ARPOP_REQUEST",
-    },
-    Named {
-        number: "2",
-        name: "reply",
-        kernel: "ARPOP_REPLY",
-    },
+    Named { number: "1", name: "request", kernel: "ARPOP_REQUEST" },
+    Named { number: "2", name: "reply", kernel: "ARPOP_REPLY" },
 ];
 
 // `bits tcp_flags`
+#[rattlefmt::skip]
 const BITS_TCP_FLAGS: [Named<'static>; 8] = [
-    Named {
-        number: "0x1",
-        name: "fin",
-        kernel: "TCPHDR_FIN",
-    },
-    Named {
-        number: "0x2",
-        name: "syn",
-        kernel: "TCPHDR_SYN",
-    },
-    Named {
-        number: "0x4",
-        name: "rst",
-        kernel: "TCPHDR_RST",
-    },
-    Named {
-        number: "0x8",
-        name: "psh",
-        kernel: "TCPHDR_PSH",
-    },
-    Named {
-        number: "0x10",
-        name: "ack",
-        kernel: "TCPHDR_ACK",
-    },
-    Named {
-        number: "0x20",
-        name: "urg",
-        kernel: "TCPHDR_URG",
-    },
-    Named {
-        number: "0x40",
-        name: "ece",
-        kernel: "TCPHDR_ECE",
-    },
-    Named {
-        number: "0x80",
-        name: "cwr",
-        kernel: "TCPHDR_CWR",
-    },
+    Named { number: "0x1", name: "fin", kernel: "TCPHDR_FIN" },
+    Named { number: "0x2", name: "syn", kernel: "TCPHDR_SYN" },
+    Named { number: "0x4", name: "rst", kernel: "TCPHDR_RST" },
+    Named { number: "0x8", name: "psh", kernel: "TCPHDR_PSH" },
+    Named { number: "0x10", name: "ack", kernel: "TCPHDR_ACK" },
+    Named { number: "0x20", name: "urg", kernel: "TCPHDR_URG" },
+    Named { number: "0x40", name: "ece", kernel: "TCPHDR_ECE" },
+    Named { number: "0x80", name: "cwr", kernel: "TCPHDR_CWR" },
 ];
 
 // `bits flower_ct_flags`
+#[rattlefmt::skip]
 const BITS_FLOWER_CT_FLAGS: [Named<'static>; 6] = [
-    Named {
-        number: "0x1",
-        name: "new",
-        kernel: "TCA_FLOWER_KEY_CT_FLAGS_NEW",
-    },
-    Named {
-        number: "0x2",
-        name: "established",
-        kernel: "TCA_FLOWER_KEY_CT_FLAGS_ESTABLISHED",
-    },
-    Named {
-        number: "0x4",
-        name: "related",
-        kernel: "TCA_FLOWER_KEY_CT_FLAGS_RELATED",
-    },
-    Named {
-        number: "0x8",
-        name: "tracked",
-        kernel: "TCA_FLOWER_KEY_CT_FLAGS_TRACKED",
-    },
-    Named {
-        number: "0x10",
-        name: "invalid",
-        kernel: "TCA_FLOWER_KEY_CT_FLAGS_INVALID",
-    },
-    Named {
-        number: "0x20",
-        name: "reply",
-        kernel: "TCA_FLOWER_KEY_CT_FLAGS_REPLY",
-    },
+    Named { number: "0x1", name: "new", kernel: "TCA_FLOWER_KEY_CT_FLAGS_NEW" },
+    Named { number: "0x2", name: "established", kernel: "TCA_FLOWER_KEY_CT_FLAGS_ESTABLISHED" },
+    Named { number: "0x4", name: "related", kernel: "TCA_FLOWER_KEY_CT_FLAGS_RELATED" },
+    Named { number: "0x8", name: "tracked", kernel: "TCA_FLOWER_KEY_CT_FLAGS_TRACKED" },
+    Named { number: "0x10", name: "invalid", kernel: "TCA_FLOWER_KEY_CT_FLAGS_INVALID" },
+    Named { number: "0x20", name: "reply", kernel: "TCA_FLOWER_KEY_CT_FLAGS_REPLY" },
 ];
 
 // `list flower`
+#[rattlefmt::skip]
 const LIST_FLOWER: [Note<'static>; 111] = [
-    Note {
-        kernel: "TCA_FLOWER_CLASSID",
-        unit: Unit::Plain,
-        names: 0,
-    },
-    Note {
-        kernel: "TCA_FLOWER_INDEV",
-        unit: Unit::Plain,
-        names: 0,
-    },
-    Note {
-        kernel: "TCA_FLOWER_ACT",
-        unit: Unit::Plain,
-        names: 0,
-    },
-    Note {
-        kernel: "TCA_FLOWER_KEY_ETH_DST",
-        unit: Unit::Plain,
-        names: 0,
-    },
-    Note {
-        kernel: "TCA_FLOWER_KEY_ETH_DST_MASK",
-        unit: Unit::Plain,
-        names: 0,
-    },
-    Note {
-        kernel: "TCA_FLOWER_KEY_ETH_SRC",
-        unit: Unit::Plain,
-        names: 0,
-    },
-    Note {
-        kernel: "TCA_FLOWER_KEY_ETH_SRC_MASK",
-        unit: Unit::Plain,
-        names: 0,
-    },
-    Note {
-        kernel: "TCA_FLOWER_KEY_ETH_TYPE",
-        unit: Unit::Plain,
-        names: 7,
-    },
-    Note {
-        kernel: "TCA_FLOWER_KEY_IP_PROTO",
-        unit: Unit::Plain,
-        names: 5,
-    },
-    Note {
-        kernel: "TCA_FLOWER_KEY_IPV4_SRC",
-        unit: Unit::Plain,
-        names: 0,
-    },
-    Note {
-        kernel: "TCA_FLOWER_KEY_IPV4_SRC_MASK",
-        unit: Unit::Plain,
-        names: 0,
-    },
-    Note {
-        kernel: "TCA_FLOWER_KEY_IPV4_DST",
-        unit: Unit::Plain,
-        names: 0,
-    },
-    Note {
-        kernel: "TCA_FLOWER_KEY_IPV4_DST_MASK",
-        unit: Unit::Plain,
-        names: 0,
-    },
-    Note {
-        kernel: "TCA_FLOWER_KEY_IPV6_SRC",
-        unit: Unit::Plain,
-        names: 0,
-    },
-    Note {
-        kernel: "TCA_FLOWER_KEY_IPV6_SRC_MASK",
-        unit: Unit::Plain,
-        names: 0,
-    },
-    Note {
-        kernel: "TCA_FLOWER_KEY_IPV6_DST",
-        unit: Unit::Plain,
-        names: 0,
-    },
-    Note {
-        kernel: "TCA_FLOWER_KEY_IPV6_DST_MASK",
-        unit: Unit::Plain,
-        names: 0,
-    },
-    Note {
-        kernel: "TCA_FLOWER_KEY_TCP_SRC",
-        unit: Unit::Plain,
-        names: 0,
-    },
-    Note {
-        kernel: "TCA_FLOWER_KEY_TCP_DST",
-        unit: Unit::Plain,
-        names: 0,
-    },
-    Note {
-        kernel: "TCA_FLOWER_KEY_UDP_SRC",
-        unit: Unit::Plain,
-        names: 0,
-    },
-    Note {
-        kernel: "TCA_FLOWER_KEY_UDP_DST",
-        unit: Unit::Plain,
-        names: 0,
-    },
-    Note {
-        kernel: "TCA_FLOWER_FLAGS",
-        unit: Unit::Plain,
-        names: 18,
-    },
-    Note {
-        kernel: "TCA_FLOWER_KEY_VLAN_ID",
-        unit: Unit::Plain,
-        names: 0,
-    },
-    Note {
-        kernel: "TCA_FLOWER_KEY_VLAN_PRIO",
-        unit: Unit::Plain,
-        names: 0,
-    },
-    Note {
-        kernel: "TCA_FLOWER_KEY_VLAN_ETH_TYPE",
-        unit: Unit::Plain,
-        names: 7,
-    },
-    Note {
-        kernel: "TCA_FLOWER_KEY_ENC_KEY_ID",
-        unit: Unit::Plain,
-        names: 0,
-    },
-    Note {
-        kernel: "TCA_FLOWER_KEY_ENC_IPV4_SRC",
-        unit: Unit::Plain,
-        names: 0,
-    },
-    Note {
-        kernel: "TCA_FLOWER_KEY_ENC_IPV4_SRC_MASK",
-        unit: Unit::Plain,
-        names: 0,
-    },
-    Note {
-        kernel: "TCA_FLOWER_KEY_ENC_IPV4_DST",
-        unit: Unit::Plain,
-        names: 0,
-    },
-    Note {
-        kernel: "TCA_FLOWER_KEY_ENC_IPV4_DST_MASK",
-        unit: Unit::Plain,
-        names: 0,
-    },
-    Note {
-        kernel: "TCA_FLOWER_KEY_ENC_IPV6_SRC",
-        unit: Unit::Plain,
-        names: 0,
-    },
-    Note {
-        kernel: "TCA_FLOWER_KEY_ENC_IPV6_SRC_MASK",
-        unit: Unit::Plain,
-        names: 0,
-    },
-    Note {
-        kernel: "TCA_FLOWER_KEY_ENC_IPV6_DST",
-        unit: Unit::Plain,
-        names: 0,
-    },
-    Note {
-        kernel: "TCA_FLOWER_KEY_ENC_IPV6_DST_MASK",
-        unit: Unit::Plain,
-        names: 0,
-    },
-    Note {
-        kernel: "TCA_FLOWER_KEY_TCP_SRC_MASK",
-        unit: Unit::Plain,
-        names: 0,
-    },
-    Note {
-        kernel: "TCA_FLOWER_KEY_TCP_DST_MASK",
-        unit: Unit::Plain,
-        names: 0,
-    },
-    Note {
-        kernel: "TCA_FLOWER_KEY_UDP_SRC_MASK",
-        unit: Unit::Plain,
-        names: 0,
-    },
-    Note {
-        kernel: "TCA_FLOWER_KEY_UDP_DST_MASK",
-        unit: Unit::Plain,
-        names: 0,
-    },
-    Note {
-        kernel: "TCA_FLOWER_KEY_SCTP_SRC_MASK",
-        unit: Unit::Plain,
-        names: 0,
-    },
-    Note {
-        kernel: "TCA_FLOWER_KEY_SCTP_DST_MASK",
-        unit: Unit::Plain,
-        names: 0,
-    },
-    Note {
-        kernel: "TCA_FLOWER_KEY_SCTP_SRC",
-        unit: Unit::Plain,
-        names: 0,
-    },
-    Note {
-        kernel: "TCA_FLOWER_KEY_SCTP_DST",
-        unit: Unit::Plain,
-        names: 0,
-    },
-    Note {
-        kernel: "TCA_FLOWER_KEY_ENC_UDP_SRC_PORT",
-        unit: Unit::Plain,
-        names: 0,
-    },
-    Note {
-        kernel: "TCA_FLOWER_KEY_ENC_UDP_SRC_PORT_MASK",
-        unit: Unit::Plain,
-        names: 0,
-    },
-    Note {
-        kernel: "TCA_FLOWER_KEY_ENC_UDP_DST_PORT",
-        unit: Unit::Plain,
-        names: 0,
-    },
-    Note {
-        kernel: "TCA_FLOWER_KEY_ENC_UDP_DST_PORT_MASK",
-        unit: Unit::Plain,
-        names: 0,
-    },
-    Note {
-        kernel: "TCA_FLOWER_KEY_FLAGS",
-        unit: Unit::Plain,
-        names: 20,
-    },
-    Note {
-        kernel: "TCA_FLOWER_KEY_FLAGS_MASK",
-        unit: Unit::Plain,
-        names: 20,
-    },
-    Note {
-        kernel: "TCA_FLOWER_KEY_ICMPV4_CODE",
-        unit: Unit::Plain,
-        names: 0,
-    },
-    Note {
-        kernel: "TCA_FLOWER_KEY_ICMPV4_CODE_MASK",
-        unit: Unit::Plain,
-        names: 0,
-    },
-    Note {
-        kernel: "TCA_FLOWER_KEY_ICMPV4_TYPE",
-        unit: Unit::Plain,
-        names: 0,
-    },
-    Note {
-        kernel: "TCA_FLOWER_KEY_ICMPV4_TYPE_MASK",
-        unit: Unit::Plain,
-        names: 0,
-    },
-    Note {
-        kernel: "TCA_FLOWER_KEY_ICMPV6_CODE",
-        unit: Unit::Plain,
-        names: 0,
-    },
-    Note {
-        kernel: "TCA_FLOWER_KEY_ICMPV6_CODE_MASK",
-        unit: Unit::Plain,
-        names: 0,
-    },
-    Note {
-        kernel: "TCA_FLOWER_KEY_ICMPV6_TYPE",
-        unit: Unit::Plain,
-        names: 0,
-    },
-    Note {
-        kernel: "TCA_FLOWER_KEY_ICMPV6_TYPE_MASK",
-        unit: Unit::Plain,
-        names: 0,
-    },
-    Note {
-        kernel: "TCA_FLOWER_KEY_ARP_SIP",
-        unit: Unit::Plain,
-        names: 0,
-    },
-    Note {
-        kernel: "TCA_FLOWER_KEY_ARP_SIP_MASK",
-        unit: Unit::Plain,
-        names: 0,
-    },
-    Note {
-        kernel: "TCA_FLOWER_KEY_ARP_TIP",
-        unit: Unit::Plain,
-        names: 0,
-    },
-    Note {
-        kernel: "TCA_FLOWER_KEY_ARP_TIP_MASK",
-        unit: Unit::Plain,
-        names: 0,
-    },
-    Note {
-        kernel: "TCA_FLOWER_KEY_ARP_OP",
-        unit: Unit::Plain,
-        names: 21,
-    },
-    Note {
-        kernel: "TCA_FLOWER_KEY_ARP_OP_MASK",
-        unit: Unit::Plain,
-        names: 0,
-    },
-    Note {
-        kernel: "TCA_FLOWER_KEY_ARP_SHA",
-        unit: Unit::Plain,
-        names: 0,
-    },
-    Note {
-        kernel: "TCA_FLOWER_KEY_ARP_SHA_MASK",
-        unit: Unit::Plain,
-        names: 0,
-    },
-    Note {
-        kernel: "TCA_FLOWER_KEY_ARP_THA",
-        unit: Unit::Plain,
-        names: 0,
-    },
-    Note {
-        kernel: "TCA_FLOWER_KEY_ARP_THA_MASK",
-        unit: Unit::Plain,
-        names: 0,
-    },
-    Note {
-        kernel: "TCA_FLOWER_KEY_MPLS_TTL",
-        unit: Unit::Plain,
-        names: 0,
-    },
-    Note {
-        kernel: "TCA_FLOWER_KEY_MPLS_BOS",
-        unit: Unit::Plain,
-        names: 0,
-    },
-    Note {
-        kernel: "TCA_FLOWER_KEY_MPLS_TC",
-        unit: Unit::Plain,
-        names: 0,
-    },
-    Note {
-        kernel: "TCA_FLOWER_KEY_MPLS_LABEL",
-        unit: Unit::Plain,
-        names: 0,
-    },
-    Note {
-        kernel: "TCA_FLOWER_KEY_TCP_FLAGS",
-        unit: Unit::Plain,
-        names: 22,
-    },
-    Note {
-        kernel: "TCA_FLOWER_KEY_TCP_FLAGS_MASK",
-        unit: Unit::Plain,
-        names: 22,
-    },
-    Note {
-        kernel: "TCA_FLOWER_KEY_IP_TOS",
-        unit: Unit::Plain,
-        names: 0,
-    },
-    Note {
-        kernel: "TCA_FLOWER_KEY_IP_TOS_MASK",
-        unit: Unit::Plain,
-        names: 0,
-    },
-    Note {
-        kernel: "TCA_FLOWER_KEY_IP_TTL",
-        unit: Unit::Plain,
-        names: 0,
-    },
-    Note {
-        kernel: "TCA_FLOWER_KEY_IP_TTL_MASK",
-        unit: Unit::Plain,
-        names: 0,
-    },
-    Note {
-        kernel: "TCA_FLOWER_KEY_CVLAN_ID",
-        unit: Unit::Plain,
-        names: 0,
-    },
-    Note {
-        kernel: "TCA_FLOWER_KEY_CVLAN_PRIO",
-        unit: Unit::Plain,
-        names: 0,
-    },
-    Note {
-        kernel: "TCA_FLOWER_KEY_CVLAN_ETH_TYPE",
-        unit: Unit::Plain,
-        names: 7,
-    },
-    Note {
-        kernel: "TCA_FLOWER_KEY_ENC_IP_TOS",
-        unit: Unit::Plain,
-        names: 0,
-    },
-    Note {
-        kernel: "TCA_FLOWER_KEY_ENC_IP_TOS_MASK",
-        unit: Unit::Plain,
-        names: 0,
-    },
-    Note {
-        kernel: "TCA_FLOWER_KEY_ENC_IP_TTL",
-        unit: Unit::Plain,
-        names: 0,
-    },
-    Note {
-        kernel: "TCA_FLOWER_KEY_ENC_IP_TTL_MASK",
-        unit: Unit::Plain,
-        names: 0,
-    },
-    Note {
-        kernel: "TCA_FLOWER_KEY_ENC_OPTS",
-        unit: Unit::Plain,
-        names: 0,
-    },
-    Note {
-        kernel: "TCA_FLOWER_KEY_ENC_OPTS_MASK",
-        unit: Unit::Plain,
-        names: 0,
-    },
-    Note {
-        kernel: "TCA_FLOWER_IN_HW_COUNT",
-        unit: Unit::Plain,
-        names: 0,
-    },
-    Note {
-        kernel: "TCA_FLOWER_KEY_PORT_SRC_MIN",
-        unit: Unit::Plain,
-        names: 0,
-    },
-    Note {
-        kernel: "TCA_FLOWER_KEY_PORT_SRC_MAX",
-        unit: Unit::Plain,
-        names: 0,
-    },
-    Note {
-        kernel: "TCA_FLOWER_KEY_PORT_DST_MIN",
-        unit: Unit::Plain,
-        names: 0,
-    },
-    Note {
-        kernel: "TCA_FLOWER_KEY_PORT_DST_MAX",
-        unit: Unit::Plain,
-        names: 0,
-    },
-    Note {
-        kernel: "TCA_FLOWER_KEY_CT_STATE",
-        unit: Unit::Plain,
-        names: 23,
-    },
-    Note {
-        kernel: "TCA_FLOWER_KEY_CT_STATE_MASK",
-        unit: Unit::Plain,
-        names: 23,
-    },
-    Note {
-        kernel: "TCA_FLOWER_KEY_CT_ZONE",
-        unit: Unit::Plain,
-        names: 0,
-    },
-    Note {
-        kernel: "TCA_FLOWER_KEY_CT_ZONE_MASK",
-        unit: Unit::Plain,
-        names: 0,
-    },
-    Note {
-        kernel: "TCA_FLOWER_KEY_CT_MARK",
-        unit: Unit::Plain,
-        names: 0,
-    },
-    Note {
-        kernel: "TCA_FLOWER_KEY_CT_MARK_MASK",
-        unit: Unit::Plain,
-        names: 0,
-    },
-    Note {
-        kernel: "TCA_FLOWER_KEY_CT_LABELS",
-        unit: Unit::Plain,
-        names: 0,
-    },
-    Note {
-        kernel: "TCA_FLOWER_KEY_CT_LABELS_MASK",
-        unit: Unit::Plain,
-        names: 0,
-    },
-    Note {
-        kernel: "TCA_FLOWER_KEY_MPLS_OPTS",
-        unit: Unit::Plain,
-        names: 0,
-    },
-    Note {
-        kernel: "TCA_FLOWER_KEY_HASH",
-        unit: Unit::Plain,
-        names: 0,
-    },
-    Note {
-        kernel: "TCA_FLOWER_KEY_HASH_MASK",
-        unit: Unit::Plain,
-        names: 0,
-    },
-    Note {
-        kernel: "TCA_FLOWER_KEY_NUM_OF_VLANS",
-        unit: Unit::Plain,
-        names: 0,
-    },
-    Note {
-        kernel: "TCA_FLOWER_KEY_PPPOE_SID",
-        unit: Unit::Plain,
-        names: 0,
-    },
-    Note {
-        kernel: "TCA_FLOWER_KEY_PPP_PROTO",
-        unit: Unit::Plain,
-        names: 0,
-    },
-    Note {
-        kernel: "TCA_FLOWER_KEY_L2TPV3_SID",
-        unit: Unit::Plain,
-        names: 0,
-    },
-    Note {
-        kernel: "TCA_FLOWER_L2_MISS",
-        unit: Unit::Plain,
-        names: 0,
-    },
-    Note {
-        kernel: "TCA_FLOWER_KEY_CFM",
-        unit: Unit::Plain,
-        names: 0,
-    },
-    Note {
-        kernel: "TCA_FLOWER_KEY_SPI",
-        unit: Unit::Plain,
-        names: 0,
-    },
-    Note {
-        kernel: "TCA_FLOWER_KEY_SPI_MASK",
-        unit: Unit::Plain,
-        names: 0,
-    },
-    Note {
-        kernel: "TCA_FLOWER_KEY_ENC_FLAGS",
-        unit: Unit::Plain,
-        names: 20,
-    },
-    Note {
-        kernel: "TCA_FLOWER_KEY_ENC_FLAGS_MASK",
-        unit: Unit::Plain,
-        names: 20,
-    },
+    Note { kernel: "TCA_FLOWER_CLASSID", unit: Unit::Plain, names: 0 },
+    Note { kernel: "TCA_FLOWER_INDEV", unit: Unit::Plain, names: 0 },
+    Note { kernel: "TCA_FLOWER_ACT", unit: Unit::Plain, names: 0 },
+    Note { kernel: "TCA_FLOWER_KEY_ETH_DST", unit: Unit::Plain, names: 0 },
+    Note { kernel: "TCA_FLOWER_KEY_ETH_DST_MASK", unit: Unit::Plain, names: 0 },
+    Note { kernel: "TCA_FLOWER_KEY_ETH_SRC", unit: Unit::Plain, names: 0 },
+    Note { kernel: "TCA_FLOWER_KEY_ETH_SRC_MASK", unit: Unit::Plain, names: 0 },
+    Note { kernel: "TCA_FLOWER_KEY_ETH_TYPE", unit: Unit::Plain, names: 7 },
+    Note { kernel: "TCA_FLOWER_KEY_IP_PROTO", unit: Unit::Plain, names: 5 },
+    Note { kernel: "TCA_FLOWER_KEY_IPV4_SRC", unit: Unit::Plain, names: 0 },
+    Note { kernel: "TCA_FLOWER_KEY_IPV4_SRC_MASK", unit: Unit::Plain, names: 0 },
+    Note { kernel: "TCA_FLOWER_KEY_IPV4_DST", unit: Unit::Plain, names: 0 },
+    Note { kernel: "TCA_FLOWER_KEY_IPV4_DST_MASK", unit: Unit::Plain, names: 0 },
+    Note { kernel: "TCA_FLOWER_KEY_IPV6_SRC", unit: Unit::Plain, names: 0 },
+    Note { kernel: "TCA_FLOWER_KEY_IPV6_SRC_MASK", unit: Unit::Plain, names: 0 },
+    Note { kernel: "TCA_FLOWER_KEY_IPV6_DST", unit: Unit::Plain, names: 0 },
+    Note { kernel: "TCA_FLOWER_KEY_IPV6_DST_MASK", unit: Unit::Plain, names: 0 },
+    Note { kernel: "TCA_FLOWER_KEY_TCP_SRC", unit: Unit::Plain, names: 0 },
+    Note { kernel: "TCA_FLOWER_KEY_TCP_DST", unit: Unit::Plain, names: 0 },
+    Note { kernel: "TCA_FLOWER_KEY_UDP_SRC", unit: Unit::Plain, names: 0 },
+    Note { kernel: "TCA_FLOWER_KEY_UDP_DST", unit: Unit::Plain, names: 0 },
+    Note { kernel: "TCA_FLOWER_FLAGS", unit: Unit::Plain, names: 18 },
+    Note { kernel: "TCA_FLOWER_KEY_VLAN_ID", unit: Unit::Plain, names: 0 },
+    Note { kernel: "TCA_FLOWER_KEY_VLAN_PRIO", unit: Unit::Plain, names: 0 },
+    Note { kernel: "TCA_FLOWER_KEY_VLAN_ETH_TYPE", unit: Unit::Plain, names: 7 },
+    Note { kernel: "TCA_FLOWER_KEY_ENC_KEY_ID", unit: Unit::Plain, names: 0 },
+    Note { kernel: "TCA_FLOWER_KEY_ENC_IPV4_SRC", unit: Unit::Plain, names: 0 },
+    Note { kernel: "TCA_FLOWER_KEY_ENC_IPV4_SRC_MASK", unit: Unit::Plain, names: 0 },
+    Note { kernel: "TCA_FLOWER_KEY_ENC_IPV4_DST", unit: Unit::Plain, names: 0 },
+    Note { kernel: "TCA_FLOWER_KEY_ENC_IPV4_DST_MASK", unit: Unit::Plain, names: 0 },
+    Note { kernel: "TCA_FLOWER_KEY_ENC_IPV6_SRC", unit: Unit::Plain, names: 0 },
+    Note { kernel: "TCA_FLOWER_KEY_ENC_IPV6_SRC_MASK", unit: Unit::Plain, names: 0 },
+    Note { kernel: "TCA_FLOWER_KEY_ENC_IPV6_DST", unit: Unit::Plain, names: 0 },
+    Note { kernel: "TCA_FLOWER_KEY_ENC_IPV6_DST_MASK", unit: Unit::Plain, names: 0 },
+    Note { kernel: "TCA_FLOWER_KEY_TCP_SRC_MASK", unit: Unit::Plain, names: 0 },
+    Note { kernel: "TCA_FLOWER_KEY_TCP_DST_MASK", unit: Unit::Plain, names: 0 },
+    Note { kernel: "TCA_FLOWER_KEY_UDP_SRC_MASK", unit: Unit::Plain, names: 0 },
+    Note { kernel: "TCA_FLOWER_KEY_UDP_DST_MASK", unit: Unit::Plain, names: 0 },
+    Note { kernel: "TCA_FLOWER_KEY_SCTP_SRC_MASK", unit: Unit::Plain, names: 0 },
+    Note { kernel: "TCA_FLOWER_KEY_SCTP_DST_MASK", unit: Unit::Plain, names: 0 },
+    Note { kernel: "TCA_FLOWER_KEY_SCTP_SRC", unit: Unit::Plain, names: 0 },
+    Note { kernel: "TCA_FLOWER_KEY_SCTP_DST", unit: Unit::Plain, names: 0 },
+    Note { kernel: "TCA_FLOWER_KEY_ENC_UDP_SRC_PORT", unit: Unit::Plain, names: 0 },
+    Note { kernel: "TCA_FLOWER_KEY_ENC_UDP_SRC_PORT_MASK", unit: Unit::Plain, names: 0 },
+    Note { kernel: "TCA_FLOWER_KEY_ENC_UDP_DST_PORT", unit: Unit::Plain, names: 0 },
+    Note { kernel: "TCA_FLOWER_KEY_ENC_UDP_DST_PORT_MASK", unit: Unit::Plain, names: 0 },
+    Note { kernel: "TCA_FLOWER_KEY_FLAGS", unit: Unit::Plain, names: 20 },
+    Note { kernel: "TCA_FLOWER_KEY_FLAGS_MASK", unit: Unit::Plain, names: 20 },
+    Note { kernel: "TCA_FLOWER_KEY_ICMPV4_CODE", unit: Unit::Plain, names: 0 },
+    Note { kernel: "TCA_FLOWER_KEY_ICMPV4_CODE_MASK", unit: Unit::Plain, names: 0 },
+    Note { kernel: "TCA_FLOWER_KEY_ICMPV4_TYPE", unit: Unit::Plain, names: 0 },
+    Note { kernel: "TCA_FLOWER_KEY_ICMPV4_TYPE_MASK", unit: Unit::Plain, names: 0 },
+    Note { kernel: "TCA_FLOWER_KEY_ICMPV6_CODE", unit: Unit::Plain, names: 0 },
+    Note { kernel: "TCA_FLOWER_KEY_ICMPV6_CODE_MASK", unit: Unit::Plain, names: 0 },
+    Note { kernel: "TCA_FLOWER_KEY_ICMPV6_TYPE", unit: Unit::Plain, names: 0 },
+    Note { kernel: "TCA_FLOWER_KEY_ICMPV6_TYPE_MASK", unit: Unit::Plain, names: 0 },
+    Note { kernel: "TCA_FLOWER_KEY_ARP_SIP", unit: Unit::Plain, names: 0 },
+    Note { kernel: "TCA_FLOWER_KEY_ARP_SIP_MASK", unit: Unit::Plain, names: 0 },
+    Note { kernel: "TCA_FLOWER_KEY_ARP_TIP", unit: Unit::Plain, names: 0 },
+    Note { kernel: "TCA_FLOWER_KEY_ARP_TIP_MASK", unit: Unit::Plain, names: 0 },
+    Note { kernel: "TCA_FLOWER_KEY_ARP_OP", unit: Unit::Plain, names: 21 },
+    Note { kernel: "TCA_FLOWER_KEY_ARP_OP_MASK", unit: Unit::Plain, names: 0 },
+    Note { kernel: "TCA_FLOWER_KEY_ARP_SHA", unit: Unit::Plain, names: 0 },
+    Note { kernel: "TCA_FLOWER_KEY_ARP_SHA_MASK", unit: Unit::Plain, names: 0 },
+    Note { kernel: "TCA_FLOWER_KEY_ARP_THA", unit: Unit::Plain, names: 0 },
+    Note { kernel: "TCA_FLOWER_KEY_ARP_THA_MASK", unit: Unit::Plain, names: 0 },
+    Note { kernel: "TCA_FLOWER_KEY_MPLS_TTL", unit: Unit::Plain, names: 0 },
+    Note { kernel: "TCA_FLOWER_KEY_MPLS_BOS", unit: Unit::Plain, names: 0 },
+    Note { kernel: "TCA_FLOWER_KEY_MPLS_TC", unit: Unit::Plain, names: 0 },
+    Note { kernel: "TCA_FLOWER_KEY_MPLS_LABEL", unit: Unit::Plain, names: 0 },
+    Note { kernel: "TCA_FLOWER_KEY_TCP_FLAGS", unit: Unit::Plain, names: 22 },
+    Note { kernel: "TCA_FLOWER_KEY_TCP_FLAGS_MASK", unit: Unit::Plain, names: 22 },
+    Note { kernel: "TCA_FLOWER_KEY_IP_TOS", unit: Unit::Plain, names: 0 },
+    Note { kernel: "TCA_FLOWER_KEY_IP_TOS_MASK", unit: Unit::Plain, names: 0 },
+    Note { kernel: "TCA_FLOWER_KEY_IP_TTL", unit: Unit::Plain, names: 0 },
+    Note { kernel: "TCA_FLOWER_KEY_IP_TTL_MASK", unit: Unit::Plain, names: 0 },
+    Note { kernel: "TCA_FLOWER_KEY_CVLAN_ID", unit: Unit::Plain, names: 0 },
+    Note { kernel: "TCA_FLOWER_KEY_CVLAN_PRIO", unit: Unit::Plain, names: 0 },
+    Note { kernel: "TCA_FLOWER_KEY_CVLAN_ETH_TYPE", unit: Unit::Plain, names: 7 },
+    Note { kernel: "TCA_FLOWER_KEY_ENC_IP_TOS", unit: Unit::Plain, names: 0 },
+    Note { kernel: "TCA_FLOWER_KEY_ENC_IP_TOS_MASK", unit: Unit::Plain, names: 0 },
+    Note { kernel: "TCA_FLOWER_KEY_ENC_IP_TTL", unit: Unit::Plain, names: 0 },
+    Note { kernel: "TCA_FLOWER_KEY_ENC_IP_TTL_MASK", unit: Unit::Plain, names: 0 },
+    Note { kernel: "TCA_FLOWER_KEY_ENC_OPTS", unit: Unit::Plain, names: 0 },
+    Note { kernel: "TCA_FLOWER_KEY_ENC_OPTS_MASK", unit: Unit::Plain, names: 0 },
+    Note { kernel: "TCA_FLOWER_IN_HW_COUNT", unit: Unit::Plain, names: 0 },
+    Note { kernel: "TCA_FLOWER_KEY_PORT_SRC_MIN", unit: Unit::Plain, names: 0 },
+    Note { kernel: "TCA_FLOWER_KEY_PORT_SRC_MAX", unit: Unit::Plain, names: 0 },
+    Note { kernel: "TCA_FLOWER_KEY_PORT_DST_MIN", unit: Unit::Plain, names: 0 },
+    Note { kernel: "TCA_FLOWER_KEY_PORT_DST_MAX", unit: Unit::Plain, names: 0 },
+    Note { kernel: "TCA_FLOWER_KEY_CT_STATE", unit: Unit::Plain, names: 23 },
+    Note { kernel: "TCA_FLOWER_KEY_CT_STATE_MASK", unit: Unit::Plain, names: 23 },
+    Note { kernel: "TCA_FLOWER_KEY_CT_ZONE", unit: Unit::Plain, names: 0 },
+    Note { kernel: "TCA_FLOWER_KEY_CT_ZONE_MASK", unit: Unit::Plain, names: 0 },
+    Note { kernel: "TCA_FLOWER_KEY_CT_MARK", unit: Unit::Plain, names: 0 },
+    Note { kernel: "TCA_FLOWER_KEY_CT_MARK_MASK", unit: Unit::Plain, names: 0 },
+    Note { kernel: "TCA_FLOWER_KEY_CT_LABELS", unit: Unit::Plain, names: 0 },
+    Note { kernel: "TCA_FLOWER_KEY_CT_LABELS_MASK", unit: Unit::Plain, names: 0 },
+    Note { kernel: "TCA_FLOWER_KEY_MPLS_OPTS", unit: Unit::Plain, names: 0 },
+    Note { kernel: "TCA_FLOWER_KEY_HASH", unit: Unit::Plain, names: 0 },
+    Note { kernel: "TCA_FLOWER_KEY_HASH_MASK", unit: Unit::Plain, names: 0 },
+    Note { kernel: "TCA_FLOWER_KEY_NUM_OF_VLANS", unit: Unit::Plain, names: 0 },
+    Note { kernel: "TCA_FLOWER_KEY_PPPOE_SID", unit: Unit::Plain, names: 0 },
+    Note { kernel: "TCA_FLOWER_KEY_PPP_PROTO", unit: Unit::Plain, names: 0 },
+    Note { kernel: "TCA_FLOWER_KEY_L2TPV3_SID", unit: Unit::Plain, names: 0 },
+    Note { kernel: "TCA_FLOWER_L2_MISS", unit: Unit::Plain, names: 0 },
+    Note { kernel: "TCA_FLOWER_KEY_CFM", unit: Unit::Plain, names: 0 },
+    Note { kernel: "TCA_FLOWER_KEY_SPI", unit: Unit::Plain, names: 0 },
+    Note { kernel: "TCA_FLOWER_KEY_SPI_MASK", unit: Unit::Plain, names: 0 },
+    Note { kernel: "TCA_FLOWER_KEY_ENC_FLAGS", unit: Unit::Plain, names: 20 },
+    Note { kernel: "TCA_FLOWER_KEY_ENC_FLAGS_MASK", unit: Unit::Plain, names: 20 },
 ];
 
 // `list enc_opts`
+#[rattlefmt::skip]
 const LIST_ENC_OPTS: [Note<'static>; 5] = [
-    Note {
-        kernel: "TCA_FLOWER_KEY_ENC_OPTS_GENEVE",
-        unit: Unit::Plain,
-        names: 0,
-    },
-    Note {
-        kernel: "TCA_FLOWER_KEY_ENC_OPTS_VXLAN",
-        unit: Unit::Plain,
-        names: 0,
-    },
-    Note {
-        kernel: "TCA_FLOWER_KEY_ENC_OPTS_ERSPAN",
-        unit: Unit::Plain,
-        names: 0,
-    },
-    Note {
-        kernel: "TCA_FLOWER_KEY_ENC_OPTS_GTP",
-        unit: Unit::Plain,
-        names: 0,
-    },
-    Note {
-        kernel: "TCA_FLOWER_KEY_ENC_OPTS_PFCP",
-        unit: Unit::Plain,
-        names: 0,
-    },
+    Note { kernel: "TCA_FLOWER_KEY_ENC_OPTS_GENEVE", unit: Unit::Plain, names: 0 },
+    Note { kernel: "TCA_FLOWER_KEY_ENC_OPTS_VXLAN", unit: Unit::Plain, names: 0 },
+    Note { kernel: "TCA_FLOWER_KEY_ENC_OPTS_ERSPAN", unit: Unit::Plain, names: 0 },
+    Note { kernel: "TCA_FLOWER_KEY_ENC_OPTS_GTP", unit: Unit::Plain, names: 0 },
+    Note { kernel: "TCA_FLOWER_KEY_ENC_OPTS_PFCP", unit: Unit::Plain, names: 0 },
 ];
 
 // `list enc_opt_geneve`
+#[rattlefmt::skip]
 const LIST_ENC_OPT_GENEVE: [Note<'static>; 3] = [
-    Note {
-        kernel: "TCA_FLOWER_KEY_ENC_OPT_GENEVE_CLASS",
-        unit: Unit::Plain,
-        names: 0,
-    },
-    Note {
-        kernel: "TCA_FLOWER_KEY_ENC_OPT_GENEVE_TYPE",
-        unit: Unit::Plain,
-        names: 0,
-    },
-    Note {
-        kernel: "TCA_FLOWER_KEY_ENC_OPT_GENEVE_DATA",
-        unit: Unit::Plain,
-        names: 0,
-    },
+    Note { kernel: "TCA_FLOWER_KEY_ENC_OPT_GENEVE_CLASS", unit: Unit::Plain, names: 0 },
+    Note { kernel: "TCA_FLOWER_KEY_ENC_OPT_GENEVE_TYPE", unit: Unit::Plain, names: 0 },
+    Note { kernel: "TCA_FLOWER_KEY_ENC_OPT_GENEVE_DATA", unit: Unit::Plain, names: 0 },
 ];
 
 // `list enc_opt_vxlan`
-const LIST_ENC_OPT_VXLAN: [Note<'static>; 1] = [Note {
-    kernel: "TCA_FLOWER_KEY_ENC_OPT_VXLAN_GBP",
-    unit: Unit::Plain,
-    names: 0,
-}];
+#[rattlefmt::skip]
+const LIST_ENC_OPT_VXLAN: [Note<'static>; 1] = [
+    Note { kernel: "TCA_FLOWER_KEY_ENC_OPT_VXLAN_GBP", unit: Unit::Plain, names: 0 },
+];
 
 // `list enc_opt_erspan`
+#[rattlefmt::skip]
 const LIST_ENC_OPT_ERSPAN: [Note<'static>; 4] = [
-    Note {
-        kernel: "TCA_FLOWER_KEY_ENC_OPT_ERSPAN_VER",
-        unit: Unit::Plain,
-        names: 0,
-    },
-    Note {
-        kernel: "TCA_FLOWER_KEY_ENC_OPT_ERSPAN_INDEX",
-        unit: Unit::Plain,
-        names: 0,
-    },
-    Note {
-        kernel: "TCA_FLOWER_KEY_ENC_OPT_ERSPAN_DIR",
-        unit: Unit::Plain,
-        names: 0,
-    },
-    Note {
-        kernel: "TCA_FLOWER_KEY_ENC_OPT_ERSPAN_HWID",
-        unit: Unit::Plain,
-        names: 0,
-    },
+    Note { kernel: "TCA_FLOWER_KEY_ENC_OPT_ERSPAN_VER", unit: Unit::Plain, names: 0 },
+    Note { kernel: "TCA_FLOWER_KEY_ENC_OPT_ERSPAN_INDEX", unit: Unit::Plain, names: 0 },
+    Note { kernel: "TCA_FLOWER_KEY_ENC_OPT_ERSPAN_DIR", unit: Unit::Plain, names: 0 },
+    Note { kernel: "TCA_FLOWER_KEY_ENC_OPT_ERSPAN_HWID", unit: Unit::Plain, names: 0 },
 ];
 
 // `list enc_opt_gtp`
+#[rattlefmt::skip]
 const LIST_ENC_OPT_GTP: [Note<'static>; 2] = [
-    Note {
-        kernel: "TCA_FLOWER_KEY_ENC_OPT_GTP_PDU_TYPE",
-        unit: Unit::Plain,
-        names: 0,
-    },
-    Note {
-        kernel: "TCA_FLOWER_KEY_ENC_OPT_GTP_QFI",
-        unit: Unit::Plain,
-        names: 0,
-    },
+    Note { kernel: "TCA_FLOWER_KEY_ENC_OPT_GTP_PDU_TYPE", unit: Unit::Plain, names: 0 },
+    Note { kernel: "TCA_FLOWER_KEY_ENC_OPT_GTP_QFI", unit: Unit::Plain, names: 0 },
 ];
 
 // `list enc_opt_pfcp`
+#[rattlefmt::skip]
 const LIST_ENC_OPT_PFCP: [Note<'static>; 2] = [
-    Note {
-        kernel: "TCA_FLOWER_KEY_ENC_OPT_PFCP_TYPE",
-        unit: Unit::Plain,
-        names: 0,
-    },
-    Note {
-        kernel: "TCA_FLOWER_KEY_ENC_OPT_PFCP_SEID",
-        unit: Unit::Plain,
-        names: 0,
-    },
+    Note { kernel: "TCA_FLOWER_KEY_ENC_OPT_PFCP_TYPE", unit: Unit::Plain, names: 0 },
+    Note { kernel: "TCA_FLOWER_KEY_ENC_OPT_PFCP_SEID", unit: Unit::Plain, names: 0 },
 ];
 
 // `list cfm`
+#[rattlefmt::skip]
 const LIST_CFM: [Note<'static>; 2] = [
-    Note {
-        kernel: "TCA_FLOWER_KEY_CFM_MD_LEVEL",
-        unit: Unit::Plain,
-        names: 0,
-    },
-    Note {
-        kernel: "TCA_FLOWER_KEY_CFM_OPCODE",
-        unit: Unit::Plain,
-        names: 0,
-    },
+    Note { kernel: "TCA_FLOWER_KEY_CFM_MD_LEVEL", unit: Unit::Plain, names: 0 },
+    Note { kernel: "TCA_FLOWER_KEY_CFM_OPCODE", unit: Unit::Plain, names: 0 },
 ];
 
 // `list mpls_opts`
-const LIST_MPLS_OPTS: [Note<'static>; 1] = [Note {
-    kernel: "TCA_FLOWER_KEY_MPLS_OPTS_LSE",
-    unit: Unit::Plain,
-    names: 0,
-}];
+#[rattlefmt::skip]
+const LIST_MPLS_OPTS: [Note<'static>; 1] = [
+    Note { kernel: "TCA_FLOWER_KEY_MPLS_OPTS_LSE", unit: Unit::Plain, names: 0 },
+];
 
 // `list mpls_lse`
+#[rattlefmt::skip]
 const LIST_MPLS_LSE: [Note<'static>; 5] = [
-    Note {
-        kernel: "TCA_FLOWER_KEY_MPLS_OPT_LSE_DEPTH",
-        unit: Unit::Plain,
-        names: 0,
-    },
-    Note {
-        kernel: "TCA_FLOWER_KEY_MPLS_OPT_LSE_TTL",
-        unit: Unit::Plain,
-        names: 0,
-    },
-    Note {
-        kernel: "TCA_FLOWER_KEY_MPLS_OPT_LSE_BOS",
-        unit: Unit::Plain,
-        names: 0,
-    },
-    Note {
-        kernel: "TCA_FLOWER_KEY_MPLS_OPT_LSE_TC",
-        unit: Unit::Plain,
-        names: 0,
-    },
-    Note {
-        kernel: "TCA_FLOWER_KEY_MPLS_OPT_LSE_LABEL",
-        unit: Unit::Plain,
-        names: 0,
-    },
+    Note { kernel: "TCA_FLOWER_KEY_MPLS_OPT_LSE_DEPTH", unit: Unit::Plain, names: 0 },
+    Note { kernel: "TCA_FLOWER_KEY_MPLS_OPT_LSE_TTL", unit: Unit::Plain, names: 0 },
+    Note { kernel: "TCA_FLOWER_KEY_MPLS_OPT_LSE_BOS", unit: Unit::Plain, names: 0 },
+    Note { kernel: "TCA_FLOWER_KEY_MPLS_OPT_LSE_TC", unit: Unit::Plain, names: 0 },
+    Note { kernel: "TCA_FLOWER_KEY_MPLS_OPT_LSE_LABEL", unit: Unit::Plain, names: 0 },
 ];
 
 // `list fw`
+#[rattlefmt::skip]
 const LIST_FW: [Note<'static>; 5] = [
-    Note {
-        kernel: "TCA_FW_CLASSID",
-        unit: Unit::Plain,
-        names: 0,
-    },
-    Note {
-        kernel: "TCA_FW_POLICE",
-        unit: Unit::Plain,
-        names: 0,
-    },
-    Note {
-        kernel: "TCA_FW_INDEV",
-        unit: Unit::Plain,
-        names: 0,
-    },
-    Note {
-        kernel: "TCA_FW_ACT",
-        unit: Unit::Plain,
-        names: 0,
-    },
-    Note {
-        kernel: "TCA_FW_MASK",
-        unit: Unit::Plain,
-        names: 0,
-    },
+    Note { kernel: "TCA_FW_CLASSID", unit: Unit::Plain, names: 0 },
+    Note { kernel: "TCA_FW_POLICE", unit: Unit::Plain, names: 0 },
+    Note { kernel: "TCA_FW_INDEV", unit: Unit::Plain, names: 0 },
+    Note { kernel: "TCA_FW_ACT", unit: Unit::Plain, names: 0 },
+    Note { kernel: "TCA_FW_MASK", unit: Unit::Plain, names: 0 },
 ];
 
 // `list matchall`
+#[rattlefmt::skip]
 const LIST_MATCHALL: [Note<'static>; 5] = [
-    Note {
-        kernel: "TCA_MATCHALL_CLASSID",
-        unit: Unit::Plain,
-        names: 0,
-    },
-    Note {
-        kernel: "TCA_MATCHALL_ACT",
-        unit: Unit::Plain,
-        names: 0,
-    },
-    Note {
-        kernel: "TCA_MATCHALL_FLAGS",
-        unit: Unit::Plain,
-        names: 18,
-    },
-    Note {
-        kernel: "TCA_MATCHALL_PCNT",
-        unit: Unit::Plain,
-        names: 0,
-    },
-    Note {
-        kernel: "TCA_MATCHALL_PAD",
-        unit: Unit::Plain,
-        names: 0,
-    },
+    Note { kernel: "TCA_MATCHALL_CLASSID", unit: Unit::Plain, names: 0 },
+    Note { kernel: "TCA_MATCHALL_ACT", unit: Unit::Plain, names: 0 },
+    Note { kernel: "TCA_MATCHALL_FLAGS", unit: Unit::Plain, names: 18 },
+    Note { kernel: "TCA_MATCHALL_PCNT", unit: Unit::Plain, names: 0 },
+    Note { kernel: "TCA_MATCHALL_PAD", unit: Unit::Plain, names: 0 },
 ];
 
 // `struct tc_matchall_pcnt`
-const STRUCT_TC_MATCHALL_PCNT: [Note<'static>; 1] = [Note {
-    kernel: "",
-    unit: Unit::Packets,
-    names: 0,
-}];
+#[rattlefmt::skip]
+const STRUCT_TC_MATCHALL_PCNT: [Note<'static>; 1] = [
+    Note { kernel: "", unit: Unit::Packets, names: 0 },
+];
 
 // `list route`
+#[rattlefmt::skip]
 const LIST_ROUTE: [Note<'static>; 6] = [
-    Note {
-        kernel: "TCA_ROUTE4_CLASSID",
-        unit: Unit::Plain,
-        names: 0,
-    },
-    Note {
-        kernel: "TCA_ROUTE4_TO",
-        unit: Unit::Plain,
-        names: 0,
-    },
-    Note {
-        kernel: "TCA_ROUTE4_FROM",
-        unit: Unit::Plain,
-        names: 0,
-    },
-    Note {
-        kernel: "TCA_ROUTE4_IIF",
-        unit: Unit::Interface,
-        names: 0,
-    },
-    Note {
-        kernel: "TCA_ROUTE4_POLICE",
-        unit: Unit::Plain,
-        names: 0,
-    },
-    Note {
-        kernel: "TCA_ROUTE4_ACT",
-        unit: Unit::Plain,
-        names: 0,
-    },
+    Note { kernel: "TCA_ROUTE4_CLASSID", unit: Unit::Plain, names: 0 },
+    Note { kernel: "TCA_ROUTE4_TO", unit: Unit::Plain, names: 0 },
+    Note { kernel: "TCA_ROUTE4_FROM", unit: Unit::Plain, names: 0 },
+    Note { kernel: "TCA_ROUTE4_IIF", unit: Unit::Interface, names: 0 },
+    Note { kernel: "TCA_ROUTE4_POLICE", unit: Unit::Plain, names: 0 },
+    Note { kernel: "TCA_ROUTE4_ACT", unit: Unit::Plain, names: 0 },
 ];
 
 // `list rsvp`
+#[rattlefmt::skip]
 const LIST_RSVP: [Note<'static>; 6] = [
-    Note {
-        kernel: "TCA_RSVP_CLASSID",
-        unit: Unit::Plain,
-        names: 0,
-    },
-    Note {
-        kernel: "TCA_RSVP_DST",
-        unit: Unit::Plain,
-        names: 0,
-    },
-    Note {
-        kernel: "TCA_RSVP_SRC",
-        unit: Unit::Plain,
-        names: 0,
-    },
-    Note {
-        kernel: "TCA_RSVP_PINFO",
-        unit: Unit::Plain,
-        names: 0,
-    },
-    Note {
-        kernel: "TCA_RSVP_POLICE",
-        unit: Unit::Plain,
-        names: 0,
-    },
-    Note {
-        kernel: "TCA_RSVP_ACT",
-        unit: Unit::Plain,
-        names: 0,
-    },
+    Note { kernel: "TCA_RSVP_CLASSID", unit: Unit::Plain, names: 0 },
+    Note { kernel: "TCA_RSVP_DST", unit: Unit::Plain, names: 0 },
+    Note { kernel: "TCA_RSVP_SRC", unit: Unit::Plain, names: 0 },
+    Note { kernel: "TCA_RSVP_PINFO", unit: Unit::Plain, names: 0 },
+    Note { kernel: "TCA_RSVP_POLICE", unit: Unit::Plain, names: 0 },
+    Note { kernel: "TCA_RSVP_ACT", unit: Unit::Plain, names: 0 },
 ];
 
 // `struct tc_rsvp_pinfo`
+#[rattlefmt::skip]
 const STRUCT_TC_RSVP_PINFO: [Note<'static>; 6] = [
-    Note {
-        kernel: "",
-        unit: Unit::Plain,
-        names: 0,
-    },
-    Note {
-        kernel: "",
-        unit: Unit::Plain,
-        names: 0,
-    },
-    Note {
-        kernel: "",
-        unit: Unit::Plain,
-        names: 5,
-    },
-    Note {
-        kernel: "",
-        unit: Unit::Plain,
-        names: 0,
-    },
-    Note {
-        kernel: "",
-        unit: Unit::Plain,
-        names: 0,
-    },
-    Note {
-        kernel: "",
-        unit: Unit::Plain,
-        names: 0,
-    },
+    Note { kernel: "", unit: Unit::Plain, names: 0 },
+    Note { kernel: "", unit: Unit::Plain, names: 0 },
+    Note { kernel: "", unit: Unit::Plain, names: 5 },
+    Note { kernel: "", unit: Unit::Plain, names: 0 },
+    Note { kernel: "", unit: Unit::Plain, names: 0 },
+    Note { kernel: "", unit: Unit::Plain, names: 0 },
 ];
 
 // `list tcindex`
+#[rattlefmt::skip]
 const LIST_TCINDEX: [Note<'static>; 7] = [
-    Note {
-        kernel: "TCA_TCINDEX_HASH",
-        unit: Unit::Plain,
-        names: 0,
-    },
-    Note {
-        kernel: "TCA_TCINDEX_MASK",
-        unit: Unit::Plain,
-        names: 0,
-    },
-    Note {
-        kernel: "TCA_TCINDEX_SHIFT",
-        unit: Unit::Plain,
-        names: 0,
-    },
-    Note {
-        kernel: "TCA_TCINDEX_FALL_THROUGH",
-        unit: Unit::Plain,
-        names: 0,
-    },
-    Note {
-        kernel: "TCA_TCINDEX_CLASSID",
-        unit: Unit::Plain,
-        names: 0,
-    },
-    Note {
-        kernel: "TCA_TCINDEX_POLICE",
-        unit: Unit::Plain,
-        names: 0,
-    },
-    Note {
-        kernel: "TCA_TCINDEX_ACT",
-        unit: Unit::Plain,
-        names: 0,
-    },
+    Note { kernel: "TCA_TCINDEX_HASH", unit: Unit::Plain, names: 0 },
+    Note { kernel: "TCA_TCINDEX_MASK", unit: Unit::Plain, names: 0 },
+    Note { kernel: "TCA_TCINDEX_SHIFT", unit: Unit::Plain, names: 0 },
+    Note { kernel: "TCA_TCINDEX_FALL_THROUGH", unit: Unit::Plain, names: 0 },
+    Note { kernel: "TCA_TCINDEX_CLASSID", unit: Unit::Plain, names: 0 },
+    Note { kernel: "TCA_TCINDEX_POLICE", unit: Unit::Plain, names: 0 },
+    Note { kernel: "TCA_TCINDEX_ACT", unit: Unit::Plain, names: 0 },
 ];
 
 // `list u32`
+#[rattlefmt::skip]
 const LIST_U32: [Note<'static>; 12] = [
-    Note {
-        kernel: "TCA_U32_CLASSID",
-        unit: Unit::Plain,
-        names: 0,
-    },
-    Note {
-        kernel: "TCA_U32_HASH",
-        unit: Unit::Plain,
-        names: 0,
-    },
-    Note {
-        kernel: "TCA_U32_LINK",
-        unit: Unit::Plain,
-        names: 0,
-    },
-    Note {
-        kernel: "TCA_U32_DIVISOR",
-        unit: Unit::Plain,
-        names: 0,
-    },
-    Note {
-        kernel: "TCA_U32_SEL",
-        unit: Unit::Plain,
-        names: 0,
-    },
-    Note {
-        kernel: "TCA_U32_POLICE",
-        unit: Unit::Plain,
-        names: 0,
-    },
-    Note {
-        kernel: "TCA_U32_ACT",
-        unit: Unit::Plain,
-        names: 0,
-    },
-    Note {
-        kernel: "TCA_U32_INDEV",
-        unit: Unit::Plain,
-        names: 0,
-    },
-    Note {
-        kernel: "TCA_U32_PCNT",
-        unit: Unit::Plain,
-        names: 0,
-    },
-    Note {
-        kernel: "TCA_U32_MARK",
-        unit: Unit::Plain,
-        names: 0,
-    },
-    Note {
-        kernel: "TCA_U32_FLAGS",
-        unit: Unit::Plain,
-        names: 18,
-    },
-    Note {
-        kernel: "TCA_U32_PAD",
-        unit: Unit::Plain,
-        names: 0,
-    },
+    Note { kernel: "TCA_U32_CLASSID", unit: Unit::Plain, names: 0 },
+    Note { kernel: "TCA_U32_HASH", unit: Unit::Plain, names: 0 },
+    Note { kernel: "TCA_U32_LINK", unit: Unit::Plain, names: 0 },
+    Note { kernel: "TCA_U32_DIVISOR", unit: Unit::Plain, names: 0 },
+    Note { kernel: "TCA_U32_SEL", unit: Unit::Plain, names: 0 },
+    Note { kernel: "TCA_U32_POLICE", unit: Unit::Plain, names: 0 },
+    Note { kernel: "TCA_U32_ACT", unit: Unit::Plain, names: 0 },
+    Note { kernel: "TCA_U32_INDEV", unit: Unit::Plain, names: 0 },
+    Note { kernel: "TCA_U32_PCNT", unit: Unit::Plain, names: 0 },
+    Note { kernel: "TCA_U32_MARK", unit: Unit::Plain, names: 0 },
+    Note { kernel: "TCA_U32_FLAGS", unit: Unit::Plain, names: 18 },
+    Note { kernel: "TCA_U32_PAD", unit: Unit::Plain, names: 0 },
 ];
 
 // `bits tc_u32`
+#[rattlefmt::skip]
 const BITS_TC_U32: [Named<'static>; 4] = [
-    Named {
-        number: "0x1",
-        name: "terminal",
-        kernel: "TC_U32_TERMINAL",
-    },
-    Named {
-        number: "0x2",
-        name: "offset",
-        kernel: "TC_U32_OFFSET",
-    },
-    Named {
-        number: "0x4",
-        name: "var_offset",
-        kernel: "TC_U32_VAROFFSET",
-    },
-    Named {
-        number: "0x8",
-        name: "eat",
-        kernel: "TC_U32_EAT",
-    },
+    Named { number: "0x1", name: "terminal", kernel: "TC_U32_TERMINAL" },
+    Named { number: "0x2", name: "offset", kernel: "TC_U32_OFFSET" },
+    Named { number: "0x4", name: "var_offset", kernel: "TC_U32_VAROFFSET" },
+    Named { number: "0x8", name: "eat", kernel: "TC_U32_EAT" },
 ];
 
 // `struct tc_u32_sel`
+#[rattlefmt::skip]
 const STRUCT_TC_U32_SEL: [Note<'static>; 10] = [
-    Note {
-        kernel: "",
-        unit: Unit::Plain,
-        names: 24,
-    },
-    Note {
-        kernel: "",
-        unit: Unit::Plain,
-        names: 0,
-    },
-    Note {
-        kernel: "",
-        unit: Unit::Plain,
-        names: 0,
-    },
-    Note {
-        kernel: "",
-        unit: Unit::Plain,
-        names: 0,
-    },
-    Note {
-        kernel: "",
-        unit: Unit::Plain,
-        names: 0,
-    },
-    Note {
-        kernel: "",
-        unit: Unit::Bytes,
-        names: 0,
-    },
-    Note {
-        kernel: "",
-        unit: Unit::Bytes,
-        names: 0,
-    },
-    Note {
-        kernel: "",
-        unit: Unit::Bytes,
-        names: 0,
-    },
-    Note {
-        kernel: "",
-        unit: Unit::Plain,
-        names: 0,
-    },
-    Note {
-        kernel: "",
-        unit: Unit::Plain,
-        names: 0,
-    },
+    Note { kernel: "", unit: Unit::Plain, names: 24 },
+    Note { kernel: "", unit: Unit::Plain, names: 0 },
+    Note { kernel: "", unit: Unit::Plain, names: 0 },
+    Note { kernel: "", unit: Unit::Plain, names: 0 },
+    Note { kernel: "", unit: Unit::Plain, names: 0 },
+    Note { kernel: "", unit: Unit::Bytes, names: 0 },
+    Note { kernel: "", unit: Unit::Bytes, names: 0 },
+    Note { kernel: "", unit: Unit::Bytes, names: 0 },
+    Note { kernel: "", unit: Unit::Plain, names: 0 },
+    Note { kernel: "", unit: Unit::Plain, names: 0 },
 ];
 
 // `struct tc_u32_key`
+#[rattlefmt::skip]
 const STRUCT_TC_U32_KEY: [Note<'static>; 4] = [
-    Note {
-        kernel: "",
-        unit: Unit::Plain,
-        names: 0,
-    },
-    Note {
-        kernel: "",
-        unit: Unit::Plain,
-        names: 0,
-    },
-    Note {
-        kernel: "",
-        unit: Unit::Bytes,
-        names: 0,
-    },
-    Note {
-        kernel: "",
-        unit: Unit::Plain,
-        names: 0,
-    },
+    Note { kernel: "", unit: Unit::Plain, names: 0 },
+    Note { kernel: "", unit: Unit::Plain, names: 0 },
+    Note { kernel: "", unit: Unit::Bytes, names: 0 },
+    Note { kernel: "", unit: Unit::Plain, names: 0 },
 ];
 
 // `struct tc_u32_pcnt`
+#[rattlefmt::skip]
 const STRUCT_TC_U32_PCNT: [Note<'static>; 3] = [
-    Note {
-        kernel: "",
-        unit: Unit::Packets,
-        names: 0,
-    },
-    Note {
-        kernel: "",
-        unit: Unit::Packets,
-        names: 0,
-    },
-    Note {
-        kernel: "",
-        unit: Unit::Packets,
-        names: 0,
-    },
+    Note { kernel: "", unit: Unit::Packets, names: 0 },
+    Note { kernel: "", unit: Unit::Packets, names: 0 },
+    Note { kernel: "", unit: Unit::Packets, names: 0 },
 ];
 
 // `struct tcmsg`
+#[rattlefmt::skip]
 const STRUCT_TCMSG: [Note<'static>; 6] = [
-    Note {
-        kernel: "",
-        unit: Unit::Plain,
-        names: 0,
-    },
-    Note {
-        kernel: "",
-        unit: Unit::Plain,
-        names: 0,
-    },
-    Note {
-        kernel: "",
-        unit: Unit::Interface,
-        names: 0,
-    },
-    Note {
-        kernel: "",
-        unit: Unit::Plain,
-        names: 0,
-    },
-    Note {
-        kernel: "",
-        unit: Unit::Plain,
-        names: 0,
-    },
-    Note {
-        kernel: "",
-        unit: Unit::Plain,
-        names: 0,
-    },
+    Note { kernel: "", unit: Unit::Plain, names: 0 },
+    Note { kernel: "", unit: Unit::Plain, names: 0 },
+    Note { kernel: "", unit: Unit::Interface, names: 0 },
+    Note { kernel: "", unit: Unit::Plain, names: 0 },
+    Note { kernel: "", unit: Unit::Plain, names: 0 },
+    Note { kernel: "", unit: Unit::Plain, names: 0 },
 ];
 
 // `enum address_family`
+#[rattlefmt::skip]
 const ENUM_ADDRESS_FAMILY: [Note<'static>; 8] = [
-    Note {
-        kernel: "AF_UNSPEC",
-        unit: Unit::Plain,
-        names: 0,
-    },
-    Note {
-        kernel: "AF_UNIX",
-        unit: Unit::Plain,
-        names: 0,
-    },
-    Note {
-        kernel: "AF_INET",
-        unit: Unit::Plain,
-        names: 0,
-    },
-    Note {
-        kernel: "AF_BRIDGE",
-        unit: Unit::Plain,
-        names: 0,
-    },
-    Note {
-        kernel: "AF_INET6",
-        unit: Unit::Plain,
-        names: 0,
-    },
-    Note {
-        kernel: "AF_NETLINK",
-        unit: Unit::Plain,
-        names: 0,
-    },
-    Note {
-        kernel: "AF_PACKET",
-        unit: Unit::Plain,
-        names: 0,
-    },
-    Note {
-        kernel: "AF_MPLS",
-        unit: Unit::Plain,
-        names: 0,
-    },
+    Note { kernel: "AF_UNSPEC", unit: Unit::Plain, names: 0 },
+    Note { kernel: "AF_UNIX", unit: Unit::Plain, names: 0 },
+    Note { kernel: "AF_INET", unit: Unit::Plain, names: 0 },
+    Note { kernel: "AF_BRIDGE", unit: Unit::Plain, names: 0 },
+    Note { kernel: "AF_INET6", unit: Unit::Plain, names: 0 },
+    Note { kernel: "AF_NETLINK", unit: Unit::Plain, names: 0 },
+    Note { kernel: "AF_PACKET", unit: Unit::Plain, names: 0 },
+    Note { kernel: "AF_MPLS", unit: Unit::Plain, names: 0 },
 ];
 
 // `list tc`
+#[rattlefmt::skip]
 const LIST_TC_OF_ALL: [Note<'static>; 13] = [
-    Note {
-        kernel: "TCA_STATS",
-        unit: Unit::Plain,
-        names: 0,
-    },
-    Note {
-        kernel: "TCA_RATE",
-        unit: Unit::Plain,
-        names: 0,
-    },
-    Note {
-        kernel: "TCA_FCNT",
-        unit: Unit::Plain,
-        names: 0,
-    },
-    Note {
-        kernel: "TCA_STATS2",
-        unit: Unit::Plain,
-        names: 0,
-    },
-    Note {
-        kernel: "TCA_STAB",
-        unit: Unit::Plain,
-        names: 0,
-    },
-    Note {
-        kernel: "TCA_PAD",
-        unit: Unit::Plain,
-        names: 0,
-    },
-    Note {
-        kernel: "TCA_DUMP_INVISIBLE",
-        unit: Unit::Plain,
-        names: 0,
-    },
-    Note {
-        kernel: "TCA_CHAIN",
-        unit: Unit::Plain,
-        names: 0,
-    },
-    Note {
-        kernel: "TCA_HW_OFFLOAD",
-        unit: Unit::Plain,
-        names: 0,
-    },
-    Note {
-        kernel: "TCA_INGRESS_BLOCK",
-        unit: Unit::Plain,
-        names: 0,
-    },
-    Note {
-        kernel: "TCA_EGRESS_BLOCK",
-        unit: Unit::Plain,
-        names: 0,
-    },
-    Note {
-        kernel: "TCA_DUMP_FLAGS",
-        unit: Unit::Plain,
-        names: 0,
-    },
-    Note {
-        kernel: "TCA_EXT_WARN_MSG",
-        unit: Unit::Plain,
-        names: 0,
-    },
+    Note { kernel: "TCA_STATS", unit: Unit::Plain, names: 0 },
+    Note { kernel: "TCA_RATE", unit: Unit::Plain, names: 0 },
+    Note { kernel: "TCA_FCNT", unit: Unit::Plain, names: 0 },
+    Note { kernel: "TCA_STATS2", unit: Unit::Plain, names: 0 },
+    Note { kernel: "TCA_STAB", unit: Unit::Plain, names: 0 },
+    Note { kernel: "TCA_PAD", unit: Unit::Plain, names: 0 },
+    Note { kernel: "TCA_DUMP_INVISIBLE", unit: Unit::Plain, names: 0 },
+    Note { kernel: "TCA_CHAIN", unit: Unit::Plain, names: 0 },
+    Note { kernel: "TCA_HW_OFFLOAD", unit: Unit::Plain, names: 0 },
+    Note { kernel: "TCA_INGRESS_BLOCK", unit: Unit::Plain, names: 0 },
+    Note { kernel: "TCA_EGRESS_BLOCK", unit: Unit::Plain, names: 0 },
+    Note { kernel: "TCA_DUMP_FLAGS", unit: Unit::Plain, names: 0 },
+    Note { kernel: "TCA_EXT_WARN_MSG", unit: Unit::Plain, names: 0 },
 ];
 
 // `bits tca_dump_flags`
-const BITS_TCA_DUMP_FLAGS: [Named<'static>; 1] = [Named {
-    number: "0x1",
-    name: "terse",
-    kernel: "TCA_DUMP_FLAGS_TERSE",
-}];
+#[rattlefmt::skip]
+const BITS_TCA_DUMP_FLAGS: [Named<'static>; 1] = [
+    Named { number: "0x1", name: "terse", kernel: "TCA_DUMP_FLAGS_TERSE" },
+];
 
 // `struct tca_dump_flags`
+#[rattlefmt::skip]
 const STRUCT_TCA_DUMP_FLAGS: [Note<'static>; 2] = [
-    Note {
-        kernel: "",
-        unit: Unit::Plain,
-        names: 25,
-    },
-    Note {
-        kernel: "",
-        unit: Unit::Plain,
-        names: 25,
-    },
+    Note { kernel: "", unit: Unit::Plain, names: 25 },
+    Note { kernel: "", unit: Unit::Plain, names: 25 },
 ];
 
 // `list action_message`
+#[rattlefmt::skip]
 const LIST_ACTION_MESSAGE: [Note<'static>; 5] = [
-    Note {
-        kernel: "TCA_ROOT_TAB",
-        unit: Unit::Plain,
-        names: 0,
-    },
-    Note {
-        kernel: "TCA_ROOT_FLAGS",
-        unit: Unit::Plain,
-        names: 0,
-    },
-    Note {
-        kernel: "TCA_ROOT_COUNT",
-        unit: Unit::Plain,
-        names: 0,
-    },
-    Note {
-        kernel: "TCA_ROOT_TIME_DELTA",
-        unit: Unit::Milliseconds,
-        names: 0,
-    },
-    Note {
-        kernel: "TCA_ROOT_EXT_WARN_MSG",
-        unit: Unit::Plain,
-        names: 0,
-    },
+    Note { kernel: "TCA_ROOT_TAB", unit: Unit::Plain, names: 0 },
+    Note { kernel: "TCA_ROOT_FLAGS", unit: Unit::Plain, names: 0 },
+    Note { kernel: "TCA_ROOT_COUNT", unit: Unit::Plain, names: 0 },
+    Note { kernel: "TCA_ROOT_TIME_DELTA", unit: Unit::Milliseconds, names: 0 },
+    Note { kernel: "TCA_ROOT_EXT_WARN_MSG", unit: Unit::Plain, names: 0 },
 ];
 
 // `bits tca_act_flag`
+#[rattlefmt::skip]
 const BITS_TCA_ACT_FLAG: [Named<'static>; 2] = [
-    Named {
-        number: "0x1",
-        name: "large_dump_on",
-        kernel: "TCA_ACT_FLAG_LARGE_DUMP_ON",
-    },
-    Named {
-        number: "0x2",
-        name: "terse_dump",
-        kernel: "TCA_ACT_FLAG_TERSE_DUMP",
-    },
+    Named { number: "0x1", name: "large_dump_on", kernel: "TCA_ACT_FLAG_LARGE_DUMP_ON" },
+    Named { number: "0x2", name: "terse_dump", kernel: "TCA_ACT_FLAG_TERSE_DUMP" },
 ];
 
 // `struct tca_root_flags`
+#[rattlefmt::skip]
 const STRUCT_TCA_ROOT_FLAGS: [Note<'static>; 2] = [
-    Note {
-        kernel: "",
-        unit: Unit::Plain,
-        names: 26,
-    },
-    Note {
-        kernel: "",
-        unit: Unit::Plain,
-        names: 26,
-    },
+    Note { kernel: "", unit: Unit::Plain, names: 26 },
+    Note { kernel: "", unit: Unit::Plain, names: 26 },
 ];
 
 // `list atm`
+#[rattlefmt::skip]
 const LIST_ATM: [Note<'static>; 6] = [
-    Note {
-        kernel: "TCA_ATM_FD",
-        unit: Unit::Plain,
-        names: 0,
-    },
-    Note {
-        kernel: "TCA_ATM_PTR",
-        unit: Unit::Plain,
-        names: 0,
-    },
-    Note {
-        kernel: "TCA_ATM_HDR",
-        unit: Unit::Plain,
-        names: 0,
-    },
-    Note {
-        kernel: "TCA_ATM_EXCESS",
-        unit: Unit::Plain,
-        names: 0,
-    },
-    Note {
-        kernel: "TCA_ATM_ADDR",
-        unit: Unit::Plain,
-        names: 0,
-    },
-    Note {
-        kernel: "TCA_ATM_STATE",
-        unit: Unit::Plain,
-        names: 0,
-    },
+    Note { kernel: "TCA_ATM_FD", unit: Unit::Plain, names: 0 },
+    Note { kernel: "TCA_ATM_PTR", unit: Unit::Plain, names: 0 },
+    Note { kernel: "TCA_ATM_HDR", unit: Unit::Plain, names: 0 },
+    Note { kernel: "TCA_ATM_EXCESS", unit: Unit::Plain, names: 0 },
+    Note { kernel: "TCA_ATM_ADDR", unit: Unit::Plain, names: 0 },
+    Note { kernel: "TCA_ATM_STATE", unit: Unit::Plain, names: 0 },
 ];
 
 // `list cake`
+#[rattlefmt::skip]
 const LIST_CAKE: [Note<'static>; 18] = [
-    Note {
-        kernel: "TCA_CAKE_PAD",
-        unit: Unit::Plain,
-        names: 0,
-    },
-    Note {
-        kernel: "TCA_CAKE_BASE_RATE64",
-        unit: Unit::BytesPerSecond,
-        names: 0,
-    },
-    Note {
-        kernel: "TCA_CAKE_DIFFSERV_MODE",
-        unit: Unit::Plain,
-        names: 0,
-    },
-    Note {
-        kernel: "TCA_CAKE_ATM",
-        unit: Unit::Plain,
-        names: 0,
-    },
-    Note {
-        kernel: "TCA_CAKE_FLOW_MODE",
-        unit: Unit::Plain,
-        names: 0,
-    },
-    Note {
-        kernel: "TCA_CAKE_OVERHEAD",
-        unit: Unit::Bytes,
-        names: 0,
-    },
-    Note {
-        kernel: "TCA_CAKE_RTT",
-        unit: Unit::Microseconds,
-        names: 0,
-    },
-    Note {
-        kernel: "TCA_CAKE_TARGET",
-        unit: Unit::Microseconds,
-        names: 0,
-    },
-    Note {
-        kernel: "TCA_CAKE_AUTORATE",
-        unit: Unit::Plain,
-        names: 0,
-    },
-    Note {
-        kernel: "TCA_CAKE_MEMORY",
-        unit: Unit::Bytes,
-        names: 0,
-    },
-    Note {
-        kernel: "TCA_CAKE_NAT",
-        unit: Unit::Plain,
-        names: 0,
-    },
-    Note {
-        kernel: "TCA_CAKE_RAW",
-        unit: Unit::Plain,
-        names: 0,
-    },
-    Note {
-        kernel: "TCA_CAKE_WASH",
-        unit: Unit::Plain,
-        names: 0,
-    },
-    Note {
-        kernel: "TCA_CAKE_MPU",
-        unit: Unit::Bytes,
-        names: 0,
-    },
-    Note {
-        kernel: "TCA_CAKE_INGRESS",
-        unit: Unit::Plain,
-        names: 0,
-    },
-    Note {
-        kernel: "TCA_CAKE_ACK_FILTER",
-        unit: Unit::Plain,
-        names: 0,
-    },
-    Note {
-        kernel: "TCA_CAKE_SPLIT_GSO",
-        unit: Unit::Plain,
-        names: 0,
-    },
-    Note {
-        kernel: "TCA_CAKE_FWMARK",
-        unit: Unit::Plain,
-        names: 0,
-    },
+    Note { kernel: "TCA_CAKE_PAD", unit: Unit::Plain, names: 0 },
+    Note { kernel: "TCA_CAKE_BASE_RATE64", unit: Unit::BytesPerSecond, names: 0 },
+    Note { kernel: "TCA_CAKE_DIFFSERV_MODE", unit: Unit::Plain, names: 0 },
+    Note { kernel: "TCA_CAKE_ATM", unit: Unit::Plain, names: 0 },
+    Note { kernel: "TCA_CAKE_FLOW_MODE", unit: Unit::Plain, names: 0 },
+    Note { kernel: "TCA_CAKE_OVERHEAD", unit: Unit::Bytes, names: 0 },
+    Note { kernel: "TCA_CAKE_RTT", unit: Unit::Microseconds, names: 0 },
+    Note { kernel: "TCA_CAKE_TARGET", unit: Unit::Microseconds, names: 0 },
+    Note { kernel: "TCA_CAKE_AUTORATE", unit: Unit::Plain, names: 0 },
+    Note { kernel: "TCA_CAKE_MEMORY", unit: Unit::Bytes, names: 0 },
+    Note { kernel: "TCA_CAKE_NAT", unit: Unit::Plain, names: 0 },
+    Note { kernel: "TCA_CAKE_RAW", unit: Unit::Plain, names: 0 },
+    Note { kernel: "TCA_CAKE_WASH", unit: Unit::Plain, names: 0 },
+    Note { kernel: "TCA_CAKE_MPU", unit: Unit::Bytes, names: 0 },
+    Note { kernel: "TCA_CAKE_INGRESS", unit: Unit::Plain, names: 0 },
+    Note { kernel: "TCA_CAKE_ACK_FILTER", unit: Unit::Plain, names: 0 },
+    Note { kernel: "TCA_CAKE_SPLIT_GSO", unit: Unit::Plain, names: 0 },
+    Note { kernel: "TCA_CAKE_FWMARK", unit: Unit::Plain, names: 0 },
 ];
 
 // `list cake_stats`
+#[rattlefmt::skip]
 const LIST_CAKE_STATS: [Note<'static>; 16] = [
-    Note {
-        kernel: "TCA_CAKE_STATS_PAD",
-        unit: Unit::Plain,
-        names: 0,
-    },
-    Note {
-        kernel: "TCA_CAKE_STATS_CAPACITY_ESTIMATE64",
-        unit: Unit::BytesPerSecond,
-        names: 0,
-    },
-    Note {
-        kernel: "TCA_CAKE_STATS_MEMORY_LIMIT",
-        unit: Unit::Bytes,
-        names: 0,
-    },
-    Note {
-        kernel: "TCA_CAKE_STATS_MEMORY_USED",
-        unit: Unit::Bytes,
-        names: 0,
-    },
-    Note {
-        kernel: "TCA_CAKE_STATS_AVG_NETOFF",
-        unit: Unit::Bytes,
-        names: 0,
-    },
-    Note {
-        kernel: "TCA_CAKE_STATS_MIN_NETLEN",
-        unit: Unit::Bytes,
-        names: 0,
-    },
-    Note {
-        kernel: "TCA_CAKE_STATS_MAX_NETLEN",
-        unit: Unit::Bytes,
-        names: 0,
-    },
-    Note {
-        kernel: "TCA_CAKE_STATS_MIN_ADJLEN",
-        unit: Unit::Bytes,
-        names: 0,
-    },
-    Note {
-        kernel: "TCA_CAKE_STATS_MAX_ADJLEN",
-        unit: Unit::Bytes,
-        names: 0,
-    },
-    Note {
-        kernel: "TCA_CAKE_STATS_TIN_STATS",
-        unit: Unit::Plain,
-        names: 0,
-    },
-    Note {
-        kernel: "TCA_CAKE_STATS_DEFICIT",
-        unit: Unit::Plain,
-        names: 0,
-    },
-    Note {
-        kernel: "TCA_CAKE_STATS_COBALT_COUNT",
-        unit: Unit::Plain,
-        names: 0,
-    },
-    Note {
-        kernel: "TCA_CAKE_STATS_DROPPING",
-        unit: Unit::Plain,
-        names: 0,
-    },
-    Note {
-        kernel: "TCA_CAKE_STATS_DROP_NEXT_US",
-        unit: Unit::Microseconds,
-        names: 0,
-    },
-    Note {
-        kernel: "TCA_CAKE_STATS_P_DROP",
-        unit: Unit::Plain,
-        names: 0,
-    },
-    Note {
-        kernel: "TCA_CAKE_STATS_BLUE_TIMER_US",
-        unit: Unit::Microseconds,
-        names: 0,
-    },
+    Note { kernel: "TCA_CAKE_STATS_PAD", unit: Unit::Plain, names: 0 },
+    Note { kernel: "TCA_CAKE_STATS_CAPACITY_ESTIMATE64", unit: Unit::BytesPerSecond, names: 0 },
+    Note { kernel: "TCA_CAKE_STATS_MEMORY_LIMIT", unit: Unit::Bytes, names: 0 },
+    Note { kernel: "TCA_CAKE_STATS_MEMORY_USED", unit: Unit::Bytes, names: 0 },
+    Note { kernel: "TCA_CAKE_STATS_AVG_NETOFF", unit: Unit::Bytes, names: 0 },
+    Note { kernel: "TCA_CAKE_STATS_MIN_NETLEN", unit: Unit::Bytes, names: 0 },
+    Note { kernel: "TCA_CAKE_STATS_MAX_NETLEN", unit: Unit::Bytes, names: 0 },
+    Note { kernel: "TCA_CAKE_STATS_MIN_ADJLEN", unit: Unit::Bytes, names: 0 },
+    Note { kernel: "TCA_CAKE_STATS_MAX_ADJLEN", unit: Unit::Bytes, names: 0 },
+    Note { kernel: "TCA_CAKE_STATS_TIN_STATS", unit: Unit::Plain, names: 0 },
+    Note { kernel: "TCA_CAKE_STATS_DEFICIT", unit: Unit::Plain, names: 0 },
+    Note { kernel: "TCA_CAKE_STATS_COBALT_COUNT", unit: Unit::Plain, names: 0 },
+    Note { kernel: "TCA_CAKE_STATS_DROPPING", unit: Unit::Plain, names: 0 },
+    Note { kernel: "TCA_CAKE_STATS_DROP_NEXT_US", unit: Unit::Microseconds, names: 0 },
+    Note { kernel: "TCA_CAKE_STATS_P_DROP", unit: Unit::Plain, names: 0 },
+    Note { kernel: "TCA_CAKE_STATS_BLUE_TIMER_US", unit: Unit::Microseconds, names: 0 },
 ];
 
 // `list cake_tin_stats`
+#[rattlefmt::skip]
 const LIST_CAKE_TIN_STATS: [Note<'static>; 25] = [
-    Note {
-        kernel: "TCA_CAKE_TIN_STATS_PAD",
-        unit: Unit::Plain,
-        names: 0,
-    },
-    Note {
-        kernel: "TCA_CAKE_TIN_STATS_SENT_PACKETS",
-        unit: Unit::Packets,
-        names: 0,
-    },
-    Note {
-        kernel: "TCA_CAKE_TIN_STATS_SENT_BYTES64",
-        unit: Unit::Bytes,
-        names: 0,
-    },
-    Note {
-        kernel: "TCA_CAKE_TIN_STATS_DROPPED_PACKETS",
-        unit: Unit::Packets,
-        names: 0,
-    },
-    Note {
-        kernel: "TCA_CAKE_TIN_STATS_DROPPED_BYTES64",
-        unit: Unit::Bytes,
-        names: 0,
-    },
-    Note {
-        kernel: "TCA_CAKE_TIN_STATS_ACKS_DROPPED_PACKETS",
-        unit: Unit::Packets,
-        names: 0,
-    },
-    Note {
-        kernel: "TCA_CAKE_TIN_STATS_ACKS_DROPPED_BYTES64",
-        unit: Unit::Bytes,
-        names: 0,
-    },
-    Note {
-        kernel: "TCA_CAKE_TIN_STATS_ECN_MARKED_PACKETS",
-        unit: Unit::Packets,
-        names: 0,
-    },
-    Note {
-        kernel: "TCA_CAKE_TIN_STATS_ECN_MARKED_BYTES64",
-        unit: Unit::Bytes,
-        names: 0,
-    },
-    Note {
-        kernel: "TCA_CAKE_TIN_STATS_BACKLOG_PACKETS",
-        unit: Unit::Packets,
-        names: 0,
-    },
-    Note {
-        kernel: "TCA_CAKE_TIN_STATS_BACKLOG_BYTES",
-        unit: Unit::Bytes,
-        names: 0,
-    },
-    Note {
-        kernel: "TCA_CAKE_TIN_STATS_THRESHOLD_RATE64",
-        unit: Unit::BytesPerSecond,
-        names: 0,
-    },
-    Note {
-        kernel: "TCA_CAKE_TIN_STATS_TARGET_US",
-        unit: Unit::Microseconds,
-        names: 0,
-    },
-    Note {
-        kernel: "TCA_CAKE_TIN_STATS_INTERVAL_US",
-        unit: Unit::Microseconds,
-        names: 0,
-    },
-    Note {
-        kernel: "TCA_CAKE_TIN_STATS_WAY_INDIRECT_HITS",
-        unit: Unit::Plain,
-        names: 0,
-    },
-    Note {
-        kernel: "TCA_CAKE_TIN_STATS_WAY_MISSES",
-        unit: Unit::Plain,
-        names: 0,
-    },
-    Note {
-        kernel: "TCA_CAKE_TIN_STATS_WAY_COLLISIONS",
-        unit: Unit::Plain,
-        names: 0,
-    },
-    Note {
-        kernel: "TCA_CAKE_TIN_STATS_PEAK_DELAY_US",
-        unit: Unit::Microseconds,
-        names: 0,
-    },
-    Note {
-        kernel: "TCA_CAKE_TIN_STATS_AVG_DELAY_US",
-        unit: Unit::Microseconds,
-        names: 0,
-    },
-    Note {
-        kernel: "TCA_CAKE_TIN_STATS_BASE_DELAY_US",
-        unit: Unit::Microseconds,
-        names: 0,
-    },
-    Note {
-        kernel: "TCA_CAKE_TIN_STATS_SPARSE_FLOWS",
-        unit: Unit::Plain,
-        names: 0,
-    },
-    Note {
-        kernel: "TCA_CAKE_TIN_STATS_BULK_FLOWS",
-        unit: Unit::Plain,
-        names: 0,
-    },
-    Note {
-        kernel: "TCA_CAKE_TIN_STATS_UNRESPONSIVE_FLOWS",
-        unit: Unit::Plain,
-        names: 0,
-    },
-    Note {
-        kernel: "TCA_CAKE_TIN_STATS_MAX_SKBLEN",
-        unit: Unit::Bytes,
-        names: 0,
-    },
-    Note {
-        kernel: "TCA_CAKE_TIN_STATS_FLOW_QUANTUM",
-        unit: Unit::Bytes,
-        names: 0,
-    },
+    Note { kernel: "TCA_CAKE_TIN_STATS_PAD", unit: Unit::Plain, names: 0 },
+    Note { kernel: "TCA_CAKE_TIN_STATS_SENT_PACKETS", unit: Unit::Packets, names: 0 },
+    Note { kernel: "TCA_CAKE_TIN_STATS_SENT_BYTES64", unit: Unit::Bytes, names: 0 },
+    Note { kernel: "TCA_CAKE_TIN_STATS_DROPPED_PACKETS", unit: Unit::Packets, names: 0 },
+    Note { kernel: "TCA_CAKE_TIN_STATS_DROPPED_BYTES64", unit: Unit::Bytes, names: 0 },
+    Note { kernel: "TCA_CAKE_TIN_STATS_ACKS_DROPPED_PACKETS", unit: Unit::Packets, names: 0 },
+    Note { kernel: "TCA_CAKE_TIN_STATS_ACKS_DROPPED_BYTES64", unit: Unit::Bytes, names: 0 },
+    Note { kernel: "TCA_CAKE_TIN_STATS_ECN_MARKED_PACKETS", unit: Unit::Packets, names: 0 },
+    Note { kernel: "TCA_CAKE_TIN_STATS_ECN_MARKED_BYTES64", unit: Unit::Bytes, names: 0 },
+    Note { kernel: "TCA_CAKE_TIN_STATS_BACKLOG_PACKETS", unit: Unit::Packets, names: 0 },
+    Note { kernel: "TCA_CAKE_TIN_STATS_BACKLOG_BYTES", unit: Unit::Bytes, names: 0 },
+    Note { kernel: "TCA_CAKE_TIN_STATS_THRESHOLD_RATE64", unit: Unit::BytesPerSecond, names: 0 },
+    Note { kernel: "TCA_CAKE_TIN_STATS_TARGET_US", unit: Unit::Microseconds, names: 0 },
+    Note { kernel: "TCA_CAKE_TIN_STATS_INTERVAL_US", unit: Unit::Microseconds, names: 0 },
+    Note { kernel: "TCA_CAKE_TIN_STATS_WAY_INDIRECT_HITS", unit: Unit::Plain, names: 0 },
+    Note { kernel: "TCA_CAKE_TIN_STATS_WAY_MISSES", unit: Unit::Plain, names: 0 },
+    Note { kernel: "TCA_CAKE_TIN_STATS_WAY_COLLISIONS", unit: Unit::Plain, names: 0 },
+    Note { kernel: "TCA_CAKE_TIN_STATS_PEAK_DELAY_US", unit: Unit::Microseconds, names: 0 },
+    Note { kernel: "TCA_CAKE_TIN_STATS_AVG_DELAY_US", unit: Unit::Microseconds, names: 0 },
+    Note { kernel: "TCA_CAKE_TIN_STATS_BASE_DELAY_US", unit: Unit::Microseconds, names: 0 },
+    Note { kernel: "TCA_CAKE_TIN_STATS_SPARSE_FLOWS", unit: Unit::Plain, names: 0 },
+    Note { kernel: "TCA_CAKE_TIN_STATS_BULK_FLOWS", unit: Unit::Plain, names: 0 },
+    Note { kernel: "TCA_CAKE_TIN_STATS_UNRESPONSIVE_FLOWS", unit: Unit::Plain, names: 0 },
+    Note { kernel: "TCA_CAKE_TIN_STATS_MAX_SKBLEN", unit: Unit::Bytes, names: 0 },
+    Note { kernel: "TCA_CAKE_TIN_STATS_FLOW_QUANTUM", unit: Unit::Bytes, names: 0 },
 ];
 
 // `enum cake_diffserv`
+#[rattlefmt::skip]
 const ENUM_CAKE_DIFFSERV: [Note<'static>; 5] = [
-    Note {
-        kernel: "CAKE_DIFFSERV_DIFFSERV3",
-        unit: Unit::Plain,
-        names: 0,
-    },
-    Note {
-        kernel: "CAKE_DIFFSERV_DIFFSERV4",
-        unit: Unit::Plain,
-        names: 0,
-    },
-    Note {
-        kernel: "CAKE_DIFFSERV_DIFFSERV8",
-        unit: Unit::Plain,
-        names: 0,
-    },
-    Note {
-        kernel: "CAKE_DIFFSERV_BESTEFFORT",
-        unit: Unit::Plain,
-        names: 0,
-    },
-    Note {
-        kernel: "CAKE_DIFFSERV_PRECEDENCE",
-        unit: Unit::Plain,
-        names: 0,
-    },
+    Note { kernel: "CAKE_DIFFSERV_DIFFSERV3", unit: Unit::Plain, names: 0 },
+    Note { kernel: "CAKE_DIFFSERV_DIFFSERV4", unit: Unit::Plain, names: 0 },
+    Note { kernel: "CAKE_DIFFSERV_DIFFSERV8", unit: Unit::Plain, names: 0 },
+    Note { kernel: "CAKE_DIFFSERV_BESTEFFORT", unit: Unit::Plain, names: 0 },
+    Note { kernel: "CAKE_DIFFSERV_PRECEDENCE", unit: Unit::Plain, names: 0 },
 ];
 
 // `enum cake_atm`
+#[rattlefmt::skip]
 const ENUM_CAKE_ATM: [Note<'static>; 3] = [
-    Note {
-        kernel: "CAKE_ATM_NONE",
-        unit: Unit::Plain,
-        names: 0,
-    },
-    Note {
-        kernel: "CAKE_ATM_ATM",
-        unit: Unit::Plain,
-        names: 0,
-    },
-    Note {
-        kernel: "CAKE_ATM_PTM",
-        unit: Unit::Plain,
-        names: 0,
-    },
+    Note { kernel: "CAKE_ATM_NONE", unit: Unit::Plain, names: 0 },
+    Note { kernel: "CAKE_ATM_ATM", unit: Unit::Plain, names: 0 },
+    Note { kernel: "CAKE_ATM_PTM", unit: Unit::Plain, names: 0 },
 ];
 
 // `enum cake_flow`
+#[rattlefmt::skip]
 const ENUM_CAKE_FLOW: [Note<'static>; 8] = [
-    Note {
-        kernel: "CAKE_FLOW_NONE",
-        unit: Unit::Plain,
-        names: 0,
-    },
-    Note {
-        kernel: "CAKE_FLOW_SRC_IP",
-        unit: Unit::Plain,
-        names: 0,
-    },
-    Note {
-        kernel: "CAKE_FLOW_DST_IP",
-        unit: Unit::Plain,
-        names: 0,
-    },
-    Note {
-        kernel: "CAKE_FLOW_HOSTS",
-        unit: Unit::Plain,
-        names: 0,
-    },
-    Note {
-        kernel: "CAKE_FLOW_FLOWS",
-        unit: Unit::Plain,
-        names: 0,
-    },
-    Note {
-        kernel: "CAKE_FLOW_DUAL_SRC",
-        unit: Unit::Plain,
-        names: 0,
-    },
-    Note {
-        kernel: "CAKE_FLOW_DUAL_DST",
-        unit: Unit::Plain,
-        names: 0,
-    },
-    Note {
-        kernel: "CAKE_FLOW_TRIPLE",
-        unit: Unit::Plain,
-        names: 0,
-    },
+    Note { kernel: "CAKE_FLOW_NONE", unit: Unit::Plain, names: 0 },
+    Note { kernel: "CAKE_FLOW_SRC_IP", unit: Unit::Plain, names: 0 },
+    Note { kernel: "CAKE_FLOW_DST_IP", unit: Unit::Plain, names: 0 },
+    Note { kernel: "CAKE_FLOW_HOSTS", unit: Unit::Plain, names: 0 },
+    Note { kernel: "CAKE_FLOW_FLOWS", unit: Unit::Plain, names: 0 },
+    Note { kernel: "CAKE_FLOW_DUAL_SRC", unit: Unit::Plain, names: 0 },
+    Note { kernel: "CAKE_FLOW_DUAL_DST", unit: Unit::Plain, names: 0 },
+    Note { kernel: "CAKE_FLOW_TRIPLE", unit: Unit::Plain, names: 0 },
 ];
 
 // `enum cake_ack`
+#[rattlefmt::skip]
 const ENUM_CAKE_ACK: [Note<'static>; 3] = [
-    Note {
-        kernel: "CAKE_ACK_NONE",
-        unit: Unit::Plain,
-        names: 0,
-    },
-    Note {
-        kernel: "CAKE_ACK_FILTER",
-        unit: Unit::Plain,
-        names: 0,
-    },
-    Note {
-        kernel: "CAKE_ACK_AGGRESSIVE",
-        unit: Unit::Plain,
-        names: 0,
-    },
+    Note { kernel: "CAKE_ACK_NONE", unit: Unit::Plain, names: 0 },
+    Note { kernel: "CAKE_ACK_FILTER", unit: Unit::Plain, names: 0 },
+    Note { kernel: "CAKE_ACK_AGGRESSIVE", unit: Unit::Plain, names: 0 },
 ];
 
 // `list stats`
-const LIST_STATS_BY_KIND: [Note<'static>; 1] = [Note {
-    kernel: "TCA_STATS_APP",
-    unit: Unit::Plain,
-    names: 0,
-}];
+#[rattlefmt::skip]
+const LIST_STATS_BY_KIND: [Note<'static>; 1] = [
+    Note { kernel: "TCA_STATS_APP", unit: Unit::Plain, names: 0 },
+];
 
 // `list cbq`
+#[rattlefmt::skip]
 const LIST_CBQ: [Note<'static>; 7] = [
-    Note {
-        kernel: "TCA_CBQ_LSSOPT",
-        unit: Unit::Plain,
-        names: 0,
-    },
-    Note {
-        kernel: "TCA_CBQ_WRROPT",
-        unit: Unit::Plain,
-        names: 0,
-    },
-    Note {
-        kernel: "TCA_CBQ_FOPT",
-        unit: Unit::Plain,
-        names: 0,
-    },
-    Note {
-        kernel: "TCA_CBQ_OVL_STRATEGY",
-        unit: Unit::Plain,
-        names: 0,
-    },
-    Note {
-        kernel: "TCA_CBQ_RATE",
-        unit: Unit::Plain,
-        names: 0,
-    },
-    Note {
-        kernel: "TCA_CBQ_RTAB",
-        unit: Unit::Plain,
-        names: 0,
-    },
-    Note {
-        kernel: "TCA_CBQ_POLICE",
-        unit: Unit::Plain,
-        names: 0,
-    },
+    Note { kernel: "TCA_CBQ_LSSOPT", unit: Unit::Plain, names: 0 },
+    Note { kernel: "TCA_CBQ_WRROPT", unit: Unit::Plain, names: 0 },
+    Note { kernel: "TCA_CBQ_FOPT", unit: Unit::Plain, names: 0 },
+    Note { kernel: "TCA_CBQ_OVL_STRATEGY", unit: Unit::Plain, names: 0 },
+    Note { kernel: "TCA_CBQ_RATE", unit: Unit::Plain, names: 0 },
+    Note { kernel: "TCA_CBQ_RTAB", unit: Unit::Plain, names: 0 },
+    Note { kernel: "TCA_CBQ_POLICE", unit: Unit::Plain, names: 0 },
 ];
 
 // `bits tcf_cbq_lss_change`
+#[rattlefmt::skip]
 const BITS_TCF_CBQ_LSS_CHANGE: [Named<'static>; 6] = [
-    Named {
-        number: "0x1",
-        name: "flags",
-        kernel: "TCF_CBQ_LSS_FLAGS",
-    },
-    Named {
-        number: "0x2",
-        name: "ewma",
-        kernel: "TCF_CBQ_LSS_EWMA",
-    },
-    Named {
-        number: "0x4",
-        name: "maxidle",
-        kernel: "TCF_CBQ_LSS_MAXIDLE",
-    },
-    Named {
-        number: "0x8",
-        name: "minidle",
-        kernel: "TCF_CBQ_LSS_MINIDLE",
-    },
-    Named {
-        number: "0x10",
-        name: "offtime",
-        kernel: "TCF_CBQ_LSS_OFFTIME",
-    },
-    Named {
-        number: "0x20",
-        name: "avpkt",
-        kernel: "TCF_CBQ_LSS_AVPKT",
-    },
+    Named { number: "0x1", name: "flags", kernel: "TCF_CBQ_LSS_FLAGS" },
+    Named { number: "0x2", name: "ewma", kernel: "TCF_CBQ_LSS_EWMA" },
+    Named { number: "0x4", name: "maxidle", kernel: "TCF_CBQ_LSS_MAXIDLE" },
+    Named { number: "0x8", name: "minidle", kernel: "TCF_CBQ_LSS_MINIDLE" },
+    Named { number: "0x10", name: "offtime", kernel: "TCF_CBQ_LSS_OFFTIME" },
+    Named { number: "0x20", name: "avpkt", kernel: "TCF_CBQ_LSS_AVPKT" },
 ];
 
 // `bits tcf_cbq_lss_flags`
+#[rattlefmt::skip]
 const BITS_TCF_CBQ_LSS_FLAGS: [Named<'static>; 2] = [
-    Named {
-        number: "0x1",
-        name: "bounded",
-        kernel: "TCF_CBQ_LSS_BOUNDED",
-    },
-    Named {
-        number: "0x2",
-        name: "isolated",
-        kernel: "TCF_CBQ_LSS_ISOLATED",
-    },
+    Named { number: "0x1", name: "bounded", kernel: "TCF_CBQ_LSS_BOUNDED" },
+    Named { number: "0x2", name: "isolated", kernel: "TCF_CBQ_LSS_ISOLATED" },
 ];
 
 // `struct tc_cbq_lssopt`
+#[rattlefmt::skip]
 const STRUCT_TC_CBQ_LSSOPT: [Note<'static>; 8] = [
-    Note {
-        kernel: "",
-        unit: Unit::Plain,
-        names: 27,
-    },
-    Note {
-        kernel: "",
-        unit: Unit::Plain,
-        names: 28,
-    },
-    Note {
-        kernel: "",
-        unit: Unit::Plain,
-        names: 0,
-    },
-    Note {
-        kernel: "",
-        unit: Unit::Plain,
-        names: 0,
-    },
-    Note {
-        kernel: "",
-        unit: Unit::Plain,
-        names: 0,
-    },
-    Note {
-        kernel: "",
-        unit: Unit::Plain,
-        names: 0,
-    },
-    Note {
-        kernel: "",
-        unit: Unit::Plain,
-        names: 0,
-    },
-    Note {
-        kernel: "",
-        unit: Unit::Plain,
-        names: 0,
-    },
+    Note { kernel: "", unit: Unit::Plain, names: 27 },
+    Note { kernel: "", unit: Unit::Plain, names: 28 },
+    Note { kernel: "", unit: Unit::Plain, names: 0 },
+    Note { kernel: "", unit: Unit::Plain, names: 0 },
+    Note { kernel: "", unit: Unit::Plain, names: 0 },
+    Note { kernel: "", unit: Unit::Plain, names: 0 },
+    Note { kernel: "", unit: Unit::Plain, names: 0 },
+    Note { kernel: "", unit: Unit::Plain, names: 0 },
 ];
 
 // `list cbs`
-const LIST_CBS: [Note<'static>; 1] = [Note {
-    kernel: "TCA_CBS_PARMS",
-    unit: Unit::Plain,
-    names: 0,
-}];
+#[rattlefmt::skip]
+const LIST_CBS: [Note<'static>; 1] = [
+    Note { kernel: "TCA_CBS_PARMS", unit: Unit::Plain, names: 0 },
+];
 
 // `struct tc_cbs_qopt`
+#[rattlefmt::skip]
 const STRUCT_TC_CBS_QOPT: [Note<'static>; 6] = [
-    Note {
-        kernel: "",
-        unit: Unit::Plain,
-        names: 0,
-    },
-    Note {
-        kernel: "",
-        unit: Unit::Plain,
-        names: 0,
-    },
-    Note {
-        kernel: "",
-        unit: Unit::Bytes,
-        names: 0,
-    },
-    Note {
-        kernel: "",
-        unit: Unit::Bytes,
-        names: 0,
-    },
-    Note {
-        kernel: "",
-        unit: Unit::KilobitsPerSecond,
-        names: 0,
-    },
-    Note {
-        kernel: "",
-        unit: Unit::KilobitsPerSecond,
-        names: 0,
-    },
+    Note { kernel: "", unit: Unit::Plain, names: 0 },
+    Note { kernel: "", unit: Unit::Plain, names: 0 },
+    Note { kernel: "", unit: Unit::Bytes, names: 0 },
+    Note { kernel: "", unit: Unit::Bytes, names: 0 },
+    Note { kernel: "", unit: Unit::KilobitsPerSecond, names: 0 },
+    Note { kernel: "", unit: Unit::KilobitsPerSecond, names: 0 },
 ];
 
 // `list choke`
+#[rattlefmt::skip]
 const LIST_CHOKE: [Note<'static>; 3] = [
-    Note {
-        kernel: "TCA_CHOKE_PARMS",
-        unit: Unit::Plain,
-        names: 0,
-    },
-    Note {
-        kernel: "TCA_CHOKE_STAB",
-        unit: Unit::Plain,
-        names: 0,
-    },
-    Note {
-        kernel: "TCA_CHOKE_MAX_P",
-        unit: Unit::Probability,
-        names: 0,
-    },
+    Note { kernel: "TCA_CHOKE_PARMS", unit: Unit::Plain, names: 0 },
+    Note { kernel: "TCA_CHOKE_STAB", unit: Unit::Plain, names: 0 },
+    Note { kernel: "TCA_CHOKE_MAX_P", unit: Unit::Probability, names: 0 },
 ];
 
 // `bits tc_red`
+#[rattlefmt::skip]
 const BITS_TC_RED: [Named<'static>; 4] = [
-    Named {
-        number: "0x1",
-        name: "ecn",
-        kernel: "TC_RED_ECN",
-    },
-    Named {
-        number: "0x2",
-        name: "harddrop",
-        kernel: "TC_RED_HARDDROP",
-    },
-    Named {
-        number: "0x4",
-        name: "adaptative",
-        kernel: "TC_RED_ADAPTATIVE",
-    },
-    Named {
-        number: "0x8",
-        name: "nodrop",
-        kernel: "TC_RED_NODROP",
-    },
+    Named { number: "0x1", name: "ecn", kernel: "TC_RED_ECN" },
+    Named { number: "0x2", name: "harddrop", kernel: "TC_RED_HARDDROP" },
+    Named { number: "0x4", name: "adaptative", kernel: "TC_RED_ADAPTATIVE" },
+    Named { number: "0x8", name: "nodrop", kernel: "TC_RED_NODROP" },
 ];
 
 // `struct tc_red_qopt_packets`
+#[rattlefmt::skip]
 const STRUCT_TC_RED_QOPT_PACKETS: [Note<'static>; 7] = [
-    Note {
-        kernel: "",
-        unit: Unit::Packets,
-        names: 0,
-    },
-    Note {
-        kernel: "",
-        unit: Unit::Packets,
-        names: 0,
-    },
-    Note {
-        kernel: "",
-        unit: Unit::Packets,
-        names: 0,
-    },
-    Note {
-        kernel: "",
-        unit: Unit::Power,
-        names: 0,
-    },
-    Note {
-        kernel: "",
-        unit: Unit::Power,
-        names: 0,
-    },
-    Note {
-        kernel: "",
-        unit: Unit::Power,
-        names: 0,
-    },
-    Note {
-        kernel: "",
-        unit: Unit::Plain,
-        names: 29,
-    },
+    Note { kernel: "", unit: Unit::Packets, names: 0 },
+    Note { kernel: "", unit: Unit::Packets, names: 0 },
+    Note { kernel: "", unit: Unit::Packets, names: 0 },
+    Note { kernel: "", unit: Unit::Power, names: 0 },
+    Note { kernel: "", unit: Unit::Power, names: 0 },
+    Note { kernel: "", unit: Unit::Power, names: 0 },
+    Note { kernel: "", unit: Unit::Plain, names: 29 },
 ];
 
 // `list codel`
+#[rattlefmt::skip]
 const LIST_CODEL: [Note<'static>; 5] = [
-    Note {
-        kernel: "TCA_CODEL_TARGET",
-        unit: Unit::Microseconds,
-        names: 0,
-    },
-    Note {
-        kernel: "TCA_CODEL_LIMIT",
-        unit: Unit::Packets,
-        names: 0,
-    },
-    Note {
-        kernel: "TCA_CODEL_INTERVAL",
-        unit: Unit::Microseconds,
-        names: 0,
-    },
-    Note {
-        kernel: "TCA_CODEL_ECN",
-        unit: Unit::Plain,
-        names: 0,
-    },
-    Note {
-        kernel: "TCA_CODEL_CE_THRESHOLD",
-        unit: Unit::Microseconds,
-        names: 0,
-    },
+    Note { kernel: "TCA_CODEL_TARGET", unit: Unit::Microseconds, names: 0 },
+    Note { kernel: "TCA_CODEL_LIMIT", unit: Unit::Packets, names: 0 },
+    Note { kernel: "TCA_CODEL_INTERVAL", unit: Unit::Microseconds, names: 0 },
+    Note { kernel: "TCA_CODEL_ECN", unit: Unit::Plain, names: 0 },
+    Note { kernel: "TCA_CODEL_CE_THRESHOLD", unit: Unit::Microseconds, names: 0 },
 ];
 
 // `struct tc_codel_xstats`
+#[rattlefmt::skip]
 const STRUCT_TC_CODEL_XSTATS: [Note<'static>; 9] = [
-    Note {
-        kernel: "",
-        unit: Unit::Plain,
-        names: 0,
-    },
-    Note {
-        kernel: "",
-        unit: Unit::Plain,
-        names: 0,
-    },
-    Note {
-        kernel: "",
-        unit: Unit::Plain,
-        names: 0,
-    },
-    Note {
-        kernel: "",
-        unit: Unit::Microseconds,
-        names: 0,
-    },
-    Note {
-        kernel: "",
-        unit: Unit::Microseconds,
-        names: 0,
-    },
-    Note {
-        kernel: "",
-        unit: Unit::Plain,
-        names: 0,
-    },
-    Note {
-        kernel: "",
-        unit: Unit::Plain,
-        names: 0,
-    },
-    Note {
-        kernel: "",
-        unit: Unit::Plain,
-        names: 0,
-    },
-    Note {
-        kernel: "",
-        unit: Unit::Plain,
-        names: 0,
-    },
+    Note { kernel: "", unit: Unit::Plain, names: 0 },
+    Note { kernel: "", unit: Unit::Plain, names: 0 },
+    Note { kernel: "", unit: Unit::Plain, names: 0 },
+    Note { kernel: "", unit: Unit::Microseconds, names: 0 },
+    Note { kernel: "", unit: Unit::Microseconds, names: 0 },
+    Note { kernel: "", unit: Unit::Plain, names: 0 },
+    Note { kernel: "", unit: Unit::Plain, names: 0 },
+    Note { kernel: "", unit: Unit::Plain, names: 0 },
+    Note { kernel: "", unit: Unit::Plain, names: 0 },
 ];
 
 // `list drr`
-const LIST_DRR: [Note<'static>; 1] = [Note {
-    kernel: "TCA_DRR_QUANTUM",
-    unit: Unit::Bytes,
-    names: 0,
-}];
+#[rattlefmt::skip]
+const LIST_DRR: [Note<'static>; 1] = [
+    Note { kernel: "TCA_DRR_QUANTUM", unit: Unit::Bytes, names: 0 },
+];
 
 // `list dsmark`
+#[rattlefmt::skip]
 const LIST_DSMARK: [Note<'static>; 5] = [
-    Note {
-        kernel: "TCA_DSMARK_INDICES",
-        unit: Unit::Plain,
-        names: 0,
-    },
-    Note {
-        kernel: "TCA_DSMARK_DEFAULT_INDEX",
-        unit: Unit::Plain,
-        names: 0,
-    },
-    Note {
-        kernel: "TCA_DSMARK_SET_TC_INDEX",
-        unit: Unit::Plain,
-        names: 0,
-    },
-    Note {
-        kernel: "TCA_DSMARK_MASK",
-        unit: Unit::Plain,
-        names: 0,
-    },
-    Note {
-        kernel: "TCA_DSMARK_VALUE",
-        unit: Unit::Plain,
-        names: 0,
-    },
+    Note { kernel: "TCA_DSMARK_INDICES", unit: Unit::Plain, names: 0 },
+    Note { kernel: "TCA_DSMARK_DEFAULT_INDEX", unit: Unit::Plain, names: 0 },
+    Note { kernel: "TCA_DSMARK_SET_TC_INDEX", unit: Unit::Plain, names: 0 },
+    Note { kernel: "TCA_DSMARK_MASK", unit: Unit::Plain, names: 0 },
+    Note { kernel: "TCA_DSMARK_VALUE", unit: Unit::Plain, names: 0 },
 ];
 
 // `list etf`
-const LIST_ETF: [Note<'static>; 1] = [Note {
-    kernel: "TCA_ETF_PARMS",
-    unit: Unit::Plain,
-    names: 0,
-}];
+#[rattlefmt::skip]
+const LIST_ETF: [Note<'static>; 1] = [
+    Note { kernel: "TCA_ETF_PARMS", unit: Unit::Plain, names: 0 },
+];
 
 // `bits tc_etf`
+#[rattlefmt::skip]
 const BITS_TC_ETF: [Named<'static>; 3] = [
-    Named {
-        number: "0x1",
-        name: "deadline_mode_on",
-        kernel: "TC_ETF_DEADLINE_MODE_ON",
-    },
-    Named {
-        number: "0x2",
-        name: "offload_on",
-        kernel: "TC_ETF_OFFLOAD_ON",
-    },
-    Named {
-        number: "0x4",
-        name: "skip_sock_check",
-        kernel: "TC_ETF_SKIP_SOCK_CHECK",
-    },
+    Named { number: "0x1", name: "deadline_mode_on", kernel: "TC_ETF_DEADLINE_MODE_ON" },
+    Named { number: "0x2", name: "offload_on", kernel: "TC_ETF_OFFLOAD_ON" },
+    Named { number: "0x4", name: "skip_sock_check", kernel: "TC_ETF_SKIP_SOCK_CHECK" },
 ];
 
 // `struct tc_etf_qopt`
+#[rattlefmt::skip]
 const STRUCT_TC_ETF_QOPT: [Note<'static>; 3] = [
-    Note {
-        kernel: "",
-        unit: Unit::Nanoseconds,
-        names: 0,
-    },
-    Note {
-        kernel: "",
-        unit: Unit::Plain,
-        names: 6,
-    },
-    Note {
-        kernel: "",
-        unit: Unit::Plain,
-        names: 30,
-    },
+    Note { kernel: "", unit: Unit::Nanoseconds, names: 0 },
+    Note { kernel: "", unit: Unit::Plain, names: 6 },
+    Note { kernel: "", unit: Unit::Plain, names: 30 },
 ];
 
 // `list ets`
+#[rattlefmt::skip]
 const LIST_ETS: [Note<'static>; 6] = [
-    Note {
-        kernel: "TCA_ETS_NBANDS",
-        unit: Unit::Plain,
-        names: 0,
-    },
-    Note {
-        kernel: "TCA_ETS_NSTRICT",
-        unit: Unit::Plain,
-        names: 0,
-    },
-    Note {
-        kernel: "TCA_ETS_QUANTA",
-        unit: Unit::Plain,
-        names: 0,
-    },
-    Note {
-        kernel: "TCA_ETS_QUANTA_BAND",
-        unit: Unit::Bytes,
-        names: 0,
-    },
-    Note {
-        kernel: "TCA_ETS_PRIOMAP",
-        unit: Unit::Plain,
-        names: 0,
-    },
-    Note {
-        kernel: "TCA_ETS_PRIOMAP_BAND",
-        unit: Unit::Plain,
-        names: 0,
-    },
+    Note { kernel: "TCA_ETS_NBANDS", unit: Unit::Plain, names: 0 },
+    Note { kernel: "TCA_ETS_NSTRICT", unit: Unit::Plain, names: 0 },
+    Note { kernel: "TCA_ETS_QUANTA", unit: Unit::Plain, names: 0 },
+    Note { kernel: "TCA_ETS_QUANTA_BAND", unit: Unit::Bytes, names: 0 },
+    Note { kernel: "TCA_ETS_PRIOMAP", unit: Unit::Plain, names: 0 },
+    Note { kernel: "TCA_ETS_PRIOMAP_BAND", unit: Unit::Plain, names: 0 },
 ];
 
 // `list ets_quanta`
-const LIST_ETS_QUANTA: [Note<'static>; 1] = [Note {
-    kernel: "TCA_ETS_QUANTA_BAND",
-    unit: Unit::Bytes,
-    names: 0,
-}];
+#[rattlefmt::skip]
+const LIST_ETS_QUANTA: [Note<'static>; 1] = [
+    Note { kernel: "TCA_ETS_QUANTA_BAND", unit: Unit::Bytes, names: 0 },
+];
 
 // `list ets_priomap`
-const LIST_ETS_PRIOMAP: [Note<'static>; 1] = [Note {
-    kernel: "TCA_ETS_PRIOMAP_BAND",
-    unit: Unit::Plain,
-    names: 0,
-}];
+#[rattlefmt::skip]
+const LIST_ETS_PRIOMAP: [Note<'static>; 1] = [
+    Note { kernel: "TCA_ETS_PRIOMAP_BAND", unit: Unit::Plain, names: 0 },
+];
 
 // `struct tc_fifo_qopt`
-const STRUCT_TC_FIFO_QOPT: [Note<'static>; 1] = [Note {
-    kernel: "",
-    unit: Unit::Bytes,
-    names: 0,
-}];
+#[rattlefmt::skip]
+const STRUCT_TC_FIFO_QOPT: [Note<'static>; 1] = [
+    Note { kernel: "", unit: Unit::Bytes, names: 0 },
+];
 
 // `list fq`
+#[rattlefmt::skip]
 const LIST_FQ: [Note<'static>; 17] = [
-    Note {
-        kernel: "TCA_FQ_PLIMIT",
-        unit: Unit::Packets,
-        names: 0,
-    },
-    Note {
-        kernel: "TCA_FQ_FLOW_PLIMIT",
-        unit: Unit::Packets,
-        names: 0,
-    },
-    Note {
-        kernel: "TCA_FQ_QUANTUM",
-        unit: Unit::Bytes,
-        names: 0,
-    },
-    Note {
-        kernel: "TCA_FQ_INITIAL_QUANTUM",
-        unit: Unit::Bytes,
-        names: 0,
-    },
-    Note {
-        kernel: "TCA_FQ_RATE_ENABLE",
-        unit: Unit::Plain,
-        names: 0,
-    },
-    Note {
-        kernel: "TCA_FQ_FLOW_DEFAULT_RATE",
-        unit: Unit::BytesPerSecond,
-        names: 0,
-    },
-    Note {
-        kernel: "TCA_FQ_FLOW_MAX_RATE",
-        unit: Unit::BytesPerSecond,
-        names: 0,
-    },
-    Note {
-        kernel: "TCA_FQ_BUCKETS_LOG",
-        unit: Unit::Power,
-        names: 0,
-    },
-    Note {
-        kernel: "TCA_FQ_FLOW_REFILL_DELAY",
-        unit: Unit::Microseconds,
-        names: 0,
-    },
-    Note {
-        kernel: "TCA_FQ_ORPHAN_MASK",
-        unit: Unit::Plain,
-        names: 0,
-    },
-    Note {
-        kernel: "TCA_FQ_LOW_RATE_THRESHOLD",
-        unit: Unit::BytesPerSecond,
-        names: 0,
-    },
-    Note {
-        kernel: "TCA_FQ_CE_THRESHOLD",
-        unit: Unit::Microseconds,
-        names: 0,
-    },
-    Note {
-        kernel: "TCA_FQ_TIMER_SLACK",
-        unit: Unit::Nanoseconds,
-        names: 0,
-    },
-    Note {
-        kernel: "TCA_FQ_HORIZON",
-        unit: Unit::Microseconds,
-        names: 0,
-    },
-    Note {
-        kernel: "TCA_FQ_HORIZON_DROP",
-        unit: Unit::Plain,
-        names: 0,
-    },
-    Note {
-        kernel: "TCA_FQ_PRIOMAP",
-        unit: Unit::Plain,
-        names: 0,
-    },
-    Note {
-        kernel: "TCA_FQ_WEIGHTS",
-        unit: Unit::Plain,
-        names: 0,
-    },
+    Note { kernel: "TCA_FQ_PLIMIT", unit: Unit::Packets, names: 0 },
+    Note { kernel: "TCA_FQ_FLOW_PLIMIT", unit: Unit::Packets, names: 0 },
+    Note { kernel: "TCA_FQ_QUANTUM", unit: Unit::Bytes, names: 0 },
+    Note { kernel: "TCA_FQ_INITIAL_QUANTUM", unit: Unit::Bytes, names: 0 },
+    Note { kernel: "TCA_FQ_RATE_ENABLE", unit: Unit::Plain, names: 0 },
+    Note { kernel: "TCA_FQ_FLOW_DEFAULT_RATE", unit: Unit::BytesPerSecond, names: 0 },
+    Note { kernel: "TCA_FQ_FLOW_MAX_RATE", unit: Unit::BytesPerSecond, names: 0 },
+    Note { kernel: "TCA_FQ_BUCKETS_LOG", unit: Unit::Power, names: 0 },
+    Note { kernel: "TCA_FQ_FLOW_REFILL_DELAY", unit: Unit::Microseconds, names: 0 },
+    Note { kernel: "TCA_FQ_ORPHAN_MASK", unit: Unit::Plain, names: 0 },
+    Note { kernel: "TCA_FQ_LOW_RATE_THRESHOLD", unit: Unit::BytesPerSecond, names: 0 },
+    Note { kernel: "TCA_FQ_CE_THRESHOLD", unit: Unit::Microseconds, names: 0 },
+    Note { kernel: "TCA_FQ_TIMER_SLACK", unit: Unit::Nanoseconds, names: 0 },
+    Note { kernel: "TCA_FQ_HORIZON", unit: Unit::Microseconds, names: 0 },
+    Note { kernel: "TCA_FQ_HORIZON_DROP", unit: Unit::Plain, names: 0 },
+    Note { kernel: "TCA_FQ_PRIOMAP", unit: Unit::Plain, names: 0 },
+    Note { kernel: "TCA_FQ_WEIGHTS", unit: Unit::Plain, names: 0 },
 ];
 
 // `struct tc_fq_qd_stats`
+#[rattlefmt::skip]
 const STRUCT_TC_FQ_QD_STATS: [Note<'static>; 16] = [
-    Note {
-        kernel: "",
-        unit: Unit::Plain,
-        names: 0,
-    },
-    Note {
-        kernel: "",
-        unit: Unit::Plain,
-        names: 0,
-    },
-    Note {
-        kernel: "",
-        unit: Unit::Plain,
-        names: 0,
-    },
-    Note {
-        kernel: "",
-        unit: Unit::Plain,
-        names: 0,
-    },
-    Note {
-        kernel: "",
-        unit: Unit::Plain,
-        names: 0,
-    },
-    Note {
-        kernel: "",
-        unit: Unit::Plain,
-        names: 0,
-    },
-    Note {
-        kernel: "",
-        unit: Unit::Plain,
-        names: 0,
-    },
-    Note {
-        kernel: "",
-        unit: Unit::Nanoseconds,
-        names: 0,
-    },
-    Note {
-        kernel: "",
-        unit: Unit::Plain,
-        names: 0,
-    },
-    Note {
-        kernel: "",
-        unit: Unit::Plain,
-        names: 0,
-    },
-    Note {
-        kernel: "",
-        unit: Unit::Plain,
-        names: 0,
-    },
-    Note {
-        kernel: "",
-        unit: Unit::Nanoseconds,
-        names: 0,
-    },
-    Note {
-        kernel: "",
-        unit: Unit::Plain,
-        names: 0,
-    },
-    Note {
-        kernel: "",
-        unit: Unit::Plain,
-        names: 0,
-    },
-    Note {
-        kernel: "",
-        unit: Unit::Plain,
-        names: 0,
-    },
-    Note {
-        kernel: "",
-        unit: Unit::Plain,
-        names: 0,
-    },
+    Note { kernel: "", unit: Unit::Plain, names: 0 },
+    Note { kernel: "", unit: Unit::Plain, names: 0 },
+    Note { kernel: "", unit: Unit::Plain, names: 0 },
+    Note { kernel: "", unit: Unit::Plain, names: 0 },
+    Note { kernel: "", unit: Unit::Plain, names: 0 },
+    Note { kernel: "", unit: Unit::Plain, names: 0 },
+    Note { kernel: "", unit: Unit::Plain, names: 0 },
+    Note { kernel: "", unit: Unit::Nanoseconds, names: 0 },
+    Note { kernel: "", unit: Unit::Plain, names: 0 },
+    Note { kernel: "", unit: Unit::Plain, names: 0 },
+    Note { kernel: "", unit: Unit::Plain, names: 0 },
+    Note { kernel: "", unit: Unit::Nanoseconds, names: 0 },
+    Note { kernel: "", unit: Unit::Plain, names: 0 },
+    Note { kernel: "", unit: Unit::Plain, names: 0 },
+    Note { kernel: "", unit: Unit::Plain, names: 0 },
+    Note { kernel: "", unit: Unit::Plain, names: 0 },
 ];
 
 // `list fq_codel`
+#[rattlefmt::skip]
 const LIST_FQ_CODEL: [Note<'static>; 11] = [
-    Note {
-        kernel: "TCA_FQ_CODEL_TARGET",
-        unit: Unit::Microseconds,
-        names: 0,
-    },
-    Note {
-        kernel: "TCA_FQ_CODEL_LIMIT",
-        unit: Unit::Packets,
-        names: 0,
-    },
-    Note {
-        kernel: "TCA_FQ_CODEL_INTERVAL",
-        unit: Unit::Microseconds,
-        names: 0,
-    },
-    Note {
-        kernel: "TCA_FQ_CODEL_ECN",
-        unit: Unit::Plain,
-        names: 0,
-    },
-    Note {
-        kernel: "TCA_FQ_CODEL_FLOWS",
-        unit: Unit::Plain,
-        names: 0,
-    },
-    Note {
-        kernel: "TCA_FQ_CODEL_QUANTUM",
-        unit: Unit::Bytes,
-        names: 0,
-    },
-    Note {
-        kernel: "TCA_FQ_CODEL_CE_THRESHOLD",
-        unit: Unit::Microseconds,
-        names: 0,
-    },
-    Note {
-        kernel: "TCA_FQ_CODEL_DROP_BATCH_SIZE",
-        unit: Unit::Packets,
-        names: 0,
-    },
-    Note {
-        kernel: "TCA_FQ_CODEL_MEMORY_LIMIT",
-        unit: Unit::Bytes,
-        names: 0,
-    },
-    Note {
-        kernel: "TCA_FQ_CODEL_CE_THRESHOLD_SELECTOR",
-        unit: Unit::Plain,
-        names: 0,
-    },
-    Note {
-        kernel: "TCA_FQ_CODEL_CE_THRESHOLD_MASK",
-        unit: Unit::Plain,
-        names: 0,
-    },
+    Note { kernel: "TCA_FQ_CODEL_TARGET", unit: Unit::Microseconds, names: 0 },
+    Note { kernel: "TCA_FQ_CODEL_LIMIT", unit: Unit::Packets, names: 0 },
+    Note { kernel: "TCA_FQ_CODEL_INTERVAL", unit: Unit::Microseconds, names: 0 },
+    Note { kernel: "TCA_FQ_CODEL_ECN", unit: Unit::Plain, names: 0 },
+    Note { kernel: "TCA_FQ_CODEL_FLOWS", unit: Unit::Plain, names: 0 },
+    Note { kernel: "TCA_FQ_CODEL_QUANTUM", unit: Unit::Bytes, names: 0 },
+    Note { kernel: "TCA_FQ_CODEL_CE_THRESHOLD", unit: Unit::Microseconds, names: 0 },
+    Note { kernel: "TCA_FQ_CODEL_DROP_BATCH_SIZE", unit: Unit::Packets, names: 0 },
+    Note { kernel: "TCA_FQ_CODEL_MEMORY_LIMIT", unit: Unit::Bytes, names: 0 },
+    Note { kernel: "TCA_FQ_CODEL_CE_THRESHOLD_SELECTOR", unit: Unit::Plain, names: 0 },
+    Note { kernel: "TCA_FQ_CODEL_CE_THRESHOLD_MASK", unit: Unit::Plain, names: 0 },
 ];
 
 // `struct tc_fq_codel_qd_stats`
+#[rattlefmt::skip]
 const STRUCT_TC_FQ_CODEL_QD_STATS: [Note<'static>; 9] = [
-    Note {
-        kernel: "",
-        unit: Unit::Bytes,
-        names: 0,
-    },
-    Note {
-        kernel: "",
-        unit: Unit::Packets,
-        names: 0,
-    },
-    Note {
-        kernel: "",
-        unit: Unit::Packets,
-        names: 0,
-    },
-    Note {
-        kernel: "",
-        unit: Unit::Plain,
-        names: 0,
-    },
-    Note {
-        kernel: "",
-        unit: Unit::Plain,
-        names: 0,
-    },
-    Note {
-        kernel: "",
-        unit: Unit::Plain,
-        names: 0,
-    },
-    Note {
-        kernel: "",
-        unit: Unit::Packets,
-        names: 0,
-    },
-    Note {
-        kernel: "",
-        unit: Unit::Bytes,
-        names: 0,
-    },
-    Note {
-        kernel: "",
-        unit: Unit::Packets,
-        names: 0,
-    },
+    Note { kernel: "", unit: Unit::Bytes, names: 0 },
+    Note { kernel: "", unit: Unit::Packets, names: 0 },
+    Note { kernel: "", unit: Unit::Packets, names: 0 },
+    Note { kernel: "", unit: Unit::Plain, names: 0 },
+    Note { kernel: "", unit: Unit::Plain, names: 0 },
+    Note { kernel: "", unit: Unit::Plain, names: 0 },
+    Note { kernel: "", unit: Unit::Packets, names: 0 },
+    Note { kernel: "", unit: Unit::Bytes, names: 0 },
+    Note { kernel: "", unit: Unit::Packets, names: 0 },
 ];
 
 // `struct tc_fq_codel_cl_stats`
+#[rattlefmt::skip]
 const STRUCT_TC_FQ_CODEL_CL_STATS: [Note<'static>; 6] = [
-    Note {
-        kernel: "",
-        unit: Unit::Bytes,
-        names: 0,
-    },
-    Note {
-        kernel: "",
-        unit: Unit::Microseconds,
-        names: 0,
-    },
-    Note {
-        kernel: "",
-        unit: Unit::Plain,
-        names: 0,
-    },
-    Note {
-        kernel: "",
-        unit: Unit::Plain,
-        names: 0,
-    },
-    Note {
-        kernel: "",
-        unit: Unit::Plain,
-        names: 0,
-    },
-    Note {
-        kernel: "",
-        unit: Unit::Microseconds,
-        names: 0,
-    },
+    Note { kernel: "", unit: Unit::Bytes, names: 0 },
+    Note { kernel: "", unit: Unit::Microseconds, names: 0 },
+    Note { kernel: "", unit: Unit::Plain, names: 0 },
+    Note { kernel: "", unit: Unit::Plain, names: 0 },
+    Note { kernel: "", unit: Unit::Plain, names: 0 },
+    Note { kernel: "", unit: Unit::Microseconds, names: 0 },
 ];
 
 // `list fq_pie`
+#[rattlefmt::skip]
 const LIST_FQ_PIE: [Note<'static>; 12] = [
-    Note {
-        kernel: "TCA_FQ_PIE_LIMIT",
-        unit: Unit::Packets,
-        names: 0,
-    },
-    Note {
-        kernel: "TCA_FQ_PIE_FLOWS",
-        unit: Unit::Plain,
-        names: 0,
-    },
-    Note {
-        kernel: "TCA_FQ_PIE_TARGET",
-        unit: Unit::Microseconds,
-        names: 0,
-    },
-    Note {
-        kernel: "TCA_FQ_PIE_TUPDATE",
-        unit: Unit::Microseconds,
-        names: 0,
-    },
-    Note {
-        kernel: "TCA_FQ_PIE_ALPHA",
-        unit: Unit::Plain,
-        names: 0,
-    },
-    Note {
-        kernel: "TCA_FQ_PIE_BETA",
-        unit: Unit::Plain,
-        names: 0,
-    },
-    Note {
-        kernel: "TCA_FQ_PIE_QUANTUM",
-        unit: Unit::Bytes,
-        names: 0,
-    },
-    Note {
-        kernel: "TCA_FQ_PIE_MEMORY_LIMIT",
-        unit: Unit::Bytes,
-        names: 0,
-    },
-    Note {
-        kernel: "TCA_FQ_PIE_ECN_PROB",
-        unit: Unit::Percent,
-        names: 0,
-    },
-    Note {
-        kernel: "TCA_FQ_PIE_ECN",
-        unit: Unit::Plain,
-        names: 0,
-    },
-    Note {
-        kernel: "TCA_FQ_PIE_BYTEMODE",
-        unit: Unit::Plain,
-        names: 0,
-    },
-    Note {
-        kernel: "TCA_FQ_PIE_DQ_RATE_ESTIMATOR",
-        unit: Unit::Plain,
-        names: 0,
-    },
+    Note { kernel: "TCA_FQ_PIE_LIMIT", unit: Unit::Packets, names: 0 },
+    Note { kernel: "TCA_FQ_PIE_FLOWS", unit: Unit::Plain, names: 0 },
+    Note { kernel: "TCA_FQ_PIE_TARGET", unit: Unit::Microseconds, names: 0 },
+    Note { kernel: "TCA_FQ_PIE_TUPDATE", unit: Unit::Microseconds, names: 0 },
+    Note { kernel: "TCA_FQ_PIE_ALPHA", unit: Unit::Plain, names: 0 },
+    Note { kernel: "TCA_FQ_PIE_BETA", unit: Unit::Plain, names: 0 },
+    Note { kernel: "TCA_FQ_PIE_QUANTUM", unit: Unit::Bytes, names: 0 },
+    Note { kernel: "TCA_FQ_PIE_MEMORY_LIMIT", unit: Unit::Bytes, names: 0 },
+    Note { kernel: "TCA_FQ_PIE_ECN_PROB", unit: Unit::Percent, names: 0 },
+    Note { kernel: "TCA_FQ_PIE_ECN", unit: Unit::Plain, names: 0 },
+    Note { kernel: "TCA_FQ_PIE_BYTEMODE", unit: Unit::Plain, names: 0 },
+    Note { kernel: "TCA_FQ_PIE_DQ_RATE_ESTIMATOR", unit: Unit::Plain, names: 0 },
 ];
 
 // `list gred`
+#[rattlefmt::skip]
 const LIST_GRED: [Note<'static>; 6] = [
-    Note {
-        kernel: "TCA_GRED_PARMS",
-        unit: Unit::Plain,
-        names: 0,
-    },
-    Note {
-        kernel: "TCA_GRED_STAB",
-        unit: Unit::Plain,
-        names: 0,
-    },
-    Note {
-        kernel: "TCA_GRED_DPS",
-        unit: Unit::Plain,
-        names: 0,
-    },
-    Note {
-        kernel: "TCA_GRED_MAX_P",
-        unit: Unit::Probability,
-        names: 0,
-    },
-    Note {
-        kernel: "TCA_GRED_LIMIT",
-        unit: Unit::Bytes,
-        names: 0,
-    },
-    Note {
-        kernel: "TCA_GRED_VQ_LIST",
-        unit: Unit::Plain,
-        names: 0,
-    },
+    Note { kernel: "TCA_GRED_PARMS", unit: Unit::Plain, names: 0 },
+    Note { kernel: "TCA_GRED_STAB", unit: Unit::Plain, names: 0 },
+    Note { kernel: "TCA_GRED_DPS", unit: Unit::Plain, names: 0 },
+    Note { kernel: "TCA_GRED_MAX_P", unit: Unit::Probability, names: 0 },
+    Note { kernel: "TCA_GRED_LIMIT", unit: Unit::Bytes, names: 0 },
+    Note { kernel: "TCA_GRED_VQ_LIST", unit: Unit::Plain, names: 0 },
 ];
 
 // `struct tc_gred_qopt`
+#[rattlefmt::skip]
 const STRUCT_TC_GRED_QOPT: [Note<'static>; 16] = [
-    Note {
-        kernel: "",
-        unit: Unit::Bytes,
-        names: 0,
-    },
-    Note {
-        kernel: "",
-        unit: Unit::Bytes,
-        names: 0,
-    },
-    Note {
-        kernel: "",
-        unit: Unit::Bytes,
-        names: 0,
-    },
-    Note {
-        kernel: "",
-        unit: Unit::Plain,
-        names: 0,
-    },
-    Note {
-        kernel: "",
-        unit: Unit::Bytes,
-        names: 0,
-    },
-    Note {
-        kernel: "",
-        unit: Unit::Bytes,
-        names: 0,
-    },
-    Note {
-        kernel: "",
-        unit: Unit::Packets,
-        names: 0,
-    },
-    Note {
-        kernel: "",
-        unit: Unit::Packets,
-        names: 0,
-    },
-    Note {
-        kernel: "",
-        unit: Unit::Packets,
-        names: 0,
-    },
-    Note {
-        kernel: "",
-        unit: Unit::Packets,
-        names: 0,
-    },
-    Note {
-        kernel: "",
-        unit: Unit::Power,
-        names: 0,
-    },
-    Note {
-        kernel: "",
-        unit: Unit::Power,
-        names: 0,
-    },
-    Note {
-        kernel: "",
-        unit: Unit::Power,
-        names: 0,
-    },
-    Note {
-        kernel: "",
-        unit: Unit::Plain,
-        names: 0,
-    },
-    Note {
-        kernel: "",
-        unit: Unit::Packets,
-        names: 0,
-    },
-    Note {
-        kernel: "",
-        unit: Unit::Bytes,
-        names: 0,
-    },
+    Note { kernel: "", unit: Unit::Bytes, names: 0 },
+    Note { kernel: "", unit: Unit::Bytes, names: 0 },
+    Note { kernel: "", unit: Unit::Bytes, names: 0 },
+    Note { kernel: "", unit: Unit::Plain, names: 0 },
+    Note { kernel: "", unit: Unit::Bytes, names: 0 },
+    Note { kernel: "", unit: Unit::Bytes, names: 0 },
+    Note { kernel: "", unit: Unit::Packets, names: 0 },
+    Note { kernel: "", unit: Unit::Packets, names: 0 },
+    Note { kernel: "", unit: Unit::Packets, names: 0 },
+    Note { kernel: "", unit: Unit::Packets, names: 0 },
+    Note { kernel: "", unit: Unit::Power, names: 0 },
+    Note { kernel: "", unit: Unit::Power, names: 0 },
+    Note { kernel: "", unit: Unit::Power, names: 0 },
+    Note { kernel: "", unit: Unit::Plain, names: 0 },
+    Note { kernel: "", unit: Unit::Packets, names: 0 },
+    Note { kernel: "", unit: Unit::Bytes, names: 0 },
 ];
 
 // `struct tc_gred_sopt`
+#[rattlefmt::skip]
 const STRUCT_TC_GRED_SOPT: [Note<'static>; 5] = [
-    Note {
-        kernel: "",
-        unit: Unit::Plain,
-        names: 0,
-    },
-    Note {
-        kernel: "",
-        unit: Unit::Plain,
-        names: 0,
-    },
-    Note {
-        kernel: "",
-        unit: Unit::Plain,
-        names: 0,
-    },
-    Note {
-        kernel: "",
-        unit: Unit::Plain,
-        names: 29,
-    },
-    Note {
-        kernel: "",
-        unit: Unit::Plain,
-        names: 0,
-    },
+    Note { kernel: "", unit: Unit::Plain, names: 0 },
+    Note { kernel: "", unit: Unit::Plain, names: 0 },
+    Note { kernel: "", unit: Unit::Plain, names: 0 },
+    Note { kernel: "", unit: Unit::Plain, names: 29 },
+    Note { kernel: "", unit: Unit::Plain, names: 0 },
 ];
 
 // `list gred_vq_list`
-const LIST_GRED_VQ_LIST: [Note<'static>; 1] = [Note {
-    kernel: "TCA_GRED_VQ_ENTRY",
-    unit: Unit::Plain,
-    names: 0,
-}];
+#[rattlefmt::skip]
+const LIST_GRED_VQ_LIST: [Note<'static>; 1] = [
+    Note { kernel: "TCA_GRED_VQ_ENTRY", unit: Unit::Plain, names: 0 },
+];
 
 // `list gred_vq`
+#[rattlefmt::skip]
 const LIST_GRED_VQ: [Note<'static>; 12] = [
-    Note {
-        kernel: "TCA_GRED_VQ_PAD",
-        unit: Unit::Plain,
-        names: 0,
-    },
-    Note {
-        kernel: "TCA_GRED_VQ_DP",
-        unit: Unit::Plain,
-        names: 0,
-    },
-    Note {
-        kernel: "TCA_GRED_VQ_STAT_BYTES",
-        unit: Unit::Bytes,
-        names: 0,
-    },
-    Note {
-        kernel: "TCA_GRED_VQ_STAT_PACKETS",
-        unit: Unit::Packets,
-        names: 0,
-    },
-    Note {
-        kernel: "TCA_GRED_VQ_STAT_BACKLOG",
-        unit: Unit::Bytes,
-        names: 0,
-    },
-    Note {
-        kernel: "TCA_GRED_VQ_STAT_PROB_DROP",
-        unit: Unit::Packets,
-        names: 0,
-    },
-    Note {
-        kernel: "TCA_GRED_VQ_STAT_PROB_MARK",
-        unit: Unit::Packets,
-        names: 0,
-    },
-    Note {
-        kernel: "TCA_GRED_VQ_STAT_FORCED_DROP",
-        unit: Unit::Packets,
-        names: 0,
-    },
-    Note {
-        kernel: "TCA_GRED_VQ_STAT_FORCED_MARK",
-        unit: Unit::Packets,
-        names: 0,
-    },
-    Note {
-        kernel: "TCA_GRED_VQ_STAT_PDROP",
-        unit: Unit::Packets,
-        names: 0,
-    },
-    Note {
-        kernel: "TCA_GRED_VQ_STAT_OTHER",
-        unit: Unit::Packets,
-        names: 0,
-    },
-    Note {
-        kernel: "TCA_GRED_VQ_FLAGS",
-        unit: Unit::Plain,
-        names: 29,
-    },
+    Note { kernel: "TCA_GRED_VQ_PAD", unit: Unit::Plain, names: 0 },
+    Note { kernel: "TCA_GRED_VQ_DP", unit: Unit::Plain, names: 0 },
+    Note { kernel: "TCA_GRED_VQ_STAT_BYTES", unit: Unit::Bytes, names: 0 },
+    Note { kernel: "TCA_GRED_VQ_STAT_PACKETS", unit: Unit::Packets, names: 0 },
+    Note { kernel: "TCA_GRED_VQ_STAT_BACKLOG", unit: Unit::Bytes, names: 0 },
+    Note { kernel: "TCA_GRED_VQ_STAT_PROB_DROP", unit: Unit::Packets, names: 0 },
+    Note { kernel: "TCA_GRED_VQ_STAT_PROB_MARK", unit: Unit::Packets, names: 0 },
+    Note { kernel: "TCA_GRED_VQ_STAT_FORCED_DROP", unit: Unit::Packets, names: 0 },
+    Note { kernel: "TCA_GRED_VQ_STAT_FORCED_MARK", unit: Unit::Packets, names: 0 },
+    Note { kernel: "TCA_GRED_VQ_STAT_PDROP", unit: Unit::Packets, names: 0 },
+    Note { kernel: "TCA_GRED_VQ_STAT_OTHER", unit: Unit::Packets, names: 0 },
+    Note { kernel: "TCA_GRED_VQ_FLAGS", unit: Unit::Plain, names: 29 },
 ];
 
 // `list hfsc`
+#[rattlefmt::skip]
 const LIST_HFSC: [Note<'static>; 3] = [
-    Note {
-        kernel: "TCA_HFSC_RSC",
-        unit: Unit::Plain,
-        names: 0,
-    },
-    Note {
-        kernel: "TCA_HFSC_FSC",
-        unit: Unit::Plain,
-        names: 0,
-    },
-    Note {
-        kernel: "TCA_HFSC_USC",
-        unit: Unit::Plain,
-        names: 0,
-    },
+    Note { kernel: "TCA_HFSC_RSC", unit: Unit::Plain, names: 0 },
+    Note { kernel: "TCA_HFSC_FSC", unit: Unit::Plain, names: 0 },
+    Note { kernel: "TCA_HFSC_USC", unit: Unit::Plain, names: 0 },
 ];
 
 // `struct tc_service_curve`
+#[rattlefmt::skip]
 const STRUCT_TC_SERVICE_CURVE: [Note<'static>; 3] = [
-    Note {
-        kernel: "",
-        unit: Unit::BytesPerSecond,
-        names: 0,
-    },
-    Note {
-        kernel: "",
-        unit: Unit::Microseconds,
-        names: 0,
-    },
-    Note {
-        kernel: "",
-        unit: Unit::BytesPerSecond,
-        names: 0,
-    },
+    Note { kernel: "", unit: Unit::BytesPerSecond, names: 0 },
+    Note { kernel: "", unit: Unit::Microseconds, names: 0 },
+    Note { kernel: "", unit: Unit::BytesPerSecond, names: 0 },
 ];
 
 // `struct tc_hfsc_stats`
+#[rattlefmt::skip]
 const STRUCT_TC_HFSC_STATS: [Note<'static>; 4] = [
-    Note {
-        kernel: "",
-        unit: Unit::Bytes,
-        names: 0,
-    },
-    Note {
-        kernel: "",
-        unit: Unit::Bytes,
-        names: 0,
-    },
-    Note {
-        kernel: "",
-        unit: Unit::Plain,
-        names: 0,
-    },
-    Note {
-        kernel: "",
-        unit: Unit::Plain,
-        names: 0,
-    },
+    Note { kernel: "", unit: Unit::Bytes, names: 0 },
+    Note { kernel: "", unit: Unit::Bytes, names: 0 },
+    Note { kernel: "", unit: Unit::Plain, names: 0 },
+    Note { kernel: "", unit: Unit::Plain, names: 0 },
 ];
 
 // `list hhf`
+#[rattlefmt::skip]
 const LIST_HHF: [Note<'static>; 7] = [
-    Note {
-        kernel: "TCA_HHF_BACKLOG_LIMIT",
-        unit: Unit::Packets,
-        names: 0,
-    },
-    Note {
-        kernel: "TCA_HHF_QUANTUM",
-        unit: Unit::Bytes,
-        names: 0,
-    },
-    Note {
-        kernel: "TCA_HHF_HH_FLOWS_LIMIT",
-        unit: Unit::Plain,
-        names: 0,
-    },
-    Note {
-        kernel: "TCA_HHF_RESET_TIMEOUT",
-        unit: Unit::Microseconds,
-        names: 0,
-    },
-    Note {
-        kernel: "TCA_HHF_ADMIT_BYTES",
-        unit: Unit::Bytes,
-        names: 0,
-    },
-    Note {
-        kernel: "TCA_HHF_EVICT_TIMEOUT",
-        unit: Unit::Microseconds,
-        names: 0,
-    },
-    Note {
-        kernel: "TCA_HHF_NON_HH_WEIGHT",
-        unit: Unit::Plain,
-        names: 0,
-    },
+    Note { kernel: "TCA_HHF_BACKLOG_LIMIT", unit: Unit::Packets, names: 0 },
+    Note { kernel: "TCA_HHF_QUANTUM", unit: Unit::Bytes, names: 0 },
+    Note { kernel: "TCA_HHF_HH_FLOWS_LIMIT", unit: Unit::Plain, names: 0 },
+    Note { kernel: "TCA_HHF_RESET_TIMEOUT", unit: Unit::Microseconds, names: 0 },
+    Note { kernel: "TCA_HHF_ADMIT_BYTES", unit: Unit::Bytes, names: 0 },
+    Note { kernel: "TCA_HHF_EVICT_TIMEOUT", unit: Unit::Microseconds, names: 0 },
+    Note { kernel: "TCA_HHF_NON_HH_WEIGHT", unit: Unit::Plain, names: 0 },
 ];
 
 // `list htb`
+#[rattlefmt::skip]
 const LIST_HTB: [Note<'static>; 9] = [
-    Note {
-        kernel: "TCA_HTB_PARMS",
-        unit: Unit::Plain,
-        names: 0,
-    },
-    Note {
-        kernel: "TCA_HTB_INIT",
-        unit: Unit::Plain,
-        names: 0,
-    },
-    Note {
-        kernel: "TCA_HTB_CTAB",
-        unit: Unit::Plain,
-        names: 0,
-    },
-    Note {
-        kernel: "TCA_HTB_RTAB",
-        unit: Unit::Plain,
-        names: 0,
-    },
-    Note {
-        kernel: "TCA_HTB_DIRECT_QLEN",
-        unit: Unit::Packets,
-        names: 0,
-    },
-    Note {
-        kernel: "TCA_HTB_RATE64",
-        unit: Unit::BytesPerSecond,
-        names: 0,
-    },
-    Note {
-        kernel: "TCA_HTB_CEIL64",
-        unit: Unit::BytesPerSecond,
-        names: 0,
-    },
-    Note {
-        kernel: "TCA_HTB_PAD",
-        unit: Unit::Plain,
-        names: 0,
-    },
-    Note {
-        kernel: "TCA_HTB_OFFLOAD",
-        unit: Unit::Plain,
-        names: 0,
-    },
+    Note { kernel: "TCA_HTB_PARMS", unit: Unit::Plain, names: 0 },
+    Note { kernel: "TCA_HTB_INIT", unit: Unit::Plain, names: 0 },
+    Note { kernel: "TCA_HTB_CTAB", unit: Unit::Plain, names: 0 },
+    Note { kernel: "TCA_HTB_RTAB", unit: Unit::Plain, names: 0 },
+    Note { kernel: "TCA_HTB_DIRECT_QLEN", unit: Unit::Packets, names: 0 },
+    Note { kernel: "TCA_HTB_RATE64", unit: Unit::BytesPerSecond, names: 0 },
+    Note { kernel: "TCA_HTB_CEIL64", unit: Unit::BytesPerSecond, names: 0 },
+    Note { kernel: "TCA_HTB_PAD", unit: Unit::Plain, names: 0 },
+    Note { kernel: "TCA_HTB_OFFLOAD", unit: Unit::Plain, names: 0 },
 ];
 
 // `struct tc_htb_xstats`
+#[rattlefmt::skip]
 const STRUCT_TC_HTB_XSTATS: [Note<'static>; 5] = [
-    Note {
-        kernel: "",
-        unit: Unit::Plain,
-        names: 0,
-    },
-    Note {
-        kernel: "",
-        unit: Unit::Plain,
-        names: 0,
-    },
-    Note {
-        kernel: "",
-        unit: Unit::Plain,
-        names: 0,
-    },
-    Note {
-        kernel: "",
-        unit: Unit::Ticks,
-        names: 0,
-    },
-    Note {
-        kernel: "",
-        unit: Unit::Ticks,
-        names: 0,
-    },
+    Note { kernel: "", unit: Unit::Plain, names: 0 },
+    Note { kernel: "", unit: Unit::Plain, names: 0 },
+    Note { kernel: "", unit: Unit::Plain, names: 0 },
+    Note { kernel: "", unit: Unit::Ticks, names: 0 },
+    Note { kernel: "", unit: Unit::Ticks, names: 0 },
 ];
 
 // `struct tc_htb_opt`
+#[rattlefmt::skip]
 const STRUCT_TC_HTB_OPT: [Note<'static>; 7] = [
-    Note {
-        kernel: "",
-        unit: Unit::Plain,
-        names: 0,
-    },
-    Note {
-        kernel: "",
-        unit: Unit::Plain,
-        names: 0,
-    },
-    Note {
-        kernel: "",
-        unit: Unit::Ticks,
-        names: 0,
-    },
-    Note {
-        kernel: "",
-        unit: Unit::Ticks,
-        names: 0,
-    },
-    Note {
-        kernel: "",
-        unit: Unit::Bytes,
-        names: 0,
-    },
-    Note {
-        kernel: "",
-        unit: Unit::Plain,
-        names: 0,
-    },
-    Note {
-        kernel: "",
-        unit: Unit::Plain,
-        names: 0,
-    },
+    Note { kernel: "", unit: Unit::Plain, names: 0 },
+    Note { kernel: "", unit: Unit::Plain, names: 0 },
+    Note { kernel: "", unit: Unit::Ticks, names: 0 },
+    Note { kernel: "", unit: Unit::Ticks, names: 0 },
+    Note { kernel: "", unit: Unit::Bytes, names: 0 },
+    Note { kernel: "", unit: Unit::Plain, names: 0 },
+    Note { kernel: "", unit: Unit::Plain, names: 0 },
 ];
 
 // `list mqprio`
+#[rattlefmt::skip]
 const LIST_MQPRIO: [Note<'static>; 5] = [
-    Note {
-        kernel: "TCA_MQPRIO_MODE",
-        unit: Unit::Plain,
-        names: 0,
-    },
-    Note {
-        kernel: "TCA_MQPRIO_SHAPER",
-        unit: Unit::Plain,
-        names: 0,
-    },
-    Note {
-        kernel: "TCA_MQPRIO_MIN_RATE64",
-        unit: Unit::Plain,
-        names: 0,
-    },
-    Note {
-        kernel: "TCA_MQPRIO_MAX_RATE64",
-        unit: Unit::Plain,
-        names: 0,
-    },
-    Note {
-        kernel: "TCA_MQPRIO_TC_ENTRY",
-        unit: Unit::Plain,
-        names: 0,
-    },
+    Note { kernel: "TCA_MQPRIO_MODE", unit: Unit::Plain, names: 0 },
+    Note { kernel: "TCA_MQPRIO_SHAPER", unit: Unit::Plain, names: 0 },
+    Note { kernel: "TCA_MQPRIO_MIN_RATE64", unit: Unit::Plain, names: 0 },
+    Note { kernel: "TCA_MQPRIO_MAX_RATE64", unit: Unit::Plain, names: 0 },
+    Note { kernel: "TCA_MQPRIO_TC_ENTRY", unit: Unit::Plain, names: 0 },
 ];
 
 // `enum tc_mqprio_mode`
+#[rattlefmt::skip]
 const ENUM_TC_MQPRIO_MODE: [Note<'static>; 2] = [
-    Note {
-        kernel: "TC_MQPRIO_MODE_DCB",
-        unit: Unit::Plain,
-        names: 0,
-    },
-    Note {
-        kernel: "TC_MQPRIO_MODE_CHANNEL",
-        unit: Unit::Plain,
-        names: 0,
-    },
+    Note { kernel: "TC_MQPRIO_MODE_DCB", unit: Unit::Plain, names: 0 },
+    Note { kernel: "TC_MQPRIO_MODE_CHANNEL", unit: Unit::Plain, names: 0 },
 ];
 
 // `enum tc_mqprio_shaper`
+#[rattlefmt::skip]
 const ENUM_TC_MQPRIO_SHAPER: [Note<'static>; 2] = [
-    Note {
-        kernel: "TC_MQPRIO_SHAPER_DCB",
-        unit: Unit::Plain,
-        names: 0,
-    },
-    Note {
-        kernel: "TC_MQPRIO_SHAPER_BW_RATE",
-        unit: Unit::Plain,
-        names: 0,
-    },
+    Note { kernel: "TC_MQPRIO_SHAPER_DCB", unit: Unit::Plain, names: 0 },
+    Note { kernel: "TC_MQPRIO_SHAPER_BW_RATE", unit: Unit::Plain, names: 0 },
 ];
 
 // `list mqprio_min_rate`
-const LIST_MQPRIO_MIN_RATE: [Note<'static>; 1] = [Note {
-    kernel: "TCA_MQPRIO_MIN_RATE64",
-    unit: Unit::BytesPerSecond,
-    names: 0,
-}];
+#[rattlefmt::skip]
+const LIST_MQPRIO_MIN_RATE: [Note<'static>; 1] = [
+    Note { kernel: "TCA_MQPRIO_MIN_RATE64", unit: Unit::BytesPerSecond, names: 0 },
+];
 
 // `list mqprio_max_rate`
-const LIST_MQPRIO_MAX_RATE: [Note<'static>; 1] = [Note {
-    kernel: "TCA_MQPRIO_MAX_RATE64",
-    unit: Unit::BytesPerSecond,
-    names: 0,
-}];
+#[rattlefmt::skip]
+const LIST_MQPRIO_MAX_RATE: [Note<'static>; 1] = [
+    Note { kernel: "TCA_MQPRIO_MAX_RATE64", unit: Unit::BytesPerSecond, names: 0 },
+];
 
 // `list mqprio_tc_entry`
+#[rattlefmt::skip]
 const LIST_MQPRIO_TC_ENTRY: [Note<'static>; 2] = [
-    Note {
-        kernel: "TCA_MQPRIO_TC_ENTRY_INDEX",
-        unit: Unit::Plain,
-        names: 0,
-    },
-    Note {
-        kernel: "TCA_MQPRIO_TC_ENTRY_FP",
-        unit: Unit::Plain,
-        names: 0,
-    },
+    Note { kernel: "TCA_MQPRIO_TC_ENTRY_INDEX", unit: Unit::Plain, names: 0 },
+    Note { kernel: "TCA_MQPRIO_TC_ENTRY_FP", unit: Unit::Plain, names: 0 },
 ];
 
 // `struct tc_netem_qopt`
+#[rattlefmt::skip]
 const STRUCT_TC_NETEM_QOPT: [Note<'static>; 7] = [
-    Note {
-        kernel: "",
-        unit: Unit::Ticks,
-        names: 0,
-    },
-    Note {
-        kernel: "",
-        unit: Unit::Packets,
-        names: 0,
-    },
-    Note {
-        kernel: "",
-        unit: Unit::Probability,
-        names: 0,
-    },
-    Note {
-        kernel: "",
-        unit: Unit::Packets,
-        names: 0,
-    },
-    Note {
-        kernel: "",
-        unit: Unit::Probability,
-        names: 0,
-    },
-    Note {
-        kernel: "",
-        unit: Unit::Ticks,
-        names: 0,
-    },
-    Note {
-        kernel: "",
-        unit: Unit::Plain,
-        names: 0,
-    },
+    Note { kernel: "", unit: Unit::Ticks, names: 0 },
+    Note { kernel: "", unit: Unit::Packets, names: 0 },
+    Note { kernel: "", unit: Unit::Probability, names: 0 },
+    Note { kernel: "", unit: Unit::Packets, names: 0 },
+    Note { kernel: "", unit: Unit::Probability, names: 0 },
+    Note { kernel: "", unit: Unit::Ticks, names: 0 },
+    Note { kernel: "", unit: Unit::Plain, names: 0 },
 ];
 
 // `list netem`
+#[rattlefmt::skip]
 const LIST_NETEM: [Note<'static>; 14] = [
-    Note {
-        kernel: "TCA_NETEM_CORR",
-        unit: Unit::Plain,
-        names: 0,
-    },
-    Note {
-        kernel: "TCA_NETEM_DELAY_DIST",
-        unit: Unit::Plain,
-        names: 0,
-    },
-    Note {
-        kernel: "TCA_NETEM_REORDER",
-        unit: Unit::Plain,
-        names: 0,
-    },
-    Note {
-        kernel: "TCA_NETEM_CORRUPT",
-        unit: Unit::Plain,
-        names: 0,
-    },
-    Note {
-        kernel: "TCA_NETEM_LOSS",
-        unit: Unit::Plain,
-        names: 0,
-    },
-    Note {
-        kernel: "TCA_NETEM_RATE",
-        unit: Unit::Plain,
-        names: 0,
-    },
-    Note {
-        kernel: "TCA_NETEM_ECN",
-        unit: Unit::Plain,
-        names: 0,
-    },
-    Note {
-        kernel: "TCA_NETEM_RATE64",
-        unit: Unit::BytesPerSecond,
-        names: 0,
-    },
-    Note {
-        kernel: "TCA_NETEM_PAD",
-        unit: Unit::Plain,
-        names: 0,
-    },
-    Note {
-        kernel: "TCA_NETEM_LATENCY64",
-        unit: Unit::Nanoseconds,
-        names: 0,
-    },
-    Note {
-        kernel: "TCA_NETEM_JITTER64",
-        unit: Unit::Nanoseconds,
-        names: 0,
-    },
-    Note {
-        kernel: "TCA_NETEM_SLOT",
-        unit: Unit::Plain,
-        names: 0,
-    },
-    Note {
-        kernel: "TCA_NETEM_SLOT_DIST",
-        unit: Unit::Plain,
-        names: 0,
-    },
-    Note {
-        kernel: "TCA_NETEM_PRNG_SEED",
-        unit: Unit::Plain,
-        names: 0,
-    },
+    Note { kernel: "TCA_NETEM_CORR", unit: Unit::Plain, names: 0 },
+    Note { kernel: "TCA_NETEM_DELAY_DIST", unit: Unit::Plain, names: 0 },
+    Note { kernel: "TCA_NETEM_REORDER", unit: Unit::Plain, names: 0 },
+    Note { kernel: "TCA_NETEM_CORRUPT", unit: Unit::Plain, names: 0 },
+    Note { kernel: "TCA_NETEM_LOSS", unit: Unit::Plain, names: 0 },
+    Note { kernel: "TCA_NETEM_RATE", unit: Unit::Plain, names: 0 },
+    Note { kernel: "TCA_NETEM_ECN", unit: Unit::Plain, names: 0 },
+    Note { kernel: "TCA_NETEM_RATE64", unit: Unit::BytesPerSecond, names: 0 },
+    Note { kernel: "TCA_NETEM_PAD", unit: Unit::Plain, names: 0 },
+    Note { kernel: "TCA_NETEM_LATENCY64", unit: Unit::Nanoseconds, names: 0 },
+    Note { kernel: "TCA_NETEM_JITTER64", unit: Unit::Nanoseconds, names: 0 },
+    Note { kernel: "TCA_NETEM_SLOT", unit: Unit::Plain, names: 0 },
+    Note { kernel: "TCA_NETEM_SLOT_DIST", unit: Unit::Plain, names: 0 },
+    Note { kernel: "TCA_NETEM_PRNG_SEED", unit: Unit::Plain, names: 0 },
 ];
 
 // `struct tc_netem_corr`
+#[rattlefmt::skip]
 const STRUCT_TC_NETEM_CORR: [Note<'static>; 3] = [
-    Note {
-        kernel: "",
-        unit: Unit::Probability,
-        names: 0,
-    },
-    Note {
-        kernel: "",
-        unit: Unit::Probability,
-        names: 0,
-    },
-    Note {
-        kernel: "",
-        unit: Unit::Probability,
-        names: 0,
-    },
+    Note { kernel: "", unit: Unit::Probability, names: 0 },
+    Note { kernel: "", unit: Unit::Probability, names: 0 },
+    Note { kernel: "", unit: Unit::Probability, names: 0 },
 ];
 
 // `struct tc_netem_reorder`
+#[rattlefmt::skip]
 const STRUCT_TC_NETEM_REORDER: [Note<'static>; 2] = [
-    Note {
-        kernel: "",
-        unit: Unit::Probability,
-        names: 0,
-    },
-    Note {
-        kernel: "",
-        unit: Unit::Probability,
-        names: 0,
-    },
+    Note { kernel: "", unit: Unit::Probability, names: 0 },
+    Note { kernel: "", unit: Unit::Probability, names: 0 },
 ];
 
 // `list netem_loss`
+#[rattlefmt::skip]
 const LIST_NETEM_LOSS: [Note<'static>; 2] = [
-    Note {
-        kernel: "NETEM_LOSS_GI",
-        unit: Unit::Plain,
-        names: 0,
-    },
-    Note {
-        kernel: "NETEM_LOSS_GE",
-        unit: Unit::Plain,
-        names: 0,
-    },
+    Note { kernel: "NETEM_LOSS_GI", unit: Unit::Plain, names: 0 },
+    Note { kernel: "NETEM_LOSS_GE", unit: Unit::Plain, names: 0 },
 ];
 
 // `struct tc_netem_gimodel`
+#[rattlefmt::skip]
 const STRUCT_TC_NETEM_GIMODEL: [Note<'static>; 5] = [
-    Note {
-        kernel: "",
-        unit: Unit::Probability,
-        names: 0,
-    },
-    Note {
-        kernel: "",
-        unit: Unit::Probability,
-        names: 0,
-    },
-    Note {
-        kernel: "",
-        unit: Unit::Probability,
-        names: 0,
-    },
-    Note {
-        kernel: "",
-        unit: Unit::Probability,
-        names: 0,
-    },
-    Note {
-        kernel: "",
-        unit: Unit::Probability,
-        names: 0,
-    },
+    Note { kernel: "", unit: Unit::Probability, names: 0 },
+    Note { kernel: "", unit: Unit::Probability, names: 0 },
+    Note { kernel: "", unit: Unit::Probability, names: 0 },
+    Note { kernel: "", unit: Unit::Probability, names: 0 },
+    Note { kernel: "", unit: Unit::Probability, names: 0 },
 ];
 
 // `struct tc_netem_gemodel`
+#[rattlefmt::skip]
 const STRUCT_TC_NETEM_GEMODEL: [Note<'static>; 4] = [
-    Note {
-        kernel: "",
-        unit: Unit::Probability,
-        names: 0,
-    },
-    Note {
-        kernel: "",
-        unit: Unit::Probability,
-        names: 0,
-    },
-    Note {
-        kernel: "",
-        unit: Unit::Probability,
-        names: 0,
-    },
-    Note {
-        kernel: "",
-        unit: Unit::Probability,
-        names: 0,
-    },
+    Note { kernel: "", unit: Unit::Probability, names: 0 },
+    Note { kernel: "", unit: Unit::Probability, names: 0 },
+    Note { kernel: "", unit: Unit::Probability, names: 0 },
+    Note { kernel: "", unit: Unit::Probability, names: 0 },
 ];
 
 // `struct tc_netem_rate`
+#[rattlefmt::skip]
 const STRUCT_TC_NETEM_RATE: [Note<'static>; 4] = [
-    Note {
-        kernel: "",
-        unit: Unit::BytesPerSecond,
-        names: 0,
-    },
-    Note {
-        kernel: "",
-        unit: Unit::Bytes,
-        names: 0,
-    },
-    Note {
-        kernel: "",
-        unit: Unit::Bytes,
-        names: 0,
-    },
-    Note {
-        kernel: "",
-        unit: Unit::Bytes,
-        names: 0,
-    },
+    Note { kernel: "", unit: Unit::BytesPerSecond, names: 0 },
+    Note { kernel: "", unit: Unit::Bytes, names: 0 },
+    Note { kernel: "", unit: Unit::Bytes, names: 0 },
+    Note { kernel: "", unit: Unit::Bytes, names: 0 },
 ];
 
 // `struct tc_netem_slot`
+#[rattlefmt::skip]
 const STRUCT_TC_NETEM_SLOT: [Note<'static>; 6] = [
-    Note {
-        kernel: "",
-        unit: Unit::Nanoseconds,
-        names: 0,
-    },
-    Note {
-        kernel: "",
-        unit: Unit::Nanoseconds,
-        names: 0,
-    },
-    Note {
-        kernel: "",
-        unit: Unit::Packets,
-        names: 0,
-    },
-    Note {
-        kernel: "",
-        unit: Unit::Bytes,
-        names: 0,
-    },
-    Note {
-        kernel: "",
-        unit: Unit::Nanoseconds,
-        names: 0,
-    },
-    Note {
-        kernel: "",
-        unit: Unit::Nanoseconds,
-        names: 0,
-    },
+    Note { kernel: "", unit: Unit::Nanoseconds, names: 0 },
+    Note { kernel: "", unit: Unit::Nanoseconds, names: 0 },
+    Note { kernel: "", unit: Unit::Packets, names: 0 },
+    Note { kernel: "", unit: Unit::Bytes, names: 0 },
+    Note { kernel: "", unit: Unit::Nanoseconds, names: 0 },
+    Note { kernel: "", unit: Unit::Nanoseconds, names: 0 },
 ];
 
 // `list pie`
+#[rattlefmt::skip]
 const LIST_PIE: [Note<'static>; 8] = [
-    Note {
-        kernel: "TCA_PIE_TARGET",
-        unit: Unit::Microseconds,
-        names: 0,
-    },
-    Note {
-        kernel: "TCA_PIE_LIMIT",
-        unit: Unit::Packets,
-        names: 0,
-    },
-    Note {
-        kernel: "TCA_PIE_TUPDATE",
-        unit: Unit::Microseconds,
-        names: 0,
-    },
-    Note {
-        kernel: "TCA_PIE_ALPHA",
-        unit: Unit::Plain,
-        names: 0,
-    },
-    Note {
-        kernel: "TCA_PIE_BETA",
-        unit: Unit::Plain,
-        names: 0,
-    },
-    Note {
-        kernel: "TCA_PIE_ECN",
-        unit: Unit::Plain,
-        names: 0,
-    },
-    Note {
-        kernel: "TCA_PIE_BYTEMODE",
-        unit: Unit::Plain,
-        names: 0,
-    },
-    Note {
-        kernel: "TCA_PIE_DQ_RATE_ESTIMATOR",
-        unit: Unit::Plain,
-        names: 0,
-    },
+    Note { kernel: "TCA_PIE_TARGET", unit: Unit::Microseconds, names: 0 },
+    Note { kernel: "TCA_PIE_LIMIT", unit: Unit::Packets, names: 0 },
+    Note { kernel: "TCA_PIE_TUPDATE", unit: Unit::Microseconds, names: 0 },
+    Note { kernel: "TCA_PIE_ALPHA", unit: Unit::Plain, names: 0 },
+    Note { kernel: "TCA_PIE_BETA", unit: Unit::Plain, names: 0 },
+    Note { kernel: "TCA_PIE_ECN", unit: Unit::Plain, names: 0 },
+    Note { kernel: "TCA_PIE_BYTEMODE", unit: Unit::Plain, names: 0 },
+    Note { kernel: "TCA_PIE_DQ_RATE_ESTIMATOR", unit: Unit::Plain, names: 0 },
 ];
 
 // `struct tc_pie_xstats`
+#[rattlefmt::skip]
 const STRUCT_TC_PIE_XSTATS: [Note<'static>; 9] = [
-    Note {
-        kernel: "",
-        unit: Unit::Plain,
-        names: 0,
-    },
-    Note {
-        kernel: "",
-        unit: Unit::Microseconds,
-        names: 0,
-    },
-    Note {
-        kernel: "",
-        unit: Unit::BytesPerSecond,
-        names: 0,
-    },
-    Note {
-        kernel: "",
-        unit: Unit::Plain,
-        names: 0,
-    },
-    Note {
-        kernel: "",
-        unit: Unit::Plain,
-        names: 0,
-    },
-    Note {
-        kernel: "",
-        unit: Unit::Plain,
-        names: 0,
-    },
-    Note {
-        kernel: "",
-        unit: Unit::Plain,
-        names: 0,
-    },
-    Note {
-        kernel: "",
-        unit: Unit::Plain,
-        names: 0,
-    },
-    Note {
-        kernel: "",
-        unit: Unit::Plain,
-        names: 0,
-    },
+    Note { kernel: "", unit: Unit::Plain, names: 0 },
+    Note { kernel: "", unit: Unit::Microseconds, names: 0 },
+    Note { kernel: "", unit: Unit::BytesPerSecond, names: 0 },
+    Note { kernel: "", unit: Unit::Plain, names: 0 },
+    Note { kernel: "", unit: Unit::Plain, names: 0 },
+    Note { kernel: "", unit: Unit::Plain, names: 0 },
+    Note { kernel: "", unit: Unit::Plain, names: 0 },
+    Note { kernel: "", unit: Unit::Plain, names: 0 },
+    Note { kernel: "", unit: Unit::Plain, names: 0 },
 ];
 
 // `struct tc_plug_qopt`
+#[rattlefmt::skip]
 const STRUCT_TC_PLUG_QOPT: [Note<'static>; 2] = [
-    Note {
-        kernel: "",
-        unit: Unit::Plain,
-        names: 0,
-    },
-    Note {
-        kernel: "",
-        unit: Unit::Bytes,
-        names: 0,
-    },
+    Note { kernel: "", unit: Unit::Plain, names: 0 },
+    Note { kernel: "", unit: Unit::Bytes, names: 0 },
 ];
 
 // `enum tcq_plug`
+#[rattlefmt::skip]
 const ENUM_TCQ_PLUG: [Note<'static>; 4] = [
-    Note {
-        kernel: "TCQ_PLUG_BUFFER",
-        unit: Unit::Plain,
-        names: 0,
-    },
-    Note {
-        kernel: "TCQ_PLUG_RELEASE_ONE",
-        unit: Unit::Plain,
-        names: 0,
-    },
-    Note {
-        kernel: "TCQ_PLUG_RELEASE_INDEFINITE",
-        unit: Unit::Plain,
-        names: 0,
-    },
-    Note {
-        kernel: "TCQ_PLUG_LIMIT",
-        unit: Unit::Plain,
-        names: 0,
-    },
+    Note { kernel: "TCQ_PLUG_BUFFER", unit: Unit::Plain, names: 0 },
+    Note { kernel: "TCQ_PLUG_RELEASE_ONE", unit: Unit::Plain, names: 0 },
+    Note { kernel: "TCQ_PLUG_RELEASE_INDEFINITE", unit: Unit::Plain, names: 0 },
+    Note { kernel: "TCQ_PLUG_LIMIT", unit: Unit::Plain, names: 0 },
 ];
 
 // `list prio`
-const LIST_PRIO: [Note<'static>; 1] = [Note {
-    kernel: "TCA_OPTIONS",
-    unit: Unit::Plain,
-    names: 0,
-}];
+#[rattlefmt::skip]
+const LIST_PRIO: [Note<'static>; 1] = [
+    Note { kernel: "TCA_OPTIONS", unit: Unit::Plain, names: 0 },
+];
 
 // `list qfq`
+#[rattlefmt::skip]
 const LIST_QFQ: [Note<'static>; 2] = [
-    Note {
-        kernel: "TCA_QFQ_WEIGHT",
-        unit: Unit::Plain,
-        names: 0,
-    },
-    Note {
-        kernel: "TCA_QFQ_LMAX",
-        unit: Unit::Bytes,
-        names: 0,
-    },
+    Note { kernel: "TCA_QFQ_WEIGHT", unit: Unit::Plain, names: 0 },
+    Note { kernel: "TCA_QFQ_LMAX", unit: Unit::Bytes, names: 0 },
 ];
 
 // `list red`
+#[rattlefmt::skip]
 const LIST_RED: [Note<'static>; 6] = [
-    Note {
-        kernel: "TCA_RED_PARMS",
-        unit: Unit::Plain,
-        names: 0,
-    },
-    Note {
-        kernel: "TCA_RED_STAB",
-        unit: Unit::Plain,
-        names: 0,
-    },
-    Note {
-        kernel: "TCA_RED_MAX_P",
-        unit: Unit::Probability,
-        names: 0,
-    },
-    Note {
-        kernel: "TCA_RED_FLAGS",
-        unit: Unit::Plain,
-        names: 0,
-    },
-    Note {
-        kernel: "TCA_RED_EARLY_DROP_BLOCK",
-        unit: Unit::Plain,
-        names: 0,
-    },
-    Note {
-        kernel: "TCA_RED_MARK_BLOCK",
-        unit: Unit::Plain,
-        names: 0,
-    },
+    Note { kernel: "TCA_RED_PARMS", unit: Unit::Plain, names: 0 },
+    Note { kernel: "TCA_RED_STAB", unit: Unit::Plain, names: 0 },
+    Note { kernel: "TCA_RED_MAX_P", unit: Unit::Probability, names: 0 },
+    Note { kernel: "TCA_RED_FLAGS", unit: Unit::Plain, names: 0 },
+    Note { kernel: "TCA_RED_EARLY_DROP_BLOCK", unit: Unit::Plain, names: 0 },
+    Note { kernel: "TCA_RED_MARK_BLOCK", unit: Unit::Plain, names: 0 },
 ];
 
 // `struct tc_red_qopt`
+#[rattlefmt::skip]
 const STRUCT_TC_RED_QOPT: [Note<'static>; 7] = [
-    Note {
-        kernel: "",
-        unit: Unit::Bytes,
-        names: 0,
-    },
-    Note {
-        kernel: "",
-        unit: Unit::Bytes,
-        names: 0,
-    },
-    Note {
-        kernel: "",
-        unit: Unit::Bytes,
-        names: 0,
-    },
-    Note {
-        kernel: "",
-        unit: Unit::Power,
-        names: 0,
-    },
-    Note {
-        kernel: "",
-        unit: Unit::Power,
-        names: 0,
-    },
-    Note {
-        kernel: "",
-        unit: Unit::Power,
-        names: 0,
-    },
-    Note {
-        kernel: "",
-        unit: Unit::Plain,
-        names: 29,
-    },
+    Note { kernel: "", unit: Unit::Bytes, names: 0 },
+    Note { kernel: "", unit: Unit::Bytes, names: 0 },
+    Note { kernel: "", unit: Unit::Bytes, names: 0 },
+    Note { kernel: "", unit: Unit::Power, names: 0 },
+    Note { kernel: "", unit: Unit::Power, names: 0 },
+    Note { kernel: "", unit: Unit::Power, names: 0 },
+    Note { kernel: "", unit: Unit::Plain, names: 29 },
 ];
 
 // `struct tca_red_flags`
+#[rattlefmt::skip]
 const STRUCT_TCA_RED_FLAGS: [Note<'static>; 2] = [
-    Note {
-        kernel: "",
-        unit: Unit::Plain,
-        names: 29,
-    },
-    Note {
-        kernel: "",
-        unit: Unit::Plain,
-        names: 29,
-    },
+    Note { kernel: "", unit: Unit::Plain, names: 29 },
+    Note { kernel: "", unit: Unit::Plain, names: 29 },
 ];
 
 // `struct tc_red_xstats`
+#[rattlefmt::skip]
 const STRUCT_TC_RED_XSTATS: [Note<'static>; 4] = [
-    Note {
-        kernel: "",
-        unit: Unit::Packets,
-        names: 0,
-    },
-    Note {
-        kernel: "",
-        unit: Unit::Packets,
-        names: 0,
-    },
-    Note {
-        kernel: "",
-        unit: Unit::Packets,
-        names: 0,
-    },
-    Note {
-        kernel: "",
-        unit: Unit::Packets,
-        names: 0,
-    },
+    Note { kernel: "", unit: Unit::Packets, names: 0 },
+    Note { kernel: "", unit: Unit::Packets, names: 0 },
+    Note { kernel: "", unit: Unit::Packets, names: 0 },
+    Note { kernel: "", unit: Unit::Packets, names: 0 },
 ];
 
 // `list sfb`
-const LIST_SFB: [Note<'static>; 1] = [Note {
-    kernel: "TCA_SFB_PARMS",
-    unit: Unit::Plain,
-    names: 0,
-}];
+#[rattlefmt::skip]
+const LIST_SFB: [Note<'static>; 1] = [
+    Note { kernel: "TCA_SFB_PARMS", unit: Unit::Plain, names: 0 },
+];
 
 // `struct tc_sfb_xstats`
+#[rattlefmt::skip]
 const STRUCT_TC_SFB_XSTATS: [Note<'static>; 9] = [
-    Note {
-        kernel: "",
-        unit: Unit::Plain,
-        names: 0,
-    },
-    Note {
-        kernel: "",
-        unit: Unit::Plain,
-        names: 0,
-    },
-    Note {
-        kernel: "",
-        unit: Unit::Plain,
-        names: 0,
-    },
-    Note {
-        kernel: "",
-        unit: Unit::Plain,
-        names: 0,
-    },
-    Note {
-        kernel: "",
-        unit: Unit::Plain,
-        names: 0,
-    },
-    Note {
-        kernel: "",
-        unit: Unit::Plain,
-        names: 0,
-    },
-    Note {
-        kernel: "",
-        unit: Unit::Packets,
-        names: 0,
-    },
-    Note {
-        kernel: "",
-        unit: Unit::Plain,
-        names: 0,
-    },
-    Note {
-        kernel: "",
-        unit: Unit::Plain,
-        names: 0,
-    },
+    Note { kernel: "", unit: Unit::Plain, names: 0 },
+    Note { kernel: "", unit: Unit::Plain, names: 0 },
+    Note { kernel: "", unit: Unit::Plain, names: 0 },
+    Note { kernel: "", unit: Unit::Plain, names: 0 },
+    Note { kernel: "", unit: Unit::Plain, names: 0 },
+    Note { kernel: "", unit: Unit::Plain, names: 0 },
+    Note { kernel: "", unit: Unit::Packets, names: 0 },
+    Note { kernel: "", unit: Unit::Plain, names: 0 },
+    Note { kernel: "", unit: Unit::Plain, names: 0 },
 ];
 
 // `struct tc_sfb_qopt`
+#[rattlefmt::skip]
 const STRUCT_TC_SFB_QOPT: [Note<'static>; 9] = [
-    Note {
-        kernel: "",
-        unit: Unit::Milliseconds,
-        names: 0,
-    },
-    Note {
-        kernel: "",
-        unit: Unit::Milliseconds,
-        names: 0,
-    },
-    Note {
-        kernel: "",
-        unit: Unit::Packets,
-        names: 0,
-    },
-    Note {
-        kernel: "",
-        unit: Unit::Packets,
-        names: 0,
-    },
-    Note {
-        kernel: "",
-        unit: Unit::Plain,
-        names: 0,
-    },
-    Note {
-        kernel: "",
-        unit: Unit::Plain,
-        names: 0,
-    },
-    Note {
-        kernel: "",
-        unit: Unit::Packets,
-        names: 0,
-    },
-    Note {
-        kernel: "",
-        unit: Unit::PacketsPerSecond,
-        names: 0,
-    },
-    Note {
-        kernel: "",
-        unit: Unit::Packets,
-        names: 0,
-    },
+    Note { kernel: "", unit: Unit::Milliseconds, names: 0 },
+    Note { kernel: "", unit: Unit::Milliseconds, names: 0 },
+    Note { kernel: "", unit: Unit::Packets, names: 0 },
+    Note { kernel: "", unit: Unit::Packets, names: 0 },
+    Note { kernel: "", unit: Unit::Plain, names: 0 },
+    Note { kernel: "", unit: Unit::Plain, names: 0 },
+    Note { kernel: "", unit: Unit::Packets, names: 0 },
+    Note { kernel: "", unit: Unit::PacketsPerSecond, names: 0 },
+    Note { kernel: "", unit: Unit::Packets, names: 0 },
 ];
 
 // `struct tc_sfq_qopt`
+#[rattlefmt::skip]
 const STRUCT_TC_SFQ_QOPT: [Note<'static>; 5] = [
-    Note {
-        kernel: "",
-        unit: Unit::Bytes,
-        names: 0,
-    },
-    Note {
-        kernel: "",
-        unit: Unit::Seconds,
-        names: 0,
-    },
-    Note {
-        kernel: "",
-        unit: Unit::Packets,
-        names: 0,
-    },
-    Note {
-        kernel: "",
-        unit: Unit::Plain,
-        names: 0,
-    },
-    Note {
-        kernel: "",
-        unit: Unit::Plain,
-        names: 0,
-    },
+    Note { kernel: "", unit: Unit::Bytes, names: 0 },
+    Note { kernel: "", unit: Unit::Seconds, names: 0 },
+    Note { kernel: "", unit: Unit::Packets, names: 0 },
+    Note { kernel: "", unit: Unit::Plain, names: 0 },
+    Note { kernel: "", unit: Unit::Plain, names: 0 },
 ];
 
 // `struct tc_sfq_qopt_v1`
+#[rattlefmt::skip]
 const STRUCT_TC_SFQ_QOPT_V1: [Note<'static>; 12] = [
-    Note {
-        kernel: "",
-        unit: Unit::Plain,
-        names: 0,
-    },
-    Note {
-        kernel: "",
-        unit: Unit::Packets,
-        names: 0,
-    },
-    Note {
-        kernel: "",
-        unit: Unit::Plain,
-        names: 0,
-    },
-    Note {
-        kernel: "",
-        unit: Unit::Bytes,
-        names: 0,
-    },
-    Note {
-        kernel: "",
-        unit: Unit::Bytes,
-        names: 0,
-    },
-    Note {
-        kernel: "",
-        unit: Unit::Bytes,
-        names: 0,
-    },
-    Note {
-        kernel: "",
-        unit: Unit::Power,
-        names: 0,
-    },
-    Note {
-        kernel: "",
-        unit: Unit::Power,
-        names: 0,
-    },
-    Note {
-        kernel: "",
-        unit: Unit::Power,
-        names: 0,
-    },
-    Note {
-        kernel: "",
-        unit: Unit::Plain,
-        names: 29,
-    },
-    Note {
-        kernel: "",
-        unit: Unit::Probability,
-        names: 0,
-    },
-    Note {
-        kernel: "",
-        unit: Unit::Plain,
-        names: 0,
-    },
+    Note { kernel: "", unit: Unit::Plain, names: 0 },
+    Note { kernel: "", unit: Unit::Packets, names: 0 },
+    Note { kernel: "", unit: Unit::Plain, names: 0 },
+    Note { kernel: "", unit: Unit::Bytes, names: 0 },
+    Note { kernel: "", unit: Unit::Bytes, names: 0 },
+    Note { kernel: "", unit: Unit::Bytes, names: 0 },
+    Note { kernel: "", unit: Unit::Power, names: 0 },
+    Note { kernel: "", unit: Unit::Power, names: 0 },
+    Note { kernel: "", unit: Unit::Power, names: 0 },
+    Note { kernel: "", unit: Unit::Plain, names: 29 },
+    Note { kernel: "", unit: Unit::Probability, names: 0 },
+    Note { kernel: "", unit: Unit::Plain, names: 0 },
 ];
 
 // `struct tc_sfqred_stats`
+#[rattlefmt::skip]
 const STRUCT_TC_SFQRED_STATS: [Note<'static>; 6] = [
-    Note {
-        kernel: "",
-        unit: Unit::Packets,
-        names: 0,
-    },
-    Note {
-        kernel: "",
-        unit: Unit::Packets,
-        names: 0,
-    },
-    Note {
-        kernel: "",
-        unit: Unit::Packets,
-        names: 0,
-    },
-    Note {
-        kernel: "",
-        unit: Unit::Packets,
-        names: 0,
-    },
-    Note {
-        kernel: "",
-        unit: Unit::Packets,
-        names: 0,
-    },
-    Note {
-        kernel: "",
-        unit: Unit::Packets,
-        names: 0,
-    },
+    Note { kernel: "", unit: Unit::Packets, names: 0 },
+    Note { kernel: "", unit: Unit::Packets, names: 0 },
+    Note { kernel: "", unit: Unit::Packets, names: 0 },
+    Note { kernel: "", unit: Unit::Packets, names: 0 },
+    Note { kernel: "", unit: Unit::Packets, names: 0 },
+    Note { kernel: "", unit: Unit::Packets, names: 0 },
 ];
 
 // `bits taprio_flag`
+#[rattlefmt::skip]
 const BITS_TAPRIO_FLAG: [Named<'static>; 2] = [
-    Named {
-        number: "0x1",
-        name: "txtime_assist",
-        kernel: "TCA_TAPRIO_ATTR_FLAG_TXTIME_ASSIST",
-    },
-    Named {
-        number: "0x2",
-        name: "full_offload",
-        kernel: "TCA_TAPRIO_ATTR_FLAG_FULL_OFFLOAD",
-    },
+    Named { number: "0x1", name: "txtime_assist", kernel: "TCA_TAPRIO_ATTR_FLAG_TXTIME_ASSIST" },
+    Named { number: "0x2", name: "full_offload", kernel: "TCA_TAPRIO_ATTR_FLAG_FULL_OFFLOAD" },
 ];
 
 // `list taprio`
+#[rattlefmt::skip]
 const LIST_TAPRIO: [Note<'static>; 12] = [
-    Note {
-        kernel: "TCA_TAPRIO_ATTR_PRIOMAP",
-        unit: Unit::Plain,
-        names: 0,
-    },
-    Note {
-        kernel: "TCA_TAPRIO_ATTR_SCHED_ENTRY_LIST",
-        unit: Unit::Plain,
-        names: 0,
-    },
-    Note {
-        kernel: "TCA_TAPRIO_ATTR_SCHED_BASE_TIME",
-        unit: Unit::Nanoseconds,
-        names: 0,
-    },
-    Note {
-        kernel: "TCA_TAPRIO_ATTR_SCHED_SINGLE_ENTRY",
-        unit: Unit::Plain,
-        names: 0,
-    },
-    Note {
-        kernel: "TCA_TAPRIO_ATTR_SCHED_CLOCKID",
-        unit: Unit::Plain,
-        names: 6,
-    },
-    Note {
-        kernel: "TCA_TAPRIO_PAD",
-        unit: Unit::Plain,
-        names: 0,
-    },
-    Note {
-        kernel: "TCA_TAPRIO_ATTR_ADMIN_SCHED",
-        unit: Unit::Plain,
-        names: 0,
-    },
-    Note {
-        kernel: "TCA_TAPRIO_ATTR_SCHED_CYCLE_TIME",
-        unit: Unit::Nanoseconds,
-        names: 0,
-    },
-    Note {
-        kernel: "TCA_TAPRIO_ATTR_SCHED_CYCLE_TIME_EXTENSION",
-        unit: Unit::Nanoseconds,
-        names: 0,
-    },
-    Note {
-        kernel: "TCA_TAPRIO_ATTR_FLAGS",
-        unit: Unit::Plain,
-        names: 31,
-    },
-    Note {
-        kernel: "TCA_TAPRIO_ATTR_TXTIME_DELAY",
-        unit: Unit::Nanoseconds,
-        names: 0,
-    },
-    Note {
-        kernel: "TCA_TAPRIO_ATTR_TC_ENTRY",
-        unit: Unit::Plain,
-        names: 0,
-    },
+    Note { kernel: "TCA_TAPRIO_ATTR_PRIOMAP", unit: Unit::Plain, names: 0 },
+    Note { kernel: "TCA_TAPRIO_ATTR_SCHED_ENTRY_LIST", unit: Unit::Plain, names: 0 },
+    Note { kernel: "TCA_TAPRIO_ATTR_SCHED_BASE_TIME", unit: Unit::Nanoseconds, names: 0 },
+    Note { kernel: "TCA_TAPRIO_ATTR_SCHED_SINGLE_ENTRY", unit: Unit::Plain, names: 0 },
+    Note { kernel: "TCA_TAPRIO_ATTR_SCHED_CLOCKID", unit: Unit::Plain, names: 6 },
+    Note { kernel: "TCA_TAPRIO_PAD", unit: Unit::Plain, names: 0 },
+    Note { kernel: "TCA_TAPRIO_ATTR_ADMIN_SCHED", unit: Unit::Plain, names: 0 },
+    Note { kernel: "TCA_TAPRIO_ATTR_SCHED_CYCLE_TIME", unit: Unit::Nanoseconds, names: 0 },
+    Note { kernel: "TCA_TAPRIO_ATTR_SCHED_CYCLE_TIME_EXTENSION", unit: Unit::Nanoseconds, names: 0 },
+    Note { kernel: "TCA_TAPRIO_ATTR_FLAGS", unit: Unit::Plain, names: 31 },
+    Note { kernel: "TCA_TAPRIO_ATTR_TXTIME_DELAY", unit: Unit::Nanoseconds, names: 0 },
+    Note { kernel: "TCA_TAPRIO_ATTR_TC_ENTRY", unit: Unit::Plain, names: 0 },
 ];
 
 // `list taprio_entry_list`
-const LIST_TAPRIO_ENTRY_LIST: [Note<'static>; 1] = [Note {
-    kernel: "TCA_TAPRIO_SCHED_ENTRY",
-    unit: Unit::Plain,
-    names: 0,
-}];
+#[rattlefmt::skip]
+const LIST_TAPRIO_ENTRY_LIST: [Note<'static>; 1] = [
+    Note { kernel: "TCA_TAPRIO_SCHED_ENTRY", unit: Unit::Plain, names: 0 },
+];
 
 // `list taprio_entry`
+#[rattlefmt::skip]
 const LIST_TAPRIO_ENTRY: [Note<'static>; 4] = [
-    Note {
-        kernel: "TCA_TAPRIO_SCHED_ENTRY_INDEX",
-        unit: Unit::Plain,
-        names: 0,
-    },
-    Note {
-        kernel: "TCA_TAPRIO_SCHED_ENTRY_CMD",
-        unit: Unit::Plain,
-        names: 0,
-    },
-    Note {
-        kernel: "TCA_TAPRIO_SCHED_ENTRY_GATE_MASK",
-        unit: Unit::Plain,
-        names: 0,
-    },
-    Note {
-        kernel: "TCA_TAPRIO_SCHED_ENTRY_INTERVAL",
-        unit: Unit::Nanoseconds,
-        names: 0,
-    },
+    Note { kernel: "TCA_TAPRIO_SCHED_ENTRY_INDEX", unit: Unit::Plain, names: 0 },
+    Note { kernel: "TCA_TAPRIO_SCHED_ENTRY_CMD", unit: Unit::Plain, names: 0 },
+    Note { kernel: "TCA_TAPRIO_SCHED_ENTRY_GATE_MASK", unit: Unit::Plain, names: 0 },
+    Note { kernel: "TCA_TAPRIO_SCHED_ENTRY_INTERVAL", unit: Unit::Nanoseconds, names: 0 },
 ];
 
 // `enum tc_taprio_cmd`
+#[rattlefmt::skip]
 const ENUM_TC_TAPRIO_CMD: [Note<'static>; 3] = [
-    Note {
-        kernel: "TC_TAPRIO_CMD_SET_GATES",
-        unit: Unit::Plain,
-        names: 0,
-    },
-    Note {
-        kernel: "TC_TAPRIO_CMD_SET_AND_HOLD",
-        unit: Unit::Plain,
-        names: 0,
-    },
-    Note {
-        kernel: "TC_TAPRIO_CMD_SET_AND_RELEASE",
-        unit: Unit::Plain,
-        names: 0,
-    },
+    Note { kernel: "TC_TAPRIO_CMD_SET_GATES", unit: Unit::Plain, names: 0 },
+    Note { kernel: "TC_TAPRIO_CMD_SET_AND_HOLD", unit: Unit::Plain, names: 0 },
+    Note { kernel: "TC_TAPRIO_CMD_SET_AND_RELEASE", unit: Unit::Plain, names: 0 },
 ];
 
 // `list taprio_tc_entry`
+#[rattlefmt::skip]
 const LIST_TAPRIO_TC_ENTRY: [Note<'static>; 3] = [
-    Note {
-        kernel: "TCA_TAPRIO_TC_ENTRY_INDEX",
-        unit: Unit::Plain,
-        names: 0,
-    },
-    Note {
-        kernel: "TCA_TAPRIO_TC_ENTRY_MAX_SDU",
-        unit: Unit::Bytes,
-        names: 0,
-    },
-    Note {
-        kernel: "TCA_TAPRIO_TC_ENTRY_FP",
-        unit: Unit::Plain,
-        names: 0,
-    },
+    Note { kernel: "TCA_TAPRIO_TC_ENTRY_INDEX", unit: Unit::Plain, names: 0 },
+    Note { kernel: "TCA_TAPRIO_TC_ENTRY_MAX_SDU", unit: Unit::Bytes, names: 0 },
+    Note { kernel: "TCA_TAPRIO_TC_ENTRY_FP", unit: Unit::Plain, names: 0 },
 ];
 
 // `list taprio_stats`
+#[rattlefmt::skip]
 const LIST_TAPRIO_STATS: [Note<'static>; 3] = [
-    Note {
-        kernel: "TCA_TAPRIO_OFFLOAD_STATS_PAD",
-        unit: Unit::Plain,
-        names: 0,
-    },
-    Note {
-        kernel: "TCA_TAPRIO_OFFLOAD_STATS_WINDOW_DROPS",
-        unit: Unit::Packets,
-        names: 0,
-    },
-    Note {
-        kernel: "TCA_TAPRIO_OFFLOAD_STATS_TX_OVERRUNS",
-        unit: Unit::Packets,
-        names: 0,
-    },
+    Note { kernel: "TCA_TAPRIO_OFFLOAD_STATS_PAD", unit: Unit::Plain, names: 0 },
+    Note { kernel: "TCA_TAPRIO_OFFLOAD_STATS_WINDOW_DROPS", unit: Unit::Packets, names: 0 },
+    Note { kernel: "TCA_TAPRIO_OFFLOAD_STATS_TX_OVERRUNS", unit: Unit::Packets, names: 0 },
 ];
 
 // `list tbf`
+#[rattlefmt::skip]
 const LIST_TBF: [Note<'static>; 8] = [
-    Note {
-        kernel: "TCA_TBF_PARMS",
-        unit: Unit::Plain,
-        names: 0,
-    },
-    Note {
-        kernel: "TCA_TBF_RTAB",
-        unit: Unit::Plain,
-        names: 0,
-    },
-    Note {
-        kernel: "TCA_TBF_PTAB",
-        unit: Unit::Plain,
-        names: 0,
-    },
-    Note {
-        kernel: "TCA_TBF_RATE64",
-        unit: Unit::BytesPerSecond,
-        names: 0,
-    },
-    Note {
-        kernel: "TCA_TBF_PRATE64",
-        unit: Unit::BytesPerSecond,
-        names: 0,
-    },
-    Note {
-        kernel: "TCA_TBF_BURST",
-        unit: Unit::Bytes,
-        names: 0,
-    },
-    Note {
-        kernel: "TCA_TBF_PBURST",
-        unit: Unit::Bytes,
-        names: 0,
-    },
-    Note {
-        kernel: "TCA_TBF_PAD",
-        unit: Unit::Plain,
-        names: 0,
-    },
+    Note { kernel: "TCA_TBF_PARMS", unit: Unit::Plain, names: 0 },
+    Note { kernel: "TCA_TBF_RTAB", unit: Unit::Plain, names: 0 },
+    Note { kernel: "TCA_TBF_PTAB", unit: Unit::Plain, names: 0 },
+    Note { kernel: "TCA_TBF_RATE64", unit: Unit::BytesPerSecond, names: 0 },
+    Note { kernel: "TCA_TBF_PRATE64", unit: Unit::BytesPerSecond, names: 0 },
+    Note { kernel: "TCA_TBF_BURST", unit: Unit::Bytes, names: 0 },
+    Note { kernel: "TCA_TBF_PBURST", unit: Unit::Bytes, names: 0 },
+    Note { kernel: "TCA_TBF_PAD", unit: Unit::Plain, names: 0 },
 ];
 
 // `struct tc_tbf_qopt`
+#[rattlefmt::skip]
 const STRUCT_TC_TBF_QOPT: [Note<'static>; 5] = [
-    Note {
-        kernel: "",
-        unit: Unit::Plain,
-        names: 0,
-    },
-    Note {
-        kernel: "",
-        unit: Unit::Plain,
-        names: 0,
-    },
-    Note {
-        kernel: "",
-        unit: Unit::Bytes,
-        names: 0,
-    },
-    Note {
-        kernel: "",
-        unit: Unit::Ticks,
-        names: 0,
-    },
-    Note {
-        kernel: "",
-        unit: Unit::Ticks,
-        names: 0,
-    },
+    Note { kernel: "", unit: Unit::Plain, names: 0 },
+    Note { kernel: "", unit: Unit::Plain, names: 0 },
+    Note { kernel: "", unit: Unit::Bytes, names: 0 },
+    Note { kernel: "", unit: Unit::Ticks, names: 0 },
+    Note { kernel: "", unit: Unit::Ticks, names: 0 },
 ];
 
 // `struct tc_ratespec`
+#[rattlefmt::skip]
 const STRUCT_TC_RATESPEC: [Note<'static>; 6] = [
-    Note {
-        kernel: "",
-        unit: Unit::Power,
-        names: 0,
-    },
-    Note {
-        kernel: "",
-        unit: Unit::Plain,
-        names: 0,
-    },
-    Note {
-        kernel: "",
-        unit: Unit::Bytes,
-        names: 0,
-    },
-    Note {
-        kernel: "",
-        unit: Unit::Plain,
-        names: 0,
-    },
-    Note {
-        kernel: "",
-        unit: Unit::Bytes,
-        names: 0,
-    },
-    Note {
-        kernel: "",
-        unit: Unit::BytesPerSecond,
-        names: 0,
-    },
+    Note { kernel: "", unit: Unit::Power, names: 0 },
+    Note { kernel: "", unit: Unit::Plain, names: 0 },
+    Note { kernel: "", unit: Unit::Bytes, names: 0 },
+    Note { kernel: "", unit: Unit::Plain, names: 0 },
+    Note { kernel: "", unit: Unit::Bytes, names: 0 },
+    Note { kernel: "", unit: Unit::BytesPerSecond, names: 0 },
 ];
 
 // `enum tc_linklayer`
+#[rattlefmt::skip]
 const ENUM_TC_LINKLAYER: [Note<'static>; 3] = [
-    Note {
-        kernel: "TC_LINKLAYER_UNAWARE",
-        unit: Unit::Plain,
-        names: 0,
-    },
-    Note {
-        kernel: "TC_LINKLAYER_ETHERNET",
-        unit: Unit::Plain,
-        names: 0,
-    },
-    Note {
-        kernel: "TC_LINKLAYER_ATM",
-        unit: Unit::Plain,
-        names: 0,
-    },
+    Note { kernel: "TC_LINKLAYER_UNAWARE", unit: Unit::Plain, names: 0 },
+    Note { kernel: "TC_LINKLAYER_ETHERNET", unit: Unit::Plain, names: 0 },
+    Note { kernel: "TC_LINKLAYER_ATM", unit: Unit::Plain, names: 0 },
 ];
 
 // `list stab`
+#[rattlefmt::skip]
 const LIST_STAB: [Note<'static>; 2] = [
-    Note {
-        kernel: "TCA_STAB_BASE",
-        unit: Unit::Plain,
-        names: 0,
-    },
-    Note {
-        kernel: "TCA_STAB_DATA",
-        unit: Unit::Plain,
-        names: 0,
-    },
+    Note { kernel: "TCA_STAB_BASE", unit: Unit::Plain, names: 0 },
+    Note { kernel: "TCA_STAB_DATA", unit: Unit::Plain, names: 0 },
 ];
 
 // `struct tc_sizespec`
+#[rattlefmt::skip]
 const STRUCT_TC_SIZESPEC: [Note<'static>; 8] = [
-    Note {
-        kernel: "",
-        unit: Unit::Power,
-        names: 0,
-    },
-    Note {
-        kernel: "",
-        unit: Unit::Power,
-        names: 0,
-    },
-    Note {
-        kernel: "",
-        unit: Unit::Plain,
-        names: 0,
-    },
-    Note {
-        kernel: "",
-        unit: Unit::Bytes,
-        names: 0,
-    },
-    Note {
-        kernel: "",
-        unit: Unit::Plain,
-        names: 0,
-    },
-    Note {
-        kernel: "",
-        unit: Unit::Bytes,
-        names: 0,
-    },
-    Note {
-        kernel: "",
-        unit: Unit::Bytes,
-        names: 0,
-    },
-    Note {
-        kernel: "",
-        unit: Unit::Plain,
-        names: 0,
-    },
+    Note { kernel: "", unit: Unit::Power, names: 0 },
+    Note { kernel: "", unit: Unit::Power, names: 0 },
+    Note { kernel: "", unit: Unit::Plain, names: 0 },
+    Note { kernel: "", unit: Unit::Bytes, names: 0 },
+    Note { kernel: "", unit: Unit::Plain, names: 0 },
+    Note { kernel: "", unit: Unit::Bytes, names: 0 },
+    Note { kernel: "", unit: Unit::Bytes, names: 0 },
+    Note { kernel: "", unit: Unit::Plain, names: 0 },
 ];
 
 // `struct tc_estimator`
+#[rattlefmt::skip]
 const STRUCT_TC_ESTIMATOR: [Note<'static>; 2] = [
-    Note {
-        kernel: "",
-        unit: Unit::Power,
-        names: 0,
-    },
-    Note {
-        kernel: "",
-        unit: Unit::Power,
-        names: 0,
-    },
+    Note { kernel: "", unit: Unit::Power, names: 0 },
+    Note { kernel: "", unit: Unit::Power, names: 0 },
 ];
 
 // `enum tc_fp`
+#[rattlefmt::skip]
 const ENUM_TC_FP: [Note<'static>; 2] = [
-    Note {
-        kernel: "TC_FP_EXPRESS",
-        unit: Unit::Plain,
-        names: 0,
-    },
-    Note {
-        kernel: "TC_FP_PREEMPTIBLE",
-        unit: Unit::Plain,
-        names: 0,
-    },
+    Note { kernel: "TC_FP_EXPRESS", unit: Unit::Plain, names: 0 },
+    Note { kernel: "TC_FP_PREEMPTIBLE", unit: Unit::Plain, names: 0 },
 ];
 
 // `struct tc_stats`
+#[rattlefmt::skip]
 const STRUCT_TC_STATS: [Note<'static>; 9] = [
-    Note {
-        kernel: "",
-        unit: Unit::Bytes,
-        names: 0,
-    },
-    Note {
-        kernel: "",
-        unit: Unit::Packets,
-        names: 0,
-    },
-    Note {
-        kernel: "",
-        unit: Unit::Packets,
-        names: 0,
-    },
-    Note {
-        kernel: "",
-        unit: Unit::Plain,
-        names: 0,
-    },
-    Note {
-        kernel: "",
-        unit: Unit::BytesPerSecond,
-        names: 0,
-    },
-    Note {
-        kernel: "",
-        unit: Unit::PacketsPerSecond,
-        names: 0,
-    },
-    Note {
-        kernel: "",
-        unit: Unit::Packets,
-        names: 0,
-    },
-    Note {
-        kernel: "",
-        unit: Unit::Bytes,
-        names: 0,
-    },
-    Note {
-        kernel: "",
-        unit: Unit::Plain,
-        names: 0,
-    },
+    Note { kernel: "", unit: Unit::Bytes, names: 0 },
+    Note { kernel: "", unit: Unit::Packets, names: 0 },
+    Note { kernel: "", unit: Unit::Packets, names: 0 },
+    Note { kernel: "", unit: Unit::Plain, names: 0 },
+    Note { kernel: "", unit: Unit::BytesPerSecond, names: 0 },
+    Note { kernel: "", unit: Unit::PacketsPerSecond, names: 0 },
+    Note { kernel: "", unit: Unit::Packets, names: 0 },
+    Note { kernel: "", unit: Unit::Bytes, names: 0 },
+    Note { kernel: "", unit: Unit::Plain, names: 0 },
 ];
 
 // `list stats`
+#[rattlefmt::skip]
 const LIST_STATS_OF_ALL: [Note<'static>; 7] = [
-    Note {
-        kernel: "TCA_STATS_BASIC",
-        unit: Unit::Plain,
-        names: 0,
-    },
-    Note {
-        kernel: "TCA_STATS_RATE_EST",
-        unit: Unit::Plain,
-        names: 0,
-    },
-    Note {
-        kernel: "TCA_STATS_QUEUE",
-        unit: Unit::Plain,
-        names: 0,
-    },
-    Note {
-        kernel: "TCA_STATS_RATE_EST64",
-        unit: Unit::Plain,
-        names: 0,
-    },
-    Note {
-        kernel: "TCA_STATS_PAD",
-        unit: Unit::Plain,
-        names: 0,
-    },
-    Note {
-        kernel: "TCA_STATS_BASIC_HW",
-        unit: Unit::Plain,
-        names: 0,
-    },
-    Note {
-        kernel: "TCA_STATS_PKT64",
-        unit: Unit::Packets,
-        names: 0,
-    },
+    Note { kernel: "TCA_STATS_BASIC", unit: Unit::Plain, names: 0 },
+    Note { kernel: "TCA_STATS_RATE_EST", unit: Unit::Plain, names: 0 },
+    Note { kernel: "TCA_STATS_QUEUE", unit: Unit::Plain, names: 0 },
+    Note { kernel: "TCA_STATS_RATE_EST64", unit: Unit::Plain, names: 0 },
+    Note { kernel: "TCA_STATS_PAD", unit: Unit::Plain, names: 0 },
+    Note { kernel: "TCA_STATS_BASIC_HW", unit: Unit::Plain, names: 0 },
+    Note { kernel: "TCA_STATS_PKT64", unit: Unit::Packets, names: 0 },
 ];
 
 // `struct gnet_stats_basic`
+#[rattlefmt::skip]
 const STRUCT_GNET_STATS_BASIC: [Note<'static>; 3] = [
-    Note {
-        kernel: "",
-        unit: Unit::Bytes,
-        names: 0,
-    },
-    Note {
-        kernel: "",
-        unit: Unit::Packets,
-        names: 0,
-    },
-    Note {
-        kernel: "",
-        unit: Unit::Plain,
-        names: 0,
-    },
+    Note { kernel: "", unit: Unit::Bytes, names: 0 },
+    Note { kernel: "", unit: Unit::Packets, names: 0 },
+    Note { kernel: "", unit: Unit::Plain, names: 0 },
 ];
 
 // `struct gnet_stats_queue`
+#[rattlefmt::skip]
 const STRUCT_GNET_STATS_QUEUE: [Note<'static>; 5] = [
-    Note {
-        kernel: "",
-        unit: Unit::Packets,
-        names: 0,
-    },
-    Note {
-        kernel: "",
-        unit: Unit::Bytes,
-        names: 0,
-    },
-    Note {
-        kernel: "",
-        unit: Unit::Packets,
-        names: 0,
-    },
-    Note {
-        kernel: "",
-        unit: Unit::Packets,
-        names: 0,
-    },
-    Note {
-        kernel: "",
-        unit: Unit::Plain,
-        names: 0,
-    },
+    Note { kernel: "", unit: Unit::Packets, names: 0 },
+    Note { kernel: "", unit: Unit::Bytes, names: 0 },
+    Note { kernel: "", unit: Unit::Packets, names: 0 },
+    Note { kernel: "", unit: Unit::Packets, names: 0 },
+    Note { kernel: "", unit: Unit::Plain, names: 0 },
 ];
 
 // `struct gnet_stats_rate_est`
+#[rattlefmt::skip]
 const STRUCT_GNET_STATS_RATE_EST: [Note<'static>; 2] = [
-    Note {
-        kernel: "",
-        unit: Unit::BytesPerSecond,
-        names: 0,
-    },
-    Note {
-        kernel: "",
-        unit: Unit::PacketsPerSecond,
-        names: 0,
-    },
+    Note { kernel: "", unit: Unit::BytesPerSecond, names: 0 },
+    Note { kernel: "", unit: Unit::PacketsPerSecond, names: 0 },
 ];

@@ -2,264 +2,110 @@
 
 ghost use Rattle.std.specs.Prelude.{◌≡◌};
 ghost use Rattle.tc_lines.specs.Columns.{columns_view};
-ghost use Rattle.tc_columns.specs.Tables.ColumnsOfEmatch.{columns_of_ematch_150};
-ghost use Rattle.tc_columns.specs.Tables.ColumnsOfEmatch.{columns_of_ematch_151};
-ghost use Rattle.tc_columns.specs.Tables.ColumnsOfEmatch.{columns_of_ematch};
+ghost use Rattle.tc_columns.specs.Tables.ColumnsOfEmatch.{columns_of_ematch_150, columns_of_ematch_151, columns_of_ematch};
 
 use tc_lines::{Column, How};
 use tc_units::Unit;
 
 // `list ematch_tree`
+#[rattlefmt::skip]
 const LIST_EMATCH_TREE: [Column<'static>; 2] = [
-    Column {
-        key: "Hdr",
-        name: "hdr",
-        how: How::Within(1801),
-    },
-    Column {
-        key: "List",
-        name: "list",
-        how: How::Within(1202),
-    },
+    Column { key: "Hdr", name: "hdr", how: How::Within(1801) },
+    Column { key: "List", name: "list", how: How::Within(1202) },
 ];
 
 // `struct tcf_ematch_tree_hdr`
+#[rattlefmt::skip]
 const STRUCT_TCF_EMATCH_TREE_HDR: [Column<'static>; 2] = [
-    Column {
-        key: "nmatches",
-        name: "nmatches",
-        how: How::Plain,
-    },
-    Column {
-        key: "progid",
-        name: "progid",
-        how: How::Plain,
-    },
+    Column { key: "nmatches", name: "nmatches", how: How::Plain },
+    Column { key: "progid", name: "progid", how: How::Plain },
 ];
 
 // `choice ematch`
+#[rattlefmt::skip]
 const CHOICE_EMATCH: [Column<'static>; 9] = [
-    Column {
-        key: "Container",
-        name: "container",
-        how: How::Through(1803),
-    },
-    Column {
-        key: "Cmp",
-        name: "cmp",
-        how: How::Through(1804),
-    },
-    Column {
-        key: "Nbyte",
-        name: "nbyte",
-        how: How::Through(1806),
-    },
-    Column {
-        key: "U32",
-        name: "u32",
-        how: How::Through(1808),
-    },
-    Column {
-        key: "Meta",
-        name: "meta",
-        how: How::Through(1809),
-    },
-    Column {
-        key: "Text",
-        name: "text",
-        how: How::Through(1814),
-    },
-    Column {
-        key: "Canid",
-        name: "canid",
-        how: How::Through(1816),
-    },
-    Column {
-        key: "Ipset",
-        name: "ipset",
-        how: How::Through(1818),
-    },
-    Column {
-        key: "Ipt",
-        name: "ipt",
-        how: How::Through(1820),
-    },
+    Column { key: "Container", name: "container", how: How::Through(1803) },
+    Column { key: "Cmp", name: "cmp", how: How::Through(1804) },
+    Column { key: "Nbyte", name: "nbyte", how: How::Through(1806) },
+    Column { key: "U32", name: "u32", how: How::Through(1808) },
+    Column { key: "Meta", name: "meta", how: How::Through(1809) },
+    Column { key: "Text", name: "text", how: How::Through(1814) },
+    Column { key: "Canid", name: "canid", how: How::Through(1816) },
+    Column { key: "Ipset", name: "ipset", how: How::Through(1818) },
+    Column { key: "Ipt", name: "ipt", how: How::Through(1820) },
 ];
 
 // `struct ematch_container`
+#[rattlefmt::skip]
 const STRUCT_EMATCH_CONTAINER: [Column<'static>; 3] = [
-    Column {
-        key: "flags",
-        name: "flags",
-        how: How::Flags(24013),
-    },
-    Column {
-        key: "padding",
-        name: "padding",
-        how: How::Plain,
-    },
-    Column {
-        key: "first",
-        name: "first",
-        how: How::Plain,
-    },
+    Column { key: "flags", name: "flags", how: How::Flags(24013) },
+    Column { key: "padding", name: "padding", how: How::Plain },
+    Column { key: "first", name: "first", how: How::Plain },
 ];
 
 // `struct ematch_cmp`
+#[rattlefmt::skip]
 const STRUCT_EMATCH_CMP: [Column<'static>; 3] = [
-    Column {
-        key: "flags",
-        name: "flags",
-        how: How::Flags(24013),
-    },
-    Column {
-        key: "padding",
-        name: "padding",
-        how: How::Plain,
-    },
-    Column {
-        key: "match",
-        name: "match",
-        how: How::Within(1805),
-    },
+    Column { key: "flags", name: "flags", how: How::Flags(24013) },
+    Column { key: "padding", name: "padding", how: How::Plain },
+    Column { key: "match", name: "match", how: How::Within(1805) },
 ];
 
 // `struct tcf_em_cmp`
+#[rattlefmt::skip]
 const STRUCT_TCF_EM_CMP: [Column<'static>; 5] = [
-    Column {
-        key: "val",
-        name: "val",
-        how: How::Number(Unit::Hex),
-    },
-    Column {
-        key: "mask",
-        name: "mask",
-        how: How::Number(Unit::Hex),
-    },
-    Column {
-        key: "off",
-        name: "off",
-        how: How::Number(Unit::Bytes),
-    },
-    Column {
-        key: "align_flags",
-        name: "align_flags",
-        how: How::Named(Unit::Hex, 24014),
-    },
-    Column {
-        key: "layer_opnd",
-        name: "layer_opnd",
-        how: How::Named(Unit::Hex, 24015),
-    },
+    Column { key: "val", name: "val", how: How::Number(Unit::Hex) },
+    Column { key: "mask", name: "mask", how: How::Number(Unit::Hex) },
+    Column { key: "off", name: "off", how: How::Number(Unit::Bytes) },
+    Column { key: "align_flags", name: "align_flags", how: How::Named(Unit::Hex, 24014) },
+    Column { key: "layer_opnd", name: "layer_opnd", how: How::Named(Unit::Hex, 24015) },
 ];
 
 // `struct ematch_nbyte`
+#[rattlefmt::skip]
 const STRUCT_EMATCH_NBYTE: [Column<'static>; 4] = [
-    Column {
-        key: "flags",
-        name: "flags",
-        how: How::Flags(24013),
-    },
-    Column {
-        key: "padding",
-        name: "padding",
-        how: How::Plain,
-    },
-    Column {
-        key: "match",
-        name: "match",
-        how: How::Within(1807),
-    },
-    Column {
-        key: "needle",
-        name: "needle",
-        how: How::Plain,
-    },
+    Column { key: "flags", name: "flags", how: How::Flags(24013) },
+    Column { key: "padding", name: "padding", how: How::Plain },
+    Column { key: "match", name: "match", how: How::Within(1807) },
+    Column { key: "needle", name: "needle", how: How::Plain },
 ];
 
 // `struct tcf_em_nbyte`
+#[rattlefmt::skip]
 const STRUCT_TCF_EM_NBYTE: [Column<'static>; 2] = [
-    Column {
-        key: "off",
-        name: "off",
-        how: How::Number(Unit::Bytes),
-    },
-    Column {
-        key: "len_layer",
-        name: "len_layer",
-        how: How::Plain,
-    },
+    Column { key: "off", name: "off", how: How::Number(Unit::Bytes) },
+    Column { key: "len_layer", name: "len_layer", how: How::Plain },
 ];
 
 // `struct ematch_u32`
+#[rattlefmt::skip]
 const STRUCT_EMATCH_U32: [Column<'static>; 3] = [
-    Column {
-        key: "flags",
-        name: "flags",
-        how: How::Flags(24013),
-    },
-    Column {
-        key: "padding",
-        name: "padding",
-        how: How::Plain,
-    },
-    Column {
-        key: "match",
-        name: "match",
-        how: How::Within(2522),
-    },
+    Column { key: "flags", name: "flags", how: How::Flags(24013) },
+    Column { key: "padding", name: "padding", how: How::Plain },
+    Column { key: "match", name: "match", how: How::Within(2522) },
 ];
 
 // `struct ematch_meta`
+#[rattlefmt::skip]
 const STRUCT_EMATCH_META: [Column<'static>; 3] = [
-    Column {
-        key: "flags",
-        name: "flags",
-        how: How::Flags(24013),
-    },
-    Column {
-        key: "padding",
-        name: "padding",
-        how: How::Plain,
-    },
-    Column {
-        key: "attributes",
-        name: "attributes",
-        how: How::Through(1810),
-    },
+    Column { key: "flags", name: "flags", how: How::Flags(24013) },
+    Column { key: "padding", name: "padding", how: How::Plain },
+    Column { key: "attributes", name: "attributes", how: How::Through(1810) },
 ];
 
 // `list em_meta`
+#[rattlefmt::skip]
 const LIST_EM_META: [Column<'static>; 3] = [
-    Column {
-        key: "Hdr",
-        name: "hdr",
-        how: How::Within(1811),
-    },
-    Column {
-        key: "Lvalue",
-        name: "lvalue",
-        how: How::Plain,
-    },
-    Column {
-        key: "Rvalue",
-        name: "rvalue",
-        how: How::Plain,
-    },
+    Column { key: "Hdr", name: "hdr", how: How::Within(1811) },
+    Column { key: "Lvalue", name: "lvalue", how: How::Plain },
+    Column { key: "Rvalue", name: "rvalue", how: How::Plain },
 ];
 
 // `struct tcf_meta_hdr`
+#[rattlefmt::skip]
 const STRUCT_TCF_META_HDR: [Column<'static>; 2] = [
-    Column {
-        key: "left",
-        name: "left",
-        how: How::Within(1812),
-    },
-    Column {
-        key: "right",
-        name: "right",
-        how: How::Within(1812),
-    },
+    Column { key: "left", name: "left", how: How::Within(1812) },
+    Column { key: "right", name: "right", how: How::Within(1812) },
 ];
 
 #[tactic(auto, unfolding(crate::specs::Tables::ColumnsOfEmatch::columns_of_ematch_150))]
@@ -284,199 +130,80 @@ pub(crate) fn columns_of_ematch_150(place: usize) -> &'static [Column<'static>]
 }
 
 // `struct tcf_meta_val`
+#[rattlefmt::skip]
 const STRUCT_TCF_META_VAL: [Column<'static>; 3] = [
-    Column {
-        key: "kind",
-        name: "kind",
-        how: How::Number(Unit::Hex),
-    },
-    Column {
-        key: "shift",
-        name: "shift",
-        how: How::Plain,
-    },
-    Column {
-        key: "op",
-        name: "op",
-        how: How::Text(1813, 13813),
-    },
+    Column { key: "kind", name: "kind", how: How::Number(Unit::Hex) },
+    Column { key: "shift", name: "shift", how: How::Plain },
+    Column { key: "op", name: "op", how: How::Text(1813, 13813) },
 ];
 
 // `struct ematch_text`
+#[rattlefmt::skip]
 const STRUCT_EMATCH_TEXT: [Column<'static>; 4] = [
-    Column {
-        key: "flags",
-        name: "flags",
-        how: How::Flags(24013),
-    },
-    Column {
-        key: "padding",
-        name: "padding",
-        how: How::Plain,
-    },
-    Column {
-        key: "match",
-        name: "match",
-        how: How::Within(1815),
-    },
-    Column {
-        key: "pattern",
-        name: "pattern",
-        how: How::Plain,
-    },
+    Column { key: "flags", name: "flags", how: How::Flags(24013) },
+    Column { key: "padding", name: "padding", how: How::Plain },
+    Column { key: "match", name: "match", how: How::Within(1815) },
+    Column { key: "pattern", name: "pattern", how: How::Plain },
 ];
 
 // `struct tcf_em_text`
+#[rattlefmt::skip]
 const STRUCT_TCF_EM_TEXT: [Column<'static>; 6] = [
-    Column {
-        key: "algo",
-        name: "algo",
-        how: How::Plain,
-    },
-    Column {
-        key: "from_offset",
-        name: "from_offset",
-        how: How::Number(Unit::Bytes),
-    },
-    Column {
-        key: "to_offset",
-        name: "to_offset",
-        how: How::Number(Unit::Bytes),
-    },
-    Column {
-        key: "pattern_len",
-        name: "pattern_len",
-        how: How::Number(Unit::Bytes),
-    },
-    Column {
-        key: "layers",
-        name: "layers",
-        how: How::Plain,
-    },
-    Column {
-        key: "pad",
-        name: "pad",
-        how: How::Plain,
-    },
+    Column { key: "algo", name: "algo", how: How::Plain },
+    Column { key: "from_offset", name: "from_offset", how: How::Number(Unit::Bytes) },
+    Column { key: "to_offset", name: "to_offset", how: How::Number(Unit::Bytes) },
+    Column { key: "pattern_len", name: "pattern_len", how: How::Number(Unit::Bytes) },
+    Column { key: "layers", name: "layers", how: How::Plain },
+    Column { key: "pad", name: "pad", how: How::Plain },
 ];
 
 // `struct ematch_canid`
+#[rattlefmt::skip]
 const STRUCT_EMATCH_CANID: [Column<'static>; 3] = [
-    Column {
-        key: "flags",
-        name: "flags",
-        how: How::Flags(24013),
-    },
-    Column {
-        key: "padding",
-        name: "padding",
-        how: How::Plain,
-    },
-    Column {
-        key: "match",
-        name: "match",
-        how: How::Elements(1817),
-    },
+    Column { key: "flags", name: "flags", how: How::Flags(24013) },
+    Column { key: "padding", name: "padding", how: How::Plain },
+    Column { key: "match", name: "match", how: How::Elements(1817) },
 ];
 
 // `struct can_filter`
+#[rattlefmt::skip]
 const STRUCT_CAN_FILTER: [Column<'static>; 2] = [
-    Column {
-        key: "can_id",
-        name: "can_id",
-        how: How::Number(Unit::Hex),
-    },
-    Column {
-        key: "can_mask",
-        name: "can_mask",
-        how: How::Number(Unit::Hex),
-    },
+    Column { key: "can_id", name: "can_id", how: How::Number(Unit::Hex) },
+    Column { key: "can_mask", name: "can_mask", how: How::Number(Unit::Hex) },
 ];
 
 // `struct ematch_ipset`
+#[rattlefmt::skip]
 const STRUCT_EMATCH_IPSET: [Column<'static>; 3] = [
-    Column {
-        key: "flags",
-        name: "flags",
-        how: How::Flags(24013),
-    },
-    Column {
-        key: "padding",
-        name: "padding",
-        how: How::Plain,
-    },
-    Column {
-        key: "match",
-        name: "match",
-        how: How::Within(1819),
-    },
+    Column { key: "flags", name: "flags", how: How::Flags(24013) },
+    Column { key: "padding", name: "padding", how: How::Plain },
+    Column { key: "match", name: "match", how: How::Within(1819) },
 ];
 
 // `struct xt_set_info`
+#[rattlefmt::skip]
 const STRUCT_XT_SET_INFO: [Column<'static>; 3] = [
-    Column {
-        key: "index",
-        name: "index",
-        how: How::Plain,
-    },
-    Column {
-        key: "dim",
-        name: "dim",
-        how: How::Plain,
-    },
-    Column {
-        key: "flags",
-        name: "flags",
-        how: How::Plain,
-    },
+    Column { key: "index", name: "index", how: How::Plain },
+    Column { key: "dim", name: "dim", how: How::Plain },
+    Column { key: "flags", name: "flags", how: How::Plain },
 ];
 
 // `struct ematch_ipt`
+#[rattlefmt::skip]
 const STRUCT_EMATCH_IPT: [Column<'static>; 3] = [
-    Column {
-        key: "flags",
-        name: "flags",
-        how: How::Flags(24013),
-    },
-    Column {
-        key: "padding",
-        name: "padding",
-        how: How::Plain,
-    },
-    Column {
-        key: "attributes",
-        name: "attributes",
-        how: How::Through(1821),
-    },
+    Column { key: "flags", name: "flags", how: How::Flags(24013) },
+    Column { key: "padding", name: "padding", how: How::Plain },
+    Column { key: "attributes", name: "attributes", how: How::Through(1821) },
 ];
 
 // `list em_ipt`
+#[rattlefmt::skip]
 const LIST_EM_IPT: [Column<'static>; 5] = [
-    Column {
-        key: "Hook",
-        name: "hook",
-        how: How::Plain,
-    },
-    Column {
-        key: "MatchName",
-        name: "match_name",
-        how: How::Plain,
-    },
-    Column {
-        key: "MatchRevision",
-        name: "match_revision",
-        how: How::Plain,
-    },
-    Column {
-        key: "Nfproto",
-        name: "nfproto",
-        how: How::Plain,
-    },
-    Column {
-        key: "MatchData",
-        name: "match_data",
-        how: How::Plain,
-    },
+    Column { key: "Hook", name: "hook", how: How::Plain },
+    Column { key: "MatchName", name: "match_name", how: How::Plain },
+    Column { key: "MatchRevision", name: "match_revision", how: How::Plain },
+    Column { key: "Nfproto", name: "nfproto", how: How::Plain },
+    Column { key: "MatchData", name: "match_data", how: How::Plain },
 ];
 
 #[tactic(auto, unfolding(crate::specs::Tables::ColumnsOfEmatch::columns_of_ematch_151))]

@@ -2,34 +2,18 @@
 
 ghost use Rattle.std.specs.Prelude.{◌≡◌};
 ghost use Rattle.tc_units.specs.Names.{names_view};
-ghost use Rattle.tc_columns.specs.Tables.NamesOfActions.{names_of_actions_55};
-ghost use Rattle.tc_columns.specs.Tables.NamesOfActions.{names_of_actions_59};
-ghost use Rattle.tc_columns.specs.Tables.NamesOfActions.{names_of_actions_60};
-ghost use Rattle.tc_columns.specs.Tables.NamesOfActions.{names_of_actions_62};
-ghost use Rattle.tc_columns.specs.Tables.NamesOfActions.{names_of_actions_69};
-ghost use Rattle.tc_columns.specs.Tables.NamesOfActions.{names_of_actions_1055};
-ghost use Rattle.tc_columns.specs.Tables.NamesOfActions.{names_of_actions_1059};
-ghost use Rattle.tc_columns.specs.Tables.NamesOfActions.{names_of_actions_1060};
-ghost use Rattle.tc_columns.specs.Tables.NamesOfActions.{names_of_actions_1062};
-ghost use Rattle.tc_columns.specs.Tables.NamesOfActions.{names_of_actions_1069};
-ghost use Rattle.tc_columns.specs.Tables.NamesOfActions.{names_of_actions};
+ghost use Rattle.tc_columns.specs.Tables.NamesOfActions.{names_of_actions_55, names_of_actions_59, names_of_actions_60, names_of_actions_62};
+ghost use Rattle.tc_columns.specs.Tables.NamesOfActions.{names_of_actions_69, names_of_actions_1055, names_of_actions_1059, names_of_actions_1060};
+ghost use Rattle.tc_columns.specs.Tables.NamesOfActions.{names_of_actions_1062, names_of_actions_1069, names_of_actions};
 
 use tc_units::Name;
 
 // `enum pgact`
+#[rattlefmt::skip]
 const ENUM_PGACT: [Name<'static>; 3] = [
-    Name {
-        number: 0,
-        name: "None",
-    },
-    Name {
-        number: 1,
-        name: "Netrand",
-    },
-    Name {
-        number: 2,
-        name: "Determ",
-    },
+    Name { number: 0, name: "None" },
+    Name { number: 1, name: "Netrand" },
+    Name { number: 2, name: "Determ" },
 ];
 
 #[tactic(auto, unfolding(crate::specs::Tables::NamesOfActions::names_of_actions_55))]
@@ -43,23 +27,12 @@ pub(crate) fn names_of_actions_55(place: usize) -> &'static [Name<'static>]
 }
 
 // `enum tca_mirred`
+#[rattlefmt::skip]
 const ENUM_TCA_MIRRED: [Name<'static>; 4] = [
-    Name {
-        number: 1,
-        name: "EgressRedir",
-    },
-    Name {
-        number: 2,
-        name: "EgressMirror",
-    },
-    Name {
-        number: 3,
-        name: "IngressRedir",
-    },
-    Name {
-        number: 4,
-        name: "IngressMirror",
-    },
+    Name { number: 1, name: "EgressRedir" },
+    Name { number: 2, name: "EgressMirror" },
+    Name { number: 3, name: "IngressRedir" },
+    Name { number: 4, name: "IngressMirror" },
 ];
 
 #[tactic(auto, unfolding(crate::specs::Tables::NamesOfActions::names_of_actions_59))]
@@ -73,27 +46,13 @@ pub(crate) fn names_of_actions_59(place: usize) -> &'static [Name<'static>]
 }
 
 // `enum tca_mpls_act`
+#[rattlefmt::skip]
 const ENUM_TCA_MPLS_ACT: [Name<'static>; 5] = [
-    Name {
-        number: 1,
-        name: "Pop",
-    },
-    Name {
-        number: 2,
-        name: "Push",
-    },
-    Name {
-        number: 3,
-        name: "Modify",
-    },
-    Name {
-        number: 4,
-        name: "DecTtl",
-    },
-    Name {
-        number: 5,
-        name: "MacPush",
-    },
+    Name { number: 1, name: "Pop" },
+    Name { number: 2, name: "Push" },
+    Name { number: 3, name: "Modify" },
+    Name { number: 4, name: "DecTtl" },
+    Name { number: 5, name: "MacPush" },
 ];
 
 #[tactic(auto, unfolding(crate::specs::Tables::NamesOfActions::names_of_actions_60))]
@@ -107,49 +66,27 @@ pub(crate) fn names_of_actions_60(place: usize) -> &'static [Name<'static>]
 }
 
 // what each is called
-const EACH_KEY_746: [Name<'static>; 1] = [Name {
-    number: 0,
-    name: "key",
-}];
+#[rattlefmt::skip]
+const EACH_KEY_746: [Name<'static>; 1] = [
+    Name { number: 0, name: "key" },
+];
 
 // `enum pedit_header_type`
+#[rattlefmt::skip]
 const ENUM_PEDIT_HEADER_TYPE: [Name<'static>; 6] = [
-    Name {
-        number: 0,
-        name: "Network",
-    },
-    Name {
-        number: 1,
-        name: "Eth",
-    },
-    Name {
-        number: 2,
-        name: "Ip4",
-    },
-    Name {
-        number: 3,
-        name: "Ip6",
-    },
-    Name {
-        number: 4,
-        name: "Tcp",
-    },
-    Name {
-        number: 5,
-        name: "Udp",
-    },
+    Name { number: 0, name: "Network" },
+    Name { number: 1, name: "Eth" },
+    Name { number: 2, name: "Ip4" },
+    Name { number: 3, name: "Ip6" },
+    Name { number: 4, name: "Tcp" },
+    Name { number: 5, name: "Udp" },
 ];
 
 // `enum pedit_cmd`
+#[rattlefmt::skip]
 const ENUM_PEDIT_CMD: [Name<'static>; 2] = [
-    Name {
-        number: 0,
-        name: "Set",
-    },
-    Name {
-        number: 1,
-        name: "Add",
-    },
+    Name { number: 0, name: "Set" },
+    Name { number: 1, name: "Add" },
 ];
 
 #[tactic(auto, unfolding(crate::specs::Tables::NamesOfActions::names_of_actions_62))]
@@ -165,27 +102,13 @@ pub(crate) fn names_of_actions_62(place: usize) -> &'static [Name<'static>]
 }
 
 // `enum tca_vlan_act`
+#[rattlefmt::skip]
 const ENUM_TCA_VLAN_ACT: [Name<'static>; 5] = [
-    Name {
-        number: 1,
-        name: "Pop",
-    },
-    Name {
-        number: 2,
-        name: "Push",
-    },
-    Name {
-        number: 3,
-        name: "Modify",
-    },
-    Name {
-        number: 4,
-        name: "PopEth",
-    },
-    Name {
-        number: 5,
-        name: "PushEth",
-    },
+    Name { number: 1, name: "Pop" },
+    Name { number: 2, name: "Push" },
+    Name { number: 3, name: "Modify" },
+    Name { number: 4, name: "PopEth" },
+    Name { number: 5, name: "PushEth" },
 ];
 
 #[tactic(auto, unfolding(crate::specs::Tables::NamesOfActions::names_of_actions_69))]
@@ -199,19 +122,11 @@ pub(crate) fn names_of_actions_69(place: usize) -> &'static [Name<'static>]
 }
 
 // `enum pgact` for people
+#[rattlefmt::skip]
 const ENUM_PGACT_FOR_PEOPLE: [Name<'static>; 3] = [
-    Name {
-        number: 0,
-        name: "none",
-    },
-    Name {
-        number: 1,
-        name: "netrand",
-    },
-    Name {
-        number: 2,
-        name: "determ",
-    },
+    Name { number: 0, name: "none" },
+    Name { number: 1, name: "netrand" },
+    Name { number: 2, name: "determ" },
 ];
 
 #[tactic(auto, unfolding(crate::specs::Tables::NamesOfActions::names_of_actions_1055))]
@@ -225,23 +140,12 @@ pub(crate) fn names_of_actions_1055(place: usize) -> &'static [Name<'static>]
 }
 
 // `enum tca_mirred` for people
+#[rattlefmt::skip]
 const ENUM_TCA_MIRRED_FOR_PEOPLE: [Name<'static>; 4] = [
-    Name {
-        number: 1,
-        name: "egress_redir",
-    },
-    Name {
-        number: 2,
-        name: "egress_mirror",
-    },
-    Name {
-        number: 3,
-        name: "ingress_redir",
-    },
-    Name {
-        number: 4,
-        name: "ingress_mirror",
-    },
+    Name { number: 1, name: "egress_redir" },
+    Name { number: 2, name: "egress_mirror" },
+    Name { number: 3, name: "ingress_redir" },
+    Name { number: 4, name: "ingress_mirror" },
 ];
 
 #[tactic(auto, unfolding(crate::specs::Tables::NamesOfActions::names_of_actions_1059))]
@@ -255,27 +159,13 @@ pub(crate) fn names_of_actions_1059(place: usize) -> &'static [Name<'static>]
 }
 
 // `enum tca_mpls_act` for people
+#[rattlefmt::skip]
 const ENUM_TCA_MPLS_ACT_FOR_PEOPLE: [Name<'static>; 5] = [
-    Name {
-        number: 1,
-        name: "pop",
-    },
-    Name {
-        number: 2,
-        name: "push",
-    },
-    Name {
-        number: 3,
-        name: "modify",
-    },
-    Name {
-        number: 4,
-        name: "dec_ttl",
-    },
-    Name {
-        number: 5,
-        name: "mac_push",
-    },
+    Name { number: 1, name: "pop" },
+    Name { number: 2, name: "push" },
+    Name { number: 3, name: "modify" },
+    Name { number: 4, name: "dec_ttl" },
+    Name { number: 5, name: "mac_push" },
 ];
 
 #[tactic(auto, unfolding(crate::specs::Tables::NamesOfActions::names_of_actions_1060))]
@@ -289,43 +179,21 @@ pub(crate) fn names_of_actions_1060(place: usize) -> &'static [Name<'static>]
 }
 
 // `enum pedit_header_type` for people
+#[rattlefmt::skip]
 const ENUM_PEDIT_HEADER_TYPE_FOR_PEOPLE: [Name<'static>; 6] = [
-    Name {
-        number: 0,
-        name: "network",
-    },
-    Name {
-        number: 1,
-        name: "eth",
-    },
-    Name {
-        number: 2,
-        name: "ip4",
-    },
-    Name {
-        number: 3,
-        name: "ip6",
-    },
-    Name {
-        number: 4,
-        name: "tcp",
-    },
-    Name {
-        number: 5,
-        name: "udp",
-    },
+    Name { number: 0, name: "network" },
+    Name { number: 1, name: "eth" },
+    Name { number: 2, name: "ip4" },
+    Name { number: 3, name: "ip6" },
+    Name { number: 4, name: "tcp" },
+    Name { number: 5, name: "udp" },
 ];
 
 // `enum pedit_cmd` for people
+#[rattlefmt::skip]
 const ENUM_PEDIT_CMD_FOR_PEOPLE: [Name<'static>; 2] = [
-    Name {
-        number: 0,
-        name: "set",
-    },
-    Name {
-        number: 1,
-        name: "add",
-    },
+    Name { number: 0, name: "set" },
+    Name { number: 1, name: "add" },
 ];
 
 #[tactic(auto, unfolding(crate::specs::Tables::NamesOfActions::names_of_actions_1062))]
@@ -340,27 +208,13 @@ pub(crate) fn names_of_actions_1062(place: usize) -> &'static [Name<'static>]
 }
 
 // `enum tca_vlan_act` for people
+#[rattlefmt::skip]
 const ENUM_TCA_VLAN_ACT_FOR_PEOPLE: [Name<'static>; 5] = [
-    Name {
-        number: 1,
-        name: "pop",
-    },
-    Name {
-        number: 2,
-        name: "push",
-    },
-    Name {
-        number: 3,
-        name: "modify",
-    },
-    Name {
-        number: 4,
-        name: "pop_eth",
-    },
-    Name {
-        number: 5,
-        name: "push_eth",
-    },
+    Name { number: 1, name: "pop" },
+    Name { number: 2, name: "push" },
+    Name { number: 3, name: "modify" },
+    Name { number: 4, name: "pop_eth" },
+    Name { number: 5, name: "push_eth" },
 ];
 
 #[tactic(auto, unfolding(crate::specs::Tables::NamesOfActions::names_of_actions_1069))]

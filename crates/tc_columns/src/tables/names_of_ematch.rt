@@ -2,33 +2,23 @@
 
 ghost use Rattle.std.specs.Prelude.{◌≡◌};
 ghost use Rattle.tc_units.specs.Names.{names_view};
-ghost use Rattle.tc_columns.specs.Tables.NamesOfEmatch.{names_of_ematch_151};
-ghost use Rattle.tc_columns.specs.Tables.NamesOfEmatch.{names_of_ematch_1151};
-ghost use Rattle.tc_columns.specs.Tables.NamesOfEmatch.{names_of_ematch};
+ghost use Rattle.tc_columns.specs.Tables.NamesOfEmatch.{names_of_ematch_151, names_of_ematch_1151, names_of_ematch};
 
 use tc_units::Name;
 
 // `enum tcf_em_opnd`
+#[rattlefmt::skip]
 const ENUM_TCF_EM_OPND: [Name<'static>; 3] = [
-    Name {
-        number: 0,
-        name: "Eq",
-    },
-    Name {
-        number: 1,
-        name: "Gt",
-    },
-    Name {
-        number: 2,
-        name: "Lt",
-    },
+    Name { number: 0, name: "Eq" },
+    Name { number: 1, name: "Gt" },
+    Name { number: 2, name: "Lt" },
 ];
 
 // what each is called
-const EACH_ID_1817: [Name<'static>; 1] = [Name {
-    number: 0,
-    name: "id",
-}];
+#[rattlefmt::skip]
+const EACH_ID_1817: [Name<'static>; 1] = [
+    Name { number: 0, name: "id" },
+];
 
 #[tactic(auto, unfolding(crate::specs::Tables::NamesOfEmatch::names_of_ematch_151))]
 pub(crate) fn names_of_ematch_151(place: usize) -> &'static [Name<'static>]
@@ -42,19 +32,11 @@ pub(crate) fn names_of_ematch_151(place: usize) -> &'static [Name<'static>]
 }
 
 // `enum tcf_em_opnd` for people
+#[rattlefmt::skip]
 const ENUM_TCF_EM_OPND_FOR_PEOPLE: [Name<'static>; 3] = [
-    Name {
-        number: 0,
-        name: "eq",
-    },
-    Name {
-        number: 1,
-        name: "gt",
-    },
-    Name {
-        number: 2,
-        name: "lt",
-    },
+    Name { number: 0, name: "eq" },
+    Name { number: 1, name: "gt" },
+    Name { number: 2, name: "lt" },
 ];
 
 #[tactic(auto, unfolding(crate::specs::Tables::NamesOfEmatch::names_of_ematch_1151))]

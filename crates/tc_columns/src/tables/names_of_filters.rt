@@ -2,23 +2,15 @@
 
 ghost use Rattle.std.specs.Prelude.{◌≡◌};
 ghost use Rattle.tc_units.specs.Names.{names_view};
-ghost use Rattle.tc_columns.specs.Tables.NamesOfFilters.{names_of_filters_203};
-ghost use Rattle.tc_columns.specs.Tables.NamesOfFilters.{names_of_filters_210};
-ghost use Rattle.tc_columns.specs.Tables.NamesOfFilters.{names_of_filters_1203};
-ghost use Rattle.tc_columns.specs.Tables.NamesOfFilters.{names_of_filters};
+ghost use Rattle.tc_columns.specs.Tables.NamesOfFilters.{names_of_filters_203, names_of_filters_210, names_of_filters_1203, names_of_filters};
 
 use tc_units::Name;
 
 // `enum flow_mode`
+#[rattlefmt::skip]
 const ENUM_FLOW_MODE: [Name<'static>; 2] = [
-    Name {
-        number: 0,
-        name: "Map",
-    },
-    Name {
-        number: 1,
-        name: "Hash",
-    },
+    Name { number: 0, name: "Map" },
+    Name { number: 1, name: "Hash" },
 ];
 
 #[tactic(auto, unfolding(crate::specs::Tables::NamesOfFilters::names_of_filters_203))]
@@ -32,10 +24,10 @@ pub(crate) fn names_of_filters_203(place: usize) -> &'static [Name<'static>]
 }
 
 // what each is called
-const EACH_KEY_2522: [Name<'static>; 1] = [Name {
-    number: 0,
-    name: "key",
-}];
+#[rattlefmt::skip]
+const EACH_KEY_2522: [Name<'static>; 1] = [
+    Name { number: 0, name: "key" },
+];
 
 #[tactic(auto, unfolding(crate::specs::Tables::NamesOfFilters::names_of_filters_210))]
 pub(crate) fn names_of_filters_210(place: usize) -> &'static [Name<'static>]
@@ -48,15 +40,10 @@ pub(crate) fn names_of_filters_210(place: usize) -> &'static [Name<'static>]
 }
 
 // `enum flow_mode` for people
+#[rattlefmt::skip]
 const ENUM_FLOW_MODE_FOR_PEOPLE: [Name<'static>; 2] = [
-    Name {
-        number: 0,
-        name: "map",
-    },
-    Name {
-        number: 1,
-        name: "hash",
-    },
+    Name { number: 0, name: "map" },
+    Name { number: 1, name: "hash" },
 ];
 
 #[tactic(auto, unfolding(crate::specs::Tables::NamesOfFilters::names_of_filters_1203))]

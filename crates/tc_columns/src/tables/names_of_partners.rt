@@ -2,83 +2,81 @@
 
 ghost use Rattle.std.specs.Prelude.{◌≡◌};
 ghost use Rattle.tc_units.specs.Names.{names_view};
-ghost use Rattle.tc_columns.specs.Tables.NamesOfPartners.{names_of_partners_2500};
-ghost use Rattle.tc_columns.specs.Tables.NamesOfPartners.{names_of_partners_2501};
-ghost use Rattle.tc_columns.specs.Tables.NamesOfPartners.{names_of_partners};
+ghost use Rattle.tc_columns.specs.Tables.NamesOfPartners.{names_of_partners_2500, names_of_partners_2501, names_of_partners};
 
 use tc_units::Name;
 
 // its name
-const NAT_IPV4_MAX_END_OF_CT: [Name<'static>; 1] = [Name {
-    number: 0,
-    name: "nat_ipv4_max",
-}];
+#[rattlefmt::skip]
+const NAT_IPV4_MAX_END_OF_CT: [Name<'static>; 1] = [
+    Name { number: 0, name: "nat_ipv4_max" },
+];
 
 // its name
-const NAT_IPV6_MAX_END_OF_CT: [Name<'static>; 1] = [Name {
-    number: 0,
-    name: "nat_ipv6_max",
-}];
+#[rattlefmt::skip]
+const NAT_IPV6_MAX_END_OF_CT: [Name<'static>; 1] = [
+    Name { number: 0, name: "nat_ipv6_max" },
+];
 
 // its name
-const NAT_PORT_MAX_END_OF_CT: [Name<'static>; 1] = [Name {
-    number: 0,
-    name: "nat_port_max",
-}];
+#[rattlefmt::skip]
+const NAT_PORT_MAX_END_OF_CT: [Name<'static>; 1] = [
+    Name { number: 0, name: "nat_port_max" },
+];
 
 // its name
-const ETH_DST_MASK_MASK_OF_FLOWER: [Name<'static>; 1] = [Name {
-    number: 0,
-    name: "eth_dst_mask",
-}];
+#[rattlefmt::skip]
+const ETH_DST_MASK_MASK_OF_FLOWER: [Name<'static>; 1] = [
+    Name { number: 0, name: "eth_dst_mask" },
+];
 
 // its name
-const ETH_SRC_MASK_MASK_OF_FLOWER: [Name<'static>; 1] = [Name {
-    number: 0,
-    name: "eth_src_mask",
-}];
+#[rattlefmt::skip]
+const ETH_SRC_MASK_MASK_OF_FLOWER: [Name<'static>; 1] = [
+    Name { number: 0, name: "eth_src_mask" },
+];
 
 // its name
-const IPV4_SRC_MASK_MASK_OF_FLOWER: [Name<'static>; 1] = [Name {
-    number: 0,
-    name: "ipv4_src_mask",
-}];
+#[rattlefmt::skip]
+const IPV4_SRC_MASK_MASK_OF_FLOWER: [Name<'static>; 1] = [
+    Name { number: 0, name: "ipv4_src_mask" },
+];
 
 // its name
-const IPV4_DST_MASK_MASK_OF_FLOWER: [Name<'static>; 1] = [Name {
-    number: 0,
-    name: "ipv4_dst_mask",
-}];
+#[rattlefmt::skip]
+const IPV4_DST_MASK_MASK_OF_FLOWER: [Name<'static>; 1] = [
+    Name { number: 0, name: "ipv4_dst_mask" },
+];
 
 // its name
-const IPV6_SRC_MASK_MASK_OF_FLOWER: [Name<'static>; 1] = [Name {
-    number: 0,
-    name: "ipv6_src_mask",
-}];
+#[rattlefmt::skip]
+const IPV6_SRC_MASK_MASK_OF_FLOWER: [Name<'static>; 1] = [
+    Name { number: 0, name: "ipv6_src_mask" },
+];
 
 // its name
-const IPV6_DST_MASK_MASK_OF_FLOWER: [Name<'static>; 1] = [Name {
-    number: 0,
-    name: "ipv6_dst_mask",
-}];
+#[rattlefmt::skip]
+const IPV6_DST_MASK_MASK_OF_FLOWER: [Name<'static>; 1] = [
+    Name { number: 0, name: "ipv6_dst_mask" },
+];
 
 // its name
-const ENC_KEY_IPV4_SRC_MASK_MASK_OF_FLOWER: [Name<'static>; 1] = [Name {
-    number: 0,
-    name: "enc_key_ipv4_src_mask",
-}];
+#[rattlefmt::skip]
+const ENC_KEY_IPV4_SRC_MASK_MASK_OF_FLOWER: [Name<'static>; 1] = [
+    Name { number: 0, name: "enc_key_ipv4_src_mask" },
+];
 
 // its name
-const ENC_KEY_IPV4_DST_MASK_MASK_OF_FLOWER: [Name<'static>; 1] = [Name {
-    number: 0,
-    name: "enc_key_ipv4_dst_mask",
-}];
+#[rattlefmt::skip]
+const ENC_KEY_IPV4_DST_MASK_MASK_OF_FLOWER: [Name<'static>; 1] = [
+    Name { number: 0, name: "enc_key_ipv4_dst_mask" },
+];
 
 // its name
-const ENC_KEY_IPV6_SRC_MASK_MASK_OF_FLOWER: [Name<'static>; 1] = [Name {
-    number: 0,
-    name: "enc_key_ipv6_src_mask",
-}];
+#[rattlefmt::skip]
+const ENC_KEY_IPV6_SRC_MASK_MASK_OF_FLOWER: [Name<'static>; 1] = [
+    Name { number: 0, name: "enc_key_ipv6_src_mask" },
+];
 
 #[tactic(auto, unfolding(crate::specs::Tables::NamesOfPartners::names_of_partners_2500))]
 pub(crate) fn names_of_partners_2500(place: usize) -> &'static [Name<'static>]
@@ -102,46 +100,46 @@ pub(crate) fn names_of_partners_2500(place: usize) -> &'static [Name<'static>]
 }
 
 // its name
-const ENC_KEY_IPV6_DST_MASK_MASK_OF_FLOWER: [Name<'static>; 1] = [Name {
-    number: 0,
-    name: "enc_key_ipv6_dst_mask",
-}];
+#[rattlefmt::skip]
+const ENC_KEY_IPV6_DST_MASK_MASK_OF_FLOWER: [Name<'static>; 1] = [
+    Name { number: 0, name: "enc_key_ipv6_dst_mask" },
+];
 
 // its name
-const ARP_SIP_MASK_MASK_OF_FLOWER: [Name<'static>; 1] = [Name {
-    number: 0,
-    name: "arp_sip_mask",
-}];
+#[rattlefmt::skip]
+const ARP_SIP_MASK_MASK_OF_FLOWER: [Name<'static>; 1] = [
+    Name { number: 0, name: "arp_sip_mask" },
+];
 
 // its name
-const ARP_TIP_MASK_MASK_OF_FLOWER: [Name<'static>; 1] = [Name {
-    number: 0,
-    name: "arp_tip_mask",
-}];
+#[rattlefmt::skip]
+const ARP_TIP_MASK_MASK_OF_FLOWER: [Name<'static>; 1] = [
+    Name { number: 0, name: "arp_tip_mask" },
+];
 
 // its name
-const ARP_SHA_MASK_MASK_OF_FLOWER: [Name<'static>; 1] = [Name {
-    number: 0,
-    name: "arp_sha_mask",
-}];
+#[rattlefmt::skip]
+const ARP_SHA_MASK_MASK_OF_FLOWER: [Name<'static>; 1] = [
+    Name { number: 0, name: "arp_sha_mask" },
+];
 
 // its name
-const ARP_THA_MASK_MASK_OF_FLOWER: [Name<'static>; 1] = [Name {
-    number: 0,
-    name: "arp_tha_mask",
-}];
+#[rattlefmt::skip]
+const ARP_THA_MASK_MASK_OF_FLOWER: [Name<'static>; 1] = [
+    Name { number: 0, name: "arp_tha_mask" },
+];
 
 // its name
-const PORT_SRC_MAX_END_OF_FLOWER: [Name<'static>; 1] = [Name {
-    number: 0,
-    name: "port_src_max",
-}];
+#[rattlefmt::skip]
+const PORT_SRC_MAX_END_OF_FLOWER: [Name<'static>; 1] = [
+    Name { number: 0, name: "port_src_max" },
+];
 
 // its name
-const PORT_DST_MAX_END_OF_FLOWER: [Name<'static>; 1] = [Name {
-    number: 0,
-    name: "port_dst_max",
-}];
+#[rattlefmt::skip]
+const PORT_DST_MAX_END_OF_FLOWER: [Name<'static>; 1] = [
+    Name { number: 0, name: "port_dst_max" },
+];
 
 #[tactic(auto, unfolding(crate::specs::Tables::NamesOfPartners::names_of_partners_2501))]
 pub(crate) fn names_of_partners_2501(place: usize) -> &'static [Name<'static>]

@@ -2,110 +2,49 @@
 
 ghost use Rattle.std.specs.Prelude.{◌≡◌};
 ghost use Rattle.tc_units.specs.Names.{names_view};
-ghost use Rattle.tc_columns.specs.Tables.NamesOfQdiscs.{names_of_qdiscs_301};
-ghost use Rattle.tc_columns.specs.Tables.NamesOfQdiscs.{names_of_qdiscs_311};
-ghost use Rattle.tc_columns.specs.Tables.NamesOfQdiscs.{names_of_qdiscs_314};
-ghost use Rattle.tc_columns.specs.Tables.NamesOfQdiscs.{names_of_qdiscs_319};
-ghost use Rattle.tc_columns.specs.Tables.NamesOfQdiscs.{names_of_qdiscs_324};
-ghost use Rattle.tc_columns.specs.Tables.NamesOfQdiscs.{names_of_qdiscs_331};
-ghost use Rattle.tc_columns.specs.Tables.NamesOfQdiscs.{names_of_qdiscs_1301};
-ghost use Rattle.tc_columns.specs.Tables.NamesOfQdiscs.{names_of_qdiscs_1319};
-ghost use Rattle.tc_columns.specs.Tables.NamesOfQdiscs.{names_of_qdiscs_1324};
-ghost use Rattle.tc_columns.specs.Tables.NamesOfQdiscs.{names_of_qdiscs_1331};
-ghost use Rattle.tc_columns.specs.Tables.NamesOfQdiscs.{names_of_qdiscs};
+ghost use Rattle.tc_columns.specs.Tables.NamesOfQdiscs.{names_of_qdiscs_301, names_of_qdiscs_311, names_of_qdiscs_314, names_of_qdiscs_319};
+ghost use Rattle.tc_columns.specs.Tables.NamesOfQdiscs.{names_of_qdiscs_324, names_of_qdiscs_331, names_of_qdiscs_1301, names_of_qdiscs_1319};
+ghost use Rattle.tc_columns.specs.Tables.NamesOfQdiscs.{names_of_qdiscs_1324, names_of_qdiscs_1331, names_of_qdiscs};
 
 use tc_units::Name;
 
 // `enum cake_diffserv`
+#[rattlefmt::skip]
 const ENUM_CAKE_DIFFSERV: [Name<'static>; 5] = [
-    Name {
-        number: 0,
-        name: "Diffserv3",
-    },
-    Name {
-        number: 1,
-        name: "Diffserv4",
-    },
-    Name {
-        number: 2,
-        name: "Diffserv8",
-    },
-    Name {
-        number: 3,
-        name: "Besteffort",
-    },
-    Name {
-        number: 4,
-        name: "Precedence",
-    },
+    Name { number: 0, name: "Diffserv3" },
+    Name { number: 1, name: "Diffserv4" },
+    Name { number: 2, name: "Diffserv8" },
+    Name { number: 3, name: "Besteffort" },
+    Name { number: 4, name: "Precedence" },
 ];
 
 // `enum cake_atm`
+#[rattlefmt::skip]
 const ENUM_CAKE_ATM: [Name<'static>; 3] = [
-    Name {
-        number: 0,
-        name: "None",
-    },
-    Name {
-        number: 1,
-        name: "Atm",
-    },
-    Name {
-        number: 2,
-        name: "Ptm",
-    },
+    Name { number: 0, name: "None" },
+    Name { number: 1, name: "Atm" },
+    Name { number: 2, name: "Ptm" },
 ];
 
 // `enum cake_flow`
+#[rattlefmt::skip]
 const ENUM_CAKE_FLOW: [Name<'static>; 8] = [
-    Name {
-        number: 0,
-        name: "None",
-    },
-    Name {
-        number: 1,
-        name: "SrcIp",
-    },
-    Name {
-        number: 2,
-        name: "DstIp",
-    },
-    Name {
-        number: 3,
-        name: "Hosts",
-    },
-    Name {
-        number: 4,
-        name: "Flows",
-    },
-    Name {
-        number: 5,
-        name: "DualSrc",
-    },
-    Name {
-        number: 6,
-        name: "DualDst",
-    },
-    Name {
-        number: 7,
-        name: "Triple",
-    },
+    Name { number: 0, name: "None" },
+    Name { number: 1, name: "SrcIp" },
+    Name { number: 2, name: "DstIp" },
+    Name { number: 3, name: "Hosts" },
+    Name { number: 4, name: "Flows" },
+    Name { number: 5, name: "DualSrc" },
+    Name { number: 6, name: "DualDst" },
+    Name { number: 7, name: "Triple" },
 ];
 
 // `enum cake_ack`
+#[rattlefmt::skip]
 const ENUM_CAKE_ACK: [Name<'static>; 3] = [
-    Name {
-        number: 0,
-        name: "None",
-    },
-    Name {
-        number: 1,
-        name: "Filter",
-    },
-    Name {
-        number: 2,
-        name: "Aggressive",
-    },
+    Name { number: 0, name: "None" },
+    Name { number: 1, name: "Filter" },
+    Name { number: 2, name: "Aggressive" },
 ];
 
 #[tactic(auto, unfolding(crate::specs::Tables::NamesOfQdiscs::names_of_qdiscs_301))]
@@ -122,10 +61,10 @@ pub(crate) fn names_of_qdiscs_301(place: usize) -> &'static [Name<'static>]
 }
 
 // what each is called
-const EACH_SINCE_3734: [Name<'static>; 1] = [Name {
-    number: 0,
-    name: "since",
-}];
+#[rattlefmt::skip]
+const EACH_SINCE_3734: [Name<'static>; 1] = [
+    Name { number: 0, name: "since" },
+];
 
 #[tactic(auto, unfolding(crate::specs::Tables::NamesOfQdiscs::names_of_qdiscs_311))]
 pub(crate) fn names_of_qdiscs_311(place: usize) -> &'static [Name<'static>]
@@ -138,10 +77,10 @@ pub(crate) fn names_of_qdiscs_311(place: usize) -> &'static [Name<'static>]
 }
 
 // what each is called
-const EACH_QUEUE_3769: [Name<'static>; 1] = [Name {
-    number: 0,
-    name: "queue",
-}];
+#[rattlefmt::skip]
+const EACH_QUEUE_3769: [Name<'static>; 1] = [
+    Name { number: 0, name: "queue" },
+];
 
 #[tactic(auto, unfolding(crate::specs::Tables::NamesOfQdiscs::names_of_qdiscs_314))]
 pub(crate) fn names_of_qdiscs_314(place: usize) -> &'static [Name<'static>]
@@ -154,27 +93,17 @@ pub(crate) fn names_of_qdiscs_314(place: usize) -> &'static [Name<'static>]
 }
 
 // `enum tc_mqprio_mode`
+#[rattlefmt::skip]
 const ENUM_TC_MQPRIO_MODE: [Name<'static>; 2] = [
-    Name {
-        number: 0,
-        name: "Dcb",
-    },
-    Name {
-        number: 1,
-        name: "Channel",
-    },
+    Name { number: 0, name: "Dcb" },
+    Name { number: 1, name: "Channel" },
 ];
 
 // `enum tc_mqprio_shaper`
+#[rattlefmt::skip]
 const ENUM_TC_MQPRIO_SHAPER: [Name<'static>; 2] = [
-    Name {
-        number: 0,
-        name: "Dcb",
-    },
-    Name {
-        number: 1,
-        name: "BwRate",
-    },
+    Name { number: 0, name: "Dcb" },
+    Name { number: 1, name: "BwRate" },
 ];
 
 #[tactic(auto, unfolding(crate::specs::Tables::NamesOfQdiscs::names_of_qdiscs_319))]
@@ -189,23 +118,12 @@ pub(crate) fn names_of_qdiscs_319(place: usize) -> &'static [Name<'static>]
 }
 
 // `enum tcq_plug`
+#[rattlefmt::skip]
 const ENUM_TCQ_PLUG: [Name<'static>; 4] = [
-    Name {
-        number: 0,
-        name: "Buffer",
-    },
-    Name {
-        number: 1,
-        name: "ReleaseOne",
-    },
-    Name {
-        number: 2,
-        name: "ReleaseIndefinite",
-    },
-    Name {
-        number: 3,
-        name: "Limit",
-    },
+    Name { number: 0, name: "Buffer" },
+    Name { number: 1, name: "ReleaseOne" },
+    Name { number: 2, name: "ReleaseIndefinite" },
+    Name { number: 3, name: "Limit" },
 ];
 
 #[tactic(auto, unfolding(crate::specs::Tables::NamesOfQdiscs::names_of_qdiscs_324))]
@@ -219,19 +137,11 @@ pub(crate) fn names_of_qdiscs_324(place: usize) -> &'static [Name<'static>]
 }
 
 // `enum tc_taprio_cmd`
+#[rattlefmt::skip]
 const ENUM_TC_TAPRIO_CMD: [Name<'static>; 3] = [
-    Name {
-        number: 0,
-        name: "SetGates",
-    },
-    Name {
-        number: 1,
-        name: "SetAndHold",
-    },
-    Name {
-        number: 2,
-        name: "SetAndRelease",
-    },
+    Name { number: 0, name: "SetGates" },
+    Name { number: 1, name: "SetAndHold" },
+    Name { number: 2, name: "SetAndRelease" },
 ];
 
 #[tactic(auto, unfolding(crate::specs::Tables::NamesOfQdiscs::names_of_qdiscs_331))]
@@ -245,95 +155,42 @@ pub(crate) fn names_of_qdiscs_331(place: usize) -> &'static [Name<'static>]
 }
 
 // `enum cake_diffserv` for people
+#[rattlefmt::skip]
 const ENUM_CAKE_DIFFSERV_FOR_PEOPLE: [Name<'static>; 5] = [
-    Name {
-        number: 0,
-        name: "diffserv3",
-    },
-    Name {
-        number: 1,
-        name: "diffserv4",
-    },
-    Name {
-        number: 2,
-        name: "diffserv8",
-    },
-    Name {
-        number: 3,
-        name: "besteffort",
-    },
-    Name {
-        number: 4,
-        name: "precedence",
-    },
+    Name { number: 0, name: "diffserv3" },
+    Name { number: 1, name: "diffserv4" },
+    Name { number: 2, name: "diffserv8" },
+    Name { number: 3, name: "besteffort" },
+    Name { number: 4, name: "precedence" },
 ];
 
 // `enum cake_atm` for people
+#[rattlefmt::skip]
 const ENUM_CAKE_ATM_FOR_PEOPLE: [Name<'static>; 3] = [
-    Name {
-        number: 0,
-        name: "none",
-    },
-    Name {
-        number: 1,
-        name: "atm",
-    },
-    Name {
-        number: 2,
-        name: "ptm",
-    },
+    Name { number: 0, name: "none" },
+    Name { number: 1, name: "atm" },
+    Name { number: 2, name: "ptm" },
 ];
 
 // `enum cake_flow` for people
+#[rattlefmt::skip]
 const ENUM_CAKE_FLOW_FOR_PEOPLE: [Name<'static>; 8] = [
-    Name {
-        number: 0,
-        name: "none",
-    },
-    Name {
-        number: 1,
-        name: "src_ip",
-    },
-    Name {
-        number: 2,
-        name: "dst_ip",
-    },
-    Name {
-        number: 3,
-        name: "hosts",
-    },
-    Name {
-        number: 4,
-        name: "flows",
-    },
-    Name {
-        number: 5,
-        name: "dual_src",
-    },
-    Name {
-        number: 6,
-        name: "dual_dst",
-    },
-    Name {
-        number: 7,
-        name: "triple",
-    },
+    Name { number: 0, name: "none" },
+    Name { number: 1, name: "src_ip" },
+    Name { number: 2, name: "dst_ip" },
+    Name { number: 3, name: "hosts" },
+    Name { number: 4, name: "flows" },
+    Name { number: 5, name: "dual_src" },
+    Name { number: 6, name: "dual_dst" },
+    Name { number: 7, name: "triple" },
 ];
 
 // `enum cake_ack` for people
+#[rattlefmt::skip]
 const ENUM_CAKE_ACK_FOR_PEOPLE: [Name<'static>; 3] = [
-    Name {
-        number: 0,
-        name: "none",
-    },
-    Name {
-        number: 1,
-        name: "filter",
-    },
-    Name {
-        number: 2,
-        name: "aggressive",
-    },
+    Name { number: 0, name: "none" },
+    Name { number: 1, name: "filter" },
+    Name { number: 2, name: "aggressive" },
 ];
 
 #[tactic(auto, unfolding(crate::specs::Tables::NamesOfQdiscs::names_of_qdiscs_1301))]
@@ -350,27 +207,17 @@ pub(crate) fn names_of_qdiscs_1301(place: usize) -> &'static [Name<'static>]
 }
 
 // `enum tc_mqprio_mode` for people
+#[rattlefmt::skip]
 const ENUM_TC_MQPRIO_MODE_FOR_PEOPLE: [Name<'static>; 2] = [
-    Name {
-        number: 0,
-        name: "dcb",
-    },
-    Name {
-        number: 1,
-        name: "channel",
-    },
+    Name { number: 0, name: "dcb" },
+    Name { number: 1, name: "channel" },
 ];
 
 // `enum tc_mqprio_shaper` for people
+#[rattlefmt::skip]
 const ENUM_TC_MQPRIO_SHAPER_FOR_PEOPLE: [Name<'static>; 2] = [
-    Name {
-        number: 0,
-        name: "dcb",
-    },
-    Name {
-        number: 1,
-        name: "bw_rate",
-    },
+    Name { number: 0, name: "dcb" },
+    Name { number: 1, name: "bw_rate" },
 ];
 
 #[tactic(auto, unfolding(crate::specs::Tables::NamesOfQdiscs::names_of_qdiscs_1319))]
@@ -385,23 +232,12 @@ pub(crate) fn names_of_qdiscs_1319(place: usize) -> &'static [Name<'static>]
 }
 
 // `enum tcq_plug` for people
+#[rattlefmt::skip]
 const ENUM_TCQ_PLUG_FOR_PEOPLE: [Name<'static>; 4] = [
-    Name {
-        number: 0,
-        name: "buffer",
-    },
-    Name {
-        number: 1,
-        name: "release_one",
-    },
-    Name {
-        number: 2,
-        name: "release_indefinite",
-    },
-    Name {
-        number: 3,
-        name: "limit",
-    },
+    Name { number: 0, name: "buffer" },
+    Name { number: 1, name: "release_one" },
+    Name { number: 2, name: "release_indefinite" },
+    Name { number: 3, name: "limit" },
 ];
 
 #[tactic(auto, unfolding(crate::specs::Tables::NamesOfQdiscs::names_of_qdiscs_1324))]
@@ -415,19 +251,11 @@ pub(crate) fn names_of_qdiscs_1324(place: usize) -> &'static [Name<'static>]
 }
 
 // `enum tc_taprio_cmd` for people
+#[rattlefmt::skip]
 const ENUM_TC_TAPRIO_CMD_FOR_PEOPLE: [Name<'static>; 3] = [
-    Name {
-        number: 0,
-        name: "set_gates",
-    },
-    Name {
-        number: 1,
-        name: "set_and_hold",
-    },
-    Name {
-        number: 2,
-        name: "set_and_release",
-    },
+    Name { number: 0, name: "set_gates" },
+    Name { number: 1, name: "set_and_hold" },
+    Name { number: 2, name: "set_and_release" },
 ];
 
 #[tactic(auto, unfolding(crate::specs::Tables::NamesOfQdiscs::names_of_qdiscs_1331))]

@@ -2,91 +2,40 @@
 
 ghost use Rattle.std.specs.Prelude.{◌≡◌, map};
 ghost use Rattle.tc_forms.specs.Tables.{part_view};
-ghost use Rattle.tc_kinds.specs.Parts.Actions.{parts_of_actions_bpf};
-ghost use Rattle.tc_kinds.specs.Parts.Actions.{parts_of_actions_connmark};
-ghost use Rattle.tc_kinds.specs.Parts.Actions.{parts_of_actions_csum};
-ghost use Rattle.tc_kinds.specs.Parts.Actions.{parts_of_actions_ct};
-ghost use Rattle.tc_kinds.specs.Parts.Actions.{parts_of_actions_ctinfo};
-ghost use Rattle.tc_kinds.specs.Parts.Actions.{parts_of_actions_gact};
-ghost use Rattle.tc_kinds.specs.Parts.Actions.{parts_of_actions_gate};
-ghost use Rattle.tc_kinds.specs.Parts.Actions.{parts_of_actions_ife};
-ghost use Rattle.tc_kinds.specs.Parts.Actions.{parts_of_actions_ipt};
-ghost use Rattle.tc_kinds.specs.Parts.Actions.{parts_of_actions_mirred};
-ghost use Rattle.tc_kinds.specs.Parts.Actions.{parts_of_actions_mpls};
-ghost use Rattle.tc_kinds.specs.Parts.Actions.{parts_of_actions_nat};
-ghost use Rattle.tc_kinds.specs.Parts.Actions.{parts_of_actions_pedit};
-ghost use Rattle.tc_kinds.specs.Parts.Actions.{parts_of_actions_police};
-ghost use Rattle.tc_kinds.specs.Parts.Actions.{parts_of_actions_sample};
-ghost use Rattle.tc_kinds.specs.Parts.Actions.{parts_of_actions_simple};
-ghost use Rattle.tc_kinds.specs.Parts.Actions.{parts_of_actions_skbedit};
-ghost use Rattle.tc_kinds.specs.Parts.Actions.{parts_of_actions_skbmod};
-ghost use Rattle.tc_kinds.specs.Parts.Actions.{parts_of_actions_tunnel_key};
-ghost use Rattle.tc_kinds.specs.Parts.Actions.{parts_of_actions_vlan};
+ghost use Rattle.tc_kinds.specs.Parts.Actions.{parts_of_actions_bpf, parts_of_actions_connmark, parts_of_actions_csum, parts_of_actions_ct};
+ghost use Rattle.tc_kinds.specs.Parts.Actions.{parts_of_actions_ctinfo, parts_of_actions_gact, parts_of_actions_gate, parts_of_actions_ife};
+ghost use Rattle.tc_kinds.specs.Parts.Actions.{parts_of_actions_ipt, parts_of_actions_mirred, parts_of_actions_mpls, parts_of_actions_nat};
+ghost use Rattle.tc_kinds.specs.Parts.Actions.{parts_of_actions_pedit, parts_of_actions_police, parts_of_actions_sample, parts_of_actions_simple};
+ghost use Rattle.tc_kinds.specs.Parts.Actions.{parts_of_actions_skbedit, parts_of_actions_skbmod, parts_of_actions_tunnel_key, parts_of_actions_vlan};
 ghost use Rattle.tc_kinds.specs.Parts.Actions.{all_of_actions};
 
 use tc_forms::{Field, Form, Name, Number, Part, Row};
 
 // `list act_bpf`
+#[rattlefmt::skip]
 const LIST_ACT_BPF_IN_BPF: [Row<'static>; 9] = [
-    Row {
-        word: 1,
-        name: "Tm",
-        form: Form::Record(8),
-    },
-    Row {
-        word: 2,
-        name: "Parms",
-        form: Form::Record(601),
-    },
-    Row {
-        word: 3,
-        name: "OpsLen",
-        form: Form::Number(Number::U16),
-    },
-    Row {
-        word: 4,
-        name: "Ops",
-        form: Form::Array(4205),
-    },
-    Row {
-        word: 5,
-        name: "Fd",
-        form: Form::Number(Number::U32),
-    },
-    Row {
-        word: 6,
-        name: "Name",
-        form: Form::Text,
-    },
-    Row {
-        word: 7,
-        name: "Pad",
-        form: Form::Flag,
-    },
-    Row {
-        word: 8,
-        name: "Tag",
-        form: Form::Bytes(8),
-    },
-    Row {
-        word: 9,
-        name: "Id",
-        form: Form::Number(Number::U32),
-    },
+    Row { word: 1, name: "Tm", form: Form::Record(8) },
+    Row { word: 2, name: "Parms", form: Form::Record(601) },
+    Row { word: 3, name: "OpsLen", form: Form::Number(Number::U16) },
+    Row { word: 4, name: "Ops", form: Form::Array(4205) },
+    Row { word: 5, name: "Fd", form: Form::Number(Number::U32) },
+    Row { word: 6, name: "Name", form: Form::Text },
+    Row { word: 7, name: "Pad", form: Form::Flag },
+    Row { word: 8, name: "Tag", form: Form::Bytes(8) },
+    Row { word: 9, name: "Id", form: Form::Number(Number::U32) },
 ];
 
 // `struct tc_act_bpf`
-const STRUCT_TC_ACT_BPF: [Field<'static>; 1] = [Field {
-    name: "generic",
-    form: Form::Record(6),
-}];
+#[rattlefmt::skip]
+const STRUCT_TC_ACT_BPF: [Field<'static>; 1] = [
+    Field { name: "generic", form: Form::Record(6) },
+];
 
 // `list action`: the rows of bpf
-const LIST_ACTION_ACTION_BPF: [Row<'static>; 1] = [Row {
-    word: 32770,
-    name: "Options",
-    form: Form::List(600),
-}];
+#[rattlefmt::skip]
+const LIST_ACTION_ACTION_BPF: [Row<'static>; 1] = [
+    Row { word: 32770, name: "Options", form: Form::List(600) },
+];
 
 #[tactic(auto, unfolding(crate::specs::Parts::Actions::parts_of_actions_bpf))]
 pub(crate) fn parts_of_actions_bpf(place: usize) -> Part<'static>
@@ -101,46 +50,26 @@ pub(crate) fn parts_of_actions_bpf(place: usize) -> Part<'static>
 }
 
 // `list connmark`
+#[rattlefmt::skip]
 const LIST_CONNMARK_IN_CONNMARK: [Row<'static>; 3] = [
-    Row {
-        word: 1,
-        name: "Parms",
-        form: Form::Record(613),
-    },
-    Row {
-        word: 2,
-        name: "Tm",
-        form: Form::Record(8),
-    },
-    Row {
-        word: 3,
-        name: "Pad",
-        form: Form::Flag,
-    },
+    Row { word: 1, name: "Parms", form: Form::Record(613) },
+    Row { word: 2, name: "Tm", form: Form::Record(8) },
+    Row { word: 3, name: "Pad", form: Form::Flag },
 ];
 
 // `struct tc_connmark`
+#[rattlefmt::skip]
 const STRUCT_TC_CONNMARK: [Field<'static>; 3] = [
-    Field {
-        name: "generic",
-        form: Form::Record(6),
-    },
-    Field {
-        name: "zone",
-        form: Form::Number(Number::U16),
-    },
-    Field {
-        name: "padding",
-        form: Form::Pad(2),
-    },
+    Field { name: "generic", form: Form::Record(6) },
+    Field { name: "zone", form: Form::Number(Number::U16) },
+    Field { name: "padding", form: Form::Pad(2) },
 ];
 
 // `list action`: the rows of connmark
-const LIST_ACTION_ACTION_CONNMARK: [Row<'static>; 1] = [Row {
-    word: 32770,
-    name: "Options",
-    form: Form::List(612),
-}];
+#[rattlefmt::skip]
+const LIST_ACTION_ACTION_CONNMARK: [Row<'static>; 1] = [
+    Row { word: 32770, name: "Options", form: Form::List(612) },
+];
 
 #[tactic(auto, unfolding(crate::specs::Parts::Actions::parts_of_actions_connmark))]
 pub(crate) fn parts_of_actions_connmark(place: usize) -> Part<'static>
@@ -155,42 +84,25 @@ pub(crate) fn parts_of_actions_connmark(place: usize) -> Part<'static>
 }
 
 // `list csum`
+#[rattlefmt::skip]
 const LIST_CSUM_IN_CSUM: [Row<'static>; 3] = [
-    Row {
-        word: 1,
-        name: "Parms",
-        form: Form::Record(625),
-    },
-    Row {
-        word: 2,
-        name: "Tm",
-        form: Form::Record(8),
-    },
-    Row {
-        word: 3,
-        name: "Pad",
-        form: Form::Flag,
-    },
+    Row { word: 1, name: "Parms", form: Form::Record(625) },
+    Row { word: 2, name: "Tm", form: Form::Record(8) },
+    Row { word: 3, name: "Pad", form: Form::Flag },
 ];
 
 // `struct tc_csum`
+#[rattlefmt::skip]
 const STRUCT_TC_CSUM: [Field<'static>; 2] = [
-    Field {
-        name: "generic",
-        form: Form::Record(6),
-    },
-    Field {
-        name: "update_flags",
-        form: Form::Number(Number::U32),
-    },
+    Field { name: "generic", form: Form::Record(6) },
+    Field { name: "update_flags", form: Form::Number(Number::U32) },
 ];
 
 // `list action`: the rows of csum
-const LIST_ACTION_ACTION_CSUM: [Row<'static>; 1] = [Row {
-    word: 32770,
-    name: "Options",
-    form: Form::List(624),
-}];
+#[rattlefmt::skip]
+const LIST_ACTION_ACTION_CSUM: [Row<'static>; 1] = [
+    Row { word: 32770, name: "Options", form: Form::List(624) },
+];
 
 #[tactic(auto, unfolding(crate::specs::Parts::Actions::parts_of_actions_csum))]
 pub(crate) fn parts_of_actions_csum(place: usize) -> Part<'static>
@@ -205,111 +117,39 @@ pub(crate) fn parts_of_actions_csum(place: usize) -> Part<'static>
 }
 
 // `list ct`
+#[rattlefmt::skip]
 const LIST_CT_IN_CT: [Row<'static>; 18] = [
-    Row {
-        word: 1,
-        name: "Parms",
-        form: Form::Record(637),
-    },
-    Row {
-        word: 2,
-        name: "Tm",
-        form: Form::Record(8),
-    },
-    Row {
-        word: 3,
-        name: "Action",
-        form: Form::Number(Number::U16),
-    },
-    Row {
-        word: 4,
-        name: "Zone",
-        form: Form::Number(Number::U16),
-    },
-    Row {
-        word: 5,
-        name: "Mark",
-        form: Form::Number(Number::U32),
-    },
-    Row {
-        word: 6,
-        name: "MarkMask",
-        form: Form::Number(Number::U32),
-    },
-    Row {
-        word: 7,
-        name: "Labels",
-        form: Form::Hex,
-    },
-    Row {
-        word: 8,
-        name: "LabelsMask",
-        form: Form::Hex,
-    },
-    Row {
-        word: 9,
-        name: "NatIpv4Min",
-        form: Form::Ipv4,
-    },
-    Row {
-        word: 10,
-        name: "NatIpv4Max",
-        form: Form::Ipv4,
-    },
-    Row {
-        word: 11,
-        name: "NatIpv6Min",
-        form: Form::Ipv6,
-    },
-    Row {
-        word: 12,
-        name: "NatIpv6Max",
-        form: Form::Ipv6,
-    },
-    Row {
-        word: 13,
-        name: "NatPortMin",
-        form: Form::Number(Number::U16Be),
-    },
-    Row {
-        word: 14,
-        name: "NatPortMax",
-        form: Form::Number(Number::U16Be),
-    },
-    Row {
-        word: 15,
-        name: "Pad",
-        form: Form::Flag,
-    },
-    Row {
-        word: 16,
-        name: "HelperName",
-        form: Form::Text,
-    },
-    Row {
-        word: 17,
-        name: "HelperFamily",
-        form: Form::Number(Number::U8),
-    },
-    Row {
-        word: 18,
-        name: "HelperProto",
-        form: Form::Number(Number::U8),
-    },
+    Row { word: 1, name: "Parms", form: Form::Record(637) },
+    Row { word: 2, name: "Tm", form: Form::Record(8) },
+    Row { word: 3, name: "Action", form: Form::Number(Number::U16) },
+    Row { word: 4, name: "Zone", form: Form::Number(Number::U16) },
+    Row { word: 5, name: "Mark", form: Form::Number(Number::U32) },
+    Row { word: 6, name: "MarkMask", form: Form::Number(Number::U32) },
+    Row { word: 7, name: "Labels", form: Form::Hex },
+    Row { word: 8, name: "LabelsMask", form: Form::Hex },
+    Row { word: 9, name: "NatIpv4Min", form: Form::Ipv4 },
+    Row { word: 10, name: "NatIpv4Max", form: Form::Ipv4 },
+    Row { word: 11, name: "NatIpv6Min", form: Form::Ipv6 },
+    Row { word: 12, name: "NatIpv6Max", form: Form::Ipv6 },
+    Row { word: 13, name: "NatPortMin", form: Form::Number(Number::U16Be) },
+    Row { word: 14, name: "NatPortMax", form: Form::Number(Number::U16Be) },
+    Row { word: 15, name: "Pad", form: Form::Flag },
+    Row { word: 16, name: "HelperName", form: Form::Text },
+    Row { word: 17, name: "HelperFamily", form: Form::Number(Number::U8) },
+    Row { word: 18, name: "HelperProto", form: Form::Number(Number::U8) },
 ];
 
 // `struct tc_ct`
-const STRUCT_TC_CT: [Field<'static>; 1] = [Field {
-    name: "generic",
-    form: Form::Record(6),
-}];
+#[rattlefmt::skip]
+const STRUCT_TC_CT: [Field<'static>; 1] = [
+    Field { name: "generic", form: Form::Record(6) },
+];
 
 // `list action`: the rows of ct
-const LIST_ACTION_ACTION_CT: [Row<'static>; 1] = [Row {
-    word: 32770,
-    name: "Options",
-    form: Form::List(636),
-}];
+#[rattlefmt::skip]
+const LIST_ACTION_ACTION_CT: [Row<'static>; 1] = [
+    Row { word: 32770, name: "Options", form: Form::List(636) },
+];
 
 #[tactic(auto, unfolding(crate::specs::Parts::Actions::parts_of_actions_ct))]
 pub(crate) fn parts_of_actions_ct(place: usize) -> Part<'static>
@@ -324,71 +164,31 @@ pub(crate) fn parts_of_actions_ct(place: usize) -> Part<'static>
 }
 
 // `list ctinfo`
+#[rattlefmt::skip]
 const LIST_CTINFO_IN_CTINFO: [Row<'static>; 10] = [
-    Row {
-        word: 1,
-        name: "Pad",
-        form: Form::Flag,
-    },
-    Row {
-        word: 2,
-        name: "Tm",
-        form: Form::Record(8),
-    },
-    Row {
-        word: 3,
-        name: "Action",
-        form: Form::Record(649),
-    },
-    Row {
-        word: 4,
-        name: "Zone",
-        form: Form::Number(Number::U16),
-    },
-    Row {
-        word: 5,
-        name: "ParmsDscpMask",
-        form: Form::Number(Number::U32),
-    },
-    Row {
-        word: 6,
-        name: "ParmsDscpStatemask",
-        form: Form::Number(Number::U32),
-    },
-    Row {
-        word: 7,
-        name: "ParmsCpmarkMask",
-        form: Form::Number(Number::U32),
-    },
-    Row {
-        word: 8,
-        name: "StatsDscpSet",
-        form: Form::Number(Number::U64),
-    },
-    Row {
-        word: 9,
-        name: "StatsDscpError",
-        form: Form::Number(Number::U64),
-    },
-    Row {
-        word: 10,
-        name: "StatsCpmarkSet",
-        form: Form::Number(Number::U64),
-    },
+    Row { word: 1, name: "Pad", form: Form::Flag },
+    Row { word: 2, name: "Tm", form: Form::Record(8) },
+    Row { word: 3, name: "Action", form: Form::Record(649) },
+    Row { word: 4, name: "Zone", form: Form::Number(Number::U16) },
+    Row { word: 5, name: "ParmsDscpMask", form: Form::Number(Number::U32) },
+    Row { word: 6, name: "ParmsDscpStatemask", form: Form::Number(Number::U32) },
+    Row { word: 7, name: "ParmsCpmarkMask", form: Form::Number(Number::U32) },
+    Row { word: 8, name: "StatsDscpSet", form: Form::Number(Number::U64) },
+    Row { word: 9, name: "StatsDscpError", form: Form::Number(Number::U64) },
+    Row { word: 10, name: "StatsCpmarkSet", form: Form::Number(Number::U64) },
 ];
 
 // `struct tc_ctinfo`
-const STRUCT_TC_CTINFO: [Field<'static>; 1] = [Field {
-    name: "generic",
-    form: Form::Record(6),
-}];
+#[rattlefmt::skip]
+const STRUCT_TC_CTINFO: [Field<'static>; 1] = [
+    Field { name: "generic", form: Form::Record(6) },
+];
 
 // `list action`: the rows of ctinfo
-const LIST_ACTION_ACTION_CTINFO: [Row<'static>; 1] = [Row {
-    word: 32770,
-    name: "Options",
-    form: Form::List(648),
-}];
+#[rattlefmt::skip]
+const LIST_ACTION_ACTION_CTINFO: [Row<'static>; 1] = [
+    Row { word: 32770, name: "Options", form: Form::List(648) },
+];
 
 #[tactic(auto, unfolding(crate::specs::Parts::Actions::parts_of_actions_ctinfo))]
 pub(crate) fn parts_of_actions_ctinfo(place: usize) -> Part<'static>
@@ -403,73 +203,41 @@ pub(crate) fn parts_of_actions_ctinfo(place: usize) -> Part<'static>
 }
 
 // `list gact`
+#[rattlefmt::skip]
 const LIST_GACT_IN_GACT: [Row<'static>; 4] = [
-    Row {
-        word: 1,
-        name: "Tm",
-        form: Form::Record(8),
-    },
-    Row {
-        word: 2,
-        name: "Parms",
-        form: Form::Record(661),
-    },
-    Row {
-        word: 3,
-        name: "Prob",
-        form: Form::Record(662),
-    },
-    Row {
-        word: 4,
-        name: "Pad",
-        form: Form::Flag,
-    },
+    Row { word: 1, name: "Tm", form: Form::Record(8) },
+    Row { word: 2, name: "Parms", form: Form::Record(661) },
+    Row { word: 3, name: "Prob", form: Form::Record(662) },
+    Row { word: 4, name: "Pad", form: Form::Flag },
 ];
 
 // `struct tc_gact`
-const STRUCT_TC_GACT: [Field<'static>; 1] = [Field {
-    name: "generic",
-    form: Form::Record(6),
-}];
+#[rattlefmt::skip]
+const STRUCT_TC_GACT: [Field<'static>; 1] = [
+    Field { name: "generic", form: Form::Record(6) },
+];
 
 // `struct tc_gact_p`
+#[rattlefmt::skip]
 const STRUCT_TC_GACT_P: [Field<'static>; 3] = [
-    Field {
-        name: "ptype",
-        form: Form::Named(Number::U16, 663),
-    },
-    Field {
-        name: "pval",
-        form: Form::Number(Number::U16),
-    },
-    Field {
-        name: "paction",
-        form: Form::Named(Number::I32, 7),
-    },
+    Field { name: "ptype", form: Form::Named(Number::U16, 663) },
+    Field { name: "pval", form: Form::Number(Number::U16) },
+    Field { name: "paction", form: Form::Named(Number::I32, 7) },
 ];
 
 // `enum pgact`
+#[rattlefmt::skip]
 const ENUM_PGACT: [Name<'static>; 3] = [
-    Name {
-        number: 0,
-        name: "None",
-    },
-    Name {
-        number: 1,
-        name: "Netrand",
-    },
-    Name {
-        number: 2,
-        name: "Determ",
-    },
+    Name { number: 0, name: "None" },
+    Name { number: 1, name: "Netrand" },
+    Name { number: 2, name: "Determ" },
 ];
 
 // `list action`: the rows of gact
-const LIST_ACTION_ACTION_GACT: [Row<'static>; 1] = [Row {
-    word: 32770,
-    name: "Options",
-    form: Form::List(660),
-}];
+#[rattlefmt::skip]
+const LIST_ACTION_ACTION_GACT: [Row<'static>; 1] = [
+    Row { word: 32770, name: "Options", form: Form::List(660) },
+];
 
 #[tactic(auto, unfolding(crate::specs::Parts::Actions::parts_of_actions_gact))]
 pub(crate) fn parts_of_actions_gact(place: usize) -> Part<'static>
@@ -486,107 +254,47 @@ pub(crate) fn parts_of_actions_gact(place: usize) -> Part<'static>
 }
 
 // `list gate`
+#[rattlefmt::skip]
 const LIST_GATE_IN_GATE: [Row<'static>; 10] = [
-    Row {
-        word: 1,
-        name: "Tm",
-        form: Form::Record(8),
-    },
-    Row {
-        word: 2,
-        name: "Parms",
-        form: Form::Record(673),
-    },
-    Row {
-        word: 3,
-        name: "Pad",
-        form: Form::Flag,
-    },
-    Row {
-        word: 4,
-        name: "Priority",
-        form: Form::Number(Number::I32),
-    },
-    Row {
-        word: 32773,
-        name: "EntryList",
-        form: Form::List(674),
-    },
-    Row {
-        word: 6,
-        name: "BaseTime",
-        form: Form::Number(Number::U64),
-    },
-    Row {
-        word: 7,
-        name: "CycleTime",
-        form: Form::Number(Number::U64),
-    },
-    Row {
-        word: 8,
-        name: "CycleTimeExt",
-        form: Form::Number(Number::U64),
-    },
-    Row {
-        word: 9,
-        name: "Flags",
-        form: Form::Number(Number::U32),
-    },
-    Row {
-        word: 10,
-        name: "Clockid",
-        form: Form::Number(Number::I32),
-    },
+    Row { word: 1, name: "Tm", form: Form::Record(8) },
+    Row { word: 2, name: "Parms", form: Form::Record(673) },
+    Row { word: 3, name: "Pad", form: Form::Flag },
+    Row { word: 4, name: "Priority", form: Form::Number(Number::I32) },
+    Row { word: 32773, name: "EntryList", form: Form::List(674) },
+    Row { word: 6, name: "BaseTime", form: Form::Number(Number::U64) },
+    Row { word: 7, name: "CycleTime", form: Form::Number(Number::U64) },
+    Row { word: 8, name: "CycleTimeExt", form: Form::Number(Number::U64) },
+    Row { word: 9, name: "Flags", form: Form::Number(Number::U32) },
+    Row { word: 10, name: "Clockid", form: Form::Number(Number::I32) },
 ];
 
 // `struct tc_gate`
-const STRUCT_TC_GATE: [Field<'static>; 1] = [Field {
-    name: "generic",
-    form: Form::Record(6),
-}];
+#[rattlefmt::skip]
+const STRUCT_TC_GATE: [Field<'static>; 1] = [
+    Field { name: "generic", form: Form::Record(6) },
+];
 
 // `list gate_list`
-const LIST_GATE_LIST: [Row<'static>; 1] = [Row {
-    word: 32769,
-    name: "OneEntry",
-    form: Form::List(675),
-}];
+#[rattlefmt::skip]
+const LIST_GATE_LIST: [Row<'static>; 1] = [
+    Row { word: 32769, name: "OneEntry", form: Form::List(675) },
+];
 
 // `list gate_entry`
+#[rattlefmt::skip]
 const LIST_GATE_ENTRY: [Row<'static>; 5] = [
-    Row {
-        word: 1,
-        name: "Index",
-        form: Form::Number(Number::U32),
-    },
-    Row {
-        word: 2,
-        name: "Gate",
-        form: Form::Flag,
-    },
-    Row {
-        word: 3,
-        name: "Interval",
-        form: Form::Number(Number::U32),
-    },
-    Row {
-        word: 4,
-        name: "Ipv",
-        form: Form::Number(Number::I32),
-    },
-    Row {
-        word: 5,
-        name: "MaxOctets",
-        form: Form::Number(Number::I32),
-    },
+    Row { word: 1, name: "Index", form: Form::Number(Number::U32) },
+    Row { word: 2, name: "Gate", form: Form::Flag },
+    Row { word: 3, name: "Interval", form: Form::Number(Number::U32) },
+    Row { word: 4, name: "Ipv", form: Form::Number(Number::I32) },
+    Row { word: 5, name: "MaxOctets", form: Form::Number(Number::I32) },
 ];
 
 // `list action`: the rows of gate
-const LIST_ACTION_ACTION_GATE: [Row<'static>; 1] = [Row {
-    word: 32770,
-    name: "Options",
-    form: Form::List(672),
-}];
+#[rattlefmt::skip]
+const LIST_ACTION_ACTION_GATE: [Row<'static>; 1] = [
+    Row { word: 32770, name: "Options", form: Form::List(672) },
+];
 
 #[tactic(auto, unfolding(crate::specs::Parts::Actions::parts_of_actions_gate))]
 pub(crate) fn parts_of_actions_gate(place: usize) -> Part<'static>
@@ -603,95 +311,40 @@ pub(crate) fn parts_of_actions_gate(place: usize) -> Part<'static>
 }
 
 // `list ife`
+#[rattlefmt::skip]
 const LIST_IFE_IN_IFE: [Row<'static>; 7] = [
-    Row {
-        word: 1,
-        name: "Parms",
-        form: Form::Record(685),
-    },
-    Row {
-        word: 2,
-        name: "Tm",
-        form: Form::Record(8),
-    },
-    Row {
-        word: 3,
-        name: "Dmac",
-        form: Form::Mac,
-    },
-    Row {
-        word: 4,
-        name: "Smac",
-        form: Form::Mac,
-    },
-    Row {
-        word: 5,
-        name: "Type",
-        form: Form::Number(Number::U16),
-    },
-    Row {
-        word: 6,
-        name: "Metalst",
-        form: Form::List(686),
-    },
-    Row {
-        word: 7,
-        name: "Pad",
-        form: Form::Flag,
-    },
+    Row { word: 1, name: "Parms", form: Form::Record(685) },
+    Row { word: 2, name: "Tm", form: Form::Record(8) },
+    Row { word: 3, name: "Dmac", form: Form::Mac },
+    Row { word: 4, name: "Smac", form: Form::Mac },
+    Row { word: 5, name: "Type", form: Form::Number(Number::U16) },
+    Row { word: 6, name: "Metalst", form: Form::List(686) },
+    Row { word: 7, name: "Pad", form: Form::Flag },
 ];
 
 // `struct tc_ife`
+#[rattlefmt::skip]
 const STRUCT_TC_IFE: [Field<'static>; 3] = [
-    Field {
-        name: "generic",
-        form: Form::Record(6),
-    },
-    Field {
-        name: "flags",
-        form: Form::Number(Number::U16),
-    },
-    Field {
-        name: "padding",
-        form: Form::Pad(2),
-    },
+    Field { name: "generic", form: Form::Record(6) },
+    Field { name: "flags", form: Form::Number(Number::U16) },
+    Field { name: "padding", form: Form::Pad(2) },
 ];
 
 // `list ife_meta`
+#[rattlefmt::skip]
 const LIST_IFE_META: [Row<'static>; 5] = [
-    Row {
-        word: 1,
-        name: "Skbmark",
-        form: Form::Array(1200),
-    },
-    Row {
-        word: 2,
-        name: "Hashid",
-        form: Form::Array(1200),
-    },
-    Row {
-        word: 3,
-        name: "Prio",
-        form: Form::Array(1200),
-    },
-    Row {
-        word: 4,
-        name: "Qmap",
-        form: Form::Array(1201),
-    },
-    Row {
-        word: 5,
-        name: "Tcindex",
-        form: Form::Array(1201),
-    },
+    Row { word: 1, name: "Skbmark", form: Form::Array(1200) },
+    Row { word: 2, name: "Hashid", form: Form::Array(1200) },
+    Row { word: 3, name: "Prio", form: Form::Array(1200) },
+    Row { word: 4, name: "Qmap", form: Form::Array(1201) },
+    Row { word: 5, name: "Tcindex", form: Form::Array(1201) },
 ];
 
 // `list action`: the rows of ife
-const LIST_ACTION_ACTION_IFE: [Row<'static>; 1] = [Row {
-    word: 32770,
-    name: "Options",
-    form: Form::List(684),
-}];
+#[rattlefmt::skip]
+const LIST_ACTION_ACTION_IFE: [Row<'static>; 1] = [
+    Row { word: 32770, name: "Options", form: Form::List(684) },
+];
 
 #[tactic(auto, unfolding(crate::specs::Parts::Actions::parts_of_actions_ife))]
 pub(crate) fn parts_of_actions_ife(place: usize) -> Part<'static>
@@ -707,108 +360,47 @@ pub(crate) fn parts_of_actions_ife(place: usize) -> Part<'static>
 }
 
 // `list ipt`
+#[rattlefmt::skip]
 const LIST_IPT_IN_IPT: [Row<'static>; 7] = [
-    Row {
-        word: 1,
-        name: "Table",
-        form: Form::Text,
-    },
-    Row {
-        word: 2,
-        name: "Hook",
-        form: Form::Number(Number::U32),
-    },
-    Row {
-        word: 3,
-        name: "Index",
-        form: Form::Number(Number::U32),
-    },
-    Row {
-        word: 4,
-        name: "Cnt",
-        form: Form::Record(698),
-    },
-    Row {
-        word: 5,
-        name: "Tm",
-        form: Form::Record(8),
-    },
-    Row {
-        word: 6,
-        name: "Targ",
-        form: Form::Hex,
-    },
-    Row {
-        word: 7,
-        name: "Pad",
-        form: Form::Flag,
-    },
+    Row { word: 1, name: "Table", form: Form::Text },
+    Row { word: 2, name: "Hook", form: Form::Number(Number::U32) },
+    Row { word: 3, name: "Index", form: Form::Number(Number::U32) },
+    Row { word: 4, name: "Cnt", form: Form::Record(698) },
+    Row { word: 5, name: "Tm", form: Form::Record(8) },
+    Row { word: 6, name: "Targ", form: Form::Hex },
+    Row { word: 7, name: "Pad", form: Form::Flag },
 ];
 
 // `list ipt`
+#[rattlefmt::skip]
 const LIST_IPT_IN_XT: [Row<'static>; 7] = [
-    Row {
-        word: 1,
-        name: "Table",
-        form: Form::Text,
-    },
-    Row {
-        word: 2,
-        name: "Hook",
-        form: Form::Number(Number::U32),
-    },
-    Row {
-        word: 3,
-        name: "Index",
-        form: Form::Number(Number::U32),
-    },
-    Row {
-        word: 4,
-        name: "Cnt",
-        form: Form::Record(698),
-    },
-    Row {
-        word: 5,
-        name: "Tm",
-        form: Form::Record(8),
-    },
-    Row {
-        word: 6,
-        name: "Targ",
-        form: Form::Hex,
-    },
-    Row {
-        word: 7,
-        name: "Pad",
-        form: Form::Flag,
-    },
+    Row { word: 1, name: "Table", form: Form::Text },
+    Row { word: 2, name: "Hook", form: Form::Number(Number::U32) },
+    Row { word: 3, name: "Index", form: Form::Number(Number::U32) },
+    Row { word: 4, name: "Cnt", form: Form::Record(698) },
+    Row { word: 5, name: "Tm", form: Form::Record(8) },
+    Row { word: 6, name: "Targ", form: Form::Hex },
+    Row { word: 7, name: "Pad", form: Form::Flag },
 ];
 
 // `struct tc_cnt`
+#[rattlefmt::skip]
 const STRUCT_TC_CNT: [Field<'static>; 2] = [
-    Field {
-        name: "refcnt",
-        form: Form::Number(Number::I32),
-    },
-    Field {
-        name: "bindcnt",
-        form: Form::Number(Number::I32),
-    },
+    Field { name: "refcnt", form: Form::Number(Number::I32) },
+    Field { name: "bindcnt", form: Form::Number(Number::I32) },
 ];
 
 // `list action`: the rows of ipt
-const LIST_ACTION_ACTION_IPT: [Row<'static>; 1] = [Row {
-    word: 32770,
-    name: "Options",
-    form: Form::List(696),
-}];
+#[rattlefmt::skip]
+const LIST_ACTION_ACTION_IPT: [Row<'static>; 1] = [
+    Row { word: 32770, name: "Options", form: Form::List(696) },
+];
 
 // `list action`: the rows of xt
-const LIST_ACTION_ACTION_XT: [Row<'static>; 1] = [Row {
-    word: 32770,
-    name: "Options",
-    form: Form::List(697),
-}];
+#[rattlefmt::skip]
+const LIST_ACTION_ACTION_XT: [Row<'static>; 1] = [
+    Row { word: 32770, name: "Options", form: Form::List(697) },
+];
 
 #[tactic(auto, unfolding(crate::specs::Parts::Actions::parts_of_actions_ipt))]
 pub(crate) fn parts_of_actions_ipt(place: usize) -> Part<'static>
@@ -825,71 +417,36 @@ pub(crate) fn parts_of_actions_ipt(place: usize) -> Part<'static>
 }
 
 // `list mirred`
+#[rattlefmt::skip]
 const LIST_MIRRED_IN_MIRROR: [Row<'static>; 4] = [
-    Row {
-        word: 1,
-        name: "Tm",
-        form: Form::Record(8),
-    },
-    Row {
-        word: 2,
-        name: "Parms",
-        form: Form::Record(709),
-    },
-    Row {
-        word: 3,
-        name: "Pad",
-        form: Form::Flag,
-    },
-    Row {
-        word: 4,
-        name: "Blockid",
-        form: Form::Number(Number::U32),
-    },
+    Row { word: 1, name: "Tm", form: Form::Record(8) },
+    Row { word: 2, name: "Parms", form: Form::Record(709) },
+    Row { word: 3, name: "Pad", form: Form::Flag },
+    Row { word: 4, name: "Blockid", form: Form::Number(Number::U32) },
 ];
 
 // `struct tc_mirred`
+#[rattlefmt::skip]
 const STRUCT_TC_MIRRED: [Field<'static>; 3] = [
-    Field {
-        name: "generic",
-        form: Form::Record(6),
-    },
-    Field {
-        name: "eaction",
-        form: Form::Named(Number::I32, 710),
-    },
-    Field {
-        name: "ifindex",
-        form: Form::Number(Number::U32),
-    },
+    Field { name: "generic", form: Form::Record(6) },
+    Field { name: "eaction", form: Form::Named(Number::I32, 710) },
+    Field { name: "ifindex", form: Form::Number(Number::U32) },
 ];
 
 // `enum tca_mirred`
+#[rattlefmt::skip]
 const ENUM_TCA_MIRRED: [Name<'static>; 4] = [
-    Name {
-        number: 1,
-        name: "EgressRedir",
-    },
-    Name {
-        number: 2,
-        name: "EgressMirror",
-    },
-    Name {
-        number: 3,
-        name: "IngressRedir",
-    },
-    Name {
-        number: 4,
-        name: "IngressMirror",
-    },
+    Name { number: 1, name: "EgressRedir" },
+    Name { number: 2, name: "EgressMirror" },
+    Name { number: 3, name: "IngressRedir" },
+    Name { number: 4, name: "IngressMirror" },
 ];
 
 // `list action`: the rows of mirred
-const LIST_ACTION_ACTION_MIRRED: [Row<'static>; 1] = [Row {
-    word: 32770,
-    name: "Options",
-    form: Form::List(708),
-}];
+#[rattlefmt::skip]
+const LIST_ACTION_ACTION_MIRRED: [Row<'static>; 1] = [
+    Row { word: 32770, name: "Options", form: Form::List(708) },
+];
 
 #[tactic(auto, unfolding(crate::specs::Parts::Actions::parts_of_actions_mirred))]
 pub(crate) fn parts_of_actions_mirred(place: usize) -> Part<'static>
@@ -905,91 +462,40 @@ pub(crate) fn parts_of_actions_mirred(place: usize) -> Part<'static>
 }
 
 // `list mpls`
+#[rattlefmt::skip]
 const LIST_MPLS_IN_MPLS: [Row<'static>; 8] = [
-    Row {
-        word: 1,
-        name: "Tm",
-        form: Form::Record(8),
-    },
-    Row {
-        word: 2,
-        name: "Parms",
-        form: Form::Record(721),
-    },
-    Row {
-        word: 3,
-        name: "Pad",
-        form: Form::Flag,
-    },
-    Row {
-        word: 4,
-        name: "Proto",
-        form: Form::Number(Number::U16Be),
-    },
-    Row {
-        word: 5,
-        name: "Label",
-        form: Form::Number(Number::U32),
-    },
-    Row {
-        word: 6,
-        name: "Tc",
-        form: Form::Number(Number::U8),
-    },
-    Row {
-        word: 7,
-        name: "Ttl",
-        form: Form::Number(Number::U8),
-    },
-    Row {
-        word: 8,
-        name: "Bos",
-        form: Form::Number(Number::U8),
-    },
+    Row { word: 1, name: "Tm", form: Form::Record(8) },
+    Row { word: 2, name: "Parms", form: Form::Record(721) },
+    Row { word: 3, name: "Pad", form: Form::Flag },
+    Row { word: 4, name: "Proto", form: Form::Number(Number::U16Be) },
+    Row { word: 5, name: "Label", form: Form::Number(Number::U32) },
+    Row { word: 6, name: "Tc", form: Form::Number(Number::U8) },
+    Row { word: 7, name: "Ttl", form: Form::Number(Number::U8) },
+    Row { word: 8, name: "Bos", form: Form::Number(Number::U8) },
 ];
 
 // `struct tc_mpls`
+#[rattlefmt::skip]
 const STRUCT_TC_MPLS: [Field<'static>; 2] = [
-    Field {
-        name: "generic",
-        form: Form::Record(6),
-    },
-    Field {
-        name: "m_action",
-        form: Form::Named(Number::I32, 722),
-    },
+    Field { name: "generic", form: Form::Record(6) },
+    Field { name: "m_action", form: Form::Named(Number::I32, 722) },
 ];
 
 // `enum tca_mpls_act`
+#[rattlefmt::skip]
 const ENUM_TCA_MPLS_ACT: [Name<'static>; 5] = [
-    Name {
-        number: 1,
-        name: "Pop",
-    },
-    Name {
-        number: 2,
-        name: "Push",
-    },
-    Name {
-        number: 3,
-        name: "Modify",
-    },
-    Name {
-        number: 4,
-        name: "DecTtl",
-    },
-    Name {
-        number: 5,
-        name: "MacPush",
-    },
+    Name { number: 1, name: "Pop" },
+    Name { number: 2, name: "Push" },
+    Name { number: 3, name: "Modify" },
+    Name { number: 4, name: "DecTtl" },
+    Name { number: 5, name: "MacPush" },
 ];
 
 // `list action`: the rows of mpls
-const LIST_ACTION_ACTION_MPLS: [Row<'static>; 1] = [Row {
-    word: 32770,
-    name: "Options",
-    form: Form::List(720),
-}];
+#[rattlefmt::skip]
+const LIST_ACTION_ACTION_MPLS: [Row<'static>; 1] = [
+    Row { word: 32770, name: "Options", form: Form::List(720) },
+];
 
 #[tactic(auto, unfolding(crate::specs::Parts::Actions::parts_of_actions_mpls))]
 pub(crate) fn parts_of_actions_mpls(place: usize) -> Part<'static>
@@ -1005,54 +511,28 @@ pub(crate) fn parts_of_actions_mpls(place: usize) -> Part<'static>
 }
 
 // `list nat`
+#[rattlefmt::skip]
 const LIST_NAT_IN_NAT: [Row<'static>; 3] = [
-    Row {
-        word: 1,
-        name: "Parms",
-        form: Form::Record(733),
-    },
-    Row {
-        word: 2,
-        name: "Tm",
-        form: Form::Record(8),
-    },
-    Row {
-        word: 3,
-        name: "Pad",
-        form: Form::Flag,
-    },
+    Row { word: 1, name: "Parms", form: Form::Record(733) },
+    Row { word: 2, name: "Tm", form: Form::Record(8) },
+    Row { word: 3, name: "Pad", form: Form::Flag },
 ];
 
 // `struct tc_nat`
+#[rattlefmt::skip]
 const STRUCT_TC_NAT: [Field<'static>; 5] = [
-    Field {
-        name: "generic",
-        form: Form::Record(6),
-    },
-    Field {
-        name: "old_addr",
-        form: Form::Ipv4,
-    },
-    Field {
-        name: "new_addr",
-        form: Form::Ipv4,
-    },
-    Field {
-        name: "mask",
-        form: Form::Ipv4,
-    },
-    Field {
-        name: "flags",
-        form: Form::Number(Number::U32),
-    },
+    Field { name: "generic", form: Form::Record(6) },
+    Field { name: "old_addr", form: Form::Ipv4 },
+    Field { name: "new_addr", form: Form::Ipv4 },
+    Field { name: "mask", form: Form::Ipv4 },
+    Field { name: "flags", form: Form::Number(Number::U32) },
 ];
 
 // `list action`: the rows of nat
-const LIST_ACTION_ACTION_NAT: [Row<'static>; 1] = [Row {
-    word: 32770,
-    name: "Options",
-    form: Form::List(732),
-}];
+#[rattlefmt::skip]
+const LIST_ACTION_ACTION_NAT: [Row<'static>; 1] = [
+    Row { word: 32770, name: "Options", form: Form::List(732) },
+];
 
 #[tactic(auto, unfolding(crate::specs::Parts::Actions::parts_of_actions_nat))]
 pub(crate) fn parts_of_actions_nat(place: usize) -> Part<'static>
@@ -1067,153 +547,72 @@ pub(crate) fn parts_of_actions_nat(place: usize) -> Part<'static>
 }
 
 // `list pedit`
+#[rattlefmt::skip]
 const LIST_PEDIT_IN_PEDIT: [Row<'static>; 5] = [
-    Row {
-        word: 1,
-        name: "Tm",
-        form: Form::Record(8),
-    },
-    Row {
-        word: 2,
-        name: "Parms",
-        form: Form::Record(745),
-    },
-    Row {
-        word: 3,
-        name: "Pad",
-        form: Form::Flag,
-    },
-    Row {
-        word: 4,
-        name: "ParmsEx",
-        form: Form::Record(745),
-    },
-    Row {
-        word: 32773,
-        name: "KeysEx",
-        form: Form::List(747),
-    },
+    Row { word: 1, name: "Tm", form: Form::Record(8) },
+    Row { word: 2, name: "Parms", form: Form::Record(745) },
+    Row { word: 3, name: "Pad", form: Form::Flag },
+    Row { word: 4, name: "ParmsEx", form: Form::Record(745) },
+    Row { word: 32773, name: "KeysEx", form: Form::List(747) },
 ];
 
 // `struct tc_pedit_sel`
+#[rattlefmt::skip]
 const STRUCT_TC_PEDIT_SEL: [Field<'static>; 5] = [
-    Field {
-        name: "generic",
-        form: Form::Record(6),
-    },
-    Field {
-        name: "nkeys",
-        form: Form::Number(Number::U8),
-    },
-    Field {
-        name: "flags",
-        form: Form::Number(Number::U8),
-    },
-    Field {
-        name: "padding",
-        form: Form::Pad(2),
-    },
-    Field {
-        name: "keys",
-        form: Form::Array(746),
-    },
+    Field { name: "generic", form: Form::Record(6) },
+    Field { name: "nkeys", form: Form::Number(Number::U8) },
+    Field { name: "flags", form: Form::Number(Number::U8) },
+    Field { name: "padding", form: Form::Pad(2) },
+    Field { name: "keys", form: Form::Array(746) },
 ];
 
 // `struct tc_pedit_key`
+#[rattlefmt::skip]
 const STRUCT_TC_PEDIT_KEY: [Field<'static>; 6] = [
-    Field {
-        name: "mask",
-        form: Form::Number(Number::U32),
-    },
-    Field {
-        name: "val",
-        form: Form::Number(Number::U32),
-    },
-    Field {
-        name: "off",
-        form: Form::Number(Number::U32),
-    },
-    Field {
-        name: "at",
-        form: Form::Number(Number::U32),
-    },
-    Field {
-        name: "offmask",
-        form: Form::Number(Number::U32),
-    },
-    Field {
-        name: "shift",
-        form: Form::Number(Number::U32),
-    },
+    Field { name: "mask", form: Form::Number(Number::U32) },
+    Field { name: "val", form: Form::Number(Number::U32) },
+    Field { name: "off", form: Form::Number(Number::U32) },
+    Field { name: "at", form: Form::Number(Number::U32) },
+    Field { name: "offmask", form: Form::Number(Number::U32) },
+    Field { name: "shift", form: Form::Number(Number::U32) },
 ];
 
 // `list pedit_keys_ex`
-const LIST_PEDIT_KEYS_EX: [Row<'static>; 1] = [Row {
-    word: 32774,
-    name: "KeyEx",
-    form: Form::List(748),
-}];
+#[rattlefmt::skip]
+const LIST_PEDIT_KEYS_EX: [Row<'static>; 1] = [
+    Row { word: 32774, name: "KeyEx", form: Form::List(748) },
+];
 
 // `list pedit_key_ex`
+#[rattlefmt::skip]
 const LIST_PEDIT_KEY_EX: [Row<'static>; 2] = [
-    Row {
-        word: 1,
-        name: "Htype",
-        form: Form::Named(Number::U16, 749),
-    },
-    Row {
-        word: 2,
-        name: "Cmd",
-        form: Form::Named(Number::U16, 750),
-    },
+    Row { word: 1, name: "Htype", form: Form::Named(Number::U16, 749) },
+    Row { word: 2, name: "Cmd", form: Form::Named(Number::U16, 750) },
 ];
 
 // `enum pedit_header_type`
+#[rattlefmt::skip]
 const ENUM_PEDIT_HEADER_TYPE: [Name<'static>; 6] = [
-    Name {
-        number: 0,
-        name: "Network",
-    },
-    Name {
-        number: 1,
-        name: "Eth",
-    },
-    Name {
-        number: 2,
-        name: "Ip4",
-    },
-    Name {
-        number: 3,
-        name: "Ip6",
-    },
-    Name {
-        number: 4,
-        name: "Tcp",
-    },
-    Name {
-        number: 5,
-        name: "Udp",
-    },
+    Name { number: 0, name: "Network" },
+    Name { number: 1, name: "Eth" },
+    Name { number: 2, name: "Ip4" },
+    Name { number: 3, name: "Ip6" },
+    Name { number: 4, name: "Tcp" },
+    Name { number: 5, name: "Udp" },
 ];
 
 // `enum pedit_cmd`
+#[rattlefmt::skip]
 const ENUM_PEDIT_CMD: [Name<'static>; 2] = [
-    Name {
-        number: 0,
-        name: "Set",
-    },
-    Name {
-        number: 1,
-        name: "Add",
-    },
+    Name { number: 0, name: "Set" },
+    Name { number: 1, name: "Add" },
 ];
 
 // `list action`: the rows of pedit
-const LIST_ACTION_ACTION_PEDIT: [Row<'static>; 1] = [Row {
-    word: 32770,
-    name: "Options",
-    form: Form::List(744),
-}];
+#[rattlefmt::skip]
+const LIST_ACTION_ACTION_PEDIT: [Row<'static>; 1] = [
+    Row { word: 32770, name: "Options", form: Form::List(744) },
+];
 
 #[tactic(auto, unfolding(crate::specs::Parts::Actions::parts_of_actions_pedit))]
 pub(crate) fn parts_of_actions_pedit(place: usize) -> Part<'static>
@@ -1233,173 +632,57 @@ pub(crate) fn parts_of_actions_pedit(place: usize) -> Part<'static>
 }
 
 // `list police`
+#[rattlefmt::skip]
 const LIST_POLICE: [Row<'static>; 11] = [
-    Row {
-        word: 1,
-        name: "Tbf",
-        form: Form::Record(758),
-    },
-    Row {
-        word: 2,
-        name: "Rate",
-        form: Form::Hex,
-    },
-    Row {
-        word: 3,
-        name: "Peakrate",
-        form: Form::Hex,
-    },
-    Row {
-        word: 4,
-        name: "Avrate",
-        form: Form::Number(Number::U32),
-    },
-    Row {
-        word: 5,
-        name: "Result",
-        form: Form::Named(Number::U32, 7),
-    },
-    Row {
-        word: 6,
-        name: "Tm",
-        form: Form::Record(8),
-    },
-    Row {
-        word: 7,
-        name: "Pad",
-        form: Form::Flag,
-    },
-    Row {
-        word: 8,
-        name: "Rate64",
-        form: Form::Number(Number::U64),
-    },
-    Row {
-        word: 9,
-        name: "Peakrate64",
-        form: Form::Number(Number::U64),
-    },
-    Row {
-        word: 10,
-        name: "Pktrate64",
-        form: Form::Number(Number::U64),
-    },
-    Row {
-        word: 11,
-        name: "Pktburst64",
-        form: Form::Number(Number::U64),
-    },
+    Row { word: 1, name: "Tbf", form: Form::Record(758) },
+    Row { word: 2, name: "Rate", form: Form::Hex },
+    Row { word: 3, name: "Peakrate", form: Form::Hex },
+    Row { word: 4, name: "Avrate", form: Form::Number(Number::U32) },
+    Row { word: 5, name: "Result", form: Form::Named(Number::U32, 7) },
+    Row { word: 6, name: "Tm", form: Form::Record(8) },
+    Row { word: 7, name: "Pad", form: Form::Flag },
+    Row { word: 8, name: "Rate64", form: Form::Number(Number::U64) },
+    Row { word: 9, name: "Peakrate64", form: Form::Number(Number::U64) },
+    Row { word: 10, name: "Pktrate64", form: Form::Number(Number::U64) },
+    Row { word: 11, name: "Pktburst64", form: Form::Number(Number::U64) },
 ];
 
 // `list police`
+#[rattlefmt::skip]
 const LIST_POLICE_IN_POLICE: [Row<'static>; 11] = [
-    Row {
-        word: 1,
-        name: "Tbf",
-        form: Form::Record(758),
-    },
-    Row {
-        word: 2,
-        name: "Rate",
-        form: Form::Hex,
-    },
-    Row {
-        word: 3,
-        name: "Peakrate",
-        form: Form::Hex,
-    },
-    Row {
-        word: 4,
-        name: "Avrate",
-        form: Form::Number(Number::U32),
-    },
-    Row {
-        word: 5,
-        name: "Result",
-        form: Form::Named(Number::U32, 7),
-    },
-    Row {
-        word: 6,
-        name: "Tm",
-        form: Form::Record(8),
-    },
-    Row {
-        word: 7,
-        name: "Pad",
-        form: Form::Flag,
-    },
-    Row {
-        word: 8,
-        name: "Rate64",
-        form: Form::Number(Number::U64),
-    },
-    Row {
-        word: 9,
-        name: "Peakrate64",
-        form: Form::Number(Number::U64),
-    },
-    Row {
-        word: 10,
-        name: "Pktrate64",
-        form: Form::Number(Number::U64),
-    },
-    Row {
-        word: 11,
-        name: "Pktburst64",
-        form: Form::Number(Number::U64),
-    },
+    Row { word: 1, name: "Tbf", form: Form::Record(758) },
+    Row { word: 2, name: "Rate", form: Form::Hex },
+    Row { word: 3, name: "Peakrate", form: Form::Hex },
+    Row { word: 4, name: "Avrate", form: Form::Number(Number::U32) },
+    Row { word: 5, name: "Result", form: Form::Named(Number::U32, 7) },
+    Row { word: 6, name: "Tm", form: Form::Record(8) },
+    Row { word: 7, name: "Pad", form: Form::Flag },
+    Row { word: 8, name: "Rate64", form: Form::Number(Number::U64) },
+    Row { word: 9, name: "Peakrate64", form: Form::Number(Number::U64) },
+    Row { word: 10, name: "Pktrate64", form: Form::Number(Number::U64) },
+    Row { word: 11, name: "Pktburst64", form: Form::Number(Number::U64) },
 ];
 
 // `struct tc_police`
+#[rattlefmt::skip]
 const STRUCT_TC_POLICE: [Field<'static>; 10] = [
-    Field {
-        name: "index",
-        form: Form::Number(Number::U32),
-    },
-    Field {
-        name: "action",
-        form: Form::Named(Number::I32, 7),
-    },
-    Field {
-        name: "limit",
-        form: Form::Number(Number::U32),
-    },
-    Field {
-        name: "burst",
-        form: Form::Number(Number::U32),
-    },
-    Field {
-        name: "mtu",
-        form: Form::Number(Number::U32),
-    },
-    Field {
-        name: "rate",
-        form: Form::Record(4200),
-    },
-    Field {
-        name: "peakrate",
-        form: Form::Record(4200),
-    },
-    Field {
-        name: "refcnt",
-        form: Form::Number(Number::I32),
-    },
-    Field {
-        name: "bindcnt",
-        form: Form::Number(Number::I32),
-    },
-    Field {
-        name: "capab",
-        form: Form::Number(Number::U32),
-    },
+    Field { name: "index", form: Form::Number(Number::U32) },
+    Field { name: "action", form: Form::Named(Number::I32, 7) },
+    Field { name: "limit", form: Form::Number(Number::U32) },
+    Field { name: "burst", form: Form::Number(Number::U32) },
+    Field { name: "mtu", form: Form::Number(Number::U32) },
+    Field { name: "rate", form: Form::Record(4200) },
+    Field { name: "peakrate", form: Form::Record(4200) },
+    Field { name: "refcnt", form: Form::Number(Number::I32) },
+    Field { name: "bindcnt", form: Form::Number(Number::I32) },
+    Field { name: "capab", form: Form::Number(Number::U32) },
 ];
 
 // `list action`: the rows of police
-const LIST_ACTION_ACTION_POLICE: [Row<'static>; 1] = [Row {
-    word: 32770,
-    name: "Options",
-    form: Form::List(757),
-}];
+#[rattlefmt::skip]
+const LIST_ACTION_ACTION_POLICE: [Row<'static>; 1] = [
+    Row { word: 32770, name: "Options", form: Form::List(757) },
+];
 
 #[tactic(auto, unfolding(crate::specs::Parts::Actions::parts_of_actions_police))]
 pub(crate) fn parts_of_actions_police(place: usize) -> Part<'static>
@@ -1415,51 +698,27 @@ pub(crate) fn parts_of_actions_police(place: usize) -> Part<'static>
 }
 
 // `list sample`
+#[rattlefmt::skip]
 const LIST_SAMPLE_IN_SAMPLE: [Row<'static>; 6] = [
-    Row {
-        word: 1,
-        name: "Tm",
-        form: Form::Record(8),
-    },
-    Row {
-        word: 2,
-        name: "Parms",
-        form: Form::Record(769),
-    },
-    Row {
-        word: 3,
-        name: "Rate",
-        form: Form::Number(Number::U32),
-    },
-    Row {
-        word: 4,
-        name: "TruncSize",
-        form: Form::Number(Number::U32),
-    },
-    Row {
-        word: 5,
-        name: "PsampleGroup",
-        form: Form::Number(Number::U32),
-    },
-    Row {
-        word: 6,
-        name: "Pad",
-        form: Form::Flag,
-    },
+    Row { word: 1, name: "Tm", form: Form::Record(8) },
+    Row { word: 2, name: "Parms", form: Form::Record(769) },
+    Row { word: 3, name: "Rate", form: Form::Number(Number::U32) },
+    Row { word: 4, name: "TruncSize", form: Form::Number(Number::U32) },
+    Row { word: 5, name: "PsampleGroup", form: Form::Number(Number::U32) },
+    Row { word: 6, name: "Pad", form: Form::Flag },
 ];
 
 // `struct tc_sample`
-const STRUCT_TC_SAMPLE: [Field<'static>; 1] = [Field {
-    name: "generic",
-    form: Form::Record(6),
-}];
+#[rattlefmt::skip]
+const STRUCT_TC_SAMPLE: [Field<'static>; 1] = [
+    Field { name: "generic", form: Form::Record(6) },
+];
 
 // `list action`: the rows of sample
-const LIST_ACTION_ACTION_SAMPLE: [Row<'static>; 1] = [Row {
-    word: 32770,
-    name: "Options",
-    form: Form::List(768),
-}];
+#[rattlefmt::skip]
+const LIST_ACTION_ACTION_SAMPLE: [Row<'static>; 1] = [
+    Row { word: 32770, name: "Options", form: Form::List(768) },
+];
 
 #[tactic(auto, unfolding(crate::specs::Parts::Actions::parts_of_actions_sample))]
 pub(crate) fn parts_of_actions_sample(place: usize) -> Part<'static>
@@ -1474,41 +733,25 @@ pub(crate) fn parts_of_actions_sample(place: usize) -> Part<'static>
 }
 
 // `list simple`
+#[rattlefmt::skip]
 const LIST_SIMPLE_IN_SIMPLE: [Row<'static>; 4] = [
-    Row {
-        word: 1,
-        name: "Tm",
-        form: Form::Record(8),
-    },
-    Row {
-        word: 2,
-        name: "Parms",
-        form: Form::Record(781),
-    },
-    Row {
-        word: 3,
-        name: "Data",
-        form: Form::Hex,
-    },
-    Row {
-        word: 4,
-        name: "Pad",
-        form: Form::Flag,
-    },
+    Row { word: 1, name: "Tm", form: Form::Record(8) },
+    Row { word: 2, name: "Parms", form: Form::Record(781) },
+    Row { word: 3, name: "Data", form: Form::Hex },
+    Row { word: 4, name: "Pad", form: Form::Flag },
 ];
 
 // `struct tc_defact`
-const STRUCT_TC_DEFACT: [Field<'static>; 1] = [Field {
-    name: "generic",
-    form: Form::Record(6),
-}];
+#[rattlefmt::skip]
+const STRUCT_TC_DEFACT: [Field<'static>; 1] = [
+    Field { name: "generic", form: Form::Record(6) },
+];
 
 // `list action`: the rows of simple
-const LIST_ACTION_ACTION_SIMPLE: [Row<'static>; 1] = [Row {
-    word: 32770,
-    name: "Options",
-    form: Form::List(780),
-}];
+#[rattlefmt::skip]
+const LIST_ACTION_ACTION_SIMPLE: [Row<'static>; 1] = [
+    Row { word: 32770, name: "Options", form: Form::List(780) },
+];
 
 #[tactic(auto, unfolding(crate::specs::Parts::Actions::parts_of_actions_simple))]
 pub(crate) fn parts_of_actions_simple(place: usize) -> Part<'static>
@@ -1523,71 +766,31 @@ pub(crate) fn parts_of_actions_simple(place: usize) -> Part<'static>
 }
 
 // `list skbedit`
+#[rattlefmt::skip]
 const LIST_SKBEDIT_IN_SKBEDIT: [Row<'static>; 10] = [
-    Row {
-        word: 1,
-        name: "Tm",
-        form: Form::Record(8),
-    },
-    Row {
-        word: 2,
-        name: "Parms",
-        form: Form::Record(793),
-    },
-    Row {
-        word: 3,
-        name: "Priority",
-        form: Form::Number(Number::U32),
-    },
-    Row {
-        word: 4,
-        name: "QueueMapping",
-        form: Form::Number(Number::U16),
-    },
-    Row {
-        word: 5,
-        name: "Mark",
-        form: Form::Number(Number::U32),
-    },
-    Row {
-        word: 6,
-        name: "Pad",
-        form: Form::Flag,
-    },
-    Row {
-        word: 7,
-        name: "Ptype",
-        form: Form::Number(Number::U16),
-    },
-    Row {
-        word: 8,
-        name: "Mask",
-        form: Form::Number(Number::U32),
-    },
-    Row {
-        word: 9,
-        name: "Flags",
-        form: Form::Number(Number::U64),
-    },
-    Row {
-        word: 10,
-        name: "QueueMappingMax",
-        form: Form::Number(Number::U16),
-    },
+    Row { word: 1, name: "Tm", form: Form::Record(8) },
+    Row { word: 2, name: "Parms", form: Form::Record(793) },
+    Row { word: 3, name: "Priority", form: Form::Number(Number::U32) },
+    Row { word: 4, name: "QueueMapping", form: Form::Number(Number::U16) },
+    Row { word: 5, name: "Mark", form: Form::Number(Number::U32) },
+    Row { word: 6, name: "Pad", form: Form::Flag },
+    Row { word: 7, name: "Ptype", form: Form::Number(Number::U16) },
+    Row { word: 8, name: "Mask", form: Form::Number(Number::U32) },
+    Row { word: 9, name: "Flags", form: Form::Number(Number::U64) },
+    Row { word: 10, name: "QueueMappingMax", form: Form::Number(Number::U16) },
 ];
 
 // `struct tc_skbedit`
-const STRUCT_TC_SKBEDIT: [Field<'static>; 1] = [Field {
-    name: "generic",
-    form: Form::Record(6),
-}];
+#[rattlefmt::skip]
+const STRUCT_TC_SKBEDIT: [Field<'static>; 1] = [
+    Field { name: "generic", form: Form::Record(6) },
+];
 
 // `list action`: the rows of skbedit
-const LIST_ACTION_ACTION_SKBEDIT: [Row<'static>; 1] = [Row {
-    word: 32770,
-    name: "Options",
-    form: Form::List(792),
-}];
+#[rattlefmt::skip]
+const LIST_ACTION_ACTION_SKBEDIT: [Row<'static>; 1] = [
+    Row { word: 32770, name: "Options", form: Form::List(792) },
+];
 
 #[tactic(auto, unfolding(crate::specs::Parts::Actions::parts_of_actions_skbedit))]
 pub(crate) fn parts_of_actions_skbedit(place: usize) -> Part<'static>
@@ -1602,61 +805,29 @@ pub(crate) fn parts_of_actions_skbedit(place: usize) -> Part<'static>
 }
 
 // `list skbmod`
+#[rattlefmt::skip]
 const LIST_SKBMOD_IN_SKBMOD: [Row<'static>; 6] = [
-    Row {
-        word: 1,
-        name: "Tm",
-        form: Form::Record(8),
-    },
-    Row {
-        word: 2,
-        name: "Parms",
-        form: Form::Record(805),
-    },
-    Row {
-        word: 3,
-        name: "Dmac",
-        form: Form::Mac,
-    },
-    Row {
-        word: 4,
-        name: "Smac",
-        form: Form::Mac,
-    },
-    Row {
-        word: 5,
-        name: "Etype",
-        form: Form::Number(Number::U16),
-    },
-    Row {
-        word: 6,
-        name: "Pad",
-        form: Form::Flag,
-    },
+    Row { word: 1, name: "Tm", form: Form::Record(8) },
+    Row { word: 2, name: "Parms", form: Form::Record(805) },
+    Row { word: 3, name: "Dmac", form: Form::Mac },
+    Row { word: 4, name: "Smac", form: Form::Mac },
+    Row { word: 5, name: "Etype", form: Form::Number(Number::U16) },
+    Row { word: 6, name: "Pad", form: Form::Flag },
 ];
 
 // `struct tc_skbmod`
+#[rattlefmt::skip]
 const STRUCT_TC_SKBMOD: [Field<'static>; 3] = [
-    Field {
-        name: "generic",
-        form: Form::Record(6),
-    },
-    Field {
-        name: "padding",
-        form: Form::Pad(4),
-    },
-    Field {
-        name: "flags",
-        form: Form::Number(Number::U64),
-    },
+    Field { name: "generic", form: Form::Record(6) },
+    Field { name: "padding", form: Form::Pad(4) },
+    Field { name: "flags", form: Form::Number(Number::U64) },
 ];
 
 // `list action`: the rows of skbmod
-const LIST_ACTION_ACTION_SKBMOD: [Row<'static>; 1] = [Row {
-    word: 32770,
-    name: "Options",
-    form: Form::List(804),
-}];
+#[rattlefmt::skip]
+const LIST_ACTION_ACTION_SKBMOD: [Row<'static>; 1] = [
+    Row { word: 32770, name: "Options", form: Form::List(804) },
+];
 
 #[tactic(auto, unfolding(crate::specs::Parts::Actions::parts_of_actions_skbmod))]
 pub(crate) fn parts_of_actions_skbmod(place: usize) -> Part<'static>
@@ -1671,116 +842,44 @@ pub(crate) fn parts_of_actions_skbmod(place: usize) -> Part<'static>
 }
 
 // `list tunnel_key`
+#[rattlefmt::skip]
 const LIST_TUNNEL_KEY_IN_TUNNELKEY: [Row<'static>; 14] = [
-    Row {
-        word: 1,
-        name: "Tm",
-        form: Form::Record(8),
-    },
-    Row {
-        word: 2,
-        name: "Parms",
-        form: Form::Record(817),
-    },
-    Row {
-        word: 3,
-        name: "EncIpv4Src",
-        form: Form::Ipv4,
-    },
-    Row {
-        word: 4,
-        name: "EncIpv4Dst",
-        form: Form::Ipv4,
-    },
-    Row {
-        word: 5,
-        name: "EncIpv6Src",
-        form: Form::Ipv6,
-    },
-    Row {
-        word: 6,
-        name: "EncIpv6Dst",
-        form: Form::Ipv6,
-    },
-    Row {
-        word: 7,
-        name: "EncKeyId",
-        form: Form::Number(Number::U32Be),
-    },
-    Row {
-        word: 8,
-        name: "Pad",
-        form: Form::Flag,
-    },
-    Row {
-        word: 9,
-        name: "EncDstPort",
-        form: Form::Number(Number::U16Be),
-    },
-    Row {
-        word: 10,
-        name: "NoCsum",
-        form: Form::Truth,
-    },
-    Row {
-        word: 11,
-        name: "EncOpts",
-        form: Form::List(818),
-    },
-    Row {
-        word: 12,
-        name: "EncTos",
-        form: Form::Number(Number::U8),
-    },
-    Row {
-        word: 13,
-        name: "EncTtl",
-        form: Form::Number(Number::U8),
-    },
-    Row {
-        word: 14,
-        name: "NoFrag",
-        form: Form::Flag,
-    },
+    Row { word: 1, name: "Tm", form: Form::Record(8) },
+    Row { word: 2, name: "Parms", form: Form::Record(817) },
+    Row { word: 3, name: "EncIpv4Src", form: Form::Ipv4 },
+    Row { word: 4, name: "EncIpv4Dst", form: Form::Ipv4 },
+    Row { word: 5, name: "EncIpv6Src", form: Form::Ipv6 },
+    Row { word: 6, name: "EncIpv6Dst", form: Form::Ipv6 },
+    Row { word: 7, name: "EncKeyId", form: Form::Number(Number::U32Be) },
+    Row { word: 8, name: "Pad", form: Form::Flag },
+    Row { word: 9, name: "EncDstPort", form: Form::Number(Number::U16Be) },
+    Row { word: 10, name: "NoCsum", form: Form::Truth },
+    Row { word: 11, name: "EncOpts", form: Form::List(818) },
+    Row { word: 12, name: "EncTos", form: Form::Number(Number::U8) },
+    Row { word: 13, name: "EncTtl", form: Form::Number(Number::U8) },
+    Row { word: 14, name: "NoFrag", form: Form::Flag },
 ];
 
 // `struct tc_tunnel_key`
+#[rattlefmt::skip]
 const STRUCT_TC_TUNNEL_KEY: [Field<'static>; 2] = [
-    Field {
-        name: "generic",
-        form: Form::Record(6),
-    },
-    Field {
-        name: "t_action",
-        form: Form::Number(Number::I32),
-    },
+    Field { name: "generic", form: Form::Record(6) },
+    Field { name: "t_action", form: Form::Number(Number::I32) },
 ];
 
 // `list tunnel_key_opts`
+#[rattlefmt::skip]
 const LIST_TUNNEL_KEY_OPTS: [Row<'static>; 3] = [
-    Row {
-        word: 1,
-        name: "Geneve",
-        form: Form::List(2450),
-    },
-    Row {
-        word: 32770,
-        name: "Vxlan",
-        form: Form::List(2451),
-    },
-    Row {
-        word: 32771,
-        name: "Erspan",
-        form: Form::List(2452),
-    },
+    Row { word: 1, name: "Geneve", form: Form::List(2450) },
+    Row { word: 32770, name: "Vxlan", form: Form::List(2451) },
+    Row { word: 32771, name: "Erspan", form: Form::List(2452) },
 ];
 
 // `list action`: the rows of tunnel_key
-const LIST_ACTION_ACTION_TUNNEL_KEY: [Row<'static>; 1] = [Row {
-    word: 32770,
-    name: "Options",
-    form: Form::List(816),
-}];
+#[rattlefmt::skip]
+const LIST_ACTION_ACTION_TUNNEL_KEY: [Row<'static>; 1] = [
+    Row { word: 32770, name: "Options", form: Form::List(816) },
+];
 
 #[tactic(auto, unfolding(crate::specs::Parts::Actions::parts_of_actions_tunnel_key))]
 pub(crate) fn parts_of_actions_tunnel_key(place: usize) -> Part<'static>
@@ -1796,91 +895,40 @@ pub(crate) fn parts_of_actions_tunnel_key(place: usize) -> Part<'static>
 }
 
 // `list vlan`
+#[rattlefmt::skip]
 const LIST_VLAN_IN_VLAN: [Row<'static>; 8] = [
-    Row {
-        word: 1,
-        name: "Tm",
-        form: Form::Record(8),
-    },
-    Row {
-        word: 2,
-        name: "Parms",
-        form: Form::Record(829),
-    },
-    Row {
-        word: 3,
-        name: "PushVlanId",
-        form: Form::Number(Number::U16),
-    },
-    Row {
-        word: 4,
-        name: "PushVlanProtocol",
-        form: Form::Number(Number::U16Be),
-    },
-    Row {
-        word: 5,
-        name: "Pad",
-        form: Form::Flag,
-    },
-    Row {
-        word: 6,
-        name: "PushVlanPriority",
-        form: Form::Number(Number::U8),
-    },
-    Row {
-        word: 7,
-        name: "PushEthDst",
-        form: Form::Mac,
-    },
-    Row {
-        word: 8,
-        name: "PushEthSrc",
-        form: Form::Mac,
-    },
+    Row { word: 1, name: "Tm", form: Form::Record(8) },
+    Row { word: 2, name: "Parms", form: Form::Record(829) },
+    Row { word: 3, name: "PushVlanId", form: Form::Number(Number::U16) },
+    Row { word: 4, name: "PushVlanProtocol", form: Form::Number(Number::U16Be) },
+    Row { word: 5, name: "Pad", form: Form::Flag },
+    Row { word: 6, name: "PushVlanPriority", form: Form::Number(Number::U8) },
+    Row { word: 7, name: "PushEthDst", form: Form::Mac },
+    Row { word: 8, name: "PushEthSrc", form: Form::Mac },
 ];
 
 // `struct tc_vlan`
+#[rattlefmt::skip]
 const STRUCT_TC_VLAN: [Field<'static>; 2] = [
-    Field {
-        name: "generic",
-        form: Form::Record(6),
-    },
-    Field {
-        name: "v_action",
-        form: Form::Named(Number::I32, 830),
-    },
+    Field { name: "generic", form: Form::Record(6) },
+    Field { name: "v_action", form: Form::Named(Number::I32, 830) },
 ];
 
 // `enum tca_vlan_act`
+#[rattlefmt::skip]
 const ENUM_TCA_VLAN_ACT: [Name<'static>; 5] = [
-    Name {
-        number: 1,
-        name: "Pop",
-    },
-    Name {
-        number: 2,
-        name: "Push",
-    },
-    Name {
-        number: 3,
-        name: "Modify",
-    },
-    Name {
-        number: 4,
-        name: "PopEth",
-    },
-    Name {
-        number: 5,
-        name: "PushEth",
-    },
+    Name { number: 1, name: "Pop" },
+    Name { number: 2, name: "Push" },
+    Name { number: 3, name: "Modify" },
+    Name { number: 4, name: "PopEth" },
+    Name { number: 5, name: "PushEth" },
 ];
 
 // `list action`: the rows of vlan
-const LIST_ACTION_ACTION_VLAN: [Row<'static>; 1] = [Row {
-    word: 32770,
-    name: "Options",
-    form: Form::List(828),
-}];
+#[rattlefmt::skip]
+const LIST_ACTION_ACTION_VLAN: [Row<'static>; 1] = [
+    Row { word: 32770, name: "Options", form: Form::List(828) },
+];
 
 #[tactic(auto, unfolding(crate::specs::Parts::Actions::parts_of_actions_vlan))]
 pub(crate) fn parts_of_actions_vlan(place: usize) -> Part<'static>

@@ -2,8 +2,7 @@
 
 ghost use Rattle.std.specs.Prelude.{◌≡◌, map};
 ghost use Rattle.tc_forms.specs.Tables.{part_view};
-ghost use Rattle.tc_kinds.specs.Parts.Elements.{parts_of_elements};
-ghost use Rattle.tc_kinds.specs.Parts.Elements.{all_of_elements};
+ghost use Rattle.tc_kinds.specs.Parts.Elements.{parts_of_elements, all_of_elements};
 
 use tc_forms::{Form, Number, Part};
 
