@@ -1,7 +1,7 @@
 -- Events that are sent one after the other.
-use Rattle.std.proofs.Common.{◌≡◌, ℕ, zero, suc, ◌+◌, ◌-◌, ◌<◌, ◌≤◌, true, false, List, [], ◌∷◌, ◌++◌, length, drop, take, Some, None, refl, subst, sym, ap}
-use Rattle.std.proofs.Common.{◌∙◌, append_assoc, append-nil, arith, get_or, add-one}
-use Rattle.std.specs.Prelude.{◌==◌, Bool, Option, option_map, unwrap_or}
+use Rattle.std.proofs.Common.{◌≡◌, ◌×◌, ℕ, zero, suc, ◌+◌, ◌-◌, ◌<◌, ◌≤◌, true, false, List, [], ◌∷◌, ◌++◌, length, drop, take, Some, None, refl, subst}
+use Rattle.std.proofs.Common.{◌∙◌, sym, ap, append_assoc, append-nil, arith, get_or, Result}
+use Rattle.std.specs.Prelude.{◌==◌, Bool, OnOk, Option, option_map, unwrap_or}
 use Rattle.std.proofs.lemmas.Bool.{cond-true, cond-false, false_from_ne_true, eq-eqb, eqb-true, true≢false}
 use Rattle.std.specs.Str.{IsUtf8, is_utf8}
 use Rattle.std.proofs.lemmas.Str.{IsUtf8-from_is_utf8, is_utf8-from_IsUtf8}
@@ -20,6 +20,7 @@ use Rattle.tc_forms.specs.Tables.{Table, field_view, fields_view, no_table}
 use Rattle.tc_forms.specs.Values.{plain_shown}
 use Rattle.tc_forms.specs.Widths.{field_width}
 use Rattle.tc_forms.specs.declared.form.Form.{Form}
+use Rattle.tc_forms.specs.declared.form.Number.{Number}
 use Rattle.tc_forms.specs.declared.form.Field.{Field as CodeField}
 use Rattle.serde.specs.declared.name.Case.TheVariants.{AsIs}
 use Rattle.serde_json.specs.Data.{no_members, member, Data, Items, array, Members, string}
@@ -140,13 +141,30 @@ module _ (table : Table) (Inner : Form → List ℕ → Data) (fs : List CodeFie
 
 -- ---- levels
 
-pub show_deeper : (table : Table) (n m : ℕ) (k : List ℕ) (f : Form) (b : List ℕ) → n ≡ m + 1 → show table n k f b ≡ shown table (show table m) k f b
-show_deeper table n m k f b e = ap (λ j. show table j k f b) (e ∙ add-one m)
+-- what is shown has a level less within
+pub level_sent : {T E : Type 0} (table : Table) (n m : ℕ) (k : List ℕ) (f : Form) (b : List ℕ) (old new : Log) (r : Result T E) → (1 ≤ n) × (m ≡ n - 1)
+    → OnOk r (Sent (events (shown table (show table m) k f b)) old new) → OnOk r (Sent (events (show table n k f b)) old new)
+level_sent table zero m k f b old new r less h = absurd (omega (arith, less.0))
+level_sent table (suc n) m k f b old new r less h =
+    let e : m ≡ n = omega (arith, less.1) in subst (λ j. OnOk r (Sent (events (shown table (show table j) k f b)) old new)) e h
 
-pub level_sent : (table : Table) (n m : ℕ) (k : List ℕ) (f shape : Form) (b : List ℕ) (d : Data) (old new : Log) → n ≡ m + 1 → f ≡ shape
-    → shown table (show table m) k shape b ≡ d → Sent (events d) old new → Sent (events (show table n k f b)) old new
-level_sent table n m k f shape b d old new deeper same is sent =
-    subst (λ x. Sent (events x) old new) (sym (show_deeper table n m k f b deeper ∙ ap (λ g. shown table (show table m) k g b) same ∙ is)) sent
+pub too_deep_sent : {T E : Type 0} (table : Table) (n : ℕ) (k : List ℕ) (f : Form) (b : List ℕ) (old new : Log) (r : Result T E) → (1 ≤ n → ⊥)
+    → OnOk r (Sent (events (raw b)) old new) → OnOk r (Sent (events (show table n k f b)) old new)
+too_deep_sent table zero k f b old new r none h = h
+too_deep_sent table (suc n) k f b old new r none h = absurd (none (omega arith))
+
+pub shape_sent : {T E : Type 0} (table : Table) (Inner : List ℕ → Form → List ℕ → Data) (k : List ℕ) (f shape : Form) (b : List ℕ) (d : Data)
+    (old new : Log) (r : Result T E) → f ≡ shape → shown table Inner k shape b ≡ d → OnOk r (Sent (events d) old new)
+    → OnOk r (Sent (events (shown table Inner k f b)) old new)
+shape_sent table Inner k f shape b d old new r same is h =
+    subst (λ x. OnOk r (Sent (events x) old new)) (sym (ap (λ g. shown table Inner k g b) same ∙ is)) h
+
+pub number_sent : {T E : Type 0} (table : Table) (n : ℕ) (k : List ℕ) (f : Form) (number : Number) (b : List ℕ) (old new : Log) (r : Result T E) → 0 < n
+    → f ≡ form.Number number → OnOk r (Sent (events (plain_shown no_table (form.Number number) b)) old new)
+    → OnOk r (Sent (events (show table n k f b)) old new)
+number_sent table zero k f number b old new r some same h = absurd (omega (arith, some))
+number_sent table (suc n) k f number b old new r some same h =
+    subst (λ g. OnOk r (Sent (events (show table (suc n) k g b)) old new)) (sym same) h
 
 pub empty_is : (b : List ℕ) → true ≡ (length b == 0) → length b ≡ 0
 empty_is b e = eqb-true (length b) 0 (sym e)
