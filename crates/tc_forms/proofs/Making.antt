@@ -1,5 +1,5 @@
 -- What is appended, part by part.
-use Rattle.std.proofs.Common.{◌≡◌, ◌×◌, ℕ, zero, suc, ◌+◌, ◌-◌, ◌/◌, ◌%◌, ◌<◌, ◌≤◌, List, [], ◌∷◌, ◌++◌, length, get_or, drop, take, reverse, replicate, Option}
+use Rattle.std.proofs.Common.{◌≡◌, ℕ, zero, suc, ◌+◌, ◌-◌, ◌/◌, ◌%◌, ◌<◌, ◌≤◌, List, [], ◌∷◌, ◌++◌, length, get_or, drop, take, reverse, replicate, Option}
 use Rattle.std.proofs.Common.{Some, None, Result, Ok, Err, refl, subst, sym, ap, ◌∙◌, append-nil, append_assoc, arith, slice_set, ◌*◌}
 use Rattle.std.specs.Prelude.{option_map, unwrap_or, option_and_then, nat_le, Bool, codes, false, true}
 use Rattle.std.proofs.lemmas.Bool.{cond-true, le-leb}
@@ -92,8 +92,10 @@ last_left x all start now new (Err e) left h = λ not. none_of all start (ap (op
 -- items of one form
 module _ (One : Data → Option (List ℕ)) (vs : List Value) (i : ℕ) (start now : List ℕ)
     (left : Left (each_made One (items_view (drop i vs))) (each_made One (items_view vs)) start now) where
-  pub items_end : length vs ≤ i → option_map (λ b. start ++ b) (each_made One (items_view vs)) ≡ Some now
-  items_end over = sym (left_as _ (Some []) _ start now (ap (λ ws. each_made One (items_view ws)) (drop_all i vs over)) left) ∙ ap Some (append-nil now)
+  pub items_end : (o : Option Items) → Some (items_view vs) ≡ o → length vs ≤ i → option_map (λ b. start ++ b) (option_and_then (each_made One) o) ≡ Some now
+  items_end o is over =
+      ap (λ x. option_map (λ b. start ++ b) (option_and_then (each_made One) x)) (sym is)
+      ∙ sym (left_as _ (Some []) _ start now (ap (λ ws. each_made One (items_view ws)) (drop_all i vs over)) left) ∙ ap Some (append-nil now)
 
   module _ (x : Value) (lt : i < length vs) (is : x ≡ get_or vs i x) where
     item_here : Left (joined (One (view x)) (each_made One (items_view (drop (i + 1) vs)))) (each_made One (items_view vs)) start now
@@ -106,8 +108,9 @@ module _ (One : Data → Option (List ℕ)) (vs : List Value) (i : ℕ) (start n
         → Left (each_made One (items_view (drop (i + 1) vs))) (each_made One (items_view vs)) start new
     items_more new done = joined_more (One (view x)) _ _ start now new item_here done
 
-    pub items_fail : (e : Stop) → Stops (One (view x)) e → Stops (each_made One (items_view vs)) e
-    items_fail e fails = joined_fails (One (view x)) _ _ start now e item_here fails
+    pub items_fail : (o : Option Items) (e : Stop) → Some (items_view vs) ≡ o → Stops (One (view x)) e → Stops (option_and_then (each_made One) o) e
+    items_fail o e listed fails =
+        subst (λ z. Stops (option_and_then (each_made One) z) e) listed (joined_fails (One (view x)) _ _ start now e item_here fails)
 
 -- fields
 module _ (table : Table) (Made : Form → Data → Option (List ℕ)) (fs : List CodeField) (i : ℕ) (d : Data) (start now : List ℕ)
@@ -138,9 +141,11 @@ module _ (table : Table) (Made : Form → Data → Option (List ℕ)) (fs : List
 module _ (Listed : List Row → List ℕ → Data → Option (List ℕ)) (Rows : List ℕ → List Row) (has : Bool) (vs : List Value) (i : ℕ) (first k start now : List ℕ)
     (left : Left (each_under (λ j d. Listed (Rows j) j d) has k (items_view (drop i vs))) (each_under (λ j d. Listed (Rows j) j d) has first (items_view vs))
     start now) where
-  pub listed_end : length vs ≤ i → option_map (λ b. start ++ b) (each_under (λ j d. Listed (Rows j) j d) has first (items_view vs)) ≡ Some now
-  listed_end over =
-      sym (left_as _ (Some []) _ start now (ap (λ ws. each_under (λ j d. Listed (Rows j) j d) has k (items_view ws)) (drop_all i vs over)) left)
+  pub listed_end : (o : Option Items) → Some (items_view vs) ≡ o → length vs ≤ i
+      → option_map (λ b. start ++ b) (option_and_then (each_under (λ j d. Listed (Rows j) j d) has first) o) ≡ Some now
+  listed_end o is over =
+      ap (λ x. option_map (λ b. start ++ b) (option_and_then (each_under (λ j d. Listed (Rows j) j d) has first) x)) (sym is)
+      ∙ sym (left_as _ (Some []) _ start now (ap (λ ws. each_under (λ j d. Listed (Rows j) j d) has k (items_view ws)) (drop_all i vs over)) left)
       ∙ ap Some (append-nil now)
 
   module _ (x : Value) (set : Option (List ℕ)) (next : List ℕ) (rows : List Row) (lt : i < length vs) (is : x ≡ get_or vs i x)
@@ -163,9 +168,11 @@ module _ (Listed : List Row → List ℕ → Data → Option (List ℕ)) (Rows :
         (each_under (λ j d. Listed (Rows j) j d) has first (items_view vs)) start new
     listed_more new done = (same_rows, joined_more (or_raw (raw_of (view x)) (Listed rows next (view x))) _ _ start now new one_here done)
 
-    pub listed_fails : (e : Stop) → Stops (or_raw (raw_of (view x)) (Listed rows next (view x))) e
-        → Stops (each_under (λ j d. Listed (Rows j) j d) has first (items_view vs)) e
-    listed_fails e fails = joined_fails (or_raw (raw_of (view x)) (Listed rows next (view x))) _ _ start now e one_here fails
+    pub listed_fails : (o : Option Items) (e : Stop) → Some (items_view vs) ≡ o → Stops (or_raw (raw_of (view x)) (Listed rows next (view x))) e
+        → Stops (option_and_then (each_under (λ j d. Listed (Rows j) j d) has first) o) e
+    listed_fails o e listed fails =
+        subst (λ z. Stops (option_and_then (each_under (λ j d. Listed (Rows j) j d) has first) z) e) listed
+        (joined_fails (or_raw (raw_of (view x)) (Listed rows next (view x))) _ _ start now e one_here fails)
 
 -- each under the kind that the items set
 pub under_own : (One : List ℕ → Data → Option (List ℕ)) (o : Option Items) (k : List ℕ) → k ≡ unwrap_or (option_map own_kind_named o) []

@@ -1,5 +1,5 @@
 -- Events that are sent one after the other.
-use Rattle.std.proofs.Common.{◌≡◌, ◌×◌, ℕ, zero, suc, ◌+◌, ◌-◌, ◌<◌, ◌≤◌, true, false, List, [], ◌∷◌, ◌++◌, length, drop, take, Some, None, refl, subst}
+use Rattle.std.proofs.Common.{◌≡◌, ℕ, zero, suc, ◌+◌, ◌-◌, ◌<◌, ◌≤◌, true, false, List, [], ◌∷◌, ◌++◌, length, drop, take, Some, None, refl, subst}
 use Rattle.std.proofs.Common.{◌∙◌, sym, ap, append_assoc, append-nil, arith, get_or, Result}
 use Rattle.std.specs.Prelude.{◌==◌, Bool, OnOk, Option, option_map, unwrap_or}
 use Rattle.std.proofs.lemmas.Bool.{cond-true, cond-false, false_from_ne_true, eq-eqb, eqb-true, true≢false}

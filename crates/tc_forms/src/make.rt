@@ -1,7 +1,7 @@
 //! Bytes of JSON, by form.
 
 ghost use Rattle.serde_json.specs.Find.{as_array, get};
-ghost use Rattle.serde_json.specs.View.{items_view, view};
+ghost use Rattle.serde_json.specs.View.{view};
 ghost use Rattle.std.specs.Prelude.{[], codes, false, option_and_then, option_map, true, ◌≡◌};
 ghost use Rattle.tc_forms.specs.Appended.{Appended, Found};
 ghost use Rattle.tc_forms.specs.AttributesMade.{attribute_made, by_row_made, each_under, framed, framed_with, layered_by, listed_made, word_made, word_or};
@@ -185,22 +185,10 @@ fn make_elements<'v, T: Tables>(
     ensures { Appended (option_and_then (each_made (make (T.parts_of at.now.table) at.now.depth at.now.kind.now form))
         (as_array (view value.now))) maker.old.bytes.items maker.new.bytes.items result }
 {
-    match value.as_array() {
-        Some(items) => make_each_of_elements(maker, at, form, items.as_slice()),
-        None => Err(maker.unfit(value, Wanted::List)),
-    }
-}
-
-#[cycle(make)]
-fn make_each_of_elements<'v, T: Tables>(
-    maker: &mut Maker<'v>,
-    at: &At<'v, T>,
-    form: Form,
-    items: &'v [Value],
-) -> Result<(), Stop>
-    ensures { Appended (each_made (make (T.parts_of at.now.table) at.now.depth at.now.kind.now form) (items_view items.now))
-        maker.old.bytes.items maker.new.bytes.items result }
-{
+    let items = match value.as_array() {
+        Some(items) => items.as_slice(),
+        None => return Err(maker.unfit(value, Wanted::List)),
+    };
     for (place, item) in items.iter().enumerate() {
         match make_form(maker, at, form, item) {
             Ok(()) => {}
@@ -228,30 +216,10 @@ fn make_list<'v, T: Tables>(
         (rows_under (T.parts_of at.now.table) list k) has held layer.now k d) in_force at.now.kind.now) (as_array (view value.now)))
         maker.old.bytes.items maker.new.bytes.items result }
 {
-    match value.as_array() {
-        Some(items) => {
-            let all = items.as_slice();
-            make_each_of_list(maker, at, list, in_force, has, layer, held, all)
-        }
-        None => Err(maker.unfit(value, Wanted::List)),
-    }
-}
-
-#[cycle(make)]
-fn make_each_of_list<'v, T: Tables>(
-    maker: &mut Maker<'v>,
-    at: &At<'v, T>,
-    list: usize,
-    in_force: bool,
-    has: bool,
-    layer: &'static str,
-    held: Option<Form>,
-    items: &'v [Value],
-) -> Result<(), Stop>
-    ensures { Appended (each_under (λ k d. listed_made (make (T.parts_of at.now.table) at.now.depth)
-        (rows_under (T.parts_of at.now.table) list k) has held layer.now k d) in_force at.now.kind.now (items_view items.now))
-        maker.old.bytes.items maker.new.bytes.items result }
-{
+    let items = match value.as_array() {
+        Some(items) => items.as_slice(),
+        None => return Err(maker.unfit(value, Wanted::List)),
+    };
     let mut so_far = at.kind;
     let mut rows = rows_under(at.table, list, at.kind);
     for (place, item) in items.iter().enumerate() {

@@ -1,7 +1,7 @@
-use Rattle.std.proofs.Common.{Some, None, ap, refl}
+use Rattle.std.proofs.Common.{Some, None, ◌∙◌, ap, refl}
 use Rattle.std.specs.Prelude.{[], option_and_then, true, false}
 use Rattle.serde_json.specs.Find.{as_array}
-use Rattle.serde_json.specs.View.{view}
+use Rattle.serde_json.specs.View.{items_view, view}
 use Rattle.tc_forms.specs.AttributesMade.{each_under, kinded_made, layered_by, listed_made}
 use Rattle.tc_forms.specs.Choices.{by_choice_made}
 use Rattle.tc_forms.specs.Made.{make}
@@ -13,46 +13,50 @@ use Rattle.tc_forms.proofs.Making.{fields_end, fields_fail, fields_more, items_e
 use Rattle.tc_forms.proofs.Making.{listed_made_as, listed_more, plain_in_form, raw_made, shape_made, too_deep, under_own}
 use Rattle.tc_forms.proofs.make.+make.Goals as goal
 
-pub make_each_of_elements-loop-place-preserved : goal.make_each_of_elements-loop-place-preserved
-make_each_of_elements-loop-place-preserved g t c =
-    items_more (make (g.T.Tables.parts_of c.args.at.now.table) c.args.at.now.depth c.args.at.now.kind.now c.args.form) c.args.items.now c.loop-place.place
-    c.args.maker.now.bytes.items c.loop-place.maker.bytes.items c.loop-place.invariant c.index-items-place.result c.loop-place-test.true
+pub make_elements-loop-place-preserved : goal.make_elements-loop-place-preserved
+make_elements-loop-place-preserved g t c =
+    items_more (make (g.T.Tables.parts_of c.args.at.now.table) c.args.at.now.depth c.args.at.now.kind.now c.args.form) c.as_slice-items.result.now
+    c.loop-place.place c.args.maker.now.bytes.items c.loop-place.maker.bytes.items c.loop-place.invariant c.index-items-place.result c.loop-place-test.true
     c.index-items-place.is c.make_form.new.maker.bytes.items c.in-Ok.ensures
 
-pub make_each_of_elements-returns-in-Err : goal.make_each_of_elements-returns-in-Err
-make_each_of_elements-returns-in-Err g t c =
-    items_fail (make (g.T.Tables.parts_of c.args.at.now.table) c.args.at.now.depth c.args.at.now.kind.now c.args.form) c.args.items.now c.loop-place.place
-    c.args.maker.now.bytes.items c.loop-place.maker.bytes.items c.loop-place.invariant c.index-items-place.result c.loop-place-test.true
-    c.index-items-place.is c.in-Err.e c.in-Err.ensures
+pub make_elements-returns-in-Err : goal.make_elements-returns-in-Err
+make_elements-returns-in-Err g t c =
+    items_fail (make (g.T.Tables.parts_of c.args.at.now.table) c.args.at.now.depth c.args.at.now.kind.now c.args.form) c.as_slice-items.result.now
+    c.loop-place.place c.args.maker.now.bytes.items c.loop-place.maker.bytes.items c.loop-place.invariant c.index-items-place.result c.loop-place-test.true
+    c.index-items-place.is (as_array (view c.args.value.now)) c.in-Err.e (ap (λ vs. Some (items_view vs)) c.as_slice-items.ensures.value ∙ c.in-Some.ensures)
+    c.in-Err.ensures
 
-pub make_each_of_elements-returns : goal.make_each_of_elements-returns
-make_each_of_elements-returns g t c =
-    items_end (make (g.T.Tables.parts_of c.args.at.now.table) c.args.at.now.depth c.args.at.now.kind.now c.args.form) c.args.items.now c.loop-place.place
-    c.args.maker.now.bytes.items c.loop-place.maker.bytes.items c.loop-place.invariant c.loop-place-test.false
+pub make_elements-returns : goal.make_elements-returns
+make_elements-returns g t c =
+    items_end (make (g.T.Tables.parts_of c.args.at.now.table) c.args.at.now.depth c.args.at.now.kind.now c.args.form) c.as_slice-items.result.now
+    c.loop-place.place c.args.maker.now.bytes.items c.loop-place.maker.bytes.items c.loop-place.invariant (as_array (view c.args.value.now))
+    (ap (λ vs. Some (items_view vs)) c.as_slice-items.ensures.value ∙ c.in-Some.ensures) c.loop-place-test.false
 
-pub make_each_of_list-loop-place-preserved : goal.make_each_of_list-loop-place-preserved
-make_each_of_list-loop-place-preserved g t c =
+pub make_list-loop-place-preserved : goal.make_list-loop-place-preserved
+make_list-loop-place-preserved g t c =
     let table = g.T.Tables.parts_of c.args.at.now.table in
     (c.kind_from-so_far.utf8, listed_more (λ rows j x. listed_made (make table c.args.at.now.depth) rows c.args.has c.args.held c.args.layer.now j x)
-    (rows_under table c.args.list) c.args.in_force c.args.items.now c.loop-place.place c.args.at.now.kind.now c.loop-place.so_far.now
+    (rows_under table c.args.list) c.args.in_force c.as_slice-items.result.now c.loop-place.place c.args.at.now.kind.now c.loop-place.so_far.now
     c.args.maker.now.bytes.items c.loop-place.maker.bytes.items c.loop-place.invariant.1.1 c.index-items-place.result _ c.kind_from-so_far.result.now
     (rows_in c.rows_from-rows.result) c.loop-place-test.true c.index-items-place.is c.kind_named-set.ensures c.kind_from-so_far.ensures
     c.rows_from-rows.ensures c.make_item.new.maker.bytes.items c.in-Ok.ensures)
 
-pub make_each_of_list-returns-in-Err : goal.make_each_of_list-returns-in-Err
-make_each_of_list-returns-in-Err g t c =
+pub make_list-returns-in-Err : goal.make_list-returns-in-Err
+make_list-returns-in-Err g t c =
     let table = g.T.Tables.parts_of c.args.at.now.table in
     listed_fails (λ rows j x. listed_made (make table c.args.at.now.depth) rows c.args.has c.args.held c.args.layer.now j x) (rows_under table c.args.list)
-    c.args.in_force c.args.items.now c.loop-place.place c.args.at.now.kind.now c.loop-place.so_far.now c.args.maker.now.bytes.items
+    c.args.in_force c.as_slice-items.result.now c.loop-place.place c.args.at.now.kind.now c.loop-place.so_far.now c.args.maker.now.bytes.items
     c.loop-place.maker.bytes.items c.loop-place.invariant.1.1 c.index-items-place.result _ c.kind_from-so_far.result.now (rows_in c.rows_from-rows.result)
-    c.loop-place-test.true c.index-items-place.is c.kind_named-set.ensures c.kind_from-so_far.ensures c.rows_from-rows.ensures c.in-Err.e c.in-Err.ensures
+    c.loop-place-test.true c.index-items-place.is c.kind_named-set.ensures c.kind_from-so_far.ensures c.rows_from-rows.ensures
+    (as_array (view c.args.value.now)) c.in-Err.e (ap (λ vs. Some (items_view vs)) c.as_slice-items.ensures.value ∙ c.in-Some.ensures) c.in-Err.ensures
 
-pub make_each_of_list-returns : goal.make_each_of_list-returns
-make_each_of_list-returns g t c =
+pub make_list-returns : goal.make_list-returns
+make_list-returns g t c =
     let table = g.T.Tables.parts_of c.args.at.now.table in
     listed_end (λ rows j x. listed_made (make table c.args.at.now.depth) rows c.args.has c.args.held c.args.layer.now j x) (rows_under table c.args.list)
-    c.args.in_force c.args.items.now c.loop-place.place c.args.at.now.kind.now c.loop-place.so_far.now c.args.maker.now.bytes.items
-    c.loop-place.maker.bytes.items c.loop-place.invariant.1.1 c.loop-place-test.false
+    c.args.in_force c.as_slice-items.result.now c.loop-place.place c.args.at.now.kind.now c.loop-place.so_far.now c.args.maker.now.bytes.items
+    c.loop-place.maker.bytes.items c.loop-place.invariant.1.1 (as_array (view c.args.value.now))
+    (ap (λ vs. Some (items_view vs)) c.as_slice-items.ensures.value ∙ c.in-Some.ensures) c.loop-place-test.false
 
 pub make_fields-loop-field-preserved : goal.make_fields-loop-field-preserved
 make_fields-loop-field-preserved g t c =

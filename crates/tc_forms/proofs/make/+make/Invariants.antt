@@ -28,9 +28,6 @@ decreases-make_member g l = 13 * l.at.now.depth + 1
 abbrev pub decreases-make_fields : goal.decreases-make_fields
 decreases-make_fields g l = 13 * l.at.now.depth + 3
 
-abbrev pub decreases-make_each_of_elements : goal.decreases-make_each_of_elements
-decreases-make_each_of_elements g l = 13 * l.at.now.depth + 2
-
 abbrev pub decreases-make_elements : goal.decreases-make_elements
 decreases-make_elements g l = 13 * l.at.now.depth + 3
 
@@ -48,9 +45,6 @@ decreases-make_attribute g l = 13 * l.at.now.depth + 6
 
 abbrev pub decreases-make_item : goal.decreases-make_item
 decreases-make_item g l = 13 * l.at.now.depth + 8
-
-abbrev pub decreases-make_each_of_list : goal.decreases-make_each_of_list
-decreases-make_each_of_list g l = 13 * l.at.now.depth + 10
 
 abbrev pub decreases-make_list : goal.decreases-make_list
 decreases-make_list g l = 13 * l.at.now.depth + 11
@@ -76,14 +70,14 @@ invariant-make_fields-loop-field g l =
     option_map (λ b. l.maker.bytes.items ++ b) (Left (drop l.field-index l.fields))
     ≡ option_map (λ b. l.initial.maker.bytes.items ++ b) (Left l.fields)
 
-abbrev pub invariant-make_each_of_elements-loop-place : goal.invariant-make_each_of_elements-loop-place
-invariant-make_each_of_elements-loop-place g l =
+abbrev pub invariant-make_elements-loop-place : goal.invariant-make_elements-loop-place
+invariant-make_elements-loop-place g l =
     let One = make (g.T.Tables.parts_of l.at.table) l.at.depth l.at.kind.now l.form in
     option_map (λ b. l.maker.bytes.items ++ b) (each_made One (items_view (drop l.place l.items)))
     ≡ option_map (λ b. l.initial.maker.bytes.items ++ b) (each_made One (items_view l.items))
 
-abbrev pub invariant-make_each_of_list-loop-place : goal.invariant-make_each_of_list-loop-place
-invariant-make_each_of_list-loop-place g l =
+abbrev pub invariant-make_list-loop-place : goal.invariant-make_list-loop-place
+invariant-make_list-loop-place g l =
     let table = g.T.Tables.parts_of l.at.table in
     let One : List ℕ → Data → Option (List ℕ) = λ k d.
     listed_made (make table l.at.depth) (rows_under table l.list k) l.has l.held l.layer k d in
