@@ -5,7 +5,7 @@ use Rattle.std.specs.Prelude.{◌==◌, Bool, OnOk, Option, option_map, unwrap_o
 use Rattle.std.proofs.lemmas.Bool.{cond-true, cond-false, false_from_ne_true, eq-eqb, eqb-true, true≢false}
 use Rattle.std.specs.Str.{IsUtf8, is_utf8}
 use Rattle.std.proofs.lemmas.Str.{IsUtf8-from_is_utf8, is_utf8-from_IsUtf8}
-use Rattle.serde.specs.Event.{Event, Log, Logs, text, field_key, seq_begins, seq_ends}
+use Rattle.serde.specs.Event.{Event, Log, Logs, text, field_key, map_begins, map_ends, seq_begins, seq_ends}
 use Rattle.tc_texts.specs.Addresses.{mac_text}
 use Rattle.tc_forms.specs.declared.form.Form.TheVariants as form
 use Rattle.std.proofs.lemmas.List.{drop_all}
@@ -23,7 +23,7 @@ use Rattle.tc_forms.specs.declared.form.Form.{Form}
 use Rattle.tc_forms.specs.declared.form.Number.{Number}
 use Rattle.tc_forms.specs.declared.form.Field.{Field as CodeField}
 use Rattle.serde.specs.declared.name.Case.TheVariants.{AsIs}
-use Rattle.serde_json.specs.Data.{no_members, member, Data, Items, array, Members, string}
+use Rattle.serde_json.specs.Data.{no_members, member, object, Data, Items, array, Members, string}
 
 pub drop_here : {X : Type 0} (xs : List X) (i : ℕ) (d : X) → i < length xs → drop i xs ≡ get_or xs i d ∷ drop (i + 1) xs
 drop_here [] i d lt = absurd (omega arith)
@@ -179,6 +179,34 @@ list_sent ds old first last new h k e =
     sent_then (seq_begins None ∷ []) (items_events ds ++ seq_ends ∷ []) old first new (sent_one (seq_begins None) old first h)
     (sent_then (items_events ds) (seq_ends ∷ []) first last new k (sent_one seq_ends last new e))
 
+-- an object between its marks
+pub map_sent : (ms : Members) (old first last new : Log) → Logs old first (map_begins None) → Sent (members_events ms) first last → Logs last new map_ends
+    → Sent (events (object ms)) old new
+map_sent ms old first last new h k e =
+    sent_then (map_begins None ∷ []) (members_events ms ++ map_ends ∷ []) old first new (sent_one (map_begins None) old first h)
+    (sent_then (members_events ms) (map_ends ∷ []) first last new k (sent_one map_ends last new e))
+
+-- a member, and those behind it
+pub member_sent : (name : List ℕ) (d : Data) (ms : Members) (old named held new : Log) → Logs old named (field_key name AsIs) → Sent (events d) named held
+    → Sent (members_events ms) held new → Sent (members_events (member name d ms)) old new
+member_sent name d ms old named held new h k after =
+    sent_then (field_key name AsIs ∷ []) (events d ++ members_events ms) old named new (sent_one (field_key name AsIs) old named h)
+    (sent_then (events d) (members_events ms) named held new k after)
+
+-- an object of a member, and of those behind it
+pub object_sent : (name : List ℕ) (d : Data) (ms : Members) (old first named held last new : Log) → Logs old first (map_begins None)
+    → Logs first named (field_key name AsIs) → Sent (events d) named held → Sent (members_events ms) held last → Logs last new map_ends
+    → Sent (events (object (member name d ms))) old new
+object_sent name d ms old first named held last new h k it after e =
+    map_sent (member name d ms) old first last new h (member_sent name d ms first named held last k it after) e
+
+-- a member that is sent whole, and those behind it
+pub then_sent : (name : List ℕ) (d : Data) (ms : Members) (old mid new : Log) → Sent (members_events (member name d no_members)) old mid
+    → Sent (members_events ms) mid new → Sent (members_events (member name d ms)) old new
+then_sent name d ms old mid new one after =
+    sent_then (field_key name AsIs ∷ events d) (members_events ms) old mid new
+    (subst (λ es. Sent (field_key name AsIs ∷ es) old mid) (append-nil (events d)) one) after
+
 -- a form that holds no other
 pub plain_when : (table : Table) (Inner : List ℕ → Form → List ℕ → Data) (k : List ℕ) (f : Form) (b : List ℕ) → ((i : ℕ) → f ≡ form.Record i → ⊥)
     → ((i : ℕ) → f ≡ form.Array i → ⊥)
@@ -236,10 +264,3 @@ pub none_wanted : {X : Type 0} (o : Option X) (wanted : Option (List ℕ)) (see 
     → None ≡ wanted
 none_wanted None wanted see h e = e
 none_wanted (Some x) wanted see h e = absurd (h x refl)
-
--- a member alone
-pub key_sent : (name : List ℕ) (d : Data) (old mid new : Log) → Logs old mid (field_key name AsIs) → Sent (events d) mid new
-    → Sent (members_events (member name d no_members)) old new
-key_sent name d old mid new h e =
-    sent_then (field_key name AsIs ∷ []) (events d ++ []) old mid new (sent_one (field_key name AsIs) old mid h)
-    (subst (λ es. Sent es mid new) (sym (append-nil (events d))) e)

@@ -34,12 +34,14 @@ make_elements-returns g t c =
 
 pub make_list-loop-place-preserved : goal.make_list-loop-place-preserved
 make_list-loop-place-preserved g t c =
-    let table = g.T.Tables.parts_of c.args.at.now.table in
-    (c.kind_from-so_far.utf8, listed_more (λ rows j x. listed_made (make table c.args.at.now.depth) rows c.args.has c.args.held c.args.layer.now j x)
-    (rows_under table c.args.list) c.args.in_force c.as_slice-items.result.now c.loop-place.place c.args.at.now.kind.now c.loop-place.so_far.now
-    c.args.maker.now.bytes.items c.loop-place.maker.bytes.items c.loop-place.invariant.1.1 c.index-items-place.result _ c.kind_from-so_far.result.now
-    (rows_in c.rows_from-rows.result) c.loop-place-test.true c.index-items-place.is c.kind_named-set.ensures c.kind_from-so_far.ensures
-    c.rows_from-rows.ensures c.make_item.new.maker.bytes.items c.in-Ok.ensures)
+    let table = g.T.Tables.parts_of c.args.at.now.table in (
+      c.kind_from-so_far.utf8,
+      listed_more (λ rows j x. listed_made (make table c.args.at.now.depth) rows c.args.has c.args.held c.args.layer.now j x)
+          (rows_under table c.args.list) c.args.in_force c.as_slice-items.result.now c.loop-place.place c.args.at.now.kind.now c.loop-place.so_far.now
+          c.args.maker.now.bytes.items c.loop-place.maker.bytes.items c.loop-place.invariant.1.1 c.index-items-place.result _ c.kind_from-so_far.result.now
+          (rows_in c.rows_from-rows.result) c.loop-place-test.true c.index-items-place.is c.kind_named-set.ensures c.kind_from-so_far.ensures
+          c.rows_from-rows.ensures c.make_item.new.maker.bytes.items c.in-Ok.ensures,
+    )
 
 pub make_list-returns-in-Err : goal.make_list-returns-in-Err
 make_list-returns-in-Err g t c =

@@ -1,19 +1,21 @@
-use Rattle.std.proofs.Common.{List, ℕ, length, rules, sym, ap, ◌∙◌, refl, subst}
-use Rattle.serde_json.specs.Data.{Data, array}
+use Rattle.std.proofs.Common.{List, ℕ, drop, length, rules, sym, ap, ◌∙◌, refl, subst}
+use Rattle.serde_json.specs.Data.{Data, array, member, no_members, number, unsigned}
 use Rattle.tc_forms.specs.Frames.{PaddedFrame, frame_view}
 use Rattle.tc_forms.specs.Tables.{Row}
-use Rattle.tc_forms.specs.Attributes.{attribute, frames, indexed, layered, listed}
+use Rattle.tc_forms.specs.Attributes.{attribute, beside, by_row, frames, indexed, layered, listed, pad_member}
 use Rattle.tc_forms.specs.Choices.{by_choice, chosen}
 use Rattle.tc_forms.specs.Places.{rows_under}
+use Rattle.tc_forms.specs.RowLists.{rows_in}
 use Rattle.tc_forms.specs.Records.{after_field, elements_of, field_of}
 use Rattle.tc_forms.specs.Sent.{Sent, events}
 use Rattle.tc_forms.specs.Shown.{show}
 use Rattle.tc_forms.specs.Widths.{fixed}
 use Rattle.std.proofs.lemmas.Result.{on_ok_weaker}
 use Rattle.tc_forms.specs.declared.form.Form.TheVariants as form
-use Rattle.std.specs.Prelude.{true, false, codes, unwrap_or}
-use Rattle.tc_forms.proofs.Sending.{key_sent, level_sent, number_sent, plain_when, empty_is, full_is, list_sent, frames_more, frames_end, frames_over}
-use Rattle.tc_forms.proofs.Sending.{elements_more, elements_end, elements_over, fields_more, fields_end, shape_sent, too_deep_sent}
+use Rattle.std.specs.Prelude.{OnOk, true, false, codes, unwrap_or}
+use Rattle.tc_forms.proofs.Sending.{level_sent, map_sent, member_sent, number_sent, plain_when, empty_is, full_is, list_sent, frames_more, frames_end}
+use Rattle.tc_forms.proofs.Sending.{frames_over, elements_more, elements_end, elements_over, fields_more, fields_end, object_sent, sent_none, shape_sent}
+use Rattle.tc_forms.proofs.Sending.{then_sent, too_deep_sent}
 use Rattle.tc_forms.proofs.show.+send.Goals as goal
 
 pub send_attributes-returns-in-None : goal.send_attributes-returns-in-None
@@ -158,11 +160,6 @@ send_in_form-returns-in_default g t c =
     c.in_default.not-Record c.in_default.not-Array c.in_default.not-Times c.in_default.not-List c.in_default.not-InForce c.in_default.not-Own
     c.in_default.not-Indexed c.in_default.not-Choice) c.send_plain.ensures
 
-pub send_attributes_member-returns : goal.send_attributes_member-returns
-send_attributes_member-returns g t c =
-    let Inner = show (g.T.Tables.parts_of c.args.at.now.table) c.args.at.now.depth c.args.at.now.kind.now in
-    on_ok_weaker c.send_form.result (key_sent (codes "attributes") (Inner c.args.form c.args.value.now) _ _ _ c.in_ok-key.ensures) c.send_form.ensures
-
 pub send_elements-returns : goal.send_elements-returns
 send_elements-returns g t c =
     on_ok_weaker c.end_seq.result (list_sent _ _ _ _ _ c.in_ok-begin_seq.ensures c.in_ok-send_elements_of.ensures) c.end_seq.ensures
@@ -175,3 +172,29 @@ pub send_form-returns-in-Number : goal.send_form-returns-in-Number
 send_form-returns-in-Number g t c =
     number_sent (g.T.Tables.parts_of c.args.at.now.table) c.args.at.now.depth c.args.at.now.kind.now c.args.form c.in-Number.number c.args.bytes.now _ _
     c.send_bytes_number.result (search rules) c.in-Number.is c.send_bytes_number.ensures
+
+pub send_by_row-returns-in_ok-send_beside-in-Some : goal.send_by_row-returns-in_ok-send_beside-in-Some
+send_by_row-returns-in_ok-send_beside-in-Some g t c =
+    let Show = show (g.T.Tables.parts_of c.args.at.now.table) c.args.at.now.depth in let k = c.args.at.now.kind.now in
+    subst (λ o. OnOk c.end_map.result (Sent (events (by_row Show (rows_in c.args.rows.now) false k (frame_view c.args.frame.now) o))
+    (g.S.Serializer.written c.args.out.now) (g.S.Serializer.written c.end_map.new.out))) c.in-Some.ensures (on_ok_weaker c.end_map.result (object_sent
+    c.in-Some.row.name.now (Show k c.in-Some.row.form c.args.frame.now.value.now) (beside c.in-Some.row.word (frame_view c.args.frame.now)) _ _ _ _ _ _
+    c.in_ok-begin_map-in-Some.ensures c.in_ok-key-in-Some.ensures c.in_ok-send_form-in-Some.ensures c.in_ok-send_beside-in-Some.ensures) c.end_map.ensures)
+
+pub send_choice-returns-in_ok-send_form-in-Some : goal.send_choice-returns-in_ok-send_form-in-Some
+send_choice-returns-in_ok-send_form-in-Some g t c =
+    let Inner = show (g.T.Tables.parts_of c.args.at.now.table) c.args.at.now.depth c.args.at.now.kind.now in
+    subst (λ o. OnOk c.end_map.result (Sent (events (by_choice Inner c.args.bytes.now o)) (g.S.Serializer.written c.args.out.now)
+    (g.S.Serializer.written c.end_map.new.out))) c.in-Some.ensures (on_ok_weaker c.end_map.result (object_sent c.in-Some.choice.name.now
+    (Inner c.in-Some.choice.form (drop (length c.in-Some.choice.prefix.now) c.args.bytes.now)) no_members _ _ _ _ _ _ c.in_ok-begin_map-in-Some.ensures
+    c.in_ok-key-in-Some.ensures (subst (λ b. Sent (events (Inner c.in-Some.choice.form b)) (g.S.Serializer.written c.key.new.out)
+    (g.S.Serializer.written c.send_form.new.out)) c.behind-held.ensures c.in_ok-send_form-in-Some.ensures)
+    (sent_none (g.S.Serializer.written c.send_form.new.out))) c.end_map.ensures)
+
+pub send_indexed-returns : goal.send_indexed-returns
+send_indexed-returns g t c =
+    let d = show (g.T.Tables.parts_of c.args.at.now.table) c.args.at.now.depth c.args.at.now.kind.now c.args.form c.args.frame.now.value.now in
+    let n = number (unsigned c.args.frame.now.word) in let ms = member (codes "attributes") d (pad_member (frame_view c.args.frame.now)) in
+    on_ok_weaker c.end_map.result (map_sent (member (codes "tab") n ms) _ _ _ _ c.in_ok-begin_map.ensures (then_sent (codes "tab") n ms _ _ _
+    c.in_ok-send_word.ensures (member_sent (codes "attributes") d (pad_member (frame_view c.args.frame.now)) _ _ _ _ c.in_ok-key.ensures
+    c.in_ok-send_form.ensures c.in_ok-send_pad.ensures))) c.end_map.ensures

@@ -59,9 +59,6 @@ decreases-send_by_row g l = 8 * l.at.now.depth + 2
 abbrev pub decreases-send_indexed : goal.decreases-send_indexed
 decreases-send_indexed g l = 8 * l.at.now.depth + 3
 
-abbrev pub decreases-send_attributes_member : goal.decreases-send_attributes_member
-decreases-send_attributes_member g l = 8 * l.at.now.depth + 2
-
 abbrev pub decreases-send_choice : goal.decreases-send_choice
 decreases-send_choice g l = 8 * l.at.now.depth + 2
 
