@@ -1,5 +1,5 @@
 use Rattle.std.proofs.Common.{Some, None, ◌∙◌, ap, refl}
-use Rattle.std.specs.Prelude.{[], option_and_then, true, false}
+use Rattle.std.specs.Prelude.{[], option_and_then, false}
 use Rattle.serde_json.specs.Find.{as_array}
 use Rattle.serde_json.specs.View.{items_view, view}
 use Rattle.tc_forms.specs.AttributesMade.{each_under, kinded_made, layered_by, listed_made}
