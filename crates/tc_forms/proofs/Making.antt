@@ -1,11 +1,11 @@
 -- What is appended, part by part.
 use Rattle.std.proofs.Common.{◌≡◌, ℕ, zero, suc, ◌+◌, ◌-◌, ◌/◌, ◌%◌, ◌<◌, ◌≤◌, List, [], ◌∷◌, ◌++◌, length, get_or, drop, take, reverse, replicate, Option}
-use Rattle.std.proofs.Common.{Some, None, Result, Ok, Err, refl, subst, sym, ap, ◌∙◌, append_assoc, arith, add-one, slice_set, ◌*◌}
-use Rattle.std.specs.Prelude.{option_map, unwrap_or, option_and_then, nat_le, Bool, false, true}
+use Rattle.std.proofs.Common.{Some, None, Result, Ok, Err, refl, subst, sym, ap, ◌∙◌, append-nil, append_assoc, arith, slice_set, ◌*◌}
+use Rattle.std.specs.Prelude.{option_map, unwrap_or, option_and_then, nat_le, Bool, codes, false, true}
 use Rattle.std.proofs.lemmas.Bool.{cond-true, le-leb}
 use Rattle.serde_json.specs.Find.{get}
-use Rattle.tc_forms.specs.AttributesMade.{each_under, framed_with, pad_or}
-use Rattle.tc_forms.specs.Tables.{Table, field_view, fields_view}
+use Rattle.tc_forms.specs.AttributesMade.{each_under, framed_with, listed_made, pad_or}
+use Rattle.tc_forms.specs.Tables.{Row, Table, field_view, fields_view}
 use Rattle.std.proofs.lemmas.List.{drop_all, length-drop, reverse-append}
 use Rattle.std.proofs.lemmas.Nat.{div-add-mod', mod-mul-add}
 use Rattle.nla_frames.specs.Value.{le_bytes, be_bytes}
@@ -17,7 +17,7 @@ use Rattle.tc_forms.specs.Frames.{frame_bytes}
 use Rattle.tc_forms.specs.Kinds.{kind_named, own_kind_named}
 use Rattle.tc_forms.specs.Made.{in_form, make}
 use Rattle.tc_forms.specs.Raw.{or_raw, raw_of}
-use Rattle.tc_forms.specs.Records.{each_made, field_made, fields_made, joined}
+use Rattle.tc_forms.specs.Records.{each_made, field_made, fields_made, joined, rest_made}
 use Rattle.tc_forms.specs.Values.{plain_made}
 use Rattle.serde_json.specs.Data.{Data, Items}
 use Rattle.serde_json.specs.View.{view, items_view}
@@ -59,9 +59,16 @@ zeros_step (suc n) full = let less : suc n - 1 ≡ n = omega arith in ap (λ k. 
 
 -- ---- what is left to append
 
+-- x is left to append to what is there now, of all that was to be appended to what was there at the start
+abbrev pub Left : Option (List ℕ) → Option (List ℕ) → List ℕ → List ℕ → Type 0
+Left x all start now = option_map (λ b. now ++ b) x ≡ option_map (λ b. start ++ b) all
+
+left_as : (x y all : Option (List ℕ)) (start now : List ℕ) → x ≡ y → Left x all start now → Left y all start now
+left_as x y all start now e left = ap (option_map (λ b. now ++ b)) (sym e) ∙ left
+
 -- one part more
-pub joined_more : (w rest all : Option (List ℕ)) (start now new : List ℕ) → option_map (λ b. now ++ b) (joined w rest) ≡ option_map (λ b. start ++ b) all
-    → option_map (λ b. now ++ b) w ≡ Some new → option_map (λ b. new ++ b) rest ≡ option_map (λ b. start ++ b) all
+joined_more : (w rest all : Option (List ℕ)) (start now new : List ℕ) → Left (joined w rest) all start now → option_map (λ b. now ++ b) w ≡ Some new
+    → Left rest all start new
 joined_more None rest all start now new left done = absurd (none_not_some new done)
 joined_more (Some a) None all start now new left done = left
 joined_more (Some a) (Some b) all start now new left done =
@@ -72,55 +79,100 @@ none_of None start e = refl
 none_of (Some a) start e = absurd (none_not_some (start ++ a) e)
 
 -- a part that fails
-pub joined_fails : (w rest all : Option (List ℕ)) (start now : List ℕ) (e : Stop)
-    → option_map (λ b. now ++ b) (joined w rest) ≡ option_map (λ b. start ++ b) all → Stops w e → Stops all e
+joined_fails : (w rest all : Option (List ℕ)) (start now : List ℕ) (e : Stop) → Left (joined w rest) all start now → Stops w e → Stops all e
 joined_fails w rest all start now e left fails not =
     none_of all start (ap (λ x. option_map (λ b. now ++ b) (joined x rest)) (sym (fails not)) ∙ left)
 
--- items, of which one is next
-pub items_here : (One : Data → Option (List ℕ)) (vs : List Value) (i : ℕ) (x : Value) → i < length vs → x ≡ get_or vs i x
-    → each_made One (items_view (drop i vs)) ≡ joined (One (view x)) (each_made One (items_view (drop (i + 1) vs)))
-items_here One vs i x lt is =
-    ap (λ ws. each_made One (items_view ws)) (drop_here vs i x lt)
-    ∙ ap (λ (y : Value). joined (One (view y)) (each_made One (items_view (drop (i + 1) vs)))) (sym is)
+-- the last part
+last_left : {T : Type 0} (x all : Option (List ℕ)) (start now new : List ℕ) (r : Result T Stop) → Left x all start now → Appended x now new r
+    → Appended all start new r
+last_left x all start now new (Ok u) left h = sym left ∙ h
+last_left x all start now new (Err e) left h = λ not. none_of all start (ap (option_map (λ b. now ++ b)) (sym (h not)) ∙ left)
 
-pub items_over : (One : Data → Option (List ℕ)) (vs : List Value) (i : ℕ) → length vs ≤ i → each_made One (items_view (drop i vs)) ≡ Some []
-items_over One vs i over = ap (λ xs. each_made One (items_view xs)) (drop_all i vs over)
+-- items of one form
+module _ (One : Data → Option (List ℕ)) (vs : List Value) (i : ℕ) (start now : List ℕ)
+    (left : Left (each_made One (items_view (drop i vs))) (each_made One (items_view vs)) start now) where
+  pub items_end : (o : Option Items) → Some (items_view vs) ≡ o → length vs ≤ i → option_map (λ b. start ++ b) (option_and_then (each_made One) o) ≡ Some now
+  items_end o is over =
+      ap (λ x. option_map (λ b. start ++ b) (option_and_then (each_made One) x)) (sym is)
+      ∙ sym (left_as _ (Some []) _ start now (ap (λ ws. each_made One (items_view ws)) (drop_all i vs over)) left) ∙ ap Some (append-nil now)
 
-pub fields_here : (table : Table) (Made : Form → Data → Option (List ℕ)) (fs : List CodeField) (i : ℕ) (d : CodeField) (x : Data) → i < length fs
-    → fields_made table Made (fields_view (drop i fs)) x
-    ≡ joined (field_made table Made (field_view (get_or fs i d)) (get (get_or fs i d).name.now x)) (fields_made table Made (fields_view (drop (i + 1) fs)) x)
-fields_here table Made fs i d x lt = ap (λ gs. fields_made table Made (fields_view gs) x) (drop_here fs i d lt)
+  module _ (x : Value) (lt : i < length vs) (is : x ≡ get_or vs i x) where
+    item_here : Left (joined (One (view x)) (each_made One (items_view (drop (i + 1) vs)))) (each_made One (items_view vs)) start now
+    item_here =
+        left_as _ _ _ start now
+        (ap (λ ws. each_made One (items_view ws)) (drop_here vs i x lt)
+        ∙ ap (λ (y : Value). joined (One (view y)) (each_made One (items_view (drop (i + 1) vs)))) (sym is)) left
 
-pub items_under : (One : List ℕ → Data → Option (List ℕ)) (has : Bool) (vs : List Value) (i : ℕ) (x : Value) (k next : List ℕ) → i < length vs
-    → x ≡ get_or vs i x → next ≡ unwrap_or (kind_named has (view x)) k
-    → each_under One has k (items_view (drop i vs))
-    ≡ joined (or_raw (raw_of (view x)) (One next (view x))) (each_under One has next (items_view (drop (i + 1) vs)))
-items_under One has vs i x k next lt is e =
-    let rest = items_view (drop (i + 1) vs) in
-    let Here : List ℕ → Data → Option (List ℕ) = λ j d. joined (or_raw (raw_of d) (One j d)) (each_under One has j rest) in
-    ap (λ ws. each_under One has k (items_view ws)) (drop_here vs i x lt)
-    ∙ ap (λ (y : Value). Here (unwrap_or (kind_named has (view y)) k) (view y)) (sym is) ∙ ap (λ j. Here j (view x)) (sym e)
+    pub items_more : (new : List ℕ) → option_map (λ b. now ++ b) (One (view x)) ≡ Some new
+        → Left (each_made One (items_view (drop (i + 1) vs))) (each_made One (items_view vs)) start new
+    items_more new done = joined_more (One (view x)) _ _ start now new item_here done
 
-module _ (One : List ℕ → Data → Option (List ℕ)) (has : Bool) (vs : List Value) (i : ℕ) (x : Value) (k next start now : List ℕ) (all : Option (List ℕ))
-    (lt : i < length vs) (is : x ≡ get_or vs i x) (e : next ≡ unwrap_or (kind_named has (view x)) k)
-    (left : option_map (λ b. now ++ b) (each_under One has k (items_view (drop i vs))) ≡ option_map (λ b. start ++ b) all) where
-  under_here : option_map (λ b. now ++ b) (joined (or_raw (raw_of (view x)) (One next (view x))) (each_under One has next (items_view (drop (i + 1) vs))))
-      ≡ option_map (λ b. start ++ b) all
-  under_here = ap (option_map (λ b. now ++ b)) (sym (items_under One has vs i x k next lt is e)) ∙ left
+    pub items_fail : (o : Option Items) (e : Stop) → Some (items_view vs) ≡ o → Stops (One (view x)) e → Stops (option_and_then (each_made One) o) e
+    items_fail o e listed fails =
+        subst (λ z. Stops (option_and_then (each_made One) z) e) listed (joined_fails (One (view x)) _ _ start now e item_here fails)
 
-  pub under_more : (new : List ℕ) → option_map (λ b. now ++ b) (or_raw (raw_of (view x)) (One next (view x))) ≡ Some new
-      → option_map (λ b. new ++ b) (each_under One has next (items_view (drop (i + 1) vs))) ≡ option_map (λ b. start ++ b) all
-  under_more new made =
-      joined_more (or_raw (raw_of (view x)) (One next (view x))) (each_under One has next (items_view (drop (i + 1) vs))) all start now new under_here made
+-- fields
+module _ (table : Table) (Made : Form → Data → Option (List ℕ)) (fs : List CodeField) (i : ℕ) (d : Data) (start now : List ℕ)
+    (left : Left (fields_made table Made (fields_view (drop i fs)) d) (fields_made table Made (fields_view fs) d) start now) where
+  pub fields_end : {T : Type 0} (new : List ℕ) (r : Result T Stop) → length fs ≤ i → Appended (rest_made (get (codes "rest") d)) now new r
+      → Appended (fields_made table Made (fields_view fs) d) start new r
+  fields_end new r over h =
+      last_left (rest_made (get (codes "rest") d)) _ start now new r
+      (left_as _ _ _ start now (ap (λ gs. fields_made table Made (fields_view gs) d) (drop_all i fs over)) left) h
 
-  pub under_fails : (s : Stop) → Stops (or_raw (raw_of (view x)) (One next (view x))) s → Stops all s
-  under_fails s fails =
-      joined_fails (or_raw (raw_of (view x)) (One next (view x))) (each_under One has next (items_view (drop (i + 1) vs))) all start now s under_here fails
+  module _ (q : CodeField) (lt : i < length fs) where
+    field_here : Left (joined (field_made table Made (field_view (get_or fs i q)) (get (get_or fs i q).name.now d))
+        (fields_made table Made (fields_view (drop (i + 1) fs)) d)) (fields_made table Made (fields_view fs) d) start now
+    field_here = left_as _ _ _ start now (ap (λ gs. fields_made table Made (fields_view gs) d) (drop_here fs i q lt)) left
 
-pub under_over : (One : List ℕ → Data → Option (List ℕ)) (has : Bool) (vs : List Value) (i : ℕ) (k : List ℕ) → length vs ≤ i
-    → each_under One has k (items_view (drop i vs)) ≡ Some []
-under_over One has vs i k over = ap (λ xs. each_under One has k (items_view xs)) (drop_all i vs over)
+    pub fields_more : (new : List ℕ)
+        → option_map (λ b. now ++ b) (field_made table Made (field_view (get_or fs i q)) (get (get_or fs i q).name.now d)) ≡ Some new
+        → Left (fields_made table Made (fields_view (drop (i + 1) fs)) d) (fields_made table Made (fields_view fs) d) start new
+    fields_more new done =
+        joined_more (field_made table Made (field_view (get_or fs i q)) (get (get_or fs i q).name.now d)) _ _ start now new field_here done
+
+    pub fields_fail : (e : Stop) → Stops (field_made table Made (field_view (get_or fs i q)) (get (get_or fs i q).name.now d)) e
+        → Stops (fields_made table Made (fields_view fs) d) e
+    fields_fail e fails =
+        joined_fails (field_made table Made (field_view (get_or fs i q)) (get (get_or fs i q).name.now d)) _ _ start now e field_here fails
+
+-- attributes, whose rows go by the kind so far
+module _ (Listed : List Row → List ℕ → Data → Option (List ℕ)) (Rows : List ℕ → List Row) (has : Bool) (vs : List Value) (i : ℕ) (first k start now : List ℕ)
+    (left : Left (each_under (λ j d. Listed (Rows j) j d) has k (items_view (drop i vs))) (each_under (λ j d. Listed (Rows j) j d) has first (items_view vs))
+    start now) where
+  pub listed_end : (o : Option Items) → Some (items_view vs) ≡ o → length vs ≤ i
+      → option_map (λ b. start ++ b) (option_and_then (each_under (λ j d. Listed (Rows j) j d) has first) o) ≡ Some now
+  listed_end o is over =
+      ap (λ x. option_map (λ b. start ++ b) (option_and_then (each_under (λ j d. Listed (Rows j) j d) has first) x)) (sym is)
+      ∙ sym (left_as _ (Some []) _ start now (ap (λ ws. each_under (λ j d. Listed (Rows j) j d) has k (items_view ws)) (drop_all i vs over)) left)
+      ∙ ap Some (append-nil now)
+
+  module _ (x : Value) (set : Option (List ℕ)) (next : List ℕ) (rows : List Row) (lt : i < length vs) (is : x ≡ get_or vs i x)
+      (is_set : set ≡ kind_named has (view x)) (is_next : next ≡ unwrap_or set k) (is_rows : rows ≡ Rows (unwrap_or set k)) where
+    same_rows : rows ≡ Rows next
+    same_rows = is_rows ∙ ap Rows (sym is_next)
+
+    one_here : Left (joined (or_raw (raw_of (view x)) (Listed rows next (view x))) (each_under (λ j d. Listed (Rows j) j d) has next
+        (items_view (drop (i + 1) vs)))) (each_under (λ j d. Listed (Rows j) j d) has first (items_view vs)) start now
+    one_here =
+        let Here : List Row → List ℕ → Data → Option (List ℕ) = λ rs j d.
+        joined (or_raw (raw_of d) (Listed rs j d)) (each_under (λ l e. Listed (Rows l) l e) has j (items_view (drop (i + 1) vs))) in
+        left_as _ _ _ start now
+        (ap (λ ws. each_under (λ j d. Listed (Rows j) j d) has k (items_view ws)) (drop_here vs i x lt)
+        ∙ ap (λ (y : Value). Here (Rows (unwrap_or (kind_named has (view y)) k)) (unwrap_or (kind_named has (view y)) k) (view y)) (sym is)
+        ∙ ap (λ j. Here (Rows j) j (view x)) (sym (is_next ∙ ap (λ o. unwrap_or o k) is_set)) ∙ ap (λ rs. Here rs next (view x)) (sym same_rows)) left
+
+    pub listed_more : (new : List ℕ) → option_map (λ b. now ++ b) (or_raw (raw_of (view x)) (Listed rows next (view x))) ≡ Some new
+        → (rows ≡ Rows next) × Left (each_under (λ j d. Listed (Rows j) j d) has next (items_view (drop (i + 1) vs)))
+        (each_under (λ j d. Listed (Rows j) j d) has first (items_view vs)) start new
+    listed_more new done = (same_rows, joined_more (or_raw (raw_of (view x)) (Listed rows next (view x))) _ _ start now new one_here done)
+
+    pub listed_fails : (o : Option Items) (e : Stop) → Some (items_view vs) ≡ o → Stops (or_raw (raw_of (view x)) (Listed rows next (view x))) e
+        → Stops (option_and_then (each_under (λ j d. Listed (Rows j) j d) has first) o) e
+    listed_fails o e listed fails =
+        subst (λ z. Stops (option_and_then (each_under (λ j d. Listed (Rows j) j d) has first) z) e) listed
+        (joined_fails (or_raw (raw_of (view x)) (Listed rows next (view x))) _ _ start now e one_here fails)
 
 -- each under the kind that the items set
 pub under_own : (One : List ℕ → Data → Option (List ℕ)) (o : Option Items) (k : List ℕ) → k ≡ unwrap_or (option_map own_kind_named o) []
@@ -130,17 +182,45 @@ under_own One (Some ds) k e = ap (λ j. each_under One false j ds) e
 
 -- ---- levels
 
-pub level_made : {T : Type 0} (table : Table) (n m : ℕ) (k : List ℕ) (f shape : Form) (d : Data) (x : Option (List ℕ)) (old new : List ℕ) (r : Result T Stop)
-    → n ≡ m + 1 → f ≡ shape → None ≡ raw_of d → x ≡ in_form table (make table m) k shape d → Appended x old new r → Appended (make table n k f d) old new r
-level_made table n m k f shape d x old new r deeper same not_raw is h =
-    appended_as x (make table n k f d) old new r
-    (is ∙ ap (λ g. in_form table (make table m) k g d) (sym same) ∙ ap (λ o. or_raw o (in_form table (make table m) k f d)) not_raw
-    ∙ sym (ap (λ j. make table j k f d) (deeper ∙ add-one m)))
-    h
+itself : (o : Option (List ℕ)) → or_raw o o ≡ o
+itself None = refl
+itself (Some b) = refl
 
-pub raw_made : (table : Table) (n : ℕ) (k : List ℕ) (f : Form) (d : Data) (b : List ℕ) → Some b ≡ raw_of d → Some b ≡ make table n k f d
-raw_made table zero k f d b e = e
-raw_made table (suc n) k f d b e = ap (λ o. or_raw o (in_form table (make table n) k f d)) e
+-- what is raw is made at any depth
+pub raw_made : {T : Type 0} (table : Table) (n : ℕ) (k : List ℕ) (f : Form) (d : Data) (old new : List ℕ) (r : Result T Stop)
+    → ((other : Option (List ℕ)) → Appended (or_raw (raw_of d) other) old new r) → Appended (make table n k f d) old new r
+raw_made table zero k f d old new r h = appended_as (or_raw (raw_of d) (raw_of d)) (raw_of d) old new r (itself (raw_of d)) (h (raw_of d))
+raw_made table (suc n) k f d old new r h = h (in_form table (make table n) k f d)
+
+or_else : {T : Type 0} (raw made : Option (List ℕ)) (old mid new : List ℕ) (r : Result T Stop) → raw ≡ None → mid ≡ old → Appended made mid new r
+    → Appended (or_raw raw made) old new r
+or_else raw made old mid new r none same h =
+    subst (λ o. Appended (or_raw o made) old new r) (sym none) (subst (λ (b : List ℕ). Appended made b new r) same h)
+
+-- what isn't raw is made by its form, with a level less
+pub level_made : {T : Type 0} (table : Table) (n m : ℕ) (k : List ℕ) (f : Form) (d : Data) (old mid new : List ℕ) (r : Result T Stop)
+    → (1 ≤ n) × (m ≡ n - 1) → raw_of d ≡ None → mid ≡ old → Appended (in_form table (make table m) k f d) mid new r → Appended (make table n k f d) old new r
+level_made table zero m k f d old mid new r less none same h = absurd (omega (arith, less.0))
+level_made table (suc n) m k f d old mid new r less none same h =
+    let e : m ≡ n = omega (arith, less.1) in
+    or_else (raw_of d) (in_form table (make table n) k f d) old mid new r none same (subst (λ j. Appended (in_form table (make table j) k f d) mid new r) e h)
+
+pub too_deep : (table : Table) (n : ℕ) (k : List ℕ) (f : Form) (d : Data) (e : Stop) → (1 ≤ n → ⊥) → raw_of d ≡ None → Stops (make table n k f d) e
+too_deep table zero k f d e none not_raw = λ not. not_raw
+too_deep table (suc n) k f d e none not_raw = absurd (none (omega arith))
+
+pub shape_made : {T : Type 0} (table : Table) (Made : List ℕ → Form → Data → Option (List ℕ)) (k : List ℕ) (f shape : Form) (d : Data) (x : Option (List ℕ))
+    (old new : List ℕ) (r : Result T Stop) → f ≡ shape → x ≡ in_form table Made k shape d → Appended x old new r → Appended (in_form table Made k f d) old new r
+shape_made table Made k f shape d x old new r same is h =
+    appended_as x (in_form table Made k f d) old new r (is ∙ ap (λ g. in_form table Made k g d) (sym same)) h
+
+-- an attribute that isn't raw
+pub listed_made_as : {T : Type 0} (Made : List ℕ → Form → Data → Option (List ℕ)) (rows : List Row) (has : Bool) (held shape : Option Form) (layer k : List ℕ)
+    (d : Data) (old mid new : List ℕ) (r : Result T Stop) → held ≡ shape → raw_of d ≡ None → mid ≡ old
+    → Appended (listed_made Made rows has shape layer k d) mid new r → Appended (or_raw (raw_of d) (listed_made Made rows has held layer k d)) old new r
+listed_made_as Made rows has held shape layer k d old mid new r is none same h =
+    or_else (raw_of d) (listed_made Made rows has held layer k d) old mid new r none same
+    (subst (λ o. Appended (listed_made Made rows has o layer k d) mid new r) (sym is) h)
 
 pub plain_in_form : (table : Table) (Made : List ℕ → Form → Data → Option (List ℕ)) (k : List ℕ) (f : Form) (d : Data) → ((i : ℕ) → f ≡ form.Record i → ⊥)
     → ((i : ℕ) → f ≡ form.Array i → ⊥) → ((n i : ℕ) → f ≡ form.Times n i → ⊥) → ((i : ℕ) → f ≡ form.List i → ⊥) → ((i : ℕ) → f ≡ form.InForce i → ⊥)
@@ -161,10 +241,6 @@ pub then_maybe : {T : Type 0} (a : List ℕ) (x : Option (List ℕ)) (old mid ne
 then_maybe a (Some b) old mid new r first second = then_appended a b old mid new r first second
 then_maybe a None old mid new (Ok u) first second = absurd (none_not_some new second)
 then_maybe a None old mid new (Err e) first second = λ not. refl
-
-pub not_some : {X : Type 0} (o : Option X) → ((x : X) → o ≡ Some x → ⊥) → o ≡ None
-not_some None h = refl
-not_some (Some x) h = absurd (h x refl)
 
 -- ---- a frame in its place
 

@@ -1,5 +1,5 @@
 -- Readers of JSON: one leaves what is shown as it stands, another puts members in the order of their names. Neither changes what is found by a name.
-use Rattle.std.proofs.Common.{◌≡◌, ℕ, Bool, true, false, List, [], length, Option, Some, None, refl, ap, sym, ◌∙◌, true≢false, inl, inr}
+use Rattle.std.proofs.Common.{◌≡◌, ℕ, Bool, true, false, List, length, Option, Some, None, refl, ap, sym, ◌∙◌, true≢false, inl, inr}
 use Rattle.std.specs.Prelude.{option_map, bytes_eq, codes, ◌==◌}
 use Rattle.std.proofs.lemmas.Bool.{cases_Bool, cond_both}
 use Rattle.std.proofs.lemmas.Slice.Eq.{bytes_eq-Decides}

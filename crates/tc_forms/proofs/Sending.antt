@@ -1,11 +1,11 @@
 -- Events that are sent one after the other.
-use Rattle.std.proofs.Common.{◌≡◌, ℕ, zero, suc, ◌+◌, ◌-◌, ◌<◌, ◌≤◌, true, false, List, [], ◌∷◌, ◌++◌, length, drop, take, Some, None, refl, subst, sym, ap}
-use Rattle.std.proofs.Common.{◌∙◌, append_assoc, append-nil, arith, get_or, add-one}
-use Rattle.std.specs.Prelude.{◌==◌, Bool, Option, option_map, unwrap_or}
+use Rattle.std.proofs.Common.{◌≡◌, ℕ, zero, suc, ◌+◌, ◌-◌, ◌<◌, ◌≤◌, true, false, List, [], ◌∷◌, ◌++◌, length, drop, take, Some, None, refl, subst}
+use Rattle.std.proofs.Common.{◌∙◌, sym, ap, append_assoc, append-nil, arith, get_or, Result}
+use Rattle.std.specs.Prelude.{◌==◌, Bool, OnOk, Option, option_map, unwrap_or}
 use Rattle.std.proofs.lemmas.Bool.{cond-true, cond-false, false_from_ne_true, eq-eqb, eqb-true, true≢false}
 use Rattle.std.specs.Str.{IsUtf8, is_utf8}
 use Rattle.std.proofs.lemmas.Str.{IsUtf8-from_is_utf8, is_utf8-from_IsUtf8}
-use Rattle.serde.specs.Event.{Event, Log, Logs, text, field_key, seq_begins, seq_ends}
+use Rattle.serde.specs.Event.{Event, Log, Logs, text, field_key, map_begins, map_ends, seq_begins, seq_ends}
 use Rattle.tc_texts.specs.Addresses.{mac_text}
 use Rattle.tc_forms.specs.declared.form.Form.TheVariants as form
 use Rattle.std.proofs.lemmas.List.{drop_all}
@@ -20,9 +20,10 @@ use Rattle.tc_forms.specs.Tables.{Table, field_view, fields_view, no_table}
 use Rattle.tc_forms.specs.Values.{plain_shown}
 use Rattle.tc_forms.specs.Widths.{field_width}
 use Rattle.tc_forms.specs.declared.form.Form.{Form}
+use Rattle.tc_forms.specs.declared.form.Number.{Number}
 use Rattle.tc_forms.specs.declared.form.Field.{Field as CodeField}
 use Rattle.serde.specs.declared.name.Case.TheVariants.{AsIs}
-use Rattle.serde_json.specs.Data.{no_members, member, Data, Items, array, Members, string}
+use Rattle.serde_json.specs.Data.{no_members, member, object, Data, Items, array, Members, string}
 
 pub drop_here : {X : Type 0} (xs : List X) (i : ℕ) (d : X) → i < length xs → drop i xs ≡ get_or xs i d ∷ drop (i + 1) xs
 drop_here [] i d lt = absurd (omega arith)
@@ -140,13 +141,30 @@ module _ (table : Table) (Inner : Form → List ℕ → Data) (fs : List CodeFie
 
 -- ---- levels
 
-pub show_deeper : (table : Table) (n m : ℕ) (k : List ℕ) (f : Form) (b : List ℕ) → n ≡ m + 1 → show table n k f b ≡ shown table (show table m) k f b
-show_deeper table n m k f b e = ap (λ j. show table j k f b) (e ∙ add-one m)
+-- what is shown has a level less within
+pub level_sent : {T E : Type 0} (table : Table) (n m : ℕ) (k : List ℕ) (f : Form) (b : List ℕ) (old new : Log) (r : Result T E) → (1 ≤ n) × (m ≡ n - 1)
+    → OnOk r (Sent (events (shown table (show table m) k f b)) old new) → OnOk r (Sent (events (show table n k f b)) old new)
+level_sent table zero m k f b old new r less h = absurd (omega (arith, less.0))
+level_sent table (suc n) m k f b old new r less h =
+    let e : m ≡ n = omega (arith, less.1) in subst (λ j. OnOk r (Sent (events (shown table (show table j) k f b)) old new)) e h
 
-pub level_sent : (table : Table) (n m : ℕ) (k : List ℕ) (f shape : Form) (b : List ℕ) (d : Data) (old new : Log) → n ≡ m + 1 → f ≡ shape
-    → shown table (show table m) k shape b ≡ d → Sent (events d) old new → Sent (events (show table n k f b)) old new
-level_sent table n m k f shape b d old new deeper same is sent =
-    subst (λ x. Sent (events x) old new) (sym (show_deeper table n m k f b deeper ∙ ap (λ g. shown table (show table m) k g b) same ∙ is)) sent
+pub too_deep_sent : {T E : Type 0} (table : Table) (n : ℕ) (k : List ℕ) (f : Form) (b : List ℕ) (old new : Log) (r : Result T E) → (1 ≤ n → ⊥)
+    → OnOk r (Sent (events (raw b)) old new) → OnOk r (Sent (events (show table n k f b)) old new)
+too_deep_sent table zero k f b old new r none h = h
+too_deep_sent table (suc n) k f b old new r none h = absurd (none (omega arith))
+
+pub shape_sent : {T E : Type 0} (table : Table) (Inner : List ℕ → Form → List ℕ → Data) (k : List ℕ) (f shape : Form) (b : List ℕ) (d : Data)
+    (old new : Log) (r : Result T E) → f ≡ shape → shown table Inner k shape b ≡ d → OnOk r (Sent (events d) old new)
+    → OnOk r (Sent (events (shown table Inner k f b)) old new)
+shape_sent table Inner k f shape b d old new r same is h =
+    subst (λ x. OnOk r (Sent (events x) old new)) (sym (ap (λ g. shown table Inner k g b) same ∙ is)) h
+
+pub number_sent : {T E : Type 0} (table : Table) (n : ℕ) (k : List ℕ) (f : Form) (number : Number) (b : List ℕ) (old new : Log) (r : Result T E) → 0 < n
+    → f ≡ form.Number number → OnOk r (Sent (events (plain_shown no_table (form.Number number) b)) old new)
+    → OnOk r (Sent (events (show table n k f b)) old new)
+number_sent table zero k f number b old new r some same h = absurd (omega (arith, some))
+number_sent table (suc n) k f number b old new r some same h =
+    subst (λ g. OnOk r (Sent (events (show table (suc n) k g b)) old new)) (sym same) h
 
 pub empty_is : (b : List ℕ) → true ≡ (length b == 0) → length b ≡ 0
 empty_is b e = eqb-true (length b) 0 (sym e)
@@ -160,6 +178,34 @@ pub list_sent : (ds : Items) (old first last new : Log) → Logs old first (seq_
 list_sent ds old first last new h k e =
     sent_then (seq_begins None ∷ []) (items_events ds ++ seq_ends ∷ []) old first new (sent_one (seq_begins None) old first h)
     (sent_then (items_events ds) (seq_ends ∷ []) first last new k (sent_one seq_ends last new e))
+
+-- an object between its marks
+pub map_sent : (ms : Members) (old first last new : Log) → Logs old first (map_begins None) → Sent (members_events ms) first last → Logs last new map_ends
+    → Sent (events (object ms)) old new
+map_sent ms old first last new h k e =
+    sent_then (map_begins None ∷ []) (members_events ms ++ map_ends ∷ []) old first new (sent_one (map_begins None) old first h)
+    (sent_then (members_events ms) (map_ends ∷ []) first last new k (sent_one map_ends last new e))
+
+-- a member, and those behind it
+pub member_sent : (name : List ℕ) (d : Data) (ms : Members) (old named held new : Log) → Logs old named (field_key name AsIs) → Sent (events d) named held
+    → Sent (members_events ms) held new → Sent (members_events (member name d ms)) old new
+member_sent name d ms old named held new h k after =
+    sent_then (field_key name AsIs ∷ []) (events d ++ members_events ms) old named new (sent_one (field_key name AsIs) old named h)
+    (sent_then (events d) (members_events ms) named held new k after)
+
+-- an object of a member, and of those behind it
+pub object_sent : (name : List ℕ) (d : Data) (ms : Members) (old first named held last new : Log) → Logs old first (map_begins None)
+    → Logs first named (field_key name AsIs) → Sent (events d) named held → Sent (members_events ms) held last → Logs last new map_ends
+    → Sent (events (object (member name d ms))) old new
+object_sent name d ms old first named held last new h k it after e =
+    map_sent (member name d ms) old first last new h (member_sent name d ms first named held last k it after) e
+
+-- a member that is sent whole, and those behind it
+pub then_sent : (name : List ℕ) (d : Data) (ms : Members) (old mid new : Log) → Sent (members_events (member name d no_members)) old mid
+    → Sent (members_events ms) mid new → Sent (members_events (member name d ms)) old new
+then_sent name d ms old mid new one after =
+    sent_then (field_key name AsIs ∷ events d) (members_events ms) old mid new
+    (subst (λ es. Sent (field_key name AsIs ∷ es) old mid) (append-nil (events d)) one) after
 
 -- a form that holds no other
 pub plain_when : (table : Table) (Inner : List ℕ → Form → List ℕ → Data) (k : List ℕ) (f : Form) (b : List ℕ) → ((i : ℕ) → f ≡ form.Record i → ⊥)
@@ -218,10 +264,3 @@ pub none_wanted : {X : Type 0} (o : Option X) (wanted : Option (List ℕ)) (see 
     → None ≡ wanted
 none_wanted None wanted see h e = e
 none_wanted (Some x) wanted see h e = absurd (h x refl)
-
--- a member alone
-pub key_sent : (name : List ℕ) (d : Data) (old mid new : Log) → Logs old mid (field_key name AsIs) → Sent (events d) mid new
-    → Sent (members_events (member name d no_members)) old new
-key_sent name d old mid new h e =
-    sent_then (field_key name AsIs ∷ []) (events d ++ []) old mid new (sent_one (field_key name AsIs) old mid h)
-    (subst (λ es. Sent es mid new) (sym (append-nil (events d))) e)

@@ -116,14 +116,8 @@ pub(crate) fn choice_held<'a, 'v>(
 {
     match choices.split_first() {
         Some((first, others)) => match value.get(first.name) {
-            Some(held) => {
-                if is_choice(first) {
-                    Some((*first, held))
-                } else {
-                    choice_held(others, value)
-                }
-            }
-            None => choice_held(others, value),
+            Some(held) if is_choice(first) => Some((*first, held)),
+            _ => choice_held(others, value),
         },
         None => None,
     }

@@ -26,119 +26,78 @@ pub(crate) struct Aside<E> {
 /// What was sent, or that the format failed.
 pub(crate) type Done = Result<(), Stopped>;
 
+// What a call of the format gave; its error is set aside.
+macro_rules! done {
+    ($sent:expr, $aside:expr) => {
+        match $sent {
+            Ok(()) => Ok(()),
+            Err(e) => {
+                $aside.error = Some(e);
+                Err(Stopped::Failed)
+            }
+        }
+    };
+}
+
 /// An object begins.
 pub(crate) fn begin_map<S: Serializer>(out: &mut S, aside: &mut Aside<S::Error>) -> Done
     ensures { OnOk result (Logs (S.written out.old) (S.written out.new) (map_begins None)) }
 {
-    match out.begin_map(None) {
-        Ok(()) => Ok(()),
-        Err(e) => {
-            aside.error = Some(e);
-            Err(Stopped::Failed)
-        }
-    }
+    done!(out.begin_map(None), aside)
 }
 
 /// An object ends.
 pub(crate) fn end_map<S: Serializer>(out: &mut S, aside: &mut Aside<S::Error>) -> Done
     ensures { OnOk result (Logs (S.written out.old) (S.written out.new) (map_ends)) }
 {
-    match out.end_map() {
-        Ok(()) => Ok(()),
-        Err(e) => {
-            aside.error = Some(e);
-            Err(Stopped::Failed)
-        }
-    }
+    done!(out.end_map(), aside)
 }
 
 /// A list begins.
 pub(crate) fn begin_seq<S: Serializer>(out: &mut S, aside: &mut Aside<S::Error>) -> Done
     ensures { OnOk result (Logs (S.written out.old) (S.written out.new) (seq_begins None)) }
 {
-    match out.begin_seq(None) {
-        Ok(()) => Ok(()),
-        Err(e) => {
-            aside.error = Some(e);
-            Err(Stopped::Failed)
-        }
-    }
+    done!(out.begin_seq(None), aside)
 }
 
 /// A list ends.
 pub(crate) fn end_seq<S: Serializer>(out: &mut S, aside: &mut Aside<S::Error>) -> Done
     ensures { OnOk result (Logs (S.written out.old) (S.written out.new) (seq_ends)) }
 {
-    match out.end_seq() {
-        Ok(()) => Ok(()),
-        Err(e) => {
-            aside.error = Some(e);
-            Err(Stopped::Failed)
-        }
-    }
+    done!(out.end_seq(), aside)
 }
 
 /// The name of a member.
 pub(crate) fn key<S: Serializer>(name: &str, out: &mut S, aside: &mut Aside<S::Error>) -> Done
     ensures { OnOk result (Logs (S.written out.old) (S.written out.new) (field_key name.now AsIs)) }
 {
-    match out.key(name) {
-        Ok(()) => Ok(()),
-        Err(e) => {
-            aside.error = Some(e);
-            Err(Stopped::Failed)
-        }
-    }
+    done!(out.key(name), aside)
 }
 
 /// A text.
 pub(crate) fn string<S: Serializer>(value: &str, out: &mut S, aside: &mut Aside<S::Error>) -> Done
     ensures { OnOk result (Logs (S.written out.old) (S.written out.new) (text value.now)) }
 {
-    match out.str(value) {
-        Ok(()) => Ok(()),
-        Err(e) => {
-            aside.error = Some(e);
-            Err(Stopped::Failed)
-        }
-    }
+    done!(out.str(value), aside)
 }
 
 /// `true` or `false`.
 pub(crate) fn truth<S: Serializer>(value: bool, out: &mut S, aside: &mut Aside<S::Error>) -> Done
     ensures { OnOk result (Logs (S.written out.old) (S.written out.new) (boolean value)) }
 {
-    match out.bool(value) {
-        Ok(()) => Ok(()),
-        Err(e) => {
-            aside.error = Some(e);
-            Err(Stopped::Failed)
-        }
-    }
+    done!(out.bool(value), aside)
 }
 
 /// A number.
 pub(crate) fn unsigned<S: Serializer>(value: u64, out: &mut S, aside: &mut Aside<S::Error>) -> Done
     ensures { OnOk result (Logs (S.written out.old) (S.written out.new) (unsigned value)) }
 {
-    match out.u64(value) {
-        Ok(()) => Ok(()),
-        Err(e) => {
-            aside.error = Some(e);
-            Err(Stopped::Failed)
-        }
-    }
+    done!(out.u64(value), aside)
 }
 
 /// A number that may be negative.
 pub(crate) fn signed<S: Serializer>(value: i64, out: &mut S, aside: &mut Aside<S::Error>) -> Done
     ensures { OnOk result (Logs (S.written out.old) (S.written out.new) (signed value)) }
 {
-    match out.i64(value) {
-        Ok(()) => Ok(()),
-        Err(e) => {
-            aside.error = Some(e);
-            Err(Stopped::Failed)
-        }
-    }
+    done!(out.i64(value), aside)
 }

@@ -1,14 +1,14 @@
 //! Bytes of JSON, by form.
 
 ghost use Rattle.serde_json.specs.Find.{as_array, get};
-ghost use Rattle.serde_json.specs.View.{items_view, view};
+ghost use Rattle.serde_json.specs.View.{view};
 ghost use Rattle.std.specs.Prelude.{[], codes, false, option_and_then, option_map, true, ◌≡◌};
 ghost use Rattle.tc_forms.specs.Appended.{Appended, Found};
 ghost use Rattle.tc_forms.specs.AttributesMade.{attribute_made, by_row_made, each_under, framed, framed_with, layered_by, listed_made, word_made, word_or};
 ghost use Rattle.tc_forms.specs.Choices.{by_choice_made, choice_made, is_choice};
 ghost use Rattle.tc_forms.specs.Kinds.{own_kind_named};
 ghost use Rattle.tc_forms.specs.Places.{rows_under};
-ghost use Rattle.tc_forms.specs.Made.{made_of, make};
+ghost use Rattle.tc_forms.specs.Made.{in_form, made_of, make};
 ghost use Rattle.tc_forms.specs.Raw.{or_raw, raw_of};
 ghost use Rattle.tc_forms.specs.Records.{each_made, field_made, fields_made};
 ghost use Rattle.tc_forms.specs.RowLists.{rows_in};
@@ -27,7 +27,7 @@ use crate::places::{At, choices_at, fields_at, form_at, layer_at};
 use crate::records::{make_blank, make_rest};
 use crate::rows::{RowList, kind_from, row_held_in, rows_from, rows_under};
 use crate::tables::Tables;
-use crate::values_made::{make_hex_at, make_plain, raw_of};
+use crate::values_made::{make_hex_at, make_plain, put_raw};
 use crate::widths::DEEPEST;
 use serde_json::Value;
 use std::alloc::Global;
@@ -66,44 +66,55 @@ fn make_form<'v, T: Tables>(
     ensures { Appended (make (T.parts_of at.now.table) at.now.depth at.now.kind.now form (view value.now))
         maker.old.bytes.items maker.new.bytes.items result }
 {
-    let raw = match raw_of(maker.alloc, value) {
-        Ok(raw) => raw,
-        Err(_) => return Err(Stop::OutOfMemory),
-    };
-    if let Some(bytes) = raw {
-        return maker.put(&bytes);
+    match put_raw(maker, value) {
+        Some(done) => done,
+        None => match at.depth.checked_sub(1) {
+            Some(depth) => {
+                let within = At {
+                    table: at.table,
+                    depth,
+                    kind: at.kind,
+                };
+                make_in_form(maker, &within, form, value)
+            }
+            None => Err(maker.unfit(value, Wanted::Raw)),
+        },
     }
-    let inner = match at.depth.checked_sub(1) {
-        Some(inner) => inner,
-        None => return Err(maker.unfit(value, Wanted::Raw)),
-    };
-    let within = At {
-        table: at.table,
-        depth: inner,
-        kind: at.kind,
-    };
+}
+
+// The same, of a value that isn't raw bytes; what is within has the levels that are left.
+#[cycle(make)]
+fn make_in_form<'v, T: Tables>(
+    maker: &mut Maker<'v>,
+    at: &At<'v, T>,
+    form: Form,
+    value: &'v Value,
+) -> Result<(), Stop>
+    ensures { Appended (in_form (T.parts_of at.now.table) (make (T.parts_of at.now.table) at.now.depth) at.now.kind.now form (view value.now))
+        maker.old.bytes.items maker.new.bytes.items result }
+{
     match form {
-        Form::Record(place) => make_fields(maker, &within, fields_at(at.table, place), value),
-        Form::Array(place) => make_elements(maker, &within, form_at(at.table, place), value),
-        Form::Times(_, place) => make_elements(maker, &within, form_at(at.table, place), value),
+        Form::Record(place) => make_fields(maker, at, fields_at(at.table, place), value),
+        Form::Array(place) => make_elements(maker, at, form_at(at.table, place), value),
+        Form::Times(_, place) => make_elements(maker, at, form_at(at.table, place), value),
         Form::List(place) => {
             let layer = layer_at(at.table, place);
-            make_list(maker, &within, place, false, false, layer, None, value)
+            make_list(maker, at, place, false, false, layer, None, value)
         }
-        Form::InForce(place) => make_list(maker, &within, place, true, true, "", None, value),
+        Form::InForce(place) => make_list(maker, at, place, true, true, "", None, value),
         Form::Own(place) => {
             let own = At {
                 table: at.table,
-                depth: inner,
+                depth: at.depth,
                 kind: own_kind_named(value),
             };
             make_list(maker, &own, place, false, true, "", None, value)
         }
         Form::Indexed(place) => {
             let held = Some(form_at(at.table, place));
-            make_list(maker, &within, place, false, false, "", held, value)
+            make_list(maker, at, place, false, false, "", held, value)
         }
-        Form::Choice(place) => make_choice(maker, &within, choices_at(at.table, place), value),
+        Form::Choice(place) => make_choice(maker, at, choices_at(at.table, place), value),
         _ => make_plain(maker, at.table, form, value),
     }
 }
@@ -174,22 +185,10 @@ fn make_elements<'v, T: Tables>(
     ensures { Appended (option_and_then (each_made (make (T.parts_of at.now.table) at.now.depth at.now.kind.now form))
         (as_array (view value.now))) maker.old.bytes.items maker.new.bytes.items result }
 {
-    match value.as_array() {
-        Some(items) => make_each_of_elements(maker, at, form, items.as_slice()),
-        None => Err(maker.unfit(value, Wanted::List)),
-    }
-}
-
-#[cycle(make)]
-fn make_each_of_elements<'v, T: Tables>(
-    maker: &mut Maker<'v>,
-    at: &At<'v, T>,
-    form: Form,
-    items: &'v [Value],
-) -> Result<(), Stop>
-    ensures { Appended (each_made (make (T.parts_of at.now.table) at.now.depth at.now.kind.now form) (items_view items.now))
-        maker.old.bytes.items maker.new.bytes.items result }
-{
+    let items = match value.as_array() {
+        Some(items) => items.as_slice(),
+        None => return Err(maker.unfit(value, Wanted::List)),
+    };
     for (place, item) in items.iter().enumerate() {
         match make_form(maker, at, form, item) {
             Ok(()) => {}
@@ -217,30 +216,10 @@ fn make_list<'v, T: Tables>(
         (rows_under (T.parts_of at.now.table) list k) has held layer.now k d) in_force at.now.kind.now) (as_array (view value.now)))
         maker.old.bytes.items maker.new.bytes.items result }
 {
-    match value.as_array() {
-        Some(items) => {
-            let all = items.as_slice();
-            make_each_of_list(maker, at, list, in_force, has, layer, held, all)
-        }
-        None => Err(maker.unfit(value, Wanted::List)),
-    }
-}
-
-#[cycle(make)]
-fn make_each_of_list<'v, T: Tables>(
-    maker: &mut Maker<'v>,
-    at: &At<'v, T>,
-    list: usize,
-    in_force: bool,
-    has: bool,
-    layer: &'static str,
-    held: Option<Form>,
-    items: &'v [Value],
-) -> Result<(), Stop>
-    ensures { Appended (each_under (λ k d. listed_made (make (T.parts_of at.now.table) at.now.depth)
-        (rows_under (T.parts_of at.now.table) list k) has held layer.now k d) in_force at.now.kind.now (items_view items.now))
-        maker.old.bytes.items maker.new.bytes.items result }
-{
+    let items = match value.as_array() {
+        Some(items) => items.as_slice(),
+        None => return Err(maker.unfit(value, Wanted::List)),
+    };
     let mut so_far = at.kind;
     let mut rows = rows_under(at.table, list, at.kind);
     for (place, item) in items.iter().enumerate() {
@@ -277,16 +256,12 @@ fn make_item<'v, T: Tables>(
     ensures { Appended (or_raw (raw_of (view value.now)) (listed_made (make (T.parts_of at.now.table) at.now.depth) (rows_in rows.now) has held
         layer.now at.now.kind.now (view value.now))) maker.old.bytes.items maker.new.bytes.items result }
 {
-    let raw = match raw_of(maker.alloc, value) {
-        Ok(raw) => raw,
-        Err(_) => return Err(Stop::OutOfMemory),
-    };
-    if let Some(bytes) = raw {
-        return maker.put(&bytes);
-    }
-    match held {
-        Some(form) => make_indexed(maker, at, form, value),
-        None => make_layered(maker, at, has, layer, rows, value),
+    match put_raw(maker, value) {
+        Some(done) => done,
+        None => match held {
+            Some(form) => make_indexed(maker, at, form, value),
+            None => make_layered(maker, at, has, layer, rows, value),
+        },
     }
 }
 

@@ -1,8 +1,8 @@
 //! What is shown of bytes in a form.
 
 ghost use Rattle.serde.specs.Event.{Log};
-ghost use Rattle.serde_json.specs.Data.{Members, array, member, no_members};
-ghost use Rattle.std.specs.Prelude.{[], OnOk, codes, false, length, true};
+ghost use Rattle.serde_json.specs.Data.{Members, array};
+ghost use Rattle.std.specs.Prelude.{[], OnOk, false, length, true};
 ghost use Rattle.tc_forms.specs.Attributes.{attribute, by_row, frames, indexed, listed};
 ghost use Rattle.tc_forms.specs.Choices.{by_choice, chosen};
 ghost use Rattle.tc_forms.specs.Frames.{frame_view};
@@ -112,45 +112,54 @@ fn send_any<S: Serializer, T: Tables>(
     ensures { OnOk result (Sent (events (show (T.parts_of at.now.table) at.now.depth at.now.kind.now form bytes.now))
         (S.written out.old) (S.written out.new)) }
 {
-    let inner = match at.depth.checked_sub(1) {
-        Some(inner) => inner,
-        None => return send_raw(bytes, out, aside),
-    };
-    let within = At {
-        table: at.table,
-        depth: inner,
-        kind: at.kind,
-    };
+    match at.depth.checked_sub(1) {
+        Some(depth) => {
+            let within = At {
+                table: at.table,
+                depth,
+                kind: at.kind,
+            };
+            send_in_form(&within, form, bytes, out, aside)
+        }
+        None => send_raw(bytes, out, aside),
+    }
+}
+
+// The same; what is within has the levels that are left.
+#[inline(always)]
+#[cycle(send)]
+fn send_in_form<S: Serializer, T: Tables>(
+    at: &At<'_, T>,
+    form: Form,
+    bytes: &[u8],
+    out: &mut S,
+    aside: &mut Aside<S::Error>,
+) -> Result<(), Stopped>
+    ensures { OnOk result (Sent (events (shown (T.parts_of at.now.table) (show (T.parts_of at.now.table) at.now.depth) at.now.kind.now form
+        bytes.now)) (S.written out.old) (S.written out.new)) }
+{
     match form {
-        Form::Record(place) => send_record(&within, place, bytes, out, aside),
-        Form::Array(place) => {
-            send_elements(&within, form_at(at.table, place), bytes, out, aside)
-        }
-        Form::Times(_, place) => {
-            send_elements(&within, form_at(at.table, place), bytes, out, aside)
-        }
+        Form::Record(place) => send_record(at, place, bytes, out, aside),
+        Form::Array(place) => { send_elements(at, form_at(at.table, place), bytes, out, aside) }
+        Form::Times(_, place) => { send_elements(at, form_at(at.table, place), bytes, out, aside) }
         Form::List(place) => {
             let layer = layer_at(at.table, place);
-            send_list(&within, place, false, false, layer, None, bytes, out, aside)
+            send_list(at, place, false, false, layer, None, bytes, out, aside)
         }
-        Form::InForce(place) => {
-            send_list(&within, place, true, true, "", None, bytes, out, aside)
-        }
+        Form::InForce(place) => { send_list(at, place, true, true, "", None, bytes, out, aside) }
         Form::Own(place) => {
             let own = At {
                 table: at.table,
-                depth: inner,
+                depth: at.depth,
                 kind: own_kind(bytes),
             };
             send_list(&own, place, false, true, "", None, bytes, out, aside)
         }
         Form::Indexed(place) => {
             let held = Some(form_at(at.table, place));
-            send_list(&within, place, false, false, "", held, bytes, out, aside)
+            send_list(at, place, false, false, "", held, bytes, out, aside)
         }
-        Form::Choice(place) => {
-            send_choice(&within, choices_at(at.table, place), bytes, out, aside)
-        }
+        Form::Choice(place) => { send_choice(at, choices_at(at.table, place), bytes, out, aside) }
         _ => send_plain(at.table, form, bytes, out, aside),
     }
 }
@@ -425,24 +434,10 @@ fn send_indexed<S: Serializer, T: Tables>(
 {
     begin_map(out, aside)?;
     send_word("tab", frame.word, out, aside)?;
-    send_attributes_member(at, form, frame.value, out, aside)?;
+    key("attributes", out, aside)?;
+    send_form(at, form, frame.value, out, aside)?;
     send_pad(frame, out, aside)?;
     end_map(out, aside)
-}
-
-#[cycle(send)]
-fn send_attributes_member<S: Serializer, T: Tables>(
-    at: &At<'_, T>,
-    form: Form,
-    value: &[u8],
-    out: &mut S,
-    aside: &mut Aside<S::Error>,
-) -> Result<(), Stopped>
-    ensures { OnOk result (Sent (members_events (member (codes "attributes") (show (T.parts_of at.now.table) at.now.depth at.now.kind.now
-        form value.now) no_members)) (S.written out.old) (S.written out.new)) }
-{
-    key("attributes", out, aside)?;
-    send_form(at, form, value, out, aside)
 }
 
 #[inline(never)]

@@ -1,9 +1,9 @@
 //! Values that hold no others, made.
 
 ghost use Rattle.serde_json.specs.View.{view};
-ghost use Rattle.std.specs.Prelude.{IfOk, Some, [], option_map, ◌++◌, ◌∷◌, ◌≡◌};
+ghost use Rattle.std.specs.Prelude.{IfNone, IfOk, IfSome, List, None, Option, Some, [], option_map, ℕ, ◌++◌, ◌∷◌, ◌≡◌};
 ghost use Rattle.tc_forms.specs.Appended.{Appended};
-ghost use Rattle.tc_forms.specs.Raw.{hex_made, hex_of, raw_of};
+ghost use Rattle.tc_forms.specs.Raw.{hex_made, hex_of, or_raw, raw_of};
 ghost use Rattle.tc_forms.specs.Tables.{no_table};
 ghost use Rattle.tc_forms.specs.Values.{ipv4_of, ipv6_of, mac_of, plain_made};
 
@@ -18,17 +18,25 @@ use serde_json::Value;
 use std::alloc::{AllocError, Global};
 use tc_texts::{handle_from_tc_text, read_hex, read_ipv4, read_ipv6, read_mac};
 
-// The bytes of `{"raw":"dead"}`.
+// Appends the bytes of `{"raw":"dead"}`; None if the value isn't that, and then nothing is appended.
 #[inline(always)]
-pub(crate) fn raw_of(alloc: Global, value: &Value) -> Result<Option<Vec<u8>>, AllocError>
-    ensures { IfOk result (λ r. option_map (λ v. v.items) r ≡ raw_of (view value.now)) }
+pub(crate) fn put_raw(maker: &mut Maker<'_>, value: &Value) -> Option<Result<(), Stop>>
+    ensures raw { IfSome result (λ r. (other : Option (List ℕ)) → Appended (or_raw (raw_of (view value.now)) other)
+        maker.old.bytes.items maker.new.bytes.items r) }
+    ensures none { IfNone result (raw_of (view value.now) ≡ None) }
+    ensures kept { IfNone result (maker.new.bytes.items ≡ maker.old.bytes.items) }
 {
     if !value.is_object() {
-        return Ok(None);
+        return None;
     }
-    match value.get("raw") {
-        Some(held) => hex_of(alloc, held),
-        None => Ok(None),
+    let held = match value.get("raw") {
+        Some(held) => held,
+        None => return None,
+    };
+    match hex_of(maker.alloc, held) {
+        Ok(Some(bytes)) => Some(maker.put(&bytes)),
+        Ok(None) => None,
+        Err(_) => Some(Err(Stop::OutOfMemory)),
     }
 }
 

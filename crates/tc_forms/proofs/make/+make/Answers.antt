@@ -1,190 +1,178 @@
-use Rattle.std.proofs.Common.{List, ℕ, Option, append-nil, drop, ◌++◌, ◌+◌, arith, refl, sym, ap, ◌∙◌, Some, subst}
-use Rattle.serde_json.specs.Data.{Data}
-use Rattle.tc_forms.specs.Tables.{Row, fields_view}
+use Rattle.std.proofs.Common.{Some, None, ◌∙◌, ap, refl}
+use Rattle.std.specs.Prelude.{[], option_and_then, false}
+use Rattle.serde_json.specs.Find.{as_array}
+use Rattle.serde_json.specs.View.{items_view, view}
 use Rattle.tc_forms.specs.AttributesMade.{each_under, kinded_made, layered_by, listed_made}
 use Rattle.tc_forms.specs.Choices.{by_choice_made}
 use Rattle.tc_forms.specs.Made.{make}
-use Rattle.tc_forms.specs.Raw.{or_raw, raw_of}
-use Rattle.tc_forms.specs.Records.{each_made, fields_made}
-use Rattle.std.specs.Prelude.{[], option_map, option_and_then, true, false, unwrap_or}
-use Rattle.serde_json.specs.Find.{as_array}
-use Rattle.serde_json.specs.View.{view, items_view}
-use Rattle.tc_forms.specs.declared.form.Form.TheVariants as form
-use Rattle.tc_forms.proofs.Making.{under_over, appended_as, joined_more, joined_fails, items_here, items_over, fields_here, level_made, raw_made}
-use Rattle.tc_forms.proofs.Making.{plain_in_form, under_own, under_more, under_fails}
-use Rattle.tc_forms.proofs.Sending.{none_wanted}
-use Rattle.tc_forms.specs.Appended.{Stops}
 use Rattle.tc_forms.specs.Places.{rows_under}
+use Rattle.tc_forms.specs.Records.{each_made, fields_made}
+use Rattle.tc_forms.specs.RowLists.{rows_in}
+use Rattle.tc_forms.specs.declared.form.Form.TheVariants as form
+use Rattle.tc_forms.proofs.Making.{fields_end, fields_fail, fields_more, items_end, items_fail, items_more, level_made, listed_end, listed_fails}
+use Rattle.tc_forms.proofs.Making.{listed_made_as, listed_more, plain_in_form, raw_made, shape_made, too_deep, under_own}
 use Rattle.tc_forms.proofs.make.+make.Goals as goal
 
-pub make_each_of_elements-loop-place-preserved : goal.make_each_of_elements-loop-place-preserved
-make_each_of_elements-loop-place-preserved g t c =
-    let One = make (g.T.Tables.parts_of c.args.at.now.table) c.args.at.now.depth c.args.at.now.kind.now c.args.form in
-    let vs = c.args.items.now in
-    let i = c.loop-place.place in
-    let now = c.loop-place.maker.bytes.items in
-    let here = items_here One vs i c.index-items-place.result c.loop-place-test.true c.index-items-place.is in
-    joined_more (One (view c.index-items-place.result)) (each_made One (items_view (drop (i + 1) vs))) (each_made One (items_view vs))
-    c.args.maker.now.bytes.items now c.make_form.new.maker.bytes.items (ap (option_map (λ b. now ++ b)) (sym here) ∙ c.loop-place.invariant)
-    c.in-Ok.ensures
+pub make_elements-loop-place-preserved : goal.make_elements-loop-place-preserved
+make_elements-loop-place-preserved g t c =
+    items_more (make (g.T.Tables.parts_of c.args.at.now.table) c.args.at.now.depth c.args.at.now.kind.now c.args.form) c.as_slice-items.result.now
+    c.loop-place.place c.args.maker.now.bytes.items c.loop-place.maker.bytes.items c.loop-place.invariant c.index-items-place.result c.loop-place-test.true
+    c.index-items-place.is c.make_form.new.maker.bytes.items c.in-Ok.ensures
 
-pub make_each_of_elements-returns-in-Err : goal.make_each_of_elements-returns-in-Err
-make_each_of_elements-returns-in-Err g t c =
-    let One = make (g.T.Tables.parts_of c.args.at.now.table) c.args.at.now.depth c.args.at.now.kind.now c.args.form in
-    let vs = c.args.items.now in
-    let i = c.loop-place.place in
-    let now = c.loop-place.maker.bytes.items in
-    let here = items_here One vs i c.index-items-place.result c.loop-place-test.true c.index-items-place.is in
-    joined_fails (One (view c.index-items-place.result)) (each_made One (items_view (drop (i + 1) vs))) (each_made One (items_view vs))
-    c.args.maker.now.bytes.items now c.in-Err.e (ap (option_map (λ b. now ++ b)) (sym here) ∙ c.loop-place.invariant) c.in-Err.ensures
+pub make_elements-returns-in-Err : goal.make_elements-returns-in-Err
+make_elements-returns-in-Err g t c =
+    items_fail (make (g.T.Tables.parts_of c.args.at.now.table) c.args.at.now.depth c.args.at.now.kind.now c.args.form) c.as_slice-items.result.now
+    c.loop-place.place c.args.maker.now.bytes.items c.loop-place.maker.bytes.items c.loop-place.invariant c.index-items-place.result c.loop-place-test.true
+    c.index-items-place.is (as_array (view c.args.value.now)) c.in-Err.e (ap (λ vs. Some (items_view vs)) c.as_slice-items.ensures.value ∙ c.in-Some.ensures)
+    c.in-Err.ensures
 
-pub make_each_of_elements-returns : goal.make_each_of_elements-returns
-make_each_of_elements-returns g t c =
-    let One = make (g.T.Tables.parts_of c.args.at.now.table) c.args.at.now.depth c.args.at.now.kind.now c.args.form in
-    let now = c.loop-place.maker.bytes.items in
-    sym c.loop-place.invariant ∙ ap (option_map (λ b. now ++ b)) (items_over One c.args.items.now c.loop-place.place c.loop-place-test.false)
-    ∙ ap Some (append-nil now)
+pub make_elements-returns : goal.make_elements-returns
+make_elements-returns g t c =
+    items_end (make (g.T.Tables.parts_of c.args.at.now.table) c.args.at.now.depth c.args.at.now.kind.now c.args.form) c.as_slice-items.result.now
+    c.loop-place.place c.args.maker.now.bytes.items c.loop-place.maker.bytes.items c.loop-place.invariant (as_array (view c.args.value.now))
+    (ap (λ vs. Some (items_view vs)) c.as_slice-items.ensures.value ∙ c.in-Some.ensures) c.loop-place-test.false
 
-pub make_each_of_list-loop-place-preserved : goal.make_each_of_list-loop-place-preserved
-make_each_of_list-loop-place-preserved g t c =
+pub make_list-loop-place-preserved : goal.make_list-loop-place-preserved
+make_list-loop-place-preserved g t c =
+    let table = g.T.Tables.parts_of c.args.at.now.table in (
+      c.kind_from-so_far.utf8,
+      listed_more (λ rows j x. listed_made (make table c.args.at.now.depth) rows c.args.has c.args.held c.args.layer.now j x)
+          (rows_under table c.args.list) c.args.in_force c.as_slice-items.result.now c.loop-place.place c.args.at.now.kind.now c.loop-place.so_far.now
+          c.args.maker.now.bytes.items c.loop-place.maker.bytes.items c.loop-place.invariant.1.1 c.index-items-place.result _ c.kind_from-so_far.result.now
+          (rows_in c.rows_from-rows.result) c.loop-place-test.true c.index-items-place.is c.kind_named-set.ensures c.kind_from-so_far.ensures
+          c.rows_from-rows.ensures c.make_item.new.maker.bytes.items c.in-Ok.ensures,
+    )
+
+pub make_list-returns-in-Err : goal.make_list-returns-in-Err
+make_list-returns-in-Err g t c =
     let table = g.T.Tables.parts_of c.args.at.now.table in
-    let Rows = rows_under table c.args.list in
-    let One : List Row → List ℕ → Data → Option (List ℕ) = λ rows k d.
-    listed_made (make table c.args.at.now.depth) rows c.args.has c.args.held c.args.layer.now k d in
-    let d = view c.index-items-place.result in
-    let now = c.loop-place.maker.bytes.items in
-    let is_next = c.kind_from-so_far.ensures ∙ ap (λ o. unwrap_or o c.loop-place.so_far.now) c.kind_named-set.ensures in
-    let same = c.rows_from-rows.ensures ∙ ap Rows (sym c.kind_from-so_far.ensures) in
-    let made = ap (λ rows. option_map (λ b. now ++ b) (or_raw (raw_of d) (One rows c.kind_from-so_far.result.now d))) (sym same)
-    ∙ c.in-Ok.ensures in
-    let more = under_more (λ k x. One (Rows k) k x) c.args.in_force c.args.items.now c.loop-place.place c.index-items-place.result
-    c.loop-place.so_far.now c.kind_from-so_far.result.now c.args.maker.now.bytes.items now _ c.loop-place-test.true
-    c.index-items-place.is is_next c.loop-place.invariant.1.1 c.make_item.new.maker.bytes.items made in
-    (c.kind_from-so_far.utf8, (same, more))
+    listed_fails (λ rows j x. listed_made (make table c.args.at.now.depth) rows c.args.has c.args.held c.args.layer.now j x) (rows_under table c.args.list)
+    c.args.in_force c.as_slice-items.result.now c.loop-place.place c.args.at.now.kind.now c.loop-place.so_far.now c.args.maker.now.bytes.items
+    c.loop-place.maker.bytes.items c.loop-place.invariant.1.1 c.index-items-place.result _ c.kind_from-so_far.result.now (rows_in c.rows_from-rows.result)
+    c.loop-place-test.true c.index-items-place.is c.kind_named-set.ensures c.kind_from-so_far.ensures c.rows_from-rows.ensures
+    (as_array (view c.args.value.now)) c.in-Err.e (ap (λ vs. Some (items_view vs)) c.as_slice-items.ensures.value ∙ c.in-Some.ensures) c.in-Err.ensures
 
-pub make_each_of_list-returns-in-Err : goal.make_each_of_list-returns-in-Err
-make_each_of_list-returns-in-Err g t c =
+pub make_list-returns : goal.make_list-returns
+make_list-returns g t c =
     let table = g.T.Tables.parts_of c.args.at.now.table in
-    let Rows = rows_under table c.args.list in
-    let One : List Row → List ℕ → Data → Option (List ℕ) = λ rows k d.
-    listed_made (make table c.args.at.now.depth) rows c.args.has c.args.held c.args.layer.now k d in
-    let d = view c.index-items-place.result in
-    let is_next = c.kind_from-so_far.ensures ∙ ap (λ o. unwrap_or o c.loop-place.so_far.now) c.kind_named-set.ensures in
-    let same = c.rows_from-rows.ensures ∙ ap Rows (sym c.kind_from-so_far.ensures) in
-    under_fails (λ k x. One (Rows k) k x) c.args.in_force c.args.items.now c.loop-place.place c.index-items-place.result c.loop-place.so_far.now
-    c.kind_from-so_far.result.now c.args.maker.now.bytes.items c.loop-place.maker.bytes.items _ c.loop-place-test.true
-    c.index-items-place.is is_next c.loop-place.invariant.1.1 c.in-Err.e
-    (subst (λ rows. Stops (or_raw (raw_of d) (One rows c.kind_from-so_far.result.now d)) c.in-Err.e) same c.in-Err.ensures)
-
-pub make_each_of_list-returns : goal.make_each_of_list-returns
-make_each_of_list-returns g t c =
-    let table = g.T.Tables.parts_of c.args.at.now.table in
-    let One : List ℕ → Data → Option (List ℕ) = λ k d.
-    listed_made (make table c.args.at.now.depth) (rows_under table c.args.list k) c.args.has c.args.held c.args.layer.now k d in
-    let now = c.loop-place.maker.bytes.items in
-    let over = under_over One c.args.in_force c.args.items.now c.loop-place.place c.loop-place.so_far.now c.loop-place-test.false in
-    sym c.loop-place.invariant.1.1 ∙ ap (option_map (λ b. now ++ b)) over ∙ ap Some (append-nil now)
+    listed_end (λ rows j x. listed_made (make table c.args.at.now.depth) rows c.args.has c.args.held c.args.layer.now j x) (rows_under table c.args.list)
+    c.args.in_force c.as_slice-items.result.now c.loop-place.place c.args.at.now.kind.now c.loop-place.so_far.now c.args.maker.now.bytes.items
+    c.loop-place.maker.bytes.items c.loop-place.invariant.1.1 (as_array (view c.args.value.now))
+    (ap (λ vs. Some (items_view vs)) c.as_slice-items.ensures.value ∙ c.in-Some.ensures) c.loop-place-test.false
 
 pub make_fields-loop-field-preserved : goal.make_fields-loop-field-preserved
 make_fields-loop-field-preserved g t c =
     let table = g.T.Tables.parts_of c.args.at.now.table in
-    let fs = c.args.fields.now in
-    let i = c.loop-field.field-index in
-    let now = c.loop-field.maker.bytes.items in
-    let Made = make table c.args.at.now.depth c.args.at.now.kind.now in
-    let d = view c.args.value.now in
-    joined_more _ (fields_made table Made (fields_view (drop (i + 1) fs)) d) (fields_made table Made (fields_view fs) d)
-    c.args.maker.now.bytes.items now c.make_field.new.maker.bytes.items
-    (ap (option_map (λ b. now ++ b)) (sym (fields_here table Made fs i _ d c.loop-field-test.true)) ∙ c.loop-field.invariant) c.in-Ok.ensures
+    fields_more table (make table c.args.at.now.depth c.args.at.now.kind.now) c.args.fields.now c.loop-field.field-index (view c.args.value.now)
+    c.args.maker.now.bytes.items c.loop-field.maker.bytes.items c.loop-field.invariant _ c.loop-field-test.true c.make_field.new.maker.bytes.items
+    c.in-Ok.ensures
+
+pub make_fields-returns-in-Err : goal.make_fields-returns-in-Err
+make_fields-returns-in-Err g t c =
+    let table = g.T.Tables.parts_of c.args.at.now.table in
+    fields_fail table (make table c.args.at.now.depth c.args.at.now.kind.now) c.args.fields.now c.loop-field.field-index (view c.args.value.now)
+    c.args.maker.now.bytes.items c.loop-field.maker.bytes.items c.loop-field.invariant _ c.loop-field-test.true c.in-Err.e c.in-Err.ensures
+
+pub make_fields-returns : goal.make_fields-returns
+make_fields-returns g t c =
+    let table = g.T.Tables.parts_of c.args.at.now.table in
+    fields_end table (make table c.args.at.now.depth c.args.at.now.kind.now) c.args.fields.now c.loop-field.field-index (view c.args.value.now)
+    c.args.maker.now.bytes.items c.loop-field.maker.bytes.items c.loop-field.invariant c.make_rest.new.maker.bytes.items c.make_rest.result
+    c.loop-field-test.false c.make_rest.ensures
 
 pub make_form-returns-in-Some : goal.make_form-returns-in-Some
 make_form-returns-in-Some g t c =
-    let read = ap Some c.deref.ensures.value ∙ sym (ap (option_map (λ v. v.items)) c.in-Some.is) ∙ c.in-Ok.ensures in
-    appended_as (Some c.deref.result.now) _ c.args.maker.now.bytes.items c.put.new.self.bytes.items c.put.result
-    (raw_made (g.T.Tables.parts_of c.args.at.now.table) c.args.at.now.depth c.args.at.now.kind.now c.args.form (view c.args.value.now)
-    c.deref.result.now read) c.put.ensures
+    raw_made (g.T.Tables.parts_of c.args.at.now.table) c.args.at.now.depth c.args.at.now.kind.now c.args.form (view c.args.value.now)
+    c.args.maker.now.bytes.items c.put_raw.new.maker.bytes.items c.in-Some.done c.in-Some.ensures.raw
 
-pub make_form-returns-in-Record : goal.make_form-returns-in-Record
-make_form-returns-in-Record g t c =
-    let table = g.T.Tables.parts_of c.args.at.now.table in let k = c.args.at.now.kind.now in
-    let d = view c.args.value.now in let m = c.in-Some-checked_sub.inner in
-    level_made table c.args.at.now.depth m k c.args.form (form.Record c.in-Record.place) d _ _ _ _
-    (omega (arith, c.in-Some-checked_sub.ensures.0, c.in-Some-checked_sub.ensures.1)) c.in-Record.is
-    (none_wanted c.in-Ok.raw (raw_of d) (λ v. v.items) c.in_default.not-Some c.in-Ok.ensures)
-    (ap (λ fs. fields_made table (make table m k) fs d) c.fields_at.ensures) c.make_fields.ensures
+pub make_form-returns-in-Some-checked_sub : goal.make_form-returns-in-Some-checked_sub
+make_form-returns-in-Some-checked_sub g t c =
+    level_made (g.T.Tables.parts_of c.args.at.now.table) c.args.at.now.depth c.in-Some-checked_sub.depth c.args.at.now.kind.now c.args.form
+    (view c.args.value.now) c.args.maker.now.bytes.items c.put_raw.new.maker.bytes.items c.make_in_form.new.maker.bytes.items c.make_in_form.result
+    c.in-Some-checked_sub.ensures c.in-None.ensures.none c.in-None.ensures.kept c.make_in_form.ensures
 
-pub make_form-returns-in-Array : goal.make_form-returns-in-Array
-make_form-returns-in-Array g t c =
-    let table = g.T.Tables.parts_of c.args.at.now.table in let k = c.args.at.now.kind.now in
-    let d = view c.args.value.now in let m = c.in-Some-checked_sub.inner in
-    level_made table c.args.at.now.depth m k c.args.form (form.Array c.in-Array.place) d _ _ _ _
-    (omega (arith, c.in-Some-checked_sub.ensures.0, c.in-Some-checked_sub.ensures.1)) c.in-Array.is
-    (none_wanted c.in-Ok.raw (raw_of d) (λ v. v.items) c.in_default.not-Some c.in-Ok.ensures)
-    (ap (λ f. option_and_then (each_made (make table m k f)) (as_array d)) c.form_at.ensures) c.make_elements.ensures
+pub make_form-returns-in-None-checked_sub : goal.make_form-returns-in-None-checked_sub
+make_form-returns-in-None-checked_sub g t c =
+    too_deep (g.T.Tables.parts_of c.args.at.now.table) c.args.at.now.depth c.args.at.now.kind.now c.args.form (view c.args.value.now) c.unfit.result
+    c.in-None-checked_sub.ensures c.in-None.ensures.none
 
-pub make_form-returns-in-Times : goal.make_form-returns-in-Times
-make_form-returns-in-Times g t c =
-    let table = g.T.Tables.parts_of c.args.at.now.table in let k = c.args.at.now.kind.now in
-    let d = view c.args.value.now in let m = c.in-Some-checked_sub.inner in
-    level_made table c.args.at.now.depth m k c.args.form (form.Times c.in-Times.field-0 c.in-Times.place) d _ _ _ _
-    (omega (arith, c.in-Some-checked_sub.ensures.0, c.in-Some-checked_sub.ensures.1)) c.in-Times.is
-    (none_wanted c.in-Ok.raw (raw_of d) (λ v. v.items) c.in_default.not-Some c.in-Ok.ensures)
-    (ap (λ f. option_and_then (each_made (make table m k f)) (as_array d)) c.form_at-in-Times.ensures) c.make_elements-in-Times.ensures
+pub make_in_form-returns-in-Record : goal.make_in_form-returns-in-Record
+make_in_form-returns-in-Record g t c =
+    let table = g.T.Tables.parts_of c.args.at.now.table in let Made = make table c.args.at.now.depth in let k = c.args.at.now.kind.now in
+    shape_made table Made k c.args.form (form.Record c.in-Record.place) (view c.args.value.now) _ c.args.maker.now.bytes.items
+    c.make_fields.new.maker.bytes.items c.make_fields.result c.in-Record.is
+    (ap (λ fs. fields_made table (Made k) fs (view c.args.value.now)) c.fields_at.ensures) c.make_fields.ensures
 
-pub make_form-returns-in-List : goal.make_form-returns-in-List
-make_form-returns-in-List g t c =
-    let table = g.T.Tables.parts_of c.args.at.now.table in let k = c.args.at.now.kind.now in
-    let d = view c.args.value.now in let m = c.in-Some-checked_sub.inner in
-    level_made table c.args.at.now.depth m k c.args.form (form.List c.in-List.place) d _ _ _ _
-    (omega (arith, c.in-Some-checked_sub.ensures.0, c.in-Some-checked_sub.ensures.1)) c.in-List.is
-    (none_wanted c.in-Ok.raw (raw_of d) (λ v. v.items) c.in_default.not-Some c.in-Ok.ensures)
-    (ap (λ l. option_and_then (each_under (λ j x. layered_by (make table m) (rows_under table c.in-List.place j) false l j x) false k)
-    (as_array d)) c.layer_at-layer.ensures) c.make_list.ensures
+pub make_in_form-returns-in-Array : goal.make_in_form-returns-in-Array
+make_in_form-returns-in-Array g t c =
+    let table = g.T.Tables.parts_of c.args.at.now.table in let Made = make table c.args.at.now.depth in let k = c.args.at.now.kind.now in
+    shape_made table Made k c.args.form (form.Array c.in-Array.place) (view c.args.value.now) _ c.args.maker.now.bytes.items
+    c.make_elements.new.maker.bytes.items c.make_elements.result c.in-Array.is (ap
+    (λ f. option_and_then (each_made (Made k f)) (as_array (view c.args.value.now))) c.form_at.ensures) c.make_elements.ensures
 
-pub make_form-returns-in-Indexed : goal.make_form-returns-in-Indexed
-make_form-returns-in-Indexed g t c =
-    let table = g.T.Tables.parts_of c.args.at.now.table in let k = c.args.at.now.kind.now in
-    let d = view c.args.value.now in let m = c.in-Some-checked_sub.inner in
-    level_made table c.args.at.now.depth m k c.args.form (form.Indexed c.in-Indexed.place) d _ _ _ _
-    (omega (arith, c.in-Some-checked_sub.ensures.0, c.in-Some-checked_sub.ensures.1)) c.in-Indexed.is
-    (none_wanted c.in-Ok.raw (raw_of d) (λ v. v.items) c.in_default.not-Some c.in-Ok.ensures)
-    (ap (λ f. option_and_then (each_under (λ j x. listed_made (make table m) (rows_under table c.in-Indexed.place j) false (Some f) [] j x) false k)
-    (as_array d)) c.form_at-in-Indexed.ensures) c.make_list-in-Indexed.ensures
+pub make_in_form-returns-in-Times : goal.make_in_form-returns-in-Times
+make_in_form-returns-in-Times g t c =
+    let table = g.T.Tables.parts_of c.args.at.now.table in let Made = make table c.args.at.now.depth in let k = c.args.at.now.kind.now in
+    shape_made table Made k c.args.form (form.Times c.in-Times.field-0 c.in-Times.place) (view c.args.value.now) _ c.args.maker.now.bytes.items
+    c.make_elements-in-Times.new.maker.bytes.items c.make_elements-in-Times.result c.in-Times.is (ap
+    (λ f. option_and_then (each_made (Made k f)) (as_array (view c.args.value.now))) c.form_at-in-Times.ensures) c.make_elements-in-Times.ensures
 
-pub make_form-returns-in-InForce : goal.make_form-returns-in-InForce
-make_form-returns-in-InForce g t c =
-    let table = g.T.Tables.parts_of c.args.at.now.table in let k = c.args.at.now.kind.now in
-    let d = view c.args.value.now in let m = c.in-Some-checked_sub.inner in
-    level_made table c.args.at.now.depth m k c.args.form (form.InForce c.in-InForce.place) d _ _ _ _
-    (omega (arith, c.in-Some-checked_sub.ensures.0, c.in-Some-checked_sub.ensures.1)) c.in-InForce.is
-    (none_wanted c.in-Ok.raw (raw_of d) (λ v. v.items) c.in_default.not-Some c.in-Ok.ensures)
-    refl c.make_list-in-InForce.ensures
+pub make_in_form-returns-in-List : goal.make_in_form-returns-in-List
+make_in_form-returns-in-List g t c =
+    let table = g.T.Tables.parts_of c.args.at.now.table in let Made = make table c.args.at.now.depth in let k = c.args.at.now.kind.now in
+    shape_made table Made k c.args.form (form.List c.in-List.place) (view c.args.value.now) _ c.args.maker.now.bytes.items c.make_list.new.maker.bytes.items
+    c.make_list.result c.in-List.is (ap (λ l. option_and_then (each_under (λ j x. layered_by Made (rows_under table c.in-List.place j) false l j x) false k)
+    (as_array (view c.args.value.now))) c.layer_at-layer.ensures) c.make_list.ensures
 
-pub make_form-returns-in-Own : goal.make_form-returns-in-Own
-make_form-returns-in-Own g t c =
-    let table = g.T.Tables.parts_of c.args.at.now.table in let k = c.args.at.now.kind.now in
-    let d = view c.args.value.now in let m = c.in-Some-checked_sub.inner in
-    level_made table c.args.at.now.depth m k c.args.form (form.Own c.in-Own.place) d _ _ _ _
-    (omega (arith, c.in-Some-checked_sub.ensures.0, c.in-Some-checked_sub.ensures.1)) c.in-Own.is
-    (none_wanted c.in-Ok.raw (raw_of d) (λ v. v.items) c.in_default.not-Some c.in-Ok.ensures)
-    (under_own (kinded_made table (make table m) c.in-Own.place) (as_array d) _ c.own_kind_named.ensures) c.make_list-in-Own.ensures
+pub make_in_form-returns-in-Indexed : goal.make_in_form-returns-in-Indexed
+make_in_form-returns-in-Indexed g t c =
+    let table = g.T.Tables.parts_of c.args.at.now.table in let Made = make table c.args.at.now.depth in let k = c.args.at.now.kind.now in
+    shape_made table Made k c.args.form (form.Indexed c.in-Indexed.place) (view c.args.value.now) _ c.args.maker.now.bytes.items
+    c.make_list-in-Indexed.new.maker.bytes.items c.make_list-in-Indexed.result c.in-Indexed.is (ap (λ f. option_and_then (each_under
+    (λ j x. listed_made Made (rows_under table c.in-Indexed.place j) false (Some f) [] j x) false k) (as_array (view c.args.value.now)))
+    c.form_at-in-Indexed.ensures) c.make_list-in-Indexed.ensures
 
-pub make_form-returns-in-Choice : goal.make_form-returns-in-Choice
-make_form-returns-in-Choice g t c =
-    let table = g.T.Tables.parts_of c.args.at.now.table in let k = c.args.at.now.kind.now in
-    let d = view c.args.value.now in let m = c.in-Some-checked_sub.inner in
-    level_made table c.args.at.now.depth m k c.args.form (form.Choice c.in-Choice.place) d _ _ _ _
-    (omega (arith, c.in-Some-checked_sub.ensures.0, c.in-Some-checked_sub.ensures.1)) c.in-Choice.is
-    (none_wanted c.in-Ok.raw (raw_of d) (λ v. v.items) c.in_default.not-Some c.in-Ok.ensures)
-    (ap (λ cs. by_choice_made (make table m k) cs d) c.choices_at.ensures) c.make_choice.ensures
+pub make_in_form-returns-in-InForce : goal.make_in_form-returns-in-InForce
+make_in_form-returns-in-InForce g t c =
+    let table = g.T.Tables.parts_of c.args.at.now.table in let Made = make table c.args.at.now.depth in let k = c.args.at.now.kind.now in
+    shape_made table Made k c.args.form (form.InForce c.in-InForce.place) (view c.args.value.now) _ c.args.maker.now.bytes.items
+    c.make_list-in-InForce.new.maker.bytes.items c.make_list-in-InForce.result c.in-InForce.is refl c.make_list-in-InForce.ensures
 
-pub make_form-returns-in_default-form : goal.make_form-returns-in_default-form
-make_form-returns-in_default-form g t c =
-    let table = g.T.Tables.parts_of c.args.at.now.table in let k = c.args.at.now.kind.now in
-    let d = view c.args.value.now in let m = c.in-Some-checked_sub.inner in
-    level_made table c.args.at.now.depth m k c.args.form c.args.form d _ _ _ _
-    (omega (arith, c.in-Some-checked_sub.ensures.0, c.in-Some-checked_sub.ensures.1)) refl
-    (none_wanted c.in-Ok.raw (raw_of d) (λ v. v.items) c.in_default.not-Some c.in-Ok.ensures)
-    (plain_in_form table (make table m) k c.args.form d c.in_default-form.not-Record c.in_default-form.not-Array
-    c.in_default-form.not-Times c.in_default-form.not-List c.in_default-form.not-InForce c.in_default-form.not-Own
-    c.in_default-form.not-Indexed c.in_default-form.not-Choice) c.make_plain.ensures
+pub make_in_form-returns-in-Own : goal.make_in_form-returns-in-Own
+make_in_form-returns-in-Own g t c =
+    let table = g.T.Tables.parts_of c.args.at.now.table in let Made = make table c.args.at.now.depth in let k = c.args.at.now.kind.now in
+    shape_made table Made k c.args.form (form.Own c.in-Own.place) (view c.args.value.now) _ c.args.maker.now.bytes.items
+    c.make_list-in-Own.new.maker.bytes.items c.make_list-in-Own.result c.in-Own.is (under_own (kinded_made table Made c.in-Own.place)
+    (as_array (view c.args.value.now)) _ c.own_kind_named.ensures) c.make_list-in-Own.ensures
+
+pub make_in_form-returns-in-Choice : goal.make_in_form-returns-in-Choice
+make_in_form-returns-in-Choice g t c =
+    let table = g.T.Tables.parts_of c.args.at.now.table in let Made = make table c.args.at.now.depth in let k = c.args.at.now.kind.now in
+    shape_made table Made k c.args.form (form.Choice c.in-Choice.place) (view c.args.value.now) _ c.args.maker.now.bytes.items
+    c.make_choice.new.maker.bytes.items c.make_choice.result c.in-Choice.is
+    (ap (λ cs. by_choice_made (Made k) cs (view c.args.value.now)) c.choices_at.ensures) c.make_choice.ensures
+
+pub make_in_form-returns-in_default : goal.make_in_form-returns-in_default
+make_in_form-returns-in_default g t c =
+    let table = g.T.Tables.parts_of c.args.at.now.table in let Made = make table c.args.at.now.depth in let k = c.args.at.now.kind.now in
+    shape_made table Made k c.args.form c.args.form (view c.args.value.now) _ c.args.maker.now.bytes.items c.make_plain.new.maker.bytes.items
+    c.make_plain.result refl (plain_in_form table Made k c.args.form (view c.args.value.now) c.in_default.not-Record c.in_default.not-Array
+    c.in_default.not-Times c.in_default.not-List c.in_default.not-InForce c.in_default.not-Own c.in_default.not-Indexed c.in_default.not-Choice)
+    c.make_plain.ensures
+
+pub make_item-returns-in-Some : goal.make_item-returns-in-Some
+make_item-returns-in-Some g t c =
+    c.in-Some.ensures.raw (listed_made (make (g.T.Tables.parts_of c.args.at.now.table) c.args.at.now.depth) (rows_in c.args.rows.now) c.args.has c.args.held
+    c.args.layer.now c.args.at.now.kind.now (view c.args.value.now))
+
+pub make_item-returns-in-Some-held : goal.make_item-returns-in-Some-held
+make_item-returns-in-Some-held g t c =
+    listed_made_as (make (g.T.Tables.parts_of c.args.at.now.table) c.args.at.now.depth) (rows_in c.args.rows.now) c.args.has c.args.held
+    (Some c.in-Some-held.form) c.args.layer.now c.args.at.now.kind.now (view c.args.value.now) c.args.maker.now.bytes.items c.put_raw.new.maker.bytes.items
+    c.make_indexed.new.maker.bytes.items c.make_indexed.result c.in-Some-held.is c.in-None.ensures.none c.in-None.ensures.kept c.make_indexed.ensures
+
+pub make_item-returns-in-None-held : goal.make_item-returns-in-None-held
+make_item-returns-in-None-held g t c =
+    listed_made_as (make (g.T.Tables.parts_of c.args.at.now.table) c.args.at.now.depth) (rows_in c.args.rows.now) c.args.has c.args.held None c.args.layer.now
+    c.args.at.now.kind.now (view c.args.value.now) c.args.maker.now.bytes.items c.put_raw.new.maker.bytes.items c.make_layered.new.maker.bytes.items
+    c.make_layered.result c.in-None-held.is c.in-None.ensures.none c.in-None.ensures.kept c.make_layered.ensures

@@ -15,52 +15,52 @@ use Rattle.tc_forms.specs.RowLists.{rows_in}
 use Rattle.tc_forms.proofs.show.+send.Given as goal
 
 abbrev pub decreases-send_form : goal.decreases-send_form
-decreases-send_form g l = 7 * l.at.now.depth + 1
+decreases-send_form g l = 8 * l.at.now.depth + 1
+
+abbrev pub decreases-send_in_form : goal.decreases-send_in_form
+decreases-send_in_form g l = 8 * l.at.now.depth + 7
 
 abbrev pub decreases-send_any : goal.decreases-send_any
-decreases-send_any g l = 7 * l.at.now.depth + 0
+decreases-send_any g l = 8 * l.at.now.depth + 0
 
 abbrev pub decreases-send_fields : goal.decreases-send_fields
-decreases-send_fields g l = 7 * l.at.now.depth + 3
+decreases-send_fields g l = 8 * l.at.now.depth + 3
 
 abbrev pub decreases-send_field : goal.decreases-send_field
-decreases-send_field g l = 7 * l.at.now.depth + 2
+decreases-send_field g l = 8 * l.at.now.depth + 2
 
 abbrev pub decreases-send_elements_of : goal.decreases-send_elements_of
-decreases-send_elements_of g l = 7 * l.at.now.depth + 3
+decreases-send_elements_of g l = 8 * l.at.now.depth + 3
 
 abbrev pub decreases-send_each_element : goal.decreases-send_each_element
-decreases-send_each_element g l = 7 * l.at.now.depth + 2
+decreases-send_each_element g l = 8 * l.at.now.depth + 2
 
 abbrev pub decreases-send_record : goal.decreases-send_record
-decreases-send_record g l = 7 * l.at.now.depth + 4
+decreases-send_record g l = 8 * l.at.now.depth + 4
 
 abbrev pub decreases-send_elements : goal.decreases-send_elements
-decreases-send_elements g l = 7 * l.at.now.depth + 4
+decreases-send_elements g l = 8 * l.at.now.depth + 4
 
 abbrev pub decreases-send_list : goal.decreases-send_list
-decreases-send_list g l = 7 * l.at.now.depth + 6
+decreases-send_list g l = 8 * l.at.now.depth + 6
 
 abbrev pub decreases-send_attributes : goal.decreases-send_attributes
-decreases-send_attributes g l = 7 * l.at.now.depth + 5
+decreases-send_attributes g l = 8 * l.at.now.depth + 5
 
 abbrev pub decreases-send_item : goal.decreases-send_item
-decreases-send_item g l = 7 * l.at.now.depth + 4
+decreases-send_item g l = 8 * l.at.now.depth + 4
 
 abbrev pub decreases-send_attribute : goal.decreases-send_attribute
-decreases-send_attribute g l = 7 * l.at.now.depth + 3
+decreases-send_attribute g l = 8 * l.at.now.depth + 3
 
 abbrev pub decreases-send_by_row : goal.decreases-send_by_row
-decreases-send_by_row g l = 7 * l.at.now.depth + 2
+decreases-send_by_row g l = 8 * l.at.now.depth + 2
 
 abbrev pub decreases-send_indexed : goal.decreases-send_indexed
-decreases-send_indexed g l = 7 * l.at.now.depth + 3
-
-abbrev pub decreases-send_attributes_member : goal.decreases-send_attributes_member
-decreases-send_attributes_member g l = 7 * l.at.now.depth + 2
+decreases-send_indexed g l = 8 * l.at.now.depth + 3
 
 abbrev pub decreases-send_choice : goal.decreases-send_choice
-decreases-send_choice g l = 7 * l.at.now.depth + 2
+decreases-send_choice g l = 8 * l.at.now.depth + 2
 
 -- whatever ends it well from here ends it well from the start
 abbrev pub invariant-send_fields-loop-field : goal.invariant-send_fields-loop-field
