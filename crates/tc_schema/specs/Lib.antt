@@ -1,4 +1,5 @@
 pub mod Examples
 pub mod Explained
 pub mod Notes
+pub mod Schemas
 pub mod Texts

@@ -1,82 +1,37 @@
 //! An example of what is shown in a form, as JSON.
 
 ghost use Rattle.std.specs.Prelude.{OnOk, codes, true, ◌++◌, ◌≡◌};
-ghost use Rattle.tc_forms.specs.Places.{form_of, layer_of, names_of};
-ghost use Rattle.tc_forms.specs.Tables.{names_view, part_view};
-ghost use Rattle.tc_schema.specs.Examples.{behind_kind, comma, example, first_example, kind_example, leaf_example, list_example, member_example, members_example, name_example, separator, zeros};
+ghost use Rattle.tc_forms.specs.Places.{form_of, layer_of};
+ghost use Rattle.tc_forms.specs.Tables.{part_view};
+ghost use Rattle.tc_schema.specs.Examples.{example, example_by, first_example, kind_example, list_example, member_example, members_example, name_example, zeros};
 ghost use Rattle.tc_schema.specs.Texts.{member_view, members_of};
 
-use crate::texts::{Member, first_member, is_pad, put, put_quoted, put_quoted_between};
-use std::alloc::{AllocError, Allocator};
-use tc_forms::{Form, Name, Part, Tables};
+use crate::texts::{
+    Done, Member, about, first_member, is_pad, layer_of, put, put_between, put_comma, put_quoted,
+    put_times,
+};
+use std::alloc::Allocator;
+use tc_forms::{Form, Part, Tables};
 
-// How deep an example goes.
+// How deep an example goes, and how that of a kind begins.
 const DEEPEST: u8 = 12;
+const EXAMPLE: &str = "example: [{\"Kind\":";
 
-// Puts zeros in hex.
-fn put_zeros<A: Allocator>(out: &mut Vec<u8, A>, count: usize) -> Result<(), AllocError>
+fn put_zeros<A: Allocator>(out: &mut Vec<u8, A>, count: usize) -> Done
     ensures { OnOk result (out.new.items ≡ out.old.items ++ zeros count) }
 {
-    let others = match count.checked_sub(1) {
-        Some(others) => others,
-        None => return Ok(()),
-    };
-    put(out, "00")?;
-    put_zeros(out, others)
-}
-
-fn put_zero_bytes<A: Allocator>(out: &mut Vec<u8, A>, count: usize) -> Result<(), AllocError>
-    ensures { OnOk result (out.new.items ≡ out.old.items ++ (codes "\"" ++ (zeros count ++ codes "\""))) }
-{
     put(out, "\"")?;
-    put_zeros(out, count)?;
+    put_times(out, "00", count)?;
     put(out, "\"")
 }
 
-// An example of what is in a form that holds no others.
-fn leaf_example(form: Form) -> &'static str
-    ensures { result.now ≡ leaf_example form }
+fn put_name<A: Allocator>(out: &mut Vec<u8, A>, part: Part<'static>) -> Done
+    ensures { OnOk result (out.new.items ≡ out.old.items ++ name_example (members_of (part_view part.entry))) }
 {
-    match form {
-        Form::Number(_) => "1",
-        Form::Handle => "\"1:1\"",
-        Form::Flag | Form::Truth => "true",
-        Form::Text | Form::Bare => "\"text\"",
-        Form::Hex => "\"00ff\"",
-        Form::Mac => "\"02:00:00:00:00:01\"",
-        Form::Ipv4 => "\"192.0.2.1\"",
-        Form::Ipv6 => "\"2001:db8::1\"",
-        _ => "[]",
-    }
-}
-
-fn put_name<A: Allocator>(out: &mut Vec<u8, A>, names: &[Name<'_>]) -> Result<(), AllocError>
-    ensures { OnOk result (out.new.items ≡ out.old.items ++ name_example (names_view names.now)) }
-{
-    match names.split_first() {
+    match first_member(part) {
         Some((first, _)) => put_quoted(out, first.name),
         None => put(out, "{\"Other\":1}"),
     }
-}
-
-// The names at a place.
-fn names_at<T: Tables>(table: T, place: usize) -> &'static [Name<'static>]
-    ensures { names_view result.now ≡ names_of (T.parts_of table place) }
-{
-    if let Part::Names(names) = table.part(place) {
-        return names;
-    }
-    &[]
-}
-
-// The layer of a part.
-fn layer_of(part: Part<'static>) -> &'static str
-    ensures { result.now ≡ layer_of (part_view part.entry) }
-{
-    if let Part::Rows(layer, _) = part {
-        return layer;
-    }
-    ""
 }
 
 // The form at a place.
@@ -94,150 +49,94 @@ fn form_of(place: usize, part: Part<'static>) -> Form
 
 // An example of what is in a form, at most so deep.
 #[cycle(example)]
-fn put_form<T: Tables, A: Allocator>(
-    table: T,
-    depth: u8,
-    form: Form,
-    out: &mut Vec<u8, A>,
-) -> Result<(), AllocError>
+fn put_form<T: Tables, A: Allocator>(out: &mut Vec<u8, A>, table: T, depth: u8, form: Form) -> Done
     ensures { OnOk result (out.new.items ≡ out.old.items ++ example (T.parts_of table) depth form) }
 {
-    let inner = match depth.checked_sub(1) {
-        Some(inner) => inner,
-        None => return put(out, "[]"),
-    };
-    match form {
-        Form::Named(_, place) => put_name(out, names_at(table, place)),
-        Form::Bytes(count) | Form::Pad(count) => put_zero_bytes(out, count),
-        Form::Record(place) => put_record(table, inner, place, out),
-        Form::Choice(place) => put_first(table, inner, table.part(place), out),
-        Form::Array(place) | Form::Times(_, place) => {
-            put_element(table, inner, form_of(place, table.part(place)), out)
-        }
-        Form::List(place) => put_list(table, inner, place, out),
-        _ => put(out, leaf_example(form)),
+    match depth.checked_sub(1) {
+        Some(inner) => put_within(out, table, inner, form),
+        None => put(out, "[]"),
     }
 }
 
 #[cycle(example)]
-fn put_list<T: Tables, A: Allocator>(
-    table: T,
-    inner: u8,
-    place: usize,
+fn put_within<T: Tables, A: Allocator>(
     out: &mut Vec<u8, A>,
-) -> Result<(), AllocError>
-    ensures { OnOk result (out.new.items ≡ out.old.items ++ (codes "[" ++
-        (list_example (example (T.parts_of table) inner) (layer_of (T.parts_of table place)) (members_of (T.parts_of table place)) ++ codes "]"))) }
-{
-    put(out, "[")?;
-    put_layered(table, inner, table.part(place), out)?;
-    put(out, "]")
-}
-
-#[cycle(example)]
-fn put_element<T: Tables, A: Allocator>(
     table: T,
     inner: u8,
     form: Form,
-    out: &mut Vec<u8, A>,
-) -> Result<(), AllocError>
-    ensures { OnOk result (out.new.items ≡ out.old.items ++ (codes "[" ++ (example (T.parts_of table) inner form ++ codes "]"))) }
+) -> Done
+    ensures { OnOk result (out.new.items ≡ out.old.items ++ example_by (example (T.parts_of table) inner) (T.parts_of table) form) }
 {
-    put(out, "[")?;
-    put_form(table, inner, form, out)?;
-    put(out, "]")
+    match form {
+        Form::Named(_, place) => put_name(out, table.part(place)),
+        Form::Bytes(count) | Form::Pad(count) => put_zeros(out, count),
+        Form::Record(place) => put_members(out, table, inner, place),
+        Form::Choice(place) => put_first(out, table, inner, place),
+        Form::Array(place) | Form::Times(_, place) => {
+            put(out, "[")?;
+            put_form(out, table, inner, form_of(place, table.part(place)))?;
+            put(out, "]")
+        }
+        Form::List(place) => {
+            put(out, "[")?;
+            put_layered(out, table, inner, "", place)?;
+            put(out, "]")
+        }
+        _ => put(out, about(form).sample),
+    }
 }
 
-// A member of an object.
 #[cycle(example)]
 fn put_member<T: Tables, A: Allocator>(
+    out: &mut Vec<u8, A>,
     table: T,
     inner: u8,
     member: Member<'static>,
-    out: &mut Vec<u8, A>,
-) -> Result<(), AllocError>
+) -> Done
     ensures { OnOk result (out.new.items ≡ out.old.items ++ member_example (example (T.parts_of table) inner) (member_view member.entry)) }
 {
-    put_quoted(out, member.name)?;
-    put(out, ":")?;
-    put_form(table, inner, member.form, out)
+    put_between(out, "", member.name, ":")?;
+    put_form(out, table, inner, member.form)
 }
 
 // An object of the first member.
 #[cycle(example)]
 fn put_first<T: Tables, A: Allocator>(
+    out: &mut Vec<u8, A>,
     table: T,
     inner: u8,
-    part: Part<'static>,
-    out: &mut Vec<u8, A>,
-) -> Result<(), AllocError>
-    ensures { OnOk result (out.new.items ≡ out.old.items ++ first_example (example (T.parts_of table) inner) (members_of (part_view part.entry))) }
+    place: usize,
+) -> Done
+    ensures { OnOk result (out.new.items ≡ out.old.items ++ first_example (example (T.parts_of table) inner) (members_of (T.parts_of table place))) }
 {
-    match first_member(part) {
+    match first_member(table.part(place)) {
         Some((member, _)) => {
             put(out, "{")?;
-            put_member(table, inner, member, out)?;
+            put_member(out, table, inner, member)?;
             put(out, "}")
         }
         None => put(out, "{}"),
     }
 }
 
-// Puts what is before a member.
-fn put_separator<A: Allocator>(out: &mut Vec<u8, A>, is_first: bool) -> Result<(), AllocError>
-    ensures { OnOk result (out.new.items ≡ out.old.items ++ separator is_first) }
-{
-    if is_first {
-        return Ok(());
-    }
-    put(out, ",")
-}
-
-#[cycle(example)]
-fn put_next<T: Tables, A: Allocator>(
-    table: T,
-    inner: u8,
-    is_first: bool,
-    member: Member<'static>,
-    out: &mut Vec<u8, A>,
-) -> Result<(), AllocError>
-    ensures { OnOk result (out.new.items ≡ out.old.items ++
-        (separator is_first ++ member_example (example (T.parts_of table) inner) (member_view member.entry))) }
-{
-    put_separator(out, is_first)?;
-    put_member(table, inner, member, out)
-}
-
 // An object of all members. Padding is shown only where it isn't zero.
 #[cycle(example)]
-fn put_record<T: Tables, A: Allocator>(
+fn put_members<T: Tables, A: Allocator>(
+    out: &mut Vec<u8, A>,
     table: T,
     inner: u8,
     place: usize,
-    out: &mut Vec<u8, A>,
-) -> Result<(), AllocError>
+) -> Done
     ensures { OnOk result (out.new.items ≡ out.old.items ++
         (codes "{" ++ members_example (example (T.parts_of table) inner) true (members_of (T.parts_of table place)))) }
 {
     put(out, "{")?;
-    put_members(table, inner, table.part(place), out)
-}
-
-#[cycle(example)]
-fn put_members<T: Tables, A: Allocator>(
-    table: T,
-    inner: u8,
-    part: Part<'static>,
-    out: &mut Vec<u8, A>,
-) -> Result<(), AllocError>
-    ensures { OnOk result (out.new.items ≡ out.old.items ++
-        members_example (example (T.parts_of table) inner) true (members_of (part_view part.entry))) }
-{
-    let mut left = part;
+    let mut left = table.part(place);
     let mut is_first = true;
     while let Some((member, others)) = first_member(left) {
         if !is_pad(member.form) {
-            put_next(table, inner, is_first, member, out)?;
+            put_comma(out, is_first)?;
+            put_member(out, table, inner, member)?;
             is_first = false;
         }
         left = others;
@@ -245,64 +144,42 @@ fn put_members<T: Tables, A: Allocator>(
     put(out, "}")
 }
 
-// The first attribute of a list, in its layer.
+// The first attribute of a list, in its layer and behind a text; nothing for a list of none.
 #[cycle(example)]
 fn put_layered<T: Tables, A: Allocator>(
+    out: &mut Vec<u8, A>,
     table: T,
     inner: u8,
-    part: Part<'static>,
-    out: &mut Vec<u8, A>,
-) -> Result<(), AllocError>
+    before: &str,
+    place: usize,
+) -> Done
     ensures { OnOk result (out.new.items ≡ out.old.items ++
-        list_example (example (T.parts_of table) inner) (layer_of (part_view part.entry)) (members_of (part_view part.entry))) }
+        list_example (example (T.parts_of table) inner) before.now (layer_of (T.parts_of table place)) (members_of (T.parts_of table place))) }
 {
+    let part = table.part(place);
     if first_member(part).is_none() {
         return Ok(());
     }
+    put(out, before)?;
     let layer = layer_of(part);
     if layer.is_empty() {
-        return put_first(table, inner, part, out);
+        return put_first(out, table, inner, place);
     }
-    put(out, "{")?;
-    put_quoted(out, layer)?;
-    put(out, ":")?;
-    put_first(table, inner, part, out)?;
+    put_between(out, "{", layer, ":")?;
+    put_first(out, table, inner, place)?;
     put(out, "}")
-}
-
-// Puts a comma, where a part has members.
-fn put_comma<A: Allocator>(out: &mut Vec<u8, A>, part: Part<'static>) -> Result<(), AllocError>
-    ensures { OnOk result (out.new.items ≡ out.old.items ++ comma (members_of (part_view part.entry))) }
-{
-    match first_member(part) {
-        Some(_) => put(out, ","),
-        None => Ok(()),
-    }
-}
-
-// Puts the first attribute behind a kind, by the rows at a place.
-fn put_behind<T: Tables, A: Allocator>(
-    table: T,
-    rows: usize,
-    out: &mut Vec<u8, A>,
-) -> Result<(), AllocError>
-    ensures { OnOk result (out.new.items ≡ out.old.items ++ behind_kind (T.parts_of table) rows) }
-{
-    let part = table.part(rows);
-    put_comma(out, part)?;
-    put_layered(table, DEEPEST, part, out)?;
-    put(out, "]\n")
 }
 
 /// Puts an example of a kind and the first attribute behind it, by the rows at a place.
 pub(crate) fn put_example<T: Tables, A: Allocator>(
+    out: &mut Vec<u8, A>,
     table: T,
     kind: &str,
     rows: usize,
-    out: &mut Vec<u8, A>,
-) -> Result<(), AllocError>
+) -> Done
     ensures { OnOk result (out.new.items ≡ out.old.items ++ kind_example (T.parts_of table) kind.now rows) }
 {
-    put_quoted_between(out, "example: [{\"Kind\":", kind, "}")?;
-    put_behind(table, rows, out)
+    put_between(out, EXAMPLE, kind, "}")?;
+    put_layered(out, table, DEEPEST, ",", rows)?;
+    put(out, "]\n")
 }

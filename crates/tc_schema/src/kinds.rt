@@ -1,6 +1,6 @@
 //! What the files below `kinds/` say of the members of each part, in their order. Written by `kinds/columns`.
 
-use crate::notes::{Named, Note, Unit};
+use crate::notes::{Named, Note};
 
 /// The places of the lists with kinds: those of qdiscs and filters, and of actions.
 pub const LISTS: [usize; 2] = [3003, 0];
@@ -940,42 +940,42 @@ fn names_of_2(place: usize) -> &'static [Named<'static>] {
 const LIST_ACTION_OF_ALL: [Note<'static>; 8] = [
     Note {
         kernel: "TCA_ACT_INDEX",
-        unit: Unit::Plain,
+        unit: "",
         names: 0,
     },
     Note {
         kernel: "TCA_ACT_STATS",
-        unit: Unit::Plain,
+        unit: "",
         names: 0,
     },
     Note {
         kernel: "TCA_ACT_PAD",
-        unit: Unit::Plain,
+        unit: "",
         names: 0,
     },
     Note {
         kernel: "TCA_ACT_COOKIE",
-        unit: Unit::Plain,
+        unit: "",
         names: 0,
     },
     Note {
         kernel: "TCA_ACT_FLAGS",
-        unit: Unit::Plain,
+        unit: "",
         names: 0,
     },
     Note {
         kernel: "TCA_ACT_HW_STATS",
-        unit: Unit::Plain,
+        unit: "",
         names: 0,
     },
     Note {
         kernel: "TCA_ACT_USED_HW_STATS",
-        unit: Unit::Plain,
+        unit: "",
         names: 0,
     },
     Note {
         kernel: "TCA_ACT_IN_HW_COUNT",
-        unit: Unit::Plain,
+        unit: "",
         names: 0,
     },
 ];
@@ -983,7 +983,7 @@ const LIST_ACTION_OF_ALL: [Note<'static>; 8] = [
 // `list action`
 const LIST_ACTION_BY_KIND: [Note<'static>; 1] = [Note {
     kernel: "TCA_ACT_OPTIONS",
-    unit: Unit::Plain,
+    unit: "",
     names: 0,
 }];
 
@@ -1010,12 +1010,12 @@ const BITS_TCA_ACT_FLAGS: [Named<'static>; 3] = [
 const STRUCT_TCA_ACT_FLAGS: [Note<'static>; 2] = [
     Note {
         kernel: "",
-        unit: Unit::Plain,
+        unit: "",
         names: 1,
     },
     Note {
         kernel: "",
-        unit: Unit::Plain,
+        unit: "",
         names: 1,
     },
 ];
@@ -1038,12 +1038,12 @@ const BITS_TCA_ACT_HW_STATS: [Named<'static>; 2] = [
 const STRUCT_TCA_ACT_HW_STATS: [Note<'static>; 2] = [
     Note {
         kernel: "",
-        unit: Unit::Plain,
+        unit: "",
         names: 2,
     },
     Note {
         kernel: "",
-        unit: Unit::Plain,
+        unit: "",
         names: 2,
     },
 ];
@@ -1052,52 +1052,52 @@ const STRUCT_TCA_ACT_HW_STATS: [Note<'static>; 2] = [
 const ENUM_TC_ACT: [Note<'static>; 10] = [
     Note {
         kernel: "TC_ACT_UNSPEC",
-        unit: Unit::Plain,
+        unit: "",
         names: 0,
     },
     Note {
         kernel: "TC_ACT_OK",
-        unit: Unit::Plain,
+        unit: "",
         names: 0,
     },
     Note {
         kernel: "TC_ACT_RECLASSIFY",
-        unit: Unit::Plain,
+        unit: "",
         names: 0,
     },
     Note {
         kernel: "TC_ACT_SHOT",
-        unit: Unit::Plain,
+        unit: "",
         names: 0,
     },
     Note {
         kernel: "TC_ACT_PIPE",
-        unit: Unit::Plain,
+        unit: "",
         names: 0,
     },
     Note {
         kernel: "TC_ACT_STOLEN",
-        unit: Unit::Plain,
+        unit: "",
         names: 0,
     },
     Note {
         kernel: "TC_ACT_QUEUED",
-        unit: Unit::Plain,
+        unit: "",
         names: 0,
     },
     Note {
         kernel: "TC_ACT_REPEAT",
-        unit: Unit::Plain,
+        unit: "",
         names: 0,
     },
     Note {
         kernel: "TC_ACT_REDIRECT",
-        unit: Unit::Plain,
+        unit: "",
         names: 0,
     },
     Note {
         kernel: "TC_ACT_TRAP",
-        unit: Unit::Plain,
+        unit: "",
         names: 0,
     },
 ];
@@ -1106,22 +1106,22 @@ const ENUM_TC_ACT: [Note<'static>; 10] = [
 const STRUCT_TCF_T: [Note<'static>; 4] = [
     Note {
         kernel: "",
-        unit: Unit::ClockTicks,
+        unit: "hundredths of a second",
         names: 0,
     },
     Note {
         kernel: "",
-        unit: Unit::ClockTicks,
+        unit: "hundredths of a second",
         names: 0,
     },
     Note {
         kernel: "",
-        unit: Unit::ClockTicks,
+        unit: "hundredths of a second",
         names: 0,
     },
     Note {
         kernel: "",
-        unit: Unit::ClockTicks,
+        unit: "hundredths of a second",
         names: 0,
     },
 ];
@@ -1130,47 +1130,47 @@ const STRUCT_TCF_T: [Note<'static>; 4] = [
 const LIST_ACT_BPF: [Note<'static>; 9] = [
     Note {
         kernel: "TCA_ACT_BPF_TM",
-        unit: Unit::Plain,
+        unit: "",
         names: 0,
     },
     Note {
         kernel: "TCA_ACT_BPF_PARMS",
-        unit: Unit::Plain,
+        unit: "",
         names: 0,
     },
     Note {
         kernel: "TCA_ACT_BPF_OPS_LEN",
-        unit: Unit::Plain,
+        unit: "",
         names: 0,
     },
     Note {
         kernel: "TCA_ACT_BPF_OPS",
-        unit: Unit::Plain,
+        unit: "",
         names: 0,
     },
     Note {
         kernel: "TCA_ACT_BPF_FD",
-        unit: Unit::Plain,
+        unit: "",
         names: 0,
     },
     Note {
         kernel: "TCA_ACT_BPF_NAME",
-        unit: Unit::Plain,
+        unit: "",
         names: 0,
     },
     Note {
         kernel: "TCA_ACT_BPF_PAD",
-        unit: Unit::Plain,
+        unit: "",
         names: 0,
     },
     Note {
         kernel: "TCA_ACT_BPF_TAG",
-        unit: Unit::Plain,
+        unit: "",
         names: 0,
     },
     Note {
         kernel: "TCA_ACT_BPF_ID",
-        unit: Unit::Plain,
+        unit: "",
         names: 0,
     },
 ];
@@ -1179,17 +1179,17 @@ const LIST_ACT_BPF: [Note<'static>; 9] = [
 const LIST_CONNMARK: [Note<'static>; 3] = [
     Note {
         kernel: "TCA_CONNMARK_PARMS",
-        unit: Unit::Plain,
+        unit: "",
         names: 0,
     },
     Note {
         kernel: "TCA_CONNMARK_TM",
-        unit: Unit::Plain,
+        unit: "",
         names: 0,
     },
     Note {
         kernel: "TCA_CONNMARK_PAD",
-        unit: Unit::Plain,
+        unit: "",
         names: 0,
     },
 ];
@@ -1198,17 +1198,17 @@ const LIST_CONNMARK: [Note<'static>; 3] = [
 const LIST_CSUM: [Note<'static>; 3] = [
     Note {
         kernel: "TCA_CSUM_PARMS",
-        unit: Unit::Plain,
+        unit: "",
         names: 0,
     },
     Note {
         kernel: "TCA_CSUM_TM",
-        unit: Unit::Plain,
+        unit: "",
         names: 0,
     },
     Note {
         kernel: "TCA_CSUM_PAD",
-        unit: Unit::Plain,
+        unit: "",
         names: 0,
     },
 ];
@@ -1256,12 +1256,12 @@ const BITS_TCA_CSUM_UPDATE_FLAG: [Named<'static>; 7] = [
 const STRUCT_TC_CSUM: [Note<'static>; 2] = [
     Note {
         kernel: "",
-        unit: Unit::Plain,
+        unit: "",
         names: 0,
     },
     Note {
         kernel: "",
-        unit: Unit::Plain,
+        unit: "",
         names: 3,
     },
 ];
@@ -1388,92 +1388,92 @@ const NAMES_IP_PROTO: [Named<'static>; 16] = [
 const LIST_CT: [Note<'static>; 18] = [
     Note {
         kernel: "TCA_CT_PARMS",
-        unit: Unit::Plain,
+        unit: "",
         names: 0,
     },
     Note {
         kernel: "TCA_CT_TM",
-        unit: Unit::Plain,
+        unit: "",
         names: 0,
     },
     Note {
         kernel: "TCA_CT_ACTION",
-        unit: Unit::Plain,
+        unit: "",
         names: 4,
     },
     Note {
         kernel: "TCA_CT_ZONE",
-        unit: Unit::Plain,
+        unit: "",
         names: 0,
     },
     Note {
         kernel: "TCA_CT_MARK",
-        unit: Unit::Plain,
+        unit: "",
         names: 0,
     },
     Note {
         kernel: "TCA_CT_MARK_MASK",
-        unit: Unit::Plain,
+        unit: "",
         names: 0,
     },
     Note {
         kernel: "TCA_CT_LABELS",
-        unit: Unit::Plain,
+        unit: "",
         names: 0,
     },
     Note {
         kernel: "TCA_CT_LABELS_MASK",
-        unit: Unit::Plain,
+        unit: "",
         names: 0,
     },
     Note {
         kernel: "TCA_CT_NAT_IPV4_MIN",
-        unit: Unit::Plain,
+        unit: "",
         names: 0,
     },
     Note {
         kernel: "TCA_CT_NAT_IPV4_MAX",
-        unit: Unit::Plain,
+        unit: "",
         names: 0,
     },
     Note {
         kernel: "TCA_CT_NAT_IPV6_MIN",
-        unit: Unit::Plain,
+        unit: "",
         names: 0,
     },
     Note {
         kernel: "TCA_CT_NAT_IPV6_MAX",
-        unit: Unit::Plain,
+        unit: "",
         names: 0,
     },
     Note {
         kernel: "TCA_CT_NAT_PORT_MIN",
-        unit: Unit::Plain,
+        unit: "",
         names: 0,
     },
     Note {
         kernel: "TCA_CT_NAT_PORT_MAX",
-        unit: Unit::Plain,
+        unit: "",
         names: 0,
     },
     Note {
         kernel: "TCA_CT_PAD",
-        unit: Unit::Plain,
+        unit: "",
         names: 0,
     },
     Note {
         kernel: "TCA_CT_HELPER_NAME",
-        unit: Unit::Plain,
+        unit: "",
         names: 0,
     },
     Note {
         kernel: "TCA_CT_HELPER_FAMILY",
-        unit: Unit::Plain,
+        unit: "",
         names: 0,
     },
     Note {
         kernel: "TCA_CT_HELPER_PROTO",
-        unit: Unit::Plain,
+        unit: "",
         names: 5,
     },
 ];
@@ -1482,52 +1482,52 @@ const LIST_CT: [Note<'static>; 18] = [
 const LIST_CTINFO: [Note<'static>; 10] = [
     Note {
         kernel: "TCA_CTINFO_PAD",
-        unit: Unit::Plain,
+        unit: "",
         names: 0,
     },
     Note {
         kernel: "TCA_CTINFO_TM",
-        unit: Unit::Plain,
+        unit: "",
         names: 0,
     },
     Note {
         kernel: "TCA_CTINFO_ACT",
-        unit: Unit::Plain,
+        unit: "",
         names: 0,
     },
     Note {
         kernel: "TCA_CTINFO_ZONE",
-        unit: Unit::Plain,
+        unit: "",
         names: 0,
     },
     Note {
         kernel: "TCA_CTINFO_PARMS_DSCP_MASK",
-        unit: Unit::Plain,
+        unit: "",
         names: 0,
     },
     Note {
         kernel: "TCA_CTINFO_PARMS_DSCP_STATEMASK",
-        unit: Unit::Plain,
+        unit: "",
         names: 0,
     },
     Note {
         kernel: "TCA_CTINFO_PARMS_CPMARK_MASK",
-        unit: Unit::Plain,
+        unit: "",
         names: 0,
     },
     Note {
         kernel: "TCA_CTINFO_STATS_DSCP_SET",
-        unit: Unit::Plain,
+        unit: "",
         names: 0,
     },
     Note {
         kernel: "TCA_CTINFO_STATS_DSCP_ERROR",
-        unit: Unit::Plain,
+        unit: "",
         names: 0,
     },
     Note {
         kernel: "TCA_CTINFO_STATS_CPMARK_SET",
-        unit: Unit::Plain,
+        unit: "",
         names: 0,
     },
 ];
@@ -1536,22 +1536,22 @@ const LIST_CTINFO: [Note<'static>; 10] = [
 const LIST_GACT: [Note<'static>; 4] = [
     Note {
         kernel: "TCA_GACT_TM",
-        unit: Unit::Plain,
+        unit: "",
         names: 0,
     },
     Note {
         kernel: "TCA_GACT_PARMS",
-        unit: Unit::Plain,
+        unit: "",
         names: 0,
     },
     Note {
         kernel: "TCA_GACT_PROB",
-        unit: Unit::Plain,
+        unit: "",
         names: 0,
     },
     Note {
         kernel: "TCA_GACT_PAD",
-        unit: Unit::Plain,
+        unit: "",
         names: 0,
     },
 ];
@@ -1560,17 +1560,17 @@ const LIST_GACT: [Note<'static>; 4] = [
 const ENUM_PGACT: [Note<'static>; 3] = [
     Note {
         kernel: "PGACT_NONE",
-        unit: Unit::Plain,
+        unit: "",
         names: 0,
     },
     Note {
         kernel: "PGACT_NETRAND",
-        unit: Unit::Plain,
+        unit: "",
         names: 0,
     },
     Note {
         kernel: "PGACT_DETERM",
-        unit: Unit::Plain,
+        unit: "",
         names: 0,
     },
 ];
@@ -1603,52 +1603,52 @@ const NAMES_CLOCKID: [Named<'static>; 4] = [
 const LIST_GATE: [Note<'static>; 10] = [
     Note {
         kernel: "TCA_GATE_TM",
-        unit: Unit::Plain,
+        unit: "",
         names: 0,
     },
     Note {
         kernel: "TCA_GATE_PARMS",
-        unit: Unit::Plain,
+        unit: "",
         names: 0,
     },
     Note {
         kernel: "TCA_GATE_PAD",
-        unit: Unit::Plain,
+        unit: "",
         names: 0,
     },
     Note {
         kernel: "TCA_GATE_PRIORITY",
-        unit: Unit::Plain,
+        unit: "",
         names: 0,
     },
     Note {
         kernel: "TCA_GATE_ENTRY_LIST",
-        unit: Unit::Plain,
+        unit: "",
         names: 0,
     },
     Note {
         kernel: "TCA_GATE_BASE_TIME",
-        unit: Unit::Nanoseconds,
+        unit: "nanoseconds",
         names: 0,
     },
     Note {
         kernel: "TCA_GATE_CYCLE_TIME",
-        unit: Unit::Nanoseconds,
+        unit: "nanoseconds",
         names: 0,
     },
     Note {
         kernel: "TCA_GATE_CYCLE_TIME_EXT",
-        unit: Unit::Nanoseconds,
+        unit: "nanoseconds",
         names: 0,
     },
     Note {
         kernel: "TCA_GATE_FLAGS",
-        unit: Unit::Plain,
+        unit: "",
         names: 0,
     },
     Note {
         kernel: "TCA_GATE_CLOCKID",
-        unit: Unit::Plain,
+        unit: "",
         names: 6,
     },
 ];
@@ -1656,7 +1656,7 @@ const LIST_GATE: [Note<'static>; 10] = [
 // `list gate_list`
 const LIST_GATE_LIST: [Note<'static>; 1] = [Note {
     kernel: "TCA_GATE_ONE_ENTRY",
-    unit: Unit::Plain,
+    unit: "",
     names: 0,
 }];
 
@@ -1664,27 +1664,27 @@ const LIST_GATE_LIST: [Note<'static>; 1] = [Note {
 const LIST_GATE_ENTRY: [Note<'static>; 5] = [
     Note {
         kernel: "TCA_GATE_ENTRY_INDEX",
-        unit: Unit::Plain,
+        unit: "",
         names: 0,
     },
     Note {
         kernel: "TCA_GATE_ENTRY_GATE",
-        unit: Unit::Plain,
+        unit: "",
         names: 0,
     },
     Note {
         kernel: "TCA_GATE_ENTRY_INTERVAL",
-        unit: Unit::Nanoseconds,
+        unit: "nanoseconds",
         names: 0,
     },
     Note {
         kernel: "TCA_GATE_ENTRY_IPV",
-        unit: Unit::Plain,
+        unit: "",
         names: 0,
     },
     Note {
         kernel: "TCA_GATE_ENTRY_MAX_OCTETS",
-        unit: Unit::Bytes,
+        unit: "bytes",
         names: 0,
     },
 ];
@@ -1802,37 +1802,37 @@ const NAMES_ETH_P: [Named<'static>; 21] = [
 const LIST_IFE: [Note<'static>; 7] = [
     Note {
         kernel: "TCA_IFE_PARMS",
-        unit: Unit::Plain,
+        unit: "",
         names: 0,
     },
     Note {
         kernel: "TCA_IFE_TM",
-        unit: Unit::Plain,
+        unit: "",
         names: 0,
     },
     Note {
         kernel: "TCA_IFE_DMAC",
-        unit: Unit::Plain,
+        unit: "",
         names: 0,
     },
     Note {
         kernel: "TCA_IFE_SMAC",
-        unit: Unit::Plain,
+        unit: "",
         names: 0,
     },
     Note {
         kernel: "TCA_IFE_TYPE",
-        unit: Unit::Plain,
+        unit: "",
         names: 7,
     },
     Note {
         kernel: "TCA_IFE_METALST",
-        unit: Unit::Plain,
+        unit: "",
         names: 0,
     },
     Note {
         kernel: "TCA_IFE_PAD",
-        unit: Unit::Plain,
+        unit: "",
         names: 0,
     },
 ];
@@ -1848,17 +1848,17 @@ const BITS_IFE: [Named<'static>; 1] = [Named {
 const STRUCT_TC_IFE: [Note<'static>; 3] = [
     Note {
         kernel: "",
-        unit: Unit::Plain,
+        unit: "",
         names: 0,
     },
     Note {
         kernel: "",
-        unit: Unit::Plain,
+        unit: "",
         names: 8,
     },
     Note {
         kernel: "",
-        unit: Unit::Plain,
+        unit: "",
         names: 0,
     },
 ];
@@ -1867,27 +1867,27 @@ const STRUCT_TC_IFE: [Note<'static>; 3] = [
 const LIST_IFE_META: [Note<'static>; 5] = [
     Note {
         kernel: "IFE_META_SKBMARK",
-        unit: Unit::Plain,
+        unit: "",
         names: 0,
     },
     Note {
         kernel: "IFE_META_HASHID",
-        unit: Unit::Plain,
+        unit: "",
         names: 0,
     },
     Note {
         kernel: "IFE_META_PRIO",
-        unit: Unit::Plain,
+        unit: "",
         names: 0,
     },
     Note {
         kernel: "IFE_META_QMAP",
-        unit: Unit::Plain,
+        unit: "",
         names: 0,
     },
     Note {
         kernel: "IFE_META_TCINDEX",
-        unit: Unit::Plain,
+        unit: "",
         names: 0,
     },
 ];
@@ -1896,37 +1896,37 @@ const LIST_IFE_META: [Note<'static>; 5] = [
 const LIST_IPT: [Note<'static>; 7] = [
     Note {
         kernel: "TCA_IPT_TABLE",
-        unit: Unit::Plain,
+        unit: "",
         names: 0,
     },
     Note {
         kernel: "TCA_IPT_HOOK",
-        unit: Unit::Plain,
+        unit: "",
         names: 0,
     },
     Note {
         kernel: "TCA_IPT_INDEX",
-        unit: Unit::Plain,
+        unit: "",
         names: 0,
     },
     Note {
         kernel: "TCA_IPT_CNT",
-        unit: Unit::Plain,
+        unit: "",
         names: 0,
     },
     Note {
         kernel: "TCA_IPT_TM",
-        unit: Unit::Plain,
+        unit: "",
         names: 0,
     },
     Note {
         kernel: "TCA_IPT_TARG",
-        unit: Unit::Plain,
+        unit: "",
         names: 0,
     },
     Note {
         kernel: "TCA_IPT_PAD",
-        unit: Unit::Plain,
+        unit: "",
         names: 0,
     },
 ];
@@ -1935,22 +1935,22 @@ const LIST_IPT: [Note<'static>; 7] = [
 const LIST_MIRRED: [Note<'static>; 4] = [
     Note {
         kernel: "TCA_MIRRED_TM",
-        unit: Unit::Plain,
+        unit: "",
         names: 0,
     },
     Note {
         kernel: "TCA_MIRRED_PARMS",
-        unit: Unit::Plain,
+        unit: "",
         names: 0,
     },
     Note {
         kernel: "TCA_MIRRED_PAD",
-        unit: Unit::Plain,
+        unit: "",
         names: 0,
     },
     Note {
         kernel: "TCA_MIRRED_BLOCKID",
-        unit: Unit::Plain,
+        unit: "",
         names: 0,
     },
 ];
@@ -1959,17 +1959,17 @@ const LIST_MIRRED: [Note<'static>; 4] = [
 const STRUCT_TC_MIRRED: [Note<'static>; 3] = [
     Note {
         kernel: "",
-        unit: Unit::Plain,
+        unit: "",
         names: 0,
     },
     Note {
         kernel: "",
-        unit: Unit::Plain,
+        unit: "",
         names: 0,
     },
     Note {
         kernel: "",
-        unit: Unit::Interface,
+        unit: "interface",
         names: 0,
     },
 ];
@@ -1978,22 +1978,22 @@ const STRUCT_TC_MIRRED: [Note<'static>; 3] = [
 const ENUM_TCA_MIRRED: [Note<'static>; 4] = [
     Note {
         kernel: "TCA_EGRESS_REDIR",
-        unit: Unit::Plain,
+        unit: "",
         names: 0,
     },
     Note {
         kernel: "TCA_EGRESS_MIRROR",
-        unit: Unit::Plain,
+        unit: "",
         names: 0,
     },
     Note {
         kernel: "TCA_INGRESS_REDIR",
-        unit: Unit::Plain,
+        unit: "",
         names: 0,
     },
     Note {
         kernel: "TCA_INGRESS_MIRROR",
-        unit: Unit::Plain,
+        unit: "",
         names: 0,
     },
 ];
@@ -2002,42 +2002,42 @@ const ENUM_TCA_MIRRED: [Note<'static>; 4] = [
 const LIST_MPLS: [Note<'static>; 8] = [
     Note {
         kernel: "TCA_MPLS_TM",
-        unit: Unit::Plain,
+        unit: "",
         names: 0,
     },
     Note {
         kernel: "TCA_MPLS_PARMS",
-        unit: Unit::Plain,
+        unit: "",
         names: 0,
     },
     Note {
         kernel: "TCA_MPLS_PAD",
-        unit: Unit::Plain,
+        unit: "",
         names: 0,
     },
     Note {
         kernel: "TCA_MPLS_PROTO",
-        unit: Unit::Plain,
+        unit: "",
         names: 7,
     },
     Note {
         kernel: "TCA_MPLS_LABEL",
-        unit: Unit::Plain,
+        unit: "",
         names: 0,
     },
     Note {
         kernel: "TCA_MPLS_TC",
-        unit: Unit::Plain,
+        unit: "",
         names: 0,
     },
     Note {
         kernel: "TCA_MPLS_TTL",
-        unit: Unit::Plain,
+        unit: "",
         names: 0,
     },
     Note {
         kernel: "TCA_MPLS_BOS",
-        unit: Unit::Plain,
+        unit: "",
         names: 0,
     },
 ];
@@ -2046,27 +2046,27 @@ const LIST_MPLS: [Note<'static>; 8] = [
 const ENUM_TCA_MPLS_ACT: [Note<'static>; 5] = [
     Note {
         kernel: "TCA_MPLS_ACT_POP",
-        unit: Unit::Plain,
+        unit: "",
         names: 0,
     },
     Note {
         kernel: "TCA_MPLS_ACT_PUSH",
-        unit: Unit::Plain,
+        unit: "",
         names: 0,
     },
     Note {
         kernel: "TCA_MPLS_ACT_MODIFY",
-        unit: Unit::Plain,
+        unit: "",
         names: 0,
     },
     Note {
         kernel: "TCA_MPLS_ACT_DEC_TTL",
-        unit: Unit::Plain,
+        unit: "",
         names: 0,
     },
     Note {
         kernel: "TCA_MPLS_ACT_MAC_PUSH",
-        unit: Unit::Plain,
+        unit: "",
         names: 0,
     },
 ];
@@ -2075,17 +2075,17 @@ const ENUM_TCA_MPLS_ACT: [Note<'static>; 5] = [
 const LIST_NAT: [Note<'static>; 3] = [
     Note {
         kernel: "TCA_NAT_PARMS",
-        unit: Unit::Plain,
+        unit: "",
         names: 0,
     },
     Note {
         kernel: "TCA_NAT_TM",
-        unit: Unit::Plain,
+        unit: "",
         names: 0,
     },
     Note {
         kernel: "TCA_NAT_PAD",
-        unit: Unit::Plain,
+        unit: "",
         names: 0,
     },
 ];
@@ -2108,27 +2108,27 @@ const BITS_TCA_NAT_FLAG: [Named<'static>; 2] = [
 const STRUCT_TC_NAT: [Note<'static>; 5] = [
     Note {
         kernel: "",
-        unit: Unit::Plain,
+        unit: "",
         names: 0,
     },
     Note {
         kernel: "",
-        unit: Unit::Plain,
+        unit: "",
         names: 0,
     },
     Note {
         kernel: "",
-        unit: Unit::Plain,
+        unit: "",
         names: 0,
     },
     Note {
         kernel: "",
-        unit: Unit::Plain,
+        unit: "",
         names: 0,
     },
     Note {
         kernel: "",
-        unit: Unit::Plain,
+        unit: "",
         names: 9,
     },
 ];
@@ -2137,27 +2137,27 @@ const STRUCT_TC_NAT: [Note<'static>; 5] = [
 const LIST_PEDIT: [Note<'static>; 5] = [
     Note {
         kernel: "TCA_PEDIT_TM",
-        unit: Unit::Plain,
+        unit: "",
         names: 0,
     },
     Note {
         kernel: "TCA_PEDIT_PARMS",
-        unit: Unit::Plain,
+        unit: "",
         names: 0,
     },
     Note {
         kernel: "TCA_PEDIT_PAD",
-        unit: Unit::Plain,
+        unit: "",
         names: 0,
     },
     Note {
         kernel: "TCA_PEDIT_PARMS_EX",
-        unit: Unit::Plain,
+        unit: "",
         names: 0,
     },
     Note {
         kernel: "TCA_PEDIT_KEYS_EX",
-        unit: Unit::Plain,
+        unit: "",
         names: 0,
     },
 ];
@@ -2165,7 +2165,7 @@ const LIST_PEDIT: [Note<'static>; 5] = [
 // `list pedit_keys_ex`
 const LIST_PEDIT_KEYS_EX: [Note<'static>; 1] = [Note {
     kernel: "TCA_PEDIT_KEY_EX",
-    unit: Unit::Plain,
+    unit: "",
     names: 0,
 }];
 
@@ -2173,12 +2173,12 @@ const LIST_PEDIT_KEYS_EX: [Note<'static>; 1] = [Note {
 const LIST_PEDIT_KEY_EX: [Note<'static>; 2] = [
     Note {
         kernel: "TCA_PEDIT_KEY_EX_HTYPE",
-        unit: Unit::Plain,
+        unit: "",
         names: 0,
     },
     Note {
         kernel: "TCA_PEDIT_KEY_EX_CMD",
-        unit: Unit::Plain,
+        unit: "",
         names: 0,
     },
 ];
@@ -2187,32 +2187,32 @@ const LIST_PEDIT_KEY_EX: [Note<'static>; 2] = [
 const ENUM_PEDIT_HEADER_TYPE: [Note<'static>; 6] = [
     Note {
         kernel: "TCA_PEDIT_KEY_EX_HDR_TYPE_NETWORK",
-        unit: Unit::Plain,
+        unit: "",
         names: 0,
     },
     Note {
         kernel: "TCA_PEDIT_KEY_EX_HDR_TYPE_ETH",
-        unit: Unit::Plain,
+        unit: "",
         names: 0,
     },
     Note {
         kernel: "TCA_PEDIT_KEY_EX_HDR_TYPE_IP4",
-        unit: Unit::Plain,
+        unit: "",
         names: 0,
     },
     Note {
         kernel: "TCA_PEDIT_KEY_EX_HDR_TYPE_IP6",
-        unit: Unit::Plain,
+        unit: "",
         names: 0,
     },
     Note {
         kernel: "TCA_PEDIT_KEY_EX_HDR_TYPE_TCP",
-        unit: Unit::Plain,
+        unit: "",
         names: 0,
     },
     Note {
         kernel: "TCA_PEDIT_KEY_EX_HDR_TYPE_UDP",
-        unit: Unit::Plain,
+        unit: "",
         names: 0,
     },
 ];
@@ -2221,12 +2221,12 @@ const ENUM_PEDIT_HEADER_TYPE: [Note<'static>; 6] = [
 const ENUM_PEDIT_CMD: [Note<'static>; 2] = [
     Note {
         kernel: "TCA_PEDIT_KEY_EX_CMD_SET",
-        unit: Unit::Plain,
+        unit: "",
         names: 0,
     },
     Note {
         kernel: "TCA_PEDIT_KEY_EX_CMD_ADD",
-        unit: Unit::Plain,
+        unit: "",
         names: 0,
     },
 ];
@@ -2235,57 +2235,57 @@ const ENUM_PEDIT_CMD: [Note<'static>; 2] = [
 const LIST_POLICE: [Note<'static>; 11] = [
     Note {
         kernel: "TCA_POLICE_TBF",
-        unit: Unit::Plain,
+        unit: "",
         names: 0,
     },
     Note {
         kernel: "TCA_POLICE_RATE",
-        unit: Unit::Plain,
+        unit: "",
         names: 0,
     },
     Note {
         kernel: "TCA_POLICE_PEAKRATE",
-        unit: Unit::Plain,
+        unit: "",
         names: 0,
     },
     Note {
         kernel: "TCA_POLICE_AVRATE",
-        unit: Unit::BytesPerSecond,
+        unit: "bytes a second",
         names: 0,
     },
     Note {
         kernel: "TCA_POLICE_RESULT",
-        unit: Unit::Plain,
+        unit: "",
         names: 0,
     },
     Note {
         kernel: "TCA_POLICE_TM",
-        unit: Unit::Plain,
+        unit: "",
         names: 0,
     },
     Note {
         kernel: "TCA_POLICE_PAD",
-        unit: Unit::Plain,
+        unit: "",
         names: 0,
     },
     Note {
         kernel: "TCA_POLICE_RATE64",
-        unit: Unit::BytesPerSecond,
+        unit: "bytes a second",
         names: 0,
     },
     Note {
         kernel: "TCA_POLICE_PEAKRATE64",
-        unit: Unit::BytesPerSecond,
+        unit: "bytes a second",
         names: 0,
     },
     Note {
         kernel: "TCA_POLICE_PKTRATE64",
-        unit: Unit::PacketsPerSecond,
+        unit: "packets a second",
         names: 0,
     },
     Note {
         kernel: "TCA_POLICE_PKTBURST64",
-        unit: Unit::Ticks,
+        unit: "ticks of 64 ns",
         names: 0,
     },
 ];
@@ -2294,52 +2294,52 @@ const LIST_POLICE: [Note<'static>; 11] = [
 const STRUCT_TC_POLICE: [Note<'static>; 10] = [
     Note {
         kernel: "",
-        unit: Unit::Plain,
+        unit: "",
         names: 0,
     },
     Note {
         kernel: "",
-        unit: Unit::Plain,
+        unit: "",
         names: 0,
     },
     Note {
         kernel: "",
-        unit: Unit::Plain,
+        unit: "",
         names: 0,
     },
     Note {
         kernel: "",
-        unit: Unit::Ticks,
+        unit: "ticks of 64 ns",
         names: 0,
     },
     Note {
         kernel: "",
-        unit: Unit::Bytes,
+        unit: "bytes",
         names: 0,
     },
     Note {
         kernel: "",
-        unit: Unit::Plain,
+        unit: "",
         names: 0,
     },
     Note {
         kernel: "",
-        unit: Unit::Plain,
+        unit: "",
         names: 0,
     },
     Note {
         kernel: "",
-        unit: Unit::Plain,
+        unit: "",
         names: 0,
     },
     Note {
         kernel: "",
-        unit: Unit::Plain,
+        unit: "",
         names: 0,
     },
     Note {
         kernel: "",
-        unit: Unit::Plain,
+        unit: "",
         names: 0,
     },
 ];
@@ -2348,32 +2348,32 @@ const STRUCT_TC_POLICE: [Note<'static>; 10] = [
 const LIST_SAMPLE: [Note<'static>; 6] = [
     Note {
         kernel: "TCA_SAMPLE_TM",
-        unit: Unit::Plain,
+        unit: "",
         names: 0,
     },
     Note {
         kernel: "TCA_SAMPLE_PARMS",
-        unit: Unit::Plain,
+        unit: "",
         names: 0,
     },
     Note {
         kernel: "TCA_SAMPLE_RATE",
-        unit: Unit::Plain,
+        unit: "",
         names: 0,
     },
     Note {
         kernel: "TCA_SAMPLE_TRUNC_SIZE",
-        unit: Unit::Bytes,
+        unit: "bytes",
         names: 0,
     },
     Note {
         kernel: "TCA_SAMPLE_PSAMPLE_GROUP",
-        unit: Unit::Plain,
+        unit: "",
         names: 0,
     },
     Note {
         kernel: "TCA_SAMPLE_PAD",
-        unit: Unit::Plain,
+        unit: "",
         names: 0,
     },
 ];
@@ -2382,22 +2382,22 @@ const LIST_SAMPLE: [Note<'static>; 6] = [
 const LIST_SIMPLE: [Note<'static>; 4] = [
     Note {
         kernel: "TCA_DEF_TM",
-        unit: Unit::Plain,
+        unit: "",
         names: 0,
     },
     Note {
         kernel: "TCA_DEF_PARMS",
-        unit: Unit::Plain,
+        unit: "",
         names: 0,
     },
     Note {
         kernel: "TCA_DEF_DATA",
-        unit: Unit::Plain,
+        unit: "",
         names: 0,
     },
     Note {
         kernel: "TCA_DEF_PAD",
-        unit: Unit::Plain,
+        unit: "",
         names: 0,
     },
 ];
@@ -2469,52 +2469,52 @@ const BITS_SKBEDIT_F: [Named<'static>; 7] = [
 const LIST_SKBEDIT: [Note<'static>; 10] = [
     Note {
         kernel: "TCA_SKBEDIT_TM",
-        unit: Unit::Plain,
+        unit: "",
         names: 0,
     },
     Note {
         kernel: "TCA_SKBEDIT_PARMS",
-        unit: Unit::Plain,
+        unit: "",
         names: 0,
     },
     Note {
         kernel: "TCA_SKBEDIT_PRIORITY",
-        unit: Unit::Plain,
+        unit: "",
         names: 0,
     },
     Note {
         kernel: "TCA_SKBEDIT_QUEUE_MAPPING",
-        unit: Unit::Plain,
+        unit: "",
         names: 0,
     },
     Note {
         kernel: "TCA_SKBEDIT_MARK",
-        unit: Unit::Plain,
+        unit: "",
         names: 0,
     },
     Note {
         kernel: "TCA_SKBEDIT_PAD",
-        unit: Unit::Plain,
+        unit: "",
         names: 0,
     },
     Note {
         kernel: "TCA_SKBEDIT_PTYPE",
-        unit: Unit::Plain,
+        unit: "",
         names: 10,
     },
     Note {
         kernel: "TCA_SKBEDIT_MASK",
-        unit: Unit::Plain,
+        unit: "",
         names: 0,
     },
     Note {
         kernel: "TCA_SKBEDIT_FLAGS",
-        unit: Unit::Plain,
+        unit: "",
         names: 11,
     },
     Note {
         kernel: "TCA_SKBEDIT_QUEUE_MAPPING_MAX",
-        unit: Unit::Plain,
+        unit: "",
         names: 0,
     },
 ];
@@ -2523,32 +2523,32 @@ const LIST_SKBEDIT: [Note<'static>; 10] = [
 const LIST_SKBMOD: [Note<'static>; 6] = [
     Note {
         kernel: "TCA_SKBMOD_TM",
-        unit: Unit::Plain,
+        unit: "",
         names: 0,
     },
     Note {
         kernel: "TCA_SKBMOD_PARMS",
-        unit: Unit::Plain,
+        unit: "",
         names: 0,
     },
     Note {
         kernel: "TCA_SKBMOD_DMAC",
-        unit: Unit::Plain,
+        unit: "",
         names: 0,
     },
     Note {
         kernel: "TCA_SKBMOD_SMAC",
-        unit: Unit::Plain,
+        unit: "",
         names: 0,
     },
     Note {
         kernel: "TCA_SKBMOD_ETYPE",
-        unit: Unit::Plain,
+        unit: "",
         names: 7,
     },
     Note {
         kernel: "TCA_SKBMOD_PAD",
-        unit: Unit::Plain,
+        unit: "",
         names: 0,
     },
 ];
@@ -2586,17 +2586,17 @@ const BITS_SKBMOD_F: [Named<'static>; 5] = [
 const STRUCT_TC_SKBMOD: [Note<'static>; 3] = [
     Note {
         kernel: "",
-        unit: Unit::Plain,
+        unit: "",
         names: 0,
     },
     Note {
         kernel: "",
-        unit: Unit::Plain,
+        unit: "",
         names: 0,
     },
     Note {
         kernel: "",
-        unit: Unit::Plain,
+        unit: "",
         names: 12,
     },
 ];
@@ -2605,72 +2605,72 @@ const STRUCT_TC_SKBMOD: [Note<'static>; 3] = [
 const LIST_TUNNEL_KEY: [Note<'static>; 14] = [
     Note {
         kernel: "TCA_TUNNEL_KEY_TM",
-        unit: Unit::Plain,
+        unit: "",
         names: 0,
     },
     Note {
         kernel: "TCA_TUNNEL_KEY_PARMS",
-        unit: Unit::Plain,
+        unit: "",
         names: 0,
     },
     Note {
         kernel: "TCA_TUNNEL_KEY_ENC_IPV4_SRC",
-        unit: Unit::Plain,
+        unit: "",
         names: 0,
     },
     Note {
         kernel: "TCA_TUNNEL_KEY_ENC_IPV4_DST",
-        unit: Unit::Plain,
+        unit: "",
         names: 0,
     },
     Note {
         kernel: "TCA_TUNNEL_KEY_ENC_IPV6_SRC",
-        unit: Unit::Plain,
+        unit: "",
         names: 0,
     },
     Note {
         kernel: "TCA_TUNNEL_KEY_ENC_IPV6_DST",
-        unit: Unit::Plain,
+        unit: "",
         names: 0,
     },
     Note {
         kernel: "TCA_TUNNEL_KEY_ENC_KEY_ID",
-        unit: Unit::Plain,
+        unit: "",
         names: 0,
     },
     Note {
         kernel: "TCA_TUNNEL_KEY_PAD",
-        unit: Unit::Plain,
+        unit: "",
         names: 0,
     },
     Note {
         kernel: "TCA_TUNNEL_KEY_ENC_DST_PORT",
-        unit: Unit::Plain,
+        unit: "",
         names: 0,
     },
     Note {
         kernel: "TCA_TUNNEL_KEY_NO_CSUM",
-        unit: Unit::Plain,
+        unit: "",
         names: 0,
     },
     Note {
         kernel: "TCA_TUNNEL_KEY_ENC_OPTS",
-        unit: Unit::Plain,
+        unit: "",
         names: 0,
     },
     Note {
         kernel: "TCA_TUNNEL_KEY_ENC_TOS",
-        unit: Unit::Plain,
+        unit: "",
         names: 0,
     },
     Note {
         kernel: "TCA_TUNNEL_KEY_ENC_TTL",
-        unit: Unit::Plain,
+        unit: "",
         names: 0,
     },
     Note {
         kernel: "TCA_TUNNEL_KEY_NO_FRAG",
-        unit: Unit::Plain,
+        unit: "",
         names: 0,
     },
 ];
@@ -2693,12 +2693,12 @@ const NAMES_TUNNEL_KEY_ACT: [Named<'static>; 2] = [
 const STRUCT_TC_TUNNEL_KEY: [Note<'static>; 2] = [
     Note {
         kernel: "",
-        unit: Unit::Plain,
+        unit: "",
         names: 0,
     },
     Note {
         kernel: "",
-        unit: Unit::Plain,
+        unit: "",
         names: 13,
     },
 ];
@@ -2707,17 +2707,17 @@ const STRUCT_TC_TUNNEL_KEY: [Note<'static>; 2] = [
 const LIST_TUNNEL_KEY_OPTS: [Note<'static>; 3] = [
     Note {
         kernel: "TCA_TUNNEL_KEY_ENC_OPTS_GENEVE",
-        unit: Unit::Plain,
+        unit: "",
         names: 0,
     },
     Note {
         kernel: "TCA_TUNNEL_KEY_ENC_OPTS_VXLAN",
-        unit: Unit::Plain,
+        unit: "",
         names: 0,
     },
     Note {
         kernel: "TCA_TUNNEL_KEY_ENC_OPTS_ERSPAN",
-        unit: Unit::Plain,
+        unit: "",
         names: 0,
     },
 ];
@@ -2726,42 +2726,42 @@ const LIST_TUNNEL_KEY_OPTS: [Note<'static>; 3] = [
 const LIST_VLAN: [Note<'static>; 8] = [
     Note {
         kernel: "TCA_VLAN_TM",
-        unit: Unit::Plain,
+        unit: "",
         names: 0,
     },
     Note {
         kernel: "TCA_VLAN_PARMS",
-        unit: Unit::Plain,
+        unit: "",
         names: 0,
     },
     Note {
         kernel: "TCA_VLAN_PUSH_VLAN_ID",
-        unit: Unit::Plain,
+        unit: "",
         names: 0,
     },
     Note {
         kernel: "TCA_VLAN_PUSH_VLAN_PROTOCOL",
-        unit: Unit::Plain,
+        unit: "",
         names: 7,
     },
     Note {
         kernel: "TCA_VLAN_PAD",
-        unit: Unit::Plain,
+        unit: "",
         names: 0,
     },
     Note {
         kernel: "TCA_VLAN_PUSH_VLAN_PRIORITY",
-        unit: Unit::Plain,
+        unit: "",
         names: 0,
     },
     Note {
         kernel: "TCA_VLAN_PUSH_ETH_DST",
-        unit: Unit::Plain,
+        unit: "",
         names: 0,
     },
     Note {
         kernel: "TCA_VLAN_PUSH_ETH_SRC",
-        unit: Unit::Plain,
+        unit: "",
         names: 0,
     },
 ];
@@ -2770,27 +2770,27 @@ const LIST_VLAN: [Note<'static>; 8] = [
 const ENUM_TCA_VLAN_ACT: [Note<'static>; 5] = [
     Note {
         kernel: "TCA_VLAN_ACT_POP",
-        unit: Unit::Plain,
+        unit: "",
         names: 0,
     },
     Note {
         kernel: "TCA_VLAN_ACT_PUSH",
-        unit: Unit::Plain,
+        unit: "",
         names: 0,
     },
     Note {
         kernel: "TCA_VLAN_ACT_MODIFY",
-        unit: Unit::Plain,
+        unit: "",
         names: 0,
     },
     Note {
         kernel: "TCA_VLAN_ACT_POP_ETH",
-        unit: Unit::Plain,
+        unit: "",
         names: 0,
     },
     Note {
         kernel: "TCA_VLAN_ACT_PUSH_ETH",
-        unit: Unit::Plain,
+        unit: "",
         names: 0,
     },
 ];
@@ -2799,12 +2799,12 @@ const ENUM_TCA_VLAN_ACT: [Note<'static>; 5] = [
 const LIST_EMATCH_TREE: [Note<'static>; 2] = [
     Note {
         kernel: "TCA_EMATCH_TREE_HDR",
-        unit: Unit::Plain,
+        unit: "",
         names: 0,
     },
     Note {
         kernel: "TCA_EMATCH_TREE_LIST",
-        unit: Unit::Plain,
+        unit: "",
         names: 0,
     },
 ];
@@ -2837,17 +2837,17 @@ const BITS_TCF_EM: [Named<'static>; 4] = [
 const STRUCT_EMATCH_CONTAINER: [Note<'static>; 3] = [
     Note {
         kernel: "",
-        unit: Unit::Plain,
+        unit: "",
         names: 14,
     },
     Note {
         kernel: "",
-        unit: Unit::Plain,
+        unit: "",
         names: 0,
     },
     Note {
         kernel: "",
-        unit: Unit::Plain,
+        unit: "",
         names: 0,
     },
 ];
@@ -2939,27 +2939,27 @@ const NAMES_EM_LAYER_OPND: [Named<'static>; 9] = [
 const STRUCT_TCF_EM_CMP: [Note<'static>; 5] = [
     Note {
         kernel: "",
-        unit: Unit::Plain,
+        unit: "",
         names: 0,
     },
     Note {
         kernel: "",
-        unit: Unit::Plain,
+        unit: "",
         names: 0,
     },
     Note {
         kernel: "",
-        unit: Unit::Bytes,
+        unit: "bytes",
         names: 0,
     },
     Note {
         kernel: "",
-        unit: Unit::Plain,
+        unit: "",
         names: 15,
     },
     Note {
         kernel: "",
-        unit: Unit::Plain,
+        unit: "",
         names: 16,
     },
 ];
@@ -2968,22 +2968,22 @@ const STRUCT_TCF_EM_CMP: [Note<'static>; 5] = [
 const STRUCT_EMATCH_NBYTE: [Note<'static>; 4] = [
     Note {
         kernel: "",
-        unit: Unit::Plain,
+        unit: "",
         names: 14,
     },
     Note {
         kernel: "",
-        unit: Unit::Plain,
+        unit: "",
         names: 0,
     },
     Note {
         kernel: "",
-        unit: Unit::Plain,
+        unit: "",
         names: 0,
     },
     Note {
         kernel: "",
-        unit: Unit::Plain,
+        unit: "",
         names: 0,
     },
 ];
@@ -2992,12 +2992,12 @@ const STRUCT_EMATCH_NBYTE: [Note<'static>; 4] = [
 const STRUCT_TCF_EM_NBYTE: [Note<'static>; 2] = [
     Note {
         kernel: "",
-        unit: Unit::Bytes,
+        unit: "bytes",
         names: 0,
     },
     Note {
         kernel: "",
-        unit: Unit::Plain,
+        unit: "",
         names: 0,
     },
 ];
@@ -3006,17 +3006,17 @@ const STRUCT_TCF_EM_NBYTE: [Note<'static>; 2] = [
 const LIST_EM_META: [Note<'static>; 3] = [
     Note {
         kernel: "TCA_EM_META_HDR",
-        unit: Unit::Plain,
+        unit: "",
         names: 0,
     },
     Note {
         kernel: "TCA_EM_META_LVALUE",
-        unit: Unit::Plain,
+        unit: "",
         names: 0,
     },
     Note {
         kernel: "TCA_EM_META_RVALUE",
-        unit: Unit::Plain,
+        unit: "",
         names: 0,
     },
 ];
@@ -3025,17 +3025,17 @@ const LIST_EM_META: [Note<'static>; 3] = [
 const ENUM_TCF_EM_OPND: [Note<'static>; 3] = [
     Note {
         kernel: "TCF_EM_OPND_EQ",
-        unit: Unit::Plain,
+        unit: "",
         names: 0,
     },
     Note {
         kernel: "TCF_EM_OPND_GT",
-        unit: Unit::Plain,
+        unit: "",
         names: 0,
     },
     Note {
         kernel: "TCF_EM_OPND_LT",
-        unit: Unit::Plain,
+        unit: "",
         names: 0,
     },
 ];
@@ -3044,32 +3044,32 @@ const ENUM_TCF_EM_OPND: [Note<'static>; 3] = [
 const STRUCT_TCF_EM_TEXT: [Note<'static>; 6] = [
     Note {
         kernel: "",
-        unit: Unit::Plain,
+        unit: "",
         names: 0,
     },
     Note {
         kernel: "",
-        unit: Unit::Bytes,
+        unit: "bytes",
         names: 0,
     },
     Note {
         kernel: "",
-        unit: Unit::Bytes,
+        unit: "bytes",
         names: 0,
     },
     Note {
         kernel: "",
-        unit: Unit::Bytes,
+        unit: "bytes",
         names: 0,
     },
     Note {
         kernel: "",
-        unit: Unit::Plain,
+        unit: "",
         names: 0,
     },
     Note {
         kernel: "",
-        unit: Unit::Plain,
+        unit: "",
         names: 0,
     },
 ];
@@ -3078,27 +3078,27 @@ const STRUCT_TCF_EM_TEXT: [Note<'static>; 6] = [
 const LIST_EM_IPT: [Note<'static>; 5] = [
     Note {
         kernel: "TCA_EM_IPT_HOOK",
-        unit: Unit::Plain,
+        unit: "",
         names: 0,
     },
     Note {
         kernel: "TCA_EM_IPT_MATCH_NAME",
-        unit: Unit::Plain,
+        unit: "",
         names: 0,
     },
     Note {
         kernel: "TCA_EM_IPT_MATCH_REVISION",
-        unit: Unit::Plain,
+        unit: "",
         names: 0,
     },
     Note {
         kernel: "TCA_EM_IPT_NFPROTO",
-        unit: Unit::Plain,
+        unit: "",
         names: 0,
     },
     Note {
         kernel: "TCA_EM_IPT_MATCH_DATA",
-        unit: Unit::Plain,
+        unit: "",
         names: 0,
     },
 ];
@@ -3107,32 +3107,32 @@ const LIST_EM_IPT: [Note<'static>; 5] = [
 const LIST_BASIC: [Note<'static>; 6] = [
     Note {
         kernel: "TCA_BASIC_CLASSID",
-        unit: Unit::Plain,
+        unit: "",
         names: 0,
     },
     Note {
         kernel: "TCA_BASIC_EMATCHES",
-        unit: Unit::Plain,
+        unit: "",
         names: 0,
     },
     Note {
         kernel: "TCA_BASIC_ACT",
-        unit: Unit::Plain,
+        unit: "",
         names: 0,
     },
     Note {
         kernel: "TCA_BASIC_POLICE",
-        unit: Unit::Plain,
+        unit: "",
         names: 0,
     },
     Note {
         kernel: "TCA_BASIC_PCNT",
-        unit: Unit::Plain,
+        unit: "",
         names: 0,
     },
     Note {
         kernel: "TCA_BASIC_PAD",
-        unit: Unit::Plain,
+        unit: "",
         names: 0,
     },
 ];
@@ -3141,12 +3141,12 @@ const LIST_BASIC: [Note<'static>; 6] = [
 const LIST_TC_BY_KIND: [Note<'static>; 2] = [
     Note {
         kernel: "TCA_OPTIONS",
-        unit: Unit::Plain,
+        unit: "",
         names: 0,
     },
     Note {
         kernel: "TCA_XSTATS",
-        unit: Unit::Plain,
+        unit: "",
         names: 0,
     },
 ];
@@ -3191,57 +3191,57 @@ const BITS_TCA_CLS_FLAGS: [Named<'static>; 5] = [
 const LIST_BPF: [Note<'static>; 11] = [
     Note {
         kernel: "TCA_BPF_ACT",
-        unit: Unit::Plain,
+        unit: "",
         names: 0,
     },
     Note {
         kernel: "TCA_BPF_POLICE",
-        unit: Unit::Plain,
+        unit: "",
         names: 0,
     },
     Note {
         kernel: "TCA_BPF_CLASSID",
-        unit: Unit::Plain,
+        unit: "",
         names: 0,
     },
     Note {
         kernel: "TCA_BPF_OPS_LEN",
-        unit: Unit::Plain,
+        unit: "",
         names: 0,
     },
     Note {
         kernel: "TCA_BPF_OPS",
-        unit: Unit::Plain,
+        unit: "",
         names: 0,
     },
     Note {
         kernel: "TCA_BPF_FD",
-        unit: Unit::Plain,
+        unit: "",
         names: 0,
     },
     Note {
         kernel: "TCA_BPF_NAME",
-        unit: Unit::Plain,
+        unit: "",
         names: 0,
     },
     Note {
         kernel: "TCA_BPF_FLAGS",
-        unit: Unit::Plain,
+        unit: "",
         names: 17,
     },
     Note {
         kernel: "TCA_BPF_FLAGS_GEN",
-        unit: Unit::Plain,
+        unit: "",
         names: 18,
     },
     Note {
         kernel: "TCA_BPF_TAG",
-        unit: Unit::Plain,
+        unit: "",
         names: 0,
     },
     Note {
         kernel: "TCA_BPF_ID",
-        unit: Unit::Plain,
+        unit: "",
         names: 0,
     },
 ];
@@ -3250,17 +3250,17 @@ const LIST_BPF: [Note<'static>; 11] = [
 const LIST_CGROUP: [Note<'static>; 3] = [
     Note {
         kernel: "TCA_CGROUP_ACT",
-        unit: Unit::Plain,
+        unit: "",
         names: 0,
     },
     Note {
         kernel: "TCA_CGROUP_POLICE",
-        unit: Unit::Plain,
+        unit: "",
         names: 0,
     },
     Note {
         kernel: "TCA_CGROUP_EMATCHES",
-        unit: Unit::Plain,
+        unit: "",
         names: 0,
     },
 ];
@@ -3363,62 +3363,62 @@ const BITS_FLOW_KEY: [Named<'static>; 18] = [
 const LIST_FLOW: [Note<'static>; 12] = [
     Note {
         kernel: "TCA_FLOW_KEYS",
-        unit: Unit::Plain,
+        unit: "",
         names: 19,
     },
     Note {
         kernel: "TCA_FLOW_MODE",
-        unit: Unit::Plain,
+        unit: "",
         names: 0,
     },
     Note {
         kernel: "TCA_FLOW_BASECLASS",
-        unit: Unit::Plain,
+        unit: "",
         names: 0,
     },
     Note {
         kernel: "TCA_FLOW_RSHIFT",
-        unit: Unit::Plain,
+        unit: "",
         names: 0,
     },
     Note {
         kernel: "TCA_FLOW_ADDEND",
-        unit: Unit::Plain,
+        unit: "",
         names: 0,
     },
     Note {
         kernel: "TCA_FLOW_MASK",
-        unit: Unit::Plain,
+        unit: "",
         names: 0,
     },
     Note {
         kernel: "TCA_FLOW_XOR",
-        unit: Unit::Plain,
+        unit: "",
         names: 0,
     },
     Note {
         kernel: "TCA_FLOW_DIVISOR",
-        unit: Unit::Plain,
+        unit: "",
         names: 0,
     },
     Note {
         kernel: "TCA_FLOW_ACT",
-        unit: Unit::Plain,
+        unit: "",
         names: 0,
     },
     Note {
         kernel: "TCA_FLOW_POLICE",
-        unit: Unit::Plain,
+        unit: "",
         names: 0,
     },
     Note {
         kernel: "TCA_FLOW_EMATCHES",
-        unit: Unit::Plain,
+        unit: "",
         names: 0,
     },
     Note {
         kernel: "TCA_FLOW_PERTURB",
-        unit: Unit::Seconds,
+        unit: "seconds",
         names: 0,
     },
 ];
@@ -3427,12 +3427,12 @@ const LIST_FLOW: [Note<'static>; 12] = [
 const ENUM_FLOW_MODE: [Note<'static>; 2] = [
     Note {
         kernel: "FLOW_MODE_MAP",
-        unit: Unit::Plain,
+        unit: "",
         names: 0,
     },
     Note {
         kernel: "FLOW_MODE_HASH",
-        unit: Unit::Plain,
+        unit: "",
         names: 0,
     },
 ];
@@ -3567,557 +3567,557 @@ const BITS_FLOWER_CT_FLAGS: [Named<'static>; 6] = [
 const LIST_FLOWER: [Note<'static>; 111] = [
     Note {
         kernel: "TCA_FLOWER_CLASSID",
-        unit: Unit::Plain,
+        unit: "",
         names: 0,
     },
     Note {
         kernel: "TCA_FLOWER_INDEV",
-        unit: Unit::Plain,
+        unit: "",
         names: 0,
     },
     Note {
         kernel: "TCA_FLOWER_ACT",
-        unit: Unit::Plain,
+        unit: "",
         names: 0,
     },
     Note {
         kernel: "TCA_FLOWER_KEY_ETH_DST",
-        unit: Unit::Plain,
+        unit: "",
         names: 0,
     },
     Note {
         kernel: "TCA_FLOWER_KEY_ETH_DST_MASK",
-        unit: Unit::Plain,
+        unit: "",
         names: 0,
     },
     Note {
         kernel: "TCA_FLOWER_KEY_ETH_SRC",
-        unit: Unit::Plain,
+        unit: "",
         names: 0,
     },
     Note {
         kernel: "TCA_FLOWER_KEY_ETH_SRC_MASK",
-        unit: Unit::Plain,
+        unit: "",
         names: 0,
     },
     Note {
         kernel: "TCA_FLOWER_KEY_ETH_TYPE",
-        unit: Unit::Plain,
+        unit: "",
         names: 7,
     },
     Note {
         kernel: "TCA_FLOWER_KEY_IP_PROTO",
-        unit: Unit::Plain,
+        unit: "",
         names: 5,
     },
     Note {
         kernel: "TCA_FLOWER_KEY_IPV4_SRC",
-        unit: Unit::Plain,
+        unit: "",
         names: 0,
     },
     Note {
         kernel: "TCA_FLOWER_KEY_IPV4_SRC_MASK",
-        unit: Unit::Plain,
+        unit: "",
         names: 0,
     },
     Note {
         kernel: "TCA_FLOWER_KEY_IPV4_DST",
-        unit: Unit::Plain,
+        unit: "",
         names: 0,
     },
     Note {
         kernel: "TCA_FLOWER_KEY_IPV4_DST_MASK",
-        unit: Unit::Plain,
+        unit: "",
         names: 0,
     },
     Note {
         kernel: "TCA_FLOWER_KEY_IPV6_SRC",
-        unit: Unit::Plain,
+        unit: "",
         names: 0,
     },
     Note {
         kernel: "TCA_FLOWER_KEY_IPV6_SRC_MASK",
-        unit: Unit::Plain,
+        unit: "",
         names: 0,
     },
     Note {
         kernel: "TCA_FLOWER_KEY_IPV6_DST",
-        unit: Unit::Plain,
+        unit: "",
         names: 0,
     },
     Note {
         kernel: "TCA_FLOWER_KEY_IPV6_DST_MASK",
-        unit: Unit::Plain,
+        unit: "",
         names: 0,
     },
     Note {
         kernel: "TCA_FLOWER_KEY_TCP_SRC",
-        unit: Unit::Plain,
+        unit: "",
         names: 0,
     },
     Note {
         kernel: "TCA_FLOWER_KEY_TCP_DST",
-        unit: Unit::Plain,
+        unit: "",
         names: 0,
     },
     Note {
         kernel: "TCA_FLOWER_KEY_UDP_SRC",
-        unit: Unit::Plain,
+        unit: "",
         names: 0,
     },
     Note {
         kernel: "TCA_FLOWER_KEY_UDP_DST",
-        unit: Unit::Plain,
+        unit: "",
         names: 0,
     },
     Note {
         kernel: "TCA_FLOWER_FLAGS",
-        unit: Unit::Plain,
+        unit: "",
         names: 18,
     },
     Note {
         kernel: "TCA_FLOWER_KEY_VLAN_ID",
-        unit: Unit::Plain,
+        unit: "",
         names: 0,
     },
     Note {
         kernel: "TCA_FLOWER_KEY_VLAN_PRIO",
-        unit: Unit::Plain,
+        unit: "",
         names: 0,
     },
     Note {
         kernel: "TCA_FLOWER_KEY_VLAN_ETH_TYPE",
-        unit: Unit::Plain,
+        unit: "",
         names: 7,
     },
     Note {
         kernel: "TCA_FLOWER_KEY_ENC_KEY_ID",
-        unit: Unit::Plain,
+        unit: "",
         names: 0,
     },
     Note {
         kernel: "TCA_FLOWER_KEY_ENC_IPV4_SRC",
-        unit: Unit::Plain,
+        unit: "",
         names: 0,
     },
     Note {
         kernel: "TCA_FLOWER_KEY_ENC_IPV4_SRC_MASK",
-        unit: Unit::Plain,
+        unit: "",
         names: 0,
     },
     Note {
         kernel: "TCA_FLOWER_KEY_ENC_IPV4_DST",
-        unit: Unit::Plain,
+        unit: "",
         names: 0,
     },
     Note {
         kernel: "TCA_FLOWER_KEY_ENC_IPV4_DST_MASK",
-        unit: Unit::Plain,
+        unit: "",
         names: 0,
     },
     Note {
         kernel: "TCA_FLOWER_KEY_ENC_IPV6_SRC",
-        unit: Unit::Plain,
+        unit: "",
         names: 0,
     },
     Note {
         kernel: "TCA_FLOWER_KEY_ENC_IPV6_SRC_MASK",
-        unit: Unit::Plain,
+        unit: "",
         names: 0,
     },
     Note {
         kernel: "TCA_FLOWER_KEY_ENC_IPV6_DST",
-        unit: Unit::Plain,
+        unit: "",
         names: 0,
     },
     Note {
         kernel: "TCA_FLOWER_KEY_ENC_IPV6_DST_MASK",
-        unit: Unit::Plain,
+        unit: "",
         names: 0,
     },
     Note {
         kernel: "TCA_FLOWER_KEY_TCP_SRC_MASK",
-        unit: Unit::Plain,
+        unit: "",
         names: 0,
     },
     Note {
         kernel: "TCA_FLOWER_KEY_TCP_DST_MASK",
-        unit: Unit::Plain,
+        unit: "",
         names: 0,
     },
     Note {
         kernel: "TCA_FLOWER_KEY_UDP_SRC_MASK",
-        unit: Unit::Plain,
+        unit: "",
         names: 0,
     },
     Note {
         kernel: "TCA_FLOWER_KEY_UDP_DST_MASK",
-        unit: Unit::Plain,
+        unit: "",
         names: 0,
     },
     Note {
         kernel: "TCA_FLOWER_KEY_SCTP_SRC_MASK",
-        unit: Unit::Plain,
+        unit: "",
         names: 0,
     },
     Note {
         kernel: "TCA_FLOWER_KEY_SCTP_DST_MASK",
-        unit: Unit::Plain,
+        unit: "",
         names: 0,
     },
     Note {
         kernel: "TCA_FLOWER_KEY_SCTP_SRC",
-        unit: Unit::Plain,
+        unit: "",
         names: 0,
     },
     Note {
         kernel: "TCA_FLOWER_KEY_SCTP_DST",
-        unit: Unit::Plain,
+        unit: "",
         names: 0,
     },
     Note {
         kernel: "TCA_FLOWER_KEY_ENC_UDP_SRC_PORT",
-        unit: Unit::Plain,
+        unit: "",
         names: 0,
     },
     Note {
         kernel: "TCA_FLOWER_KEY_ENC_UDP_SRC_PORT_MASK",
-        unit: Unit::Plain,
+        unit: "",
         names: 0,
     },
     Note {
         kernel: "TCA_FLOWER_KEY_ENC_UDP_DST_PORT",
-        unit: Unit::Plain,
+        unit: "",
         names: 0,
     },
     Note {
         kernel: "TCA_FLOWER_KEY_ENC_UDP_DST_PORT_MASK",
-        unit: Unit::Plain,
+        unit: "",
         names: 0,
     },
     Note {
         kernel: "TCA_FLOWER_KEY_FLAGS",
-        unit: Unit::Plain,
+        unit: "",
         names: 20,
     },
     Note {
         kernel: "TCA_FLOWER_KEY_FLAGS_MASK",
-        unit: Unit::Plain,
+        unit: "",
         names: 20,
     },
     Note {
         kernel: "TCA_FLOWER_KEY_ICMPV4_CODE",
-        unit: Unit::Plain,
+        unit: "",
         names: 0,
     },
     Note {
         kernel: "TCA_FLOWER_KEY_ICMPV4_CODE_MASK",
-        unit: Unit::Plain,
+        unit: "",
         names: 0,
     },
     Note {
         kernel: "TCA_FLOWER_KEY_ICMPV4_TYPE",
-        unit: Unit::Plain,
+        unit: "",
         names: 0,
     },
     Note {
         kernel: "TCA_FLOWER_KEY_ICMPV4_TYPE_MASK",
-        unit: Unit::Plain,
+        unit: "",
         names: 0,
     },
     Note {
         kernel: "TCA_FLOWER_KEY_ICMPV6_CODE",
-        unit: Unit::Plain,
+        unit: "",
         names: 0,
     },
     Note {
         kernel: "TCA_FLOWER_KEY_ICMPV6_CODE_MASK",
-        unit: Unit::Plain,
+        unit: "",
         names: 0,
     },
     Note {
         kernel: "TCA_FLOWER_KEY_ICMPV6_TYPE",
-        unit: Unit::Plain,
+        unit: "",
         names: 0,
     },
     Note {
         kernel: "TCA_FLOWER_KEY_ICMPV6_TYPE_MASK",
-        unit: Unit::Plain,
+        unit: "",
         names: 0,
     },
     Note {
         kernel: "TCA_FLOWER_KEY_ARP_SIP",
-        unit: Unit::Plain,
+        unit: "",
         names: 0,
     },
     Note {
         kernel: "TCA_FLOWER_KEY_ARP_SIP_MASK",
-        unit: Unit::Plain,
+        unit: "",
         names: 0,
     },
     Note {
         kernel: "TCA_FLOWER_KEY_ARP_TIP",
-        unit: Unit::Plain,
+        unit: "",
         names: 0,
     },
     Note {
         kernel: "TCA_FLOWER_KEY_ARP_TIP_MASK",
-        unit: Unit::Plain,
+        unit: "",
         names: 0,
     },
     Note {
         kernel: "TCA_FLOWER_KEY_ARP_OP",
-        unit: Unit::Plain,
+        unit: "",
         names: 21,
     },
     Note {
         kernel: "TCA_FLOWER_KEY_ARP_OP_MASK",
-        unit: Unit::Plain,
+        unit: "",
         names: 0,
     },
     Note {
         kernel: "TCA_FLOWER_KEY_ARP_SHA",
-        unit: Unit::Plain,
+        unit: "",
         names: 0,
     },
     Note {
         kernel: "TCA_FLOWER_KEY_ARP_SHA_MASK",
-        unit: Unit::Plain,
+        unit: "",
         names: 0,
     },
     Note {
         kernel: "TCA_FLOWER_KEY_ARP_THA",
-        unit: Unit::Plain,
+        unit: "",
         names: 0,
     },
     Note {
         kernel: "TCA_FLOWER_KEY_ARP_THA_MASK",
-        unit: Unit::Plain,
+        unit: "",
         names: 0,
     },
     Note {
         kernel: "TCA_FLOWER_KEY_MPLS_TTL",
-        unit: Unit::Plain,
+        unit: "",
         names: 0,
     },
     Note {
         kernel: "TCA_FLOWER_KEY_MPLS_BOS",
-        unit: Unit::Plain,
+        unit: "",
         names: 0,
     },
     Note {
         kernel: "TCA_FLOWER_KEY_MPLS_TC",
-        unit: Unit::Plain,
+        unit: "",
         names: 0,
     },
     Note {
         kernel: "TCA_FLOWER_KEY_MPLS_LABEL",
-        unit: Unit::Plain,
+        unit: "",
         names: 0,
     },
     Note {
         kernel: "TCA_FLOWER_KEY_TCP_FLAGS",
-        unit: Unit::Plain,
+        unit: "",
         names: 22,
     },
     Note {
         kernel: "TCA_FLOWER_KEY_TCP_FLAGS_MASK",
-        unit: Unit::Plain,
+        unit: "",
         names: 22,
     },
     Note {
         kernel: "TCA_FLOWER_KEY_IP_TOS",
-        unit: Unit::Plain,
+        unit: "",
         names: 0,
     },
     Note {
         kernel: "TCA_FLOWER_KEY_IP_TOS_MASK",
-        unit: Unit::Plain,
+        unit: "",
         names: 0,
     },
     Note {
         kernel: "TCA_FLOWER_KEY_IP_TTL",
-        unit: Unit::Plain,
+        unit: "",
         names: 0,
     },
     Note {
         kernel: "TCA_FLOWER_KEY_IP_TTL_MASK",
-        unit: Unit::Plain,
+        unit: "",
         names: 0,
     },
     Note {
         kernel: "TCA_FLOWER_KEY_CVLAN_ID",
-        unit: Unit::Plain,
+        unit: "",
         names: 0,
     },
     Note {
         kernel: "TCA_FLOWER_KEY_CVLAN_PRIO",
-        unit: Unit::Plain,
+        unit: "",
         names: 0,
     },
     Note {
         kernel: "TCA_FLOWER_KEY_CVLAN_ETH_TYPE",
-        unit: Unit::Plain,
+        unit: "",
         names: 7,
     },
     Note {
         kernel: "TCA_FLOWER_KEY_ENC_IP_TOS",
-        unit: Unit::Plain,
+        unit: "",
         names: 0,
     },
     Note {
         kernel: "TCA_FLOWER_KEY_ENC_IP_TOS_MASK",
-        unit: Unit::Plain,
+        unit: "",
         names: 0,
     },
     Note {
         kernel: "TCA_FLOWER_KEY_ENC_IP_TTL",
-        unit: Unit::Plain,
+        unit: "",
         names: 0,
     },
     Note {
         kernel: "TCA_FLOWER_KEY_ENC_IP_TTL_MASK",
-        unit: Unit::Plain,
+        unit: "",
         names: 0,
     },
     Note {
         kernel: "TCA_FLOWER_KEY_ENC_OPTS",
-        unit: Unit::Plain,
+        unit: "",
         names: 0,
     },
     Note {
         kernel: "TCA_FLOWER_KEY_ENC_OPTS_MASK",
-        unit: Unit::Plain,
+        unit: "",
         names: 0,
     },
     Note {
         kernel: "TCA_FLOWER_IN_HW_COUNT",
-        unit: Unit::Plain,
+        unit: "",
         names: 0,
     },
     Note {
         kernel: "TCA_FLOWER_KEY_PORT_SRC_MIN",
-        unit: Unit::Plain,
+        unit: "",
         names: 0,
     },
     Note {
         kernel: "TCA_FLOWER_KEY_PORT_SRC_MAX",
-        unit: Unit::Plain,
+        unit: "",
         names: 0,
     },
     Note {
         kernel: "TCA_FLOWER_KEY_PORT_DST_MIN",
-        unit: Unit::Plain,
+        unit: "",
         names: 0,
     },
     Note {
         kernel: "TCA_FLOWER_KEY_PORT_DST_MAX",
-        unit: Unit::Plain,
+        unit: "",
         names: 0,
     },
     Note {
         kernel: "TCA_FLOWER_KEY_CT_STATE",
-        unit: Unit::Plain,
+        unit: "",
         names: 23,
     },
     Note {
         kernel: "TCA_FLOWER_KEY_CT_STATE_MASK",
-        unit: Unit::Plain,
+        unit: "",
         names: 23,
     },
     Note {
         kernel: "TCA_FLOWER_KEY_CT_ZONE",
-        unit: Unit::Plain,
+        unit: "",
         names: 0,
     },
     Note {
         kernel: "TCA_FLOWER_KEY_CT_ZONE_MASK",
-        unit: Unit::Plain,
+        unit: "",
         names: 0,
     },
     Note {
         kernel: "TCA_FLOWER_KEY_CT_MARK",
-        unit: Unit::Plain,
+        unit: "",
         names: 0,
     },
     Note {
         kernel: "TCA_FLOWER_KEY_CT_MARK_MASK",
-        unit: Unit::Plain,
+        unit: "",
         names: 0,
     },
     Note {
         kernel: "TCA_FLOWER_KEY_CT_LABELS",
-        unit: Unit::Plain,
+        unit: "",
         names: 0,
     },
     Note {
         kernel: "TCA_FLOWER_KEY_CT_LABELS_MASK",
-        unit: Unit::Plain,
+        unit: "",
         names: 0,
     },
     Note {
         kernel: "TCA_FLOWER_KEY_MPLS_OPTS",
-        unit: Unit::Plain,
+        unit: "",
         names: 0,
     },
     Note {
         kernel: "TCA_FLOWER_KEY_HASH",
-        unit: Unit::Plain,
+        unit: "",
         names: 0,
     },
     Note {
         kernel: "TCA_FLOWER_KEY_HASH_MASK",
-        unit: Unit::Plain,
+        unit: "",
         names: 0,
     },
     Note {
         kernel: "TCA_FLOWER_KEY_NUM_OF_VLANS",
-        unit: Unit::Plain,
+        unit: "",
         names: 0,
     },
     Note {
         kernel: "TCA_FLOWER_KEY_PPPOE_SID",
-        unit: Unit::Plain,
+        unit: "",
         names: 0,
     },
     Note {
         kernel: "TCA_FLOWER_KEY_PPP_PROTO",
-        unit: Unit::Plain,
+        unit: "",
         names: 0,
     },
     Note {
         kernel: "TCA_FLOWER_KEY_L2TPV3_SID",
-        unit: Unit::Plain,
+        unit: "",
         names: 0,
     },
     Note {
         kernel: "TCA_FLOWER_L2_MISS",
-        unit: Unit::Plain,
+        unit: "",
         names: 0,
     },
     Note {
         kernel: "TCA_FLOWER_KEY_CFM",
-        unit: Unit::Plain,
+        unit: "",
         names: 0,
     },
     Note {
         kernel: "TCA_FLOWER_KEY_SPI",
-        unit: Unit::Plain,
+        unit: "",
         names: 0,
     },
     Note {
         kernel: "TCA_FLOWER_KEY_SPI_MASK",
-        unit: Unit::Plain,
+        unit: "",
         names: 0,
     },
     Note {
         kernel: "TCA_FLOWER_KEY_ENC_FLAGS",
-        unit: Unit::Plain,
+        unit: "",
         names: 20,
     },
     Note {
         kernel: "TCA_FLOWER_KEY_ENC_FLAGS_MASK",
-        unit: Unit::Plain,
+        unit: "",
         names: 20,
     },
 ];
@@ -4126,27 +4126,27 @@ const LIST_FLOWER: [Note<'static>; 111] = [
 const LIST_ENC_OPTS: [Note<'static>; 5] = [
     Note {
         kernel: "TCA_FLOWER_KEY_ENC_OPTS_GENEVE",
-        unit: Unit::Plain,
+        unit: "",
         names: 0,
     },
     Note {
         kernel: "TCA_FLOWER_KEY_ENC_OPTS_VXLAN",
-        unit: Unit::Plain,
+        unit: "",
         names: 0,
     },
     Note {
         kernel: "TCA_FLOWER_KEY_ENC_OPTS_ERSPAN",
-        unit: Unit::Plain,
+        unit: "",
         names: 0,
     },
     Note {
         kernel: "TCA_FLOWER_KEY_ENC_OPTS_GTP",
-        unit: Unit::Plain,
+        unit: "",
         names: 0,
     },
     Note {
         kernel: "TCA_FLOWER_KEY_ENC_OPTS_PFCP",
-        unit: Unit::Plain,
+        unit: "",
         names: 0,
     },
 ];
@@ -4155,17 +4155,17 @@ const LIST_ENC_OPTS: [Note<'static>; 5] = [
 const LIST_ENC_OPT_GENEVE: [Note<'static>; 3] = [
     Note {
         kernel: "TCA_FLOWER_KEY_ENC_OPT_GENEVE_CLASS",
-        unit: Unit::Plain,
+        unit: "",
         names: 0,
     },
     Note {
         kernel: "TCA_FLOWER_KEY_ENC_OPT_GENEVE_TYPE",
-        unit: Unit::Plain,
+        unit: "",
         names: 0,
     },
     Note {
         kernel: "TCA_FLOWER_KEY_ENC_OPT_GENEVE_DATA",
-        unit: Unit::Plain,
+        unit: "",
         names: 0,
     },
 ];
@@ -4173,7 +4173,7 @@ const LIST_ENC_OPT_GENEVE: [Note<'static>; 3] = [
 // `list enc_opt_vxlan`
 const LIST_ENC_OPT_VXLAN: [Note<'static>; 1] = [Note {
     kernel: "TCA_FLOWER_KEY_ENC_OPT_VXLAN_GBP",
-    unit: Unit::Plain,
+    unit: "",
     names: 0,
 }];
 
@@ -4181,22 +4181,22 @@ const LIST_ENC_OPT_VXLAN: [Note<'static>; 1] = [Note {
 const LIST_ENC_OPT_ERSPAN: [Note<'static>; 4] = [
     Note {
         kernel: "TCA_FLOWER_KEY_ENC_OPT_ERSPAN_VER",
-        unit: Unit::Plain,
+        unit: "",
         names: 0,
     },
     Note {
         kernel: "TCA_FLOWER_KEY_ENC_OPT_ERSPAN_INDEX",
-        unit: Unit::Plain,
+        unit: "",
         names: 0,
     },
     Note {
         kernel: "TCA_FLOWER_KEY_ENC_OPT_ERSPAN_DIR",
-        unit: Unit::Plain,
+        unit: "",
         names: 0,
     },
     Note {
         kernel: "TCA_FLOWER_KEY_ENC_OPT_ERSPAN_HWID",
-        unit: Unit::Plain,
+        unit: "",
         names: 0,
     },
 ];
@@ -4205,12 +4205,12 @@ const LIST_ENC_OPT_ERSPAN: [Note<'static>; 4] = [
 const LIST_ENC_OPT_GTP: [Note<'static>; 2] = [
     Note {
         kernel: "TCA_FLOWER_KEY_ENC_OPT_GTP_PDU_TYPE",
-        unit: Unit::Plain,
+        unit: "",
         names: 0,
     },
     Note {
         kernel: "TCA_FLOWER_KEY_ENC_OPT_GTP_QFI",
-        unit: Unit::Plain,
+        unit: "",
         names: 0,
     },
 ];
@@ -4219,12 +4219,12 @@ const LIST_ENC_OPT_GTP: [Note<'static>; 2] = [
 const LIST_ENC_OPT_PFCP: [Note<'static>; 2] = [
     Note {
         kernel: "TCA_FLOWER_KEY_ENC_OPT_PFCP_TYPE",
-        unit: Unit::Plain,
+        unit: "",
         names: 0,
     },
     Note {
         kernel: "TCA_FLOWER_KEY_ENC_OPT_PFCP_SEID",
-        unit: Unit::Plain,
+        unit: "",
         names: 0,
     },
 ];
@@ -4233,12 +4233,12 @@ const LIST_ENC_OPT_PFCP: [Note<'static>; 2] = [
 const LIST_CFM: [Note<'static>; 2] = [
     Note {
         kernel: "TCA_FLOWER_KEY_CFM_MD_LEVEL",
-        unit: Unit::Plain,
+        unit: "",
         names: 0,
     },
     Note {
         kernel: "TCA_FLOWER_KEY_CFM_OPCODE",
-        unit: Unit::Plain,
+        unit: "",
         names: 0,
     },
 ];
@@ -4246,7 +4246,7 @@ const LIST_CFM: [Note<'static>; 2] = [
 // `list mpls_opts`
 const LIST_MPLS_OPTS: [Note<'static>; 1] = [Note {
     kernel: "TCA_FLOWER_KEY_MPLS_OPTS_LSE",
-    unit: Unit::Plain,
+    unit: "",
     names: 0,
 }];
 
@@ -4254,27 +4254,27 @@ const LIST_MPLS_OPTS: [Note<'static>; 1] = [Note {
 const LIST_MPLS_LSE: [Note<'static>; 5] = [
     Note {
         kernel: "TCA_FLOWER_KEY_MPLS_OPT_LSE_DEPTH",
-        unit: Unit::Plain,
+        unit: "",
         names: 0,
     },
     Note {
         kernel: "TCA_FLOWER_KEY_MPLS_OPT_LSE_TTL",
-        unit: Unit::Plain,
+        unit: "",
         names: 0,
     },
     Note {
         kernel: "TCA_FLOWER_KEY_MPLS_OPT_LSE_BOS",
-        unit: Unit::Plain,
+        unit: "",
         names: 0,
     },
     Note {
         kernel: "TCA_FLOWER_KEY_MPLS_OPT_LSE_TC",
-        unit: Unit::Plain,
+        unit: "",
         names: 0,
     },
     Note {
         kernel: "TCA_FLOWER_KEY_MPLS_OPT_LSE_LABEL",
-        unit: Unit::Plain,
+        unit: "",
         names: 0,
     },
 ];
@@ -4283,27 +4283,27 @@ const LIST_MPLS_LSE: [Note<'static>; 5] = [
 const LIST_FW: [Note<'static>; 5] = [
     Note {
         kernel: "TCA_FW_CLASSID",
-        unit: Unit::Plain,
+        unit: "",
         names: 0,
     },
     Note {
         kernel: "TCA_FW_POLICE",
-        unit: Unit::Plain,
+        unit: "",
         names: 0,
     },
     Note {
         kernel: "TCA_FW_INDEV",
-        unit: Unit::Plain,
+        unit: "",
         names: 0,
     },
     Note {
         kernel: "TCA_FW_ACT",
-        unit: Unit::Plain,
+        unit: "",
         names: 0,
     },
     Note {
         kernel: "TCA_FW_MASK",
-        unit: Unit::Plain,
+        unit: "",
         names: 0,
     },
 ];
@@ -4312,27 +4312,27 @@ const LIST_FW: [Note<'static>; 5] = [
 const LIST_MATCHALL: [Note<'static>; 5] = [
     Note {
         kernel: "TCA_MATCHALL_CLASSID",
-        unit: Unit::Plain,
+        unit: "",
         names: 0,
     },
     Note {
         kernel: "TCA_MATCHALL_ACT",
-        unit: Unit::Plain,
+        unit: "",
         names: 0,
     },
     Note {
         kernel: "TCA_MATCHALL_FLAGS",
-        unit: Unit::Plain,
+        unit: "",
         names: 18,
     },
     Note {
         kernel: "TCA_MATCHALL_PCNT",
-        unit: Unit::Plain,
+        unit: "",
         names: 0,
     },
     Note {
         kernel: "TCA_MATCHALL_PAD",
-        unit: Unit::Plain,
+        unit: "",
         names: 0,
     },
 ];
@@ -4340,7 +4340,7 @@ const LIST_MATCHALL: [Note<'static>; 5] = [
 // `struct tc_matchall_pcnt`
 const STRUCT_TC_MATCHALL_PCNT: [Note<'static>; 1] = [Note {
     kernel: "",
-    unit: Unit::Packets,
+    unit: "packets",
     names: 0,
 }];
 
@@ -4348,32 +4348,32 @@ const STRUCT_TC_MATCHALL_PCNT: [Note<'static>; 1] = [Note {
 const LIST_ROUTE: [Note<'static>; 6] = [
     Note {
         kernel: "TCA_ROUTE4_CLASSID",
-        unit: Unit::Plain,
+        unit: "",
         names: 0,
     },
     Note {
         kernel: "TCA_ROUTE4_TO",
-        unit: Unit::Plain,
+        unit: "",
         names: 0,
     },
     Note {
         kernel: "TCA_ROUTE4_FROM",
-        unit: Unit::Plain,
+        unit: "",
         names: 0,
     },
     Note {
         kernel: "TCA_ROUTE4_IIF",
-        unit: Unit::Interface,
+        unit: "interface",
         names: 0,
     },
     Note {
         kernel: "TCA_ROUTE4_POLICE",
-        unit: Unit::Plain,
+        unit: "",
         names: 0,
     },
     Note {
         kernel: "TCA_ROUTE4_ACT",
-        unit: Unit::Plain,
+        unit: "",
         names: 0,
     },
 ];
@@ -4382,32 +4382,32 @@ const LIST_ROUTE: [Note<'static>; 6] = [
 const LIST_RSVP: [Note<'static>; 6] = [
     Note {
         kernel: "TCA_RSVP_CLASSID",
-        unit: Unit::Plain,
+        unit: "",
         names: 0,
     },
     Note {
         kernel: "TCA_RSVP_DST",
-        unit: Unit::Plain,
+        unit: "",
         names: 0,
     },
     Note {
         kernel: "TCA_RSVP_SRC",
-        unit: Unit::Plain,
+        unit: "",
         names: 0,
     },
     Note {
         kernel: "TCA_RSVP_PINFO",
-        unit: Unit::Plain,
+        unit: "",
         names: 0,
     },
     Note {
         kernel: "TCA_RSVP_POLICE",
-        unit: Unit::Plain,
+        unit: "",
         names: 0,
     },
     Note {
         kernel: "TCA_RSVP_ACT",
-        unit: Unit::Plain,
+        unit: "",
         names: 0,
     },
 ];
@@ -4416,32 +4416,32 @@ const LIST_RSVP: [Note<'static>; 6] = [
 const STRUCT_TC_RSVP_PINFO: [Note<'static>; 6] = [
     Note {
         kernel: "",
-        unit: Unit::Plain,
+        unit: "",
         names: 0,
     },
     Note {
         kernel: "",
-        unit: Unit::Plain,
+        unit: "",
         names: 0,
     },
     Note {
         kernel: "",
-        unit: Unit::Plain,
+        unit: "",
         names: 5,
     },
     Note {
         kernel: "",
-        unit: Unit::Plain,
+        unit: "",
         names: 0,
     },
     Note {
         kernel: "",
-        unit: Unit::Plain,
+        unit: "",
         names: 0,
     },
     Note {
         kernel: "",
-        unit: Unit::Plain,
+        unit: "",
         names: 0,
     },
 ];
@@ -4450,37 +4450,37 @@ const STRUCT_TC_RSVP_PINFO: [Note<'static>; 6] = [
 const LIST_TCINDEX: [Note<'static>; 7] = [
     Note {
         kernel: "TCA_TCINDEX_HASH",
-        unit: Unit::Plain,
+        unit: "",
         names: 0,
     },
     Note {
         kernel: "TCA_TCINDEX_MASK",
-        unit: Unit::Plain,
+        unit: "",
         names: 0,
     },
     Note {
         kernel: "TCA_TCINDEX_SHIFT",
-        unit: Unit::Plain,
+        unit: "",
         names: 0,
     },
     Note {
         kernel: "TCA_TCINDEX_FALL_THROUGH",
-        unit: Unit::Plain,
+        unit: "",
         names: 0,
     },
     Note {
         kernel: "TCA_TCINDEX_CLASSID",
-        unit: Unit::Plain,
+        unit: "",
         names: 0,
     },
     Note {
         kernel: "TCA_TCINDEX_POLICE",
-        unit: Unit::Plain,
+        unit: "",
         names: 0,
     },
     Note {
         kernel: "TCA_TCINDEX_ACT",
-        unit: Unit::Plain,
+        unit: "",
         names: 0,
     },
 ];
@@ -4489,62 +4489,62 @@ const LIST_TCINDEX: [Note<'static>; 7] = [
 const LIST_U32: [Note<'static>; 12] = [
     Note {
         kernel: "TCA_U32_CLASSID",
-        unit: Unit::Plain,
+        unit: "",
         names: 0,
     },
     Note {
         kernel: "TCA_U32_HASH",
-        unit: Unit::Plain,
+        unit: "",
         names: 0,
     },
     Note {
         kernel: "TCA_U32_LINK",
-        unit: Unit::Plain,
+        unit: "",
         names: 0,
     },
     Note {
         kernel: "TCA_U32_DIVISOR",
-        unit: Unit::Plain,
+        unit: "",
         names: 0,
     },
     Note {
         kernel: "TCA_U32_SEL",
-        unit: Unit::Plain,
+        unit: "",
         names: 0,
     },
     Note {
         kernel: "TCA_U32_POLICE",
-        unit: Unit::Plain,
+        unit: "",
         names: 0,
     },
     Note {
         kernel: "TCA_U32_ACT",
-        unit: Unit::Plain,
+        unit: "",
         names: 0,
     },
     Note {
         kernel: "TCA_U32_INDEV",
-        unit: Unit::Plain,
+        unit: "",
         names: 0,
     },
     Note {
         kernel: "TCA_U32_PCNT",
-        unit: Unit::Plain,
+        unit: "",
         names: 0,
     },
     Note {
         kernel: "TCA_U32_MARK",
-        unit: Unit::Plain,
+        unit: "",
         names: 0,
     },
     Note {
         kernel: "TCA_U32_FLAGS",
-        unit: Unit::Plain,
+        unit: "",
         names: 18,
     },
     Note {
         kernel: "TCA_U32_PAD",
-        unit: Unit::Plain,
+        unit: "",
         names: 0,
     },
 ];
@@ -4577,52 +4577,52 @@ const BITS_TC_U32: [Named<'static>; 4] = [
 const STRUCT_TC_U32_SEL: [Note<'static>; 10] = [
     Note {
         kernel: "",
-        unit: Unit::Plain,
+        unit: "",
         names: 24,
     },
     Note {
         kernel: "",
-        unit: Unit::Plain,
+        unit: "",
         names: 0,
     },
     Note {
         kernel: "",
-        unit: Unit::Plain,
+        unit: "",
         names: 0,
     },
     Note {
         kernel: "",
-        unit: Unit::Plain,
+        unit: "",
         names: 0,
     },
     Note {
         kernel: "",
-        unit: Unit::Plain,
+        unit: "",
         names: 0,
     },
     Note {
         kernel: "",
-        unit: Unit::Bytes,
+        unit: "bytes",
         names: 0,
     },
     Note {
         kernel: "",
-        unit: Unit::Bytes,
+        unit: "bytes",
         names: 0,
     },
     Note {
         kernel: "",
-        unit: Unit::Bytes,
+        unit: "bytes",
         names: 0,
     },
     Note {
         kernel: "",
-        unit: Unit::Plain,
+        unit: "",
         names: 0,
     },
     Note {
         kernel: "",
-        unit: Unit::Plain,
+        unit: "",
         names: 0,
     },
 ];
@@ -4631,22 +4631,22 @@ const STRUCT_TC_U32_SEL: [Note<'static>; 10] = [
 const STRUCT_TC_U32_KEY: [Note<'static>; 4] = [
     Note {
         kernel: "",
-        unit: Unit::Plain,
+        unit: "",
         names: 0,
     },
     Note {
         kernel: "",
-        unit: Unit::Plain,
+        unit: "",
         names: 0,
     },
     Note {
         kernel: "",
-        unit: Unit::Bytes,
+        unit: "bytes",
         names: 0,
     },
     Note {
         kernel: "",
-        unit: Unit::Plain,
+        unit: "",
         names: 0,
     },
 ];
@@ -4655,17 +4655,17 @@ const STRUCT_TC_U32_KEY: [Note<'static>; 4] = [
 const STRUCT_TC_U32_PCNT: [Note<'static>; 3] = [
     Note {
         kernel: "",
-        unit: Unit::Packets,
+        unit: "packets",
         names: 0,
     },
     Note {
         kernel: "",
-        unit: Unit::Packets,
+        unit: "packets",
         names: 0,
     },
     Note {
         kernel: "",
-        unit: Unit::Packets,
+        unit: "packets",
         names: 0,
     },
 ];
@@ -4674,32 +4674,32 @@ const STRUCT_TC_U32_PCNT: [Note<'static>; 3] = [
 const STRUCT_TCMSG: [Note<'static>; 6] = [
     Note {
         kernel: "",
-        unit: Unit::Plain,
+        unit: "",
         names: 0,
     },
     Note {
         kernel: "",
-        unit: Unit::Plain,
+        unit: "",
         names: 0,
     },
     Note {
         kernel: "",
-        unit: Unit::Interface,
+        unit: "interface",
         names: 0,
     },
     Note {
         kernel: "",
-        unit: Unit::Plain,
+        unit: "",
         names: 0,
     },
     Note {
         kernel: "",
-        unit: Unit::Plain,
+        unit: "",
         names: 0,
     },
     Note {
         kernel: "",
-        unit: Unit::Plain,
+        unit: "",
         names: 0,
     },
 ];
@@ -4708,42 +4708,42 @@ const STRUCT_TCMSG: [Note<'static>; 6] = [
 const ENUM_ADDRESS_FAMILY: [Note<'static>; 8] = [
     Note {
         kernel: "AF_UNSPEC",
-        unit: Unit::Plain,
+        unit: "",
         names: 0,
     },
     Note {
         kernel: "AF_UNIX",
-        unit: Unit::Plain,
+        unit: "",
         names: 0,
     },
     Note {
         kernel: "AF_INET",
-        unit: Unit::Plain,
+        unit: "",
         names: 0,
     },
     Note {
         kernel: "AF_BRIDGE",
-        unit: Unit::Plain,
+        unit: "",
         names: 0,
     },
     Note {
         kernel: "AF_INET6",
-        unit: Unit::Plain,
+        unit: "",
         names: 0,
     },
     Note {
         kernel: "AF_NETLINK",
-        unit: Unit::Plain,
+        unit: "",
         names: 0,
     },
     Note {
         kernel: "AF_PACKET",
-        unit: Unit::Plain,
+        unit: "",
         names: 0,
     },
     Note {
         kernel: "AF_MPLS",
-        unit: Unit::Plain,
+        unit: "",
         names: 0,
     },
 ];
@@ -4752,67 +4752,67 @@ const ENUM_ADDRESS_FAMILY: [Note<'static>; 8] = [
 const LIST_TC_OF_ALL: [Note<'static>; 13] = [
     Note {
         kernel: "TCA_STATS",
-        unit: Unit::Plain,
+        unit: "",
         names: 0,
     },
     Note {
         kernel: "TCA_RATE",
-        unit: Unit::Plain,
+        unit: "",
         names: 0,
     },
     Note {
         kernel: "TCA_FCNT",
-        unit: Unit::Plain,
+        unit: "",
         names: 0,
     },
     Note {
         kernel: "TCA_STATS2",
-        unit: Unit::Plain,
+        unit: "",
         names: 0,
     },
     Note {
         kernel: "TCA_STAB",
-        unit: Unit::Plain,
+        unit: "",
         names: 0,
     },
     Note {
         kernel: "TCA_PAD",
-        unit: Unit::Plain,
+        unit: "",
         names: 0,
     },
     Note {
         kernel: "TCA_DUMP_INVISIBLE",
-        unit: Unit::Plain,
+        unit: "",
         names: 0,
     },
     Note {
         kernel: "TCA_CHAIN",
-        unit: Unit::Plain,
+        unit: "",
         names: 0,
     },
     Note {
         kernel: "TCA_HW_OFFLOAD",
-        unit: Unit::Plain,
+        unit: "",
         names: 0,
     },
     Note {
         kernel: "TCA_INGRESS_BLOCK",
-        unit: Unit::Plain,
+        unit: "",
         names: 0,
     },
     Note {
         kernel: "TCA_EGRESS_BLOCK",
-        unit: Unit::Plain,
+        unit: "",
         names: 0,
     },
     Note {
         kernel: "TCA_DUMP_FLAGS",
-        unit: Unit::Plain,
+        unit: "",
         names: 0,
     },
     Note {
         kernel: "TCA_EXT_WARN_MSG",
-        unit: Unit::Plain,
+        unit: "",
         names: 0,
     },
 ];
@@ -4828,12 +4828,12 @@ const BITS_TCA_DUMP_FLAGS: [Named<'static>; 1] = [Named {
 const STRUCT_TCA_DUMP_FLAGS: [Note<'static>; 2] = [
     Note {
         kernel: "",
-        unit: Unit::Plain,
+        unit: "",
         names: 25,
     },
     Note {
         kernel: "",
-        unit: Unit::Plain,
+        unit: "",
         names: 25,
     },
 ];
@@ -4842,27 +4842,27 @@ const STRUCT_TCA_DUMP_FLAGS: [Note<'static>; 2] = [
 const LIST_ACTION_MESSAGE: [Note<'static>; 5] = [
     Note {
         kernel: "TCA_ROOT_TAB",
-        unit: Unit::Plain,
+        unit: "",
         names: 0,
     },
     Note {
         kernel: "TCA_ROOT_FLAGS",
-        unit: Unit::Plain,
+        unit: "",
         names: 0,
     },
     Note {
         kernel: "TCA_ROOT_COUNT",
-        unit: Unit::Plain,
+        unit: "",
         names: 0,
     },
     Note {
         kernel: "TCA_ROOT_TIME_DELTA",
-        unit: Unit::Milliseconds,
+        unit: "milliseconds",
         names: 0,
     },
     Note {
         kernel: "TCA_ROOT_EXT_WARN_MSG",
-        unit: Unit::Plain,
+        unit: "",
         names: 0,
     },
 ];
@@ -4885,12 +4885,12 @@ const BITS_TCA_ACT_FLAG: [Named<'static>; 2] = [
 const STRUCT_TCA_ROOT_FLAGS: [Note<'static>; 2] = [
     Note {
         kernel: "",
-        unit: Unit::Plain,
+        unit: "",
         names: 26,
     },
     Note {
         kernel: "",
-        unit: Unit::Plain,
+        unit: "",
         names: 26,
     },
 ];
@@ -4899,32 +4899,32 @@ const STRUCT_TCA_ROOT_FLAGS: [Note<'static>; 2] = [
 const LIST_ATM: [Note<'static>; 6] = [
     Note {
         kernel: "TCA_ATM_FD",
-        unit: Unit::Plain,
+        unit: "",
         names: 0,
     },
     Note {
         kernel: "TCA_ATM_PTR",
-        unit: Unit::Plain,
+        unit: "",
         names: 0,
     },
     Note {
         kernel: "TCA_ATM_HDR",
-        unit: Unit::Plain,
+        unit: "",
         names: 0,
     },
     Note {
         kernel: "TCA_ATM_EXCESS",
-        unit: Unit::Plain,
+        unit: "",
         names: 0,
     },
     Note {
         kernel: "TCA_ATM_ADDR",
-        unit: Unit::Plain,
+        unit: "",
         names: 0,
     },
     Note {
         kernel: "TCA_ATM_STATE",
-        unit: Unit::Plain,
+        unit: "",
         names: 0,
     },
 ];
@@ -4933,92 +4933,92 @@ const LIST_ATM: [Note<'static>; 6] = [
 const LIST_CAKE: [Note<'static>; 18] = [
     Note {
         kernel: "TCA_CAKE_PAD",
-        unit: Unit::Plain,
+        unit: "",
         names: 0,
     },
     Note {
         kernel: "TCA_CAKE_BASE_RATE64",
-        unit: Unit::BytesPerSecond,
+        unit: "bytes a second",
         names: 0,
     },
     Note {
         kernel: "TCA_CAKE_DIFFSERV_MODE",
-        unit: Unit::Plain,
+        unit: "",
         names: 0,
     },
     Note {
         kernel: "TCA_CAKE_ATM",
-        unit: Unit::Plain,
+        unit: "",
         names: 0,
     },
     Note {
         kernel: "TCA_CAKE_FLOW_MODE",
-        unit: Unit::Plain,
+        unit: "",
         names: 0,
     },
     Note {
         kernel: "TCA_CAKE_OVERHEAD",
-        unit: Unit::Bytes,
+        unit: "bytes",
         names: 0,
     },
     Note {
         kernel: "TCA_CAKE_RTT",
-        unit: Unit::Microseconds,
+        unit: "microseconds",
         names: 0,
     },
     Note {
         kernel: "TCA_CAKE_TARGET",
-        unit: Unit::Microseconds,
+        unit: "microseconds",
         names: 0,
     },
     Note {
         kernel: "TCA_CAKE_AUTORATE",
-        unit: Unit::Plain,
+        unit: "",
         names: 0,
     },
     Note {
         kernel: "TCA_CAKE_MEMORY",
-        unit: Unit::Bytes,
+        unit: "bytes",
         names: 0,
     },
     Note {
         kernel: "TCA_CAKE_NAT",
-        unit: Unit::Plain,
+        unit: "",
         names: 0,
     },
     Note {
         kernel: "TCA_CAKE_RAW",
-        unit: Unit::Plain,
+        unit: "",
         names: 0,
     },
     Note {
         kernel: "TCA_CAKE_WASH",
-        unit: Unit::Plain,
+        unit: "",
         names: 0,
     },
     Note {
         kernel: "TCA_CAKE_MPU",
-        unit: Unit::Bytes,
+        unit: "bytes",
         names: 0,
     },
     Note {
         kernel: "TCA_CAKE_INGRESS",
-        unit: Unit::Plain,
+        unit: "",
         names: 0,
     },
     Note {
         kernel: "TCA_CAKE_ACK_FILTER",
-        unit: Unit::Plain,
+        unit: "",
         names: 0,
     },
     Note {
         kernel: "TCA_CAKE_SPLIT_GSO",
-        unit: Unit::Plain,
+        unit: "",
         names: 0,
     },
     Note {
         kernel: "TCA_CAKE_FWMARK",
-        unit: Unit::Plain,
+        unit: "",
         names: 0,
     },
 ];
@@ -5027,82 +5027,82 @@ const LIST_CAKE: [Note<'static>; 18] = [
 const LIST_CAKE_STATS: [Note<'static>; 16] = [
     Note {
         kernel: "TCA_CAKE_STATS_PAD",
-        unit: Unit::Plain,
+        unit: "",
         names: 0,
     },
     Note {
         kernel: "TCA_CAKE_STATS_CAPACITY_ESTIMATE64",
-        unit: Unit::BytesPerSecond,
+        unit: "bytes a second",
         names: 0,
     },
     Note {
         kernel: "TCA_CAKE_STATS_MEMORY_LIMIT",
-        unit: Unit::Bytes,
+        unit: "bytes",
         names: 0,
     },
     Note {
         kernel: "TCA_CAKE_STATS_MEMORY_USED",
-        unit: Unit::Bytes,
+        unit: "bytes",
         names: 0,
     },
     Note {
         kernel: "TCA_CAKE_STATS_AVG_NETOFF",
-        unit: Unit::Bytes,
+        unit: "bytes",
         names: 0,
     },
     Note {
         kernel: "TCA_CAKE_STATS_MIN_NETLEN",
-        unit: Unit::Bytes,
+        unit: "bytes",
         names: 0,
     },
     Note {
         kernel: "TCA_CAKE_STATS_MAX_NETLEN",
-        unit: Unit::Bytes,
+        unit: "bytes",
         names: 0,
     },
     Note {
         kernel: "TCA_CAKE_STATS_MIN_ADJLEN",
-        unit: Unit::Bytes,
+        unit: "bytes",
         names: 0,
     },
     Note {
         kernel: "TCA_CAKE_STATS_MAX_ADJLEN",
-        unit: Unit::Bytes,
+        unit: "bytes",
         names: 0,
     },
     Note {
         kernel: "TCA_CAKE_STATS_TIN_STATS",
-        unit: Unit::Plain,
+        unit: "",
         names: 0,
     },
     Note {
         kernel: "TCA_CAKE_STATS_DEFICIT",
-        unit: Unit::Plain,
+        unit: "",
         names: 0,
     },
     Note {
         kernel: "TCA_CAKE_STATS_COBALT_COUNT",
-        unit: Unit::Plain,
+        unit: "",
         names: 0,
     },
     Note {
         kernel: "TCA_CAKE_STATS_DROPPING",
-        unit: Unit::Plain,
+        unit: "",
         names: 0,
     },
     Note {
         kernel: "TCA_CAKE_STATS_DROP_NEXT_US",
-        unit: Unit::Microseconds,
+        unit: "microseconds",
         names: 0,
     },
     Note {
         kernel: "TCA_CAKE_STATS_P_DROP",
-        unit: Unit::Plain,
+        unit: "",
         names: 0,
     },
     Note {
         kernel: "TCA_CAKE_STATS_BLUE_TIMER_US",
-        unit: Unit::Microseconds,
+        unit: "microseconds",
         names: 0,
     },
 ];
@@ -5111,127 +5111,127 @@ const LIST_CAKE_STATS: [Note<'static>; 16] = [
 const LIST_CAKE_TIN_STATS: [Note<'static>; 25] = [
     Note {
         kernel: "TCA_CAKE_TIN_STATS_PAD",
-        unit: Unit::Plain,
+        unit: "",
         names: 0,
     },
     Note {
         kernel: "TCA_CAKE_TIN_STATS_SENT_PACKETS",
-        unit: Unit::Packets,
+        unit: "packets",
         names: 0,
     },
     Note {
         kernel: "TCA_CAKE_TIN_STATS_SENT_BYTES64",
-        unit: Unit::Bytes,
+        unit: "bytes",
         names: 0,
     },
     Note {
         kernel: "TCA_CAKE_TIN_STATS_DROPPED_PACKETS",
-        unit: Unit::Packets,
+        unit: "packets",
         names: 0,
     },
     Note {
         kernel: "TCA_CAKE_TIN_STATS_DROPPED_BYTES64",
-        unit: Unit::Bytes,
+        unit: "bytes",
         names: 0,
     },
     Note {
         kernel: "TCA_CAKE_TIN_STATS_ACKS_DROPPED_PACKETS",
-        unit: Unit::Packets,
+        unit: "packets",
         names: 0,
     },
     Note {
         kernel: "TCA_CAKE_TIN_STATS_ACKS_DROPPED_BYTES64",
-        unit: Unit::Bytes,
+        unit: "bytes",
         names: 0,
     },
     Note {
         kernel: "TCA_CAKE_TIN_STATS_ECN_MARKED_PACKETS",
-        unit: Unit::Packets,
+        unit: "packets",
         names: 0,
     },
     Note {
         kernel: "TCA_CAKE_TIN_STATS_ECN_MARKED_BYTES64",
-        unit: Unit::Bytes,
+        unit: "bytes",
         names: 0,
     },
     Note {
         kernel: "TCA_CAKE_TIN_STATS_BACKLOG_PACKETS",
-        unit: Unit::Packets,
+        unit: "packets",
         names: 0,
     },
     Note {
         kernel: "TCA_CAKE_TIN_STATS_BACKLOG_BYTES",
-        unit: Unit::Bytes,
+        unit: "bytes",
         names: 0,
     },
     Note {
         kernel: "TCA_CAKE_TIN_STATS_THRESHOLD_RATE64",
-        unit: Unit::BytesPerSecond,
+        unit: "bytes a second",
         names: 0,
     },
     Note {
         kernel: "TCA_CAKE_TIN_STATS_TARGET_US",
-        unit: Unit::Microseconds,
+        unit: "microseconds",
         names: 0,
     },
     Note {
         kernel: "TCA_CAKE_TIN_STATS_INTERVAL_US",
-        unit: Unit::Microseconds,
+        unit: "microseconds",
         names: 0,
     },
     Note {
         kernel: "TCA_CAKE_TIN_STATS_WAY_INDIRECT_HITS",
-        unit: Unit::Plain,
+        unit: "",
         names: 0,
     },
     Note {
         kernel: "TCA_CAKE_TIN_STATS_WAY_MISSES",
-        unit: Unit::Plain,
+        unit: "",
         names: 0,
     },
     Note {
         kernel: "TCA_CAKE_TIN_STATS_WAY_COLLISIONS",
-        unit: Unit::Plain,
+        unit: "",
         names: 0,
     },
     Note {
         kernel: "TCA_CAKE_TIN_STATS_PEAK_DELAY_US",
-        unit: Unit::Microseconds,
+        unit: "microseconds",
         names: 0,
     },
     Note {
         kernel: "TCA_CAKE_TIN_STATS_AVG_DELAY_US",
-        unit: Unit::Microseconds,
+        unit: "microseconds",
         names: 0,
     },
     Note {
         kernel: "TCA_CAKE_TIN_STATS_BASE_DELAY_US",
-        unit: Unit::Microseconds,
+        unit: "microseconds",
         names: 0,
     },
     Note {
         kernel: "TCA_CAKE_TIN_STATS_SPARSE_FLOWS",
-        unit: Unit::Plain,
+        unit: "",
         names: 0,
     },
     Note {
         kernel: "TCA_CAKE_TIN_STATS_BULK_FLOWS",
-        unit: Unit::Plain,
+        unit: "",
         names: 0,
     },
     Note {
         kernel: "TCA_CAKE_TIN_STATS_UNRESPONSIVE_FLOWS",
-        unit: Unit::Plain,
+        unit: "",
         names: 0,
     },
     Note {
         kernel: "TCA_CAKE_TIN_STATS_MAX_SKBLEN",
-        unit: Unit::Bytes,
+        unit: "bytes",
         names: 0,
     },
     Note {
         kernel: "TCA_CAKE_TIN_STATS_FLOW_QUANTUM",
-        unit: Unit::Bytes,
+        unit: "bytes",
         names: 0,
     },
 ];
@@ -5240,27 +5240,27 @@ const LIST_CAKE_TIN_STATS: [Note<'static>; 25] = [
 const ENUM_CAKE_DIFFSERV: [Note<'static>; 5] = [
     Note {
         kernel: "CAKE_DIFFSERV_DIFFSERV3",
-        unit: Unit::Plain,
+        unit: "",
         names: 0,
     },
     Note {
         kernel: "CAKE_DIFFSERV_DIFFSERV4",
-        unit: Unit::Plain,
+        unit: "",
         names: 0,
     },
     Note {
         kernel: "CAKE_DIFFSERV_DIFFSERV8",
-        unit: Unit::Plain,
+        unit: "",
         names: 0,
     },
     Note {
         kernel: "CAKE_DIFFSERV_BESTEFFORT",
-        unit: Unit::Plain,
+        unit: "",
         names: 0,
     },
     Note {
         kernel: "CAKE_DIFFSERV_PRECEDENCE",
-        unit: Unit::Plain,
+        unit: "",
         names: 0,
     },
 ];
@@ -5269,17 +5269,17 @@ const ENUM_CAKE_DIFFSERV: [Note<'static>; 5] = [
 const ENUM_CAKE_ATM: [Note<'static>; 3] = [
     Note {
         kernel: "CAKE_ATM_NONE",
-        unit: Unit::Plain,
+        unit: "",
         names: 0,
     },
     Note {
         kernel: "CAKE_ATM_ATM",
-        unit: Unit::Plain,
+        unit: "",
         names: 0,
     },
     Note {
         kernel: "CAKE_ATM_PTM",
-        unit: Unit::Plain,
+        unit: "",
         names: 0,
     },
 ];
@@ -5288,42 +5288,42 @@ const ENUM_CAKE_ATM: [Note<'static>; 3] = [
 const ENUM_CAKE_FLOW: [Note<'static>; 8] = [
     Note {
         kernel: "CAKE_FLOW_NONE",
-        unit: Unit::Plain,
+        unit: "",
         names: 0,
     },
     Note {
         kernel: "CAKE_FLOW_SRC_IP",
-        unit: Unit::Plain,
+        unit: "",
         names: 0,
     },
     Note {
         kernel: "CAKE_FLOW_DST_IP",
-        unit: Unit::Plain,
+        unit: "",
         names: 0,
     },
     Note {
         kernel: "CAKE_FLOW_HOSTS",
-        unit: Unit::Plain,
+        unit: "",
         names: 0,
     },
     Note {
         kernel: "CAKE_FLOW_FLOWS",
-        unit: Unit::Plain,
+        unit: "",
         names: 0,
     },
     Note {
         kernel: "CAKE_FLOW_DUAL_SRC",
-        unit: Unit::Plain,
+        unit: "",
         names: 0,
     },
     Note {
         kernel: "CAKE_FLOW_DUAL_DST",
-        unit: Unit::Plain,
+        unit: "",
         names: 0,
     },
     Note {
         kernel: "CAKE_FLOW_TRIPLE",
-        unit: Unit::Plain,
+        unit: "",
         names: 0,
     },
 ];
@@ -5332,17 +5332,17 @@ const ENUM_CAKE_FLOW: [Note<'static>; 8] = [
 const ENUM_CAKE_ACK: [Note<'static>; 3] = [
     Note {
         kernel: "CAKE_ACK_NONE",
-        unit: Unit::Plain,
+        unit: "",
         names: 0,
     },
     Note {
         kernel: "CAKE_ACK_FILTER",
-        unit: Unit::Plain,
+        unit: "",
         names: 0,
     },
     Note {
         kernel: "CAKE_ACK_AGGRESSIVE",
-        unit: Unit::Plain,
+        unit: "",
         names: 0,
     },
 ];
@@ -5350,7 +5350,7 @@ const ENUM_CAKE_ACK: [Note<'static>; 3] = [
 // `list stats`
 const LIST_STATS_BY_KIND: [Note<'static>; 1] = [Note {
     kernel: "TCA_STATS_APP",
-    unit: Unit::Plain,
+    unit: "",
     names: 0,
 }];
 
@@ -5358,37 +5358,37 @@ const LIST_STATS_BY_KIND: [Note<'static>; 1] = [Note {
 const LIST_CBQ: [Note<'static>; 7] = [
     Note {
         kernel: "TCA_CBQ_LSSOPT",
-        unit: Unit::Plain,
+        unit: "",
         names: 0,
     },
     Note {
         kernel: "TCA_CBQ_WRROPT",
-        unit: Unit::Plain,
+        unit: "",
         names: 0,
     },
     Note {
         kernel: "TCA_CBQ_FOPT",
-        unit: Unit::Plain,
+        unit: "",
         names: 0,
     },
     Note {
         kernel: "TCA_CBQ_OVL_STRATEGY",
-        unit: Unit::Plain,
+        unit: "",
         names: 0,
     },
     Note {
         kernel: "TCA_CBQ_RATE",
-        unit: Unit::Plain,
+        unit: "",
         names: 0,
     },
     Note {
         kernel: "TCA_CBQ_RTAB",
-        unit: Unit::Plain,
+        unit: "",
         names: 0,
     },
     Note {
         kernel: "TCA_CBQ_POLICE",
-        unit: Unit::Plain,
+        unit: "",
         names: 0,
     },
 ];
@@ -5445,42 +5445,42 @@ const BITS_TCF_CBQ_LSS_FLAGS: [Named<'static>; 2] = [
 const STRUCT_TC_CBQ_LSSOPT: [Note<'static>; 8] = [
     Note {
         kernel: "",
-        unit: Unit::Plain,
+        unit: "",
         names: 27,
     },
     Note {
         kernel: "",
-        unit: Unit::Plain,
+        unit: "",
         names: 28,
     },
     Note {
         kernel: "",
-        unit: Unit::Plain,
+        unit: "",
         names: 0,
     },
     Note {
         kernel: "",
-        unit: Unit::Plain,
+        unit: "",
         names: 0,
     },
     Note {
         kernel: "",
-        unit: Unit::Plain,
+        unit: "",
         names: 0,
     },
     Note {
         kernel: "",
-        unit: Unit::Plain,
+        unit: "",
         names: 0,
     },
     Note {
         kernel: "",
-        unit: Unit::Plain,
+        unit: "",
         names: 0,
     },
     Note {
         kernel: "",
-        unit: Unit::Plain,
+        unit: "",
         names: 0,
     },
 ];
@@ -5488,7 +5488,7 @@ const STRUCT_TC_CBQ_LSSOPT: [Note<'static>; 8] = [
 // `list cbs`
 const LIST_CBS: [Note<'static>; 1] = [Note {
     kernel: "TCA_CBS_PARMS",
-    unit: Unit::Plain,
+    unit: "",
     names: 0,
 }];
 
@@ -5496,32 +5496,32 @@ const LIST_CBS: [Note<'static>; 1] = [Note {
 const STRUCT_TC_CBS_QOPT: [Note<'static>; 6] = [
     Note {
         kernel: "",
-        unit: Unit::Plain,
+        unit: "",
         names: 0,
     },
     Note {
         kernel: "",
-        unit: Unit::Plain,
+        unit: "",
         names: 0,
     },
     Note {
         kernel: "",
-        unit: Unit::Bytes,
+        unit: "bytes",
         names: 0,
     },
     Note {
         kernel: "",
-        unit: Unit::Bytes,
+        unit: "bytes",
         names: 0,
     },
     Note {
         kernel: "",
-        unit: Unit::KilobitsPerSecond,
+        unit: "1000 bits a second",
         names: 0,
     },
     Note {
         kernel: "",
-        unit: Unit::KilobitsPerSecond,
+        unit: "1000 bits a second",
         names: 0,
     },
 ];
@@ -5530,17 +5530,17 @@ const STRUCT_TC_CBS_QOPT: [Note<'static>; 6] = [
 const LIST_CHOKE: [Note<'static>; 3] = [
     Note {
         kernel: "TCA_CHOKE_PARMS",
-        unit: Unit::Plain,
+        unit: "",
         names: 0,
     },
     Note {
         kernel: "TCA_CHOKE_STAB",
-        unit: Unit::Plain,
+        unit: "",
         names: 0,
     },
     Note {
         kernel: "TCA_CHOKE_MAX_P",
-        unit: Unit::Probability,
+        unit: "probability, 2^-32 each",
         names: 0,
     },
 ];
@@ -5573,37 +5573,37 @@ const BITS_TC_RED: [Named<'static>; 4] = [
 const STRUCT_TC_RED_QOPT_PACKETS: [Note<'static>; 7] = [
     Note {
         kernel: "",
-        unit: Unit::Packets,
+        unit: "packets",
         names: 0,
     },
     Note {
         kernel: "",
-        unit: Unit::Packets,
+        unit: "packets",
         names: 0,
     },
     Note {
         kernel: "",
-        unit: Unit::Packets,
+        unit: "packets",
         names: 0,
     },
     Note {
         kernel: "",
-        unit: Unit::Power,
+        unit: "exponent of 2",
         names: 0,
     },
     Note {
         kernel: "",
-        unit: Unit::Power,
+        unit: "exponent of 2",
         names: 0,
     },
     Note {
         kernel: "",
-        unit: Unit::Power,
+        unit: "exponent of 2",
         names: 0,
     },
     Note {
         kernel: "",
-        unit: Unit::Plain,
+        unit: "",
         names: 29,
     },
 ];
@@ -5612,27 +5612,27 @@ const STRUCT_TC_RED_QOPT_PACKETS: [Note<'static>; 7] = [
 const LIST_CODEL: [Note<'static>; 5] = [
     Note {
         kernel: "TCA_CODEL_TARGET",
-        unit: Unit::Microseconds,
+        unit: "microseconds",
         names: 0,
     },
     Note {
         kernel: "TCA_CODEL_LIMIT",
-        unit: Unit::Packets,
+        unit: "packets",
         names: 0,
     },
     Note {
         kernel: "TCA_CODEL_INTERVAL",
-        unit: Unit::Microseconds,
+        unit: "microseconds",
         names: 0,
     },
     Note {
         kernel: "TCA_CODEL_ECN",
-        unit: Unit::Plain,
+        unit: "",
         names: 0,
     },
     Note {
         kernel: "TCA_CODEL_CE_THRESHOLD",
-        unit: Unit::Microseconds,
+        unit: "microseconds",
         names: 0,
     },
 ];
@@ -5641,47 +5641,47 @@ const LIST_CODEL: [Note<'static>; 5] = [
 const STRUCT_TC_CODEL_XSTATS: [Note<'static>; 9] = [
     Note {
         kernel: "",
-        unit: Unit::Plain,
+        unit: "",
         names: 0,
     },
     Note {
         kernel: "",
-        unit: Unit::Plain,
+        unit: "",
         names: 0,
     },
     Note {
         kernel: "",
-        unit: Unit::Plain,
+        unit: "",
         names: 0,
     },
     Note {
         kernel: "",
-        unit: Unit::Microseconds,
+        unit: "microseconds",
         names: 0,
     },
     Note {
         kernel: "",
-        unit: Unit::Microseconds,
+        unit: "microseconds",
         names: 0,
     },
     Note {
         kernel: "",
-        unit: Unit::Plain,
+        unit: "",
         names: 0,
     },
     Note {
         kernel: "",
-        unit: Unit::Plain,
+        unit: "",
         names: 0,
     },
     Note {
         kernel: "",
-        unit: Unit::Plain,
+        unit: "",
         names: 0,
     },
     Note {
         kernel: "",
-        unit: Unit::Plain,
+        unit: "",
         names: 0,
     },
 ];
@@ -5689,7 +5689,7 @@ const STRUCT_TC_CODEL_XSTATS: [Note<'static>; 9] = [
 // `list drr`
 const LIST_DRR: [Note<'static>; 1] = [Note {
     kernel: "TCA_DRR_QUANTUM",
-    unit: Unit::Bytes,
+    unit: "bytes",
     names: 0,
 }];
 
@@ -5697,27 +5697,27 @@ const LIST_DRR: [Note<'static>; 1] = [Note {
 const LIST_DSMARK: [Note<'static>; 5] = [
     Note {
         kernel: "TCA_DSMARK_INDICES",
-        unit: Unit::Plain,
+        unit: "",
         names: 0,
     },
     Note {
         kernel: "TCA_DSMARK_DEFAULT_INDEX",
-        unit: Unit::Plain,
+        unit: "",
         names: 0,
     },
     Note {
         kernel: "TCA_DSMARK_SET_TC_INDEX",
-        unit: Unit::Plain,
+        unit: "",
         names: 0,
     },
     Note {
         kernel: "TCA_DSMARK_MASK",
-        unit: Unit::Plain,
+        unit: "",
         names: 0,
     },
     Note {
         kernel: "TCA_DSMARK_VALUE",
-        unit: Unit::Plain,
+        unit: "",
         names: 0,
     },
 ];
@@ -5725,7 +5725,7 @@ const LIST_DSMARK: [Note<'static>; 5] = [
 // `list etf`
 const LIST_ETF: [Note<'static>; 1] = [Note {
     kernel: "TCA_ETF_PARMS",
-    unit: Unit::Plain,
+    unit: "",
     names: 0,
 }];
 
@@ -5752,17 +5752,17 @@ const BITS_TC_ETF: [Named<'static>; 3] = [
 const STRUCT_TC_ETF_QOPT: [Note<'static>; 3] = [
     Note {
         kernel: "",
-        unit: Unit::Nanoseconds,
+        unit: "nanoseconds",
         names: 0,
     },
     Note {
         kernel: "",
-        unit: Unit::Plain,
+        unit: "",
         names: 6,
     },
     Note {
         kernel: "",
-        unit: Unit::Plain,
+        unit: "",
         names: 30,
     },
 ];
@@ -5771,32 +5771,32 @@ const STRUCT_TC_ETF_QOPT: [Note<'static>; 3] = [
 const LIST_ETS: [Note<'static>; 6] = [
     Note {
         kernel: "TCA_ETS_NBANDS",
-        unit: Unit::Plain,
+        unit: "",
         names: 0,
     },
     Note {
         kernel: "TCA_ETS_NSTRICT",
-        unit: Unit::Plain,
+        unit: "",
         names: 0,
     },
     Note {
         kernel: "TCA_ETS_QUANTA",
-        unit: Unit::Plain,
+        unit: "",
         names: 0,
     },
     Note {
         kernel: "TCA_ETS_QUANTA_BAND",
-        unit: Unit::Bytes,
+        unit: "bytes",
         names: 0,
     },
     Note {
         kernel: "TCA_ETS_PRIOMAP",
-        unit: Unit::Plain,
+        unit: "",
         names: 0,
     },
     Note {
         kernel: "TCA_ETS_PRIOMAP_BAND",
-        unit: Unit::Plain,
+        unit: "",
         names: 0,
     },
 ];
@@ -5804,21 +5804,21 @@ const LIST_ETS: [Note<'static>; 6] = [
 // `list ets_quanta`
 const LIST_ETS_QUANTA: [Note<'static>; 1] = [Note {
     kernel: "TCA_ETS_QUANTA_BAND",
-    unit: Unit::Bytes,
+    unit: "bytes",
     names: 0,
 }];
 
 // `list ets_priomap`
 const LIST_ETS_PRIOMAP: [Note<'static>; 1] = [Note {
     kernel: "TCA_ETS_PRIOMAP_BAND",
-    unit: Unit::Plain,
+    unit: "",
     names: 0,
 }];
 
 // `struct tc_fifo_qopt`
 const STRUCT_TC_FIFO_QOPT: [Note<'static>; 1] = [Note {
     kernel: "",
-    unit: Unit::Bytes,
+    unit: "bytes",
     names: 0,
 }];
 
@@ -5826,87 +5826,87 @@ const STRUCT_TC_FIFO_QOPT: [Note<'static>; 1] = [Note {
 const LIST_FQ: [Note<'static>; 17] = [
     Note {
         kernel: "TCA_FQ_PLIMIT",
-        unit: Unit::Packets,
+        unit: "packets",
         names: 0,
     },
     Note {
         kernel: "TCA_FQ_FLOW_PLIMIT",
-        unit: Unit::Packets,
+        unit: "packets",
         names: 0,
     },
     Note {
         kernel: "TCA_FQ_QUANTUM",
-        unit: Unit::Bytes,
+        unit: "bytes",
         names: 0,
     },
     Note {
         kernel: "TCA_FQ_INITIAL_QUANTUM",
-        unit: Unit::Bytes,
+        unit: "bytes",
         names: 0,
     },
     Note {
         kernel: "TCA_FQ_RATE_ENABLE",
-        unit: Unit::Plain,
+        unit: "",
         names: 0,
     },
     Note {
         kernel: "TCA_FQ_FLOW_DEFAULT_RATE",
-        unit: Unit::BytesPerSecond,
+        unit: "bytes a second",
         names: 0,
     },
     Note {
         kernel: "TCA_FQ_FLOW_MAX_RATE",
-        unit: Unit::BytesPerSecond,
+        unit: "bytes a second",
         names: 0,
     },
     Note {
         kernel: "TCA_FQ_BUCKETS_LOG",
-        unit: Unit::Power,
+        unit: "exponent of 2",
         names: 0,
     },
     Note {
         kernel: "TCA_FQ_FLOW_REFILL_DELAY",
-        unit: Unit::Microseconds,
+        unit: "microseconds",
         names: 0,
     },
     Note {
         kernel: "TCA_FQ_ORPHAN_MASK",
-        unit: Unit::Plain,
+        unit: "",
         names: 0,
     },
     Note {
         kernel: "TCA_FQ_LOW_RATE_THRESHOLD",
-        unit: Unit::BytesPerSecond,
+        unit: "bytes a second",
         names: 0,
     },
     Note {
         kernel: "TCA_FQ_CE_THRESHOLD",
-        unit: Unit::Microseconds,
+        unit: "microseconds",
         names: 0,
     },
     Note {
         kernel: "TCA_FQ_TIMER_SLACK",
-        unit: Unit::Nanoseconds,
+        unit: "nanoseconds",
         names: 0,
     },
     Note {
         kernel: "TCA_FQ_HORIZON",
-        unit: Unit::Microseconds,
+        unit: "microseconds",
         names: 0,
     },
     Note {
         kernel: "TCA_FQ_HORIZON_DROP",
-        unit: Unit::Plain,
+        unit: "",
         names: 0,
     },
     Note {
         kernel: "TCA_FQ_PRIOMAP",
-        unit: Unit::Plain,
+        unit: "",
         names: 0,
     },
     Note {
         kernel: "TCA_FQ_WEIGHTS",
-        unit: Unit::Plain,
+        unit: "",
         names: 0,
     },
 ];
@@ -5915,82 +5915,82 @@ const LIST_FQ: [Note<'static>; 17] = [
 const STRUCT_TC_FQ_QD_STATS: [Note<'static>; 16] = [
     Note {
         kernel: "",
-        unit: Unit::Plain,
+        unit: "",
         names: 0,
     },
     Note {
         kernel: "",
-        unit: Unit::Plain,
+        unit: "",
         names: 0,
     },
     Note {
         kernel: "",
-        unit: Unit::Plain,
+        unit: "",
         names: 0,
     },
     Note {
         kernel: "",
-        unit: Unit::Plain,
+        unit: "",
         names: 0,
     },
     Note {
         kernel: "",
-        unit: Unit::Plain,
+        unit: "",
         names: 0,
     },
     Note {
         kernel: "",
-        unit: Unit::Plain,
+        unit: "",
         names: 0,
     },
     Note {
         kernel: "",
-        unit: Unit::Plain,
+        unit: "",
         names: 0,
     },
     Note {
         kernel: "",
-        unit: Unit::Nanoseconds,
+        unit: "nanoseconds",
         names: 0,
     },
     Note {
         kernel: "",
-        unit: Unit::Plain,
+        unit: "",
         names: 0,
     },
     Note {
         kernel: "",
-        unit: Unit::Plain,
+        unit: "",
         names: 0,
     },
     Note {
         kernel: "",
-        unit: Unit::Plain,
+        unit: "",
         names: 0,
     },
     Note {
         kernel: "",
-        unit: Unit::Nanoseconds,
+        unit: "nanoseconds",
         names: 0,
     },
     Note {
         kernel: "",
-        unit: Unit::Plain,
+        unit: "",
         names: 0,
     },
     Note {
         kernel: "",
-        unit: Unit::Plain,
+        unit: "",
         names: 0,
     },
     Note {
         kernel: "",
-        unit: Unit::Plain,
+        unit: "",
         names: 0,
     },
     Note {
         kernel: "",
-        unit: Unit::Plain,
+        unit: "",
         names: 0,
     },
 ];
@@ -5999,57 +5999,57 @@ const STRUCT_TC_FQ_QD_STATS: [Note<'static>; 16] = [
 const LIST_FQ_CODEL: [Note<'static>; 11] = [
     Note {
         kernel: "TCA_FQ_CODEL_TARGET",
-        unit: Unit::Microseconds,
+        unit: "microseconds",
         names: 0,
     },
     Note {
         kernel: "TCA_FQ_CODEL_LIMIT",
-        unit: Unit::Packets,
+        unit: "packets",
         names: 0,
     },
     Note {
         kernel: "TCA_FQ_CODEL_INTERVAL",
-        unit: Unit::Microseconds,
+        unit: "microseconds",
         names: 0,
     },
     Note {
         kernel: "TCA_FQ_CODEL_ECN",
-        unit: Unit::Plain,
+        unit: "",
         names: 0,
     },
     Note {
         kernel: "TCA_FQ_CODEL_FLOWS",
-        unit: Unit::Plain,
+        unit: "",
         names: 0,
     },
     Note {
         kernel: "TCA_FQ_CODEL_QUANTUM",
-        unit: Unit::Bytes,
+        unit: "bytes",
         names: 0,
     },
     Note {
         kernel: "TCA_FQ_CODEL_CE_THRESHOLD",
-        unit: Unit::Microseconds,
+        unit: "microseconds",
         names: 0,
     },
     Note {
         kernel: "TCA_FQ_CODEL_DROP_BATCH_SIZE",
-        unit: Unit::Packets,
+        unit: "packets",
         names: 0,
     },
     Note {
         kernel: "TCA_FQ_CODEL_MEMORY_LIMIT",
-        unit: Unit::Bytes,
+        unit: "bytes",
         names: 0,
     },
     Note {
         kernel: "TCA_FQ_CODEL_CE_THRESHOLD_SELECTOR",
-        unit: Unit::Plain,
+        unit: "",
         names: 0,
     },
     Note {
         kernel: "TCA_FQ_CODEL_CE_THRESHOLD_MASK",
-        unit: Unit::Plain,
+        unit: "",
         names: 0,
     },
 ];
@@ -6058,47 +6058,47 @@ const LIST_FQ_CODEL: [Note<'static>; 11] = [
 const STRUCT_TC_FQ_CODEL_QD_STATS: [Note<'static>; 9] = [
     Note {
         kernel: "",
-        unit: Unit::Bytes,
+        unit: "bytes",
         names: 0,
     },
     Note {
         kernel: "",
-        unit: Unit::Packets,
+        unit: "packets",
         names: 0,
     },
     Note {
         kernel: "",
-        unit: Unit::Packets,
+        unit: "packets",
         names: 0,
     },
     Note {
         kernel: "",
-        unit: Unit::Plain,
+        unit: "",
         names: 0,
     },
     Note {
         kernel: "",
-        unit: Unit::Plain,
+        unit: "",
         names: 0,
     },
     Note {
         kernel: "",
-        unit: Unit::Plain,
+        unit: "",
         names: 0,
     },
     Note {
         kernel: "",
-        unit: Unit::Packets,
+        unit: "packets",
         names: 0,
     },
     Note {
         kernel: "",
-        unit: Unit::Bytes,
+        unit: "bytes",
         names: 0,
     },
     Note {
         kernel: "",
-        unit: Unit::Packets,
+        unit: "packets",
         names: 0,
     },
 ];
@@ -6107,32 +6107,32 @@ const STRUCT_TC_FQ_CODEL_QD_STATS: [Note<'static>; 9] = [
 const STRUCT_TC_FQ_CODEL_CL_STATS: [Note<'static>; 6] = [
     Note {
         kernel: "",
-        unit: Unit::Bytes,
+        unit: "bytes",
         names: 0,
     },
     Note {
         kernel: "",
-        unit: Unit::Microseconds,
+        unit: "microseconds",
         names: 0,
     },
     Note {
         kernel: "",
-        unit: Unit::Plain,
+        unit: "",
         names: 0,
     },
     Note {
         kernel: "",
-        unit: Unit::Plain,
+        unit: "",
         names: 0,
     },
     Note {
         kernel: "",
-        unit: Unit::Plain,
+        unit: "",
         names: 0,
     },
     Note {
         kernel: "",
-        unit: Unit::Microseconds,
+        unit: "microseconds",
         names: 0,
     },
 ];
@@ -6141,62 +6141,62 @@ const STRUCT_TC_FQ_CODEL_CL_STATS: [Note<'static>; 6] = [
 const LIST_FQ_PIE: [Note<'static>; 12] = [
     Note {
         kernel: "TCA_FQ_PIE_LIMIT",
-        unit: Unit::Packets,
+        unit: "packets",
         names: 0,
     },
     Note {
         kernel: "TCA_FQ_PIE_FLOWS",
-        unit: Unit::Plain,
+        unit: "",
         names: 0,
     },
     Note {
         kernel: "TCA_FQ_PIE_TARGET",
-        unit: Unit::Microseconds,
+        unit: "microseconds",
         names: 0,
     },
     Note {
         kernel: "TCA_FQ_PIE_TUPDATE",
-        unit: Unit::Microseconds,
+        unit: "microseconds",
         names: 0,
     },
     Note {
         kernel: "TCA_FQ_PIE_ALPHA",
-        unit: Unit::Plain,
+        unit: "",
         names: 0,
     },
     Note {
         kernel: "TCA_FQ_PIE_BETA",
-        unit: Unit::Plain,
+        unit: "",
         names: 0,
     },
     Note {
         kernel: "TCA_FQ_PIE_QUANTUM",
-        unit: Unit::Bytes,
+        unit: "bytes",
         names: 0,
     },
     Note {
         kernel: "TCA_FQ_PIE_MEMORY_LIMIT",
-        unit: Unit::Bytes,
+        unit: "bytes",
         names: 0,
     },
     Note {
         kernel: "TCA_FQ_PIE_ECN_PROB",
-        unit: Unit::Percent,
+        unit: "percent",
         names: 0,
     },
     Note {
         kernel: "TCA_FQ_PIE_ECN",
-        unit: Unit::Plain,
+        unit: "",
         names: 0,
     },
     Note {
         kernel: "TCA_FQ_PIE_BYTEMODE",
-        unit: Unit::Plain,
+        unit: "",
         names: 0,
     },
     Note {
         kernel: "TCA_FQ_PIE_DQ_RATE_ESTIMATOR",
-        unit: Unit::Plain,
+        unit: "",
         names: 0,
     },
 ];
@@ -6205,32 +6205,32 @@ const LIST_FQ_PIE: [Note<'static>; 12] = [
 const LIST_GRED: [Note<'static>; 6] = [
     Note {
         kernel: "TCA_GRED_PARMS",
-        unit: Unit::Plain,
+        unit: "",
         names: 0,
     },
     Note {
         kernel: "TCA_GRED_STAB",
-        unit: Unit::Plain,
+        unit: "",
         names: 0,
     },
     Note {
         kernel: "TCA_GRED_DPS",
-        unit: Unit::Plain,
+        unit: "",
         names: 0,
     },
     Note {
         kernel: "TCA_GRED_MAX_P",
-        unit: Unit::Probability,
+        unit: "probability, 2^-32 each",
         names: 0,
     },
     Note {
         kernel: "TCA_GRED_LIMIT",
-        unit: Unit::Bytes,
+        unit: "bytes",
         names: 0,
     },
     Note {
         kernel: "TCA_GRED_VQ_LIST",
-        unit: Unit::Plain,
+        unit: "",
         names: 0,
     },
 ];
@@ -6239,82 +6239,82 @@ const LIST_GRED: [Note<'static>; 6] = [
 const STRUCT_TC_GRED_QOPT: [Note<'static>; 16] = [
     Note {
         kernel: "",
-        unit: Unit::Bytes,
+        unit: "bytes",
         names: 0,
     },
     Note {
         kernel: "",
-        unit: Unit::Bytes,
+        unit: "bytes",
         names: 0,
     },
     Note {
         kernel: "",
-        unit: Unit::Bytes,
+        unit: "bytes",
         names: 0,
     },
     Note {
         kernel: "",
-        unit: Unit::Plain,
+        unit: "",
         names: 0,
     },
     Note {
         kernel: "",
-        unit: Unit::Bytes,
+        unit: "bytes",
         names: 0,
     },
     Note {
         kernel: "",
-        unit: Unit::Bytes,
+        unit: "bytes",
         names: 0,
     },
     Note {
         kernel: "",
-        unit: Unit::Packets,
+        unit: "packets",
         names: 0,
     },
     Note {
         kernel: "",
-        unit: Unit::Packets,
+        unit: "packets",
         names: 0,
     },
     Note {
         kernel: "",
-        unit: Unit::Packets,
+        unit: "packets",
         names: 0,
     },
     Note {
         kernel: "",
-        unit: Unit::Packets,
+        unit: "packets",
         names: 0,
     },
     Note {
         kernel: "",
-        unit: Unit::Power,
+        unit: "exponent of 2",
         names: 0,
     },
     Note {
         kernel: "",
-        unit: Unit::Power,
+        unit: "exponent of 2",
         names: 0,
     },
     Note {
         kernel: "",
-        unit: Unit::Power,
+        unit: "exponent of 2",
         names: 0,
     },
     Note {
         kernel: "",
-        unit: Unit::Plain,
+        unit: "",
         names: 0,
     },
     Note {
         kernel: "",
-        unit: Unit::Packets,
+        unit: "packets",
         names: 0,
     },
     Note {
         kernel: "",
-        unit: Unit::Bytes,
+        unit: "bytes",
         names: 0,
     },
 ];
@@ -6323,27 +6323,27 @@ const STRUCT_TC_GRED_QOPT: [Note<'static>; 16] = [
 const STRUCT_TC_GRED_SOPT: [Note<'static>; 5] = [
     Note {
         kernel: "",
-        unit: Unit::Plain,
+        unit: "",
         names: 0,
     },
     Note {
         kernel: "",
-        unit: Unit::Plain,
+        unit: "",
         names: 0,
     },
     Note {
         kernel: "",
-        unit: Unit::Plain,
+        unit: "",
         names: 0,
     },
     Note {
         kernel: "",
-        unit: Unit::Plain,
+        unit: "",
         names: 29,
     },
     Note {
         kernel: "",
-        unit: Unit::Plain,
+        unit: "",
         names: 0,
     },
 ];
@@ -6351,7 +6351,7 @@ const STRUCT_TC_GRED_SOPT: [Note<'static>; 5] = [
 // `list gred_vq_list`
 const LIST_GRED_VQ_LIST: [Note<'static>; 1] = [Note {
     kernel: "TCA_GRED_VQ_ENTRY",
-    unit: Unit::Plain,
+    unit: "",
     names: 0,
 }];
 
@@ -6359,62 +6359,62 @@ const LIST_GRED_VQ_LIST: [Note<'static>; 1] = [Note {
 const LIST_GRED_VQ: [Note<'static>; 12] = [
     Note {
         kernel: "TCA_GRED_VQ_PAD",
-        unit: Unit::Plain,
+        unit: "",
         names: 0,
     },
     Note {
         kernel: "TCA_GRED_VQ_DP",
-        unit: Unit::Plain,
+        unit: "",
         names: 0,
     },
     Note {
         kernel: "TCA_GRED_VQ_STAT_BYTES",
-        unit: Unit::Bytes,
+        unit: "bytes",
         names: 0,
     },
     Note {
         kernel: "TCA_GRED_VQ_STAT_PACKETS",
-        unit: Unit::Packets,
+        unit: "packets",
         names: 0,
     },
     Note {
         kernel: "TCA_GRED_VQ_STAT_BACKLOG",
-        unit: Unit::Bytes,
+        unit: "bytes",
         names: 0,
     },
     Note {
         kernel: "TCA_GRED_VQ_STAT_PROB_DROP",
-        unit: Unit::Packets,
+        unit: "packets",
         names: 0,
     },
     Note {
         kernel: "TCA_GRED_VQ_STAT_PROB_MARK",
-        unit: Unit::Packets,
+        unit: "packets",
         names: 0,
     },
     Note {
         kernel: "TCA_GRED_VQ_STAT_FORCED_DROP",
-        unit: Unit::Packets,
+        unit: "packets",
         names: 0,
     },
     Note {
         kernel: "TCA_GRED_VQ_STAT_FORCED_MARK",
-        unit: Unit::Packets,
+        unit: "packets",
         names: 0,
     },
     Note {
         kernel: "TCA_GRED_VQ_STAT_PDROP",
-        unit: Unit::Packets,
+        unit: "packets",
         names: 0,
     },
     Note {
         kernel: "TCA_GRED_VQ_STAT_OTHER",
-        unit: Unit::Packets,
+        unit: "packets",
         names: 0,
     },
     Note {
         kernel: "TCA_GRED_VQ_FLAGS",
-        unit: Unit::Plain,
+        unit: "",
         names: 29,
     },
 ];
@@ -6423,17 +6423,17 @@ const LIST_GRED_VQ: [Note<'static>; 12] = [
 const LIST_HFSC: [Note<'static>; 3] = [
     Note {
         kernel: "TCA_HFSC_RSC",
-        unit: Unit::Plain,
+        unit: "",
         names: 0,
     },
     Note {
         kernel: "TCA_HFSC_FSC",
-        unit: Unit::Plain,
+        unit: "",
         names: 0,
     },
     Note {
         kernel: "TCA_HFSC_USC",
-        unit: Unit::Plain,
+        unit: "",
         names: 0,
     },
 ];
@@ -6442,17 +6442,17 @@ const LIST_HFSC: [Note<'static>; 3] = [
 const STRUCT_TC_SERVICE_CURVE: [Note<'static>; 3] = [
     Note {
         kernel: "",
-        unit: Unit::BytesPerSecond,
+        unit: "bytes a second",
         names: 0,
     },
     Note {
         kernel: "",
-        unit: Unit::Microseconds,
+        unit: "microseconds",
         names: 0,
     },
     Note {
         kernel: "",
-        unit: Unit::BytesPerSecond,
+        unit: "bytes a second",
         names: 0,
     },
 ];
@@ -6461,22 +6461,22 @@ const STRUCT_TC_SERVICE_CURVE: [Note<'static>; 3] = [
 const STRUCT_TC_HFSC_STATS: [Note<'static>; 4] = [
     Note {
         kernel: "",
-        unit: Unit::Bytes,
+        unit: "bytes",
         names: 0,
     },
     Note {
         kernel: "",
-        unit: Unit::Bytes,
+        unit: "bytes",
         names: 0,
     },
     Note {
         kernel: "",
-        unit: Unit::Plain,
+        unit: "",
         names: 0,
     },
     Note {
         kernel: "",
-        unit: Unit::Plain,
+        unit: "",
         names: 0,
     },
 ];
@@ -6485,37 +6485,37 @@ const STRUCT_TC_HFSC_STATS: [Note<'static>; 4] = [
 const LIST_HHF: [Note<'static>; 7] = [
     Note {
         kernel: "TCA_HHF_BACKLOG_LIMIT",
-        unit: Unit::Packets,
+        unit: "packets",
         names: 0,
     },
     Note {
         kernel: "TCA_HHF_QUANTUM",
-        unit: Unit::Bytes,
+        unit: "bytes",
         names: 0,
     },
     Note {
         kernel: "TCA_HHF_HH_FLOWS_LIMIT",
-        unit: Unit::Plain,
+        unit: "",
         names: 0,
     },
     Note {
         kernel: "TCA_HHF_RESET_TIMEOUT",
-        unit: Unit::Microseconds,
+        unit: "microseconds",
         names: 0,
     },
     Note {
         kernel: "TCA_HHF_ADMIT_BYTES",
-        unit: Unit::Bytes,
+        unit: "bytes",
         names: 0,
     },
     Note {
         kernel: "TCA_HHF_EVICT_TIMEOUT",
-        unit: Unit::Microseconds,
+        unit: "microseconds",
         names: 0,
     },
     Note {
         kernel: "TCA_HHF_NON_HH_WEIGHT",
-        unit: Unit::Plain,
+        unit: "",
         names: 0,
     },
 ];
@@ -6524,47 +6524,47 @@ const LIST_HHF: [Note<'static>; 7] = [
 const LIST_HTB: [Note<'static>; 9] = [
     Note {
         kernel: "TCA_HTB_PARMS",
-        unit: Unit::Plain,
+        unit: "",
         names: 0,
     },
     Note {
         kernel: "TCA_HTB_INIT",
-        unit: Unit::Plain,
+        unit: "",
         names: 0,
     },
     Note {
         kernel: "TCA_HTB_CTAB",
-        unit: Unit::Plain,
+        unit: "",
         names: 0,
     },
     Note {
         kernel: "TCA_HTB_RTAB",
-        unit: Unit::Plain,
+        unit: "",
         names: 0,
     },
     Note {
         kernel: "TCA_HTB_DIRECT_QLEN",
-        unit: Unit::Packets,
+        unit: "packets",
         names: 0,
     },
     Note {
         kernel: "TCA_HTB_RATE64",
-        unit: Unit::BytesPerSecond,
+        unit: "bytes a second",
         names: 0,
     },
     Note {
         kernel: "TCA_HTB_CEIL64",
-        unit: Unit::BytesPerSecond,
+        unit: "bytes a second",
         names: 0,
     },
     Note {
         kernel: "TCA_HTB_PAD",
-        unit: Unit::Plain,
+        unit: "",
         names: 0,
     },
     Note {
         kernel: "TCA_HTB_OFFLOAD",
-        unit: Unit::Plain,
+        unit: "",
         names: 0,
     },
 ];
@@ -6573,27 +6573,27 @@ const LIST_HTB: [Note<'static>; 9] = [
 const STRUCT_TC_HTB_XSTATS: [Note<'static>; 5] = [
     Note {
         kernel: "",
-        unit: Unit::Plain,
+        unit: "",
         names: 0,
     },
     Note {
         kernel: "",
-        unit: Unit::Plain,
+        unit: "",
         names: 0,
     },
     Note {
         kernel: "",
-        unit: Unit::Plain,
+        unit: "",
         names: 0,
     },
     Note {
         kernel: "",
-        unit: Unit::Ticks,
+        unit: "ticks of 64 ns",
         names: 0,
     },
     Note {
         kernel: "",
-        unit: Unit::Ticks,
+        unit: "ticks of 64 ns",
         names: 0,
     },
 ];
@@ -6602,37 +6602,37 @@ const STRUCT_TC_HTB_XSTATS: [Note<'static>; 5] = [
 const STRUCT_TC_HTB_OPT: [Note<'static>; 7] = [
     Note {
         kernel: "",
-        unit: Unit::Plain,
+        unit: "",
         names: 0,
     },
     Note {
         kernel: "",
-        unit: Unit::Plain,
+        unit: "",
         names: 0,
     },
     Note {
         kernel: "",
-        unit: Unit::Ticks,
+        unit: "ticks of 64 ns",
         names: 0,
     },
     Note {
         kernel: "",
-        unit: Unit::Ticks,
+        unit: "ticks of 64 ns",
         names: 0,
     },
     Note {
         kernel: "",
-        unit: Unit::Bytes,
+        unit: "bytes",
         names: 0,
     },
     Note {
         kernel: "",
-        unit: Unit::Plain,
+        unit: "",
         names: 0,
     },
     Note {
         kernel: "",
-        unit: Unit::Plain,
+        unit: "",
         names: 0,
     },
 ];
@@ -6641,27 +6641,27 @@ const STRUCT_TC_HTB_OPT: [Note<'static>; 7] = [
 const LIST_MQPRIO: [Note<'static>; 5] = [
     Note {
         kernel: "TCA_MQPRIO_MODE",
-        unit: Unit::Plain,
+        unit: "",
         names: 0,
     },
     Note {
         kernel: "TCA_MQPRIO_SHAPER",
-        unit: Unit::Plain,
+        unit: "",
         names: 0,
     },
     Note {
         kernel: "TCA_MQPRIO_MIN_RATE64",
-        unit: Unit::Plain,
+        unit: "",
         names: 0,
     },
     Note {
         kernel: "TCA_MQPRIO_MAX_RATE64",
-        unit: Unit::Plain,
+        unit: "",
         names: 0,
     },
     Note {
         kernel: "TCA_MQPRIO_TC_ENTRY",
-        unit: Unit::Plain,
+        unit: "",
         names: 0,
     },
 ];
@@ -6670,12 +6670,12 @@ const LIST_MQPRIO: [Note<'static>; 5] = [
 const ENUM_TC_MQPRIO_MODE: [Note<'static>; 2] = [
     Note {
         kernel: "TC_MQPRIO_MODE_DCB",
-        unit: Unit::Plain,
+        unit: "",
         names: 0,
     },
     Note {
         kernel: "TC_MQPRIO_MODE_CHANNEL",
-        unit: Unit::Plain,
+        unit: "",
         names: 0,
     },
 ];
@@ -6684,12 +6684,12 @@ const ENUM_TC_MQPRIO_MODE: [Note<'static>; 2] = [
 const ENUM_TC_MQPRIO_SHAPER: [Note<'static>; 2] = [
     Note {
         kernel: "TC_MQPRIO_SHAPER_DCB",
-        unit: Unit::Plain,
+        unit: "",
         names: 0,
     },
     Note {
         kernel: "TC_MQPRIO_SHAPER_BW_RATE",
-        unit: Unit::Plain,
+        unit: "",
         names: 0,
     },
 ];
@@ -6697,14 +6697,14 @@ const ENUM_TC_MQPRIO_SHAPER: [Note<'static>; 2] = [
 // `list mqprio_min_rate`
 const LIST_MQPRIO_MIN_RATE: [Note<'static>; 1] = [Note {
     kernel: "TCA_MQPRIO_MIN_RATE64",
-    unit: Unit::BytesPerSecond,
+    unit: "bytes a second",
     names: 0,
 }];
 
 // `list mqprio_max_rate`
 const LIST_MQPRIO_MAX_RATE: [Note<'static>; 1] = [Note {
     kernel: "TCA_MQPRIO_MAX_RATE64",
-    unit: Unit::BytesPerSecond,
+    unit: "bytes a second",
     names: 0,
 }];
 
@@ -6712,12 +6712,12 @@ const LIST_MQPRIO_MAX_RATE: [Note<'static>; 1] = [Note {
 const LIST_MQPRIO_TC_ENTRY: [Note<'static>; 2] = [
     Note {
         kernel: "TCA_MQPRIO_TC_ENTRY_INDEX",
-        unit: Unit::Plain,
+        unit: "",
         names: 0,
     },
     Note {
         kernel: "TCA_MQPRIO_TC_ENTRY_FP",
-        unit: Unit::Plain,
+        unit: "",
         names: 0,
     },
 ];
@@ -6726,37 +6726,37 @@ const LIST_MQPRIO_TC_ENTRY: [Note<'static>; 2] = [
 const STRUCT_TC_NETEM_QOPT: [Note<'static>; 7] = [
     Note {
         kernel: "",
-        unit: Unit::Ticks,
+        unit: "ticks of 64 ns",
         names: 0,
     },
     Note {
         kernel: "",
-        unit: Unit::Packets,
+        unit: "packets",
         names: 0,
     },
     Note {
         kernel: "",
-        unit: Unit::Probability,
+        unit: "probability, 2^-32 each",
         names: 0,
     },
     Note {
         kernel: "",
-        unit: Unit::Packets,
+        unit: "packets",
         names: 0,
     },
     Note {
         kernel: "",
-        unit: Unit::Probability,
+        unit: "probability, 2^-32 each",
         names: 0,
     },
     Note {
         kernel: "",
-        unit: Unit::Ticks,
+        unit: "ticks of 64 ns",
         names: 0,
     },
     Note {
         kernel: "",
-        unit: Unit::Plain,
+        unit: "",
         names: 0,
     },
 ];
@@ -6765,72 +6765,72 @@ const STRUCT_TC_NETEM_QOPT: [Note<'static>; 7] = [
 const LIST_NETEM: [Note<'static>; 14] = [
     Note {
         kernel: "TCA_NETEM_CORR",
-        unit: Unit::Plain,
+        unit: "",
         names: 0,
     },
     Note {
         kernel: "TCA_NETEM_DELAY_DIST",
-        unit: Unit::Plain,
+        unit: "",
         names: 0,
     },
     Note {
         kernel: "TCA_NETEM_REORDER",
-        unit: Unit::Plain,
+        unit: "",
         names: 0,
     },
     Note {
         kernel: "TCA_NETEM_CORRUPT",
-        unit: Unit::Plain,
+        unit: "",
         names: 0,
     },
     Note {
         kernel: "TCA_NETEM_LOSS",
-        unit: Unit::Plain,
+        unit: "",
         names: 0,
     },
     Note {
         kernel: "TCA_NETEM_RATE",
-        unit: Unit::Plain,
+        unit: "",
         names: 0,
     },
     Note {
         kernel: "TCA_NETEM_ECN",
-        unit: Unit::Plain,
+        unit: "",
         names: 0,
     },
     Note {
         kernel: "TCA_NETEM_RATE64",
-        unit: Unit::BytesPerSecond,
+        unit: "bytes a second",
         names: 0,
     },
     Note {
         kernel: "TCA_NETEM_PAD",
-        unit: Unit::Plain,
+        unit: "",
         names: 0,
     },
     Note {
         kernel: "TCA_NETEM_LATENCY64",
-        unit: Unit::Nanoseconds,
+        unit: "nanoseconds",
         names: 0,
     },
     Note {
         kernel: "TCA_NETEM_JITTER64",
-        unit: Unit::Nanoseconds,
+        unit: "nanoseconds",
         names: 0,
     },
     Note {
         kernel: "TCA_NETEM_SLOT",
-        unit: Unit::Plain,
+        unit: "",
         names: 0,
     },
     Note {
         kernel: "TCA_NETEM_SLOT_DIST",
-        unit: Unit::Plain,
+        unit: "",
         names: 0,
     },
     Note {
         kernel: "TCA_NETEM_PRNG_SEED",
-        unit: Unit::Plain,
+        unit: "",
         names: 0,
     },
 ];
@@ -6839,17 +6839,17 @@ const LIST_NETEM: [Note<'static>; 14] = [
 const STRUCT_TC_NETEM_CORR: [Note<'static>; 3] = [
     Note {
         kernel: "",
-        unit: Unit::Probability,
+        unit: "probability, 2^-32 each",
         names: 0,
     },
     Note {
         kernel: "",
-        unit: Unit::Probability,
+        unit: "probability, 2^-32 each",
         names: 0,
     },
     Note {
         kernel: "",
-        unit: Unit::Probability,
+        unit: "probability, 2^-32 each",
         names: 0,
     },
 ];
@@ -6858,12 +6858,12 @@ const STRUCT_TC_NETEM_CORR: [Note<'static>; 3] = [
 const STRUCT_TC_NETEM_REORDER: [Note<'static>; 2] = [
     Note {
         kernel: "",
-        unit: Unit::Probability,
+        unit: "probability, 2^-32 each",
         names: 0,
     },
     Note {
         kernel: "",
-        unit: Unit::Probability,
+        unit: "probability, 2^-32 each",
         names: 0,
     },
 ];
@@ -6872,12 +6872,12 @@ const STRUCT_TC_NETEM_REORDER: [Note<'static>; 2] = [
 const LIST_NETEM_LOSS: [Note<'static>; 2] = [
     Note {
         kernel: "NETEM_LOSS_GI",
-        unit: Unit::Plain,
+        unit: "",
         names: 0,
     },
     Note {
         kernel: "NETEM_LOSS_GE",
-        unit: Unit::Plain,
+        unit: "",
         names: 0,
     },
 ];
@@ -6886,27 +6886,27 @@ const LIST_NETEM_LOSS: [Note<'static>; 2] = [
 const STRUCT_TC_NETEM_GIMODEL: [Note<'static>; 5] = [
     Note {
         kernel: "",
-        unit: Unit::Probability,
+        unit: "probability, 2^-32 each",
         names: 0,
     },
     Note {
         kernel: "",
-        unit: Unit::Probability,
+        unit: "probability, 2^-32 each",
         names: 0,
     },
     Note {
         kernel: "",
-        unit: Unit::Probability,
+        unit: "probability, 2^-32 each",
         names: 0,
     },
     Note {
         kernel: "",
-        unit: Unit::Probability,
+        unit: "probability, 2^-32 each",
         names: 0,
     },
     Note {
         kernel: "",
-        unit: Unit::Probability,
+        unit: "probability, 2^-32 each",
         names: 0,
     },
 ];
@@ -6915,22 +6915,22 @@ const STRUCT_TC_NETEM_GIMODEL: [Note<'static>; 5] = [
 const STRUCT_TC_NETEM_GEMODEL: [Note<'static>; 4] = [
     Note {
         kernel: "",
-        unit: Unit::Probability,
+        unit: "probability, 2^-32 each",
         names: 0,
     },
     Note {
         kernel: "",
-        unit: Unit::Probability,
+        unit: "probability, 2^-32 each",
         names: 0,
     },
     Note {
         kernel: "",
-        unit: Unit::Probability,
+        unit: "probability, 2^-32 each",
         names: 0,
     },
     Note {
         kernel: "",
-        unit: Unit::Probability,
+        unit: "probability, 2^-32 each",
         names: 0,
     },
 ];
@@ -6939,22 +6939,22 @@ const STRUCT_TC_NETEM_GEMODEL: [Note<'static>; 4] = [
 const STRUCT_TC_NETEM_RATE: [Note<'static>; 4] = [
     Note {
         kernel: "",
-        unit: Unit::BytesPerSecond,
+        unit: "bytes a second",
         names: 0,
     },
     Note {
         kernel: "",
-        unit: Unit::Bytes,
+        unit: "bytes",
         names: 0,
     },
     Note {
         kernel: "",
-        unit: Unit::Bytes,
+        unit: "bytes",
         names: 0,
     },
     Note {
         kernel: "",
-        unit: Unit::Bytes,
+        unit: "bytes",
         names: 0,
     },
 ];
@@ -6963,32 +6963,32 @@ const STRUCT_TC_NETEM_RATE: [Note<'static>; 4] = [
 const STRUCT_TC_NETEM_SLOT: [Note<'static>; 6] = [
     Note {
         kernel: "",
-        unit: Unit::Nanoseconds,
+        unit: "nanoseconds",
         names: 0,
     },
     Note {
         kernel: "",
-        unit: Unit::Nanoseconds,
+        unit: "nanoseconds",
         names: 0,
     },
     Note {
         kernel: "",
-        unit: Unit::Packets,
+        unit: "packets",
         names: 0,
     },
     Note {
         kernel: "",
-        unit: Unit::Bytes,
+        unit: "bytes",
         names: 0,
     },
     Note {
         kernel: "",
-        unit: Unit::Nanoseconds,
+        unit: "nanoseconds",
         names: 0,
     },
     Note {
         kernel: "",
-        unit: Unit::Nanoseconds,
+        unit: "nanoseconds",
         names: 0,
     },
 ];
@@ -6997,42 +6997,42 @@ const STRUCT_TC_NETEM_SLOT: [Note<'static>; 6] = [
 const LIST_PIE: [Note<'static>; 8] = [
     Note {
         kernel: "TCA_PIE_TARGET",
-        unit: Unit::Microseconds,
+        unit: "microseconds",
         names: 0,
     },
     Note {
         kernel: "TCA_PIE_LIMIT",
-        unit: Unit::Packets,
+        unit: "packets",
         names: 0,
     },
     Note {
         kernel: "TCA_PIE_TUPDATE",
-        unit: Unit::Microseconds,
+        unit: "microseconds",
         names: 0,
     },
     Note {
         kernel: "TCA_PIE_ALPHA",
-        unit: Unit::Plain,
+        unit: "",
         names: 0,
     },
     Note {
         kernel: "TCA_PIE_BETA",
-        unit: Unit::Plain,
+        unit: "",
         names: 0,
     },
     Note {
         kernel: "TCA_PIE_ECN",
-        unit: Unit::Plain,
+        unit: "",
         names: 0,
     },
     Note {
         kernel: "TCA_PIE_BYTEMODE",
-        unit: Unit::Plain,
+        unit: "",
         names: 0,
     },
     Note {
         kernel: "TCA_PIE_DQ_RATE_ESTIMATOR",
-        unit: Unit::Plain,
+        unit: "",
         names: 0,
     },
 ];
@@ -7041,47 +7041,47 @@ const LIST_PIE: [Note<'static>; 8] = [
 const STRUCT_TC_PIE_XSTATS: [Note<'static>; 9] = [
     Note {
         kernel: "",
-        unit: Unit::Plain,
+        unit: "",
         names: 0,
     },
     Note {
         kernel: "",
-        unit: Unit::Microseconds,
+        unit: "microseconds",
         names: 0,
     },
     Note {
         kernel: "",
-        unit: Unit::BytesPerSecond,
+        unit: "bytes a second",
         names: 0,
     },
     Note {
         kernel: "",
-        unit: Unit::Plain,
+        unit: "",
         names: 0,
     },
     Note {
         kernel: "",
-        unit: Unit::Plain,
+        unit: "",
         names: 0,
     },
     Note {
         kernel: "",
-        unit: Unit::Plain,
+        unit: "",
         names: 0,
     },
     Note {
         kernel: "",
-        unit: Unit::Plain,
+        unit: "",
         names: 0,
     },
     Note {
         kernel: "",
-        unit: Unit::Plain,
+        unit: "",
         names: 0,
     },
     Note {
         kernel: "",
-        unit: Unit::Plain,
+        unit: "",
         names: 0,
     },
 ];
@@ -7090,12 +7090,12 @@ const STRUCT_TC_PIE_XSTATS: [Note<'static>; 9] = [
 const STRUCT_TC_PLUG_QOPT: [Note<'static>; 2] = [
     Note {
         kernel: "",
-        unit: Unit::Plain,
+        unit: "",
         names: 0,
     },
     Note {
         kernel: "",
-        unit: Unit::Bytes,
+        unit: "bytes",
         names: 0,
     },
 ];
@@ -7104,22 +7104,22 @@ const STRUCT_TC_PLUG_QOPT: [Note<'static>; 2] = [
 const ENUM_TCQ_PLUG: [Note<'static>; 4] = [
     Note {
         kernel: "TCQ_PLUG_BUFFER",
-        unit: Unit::Plain,
+        unit: "",
         names: 0,
     },
     Note {
         kernel: "TCQ_PLUG_RELEASE_ONE",
-        unit: Unit::Plain,
+        unit: "",
         names: 0,
     },
     Note {
         kernel: "TCQ_PLUG_RELEASE_INDEFINITE",
-        unit: Unit::Plain,
+        unit: "",
         names: 0,
     },
     Note {
         kernel: "TCQ_PLUG_LIMIT",
-        unit: Unit::Plain,
+        unit: "",
         names: 0,
     },
 ];
@@ -7127,7 +7127,7 @@ const ENUM_TCQ_PLUG: [Note<'static>; 4] = [
 // `list prio`
 const LIST_PRIO: [Note<'static>; 1] = [Note {
     kernel: "TCA_OPTIONS",
-    unit: Unit::Plain,
+    unit: "",
     names: 0,
 }];
 
@@ -7135,12 +7135,12 @@ const LIST_PRIO: [Note<'static>; 1] = [Note {
 const LIST_QFQ: [Note<'static>; 2] = [
     Note {
         kernel: "TCA_QFQ_WEIGHT",
-        unit: Unit::Plain,
+        unit: "",
         names: 0,
     },
     Note {
         kernel: "TCA_QFQ_LMAX",
-        unit: Unit::Bytes,
+        unit: "bytes",
         names: 0,
     },
 ];
@@ -7149,32 +7149,32 @@ const LIST_QFQ: [Note<'static>; 2] = [
 const LIST_RED: [Note<'static>; 6] = [
     Note {
         kernel: "TCA_RED_PARMS",
-        unit: Unit::Plain,
+        unit: "",
         names: 0,
     },
     Note {
         kernel: "TCA_RED_STAB",
-        unit: Unit::Plain,
+        unit: "",
         names: 0,
     },
     Note {
         kernel: "TCA_RED_MAX_P",
-        unit: Unit::Probability,
+        unit: "probability, 2^-32 each",
         names: 0,
     },
     Note {
         kernel: "TCA_RED_FLAGS",
-        unit: Unit::Plain,
+        unit: "",
         names: 0,
     },
     Note {
         kernel: "TCA_RED_EARLY_DROP_BLOCK",
-        unit: Unit::Plain,
+        unit: "",
         names: 0,
     },
     Note {
         kernel: "TCA_RED_MARK_BLOCK",
-        unit: Unit::Plain,
+        unit: "",
         names: 0,
     },
 ];
@@ -7183,37 +7183,37 @@ const LIST_RED: [Note<'static>; 6] = [
 const STRUCT_TC_RED_QOPT: [Note<'static>; 7] = [
     Note {
         kernel: "",
-        unit: Unit::Bytes,
+        unit: "bytes",
         names: 0,
     },
     Note {
         kernel: "",
-        unit: Unit::Bytes,
+        unit: "bytes",
         names: 0,
     },
     Note {
         kernel: "",
-        unit: Unit::Bytes,
+        unit: "bytes",
         names: 0,
     },
     Note {
         kernel: "",
-        unit: Unit::Power,
+        unit: "exponent of 2",
         names: 0,
     },
     Note {
         kernel: "",
-        unit: Unit::Power,
+        unit: "exponent of 2",
         names: 0,
     },
     Note {
         kernel: "",
-        unit: Unit::Power,
+        unit: "exponent of 2",
         names: 0,
     },
     Note {
         kernel: "",
-        unit: Unit::Plain,
+        unit: "",
         names: 29,
     },
 ];
@@ -7222,12 +7222,12 @@ const STRUCT_TC_RED_QOPT: [Note<'static>; 7] = [
 const STRUCT_TCA_RED_FLAGS: [Note<'static>; 2] = [
     Note {
         kernel: "",
-        unit: Unit::Plain,
+        unit: "",
         names: 29,
     },
     Note {
         kernel: "",
-        unit: Unit::Plain,
+        unit: "",
         names: 29,
     },
 ];
@@ -7236,22 +7236,22 @@ const STRUCT_TCA_RED_FLAGS: [Note<'static>; 2] = [
 const STRUCT_TC_RED_XSTATS: [Note<'static>; 4] = [
     Note {
         kernel: "",
-        unit: Unit::Packets,
+        unit: "packets",
         names: 0,
     },
     Note {
         kernel: "",
-        unit: Unit::Packets,
+        unit: "packets",
         names: 0,
     },
     Note {
         kernel: "",
-        unit: Unit::Packets,
+        unit: "packets",
         names: 0,
     },
     Note {
         kernel: "",
-        unit: Unit::Packets,
+        unit: "packets",
         names: 0,
     },
 ];
@@ -7259,7 +7259,7 @@ const STRUCT_TC_RED_XSTATS: [Note<'static>; 4] = [
 // `list sfb`
 const LIST_SFB: [Note<'static>; 1] = [Note {
     kernel: "TCA_SFB_PARMS",
-    unit: Unit::Plain,
+    unit: "",
     names: 0,
 }];
 
@@ -7267,47 +7267,47 @@ const LIST_SFB: [Note<'static>; 1] = [Note {
 const STRUCT_TC_SFB_XSTATS: [Note<'static>; 9] = [
     Note {
         kernel: "",
-        unit: Unit::Plain,
+        unit: "",
         names: 0,
     },
     Note {
         kernel: "",
-        unit: Unit::Plain,
+        unit: "",
         names: 0,
     },
     Note {
         kernel: "",
-        unit: Unit::Plain,
+        unit: "",
         names: 0,
     },
     Note {
         kernel: "",
-        unit: Unit::Plain,
+        unit: "",
         names: 0,
     },
     Note {
         kernel: "",
-        unit: Unit::Plain,
+        unit: "",
         names: 0,
     },
     Note {
         kernel: "",
-        unit: Unit::Plain,
+        unit: "",
         names: 0,
     },
     Note {
         kernel: "",
-        unit: Unit::Packets,
+        unit: "packets",
         names: 0,
     },
     Note {
         kernel: "",
-        unit: Unit::Plain,
+        unit: "",
         names: 0,
     },
     Note {
         kernel: "",
-        unit: Unit::Plain,
+        unit: "",
         names: 0,
     },
 ];
@@ -7316,47 +7316,47 @@ const STRUCT_TC_SFB_XSTATS: [Note<'static>; 9] = [
 const STRUCT_TC_SFB_QOPT: [Note<'static>; 9] = [
     Note {
         kernel: "",
-        unit: Unit::Milliseconds,
+        unit: "milliseconds",
         names: 0,
     },
     Note {
         kernel: "",
-        unit: Unit::Milliseconds,
+        unit: "milliseconds",
         names: 0,
     },
     Note {
         kernel: "",
-        unit: Unit::Packets,
+        unit: "packets",
         names: 0,
     },
     Note {
         kernel: "",
-        unit: Unit::Packets,
+        unit: "packets",
         names: 0,
     },
     Note {
         kernel: "",
-        unit: Unit::Plain,
+        unit: "",
         names: 0,
     },
     Note {
         kernel: "",
-        unit: Unit::Plain,
+        unit: "",
         names: 0,
     },
     Note {
         kernel: "",
-        unit: Unit::Packets,
+        unit: "packets",
         names: 0,
     },
     Note {
         kernel: "",
-        unit: Unit::PacketsPerSecond,
+        unit: "packets a second",
         names: 0,
     },
     Note {
         kernel: "",
-        unit: Unit::Packets,
+        unit: "packets",
         names: 0,
     },
 ];
@@ -7365,27 +7365,27 @@ const STRUCT_TC_SFB_QOPT: [Note<'static>; 9] = [
 const STRUCT_TC_SFQ_QOPT: [Note<'static>; 5] = [
     Note {
         kernel: "",
-        unit: Unit::Bytes,
+        unit: "bytes",
         names: 0,
     },
     Note {
         kernel: "",
-        unit: Unit::Seconds,
+        unit: "seconds",
         names: 0,
     },
     Note {
         kernel: "",
-        unit: Unit::Packets,
+        unit: "packets",
         names: 0,
     },
     Note {
         kernel: "",
-        unit: Unit::Plain,
+        unit: "",
         names: 0,
     },
     Note {
         kernel: "",
-        unit: Unit::Plain,
+        unit: "",
         names: 0,
     },
 ];
@@ -7394,62 +7394,62 @@ const STRUCT_TC_SFQ_QOPT: [Note<'static>; 5] = [
 const STRUCT_TC_SFQ_QOPT_V1: [Note<'static>; 12] = [
     Note {
         kernel: "",
-        unit: Unit::Plain,
+        unit: "",
         names: 0,
     },
     Note {
         kernel: "",
-        unit: Unit::Packets,
+        unit: "packets",
         names: 0,
     },
     Note {
         kernel: "",
-        unit: Unit::Plain,
+        unit: "",
         names: 0,
     },
     Note {
         kernel: "",
-        unit: Unit::Bytes,
+        unit: "bytes",
         names: 0,
     },
     Note {
         kernel: "",
-        unit: Unit::Bytes,
+        unit: "bytes",
         names: 0,
     },
     Note {
         kernel: "",
-        unit: Unit::Bytes,
+        unit: "bytes",
         names: 0,
     },
     Note {
         kernel: "",
-        unit: Unit::Power,
+        unit: "exponent of 2",
         names: 0,
     },
     Note {
         kernel: "",
-        unit: Unit::Power,
+        unit: "exponent of 2",
         names: 0,
     },
     Note {
         kernel: "",
-        unit: Unit::Power,
+        unit: "exponent of 2",
         names: 0,
     },
     Note {
         kernel: "",
-        unit: Unit::Plain,
+        unit: "",
         names: 29,
     },
     Note {
         kernel: "",
-        unit: Unit::Probability,
+        unit: "probability, 2^-32 each",
         names: 0,
     },
     Note {
         kernel: "",
-        unit: Unit::Plain,
+        unit: "",
         names: 0,
     },
 ];
@@ -7458,32 +7458,32 @@ const STRUCT_TC_SFQ_QOPT_V1: [Note<'static>; 12] = [
 const STRUCT_TC_SFQRED_STATS: [Note<'static>; 6] = [
     Note {
         kernel: "",
-        unit: Unit::Packets,
+        unit: "packets",
         names: 0,
     },
     Note {
         kernel: "",
-        unit: Unit::Packets,
+        unit: "packets",
         names: 0,
     },
     Note {
         kernel: "",
-        unit: Unit::Packets,
+        unit: "packets",
         names: 0,
     },
     Note {
         kernel: "",
-        unit: Unit::Packets,
+        unit: "packets",
         names: 0,
     },
     Note {
         kernel: "",
-        unit: Unit::Packets,
+        unit: "packets",
         names: 0,
     },
     Note {
         kernel: "",
-        unit: Unit::Packets,
+        unit: "packets",
         names: 0,
     },
 ];
@@ -7506,62 +7506,62 @@ const BITS_TAPRIO_FLAG: [Named<'static>; 2] = [
 const LIST_TAPRIO: [Note<'static>; 12] = [
     Note {
         kernel: "TCA_TAPRIO_ATTR_PRIOMAP",
-        unit: Unit::Plain,
+        unit: "",
         names: 0,
     },
     Note {
         kernel: "TCA_TAPRIO_ATTR_SCHED_ENTRY_LIST",
-        unit: Unit::Plain,
+        unit: "",
         names: 0,
     },
     Note {
         kernel: "TCA_TAPRIO_ATTR_SCHED_BASE_TIME",
-        unit: Unit::Nanoseconds,
+        unit: "nanoseconds",
         names: 0,
     },
     Note {
         kernel: "TCA_TAPRIO_ATTR_SCHED_SINGLE_ENTRY",
-        unit: Unit::Plain,
+        unit: "",
         names: 0,
     },
     Note {
         kernel: "TCA_TAPRIO_ATTR_SCHED_CLOCKID",
-        unit: Unit::Plain,
+        unit: "",
         names: 6,
     },
     Note {
         kernel: "TCA_TAPRIO_PAD",
-        unit: Unit::Plain,
+        unit: "",
         names: 0,
     },
     Note {
         kernel: "TCA_TAPRIO_ATTR_ADMIN_SCHED",
-        unit: Unit::Plain,
+        unit: "",
         names: 0,
     },
     Note {
         kernel: "TCA_TAPRIO_ATTR_SCHED_CYCLE_TIME",
-        unit: Unit::Nanoseconds,
+        unit: "nanoseconds",
         names: 0,
     },
     Note {
         kernel: "TCA_TAPRIO_ATTR_SCHED_CYCLE_TIME_EXTENSION",
-        unit: Unit::Nanoseconds,
+        unit: "nanoseconds",
         names: 0,
     },
     Note {
         kernel: "TCA_TAPRIO_ATTR_FLAGS",
-        unit: Unit::Plain,
+        unit: "",
         names: 31,
     },
     Note {
         kernel: "TCA_TAPRIO_ATTR_TXTIME_DELAY",
-        unit: Unit::Nanoseconds,
+        unit: "nanoseconds",
         names: 0,
     },
     Note {
         kernel: "TCA_TAPRIO_ATTR_TC_ENTRY",
-        unit: Unit::Plain,
+        unit: "",
         names: 0,
     },
 ];
@@ -7569,7 +7569,7 @@ const LIST_TAPRIO: [Note<'static>; 12] = [
 // `list taprio_entry_list`
 const LIST_TAPRIO_ENTRY_LIST: [Note<'static>; 1] = [Note {
     kernel: "TCA_TAPRIO_SCHED_ENTRY",
-    unit: Unit::Plain,
+    unit: "",
     names: 0,
 }];
 
@@ -7577,22 +7577,22 @@ const LIST_TAPRIO_ENTRY_LIST: [Note<'static>; 1] = [Note {
 const LIST_TAPRIO_ENTRY: [Note<'static>; 4] = [
     Note {
         kernel: "TCA_TAPRIO_SCHED_ENTRY_INDEX",
-        unit: Unit::Plain,
+        unit: "",
         names: 0,
     },
     Note {
         kernel: "TCA_TAPRIO_SCHED_ENTRY_CMD",
-        unit: Unit::Plain,
+        unit: "",
         names: 0,
     },
     Note {
         kernel: "TCA_TAPRIO_SCHED_ENTRY_GATE_MASK",
-        unit: Unit::Plain,
+        unit: "",
         names: 0,
     },
     Note {
         kernel: "TCA_TAPRIO_SCHED_ENTRY_INTERVAL",
-        unit: Unit::Nanoseconds,
+        unit: "nanoseconds",
         names: 0,
     },
 ];
@@ -7601,17 +7601,17 @@ const LIST_TAPRIO_ENTRY: [Note<'static>; 4] = [
 const ENUM_TC_TAPRIO_CMD: [Note<'static>; 3] = [
     Note {
         kernel: "TC_TAPRIO_CMD_SET_GATES",
-        unit: Unit::Plain,
+        unit: "",
         names: 0,
     },
     Note {
         kernel: "TC_TAPRIO_CMD_SET_AND_HOLD",
-        unit: Unit::Plain,
+        unit: "",
         names: 0,
     },
     Note {
         kernel: "TC_TAPRIO_CMD_SET_AND_RELEASE",
-        unit: Unit::Plain,
+        unit: "",
         names: 0,
     },
 ];
@@ -7620,17 +7620,17 @@ const ENUM_TC_TAPRIO_CMD: [Note<'static>; 3] = [
 const LIST_TAPRIO_TC_ENTRY: [Note<'static>; 3] = [
     Note {
         kernel: "TCA_TAPRIO_TC_ENTRY_INDEX",
-        unit: Unit::Plain,
+        unit: "",
         names: 0,
     },
     Note {
         kernel: "TCA_TAPRIO_TC_ENTRY_MAX_SDU",
-        unit: Unit::Bytes,
+        unit: "bytes",
         names: 0,
     },
     Note {
         kernel: "TCA_TAPRIO_TC_ENTRY_FP",
-        unit: Unit::Plain,
+        unit: "",
         names: 0,
     },
 ];
@@ -7639,17 +7639,17 @@ const LIST_TAPRIO_TC_ENTRY: [Note<'static>; 3] = [
 const LIST_TAPRIO_STATS: [Note<'static>; 3] = [
     Note {
         kernel: "TCA_TAPRIO_OFFLOAD_STATS_PAD",
-        unit: Unit::Plain,
+        unit: "",
         names: 0,
     },
     Note {
         kernel: "TCA_TAPRIO_OFFLOAD_STATS_WINDOW_DROPS",
-        unit: Unit::Packets,
+        unit: "packets",
         names: 0,
     },
     Note {
         kernel: "TCA_TAPRIO_OFFLOAD_STATS_TX_OVERRUNS",
-        unit: Unit::Packets,
+        unit: "packets",
         names: 0,
     },
 ];
@@ -7658,42 +7658,42 @@ const LIST_TAPRIO_STATS: [Note<'static>; 3] = [
 const LIST_TBF: [Note<'static>; 8] = [
     Note {
         kernel: "TCA_TBF_PARMS",
-        unit: Unit::Plain,
+        unit: "",
         names: 0,
     },
     Note {
         kernel: "TCA_TBF_RTAB",
-        unit: Unit::Plain,
+        unit: "",
         names: 0,
     },
     Note {
         kernel: "TCA_TBF_PTAB",
-        unit: Unit::Plain,
+        unit: "",
         names: 0,
     },
     Note {
         kernel: "TCA_TBF_RATE64",
-        unit: Unit::BytesPerSecond,
+        unit: "bytes a second",
         names: 0,
     },
     Note {
         kernel: "TCA_TBF_PRATE64",
-        unit: Unit::BytesPerSecond,
+        unit: "bytes a second",
         names: 0,
     },
     Note {
         kernel: "TCA_TBF_BURST",
-        unit: Unit::Bytes,
+        unit: "bytes",
         names: 0,
     },
     Note {
         kernel: "TCA_TBF_PBURST",
-        unit: Unit::Bytes,
+        unit: "bytes",
         names: 0,
     },
     Note {
         kernel: "TCA_TBF_PAD",
-        unit: Unit::Plain,
+        unit: "",
         names: 0,
     },
 ];
@@ -7702,27 +7702,27 @@ const LIST_TBF: [Note<'static>; 8] = [
 const STRUCT_TC_TBF_QOPT: [Note<'static>; 5] = [
     Note {
         kernel: "",
-        unit: Unit::Plain,
+        unit: "",
         names: 0,
     },
     Note {
         kernel: "",
-        unit: Unit::Plain,
+        unit: "",
         names: 0,
     },
     Note {
         kernel: "",
-        unit: Unit::Bytes,
+        unit: "bytes",
         names: 0,
     },
     Note {
         kernel: "",
-        unit: Unit::Ticks,
+        unit: "ticks of 64 ns",
         names: 0,
     },
     Note {
         kernel: "",
-        unit: Unit::Ticks,
+        unit: "ticks of 64 ns",
         names: 0,
     },
 ];
@@ -7731,32 +7731,32 @@ const STRUCT_TC_TBF_QOPT: [Note<'static>; 5] = [
 const STRUCT_TC_RATESPEC: [Note<'static>; 6] = [
     Note {
         kernel: "",
-        unit: Unit::Power,
+        unit: "exponent of 2",
         names: 0,
     },
     Note {
         kernel: "",
-        unit: Unit::Plain,
+        unit: "",
         names: 0,
     },
     Note {
         kernel: "",
-        unit: Unit::Bytes,
+        unit: "bytes",
         names: 0,
     },
     Note {
         kernel: "",
-        unit: Unit::Plain,
+        unit: "",
         names: 0,
     },
     Note {
         kernel: "",
-        unit: Unit::Bytes,
+        unit: "bytes",
         names: 0,
     },
     Note {
         kernel: "",
-        unit: Unit::BytesPerSecond,
+        unit: "bytes a second",
         names: 0,
     },
 ];
@@ -7765,17 +7765,17 @@ const STRUCT_TC_RATESPEC: [Note<'static>; 6] = [
 const ENUM_TC_LINKLAYER: [Note<'static>; 3] = [
     Note {
         kernel: "TC_LINKLAYER_UNAWARE",
-        unit: Unit::Plain,
+        unit: "",
         names: 0,
     },
     Note {
         kernel: "TC_LINKLAYER_ETHERNET",
-        unit: Unit::Plain,
+        unit: "",
         names: 0,
     },
     Note {
         kernel: "TC_LINKLAYER_ATM",
-        unit: Unit::Plain,
+        unit: "",
         names: 0,
     },
 ];
@@ -7784,12 +7784,12 @@ const ENUM_TC_LINKLAYER: [Note<'static>; 3] = [
 const LIST_STAB: [Note<'static>; 2] = [
     Note {
         kernel: "TCA_STAB_BASE",
-        unit: Unit::Plain,
+        unit: "",
         names: 0,
     },
     Note {
         kernel: "TCA_STAB_DATA",
-        unit: Unit::Plain,
+        unit: "",
         names: 0,
     },
 ];
@@ -7798,42 +7798,42 @@ const LIST_STAB: [Note<'static>; 2] = [
 const STRUCT_TC_SIZESPEC: [Note<'static>; 8] = [
     Note {
         kernel: "",
-        unit: Unit::Power,
+        unit: "exponent of 2",
         names: 0,
     },
     Note {
         kernel: "",
-        unit: Unit::Power,
+        unit: "exponent of 2",
         names: 0,
     },
     Note {
         kernel: "",
-        unit: Unit::Plain,
+        unit: "",
         names: 0,
     },
     Note {
         kernel: "",
-        unit: Unit::Bytes,
+        unit: "bytes",
         names: 0,
     },
     Note {
         kernel: "",
-        unit: Unit::Plain,
+        unit: "",
         names: 0,
     },
     Note {
         kernel: "",
-        unit: Unit::Bytes,
+        unit: "bytes",
         names: 0,
     },
     Note {
         kernel: "",
-        unit: Unit::Bytes,
+        unit: "bytes",
         names: 0,
     },
     Note {
         kernel: "",
-        unit: Unit::Plain,
+        unit: "",
         names: 0,
     },
 ];
@@ -7842,12 +7842,12 @@ const STRUCT_TC_SIZESPEC: [Note<'static>; 8] = [
 const STRUCT_TC_ESTIMATOR: [Note<'static>; 2] = [
     Note {
         kernel: "",
-        unit: Unit::Power,
+        unit: "exponent of 2",
         names: 0,
     },
     Note {
         kernel: "",
-        unit: Unit::Power,
+        unit: "exponent of 2",
         names: 0,
     },
 ];
@@ -7856,12 +7856,12 @@ const STRUCT_TC_ESTIMATOR: [Note<'static>; 2] = [
 const ENUM_TC_FP: [Note<'static>; 2] = [
     Note {
         kernel: "TC_FP_EXPRESS",
-        unit: Unit::Plain,
+        unit: "",
         names: 0,
     },
     Note {
         kernel: "TC_FP_PREEMPTIBLE",
-        unit: Unit::Plain,
+        unit: "",
         names: 0,
     },
 ];
@@ -7870,47 +7870,47 @@ const ENUM_TC_FP: [Note<'static>; 2] = [
 const STRUCT_TC_STATS: [Note<'static>; 9] = [
     Note {
         kernel: "",
-        unit: Unit::Bytes,
+        unit: "bytes",
         names: 0,
     },
     Note {
         kernel: "",
-        unit: Unit::Packets,
+        unit: "packets",
         names: 0,
     },
     Note {
         kernel: "",
-        unit: Unit::Packets,
+        unit: "packets",
         names: 0,
     },
     Note {
         kernel: "",
-        unit: Unit::Plain,
+        unit: "",
         names: 0,
     },
     Note {
         kernel: "",
-        unit: Unit::BytesPerSecond,
+        unit: "bytes a second",
         names: 0,
     },
     Note {
         kernel: "",
-        unit: Unit::PacketsPerSecond,
+        unit: "packets a second",
         names: 0,
     },
     Note {
         kernel: "",
-        unit: Unit::Packets,
+        unit: "packets",
         names: 0,
     },
     Note {
         kernel: "",
-        unit: Unit::Bytes,
+        unit: "bytes",
         names: 0,
     },
     Note {
         kernel: "",
-        unit: Unit::Plain,
+        unit: "",
         names: 0,
     },
 ];
@@ -7919,37 +7919,37 @@ const STRUCT_TC_STATS: [Note<'static>; 9] = [
 const LIST_STATS_OF_ALL: [Note<'static>; 7] = [
     Note {
         kernel: "TCA_STATS_BASIC",
-        unit: Unit::Plain,
+        unit: "",
         names: 0,
     },
     Note {
         kernel: "TCA_STATS_RATE_EST",
-        unit: Unit::Plain,
+        unit: "",
         names: 0,
     },
     Note {
         kernel: "TCA_STATS_QUEUE",
-        unit: Unit::Plain,
+        unit: "",
         names: 0,
     },
     Note {
         kernel: "TCA_STATS_RATE_EST64",
-        unit: Unit::Plain,
+        unit: "",
         names: 0,
     },
     Note {
         kernel: "TCA_STATS_PAD",
-        unit: Unit::Plain,
+        unit: "",
         names: 0,
     },
     Note {
         kernel: "TCA_STATS_BASIC_HW",
-        unit: Unit::Plain,
+        unit: "",
         names: 0,
     },
     Note {
         kernel: "TCA_STATS_PKT64",
-        unit: Unit::Packets,
+        unit: "packets",
         names: 0,
     },
 ];
@@ -7958,17 +7958,17 @@ const LIST_STATS_OF_ALL: [Note<'static>; 7] = [
 const STRUCT_GNET_STATS_BASIC: [Note<'static>; 3] = [
     Note {
         kernel: "",
-        unit: Unit::Bytes,
+        unit: "bytes",
         names: 0,
     },
     Note {
         kernel: "",
-        unit: Unit::Packets,
+        unit: "packets",
         names: 0,
     },
     Note {
         kernel: "",
-        unit: Unit::Plain,
+        unit: "",
         names: 0,
     },
 ];
@@ -7977,27 +7977,27 @@ const STRUCT_GNET_STATS_BASIC: [Note<'static>; 3] = [
 const STRUCT_GNET_STATS_QUEUE: [Note<'static>; 5] = [
     Note {
         kernel: "",
-        unit: Unit::Packets,
+        unit: "packets",
         names: 0,
     },
     Note {
         kernel: "",
-        unit: Unit::Bytes,
+        unit: "bytes",
         names: 0,
     },
     Note {
         kernel: "",
-        unit: Unit::Packets,
+        unit: "packets",
         names: 0,
     },
     Note {
         kernel: "",
-        unit: Unit::Packets,
+        unit: "packets",
         names: 0,
     },
     Note {
         kernel: "",
-        unit: Unit::Plain,
+        unit: "",
         names: 0,
     },
 ];
@@ -8006,12 +8006,12 @@ const STRUCT_GNET_STATS_QUEUE: [Note<'static>; 5] = [
 const STRUCT_GNET_STATS_RATE_EST: [Note<'static>; 2] = [
     Note {
         kernel: "",
-        unit: Unit::BytesPerSecond,
+        unit: "bytes a second",
         names: 0,
     },
     Note {
         kernel: "",
-        unit: Unit::PacketsPerSecond,
+        unit: "packets a second",
         names: 0,
     },
 ];

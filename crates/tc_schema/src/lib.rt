@@ -11,5 +11,5 @@ mod texts;
 
 pub use explain::{kinds_of, knows_kind, put_kind};
 pub use kinds::{LISTS, PLACES};
-pub use notes::{Named, NamesAt, Note, Noted, Unit, all_names, notes_at_places};
-pub use schema::{put_schema, put_schema_definitions};
+pub use notes::{Named, NamesAt, Note, Noted, all_names, notes_at_places};
+pub use schema::put_schema;

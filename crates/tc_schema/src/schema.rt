@@ -1,8 +1,18 @@
 //! The JSON Schema of a line, and of what is shown of bytes in a form, by a table. What is shown in a part of the table is defined once, under its place.
 
-use crate::texts::{Member, first_member, is_pad, put, put_decimal, put_quoted};
+ghost use Rattle.std.specs.Prelude.{OnOk, [], true, ◌++◌, ◌≡◌};
+ghost use Rattle.tc_forms.specs.Places.{layer_of};
+ghost use Rattle.tc_forms.specs.Tables.{kinds_view, part_view};
+ghost use Rattle.tc_schema.specs.Schemas.{array, definitions, each_text, element, form_schema, indexed, integer, is_left_out, item, kinded, kinds_schema};
+ghost use Rattle.tc_schema.specs.Schemas.{named, object_schema, one_text, only, or_raw, part_schema, reference, row, schema_of_line};
+ghost use Rattle.tc_schema.specs.Texts.{member_view, members_of};
+
+use crate::texts::{
+    Done, Member, about, about_number, first_member, is_pad, layer_of, put, put_between, put_comma,
+    put_counted, put_quoted,
+};
 use std::alloc::{AllocError, Allocator};
-use tc_forms::{Form, KindRows, Name, Number, Part, Tables};
+use tc_forms::{Form, KindRows, Number, Part, Tables};
 
 // The schema of a line, up to the definitions of messages: what a line begins with, what is said of a message, of an answer, of a place
 // without a message, and at the end; and what is defined once for all tables.
@@ -46,214 +56,275 @@ const LINE: &str = r##"{"$schema":"https://json-schema.org/draft/2020-12/schema"
 "ipv6":{"type":"string","pattern":"^[0-9a-f:.]+$"},
 "message":{"anyOf":[{"$ref":"#/$defs/tc"},{"$ref":"#/$defs/action"}]}"##;
 
-// The least and the greatest number.
-fn range_of(of: Number) -> &'static str {
-    match of {
-        Number::U8 => "0,\"maximum\":255",
-        Number::U16 | Number::U16Be => "0,\"maximum\":65535",
-        Number::U32 | Number::U32Be => "0,\"maximum\":4294967295",
-        Number::U64 | Number::U64Be => "0,\"maximum\":18446744073709551615",
-        Number::I8 => "-128,\"maximum\":127",
-        Number::I16 => "-32768,\"maximum\":32767",
-        Number::I32 => "-2147483648,\"maximum\":2147483647",
-        Number::I64 => "-9223372036854775808,\"maximum\":9223372036854775807",
-    }
-}
+// Before the least and the greatest integer; and before how many bytes there are, in hex.
+const INTEGER: &str = r##"{"type":"integer","minimum":"##;
 
-fn put_integer<A: Allocator>(out: &mut Vec<u8, A>, of: Number) -> Result<(), AllocError> {
-    put(out, "{\"type\":\"integer\",\"minimum\":")?;
-    put(out, range_of(of))?;
+const BYTES: &str = r##"{"type":"string","pattern":"^([0-9a-f]{2}){"##;
+
+// Any bytes, in hex; before what is there, or raw bytes; and before what is in a list.
+const HEX: &str = r##"{"$ref":"#/$defs/hex"}"##;
+
+const RAW_OR: &str = r##"{"anyOf":[{"$ref":"#/$defs/raw"},"##;
+
+const LIST: &str = r##"{"type":"array","items":{"anyOf":[{"$ref":"#/$defs/raw"},"##;
+
+// Before the members of an object, before the names of those that it must have, and behind them.
+const OBJECT: &str = r##"{"type":"object","properties":{"##;
+
+const REQUIRED: &str = r##"},"required":["##;
+
+const CLOSED: &str = r##"],"additionalProperties":false}"##;
+
+// A name, or a number without one: before the place of the names, behind it and before the number, and behind that; and what follows no
+// choice, the last of some.
+const NAMED: &str = r##"{"anyOf":[{"$ref":"#/$defs/"##;
+
+const OR_OTHER: &str = r##""},{"type":"object","properties":{"Other":"##;
+
+const OTHER_ENDS: &str = r##"},"required":["Other"],"additionalProperties":false}]}"##;
+
+const OTHERWISE: &str =
+    r##"{"type":"object","properties":{"Other":{"$ref":"#/$defs/hex"}},"required":["Other"],"additionalProperties":false}]}"##;
+
+// An attribute of any type in a list: before what is in it, and behind that and the list.
+const TAB: &str =
+    r##"{"type":"object","properties":{"tab":{"$ref":"#/$defs/u16"},"pad":{"$ref":"#/$defs/hex"},"attributes":{"anyOf":[{"$ref":"#/$defs/raw"},"##;
+
+const TAB_ENDS: &str = r##"]}},"required":["tab","attributes"],"additionalProperties":false}]}}"##;
+
+// The members that each record may have, and each attribute; and before an attribute of a row, or another.
+const REST: &str = r##""rest":{"$ref":"#/$defs/hex"}},"required":["##;
+
+const WORD: &str = r##""word":{"$ref":"#/$defs/u16"},"pad":{"$ref":"#/$defs/hex"}},"oneOf":["##;
+
+const UNKNOWN: &str = r##"{"anyOf":[{"$ref":"#/$defs/unknown"}"##;
+
+// ---- forms
+
+#[tactic(auto, unfolding(crate::specs::Schemas::integer))]
+fn put_integer<A: Allocator>(out: &mut Vec<u8, A>, of: Number) -> Done
+    ensures { OnOk result (out.new.items ≡ out.old.items ++ integer of) }
+{
+    put(out, INTEGER)?;
+    put(out, about_number(of).schema)?;
     put(out, "}")
 }
 
-fn put_bytes<A: Allocator>(out: &mut Vec<u8, A>, count: usize) -> Result<(), AllocError> {
-    put(out, "{\"type\":\"string\",\"pattern\":\"^([0-9a-f]{2}){")?;
-    put_decimal(out, count as u64)?;
-    put(out, "}$\"}")
-}
-
 // Refers to the definition of a place.
-fn put_reference<A: Allocator>(out: &mut Vec<u8, A>, place: usize) -> Result<(), AllocError> {
-    put(out, "{\"$ref\":\"#/$defs/")?;
-    put_decimal(out, place as u64)?;
-    put(out, "\"}")
+#[tactic(auto, unfolding(crate::specs::Schemas::reference))]
+fn put_reference<A: Allocator>(out: &mut Vec<u8, A>, place: usize) -> Done
+    ensures { OnOk result (out.new.items ≡ out.old.items ++ reference place) }
+{
+    put_counted(out, "{\"$ref\":\"#/$defs/", place, "\"}")
 }
-
-// An object of one member: before its value, and behind it.
-fn put_opening<A: Allocator>(out: &mut Vec<u8, A>, name: &str) -> Result<(), AllocError> {
-    put(out, "{\"type\":\"object\",\"properties\":{")?;
-    put_quoted(out, name)?;
-    put(out, ":")
-}
-
-fn put_closing<A: Allocator>(out: &mut Vec<u8, A>, name: &str) -> Result<(), AllocError> {
-    put(out, "},\"required\":[")?;
-    put_quoted(out, name)?;
-    put(out, "],\"additionalProperties\":false}")
-}
-
-// Before what is in a list, or raw; and before what is there, or raw.
-const LIST: &str = "{\"type\":\"array\",\"items\":{\"anyOf\":[{\"$ref\":\"#/$defs/raw\"},";
-
-const RAW_OR: &str = "{\"anyOf\":[{\"$ref\":\"#/$defs/raw\"},";
 
 // A name, or a number without one.
-fn put_named<A: Allocator>(
-    out: &mut Vec<u8, A>,
-    of: Number,
-    place: usize,
-) -> Result<(), AllocError> {
-    put(out, "{\"anyOf\":[")?;
-    put_reference(out, place)?;
-    put(out, ",")?;
-    put_opening(out, "Other")?;
+fn put_named<A: Allocator>(out: &mut Vec<u8, A>, of: Number, place: usize) -> Done
+    ensures { OnOk result (out.new.items ≡ out.old.items ++ named of place) }
+{
+    put_counted(out, NAMED, place, OR_OTHER)?;
     put_integer(out, of)?;
-    put_closing(out, "Other")?;
-    put(out, "]}")
+    put(out, OTHER_ENDS)
 }
 
 // An attribute of a list, in its layer.
-fn put_item<A: Allocator>(
-    out: &mut Vec<u8, A>,
-    layer: &str,
-    place: usize,
-) -> Result<(), AllocError> {
+#[tactic(auto, unfolding(crate::specs::Schemas::only))]
+fn put_layered<A: Allocator>(out: &mut Vec<u8, A>, place: usize, layer: &str) -> Done
+    ensures { OnOk result (out.new.items ≡ out.old.items ++ only layer.now (reference place)) }
+{
+    put_between(out, OBJECT, layer, ":")?;
+    put_reference(out, place)?;
+    put_between(out, REQUIRED, layer, CLOSED)
+}
+
+fn put_item<A: Allocator>(out: &mut Vec<u8, A>, place: usize, layer: &str) -> Done
+    ensures { OnOk result (out.new.items ≡ out.old.items ++ item place layer.now) }
+{
     if layer.is_empty() {
         return put_reference(out, place);
     }
-    put_opening(out, layer)?;
-    put_reference(out, place)?;
-    put_closing(out, layer)
+    put_layered(out, place, layer)
 }
 
 // A list of attributes.
-fn put_list<A: Allocator>(
-    out: &mut Vec<u8, A>,
-    place: usize,
-    part: Part<'static>,
-) -> Result<(), AllocError> {
+fn put_list<A: Allocator>(out: &mut Vec<u8, A>, place: usize, layer: &str) -> Done
+    ensures { OnOk result (out.new.items ≡ out.old.items ++ array (item place layer.now)) }
+{
     put(out, LIST)?;
-    match part {
-        Part::Rows(layer, _) => put_item(out, layer, place)?,
-        _ => put_reference(out, place)?,
-    }
-    put(out, "]}}")
-}
-
-// What an array, or an attribute of any type, holds.
-fn put_element<A: Allocator>(
-    out: &mut Vec<u8, A>,
-    place: usize,
-    part: Part<'static>,
-) -> Result<(), AllocError> {
-    match part {
-        Part::One(_) | Part::Fields(_) | Part::Choices(_) => put_reference(out, place),
-        Part::Names(_) => put(out, "{\"$ref\":\"#/$defs/hex\"}"),
-        Part::Rows(layer, rows) => put_list(out, place, Part::Rows(layer, rows)),
-        Part::Kinds(every, others, kinds) => put_list(
-            out,
-            place,
-            Part::Kinds(every, others, kinds),
-        ),
-    }
-}
-
-fn put_array<A: Allocator>(
-    out: &mut Vec<u8, A>,
-    place: usize,
-    part: Part<'static>,
-) -> Result<(), AllocError> {
-    put(out, LIST)?;
-    put_element(out, place, part)?;
+    put_item(out, place, layer)?;
     put(out, "]}}")
 }
 
 // A list of attributes with kinds among them.
-fn put_kinded<A: Allocator>(out: &mut Vec<u8, A>, place: usize) -> Result<(), AllocError> {
+fn put_kinded<A: Allocator>(out: &mut Vec<u8, A>, place: usize) -> Done
+    ensures { OnOk result (out.new.items ≡ out.old.items ++ array (kinded place)) }
+{
     put(out, LIST)?;
     put(out, "{\"$ref\":\"#/$defs/kind\"},")?;
     put_reference(out, place)?;
     put(out, "]}}")
 }
 
-// A list of attributes of any types.
-fn put_indexed<A: Allocator>(
-    out: &mut Vec<u8, A>,
-    place: usize,
-    part: Part<'static>,
-) -> Result<(), AllocError> {
-    put(out, LIST)?;
-    put(
-        out,
-        "{\"type\":\"object\",\"properties\":{\"tab\":{\"$ref\":\"#/$defs/u16\"},\"pad\":{\"$ref\":\"#/$defs/hex\"},\"attributes\":",
-    )?;
-    put(out, RAW_OR)?;
-    put_element(out, place, part)?;
-    put(
-        out,
-        "]}},\"required\":[\"tab\",\"attributes\"],\"additionalProperties\":false}]}}",
-    )
-}
-
-fn leaf_schema(form: Form) -> &'static str {
-    match form {
-        Form::Handle => "{\"$ref\":\"#/$defs/handle\"}",
-        Form::Flag => "{\"const\":true}",
-        Form::Truth => "{\"type\":\"boolean\"}",
-        Form::Text | Form::Bare => "{\"type\":\"string\"}",
-        Form::Mac => "{\"$ref\":\"#/$defs/mac\"}",
-        Form::Ipv4 => "{\"$ref\":\"#/$defs/ipv4\"}",
-        Form::Ipv6 => "{\"$ref\":\"#/$defs/ipv6\"}",
-        _ => "{\"$ref\":\"#/$defs/hex\"}",
+// What an array, or an attribute of any type, holds.
+fn put_element<A: Allocator>(out: &mut Vec<u8, A>, place: usize, part: Part<'static>) -> Done
+    ensures { OnOk result (out.new.items ≡ out.old.items ++ element place (part_view part.entry)) }
+{
+    match part {
+        Part::One(_) | Part::Fields(_) | Part::Choices(_) => put_reference(out, place),
+        Part::Names(_) => put(out, HEX),
+        Part::Rows(layer, _) => put_list(out, place, layer),
+        Part::Kinds(_, _, _) => put_list(out, place, ""),
     }
 }
 
+fn put_array<A: Allocator>(out: &mut Vec<u8, A>, place: usize, part: Part<'static>) -> Done
+    ensures { OnOk result (out.new.items ≡ out.old.items ++ array (element place (part_view part.entry))) }
+{
+    put(out, LIST)?;
+    put_element(out, place, part)?;
+    put(out, "]}}")
+}
+
+// A list of attributes of any types.
+fn put_indexed<A: Allocator>(out: &mut Vec<u8, A>, place: usize, part: Part<'static>) -> Done
+    ensures { OnOk result (out.new.items ≡ out.old.items ++ indexed (element place (part_view part.entry))) }
+{
+    put(out, LIST)?;
+    put(out, TAB)?;
+    put_element(out, place, part)?;
+    put(out, TAB_ENDS)
+}
+
 // What is shown in a form where the bytes follow it.
-fn put_form<T: Tables, A: Allocator>(
-    table: T,
-    form: Form,
-    out: &mut Vec<u8, A>,
-) -> Result<(), AllocError> {
+fn put_form<T: Tables, A: Allocator>(out: &mut Vec<u8, A>, table: T, form: Form) -> Done
+    ensures { OnOk result (out.new.items ≡ out.old.items ++ form_schema (T.parts_of table) form) }
+{
     match form {
         Form::Number(of) => put_integer(out, of),
         Form::Named(of, place) => put_named(out, of, place),
-        Form::Bytes(count) | Form::Pad(count) => put_bytes(out, count),
+        Form::Bytes(count) | Form::Pad(count) => put_counted(out, BYTES, count, "}$\"}"),
         Form::Record(place) | Form::Choice(place) => put_reference(out, place),
         Form::Array(place) | Form::Times(_, place) => put_array(out, place, table.part(place)),
-        Form::List(place) => put_list(out, place, table.part(place)),
+        Form::List(place) => put_list(out, place, layer_of(table.part(place))),
         Form::InForce(place) | Form::Own(place) => put_kinded(out, place),
         Form::Indexed(place) => put_indexed(out, place, table.part(place)),
-        _ => put(out, leaf_schema(form)),
+        _ => put(out, about(form).schema),
     }
 }
 
 // The same, or raw.
-fn put_shown<T: Tables, A: Allocator>(
-    table: T,
-    form: Form,
-    out: &mut Vec<u8, A>,
-) -> Result<(), AllocError> {
+fn put_shown<T: Tables, A: Allocator>(out: &mut Vec<u8, A>, table: T, form: Form) -> Done
+    ensures { OnOk result (out.new.items ≡ out.old.items ++ or_raw (form_schema (T.parts_of table) form)) }
+{
     put(out, RAW_OR)?;
-    put_form(table, form, out)?;
+    put_form(out, table, form)?;
     put(out, "]}")
 }
 
 // ---- parts
 
-fn put_names<A: Allocator>(
+// What is put of each member: what it is, alone or in an object of its own; its name; or that an object has it.
+#[derive(Clone, Copy)]
+enum Each {
+    Property,
+    Choice,
+    Required,
+    Alternative,
+}
+
+#[tactic(auto, unfolding(crate::specs::Schemas::only))]
+fn put_one<T: Tables, A: Allocator>(
     out: &mut Vec<u8, A>,
-    between: &str,
-    names: &[Name<'_>],
-) -> Result<(), AllocError> {
-    if let Some((first, others)) = names.split_first() {
-        put(out, between)?;
-        put_quoted(out, first.name)?;
-        put_names(out, ",", others)?;
+    table: T,
+    each: Each,
+    is_first: bool,
+    member: Member<'static>,
+) -> Done
+    ensures { OnOk result (out.new.items ≡ out.old.items ++ one_text (T.parts_of table) each is_first (member_view member.entry)) }
+{
+    match each {
+        Each::Property => {
+            put_between(out, "", member.name, ":")?;
+            put_shown(out, table, member.form)?;
+            put(out, ",")
+        }
+        Each::Choice => {
+            put_between(out, OBJECT, member.name, ":")?;
+            put_shown(out, table, member.form)?;
+            put_between(out, REQUIRED, member.name, CLOSED)?;
+            put(out, ",")
+        }
+        Each::Required => {
+            put_comma(out, is_first)?;
+            put_quoted(out, member.name)
+        }
+        Each::Alternative => {
+            put_comma(out, is_first)?;
+            put_between(out, "{\"required\":[", member.name, "]}")
+        }
+    }
+}
+
+// Padding is shown only where it isn't zero.
+fn is_left_out(each: Each, form: Form) -> bool
+    ensures { result ≡ is_left_out each form }
+{
+    matches!(each, Each::Required) && is_pad(form)
+}
+
+fn put_each<T: Tables, A: Allocator>(
+    out: &mut Vec<u8, A>,
+    table: T,
+    each: Each,
+    part: Part<'static>,
+) -> Done
+    ensures { OnOk result (out.new.items ≡ out.old.items ++ each_text (T.parts_of table) each true (members_of (part_view part.entry))) }
+{
+    let mut left = part;
+    let mut is_first = true;
+    while let Some((member, others)) = first_member(left) {
+        if !is_left_out(each, member.form) {
+            put_one(out, table, each, is_first, member)?;
+            is_first = false;
+        }
+        left = others;
     }
     Ok(())
 }
 
-fn put_kinds<A: Allocator>(out: &mut Vec<u8, A>, kinds: &[KindRows<'_>]) -> Result<(), AllocError> {
+// An object of these members and others, of which it must have some.
+#[tactic(auto, unfolding(crate::specs::Schemas::object_schema))]
+fn put_object<T: Tables, A: Allocator>(
+    out: &mut Vec<u8, A>,
+    table: T,
+    part: Part<'static>,
+    others: &str,
+    each: Each,
+) -> Done
+    ensures { OnOk result (out.new.items ≡ out.old.items ++ object_schema (T.parts_of table) (members_of (part_view part.entry)) others.now each) }
+{
+    put(out, OBJECT)?;
+    put_each(out, table, Each::Property, part)?;
+    put(out, others)?;
+    put_each(out, table, each, part)?;
+    put(out, CLOSED)
+}
+
+// And an attribute by one of these rows, where there are any.
+fn put_row<T: Tables, A: Allocator>(out: &mut Vec<u8, A>, table: T, part: Part<'static>) -> Done
+    ensures { OnOk result (out.new.items ≡ out.old.items ++ row (T.parts_of table) (members_of (part_view part.entry))) }
+{
+    if first_member(part).is_none() {
+        return put(out, "]}");
+    }
+    put(out, ",")?;
+    put_object(out, table, part, WORD, Each::Alternative)?;
+    put(out, "]}")
+}
+
+fn put_kinds<A: Allocator>(out: &mut Vec<u8, A>, kinds: &[KindRows<'_>]) -> Done
+    ensures { OnOk result (out.new.items ≡ out.old.items ++ kinds_schema (kinds_view kinds.now)) }
+{
     if let Some((first, others)) = kinds.split_first() {
         put(out, ",")?;
         put_reference(out, first.rows)?;
@@ -262,219 +333,71 @@ fn put_kinds<A: Allocator>(out: &mut Vec<u8, A>, kinds: &[KindRows<'_>]) -> Resu
     Ok(())
 }
 
-// The names that an object must have: of all members but padding, which is shown where it isn't zero.
-fn put_required<A: Allocator>(
-    out: &mut Vec<u8, A>,
-    between: &str,
-    part: Part<'static>,
-) -> Result<(), AllocError> {
-    let (member, others) = match first_member(part) {
-        Some(parts) => parts,
-        None => return Ok(()),
-    };
-    if is_pad(member.form) {
-        return put_required(out, between, others);
-    }
-    put(out, between)?;
-    put_quoted(out, member.name)?;
-    put_required(out, ",", others)
-}
-
-// Or one of them.
-fn put_one_required<A: Allocator>(
-    out: &mut Vec<u8, A>,
-    between: &str,
-    part: Part<'static>,
-) -> Result<(), AllocError> {
-    let (member, others) = match first_member(part) {
-        Some(parts) => parts,
-        None => return Ok(()),
-    };
-    put(out, between)?;
-    put(out, "{\"required\":[")?;
-    put_quoted(out, member.name)?;
-    put(out, "]}")?;
-    put_one_required(out, ",", others)
-}
-
-fn put_member<T: Tables, A: Allocator>(
-    table: T,
-    member: Member<'static>,
-    out: &mut Vec<u8, A>,
-) -> Result<(), AllocError> {
-    put_quoted(out, member.name)?;
-    put(out, ":")?;
-    put_shown(table, member.form, out)?;
-    put(out, ",")
-}
-
-fn put_members<T: Tables, A: Allocator>(
-    table: T,
-    part: Part<'static>,
-    out: &mut Vec<u8, A>,
-) -> Result<(), AllocError> {
-    if let Some((member, others)) = first_member(part) {
-        put_member(table, member, out)?;
-        put_members(table, others, out)?;
-    }
-    Ok(())
-}
-
-fn put_record<T: Tables, A: Allocator>(
-    table: T,
-    part: Part<'static>,
-    out: &mut Vec<u8, A>,
-) -> Result<(), AllocError> {
-    put(out, "{\"type\":\"object\",\"properties\":{")?;
-    put_members(table, part, out)?;
-    put(out, "\"rest\":{\"$ref\":\"#/$defs/hex\"}},\"required\":[")?;
-    put_required(out, "", part)?;
-    put(out, "],\"additionalProperties\":false}")
-}
-
-// An attribute by one of these rows.
-fn put_row<T: Tables, A: Allocator>(
-    table: T,
-    part: Part<'static>,
-    out: &mut Vec<u8, A>,
-) -> Result<(), AllocError> {
-    if first_member(part).is_none() {
-        return Ok(());
-    }
-    put(out, ",{\"type\":\"object\",\"properties\":{")?;
-    put_members(table, part, out)?;
-    put(
-        out,
-        "\"word\":{\"$ref\":\"#/$defs/u16\"},\"pad\":{\"$ref\":\"#/$defs/hex\"}},\"oneOf\":[",
-    )?;
-    put_one_required(out, "", part)?;
-    put(out, "],\"additionalProperties\":false}")
-}
-
-// Or one of another type.
-fn put_rows<T: Tables, A: Allocator>(
-    table: T,
-    part: Part<'static>,
-    out: &mut Vec<u8, A>,
-) -> Result<(), AllocError> {
-    put(out, "{\"anyOf\":[{\"$ref\":\"#/$defs/unknown\"}")?;
-    put_row(table, part, out)?;
-    put(out, "]}")
-}
-
-// What is behind the prefix of a choice, under its name; or all, where none fits.
-fn put_choices<T: Tables, A: Allocator>(
-    table: T,
-    part: Part<'static>,
-    out: &mut Vec<u8, A>,
-) -> Result<(), AllocError> {
-    if let Some((member, others)) = first_member(part) {
-        put_opening(out, member.name)?;
-        put_shown(table, member.form, out)?;
-        put_closing(out, member.name)?;
-        put(out, ",")?;
-        return put_choices(table, others, out);
-    }
-    put_opening(out, "Other")?;
-    put(out, "{\"$ref\":\"#/$defs/hex\"}")?;
-    put_closing(out, "Other")
-}
-
-// An attribute of any kind.
-fn put_any_kind<A: Allocator>(
-    out: &mut Vec<u8, A>,
-    every: usize,
-    others: usize,
-    kinds: &[KindRows<'_>],
-) -> Result<(), AllocError> {
-    put(out, "{\"anyOf\":[")?;
-    put_reference(out, every)?;
-    put(out, ",")?;
-    put_reference(out, others)?;
-    put_kinds(out, kinds)?;
-    put(out, "]}")
-}
-
-fn put_enum<A: Allocator>(out: &mut Vec<u8, A>, names: &[Name<'_>]) -> Result<(), AllocError> {
-    put(out, "{\"enum\":[")?;
-    put_names(out, "", names)?;
-    put(out, "]}")
-}
-
-fn put_one_of<T: Tables, A: Allocator>(
-    table: T,
-    part: Part<'static>,
-    out: &mut Vec<u8, A>,
-) -> Result<(), AllocError> {
-    put(out, "{\"oneOf\":[")?;
-    put_choices(table, part, out)?;
-    put(out, "]}")
-}
-
-fn put_part<T: Tables, A: Allocator>(
-    table: T,
-    part: Part<'static>,
-    out: &mut Vec<u8, A>,
-) -> Result<(), AllocError> {
+fn put_part<T: Tables, A: Allocator>(out: &mut Vec<u8, A>, table: T, part: Part<'static>) -> Done
+    ensures { OnOk result (out.new.items ≡ out.old.items ++ part_schema (T.parts_of table) (part_view part.entry)) }
+{
     match part {
-        Part::One(form) => put_form(table, form, out),
-        Part::Names(names) => put_enum(out, names),
-        Part::Kinds(every, others, kinds) => put_any_kind(out, every, others, kinds),
-        Part::Fields(fields) => put_record(table, Part::Fields(fields), out),
-        Part::Rows(layer, rows) => put_rows(table, Part::Rows(layer, rows), out),
-        Part::Choices(choices) => put_one_of(table, Part::Choices(choices), out),
+        Part::One(form) => put_form(out, table, form),
+        Part::Names(names) => {
+            put(out, "{\"enum\":[")?;
+            put_each(out, table, Each::Required, Part::Names(names))?;
+            put(out, "]}")
+        }
+        Part::Kinds(every, others, kinds) => {
+            put(out, "{\"anyOf\":[")?;
+            put_reference(out, every)?;
+            put(out, ",")?;
+            put_reference(out, others)?;
+            put_kinds(out, kinds)?;
+            put(out, "]}")
+        }
+        Part::Fields(fields) => {
+            put_object(out, table, Part::Fields(fields), REST, Each::Required)
+        }
+        Part::Rows(layer, rows) => {
+            put(out, UNKNOWN)?;
+            put_row(out, table, Part::Rows(layer, rows))
+        }
+        Part::Choices(choices) => {
+            put(out, "{\"oneOf\":[")?;
+            put_each(out, table, Each::Choice, Part::Choices(choices))?;
+            put(out, OTHERWISE)
+        }
     }
-}
-
-fn put_definition<T: Tables, A: Allocator>(
-    table: T,
-    place: usize,
-    out: &mut Vec<u8, A>,
-) -> Result<(), AllocError> {
-    put(out, ",\n\"")?;
-    put_decimal(out, place as u64)?;
-    put(out, "\":")?;
-    put_part(table, table.part(place), out)
 }
 
 // A definition for each place.
 fn put_definitions<T: Tables, A: Allocator>(
+    out: &mut Vec<u8, A>,
     table: T,
     places: &[usize],
-    out: &mut Vec<u8, A>,
-) -> Result<(), AllocError> {
+) -> Done
+    ensures { OnOk result (out.new.items ≡ out.old.items ++ definitions (T.parts_of table) places.now) }
+{
     if let Some((first, others)) = places.split_first() {
-        put_definition(table, *first, out)?;
-        put_definitions(table, others, out)?;
+        put_counted(out, ",\n\"", *first, "\":")?;
+        put_part(out, table, table.part(*first))?;
+        put_definitions(out, table, others)?;
     }
     Ok(())
 }
 
-/// Puts the definitions of what is shown of both messages in these forms, and at each of these places, which are to be all that a form
+/// Puts the schema of a line: of the two messages in these forms, by a table with parts at these places, which are to be all that a form
 /// names.
-pub fn put_schema_definitions<T: Tables, A: Allocator>(
-    table: T,
-    places: &[usize],
-    tc: Form,
-    action: Form,
-    out: &mut Vec<u8, A>,
-) -> Result<(), AllocError> {
-    put(out, ",\n\"tc\":")?;
-    put_shown(table, tc, out)?;
-    put(out, ",\n\"action\":")?;
-    put_shown(table, action, out)?;
-    put_definitions(table, places, out)
-}
-
-/// Puts the schema of a line: of the two messages in these forms, by a table with parts at these places.
 pub fn put_schema<T: Tables, A: Allocator>(
     table: T,
     places: &[usize],
     tc: Form,
     action: Form,
     out: &mut Vec<u8, A>,
-) -> Result<(), AllocError> {
+) -> Result<(), AllocError>
+    ensures { OnOk result (out.new.items ≡ out.old.items ++ schema_of_line (T.parts_of table) places.now tc action) }
+{
     put(out, LINE)?;
-    put_schema_definitions(table, places, tc, action, out)?;
+    put(out, ",\n\"tc\":")?;
+    put_shown(out, table, tc)?;
+    put(out, ",\n\"action\":")?;
+    put_shown(out, table, action)?;
+    put_definitions(out, table, places)?;
     put(out, "}}\n")
 }
