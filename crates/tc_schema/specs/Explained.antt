@@ -5,12 +5,12 @@ use Rattle.tc_forms.specs.Tables.{KindRows, Kinds, One, Part, Table}
 use Rattle.tc_forms.specs.declared.form.Form.{Form}
 use Rattle.tc_forms.specs.declared.form.Form.TheVariants as form
 use Rattle.tc_forms.specs.declared.form.Number.TheVariants as number
-use Rattle.tc_schema.specs.Examples.{kind_example}
+use Rattle.tc_schema.specs.Json.{kind_example}
 use Rattle.tc_schema.specs.Notes.{Note, first_note, names_at, notes_at, other_notes}
 use Rattle.tc_schema.specs.declared.notes.Named.{Named}
 use Rattle.tc_schema.specs.declared.notes.NamesAt.{NamesAt}
 use Rattle.tc_schema.specs.declared.notes.Noted.{Noted}
-use Rattle.tc_schema.specs.Texts.{Member, form_text, members_of, times, unless_empty}
+use Rattle.tc_schema.specs.Texts.{Member, form_text, members_of, times, around}
 
 -- how deep attributes are explained
 abbrev pub deepest : ℕ
@@ -18,7 +18,7 @@ deepest = 12
 
 -- a line: two blanks for each level, a name, what is said of it, and the kernel's name, where it has one
 abbrev pub text_line : ℕ → List ℕ → List ℕ → List ℕ → List ℕ
-text_line level name said kernel = times level (codes "  ") ++ (name ++ (said ++ (unless_empty (codes " (") kernel (codes ")") ++ codes "\n")))
+text_line level name said kernel = times level (codes "  ") ++ (name ++ (said ++ (around (codes " (") kernel (codes ")") ++ codes "\n")))
 
 -- numbers and their names
 abbrev pub named_lines : ℕ → List Named → List ℕ
@@ -36,15 +36,12 @@ abbrev pub signed_text : ℕ → ℕ → List ℕ
 signed_text all n = if nat_le (all / 2) n && nat_lt n all then codes "-" ++ decimal (all - n) else decimal n
 
 -- the number that a name has, or the form and what it counts
-abbrev pub value_of : ℕ → Form → List ℕ → Option ℕ → List ℕ
-value_of all f unit (Some n) = codes " = " ++ signed_text all n
-value_of all f unit None = codes ": " ++ (form_text f ++ unless_empty (codes ", ") unit [])
-
-abbrev pub value_text : ℕ → Member → List ℕ → List ℕ
-value_text all m unit = value_of all m.form unit m.number
+abbrev pub value_text : ℕ → Form → List ℕ → Option ℕ → List ℕ
+value_text all f unit (Some n) = codes " = " ++ signed_text all n
+value_text all f unit None = codes ": " ++ (form_text f ++ around (codes ", ") unit [])
 
 abbrev pub member_line : ℕ → ℕ → Member → Note → List ℕ
-member_line level all m note = text_line level m.name (value_text all m note.unit) note.kernel
+member_line level all m note = text_line level m.name (value_text all m.form note.unit m.number) note.kernel
 
 -- ---- what is within
 

@@ -1,5 +1,4 @@
-pub mod Examples
 pub mod Explained
+pub mod Json
 pub mod Notes
-pub mod Schemas
 pub mod Texts

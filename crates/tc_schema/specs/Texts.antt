@@ -22,7 +22,7 @@ quoted text = codes "\"" ++ (escapes text ++ codes "\"")
 
 -- shut, so that what calls give isn't computed
 unfoldable pub between : List ℕ → List ℕ → List ℕ → List ℕ
-between before text behind = before ++ (quoted text ++ behind)
+between head text tail = head ++ (quoted text ++ tail)
 
 -- a text so many times
 abbrev pub times : ℕ → List ℕ → List ℕ
@@ -35,9 +35,9 @@ comma true = []
 comma false = codes ","
 
 -- a text between two others, or none of them if it is empty
-abbrev pub unless_empty : List ℕ → List ℕ → List ℕ → List ℕ
-unless_empty before [] behind = []
-unless_empty before (c ∷ cs) behind = before ++ ((c ∷ cs) ++ behind)
+abbrev pub around : List ℕ → List ℕ → List ℕ → List ℕ
+around head [] tail = []
+around head (c ∷ cs) tail = head ++ ((c ∷ cs) ++ tail)
 
 -- ---- forms
 

@@ -7,13 +7,12 @@ ghost use Rattle.tc_schema.specs.Explained.{rows_of_kind, signed_of, signed_text
 ghost use Rattle.tc_schema.specs.Notes.{note_view, notes_at};
 ghost use Rattle.tc_schema.specs.Texts.{member_view, members_of};
 
-use crate::example::put_example;
+use crate::json::put_example;
 use crate::notes::{Left, Named, NamesAt, Note, Noted, first_note, names_at, notes_at};
-use crate::texts::{
-    Done, Member, first_member, put, put_decimal, put_form, put_times, put_unless_empty,
-};
+use crate::texts::{Done, Member, first_member, put, put_around, put_form, put_times};
 use std::alloc::{AllocError, Allocator};
 use tc_forms::{Form, KindRows, Number, Part, Tables};
+use tc_units::{Unit, put_number};
 
 // How deep attributes are explained.
 const DEEPEST: u8 = 12;
@@ -36,7 +35,7 @@ fn put_named<A: Allocator>(out: &mut Vec<u8, A>, level: u8, names: &[Named<'_>])
         put(out, first.name)?;
         put(out, " = ")?;
         put(out, first.number)?;
-        put_unless_empty(out, " (", first.kernel, ")")?;
+        put_around(out, " (", first.kernel, ")")?;
         put(out, "\n")?;
         put_named(out, level, others)?;
     }
@@ -60,14 +59,14 @@ fn put_signed<A: Allocator>(out: &mut Vec<u8, A>, all: u64, n: u64) -> Done
 {
     if all / 2 <= n && n < all {
         put(out, "-")?;
-        return put_decimal(out, all - n);
+        return put_number(out, Unit::Plain, all - n);
     }
-    put_decimal(out, n)
+    put_number(out, Unit::Plain, n)
 }
 
 // The number that a name has, or the form and what it counts.
-fn put_value<A: Allocator>(out: &mut Vec<u8, A>, all: u64, of: Member<'_>, unit: &str) -> Done
-    ensures { OnOk result (out.new.items ≡ out.old.items ++ value_text all (member_view of.entry) unit.now) }
+fn put_value<A: Allocator>(out: &mut Vec<u8, A>, all: u64, of: Member, unit: &str) -> Done
+    ensures { OnOk result (out.new.items ≡ out.old.items ++ value_text all of.form unit.now of.number) }
 {
     match of.number {
         Some(number) => {
@@ -77,7 +76,7 @@ fn put_value<A: Allocator>(out: &mut Vec<u8, A>, all: u64, of: Member<'_>, unit:
         None => {
             put(out, ": ")?;
             put_form(out, of.form)?;
-            put_unless_empty(out, ", ", unit, "")
+            put_around(out, ", ", unit, "")
         }
     }
 }
@@ -87,15 +86,15 @@ fn put_line<A: Allocator>(
     out: &mut Vec<u8, A>,
     level: u8,
     all: u64,
-    of: Member<'_>,
+    of: Member,
     note: Note<'_>,
 ) -> Done
-    ensures { OnOk result (out.new.items ≡ out.old.items ++ member_line level all (member_view of.entry) (note_view note.entry)) }
+    ensures { OnOk result (out.new.items ≡ out.old.items ++ member_line level all (member_view of) (note_view note.entry)) }
 {
     put_times(out, "  ", level as usize)?;
     put(out, of.name)?;
     put_value(out, all, of, note.unit)?;
-    put_unless_empty(out, " (", note.kernel, ")")?;
+    put_around(out, " (", note.kernel, ")")?;
     put(out, "\n")
 }
 

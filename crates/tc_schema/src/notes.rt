@@ -46,6 +46,12 @@ pub struct NamesAt<'a> {
     pub names: &'a [Named<'a>],
 }
 
+const NO_NOTE: Note<'static> = Note {
+    kernel: "",
+    unit: "",
+    names: 0,
+};
+
 // The names at a place.
 pub(crate) fn names_at(names: &[NamesAt<'static>], place: usize) -> &'static [Named<'static>]
     ensures { result.now ≡ names_at names.now place }
@@ -85,14 +91,7 @@ pub(crate) fn first_note(left: Left) -> (Note<'static>, Left)
 {
     match left.notes.split_first() {
         Some((first, others)) => (*first, Left { notes: others }),
-        None => (
-            Note {
-                kernel: "",
-                unit: "",
-                names: 0,
-            },
-            left,
-        ),
+        None => (NO_NOTE, left),
     }
 }
 

@@ -5,7 +5,7 @@ ghost use Rattle.tc_forms.specs.Places.{layer_of};
 ghost use Rattle.tc_forms.specs.Records.{is_pad};
 ghost use Rattle.tc_forms.specs.Tables.{part_view};
 ghost use Rattle.tc_schema.specs.Texts.{about, about_number, between, comma, escaped, escapes, form_text, member_view, members_of, quoted, said_view};
-ghost use Rattle.tc_schema.specs.Texts.{times, unless_empty};
+ghost use Rattle.tc_schema.specs.Texts.{times, around};
 ghost use Rattle.tc_units.specs.declared.unit.Unit.TheVariants.{Plain};
 
 use std::alloc::{AllocError, Allocator};
@@ -13,38 +13,26 @@ use tc_forms::{Form, Number, Part};
 use tc_units::{Unit, put_number};
 
 /// A text was put, or there is no memory for it.
-pub(crate) type Done = Result<(), AllocError>;
+pub type Done = Result<(), AllocError>;
 
 /// Puts a text.
-pub(crate) fn put<A: Allocator>(out: &mut Vec<u8, A>, text: &str) -> Done
+pub fn put<A: Allocator>(out: &mut Vec<u8, A>, text: &str) -> Done
     ensures { OnOk result (out.new.items ≡ out.old.items ++ text.now) }
 {
     out.extend_from_slice(text.as_bytes())
 }
 
-/// Puts a number in decimal.
-pub(crate) fn put_decimal<A: Allocator>(out: &mut Vec<u8, A>, n: u64) -> Done
-    ensures { OnOk result (out.new.items ≡ out.old.items ++ decimal n) }
-{
-    put_number(out, Unit::Plain, n)
-}
-
 /// Puts a number between two texts.
-pub(crate) fn put_counted<A: Allocator>(
-    out: &mut Vec<u8, A>,
-    before: &str,
-    count: usize,
-    behind: &str,
-) -> Done
-    ensures { OnOk result (out.new.items ≡ out.old.items ++ (before.now ++ (decimal count ++ behind.now))) }
+pub fn put_counted<A: Allocator>(out: &mut Vec<u8, A>, head: &str, count: usize, tail: &str) -> Done
+    ensures { OnOk result (out.new.items ≡ out.old.items ++ (head.now ++ (decimal count ++ tail.now))) }
 {
-    put(out, before)?;
-    put_decimal(out, count as u64)?;
-    put(out, behind)
+    put(out, head)?;
+    put_number(out, Unit::Plain, count as u64)?;
+    put(out, tail)
 }
 
 /// Puts a text so many times.
-pub(crate) fn put_times<A: Allocator>(out: &mut Vec<u8, A>, text: &str, count: usize) -> Done
+pub fn put_times<A: Allocator>(out: &mut Vec<u8, A>, text: &str, count: usize) -> Done
     ensures { OnOk result (out.new.items ≡ out.old.items ++ times count text.now) }
 {
     match count.checked_sub(1) {
@@ -57,7 +45,7 @@ pub(crate) fn put_times<A: Allocator>(out: &mut Vec<u8, A>, text: &str, count: u
 }
 
 /// Puts a comma, but before the first.
-pub(crate) fn put_comma<A: Allocator>(out: &mut Vec<u8, A>, is_first: bool) -> Done
+pub fn put_comma<A: Allocator>(out: &mut Vec<u8, A>, is_first: bool) -> Done
     ensures { OnOk result (out.new.items ≡ out.old.items ++ comma is_first) }
 {
     if is_first {
@@ -67,20 +55,15 @@ pub(crate) fn put_comma<A: Allocator>(out: &mut Vec<u8, A>, is_first: bool) -> D
 }
 
 /// Puts a text between two others, or none of them if it is empty.
-pub(crate) fn put_unless_empty<A: Allocator>(
-    out: &mut Vec<u8, A>,
-    before: &str,
-    text: &str,
-    behind: &str,
-) -> Done
-    ensures { OnOk result (out.new.items ≡ out.old.items ++ unless_empty before.now text.now behind.now) }
+pub fn put_around<A: Allocator>(out: &mut Vec<u8, A>, head: &str, text: &str, tail: &str) -> Done
+    ensures { OnOk result (out.new.items ≡ out.old.items ++ around head.now text.now tail.now) }
 {
     if text.is_empty() {
         return Ok(());
     }
-    put(out, before)?;
+    put(out, head)?;
     put(out, text)?;
-    put(out, behind)
+    put(out, tail)
 }
 
 // Puts a byte of a text as in JSON. Names have no control characters; one would be a blank.
@@ -106,7 +89,7 @@ fn put_escapes<A: Allocator>(out: &mut Vec<u8, A>, text: &[u8]) -> Done
 }
 
 /// Puts a text in quotes, as in JSON.
-pub(crate) fn put_quoted<A: Allocator>(out: &mut Vec<u8, A>, text: &str) -> Done
+pub fn put_quoted<A: Allocator>(out: &mut Vec<u8, A>, text: &str) -> Done
     ensures { OnOk result (out.new.items ≡ out.old.items ++ quoted text.now) }
 {
     put(out, "\"")?;
@@ -116,17 +99,12 @@ pub(crate) fn put_quoted<A: Allocator>(out: &mut Vec<u8, A>, text: &str) -> Done
 
 /// Puts a text in quotes between two others.
 #[tactic(auto, unfolding(crate::specs::Texts::between))]
-pub(crate) fn put_between<A: Allocator>(
-    out: &mut Vec<u8, A>,
-    before: &str,
-    text: &str,
-    behind: &str,
-) -> Done
-    ensures { OnOk result (out.new.items ≡ out.old.items ++ between before.now text.now behind.now) }
+pub fn put_between<A: Allocator>(out: &mut Vec<u8, A>, head: &str, text: &str, tail: &str) -> Done
+    ensures { OnOk result (out.new.items ≡ out.old.items ++ between head.now text.now tail.now) }
 {
-    put(out, before)?;
+    put(out, head)?;
     put_quoted(out, text)?;
-    put(out, behind)
+    put(out, tail)
 }
 
 // ---- forms
@@ -134,10 +112,10 @@ pub(crate) fn put_between<A: Allocator>(
 /// What is said of a form: in words; and if it holds no others, an example of what is shown in it, and the schema of that, of a number
 /// its range.
 #[derive(Clone, Copy)]
-pub(crate) struct Said {
-    pub(crate) words: &'static str,
-    pub(crate) sample: &'static str,
-    pub(crate) schema: &'static str,
+pub struct Said {
+    pub words: &'static str,
+    pub sample: &'static str,
+    pub schema: &'static str,
 }
 
 fn say(words: &'static str, sample: &'static str, schema: &'static str) -> Said
@@ -150,7 +128,7 @@ fn say(words: &'static str, sample: &'static str, schema: &'static str) -> Said
     }
 }
 
-pub(crate) fn about_number(of: Number) -> Said
+pub fn about_number(of: Number) -> Said
     ensures { said_view result ≡ about_number of }
 {
     match of {
@@ -172,7 +150,7 @@ pub(crate) fn about_number(of: Number) -> Said
     }
 }
 
-pub(crate) fn about(form: Form) -> Said
+pub fn about(form: Form) -> Said
     ensures { said_view result ≡ about form }
 {
     match form {
@@ -207,7 +185,7 @@ pub(crate) fn about(form: Form) -> Said
 }
 
 /// Puts a form in a few words.
-pub(crate) fn put_form<A: Allocator>(out: &mut Vec<u8, A>, form: Form) -> Done
+pub fn put_form<A: Allocator>(out: &mut Vec<u8, A>, form: Form) -> Done
     ensures { OnOk result (out.new.items ≡ out.old.items ++ form_text form) }
 {
     match form {
@@ -219,7 +197,7 @@ pub(crate) fn put_form<A: Allocator>(out: &mut Vec<u8, A>, form: Form) -> Done
 }
 
 /// True for padding.
-pub(crate) fn is_pad(form: Form) -> bool
+pub fn is_pad(form: Form) -> bool
     ensures { result ≡ is_pad form }
 {
     matches!(form, Form::Pad(_))
@@ -229,20 +207,20 @@ pub(crate) fn is_pad(form: Form) -> bool
 
 /// A field, a row, a choice, or the name of a number.
 #[derive(Clone, Copy)]
-pub(crate) struct Member<'a> {
-    pub(crate) name: &'a str,
-    pub(crate) number: Option<u64>,
-    pub(crate) form: Form,
+pub struct Member {
+    pub name: &'static str,
+    pub number: Option<u64>,
+    pub form: Form,
 }
 
-fn member_of(name: &'static str, number: Option<u64>, form: Form) -> Member<'static>
+fn member_of(name: &'static str, number: Option<u64>, form: Form) -> Member
     ensures { member_view result ≡ record { name = name.now; number = number; form = form } }
 {
     Member { name, number, form }
 }
 
 /// The first member of a part, and the part without it.
-pub(crate) fn first_member(part: Part<'static>) -> Option<(Member<'static>, Part<'static>)>
+pub fn first_member(part: Part<'static>) -> Option<(Member, Part<'static>)>
     ensures { MatchOption result (members_of (part_view part.entry) ≡ [])
         (λ x. members_of (part_view part.entry) ≡ member_view x.0 ∷ members_of (part_view x.1)) }
 {
@@ -271,7 +249,7 @@ pub(crate) fn first_member(part: Part<'static>) -> Option<(Member<'static>, Part
 }
 
 /// The layer of a part.
-pub(crate) fn layer_of(part: Part<'static>) -> &'static str
+pub fn layer_of(part: Part<'static>) -> &'static str
     ensures { result.now ≡ layer_of (part_view part.entry) }
 {
     if let Part::Rows(layer, _) = part {

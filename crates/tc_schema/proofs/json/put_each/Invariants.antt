@@ -1,8 +1,8 @@
 use Rattle.std.proofs.Common.{length, ◌++◌, ◌≡◌}
 use Rattle.tc_forms.specs.Tables.{part_view}
-use Rattle.tc_schema.specs.Schemas.{each_text}
+use Rattle.tc_schema.specs.Json.{each_text}
 use Rattle.tc_schema.specs.Texts.{members_of}
-use Rattle.tc_schema.proofs.schema.put_each.Given as goal
+use Rattle.tc_schema.proofs.json.put_each.Given as goal
 
 abbrev pub decreases-loop-member : goal.decreases-loop-member
 decreases-loop-member g l = length (members_of (part_view l.left))

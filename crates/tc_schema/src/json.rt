@@ -1,18 +1,167 @@
-//! The JSON Schema of a line, and of what is shown of bytes in a form, by a table. What is shown in a part of the table is defined once, under its place.
+//! What is shown in forms, as JSON: an example, and the JSON Schema of a line. What is shown in a part of the table is defined once, under its
+//! place.
 
-ghost use Rattle.std.specs.Prelude.{OnOk, [], true, ◌++◌, ◌≡◌};
-ghost use Rattle.tc_forms.specs.Places.{layer_of};
+ghost use Rattle.std.specs.Prelude.{OnOk, [], codes, true, ◌++◌, ◌≡◌};
+ghost use Rattle.tc_forms.specs.Places.{form_of, layer_of};
 ghost use Rattle.tc_forms.specs.Tables.{kinds_view, part_view};
-ghost use Rattle.tc_schema.specs.Schemas.{array, definitions, each_text, element, form_schema, indexed, integer, is_left_out, item, kinded, kinds_schema};
-ghost use Rattle.tc_schema.specs.Schemas.{named, object_schema, one_text, only, or_raw, part_schema, reference, row, schema_of_line};
+ghost use Rattle.tc_schema.specs.Json.{array, definitions, each_text, element, example, example_by, first_example, form_schema, indexed, is_left_out, item};
+ghost use Rattle.tc_schema.specs.Json.{kind_example, kinds_schema, list_example, member_example, members_example, named, object_schema, one_text, only};
+ghost use Rattle.tc_schema.specs.Json.{or_raw, part_schema, reference, row, schema_of_line};
 ghost use Rattle.tc_schema.specs.Texts.{member_view, members_of};
 
 use crate::texts::{
-    Done, Member, about, about_number, first_member, is_pad, layer_of, put, put_between, put_comma,
-    put_counted, put_quoted,
+    Done, Member, about, about_number, first_member, is_pad, layer_of, put, put_around,
+    put_between, put_comma, put_counted, put_quoted, put_times,
 };
 use std::alloc::{AllocError, Allocator};
 use tc_forms::{Form, KindRows, Number, Part, Tables};
+
+// ---- an example
+
+// How deep an example goes, and how that of a kind begins.
+const DEEPEST: u8 = 12;
+
+const EXAMPLE: &str = "example: [{\"Kind\":";
+
+// The form at a place.
+fn form_of(place: usize, part: Part<'static>) -> Form
+    ensures { result ≡ form_of place (part_view part.entry) }
+{
+    match part {
+        Part::One(form) => form,
+        Part::Names(_) => Form::Hex,
+        Part::Fields(_) => Form::Record(place),
+        Part::Rows(_, _) | Part::Kinds(_, _, _) => Form::List(place),
+        Part::Choices(_) => Form::Choice(place),
+    }
+}
+
+// An example of what is in a form, at most so deep.
+#[cycle(example)]
+fn put_deep<T: Tables, A: Allocator>(out: &mut Vec<u8, A>, table: T, depth: u8, form: Form) -> Done
+    ensures { OnOk result (out.new.items ≡ out.old.items ++ example (T.parts_of table) depth form) }
+{
+    match depth.checked_sub(1) {
+        Some(inner) => put_inner(out, table, inner, form),
+        None => put(out, "[]"),
+    }
+}
+
+#[cycle(example)]
+fn put_inner<T: Tables, A: Allocator>(out: &mut Vec<u8, A>, table: T, inner: u8, form: Form) -> Done
+    ensures { OnOk result (out.new.items ≡ out.old.items ++ example_by (example (T.parts_of table) inner) (T.parts_of table) form) }
+{
+    match form {
+        Form::Named(_, place) => match first_member(table.part(place)) {
+            Some((first, _)) => put_quoted(out, first.name),
+            None => put(out, "{\"Other\":1}"),
+        },
+        Form::Bytes(count) | Form::Pad(count) => {
+            put(out, "\"")?;
+            put_times(out, "00", count)?;
+            put(out, "\"")
+        }
+        Form::Record(place) => put_all(out, table, inner, place),
+        Form::Choice(place) => put_one(out, table, inner, place),
+        Form::Array(place) | Form::Times(_, place) => {
+            put(out, "[")?;
+            put_deep(out, table, inner, form_of(place, table.part(place)))?;
+            put(out, "]")
+        }
+        Form::List(place) => {
+            put(out, "[")?;
+            put_first(out, table, inner, "", place)?;
+            put(out, "]")
+        }
+        _ => put(out, about(form).sample),
+    }
+}
+
+// A member of an object.
+#[cycle(example)]
+fn put_pair<T: Tables, A: Allocator>(out: &mut Vec<u8, A>, table: T, inner: u8, of: Member) -> Done
+    ensures { OnOk result (out.new.items ≡ out.old.items ++ member_example (example (T.parts_of table) inner) (member_view of)) }
+{
+    put_between(out, "", of.name, ":")?;
+    put_deep(out, table, inner, of.form)
+}
+
+// An object of the first member.
+#[cycle(example)]
+fn put_one<T: Tables, A: Allocator>(out: &mut Vec<u8, A>, table: T, inner: u8, place: usize) -> Done
+    ensures { OnOk result (out.new.items ≡ out.old.items ++ first_example (example (T.parts_of table) inner) (members_of (T.parts_of table place))) }
+{
+    match first_member(table.part(place)) {
+        Some((member, _)) => {
+            put(out, "{")?;
+            put_pair(out, table, inner, member)?;
+            put(out, "}")
+        }
+        None => put(out, "{}"),
+    }
+}
+
+// An object of all members. Padding is shown only where it isn't zero.
+#[cycle(example)]
+fn put_all<T: Tables, A: Allocator>(out: &mut Vec<u8, A>, table: T, inner: u8, place: usize) -> Done
+    ensures { OnOk result (out.new.items ≡ out.old.items ++
+        (codes "{" ++ members_example (example (T.parts_of table) inner) true (members_of (T.parts_of table place)))) }
+{
+    put(out, "{")?;
+    let mut left = table.part(place);
+    let mut is_first = true;
+    while let Some((member, others)) = first_member(left) {
+        if !is_pad(member.form) {
+            put_comma(out, is_first)?;
+            put_pair(out, table, inner, member)?;
+            is_first = false;
+        }
+        left = others;
+    }
+    put(out, "}")
+}
+
+// The first attribute of a list, in its layer and behind a text; nothing for a list of none.
+#[cycle(example)]
+fn put_first<T: Tables, A: Allocator>(
+    out: &mut Vec<u8, A>,
+    table: T,
+    inner: u8,
+    before: &str,
+    place: usize,
+) -> Done
+    ensures { OnOk result (out.new.items ≡ out.old.items ++
+        list_example (example (T.parts_of table) inner) before.now (layer_of (T.parts_of table place)) (members_of (T.parts_of table place))) }
+{
+    let part = table.part(place);
+    if first_member(part).is_none() {
+        return Ok(());
+    }
+    put(out, before)?;
+    let layer = layer_of(part);
+    if layer.is_empty() {
+        return put_one(out, table, inner, place);
+    }
+    put_between(out, "{", layer, ":")?;
+    put_one(out, table, inner, place)?;
+    put(out, "}")
+}
+
+/// Puts an example of a kind and the first attribute behind it, by the rows at a place.
+pub(crate) fn put_example<T: Tables, A: Allocator>(
+    out: &mut Vec<u8, A>,
+    table: T,
+    kind: &str,
+    rows: usize,
+) -> Done
+    ensures { OnOk result (out.new.items ≡ out.old.items ++ kind_example (T.parts_of table) kind.now rows) }
+{
+    put_between(out, EXAMPLE, kind, "}")?;
+    put_first(out, table, DEEPEST, ",", rows)?;
+    put(out, "]\n")
+}
+
+// ---- the schema
 
 // The schema of a line, up to the definitions of messages: what a line begins with, what is said of a message, of an answer, of a place
 // without a message, and at the end; and what is defined once for all tables.
@@ -61,12 +210,14 @@ const INTEGER: &str = r##"{"type":"integer","minimum":"##;
 
 const BYTES: &str = r##"{"type":"string","pattern":"^([0-9a-f]{2}){"##;
 
-// Any bytes, in hex; before what is there, or raw bytes; and before what is in a list.
-const HEX: &str = r##"{"$ref":"#/$defs/hex"}"##;
-
+// Before what is there, or raw bytes; and before what is in a list.
 const RAW_OR: &str = r##"{"anyOf":[{"$ref":"#/$defs/raw"},"##;
 
 const LIST: &str = r##"{"type":"array","items":{"anyOf":[{"$ref":"#/$defs/raw"},"##;
+
+// A list of attributes with kinds among them: before the place of its rows.
+const KINDED: &str =
+    r##"{"type":"array","items":{"anyOf":[{"$ref":"#/$defs/raw"},{"$ref":"#/$defs/kind"},{"$ref":"#/$defs/"##;
 
 // Before the members of an object, before the names of those that it must have, and behind them.
 const OBJECT: &str = r##"{"type":"object","properties":{"##;
@@ -81,7 +232,7 @@ const NAMED: &str = r##"{"anyOf":[{"$ref":"#/$defs/"##;
 
 const OR_OTHER: &str = r##""},{"type":"object","properties":{"Other":"##;
 
-const OTHER_ENDS: &str = r##"},"required":["Other"],"additionalProperties":false}]}"##;
+const OTHER_ENDS: &str = r##"}},"required":["Other"],"additionalProperties":false}]}"##;
 
 const OTHERWISE: &str =
     r##"{"type":"object","properties":{"Other":{"$ref":"#/$defs/hex"}},"required":["Other"],"additionalProperties":false}]}"##;
@@ -101,17 +252,8 @@ const UNKNOWN: &str = r##"{"anyOf":[{"$ref":"#/$defs/unknown"}"##;
 
 // ---- forms
 
-#[tactic(auto, unfolding(crate::specs::Schemas::integer))]
-fn put_integer<A: Allocator>(out: &mut Vec<u8, A>, of: Number) -> Done
-    ensures { OnOk result (out.new.items ≡ out.old.items ++ integer of) }
-{
-    put(out, INTEGER)?;
-    put(out, about_number(of).schema)?;
-    put(out, "}")
-}
-
 // Refers to the definition of a place.
-#[tactic(auto, unfolding(crate::specs::Schemas::reference))]
+#[tactic(auto, unfolding(crate::specs::Json::reference))]
 fn put_reference<A: Allocator>(out: &mut Vec<u8, A>, place: usize) -> Done
     ensures { OnOk result (out.new.items ≡ out.old.items ++ reference place) }
 {
@@ -123,12 +265,11 @@ fn put_named<A: Allocator>(out: &mut Vec<u8, A>, of: Number, place: usize) -> Do
     ensures { OnOk result (out.new.items ≡ out.old.items ++ named of place) }
 {
     put_counted(out, NAMED, place, OR_OTHER)?;
-    put_integer(out, of)?;
-    put(out, OTHER_ENDS)
+    put_around(out, INTEGER, about_number(of).schema, OTHER_ENDS)
 }
 
 // An attribute of a list, in its layer.
-#[tactic(auto, unfolding(crate::specs::Schemas::only))]
+#[tactic(auto, unfolding(crate::specs::Json::only))]
 fn put_layered<A: Allocator>(out: &mut Vec<u8, A>, place: usize, layer: &str) -> Done
     ensures { OnOk result (out.new.items ≡ out.old.items ++ only layer.now (reference place)) }
 {
@@ -155,23 +296,13 @@ fn put_list<A: Allocator>(out: &mut Vec<u8, A>, place: usize, layer: &str) -> Do
     put(out, "]}}")
 }
 
-// A list of attributes with kinds among them.
-fn put_kinded<A: Allocator>(out: &mut Vec<u8, A>, place: usize) -> Done
-    ensures { OnOk result (out.new.items ≡ out.old.items ++ array (kinded place)) }
-{
-    put(out, LIST)?;
-    put(out, "{\"$ref\":\"#/$defs/kind\"},")?;
-    put_reference(out, place)?;
-    put(out, "]}}")
-}
-
 // What an array, or an attribute of any type, holds.
 fn put_element<A: Allocator>(out: &mut Vec<u8, A>, place: usize, part: Part<'static>) -> Done
     ensures { OnOk result (out.new.items ≡ out.old.items ++ element place (part_view part.entry)) }
 {
     match part {
         Part::One(_) | Part::Fields(_) | Part::Choices(_) => put_reference(out, place),
-        Part::Names(_) => put(out, HEX),
+        Part::Names(_) => put(out, about(Form::Hex).schema),
         Part::Rows(layer, _) => put_list(out, place, layer),
         Part::Kinds(_, _, _) => put_list(out, place, ""),
     }
@@ -200,13 +331,13 @@ fn put_form<T: Tables, A: Allocator>(out: &mut Vec<u8, A>, table: T, form: Form)
     ensures { OnOk result (out.new.items ≡ out.old.items ++ form_schema (T.parts_of table) form) }
 {
     match form {
-        Form::Number(of) => put_integer(out, of),
+        Form::Number(of) => put_around(out, INTEGER, about_number(of).schema, "}"),
         Form::Named(of, place) => put_named(out, of, place),
         Form::Bytes(count) | Form::Pad(count) => put_counted(out, BYTES, count, "}$\"}"),
         Form::Record(place) | Form::Choice(place) => put_reference(out, place),
         Form::Array(place) | Form::Times(_, place) => put_array(out, place, table.part(place)),
         Form::List(place) => put_list(out, place, layer_of(table.part(place))),
-        Form::InForce(place) | Form::Own(place) => put_kinded(out, place),
+        Form::InForce(place) | Form::Own(place) => put_counted(out, KINDED, place, "\"}]}}"),
         Form::Indexed(place) => put_indexed(out, place, table.part(place)),
         _ => put(out, about(form).schema),
     }
@@ -232,15 +363,15 @@ enum Each {
     Alternative,
 }
 
-#[tactic(auto, unfolding(crate::specs::Schemas::only))]
-fn put_one<T: Tables, A: Allocator>(
+#[tactic(auto, unfolding(crate::specs::Json::only))]
+fn put_text<T: Tables, A: Allocator>(
     out: &mut Vec<u8, A>,
     table: T,
     each: Each,
     is_first: bool,
-    member: Member<'static>,
+    member: Member,
 ) -> Done
-    ensures { OnOk result (out.new.items ≡ out.old.items ++ one_text (T.parts_of table) each is_first (member_view member.entry)) }
+    ensures { OnOk result (out.new.items ≡ out.old.items ++ one_text (T.parts_of table) each is_first (member_view member)) }
 {
     match each {
         Each::Property => {
@@ -284,7 +415,7 @@ fn put_each<T: Tables, A: Allocator>(
     let mut is_first = true;
     while let Some((member, others)) = first_member(left) {
         if !is_left_out(each, member.form) {
-            put_one(out, table, each, is_first, member)?;
+            put_text(out, table, each, is_first, member)?;
             is_first = false;
         }
         left = others;
@@ -293,7 +424,7 @@ fn put_each<T: Tables, A: Allocator>(
 }
 
 // An object of these members and others, of which it must have some.
-#[tactic(auto, unfolding(crate::specs::Schemas::object_schema))]
+#[tactic(auto, unfolding(crate::specs::Json::object_schema))]
 fn put_object<T: Tables, A: Allocator>(
     out: &mut Vec<u8, A>,
     table: T,
@@ -367,17 +498,13 @@ fn put_part<T: Tables, A: Allocator>(out: &mut Vec<u8, A>, table: T, part: Part<
 }
 
 // A definition for each place.
-fn put_definitions<T: Tables, A: Allocator>(
-    out: &mut Vec<u8, A>,
-    table: T,
-    places: &[usize],
-) -> Done
+fn put_places<T: Tables, A: Allocator>(out: &mut Vec<u8, A>, table: T, places: &[usize]) -> Done
     ensures { OnOk result (out.new.items ≡ out.old.items ++ definitions (T.parts_of table) places.now) }
 {
     if let Some((first, others)) = places.split_first() {
         put_counted(out, ",\n\"", *first, "\":")?;
         put_part(out, table, table.part(*first))?;
-        put_definitions(out, table, others)?;
+        put_places(out, table, others)?;
     }
     Ok(())
 }
@@ -398,6 +525,6 @@ pub fn put_schema<T: Tables, A: Allocator>(
     put_shown(out, table, tc)?;
     put(out, ",\n\"action\":")?;
     put_shown(out, table, action)?;
-    put_definitions(out, table, places)?;
+    put_places(out, table, places)?;
     put(out, "}}\n")
 }

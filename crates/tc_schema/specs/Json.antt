@@ -1,28 +1,85 @@
--- The JSON Schema of a line: what is shown in each form, and a definition for each place of the table. The constants are texts of JSON.
-use Rattle.std.specs.Prelude.{Bool, List, [], codes, decimal, false, if◌then◌else◌, true, ℕ, ◌++◌, ◌∷◌}
-use Rattle.tc_forms.specs.Places.{layer_of}
+-- What is shown in forms, as JSON: an example, and the JSON Schema of a line. The constants are texts of JSON.
+use Rattle.std.specs.Prelude.{Bool, List, [], codes, decimal, false, if◌then◌else◌, suc, true, zero, ℕ, ◌++◌, ◌∷◌}
+use Rattle.tc_forms.specs.Places.{form_of, layer_of}
 use Rattle.tc_forms.specs.Records.{is_pad}
 use Rattle.tc_forms.specs.Tables.{Choices, Fields, KindRows, Kinds, Names, One, Part, Rows, Table}
 use Rattle.tc_forms.specs.declared.form.Form.{Form}
 use Rattle.tc_forms.specs.declared.form.Form.TheVariants as form
 use Rattle.tc_forms.specs.declared.form.Number.{Number}
-use Rattle.tc_schema.specs.Texts.{Member, between, comma, members_of, quoted, about, about_number}
-use Rattle.tc_schema.specs.declared.schema.Each.{Each}
-use Rattle.tc_schema.specs.declared.schema.Each.TheVariants as each
-use Rattle.tc_schema.specs.declared.schema.TheConstants.{BYTES, CLOSED, HEX, INTEGER, LINE, LIST, NAMED, OBJECT, OR_OTHER, OTHER_ENDS, OTHERWISE, RAW_OR}
-use Rattle.tc_schema.specs.declared.schema.TheConstants.{REQUIRED, REST, TAB, TAB_ENDS, UNKNOWN, WORD}
+use Rattle.tc_schema.specs.Texts.{Member, about, about_number, around, between, comma, members_of, quoted, times}
+use Rattle.tc_schema.specs.declared.json.Each.{Each}
+use Rattle.tc_schema.specs.declared.json.Each.TheVariants as each
+use Rattle.tc_schema.specs.declared.json.TheConstants.{BYTES, CLOSED, EXAMPLE, INTEGER, KINDED, LINE, LIST, NAMED, OBJECT, OR_OTHER, OTHER_ENDS}
+use Rattle.tc_schema.specs.declared.json.TheConstants.{OTHERWISE, RAW_OR, REQUIRED, REST, TAB, TAB_ENDS, UNKNOWN, WORD}
 
--- ---- forms
+-- ---- an example: of lists and choices the first, of records each field
 
--- an integer from .. to ..; this and some others are shut, so that what calls give isn't computed
-unfoldable pub integer : Number → List ℕ
-integer of = INTEGER.now ++ ((about_number of).schema ++ codes "}")
+abbrev pub name_example : List Member → List ℕ
+name_example [] = codes "{\"Other\":1}"
+name_example (m ∷ ms) = quoted m.name
+
+-- zeros in hex
+abbrev pub zeros : ℕ → List ℕ
+zeros n = codes "\"" ++ (times n (codes "00") ++ codes "\"")
+
+module _ (Inner : Form → List ℕ) where
+  -- a member of an object
+  abbrev pub member_example : Member → List ℕ
+  member_example m = between [] m.name (codes ":") ++ Inner m.form
+
+  -- all members; padding is shown only where it isn't zero
+  abbrev pub members_example : Bool → List Member → List ℕ
+  members_example is_first [] = codes "}"
+  members_example is_first (m ∷ ms) =
+      if is_pad m.form then members_example is_first ms else comma is_first ++ (member_example m ++ members_example false ms)
+
+  abbrev pub first_example : List Member → List ℕ
+  first_example [] = codes "{}"
+  first_example (m ∷ ms) = codes "{" ++ (member_example m ++ codes "}")
+
+  -- an object in a list, in its layer
+  abbrev pub layered_example : List ℕ → List ℕ → List ℕ
+  layered_example [] text = text
+  layered_example (c ∷ cs) text = between (codes "{") (c ∷ cs) (codes ":") ++ (text ++ codes "}")
+
+  -- the first attribute of a list, behind a text
+  abbrev pub list_example : List ℕ → List ℕ → List Member → List ℕ
+  list_example before layer [] = []
+  list_example before layer (m ∷ ms) = before ++ layered_example layer (first_example (m ∷ ms))
+
+  abbrev pub example_by : Table → Form → List ℕ
+  example_by table (form.Named of i) = name_example (members_of (table i))
+  example_by table (form.Bytes n) = zeros n
+  example_by table (form.Pad n) = zeros n
+  example_by table (form.Record i) = codes "{" ++ members_example true (members_of (table i))
+  example_by table (form.Choice i) = first_example (members_of (table i))
+  example_by table (form.Array i) = codes "[" ++ (Inner (form_of i (table i)) ++ codes "]")
+  example_by table (form.Times n i) = codes "[" ++ (Inner (form_of i (table i)) ++ codes "]")
+  example_by table (form.List i) = codes "[" ++ (list_example [] (layer_of (table i)) (members_of (table i)) ++ codes "]")
+  example_by table f = (about f).sample
+
+-- at most so deep
+abbrev pub example : Table → ℕ → Form → List ℕ
+example table zero f = codes "[]"
+example table (suc n) f = example_by (example table n) table f
+
+-- a kind and the first attribute behind it, by the rows at a place
+abbrev pub kind_example : Table → List ℕ → ℕ → List ℕ
+kind_example table kind rows =
+    between EXAMPLE.now kind (codes "}")
+    ++ (list_example (example table 12) (codes ",") (layer_of (table rows)) (members_of (table rows)) ++ codes "]\n")
+
+-- ---- the schema of what is shown in each form
+
+-- an integer from .. to ..
+abbrev pub integer : Number → List ℕ → List ℕ
+integer of tail = around INTEGER.now (about_number of).schema tail
 
 -- hex of so many bytes
 abbrev pub bytes : ℕ → List ℕ
 bytes n = BYTES.now ++ (decimal n ++ codes "}$\"}")
 
--- the definition of a place
+-- the definition of a place; shut, as some others, so that what calls give isn't computed
 unfoldable pub reference : ℕ → List ℕ
 reference i = codes "{\"$ref\":\"#/$defs/" ++ (decimal i ++ codes "\"}")
 
@@ -39,19 +96,19 @@ only name s = between OBJECT.now name (codes ":") ++ (s ++ between REQUIRED.now 
 
 -- a name, or a number without one
 abbrev pub named : Number → ℕ → List ℕ
-named of i = (NAMED.now ++ (decimal i ++ OR_OTHER.now)) ++ (integer of ++ OTHER_ENDS.now)
+named of i = (NAMED.now ++ (decimal i ++ OR_OTHER.now)) ++ integer of OTHER_ENDS.now
 
--- an attribute of a list, in its layer; and of one with kinds
+-- an attribute of a list, in its layer; and a list with kinds among them
 abbrev pub item : ℕ → List ℕ → List ℕ
 item i [] = reference i
 item i (c ∷ cs) = only (c ∷ cs) (reference i)
 
 abbrev pub kinded : ℕ → List ℕ
-kinded i = codes "{\"$ref\":\"#/$defs/kind\"}," ++ reference i
+kinded i = KINDED.now ++ (decimal i ++ codes "\"}]}}")
 
 -- what an array, or an attribute of any type, holds
 abbrev pub element : ℕ → Part → List ℕ
-element i (Names ns) = HEX.now
+element i (Names ns) = (about form.Hex).schema
 element i (Rows layer rs) = array (item i layer)
 element i (Kinds every others ks) = array (item i [])
 element i p = reference i
@@ -62,7 +119,7 @@ indexed s = LIST.now ++ (TAB.now ++ (s ++ TAB_ENDS.now))
 
 -- what is shown in a form where the bytes follow it
 abbrev pub form_schema : Table → Form → List ℕ
-form_schema table (form.Number of) = integer of
+form_schema table (form.Number of) = integer of (codes "}")
 form_schema table (form.Named of i) = named of i
 form_schema table (form.Bytes n) = bytes n
 form_schema table (form.Pad n) = bytes n
@@ -71,12 +128,12 @@ form_schema table (form.Choice i) = reference i
 form_schema table (form.Array i) = array (element i (table i))
 form_schema table (form.Times n i) = array (element i (table i))
 form_schema table (form.List i) = array (item i (layer_of (table i)))
-form_schema table (form.InForce i) = array (kinded i)
-form_schema table (form.Own i) = array (kinded i)
+form_schema table (form.InForce i) = kinded i
+form_schema table (form.Own i) = kinded i
 form_schema table (form.Indexed i) = indexed (element i (table i))
 form_schema table f = (about f).schema
 
--- ---- parts
+-- ---- and of each part
 
 -- padding is shown only where it isn't zero
 abbrev pub is_left_out : Each → Form → Bool
