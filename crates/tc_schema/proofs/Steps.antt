@@ -1,22 +1,25 @@
 -- One step of what goes down a number.
-use Rattle.std.proofs.Common.{List, Some, ap, ◌≡◌, ℕ, suc, ◌++◌, ◌-◌, refl, subst, sym}
-use Rattle.std.specs.Prelude.{codes}
+use Rattle.std.proofs.Common.{List, None, Some, ap, ◌≡◌, ℕ, suc, ◌++◌, ◌-◌, ◌∙◌, refl, subst, sym}
 use Rattle.tc_forms.specs.Tables.{Table}
 use Rattle.tc_forms.specs.declared.form.Form.{Form}
-use Rattle.tc_schema.specs.Examples.{zeros}
-use Rattle.tc_schema.specs.Explained.{deepest, explained, indent, part_text, place_in, text_at}
-use Rattle.tc_schema.specs.Notes.{NamesAt, Noted, notes_at}
+use Rattle.tc_schema.specs.Explained.{alone, deepest, explained, members_text, part_text, place_in, signed_of, text_at}
+use Rattle.tc_schema.specs.Notes.{notes_at}
+use Rattle.tc_schema.specs.declared.notes.NamesAt.{NamesAt}
+use Rattle.tc_schema.specs.declared.notes.Noted.{Noted}
+use Rattle.tc_schema.specs.Texts.{members_of, times}
 
-pub indent_more : (n k : ℕ) → n ≡ suc k → indent n ≡ codes "  " ++ indent k
-indent_more n k e = subst (λ m. indent m ≡ codes "  " ++ indent k) (sym e) refl
+pub times_more : (n k : ℕ) (text : List ℕ) → n ≡ suc k → times n text ≡ text ++ times k text
+times_more n k text e = subst (λ m. times m text ≡ text ++ times k text) (sym e) refl
 
-pub zeros_more : (n k : ℕ) → n ≡ suc k → zeros n ≡ codes "00" ++ zeros k
-zeros_more n k e = subst (λ m. zeros m ≡ codes "00" ++ zeros k) (sym e) refl
-
--- what is within a form that names a place
-pub explained_at : (table : Table) (notes : List Noted) (names : List NamesAt) (n k : ℕ) (f : Form) (i : ℕ) → n ≡ suc k → place_in f ≡ Some i
-    → explained table notes names n f ≡ part_text (explained table notes names k) names (deepest - k) f (table i) (notes_at notes i)
-explained_at table notes names n k f i e p =
-    subst
-    (λ m. explained table notes names m f ≡ part_text (explained table notes names k) names (deepest - k) f (table i) (notes_at notes i))
-    (sym e) (ap (text_at (explained table notes names k) names table notes (deepest - k) f) p)
+-- what is within a form that names the place of members
+pub explained_at : (table : Table) (notes : List Noted) (names : List NamesAt) (n k : ℕ) (f : Form) (i : ℕ)
+    → n ≡ suc k → place_in f ≡ Some i → alone (table i) ≡ None
+    → explained table notes names n f
+    ≡ members_text (explained table notes names k) names (deepest - k) (signed_of f) (members_of (table i)) (notes_at notes i)
+explained_at table notes names n k f i e p a =
+    let Inner = explained table notes names k in
+    let Goal : ℕ → Type 0 = λ m. explained table notes names m f
+    ≡ members_text Inner names (deepest - k) (signed_of f) (members_of (table i)) (notes_at notes i) in
+    subst Goal (sym e)
+    (ap (text_at Inner names table notes (deepest - k) (signed_of f)) p
+    ∙ ap (part_text Inner names (deepest - k) (signed_of f) (table i) (notes_at notes i)) a)

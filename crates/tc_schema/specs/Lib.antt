@@ -1,4 +1,4 @@
-pub mod Examples
 pub mod Explained
+pub mod Json
 pub mod Notes
 pub mod Texts

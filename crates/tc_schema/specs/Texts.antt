@@ -1,69 +1,114 @@
--- Forms in words, and the members of parts.
-use Rattle.std.specs.Prelude.{List, [], codes, decimal, map, ℕ, ◌++◌}
-use Rattle.tc_forms.specs.Tables.{Choice, Choices, Field, Fields, Part, Row, Rows}
+-- Texts as in JSON, what is said of each form, and the members of parts.
+use Rattle.std.specs.Prelude.{Bool, List, None, Option, Some, [], codes, decimal, false, if◌then◌else◌, map, nat_lt, suc, true, zero, ℕ, ◌++◌, ◌==◌, ◌∷◌}
+use Rattle.tc_forms.specs.Tables.{Choice, Choices, Field, Fields, Name, Names, Part, Row, Rows}
 use Rattle.tc_forms.specs.declared.form.Form.{Form}
 use Rattle.tc_forms.specs.declared.form.Form.TheVariants as form
 use Rattle.tc_forms.specs.declared.form.Number.{Number}
 use Rattle.tc_forms.specs.declared.form.Number.TheVariants as number
 use Rattle.tc_schema.specs.declared.texts.Member.{Member as CodeMember}
+use Rattle.tc_schema.specs.declared.texts.Said.{Said as CodeSaid}
 
-abbrev pub number_word : Number → List ℕ
-number_word number.U8 = codes "u8"
-number_word number.U16 = codes "u16"
-number_word number.U32 = codes "u32"
-number_word number.U64 = codes "u64"
-number_word number.I8 = codes "i8"
-number_word number.I16 = codes "i16"
-number_word number.I32 = codes "i32"
-number_word number.I64 = codes "i64"
-number_word number.U16Be = codes "u16, big-endian"
-number_word number.U32Be = codes "u32, big-endian"
-number_word number.U64Be = codes "u64, big-endian"
+-- a byte of a text in JSON; a control character is a blank
+abbrev pub escaped : ℕ → List ℕ
+escaped c = if c == 34 then codes "\\\"" else if c == 92 then codes "\\\\" else if nat_lt c 32 then codes " " else c ∷ []
+
+abbrev pub escapes : List ℕ → List ℕ
+escapes [] = []
+escapes (c ∷ cs) = escaped c ++ escapes cs
+
+-- a text in quotes
+abbrev pub quoted : List ℕ → List ℕ
+quoted text = codes "\"" ++ (escapes text ++ codes "\"")
+
+-- shut, so that what calls give isn't computed
+unfoldable pub between : List ℕ → List ℕ → List ℕ → List ℕ
+between head text tail = head ++ (quoted text ++ tail)
+
+-- a text so many times
+abbrev pub times : ℕ → List ℕ → List ℕ
+times zero text = []
+times (suc n) text = text ++ times n text
+
+-- a comma, but before the first
+abbrev pub comma : Bool → List ℕ
+comma true = []
+comma false = codes ","
+
+-- a text between two others, or none of them if it is empty
+abbrev pub around : List ℕ → List ℕ → List ℕ → List ℕ
+around head [] tail = []
+around head (c ∷ cs) tail = head ++ ((c ∷ cs) ++ tail)
+
+-- ---- forms
+
+-- what is said of a form: in words; and if it holds no others, an example of what is shown in it, and the schema of that, of a number its range
+pub record Said : Type 0 where
+  pub words : List ℕ
+  pub sample : List ℕ
+  pub schema : List ℕ
+
+abbrev pub say : List ℕ → List ℕ → List ℕ → Said
+say words sample schema = record { words = words; sample = sample; schema = schema }
+
+abbrev pub said_view : CodeSaid → Said
+said_view x = say x.words.now x.sample.now x.schema.now
+
+abbrev pub about_number : Number → Said
+about_number number.U8 = say (codes "u8") (codes "1") (codes "0,\"maximum\":255")
+about_number number.U16 = say (codes "u16") (codes "1") (codes "0,\"maximum\":65535")
+about_number number.U32 = say (codes "u32") (codes "1") (codes "0,\"maximum\":4294967295")
+about_number number.U64 = say (codes "u64") (codes "1") (codes "0,\"maximum\":18446744073709551615")
+about_number number.I8 = say (codes "i8") (codes "1") (codes "-128,\"maximum\":127")
+about_number number.I16 = say (codes "i16") (codes "1") (codes "-32768,\"maximum\":32767")
+about_number number.I32 = say (codes "i32") (codes "1") (codes "-2147483648,\"maximum\":2147483647")
+about_number number.I64 = say (codes "i64") (codes "1") (codes "-9223372036854775808,\"maximum\":9223372036854775807")
+about_number number.U16Be = say (codes "u16, big-endian") (codes "1") (codes "0,\"maximum\":65535")
+about_number number.U32Be = say (codes "u32, big-endian") (codes "1") (codes "0,\"maximum\":4294967295")
+about_number number.U64Be = say (codes "u64, big-endian") (codes "1") (codes "0,\"maximum\":18446744073709551615")
+
+abbrev pub about : Form → Said
+about (form.Number of) = about_number of
+about (form.Named of i) = about_number of
+about form.Handle = say (codes "handle") (codes "\"1:1\"") (codes "{\"$ref\":\"#/$defs/handle\"}")
+about form.Flag = say (codes "flag") (codes "true") (codes "{\"const\":true}")
+about form.Truth = say (codes "false or true") (codes "true") (codes "{\"type\":\"boolean\"}")
+about form.Text = say (codes "text") (codes "\"text\"") (codes "{\"type\":\"string\"}")
+about form.Bare = say (codes "text") (codes "\"text\"") (codes "{\"type\":\"string\"}")
+about form.Mac = say (codes "MAC address") (codes "\"02:00:00:00:00:01\"") (codes "{\"$ref\":\"#/$defs/mac\"}")
+about form.Ipv4 = say (codes "IPv4 address") (codes "\"192.0.2.1\"") (codes "{\"$ref\":\"#/$defs/ipv4\"}")
+about form.Ipv6 = say (codes "IPv6 address") (codes "\"2001:db8::1\"") (codes "{\"$ref\":\"#/$defs/ipv6\"}")
+about (form.Record i) = say (codes "record") (codes "[]") []
+about (form.Array i) = say (codes "array") (codes "[]") []
+about (form.List i) = say (codes "attributes") (codes "[]") []
+about (form.InForce i) = say (codes "attributes") (codes "[]") []
+about (form.Own i) = say (codes "attributes by their kind") (codes "[]") []
+about (form.Indexed i) = say (codes "list") (codes "[]") []
+about (form.Choice i) = say (codes "one of") (codes "[]") []
+about f = say (codes "hex") (codes "\"00ff\"") (codes "{\"$ref\":\"#/$defs/hex\"}")
 
 -- a form in a few words
 abbrev pub form_text : Form → List ℕ
-form_text (form.Number of) = number_word of
-form_text (form.Named of i) = number_word of
-form_text form.Handle = codes "handle"
-form_text form.Flag = codes "flag"
-form_text form.Truth = codes "false or true"
-form_text form.Text = codes "text"
-form_text form.Bare = codes "text"
-form_text form.Hex = codes "hex"
 form_text (form.Bytes n) = codes "hex of " ++ (decimal n ++ codes " bytes")
 form_text (form.Pad n) = codes "padding of " ++ (decimal n ++ codes " bytes")
-form_text form.Mac = codes "MAC address"
-form_text form.Ipv4 = codes "IPv4 address"
-form_text form.Ipv6 = codes "IPv6 address"
-form_text (form.Record i) = codes "record"
-form_text (form.Array i) = codes "array"
 form_text (form.Times n i) = codes "array of " ++ (decimal n ++ [])
-form_text (form.List i) = codes "attributes"
-form_text (form.InForce i) = codes "attributes"
-form_text (form.Own i) = codes "attributes by their kind"
-form_text (form.Indexed i) = codes "list"
-form_text (form.Choice i) = codes "one of"
+form_text f = (about f).words
 
--- ---- what parts have: fields, rows and choices, each with a name and a form
+-- ---- what parts have: fields, rows, choices, and names of numbers, each with a name, and a form or a number
 
 pub record Member : Type 0 where
   pub name : List ℕ
+  pub number : Option ℕ
   pub form : Form
 
-abbrev pub member_of_field : Field → Member
-member_of_field f = record { name = f.name; form = f.form }
-
-abbrev pub member_of_row : Row → Member
-member_of_row r = record { name = r.name; form = r.form }
-
-abbrev pub member_of_choice : Choice → Member
-member_of_choice c = record { name = c.name; form = c.form }
+abbrev pub member : List ℕ → Form → Member
+member name f = record { name = name; number = None; form = f }
 
 abbrev pub members_of : Part → List Member
-members_of (Fields fs) = map member_of_field fs
-members_of (Rows layer rs) = map member_of_row rs
-members_of (Choices cs) = map member_of_choice cs
+members_of (Fields fs) = map (λ x. member x.name x.form) fs
+members_of (Rows layer rs) = map (λ x. member x.name x.form) rs
+members_of (Choices cs) = map (λ x. member x.name x.form) cs
+members_of (Names ns) = map (λ x. record { name = x.name; number = Some x.number; form = form.Hex }) ns
 members_of p = []
 
 abbrev pub member_view : CodeMember → Member
-member_view m = record { name = m.name.now; form = m.form }
+member_view m = record { name = m.name.now; number = m.number; form = m.form }

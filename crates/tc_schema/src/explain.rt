@@ -1,139 +1,45 @@
 //! What the attributes of a kind are, for people.
 
-ghost use Rattle.std.specs.Prelude.{OnOk, [], map, option_map, ◌+◌, ◌++◌, ◌-◌, ◌≡◌, ◌≤◌};
-ghost use Rattle.tc_forms.specs.Tables.{kinds_view, names_view, part_view};
-ghost use Rattle.tc_schema.specs.Explained.{deepest, explained, indent, is_known, kernel_text, kind_text, kinds_of, member_line, member_lines, members_text, named_line, named_lines, names_lines, place_in, rows_of_kind, signed_of, signed_text, unit_text, unit_word};
-ghost use Rattle.tc_schema.specs.Notes.{named_views, names_at_views, note_view, note_views, noted_views, notes_at};
+ghost use Rattle.std.specs.Prelude.{OnOk, is_some, ◌++◌, ◌-◌, ◌≡◌, ◌≤◌};
+ghost use Rattle.tc_forms.specs.Tables.{kinds_view, part_view};
+ghost use Rattle.tc_schema.specs.Explained.{alone, deepest, explained, kind_text, kinds_of, member_line, members_text, named_lines, place_in};
+ghost use Rattle.tc_schema.specs.Explained.{rows_of_kind, signed_of, signed_text, value_text};
+ghost use Rattle.tc_schema.specs.Notes.{note_view, notes_at};
 ghost use Rattle.tc_schema.specs.Texts.{member_view, members_of};
 
-use crate::example::put_example;
-use crate::notes::{Left, Named, NamesAt, Note, Noted, Unit, first_note, names_at, notes_at};
-use crate::texts::{Member, first_member, put, put_decimal, put_form};
+use crate::json::put_example;
+use crate::notes::{Left, Named, NamesAt, Note, Noted, first_note, names_at, notes_at};
+use crate::texts::{Done, Member, first_member, put, put_around, put_form, put_times};
 use std::alloc::{AllocError, Allocator};
-use tc_forms::{Form, KindRows, Name, Number, Part, Tables};
+use tc_forms::{Form, KindRows, Number, Part, Tables};
+use tc_units::{Unit, put_number};
 
 // How deep attributes are explained.
 const DEEPEST: u8 = 12;
 
-fn put_indent<A: Allocator>(out: &mut Vec<u8, A>, level: u8) -> Result<(), AllocError>
-    ensures { OnOk result (out.new.items ≡ out.old.items ++ indent level) }
-{
-    let outer = match level.checked_sub(1) {
-        Some(outer) => outer,
-        None => return Ok(()),
-    };
-    put(out, "  ")?;
-    put_indent(out, outer)
+// Where a form is explained: by this table and what is known beside it, with so many levels left.
+#[derive(Clone, Copy)]
+struct At<'a, T> {
+    table: T,
+    notes: &'a [Noted<'static>],
+    names: &'a [NamesAt<'static>],
+    depth: u8,
 }
 
-// Puts the kernel's name in brackets, and ends the line.
-fn put_kernel<A: Allocator>(out: &mut Vec<u8, A>, kernel: &str) -> Result<(), AllocError>
-    ensures { OnOk result (out.new.items ≡ out.old.items ++ kernel_text kernel.now) }
-{
-    if kernel.is_empty() {
-        return Ok(());
-    }
-    put(out, " (")?;
-    put(out, kernel)?;
-    put(out, ")")
-}
-
-// What a number counts, in words.
-fn unit_word(unit: Unit) -> &'static str
-    ensures { result.now ≡ unit_word unit }
-{
-    match unit {
-        Unit::Plain => "",
-        Unit::Bytes => "bytes",
-        Unit::Packets => "packets",
-        Unit::BytesPerSecond => "bytes a second",
-        Unit::PacketsPerSecond => "packets a second",
-        Unit::KilobitsPerSecond => "1000 bits a second",
-        Unit::Nanoseconds => "nanoseconds",
-        Unit::Microseconds => "microseconds",
-        Unit::Milliseconds => "milliseconds",
-        Unit::Seconds => "seconds",
-        Unit::Ticks => "ticks of 64 ns",
-        Unit::ClockTicks => "hundredths of a second",
-        Unit::Percent => "percent",
-        Unit::Probability => "probability, 2^-32 each",
-        Unit::Power => "exponent of 2",
-        Unit::Interface => "interface",
-    }
-}
-
-fn put_unit<A: Allocator>(out: &mut Vec<u8, A>, unit: &str) -> Result<(), AllocError>
-    ensures { OnOk result (out.new.items ≡ out.old.items ++ unit_text unit.now) }
-{
-    if unit.is_empty() {
-        return Ok(());
-    }
-    put(out, ", ")?;
-    put(out, unit)
-}
-
-// A line for a number and its name.
-fn put_named<A: Allocator>(
-    out: &mut Vec<u8, A>,
-    level: u8,
-    named: &Named<'_>,
-) -> Result<(), AllocError>
-    ensures { OnOk result (out.new.items ≡ out.old.items ++ named_line level named.now.name.now named.now.number.now named.now.kernel.now) }
-{
-    put_indent(out, level)?;
-    put(out, named.name)?;
-    put(out, " = ")?;
-    put(out, named.number)?;
-    put_kernel(out, named.kernel)?;
-    put(out, "\n")
-}
-
-fn put_all_named<A: Allocator>(
-    out: &mut Vec<u8, A>,
-    level: u8,
-    names: &[Named<'_>],
-) -> Result<(), AllocError>
-    ensures { OnOk result (out.new.items ≡ out.old.items ++ named_lines level (named_views names.now)) }
+// A line for each number and its name.
+fn put_named<A: Allocator>(out: &mut Vec<u8, A>, level: u8, names: &[Named<'_>]) -> Done
+    ensures { OnOk result (out.new.items ≡ out.old.items ++ named_lines level names.now) }
 {
     if let Some((first, others)) = names.split_first() {
-        put_named(out, level, first)?;
-        put_all_named(out, level, others)?;
+        put_times(out, "  ", level as usize)?;
+        put(out, first.name)?;
+        put(out, " = ")?;
+        put(out, first.number)?;
+        put_around(out, " (", first.kernel, ")")?;
+        put(out, "\n")?;
+        put_named(out, level, others)?;
     }
     Ok(())
-}
-
-// A line for a member: a name, a form, a unit and the kernel's name.
-fn put_member_line<A: Allocator>(
-    out: &mut Vec<u8, A>,
-    level: u8,
-    member: Member<'static>,
-    note: Note<'static>,
-) -> Result<(), AllocError>
-    ensures { OnOk result (out.new.items ≡ out.old.items ++ member_line level (member_view member.entry) (note_view note.entry)) }
-{
-    put_indent(out, level)?;
-    put(out, member.name)?;
-    put(out, ": ")?;
-    put_form(out, member.form)?;
-    put_unit(out, unit_word(note.unit))?;
-    put_kernel(out, note.kernel)?;
-    put(out, "\n")
-}
-
-// The same, and below it the names of numbers and bits.
-fn put_member<A: Allocator>(
-    out: &mut Vec<u8, A>,
-    names: &[NamesAt<'static>],
-    level: u8,
-    member: Member<'static>,
-    note: Note<'static>,
-) -> Result<(), AllocError>
-    requires { level ≤ 12 }
-    ensures { OnOk result (out.new.items ≡ out.old.items ++
-        member_lines (names_at_views names.now) level (member_view member.entry) (note_view note.entry)) }
-{
-    put_member_line(out, level, member, note)?;
-    put_all_named(out, level + 1, names_at(names, note.names))
 }
 
 // How many numbers a signed form has; 0 for others.
@@ -148,49 +54,48 @@ fn signed_of(form: Form) -> u64
     }
 }
 
-fn put_signed<A: Allocator>(out: &mut Vec<u8, A>, all: u64, n: u64) -> Result<(), AllocError>
+fn put_signed<A: Allocator>(out: &mut Vec<u8, A>, all: u64, n: u64) -> Done
     ensures { OnOk result (out.new.items ≡ out.old.items ++ signed_text all n) }
 {
     if all / 2 <= n && n < all {
         put(out, "-")?;
-        return put_decimal(out, all - n);
+        return put_number(out, Unit::Plain, all - n);
     }
-    put_decimal(out, n)
+    put_number(out, Unit::Plain, n)
 }
 
-// A line for a number of the table and its name.
-fn put_name<A: Allocator>(
+// The number that a name has, or the form and what it counts.
+fn put_value<A: Allocator>(out: &mut Vec<u8, A>, all: u64, of: Member, unit: &str) -> Done
+    ensures { OnOk result (out.new.items ≡ out.old.items ++ value_text all of.form unit.now of.number) }
+{
+    match of.number {
+        Some(number) => {
+            put(out, " = ")?;
+            put_signed(out, all, number)
+        }
+        None => {
+            put(out, ": ")?;
+            put_form(out, of.form)?;
+            put_around(out, ", ", unit, "")
+        }
+    }
+}
+
+// A line for a member: its name, its value, and the kernel's name.
+fn put_line<A: Allocator>(
     out: &mut Vec<u8, A>,
     level: u8,
     all: u64,
-    name: &Name<'_>,
-    kernel: &str,
-) -> Result<(), AllocError>
-    ensures { OnOk result (out.new.items ≡ out.old.items ++ named_line level name.now.name.now (signed_text all name.now.number) kernel.now) }
+    of: Member,
+    note: Note<'_>,
+) -> Done
+    ensures { OnOk result (out.new.items ≡ out.old.items ++ member_line level all (member_view of) (note_view note.entry)) }
 {
-    put_indent(out, level)?;
-    put(out, name.name)?;
-    put(out, " = ")?;
-    put_signed(out, all, name.number)?;
-    put_kernel(out, kernel)?;
+    put_times(out, "  ", level as usize)?;
+    put(out, of.name)?;
+    put_value(out, all, of, note.unit)?;
+    put_around(out, " (", note.kernel, ")")?;
     put(out, "\n")
-}
-
-fn put_names<A: Allocator>(
-    out: &mut Vec<u8, A>,
-    level: u8,
-    all: u64,
-    names: &[Name<'_>],
-    left: Left,
-) -> Result<(), AllocError>
-    ensures { OnOk result (out.new.items ≡ out.old.items ++ names_lines level all (names_view names.now) (note_views left.notes.now)) }
-{
-    if let Some((first, others)) = names.split_first() {
-        let (note, behind) = first_note(left);
-        put_name(out, level, all, first, note.kernel)?;
-        put_names(out, level, all, others, behind)?;
-    }
-    Ok(())
 }
 
 // The place that a form names. The kinds within attributes have explanations of their own.
@@ -198,94 +103,72 @@ fn place_in(form: Form) -> Option<usize>
     ensures { result ≡ place_in form }
 {
     match form {
-        Form::Named(_, place)
-        | Form::Record(place)
-        | Form::Array(place)
-        | Form::Times(_, place)
-        | Form::List(place)
-        | Form::InForce(place)
-        | Form::Indexed(place)
-        | Form::Choice(place) => Some(place),
+        Form::Named(_, place) | Form::Times(_, place) => Some(place),
+        Form::Record(place) | Form::Array(place) | Form::List(place) => Some(place),
+        Form::InForce(place) | Form::Indexed(place) | Form::Choice(place) => Some(place),
         _ => None,
     }
 }
 
+// The form that a part is.
+fn alone(part: Part<'static>) -> Option<Form>
+    ensures { result ≡ alone (part_view part.entry) }
+{
+    if let Part::One(form) = part {
+        return Some(form);
+    }
+    None
+}
+
 // What is within a form.
 #[cycle(explain)]
-fn explain_form<T: Tables, A: Allocator>(
-    table: T,
-    notes: &[Noted<'static>],
-    names: &[NamesAt<'static>],
-    depth: u8,
-    form: Form,
-    out: &mut Vec<u8, A>,
-) -> Result<(), AllocError>
-    requires { depth ≤ 12 }
-    ensures { OnOk result (out.new.items ≡ out.old.items ++ explained (T.parts_of table) (noted_views notes.now) (names_at_views names.now) depth form) }
+fn explain_form<T: Tables, A: Allocator>(out: &mut Vec<u8, A>, at: &At<'_, T>, form: Form) -> Done
+    requires { at.now.depth ≤ 12 }
+    ensures { OnOk result (out.new.items ≡ out.old.items ++ explained (T.parts_of at.now.table) at.now.notes.now at.now.names.now at.now.depth form) }
 {
-    let inner = match depth.checked_sub(1) {
-        Some(inner) => inner,
+    let depth = match at.depth.checked_sub(1) {
+        Some(depth) => depth,
         None => return Ok(()),
     };
     let place = match place_in(form) {
         Some(place) => place,
         None => return Ok(()),
     };
-    match table.part(place) {
-        Part::One(form) => explain_form(table, notes, names, inner, form, out),
-        Part::Names(names) => {
-            let left = Left {
-                notes: notes_at(notes, place),
-            };
-            put_names(out, DEEPEST - inner, signed_of(form), names, left)
-        }
-        Part::Fields(_) => explain_part(table, notes, names, inner, place, out),
-        Part::Rows(_, _) => explain_part(table, notes, names, inner, place, out),
-        Part::Choices(_) => explain_part(table, notes, names, inner, place, out),
-        Part::Kinds(_, _, _) => Ok(()),
-    }
-}
-
-#[cycle(explain)]
-fn explain_part<T: Tables, A: Allocator>(
-    table: T,
-    notes: &[Noted<'static>],
-    names: &[NamesAt<'static>],
-    inner: u8,
-    place: usize,
-    out: &mut Vec<u8, A>,
-) -> Result<(), AllocError>
-    requires { inner ≤ 12 }
-    ensures { OnOk result (out.new.items ≡ out.old.items ++ members_text (explained (T.parts_of table) (noted_views notes.now) (names_at_views names.now) inner) (names_at_views names.now)
-        (deepest - inner) (members_of (T.parts_of table place)) (notes_at (noted_views notes.now) place)) }
-{
-    let own = Left {
-        notes: notes_at(notes, place),
+    let inner = At {
+        table: at.table,
+        notes: at.notes,
+        names: at.names,
+        depth,
     };
-    explain_members(table, notes, names, inner, table.part(place), own, out)
+    match alone(at.table.part(place)) {
+        Some(form) => explain_form(out, &inner, form),
+        None => explain_members(out, &inner, signed_of(form), place),
+    }
 }
 
 // The members of a part, each with what is within.
 #[cycle(explain)]
 fn explain_members<T: Tables, A: Allocator>(
-    table: T,
-    notes: &[Noted<'static>],
-    names: &[NamesAt<'static>],
-    inner: u8,
-    part: Part<'static>,
-    own: Left,
     out: &mut Vec<u8, A>,
-) -> Result<(), AllocError>
-    requires { inner ≤ 12 }
+    at: &At<'_, T>,
+    all: u64,
+    place: usize,
+) -> Done
+    requires { at.now.depth ≤ 12 }
     ensures { OnOk result (out.new.items ≡ out.old.items ++
-        members_text (explained (T.parts_of table) (noted_views notes.now) (names_at_views names.now) inner) (names_at_views names.now) (deepest - inner) (members_of (part_view part.entry)) (note_views own.notes.now)) }
+        members_text (explained (T.parts_of at.now.table) at.now.notes.now at.now.names.now at.now.depth) at.now.names.now
+        (deepest - at.now.depth) all (members_of (T.parts_of at.now.table place)) (notes_at at.now.notes.now place)) }
 {
-    let mut left = part;
-    let mut behind = own;
+    let level = DEEPEST - at.depth;
+    let mut left = at.table.part(place);
+    let mut behind = Left {
+        notes: notes_at(at.notes, place),
+    };
     while let Some((member, others)) = first_member(left) {
         let (note, after) = first_note(behind);
-        put_member(out, names, DEEPEST - inner, member, note)?;
-        explain_form(table, notes, names, inner, member.form, out)?;
+        put_line(out, level, all, member, note)?;
+        put_named(out, level + 1, names_at(at.names, note.names))?;
+        explain_form(out, at, member.form)?;
         left = others;
         behind = after;
     }
@@ -326,21 +209,26 @@ pub fn put_kind<T: Tables, A: Allocator>(
     kind: &str,
     out: &mut Vec<u8, A>,
 ) -> Result<(), AllocError>
-    ensures { OnOk result (out.new.items ≡ out.old.items ++ kind_text (T.parts_of table) (noted_views notes.now) (names_at_views names.now) place kind.now) }
+    ensures { OnOk result (out.new.items ≡ out.old.items ++ kind_text (T.parts_of table) notes.now names.now place kind.now) }
 {
-    let rows = match rows_of_kind(kinds_of(table, place), kind) {
-        Some(rows) => rows,
-        None => return Ok(()),
-    };
-    put(out, kind)?;
-    put(out, "\n")?;
-    explain_form(table, notes, names, DEEPEST, Form::List(rows), out)?;
-    put_example(table, kind, rows, out)
+    if let Some(rows) = rows_of_kind(kinds_of(table, place), kind) {
+        let at = At {
+            table,
+            notes,
+            names,
+            depth: DEEPEST,
+        };
+        put(out, kind)?;
+        put(out, "\n")?;
+        explain_form(out, &at, Form::List(rows))?;
+        put_example(out, table, kind, rows)?;
+    }
+    Ok(())
 }
 
 /// True if the list with kinds at a place has this kind.
 pub fn knows_kind<T: Tables>(table: T, place: usize, kind: &str) -> bool
-    ensures { result ≡ is_known (rows_of_kind (kinds_of (T.parts_of table place)) kind.now) }
+    ensures { result ≡ is_some (rows_of_kind (kinds_of (T.parts_of table place)) kind.now) }
 {
     rows_of_kind(kinds_of(table, place), kind).is_some()
 }

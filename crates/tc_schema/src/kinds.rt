@@ -1,6 +1,6 @@
 //! What the files below `kinds/` say of the members of each part, in their order. Written by `kinds/columns`.
 
-use crate::notes::{Named, Note, Unit};
+use crate::notes::{Named, Note};
 
 /// The places of the lists with kinds: those of qdiscs and filters, and of actions.
 pub const LISTS: [usize; 2] = [3003, 0];
@@ -939,20 +939,20 @@ fn names_of_2(place: usize) -> &'static [Named<'static>] {
 // `list action`
 #[rattlefmt::skip]
 const LIST_ACTION_OF_ALL: [Note<'static>; 8] = [
-    Note { kernel: "TCA_ACT_INDEX", unit: Unit::Plain, names: 0 },
-    Note { kernel: "TCA_ACT_STATS", unit: Unit::Plain, names: 0 },
-    Note { kernel: "TCA_ACT_PAD", unit: Unit::Plain, names: 0 },
-    Note { kernel: "TCA_ACT_COOKIE", unit: Unit::Plain, names: 0 },
-    Note { kernel: "TCA_ACT_FLAGS", unit: Unit::Plain, names: 0 },
-    Note { kernel: "TCA_ACT_HW_STATS", unit: Unit::Plain, names: 0 },
-    Note { kernel: "TCA_ACT_USED_HW_STATS", unit: Unit::Plain, names: 0 },
-    Note { kernel: "TCA_ACT_IN_HW_COUNT", unit: Unit::Plain, names: 0 },
+    Note { kernel: "TCA_ACT_INDEX", unit: "", names: 0 },
+    Note { kernel: "TCA_ACT_STATS", unit: "", names: 0 },
+    Note { kernel: "TCA_ACT_PAD", unit: "", names: 0 },
+    Note { kernel: "TCA_ACT_COOKIE", unit: "", names: 0 },
+    Note { kernel: "TCA_ACT_FLAGS", unit: "", names: 0 },
+    Note { kernel: "TCA_ACT_HW_STATS", unit: "", names: 0 },
+    Note { kernel: "TCA_ACT_USED_HW_STATS", unit: "", names: 0 },
+    Note { kernel: "TCA_ACT_IN_HW_COUNT", unit: "", names: 0 },
 ];
 
 // `list action`
 #[rattlefmt::skip]
 const LIST_ACTION_BY_KIND: [Note<'static>; 1] = [
-    Note { kernel: "TCA_ACT_OPTIONS", unit: Unit::Plain, names: 0 },
+    Note { kernel: "TCA_ACT_OPTIONS", unit: "", names: 0 },
 ];
 
 // `bits tca_act_flags`
@@ -966,8 +966,8 @@ const BITS_TCA_ACT_FLAGS: [Named<'static>; 3] = [
 // `struct tca_act_flags`
 #[rattlefmt::skip]
 const STRUCT_TCA_ACT_FLAGS: [Note<'static>; 2] = [
-    Note { kernel: "", unit: Unit::Plain, names: 1 },
-    Note { kernel: "", unit: Unit::Plain, names: 1 },
+    Note { kernel: "", unit: "", names: 1 },
+    Note { kernel: "", unit: "", names: 1 },
 ];
 
 // `bits tca_act_hw_stats`
@@ -980,62 +980,62 @@ const BITS_TCA_ACT_HW_STATS: [Named<'static>; 2] = [
 // `struct tca_act_hw_stats`
 #[rattlefmt::skip]
 const STRUCT_TCA_ACT_HW_STATS: [Note<'static>; 2] = [
-    Note { kernel: "", unit: Unit::Plain, names: 2 },
-    Note { kernel: "", unit: Unit::Plain, names: 2 },
+    Note { kernel: "", unit: "", names: 2 },
+    Note { kernel: "", unit: "", names: 2 },
 ];
 
 // `enum tc_act`
 #[rattlefmt::skip]
 const ENUM_TC_ACT: [Note<'static>; 10] = [
-    Note { kernel: "TC_ACT_UNSPEC", unit: Unit::Plain, names: 0 },
-    Note { kernel: "TC_ACT_OK", unit: Unit::Plain, names: 0 },
-    Note { kernel: "TC_ACT_RECLASSIFY", unit: Unit::Plain, names: 0 },
-    Note { kernel: "TC_ACT_SHOT", unit: Unit::Plain, names: 0 },
-    Note { kernel: "TC_ACT_PIPE", unit: Unit::Plain, names: 0 },
-    Note { kernel: "TC_ACT_STOLEN", unit: Unit::Plain, names: 0 },
-    Note { kernel: "TC_ACT_QUEUED", unit: Unit::Plain, names: 0 },
-    Note { kernel: "TC_ACT_REPEAT", unit: Unit::Plain, names: 0 },
-    Note { kernel: "TC_ACT_REDIRECT", unit: Unit::Plain, names: 0 },
-    Note { kernel: "TC_ACT_TRAP", unit: Unit::Plain, names: 0 },
+    Note { kernel: "TC_ACT_UNSPEC", unit: "", names: 0 },
+    Note { kernel: "TC_ACT_OK", unit: "", names: 0 },
+    Note { kernel: "TC_ACT_RECLASSIFY", unit: "", names: 0 },
+    Note { kernel: "TC_ACT_SHOT", unit: "", names: 0 },
+    Note { kernel: "TC_ACT_PIPE", unit: "", names: 0 },
+    Note { kernel: "TC_ACT_STOLEN", unit: "", names: 0 },
+    Note { kernel: "TC_ACT_QUEUED", unit: "", names: 0 },
+    Note { kernel: "TC_ACT_REPEAT", unit: "", names: 0 },
+    Note { kernel: "TC_ACT_REDIRECT", unit: "", names: 0 },
+    Note { kernel: "TC_ACT_TRAP", unit: "", names: 0 },
 ];
 
 // `struct tcf_t`
 #[rattlefmt::skip]
 const STRUCT_TCF_T: [Note<'static>; 4] = [
-    Note { kernel: "", unit: Unit::ClockTicks, names: 0 },
-    Note { kernel: "", unit: Unit::ClockTicks, names: 0 },
-    Note { kernel: "", unit: Unit::ClockTicks, names: 0 },
-    Note { kernel: "", unit: Unit::ClockTicks, names: 0 },
+    Note { kernel: "", unit: "hundredths of a second", names: 0 },
+    Note { kernel: "", unit: "hundredths of a second", names: 0 },
+    Note { kernel: "", unit: "hundredths of a second", names: 0 },
+    Note { kernel: "", unit: "hundredths of a second", names: 0 },
 ];
 
 // `list act_bpf`
 #[rattlefmt::skip]
 const LIST_ACT_BPF: [Note<'static>; 9] = [
-    Note { kernel: "TCA_ACT_BPF_TM", unit: Unit::Plain, names: 0 },
-    Note { kernel: "TCA_ACT_BPF_PARMS", unit: Unit::Plain, names: 0 },
-    Note { kernel: "TCA_ACT_BPF_OPS_LEN", unit: Unit::Plain, names: 0 },
-    Note { kernel: "TCA_ACT_BPF_OPS", unit: Unit::Plain, names: 0 },
-    Note { kernel: "TCA_ACT_BPF_FD", unit: Unit::Plain, names: 0 },
-    Note { kernel: "TCA_ACT_BPF_NAME", unit: Unit::Plain, names: 0 },
-    Note { kernel: "TCA_ACT_BPF_PAD", unit: Unit::Plain, names: 0 },
-    Note { kernel: "TCA_ACT_BPF_TAG", unit: Unit::Plain, names: 0 },
-    Note { kernel: "TCA_ACT_BPF_ID", unit: Unit::Plain, names: 0 },
+    Note { kernel: "TCA_ACT_BPF_TM", unit: "", names: 0 },
+    Note { kernel: "TCA_ACT_BPF_PARMS", unit: "", names: 0 },
+    Note { kernel: "TCA_ACT_BPF_OPS_LEN", unit: "", names: 0 },
+    Note { kernel: "TCA_ACT_BPF_OPS", unit: "", names: 0 },
+    Note { kernel: "TCA_ACT_BPF_FD", unit: "", names: 0 },
+    Note { kernel: "TCA_ACT_BPF_NAME", unit: "", names: 0 },
+    Note { kernel: "TCA_ACT_BPF_PAD", unit: "", names: 0 },
+    Note { kernel: "TCA_ACT_BPF_TAG", unit: "", names: 0 },
+    Note { kernel: "TCA_ACT_BPF_ID", unit: "", names: 0 },
 ];
 
 // `list connmark`
 #[rattlefmt::skip]
 const LIST_CONNMARK: [Note<'static>; 3] = [
-    Note { kernel: "TCA_CONNMARK_PARMS", unit: Unit::Plain, names: 0 },
-    Note { kernel: "TCA_CONNMARK_TM", unit: Unit::Plain, names: 0 },
-    Note { kernel: "TCA_CONNMARK_PAD", unit: Unit::Plain, names: 0 },
+    Note { kernel: "TCA_CONNMARK_PARMS", unit: "", names: 0 },
+    Note { kernel: "TCA_CONNMARK_TM", unit: "", names: 0 },
+    Note { kernel: "TCA_CONNMARK_PAD", unit: "", names: 0 },
 ];
 
 // `list csum`
 #[rattlefmt::skip]
 const LIST_CSUM: [Note<'static>; 3] = [
-    Note { kernel: "TCA_CSUM_PARMS", unit: Unit::Plain, names: 0 },
-    Note { kernel: "TCA_CSUM_TM", unit: Unit::Plain, names: 0 },
-    Note { kernel: "TCA_CSUM_PAD", unit: Unit::Plain, names: 0 },
+    Note { kernel: "TCA_CSUM_PARMS", unit: "", names: 0 },
+    Note { kernel: "TCA_CSUM_TM", unit: "", names: 0 },
+    Note { kernel: "TCA_CSUM_PAD", unit: "", names: 0 },
 ];
 
 // `bits tca_csum_update_flag`
@@ -1053,8 +1053,8 @@ const BITS_TCA_CSUM_UPDATE_FLAG: [Named<'static>; 7] = [
 // `struct tc_csum`
 #[rattlefmt::skip]
 const STRUCT_TC_CSUM: [Note<'static>; 2] = [
-    Note { kernel: "", unit: Unit::Plain, names: 0 },
-    Note { kernel: "", unit: Unit::Plain, names: 3 },
+    Note { kernel: "", unit: "", names: 0 },
+    Note { kernel: "", unit: "", names: 3 },
 ];
 
 // `bits tca_ct_act`
@@ -1092,56 +1092,56 @@ const NAMES_IP_PROTO: [Named<'static>; 16] = [
 // `list ct`
 #[rattlefmt::skip]
 const LIST_CT: [Note<'static>; 18] = [
-    Note { kernel: "TCA_CT_PARMS", unit: Unit::Plain, names: 0 },
-    Note { kernel: "TCA_CT_TM", unit: Unit::Plain, names: 0 },
-    Note { kernel: "TCA_CT_ACTION", unit: Unit::Plain, names: 4 },
-    Note { kernel: "TCA_CT_ZONE", unit: Unit::Plain, names: 0 },
-    Note { kernel: "TCA_CT_MARK", unit: Unit::Plain, names: 0 },
-    Note { kernel: "TCA_CT_MARK_MASK", unit: Unit::Plain, names: 0 },
-    Note { kernel: "TCA_CT_LABELS", unit: Unit::Plain, names: 0 },
-    Note { kernel: "TCA_CT_LABELS_MASK", unit: Unit::Plain, names: 0 },
-    Note { kernel: "TCA_CT_NAT_IPV4_MIN", unit: Unit::Plain, names: 0 },
-    Note { kernel: "TCA_CT_NAT_IPV4_MAX", unit: Unit::Plain, names: 0 },
-    Note { kernel: "TCA_CT_NAT_IPV6_MIN", unit: Unit::Plain, names: 0 },
-    Note { kernel: "TCA_CT_NAT_IPV6_MAX", unit: Unit::Plain, names: 0 },
-    Note { kernel: "TCA_CT_NAT_PORT_MIN", unit: Unit::Plain, names: 0 },
-    Note { kernel: "TCA_CT_NAT_PORT_MAX", unit: Unit::Plain, names: 0 },
-    Note { kernel: "TCA_CT_PAD", unit: Unit::Plain, names: 0 },
-    Note { kernel: "TCA_CT_HELPER_NAME", unit: Unit::Plain, names: 0 },
-    Note { kernel: "TCA_CT_HELPER_FAMILY", unit: Unit::Plain, names: 0 },
-    Note { kernel: "TCA_CT_HELPER_PROTO", unit: Unit::Plain, names: 5 },
+    Note { kernel: "TCA_CT_PARMS", unit: "", names: 0 },
+    Note { kernel: "TCA_CT_TM", unit: "", names: 0 },
+    Note { kernel: "TCA_CT_ACTION", unit: "", names: 4 },
+    Note { kernel: "TCA_CT_ZONE", unit: "", names: 0 },
+    Note { kernel: "TCA_CT_MARK", unit: "", names: 0 },
+    Note { kernel: "TCA_CT_MARK_MASK", unit: "", names: 0 },
+    Note { kernel: "TCA_CT_LABELS", unit: "", names: 0 },
+    Note { kernel: "TCA_CT_LABELS_MASK", unit: "", names: 0 },
+    Note { kernel: "TCA_CT_NAT_IPV4_MIN", unit: "", names: 0 },
+    Note { kernel: "TCA_CT_NAT_IPV4_MAX", unit: "", names: 0 },
+    Note { kernel: "TCA_CT_NAT_IPV6_MIN", unit: "", names: 0 },
+    Note { kernel: "TCA_CT_NAT_IPV6_MAX", unit: "", names: 0 },
+    Note { kernel: "TCA_CT_NAT_PORT_MIN", unit: "", names: 0 },
+    Note { kernel: "TCA_CT_NAT_PORT_MAX", unit: "", names: 0 },
+    Note { kernel: "TCA_CT_PAD", unit: "", names: 0 },
+    Note { kernel: "TCA_CT_HELPER_NAME", unit: "", names: 0 },
+    Note { kernel: "TCA_CT_HELPER_FAMILY", unit: "", names: 0 },
+    Note { kernel: "TCA_CT_HELPER_PROTO", unit: "", names: 5 },
 ];
 
 // `list ctinfo`
 #[rattlefmt::skip]
 const LIST_CTINFO: [Note<'static>; 10] = [
-    Note { kernel: "TCA_CTINFO_PAD", unit: Unit::Plain, names: 0 },
-    Note { kernel: "TCA_CTINFO_TM", unit: Unit::Plain, names: 0 },
-    Note { kernel: "TCA_CTINFO_ACT", unit: Unit::Plain, names: 0 },
-    Note { kernel: "TCA_CTINFO_ZONE", unit: Unit::Plain, names: 0 },
-    Note { kernel: "TCA_CTINFO_PARMS_DSCP_MASK", unit: Unit::Plain, names: 0 },
-    Note { kernel: "TCA_CTINFO_PARMS_DSCP_STATEMASK", unit: Unit::Plain, names: 0 },
-    Note { kernel: "TCA_CTINFO_PARMS_CPMARK_MASK", unit: Unit::Plain, names: 0 },
-    Note { kernel: "TCA_CTINFO_STATS_DSCP_SET", unit: Unit::Plain, names: 0 },
-    Note { kernel: "TCA_CTINFO_STATS_DSCP_ERROR", unit: Unit::Plain, names: 0 },
-    Note { kernel: "TCA_CTINFO_STATS_CPMARK_SET", unit: Unit::Plain, names: 0 },
+    Note { kernel: "TCA_CTINFO_PAD", unit: "", names: 0 },
+    Note { kernel: "TCA_CTINFO_TM", unit: "", names: 0 },
+    Note { kernel: "TCA_CTINFO_ACT", unit: "", names: 0 },
+    Note { kernel: "TCA_CTINFO_ZONE", unit: "", names: 0 },
+    Note { kernel: "TCA_CTINFO_PARMS_DSCP_MASK", unit: "", names: 0 },
+    Note { kernel: "TCA_CTINFO_PARMS_DSCP_STATEMASK", unit: "", names: 0 },
+    Note { kernel: "TCA_CTINFO_PARMS_CPMARK_MASK", unit: "", names: 0 },
+    Note { kernel: "TCA_CTINFO_STATS_DSCP_SET", unit: "", names: 0 },
+    Note { kernel: "TCA_CTINFO_STATS_DSCP_ERROR", unit: "", names: 0 },
+    Note { kernel: "TCA_CTINFO_STATS_CPMARK_SET", unit: "", names: 0 },
 ];
 
 // `list gact`
 #[rattlefmt::skip]
 const LIST_GACT: [Note<'static>; 4] = [
-    Note { kernel: "TCA_GACT_TM", unit: Unit::Plain, names: 0 },
-    Note { kernel: "TCA_GACT_PARMS", unit: Unit::Plain, names: 0 },
-    Note { kernel: "TCA_GACT_PROB", unit: Unit::Plain, names: 0 },
-    Note { kernel: "TCA_GACT_PAD", unit: Unit::Plain, names: 0 },
+    Note { kernel: "TCA_GACT_TM", unit: "", names: 0 },
+    Note { kernel: "TCA_GACT_PARMS", unit: "", names: 0 },
+    Note { kernel: "TCA_GACT_PROB", unit: "", names: 0 },
+    Note { kernel: "TCA_GACT_PAD", unit: "", names: 0 },
 ];
 
 // `enum pgact`
 #[rattlefmt::skip]
 const ENUM_PGACT: [Note<'static>; 3] = [
-    Note { kernel: "PGACT_NONE", unit: Unit::Plain, names: 0 },
-    Note { kernel: "PGACT_NETRAND", unit: Unit::Plain, names: 0 },
-    Note { kernel: "PGACT_DETERM", unit: Unit::Plain, names: 0 },
+    Note { kernel: "PGACT_NONE", unit: "", names: 0 },
+    Note { kernel: "PGACT_NETRAND", unit: "", names: 0 },
+    Note { kernel: "PGACT_DETERM", unit: "", names: 0 },
 ];
 
 // `names clockid`
@@ -1156,32 +1156,32 @@ const NAMES_CLOCKID: [Named<'static>; 4] = [
 // `list gate`
 #[rattlefmt::skip]
 const LIST_GATE: [Note<'static>; 10] = [
-    Note { kernel: "TCA_GATE_TM", unit: Unit::Plain, names: 0 },
-    Note { kernel: "TCA_GATE_PARMS", unit: Unit::Plain, names: 0 },
-    Note { kernel: "TCA_GATE_PAD", unit: Unit::Plain, names: 0 },
-    Note { kernel: "TCA_GATE_PRIORITY", unit: Unit::Plain, names: 0 },
-    Note { kernel: "TCA_GATE_ENTRY_LIST", unit: Unit::Plain, names: 0 },
-    Note { kernel: "TCA_GATE_BASE_TIME", unit: Unit::Nanoseconds, names: 0 },
-    Note { kernel: "TCA_GATE_CYCLE_TIME", unit: Unit::Nanoseconds, names: 0 },
-    Note { kernel: "TCA_GATE_CYCLE_TIME_EXT", unit: Unit::Nanoseconds, names: 0 },
-    Note { kernel: "TCA_GATE_FLAGS", unit: Unit::Plain, names: 0 },
-    Note { kernel: "TCA_GATE_CLOCKID", unit: Unit::Plain, names: 6 },
+    Note { kernel: "TCA_GATE_TM", unit: "", names: 0 },
+    Note { kernel: "TCA_GATE_PARMS", unit: "", names: 0 },
+    Note { kernel: "TCA_GATE_PAD", unit: "", names: 0 },
+    Note { kernel: "TCA_GATE_PRIORITY", unit: "", names: 0 },
+    Note { kernel: "TCA_GATE_ENTRY_LIST", unit: "", names: 0 },
+    Note { kernel: "TCA_GATE_BASE_TIME", unit: "nanoseconds", names: 0 },
+    Note { kernel: "TCA_GATE_CYCLE_TIME", unit: "nanoseconds", names: 0 },
+    Note { kernel: "TCA_GATE_CYCLE_TIME_EXT", unit: "nanoseconds", names: 0 },
+    Note { kernel: "TCA_GATE_FLAGS", unit: "", names: 0 },
+    Note { kernel: "TCA_GATE_CLOCKID", unit: "", names: 6 },
 ];
 
 // `list gate_list`
 #[rattlefmt::skip]
 const LIST_GATE_LIST: [Note<'static>; 1] = [
-    Note { kernel: "TCA_GATE_ONE_ENTRY", unit: Unit::Plain, names: 0 },
+    Note { kernel: "TCA_GATE_ONE_ENTRY", unit: "", names: 0 },
 ];
 
 // `list gate_entry`
 #[rattlefmt::skip]
 const LIST_GATE_ENTRY: [Note<'static>; 5] = [
-    Note { kernel: "TCA_GATE_ENTRY_INDEX", unit: Unit::Plain, names: 0 },
-    Note { kernel: "TCA_GATE_ENTRY_GATE", unit: Unit::Plain, names: 0 },
-    Note { kernel: "TCA_GATE_ENTRY_INTERVAL", unit: Unit::Nanoseconds, names: 0 },
-    Note { kernel: "TCA_GATE_ENTRY_IPV", unit: Unit::Plain, names: 0 },
-    Note { kernel: "TCA_GATE_ENTRY_MAX_OCTETS", unit: Unit::Bytes, names: 0 },
+    Note { kernel: "TCA_GATE_ENTRY_INDEX", unit: "", names: 0 },
+    Note { kernel: "TCA_GATE_ENTRY_GATE", unit: "", names: 0 },
+    Note { kernel: "TCA_GATE_ENTRY_INTERVAL", unit: "nanoseconds", names: 0 },
+    Note { kernel: "TCA_GATE_ENTRY_IPV", unit: "", names: 0 },
+    Note { kernel: "TCA_GATE_ENTRY_MAX_OCTETS", unit: "bytes", names: 0 },
 ];
 
 // `names eth_p`
@@ -1213,13 +1213,13 @@ const NAMES_ETH_P: [Named<'static>; 21] = [
 // `list ife`
 #[rattlefmt::skip]
 const LIST_IFE: [Note<'static>; 7] = [
-    Note { kernel: "TCA_IFE_PARMS", unit: Unit::Plain, names: 0 },
-    Note { kernel: "TCA_IFE_TM", unit: Unit::Plain, names: 0 },
-    Note { kernel: "TCA_IFE_DMAC", unit: Unit::Plain, names: 0 },
-    Note { kernel: "TCA_IFE_SMAC", unit: Unit::Plain, names: 0 },
-    Note { kernel: "TCA_IFE_TYPE", unit: Unit::Plain, names: 7 },
-    Note { kernel: "TCA_IFE_METALST", unit: Unit::Plain, names: 0 },
-    Note { kernel: "TCA_IFE_PAD", unit: Unit::Plain, names: 0 },
+    Note { kernel: "TCA_IFE_PARMS", unit: "", names: 0 },
+    Note { kernel: "TCA_IFE_TM", unit: "", names: 0 },
+    Note { kernel: "TCA_IFE_DMAC", unit: "", names: 0 },
+    Note { kernel: "TCA_IFE_SMAC", unit: "", names: 0 },
+    Note { kernel: "TCA_IFE_TYPE", unit: "", names: 7 },
+    Note { kernel: "TCA_IFE_METALST", unit: "", names: 0 },
+    Note { kernel: "TCA_IFE_PAD", unit: "", names: 0 },
 ];
 
 // `bits ife`
@@ -1231,88 +1231,88 @@ const BITS_IFE: [Named<'static>; 1] = [
 // `struct tc_ife`
 #[rattlefmt::skip]
 const STRUCT_TC_IFE: [Note<'static>; 3] = [
-    Note { kernel: "", unit: Unit::Plain, names: 0 },
-    Note { kernel: "", unit: Unit::Plain, names: 8 },
-    Note { kernel: "", unit: Unit::Plain, names: 0 },
+    Note { kernel: "", unit: "", names: 0 },
+    Note { kernel: "", unit: "", names: 8 },
+    Note { kernel: "", unit: "", names: 0 },
 ];
 
 // `list ife_meta`
 #[rattlefmt::skip]
 const LIST_IFE_META: [Note<'static>; 5] = [
-    Note { kernel: "IFE_META_SKBMARK", unit: Unit::Plain, names: 0 },
-    Note { kernel: "IFE_META_HASHID", unit: Unit::Plain, names: 0 },
-    Note { kernel: "IFE_META_PRIO", unit: Unit::Plain, names: 0 },
-    Note { kernel: "IFE_META_QMAP", unit: Unit::Plain, names: 0 },
-    Note { kernel: "IFE_META_TCINDEX", unit: Unit::Plain, names: 0 },
+    Note { kernel: "IFE_META_SKBMARK", unit: "", names: 0 },
+    Note { kernel: "IFE_META_HASHID", unit: "", names: 0 },
+    Note { kernel: "IFE_META_PRIO", unit: "", names: 0 },
+    Note { kernel: "IFE_META_QMAP", unit: "", names: 0 },
+    Note { kernel: "IFE_META_TCINDEX", unit: "", names: 0 },
 ];
 
 // `list ipt`
 #[rattlefmt::skip]
 const LIST_IPT: [Note<'static>; 7] = [
-    Note { kernel: "TCA_IPT_TABLE", unit: Unit::Plain, names: 0 },
-    Note { kernel: "TCA_IPT_HOOK", unit: Unit::Plain, names: 0 },
-    Note { kernel: "TCA_IPT_INDEX", unit: Unit::Plain, names: 0 },
-    Note { kernel: "TCA_IPT_CNT", unit: Unit::Plain, names: 0 },
-    Note { kernel: "TCA_IPT_TM", unit: Unit::Plain, names: 0 },
-    Note { kernel: "TCA_IPT_TARG", unit: Unit::Plain, names: 0 },
-    Note { kernel: "TCA_IPT_PAD", unit: Unit::Plain, names: 0 },
+    Note { kernel: "TCA_IPT_TABLE", unit: "", names: 0 },
+    Note { kernel: "TCA_IPT_HOOK", unit: "", names: 0 },
+    Note { kernel: "TCA_IPT_INDEX", unit: "", names: 0 },
+    Note { kernel: "TCA_IPT_CNT", unit: "", names: 0 },
+    Note { kernel: "TCA_IPT_TM", unit: "", names: 0 },
+    Note { kernel: "TCA_IPT_TARG", unit: "", names: 0 },
+    Note { kernel: "TCA_IPT_PAD", unit: "", names: 0 },
 ];
 
 // `list mirred`
 #[rattlefmt::skip]
 const LIST_MIRRED: [Note<'static>; 4] = [
-    Note { kernel: "TCA_MIRRED_TM", unit: Unit::Plain, names: 0 },
-    Note { kernel: "TCA_MIRRED_PARMS", unit: Unit::Plain, names: 0 },
-    Note { kernel: "TCA_MIRRED_PAD", unit: Unit::Plain, names: 0 },
-    Note { kernel: "TCA_MIRRED_BLOCKID", unit: Unit::Plain, names: 0 },
+    Note { kernel: "TCA_MIRRED_TM", unit: "", names: 0 },
+    Note { kernel: "TCA_MIRRED_PARMS", unit: "", names: 0 },
+    Note { kernel: "TCA_MIRRED_PAD", unit: "", names: 0 },
+    Note { kernel: "TCA_MIRRED_BLOCKID", unit: "", names: 0 },
 ];
 
 // `struct tc_mirred`
 #[rattlefmt::skip]
 const STRUCT_TC_MIRRED: [Note<'static>; 3] = [
-    Note { kernel: "", unit: Unit::Plain, names: 0 },
-    Note { kernel: "", unit: Unit::Plain, names: 0 },
-    Note { kernel: "", unit: Unit::Interface, names: 0 },
+    Note { kernel: "", unit: "", names: 0 },
+    Note { kernel: "", unit: "", names: 0 },
+    Note { kernel: "", unit: "interface", names: 0 },
 ];
 
 // `enum tca_mirred`
 #[rattlefmt::skip]
 const ENUM_TCA_MIRRED: [Note<'static>; 4] = [
-    Note { kernel: "TCA_EGRESS_REDIR", unit: Unit::Plain, names: 0 },
-    Note { kernel: "TCA_EGRESS_MIRROR", unit: Unit::Plain, names: 0 },
-    Note { kernel: "TCA_INGRESS_REDIR", unit: Unit::Plain, names: 0 },
-    Note { kernel: "TCA_INGRESS_MIRROR", unit: Unit::Plain, names: 0 },
+    Note { kernel: "TCA_EGRESS_REDIR", unit: "", names: 0 },
+    Note { kernel: "TCA_EGRESS_MIRROR", unit: "", names: 0 },
+    Note { kernel: "TCA_INGRESS_REDIR", unit: "", names: 0 },
+    Note { kernel: "TCA_INGRESS_MIRROR", unit: "", names: 0 },
 ];
 
 // `list mpls`
 #[rattlefmt::skip]
 const LIST_MPLS: [Note<'static>; 8] = [
-    Note { kernel: "TCA_MPLS_TM", unit: Unit::Plain, names: 0 },
-    Note { kernel: "TCA_MPLS_PARMS", unit: Unit::Plain, names: 0 },
-    Note { kernel: "TCA_MPLS_PAD", unit: Unit::Plain, names: 0 },
-    Note { kernel: "TCA_MPLS_PROTO", unit: Unit::Plain, names: 7 },
-    Note { kernel: "TCA_MPLS_LABEL", unit: Unit::Plain, names: 0 },
-    Note { kernel: "TCA_MPLS_TC", unit: Unit::Plain, names: 0 },
-    Note { kernel: "TCA_MPLS_TTL", unit: Unit::Plain, names: 0 },
-    Note { kernel: "TCA_MPLS_BOS", unit: Unit::Plain, names: 0 },
+    Note { kernel: "TCA_MPLS_TM", unit: "", names: 0 },
+    Note { kernel: "TCA_MPLS_PARMS", unit: "", names: 0 },
+    Note { kernel: "TCA_MPLS_PAD", unit: "", names: 0 },
+    Note { kernel: "TCA_MPLS_PROTO", unit: "", names: 7 },
+    Note { kernel: "TCA_MPLS_LABEL", unit: "", names: 0 },
+    Note { kernel: "TCA_MPLS_TC", unit: "", names: 0 },
+    Note { kernel: "TCA_MPLS_TTL", unit: "", names: 0 },
+    Note { kernel: "TCA_MPLS_BOS", unit: "", names: 0 },
 ];
 
 // `enum tca_mpls_act`
 #[rattlefmt::skip]
 const ENUM_TCA_MPLS_ACT: [Note<'static>; 5] = [
-    Note { kernel: "TCA_MPLS_ACT_POP", unit: Unit::Plain, names: 0 },
-    Note { kernel: "TCA_MPLS_ACT_PUSH", unit: Unit::Plain, names: 0 },
-    Note { kernel: "TCA_MPLS_ACT_MODIFY", unit: Unit::Plain, names: 0 },
-    Note { kernel: "TCA_MPLS_ACT_DEC_TTL", unit: Unit::Plain, names: 0 },
-    Note { kernel: "TCA_MPLS_ACT_MAC_PUSH", unit: Unit::Plain, names: 0 },
+    Note { kernel: "TCA_MPLS_ACT_POP", unit: "", names: 0 },
+    Note { kernel: "TCA_MPLS_ACT_PUSH", unit: "", names: 0 },
+    Note { kernel: "TCA_MPLS_ACT_MODIFY", unit: "", names: 0 },
+    Note { kernel: "TCA_MPLS_ACT_DEC_TTL", unit: "", names: 0 },
+    Note { kernel: "TCA_MPLS_ACT_MAC_PUSH", unit: "", names: 0 },
 ];
 
 // `list nat`
 #[rattlefmt::skip]
 const LIST_NAT: [Note<'static>; 3] = [
-    Note { kernel: "TCA_NAT_PARMS", unit: Unit::Plain, names: 0 },
-    Note { kernel: "TCA_NAT_TM", unit: Unit::Plain, names: 0 },
-    Note { kernel: "TCA_NAT_PAD", unit: Unit::Plain, names: 0 },
+    Note { kernel: "TCA_NAT_PARMS", unit: "", names: 0 },
+    Note { kernel: "TCA_NAT_TM", unit: "", names: 0 },
+    Note { kernel: "TCA_NAT_PAD", unit: "", names: 0 },
 ];
 
 // `bits tca_nat_flag`
@@ -1325,103 +1325,103 @@ const BITS_TCA_NAT_FLAG: [Named<'static>; 2] = [
 // `struct tc_nat`
 #[rattlefmt::skip]
 const STRUCT_TC_NAT: [Note<'static>; 5] = [
-    Note { kernel: "", unit: Unit::Plain, names: 0 },
-    Note { kernel: "", unit: Unit::Plain, names: 0 },
-    Note { kernel: "", unit: Unit::Plain, names: 0 },
-    Note { kernel: "", unit: Unit::Plain, names: 0 },
-    Note { kernel: "", unit: Unit::Plain, names: 9 },
+    Note { kernel: "", unit: "", names: 0 },
+    Note { kernel: "", unit: "", names: 0 },
+    Note { kernel: "", unit: "", names: 0 },
+    Note { kernel: "", unit: "", names: 0 },
+    Note { kernel: "", unit: "", names: 9 },
 ];
 
 // `list pedit`
 #[rattlefmt::skip]
 const LIST_PEDIT: [Note<'static>; 5] = [
-    Note { kernel: "TCA_PEDIT_TM", unit: Unit::Plain, names: 0 },
-    Note { kernel: "TCA_PEDIT_PARMS", unit: Unit::Plain, names: 0 },
-    Note { kernel: "TCA_PEDIT_PAD", unit: Unit::Plain, names: 0 },
-    Note { kernel: "TCA_PEDIT_PARMS_EX", unit: Unit::Plain, names: 0 },
-    Note { kernel: "TCA_PEDIT_KEYS_EX", unit: Unit::Plain, names: 0 },
+    Note { kernel: "TCA_PEDIT_TM", unit: "", names: 0 },
+    Note { kernel: "TCA_PEDIT_PARMS", unit: "", names: 0 },
+    Note { kernel: "TCA_PEDIT_PAD", unit: "", names: 0 },
+    Note { kernel: "TCA_PEDIT_PARMS_EX", unit: "", names: 0 },
+    Note { kernel: "TCA_PEDIT_KEYS_EX", unit: "", names: 0 },
 ];
 
 // `list pedit_keys_ex`
 #[rattlefmt::skip]
 const LIST_PEDIT_KEYS_EX: [Note<'static>; 1] = [
-    Note { kernel: "TCA_PEDIT_KEY_EX", unit: Unit::Plain, names: 0 },
+    Note { kernel: "TCA_PEDIT_KEY_EX", unit: "", names: 0 },
 ];
 
 // `list pedit_key_ex`
 #[rattlefmt::skip]
 const LIST_PEDIT_KEY_EX: [Note<'static>; 2] = [
-    Note { kernel: "TCA_PEDIT_KEY_EX_HTYPE", unit: Unit::Plain, names: 0 },
-    Note { kernel: "TCA_PEDIT_KEY_EX_CMD", unit: Unit::Plain, names: 0 },
+    Note { kernel: "TCA_PEDIT_KEY_EX_HTYPE", unit: "", names: 0 },
+    Note { kernel: "TCA_PEDIT_KEY_EX_CMD", unit: "", names: 0 },
 ];
 
 // `enum pedit_header_type`
 #[rattlefmt::skip]
 const ENUM_PEDIT_HEADER_TYPE: [Note<'static>; 6] = [
-    Note { kernel: "TCA_PEDIT_KEY_EX_HDR_TYPE_NETWORK", unit: Unit::Plain, names: 0 },
-    Note { kernel: "TCA_PEDIT_KEY_EX_HDR_TYPE_ETH", unit: Unit::Plain, names: 0 },
-    Note { kernel: "TCA_PEDIT_KEY_EX_HDR_TYPE_IP4", unit: Unit::Plain, names: 0 },
-    Note { kernel: "TCA_PEDIT_KEY_EX_HDR_TYPE_IP6", unit: Unit::Plain, names: 0 },
-    Note { kernel: "TCA_PEDIT_KEY_EX_HDR_TYPE_TCP", unit: Unit::Plain, names: 0 },
-    Note { kernel: "TCA_PEDIT_KEY_EX_HDR_TYPE_UDP", unit: Unit::Plain, names: 0 },
+    Note { kernel: "TCA_PEDIT_KEY_EX_HDR_TYPE_NETWORK", unit: "", names: 0 },
+    Note { kernel: "TCA_PEDIT_KEY_EX_HDR_TYPE_ETH", unit: "", names: 0 },
+    Note { kernel: "TCA_PEDIT_KEY_EX_HDR_TYPE_IP4", unit: "", names: 0 },
+    Note { kernel: "TCA_PEDIT_KEY_EX_HDR_TYPE_IP6", unit: "", names: 0 },
+    Note { kernel: "TCA_PEDIT_KEY_EX_HDR_TYPE_TCP", unit: "", names: 0 },
+    Note { kernel: "TCA_PEDIT_KEY_EX_HDR_TYPE_UDP", unit: "", names: 0 },
 ];
 
 // `enum pedit_cmd`
 #[rattlefmt::skip]
 const ENUM_PEDIT_CMD: [Note<'static>; 2] = [
-    Note { kernel: "TCA_PEDIT_KEY_EX_CMD_SET", unit: Unit::Plain, names: 0 },
-    Note { kernel: "TCA_PEDIT_KEY_EX_CMD_ADD", unit: Unit::Plain, names: 0 },
+    Note { kernel: "TCA_PEDIT_KEY_EX_CMD_SET", unit: "", names: 0 },
+    Note { kernel: "TCA_PEDIT_KEY_EX_CMD_ADD", unit: "", names: 0 },
 ];
 
 // `list police`
 #[rattlefmt::skip]
 const LIST_POLICE: [Note<'static>; 11] = [
-    Note { kernel: "TCA_POLICE_TBF", unit: Unit::Plain, names: 0 },
-    Note { kernel: "TCA_POLICE_RATE", unit: Unit::Plain, names: 0 },
-    Note { kernel: "TCA_POLICE_PEAKRATE", unit: Unit::Plain, names: 0 },
-    Note { kernel: "TCA_POLICE_AVRATE", unit: Unit::BytesPerSecond, names: 0 },
-    Note { kernel: "TCA_POLICE_RESULT", unit: Unit::Plain, names: 0 },
-    Note { kernel: "TCA_POLICE_TM", unit: Unit::Plain, names: 0 },
-    Note { kernel: "TCA_POLICE_PAD", unit: Unit::Plain, names: 0 },
-    Note { kernel: "TCA_POLICE_RATE64", unit: Unit::BytesPerSecond, names: 0 },
-    Note { kernel: "TCA_POLICE_PEAKRATE64", unit: Unit::BytesPerSecond, names: 0 },
-    Note { kernel: "TCA_POLICE_PKTRATE64", unit: Unit::PacketsPerSecond, names: 0 },
-    Note { kernel: "TCA_POLICE_PKTBURST64", unit: Unit::Ticks, names: 0 },
+    Note { kernel: "TCA_POLICE_TBF", unit: "", names: 0 },
+    Note { kernel: "TCA_POLICE_RATE", unit: "", names: 0 },
+    Note { kernel: "TCA_POLICE_PEAKRATE", unit: "", names: 0 },
+    Note { kernel: "TCA_POLICE_AVRATE", unit: "bytes a second", names: 0 },
+    Note { kernel: "TCA_POLICE_RESULT", unit: "", names: 0 },
+    Note { kernel: "TCA_POLICE_TM", unit: "", names: 0 },
+    Note { kernel: "TCA_POLICE_PAD", unit: "", names: 0 },
+    Note { kernel: "TCA_POLICE_RATE64", unit: "bytes a second", names: 0 },
+    Note { kernel: "TCA_POLICE_PEAKRATE64", unit: "bytes a second", names: 0 },
+    Note { kernel: "TCA_POLICE_PKTRATE64", unit: "packets a second", names: 0 },
+    Note { kernel: "TCA_POLICE_PKTBURST64", unit: "ticks of 64 ns", names: 0 },
 ];
 
 // `struct tc_police`
 #[rattlefmt::skip]
 const STRUCT_TC_POLICE: [Note<'static>; 10] = [
-    Note { kernel: "", unit: Unit::Plain, names: 0 },
-    Note { kernel: "", unit: Unit::Plain, names: 0 },
-    Note { kernel: "", unit: Unit::Plain, names: 0 },
-    Note { kernel: "", unit: Unit::Ticks, names: 0 },
-    Note { kernel: "", unit: Unit::Bytes, names: 0 },
-    Note { kernel: "", unit: Unit::Plain, names: 0 },
-    Note { kernel: "", unit: Unit::Plain, names: 0 },
-    Note { kernel: "", unit: Unit::Plain, names: 0 },
-    Note { kernel: "", unit: Unit::Plain, names: 0 },
-    Note { kernel: "", unit: Unit::Plain, names: 0 },
+    Note { kernel: "", unit: "", names: 0 },
+    Note { kernel: "", unit: "", names: 0 },
+    Note { kernel: "", unit: "", names: 0 },
+    Note { kernel: "", unit: "ticks of 64 ns", names: 0 },
+    Note { kernel: "", unit: "bytes", names: 0 },
+    Note { kernel: "", unit: "", names: 0 },
+    Note { kernel: "", unit: "", names: 0 },
+    Note { kernel: "", unit: "", names: 0 },
+    Note { kernel: "", unit: "", names: 0 },
+    Note { kernel: "", unit: "", names: 0 },
 ];
 
 // `list sample`
 #[rattlefmt::skip]
 const LIST_SAMPLE: [Note<'static>; 6] = [
-    Note { kernel: "TCA_SAMPLE_TM", unit: Unit::Plain, names: 0 },
-    Note { kernel: "TCA_SAMPLE_PARMS", unit: Unit::Plain, names: 0 },
-    Note { kernel: "TCA_SAMPLE_RATE", unit: Unit::Plain, names: 0 },
-    Note { kernel: "TCA_SAMPLE_TRUNC_SIZE", unit: Unit::Bytes, names: 0 },
-    Note { kernel: "TCA_SAMPLE_PSAMPLE_GROUP", unit: Unit::Plain, names: 0 },
-    Note { kernel: "TCA_SAMPLE_PAD", unit: Unit::Plain, names: 0 },
+    Note { kernel: "TCA_SAMPLE_TM", unit: "", names: 0 },
+    Note { kernel: "TCA_SAMPLE_PARMS", unit: "", names: 0 },
+    Note { kernel: "TCA_SAMPLE_RATE", unit: "", names: 0 },
+    Note { kernel: "TCA_SAMPLE_TRUNC_SIZE", unit: "bytes", names: 0 },
+    Note { kernel: "TCA_SAMPLE_PSAMPLE_GROUP", unit: "", names: 0 },
+    Note { kernel: "TCA_SAMPLE_PAD", unit: "", names: 0 },
 ];
 
 // `list simple`
 #[rattlefmt::skip]
 const LIST_SIMPLE: [Note<'static>; 4] = [
-    Note { kernel: "TCA_DEF_TM", unit: Unit::Plain, names: 0 },
-    Note { kernel: "TCA_DEF_PARMS", unit: Unit::Plain, names: 0 },
-    Note { kernel: "TCA_DEF_DATA", unit: Unit::Plain, names: 0 },
-    Note { kernel: "TCA_DEF_PAD", unit: Unit::Plain, names: 0 },
+    Note { kernel: "TCA_DEF_TM", unit: "", names: 0 },
+    Note { kernel: "TCA_DEF_PARMS", unit: "", names: 0 },
+    Note { kernel: "TCA_DEF_DATA", unit: "", names: 0 },
+    Note { kernel: "TCA_DEF_PAD", unit: "", names: 0 },
 ];
 
 // `names packet_type`
@@ -1448,27 +1448,27 @@ const BITS_SKBEDIT_F: [Named<'static>; 7] = [
 // `list skbedit`
 #[rattlefmt::skip]
 const LIST_SKBEDIT: [Note<'static>; 10] = [
-    Note { kernel: "TCA_SKBEDIT_TM", unit: Unit::Plain, names: 0 },
-    Note { kernel: "TCA_SKBEDIT_PARMS", unit: Unit::Plain, names: 0 },
-    Note { kernel: "TCA_SKBEDIT_PRIORITY", unit: Unit::Plain, names: 0 },
-    Note { kernel: "TCA_SKBEDIT_QUEUE_MAPPING", unit: Unit::Plain, names: 0 },
-    Note { kernel: "TCA_SKBEDIT_MARK", unit: Unit::Plain, names: 0 },
-    Note { kernel: "TCA_SKBEDIT_PAD", unit: Unit::Plain, names: 0 },
-    Note { kernel: "TCA_SKBEDIT_PTYPE", unit: Unit::Plain, names: 10 },
-    Note { kernel: "TCA_SKBEDIT_MASK", unit: Unit::Plain, names: 0 },
-    Note { kernel: "TCA_SKBEDIT_FLAGS", unit: Unit::Plain, names: 11 },
-    Note { kernel: "TCA_SKBEDIT_QUEUE_MAPPING_MAX", unit: Unit::Plain, names: 0 },
+    Note { kernel: "TCA_SKBEDIT_TM", unit: "", names: 0 },
+    Note { kernel: "TCA_SKBEDIT_PARMS", unit: "", names: 0 },
+    Note { kernel: "TCA_SKBEDIT_PRIORITY", unit: "", names: 0 },
+    Note { kernel: "TCA_SKBEDIT_QUEUE_MAPPING", unit: "", names: 0 },
+    Note { kernel: "TCA_SKBEDIT_MARK", unit: "", names: 0 },
+    Note { kernel: "TCA_SKBEDIT_PAD", unit: "", names: 0 },
+    Note { kernel: "TCA_SKBEDIT_PTYPE", unit: "", names: 10 },
+    Note { kernel: "TCA_SKBEDIT_MASK", unit: "", names: 0 },
+    Note { kernel: "TCA_SKBEDIT_FLAGS", unit: "", names: 11 },
+    Note { kernel: "TCA_SKBEDIT_QUEUE_MAPPING_MAX", unit: "", names: 0 },
 ];
 
 // `list skbmod`
 #[rattlefmt::skip]
 const LIST_SKBMOD: [Note<'static>; 6] = [
-    Note { kernel: "TCA_SKBMOD_TM", unit: Unit::Plain, names: 0 },
-    Note { kernel: "TCA_SKBMOD_PARMS", unit: Unit::Plain, names: 0 },
-    Note { kernel: "TCA_SKBMOD_DMAC", unit: Unit::Plain, names: 0 },
-    Note { kernel: "TCA_SKBMOD_SMAC", unit: Unit::Plain, names: 0 },
-    Note { kernel: "TCA_SKBMOD_ETYPE", unit: Unit::Plain, names: 7 },
-    Note { kernel: "TCA_SKBMOD_PAD", unit: Unit::Plain, names: 0 },
+    Note { kernel: "TCA_SKBMOD_TM", unit: "", names: 0 },
+    Note { kernel: "TCA_SKBMOD_PARMS", unit: "", names: 0 },
+    Note { kernel: "TCA_SKBMOD_DMAC", unit: "", names: 0 },
+    Note { kernel: "TCA_SKBMOD_SMAC", unit: "", names: 0 },
+    Note { kernel: "TCA_SKBMOD_ETYPE", unit: "", names: 7 },
+    Note { kernel: "TCA_SKBMOD_PAD", unit: "", names: 0 },
 ];
 
 // `bits skbmod_f`
@@ -1484,28 +1484,28 @@ const BITS_SKBMOD_F: [Named<'static>; 5] = [
 // `struct tc_skbmod`
 #[rattlefmt::skip]
 const STRUCT_TC_SKBMOD: [Note<'static>; 3] = [
-    Note { kernel: "", unit: Unit::Plain, names: 0 },
-    Note { kernel: "", unit: Unit::Plain, names: 0 },
-    Note { kernel: "", unit: Unit::Plain, names: 12 },
+    Note { kernel: "", unit: "", names: 0 },
+    Note { kernel: "", unit: "", names: 0 },
+    Note { kernel: "", unit: "", names: 12 },
 ];
 
 // `list tunnel_key`
 #[rattlefmt::skip]
 const LIST_TUNNEL_KEY: [Note<'static>; 14] = [
-    Note { kernel: "TCA_TUNNEL_KEY_TM", unit: Unit::Plain, names: 0 },
-    Note { kernel: "TCA_TUNNEL_KEY_PARMS", unit: Unit::Plain, names: 0 },
-    Note { kernel: "TCA_TUNNEL_KEY_ENC_IPV4_SRC", unit: Unit::Plain, names: 0 },
-    Note { kernel: "TCA_TUNNEL_KEY_ENC_IPV4_DST", unit: Unit::Plain, names: 0 },
-    Note { kernel: "TCA_TUNNEL_KEY_ENC_IPV6_SRC", unit: Unit::Plain, names: 0 },
-    Note { kernel: "TCA_TUNNEL_KEY_ENC_IPV6_DST", unit: Unit::Plain, names: 0 },
-    Note { kernel: "TCA_TUNNEL_KEY_ENC_KEY_ID", unit: Unit::Plain, names: 0 },
-    Note { kernel: "TCA_TUNNEL_KEY_PAD", unit: Unit::Plain, names: 0 },
-    Note { kernel: "TCA_TUNNEL_KEY_ENC_DST_PORT", unit: Unit::Plain, names: 0 },
-    Note { kernel: "TCA_TUNNEL_KEY_NO_CSUM", unit: Unit::Plain, names: 0 },
-    Note { kernel: "TCA_TUNNEL_KEY_ENC_OPTS", unit: Unit::Plain, names: 0 },
-    Note { kernel: "TCA_TUNNEL_KEY_ENC_TOS", unit: Unit::Plain, names: 0 },
-    Note { kernel: "TCA_TUNNEL_KEY_ENC_TTL", unit: Unit::Plain, names: 0 },
-    Note { kernel: "TCA_TUNNEL_KEY_NO_FRAG", unit: Unit::Plain, names: 0 },
+    Note { kernel: "TCA_TUNNEL_KEY_TM", unit: "", names: 0 },
+    Note { kernel: "TCA_TUNNEL_KEY_PARMS", unit: "", names: 0 },
+    Note { kernel: "TCA_TUNNEL_KEY_ENC_IPV4_SRC", unit: "", names: 0 },
+    Note { kernel: "TCA_TUNNEL_KEY_ENC_IPV4_DST", unit: "", names: 0 },
+    Note { kernel: "TCA_TUNNEL_KEY_ENC_IPV6_SRC", unit: "", names: 0 },
+    Note { kernel: "TCA_TUNNEL_KEY_ENC_IPV6_DST", unit: "", names: 0 },
+    Note { kernel: "TCA_TUNNEL_KEY_ENC_KEY_ID", unit: "", names: 0 },
+    Note { kernel: "TCA_TUNNEL_KEY_PAD", unit: "", names: 0 },
+    Note { kernel: "TCA_TUNNEL_KEY_ENC_DST_PORT", unit: "", names: 0 },
+    Note { kernel: "TCA_TUNNEL_KEY_NO_CSUM", unit: "", names: 0 },
+    Note { kernel: "TCA_TUNNEL_KEY_ENC_OPTS", unit: "", names: 0 },
+    Note { kernel: "TCA_TUNNEL_KEY_ENC_TOS", unit: "", names: 0 },
+    Note { kernel: "TCA_TUNNEL_KEY_ENC_TTL", unit: "", names: 0 },
+    Note { kernel: "TCA_TUNNEL_KEY_NO_FRAG", unit: "", names: 0 },
 ];
 
 // `names tunnel_key_act`
@@ -1518,46 +1518,46 @@ const NAMES_TUNNEL_KEY_ACT: [Named<'static>; 2] = [
 // `struct tc_tunnel_key`
 #[rattlefmt::skip]
 const STRUCT_TC_TUNNEL_KEY: [Note<'static>; 2] = [
-    Note { kernel: "", unit: Unit::Plain, names: 0 },
-    Note { kernel: "", unit: Unit::Plain, names: 13 },
+    Note { kernel: "", unit: "", names: 0 },
+    Note { kernel: "", unit: "", names: 13 },
 ];
 
 // `list tunnel_key_opts`
 #[rattlefmt::skip]
 const LIST_TUNNEL_KEY_OPTS: [Note<'static>; 3] = [
-    Note { kernel: "TCA_TUNNEL_KEY_ENC_OPTS_GENEVE", unit: Unit::Plain, names: 0 },
-    Note { kernel: "TCA_TUNNEL_KEY_ENC_OPTS_VXLAN", unit: Unit::Plain, names: 0 },
-    Note { kernel: "TCA_TUNNEL_KEY_ENC_OPTS_ERSPAN", unit: Unit::Plain, names: 0 },
+    Note { kernel: "TCA_TUNNEL_KEY_ENC_OPTS_GENEVE", unit: "", names: 0 },
+    Note { kernel: "TCA_TUNNEL_KEY_ENC_OPTS_VXLAN", unit: "", names: 0 },
+    Note { kernel: "TCA_TUNNEL_KEY_ENC_OPTS_ERSPAN", unit: "", names: 0 },
 ];
 
 // `list vlan`
 #[rattlefmt::skip]
 const LIST_VLAN: [Note<'static>; 8] = [
-    Note { kernel: "TCA_VLAN_TM", unit: Unit::Plain, names: 0 },
-    Note { kernel: "TCA_VLAN_PARMS", unit: Unit::Plain, names: 0 },
-    Note { kernel: "TCA_VLAN_PUSH_VLAN_ID", unit: Unit::Plain, names: 0 },
-    Note { kernel: "TCA_VLAN_PUSH_VLAN_PROTOCOL", unit: Unit::Plain, names: 7 },
-    Note { kernel: "TCA_VLAN_PAD", unit: Unit::Plain, names: 0 },
-    Note { kernel: "TCA_VLAN_PUSH_VLAN_PRIORITY", unit: Unit::Plain, names: 0 },
-    Note { kernel: "TCA_VLAN_PUSH_ETH_DST", unit: Unit::Plain, names: 0 },
-    Note { kernel: "TCA_VLAN_PUSH_ETH_SRC", unit: Unit::Plain, names: 0 },
+    Note { kernel: "TCA_VLAN_TM", unit: "", names: 0 },
+    Note { kernel: "TCA_VLAN_PARMS", unit: "", names: 0 },
+    Note { kernel: "TCA_VLAN_PUSH_VLAN_ID", unit: "", names: 0 },
+    Note { kernel: "TCA_VLAN_PUSH_VLAN_PROTOCOL", unit: "", names: 7 },
+    Note { kernel: "TCA_VLAN_PAD", unit: "", names: 0 },
+    Note { kernel: "TCA_VLAN_PUSH_VLAN_PRIORITY", unit: "", names: 0 },
+    Note { kernel: "TCA_VLAN_PUSH_ETH_DST", unit: "", names: 0 },
+    Note { kernel: "TCA_VLAN_PUSH_ETH_SRC", unit: "", names: 0 },
 ];
 
 // `enum tca_vlan_act`
 #[rattlefmt::skip]
 const ENUM_TCA_VLAN_ACT: [Note<'static>; 5] = [
-    Note { kernel: "TCA_VLAN_ACT_POP", unit: Unit::Plain, names: 0 },
-    Note { kernel: "TCA_VLAN_ACT_PUSH", unit: Unit::Plain, names: 0 },
-    Note { kernel: "TCA_VLAN_ACT_MODIFY", unit: Unit::Plain, names: 0 },
-    Note { kernel: "TCA_VLAN_ACT_POP_ETH", unit: Unit::Plain, names: 0 },
-    Note { kernel: "TCA_VLAN_ACT_PUSH_ETH", unit: Unit::Plain, names: 0 },
+    Note { kernel: "TCA_VLAN_ACT_POP", unit: "", names: 0 },
+    Note { kernel: "TCA_VLAN_ACT_PUSH", unit: "", names: 0 },
+    Note { kernel: "TCA_VLAN_ACT_MODIFY", unit: "", names: 0 },
+    Note { kernel: "TCA_VLAN_ACT_POP_ETH", unit: "", names: 0 },
+    Note { kernel: "TCA_VLAN_ACT_PUSH_ETH", unit: "", names: 0 },
 ];
 
 // `list ematch_tree`
 #[rattlefmt::skip]
 const LIST_EMATCH_TREE: [Note<'static>; 2] = [
-    Note { kernel: "TCA_EMATCH_TREE_HDR", unit: Unit::Plain, names: 0 },
-    Note { kernel: "TCA_EMATCH_TREE_LIST", unit: Unit::Plain, names: 0 },
+    Note { kernel: "TCA_EMATCH_TREE_HDR", unit: "", names: 0 },
+    Note { kernel: "TCA_EMATCH_TREE_LIST", unit: "", names: 0 },
 ];
 
 // `bits tcf_em`
@@ -1572,9 +1572,9 @@ const BITS_TCF_EM: [Named<'static>; 4] = [
 // `struct ematch_container`
 #[rattlefmt::skip]
 const STRUCT_EMATCH_CONTAINER: [Note<'static>; 3] = [
-    Note { kernel: "", unit: Unit::Plain, names: 14 },
-    Note { kernel: "", unit: Unit::Plain, names: 0 },
-    Note { kernel: "", unit: Unit::Plain, names: 0 },
+    Note { kernel: "", unit: "", names: 14 },
+    Note { kernel: "", unit: "", names: 0 },
+    Note { kernel: "", unit: "", names: 0 },
 ];
 
 // `names em_align`
@@ -1605,82 +1605,82 @@ const NAMES_EM_LAYER_OPND: [Named<'static>; 9] = [
 // `struct tcf_em_cmp`
 #[rattlefmt::skip]
 const STRUCT_TCF_EM_CMP: [Note<'static>; 5] = [
-    Note { kernel: "", unit: Unit::Plain, names: 0 },
-    Note { kernel: "", unit: Unit::Plain, names: 0 },
-    Note { kernel: "", unit: Unit::Bytes, names: 0 },
-    Note { kernel: "", unit: Unit::Plain, names: 15 },
-    Note { kernel: "", unit: Unit::Plain, names: 16 },
+    Note { kernel: "", unit: "", names: 0 },
+    Note { kernel: "", unit: "", names: 0 },
+    Note { kernel: "", unit: "bytes", names: 0 },
+    Note { kernel: "", unit: "", names: 15 },
+    Note { kernel: "", unit: "", names: 16 },
 ];
 
 // `struct ematch_nbyte`
 #[rattlefmt::skip]
 const STRUCT_EMATCH_NBYTE: [Note<'static>; 4] = [
-    Note { kernel: "", unit: Unit::Plain, names: 14 },
-    Note { kernel: "", unit: Unit::Plain, names: 0 },
-    Note { kernel: "", unit: Unit::Plain, names: 0 },
-    Note { kernel: "", unit: Unit::Plain, names: 0 },
+    Note { kernel: "", unit: "", names: 14 },
+    Note { kernel: "", unit: "", names: 0 },
+    Note { kernel: "", unit: "", names: 0 },
+    Note { kernel: "", unit: "", names: 0 },
 ];
 
 // `struct tcf_em_nbyte`
 #[rattlefmt::skip]
 const STRUCT_TCF_EM_NBYTE: [Note<'static>; 2] = [
-    Note { kernel: "", unit: Unit::Bytes, names: 0 },
-    Note { kernel: "", unit: Unit::Plain, names: 0 },
+    Note { kernel: "", unit: "bytes", names: 0 },
+    Note { kernel: "", unit: "", names: 0 },
 ];
 
 // `list em_meta`
 #[rattlefmt::skip]
 const LIST_EM_META: [Note<'static>; 3] = [
-    Note { kernel: "TCA_EM_META_HDR", unit: Unit::Plain, names: 0 },
-    Note { kernel: "TCA_EM_META_LVALUE", unit: Unit::Plain, names: 0 },
-    Note { kernel: "TCA_EM_META_RVALUE", unit: Unit::Plain, names: 0 },
+    Note { kernel: "TCA_EM_META_HDR", unit: "", names: 0 },
+    Note { kernel: "TCA_EM_META_LVALUE", unit: "", names: 0 },
+    Note { kernel: "TCA_EM_META_RVALUE", unit: "", names: 0 },
 ];
 
 // `enum tcf_em_opnd`
 #[rattlefmt::skip]
 const ENUM_TCF_EM_OPND: [Note<'static>; 3] = [
-    Note { kernel: "TCF_EM_OPND_EQ", unit: Unit::Plain, names: 0 },
-    Note { kernel: "TCF_EM_OPND_GT", unit: Unit::Plain, names: 0 },
-    Note { kernel: "TCF_EM_OPND_LT", unit: Unit::Plain, names: 0 },
+    Note { kernel: "TCF_EM_OPND_EQ", unit: "", names: 0 },
+    Note { kernel: "TCF_EM_OPND_GT", unit: "", names: 0 },
+    Note { kernel: "TCF_EM_OPND_LT", unit: "", names: 0 },
 ];
 
 // `struct tcf_em_text`
 #[rattlefmt::skip]
 const STRUCT_TCF_EM_TEXT: [Note<'static>; 6] = [
-    Note { kernel: "", unit: Unit::Plain, names: 0 },
-    Note { kernel: "", unit: Unit::Bytes, names: 0 },
-    Note { kernel: "", unit: Unit::Bytes, names: 0 },
-    Note { kernel: "", unit: Unit::Bytes, names: 0 },
-    Note { kernel: "", unit: Unit::Plain, names: 0 },
-    Note { kernel: "", unit: Unit::Plain, names: 0 },
+    Note { kernel: "", unit: "", names: 0 },
+    Note { kernel: "", unit: "bytes", names: 0 },
+    Note { kernel: "", unit: "bytes", names: 0 },
+    Note { kernel: "", unit: "bytes", names: 0 },
+    Note { kernel: "", unit: "", names: 0 },
+    Note { kernel: "", unit: "", names: 0 },
 ];
 
 // `list em_ipt`
 #[rattlefmt::skip]
 const LIST_EM_IPT: [Note<'static>; 5] = [
-    Note { kernel: "TCA_EM_IPT_HOOK", unit: Unit::Plain, names: 0 },
-    Note { kernel: "TCA_EM_IPT_MATCH_NAME", unit: Unit::Plain, names: 0 },
-    Note { kernel: "TCA_EM_IPT_MATCH_REVISION", unit: Unit::Plain, names: 0 },
-    Note { kernel: "TCA_EM_IPT_NFPROTO", unit: Unit::Plain, names: 0 },
-    Note { kernel: "TCA_EM_IPT_MATCH_DATA", unit: Unit::Plain, names: 0 },
+    Note { kernel: "TCA_EM_IPT_HOOK", unit: "", names: 0 },
+    Note { kernel: "TCA_EM_IPT_MATCH_NAME", unit: "", names: 0 },
+    Note { kernel: "TCA_EM_IPT_MATCH_REVISION", unit: "", names: 0 },
+    Note { kernel: "TCA_EM_IPT_NFPROTO", unit: "", names: 0 },
+    Note { kernel: "TCA_EM_IPT_MATCH_DATA", unit: "", names: 0 },
 ];
 
 // `list basic`
 #[rattlefmt::skip]
 const LIST_BASIC: [Note<'static>; 6] = [
-    Note { kernel: "TCA_BASIC_CLASSID", unit: Unit::Plain, names: 0 },
-    Note { kernel: "TCA_BASIC_EMATCHES", unit: Unit::Plain, names: 0 },
-    Note { kernel: "TCA_BASIC_ACT", unit: Unit::Plain, names: 0 },
-    Note { kernel: "TCA_BASIC_POLICE", unit: Unit::Plain, names: 0 },
-    Note { kernel: "TCA_BASIC_PCNT", unit: Unit::Plain, names: 0 },
-    Note { kernel: "TCA_BASIC_PAD", unit: Unit::Plain, names: 0 },
+    Note { kernel: "TCA_BASIC_CLASSID", unit: "", names: 0 },
+    Note { kernel: "TCA_BASIC_EMATCHES", unit: "", names: 0 },
+    Note { kernel: "TCA_BASIC_ACT", unit: "", names: 0 },
+    Note { kernel: "TCA_BASIC_POLICE", unit: "", names: 0 },
+    Note { kernel: "TCA_BASIC_PCNT", unit: "", names: 0 },
+    Note { kernel: "TCA_BASIC_PAD", unit: "", names: 0 },
 ];
 
 // `list tc`
 #[rattlefmt::skip]
 const LIST_TC_BY_KIND: [Note<'static>; 2] = [
-    Note { kernel: "TCA_OPTIONS", unit: Unit::Plain, names: 0 },
-    Note { kernel: "TCA_XSTATS", unit: Unit::Plain, names: 0 },
+    Note { kernel: "TCA_OPTIONS", unit: "", names: 0 },
+    Note { kernel: "TCA_XSTATS", unit: "", names: 0 },
 ];
 
 // `bits tca_bpf_flag`
@@ -1702,25 +1702,25 @@ const BITS_TCA_CLS_FLAGS: [Named<'static>; 5] = [
 // `list bpf`
 #[rattlefmt::skip]
 const LIST_BPF: [Note<'static>; 11] = [
-    Note { kernel: "TCA_BPF_ACT", unit: Unit::Plain, names: 0 },
-    Note { kernel: "TCA_BPF_POLICE", unit: Unit::Plain, names: 0 },
-    Note { kernel: "TCA_BPF_CLASSID", unit: Unit::Plain, names: 0 },
-    Note { kernel: "TCA_BPF_OPS_LEN", unit: Unit::Plain, names: 0 },
-    Note { kernel: "TCA_BPF_OPS", unit: Unit::Plain, names: 0 },
-    Note { kernel: "TCA_BPF_FD", unit: Unit::Plain, names: 0 },
-    Note { kernel: "TCA_BPF_NAME", unit: Unit::Plain, names: 0 },
-    Note { kernel: "TCA_BPF_FLAGS", unit: Unit::Plain, names: 17 },
-    Note { kernel: "TCA_BPF_FLAGS_GEN", unit: Unit::Plain, names: 18 },
-    Note { kernel: "TCA_BPF_TAG", unit: Unit::Plain, names: 0 },
-    Note { kernel: "TCA_BPF_ID", unit: Unit::Plain, names: 0 },
+    Note { kernel: "TCA_BPF_ACT", unit: "", names: 0 },
+    Note { kernel: "TCA_BPF_POLICE", unit: "", names: 0 },
+    Note { kernel: "TCA_BPF_CLASSID", unit: "", names: 0 },
+    Note { kernel: "TCA_BPF_OPS_LEN", unit: "", names: 0 },
+    Note { kernel: "TCA_BPF_OPS", unit: "", names: 0 },
+    Note { kernel: "TCA_BPF_FD", unit: "", names: 0 },
+    Note { kernel: "TCA_BPF_NAME", unit: "", names: 0 },
+    Note { kernel: "TCA_BPF_FLAGS", unit: "", names: 17 },
+    Note { kernel: "TCA_BPF_FLAGS_GEN", unit: "", names: 18 },
+    Note { kernel: "TCA_BPF_TAG", unit: "", names: 0 },
+    Note { kernel: "TCA_BPF_ID", unit: "", names: 0 },
 ];
 
 // `list cgroup`
 #[rattlefmt::skip]
 const LIST_CGROUP: [Note<'static>; 3] = [
-    Note { kernel: "TCA_CGROUP_ACT", unit: Unit::Plain, names: 0 },
-    Note { kernel: "TCA_CGROUP_POLICE", unit: Unit::Plain, names: 0 },
-    Note { kernel: "TCA_CGROUP_EMATCHES", unit: Unit::Plain, names: 0 },
+    Note { kernel: "TCA_CGROUP_ACT", unit: "", names: 0 },
+    Note { kernel: "TCA_CGROUP_POLICE", unit: "", names: 0 },
+    Note { kernel: "TCA_CGROUP_EMATCHES", unit: "", names: 0 },
 ];
 
 // `bits flow_key`
@@ -1749,25 +1749,25 @@ const BITS_FLOW_KEY: [Named<'static>; 18] = [
 // `list flow`
 #[rattlefmt::skip]
 const LIST_FLOW: [Note<'static>; 12] = [
-    Note { kernel: "TCA_FLOW_KEYS", unit: Unit::Plain, names: 19 },
-    Note { kernel: "TCA_FLOW_MODE", unit: Unit::Plain, names: 0 },
-    Note { kernel: "TCA_FLOW_BASECLASS", unit: Unit::Plain, names: 0 },
-    Note { kernel: "TCA_FLOW_RSHIFT", unit: Unit::Plain, names: 0 },
-    Note { kernel: "TCA_FLOW_ADDEND", unit: Unit::Plain, names: 0 },
-    Note { kernel: "TCA_FLOW_MASK", unit: Unit::Plain, names: 0 },
-    Note { kernel: "TCA_FLOW_XOR", unit: Unit::Plain, names: 0 },
-    Note { kernel: "TCA_FLOW_DIVISOR", unit: Unit::Plain, names: 0 },
-    Note { kernel: "TCA_FLOW_ACT", unit: Unit::Plain, names: 0 },
-    Note { kernel: "TCA_FLOW_POLICE", unit: Unit::Plain, names: 0 },
-    Note { kernel: "TCA_FLOW_EMATCHES", unit: Unit::Plain, names: 0 },
-    Note { kernel: "TCA_FLOW_PERTURB", unit: Unit::Seconds, names: 0 },
+    Note { kernel: "TCA_FLOW_KEYS", unit: "", names: 19 },
+    Note { kernel: "TCA_FLOW_MODE", unit: "", names: 0 },
+    Note { kernel: "TCA_FLOW_BASECLASS", unit: "", names: 0 },
+    Note { kernel: "TCA_FLOW_RSHIFT", unit: "", names: 0 },
+    Note { kernel: "TCA_FLOW_ADDEND", unit: "", names: 0 },
+    Note { kernel: "TCA_FLOW_MASK", unit: "", names: 0 },
+    Note { kernel: "TCA_FLOW_XOR", unit: "", names: 0 },
+    Note { kernel: "TCA_FLOW_DIVISOR", unit: "", names: 0 },
+    Note { kernel: "TCA_FLOW_ACT", unit: "", names: 0 },
+    Note { kernel: "TCA_FLOW_POLICE", unit: "", names: 0 },
+    Note { kernel: "TCA_FLOW_EMATCHES", unit: "", names: 0 },
+    Note { kernel: "TCA_FLOW_PERTURB", unit: "seconds", names: 0 },
 ];
 
 // `enum flow_mode`
 #[rattlefmt::skip]
 const ENUM_FLOW_MODE: [Note<'static>; 2] = [
-    Note { kernel: "FLOW_MODE_MAP", unit: Unit::Plain, names: 0 },
-    Note { kernel: "FLOW_MODE_HASH", unit: Unit::Plain, names: 0 },
+    Note { kernel: "FLOW_MODE_MAP", unit: "", names: 0 },
+    Note { kernel: "FLOW_MODE_HASH", unit: "", names: 0 },
 ];
 
 // `bits flower_key_flags`
@@ -1815,275 +1815,275 @@ const BITS_FLOWER_CT_FLAGS: [Named<'static>; 6] = [
 // `list flower`
 #[rattlefmt::skip]
 const LIST_FLOWER: [Note<'static>; 111] = [
-    Note { kernel: "TCA_FLOWER_CLASSID", unit: Unit::Plain, names: 0 },
-    Note { kernel: "TCA_FLOWER_INDEV", unit: Unit::Plain, names: 0 },
-    Note { kernel: "TCA_FLOWER_ACT", unit: Unit::Plain, names: 0 },
-    Note { kernel: "TCA_FLOWER_KEY_ETH_DST", unit: Unit::Plain, names: 0 },
-    Note { kernel: "TCA_FLOWER_KEY_ETH_DST_MASK", unit: Unit::Plain, names: 0 },
-    Note { kernel: "TCA_FLOWER_KEY_ETH_SRC", unit: Unit::Plain, names: 0 },
-    Note { kernel: "TCA_FLOWER_KEY_ETH_SRC_MASK", unit: Unit::Plain, names: 0 },
-    Note { kernel: "TCA_FLOWER_KEY_ETH_TYPE", unit: Unit::Plain, names: 7 },
-    Note { kernel: "TCA_FLOWER_KEY_IP_PROTO", unit: Unit::Plain, names: 5 },
-    Note { kernel: "TCA_FLOWER_KEY_IPV4_SRC", unit: Unit::Plain, names: 0 },
-    Note { kernel: "TCA_FLOWER_KEY_IPV4_SRC_MASK", unit: Unit::Plain, names: 0 },
-    Note { kernel: "TCA_FLOWER_KEY_IPV4_DST", unit: Unit::Plain, names: 0 },
-    Note { kernel: "TCA_FLOWER_KEY_IPV4_DST_MASK", unit: Unit::Plain, names: 0 },
-    Note { kernel: "TCA_FLOWER_KEY_IPV6_SRC", unit: Unit::Plain, names: 0 },
-    Note { kernel: "TCA_FLOWER_KEY_IPV6_SRC_MASK", unit: Unit::Plain, names: 0 },
-    Note { kernel: "TCA_FLOWER_KEY_IPV6_DST", unit: Unit::Plain, names: 0 },
-    Note { kernel: "TCA_FLOWER_KEY_IPV6_DST_MASK", unit: Unit::Plain, names: 0 },
-    Note { kernel: "TCA_FLOWER_KEY_TCP_SRC", unit: Unit::Plain, names: 0 },
-    Note { kernel: "TCA_FLOWER_KEY_TCP_DST", unit: Unit::Plain, names: 0 },
-    Note { kernel: "TCA_FLOWER_KEY_UDP_SRC", unit: Unit::Plain, names: 0 },
-    Note { kernel: "TCA_FLOWER_KEY_UDP_DST", unit: Unit::Plain, names: 0 },
-    Note { kernel: "TCA_FLOWER_FLAGS", unit: Unit::Plain, names: 18 },
-    Note { kernel: "TCA_FLOWER_KEY_VLAN_ID", unit: Unit::Plain, names: 0 },
-    Note { kernel: "TCA_FLOWER_KEY_VLAN_PRIO", unit: Unit::Plain, names: 0 },
-    Note { kernel: "TCA_FLOWER_KEY_VLAN_ETH_TYPE", unit: Unit::Plain, names: 7 },
-    Note { kernel: "TCA_FLOWER_KEY_ENC_KEY_ID", unit: Unit::Plain, names: 0 },
-    Note { kernel: "TCA_FLOWER_KEY_ENC_IPV4_SRC", unit: Unit::Plain, names: 0 },
-    Note { kernel: "TCA_FLOWER_KEY_ENC_IPV4_SRC_MASK", unit: Unit::Plain, names: 0 },
-    Note { kernel: "TCA_FLOWER_KEY_ENC_IPV4_DST", unit: Unit::Plain, names: 0 },
-    Note { kernel: "TCA_FLOWER_KEY_ENC_IPV4_DST_MASK", unit: Unit::Plain, names: 0 },
-    Note { kernel: "TCA_FLOWER_KEY_ENC_IPV6_SRC", unit: Unit::Plain, names: 0 },
-    Note { kernel: "TCA_FLOWER_KEY_ENC_IPV6_SRC_MASK", unit: Unit::Plain, names: 0 },
-    Note { kernel: "TCA_FLOWER_KEY_ENC_IPV6_DST", unit: Unit::Plain, names: 0 },
-    Note { kernel: "TCA_FLOWER_KEY_ENC_IPV6_DST_MASK", unit: Unit::Plain, names: 0 },
-    Note { kernel: "TCA_FLOWER_KEY_TCP_SRC_MASK", unit: Unit::Plain, names: 0 },
-    Note { kernel: "TCA_FLOWER_KEY_TCP_DST_MASK", unit: Unit::Plain, names: 0 },
-    Note { kernel: "TCA_FLOWER_KEY_UDP_SRC_MASK", unit: Unit::Plain, names: 0 },
-    Note { kernel: "TCA_FLOWER_KEY_UDP_DST_MASK", unit: Unit::Plain, names: 0 },
-    Note { kernel: "TCA_FLOWER_KEY_SCTP_SRC_MASK", unit: Unit::Plain, names: 0 },
-    Note { kernel: "TCA_FLOWER_KEY_SCTP_DST_MASK", unit: Unit::Plain, names: 0 },
-    Note { kernel: "TCA_FLOWER_KEY_SCTP_SRC", unit: Unit::Plain, names: 0 },
-    Note { kernel: "TCA_FLOWER_KEY_SCTP_DST", unit: Unit::Plain, names: 0 },
-    Note { kernel: "TCA_FLOWER_KEY_ENC_UDP_SRC_PORT", unit: Unit::Plain, names: 0 },
-    Note { kernel: "TCA_FLOWER_KEY_ENC_UDP_SRC_PORT_MASK", unit: Unit::Plain, names: 0 },
-    Note { kernel: "TCA_FLOWER_KEY_ENC_UDP_DST_PORT", unit: Unit::Plain, names: 0 },
-    Note { kernel: "TCA_FLOWER_KEY_ENC_UDP_DST_PORT_MASK", unit: Unit::Plain, names: 0 },
-    Note { kernel: "TCA_FLOWER_KEY_FLAGS", unit: Unit::Plain, names: 20 },
-    Note { kernel: "TCA_FLOWER_KEY_FLAGS_MASK", unit: Unit::Plain, names: 20 },
-    Note { kernel: "TCA_FLOWER_KEY_ICMPV4_CODE", unit: Unit::Plain, names: 0 },
-    Note { kernel: "TCA_FLOWER_KEY_ICMPV4_CODE_MASK", unit: Unit::Plain, names: 0 },
-    Note { kernel: "TCA_FLOWER_KEY_ICMPV4_TYPE", unit: Unit::Plain, names: 0 },
-    Note { kernel: "TCA_FLOWER_KEY_ICMPV4_TYPE_MASK", unit: Unit::Plain, names: 0 },
-    Note { kernel: "TCA_FLOWER_KEY_ICMPV6_CODE", unit: Unit::Plain, names: 0 },
-    Note { kernel: "TCA_FLOWER_KEY_ICMPV6_CODE_MASK", unit: Unit::Plain, names: 0 },
-    Note { kernel: "TCA_FLOWER_KEY_ICMPV6_TYPE", unit: Unit::Plain, names: 0 },
-    Note { kernel: "TCA_FLOWER_KEY_ICMPV6_TYPE_MASK", unit: Unit::Plain, names: 0 },
-    Note { kernel: "TCA_FLOWER_KEY_ARP_SIP", unit: Unit::Plain, names: 0 },
-    Note { kernel: "TCA_FLOWER_KEY_ARP_SIP_MASK", unit: Unit::Plain, names: 0 },
-    Note { kernel: "TCA_FLOWER_KEY_ARP_TIP", unit: Unit::Plain, names: 0 },
-    Note { kernel: "TCA_FLOWER_KEY_ARP_TIP_MASK", unit: Unit::Plain, names: 0 },
-    Note { kernel: "TCA_FLOWER_KEY_ARP_OP", unit: Unit::Plain, names: 21 },
-    Note { kernel: "TCA_FLOWER_KEY_ARP_OP_MASK", unit: Unit::Plain, names: 0 },
-    Note { kernel: "TCA_FLOWER_KEY_ARP_SHA", unit: Unit::Plain, names: 0 },
-    Note { kernel: "TCA_FLOWER_KEY_ARP_SHA_MASK", unit: Unit::Plain, names: 0 },
-    Note { kernel: "TCA_FLOWER_KEY_ARP_THA", unit: Unit::Plain, names: 0 },
-    Note { kernel: "TCA_FLOWER_KEY_ARP_THA_MASK", unit: Unit::Plain, names: 0 },
-    Note { kernel: "TCA_FLOWER_KEY_MPLS_TTL", unit: Unit::Plain, names: 0 },
-    Note { kernel: "TCA_FLOWER_KEY_MPLS_BOS", unit: Unit::Plain, names: 0 },
-    Note { kernel: "TCA_FLOWER_KEY_MPLS_TC", unit: Unit::Plain, names: 0 },
-    Note { kernel: "TCA_FLOWER_KEY_MPLS_LABEL", unit: Unit::Plain, names: 0 },
-    Note { kernel: "TCA_FLOWER_KEY_TCP_FLAGS", unit: Unit::Plain, names: 22 },
-    Note { kernel: "TCA_FLOWER_KEY_TCP_FLAGS_MASK", unit: Unit::Plain, names: 22 },
-    Note { kernel: "TCA_FLOWER_KEY_IP_TOS", unit: Unit::Plain, names: 0 },
-    Note { kernel: "TCA_FLOWER_KEY_IP_TOS_MASK", unit: Unit::Plain, names: 0 },
-    Note { kernel: "TCA_FLOWER_KEY_IP_TTL", unit: Unit::Plain, names: 0 },
-    Note { kernel: "TCA_FLOWER_KEY_IP_TTL_MASK", unit: Unit::Plain, names: 0 },
-    Note { kernel: "TCA_FLOWER_KEY_CVLAN_ID", unit: Unit::Plain, names: 0 },
-    Note { kernel: "TCA_FLOWER_KEY_CVLAN_PRIO", unit: Unit::Plain, names: 0 },
-    Note { kernel: "TCA_FLOWER_KEY_CVLAN_ETH_TYPE", unit: Unit::Plain, names: 7 },
-    Note { kernel: "TCA_FLOWER_KEY_ENC_IP_TOS", unit: Unit::Plain, names: 0 },
-    Note { kernel: "TCA_FLOWER_KEY_ENC_IP_TOS_MASK", unit: Unit::Plain, names: 0 },
-    Note { kernel: "TCA_FLOWER_KEY_ENC_IP_TTL", unit: Unit::Plain, names: 0 },
-    Note { kernel: "TCA_FLOWER_KEY_ENC_IP_TTL_MASK", unit: Unit::Plain, names: 0 },
-    Note { kernel: "TCA_FLOWER_KEY_ENC_OPTS", unit: Unit::Plain, names: 0 },
-    Note { kernel: "TCA_FLOWER_KEY_ENC_OPTS_MASK", unit: Unit::Plain, names: 0 },
-    Note { kernel: "TCA_FLOWER_IN_HW_COUNT", unit: Unit::Plain, names: 0 },
-    Note { kernel: "TCA_FLOWER_KEY_PORT_SRC_MIN", unit: Unit::Plain, names: 0 },
-    Note { kernel: "TCA_FLOWER_KEY_PORT_SRC_MAX", unit: Unit::Plain, names: 0 },
-    Note { kernel: "TCA_FLOWER_KEY_PORT_DST_MIN", unit: Unit::Plain, names: 0 },
-    Note { kernel: "TCA_FLOWER_KEY_PORT_DST_MAX", unit: Unit::Plain, names: 0 },
-    Note { kernel: "TCA_FLOWER_KEY_CT_STATE", unit: Unit::Plain, names: 23 },
-    Note { kernel: "TCA_FLOWER_KEY_CT_STATE_MASK", unit: Unit::Plain, names: 23 },
-    Note { kernel: "TCA_FLOWER_KEY_CT_ZONE", unit: Unit::Plain, names: 0 },
-    Note { kernel: "TCA_FLOWER_KEY_CT_ZONE_MASK", unit: Unit::Plain, names: 0 },
-    Note { kernel: "TCA_FLOWER_KEY_CT_MARK", unit: Unit::Plain, names: 0 },
-    Note { kernel: "TCA_FLOWER_KEY_CT_MARK_MASK", unit: Unit::Plain, names: 0 },
-    Note { kernel: "TCA_FLOWER_KEY_CT_LABELS", unit: Unit::Plain, names: 0 },
-    Note { kernel: "TCA_FLOWER_KEY_CT_LABELS_MASK", unit: Unit::Plain, names: 0 },
-    Note { kernel: "TCA_FLOWER_KEY_MPLS_OPTS", unit: Unit::Plain, names: 0 },
-    Note { kernel: "TCA_FLOWER_KEY_HASH", unit: Unit::Plain, names: 0 },
-    Note { kernel: "TCA_FLOWER_KEY_HASH_MASK", unit: Unit::Plain, names: 0 },
-    Note { kernel: "TCA_FLOWER_KEY_NUM_OF_VLANS", unit: Unit::Plain, names: 0 },
-    Note { kernel: "TCA_FLOWER_KEY_PPPOE_SID", unit: Unit::Plain, names: 0 },
-    Note { kernel: "TCA_FLOWER_KEY_PPP_PROTO", unit: Unit::Plain, names: 0 },
-    Note { kernel: "TCA_FLOWER_KEY_L2TPV3_SID", unit: Unit::Plain, names: 0 },
-    Note { kernel: "TCA_FLOWER_L2_MISS", unit: Unit::Plain, names: 0 },
-    Note { kernel: "TCA_FLOWER_KEY_CFM", unit: Unit::Plain, names: 0 },
-    Note { kernel: "TCA_FLOWER_KEY_SPI", unit: Unit::Plain, names: 0 },
-    Note { kernel: "TCA_FLOWER_KEY_SPI_MASK", unit: Unit::Plain, names: 0 },
-    Note { kernel: "TCA_FLOWER_KEY_ENC_FLAGS", unit: Unit::Plain, names: 20 },
-    Note { kernel: "TCA_FLOWER_KEY_ENC_FLAGS_MASK", unit: Unit::Plain, names: 20 },
+    Note { kernel: "TCA_FLOWER_CLASSID", unit: "", names: 0 },
+    Note { kernel: "TCA_FLOWER_INDEV", unit: "", names: 0 },
+    Note { kernel: "TCA_FLOWER_ACT", unit: "", names: 0 },
+    Note { kernel: "TCA_FLOWER_KEY_ETH_DST", unit: "", names: 0 },
+    Note { kernel: "TCA_FLOWER_KEY_ETH_DST_MASK", unit: "", names: 0 },
+    Note { kernel: "TCA_FLOWER_KEY_ETH_SRC", unit: "", names: 0 },
+    Note { kernel: "TCA_FLOWER_KEY_ETH_SRC_MASK", unit: "", names: 0 },
+    Note { kernel: "TCA_FLOWER_KEY_ETH_TYPE", unit: "", names: 7 },
+    Note { kernel: "TCA_FLOWER_KEY_IP_PROTO", unit: "", names: 5 },
+    Note { kernel: "TCA_FLOWER_KEY_IPV4_SRC", unit: "", names: 0 },
+    Note { kernel: "TCA_FLOWER_KEY_IPV4_SRC_MASK", unit: "", names: 0 },
+    Note { kernel: "TCA_FLOWER_KEY_IPV4_DST", unit: "", names: 0 },
+    Note { kernel: "TCA_FLOWER_KEY_IPV4_DST_MASK", unit: "", names: 0 },
+    Note { kernel: "TCA_FLOWER_KEY_IPV6_SRC", unit: "", names: 0 },
+    Note { kernel: "TCA_FLOWER_KEY_IPV6_SRC_MASK", unit: "", names: 0 },
+    Note { kernel: "TCA_FLOWER_KEY_IPV6_DST", unit: "", names: 0 },
+    Note { kernel: "TCA_FLOWER_KEY_IPV6_DST_MASK", unit: "", names: 0 },
+    Note { kernel: "TCA_FLOWER_KEY_TCP_SRC", unit: "", names: 0 },
+    Note { kernel: "TCA_FLOWER_KEY_TCP_DST", unit: "", names: 0 },
+    Note { kernel: "TCA_FLOWER_KEY_UDP_SRC", unit: "", names: 0 },
+    Note { kernel: "TCA_FLOWER_KEY_UDP_DST", unit: "", names: 0 },
+    Note { kernel: "TCA_FLOWER_FLAGS", unit: "", names: 18 },
+    Note { kernel: "TCA_FLOWER_KEY_VLAN_ID", unit: "", names: 0 },
+    Note { kernel: "TCA_FLOWER_KEY_VLAN_PRIO", unit: "", names: 0 },
+    Note { kernel: "TCA_FLOWER_KEY_VLAN_ETH_TYPE", unit: "", names: 7 },
+    Note { kernel: "TCA_FLOWER_KEY_ENC_KEY_ID", unit: "", names: 0 },
+    Note { kernel: "TCA_FLOWER_KEY_ENC_IPV4_SRC", unit: "", names: 0 },
+    Note { kernel: "TCA_FLOWER_KEY_ENC_IPV4_SRC_MASK", unit: "", names: 0 },
+    Note { kernel: "TCA_FLOWER_KEY_ENC_IPV4_DST", unit: "", names: 0 },
+    Note { kernel: "TCA_FLOWER_KEY_ENC_IPV4_DST_MASK", unit: "", names: 0 },
+    Note { kernel: "TCA_FLOWER_KEY_ENC_IPV6_SRC", unit: "", names: 0 },
+    Note { kernel: "TCA_FLOWER_KEY_ENC_IPV6_SRC_MASK", unit: "", names: 0 },
+    Note { kernel: "TCA_FLOWER_KEY_ENC_IPV6_DST", unit: "", names: 0 },
+    Note { kernel: "TCA_FLOWER_KEY_ENC_IPV6_DST_MASK", unit: "", names: 0 },
+    Note { kernel: "TCA_FLOWER_KEY_TCP_SRC_MASK", unit: "", names: 0 },
+    Note { kernel: "TCA_FLOWER_KEY_TCP_DST_MASK", unit: "", names: 0 },
+    Note { kernel: "TCA_FLOWER_KEY_UDP_SRC_MASK", unit: "", names: 0 },
+    Note { kernel: "TCA_FLOWER_KEY_UDP_DST_MASK", unit: "", names: 0 },
+    Note { kernel: "TCA_FLOWER_KEY_SCTP_SRC_MASK", unit: "", names: 0 },
+    Note { kernel: "TCA_FLOWER_KEY_SCTP_DST_MASK", unit: "", names: 0 },
+    Note { kernel: "TCA_FLOWER_KEY_SCTP_SRC", unit: "", names: 0 },
+    Note { kernel: "TCA_FLOWER_KEY_SCTP_DST", unit: "", names: 0 },
+    Note { kernel: "TCA_FLOWER_KEY_ENC_UDP_SRC_PORT", unit: "", names: 0 },
+    Note { kernel: "TCA_FLOWER_KEY_ENC_UDP_SRC_PORT_MASK", unit: "", names: 0 },
+    Note { kernel: "TCA_FLOWER_KEY_ENC_UDP_DST_PORT", unit: "", names: 0 },
+    Note { kernel: "TCA_FLOWER_KEY_ENC_UDP_DST_PORT_MASK", unit: "", names: 0 },
+    Note { kernel: "TCA_FLOWER_KEY_FLAGS", unit: "", names: 20 },
+    Note { kernel: "TCA_FLOWER_KEY_FLAGS_MASK", unit: "", names: 20 },
+    Note { kernel: "TCA_FLOWER_KEY_ICMPV4_CODE", unit: "", names: 0 },
+    Note { kernel: "TCA_FLOWER_KEY_ICMPV4_CODE_MASK", unit: "", names: 0 },
+    Note { kernel: "TCA_FLOWER_KEY_ICMPV4_TYPE", unit: "", names: 0 },
+    Note { kernel: "TCA_FLOWER_KEY_ICMPV4_TYPE_MASK", unit: "", names: 0 },
+    Note { kernel: "TCA_FLOWER_KEY_ICMPV6_CODE", unit: "", names: 0 },
+    Note { kernel: "TCA_FLOWER_KEY_ICMPV6_CODE_MASK", unit: "", names: 0 },
+    Note { kernel: "TCA_FLOWER_KEY_ICMPV6_TYPE", unit: "", names: 0 },
+    Note { kernel: "TCA_FLOWER_KEY_ICMPV6_TYPE_MASK", unit: "", names: 0 },
+    Note { kernel: "TCA_FLOWER_KEY_ARP_SIP", unit: "", names: 0 },
+    Note { kernel: "TCA_FLOWER_KEY_ARP_SIP_MASK", unit: "", names: 0 },
+    Note { kernel: "TCA_FLOWER_KEY_ARP_TIP", unit: "", names: 0 },
+    Note { kernel: "TCA_FLOWER_KEY_ARP_TIP_MASK", unit: "", names: 0 },
+    Note { kernel: "TCA_FLOWER_KEY_ARP_OP", unit: "", names: 21 },
+    Note { kernel: "TCA_FLOWER_KEY_ARP_OP_MASK", unit: "", names: 0 },
+    Note { kernel: "TCA_FLOWER_KEY_ARP_SHA", unit: "", names: 0 },
+    Note { kernel: "TCA_FLOWER_KEY_ARP_SHA_MASK", unit: "", names: 0 },
+    Note { kernel: "TCA_FLOWER_KEY_ARP_THA", unit: "", names: 0 },
+    Note { kernel: "TCA_FLOWER_KEY_ARP_THA_MASK", unit: "", names: 0 },
+    Note { kernel: "TCA_FLOWER_KEY_MPLS_TTL", unit: "", names: 0 },
+    Note { kernel: "TCA_FLOWER_KEY_MPLS_BOS", unit: "", names: 0 },
+    Note { kernel: "TCA_FLOWER_KEY_MPLS_TC", unit: "", names: 0 },
+    Note { kernel: "TCA_FLOWER_KEY_MPLS_LABEL", unit: "", names: 0 },
+    Note { kernel: "TCA_FLOWER_KEY_TCP_FLAGS", unit: "", names: 22 },
+    Note { kernel: "TCA_FLOWER_KEY_TCP_FLAGS_MASK", unit: "", names: 22 },
+    Note { kernel: "TCA_FLOWER_KEY_IP_TOS", unit: "", names: 0 },
+    Note { kernel: "TCA_FLOWER_KEY_IP_TOS_MASK", unit: "", names: 0 },
+    Note { kernel: "TCA_FLOWER_KEY_IP_TTL", unit: "", names: 0 },
+    Note { kernel: "TCA_FLOWER_KEY_IP_TTL_MASK", unit: "", names: 0 },
+    Note { kernel: "TCA_FLOWER_KEY_CVLAN_ID", unit: "", names: 0 },
+    Note { kernel: "TCA_FLOWER_KEY_CVLAN_PRIO", unit: "", names: 0 },
+    Note { kernel: "TCA_FLOWER_KEY_CVLAN_ETH_TYPE", unit: "", names: 7 },
+    Note { kernel: "TCA_FLOWER_KEY_ENC_IP_TOS", unit: "", names: 0 },
+    Note { kernel: "TCA_FLOWER_KEY_ENC_IP_TOS_MASK", unit: "", names: 0 },
+    Note { kernel: "TCA_FLOWER_KEY_ENC_IP_TTL", unit: "", names: 0 },
+    Note { kernel: "TCA_FLOWER_KEY_ENC_IP_TTL_MASK", unit: "", names: 0 },
+    Note { kernel: "TCA_FLOWER_KEY_ENC_OPTS", unit: "", names: 0 },
+    Note { kernel: "TCA_FLOWER_KEY_ENC_OPTS_MASK", unit: "", names: 0 },
+    Note { kernel: "TCA_FLOWER_IN_HW_COUNT", unit: "", names: 0 },
+    Note { kernel: "TCA_FLOWER_KEY_PORT_SRC_MIN", unit: "", names: 0 },
+    Note { kernel: "TCA_FLOWER_KEY_PORT_SRC_MAX", unit: "", names: 0 },
+    Note { kernel: "TCA_FLOWER_KEY_PORT_DST_MIN", unit: "", names: 0 },
+    Note { kernel: "TCA_FLOWER_KEY_PORT_DST_MAX", unit: "", names: 0 },
+    Note { kernel: "TCA_FLOWER_KEY_CT_STATE", unit: "", names: 23 },
+    Note { kernel: "TCA_FLOWER_KEY_CT_STATE_MASK", unit: "", names: 23 },
+    Note { kernel: "TCA_FLOWER_KEY_CT_ZONE", unit: "", names: 0 },
+    Note { kernel: "TCA_FLOWER_KEY_CT_ZONE_MASK", unit: "", names: 0 },
+    Note { kernel: "TCA_FLOWER_KEY_CT_MARK", unit: "", names: 0 },
+    Note { kernel: "TCA_FLOWER_KEY_CT_MARK_MASK", unit: "", names: 0 },
+    Note { kernel: "TCA_FLOWER_KEY_CT_LABELS", unit: "", names: 0 },
+    Note { kernel: "TCA_FLOWER_KEY_CT_LABELS_MASK", unit: "", names: 0 },
+    Note { kernel: "TCA_FLOWER_KEY_MPLS_OPTS", unit: "", names: 0 },
+    Note { kernel: "TCA_FLOWER_KEY_HASH", unit: "", names: 0 },
+    Note { kernel: "TCA_FLOWER_KEY_HASH_MASK", unit: "", names: 0 },
+    Note { kernel: "TCA_FLOWER_KEY_NUM_OF_VLANS", unit: "", names: 0 },
+    Note { kernel: "TCA_FLOWER_KEY_PPPOE_SID", unit: "", names: 0 },
+    Note { kernel: "TCA_FLOWER_KEY_PPP_PROTO", unit: "", names: 0 },
+    Note { kernel: "TCA_FLOWER_KEY_L2TPV3_SID", unit: "", names: 0 },
+    Note { kernel: "TCA_FLOWER_L2_MISS", unit: "", names: 0 },
+    Note { kernel: "TCA_FLOWER_KEY_CFM", unit: "", names: 0 },
+    Note { kernel: "TCA_FLOWER_KEY_SPI", unit: "", names: 0 },
+    Note { kernel: "TCA_FLOWER_KEY_SPI_MASK", unit: "", names: 0 },
+    Note { kernel: "TCA_FLOWER_KEY_ENC_FLAGS", unit: "", names: 20 },
+    Note { kernel: "TCA_FLOWER_KEY_ENC_FLAGS_MASK", unit: "", names: 20 },
 ];
 
 // `list enc_opts`
 #[rattlefmt::skip]
 const LIST_ENC_OPTS: [Note<'static>; 5] = [
-    Note { kernel: "TCA_FLOWER_KEY_ENC_OPTS_GENEVE", unit: Unit::Plain, names: 0 },
-    Note { kernel: "TCA_FLOWER_KEY_ENC_OPTS_VXLAN", unit: Unit::Plain, names: 0 },
-    Note { kernel: "TCA_FLOWER_KEY_ENC_OPTS_ERSPAN", unit: Unit::Plain, names: 0 },
-    Note { kernel: "TCA_FLOWER_KEY_ENC_OPTS_GTP", unit: Unit::Plain, names: 0 },
-    Note { kernel: "TCA_FLOWER_KEY_ENC_OPTS_PFCP", unit: Unit::Plain, names: 0 },
+    Note { kernel: "TCA_FLOWER_KEY_ENC_OPTS_GENEVE", unit: "", names: 0 },
+    Note { kernel: "TCA_FLOWER_KEY_ENC_OPTS_VXLAN", unit: "", names: 0 },
+    Note { kernel: "TCA_FLOWER_KEY_ENC_OPTS_ERSPAN", unit: "", names: 0 },
+    Note { kernel: "TCA_FLOWER_KEY_ENC_OPTS_GTP", unit: "", names: 0 },
+    Note { kernel: "TCA_FLOWER_KEY_ENC_OPTS_PFCP", unit: "", names: 0 },
 ];
 
 // `list enc_opt_geneve`
 #[rattlefmt::skip]
 const LIST_ENC_OPT_GENEVE: [Note<'static>; 3] = [
-    Note { kernel: "TCA_FLOWER_KEY_ENC_OPT_GENEVE_CLASS", unit: Unit::Plain, names: 0 },
-    Note { kernel: "TCA_FLOWER_KEY_ENC_OPT_GENEVE_TYPE", unit: Unit::Plain, names: 0 },
-    Note { kernel: "TCA_FLOWER_KEY_ENC_OPT_GENEVE_DATA", unit: Unit::Plain, names: 0 },
+    Note { kernel: "TCA_FLOWER_KEY_ENC_OPT_GENEVE_CLASS", unit: "", names: 0 },
+    Note { kernel: "TCA_FLOWER_KEY_ENC_OPT_GENEVE_TYPE", unit: "", names: 0 },
+    Note { kernel: "TCA_FLOWER_KEY_ENC_OPT_GENEVE_DATA", unit: "", names: 0 },
 ];
 
 // `list enc_opt_vxlan`
 #[rattlefmt::skip]
 const LIST_ENC_OPT_VXLAN: [Note<'static>; 1] = [
-    Note { kernel: "TCA_FLOWER_KEY_ENC_OPT_VXLAN_GBP", unit: Unit::Plain, names: 0 },
+    Note { kernel: "TCA_FLOWER_KEY_ENC_OPT_VXLAN_GBP", unit: "", names: 0 },
 ];
 
 // `list enc_opt_erspan`
 #[rattlefmt::skip]
 const LIST_ENC_OPT_ERSPAN: [Note<'static>; 4] = [
-    Note { kernel: "TCA_FLOWER_KEY_ENC_OPT_ERSPAN_VER", unit: Unit::Plain, names: 0 },
-    Note { kernel: "TCA_FLOWER_KEY_ENC_OPT_ERSPAN_INDEX", unit: Unit::Plain, names: 0 },
-    Note { kernel: "TCA_FLOWER_KEY_ENC_OPT_ERSPAN_DIR", unit: Unit::Plain, names: 0 },
-    Note { kernel: "TCA_FLOWER_KEY_ENC_OPT_ERSPAN_HWID", unit: Unit::Plain, names: 0 },
+    Note { kernel: "TCA_FLOWER_KEY_ENC_OPT_ERSPAN_VER", unit: "", names: 0 },
+    Note { kernel: "TCA_FLOWER_KEY_ENC_OPT_ERSPAN_INDEX", unit: "", names: 0 },
+    Note { kernel: "TCA_FLOWER_KEY_ENC_OPT_ERSPAN_DIR", unit: "", names: 0 },
+    Note { kernel: "TCA_FLOWER_KEY_ENC_OPT_ERSPAN_HWID", unit: "", names: 0 },
 ];
 
 // `list enc_opt_gtp`
 #[rattlefmt::skip]
 const LIST_ENC_OPT_GTP: [Note<'static>; 2] = [
-    Note { kernel: "TCA_FLOWER_KEY_ENC_OPT_GTP_PDU_TYPE", unit: Unit::Plain, names: 0 },
-    Note { kernel: "TCA_FLOWER_KEY_ENC_OPT_GTP_QFI", unit: Unit::Plain, names: 0 },
+    Note { kernel: "TCA_FLOWER_KEY_ENC_OPT_GTP_PDU_TYPE", unit: "", names: 0 },
+    Note { kernel: "TCA_FLOWER_KEY_ENC_OPT_GTP_QFI", unit: "", names: 0 },
 ];
 
 // `list enc_opt_pfcp`
 #[rattlefmt::skip]
 const LIST_ENC_OPT_PFCP: [Note<'static>; 2] = [
-    Note { kernel: "TCA_FLOWER_KEY_ENC_OPT_PFCP_TYPE", unit: Unit::Plain, names: 0 },
-    Note { kernel: "TCA_FLOWER_KEY_ENC_OPT_PFCP_SEID", unit: Unit::Plain, names: 0 },
+    Note { kernel: "TCA_FLOWER_KEY_ENC_OPT_PFCP_TYPE", unit: "", names: 0 },
+    Note { kernel: "TCA_FLOWER_KEY_ENC_OPT_PFCP_SEID", unit: "", names: 0 },
 ];
 
 // `list cfm`
 #[rattlefmt::skip]
 const LIST_CFM: [Note<'static>; 2] = [
-    Note { kernel: "TCA_FLOWER_KEY_CFM_MD_LEVEL", unit: Unit::Plain, names: 0 },
-    Note { kernel: "TCA_FLOWER_KEY_CFM_OPCODE", unit: Unit::Plain, names: 0 },
+    Note { kernel: "TCA_FLOWER_KEY_CFM_MD_LEVEL", unit: "", names: 0 },
+    Note { kernel: "TCA_FLOWER_KEY_CFM_OPCODE", unit: "", names: 0 },
 ];
 
 // `list mpls_opts`
 #[rattlefmt::skip]
 const LIST_MPLS_OPTS: [Note<'static>; 1] = [
-    Note { kernel: "TCA_FLOWER_KEY_MPLS_OPTS_LSE", unit: Unit::Plain, names: 0 },
+    Note { kernel: "TCA_FLOWER_KEY_MPLS_OPTS_LSE", unit: "", names: 0 },
 ];
 
 // `list mpls_lse`
 #[rattlefmt::skip]
 const LIST_MPLS_LSE: [Note<'static>; 5] = [
-    Note { kernel: "TCA_FLOWER_KEY_MPLS_OPT_LSE_DEPTH", unit: Unit::Plain, names: 0 },
-    Note { kernel: "TCA_FLOWER_KEY_MPLS_OPT_LSE_TTL", unit: Unit::Plain, names: 0 },
-    Note { kernel: "TCA_FLOWER_KEY_MPLS_OPT_LSE_BOS", unit: Unit::Plain, names: 0 },
-    Note { kernel: "TCA_FLOWER_KEY_MPLS_OPT_LSE_TC", unit: Unit::Plain, names: 0 },
-    Note { kernel: "TCA_FLOWER_KEY_MPLS_OPT_LSE_LABEL", unit: Unit::Plain, names: 0 },
+    Note { kernel: "TCA_FLOWER_KEY_MPLS_OPT_LSE_DEPTH", unit: "", names: 0 },
+    Note { kernel: "TCA_FLOWER_KEY_MPLS_OPT_LSE_TTL", unit: "", names: 0 },
+    Note { kernel: "TCA_FLOWER_KEY_MPLS_OPT_LSE_BOS", unit: "", names: 0 },
+    Note { kernel: "TCA_FLOWER_KEY_MPLS_OPT_LSE_TC", unit: "", names: 0 },
+    Note { kernel: "TCA_FLOWER_KEY_MPLS_OPT_LSE_LABEL", unit: "", names: 0 },
 ];
 
 // `list fw`
 #[rattlefmt::skip]
 const LIST_FW: [Note<'static>; 5] = [
-    Note { kernel: "TCA_FW_CLASSID", unit: Unit::Plain, names: 0 },
-    Note { kernel: "TCA_FW_POLICE", unit: Unit::Plain, names: 0 },
-    Note { kernel: "TCA_FW_INDEV", unit: Unit::Plain, names: 0 },
-    Note { kernel: "TCA_FW_ACT", unit: Unit::Plain, names: 0 },
-    Note { kernel: "TCA_FW_MASK", unit: Unit::Plain, names: 0 },
+    Note { kernel: "TCA_FW_CLASSID", unit: "", names: 0 },
+    Note { kernel: "TCA_FW_POLICE", unit: "", names: 0 },
+    Note { kernel: "TCA_FW_INDEV", unit: "", names: 0 },
+    Note { kernel: "TCA_FW_ACT", unit: "", names: 0 },
+    Note { kernel: "TCA_FW_MASK", unit: "", names: 0 },
 ];
 
 // `list matchall`
 #[rattlefmt::skip]
 const LIST_MATCHALL: [Note<'static>; 5] = [
-    Note { kernel: "TCA_MATCHALL_CLASSID", unit: Unit::Plain, names: 0 },
-    Note { kernel: "TCA_MATCHALL_ACT", unit: Unit::Plain, names: 0 },
-    Note { kernel: "TCA_MATCHALL_FLAGS", unit: Unit::Plain, names: 18 },
-    Note { kernel: "TCA_MATCHALL_PCNT", unit: Unit::Plain, names: 0 },
-    Note { kernel: "TCA_MATCHALL_PAD", unit: Unit::Plain, names: 0 },
+    Note { kernel: "TCA_MATCHALL_CLASSID", unit: "", names: 0 },
+    Note { kernel: "TCA_MATCHALL_ACT", unit: "", names: 0 },
+    Note { kernel: "TCA_MATCHALL_FLAGS", unit: "", names: 18 },
+    Note { kernel: "TCA_MATCHALL_PCNT", unit: "", names: 0 },
+    Note { kernel: "TCA_MATCHALL_PAD", unit: "", names: 0 },
 ];
 
 // `struct tc_matchall_pcnt`
 #[rattlefmt::skip]
 const STRUCT_TC_MATCHALL_PCNT: [Note<'static>; 1] = [
-    Note { kernel: "", unit: Unit::Packets, names: 0 },
+    Note { kernel: "", unit: "packets", names: 0 },
 ];
 
 // `list route`
 #[rattlefmt::skip]
 const LIST_ROUTE: [Note<'static>; 6] = [
-    Note { kernel: "TCA_ROUTE4_CLASSID", unit: Unit::Plain, names: 0 },
-    Note { kernel: "TCA_ROUTE4_TO", unit: Unit::Plain, names: 0 },
-    Note { kernel: "TCA_ROUTE4_FROM", unit: Unit::Plain, names: 0 },
-    Note { kernel: "TCA_ROUTE4_IIF", unit: Unit::Interface, names: 0 },
-    Note { kernel: "TCA_ROUTE4_POLICE", unit: Unit::Plain, names: 0 },
-    Note { kernel: "TCA_ROUTE4_ACT", unit: Unit::Plain, names: 0 },
+    Note { kernel: "TCA_ROUTE4_CLASSID", unit: "", names: 0 },
+    Note { kernel: "TCA_ROUTE4_TO", unit: "", names: 0 },
+    Note { kernel: "TCA_ROUTE4_FROM", unit: "", names: 0 },
+    Note { kernel: "TCA_ROUTE4_IIF", unit: "interface", names: 0 },
+    Note { kernel: "TCA_ROUTE4_POLICE", unit: "", names: 0 },
+    Note { kernel: "TCA_ROUTE4_ACT", unit: "", names: 0 },
 ];
 
 // `list rsvp`
 #[rattlefmt::skip]
 const LIST_RSVP: [Note<'static>; 6] = [
-    Note { kernel: "TCA_RSVP_CLASSID", unit: Unit::Plain, names: 0 },
-    Note { kernel: "TCA_RSVP_DST", unit: Unit::Plain, names: 0 },
-    Note { kernel: "TCA_RSVP_SRC", unit: Unit::Plain, names: 0 },
-    Note { kernel: "TCA_RSVP_PINFO", unit: Unit::Plain, names: 0 },
-    Note { kernel: "TCA_RSVP_POLICE", unit: Unit::Plain, names: 0 },
-    Note { kernel: "TCA_RSVP_ACT", unit: Unit::Plain, names: 0 },
+    Note { kernel: "TCA_RSVP_CLASSID", unit: "", names: 0 },
+    Note { kernel: "TCA_RSVP_DST", unit: "", names: 0 },
+    Note { kernel: "TCA_RSVP_SRC", unit: "", names: 0 },
+    Note { kernel: "TCA_RSVP_PINFO", unit: "", names: 0 },
+    Note { kernel: "TCA_RSVP_POLICE", unit: "", names: 0 },
+    Note { kernel: "TCA_RSVP_ACT", unit: "", names: 0 },
 ];
 
 // `struct tc_rsvp_pinfo`
 #[rattlefmt::skip]
 const STRUCT_TC_RSVP_PINFO: [Note<'static>; 6] = [
-    Note { kernel: "", unit: Unit::Plain, names: 0 },
-    Note { kernel: "", unit: Unit::Plain, names: 0 },
-    Note { kernel: "", unit: Unit::Plain, names: 5 },
-    Note { kernel: "", unit: Unit::Plain, names: 0 },
-    Note { kernel: "", unit: Unit::Plain, names: 0 },
-    Note { kernel: "", unit: Unit::Plain, names: 0 },
+    Note { kernel: "", unit: "", names: 0 },
+    Note { kernel: "", unit: "", names: 0 },
+    Note { kernel: "", unit: "", names: 5 },
+    Note { kernel: "", unit: "", names: 0 },
+    Note { kernel: "", unit: "", names: 0 },
+    Note { kernel: "", unit: "", names: 0 },
 ];
 
 // `list tcindex`
 #[rattlefmt::skip]
 const LIST_TCINDEX: [Note<'static>; 7] = [
-    Note { kernel: "TCA_TCINDEX_HASH", unit: Unit::Plain, names: 0 },
-    Note { kernel: "TCA_TCINDEX_MASK", unit: Unit::Plain, names: 0 },
-    Note { kernel: "TCA_TCINDEX_SHIFT", unit: Unit::Plain, names: 0 },
-    Note { kernel: "TCA_TCINDEX_FALL_THROUGH", unit: Unit::Plain, names: 0 },
-    Note { kernel: "TCA_TCINDEX_CLASSID", unit: Unit::Plain, names: 0 },
-    Note { kernel: "TCA_TCINDEX_POLICE", unit: Unit::Plain, names: 0 },
-    Note { kernel: "TCA_TCINDEX_ACT", unit: Unit::Plain, names: 0 },
+    Note { kernel: "TCA_TCINDEX_HASH", unit: "", names: 0 },
+    Note { kernel: "TCA_TCINDEX_MASK", unit: "", names: 0 },
+    Note { kernel: "TCA_TCINDEX_SHIFT", unit: "", names: 0 },
+    Note { kernel: "TCA_TCINDEX_FALL_THROUGH", unit: "", names: 0 },
+    Note { kernel: "TCA_TCINDEX_CLASSID", unit: "", names: 0 },
+    Note { kernel: "TCA_TCINDEX_POLICE", unit: "", names: 0 },
+    Note { kernel: "TCA_TCINDEX_ACT", unit: "", names: 0 },
 ];
 
 // `list u32`
 #[rattlefmt::skip]
 const LIST_U32: [Note<'static>; 12] = [
-    Note { kernel: "TCA_U32_CLASSID", unit: Unit::Plain, names: 0 },
-    Note { kernel: "TCA_U32_HASH", unit: Unit::Plain, names: 0 },
-    Note { kernel: "TCA_U32_LINK", unit: Unit::Plain, names: 0 },
-    Note { kernel: "TCA_U32_DIVISOR", unit: Unit::Plain, names: 0 },
-    Note { kernel: "TCA_U32_SEL", unit: Unit::Plain, names: 0 },
-    Note { kernel: "TCA_U32_POLICE", unit: Unit::Plain, names: 0 },
-    Note { kernel: "TCA_U32_ACT", unit: Unit::Plain, names: 0 },
-    Note { kernel: "TCA_U32_INDEV", unit: Unit::Plain, names: 0 },
-    Note { kernel: "TCA_U32_PCNT", unit: Unit::Plain, names: 0 },
-    Note { kernel: "TCA_U32_MARK", unit: Unit::Plain, names: 0 },
-    Note { kernel: "TCA_U32_FLAGS", unit: Unit::Plain, names: 18 },
-    Note { kernel: "TCA_U32_PAD", unit: Unit::Plain, names: 0 },
+    Note { kernel: "TCA_U32_CLASSID", unit: "", names: 0 },
+    Note { kernel: "TCA_U32_HASH", unit: "", names: 0 },
+    Note { kernel: "TCA_U32_LINK", unit: "", names: 0 },
+    Note { kernel: "TCA_U32_DIVISOR", unit: "", names: 0 },
+    Note { kernel: "TCA_U32_SEL", unit: "", names: 0 },
+    Note { kernel: "TCA_U32_POLICE", unit: "", names: 0 },
+    Note { kernel: "TCA_U32_ACT", unit: "", names: 0 },
+    Note { kernel: "TCA_U32_INDEV", unit: "", names: 0 },
+    Note { kernel: "TCA_U32_PCNT", unit: "", names: 0 },
+    Note { kernel: "TCA_U32_MARK", unit: "", names: 0 },
+    Note { kernel: "TCA_U32_FLAGS", unit: "", names: 18 },
+    Note { kernel: "TCA_U32_PAD", unit: "", names: 0 },
 ];
 
 // `bits tc_u32`
@@ -2098,75 +2098,75 @@ const BITS_TC_U32: [Named<'static>; 4] = [
 // `struct tc_u32_sel`
 #[rattlefmt::skip]
 const STRUCT_TC_U32_SEL: [Note<'static>; 10] = [
-    Note { kernel: "", unit: Unit::Plain, names: 24 },
-    Note { kernel: "", unit: Unit::Plain, names: 0 },
-    Note { kernel: "", unit: Unit::Plain, names: 0 },
-    Note { kernel: "", unit: Unit::Plain, names: 0 },
-    Note { kernel: "", unit: Unit::Plain, names: 0 },
-    Note { kernel: "", unit: Unit::Bytes, names: 0 },
-    Note { kernel: "", unit: Unit::Bytes, names: 0 },
-    Note { kernel: "", unit: Unit::Bytes, names: 0 },
-    Note { kernel: "", unit: Unit::Plain, names: 0 },
-    Note { kernel: "", unit: Unit::Plain, names: 0 },
+    Note { kernel: "", unit: "", names: 24 },
+    Note { kernel: "", unit: "", names: 0 },
+    Note { kernel: "", unit: "", names: 0 },
+    Note { kernel: "", unit: "", names: 0 },
+    Note { kernel: "", unit: "", names: 0 },
+    Note { kernel: "", unit: "bytes", names: 0 },
+    Note { kernel: "", unit: "bytes", names: 0 },
+    Note { kernel: "", unit: "bytes", names: 0 },
+    Note { kernel: "", unit: "", names: 0 },
+    Note { kernel: "", unit: "", names: 0 },
 ];
 
 // `struct tc_u32_key`
 #[rattlefmt::skip]
 const STRUCT_TC_U32_KEY: [Note<'static>; 4] = [
-    Note { kernel: "", unit: Unit::Plain, names: 0 },
-    Note { kernel: "", unit: Unit::Plain, names: 0 },
-    Note { kernel: "", unit: Unit::Bytes, names: 0 },
-    Note { kernel: "", unit: Unit::Plain, names: 0 },
+    Note { kernel: "", unit: "", names: 0 },
+    Note { kernel: "", unit: "", names: 0 },
+    Note { kernel: "", unit: "bytes", names: 0 },
+    Note { kernel: "", unit: "", names: 0 },
 ];
 
 // `struct tc_u32_pcnt`
 #[rattlefmt::skip]
 const STRUCT_TC_U32_PCNT: [Note<'static>; 3] = [
-    Note { kernel: "", unit: Unit::Packets, names: 0 },
-    Note { kernel: "", unit: Unit::Packets, names: 0 },
-    Note { kernel: "", unit: Unit::Packets, names: 0 },
+    Note { kernel: "", unit: "packets", names: 0 },
+    Note { kernel: "", unit: "packets", names: 0 },
+    Note { kernel: "", unit: "packets", names: 0 },
 ];
 
 // `struct tcmsg`
 #[rattlefmt::skip]
 const STRUCT_TCMSG: [Note<'static>; 6] = [
-    Note { kernel: "", unit: Unit::Plain, names: 0 },
-    Note { kernel: "", unit: Unit::Plain, names: 0 },
-    Note { kernel: "", unit: Unit::Interface, names: 0 },
-    Note { kernel: "", unit: Unit::Plain, names: 0 },
-    Note { kernel: "", unit: Unit::Plain, names: 0 },
-    Note { kernel: "", unit: Unit::Plain, names: 0 },
+    Note { kernel: "", unit: "", names: 0 },
+    Note { kernel: "", unit: "", names: 0 },
+    Note { kernel: "", unit: "interface", names: 0 },
+    Note { kernel: "", unit: "", names: 0 },
+    Note { kernel: "", unit: "", names: 0 },
+    Note { kernel: "", unit: "", names: 0 },
 ];
 
 // `enum address_family`
 #[rattlefmt::skip]
 const ENUM_ADDRESS_FAMILY: [Note<'static>; 8] = [
-    Note { kernel: "AF_UNSPEC", unit: Unit::Plain, names: 0 },
-    Note { kernel: "AF_UNIX", unit: Unit::Plain, names: 0 },
-    Note { kernel: "AF_INET", unit: Unit::Plain, names: 0 },
-    Note { kernel: "AF_BRIDGE", unit: Unit::Plain, names: 0 },
-    Note { kernel: "AF_INET6", unit: Unit::Plain, names: 0 },
-    Note { kernel: "AF_NETLINK", unit: Unit::Plain, names: 0 },
-    Note { kernel: "AF_PACKET", unit: Unit::Plain, names: 0 },
-    Note { kernel: "AF_MPLS", unit: Unit::Plain, names: 0 },
+    Note { kernel: "AF_UNSPEC", unit: "", names: 0 },
+    Note { kernel: "AF_UNIX", unit: "", names: 0 },
+    Note { kernel: "AF_INET", unit: "", names: 0 },
+    Note { kernel: "AF_BRIDGE", unit: "", names: 0 },
+    Note { kernel: "AF_INET6", unit: "", names: 0 },
+    Note { kernel: "AF_NETLINK", unit: "", names: 0 },
+    Note { kernel: "AF_PACKET", unit: "", names: 0 },
+    Note { kernel: "AF_MPLS", unit: "", names: 0 },
 ];
 
 // `list tc`
 #[rattlefmt::skip]
 const LIST_TC_OF_ALL: [Note<'static>; 13] = [
-    Note { kernel: "TCA_STATS", unit: Unit::Plain, names: 0 },
-    Note { kernel: "TCA_RATE", unit: Unit::Plain, names: 0 },
-    Note { kernel: "TCA_FCNT", unit: Unit::Plain, names: 0 },
-    Note { kernel: "TCA_STATS2", unit: Unit::Plain, names: 0 },
-    Note { kernel: "TCA_STAB", unit: Unit::Plain, names: 0 },
-    Note { kernel: "TCA_PAD", unit: Unit::Plain, names: 0 },
-    Note { kernel: "TCA_DUMP_INVISIBLE", unit: Unit::Plain, names: 0 },
-    Note { kernel: "TCA_CHAIN", unit: Unit::Plain, names: 0 },
-    Note { kernel: "TCA_HW_OFFLOAD", unit: Unit::Plain, names: 0 },
-    Note { kernel: "TCA_INGRESS_BLOCK", unit: Unit::Plain, names: 0 },
-    Note { kernel: "TCA_EGRESS_BLOCK", unit: Unit::Plain, names: 0 },
-    Note { kernel: "TCA_DUMP_FLAGS", unit: Unit::Plain, names: 0 },
-    Note { kernel: "TCA_EXT_WARN_MSG", unit: Unit::Plain, names: 0 },
+    Note { kernel: "TCA_STATS", unit: "", names: 0 },
+    Note { kernel: "TCA_RATE", unit: "", names: 0 },
+    Note { kernel: "TCA_FCNT", unit: "", names: 0 },
+    Note { kernel: "TCA_STATS2", unit: "", names: 0 },
+    Note { kernel: "TCA_STAB", unit: "", names: 0 },
+    Note { kernel: "TCA_PAD", unit: "", names: 0 },
+    Note { kernel: "TCA_DUMP_INVISIBLE", unit: "", names: 0 },
+    Note { kernel: "TCA_CHAIN", unit: "", names: 0 },
+    Note { kernel: "TCA_HW_OFFLOAD", unit: "", names: 0 },
+    Note { kernel: "TCA_INGRESS_BLOCK", unit: "", names: 0 },
+    Note { kernel: "TCA_EGRESS_BLOCK", unit: "", names: 0 },
+    Note { kernel: "TCA_DUMP_FLAGS", unit: "", names: 0 },
+    Note { kernel: "TCA_EXT_WARN_MSG", unit: "", names: 0 },
 ];
 
 // `bits tca_dump_flags`
@@ -2178,18 +2178,18 @@ const BITS_TCA_DUMP_FLAGS: [Named<'static>; 1] = [
 // `struct tca_dump_flags`
 #[rattlefmt::skip]
 const STRUCT_TCA_DUMP_FLAGS: [Note<'static>; 2] = [
-    Note { kernel: "", unit: Unit::Plain, names: 25 },
-    Note { kernel: "", unit: Unit::Plain, names: 25 },
+    Note { kernel: "", unit: "", names: 25 },
+    Note { kernel: "", unit: "", names: 25 },
 ];
 
 // `list action_message`
 #[rattlefmt::skip]
 const LIST_ACTION_MESSAGE: [Note<'static>; 5] = [
-    Note { kernel: "TCA_ROOT_TAB", unit: Unit::Plain, names: 0 },
-    Note { kernel: "TCA_ROOT_FLAGS", unit: Unit::Plain, names: 0 },
-    Note { kernel: "TCA_ROOT_COUNT", unit: Unit::Plain, names: 0 },
-    Note { kernel: "TCA_ROOT_TIME_DELTA", unit: Unit::Milliseconds, names: 0 },
-    Note { kernel: "TCA_ROOT_EXT_WARN_MSG", unit: Unit::Plain, names: 0 },
+    Note { kernel: "TCA_ROOT_TAB", unit: "", names: 0 },
+    Note { kernel: "TCA_ROOT_FLAGS", unit: "", names: 0 },
+    Note { kernel: "TCA_ROOT_COUNT", unit: "", names: 0 },
+    Note { kernel: "TCA_ROOT_TIME_DELTA", unit: "milliseconds", names: 0 },
+    Note { kernel: "TCA_ROOT_EXT_WARN_MSG", unit: "", names: 0 },
 ];
 
 // `bits tca_act_flag`
@@ -2202,150 +2202,150 @@ const BITS_TCA_ACT_FLAG: [Named<'static>; 2] = [
 // `struct tca_root_flags`
 #[rattlefmt::skip]
 const STRUCT_TCA_ROOT_FLAGS: [Note<'static>; 2] = [
-    Note { kernel: "", unit: Unit::Plain, names: 26 },
-    Note { kernel: "", unit: Unit::Plain, names: 26 },
+    Note { kernel: "", unit: "", names: 26 },
+    Note { kernel: "", unit: "", names: 26 },
 ];
 
 // `list atm`
 #[rattlefmt::skip]
 const LIST_ATM: [Note<'static>; 6] = [
-    Note { kernel: "TCA_ATM_FD", unit: Unit::Plain, names: 0 },
-    Note { kernel: "TCA_ATM_PTR", unit: Unit::Plain, names: 0 },
-    Note { kernel: "TCA_ATM_HDR", unit: Unit::Plain, names: 0 },
-    Note { kernel: "TCA_ATM_EXCESS", unit: Unit::Plain, names: 0 },
-    Note { kernel: "TCA_ATM_ADDR", unit: Unit::Plain, names: 0 },
-    Note { kernel: "TCA_ATM_STATE", unit: Unit::Plain, names: 0 },
+    Note { kernel: "TCA_ATM_FD", unit: "", names: 0 },
+    Note { kernel: "TCA_ATM_PTR", unit: "", names: 0 },
+    Note { kernel: "TCA_ATM_HDR", unit: "", names: 0 },
+    Note { kernel: "TCA_ATM_EXCESS", unit: "", names: 0 },
+    Note { kernel: "TCA_ATM_ADDR", unit: "", names: 0 },
+    Note { kernel: "TCA_ATM_STATE", unit: "", names: 0 },
 ];
 
 // `list cake`
 #[rattlefmt::skip]
 const LIST_CAKE: [Note<'static>; 18] = [
-    Note { kernel: "TCA_CAKE_PAD", unit: Unit::Plain, names: 0 },
-    Note { kernel: "TCA_CAKE_BASE_RATE64", unit: Unit::BytesPerSecond, names: 0 },
-    Note { kernel: "TCA_CAKE_DIFFSERV_MODE", unit: Unit::Plain, names: 0 },
-    Note { kernel: "TCA_CAKE_ATM", unit: Unit::Plain, names: 0 },
-    Note { kernel: "TCA_CAKE_FLOW_MODE", unit: Unit::Plain, names: 0 },
-    Note { kernel: "TCA_CAKE_OVERHEAD", unit: Unit::Bytes, names: 0 },
-    Note { kernel: "TCA_CAKE_RTT", unit: Unit::Microseconds, names: 0 },
-    Note { kernel: "TCA_CAKE_TARGET", unit: Unit::Microseconds, names: 0 },
-    Note { kernel: "TCA_CAKE_AUTORATE", unit: Unit::Plain, names: 0 },
-    Note { kernel: "TCA_CAKE_MEMORY", unit: Unit::Bytes, names: 0 },
-    Note { kernel: "TCA_CAKE_NAT", unit: Unit::Plain, names: 0 },
-    Note { kernel: "TCA_CAKE_RAW", unit: Unit::Plain, names: 0 },
-    Note { kernel: "TCA_CAKE_WASH", unit: Unit::Plain, names: 0 },
-    Note { kernel: "TCA_CAKE_MPU", unit: Unit::Bytes, names: 0 },
-    Note { kernel: "TCA_CAKE_INGRESS", unit: Unit::Plain, names: 0 },
-    Note { kernel: "TCA_CAKE_ACK_FILTER", unit: Unit::Plain, names: 0 },
-    Note { kernel: "TCA_CAKE_SPLIT_GSO", unit: Unit::Plain, names: 0 },
-    Note { kernel: "TCA_CAKE_FWMARK", unit: Unit::Plain, names: 0 },
+    Note { kernel: "TCA_CAKE_PAD", unit: "", names: 0 },
+    Note { kernel: "TCA_CAKE_BASE_RATE64", unit: "bytes a second", names: 0 },
+    Note { kernel: "TCA_CAKE_DIFFSERV_MODE", unit: "", names: 0 },
+    Note { kernel: "TCA_CAKE_ATM", unit: "", names: 0 },
+    Note { kernel: "TCA_CAKE_FLOW_MODE", unit: "", names: 0 },
+    Note { kernel: "TCA_CAKE_OVERHEAD", unit: "bytes", names: 0 },
+    Note { kernel: "TCA_CAKE_RTT", unit: "microseconds", names: 0 },
+    Note { kernel: "TCA_CAKE_TARGET", unit: "microseconds", names: 0 },
+    Note { kernel: "TCA_CAKE_AUTORATE", unit: "", names: 0 },
+    Note { kernel: "TCA_CAKE_MEMORY", unit: "bytes", names: 0 },
+    Note { kernel: "TCA_CAKE_NAT", unit: "", names: 0 },
+    Note { kernel: "TCA_CAKE_RAW", unit: "", names: 0 },
+    Note { kernel: "TCA_CAKE_WASH", unit: "", names: 0 },
+    Note { kernel: "TCA_CAKE_MPU", unit: "bytes", names: 0 },
+    Note { kernel: "TCA_CAKE_INGRESS", unit: "", names: 0 },
+    Note { kernel: "TCA_CAKE_ACK_FILTER", unit: "", names: 0 },
+    Note { kernel: "TCA_CAKE_SPLIT_GSO", unit: "", names: 0 },
+    Note { kernel: "TCA_CAKE_FWMARK", unit: "", names: 0 },
 ];
 
 // `list cake_stats`
 #[rattlefmt::skip]
 const LIST_CAKE_STATS: [Note<'static>; 16] = [
-    Note { kernel: "TCA_CAKE_STATS_PAD", unit: Unit::Plain, names: 0 },
-    Note { kernel: "TCA_CAKE_STATS_CAPACITY_ESTIMATE64", unit: Unit::BytesPerSecond, names: 0 },
-    Note { kernel: "TCA_CAKE_STATS_MEMORY_LIMIT", unit: Unit::Bytes, names: 0 },
-    Note { kernel: "TCA_CAKE_STATS_MEMORY_USED", unit: Unit::Bytes, names: 0 },
-    Note { kernel: "TCA_CAKE_STATS_AVG_NETOFF", unit: Unit::Bytes, names: 0 },
-    Note { kernel: "TCA_CAKE_STATS_MIN_NETLEN", unit: Unit::Bytes, names: 0 },
-    Note { kernel: "TCA_CAKE_STATS_MAX_NETLEN", unit: Unit::Bytes, names: 0 },
-    Note { kernel: "TCA_CAKE_STATS_MIN_ADJLEN", unit: Unit::Bytes, names: 0 },
-    Note { kernel: "TCA_CAKE_STATS_MAX_ADJLEN", unit: Unit::Bytes, names: 0 },
-    Note { kernel: "TCA_CAKE_STATS_TIN_STATS", unit: Unit::Plain, names: 0 },
-    Note { kernel: "TCA_CAKE_STATS_DEFICIT", unit: Unit::Plain, names: 0 },
-    Note { kernel: "TCA_CAKE_STATS_COBALT_COUNT", unit: Unit::Plain, names: 0 },
-    Note { kernel: "TCA_CAKE_STATS_DROPPING", unit: Unit::Plain, names: 0 },
-    Note { kernel: "TCA_CAKE_STATS_DROP_NEXT_US", unit: Unit::Microseconds, names: 0 },
-    Note { kernel: "TCA_CAKE_STATS_P_DROP", unit: Unit::Plain, names: 0 },
-    Note { kernel: "TCA_CAKE_STATS_BLUE_TIMER_US", unit: Unit::Microseconds, names: 0 },
+    Note { kernel: "TCA_CAKE_STATS_PAD", unit: "", names: 0 },
+    Note { kernel: "TCA_CAKE_STATS_CAPACITY_ESTIMATE64", unit: "bytes a second", names: 0 },
+    Note { kernel: "TCA_CAKE_STATS_MEMORY_LIMIT", unit: "bytes", names: 0 },
+    Note { kernel: "TCA_CAKE_STATS_MEMORY_USED", unit: "bytes", names: 0 },
+    Note { kernel: "TCA_CAKE_STATS_AVG_NETOFF", unit: "bytes", names: 0 },
+    Note { kernel: "TCA_CAKE_STATS_MIN_NETLEN", unit: "bytes", names: 0 },
+    Note { kernel: "TCA_CAKE_STATS_MAX_NETLEN", unit: "bytes", names: 0 },
+    Note { kernel: "TCA_CAKE_STATS_MIN_ADJLEN", unit: "bytes", names: 0 },
+    Note { kernel: "TCA_CAKE_STATS_MAX_ADJLEN", unit: "bytes", names: 0 },
+    Note { kernel: "TCA_CAKE_STATS_TIN_STATS", unit: "", names: 0 },
+    Note { kernel: "TCA_CAKE_STATS_DEFICIT", unit: "", names: 0 },
+    Note { kernel: "TCA_CAKE_STATS_COBALT_COUNT", unit: "", names: 0 },
+    Note { kernel: "TCA_CAKE_STATS_DROPPING", unit: "", names: 0 },
+    Note { kernel: "TCA_CAKE_STATS_DROP_NEXT_US", unit: "microseconds", names: 0 },
+    Note { kernel: "TCA_CAKE_STATS_P_DROP", unit: "", names: 0 },
+    Note { kernel: "TCA_CAKE_STATS_BLUE_TIMER_US", unit: "microseconds", names: 0 },
 ];
 
 // `list cake_tin_stats`
 #[rattlefmt::skip]
 const LIST_CAKE_TIN_STATS: [Note<'static>; 25] = [
-    Note { kernel: "TCA_CAKE_TIN_STATS_PAD", unit: Unit::Plain, names: 0 },
-    Note { kernel: "TCA_CAKE_TIN_STATS_SENT_PACKETS", unit: Unit::Packets, names: 0 },
-    Note { kernel: "TCA_CAKE_TIN_STATS_SENT_BYTES64", unit: Unit::Bytes, names: 0 },
-    Note { kernel: "TCA_CAKE_TIN_STATS_DROPPED_PACKETS", unit: Unit::Packets, names: 0 },
-    Note { kernel: "TCA_CAKE_TIN_STATS_DROPPED_BYTES64", unit: Unit::Bytes, names: 0 },
-    Note { kernel: "TCA_CAKE_TIN_STATS_ACKS_DROPPED_PACKETS", unit: Unit::Packets, names: 0 },
-    Note { kernel: "TCA_CAKE_TIN_STATS_ACKS_DROPPED_BYTES64", unit: Unit::Bytes, names: 0 },
-    Note { kernel: "TCA_CAKE_TIN_STATS_ECN_MARKED_PACKETS", unit: Unit::Packets, names: 0 },
-    Note { kernel: "TCA_CAKE_TIN_STATS_ECN_MARKED_BYTES64", unit: Unit::Bytes, names: 0 },
-    Note { kernel: "TCA_CAKE_TIN_STATS_BACKLOG_PACKETS", unit: Unit::Packets, names: 0 },
-    Note { kernel: "TCA_CAKE_TIN_STATS_BACKLOG_BYTES", unit: Unit::Bytes, names: 0 },
-    Note { kernel: "TCA_CAKE_TIN_STATS_THRESHOLD_RATE64", unit: Unit::BytesPerSecond, names: 0 },
-    Note { kernel: "TCA_CAKE_TIN_STATS_TARGET_US", unit: Unit::Microseconds, names: 0 },
-    Note { kernel: "TCA_CAKE_TIN_STATS_INTERVAL_US", unit: Unit::Microseconds, names: 0 },
-    Note { kernel: "TCA_CAKE_TIN_STATS_WAY_INDIRECT_HITS", unit: Unit::Plain, names: 0 },
-    Note { kernel: "TCA_CAKE_TIN_STATS_WAY_MISSES", unit: Unit::Plain, names: 0 },
-    Note { kernel: "TCA_CAKE_TIN_STATS_WAY_COLLISIONS", unit: Unit::Plain, names: 0 },
-    Note { kernel: "TCA_CAKE_TIN_STATS_PEAK_DELAY_US", unit: Unit::Microseconds, names: 0 },
-    Note { kernel: "TCA_CAKE_TIN_STATS_AVG_DELAY_US", unit: Unit::Microseconds, names: 0 },
-    Note { kernel: "TCA_CAKE_TIN_STATS_BASE_DELAY_US", unit: Unit::Microseconds, names: 0 },
-    Note { kernel: "TCA_CAKE_TIN_STATS_SPARSE_FLOWS", unit: Unit::Plain, names: 0 },
-    Note { kernel: "TCA_CAKE_TIN_STATS_BULK_FLOWS", unit: Unit::Plain, names: 0 },
-    Note { kernel: "TCA_CAKE_TIN_STATS_UNRESPONSIVE_FLOWS", unit: Unit::Plain, names: 0 },
-    Note { kernel: "TCA_CAKE_TIN_STATS_MAX_SKBLEN", unit: Unit::Bytes, names: 0 },
-    Note { kernel: "TCA_CAKE_TIN_STATS_FLOW_QUANTUM", unit: Unit::Bytes, names: 0 },
+    Note { kernel: "TCA_CAKE_TIN_STATS_PAD", unit: "", names: 0 },
+    Note { kernel: "TCA_CAKE_TIN_STATS_SENT_PACKETS", unit: "packets", names: 0 },
+    Note { kernel: "TCA_CAKE_TIN_STATS_SENT_BYTES64", unit: "bytes", names: 0 },
+    Note { kernel: "TCA_CAKE_TIN_STATS_DROPPED_PACKETS", unit: "packets", names: 0 },
+    Note { kernel: "TCA_CAKE_TIN_STATS_DROPPED_BYTES64", unit: "bytes", names: 0 },
+    Note { kernel: "TCA_CAKE_TIN_STATS_ACKS_DROPPED_PACKETS", unit: "packets", names: 0 },
+    Note { kernel: "TCA_CAKE_TIN_STATS_ACKS_DROPPED_BYTES64", unit: "bytes", names: 0 },
+    Note { kernel: "TCA_CAKE_TIN_STATS_ECN_MARKED_PACKETS", unit: "packets", names: 0 },
+    Note { kernel: "TCA_CAKE_TIN_STATS_ECN_MARKED_BYTES64", unit: "bytes", names: 0 },
+    Note { kernel: "TCA_CAKE_TIN_STATS_BACKLOG_PACKETS", unit: "packets", names: 0 },
+    Note { kernel: "TCA_CAKE_TIN_STATS_BACKLOG_BYTES", unit: "bytes", names: 0 },
+    Note { kernel: "TCA_CAKE_TIN_STATS_THRESHOLD_RATE64", unit: "bytes a second", names: 0 },
+    Note { kernel: "TCA_CAKE_TIN_STATS_TARGET_US", unit: "microseconds", names: 0 },
+    Note { kernel: "TCA_CAKE_TIN_STATS_INTERVAL_US", unit: "microseconds", names: 0 },
+    Note { kernel: "TCA_CAKE_TIN_STATS_WAY_INDIRECT_HITS", unit: "", names: 0 },
+    Note { kernel: "TCA_CAKE_TIN_STATS_WAY_MISSES", unit: "", names: 0 },
+    Note { kernel: "TCA_CAKE_TIN_STATS_WAY_COLLISIONS", unit: "", names: 0 },
+    Note { kernel: "TCA_CAKE_TIN_STATS_PEAK_DELAY_US", unit: "microseconds", names: 0 },
+    Note { kernel: "TCA_CAKE_TIN_STATS_AVG_DELAY_US", unit: "microseconds", names: 0 },
+    Note { kernel: "TCA_CAKE_TIN_STATS_BASE_DELAY_US", unit: "microseconds", names: 0 },
+    Note { kernel: "TCA_CAKE_TIN_STATS_SPARSE_FLOWS", unit: "", names: 0 },
+    Note { kernel: "TCA_CAKE_TIN_STATS_BULK_FLOWS", unit: "", names: 0 },
+    Note { kernel: "TCA_CAKE_TIN_STATS_UNRESPONSIVE_FLOWS", unit: "", names: 0 },
+    Note { kernel: "TCA_CAKE_TIN_STATS_MAX_SKBLEN", unit: "bytes", names: 0 },
+    Note { kernel: "TCA_CAKE_TIN_STATS_FLOW_QUANTUM", unit: "bytes", names: 0 },
 ];
 
 // `enum cake_diffserv`
 #[rattlefmt::skip]
 const ENUM_CAKE_DIFFSERV: [Note<'static>; 5] = [
-    Note { kernel: "CAKE_DIFFSERV_DIFFSERV3", unit: Unit::Plain, names: 0 },
-    Note { kernel: "CAKE_DIFFSERV_DIFFSERV4", unit: Unit::Plain, names: 0 },
-    Note { kernel: "CAKE_DIFFSERV_DIFFSERV8", unit: Unit::Plain, names: 0 },
-    Note { kernel: "CAKE_DIFFSERV_BESTEFFORT", unit: Unit::Plain, names: 0 },
-    Note { kernel: "CAKE_DIFFSERV_PRECEDENCE", unit: Unit::Plain, names: 0 },
+    Note { kernel: "CAKE_DIFFSERV_DIFFSERV3", unit: "", names: 0 },
+    Note { kernel: "CAKE_DIFFSERV_DIFFSERV4", unit: "", names: 0 },
+    Note { kernel: "CAKE_DIFFSERV_DIFFSERV8", unit: "", names: 0 },
+    Note { kernel: "CAKE_DIFFSERV_BESTEFFORT", unit: "", names: 0 },
+    Note { kernel: "CAKE_DIFFSERV_PRECEDENCE", unit: "", names: 0 },
 ];
 
 // `enum cake_atm`
 #[rattlefmt::skip]
 const ENUM_CAKE_ATM: [Note<'static>; 3] = [
-    Note { kernel: "CAKE_ATM_NONE", unit: Unit::Plain, names: 0 },
-    Note { kernel: "CAKE_ATM_ATM", unit: Unit::Plain, names: 0 },
-    Note { kernel: "CAKE_ATM_PTM", unit: Unit::Plain, names: 0 },
+    Note { kernel: "CAKE_ATM_NONE", unit: "", names: 0 },
+    Note { kernel: "CAKE_ATM_ATM", unit: "", names: 0 },
+    Note { kernel: "CAKE_ATM_PTM", unit: "", names: 0 },
 ];
 
 // `enum cake_flow`
 #[rattlefmt::skip]
 const ENUM_CAKE_FLOW: [Note<'static>; 8] = [
-    Note { kernel: "CAKE_FLOW_NONE", unit: Unit::Plain, names: 0 },
-    Note { kernel: "CAKE_FLOW_SRC_IP", unit: Unit::Plain, names: 0 },
-    Note { kernel: "CAKE_FLOW_DST_IP", unit: Unit::Plain, names: 0 },
-    Note { kernel: "CAKE_FLOW_HOSTS", unit: Unit::Plain, names: 0 },
-    Note { kernel: "CAKE_FLOW_FLOWS", unit: Unit::Plain, names: 0 },
-    Note { kernel: "CAKE_FLOW_DUAL_SRC", unit: Unit::Plain, names: 0 },
-    Note { kernel: "CAKE_FLOW_DUAL_DST", unit: Unit::Plain, names: 0 },
-    Note { kernel: "CAKE_FLOW_TRIPLE", unit: Unit::Plain, names: 0 },
+    Note { kernel: "CAKE_FLOW_NONE", unit: "", names: 0 },
+    Note { kernel: "CAKE_FLOW_SRC_IP", unit: "", names: 0 },
+    Note { kernel: "CAKE_FLOW_DST_IP", unit: "", names: 0 },
+    Note { kernel: "CAKE_FLOW_HOSTS", unit: "", names: 0 },
+    Note { kernel: "CAKE_FLOW_FLOWS", unit: "", names: 0 },
+    Note { kernel: "CAKE_FLOW_DUAL_SRC", unit: "", names: 0 },
+    Note { kernel: "CAKE_FLOW_DUAL_DST", unit: "", names: 0 },
+    Note { kernel: "CAKE_FLOW_TRIPLE", unit: "", names: 0 },
 ];
 
 // `enum cake_ack`
 #[rattlefmt::skip]
 const ENUM_CAKE_ACK: [Note<'static>; 3] = [
-    Note { kernel: "CAKE_ACK_NONE", unit: Unit::Plain, names: 0 },
-    Note { kernel: "CAKE_ACK_FILTER", unit: Unit::Plain, names: 0 },
-    Note { kernel: "CAKE_ACK_AGGRESSIVE", unit: Unit::Plain, names: 0 },
+    Note { kernel: "CAKE_ACK_NONE", unit: "", names: 0 },
+    Note { kernel: "CAKE_ACK_FILTER", unit: "", names: 0 },
+    Note { kernel: "CAKE_ACK_AGGRESSIVE", unit: "", names: 0 },
 ];
 
 // `list stats`
 #[rattlefmt::skip]
 const LIST_STATS_BY_KIND: [Note<'static>; 1] = [
-    Note { kernel: "TCA_STATS_APP", unit: Unit::Plain, names: 0 },
+    Note { kernel: "TCA_STATS_APP", unit: "", names: 0 },
 ];
 
 // `list cbq`
 #[rattlefmt::skip]
 const LIST_CBQ: [Note<'static>; 7] = [
-    Note { kernel: "TCA_CBQ_LSSOPT", unit: Unit::Plain, names: 0 },
-    Note { kernel: "TCA_CBQ_WRROPT", unit: Unit::Plain, names: 0 },
-    Note { kernel: "TCA_CBQ_FOPT", unit: Unit::Plain, names: 0 },
-    Note { kernel: "TCA_CBQ_OVL_STRATEGY", unit: Unit::Plain, names: 0 },
-    Note { kernel: "TCA_CBQ_RATE", unit: Unit::Plain, names: 0 },
-    Note { kernel: "TCA_CBQ_RTAB", unit: Unit::Plain, names: 0 },
-    Note { kernel: "TCA_CBQ_POLICE", unit: Unit::Plain, names: 0 },
+    Note { kernel: "TCA_CBQ_LSSOPT", unit: "", names: 0 },
+    Note { kernel: "TCA_CBQ_WRROPT", unit: "", names: 0 },
+    Note { kernel: "TCA_CBQ_FOPT", unit: "", names: 0 },
+    Note { kernel: "TCA_CBQ_OVL_STRATEGY", unit: "", names: 0 },
+    Note { kernel: "TCA_CBQ_RATE", unit: "", names: 0 },
+    Note { kernel: "TCA_CBQ_RTAB", unit: "", names: 0 },
+    Note { kernel: "TCA_CBQ_POLICE", unit: "", names: 0 },
 ];
 
 // `bits tcf_cbq_lss_change`
@@ -2369,39 +2369,39 @@ const BITS_TCF_CBQ_LSS_FLAGS: [Named<'static>; 2] = [
 // `struct tc_cbq_lssopt`
 #[rattlefmt::skip]
 const STRUCT_TC_CBQ_LSSOPT: [Note<'static>; 8] = [
-    Note { kernel: "", unit: Unit::Plain, names: 27 },
-    Note { kernel: "", unit: Unit::Plain, names: 28 },
-    Note { kernel: "", unit: Unit::Plain, names: 0 },
-    Note { kernel: "", unit: Unit::Plain, names: 0 },
-    Note { kernel: "", unit: Unit::Plain, names: 0 },
-    Note { kernel: "", unit: Unit::Plain, names: 0 },
-    Note { kernel: "", unit: Unit::Plain, names: 0 },
-    Note { kernel: "", unit: Unit::Plain, names: 0 },
+    Note { kernel: "", unit: "", names: 27 },
+    Note { kernel: "", unit: "", names: 28 },
+    Note { kernel: "", unit: "", names: 0 },
+    Note { kernel: "", unit: "", names: 0 },
+    Note { kernel: "", unit: "", names: 0 },
+    Note { kernel: "", unit: "", names: 0 },
+    Note { kernel: "", unit: "", names: 0 },
+    Note { kernel: "", unit: "", names: 0 },
 ];
 
 // `list cbs`
 #[rattlefmt::skip]
 const LIST_CBS: [Note<'static>; 1] = [
-    Note { kernel: "TCA_CBS_PARMS", unit: Unit::Plain, names: 0 },
+    Note { kernel: "TCA_CBS_PARMS", unit: "", names: 0 },
 ];
 
 // `struct tc_cbs_qopt`
 #[rattlefmt::skip]
 const STRUCT_TC_CBS_QOPT: [Note<'static>; 6] = [
-    Note { kernel: "", unit: Unit::Plain, names: 0 },
-    Note { kernel: "", unit: Unit::Plain, names: 0 },
-    Note { kernel: "", unit: Unit::Bytes, names: 0 },
-    Note { kernel: "", unit: Unit::Bytes, names: 0 },
-    Note { kernel: "", unit: Unit::KilobitsPerSecond, names: 0 },
-    Note { kernel: "", unit: Unit::KilobitsPerSecond, names: 0 },
+    Note { kernel: "", unit: "", names: 0 },
+    Note { kernel: "", unit: "", names: 0 },
+    Note { kernel: "", unit: "bytes", names: 0 },
+    Note { kernel: "", unit: "bytes", names: 0 },
+    Note { kernel: "", unit: "1000 bits a second", names: 0 },
+    Note { kernel: "", unit: "1000 bits a second", names: 0 },
 ];
 
 // `list choke`
 #[rattlefmt::skip]
 const LIST_CHOKE: [Note<'static>; 3] = [
-    Note { kernel: "TCA_CHOKE_PARMS", unit: Unit::Plain, names: 0 },
-    Note { kernel: "TCA_CHOKE_STAB", unit: Unit::Plain, names: 0 },
-    Note { kernel: "TCA_CHOKE_MAX_P", unit: Unit::Probability, names: 0 },
+    Note { kernel: "TCA_CHOKE_PARMS", unit: "", names: 0 },
+    Note { kernel: "TCA_CHOKE_STAB", unit: "", names: 0 },
+    Note { kernel: "TCA_CHOKE_MAX_P", unit: "probability, 2^-32 each", names: 0 },
 ];
 
 // `bits tc_red`
@@ -2416,59 +2416,59 @@ const BITS_TC_RED: [Named<'static>; 4] = [
 // `struct tc_red_qopt_packets`
 #[rattlefmt::skip]
 const STRUCT_TC_RED_QOPT_PACKETS: [Note<'static>; 7] = [
-    Note { kernel: "", unit: Unit::Packets, names: 0 },
-    Note { kernel: "", unit: Unit::Packets, names: 0 },
-    Note { kernel: "", unit: Unit::Packets, names: 0 },
-    Note { kernel: "", unit: Unit::Power, names: 0 },
-    Note { kernel: "", unit: Unit::Power, names: 0 },
-    Note { kernel: "", unit: Unit::Power, names: 0 },
-    Note { kernel: "", unit: Unit::Plain, names: 29 },
+    Note { kernel: "", unit: "packets", names: 0 },
+    Note { kernel: "", unit: "packets", names: 0 },
+    Note { kernel: "", unit: "packets", names: 0 },
+    Note { kernel: "", unit: "exponent of 2", names: 0 },
+    Note { kernel: "", unit: "exponent of 2", names: 0 },
+    Note { kernel: "", unit: "exponent of 2", names: 0 },
+    Note { kernel: "", unit: "", names: 29 },
 ];
 
 // `list codel`
 #[rattlefmt::skip]
 const LIST_CODEL: [Note<'static>; 5] = [
-    Note { kernel: "TCA_CODEL_TARGET", unit: Unit::Microseconds, names: 0 },
-    Note { kernel: "TCA_CODEL_LIMIT", unit: Unit::Packets, names: 0 },
-    Note { kernel: "TCA_CODEL_INTERVAL", unit: Unit::Microseconds, names: 0 },
-    Note { kernel: "TCA_CODEL_ECN", unit: Unit::Plain, names: 0 },
-    Note { kernel: "TCA_CODEL_CE_THRESHOLD", unit: Unit::Microseconds, names: 0 },
+    Note { kernel: "TCA_CODEL_TARGET", unit: "microseconds", names: 0 },
+    Note { kernel: "TCA_CODEL_LIMIT", unit: "packets", names: 0 },
+    Note { kernel: "TCA_CODEL_INTERVAL", unit: "microseconds", names: 0 },
+    Note { kernel: "TCA_CODEL_ECN", unit: "", names: 0 },
+    Note { kernel: "TCA_CODEL_CE_THRESHOLD", unit: "microseconds", names: 0 },
 ];
 
 // `struct tc_codel_xstats`
 #[rattlefmt::skip]
 const STRUCT_TC_CODEL_XSTATS: [Note<'static>; 9] = [
-    Note { kernel: "", unit: Unit::Plain, names: 0 },
-    Note { kernel: "", unit: Unit::Plain, names: 0 },
-    Note { kernel: "", unit: Unit::Plain, names: 0 },
-    Note { kernel: "", unit: Unit::Microseconds, names: 0 },
-    Note { kernel: "", unit: Unit::Microseconds, names: 0 },
-    Note { kernel: "", unit: Unit::Plain, names: 0 },
-    Note { kernel: "", unit: Unit::Plain, names: 0 },
-    Note { kernel: "", unit: Unit::Plain, names: 0 },
-    Note { kernel: "", unit: Unit::Plain, names: 0 },
+    Note { kernel: "", unit: "", names: 0 },
+    Note { kernel: "", unit: "", names: 0 },
+    Note { kernel: "", unit: "", names: 0 },
+    Note { kernel: "", unit: "microseconds", names: 0 },
+    Note { kernel: "", unit: "microseconds", names: 0 },
+    Note { kernel: "", unit: "", names: 0 },
+    Note { kernel: "", unit: "", names: 0 },
+    Note { kernel: "", unit: "", names: 0 },
+    Note { kernel: "", unit: "", names: 0 },
 ];
 
 // `list drr`
 #[rattlefmt::skip]
 const LIST_DRR: [Note<'static>; 1] = [
-    Note { kernel: "TCA_DRR_QUANTUM", unit: Unit::Bytes, names: 0 },
+    Note { kernel: "TCA_DRR_QUANTUM", unit: "bytes", names: 0 },
 ];
 
 // `list dsmark`
 #[rattlefmt::skip]
 const LIST_DSMARK: [Note<'static>; 5] = [
-    Note { kernel: "TCA_DSMARK_INDICES", unit: Unit::Plain, names: 0 },
-    Note { kernel: "TCA_DSMARK_DEFAULT_INDEX", unit: Unit::Plain, names: 0 },
-    Note { kernel: "TCA_DSMARK_SET_TC_INDEX", unit: Unit::Plain, names: 0 },
-    Note { kernel: "TCA_DSMARK_MASK", unit: Unit::Plain, names: 0 },
-    Note { kernel: "TCA_DSMARK_VALUE", unit: Unit::Plain, names: 0 },
+    Note { kernel: "TCA_DSMARK_INDICES", unit: "", names: 0 },
+    Note { kernel: "TCA_DSMARK_DEFAULT_INDEX", unit: "", names: 0 },
+    Note { kernel: "TCA_DSMARK_SET_TC_INDEX", unit: "", names: 0 },
+    Note { kernel: "TCA_DSMARK_MASK", unit: "", names: 0 },
+    Note { kernel: "TCA_DSMARK_VALUE", unit: "", names: 0 },
 ];
 
 // `list etf`
 #[rattlefmt::skip]
 const LIST_ETF: [Note<'static>; 1] = [
-    Note { kernel: "TCA_ETF_PARMS", unit: Unit::Plain, names: 0 },
+    Note { kernel: "TCA_ETF_PARMS", unit: "", names: 0 },
 ];
 
 // `bits tc_etf`
@@ -2482,579 +2482,579 @@ const BITS_TC_ETF: [Named<'static>; 3] = [
 // `struct tc_etf_qopt`
 #[rattlefmt::skip]
 const STRUCT_TC_ETF_QOPT: [Note<'static>; 3] = [
-    Note { kernel: "", unit: Unit::Nanoseconds, names: 0 },
-    Note { kernel: "", unit: Unit::Plain, names: 6 },
-    Note { kernel: "", unit: Unit::Plain, names: 30 },
+    Note { kernel: "", unit: "nanoseconds", names: 0 },
+    Note { kernel: "", unit: "", names: 6 },
+    Note { kernel: "", unit: "", names: 30 },
 ];
 
 // `list ets`
 #[rattlefmt::skip]
 const LIST_ETS: [Note<'static>; 6] = [
-    Note { kernel: "TCA_ETS_NBANDS", unit: Unit::Plain, names: 0 },
-    Note { kernel: "TCA_ETS_NSTRICT", unit: Unit::Plain, names: 0 },
-    Note { kernel: "TCA_ETS_QUANTA", unit: Unit::Plain, names: 0 },
-    Note { kernel: "TCA_ETS_QUANTA_BAND", unit: Unit::Bytes, names: 0 },
-    Note { kernel: "TCA_ETS_PRIOMAP", unit: Unit::Plain, names: 0 },
-    Note { kernel: "TCA_ETS_PRIOMAP_BAND", unit: Unit::Plain, names: 0 },
+    Note { kernel: "TCA_ETS_NBANDS", unit: "", names: 0 },
+    Note { kernel: "TCA_ETS_NSTRICT", unit: "", names: 0 },
+    Note { kernel: "TCA_ETS_QUANTA", unit: "", names: 0 },
+    Note { kernel: "TCA_ETS_QUANTA_BAND", unit: "bytes", names: 0 },
+    Note { kernel: "TCA_ETS_PRIOMAP", unit: "", names: 0 },
+    Note { kernel: "TCA_ETS_PRIOMAP_BAND", unit: "", names: 0 },
 ];
 
 // `list ets_quanta`
 #[rattlefmt::skip]
 const LIST_ETS_QUANTA: [Note<'static>; 1] = [
-    Note { kernel: "TCA_ETS_QUANTA_BAND", unit: Unit::Bytes, names: 0 },
+    Note { kernel: "TCA_ETS_QUANTA_BAND", unit: "bytes", names: 0 },
 ];
 
 // `list ets_priomap`
 #[rattlefmt::skip]
 const LIST_ETS_PRIOMAP: [Note<'static>; 1] = [
-    Note { kernel: "TCA_ETS_PRIOMAP_BAND", unit: Unit::Plain, names: 0 },
+    Note { kernel: "TCA_ETS_PRIOMAP_BAND", unit: "", names: 0 },
 ];
 
 // `struct tc_fifo_qopt`
 #[rattlefmt::skip]
 const STRUCT_TC_FIFO_QOPT: [Note<'static>; 1] = [
-    Note { kernel: "", unit: Unit::Bytes, names: 0 },
+    Note { kernel: "", unit: "bytes", names: 0 },
 ];
 
 // `list fq`
 #[rattlefmt::skip]
 const LIST_FQ: [Note<'static>; 17] = [
-    Note { kernel: "TCA_FQ_PLIMIT", unit: Unit::Packets, names: 0 },
-    Note { kernel: "TCA_FQ_FLOW_PLIMIT", unit: Unit::Packets, names: 0 },
-    Note { kernel: "TCA_FQ_QUANTUM", unit: Unit::Bytes, names: 0 },
-    Note { kernel: "TCA_FQ_INITIAL_QUANTUM", unit: Unit::Bytes, names: 0 },
-    Note { kernel: "TCA_FQ_RATE_ENABLE", unit: Unit::Plain, names: 0 },
-    Note { kernel: "TCA_FQ_FLOW_DEFAULT_RATE", unit: Unit::BytesPerSecond, names: 0 },
-    Note { kernel: "TCA_FQ_FLOW_MAX_RATE", unit: Unit::BytesPerSecond, names: 0 },
-    Note { kernel: "TCA_FQ_BUCKETS_LOG", unit: Unit::Power, names: 0 },
-    Note { kernel: "TCA_FQ_FLOW_REFILL_DELAY", unit: Unit::Microseconds, names: 0 },
-    Note { kernel: "TCA_FQ_ORPHAN_MASK", unit: Unit::Plain, names: 0 },
-    Note { kernel: "TCA_FQ_LOW_RATE_THRESHOLD", unit: Unit::BytesPerSecond, names: 0 },
-    Note { kernel: "TCA_FQ_CE_THRESHOLD", unit: Unit::Microseconds, names: 0 },
-    Note { kernel: "TCA_FQ_TIMER_SLACK", unit: Unit::Nanoseconds, names: 0 },
-    Note { kernel: "TCA_FQ_HORIZON", unit: Unit::Microseconds, names: 0 },
-    Note { kernel: "TCA_FQ_HORIZON_DROP", unit: Unit::Plain, names: 0 },
-    Note { kernel: "TCA_FQ_PRIOMAP", unit: Unit::Plain, names: 0 },
-    Note { kernel: "TCA_FQ_WEIGHTS", unit: Unit::Plain, names: 0 },
+    Note { kernel: "TCA_FQ_PLIMIT", unit: "packets", names: 0 },
+    Note { kernel: "TCA_FQ_FLOW_PLIMIT", unit: "packets", names: 0 },
+    Note { kernel: "TCA_FQ_QUANTUM", unit: "bytes", names: 0 },
+    Note { kernel: "TCA_FQ_INITIAL_QUANTUM", unit: "bytes", names: 0 },
+    Note { kernel: "TCA_FQ_RATE_ENABLE", unit: "", names: 0 },
+    Note { kernel: "TCA_FQ_FLOW_DEFAULT_RATE", unit: "bytes a second", names: 0 },
+    Note { kernel: "TCA_FQ_FLOW_MAX_RATE", unit: "bytes a second", names: 0 },
+    Note { kernel: "TCA_FQ_BUCKETS_LOG", unit: "exponent of 2", names: 0 },
+    Note { kernel: "TCA_FQ_FLOW_REFILL_DELAY", unit: "microseconds", names: 0 },
+    Note { kernel: "TCA_FQ_ORPHAN_MASK", unit: "", names: 0 },
+    Note { kernel: "TCA_FQ_LOW_RATE_THRESHOLD", unit: "bytes a second", names: 0 },
+    Note { kernel: "TCA_FQ_CE_THRESHOLD", unit: "microseconds", names: 0 },
+    Note { kernel: "TCA_FQ_TIMER_SLACK", unit: "nanoseconds", names: 0 },
+    Note { kernel: "TCA_FQ_HORIZON", unit: "microseconds", names: 0 },
+    Note { kernel: "TCA_FQ_HORIZON_DROP", unit: "", names: 0 },
+    Note { kernel: "TCA_FQ_PRIOMAP", unit: "", names: 0 },
+    Note { kernel: "TCA_FQ_WEIGHTS", unit: "", names: 0 },
 ];
 
 // `struct tc_fq_qd_stats`
 #[rattlefmt::skip]
 const STRUCT_TC_FQ_QD_STATS: [Note<'static>; 16] = [
-    Note { kernel: "", unit: Unit::Plain, names: 0 },
-    Note { kernel: "", unit: Unit::Plain, names: 0 },
-    Note { kernel: "", unit: Unit::Plain, names: 0 },
-    Note { kernel: "", unit: Unit::Plain, names: 0 },
-    Note { kernel: "", unit: Unit::Plain, names: 0 },
-    Note { kernel: "", unit: Unit::Plain, names: 0 },
-    Note { kernel: "", unit: Unit::Plain, names: 0 },
-    Note { kernel: "", unit: Unit::Nanoseconds, names: 0 },
-    Note { kernel: "", unit: Unit::Plain, names: 0 },
-    Note { kernel: "", unit: Unit::Plain, names: 0 },
-    Note { kernel: "", unit: Unit::Plain, names: 0 },
-    Note { kernel: "", unit: Unit::Nanoseconds, names: 0 },
-    Note { kernel: "", unit: Unit::Plain, names: 0 },
-    Note { kernel: "", unit: Unit::Plain, names: 0 },
-    Note { kernel: "", unit: Unit::Plain, names: 0 },
-    Note { kernel: "", unit: Unit::Plain, names: 0 },
+    Note { kernel: "", unit: "", names: 0 },
+    Note { kernel: "", unit: "", names: 0 },
+    Note { kernel: "", unit: "", names: 0 },
+    Note { kernel: "", unit: "", names: 0 },
+    Note { kernel: "", unit: "", names: 0 },
+    Note { kernel: "", unit: "", names: 0 },
+    Note { kernel: "", unit: "", names: 0 },
+    Note { kernel: "", unit: "nanoseconds", names: 0 },
+    Note { kernel: "", unit: "", names: 0 },
+    Note { kernel: "", unit: "", names: 0 },
+    Note { kernel: "", unit: "", names: 0 },
+    Note { kernel: "", unit: "nanoseconds", names: 0 },
+    Note { kernel: "", unit: "", names: 0 },
+    Note { kernel: "", unit: "", names: 0 },
+    Note { kernel: "", unit: "", names: 0 },
+    Note { kernel: "", unit: "", names: 0 },
 ];
 
 // `list fq_codel`
 #[rattlefmt::skip]
 const LIST_FQ_CODEL: [Note<'static>; 11] = [
-    Note { kernel: "TCA_FQ_CODEL_TARGET", unit: Unit::Microseconds, names: 0 },
-    Note { kernel: "TCA_FQ_CODEL_LIMIT", unit: Unit::Packets, names: 0 },
-    Note { kernel: "TCA_FQ_CODEL_INTERVAL", unit: Unit::Microseconds, names: 0 },
-    Note { kernel: "TCA_FQ_CODEL_ECN", unit: Unit::Plain, names: 0 },
-    Note { kernel: "TCA_FQ_CODEL_FLOWS", unit: Unit::Plain, names: 0 },
-    Note { kernel: "TCA_FQ_CODEL_QUANTUM", unit: Unit::Bytes, names: 0 },
-    Note { kernel: "TCA_FQ_CODEL_CE_THRESHOLD", unit: Unit::Microseconds, names: 0 },
-    Note { kernel: "TCA_FQ_CODEL_DROP_BATCH_SIZE", unit: Unit::Packets, names: 0 },
-    Note { kernel: "TCA_FQ_CODEL_MEMORY_LIMIT", unit: Unit::Bytes, names: 0 },
-    Note { kernel: "TCA_FQ_CODEL_CE_THRESHOLD_SELECTOR", unit: Unit::Plain, names: 0 },
-    Note { kernel: "TCA_FQ_CODEL_CE_THRESHOLD_MASK", unit: Unit::Plain, names: 0 },
+    Note { kernel: "TCA_FQ_CODEL_TARGET", unit: "microseconds", names: 0 },
+    Note { kernel: "TCA_FQ_CODEL_LIMIT", unit: "packets", names: 0 },
+    Note { kernel: "TCA_FQ_CODEL_INTERVAL", unit: "microseconds", names: 0 },
+    Note { kernel: "TCA_FQ_CODEL_ECN", unit: "", names: 0 },
+    Note { kernel: "TCA_FQ_CODEL_FLOWS", unit: "", names: 0 },
+    Note { kernel: "TCA_FQ_CODEL_QUANTUM", unit: "bytes", names: 0 },
+    Note { kernel: "TCA_FQ_CODEL_CE_THRESHOLD", unit: "microseconds", names: 0 },
+    Note { kernel: "TCA_FQ_CODEL_DROP_BATCH_SIZE", unit: "packets", names: 0 },
+    Note { kernel: "TCA_FQ_CODEL_MEMORY_LIMIT", unit: "bytes", names: 0 },
+    Note { kernel: "TCA_FQ_CODEL_CE_THRESHOLD_SELECTOR", unit: "", names: 0 },
+    Note { kernel: "TCA_FQ_CODEL_CE_THRESHOLD_MASK", unit: "", names: 0 },
 ];
 
 // `struct tc_fq_codel_qd_stats`
 #[rattlefmt::skip]
 const STRUCT_TC_FQ_CODEL_QD_STATS: [Note<'static>; 9] = [
-    Note { kernel: "", unit: Unit::Bytes, names: 0 },
-    Note { kernel: "", unit: Unit::Packets, names: 0 },
-    Note { kernel: "", unit: Unit::Packets, names: 0 },
-    Note { kernel: "", unit: Unit::Plain, names: 0 },
-    Note { kernel: "", unit: Unit::Plain, names: 0 },
-    Note { kernel: "", unit: Unit::Plain, names: 0 },
-    Note { kernel: "", unit: Unit::Packets, names: 0 },
-    Note { kernel: "", unit: Unit::Bytes, names: 0 },
-    Note { kernel: "", unit: Unit::Packets, names: 0 },
+    Note { kernel: "", unit: "bytes", names: 0 },
+    Note { kernel: "", unit: "packets", names: 0 },
+    Note { kernel: "", unit: "packets", names: 0 },
+    Note { kernel: "", unit: "", names: 0 },
+    Note { kernel: "", unit: "", names: 0 },
+    Note { kernel: "", unit: "", names: 0 },
+    Note { kernel: "", unit: "packets", names: 0 },
+    Note { kernel: "", unit: "bytes", names: 0 },
+    Note { kernel: "", unit: "packets", names: 0 },
 ];
 
 // `struct tc_fq_codel_cl_stats`
 #[rattlefmt::skip]
 const STRUCT_TC_FQ_CODEL_CL_STATS: [Note<'static>; 6] = [
-    Note { kernel: "", unit: Unit::Bytes, names: 0 },
-    Note { kernel: "", unit: Unit::Microseconds, names: 0 },
-    Note { kernel: "", unit: Unit::Plain, names: 0 },
-    Note { kernel: "", unit: Unit::Plain, names: 0 },
-    Note { kernel: "", unit: Unit::Plain, names: 0 },
-    Note { kernel: "", unit: Unit::Microseconds, names: 0 },
+    Note { kernel: "", unit: "bytes", names: 0 },
+    Note { kernel: "", unit: "microseconds", names: 0 },
+    Note { kernel: "", unit: "", names: 0 },
+    Note { kernel: "", unit: "", names: 0 },
+    Note { kernel: "", unit: "", names: 0 },
+    Note { kernel: "", unit: "microseconds", names: 0 },
 ];
 
 // `list fq_pie`
 #[rattlefmt::skip]
 const LIST_FQ_PIE: [Note<'static>; 12] = [
-    Note { kernel: "TCA_FQ_PIE_LIMIT", unit: Unit::Packets, names: 0 },
-    Note { kernel: "TCA_FQ_PIE_FLOWS", unit: Unit::Plain, names: 0 },
-    Note { kernel: "TCA_FQ_PIE_TARGET", unit: Unit::Microseconds, names: 0 },
-    Note { kernel: "TCA_FQ_PIE_TUPDATE", unit: Unit::Microseconds, names: 0 },
-    Note { kernel: "TCA_FQ_PIE_ALPHA", unit: Unit::Plain, names: 0 },
-    Note { kernel: "TCA_FQ_PIE_BETA", unit: Unit::Plain, names: 0 },
-    Note { kernel: "TCA_FQ_PIE_QUANTUM", unit: Unit::Bytes, names: 0 },
-    Note { kernel: "TCA_FQ_PIE_MEMORY_LIMIT", unit: Unit::Bytes, names: 0 },
-    Note { kernel: "TCA_FQ_PIE_ECN_PROB", unit: Unit::Percent, names: 0 },
-    Note { kernel: "TCA_FQ_PIE_ECN", unit: Unit::Plain, names: 0 },
-    Note { kernel: "TCA_FQ_PIE_BYTEMODE", unit: Unit::Plain, names: 0 },
-    Note { kernel: "TCA_FQ_PIE_DQ_RATE_ESTIMATOR", unit: Unit::Plain, names: 0 },
+    Note { kernel: "TCA_FQ_PIE_LIMIT", unit: "packets", names: 0 },
+    Note { kernel: "TCA_FQ_PIE_FLOWS", unit: "", names: 0 },
+    Note { kernel: "TCA_FQ_PIE_TARGET", unit: "microseconds", names: 0 },
+    Note { kernel: "TCA_FQ_PIE_TUPDATE", unit: "microseconds", names: 0 },
+    Note { kernel: "TCA_FQ_PIE_ALPHA", unit: "", names: 0 },
+    Note { kernel: "TCA_FQ_PIE_BETA", unit: "", names: 0 },
+    Note { kernel: "TCA_FQ_PIE_QUANTUM", unit: "bytes", names: 0 },
+    Note { kernel: "TCA_FQ_PIE_MEMORY_LIMIT", unit: "bytes", names: 0 },
+    Note { kernel: "TCA_FQ_PIE_ECN_PROB", unit: "percent", names: 0 },
+    Note { kernel: "TCA_FQ_PIE_ECN", unit: "", names: 0 },
+    Note { kernel: "TCA_FQ_PIE_BYTEMODE", unit: "", names: 0 },
+    Note { kernel: "TCA_FQ_PIE_DQ_RATE_ESTIMATOR", unit: "", names: 0 },
 ];
 
 // `list gred`
 #[rattlefmt::skip]
 const LIST_GRED: [Note<'static>; 6] = [
-    Note { kernel: "TCA_GRED_PARMS", unit: Unit::Plain, names: 0 },
-    Note { kernel: "TCA_GRED_STAB", unit: Unit::Plain, names: 0 },
-    Note { kernel: "TCA_GRED_DPS", unit: Unit::Plain, names: 0 },
-    Note { kernel: "TCA_GRED_MAX_P", unit: Unit::Probability, names: 0 },
-    Note { kernel: "TCA_GRED_LIMIT", unit: Unit::Bytes, names: 0 },
-    Note { kernel: "TCA_GRED_VQ_LIST", unit: Unit::Plain, names: 0 },
+    Note { kernel: "TCA_GRED_PARMS", unit: "", names: 0 },
+    Note { kernel: "TCA_GRED_STAB", unit: "", names: 0 },
+    Note { kernel: "TCA_GRED_DPS", unit: "", names: 0 },
+    Note { kernel: "TCA_GRED_MAX_P", unit: "probability, 2^-32 each", names: 0 },
+    Note { kernel: "TCA_GRED_LIMIT", unit: "bytes", names: 0 },
+    Note { kernel: "TCA_GRED_VQ_LIST", unit: "", names: 0 },
 ];
 
 // `struct tc_gred_qopt`
 #[rattlefmt::skip]
 const STRUCT_TC_GRED_QOPT: [Note<'static>; 16] = [
-    Note { kernel: "", unit: Unit::Bytes, names: 0 },
-    Note { kernel: "", unit: Unit::Bytes, names: 0 },
-    Note { kernel: "", unit: Unit::Bytes, names: 0 },
-    Note { kernel: "", unit: Unit::Plain, names: 0 },
-    Note { kernel: "", unit: Unit::Bytes, names: 0 },
-    Note { kernel: "", unit: Unit::Bytes, names: 0 },
-    Note { kernel: "", unit: Unit::Packets, names: 0 },
-    Note { kernel: "", unit: Unit::Packets, names: 0 },
-    Note { kernel: "", unit: Unit::Packets, names: 0 },
-    Note { kernel: "", unit: Unit::Packets, names: 0 },
-    Note { kernel: "", unit: Unit::Power, names: 0 },
-    Note { kernel: "", unit: Unit::Power, names: 0 },
-    Note { kernel: "", unit: Unit::Power, names: 0 },
-    Note { kernel: "", unit: Unit::Plain, names: 0 },
-    Note { kernel: "", unit: Unit::Packets, names: 0 },
-    Note { kernel: "", unit: Unit::Bytes, names: 0 },
+    Note { kernel: "", unit: "bytes", names: 0 },
+    Note { kernel: "", unit: "bytes", names: 0 },
+    Note { kernel: "", unit: "bytes", names: 0 },
+    Note { kernel: "", unit: "", names: 0 },
+    Note { kernel: "", unit: "bytes", names: 0 },
+    Note { kernel: "", unit: "bytes", names: 0 },
+    Note { kernel: "", unit: "packets", names: 0 },
+    Note { kernel: "", unit: "packets", names: 0 },
+    Note { kernel: "", unit: "packets", names: 0 },
+    Note { kernel: "", unit: "packets", names: 0 },
+    Note { kernel: "", unit: "exponent of 2", names: 0 },
+    Note { kernel: "", unit: "exponent of 2", names: 0 },
+    Note { kernel: "", unit: "exponent of 2", names: 0 },
+    Note { kernel: "", unit: "", names: 0 },
+    Note { kernel: "", unit: "packets", names: 0 },
+    Note { kernel: "", unit: "bytes", names: 0 },
 ];
 
 // `struct tc_gred_sopt`
 #[rattlefmt::skip]
 const STRUCT_TC_GRED_SOPT: [Note<'static>; 5] = [
-    Note { kernel: "", unit: Unit::Plain, names: 0 },
-    Note { kernel: "", unit: Unit::Plain, names: 0 },
-    Note { kernel: "", unit: Unit::Plain, names: 0 },
-    Note { kernel: "", unit: Unit::Plain, names: 29 },
-    Note { kernel: "", unit: Unit::Plain, names: 0 },
+    Note { kernel: "", unit: "", names: 0 },
+    Note { kernel: "", unit: "", names: 0 },
+    Note { kernel: "", unit: "", names: 0 },
+    Note { kernel: "", unit: "", names: 29 },
+    Note { kernel: "", unit: "", names: 0 },
 ];
 
 // `list gred_vq_list`
 #[rattlefmt::skip]
 const LIST_GRED_VQ_LIST: [Note<'static>; 1] = [
-    Note { kernel: "TCA_GRED_VQ_ENTRY", unit: Unit::Plain, names: 0 },
+    Note { kernel: "TCA_GRED_VQ_ENTRY", unit: "", names: 0 },
 ];
 
 // `list gred_vq`
 #[rattlefmt::skip]
 const LIST_GRED_VQ: [Note<'static>; 12] = [
-    Note { kernel: "TCA_GRED_VQ_PAD", unit: Unit::Plain, names: 0 },
-    Note { kernel: "TCA_GRED_VQ_DP", unit: Unit::Plain, names: 0 },
-    Note { kernel: "TCA_GRED_VQ_STAT_BYTES", unit: Unit::Bytes, names: 0 },
-    Note { kernel: "TCA_GRED_VQ_STAT_PACKETS", unit: Unit::Packets, names: 0 },
-    Note { kernel: "TCA_GRED_VQ_STAT_BACKLOG", unit: Unit::Bytes, names: 0 },
-    Note { kernel: "TCA_GRED_VQ_STAT_PROB_DROP", unit: Unit::Packets, names: 0 },
-    Note { kernel: "TCA_GRED_VQ_STAT_PROB_MARK", unit: Unit::Packets, names: 0 },
-    Note { kernel: "TCA_GRED_VQ_STAT_FORCED_DROP", unit: Unit::Packets, names: 0 },
-    Note { kernel: "TCA_GRED_VQ_STAT_FORCED_MARK", unit: Unit::Packets, names: 0 },
-    Note { kernel: "TCA_GRED_VQ_STAT_PDROP", unit: Unit::Packets, names: 0 },
-    Note { kernel: "TCA_GRED_VQ_STAT_OTHER", unit: Unit::Packets, names: 0 },
-    Note { kernel: "TCA_GRED_VQ_FLAGS", unit: Unit::Plain, names: 29 },
+    Note { kernel: "TCA_GRED_VQ_PAD", unit: "", names: 0 },
+    Note { kernel: "TCA_GRED_VQ_DP", unit: "", names: 0 },
+    Note { kernel: "TCA_GRED_VQ_STAT_BYTES", unit: "bytes", names: 0 },
+    Note { kernel: "TCA_GRED_VQ_STAT_PACKETS", unit: "packets", names: 0 },
+    Note { kernel: "TCA_GRED_VQ_STAT_BACKLOG", unit: "bytes", names: 0 },
+    Note { kernel: "TCA_GRED_VQ_STAT_PROB_DROP", unit: "packets", names: 0 },
+    Note { kernel: "TCA_GRED_VQ_STAT_PROB_MARK", unit: "packets", names: 0 },
+    Note { kernel: "TCA_GRED_VQ_STAT_FORCED_DROP", unit: "packets", names: 0 },
+    Note { kernel: "TCA_GRED_VQ_STAT_FORCED_MARK", unit: "packets", names: 0 },
+    Note { kernel: "TCA_GRED_VQ_STAT_PDROP", unit: "packets", names: 0 },
+    Note { kernel: "TCA_GRED_VQ_STAT_OTHER", unit: "packets", names: 0 },
+    Note { kernel: "TCA_GRED_VQ_FLAGS", unit: "", names: 29 },
 ];
 
 // `list hfsc`
 #[rattlefmt::skip]
 const LIST_HFSC: [Note<'static>; 3] = [
-    Note { kernel: "TCA_HFSC_RSC", unit: Unit::Plain, names: 0 },
-    Note { kernel: "TCA_HFSC_FSC", unit: Unit::Plain, names: 0 },
-    Note { kernel: "TCA_HFSC_USC", unit: Unit::Plain, names: 0 },
+    Note { kernel: "TCA_HFSC_RSC", unit: "", names: 0 },
+    Note { kernel: "TCA_HFSC_FSC", unit: "", names: 0 },
+    Note { kernel: "TCA_HFSC_USC", unit: "", names: 0 },
 ];
 
 // `struct tc_service_curve`
 #[rattlefmt::skip]
 const STRUCT_TC_SERVICE_CURVE: [Note<'static>; 3] = [
-    Note { kernel: "", unit: Unit::BytesPerSecond, names: 0 },
-    Note { kernel: "", unit: Unit::Microseconds, names: 0 },
-    Note { kernel: "", unit: Unit::BytesPerSecond, names: 0 },
+    Note { kernel: "", unit: "bytes a second", names: 0 },
+    Note { kernel: "", unit: "microseconds", names: 0 },
+    Note { kernel: "", unit: "bytes a second", names: 0 },
 ];
 
 // `struct tc_hfsc_stats`
 #[rattlefmt::skip]
 const STRUCT_TC_HFSC_STATS: [Note<'static>; 4] = [
-    Note { kernel: "", unit: Unit::Bytes, names: 0 },
-    Note { kernel: "", unit: Unit::Bytes, names: 0 },
-    Note { kernel: "", unit: Unit::Plain, names: 0 },
-    Note { kernel: "", unit: Unit::Plain, names: 0 },
+    Note { kernel: "", unit: "bytes", names: 0 },
+    Note { kernel: "", unit: "bytes", names: 0 },
+    Note { kernel: "", unit: "", names: 0 },
+    Note { kernel: "", unit: "", names: 0 },
 ];
 
 // `list hhf`
 #[rattlefmt::skip]
 const LIST_HHF: [Note<'static>; 7] = [
-    Note { kernel: "TCA_HHF_BACKLOG_LIMIT", unit: Unit::Packets, names: 0 },
-    Note { kernel: "TCA_HHF_QUANTUM", unit: Unit::Bytes, names: 0 },
-    Note { kernel: "TCA_HHF_HH_FLOWS_LIMIT", unit: Unit::Plain, names: 0 },
-    Note { kernel: "TCA_HHF_RESET_TIMEOUT", unit: Unit::Microseconds, names: 0 },
-    Note { kernel: "TCA_HHF_ADMIT_BYTES", unit: Unit::Bytes, names: 0 },
-    Note { kernel: "TCA_HHF_EVICT_TIMEOUT", unit: Unit::Microseconds, names: 0 },
-    Note { kernel: "TCA_HHF_NON_HH_WEIGHT", unit: Unit::Plain, names: 0 },
+    Note { kernel: "TCA_HHF_BACKLOG_LIMIT", unit: "packets", names: 0 },
+    Note { kernel: "TCA_HHF_QUANTUM", unit: "bytes", names: 0 },
+    Note { kernel: "TCA_HHF_HH_FLOWS_LIMIT", unit: "", names: 0 },
+    Note { kernel: "TCA_HHF_RESET_TIMEOUT", unit: "microseconds", names: 0 },
+    Note { kernel: "TCA_HHF_ADMIT_BYTES", unit: "bytes", names: 0 },
+    Note { kernel: "TCA_HHF_EVICT_TIMEOUT", unit: "microseconds", names: 0 },
+    Note { kernel: "TCA_HHF_NON_HH_WEIGHT", unit: "", names: 0 },
 ];
 
 // `list htb`
 #[rattlefmt::skip]
 const LIST_HTB: [Note<'static>; 9] = [
-    Note { kernel: "TCA_HTB_PARMS", unit: Unit::Plain, names: 0 },
-    Note { kernel: "TCA_HTB_INIT", unit: Unit::Plain, names: 0 },
-    Note { kernel: "TCA_HTB_CTAB", unit: Unit::Plain, names: 0 },
-    Note { kernel: "TCA_HTB_RTAB", unit: Unit::Plain, names: 0 },
-    Note { kernel: "TCA_HTB_DIRECT_QLEN", unit: Unit::Packets, names: 0 },
-    Note { kernel: "TCA_HTB_RATE64", unit: Unit::BytesPerSecond, names: 0 },
-    Note { kernel: "TCA_HTB_CEIL64", unit: Unit::BytesPerSecond, names: 0 },
-    Note { kernel: "TCA_HTB_PAD", unit: Unit::Plain, names: 0 },
-    Note { kernel: "TCA_HTB_OFFLOAD", unit: Unit::Plain, names: 0 },
+    Note { kernel: "TCA_HTB_PARMS", unit: "", names: 0 },
+    Note { kernel: "TCA_HTB_INIT", unit: "", names: 0 },
+    Note { kernel: "TCA_HTB_CTAB", unit: "", names: 0 },
+    Note { kernel: "TCA_HTB_RTAB", unit: "", names: 0 },
+    Note { kernel: "TCA_HTB_DIRECT_QLEN", unit: "packets", names: 0 },
+    Note { kernel: "TCA_HTB_RATE64", unit: "bytes a second", names: 0 },
+    Note { kernel: "TCA_HTB_CEIL64", unit: "bytes a second", names: 0 },
+    Note { kernel: "TCA_HTB_PAD", unit: "", names: 0 },
+    Note { kernel: "TCA_HTB_OFFLOAD", unit: "", names: 0 },
 ];
 
 // `struct tc_htb_xstats`
 #[rattlefmt::skip]
 const STRUCT_TC_HTB_XSTATS: [Note<'static>; 5] = [
-    Note { kernel: "", unit: Unit::Plain, names: 0 },
-    Note { kernel: "", unit: Unit::Plain, names: 0 },
-    Note { kernel: "", unit: Unit::Plain, names: 0 },
-    Note { kernel: "", unit: Unit::Ticks, names: 0 },
-    Note { kernel: "", unit: Unit::Ticks, names: 0 },
+    Note { kernel: "", unit: "", names: 0 },
+    Note { kernel: "", unit: "", names: 0 },
+    Note { kernel: "", unit: "", names: 0 },
+    Note { kernel: "", unit: "ticks of 64 ns", names: 0 },
+    Note { kernel: "", unit: "ticks of 64 ns", names: 0 },
 ];
 
 // `struct tc_htb_opt`
 #[rattlefmt::skip]
 const STRUCT_TC_HTB_OPT: [Note<'static>; 7] = [
-    Note { kernel: "", unit: Unit::Plain, names: 0 },
-    Note { kernel: "", unit: Unit::Plain, names: 0 },
-    Note { kernel: "", unit: Unit::Ticks, names: 0 },
-    Note { kernel: "", unit: Unit::Ticks, names: 0 },
-    Note { kernel: "", unit: Unit::Bytes, names: 0 },
-    Note { kernel: "", unit: Unit::Plain, names: 0 },
-    Note { kernel: "", unit: Unit::Plain, names: 0 },
+    Note { kernel: "", unit: "", names: 0 },
+    Note { kernel: "", unit: "", names: 0 },
+    Note { kernel: "", unit: "ticks of 64 ns", names: 0 },
+    Note { kernel: "", unit: "ticks of 64 ns", names: 0 },
+    Note { kernel: "", unit: "bytes", names: 0 },
+    Note { kernel: "", unit: "", names: 0 },
+    Note { kernel: "", unit: "", names: 0 },
 ];
 
 // `list mqprio`
 #[rattlefmt::skip]
 const LIST_MQPRIO: [Note<'static>; 5] = [
-    Note { kernel: "TCA_MQPRIO_MODE", unit: Unit::Plain, names: 0 },
-    Note { kernel: "TCA_MQPRIO_SHAPER", unit: Unit::Plain, names: 0 },
-    Note { kernel: "TCA_MQPRIO_MIN_RATE64", unit: Unit::Plain, names: 0 },
-    Note { kernel: "TCA_MQPRIO_MAX_RATE64", unit: Unit::Plain, names: 0 },
-    Note { kernel: "TCA_MQPRIO_TC_ENTRY", unit: Unit::Plain, names: 0 },
+    Note { kernel: "TCA_MQPRIO_MODE", unit: "", names: 0 },
+    Note { kernel: "TCA_MQPRIO_SHAPER", unit: "", names: 0 },
+    Note { kernel: "TCA_MQPRIO_MIN_RATE64", unit: "", names: 0 },
+    Note { kernel: "TCA_MQPRIO_MAX_RATE64", unit: "", names: 0 },
+    Note { kernel: "TCA_MQPRIO_TC_ENTRY", unit: "", names: 0 },
 ];
 
 // `enum tc_mqprio_mode`
 #[rattlefmt::skip]
 const ENUM_TC_MQPRIO_MODE: [Note<'static>; 2] = [
-    Note { kernel: "TC_MQPRIO_MODE_DCB", unit: Unit::Plain, names: 0 },
-    Note { kernel: "TC_MQPRIO_MODE_CHANNEL", unit: Unit::Plain, names: 0 },
+    Note { kernel: "TC_MQPRIO_MODE_DCB", unit: "", names: 0 },
+    Note { kernel: "TC_MQPRIO_MODE_CHANNEL", unit: "", names: 0 },
 ];
 
 // `enum tc_mqprio_shaper`
 #[rattlefmt::skip]
 const ENUM_TC_MQPRIO_SHAPER: [Note<'static>; 2] = [
-    Note { kernel: "TC_MQPRIO_SHAPER_DCB", unit: Unit::Plain, names: 0 },
-    Note { kernel: "TC_MQPRIO_SHAPER_BW_RATE", unit: Unit::Plain, names: 0 },
+    Note { kernel: "TC_MQPRIO_SHAPER_DCB", unit: "", names: 0 },
+    Note { kernel: "TC_MQPRIO_SHAPER_BW_RATE", unit: "", names: 0 },
 ];
 
 // `list mqprio_min_rate`
 #[rattlefmt::skip]
 const LIST_MQPRIO_MIN_RATE: [Note<'static>; 1] = [
-    Note { kernel: "TCA_MQPRIO_MIN_RATE64", unit: Unit::BytesPerSecond, names: 0 },
+    Note { kernel: "TCA_MQPRIO_MIN_RATE64", unit: "bytes a second", names: 0 },
 ];
 
 // `list mqprio_max_rate`
 #[rattlefmt::skip]
 const LIST_MQPRIO_MAX_RATE: [Note<'static>; 1] = [
-    Note { kernel: "TCA_MQPRIO_MAX_RATE64", unit: Unit::BytesPerSecond, names: 0 },
+    Note { kernel: "TCA_MQPRIO_MAX_RATE64", unit: "bytes a second", names: 0 },
 ];
 
 // `list mqprio_tc_entry`
 #[rattlefmt::skip]
 const LIST_MQPRIO_TC_ENTRY: [Note<'static>; 2] = [
-    Note { kernel: "TCA_MQPRIO_TC_ENTRY_INDEX", unit: Unit::Plain, names: 0 },
-    Note { kernel: "TCA_MQPRIO_TC_ENTRY_FP", unit: Unit::Plain, names: 0 },
+    Note { kernel: "TCA_MQPRIO_TC_ENTRY_INDEX", unit: "", names: 0 },
+    Note { kernel: "TCA_MQPRIO_TC_ENTRY_FP", unit: "", names: 0 },
 ];
 
 // `struct tc_netem_qopt`
 #[rattlefmt::skip]
 const STRUCT_TC_NETEM_QOPT: [Note<'static>; 7] = [
-    Note { kernel: "", unit: Unit::Ticks, names: 0 },
-    Note { kernel: "", unit: Unit::Packets, names: 0 },
-    Note { kernel: "", unit: Unit::Probability, names: 0 },
-    Note { kernel: "", unit: Unit::Packets, names: 0 },
-    Note { kernel: "", unit: Unit::Probability, names: 0 },
-    Note { kernel: "", unit: Unit::Ticks, names: 0 },
-    Note { kernel: "", unit: Unit::Plain, names: 0 },
+    Note { kernel: "", unit: "ticks of 64 ns", names: 0 },
+    Note { kernel: "", unit: "packets", names: 0 },
+    Note { kernel: "", unit: "probability, 2^-32 each", names: 0 },
+    Note { kernel: "", unit: "packets", names: 0 },
+    Note { kernel: "", unit: "probability, 2^-32 each", names: 0 },
+    Note { kernel: "", unit: "ticks of 64 ns", names: 0 },
+    Note { kernel: "", unit: "", names: 0 },
 ];
 
 // `list netem`
 #[rattlefmt::skip]
 const LIST_NETEM: [Note<'static>; 14] = [
-    Note { kernel: "TCA_NETEM_CORR", unit: Unit::Plain, names: 0 },
-    Note { kernel: "TCA_NETEM_DELAY_DIST", unit: Unit::Plain, names: 0 },
-    Note { kernel: "TCA_NETEM_REORDER", unit: Unit::Plain, names: 0 },
-    Note { kernel: "TCA_NETEM_CORRUPT", unit: Unit::Plain, names: 0 },
-    Note { kernel: "TCA_NETEM_LOSS", unit: Unit::Plain, names: 0 },
-    Note { kernel: "TCA_NETEM_RATE", unit: Unit::Plain, names: 0 },
-    Note { kernel: "TCA_NETEM_ECN", unit: Unit::Plain, names: 0 },
-    Note { kernel: "TCA_NETEM_RATE64", unit: Unit::BytesPerSecond, names: 0 },
-    Note { kernel: "TCA_NETEM_PAD", unit: Unit::Plain, names: 0 },
-    Note { kernel: "TCA_NETEM_LATENCY64", unit: Unit::Nanoseconds, names: 0 },
-    Note { kernel: "TCA_NETEM_JITTER64", unit: Unit::Nanoseconds, names: 0 },
-    Note { kernel: "TCA_NETEM_SLOT", unit: Unit::Plain, names: 0 },
-    Note { kernel: "TCA_NETEM_SLOT_DIST", unit: Unit::Plain, names: 0 },
-    Note { kernel: "TCA_NETEM_PRNG_SEED", unit: Unit::Plain, names: 0 },
+    Note { kernel: "TCA_NETEM_CORR", unit: "", names: 0 },
+    Note { kernel: "TCA_NETEM_DELAY_DIST", unit: "", names: 0 },
+    Note { kernel: "TCA_NETEM_REORDER", unit: "", names: 0 },
+    Note { kernel: "TCA_NETEM_CORRUPT", unit: "", names: 0 },
+    Note { kernel: "TCA_NETEM_LOSS", unit: "", names: 0 },
+    Note { kernel: "TCA_NETEM_RATE", unit: "", names: 0 },
+    Note { kernel: "TCA_NETEM_ECN", unit: "", names: 0 },
+    Note { kernel: "TCA_NETEM_RATE64", unit: "bytes a second", names: 0 },
+    Note { kernel: "TCA_NETEM_PAD", unit: "", names: 0 },
+    Note { kernel: "TCA_NETEM_LATENCY64", unit: "nanoseconds", names: 0 },
+    Note { kernel: "TCA_NETEM_JITTER64", unit: "nanoseconds", names: 0 },
+    Note { kernel: "TCA_NETEM_SLOT", unit: "", names: 0 },
+    Note { kernel: "TCA_NETEM_SLOT_DIST", unit: "", names: 0 },
+    Note { kernel: "TCA_NETEM_PRNG_SEED", unit: "", names: 0 },
 ];
 
 // `struct tc_netem_corr`
 #[rattlefmt::skip]
 const STRUCT_TC_NETEM_CORR: [Note<'static>; 3] = [
-    Note { kernel: "", unit: Unit::Probability, names: 0 },
-    Note { kernel: "", unit: Unit::Probability, names: 0 },
-    Note { kernel: "", unit: Unit::Probability, names: 0 },
+    Note { kernel: "", unit: "probability, 2^-32 each", names: 0 },
+    Note { kernel: "", unit: "probability, 2^-32 each", names: 0 },
+    Note { kernel: "", unit: "probability, 2^-32 each", names: 0 },
 ];
 
 // `struct tc_netem_reorder`
 #[rattlefmt::skip]
 const STRUCT_TC_NETEM_REORDER: [Note<'static>; 2] = [
-    Note { kernel: "", unit: Unit::Probability, names: 0 },
-    Note { kernel: "", unit: Unit::Probability, names: 0 },
+    Note { kernel: "", unit: "probability, 2^-32 each", names: 0 },
+    Note { kernel: "", unit: "probability, 2^-32 each", names: 0 },
 ];
 
 // `list netem_loss`
 #[rattlefmt::skip]
 const LIST_NETEM_LOSS: [Note<'static>; 2] = [
-    Note { kernel: "NETEM_LOSS_GI", unit: Unit::Plain, names: 0 },
-    Note { kernel: "NETEM_LOSS_GE", unit: Unit::Plain, names: 0 },
+    Note { kernel: "NETEM_LOSS_GI", unit: "", names: 0 },
+    Note { kernel: "NETEM_LOSS_GE", unit: "", names: 0 },
 ];
 
 // `struct tc_netem_gimodel`
 #[rattlefmt::skip]
 const STRUCT_TC_NETEM_GIMODEL: [Note<'static>; 5] = [
-    Note { kernel: "", unit: Unit::Probability, names: 0 },
-    Note { kernel: "", unit: Unit::Probability, names: 0 },
-    Note { kernel: "", unit: Unit::Probability, names: 0 },
-    Note { kernel: "", unit: Unit::Probability, names: 0 },
-    Note { kernel: "", unit: Unit::Probability, names: 0 },
+    Note { kernel: "", unit: "probability, 2^-32 each", names: 0 },
+    Note { kernel: "", unit: "probability, 2^-32 each", names: 0 },
+    Note { kernel: "", unit: "probability, 2^-32 each", names: 0 },
+    Note { kernel: "", unit: "probability, 2^-32 each", names: 0 },
+    Note { kernel: "", unit: "probability, 2^-32 each", names: 0 },
 ];
 
 // `struct tc_netem_gemodel`
 #[rattlefmt::skip]
 const STRUCT_TC_NETEM_GEMODEL: [Note<'static>; 4] = [
-    Note { kernel: "", unit: Unit::Probability, names: 0 },
-    Note { kernel: "", unit: Unit::Probability, names: 0 },
-    Note { kernel: "", unit: Unit::Probability, names: 0 },
-    Note { kernel: "", unit: Unit::Probability, names: 0 },
+    Note { kernel: "", unit: "probability, 2^-32 each", names: 0 },
+    Note { kernel: "", unit: "probability, 2^-32 each", names: 0 },
+    Note { kernel: "", unit: "probability, 2^-32 each", names: 0 },
+    Note { kernel: "", unit: "probability, 2^-32 each", names: 0 },
 ];
 
 // `struct tc_netem_rate`
 #[rattlefmt::skip]
 const STRUCT_TC_NETEM_RATE: [Note<'static>; 4] = [
-    Note { kernel: "", unit: Unit::BytesPerSecond, names: 0 },
-    Note { kernel: "", unit: Unit::Bytes, names: 0 },
-    Note { kernel: "", unit: Unit::Bytes, names: 0 },
-    Note { kernel: "", unit: Unit::Bytes, names: 0 },
+    Note { kernel: "", unit: "bytes a second", names: 0 },
+    Note { kernel: "", unit: "bytes", names: 0 },
+    Note { kernel: "", unit: "bytes", names: 0 },
+    Note { kernel: "", unit: "bytes", names: 0 },
 ];
 
 // `struct tc_netem_slot`
 #[rattlefmt::skip]
 const STRUCT_TC_NETEM_SLOT: [Note<'static>; 6] = [
-    Note { kernel: "", unit: Unit::Nanoseconds, names: 0 },
-    Note { kernel: "", unit: Unit::Nanoseconds, names: 0 },
-    Note { kernel: "", unit: Unit::Packets, names: 0 },
-    Note { kernel: "", unit: Unit::Bytes, names: 0 },
-    Note { kernel: "", unit: Unit::Nanoseconds, names: 0 },
-    Note { kernel: "", unit: Unit::Nanoseconds, names: 0 },
+    Note { kernel: "", unit: "nanoseconds", names: 0 },
+    Note { kernel: "", unit: "nanoseconds", names: 0 },
+    Note { kernel: "", unit: "packets", names: 0 },
+    Note { kernel: "", unit: "bytes", names: 0 },
+    Note { kernel: "", unit: "nanoseconds", names: 0 },
+    Note { kernel: "", unit: "nanoseconds", names: 0 },
 ];
 
 // `list pie`
 #[rattlefmt::skip]
 const LIST_PIE: [Note<'static>; 8] = [
-    Note { kernel: "TCA_PIE_TARGET", unit: Unit::Microseconds, names: 0 },
-    Note { kernel: "TCA_PIE_LIMIT", unit: Unit::Packets, names: 0 },
-    Note { kernel: "TCA_PIE_TUPDATE", unit: Unit::Microseconds, names: 0 },
-    Note { kernel: "TCA_PIE_ALPHA", unit: Unit::Plain, names: 0 },
-    Note { kernel: "TCA_PIE_BETA", unit: Unit::Plain, names: 0 },
-    Note { kernel: "TCA_PIE_ECN", unit: Unit::Plain, names: 0 },
-    Note { kernel: "TCA_PIE_BYTEMODE", unit: Unit::Plain, names: 0 },
-    Note { kernel: "TCA_PIE_DQ_RATE_ESTIMATOR", unit: Unit::Plain, names: 0 },
+    Note { kernel: "TCA_PIE_TARGET", unit: "microseconds", names: 0 },
+    Note { kernel: "TCA_PIE_LIMIT", unit: "packets", names: 0 },
+    Note { kernel: "TCA_PIE_TUPDATE", unit: "microseconds", names: 0 },
+    Note { kernel: "TCA_PIE_ALPHA", unit: "", names: 0 },
+    Note { kernel: "TCA_PIE_BETA", unit: "", names: 0 },
+    Note { kernel: "TCA_PIE_ECN", unit: "", names: 0 },
+    Note { kernel: "TCA_PIE_BYTEMODE", unit: "", names: 0 },
+    Note { kernel: "TCA_PIE_DQ_RATE_ESTIMATOR", unit: "", names: 0 },
 ];
 
 // `struct tc_pie_xstats`
 #[rattlefmt::skip]
 const STRUCT_TC_PIE_XSTATS: [Note<'static>; 9] = [
-    Note { kernel: "", unit: Unit::Plain, names: 0 },
-    Note { kernel: "", unit: Unit::Microseconds, names: 0 },
-    Note { kernel: "", unit: Unit::BytesPerSecond, names: 0 },
-    Note { kernel: "", unit: Unit::Plain, names: 0 },
-    Note { kernel: "", unit: Unit::Plain, names: 0 },
-    Note { kernel: "", unit: Unit::Plain, names: 0 },
-    Note { kernel: "", unit: Unit::Plain, names: 0 },
-    Note { kernel: "", unit: Unit::Plain, names: 0 },
-    Note { kernel: "", unit: Unit::Plain, names: 0 },
+    Note { kernel: "", unit: "", names: 0 },
+    Note { kernel: "", unit: "microseconds", names: 0 },
+    Note { kernel: "", unit: "bytes a second", names: 0 },
+    Note { kernel: "", unit: "", names: 0 },
+    Note { kernel: "", unit: "", names: 0 },
+    Note { kernel: "", unit: "", names: 0 },
+    Note { kernel: "", unit: "", names: 0 },
+    Note { kernel: "", unit: "", names: 0 },
+    Note { kernel: "", unit: "", names: 0 },
 ];
 
 // `struct tc_plug_qopt`
 #[rattlefmt::skip]
 const STRUCT_TC_PLUG_QOPT: [Note<'static>; 2] = [
-    Note { kernel: "", unit: Unit::Plain, names: 0 },
-    Note { kernel: "", unit: Unit::Bytes, names: 0 },
+    Note { kernel: "", unit: "", names: 0 },
+    Note { kernel: "", unit: "bytes", names: 0 },
 ];
 
 // `enum tcq_plug`
 #[rattlefmt::skip]
 const ENUM_TCQ_PLUG: [Note<'static>; 4] = [
-    Note { kernel: "TCQ_PLUG_BUFFER", unit: Unit::Plain, names: 0 },
-    Note { kernel: "TCQ_PLUG_RELEASE_ONE", unit: Unit::Plain, names: 0 },
-    Note { kernel: "TCQ_PLUG_RELEASE_INDEFINITE", unit: Unit::Plain, names: 0 },
-    Note { kernel: "TCQ_PLUG_LIMIT", unit: Unit::Plain, names: 0 },
+    Note { kernel: "TCQ_PLUG_BUFFER", unit: "", names: 0 },
+    Note { kernel: "TCQ_PLUG_RELEASE_ONE", unit: "", names: 0 },
+    Note { kernel: "TCQ_PLUG_RELEASE_INDEFINITE", unit: "", names: 0 },
+    Note { kernel: "TCQ_PLUG_LIMIT", unit: "", names: 0 },
 ];
 
 // `list prio`
 #[rattlefmt::skip]
 const LIST_PRIO: [Note<'static>; 1] = [
-    Note { kernel: "TCA_OPTIONS", unit: Unit::Plain, names: 0 },
+    Note { kernel: "TCA_OPTIONS", unit: "", names: 0 },
 ];
 
 // `list qfq`
 #[rattlefmt::skip]
 const LIST_QFQ: [Note<'static>; 2] = [
-    Note { kernel: "TCA_QFQ_WEIGHT", unit: Unit::Plain, names: 0 },
-    Note { kernel: "TCA_QFQ_LMAX", unit: Unit::Bytes, names: 0 },
+    Note { kernel: "TCA_QFQ_WEIGHT", unit: "", names: 0 },
+    Note { kernel: "TCA_QFQ_LMAX", unit: "bytes", names: 0 },
 ];
 
 // `list red`
 #[rattlefmt::skip]
 const LIST_RED: [Note<'static>; 6] = [
-    Note { kernel: "TCA_RED_PARMS", unit: Unit::Plain, names: 0 },
-    Note { kernel: "TCA_RED_STAB", unit: Unit::Plain, names: 0 },
-    Note { kernel: "TCA_RED_MAX_P", unit: Unit::Probability, names: 0 },
-    Note { kernel: "TCA_RED_FLAGS", unit: Unit::Plain, names: 0 },
-    Note { kernel: "TCA_RED_EARLY_DROP_BLOCK", unit: Unit::Plain, names: 0 },
-    Note { kernel: "TCA_RED_MARK_BLOCK", unit: Unit::Plain, names: 0 },
+    Note { kernel: "TCA_RED_PARMS", unit: "", names: 0 },
+    Note { kernel: "TCA_RED_STAB", unit: "", names: 0 },
+    Note { kernel: "TCA_RED_MAX_P", unit: "probability, 2^-32 each", names: 0 },
+    Note { kernel: "TCA_RED_FLAGS", unit: "", names: 0 },
+    Note { kernel: "TCA_RED_EARLY_DROP_BLOCK", unit: "", names: 0 },
+    Note { kernel: "TCA_RED_MARK_BLOCK", unit: "", names: 0 },
 ];
 
 // `struct tc_red_qopt`
 #[rattlefmt::skip]
 const STRUCT_TC_RED_QOPT: [Note<'static>; 7] = [
-    Note { kernel: "", unit: Unit::Bytes, names: 0 },
-    Note { kernel: "", unit: Unit::Bytes, names: 0 },
-    Note { kernel: "", unit: Unit::Bytes, names: 0 },
-    Note { kernel: "", unit: Unit::Power, names: 0 },
-    Note { kernel: "", unit: Unit::Power, names: 0 },
-    Note { kernel: "", unit: Unit::Power, names: 0 },
-    Note { kernel: "", unit: Unit::Plain, names: 29 },
+    Note { kernel: "", unit: "bytes", names: 0 },
+    Note { kernel: "", unit: "bytes", names: 0 },
+    Note { kernel: "", unit: "bytes", names: 0 },
+    Note { kernel: "", unit: "exponent of 2", names: 0 },
+    Note { kernel: "", unit: "exponent of 2", names: 0 },
+    Note { kernel: "", unit: "exponent of 2", names: 0 },
+    Note { kernel: "", unit: "", names: 29 },
 ];
 
 // `struct tca_red_flags`
 #[rattlefmt::skip]
 const STRUCT_TCA_RED_FLAGS: [Note<'static>; 2] = [
-    Note { kernel: "", unit: Unit::Plain, names: 29 },
-    Note { kernel: "", unit: Unit::Plain, names: 29 },
+    Note { kernel: "", unit: "", names: 29 },
+    Note { kernel: "", unit: "", names: 29 },
 ];
 
 // `struct tc_red_xstats`
 #[rattlefmt::skip]
 const STRUCT_TC_RED_XSTATS: [Note<'static>; 4] = [
-    Note { kernel: "", unit: Unit::Packets, names: 0 },
-    Note { kernel: "", unit: Unit::Packets, names: 0 },
-    Note { kernel: "", unit: Unit::Packets, names: 0 },
-    Note { kernel: "", unit: Unit::Packets, names: 0 },
+    Note { kernel: "", unit: "packets", names: 0 },
+    Note { kernel: "", unit: "packets", names: 0 },
+    Note { kernel: "", unit: "packets", names: 0 },
+    Note { kernel: "", unit: "packets", names: 0 },
 ];
 
 // `list sfb`
 #[rattlefmt::skip]
 const LIST_SFB: [Note<'static>; 1] = [
-    Note { kernel: "TCA_SFB_PARMS", unit: Unit::Plain, names: 0 },
+    Note { kernel: "TCA_SFB_PARMS", unit: "", names: 0 },
 ];
 
 // `struct tc_sfb_xstats`
 #[rattlefmt::skip]
 const STRUCT_TC_SFB_XSTATS: [Note<'static>; 9] = [
-    Note { kernel: "", unit: Unit::Plain, names: 0 },
-    Note { kernel: "", unit: Unit::Plain, names: 0 },
-    Note { kernel: "", unit: Unit::Plain, names: 0 },
-    Note { kernel: "", unit: Unit::Plain, names: 0 },
-    Note { kernel: "", unit: Unit::Plain, names: 0 },
-    Note { kernel: "", unit: Unit::Plain, names: 0 },
-    Note { kernel: "", unit: Unit::Packets, names: 0 },
-    Note { kernel: "", unit: Unit::Plain, names: 0 },
-    Note { kernel: "", unit: Unit::Plain, names: 0 },
+    Note { kernel: "", unit: "", names: 0 },
+    Note { kernel: "", unit: "", names: 0 },
+    Note { kernel: "", unit: "", names: 0 },
+    Note { kernel: "", unit: "", names: 0 },
+    Note { kernel: "", unit: "", names: 0 },
+    Note { kernel: "", unit: "", names: 0 },
+    Note { kernel: "", unit: "packets", names: 0 },
+    Note { kernel: "", unit: "", names: 0 },
+    Note { kernel: "", unit: "", names: 0 },
 ];
 
 // `struct tc_sfb_qopt`
 #[rattlefmt::skip]
 const STRUCT_TC_SFB_QOPT: [Note<'static>; 9] = [
-    Note { kernel: "", unit: Unit::Milliseconds, names: 0 },
-    Note { kernel: "", unit: Unit::Milliseconds, names: 0 },
-    Note { kernel: "", unit: Unit::Packets, names: 0 },
-    Note { kernel: "", unit: Unit::Packets, names: 0 },
-    Note { kernel: "", unit: Unit::Plain, names: 0 },
-    Note { kernel: "", unit: Unit::Plain, names: 0 },
-    Note { kernel: "", unit: Unit::Packets, names: 0 },
-    Note { kernel: "", unit: Unit::PacketsPerSecond, names: 0 },
-    Note { kernel: "", unit: Unit::Packets, names: 0 },
+    Note { kernel: "", unit: "milliseconds", names: 0 },
+    Note { kernel: "", unit: "milliseconds", names: 0 },
+    Note { kernel: "", unit: "packets", names: 0 },
+    Note { kernel: "", unit: "packets", names: 0 },
+    Note { kernel: "", unit: "", names: 0 },
+    Note { kernel: "", unit: "", names: 0 },
+    Note { kernel: "", unit: "packets", names: 0 },
+    Note { kernel: "", unit: "packets a second", names: 0 },
+    Note { kernel: "", unit: "packets", names: 0 },
 ];
 
 // `struct tc_sfq_qopt`
 #[rattlefmt::skip]
 const STRUCT_TC_SFQ_QOPT: [Note<'static>; 5] = [
-    Note { kernel: "", unit: Unit::Bytes, names: 0 },
-    Note { kernel: "", unit: Unit::Seconds, names: 0 },
-    Note { kernel: "", unit: Unit::Packets, names: 0 },
-    Note { kernel: "", unit: Unit::Plain, names: 0 },
-    Note { kernel: "", unit: Unit::Plain, names: 0 },
+    Note { kernel: "", unit: "bytes", names: 0 },
+    Note { kernel: "", unit: "seconds", names: 0 },
+    Note { kernel: "", unit: "packets", names: 0 },
+    Note { kernel: "", unit: "", names: 0 },
+    Note { kernel: "", unit: "", names: 0 },
 ];
 
 // `struct tc_sfq_qopt_v1`
 #[rattlefmt::skip]
 const STRUCT_TC_SFQ_QOPT_V1: [Note<'static>; 12] = [
-    Note { kernel: "", unit: Unit::Plain, names: 0 },
-    Note { kernel: "", unit: Unit::Packets, names: 0 },
-    Note { kernel: "", unit: Unit::Plain, names: 0 },
-    Note { kernel: "", unit: Unit::Bytes, names: 0 },
-    Note { kernel: "", unit: Unit::Bytes, names: 0 },
-    Note { kernel: "", unit: Unit::Bytes, names: 0 },
-    Note { kernel: "", unit: Unit::Power, names: 0 },
-    Note { kernel: "", unit: Unit::Power, names: 0 },
-    Note { kernel: "", unit: Unit::Power, names: 0 },
-    Note { kernel: "", unit: Unit::Plain, names: 29 },
-    Note { kernel: "", unit: Unit::Probability, names: 0 },
-    Note { kernel: "", unit: Unit::Plain, names: 0 },
+    Note { kernel: "", unit: "", names: 0 },
+    Note { kernel: "", unit: "packets", names: 0 },
+    Note { kernel: "", unit: "", names: 0 },
+    Note { kernel: "", unit: "bytes", names: 0 },
+    Note { kernel: "", unit: "bytes", names: 0 },
+    Note { kernel: "", unit: "bytes", names: 0 },
+    Note { kernel: "", unit: "exponent of 2", names: 0 },
+    Note { kernel: "", unit: "exponent of 2", names: 0 },
+    Note { kernel: "", unit: "exponent of 2", names: 0 },
+    Note { kernel: "", unit: "", names: 29 },
+    Note { kernel: "", unit: "probability, 2^-32 each", names: 0 },
+    Note { kernel: "", unit: "", names: 0 },
 ];
 
 // `struct tc_sfqred_stats`
 #[rattlefmt::skip]
 const STRUCT_TC_SFQRED_STATS: [Note<'static>; 6] = [
-    Note { kernel: "", unit: Unit::Packets, names: 0 },
-    Note { kernel: "", unit: Unit::Packets, names: 0 },
-    Note { kernel: "", unit: Unit::Packets, names: 0 },
-    Note { kernel: "", unit: Unit::Packets, names: 0 },
-    Note { kernel: "", unit: Unit::Packets, names: 0 },
-    Note { kernel: "", unit: Unit::Packets, names: 0 },
+    Note { kernel: "", unit: "packets", names: 0 },
+    Note { kernel: "", unit: "packets", names: 0 },
+    Note { kernel: "", unit: "packets", names: 0 },
+    Note { kernel: "", unit: "packets", names: 0 },
+    Note { kernel: "", unit: "packets", names: 0 },
+    Note { kernel: "", unit: "packets", names: 0 },
 ];
 
 // `bits taprio_flag`
@@ -3067,182 +3067,182 @@ const BITS_TAPRIO_FLAG: [Named<'static>; 2] = [
 // `list taprio`
 #[rattlefmt::skip]
 const LIST_TAPRIO: [Note<'static>; 12] = [
-    Note { kernel: "TCA_TAPRIO_ATTR_PRIOMAP", unit: Unit::Plain, names: 0 },
-    Note { kernel: "TCA_TAPRIO_ATTR_SCHED_ENTRY_LIST", unit: Unit::Plain, names: 0 },
-    Note { kernel: "TCA_TAPRIO_ATTR_SCHED_BASE_TIME", unit: Unit::Nanoseconds, names: 0 },
-    Note { kernel: "TCA_TAPRIO_ATTR_SCHED_SINGLE_ENTRY", unit: Unit::Plain, names: 0 },
-    Note { kernel: "TCA_TAPRIO_ATTR_SCHED_CLOCKID", unit: Unit::Plain, names: 6 },
-    Note { kernel: "TCA_TAPRIO_PAD", unit: Unit::Plain, names: 0 },
-    Note { kernel: "TCA_TAPRIO_ATTR_ADMIN_SCHED", unit: Unit::Plain, names: 0 },
-    Note { kernel: "TCA_TAPRIO_ATTR_SCHED_CYCLE_TIME", unit: Unit::Nanoseconds, names: 0 },
-    Note { kernel: "TCA_TAPRIO_ATTR_SCHED_CYCLE_TIME_EXTENSION", unit: Unit::Nanoseconds, names: 0 },
-    Note { kernel: "TCA_TAPRIO_ATTR_FLAGS", unit: Unit::Plain, names: 31 },
-    Note { kernel: "TCA_TAPRIO_ATTR_TXTIME_DELAY", unit: Unit::Nanoseconds, names: 0 },
-    Note { kernel: "TCA_TAPRIO_ATTR_TC_ENTRY", unit: Unit::Plain, names: 0 },
+    Note { kernel: "TCA_TAPRIO_ATTR_PRIOMAP", unit: "", names: 0 },
+    Note { kernel: "TCA_TAPRIO_ATTR_SCHED_ENTRY_LIST", unit: "", names: 0 },
+    Note { kernel: "TCA_TAPRIO_ATTR_SCHED_BASE_TIME", unit: "nanoseconds", names: 0 },
+    Note { kernel: "TCA_TAPRIO_ATTR_SCHED_SINGLE_ENTRY", unit: "", names: 0 },
+    Note { kernel: "TCA_TAPRIO_ATTR_SCHED_CLOCKID", unit: "", names: 6 },
+    Note { kernel: "TCA_TAPRIO_PAD", unit: "", names: 0 },
+    Note { kernel: "TCA_TAPRIO_ATTR_ADMIN_SCHED", unit: "", names: 0 },
+    Note { kernel: "TCA_TAPRIO_ATTR_SCHED_CYCLE_TIME", unit: "nanoseconds", names: 0 },
+    Note { kernel: "TCA_TAPRIO_ATTR_SCHED_CYCLE_TIME_EXTENSION", unit: "nanoseconds", names: 0 },
+    Note { kernel: "TCA_TAPRIO_ATTR_FLAGS", unit: "", names: 31 },
+    Note { kernel: "TCA_TAPRIO_ATTR_TXTIME_DELAY", unit: "nanoseconds", names: 0 },
+    Note { kernel: "TCA_TAPRIO_ATTR_TC_ENTRY", unit: "", names: 0 },
 ];
 
 // `list taprio_entry_list`
 #[rattlefmt::skip]
 const LIST_TAPRIO_ENTRY_LIST: [Note<'static>; 1] = [
-    Note { kernel: "TCA_TAPRIO_SCHED_ENTRY", unit: Unit::Plain, names: 0 },
+    Note { kernel: "TCA_TAPRIO_SCHED_ENTRY", unit: "", names: 0 },
 ];
 
 // `list taprio_entry`
 #[rattlefmt::skip]
 const LIST_TAPRIO_ENTRY: [Note<'static>; 4] = [
-    Note { kernel: "TCA_TAPRIO_SCHED_ENTRY_INDEX", unit: Unit::Plain, names: 0 },
-    Note { kernel: "TCA_TAPRIO_SCHED_ENTRY_CMD", unit: Unit::Plain, names: 0 },
-    Note { kernel: "TCA_TAPRIO_SCHED_ENTRY_GATE_MASK", unit: Unit::Plain, names: 0 },
-    Note { kernel: "TCA_TAPRIO_SCHED_ENTRY_INTERVAL", unit: Unit::Nanoseconds, names: 0 },
+    Note { kernel: "TCA_TAPRIO_SCHED_ENTRY_INDEX", unit: "", names: 0 },
+    Note { kernel: "TCA_TAPRIO_SCHED_ENTRY_CMD", unit: "", names: 0 },
+    Note { kernel: "TCA_TAPRIO_SCHED_ENTRY_GATE_MASK", unit: "", names: 0 },
+    Note { kernel: "TCA_TAPRIO_SCHED_ENTRY_INTERVAL", unit: "nanoseconds", names: 0 },
 ];
 
 // `enum tc_taprio_cmd`
 #[rattlefmt::skip]
 const ENUM_TC_TAPRIO_CMD: [Note<'static>; 3] = [
-    Note { kernel: "TC_TAPRIO_CMD_SET_GATES", unit: Unit::Plain, names: 0 },
-    Note { kernel: "TC_TAPRIO_CMD_SET_AND_HOLD", unit: Unit::Plain, names: 0 },
-    Note { kernel: "TC_TAPRIO_CMD_SET_AND_RELEASE", unit: Unit::Plain, names: 0 },
+    Note { kernel: "TC_TAPRIO_CMD_SET_GATES", unit: "", names: 0 },
+    Note { kernel: "TC_TAPRIO_CMD_SET_AND_HOLD", unit: "", names: 0 },
+    Note { kernel: "TC_TAPRIO_CMD_SET_AND_RELEASE", unit: "", names: 0 },
 ];
 
 // `list taprio_tc_entry`
 #[rattlefmt::skip]
 const LIST_TAPRIO_TC_ENTRY: [Note<'static>; 3] = [
-    Note { kernel: "TCA_TAPRIO_TC_ENTRY_INDEX", unit: Unit::Plain, names: 0 },
-    Note { kernel: "TCA_TAPRIO_TC_ENTRY_MAX_SDU", unit: Unit::Bytes, names: 0 },
-    Note { kernel: "TCA_TAPRIO_TC_ENTRY_FP", unit: Unit::Plain, names: 0 },
+    Note { kernel: "TCA_TAPRIO_TC_ENTRY_INDEX", unit: "", names: 0 },
+    Note { kernel: "TCA_TAPRIO_TC_ENTRY_MAX_SDU", unit: "bytes", names: 0 },
+    Note { kernel: "TCA_TAPRIO_TC_ENTRY_FP", unit: "", names: 0 },
 ];
 
 // `list taprio_stats`
 #[rattlefmt::skip]
 const LIST_TAPRIO_STATS: [Note<'static>; 3] = [
-    Note { kernel: "TCA_TAPRIO_OFFLOAD_STATS_PAD", unit: Unit::Plain, names: 0 },
-    Note { kernel: "TCA_TAPRIO_OFFLOAD_STATS_WINDOW_DROPS", unit: Unit::Packets, names: 0 },
-    Note { kernel: "TCA_TAPRIO_OFFLOAD_STATS_TX_OVERRUNS", unit: Unit::Packets, names: 0 },
+    Note { kernel: "TCA_TAPRIO_OFFLOAD_STATS_PAD", unit: "", names: 0 },
+    Note { kernel: "TCA_TAPRIO_OFFLOAD_STATS_WINDOW_DROPS", unit: "packets", names: 0 },
+    Note { kernel: "TCA_TAPRIO_OFFLOAD_STATS_TX_OVERRUNS", unit: "packets", names: 0 },
 ];
 
 // `list tbf`
 #[rattlefmt::skip]
 const LIST_TBF: [Note<'static>; 8] = [
-    Note { kernel: "TCA_TBF_PARMS", unit: Unit::Plain, names: 0 },
-    Note { kernel: "TCA_TBF_RTAB", unit: Unit::Plain, names: 0 },
-    Note { kernel: "TCA_TBF_PTAB", unit: Unit::Plain, names: 0 },
-    Note { kernel: "TCA_TBF_RATE64", unit: Unit::BytesPerSecond, names: 0 },
-    Note { kernel: "TCA_TBF_PRATE64", unit: Unit::BytesPerSecond, names: 0 },
-    Note { kernel: "TCA_TBF_BURST", unit: Unit::Bytes, names: 0 },
-    Note { kernel: "TCA_TBF_PBURST", unit: Unit::Bytes, names: 0 },
-    Note { kernel: "TCA_TBF_PAD", unit: Unit::Plain, names: 0 },
+    Note { kernel: "TCA_TBF_PARMS", unit: "", names: 0 },
+    Note { kernel: "TCA_TBF_RTAB", unit: "", names: 0 },
+    Note { kernel: "TCA_TBF_PTAB", unit: "", names: 0 },
+    Note { kernel: "TCA_TBF_RATE64", unit: "bytes a second", names: 0 },
+    Note { kernel: "TCA_TBF_PRATE64", unit: "bytes a second", names: 0 },
+    Note { kernel: "TCA_TBF_BURST", unit: "bytes", names: 0 },
+    Note { kernel: "TCA_TBF_PBURST", unit: "bytes", names: 0 },
+    Note { kernel: "TCA_TBF_PAD", unit: "", names: 0 },
 ];
 
 // `struct tc_tbf_qopt`
 #[rattlefmt::skip]
 const STRUCT_TC_TBF_QOPT: [Note<'static>; 5] = [
-    Note { kernel: "", unit: Unit::Plain, names: 0 },
-    Note { kernel: "", unit: Unit::Plain, names: 0 },
-    Note { kernel: "", unit: Unit::Bytes, names: 0 },
-    Note { kernel: "", unit: Unit::Ticks, names: 0 },
-    Note { kernel: "", unit: Unit::Ticks, names: 0 },
+    Note { kernel: "", unit: "", names: 0 },
+    Note { kernel: "", unit: "", names: 0 },
+    Note { kernel: "", unit: "bytes", names: 0 },
+    Note { kernel: "", unit: "ticks of 64 ns", names: 0 },
+    Note { kernel: "", unit: "ticks of 64 ns", names: 0 },
 ];
 
 // `struct tc_ratespec`
 #[rattlefmt::skip]
 const STRUCT_TC_RATESPEC: [Note<'static>; 6] = [
-    Note { kernel: "", unit: Unit::Power, names: 0 },
-    Note { kernel: "", unit: Unit::Plain, names: 0 },
-    Note { kernel: "", unit: Unit::Bytes, names: 0 },
-    Note { kernel: "", unit: Unit::Plain, names: 0 },
-    Note { kernel: "", unit: Unit::Bytes, names: 0 },
-    Note { kernel: "", unit: Unit::BytesPerSecond, names: 0 },
+    Note { kernel: "", unit: "exponent of 2", names: 0 },
+    Note { kernel: "", unit: "", names: 0 },
+    Note { kernel: "", unit: "bytes", names: 0 },
+    Note { kernel: "", unit: "", names: 0 },
+    Note { kernel: "", unit: "bytes", names: 0 },
+    Note { kernel: "", unit: "bytes a second", names: 0 },
 ];
 
 // `enum tc_linklayer`
 #[rattlefmt::skip]
 const ENUM_TC_LINKLAYER: [Note<'static>; 3] = [
-    Note { kernel: "TC_LINKLAYER_UNAWARE", unit: Unit::Plain, names: 0 },
-    Note { kernel: "TC_LINKLAYER_ETHERNET", unit: Unit::Plain, names: 0 },
-    Note { kernel: "TC_LINKLAYER_ATM", unit: Unit::Plain, names: 0 },
+    Note { kernel: "TC_LINKLAYER_UNAWARE", unit: "", names: 0 },
+    Note { kernel: "TC_LINKLAYER_ETHERNET", unit: "", names: 0 },
+    Note { kernel: "TC_LINKLAYER_ATM", unit: "", names: 0 },
 ];
 
 // `list stab`
 #[rattlefmt::skip]
 const LIST_STAB: [Note<'static>; 2] = [
-    Note { kernel: "TCA_STAB_BASE", unit: Unit::Plain, names: 0 },
-    Note { kernel: "TCA_STAB_DATA", unit: Unit::Plain, names: 0 },
+    Note { kernel: "TCA_STAB_BASE", unit: "", names: 0 },
+    Note { kernel: "TCA_STAB_DATA", unit: "", names: 0 },
 ];
 
 // `struct tc_sizespec`
 #[rattlefmt::skip]
 const STRUCT_TC_SIZESPEC: [Note<'static>; 8] = [
-    Note { kernel: "", unit: Unit::Power, names: 0 },
-    Note { kernel: "", unit: Unit::Power, names: 0 },
-    Note { kernel: "", unit: Unit::Plain, names: 0 },
-    Note { kernel: "", unit: Unit::Bytes, names: 0 },
-    Note { kernel: "", unit: Unit::Plain, names: 0 },
-    Note { kernel: "", unit: Unit::Bytes, names: 0 },
-    Note { kernel: "", unit: Unit::Bytes, names: 0 },
-    Note { kernel: "", unit: Unit::Plain, names: 0 },
+    Note { kernel: "", unit: "exponent of 2", names: 0 },
+    Note { kernel: "", unit: "exponent of 2", names: 0 },
+    Note { kernel: "", unit: "", names: 0 },
+    Note { kernel: "", unit: "bytes", names: 0 },
+    Note { kernel: "", unit: "", names: 0 },
+    Note { kernel: "", unit: "bytes", names: 0 },
+    Note { kernel: "", unit: "bytes", names: 0 },
+    Note { kernel: "", unit: "", names: 0 },
 ];
 
 // `struct tc_estimator`
 #[rattlefmt::skip]
 const STRUCT_TC_ESTIMATOR: [Note<'static>; 2] = [
-    Note { kernel: "", unit: Unit::Power, names: 0 },
-    Note { kernel: "", unit: Unit::Power, names: 0 },
+    Note { kernel: "", unit: "exponent of 2", names: 0 },
+    Note { kernel: "", unit: "exponent of 2", names: 0 },
 ];
 
 // `enum tc_fp`
 #[rattlefmt::skip]
 const ENUM_TC_FP: [Note<'static>; 2] = [
-    Note { kernel: "TC_FP_EXPRESS", unit: Unit::Plain, names: 0 },
-    Note { kernel: "TC_FP_PREEMPTIBLE", unit: Unit::Plain, names: 0 },
+    Note { kernel: "TC_FP_EXPRESS", unit: "", names: 0 },
+    Note { kernel: "TC_FP_PREEMPTIBLE", unit: "", names: 0 },
 ];
 
 // `struct tc_stats`
 #[rattlefmt::skip]
 const STRUCT_TC_STATS: [Note<'static>; 9] = [
-    Note { kernel: "", unit: Unit::Bytes, names: 0 },
-    Note { kernel: "", unit: Unit::Packets, names: 0 },
-    Note { kernel: "", unit: Unit::Packets, names: 0 },
-    Note { kernel: "", unit: Unit::Plain, names: 0 },
-    Note { kernel: "", unit: Unit::BytesPerSecond, names: 0 },
-    Note { kernel: "", unit: Unit::PacketsPerSecond, names: 0 },
-    Note { kernel: "", unit: Unit::Packets, names: 0 },
-    Note { kernel: "", unit: Unit::Bytes, names: 0 },
-    Note { kernel: "", unit: Unit::Plain, names: 0 },
+    Note { kernel: "", unit: "bytes", names: 0 },
+    Note { kernel: "", unit: "packets", names: 0 },
+    Note { kernel: "", unit: "packets", names: 0 },
+    Note { kernel: "", unit: "", names: 0 },
+    Note { kernel: "", unit: "bytes a second", names: 0 },
+    Note { kernel: "", unit: "packets a second", names: 0 },
+    Note { kernel: "", unit: "packets", names: 0 },
+    Note { kernel: "", unit: "bytes", names: 0 },
+    Note { kernel: "", unit: "", names: 0 },
 ];
 
 // `list stats`
 #[rattlefmt::skip]
 const LIST_STATS_OF_ALL: [Note<'static>; 7] = [
-    Note { kernel: "TCA_STATS_BASIC", unit: Unit::Plain, names: 0 },
-    Note { kernel: "TCA_STATS_RATE_EST", unit: Unit::Plain, names: 0 },
-    Note { kernel: "TCA_STATS_QUEUE", unit: Unit::Plain, names: 0 },
-    Note { kernel: "TCA_STATS_RATE_EST64", unit: Unit::Plain, names: 0 },
-    Note { kernel: "TCA_STATS_PAD", unit: Unit::Plain, names: 0 },
-    Note { kernel: "TCA_STATS_BASIC_HW", unit: Unit::Plain, names: 0 },
-    Note { kernel: "TCA_STATS_PKT64", unit: Unit::Packets, names: 0 },
+    Note { kernel: "TCA_STATS_BASIC", unit: "", names: 0 },
+    Note { kernel: "TCA_STATS_RATE_EST", unit: "", names: 0 },
+    Note { kernel: "TCA_STATS_QUEUE", unit: "", names: 0 },
+    Note { kernel: "TCA_STATS_RATE_EST64", unit: "", names: 0 },
+    Note { kernel: "TCA_STATS_PAD", unit: "", names: 0 },
+    Note { kernel: "TCA_STATS_BASIC_HW", unit: "", names: 0 },
+    Note { kernel: "TCA_STATS_PKT64", unit: "packets", names: 0 },
 ];
 
 // `struct gnet_stats_basic`
 #[rattlefmt::skip]
 const STRUCT_GNET_STATS_BASIC: [Note<'static>; 3] = [
-    Note { kernel: "", unit: Unit::Bytes, names: 0 },
-    Note { kernel: "", unit: Unit::Packets, names: 0 },
-    Note { kernel: "", unit: Unit::Plain, names: 0 },
+    Note { kernel: "", unit: "bytes", names: 0 },
+    Note { kernel: "", unit: "packets", names: 0 },
+    Note { kernel: "", unit: "", names: 0 },
 ];
 
 // `struct gnet_stats_queue`
 #[rattlefmt::skip]
 const STRUCT_GNET_STATS_QUEUE: [Note<'static>; 5] = [
-    Note { kernel: "", unit: Unit::Packets, names: 0 },
-    Note { kernel: "", unit: Unit::Bytes, names: 0 },
-    Note { kernel: "", unit: Unit::Packets, names: 0 },
-    Note { kernel: "", unit: Unit::Packets, names: 0 },
-    Note { kernel: "", unit: Unit::Plain, names: 0 },
+    Note { kernel: "", unit: "packets", names: 0 },
+    Note { kernel: "", unit: "bytes", names: 0 },
+    Note { kernel: "", unit: "packets", names: 0 },
+    Note { kernel: "", unit: "packets", names: 0 },
+    Note { kernel: "", unit: "", names: 0 },
 ];
 
 // `struct gnet_stats_rate_est`
 #[rattlefmt::skip]
 const STRUCT_GNET_STATS_RATE_EST: [Note<'static>; 2] = [
-    Note { kernel: "", unit: Unit::BytesPerSecond, names: 0 },
-    Note { kernel: "", unit: Unit::PacketsPerSecond, names: 0 },
+    Note { kernel: "", unit: "bytes a second", names: 0 },
+    Note { kernel: "", unit: "packets a second", names: 0 },
 ];

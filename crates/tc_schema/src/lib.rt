@@ -2,14 +2,13 @@
 //! Both are written of any tables at run time.
 #![tactic(auto)]
 
-mod example;
 mod explain;
+mod json;
 mod kinds;
 mod notes;
-mod schema;
 mod texts;
 
 pub use explain::{kinds_of, knows_kind, put_kind};
+pub use json::put_schema;
 pub use kinds::{LISTS, PLACES};
-pub use notes::{Named, NamesAt, Note, Noted, Unit, all_names, notes_at_places};
-pub use schema::{put_schema, put_schema_definitions};
+pub use notes::{Named, NamesAt, Note, Noted, all_names, notes_at_places};

@@ -1,7 +1,7 @@
 //! What is known of the members of a part beside their names and forms.
 
 ghost use Rattle.std.specs.Prelude.{◌≡◌};
-ghost use Rattle.tc_schema.specs.Notes.{first_note, named_views, names_at, names_at_views, note_view, note_views, noted_views, notes_at, other_notes};
+ghost use Rattle.tc_schema.specs.Notes.{first_note, names_at, note_view, note_views, notes_at, other_notes};
 
 use crate::kinds::{NAMES, names_of, notes_of};
 use std::alloc::{AllocError, Allocator};
@@ -17,50 +17,13 @@ pub struct Named<'a> {
     pub kernel: &'a str,
 }
 
-/// What a number counts.
-#[derive(Clone, Copy)]
-pub enum Unit {
-    /// Nothing that is known.
-    Plain,
-    /// Bytes.
-    Bytes,
-    /// Packets.
-    Packets,
-    /// Bytes a second.
-    BytesPerSecond,
-    /// Packets a second.
-    PacketsPerSecond,
-    /// A thousand bits a second.
-    KilobitsPerSecond,
-    /// Nanoseconds.
-    Nanoseconds,
-    /// Microseconds.
-    Microseconds,
-    /// Milliseconds.
-    Milliseconds,
-    /// Seconds.
-    Seconds,
-    /// Ticks of the packet scheduler, 64 ns each.
-    Ticks,
-    /// Hundredths of a second (`USER_HZ`).
-    ClockTicks,
-    /// Hundredths.
-    Percent,
-    /// A probability: 2^-32 each.
-    Probability,
-    /// The exponent of a power of two.
-    Power,
-    /// Nothing: it is the number of an interface.
-    Interface,
-}
-
 /// What is known of a member.
 #[derive(Clone, Copy)]
 pub struct Note<'a> {
     /// The kernel's name; empty where it has none.
     pub kernel: &'a str,
-    /// What it counts.
-    pub unit: Unit,
+    /// What it counts, in words; empty where that isn't known.
+    pub unit: &'a str,
     /// The place of the names of its numbers or bits, beside those of the table; 0 where it has none.
     pub names: usize,
 }
@@ -85,13 +48,13 @@ pub struct NamesAt<'a> {
 
 const NO_NOTE: Note<'static> = Note {
     kernel: "",
-    unit: Unit::Plain,
+    unit: "",
     names: 0,
 };
 
 // The names at a place.
 pub(crate) fn names_at(names: &[NamesAt<'static>], place: usize) -> &'static [Named<'static>]
-    ensures { named_views result.now ≡ names_at (names_at_views names.now) place }
+    ensures { result.now ≡ names_at names.now place }
 {
     if let Some((it, others)) = names.split_first() {
         if it.place == place {
@@ -104,11 +67,11 @@ pub(crate) fn names_at(names: &[NamesAt<'static>], place: usize) -> &'static [Na
 
 // The notes of the part at a place.
 pub(crate) fn notes_at(notes: &[Noted<'static>], place: usize) -> &'static [Note<'static>]
-    ensures { note_views result.now ≡ notes_at (noted_views notes.now) place }
+    ensures { note_views result.now ≡ notes_at notes.now place }
 {
-    if let Some((noted, others)) = notes.split_first() {
-        if noted.place == place {
-            return noted.notes;
+    if let Some((it, others)) = notes.split_first() {
+        if it.place == place {
+            return it.notes;
         }
         return notes_at(others, place);
     }
@@ -128,7 +91,7 @@ pub(crate) fn first_note(left: Left) -> (Note<'static>, Left)
 {
     match left.notes.split_first() {
         Some((first, others)) => (*first, Left { notes: others }),
-        None => (NO_NOTE, Left { notes: &[] }),
+        None => (NO_NOTE, left),
     }
 }
 

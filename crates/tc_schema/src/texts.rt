@@ -1,32 +1,73 @@
-//! Texts that are put at the end of a vector: forms in words, numbers, texts in quotes. And the members of a part.
+//! Texts that are put at the end of a vector, what is said of each form, and the members of a part.
 
 ghost use Rattle.std.specs.Prelude.{MatchOption, OnOk, [], decimal, ◌++◌, ◌∷◌, ◌≡◌};
+ghost use Rattle.tc_forms.specs.Places.{layer_of};
 ghost use Rattle.tc_forms.specs.Records.{is_pad};
 ghost use Rattle.tc_forms.specs.Tables.{part_view};
-ghost use Rattle.tc_schema.specs.Examples.{escaped, escapes, quoted};
-ghost use Rattle.tc_schema.specs.Texts.{form_text, member_view, members_of, number_word};
+ghost use Rattle.tc_schema.specs.Texts.{about, about_number, between, comma, escaped, escapes, form_text, member_view, members_of, quoted, said_view};
+ghost use Rattle.tc_schema.specs.Texts.{times, around};
 ghost use Rattle.tc_units.specs.declared.unit.Unit.TheVariants.{Plain};
 
 use std::alloc::{AllocError, Allocator};
 use tc_forms::{Form, Number, Part};
 use tc_units::{Unit, put_number};
 
+/// A text was put, or there is no memory for it.
+pub type Done = Result<(), AllocError>;
+
 /// Puts a text.
-pub(crate) fn put<A: Allocator>(out: &mut Vec<u8, A>, text: &str) -> Result<(), AllocError>
+pub fn put<A: Allocator>(out: &mut Vec<u8, A>, text: &str) -> Done
     ensures { OnOk result (out.new.items ≡ out.old.items ++ text.now) }
 {
     out.extend_from_slice(text.as_bytes())
 }
 
-/// Puts a number in decimal.
-pub(crate) fn put_decimal<A: Allocator>(out: &mut Vec<u8, A>, n: u64) -> Result<(), AllocError>
-    ensures { OnOk result (out.new.items ≡ out.old.items ++ decimal n) }
+/// Puts a number between two texts.
+pub fn put_counted<A: Allocator>(out: &mut Vec<u8, A>, head: &str, count: usize, tail: &str) -> Done
+    ensures { OnOk result (out.new.items ≡ out.old.items ++ (head.now ++ (decimal count ++ tail.now))) }
 {
-    put_number(out, Unit::Plain, n)
+    put(out, head)?;
+    put_number(out, Unit::Plain, count as u64)?;
+    put(out, tail)
+}
+
+/// Puts a text so many times.
+pub fn put_times<A: Allocator>(out: &mut Vec<u8, A>, text: &str, count: usize) -> Done
+    ensures { OnOk result (out.new.items ≡ out.old.items ++ times count text.now) }
+{
+    match count.checked_sub(1) {
+        Some(others) => {
+            put(out, text)?;
+            put_times(out, text, others)
+        }
+        None => Ok(()),
+    }
+}
+
+/// Puts a comma, but before the first.
+pub fn put_comma<A: Allocator>(out: &mut Vec<u8, A>, is_first: bool) -> Done
+    ensures { OnOk result (out.new.items ≡ out.old.items ++ comma is_first) }
+{
+    if is_first {
+        return Ok(());
+    }
+    put(out, ",")
+}
+
+/// Puts a text between two others, or none of them if it is empty.
+pub fn put_around<A: Allocator>(out: &mut Vec<u8, A>, head: &str, text: &str, tail: &str) -> Done
+    ensures { OnOk result (out.new.items ≡ out.old.items ++ around head.now text.now tail.now) }
+{
+    if text.is_empty() {
+        return Ok(());
+    }
+    put(out, head)?;
+    put(out, text)?;
+    put(out, tail)
 }
 
 // Puts a byte of a text as in JSON. Names have no control characters; one would be a blank.
-fn put_escaped<A: Allocator>(out: &mut Vec<u8, A>, byte: u8) -> Result<(), AllocError>
+fn put_escaped<A: Allocator>(out: &mut Vec<u8, A>, byte: u8) -> Done
     ensures { OnOk result (out.new.items ≡ out.old.items ++ escaped byte) }
 {
     match byte {
@@ -37,7 +78,7 @@ fn put_escaped<A: Allocator>(out: &mut Vec<u8, A>, byte: u8) -> Result<(), Alloc
     }
 }
 
-fn put_escapes<A: Allocator>(out: &mut Vec<u8, A>, text: &[u8]) -> Result<(), AllocError>
+fn put_escapes<A: Allocator>(out: &mut Vec<u8, A>, text: &[u8]) -> Done
     ensures { OnOk result (out.new.items ≡ out.old.items ++ escapes text.now) }
 {
     if let Some((first, others)) = text.split_first() {
@@ -48,7 +89,7 @@ fn put_escapes<A: Allocator>(out: &mut Vec<u8, A>, text: &[u8]) -> Result<(), Al
 }
 
 /// Puts a text in quotes, as in JSON.
-pub(crate) fn put_quoted<A: Allocator>(out: &mut Vec<u8, A>, text: &str) -> Result<(), AllocError>
+pub fn put_quoted<A: Allocator>(out: &mut Vec<u8, A>, text: &str) -> Done
     ensures { OnOk result (out.new.items ≡ out.old.items ++ quoted text.now) }
 {
     put(out, "\"")?;
@@ -57,80 +98,106 @@ pub(crate) fn put_quoted<A: Allocator>(out: &mut Vec<u8, A>, text: &str) -> Resu
 }
 
 /// Puts a text in quotes between two others.
-pub(crate) fn put_quoted_between<A: Allocator>(
-    out: &mut Vec<u8, A>,
-    before: &str,
-    text: &str,
-    behind: &str,
-) -> Result<(), AllocError>
-    ensures { OnOk result (out.new.items ≡ out.old.items ++ (before.now ++ (quoted text.now ++ behind.now))) }
+#[tactic(auto, unfolding(crate::specs::Texts::between))]
+pub fn put_between<A: Allocator>(out: &mut Vec<u8, A>, head: &str, text: &str, tail: &str) -> Done
+    ensures { OnOk result (out.new.items ≡ out.old.items ++ between head.now text.now tail.now) }
 {
-    put(out, before)?;
+    put(out, head)?;
     put_quoted(out, text)?;
-    put(out, behind)
+    put(out, tail)
 }
 
-// ---- forms in words
+// ---- forms
 
-fn number_word(of: Number) -> &'static str
-    ensures { result.now ≡ number_word of }
+/// What is said of a form: in words; and if it holds no others, an example of what is shown in it, and the schema of that, of a number
+/// its range.
+#[derive(Clone, Copy)]
+pub struct Said {
+    pub words: &'static str,
+    pub sample: &'static str,
+    pub schema: &'static str,
+}
+
+fn say(words: &'static str, sample: &'static str, schema: &'static str) -> Said
+    ensures { said_view result ≡ record { words = words.now; sample = sample.now; schema = schema.now } }
 {
-    match of {
-        Number::U8 => "u8",
-        Number::U16 => "u16",
-        Number::U32 => "u32",
-        Number::U64 => "u64",
-        Number::I8 => "i8",
-        Number::I16 => "i16",
-        Number::I32 => "i32",
-        Number::I64 => "i64",
-        Number::U16Be => "u16, big-endian",
-        Number::U32Be => "u32, big-endian",
-        Number::U64Be => "u64, big-endian",
+    Said {
+        words,
+        sample,
+        schema,
     }
 }
 
-fn put_counted<A: Allocator>(
-    out: &mut Vec<u8, A>,
-    before: &str,
-    count: usize,
-    behind: &str,
-) -> Result<(), AllocError>
-    ensures { OnOk result (out.new.items ≡ out.old.items ++ (before.now ++ (decimal count ++ behind.now))) }
+pub fn about_number(of: Number) -> Said
+    ensures { said_view result ≡ about_number of }
 {
-    put(out, before)?;
-    put_decimal(out, count as u64)?;
-    put(out, behind)
+    match of {
+        Number::U8 => say("u8", "1", "0,\"maximum\":255"),
+        Number::U16 => say("u16", "1", "0,\"maximum\":65535"),
+        Number::U32 => say("u32", "1", "0,\"maximum\":4294967295"),
+        Number::U64 => say("u64", "1", "0,\"maximum\":18446744073709551615"),
+        Number::I8 => say("i8", "1", "-128,\"maximum\":127"),
+        Number::I16 => say("i16", "1", "-32768,\"maximum\":32767"),
+        Number::I32 => say("i32", "1", "-2147483648,\"maximum\":2147483647"),
+        Number::I64 => say(
+            "i64",
+            "1",
+            "-9223372036854775808,\"maximum\":9223372036854775807",
+        ),
+        Number::U16Be => say("u16, big-endian", "1", "0,\"maximum\":65535"),
+        Number::U32Be => say("u32, big-endian", "1", "0,\"maximum\":4294967295"),
+        Number::U64Be => say("u64, big-endian", "1", "0,\"maximum\":18446744073709551615"),
+    }
+}
+
+pub fn about(form: Form) -> Said
+    ensures { said_view result ≡ about form }
+{
+    match form {
+        Form::Number(of) | Form::Named(of, _) => about_number(of),
+        Form::Handle => say("handle", "\"1:1\"", "{\"$ref\":\"#/$defs/handle\"}"),
+        Form::Flag => say("flag", "true", "{\"const\":true}"),
+        Form::Truth => say("false or true", "true", "{\"type\":\"boolean\"}"),
+        Form::Text | Form::Bare => say("text", "\"text\"", "{\"type\":\"string\"}"),
+        Form::Mac => say(
+            "MAC address",
+            "\"02:00:00:00:00:01\"",
+            "{\"$ref\":\"#/$defs/mac\"}",
+        ),
+        Form::Ipv4 => say(
+            "IPv4 address",
+            "\"192.0.2.1\"",
+            "{\"$ref\":\"#/$defs/ipv4\"}",
+        ),
+        Form::Ipv6 => say(
+            "IPv6 address",
+            "\"2001:db8::1\"",
+            "{\"$ref\":\"#/$defs/ipv6\"}",
+        ),
+        Form::Record(_) => say("record", "[]", ""),
+        Form::Array(_) => say("array", "[]", ""),
+        Form::List(_) | Form::InForce(_) => say("attributes", "[]", ""),
+        Form::Own(_) => say("attributes by their kind", "[]", ""),
+        Form::Indexed(_) => say("list", "[]", ""),
+        Form::Choice(_) => say("one of", "[]", ""),
+        _ => say("hex", "\"00ff\"", "{\"$ref\":\"#/$defs/hex\"}"),
+    }
 }
 
 /// Puts a form in a few words.
-pub(crate) fn put_form<A: Allocator>(out: &mut Vec<u8, A>, form: Form) -> Result<(), AllocError>
+pub fn put_form<A: Allocator>(out: &mut Vec<u8, A>, form: Form) -> Done
     ensures { OnOk result (out.new.items ≡ out.old.items ++ form_text form) }
 {
     match form {
-        Form::Number(of) | Form::Named(of, _) => put(out, number_word(of)),
-        Form::Handle => put(out, "handle"),
-        Form::Flag => put(out, "flag"),
-        Form::Truth => put(out, "false or true"),
-        Form::Text | Form::Bare => put(out, "text"),
-        Form::Hex => put(out, "hex"),
         Form::Bytes(count) => put_counted(out, "hex of ", count, " bytes"),
         Form::Pad(count) => put_counted(out, "padding of ", count, " bytes"),
-        Form::Mac => put(out, "MAC address"),
-        Form::Ipv4 => put(out, "IPv4 address"),
-        Form::Ipv6 => put(out, "IPv6 address"),
-        Form::Record(_) => put(out, "record"),
-        Form::Array(_) => put(out, "array"),
         Form::Times(count, _) => put_counted(out, "array of ", count, ""),
-        Form::List(_) | Form::InForce(_) => put(out, "attributes"),
-        Form::Own(_) => put(out, "attributes by their kind"),
-        Form::Indexed(_) => put(out, "list"),
-        Form::Choice(_) => put(out, "one of"),
+        _ => put(out, about(form).words),
     }
 }
 
 /// True for padding.
-pub(crate) fn is_pad(form: Form) -> bool
+pub fn is_pad(form: Form) -> bool
     ensures { result ≡ is_pad form }
 {
     matches!(form, Form::Pad(_))
@@ -138,37 +205,55 @@ pub(crate) fn is_pad(form: Form) -> bool
 
 // ---- members
 
-/// A field, a row or a choice.
+/// A field, a row, a choice, or the name of a number.
 #[derive(Clone, Copy)]
-pub(crate) struct Member<'a> {
-    pub(crate) name: &'a str,
-    pub(crate) form: Form,
+pub struct Member {
+    pub name: &'static str,
+    pub number: Option<u64>,
+    pub form: Form,
+}
+
+fn member_of(name: &'static str, number: Option<u64>, form: Form) -> Member
+    ensures { member_view result ≡ record { name = name.now; number = number; form = form } }
+{
+    Member { name, number, form }
 }
 
 /// The first member of a part, and the part without it.
-pub(crate) fn first_member(part: Part<'static>) -> Option<(Member<'static>, Part<'static>)>
+pub fn first_member(part: Part<'static>) -> Option<(Member, Part<'static>)>
     ensures { MatchOption result (members_of (part_view part.entry) ≡ [])
         (λ x. members_of (part_view part.entry) ≡ member_view x.0 ∷ members_of (part_view x.1)) }
 {
     match part {
-        Part::Fields(fields) => match fields.split_first() {
-            Some((it, others)) => Some((named(it.name, it.form), Part::Fields(others))),
-            None => None,
-        },
-        Part::Rows(layer, rows) => match rows.split_first() {
-            Some((it, others)) => Some((named(it.name, it.form), Part::Rows(layer, others))),
-            None => None,
-        },
-        Part::Choices(choices) => match choices.split_first() {
-            Some((it, others)) => Some((named(it.name, it.form), Part::Choices(others))),
-            None => None,
-        },
+        Part::Fields(fields) => {
+            let (it, others) = fields.split_first()?;
+            Some((member_of(it.name, None, it.form), Part::Fields(others)))
+        }
+        Part::Rows(layer, rows) => {
+            let (it, others) = rows.split_first()?;
+            Some((member_of(it.name, None, it.form), Part::Rows(layer, others)))
+        }
+        Part::Choices(choices) => {
+            let (it, others) = choices.split_first()?;
+            Some((member_of(it.name, None, it.form), Part::Choices(others)))
+        }
+        Part::Names(names) => {
+            let (it, others) = names.split_first()?;
+            Some((
+                member_of(it.name, Some(it.number), Form::Hex),
+                Part::Names(others),
+            ))
+        }
         _ => None,
     }
 }
 
-fn named(name: &'static str, form: Form) -> Member<'static>
-    ensures { member_view result ≡ record { name = name.now; form = form } }
+/// The layer of a part.
+pub fn layer_of(part: Part<'static>) -> &'static str
+    ensures { result.now ≡ layer_of (part_view part.entry) }
 {
-    Member { name, form }
+    if let Part::Rows(layer, _) = part {
+        return layer;
+    }
+    ""
 }

@@ -1,7 +1,0 @@
-use Rattle.std.proofs.Common.{length}
-use Rattle.tc_forms.specs.Tables.{part_view}
-use Rattle.tc_schema.specs.Texts.{members_of}
-use Rattle.tc_schema.proofs.schema.+put_choices.Given as goal
-
-abbrev pub decreases-put_choices : goal.decreases-put_choices
-decreases-put_choices g l = length (members_of (part_view l.part))

@@ -1,0 +1,530 @@
+//! What is shown in forms, as JSON: an example, and the JSON Schema of a line. What is shown in a part of the table is defined once, under its
+//! place.
+
+ghost use Rattle.std.specs.Prelude.{OnOk, [], codes, true, ◌++◌, ◌≡◌};
+ghost use Rattle.tc_forms.specs.Places.{form_of, layer_of};
+ghost use Rattle.tc_forms.specs.Tables.{kinds_view, part_view};
+ghost use Rattle.tc_schema.specs.Json.{array, definitions, each_text, element, example, example_by, first_example, form_schema, indexed, is_left_out, item};
+ghost use Rattle.tc_schema.specs.Json.{kind_example, kinds_schema, list_example, member_example, members_example, named, object_schema, one_text, only};
+ghost use Rattle.tc_schema.specs.Json.{or_raw, part_schema, reference, row, schema_of_line};
+ghost use Rattle.tc_schema.specs.Texts.{member_view, members_of};
+
+use crate::texts::{
+    Done, Member, about, about_number, first_member, is_pad, layer_of, put, put_around,
+    put_between, put_comma, put_counted, put_quoted, put_times,
+};
+use std::alloc::{AllocError, Allocator};
+use tc_forms::{Form, KindRows, Number, Part, Tables};
+
+// ---- an example
+
+// How deep an example goes, and how that of a kind begins.
+const DEEPEST: u8 = 12;
+
+const EXAMPLE: &str = "example: [{\"Kind\":";
+
+// The form at a place.
+fn form_of(place: usize, part: Part<'static>) -> Form
+    ensures { result ≡ form_of place (part_view part.entry) }
+{
+    match part {
+        Part::One(form) => form,
+        Part::Names(_) => Form::Hex,
+        Part::Fields(_) => Form::Record(place),
+        Part::Rows(_, _) | Part::Kinds(_, _, _) => Form::List(place),
+        Part::Choices(_) => Form::Choice(place),
+    }
+}
+
+// An example of what is in a form, at most so deep.
+#[cycle(example)]
+fn put_deep<T: Tables, A: Allocator>(out: &mut Vec<u8, A>, table: T, depth: u8, form: Form) -> Done
+    ensures { OnOk result (out.new.items ≡ out.old.items ++ example (T.parts_of table) depth form) }
+{
+    match depth.checked_sub(1) {
+        Some(inner) => put_inner(out, table, inner, form),
+        None => put(out, "[]"),
+    }
+}
+
+#[cycle(example)]
+fn put_inner<T: Tables, A: Allocator>(out: &mut Vec<u8, A>, table: T, inner: u8, form: Form) -> Done
+    ensures { OnOk result (out.new.items ≡ out.old.items ++ example_by (example (T.parts_of table) inner) (T.parts_of table) form) }
+{
+    match form {
+        Form::Named(_, place) => match first_member(table.part(place)) {
+            Some((first, _)) => put_quoted(out, first.name),
+            None => put(out, "{\"Other\":1}"),
+        },
+        Form::Bytes(count) | Form::Pad(count) => {
+            put(out, "\"")?;
+            put_times(out, "00", count)?;
+            put(out, "\"")
+        }
+        Form::Record(place) => put_all(out, table, inner, place),
+        Form::Choice(place) => put_one(out, table, inner, place),
+        Form::Array(place) | Form::Times(_, place) => {
+            put(out, "[")?;
+            put_deep(out, table, inner, form_of(place, table.part(place)))?;
+            put(out, "]")
+        }
+        Form::List(place) => {
+            put(out, "[")?;
+            put_first(out, table, inner, "", place)?;
+            put(out, "]")
+        }
+        _ => put(out, about(form).sample),
+    }
+}
+
+// A member of an object.
+#[cycle(example)]
+fn put_pair<T: Tables, A: Allocator>(out: &mut Vec<u8, A>, table: T, inner: u8, of: Member) -> Done
+    ensures { OnOk result (out.new.items ≡ out.old.items ++ member_example (example (T.parts_of table) inner) (member_view of)) }
+{
+    put_between(out, "", of.name, ":")?;
+    put_deep(out, table, inner, of.form)
+}
+
+// An object of the first member.
+#[cycle(example)]
+fn put_one<T: Tables, A: Allocator>(out: &mut Vec<u8, A>, table: T, inner: u8, place: usize) -> Done
+    ensures { OnOk result (out.new.items ≡ out.old.items ++ first_example (example (T.parts_of table) inner) (members_of (T.parts_of table place))) }
+{
+    match first_member(table.part(place)) {
+        Some((member, _)) => {
+            put(out, "{")?;
+            put_pair(out, table, inner, member)?;
+            put(out, "}")
+        }
+        None => put(out, "{}"),
+    }
+}
+
+// An object of all members. Padding is shown only where it isn't zero.
+#[cycle(example)]
+fn put_all<T: Tables, A: Allocator>(out: &mut Vec<u8, A>, table: T, inner: u8, place: usize) -> Done
+    ensures { OnOk result (out.new.items ≡ out.old.items ++
+        (codes "{" ++ members_example (example (T.parts_of table) inner) true (members_of (T.parts_of table place)))) }
+{
+    put(out, "{")?;
+    let mut left = table.part(place);
+    let mut is_first = true;
+    while let Some((member, others)) = first_member(left) {
+        if !is_pad(member.form) {
+            put_comma(out, is_first)?;
+            put_pair(out, table, inner, member)?;
+            is_first = false;
+        }
+        left = others;
+    }
+    put(out, "}")
+}
+
+// The first attribute of a list, in its layer and behind a text; nothing for a list of none.
+#[cycle(example)]
+fn put_first<T: Tables, A: Allocator>(
+    out: &mut Vec<u8, A>,
+    table: T,
+    inner: u8,
+    before: &str,
+    place: usize,
+) -> Done
+    ensures { OnOk result (out.new.items ≡ out.old.items ++
+        list_example (example (T.parts_of table) inner) before.now (layer_of (T.parts_of table place)) (members_of (T.parts_of table place))) }
+{
+    let part = table.part(place);
+    if first_member(part).is_none() {
+        return Ok(());
+    }
+    put(out, before)?;
+    let layer = layer_of(part);
+    if layer.is_empty() {
+        return put_one(out, table, inner, place);
+    }
+    put_between(out, "{", layer, ":")?;
+    put_one(out, table, inner, place)?;
+    put(out, "}")
+}
+
+/// Puts an example of a kind and the first attribute behind it, by the rows at a place.
+pub(crate) fn put_example<T: Tables, A: Allocator>(
+    out: &mut Vec<u8, A>,
+    table: T,
+    kind: &str,
+    rows: usize,
+) -> Done
+    ensures { OnOk result (out.new.items ≡ out.old.items ++ kind_example (T.parts_of table) kind.now rows) }
+{
+    put_between(out, EXAMPLE, kind, "}")?;
+    put_first(out, table, DEEPEST, ",", rows)?;
+    put(out, "]\n")
+}
+
+// ---- the schema
+
+// The schema of a line, up to the definitions of messages: what a line begins with, what is said of a message, of an answer, of a place
+// without a message, and at the end; and what is defined once for all tables.
+const LINE: &str = r##"{"$schema":"https://json-schema.org/draft/2020-12/schema",
+"title":"A line of tcshow --json",
+"type":"object","properties":{
+"time":{"type":"string","pattern":"^[0-9]+\\.[0-9]{9}$"},
+"packet":{"type":"integer","minimum":1},
+"packet_type":{"type":"integer","minimum":0,"maximum":65535},
+"type":{"type":"string","pattern":"^(RTM_(NEW|DEL|GET)(QDISC|TCLASS|TFILTER|ACTION|CHAIN)|NLMSG_ERROR)$"},
+"flags":{"type":"integer","minimum":0,"maximum":65535},
+"seq":{"type":"integer","minimum":0,"maximum":4294967295},
+"portid":{"type":"integer","minimum":1,"maximum":4294967295},
+"fits":{"type":"boolean"},"settled":{"type":"boolean"},"canonical":{"type":"boolean"},
+"refused":{"enum":["BufferTooSmall","FrameHeaderShort","FrameTooLong","FrameTooShort","WrongLength","NotUtf8","SelectorShort","XstatsShort",
+"MissingKind","DuplicateKind"]},
+"len":{"type":"integer"},"needed":{"type":"integer"},"length":{"type":"integer"},"left":{"type":"integer"},"expected":{"type":"integer"},
+"got":{"type":"integer"},
+"offset":{"type":"integer","minimum":0},"path":{"type":"string"},
+"errno":{"type":"string"},"text":{"type":"string"},
+"request":{"type":"object","properties":{"type":{"type":"string"},"flags":{"type":"integer"},"seq":{"type":"integer"},
+"portid":{"type":"integer"},"message":{"$ref":"#/$defs/message"}},"required":["type","flags","seq"],"additionalProperties":false},
+"note":{"type":"string"},"at":{"type":"integer","minimum":0},
+"summary":{"type":"object"},"all":{"type":"object","additionalProperties":{"type":"integer","minimum":0}},
+"message":{"$ref":"#/$defs/message"}},
+"oneOf":[{"required":["message","settled","canonical","fits"]},{"required":["message","refused","offset","path"]},{"required":["errno",
+"request"]},{"required":["note","at"]},{"required":["summary","all"]}],
+"additionalProperties":false,
+"$defs":{"hex":{"type":"string","pattern":"^([0-9a-f]{2})*$"},
+"raw":{"type":"object","properties":{"raw":{"$ref":"#/$defs/hex"}},"required":["raw"],"additionalProperties":false},
+"u16":{"type":"integer","minimum":0,"maximum":65535},
+"other":{"type":"object","properties":{"word":{"$ref":"#/$defs/u16"},"value":{"$ref":"#/$defs/hex"}},"required":["word","value"],
+"additionalProperties":false},
+"kind":{"type":"object","properties":{"Kind":{"type":"string"},"bare":{"const":true},"word":{"$ref":"#/$defs/u16"},
+"pad":{"$ref":"#/$defs/hex"}},"required":["Kind"],"additionalProperties":false},
+"unknown":{"type":"object","properties":{"Other":{"$ref":"#/$defs/other"},"pad":{"$ref":"#/$defs/hex"}},"required":["Other"],
+"additionalProperties":false},
+"handle":{"type":"string","pattern":"^(root|0:0|[1-9a-f][0-9a-f]{0,3}:([1-9a-f][0-9a-f]{0,3})?|:[1-9a-f][0-9a-f]{0,3})$"},
+"mac":{"type":"string","pattern":"^[0-9a-f]{2}(:[0-9a-f]{2}){5}$"},
+"ipv4":{"type":"string","pattern":"^(25[0-5]|2[0-4][0-9]|1?[0-9]?[0-9])(\\.(25[0-5]|2[0-4][0-9]|1?[0-9]?[0-9])){3}$"},
+"ipv6":{"type":"string","pattern":"^[0-9a-f:.]+$"},
+"message":{"anyOf":[{"$ref":"#/$defs/tc"},{"$ref":"#/$defs/action"}]}"##;
+
+// Before the least and the greatest integer; and before how many bytes there are, in hex.
+const INTEGER: &str = r##"{"type":"integer","minimum":"##;
+
+const BYTES: &str = r##"{"type":"string","pattern":"^([0-9a-f]{2}){"##;
+
+// Before what is there, or raw bytes; and before what is in a list.
+const RAW_OR: &str = r##"{"anyOf":[{"$ref":"#/$defs/raw"},"##;
+
+const LIST: &str = r##"{"type":"array","items":{"anyOf":[{"$ref":"#/$defs/raw"},"##;
+
+// A list of attributes with kinds among them: before the place of its rows.
+const KINDED: &str =
+    r##"{"type":"array","items":{"anyOf":[{"$ref":"#/$defs/raw"},{"$ref":"#/$defs/kind"},{"$ref":"#/$defs/"##;
+
+// Before the members of an object, before the names of those that it must have, and behind them.
+const OBJECT: &str = r##"{"type":"object","properties":{"##;
+
+const REQUIRED: &str = r##"},"required":["##;
+
+const CLOSED: &str = r##"],"additionalProperties":false}"##;
+
+// A name, or a number without one: before the place of the names, behind it and before the number, and behind that; and what follows no
+// choice, the last of some.
+const NAMED: &str = r##"{"anyOf":[{"$ref":"#/$defs/"##;
+
+const OR_OTHER: &str = r##""},{"type":"object","properties":{"Other":"##;
+
+const OTHER_ENDS: &str = r##"}},"required":["Other"],"additionalProperties":false}]}"##;
+
+const OTHERWISE: &str =
+    r##"{"type":"object","properties":{"Other":{"$ref":"#/$defs/hex"}},"required":["Other"],"additionalProperties":false}]}"##;
+
+// An attribute of any type in a list: before what is in it, and behind that and the list.
+const TAB: &str =
+    r##"{"type":"object","properties":{"tab":{"$ref":"#/$defs/u16"},"pad":{"$ref":"#/$defs/hex"},"attributes":{"anyOf":[{"$ref":"#/$defs/raw"},"##;
+
+const TAB_ENDS: &str = r##"]}},"required":["tab","attributes"],"additionalProperties":false}]}}"##;
+
+// The members that each record may have, and each attribute; and before an attribute of a row, or another.
+const REST: &str = r##""rest":{"$ref":"#/$defs/hex"}},"required":["##;
+
+const WORD: &str = r##""word":{"$ref":"#/$defs/u16"},"pad":{"$ref":"#/$defs/hex"}},"oneOf":["##;
+
+const UNKNOWN: &str = r##"{"anyOf":[{"$ref":"#/$defs/unknown"}"##;
+
+// ---- forms
+
+// Refers to the definition of a place.
+#[tactic(auto, unfolding(crate::specs::Json::reference))]
+fn put_reference<A: Allocator>(out: &mut Vec<u8, A>, place: usize) -> Done
+    ensures { OnOk result (out.new.items ≡ out.old.items ++ reference place) }
+{
+    put_counted(out, "{\"$ref\":\"#/$defs/", place, "\"}")
+}
+
+// A name, or a number without one.
+fn put_named<A: Allocator>(out: &mut Vec<u8, A>, of: Number, place: usize) -> Done
+    ensures { OnOk result (out.new.items ≡ out.old.items ++ named of place) }
+{
+    put_counted(out, NAMED, place, OR_OTHER)?;
+    put_around(out, INTEGER, about_number(of).schema, OTHER_ENDS)
+}
+
+// An attribute of a list, in its layer.
+#[tactic(auto, unfolding(crate::specs::Json::only))]
+fn put_layered<A: Allocator>(out: &mut Vec<u8, A>, place: usize, layer: &str) -> Done
+    ensures { OnOk result (out.new.items ≡ out.old.items ++ only layer.now (reference place)) }
+{
+    put_between(out, OBJECT, layer, ":")?;
+    put_reference(out, place)?;
+    put_between(out, REQUIRED, layer, CLOSED)
+}
+
+fn put_item<A: Allocator>(out: &mut Vec<u8, A>, place: usize, layer: &str) -> Done
+    ensures { OnOk result (out.new.items ≡ out.old.items ++ item place layer.now) }
+{
+    if layer.is_empty() {
+        return put_reference(out, place);
+    }
+    put_layered(out, place, layer)
+}
+
+// A list of attributes.
+fn put_list<A: Allocator>(out: &mut Vec<u8, A>, place: usize, layer: &str) -> Done
+    ensures { OnOk result (out.new.items ≡ out.old.items ++ array (item place layer.now)) }
+{
+    put(out, LIST)?;
+    put_item(out, place, layer)?;
+    put(out, "]}}")
+}
+
+// What an array, or an attribute of any type, holds.
+fn put_element<A: Allocator>(out: &mut Vec<u8, A>, place: usize, part: Part<'static>) -> Done
+    ensures { OnOk result (out.new.items ≡ out.old.items ++ element place (part_view part.entry)) }
+{
+    match part {
+        Part::One(_) | Part::Fields(_) | Part::Choices(_) => put_reference(out, place),
+        Part::Names(_) => put(out, about(Form::Hex).schema),
+        Part::Rows(layer, _) => put_list(out, place, layer),
+        Part::Kinds(_, _, _) => put_list(out, place, ""),
+    }
+}
+
+fn put_array<A: Allocator>(out: &mut Vec<u8, A>, place: usize, part: Part<'static>) -> Done
+    ensures { OnOk result (out.new.items ≡ out.old.items ++ array (element place (part_view part.entry))) }
+{
+    put(out, LIST)?;
+    put_element(out, place, part)?;
+    put(out, "]}}")
+}
+
+// A list of attributes of any types.
+fn put_indexed<A: Allocator>(out: &mut Vec<u8, A>, place: usize, part: Part<'static>) -> Done
+    ensures { OnOk result (out.new.items ≡ out.old.items ++ indexed (element place (part_view part.entry))) }
+{
+    put(out, LIST)?;
+    put(out, TAB)?;
+    put_element(out, place, part)?;
+    put(out, TAB_ENDS)
+}
+
+// What is shown in a form where the bytes follow it.
+fn put_form<T: Tables, A: Allocator>(out: &mut Vec<u8, A>, table: T, form: Form) -> Done
+    ensures { OnOk result (out.new.items ≡ out.old.items ++ form_schema (T.parts_of table) form) }
+{
+    match form {
+        Form::Number(of) => put_around(out, INTEGER, about_number(of).schema, "}"),
+        Form::Named(of, place) => put_named(out, of, place),
+        Form::Bytes(count) | Form::Pad(count) => put_counted(out, BYTES, count, "}$\"}"),
+        Form::Record(place) | Form::Choice(place) => put_reference(out, place),
+        Form::Array(place) | Form::Times(_, place) => put_array(out, place, table.part(place)),
+        Form::List(place) => put_list(out, place, layer_of(table.part(place))),
+        Form::InForce(place) | Form::Own(place) => put_counted(out, KINDED, place, "\"}]}}"),
+        Form::Indexed(place) => put_indexed(out, place, table.part(place)),
+        _ => put(out, about(form).schema),
+    }
+}
+
+// The same, or raw.
+fn put_shown<T: Tables, A: Allocator>(out: &mut Vec<u8, A>, table: T, form: Form) -> Done
+    ensures { OnOk result (out.new.items ≡ out.old.items ++ or_raw (form_schema (T.parts_of table) form)) }
+{
+    put(out, RAW_OR)?;
+    put_form(out, table, form)?;
+    put(out, "]}")
+}
+
+// ---- parts
+
+// What is put of each member: what it is, alone or in an object of its own; its name; or that an object has it.
+#[derive(Clone, Copy)]
+enum Each {
+    Property,
+    Choice,
+    Required,
+    Alternative,
+}
+
+#[tactic(auto, unfolding(crate::specs::Json::only))]
+fn put_text<T: Tables, A: Allocator>(
+    out: &mut Vec<u8, A>,
+    table: T,
+    each: Each,
+    is_first: bool,
+    member: Member,
+) -> Done
+    ensures { OnOk result (out.new.items ≡ out.old.items ++ one_text (T.parts_of table) each is_first (member_view member)) }
+{
+    match each {
+        Each::Property => {
+            put_between(out, "", member.name, ":")?;
+            put_shown(out, table, member.form)?;
+            put(out, ",")
+        }
+        Each::Choice => {
+            put_between(out, OBJECT, member.name, ":")?;
+            put_shown(out, table, member.form)?;
+            put_between(out, REQUIRED, member.name, CLOSED)?;
+            put(out, ",")
+        }
+        Each::Required => {
+            put_comma(out, is_first)?;
+            put_quoted(out, member.name)
+        }
+        Each::Alternative => {
+            put_comma(out, is_first)?;
+            put_between(out, "{\"required\":[", member.name, "]}")
+        }
+    }
+}
+
+// Padding is shown only where it isn't zero.
+fn is_left_out(each: Each, form: Form) -> bool
+    ensures { result ≡ is_left_out each form }
+{
+    matches!(each, Each::Required) && is_pad(form)
+}
+
+fn put_each<T: Tables, A: Allocator>(
+    out: &mut Vec<u8, A>,
+    table: T,
+    each: Each,
+    part: Part<'static>,
+) -> Done
+    ensures { OnOk result (out.new.items ≡ out.old.items ++ each_text (T.parts_of table) each true (members_of (part_view part.entry))) }
+{
+    let mut left = part;
+    let mut is_first = true;
+    while let Some((member, others)) = first_member(left) {
+        if !is_left_out(each, member.form) {
+            put_text(out, table, each, is_first, member)?;
+            is_first = false;
+        }
+        left = others;
+    }
+    Ok(())
+}
+
+// An object of these members and others, of which it must have some.
+#[tactic(auto, unfolding(crate::specs::Json::object_schema))]
+fn put_object<T: Tables, A: Allocator>(
+    out: &mut Vec<u8, A>,
+    table: T,
+    part: Part<'static>,
+    others: &str,
+    each: Each,
+) -> Done
+    ensures { OnOk result (out.new.items ≡ out.old.items ++ object_schema (T.parts_of table) (members_of (part_view part.entry)) others.now each) }
+{
+    put(out, OBJECT)?;
+    put_each(out, table, Each::Property, part)?;
+    put(out, others)?;
+    put_each(out, table, each, part)?;
+    put(out, CLOSED)
+}
+
+// And an attribute by one of these rows, where there are any.
+fn put_row<T: Tables, A: Allocator>(out: &mut Vec<u8, A>, table: T, part: Part<'static>) -> Done
+    ensures { OnOk result (out.new.items ≡ out.old.items ++ row (T.parts_of table) (members_of (part_view part.entry))) }
+{
+    if first_member(part).is_none() {
+        return put(out, "]}");
+    }
+    put(out, ",")?;
+    put_object(out, table, part, WORD, Each::Alternative)?;
+    put(out, "]}")
+}
+
+fn put_kinds<A: Allocator>(out: &mut Vec<u8, A>, kinds: &[KindRows<'_>]) -> Done
+    ensures { OnOk result (out.new.items ≡ out.old.items ++ kinds_schema (kinds_view kinds.now)) }
+{
+    if let Some((first, others)) = kinds.split_first() {
+        put(out, ",")?;
+        put_reference(out, first.rows)?;
+        put_kinds(out, others)?;
+    }
+    Ok(())
+}
+
+fn put_part<T: Tables, A: Allocator>(out: &mut Vec<u8, A>, table: T, part: Part<'static>) -> Done
+    ensures { OnOk result (out.new.items ≡ out.old.items ++ part_schema (T.parts_of table) (part_view part.entry)) }
+{
+    match part {
+        Part::One(form) => put_form(out, table, form),
+        Part::Names(names) => {
+            put(out, "{\"enum\":[")?;
+            put_each(out, table, Each::Required, Part::Names(names))?;
+            put(out, "]}")
+        }
+        Part::Kinds(every, others, kinds) => {
+            put(out, "{\"anyOf\":[")?;
+            put_reference(out, every)?;
+            put(out, ",")?;
+            put_reference(out, others)?;
+            put_kinds(out, kinds)?;
+            put(out, "]}")
+        }
+        Part::Fields(fields) => {
+            put_object(out, table, Part::Fields(fields), REST, Each::Required)
+        }
+        Part::Rows(layer, rows) => {
+            put(out, UNKNOWN)?;
+            put_row(out, table, Part::Rows(layer, rows))
+        }
+        Part::Choices(choices) => {
+            put(out, "{\"oneOf\":[")?;
+            put_each(out, table, Each::Choice, Part::Choices(choices))?;
+            put(out, OTHERWISE)
+        }
+    }
+}
+
+// A definition for each place.
+fn put_places<T: Tables, A: Allocator>(out: &mut Vec<u8, A>, table: T, places: &[usize]) -> Done
+    ensures { OnOk result (out.new.items ≡ out.old.items ++ definitions (T.parts_of table) places.now) }
+{
+    if let Some((first, others)) = places.split_first() {
+        put_counted(out, ",\n\"", *first, "\":")?;
+        put_part(out, table, table.part(*first))?;
+        put_places(out, table, others)?;
+    }
+    Ok(())
+}
+
+/// Puts the schema of a line: of the two messages in these forms, by a table with parts at these places, which are to be all that a form
+/// names.
+pub fn put_schema<T: Tables, A: Allocator>(
+    table: T,
+    places: &[usize],
+    tc: Form,
+    action: Form,
+    out: &mut Vec<u8, A>,
+) -> Result<(), AllocError>
+    ensures { OnOk result (out.new.items ≡ out.old.items ++ schema_of_line (T.parts_of table) places.now tc action) }
+{
+    put(out, LINE)?;
+    put(out, ",\n\"tc\":")?;
+    put_shown(out, table, tc)?;
+    put(out, ",\n\"action\":")?;
+    put_shown(out, table, action)?;
+    put_places(out, table, places)?;
+    put(out, "}}\n")
+}
