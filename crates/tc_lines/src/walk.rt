@@ -2,11 +2,11 @@
 
 ghost use Rattle.serde.specs.Event.{boolean, field_key, map_begins, map_ends, nothing, seq_begins, seq_ends, signed, text, unsigned};
 ghost use Rattle.serde.specs.declared.name.Case.TheVariants.{AsIs};
-ghost use Rattle.std.specs.Prelude.{IfOk, IfSome, List, MatchOption, None, OnOk, Option, Some, [], bytes_eq, false, if◌then◌else◌, option_map};
-ghost use Rattle.std.specs.Prelude.{reverse, ◌+◌, ◌++◌, ◌∷◌, ◌≡◌, ℕ};
-ghost use Rattle.tc_lines.specs.Columns.{Column as ColumnSaid, column_of, column_view, columns_view, depth_in, find, has_elements, has_name, in_line};
+ghost use Rattle.std.specs.Prelude.{IfOk, IfSome, MatchOption, None, OnOk, Option, Some, [], bytes_eq, false, if◌then◌else◌, option_map};
+ghost use Rattle.std.specs.Prelude.{reverse, ◌+◌, ◌++◌, ◌∷◌, ◌≡◌};
+ghost use Rattle.tc_lines.specs.Columns.{column_of, column_view, columns_view, depth_in, find, has_elements, has_name, in_line};
 ghost use Rattle.tc_lines.specs.Columns.{is_nested, opened, place_in, unnamed};
-ghost use Rattle.tc_lines.specs.Lines.{NONE, begins, element, head, inside_name, name_text, opening, partner_by};
+ghost use Rattle.tc_lines.specs.Lines.{NONE, element, inside_name, name_text, opening, partner_by};
 ghost use Rattle.tc_lines.specs.Walk.{between, close_map, close_seq, deeper, done, first_of, go_inside, key_in, leaf_done, map_in, named, note};
 ghost use Rattle.tc_lines.specs.Walk.{open_map, open_seq, settle, start, state_of, step};
 
