@@ -19,15 +19,9 @@ use hex::FromHex;
 use itoa::Buffer;
 use std::alloc::{AllocError, Allocator};
 use tc_texts::{handle_from_tc_text, handle_text};
-use tc_units::{Name, Unit, name_of, number_of, put_flags, put_named, put_number, put_verdict};
-
-// Puts a number in decimal.
-fn put_decimal<A: Allocator>(out: &mut Vec<u8, A>, n: u64) -> Result<(), AllocError>
-    ensures { OnOk result (out.new.items ≡ out.old.items ++ decimal n) }
-{
-    let mut buffer = Buffer::new();
-    out.extend_from_slice(buffer.format(n).as_bytes())
-}
+use tc_units::{
+    Name, Unit, name_of, number_of, put_decimal, put_flags, put_named, put_number, put_verdict,
+};
 
 // True for printable ASCII.
 fn is_printable(b: u8) -> bool

@@ -4,7 +4,7 @@ ghost use Rattle.serde.specs.Event.{boolean, field_key, map_begins, map_ends, no
 ghost use Rattle.serde.specs.declared.name.Case.TheVariants.{AsIs};
 ghost use Rattle.std.specs.Prelude.{IfOk, IfSome, MatchOption, None, OnOk, Option, Some, [], bytes_eq, false, if◌then◌else◌, option_map};
 ghost use Rattle.std.specs.Prelude.{reverse, ◌+◌, ◌++◌, ◌∷◌, ◌≡◌};
-ghost use Rattle.tc_lines.specs.Columns.{column_of, column_view, columns_view, depth_in, find, has_elements, has_name, in_line};
+ghost use Rattle.tc_lines.specs.Columns.{column_view, columns_view, depth_in, find, has_elements, has_name, in_line, or};
 ghost use Rattle.tc_lines.specs.Columns.{is_nested, opened, place_in, unnamed};
 ghost use Rattle.tc_lines.specs.Lines.{NONE, element, inside_name, name_text, opening, partner_by};
 ghost use Rattle.tc_lines.specs.Walk.{between, close_map, close_seq, deeper, done, first_of, go_inside, key_in, leaf_done, map_in, named, note};
@@ -43,39 +43,68 @@ pub(crate) struct Walk {
 // The place of no columns.
 const NONE: usize = 65535;
 
-// The column of a name in JSON.
+// The column of a name in JSON. It looks at four names at a time, since most have another length.
 fn find(columns: &'static [Column<'static>], key: &str) -> Option<&'static Column<'static>>
     ensures { option_map (λ c. column_view c.now) result ≡ find (columns_view columns.now) key.now }
 {
-    for column in columns.iter() {
-        if is_same(column.key, key) {
-            return Some(column);
+    let mut left = columns;
+    'fours: while let [first, second, third, fourth, others @ ..] = left {
+        if is_same(first.key, key) {
+            return Some(first);
         }
+        if is_same(second.key, key) {
+            return Some(second);
+        }
+        if is_same(third.key, key) {
+            return Some(third);
+        }
+        if is_same(fourth.key, key) {
+            return Some(fourth);
+        }
+        left = others;
+    }
+    'each: while let [first, others @ ..] = left {
+        if is_same(first.key, key) {
+            return Some(first);
+        }
+        left = others;
     }
     None
 }
 
+// The column of a name in JSON, among those of a partner; mostly there is none.
+#[inline(always)]
+fn find_behind<C: Columns>(
+    columns: C,
+    partner: usize,
+    key: &str,
+) -> Option<&'static Column<'static>>
+    ensures { option_map (λ c. column_view c.now) result ≡ find ((C.says (C.given columns)).columns partner) key.now }
+{
+    if partner == NONE {
+        return None;
+    }
+    find(columns.columns(partner), key)
+}
+
 // The column of a name in JSON, among those of a partner, of a kind or of every kind.
-fn column_of<'k, C: Columns>(
+fn column_of<C: Columns>(
     columns: C,
     partner: usize,
     own: usize,
     others: usize,
-    key: &'k str,
-) -> Column<'k>
-    ensures { column_view result ≡ column_of ((C.says (C.given columns)).columns partner) ((C.says (C.given columns)).columns own)
-        ((C.says (C.given columns)).columns others) key.now }
+    key: &str,
+) -> Option<&'static Column<'static>>
+    ensures { option_map (λ c. column_view c.now) result ≡ or (find ((C.says (C.given columns)).columns partner) key.now)
+        (or (find ((C.says (C.given columns)).columns own) key.now) (find ((C.says (C.given columns)).columns others) key.now)) }
 {
-    if let Some(column) = find(columns.columns(partner), key) {
-        return *column;
+    if let Some(column) = find_behind(columns, partner, key) {
+        return Some(column);
     }
     if let Some(column) = find(columns.columns(own), key) {
-        return *column;
+        return Some(column);
     }
-    match find(columns.columns(others), key) {
-        Some(column) => *column,
-        None => unnamed(key),
-    }
+    find(columns.columns(others), key)
 }
 
 // The column of a name that has none.
@@ -107,7 +136,15 @@ fn unnamed(key: &str) -> Column<'_>
 fn is_same(a: &str, b: &str) -> bool
     ensures { result ≡ bytes_eq a.now b.now }
 {
-    a.len() == b.len() && a == b
+    a.len() == b.len() && is_equal(a, b)
+}
+
+// The same of texts that are as long as each other.
+#[inline(never)]
+fn is_equal(a: &str, b: &str) -> bool
+    ensures { result ≡ bytes_eq a.now b.now }
+{
+    a == b
 }
 
 // True where what is within has lines of its own.
@@ -207,6 +244,7 @@ fn put_opening<C: Columns>(
 }
 
 // Puts a name, which is a word of a line, or begins one.
+#[inline(always)]
 fn put_name(out: &mut Vec<u8>, depth: usize, inline: bool, name: &[u8]) -> Result<(), AllocError>
     ensures { OnOk result (out.new.items ≡ out.old.items ++ name_text depth inline name.now) }
 {
@@ -420,14 +458,31 @@ impl Walk {
     {
         match top {
             Some(Frame::InMembers(depth, base, place, inline)) => {
-                let column = column_of(columns, self.partner, place, base, name);
-                self.at_column(columns, depth, inline, &column)
+                match column_of(columns, self.partner, place, base, name) {
+                    Some(column) => self.at_column(columns, depth, inline, column),
+                    None => self.at_unnamed(columns, depth, inline, name),
+                }
             }
             _ => Err(LinesError::NotJson),
         }
     }
 
+    // At the value of a name that has no column.
+    #[inline(never)]
+    fn at_unnamed<C: Columns>(
+        &mut self,
+        columns: C,
+        depth: usize,
+        inline: bool,
+        name: &str,
+    ) -> Result<(), LinesError>
+        ensures { OnOk result (state_of self.new ≡ named (C.says (C.given columns)) depth inline (unnamed name.now) (state_of self.old)) }
+    {
+        self.at_column(columns, depth, inline, &unnamed(name))
+    }
+
     // At the value of a column.
+    #[inline(always)]
     fn at_column<C: Columns>(
         &mut self,
         columns: C,

@@ -47,7 +47,7 @@ fn swapped(n: u64) -> u64
 }
 
 // Puts a number and the name of its unit.
-#[inline(never)]
+#[inline(always)]
 fn put_counted<A: Allocator>(out: &mut Vec<u8, A>, n: u64, name: &[u8]) -> Result<(), AllocError>
     ensures { OnOk result (out.new.items ≡ out.old.items ++ (decimal n ++ name.now)) }
 {
