@@ -103,7 +103,11 @@ fn path_of(bytes: &[u8], what: What, count: usize) -> Path {
 fn fault_of(refused: Refused<'_>, path: &Path) -> Fault
     ensures { result.error ≡ refused.entry.error }
 {
-    let Refused { error, at, count: _ } = refused;
+    let Refused {
+        error,
+        at,
+        count: _,
+    } = refused;
     match at {
         At::Attribute(attribute) => fault_at(&attribute, path, error),
         At::Frame(offset) => broken_at(path, offset, error),
