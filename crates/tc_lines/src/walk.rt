@@ -8,7 +8,7 @@ ghost use Rattle.tc_lines.specs.Columns.{column_view, columns_view, depth_in, fi
 ghost use Rattle.tc_lines.specs.Columns.{is_nested, opened, place_in, unnamed};
 ghost use Rattle.tc_lines.specs.Lines.{NONE, element, inside_name, name_text, opening, partner_by};
 ghost use Rattle.tc_lines.specs.Walk.{between, close_map, close_seq, deeper, done, first_of, go_inside, key_in, leaf_done, map_in, named, note};
-ghost use Rattle.tc_lines.specs.Walk.{open_map, open_seq, settle, start, state_of, step};
+ghost use Rattle.tc_lines.specs.Walk.{open_map, open_seq, place_of, settle, start, state_of, step};
 
 use crate::column::{Column, Columns, How};
 use crate::error::LinesError;
@@ -91,17 +91,17 @@ fn find_behind<C: Columns>(
 fn column_of<C: Columns>(
     columns: C,
     partner: usize,
-    own: usize,
+    own: &'static [Column<'static>],
     others: usize,
     key: &str,
 ) -> Option<&'static Column<'static>>
     ensures { option_map (λ c. column_view c.now) result ≡ or (find ((C.says (C.given columns)).columns partner) key.now)
-        (or (find ((C.says (C.given columns)).columns own) key.now) (find ((C.says (C.given columns)).columns others) key.now)) }
+        (or (find (columns_view own.now) key.now) (find ((C.says (C.given columns)).columns others) key.now)) }
 {
     if let Some(column) = find_behind(columns, partner, key) {
         return Some(column);
     }
-    if let Some(column) = find(columns.columns(own), key) {
+    if let Some(column) = find(own, key) {
         return Some(column);
     }
     find(columns.columns(others), key)
@@ -431,8 +431,25 @@ impl Walk {
         }
     }
 
-    /// The name of a member.
-    pub(crate) fn key<C: Columns>(&mut self, columns: C, name: &str) -> Result<(), LinesError>
+    /// The place of the columns of what is open.
+    #[inline(always)]
+    pub(crate) fn place(&self) -> usize
+        ensures { result ≡ place_of (first_of (state_of self.now).frames) }
+    {
+        match top(&self.frames) {
+            Some(Frame::InMembers(_, _, place, _)) => place,
+            _ => NONE,
+        }
+    }
+
+    /// The name of a member, with the columns of what is open.
+    pub(crate) fn key<C: Columns>(
+        &mut self,
+        columns: C,
+        own: &'static [Column<'static>],
+        name: &str,
+    ) -> Result<(), LinesError>
+        requires { columns_view own.now ≡ (C.says (C.given columns)).columns (place_of (first_of (state_of self.old).frames)) }
         ensures { OnOk result (step (C.says (C.given columns)) (field_key name.now AsIs) (state_of self.old) ≡ Some (state_of self.new)) }
     {
         match self.inside.checked_sub(1) {
@@ -442,7 +459,7 @@ impl Walk {
             }
             None => {
                 let top = top(&self.frames);
-                self.key_in(columns, name, top)
+                self.key_in(columns, own, name, top)
             }
         }
     }
@@ -451,14 +468,16 @@ impl Walk {
     fn key_in<C: Columns>(
         &mut self,
         columns: C,
+        own: &'static [Column<'static>],
         name: &str,
         top: Option<Frame>,
     ) -> Result<(), LinesError>
+        requires { columns_view own.now ≡ (C.says (C.given columns)).columns (place_of top) }
         ensures { OnOk result (key_in (C.says (C.given columns)) name.now (state_of self.old) top ≡ Some (state_of self.new)) }
     {
         match top {
-            Some(Frame::InMembers(depth, base, place, inline)) => {
-                match column_of(columns, self.partner, place, base, name) {
+            Some(Frame::InMembers(depth, base, _, inline)) => {
+                match column_of(columns, self.partner, own, base, name) {
                     Some(column) => self.at_column(columns, depth, inline, column),
                     None => self.at_unnamed(columns, depth, inline, name),
                 }
