@@ -62,7 +62,7 @@ impl<C: Columns + Drop> Serializer for Lines<C> {
 
     #[inline(always)]
     fn bool(&mut self, v: bool) -> Result<(), LinesError> {
-        if let Err(error) = self.walk.boolean(self.columns, v) {
+        if let Err(error) = self.walk.boolean(&self.columns, v) {
             self.log = after(&self.columns, &self.log, Note::Lost);
             return Err(error);
         }
@@ -72,7 +72,7 @@ impl<C: Columns + Drop> Serializer for Lines<C> {
 
     #[inline(always)]
     fn i64(&mut self, v: i64) -> Result<(), LinesError> {
-        if let Err(error) = self.walk.signed(self.columns, v) {
+        if let Err(error) = self.walk.signed(&self.columns, v) {
             self.log = after(&self.columns, &self.log, Note::Lost);
             return Err(error);
         }
@@ -82,7 +82,7 @@ impl<C: Columns + Drop> Serializer for Lines<C> {
 
     #[inline(always)]
     fn u64(&mut self, v: u64) -> Result<(), LinesError> {
-        if let Err(error) = self.walk.unsigned(self.columns, v) {
+        if let Err(error) = self.walk.unsigned(&self.columns, v) {
             self.log = after(&self.columns, &self.log, Note::Lost);
             return Err(error);
         }
@@ -92,7 +92,7 @@ impl<C: Columns + Drop> Serializer for Lines<C> {
 
     #[inline(always)]
     fn str(&mut self, v: &str) -> Result<(), LinesError> {
-        if let Err(error) = self.walk.text(self.columns, v) {
+        if let Err(error) = self.walk.text(&self.columns, v) {
             self.log = after(&self.columns, &self.log, Note::Lost);
             return Err(error);
         }
@@ -102,7 +102,7 @@ impl<C: Columns + Drop> Serializer for Lines<C> {
 
     #[inline(always)]
     fn unit(&mut self) -> Result<(), LinesError> {
-        if let Err(error) = self.walk.null(self.columns) {
+        if let Err(error) = self.walk.null(&self.columns) {
             self.log = after(&self.columns, &self.log, Note::Lost);
             return Err(error);
         }
@@ -112,7 +112,7 @@ impl<C: Columns + Drop> Serializer for Lines<C> {
 
     #[inline(always)]
     fn begin_seq(&mut self, len: Option<usize>) -> Result<(), LinesError> {
-        if let Err(error) = self.walk.begin_seq(self.columns, len) {
+        if let Err(error) = self.walk.begin_seq(&self.columns, len) {
             self.log = after(&self.columns, &self.log, Note::Lost);
             return Err(error);
         }
@@ -122,7 +122,7 @@ impl<C: Columns + Drop> Serializer for Lines<C> {
 
     #[inline(always)]
     fn end_seq(&mut self) -> Result<(), LinesError> {
-        if let Err(error) = self.walk.end_seq(self.columns) {
+        if let Err(error) = self.walk.end_seq(&self.columns) {
             self.log = after(&self.columns, &self.log, Note::Lost);
             return Err(error);
         }
@@ -132,7 +132,7 @@ impl<C: Columns + Drop> Serializer for Lines<C> {
 
     #[inline(always)]
     fn begin_map(&mut self, len: Option<usize>) -> Result<(), LinesError> {
-        if let Err(error) = self.walk.begin_map(self.columns, len) {
+        if let Err(error) = self.walk.begin_map(&self.columns, len) {
             self.log = after(&self.columns, &self.log, Note::Lost);
             return Err(error);
         }
@@ -142,7 +142,7 @@ impl<C: Columns + Drop> Serializer for Lines<C> {
 
     #[inline(always)]
     fn end_map(&mut self) -> Result<(), LinesError> {
-        if let Err(error) = self.walk.end_map(self.columns) {
+        if let Err(error) = self.walk.end_map(&self.columns) {
             self.log = after(&self.columns, &self.log, Note::Lost);
             return Err(error);
         }
@@ -233,7 +233,7 @@ impl<C: Columns + Drop> Lines<C> {
             self.own = self.columns.columns(place);
             self.place = place;
         }
-        if let Err(error) = self.walk.key(self.columns, self.own, name) {
+        if let Err(error) = self.walk.key(&self.columns, self.own, name) {
             self.log = after(&self.columns, &self.log, Note::Lost);
             return Err(error);
         }

@@ -75,11 +75,11 @@ fn find(columns: &'static [Column<'static>], key: &str) -> Option<&'static Colum
 // The column of a name in JSON, among those of a partner; mostly there is none.
 #[inline(always)]
 fn find_behind<C: Columns>(
-    columns: C,
+    columns: &C,
     partner: usize,
     key: &str,
 ) -> Option<&'static Column<'static>>
-    ensures { option_map (λ c. column_view c.now) result ≡ find ((C.says (C.given columns)).columns partner) key.now }
+    ensures { option_map (λ c. column_view c.now) result ≡ find ((C.says (C.given columns.now)).columns partner) key.now }
 {
     if partner == NONE {
         return None;
@@ -89,14 +89,14 @@ fn find_behind<C: Columns>(
 
 // The column of a name in JSON, among those of a partner, of a kind or of every kind.
 fn column_of<C: Columns>(
-    columns: C,
+    columns: &C,
     partner: usize,
     own: &'static [Column<'static>],
     others: usize,
     key: &str,
 ) -> Option<&'static Column<'static>>
-    ensures { option_map (λ c. column_view c.now) result ≡ or (find ((C.says (C.given columns)).columns partner) key.now)
-        (or (find (columns_view own.now) key.now) (find ((C.says (C.given columns)).columns others) key.now)) }
+    ensures { option_map (λ c. column_view c.now) result ≡ or (find ((C.says (C.given columns.now)).columns partner) key.now)
+        (or (find (columns_view own.now) key.now) (find ((C.says (C.given columns.now)).columns others) key.now)) }
 {
     if let Some(column) = find_behind(columns, partner, key) {
         return Some(column);
@@ -226,12 +226,12 @@ fn opened(how: &How) -> How
 
 // Puts the line of a value without a name so far that is no leaf.
 fn put_opening<C: Columns>(
-    columns: C,
+    columns: &C,
     out: &mut Vec<u8>,
     depth: usize,
     how: &How,
 ) -> Result<(), AllocError>
-    ensures { OnOk result (out.new.items ≡ out.old.items ++ opening (C.says (C.given columns)) depth how.now) }
+    ensures { OnOk result (out.new.items ≡ out.old.items ++ opening (C.says (C.given columns.now)) depth how.now) }
 {
     match how {
         How::Hidden if columns.all() => Ok(()),
@@ -269,13 +269,13 @@ fn partner_by(how: &How, block: bool, partner: usize) -> usize
 
 // Puts the beginning of an element.
 fn put_element<C: Columns>(
-    columns: C,
+    columns: &C,
     out: &mut Vec<u8>,
     depth: usize,
     base: usize,
     each: bool,
 ) -> Result<(), AllocError>
-    ensures { OnOk result (out.new.items ≡ out.old.items ++ element (C.says (C.given columns)) depth base each) }
+    ensures { OnOk result (out.new.items ≡ out.old.items ++ element (C.says (C.given columns.now)) depth base each) }
 {
     if each {
         return put_line(out, depth, name_at(columns, base).as_bytes());
@@ -296,12 +296,12 @@ fn put_inside_name(out: &mut Vec<u8>, key: &str) -> Result<(), AllocError>
 
 // Notes a kind for what is behind it.
 fn note<C: Columns>(
-    columns: C,
+    columns: &C,
     how: &How,
     value: &str,
     frames: &mut Vec<Frame>,
 ) -> Result<(), AllocError>
-    ensures { OnOk result (reverse frames.new.items ≡ note (C.says (C.given columns)) (text value.now) how.now (reverse frames.old.items)) }
+    ensures { OnOk result (reverse frames.new.items ≡ note (C.says (C.given columns.now)) (text value.now) how.now (reverse frames.old.items)) }
 {
     match how {
         How::Kind => note_kind(columns, value, frames),
@@ -310,8 +310,12 @@ fn note<C: Columns>(
 }
 
 // Notes a kind.
-fn note_kind<C: Columns>(columns: C, value: &str, frames: &mut Vec<Frame>) -> Result<(), AllocError>
-    ensures { OnOk result (reverse frames.new.items ≡ note (C.says (C.given columns)) (text value.now) How.Kind (reverse frames.old.items)) }
+fn note_kind<C: Columns>(
+    columns: &C,
+    value: &str,
+    frames: &mut Vec<Frame>,
+) -> Result<(), AllocError>
+    ensures { OnOk result (reverse frames.new.items ≡ note (C.says (C.given columns.now)) (text value.now) How.Kind (reverse frames.old.items)) }
 {
     let top = match pop(frames) {
         Some(top) => top,
@@ -380,8 +384,8 @@ impl Walk {
     }
 
     /// A truth value.
-    pub(crate) fn boolean<C: Columns>(&mut self, columns: C, b: bool) -> Result<(), LinesError>
-        ensures { OnOk result (step (C.says (C.given columns)) (boolean b) (state_of self.old) ≡ Some (state_of self.new)) }
+    pub(crate) fn boolean<C: Columns>(&mut self, columns: &C, b: bool) -> Result<(), LinesError>
+        ensures { OnOk result (step (C.says (C.given columns.now)) (boolean b) (state_of self.old) ≡ Some (state_of self.new)) }
     {
         put_boolean(columns, &mut self.out, self.depth, &self.how, b)?;
         self.leaf_done(false);
@@ -389,8 +393,8 @@ impl Walk {
     }
 
     /// A number.
-    pub(crate) fn unsigned<C: Columns>(&mut self, columns: C, n: u64) -> Result<(), LinesError>
-        ensures { OnOk result (step (C.says (C.given columns)) (unsigned n) (state_of self.old) ≡ Some (state_of self.new)) }
+    pub(crate) fn unsigned<C: Columns>(&mut self, columns: &C, n: u64) -> Result<(), LinesError>
+        ensures { OnOk result (step (C.says (C.given columns.now)) (unsigned n) (state_of self.old) ≡ Some (state_of self.new)) }
     {
         put_unsigned(columns, &mut self.out, self.depth, &self.how, n)?;
         self.leaf_done(false);
@@ -398,8 +402,8 @@ impl Walk {
     }
 
     /// A number that may be negative.
-    pub(crate) fn signed<C: Columns>(&mut self, columns: C, n: i64) -> Result<(), LinesError>
-        ensures { OnOk result (step (C.says (C.given columns)) (signed n) (state_of self.old) ≡ Some (state_of self.new)) }
+    pub(crate) fn signed<C: Columns>(&mut self, columns: &C, n: i64) -> Result<(), LinesError>
+        ensures { OnOk result (step (C.says (C.given columns.now)) (signed n) (state_of self.old) ≡ Some (state_of self.new)) }
     {
         put_signed(columns, &mut self.out, self.depth, &self.how, n)?;
         self.leaf_done(is_block(n));
@@ -407,8 +411,8 @@ impl Walk {
     }
 
     /// Nothing.
-    pub(crate) fn null<C: Columns>(&mut self, columns: C) -> Result<(), LinesError>
-        ensures { OnOk result (step (C.says (C.given columns)) nothing (state_of self.old) ≡ Some (state_of self.new)) }
+    pub(crate) fn null<C: Columns>(&mut self, columns: &C) -> Result<(), LinesError>
+        ensures { OnOk result (step (C.says (C.given columns.now)) nothing (state_of self.old) ≡ Some (state_of self.new)) }
     {
         put_null(columns, &mut self.out, self.depth, &self.how)?;
         self.leaf_done(false);
@@ -416,8 +420,8 @@ impl Walk {
     }
 
     /// A text.
-    pub(crate) fn text<C: Columns>(&mut self, columns: C, value: &str) -> Result<(), LinesError>
-        ensures { OnOk result (step (C.says (C.given columns)) (text value.now) (state_of self.old) ≡ Some (state_of self.new)) }
+    pub(crate) fn text<C: Columns>(&mut self, columns: &C, value: &str) -> Result<(), LinesError>
+        ensures { OnOk result (step (C.says (C.given columns.now)) (text value.now) (state_of self.old) ≡ Some (state_of self.new)) }
     {
         put_string(columns, &mut self.out, self.depth, &self.how, value)?;
         match self.inside.checked_sub(1) {
@@ -445,12 +449,12 @@ impl Walk {
     /// The name of a member, with the columns of what is open.
     pub(crate) fn key<C: Columns>(
         &mut self,
-        columns: C,
+        columns: &C,
         own: &'static [Column<'static>],
         name: &str,
     ) -> Result<(), LinesError>
-        requires { columns_view own.now ≡ (C.says (C.given columns)).columns (place_of (first_of (state_of self.old).frames)) }
-        ensures { OnOk result (step (C.says (C.given columns)) (field_key name.now AsIs) (state_of self.old) ≡ Some (state_of self.new)) }
+        requires { columns_view own.now ≡ (C.says (C.given columns.now)).columns (place_of (first_of (state_of self.old).frames)) }
+        ensures { OnOk result (step (C.says (C.given columns.now)) (field_key name.now AsIs) (state_of self.old) ≡ Some (state_of self.new)) }
     {
         match self.inside.checked_sub(1) {
             Some(_) => {
@@ -467,13 +471,13 @@ impl Walk {
     // The name of a member of what is open.
     fn key_in<C: Columns>(
         &mut self,
-        columns: C,
+        columns: &C,
         own: &'static [Column<'static>],
         name: &str,
         top: Option<Frame>,
     ) -> Result<(), LinesError>
-        requires { columns_view own.now ≡ (C.says (C.given columns)).columns (place_of top) }
-        ensures { OnOk result (key_in (C.says (C.given columns)) name.now (state_of self.old) top ≡ Some (state_of self.new)) }
+        requires { columns_view own.now ≡ (C.says (C.given columns.now)).columns (place_of top) }
+        ensures { OnOk result (key_in (C.says (C.given columns.now)) name.now (state_of self.old) top ≡ Some (state_of self.new)) }
     {
         match top {
             Some(Frame::InMembers(depth, base, _, inline)) => {
@@ -490,12 +494,12 @@ impl Walk {
     #[inline(never)]
     fn at_unnamed<C: Columns>(
         &mut self,
-        columns: C,
+        columns: &C,
         depth: usize,
         inline: bool,
         name: &str,
     ) -> Result<(), LinesError>
-        ensures { OnOk result (state_of self.new ≡ named (C.says (C.given columns)) depth inline (unnamed name.now) (state_of self.old)) }
+        ensures { OnOk result (state_of self.new ≡ named (C.says (C.given columns.now)) depth inline (unnamed name.now) (state_of self.old)) }
     {
         self.at_column(columns, depth, inline, &unnamed(name))
     }
@@ -504,12 +508,12 @@ impl Walk {
     #[inline(always)]
     fn at_column<C: Columns>(
         &mut self,
-        columns: C,
+        columns: &C,
         depth: usize,
         inline: bool,
         column: &Column<'_>,
     ) -> Result<(), LinesError>
-        ensures { OnOk result (state_of self.new ≡ named (C.says (C.given columns)) depth inline (column_view column.now) (state_of self.old)) }
+        ensures { OnOk result (state_of self.new ≡ named (C.says (C.given columns.now)) depth inline (column_view column.now) (state_of self.old)) }
     {
         if has_name(columns.all(), &column.how) {
             put_name(&mut self.out, depth, inline, column.name.as_bytes())?;
@@ -523,8 +527,8 @@ impl Walk {
     }
 
     // Within a line.
-    fn go_inside<C: Columns>(&mut self, columns: C) -> Result<(), LinesError>
-        ensures { OnOk result (state_of self.new ≡ go_inside (C.says (C.given columns)) (state_of self.old)) }
+    fn go_inside<C: Columns>(&mut self, columns: &C) -> Result<(), LinesError>
+        ensures { OnOk result (state_of self.new ≡ go_inside (C.says (C.given columns.now)) (state_of self.old)) }
     {
         put_opening(columns, &mut self.out, self.depth, &self.how)?;
         self.partner = NONE;
@@ -549,10 +553,10 @@ impl Walk {
     /// An object begins.
     pub(crate) fn begin_map<C: Columns>(
         &mut self,
-        columns: C,
+        columns: &C,
         _len: Option<usize>,
     ) -> Result<(), LinesError>
-        ensures { OnOk result (step (C.says (C.given columns)) (map_begins _len) (state_of self.old) ≡ Some (state_of self.new)) }
+        ensures { OnOk result (step (C.says (C.given columns.now)) (map_begins _len) (state_of self.old) ≡ Some (state_of self.new)) }
     {
         match self.inside.checked_sub(1) {
             Some(_) => self.deeper(),
@@ -564,8 +568,8 @@ impl Walk {
     }
 
     // An object begins in what is open.
-    fn map_in<C: Columns>(&mut self, columns: C, top: Option<Frame>) -> Result<(), LinesError>
-        ensures { OnOk result (state_of self.new ≡ map_in (C.says (C.given columns)) (state_of self.old) top) }
+    fn map_in<C: Columns>(&mut self, columns: &C, top: Option<Frame>) -> Result<(), LinesError>
+        ensures { OnOk result (state_of self.new ≡ map_in (C.says (C.given columns.now)) (state_of self.old) top) }
     {
         match top {
             Some(Frame::InItems(depth, base, place, each)) => {
@@ -578,13 +582,13 @@ impl Walk {
     // An object of a list begins.
     fn begin_element<C: Columns>(
         &mut self,
-        columns: C,
+        columns: &C,
         depth: usize,
         base: usize,
         place: usize,
         each: bool,
     ) -> Result<(), LinesError>
-        ensures { OnOk result (state_of self.new ≡ between (self.old.out.items ++ element (C.says (C.given columns)) depth base each)
+        ensures { OnOk result (state_of self.new ≡ between (self.old.out.items ++ element (C.says (C.given columns.now)) depth base each)
             (if each then NONE else self.old.partner) (Frame.InMembers depth base place each ∷ reverse self.old.frames.items)) }
     {
         put_element(columns, &mut self.out, depth, base, each)?;
@@ -597,8 +601,8 @@ impl Walk {
     }
 
     // An object of a column begins.
-    fn open_map<C: Columns>(&mut self, columns: C) -> Result<(), LinesError>
-        ensures { OnOk result (state_of self.new ≡ open_map (C.says (C.given columns)) (state_of self.old)) }
+    fn open_map<C: Columns>(&mut self, columns: &C) -> Result<(), LinesError>
+        ensures { OnOk result (state_of self.new ≡ open_map (C.says (C.given columns.now)) (state_of self.old)) }
     {
         if !is_nested(&self.how) {
             return self.go_inside(columns);
@@ -618,8 +622,8 @@ impl Walk {
     }
 
     // A list of a column begins.
-    fn open_seq<C: Columns>(&mut self, columns: C) -> Result<(), LinesError>
-        ensures { OnOk result (state_of self.new ≡ open_seq (C.says (C.given columns)) (state_of self.old)) }
+    fn open_seq<C: Columns>(&mut self, columns: &C) -> Result<(), LinesError>
+        ensures { OnOk result (state_of self.new ≡ open_seq (C.says (C.given columns.now)) (state_of self.old)) }
     {
         if !is_nested(&self.how) {
             return self.go_inside(columns);
@@ -638,10 +642,10 @@ impl Walk {
     /// A list begins.
     pub(crate) fn begin_seq<C: Columns>(
         &mut self,
-        columns: C,
+        columns: &C,
         _len: Option<usize>,
     ) -> Result<(), LinesError>
-        ensures { OnOk result (step (C.says (C.given columns)) (seq_begins _len) (state_of self.old) ≡ Some (state_of self.new)) }
+        ensures { OnOk result (step (C.says (C.given columns.now)) (seq_begins _len) (state_of self.old) ≡ Some (state_of self.new)) }
     {
         match self.inside.checked_sub(1) {
             Some(_) => self.deeper(),
@@ -660,8 +664,8 @@ impl Walk {
     }
 
     /// An object ends.
-    pub(crate) fn end_map<C: Columns>(&mut self, _columns: C) -> Result<(), LinesError>
-        ensures { OnOk result (step (C.says (C.given _columns)) map_ends (state_of self.old) ≡ Some (state_of self.new)) }
+    pub(crate) fn end_map<C: Columns>(&mut self, _columns: &C) -> Result<(), LinesError>
+        ensures { OnOk result (step (C.says (C.given _columns.now)) map_ends (state_of self.old) ≡ Some (state_of self.new)) }
     {
         match self.inside.checked_sub(1) {
             Some(inside) => {
@@ -687,8 +691,8 @@ impl Walk {
     }
 
     /// A list ends.
-    pub(crate) fn end_seq<C: Columns>(&mut self, _columns: C) -> Result<(), LinesError>
-        ensures { OnOk result (step (C.says (C.given _columns)) seq_ends (state_of self.old) ≡ Some (state_of self.new)) }
+    pub(crate) fn end_seq<C: Columns>(&mut self, _columns: &C) -> Result<(), LinesError>
+        ensures { OnOk result (step (C.says (C.given _columns.now)) seq_ends (state_of self.old) ≡ Some (state_of self.new)) }
     {
         match self.inside.checked_sub(1) {
             Some(inside) => {
