@@ -1,6 +1,6 @@
 //! Lines in colours.
 
-ghost use Rattle.std.specs.Prelude.{◌≡◌, ◌≤◌, ◌<◌, OnOk, [], length};
+ghost use Rattle.std.specs.Prelude.{◌≤◌, ◌<◌, OnOk, [], length};
 ghost use Rattle.tc_colours.specs.Colours.{Adds, IsColour};
 
 use std::alloc::{AllocError, Allocator};

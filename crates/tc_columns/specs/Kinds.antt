@@ -1,5 +1,5 @@
 -- The columns of messages that speak of one thing.
-use Rattle.std.specs.Prelude.{List, ℕ}
+use Rattle.std.specs.Prelude.{List, [], refl, ℕ, ◌≡◌}
 use Rattle.tc_columns.specs.Tables.{all_columns, all_names}
 use Rattle.tc_columns.specs.declared.root.Root.{Root}
 use Rattle.tc_columns.specs.declared.root.Root.TheVariants as root
@@ -7,6 +7,7 @@ use Rattle.tc_forms.specs.Places.{kind_place}
 use Rattle.tc_forms.specs.Tables.{Kinds, Part}
 use Rattle.tc_kinds.specs.Table.{tc_tables}
 use Rattle.tc_lines.specs.Columns.{Given, Table, interface_in}
+use Rattle.tc_lines.specs.Lines.{NONE}
 
 -- where the columns of a message are
 abbrev pub root_place : Root → ℕ
@@ -32,3 +33,8 @@ kind_table g =
       interface = λ n. interface_in g.interfaces n;
       all = g.all;
     }
+
+-- no columns are at the place of none
+pub none_there : all_columns NONE ≡ []
+unfolding all_columns
+none_there = refl

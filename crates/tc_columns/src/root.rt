@@ -1,7 +1,7 @@
 //! What messages speak of, and the columns of each.
 
 ghost use Rattle.std.specs.Prelude.{map, option_map, ◌≡◌};
-ghost use Rattle.tc_columns.specs.Kinds.{kind_table, root_place};
+ghost use Rattle.tc_columns.specs.Kinds.{kind_table, none_there, root_place};
 ghost use Rattle.tc_forms.specs.Places.{kind_place};
 ghost use Rattle.tc_forms.specs.Tables.{kinds_view};
 ghost use Rattle.tc_lines.specs.Columns.{interface_in};
@@ -108,6 +108,8 @@ impl<'a> Columns for KindColumns<'a> {
     ghost given = { λ c. record { root = root_place c.root; all = c.all; interfaces = map (λ x. (x.0, x.1.now)) c.interfaces.now } };
 
     ghost says = { kind_table };
+
+    ghost none = { λ g. none_there };
 
     fn root(self) -> usize {
         self.root.place()

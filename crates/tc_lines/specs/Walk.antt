@@ -36,6 +36,11 @@ abbrev pub first_of : List Frame → Option Frame
 first_of [] = None
 first_of (f ∷ fs) = Some f
 
+-- the place of the columns of what is open
+abbrev pub place_of : Option Frame → ℕ
+place_of (Some (InMembers n base place inline)) = place
+place_of f = NONE
+
 -- a value within one line is done
 abbrev pub done : ℕ → State → State
 done zero s = between s.out s.partner s.frames

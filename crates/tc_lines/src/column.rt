@@ -1,7 +1,8 @@
 //! Columns: how the values of attributes and fields are shown, by their places and their names in JSON.
 
-ghost use Rattle.std.specs.Prelude.{option_map, ◌≡◌};
+ghost use Rattle.std.specs.Prelude.{[], option_map, ◌≡◌};
 ghost use Rattle.tc_lines.specs.Columns.{Given, Table, columns_view};
+ghost use Rattle.tc_lines.specs.Lines.{NONE};
 ghost use Rattle.tc_units.specs.Names.{names_view};
 
 use tc_units::{Name, Unit};
@@ -112,4 +113,7 @@ pub trait Columns: Copy {
     /// Whether paddings are shown.
     fn all(self) -> bool
         ensures { result ≡ (says (given self)).all };
+
+    // The place 65535 has no columns.
+    ghost none: { (g : Given) → (says g).columns NONE ≡ [] };
 }

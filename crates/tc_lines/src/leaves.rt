@@ -5,7 +5,7 @@ ghost use Rattle.std.specs.Char.{digit_char};
 ghost use Rattle.std.specs.List.{list_all};
 ghost use Rattle.hex.specs.Hex.{decode_sized};
 ghost use Rattle.std.specs.Fmt.{signed_decimal};
-ghost use Rattle.std.specs.Prelude.{OnOk, Option, [], codes, decimal, flat_map, option_map, ◌%◌, ◌*◌, ◌+◌, ◌++◌, ◌/◌, ◌<◌, ◌∷◌, ◌≡◌};
+ghost use Rattle.std.specs.Prelude.{OnOk, Option, codes, decimal, flat_map, option_map, ◌%◌, ◌*◌, ◌+◌, ◌++◌, ◌/◌, ◌<◌, ◌≡◌};
 ghost use Rattle.tc_forms.specs.Raw.{decoded};
 ghost use Rattle.tc_texts.specs.Handle.{handle_text};
 ghost use Rattle.tc_lines.specs.Columns.{is_hidden};
@@ -20,17 +20,9 @@ use itoa::Buffer;
 use std::alloc::{AllocError, Allocator};
 use tc_texts::{handle_from_tc_text, handle_text};
 use tc_units::{
-    Name, Unit, name_of, number_of, put_flags, put_named, put_number,
+    Name, Unit, name_of, number_of, put_decimal, put_flags, put_named, put_number,
     put_signed as put_signed_number, put_verdict,
 };
-
-// Puts a number in decimal.
-fn put_decimal<A: Allocator>(out: &mut Vec<u8, A>, n: u64) -> Result<(), AllocError>
-    ensures { OnOk result (out.new.items ≡ out.old.items ++ decimal n) }
-{
-    let mut buffer = Buffer::new();
-    out.extend_from_slice(buffer.format(n).as_bytes())
-}
 
 // True for printable ASCII.
 fn is_printable(b: u8) -> bool
@@ -163,8 +155,8 @@ pub(crate) fn put_line<A: Allocator>(
 }
 
 /// The name at a place that has no other.
-pub(crate) fn name_at<C: Columns>(columns: C, place: usize) -> &'static str
-    ensures { result.now ≡ name_at (C.says (C.given columns)) place }
+pub(crate) fn name_at<C: Columns>(columns: &C, place: usize) -> &'static str
+    ensures { result.now ≡ name_at (C.says (C.given columns.now)) place }
 {
     match name_of(columns.names(place), 0) {
         Some(name) => name,
@@ -174,11 +166,11 @@ pub(crate) fn name_at<C: Columns>(columns: C, place: usize) -> &'static str
 
 // Puts the number of an interface.
 fn put_interface<C: Columns, A: Allocator>(
-    columns: C,
+    columns: &C,
     out: &mut Vec<u8, A>,
     n: u64,
 ) -> Result<(), AllocError>
-    ensures { OnOk result (out.new.items ≡ out.old.items ++ interface_text (C.says (C.given columns)) n) }
+    ensures { OnOk result (out.new.items ≡ out.old.items ++ interface_text (C.says (C.given columns.now)) n) }
 {
     put_decimal(out, n)?;
     put_called(out, columns.interface(n))
@@ -226,12 +218,12 @@ fn put_handle<A: Allocator>(out: &mut Vec<u8, A>, n: u64) -> Result<(), AllocErr
 
 // Puts the last number of a header.
 fn put_info<C: Columns, A: Allocator>(
-    columns: C,
+    columns: &C,
     out: &mut Vec<u8, A>,
     of: &InfoOf,
     n: u64,
 ) -> Result<(), AllocError>
-    ensures { OnOk result (out.new.items ≡ out.old.items ++ info_text (C.says (C.given columns)) of.now n) }
+    ensures { OnOk result (out.new.items ≡ out.old.items ++ info_text (C.says (C.given columns.now)) of.now n) }
 {
     match of {
         InfoOf::Pref(names) => put_pref(out, columns.names(*names), n),
@@ -252,12 +244,12 @@ fn put_info<C: Columns, A: Allocator>(
 
 // Puts a number by its column.
 fn put_number_in<C: Columns, A: Allocator>(
-    columns: C,
+    columns: &C,
     out: &mut Vec<u8, A>,
     how: &How,
     n: u64,
 ) -> Result<(), AllocError>
-    ensures { OnOk result (out.new.items ≡ out.old.items ++ number_in (C.says (C.given columns)) how.now n) }
+    ensures { OnOk result (out.new.items ≡ out.old.items ++ number_in (C.says (C.given columns.now)) how.now n) }
 {
     match how {
         How::Flags(place) => put_flags(out, columns.names(*place), n),
@@ -281,12 +273,12 @@ fn put_number_in<C: Columns, A: Allocator>(
 
 // Puts a number behind a blank.
 fn put_number_behind<C: Columns, A: Allocator>(
-    columns: C,
+    columns: &C,
     out: &mut Vec<u8, A>,
     how: &How,
     n: u64,
 ) -> Result<(), AllocError>
-    ensures { OnOk result (out.new.items ≡ out.old.items ++ number_behind (C.says (C.given columns)) how.now n) }
+    ensures { OnOk result (out.new.items ≡ out.old.items ++ number_behind (C.says (C.given columns.now)) how.now n) }
 {
     match how {
         How::Number(unit) => put_number(out, *unit, n),
@@ -402,13 +394,13 @@ fn put_slash_or<A: Allocator>(
 
 // Puts a text by its column.
 fn put_text_in<C: Columns, A: Allocator>(
-    columns: C,
+    columns: &C,
     out: &mut Vec<u8, A>,
     depth: usize,
     how: &How,
     text: &str,
 ) -> Result<(), AllocError>
-    ensures { OnOk result (out.new.items ≡ out.old.items ++ text_in (C.says (C.given columns)) depth how.now text.now) }
+    ensures { OnOk result (out.new.items ≡ out.old.items ++ text_in (C.says (C.given columns.now)) depth how.now text.now) }
 {
     match how {
         How::To(_) => put_quoted(out, text.as_bytes()),
@@ -434,12 +426,12 @@ fn put_text_in<C: Columns, A: Allocator>(
 
 // Puts a text behind a blank.
 fn put_text_behind<C: Columns, A: Allocator>(
-    columns: C,
+    columns: &C,
     out: &mut Vec<u8, A>,
     how: &How,
     text: &str,
 ) -> Result<(), AllocError>
-    ensures { OnOk result (out.new.items ≡ out.old.items ++ text_behind (C.says (C.given columns)) how.now text.now) }
+    ensures { OnOk result (out.new.items ≡ out.old.items ++ text_behind (C.says (C.given columns.now)) how.now text.now) }
 {
     match how {
         How::Text(keys, names) => put_with_number(
@@ -487,13 +479,13 @@ pub(crate) fn is_hidden(all: bool, how: &How) -> bool
 
 /// Puts the leaf of a boolean.
 pub(crate) fn put_boolean<C: Columns, A: Allocator>(
-    columns: C,
+    columns: &C,
     out: &mut Vec<u8, A>,
     _depth: usize,
     how: &How,
     b: bool,
 ) -> Result<(), AllocError>
-    ensures { OnOk result (out.new.items ≡ out.old.items ++ leaf (C.says (C.given columns)) _depth how.now (boolean b)) }
+    ensures { OnOk result (out.new.items ≡ out.old.items ++ leaf (C.says (C.given columns.now)) _depth how.now (boolean b)) }
 {
     if is_hidden(columns.all(), how) {
         return Ok(());
@@ -507,13 +499,13 @@ pub(crate) fn put_boolean<C: Columns, A: Allocator>(
 
 /// Puts the leaf of a number.
 pub(crate) fn put_unsigned<C: Columns, A: Allocator>(
-    columns: C,
+    columns: &C,
     out: &mut Vec<u8, A>,
     _depth: usize,
     how: &How,
     n: u64,
 ) -> Result<(), AllocError>
-    ensures { OnOk result (out.new.items ≡ out.old.items ++ leaf (C.says (C.given columns)) _depth how.now (unsigned n)) }
+    ensures { OnOk result (out.new.items ≡ out.old.items ++ leaf (C.says (C.given columns.now)) _depth how.now (unsigned n)) }
 {
     if is_hidden(columns.all(), how) {
         return Ok(());
@@ -523,13 +515,13 @@ pub(crate) fn put_unsigned<C: Columns, A: Allocator>(
 
 /// Puts the leaf of a number that may be negative.
 pub(crate) fn put_signed<C: Columns, A: Allocator>(
-    columns: C,
+    columns: &C,
     out: &mut Vec<u8, A>,
     _depth: usize,
     how: &How,
     n: i64,
 ) -> Result<(), AllocError>
-    ensures { OnOk result (out.new.items ≡ out.old.items ++ leaf (C.says (C.given columns)) _depth how.now (signed n)) }
+    ensures { OnOk result (out.new.items ≡ out.old.items ++ leaf (C.says (C.given columns.now)) _depth how.now (signed n)) }
 {
     if is_hidden(columns.all(), how) {
         return Ok(());
@@ -547,13 +539,13 @@ pub(crate) fn put_signed<C: Columns, A: Allocator>(
 
 /// Puts the leaf of a text.
 pub(crate) fn put_string<C: Columns, A: Allocator>(
-    columns: C,
+    columns: &C,
     out: &mut Vec<u8, A>,
     depth: usize,
     how: &How,
     value: &str,
 ) -> Result<(), AllocError>
-    ensures { OnOk result (out.new.items ≡ out.old.items ++ leaf (C.says (C.given columns)) depth how.now (text value.now)) }
+    ensures { OnOk result (out.new.items ≡ out.old.items ++ leaf (C.says (C.given columns.now)) depth how.now (text value.now)) }
 {
     if is_hidden(columns.all(), how) {
         return Ok(());
@@ -563,12 +555,12 @@ pub(crate) fn put_string<C: Columns, A: Allocator>(
 
 /// Puts the leaf of nothing.
 pub(crate) fn put_null<C: Columns, A: Allocator>(
-    columns: C,
+    columns: &C,
     out: &mut Vec<u8, A>,
     _depth: usize,
     how: &How,
 ) -> Result<(), AllocError>
-    ensures { OnOk result (out.new.items ≡ out.old.items ++ leaf (C.says (C.given columns)) _depth how.now nothing) }
+    ensures { OnOk result (out.new.items ≡ out.old.items ++ leaf (C.says (C.given columns.now)) _depth how.now nothing) }
 {
     if is_hidden(columns.all(), how) {
         return Ok(());

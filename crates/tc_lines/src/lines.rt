@@ -4,13 +4,13 @@ ghost use Rattle.serde.specs.Event.{Logs, field_key};
 ghost use Rattle.serde.specs.declared.name.Case.TheVariants.{AsIs};
 ghost use Rattle.serde_json.specs.Data.{Data};
 ghost use Rattle.std.specs.Prelude.{IfOk, IfSome, None, OnOk, Some, [], ◌≡◌, ℕ};
-ghost use Rattle.tc_lines.specs.Columns.{Table};
+ghost use Rattle.tc_lines.specs.Columns.{Table, columns_view};
 ghost use Rattle.tc_forms.specs.Sent.{events};
 ghost use Rattle.tc_lines.specs.Lines.{lines};
 ghost use Rattle.tc_lines.specs.Log.{event_of, marked};
 ghost use Rattle.tc_lines.specs.Walk.{Follows, State, state_of, step};
 
-use crate::column::Columns;
+use crate::column::{Column, Columns};
 use crate::error::LinesError;
 use crate::log::{Log, Note};
 use crate::walk::Walk;
@@ -22,7 +22,11 @@ use std::alloc::Global;
 pub(crate) struct Lines<C: Columns + Drop> {
     columns: C,
     walk: Walk,
+    // The place whose columns were looked up last, and these.
+    place: usize,
+    own: &'static [Column<'static>],
     log: Log,
+    ghost looked_up: { columns_view own.now ≡ (C.says (C.given columns)).columns place },
     ghost follows: { Follows (C.says (C.given columns)) (C.given columns).root log.events (state_of walk) },
 }
 
@@ -31,10 +35,13 @@ impl<C: Columns + Drop> Lines<C> {
     pub(crate) fn new(alloc: Global, columns: C, room: usize) -> Result<Lines<C>, LinesError>
         ensures { IfOk result (λ l. marked (C.given l.columns) l.log.events ≡ marked (C.given columns) (Some [])) }
     {
-        let walk = Walk::new(alloc, columns.root(), room)?;
+        let place = columns.root();
+        let walk = Walk::new(alloc, place, room)?;
         Ok(Lines {
             columns,
             walk,
+            place,
+            own: columns.columns(place),
             log: Log::new(),
         })
     }
@@ -55,7 +62,7 @@ impl<C: Columns + Drop> Serializer for Lines<C> {
 
     #[inline(always)]
     fn bool(&mut self, v: bool) -> Result<(), LinesError> {
-        if let Err(error) = self.walk.boolean(self.columns, v) {
+        if let Err(error) = self.walk.boolean(&self.columns, v) {
             self.log = after(&self.columns, &self.log, Note::Lost);
             return Err(error);
         }
@@ -65,7 +72,7 @@ impl<C: Columns + Drop> Serializer for Lines<C> {
 
     #[inline(always)]
     fn i64(&mut self, v: i64) -> Result<(), LinesError> {
-        if let Err(error) = self.walk.signed(self.columns, v) {
+        if let Err(error) = self.walk.signed(&self.columns, v) {
             self.log = after(&self.columns, &self.log, Note::Lost);
             return Err(error);
         }
@@ -75,7 +82,7 @@ impl<C: Columns + Drop> Serializer for Lines<C> {
 
     #[inline(always)]
     fn u64(&mut self, v: u64) -> Result<(), LinesError> {
-        if let Err(error) = self.walk.unsigned(self.columns, v) {
+        if let Err(error) = self.walk.unsigned(&self.columns, v) {
             self.log = after(&self.columns, &self.log, Note::Lost);
             return Err(error);
         }
@@ -85,7 +92,7 @@ impl<C: Columns + Drop> Serializer for Lines<C> {
 
     #[inline(always)]
     fn str(&mut self, v: &str) -> Result<(), LinesError> {
-        if let Err(error) = self.walk.text(self.columns, v) {
+        if let Err(error) = self.walk.text(&self.columns, v) {
             self.log = after(&self.columns, &self.log, Note::Lost);
             return Err(error);
         }
@@ -95,7 +102,7 @@ impl<C: Columns + Drop> Serializer for Lines<C> {
 
     #[inline(always)]
     fn unit(&mut self) -> Result<(), LinesError> {
-        if let Err(error) = self.walk.null(self.columns) {
+        if let Err(error) = self.walk.null(&self.columns) {
             self.log = after(&self.columns, &self.log, Note::Lost);
             return Err(error);
         }
@@ -105,7 +112,7 @@ impl<C: Columns + Drop> Serializer for Lines<C> {
 
     #[inline(always)]
     fn begin_seq(&mut self, len: Option<usize>) -> Result<(), LinesError> {
-        if let Err(error) = self.walk.begin_seq(self.columns, len) {
+        if let Err(error) = self.walk.begin_seq(&self.columns, len) {
             self.log = after(&self.columns, &self.log, Note::Lost);
             return Err(error);
         }
@@ -115,7 +122,7 @@ impl<C: Columns + Drop> Serializer for Lines<C> {
 
     #[inline(always)]
     fn end_seq(&mut self) -> Result<(), LinesError> {
-        if let Err(error) = self.walk.end_seq(self.columns) {
+        if let Err(error) = self.walk.end_seq(&self.columns) {
             self.log = after(&self.columns, &self.log, Note::Lost);
             return Err(error);
         }
@@ -125,7 +132,7 @@ impl<C: Columns + Drop> Serializer for Lines<C> {
 
     #[inline(always)]
     fn begin_map(&mut self, len: Option<usize>) -> Result<(), LinesError> {
-        if let Err(error) = self.walk.begin_map(self.columns, len) {
+        if let Err(error) = self.walk.begin_map(&self.columns, len) {
             self.log = after(&self.columns, &self.log, Note::Lost);
             return Err(error);
         }
@@ -135,7 +142,7 @@ impl<C: Columns + Drop> Serializer for Lines<C> {
 
     #[inline(always)]
     fn end_map(&mut self) -> Result<(), LinesError> {
-        if let Err(error) = self.walk.end_map(self.columns) {
+        if let Err(error) = self.walk.end_map(&self.columns) {
             self.log = after(&self.columns, &self.log, Note::Lost);
             return Err(error);
         }
@@ -221,7 +228,12 @@ impl<C: Columns + Drop> Lines<C> {
             (marked (C.given self.old.columns) self.new.log.events) (field_key name.now AsIs)) }
         ensures columns { self.new.columns ≡ self.old.columns }
     {
-        if let Err(error) = self.walk.key(self.columns, name) {
+        let place = self.walk.place();
+        if place != self.place {
+            self.own = self.columns.columns(place);
+            self.place = place;
+        }
+        if let Err(error) = self.walk.key(&self.columns, self.own, name) {
             self.log = after(&self.columns, &self.log, Note::Lost);
             return Err(error);
         }

@@ -2,13 +2,13 @@
 
 ghost use Rattle.serde.specs.Event.{boolean, field_key, map_begins, map_ends, nothing, seq_begins, seq_ends, signed, text, unsigned};
 ghost use Rattle.serde.specs.declared.name.Case.TheVariants.{AsIs};
-ghost use Rattle.std.specs.Prelude.{IfOk, IfSome, List, MatchOption, None, OnOk, Option, Some, [], bytes_eq, false, if◌then◌else◌, option_map};
-ghost use Rattle.std.specs.Prelude.{reverse, ◌+◌, ◌++◌, ◌∷◌, ◌≡◌, ℕ};
-ghost use Rattle.tc_lines.specs.Columns.{Column as ColumnSaid, column_of, column_view, columns_view, depth_in, find, has_elements, has_name, in_line};
+ghost use Rattle.std.specs.Prelude.{IfOk, IfSome, MatchOption, None, OnOk, Option, Some, [], bytes_eq, false, if◌then◌else◌, option_map};
+ghost use Rattle.std.specs.Prelude.{reverse, ◌+◌, ◌++◌, ◌∷◌, ◌≡◌};
+ghost use Rattle.tc_lines.specs.Columns.{column_view, columns_view, depth_in, find, has_elements, has_name, in_line, or};
 ghost use Rattle.tc_lines.specs.Columns.{is_nested, opened, place_in, unnamed};
-ghost use Rattle.tc_lines.specs.Lines.{NONE, begins, element, head, inside_name, name_text, opening, partner_by};
+ghost use Rattle.tc_lines.specs.Lines.{NONE, element, inside_name, name_text, opening, partner_by};
 ghost use Rattle.tc_lines.specs.Walk.{between, close_map, close_seq, deeper, done, first_of, go_inside, key_in, leaf_done, map_in, named, note};
-ghost use Rattle.tc_lines.specs.Walk.{open_map, open_seq, settle, start, state_of, step};
+ghost use Rattle.tc_lines.specs.Walk.{open_map, open_seq, place_of, settle, start, state_of, step};
 
 use crate::column::{Column, Columns, How};
 use crate::error::LinesError;
@@ -43,39 +43,68 @@ pub(crate) struct Walk {
 // The place of no columns.
 const NONE: usize = 65535;
 
-// The column of a name in JSON.
+// The column of a name in JSON. It looks at four names at a time, since most have another length.
 fn find(columns: &'static [Column<'static>], key: &str) -> Option<&'static Column<'static>>
     ensures { option_map (λ c. column_view c.now) result ≡ find (columns_view columns.now) key.now }
 {
-    for column in columns.iter() {
-        if is_same(column.key, key) {
-            return Some(column);
+    let mut left = columns;
+    'fours: while let [first, second, third, fourth, others @ ..] = left {
+        if is_same(first.key, key) {
+            return Some(first);
         }
+        if is_same(second.key, key) {
+            return Some(second);
+        }
+        if is_same(third.key, key) {
+            return Some(third);
+        }
+        if is_same(fourth.key, key) {
+            return Some(fourth);
+        }
+        left = others;
+    }
+    'each: while let [first, others @ ..] = left {
+        if is_same(first.key, key) {
+            return Some(first);
+        }
+        left = others;
     }
     None
 }
 
-// The column of a name in JSON, among those of a partner, of a kind or of every kind.
-fn column_of<'k, C: Columns>(
-    columns: C,
+// The column of a name in JSON, among those of a partner; mostly there is none.
+#[inline(always)]
+fn find_behind<C: Columns>(
+    columns: &C,
     partner: usize,
-    own: usize,
-    others: usize,
-    key: &'k str,
-) -> Column<'k>
-    ensures { column_view result ≡ column_of ((C.says (C.given columns)).columns partner) ((C.says (C.given columns)).columns own)
-        ((C.says (C.given columns)).columns others) key.now }
+    key: &str,
+) -> Option<&'static Column<'static>>
+    ensures { option_map (λ c. column_view c.now) result ≡ find ((C.says (C.given columns.now)).columns partner) key.now }
 {
-    if let Some(column) = find(columns.columns(partner), key) {
-        return *column;
+    if partner == NONE {
+        return None;
     }
-    if let Some(column) = find(columns.columns(own), key) {
-        return *column;
+    find(columns.columns(partner), key)
+}
+
+// The column of a name in JSON, among those of a partner, of a kind or of every kind.
+fn column_of<C: Columns>(
+    columns: &C,
+    partner: usize,
+    own: &'static [Column<'static>],
+    others: usize,
+    key: &str,
+) -> Option<&'static Column<'static>>
+    ensures { option_map (λ c. column_view c.now) result ≡ or (find ((C.says (C.given columns.now)).columns partner) key.now)
+        (or (find (columns_view own.now) key.now) (find ((C.says (C.given columns.now)).columns others) key.now)) }
+{
+    if let Some(column) = find_behind(columns, partner, key) {
+        return Some(column);
     }
-    match find(columns.columns(others), key) {
-        Some(column) => *column,
-        None => unnamed(key),
+    if let Some(column) = find(own, key) {
+        return Some(column);
     }
+    find(columns.columns(others), key)
 }
 
 // The column of a name that has none.
@@ -107,7 +136,15 @@ fn unnamed(key: &str) -> Column<'_>
 fn is_same(a: &str, b: &str) -> bool
     ensures { result ≡ bytes_eq a.now b.now }
 {
-    a.len() == b.len() && a == b
+    a.len() == b.len() && is_equal(a, b)
+}
+
+// The same of texts that are as long as each other.
+#[inline(never)]
+fn is_equal(a: &str, b: &str) -> bool
+    ensures { result ≡ bytes_eq a.now b.now }
+{
+    a == b
 }
 
 // True where what is within has lines of its own.
@@ -189,12 +226,12 @@ fn opened(how: &How) -> How
 
 // Puts the line of a value without a name so far that is no leaf.
 fn put_opening<C: Columns>(
-    columns: C,
+    columns: &C,
     out: &mut Vec<u8>,
     depth: usize,
     how: &How,
 ) -> Result<(), AllocError>
-    ensures { OnOk result (out.new.items ≡ out.old.items ++ opening (C.says (C.given columns)) depth how.now) }
+    ensures { OnOk result (out.new.items ≡ out.old.items ++ opening (C.says (C.given columns.now)) depth how.now) }
 {
     match how {
         How::Hidden if columns.all() => Ok(()),
@@ -207,6 +244,7 @@ fn put_opening<C: Columns>(
 }
 
 // Puts a name, which is a word of a line, or begins one.
+#[inline(always)]
 fn put_name(out: &mut Vec<u8>, depth: usize, inline: bool, name: &[u8]) -> Result<(), AllocError>
     ensures { OnOk result (out.new.items ≡ out.old.items ++ name_text depth inline name.now) }
 {
@@ -231,13 +269,13 @@ fn partner_by(how: &How, block: bool, partner: usize) -> usize
 
 // Puts the beginning of an element.
 fn put_element<C: Columns>(
-    columns: C,
+    columns: &C,
     out: &mut Vec<u8>,
     depth: usize,
     base: usize,
     each: bool,
 ) -> Result<(), AllocError>
-    ensures { OnOk result (out.new.items ≡ out.old.items ++ element (C.says (C.given columns)) depth base each) }
+    ensures { OnOk result (out.new.items ≡ out.old.items ++ element (C.says (C.given columns.now)) depth base each) }
 {
     if each {
         return put_line(out, depth, name_at(columns, base).as_bytes());
@@ -258,12 +296,12 @@ fn put_inside_name(out: &mut Vec<u8>, key: &str) -> Result<(), AllocError>
 
 // Notes a kind for what is behind it.
 fn note<C: Columns>(
-    columns: C,
+    columns: &C,
     how: &How,
     value: &str,
     frames: &mut Vec<Frame>,
 ) -> Result<(), AllocError>
-    ensures { OnOk result (reverse frames.new.items ≡ note (C.says (C.given columns)) (text value.now) how.now (reverse frames.old.items)) }
+    ensures { OnOk result (reverse frames.new.items ≡ note (C.says (C.given columns.now)) (text value.now) how.now (reverse frames.old.items)) }
 {
     match how {
         How::Kind => note_kind(columns, value, frames),
@@ -272,8 +310,12 @@ fn note<C: Columns>(
 }
 
 // Notes a kind.
-fn note_kind<C: Columns>(columns: C, value: &str, frames: &mut Vec<Frame>) -> Result<(), AllocError>
-    ensures { OnOk result (reverse frames.new.items ≡ note (C.says (C.given columns)) (text value.now) How.Kind (reverse frames.old.items)) }
+fn note_kind<C: Columns>(
+    columns: &C,
+    value: &str,
+    frames: &mut Vec<Frame>,
+) -> Result<(), AllocError>
+    ensures { OnOk result (reverse frames.new.items ≡ note (C.says (C.given columns.now)) (text value.now) How.Kind (reverse frames.old.items)) }
 {
     let top = match pop(frames) {
         Some(top) => top,
@@ -342,8 +384,8 @@ impl Walk {
     }
 
     /// A truth value.
-    pub(crate) fn boolean<C: Columns>(&mut self, columns: C, b: bool) -> Result<(), LinesError>
-        ensures { OnOk result (step (C.says (C.given columns)) (boolean b) (state_of self.old) ≡ Some (state_of self.new)) }
+    pub(crate) fn boolean<C: Columns>(&mut self, columns: &C, b: bool) -> Result<(), LinesError>
+        ensures { OnOk result (step (C.says (C.given columns.now)) (boolean b) (state_of self.old) ≡ Some (state_of self.new)) }
     {
         put_boolean(columns, &mut self.out, self.depth, &self.how, b)?;
         self.leaf_done(false);
@@ -351,8 +393,8 @@ impl Walk {
     }
 
     /// A number.
-    pub(crate) fn unsigned<C: Columns>(&mut self, columns: C, n: u64) -> Result<(), LinesError>
-        ensures { OnOk result (step (C.says (C.given columns)) (unsigned n) (state_of self.old) ≡ Some (state_of self.new)) }
+    pub(crate) fn unsigned<C: Columns>(&mut self, columns: &C, n: u64) -> Result<(), LinesError>
+        ensures { OnOk result (step (C.says (C.given columns.now)) (unsigned n) (state_of self.old) ≡ Some (state_of self.new)) }
     {
         put_unsigned(columns, &mut self.out, self.depth, &self.how, n)?;
         self.leaf_done(false);
@@ -360,8 +402,8 @@ impl Walk {
     }
 
     /// A number that may be negative.
-    pub(crate) fn signed<C: Columns>(&mut self, columns: C, n: i64) -> Result<(), LinesError>
-        ensures { OnOk result (step (C.says (C.given columns)) (signed n) (state_of self.old) ≡ Some (state_of self.new)) }
+    pub(crate) fn signed<C: Columns>(&mut self, columns: &C, n: i64) -> Result<(), LinesError>
+        ensures { OnOk result (step (C.says (C.given columns.now)) (signed n) (state_of self.old) ≡ Some (state_of self.new)) }
     {
         put_signed(columns, &mut self.out, self.depth, &self.how, n)?;
         self.leaf_done(is_block(n));
@@ -369,8 +411,8 @@ impl Walk {
     }
 
     /// Nothing.
-    pub(crate) fn null<C: Columns>(&mut self, columns: C) -> Result<(), LinesError>
-        ensures { OnOk result (step (C.says (C.given columns)) nothing (state_of self.old) ≡ Some (state_of self.new)) }
+    pub(crate) fn null<C: Columns>(&mut self, columns: &C) -> Result<(), LinesError>
+        ensures { OnOk result (step (C.says (C.given columns.now)) nothing (state_of self.old) ≡ Some (state_of self.new)) }
     {
         put_null(columns, &mut self.out, self.depth, &self.how)?;
         self.leaf_done(false);
@@ -378,8 +420,8 @@ impl Walk {
     }
 
     /// A text.
-    pub(crate) fn text<C: Columns>(&mut self, columns: C, value: &str) -> Result<(), LinesError>
-        ensures { OnOk result (step (C.says (C.given columns)) (text value.now) (state_of self.old) ≡ Some (state_of self.new)) }
+    pub(crate) fn text<C: Columns>(&mut self, columns: &C, value: &str) -> Result<(), LinesError>
+        ensures { OnOk result (step (C.says (C.given columns.now)) (text value.now) (state_of self.old) ≡ Some (state_of self.new)) }
     {
         put_string(columns, &mut self.out, self.depth, &self.how, value)?;
         match self.inside.checked_sub(1) {
@@ -393,9 +435,26 @@ impl Walk {
         }
     }
 
-    /// The name of a member.
-    pub(crate) fn key<C: Columns>(&mut self, columns: C, name: &str) -> Result<(), LinesError>
-        ensures { OnOk result (step (C.says (C.given columns)) (field_key name.now AsIs) (state_of self.old) ≡ Some (state_of self.new)) }
+    /// The place of the columns of what is open.
+    #[inline(always)]
+    pub(crate) fn place(&self) -> usize
+        ensures { result ≡ place_of (first_of (state_of self.now).frames) }
+    {
+        match top(&self.frames) {
+            Some(Frame::InMembers(_, _, place, _)) => place,
+            _ => NONE,
+        }
+    }
+
+    /// The name of a member, with the columns of what is open.
+    pub(crate) fn key<C: Columns>(
+        &mut self,
+        columns: &C,
+        own: &'static [Column<'static>],
+        name: &str,
+    ) -> Result<(), LinesError>
+        requires { columns_view own.now ≡ (C.says (C.given columns.now)).columns (place_of (first_of (state_of self.old).frames)) }
+        ensures { OnOk result (step (C.says (C.given columns.now)) (field_key name.now AsIs) (state_of self.old) ≡ Some (state_of self.new)) }
     {
         match self.inside.checked_sub(1) {
             Some(_) => {
@@ -404,7 +463,7 @@ impl Walk {
             }
             None => {
                 let top = top(&self.frames);
-                self.key_in(columns, name, top)
+                self.key_in(columns, own, name, top)
             }
         }
     }
@@ -412,30 +471,49 @@ impl Walk {
     // The name of a member of what is open.
     fn key_in<C: Columns>(
         &mut self,
-        columns: C,
+        columns: &C,
+        own: &'static [Column<'static>],
         name: &str,
         top: Option<Frame>,
     ) -> Result<(), LinesError>
-        ensures { OnOk result (key_in (C.says (C.given columns)) name.now (state_of self.old) top ≡ Some (state_of self.new)) }
+        requires { columns_view own.now ≡ (C.says (C.given columns.now)).columns (place_of top) }
+        ensures { OnOk result (key_in (C.says (C.given columns.now)) name.now (state_of self.old) top ≡ Some (state_of self.new)) }
     {
         match top {
-            Some(Frame::InMembers(depth, base, place, inline)) => {
-                let column = column_of(columns, self.partner, place, base, name);
-                self.at_column(columns, depth, inline, &column)
+            Some(Frame::InMembers(depth, base, _, inline)) => {
+                match column_of(columns, self.partner, own, base, name) {
+                    Some(column) => self.at_column(columns, depth, inline, column),
+                    None => self.at_unnamed(columns, depth, inline, name),
+                }
             }
             _ => Err(LinesError::NotJson),
         }
     }
 
+    // At the value of a name that has no column.
+    #[inline(never)]
+    fn at_unnamed<C: Columns>(
+        &mut self,
+        columns: &C,
+        depth: usize,
+        inline: bool,
+        name: &str,
+    ) -> Result<(), LinesError>
+        ensures { OnOk result (state_of self.new ≡ named (C.says (C.given columns.now)) depth inline (unnamed name.now) (state_of self.old)) }
+    {
+        self.at_column(columns, depth, inline, &unnamed(name))
+    }
+
     // At the value of a column.
+    #[inline(always)]
     fn at_column<C: Columns>(
         &mut self,
-        columns: C,
+        columns: &C,
         depth: usize,
         inline: bool,
         column: &Column<'_>,
     ) -> Result<(), LinesError>
-        ensures { OnOk result (state_of self.new ≡ named (C.says (C.given columns)) depth inline (column_view column.now) (state_of self.old)) }
+        ensures { OnOk result (state_of self.new ≡ named (C.says (C.given columns.now)) depth inline (column_view column.now) (state_of self.old)) }
     {
         if has_name(columns.all(), &column.how) {
             put_name(&mut self.out, depth, inline, column.name.as_bytes())?;
@@ -449,8 +527,8 @@ impl Walk {
     }
 
     // Within a line.
-    fn go_inside<C: Columns>(&mut self, columns: C) -> Result<(), LinesError>
-        ensures { OnOk result (state_of self.new ≡ go_inside (C.says (C.given columns)) (state_of self.old)) }
+    fn go_inside<C: Columns>(&mut self, columns: &C) -> Result<(), LinesError>
+        ensures { OnOk result (state_of self.new ≡ go_inside (C.says (C.given columns.now)) (state_of self.old)) }
     {
         put_opening(columns, &mut self.out, self.depth, &self.how)?;
         self.partner = NONE;
@@ -475,10 +553,10 @@ impl Walk {
     /// An object begins.
     pub(crate) fn begin_map<C: Columns>(
         &mut self,
-        columns: C,
+        columns: &C,
         _len: Option<usize>,
     ) -> Result<(), LinesError>
-        ensures { OnOk result (step (C.says (C.given columns)) (map_begins _len) (state_of self.old) ≡ Some (state_of self.new)) }
+        ensures { OnOk result (step (C.says (C.given columns.now)) (map_begins _len) (state_of self.old) ≡ Some (state_of self.new)) }
     {
         match self.inside.checked_sub(1) {
             Some(_) => self.deeper(),
@@ -490,8 +568,8 @@ impl Walk {
     }
 
     // An object begins in what is open.
-    fn map_in<C: Columns>(&mut self, columns: C, top: Option<Frame>) -> Result<(), LinesError>
-        ensures { OnOk result (state_of self.new ≡ map_in (C.says (C.given columns)) (state_of self.old) top) }
+    fn map_in<C: Columns>(&mut self, columns: &C, top: Option<Frame>) -> Result<(), LinesError>
+        ensures { OnOk result (state_of self.new ≡ map_in (C.says (C.given columns.now)) (state_of self.old) top) }
     {
         match top {
             Some(Frame::InItems(depth, base, place, each)) => {
@@ -504,13 +582,13 @@ impl Walk {
     // An object of a list begins.
     fn begin_element<C: Columns>(
         &mut self,
-        columns: C,
+        columns: &C,
         depth: usize,
         base: usize,
         place: usize,
         each: bool,
     ) -> Result<(), LinesError>
-        ensures { OnOk result (state_of self.new ≡ between (self.old.out.items ++ element (C.says (C.given columns)) depth base each)
+        ensures { OnOk result (state_of self.new ≡ between (self.old.out.items ++ element (C.says (C.given columns.now)) depth base each)
             (if each then NONE else self.old.partner) (Frame.InMembers depth base place each ∷ reverse self.old.frames.items)) }
     {
         put_element(columns, &mut self.out, depth, base, each)?;
@@ -523,8 +601,8 @@ impl Walk {
     }
 
     // An object of a column begins.
-    fn open_map<C: Columns>(&mut self, columns: C) -> Result<(), LinesError>
-        ensures { OnOk result (state_of self.new ≡ open_map (C.says (C.given columns)) (state_of self.old)) }
+    fn open_map<C: Columns>(&mut self, columns: &C) -> Result<(), LinesError>
+        ensures { OnOk result (state_of self.new ≡ open_map (C.says (C.given columns.now)) (state_of self.old)) }
     {
         if !is_nested(&self.how) {
             return self.go_inside(columns);
@@ -544,8 +622,8 @@ impl Walk {
     }
 
     // A list of a column begins.
-    fn open_seq<C: Columns>(&mut self, columns: C) -> Result<(), LinesError>
-        ensures { OnOk result (state_of self.new ≡ open_seq (C.says (C.given columns)) (state_of self.old)) }
+    fn open_seq<C: Columns>(&mut self, columns: &C) -> Result<(), LinesError>
+        ensures { OnOk result (state_of self.new ≡ open_seq (C.says (C.given columns.now)) (state_of self.old)) }
     {
         if !is_nested(&self.how) {
             return self.go_inside(columns);
@@ -564,10 +642,10 @@ impl Walk {
     /// A list begins.
     pub(crate) fn begin_seq<C: Columns>(
         &mut self,
-        columns: C,
+        columns: &C,
         _len: Option<usize>,
     ) -> Result<(), LinesError>
-        ensures { OnOk result (step (C.says (C.given columns)) (seq_begins _len) (state_of self.old) ≡ Some (state_of self.new)) }
+        ensures { OnOk result (step (C.says (C.given columns.now)) (seq_begins _len) (state_of self.old) ≡ Some (state_of self.new)) }
     {
         match self.inside.checked_sub(1) {
             Some(_) => self.deeper(),
@@ -586,8 +664,8 @@ impl Walk {
     }
 
     /// An object ends.
-    pub(crate) fn end_map<C: Columns>(&mut self, _columns: C) -> Result<(), LinesError>
-        ensures { OnOk result (step (C.says (C.given _columns)) map_ends (state_of self.old) ≡ Some (state_of self.new)) }
+    pub(crate) fn end_map<C: Columns>(&mut self, _columns: &C) -> Result<(), LinesError>
+        ensures { OnOk result (step (C.says (C.given _columns.now)) map_ends (state_of self.old) ≡ Some (state_of self.new)) }
     {
         match self.inside.checked_sub(1) {
             Some(inside) => {
@@ -613,8 +691,8 @@ impl Walk {
     }
 
     /// A list ends.
-    pub(crate) fn end_seq<C: Columns>(&mut self, _columns: C) -> Result<(), LinesError>
-        ensures { OnOk result (step (C.says (C.given _columns)) seq_ends (state_of self.old) ≡ Some (state_of self.new)) }
+    pub(crate) fn end_seq<C: Columns>(&mut self, _columns: &C) -> Result<(), LinesError>
+        ensures { OnOk result (step (C.says (C.given _columns.now)) seq_ends (state_of self.old) ≡ Some (state_of self.new)) }
     {
         match self.inside.checked_sub(1) {
             Some(inside) => {

@@ -1,13 +1,13 @@
 //! The text that messages are shown as.
 
 ghost use Rattle.std.specs.Prelude.{◌<◌, IsTrue, true};
-ghost use Rattle.tc_outline.specs.Page.{is_printable, IsPrintable, IsShown};
+ghost use Rattle.tc_outline.specs.Page.{is_printable, IsShown};
 
 mod texts;
 
 use itoa::Buffer;
 use std::alloc::{AllocError, Allocator};
-use texts::{are_shown, is_printable, is_word, margin_of};
+use texts::{are_shown, is_printable, is_word, margin_of, run_of};
 
 /// How a message is laid out.
 #[derive(Clone, Copy, PartialEq, Eq, Debug)]
@@ -30,7 +30,7 @@ pub struct Page<A: Allocator> {
 
 impl<A: Allocator> Page<A> {
     ghost use Rattle.std.specs.Char.{digit_char};
-    ghost use Rattle.std.specs.Prelude.{◌≡◌, ◌++◌, ◌∷◌, [], ◌/◌, ◌%◌, OnOk, true};
+    ghost use Rattle.std.specs.Prelude.{◌≡◌, ◌≤◌, ◌++◌, ◌∷◌, [], ◌/◌, ◌%◌, IfOk, OnOk, length, true};
     ghost use Rattle.tc_outline.specs.Page.{escaped_byte, shown, shown_byte};
     ghost use Rattle.tc_outline.specs.Text.{has_lines, text_on};
 
@@ -75,16 +75,37 @@ impl<A: Allocator> Page<A> {
 
     // The same on one line: its lines in the braces of their depths.
     fn on_one_line(&mut self, text: &[u8]) -> Result<(), AllocError> {
-        for (at, line) in text.split(|byte| *byte == b'\n').enumerate() {
-            if at == 0 {
-                self.escaped(line)?;
-            } else {
-                let (blanks, line) = line.split_at(margin_of(line));
-                self.begin(blanks.len() / 2)?;
-                self.escaped(line)?;
-            }
+        let mut left = text;
+        while !left.is_empty() {
+            left = self.run(left)?;
         }
         Ok(())
+    }
+
+    // What is printable, and the line feed or the byte behind it; returns what is left.
+    fn run<'t>(&mut self, text: &'t [u8]) -> Result<&'t [u8], AllocError>
+        requires { 0 < length text.now }
+        ensures { IfOk result (λ left. length left.now < length text.now) }
+    {
+        let (printable, others) = text.split_at(run_of(text));
+        self.bytes.extend_from_slice(printable)?;
+        match others {
+            [b'\n', line @ ..] => self.margin(line),
+            [byte, left @ ..] => {
+                self.escaped_byte(*byte)?;
+                Ok(left)
+            }
+            [] => Ok(&[]),
+        }
+    }
+
+    // The margin of a line; returns what is behind it.
+    fn margin<'t>(&mut self, line: &'t [u8]) -> Result<&'t [u8], AllocError>
+        ensures { IfOk result (λ left. length left.now ≤ length line.now) }
+    {
+        let (blanks, left) = line.split_at(margin_of(line));
+        self.begin(blanks.len() / 2)?;
+        Ok(left)
     }
 
     /// A text in quotes, unless it consists of letters, digits, `_`, `-` and `.` alone.

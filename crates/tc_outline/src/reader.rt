@@ -9,7 +9,25 @@ use crate::fault::{Fault, error_in, fault_at};
 use crate::path::Path;
 use crate::what::What;
 use nla_frames::{DecodeError, Res};
-use tc_index::{Attributes, BrokenFrame};
+use tc_index::{Attribute, Attributes, BrokenFrame};
+
+// Why a message is refused. Its place as a tree takes another walk.
+#[derive(Drop)]
+struct Refused<'a> {
+    error: DecodeError,
+    at: At<'a>,
+    // How many attributes begin before it, its own among them.
+    count: usize,
+}
+
+// What is refused.
+#[derive(Clone, Copy)]
+enum At<'a> {
+    // An attribute, for what it holds.
+    Attribute(Attribute<'a>),
+    // A broken frame that begins at this offset.
+    Frame(usize),
+}
 
 /// The first fault of a message in the order of reading, and its place. None of a message that can be read.
 pub fn locate(bytes: &[u8], what: What) -> Option<Fault>
@@ -18,26 +36,82 @@ pub fn locate(bytes: &[u8], what: What) -> Option<Fault>
 {
     match attributes_of(bytes, what) {
         Err(error) => Some(header_fault(error)),
-        Ok(attributes) => Some(within(first_fault(attributes)?, bytes.len())),
+        Ok(attributes) => {
+            let refused = first_fault(attributes)?;
+            let path = path_of(bytes, what, refused.count);
+            Some(within(fault_of(refused, &path), bytes.len()))
+        }
     }
 }
 
-fn first_fault(attributes: Attributes<'_>) -> Option<Fault>
-    ensures { option_map (λ fault. fault.error) result ≡ first_fault (items_left attributes.entry) }
+fn first_fault(attributes: Attributes<'_>) -> Option<Refused<'_>>
+    ensures { option_map (λ refused. refused.error) result ≡ first_fault (items_left attributes.entry) }
 {
-    let mut path = Path::new();
+    let mut count = 0usize;
     for attribute in attributes {
         match attribute {
-            Err(broken) => return Some(broken_at(&path, broken)),
+            Err(broken) => return Some(broken_after(count, broken)),
             Ok(attribute) => {
-                path.enter(&attribute);
+                count = count.saturating_add(1);
                 if let Some(error) = error_in(&attribute) {
-                    return Some(fault_at(&attribute, &path, error));
+                    return Some(Refused {
+                        error,
+                        at: At::Attribute(attribute),
+                        count,
+                    });
                 }
             }
         }
     }
     None
+}
+
+// A frame is broken after so many attributes.
+fn broken_after<'a>(count: usize, broken: BrokenFrame) -> Refused<'a>
+    ensures { result.error ≡ broken.fault }
+{
+    Refused {
+        error: broken.fault,
+        at: At::Frame(broken.offset),
+        count,
+    }
+}
+
+// The way to the last of the first attributes, so many.
+fn path_of(bytes: &[u8], what: What, count: usize) -> Path {
+    let mut path = Path::new();
+    let attributes = match attributes_of(bytes, what) {
+        Ok(attributes) => attributes,
+        Err(_) => return path,
+    };
+    let mut left = count;
+    for attribute in attributes {
+        let attribute = match attribute {
+            Ok(attribute) => attribute,
+            Err(_) => return path,
+        };
+        if left == 0 {
+            return path;
+        }
+        path.enter(&attribute);
+        left = left.saturating_sub(1);
+    }
+    path
+}
+
+// The fault, at the end of a path.
+fn fault_of(refused: Refused<'_>, path: &Path) -> Fault
+    ensures { result.error ≡ refused.entry.error }
+{
+    let Refused {
+        error,
+        at,
+        count: _,
+    } = refused;
+    match at {
+        At::Attribute(attribute) => fault_at(&attribute, path, error),
+        At::Frame(offset) => broken_at(path, offset, error),
+    }
 }
 
 // The fault at a place in a message of this length.
@@ -62,15 +136,15 @@ fn attributes_of(bytes: &[u8], what: What) -> Res<Attributes<'_>>
     }
 }
 
-// The fault that a broken frame after an attribute is.
-fn broken_at(before: &Path, broken: BrokenFrame) -> Fault
-    ensures { result.error ≡ broken.fault }
+// The fault that a broken frame at this offset, after an attribute, is.
+fn broken_at(before: &Path, offset: usize, error: DecodeError) -> Fault
+    ensures { result.error ≡ error }
 {
     let mut path = *before;
-    path.enter_at(broken.offset);
+    path.enter_at(offset);
     Fault {
-        offset: broken.offset,
-        error: broken.fault,
+        offset,
+        error,
         path,
     }
 }

@@ -1,5 +1,5 @@
 -- A number in hex, digit by digit.
-use Rattle.std.proofs.Common.{◌≡◌, ℕ, suc, ◌≤◌, ◌/◌, ◌%◌, Bool, true, false, nat_lt, List, [], ◌∷◌, ◌++◌, ap, arith, subst, sym}
+use Rattle.std.proofs.Common.{◌≡◌, ℕ, suc, ◌≤◌, ◌/◌, ◌%◌, false, nat_lt, [], ◌∷◌, ◌++◌, ap, arith, subst, sym}
 use Rattle.std.specs.Char.{digit_char}
 use Rattle.std.specs.Prelude.{if◌then◌else◌}
 use Rattle.tc_units.specs.Numerals.{hex_in}

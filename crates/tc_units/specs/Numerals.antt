@@ -1,6 +1,6 @@
 -- Numbers as people read them.
 use Rattle.std.specs.Char.{digit_char}
-use Rattle.std.specs.Prelude.{List, [], codes, decimal, if◌then◌else◌, nat_lt, suc, zero, ℕ, ◌%◌, ◌++◌, ◌/◌, ◌∷◌}
+use Rattle.std.specs.Prelude.{List, [], codes, if◌then◌else◌, nat_lt, suc, zero, ℕ, ◌%◌, ◌++◌, ◌/◌, ◌∷◌}
 
 -- in hex without leading zeros: at most so many digits
 abbrev pub hex_in : ℕ → ℕ → List ℕ

@@ -7,9 +7,22 @@ ghost use Rattle.tc_units.specs.Numerals.{hex, hex_in, hex_text, long_hex_text};
 use itoa::Buffer;
 use std::alloc::{AllocError, Allocator};
 
-/// Puts a number in decimal.
+/// Puts a number in decimal. Most have one digit.
 #[inline(always)]
-pub(crate) fn put_decimal<A: Allocator>(out: &mut Vec<u8, A>, n: u64) -> Result<(), AllocError>
+#[tactic(auto, using(std::proofs::lemmas::Fmt::decimal_digit))]
+pub fn put_decimal<A: Allocator>(out: &mut Vec<u8, A>, n: u64) -> Result<(), AllocError>
+    ensures { OnOk result (out.new.items ≡ out.old.items ++ decimal n) }
+{
+    if n < 10 {
+        out.push(b'0' + n as u8)?;
+        return Ok(());
+    }
+    put_long(out, n)
+}
+
+// Puts a number in decimal.
+#[inline(never)]
+fn put_long<A: Allocator>(out: &mut Vec<u8, A>, n: u64) -> Result<(), AllocError>
     ensures { OnOk result (out.new.items ≡ out.old.items ++ decimal n) }
 {
     let mut buffer = Buffer::new();

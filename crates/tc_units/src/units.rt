@@ -83,13 +83,19 @@ fn swapped(n: u64) -> u64
         + n / 0x100_0000 % 0x100
 }
 
-// Puts a number and the name of its unit.
-#[inline(never)]
+// Puts a number and the name of its unit, mostly a letter.
+#[inline(always)]
 fn put_counted<A: Allocator>(out: &mut Vec<u8, A>, n: u64, name: &[u8]) -> Result<(), AllocError>
     ensures { OnOk result (out.new.items ≡ out.old.items ++ (decimal n ++ name.now)) }
 {
     put_decimal(out, n)?;
-    out.extend_from_slice(name)
+    match name {
+        [letter] => {
+            out.push(*letter)?;
+            Ok(())
+        }
+        _ => out.extend_from_slice(name),
+    }
 }
 
 // True where tc writes a number in a unit, and not in one that is a thousand times as large.

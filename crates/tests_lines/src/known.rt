@@ -1,5 +1,5 @@
 //! Lines of messages, written by hand from what their bytes say. The messages are Linux's and iproute2's,
-//! but for KEYS, GOTO, CLASS and SHORT.
+//! but for KEYS, TWICE, GOTO, CLASS and SHORT.
 
 use std::alloc::{AllocError, Global};
 use tc_columns::{KindColumns, Root};
@@ -357,6 +357,22 @@ static KEYS: Known = Known {
     ],
 };
 
+// A mask and the greatest of a range, each twice: the second isn't in the line of the first.
+static TWICE: Known = Known {
+    root: Root::Filter,
+    digits: "000000000300000000000000f2ffffff080001000b000100666c6f77657200003400020008000c000a08000108000d00ffff000008000d00\
+             ffff0000060059000050000006005a00005a000006005a00005a0000",
+    lines: &[
+        " index 3 handle 0x0 parent ffff:fff2 pref 1 protocol ip (0x0800)",
+        "kind flower",
+        "options",
+        "  ipv4_dst 10.8.0.1/16",
+        "  ipv4_dst_mask 255.255.0.0",
+        "  ports_dst 80-90",
+        "  port_dst_max 90",
+    ],
+};
+
 static GOTO: Known = Known {
     root: Root::Action,
     digits: "00000000300001002c0001000900010067616374000000001c0002801800020001000000000000002a0000200200000001000000",
@@ -413,6 +429,7 @@ fn lines_are_known(rt: HostRuntime) {
 fn headers_masks_ranges_and_paddings(rt: HostRuntime) {
     let alloc = rt.alloc();
     assert!(rt; is_known(alloc, &KEYS, false));
+    assert!(rt; is_known(alloc, &TWICE, false));
     assert!(rt; is_known(alloc, &GOTO, false));
     assert!(rt; is_known(alloc, &CLASS, true));
     assert!(rt; !is_known(alloc, &CLASS, false));

@@ -1,8 +1,8 @@
 //! Which texts are written as they are.
 
 ghost use Rattle.std.specs.List.{list_all};
-ghost use Rattle.std.specs.Prelude.{◌↔◌, ◌≡◌, ◌≤◌, IsTrue, length, true};
-ghost use Rattle.tc_outline.specs.Page.{IsPrintable, IsShown, is_shown};
+ghost use Rattle.std.specs.Prelude.{◌↔◌, ◌≡◌, ◌≤◌, IsTrue, length, take, true};
+ghost use Rattle.tc_outline.specs.Page.{IsPrintable, IsShown, is_printable, is_shown};
 
 // True if each byte is printable ASCII.
 pub(super) fn is_printable(text: &[u8]) -> bool
@@ -35,6 +35,24 @@ fn is_shown(byte: u8) -> bool
     ensures { result ≡ is_shown true byte }
 {
     0x20 <= byte && byte <= 0x7e || byte == b'\n'
+}
+
+// How many bytes of a text are printable ASCII, up to the first that isn't.
+pub(super) fn run_of(text: &[u8]) -> usize
+    ensures within { result ≤ length text.now }
+    ensures printable { IsPrintable (take result text.now) }
+{
+    let mut at = 0;
+    while at < text.len() && is_printable_byte(text[at]) {
+        at += 1;
+    }
+    at
+}
+
+fn is_printable_byte(byte: u8) -> bool
+    ensures { result ≡ is_printable byte }
+{
+    0x20 <= byte && byte <= 0x7e
 }
 
 // How many blanks a line begins with.

@@ -1,4 +1,4 @@
-use Rattle.std.proofs.Common.{ℕ, List, [], ◌∷◌, ◌++◌, Option, Some, None, IfSome, ◌≡◌, append_assoc, option_and_then, refl, subst, sym, ap, ◌∙◌}
+use Rattle.std.proofs.Common.{ℕ, [], ◌∷◌, Option, Some, None, IfSome, ◌≡◌, append_assoc, option_and_then, subst, sym, ap, ◌∙◌}
 use mathlib.Core.Logic.{∥∥₁_map}
 use Rattle.serde.specs.Event.{Event, Log, Logs}
 use Rattle.serde_json.specs.Logged.{then}

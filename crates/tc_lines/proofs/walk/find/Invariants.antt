@@ -1,7 +1,17 @@
-use Rattle.std.proofs.Common.{◌≡◌, drop}
+use Rattle.std.proofs.Common.{◌≡◌, length}
 use Rattle.tc_lines.specs.Columns.{columns_view, find}
 use Rattle.tc_lines.proofs.walk.find.Given as goal
 
--- what is found from here is found from the start
-abbrev pub invariant-loop-column : goal.invariant-loop-column
-invariant-loop-column l = find (columns_view l.columns) l.key ≡ find (columns_view (drop l.column-index l.columns)) l.key
+-- what is found in what is left is found in all
+
+abbrev pub invariant-fours : goal.invariant-fours
+invariant-fours l = find (columns_view l.columns) l.key ≡ find (columns_view l.left) l.key
+
+abbrev pub decreases-fours : goal.decreases-fours
+decreases-fours l = length l.left
+
+abbrev pub invariant-each : goal.invariant-each
+invariant-each l = find (columns_view l.columns) l.key ≡ find (columns_view l.left) l.key
+
+abbrev pub decreases-each : goal.decreases-each
+decreases-each l = length l.left
