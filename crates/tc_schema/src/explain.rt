@@ -8,7 +8,7 @@ ghost use Rattle.tc_schema.specs.Notes.{note_view, notes_at};
 ghost use Rattle.tc_schema.specs.Texts.{member_view, members_of};
 
 use crate::json::put_example;
-use crate::notes::{Left, Named, NamesAt, Note, Noted, first_note, names_at, notes_at};
+use crate::notes::{Left, Named, Note, Noted, first_note, names_at, notes_at};
 use crate::texts::{Done, Member, first_member, put, put_around, put_form, put_times};
 use std::alloc::{AllocError, Allocator};
 use tc_forms::{Form, KindRows, Number, Part, Tables};
@@ -22,7 +22,7 @@ const DEEPEST: u8 = 12;
 struct At<'a, T> {
     table: T,
     notes: &'a [Noted<'static>],
-    names: &'a [NamesAt<'static>],
+    names: &'a [&'static [Named<'static>]],
     depth: u8,
 }
 
@@ -204,7 +204,7 @@ fn rows_of_kind(kinds: &[KindRows<'_>], kind: &str) -> Option<usize>
 pub fn put_kind<T: Tables, A: Allocator>(
     table: T,
     notes: &[Noted<'static>],
-    names: &[NamesAt<'static>],
+    names: &[&'static [Named<'static>]],
     place: usize,
     kind: &str,
     out: &mut Vec<u8, A>,
