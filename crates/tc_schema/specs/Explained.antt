@@ -1,5 +1,6 @@
 -- What the attributes of a kind are, as a text: a line for each attribute, field and choice, in the order of the table, below that in which it is.
 use Rattle.std.specs.Borrow.{Bor}
+use Rattle.std.specs.Option.{option_map_or}
 use Rattle.std.specs.Prelude.{List, None, Option, Some, [], bytes_eq, codes, decimal, if◌then◌else◌, nat_le, nat_lt, suc, zero, ℕ}
 use Rattle.std.specs.Prelude.{◌&&◌, ◌++◌, ◌+◌, ◌-◌, ◌/◌, ◌∷◌}
 use Rattle.tc_forms.specs.Tables.{KindRows, Kinds, One, Part, Table}
@@ -95,11 +96,8 @@ abbrev pub rows_of_kind : List KindRows → List ℕ → Option ℕ
 rows_of_kind [] kind = None
 rows_of_kind (x ∷ xs) kind = if bytes_eq x.kind kind then Some x.rows else rows_of_kind xs kind
 
-abbrev pub kind_at : Table → List Noted → List (Bor (List Named)) → List ℕ → Option ℕ → List ℕ
-kind_at table notes names kind None = []
-kind_at table notes names kind (Some rows) =
-    kind ++ (codes "\n" ++ (explained table notes names deepest (form.List rows) ++ kind_example table kind rows))
-
 -- a kind of the list at a place: what its attributes are, and an example
 abbrev pub kind_text : Table → List Noted → List (Bor (List Named)) → ℕ → List ℕ → List ℕ
-kind_text table notes names place kind = kind_at table notes names kind (rows_of_kind (kinds_of (table place)) kind)
+kind_text table notes names place kind =
+    option_map_or (λ rows. kind ++ (codes "\n" ++ (explained table notes names deepest (form.List rows) ++ kind_example table kind rows)))
+    (rows_of_kind (kinds_of (table place)) kind) []

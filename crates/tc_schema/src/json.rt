@@ -329,7 +329,8 @@ fn put_shown<T: Tables, A: Allocator>(out: &mut Vec<u8, A>, table: T, form: Form
 
 // ---- parts
 
-// What is put of each member: an example, at most so deep; the schema, alone or in an object of its own; its name; or that an object has it.
+// What is put of each member: an example, at most so deep; the schema, alone or in an object of its own; its name; or that an object must
+// have it.
 #[derive(Clone, Copy)]
 enum Each {
     Example(u8),
@@ -392,7 +393,8 @@ fn put_each<T: Tables, A: Allocator>(
     each: Each,
     part: Part<'static>,
 ) -> Done
-    ensures { OnOk result (out.new.items ≡ out.old.items ++ each_text (is_left_out each) (one_text (T.parts_of table) each) true (members_of (part_view part.entry))) }
+    ensures { OnOk result (out.new.items ≡ out.old.items ++
+        each_text (is_left_out each) (one_text (T.parts_of table) each) true (members_of (part_view part.entry))) }
 {
     let mut left = part;
     let mut is_first = true;
