@@ -11,11 +11,7 @@ use Rattle.tc_schema.specs.Json.{kind_example}
 use Rattle.tc_schema.specs.Notes.{Note, first_note, names_at, notes_at, other_notes}
 use Rattle.tc_schema.specs.declared.notes.Named.{Named}
 use Rattle.tc_schema.specs.declared.notes.Noted.{Noted}
-use Rattle.tc_schema.specs.Texts.{Member, form_text, members_of, times, around}
-
--- how deep attributes are explained
-abbrev pub deepest : ℕ
-deepest = 12
+use Rattle.tc_schema.specs.Texts.{Member, deepest, form_text, members_of, times, around}
 
 -- a line: two blanks for each level, a name, what is said of it, and the kernel's name, where it has one
 abbrev pub text_line : ℕ → List ℕ → List ℕ → List ℕ → List ℕ

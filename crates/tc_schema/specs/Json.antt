@@ -6,7 +6,7 @@ use Rattle.tc_forms.specs.Tables.{Choices, Fields, KindRows, Kinds, Names, One, 
 use Rattle.tc_forms.specs.declared.form.Form.{Form}
 use Rattle.tc_forms.specs.declared.form.Form.TheVariants as form
 use Rattle.tc_forms.specs.declared.form.Number.{Number}
-use Rattle.tc_schema.specs.Texts.{Member, about, about_number, around, between, comma, members_of, quoted, times}
+use Rattle.tc_schema.specs.Texts.{Member, about, about_number, around, between, comma, deepest, members_of, quoted, times}
 use Rattle.tc_schema.specs.declared.json.Each.{Each}
 use Rattle.tc_schema.specs.declared.json.Each.TheVariants as each
 use Rattle.tc_schema.specs.declared.json.TheConstants.{BYTES, CLOSED, EXAMPLE, INTEGER, KINDED, LINE, LIST, NAMED, OBJECT, OR_OTHER, OTHER_ENDS}
@@ -68,7 +68,7 @@ example table (suc n) f = example_by (example table n) table f
 abbrev pub kind_example : Table → List ℕ → ℕ → List ℕ
 kind_example table kind rows =
     between EXAMPLE.now kind (codes "}")
-    ++ (list_example (example table 12) (codes ",") (layer_of (table rows)) (members_of (table rows)) ++ codes "]\n")
+    ++ (list_example (example table deepest) (codes ",") (layer_of (table rows)) (members_of (table rows)) ++ codes "]\n")
 
 -- ---- the schema of what is shown in each form
 
@@ -144,15 +144,15 @@ is_left_out how = λ f. false
 
 module _ (table : Table) where
   -- of a member: an example; the schema, alone or in an object of its own; its name; or that an object has it
-  abbrev pub one_text : Each → Bool → Member → List ℕ
-  one_text (each.Example n) = member_example (example table n)
-  one_text each.Property = λ is_first m. between [] m.name (codes ":") ++ (or_raw (form_schema table m.form) ++ codes ",")
-  one_text each.Choice = λ is_first m. only m.name (or_raw (form_schema table m.form)) ++ codes ","
-  one_text each.Required = λ is_first m. comma is_first ++ quoted m.name
-  one_text each.Alternative = λ is_first m. comma is_first ++ between (codes "{\"required\":[") m.name (codes "]}")
+  abbrev pub member_text : Each → Bool → Member → List ℕ
+  member_text (each.Example n) = member_example (example table n)
+  member_text each.Property = λ is_first m. between [] m.name (codes ":") ++ (or_raw (form_schema table m.form) ++ codes ",")
+  member_text each.Choice = λ is_first m. only m.name (or_raw (form_schema table m.form)) ++ codes ","
+  member_text each.Required = λ is_first m. comma is_first ++ quoted m.name
+  member_text each.Alternative = λ is_first m. comma is_first ++ between (codes "{\"required\":[") m.name (codes "]}")
 
   abbrev pub all : Each → List Member → List ℕ
-  all how ms = each_text (is_left_out how) (one_text how) true ms
+  all how ms = each_text (is_left_out how) (member_text how) true ms
 
   -- an object of these members and others, of which it must have some
   unfoldable pub object_schema : List Member → List ℕ → Each → List ℕ

@@ -9,6 +9,10 @@ use Rattle.tc_forms.specs.declared.form.Number.TheVariants as number
 use Rattle.tc_schema.specs.declared.texts.Member.{Member as CodeMember}
 use Rattle.tc_schema.specs.declared.texts.Said.{Said as CodeSaid}
 
+-- how deep attributes are explained, and an example goes
+abbrev pub deepest : ℕ
+deepest = 12
+
 -- a byte of a text in JSON; a control character is a blank
 abbrev pub escaped : ℕ → List ℕ
 escaped c = if c == 34 then codes "\\\"" else if c == 92 then codes "\\\\" else if nat_lt c 32 then codes " " else c ∷ []

@@ -5,12 +5,12 @@ ghost use Rattle.std.specs.Prelude.{OnOk, [], codes, true, ◌++◌, ◌≡◌};
 ghost use Rattle.tc_forms.specs.Places.{form_of, layer_of};
 ghost use Rattle.tc_forms.specs.Tables.{kinds_view, part_view};
 ghost use Rattle.tc_schema.specs.Json.{array, definitions, each_text, element, example, example_by, first_example, form_schema, indexed, is_left_out, item};
-ghost use Rattle.tc_schema.specs.Json.{kind_example, kinds_schema, list_example, named, object_schema, one_text, only};
+ghost use Rattle.tc_schema.specs.Json.{kind_example, kinds_schema, list_example, named, object_schema, member_text, only};
 ghost use Rattle.tc_schema.specs.Json.{or_raw, part_schema, reference, row, schema_of_line};
 ghost use Rattle.tc_schema.specs.Texts.{member_view, members_of};
 
 use crate::texts::{
-    Done, Member, about, about_number, first_member, is_pad, layer_of, put, put_around,
+    DEEPEST, Done, Member, about, about_number, first_member, is_pad, layer_of, put, put_around,
     put_between, put_comma, put_counted, put_quoted, put_times,
 };
 use std::alloc::{AllocError, Allocator};
@@ -18,9 +18,7 @@ use tc_forms::{Form, KindRows, Number, Part, Tables};
 
 // ---- an example
 
-// How deep an example goes, and how that of a kind begins.
-const DEEPEST: u8 = 12;
-
+// How an example of a kind begins.
 const EXAMPLE: &str = "example: [{\"Kind\":";
 
 // The form at a place.
@@ -89,7 +87,7 @@ fn put_one<T: Tables, A: Allocator>(out: &mut Vec<u8, A>, table: T, inner: u8, p
     match first_member(table.part(place)) {
         Some((member, _)) => {
             put(out, "{")?;
-            put_text(out, table, Each::Example(inner), true, member)?;
+            put_member(out, table, Each::Example(inner), true, member)?;
             put(out, "}")
         }
         None => put(out, "{}"),
@@ -342,14 +340,14 @@ enum Each {
 
 #[cycle(example)]
 #[tactic(auto, unfolding(crate::specs::Json::only))]
-fn put_text<T: Tables, A: Allocator>(
+fn put_member<T: Tables, A: Allocator>(
     out: &mut Vec<u8, A>,
     table: T,
     each: Each,
     is_first: bool,
     member: Member,
 ) -> Done
-    ensures { OnOk result (out.new.items ≡ out.old.items ++ one_text (T.parts_of table) each is_first (member_view member)) }
+    ensures { OnOk result (out.new.items ≡ out.old.items ++ member_text (T.parts_of table) each is_first (member_view member)) }
 {
     match each {
         Each::Example(depth) => {
@@ -394,13 +392,13 @@ fn put_each<T: Tables, A: Allocator>(
     part: Part<'static>,
 ) -> Done
     ensures { OnOk result (out.new.items ≡ out.old.items ++
-        each_text (is_left_out each) (one_text (T.parts_of table) each) true (members_of (part_view part.entry))) }
+        each_text (is_left_out each) (member_text (T.parts_of table) each) true (members_of (part_view part.entry))) }
 {
     let mut left = part;
     let mut is_first = true;
     while let Some((member, others)) = first_member(left) {
         if !is_left_out(each, member.form) {
-            put_text(out, table, each, is_first, member)?;
+            put_member(out, table, each, is_first, member)?;
             is_first = false;
         }
         left = others;

@@ -1,6 +1,6 @@
 use Rattle.std.proofs.Common.{length, ◌*◌, ◌+◌, ◌++◌, ◌≡◌, ℕ}
 use Rattle.tc_forms.specs.Tables.{part_view}
-use Rattle.tc_schema.specs.Json.{each_text, is_left_out, one_text}
+use Rattle.tc_schema.specs.Json.{each_text, is_left_out, member_text}
 use Rattle.tc_schema.specs.Texts.{members_of}
 use Rattle.tc_schema.specs.declared.json.Each.{Each}
 use Rattle.tc_schema.specs.declared.json.Each.TheVariants as each
@@ -26,8 +26,8 @@ decreases-put_one g l = 5 * l.inner + 2
 abbrev pub decreases-put_each : goal.decreases-put_each
 decreases-put_each g l = 5 * depth_of l.each + 2
 
-abbrev pub decreases-put_text : goal.decreases-put_text
-decreases-put_text g l = 5 * depth_of l.each + 1
+abbrev pub decreases-put_member : goal.decreases-put_member
+decreases-put_member g l = 5 * depth_of l.each + 1
 
 abbrev pub decreases-put_each-loop-member : goal.decreases-put_each-loop-member
 decreases-put_each-loop-member g l = length (members_of (part_view l.left))
@@ -35,6 +35,6 @@ decreases-put_each-loop-member g l = length (members_of (part_view l.left))
 -- what is to be appended from here is what was to be appended from the start
 abbrev pub invariant-put_each-loop-member : goal.invariant-put_each-loop-member
 invariant-put_each-loop-member g l =
-    let text = each_text (is_left_out l.each) (one_text (g.T.Tables.parts_of l.table) l.each) in
+    let text = each_text (is_left_out l.each) (member_text (g.T.Tables.parts_of l.table) l.each) in
     l.out.items ++ text l.is_first (members_of (part_view l.left))
     ≡ l.initial.out.items ++ text l.initial.is_first (members_of (part_view l.initial.left))
