@@ -1,4 +1,6 @@
 -- What the attributes of a kind are, as a text: a line for each attribute, field and choice, in the order of the table, below that in which it is.
+use Rattle.std.specs.Borrow.{Bor}
+use Rattle.std.specs.Option.{option_map_or}
 use Rattle.std.specs.Prelude.{List, None, Option, Some, [], bytes_eq, codes, decimal, if◌then◌else◌, nat_le, nat_lt, suc, zero, ℕ}
 use Rattle.std.specs.Prelude.{◌&&◌, ◌++◌, ◌+◌, ◌-◌, ◌/◌, ◌∷◌}
 use Rattle.tc_forms.specs.Tables.{KindRows, Kinds, One, Part, Table}
@@ -8,13 +10,8 @@ use Rattle.tc_forms.specs.declared.form.Number.TheVariants as number
 use Rattle.tc_schema.specs.Json.{kind_example}
 use Rattle.tc_schema.specs.Notes.{Note, first_note, names_at, notes_at, other_notes}
 use Rattle.tc_schema.specs.declared.notes.Named.{Named}
-use Rattle.tc_schema.specs.declared.notes.NamesAt.{NamesAt}
 use Rattle.tc_schema.specs.declared.notes.Noted.{Noted}
-use Rattle.tc_schema.specs.Texts.{Member, form_text, members_of, times, around}
-
--- how deep attributes are explained
-abbrev pub deepest : ℕ
-deepest = 12
+use Rattle.tc_schema.specs.Texts.{Member, deepest, form_text, members_of, times, around}
 
 -- a line: two blanks for each level, a name, what is said of it, and the kernel's name, where it has one
 abbrev pub text_line : ℕ → List ℕ → List ℕ → List ℕ → List ℕ
@@ -63,7 +60,7 @@ alone (One f) = Some f
 alone p = None
 
 -- `Inner` explains what is within a form
-module _ (Inner : Form → List ℕ) (names : List NamesAt) where
+module _ (Inner : Form → List ℕ) (names : List (Bor (List Named))) where
   -- each member in a line, and below it the names of its numbers or bits, and what is within
   abbrev pub members_text : ℕ → ℕ → List Member → List Note → List ℕ
   members_text level all [] notes = []
@@ -80,7 +77,7 @@ module _ (Inner : Form → List ℕ) (names : List NamesAt) where
   text_at table notes level all (Some i) = part_text level all (table i) (notes_at notes i) (alone (table i))
 
 -- what is within a form, at most so deep
-abbrev pub explained : Table → List Noted → List NamesAt → ℕ → Form → List ℕ
+abbrev pub explained : Table → List Noted → List (Bor (List Named)) → ℕ → Form → List ℕ
 explained table notes names zero f = []
 explained table notes names (suc n) f = text_at (explained table notes names n) names table notes (deepest - n) (signed_of f) (place_in f)
 
@@ -95,11 +92,8 @@ abbrev pub rows_of_kind : List KindRows → List ℕ → Option ℕ
 rows_of_kind [] kind = None
 rows_of_kind (x ∷ xs) kind = if bytes_eq x.kind kind then Some x.rows else rows_of_kind xs kind
 
-abbrev pub kind_at : Table → List Noted → List NamesAt → List ℕ → Option ℕ → List ℕ
-kind_at table notes names kind None = []
-kind_at table notes names kind (Some rows) =
-    kind ++ (codes "\n" ++ (explained table notes names deepest (form.List rows) ++ kind_example table kind rows))
-
 -- a kind of the list at a place: what its attributes are, and an example
-abbrev pub kind_text : Table → List Noted → List NamesAt → ℕ → List ℕ → List ℕ
-kind_text table notes names place kind = kind_at table notes names kind (rows_of_kind (kinds_of (table place)) kind)
+abbrev pub kind_text : Table → List Noted → List (Bor (List Named)) → ℕ → List ℕ → List ℕ
+kind_text table notes names place kind =
+    option_map_or (λ rows. kind ++ (codes "\n" ++ (explained table notes names deepest (form.List rows) ++ kind_example table kind rows)))
+    (rows_of_kind (kinds_of (table place)) kind) []

@@ -6,7 +6,7 @@ use Rattle.tc_forms.specs.Tables.{Choices, Fields, KindRows, Kinds, Names, One, 
 use Rattle.tc_forms.specs.declared.form.Form.{Form}
 use Rattle.tc_forms.specs.declared.form.Form.TheVariants as form
 use Rattle.tc_forms.specs.declared.form.Number.{Number}
-use Rattle.tc_schema.specs.Texts.{Member, about, about_number, around, between, comma, members_of, quoted, times}
+use Rattle.tc_schema.specs.Texts.{Member, about, about_number, around, between, comma, deepest, members_of, quoted, times}
 use Rattle.tc_schema.specs.declared.json.Each.{Each}
 use Rattle.tc_schema.specs.declared.json.Each.TheVariants as each
 use Rattle.tc_schema.specs.declared.json.TheConstants.{BYTES, CLOSED, EXAMPLE, INTEGER, KINDED, LINE, LIST, NAMED, OBJECT, OR_OTHER, OTHER_ENDS}
@@ -22,20 +22,20 @@ name_example (m ∷ ms) = quoted m.name
 abbrev pub zeros : ℕ → List ℕ
 zeros n = codes "\"" ++ (times n (codes "00") ++ codes "\"")
 
+-- of each member something, but of those that are left out
+abbrev pub each_text : (Form → Bool) → (Bool → Member → List ℕ) → Bool → List Member → List ℕ
+each_text Left_out Text is_first [] = []
+each_text Left_out Text is_first (m ∷ ms) =
+    if Left_out m.form then each_text Left_out Text is_first ms else Text is_first m ++ each_text Left_out Text false ms
+
 module _ (Inner : Form → List ℕ) where
   -- a member of an object
-  abbrev pub member_example : Member → List ℕ
-  member_example m = between [] m.name (codes ":") ++ Inner m.form
-
-  -- all members; padding is shown only where it isn't zero
-  abbrev pub members_example : Bool → List Member → List ℕ
-  members_example is_first [] = codes "}"
-  members_example is_first (m ∷ ms) =
-      if is_pad m.form then members_example is_first ms else comma is_first ++ (member_example m ++ members_example false ms)
+  abbrev pub member_example : Bool → Member → List ℕ
+  member_example is_first m = comma is_first ++ (between [] m.name (codes ":") ++ Inner m.form)
 
   abbrev pub first_example : List Member → List ℕ
   first_example [] = codes "{}"
-  first_example (m ∷ ms) = codes "{" ++ (member_example m ++ codes "}")
+  first_example (m ∷ ms) = codes "{" ++ (member_example true m ++ codes "}")
 
   -- an object in a list, in its layer
   abbrev pub layered_example : List ℕ → List ℕ → List ℕ
@@ -51,7 +51,8 @@ module _ (Inner : Form → List ℕ) where
   example_by table (form.Named of i) = name_example (members_of (table i))
   example_by table (form.Bytes n) = zeros n
   example_by table (form.Pad n) = zeros n
-  example_by table (form.Record i) = codes "{" ++ members_example true (members_of (table i))
+  -- padding is shown only where it isn't zero
+  example_by table (form.Record i) = codes "{" ++ (each_text is_pad member_example true (members_of (table i)) ++ codes "}")
   example_by table (form.Choice i) = first_example (members_of (table i))
   example_by table (form.Array i) = codes "[" ++ (Inner (form_of i (table i)) ++ codes "]")
   example_by table (form.Times n i) = codes "[" ++ (Inner (form_of i (table i)) ++ codes "]")
@@ -67,7 +68,7 @@ example table (suc n) f = example_by (example table n) table f
 abbrev pub kind_example : Table → List ℕ → ℕ → List ℕ
 kind_example table kind rows =
     between EXAMPLE.now kind (codes "}")
-    ++ (list_example (example table 12) (codes ",") (layer_of (table rows)) (members_of (table rows)) ++ codes "]\n")
+    ++ (list_example (example table deepest) (codes ",") (layer_of (table rows)) (members_of (table rows)) ++ codes "]\n")
 
 -- ---- the schema of what is shown in each form
 
@@ -137,25 +138,25 @@ form_schema table f = (about f).schema
 
 -- padding is shown only where it isn't zero
 abbrev pub is_left_out : Each → Form → Bool
-is_left_out each.Required f = is_pad f
-is_left_out how f = false
+is_left_out (each.Example n) = is_pad
+is_left_out each.Required = is_pad
+is_left_out how = λ f. false
 
 module _ (table : Table) where
-  -- of a member: what it is, alone or in an object of its own; its name; or that an object has it
-  abbrev pub one_text : Each → Bool → Member → List ℕ
-  one_text each.Property is_first m = between [] m.name (codes ":") ++ (or_raw (form_schema table m.form) ++ codes ",")
-  one_text each.Choice is_first m = only m.name (or_raw (form_schema table m.form)) ++ codes ","
-  one_text each.Required is_first m = comma is_first ++ quoted m.name
-  one_text each.Alternative is_first m = comma is_first ++ between (codes "{\"required\":[") m.name (codes "]}")
+  -- of a member: an example; the schema, alone or in an object of its own; its name; or that an object has it
+  abbrev pub member_text : Each → Bool → Member → List ℕ
+  member_text (each.Example n) = member_example (example table n)
+  member_text each.Property = λ is_first m. between [] m.name (codes ":") ++ (or_raw (form_schema table m.form) ++ codes ",")
+  member_text each.Choice = λ is_first m. only m.name (or_raw (form_schema table m.form)) ++ codes ","
+  member_text each.Required = λ is_first m. comma is_first ++ quoted m.name
+  member_text each.Alternative = λ is_first m. comma is_first ++ between (codes "{\"required\":[") m.name (codes "]}")
 
-  abbrev pub each_text : Each → Bool → List Member → List ℕ
-  each_text how is_first [] = []
-  each_text how is_first (m ∷ ms) =
-      if is_left_out how m.form then each_text how is_first ms else one_text how is_first m ++ each_text how false ms
+  abbrev pub all : Each → List Member → List ℕ
+  all how ms = each_text (is_left_out how) (member_text how) true ms
 
   -- an object of these members and others, of which it must have some
   unfoldable pub object_schema : List Member → List ℕ → Each → List ℕ
-  object_schema ms others how = OBJECT.now ++ (each_text each.Property true ms ++ (others ++ (each_text how true ms ++ CLOSED.now)))
+  object_schema ms others how = OBJECT.now ++ (all each.Property ms ++ (others ++ (all how ms ++ CLOSED.now)))
 
   -- and an attribute by one of these rows, where there are any
   abbrev pub row : List Member → List ℕ
@@ -169,11 +170,11 @@ kinds_schema (x ∷ xs) = codes "," ++ (reference x.rows ++ kinds_schema xs)
 
 abbrev pub part_schema : Table → Part → List ℕ
 part_schema table (One f) = form_schema table f
-part_schema table (Names ns) = codes "{\"enum\":[" ++ (each_text table each.Required true (members_of (Names ns)) ++ codes "]}")
+part_schema table (Names ns) = codes "{\"enum\":[" ++ (all table each.Required (members_of (Names ns)) ++ codes "]}")
 part_schema table (Kinds every others ks) = codes "{\"anyOf\":[" ++ (reference every ++ (codes "," ++ (reference others ++ (kinds_schema ks ++ codes "]}"))))
 part_schema table (Fields fs) = object_schema table (members_of (Fields fs)) REST.now each.Required
 part_schema table (Rows layer rs) = UNKNOWN.now ++ row table (members_of (Rows layer rs))
-part_schema table (Choices cs) = codes "{\"oneOf\":[" ++ (each_text table each.Choice true (members_of (Choices cs)) ++ OTHERWISE.now)
+part_schema table (Choices cs) = codes "{\"oneOf\":[" ++ (all table each.Choice (members_of (Choices cs)) ++ OTHERWISE.now)
 
 -- a definition for each place
 abbrev pub definitions : Table → List ℕ → List ℕ

@@ -1,7 +1,8 @@
 -- What is known of the members of a part beside their names and forms.
-use Rattle.std.specs.Prelude.{List, [], if◌then◌else◌, map, ℕ, ◌==◌, ◌∷◌}
+use Rattle.std.specs.Borrow.{Bor}
+use Rattle.std.specs.Option.{option_map_or}
+use Rattle.std.specs.Prelude.{List, [], if◌then◌else◌, map, slice_get, ℕ, ◌==◌, ◌∷◌}
 use Rattle.tc_schema.specs.declared.notes.Named.{Named}
-use Rattle.tc_schema.specs.declared.notes.NamesAt.{NamesAt}
 use Rattle.tc_schema.specs.declared.notes.Note.{Note as CodeNote}
 use Rattle.tc_schema.specs.declared.notes.Noted.{Noted}
 
@@ -22,9 +23,8 @@ abbrev pub notes_at : List Noted → ℕ → List Note
 notes_at [] place = []
 notes_at (x ∷ xs) place = if x.place == place then note_views x.notes.now else notes_at xs place
 
-abbrev pub names_at : List NamesAt → ℕ → List Named
-names_at [] place = []
-names_at (x ∷ xs) place = if x.place == place then x.names.now else names_at xs place
+abbrev pub names_at : List (Bor (List Named)) → ℕ → List Named
+names_at all place = option_map_or (λ x. x.now) (slice_get all place) []
 
 -- the note of the first member, and those of the others
 abbrev pub first_note : List Note → Note

@@ -2,27 +2,24 @@
 
 ghost use Rattle.std.specs.Prelude.{OnOk, is_some, ◌++◌, ◌-◌, ◌≡◌, ◌≤◌};
 ghost use Rattle.tc_forms.specs.Tables.{kinds_view, part_view};
-ghost use Rattle.tc_schema.specs.Explained.{alone, deepest, explained, kind_text, kinds_of, member_line, members_text, named_lines, place_in};
+ghost use Rattle.tc_schema.specs.Explained.{alone, explained, kind_text, kinds_of, member_line, members_text, named_lines, place_in};
 ghost use Rattle.tc_schema.specs.Explained.{rows_of_kind, signed_of, signed_text, value_text};
 ghost use Rattle.tc_schema.specs.Notes.{note_view, notes_at};
-ghost use Rattle.tc_schema.specs.Texts.{member_view, members_of};
+ghost use Rattle.tc_schema.specs.Texts.{deepest, member_view, members_of};
 
 use crate::json::put_example;
-use crate::notes::{Left, Named, NamesAt, Note, Noted, first_note, names_at, notes_at};
-use crate::texts::{Done, Member, first_member, put, put_around, put_form, put_times};
+use crate::notes::{Left, Named, Note, Noted, first_note, names_at, notes_at};
+use crate::texts::{DEEPEST, Done, Member, first_member, put, put_around, put_form, put_times};
 use std::alloc::{AllocError, Allocator};
 use tc_forms::{Form, KindRows, Number, Part, Tables};
 use tc_units::{Unit, put_number};
-
-// How deep attributes are explained.
-const DEEPEST: u8 = 12;
 
 // Where a form is explained: by this table and what is known beside it, with so many levels left.
 #[derive(Clone, Copy)]
 struct At<'a, T> {
     table: T,
     notes: &'a [Noted<'static>],
-    names: &'a [NamesAt<'static>],
+    names: &'a [&'static [Named<'static>]],
     depth: u8,
 }
 
@@ -204,7 +201,7 @@ fn rows_of_kind(kinds: &[KindRows<'_>], kind: &str) -> Option<usize>
 pub fn put_kind<T: Tables, A: Allocator>(
     table: T,
     notes: &[Noted<'static>],
-    names: &[NamesAt<'static>],
+    names: &[&'static [Named<'static>]],
     place: usize,
     kind: &str,
     out: &mut Vec<u8, A>,

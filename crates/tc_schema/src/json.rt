@@ -5,12 +5,12 @@ ghost use Rattle.std.specs.Prelude.{OnOk, [], codes, true, ◌++◌, ◌≡◌};
 ghost use Rattle.tc_forms.specs.Places.{form_of, layer_of};
 ghost use Rattle.tc_forms.specs.Tables.{kinds_view, part_view};
 ghost use Rattle.tc_schema.specs.Json.{array, definitions, each_text, element, example, example_by, first_example, form_schema, indexed, is_left_out, item};
-ghost use Rattle.tc_schema.specs.Json.{kind_example, kinds_schema, list_example, member_example, members_example, named, object_schema, one_text, only};
+ghost use Rattle.tc_schema.specs.Json.{kind_example, kinds_schema, list_example, named, object_schema, member_text, only};
 ghost use Rattle.tc_schema.specs.Json.{or_raw, part_schema, reference, row, schema_of_line};
 ghost use Rattle.tc_schema.specs.Texts.{member_view, members_of};
 
 use crate::texts::{
-    Done, Member, about, about_number, first_member, is_pad, layer_of, put, put_around,
+    DEEPEST, Done, Member, about, about_number, first_member, is_pad, layer_of, put, put_around,
     put_between, put_comma, put_counted, put_quoted, put_times,
 };
 use std::alloc::{AllocError, Allocator};
@@ -18,9 +18,7 @@ use tc_forms::{Form, KindRows, Number, Part, Tables};
 
 // ---- an example
 
-// How deep an example goes, and how that of a kind begins.
-const DEEPEST: u8 = 12;
-
+// How an example of a kind begins.
 const EXAMPLE: &str = "example: [{\"Kind\":";
 
 // The form at a place.
@@ -61,7 +59,11 @@ fn put_inner<T: Tables, A: Allocator>(out: &mut Vec<u8, A>, table: T, inner: u8,
             put_times(out, "00", count)?;
             put(out, "\"")
         }
-        Form::Record(place) => put_all(out, table, inner, place),
+        Form::Record(place) => {
+            put(out, "{")?;
+            put_each(out, table, Each::Example(inner), table.part(place))?;
+            put(out, "}")
+        }
         Form::Choice(place) => put_one(out, table, inner, place),
         Form::Array(place) | Form::Times(_, place) => {
             put(out, "[")?;
@@ -77,15 +79,6 @@ fn put_inner<T: Tables, A: Allocator>(out: &mut Vec<u8, A>, table: T, inner: u8,
     }
 }
 
-// A member of an object.
-#[cycle(example)]
-fn put_pair<T: Tables, A: Allocator>(out: &mut Vec<u8, A>, table: T, inner: u8, of: Member) -> Done
-    ensures { OnOk result (out.new.items ≡ out.old.items ++ member_example (example (T.parts_of table) inner) (member_view of)) }
-{
-    put_between(out, "", of.name, ":")?;
-    put_deep(out, table, inner, of.form)
-}
-
 // An object of the first member.
 #[cycle(example)]
 fn put_one<T: Tables, A: Allocator>(out: &mut Vec<u8, A>, table: T, inner: u8, place: usize) -> Done
@@ -94,31 +87,11 @@ fn put_one<T: Tables, A: Allocator>(out: &mut Vec<u8, A>, table: T, inner: u8, p
     match first_member(table.part(place)) {
         Some((member, _)) => {
             put(out, "{")?;
-            put_pair(out, table, inner, member)?;
+            put_member(out, table, Each::Example(inner), true, member)?;
             put(out, "}")
         }
         None => put(out, "{}"),
     }
-}
-
-// An object of all members. Padding is shown only where it isn't zero.
-#[cycle(example)]
-fn put_all<T: Tables, A: Allocator>(out: &mut Vec<u8, A>, table: T, inner: u8, place: usize) -> Done
-    ensures { OnOk result (out.new.items ≡ out.old.items ++
-        (codes "{" ++ members_example (example (T.parts_of table) inner) true (members_of (T.parts_of table place)))) }
-{
-    put(out, "{")?;
-    let mut left = table.part(place);
-    let mut is_first = true;
-    while let Some((member, others)) = first_member(left) {
-        if !is_pad(member.form) {
-            put_comma(out, is_first)?;
-            put_pair(out, table, inner, member)?;
-            is_first = false;
-        }
-        left = others;
-    }
-    put(out, "}")
 }
 
 // The first attribute of a list, in its layer and behind a text; nothing for a list of none.
@@ -354,26 +327,34 @@ fn put_shown<T: Tables, A: Allocator>(out: &mut Vec<u8, A>, table: T, form: Form
 
 // ---- parts
 
-// What is put of each member: what it is, alone or in an object of its own; its name; or that an object has it.
+// What is put of each member: an example, at most so deep; the schema, alone or in an object of its own; its name; or that an object must
+// have it.
 #[derive(Clone, Copy)]
 enum Each {
+    Example(u8),
     Property,
     Choice,
     Required,
     Alternative,
 }
 
+#[cycle(example)]
 #[tactic(auto, unfolding(crate::specs::Json::only))]
-fn put_text<T: Tables, A: Allocator>(
+fn put_member<T: Tables, A: Allocator>(
     out: &mut Vec<u8, A>,
     table: T,
     each: Each,
     is_first: bool,
     member: Member,
 ) -> Done
-    ensures { OnOk result (out.new.items ≡ out.old.items ++ one_text (T.parts_of table) each is_first (member_view member)) }
+    ensures { OnOk result (out.new.items ≡ out.old.items ++ member_text (T.parts_of table) each is_first (member_view member)) }
 {
     match each {
+        Each::Example(depth) => {
+            put_comma(out, is_first)?;
+            put_between(out, "", member.name, ":")?;
+            put_deep(out, table, depth, member.form)
+        }
         Each::Property => {
             put_between(out, "", member.name, ":")?;
             put_shown(out, table, member.form)?;
@@ -400,22 +381,24 @@ fn put_text<T: Tables, A: Allocator>(
 fn is_left_out(each: Each, form: Form) -> bool
     ensures { result ≡ is_left_out each form }
 {
-    matches!(each, Each::Required) && is_pad(form)
+    matches!(each, Each::Example(_) | Each::Required) && is_pad(form)
 }
 
+#[cycle(example)]
 fn put_each<T: Tables, A: Allocator>(
     out: &mut Vec<u8, A>,
     table: T,
     each: Each,
     part: Part<'static>,
 ) -> Done
-    ensures { OnOk result (out.new.items ≡ out.old.items ++ each_text (T.parts_of table) each true (members_of (part_view part.entry))) }
+    ensures { OnOk result (out.new.items ≡ out.old.items ++
+        each_text (is_left_out each) (member_text (T.parts_of table) each) true (members_of (part_view part.entry))) }
 {
     let mut left = part;
     let mut is_first = true;
     while let Some((member, others)) = first_member(left) {
         if !is_left_out(each, member.form) {
-            put_text(out, table, each, is_first, member)?;
+            put_member(out, table, each, is_first, member)?;
             is_first = false;
         }
         left = others;

@@ -11,4 +11,4 @@ mod texts;
 pub use explain::{kinds_of, knows_kind, put_kind};
 pub use json::put_schema;
 pub use kinds::{LISTS, PLACES};
-pub use notes::{Named, NamesAt, Note, Noted, all_names, notes_at_places};
+pub use notes::{Named, Note, Noted, all_names, notes_at_places};

@@ -37,15 +37,6 @@ pub struct Noted<'a> {
     pub notes: &'a [Note<'a>],
 }
 
-/// The names of numbers or bits.
-#[derive(Clone, Copy)]
-pub struct NamesAt<'a> {
-    /// Their place.
-    pub place: usize,
-    /// The names.
-    pub names: &'a [Named<'a>],
-}
-
 const NO_NOTE: Note<'static> = Note {
     kernel: "",
     unit: "",
@@ -53,14 +44,14 @@ const NO_NOTE: Note<'static> = Note {
 };
 
 // The names at a place.
-pub(crate) fn names_at(names: &[NamesAt<'static>], place: usize) -> &'static [Named<'static>]
+pub(crate) fn names_at(
+    names: &[&'static [Named<'static>]],
+    place: usize,
+) -> &'static [Named<'static>]
     ensures { result.now ≡ names_at names.now place }
 {
-    if let Some((it, others)) = names.split_first() {
-        if it.place == place {
-            return it.names;
-        }
-        return names_at(others, place);
+    if let Some(it) = names.get(place) {
+        return *it;
     }
     &[]
 }
@@ -110,14 +101,11 @@ pub fn notes_at_places<A: Allocator>(
     Ok(out)
 }
 
-/// All names that notes have.
-pub fn all_names<A: Allocator>(alloc: A) -> Result<Vec<NamesAt<'static>, A>, AllocError> {
+/// All names that notes have, by their places.
+pub fn all_names<A: Allocator>(alloc: A) -> Result<Vec<&'static [Named<'static>], A>, AllocError> {
     let mut out = Vec::new(alloc);
-    for place in 1..=NAMES {
-        out.push(NamesAt {
-            place,
-            names: names_of(place),
-        })?;
+    for place in 0..=NAMES {
+        out.push(names_of(place))?;
     }
     Ok(out)
 }

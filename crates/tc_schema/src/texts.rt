@@ -12,6 +12,9 @@ use std::alloc::{AllocError, Allocator};
 use tc_forms::{Form, Number, Part};
 use tc_units::{Unit, put_number};
 
+/// How deep attributes are explained, and an example goes.
+pub const DEEPEST: u8 = 12;
+
 /// A text was put, or there is no memory for it.
 pub type Done = Result<(), AllocError>;
 

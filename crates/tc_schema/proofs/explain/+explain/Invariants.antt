@@ -1,8 +1,8 @@
 use Rattle.std.proofs.Common.{length, ◌*◌, ◌+◌, ◌++◌, ◌-◌, ◌≡◌}
 use Rattle.tc_forms.specs.Tables.{part_view}
-use Rattle.tc_schema.specs.Explained.{deepest, explained, members_text}
+use Rattle.tc_schema.specs.Explained.{explained, members_text}
 use Rattle.tc_schema.specs.Notes.{note_views}
-use Rattle.tc_schema.specs.Texts.{members_of}
+use Rattle.tc_schema.specs.Texts.{deepest, members_of}
 use Rattle.tc_schema.proofs.explain.+explain.Given as goal
 
 abbrev pub decreases-explain_form : goal.decreases-explain_form
