@@ -4,8 +4,6 @@
 #[cfg(test)]
 mod action_messages;
 #[cfg(test)]
-mod attributes;
-#[cfg(test)]
 mod calls;
 #[cfg(test)]
 mod canonical;
@@ -30,11 +28,11 @@ mod readme;
 #[cfg(test)]
 mod rewriting;
 #[cfg(test)]
-mod rewriting_actions;
-#[cfg(test)]
 mod settled;
 #[cfg(test)]
 mod sizes;
+#[cfg(test)]
+mod tabled;
 #[cfg(test)]
 mod tables;
 #[cfg(test)]
