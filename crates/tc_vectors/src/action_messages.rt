@@ -1,11 +1,10 @@
 //! Action messages: their attributes, type by type, and flags.
 
-use crate::tables::{are_known, are_written, is_shown, settles};
+use crate::tables::{are_known, is_shown, is_written, settles};
 use bitflags::Flags;
 use nla_frames::{NlaBuffer, Parseable, Res};
 use std::alloc::Global;
 use std::hash::{DefaultHasher, Hash, Hasher};
-use std::slice::from_ref;
 use std::test::Fail;
 use tc_action_messages::{TcActionMessageAttribute, TcActionMessageFlagsWithSelector};
 use tc_records::TcActionMessageFlags;
@@ -63,7 +62,7 @@ fn read(alloc: Global, frame: &[u8]) -> Res<TcActionMessageFlagsWithSelector> {
 }
 
 fn is_new(flags: TcActionMessageFlagsWithSelector) -> bool {
-    are_written(from_ref(&flags), "0c000200 01000000 01000000") && settles(flags)
+    is_written(&flags, "0c000200 01000000 01000000") && settles(flags)
 }
 
 #[test]

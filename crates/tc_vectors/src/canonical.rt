@@ -1,7 +1,7 @@
 //! Messages of which it is known whether they are canonical: made by hand, sent by tc of iproute2, and written by Linux 6.1 and 6.18.
 
 use crate::calls::is_canonical;
-use crate::tabled::{Says, are_right};
+use crate::row_kinds::{Says, are_right};
 use crate::tables::{bytes_of, cells};
 use std::alloc::Global;
 use std::test::*;

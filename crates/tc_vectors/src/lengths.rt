@@ -1,6 +1,6 @@
 //! Messages that are too long to be written, and the longest that are not.
 
-use crate::calls::{is_unwritable_tc, length_of};
+use crate::calls::{is_unwritable, length_of};
 use crate::made::{kind, message, option, pushed};
 use nla_frames::DefaultNla;
 use std::alloc::{AllocError, Global};
@@ -34,7 +34,7 @@ fn with_option(
 /// True if the message that is too long has so many bytes, and is the one that is made with an option of 65527.
 fn is_too_long(alloc: Global, bytes: &[u8]) -> bool {
     let made = with_option(alloc, "ingress", ingress(alloc, 65527));
-    bytes.len() == 65568 && !is_canonical_tc(bytes) && is_unwritable_tc(alloc, bytes, made)
+    bytes.len() == 65568 && !is_canonical_tc(bytes) && is_unwritable(alloc, bytes, made.ok())
 }
 
 #[test]
@@ -51,10 +51,8 @@ fn of_options(rt: HostRuntime) {
 
 /// How many bytes a message has with an option of so many, if it fits.
 fn length_with(alloc: Global, length: usize) -> Option<usize> {
-    length_of(
-        alloc,
-        with_option(alloc, "fq_codel", fq_codel(alloc, length)),
-    )
+    let made = with_option(alloc, "fq_codel", fq_codel(alloc, length));
+    length_of(alloc, made.ok())
 }
 
 #[test]
@@ -73,7 +71,7 @@ fn length_of_rates(alloc: Global, rates: &[usize]) -> Option<usize> {
     for length in rates {
         list = pushed(list, rate(alloc, *length));
     }
-    length_of(alloc, message(list))
+    length_of(alloc, message(list).ok())
 }
 
 #[test]

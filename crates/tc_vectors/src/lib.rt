@@ -28,11 +28,11 @@ mod readme;
 #[cfg(test)]
 mod rewriting;
 #[cfg(test)]
+mod row_kinds;
+#[cfg(test)]
 mod settled;
 #[cfg(test)]
 mod sizes;
-#[cfg(test)]
-mod tabled;
 #[cfg(test)]
 mod tables;
 #[cfg(test)]

@@ -147,18 +147,13 @@ fn has_one_attribute(made: Result<TcMessage, AllocError>) -> bool {
 fn messages_are_made(rt: HostRuntime) {
     let alloc = rt.alloc();
     assert!(rt; TcMessage::with_index(alloc, 7).header.index == 7);
+    let empty = Some(without_index(alloc));
+    assert!(rt; is_tc(alloc, empty, (NO_HEADER, "[]"), Some((&[0; 20], true))));
+    let kept = with_kept(alloc).ok();
     assert!(rt;
         is_tc(
             alloc,
-            Ok(without_index(alloc)),
-            (NO_HEADER, "[]"),
-            Some((&[0; 20], true))
-        )
-    );
-    assert!(rt;
-        is_tc(
-            alloc,
-            with_kept(alloc),
+            kept,
             (NO_HEADER, KEPT_KIND),
             Some((&KEPT_BYTES, false))
         )

@@ -8,15 +8,16 @@ use std::test::Fail;
 use tc_wire::RewriteError;
 use tests_messages::{Form, too_long};
 
-fn becomes(alloc: Global, form: Form, bytes: &[u8], written: &[u8]) -> bool {
+/// True if bytes are rewritten as others.
+pub(crate) fn becomes(alloc: Global, form: Form, bytes: &[u8], written: &[u8]) -> bool {
     match rewrite(alloc, form, bytes) {
         Ok(rewritten) => rewritten.as_slice() == written,
         Err(_) => false,
     }
 }
 
-// True if bytes became these, which are canonical, after so many rewrites.
-fn is_outcome(
+/// True if bytes became these, which are canonical, after so many rewrites.
+pub(crate) fn is_outcome(
     outcome: &Result<(Vec<u8>, usize), RewriteError>,
     form: Form,
     wanted: &[u8],
@@ -127,16 +128,21 @@ static WARNINGS: [(&str, &str, usize); 6] = [
     ("08000380 06000000 07000500 61000000", "08000300 06000000 05000500 61000000", 2),
 ];
 
-// What rewriting makes of an action message until it is canonical, and after how many rewrites, of at most nine.
-fn rewritten(alloc: Global, message: &[u8]) -> Result<(Vec<u8>, usize), RewriteError> {
+/// What rewriting makes of a message until it is canonical, and after how many rewrites, of at most so many.
+pub(crate) fn rewritten(
+    alloc: Global,
+    form: Form,
+    message: &[u8],
+    most: usize,
+) -> Result<(Vec<u8>, usize), RewriteError> {
     let mut bytes = message.to_vec(alloc)?;
-    for count in 0..9usize {
-        if is_canonical(Form::Action, &bytes) {
+    for count in 0..most {
+        if is_canonical(form, &bytes) {
             return Ok((bytes, count));
         }
-        bytes = rewrite(alloc, Form::Action, &bytes)?;
+        bytes = rewrite(alloc, form, &bytes)?;
     }
-    Ok((bytes, 9))
+    Ok((bytes, most))
 }
 
 // True if so many rewrites, and no fewer, lead to what an action message is settled as.
@@ -144,7 +150,12 @@ fn is_settled_after(alloc: Global, message: &[u8], frames: &str, count: usize) -
     match bytes_of(alloc, Form::Action.header(), frames) {
         Ok(wanted) => {
             is_settled_as(alloc, Form::Action, message, &wanted, count)
-                && is_outcome(&rewritten(alloc, message), Form::Action, &wanted, count)
+                && is_outcome(
+                    &rewritten(alloc, Form::Action, message, 9),
+                    Form::Action,
+                    &wanted,
+                    count,
+                )
         }
         Err(_) => false,
     }

@@ -118,8 +118,12 @@ fn is_message(alloc: Global, row: &Row) -> bool {
     match bytes_of(alloc, Form::Tc.header(), row.2) {
         Ok(bytes) => {
             let written = Some((bytes.as_slice(), row.3.is_empty()));
-            is_tc(alloc, message_of(alloc, row.0), (NO_HEADER, row.1), written)
-                && (row.3.is_empty() || is_told(alloc, Form::Tc, &bytes, row.3))
+            is_tc(
+                alloc,
+                message_of(alloc, row.0).ok(),
+                (NO_HEADER, row.1),
+                written,
+            ) && (row.3.is_empty() || is_told(alloc, Form::Tc, &bytes, row.3))
         }
         Err(_) => false,
     }
@@ -201,7 +205,7 @@ fn is_action_message(alloc: Global, row: &ActionRow) -> bool {
             let written = Some((bytes.as_slice(), row.3.is_empty()));
             is_action(
                 alloc,
-                action_message_of(alloc, &row.0),
+                action_message_of(alloc, &row.0).ok(),
                 (NO_ACTION_HEADER, row.1),
                 written,
             ) && (row.3.is_empty() || is_told(alloc, Form::Action, &bytes, row.3))
@@ -233,12 +237,8 @@ static INET_BYTES: [u8; 20] = [2, 0, 0, 0, 0, 0, 0, 0, 0, 0, 0, 0, 0, 0, 0, 0, 0
 fn is_of_family(alloc: Global, family: AddressFamily, front: &str, is_settled: bool) -> bool {
     let mut message = TcMessage::default_in(alloc);
     message.header.family = family;
-    is_tc(
-        alloc,
-        Ok(message),
-        (front, "[]"),
-        Some((&INET_BYTES, is_settled)),
-    )
+    let written = Some((INET_BYTES.as_slice(), is_settled));
+    is_tc(alloc, Some(message), (front, "[]"), written)
 }
 
 // The second family is a number that has a name, under which it is read.

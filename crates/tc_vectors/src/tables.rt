@@ -5,7 +5,6 @@ ghost use Rattle.std.specs.Prelude.{◌<◌};
 use nla_frames::{Nla, NlaBuffer, Parseable, Res, Settle, emit_list, list_fits, list_len};
 use std::alloc::{AllocError, Global};
 use std::fmt::Debug;
-use std::slice::from_ref;
 use std::str::Split;
 use std::test::Fail;
 
@@ -99,14 +98,28 @@ pub(crate) fn are_written<T: Nla>(list: &[T], frames: &str) -> bool {
     is_hex(&buffer[..len], frames)
 }
 
+/// True if an attribute is written as this frame in hex.
+pub(crate) fn is_written<T: Nla>(attribute: &T, frame: &str) -> bool {
+    let mut buffer = [0x55; 640];
+    if !attribute.fits() {
+        return false;
+    }
+    let len = attribute.frame_len();
+    if len > buffer.len() {
+        return false;
+    }
+    attribute.emit_frame(&mut buffer);
+    is_hex(&buffer[..len], frame)
+}
+
 /// True if an attribute has this text, and is written as this frame in hex.
 pub(crate) fn is_attribute<T: Nla + Debug>(
     alloc: Global,
     attribute: &T,
     text: &str,
-    written: &str,
+    frame: &str,
 ) -> bool {
-    is_shown(alloc, attribute, text) && are_written(from_ref(attribute), written)
+    is_shown(alloc, attribute, text) && is_written(attribute, frame)
 }
 
 /// True if a value is settled.

@@ -71,7 +71,7 @@ fn upgraded<A: Allocator>(
 
 // True if a message was made that has an empty header and these attributes.
 fn has_attributes(alloc: Global, made: Result<TcMessage, AllocError>, attributes: &str) -> bool {
-    is_tc(alloc, made, (NO_HEADER, attributes), None)
+    is_tc(alloc, made.ok(), (NO_HEADER, attributes), None)
 }
 
 fn is_empty<A: Allocator>(made: Result<TcMessage<A>, AllocError>) -> bool {
@@ -140,5 +140,12 @@ fn the_last_kind_counts(rt: HostRuntime) {
 fn written_as_they_came(rt: HostRuntime) {
     let message = upgraded(made(rt.alloc(), &WITHOUT_KIND));
     let written = Some((WITHOUT_KIND_BYTES.as_slice(), true));
-    assert!(rt; is_tc(rt.alloc(), message, (NO_HEADER, WITHOUT_KIND.2), written));
+    assert!(rt;
+        is_tc(
+            rt.alloc(),
+            message.ok(),
+            (NO_HEADER, WITHOUT_KIND.2),
+            written
+        )
+    );
 }

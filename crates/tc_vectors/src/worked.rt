@@ -2,7 +2,7 @@
 
 use crate::calls::{fault_of, is_action, is_canonical, is_read_as};
 use crate::rewriting::{cause_of, is_fault, is_rewritten};
-use crate::tabled::{Says, are_right};
+use crate::row_kinds::{Says, are_right};
 use crate::tables::{bytes_of, cells, is_shown, pair};
 use nla_frames::{AddressFamily, DecodeError};
 use std::alloc::Global;
@@ -205,7 +205,7 @@ static OTHER: &str =
 fn is_family(alloc: Global, family: AddressFamily, front: &str, written: (&[u8], bool)) -> bool {
     let mut message = TcActionMessage::default_in(alloc);
     message.header.family = family;
-    is_action(alloc, Ok(message), (front, "[]"), Some(written))
+    is_action(alloc, Some(message), (front, "[]"), Some(written))
 }
 
 // A header with a family, and with padding that isn't zero; one whose family is a number that has a name; and one that is short.
@@ -214,7 +214,14 @@ fn headers_of_action_messages(rt: HostRuntime) {
     let alloc = rt.alloc();
     let (zeros, inet, padded) = ([0; 4], [2, 0, 0, 0], [2, 0, 0, 7]);
     assert!(rt; is_message(alloc, Form::Action, &padded, (INET, "[]"), (&inet, true)));
-    assert!(rt; is_family(alloc, AddressFamily::Unspec, NO_ACTION_HEADER, (&zeros, true)));
+    assert!(rt;
+        is_family(
+            alloc,
+            AddressFamily::Unspec,
+            NO_ACTION_HEADER,
+            (&zeros, true)
+        )
+    );
     assert!(rt; is_family(alloc, AddressFamily::Other(2), OTHER, (&inet, false)));
     let fault = DecodeError::BufferTooSmall { len: 3, needed: 4 };
     assert!(rt; fault_of(alloc, Form::Action, &[0; 3]) == Some(fault));

@@ -3,7 +3,7 @@
 
 use std::alloc::{AllocError, Allocator, Global};
 use std::fmt::Debug;
-use tc_wire::{DecodeError, Emitable, ParseableBytes, TcActionMessage, TcMessage, WholeMessage};
+use tc_wire::{DecodeError, Emitable, ParseableBytes, TcActionMessage, TcMessage};
 use tests_messages::Form;
 
 /// The bytes of a message, if it fits. It is emitted to a longer buffer, whose other bytes stay.
@@ -31,8 +31,8 @@ fn is_emitted_as<M: Emitable>(alloc: Global, message: &M, bytes: &[u8]) -> bool 
     }
 }
 
-// True if bytes are parsed as a message.
-fn reads_back<M: ParseableBytes<Global> + PartialEq + Drop>(
+/// True if bytes are parsed as this message.
+pub(crate) fn reads_back<M: ParseableBytes<Global> + PartialEq + Drop>(
     alloc: Global,
     message: &M,
     bytes: &[u8],
@@ -43,19 +43,19 @@ fn reads_back<M: ParseableBytes<Global> + PartialEq + Drop>(
     }
 }
 
-fn is_cloned<M: PartialEq + Clone + Drop>(message: &M) -> Result<bool, AllocError> {
+/// True if the clone of a message is equal to it.
+pub(crate) fn is_cloned<M: PartialEq + Clone + Drop>(message: &M) -> Result<bool, AllocError> {
     Ok(message.clone()? == *message)
 }
 
-// True if a message is emitted as these bytes, and settled as it has to be, which its bytes show too; and its clone is equal to it.
-fn is_written_as<M: WholeMessage<Global> + PartialEq + Clone + Drop>(
+// True if a message is emitted as these bytes, which are parsed as it exactly if it is settled; and its clone is equal to it.
+fn is_written_as<M: ParseableBytes<Global> + Emitable + PartialEq + Clone + Drop>(
     alloc: Global,
     message: &M,
     bytes: &[u8],
     is_settled: bool,
 ) -> bool {
     is_emitted_as(alloc, message, bytes)
-        && message.is_settled() == is_settled
         && reads_back(alloc, message, bytes) == is_settled
         && matches!(is_cloned(message), Ok(true))
 }
@@ -83,28 +83,46 @@ fn is_end(text: &str, attributes: &str) -> bool {
     }
 }
 
-fn is_as_wanted<M: WholeMessage<Global> + PartialEq + Clone + Debug + Drop>(
+// True if a message is shown and written as it has to be, and is settled as it has to be.
+fn is_as_wanted<M: ParseableBytes<Global> + Emitable + PartialEq + Clone + Debug + Drop>(
     alloc: Global,
     message: &M,
+    is_settled: bool,
     shown: (&str, &str),
     written: Option<(&[u8], bool)>,
 ) -> bool {
     is_shown_as(alloc, message, shown)
         && match written {
-            Some((bytes, is_settled)) => is_written_as(alloc, message, bytes, is_settled),
+            Some((bytes, wanted)) => {
+                is_settled == wanted && is_written_as(alloc, message, bytes, is_settled)
+            }
             None => true,
         }
 }
 
-fn is_parsed_as<M: WholeMessage<Global> + PartialEq + Clone + Debug + Drop>(
+/// True if there is a traffic control message that is what it has to be.
+pub(crate) fn is_tc(
     alloc: Global,
-    bytes: &[u8],
+    message: Option<TcMessage>,
     shown: (&str, &str),
     written: Option<(&[u8], bool)>,
 ) -> bool {
-    match M::parse(alloc, bytes) {
-        Ok(message) => is_as_wanted(alloc, &message, shown, written),
-        Err(_) => false,
+    match &message {
+        Some(message) => is_as_wanted(alloc, message, message.is_settled(), shown, written),
+        None => false,
+    }
+}
+
+/// True if there is an action message that is what it has to be.
+pub(crate) fn is_action(
+    alloc: Global,
+    message: Option<TcActionMessage>,
+    shown: (&str, &str),
+    written: Option<(&[u8], bool)>,
+) -> bool {
+    match &message {
+        Some(message) => is_as_wanted(alloc, message, message.is_settled(), shown, written),
+        None => false,
     }
 }
 
@@ -117,41 +135,14 @@ pub(crate) fn is_read_as(
     written: Option<(&[u8], bool)>,
 ) -> bool {
     match form {
-        Form::Tc => is_parsed_as::<TcMessage>(alloc, bytes, shown, written),
-        Form::Action => is_parsed_as::<TcActionMessage>(alloc, bytes, shown, written),
+        Form::Tc => is_tc(alloc, TcMessage::parse(alloc, bytes).ok(), shown, written),
+        Form::Action => is_action(
+            alloc,
+            TcActionMessage::parse(alloc, bytes).ok(),
+            shown,
+            written,
+        ),
     }
-}
-
-fn is_made_as<M: WholeMessage<Global> + PartialEq + Clone + Debug + Drop>(
-    alloc: Global,
-    made: Result<M, AllocError>,
-    shown: (&str, &str),
-    written: Option<(&[u8], bool)>,
-) -> bool {
-    match &made {
-        Ok(message) => is_as_wanted(alloc, message, shown, written),
-        Err(_) => false,
-    }
-}
-
-/// True if a traffic control message was made that is what it has to be.
-pub(crate) fn is_tc(
-    alloc: Global,
-    made: Result<TcMessage, AllocError>,
-    shown: (&str, &str),
-    written: Option<(&[u8], bool)>,
-) -> bool {
-    is_made_as(alloc, made, shown, written)
-}
-
-/// True if an action message was made that is what it has to be.
-pub(crate) fn is_action(
-    alloc: Global,
-    made: Result<TcActionMessage, AllocError>,
-    shown: (&str, &str),
-    written: Option<(&[u8], bool)>,
-) -> bool {
-    is_made_as(alloc, made, shown, written)
 }
 
 fn fault_as<M: ParseableBytes<Global> + Drop>(alloc: Global, bytes: &[u8]) -> Option<DecodeError> {
@@ -166,39 +157,27 @@ pub(crate) fn fault_of(alloc: Global, form: Form, bytes: &[u8]) -> Option<Decode
     }
 }
 
-fn length<M: Emitable + Drop>(alloc: Global, made: Result<M, AllocError>) -> Option<usize> {
-    match &made {
-        Ok(message) => match emitted(alloc, message) {
-            Ok(Some(bytes)) => Some(bytes.len()),
-            _ => None,
-        },
-        Err(_) => None,
+fn length<M: Emitable>(alloc: Global, message: &M) -> Option<usize> {
+    match &emitted(alloc, message) {
+        Ok(Some(bytes)) => Some(bytes.len()),
+        _ => None,
     }
 }
 
-/// How many bytes of a traffic control message that was made are emitted, if it fits.
-pub(crate) fn length_of(alloc: Global, made: Result<TcMessage, AllocError>) -> Option<usize> {
-    length(alloc, made)
+/// How many bytes are emitted of a traffic control message, if it fits.
+pub(crate) fn length_of(alloc: Global, message: Option<TcMessage>) -> Option<usize> {
+    match &message {
+        Some(message) => length(alloc, message),
+        None => None,
+    }
 }
 
-fn is_unwritable<M: WholeMessage<Global> + PartialEq + Drop>(
-    alloc: Global,
-    bytes: &[u8],
-    made: Result<M, AllocError>,
-) -> bool {
-    match &made {
-        Ok(message) => {
-            reads_back(alloc, message, bytes) && message.is_settled() && !message.fits()
+/// True if bytes are parsed as this traffic control message, which is settled and doesn't fit.
+pub(crate) fn is_unwritable(alloc: Global, bytes: &[u8], message: Option<TcMessage>) -> bool {
+    match &message {
+        Some(message) => {
+            message.is_settled() && !message.fits() && reads_back(alloc, message, bytes)
         }
-        Err(_) => false,
+        None => false,
     }
-}
-
-/// True if bytes are parsed as the traffic control message that was made, which is settled and doesn't fit.
-pub(crate) fn is_unwritable_tc(
-    alloc: Global,
-    bytes: &[u8],
-    made: Result<TcMessage, AllocError>,
-) -> bool {
-    is_unwritable(alloc, bytes, made)
 }

@@ -1,6 +1,6 @@
 //! The calls on the bytes of a message of either form.
 
-use std::alloc::Global;
+use std::alloc::Allocator;
 use tc_wire::{
     RewriteError, is_canonical_action, is_canonical_tc, rewrite_action, rewrite_tc, settle_action,
     settle_tc,
@@ -16,7 +16,11 @@ pub(crate) fn is_canonical(form: Form, bytes: &[u8]) -> bool {
 }
 
 /// What bytes are rewritten as.
-pub(crate) fn rewrite(alloc: Global, form: Form, bytes: &[u8]) -> Result<Vec<u8>, RewriteError> {
+pub(crate) fn rewrite<A: Allocator + Copy>(
+    alloc: A,
+    form: Form,
+    bytes: &[u8],
+) -> Result<Vec<u8, A>, RewriteError> {
     match form {
         Form::Tc => rewrite_tc(alloc, bytes),
         Form::Action => rewrite_action(alloc, bytes),
@@ -24,11 +28,11 @@ pub(crate) fn rewrite(alloc: Global, form: Form, bytes: &[u8]) -> Result<Vec<u8>
 }
 
 /// What bytes are settled as, and after how many rewrites.
-pub(crate) fn settle(
-    alloc: Global,
+pub(crate) fn settle<A: Allocator + Copy>(
+    alloc: A,
     form: Form,
     bytes: &[u8],
-) -> Result<(Vec<u8>, usize), RewriteError> {
+) -> Result<(Vec<u8, A>, usize), RewriteError> {
     match form {
         Form::Tc => settle_tc(alloc, bytes),
         Form::Action => settle_action(alloc, bytes),

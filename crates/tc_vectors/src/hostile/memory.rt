@@ -1,10 +1,10 @@
 //! Memory that is refused: whichever request it is, the call fails with out of memory; and calls that make no request.
 
-use crate::calls::{rewrite, settle};
+use crate::calls::{is_canonical, rewrite, settle};
 use failing_alloc::Failing;
 use std::alloc::{AllocError, Global};
 use std::test::Fail;
-use tc_wire::{DecodeError, Emitable, RewriteError, TcActionMessage, TcMessage, WholeMessage};
+use tc_wire::{DecodeError, Emitable, ParseableBytes, RewriteError, TcActionMessage, TcMessage};
 use tests_messages::{Expected, Form, Row, made};
 
 /// What is wrong with what a call returned.
@@ -50,12 +50,12 @@ fn is_done(failing: &Failing<Global>, is_right: bool, wrong: Wrong) -> Ended {
 }
 
 // Whether the message of a row is rewritten as it is with memory enough.
-fn is_rewritten<'f, M: WholeMessage<&'f Failing<Global>>>(
-    failing: &'f Failing<Global>,
+fn is_rewritten(
+    failing: &Failing<Global>,
     row: &Row,
     wanted: &Result<Vec<u8>, RewriteError>,
 ) -> Ended {
-    match (&M::rewrite(failing, &row.input.bytes), wanted) {
+    match (&rewrite(failing, row.input.form, &row.input.bytes), wanted) {
         (Err(RewriteError::OutOfMemory), _) => is_refused(failing),
         (Err(cause), Err(wanted)) => is_done(failing, *cause == *wanted, Wrong::Answer),
         (Ok(bytes), Ok(wanted)) => {
@@ -70,12 +70,12 @@ fn is_rewritten<'f, M: WholeMessage<&'f Failing<Global>>>(
 }
 
 // Whether the message of a row is settled as it is with memory enough.
-fn is_settled<'f, M: WholeMessage<&'f Failing<Global>>>(
-    failing: &'f Failing<Global>,
+fn is_settled(
+    failing: &Failing<Global>,
     row: &Row,
     wanted: &Result<(Vec<u8>, usize), RewriteError>,
 ) -> Ended {
-    match (&M::settle(failing, &row.input.bytes), wanted) {
+    match (&settle(failing, row.input.form, &row.input.bytes), wanted) {
         (Err(RewriteError::OutOfMemory), _) => is_refused(failing),
         (Err(cause), Err(wanted)) => is_done(failing, *cause == *wanted, Wrong::Answer),
         (Ok((bytes, rewrites)), Ok((wanted, wanted_rewrites))) => is_done(
@@ -98,10 +98,7 @@ fn is_emitted<M: Emitable>(message: &M, emitted: &[u8]) -> bool {
 }
 
 // Whether a message that was read is as its row has it, or what is wrong with it.
-fn judge_read<'f, M: WholeMessage<&'f Failing<Global>> + PartialEq>(
-    row: &Row,
-    message: &M,
-) -> Ended {
+fn judge_read<M: Emitable + PartialEq>(row: &Row, message: &M, is_settled: bool) -> Ended {
     match &row.expected {
         Expected::Refused(_) => Err(Wrong::Fault),
         Expected::Accepted {
@@ -112,9 +109,9 @@ fn judge_read<'f, M: WholeMessage<&'f Failing<Global>> + PartialEq>(
         } => {
             if message.fits() != *fits {
                 Err(Wrong::Fits)
-            } else if message.is_settled() != *settled {
+            } else if is_settled != *settled {
                 Err(Wrong::Settled)
-            } else if M::is_canonical(&row.input.bytes) != *canonical {
+            } else if is_canonical(row.input.form, &row.input.bytes) != *canonical {
                 Err(Wrong::Canonical)
             } else if !is_emitted(message, emitted) {
                 Err(Wrong::Emitted)
@@ -147,15 +144,14 @@ fn judge_clone<M: PartialEq + Clone + Drop>(failing: &Failing<Global>, message: 
     Err(Wrong::Requests)
 }
 
-// Whether a message was read with all its memory, and as it has to be: while the next request would be refused, since none is made.
-fn judge<'f, M: WholeMessage<&'f Failing<Global>> + PartialEq + Clone + Drop>(
-    failing: &'f Failing<Global>,
+// Whether a message was read with all its memory, and as it has to be, without a request since.
+fn judge<M: Emitable + PartialEq + Clone + Drop>(
+    failing: &Failing<Global>,
     row: &Row,
     message: &M,
+    is_settled: bool,
 ) -> Ended {
-    is_done(failing, true, Wrong::Memory)?;
-    failing.refuse(1);
-    judge_read(row, message)?;
+    judge_read(row, message, is_settled)?;
     is_done(failing, true, Wrong::Memory)?;
     judge_clone(failing, message)
 }
@@ -171,14 +167,34 @@ fn judge_fault(failing: &Failing<Global>, row: &Row, fault: &DecodeError) -> End
     }
 }
 
-// Whether the message of a row is read as it has to be.
-fn is_read<'f, M: WholeMessage<&'f Failing<Global>> + PartialEq + Clone + Drop>(
-    failing: &'f Failing<Global>,
-    row: &Row,
-) -> Ended {
-    match &M::parse(failing, &row.input.bytes) {
-        Ok(message) => judge(failing, row, message),
+// Whether a call was given all its memory; from here on the next request would be refused.
+fn has_ended(failing: &Failing<Global>) -> bool {
+    let has_ended = !failing.has_refused();
+    failing.refuse(1);
+    has_ended
+}
+
+fn is_tc_read(failing: &Failing<Global>, row: &Row) -> Ended {
+    match &TcMessage::parse(failing, &row.input.bytes) {
+        Ok(message) if has_ended(failing) => judge(failing, row, message, message.is_settled()),
+        Ok(_) => Err(Wrong::Memory),
         Err(fault) => judge_fault(failing, row, fault),
+    }
+}
+
+fn is_action_read(failing: &Failing<Global>, row: &Row) -> Ended {
+    match &TcActionMessage::parse(failing, &row.input.bytes) {
+        Ok(message) if has_ended(failing) => judge(failing, row, message, message.is_settled()),
+        Ok(_) => Err(Wrong::Memory),
+        Err(fault) => judge_fault(failing, row, fault),
+    }
+}
+
+// Whether the message of a row is read as it has to be.
+fn is_read(failing: &Failing<Global>, row: &Row) -> Ended {
+    match row.input.form {
+        Form::Tc => is_tc_read(failing, row),
+        Form::Action => is_action_read(failing, row),
     }
 }
 
@@ -190,29 +206,20 @@ struct Wanted {
 }
 
 // Whether the three calls are done where the request of this number is refused in each.
-fn are_done<'f, M: WholeMessage<&'f Failing<Global>> + PartialEq + Clone + Drop>(
-    failing: &'f Failing<Global>,
-    at: u64,
-    row: &Row,
-    wanted: &Wanted,
-) -> Ended {
+fn are_done(failing: &Failing<Global>, at: u64, row: &Row, wanted: &Wanted) -> Ended {
     failing.refuse(at);
-    let is_read = is_read::<M>(failing, row)?;
+    let is_read = is_read(failing, row)?;
     failing.refuse(at);
-    let is_rewritten = is_rewritten::<M>(failing, row, &wanted.rewritten)?;
+    let is_rewritten = is_rewritten(failing, row, &wanted.rewritten)?;
     failing.refuse(at);
-    let is_settled = is_settled::<M>(failing, row, &wanted.settled)?;
+    let is_settled = is_settled(failing, row, &wanted.settled)?;
     Ok(is_read && is_rewritten && is_settled)
 }
 
 // How many requests were refused, one after the other, until none was.
-fn refusals<'f, M: WholeMessage<&'f Failing<Global>> + PartialEq + Clone + Drop>(
-    failing: &'f Failing<Global>,
-    row: &Row,
-    wanted: &Wanted,
-) -> Result<u64, Wrong> {
+fn refusals(failing: &Failing<Global>, row: &Row, wanted: &Wanted) -> Result<u64, Wrong> {
     for at in 1..1000u64 {
-        if are_done::<M>(failing, at, row, wanted)? {
+        if are_done(failing, at, row, wanted)? {
             return Ok(at - 1);
         }
     }
@@ -220,20 +227,12 @@ fn refusals<'f, M: WholeMessage<&'f Failing<Global>> + PartialEq + Clone + Drop>
 }
 
 // How many requests of the message of a row were refused.
-fn refusals_of(failing: &Failing<Global>, row: &Row, wanted: &Wanted) -> Result<u64, Wrong> {
-    match row.input.form {
-        Form::Tc => refusals::<TcMessage<&Failing<Global>>>(failing, row, wanted),
-        Form::Action => refusals::<TcActionMessage<&Failing<Global>>>(failing, row, wanted),
-    }
-}
-
-// The same, of an allocator of its own.
-fn count_refusals(alloc: Global, row: &Row) -> Result<u64, Wrong> {
+fn refusals_of(alloc: Global, row: &Row) -> Result<u64, Wrong> {
     let wanted = Wanted {
         rewritten: rewrite(alloc, row.input.form, &row.input.bytes),
         settled: settle(alloc, row.input.form, &row.input.bytes),
     };
-    refusals_of(&Failing::new(alloc, 0), row, &wanted)
+    refusals(&Failing::new(alloc, 0), row, &wanted)
 }
 
 #[test]
@@ -241,7 +240,7 @@ fn every_refused_allocation_is_reported(rt: HostRuntime) -> Result<(), Fail> {
     let alloc = rt.alloc();
     let mut count = 0u64;
     for row in &made(alloc)? {
-        let refusals = count_refusals(alloc, row);
+        let refusals = refusals_of(alloc, row);
         assert!(rt; refusals.is_ok(), "{refusals:?}: {:?}", row.input);
         count = count.wrapping_add(refusals.unwrap_or(0));
     }

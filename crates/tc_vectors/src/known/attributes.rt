@@ -1,7 +1,7 @@
 //! The attributes of a message, type by type.
 
 use crate::calls::is_read_attribute;
-use crate::tabled::{Says, are_right};
+use crate::row_kinds::{Says, are_right};
 use crate::tables::{bytes_of, cells};
 use std::alloc::Global;
 use std::test::Fail;

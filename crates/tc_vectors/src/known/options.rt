@@ -2,7 +2,7 @@
 
 use crate::calls::{is_option_settled, is_read_option};
 use crate::flower;
-use crate::tabled::{Says, are_right};
+use crate::row_kinds::{Says, are_right};
 use crate::tables::{are_known, bytes_of, cells, is_shown, or_same, pair, rows};
 use nla_frames::Res;
 use std::alloc::Global;
