@@ -11,7 +11,7 @@ pub(crate) use attributes::{
     is_read_option, is_settled_attribute, is_settled_option,
 };
 pub(crate) use messages::{
-    emitted, fault_of, is_action, is_cloned, is_read_as, is_tc, is_unwritable, length_of,
-    reads_back,
+    Message, emitted, fault_of, is_action, is_cloned, is_read_as, is_settled, is_tc, is_unwritable,
+    length_of, reads_back,
 };
 pub(crate) use rewriting::{is_canonical, rewrite, settle};

@@ -7,4 +7,4 @@ mod defaults;
 mod options;
 
 pub(crate) use attributes::is_attribute;
-pub(crate) use options::{is_kept_option, is_option, is_refused_option};
+pub(crate) use options::{is_option, is_refused_option};

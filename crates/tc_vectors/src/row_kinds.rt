@@ -21,8 +21,6 @@ pub(crate) enum Says {
     Option(&'static str, &'static str),
     /// Why an option is refused.
     RefusedOption,
-    /// What an option of an unknown type is kept as.
-    KeptOption,
     /// What options of flower are written as.
     Flower,
 }
@@ -35,7 +33,6 @@ fn is_right(alloc: Global, says: Says, row: &str) -> bool {
         Says::Attribute => known::is_attribute(alloc, row),
         Says::Option(kind, variant) => known::is_option(alloc, kind, variant, row),
         Says::RefusedOption => known::is_refused_option(alloc, row),
-        Says::KeptOption => known::is_kept_option(alloc, row),
         Says::Flower => flower::is_rewritten(alloc, row),
     }
 }

@@ -129,11 +129,19 @@ fn is_message(alloc: Global, row: &Row) -> bool {
     }
 }
 
-#[test]
-fn of_messages(rt: HostRuntime) {
-    for row in MESSAGES.iter().chain(&MESSAGES_OF_A_KNOWN_KIND) {
-        assert!(rt; is_message(rt.alloc(), row), "{}", row.1);
+fn are_messages(alloc: Global, rows: &[Row]) -> Result<(), Fail> {
+    for row in rows {
+        if !is_message(alloc, row) {
+            return Err(Fail::new(row.1));
+        }
     }
+    Ok(())
+}
+
+#[test]
+fn of_messages(rt: HostRuntime) -> Result<(), Fail> {
+    are_messages(rt.alloc(), &MESSAGES)?;
+    are_messages(rt.alloc(), &MESSAGES_OF_A_KNOWN_KIND)
 }
 
 /// An attribute of an action message, made by hand.
@@ -269,15 +277,14 @@ fn is_settled_of_type(alloc: Global, word: u16) -> Result<bool, AllocError> {
 #[test]
 fn of_options_under_a_kind(rt: HostRuntime) -> Result<(), Fail> {
     let alloc = rt.alloc();
-    for kind in ["fq_codel", "fq_codel\0", "sfq", ""] {
-        assert!(rt;
-            are_settled_under(alloc, kind, kind == "fq_codel"),
-            "{kind}"
-        );
-    }
-    for (word, is_settled) in [(2, false), (0x8002, false), (99, true), (0xc063, true)] {
-        assert!(rt; is_settled_of_type(alloc, word)? == is_settled, "{word}");
-    }
+    assert!(rt; are_settled_under(alloc, "fq_codel", true));
+    assert!(rt; are_settled_under(alloc, "fq_codel\0", false));
+    assert!(rt; are_settled_under(alloc, "sfq", false));
+    assert!(rt; are_settled_under(alloc, "", false));
+    assert!(rt; !is_settled_of_type(alloc, 2)?);
+    assert!(rt; !is_settled_of_type(alloc, 0x8002)?);
+    assert!(rt; is_settled_of_type(alloc, 99)?);
+    assert!(rt; is_settled_of_type(alloc, 0xc063)?);
     Ok(())
 }
 

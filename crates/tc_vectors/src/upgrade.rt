@@ -10,7 +10,7 @@ use tc_records::TcHeader;
 use tc_wire::{TcAttribute, TcMessage};
 
 /// A kind, empty for none, the other options after it, each a word and its value, and what the attributes are upgraded to.
-type Row = (&'static str, &'static [(u16, &'static [u8])], &'static str);
+pub(crate) type Row = (&'static str, &'static [(u16, &'static [u8])], &'static str);
 
 /// Options without a kind.
 #[rattlefmt::skip]
@@ -24,11 +24,16 @@ static WITHOUT_KIND_BYTES: [u8; 32] = [
     12, 0, 2, 0, 8, 0, 2, 0, 0, 0x28, 0, 0,
 ];
 
+/// Options of a kind that isn't known.
+#[rattlefmt::skip]
+pub(crate) const SFQ: Row =
+    ("sfq", &[(0x8002, &[1, 2, 3, 4])], "[Kind(\"sfq\"), OptionsRaw(DefaultNla { word: 32770, value: [1, 2, 3, 4] })]");
+
 /// What changes: one option alone, of type 2 with any flags, under a kind that isn't known.
 #[rattlefmt::skip]
 static ROWS: [Row; 8] = [
     WITHOUT_KIND,
-    ("sfq", &[(0x8002, &[1, 2, 3, 4])], "[Kind(\"sfq\"), OptionsRaw(DefaultNla { word: 32770, value: [1, 2, 3, 4] })]"),
+    SFQ,
     ("u32", &[(2, &[1])], "[Kind(\"u32\"), Options([Other(DefaultNla { word: 2, value: [1] })])]"),
     ("", &[], "[Options([])]"),
     ("", &[(3, &[1])], "[Options([Other(DefaultNla { word: 3, value: [1] })])]"),
@@ -42,7 +47,7 @@ fn unknown<A: Allocator + Copy>(
     alloc: A,
     rows: &[(u16, &[u8])],
 ) -> Result<TcAttribute<A>, AllocError> {
-    let mut list = Ok(Vec::new(alloc));
+    let mut list = Vec::with_capacity(alloc, rows.len());
     for (word, value) in rows {
         list = pushed(list, other(alloc, *word, value));
     }
@@ -58,7 +63,7 @@ fn first<A: Allocator + Copy>(alloc: A, name: &str) -> Result<Vec<TcAttribute<A>
 }
 
 /// The message of a row.
-fn made<A: Allocator + Copy>(alloc: A, row: &Row) -> Result<TcMessage<A>, AllocError> {
+pub(crate) fn made<A: Allocator + Copy>(alloc: A, row: &Row) -> Result<TcMessage<A>, AllocError> {
     message(pushed(first(alloc, row.0), unknown(alloc, row.1)))
 }
 

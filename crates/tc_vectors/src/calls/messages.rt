@@ -1,16 +1,13 @@
 //! Whether a message is what it has to be: read from bytes, or made by hand. It is `shown` by `Debug` as a front and, behind that, its attributes; and
 //! `written` as bytes, and settled or not, or `None` where only its text is looked at.
 
-use std::alloc::{AllocError, Allocator, Global};
+use std::alloc::{AllocError, Global};
 use std::fmt::Debug;
 use tc_wire::{DecodeError, Emitable, ParseableBytes, TcActionMessage, TcMessage};
 use tests_messages::Form;
 
-/// The bytes of a message, if it fits. It is emitted to a longer buffer, whose other bytes stay.
-pub(crate) fn emitted<A: Allocator, M: Emitable>(
-    alloc: A,
-    message: &M,
-) -> Result<Option<Vec<u8, A>>, AllocError> {
+// The bytes of a message, if it fits. It is emitted to a longer buffer, whose other bytes stay.
+fn emitted_of<M: Emitable>(alloc: Global, message: &M) -> Result<Option<Vec<u8>>, AllocError> {
     if !message.fits() {
         return Ok(None);
     }
@@ -24,40 +21,79 @@ pub(crate) fn emitted<A: Allocator, M: Emitable>(
     Ok(Some(bytes))
 }
 
-fn is_emitted_as<M: Emitable>(alloc: Global, message: &M, bytes: &[u8]) -> bool {
+/// A message of either form.
+#[derive(Clone, Copy)]
+pub(crate) enum Message<'a> {
+    Tc(&'a TcMessage),
+    Action(&'a TcActionMessage),
+}
+
+/// The bytes of a message, if it fits.
+pub(crate) fn emitted(alloc: Global, message: Message<'_>) -> Result<Option<Vec<u8>>, AllocError> {
+    match message {
+        Message::Tc(message) => emitted_of(alloc, message),
+        Message::Action(message) => emitted_of(alloc, message),
+    }
+}
+
+fn is_emitted_as(alloc: Global, message: Message<'_>, bytes: &[u8]) -> bool {
     match emitted(alloc, message) {
         Ok(Some(emitted)) => emitted.as_slice() == bytes,
         _ => false,
     }
 }
 
-/// True if bytes are parsed as this message.
-pub(crate) fn reads_back<M: ParseableBytes<Global> + PartialEq + Drop>(
-    alloc: Global,
-    message: &M,
-    bytes: &[u8],
-) -> bool {
-    match M::parse(alloc, bytes) {
+fn is_tc_again(alloc: Global, message: &TcMessage, bytes: &[u8]) -> bool {
+    match TcMessage::parse(alloc, bytes) {
         Ok(again) => again == *message,
         Err(_) => false,
     }
 }
 
-/// True if the clone of a message is equal to it.
-pub(crate) fn is_cloned<M: PartialEq + Clone + Drop>(message: &M) -> Result<bool, AllocError> {
-    Ok(message.clone()? == *message)
+fn is_action_again(alloc: Global, message: &TcActionMessage, bytes: &[u8]) -> bool {
+    match TcActionMessage::parse(alloc, bytes) {
+        Ok(again) => again == *message,
+        Err(_) => false,
+    }
 }
 
-// True if a message is emitted as these bytes, which are parsed as it exactly if it is settled; and its clone is equal to it.
-fn is_written_as<M: ParseableBytes<Global> + Emitable + PartialEq + Clone + Drop>(
-    alloc: Global,
-    message: &M,
-    bytes: &[u8],
-    is_settled: bool,
-) -> bool {
+/// True if bytes are parsed as this message.
+pub(crate) fn reads_back(alloc: Global, message: Message<'_>, bytes: &[u8]) -> bool {
+    match message {
+        Message::Tc(message) => is_tc_again(alloc, message, bytes),
+        Message::Action(message) => is_action_again(alloc, message, bytes),
+    }
+}
+
+/// What `is_settled` returns.
+pub(crate) fn is_settled(message: Message<'_>) -> bool {
+    match message {
+        Message::Tc(message) => message.is_settled(),
+        Message::Action(message) => message.is_settled(),
+    }
+}
+
+/// True if the clone of a message is equal to it.
+pub(crate) fn is_cloned(message: Message<'_>) -> Result<bool, AllocError> {
+    match message {
+        Message::Tc(message) => Ok(message.clone()? == *message),
+        Message::Action(message) => Ok(message.clone()? == *message),
+    }
+}
+
+// True if a message is emitted as these bytes, and settled as it has to be, which its bytes show too; and its clone is equal to it.
+fn is_written_as(alloc: Global, message: Message<'_>, bytes: &[u8], wanted: bool) -> bool {
     is_emitted_as(alloc, message, bytes)
-        && reads_back(alloc, message, bytes) == is_settled
+        && is_settled(message) == wanted
+        && reads_back(alloc, message, bytes) == wanted
         && matches!(is_cloned(message), Ok(true))
+}
+
+fn is_written(alloc: Global, message: Message<'_>, written: Option<(&[u8], bool)>) -> bool {
+    match written {
+        Some((bytes, is_settled)) => is_written_as(alloc, message, bytes, is_settled),
+        None => true,
+    }
 }
 
 fn is_shown_as<M: Debug>(alloc: Global, message: &M, shown: (&str, &str)) -> bool {
@@ -83,23 +119,6 @@ fn is_end(text: &str, attributes: &str) -> bool {
     }
 }
 
-// True if a message is shown and written as it has to be, and is settled as it has to be.
-fn is_as_wanted<M: ParseableBytes<Global> + Emitable + PartialEq + Clone + Debug + Drop>(
-    alloc: Global,
-    message: &M,
-    is_settled: bool,
-    shown: (&str, &str),
-    written: Option<(&[u8], bool)>,
-) -> bool {
-    is_shown_as(alloc, message, shown)
-        && match written {
-            Some((bytes, wanted)) => {
-                is_settled == wanted && is_written_as(alloc, message, bytes, is_settled)
-            }
-            None => true,
-        }
-}
-
 /// True if there is a traffic control message that is what it has to be.
 pub(crate) fn is_tc(
     alloc: Global,
@@ -108,7 +127,9 @@ pub(crate) fn is_tc(
     written: Option<(&[u8], bool)>,
 ) -> bool {
     match &message {
-        Some(message) => is_as_wanted(alloc, message, message.is_settled(), shown, written),
+        Some(message) => {
+            is_shown_as(alloc, message, shown) && is_written(alloc, Message::Tc(message), written)
+        }
         None => false,
     }
 }
@@ -121,7 +142,10 @@ pub(crate) fn is_action(
     written: Option<(&[u8], bool)>,
 ) -> bool {
     match &message {
-        Some(message) => is_as_wanted(alloc, message, message.is_settled(), shown, written),
+        Some(message) => {
+            is_shown_as(alloc, message, shown)
+                && is_written(alloc, Message::Action(message), written)
+        }
         None => false,
     }
 }
@@ -145,19 +169,15 @@ pub(crate) fn is_read_as(
     }
 }
 
-fn fault_as<M: ParseableBytes<Global> + Drop>(alloc: Global, bytes: &[u8]) -> Option<DecodeError> {
-    M::parse(alloc, bytes).err()
-}
-
 /// Why bytes aren't parsed as a message of this form, if they aren't.
 pub(crate) fn fault_of(alloc: Global, form: Form, bytes: &[u8]) -> Option<DecodeError> {
     match form {
-        Form::Tc => fault_as::<TcMessage>(alloc, bytes),
-        Form::Action => fault_as::<TcActionMessage>(alloc, bytes),
+        Form::Tc => TcMessage::parse(alloc, bytes).err(),
+        Form::Action => TcActionMessage::parse(alloc, bytes).err(),
     }
 }
 
-fn length<M: Emitable>(alloc: Global, message: &M) -> Option<usize> {
+fn length(alloc: Global, message: Message<'_>) -> Option<usize> {
     match &emitted(alloc, message) {
         Ok(Some(bytes)) => Some(bytes.len()),
         _ => None,
@@ -167,7 +187,7 @@ fn length<M: Emitable>(alloc: Global, message: &M) -> Option<usize> {
 /// How many bytes are emitted of a traffic control message, if it fits.
 pub(crate) fn length_of(alloc: Global, message: Option<TcMessage>) -> Option<usize> {
     match &message {
-        Some(message) => length(alloc, message),
+        Some(message) => length(alloc, Message::Tc(message)),
         None => None,
     }
 }
@@ -176,7 +196,7 @@ pub(crate) fn length_of(alloc: Global, message: Option<TcMessage>) -> Option<usi
 pub(crate) fn is_unwritable(alloc: Global, bytes: &[u8], message: Option<TcMessage>) -> bool {
     match &message {
         Some(message) => {
-            message.is_settled() && !message.fits() && reads_back(alloc, message, bytes)
+            message.is_settled() && !message.fits() && is_tc_again(alloc, message, bytes)
         }
         None => false,
     }

@@ -1,8 +1,7 @@
 //! Memory in bytes, counted by a heap of a given size: what a parse takes, what a message holds, and that all of it is given back.
 
-use crate::made as by_hand;
-use crate::made::{kind, message, other, pushed};
 use crate::messages::FQ_CODEL;
+use crate::upgrade::{SFQ, made as made_by_hand};
 use linked_list_allocator::LocalHeap;
 use std::alloc::{AllocError, Global};
 use std::mem::size_of;
@@ -94,16 +93,6 @@ fn a_parse_takes_32_bytes_a_byte(rt: HostRuntime) -> Result<(), Fail> {
     suffice(alloc, &large_messages(alloc)?)
 }
 
-/// The message that version 1 read of the kind sfq and its options, of which it kept a header.
-fn of_version_1(heap: &LocalHeap) -> Result<TcMessage<&LocalHeap>, AllocError> {
-    let list = pushed(
-        Vec::with_capacity(heap, 1),
-        other(heap, 0x8002, &[1, 2, 3, 4]),
-    );
-    let first = pushed(Ok(Vec::new(heap)), kind(heap, "sfq"));
-    message(pushed(first, by_hand::options(list)))
-}
-
 /// How many bytes less a message holds once it is upgraded, if it was made.
 fn freed(heap: &LocalHeap, made: Result<TcMessage<&LocalHeap>, AllocError>) -> Option<usize> {
     let before = heap.used();
@@ -120,7 +109,7 @@ fn freed(heap: &LocalHeap, made: Result<TcMessage<&LocalHeap>, AllocError>) -> O
 #[test]
 fn an_upgrade_frees_the_list(rt: HostRuntime) -> Result<(), Fail> {
     let heap = LocalHeap::new(rt.alloc(), 65536)?;
-    assert!(rt; freed(&heap, of_version_1(&heap)) == Some(options(1)));
+    assert!(rt; freed(&heap, made_by_hand(&heap, &SFQ)) == Some(options(1)));
     assert!(rt; heap.used() == 0);
     Ok(())
 }

@@ -1,9 +1,11 @@
 //! What holds of untrusted input.
 
-use crate::calls::{emitted, fault_of, is_canonical, is_cloned, reads_back, settle};
+use crate::calls::{
+    Message, emitted, fault_of, is_canonical, is_cloned, is_settled, reads_back, settle,
+};
 use crate::rewriting::{becomes, cause_of, is_fault, is_outcome, rewritten};
 use std::alloc::Global;
-use tc_wire::{DecodeError, Emitable, ParseableBytes, RewriteError, TcActionMessage, TcMessage};
+use tc_wire::{DecodeError, ParseableBytes, RewriteError, TcActionMessage, TcMessage};
 use tests_messages::{Form, Input};
 
 /// What is wrong with what a call returned, if anything is.
@@ -19,14 +21,14 @@ pub(crate) fn judge(alloc: Global, input: &Input) -> Complaint {
 
 fn judge_tc(alloc: Global, bytes: &[u8]) -> Complaint {
     match &TcMessage::parse(alloc, bytes) {
-        Ok(message) => judge_read(alloc, Form::Tc, bytes, message, message.is_settled()),
+        Ok(message) => judge_read(alloc, Form::Tc, bytes, Message::Tc(message)),
         Err(fault) => judge_fault(alloc, Form::Tc, bytes, fault),
     }
 }
 
 fn judge_action(alloc: Global, bytes: &[u8]) -> Complaint {
     match &TcActionMessage::parse(alloc, bytes) {
-        Ok(message) => judge_read(alloc, Form::Action, bytes, message, message.is_settled()),
+        Ok(message) => judge_read(alloc, Form::Action, bytes, Message::Action(message)),
         Err(fault) => judge_fault(alloc, Form::Action, bytes, fault),
     }
 }
@@ -50,19 +52,13 @@ fn judge_refused(form: Form, bytes: &[u8]) -> Complaint {
     }
 }
 
-fn judge_read<M: ParseableBytes<Global> + Emitable + PartialEq + Clone + Drop>(
-    alloc: Global,
-    form: Form,
-    bytes: &[u8],
-    message: &M,
-    is_settled: bool,
-) -> Complaint {
+fn judge_read(alloc: Global, form: Form, bytes: &[u8], message: Message<'_>) -> Complaint {
     if !matches!(is_cloned(message), Ok(true)) {
         return Some("a clone differs");
     }
     match &emitted(alloc, message) {
         Ok(Some(emitted)) => {
-            if reads_back(alloc, message, emitted) != is_settled {
+            if reads_back(alloc, message, emitted) != is_settled(message) {
                 Some("settled isn't what reads back")
             } else {
                 judge_written(alloc, form, bytes, emitted)

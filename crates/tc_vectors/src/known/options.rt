@@ -3,7 +3,7 @@
 use crate::calls::{is_option_settled, is_read_option};
 use crate::flower;
 use crate::row_kinds::{Says, are_right};
-use crate::tables::{are_known, bytes_of, cells, is_shown, or_same, pair, rows};
+use crate::tables::{are_known, bytes_of, cells, is_shown, or_same};
 use nla_frames::Res;
 use std::alloc::Global;
 use std::test::Fail;
@@ -116,14 +116,14 @@ flower | 08000400 01020304 | WrongLength { expected: 6, got: 4 }
 "#;
 
 /// The kinds that are known, and their variants.
-static KINDS: &str = r#"
-fq_codel | FqCodel
-ingress | Ingress
-flower | Flower
-u32 | U32
-matchall | MatchAll
-bpf | Bpf
-"#;
+static KINDS: [(&str, &str); 6] = [
+    ("fq_codel", "FqCodel"),
+    ("ingress", "Ingress"),
+    ("flower", "Flower"),
+    ("u32", "U32"),
+    ("matchall", "MatchAll"),
+    ("bpf", "Bpf"),
+];
 
 #[test]
 fn by_themselves(rt: HostRuntime) -> Result<(), Fail> {
@@ -197,29 +197,24 @@ fn is_settled_under(alloc: Global, kind: &str, other: &str, is_settled: bool) ->
 
 // True if such an option, read under a kind, is settled under no other.
 fn is_settled_under_alone(alloc: Global, kind: &str) -> bool {
-    for row in rows(KINDS) {
-        let (other, _) = pair(row).unwrap_or(("", ""));
-        if !is_settled_under(alloc, kind, other, other == kind) {
+    for (other, _) in &KINDS {
+        if !is_settled_under(alloc, kind, other, *other == kind) {
             return false;
         }
     }
     is_settled_under(alloc, kind, "sfq", false) && is_settled_under(alloc, kind, "", false)
 }
 
-/// True if such an option is kept under the kind of a row, and settled under that alone.
-pub(crate) fn is_kept_option(alloc: Global, row: &str) -> bool {
-    match pair(row) {
-        Some((kind, variant)) => {
-            is_in_variant(alloc, kind, variant, &UNKNOWN_BYTES, (KEPT, UNKNOWN))
-                && is_settled_under_alone(alloc, kind)
-        }
-        None => false,
-    }
-}
-
 #[test]
-fn settled_under_their_kind_alone(rt: HostRuntime) -> Result<(), Fail> {
-    are_right(rt.alloc(), Says::KeptOption, KINDS)
+fn settled_under_their_kind_alone(rt: HostRuntime) {
+    let (alloc, kept) = (rt.alloc(), (KEPT, UNKNOWN));
+    for (kind, variant) in &KINDS {
+        assert!(rt;
+            is_in_variant(alloc, kind, variant, &UNKNOWN_BYTES, kept),
+            "{kind}"
+        );
+        assert!(rt; is_settled_under_alone(alloc, kind), "{kind}");
+    }
 }
 
 fn fault_of(alloc: Global, kind: &str, frame: &str) -> Res<bool> {
