@@ -71,7 +71,11 @@ fn nat(alloc: Global) -> Result<Vec<TcActionAttribute>, AllocError> {
 /// True if an action of this word is written, and not settled.
 fn is_flagged(tab: u16, attributes: Vec<TcActionAttribute>) -> bool {
     let made = TcAction { tab, attributes };
-    is_written(&made, &[12, 0, 1, 0x80, 8, 0, 1, 0, 0x6e, 0x61, 0x74, 0], false)
+    is_written(
+        &made,
+        &[12, 0, 1, 0x80, 8, 0, 1, 0, 0x6e, 0x61, 0x74, 0],
+        false,
+    )
 }
 
 // Made by hand, flags are written and not settled.

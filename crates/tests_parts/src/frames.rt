@@ -41,7 +41,10 @@ fn is_printed(alloc: Global, fault: &DecodeError, text: &str) -> bool {
 #[test]
 fn faults_are_printed_and_named(rt: HostRuntime) {
     for (fault, text, name) in &FAULTS {
-        assert!(rt; is_printed(rt.alloc(), fault, text) && fault.name() == *name, "{name}");
+        assert!(rt;
+            is_printed(rt.alloc(), fault, text) && fault.name() == *name,
+            "{name}"
+        );
     }
 }
 
