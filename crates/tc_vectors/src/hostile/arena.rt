@@ -7,11 +7,18 @@ use std::test::Fail;
 use tc_wire::{DecodeError, Emitable, ParseableBytes, TcActionMessage, TcMessage};
 use tests_messages::{Expected, Form, Row, captured, large_messages, made};
 
+fn length_as<'a, M: ParseableBytes<&'a Bump> + Emitable + Drop>(
+    arena: &'a Bump,
+    bytes: &[u8],
+) -> Result<Option<usize>, DecodeError> {
+    Ok(M::parse(arena, bytes)?.checked_len())
+}
+
 /// How many bytes a message has that bytes are parsed as in the arena, or why it isn't parsed.
 fn length_in(arena: &Bump, bytes: &[u8], form: Form) -> Result<Option<usize>, DecodeError> {
     match form {
-        Form::Tc => Ok(TcMessage::parse(arena, bytes)?.checked_len()),
-        Form::Action => Ok(TcActionMessage::parse(arena, bytes)?.checked_len()),
+        Form::Tc => length_as::<TcMessage<&Bump>>(arena, bytes),
+        Form::Action => length_as::<TcActionMessage<&Bump>>(arena, bytes),
     }
 }
 
