@@ -1,12 +1,10 @@
 //! Action messages: their attributes, type by type, and flags.
 
-use crate::tables::{are_known, are_written, has_text, settles};
+use crate::tables::{are_known, is_shown, is_written, settles};
 use bitflags::Flags;
-use nla_frames::{DecodeError, NlaBuffer, Parseable};
+use nla_frames::{NlaBuffer, Parseable, Res};
 use std::alloc::Global;
-use std::fmt::Debug;
 use std::hash::{DefaultHasher, Hash, Hasher};
-use std::slice::from_ref;
 use std::test::Fail;
 use tc_action_messages::{TcActionMessageAttribute, TcActionMessageFlagsWithSelector};
 use tc_records::TcActionMessageFlags;
@@ -59,29 +57,25 @@ static PAIRS: [(&[u8], &str); 6] = [
     (&[13, 0, 2, 0, 1, 0, 0, 0, 0, 0, 0, 2, 3], "Err(WrongLength { expected: 8, got: 9 })"),
 ];
 
-/// True if a frame is read as a pair or refused with a fault of this text.
-fn is_read<T: Parseable<Global> + Debug + Drop>(
-    alloc: Global,
-    frame: &[u8],
-    text: &str,
-) -> Result<bool, Fail> {
-    let read: Result<T, DecodeError> = T::parse(alloc, &NlaBuffer::new_checked(frame)?);
-    Ok(has_text(alloc, read, text)?)
+fn read(alloc: Global, frame: &[u8]) -> Res<TcActionMessageFlagsWithSelector> {
+    TcActionMessageFlagsWithSelector::parse(alloc, &NlaBuffer::new_checked(frame)?)
+}
+
+fn is_new(flags: TcActionMessageFlagsWithSelector) -> bool {
+    is_written(&flags, "0c000200 01000000 01000000") && settles(flags)
 }
 
 #[test]
-fn flags(rt: HostRuntime) -> Result<(), Fail> {
+fn flags(rt: HostRuntime) {
     let large = TcActionMessageFlagsWithSelector::new(TcActionMessageFlags::LargeDump);
-    assert!(rt; large == pair(1, 1));
-    assert!(rt; are_written(from_ref(&large), &[12, 0, 2, 0, 1, 0, 0, 0, 1, 0, 0, 0]));
-    assert!(rt; settles(large));
+    assert!(rt; large == pair(1, 1) && is_new(large));
     assert!(rt; TcActionMessageFlagsWithSelector::default() == pair(0, 0));
     for (frame, text) in &PAIRS {
-        if !is_read::<TcActionMessageFlagsWithSelector>(rt.alloc(), frame, text)? {
-            return Err(Fail::new(format_args!("{frame:?}")));
-        }
+        assert!(rt;
+            is_shown(rt.alloc(), &read(rt.alloc(), frame), text),
+            "{text}"
+        );
     }
-    Ok(())
 }
 
 /// Pairs in their order.

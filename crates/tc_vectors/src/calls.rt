@@ -1,11 +1,17 @@
-//! What the calls of messages, attributes and options return, as plain values. A use of a trait at a type as wide as a message is the dear part of
-//! a test's proof, so tests go through these few functions.
+//! Whether messages, attributes and options are what they have to be. A use of a trait at a type as wide as a message is the dear part of a test's
+//! proof, as is each place where such a value is dropped; so tests go through these few functions, which are passed what was made and return a truth
+//! value.
 
 mod attributes;
 mod messages;
+mod rewriting;
 
 pub(crate) use attributes::{
-    SeenAttribute, is_option_settled, read_attribute, read_attributes, read_option, read_options,
-    see_attribute, see_option,
+    are_attributes, are_options, is_cut_option, is_option_settled, is_read_attribute,
+    is_read_option, is_settled_attribute, is_settled_option,
 };
-pub(crate) use messages::{Seen, emitted, read_action, read_tc, see_action, see_tc};
+pub(crate) use messages::{
+    Message, emitted, fault_of, is_action, is_cloned, is_read_as, is_settled, is_tc, is_unwritable,
+    length_of, reads_back,
+};
+pub(crate) use rewriting::{is_canonical, rewrite, settle};

@@ -1,12 +1,15 @@
 //! Messages of which it is known whether they are canonical: made by hand, sent by tc of iproute2, and written by Linux 6.1 and 6.18.
 
-use crate::tables::{bytes_of, cells, rows};
-use std::alloc::{AllocError, Global};
+use crate::calls::is_canonical;
+use crate::row_kinds::{Says, are_right};
+use crate::tables::{bytes_of, cells};
+use std::alloc::Global;
 use std::test::*;
 use tc_canon::{
     canon_action, canon_action_options, canon_actions, canon_lse, canon_mpls, canon_options,
-    canon_stats2, is_canonical_action, is_canonical_tc,
+    canon_stats2, is_canonical_tc,
 };
+use tests_messages::Form;
 
 /// The kind fq_codel, and a limit of 10240.
 static LIMIT: &str =
@@ -140,46 +143,31 @@ host618.send.newaction.tunnel_key.001 | 00000000400001003c0001000f00010074756e6e
 uml61.note.newaction.gact.001 | 00000000b4000100b000010009000100676163740000000004000500500004000400060014000100000000000000000000000000000000000400060014000700000000000000000000000000000000000400060018000300000000000000000000000000000000000000000008000a00000000004400020018000200010000000000000002000000010000000000000004000400240001000000000000000000000000000000000000000000000000000000000000000000 | no
 "#;
 
-/// Which of the two messages bytes are looked at as.
-#[derive(Clone, Copy)]
-enum Message {
-    Tc,
-    Action,
-}
-
-fn is_canonical(message: Message, bytes: &[u8]) -> bool {
-    match message {
-        Message::Tc => is_canonical_tc(bytes),
-        Message::Action => is_canonical_action(bytes),
+/// True if a message is canonical as its row has it.
+pub(crate) fn is_judged_rightly(alloc: Global, form: Form, row: &str) -> bool {
+    match cells(row) {
+        Some((_, hex, answer)) => match bytes_of(alloc, &[], hex) {
+            Ok(bytes) => answer
+                == if is_canonical(form, &bytes) {
+                    "yes"
+                } else {
+                    "no"
+                },
+            Err(_) => false,
+        },
+        None => false,
     }
-}
-
-fn is_judged_rightly(alloc: Global, message: Message, row: &str) -> Result<bool, AllocError> {
-    let Some((_, hex, answer)) = cells(row) else {
-        return Ok(false);
-    };
-    let is_canonical = is_canonical(message, &bytes_of(alloc, hex)?);
-    Ok(answer == if is_canonical { "yes" } else { "no" })
-}
-
-/// Checks each row, and fails at the first whose answer is another.
-fn are_judged_rightly(alloc: Global, message: Message, table: &str) -> Result<(), Fail> {
-    for row in rows(table) {
-        if !is_judged_rightly(alloc, message, row)? {
-            return Err(Fail::new(row));
-        }
-    }
-    Ok(())
 }
 
 #[test]
 fn messages(rt: HostRuntime) -> Result<(), Fail> {
-    are_judged_rightly(rt.alloc(), Message::Tc, KINDS_AND_OPTIONS)?;
-    are_judged_rightly(rt.alloc(), Message::Tc, FLOWER)?;
-    are_judged_rightly(rt.alloc(), Message::Tc, FRAMES_AND_RECORDS)?;
-    are_judged_rightly(rt.alloc(), Message::Tc, ATTRIBUTES)?;
-    are_judged_rightly(rt.alloc(), Message::Tc, CAPTURED)?;
-    are_judged_rightly(rt.alloc(), Message::Action, ACTIONS)
+    let alloc = rt.alloc();
+    are_right(alloc, Says::Canonical(Form::Tc), KINDS_AND_OPTIONS)?;
+    are_right(alloc, Says::Canonical(Form::Tc), FLOWER)?;
+    are_right(alloc, Says::Canonical(Form::Tc), FRAMES_AND_RECORDS)?;
+    are_right(alloc, Says::Canonical(Form::Tc), ATTRIBUTES)?;
+    are_right(alloc, Says::Canonical(Form::Tc), CAPTURED)?;
+    are_right(alloc, Says::Canonical(Form::Action), ACTIONS)
 }
 
 // What the check of each list returns for one list.
@@ -208,9 +196,10 @@ fn lists(rt: HostRuntime) {
 // A message that is cut is canonical only between its attributes.
 #[test]
 fn cut_off(rt: HostRuntime) -> Result<(), Fail> {
-    let bytes = bytes_of(rt.alloc(), LIMIT)?;
-    for n in 0..=48 {
-        let front = bytes.get(..n).ok_or("the message has 48 bytes")?;
+    let bytes = bytes_of(rt.alloc(), &[], LIMIT)?;
+    for n in 0..=48usize {
+        let (front, _) = bytes.split_at(n.min(bytes.len()));
+        assert!(rt; front.len() == n, "{n}");
         assert!(rt;
             is_canonical_tc(front) == (n == 20 || n == 36 || n == 48),
             "{n}"

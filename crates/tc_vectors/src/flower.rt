@@ -1,9 +1,8 @@
 //! Flower's options: the known answer of each, those that are written as other bytes, and filters as the kernel and tc send them.
 
-use crate::tables::{
-    are_known, are_written, bytes_of, is_shown_and_written, or_same, pair, rows, settles,
-};
-use nla_frames::{DecodeError, DefaultNla, NlaBuffer, Parseable, Settle, parse_list};
+use crate::row_kinds::{Says, are_right};
+use crate::tables::{are_known, are_written, bytes_of, is_attribute, or_same, pair, settles};
+use nla_frames::{DefaultNla, Res, Settle, parse_list};
 use std::alloc::Global;
 use std::test::*;
 use tc_flower::{
@@ -161,24 +160,26 @@ fn options(rt: HostRuntime) -> Result<(), Fail> {
     are_options(rt.alloc(), OTHERS)
 }
 
-/// True if a list of options is written as it has to be.
-fn is_rewritten(alloc: Global, row: &str) -> Result<bool, Fail> {
-    let Some((sent, written)) = pair(row) else {
-        return Ok(false);
-    };
-    let written = bytes_of(alloc, or_same(sent, written))?;
-    let options: Vec<TcFilterFlowerOption> = parse_list(alloc, &bytes_of(alloc, sent)?)?;
-    Ok(are_written(&options, &written))
+// True if bytes are read as a list of options, and that is written as these frames.
+fn is_written(alloc: Global, bytes: &[u8], frames: &str) -> Res<bool> {
+    let options: Vec<TcFilterFlowerOption> = parse_list(alloc, bytes)?;
+    Ok(are_written(&options, frames))
+}
+
+/// True if the options of a row are written as they have to be.
+pub(crate) fn is_rewritten(alloc: Global, row: &str) -> bool {
+    match pair(row) {
+        Some((sent, written)) => match bytes_of(alloc, &[], sent) {
+            Ok(bytes) => matches!(is_written(alloc, &bytes, or_same(sent, written)), Ok(true)),
+            Err(_) => false,
+        },
+        None => false,
+    }
 }
 
 #[test]
 fn filters(rt: HostRuntime) -> Result<(), Fail> {
-    for row in rows(SENT) {
-        if !is_rewritten(rt.alloc(), row)? {
-            return Err(Fail::new(row));
-        }
-    }
-    Ok(())
+    are_right(rt.alloc(), Says::Flower, SENT)
 }
 
 /// True if an option is settled.
@@ -186,25 +187,16 @@ fn is_settled(option: TcFilterFlowerOption) -> bool {
     option.is_settled()
 }
 
-// A class is written, and read as an attribute of an unknown type.
-#[test]
-fn class_id(rt: HostRuntime) -> Result<(), Fail> {
-    let class_id = TcFilterFlowerOption::<Global>::ClassId(1);
-    assert!(rt; is_shown_and_written(rt.alloc(), class_id, "ClassId(1)", "08000100 01000000")?);
-    assert!(rt; !is_settled(TcFilterFlowerOption::ClassId(1)));
-    Ok(())
+// True if a class is written as it has to be.
+fn is_class(alloc: Global, class_id: TcFilterFlowerOption) -> bool {
+    is_attribute(alloc, &class_id, "ClassId(1)", "08000100 01000000")
 }
 
+// A class is written, and read as an attribute of an unknown type.
 #[test]
-fn wrong_width(rt: HostRuntime) -> Result<(), Fail> {
-    let frame = [8, 0, 4, 0, 1, 2, 3, 4];
-    let read = TcFilterFlowerOption::parse(rt.alloc(), &NlaBuffer::new_checked(&frame)?);
-    let fault = DecodeError::WrongLength {
-        expected: 6,
-        got: 4,
-    };
-    assert!(rt; read.err() == Some(fault));
-    Ok(())
+fn class_id(rt: HostRuntime) {
+    assert!(rt; is_class(rt.alloc(), TcFilterFlowerOption::ClassId(1)));
+    assert!(rt; !is_settled(TcFilterFlowerOption::ClassId(1)));
 }
 
 /// An attribute that is kept raw, of this type and without a payload.

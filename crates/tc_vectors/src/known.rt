@@ -5,3 +5,6 @@ mod attributes;
 mod constants;
 mod defaults;
 mod options;
+
+pub(crate) use attributes::is_attribute;
+pub(crate) use options::{is_option, is_refused_option};

@@ -1,10 +1,9 @@
 //! Messages that are too long to be written, and the longest that are not.
 
-use crate::calls::{read_tc, see_tc};
-use crate::made::{kind, options, with};
+use crate::calls::{is_unwritable, length_of};
+use crate::made::{kind, message, option, pushed};
 use nla_frames::DefaultNla;
 use std::alloc::{AllocError, Global};
-use std::test::Fail;
 use tc_canon::is_canonical_tc;
 use tc_wire::{TcAttribute, TcMessage, TcOption, TcQdiscFqCodelOption, TcQdiscIngressOption};
 use tests_messages::{Form, too_long};
@@ -14,45 +13,52 @@ fn long(alloc: Global, length: usize) -> Result<DefaultNla, AllocError> {
     Ok(DefaultNla::new(99, vec![in alloc; 0xaa; length]?))
 }
 
+fn ingress(alloc: Global, length: usize) -> Result<TcOption, AllocError> {
+    Ok(TcOption::Ingress(TcQdiscIngressOption::Other(long(alloc, length)?)))
+}
+
+fn fq_codel(alloc: Global, length: usize) -> Result<TcOption, AllocError> {
+    Ok(TcOption::FqCodel(TcQdiscFqCodelOption::Other(long(alloc, length)?)))
+}
+
 /// A message of a kind and of this one option.
-fn with_option(alloc: Global, name: &str, option: TcOption) -> Result<TcMessage, AllocError> {
-    let message = with(TcMessage::default_in(alloc), kind(alloc, name))?;
-    with(message, options(alloc, option))
+fn with_option(
+    alloc: Global,
+    name: &str,
+    made: Result<TcOption, AllocError>,
+) -> Result<TcMessage, AllocError> {
+    let first = pushed(Ok(Vec::new(alloc)), kind(alloc, name));
+    message(pushed(first, option(alloc, made)))
 }
 
-fn with_ingress_option(alloc: Global, length: usize) -> Result<TcMessage, AllocError> {
-    let option = TcQdiscIngressOption::Other(long(alloc, length)?);
-    with_option(alloc, "ingress", TcOption::Ingress(option))
-}
-
-/// True if a message fits that has an option `fq_codel` of so many bytes.
-fn fits(alloc: Global, length: usize) -> Result<bool, AllocError> {
-    let option = TcQdiscFqCodelOption::Other(long(alloc, length)?);
-    let message = with_option(alloc, "fq_codel", TcOption::FqCodel(option))?;
-    Ok(see_tc(alloc, &message)?.emitted.is_some())
-}
-
-/// True if the message of these bytes doesn't fit, is settled, and is the one that is made with an option of 65527 bytes.
-fn is_read_as_made(alloc: Global, bytes: &[u8]) -> Result<bool, Fail> {
-    let read = read_tc(alloc, bytes)?;
-    let made = see_tc(alloc, &with_ingress_option(alloc, 65527)?)?;
-    Ok(read.emitted.is_none() && read.is_settled && read.text == made.text)
+/// True if the message that is too long has so many bytes, and is the one that is made with an option of 65527.
+fn is_too_long(alloc: Global, bytes: &[u8]) -> bool {
+    let made = with_option(alloc, "ingress", ingress(alloc, 65527));
+    bytes.len() == 65568 && !is_canonical_tc(bytes) && is_unwritable(alloc, bytes, made.ok())
 }
 
 #[test]
-fn of_options(rt: HostRuntime) -> Result<(), Fail> {
+fn of_options(rt: HostRuntime) {
     let alloc = rt.alloc();
-    let bytes = too_long(alloc, Form::Tc)?.bytes;
-    assert!(rt; bytes.len() == 65568 && !is_canonical_tc(&bytes));
-    assert!(rt; is_read_as_made(alloc, &bytes)?);
-    Ok(())
+    let input = too_long(alloc, Form::Tc);
+    assert!(rt;
+        match &input {
+            Ok(input) => is_too_long(alloc, &input.bytes),
+            Err(_) => false,
+        }
+    );
+}
+
+/// How many bytes a message has with an option of so many, if it fits.
+fn length_with(alloc: Global, length: usize) -> Option<usize> {
+    let made = with_option(alloc, "fq_codel", fq_codel(alloc, length));
+    length_of(alloc, made.ok())
 }
 
 #[test]
-fn of_an_option(rt: HostRuntime) -> Result<(), Fail> {
-    assert!(rt; fits(rt.alloc(), 65524)?);
-    assert!(rt; !fits(rt.alloc(), 65525)?);
-    Ok(())
+fn of_an_option(rt: HostRuntime) {
+    assert!(rt; length_with(rt.alloc(), 65524) == Some(65568));
+    assert!(rt; length_with(rt.alloc(), 65525) == None);
 }
 
 fn rate(alloc: Global, length: usize) -> Result<TcAttribute, AllocError> {
@@ -60,21 +66,16 @@ fn rate(alloc: Global, length: usize) -> Result<TcAttribute, AllocError> {
 }
 
 /// The length of a message of rates of these lengths, if it fits.
-fn length_of(alloc: Global, rates: &[usize]) -> Result<Option<usize>, AllocError> {
-    let mut message = TcMessage::default_in(alloc);
+fn length_of_rates(alloc: Global, rates: &[usize]) -> Option<usize> {
+    let mut list = Ok(Vec::new(alloc));
     for length in rates {
-        message = with(message, rate(alloc, *length))?;
+        list = pushed(list, rate(alloc, *length));
     }
-    let seen = see_tc(alloc, &message)?;
-    match &seen.emitted {
-        Some(bytes) => Ok(Some(bytes.len())),
-        None => Ok(None),
-    }
+    length_of(alloc, message(list).ok())
 }
 
 #[test]
-fn of_attributes(rt: HostRuntime) -> Result<(), Fail> {
-    assert!(rt; length_of(rt.alloc(), &[65531])? == Some(65556));
-    assert!(rt; length_of(rt.alloc(), &[65531, 65532])? == None);
-    Ok(())
+fn of_attributes(rt: HostRuntime) {
+    assert!(rt; length_of_rates(rt.alloc(), &[65531]) == Some(65556));
+    assert!(rt; length_of_rates(rt.alloc(), &[65531, 65532]) == None);
 }

@@ -4,8 +4,6 @@
 #[cfg(test)]
 mod action_messages;
 #[cfg(test)]
-mod attributes;
-#[cfg(test)]
 mod calls;
 #[cfg(test)]
 mod canonical;
@@ -30,7 +28,7 @@ mod readme;
 #[cfg(test)]
 mod rewriting;
 #[cfg(test)]
-mod rewriting_actions;
+mod row_kinds;
 #[cfg(test)]
 mod settled;
 #[cfg(test)]

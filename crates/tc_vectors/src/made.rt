@@ -1,7 +1,8 @@
-//! Attributes and messages made by hand.
+//! Attributes and messages made by hand. What is made is passed on as it is, made or not, so that nothing that is dropped is held where a call fails.
 
 use nla_frames::DefaultNla;
 use std::alloc::{AllocError, Allocator, Global};
+use tc_records::TcHeader;
 use tc_wire::{TcAttribute, TcMessage, TcOption};
 
 pub(crate) fn kind<A: Allocator>(alloc: A, text: &str) -> Result<TcAttribute<A>, AllocError> {
@@ -17,6 +18,15 @@ pub(crate) fn kept<A: Allocator>(
     Ok(DefaultNla::new(word, value.to_vec(alloc)?))
 }
 
+/// An option that no table has.
+pub(crate) fn other<A: Allocator>(
+    alloc: A,
+    word: u16,
+    value: &[u8],
+) -> Result<TcOption<A>, AllocError> {
+    Ok(TcOption::Other(kept(alloc, word, value)?))
+}
+
 /// Raw options.
 pub(crate) fn raw<A: Allocator>(
     alloc: A,
@@ -26,27 +36,34 @@ pub(crate) fn raw<A: Allocator>(
     Ok(TcAttribute::OptionsRaw(kept(alloc, word, value)?))
 }
 
+/// The attribute of these options.
+pub(crate) fn options<A: Allocator>(
+    list: Result<Vec<TcOption<A>, A>, AllocError>,
+) -> Result<TcAttribute<A>, AllocError> {
+    Ok(TcAttribute::Options(list?))
+}
+
 /// Options of this one alone.
-pub(crate) fn options(alloc: Global, option: TcOption) -> Result<TcAttribute, AllocError> {
-    Ok(TcAttribute::Options(pushed(Vec::new(alloc), Ok(option))?))
+pub(crate) fn option(
+    alloc: Global,
+    option: Result<TcOption, AllocError>,
+) -> Result<TcAttribute, AllocError> {
+    options(pushed(Ok(Vec::new(alloc)), option))
 }
 
 /// A list with one item more.
 pub(crate) fn pushed<T: Drop, A: Allocator>(
-    list: Vec<T, A>,
+    list: Result<Vec<T, A>, AllocError>,
     item: Result<T, AllocError>,
 ) -> Result<Vec<T, A>, AllocError> {
-    let mut list = list;
+    let mut list = list?;
     list.push(item?)?;
     Ok(list)
 }
 
-/// A message with one attribute more.
-pub(crate) fn with<A: Allocator>(
-    message: TcMessage<A>,
-    attribute: Result<TcAttribute<A>, AllocError>,
+/// The message of an empty header and these attributes.
+pub(crate) fn message<A: Allocator>(
+    attributes: Result<Vec<TcAttribute<A>, A>, AllocError>,
 ) -> Result<TcMessage<A>, AllocError> {
-    let mut message = message;
-    message.attributes.push(attribute?)?;
-    Ok(message)
+    Ok(TcMessage::from_parts(TcHeader::default(), attributes?))
 }

@@ -1,16 +1,16 @@
 //! Worked messages.
 
-use crate::calls::{read_attributes, read_option, read_options, see_tc};
-use crate::made::{kept, with};
-use crate::tables::after_zeros;
-use crate::worked::{NO_HEADER, fault_of, is_read_as, shown_tc};
+use crate::calls::{are_attributes, are_options, fault_of, is_cut_option, is_read_option, is_tc};
+use crate::made::{kept, message, pushed};
+use crate::worked::{NO_HEADER, is_message};
 use std::alloc::{AllocError, Global};
 use std::test::Fail;
 use tc_wire::{DecodeError, TcAttribute, TcHeader, TcMessage};
+use tests_messages::Form;
 
 /// A message about a qdisc `fq_codel` with a limit of 10240 packets: its header, its kind and its options.
 #[rattlefmt::skip]
-static FQ_CODEL: [u8; 48] = [
+pub(crate) static FQ_CODEL: [u8; 48] = [
     0, 0, 0, 0, 2, 0, 0, 0, 0, 0, 1, 0, 0xff, 0xff, 0xff, 0xff, 0, 0, 0, 0,
     0x0d, 0, 0x01, 0, 0x66, 0x71, 0x5f, 0x63, 0x6f, 0x64, 0x65, 0x6c, 0, 0, 0, 0,
     0x0c, 0, 0x02, 0, 0x08, 0, 0x02, 0, 0, 0x28, 0, 0,
@@ -26,10 +26,10 @@ fn with_two_nuls() -> [u8; 48] {
     bytes
 }
 
-/// Its header, as `Debug` shows it.
-static HEADER: &str =
-    "TcHeader { family: Unspec, index: 2, handle: TcHandle { major: 1, minor: 0 }, \
-parent: TcHandle { major: 65535, minor: 65535 }, info: 0 }";
+/// What `Debug` shows of it before its attributes.
+pub(crate) static FRONT: &str =
+    "TcMessage { header: TcHeader { family: Unspec, index: 2, handle: TcHandle { major: 1, minor: 0 }, \
+parent: TcHandle { major: 65535, minor: 65535 }, info: 0 }, attributes: ";
 
 /// What the attributes of these two are.
 static LIMITED: &str = "[Kind(\"fq_codel\"), Options([FqCodel(Limit(10240))])]";
@@ -38,20 +38,42 @@ static LIMITED_RAW: &str =
     "[Kind(\"fq_codel\\0\"), OptionsRaw(DefaultNla { word: 2, value: [8, 0, 2, 0, 0, 40, 0, 0] })]";
 
 #[test]
-fn messages_are_read_and_written(rt: HostRuntime) -> Result<(), Fail> {
+fn messages_are_read_and_written(rt: HostRuntime) {
     let alloc = rt.alloc();
-    assert!(rt; is_read_as(alloc, &FQ_CODEL, HEADER, LIMITED, &FQ_CODEL, true)?);
+    assert!(rt;
+        is_message(
+            alloc,
+            Form::Tc,
+            &FQ_CODEL,
+            (FRONT, LIMITED),
+            (&FQ_CODEL, true)
+        )
+    );
     let bytes = with_two_nuls();
-    assert!(rt; is_read_as(alloc, &bytes, HEADER, LIMITED_RAW, &bytes, true)?);
-    Ok(())
+    assert!(rt;
+        is_message(
+            alloc,
+            Form::Tc,
+            &bytes,
+            (FRONT, LIMITED_RAW),
+            (&bytes, true)
+        )
+    );
 }
 
 #[test]
-fn padding_of_a_header_is_dropped(rt: HostRuntime) -> Result<(), Fail> {
+fn padding_of_a_header_is_dropped(rt: HostRuntime) {
     let mut padded = [0; 20];
     padded[1] = 7;
-    assert!(rt; is_read_as(rt.alloc(), &padded, NO_HEADER, "[]", &[0; 20], true)?);
-    Ok(())
+    assert!(rt;
+        is_message(
+            rt.alloc(),
+            Form::Tc,
+            &padded,
+            (NO_HEADER, "[]"),
+            (&[0; 20], true)
+        )
+    );
 }
 
 fn too_small(len: usize) -> Option<DecodeError> {
@@ -61,45 +83,32 @@ fn too_small(len: usize) -> Option<DecodeError> {
 #[test]
 fn short_headers_are_refused(rt: HostRuntime) {
     let alloc = rt.alloc();
-    assert!(rt; fault_of(alloc, &[]) == too_small(0));
-    assert!(rt; fault_of(alloc, &[0; 19]) == too_small(19));
-}
-
-/// The frame of its options.
-fn options() -> &'static [u8] {
-    &FQ_CODEL[36..]
-}
-
-/// True if its options are read under a kind as the first text, and the frame in them as the second.
-fn are_options(alloc: Global, kind: &str, list: &str, first: &str) -> Result<bool, Fail> {
-    let read = read_options(alloc, kind, options())?;
-    Ok(read.0.as_str() == list && read.1.as_str() == first)
-}
-
-// Under another kind, the payload and the frame in it are kept raw.
-#[test]
-fn options_go_by_the_kind(rt: HostRuntime) -> Result<(), Fail> {
-    let limit = "[FqCodel(Limit(10240))]";
-    assert!(rt; are_options(rt.alloc(), "fq_codel", limit, limit)?);
-    assert!(rt; are_options(rt.alloc(), "sfq", KEPT, KEPT_LIMIT)?);
-    Ok(())
+    assert!(rt; fault_of(alloc, Form::Tc, &[]) == too_small(0));
+    assert!(rt; fault_of(alloc, Form::Tc, &[0; 19]) == too_small(19));
 }
 
 static KEPT: &str = "[Other(DefaultNla { word: 2, value: [8, 0, 2, 0, 0, 40, 0, 0] })]";
 
 static KEPT_LIMIT: &str = "[Other(DefaultNla { word: 2, value: [0, 40, 0, 0] })]";
 
+// The frame of its options, and the one in it. Under another kind, the payload and the frame in it are kept raw.
 #[test]
-fn an_option_is_read_alone(rt: HostRuntime) -> Result<(), Fail> {
-    let read = read_option(rt.alloc(), "fq_codel", &LIMIT)?;
-    assert!(rt; read.is("FqCodel(Limit(10240))", &LIMIT) && read.is_settled);
+fn options_go_by_the_kind(rt: HostRuntime) -> Result<(), Fail> {
+    let alloc = rt.alloc();
+    let limit = "[FqCodel(Limit(10240))]";
+    assert!(rt; are_options(alloc, "fq_codel", &FQ_CODEL[36..], limit)?);
+    assert!(rt; is_cut_option(alloc, "fq_codel", &LIMIT, limit)?);
+    assert!(rt; are_options(alloc, "sfq", &FQ_CODEL[36..], KEPT)?);
+    assert!(rt; is_cut_option(alloc, "sfq", &LIMIT, KEPT_LIMIT)?);
     Ok(())
 }
 
 #[test]
-fn attributes_are_read_alone(rt: HostRuntime) -> Result<(), Fail> {
-    let read = read_attributes(rt.alloc(), &FQ_CODEL[20..36])?;
-    assert!(rt; read.as_str() == "[Kind(\"fq_codel\")]");
+fn parts_are_read_alone(rt: HostRuntime) -> Result<(), Fail> {
+    let alloc = rt.alloc();
+    let option = "FqCodel(Limit(10240))";
+    assert!(rt; is_read_option(alloc, "fq_codel", &LIMIT, option, "0800020000280000")?);
+    assert!(rt; are_attributes(alloc, &FQ_CODEL[20..36], "[Kind(\"fq_codel\")]")?);
     Ok(())
 }
 
@@ -109,35 +118,45 @@ fn without_index(alloc: Global) -> TcMessage {
     message
 }
 
-/// A message made by hand: an attribute of a known type that is kept raw.
+// A message made by hand: an attribute of a known type that is kept raw.
 fn with_kept(alloc: Global) -> Result<TcMessage, AllocError> {
-    let kept = kept(alloc, 0x8001, &[0xab])?;
-    with(without_index(alloc), Ok(TcAttribute::Other(kept)))
+    let attribute = TcAttribute::Other(kept(alloc, 0x8001, &[0xab])?);
+    message(pushed(Ok(Vec::new(alloc)), Ok(attribute)))
 }
 
-/// True if a message has an empty header and one attribute.
-fn has_one_attribute(message: TcMessage) -> bool {
-    let (header, attributes) = message.into_parts();
-    header == TcHeader::default() && attributes.len() == 1
-}
+static KEPT_KIND: &str = "[Other(DefaultNla { word: 32769, value: [171] })]";
 
-/// True if the message without an index has no attributes.
-fn is_empty(alloc: Global) -> Result<bool, AllocError> {
-    let text = shown_tc(alloc, NO_HEADER, "[]")?;
-    Ok(see_tc(alloc, &without_index(alloc))?.text == text)
-}
+#[rattlefmt::skip]
+static KEPT_BYTES: [u8; 28] = [
+    0, 0, 0, 0, 0, 0, 0, 0, 0, 0, 0, 0, 0, 0, 0, 0, 0, 0, 0, 0,
+    5, 0, 1, 0x80, 0xab, 0, 0, 0,
+];
 
-/// True if the message with an attribute that is kept raw is written as its frame.
-fn is_kept(alloc: Global) -> Result<bool, AllocError> {
-    let bytes = after_zeros(alloc, 20, "05000180 ab000000")?;
-    Ok(see_tc(alloc, &with_kept(alloc)?)?.is_emitted_as(&bytes))
+// True if a message has an empty header and one attribute.
+fn has_one_attribute(made: Result<TcMessage, AllocError>) -> bool {
+    match made {
+        Ok(message) => {
+            let (header, attributes) = message.into_parts();
+            header == TcHeader::default() && attributes.len() == 1
+        }
+        Err(_) => false,
+    }
 }
 
 #[test]
-fn messages_are_made(rt: HostRuntime) -> Result<(), Fail> {
+fn messages_are_made(rt: HostRuntime) {
     let alloc = rt.alloc();
     assert!(rt; TcMessage::with_index(alloc, 7).header.index == 7);
-    assert!(rt; is_empty(alloc)? && is_kept(alloc)?);
-    assert!(rt; has_one_attribute(with_kept(alloc)?));
-    Ok(())
+    let empty = Some(without_index(alloc));
+    assert!(rt; is_tc(alloc, empty, (NO_HEADER, "[]"), Some((&[0; 20], true))));
+    let kept = with_kept(alloc).ok();
+    assert!(rt;
+        is_tc(
+            alloc,
+            kept,
+            (NO_HEADER, KEPT_KIND),
+            Some((&KEPT_BYTES, false))
+        )
+    );
+    assert!(rt; has_one_attribute(with_kept(alloc)));
 }

@@ -1,5 +1,6 @@
 //! What the README shows.
 
+use std::alloc::{AllocError, Global};
 use std::string::String;
 use std::test::Fail;
 use tc_wire::{
@@ -15,26 +16,35 @@ static BYTES: [u8; 48] = [
     12, 0, 2, 0, 8, 0, 2, 0, 0, 0x28, 0, 0,
 ];
 
+/// True if a message is written as the bytes of the stored run.
+fn is_written(alloc: Global, message: &TcMessage) -> Result<bool, AllocError> {
+    if !message.fits() {
+        return Ok(false);
+    }
+    let mut bytes = vec![in alloc; 0; message.buffer_len()]?;
+    message.emit(&mut bytes);
+    Ok(bytes.as_slice() == &BYTES[..])
+}
+
 /// A message is read, and written as the bytes that it was read from.
 #[test]
 fn the_readme_reads_a_message(rt: HostRuntime) -> Result<(), Fail> {
     let alloc = rt.alloc();
     let message = TcMessage::parse(alloc, &BYTES)?;
     assert!(rt; message.header.index == 2);
-    assert!(rt; message.fits());
-    let mut bytes = vec![in alloc; 0; message.buffer_len()]?;
-    message.emit(&mut bytes);
-    assert!(rt; bytes.as_slice() == &BYTES[..]);
-    let (canonical, rewrites) = settle_tc(alloc, &BYTES)?;
-    assert!(rt; canonical == bytes);
-    assert!(rt; rewrites == 0);
+    assert!(rt; matches!(is_written(alloc, &message), Ok(true)));
+    Ok(())
+}
+
+#[test]
+fn the_readme_settles_a_message(rt: HostRuntime) -> Result<(), Fail> {
+    let (canonical, rewrites) = settle_tc(rt.alloc(), &BYTES)?;
+    assert!(rt; canonical.as_slice() == &BYTES[..] && rewrites == 0);
     Ok(())
 }
 
 /// `tc qdisc add dev .. root handle 1: fq_codel limit 10240`, for the interface with index 2.
-#[test]
-fn the_readme_builds_a_qdisc(rt: HostRuntime) -> Result<(), Fail> {
-    let alloc = rt.alloc();
+fn qdisc(alloc: Global) -> Result<TcMessage, AllocError> {
     let mut options = Vec::new(alloc);
     options.push(TcOption::FqCodel(TcQdiscFqCodelOption::Limit(10240)))?;
     let mut message = TcMessage::with_index(alloc, 2);
@@ -42,9 +52,13 @@ fn the_readme_builds_a_qdisc(rt: HostRuntime) -> Result<(), Fail> {
     message.header.parent = TcHandle::ROOT;
     message.attributes.push(TcAttribute::Kind(String::from_str(alloc, TcQdiscFqCodel::KIND)?))?;
     message.attributes.push(TcAttribute::Options(options))?;
+    Ok(message)
+}
+
+#[test]
+fn the_readme_builds_a_qdisc(rt: HostRuntime) -> Result<(), Fail> {
+    let message = qdisc(rt.alloc())?;
     assert!(rt; message.fits() && message.is_settled());
-    let mut bytes = vec![in alloc; 0; message.buffer_len()]?;
-    message.emit(&mut bytes);
-    assert!(rt; bytes.as_slice() == &BYTES[..]);
+    assert!(rt; matches!(is_written(rt.alloc(), &message), Ok(true)));
     Ok(())
 }

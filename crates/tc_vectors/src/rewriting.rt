@@ -1,111 +1,108 @@
-//! The worked messages rewritten and settled, and messages of both types that can't be.
+//! Messages rewritten and settled, those that can't be, and warnings, which lose one NUL a rewrite.
 
-use crate::tables::{after_zeros, cells, is_shown, or_same, pair, rows};
-use crate::worked::{TC, TC_FAULTS, TC_UNSETTLED};
+use crate::calls::{is_canonical, rewrite, settle};
+use crate::tables::bytes_of;
 use nla_frames::DecodeError;
 use std::alloc::{AllocError, Global};
 use std::test::Fail;
-use tc_canon::is_canonical_tc;
-use tc_wire::{RewriteError, rewrite_action, rewrite_tc, settle_action, settle_tc};
+use tc_wire::RewriteError;
 use tests_messages::{Form, too_long};
 
 /// True if bytes are rewritten as others.
-fn becomes(alloc: Global, bytes: &[u8], written: &[u8]) -> Result<bool, RewriteError> {
-    Ok(rewrite_tc(alloc, bytes)?.as_slice() == written)
-}
-
-/// True if bytes are settled as others, with one rewrite where they aren't the same.
-fn is_settled_as(alloc: Global, bytes: &[u8], written: &[u8]) -> Result<bool, RewriteError> {
-    let (settled, rewrites) = settle_tc(alloc, bytes)?;
-    Ok(
-        settled.as_slice() == written
-            && rewrites == usize::from(bytes != written)
-            && is_canonical_tc(&settled),
-    )
-}
-
-fn is_rewritten(alloc: Global, row: &str) -> Result<bool, Fail> {
-    let Some((frames, _, written)) = cells(row) else {
-        return Ok(false);
-    };
-    let bytes = after_zeros(alloc, 20, frames)?;
-    let written = after_zeros(alloc, 20, or_same(frames, written))?;
-    Ok(becomes(alloc, &bytes, &written)? && is_settled_as(alloc, &bytes, &written)?)
-}
-
-fn are_rewritten(alloc: Global, table: &str) -> Result<(), Fail> {
-    for row in rows(table) {
-        if !is_rewritten(alloc, row)? {
-            return Err(Fail::new(row));
-        }
+pub(crate) fn becomes(alloc: Global, form: Form, bytes: &[u8], written: &[u8]) -> bool {
+    match rewrite(alloc, form, bytes) {
+        Ok(rewritten) => rewritten.as_slice() == written,
+        Err(_) => false,
     }
-    Ok(())
 }
 
-#[test]
-fn worked(rt: HostRuntime) -> Result<(), Fail> {
-    are_rewritten(rt.alloc(), TC)?;
-    are_rewritten(rt.alloc(), TC_UNSETTLED)
+/// True if bytes became these, which are canonical, after so many rewrites.
+pub(crate) fn is_outcome(
+    outcome: &Result<(Vec<u8>, usize), RewriteError>,
+    form: Form,
+    wanted: &[u8],
+    count: usize,
+) -> bool {
+    match outcome {
+        Ok((bytes, rewrites)) => {
+            bytes.as_slice() == wanted && *rewrites == count && is_canonical(form, wanted)
+        }
+        Err(_) => false,
+    }
 }
 
-// The cause for which both calls fail, if it is the same.
-fn same_cause<T: Drop, U: Drop>(
-    rewritten: Result<T, RewriteError>,
-    settled: Result<U, RewriteError>,
-) -> Option<RewriteError> {
-    let cause = rewritten.err();
-    if settled.err() == cause { cause } else { None }
+/// True if bytes are settled as others, which are canonical, after so many rewrites.
+pub(crate) fn is_settled_as(
+    alloc: Global,
+    form: Form,
+    bytes: &[u8],
+    wanted: &[u8],
+    count: usize,
+) -> bool {
+    is_outcome(&settle(alloc, form, bytes), form, wanted, count)
+}
+
+/// True if bytes are rewritten as others. They are settled as these too, with one rewrite where they aren't the same; but action messages that aren't
+/// settled take further rewrites.
+pub(crate) fn is_rewritten(
+    alloc: Global,
+    form: Form,
+    bytes: &[u8],
+    written: (&[u8], bool),
+) -> bool {
+    let (written, is_settled) = written;
+    becomes(alloc, form, bytes, written)
+        && match (form, is_settled) {
+            (Form::Action, false) => true,
+            _ => is_settled_as(alloc, form, bytes, written, usize::from(bytes != written)),
+        }
 }
 
 /// Why bytes are neither rewritten nor settled, where both calls fail for the same cause.
 pub(crate) fn cause_of(alloc: Global, form: Form, bytes: &[u8]) -> Option<RewriteError> {
-    match form {
-        Form::Tc => same_cause(rewrite_tc(alloc, bytes), settle_tc(alloc, bytes)),
-        Form::Action => same_cause(rewrite_action(alloc, bytes), settle_action(alloc, bytes)),
+    let cause = rewrite(alloc, form, bytes).err();
+    if settle(alloc, form, bytes).err() == cause {
+        cause
+    } else {
+        None
     }
 }
 
-/// The cause where bytes are no header.
-pub(crate) fn too_small(len: usize, needed: usize) -> Option<RewriteError> {
-    Some(RewriteError::Decode(DecodeError::BufferTooSmall { len, needed }))
+/// True if the cause is a fault of the bytes, and this one.
+pub(crate) fn is_fault(cause: &Option<RewriteError>, fault: &DecodeError) -> bool {
+    match cause {
+        Some(RewriteError::Decode(found)) => *found == *fault,
+        _ => false,
+    }
 }
 
-fn is_refused(alloc: Global, form: Form, header: usize, row: &str) -> Result<bool, AllocError> {
-    let Some((frames, text)) = pair(row) else {
-        return Ok(false);
+// True if bytes are no header.
+fn is_too_small(alloc: Global, form: Form, bytes: &[u8], needed: usize) -> bool {
+    let fault = DecodeError::BufferTooSmall {
+        len: bytes.len(),
+        needed,
     };
-    let bytes = after_zeros(alloc, header, frames)?;
-    match cause_of(alloc, form, &bytes) {
-        Some(RewriteError::Decode(fault)) => is_shown(alloc, &fault, text),
-        _ => Ok(false),
-    }
+    is_fault(&cause_of(alloc, form, bytes), &fault)
 }
 
-/// Checks each row of messages of a form, and fails at the first that isn't refused with its fault.
-pub(crate) fn are_refused(
-    alloc: Global,
-    form: Form,
-    header: usize,
-    table: &str,
-) -> Result<(), Fail> {
-    for row in rows(table) {
-        if !is_refused(alloc, form, header, row)? {
-            return Err(Fail::new(row));
-        }
+// True if a message can't be written, since a value would be too long.
+fn does_not_fit(alloc: Global, form: Form) -> bool {
+    match too_long(alloc, form) {
+        Ok(long) => cause_of(alloc, form, &long.bytes) == Some(RewriteError::DoesNotFit),
+        Err(_) => false,
     }
-    Ok(())
 }
 
 #[test]
-fn refused(rt: HostRuntime) -> Result<(), Fail> {
+fn refused(rt: HostRuntime) {
     let alloc = rt.alloc();
-    assert!(rt; cause_of(alloc, Form::Tc, &[0; 19]) == too_small(19, 20));
-    let long = too_long(alloc, Form::Tc)?.bytes;
-    assert!(rt; cause_of(alloc, Form::Tc, &long) == Some(RewriteError::DoesNotFit));
-    are_refused(alloc, Form::Tc, 20, TC_FAULTS)
+    assert!(rt; is_too_small(alloc, Form::Tc, &[0; 19], 20));
+    assert!(rt; is_too_small(alloc, Form::Action, &[0; 3], 4));
+    assert!(rt; does_not_fit(alloc, Form::Tc));
+    assert!(rt; does_not_fit(alloc, Form::Action));
 }
 
-/// True if a cause is printed as this text.
+// True if a cause is printed as this text.
 fn is_printed(alloc: Global, cause: RewriteError, text: &str) -> Result<bool, AllocError> {
     Ok(format!(in alloc; "{cause}")?.as_str() == text)
 }
@@ -118,4 +115,70 @@ fn causes_are_printed(rt: HostRuntime) -> Result<(), Fail> {
     assert!(rt; is_printed(alloc, RewriteError::DoesNotFit, "value does not fit")?);
     assert!(rt; is_printed(alloc, RewriteError::OutOfMemory, "out of memory")?);
     Ok(())
+}
+
+/// Action messages with warnings in hex, what they are settled as, and after how many rewrites.
+#[rattlefmt::skip]
+static WARNINGS: [(&str, &str, usize); 6] = [
+    ("05000500 61000000", "05000500 61000000", 0),
+    ("05000500 00000000", "04000500", 1),
+    ("07000500 61000000", "05000500 61000000", 2),
+    ("08000500 61000000", "05000500 61000000", 3),
+    ("08000500 61000000 07000500 62000000", "05000500 61000000 05000500 62000000", 3),
+    ("08000380 06000000 07000500 61000000", "08000300 06000000 05000500 61000000", 2),
+];
+
+/// What rewriting makes of a message until it is canonical, and after how many rewrites, of at most so many.
+pub(crate) fn rewritten(
+    alloc: Global,
+    form: Form,
+    message: &[u8],
+    most: usize,
+) -> Result<(Vec<u8>, usize), RewriteError> {
+    let mut bytes = message.to_vec(alloc)?;
+    for count in 0..most {
+        if is_canonical(form, &bytes) {
+            return Ok((bytes, count));
+        }
+        bytes = rewrite(alloc, form, &bytes)?;
+    }
+    Ok((bytes, most))
+}
+
+// True if so many rewrites, and no fewer, lead to what an action message is settled as.
+fn is_settled_after(alloc: Global, message: &[u8], frames: &str, count: usize) -> bool {
+    match bytes_of(alloc, Form::Action.header(), frames) {
+        Ok(wanted) => {
+            is_settled_as(alloc, Form::Action, message, &wanted, count)
+                && is_outcome(
+                    &rewritten(alloc, Form::Action, message, 9),
+                    Form::Action,
+                    &wanted,
+                    count,
+                )
+        }
+        Err(_) => false,
+    }
+}
+
+fn is_warning(alloc: Global, row: &(&'static str, &'static str, usize)) -> bool {
+    match bytes_of(alloc, Form::Action.header(), row.0) {
+        Ok(bytes) => is_settled_after(alloc, &bytes, row.1, row.2),
+        Err(_) => false,
+    }
+}
+
+#[test]
+fn warnings(rt: HostRuntime) {
+    for row in &WARNINGS {
+        assert!(rt; is_warning(rt.alloc(), row), "{}", row.0);
+    }
+}
+
+// The header stays.
+#[test]
+fn a_warning_of_a_family(rt: HostRuntime) {
+    let bytes = [2, 0, 0, 0, 6, 0, 5, 0, 97, 0, 0, 0];
+    let settled = [2, 0, 0, 0, 5, 0, 5, 0, 97, 0, 0, 0];
+    assert!(rt; is_settled_as(rt.alloc(), Form::Action, &bytes, &settled, 1));
 }

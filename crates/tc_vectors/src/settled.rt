@@ -1,9 +1,11 @@
 //! Values made by hand: which of them read back as themselves, and as what the others do.
 
-use crate::calls::{Seen, see_action, see_attribute, see_option, see_tc};
-use crate::made::{kept, kind, options, pushed, raw, with};
-use crate::tables::{after_zeros, settles};
-use crate::worked::{NO_HEADER, shown_action, shown_tc};
+use crate::calls::{
+    fault_of, is_action, is_read_as, is_settled_attribute, is_settled_option, is_tc,
+};
+use crate::made::{kept, kind, message, option, options, other, pushed, raw};
+use crate::tables::{bytes_of, is_shown, settles};
+use crate::worked::{NO_ACTION_HEADER, NO_HEADER, front_of};
 use nla_frames::{AddressFamily, Settle, SettleBytes};
 use std::alloc::{AllocError, Global};
 use std::test::Fail;
@@ -14,6 +16,7 @@ use tc_records::{
     TcActionMessageHeader, TcActionType, TcHeader, TcMirror, TcMirrorActionType, TcNat, TcTunnelKey,
 };
 use tc_wire::{TcAttribute, TcMessage, TcOption, TcQdiscFqCodelOption};
+use tests_messages::Form;
 
 // A frame of fq_codel's limit, 5 packets.
 const LIMIT: [u8; 8] = [8, 0, 2, 0, 5, 0, 0, 0];
@@ -51,9 +54,9 @@ fn kept_kind(alloc: Global) -> Result<TcAttribute, AllocError> {
 fn attribute(alloc: Global, made: &Made) -> Result<TcAttribute, AllocError> {
     match made {
         Made::Kind(text) => kind(alloc, text),
-        Made::Limit => options(alloc, limit()),
-        Made::Hash => options(alloc, TcOption::U32(TcFilterU32Option::Hash(5))),
-        Made::NoOptions => Ok(TcAttribute::Options(Vec::new(alloc))),
+        Made::Limit => option(alloc, Ok(limit())),
+        Made::Hash => option(alloc, Ok(TcOption::U32(TcFilterU32Option::Hash(5)))),
+        Made::NoOptions => options(Ok(Vec::new(alloc))),
         Made::Raw(word, value) => raw(alloc, *word, value),
         Made::Kept => kept_kind(alloc),
         Made::Short => short(alloc),
@@ -61,80 +64,75 @@ fn attribute(alloc: Global, made: &Made) -> Result<TcAttribute, AllocError> {
     }
 }
 
-/// The attributes of a message made by hand, the frames in hex that they are written as after an empty header, and the attributes that these
-/// are read as, or their fault.
-type Row = (&'static [Made], &'static str, &'static str);
+/// The attributes of a message made by hand, the same as `Debug` shows them, the frames in hex that they are written as after an empty header, and
+/// the attributes that these are read as, or their fault, empty where they are read as the same ones.
+type Row = (&'static [Made], &'static str, &'static str, &'static str);
 
 #[rattlefmt::skip]
 static MESSAGES: [Row; 7] = [
     // an unknown kind, and options of fq_codel
-    (&[Made::Kind("sfq"), Made::Limit], "08000100 73667100 0c000200 08000200 05000000", "[Kind(\"sfq\"), OptionsRaw(DefaultNla { word: 2, value: [8, 0, 2, 0, 5, 0, 0, 0] })]"),
+    (&[Made::Kind("sfq"), Made::Limit], "[Kind(\"sfq\"), Options([FqCodel(Limit(5))])]", "08000100 73667100 0c000200 08000200 05000000", "[Kind(\"sfq\"), OptionsRaw(DefaultNla { word: 2, value: [8, 0, 2, 0, 5, 0, 0, 0] })]"),
     // no kind, and options
-    (&[Made::NoOptions], "04000200", "[OptionsRaw(DefaultNla { word: 2, value: [] })]"),
+    (&[Made::NoOptions], "[Options([])]", "04000200", "[OptionsRaw(DefaultNla { word: 2, value: [] })]"),
     // fq_codel without options
-    (&[Made::Kind("fq_codel"), Made::NoOptions], "0d000100 66715f636f64656c00000000 04000200", "[Kind(\"fq_codel\"), Options([])]"),
+    (&[Made::Kind("fq_codel"), Made::NoOptions], "[Kind(\"fq_codel\"), Options([])]", "0d000100 66715f636f64656c00000000 04000200", ""),
     // a kind that is kept raw
-    (&[Made::Kept], "08000180 75333200", "[Kind(\"u32\")]"),
+    (&[Made::Kept], "[Other(DefaultNla { word: 32769, value: [117, 51, 50, 0] })]", "08000180 75333200", "[Kind(\"u32\")]"),
     // a kind that ends in a NUL
-    (&[Made::Kind("a\0")], "07000100 61000000", "[Kind(\"a\\0\")]"),
+    (&[Made::Kind("a\0")], "[Kind(\"a\\0\")]", "07000100 61000000", ""),
     // raw options of another type
-    (&[Made::Raw(3, &[])], "04000300", "BufferTooSmall { len: 0, needed: 40 }"),
+    (&[Made::Raw(3, &[])], "[OptionsRaw(DefaultNla { word: 3, value: [] })]", "04000300", "BufferTooSmall { len: 0, needed: 40 }"),
     // DumpInvisible(false)
-    (&[Made::Absent], "04000a00", "[DumpInvisible(true)]"),
+    (&[Made::Absent], "[DumpInvisible(false)]", "04000a00", "[DumpInvisible(true)]"),
 ];
 
 #[rattlefmt::skip]
 static MESSAGES_OF_A_KNOWN_KIND: [Row; 4] = [
     // u32, and options of fq_codel
-    (&[Made::Kind("u32"), Made::Limit], "08000100 75333200 0c000200 08000200 05000000", "[Kind(\"u32\"), Options([U32(Hash(5))])]"),
+    (&[Made::Kind("u32"), Made::Limit], "[Kind(\"u32\"), Options([FqCodel(Limit(5))])]", "08000100 75333200 0c000200 08000200 05000000", "[Kind(\"u32\"), Options([U32(Hash(5))])]"),
     // u32, and its own options, kept raw
-    (&[Made::Kind("u32"), Made::Raw(2, &LIMIT)], "08000100 75333200 0c000200 08000200 05000000", "[Kind(\"u32\"), Options([U32(Hash(5))])]"),
+    (&[Made::Kind("u32"), Made::Raw(2, &LIMIT)], "[Kind(\"u32\"), OptionsRaw(DefaultNla { word: 2, value: [8, 0, 2, 0, 5, 0, 0, 0] })]", "08000100 75333200 0c000200 08000200 05000000", "[Kind(\"u32\"), Options([U32(Hash(5))])]"),
     // u32, and its own options
-    (&[Made::Kind("u32"), Made::Hash], "08000100 75333200 0c000200 08000200 05000000", "[Kind(\"u32\"), Options([U32(Hash(5))])]"),
+    (&[Made::Kind("u32"), Made::Hash], "[Kind(\"u32\"), Options([U32(Hash(5))])]", "08000100 75333200 0c000200 08000200 05000000", ""),
     // fq_codel, and statistics without their number
-    (&[Made::Kind("fq_codel"), Made::Short], "0d000100 66715f636f64656c00000000 07000400 01020300", "XstatsShort { len: 3 }"),
+    (&[Made::Kind("fq_codel"), Made::Short], "[Kind(\"fq_codel\"), Xstats(FqCodel(Other([1, 2, 3])))]", "0d000100 66715f636f64656c00000000 07000400 01020300", "XstatsShort { len: 3 }"),
 ];
 
 fn message_of(alloc: Global, attributes: &[Made]) -> Result<TcMessage, AllocError> {
-    let mut message = TcMessage::default_in(alloc);
+    let mut list = Ok(Vec::new(alloc));
     for made in attributes {
-        message = with(message, attribute(alloc, made))?;
+        list = pushed(list, attribute(alloc, made));
     }
-    Ok(message)
+    message(list)
 }
 
-/// True if a message is written as these bytes, which are read as a message of this text, or refused with a fault of it; and it is settled exactly
-/// when that is the message itself.
-fn is_seen(seen: &Seen, bytes: &[u8], text: &str) -> bool {
-    seen.is_emitted_as(bytes) && seen.again.as_str() == text && seen.is_settled == seen.reads_back
-}
-
-/// True if a message is written as these bytes, which are read as a message of these attributes, or refused with a fault of this text; and it is
-/// settled exactly when that is the message itself.
-pub(crate) fn reads_back_as(
-    alloc: Global,
-    message: &TcMessage,
-    bytes: &[u8],
-    attributes: &str,
-) -> Result<bool, AllocError> {
-    let seen = see_tc(alloc, message)?;
-    if attributes.starts_with('[') {
-        Ok(is_seen(&seen, bytes, &shown_tc(alloc, NO_HEADER, attributes)?))
-    } else {
-        Ok(is_seen(&seen, bytes, attributes))
+// True if bytes are read as attributes of this text, or refused with a fault of it.
+fn is_told(alloc: Global, form: Form, bytes: &[u8], text: &str) -> bool {
+    match &fault_of(alloc, form, bytes) {
+        Some(fault) => is_shown(alloc, fault, text),
+        None => is_read_as(alloc, form, bytes, (front_of(form), text), None),
     }
 }
 
-fn is_read_back(alloc: Global, row: &Row) -> Result<bool, AllocError> {
-    let (attributes, frames, text) = *row;
-    let bytes = after_zeros(alloc, 20, frames)?;
-    reads_back_as(alloc, &message_of(alloc, attributes)?, &bytes, text)
+fn is_message(alloc: Global, row: &Row) -> bool {
+    match bytes_of(alloc, Form::Tc.header(), row.2) {
+        Ok(bytes) => {
+            let written = Some((bytes.as_slice(), row.3.is_empty()));
+            is_tc(
+                alloc,
+                message_of(alloc, row.0).ok(),
+                (NO_HEADER, row.1),
+                written,
+            ) && (row.3.is_empty() || is_told(alloc, Form::Tc, &bytes, row.3))
+        }
+        Err(_) => false,
+    }
 }
 
-fn are_read_back(alloc: Global, rows: &[Row]) -> Result<(), Fail> {
+fn are_messages(alloc: Global, rows: &[Row]) -> Result<(), Fail> {
     for row in rows {
-        if !is_read_back(alloc, row)? {
-            return Err(Fail::new(format_args!("{} as {}", row.1, row.2)));
+        if !is_message(alloc, row) {
+            return Err(Fail::new(row.1));
         }
     }
     Ok(())
@@ -142,8 +140,8 @@ fn are_read_back(alloc: Global, rows: &[Row]) -> Result<(), Fail> {
 
 #[test]
 fn of_messages(rt: HostRuntime) -> Result<(), Fail> {
-    are_read_back(rt.alloc(), &MESSAGES)?;
-    are_read_back(rt.alloc(), &MESSAGES_OF_A_KNOWN_KIND)
+    are_messages(rt.alloc(), &MESSAGES)?;
+    are_messages(rt.alloc(), &MESSAGES_OF_A_KNOWN_KIND)
 }
 
 /// An attribute of an action message, made by hand.
@@ -155,11 +153,18 @@ enum MadeAction {
     KeptCount,
 }
 
+fn nat_kind(alloc: Global) -> Result<TcActionAttribute, AllocError> {
+    Ok(TcActionAttribute::Kind("nat".to_string(alloc)?))
+}
+
+fn nat_action(alloc: Global, tab: u16) -> Result<TcAction, AllocError> {
+    let attributes = pushed(Ok(Vec::new(alloc)), nat_kind(alloc))?;
+    Ok(TcAction { tab, attributes })
+}
+
 fn nat(alloc: Global, tab: u16) -> Result<TcActionMessageAttribute, AllocError> {
-    let kind = TcActionAttribute::Kind("nat".to_string(alloc)?);
-    let attributes = pushed(Vec::new(alloc), Ok(kind))?;
-    let action = TcAction { tab, attributes };
-    Ok(TcActionMessageAttribute::Actions(pushed(Vec::new(alloc), Ok(action))?))
+    let actions = pushed(Ok(Vec::new(alloc)), nat_action(alloc, tab))?;
+    Ok(TcActionMessageAttribute::Actions(actions))
 }
 
 fn warning(alloc: Global, text: &str) -> Result<TcActionMessageAttribute, AllocError> {
@@ -181,96 +186,88 @@ fn action_attribute(
     }
 }
 
-/// An attribute made by hand, the frame in hex that it is written as, and the attributes that this is read as.
-type ActionRow = (MadeAction, &'static str, &'static str);
+/// An attribute made by hand, the attributes of its message as `Debug` shows them, the frame in hex that it is written as, and the attributes that this
+/// is read as, empty where they are read as the same.
+type ActionRow = (MadeAction, &'static str, &'static str, &'static str);
 
 #[rattlefmt::skip]
 static ACTION_MESSAGES: [ActionRow; 5] = [
-    (MadeAction::Nat(0x8001), "10000100 0c000180 08000100 6e617400", "[Actions([TcAction { tab: 1, attributes: [Kind(\"nat\")] }])]"),
-    (MadeAction::Nat(3), "10000100 0c000300 08000100 6e617400", "[Actions([TcAction { tab: 3, attributes: [Kind(\"nat\")] }])]"),
-    (MadeAction::Warning("a\0"), "06000500 61000000", "[RootExtWarnMsg(\"a\")]"),
-    (MadeAction::Warning("hi"), "06000500 68690000", "[RootExtWarnMsg(\"hi\")]"),
-    (MadeAction::KeptCount, "08000300 06000000", "[RootCount(6)]"),
+    (MadeAction::Nat(0x8001), "[Actions([TcAction { tab: 32769, attributes: [Kind(\"nat\")] }])]", "10000100 0c000180 08000100 6e617400", "[Actions([TcAction { tab: 1, attributes: [Kind(\"nat\")] }])]"),
+    (MadeAction::Nat(3), "[Actions([TcAction { tab: 3, attributes: [Kind(\"nat\")] }])]", "10000100 0c000300 08000100 6e617400", ""),
+    (MadeAction::Warning("a\0"), "[RootExtWarnMsg(\"a\\0\")]", "06000500 61000000", "[RootExtWarnMsg(\"a\")]"),
+    (MadeAction::Warning("hi"), "[RootExtWarnMsg(\"hi\")]", "06000500 68690000", ""),
+    (MadeAction::KeptCount, "[Other(DefaultNla { word: 3, value: [6, 0, 0, 0] })]", "08000300 06000000", "[RootCount(6)]"),
 ];
 
 fn action_message_of(alloc: Global, made: &MadeAction) -> Result<TcActionMessage, AllocError> {
-    let mut message = TcActionMessage::default_in(alloc);
-    message.attributes.push(action_attribute(alloc, made)?)?;
-    Ok(message)
+    let attributes = pushed(Ok(Vec::new(alloc)), action_attribute(alloc, made))?;
+    Ok(TcActionMessage {
+        header: TcActionMessageHeader::default(),
+        attributes,
+    })
 }
 
-fn is_action_read_back(alloc: Global, row: &ActionRow) -> Result<bool, AllocError> {
-    let seen = see_action(alloc, &action_message_of(alloc, &row.0)?)?;
-    let bytes = after_zeros(alloc, 4, row.1)?;
-    Ok(is_seen(&seen, &bytes, &shown_action(alloc, row.2)?))
+fn is_action_message(alloc: Global, row: &ActionRow) -> bool {
+    match bytes_of(alloc, Form::Action.header(), row.2) {
+        Ok(bytes) => {
+            let written = Some((bytes.as_slice(), row.3.is_empty()));
+            is_action(
+                alloc,
+                action_message_of(alloc, &row.0).ok(),
+                (NO_ACTION_HEADER, row.1),
+                written,
+            ) && (row.3.is_empty() || is_told(alloc, Form::Action, &bytes, row.3))
+        }
+        Err(_) => false,
+    }
 }
 
 #[test]
-fn of_action_messages(rt: HostRuntime) -> Result<(), Fail> {
+fn of_action_messages(rt: HostRuntime) {
     for row in &ACTION_MESSAGES {
-        if !is_action_read_back(rt.alloc(), row)? {
-            return Err(Fail::new(row.1));
-        }
+        assert!(rt; is_action_message(rt.alloc(), row), "{}", row.1);
     }
-    Ok(())
 }
 
-/// A message of this family.
-fn of_family(alloc: Global, family: AddressFamily) -> TcMessage {
+/// What `Debug` shows before the attributes of a message of a family, by its name.
+static INET: &str =
+    "TcMessage { header: TcHeader { family: Inet, index: 0, handle: TcHandle { major: 0, minor: 0 }, \
+parent: TcHandle { major: 0, minor: 0 }, info: 0 }, attributes: ";
+
+/// And by its number.
+static OTHER: &str =
+    "TcMessage { header: TcHeader { family: Other(2), index: 0, handle: TcHandle { major: 0, minor: 0 }, \
+parent: TcHandle { major: 0, minor: 0 }, info: 0 }, attributes: ";
+
+static INET_BYTES: [u8; 20] = [2, 0, 0, 0, 0, 0, 0, 0, 0, 0, 0, 0, 0, 0, 0, 0, 0, 0, 0, 0];
+
+// True if a message of this family and no attributes, made by hand, is shown and settled as it has to be; written as these bytes.
+fn is_of_family(alloc: Global, family: AddressFamily, front: &str, is_settled: bool) -> bool {
     let mut message = TcMessage::default_in(alloc);
     message.header.family = family;
-    message
+    let written = Some((INET_BYTES.as_slice(), is_settled));
+    is_tc(alloc, Some(message), (front, "[]"), written)
 }
 
-/// True if the first message is settled, and the second, which isn't, is written as the same bytes, and these are read as the first.
-fn is_named(named: &Seen, other: &Seen) -> bool {
-    let mut bytes = [0; 20];
-    bytes[0] = 2;
-    named.is_settled
-        && !other.is_settled
-        && named.is_emitted_as(&bytes)
-        && other.is_emitted_as(&bytes)
-        && other.again == named.text
-}
-
-// The second family is a number that has a name.
+// The second family is a number that has a name, under which it is read.
 #[test]
-fn of_a_header(rt: HostRuntime) -> Result<(), Fail> {
+fn of_a_header(rt: HostRuntime) {
     let alloc = rt.alloc();
-    let named = see_tc(alloc, &of_family(alloc, AddressFamily::Inet))?;
-    let other = see_tc(alloc, &of_family(alloc, AddressFamily::Other(2)))?;
-    assert!(rt; is_named(&named, &other));
-    Ok(())
+    assert!(rt; is_of_family(alloc, AddressFamily::Inet, INET, true));
+    assert!(rt; is_of_family(alloc, AddressFamily::Other(2), OTHER, false));
+    let written = Some((INET_BYTES.as_slice(), true));
+    assert!(rt; is_read_as(alloc, Form::Tc, &INET_BYTES, (INET, "[]"), written));
 }
 
-/// True if an option, and options of it alone, are settled as they have to be under a kind.
-fn is_limit_settled(alloc: Global, kind: &str, is_settled: bool) -> Result<bool, AllocError> {
-    let options = see_attribute(alloc, kind, options(alloc, limit())?)?;
-    let option = see_option(alloc, kind, limit())?;
-    Ok(options.is_settled == is_settled && option.is_settled == is_settled)
+// True if options of `fq_codel` are settled under a kind that is known, and what no table has under any other.
+fn are_settled_under(alloc: Global, kind: &str, is_known: bool) -> bool {
+    is_settled_attribute(kind, option(alloc, Ok(limit()))) == is_known
+        && is_settled_option(kind, Ok(limit())) == is_known
+        && is_settled_option(kind, other(alloc, 2, &[5, 0, 0, 0])) != is_known
+        && is_settled_attribute(kind, raw(alloc, 2, &LIMIT)) != is_known
 }
 
-/// True if an option that no table has is settled as it has to be under a kind.
-fn is_other_settled(alloc: Global, kind: &str, is_settled: bool) -> Result<bool, AllocError> {
-    let kept = TcOption::Other(kept(alloc, 2, &[5, 0, 0, 0])?);
-    Ok(see_option(alloc, kind, kept)?.is_settled == is_settled)
-}
-
-/// True if raw options are settled as they have to be under a kind.
-fn is_raw_settled(alloc: Global, kind: &str, is_settled: bool) -> Result<bool, AllocError> {
-    Ok(see_attribute(alloc, kind, raw(alloc, 2, &LIMIT)?)?.is_settled == is_settled)
-}
-
-/// True if options are settled under a kind that is known, and raw ones under any other.
-fn are_settled_under(alloc: Global, kind: &str, is_known: bool) -> Result<bool, AllocError> {
-    Ok(
-        is_limit_settled(alloc, kind, is_known)?
-            && is_other_settled(alloc, kind, !is_known)?
-            && is_raw_settled(alloc, kind, !is_known)?,
-    )
-}
-
-/// True if an option of `fq_codel` is settled that is kept raw, of this type.
+// True if an option of `fq_codel` is settled that is kept raw, of this type.
 fn is_settled_of_type(alloc: Global, word: u16) -> Result<bool, AllocError> {
     let kept = kept(alloc, word, &[5])?;
     Ok(settles(TcQdiscFqCodelOption::Other(kept)))
@@ -280,15 +277,14 @@ fn is_settled_of_type(alloc: Global, word: u16) -> Result<bool, AllocError> {
 #[test]
 fn of_options_under_a_kind(rt: HostRuntime) -> Result<(), Fail> {
     let alloc = rt.alloc();
-    for kind in ["fq_codel", "fq_codel\0", "sfq", ""] {
-        assert!(rt;
-            are_settled_under(alloc, kind, kind == "fq_codel")?,
-            "{kind}"
-        );
-    }
-    for (word, is_settled) in [(2, false), (0x8002, false), (99, true), (0xc063, true)] {
-        assert!(rt; is_settled_of_type(alloc, word)? == is_settled, "{word}");
-    }
+    assert!(rt; are_settled_under(alloc, "fq_codel", true));
+    assert!(rt; are_settled_under(alloc, "fq_codel\0", false));
+    assert!(rt; are_settled_under(alloc, "sfq", false));
+    assert!(rt; are_settled_under(alloc, "", false));
+    assert!(rt; !is_settled_of_type(alloc, 2)?);
+    assert!(rt; !is_settled_of_type(alloc, 0x8002)?);
+    assert!(rt; is_settled_of_type(alloc, 99)?);
+    assert!(rt; is_settled_of_type(alloc, 0xc063)?);
     Ok(())
 }
 

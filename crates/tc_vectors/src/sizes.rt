@@ -9,14 +9,14 @@ use tc_wire::{
 
 #[test]
 fn of_options_and_attributes(rt: HostRuntime) {
-    assert_eq!(rt; size_of::<TcQdiscFqCodelOption>(), 40);
-    assert_eq!(rt; size_of::<TcQdiscIngressOption>(), 40);
-    assert_eq!(rt; size_of::<TcFilterFlowerOption>(), 40);
-    assert_eq!(rt; size_of::<TcFilterU32Option>(), 48);
-    assert_eq!(rt; size_of::<TcFilterMatchAllOption>(), 40);
-    assert_eq!(rt; size_of::<TcFilterBpfOption>(), 40);
-    assert_eq!(rt; size_of::<TcOption>(), 56);
-    assert_eq!(rt; size_of::<TcAttribute>(), 56);
-    assert_eq!(rt; size_of::<TcActionOption>(), 56);
-    assert_eq!(rt; size_of::<TcActionAttribute>(), 40);
+    assert!(rt; size_of::<TcQdiscFqCodelOption>() == 40);
+    assert!(rt; size_of::<TcQdiscIngressOption>() == 40);
+    assert!(rt; size_of::<TcFilterFlowerOption>() == 40);
+    assert!(rt; size_of::<TcFilterU32Option>() == 48);
+    assert!(rt; size_of::<TcFilterMatchAllOption>() == 40);
+    assert!(rt; size_of::<TcFilterBpfOption>() == 40);
+    assert!(rt; size_of::<TcOption>() == 56);
+    assert!(rt; size_of::<TcAttribute>() == 56);
+    assert!(rt; size_of::<TcActionOption>() == 56);
+    assert!(rt; size_of::<TcActionAttribute>() == 40);
 }

@@ -1,9 +1,9 @@
-//! Tables of known answers, a row a line and its cells parted by bars, and how a row is checked.
+//! Tables of known answers, a row a line and its cells parted by bars, and how rows of attributes are checked.
 
 ghost use Rattle.std.specs.Prelude.{◌<◌};
 
-use nla_frames::{Nla, NlaBuffer, Parseable, Settle, emit_list, list_fits, list_len};
-use std::alloc::{AllocError, Allocator, Global};
+use nla_frames::{Nla, NlaBuffer, Parseable, Res, Settle, emit_list, list_fits, list_len};
+use std::alloc::{AllocError, Global};
 use std::fmt::Debug;
 use std::str::Split;
 use std::test::Fail;
@@ -42,10 +42,10 @@ fn digit(letter: u8) -> u8
     }
 }
 
-/// The bytes of a text in hex, in which spaces may stand between bytes.
-pub(crate) fn bytes_of<A: Allocator>(alloc: A, hex: &str) -> Result<Vec<u8, A>, AllocError> {
-    let mut bytes = Vec::new(alloc);
-    for word in hex.split(' ') {
+/// The bytes of frames in hex, in which spaces may stand between bytes, after those of a header.
+pub(crate) fn bytes_of(alloc: Global, header: &[u8], frames: &str) -> Result<Vec<u8>, AllocError> {
+    let mut bytes = header.to_vec(alloc)?;
+    for word in frames.split(' ') {
         for pair in word.as_bytes().chunks(2) {
             if let [high, low] = pair {
                 bytes.push(16 * digit(*high) + digit(*low))?;
@@ -55,35 +55,71 @@ pub(crate) fn bytes_of<A: Allocator>(alloc: A, hex: &str) -> Result<Vec<u8, A>, 
     Ok(bytes)
 }
 
-/// The bytes of frames in hex after a header of zeros.
-pub(crate) fn after_zeros(
-    alloc: Global,
-    header: usize,
-    frames: &str,
-) -> Result<Vec<u8>, AllocError> {
-    let mut bytes = vec![in alloc; 0; header]?;
-    bytes.extend_from_slice(&bytes_of(alloc, frames)?)?;
-    Ok(bytes)
+/// True if these are the bytes of frames in hex.
+pub(crate) fn is_hex(bytes: &[u8], frames: &str) -> bool {
+    let mut left = bytes;
+    for word in frames.split(' ') {
+        for pair in word.as_bytes().chunks(2) {
+            match (pair, left) {
+                ([high, low], [byte, after @ ..]) if *byte == 16 * digit(*high) + digit(*low) => {
+                    left = after;
+                }
+                _ => return false,
+            }
+        }
+    }
+    left.is_empty()
 }
 
-/// What is written: the bytes that were read, where the row has no other.
-pub(crate) fn or_same<'a>(bytes: &'a str, written: &'a str) -> &'a str {
-    if written.is_empty() { bytes } else { written }
+/// What is written: what was read, where the row has nothing else.
+pub(crate) fn or_same<'a>(read: &'a str, written: &'a str) -> &'a str {
+    if written.is_empty() { read } else { written }
 }
 
 /// True if a value has this `Debug` text.
-pub(crate) fn is_shown<T: Debug>(alloc: Global, value: &T, text: &str) -> Result<bool, AllocError> {
-    Ok(format!(in alloc; "{value:?}")?.as_str() == text)
+pub(crate) fn is_shown<T: Debug>(alloc: Global, value: &T, text: &str) -> bool {
+    match format!(in alloc; "{value:?}") {
+        Ok(shown) => shown.as_str() == text,
+        Err(_) => false,
+    }
 }
 
-/// True if a list is written as these bytes.
-pub(crate) fn are_written<T: Nla>(list: &[T], bytes: &[u8]) -> bool {
+/// True if attributes are written as these frames in hex.
+pub(crate) fn are_written<T: Nla>(list: &[T], frames: &str) -> bool {
     let mut buffer = [0x55; 640];
-    if !list_fits(list) || list_len(list) != bytes.len() || bytes.len() > buffer.len() {
+    if !list_fits(list) {
+        return false;
+    }
+    let len = list_len(list);
+    if len > buffer.len() {
         return false;
     }
     emit_list(list, &mut buffer);
-    &buffer[..bytes.len()] == bytes
+    is_hex(&buffer[..len], frames)
+}
+
+/// True if an attribute is written as this frame in hex.
+pub(crate) fn is_written<T: Nla>(attribute: &T, frame: &str) -> bool {
+    let mut buffer = [0x55; 640];
+    if !attribute.fits() {
+        return false;
+    }
+    let len = attribute.frame_len();
+    if len > buffer.len() {
+        return false;
+    }
+    attribute.emit_frame(&mut buffer);
+    is_hex(&buffer[..len], frame)
+}
+
+/// True if an attribute has this text, and is written as this frame in hex.
+pub(crate) fn is_attribute<T: Nla + Debug>(
+    alloc: Global,
+    attribute: &T,
+    text: &str,
+    frame: &str,
+) -> bool {
+    is_shown(alloc, attribute, text) && is_written(attribute, frame)
 }
 
 /// True if a value is settled.
@@ -91,40 +127,26 @@ pub(crate) fn settles<T: Settle + Drop>(value: T) -> bool {
     value.is_settled()
 }
 
-/// True if a value has this `Debug` text.
-pub(crate) fn has_text<T: Debug + Drop>(
+/// True if a frame is parsed as an attribute of this text, and that written as this frame in hex.
+fn is_parsed_as<T: Parseable<Global> + Nla + Debug + Drop>(
     alloc: Global,
-    value: T,
-    text: &str,
-) -> Result<bool, AllocError> {
-    is_shown(alloc, &value, text)
-}
-
-/// True if a value has this text, and is written as these bytes in hex.
-pub(crate) fn is_shown_and_written<T: Nla + Debug + Drop>(
-    alloc: Global,
-    value: T,
+    frame: &[u8],
     text: &str,
     written: &str,
-) -> Result<bool, AllocError> {
-    let written = bytes_of(alloc, written)?;
-    let is_shown = is_shown(alloc, &value, text)?;
-    let mut list = Vec::new(alloc);
-    list.push(value)?;
-    Ok(is_shown && are_written(&list, &written))
+) -> Res<bool> {
+    let attribute = T::parse(alloc, &NlaBuffer::new_checked(frame)?)?;
+    Ok(is_attribute(alloc, &attribute, text, written))
 }
 
-/// True if a frame is read as an attribute of the second cell's text, and that written as the third cell, or as it came where that is empty.
-fn is_known<T: Parseable<Global> + Nla + Debug + Drop>(
-    alloc: Global,
-    row: &str,
-) -> Result<bool, Fail> {
-    let Some((frame, text, written)) = cells(row) else {
-        return Ok(false);
-    };
-    let bytes = bytes_of(alloc, frame)?;
-    let read = T::parse(alloc, &NlaBuffer::new_checked(&bytes)?)?;
-    Ok(is_shown_and_written(alloc, read, text, or_same(frame, written))?)
+/// True if a frame is parsed as an attribute of the second cell's text, and that written as the third cell, or as it came where that is empty.
+fn is_known<T: Parseable<Global> + Nla + Debug + Drop>(alloc: Global, row: &str) -> Res<bool> {
+    match cells(row) {
+        Some((frame, text, written)) => {
+            let bytes = bytes_of(alloc, &[], frame)?;
+            is_parsed_as::<T>(alloc, &bytes, text, or_same(frame, written))
+        }
+        None => Ok(false),
+    }
 }
 
 /// Checks each row, and fails at the first that is read or written otherwise.
@@ -133,7 +155,7 @@ pub(crate) fn are_known<T: Parseable<Global> + Nla + Debug + Drop>(
     table: &str,
 ) -> Result<(), Fail> {
     for row in rows(table) {
-        if !is_known::<T>(alloc, row)? {
+        if !matches!(is_known::<T>(alloc, row), Ok(true)) {
             return Err(Fail::new(row));
         }
     }

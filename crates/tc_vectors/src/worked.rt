@@ -1,12 +1,14 @@
 //! Worked messages: what they are read as, what is written of them, and why others are refused.
 
-use crate::calls::{Seen, read_action, read_tc, see_action};
-use crate::tables::{after_zeros, cells, is_shown, or_same, pair, rows};
+use crate::calls::{fault_of, is_action, is_canonical, is_read_as};
+use crate::rewriting::{cause_of, is_fault, is_rewritten};
+use crate::row_kinds::{Says, are_right};
+use crate::tables::{bytes_of, cells, is_shown, pair};
 use nla_frames::{AddressFamily, DecodeError};
-use std::alloc::{AllocError, Global};
+use std::alloc::Global;
 use std::test::Fail;
 use tc_action_messages::TcActionMessage;
-use tc_canon::{is_canonical_action, is_canonical_tc};
+use tests_messages::Form;
 
 // A row of messages that are read: frames in hex, the attributes that they are read as, and the frames that are written of these, where they
 // aren't the same, which only canonical ones are. A row of those that are refused: frames in hex, and the first fault in them.
@@ -96,188 +98,131 @@ pub(crate) static ACTION_FAULTS: &str = r#"
 08000300 06000000 0000 | FrameHeaderShort { left: 2 }
 "#;
 
-/// A header of zeros, as `Debug` shows it.
-pub(crate) static NO_HEADER: &str = "TcHeader { family: Unspec, index: 0, \
-handle: TcHandle { major: 0, minor: 0 }, parent: TcHandle { major: 0, minor: 0 }, info: 0 }";
+/// What `Debug` shows before the attributes of a message with an empty header.
+pub(crate) static NO_HEADER: &str = "TcMessage { header: TcHeader { family: Unspec, index: 0, \
+handle: TcHandle { major: 0, minor: 0 }, parent: TcHandle { major: 0, minor: 0 }, info: 0 }, attributes: ";
 
-/// A message of this header and of these attributes, as `Debug` shows it.
-pub(crate) fn shown_tc(
+/// The same of an action message.
+pub(crate) static NO_ACTION_HEADER: &str =
+    "TcActionMessage { header: TcActionMessageHeader { family: Unspec }, attributes: ";
+
+/// True if bytes are read as this message, and that is written, settled, rewritten and canonical as it has to be.
+pub(crate) fn is_message(
     alloc: Global,
-    header: &str,
-    attributes: &str,
-) -> Result<String, AllocError> {
-    format!(in alloc; "TcMessage {{ header: {header}, attributes: {attributes} }}")
-}
-
-/// An action message of an empty header and of these attributes, as `Debug` shows it.
-pub(crate) fn shown_action(alloc: Global, attributes: &str) -> Result<String, AllocError> {
-    format!(in alloc;
-        "TcActionMessage {{ header: TcActionMessageHeader {{ family: Unspec }}, attributes: {attributes} }}"
-    )
-}
-
-/// True if a message is shown as this text, emitted as these bytes, and settled as it has to be, which its bytes show too; and a clone is equal to it.
-fn is_seen(seen: &Seen, text: &str, written: &[u8], is_settled: bool) -> bool {
-    seen.text.as_str() == text
-        && seen.is_emitted_as(written)
-        && seen.is_settled == is_settled
-        && seen.reads_back == is_settled
-        && seen.is_cloned
-}
-
-/// True if bytes are read as a message of this header and of these attributes, and it is written, settled and canonical as it has to be.
-pub(crate) fn is_read_as(
-    alloc: Global,
+    form: Form,
     bytes: &[u8],
-    header: &str,
-    attributes: &str,
-    written: &[u8],
+    shown: (&str, &str),
+    written: (&[u8], bool),
+) -> bool {
+    is_read_as(alloc, form, bytes, shown, Some(written))
+        && is_canonical(form, bytes) == (bytes == written.0)
+        && is_rewritten(alloc, form, bytes, written)
+}
+
+/// What `Debug` shows before the attributes of a message of this form with an empty header.
+pub(crate) fn front_of(form: Form) -> &'static str {
+    match form {
+        Form::Tc => NO_HEADER,
+        Form::Action => NO_ACTION_HEADER,
+    }
+}
+
+// True if bytes are read as the message of these attributes, and that is written as these frames, or as it came where there are none.
+fn is_written(
+    alloc: Global,
+    form: Form,
+    bytes: &[u8],
+    cells: (&str, &str),
     is_settled: bool,
-) -> Result<bool, Fail> {
-    let text = shown_tc(alloc, header, attributes)?;
-    Ok(
-        is_seen(&read_tc(alloc, bytes)?, &text, written, is_settled)
-            && is_canonical_tc(bytes) == (bytes == written),
-    )
+) -> bool {
+    let shown = (front_of(form), cells.0);
+    if cells.1.is_empty() {
+        return is_message(alloc, form, bytes, shown, (bytes, is_settled));
+    }
+    match bytes_of(alloc, form.header(), cells.1) {
+        Ok(written) => is_message(alloc, form, bytes, shown, (&written, is_settled)),
+        Err(_) => false,
+    }
 }
 
-fn is_read(alloc: Global, row: &str, is_settled: bool) -> Result<bool, Fail> {
-    let Some((frames, text, written)) = cells(row) else {
-        return Ok(false);
-    };
-    let bytes = after_zeros(alloc, 20, frames)?;
-    let written = after_zeros(alloc, 20, or_same(frames, written))?;
-    is_read_as(alloc, &bytes, NO_HEADER, text, &written, is_settled)
+/// True if the message of a row is read, written and settled as it has to be.
+pub(crate) fn is_read(alloc: Global, form: Form, row: &str, is_settled: bool) -> bool {
+    match cells(row) {
+        Some((frames, attributes, written)) => match bytes_of(alloc, form.header(), frames) {
+            Ok(bytes) => is_written(alloc, form, &bytes, (attributes, written), is_settled),
+            Err(_) => false,
+        },
+        None => false,
+    }
 }
 
-/// Checks each row of messages, and fails at the first that is read, written or settled otherwise.
-fn are_read(alloc: Global, table: &str, is_settled: bool) -> Result<(), Fail> {
-    for row in rows(table) {
-        if !is_read(alloc, row, is_settled)? {
-            return Err(Fail::new(row));
+// True if bytes are refused with the fault of this text, by each of the calls.
+fn has_fault(alloc: Global, form: Form, bytes: &[u8], text: &str) -> bool {
+    match &fault_of(alloc, form, bytes) {
+        Some(fault) => {
+            is_shown(alloc, fault, text) && is_fault(&cause_of(alloc, form, bytes), fault)
         }
-    }
-    Ok(())
-}
-
-pub(crate) fn fault_of(alloc: Global, bytes: &[u8]) -> Option<DecodeError> {
-    read_tc(alloc, bytes).err()
-}
-
-/// True if there is a fault of this text.
-fn is_fault(alloc: Global, fault: &Option<DecodeError>, text: &str) -> Result<bool, AllocError> {
-    match fault {
-        None => Ok(false),
-        Some(fault) => is_shown(alloc, fault, text),
+        None => false,
     }
 }
 
-fn is_refused(alloc: Global, row: &str) -> Result<bool, AllocError> {
-    let Some((frames, fault)) = pair(row) else {
-        return Ok(false);
-    };
-    let bytes = after_zeros(alloc, 20, frames)?;
-    is_fault(alloc, &fault_of(alloc, &bytes), fault)
-}
-
-/// Checks each row of messages, and fails at the first that isn't refused with its fault.
-fn are_refused(alloc: Global, table: &str) -> Result<(), Fail> {
-    for row in rows(table) {
-        if !is_refused(alloc, row)? {
-            return Err(Fail::new(row));
-        }
+/// True if the message of a row is refused with its fault.
+pub(crate) fn is_refused(alloc: Global, form: Form, row: &str) -> bool {
+    match pair(row) {
+        Some((frames, text)) => match bytes_of(alloc, form.header(), frames) {
+            Ok(bytes) => has_fault(alloc, form, &bytes, text),
+            Err(_) => false,
+        },
+        None => false,
     }
-    Ok(())
 }
 
 #[test]
 fn messages(rt: HostRuntime) -> Result<(), Fail> {
-    are_read(rt.alloc(), TC, true)?;
-    are_read(rt.alloc(), TC_UNSETTLED, false)?;
-    are_refused(rt.alloc(), TC_FAULTS)
-}
-
-/// True if bytes are read as an action message of an empty header and of these attributes, and it is written, settled and canonical as it has to be.
-fn is_action_read_as(
-    alloc: Global,
-    bytes: &[u8],
-    attributes: &str,
-    written: &[u8],
-    is_settled: bool,
-) -> Result<bool, Fail> {
-    let text = shown_action(alloc, attributes)?;
-    Ok(
-        is_seen(&read_action(alloc, bytes)?, &text, written, is_settled)
-            && is_canonical_action(bytes) == (bytes == written),
-    )
-}
-
-fn is_action_read(alloc: Global, row: &str, is_settled: bool) -> Result<bool, Fail> {
-    let Some((frames, text, written)) = cells(row) else {
-        return Ok(false);
-    };
-    let bytes = after_zeros(alloc, 4, frames)?;
-    let written = after_zeros(alloc, 4, or_same(frames, written))?;
-    is_action_read_as(alloc, &bytes, text, &written, is_settled)
-}
-
-fn are_actions_read(alloc: Global, table: &str, is_settled: bool) -> Result<(), Fail> {
-    for row in rows(table) {
-        if !is_action_read(alloc, row, is_settled)? {
-            return Err(Fail::new(row));
-        }
-    }
-    Ok(())
-}
-
-fn is_action_refused(alloc: Global, row: &str) -> Result<bool, AllocError> {
-    let Some((frames, fault)) = pair(row) else {
-        return Ok(false);
-    };
-    let bytes = after_zeros(alloc, 4, frames)?;
-    is_fault(alloc, &read_action(alloc, &bytes).err(), fault)
+    are_right(rt.alloc(), Says::Message(Form::Tc, true), TC)?;
+    are_right(rt.alloc(), Says::Message(Form::Tc, false), TC_UNSETTLED)?;
+    are_right(rt.alloc(), Says::Refused(Form::Tc), TC_FAULTS)
 }
 
 #[test]
 fn action_messages(rt: HostRuntime) -> Result<(), Fail> {
-    are_actions_read(rt.alloc(), ACTIONS, true)?;
-    are_actions_read(rt.alloc(), ACTIONS_UNSETTLED, false)?;
-    for row in rows(ACTION_FAULTS) {
-        if !is_action_refused(rt.alloc(), row)? {
-            return Err(Fail::new(row));
-        }
-    }
-    Ok(())
+    are_right(rt.alloc(), Says::Message(Form::Action, true), ACTIONS)?;
+    are_right(
+        rt.alloc(),
+        Says::Message(Form::Action, false),
+        ACTIONS_UNSETTLED,
+    )?;
+    are_right(rt.alloc(), Says::Refused(Form::Action), ACTION_FAULTS)
 }
 
 static INET: &str =
-    "TcActionMessage { header: TcActionMessageHeader { family: Inet }, attributes: [] }";
+    "TcActionMessage { header: TcActionMessageHeader { family: Inet }, attributes: ";
 
-static UNSPEC: &str =
-    "TcActionMessage { header: TcActionMessageHeader { family: Unspec }, attributes: [] }";
+static OTHER: &str =
+    "TcActionMessage { header: TcActionMessageHeader { family: Other(2) }, attributes: ";
 
-/// What is seen of an action message of this family.
-fn of_family(alloc: Global, family: AddressFamily) -> Result<Seen, AllocError> {
+// True if an action message of this family and no attributes, made by hand, is what it has to be.
+fn is_family(alloc: Global, family: AddressFamily, front: &str, written: (&[u8], bool)) -> bool {
     let mut message = TcActionMessage::default_in(alloc);
     message.header.family = family;
-    see_action(alloc, &message)
+    is_action(alloc, Some(message), (front, "[]"), Some(written))
 }
 
-/// True if a message of a number that has a name is written, and not settled.
-fn is_unsettled(seen: &Seen) -> bool {
-    !seen.is_settled && !seen.reads_back && seen.is_emitted_as(&[2, 0, 0, 0])
-}
-
-// A header with a family, and with padding that isn't zero; and one that is short.
+// A header with a family, and with padding that isn't zero; one whose family is a number that has a name; and one that is short.
 #[test]
-fn headers_of_action_messages(rt: HostRuntime) -> Result<(), Fail> {
+fn headers_of_action_messages(rt: HostRuntime) {
     let alloc = rt.alloc();
-    let padded = read_action(alloc, &[2, 0, 0, 7])?;
-    assert!(rt; is_seen(&padded, INET, &[2, 0, 0, 0], true));
-    let empty = of_family(alloc, AddressFamily::Unspec)?;
-    assert!(rt; is_seen(&empty, UNSPEC, &[0; 4], true));
-    assert!(rt; is_unsettled(&of_family(alloc, AddressFamily::Other(2))?));
+    let (zeros, inet, padded) = ([0; 4], [2, 0, 0, 0], [2, 0, 0, 7]);
+    assert!(rt; is_message(alloc, Form::Action, &padded, (INET, "[]"), (&inet, true)));
+    assert!(rt;
+        is_family(
+            alloc,
+            AddressFamily::Unspec,
+            NO_ACTION_HEADER,
+            (&zeros, true)
+        )
+    );
+    assert!(rt; is_family(alloc, AddressFamily::Other(2), OTHER, (&inet, false)));
     let fault = DecodeError::BufferTooSmall { len: 3, needed: 4 };
-    assert!(rt; read_action(alloc, &[0; 3]).err() == Some(fault));
-    Ok(())
+    assert!(rt; fault_of(alloc, Form::Action, &[0; 3]) == Some(fault));
 }

@@ -1,10 +1,11 @@
 //! Rows of bytes and of what they are read as, and the judges of such rows.
 
 use nla_frames::{
-    Nla, NlaBuffer, Parseable, ParseableParametrized, Settle, emit_list, list_fits, list_len,
+    Nla, NlaBuffer, Parseable, ParseableParametrized, Res, Settle, emit_list, list_fits, list_len,
 };
-use std::alloc::{AllocError, Global};
+use std::alloc::Global;
 use std::fmt::Debug;
+use std::slice::from_ref;
 use std::test::Fail;
 
 /// A frame, what it is read as, and what is written of that, empty where it is the same.
@@ -24,32 +25,27 @@ pub(crate) fn are_written<T: Nla>(list: &[T], frames: &[u8]) -> bool {
 }
 
 /// True if a value has this `Debug` text.
-pub(crate) fn is_shown<T: Debug>(alloc: Global, value: &T, text: &str) -> Result<bool, AllocError> {
-    Ok(format!(in alloc; "{value:?}")?.as_str() == text)
+pub(crate) fn is_shown<T: Debug>(alloc: Global, value: &T, text: &str) -> bool {
+    match format!(in alloc; "{value:?}") {
+        Ok(shown) => shown.as_str() == text,
+        Err(_) => false,
+    }
 }
 
-/// True if a value has this text, and is written as this frame.
-fn is_shown_and_written<T: Nla + Debug + Drop>(
-    alloc: Global,
-    value: T,
-    text: &str,
-    written: &[u8],
-) -> Result<bool, AllocError> {
-    let is_shown = is_shown(alloc, &value, text)?;
-    let mut list = Vec::new(alloc);
-    list.push(value)?;
-    Ok(is_shown && are_written(&list, written))
+/// True if an attribute has this text, and is written as this frame.
+fn is_attribute<T: Nla + Debug>(alloc: Global, attribute: &T, text: &str, written: &[u8]) -> bool {
+    is_shown(alloc, attribute, text) && are_written(from_ref(attribute), written)
 }
 
 /// True if a frame is read as a value of this text, which is settled, and is written as it has to be.
 fn is_known<T: Parseable<Global> + Settle + Nla + Debug + Drop>(
     alloc: Global,
     row: &Row,
-) -> Result<bool, Fail> {
+) -> Res<bool> {
     let (frame, text, written) = *row;
     let written = if written.is_empty() { frame } else { written };
     let read = T::parse(alloc, &NlaBuffer::new_checked(frame)?)?;
-    Ok(read.is_settled() && is_shown_and_written(alloc, read, text, written)?)
+    Ok(read.is_settled() && is_attribute(alloc, &read, text, written))
 }
 
 /// Checks each row, and fails at the first that is read or written otherwise.
@@ -58,8 +54,8 @@ pub(crate) fn are_known<T: Parseable<Global> + Settle + Nla + Debug + Drop>(
     rows: &[Row],
 ) -> Result<(), Fail> {
     for row in rows {
-        if !is_known::<T>(alloc, row)? {
-            return Err(Fail::new(format_args!("{:?}", row.0)));
+        if !matches!(is_known::<T>(alloc, row), Ok(true)) {
+            return Err(Fail::new(row.1));
         }
     }
     Ok(())
@@ -69,10 +65,10 @@ pub(crate) fn are_known<T: Parseable<Global> + Settle + Nla + Debug + Drop>(
 fn is_known_under<T: ParseableParametrized<Global> + Settle + Nla + Debug + Drop>(
     alloc: Global,
     row: &RowUnder,
-) -> Result<bool, Fail> {
+) -> Res<bool> {
     let (kind, frame, text) = *row;
     let read = T::parse_with_param(alloc, &NlaBuffer::new_checked(frame)?, kind)?;
-    Ok(read.is_settled_under(kind) && is_shown_and_written(alloc, read, text, frame)?)
+    Ok(read.is_settled_under(kind) && is_attribute(alloc, &read, text, frame))
 }
 
 /// Checks each row, and fails at the first that is read or written otherwise.
@@ -81,7 +77,7 @@ pub(crate) fn are_known_under<T: ParseableParametrized<Global> + Settle + Nla + 
     rows: &[RowUnder],
 ) -> Result<(), Fail> {
     for row in rows {
-        if !is_known_under::<T>(alloc, row)? {
+        if !matches!(is_known_under::<T>(alloc, row), Ok(true)) {
             return Err(Fail::new(row.2));
         }
     }

@@ -1,94 +1,45 @@
-//! What is seen of an attribute and of an option.
+//! Whether attributes and options are what they have to be.
 
+use crate::tables::{is_attribute, is_shown};
 use std::alloc::{AllocError, Global};
 use std::fmt::Debug;
 use tc_wire::{
     Nla, NlaBuffer, ParseableBytes, ParseableParametrized, Res, Settle, TcAttribute, TcOption,
-    VecTcAttribute, VecTcOption, emit_list, list_fits, list_len, parse_frames_with,
+    VecTcAttribute, VecTcOption, parse_frames_with,
 };
 
-/// What the calls of an attribute or an option return.
-#[derive(Drop)]
-pub(crate) struct SeenAttribute {
-    /// The attribute as `Debug` shows it.
-    pub(crate) text: String,
-    /// The bytes that are emitted, if it fits.
-    pub(crate) emitted: Option<Vec<u8>>,
-    /// What `is_settled_under` returns for the kind.
-    pub(crate) is_settled: bool,
-}
-
-impl SeenAttribute {
-    /// True if `Debug` shows it as this text, and these bytes are emitted.
-    pub(crate) fn is(&self, text: &str, bytes: &[u8]) -> bool {
-        let is_emitted = match &self.emitted {
-            Some(emitted) => emitted.as_slice() == bytes,
-            None => false,
-        };
-        is_emitted && self.text.as_str() == text
-    }
-}
-
-fn emitted<T: Nla>(alloc: Global, list: &[T]) -> Result<Option<Vec<u8>>, AllocError> {
-    if !list_fits(list) {
-        return Ok(None);
-    }
-    let mut bytes = vec![in alloc; 0x55; list_len(list)]?;
-    emit_list(list, &mut bytes);
-    Ok(Some(bytes))
-}
-
-fn see<T: Nla + Settle + Debug + Drop>(
-    alloc: Global,
-    kind: &str,
-    value: T,
-) -> Result<SeenAttribute, AllocError> {
-    let text = format!(in alloc; "{value:?}")?;
-    let is_settled = value.is_settled_under(kind);
-    let mut list = Vec::new(alloc);
-    list.push(value)?;
-    Ok(SeenAttribute {
-        text,
-        emitted: emitted(alloc, &list)?,
-        is_settled,
-    })
-}
-
-fn read<T: ParseableParametrized<Global> + Nla + Settle + Debug + Drop>(
+// True if a frame is parsed under a kind as an attribute of this text, which is settled there and written as this frame in hex.
+fn is_parsed_as<T: ParseableParametrized<Global> + Nla + Settle + Debug + Drop>(
     alloc: Global,
     kind: &str,
     frame: &[u8],
-) -> Res<SeenAttribute> {
-    let value = T::parse_with_param(alloc, &NlaBuffer::new_checked(frame)?, kind)?;
-    Ok(see(alloc, kind, value)?)
+    text: &str,
+    written: &str,
+) -> Res<bool> {
+    let attribute = T::parse_with_param(alloc, &NlaBuffer::new_checked(frame)?, kind)?;
+    Ok(attribute.is_settled_under(kind) && is_attribute(alloc, &attribute, text, written))
 }
 
-/// What is seen of an attribute under a kind.
-pub(crate) fn see_attribute(
+/// True if a frame is parsed under a kind as an attribute of this text, which is settled there and written as this frame in hex.
+pub(crate) fn is_read_attribute(
     alloc: Global,
     kind: &str,
-    attribute: TcAttribute,
-) -> Result<SeenAttribute, AllocError> {
-    see(alloc, kind, attribute)
+    frame: &[u8],
+    text: &str,
+    written: &str,
+) -> Res<bool> {
+    is_parsed_as::<TcAttribute>(alloc, kind, frame, text, written)
 }
 
-/// What is seen of the attribute that a frame is parsed as under a kind, or its fault.
-pub(crate) fn read_attribute(alloc: Global, kind: &str, frame: &[u8]) -> Res<SeenAttribute> {
-    read::<TcAttribute>(alloc, kind, frame)
-}
-
-/// What is seen of an option under a kind.
-pub(crate) fn see_option(
+/// True if a frame is parsed under a kind as an option of this text, which is settled there and written as this frame in hex.
+pub(crate) fn is_read_option(
     alloc: Global,
     kind: &str,
-    option: TcOption,
-) -> Result<SeenAttribute, AllocError> {
-    see(alloc, kind, option)
-}
-
-/// What is seen of the option that a frame is parsed as under a kind, or its fault.
-pub(crate) fn read_option(alloc: Global, kind: &str, frame: &[u8]) -> Res<SeenAttribute> {
-    read::<TcOption>(alloc, kind, frame)
+    frame: &[u8],
+    text: &str,
+    written: &str,
+) -> Res<bool> {
+    is_parsed_as::<TcOption>(alloc, kind, frame, text, written)
 }
 
 /// True if the option that a frame is parsed as under a kind is settled under another.
@@ -97,21 +48,41 @@ pub(crate) fn is_option_settled(alloc: Global, kind: &str, frame: &[u8], other: 
     Ok(option.is_settled_under(other))
 }
 
-/// The attributes of a message that bytes are parsed as, as `Debug` shows them, or their fault.
-pub(crate) fn read_attributes(alloc: Global, bytes: &[u8]) -> Res<String> {
-    let attributes = VecTcAttribute::parse(alloc, bytes)?.0;
-    Ok(format!(in alloc; "{attributes:?}")?)
+fn settles_under<T: Settle + Drop>(kind: &str, made: Result<T, AllocError>) -> bool {
+    match &made {
+        Ok(value) => value.is_settled_under(kind),
+        Err(_) => false,
+    }
 }
 
-/// The options of a kind that the frame of a TCA_OPTIONS attribute is parsed as, as `Debug` shows them, or their fault; and what
-/// the frames in it are parsed as.
-pub(crate) fn read_options(alloc: Global, kind: &str, frame: &[u8]) -> Res<(String, String)> {
+/// True if an attribute was made that is settled under a kind.
+pub(crate) fn is_settled_attribute(kind: &str, made: Result<TcAttribute, AllocError>) -> bool {
+    settles_under(kind, made)
+}
+
+/// True if an option was made that is settled under a kind.
+pub(crate) fn is_settled_option(kind: &str, made: Result<TcOption, AllocError>) -> bool {
+    settles_under(kind, made)
+}
+
+/// True if bytes are parsed as a message's attributes of this text.
+pub(crate) fn are_attributes(alloc: Global, bytes: &[u8], text: &str) -> Res<bool> {
+    Ok(is_shown(alloc, &VecTcAttribute::parse(alloc, bytes)?.0, text))
+}
+
+/// True if the frame of a TCA_OPTIONS attribute is parsed as options of a kind of this text.
+pub(crate) fn are_options(alloc: Global, kind: &str, frame: &[u8], text: &str) -> Res<bool> {
     let frame = NlaBuffer::new_checked(frame)?;
-    let options = VecTcOption::parse_with_param(alloc, &frame, kind)?.0;
-    let inner = NlaBuffer::new_checked(frame.value())?;
-    let cut: Vec<TcOption> = parse_frames_with(alloc, &[inner], kind)?;
-    Ok((
-        format!(in alloc; "{options:?}")?,
-        format!(in alloc; "{cut:?}")?,
+    Ok(is_shown(
+        alloc,
+        &VecTcOption::parse_with_param(alloc, &frame, kind)?.0,
+        text,
     ))
+}
+
+/// True if a frame that was cut off is parsed as a list of one option of a kind, of this text.
+pub(crate) fn is_cut_option(alloc: Global, kind: &str, frame: &[u8], text: &str) -> Res<bool> {
+    let frame = NlaBuffer::new_checked(frame)?;
+    let options: Vec<TcOption> = parse_frames_with(alloc, &[frame], kind)?;
+    Ok(is_shown(alloc, &options, text))
 }

@@ -5,7 +5,6 @@ use nla_frames::{
     parse_frames_with, parse_list, parse_list_with, parse_string,
 };
 use std::alloc::Global;
-use std::test::Fail;
 use tc_actions::{
     TcAction, TcActionAttribute, TcActionMirrorOption, TcActionNatOption, TcActionOption,
     TcActionTunnelKeyOption, TcFqCodelXstats, TcStats2, TcXstats,
@@ -81,24 +80,45 @@ pub(crate) fn had_for_attributes(alloc: Global, input: &Input) -> bool {
     }
 }
 
-#[test]
-fn parts(rt: HostRuntime) -> Result<(), Fail> {
-    let alloc = rt.alloc();
-    let mut count = 0usize;
-    for word in 0..=LAST_TYPE {
-        for length in LENGTHS {
-            let bytes = swept(alloc, word, length)?;
-            let frame = NlaBuffer::new_checked(&bytes)?;
-            assert!(rt; had_for_all(alloc, &frame, &bytes), "{bytes:?}");
-            for kind in [""].iter().chain(&KINDS).chain(&ACTION_KINDS) {
-                assert!(rt;
-                    had_for_all_under(alloc, &frame, &bytes, kind),
-                    "{bytes:?} {kind}"
-                );
-                count = count.wrapping_add(1);
-            }
+// Whether memory sufficed for all that is read under each kind.
+fn had_under_kinds(alloc: Global, frame: &NlaBuffer<'_>, bytes: &[u8]) -> bool {
+    for kind in &KINDS {
+        if !had_for_all_under(alloc, frame, bytes, kind) {
+            return false;
         }
     }
-    assert_eq!(rt; count, 11_100);
-    Ok(())
+    for kind in &ACTION_KINDS {
+        if !had_for_all_under(alloc, frame, bytes, kind) {
+            return false;
+        }
+    }
+    had_for_all_under(alloc, frame, bytes, "")
+}
+
+// Whether memory sufficed for all parts of these bytes.
+fn had_for_parts(alloc: Global, bytes: &[u8]) -> bool {
+    match &NlaBuffer::new_checked(bytes) {
+        Ok(frame) => had_for_all(alloc, frame, bytes) && had_under_kinds(alloc, frame, bytes),
+        Err(_) => false,
+    }
+}
+
+// Whether memory sufficed for an attribute of this type and length.
+fn had_for_swept(alloc: Global, word: u16, length: usize) -> bool {
+    match &swept(alloc, word, length) {
+        Ok(bytes) => had_for_parts(alloc, bytes),
+        Err(_) => false,
+    }
+}
+
+#[test]
+fn parts(rt: HostRuntime) {
+    let mut count = 0usize;
+    for word in 0..=LAST_TYPE {
+        for length in &LENGTHS {
+            assert!(rt; had_for_swept(rt.alloc(), word, *length), "{word} {length}");
+            count = count.wrapping_add(1);
+        }
+    }
+    assert!(rt; count == 1_110, "{count}");
 }

@@ -1,22 +1,24 @@
 //! Messages in an arena: it is emptied after each, and may take no more than it is given.
 
+use crate::messages::FQ_CODEL;
 use bumpalo::Bump;
 use std::alloc::Global;
 use std::test::Fail;
 use tc_wire::{DecodeError, Emitable, ParseableBytes, TcActionMessage, TcMessage};
 use tests_messages::{Expected, Form, Row, captured, large_messages, made};
 
+fn length_as<'a, M: ParseableBytes<&'a Bump> + Emitable + Drop>(
+    arena: &'a Bump,
+    bytes: &[u8],
+) -> Result<Option<usize>, DecodeError> {
+    Ok(M::parse(arena, bytes)?.checked_len())
+}
+
 /// How many bytes a message has that bytes are parsed as in the arena, or why it isn't parsed.
 fn length_in(arena: &Bump, bytes: &[u8], form: Form) -> Result<Option<usize>, DecodeError> {
     match form {
-        Form::Tc => {
-            let message = TcMessage::parse(arena, bytes)?;
-            Ok(message.checked_len())
-        }
-        Form::Action => {
-            let message = TcActionMessage::parse(arena, bytes)?;
-            Ok(message.checked_len())
-        }
+        Form::Tc => length_as::<TcMessage<&Bump>>(arena, bytes),
+        Form::Action => length_as::<TcActionMessage<&Bump>>(arena, bytes),
     }
 }
 
@@ -63,15 +65,27 @@ fn an_arena_serves_message_after_message(rt: HostRuntime) -> Result<(), Fail> {
     parse_all(&mut arena, &captured(alloc)?)
 }
 
+/// True if the message of a row has no room in the arena.
+fn is_too_large(arena: &Bump, row: Option<&Row>) -> bool {
+    match row {
+        Some(row) => length_in(arena, &row.input.bytes, Form::Tc) == Err(DecodeError::OutOfMemory),
+        None => false,
+    }
+}
+
+/// True if the first of the large messages has none.
+fn is_full(alloc: Global, arena: &Bump) -> bool {
+    match &large_messages(alloc) {
+        Ok(rows) => is_too_large(arena, rows.first()),
+        Err(_) => false,
+    }
+}
+
 #[test]
 fn a_full_arena_is_out_of_memory(rt: HostRuntime) -> Result<(), Fail> {
-    let alloc = rt.alloc();
-    let mut arena = arena_of(alloc, 4096)?;
-    let large = large_messages(alloc)?;
-    let row = large.first().ok_or("large messages")?;
-    let length = length_in(&arena, &row.input.bytes, row.input.form);
-    assert!(rt; length == Err(DecodeError::OutOfMemory));
+    let mut arena = arena_of(rt.alloc(), 4096)?;
+    assert!(rt; is_full(rt.alloc(), &arena));
     arena.reset()?;
-    let rows = made(alloc)?;
-    parse_all(&mut arena, rows.get(..1).ok_or("69 rows")?)
+    assert!(rt; length_in(&arena, &FQ_CODEL, Form::Tc) == Ok(Some(48)));
+    Ok(())
 }

@@ -1,7 +1,7 @@
 //! Memory in bytes, counted by a heap of a given size: what a parse takes, what a message holds, and that all of it is given back.
 
-use crate::made::{kind, pushed, with};
-use crate::upgrade::other;
+use crate::messages::FQ_CODEL;
+use crate::upgrade::{SFQ, made as made_by_hand};
 use linked_list_allocator::LocalHeap;
 use std::alloc::{AllocError, Global};
 use std::mem::size_of;
@@ -24,37 +24,28 @@ fn options(count: usize) -> usize {
     block(count.saturating_mul(size_of::<TcOption<&LocalHeap>>()))
 }
 
-/// How many bytes of a heap a message holds that bytes are parsed as, or why it isn't parsed; and how many are taken once it is dropped.
-fn held_by(heap: &LocalHeap, bytes: &[u8]) -> (Result<usize, DecodeError>, usize) {
-    let held = match TcMessage::parse(heap, bytes) {
-        Ok(message) => {
-            let held = heap.used();
-            drop(message);
-            Ok(held)
-        }
-        Err(fault) => Err(fault),
-    };
-    (held, heap.used())
+fn held_as<'h, M: ParseableBytes<&'h LocalHeap> + Drop>(
+    heap: &'h LocalHeap,
+    bytes: &[u8],
+) -> Result<usize, DecodeError> {
+    let message = M::parse(heap, bytes)?;
+    let held = heap.used();
+    drop(message);
+    Ok(held)
 }
 
-/// As `held_by`, of an action message.
-fn held_by_action(heap: &LocalHeap, bytes: &[u8]) -> (Result<usize, DecodeError>, usize) {
-    let held = match TcActionMessage::parse(heap, bytes) {
-        Ok(message) => {
-            let held = heap.used();
-            drop(message);
-            Ok(held)
-        }
-        Err(fault) => Err(fault),
+/// How many bytes of a heap a message holds that bytes are parsed as, or why it isn't parsed; and how many are taken once it is dropped.
+fn held_by(heap: &LocalHeap, form: Form, bytes: &[u8]) -> (Result<usize, DecodeError>, usize) {
+    let held = match form {
+        Form::Tc => held_as::<TcMessage<&LocalHeap>>(heap, bytes),
+        Form::Action => held_as::<TcActionMessage<&LocalHeap>>(heap, bytes),
     };
     (held, heap.used())
 }
 
 /// How many bytes of a heap of this size the stored message holds, and how many are taken once it is dropped.
-fn held_in(alloc: Global, size: usize) -> Result<(Result<usize, DecodeError>, usize), Fail> {
-    let rows = made(alloc)?;
-    let first = rows.first().ok_or("69 rows")?;
-    Ok(held_by(&LocalHeap::new(alloc, size)?, &first.input.bytes))
+fn held_in(alloc: Global, size: usize) -> Result<(Result<usize, DecodeError>, usize), AllocError> {
+    Ok(held_by(&LocalHeap::new(alloc, size)?, Form::Tc, &FQ_CODEL))
 }
 
 // A list has room for an attribute for every eight of its bytes at first: for three in 28 bytes, and for one option in eight. With the eight
@@ -80,10 +71,7 @@ fn suffices(alloc: Global, row: &Row) -> Result<bool, AllocError> {
     let bytes = row.input.bytes.as_slice();
     let size = bytes.len().saturating_add(4).saturating_mul(BYTES_A_BYTE);
     let heap = LocalHeap::new(alloc, size)?;
-    let (held, left) = match row.input.form {
-        Form::Tc => held_by(&heap, bytes),
-        Form::Action => held_by_action(&heap, bytes),
-    };
+    let (held, left) = held_by(&heap, row.input.form, bytes);
     Ok(held != Err(DecodeError::OutOfMemory) && left == 0)
 }
 
@@ -105,23 +93,23 @@ fn a_parse_takes_32_bytes_a_byte(rt: HostRuntime) -> Result<(), Fail> {
     suffice(alloc, &large_messages(alloc)?)
 }
 
-/// The message that version 1 read of the kind sfq and its options, of which it kept a header.
-fn of_version_1(heap: &LocalHeap) -> Result<TcMessage<&LocalHeap>, AllocError> {
-    let list = Vec::with_capacity(heap, 1)?;
-    let list = pushed(list, other(heap, &(0x8002, &[1, 2, 3, 4])))?;
-    let message = with(TcMessage::default_in(heap), kind(heap, "sfq"))?;
-    with(message, Ok(TcAttribute::Options(list)))
+/// How many bytes less a message holds once it is upgraded, if it was made.
+fn freed(heap: &LocalHeap, made: Result<TcMessage<&LocalHeap>, AllocError>) -> Option<usize> {
+    let before = heap.used();
+    match made {
+        Ok(message) => {
+            let _message = message.upgrade();
+            Some(before.saturating_sub(heap.used()))
+        }
+        Err(_) => None,
+    }
 }
 
 // The list of options is freed, and their bytes are moved.
 #[test]
 fn an_upgrade_frees_the_list(rt: HostRuntime) -> Result<(), Fail> {
     let heap = LocalHeap::new(rt.alloc(), 65536)?;
-    let message = of_version_1(&heap)?;
-    let before = heap.used();
-    let message = message.upgrade();
-    assert!(rt; before.saturating_sub(heap.used()) == options(1));
-    drop(message);
+    assert!(rt; freed(&heap, made_by_hand(&heap, &SFQ)) == Some(options(1)));
     assert!(rt; heap.used() == 0);
     Ok(())
 }

@@ -1,108 +1,111 @@
 //! What holds of untrusted input.
 
-use crate::calls::emitted;
+use crate::calls::{
+    Message, emitted, fault_of, is_canonical, is_cloned, is_settled, reads_back, settle,
+};
+use crate::rewriting::{becomes, cause_of, is_fault, is_outcome, rewritten};
 use std::alloc::Global;
-use std::test::Fail;
-use tc_wire::{DecodeError, RewriteError, TcActionMessage, TcMessage, WholeMessage};
+use tc_wire::{DecodeError, ParseableBytes, RewriteError, TcActionMessage, TcMessage};
 use tests_messages::{Form, Input};
 
 /// What is wrong with what a call returned, if anything is.
 pub(crate) type Complaint = Option<&'static str>;
 
 /// What is wrong with how a message is refused, or read and written.
-pub(crate) fn judge(alloc: Global, input: &Input) -> Result<Complaint, Fail> {
+pub(crate) fn judge(alloc: Global, input: &Input) -> Complaint {
     match input.form {
-        Form::Tc => judge_as::<TcMessage>(alloc, &input.bytes),
-        Form::Action => judge_as::<TcActionMessage>(alloc, &input.bytes),
+        Form::Tc => judge_tc(alloc, &input.bytes),
+        Form::Action => judge_action(alloc, &input.bytes),
     }
 }
 
-fn judge_as<M: WholeMessage<Global> + PartialEq + Clone + Drop>(
-    alloc: Global,
-    bytes: &[u8],
-) -> Result<Complaint, Fail> {
-    match M::parse(alloc, bytes) {
-        Ok(message) => judge_accepted(alloc, bytes, &message),
-        Err(DecodeError::OutOfMemory) => Ok(Some("parsing ran out of memory")),
-        Err(fault) => Ok(judge_refused::<M>(alloc, bytes, RewriteError::Decode(fault))),
+fn judge_tc(alloc: Global, bytes: &[u8]) -> Complaint {
+    match &TcMessage::parse(alloc, bytes) {
+        Ok(message) => judge_read(alloc, Form::Tc, bytes, Message::Tc(message)),
+        Err(fault) => judge_fault(alloc, Form::Tc, bytes, fault),
     }
 }
 
-// Bytes that aren't rewritten nor settled for this cause, and so aren't canonical.
-fn judge_refused<M: WholeMessage<Global>>(
-    alloc: Global,
-    bytes: &[u8],
-    cause: RewriteError,
-) -> Complaint {
-    let cause = Some(cause);
-    if M::rewrite(alloc, bytes).err() != cause {
-        Some("rewriting has another cause")
-    } else if M::settle(alloc, bytes).err() != cause {
-        Some("settling has another cause")
-    } else if M::is_canonical(bytes) {
+fn judge_action(alloc: Global, bytes: &[u8]) -> Complaint {
+    match &TcActionMessage::parse(alloc, bytes) {
+        Ok(message) => judge_read(alloc, Form::Action, bytes, Message::Action(message)),
+        Err(fault) => judge_fault(alloc, Form::Action, bytes, fault),
+    }
+}
+
+// Bytes that are refused aren't rewritten nor settled for the same fault, and so aren't canonical.
+fn judge_fault(alloc: Global, form: Form, bytes: &[u8], fault: &DecodeError) -> Complaint {
+    if *fault == DecodeError::OutOfMemory {
+        Some("parsing ran out of memory")
+    } else if !is_fault(&cause_of(alloc, form, bytes), fault) {
+        Some("rewriting or settling has another cause")
+    } else {
+        judge_refused(form, bytes)
+    }
+}
+
+fn judge_refused(form: Form, bytes: &[u8]) -> Complaint {
+    if is_canonical(form, bytes) {
         Some("canonical bytes are refused")
     } else {
         None
     }
 }
 
-fn judge_accepted<M: WholeMessage<Global> + PartialEq + Clone + Drop>(
-    alloc: Global,
-    bytes: &[u8],
-    message: &M,
-) -> Result<Complaint, Fail> {
-    if message.clone()? != *message {
-        return Ok(Some("a clone differs"));
+fn judge_read(alloc: Global, form: Form, bytes: &[u8], message: Message<'_>) -> Complaint {
+    if !matches!(is_cloned(message), Ok(true)) {
+        return Some("a clone differs");
     }
-    match emitted(alloc, message)? {
-        Some(emitted) => match judge_written(alloc, bytes, message, &emitted)? {
-            None => judge_settled::<M>(alloc, bytes),
-            complaint => Ok(complaint),
-        },
-        None => Ok(judge_refused::<M>(alloc, bytes, RewriteError::DoesNotFit)),
+    match &emitted(alloc, message) {
+        Ok(Some(emitted)) => {
+            if reads_back(alloc, message, emitted) != is_settled(message) {
+                Some("settled isn't what reads back")
+            } else {
+                judge_written(alloc, form, bytes, emitted)
+            }
+        }
+        Ok(None) => judge_unwritable(alloc, form, bytes),
+        Err(_) => Some("emitting ran out of memory"),
     }
 }
 
-// The emitted bytes are the input exactly when that is canonical, and are parsed as the message exactly when it is settled.
-fn judge_written<M: WholeMessage<Global> + PartialEq + Drop>(
-    alloc: Global,
-    bytes: &[u8],
-    message: &M,
-    emitted: &[u8],
-) -> Result<Complaint, Fail> {
-    if (emitted == bytes) != M::is_canonical(bytes) {
-        return Ok(Some("canonical isn't emitted unchanged"));
+// A message that doesn't fit isn't rewritten nor settled for that.
+fn judge_unwritable(alloc: Global, form: Form, bytes: &[u8]) -> Complaint {
+    if cause_of(alloc, form, bytes) != Some(RewriteError::DoesNotFit) {
+        Some("rewriting or settling fits")
+    } else {
+        judge_refused(form, bytes)
     }
-    if M::rewrite(alloc, bytes)?.as_slice() != emitted {
-        return Ok(Some("rewriting isn't reading and writing"));
+}
+
+// The emitted bytes are the input exactly when that is canonical, and they are what rewriting returns.
+fn judge_written(alloc: Global, form: Form, bytes: &[u8], emitted: &[u8]) -> Complaint {
+    if (emitted == bytes) != is_canonical(form, bytes) {
+        Some("canonical isn't emitted unchanged")
+    } else if !becomes(alloc, form, bytes, emitted) {
+        Some("rewriting isn't reading and writing")
+    } else if fault_of(alloc, form, emitted) == Some(DecodeError::OutOfMemory) {
+        Some("parsing again ran out of memory")
+    } else {
+        judge_settled(alloc, form, bytes)
     }
-    let reads_back = match M::parse(alloc, emitted) {
-        Ok(again) => again == *message,
-        Err(DecodeError::OutOfMemory) => return Ok(Some("parsing again ran out of memory")),
-        Err(_) => false,
-    };
-    if reads_back != message.is_settled() {
-        return Ok(Some("settled isn't what reads back"));
-    }
-    Ok(None)
 }
 
 // As many rewrites as are counted, and no fewer, lead to canonical bytes, which are what settling returns.
-fn judge_settled<M: WholeMessage<Global>>(alloc: Global, bytes: &[u8]) -> Result<Complaint, Fail> {
-    let (settled, rewrites) = M::settle(alloc, bytes)?;
-    let mut last = bytes.to_vec(alloc)?;
-    for _ in 0..rewrites {
-        if M::is_canonical(&last) {
-            return Ok(Some("fewer rewrites would do"));
+fn judge_settled(alloc: Global, form: Form, bytes: &[u8]) -> Complaint {
+    match &settle(alloc, form, bytes) {
+        Ok((settled, count)) => {
+            if is_outcome(
+                &rewritten(alloc, form, bytes, *count),
+                form,
+                settled,
+                *count,
+            ) {
+                None
+            } else {
+                Some("settling isn't rewriting to the end")
+            }
         }
-        last = M::rewrite(alloc, &last)?;
+        Err(_) => Some("settling has a cause"),
     }
-    if !M::is_canonical(&last) {
-        return Ok(Some("settling ends too early"));
-    }
-    Ok(if settled == last {
-        None
-    } else {
-        Some("settling isn't rewriting to the end")
-    })
 }

@@ -1,31 +1,11 @@
 //! Memory that is refused: whichever request it is, the call fails with out of memory; and calls that make no request.
 
+use crate::calls::{is_canonical, rewrite, settle};
 use failing_alloc::Failing;
-use std::alloc::{Allocator, Global};
+use std::alloc::{AllocError, Global};
 use std::test::Fail;
-use tc_wire::{DecodeError, Emitable, RewriteError, TcActionMessage, TcMessage, WholeMessage};
+use tc_wire::{DecodeError, Emitable, ParseableBytes, RewriteError, TcActionMessage, TcMessage};
 use tests_messages::{Expected, Form, Row, made};
-
-/// What rewriting or settling returns: the bytes, and after how many rewrites.
-type Settled<A> = Result<(Vec<u8, A>, usize), RewriteError>;
-
-/// What both return of a message with memory enough.
-#[derive(Drop)]
-struct Wanted {
-    rewritten: Settled<Global>,
-    settled: Settled<Global>,
-}
-
-fn rewritten<A: Allocator, M: WholeMessage<A>>(alloc: A, bytes: &[u8]) -> Settled<A> {
-    Ok((M::rewrite(alloc, bytes)?, 1))
-}
-
-fn make_wanted<M: WholeMessage<Global>>(alloc: Global, bytes: &[u8]) -> Wanted {
-    Wanted {
-        rewritten: rewritten::<Global, M>(alloc, bytes),
-        settled: M::settle(alloc, bytes),
-    }
-}
 
 /// What is wrong with what a call returned.
 #[derive(Clone, Copy, Debug)]
@@ -49,30 +29,61 @@ enum Wrong {
 /// Whether a call was given all its memory, or what is wrong with what it returned.
 type Ended = Result<bool, Wrong>;
 
-// A call that was refused memory has to fail with that, and any other to return what it does with memory enough.
-fn is_done(
-    failing: &Failing<Global>,
-    answer: Settled<&Failing<Global>>,
-    wanted: &Settled<Global>,
-) -> Ended {
+// A call that failed with out of memory has to have been refused a request.
+fn is_refused(failing: &Failing<Global>) -> Ended {
     if failing.has_refused() {
-        return if answer.err() == Some(RewriteError::OutOfMemory) {
-            Ok(false)
-        } else {
-            Err(Wrong::Memory)
-        };
+        Ok(false)
+    } else {
+        Err(Wrong::Memory)
     }
-    let is_same = match (answer, wanted) {
-        (Ok((bytes, rewrites)), Ok((wanted, wanted_rewrites))) => {
-            bytes.as_slice() == wanted.as_slice() && rewrites == *wanted_rewrites
-        }
-        (Err(cause), Err(wanted)) => cause == *wanted,
-        _ => false,
-    };
-    if is_same {
+}
+
+// A call that returned something else mustn't have been, and has to return what it does with memory enough, or it has this wrong.
+fn is_done(failing: &Failing<Global>, is_right: bool, wrong: Wrong) -> Ended {
+    if failing.has_refused() {
+        Err(Wrong::Memory)
+    } else if is_right {
         Ok(true)
     } else {
-        Err(Wrong::Answer)
+        Err(wrong)
+    }
+}
+
+// Whether the message of a row is rewritten as it is with memory enough.
+fn is_rewritten(
+    failing: &Failing<Global>,
+    row: &Row,
+    wanted: &Result<Vec<u8>, RewriteError>,
+) -> Ended {
+    match (&rewrite(failing, row.input.form, &row.input.bytes), wanted) {
+        (Err(RewriteError::OutOfMemory), _) => is_refused(failing),
+        (Err(cause), Err(wanted)) => is_done(failing, *cause == *wanted, Wrong::Answer),
+        (Ok(bytes), Ok(wanted)) => {
+            is_done(
+                failing,
+                bytes.as_slice() == wanted.as_slice(),
+                Wrong::Answer,
+            )
+        }
+        _ => Err(Wrong::Answer),
+    }
+}
+
+// Whether the message of a row is settled as it is with memory enough.
+fn is_settled(
+    failing: &Failing<Global>,
+    row: &Row,
+    wanted: &Result<(Vec<u8>, usize), RewriteError>,
+) -> Ended {
+    match (&settle(failing, row.input.form, &row.input.bytes), wanted) {
+        (Err(RewriteError::OutOfMemory), _) => is_refused(failing),
+        (Err(cause), Err(wanted)) => is_done(failing, *cause == *wanted, Wrong::Answer),
+        (Ok((bytes, rewrites)), Ok((wanted, wanted_rewrites))) => is_done(
+            failing,
+            bytes.as_slice() == wanted.as_slice() && *rewrites == *wanted_rewrites,
+            Wrong::Answer,
+        ),
+        _ => Err(Wrong::Answer),
     }
 }
 
@@ -86,13 +97,10 @@ fn is_emitted<M: Emitable>(message: &M, emitted: &[u8]) -> bool {
     &page[..emitted.len()] == emitted
 }
 
-// What is wrong with a message that was read, if anything is.
-fn judge_read<'f, M: WholeMessage<&'f Failing<Global>> + PartialEq>(
-    row: &Row,
-    message: &M,
-) -> Option<Wrong> {
+// Whether a message that was read is as its row has it, or what is wrong with it.
+fn judge_read<M: Emitable + PartialEq>(row: &Row, message: &M, is_settled: bool) -> Ended {
     match &row.expected {
-        Expected::Refused(_) => Some(Wrong::Fault),
+        Expected::Refused(_) => Err(Wrong::Fault),
         Expected::Accepted {
             fits,
             settled,
@@ -100,126 +108,118 @@ fn judge_read<'f, M: WholeMessage<&'f Failing<Global>> + PartialEq>(
             emitted,
         } => {
             if message.fits() != *fits {
-                Some(Wrong::Fits)
-            } else if message.is_settled() != *settled {
-                Some(Wrong::Settled)
-            } else if M::is_canonical(&row.input.bytes) != *canonical {
-                Some(Wrong::Canonical)
+                Err(Wrong::Fits)
+            } else if is_settled != *settled {
+                Err(Wrong::Settled)
+            } else if is_canonical(row.input.form, &row.input.bytes) != *canonical {
+                Err(Wrong::Canonical)
             } else if !is_emitted(message, emitted) {
-                Some(Wrong::Emitted)
+                Err(Wrong::Emitted)
             } else if *message != *message {
-                Some(Wrong::Equality)
+                Err(Wrong::Equality)
             } else {
-                None
+                Ok(true)
             }
         }
     }
 }
 
-// What is wrong with a message that was read, while the next request would be refused: none is made.
-fn judge_expected<'f, M: WholeMessage<&'f Failing<Global>> + PartialEq>(
-    failing: &'f Failing<Global>,
-    row: &Row,
-    message: &M,
-) -> Option<Wrong> {
-    failing.refuse(1);
-    match judge_read(row, message) {
-        None if failing.has_refused() => Some(Wrong::Memory),
-        wrong => wrong,
+// Whether a message is cloned with all its memory, and equals the clone.
+fn is_cloned<M: PartialEq + Clone + Drop>(failing: &Failing<Global>, message: &M) -> Ended {
+    let copy: Result<M, AllocError> = message.clone();
+    match &copy {
+        Ok(copy) => is_done(failing, *copy == *message, Wrong::Equality),
+        Err(_) => is_refused(failing),
     }
 }
 
-// What is wrong with a clone, if anything is: it fails where a request is refused, and otherwise equals the message.
-fn judge_copy<'f, M: WholeMessage<&'f Failing<Global>> + PartialEq + Clone + Drop>(
-    failing: &'f Failing<Global>,
-    message: &M,
-) -> Option<Wrong> {
+// Whether a message is cloned once each request was refused in turn.
+fn judge_clone<M: PartialEq + Clone + Drop>(failing: &Failing<Global>, message: &M) -> Ended {
     for at in 1..1000u64 {
         failing.refuse(at);
-        match message.clone() {
-            Ok(copy) => {
-                return if failing.has_refused() {
-                    Some(Wrong::Memory)
-                } else if copy != *message {
-                    Some(Wrong::Equality)
-                } else {
-                    None
-                };
-            }
-            Err(_) => {
-                if !failing.has_refused() {
-                    return Some(Wrong::Memory);
-                }
-            }
+        if is_cloned(failing, message)? {
+            return Ok(true);
         }
     }
-    Some(Wrong::Requests)
+    Err(Wrong::Requests)
 }
 
-// What is wrong with a fault other than out of memory, if anything is.
-fn judge_fault(failing: &Failing<Global>, row: &Row, fault: &DecodeError) -> Option<Wrong> {
-    match &row.expected {
-        Expected::Refused(name) if fault.name() == name.as_str() && !failing.has_refused() => None,
-        _ => Some(Wrong::Fault),
-    }
-}
-
-// Whether a message was read with all its memory, and as it has to be.
-fn is_read<'f, M: WholeMessage<&'f Failing<Global>> + PartialEq + Clone + Drop>(
-    failing: &'f Failing<Global>,
+// Whether a message was read with all its memory, and as it has to be, without a request since.
+fn judge<M: Emitable + PartialEq + Clone + Drop>(
+    failing: &Failing<Global>,
     row: &Row,
+    message: &M,
+    is_settled: bool,
 ) -> Ended {
-    let wrong = match M::parse(failing, &row.input.bytes) {
-        Ok(message) => {
-            if failing.has_refused() {
-                return Err(Wrong::Memory);
-            }
-            match judge_expected(failing, row, &message) {
-                None => judge_copy(failing, &message),
-                wrong => wrong,
-            }
+    judge_read(row, message, is_settled)?;
+    is_done(failing, true, Wrong::Memory)?;
+    judge_clone(failing, message)
+}
+
+// Whether a message has to be refused for this fault.
+fn judge_fault(failing: &Failing<Global>, row: &Row, fault: &DecodeError) -> Ended {
+    match (fault, &row.expected) {
+        (DecodeError::OutOfMemory, _) => is_refused(failing),
+        (_, Expected::Refused(name)) => {
+            is_done(failing, fault.name() == name.as_str(), Wrong::Fault)
         }
-        Err(DecodeError::OutOfMemory) => {
-            return if failing.has_refused() {
-                Ok(false)
-            } else {
-                Err(Wrong::Memory)
-            };
-        }
-        Err(fault) => judge_fault(failing, row, &fault),
-    };
-    match wrong {
-        None => Ok(true),
-        Some(wrong) => Err(wrong),
+        _ => Err(Wrong::Fault),
     }
+}
+
+// Whether a call was given all its memory; from here on the next request would be refused.
+fn has_ended(failing: &Failing<Global>) -> bool {
+    let has_ended = !failing.has_refused();
+    failing.refuse(1);
+    has_ended
+}
+
+fn is_tc_read(failing: &Failing<Global>, row: &Row) -> Ended {
+    match &TcMessage::parse(failing, &row.input.bytes) {
+        Ok(message) if has_ended(failing) => judge(failing, row, message, message.is_settled()),
+        Ok(_) => Err(Wrong::Memory),
+        Err(fault) => judge_fault(failing, row, fault),
+    }
+}
+
+fn is_action_read(failing: &Failing<Global>, row: &Row) -> Ended {
+    match &TcActionMessage::parse(failing, &row.input.bytes) {
+        Ok(message) if has_ended(failing) => judge(failing, row, message, message.is_settled()),
+        Ok(_) => Err(Wrong::Memory),
+        Err(fault) => judge_fault(failing, row, fault),
+    }
+}
+
+// Whether the message of a row is read as it has to be.
+fn is_read(failing: &Failing<Global>, row: &Row) -> Ended {
+    match row.input.form {
+        Form::Tc => is_tc_read(failing, row),
+        Form::Action => is_action_read(failing, row),
+    }
+}
+
+/// What rewriting and settling return of a message with memory enough.
+#[derive(Drop)]
+struct Wanted {
+    rewritten: Result<Vec<u8>, RewriteError>,
+    settled: Result<(Vec<u8>, usize), RewriteError>,
 }
 
 // Whether the three calls are done where the request of this number is refused in each.
-fn are_done<'f, M: WholeMessage<&'f Failing<Global>> + PartialEq + Clone + Drop>(
-    failing: &'f Failing<Global>,
-    at: u64,
-    row: &Row,
-    wanted: &Wanted,
-) -> Ended {
-    let bytes = row.input.bytes.as_slice();
+fn are_done(failing: &Failing<Global>, at: u64, row: &Row, wanted: &Wanted) -> Ended {
     failing.refuse(at);
-    let is_read = is_read::<M>(failing, row)?;
+    let is_read = is_read(failing, row)?;
     failing.refuse(at);
-    let rewritten = rewritten::<&'f Failing<Global>, M>(failing, bytes);
-    let is_rewritten = is_done(failing, rewritten, &wanted.rewritten)?;
+    let is_rewritten = is_rewritten(failing, row, &wanted.rewritten)?;
     failing.refuse(at);
-    let is_settled = is_done(failing, M::settle(failing, bytes), &wanted.settled)?;
+    let is_settled = is_settled(failing, row, &wanted.settled)?;
     Ok(is_read && is_rewritten && is_settled)
 }
 
 // How many requests were refused, one after the other, until none was.
-fn refusals<'f, M: WholeMessage<&'f Failing<Global>> + PartialEq + Clone + Drop>(
-    failing: &'f Failing<Global>,
-    row: &Row,
-    wanted: &Wanted,
-) -> Result<u64, Wrong> {
+fn refusals(failing: &Failing<Global>, row: &Row, wanted: &Wanted) -> Result<u64, Wrong> {
     for at in 1..1000u64 {
-        if are_done::<M>(failing, at, row, wanted)? {
+        if are_done(failing, at, row, wanted)? {
             return Ok(at - 1);
         }
     }
@@ -228,17 +228,11 @@ fn refusals<'f, M: WholeMessage<&'f Failing<Global>> + PartialEq + Clone + Drop>
 
 // How many requests of the message of a row were refused.
 fn refusals_of(alloc: Global, row: &Row) -> Result<u64, Wrong> {
-    let failing = Failing::new(alloc, 0);
-    match row.input.form {
-        Form::Tc => {
-            let wanted = make_wanted::<TcMessage>(alloc, &row.input.bytes);
-            refusals::<TcMessage<&Failing<Global>>>(&failing, row, &wanted)
-        }
-        Form::Action => {
-            let wanted = make_wanted::<TcActionMessage>(alloc, &row.input.bytes);
-            refusals::<TcActionMessage<&Failing<Global>>>(&failing, row, &wanted)
-        }
-    }
+    let wanted = Wanted {
+        rewritten: rewrite(alloc, row.input.form, &row.input.bytes),
+        settled: settle(alloc, row.input.form, &row.input.bytes),
+    };
+    refusals(&Failing::new(alloc, 0), row, &wanted)
 }
 
 #[test]

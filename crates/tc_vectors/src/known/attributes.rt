@@ -1,7 +1,8 @@
 //! The attributes of a message, type by type.
 
-use crate::calls::read_attribute;
-use crate::tables::{bytes_of, cells, rows};
+use crate::calls::is_read_attribute;
+use crate::row_kinds::{Says, are_right};
+use crate::tables::{bytes_of, cells};
 use std::alloc::Global;
 use std::test::Fail;
 
@@ -27,36 +28,31 @@ static STATISTICS: &str = r#"
  | 2c000300 0102030405060708 090a0b0c 0d0e0f10 11121314 15161718 191a1b1c 1d1e1f20 21222324 00000000 | Stats(TcStats { bytes: 578437695752307201, packets: 202050057, drops: 269422093, overlimits: 336794129, bps: 404166165, pps: 471538201, qlen: 538910237, backlog: 606282273 })
 "#;
 
-/// True if a row's frame is read as its attribute, and that is written as the frame.
-fn is_known(alloc: Global, row: &str) -> Result<bool, Fail> {
-    let Some((kind, frame, text)) = cells(row) else {
-        return Ok(false);
-    };
-    let frame = bytes_of(alloc, frame)?;
-    Ok(read_attribute(alloc, kind, &frame)?.is(text, &frame))
-}
-
-/// Checks each row, and fails at the first that is read or written otherwise.
-fn are_known(alloc: Global, table: &str) -> Result<(), Fail> {
-    for row in rows(table) {
-        if !is_known(alloc, row)? {
-            return Err(Fail::new(row));
-        }
+/// True if a row's frame is read as its attribute, which is settled, and that is written as the frame.
+pub(crate) fn is_attribute(alloc: Global, row: &str) -> bool {
+    match cells(row) {
+        Some((kind, frame, text)) => match bytes_of(alloc, &[], frame) {
+            Ok(bytes) => matches!(
+                is_read_attribute(alloc, kind, &bytes, text, frame),
+                Ok(true)
+            ),
+            Err(_) => false,
+        },
+        None => false,
     }
-    Ok(())
 }
 
 #[test]
 fn of_a_message(rt: HostRuntime) -> Result<(), Fail> {
-    are_known(rt.alloc(), ATTRIBUTES)?;
-    are_known(rt.alloc(), STATISTICS)
+    are_right(rt.alloc(), Says::Attribute, ATTRIBUTES)?;
+    are_right(rt.alloc(), Says::Attribute, STATISTICS)
 }
 
 // NLA_F_NESTED and NLA_F_NET_BYTEORDER are ignored where the type is in the table.
 #[test]
 fn flags_of_a_word(rt: HostRuntime) -> Result<(), Fail> {
     let frame = [8, 0, 11, 0xc0, 0xb4, 0xb3, 0xb2, 0xb1];
-    let written = [8, 0, 11, 0, 0xb4, 0xb3, 0xb2, 0xb1];
-    assert!(rt; read_attribute(rt.alloc(), "", &frame)?.is("Chain(2981278644)", &written));
+    let text = "Chain(2981278644)";
+    assert!(rt; is_read_attribute(rt.alloc(), "", &frame, text, "08000b00 b4b3b2b1")?);
     Ok(())
 }

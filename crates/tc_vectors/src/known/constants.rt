@@ -68,26 +68,36 @@ fn handles(rt: HostRuntime) {
     assert!(rt; TcHeader::TCM_IFINDEX_MAGIC_BLOCK == 0xffff_ffff);
 }
 
+static KINDS: [(&str, &str); 9] = [
+    (TcQdiscFqCodel::KIND, "fq_codel"),
+    (TcQdiscIngress::KIND, "ingress"),
+    (TcFilterFlower::KIND, "flower"),
+    (TcFilterU32::KIND, "u32"),
+    (TcFilterMatchAll::KIND, "matchall"),
+    (TcFilterBpf::KIND, "bpf"),
+    (TcActionMirror::KIND, "mirred"),
+    (TcActionNat::KIND, "nat"),
+    (TcActionTunnelKey::KIND, "tunnel_key"),
+];
+
 #[test]
 fn kinds(rt: HostRuntime) {
-    assert!(rt; TcQdiscFqCodel::KIND == "fq_codel");
-    assert!(rt; TcQdiscIngress::KIND == "ingress");
-    assert!(rt; TcFilterFlower::KIND == "flower");
-    assert!(rt; TcFilterU32::KIND == "u32");
-    assert!(rt; TcFilterMatchAll::KIND == "matchall");
-    assert!(rt; TcFilterBpf::KIND == "bpf");
+    for (kind, name) in &KINDS {
+        assert!(rt; *kind == *name, "{name}");
+    }
     assert!(rt; TcFilterBpf::BPF_TAG_SIZE == 8);
-    assert!(rt; TcActionMirror::KIND == "mirred");
-    assert!(rt; TcActionNat::KIND == "nat");
-    assert!(rt; TcActionTunnelKey::KIND == "tunnel_key");
 }
+
+static KNOWN: [&str; 6] = ["fq_codel", "ingress", "flower", "u32", "matchall", "bpf"];
+
+static UNKNOWN: [&str; 7] = ["", "sfq", "U32", "u32\0", "bp", "bpfs", "nat"];
 
 #[test]
 fn known_kinds(rt: HostRuntime) {
-    for kind in ["fq_codel", "ingress", "flower", "u32", "matchall", "bpf"] {
+    for kind in &KNOWN {
         assert!(rt; is_known_kind(kind), "{kind}");
     }
-    for kind in ["", "sfq", "U32", "u32\0", "bp", "bpfs", "nat"] {
+    for kind in &UNKNOWN {
         assert!(rt; !is_known_kind(kind), "{kind}");
     }
 }

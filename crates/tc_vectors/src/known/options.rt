@@ -1,9 +1,11 @@
 //! The options of a message, type by type, by themselves and in the variant of their kind.
 
-use crate::calls::{is_option_settled, read_option};
+use crate::calls::{is_option_settled, is_read_option};
 use crate::flower;
-use crate::tables::{are_known, bytes_of, cells, is_shown, or_same, pair, rows};
-use std::alloc::{AllocError, Global};
+use crate::row_kinds::{Says, are_right};
+use crate::tables::{are_known, bytes_of, cells, is_shown, or_same};
+use nla_frames::Res;
+use std::alloc::Global;
 use std::test::Fail;
 use tc_options::{
     TcFilterBpfOption, TcFilterMatchAllOption, TcFilterU32Option, TcQdiscFqCodelOption,
@@ -114,14 +116,14 @@ flower | 08000400 01020304 | WrongLength { expected: 6, got: 4 }
 "#;
 
 /// The kinds that are known, and their variants.
-static KINDS: &str = r#"
-fq_codel | FqCodel
-ingress | Ingress
-flower | Flower
-u32 | U32
-matchall | MatchAll
-bpf | Bpf
-"#;
+static KINDS: [(&str, &str); 6] = [
+    ("fq_codel", "FqCodel"),
+    ("ingress", "Ingress"),
+    ("flower", "Flower"),
+    ("u32", "U32"),
+    ("matchall", "MatchAll"),
+    ("bpf", "Bpf"),
+];
 
 #[test]
 fn by_themselves(rt: HostRuntime) -> Result<(), Fail> {
@@ -133,96 +135,104 @@ fn by_themselves(rt: HostRuntime) -> Result<(), Fail> {
     are_known::<TcFilterBpfOption>(alloc, BPF)
 }
 
-/// The text of an option in the variant of its kind.
-fn in_variant(alloc: Global, variant: &str, text: &str) -> Result<String, AllocError> {
-    format!(in alloc; "{variant}({text})")
-}
-
-/// True if a frame is read under a kind as an option of its variant and of this text, which is written as it has to be.
-fn is_known(alloc: Global, kind: &str, variant: &str, row: &str) -> Result<bool, Fail> {
-    let Some((frame, text, written)) = cells(row) else {
-        return Ok(false);
-    };
-    let text = in_variant(alloc, variant, text)?;
-    let written = bytes_of(alloc, or_same(frame, written))?;
-    Ok(read_option(alloc, kind, &bytes_of(alloc, frame)?)?.is(&text, &written))
-}
-
-/// Checks each row of a kind's table, and fails at the first that is read or written otherwise.
-fn are_known_under(alloc: Global, kind: &str, variant: &str, table: &str) -> Result<(), Fail> {
-    for row in rows(table) {
-        if !is_known(alloc, kind, variant, row)? {
-            return Err(Fail::new(format_args!("{kind}: {row}")));
-        }
+// True if a frame is read under a kind as an option of its variant and of this text, which is settled and written as it has to be.
+fn is_in_variant(
+    alloc: Global,
+    kind: &str,
+    variant: &str,
+    frame: &[u8],
+    cells: (&str, &str),
+) -> bool {
+    let (text, written) = cells;
+    match format!(in alloc; "{variant}({text})") {
+        Ok(text) => matches!(is_read_option(alloc, kind, frame, &text, written), Ok(true)),
+        Err(_) => false,
     }
-    Ok(())
+}
+
+/// True if the frame of a row of a kind's table is read as the row has it, in the variant of this name.
+pub(crate) fn is_option(alloc: Global, kind: &str, variant: &str, row: &str) -> bool {
+    match cells(row) {
+        Some((frame, text, written)) => match bytes_of(alloc, &[], frame) {
+            Ok(bytes) => {
+                is_in_variant(
+                    alloc,
+                    kind,
+                    variant,
+                    &bytes,
+                    (text, or_same(frame, written)),
+                )
+            }
+            Err(_) => false,
+        },
+        None => false,
+    }
 }
 
 #[test]
 fn under_their_kind(rt: HostRuntime) -> Result<(), Fail> {
     let alloc = rt.alloc();
-    are_known_under(alloc, "fq_codel", "FqCodel", &FQ_CODEL)?;
-    are_known_under(alloc, "ingress", "Ingress", &INGRESS)?;
-    are_known_under(alloc, "flower", "Flower", flower::EACH)?;
-    are_known_under(alloc, "u32", "U32", &U32)?;
-    are_known_under(alloc, "matchall", "MatchAll", &MATCHALL)?;
-    are_known_under(alloc, "bpf", "Bpf", &BPF)
+    are_right(alloc, Says::Option("fq_codel", "FqCodel"), FQ_CODEL)?;
+    are_right(alloc, Says::Option("ingress", "Ingress"), INGRESS)?;
+    are_right(alloc, Says::Option("flower", "Flower"), flower::EACH)?;
+    are_right(alloc, Says::Option("u32", "U32"), U32)?;
+    are_right(alloc, Says::Option("matchall", "MatchAll"), MATCHALL)?;
+    are_right(alloc, Says::Option("bpf", "Bpf"), BPF)
 }
 
-/// An option of a type that no table has, and how it is kept.
-static UNKNOWN: [u8; 8] = [5, 0, 0xff, 0x40, 7, 0, 0, 0];
+/// An option of a type that no table has, in hex and in bytes, and how it is kept.
+static UNKNOWN: &str = "0500ff40 07000000";
+
+static UNKNOWN_BYTES: [u8; 8] = [5, 0, 0xff, 0x40, 7, 0, 0, 0];
 
 static KEPT: &str = "Other(DefaultNla { word: 16639, value: [7] })";
 
-/// True if such an option, read under a kind, is settled under that kind alone.
-fn is_settled_under_alone(alloc: Global, kind: &str) -> Result<bool, Fail> {
-    for row in rows(KINDS) {
-        let (other, _) = pair(row).ok_or("a row of two cells")?;
-        if is_option_settled(alloc, kind, &UNKNOWN, other)? != (other == kind) {
-            return Ok(false);
-        }
+// True if such an option, read under a kind, is settled under another as it has to be.
+fn is_settled_under(alloc: Global, kind: &str, other: &str, is_settled: bool) -> bool {
+    match is_option_settled(alloc, kind, &UNKNOWN_BYTES, other) {
+        Ok(found) => found == is_settled,
+        Err(_) => false,
     }
-    Ok(
-        !is_option_settled(alloc, kind, &UNKNOWN, "sfq")?
-            && !is_option_settled(alloc, kind, &UNKNOWN, "")?,
-    )
 }
 
-/// True if such an option is kept under a kind, in its variant, and settled under that kind alone.
-fn is_kept(alloc: Global, row: &str) -> Result<bool, Fail> {
-    let (kind, variant) = pair(row).ok_or("a row of two cells")?;
-    let text = in_variant(alloc, variant, KEPT)?;
-    let read = read_option(alloc, kind, &UNKNOWN)?;
-    Ok(read.is(&text, &UNKNOWN) && read.is_settled && is_settled_under_alone(alloc, kind)?)
+// True if such an option, read under a kind, is settled under no other.
+fn is_settled_under_alone(alloc: Global, kind: &str) -> bool {
+    for (other, _) in &KINDS {
+        if !is_settled_under(alloc, kind, other, *other == kind) {
+            return false;
+        }
+    }
+    is_settled_under(alloc, kind, "sfq", false) && is_settled_under(alloc, kind, "", false)
 }
 
 #[test]
-fn settled_under_their_kind_alone(rt: HostRuntime) -> Result<(), Fail> {
-    for row in rows(KINDS) {
-        if !is_kept(rt.alloc(), row)? {
-            return Err(Fail::new(row));
-        }
+fn settled_under_their_kind_alone(rt: HostRuntime) {
+    let (alloc, kept) = (rt.alloc(), (KEPT, UNKNOWN));
+    for (kind, variant) in &KINDS {
+        assert!(rt;
+            is_in_variant(alloc, kind, variant, &UNKNOWN_BYTES, kept),
+            "{kind}"
+        );
+        assert!(rt; is_settled_under_alone(alloc, kind), "{kind}");
     }
-    Ok(())
 }
 
-/// True if a frame is refused under a kind with this fault.
-fn is_refused(alloc: Global, row: &str) -> Result<bool, Fail> {
-    let Some((kind, frame, fault)) = cells(row) else {
-        return Ok(false);
-    };
-    match read_option(alloc, kind, &bytes_of(alloc, frame)?).err() {
-        None => Ok(false),
-        Some(found) => Ok(is_shown(alloc, &found, fault)?),
+fn fault_of(alloc: Global, kind: &str, frame: &str) -> Res<bool> {
+    is_read_option(alloc, kind, &bytes_of(alloc, &[], frame)?, "", "")
+}
+
+/// True if the frame of a row is refused under its kind with its fault.
+pub(crate) fn is_refused_option(alloc: Global, row: &str) -> bool {
+    match cells(row) {
+        Some((kind, frame, text)) => match &fault_of(alloc, kind, frame) {
+            Err(fault) => is_shown(alloc, fault, text),
+            Ok(_) => false,
+        },
+        None => false,
     }
 }
 
 #[test]
 fn refused(rt: HostRuntime) -> Result<(), Fail> {
-    for row in rows(FAULTS) {
-        if !is_refused(rt.alloc(), row)? {
-            return Err(Fail::new(row));
-        }
-    }
-    Ok(())
+    are_right(rt.alloc(), Says::RefusedOption, FAULTS)
 }
