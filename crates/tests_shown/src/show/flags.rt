@@ -1,43 +1,7 @@
-//! The options of outlines, and the flags of netlink headers in words.
+//! The flags of netlink headers in words.
 
 use crate::show::runs::{all_in, writes};
-use std::alloc::Global;
-use tcshow_lib::arguments::{Colours, request_of};
 use tcshow_lib::asked::Form;
-
-// Words, and the colours that they ask for; none where they aren't taken.
-static COLOURS: [(&[&str], Option<Colours>); 5] = [
-    (&["tcshow"], Some(Colours::Auto)),
-    (&["tcshow", "--color", "auto"], Some(Colours::Auto)),
-    (&["tcshow", "--color", "always"], Some(Colours::Always)),
-    (&["tcshow", "--color", "never"], Some(Colours::Never)),
-    (&["tcshow", "--color", "on"], None),
-];
-
-fn colours_of(alloc: Global, words: &[&str]) -> Option<Colours> {
-    match request_of(alloc, words) {
-        Ok(request) => Some(request.colours),
-        Err(_) => None,
-    }
-}
-
-// True if words ask for paddings.
-fn asks_for_all(alloc: Global, words: &[&str]) -> bool {
-    match request_of(alloc, words) {
-        Ok(request) => request.all,
-        Err(_) => false,
-    }
-}
-
-#[test]
-fn options(rt: HostRuntime) {
-    let alloc = rt.alloc();
-    for (words, colours) in &COLOURS {
-        assert!(rt; colours_of(alloc, words) == *colours, "{words:?}");
-    }
-    assert!(rt; asks_for_all(alloc, &["tcshow", "--all"]));
-    assert!(rt; !asks_for_all(alloc, &["tcshow"]));
-}
 
 // In hex, netlink headers of `linux/netlink.h` with empty messages: RTM_NEWQDISC with all flags but NLM_F_REPLACE and of the sequence number 1,
 // of the port 258; RTM_GETTFILTER of a dump; RTM_DELQDISC of flags 0x8125; RTM_DELACTION with the flags of a flush.
