@@ -4,7 +4,7 @@ use crate::captures::reading::{End, end_of, fault_of, holds, is_fault};
 use std::alloc::{AllocError, Global};
 use std::test::Fail;
 use tc_capture::CaptureError;
-use tests_captures::{Format, beginning, file_of, messages};
+use tests_captures::{Format, beginning, put_packet};
 
 // True if reading a file fails with `Short`: it needs more bytes.
 fn is_short(file: &[u8], needed: usize) -> bool {
@@ -87,11 +87,15 @@ static CHANGES: [(usize, u8, usize, CaptureError); 4] = [
     (8, 0, 0, CaptureError::NoByteOrder),
 ];
 
+// A message of 20 bytes.
+#[rattlefmt::skip]
+static GOOD: [u8; 20] = [20, 0, 0, 0, 36, 0, 0, 6, 7, 0, 0, 0, 0, 0, 0, 0, 1, 2, 3, 4];
+
 // A file of one message.
-fn file_of_one(alloc: Global) -> Result<Vec<u8>, Fail> {
-    let mut all = messages(alloc)?;
-    all.truncate(1);
-    Ok(file_of(alloc, Format::Blocks, false, &all)?)
+fn file_of_one(alloc: Global) -> Result<Vec<u8>, AllocError> {
+    let mut file = beginning(alloc, Format::Blocks, false)?;
+    put_packet(&mut file, Format::Blocks, false, &GOOD, 0)?;
+    Ok(file)
 }
 
 // True if no packet is read of a file whose byte at a place is another, and reading ends at a place with a fault.

@@ -161,7 +161,10 @@ pub(crate) fn holds(bytes: &[u8], kinds: &[(u16, u32)], fault: Option<CaptureErr
 /// The fault that is at the front of a file.
 pub(crate) fn fault_of(file: &[u8]) -> Option<CaptureError> {
     match Capture::of_first(file) {
-        Some(mut capture) => capture.next(file).err(),
+        Some(mut capture) => match capture.next(file) {
+            Ok(_) => None,
+            Err(fault) => Some(fault),
+        },
         None => Some(CaptureError::NotPcap),
     }
 }

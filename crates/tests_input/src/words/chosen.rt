@@ -1,12 +1,11 @@
 //! Messages that Linux sent and `tc` wrote, chosen by what is in them.
 
 use std::alloc::Global;
-use std::test::Fail;
 use tc_capture::{Holds, Time};
 use tc_chosen::{Chosen, Message, Types};
 
 // A filter of u32 of the chain 0, with an action.
-const U32: &str =
+static U32: &str =
     "00000000070000000008d0800000010008000e00080001007533320008000b0000000000100102002400050001000100000000000000000000000000ffffffff\
 010203070c00000000000000080002000000d08008000b0008000000b8000700b40001000b0001006d6972726564000050000400040006001400010000000000\
 00000000000000000000000004000600140007000000000000000000000000000000000004000600180003000000000000000000000000000000000000000000\
@@ -14,7 +13,7 @@ const U32: &str =
 000000000000000000000000000000000000000004000c001c000900000000000000000000000000000000000000000000000000";
 
 // A filter of flower, with an action.
-const FLOWER: &str =
+static FLOWER: &str =
     "000000000300000001000000f2ffffff080000c00b000100666c6f776572000008000b0000000000e8000200060008000800000008000c000103030708000d00\
 ffffffff08001600080000000800560000000000bc000300b80001000b0001006d69727265640000040005005000040004000600140001000000000000000000\
 00000000000000000400060014000700000000000000000000000000000000000400060018000300000000000000000000000000000000000000000008000a00\
@@ -22,133 +21,152 @@ ffffffff08001600080000000800560000000000bc000300b80001000b0001006d69727265640000
 00000000000000000000000000000000";
 
 // An action, and a chain with a template of flower.
-const ACTION: &str =
+static ACTION: &str =
     "00000000bc000100b80001000b0001006d6972726564000044000400140001000000000000000000000000000000000014000700000000000000000000000000\
 000000001800030000000000000000000000000000000000000000000600060000ff00000c000900000000000300000008000a00000000004800020020000200\
 0700000000000000ffffffff01000000000000000400000002000000240001001d000000000000001d0000000000000000000000000000000000000000000000";
 
-const CHAIN: &str =
+static CHAIN: &str =
     "0000000007000000000000000000ffff0000000008000b00070000000b000100666c6f7765720000240002000a00040000000000000000000a000500ffffffff\
 ffff00000600080000000000";
 
 // A qdisc.
-const QDISC: &str =
+static QDISC: &str =
     "000000000400000000000100ffffffff000000000a000100626669666f00000008000200b80b0000";
 
-// The bytes of a message, at a time and of a type.
-fn takes(
-    alloc: Global,
-    chosen: &Chosen<'_>,
-    rtm: Option<u16>,
-    holds: Holds,
-    hex: &str,
-) -> Result<bool, Fail> {
-    let payload = hex::decode(alloc, hex)?;
-    let message = Message {
-        time: Some(Time {
-            seconds: 1_764_028_801,
-            nanoseconds: 250_000_000,
-        }),
-        rtm,
-        holds,
-        payload: &payload,
-    };
-    Ok(chosen.takes(&message))
+// A message that is chosen or not.
+#[derive(Clone, Copy)]
+enum Sent {
+    U32,
+    Flower,
+    Action,
+    Chain,
+    Qdisc,
+    // One byte.
+    Cut,
 }
 
-fn of_kinds<'a>(kinds: &'a [&'a str]) -> Chosen<'a> {
-    Chosen {
-        kinds,
-        types: &[],
-        interfaces: &[],
-        handles: &[],
-        parents: &[],
-        chains: &[],
-        priorities: &[],
-        since: None,
-        until: None,
-        refused: false,
+fn digits_of(sent: Sent) -> &'static str {
+    match sent {
+        Sent::U32 => U32,
+        Sent::Flower => FLOWER,
+        Sent::Action => ACTION,
+        Sent::Chain => CHAIN,
+        Sent::Qdisc => QDISC,
+        Sent::Cut => "00",
     }
 }
 
+fn form_of(sent: Sent) -> Holds {
+    match sent {
+        Sent::Action => Holds::Action,
+        _ => Holds::Tc,
+    }
+}
+
+// The time of each message, and one a nanosecond later.
+const AT: Time = Time {
+    seconds: 1_764_028_801,
+    nanoseconds: 250_000_000,
+};
+
+const LATER: Time = Time {
+    seconds: 1_764_028_801,
+    nanoseconds: 250_000_001,
+};
+
+// What chooses, a message, its type, and whether it is taken.
+type Row = (Chosen<'static>, Sent, Option<u16>, bool);
+
+fn is_taken(alloc: Global, row: &Row) -> Option<bool> {
+    let (chosen, sent, rtm, _) = row;
+    match hex::decode(alloc, digits_of(*sent)) {
+        Ok(payload) => Some(chosen.takes(&Message {
+            time: Some(AT),
+            rtm: *rtm,
+            holds: form_of(*sent),
+            payload: &payload,
+        })),
+        Err(_) => None,
+    }
+}
+
+// How many rows are as they say, up to the first that isn't.
+fn count_of(alloc: Global, rows: &[Row]) -> usize {
+    let mut count = 0usize;
+    for row in rows {
+        if is_taken(alloc, row) != Some(row.3) {
+            return count;
+        }
+        count = count.wrapping_add(1);
+    }
+    count
+}
+
+#[rattlefmt::skip]
+static KINDS: [Row; 10] = [
+    (Chosen { kinds: &["mirred"], ..Chosen::ALL }, Sent::U32, Some(44), true),
+    (Chosen { kinds: &["mirred"], ..Chosen::ALL }, Sent::Flower, Some(44), true),
+    (Chosen { kinds: &["mirred"], ..Chosen::ALL }, Sent::Action, Some(48), true),
+    (Chosen { kinds: &["mirred"], ..Chosen::ALL }, Sent::Chain, Some(100), false),
+    (Chosen { kinds: &["mirred"], ..Chosen::ALL }, Sent::Qdisc, Some(36), false),
+    (Chosen { kinds: &["bfifo", "flower"], ..Chosen::ALL }, Sent::Flower, Some(44), true),
+    (Chosen { kinds: &["bfifo", "flower"], ..Chosen::ALL }, Sent::Chain, Some(100), true),
+    (Chosen { kinds: &["bfifo", "flower"], ..Chosen::ALL }, Sent::Qdisc, Some(36), true),
+    (Chosen { kinds: &["bfifo", "flower"], ..Chosen::ALL }, Sent::U32, Some(44), false),
+    (Chosen { kinds: &["bfifo", "flower"], ..Chosen::ALL }, Sent::Cut, Some(44), false),
+];
+
 #[test]
-fn kinds(rt: HostRuntime) -> Result<(), Fail> {
-    let mirred = of_kinds(&["mirred"]);
-    assert!(rt; takes(rt.alloc(), &mirred, Some(44), Holds::Tc, U32)?);
-    assert!(rt; takes(rt.alloc(), &mirred, Some(44), Holds::Tc, FLOWER)?);
-    assert!(rt; takes(rt.alloc(), &mirred, Some(48), Holds::Action, ACTION)?);
-    assert!(rt; !takes(rt.alloc(), &mirred, Some(100), Holds::Tc, CHAIN)?);
-    assert!(rt; !takes(rt.alloc(), &mirred, Some(36), Holds::Tc, QDISC)?);
-    let two = of_kinds(&["bfifo", "flower"]);
-    assert!(rt; takes(rt.alloc(), &two, Some(44), Holds::Tc, FLOWER)?);
-    assert!(rt; takes(rt.alloc(), &two, Some(100), Holds::Tc, CHAIN)?);
-    assert!(rt; takes(rt.alloc(), &two, Some(36), Holds::Tc, QDISC)?);
-    assert!(rt; !takes(rt.alloc(), &two, Some(44), Holds::Tc, U32)?);
-    assert!(rt; !takes(rt.alloc(), &two, Some(44), Holds::Tc, "00")?);
-    Ok(())
+fn kinds(rt: HostRuntime) {
+    let count = count_of(rt.alloc(), &KINDS);
+    assert!(rt; count == KINDS.len(), "{count}");
+}
+
+#[rattlefmt::skip]
+static PLACES: [Row; 13] = [
+    (Chosen { handles: &[0x8008_d000], ..Chosen::ALL }, Sent::Flower, Some(44), false),
+    (Chosen { handles: &[0x8008_d000], ..Chosen::ALL }, Sent::Action, Some(48), false),
+    (Chosen { handles: &[2, 0x80d0_0800], ..Chosen::ALL }, Sent::U32, Some(44), true),
+    (Chosen { parents: &[0xffff_fff2], ..Chosen::ALL }, Sent::Flower, Some(44), true),
+    (Chosen { parents: &[0xffff_fff2], priorities: &[49152], ..Chosen::ALL }, Sent::Flower, Some(44), true),
+    (Chosen { parents: &[0xffff_fff2], priorities: &[49152], ..Chosen::ALL }, Sent::Flower, None, true),
+    (Chosen { parents: &[0xffff_fff2], priorities: &[49152], ..Chosen::ALL }, Sent::Flower, Some(36), false),
+    (Chosen { parents: &[0xffff_fff2], priorities: &[49152], interfaces: &[3], ..Chosen::ALL }, Sent::Flower, Some(44), true),
+    (Chosen { parents: &[0xffff_fff2], priorities: &[49152], interfaces: &[4], ..Chosen::ALL }, Sent::Flower, Some(44), false),
+    (Chosen { chains: &[7], ..Chosen::ALL }, Sent::Chain, Some(100), true),
+    (Chosen { chains: &[7], ..Chosen::ALL }, Sent::Flower, Some(44), false),
+    (Chosen { chains: &[0], ..Chosen::ALL }, Sent::Flower, Some(44), true),
+    (Chosen { chains: &[0], ..Chosen::ALL }, Sent::Qdisc, Some(36), false),
+];
+
+#[test]
+fn places(rt: HostRuntime) {
+    let count = count_of(rt.alloc(), &PLACES);
+    assert!(rt; count == PLACES.len(), "{count}");
+}
+
+#[rattlefmt::skip]
+static TYPES_AND_TIMES: [Row; 6] = [
+    (Chosen { types: &[Types { first: 36, last: 38 }, Types { first: 44, last: 44 }], ..Chosen::ALL }, Sent::Flower, Some(44), true),
+    (Chosen { types: &[Types { first: 36, last: 38 }, Types { first: 44, last: 44 }], ..Chosen::ALL }, Sent::Qdisc, Some(37), true),
+    (Chosen { types: &[Types { first: 36, last: 38 }, Types { first: 44, last: 44 }], ..Chosen::ALL }, Sent::Flower, Some(45), false),
+    (Chosen { types: &[Types { first: 36, last: 38 }, Types { first: 44, last: 44 }], ..Chosen::ALL }, Sent::Flower, None, false),
+    (Chosen { since: Some(AT), until: Some(AT), ..Chosen::ALL }, Sent::Flower, None, true),
+    (Chosen { since: Some(LATER), until: Some(AT), ..Chosen::ALL }, Sent::Flower, None, false),
+];
+
+#[test]
+fn types_and_times(rt: HostRuntime) {
+    let count = count_of(rt.alloc(), &TYPES_AND_TIMES);
+    assert!(rt; count == TYPES_AND_TIMES.len(), "{count}");
 }
 
 #[test]
-fn places(rt: HostRuntime) -> Result<(), Fail> {
+fn verdicts(rt: HostRuntime) {
     let mut chosen = Chosen::ALL;
-    chosen.handles = &[0x8008_d000];
-    assert!(rt; !takes(rt.alloc(), &chosen, Some(44), Holds::Tc, FLOWER)?);
-    assert!(rt; !takes(rt.alloc(), &chosen, Some(48), Holds::Action, ACTION)?);
-    chosen.handles = &[2, 0x80d0_0800];
-    assert!(rt; takes(rt.alloc(), &chosen, Some(44), Holds::Tc, U32)?);
-    chosen.handles = &[];
-    chosen.parents = &[0xffff_fff2];
-    assert!(rt; takes(rt.alloc(), &chosen, Some(44), Holds::Tc, FLOWER)?);
-    chosen.priorities = &[49152];
-    assert!(rt; takes(rt.alloc(), &chosen, Some(44), Holds::Tc, FLOWER)?);
-    assert!(rt; takes(rt.alloc(), &chosen, None, Holds::Tc, FLOWER)?);
-    assert!(rt; !takes(rt.alloc(), &chosen, Some(36), Holds::Tc, FLOWER)?);
-    chosen.interfaces = &[3];
-    assert!(rt; takes(rt.alloc(), &chosen, Some(44), Holds::Tc, FLOWER)?);
-    chosen.interfaces = &[4];
-    assert!(rt; !takes(rt.alloc(), &chosen, Some(44), Holds::Tc, FLOWER)?);
-    let mut chains = Chosen::ALL;
-    chains.chains = &[7];
-    assert!(rt; takes(rt.alloc(), &chains, Some(100), Holds::Tc, CHAIN)?);
-    assert!(rt; !takes(rt.alloc(), &chains, Some(44), Holds::Tc, FLOWER)?);
-    chains.chains = &[0];
-    assert!(rt; takes(rt.alloc(), &chains, Some(44), Holds::Tc, FLOWER)?);
-    assert!(rt; !takes(rt.alloc(), &chains, Some(36), Holds::Tc, QDISC)?);
-    Ok(())
-}
-
-#[test]
-fn types_and_times(rt: HostRuntime) -> Result<(), Fail> {
-    let mut chosen = Chosen::ALL;
-    chosen.types = &[
-        Types {
-            first: 36,
-            last: 38,
-        },
-        Types {
-            first: 44,
-            last: 44,
-        },
-    ];
-    assert!(rt; takes(rt.alloc(), &chosen, Some(44), Holds::Tc, FLOWER)?);
-    assert!(rt; takes(rt.alloc(), &chosen, Some(37), Holds::Tc, QDISC)?);
-    assert!(rt; !takes(rt.alloc(), &chosen, Some(45), Holds::Tc, FLOWER)?);
-    assert!(rt; !takes(rt.alloc(), &chosen, None, Holds::Tc, FLOWER)?);
-    let mut span = Chosen::ALL;
-    span.since = Some(Time {
-        seconds: 1_764_028_801,
-        nanoseconds: 250_000_000,
-    });
-    span.until = span.since;
-    assert!(rt; takes(rt.alloc(), &span, None, Holds::Tc, FLOWER)?);
-    span.since = Some(Time {
-        seconds: 1_764_028_801,
-        nanoseconds: 250_000_001,
-    });
-    assert!(rt; !takes(rt.alloc(), &span, None, Holds::Tc, FLOWER)?);
-    assert!(rt; span.takes_verdict(false));
-    span.refused = true;
-    assert!(rt; !span.takes_verdict(false));
-    assert!(rt; span.takes_verdict(true));
-    Ok(())
+    assert!(rt; chosen.takes_verdict(false));
+    chosen.refused = true;
+    assert!(rt; !chosen.takes_verdict(false));
+    assert!(rt; chosen.takes_verdict(true));
 }

@@ -1,11 +1,19 @@
 //! Hex as it is pasted: the same netlink message as xxd, tcpdump 4.99 and tshark 4.0 print it, and plain.
 
 use std::alloc::Global;
-use std::test::Fail;
 use tc_words::{dump_line, push_hex};
 
 const PLAIN: &str = "380000002400050681f12469000000000000000004000000\
 0000ffffffffffff000000000a000100626669666f00000008000200b80b0000";
+
+// Its bytes.
+#[rattlefmt::skip]
+static BYTES: [u8; 56] = [
+    0x38, 0x00, 0x00, 0x00, 0x24, 0x00, 0x05, 0x06, 0x81, 0xf1, 0x24, 0x69, 0x00, 0x00, 0x00, 0x00,
+    0x00, 0x00, 0x00, 0x00, 0x04, 0x00, 0x00, 0x00, 0x00, 0x00, 0xff, 0xff, 0xff, 0xff, 0xff, 0xff,
+    0x00, 0x00, 0x00, 0x00, 0x0a, 0x00, 0x01, 0x00, 0x62, 0x66, 0x69, 0x66, 0x6f, 0x00, 0x00, 0x00,
+    0x08, 0x00, 0x02, 0x00, 0xb8, 0x0b, 0x00, 0x00,
+];
 
 // xxd
 const XXD: &str = "00000000: 3800 0000 2400 0506 81f1 2469 0000 0000  8...$.....$i....
@@ -38,72 +46,89 @@ const TSHARK: &str = "0000  38 00 00 00 24 00 05 06 81 f1 24 69 00 00 00 00   8.
 0020  00 00 00 00 0a 00 01 00 62 66 69 66 6f 00 00 00   ........bfifo...\r
 0030  08 00 02 00 b8 0b 00 00                           ........\r";
 
-// The bytes of a dump, each line of which is at its offset.
-fn bytes_of(alloc: Global, dump: &str) -> Result<Option<Vec<u8>>, Fail> {
-    let mut bytes = Vec::new(alloc);
+// Appends the bytes of a line of a dump; false where it isn't one, at their offset.
+fn push_line(bytes: &mut Vec<u8>, line: &str) -> bool {
+    match dump_line(line.as_bytes()) {
+        Some(line) => line.offset == bytes.len() as u64
+            && matches!(push_hex(bytes, line.columns), Ok(true)),
+        None => false,
+    }
+}
+
+fn push_dump(bytes: &mut Vec<u8>, dump: &str) -> bool {
     for line in dump.split('\n') {
-        let Some(line) = dump_line(line.as_bytes()) else {
-            return Ok(None);
-        };
-        if line.offset != bytes.len() as u64 || !push_hex(&mut bytes, line.columns)? {
-            return Ok(None);
+        if !push_line(bytes, line) {
+            return false;
         }
     }
-    Ok(Some(bytes))
+    true
 }
 
-// The bytes of plain hex.
-fn plain(alloc: Global, text: &str) -> Result<Option<Vec<u8>>, Fail> {
+// True if a dump, each line of which is at its offset, is of these bytes.
+fn is_dump(alloc: Global, dump: &str, want: &[u8]) -> bool {
     let mut bytes = Vec::new(alloc);
-    if push_hex(&mut bytes, text.as_bytes())? {
-        Ok(Some(bytes))
-    } else {
-        Ok(None)
+    push_dump(&mut bytes, dump) && bytes.as_slice() == want
+}
+
+// True if a text is plain hex of these bytes.
+fn is_plain(alloc: Global, text: &str, want: &[u8]) -> bool {
+    let mut bytes = Vec::new(alloc);
+    matches!(push_hex(&mut bytes, text.as_bytes()), Ok(true)) && bytes.as_slice() == want
+}
+
+// True if a text isn't hex.
+fn is_no_hex(alloc: Global, text: &str) -> bool {
+    let mut bytes = Vec::new(alloc);
+    matches!(push_hex(&mut bytes, text.as_bytes()), Ok(false))
+}
+
+static DUMPS: [&str; 5] = [XXD, XXD_SINGLE, TCPDUMP, TCPDUMP_TEXT, TSHARK];
+
+#[test]
+fn dumps(rt: HostRuntime) {
+    assert!(rt; is_plain(rt.alloc(), PLAIN, &BYTES));
+    for dump in &DUMPS {
+        assert!(rt; is_dump(rt.alloc(), dump, &BYTES), "{dump}");
     }
 }
 
-#[test]
-fn dumps(rt: HostRuntime) -> Result<(), Fail> {
-    let expected = plain(rt.alloc(), PLAIN)?;
-    assert!(rt; expected.is_some());
-    for dump in &[XXD, XXD_SINGLE, TCPDUMP, TCPDUMP_TEXT, TSHARK] {
-        let bytes = bytes_of(rt.alloc(), dump)?;
-        assert!(rt; bytes == expected, "{dump}");
-    }
-    Ok(())
-}
+// Hex as it is pasted, and its bytes.
+static PASTED: [(&str, &[u8]); 7] = [
+    ("", &[]),
+    ("0a01ff", &[0x0a, 0x01, 0xff]),
+    ("0a:01:ff", &[0x0a, 0x01, 0xff]),
+    ("0x0a01FF", &[0x0a, 0x01, 0xff]),
+    ("0x0a 0x01 0xff", &[0x0a, 0x01, 0xff]),
+    (" 0a 01\tff\r", &[0x0a, 0x01, 0xff]),
+    ("0A:0 1:ff", &[0x0a, 0x01, 0xff]),
+];
+
+static NO_HEX: [&str; 5] = ["0a01f", "0a01fg", "x0a", "0a,01", "0x0"];
 
 #[test]
-fn pasted(rt: HostRuntime) -> Result<(), Fail> {
-    let expected = plain(rt.alloc(), "0a01ff")?;
-    for text in &[
-        "0a:01:ff",
-        "0x0a01FF",
-        "0x0a 0x01 0xff",
-        " 0a 01\tff\r",
-        "0A:0 1:ff",
-    ] {
-        assert!(rt; plain(rt.alloc(), text)? == expected, "{text}");
+fn pasted(rt: HostRuntime) {
+    for (text, bytes) in &PASTED {
+        assert!(rt; is_plain(rt.alloc(), text, bytes), "{text}");
         assert!(rt; dump_line(text.as_bytes()).is_none(), "{text}");
     }
-    for text in &["0a01f", "0a01fg", "x0a", "0a,01", "0x0"] {
-        assert!(rt; plain(rt.alloc(), text)?.is_none(), "{text}");
+    for text in &NO_HEX {
+        assert!(rt; is_no_hex(rt.alloc(), text), "{text}");
     }
-    assert!(rt; plain(rt.alloc(), "")?.is_some());
-    Ok(())
 }
+
+static NO_OFFSETS: [&str; 7] = [
+    "",
+    "000: 00",
+    "0000:00",
+    "0000 00",
+    "000g: 00",
+    "10000000000000000: 00",
+    PLAIN,
+];
 
 #[test]
 fn no_offsets(rt: HostRuntime) {
-    for line in &[
-        "",
-        "000: 00",
-        "0000:00",
-        "0000 00",
-        "000g: 00",
-        "10000000000000000: 00",
-        PLAIN,
-    ] {
+    for line in &NO_OFFSETS {
         assert!(rt; dump_line(line.as_bytes()).is_none(), "{line}");
     }
 }

@@ -1,9 +1,8 @@
 //! Times, as Python's `datetime` writes them.
 
-use tc_capture::Time;
 use tc_words::time_of_word;
 
-const DATES: [(&str, u64); 24] = [
+static DATES: [(&str, u64); 24] = [
     ("1970-01-01T00:00:00Z", 0),
     ("2000-02-29T00:00:00Z", 951782400),
     ("2000-03-01T00:00:00Z", 951868800),
@@ -30,69 +29,69 @@ const DATES: [(&str, u64); 24] = [
     ("5270-01-03T16:09:12Z", 104138237352),
 ];
 
-fn time(seconds: u64, nanoseconds: u32) -> Option<Time> {
-    Some(Time {
-        seconds,
-        nanoseconds,
-    })
+// Texts, the seconds and the nanoseconds.
+static TIMES: [(&str, u64, u32); 5] = [
+    ("2026-11-26T14:00:00.25Z", 1_795_701_600, 250_000_000),
+    ("1764028801.25", 1_764_028_801, 250_000_000),
+    ("0", 0, 0),
+    ("7.000000001", 7, 1),
+    ("18446744073709551615.999999999", u64::MAX, 999_999_999),
+];
+
+// True if this is the time of a text.
+fn is_time(text: &str, seconds: u64, nanoseconds: u32) -> bool {
+    match time_of_word(text) {
+        Some(time) => time.seconds == seconds && time.nanoseconds == nanoseconds,
+        None => false,
+    }
 }
 
 #[test]
 fn dates(rt: HostRuntime) {
     for (text, seconds) in &DATES {
-        assert_eq!(rt; time_of_word(text), time(*seconds, 0), "{text}");
+        assert!(rt; is_time(text, *seconds, 0), "{text}");
     }
-    assert_eq!(rt;
-        time_of_word("2026-11-26T14:00:00.25Z"),
-        time(1_795_701_600, 250_000_000)
-    );
 }
 
 #[test]
-fn seconds(rt: HostRuntime) {
-    assert_eq!(rt;
-        time_of_word("1764028801.25"),
-        time(1_764_028_801, 250_000_000)
-    );
-    assert_eq!(rt; time_of_word("0"), time(0, 0));
-    assert_eq!(rt; time_of_word("7.000000001"), time(7, 1));
-    assert_eq!(rt;
-        time_of_word("18446744073709551615.999999999"),
-        time(u64::MAX, 999_999_999)
-    );
+fn fractions(rt: HostRuntime) {
+    for (text, seconds, nanoseconds) in &TIMES {
+        assert!(rt; is_time(text, *seconds, *nanoseconds), "{text}");
+    }
 }
+
+static NO_TIMES: [&str; 26] = [
+    "",
+    ".",
+    "1.",
+    ".5",
+    "+1",
+    "-1",
+    "1.0000000001",
+    "18446744073709551616",
+    "1e3",
+    "yesterday",
+    "2026-11-26",
+    "2026-11-26T14:00:00",
+    "2026-11-26T14:00:00z",
+    "2026-11-26 14:00:00Z",
+    "2026-11-26T14:00:00.Z",
+    "2026-11-26T24:00:00Z",
+    "2026-11-26T14:60:00Z",
+    "2026-11-26T14:00:60Z",
+    "2026-13-26T14:00:00Z",
+    "2026-00-26T14:00:00Z",
+    "2026-11-31T14:00:00Z",
+    "2026-11-00T14:00:00Z",
+    "2025-02-29T14:00:00Z",
+    "2100-02-29T14:00:00Z",
+    "1969-12-31T23:59:59Z",
+    "2026-11-26T14:00:00+00:00",
+];
 
 #[test]
 fn no_times(rt: HostRuntime) {
-    let words = [
-        "",
-        ".",
-        "1.",
-        ".5",
-        "+1",
-        "-1",
-        "1.0000000001",
-        "18446744073709551616",
-        "1e3",
-        "yesterday",
-        "2026-11-26",
-        "2026-11-26T14:00:00",
-        "2026-11-26T14:00:00z",
-        "2026-11-26 14:00:00Z",
-        "2026-11-26T14:00:00.Z",
-        "2026-11-26T24:00:00Z",
-        "2026-11-26T14:60:00Z",
-        "2026-11-26T14:00:60Z",
-        "2026-13-26T14:00:00Z",
-        "2026-00-26T14:00:00Z",
-        "2026-11-31T14:00:00Z",
-        "2026-11-00T14:00:00Z",
-        "2025-02-29T14:00:00Z",
-        "2100-02-29T14:00:00Z",
-        "1969-12-31T23:59:59Z",
-        "2026-11-26T14:00:00+00:00",
-    ];
-    for word in &words {
-        assert_eq!(rt; time_of_word(word), None, "{word}");
+    for text in &NO_TIMES {
+        assert!(rt; time_of_word(text).is_none(), "{text}");
     }
 }

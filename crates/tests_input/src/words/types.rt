@@ -1,48 +1,50 @@
 //! Message types.
 
 use tc_capture::rtm_of;
-use tc_chosen::Types;
 use tc_words::types_of_word;
 
-fn one(number: u16) -> Option<Types> {
-    Some(Types {
-        first: number,
-        last: number,
-    })
+// True if a word stands for these types.
+fn is_types(word: &str, first: u16, last: u16) -> bool {
+    match types_of_word(word) {
+        Some(types) => types.first == first && types.last == last,
+        None => false,
+    }
 }
 
 #[test]
 fn each_name(rt: HostRuntime) {
     for number in 0..200 {
         if let Some(rtm) = rtm_of(number) {
-            assert_eq!(rt; types_of_word(rtm.name), one(number));
+            assert!(rt; is_types(rtm.name, number, number), "{number}");
         }
     }
 }
 
+static TYPES: [(&str, u16, u16); 5] = [
+    ("newtclass", 40, 40),
+    ("getchain", 102, 102),
+    ("44", 44, 44),
+    ("65535", 65535, 65535),
+    ("tclass", 40, 42),
+];
+
+static NO_TYPES: [&str; 8] = [
+    "",
+    "65536",
+    "class",
+    "new",
+    "newclass",
+    "RTM_",
+    "RTM_NEWLINK",
+    "rtm_newqdisc",
+];
+
 #[test]
 fn words(rt: HostRuntime) {
-    assert_eq!(rt; types_of_word("newtclass"), one(40));
-    assert_eq!(rt; types_of_word("getchain"), one(102));
-    assert_eq!(rt; types_of_word("44"), one(44));
-    assert_eq!(rt; types_of_word("65535"), one(65535));
-    assert_eq!(rt;
-        types_of_word("tclass"),
-        Some(Types {
-            first: 40,
-            last: 42
-        })
-    );
-    for word in &[
-        "",
-        "65536",
-        "class",
-        "new",
-        "newclass",
-        "RTM_",
-        "RTM_NEWLINK",
-        "rtm_newqdisc",
-    ] {
-        assert_eq!(rt; types_of_word(word), None, "{word}");
+    for (word, first, last) in &TYPES {
+        assert!(rt; is_types(word, *first, *last), "{word}");
+    }
+    for word in &NO_TYPES {
+        assert!(rt; types_of_word(word).is_none(), "{word}");
     }
 }

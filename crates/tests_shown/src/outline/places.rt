@@ -2,7 +2,6 @@
 
 use std::alloc::Global;
 use std::str;
-use std::test::Fail;
 use tc_columns::{KindColumns, Root};
 use tc_outline::{Fault, Layout, Page, What, locate, outline};
 
@@ -158,22 +157,32 @@ fn is_found(bytes: &[u8], what: What, shown: Option<Fault>) -> bool {
 }
 
 // True if this is the last line of a message that is refused.
-fn is_refused(alloc: Global, what: What, digits: &str, last: &str) -> Result<bool, Fail> {
-    let bytes = hex::decode(alloc, digits.as_bytes())?;
+fn is_refused(alloc: Global, what: What, bytes: &[u8], last: &str) -> bool {
     let mut page = Page::new(alloc, Layout::Lines);
     let columns = KindColumns {
         root: root_of(what),
         interfaces: &[],
         all: false,
     };
-    let fault = outline(alloc, &mut page, &bytes, columns)?;
-    Ok(ends_with(page.bytes(), last) && is_found(&bytes, what, fault))
+    match outline(alloc, &mut page, bytes, columns) {
+        Ok(fault) => ends_with(page.bytes(), last) && is_found(bytes, what, fault),
+        Err(_) => false,
+    }
+}
+
+fn is_refused_in_hex(alloc: Global, what: What, digits: &str, last: &str) -> bool {
+    match hex::decode(alloc, digits) {
+        Ok(bytes) => is_refused(alloc, what, &bytes, last),
+        Err(_) => false,
+    }
 }
 
 #[test]
-fn refused_messages(rt: HostRuntime) -> Result<(), Fail> {
+fn refused_messages(rt: HostRuntime) {
     for (what, digits, last) in &REFUSED {
-        assert!(rt; is_refused(rt.alloc(), *what, digits, last)?, "{last}");
+        assert!(rt;
+            is_refused_in_hex(rt.alloc(), *what, digits, last),
+            "{last}"
+        );
     }
-    Ok(())
 }

@@ -5,29 +5,8 @@ use crate::outline::messages::{
 };
 use std::alloc::Global;
 use std::str;
-use std::test::Fail;
 use tc_columns::{KindColumns, Root};
 use tc_outline::{Layout, Page, outline};
-
-// The text of a message, and whether it is refused.
-fn text_of(
-    alloc: Global,
-    layout: Layout,
-    columns: KindColumns<'_>,
-    digits: &str,
-) -> Result<(String, bool), Fail> {
-    let bytes = hex::decode(alloc, digits.as_bytes())?;
-    let mut page = Page::new(alloc, layout);
-    let is_refused = outline(alloc, &mut page, &bytes, columns)?.is_some();
-    Ok((text_in(alloc, page.bytes())?, is_refused))
-}
-
-fn text_in(alloc: Global, bytes: &[u8]) -> Result<String, Fail> {
-    match str::from_utf8(bytes) {
-        Ok(text) => Ok(text.to_string(alloc)?),
-        Err(_) => Err(Fail::new("a page is text")),
-    }
-}
 
 // Columns without names of interfaces and without paddings.
 fn columns_of(root: Root) -> KindColumns<'static> {
@@ -38,51 +17,87 @@ fn columns_of(root: Root) -> KindColumns<'static> {
     }
 }
 
-// True if a text is these lines.
-fn are_lines(text: &str, lines: &[&str]) -> bool {
-    let mut found = text.split('\n');
-    for line in lines {
-        if found.next() != Some(*line) {
-            return false;
-        }
+// What a message is shown as.
+#[derive(Clone, Copy)]
+enum Want<'a> {
+    Text(&'a str),
+    // So many lines.
+    Count(usize),
+}
+
+fn is(text: &str, want: Want<'_>) -> bool {
+    match want {
+        Want::Text(lines) => text == lines,
+        Want::Count(count) => text.lines().count() == count,
     }
-    found.next().is_none()
+}
+
+// True if a message is shown so, and isn't refused.
+fn is_shown(
+    alloc: Global,
+    layout: Layout,
+    columns: KindColumns<'_>,
+    bytes: &[u8],
+    want: Want<'_>,
+) -> bool {
+    let mut page = Page::new(alloc, layout);
+    match outline(alloc, &mut page, bytes, columns) {
+        Ok(None) => is(str::from_utf8(page.bytes()).unwrap_or(""), want),
+        _ => false,
+    }
+}
+
+fn is_shown_in_hex(
+    alloc: Global,
+    layout: Layout,
+    columns: KindColumns<'_>,
+    digits: &str,
+    want: Want<'_>,
+) -> bool {
+    match hex::decode(alloc, digits) {
+        Ok(bytes) => is_shown(alloc, layout, columns, &bytes, want),
+        Err(_) => false,
+    }
+}
+
+// True if a message is shown as its lines.
+fn is_as_lines(alloc: Global, shown: &Shown) -> bool {
+    is_shown_in_hex(
+        alloc,
+        Layout::Lines,
+        columns_of(shown.root),
+        shown.hex,
+        Want::Text(shown.lines),
+    )
 }
 
 #[test]
-fn lines_of_messages(rt: HostRuntime) -> Result<(), Fail> {
-    let alloc = rt.alloc();
-    let all: [&Shown; 10] = [
-        &FQ_CODEL,
-        &U32,
-        &TWO_ACTIONS,
-        &MPLS,
-        &TUNNEL_KEY,
-        &NAT,
-        &ACTIONS,
-        &UNKNOWN_KIND,
-        &HOSTILE,
-        &CLASS,
-    ];
-    for shown in all {
-        let columns = columns_of(shown.root);
-        let (text, is_refused) = text_of(alloc, Layout::Lines, columns, shown.hex)?;
-        assert!(rt; are_lines(&text, shown.lines) && !is_refused, "{text}");
-    }
-    Ok(())
+fn qdiscs_and_filters(rt: HostRuntime) {
+    assert!(rt; is_as_lines(rt.alloc(), &FQ_CODEL));
+    assert!(rt; is_as_lines(rt.alloc(), &U32));
+    assert!(rt; is_as_lines(rt.alloc(), &TWO_ACTIONS));
+    assert!(rt; is_as_lines(rt.alloc(), &MPLS));
+    assert!(rt; is_as_lines(rt.alloc(), &TUNNEL_KEY));
 }
 
 #[test]
-fn on_one_line(rt: HostRuntime) -> Result<(), Fail> {
-    let alloc = rt.alloc();
+fn actions_and_others(rt: HostRuntime) {
+    assert!(rt; is_as_lines(rt.alloc(), &NAT));
+    assert!(rt; is_as_lines(rt.alloc(), &ACTIONS));
+    assert!(rt; is_as_lines(rt.alloc(), &UNKNOWN_KIND));
+    assert!(rt; is_as_lines(rt.alloc(), &HOSTILE));
+    assert!(rt; is_as_lines(rt.alloc(), &CLASS));
+}
+
+#[test]
+fn on_one_line(rt: HostRuntime) {
     let columns = KindColumns {
         root: TWO_ACTIONS.root,
         interfaces: &[(3, "eth0"), (6, "wan \x1b[2J")],
         all: false,
     };
-    let (text, _) = text_of(alloc, Layout::OneLine, columns, TWO_ACTIONS.hex)?;
-    assert_eq!(rt; text.as_str(), ONE_LINE);
-    Ok(())
+    let line = Want::Text(ONE_LINE);
+    assert!(rt; is_shown_in_hex(rt.alloc(), Layout::OneLine, columns, TWO_ACTIONS.hex, line));
 }
 
 // The flower filter with two actions; two interfaces have names.
@@ -93,20 +108,13 @@ bindcnt 0 eaction egress_mirror (2) ifindex 6 (\"wan \\x1b[2J\")}}} action 2 {ki
 action pass refcnt 0 bindcnt 0 old_addr 0.0.0.0 new_addr 4.4.4.4 mask 255.255.255.255 flags ingress (0x0)}} cookie cafe}} flags \
 0x0 eth_type ip (0x0800)}";
 
-// How many lines are shown of the qdisc, with paddings or without.
-fn count_of(alloc: Global, all: bool) -> Result<usize, Fail> {
-    let mut columns = columns_of(FQ_CODEL.root);
-    columns.all = all;
-    let (text, _) = text_of(alloc, Layout::Lines, columns, FQ_CODEL.hex)?;
-    Ok(text.as_str().lines().count())
-}
-
 // Paddings are lines of their own where they are asked for.
 #[test]
-fn with_paddings(rt: HostRuntime) -> Result<(), Fail> {
-    let (all, without) = (count_of(rt.alloc(), true)?, count_of(rt.alloc(), false)?);
-    assert!(rt; all.checked_sub(without) == Some(PADDINGS));
-    Ok(())
+fn with_paddings(rt: HostRuntime) {
+    let mut columns = columns_of(FQ_CODEL.root);
+    columns.all = true;
+    let count = Want::Count(FQ_CODEL.lines.lines().count().wrapping_add(PADDINGS));
+    assert!(rt; is_shown_in_hex(rt.alloc(), Layout::Lines, columns, FQ_CODEL.hex, count));
 }
 
 // Types 9 of the message and types 6 of its statistics.

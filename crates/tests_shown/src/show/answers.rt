@@ -1,7 +1,6 @@
 //! Answers of the kernel to requests.
 
-use crate::show::runs::{all_in, chosen_in, gives};
-use std::test::Fail;
+use crate::show::runs::{Written, all_in, chosen_in, counted_in, gives_of_hex};
 use tc_chosen::Chosen;
 use tcshow_lib::asked::Form;
 
@@ -65,31 +64,19 @@ static JSON: &str =
 "#;
 
 // Refused messages of a kind and an interface.
-fn refused_flower() -> Chosen<'static> {
-    Chosen {
-        kinds: &["flower"],
-        types: &[],
-        interfaces: &[3],
-        handles: &[],
-        parents: &[],
-        chains: &[],
-        priorities: &[],
-        since: None,
-        until: None,
-        refused: true,
-    }
-}
+static REFUSED_FLOWER: Chosen<'static> = Chosen {
+    kinds: &["flower"],
+    interfaces: &[3],
+    refused: true,
+    ..Chosen::ALL
+};
 
 #[test]
-fn answers(rt: HostRuntime) -> Result<(), Fail> {
-    let alloc = rt.alloc();
-    let capture = hex::decode(alloc, ANSWERS)?;
-    let mut asked = all_in(Form::Lines);
-    asked.has_summary = true;
-    assert!(rt; gives(alloc, &asked, &capture, 0, LINES.as_bytes(), ""));
+fn answers(rt: HostRuntime) {
+    let asked = counted_in(Form::Lines);
+    assert!(rt; gives_of_hex(rt.alloc(), &asked, ANSWERS, 0, Written::Is(&[LINES]), ""));
     let asked = all_in(Form::Json);
-    assert!(rt; gives(alloc, &asked, &capture, 0, JSON.as_bytes(), ""));
-    let asked = chosen_in(Form::OneLine, refused_flower());
-    assert!(rt; gives(alloc, &asked, &capture, 0, ONE_LINE.as_bytes(), ""));
-    Ok(())
+    assert!(rt; gives_of_hex(rt.alloc(), &asked, ANSWERS, 0, Written::Is(&[JSON]), ""));
+    let asked = chosen_in(Form::OneLine, REFUSED_FLOWER);
+    assert!(rt; gives_of_hex(rt.alloc(), &asked, ANSWERS, 0, Written::Is(&[ONE_LINE]), ""));
 }

@@ -1,19 +1,67 @@
 //! The arguments.
 
-use clap::Error;
 use std::alloc::Global;
-use std::test::Fail;
 use tc_capture::Holds;
-use tcshow_lib::arguments::{Request, Task, request_of};
+use tcshow_lib::arguments::{Colours, Request, Task, request_of};
 use tcshow_lib::asked::Form;
 
-// True if a request has what stands without words: how messages are shown, and which are.
+// What a request has.
+#[derive(Clone, Copy)]
+enum Part {
+    Task(Task<'static>),
+    Form(Form),
+    File(&'static str),
+    Names(&'static str),
+    WithoutHeader(Holds),
+    Kinds(&'static [&'static str]),
+    Types(&'static [&'static str]),
+    Interfaces(&'static [&'static str]),
+    Handles(&'static [&'static str]),
+    Parents(&'static [&'static str]),
+    Chains(&'static [u32]),
+    Priorities(&'static [u32]),
+    Since(&'static str),
+    Until(&'static str),
+    Refused,
+    Summary,
+    Paddings,
+    Colours(Colours),
+    // What stands without words.
+    Defaults,
+}
+
+fn has(request: &Request<'_>, part: Part) -> bool {
+    match part {
+        Part::Task(task) => request.task == task,
+        Part::Form(form) => request.form == form,
+        Part::File(file) => request.file == Some(file),
+        Part::Names(file) => request.names == Some(file),
+        Part::WithoutHeader(holds) => request.without_header == Some(holds),
+        Part::Kinds(words) => request.kinds.as_slice() == words,
+        Part::Types(words) => request.types.as_slice() == words,
+        Part::Interfaces(words) => request.interfaces.as_slice() == words,
+        Part::Handles(words) => request.handles.as_slice() == words,
+        Part::Parents(words) => request.parents.as_slice() == words,
+        Part::Chains(numbers) => request.chains.as_slice() == numbers,
+        Part::Priorities(numbers) => request.priorities.as_slice() == numbers,
+        Part::Since(word) => request.since == Some(word),
+        Part::Until(word) => request.until == Some(word),
+        Part::Refused => request.refused,
+        Part::Summary => request.has_summary,
+        Part::Paddings => request.all,
+        Part::Colours(colours) => request.colours == colours,
+        Part::Defaults => is_default(request) && chooses_all(request),
+    }
+}
+
 fn is_default(request: &Request<'_>) -> bool {
     request.form == Form::Lines
         && request.file.is_none()
         && request.names.is_none()
         && request.without_header.is_none()
+        && !request.all
         && !request.has_summary
+        && request.colours == Colours::Auto
         && request.task == Task::Show
 }
 
@@ -26,99 +74,110 @@ fn chooses_all(request: &Request<'_>) -> bool {
         && !request.refused
 }
 
-// Each of these says whether words are taken as what they say.
-fn no_words(alloc: Global) -> Result<bool, Error> {
-    let request = request_of(alloc, &["tcshow"])?;
-    Ok(is_default(&request) && chooses_all(&request))
+// Words, and what they say.
+static WORDS: [(&[&str], &[Part]); 13] = [
+    (&["tcshow"], &[Part::Defaults]),
+    (
+        &[
+            "tcshow", "-r", "a", "--json", "--names", "b", "--kind", "u32",
+        ],
+        &[
+            Part::Form(Form::Json),
+            Part::File("a"),
+            Part::Names("b"),
+            Part::Kinds(&["u32"]),
+        ],
+    ),
+    (
+        &[
+            "tcshow",
+            "--oneline",
+            "--type",
+            "RTM_NEWQDISC",
+            "--dev",
+            "7",
+            "--no-header",
+            "tc",
+        ],
+        &[
+            Part::Form(Form::OneLine),
+            Part::Types(&["RTM_NEWQDISC"]),
+            Part::Interfaces(&["7"]),
+            Part::WithoutHeader(Holds::Tc),
+        ],
+    ),
+    (
+        &["tcshow", "--no-header", "action", "--summary"],
+        &[Part::WithoutHeader(Holds::Action), Part::Summary],
+    ),
+    (
+        &["tcshow", "a", "--refused", "--since", "1", "--until", "2"],
+        &[
+            Part::File("a"),
+            Part::Refused,
+            Part::Since("1"),
+            Part::Until("2"),
+        ],
+    ),
+    (
+        &[
+            "tcshow", "--chain", "0", "--chain", "7", "--pref", "49152", "--handle", "1:",
+            "--parent", "2:",
+        ],
+        &[
+            Part::Chains(&[0, 7]),
+            Part::Priorities(&[49152]),
+            Part::Handles(&["1:"]),
+            Part::Parents(&["2:"]),
+        ],
+    ),
+    (&["tcshow", "--schema"], &[Part::Task(Task::Schema)]),
+    (&["tcshow", "--explain"], &[Part::Task(Task::Explain(None))]),
+    (
+        &["tcshow", "--explain", "htb"],
+        &[Part::Task(Task::Explain(Some("htb")))],
+    ),
+    (&["tcshow", "--all"], &[Part::Paddings]),
+    (
+        &["tcshow", "--color", "auto"],
+        &[Part::Colours(Colours::Auto)],
+    ),
+    (
+        &["tcshow", "--color", "always"],
+        &[Part::Colours(Colours::Always)],
+    ),
+    (
+        &["tcshow", "--color", "never"],
+        &[Part::Colours(Colours::Never)],
+    ),
+];
+
+fn has_all(request: &Request<'_>, parts: &[Part]) -> bool {
+    for part in parts {
+        if !has(request, *part) {
+            return false;
+        }
+    }
+    true
 }
 
-fn files_and_kinds(alloc: Global) -> Result<bool, Error> {
-    let words = [
-        "tcshow", "-r", "a", "--json", "--names", "b", "--kind", "u32",
-    ];
-    let request = request_of(alloc, &words)?;
-    Ok(
-        request.form == Form::Json
-            && request.file == Some("a")
-            && request.names == Some("b")
-            && request.kinds.as_slice() == ["u32"].as_slice(),
-    )
-}
-
-fn types_and_interfaces(alloc: Global) -> Result<bool, Error> {
-    let words = [
-        "tcshow",
-        "--oneline",
-        "--type",
-        "RTM_NEWQDISC",
-        "--dev",
-        "7",
-        "--no-header",
-        "tc",
-    ];
-    let request = request_of(alloc, &words)?;
-    Ok(
-        request.form == Form::OneLine
-            && request.types.as_slice() == ["RTM_NEWQDISC"].as_slice()
-            && request.interfaces.as_slice() == ["7"].as_slice()
-            && request.without_header == Some(Holds::Tc),
-    )
-}
-
-fn a_summary(alloc: Global) -> Result<bool, Error> {
-    let words = ["tcshow", "--no-header", "action", "--summary"];
-    let request = request_of(alloc, &words)?;
-    Ok(request.without_header == Some(Holds::Action) && request.has_summary)
-}
-
-fn times(alloc: Global) -> Result<bool, Error> {
-    let words = ["tcshow", "a", "--refused", "--since", "1", "--until", "2"];
-    let request = request_of(alloc, &words)?;
-    Ok(
-        request.file == Some("a")
-            && request.refused
-            && request.since == Some("1")
-            && request.until == Some("2"),
-    )
-}
-
-fn places(alloc: Global) -> Result<bool, Error> {
-    let words = [
-        "tcshow", "--chain", "0", "--chain", "7", "--pref", "49152", "--handle", "1:", "--parent",
-        "2:",
-    ];
-    let request = request_of(alloc, &words)?;
-    Ok(
-        request.chains.as_slice() == [0, 7].as_slice()
-            && request.priorities.as_slice() == [49152].as_slice()
-            && request.handles.as_slice() == ["1:"].as_slice()
-            && request.parents.as_slice() == ["2:"].as_slice(),
-    )
-}
-
-fn asks_for(alloc: Global, words: &[&str], task: Task<'_>) -> Result<bool, Error> {
-    let request = request_of(alloc, words)?;
-    Ok(request.task == task)
+// True if words are taken, and say this.
+fn say(alloc: Global, words: &[&str], parts: &[Part]) -> bool {
+    match request_of(alloc, words) {
+        Ok(request) => has_all(&request, parts),
+        Err(_) => false,
+    }
 }
 
 #[test]
-fn each_option(rt: HostRuntime) -> Result<(), Fail> {
-    let alloc = rt.alloc();
-    assert!(rt; no_words(alloc)?);
-    assert!(rt; files_and_kinds(alloc)?);
-    assert!(rt; types_and_interfaces(alloc)?);
-    assert!(rt; a_summary(alloc)?);
-    assert!(rt; times(alloc)?);
-    assert!(rt; places(alloc)?);
-    assert!(rt; asks_for(alloc, &["tcshow", "--schema"], Task::Schema)?);
-    assert!(rt; asks_for(alloc, &["tcshow", "--explain"], Task::Explain(None))?);
-    let kind = Task::Explain(Some("htb"));
-    assert!(rt; asks_for(alloc, &["tcshow", "--explain", "htb"], kind)?);
-    Ok(())
+fn each_option(rt: HostRuntime) {
+    for (words, parts) in &WORDS {
+        assert!(rt; say(rt.alloc(), words, parts), "{words:?}");
+    }
 }
 
 // Words that aren't taken, and the status.
-static OTHERS: [(&[&str], i32); 8] = [
+static OTHERS: [(&[&str], i32); 9] = [
     (&["tcshow", "--help"], 0),
     (&["tcshow", "--version"], 0),
     (&["tcshow", "a", "b"], 2),
@@ -127,6 +186,7 @@ static OTHERS: [(&[&str], i32); 8] = [
     (&["tcshow", "--schema", "--explain"], 2),
     (&["tcshow", "--json", "--oneline"], 2),
     (&["tcshow", "--no-header", "qdisc"], 2),
+    (&["tcshow", "--color", "on"], 2),
 ];
 
 fn status_of(alloc: Global, words: &[&str]) -> i32 {

@@ -1,13 +1,10 @@
 //! Messages that are chosen.
 
-use crate::show::runs::{chosen_in, gives, shown};
-use std::alloc::{AllocError, Global};
-use std::str;
-use std::test::Fail;
-use tc_chosen::Chosen;
-use tcshow_lib::arguments::request_of;
+use crate::show::runs::{Written, all_in, gives, is_written};
+use std::alloc::Global;
+use tcshow_lib::arguments::{Request, request_of};
 use tcshow_lib::asked::{Asked, Form};
-use tcshow_lib::choice::Choice;
+use tcshow_lib::choice::{Choice, NoChoice};
 use tcshow_lib::kinds::explain;
 use tcshow_lib::names::names_in;
 
@@ -40,25 +37,33 @@ static CAPTURE: &str =
     "d4c3b2a102000400000000000000000000001000fd00000000f1536540e2010050000000500000000004033800000000000000000000000040000000\
 240000060500000000000000000000000200000000000100ffffffff000000000d00010066715f636f64656c000000000c0002000800020000280000";
 
-// How many lines of JSON are shown of an input, and the status; none where the words choose nothing.
-fn run(alloc: Global, words: &[&str], input: &[u8]) -> Result<Option<(usize, u8)>, Fail> {
-    let request = request_of(alloc, words)?;
-    match Choice::of_request(alloc, &request, &[]) {
-        Ok(choice) => Ok(Some(count_of(alloc, choice.chosen(), input))),
-        Err(_) => Ok(None),
+// True if a run by a request over an input, where interfaces have these names, ends with this status and writes this.
+fn gives_by(
+    alloc: Global,
+    request: &Request<'_>,
+    names: &[(u32, &str)],
+    input: &[u8],
+    status: u8,
+    written: Written<'_>,
+) -> bool {
+    match Choice::of_request(alloc, request, names) {
+        Ok(choice) => {
+            let asked = Asked::of_request(request, choice.chosen(), names);
+            gives(alloc, &asked, input, status, written, "")
+        }
+        Err(_) => false,
     }
 }
 
-// The same of what is chosen.
-fn count_of(alloc: Global, chosen: Chosen<'_>, input: &[u8]) -> (usize, u8) {
-    let run = shown(alloc, &chosen_in(Form::Json, chosen), input);
-    let mut lines = 0usize;
-    for byte in &run.written {
-        if *byte == b'\n' {
-            lines = lines.wrapping_add(1);
+// True if so many lines of JSON are shown by these words.
+fn counts(alloc: Global, words: &[&str], input: &[u8], count: usize, status: u8) -> bool {
+    match request_of(alloc, words) {
+        Ok(mut request) => {
+            request.form = Form::Json;
+            gives_by(alloc, &request, &[], input, status, Written::Counts(count))
         }
+        Err(_) => false,
     }
-    (lines, run.status)
 }
 
 // Words, how many lines are shown of the messages, and the status.
@@ -100,14 +105,13 @@ static OPTIONS: [(&[&str], usize, u8); 28] = [
 ];
 
 #[test]
-fn each_option(rt: HostRuntime) -> Result<(), Fail> {
+fn each_option(rt: HostRuntime) {
     for (words, count, status) in &OPTIONS {
         assert!(rt;
-            run(rt.alloc(), words, LINES.as_bytes())? == Some((*count, *status)),
+            counts(rt.alloc(), words, LINES.as_bytes(), *count, *status),
             "{words:?}"
         );
     }
-    Ok(())
 }
 
 // The same of the capture.
@@ -123,16 +127,21 @@ static TIMES: [(&[&str], usize); 6] = [
     ),
 ];
 
+fn counts_of_hex(alloc: Global, words: &[&str], digits: &str, count: usize) -> bool {
+    match hex::decode(alloc, digits) {
+        Ok(input) => counts(alloc, words, &input, count, 0),
+        Err(_) => false,
+    }
+}
+
 #[test]
-fn times(rt: HostRuntime) -> Result<(), Fail> {
-    let capture = hex::decode(rt.alloc(), CAPTURE)?;
+fn times(rt: HostRuntime) {
     for (words, count) in &TIMES {
         assert!(rt;
-            run(rt.alloc(), words, &capture)? == Some((*count, 0)),
+            counts_of_hex(rt.alloc(), words, CAPTURE, *count),
             "{words:?}"
         );
     }
-    Ok(())
 }
 
 // Options with words that aren't known, and a part of the complaint.
@@ -176,25 +185,38 @@ static UNKNOWN: [(&str, &str, &str); 9] = [
     ),
 ];
 
+// True if a complaint has this part.
+fn has_part(alloc: Global, complaint: NoChoice<'_>, part: &str) -> bool {
+    match complaint.text(alloc) {
+        Ok(text) => text.contains(part),
+        Err(_) => false,
+    }
+}
+
+// True if there is no choice by a request, and the complaint has this part.
+fn is_no_choice(alloc: Global, request: &Request<'_>, part: &str) -> bool {
+    match Choice::of_request(alloc, request, &[(7, "eth7")]) {
+        Err(complaint) => has_part(alloc, complaint, part),
+        Ok(_) => false,
+    }
+}
+
 // True if the complaint about an option has this part.
-fn complains<'a>(alloc: Global, option: &'a str, word: &'a str, part: &str) -> Result<bool, Fail> {
-    let words = ["tcshow", option, word];
-    let request = request_of(alloc, &words)?;
-    match Choice::of_request(alloc, &request, &[(7, "eth7")]) {
-        Err(none) => Ok(none.text(alloc)?.contains(part)),
-        Ok(_) => Ok(false),
+fn complains<'a>(alloc: Global, option: &'a str, word: &'a str, part: &str) -> bool {
+    match request_of(alloc, &["tcshow", option, word]) {
+        Ok(request) => is_no_choice(alloc, &request, part),
+        Err(_) => false,
     }
 }
 
 #[test]
-fn unknown_words(rt: HostRuntime) -> Result<(), Fail> {
+fn unknown_words(rt: HostRuntime) {
     for (option, word, part) in &UNKNOWN {
         assert!(rt;
-            complains(rt.alloc(), option, word, part)?,
+            complains(rt.alloc(), option, word, part),
             "{option} {word}"
         );
     }
-    Ok(())
 }
 
 static SOME_NAMES: &str =
@@ -203,28 +225,27 @@ static SOME_NAMES: &str =
 // Texts with a line that is no name, and its number.
 static NO_NAMES: [(&str, u64); 3] = [("eth7", 1), ("7 eth7\n\n8\n", 3), ("5: :", 1)];
 
-// The number of the line that is no name, 0 where there is none.
-fn wrong_line(alloc: Global, text: &str) -> Result<u64, AllocError> {
-    Ok(match names_in(alloc, text)? {
-        Ok(_) => 0,
-        Err(line) => line,
-    })
+// True if the first line that is no name has this number.
+fn is_wrong_at(alloc: Global, text: &str, number: u64) -> bool {
+    match names_in(alloc, text) {
+        Ok(Err(line)) => line == number,
+        _ => false,
+    }
 }
 
-fn are_names(alloc: Global, text: &str, want: &[(u32, &str)]) -> Result<bool, AllocError> {
-    Ok(match names_in(alloc, text)? {
-        Ok(names) => names.as_slice() == want,
-        Err(_) => false,
-    })
+fn are_names(alloc: Global, text: &str, want: &[(u32, &str)]) -> bool {
+    match names_in(alloc, text) {
+        Ok(Ok(names)) => names.as_slice() == want,
+        _ => false,
+    }
 }
 
 #[test]
-fn names(rt: HostRuntime) -> Result<(), Fail> {
-    assert!(rt; are_names(rt.alloc(), SOME_NAMES, &[(7, "eth7"), (5, "veth0")])?);
+fn names(rt: HostRuntime) {
+    assert!(rt; are_names(rt.alloc(), SOME_NAMES, &[(7, "eth7"), (5, "veth0")]));
     for (text, line) in &NO_NAMES {
-        assert!(rt; wrong_line(rt.alloc(), text)? == *line, "{text}");
+        assert!(rt; is_wrong_at(rt.alloc(), text, *line), "{text}");
     }
-    Ok(())
 }
 
 // The names of interfaces as `ip -o link` prints them and as people write them; and qdiscs: of fq_codel, the one that is chosen; of htb; of
@@ -249,45 +270,50 @@ static BARE: &str = "00000000100001000c000100080001006e617400\n";
 
 static BARE_LINE: &str = "action actions {action 1 {kind nat}}\n";
 
-// True if a run by these words, with the names of a text, writes this and nothing else.
-fn writes(
-    alloc: Global,
-    words: &[&str],
-    names: &str,
-    input: &str,
-    want: &str,
-) -> Result<bool, Fail> {
-    let request = request_of(alloc, words)?;
-    let Ok(names) = names_in(alloc, names)? else {
-        return Ok(false);
-    };
-    let Ok(choice) = Choice::of_request(alloc, &request, &names) else {
-        return Ok(false);
-    };
-    let asked = Asked::of_request(&request, choice.chosen(), &names);
-    Ok(gives(alloc, &asked, input.as_bytes(), 0, want.as_bytes(), ""))
+// True if a run by these words, where interfaces have these names, writes this and nothing else.
+fn writes(alloc: Global, words: &[&str], names: &[(u32, &str)], input: &str, want: &str) -> bool {
+    match request_of(alloc, words) {
+        Ok(request) => gives_by(
+            alloc,
+            &request,
+            names,
+            input.as_bytes(),
+            0,
+            Written::Is(&[want]),
+        ),
+        Err(_) => false,
+    }
 }
 
+// The same with the names of a text.
+fn writes_with(alloc: Global, words: &[&str], text: &str, input: &str, want: &str) -> bool {
+    match names_in(alloc, text) {
+        Ok(Ok(names)) => writes(alloc, words, &names, input, want),
+        _ => false,
+    }
+}
+
+static WORDS: [&str; 12] = [
+    "tcshow",
+    "--oneline",
+    "--names",
+    "names",
+    "--dev",
+    "eth7",
+    "--kind",
+    "fq_codel",
+    "--type",
+    "newqdisc",
+    "--handle",
+    "1:",
+];
+
+static BARE_WORDS: [&str; 4] = ["tcshow", "--oneline", "--no-header", "action"];
+
 #[test]
-fn words_of_a_command_line(rt: HostRuntime) -> Result<(), Fail> {
-    let words = [
-        "tcshow",
-        "--oneline",
-        "--names",
-        "names",
-        "--dev",
-        "eth7",
-        "--kind",
-        "fq_codel",
-        "--type",
-        "newqdisc",
-        "--handle",
-        "1:",
-    ];
-    assert!(rt; writes(rt.alloc(), &words, NAMES, QDISCS, CHOSEN)?);
-    let words = ["tcshow", "--oneline", "--no-header", "action"];
-    assert!(rt; writes(rt.alloc(), &words, "", BARE, BARE_LINE)?);
-    Ok(())
+fn words_of_a_command_line(rt: HostRuntime) {
+    assert!(rt; writes_with(rt.alloc(), &WORDS, NAMES, QDISCS, CHOSEN));
+    assert!(rt; writes_with(rt.alloc(), &BARE_WORDS, "", BARE, BARE_LINE));
 }
 
 // A message of a link, which names the interface 2, and a qdisc of it.
@@ -298,51 +324,54 @@ static LINK: &str =
 
 #[test]
 fn links_name(rt: HostRuntime) {
-    let asked = chosen_in(Form::OneLine, Chosen::ALL);
-    let run = shown(rt.alloc(), &asked, LINK.as_bytes());
-    let text = str::from_utf8(&run.written).unwrap_or("");
-    assert!(rt; run.status == 0 && text.contains("index 2 (eth9) handle 1: parent root"));
+    let asked = all_in(Form::OneLine);
+    let part = Written::Has("index 2 (eth9) handle 1: parent root");
+    assert!(rt; gives(rt.alloc(), &asked, LINK.as_bytes(), 0, part, ""));
 }
 
-// A kind in words: lines, the kernel's names in them as in linux/pkt_sched.h, its beginning and its end.
-#[test]
-fn kinds_are_explained(rt: HostRuntime) -> Result<(), Fail> {
-    let mut text = Vec::new(rt.alloc());
-    explain(rt.alloc(), "Htb", &mut text)?;
-    assert!(rt; text.is_empty());
-    explain(rt.alloc(), "htb", &mut text)?;
-    let text = str::from_utf8(&text).unwrap_or("");
-    assert!(rt;
-        text.starts_with(
-            "htb\n  Options: attributes (TCA_OPTIONS)\n    Parms: record (TCA_HTB_PARMS)\n      rate: record\n        cell_log: u8"
-        )
-    );
-    assert!(rt;
-        text.contains("        linklayer: u8\n          Unaware = 0 (TC_LINKLAYER_UNAWARE)\n")
-            && text.contains("\n    Rate64: u64, bytes a second (TCA_HTB_RATE64)\n")
-    );
-    assert!(rt;
-        text.contains(
-            "\nexample: [{\"Kind\":\"htb\"},{\"Options\":[{\"Htb\":{\"Parms\":{\"rate\":{\"cell_log\":1,"
-        )
-    );
-    Ok(())
+// Kinds, and what is written in words about them: lines, and the kernel's names in them, of bits too, and of a number below zero, as
+// linux/pkt_sched.h and linux/pkt_cls.h have them.
+static EXPLAINED: [(&str, Written<'static>); 8] = [
+    ("Htb", Written::Is(&[])),
+    (
+        "htb",
+        Written::Begins(
+            "htb\n  Options: attributes (TCA_OPTIONS)\n    Parms: record (TCA_HTB_PARMS)\n      rate: record\n        cell_log: u8",
+        ),
+    ),
+    (
+        "htb",
+        Written::Has("        linklayer: u8\n          Unaware = 0 (TC_LINKLAYER_UNAWARE)\n"),
+    ),
+    (
+        "htb",
+        Written::Has("\n    Rate64: u64, bytes a second (TCA_HTB_RATE64)\n"),
+    ),
+    (
+        "htb",
+        Written::Has(
+            "\nexample: [{\"Kind\":\"htb\"},{\"Options\":[{\"Htb\":{\"Parms\":{\"rate\":{\"cell_log\":1,",
+        ),
+    ),
+    (
+        "matchall",
+        Written::Has(
+            "    Flags: u32 (TCA_MATCHALL_FLAGS)\n      skip_hw = 0x1 (TCA_CLS_FLAGS_SKIP_HW)\n      skip_sw = 0x2 (TCA_CLS_FLAGS_SKIP_SW)\n",
+        ),
+    ),
+    ("gact", Written::Has("Unspec = -1 (TC_ACT_UNSPEC)\n")),
+    ("gact", Written::Has("Shot = 2 (TC_ACT_SHOT)\n")),
+];
+
+// True if this is written about a kind.
+fn is_explained(alloc: Global, kind: &str, want: Written<'_>) -> bool {
+    let mut text = Vec::new(alloc);
+    explain(alloc, kind, &mut text).is_ok() && is_written(&text, want)
 }
 
-// Names of bits, and a number below zero with a name, as linux/pkt_cls.h has them.
 #[test]
-fn names_are_explained(rt: HostRuntime) -> Result<(), Fail> {
-    let mut text = Vec::new(rt.alloc());
-    explain(rt.alloc(), "matchall", &mut text)?;
-    explain(rt.alloc(), "gact", &mut text)?;
-    let text = str::from_utf8(&text).unwrap_or("");
-    assert!(rt;
-        text.contains(
-            "    Flags: u32 (TCA_MATCHALL_FLAGS)\n      skip_hw = 0x1 (TCA_CLS_FLAGS_SKIP_HW)\n      skip_sw = 0x2 (TCA_CLS_FLAGS_SKIP_SW)\n"
-        )
-    );
-    assert!(rt;
-        text.contains("Unspec = -1 (TC_ACT_UNSPEC)\n") && text.contains("Shot = 2 (TC_ACT_SHOT)\n")
-    );
-    Ok(())
+fn kinds_are_explained(rt: HostRuntime) {
+    for (kind, want) in &EXPLAINED {
+        assert!(rt; is_explained(rt.alloc(), kind, *want), "{kind}");
+    }
 }

@@ -1,8 +1,7 @@
 //! Counts at the end of a run.
 
-use crate::show::runs::{chosen_in, shown};
-use std::alloc::Global;
-use std::test::Fail;
+use crate::show::runs::{Written, chosen_in, gives};
+use std::alloc::{AllocError, Global};
 use tc_chosen::{Chosen, Types};
 use tcshow_lib::asked::{Asked, Form};
 
@@ -42,15 +41,23 @@ static PARTS: [(&str, usize); 10] = [
       10),
 ];
 
-fn capture(alloc: Global) -> Result<Vec<u8>, Fail> {
-    let mut all = Vec::new(alloc);
+// Appends a part so many times.
+fn put(all: &mut Vec<u8>, part: &[u8], count: usize) -> Result<(), AllocError> {
+    for _ in 0..count {
+        all.extend_from_slice(part)?;
+    }
+    Ok(())
+}
+
+// Appends all parts; false where one isn't hex, or memory runs out.
+fn put_all(alloc: Global, all: &mut Vec<u8>) -> bool {
     for (part, count) in &PARTS {
-        let bytes = hex::decode(alloc, part)?;
-        for _ in 0..*count {
-            all.extend_from_slice(&bytes)?;
+        match hex::decode(alloc, part) {
+            Ok(part) if put(all, &part, *count).is_ok() => {}
+            _ => return false,
         }
     }
-    Ok(all)
+    true
 }
 
 // All qdiscs that are made, and counts.
@@ -87,17 +94,14 @@ static JSON: &str = r#"
 {"summary":{"messages":[{"type":"RTM_NEWQDISC","kind":"pfifo","count":4},{"type":"RTM_NEWQDISC","kind":"fq_codel","count":3},{"type":"NLMSG_ERROR","kind":"EINVAL","count":2}],"faults":[{"name":"WrongLength","count":3}]},"all":{"shown":7,"answers":2,"refused":3,"left_out":4,"others":5,"other_links":6,"other_families":8,"cut":9,"skipped":0,"broken":10}}
 "#;
 
-// True if a run over a capture is refused something, and ends with these counts.
-fn ends_with(alloc: Global, form: Form, capture: &[u8], counts: &str) -> bool {
-    let run = shown(alloc, &asked_in(form), capture);
-    run.status == 1 && run.written.ends_with(counts.as_bytes())
+// True if the capture in this form ends with these counts, and something in it is refused.
+fn ends_with(alloc: Global, form: Form, counts: &str) -> bool {
+    let mut all = Vec::new(alloc);
+    put_all(alloc, &mut all) && gives(alloc, &asked_in(form), &all, 1, Written::Ends(counts), "")
 }
 
 #[test]
-fn counts(rt: HostRuntime) -> Result<(), Fail> {
-    let alloc = rt.alloc();
-    let bytes = capture(alloc)?;
-    assert!(rt; ends_with(alloc, Form::Lines, &bytes, LINES));
-    assert!(rt; ends_with(alloc, Form::Json, &bytes, JSON));
-    Ok(())
+fn counts(rt: HostRuntime) {
+    assert!(rt; ends_with(rt.alloc(), Form::Lines, LINES));
+    assert!(rt; ends_with(rt.alloc(), Form::Json, JSON));
 }

@@ -1,10 +1,10 @@
 //! Captures that are cut, and that are changed.
 
-use crate::show::runs::{FORMS, all_in, is_clean, is_front, shown};
-use std::alloc::{AllocError, Global};
+use crate::show::runs::{FORMS, all_in, file_of_first, is_clean, is_front, shown};
+use std::alloc::Global;
 use std::test::Fail;
 use tcshow_lib::asked::Form;
-use tests_captures::{FORMATS, Format, file_of, messages};
+use tests_captures::{FORMATS, Format};
 
 // What a run says of a place where a capture is cut, up to the numbers.
 fn note_of(form: Form) -> &'static [u8] {
@@ -23,88 +23,89 @@ fn is_answer_and_cut(form: Form, written: &[u8], answer: &[u8]) -> bool {
     }
 }
 
-// A file of two messages, how many of its bytes are those of the first, and the answer to that.
-#[derive(Drop)]
-struct TwoMessages {
-    file: Vec<u8>,
-    first: usize,
-    answer: Vec<u8>,
-}
-
-fn two_messages(
-    alloc: Global,
-    form: Form,
-    format: (Format, bool),
-    messages: &[Vec<u8>],
-) -> Result<TwoMessages, AllocError> {
-    let file = file_of(alloc, format.0, format.1, messages)?;
-    let (first, _) = messages.split_at(messages.len().min(1));
-    let one = file_of(alloc, format.0, format.1, first)?;
-    let answer = shown(alloc, &all_in(form), &one).written;
-    Ok(TwoMessages {
-        first: one.len(),
-        file,
-        answer,
-    })
-}
-
-// True if of so many bytes of a file the answer to the first message is shown, if that is whole, and a note where it is cut.
-fn is_shown_to(alloc: Global, form: Form, two: &TwoMessages, end: usize) -> bool {
-    let (front, _) = two.file.split_at(end.min(two.file.len()));
+// True if of the front of a file an answer is shown, and a note where it is cut.
+fn is_answered(alloc: Global, form: Form, front: &[u8], answer: &[u8]) -> bool {
     let run = shown(alloc, &all_in(form), front);
-    let want: &[u8] = if end < two.first {
-        &[]
-    } else {
-        two.answer.as_slice()
-    };
-    let is_cut = run.written.len() > want.len();
-    is_answer_and_cut(form, &run.written, want) && run.status == u8::from(is_cut)
+    let is_cut = run.written.len() > answer.len();
+    is_answer_and_cut(form, &run.written, answer) && run.status == u8::from(is_cut)
+}
+
+// True if wherever a file is cut the answer to its first message is shown, if that is whole, and a note.
+fn are_answered(alloc: Global, form: Form, file: &[u8], first: usize, answer: &[u8]) -> bool {
+    for end in (4..file.len()).step_by(11) {
+        let (front, _) = file.split_at(end);
+        let answer: &[u8] = if end < first { &[] } else { answer };
+        if !is_answered(alloc, form, front, answer) {
+            return false;
+        }
+    }
+    true
+}
+
+// The same, where so many bytes are those of the first message.
+fn is_cut_anywhere(alloc: Global, form: Form, file: &[u8], first: usize) -> bool {
+    let (front, _) = file.split_at(first.min(file.len()));
+    let answer = shown(alloc, &all_in(form), front).written;
+    !answer.is_empty() && are_answered(alloc, form, file, first, &answer)
+}
+
+// The same of a file of two messages in a format.
+fn is_format_cut(alloc: Global, form: Form, format: Format, is_big: bool) -> Result<bool, Fail> {
+    let first = file_of_first(alloc, 1, format, is_big)?.len();
+    let file = file_of_first(alloc, 2, format, is_big)?;
+    Ok(is_cut_anywhere(alloc, form, &file, first))
 }
 
 #[test]
 fn each_cut(rt: HostRuntime) -> Result<(), Fail> {
-    let alloc = rt.alloc();
-    let mut all = messages(alloc)?;
-    all.truncate(2);
-    for format in FORMATS {
+    for (format, is_big) in FORMATS {
         for form in FORMS {
-            let two = two_messages(alloc, form, format, &all)?;
-            assert!(rt; !two.answer.is_empty());
-            for end in (4..two.file.len()).step_by(11) {
-                assert!(rt; is_shown_to(alloc, form, &two, end), "{format:?} {end}");
-            }
+            assert!(rt;
+                is_format_cut(rt.alloc(), form, format, is_big)?,
+                "{format:?}"
+            );
         }
     }
     Ok(())
 }
 
-// Whether a run over a changed file ends with one of the statuses of such, and writes no control bytes.
-fn ends(alloc: Global, form: Form, file: &[u8], at: usize, mask: u8) -> Result<bool, Fail> {
-    let mut changed = file.to_vec(alloc)?;
-    if let Some(place) = changed.get_mut(at) {
+fn change(file: &mut [u8], at: usize, mask: u8) {
+    if let Some(place) = file.get_mut(at) {
         *place ^= mask;
     }
-    let run = shown(alloc, &all_in(form), &changed);
-    Ok(run.status <= 2 && is_clean(form, &run.written))
+}
+
+// Whether a run over a file with a changed byte ends with one of the statuses of such, and writes no control bytes.
+fn ends(alloc: Global, form: Form, file: &mut [u8], at: usize, mask: u8) -> bool {
+    change(file, at, mask);
+    let run = shown(alloc, &all_in(form), file);
+    change(file, at, mask);
+    run.status <= 2 && is_clean(form, &run.written)
+}
+
+// The same of each fifth byte.
+fn each_ends(alloc: Global, file: &mut [u8]) -> bool {
+    for at in (0..file.len()).step_by(5) {
+        if !ends(alloc, Form::Lines, file, at, 0x1a) || !ends(alloc, Form::Json, file, at, 0x80) {
+            return false;
+        }
+    }
+    true
+}
+
+// The same of a file of a message in a format.
+fn is_format_changed(alloc: Global, format: Format, is_big: bool) -> Result<bool, Fail> {
+    let mut file = file_of_first(alloc, 1, format, is_big)?;
+    Ok(each_ends(alloc, &mut file))
 }
 
 #[test]
 fn each_byte_changed(rt: HostRuntime) -> Result<(), Fail> {
-    let alloc = rt.alloc();
-    let mut all = messages(alloc)?;
-    all.truncate(1);
     for (format, is_big) in FORMATS {
-        let file = file_of(alloc, format, is_big, &all)?;
-        for at in (0..file.len()).step_by(5) {
-            assert!(rt;
-                ends(alloc, Form::Lines, &file, at, 0x1a)?,
-                "{format:?} {at}"
-            );
-            assert!(rt;
-                ends(alloc, Form::Json, &file, at, 0x80)?,
-                "{format:?} {at}"
-            );
-        }
+        assert!(rt;
+            is_format_changed(rt.alloc(), format, is_big)?,
+            "{format:?}"
+        );
     }
     Ok(())
 }

@@ -1,8 +1,7 @@
 //! Dumps with offsets: a netlink message as xxd, tcpdump 4.99 and tshark 4.0 print it, and plain.
 
-use crate::show::runs::{all_in, shown, writes};
+use crate::show::runs::{Written, all_in, gives, writes};
 use std::alloc::{AllocError, Global};
-use std::test::Fail;
 use tcshow_lib::asked::Form;
 
 const PLAIN: &str = "380000002400050681f12469000000000000000004000000\
@@ -61,30 +60,36 @@ const PASTED: &str = "0x38 0x00 0x00 0x00 2400:0506 81f12469 00000000 # a bfifo
 # on one line: 38:00:00:00:24:00:05:06:81:F1:24:69
 38:00:00:00:24:00:05:06:81:F1:24:69:00:00:00:00:00:00:00:00:04:00:00:00:00:00:ff:ff:ff:ff:ff:ff:00:00:00:00:0a:00:01:00:62:66:69:66:6f:00:00:00:08:00:02:00:b8:0b:00:00";
 
-// Texts, each behind the one before, on lines of their own.
-fn joined(alloc: Global, texts: &[&str]) -> Result<String, AllocError> {
-    let mut all = String::new(alloc);
+// What is shown of the message.
+static ONE: &str =
+    r#"{"type":"RTM_NEWQDISC","flags":1541,"seq":1764028801,"fits":true,"settled":true,"canonical":true,"message":{"header":{"family":"Unspec","index":4,"handle":"ffff:","parent":"root","info":0},"attributes":[{"Kind":"bfifo"},{"Options":{"limit":3000}}]}}
+"#;
+
+// Appends texts, on lines of their own.
+fn put_all(all: &mut String, texts: &[&str]) -> Result<(), AllocError> {
     for text in texts {
         all.push_str(text)?;
         all.push_str("\n")?;
     }
-    Ok(all)
+    Ok(())
 }
 
-// What is shown of texts, one after the other, and the status.
-fn shown_of(alloc: Global, texts: &[&str]) -> Result<(Vec<u8>, u8), AllocError> {
-    let text = joined(alloc, texts)?;
-    let run = shown(alloc, &all_in(Form::Json), text.as_bytes());
-    Ok((run.written, run.status))
+// True if this is shown of texts, each behind the one before.
+fn are_shown(alloc: Global, texts: &[&str], status: u8, written: Written<'_>) -> bool {
+    let mut all = String::new(alloc);
+    put_all(&mut all, texts).is_ok()
+        && gives(
+            alloc,
+            &all_in(Form::Json),
+            all.as_bytes(),
+            status,
+            written,
+            "",
+        )
 }
 
-// True if this is shown of texts so many times, and nothing is wrong.
-fn are_shown(alloc: Global, texts: &[&str], one: &[u8], times: usize) -> Result<bool, AllocError> {
-    let (written, status) = shown_of(alloc, texts)?;
-    Ok(status == 0 && written == one.repeat(alloc, times)?)
-}
-
-static DUMPS: [&str; 8] = [
+static DUMPS: [&str; 9] = [
+    PLAIN,
     XXD,
     XXD_SINGLE,
     TCPDUMP,
@@ -98,20 +103,16 @@ static DUMPS: [&str; 8] = [
 static ALL: [&str; 8] = [XXD, TCPDUMP, PLAIN, "", TSHARK, "# text", XXD_SINGLE, PLAIN];
 
 #[test]
-fn dumps(rt: HostRuntime) -> Result<(), Fail> {
+fn dumps(rt: HostRuntime) {
     let alloc = rt.alloc();
-    let (one, status) = shown_of(alloc, &[PLAIN])?;
-    assert!(rt;
-        status == 0
-            && one.starts_with(b"{\"type\":\"RTM_NEWQDISC\",\"flags\":1541,\"seq\":1764028801,")
-    );
     for text in &DUMPS {
-        assert!(rt; are_shown(alloc, &[*text], &one, 1)?, "{text}");
+        assert!(rt;
+            are_shown(alloc, &[*text], 0, Written::Is(&[ONE])),
+            "{text}"
+        );
     }
-    assert!(rt; are_shown(alloc, &ALL, &one, 6)?);
-    let (written, status) = shown_of(alloc, &[PASTED])?;
-    assert!(rt; status == 1 && written.ends_with(&one));
-    Ok(())
+    assert!(rt; are_shown(alloc, &ALL, 0, Written::Is(&[ONE; 6])));
+    assert!(rt; are_shown(alloc, &[PASTED], 1, Written::Ends(ONE)));
 }
 
 // A line of a dump that isn't there is missed.

@@ -1,126 +1,122 @@
 //! The same messages in each format.
 
-use crate::show::runs::{FORMS, all_in, shown};
+use crate::show::runs::{FORMS, all_in, file_of_first, lines_of, shown};
 use std::alloc::{AllocError, Global};
+use std::str;
 use std::test::Fail;
 use tcshow_lib::asked::Form;
-use tests_captures::{FORMATS, Format, file_of, messages};
+use tests_captures::{FORMATS, Format, messages};
+
+// True if a line is the one that is wanted, but for the number of its packet.
+fn is_same(line: &str, want: &str) -> bool {
+    match line.split_once("\"packet\":") {
+        Some((front, number)) => match number.split_once(",") {
+            Some((_, behind)) => want.strip_prefix(front) == Some(behind),
+            None => false,
+        },
+        None => line == want,
+    }
+}
+
+// True if a line of JSON is the one that is wanted, but for the time at its front.
+fn is_untimed(line: &str, want: &str) -> bool {
+    match want.strip_prefix("{\"time\":\"1700000000.123456000\",") {
+        Some(rest) => line.strip_prefix("{") == Some(rest),
+        None => line.is_empty() && want.is_empty(),
+    }
+}
+
+// True if all lines are so.
+fn are_same(text: &str, want: &str, has_times: bool) -> bool {
+    let mut lines = want.split('\n');
+    for line in text.split('\n') {
+        match lines.next() {
+            Some(want) if has_times && is_same(line, want) => {}
+            Some(want) if !has_times && is_untimed(line, want) => {}
+            _ => return false,
+        }
+    }
+    lines.next().is_none()
+}
+
+// True if this is shown of an input, but for the numbers of packets, and the times where it has none.
+fn is_shown(alloc: Global, form: Form, input: &[u8], has_times: bool, want: &[u8]) -> bool {
+    let run = shown(alloc, &all_in(form), input);
+    let text = str::from_utf8(&run.written).unwrap_or("");
+    let want = str::from_utf8(want).unwrap_or("");
+    run.status == 0 && run.errors.is_empty() && are_same(text, want, has_times)
+}
+
+// The same of all messages in a format.
+fn is_format_shown(
+    alloc: Global,
+    form: Form,
+    format: (Format, bool),
+    want: &[u8],
+) -> Result<bool, Fail> {
+    let file = file_of_first(alloc, 20, format.0, format.1)?;
+    Ok(is_shown(alloc, form, &file, true, want))
+}
+
+// What is shown of a stream of all messages.
+fn of_stream(alloc: Global, form: Form) -> Result<Vec<u8>, Fail> {
+    let stream = file_of_first(alloc, 20, Format::Stream, false)?;
+    Ok(shown(alloc, &all_in(form), &stream).written)
+}
+
+// True if the same is shown of all formats, in so many lines at least.
+fn are_formats_shown(alloc: Global, form: Form) -> Result<bool, Fail> {
+    let want = of_stream(alloc, form)?;
+    for format in FORMATS {
+        if !is_format_shown(alloc, form, format, &want)? {
+            return Ok(false);
+        }
+    }
+    let lines = lines_of(&want);
+    Ok(lines == 20 || form == Form::Lines && 20 < lines)
+}
+
+#[test]
+fn each_format_is_shown_the_same(rt: HostRuntime) -> Result<(), Fail> {
+    for form in FORMS {
+        assert!(rt; are_formats_shown(rt.alloc(), form)?);
+    }
+    Ok(())
+}
+
+static DIGITS: [u8; 16] = *b"0123456789abcdef";
+
+fn put_byte(text: &mut Vec<u8>, byte: u8) -> Result<(), AllocError> {
+    let (high, low) = (byte / 16, byte % 16);
+    text.extend_from_slice(&[DIGITS[high as usize], DIGITS[low as usize], b' '])
+}
+
+fn put_line(text: &mut Vec<u8>, message: &[u8]) -> Result<(), AllocError> {
+    text.extend_from_slice(b" \t")?;
+    for byte in message {
+        put_byte(text, *byte)?;
+    }
+    text.extend_from_slice(b"# ab\r\n")
+}
 
 // Lines of hex, with blanks and comments.
 fn hex_of(alloc: Global, messages: &[Vec<u8>]) -> Result<Vec<u8>, AllocError> {
     let mut text = b"# messages\n\n".to_vec(alloc)?;
     for message in messages {
-        text.extend_from_slice(b" \t")?;
-        for byte in message {
-            let pair = hex::encode(alloc, &[*byte])?;
-            text.extend_from_slice(pair.as_bytes())?;
-            text.push(b' ')?;
-        }
-        text.extend_from_slice(b"# ab\r\n")?;
+        put_line(&mut text, message)?;
     }
     Ok(text)
 }
 
-// The lines of JSON without the time at their front.
-fn without_time(alloc: Global, lines: &[u8]) -> Result<Vec<u8>, AllocError> {
-    let time = b"\"time\":\"1700000000.123456000\",";
-    let mut text = Vec::new(alloc);
-    for line in lines.split(|byte| *byte == b'\n') {
-        match line.split_at_checked(1 + time.len()) {
-            Some((_, rest)) => {
-                text.push(b'{')?;
-                text.extend_from_slice(rest)?;
-                text.push(b'\n')?;
-            }
-            None => {}
-        }
-    }
-    Ok(text)
-}
-
-// The lines of JSON without the number of the packet.
-fn without_packet(alloc: Global, lines: &[u8]) -> Result<Vec<u8>, AllocError> {
-    let name = b"\"packet\":";
-    let mut text = Vec::new(alloc);
-    for line in lines.split_inclusive(|byte| *byte == b'\n') {
-        match line
-            .windows(name.len())
-            .position(|part| part == name.as_slice())
-        {
-            Some(at) => {
-                let (front, rest) = line.split_at(at.min(line.len()));
-                text.extend_from_slice(front)?;
-                let end = rest.iter().position(|byte| *byte == b',').unwrap_or(0);
-                text.extend_from_slice(rest.get(end.wrapping_add(1)..).unwrap_or(&[]))?;
-            }
-            None => text.extend_from_slice(line)?,
-        }
-    }
-    Ok(text)
-}
-
-// True if messages are shown the same of a file in a format, but for the numbers of packets.
-fn is_same(
-    alloc: Global,
-    form: Form,
-    format: (Format, bool),
-    messages: &[Vec<u8>],
-    want: &[u8],
-) -> Result<bool, AllocError> {
-    let file = file_of(alloc, format.0, format.1, messages)?;
-    let run = shown(alloc, &all_in(form), &file);
-    if run.status != 0 || !run.errors.is_empty() {
-        return Ok(false);
-    }
-    let written = without_packet(alloc, &run.written)?;
-    Ok(written.as_slice() == want)
-}
-
-// True if the same JSON is shown of lines of hex, but for the times.
-fn is_same_of_hex(alloc: Global, messages: &[Vec<u8>], want: &[u8]) -> Result<bool, AllocError> {
-    let text = hex_of(alloc, messages)?;
-    let run = shown(alloc, &all_in(Form::Json), &text);
-    let want = without_time(alloc, want)?;
-    Ok(run.status == 0 && run.written == want)
-}
-
-// How many lines there are.
-fn lines_of(written: &[u8]) -> usize {
-    let mut count = 0usize;
-    for byte in written {
-        if *byte == b'\n' {
-            count = count.wrapping_add(1);
-        }
-    }
-    count
-}
-
-// What is shown of a stream of messages.
-fn of_stream(alloc: Global, form: Form, messages: &[Vec<u8>]) -> Result<Vec<u8>, AllocError> {
-    let stream = file_of(alloc, Format::Stream, false, messages)?;
-    Ok(shown(alloc, &all_in(form), &stream).written)
-}
-
-#[test]
-fn each_format_is_shown_the_same(rt: HostRuntime) -> Result<(), Fail> {
-    let alloc = rt.alloc();
+fn hex_of_all(alloc: Global) -> Result<Vec<u8>, Fail> {
     let all = messages(alloc)?;
-    for form in FORMS {
-        let first = of_stream(alloc, form, &all)?;
-        for format in FORMATS {
-            assert!(rt; is_same(alloc, form, format, &all, &first)?, "{format:?}");
-        }
-        let lines = lines_of(&first);
-        assert!(rt; lines == 20 || form == Form::Lines && 20 < lines);
-    }
-    Ok(())
+    Ok(hex_of(alloc, &all)?)
 }
 
 #[test]
 fn hex_is_shown_the_same(rt: HostRuntime) -> Result<(), Fail> {
-    let alloc = rt.alloc();
-    let all = messages(alloc)?;
-    let first = of_stream(alloc, Form::Json, &all)?;
-    assert!(rt; is_same_of_hex(alloc, &all, &first)?);
+    let want = of_stream(rt.alloc(), Form::Json)?;
+    let text = hex_of_all(rt.alloc())?;
+    assert!(rt; is_shown(rt.alloc(), Form::Json, &text, false, &want));
     Ok(())
 }

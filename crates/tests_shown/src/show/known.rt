@@ -1,6 +1,6 @@
 //! Known messages and what is shown of them.
 
-use crate::show::runs::{all_in, chosen_in, gives, writes};
+use crate::show::runs::{Written, all_in, chosen_in, counted_in, gives, writes};
 use tc_chosen::{Chosen, Types};
 use tc_outline::Interfaces;
 use tcshow_lib::asked::Form;
@@ -47,62 +47,70 @@ summary
   0 broken
 ";
 
-static ONE_LINE: &str = "RTM_NEWACTION seq 7 actions {action 1 {index 5 kind mirred}}\n";
+const ONE_LINE: &str = "RTM_NEWACTION seq 7 actions {action 1 {index 5 kind mirred}}\n";
 
-static JSON: &str =
+const JSON: &str =
     r#"{"type":"RTM_NEWQDISC","flags":1536,"seq":5,"fits":true,"settled":true,"canonical":true,"message":{"header":{"family":"Unspec","index":2,"handle":"1:","parent":"root","info":0},"attributes":[{"Kind":"fq_codel"},{"Options":[{"FqCodel":{"Limit":10240}}]}]}}
 {"type":"RTM_NEWQDISC","flags":1536,"seq":5,"refused":"WrongLength","expected":4,"got":3,"offset":44,"path":"/attributes/1/Options/0/FqCodel/Limit","message":{"header":{"family":"Unspec","index":2,"handle":"1:","parent":"root","info":0},"attributes":[{"Kind":"fq_codel"},{"Options":[{"FqCodel":{"Limit":{"raw":"002800"}}}]}]}}
 "#;
 
-// Messages of kinds, of types, and of interfaces.
-fn of_kinds(kinds: &'static [&'static str]) -> Chosen<'static> {
-    Chosen {
-        kinds,
-        types: &[],
-        interfaces: &[],
-        handles: &[],
-        parents: &[],
-        chains: &[],
-        priorities: &[],
-        since: None,
-        until: None,
-        refused: false,
-    }
-}
-
-fn of_types(types: &'static [Types]) -> Chosen<'static> {
-    let mut chosen = Chosen::ALL;
-    chosen.types = types;
-    chosen
-}
-
-fn of_interfaces(interfaces: &'static [u32]) -> Chosen<'static> {
-    let mut chosen = Chosen::ALL;
-    chosen.interfaces = interfaces;
-    chosen
-}
+// What is chosen, and what is written of it in which form, with the status.
+static CHOICES: [(Chosen<'static>, Form, &str, u8); 4] = [
+    (
+        Chosen {
+            kinds: &["mirred"],
+            ..Chosen::ALL
+        },
+        Form::OneLine,
+        ONE_LINE,
+        0,
+    ),
+    (
+        Chosen {
+            types: &[Types {
+                first: 48,
+                last: 48,
+            }],
+            ..Chosen::ALL
+        },
+        Form::OneLine,
+        ONE_LINE,
+        0,
+    ),
+    (
+        Chosen {
+            interfaces: &[2],
+            ..Chosen::ALL
+        },
+        Form::Json,
+        JSON,
+        1,
+    ),
+    (
+        Chosen {
+            interfaces: &[3],
+            ..Chosen::ALL
+        },
+        Form::Json,
+        "",
+        0,
+    ),
+];
 
 #[test]
 fn known_messages(rt: HostRuntime) {
-    let alloc = rt.alloc();
-    let mut asked = all_in(Form::Lines);
+    let mut asked = counted_in(Form::Lines);
     asked.names = Interfaces {
         names: &[(2, "eth0")],
     };
-    asked.has_summary = true;
-    assert!(rt; writes(alloc, &asked, TEXT, 1, LINES));
-    let asked = chosen_in(Form::OneLine, of_kinds(&["mirred"]));
-    assert!(rt; writes(alloc, &asked, TEXT, 0, ONE_LINE));
-    let types = &[Types {
-        first: 48,
-        last: 48,
-    }];
-    let asked = chosen_in(Form::OneLine, of_types(types));
-    assert!(rt; writes(alloc, &asked, TEXT, 0, ONE_LINE));
-    let asked = chosen_in(Form::Json, of_interfaces(&[2]));
-    assert!(rt; writes(alloc, &asked, TEXT, 1, JSON));
-    let asked = chosen_in(Form::Json, of_interfaces(&[3]));
-    assert!(rt; writes(alloc, &asked, TEXT, 0, ""));
+    assert!(rt; writes(rt.alloc(), &asked, TEXT, 1, LINES));
+    for (chosen, form, written, status) in &CHOICES {
+        let asked = chosen_in(*form, *chosen);
+        assert!(rt;
+            writes(rt.alloc(), &asked, TEXT, *status, written),
+            "{written}"
+        );
+    }
 }
 
 // What is neither a capture nor hex, and hex without a message.
@@ -120,7 +128,7 @@ fn no_capture(rt: HostRuntime) {
                 &asked,
                 input,
                 2,
-                b"",
+                Written::Is(&[]),
                 "tcshow: no capture, and no hex\n"
             )
         );

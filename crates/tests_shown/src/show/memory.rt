@@ -1,12 +1,12 @@
 //! Memory that is refused.
 
-use crate::show::runs::{FORMS, Outcome, all_in, is_front, shown};
+use crate::show::runs::{FORMS, Outcome, counted_in, file_of_first, is_front, shown};
 use failing_alloc::Failing;
 use std::alloc::Global;
 use std::test::Fail;
 use tcshow_lib::asked::Asked;
 use tcshow_lib::program::serve;
-use tests_captures::{Format, file_of, messages};
+use tests_captures::Format;
 
 // The status of a run over a file where the request for memory of this number is refused, what it wrote, and whether one was refused.
 fn run_at(alloc: Global, at: u64, asked: &Asked<'_>, mut file: &[u8]) -> (Outcome, bool) {
@@ -49,14 +49,9 @@ fn refusals_of(alloc: Global, asked: &Asked<'_>, file: &[u8]) -> Option<u64> {
 
 #[test]
 fn each_request_refused(rt: HostRuntime) -> Result<(), Fail> {
-    let alloc = rt.alloc();
-    let mut all = messages(alloc)?;
-    all.truncate(3);
-    let file = file_of(alloc, Format::Nanoseconds, false, &all)?;
+    let file = file_of_first(rt.alloc(), 3, Format::Nanoseconds, false)?;
     for form in FORMS {
-        let mut asked = all_in(form);
-        asked.has_summary = true;
-        let refusals = refusals_of(alloc, &asked, &file);
+        let refusals = refusals_of(rt.alloc(), &counted_in(form), &file);
         assert!(rt;
             matches!(refusals, Some(count) if 5 < count),
             "{refusals:?}"

@@ -1,11 +1,14 @@
 //! A run in memory.
 
 use std::alloc::Global;
+use std::str;
+use std::test::Fail;
 use tc_capture::Holds;
 use tc_chosen::Chosen;
 use tc_outline::Interfaces;
 use tcshow_lib::asked::{Asked, Form};
 use tcshow_lib::program::serve;
+use tests_captures::{Format, file_of, messages};
 
 /// The forms that messages are shown in.
 pub(crate) static FORMS: [Form; 3] = [Form::Lines, Form::OneLine, Form::Json];
@@ -27,7 +30,14 @@ pub(crate) fn all_in(form: Form) -> Asked<'static> {
     chosen_in(form, Chosen::ALL)
 }
 
-/// The same, where each line of hex is a message without a netlink header.
+/// The same, and counts them at the end.
+pub(crate) fn counted_in(form: Form) -> Asked<'static> {
+    let mut asked = all_in(form);
+    asked.has_summary = true;
+    asked
+}
+
+/// What a run does that shows all messages, where each line of hex is a message without a netlink header.
 pub(crate) fn alone_in(form: Form, holds: Holds) -> Asked<'static> {
     let mut asked = all_in(form);
     asked.without_header = Some(holds);
@@ -53,19 +63,99 @@ pub(crate) fn shown(alloc: Global, asked: &Asked<'_>, input: &[u8]) -> Outcome {
     }
 }
 
+/// What is written.
+#[derive(Clone, Copy)]
+pub(crate) enum Written<'a> {
+    /// These texts, one after the other.
+    Is(&'a [&'a str]),
+    /// This at the front.
+    Begins(&'a str),
+    /// Lines with these fronts, and maybe others behind them.
+    BeginsWithLines(&'a [&'a str]),
+    /// This at the end.
+    Ends(&'a str),
+    /// This somewhere.
+    Has(&'a str),
+    /// So many lines.
+    Counts(usize),
+}
+
+// True of these texts, one after the other.
+fn is_joined(written: &[u8], texts: &[&str]) -> bool {
+    let mut rest = written;
+    for text in texts {
+        match rest.strip_prefix(text.as_bytes()) {
+            Some(behind) => rest = behind,
+            None => return false,
+        }
+    }
+    rest.is_empty()
+}
+
+// True if the first lines have these fronts.
+fn begin_with(written: &str, fronts: &[&str]) -> bool {
+    let mut lines = written.split('\n');
+    for front in fronts {
+        match lines.next() {
+            Some(line) if line.starts_with(*front) => {}
+            _ => return false,
+        }
+    }
+    true
+}
+
+/// How many lines there are.
+pub(crate) fn lines_of(written: &[u8]) -> usize {
+    let mut count = 0usize;
+    for byte in written {
+        if *byte == b'\n' {
+            count = count.wrapping_add(1);
+        }
+    }
+    count
+}
+
+/// True if this is written.
+pub(crate) fn is_written(written: &[u8], want: Written<'_>) -> bool {
+    let text = str::from_utf8(written).unwrap_or("");
+    match want {
+        Written::Is(texts) => is_joined(written, texts),
+        Written::Begins(front) => text.starts_with(front),
+        Written::BeginsWithLines(fronts) => begin_with(text, fronts),
+        Written::Ends(end) => text.ends_with(end),
+        Written::Has(part) => text.contains(part),
+        Written::Counts(count) => lines_of(written) == count,
+    }
+}
+
 /// True if a run over an input ends with this status, and writes and complains this.
 pub(crate) fn gives(
     alloc: Global,
     asked: &Asked<'_>,
     input: &[u8],
     status: u8,
-    written: &[u8],
+    written: Written<'_>,
     complaint: &str,
 ) -> bool {
     let run = shown(alloc, asked, input);
     run.status == status
-        && run.written.as_slice() == written
+        && is_written(&run.written, written)
         && run.errors.as_slice() == complaint.as_bytes()
+}
+
+/// The same of an input in hex.
+pub(crate) fn gives_of_hex(
+    alloc: Global,
+    asked: &Asked<'_>,
+    digits: &str,
+    status: u8,
+    written: Written<'_>,
+    complaint: &str,
+) -> bool {
+    match hex::decode(alloc, digits) {
+        Ok(input) => gives(alloc, asked, &input, status, written, complaint),
+        Err(_) => false,
+    }
 }
 
 /// The same of texts, without a complaint.
@@ -81,9 +171,21 @@ pub(crate) fn writes(
         asked,
         input.as_bytes(),
         status,
-        written.as_bytes(),
+        Written::Is(&[written]),
         "",
     )
+}
+
+/// A file of the first messages that were captured.
+pub(crate) fn file_of_first(
+    alloc: Global,
+    count: usize,
+    format: Format,
+    is_big: bool,
+) -> Result<Vec<u8>, Fail> {
+    let mut all = messages(alloc)?;
+    all.truncate(count);
+    Ok(file_of(alloc, format, is_big, &all)?)
 }
 
 /// True of the front of some bytes.
@@ -101,10 +203,10 @@ fn is_printable(byte: u8) -> bool {
 
 /// True of an output with no control bytes; JSON has none either, but text that isn't ASCII.
 pub(crate) fn is_clean(form: Form, written: &[u8]) -> bool {
-    match form {
-        Form::Lines | Form::OneLine => written.iter().all(|byte| is_printable(*byte)),
-        Form::Json => written
-            .iter()
-            .all(|byte| 0x80 <= *byte || is_printable(*byte)),
+    for byte in written {
+        if !is_printable(*byte) && (form != Form::Json || *byte < 0x80) {
+            return false;
+        }
     }
+    true
 }

@@ -1,12 +1,12 @@
 //! Streams that fail, that are interrupted, and that are closed.
 
-use crate::show::runs::{Outcome, all_in, is_front, shown};
+use crate::show::runs::{Outcome, all_in, file_of_first, is_front, shown};
 use std::alloc::Global;
 use std::io::{Error, ErrorKind, Read, Result, Write};
 use std::test::Fail;
 use tcshow_lib::asked::Form;
 use tcshow_lib::program::serve;
-use tests_captures::{Format, file_of, messages};
+use tests_captures::Format;
 
 // Gives or takes a few bytes a call, for so many calls, each of them after so many interruptions; then it fails.
 #[derive(Drop)]
@@ -119,14 +119,9 @@ fn reads_of(whole: &Answered) -> usize {
 
 // A stream of two messages.
 fn stored(alloc: Global) -> std::result::Result<Answered, Fail> {
-    let mut all = messages(alloc)?;
-    all.truncate(2);
-    let file = file_of(alloc, Format::Stream, false, &all)?;
-    let run = shown(alloc, &all_in(Form::OneLine), &file);
-    Ok(Answered {
-        file,
-        written: run.written,
-    })
+    let file = file_of_first(alloc, 2, Format::Stream, false)?;
+    let written = shown(alloc, &all_in(Form::OneLine), &file).written;
+    Ok(Answered { file, written })
 }
 
 static READ_FAILED: (u8, &str) = (3, "tcshow: read failed\n");
