@@ -139,11 +139,19 @@ fn request_group<'a>(alloc: Global) -> Result<ArgGroup<'a>, AllocError> {
         .requires_arg("request")
 }
 
-fn with_groups<'a>(alloc: Global) -> Result<Command<'a>, AllocError> {
+fn with_output<'a>(alloc: Global) -> Result<Command<'a>, AllocError> {
     let output = output_group(alloc)?;
+    begun(alloc).group(output)
+}
+
+fn with_making<'a>(alloc: Global) -> Result<Command<'a>, AllocError> {
     let making = making_group(alloc)?;
+    with_output(alloc)?.group(making)
+}
+
+fn with_groups<'a>(alloc: Global) -> Result<Command<'a>, AllocError> {
     let requests = request_group(alloc)?;
-    begun(alloc).group(output)?.group(making)?.group(requests)
+    with_making(alloc)?.group(requests)
 }
 
 fn command<'a>(alloc: Global) -> Result<Command<'a>, AllocError> {

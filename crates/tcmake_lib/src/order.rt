@@ -6,64 +6,89 @@ use crate::made::{Made, made_of};
 use crate::message::Forms;
 use crate::restore::{Dump, dump_of, restored};
 use nla_frames::ParseableBytes;
-use std::alloc::Global;
+use std::alloc::{AllocError, Global};
 use std::io::{BufRead, Write};
 use tc_action_messages::TcActionMessage;
 use tc_capture::Holds;
 use tc_forms::Tables;
 use tc_messages::TcMessage;
-use tc_plan::{Entry, Fate, Item, Key, Reason, Step, circle, entry_of, entry_of_actions, plan};
-use tc_requests::RestoreError;
+use tc_plan::{
+    Entry, Fate, Item, Key, Order, Reason, Step, circle, entry_of, entry_of_actions, plan,
+};
+use tc_requests::{Object, RestoreError};
 use tc_streams::Stop;
 use tcmake_lines::run::{put_message, say};
-use tcmake_lines::{Found, Output, is_blank, next_line};
+use tcmake_lines::{Found, Given, Output, is_blank, next_line};
 
-/// The dumps of lines, and the requests that restore them.
+// The dumps of lines, and the requests that restore them.
 #[derive(Drop)]
-pub(crate) struct Requests {
+struct Requests {
     // What a plan has to know of each dump; its place is an index of `lines`.
     entries: Vec<Entry<Global>>,
     // The line of each dump, and its request if there is one.
     lines: Vec<Planned>,
 }
 
-/// A dump of a line.
+// A dump of a line.
 #[derive(Drop)]
-pub(crate) struct Planned {
-    /// The number of the line.
-    pub(crate) number: u64,
-    /// Its request.
-    pub(crate) made: Option<Made>,
+struct Planned {
+    // The number of the line.
+    number: u64,
+    // Its request.
+    made: Option<Made>,
 }
 
 impl Requests {
-    /// None.
-    pub(crate) fn new(alloc: Global) -> Requests {
+    // None.
+    fn new(alloc: Global) -> Requests {
         Requests {
             entries: Vec::new(alloc),
             lines: Vec::new(alloc),
         }
     }
 
-    /// Keeps the dump of a line.
-    pub(crate) fn keep(&mut self, alloc: Global, number: u64, dump: Made) -> Result<(), Complaint> {
+    // Keeps the dump of a line.
+    fn keep(&mut self, alloc: Global, number: u64, dump: &Made) -> Result<(), Complaint> {
         let place = self.lines.len();
-        let bytes = dump.bytes.clone()?;
-        let kind = dump_of(dump.given.kind)?;
         let (fate, made) = fate_of(restored(alloc, dump))?;
-        let entry = match kind {
-            Dump::Of(object) => {
-                let message = TcMessage::parse(alloc, &bytes)?;
-                entry_of(alloc, place, fate, object, &message)?
-            }
-            Dump::Actions => {
-                let message = TcActionMessage::parse(alloc, &bytes)?;
-                entry_of_actions(alloc, place, fate, &message)?
-            }
-        };
         self.lines.push(Planned { number, made })?;
+        let entry = entry_in(alloc, place, fate, dump)?;
         Ok(self.entries.push(entry)?)
     }
+}
+
+// What a plan has to know of a dump.
+fn entry_in(
+    alloc: Global,
+    place: usize,
+    fate: Fate,
+    dump: &Made,
+) -> Result<Entry<Global>, Complaint> {
+    match dump_of(dump.given.kind)? {
+        Dump::Of(object) => entry_in_tc(alloc, place, fate, object, &dump.bytes),
+        Dump::Actions => entry_in_actions(alloc, place, fate, &dump.bytes),
+    }
+}
+
+fn entry_in_tc(
+    alloc: Global,
+    place: usize,
+    fate: Fate,
+    object: Object,
+    bytes: &[u8],
+) -> Result<Entry<Global>, Complaint> {
+    let message = TcMessage::parse(alloc, bytes)?;
+    Ok(entry_of(alloc, place, fate, object, &message)?)
+}
+
+fn entry_in_actions(
+    alloc: Global,
+    place: usize,
+    fate: Fate,
+    bytes: &[u8],
+) -> Result<Entry<Global>, Complaint> {
+    let message = TcActionMessage::parse(alloc, bytes)?;
+    Ok(entry_of_actions(alloc, place, fate, &message)?)
 }
 
 // What becomes of a dump by itself, and its request.
@@ -90,14 +115,36 @@ fn is_get(kind: Option<u16>) -> bool {
     }
 }
 
-/// The message of a dump, of this interface if one is given; none of the request of a dump, which captures of dumps have.
-pub(crate) fn dumped(made: Made, index: Option<i32>) -> Result<Option<Made>, Complaint> {
-    let flags = made.given.flags;
-    if flags & NLM_F_REQUEST == 0 {
-        return Ok(Some(with_index(made, index)));
+/// The dump of a line, of this interface if one is given. An answer of the kernel has none, nor has the request of a dump, which captures of
+/// dumps have.
+pub(crate) fn dump_in_line<T: Tables>(
+    alloc: Global,
+    forms: Forms<T>,
+    index: Option<i32>,
+    line: &[u8],
+) -> Result<Option<Made>, Complaint> {
+    match made_of(alloc, forms, line, Making::Restored)? {
+        Some(made) => dumped(made, index),
+        None => Ok(None),
     }
-    if flags & NLM_F_DUMP == NLM_F_DUMP && is_get(made.given.kind) {
-        return Ok(None);
+}
+
+fn dumped(made: Made, index: Option<i32>) -> Result<Option<Made>, Complaint> {
+    if is_dump(&made.given)? {
+        Ok(Some(with_index(made, index)))
+    } else {
+        Ok(None)
+    }
+}
+
+// True of a dump, false of the request of one.
+fn is_dump(given: &Given) -> Result<bool, Complaint> {
+    let flags = given.flags;
+    if flags & NLM_F_REQUEST == 0 {
+        return Ok(true);
+    }
+    if flags & NLM_F_DUMP == NLM_F_DUMP && is_get(given.kind) {
+        return Ok(false);
     }
     Err(Complaint::Member {
         name: "flags",
@@ -107,31 +154,19 @@ pub(crate) fn dumped(made: Made, index: Option<i32>) -> Result<Option<Made>, Com
 }
 
 // A message of this interface, if one is given; what is in a block that interfaces share has none (its index is -1).
-fn with_index(made: Made, index: Option<i32>) -> Made {
-    let Made {
-        given,
-        bytes,
-        settled,
-    } = made;
-    let bytes = match (given.holds, index) {
-        (Holds::Tc, Some(index)) => index_set(bytes, index),
-        _ => bytes,
-    };
-    Made {
-        given,
-        bytes,
-        settled,
+fn with_index(mut made: Made, index: Option<i32>) -> Made {
+    if let (Holds::Tc, Some(index)) = (made.given.holds, index) {
+        set_index(&mut made.bytes, index);
     }
+    made
 }
 
-fn index_set(bytes: Vec<u8>, index: i32) -> Vec<u8> {
-    let mut made = bytes;
-    if let [_, _, _, _, a, b, c, d, ..] = made.as_mut_slice() {
+fn set_index(bytes: &mut Vec<u8>, index: i32) {
+    if let [_, _, _, _, a, b, c, d, ..] = bytes.as_mut_slice() {
         if i32::from_le_bytes([*a, *b, *c, *d]) != -1 {
             [*a, *b, *c, *d] = index.to_le_bytes();
         }
     }
-    made
 }
 
 /// Makes the requests of all lines of an input, in an order in which each finds what it needs.
@@ -145,36 +180,11 @@ pub(crate) fn restore_in_order<T: Tables, R: BufRead, W: Write, E: Write>(
     has_refused: &mut bool,
 ) -> Result<(), Stop> {
     let mut output = Output::new(alloc, request.form);
-    output.begin()?;
-    output.write(writer)?;
-    let mut requests = Requests::new(alloc);
-    let mut line = Vec::new(alloc);
-    for number in 1..u64::MAX {
-        let found = next_line(reader, &mut line)?;
-        if found == Found::End {
-            break;
-        }
-        let kept = match dump_in(alloc, forms, request, found, &line) {
-            Ok(Some(dump)) => requests.keep(alloc, number, dump),
-            Ok(None) => Ok(()),
-            Err(complaint) => Err(complaint),
-        };
-        if let Err(complaint) = kept {
-            *has_refused = true;
-            say_complaint(alloc, errors, number, &complaint)?;
-        }
-    }
-    let Requests { entries, lines } = requests;
-    let plan = plan(alloc, entries)?;
-    if !plan.left.is_empty() {
-        *has_refused = true;
-        say_left(alloc, errors, &lines, &plan.left)?;
-    }
-    put_all(
+    restore_on(
         alloc,
+        forms,
         request,
-        &lines,
-        &plan.order,
+        reader,
         &mut output,
         writer,
         errors,
@@ -182,18 +192,106 @@ pub(crate) fn restore_in_order<T: Tables, R: BufRead, W: Write, E: Write>(
     )
 }
 
+fn restore_on<T: Tables, R: BufRead, W: Write, E: Write>(
+    alloc: Global,
+    forms: Forms<T>,
+    request: &Request,
+    reader: &mut R,
+    output: &mut Output,
+    writer: &mut W,
+    errors: &mut E,
+    has_refused: &mut bool,
+) -> Result<(), Stop> {
+    output.begin()?;
+    output.write(writer)?;
+    let requests = read_all(alloc, forms, request, reader, errors, has_refused)?;
+    put_requests(
+        alloc,
+        request,
+        requests,
+        output,
+        writer,
+        errors,
+        has_refused,
+    )
+}
+
+// Reads all lines, and keeps what is dumped.
+fn read_all<T: Tables, R: BufRead, E: Write>(
+    alloc: Global,
+    forms: Forms<T>,
+    request: &Request,
+    reader: &mut R,
+    errors: &mut E,
+    has_refused: &mut bool,
+) -> Result<Requests, Stop> {
+    let mut requests = Requests::new(alloc);
+    let mut line = Vec::new(alloc);
+    read_into(
+        alloc,
+        forms,
+        request,
+        reader,
+        &mut line,
+        &mut requests,
+        errors,
+        has_refused,
+    )?;
+    Ok(requests)
+}
+
+fn read_into<T: Tables, R: BufRead, E: Write>(
+    alloc: Global,
+    forms: Forms<T>,
+    request: &Request,
+    reader: &mut R,
+    line: &mut Vec<u8>,
+    requests: &mut Requests,
+    errors: &mut E,
+    has_refused: &mut bool,
+) -> Result<(), Stop> {
+    for number in 1..u64::MAX {
+        let found = next_line(reader, line)?;
+        if found == Found::End {
+            break;
+        }
+        if let Err(complaint) = keep_line(alloc, forms, request, found, line, number, requests) {
+            *has_refused = true;
+            say_complaint(alloc, errors, number, complaint)?;
+        }
+    }
+    Ok(())
+}
+
+// Keeps the dump of a line, if it has one.
+fn keep_line<T: Tables>(
+    alloc: Global,
+    forms: Forms<T>,
+    request: &Request,
+    found: Found,
+    line: &[u8],
+    number: u64,
+    requests: &mut Requests,
+) -> Result<(), Complaint> {
+    match dump_in(alloc, forms, request, found, line)? {
+        Some(dump) => requests.keep(alloc, number, &dump),
+        None => Ok(()),
+    }
+}
+
 fn say_complaint<E: Write>(
     alloc: Global,
     errors: &mut E,
     number: u64,
-    complaint: &Complaint,
-) -> Result<(), Stop> {
-    let text = format!(in alloc; "{complaint}")?;
-    say(alloc, errors, number, text.as_str())?;
-    Ok(())
+    complaint: Complaint,
+) -> Result<(), AllocError> {
+    match format!(in alloc; "{complaint}") {
+        Ok(text) => say(alloc, errors, number, text.as_str()),
+        Err(_) => Err(AllocError),
+    }
 }
 
-// The dump of a line. A blank line has none, nor has an answer of the kernel or the request of a dump.
+// The dump of a line, which may be blank.
 fn dump_in<T: Tables>(
     alloc: Global,
     forms: Forms<T>,
@@ -202,17 +300,64 @@ fn dump_in<T: Tables>(
     line: &[u8],
 ) -> Result<Option<Made>, Complaint> {
     match found {
-        Found::TooLong => return Err(Complaint::LongLine),
-        Found::NoMemory => return Err(Complaint::NoMemory),
-        Found::Whole | Found::End => (),
+        Found::TooLong => Err(Complaint::LongLine),
+        Found::NoMemory => Err(Complaint::NoMemory),
+        Found::Whole | Found::End => if is_blank(line) {
+            Ok(None)
+        } else {
+            dump_in_line(alloc, forms, request.index, line)
+        },
     }
-    if is_blank(line) {
-        return Ok(None);
+}
+
+// Writes the requests in an order, and says of each that has none why.
+fn put_requests<W: Write, E: Write>(
+    alloc: Global,
+    request: &Request,
+    requests: Requests,
+    output: &mut Output,
+    writer: &mut W,
+    errors: &mut E,
+    has_refused: &mut bool,
+) -> Result<(), Stop> {
+    let Requests { entries, lines } = requests;
+    let plan = plan(alloc, entries)?;
+    put_planned(
+        alloc,
+        request,
+        &lines,
+        &plan,
+        output,
+        writer,
+        errors,
+        has_refused,
+    )
+}
+
+fn put_planned<W: Write, E: Write>(
+    alloc: Global,
+    request: &Request,
+    lines: &[Planned],
+    plan: &Order<Item, Key, Global>,
+    output: &mut Output,
+    writer: &mut W,
+    errors: &mut E,
+    has_refused: &mut bool,
+) -> Result<(), Stop> {
+    if !plan.left.is_empty() {
+        *has_refused = true;
+        say_left(alloc, errors, lines, &plan.left)?;
     }
-    match made_of(alloc, forms, line, Making::Restored)? {
-        Some(made) => dumped(made, request.index),
-        None => Ok(None),
-    }
+    put_all(
+        alloc,
+        request,
+        lines,
+        &plan.order,
+        output,
+        writer,
+        errors,
+        has_refused,
+    )
 }
 
 // Says that another request makes what a line shows, if that is asked for.
@@ -221,11 +366,12 @@ fn say_made<E: Write>(
     request: &Request,
     errors: &mut E,
     number: u64,
-) -> Result<(), Stop> {
+) -> Result<(), AllocError> {
     if request.verbose {
-        say(alloc, errors, number, MADE_BY_ANOTHER)?;
+        say(alloc, errors, number, MADE_BY_ANOTHER)
+    } else {
+        Ok(())
     }
-    Ok(())
 }
 
 /// What is said of a dump that another request makes.
@@ -237,20 +383,20 @@ fn say_left<E: Write>(
     errors: &mut E,
     lines: &[Planned],
     left: &[Step<Item, Key, Global>],
-) -> Result<(), Stop> {
+) -> Result<(), AllocError> {
     let around = circle(alloc, left)?;
+    say_reasons(alloc, errors, lines, left, &around.left)
+}
+
+fn say_reasons<E: Write>(
+    alloc: Global,
+    errors: &mut E,
+    lines: &[Planned],
+    left: &[Step<Item, Key, Global>],
+    around: &[Step<usize, Key, Global>],
+) -> Result<(), AllocError> {
     for step in left {
-        let place = step.item.place;
-        match &step.item.fate {
-            Fate::Refused(reason) => say_reason(alloc, errors, lines, place, reason)?,
-            _ => {
-                if around.left.iter().any(|other| other.item == place) {
-                    say_reason(alloc, errors, lines, place, &Reason::Circle)?;
-                } else {
-                    say_reason(alloc, errors, lines, place, &Reason::Needs)?;
-                }
-            }
-        }
+        say_reason(alloc, errors, lines, &step.item, around)?;
     }
     Ok(())
 }
@@ -259,14 +405,36 @@ fn say_reason<E: Write>(
     alloc: Global,
     errors: &mut E,
     lines: &[Planned],
-    place: usize,
-    reason: &Reason,
-) -> Result<(), Stop> {
-    if let Some(planned) = lines.get(place) {
-        let text = format!(in alloc; "{reason}")?;
-        say(alloc, errors, planned.number, text.as_str())?;
+    item: &Item,
+    around: &[Step<usize, Key, Global>],
+) -> Result<(), AllocError> {
+    let Some(planned) = lines.get(item.place) else {
+        return Ok(());
+    };
+    let reason = reason_of(item, around);
+    let text = format!(in alloc; "{reason}")?;
+    say(alloc, errors, planned.number, text.as_str())
+}
+
+// Why a dump isn't made: a reason of its own, or that what it needs isn't, which may need the dump in turn.
+fn reason_of<'a>(item: &'a Item, around: &[Step<usize, Key, Global>]) -> &'a Reason {
+    match &item.fate {
+        Fate::Refused(reason) => reason,
+        _ => if is_around(item.place, around) {
+            &Reason::Circle
+        } else {
+            &Reason::Needs
+        },
     }
-    Ok(())
+}
+
+fn is_around(place: usize, around: &[Step<usize, Key, Global>]) -> bool {
+    for step in around {
+        if step.item == place {
+            return true;
+        }
+    }
+    false
 }
 
 // Writes requests in their order.
@@ -305,14 +473,5 @@ fn put_request<E: Write>(
     output: &mut Output,
     errors: &mut E,
 ) -> Result<bool, Stop> {
-    let notices = Vec::new(alloc);
-    put_message(
-        alloc,
-        &made.given,
-        &made.bytes,
-        &notices,
-        number,
-        output,
-        errors,
-    )
+    put_message(alloc, &made.given, &made.bytes, &[], number, output, errors)
 }

@@ -10,6 +10,7 @@ ghost use Rattle.tcmake_lines.specs.declared.run.Ended.{Ended};
 use crate::arguments::{Request, request_of};
 use crate::message::Forms;
 use crate::run::run;
+use clap::Error;
 use clap::error::ErrorKind;
 use std::alloc::Global;
 use std::env;
@@ -26,25 +27,35 @@ pub fn tcmake<T: Tables, R: Env + AllocGlobal + Input + Print + Eprint, E: Write
     forms: Forms<T>,
     errors: &mut E,
 ) -> ExitCode {
-    let alloc = rt.alloc();
-    let words = match env::args(rt) {
-        Ok(words) => Vec::from_iter(alloc, words),
-        Err(_) => return ExitCode::from(complain(errors, "tcmake: an argument is no text\n", 2)),
-    };
-    let words = match words {
-        Ok(words) => words,
-        Err(_) => return ExitCode::from(complain(errors, NO_MEMORY, 3)),
-    };
-    match request_of(alloc, words.as_slice()) {
-        Ok(request) => ExitCode::from(make(rt, forms, &request, errors)),
-        Err(error) => {
-            if error.kind() == ErrorKind::OutOfMemory {
-                return ExitCode::from(complain(errors, NO_MEMORY, 3));
-            }
-            let _ = error.print(rt);
-            ExitCode::from(if error.use_stderr() { 2 } else { 0 })
-        }
+    match env::args(rt) {
+        Ok(words) => match Vec::from_iter(rt.alloc(), words) {
+            Ok(words) => ExitCode::from(obey(rt, forms, words.as_slice(), errors)),
+            Err(_) => ExitCode::from(complain(errors, NO_MEMORY, 3)),
+        },
+        Err(_) => ExitCode::from(complain(errors, "tcmake: an argument is no text\n", 2)),
     }
+}
+
+// Does what these arguments ask for.
+fn obey<T: Tables, R: AllocGlobal + Input + Print + Eprint, E: Write>(
+    rt: &R,
+    forms: Forms<T>,
+    words: &[String],
+    errors: &mut E,
+) -> u8 {
+    match request_of(rt.alloc(), words) {
+        Ok(request) => make(rt, forms, &request, errors),
+        Err(error) => say(rt, &error, errors),
+    }
+}
+
+// Says what is wrong with the arguments, or the help or the version that they ask for.
+fn say<R: Print + Eprint, E: Write>(rt: &R, error: &Error, errors: &mut E) -> u8 {
+    if error.kind() == ErrorKind::OutOfMemory {
+        return complain(errors, NO_MEMORY, 3);
+    }
+    let _ = error.print(rt);
+    if error.use_stderr() { 2 } else { 0 }
 }
 
 const NO_MEMORY: &str = "tcmake: out of memory\n";

@@ -33,33 +33,28 @@ const RTM_GETACTION: u16 = 50;
 const OBJECTS: [Object; 4] = [Object::Qdisc, Object::Class, Object::Filter, Object::Chain];
 
 /// Makes of the message of a dump the request that restores it, with the dump's sequence number and time.
-pub(crate) fn restored(alloc: Global, made: Made) -> Result<Made, Complaint>
+pub(crate) fn restored(alloc: Global, made: &Made) -> Result<Made, Complaint>
     ensures canonical { IfOk result (λ r. IsCanonical r.given.holds r.bytes.items) }
-    ensures restores { IfOk result (λ r. (dump : DumpType) × IsDumpOf made.given.kind dump
+    ensures restores { IfOk result (λ r. (dump : DumpType) × IsDumpOf made.now.given.kind dump
         × (r.given.kind ≡ Some (request_type dump))
-        × Restores dump made.bytes.items r.bytes.items) }
+        × Restores dump made.now.bytes.items r.bytes.items) }
     ensures flags { IfOk result (λ r. r.given.flags ≡ 0x605) }
-    ensures sequence { IfOk result (λ r. r.given.sequence ≡ made.given.sequence) }
-    ensures time { IfOk result (λ r. r.given.packet.time ≡ made.given.packet.time) }
+    ensures sequence { IfOk result (λ r. r.given.sequence ≡ made.now.given.sequence) }
+    ensures time { IfOk result (λ r. r.given.packet.time ≡ made.now.given.packet.time) }
 {
-    let Made {
-        given,
-        bytes,
-        settled,
-    } = made;
-    let dump = dump_of(given.kind)?;
-    let request = request_for(alloc, dump, &bytes)?;
+    let dump = dump_of(made.given.kind)?;
+    let request = request_for(alloc, dump, &made.bytes)?;
     Ok(Made {
         given: Given {
             holds: held_by(dump),
             kind: Some(request.message_type),
             flags: request.flags,
-            sequence: given.sequence,
+            sequence: made.given.sequence,
             port: 0,
-            packet: packet_at(given.packet.time),
+            packet: packet_at(made.given.packet.time),
         },
         bytes: request.message,
-        settled,
+        settled: Vec::new(alloc),
     })
 }
 

@@ -9,7 +9,7 @@ use crate::arguments::{Making, Request};
 use crate::complaint::{Complaint, Notice};
 use crate::made::{Made, made_of};
 use crate::message::Forms;
-use crate::order::{MADE_BY_ANOTHER, dumped, restore_in_order};
+use crate::order::{MADE_BY_ANOTHER, dump_in_line, restore_in_order};
 use crate::restore::restored;
 use std::alloc::{AllocError, Global};
 use std::io::{BufRead, Write};
@@ -159,14 +159,14 @@ fn request_in<T: Tables>(
     index: Option<i32>,
     line: &[u8],
 ) -> Result<Option<Made>, Complaint> {
-    let made = match made_of(alloc, forms, line, Making::Restored)? {
-        Some(made) => made,
-        None => return Ok(None),
-    };
-    match dumped(made, index)? {
-        Some(dump) => Ok(Some(restored(alloc, dump)?)),
+    match dump_in_line(alloc, forms, index, line)? {
+        Some(dump) => request_for(alloc, &dump),
         None => Ok(None),
     }
+}
+
+fn request_for(alloc: Global, dump: &Made) -> Result<Option<Made>, Complaint> {
+    Ok(Some(restored(alloc, dump)?))
 }
 
 // What is said of a dump that another request makes, if that is asked for.

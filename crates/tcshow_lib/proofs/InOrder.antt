@@ -139,12 +139,6 @@ pub long_gives : (header : Option Holds) (dump next : List ℕ) (n : ℕ) (on : 
 long_gives header dump next n true now before after h none = long_goes_on header dump h.0 h.1 next before after h.2 none
 long_gives header dump next n false now before after h none = long_ends header dump h.0 h.1 before h.2
 
--- no bytes of a dump were read yet
-pub none_dumped : (header : Option Holds) (dump : List ℕ) (left : Option (List ℕ)) → dump ≡ []
-    → Gives (text_left header [] left) [] (text_left header dump left)
-none_dumped header dump left none =
-    subst (λ (d : List ℕ). Gives (text_left header [] left) [] (text_left header d left)) (sym none) (gives_none (text_left header [] left))
-
 -- the header that lines have stays
 pub same_header : (h k : Option Holds) (d e : List ℕ) (on : Bool) (xs : List Thing) (before after : Option (List ℕ)) → h ≡ k
     → GivesUpTo on (text_left h d before) xs (text_left h e after) → GivesUpTo on (text_left k d before) xs (text_left k e after)

@@ -1,12 +1,14 @@
 -- What is put on the output, one after the other.
 use Rattle.std.proofs.Common.{◌≡◌, ◌∙◌, ℕ, Bool, true, false, List, [], ◌∷◌, ◌++◌, refl, sym, ap, subst, append_assoc, append-nil}
-use Rattle.std.specs.Prelude.{◌||◌, is_some}
+use Rattle.std.specs.Prelude.{◌||◌, IsTrue, is_some}
+use Rattle.std.proofs.lemmas.List.Elements.{All-push}
 use Rattle.tc_outline.specs.declared.what.What.{What}
 use Rattle.tc_outline.specs.Located.{items_of_message, message_fault}
+use Rattle.tc_outline.specs.Page.{IsShown, is_shown}
 use Rattle.tcshow_lib.specs.Found.{Header, Message, Thing, message, answer, hole, other}
 use Rattle.tc_chosen.specs.declared.chosen.Chosen.{Chosen}
 use Rattle.tcshow_lib.specs.Chosen.{is_asked, is_taken}
-use Rattle.tcshow_lib.specs.Shown.{IsPage, IfTaken, Nothing, Shows, ShowsEach, ShowsMessage, ShowsAnswer, ShowsNotice}
+use Rattle.tcshow_lib.specs.Shown.{ended, IsPage, IfTaken, Nothing, Shows, ShowsEach, ShowsMessage, ShowsAnswer, ShowsNotice}
 use Rattle.tcshow_lib.specs.State.{State, Grows, Puts}
 
 pub or_assoc : (a b c : Bool) → ((a || b) || c) ≡ (a || (b || c))
@@ -42,11 +44,44 @@ grows_counted t b s m n g h = subst (λ x. Grows x b s n) (append-nil t) (grows_
 pub counted_grows : (t : List ℕ) (b : Bool) (s m n : State) → Grows [] b s m → Grows t false m n → Grows t b s n
 counted_grows t b s m n g h = subst (λ x. Grows t x s n) (or_false b) (grows_then [] t b false s m n g h)
 
--- the same from a state that is the same
-pub grows_from : (t : List ℕ) (b : Bool) (s m n : State) → m ≡ s → Grows t b m n → Grows t b s n
-grows_from t b s m n e h = subst (λ x. Grows t b x n) e h
-
 -- ---- what is shown
+
+-- a page more, and the line feed that ends it
+pub page_line : (s : State) (json : Bool) (items before : List ℕ) → json ≡ s.json → (shown : List ℕ) × IsShown true shown × (before ≡ s.text ++ shown)
+    → items ≡ before ++ 10 ∷ []
+    → (text : List ℕ) × IsPage text
+    × Grows text false s (record { json = json; header = s.header; choice = s.choice; summary = s.summary; text = items; bad = s.bad })
+page_line s json items before same p fed = (
+  ended p.0,
+  (p.0, p.1, refl),
+  record {
+    json = same;
+    header = refl;
+    choice = refl;
+    summary = refl;
+    text = fed ∙ ap (λ l. l ++ 10 ∷ []) p.2 ∙ append_assoc s.text p.0 (10 ∷ []);
+    bad = sym (or_false s.bad);
+  },
+)
+
+-- one more line feed, which ends a paragraph
+pub paragraph : (s m : State) (json : Bool) (items : List ℕ) → json ≡ m.json → (text : List ℕ) × IsPage text × Grows text false s m
+    → items ≡ m.text ++ 10 ∷ []
+    → (text : List ℕ) × IsPage text
+    × Grows text false s (record { json = json; header = m.header; choice = m.choice; summary = m.summary; text = items; bad = m.bad })
+paragraph s m json items same p fed =
+    let shown = subst (λ l. IsShown true l) (sym p.1.2) (All-push (λ b. IsTrue (is_shown true b)) p.1.0 10 p.1.1 refl) in (
+      ended p.0,
+      (p.0, shown, refl),
+      record {
+        json = same ∙ p.2.json;
+        header = p.2.header;
+        choice = p.2.choice;
+        summary = p.2.summary;
+        text = fed ∙ ap (λ l. l ++ 10 ∷ []) p.2.text ∙ append_assoc s.text p.0 (10 ∷ []);
+        bad = p.2.bad;
+      },
+    )
 
 -- a page, and whether it ends with a fault
 pub page_counted : (what : What) (m : Message) (b : Bool) (s a n : State) → (text : List ℕ) × IsPage text × Grows text false s a

@@ -1,23 +1,10 @@
 //! The answer to one message.
 
-ghost use Rattle.std.specs.Prelude.{◌≡◌, is_some, option_map};
-
 use crate::found::Found;
 use crate::line::line_of;
-use crate::pages::{begin_message, columns_of};
+use crate::pages::{begin_message, show_attributes};
 use crate::shower::Shower;
 use std::alloc::{AllocError, Allocator};
-use tc_outline::{Fault, outline};
-
-// The name of a fault, where there is one.
-fn name_of(fault: &Option<Fault>) -> Option<&'static str>
-    ensures { is_some result ≡ is_some (option_map (λ fault. fault.error) fault.now) }
-{
-    match fault {
-        Some(fault) => Some(fault.error.name()),
-        None => None,
-    }
-}
 
 impl<'a, A: Allocator + Copy> Shower<'a, A> {
     ghost use Rattle.std.specs.Prelude.{◌≡◌, ◌∷◌, [], List, ℕ, Bool, true, false, OnOk};
@@ -59,13 +46,9 @@ impl<'a, A: Allocator + Copy> Shower<'a, A> {
             × Grows text bad (state_of self.old) (state_of self.new)) }
     {
         begin_message(&mut self.page, found)?;
-        let given = self.asked.names;
-        let names = self.links.with(given.names)?;
-        let columns = columns_of(self.asked, names.as_slice(), found);
-        let fault = outline(self.json, &mut self.page, found.payload, columns)?;
-        drop(names);
+        let name = show_attributes(self.json, self.asked, &self.links, &mut self.page, found)?;
         self.put_page()?;
-        self.count_fault(name_of(&fault))
+        self.count_fault(name)
     }
 
     fn put_line(&mut self, found: &Found<'_>) -> Result<(), AllocError>
@@ -75,7 +58,7 @@ impl<'a, A: Allocator + Copy> Shower<'a, A> {
             × Grows text bad (state_of self.old) (state_of self.new)) }
     {
         let line = line_of(self.alloc, self.json, found)?;
-        self.put_json(&line.json)?;
+        self.put_json(line.json)?;
         self.count_fault(line.fault)
     }
 }

@@ -270,26 +270,38 @@ fn action_of(value: Value) -> ArgAction {
     }
 }
 
-fn with_name<'a>(option: Arg<'a>, value: Value) -> Arg<'a> {
+fn name_of(value: Value) -> Option<&'static str> {
     match value {
-        Value::Nothing => option,
+        Value::Nothing => None,
         Value::Text(name)
         | Value::TextOrNothing(name)
         | Value::Word(name, _)
         | Value::Texts(name)
         | Value::Numbers(name)
-        | Value::ShortNumbers(name) => option.value_name(name),
+        | Value::ShortNumbers(name) => Some(name),
+    }
+}
+
+fn with_name<'a>(option: Arg<'a>, value: Value) -> Arg<'a> {
+    match name_of(value) {
+        Some(name) => option.value_name(name),
+        None => option,
     }
 }
 
 fn with_form<'a>(option: Arg<'a>, value: Value) -> Arg<'a> {
     match value {
         Value::Nothing | Value::Text(_) | Value::Texts(_) => option,
-        Value::TextOrNothing(_) => option.num_args(0..=1).default_missing_value(""),
+        Value::TextOrNothing(_) => or_nothing(option),
         Value::Word(_, words) => option.value_parser(words),
         Value::Numbers(_) => option.value_parser(value_parser!(u32)),
         Value::ShortNumbers(_) => option.value_parser(value_parser!(u16)),
     }
+}
+
+// A text or nothing, which is the empty text then.
+fn or_nothing<'a>(option: Arg<'a>) -> Arg<'a> {
+    option.num_args(0..=1).default_missing_value("")
 }
 
 // The file, which may stand behind `--read` too.
@@ -305,7 +317,8 @@ fn read<'a>(alloc: Global) -> Arg<'a> {
     option(alloc, "read", Value::Text("FILE"), INPUT, "The same").short('r')
 }
 
-fn begun<'a>(alloc: Global, file: Arg<'a>) -> Result<Command<'a>, AllocError> {
+fn begun<'a>(alloc: Global) -> Result<Command<'a>, AllocError> {
+    let file = file(alloc)?;
     Command::new(alloc, "tcshow")
         .version("0.1.0")
         .about(ABOUT)
@@ -313,15 +326,28 @@ fn begun<'a>(alloc: Global, file: Arg<'a>) -> Result<Command<'a>, AllocError> {
         .arg(file)
 }
 
+// How messages are shown; no two of these go together.
+fn form_group<'a>(alloc: Global) -> Result<ArgGroup<'a>, AllocError> {
+    ArgGroup::new(alloc, "forms").arg("oneline")?.arg("json")
+}
+
+// What is shown of the tables; no two of these go together.
+fn table_group<'a>(alloc: Global) -> Result<ArgGroup<'a>, AllocError> {
+    ArgGroup::new(alloc, "tables").arg("explain")?.arg("schema")
+}
+
+fn with_forms<'a>(alloc: Global) -> Result<Command<'a>, AllocError> {
+    let forms = form_group(alloc)?;
+    begun(alloc)?.group(forms)
+}
+
+fn with_groups<'a>(alloc: Global) -> Result<Command<'a>, AllocError> {
+    let tables = table_group(alloc)?;
+    with_forms(alloc)?.group(tables)
+}
+
 fn command<'a>(alloc: Global) -> Result<Command<'a>, AllocError> {
-    let forms = ArgGroup::new(alloc, "forms").arg("oneline")?.arg("json")?;
-    let tables = ArgGroup::new(alloc, "tables")
-        .arg("explain")?
-        .arg("schema")?;
-    let mut command = begun(alloc, file(alloc)?)?
-        .group(forms)?
-        .group(tables)?
-        .arg(read(alloc))?;
+    let mut command = with_groups(alloc)?.arg(read(alloc))?;
     for (name, value, heading, help) in &OPTIONS {
         command = command.arg(option(alloc, *name, *value, *heading, *help))?;
     }
@@ -361,59 +387,83 @@ fn task_of<'a>(matches: &ArgMatches<'a>) -> Task<'a> {
     match matches.get_str("explain") {
         None => Task::Show,
         Some("") => Task::Explain(None),
-        Some(kind) => Task::Explain(Some(kind)),
+        kind => Task::Explain(kind),
     }
 }
 
-// The words of an option.
-fn words_of<'a>(
-    alloc: Global,
+// Puts the words of an option behind those that are there.
+fn put_words<'a>(
     matches: &ArgMatches<'a>,
     name: &str,
-) -> Result<Vec<&'a str>, AllocError> {
+    all: &mut Vec<&'a str>,
+) -> Result<(), AllocError> {
     match matches.get_strs(name) {
-        Some(words) => Vec::from_slice(alloc, words),
-        None => Ok(Vec::new(alloc)),
+        Some(words) => all.extend_from_slice(words),
+        None => Ok(()),
     }
 }
 
 // The numbers of an option, which the parser knows to be numbers.
-fn numbers_of(alloc: Global, matches: &ArgMatches<'_>, name: &str) -> Result<Vec<u32>, AllocError> {
-    let mut numbers = Vec::new(alloc);
-    for word in words_of(alloc, matches, name)?.iter() {
+fn put_numbers(matches: &ArgMatches<'_>, name: &str, all: &mut Vec<u32>) -> Result<(), AllocError> {
+    let Some(words) = matches.get_strs(name) else {
+        return Ok(());
+    };
+    for word in words {
         if let Ok(number) = word.parse::<u32>() {
-            numbers.push(number)?;
+            all.push(number)?;
         }
     }
-    Ok(numbers)
+    Ok(())
+}
+
+// What the arguments say beside the values that choose messages.
+fn begun_request<'a>(alloc: Global, matches: &ArgMatches<'a>) -> Request<'a> {
+    Request {
+        task: task_of(matches),
+        file: match matches.get_str("FILE") {
+            Some(file) => Some(file),
+            None => matches.get_str("read"),
+        },
+        names: matches.get_str("names"),
+        form: form_of(matches),
+        all: matches.get_flag("all"),
+        without_header: without_header(matches),
+        kinds: Vec::new(alloc),
+        types: Vec::new(alloc),
+        interfaces: Vec::new(alloc),
+        handles: Vec::new(alloc),
+        parents: Vec::new(alloc),
+        chains: Vec::new(alloc),
+        priorities: Vec::new(alloc),
+        since: matches.get_str("since"),
+        until: matches.get_str("until"),
+        refused: matches.get_flag("refused"),
+        has_summary: matches.get_flag("summary"),
+        colours: colours_of(matches),
+        in_colours: false,
+    }
+}
+
+// Puts the values that choose messages.
+fn put_choice<'a>(matches: &ArgMatches<'a>, request: &mut Request<'a>) -> Result<(), AllocError> {
+    put_words(matches, "kind", &mut request.kinds)?;
+    put_words(matches, "type", &mut request.types)?;
+    put_words(matches, "dev", &mut request.interfaces)?;
+    put_words(matches, "handle", &mut request.handles)?;
+    put_words(matches, "parent", &mut request.parents)?;
+    put_numbers(matches, "chain", &mut request.chains)?;
+    put_numbers(matches, "pref", &mut request.priorities)
+}
+
+fn request_in<'a>(alloc: Global, matches: &ArgMatches<'a>) -> Result<Request<'a>, Error> {
+    let mut request = begun_request(alloc, matches);
+    put_choice(matches, &mut request)?;
+    Ok(request)
 }
 
 /// What the arguments say, the program's name first. The error is a mistake in them, a request for help or for the
 /// version, or that memory ran out.
 pub fn request_of<'a, S: AsStr>(alloc: Global, words: &'a [S]) -> Result<Request<'a>, Error> {
     let matches = command(alloc)?.try_get_matches_from(words)?;
-    Ok(Request {
-        task: task_of(&matches),
-        file: match matches.get_str("FILE") {
-            Some(file) => Some(file),
-            None => matches.get_str("read"),
-        },
-        names: matches.get_str("names"),
-        form: form_of(&matches),
-        all: matches.get_flag("all"),
-        without_header: without_header(&matches),
-        kinds: words_of(alloc, &matches, "kind")?,
-        types: words_of(alloc, &matches, "type")?,
-        interfaces: words_of(alloc, &matches, "dev")?,
-        handles: words_of(alloc, &matches, "handle")?,
-        parents: words_of(alloc, &matches, "parent")?,
-        chains: numbers_of(alloc, &matches, "chain")?,
-        priorities: numbers_of(alloc, &matches, "pref")?,
-        since: matches.get_str("since"),
-        until: matches.get_str("until"),
-        refused: matches.get_flag("refused"),
-        has_summary: matches.get_flag("summary"),
-        colours: colours_of(&matches),
-        in_colours: false,
-    })
+    request_in(alloc, &matches)
 }

@@ -42,17 +42,21 @@ impl<'a> NoChoice<'a> {
     /// The complaint about it: the word that isn't known, and the words that are.
     pub fn text(&self, alloc: Global) -> Result<String, fmt::Error> {
         let mut text = String::new(alloc);
+        self.write(&mut text)?;
+        Ok(text)
+    }
+
+    fn write<W: fmt::Write>(&self, out: &mut W) -> fmt::Result {
         match *self {
             NoChoice::Kind(kind) => {
-                write!(text, "tcshow: unknown kind '{kind}'; the kinds are:\n")?;
-                write_all_kinds(&mut text)?;
+                write!(out, "tcshow: unknown kind '{kind}'; the kinds are:\n")?;
+                write_all_kinds(out)
             }
             NoChoice::Word(what, word, forms) => {
-                write!(text, "tcshow: unknown {what} '{word}': {forms}\n")?;
+                write!(out, "tcshow: unknown {what} '{word}': {forms}\n")
             }
-            NoChoice::NoMemory => return Err(fmt::Error),
+            NoChoice::NoMemory => Err(fmt::Error),
         }
-        Ok(text)
     }
 }
 
@@ -64,15 +68,33 @@ impl<'r, 'a> Choice<'r, 'a> {
         names: &[(u32, &str)],
     ) -> Result<Choice<'r, 'a>, NoChoice<'a>> {
         check_kinds(request.kinds.as_slice())?;
-        Ok(Choice {
+        let mut choice = Choice {
             request,
-            types: types_in(alloc, request.types.as_slice())?,
-            interfaces: interfaces_in(alloc, names, request.interfaces.as_slice())?,
-            handles: handles_in(alloc, request.handles.as_slice())?,
-            parents: handles_in(alloc, request.parents.as_slice())?,
-            since: time_in(request.since)?,
-            until: time_in(request.until)?,
-        })
+            types: Vec::new(alloc),
+            interfaces: Vec::new(alloc),
+            handles: Vec::new(alloc),
+            parents: Vec::new(alloc),
+            since: None,
+            until: None,
+        };
+        choice.put_words(names)?;
+        Ok(choice)
+    }
+
+    // Puts what the words of the request stand for.
+    fn put_words(&mut self, names: &[(u32, &str)]) -> Result<(), NoChoice<'a>> {
+        let request = self.request;
+        put_types(request.types.as_slice(), &mut self.types)?;
+        put_interfaces(names, request.interfaces.as_slice(), &mut self.interfaces)?;
+        put_handles(request.handles.as_slice(), &mut self.handles)?;
+        put_handles(request.parents.as_slice(), &mut self.parents)?;
+        self.put_times()
+    }
+
+    fn put_times(&mut self) -> Result<(), NoChoice<'a>> {
+        self.since = time_in(self.request.since)?;
+        self.until = time_in(self.request.until)?;
+        Ok(())
     }
 
     /// The messages that are chosen.
@@ -101,49 +123,46 @@ fn check_kinds<'a>(words: &[&'a str]) -> Result<(), NoChoice<'a>> {
     Ok(())
 }
 
-fn put<T: Drop>(all: &mut Vec<T>, value: T) -> Result<(), AllocError> {
+fn put<T: Drop>(value: T, all: &mut Vec<T>) -> Result<(), AllocError> {
     all.push(value)?;
     Ok(())
 }
 
-fn types_in<'a>(alloc: Global, words: &[&'a str]) -> Result<Vec<Types>, NoChoice<'a>> {
-    let mut all = Vec::new(alloc);
+fn put_types<'a>(words: &[&'a str], all: &mut Vec<Types>) -> Result<(), NoChoice<'a>> {
     for word in words {
         match types_of_word(*word) {
-            Some(types) => put(&mut all, types)?,
+            Some(types) => put(types, all)?,
             None => return Err(NoChoice::Word("type", *word, TYPE_FORMS)),
         }
     }
-    Ok(all)
+    Ok(())
 }
 
-fn handles_in<'a>(alloc: Global, words: &[&'a str]) -> Result<Vec<u32>, NoChoice<'a>> {
-    let mut all = Vec::new(alloc);
+fn put_handles<'a>(words: &[&'a str], all: &mut Vec<u32>) -> Result<(), NoChoice<'a>> {
     for word in words {
         match handle_of_word(*word) {
-            Some(handle) => put(&mut all, handle)?,
+            Some(handle) => put(handle, all)?,
             None => return Err(NoChoice::Word("handle", *word, HANDLE_FORMS)),
         }
     }
-    Ok(all)
+    Ok(())
 }
 
 // What an interface can be given by.
 const INTERFACE_FORMS: &str = "an interface is a number, or a name in the file of --names";
 
-fn interfaces_in<'a>(
-    alloc: Global,
+fn put_interfaces<'a>(
     names: &[(u32, &str)],
     words: &[&'a str],
-) -> Result<Vec<u32>, NoChoice<'a>> {
-    let mut all = Vec::new(alloc);
+    all: &mut Vec<u32>,
+) -> Result<(), NoChoice<'a>> {
     for word in words {
         match interface_of(names, *word) {
-            Some(number) => put(&mut all, number)?,
+            Some(number) => put(number, all)?,
             None => return Err(NoChoice::Word("interface", *word, INTERFACE_FORMS)),
         }
     }
-    Ok(all)
+    Ok(())
 }
 
 fn time_in(word: Option<&str>) -> Result<Option<Time>, NoChoice<'_>> {

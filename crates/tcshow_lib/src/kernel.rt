@@ -8,14 +8,15 @@ use crate::found::{Found, Header, Origin, header_of};
 use crate::json::{AnswerLine, Said};
 use crate::line::json_of;
 use crate::pages::{
-    columns_of, show_netlink, show_numbers, show_time_of, some_text, text_of, time_page,
+    show_attributes, show_netlink, show_numbers, show_some_time, show_time_of, show_word,
+    some_text, text_of,
 };
 use crate::shower::{Shower, layout_of};
 use nla_frames::strip_nul;
 use std::alloc::{AllocError, Allocator, Global};
 use std::str;
 use tc_capture::{Answer, NLMSG_HEADER_LEN, NetlinkMessage, answer_in, errno_name};
-use tc_outline::{Layout, Page, outline, path_at};
+use tc_outline::{Layout, Page, path_at};
 
 /// An answer of the kernel to a request of traffic control.
 #[derive(Clone, Copy)]
@@ -114,13 +115,21 @@ impl<'a, A: Allocator + Copy> Shower<'a, A> {
         ensures put { OnOk result ((text : List ℕ) × ShowsAnswer self.old.output.is_json (header_view reply.now.header) reply.now.answer.is_capped
             (message_view reply.now.request) text × Grows text false (state_of self.old) (state_of self.new)) }
     {
-        let mut errno = Page::new(self.alloc, Layout::OneLine);
-        reply.show_errno(&mut errno)?;
-        self.count_row("NLMSG_ERROR", text_of(&errno))?;
+        let errno = errno_page(self.alloc, reply)?;
+        self.show_reply_of(text_of(&errno), reply)
+    }
+
+    // The same, with the name of the error.
+    fn show_reply_of(&mut self, errno: &str, reply: &Reply<'_>) -> Result<(), AllocError>
+        ensures form { self.new.output.is_json ≡ self.old.output.is_json }
+        ensures put { OnOk result ((text : List ℕ) × ShowsAnswer self.old.output.is_json (header_view reply.now.header) reply.now.answer.is_capped
+            (message_view reply.now.request) text × Grows text false (state_of self.old) (state_of self.new)) }
+    {
+        self.count_row("NLMSG_ERROR", errno)?;
         if self.output.is_json() {
-            self.put_reply_line(text_of(&errno), reply)
+            self.put_reply_line(errno, reply)
         } else {
-            self.put_reply_outline(text_of(&errno), reply)
+            self.put_reply_outline(errno, reply)
         }
     }
 
@@ -131,7 +140,7 @@ impl<'a, A: Allocator + Copy> Shower<'a, A> {
             (message_view reply.now.request) text × Grows text false (state_of self.old) (state_of self.new)) }
     {
         let line = reply_line(self.alloc, self.json, errno, reply)?;
-        self.put_json(&line)
+        self.put_json(line)
     }
 
     // What the kernel says, and the outline of the request, indented.
@@ -141,17 +150,37 @@ impl<'a, A: Allocator + Copy> Shower<'a, A> {
             (message_view reply.now.request) text × Grows text false (state_of self.old) (state_of self.new)) }
     {
         show_said(self.alloc, &mut self.page, errno, reply)?;
-        let mut request = Page::new(self.alloc, layout_of(self.asked.form));
-        show_netlink(&mut request, &reply.request)?;
-        if !reply.answer.is_capped {
-            let given = self.asked.names;
-            let names = self.links.with(given.names)?;
-            let columns = columns_of(self.asked, names.as_slice(), &reply.request);
-            let _ = outline(self.json, &mut request, reply.request.payload, columns)?;
-        }
-        put_indented(&mut self.page, text_of(&request))?;
+        let request = self.request_page(reply)?;
+        put_request(&mut self.page, request)?;
         self.put_page()
     }
+
+    // A page with the outline of the request.
+    fn request_page(&self, reply: &Reply<'_>) -> Result<Page<A>, AllocError> {
+        let mut page = Page::new(self.alloc, layout_of(self.asked.form));
+        self.show_request(reply, &mut page)?;
+        Ok(page)
+    }
+
+    fn show_request(&self, reply: &Reply<'_>, page: &mut Page<A>) -> Result<(), AllocError> {
+        show_netlink(page, &reply.request)?;
+        if !reply.answer.is_capped {
+            show_attributes(self.json, self.asked, &self.links, page, &reply.request)?;
+        }
+        Ok(())
+    }
+}
+
+// A page with the name of the error.
+fn errno_page<A: Allocator>(alloc: A, reply: &Reply<'_>) -> Result<Page<A>, AllocError> {
+    let mut page = Page::new(alloc, Layout::OneLine);
+    reply.show_errno(&mut page)?;
+    Ok(page)
+}
+
+// The outline of a request, indented.
+fn put_request<A: Allocator>(page: &mut Page<A>, request: Page<A>) -> Result<(), AllocError> {
+    put_indented(page, text_of(&request))
 }
 
 // Lines, indented; on one line, in braces.
@@ -170,30 +199,72 @@ fn show_said<A: Allocator + Copy>(
     errno: &str,
     reply: &Reply<'_>,
 ) -> Result<(), AllocError> {
-    show_time_of(page, &reply.request.origin)?;
-    page.text(reply.header.name)?;
-    page.blank()?;
-    page.text(errno)?;
-    show_numbers(page, &reply.header)?;
+    begin_answer(page, errno, reply)?;
     if let Some(text) = reply.answer.text {
         page.blank()?;
         page.quoted(strip_nul(text))?;
     }
-    if let Some(offset) = reply.offset() {
-        page.text(" at ")?;
-        page.number(offset)?;
-        let mut path = Page::new(alloc, Layout::OneLine);
-        reply.show_path(&mut path)?;
-        if !text_of(&path).is_empty() {
-            page.blank()?;
-            page.text(text_of(&path))?;
+    match reply.offset() {
+        Some(offset) => show_fault_at(alloc, page, offset, reply),
+        None => Ok(()),
+    }
+}
+
+// The time, the name of the error and the header.
+fn begin_answer<A: Allocator>(
+    page: &mut Page<A>,
+    errno: &str,
+    reply: &Reply<'_>,
+) -> Result<(), AllocError> {
+    show_time_of(page, &reply.request.origin)?;
+    page.text(reply.header.name)?;
+    page.blank()?;
+    page.text(errno)?;
+    show_numbers(page, &reply.header)
+}
+
+// Where the fault is, in bytes and as a place in the tree.
+fn show_fault_at<A: Allocator>(
+    alloc: A,
+    page: &mut Page<A>,
+    offset: u64,
+    reply: &Reply<'_>,
+) -> Result<(), AllocError> {
+    page.text(" at ")?;
+    page.number(offset)?;
+    let mut path = Page::new(alloc, Layout::OneLine);
+    reply.show_path(&mut path)?;
+    show_word(page, text_of(&path))
+}
+
+// What a line of JSON says of an answer, as texts.
+#[derive(Drop)]
+struct Texts<A: Allocator> {
+    // The time of its packet.
+    time: Page<A>,
+    // What is wrong.
+    text: Page<A>,
+    // Where that is.
+    path: Page<A>,
+}
+
+impl<A: Allocator + Copy> Texts<A> {
+    fn new(alloc: A) -> Texts<A> {
+        Texts {
+            time: Page::new(alloc, Layout::OneLine),
+            text: Page::new(alloc, Layout::OneLine),
+            path: Page::new(alloc, Layout::OneLine),
         }
     }
-    Ok(())
+
+    fn show(&mut self, reply: &Reply<'_>) -> Result<(), AllocError> {
+        show_some_time(&mut self.time, &reply.request.origin)?;
+        reply.show_text(&mut self.text)?;
+        reply.show_path(&mut self.path)
+    }
 }
 
 // The line of JSON.
-#[tactic(auto, unfolding(crate::specs::Line::IsAnswered))]
 fn reply_line<A: Allocator + Copy>(
     alloc: A,
     json: Global,
@@ -203,19 +274,29 @@ fn reply_line<A: Allocator + Copy>(
     ensures { IfOk result (λ line. IsAnswered (header_view reply.now.header) errno.now reply.now.answer.is_capped
         (message_view reply.now.request) line.items) }
 {
-    let time = time_page(alloc, &reply.request.origin)?;
-    let mut text = Page::new(alloc, Layout::OneLine);
-    let mut path = Page::new(alloc, Layout::OneLine);
-    reply.show_text(&mut text)?;
-    reply.show_path(&mut path)?;
+    let mut texts = Texts::new(alloc);
+    texts.show(reply)?;
+    line_with(json, errno, reply, &texts)
+}
+
+#[tactic(auto, unfolding(crate::specs::Line::IsAnswered))]
+fn line_with<A: Allocator>(
+    json: Global,
+    errno: &str,
+    reply: &Reply<'_>,
+    texts: &Texts<A>,
+) -> Result<Vec<u8>, AllocError>
+    ensures { IfOk result (λ line. IsAnswered (header_view reply.now.header) errno.now reply.now.answer.is_capped
+        (message_view reply.now.request) line.items) }
+{
     let line = AnswerLine {
-        time: some_text(&time),
+        time: some_text(&texts.time),
         header: reply.header,
         said: Said {
             errno,
-            text: some_text(&text),
+            text: some_text(&texts.text),
             offset: reply.offset(),
-            path: some_text(&path),
+            path: some_text(&texts.path),
         },
         is_capped: reply.answer.is_capped,
         request: reply.request,

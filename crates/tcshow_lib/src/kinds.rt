@@ -4,7 +4,8 @@ use std::alloc::{AllocError, Allocator};
 use std::fmt;
 use tc_kinds::{ACTION_MESSAGE, TC_MESSAGE, TcTables};
 use tc_schema::{
-    LISTS, PLACES, all_names, kinds_of, knows_kind, notes_at_places, put_kind, put_schema,
+    LISTS, NamesAt, Noted, PLACES, all_names, kinds_of, knows_kind, notes_at_places, put_kind,
+    put_schema,
 };
 
 /// True of a kind that a table has.
@@ -31,16 +32,28 @@ pub fn explain<A: Allocator + Copy>(
     out: &mut Vec<u8, A>,
 ) -> Result<(), AllocError> {
     let notes = notes_at_places(alloc, &PLACES)?;
+    explain_by(alloc, notes.as_slice(), kind, out)
+}
+
+fn explain_by<A: Allocator + Copy>(
+    alloc: A,
+    notes: &[Noted<'static>],
+    kind: &str,
+    out: &mut Vec<u8, A>,
+) -> Result<(), AllocError> {
     let names = all_names(alloc)?;
+    put_kinds(notes, names.as_slice(), kind, out)
+}
+
+// Puts what both lists of kinds have of one.
+fn put_kinds<A: Allocator>(
+    notes: &[Noted<'static>],
+    names: &[NamesAt<'static>],
+    kind: &str,
+    out: &mut Vec<u8, A>,
+) -> Result<(), AllocError> {
     for place in &LISTS {
-        put_kind(
-            TcTables,
-            notes.as_slice(),
-            names.as_slice(),
-            *place,
-            kind,
-            out,
-        )?;
+        put_kind(TcTables, notes, names, *place, kind, out)?;
     }
     Ok(())
 }

@@ -1,11 +1,11 @@
 //! A message as a line of JSON.
 
-ghost use Rattle.std.specs.Prelude.{◌≡◌, IfOk, Some, None, [], is_some, true};
+ghost use Rattle.std.specs.Prelude.{◌≡◌, IfOk, Some, None, [], is_some, option_map, true};
 ghost use Rattle.serde.specs.Event.{Log};
 ghost use Rattle.serde_json.specs.Sent.{IsTextOf};
 ghost use Rattle.tcshow_lib.specs.ByWords.{IsLineOf, is_refused, is_fault};
 ghost use Rattle.tcshow_lib.specs.Found.{message_view};
-ghost use Rattle.tcshow_lib.specs.Line.{IsAccepted, IsRefused, IsLine};
+ghost use Rattle.tcshow_lib.specs.Line.{IsAccepted, IsRefused, IsLine, line_events, verdict_events};
 
 use crate::found::Found;
 use crate::json::{MessageLine, Verdict};
@@ -66,22 +66,28 @@ fn accepted_line<A: Allocator + Copy, M: WholeMessage<A>>(
     ensures fault { IfOk result (λ line. line.fault ≡ None) }
     ensures line { IfOk result (λ line. IsAccepted M.words (message_view found.now) (M.message message.now) line.json.items) }
 {
-    let time = time_page(alloc, &found.origin)?;
+    let json = accepted_json(alloc, json, found, message)?;
+    Ok(Line { json, fault: None })
+}
+
+fn accepted_json<A: Allocator + Copy, M: WholeMessage<A>>(
+    alloc: A,
+    json: Global,
+    found: &Found<'_>,
+    message: &M,
+) -> Result<Vec<u8>, AllocError>
+    ensures { IfOk result (λ line. IsAccepted M.words (message_view found.now) (M.message message.now) line.items) }
+{
     let fits = message.is_writable();
     let settled = message.is_settled();
     let canonical = M::is_canonical(found.payload);
-    let line = MessageLine {
-        time: some_text(&time),
-        found: *found,
-        verdict: Verdict::Read {
-            fits,
-            settled,
-            canonical,
-        },
-        alloc: json,
+    let verdict = Verdict::Read {
+        fits,
+        settled,
+        canonical,
     };
-    let json = json_of(json, &line)?;
-    Ok(Line { json, fault: None })
+    let time = time_page(alloc, &found.origin)?;
+    json_with(json, some_text(&time), found, verdict)
 }
 
 // The line of a message that is refused.
@@ -94,24 +100,62 @@ fn refused_line<A: Allocator + Copy>(
     ensures fault { IfOk result (λ line. is_some line.fault ≡ true) }
     ensures line { IfOk result (λ line. IsRefused (message_view found.now) error.now line.json.items) }
 {
-    let time = time_page(alloc, &found.origin)?;
-    let mut path = Page::new(alloc, Layout::OneLine);
-    let offset = show_place(&mut path, found)?;
-    let line = MessageLine {
-        time: some_text(&time),
-        found: *found,
-        verdict: Verdict::Refused {
-            error,
-            offset: offset as u64,
-            path: text_of(&path),
-        },
-        alloc: json,
-    };
-    let json = json_of(json, &line)?;
+    let json = refused_json(alloc, json, found, error)?;
     Ok(Line {
         json,
         fault: Some(error.name()),
     })
+}
+
+fn refused_json<A: Allocator + Copy>(
+    alloc: A,
+    json: Global,
+    found: &Found<'_>,
+    error: &DecodeError,
+) -> Result<Vec<u8>, AllocError>
+    ensures { IfOk result (λ line. IsRefused (message_view found.now) error.now line.items) }
+{
+    let time = time_page(alloc, &found.origin)?;
+    refused_at(alloc, json, some_text(&time), found, error)
+}
+
+// The same with the time of its packet.
+fn refused_at<A: Allocator>(
+    alloc: A,
+    json: Global,
+    time: Option<&str>,
+    found: &Found<'_>,
+    error: &DecodeError,
+) -> Result<Vec<u8>, AllocError>
+    ensures { IfOk result (λ line. IsRefused (message_view found.now) error.now line.items) }
+{
+    let mut path = Page::new(alloc, Layout::OneLine);
+    let offset = show_place(&mut path, found)? as u64;
+    let verdict = Verdict::Refused {
+        error,
+        offset,
+        path: text_of(&path),
+    };
+    json_with(json, time, found, verdict)
+}
+
+// The line with the time of its packet and this verdict.
+fn json_with(
+    json: Global,
+    time: Option<&str>,
+    found: &Found<'_>,
+    verdict: Verdict<'_, '_>,
+) -> Result<Vec<u8>, AllocError>
+    ensures { IfOk result (λ line. IsTextOf (Some (line_events (option_map (λ t. t.now) time.entry) (message_view found.now) (verdict_events verdict.entry)))
+        line.items) }
+{
+    let line = MessageLine {
+        time,
+        found: *found,
+        verdict,
+        alloc: json,
+    };
+    json_of(json, &line)
 }
 
 /// A value as JSON.

@@ -76,8 +76,25 @@ pub(crate) fn show_lines<A: Allocator + Copy, R: Read, W: Write>(
         × Gives (text_left (state_of shower.old).header [] (left_of input.old (R.remaining reader.old))) things (Some [])) }
 {
     let mut dump = Vec::new(shower.alloc);
+    show_lines_behind(shower, &mut dump, input, reader, writer)
+}
+
+// The same behind the bytes of a dump.
+fn show_lines_behind<A: Allocator + Copy, R: Read, W: Write>(
+    shower: &mut Shower<'_, A>,
+    dump: &mut Vec<u8, A>,
+    input: &mut Input<A>,
+    reader: &mut R,
+    writer: &mut W,
+) -> Result<(), Stop>
+    ensures form { shower.new.output.is_json ≡ shower.old.output.is_json }
+    ensures clean { shower.old.output.is_json ≡ false → GrowsClean (W.contents writer.old) (W.contents writer.new) }
+    ensures ran { OnOk result ((things : List Thing)
+        × Progress things (W.contents writer.old) (W.contents writer.new) (state_of shower.old) (state_of shower.new)
+        × Gives (text_left (state_of shower.old).header dump.old.items (left_of input.old (R.remaining reader.old))) things (Some [])) }
+{
     for _ in 0..u64::MAX {
-        let goes_on = show_line(shower, &mut dump, input, reader, writer)?;
+        let goes_on = show_line(shower, dump, input, reader, writer)?;
         if !goes_on {
             return Ok(());
         }

@@ -23,17 +23,20 @@ impl Links {
 
     // Keeps the name of an interface; one that isn't UTF-8 isn't kept.
     fn learn(&mut self, link: &NamedLink<'_>) -> Result<(), AllocError> {
-        let name = match str::from_utf8(link.name) {
-            Ok(name) => String::from_str(self.alloc, name)?,
-            Err(_) => return Ok(()),
-        };
+        match str::from_utf8(link.name) {
+            Ok(name) => self.keep(link.index, String::from_str(self.alloc, name)?),
+            Err(_) => Ok(()),
+        }
+    }
+
+    fn keep(&mut self, index: u32, name: String) -> Result<(), AllocError> {
         for known in self.names.iter_mut() {
-            if known.0 == link.index {
+            if known.0 == index {
                 known.1 = name;
                 return Ok(());
             }
         }
-        self.names.push((link.index, name))?;
+        self.names.push((index, name))?;
         Ok(())
     }
 
@@ -42,14 +45,16 @@ impl Links {
         &'a self,
         given: &'a [(u32, &'a str)],
     ) -> Result<Vec<(u32, &'a str)>, AllocError> {
-        let mut all = Vec::new(self.alloc);
-        for name in given {
-            all.push(*name)?;
-        }
+        let mut all = Vec::from_slice(self.alloc, given)?;
+        self.put_names(&mut all)?;
+        Ok(all)
+    }
+
+    fn put_names<'a>(&'a self, all: &mut Vec<(u32, &'a str)>) -> Result<(), AllocError> {
         for name in self.names.iter() {
             all.push((name.0, name.1.as_str()))?;
         }
-        Ok(all)
+        Ok(())
     }
 }
 

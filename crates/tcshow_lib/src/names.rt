@@ -11,6 +11,17 @@ pub fn names_in<'a, A: Allocator>(
     text: &'a str,
 ) -> Result<Result<Vec<(u32, &'a str), A>, u64>, AllocError> {
     let mut names = Vec::new(alloc);
+    match put_names(text, &mut names)? {
+        Some(line) => Ok(Err(line)),
+        None => Ok(Ok(names)),
+    }
+}
+
+// Puts the names, up to the first line that has none, of which the number is returned.
+fn put_names<'a, A: Allocator>(
+    text: &'a str,
+    names: &mut Vec<(u32, &'a str), A>,
+) -> Result<Option<u64>, AllocError> {
     let mut count = 0u64;
     for line in text.lines() {
         count = count.saturating_add(1);
@@ -18,11 +29,11 @@ pub fn names_in<'a, A: Allocator>(
         if !line.is_empty() {
             match name_in(line) {
                 Some(named) => names.push(named)?,
-                None => return Ok(Err(count)),
+                None => return Ok(Some(count)),
             }
         }
     }
-    Ok(Ok(names))
+    Ok(None)
 }
 
 fn without_comment(line: &str) -> &str {

@@ -1,12 +1,18 @@
 //! What is shown of a message beside its attributes.
 
+ghost use Rattle.std.specs.Prelude.{◌≡◌, IfOk, is_some, option_map};
+ghost use Rattle.tc_outline.specs.Located.{items_of_message, message_fault};
+ghost use Rattle.tc_outline.specs.declared.what.What.{What as WhatType};
+ghost use Rattle.tcshow_lib.specs.Found.{message_view};
+
 use crate::asked::Asked;
 use crate::found::{Found, Header, Origin};
-use std::alloc::{AllocError, Allocator};
+use crate::links::Links;
+use std::alloc::{AllocError, Allocator, Global};
 use std::str;
 use tc_capture::{Holds, Time};
 use tc_columns::{KindColumns, Root};
-use tc_outline::{Layout, Page, What, locate};
+use tc_outline::{Fault, Layout, Page, What, locate, outline};
 
 /// The text on a page.
 pub(crate) fn text_of<A: Allocator>(page: &Page<A>) -> &str {
@@ -23,6 +29,15 @@ fn show_time<A: Allocator>(page: &mut Page<A>, time: &Time) -> Result<(), AllocE
         place /= 10;
     }
     Ok(())
+}
+
+/// Shows a blank and a word, if there is one.
+pub(crate) fn show_word<A: Allocator>(page: &mut Page<A>, word: &str) -> Result<(), AllocError> {
+    if word.is_empty() {
+        return Ok(());
+    }
+    page.blank()?;
+    page.text(word)
 }
 
 /// Begins the line of a message: its time, and its netlink header.
@@ -141,8 +156,8 @@ pub(crate) fn show_time_of<A: Allocator>(
     Ok(())
 }
 
-/// The columns that a message is shown by, with these names of interfaces.
-pub(crate) fn columns_of<'a>(
+// The columns that a message is shown by, with these names of interfaces.
+fn columns_of<'a>(
     asked: &Asked<'_>,
     interfaces: &'a [(u32, &'a str)],
     found: &Found<'_>,
@@ -152,6 +167,33 @@ pub(crate) fn columns_of<'a>(
         interfaces,
         all: asked.all,
     }
+}
+
+// The name of a fault, where there is one.
+fn name_of(fault: &Option<Fault>) -> Option<&'static str>
+    ensures { is_some result ≡ is_some (option_map (λ fault. fault.error) fault.now) }
+{
+    match fault {
+        Some(fault) => Some(fault.error.name()),
+        None => None,
+    }
+}
+
+/// Shows the attributes of a message, and returns the name of its fault, where it has one.
+pub(crate) fn show_attributes<A: Allocator>(
+    json: Global,
+    asked: &Asked<'_>,
+    links: &Links,
+    page: &mut Page<A>,
+    found: &Found<'_>,
+) -> Result<Option<&'static str>, AllocError>
+    ensures { IfOk result (λ name. (what : WhatType) × (is_some name ≡ is_some (message_fault (items_of_message what (message_view found.now).payload)))) }
+{
+    let given = asked.names;
+    let names = links.with(given.names)?;
+    let columns = columns_of(asked, names.as_slice(), found);
+    let fault = outline(json, page, found.payload, columns)?;
+    Ok(name_of(&fault))
 }
 
 // What a message speaks of: that of its type, and of one without a netlink header as far as its kind says so.
@@ -175,12 +217,21 @@ fn is_flush(header: &Option<Header>) -> bool {
     }
 }
 
+/// Shows the time of a packet, if it has one.
+pub(crate) fn show_some_time<A: Allocator>(
+    page: &mut Page<A>,
+    origin: &Origin,
+) -> Result<(), AllocError> {
+    match &origin.time {
+        Some(time) => show_time(page, time),
+        None => Ok(()),
+    }
+}
+
 /// A page with the time of a packet, if it has one.
 pub(crate) fn time_page<A: Allocator>(alloc: A, origin: &Origin) -> Result<Page<A>, AllocError> {
     let mut page = Page::new(alloc, Layout::OneLine);
-    if let Some(time) = &origin.time {
-        show_time(&mut page, time)?;
-    }
+    show_some_time(&mut page, origin)?;
     Ok(page)
 }
 

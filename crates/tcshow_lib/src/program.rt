@@ -15,6 +15,7 @@ use crate::names::names_in;
 use crate::packets::Packets;
 use crate::run::{Ended, run};
 use crate::status::{Stop, status_of};
+use clap::Error;
 use clap::error::ErrorKind;
 use std::alloc::{Allocator, Global};
 use std::io::{self, Input, Print, Read, Write};
@@ -33,29 +34,39 @@ pub fn tcshow<R: Env + AllocGlobal + Files + Input + Print + Eprint, E: Write>(
     is_terminal: bool,
     errors: &mut E,
 ) -> ExitCode {
-    let alloc = rt.alloc();
-    let words = match env::args(rt) {
-        Ok(words) => Vec::from_iter(alloc, words),
-        Err(_) => return ExitCode::from(complain(errors, "tcshow: an argument is no text\n", 2)),
-    };
-    let words = match words {
-        Ok(words) => words,
-        Err(_) => return ExitCode::from(complain(errors, NO_MEMORY, 3)),
-    };
-    match request_of(alloc, words.as_slice()) {
+    match env::args(rt) {
+        Ok(words) => match Vec::from_iter(rt.alloc(), words) {
+            Ok(words) => ExitCode::from(obey(rt, words.as_slice(), is_terminal, errors)),
+            Err(_) => ExitCode::from(complain(errors, NO_MEMORY, 3)),
+        },
+        Err(_) => ExitCode::from(complain(errors, "tcshow: an argument is no text\n", 2)),
+    }
+}
+
+// Does what these arguments ask for.
+fn obey<R: Env + AllocGlobal + Files + Input + Print + Eprint, E: Write>(
+    rt: &R,
+    words: &[String],
+    is_terminal: bool,
+    errors: &mut E,
+) -> u8 {
+    match request_of(rt.alloc(), words) {
         Ok(mut request) => {
             request.in_colours = request.form == Form::Lines
                 && request.colours.are_on(is_terminal && allows_colours(rt));
-            ExitCode::from(perform(rt, &request, errors))
+            perform(rt, &request, errors)
         }
-        Err(error) => {
-            if error.kind() == ErrorKind::OutOfMemory {
-                return ExitCode::from(complain(errors, NO_MEMORY, 3));
-            }
-            let _ = error.print(rt);
-            ExitCode::from(if error.use_stderr() { 2 } else { 0 })
-        }
+        Err(error) => say(rt, &error, errors),
     }
+}
+
+// Says what is wrong with the arguments, or the help or the version that they ask for.
+fn say<R: Print + Eprint, E: Write>(rt: &R, error: &Error, errors: &mut E) -> u8 {
+    if error.kind() == ErrorKind::OutOfMemory {
+        return complain(errors, NO_MEMORY, 3);
+    }
+    let _ = error.print(rt);
+    if error.use_stderr() { 2 } else { 0 }
 }
 
 // True unless `NO_COLOR` is set to some text.

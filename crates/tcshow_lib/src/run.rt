@@ -87,7 +87,26 @@ fn show<A: Allocator + Copy, R: Read, W: Write>(
         × Ends things (W.contents writer.old) (W.contents writer.new) (state_of shower.old) (state_of shower.new)) }
 {
     let mut input = Input::begin(shower.alloc, reader)?;
-    show_input(shower, packets, &mut input, reader, writer)?;
+    show_all(shower, packets, &mut input, reader, writer)
+}
+
+// The same of an input of which the first bytes were read.
+#[tactic(auto, using(crate::proofs::Clean::clean_none))]
+fn show_all<A: Allocator + Copy, R: Read, W: Write>(
+    shower: &mut Shower<'_, A>,
+    packets: &mut Packets,
+    input: &mut Input<A>,
+    reader: &mut R,
+    writer: &mut W,
+) -> Result<(), Stop>
+    requires { packets.old.count ≡ 0 }
+    ensures form { shower.new.output.is_json ≡ shower.old.output.is_json }
+    ensures clean { shower.old.output.is_json ≡ false → GrowsClean (W.contents writer.old) (W.contents writer.new) }
+    ensures ran { OnOk result ((things : List Thing)
+        × Begins (rest_of input.old) (left_of input.old (R.remaining reader.old)) (state_of shower.old).header things
+        × Ends things (W.contents writer.old) (W.contents writer.new) (state_of shower.old) (state_of shower.new)) }
+{
+    show_input(shower, packets, input, reader, writer)?;
     shower.put_summary()?;
     if packets.are_foreign() {
         return Err(Stop::NoRoute);

@@ -75,22 +75,30 @@ impl<'a, A: Allocator + Copy> Shower<'a, A> {
         ensures form { self.new.output.is_json ≡ self.old.output.is_json }
         ensures put { OnOk result ((text : List ℕ) × IsPage text × Grows text false (state_of self.old) (state_of self.new)) }
     {
+        self.put_page_line()?;
+        if self.asked.form != Form::Lines {
+            return Ok(());
+        }
+        self.output.line_feed()
+    }
+
+    // The same as a line, or as a paragraph without its end.
+    fn put_page_line(&mut self) -> Result<(), AllocError>
+        ensures form { self.new.output.is_json ≡ self.old.output.is_json }
+        ensures put { OnOk result ((text : List ℕ) × IsPage text × Grows text false (state_of self.old) (state_of self.new)) }
+    {
         self.output.page(&self.page)?;
         self.page.clear();
-        self.output.line_feed()?;
-        if self.asked.form == Form::Lines {
-            self.output.line_feed()?;
-        }
-        Ok(())
+        self.output.line_feed()
     }
 
     /// Puts a line of JSON on the output.
-    pub(crate) fn put_json(&mut self, json: &[u8]) -> Result<(), AllocError>
+    pub(crate) fn put_json(&mut self, json: Vec<u8>) -> Result<(), AllocError>
         requires { self.old.output.is_json ≡ true }
         ensures form { self.new.output.is_json ≡ self.old.output.is_json }
-        ensures put { OnOk result (Grows (ended json.now) false (state_of self.old) (state_of self.new)) }
+        ensures put { OnOk result (Grows (ended json.items) false (state_of self.old) (state_of self.new)) }
     {
-        self.output.json(json)?;
+        self.output.json(&json)?;
         self.output.line_feed()
     }
 
@@ -100,16 +108,18 @@ impl<'a, A: Allocator + Copy> Shower<'a, A> {
         ensures put { OnOk result ((text : List ℕ) × ShowsNotice self.old.output.is_json text × Grows text false (state_of self.old) (state_of self.new)) }
     {
         let said = notice.text(self.json)?;
+        self.put_said(said.as_str(), at)
+    }
+
+    fn put_said(&mut self, said: &str, at: u64) -> Result<(), AllocError>
+        ensures form { self.new.output.is_json ≡ self.old.output.is_json }
+        ensures put { OnOk result ((text : List ℕ) × ShowsNotice self.old.output.is_json text × Grows text false (state_of self.old) (state_of self.new)) }
+    {
         if self.output.is_json() {
-            let line = NoticeLine {
-                note: said.as_str(),
-                at,
-            };
-            return self.put_json(&json_of(self.json, &line)?);
+            let line = json_of(self.json, &NoticeLine { note: said, at })?;
+            return self.put_json(line);
         }
-        self.page.text(said.as_str())?;
-        self.page.text(" at ")?;
-        self.page.number(at)?;
+        show_said(&mut self.page, said, at)?;
         self.put_page()
     }
 
@@ -130,11 +140,7 @@ impl<'a, A: Allocator + Copy> Shower<'a, A> {
         if !self.asked.has_summary {
             return Ok(());
         }
-        let mut page = Page::new(self.alloc, Layout::OneLine);
-        let kind = found.kind();
-        if !kind.is_empty() {
-            page.quoted(kind)?;
-        }
+        let page = kind_page(self.alloc, found)?;
         self.summary
             .count_message(self.json, found.name(), text_of(&page))
     }
@@ -167,10 +173,9 @@ impl<'a, A: Allocator + Copy> Shower<'a, A> {
         let all = self.counts;
         if self.output.is_json() {
             let line = summary_json(self.json, &self.summary, &all)?;
-            return self.put_json(&line);
+            return self.put_json(line);
         }
-        let mut page = Page::new(self.alloc, Layout::Lines);
-        self.summary.show(&all, &mut page)?;
+        let page = summary_page(self.alloc, &self.summary, &all)?;
         self.output.page(&page)?;
         self.output.line_feed()
     }
@@ -207,6 +212,34 @@ fn is_json(form: Form) -> bool
         Form::Lines | Form::OneLine => false,
         Form::Json => true,
     }
+}
+
+// What is said of a place, on a page.
+fn show_said<A: Allocator>(page: &mut Page<A>, said: &str, at: u64) -> Result<(), AllocError> {
+    page.text(said)?;
+    page.text(" at ")?;
+    page.number(at)
+}
+
+// A page with the kind of a message, if it has one.
+fn kind_page<A: Allocator>(alloc: A, found: &Found<'_>) -> Result<Page<A>, AllocError> {
+    let mut page = Page::new(alloc, Layout::OneLine);
+    let kind = found.kind();
+    if !kind.is_empty() {
+        page.quoted(kind)?;
+    }
+    Ok(page)
+}
+
+// A summary on a page.
+fn summary_page<A: Allocator>(
+    alloc: A,
+    summary: &Summary,
+    all: &Counts,
+) -> Result<Page<A>, AllocError> {
+    let mut page = Page::new(alloc, Layout::Lines);
+    summary.show(all, &mut page)?;
+    Ok(page)
 }
 
 // A summary as JSON.

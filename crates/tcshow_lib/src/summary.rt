@@ -1,6 +1,7 @@
 //! How many messages of each type and kind there were, and how many of each fault.
 
 use crate::counts::Counts;
+use crate::pages::show_word;
 use serde::Serialize;
 use std::alloc::{AllocError, Allocator, Global};
 use tc_outline::Page;
@@ -58,37 +59,40 @@ impl Summary {
         rtm: &'static str,
         kind: &str,
     ) -> Result<(), AllocError> {
-        for row in &mut self.messages {
-            if row.rtm == rtm && row.kind.as_str() == kind {
-                row.count = row.count.saturating_add(1);
-                return Ok(());
-            }
+        if self.is_counted(rtm, kind) {
+            return Ok(());
         }
         if self.messages.len() < MOST_ROWS && kind.len() <= MOST_KIND {
-            let kind = String::from_str(alloc, kind)?;
-            return Ok(
-                self.messages.push(Count {
-                    rtm,
-                    kind,
-                    count: 1,
-                })?,
-            );
+            return self.add(alloc, rtm, kind);
         }
         self.count_other(alloc)
     }
 
     // One message more that isn't counted apart.
     fn count_other(&mut self, alloc: Global) -> Result<(), AllocError> {
+        if self.is_counted("", "others") {
+            return Ok(());
+        }
+        self.add(alloc, "", "others")
+    }
+
+    // Counts one more in the row of this type and this kind; false where there is no such row.
+    fn is_counted(&mut self, rtm: &str, kind: &str) -> bool {
         for row in &mut self.messages {
-            if row.rtm.is_empty() && row.kind.as_str() == "others" {
+            if row.rtm == rtm && row.kind.as_str() == kind {
                 row.count = row.count.saturating_add(1);
-                return Ok(());
+                return true;
             }
         }
-        let kind = String::from_str(alloc, "others")?;
+        false
+    }
+
+    // Adds a row with one message.
+    fn add(&mut self, alloc: Global, rtm: &'static str, kind: &str) -> Result<(), AllocError> {
+        let kind = String::from_str(alloc, kind)?;
         Ok(
             self.messages.push(Count {
-                rtm: "",
+                rtm,
                 kind,
                 count: 1,
             })?,
@@ -135,37 +139,20 @@ fn show_row<A: Allocator>(
     show_word(page, second)
 }
 
-fn show_word<A: Allocator>(page: &mut Page<A>, word: &str) -> Result<(), AllocError> {
-    if word.is_empty() {
-        return Ok(());
-    }
-    page.blank()?;
-    page.text(word)
-}
-
 fn show_counts<A: Allocator>(page: &mut Page<A>, all: &Counts) -> Result<(), AllocError> {
-    show_row(page, "messages", "", all.shown)?;
-    show_row(page, "answers", "", all.answers)?;
-    show_row(page, "refused", "", all.refused)?;
-    show_row(page, "left out", "", all.left_out)?;
-    show_row(page, "other netlink messages", "", all.others)?;
-    show_foreign(page, all)?;
-    show_holes(page, all)
-}
-
-fn show_foreign<A: Allocator>(page: &mut Page<A>, all: &Counts) -> Result<(), AllocError> {
-    show_row(page, "packets of other link types", "", all.other_links)?;
-    show_row(
-        page,
-        "packets of other netlink families",
-        "",
-        all.other_families,
-    )
-}
-
-fn show_holes<A: Allocator>(page: &mut Page<A>, all: &Counts) -> Result<(), AllocError> {
-    show_row(page, "cut", "", all.cut)?;
-    show_row(page, "skipped", "", all.skipped)?;
-    show_row(page, "broken", "", all.broken)?;
+    for (name, count) in [
+        ("messages", all.shown),
+        ("answers", all.answers),
+        ("refused", all.refused),
+        ("left out", all.left_out),
+        ("other netlink messages", all.others),
+        ("packets of other link types", all.other_links),
+        ("packets of other netlink families", all.other_families),
+        ("cut", all.cut),
+        ("skipped", all.skipped),
+        ("broken", all.broken),
+    ] {
+        show_row(page, name, "", count)?;
+    }
     page.end()
 }

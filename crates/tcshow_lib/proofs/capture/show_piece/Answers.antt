@@ -5,6 +5,7 @@ use Rattle.tc_capture.specs.Front.{front_of}
 use Rattle.tc_capture_laws.specs.Pieces.{read}
 use Rattle.tc_input.specs.Left.{left_of, rest_of}
 use Rattle.tcshow_lib.specs.Reading.{capture_left, things_in_piece}
+use Rattle.tcshow_lib.proofs.Clean.{clean_none}
 use Rattle.tcshow_lib.proofs.InOrder.{piece_gives, same_place}
 use Rattle.tcshow_lib.proofs.Progress.{puts_progress}
 use Rattle.tcshow_lib.proofs.capture.show_piece.Goals as goal
@@ -39,3 +40,12 @@ returns-in-Err-clause-ran g c =
       same_place n place (place_of c.args.capture.now) on x.0 before (capture_left n place after) (ap place_of c.in-Err.ensures.unchanged) (x.2 n),
     ))
     c.goes_on.ensures.ran
+
+pub returns-in_ok-write_much-in-Ok-clause-clean : goal.returns-in_ok-write_much-in-Ok-clause-clean
+returns-in_ok-write_much-in-Ok-clause-clean g c = λ q. c.write_much.ensures.clean (c.put_piece.ensures.form ∙ q)
+
+pub returns-in_err-write_much-in-Ok-clause-clean : goal.returns-in_err-write_much-in-Ok-clause-clean
+returns-in_err-write_much-in-Ok-clause-clean g c = λ q. c.write_much.ensures.clean (c.put_piece.ensures.form ∙ q)
+
+pub returns-in_err-put_piece-in-Ok-clause-clean : goal.returns-in_err-put_piece-in-Ok-clause-clean
+returns-in_err-put_piece-in-Ok-clause-clean g c = λ _. clean_none _
