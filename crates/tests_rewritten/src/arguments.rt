@@ -41,9 +41,16 @@ impl Env for Words {
     }
 }
 
+// What is asked for by these arguments where the request for memory of this number is refused (0: none), and whether one was.
+fn request_at(alloc: Global, words: &'static [&'static str], at: u64) -> (Request, bool) {
+    let failing = Failing::new(alloc, at);
+    let request = request_from(&failing, env::args(&(Words(words), &failing)));
+    (request, failing.has_refused())
+}
+
 // What is asked for by these arguments.
 fn request_of(alloc: Global, words: &'static [&'static str]) -> Request {
-    request_from(alloc, env::args(&(Words(words), alloc)))
+    request_at(alloc, words, 0).0
 }
 
 // The program's name comes first.
@@ -64,14 +71,12 @@ fn takes_one_word_at_most(rt: HostRuntime) {
 // Where a request for memory is refused, the call returns so, or a smaller request serves; the words are never taken for others.
 #[test]
 fn arguments_take_memory(rt: HostRuntime) {
-    let words = Words(&["tcrewrite", "tc"]);
     let mut refusals = 0;
     for at in 1..1000u64 {
-        let failing = Failing::new(rt.alloc(), at);
-        let read = request_from(&failing, env::args(&(words, &failing)));
-        if read != Request::NoMemory {
-            assert!(rt; read == Request::Report(Mode::Tc), "request {at}");
-            if !failing.has_refused() {
+        let (request, is_refused) = request_at(rt.alloc(), &["tcrewrite", "tc"], at);
+        if request != Request::NoMemory {
+            assert!(rt; request == Request::Report(Mode::Tc), "request {at}");
+            if !is_refused {
                 break;
             }
         }

@@ -1,10 +1,8 @@
 //! The exit status of the program: that of the report, and 3 only where a stream fails, in both modes.
 
-use std::alloc::Global;
-use std::io::{Error, ErrorKind, Read, Result, Write};
+use crate::streams::{LIMIT_OF_FQ_CODEL, REPORT, serves};
 use tcrewrite_lib::arguments::Request;
 use tcrewrite_lib::mode::Mode;
-use tcrewrite_lib::program::serve;
 
 // A text, and the report on it in one mode, with its status.
 struct Row {
@@ -60,111 +58,60 @@ static ROWS: [Row; 7] = [
     },
 ];
 
-// A stream that fails at once.
-#[derive(Drop)]
-struct Broken;
+// Streams of which no call fails here.
+const ALL: (usize, usize, usize) = (200, 200, 200);
 
-impl Read for Broken {
-    fn read(&mut self, _buf: &mut [u8]) -> Result<usize> {
-        Err(Error::from(ErrorKind::BrokenPipe))
-    }
-}
+const NO_READ: (usize, usize, usize) = (0, 200, 200);
 
-impl Write for Broken {
-    fn write(&mut self, _buf: &[u8]) -> Result<usize> {
-        Err(Error::from(ErrorKind::BrokenPipe))
-    }
+const NO_WRITE: (usize, usize, usize) = (200, 0, 200);
 
-    fn flush(&mut self) -> Result<()> {
-        Ok(())
-    }
-}
-
-// Whether a run with this request ends with this status, and writes this to its outputs.
-fn ends(
-    alloc: Global,
-    request: Request,
-    text: &str,
-    status: u8,
-    report: &str,
-    complaint: &str,
-) -> bool {
-    let (mut reader, mut writer, mut errors) = (text.as_bytes(), Vec::new(alloc), Vec::new(alloc));
-    serve(alloc, request, &mut reader, &mut writer, &mut errors) == status
-        && writer.as_slice() == report.as_bytes()
-        && errors.as_slice() == complaint.as_bytes()
-}
+const NO_COMPLAINT: (usize, usize, usize) = (200, 200, 0);
 
 #[test]
 fn ends_with_the_status_of_the_report(rt: HostRuntime) {
     for row in &ROWS {
         let request = Request::Report(row.mode);
         assert!(rt;
-            ends(rt.alloc(), request, row.text, row.status, row.report, ""),
+            serves(
+                rt.alloc(),
+                request,
+                row.text,
+                ALL,
+                row.status,
+                (row.report, "")
+            ),
             "{:?} {}",
             row.mode,
             row.text
         );
     }
-    assert!(rt;
-        ends(
-            rt.alloc(),
-            Request::NoMemory,
-            "",
-            1,
-            "refused OutOfMemory\n",
-            ""
-        )
-    );
-    assert!(rt;
-        ends(
-            rt.alloc(),
-            Request::Usage,
-            "",
-            2,
-            "",
-            "usage: tcrewrite [tc|action]\n"
-        )
-    );
-}
-
-// Whether a run of which the reader fails ends with 3 and says so, having written nothing.
-fn says_that_reading_failed(alloc: Global, mode: Mode) -> bool {
-    let (mut writer, mut errors) = (Vec::new(alloc), Vec::new(alloc));
-    serve(
-        alloc,
-        Request::Report(mode),
-        &mut Broken,
-        &mut writer,
-        &mut errors,
-    ) == 3
-        && writer.is_empty()
-        && errors.as_slice() == "read failed\n".as_bytes()
-}
-
-// Whether a run of which the writer fails ends with 3 and says so.
-fn says_that_writing_failed(alloc: Global, mode: Mode, mut text: &[u8]) -> bool {
-    let mut errors = Vec::new(alloc);
-    serve(
-        alloc,
-        Request::Report(mode),
-        &mut text,
-        &mut Broken,
-        &mut errors,
-    ) == 3
-        && errors.as_slice() == "write failed\n".as_bytes()
 }
 
 #[test]
 fn ends_with_3_where_a_stream_failed(rt: HostRuntime) {
     for row in &ROWS {
+        let request = Request::Report(row.mode);
         assert!(rt;
-            says_that_reading_failed(rt.alloc(), row.mode),
+            serves(
+                rt.alloc(),
+                request,
+                row.text,
+                NO_READ,
+                3,
+                ("", "read failed\n")
+            ),
             "{:?}",
             row.mode
         );
         assert!(rt;
-            says_that_writing_failed(rt.alloc(), row.mode, row.text.as_bytes()),
+            serves(
+                rt.alloc(),
+                request,
+                row.text,
+                NO_WRITE,
+                3,
+                ("", "write failed\n")
+            ),
             "{:?} {}",
             row.mode,
             row.text
@@ -172,16 +119,45 @@ fn ends_with_3_where_a_stream_failed(rt: HostRuntime) {
     }
 }
 
+// The same of the stored message, of which some bytes are read, or all.
+#[test]
+fn ends_with_3_where_a_stream_fails_late(rt: HostRuntime) {
+    let (alloc, request) = (rt.alloc(), Request::Report(Mode::Tc));
+    let text = LIMIT_OF_FQ_CODEL;
+    assert!(rt; serves(alloc, request, text, ALL, 0, (REPORT, "")));
+    assert!(rt;
+        serves(
+            alloc,
+            request,
+            text,
+            (3, 200, 200),
+            3,
+            ("", "read failed\n")
+        )
+    );
+    assert!(rt; serves(alloc, request, text, NO_WRITE, 3, ("", "write failed\n")));
+}
+
+// Nothing is read where there is no report.
+#[test]
+fn ends_without_a_report(rt: HostRuntime) {
+    let alloc = rt.alloc();
+    let memory = ("refused OutOfMemory\n", "");
+    assert!(rt; serves(alloc, Request::NoMemory, "", ALL, 1, memory));
+    assert!(rt; serves(alloc, Request::NoMemory, "", NO_READ, 1, memory));
+    let failed = ("", "write failed\n");
+    assert!(rt; serves(alloc, Request::NoMemory, "", (0, 0, 200), 3, failed));
+    let usage = ("", "usage: tcrewrite [tc|action]\n");
+    assert!(rt; serves(alloc, Request::Usage, "", ALL, 2, usage));
+    assert!(rt; serves(alloc, Request::Usage, "", (0, 0, 200), 2, usage));
+}
+
 // The status is the same where nothing can be said on the error output.
 #[test]
 fn ends_without_an_error_output(rt: HostRuntime) {
-    let alloc = rt.alloc();
-    let (mut text, mut writer) = (ROWS[0].text.as_bytes(), Vec::new(alloc));
-    let status = serve(alloc, Request::Usage, &mut text, &mut writer, &mut Broken);
-    assert!(rt; status == 2);
-    let report = Request::Report(Mode::Tc);
-    let status = serve(alloc, report, &mut text, &mut writer, &mut Broken);
-    assert!(rt; status == 0);
-    let status = serve(alloc, report, &mut Broken, &mut writer, &mut Broken);
-    assert!(rt; status == 3);
+    let (alloc, request) = (rt.alloc(), Request::Report(Mode::Tc));
+    let text = LIMIT_OF_FQ_CODEL;
+    assert!(rt; serves(alloc, Request::Usage, text, NO_COMPLAINT, 2, ("", "")));
+    assert!(rt; serves(alloc, request, text, NO_COMPLAINT, 0, (REPORT, "")));
+    assert!(rt; serves(alloc, request, text, (0, 200, 0), 3, ("", "")));
 }

@@ -1,7 +1,7 @@
 //! What a line says of its message, what the codec finds, and what is made.
 
-use crate::make::runs::{bare, makes};
-use std::alloc::Global;
+use crate::make::runs::{bare, makes, makes_line};
+use std::alloc::{AllocError, Global};
 use std::test::Fail;
 use tcmake_lib::arguments::Making;
 
@@ -99,39 +99,33 @@ static CELLS: [Cell; 27] = [
     Cell { says: "", message: REFUSED, making: AS_GIVEN, makes: Makes::Given, said: "" },
 ];
 
+// The hex of what is made of a cell's line, if anything is.
+fn hex_of(cell: &Cell) -> &'static str {
+    match cell.makes {
+        Makes::Given => cell.message.1,
+        Makes::Settled => SETTLED,
+        Makes::Nothing => "",
+    }
+}
+
 // True if what is made of a cell's line, and what is said of it, is what is wanted.
-fn is_so(alloc: Global, cell: &Cell) -> Result<bool, Fail> {
+fn is_so(alloc: Global, cell: &Cell) -> Result<bool, AllocError> {
     let (says, json) = (cell.says, cell.message.0);
     let line = format!(in alloc; "{{\"type\":\"RTM_NEWQDISC\",{says}\"message\":{json}}}")?;
-    let said = cell.said;
-    let written = match cell.makes {
-        Makes::Given => format!(in alloc; "{}\n", cell.message.1)?,
-        Makes::Settled => format!(in alloc; "{SETTLED}\n")?,
-        Makes::Nothing => String::new(alloc),
-    };
-    let errors = if said.is_empty() {
-        String::new(alloc)
-    } else {
-        format!(in alloc; "tcmake: line 1: {said}\n")?
-    };
-    let status = u8::from(written.is_empty());
-    let request = bare(cell.making);
-    Ok(makes(
+    Ok(makes_line(
         alloc,
-        &request,
-        line.as_bytes(),
-        status,
-        written.as_bytes(),
-        errors.as_bytes(),
+        &bare(cell.making),
+        line.as_str(),
+        hex_of(cell),
+        cell.said,
     ))
 }
 
 #[test]
 fn each_cell_of_the_table(rt: HostRuntime) -> Result<(), Fail> {
-    let alloc = rt.alloc();
     for cell in &CELLS {
         assert!(rt;
-            is_so(alloc, cell)?,
+            is_so(rt.alloc(), cell)?,
             "{} {:?} of {}",
             cell.says,
             cell.making,
@@ -141,32 +135,45 @@ fn each_cell_of_the_table(rt: HostRuntime) -> Result<(), Fail> {
     Ok(())
 }
 
-// A message that is raw has to have a type.
-#[test]
-fn raw_messages(rt: HostRuntime) {
-    let lines = br#"{"refused":"BufferTooSmall","len":1,"needed":4,"message":{"raw":"00"}}
+static RAW: &str = r#"{"refused":"BufferTooSmall","len":1,"needed":4,"message":{"raw":"00"}}
 {"raw":"00"}
 {"type":"RTM_NEWACTION","refused":"BufferTooSmall","len":1,"needed":4,"message":{"raw":"00"}}
 "#;
+
+// A message that is raw has to have a type.
+#[test]
+fn raw_messages(rt: HostRuntime) {
     let said =
-        b"tcmake: line 1: /type: found nothing, wanted a message type, since the message is raw
+        "tcmake: line 1: /type: found nothing, wanted a message type, since the message is raw
 tcmake: line 2: /type: found nothing, wanted a message type, since the message is raw
 ";
-    assert!(rt; makes(rt.alloc(), &bare(Making::Checked), lines, 1, b"00\n", said));
+    assert!(rt;
+        makes(
+            rt.alloc(),
+            &bare(Making::Checked),
+            RAW.as_bytes(),
+            1,
+            b"00\n",
+            said
+        )
+    );
 }
+
+static LOOSE_LINES: &str =
+    r#"{"type":"RTM_NEWQDISC","message":{"header":{"family":"Unspec","index":2,"handle":"1:","parent":"root","info":0},"attributes":[{"Kind":"flower"},{"Options":[{"Flower":{"MplsBos":2}}]}]}}
+{"type":"RTM_NEWACTION","message":{"header":{"family":"Unspec"},"attributes":[{"RootExtWarnMsg":"a\u0000"}]}}
+"#;
+
+static SETTLED_LINES: &str =
+    "000000000200000000000100ffffffff000000000b000100666c6f77657200000c0002000500440000000000
+000000000500050061000000
+";
 
 // A number out of its range is masked (2 of one bit is 0), and a warning loses the NULs at its end alone.
 #[test]
 fn settled_messages(rt: HostRuntime) {
-    let lines =
-        br#"{"type":"RTM_NEWQDISC","message":{"header":{"family":"Unspec","index":2,"handle":"1:","parent":"root","info":0},"attributes":[{"Kind":"flower"},{"Options":[{"Flower":{"MplsBos":2}}]}]}}
-{"type":"RTM_NEWACTION","message":{"header":{"family":"Unspec"},"attributes":[{"RootExtWarnMsg":"a\u0000"}]}}
-"#;
-    let want =
-        b"000000000200000000000100ffffffff000000000b000100666c6f77657200000c0002000500440000000000
-000000000500050061000000
-";
-    let said = b"tcmake: line 1: /attributes/1/Options/0/Flower/MplsBos: found 2, settled to 0
+    let (lines, want) = (LOOSE_LINES.as_bytes(), SETTLED_LINES.as_bytes());
+    let said = "tcmake: line 1: /attributes/1/Options/0/Flower/MplsBos: found 2, settled to 0
 tcmake: line 2: /attributes/0/RootExtWarnMsg: found \"a\\u0000\", settled to \"a\"
 ";
     assert!(rt; makes(rt.alloc(), &bare(Making::Settled), lines, 0, want, said));
