@@ -1,37 +1,51 @@
 //! Reports on messages and on texts in hex, with memory enough and where it is refused.
 
-use crate::streams::LIMIT_OF_FQ_CODEL;
+use crate::streams::{LIMIT_OF_FQ_CODEL, REPORT};
 use failing_alloc::Failing;
 use std::alloc::{AllocError, Global};
 use std::process::Abort;
 use std::test::Fail;
 use tcrewrite_lib::mode::Mode;
 use tcrewrite_lib::run::run;
-use tests_messages::{Expected, Form, Row, captured, large_messages, made, row_of, too_long};
+use tests_messages::{Expected, Form, Row, captured, large_messages, made, too_long};
 
-// Whether this is written on a text, with this status, and so many of its bytes are left unread.
-fn reports(alloc: Global, mode: Mode, text: &[u8], want: &str, status: u8, left: usize) -> bool {
-    let (mut from, mut to) = (text, Vec::new(alloc));
-    let ended = run(alloc, mode, &mut from, &mut to);
-    ended == Ok(status) && to.as_slice() == want.as_bytes() && from.len() == left
+// True if bytes are these texts, one after the other.
+fn are(bytes: &[u8], texts: &[&str]) -> bool {
+    let mut rest = bytes;
+    for text in texts {
+        match rest.strip_prefix(text.as_bytes()) {
+            Some(others) => rest = others,
+            None => return false,
+        }
+    }
+    rest.is_empty()
 }
 
-// Whether this is written on a text, and all of it is read, or that memory ran out where the request for memory of this number is refused;
-// and whether it was.
-fn reports_at(alloc: Global, at: u64, mode: Mode, text: &[u8], want: (&str, u8)) -> (bool, bool) {
+// Whether these texts are written on a text, with this status, and so many of its bytes are left unread; or that memory ran out, where the
+// request for memory of this number is refused (0: none). And whether it was.
+fn reports_at(
+    alloc: Global,
+    at: u64,
+    (mode, text): (Mode, &[u8]),
+    want: &[&str],
+    status: u8,
+    left: usize,
+) -> (bool, bool) {
     let failing = Failing::new(alloc, at);
     let (mut from, mut to) = (text, Vec::new(alloc));
     let ended = run(&failing, mode, &mut from, &mut to);
     let is_refused = failing.has_refused();
-    let (report, status) = if is_refused {
-        ("refused OutOfMemory\n", 1)
+    let is_right = if is_refused {
+        ended == Ok(1) && are(&to, &["refused OutOfMemory\n"])
     } else {
-        want
+        ended == Ok(status) && are(&to, want) && from.len() == left
     };
-    let is_right = ended == Ok(status)
-        && to.as_slice() == report.as_bytes()
-        && (is_refused || from.is_empty());
     (is_right, is_refused)
+}
+
+// The same with memory enough.
+fn reports(alloc: Global, mode: Mode, text: &[u8], want: &str, status: u8, left: usize) -> bool {
+    reports_at(alloc, 0, (mode, text), &[want], status, left).0
 }
 
 /// How a message of this form is read.
@@ -46,44 +60,62 @@ fn word_of(holds: bool) -> &'static str {
     if holds { "yes" } else { "no" }
 }
 
-// The report on a message.
-fn report_of(alloc: Global, expected: &Expected) -> Result<String, AllocError> {
-    match expected {
-        Expected::Refused(name) => format!(in alloc; "refused {name}\n"),
-        Expected::Accepted {
-            fits: false,
-            settled,
-            canonical,
-            ..
-        } => {
-            let (settled, canonical) = (word_of(*settled), word_of(*canonical));
-            format!(in alloc; "fits no\nsettled {settled}\ncanonical {canonical}\n")
-        }
-        Expected::Accepted {
-            settled,
-            canonical,
-            emitted,
-            ..
-        } => {
-            let (settled, canonical) = (word_of(*settled), word_of(*canonical));
-            let bytes = hex::encode(alloc, emitted)?;
-            format!(in alloc; "fits yes\nsettled {settled}\ncanonical {canonical}\nbytes {bytes}\n")
-        }
-    }
-}
-
 // Whether the report on the message of a row is what the row has, where the request for memory of this number is refused (0: none), and
 // whether it was.
 fn is_reported_at(alloc: Global, at: u64, row: &Row) -> (bool, bool) {
-    let Ok(report) = report_of(alloc, &row.expected) else {
-        return (false, false);
+    match hex::encode(alloc, &row.input.bytes) {
+        Ok(text) => {
+            let text = (mode_of(row.input.form), text.as_bytes());
+            is_expected_at(alloc, at, text, &row.expected)
+        }
+        Err(_) => (false, false),
+    }
+}
+
+// The same of the report on a text.
+fn is_expected_at(
+    alloc: Global,
+    at: u64,
+    text: (Mode, &[u8]),
+    expected: &Expected,
+) -> (bool, bool) {
+    let (fits, settled, canonical, emitted) = match expected {
+        Expected::Refused(name) => {
+            return reports_at(alloc, at, text, &["refused ", name.as_str(), "\n"], 1, 0);
+        }
+        Expected::Accepted {
+            fits,
+            settled,
+            canonical,
+            emitted,
+        } => (*fits, *settled, *canonical, emitted),
     };
-    let Ok(text) = hex::encode(alloc, &row.input.bytes) else {
-        return (false, false);
-    };
-    let status = u8::from(matches!(row.expected, Expected::Refused(_)));
-    let mode = mode_of(row.input.form);
-    reports_at(alloc, at, mode, text.as_bytes(), (report.as_str(), status))
+    let (settled, canonical) = (word_of(settled), word_of(canonical));
+    if !fits {
+        let report = [
+            "fits no\nsettled ",
+            settled,
+            "\ncanonical ",
+            canonical,
+            "\n",
+        ];
+        return reports_at(alloc, at, text, &report, 0, 0);
+    }
+    match hex::encode(alloc, emitted) {
+        Ok(digits) => {
+            let report = [
+                "fits yes\nsettled ",
+                settled,
+                "\ncanonical ",
+                canonical,
+                "\nbytes ",
+                digits.as_str(),
+                "\n",
+            ];
+            reports_at(alloc, at, text, &report, 0, 0)
+        }
+        Err(_) => (false, false),
+    }
 }
 
 // Reports on the messages of rows, and returns how many they are.
@@ -96,9 +128,10 @@ fn are_reported(rt: &impl Abort, alloc: Global, rows: &[Row]) -> usize {
 
 #[test]
 fn reports_on_messages(rt: HostRuntime) -> Result<(), Fail> {
-    let alloc = rt.alloc();
-    assert_eq!(rt; are_reported(&rt, alloc, &made(alloc)?), 69);
-    assert_eq!(rt; are_reported(&rt, alloc, &captured(alloc)?), 20);
+    let rows = made(rt.alloc())?;
+    assert_eq!(rt; are_reported(&rt, rt.alloc(), &rows), 69);
+    let rows = captured(rt.alloc())?;
+    assert_eq!(rt; are_reported(&rt, rt.alloc(), &rows), 20);
     Ok(())
 }
 
@@ -140,9 +173,10 @@ fn row_too_long(alloc: Global, form: Form) -> Result<Row, AllocError> {
 
 #[test]
 fn reports_what_does_not_fit(rt: HostRuntime) -> Result<(), Fail> {
-    let alloc = rt.alloc();
-    assert!(rt; is_reported_at(alloc, 0, &row_too_long(alloc, Form::Tc)?).0);
-    assert!(rt; is_reported_at(alloc, 0, &row_too_long(alloc, Form::Action)?).0);
+    let row = row_too_long(rt.alloc(), Form::Tc)?;
+    assert!(rt; is_reported_at(rt.alloc(), 0, &row).0);
+    let row = row_too_long(rt.alloc(), Form::Action)?;
+    assert!(rt; is_reported_at(rt.alloc(), 0, &row).0);
     Ok(())
 }
 
@@ -187,29 +221,55 @@ fn refuses_texts(rt: HostRuntime) {
     }
 }
 
-// So many first bytes of the stored message, and what the report on them is.
-fn row_of_front(alloc: Global, count: usize) -> Result<Row, Fail> {
-    let message = LIMIT_OF_FQ_CODEL
-        .get(..count.saturating_mul(2))
-        .ok_or("48 bytes")?;
-    let expected = match count {
-        0..=19 => "BufferTooSmall",
-        20 | 36 | 48 => "yes yes yes",
-        21..=23 | 37..=39 => "FrameHeaderShort",
-        33..=35 => "yes yes no 000000000200000000000100ffffffff00000000 fq_codel",
-        _ => "FrameTooLong",
-    };
-    row_of(alloc, &format!(in alloc; "tc {message} = {expected}")?)
+static SHORT: (&str, u8) = ("refused BufferTooSmall\n", 1);
+
+static HEADER_SHORT: (&str, u8) = ("refused FrameHeaderShort\n", 1);
+
+static TOO_LONG: (&str, u8) = ("refused FrameTooLong\n", 1);
+
+static HEADER: (&str, u8) = (
+    "fits yes\nsettled yes\ncanonical yes\nbytes 000000000200000000000100ffffffff00000000\n",
+    0,
+);
+
+static KIND_UNPADDED: (&str, u8) = (
+    "fits yes\nsettled yes\ncanonical no\nbytes 000000000200000000000100ffffffff00000000\
+0d00010066715f636f64656c00000000\n",
+    0,
+);
+
+static KIND: (&str, u8) = (
+    "fits yes\nsettled yes\ncanonical yes\nbytes 000000000200000000000100ffffffff00000000\
+0d00010066715f636f64656c00000000\n",
+    0,
+);
+
+// The report on so many first bytes of the stored message, and its status.
+fn report_on_front(count: usize) -> (&'static str, u8) {
+    match count {
+        0..=19 => SHORT,
+        20 => HEADER,
+        21..=23 | 37..=39 => HEADER_SHORT,
+        33..=35 => KIND_UNPADDED,
+        36 => KIND,
+        48 => (REPORT, 0),
+        _ => TOO_LONG,
+    }
 }
 
 #[test]
-fn reports_on_the_front_of_a_message(rt: HostRuntime) -> Result<(), Fail> {
-    let alloc = rt.alloc();
+fn reports_on_the_front_of_a_message(rt: HostRuntime) {
     for count in 0..=48usize {
-        let row = row_of_front(alloc, count)?;
-        assert!(rt; is_reported_at(alloc, 0, &row).0, "{count} bytes");
+        let front = LIMIT_OF_FQ_CODEL
+            .as_bytes()
+            .get(..count.saturating_mul(2))
+            .unwrap_or(&[]);
+        let (report, status) = report_on_front(count);
+        assert!(rt;
+            reports(rt.alloc(), Mode::Tc, front, report, status, 0),
+            "{count} bytes"
+        );
     }
-    Ok(())
 }
 
 // The number of the first request for memory that is refused and the report is another, or none was where some are needed.
@@ -229,7 +289,8 @@ fn misreported_request(alloc: Global, row: &Row) -> Option<u64> {
 // Whatever request for memory is refused, the report says so and nothing else.
 #[test]
 fn reports_refused_memory_of_each_message(rt: HostRuntime) -> Result<(), Fail> {
-    for row in &made(rt.alloc())? {
+    let rows = made(rt.alloc())?;
+    for row in &rows {
         let request = misreported_request(rt.alloc(), row);
         assert!(rt; request.is_none(), "request {request:?}: {:?}", row.input);
     }

@@ -11,10 +11,10 @@ use tests_messages::{Input, all_around, cut_and_changed, made};
 // What is wrong with a report, if anything is.
 type Complaint = Option<&'static str>;
 
-fn judge_refused(report: &str) -> Complaint {
-    if !report.starts_with("refused ") {
+fn judge_refused(report: &[u8]) -> Complaint {
+    if !report.starts_with(b"refused ") {
         Some("the report names no fault")
-    } else if report == "refused OutOfMemory\n" {
+    } else if report == b"refused OutOfMemory\n".as_slice() {
         Some("the report is of memory")
     } else {
         None
@@ -22,14 +22,17 @@ fn judge_refused(report: &str) -> Complaint {
 }
 
 // What is wrong with the report on a message that was read from a text in hex.
-fn judge_accepted(text: &str, report: &str) -> Complaint {
-    let Some((front, bytes)) = report.split_once("bytes ") else {
-        return Some("no bytes are emitted");
+fn judge_accepted(text: &[u8], report: &[u8]) -> Complaint {
+    let Some(rest) = report.strip_prefix(b"fits yes\nsettled ") else {
+        return Some("the message doesn't fit");
     };
-    let is_same = bytes.strip_suffix('\n') == Some(text);
-    if !front.starts_with("fits yes\n") {
-        Some("the message doesn't fit")
-    } else if front.ends_with("\ncanonical yes\n") != is_same {
+    let same = rest.strip_suffix(b"\n").unwrap_or(&[]).strip_suffix(text);
+    let says_canonical = rest.starts_with(b"yes\ncanonical yes\n");
+    let is_same = match same {
+        Some(front) => front.ends_with(b"\nbytes "),
+        None => false,
+    };
+    if says_canonical != is_same {
         Some("canonical isn't emitted unchanged")
     } else {
         None
@@ -38,20 +41,18 @@ fn judge_accepted(text: &str, report: &str) -> Complaint {
 
 // The report on a message names its fault, which isn't out of memory, or says that it is canonical exactly where its bytes are emitted
 // unchanged.
-fn judge_text(alloc: Global, mode: Mode, text: &str) -> Complaint {
-    let (mut from, mut to) = (text.as_bytes(), Vec::new(alloc));
-    let ended = run(alloc, mode, &mut from, &mut to);
-    let report = str::from_utf8(&to).unwrap_or("");
-    match ended {
-        Ok(0) => judge_accepted(text, report),
-        Ok(1) => judge_refused(report),
+fn judge_text(alloc: Global, mode: Mode, text: &[u8]) -> Complaint {
+    let (mut from, mut to) = (text, Vec::new(alloc));
+    match run(alloc, mode, &mut from, &mut to) {
+        Ok(0) => judge_accepted(text, &to),
+        Ok(1) => judge_refused(&to),
         _ => Some("the run ends in another way"),
     }
 }
 
 fn judge(alloc: Global, input: &Input) -> Complaint {
     match hex::encode(alloc, &input.bytes) {
-        Ok(text) => judge_text(alloc, mode_of(input.form), text.as_str()),
+        Ok(text) => judge_text(alloc, mode_of(input.form), text.as_bytes()),
         Err(_) => Some("no memory for the text"),
     }
 }
@@ -74,7 +75,8 @@ fn are_judged_of(rt: &impl Abort, alloc: Global, input: &Input) -> Result<usize,
 fn cut_and_changed_messages(rt: HostRuntime) -> Result<(), Fail> {
     let alloc = rt.alloc();
     let mut count = 0usize;
-    for row in &made(alloc)? {
+    let rows = made(alloc)?;
+    for row in &rows {
         count = count.wrapping_add(are_judged_of(&rt, alloc, &row.input)?);
     }
     assert!(rt; count == 9_896, "{count} messages");
@@ -83,8 +85,8 @@ fn cut_and_changed_messages(rt: HostRuntime) -> Result<(), Fail> {
 
 #[test]
 fn attributes_of_all_types_and_lengths(rt: HostRuntime) -> Result<(), Fail> {
-    let alloc = rt.alloc();
-    let count = are_judged(&rt, alloc, &all_around(alloc)?);
+    let inputs = all_around(rt.alloc())?;
+    let count = are_judged(&rt, rt.alloc(), &inputs);
     assert!(rt; count == 12_210, "{count} messages");
     Ok(())
 }

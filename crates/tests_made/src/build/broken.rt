@@ -10,7 +10,7 @@ use tc_kinds::{ACTION_MESSAGE, TC_MESSAGE, TcTables};
 use tests_messages::{self as messages, Expected, Input, Row, captured, made};
 
 // What is wrong with a value, or with a member of an object.
-#[derive(Clone, Copy, Debug)]
+#[derive(Clone, Copy)]
 enum Fault {
     // Null in place of the value.
     Null,
@@ -58,9 +58,19 @@ fn list_of_kind<'p>(json: &Value, path: &'p str) -> Option<&'p str> {
     Some(list)
 }
 
-// True of a member that may have any text.
-fn is_any_text(name: &str) -> bool {
-    matches!(name, "Kind" | "InDev" | "ProgName" | "RootExtWarnMsg")
+// Members that may have any text.
+static ANY_TEXT: [&str; 4] = ["Kind", "InDev", "ProgName", "RootExtWarnMsg"];
+
+// Members that are there only where they say something: bytes are made without them too.
+static EXTRAS: [&str; 4] = ["word", "pad", "bare", "rest"];
+
+fn is_among(name: &str, names: &[&str]) -> bool {
+    for other in names {
+        if *other == name {
+            return true;
+        }
+    }
+    false
 }
 
 // A value with a fault. None where it can't have this one.
@@ -75,7 +85,7 @@ fn faulty(
         (Fault::Bracket, Value::Array(_)) => Ok(Some(Value::Object(Map::new(alloc)))),
         (Fault::Bracket, _) => Ok(Some(Value::Array(Vec::new(alloc)))),
         (Fault::Range, Value::Number(_)) => Ok(Some(Value::from(i64::MIN))),
-        (Fault::Garbled, Value::String(text)) if !is_any_text(name) => {
+        (Fault::Garbled, Value::String(text)) if !is_among(name, &ANY_TEXT) => {
             Ok(Some(Value::String(format!(in alloc; "{text}~")?)))
         }
         _ => Ok(None),
@@ -108,7 +118,7 @@ fn damage(alloc: Global, json: &mut Value, path: &str, fault: Fault) -> Result<b
     match fault {
         Fault::Extra => change_member(alloc, json, path, "", "Nobody"),
         Fault::Missing | Fault::Name | Fault::Kind if path.is_empty() => Ok(false),
-        Fault::Missing if is_extra(name) => Ok(false),
+        Fault::Missing if is_among(name, &EXTRAS) => Ok(false),
         Fault::Missing => change_member(alloc, json, parent, name, ""),
         Fault::Name | Fault::Kind => {
             change_member(alloc, json, parent, name, other_name(fault, name))
@@ -187,11 +197,6 @@ fn is_named(whole: &Value, made: &Result<Vec<u8>, StrictError>, path: &str, faul
     }
 }
 
-// True of a member that is there only where it says something: bytes are made without it too.
-fn is_extra(name: &str) -> bool {
-    matches!(name, "word" | "pad" | "bare" | "rest")
-}
-
 // JSON broken at one place. None where there can't be this fault.
 fn broken(
     alloc: Global,
@@ -231,9 +236,9 @@ fn named_at(
     path: &str,
 ) -> Result<u32, AllocError> {
     let mut named: u32 = 0;
-    for fault in &FAULTS {
+    for (number, fault) in FAULTS.iter().enumerate() {
         if let Some(is_named) = names_its_place(alloc, form, whole, path, *fault)? {
-            assert!(rt; is_named, "{fault:?} at {path}");
+            assert!(rt; is_named, "fault {number} at {path}");
             named = named.saturating_add(1);
         }
     }

@@ -101,15 +101,19 @@ fn actions_that_stand_alone(rt: HostRuntime) -> Result<(), Fail> {
 
 // True if these are the kinds of actions, each with its index where it stands by itself.
 fn are(actions: &[TcAction], wanted: &[(&str, Option<u32>)]) -> bool {
-    if actions.len() != wanted.len() {
-        return false;
-    }
-    for (action, (kind, index)) in actions.iter().zip(wanted) {
-        if kind_of_action(action) != *kind || standing_index(action) != *index {
-            return false;
+    let mut rest = actions;
+    for (kind, index) in wanted {
+        match rest.split_first() {
+            Some((action, others)) => {
+                if kind_of_action(action) != *kind || standing_index(action) != *index {
+                    return false;
+                }
+                rest = others;
+            }
+            None => return false,
         }
     }
-    true
+    rest.is_empty()
 }
 
 // The same of the actions of a dump.
@@ -123,21 +127,27 @@ fn are_in(alloc: Global, dump: &str, wanted: &[(&str, Option<u32>)]) -> Result<b
     Ok(false)
 }
 
-// The actions of the first dump.
-static STANDING_INDICES: [(&str, Option<u32>); 4] = [
-    ("mirred", None),
-    ("mirred", None),
-    ("mirred", None),
-    ("mirred", Some(88)),
+// The actions of the dumps.
+static INDICES: [(&str, &[(&str, Option<u32>)]); 4] = [
+    (
+        STANDING,
+        &[
+            ("mirred", None),
+            ("mirred", None),
+            ("mirred", None),
+            ("mirred", Some(88)),
+        ],
+    ),
+    (GACT, &[("gact", Some(6))]),
+    (POLICE, &[("police", Some(185207047))]),
+    (HELD[1], &[("pedit", None)]),
 ];
 
 #[test]
 fn indices_of_actions(rt: HostRuntime) -> Result<(), Fail> {
-    let alloc = rt.alloc();
-    assert!(rt; are_in(alloc, STANDING, &STANDING_INDICES)?);
-    assert!(rt; are_in(alloc, GACT, &[("gact", Some(6))])?);
-    assert!(rt; are_in(alloc, POLICE, &[("police", Some(185207047))])?);
-    assert!(rt; are_in(alloc, HELD[1], &[("pedit", None)])?);
+    for (dump, actions) in &INDICES {
+        assert!(rt; are_in(rt.alloc(), dump, actions)?, "{dump}");
+    }
     Ok(())
 }
 
@@ -164,13 +174,12 @@ fn error_of_message(alloc: Global, first: u16, second: u16) -> Result<Option<Req
     Ok(action_message(alloc, two(alloc, first, second)?).err())
 }
 
-// What is said of a filter with this option.
+// What is said of a filter with these options.
 fn error_of_filter<O: FilterOption<Global>>(
     alloc: Global,
-    option: O,
-) -> Result<Option<RequestError>, Fail> {
-    let options = vec![in alloc; option]?;
-    Ok(filter(alloc, &Target::default(), 1, 0x0800, None, options).err())
+    options: Vec<O>,
+) -> Option<RequestError> {
+    filter(alloc, &Target::default(), 1, 0x0800, None, options).err()
 }
 
 // True if this is the text of an error; empty, if there is none.
@@ -211,23 +220,23 @@ fn places_in_a_message(rt: HostRuntime) -> Result<(), Fail> {
 #[test]
 fn places_in_a_filter(rt: HostRuntime) -> Result<(), Fail> {
     let alloc = rt.alloc();
-    let flower = TcFilterFlowerOption::Actions(two(alloc, 3, 3)?);
+    let flower = vec![in alloc; TcFilterFlowerOption::Actions(two(alloc, 3, 3)?)]?;
     assert!(rt;
         says(
             alloc,
-            error_of_filter(alloc, flower)?,
+            error_of_filter(alloc, flower),
             "two actions at place 3"
         )
     );
-    let u32_option = TcFilterU32Option::Action(two(alloc, 4, 4)?);
+    let u32_options = vec![in alloc; TcFilterU32Option::Action(two(alloc, 4, 4)?)]?;
     assert!(rt;
         says(
             alloc,
-            error_of_filter(alloc, u32_option)?,
+            error_of_filter(alloc, u32_options),
             "two actions at place 4"
         )
     );
-    let matchall = TcFilterMatchAllOption::Action(two(alloc, 1, 2)?);
-    assert!(rt; says(alloc, error_of_filter(alloc, matchall)?, ""));
+    let matchall = vec![in alloc; TcFilterMatchAllOption::Action(two(alloc, 1, 2)?)]?;
+    assert!(rt; says(alloc, error_of_filter(alloc, matchall), ""));
     Ok(())
 }

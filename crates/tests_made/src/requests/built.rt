@@ -72,12 +72,24 @@ fn both<A: Allocator + Copy>(alloc: A) -> Result<Vec<TcAction<A>, A>, RequestErr
     Ok(actions)
 }
 
-// The filter with both actions.
-fn two_actions<A: Allocator + Copy>(alloc: A) -> Result<TcMessage<A>, RequestError> {
+// A type of Ethernet, an address and both actions.
+fn three<A: Allocator + Copy>(alloc: A) -> Result<Vec<TcFilterFlowerOption<A>, A>, RequestError> {
     let mut options = one(alloc, TcFilterFlowerOption::EthType(0x0800))?;
     options.push(TcFilterFlowerOption::Ipv4Dst(Ipv4Addr::new(10, 0, 0, 1)))?;
     options.push(TcFilterFlowerOption::Actions(both(alloc)?))?;
-    filter(alloc, &target(0, 0xFFFF_FFF2), 5, 0x0800, Some(9), options)
+    Ok(options)
+}
+
+// The filter with both actions.
+fn two_actions<A: Allocator + Copy>(alloc: A) -> Result<TcMessage<A>, RequestError> {
+    filter(
+        alloc,
+        &target(0, 0xFFFF_FFF2),
+        5,
+        0x0800,
+        Some(9),
+        three(alloc)?,
+    )
 }
 
 // The message about a mirred action.
@@ -90,7 +102,7 @@ fn redirect(alloc: Global) -> Result<TcActionMessage, RequestError> {
     action_message(alloc, one(alloc, mirred)?)
 }
 
-// As the documentation of `tc_requests` has it.
+// The request that the documentation of `tc_requests` has.
 fn limit(alloc: Global) -> Result<TcMessage, RequestError> {
     let target = Target {
         index: 2,
@@ -100,7 +112,7 @@ fn limit(alloc: Global) -> Result<TcMessage, RequestError> {
     qdisc(
         alloc,
         &target,
-        vec![in alloc; TcQdiscFqCodelOption::Limit(10240)]?,
+        one(alloc, TcQdiscFqCodelOption::Limit(10240))?,
     )
 }
 

@@ -208,15 +208,14 @@ fn planned(alloc: Global, rows: &[(Dump, &str)]) -> Result<Order<Item, Key, Glob
 
 // True if steps have these places.
 fn are_at(steps: &[Step<Item, Key, Global>], places: &[usize]) -> bool {
-    if steps.len() != places.len() {
-        return false;
-    }
-    for (step, place) in steps.iter().zip(places) {
-        if step.item.place != *place {
-            return false;
+    let mut rest = steps;
+    for place in places {
+        match rest.split_first() {
+            Some((step, others)) if step.item.place == *place => rest = others,
+            _ => return false,
         }
     }
-    true
+    rest.is_empty()
 }
 
 // True if dumps come into an order at these places, and those at others are left.
@@ -230,17 +229,24 @@ fn come_in(
     Ok(are_at(&made.order, order) && are_at(&made.left, left))
 }
 
+// Dumps, the places of those that come into an order, and of those that are left.
+static ORDERS: [(&[(Dump, &str)], &[usize], &[usize]); 5] = [
+    (&TREE, &[7, 8, 2, 5, 0, 4, 1, 3, 6], &[]),
+    // one that is left comes last
+    (&ONE_LEFT, &[1, 0], &[]),
+    // root classes behind their qdisc
+    (&ROOT_CLASS, &[2, 0, 1], &[]),
+    // blocks before their filters
+    (&BLOCKS, &[3, 0, 1, 2], &[]),
+    // circles are left
+    (&CIRCLE, &[1], &[2, 0, 3]),
+];
+
 #[test]
 fn each_behind_what_it_needs(rt: HostRuntime) -> Result<(), Fail> {
-    assert!(rt; come_in(rt.alloc(), &TREE, &[7, 8, 2, 5, 0, 4, 1, 3, 6], &[])?);
-    // one that is left comes last
-    assert!(rt; come_in(rt.alloc(), &ONE_LEFT, &[1, 0], &[])?);
-    // root classes behind their qdisc
-    assert!(rt; come_in(rt.alloc(), &ROOT_CLASS, &[2, 0, 1], &[])?);
-    // blocks before their filters
-    assert!(rt; come_in(rt.alloc(), &BLOCKS, &[3, 0, 1, 2], &[])?);
-    // circles are left
-    assert!(rt; come_in(rt.alloc(), &CIRCLE, &[1], &[2, 0, 3])?);
+    for (dumps, order, left) in &ORDERS {
+        assert!(rt; come_in(rt.alloc(), dumps, order, left)?, "{order:?}");
+    }
     Ok(())
 }
 
@@ -275,15 +281,17 @@ fn has_fate(alloc: Global, item: &Item, text: &str) -> bool {
 
 // True if steps have these places and fates.
 fn have_fates(alloc: Global, steps: &[Step<Item, Key, Global>], fates: &[(usize, &str)]) -> bool {
-    if steps.len() != fates.len() {
-        return false;
-    }
-    for (step, (place, fate)) in steps.iter().zip(fates) {
-        if step.item.place != *place || !has_fate(alloc, &step.item, fate) {
-            return false;
+    let mut rest = steps;
+    for (place, fate) in fates {
+        match rest.split_first() {
+            Some((step, others))
+                if step.item.place == *place && has_fate(alloc, &step.item, fate) => {
+                rest = others;
+            }
+            _ => return false,
         }
     }
-    true
+    rest.is_empty()
 }
 
 // True if dumps come into an order with these fates, and those with others are left.
@@ -297,40 +305,49 @@ fn come_to(
     Ok(have_fates(alloc, &made.order, order) && have_fates(alloc, &made.left, left))
 }
 
-static REFUSED_ORDER: [(usize, &str); 2] = [(0, "request"), (4, "request")];
-
-static REFUSED_LEFT: [(usize, &str); 4] = [
-    (1, "the parent class is missing"),
-    (2, "request"),
-    (3, "a second dump of this"),
-    (5, "the parent ffff: doesn't say which side of clsact"),
-];
-
-static MADE_ORDER: [(usize, &str); 4] = [(0, "made"), (1, "request"), (2, "request"), (3, "made")];
-
-static ACTIONS_ORDER: [(usize, &str); 5] = [
-    (1, "request"),
-    (3, "request"),
-    (4, "request"),
-    (5, "request"),
-    (0, "request"),
-];
-
-static ACTIONS_LEFT: [(usize, &str); 2] = [
-    (2, "a second dump of this"),
+// Dumps with their fates: of those that come into an order, and of those that are left.
+static FATES: [(&[(Dump, &str)], &[(usize, &str)], &[(usize, &str)]); 3] = [
+    // what can't be made has a reason
     (
-        6,
-        "can't be restored: goto chain of an action that no filter has",
+        &REFUSED,
+        &[(0, "request"), (4, "request")],
+        &[
+            (1, "the parent class is missing"),
+            (2, "request"),
+            (3, "a second dump of this"),
+            (5, "the parent ffff: doesn't say which side of clsact"),
+        ],
+    ),
+    // what others make is no request
+    (
+        &MADE,
+        &[(0, "made"), (1, "request"), (2, "request"), (3, "made")],
+        &[],
+    ),
+    // actions before filters, and once
+    (
+        &ACTIONS,
+        &[
+            (1, "request"),
+            (3, "request"),
+            (4, "request"),
+            (5, "request"),
+            (0, "request"),
+        ],
+        &[
+            (2, "a second dump of this"),
+            (
+                6,
+                "can't be restored: goto chain of an action that no filter has",
+            ),
+        ],
     ),
 ];
 
 #[test]
 fn each_with_its_fate(rt: HostRuntime) -> Result<(), Fail> {
-    // what can't be made has a reason
-    assert!(rt; come_to(rt.alloc(), &REFUSED, &REFUSED_ORDER, &REFUSED_LEFT)?);
-    // what others make is no request
-    assert!(rt; come_to(rt.alloc(), &MADE, &MADE_ORDER, &[])?);
-    // actions before filters, and once
-    assert!(rt; come_to(rt.alloc(), &ACTIONS, &ACTIONS_ORDER, &ACTIONS_LEFT)?);
+    for (dumps, order, left) in &FATES {
+        assert!(rt; come_to(rt.alloc(), dumps, order, left)?, "{order:?}");
+    }
     Ok(())
 }

@@ -1,11 +1,13 @@
 //! Dumps made into requests. The wanted bytes are those of `request_of` in `kernel/messages.py`, but that u32's padding is left
 //! out here; those of the rows with a command were taken by Linux 6.1, and dumped again as they had been.
 
-use crate::requests::in_hex::{action_message, is_written, tc_message};
+use crate::requests::in_hex::{action_message, is_written};
 use failing_alloc::Failing;
 use std::alloc::Global;
 use std::test::Fail;
-use tc_requests::{NEW_FLAGS, Object, RTM_NEWACTION, RestoreError, request_of, request_of_actions};
+use tc_requests::{
+    NEW_FLAGS, Object, RTM_NEWACTION, Request, RestoreError, request_of, request_of_actions,
+};
 use tc_wire::{ParseableBytes, TcMessage};
 
 // Dumps, and the requests that restore them.
@@ -316,9 +318,22 @@ static MPLS_RESTORED: &str =
 000003000000080005004d00000030000200090001006d706c7300000000200002801c000200060000000000000003000000\
 010000000000000004000000";
 
+// The request that restores a dump, in this memory, or why there is none.
+fn restored<'a>(
+    memory: &'a Failing<Global>,
+    object: Object,
+    dump: &[u8],
+) -> Result<Request<TcMessage<&'a Failing<Global>>>, RestoreError> {
+    match TcMessage::parse(memory, dump) {
+        Ok(dump) => request_of(memory, object, dump),
+        Err(_) => Err(RestoreError::OutOfMemory),
+    }
+}
+
 // True if this request restores a dump.
 fn is_restored(alloc: Global, object: Object, dump: &str, digits: &str) -> Result<bool, Fail> {
-    match request_of(alloc, object, tc_message(alloc, dump)?) {
+    let (dump, memory) = (hex::decode(alloc, dump)?, Failing::new(alloc, 0));
+    match restored(&memory, object, &dump) {
         Ok(request) => {
             Ok(
                 request.flags == NEW_FLAGS
@@ -332,8 +347,8 @@ fn is_restored(alloc: Global, object: Object, dump: &str, digits: &str) -> Resul
 
 // True if no request restores a dump, for this reason.
 fn is_refused(alloc: Global, object: Object, dump: &str, why: &RestoreError) -> Result<bool, Fail> {
-    let request = request_of(alloc, object, tc_message(alloc, dump)?);
-    Ok(request.err().as_ref() == Some(why))
+    let (dump, memory) = (hex::decode(alloc, dump)?, Failing::new(alloc, 0));
+    Ok(restored(&memory, object, &dump).err().as_ref() == Some(why))
 }
 
 #[test]
@@ -374,19 +389,11 @@ fn actions(rt: HostRuntime) -> Result<(), Fail> {
     Ok(())
 }
 
-// True if a filter is restored over this memory.
-fn is_restored_in(alloc: &Failing<Global>, bytes: &[u8]) -> bool {
-    match TcMessage::parse(alloc, bytes) {
-        Ok(dump) => request_of(alloc, Object::Filter, dump).is_ok(),
-        Err(_) => false,
-    }
-}
-
-// The same over memory of which this request is refused; and whether it was.
-fn restored_at(alloc: Global, at: u64, bytes: &[u8]) -> (bool, bool) {
-    let failing = Failing::new(alloc, at);
-    let is_restored = is_restored_in(&failing, bytes);
-    (is_restored, failing.has_refused())
+// True if a filter is restored over memory of which this request is refused; and whether it was.
+fn restored_at(alloc: Global, at: u64, dump: &[u8]) -> (bool, bool) {
+    let memory = Failing::new(alloc, at);
+    let is_restored = restored(&memory, Object::Filter, dump).is_ok();
+    (is_restored, memory.has_refused())
 }
 
 #[test]
