@@ -165,11 +165,11 @@ fn each_write_fails(rt: HostRuntime) {
     assert!(rt; captured(alloc, reads, calls(999, 1024), WRITE_FAILED).is_some());
 }
 
-static WRONG_LINE: &str = r#"{}
+static WRONG_LINE: &str = r#"{"type":"RTM_NEWACTION","seq":"2","message":{"raw":"00"}}
 {"type":"RTM_GETACTION","message":{"header":{"family":"Unspec"},"attributes":[]}}
 "#;
 
-static WRONG: &str = "tcmake: line 1: ?\n";
+static WRONG: &str = "tcmake: line 1: /seq: found \"2\", wanted a number from 0 to 4294967295\n";
 
 // A closed output is no failure, and what was wrong before it is said.
 #[test]

@@ -43,7 +43,11 @@ static ROWS: [(Way, &str, &str); 8] = [
     ),
     // bytes of no message are given
     (Way::AsGiven, r#"{"raw":"00ff"}"#, "00ff"),
-    (Way::Tc, r#"{"raw":"00ff"}"#, "/header: ?"),
+    (
+        Way::Tc,
+        r#"{"raw":"00ff"}"#,
+        "/header: buffer of 2 bytes, 20 needed",
+    ),
     // a misspelt member
     (
         Way::Action,

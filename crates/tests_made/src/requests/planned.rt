@@ -21,7 +21,7 @@ enum Dump {
 }
 
 // A tree of classes, a chain, and a table of u32, each before what it needs.
-static TREE: [(Dump, &str); 9] = [
+const TREE: &[(Dump, &str)] = &[
     // 1:0, chain 5: flower, 0x1
     (
         Dump::Filter,
@@ -49,7 +49,7 @@ static TREE: [(Dump, &str); 9] = [
 ];
 
 // Filters of blocks, and of one side of clsact.
-static BLOCKS: [(Dump, &str); 4] = [
+const BLOCKS: &[(Dump, &str)] = &[
     // in block 7
     (Dump::Filter, "00000000ffffffff0100000007000000080001c0"),
     // in block 9
@@ -64,7 +64,7 @@ static BLOCKS: [(Dump, &str); 4] = [
 ];
 
 // Two classes that are each other's parent, and a qdisc under one of them.
-static CIRCLE: [(Dump, &str); 4] = [
+const CIRCLE: &[(Dump, &str)] = &[
     // 1:1 under 1:2
     (Dump::Class, "0000000003000000010001000200010000000000"),
     // 1: at the root
@@ -77,7 +77,7 @@ static CIRCLE: [(Dump, &str); 4] = [
 
 // What can't be made: a class whose parent, a class, isn't there, and a qdisc under it; a second dump; a filter that doesn't say
 // its side of clsact.
-static REFUSED: [(Dump, &str); 6] = [
+const REFUSED: &[(Dump, &str)] = &[
     // 1: at the root
     (Dump::Qdisc, "000000000300000000000100ffffffff00000000"),
     // 1:20 under 1:2
@@ -96,7 +96,7 @@ static REFUSED: [(Dump, &str); 6] = [
 ];
 
 // A chain without a template, and the filter in it; a filter of a shared block that two interfaces dump.
-static MADE: [(Dump, &str); 4] = [
+const MADE: &[(Dump, &str)] = &[
     (
         Dump::Chain,
         "000000000300000000000000000001000000000008000b0005000000",
@@ -110,7 +110,7 @@ static MADE: [(Dump, &str); 4] = [
 ];
 
 // A class of hfsc, its root class, which has the handle of the qdisc, and the qdisc.
-static ROOT_CLASS: [(Dump, &str); 3] = [
+const ROOT_CLASS: &[(Dump, &str)] = &[
     // 1:1 under 1:
     (Dump::Class, "0000000003000000010001000000010000000000"),
     // 1: at the root, a class
@@ -120,7 +120,7 @@ static ROOT_CLASS: [(Dump, &str); 3] = [
 ];
 
 // A class and its qdisc: one step is left where the other is made.
-static ONE_LEFT: [(Dump, &str); 2] = [
+const ONE_LEFT: &[(Dump, &str)] = &[
     // 1:1 under 1:
     (Dump::Class, "0000000003000000010001000000010000000000"),
     // 1: at the root
@@ -128,7 +128,7 @@ static ONE_LEFT: [(Dump, &str); 2] = [
 ];
 
 // Dumps of actions, and a filter that may share any of them; last, actions that can't be made, which the filter has in full.
-static ACTIONS: [(Dump, &str); 7] = [
+const ACTIONS: &[(Dump, &str)] = &[
     // ffff:fff2
     (Dump::Filter, "000000000300000001000000f2ffffff080001c0"),
     // gact 4
@@ -231,15 +231,15 @@ fn come_in(
 
 // Dumps, the places of those that come into an order, and of those that are left.
 static ORDERS: [(&[(Dump, &str)], &[usize], &[usize]); 5] = [
-    (&TREE, &[7, 8, 2, 5, 0, 4, 1, 3, 6], &[]),
+    (TREE, &[7, 8, 2, 5, 0, 4, 1, 3, 6], &[]),
     // one that is left comes last
-    (&ONE_LEFT, &[1, 0], &[]),
+    (ONE_LEFT, &[1, 0], &[]),
     // root classes behind their qdisc
-    (&ROOT_CLASS, &[2, 0, 1], &[]),
+    (ROOT_CLASS, &[2, 0, 1], &[]),
     // blocks before their filters
-    (&BLOCKS, &[3, 0, 1, 2], &[]),
+    (BLOCKS, &[3, 0, 1, 2], &[]),
     // circles are left
-    (&CIRCLE, &[1], &[2, 0, 3]),
+    (CIRCLE, &[1], &[2, 0, 3]),
 ];
 
 #[test]
@@ -249,6 +249,45 @@ fn each_behind_what_it_needs(rt: HostRuntime) -> Result<(), Fail> {
     }
     Ok(())
 }
+
+// Dumps with their fates: of those that come into an order, and of those that are left.
+static FATES: [(&[(Dump, &str)], &[(usize, &str)], &[(usize, &str)]); 3] = [
+    // what can't be made has a reason
+    (
+        REFUSED,
+        &[(0, "request"), (4, "request")],
+        &[
+            (1, "the parent class is missing"),
+            (2, "request"),
+            (3, "a second dump of this"),
+            (5, "the parent ffff: doesn't say which side of clsact"),
+        ],
+    ),
+    // what others make is no request
+    (
+        MADE,
+        &[(0, "made"), (1, "request"), (2, "request"), (3, "made")],
+        &[],
+    ),
+    // actions before filters, and once
+    (
+        ACTIONS,
+        &[
+            (1, "request"),
+            (3, "request"),
+            (4, "request"),
+            (5, "request"),
+            (0, "request"),
+        ],
+        &[
+            (2, "a second dump of this"),
+            (
+                6,
+                "can't be restored: goto chain of an action that no filter has",
+            ),
+        ],
+    ),
+];
 
 // How many of the steps that are left are in an order, and how many in a circle.
 fn around(alloc: Global, left: &[Step<Item, Key, Global>]) -> Result<(usize, usize), AllocError> {
@@ -262,9 +301,9 @@ fn around_in(alloc: Global, rows: &[(Dump, &str)]) -> Result<(usize, usize), Fai
 
 #[test]
 fn circles_of_what_is_left(rt: HostRuntime) -> Result<(), Fail> {
-    assert!(rt; around_in(rt.alloc(), &CIRCLE)? == (0, 3));
+    assert!(rt; around_in(rt.alloc(), ORDERS[4].0)? == (0, 3));
     // 2: needs 1:20, and is in no circle
-    assert!(rt; around_in(rt.alloc(), &REFUSED)? == (4, 0));
+    assert!(rt; around_in(rt.alloc(), FATES[0].0)? == (4, 0));
     Ok(())
 }
 
@@ -304,45 +343,6 @@ fn come_to(
     let made = planned(alloc, rows)?;
     Ok(have_fates(alloc, &made.order, order) && have_fates(alloc, &made.left, left))
 }
-
-// Dumps with their fates: of those that come into an order, and of those that are left.
-static FATES: [(&[(Dump, &str)], &[(usize, &str)], &[(usize, &str)]); 3] = [
-    // what can't be made has a reason
-    (
-        &REFUSED,
-        &[(0, "request"), (4, "request")],
-        &[
-            (1, "the parent class is missing"),
-            (2, "request"),
-            (3, "a second dump of this"),
-            (5, "the parent ffff: doesn't say which side of clsact"),
-        ],
-    ),
-    // what others make is no request
-    (
-        &MADE,
-        &[(0, "made"), (1, "request"), (2, "request"), (3, "made")],
-        &[],
-    ),
-    // actions before filters, and once
-    (
-        &ACTIONS,
-        &[
-            (1, "request"),
-            (3, "request"),
-            (4, "request"),
-            (5, "request"),
-            (0, "request"),
-        ],
-        &[
-            (2, "a second dump of this"),
-            (
-                6,
-                "can't be restored: goto chain of an action that no filter has",
-            ),
-        ],
-    ),
-];
 
 #[test]
 fn each_with_its_fate(rt: HostRuntime) -> Result<(), Fail> {
