@@ -126,10 +126,9 @@ fn are_reported(rt: &impl Abort, alloc: Global, rows: &[Row]) -> usize {
     rows.len()
 }
 
+// Those that were made by hand are below, with memory refused and with memory enough.
 #[test]
-fn reports_on_messages(rt: HostRuntime) -> Result<(), Fail> {
-    let rows = made(rt.alloc())?;
-    assert_eq!(rt; are_reported(&rt, rt.alloc(), &rows), 69);
+fn reports_on_captured_messages(rt: HostRuntime) -> Result<(), Fail> {
     let rows = captured(rt.alloc())?;
     assert_eq!(rt; are_reported(&rt, rt.alloc(), &rows), 20);
     Ok(())
@@ -286,7 +285,7 @@ fn misreported_request(alloc: Global, row: &Row) -> Option<u64> {
     Some(1000)
 }
 
-// Whatever request for memory is refused, the report says so and nothing else.
+// Whatever request for memory is refused, the report says so and nothing else; where none is, it is that of the row.
 #[test]
 fn reports_refused_memory_of_each_message(rt: HostRuntime) -> Result<(), Fail> {
     let rows = made(rt.alloc())?;

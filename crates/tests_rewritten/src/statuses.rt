@@ -1,6 +1,6 @@
 //! The exit status of the program: that of the report, and 3 only where a stream fails, in both modes.
 
-use crate::streams::{LIMIT_OF_FQ_CODEL, REPORT, serves};
+use crate::streams::{LIMIT_OF_FQ_CODEL, REPORT_ON_LIMIT, serves};
 use tcrewrite_lib::arguments::Request;
 use tcrewrite_lib::mode::Mode;
 
@@ -58,14 +58,16 @@ static ROWS: [Row; 7] = [
     },
 ];
 
-// Streams of which no call fails here.
-const ALL: (usize, usize, usize) = (200, 200, 200);
+// How many calls of the input, the output and the error output succeed.
+type Counts = (usize, usize, usize);
 
-const NO_READ: (usize, usize, usize) = (0, 200, 200);
+const ALL: Counts = (200, 200, 200);
 
-const NO_WRITE: (usize, usize, usize) = (200, 0, 200);
+const NO_READ: Counts = (0, 200, 200);
 
-const NO_COMPLAINT: (usize, usize, usize) = (200, 200, 0);
+const NO_WRITE: Counts = (200, 0, 200);
+
+const NO_COMPLAINT: Counts = (200, 200, 0);
 
 #[test]
 fn ends_with_the_status_of_the_report(rt: HostRuntime) {
@@ -119,45 +121,42 @@ fn ends_with_3_where_a_stream_failed(rt: HostRuntime) {
     }
 }
 
-// The same of the stored message, of which some bytes are read, or all.
-#[test]
-fn ends_with_3_where_a_stream_fails_late(rt: HostRuntime) {
-    let (alloc, request) = (rt.alloc(), Request::Report(Mode::Tc));
-    let text = LIMIT_OF_FQ_CODEL;
-    assert!(rt; serves(alloc, request, text, ALL, 0, (REPORT, "")));
-    assert!(rt;
-        serves(
-            alloc,
-            request,
-            text,
-            (3, 200, 200),
-            3,
-            ("", "read failed\n")
-        )
-    );
-    assert!(rt; serves(alloc, request, text, NO_WRITE, 3, ("", "write failed\n")));
-}
+const TC: Request = Request::Report(Mode::Tc);
 
-// Nothing is read where there is no report.
-#[test]
-fn ends_without_a_report(rt: HostRuntime) {
-    let alloc = rt.alloc();
-    let memory = ("refused OutOfMemory\n", "");
-    assert!(rt; serves(alloc, Request::NoMemory, "", ALL, 1, memory));
-    assert!(rt; serves(alloc, Request::NoMemory, "", NO_READ, 1, memory));
-    let failed = ("", "write failed\n");
-    assert!(rt; serves(alloc, Request::NoMemory, "", (0, 0, 200), 3, failed));
-    let usage = ("", "usage: tcrewrite [tc|action]\n");
-    assert!(rt; serves(alloc, Request::Usage, "", ALL, 2, usage));
-    assert!(rt; serves(alloc, Request::Usage, "", (0, 0, 200), 2, usage));
-}
+const MEMORY: (&str, &str) = ("refused OutOfMemory\n", "");
 
-// The status is the same where nothing can be said on the error output.
+const USAGE: (&str, &str) = ("", "usage: tcrewrite [tc|action]\n");
+
+// Requests over the stored message, the status, and what is written to both outputs.
+static ENDS: [(Request, Counts, u8, (&str, &str)); 11] = [
+    (TC, ALL, 0, (REPORT_ON_LIMIT, "")),
+    (TC, (3, 200, 200), 3, ("", "read failed\n")),
+    (TC, NO_WRITE, 3, ("", "write failed\n")),
+    // nothing is read where there is no report
+    (Request::NoMemory, ALL, 1, MEMORY),
+    (Request::NoMemory, NO_READ, 1, MEMORY),
+    (Request::NoMemory, (0, 0, 200), 3, ("", "write failed\n")),
+    (Request::Usage, ALL, 2, USAGE),
+    (Request::Usage, (0, 0, 200), 2, USAGE),
+    // the status is the same where nothing can be said on the error output
+    (Request::Usage, NO_COMPLAINT, 2, ("", "")),
+    (TC, NO_COMPLAINT, 0, (REPORT_ON_LIMIT, "")),
+    (TC, (0, 200, 0), 3, ("", "")),
+];
+
 #[test]
-fn ends_without_an_error_output(rt: HostRuntime) {
-    let (alloc, request) = (rt.alloc(), Request::Report(Mode::Tc));
-    let text = LIMIT_OF_FQ_CODEL;
-    assert!(rt; serves(alloc, Request::Usage, text, NO_COMPLAINT, 2, ("", "")));
-    assert!(rt; serves(alloc, request, text, NO_COMPLAINT, 0, (REPORT, "")));
-    assert!(rt; serves(alloc, request, text, (0, 200, 0), 3, ("", "")));
+fn ends_with_a_status(rt: HostRuntime) {
+    for (request, counts, status, written) in &ENDS {
+        assert!(rt;
+            serves(
+                rt.alloc(),
+                *request,
+                LIMIT_OF_FQ_CODEL,
+                *counts,
+                *status,
+                *written
+            ),
+            "{request:?} {counts:?}"
+        );
+    }
 }

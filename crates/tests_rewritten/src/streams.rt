@@ -8,13 +8,18 @@ use tcrewrite_lib::program::serve;
 use tcrewrite_lib::run::{RunError, run};
 
 /// A message with the kind fq_codel and a limit of 10240 packets.
-pub(crate) static LIMIT_OF_FQ_CODEL: &str = "000000000200000000000100ffffffff\
+pub(crate) const LIMIT: &str = "000000000200000000000100ffffffff\
 000000000d00010066715f636f64656c000000000c0002000800020000280000";
 
 /// The report on it.
-pub(crate) static REPORT: &str =
+pub(crate) const REPORT_ON_LIMIT: &str =
     "fits yes\nsettled yes\ncanonical yes\nbytes 000000000200000000000100ffffffff\
 000000000d00010066715f636f64656c000000000c0002000800020000280000\n";
+
+/// The same as statics, which stand once in what is proved.
+pub(crate) static LIMIT_OF_FQ_CODEL: &str = LIMIT;
+
+pub(crate) static REPORT: &str = REPORT_ON_LIMIT;
 
 // How a stream goes: so many calls succeed, and give or take so many bytes each; then all fail. So often it is interrupted before the first
 // of them, and so often before each other.
@@ -86,96 +91,94 @@ impl<T: Write> Write for Slow<T> {
     }
 }
 
-// Whether a run over such streams ends so, and writes so many bytes of the report.
+// Whether a run over such streams fails so, or ends well, and writes so many bytes of the report.
 fn ends(
     alloc: Global,
     reads: Turns,
     writes: Turns,
-    end: std::result::Result<u8, RunError>,
+    fault: Option<&RunError>,
     written: usize,
 ) -> bool {
     let mut from = slowly(LIMIT_OF_FQ_CODEL.as_bytes(), reads);
     let mut to = slowly(Vec::new(alloc), writes);
-    run(alloc, Mode::Tc, &mut from, &mut to) == end
-        && REPORT.as_bytes().get(..written) == Some(to.inner.as_slice())
+    let is_so = match run(alloc, Mode::Tc, &mut from, &mut to) {
+        Ok(status) => status == 0 && fault.is_none(),
+        Err(e) => fault == Some(&e),
+    };
+    is_so && REPORT.as_bytes().get(..written) == Some(to.inner.as_slice())
 }
 
 #[test]
 fn stops_where_a_read_fails(rt: HostRuntime) {
-    let alloc = rt.alloc();
+    let (alloc, fault) = (rt.alloc(), RunError::Read);
     let reads = LIMIT_OF_FQ_CODEL.len() + 1;
     for count in 0..reads {
         assert!(rt;
-            ends(alloc, calls(count), calls(200), Err(RunError::Read), 0),
+            ends(alloc, calls(count), calls(200), Some(&fault), 0),
             "after {count} reads"
         );
     }
-    assert!(rt; ends(alloc, calls(reads), calls(200), Ok(0), REPORT.len()));
+    assert!(rt; ends(alloc, calls(reads), calls(200), None, REPORT.len()));
 }
 
 #[test]
 fn stops_where_a_write_fails(rt: HostRuntime) {
-    let alloc = rt.alloc();
+    let (alloc, fault) = (rt.alloc(), RunError::Write);
     for count in 0..REPORT.len() {
         assert!(rt;
-            ends(alloc, calls(200), calls(count), Err(RunError::Write), count),
+            ends(alloc, calls(200), calls(count), Some(&fault), count),
             "after {count} writes"
         );
     }
-    assert!(rt; ends(alloc, calls(200), calls(REPORT.len()), Ok(0), REPORT.len()));
+    assert!(rt; ends(alloc, calls(200), calls(REPORT.len()), None, REPORT.len()));
     // a writer that takes nothing
     let full = Turns {
         bytes: 0,
         ..calls(200)
     };
-    assert!(rt; ends(alloc, calls(200), full, Err(RunError::Write), 0));
+    assert!(rt; ends(alloc, calls(200), full, Some(&fault), 0));
 }
 
-// Whether a run ends so over calls enough that are interrupted before the first and before each other: with the report, or nothing written.
-fn tries(
-    alloc: Global,
-    reads: (usize, usize),
-    writes: (usize, usize),
-    end: std::result::Result<u8, RunError>,
-) -> bool {
-    let written = if end.is_ok() { REPORT.len() } else { 0 };
-    let reads = Turns {
-        first: reads.0,
-        other: reads.1,
+// How often the reads and the writes of a run are interrupted, before the first and before each other, and how it fails, if it does. There are
+// 97 reads, the last of which finds the end, and a report of 138 bytes.
+static INTERRUPTED: [((usize, usize), (usize, usize), Option<RunError>); 13] = [
+    ((1024, 0), (0, 0), None),
+    ((0, 0), (1023, 0), None),
+    ((1024, 0), (1023, 0), None),
+    ((1025, 0), (0, 0), Some(RunError::Read)),
+    ((usize::MAX, 0), (0, 0), Some(RunError::Read)),
+    ((0, 0), (1024, 0), Some(RunError::Write)),
+    ((0, 0), (usize::MAX, 0), Some(RunError::Write)),
+    ((5, 5), (3, 3), None),
+    ((10, 10), (0, 0), None),
+    ((0, 0), (7, 7), None),
+    // 94 times 11 are more than 1,024
+    ((11, 11), (0, 0), Some(RunError::Read)),
+    // each write has its own 1,024
+    ((10, 10), (1023, 1023), None),
+    ((0, 0), (1024, 1024), Some(RunError::Write)),
+];
+
+// Calls enough that are interrupted so often.
+fn interrupted((first, other): (usize, usize)) -> Turns {
+    Turns {
+        first,
+        other,
         ..calls(200)
-    };
-    let writes = Turns {
-        first: writes.0,
-        other: writes.1,
-        ..calls(200)
-    };
-    ends(alloc, reads, writes, end, written)
+    }
 }
 
+// A run writes its report, or nothing where it fails.
 #[test]
 fn tries_again(rt: HostRuntime) {
-    let alloc = rt.alloc();
-    assert!(rt; tries(alloc, (1024, 0), (0, 0), Ok(0)));
-    assert!(rt; tries(alloc, (0, 0), (1023, 0), Ok(0)));
-    assert!(rt; tries(alloc, (1024, 0), (1023, 0), Ok(0)));
-    assert!(rt; tries(alloc, (1025, 0), (0, 0), Err(RunError::Read)));
-    assert!(rt; tries(alloc, (usize::MAX, 0), (0, 0), Err(RunError::Read)));
-    assert!(rt; tries(alloc, (0, 0), (1024, 0), Err(RunError::Write)));
-    assert!(rt; tries(alloc, (0, 0), (usize::MAX, 0), Err(RunError::Write)));
-}
-
-// 97 reads, the last of which finds the end, and a report of 138 bytes.
-#[test]
-fn tries_again_between_bytes(rt: HostRuntime) {
-    let alloc = rt.alloc();
-    assert!(rt; tries(alloc, (5, 5), (3, 3), Ok(0)));
-    assert!(rt; tries(alloc, (10, 10), (0, 0), Ok(0)));
-    assert!(rt; tries(alloc, (0, 0), (7, 7), Ok(0)));
-    // 94 times 11 are more than 1,024
-    assert!(rt; tries(alloc, (11, 11), (0, 0), Err(RunError::Read)));
-    // each write has its own 1,024
-    assert!(rt; tries(alloc, (10, 10), (1023, 1023), Ok(0)));
-    assert!(rt; tries(alloc, (0, 0), (1024, 1024), Err(RunError::Write)));
+    for (reads, writes, fault) in &INTERRUPTED {
+        let written = if fault.is_none() { REPORT.len() } else { 0 };
+        let (from, to) = (interrupted(*reads), interrupted(*writes));
+        assert!(rt;
+            ends(rt.alloc(), from, to, fault.as_ref(), written),
+            "{reads:?} {writes:?}"
+        );
+    }
 }
 
 /// Whether the program ends with this status where so many calls of its input, output and error output succeed, and writes these texts to
