@@ -6,31 +6,54 @@ use std::test::Fail;
 use tcmake_lib::arguments::Making;
 
 // A canonical message.
-const CANONICAL: (&str, &str) = (
+static CANONICAL_TEXTS: (&str, &str) = (
     r#"{"header":{"family":"Unspec","index":2,"handle":"1:","parent":"root","info":0},"attributes":[{"Kind":"u32"}]}"#,
     "000000000200000000000100ffffffff000000000800010075333200",
 );
 
 // One with a number out of its range, flags of another `nla_type`, and padding that isn't zeros.
-const LOOSE: (&str, &str) = (
+static LOOSE_TEXTS: (&str, &str) = (
     r#"{"header":{"family":"Unspec","index":2,"handle":"1:","parent":"root","info":0},"attributes":[{"Kind":"flower"},{"Options":[{"Flower":{"MplsBos":3,"pad":"000001","word":32836}}]}]}"#,
     "000000000200000000000100ffffffff000000000b000100666c6f77657200000c0002000500448003000001",
 );
 
 // The same as it is settled.
-const SETTLED: &str =
+static SETTLED: &str =
     "000000000200000000000100ffffffff000000000b000100666c6f77657200000c0002000500440001000000";
 
 // One that the codec refuses: a chain of two bytes.
-const REFUSED: (&str, &str) = (
+static REFUSED_TEXTS: (&str, &str) = (
     r#"{"header":{"family":"Unspec","index":2,"handle":"1:","parent":"root","info":0},"attributes":[{"Chain":{"raw":"0700"}}]}"#,
     "000000000200000000000100ffffffff0000000006000b0007000000",
 );
 
+// Which of them is in a line.
+#[derive(Clone, Copy)]
+enum Message {
+    Canonical,
+    Loose,
+    Refused,
+}
+
+const CANONICAL: Message = Message::Canonical;
+
+const LOOSE: Message = Message::Loose;
+
+const REFUSED: Message = Message::Refused;
+
+// Its JSON, and its bytes in hex.
+fn texts_of(message: Message) -> (&'static str, &'static str) {
+    match message {
+        Message::Canonical => CANONICAL_TEXTS,
+        Message::Loose => LOOSE_TEXTS,
+        Message::Refused => REFUSED_TEXTS,
+    }
+}
+
 // What is made of a line with these members beside a message, and what is said: of a line that is made, nothing or a notice.
 struct Cell {
     says: &'static str,
-    message: (&'static str, &'static str),
+    message: Message,
     making: Making,
     makes: Makes,
     said: &'static str,
@@ -99,37 +122,26 @@ static CELLS: [Cell; 27] = [
     Cell { says: "", message: REFUSED, making: AS_GIVEN, makes: Makes::Given, said: "" },
 ];
 
-// The hex of what is made of a cell's line, if anything is.
-fn hex_of(cell: &Cell) -> &'static str {
-    match cell.makes {
-        Makes::Given => cell.message.1,
-        Makes::Settled => SETTLED,
-        Makes::Nothing => "",
-    }
-}
-
 // True if what is made of a cell's line, and what is said of it, is what is wanted.
 fn is_so(alloc: Global, cell: &Cell) -> Result<bool, AllocError> {
-    let (says, json) = (cell.says, cell.message.0);
+    let (says, (json, given)) = (cell.says, texts_of(cell.message));
+    let digits = match cell.makes {
+        Makes::Given => given,
+        Makes::Settled => SETTLED,
+        Makes::Nothing => "",
+    };
     let line = format!(in alloc; "{{\"type\":\"RTM_NEWQDISC\",{says}\"message\":{json}}}")?;
-    Ok(makes_line(
-        alloc,
-        &bare(cell.making),
-        line.as_str(),
-        hex_of(cell),
-        cell.said,
-    ))
+    Ok(makes_line(alloc, &bare(cell.making), line.as_str(), digits, cell.said))
 }
 
 #[test]
 fn each_cell_of_the_table(rt: HostRuntime) -> Result<(), Fail> {
-    for cell in &CELLS {
+    for (number, cell) in CELLS.iter().enumerate() {
         assert!(rt;
             is_so(rt.alloc(), cell)?,
-            "{} {:?} of {}",
+            "cell {number}: {} {:?}",
             cell.says,
-            cell.making,
-            cell.message.1
+            cell.making
         );
     }
     Ok(())

@@ -11,9 +11,13 @@ static HEADER: &str =
 
 static ACTION_HEADER: &str = r#"{"header":{"family":"Unspec"},"attributes":[]}"#;
 
+fn shown(alloc: Global, message: &TcMessage) -> Result<String, serde_json::Error> {
+    serde_json::to_string(alloc, &Shown(message, alloc))
+}
+
 fn header(alloc: Global) -> Result<String, serde_json::Error> {
     let message = TcMessage::with_index(alloc, 2);
-    serde_json::to_string(alloc, &Shown(&message, alloc))
+    shown(alloc, &message)
 }
 
 fn action_header(alloc: Global) -> Result<String, serde_json::Error> {
@@ -38,7 +42,7 @@ fn with_value(alloc: Global, len: usize) -> Result<TcMessage, Fail> {
 // True if a message whose attribute has so many bytes is shown.
 fn is_shown(alloc: Global, len: usize) -> Result<bool, Fail> {
     let message = with_value(alloc, len)?;
-    Ok(serde_json::to_vec(alloc, &Shown(&message, alloc)).is_ok())
+    Ok(shown(alloc, &message).is_ok())
 }
 
 #[test]
