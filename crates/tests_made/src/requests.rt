@@ -3,6 +3,6 @@
 
 mod actions;
 mod built;
+mod in_hex;
 mod planned;
-mod readme;
 mod restored;

@@ -7,15 +7,6 @@ use std::rt::Env;
 use tcrewrite_lib::arguments::{Request, request_from};
 use tcrewrite_lib::mode::Mode;
 
-#[test]
-fn knows_two_words(rt: HostRuntime) {
-    assert!(rt; Mode::from_word("tc") == Some(Mode::Tc));
-    assert!(rt; Mode::from_word("action") == Some(Mode::Action));
-    assert!(rt; Mode::from_word("actions") == None);
-    assert!(rt; Mode::from_word("TC") == None);
-    assert!(rt; Mode::from_word("") == None);
-}
-
 // The arguments of a program.
 #[derive(Clone, Copy)]
 struct Words(&'static [&'static str]);
@@ -41,37 +32,48 @@ impl Env for Words {
     }
 }
 
-// What is asked for by these arguments.
-fn request_of(alloc: Global, words: &'static [&'static str]) -> Request {
-    request_from(alloc, env::args(&(Words(words), alloc)))
+// What is asked for by these arguments where the request for memory of this number is refused (0: none), and whether one was.
+fn request_at(alloc: Global, words: &'static [&'static str], at: u64) -> (Request, bool) {
+    let failing = Failing::new(alloc, at);
+    let request = request_from(&failing, env::args(&(Words(words), &failing)));
+    (request, failing.has_refused())
 }
 
-// The program's name comes first.
+const TC: Request = Request::Report(Mode::Tc);
+
+const ACTION: Request = Request::Report(Mode::Action);
+
+// Arguments, of which the program's name comes first, and what is asked for.
+static ASKED: [(&[&str], Request); 10] = [
+    (&[], TC),
+    (&["tcrewrite"], TC),
+    (&["tcrewrite", "tc"], TC),
+    (&["tcrewrite", "action"], ACTION),
+    (&["tcrewrite", "actions"], Request::Usage),
+    (&["tcrewrite", "TC"], Request::Usage),
+    (&["tcrewrite", ""], Request::Usage),
+    (&["tcrewrite", "--help"], Request::Usage),
+    (&["tcrewrite", "tc", "action"], Request::Usage),
+    (&["tc", "tc", "tc", "tc"], Request::Usage),
+];
+
 #[test]
 fn takes_one_word_at_most(rt: HostRuntime) {
-    let alloc = rt.alloc();
-    let (tc, action) = (Request::Report(Mode::Tc), Request::Report(Mode::Action));
-    assert!(rt; request_of(alloc, &[]) == tc);
-    assert!(rt; request_of(alloc, &["tcrewrite"]) == tc);
-    assert!(rt; request_of(alloc, &["tcrewrite", "tc"]) == tc);
-    assert!(rt; request_of(alloc, &["tcrewrite", "action"]) == action);
-    assert!(rt; request_of(alloc, &["tcrewrite", ""]) == Request::Usage);
-    assert!(rt; request_of(alloc, &["tcrewrite", "--help"]) == Request::Usage);
-    assert!(rt; request_of(alloc, &["tcrewrite", "tc", "action"]) == Request::Usage);
-    assert!(rt; request_of(alloc, &["tc", "tc", "tc", "tc"]) == Request::Usage);
+    for (words, wanted) in &ASKED {
+        let (request, _) = request_at(rt.alloc(), words, 0);
+        assert!(rt; request == *wanted, "{words:?}");
+    }
 }
 
 // Where a request for memory is refused, the call returns so, or a smaller request serves; the words are never taken for others.
 #[test]
 fn arguments_take_memory(rt: HostRuntime) {
-    let words = Words(&["tcrewrite", "tc"]);
     let mut refusals = 0;
     for at in 1..1000u64 {
-        let failing = Failing::new(rt.alloc(), at);
-        let read = request_from(&failing, env::args(&(words, &failing)));
-        if read != Request::NoMemory {
-            assert!(rt; read == Request::Report(Mode::Tc), "request {at}");
-            if !failing.has_refused() {
+        let (request, is_refused) = request_at(rt.alloc(), &["tcrewrite", "tc"], at);
+        if request != Request::NoMemory {
+            assert!(rt; request == TC, "request {at}");
+            if !is_refused {
                 break;
             }
         }

@@ -1,40 +1,51 @@
 //! Reports on messages and on texts in hex, with memory enough and where it is refused.
 
+use crate::streams::{LIMIT_OF_FQ_CODEL, REPORT};
 use failing_alloc::Failing;
 use std::alloc::{AllocError, Global};
-use std::io::Cursor;
 use std::process::Abort;
 use std::test::Fail;
 use tcrewrite_lib::mode::Mode;
 use tcrewrite_lib::run::run;
-use tests_messages::{Expected, Form, Row, captured, large_messages, made, row_of, too_long};
+use tests_messages::{Expected, Form, Row, captured, large_messages, made, too_long};
 
-/// A message with the kind fq_codel and a limit of 10240 packets.
-pub(crate) static LIMIT_OF_FQ_CODEL: &str = "000000000200000000000100ffffffff\
-000000000d00010066715f636f64656c000000000c0002000800020000280000";
-
-// A header alone.
-static ZEROS: &str = "0000000000000000000000000000000000000000";
-
-// A header alone, in upper case and with spaces of each kind.
-static SPACED_HEADER: &str =
-    "\t00 00 00 00\r\n00 00 00 0A\x0c00 00 00 00 00 00 00 0b 00 00 00 00\n";
-
-static HEADER: &str = "000000000000000a000000000000000b00000000";
-
-// A header of zeros, with a space in the middle of each byte.
-static DIVIDED_ZEROS: &str = "0 00 00 00 00 00 00 00 00 00 00 00 00 00 00 00 00 00 00 00 0";
-
-/// The report on a message of these bytes that are canonical.
-pub(crate) fn accepted(alloc: Global, bytes: &str) -> Result<String, AllocError> {
-    format!(in alloc; "fits yes\nsettled yes\ncanonical yes\nbytes {bytes}\n")
+// True if bytes are these texts, one after the other.
+fn are(bytes: &[u8], texts: &[&str]) -> bool {
+    let mut rest = bytes;
+    for text in texts {
+        match rest.strip_prefix(text.as_bytes()) {
+            Some(others) => rest = others,
+            None => return false,
+        }
+    }
+    rest.is_empty()
 }
 
-// Whether this is written on a text, with this status, and so many of its bytes are left unread.
-fn reports(alloc: Global, mode: Mode, text: &[u8], want: &str, status: u8, left: usize) -> bool {
+// Whether these texts are written on a text, with this status, and so many of its bytes are left unread; or that memory ran out, where the
+// request for memory of this number is refused (0: none). And whether it was.
+fn reports_at(
+    alloc: Global,
+    at: u64,
+    (mode, text): (Mode, &[u8]),
+    want: &[&str],
+    status: u8,
+    left: usize,
+) -> (bool, bool) {
+    let failing = Failing::new(alloc, at);
     let (mut from, mut to) = (text, Vec::new(alloc));
-    let ended = run(alloc, mode, &mut from, &mut to);
-    ended == Ok(status) && to.as_slice() == want.as_bytes() && from.len() == left
+    let ended = run(&failing, mode, &mut from, &mut to);
+    let is_refused = failing.has_refused();
+    let is_right = if is_refused {
+        ended == Ok(1) && are(&to, &["refused OutOfMemory\n"])
+    } else {
+        ended == Ok(status) && are(&to, want) && from.len() == left
+    };
+    (is_right, is_refused)
+}
+
+// The same with memory enough.
+fn reports(alloc: Global, mode: Mode, text: &[u8], want: &str, status: u8, left: usize) -> bool {
+    reports_at(alloc, 0, (mode, text), &[want], status, left).0
 }
 
 /// How a message of this form is read.
@@ -49,49 +60,86 @@ fn word_of(holds: bool) -> &'static str {
     if holds { "yes" } else { "no" }
 }
 
-// The report on a message, and the status.
-fn report_of(alloc: Global, expected: &Expected) -> Result<(String, u8), AllocError> {
-    match expected {
-        Expected::Refused(name) => Ok((format!(in alloc; "refused {name}\n")?, 1)),
+// Whether the report on the message of a row is what the row has, where the request for memory of this number is refused (0: none), and
+// whether it was.
+fn is_reported_at(alloc: Global, at: u64, row: &Row) -> (bool, bool) {
+    match hex::encode(alloc, &row.input.bytes) {
+        Ok(text) => {
+            let text = (mode_of(row.input.form), text.as_bytes());
+            is_expected_at(alloc, at, text, &row.expected)
+        }
+        Err(_) => (false, false),
+    }
+}
+
+// The same of the report on a text.
+fn is_expected_at(
+    alloc: Global,
+    at: u64,
+    text: (Mode, &[u8]),
+    expected: &Expected,
+) -> (bool, bool) {
+    let (fits, settled, canonical, emitted) = match expected {
+        Expected::Refused(name) => {
+            return reports_at(alloc, at, text, &["refused ", name.as_str(), "\n"], 1, 0);
+        }
         Expected::Accepted {
             fits,
             settled,
             canonical,
             emitted,
-        } => {
-            let (fits, settled) = (word_of(*fits), word_of(*settled));
-            let canonical = word_of(*canonical);
-            let bytes = hex::encode(alloc, emitted)?;
-            let report = format!(in alloc;
-                "fits {fits}\nsettled {settled}\ncanonical {canonical}\nbytes {bytes}\n"
-            )?;
-            Ok((report, 0))
-        }
+        } => (*fits, *settled, *canonical, emitted),
+    };
+    let (settled, canonical) = (word_of(settled), word_of(canonical));
+    if !fits {
+        let report = [
+            "fits no\nsettled ",
+            settled,
+            "\ncanonical ",
+            canonical,
+            "\n",
+        ];
+        return reports_at(alloc, at, text, &report, 0, 0);
     }
-}
-
-// Whether the report on the message of a row is what the row has.
-fn reports_as_expected(alloc: Global, row: &Row) -> Result<bool, AllocError> {
-    let text = hex::encode(alloc, &row.input.bytes)?;
-    let (report, status) = report_of(alloc, &row.expected)?;
-    let mode = mode_of(row.input.form);
-    Ok(reports(alloc, mode, text.as_bytes(), &report, status, 0))
+    match hex::encode(alloc, emitted) {
+        Ok(digits) => {
+            let report = [
+                "fits yes\nsettled ",
+                settled,
+                "\ncanonical ",
+                canonical,
+                "\nbytes ",
+                digits.as_str(),
+                "\n",
+            ];
+            reports_at(alloc, at, text, &report, 0, 0)
+        }
+        Err(_) => (false, false),
+    }
 }
 
 // Reports on the messages of rows, and returns how many they are.
-fn are_reported(rt: &impl Abort, alloc: Global, rows: &[Row]) -> Result<usize, Fail> {
+fn are_reported(rt: &impl Abort, alloc: Global, rows: &[Row]) -> usize {
     for row in rows {
-        assert!(rt; reports_as_expected(alloc, row)?, "{:?}", row.input);
+        assert!(rt; is_reported_at(alloc, 0, row).0, "{:?}", row.input);
     }
-    Ok(rows.len())
+    rows.len()
 }
 
+// Those that were made by hand are below, with memory refused and with memory enough.
 #[test]
-fn reports_on_messages(rt: HostRuntime) -> Result<(), Fail> {
-    let alloc = rt.alloc();
-    assert_eq!(rt; are_reported(&rt, alloc, &made(alloc)?)?, 69);
-    assert_eq!(rt; are_reported(&rt, alloc, &captured(alloc)?)?, 20);
+fn reports_on_captured_messages(rt: HostRuntime) -> Result<(), Fail> {
+    let rows = captured(rt.alloc())?;
+    assert_eq!(rt; are_reported(&rt, rt.alloc(), &rows), 20);
     Ok(())
+}
+
+// Whether the bytes that are emitted have more than 64 KiB in hex.
+fn is_large(expected: &Expected) -> bool {
+    match expected {
+        Expected::Refused(_) => false,
+        Expected::Accepted { emitted, .. } => emitted.len() > 32768,
+    }
 }
 
 // Reports of more than 64 KiB are those on the list of 4,096 attributes and on the text of 60,000 letters.
@@ -99,11 +147,10 @@ fn reports_on_messages(rt: HostRuntime) -> Result<(), Fail> {
 fn reports_on_large_messages(rt: HostRuntime) -> Result<(), Fail> {
     let alloc = rt.alloc();
     let rows = large_messages(alloc)?;
-    assert_eq!(rt; are_reported(&rt, alloc, &rows)?, 4);
+    assert_eq!(rt; are_reported(&rt, alloc, &rows), 4);
     let mut large_reports = 0usize;
     for row in &rows {
-        let (report, _) = report_of(alloc, &row.expected)?;
-        if report.len() > 65536 {
+        if is_large(&row.expected) {
             large_reports = large_reports.wrapping_add(1);
         }
     }
@@ -111,121 +158,139 @@ fn reports_on_large_messages(rt: HostRuntime) -> Result<(), Fail> {
     Ok(())
 }
 
-// Whether the report on a message that doesn't fit says so.
-fn reports_too_long(alloc: Global, form: Form) -> Result<bool, Fail> {
-    let text = hex::encode(alloc, &too_long(alloc, form)?.bytes)?;
-    let want = "fits no\nsettled yes\ncanonical no\n";
-    Ok(reports(alloc, mode_of(form), text.as_bytes(), want, 0, 0))
+// A message that doesn't fit, of which the report says so.
+fn row_too_long(alloc: Global, form: Form) -> Result<Row, AllocError> {
+    let input = too_long(alloc, form)?;
+    let expected = Expected::Accepted {
+        fits: false,
+        settled: true,
+        canonical: false,
+        emitted: Vec::new(alloc),
+    };
+    Ok(Row { input, expected })
 }
 
 #[test]
 fn reports_what_does_not_fit(rt: HostRuntime) -> Result<(), Fail> {
-    assert!(rt; reports_too_long(rt.alloc(), Form::Tc)?);
-    assert!(rt; reports_too_long(rt.alloc(), Form::Action)?);
+    let row = row_too_long(rt.alloc(), Form::Tc)?;
+    assert!(rt; is_reported_at(rt.alloc(), 0, &row).0);
+    let row = row_too_long(rt.alloc(), Form::Action)?;
+    assert!(rt; is_reported_at(rt.alloc(), 0, &row).0);
     Ok(())
 }
 
-// Whether a text is read as canonical bytes.
-fn reads_as(alloc: Global, text: &str, bytes: &str) -> Result<bool, AllocError> {
-    let want = accepted(alloc, bytes)?;
-    Ok(reports(alloc, Mode::Tc, text.as_bytes(), want.as_str(), 0, 0))
-}
+// Headers alone: one in upper case and with spaces of each kind, and one of zeros with a space in the middle of each byte; and the reports on
+// them.
+static SPACED: [(&str, &str); 2] = [
+    (
+        "\t00 00 00 00\r\n00 00 00 0A\x0c00 00 00 00 00 00 00 0b 00 00 00 00\n",
+        "fits yes\nsettled yes\ncanonical yes\nbytes 000000000000000a000000000000000b00000000\n",
+    ),
+    (
+        "0 00 00 00 00 00 00 00 00 00 00 00 00 00 00 00 00 00 00 00 0",
+        "fits yes\nsettled yes\ncanonical yes\nbytes 0000000000000000000000000000000000000000\n",
+    ),
+];
 
 #[test]
-fn reads_hex_with_spaces(rt: HostRuntime) -> Result<(), Fail> {
-    assert!(rt; reads_as(rt.alloc(), SPACED_HEADER, HEADER)?);
-    assert!(rt; reads_as(rt.alloc(), DIVIDED_ZEROS, ZEROS)?);
-    Ok(())
+fn reads_hex_with_spaces(rt: HostRuntime) {
+    for (text, report) in &SPACED {
+        assert!(rt;
+            reports(rt.alloc(), Mode::Tc, text.as_bytes(), report, 0, 0),
+            "{text}"
+        );
+    }
 }
 
-// Whether a text is refused in both modes.
-fn is_refused(alloc: Global, text: &[u8]) -> bool {
-    reports(alloc, Mode::Tc, text, "bad hex\n", 2, 0)
-        && reports(alloc, Mode::Action, text, "bad hex\n", 2, 0)
-}
+// Texts that are refused in both modes.
+static REFUSED: [&str; 3] = ["0", "0g", "00\x0b"];
 
 #[test]
 fn refuses_texts(rt: HostRuntime) {
-    assert!(rt; is_refused(rt.alloc(), b"0"));
-    assert!(rt; is_refused(rt.alloc(), b"0g"));
-    assert!(rt; is_refused(rt.alloc(), b"00\x0b"));
+    for text in &REFUSED {
+        let bytes = text.as_bytes();
+        assert!(rt;
+            reports(rt.alloc(), Mode::Tc, bytes, "bad hex\n", 2, 0),
+            "{text}"
+        );
+        assert!(rt;
+            reports(rt.alloc(), Mode::Action, bytes, "bad hex\n", 2, 0),
+            "{text}"
+        );
+    }
 }
 
-// So many first bytes of the stored message, and what the report on them is.
-fn row_of_front(alloc: Global, count: usize) -> Result<Row, Fail> {
-    let message = LIMIT_OF_FQ_CODEL
-        .get(..count.saturating_mul(2))
-        .ok_or("48 bytes")?;
-    let expected = match count {
-        0..=19 => "BufferTooSmall",
-        20 | 36 | 48 => "yes yes yes",
-        21..=23 | 37..=39 => "FrameHeaderShort",
-        33..=35 => "yes yes no 000000000200000000000100ffffffff00000000 fq_codel",
-        _ => "FrameTooLong",
-    };
-    row_of(alloc, &format!(in alloc; "tc {message} = {expected}")?)
+static SHORT: (&str, u8) = ("refused BufferTooSmall\n", 1);
+
+static HEADER_SHORT: (&str, u8) = ("refused FrameHeaderShort\n", 1);
+
+static TOO_LONG: (&str, u8) = ("refused FrameTooLong\n", 1);
+
+static HEADER: (&str, u8) = (
+    "fits yes\nsettled yes\ncanonical yes\nbytes 000000000200000000000100ffffffff00000000\n",
+    0,
+);
+
+static KIND_UNPADDED: (&str, u8) = (
+    "fits yes\nsettled yes\ncanonical no\nbytes 000000000200000000000100ffffffff00000000\
+0d00010066715f636f64656c00000000\n",
+    0,
+);
+
+static KIND: (&str, u8) = (
+    "fits yes\nsettled yes\ncanonical yes\nbytes 000000000200000000000100ffffffff00000000\
+0d00010066715f636f64656c00000000\n",
+    0,
+);
+
+// The report on so many first bytes of the stored message, and its status.
+fn report_on_front(count: usize) -> (&'static str, u8) {
+    match count {
+        0..=19 => SHORT,
+        20 => HEADER,
+        21..=23 | 37..=39 => HEADER_SHORT,
+        33..=35 => KIND_UNPADDED,
+        36 => KIND,
+        48 => (REPORT, 0),
+        _ => TOO_LONG,
+    }
 }
 
 #[test]
-fn reports_on_the_front_of_a_message(rt: HostRuntime) -> Result<(), Fail> {
-    let alloc = rt.alloc();
+fn reports_on_the_front_of_a_message(rt: HostRuntime) {
     for count in 0..=48usize {
+        let front = LIMIT_OF_FQ_CODEL
+            .as_bytes()
+            .get(..count.saturating_mul(2))
+            .unwrap_or(&[]);
+        let (report, status) = report_on_front(count);
         assert!(rt;
-            reports_as_expected(alloc, &row_of_front(alloc, count)?)?,
+            reports(rt.alloc(), Mode::Tc, front, report, status, 0),
             "{count} bytes"
         );
     }
-    Ok(())
-}
-
-// Whether the report on a text is right where the request for memory of this number is refused, and whether one was.
-fn report_at(
-    alloc: Global,
-    at: u64,
-    mode: Mode,
-    text: &[u8],
-    expected: (&str, u8),
-) -> (bool, bool) {
-    let failing = Failing::new(alloc, at);
-    let mut page = [0u8; 512];
-    let (mut from, mut to) = (text, Cursor::new(&mut page[..]));
-    let ended = run(&failing, mode, &mut from, &mut to);
-    let end = to.position();
-    let is_refused = failing.has_refused();
-    let (want, status) = if is_refused {
-        ("refused OutOfMemory\n", 1)
-    } else {
-        expected
-    };
-    let is_right = ended == Ok(status)
-        && end == want.len() as u64
-        && page.starts_with(want.as_bytes());
-    (is_right, is_refused)
 }
 
 // The number of the first request for memory that is refused and the report is another, or none was where some are needed.
-fn misreported_request(alloc: Global, row: &Row) -> Result<Option<u64>, AllocError> {
-    let text = hex::encode(alloc, &row.input.bytes)?;
-    let (report, status) = report_of(alloc, &row.expected)?;
-    let mode = mode_of(row.input.form);
+fn misreported_request(alloc: Global, row: &Row) -> Option<u64> {
     for at in 1..1000u64 {
-        let expected = (report.as_str(), status);
-        let (is_right, is_refused) = report_at(alloc, at, mode, text.as_bytes(), expected);
+        let (is_right, is_refused) = is_reported_at(alloc, at, row);
         if !is_right || !is_refused && at <= 2 {
-            return Ok(Some(at));
+            return Some(at);
         }
         if !is_refused {
-            return Ok(None);
+            return None;
         }
     }
-    Ok(Some(1000))
+    Some(1000)
 }
 
-// Whatever request for memory is refused, the report says so and nothing else.
+// Whatever request for memory is refused, the report says so and nothing else; where none is, it is that of the row.
 #[test]
 fn reports_refused_memory_of_each_message(rt: HostRuntime) -> Result<(), Fail> {
-    for row in &made(rt.alloc())? {
-        let request = misreported_request(rt.alloc(), row)?;
+    let rows = made(rt.alloc())?;
+    for row in &rows {
+        let request = misreported_request(rt.alloc(), row);
         assert!(rt; request.is_none(), "request {request:?}: {:?}", row.input);
     }
     Ok(())
@@ -239,18 +304,19 @@ fn reports_on_letters(
     left: usize,
     want: &str,
     status: u8,
-) -> Result<bool, AllocError> {
-    let text = vec![in alloc; letter; count]?;
-    Ok(reports(alloc, Mode::Tc, &text, want, status, left))
+) -> bool {
+    match vec![in alloc; letter; count] {
+        Ok(text) => reports(alloc, Mode::Tc, &text, want, status, left),
+        Err(_) => false,
+    }
 }
 
 #[test]
-fn reads_no_more_than_one_byte_too_much(rt: HostRuntime) -> Result<(), Fail> {
+fn reads_no_more_than_one_byte_too_much(rt: HostRuntime) {
     let alloc = rt.alloc();
     let short = "refused BufferTooSmall\n";
-    assert!(rt; reports_on_letters(alloc, b' ', 1_048_576, 0, short, 1)?);
-    assert!(rt; reports_on_letters(alloc, b' ', 1_048_577, 0, "too long\n", 2)?);
-    assert!(rt; reports_on_letters(alloc, b' ', 1_048_579, 2, "too long\n", 2)?);
-    assert!(rt; reports_on_letters(alloc, b'x', 1_048_577, 0, "too long\n", 2)?);
-    Ok(())
+    assert!(rt; reports_on_letters(alloc, b' ', 1_048_576, 0, short, 1));
+    assert!(rt; reports_on_letters(alloc, b' ', 1_048_577, 0, "too long\n", 2));
+    assert!(rt; reports_on_letters(alloc, b' ', 1_048_579, 2, "too long\n", 2));
+    assert!(rt; reports_on_letters(alloc, b'x', 1_048_577, 0, "too long\n", 2));
 }

@@ -1,10 +1,8 @@
 //! The exit status of the program: that of the report, and 3 only where a stream fails, in both modes.
 
-use std::alloc::Global;
-use std::io::{Error, ErrorKind, Read, Result, Write};
+use crate::streams::{LIMIT_OF_FQ_CODEL, REPORT_ON_LIMIT, serves};
 use tcrewrite_lib::arguments::Request;
 use tcrewrite_lib::mode::Mode;
-use tcrewrite_lib::program::serve;
 
 // A text, and the report on it in one mode, with its status.
 struct Row {
@@ -60,111 +58,62 @@ static ROWS: [Row; 7] = [
     },
 ];
 
-// A stream that fails at once.
-#[derive(Drop)]
-struct Broken;
+// How many calls of the input, the output and the error output succeed.
+type Counts = (usize, usize, usize);
 
-impl Read for Broken {
-    fn read(&mut self, _buf: &mut [u8]) -> Result<usize> {
-        Err(Error::from(ErrorKind::BrokenPipe))
-    }
-}
+const ALL: Counts = (200, 200, 200);
 
-impl Write for Broken {
-    fn write(&mut self, _buf: &[u8]) -> Result<usize> {
-        Err(Error::from(ErrorKind::BrokenPipe))
-    }
+const NO_READ: Counts = (0, 200, 200);
 
-    fn flush(&mut self) -> Result<()> {
-        Ok(())
-    }
-}
+const NO_WRITE: Counts = (200, 0, 200);
 
-// Whether a run with this request ends with this status, and writes this to its outputs.
-fn ends(
-    alloc: Global,
-    request: Request,
-    text: &str,
-    status: u8,
-    report: &str,
-    complaint: &str,
-) -> bool {
-    let (mut reader, mut writer, mut errors) = (text.as_bytes(), Vec::new(alloc), Vec::new(alloc));
-    serve(alloc, request, &mut reader, &mut writer, &mut errors) == status
-        && writer.as_slice() == report.as_bytes()
-        && errors.as_slice() == complaint.as_bytes()
-}
+const NO_COMPLAINT: Counts = (200, 200, 0);
 
 #[test]
 fn ends_with_the_status_of_the_report(rt: HostRuntime) {
     for row in &ROWS {
         let request = Request::Report(row.mode);
         assert!(rt;
-            ends(rt.alloc(), request, row.text, row.status, row.report, ""),
+            serves(
+                rt.alloc(),
+                request,
+                row.text,
+                ALL,
+                row.status,
+                (row.report, "")
+            ),
             "{:?} {}",
             row.mode,
             row.text
         );
     }
-    assert!(rt;
-        ends(
-            rt.alloc(),
-            Request::NoMemory,
-            "",
-            1,
-            "refused OutOfMemory\n",
-            ""
-        )
-    );
-    assert!(rt;
-        ends(
-            rt.alloc(),
-            Request::Usage,
-            "",
-            2,
-            "",
-            "usage: tcrewrite [tc|action]\n"
-        )
-    );
-}
-
-// Whether a run of which the reader fails ends with 3 and says so, having written nothing.
-fn says_that_reading_failed(alloc: Global, mode: Mode) -> bool {
-    let (mut writer, mut errors) = (Vec::new(alloc), Vec::new(alloc));
-    serve(
-        alloc,
-        Request::Report(mode),
-        &mut Broken,
-        &mut writer,
-        &mut errors,
-    ) == 3
-        && writer.is_empty()
-        && errors.as_slice() == "read failed\n".as_bytes()
-}
-
-// Whether a run of which the writer fails ends with 3 and says so.
-fn says_that_writing_failed(alloc: Global, mode: Mode, mut text: &[u8]) -> bool {
-    let mut errors = Vec::new(alloc);
-    serve(
-        alloc,
-        Request::Report(mode),
-        &mut text,
-        &mut Broken,
-        &mut errors,
-    ) == 3
-        && errors.as_slice() == "write failed\n".as_bytes()
 }
 
 #[test]
 fn ends_with_3_where_a_stream_failed(rt: HostRuntime) {
     for row in &ROWS {
+        let request = Request::Report(row.mode);
         assert!(rt;
-            says_that_reading_failed(rt.alloc(), row.mode),
+            serves(
+                rt.alloc(),
+                request,
+                row.text,
+                NO_READ,
+                3,
+                ("", "read failed\n")
+            ),
             "{:?}",
             row.mode
         );
         assert!(rt;
-            says_that_writing_failed(rt.alloc(), row.mode, row.text.as_bytes()),
+            serves(
+                rt.alloc(),
+                request,
+                row.text,
+                NO_WRITE,
+                3,
+                ("", "write failed\n")
+            ),
             "{:?} {}",
             row.mode,
             row.text
@@ -172,16 +121,42 @@ fn ends_with_3_where_a_stream_failed(rt: HostRuntime) {
     }
 }
 
-// The status is the same where nothing can be said on the error output.
+const TC: Request = Request::Report(Mode::Tc);
+
+const MEMORY: (&str, &str) = ("refused OutOfMemory\n", "");
+
+const USAGE: (&str, &str) = ("", "usage: tcrewrite [tc|action]\n");
+
+// Requests over the stored message, the status, and what is written to both outputs.
+static ENDS: [(Request, Counts, u8, (&str, &str)); 11] = [
+    (TC, ALL, 0, (REPORT_ON_LIMIT, "")),
+    (TC, (3, 200, 200), 3, ("", "read failed\n")),
+    (TC, NO_WRITE, 3, ("", "write failed\n")),
+    // nothing is read where there is no report
+    (Request::NoMemory, ALL, 1, MEMORY),
+    (Request::NoMemory, NO_READ, 1, MEMORY),
+    (Request::NoMemory, (0, 0, 200), 3, ("", "write failed\n")),
+    (Request::Usage, ALL, 2, USAGE),
+    (Request::Usage, (0, 0, 200), 2, USAGE),
+    // the status is the same where nothing can be said on the error output
+    (Request::Usage, NO_COMPLAINT, 2, ("", "")),
+    (TC, NO_COMPLAINT, 0, (REPORT_ON_LIMIT, "")),
+    (TC, (0, 200, 0), 3, ("", "")),
+];
+
 #[test]
-fn ends_without_an_error_output(rt: HostRuntime) {
-    let alloc = rt.alloc();
-    let (mut text, mut writer) = (ROWS[0].text.as_bytes(), Vec::new(alloc));
-    let status = serve(alloc, Request::Usage, &mut text, &mut writer, &mut Broken);
-    assert!(rt; status == 2);
-    let report = Request::Report(Mode::Tc);
-    let status = serve(alloc, report, &mut text, &mut writer, &mut Broken);
-    assert!(rt; status == 0);
-    let status = serve(alloc, report, &mut Broken, &mut writer, &mut Broken);
-    assert!(rt; status == 3);
+fn ends_with_a_status(rt: HostRuntime) {
+    for (request, counts, status, written) in &ENDS {
+        assert!(rt;
+            serves(
+                rt.alloc(),
+                *request,
+                LIMIT_OF_FQ_CODEL,
+                *counts,
+                *status,
+                *written
+            ),
+            "{request:?} {counts:?}"
+        );
+    }
 }

@@ -1,50 +1,88 @@
-//! Runs over readers and writers that fail, and the status with which the program exits.
+//! Runs over streams that fail, that are interrupted, and that take nothing.
 
-use crate::reports::{LIMIT_OF_FQ_CODEL, accepted};
 use std::alloc::Global;
 use std::io::{Error, ErrorKind, Read, Result, Write};
-use std::test::Fail;
 use tcrewrite_lib::arguments::Request;
 use tcrewrite_lib::mode::Mode;
 use tcrewrite_lib::program::serve;
 use tcrewrite_lib::run::{RunError, run};
 
-// Gives or takes one byte a call, for so many calls. It is interrupted so often before the first of them, and then so often before each other.
-#[derive(Drop)]
-struct OneByOne<T> {
-    inner: T,
-    interruptions: usize,
-    between: usize,
-    calls: usize,
+/// A message with the kind fq_codel and a limit of 10240 packets.
+pub(crate) const LIMIT: &str = "000000000200000000000100ffffffff\
+000000000d00010066715f636f64656c000000000c0002000800020000280000";
+
+/// The report on it.
+pub(crate) const REPORT_ON_LIMIT: &str =
+    "fits yes\nsettled yes\ncanonical yes\nbytes 000000000200000000000100ffffffff\
+000000000d00010066715f636f64656c000000000c0002000800020000280000\n";
+
+/// The same as statics, which stand once in what is proved.
+pub(crate) static LIMIT_OF_FQ_CODEL: &str = LIMIT;
+
+pub(crate) static REPORT: &str = REPORT_ON_LIMIT;
+
+// How a stream goes: so many calls succeed, and give or take so many bytes each; then all fail. So often it is interrupted before the first
+// of them, and so often before each other.
+#[derive(Clone, Copy)]
+struct Turns {
+    count: usize,
+    bytes: usize,
+    first: usize,
+    other: usize,
 }
 
-impl<T> OneByOne<T> {
+// Calls of one byte, without an interruption.
+fn calls(count: usize) -> Turns {
+    Turns {
+        count,
+        bytes: 1,
+        first: 0,
+        other: 0,
+    }
+}
+
+#[derive(Drop)]
+struct Slow<T> {
+    inner: T,
+    calls: Turns,
+    interruptions: usize,
+}
+
+fn slowly<T>(inner: T, calls: Turns) -> Slow<T> {
+    Slow {
+        inner,
+        calls,
+        interruptions: calls.first,
+    }
+}
+
+impl<T> Slow<T> {
     fn turn(&mut self) -> Result<()> {
         if self.interruptions > 0 {
             self.interruptions -= 1;
             return Err(Error::from(ErrorKind::Interrupted));
         }
-        if self.calls == 0 {
+        if self.calls.count == 0 {
             return Err(Error::from(ErrorKind::BrokenPipe));
         }
-        self.calls -= 1;
-        self.interruptions = self.between;
+        self.calls.count -= 1;
+        self.interruptions = self.calls.other;
         Ok(())
     }
 }
 
-impl<T: Read> Read for OneByOne<T> {
+impl<T: Read> Read for Slow<T> {
     fn read(&mut self, buf: &mut [u8]) -> Result<usize> {
         self.turn()?;
-        let most = buf.len().min(1);
+        let most = buf.len().min(self.calls.bytes);
         self.inner.read(&mut buf[..most])
     }
 }
 
-impl<T: Write> Write for OneByOne<T> {
+impl<T: Write> Write for Slow<T> {
     fn write(&mut self, buf: &[u8]) -> Result<usize> {
         self.turn()?;
-        let most = buf.len().min(1);
+        let most = buf.len().min(self.calls.bytes);
         self.inner.write(&buf[..most])
     }
 
@@ -53,168 +91,110 @@ impl<T: Write> Write for OneByOne<T> {
     }
 }
 
-// Takes nothing.
-#[derive(Drop)]
-struct Full;
-
-impl Write for Full {
-    fn write(&mut self, _buf: &[u8]) -> Result<usize> {
-        Ok(0)
-    }
-
-    fn flush(&mut self) -> Result<()> {
-        Ok(())
-    }
-}
-
-fn reader(interruptions: usize, calls: usize) -> OneByOne<&'static [u8]> {
-    let inner = LIMIT_OF_FQ_CODEL.as_bytes();
-    OneByOne {
-        inner,
-        interruptions,
-        between: 0,
-        calls,
-    }
-}
-
-fn writer(alloc: Global, interruptions: usize, calls: usize) -> OneByOne<Vec<u8>> {
-    let inner = Vec::new(alloc);
-    OneByOne {
-        inner,
-        interruptions,
-        between: 0,
-        calls,
-    }
-}
-
-// Whether a run ends so and writes this where so many reads are given.
-fn ends_after_reads(
-    alloc: Global,
-    calls: usize,
-    want: std::result::Result<u8, RunError>,
-    written: &[u8],
-) -> bool {
-    let mut to = Vec::new(alloc);
-    let ended = run(alloc, Mode::Tc, &mut reader(0, calls), &mut to);
-    ended == want && to.as_slice() == written
-}
-
-#[test]
-fn stops_where_a_read_fails(rt: HostRuntime) -> std::result::Result<(), Fail> {
-    let alloc = rt.alloc();
-    let reads = LIMIT_OF_FQ_CODEL.len() + 1;
-    for calls in 0..reads {
-        assert!(rt;
-            ends_after_reads(alloc, calls, Err(RunError::Read), &[]),
-            "after {calls} reads"
-        );
-    }
-    let report = accepted(alloc, LIMIT_OF_FQ_CODEL)?;
-    assert!(rt; ends_after_reads(alloc, reads, Ok(0), report.as_bytes()));
-    Ok(())
-}
-
-// Whether as many bytes of the report are written as writes are given, and whether the run ends as it has to.
-fn ends_after_writes(alloc: Global, calls: usize, report: &[u8]) -> bool {
-    let (mut from, mut to) = (LIMIT_OF_FQ_CODEL.as_bytes(), writer(alloc, 0, calls));
-    let ended = run(alloc, Mode::Tc, &mut from, &mut to);
-    let want = if calls < report.len() {
-        Err(RunError::Write)
-    } else {
-        Ok(0)
-    };
-    ended == want && report.get(..calls) == Some(to.inner.as_slice())
-}
-
-#[test]
-fn stops_where_a_write_fails(rt: HostRuntime) -> std::result::Result<(), Fail> {
-    let report = accepted(rt.alloc(), LIMIT_OF_FQ_CODEL)?;
-    for calls in 0..=report.len() {
-        assert!(rt;
-            ends_after_writes(rt.alloc(), calls, report.as_bytes()),
-            "after {calls} writes"
-        );
-    }
-    let mut from = LIMIT_OF_FQ_CODEL.as_bytes();
-    let ended = run(rt.alloc(), Mode::Tc, &mut from, &mut Full);
-    assert!(rt; ended == Err(RunError::Write));
-    Ok(())
-}
-
-// How a run ends whose reader and writer are interrupted so often.
-fn ended(alloc: Global, reads: usize, writes: usize) -> std::result::Result<u8, RunError> {
-    let (mut from, mut to) = (reader(reads, 200), writer(alloc, writes, 200));
-    run(alloc, Mode::Tc, &mut from, &mut to)
-}
-
-#[test]
-fn tries_again(rt: HostRuntime) {
-    let alloc = rt.alloc();
-    assert!(rt; ended(alloc, 1024, 0) == Ok(0));
-    assert!(rt; ended(alloc, 0, 1023) == Ok(0));
-    assert!(rt; ended(alloc, 1024, 1023) == Ok(0));
-    assert!(rt; ended(alloc, 1025, 0) == Err(RunError::Read));
-    assert!(rt; ended(alloc, usize::MAX, 0) == Err(RunError::Read));
-    assert!(rt; ended(alloc, 0, 1024) == Err(RunError::Write));
-    assert!(rt; ended(alloc, 0, usize::MAX) == Err(RunError::Write));
-}
-
-// How a run ends whose reader and writer are interrupted so often before each byte, and how much is written of the report.
-fn ended_after_all(
-    alloc: Global,
-    reads: usize,
-    writes: usize,
-) -> (std::result::Result<u8, RunError>, usize) {
-    let (mut from, mut to) = (reader(reads, 200), writer(alloc, writes, 200));
-    from.between = reads;
-    to.between = writes;
-    let ended = run(alloc, Mode::Tc, &mut from, &mut to);
-    (ended, to.inner.len())
-}
-
-// 97 reads, the last of which finds the end, and a report of 138 bytes.
-#[test]
-fn tries_again_between_bytes(rt: HostRuntime) {
-    let alloc = rt.alloc();
-    assert!(rt; ended_after_all(alloc, 5, 3) == (Ok(0), 138));
-    assert!(rt; ended_after_all(alloc, 10, 0) == (Ok(0), 138));
-    assert!(rt; ended_after_all(alloc, 0, 7) == (Ok(0), 138));
-    // 94 times 11 are more than 1,024
-    assert!(rt; ended_after_all(alloc, 11, 0) == (Err(RunError::Read), 0));
-    // each write has its own 1,024
-    assert!(rt; ended_after_all(alloc, 10, 1023) == (Ok(0), 138));
-    assert!(rt; ended_after_all(alloc, 0, 1024) == (Err(RunError::Write), 0));
-}
-
-// Whether a program ends with this status over a reader and a writer that take so many calls, and writes this to both outputs.
+// Whether a run over such streams fails so, or ends well, and writes so many bytes of the report.
 fn ends(
     alloc: Global,
-    request: Request,
-    calls: (usize, usize),
-    status: u8,
-    written: &str,
-    complaint: &str,
+    reads: Turns,
+    writes: Turns,
+    fault: Option<&RunError>,
+    written: usize,
 ) -> bool {
-    let (mut from, mut to) = (reader(0, calls.0), writer(alloc, 0, calls.1));
-    let mut errors = Vec::new(alloc);
-    let ended = serve(alloc, request, &mut from, &mut to, &mut errors);
-    ended == status
-        && to.inner.as_slice() == written.as_bytes()
-        && errors.as_slice() == complaint.as_bytes()
+    let mut from = slowly(LIMIT_OF_FQ_CODEL.as_bytes(), reads);
+    let mut to = slowly(Vec::new(alloc), writes);
+    let is_so = match run(alloc, Mode::Tc, &mut from, &mut to) {
+        Ok(status) => status == 0 && fault.is_none(),
+        Err(e) => fault == Some(&e),
+    };
+    is_so && REPORT.as_bytes().get(..written) == Some(to.inner.as_slice())
 }
 
 #[test]
-fn exits_with_a_status(rt: HostRuntime) -> std::result::Result<(), Fail> {
-    let alloc = rt.alloc();
-    let report = accepted(alloc, LIMIT_OF_FQ_CODEL)?;
-    let request = Request::Report(Mode::Tc);
-    assert!(rt; ends(alloc, request, (200, 200), 0, report.as_str(), ""));
-    assert!(rt; ends(alloc, request, (3, 200), 3, "", "read failed\n"));
-    assert!(rt; ends(alloc, request, (200, 0), 3, "", "write failed\n"));
-    let memory = "refused OutOfMemory\n";
-    assert!(rt; ends(alloc, Request::NoMemory, (0, 200), 1, memory, ""));
-    assert!(rt; ends(alloc, Request::NoMemory, (0, 0), 3, "", "write failed\n"));
-    let usage = "usage: tcrewrite [tc|action]\n";
-    assert!(rt; ends(alloc, Request::Usage, (0, 0), 2, "", usage));
-    Ok(())
+fn stops_where_a_read_fails(rt: HostRuntime) {
+    let (alloc, fault) = (rt.alloc(), RunError::Read);
+    let reads = LIMIT_OF_FQ_CODEL.len() + 1;
+    for count in 0..reads {
+        assert!(rt;
+            ends(alloc, calls(count), calls(200), Some(&fault), 0),
+            "after {count} reads"
+        );
+    }
+    assert!(rt; ends(alloc, calls(reads), calls(200), None, REPORT.len()));
+}
+
+#[test]
+fn stops_where_a_write_fails(rt: HostRuntime) {
+    let (alloc, fault) = (rt.alloc(), RunError::Write);
+    for count in 0..REPORT.len() {
+        assert!(rt;
+            ends(alloc, calls(200), calls(count), Some(&fault), count),
+            "after {count} writes"
+        );
+    }
+    assert!(rt; ends(alloc, calls(200), calls(REPORT.len()), None, REPORT.len()));
+    // a writer that takes nothing
+    let full = Turns {
+        bytes: 0,
+        ..calls(200)
+    };
+    assert!(rt; ends(alloc, calls(200), full, Some(&fault), 0));
+}
+
+// How often the reads and the writes of a run are interrupted, before the first and before each other, and how it fails, if it does. There are
+// 97 reads, the last of which finds the end, and a report of 138 bytes.
+static INTERRUPTED: [((usize, usize), (usize, usize), Option<RunError>); 13] = [
+    ((1024, 0), (0, 0), None),
+    ((0, 0), (1023, 0), None),
+    ((1024, 0), (1023, 0), None),
+    ((1025, 0), (0, 0), Some(RunError::Read)),
+    ((usize::MAX, 0), (0, 0), Some(RunError::Read)),
+    ((0, 0), (1024, 0), Some(RunError::Write)),
+    ((0, 0), (usize::MAX, 0), Some(RunError::Write)),
+    ((5, 5), (3, 3), None),
+    ((10, 10), (0, 0), None),
+    ((0, 0), (7, 7), None),
+    // 94 times 11 are more than 1,024
+    ((11, 11), (0, 0), Some(RunError::Read)),
+    // each write has its own 1,024
+    ((10, 10), (1023, 1023), None),
+    ((0, 0), (1024, 1024), Some(RunError::Write)),
+];
+
+// Calls enough that are interrupted so often.
+fn interrupted((first, other): (usize, usize)) -> Turns {
+    Turns {
+        first,
+        other,
+        ..calls(200)
+    }
+}
+
+// A run writes its report, or nothing where it fails.
+#[test]
+fn tries_again(rt: HostRuntime) {
+    for (reads, writes, fault) in &INTERRUPTED {
+        let written = if fault.is_none() { REPORT.len() } else { 0 };
+        let (from, to) = (interrupted(*reads), interrupted(*writes));
+        assert!(rt;
+            ends(rt.alloc(), from, to, fault.as_ref(), written),
+            "{reads:?} {writes:?}"
+        );
+    }
+}
+
+/// Whether the program ends with this status where so many calls of its input, output and error output succeed, and writes these texts to
+/// the outputs.
+pub(crate) fn serves(
+    alloc: Global,
+    request: Request,
+    text: &str,
+    counts: (usize, usize, usize),
+    status: u8,
+    written: (&str, &str),
+) -> bool {
+    let mut from = slowly(text.as_bytes(), calls(counts.0));
+    let mut to = slowly(Vec::new(alloc), calls(counts.1));
+    let mut errors = slowly(Vec::new(alloc), calls(counts.2));
+    serve(alloc, request, &mut from, &mut to, &mut errors) == status
+        && to.inner.as_slice() == written.0.as_bytes()
+        && errors.inner.as_slice() == written.1.as_bytes()
 }

@@ -1,15 +1,16 @@
 //! The JSON of messages, broken in one place at a time: the error names the place.
 
 use serde_json::{Map, Value};
-use std::alloc::Global;
+use std::alloc::{AllocError, Global};
+use std::process::Abort;
 use std::test::Fail;
 use tc_forms::{Form, MakeError};
 use tc_forms_strict::{StrictError, made_strictly, shown_json};
 use tc_kinds::{ACTION_MESSAGE, TC_MESSAGE, TcTables};
-use tests_messages::{self as messages, Expected, Row, captured, made};
+use tests_messages::{self as messages, Expected, Input, Row, captured, made};
 
 // What is wrong with a value, or with a member of an object.
-#[derive(Clone, Copy, Debug)]
+#[derive(Clone, Copy)]
 enum Fault {
     // Null in place of the value.
     Null,
@@ -57,41 +58,72 @@ fn list_of_kind<'p>(json: &Value, path: &'p str) -> Option<&'p str> {
     Some(list)
 }
 
-// A value with a fault. None where it can't have this one.
-fn faulty(alloc: Global, fault: Fault, name: &str, value: &Value) -> Result<Option<Value>, Fail> {
-    Ok(match (fault, value, name) {
-        (Fault::Null, _, _) => Some(Value::Null),
-        (Fault::Bracket, Value::Array(_), _) => Some(Value::Object(Map::new(alloc))),
-        (Fault::Bracket, _, _) => Some(Value::Array(Vec::new(alloc))),
-        (Fault::Range, Value::Number(_), _) => Some(Value::from(i64::MIN)),
-        (Fault::Garbled, _, "Kind" | "InDev" | "ProgName" | "RootExtWarnMsg") => None,
-        (Fault::Garbled, Value::String(text), _) => {
-            let text = format!(in alloc; "{text}~")?;
-            Some(Value::try_from_str(alloc, text.as_str())?)
+// Members that may have any text.
+static ANY_TEXT: [&str; 4] = ["Kind", "InDev", "ProgName", "RootExtWarnMsg"];
+
+// Members that are there only where they say something: bytes are made without them too.
+static EXTRAS: [&str; 4] = ["word", "pad", "bare", "rest"];
+
+fn is_among(name: &str, names: &[&str]) -> bool {
+    for other in names {
+        if *other == name {
+            return true;
         }
-        _ => None,
-    })
+    }
+    false
+}
+
+// A value with a fault. None where it can't have this one.
+fn faulty(
+    alloc: Global,
+    fault: Fault,
+    name: &str,
+    value: &Value,
+) -> Result<Option<Value>, AllocError> {
+    match (fault, value) {
+        (Fault::Null, _) => Ok(Some(Value::Null)),
+        (Fault::Bracket, Value::Array(_)) => Ok(Some(Value::Object(Map::new(alloc)))),
+        (Fault::Bracket, _) => Ok(Some(Value::Array(Vec::new(alloc)))),
+        (Fault::Range, Value::Number(_)) => Ok(Some(Value::from(i64::MIN))),
+        (Fault::Garbled, Value::String(text)) if !is_among(name, &ANY_TEXT) => {
+            Ok(Some(Value::String(format!(in alloc; "{text}~")?)))
+        }
+        _ => Ok(None),
+    }
+}
+
+// Puts a value with a fault at a place. False where there can't be this fault.
+fn spoil(
+    alloc: Global,
+    json: &mut Value,
+    path: &str,
+    name: &str,
+    fault: Fault,
+) -> Result<bool, AllocError> {
+    let Some(held) = json.pointer_mut(path) else {
+        return Ok(false);
+    };
+    match faulty(alloc, fault, name, held)? {
+        Some(value) => {
+            *held = value;
+            Ok(true)
+        }
+        None => Ok(false),
+    }
 }
 
 // Breaks the value at a place, or its name. False where there can't be this fault.
-fn damage(alloc: Global, json: &mut Value, path: &str, fault: Fault) -> Result<bool, Fail> {
+fn damage(alloc: Global, json: &mut Value, path: &str, fault: Fault) -> Result<bool, AllocError> {
     let (parent, name) = path.rsplit_once('/').unwrap_or(("", ""));
     match fault {
         Fault::Extra => change_member(alloc, json, path, "", "Nobody"),
         Fault::Missing | Fault::Name | Fault::Kind if path.is_empty() => Ok(false),
-        Fault::Missing if is_extra(name) => Ok(false),
+        Fault::Missing if is_among(name, &EXTRAS) => Ok(false),
         Fault::Missing => change_member(alloc, json, parent, name, ""),
-        Fault::Name => change_member(alloc, json, parent, name, other_name(fault, name)),
-        Fault::Kind => change_member(alloc, json, parent, name, other_name(fault, name)),
-        _ => {
-            if let Some(held) = json.pointer_mut(path) {
-                if let Some(value) = faulty(alloc, fault, name, held)? {
-                    *held = value;
-                    return Ok(true);
-                }
-            }
-            Ok(false)
+        Fault::Name | Fault::Kind => {
+            change_member(alloc, json, parent, name, other_name(fault, name))
         }
+        _ => spoil(alloc, json, path, name, fault),
     }
 }
 
@@ -103,7 +135,7 @@ fn change_member(
     path: &str,
     old: &str,
     new: &str,
-) -> Result<bool, Fail> {
+) -> Result<bool, AllocError> {
     let members = match json.pointer_mut(path) {
         Some(Value::Object(members)) => members,
         _ => return Ok(false),
@@ -120,7 +152,12 @@ fn change_member(
 }
 
 // All places of a value, as JSON pointers.
-fn places(alloc: Global, value: &Value, path: String, found: &mut Vec<String>) -> Result<(), Fail> {
+fn places(
+    alloc: Global,
+    value: &Value,
+    path: String,
+    found: &mut Vec<String>,
+) -> Result<(), AllocError> {
     match value {
         Value::Array(items) => {
             for (index, item) in items.iter().enumerate() {
@@ -160,9 +197,19 @@ fn is_named(whole: &Value, made: &Result<Vec<u8>, StrictError>, path: &str, faul
     }
 }
 
-// True of a member that is there only where it says something: bytes are made without it too.
-fn is_extra(name: &str) -> bool {
-    matches!(name, "word" | "pad" | "bare" | "rest")
+// JSON broken at one place. None where there can't be this fault.
+fn broken(
+    alloc: Global,
+    whole: &Value,
+    path: &str,
+    fault: Fault,
+) -> Result<Option<Value>, AllocError> {
+    let mut json = whole.clone()?;
+    if damage(alloc, &mut json, path, fault)? {
+        Ok(Some(json))
+    } else {
+        Ok(None)
+    }
 }
 
 // Breaks JSON at one place. True if the error names the place; None where there can't be this fault.
@@ -172,55 +219,88 @@ fn names_its_place(
     whole: &Value,
     path: &str,
     fault: Fault,
-) -> Result<Option<bool>, Fail> {
-    let mut json = whole.clone()?;
-    if !damage(alloc, &mut json, path, fault)? {
+) -> Result<Option<bool>, AllocError> {
+    let Some(json) = broken(alloc, whole, path, fault)? else {
         return Ok(None);
-    }
+    };
     let made = made_strictly(alloc, TcTables, form, &json);
     Ok(Some(is_named(whole, &made, path, fault)))
 }
 
-// Breaks the JSON of a message in each place, or in some of many: how often the error named the place, and a text on the first
-// where it didn't.
-fn broken(alloc: Global, row: &Row, named: &mut u32) -> Result<String, Fail> {
-    let form = match row.input.form {
+// Breaks JSON at one place in each way, and returns how often the error named the place.
+fn named_at(
+    rt: &impl Abort,
+    alloc: Global,
+    form: Form,
+    whole: &Value,
+    path: &str,
+) -> Result<u32, AllocError> {
+    let mut named: u32 = 0;
+    for (number, fault) in FAULTS.iter().enumerate() {
+        if let Some(is_named) = names_its_place(alloc, form, whole, path, *fault)? {
+            assert!(rt; is_named, "fault {number} at {path}");
+            named = named.saturating_add(1);
+        }
+    }
+    Ok(named)
+}
+
+// The same in each of these places, or in some of many.
+fn named_among(
+    rt: &impl Abort,
+    alloc: Global,
+    form: Form,
+    whole: &Value,
+    places: &[String],
+) -> Result<u32, AllocError> {
+    let mut named: u32 = 0;
+    let step = places.len() / 20 * 2 + 1;
+    for (index, path) in places.iter().enumerate() {
+        if index % step == 0 {
+            named = named.saturating_add(named_at(rt, alloc, form, whole, path.as_str())?);
+        }
+    }
+    Ok(named)
+}
+
+// The same of JSON.
+fn named_in(rt: &impl Abort, alloc: Global, form: Form, whole: &Value) -> Result<u32, AllocError> {
+    let mut found = Vec::new(alloc);
+    places(alloc, whole, String::new(alloc), &mut found)?;
+    named_among(rt, alloc, form, whole, &found)
+}
+
+// The same of the JSON of a message.
+fn named_of(rt: &impl Abort, alloc: Global, input: &Input) -> Result<u32, AllocError> {
+    let form = match input.form {
         messages::Form::Tc => TC_MESSAGE,
         messages::Form::Action => ACTION_MESSAGE,
     };
-    let whole = shown_json(alloc, TcTables, form, &row.input.bytes)?;
-    let mut found = Vec::new(alloc);
-    places(alloc, &whole, String::new(alloc), &mut found)?;
-    let step = found.len() / 20 * 2 + 1;
-    for (index, path) in found.iter().enumerate() {
-        if index % step == 0 {
-            for fault in FAULTS {
-                match names_its_place(alloc, form, &whole, path.as_str(), fault)? {
-                    Some(true) => *named = named.saturating_add(1),
-                    Some(false) => return Ok(format!(in alloc; "{fault:?} at {path}")?),
-                    None => (),
-                }
-            }
+    let whole = shown_json(alloc, TcTables, form, &input.bytes)?;
+    named_in(rt, alloc, form, &whole)
+}
+
+// The same of canonical messages.
+fn named_of_all(rt: &impl Abort, alloc: Global, rows: &[Row]) -> Result<u32, AllocError> {
+    let mut named: u32 = 0;
+    for row in rows {
+        if let Expected::Accepted {
+            canonical: true,
+            ..
+        } = &row.expected
+        {
+            named = named.saturating_add(named_of(rt, alloc, &row.input)?);
         }
     }
-    Ok(String::new(alloc))
+    Ok(named)
 }
 
 #[test]
 fn errors_name_their_place(rt: HostRuntime) -> Result<(), Fail> {
     let alloc = rt.alloc();
-    let mut named = 0;
-    for rows in [made(alloc)?, captured(alloc)?] {
-        for row in &rows {
-            if let Expected::Accepted {
-                canonical: true,
-                ..
-            } = &row.expected
-            {
-                assert_eq!(rt; broken(alloc, row, &mut named)?.as_str(), "");
-            }
-        }
-    }
+    let by_hand = named_of_all(&rt, alloc, &made(alloc)?)?;
+    let others = named_of_all(&rt, alloc, &captured(alloc)?)?;
+    let named = by_hand.saturating_add(others);
     assert!(rt; named >= 2000, "{named}");
     Ok(())
 }

@@ -1,9 +1,10 @@
 //! JSON that isn't what is shown of the bytes that it stands for: the error names the first place, what was found and what is shown there.
 
 use serde_json::Value;
-use std::alloc::Global;
+use std::alloc::{AllocError, Global};
 use std::test::Fail;
-use tc_forms_strict::made_strictly;
+use tc_forms::Form;
+use tc_forms_strict::{StrictError, made_strictly};
 use tc_kinds::{ACTION_MESSAGE, TC_MESSAGE, TcTables};
 
 // Attributes of a traffic control message, and the error of the message.
@@ -33,40 +34,44 @@ static ACTION: [(&str, &str); 3] = [
     (r#"{"header":{"family":"Inet"},"attributes":[],"path":[]}"#, r#"/path: found a list of 0, wanted nothing"#),
 ];
 
-// The error of a message with a header and these attributes.
-fn error_of(alloc: Global, attributes: &str) -> Result<String, Fail> {
-    let header =
-        r#"{"header":{"family":"Unspec","index":2,"handle":"1:","parent":"root","info":0},"attributes":["#;
-    let text = format!(in alloc; "{header}{attributes}]}}")?;
-    let json = Value::from_str(alloc, text.as_str())?;
-    match made_strictly(alloc, TcTables, TC_MESSAGE, &json) {
-        Ok(_) => Ok(String::from_str(alloc, "made")?),
-        Err(e) => Ok(format!(in alloc; "{e}")?),
+// The error of a text, by the form of a message.
+fn error_of(alloc: Global, form: Form, text: &str) -> Result<String, AllocError> {
+    match Value::from_str(alloc, text) {
+        Ok(json) => text_of(alloc, made_strictly(alloc, TcTables, form, &json)),
+        Err(e) => format!(in alloc; "{e}"),
     }
 }
 
-fn action_error_of(alloc: Global, text: &str) -> Result<String, Fail> {
-    let json = Value::from_str(alloc, text)?;
-    match made_strictly(alloc, TcTables, ACTION_MESSAGE, &json) {
-        Ok(_) => Ok(String::from_str(alloc, "made")?),
-        Err(e) => Ok(format!(in alloc; "{e}")?),
+fn text_of(alloc: Global, made: Result<Vec<u8>, StrictError>) -> Result<String, AllocError> {
+    match made {
+        Ok(_) => String::from_str(alloc, "made"),
+        Err(e) => format!(in alloc; "{e}"),
     }
+}
+
+// The error of a traffic control message with a header and these attributes.
+fn tc_error_of(alloc: Global, attributes: &str) -> Result<String, AllocError> {
+    let header =
+        r#"{"header":{"family":"Unspec","index":2,"handle":"1:","parent":"root","info":0},"attributes":["#;
+    let text = format!(in alloc; "{header}{attributes}]}}")?;
+    error_of(alloc, TC_MESSAGE, text.as_str())
 }
 
 #[test]
 fn attributes(rt: HostRuntime) -> Result<(), Fail> {
-    let alloc = rt.alloc();
     for (attributes, error) in &TC {
-        assert_eq!(rt; error_of(alloc, attributes)?.as_str(), *error);
+        assert_eq!(rt; tc_error_of(rt.alloc(), attributes)?.as_str(), *error);
     }
     Ok(())
 }
 
 #[test]
 fn whole_messages(rt: HostRuntime) -> Result<(), Fail> {
-    let alloc = rt.alloc();
     for (text, error) in &ACTION {
-        assert_eq!(rt; action_error_of(alloc, text)?.as_str(), *error);
+        assert_eq!(rt;
+            error_of(rt.alloc(), ACTION_MESSAGE, text)?.as_str(),
+            *error
+        );
     }
     Ok(())
 }

@@ -1,7 +1,6 @@
 //! Complaints about lines.
 
-use crate::make::runs::{HEX, makes};
-use std::alloc::Global;
+use crate::make::runs::{HEX, makes, makes_line};
 use std::test::Fail;
 
 // Lines of which no message is made, and what is said of them.
@@ -80,31 +79,29 @@ static ROWS: [(&str, &str); 18] = [
     ),
 ];
 
-// True if this, and nothing more, is said of a line, and nothing is made.
-fn is_said(alloc: Global, line: &str, complaint: &str) -> Result<bool, Fail> {
-    let want = format!(in alloc; "tcmake: line 1: {complaint}\n")?;
-    Ok(makes(alloc, &HEX, line.as_bytes(), 1, b"", want.as_bytes()))
+#[test]
+fn each_complaint(rt: HostRuntime) {
+    for (line, complaint) in &ROWS {
+        assert!(rt;
+            makes_line(rt.alloc(), &HEX, line, "", complaint),
+            "{complaint}"
+        );
+    }
 }
 
-#[test]
-fn each_complaint(rt: HostRuntime) -> Result<(), Fail> {
-    let alloc = rt.alloc();
-    for (line, complaint) in &ROWS {
-        assert!(rt; is_said(alloc, line, complaint)?, "{complaint}");
-    }
-    Ok(())
-}
+// What follows a line that is too long, and is made.
+static NEXT: &str =
+    "\n{\"type\":\"RTM_GETACTION\",\"message\":{\"header\":{\"family\":\"Unspec\"},\"attributes\":[]}}";
+
+static NEXT_MADE: &str = "1400000032000000000000000000000000000000\n";
 
 // A line that is too long gets a complaint, and the next is made.
 #[test]
 fn a_long_line(rt: HostRuntime) -> Result<(), Fail> {
     let alloc = rt.alloc();
     let mut lines = vec![in alloc; b' '; 33_554_433]?;
-    lines.extend_from_slice(
-        b"\n{\"type\":\"RTM_GETACTION\",\"message\":{\"header\":{\"family\":\"Unspec\"},\"attributes\":[]}}",
-    )?;
-    let want = b"1400000032000000000000000000000000000000\n";
-    let said = b"tcmake: line 1: longer than 33554432 bytes\n";
-    assert!(rt; makes(alloc, &HEX, &lines, 1, want, said));
+    lines.extend_from_slice(NEXT.as_bytes())?;
+    let said = "tcmake: line 1: longer than 33554432 bytes\n";
+    assert!(rt; makes(alloc, &HEX, &lines, 1, NEXT_MADE.as_bytes(), said));
     Ok(())
 }

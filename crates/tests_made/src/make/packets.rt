@@ -1,7 +1,8 @@
 //! Packets as lines say them.
 
-use crate::make::runs::{HEX, PCAP, STREAM, makes};
-use std::test::Fail;
+use crate::make::runs::{HEX, PCAP, STREAM, makes, makes_line};
+use std::alloc::Global;
+use tcmake_lib::arguments::Request;
 
 // Two messages of one packet, and an answer of the kernel between them; a message of the next; one of the same number at another
 // time; one without a number; one that says nothing but its type.
@@ -29,30 +30,38 @@ static CAPTURE: &str =
      66715f636f64656c000000000000000000000000440000004400000000040338000000000000000000000000340000002400\
      00000000000000000000000000000200000000000100ffffffff000000000d00010066715f636f64656c00000000";
 
-#[test]
-fn packets_of_lines(rt: HostRuntime) -> Result<(), Fail> {
-    let alloc = rt.alloc();
-    let want = hex::decode(alloc, CAPTURE)?;
-    assert!(rt; makes(alloc, &PCAP, LINES.as_bytes(), 0, &want, b""));
-    Ok(())
+// True if a run over lines ends with this status, having written the bytes of this hex and said this.
+fn makes_bytes(
+    alloc: Global,
+    request: &Request,
+    lines: &str,
+    status: u8,
+    digits: &str,
+    said: &str,
+) -> bool {
+    match hex::decode(alloc, digits) {
+        Ok(bytes) => makes(alloc, request, lines.as_bytes(), status, &bytes, said),
+        Err(_) => false,
+    }
 }
+
+#[test]
+fn packets_of_lines(rt: HostRuntime) {
+    assert!(rt; makes_bytes(rt.alloc(), &PCAP, LINES, 0, CAPTURE, ""));
+}
+
+static LINE: &str =
+    r#"{"type":"RTM_DELCHAIN","flags":1541,"seq":16909060,"portid":84281096,"message":{"header":{"family":"Unspec","index":2,"handle":"1:","parent":"root","info":0},"attributes":[{"Kind":"fq_codel"}]}}"#;
 
 // A line of hex for each message: the number and the port are the line's, and so is the type of the last but one in the table.
 #[test]
 fn a_line_of_hex(rt: HostRuntime) {
-    let line =
-        br#"{"type":"RTM_DELCHAIN","flags":1541,"seq":16909060,"portid":84281096,"message":{"header":{"family":"Unspec","index":2,"handle":"1:","parent":"root","info":0},"attributes":[{"Kind":"fq_codel"}]}}"#;
     let want =
-        b"34000000650005060403020108070605000000000200000000000100ffffffff000000000d00010066715f636f64656c00000000\n";
-    assert!(rt; makes(rt.alloc(), &HEX, line, 0, want, b""));
+        "34000000650005060403020108070605000000000200000000000100ffffffff000000000d00010066715f636f64656c00000000";
+    assert!(rt; makes_line(rt.alloc(), &HEX, LINE, want, ""));
 }
 
-// Messages of a stream begin at multiples of four, and the last is padded too. Blank lines count, and so does a line that is wrong, of
-// which nothing is written.
-#[test]
-fn a_stream(rt: HostRuntime) -> Result<(), Fail> {
-    let alloc = rt.alloc();
-    let lines = br#"{"type":"RTM_NEWACTION","seq":1,"message":{"raw":"00"}}
+static STREAM_LINES: &str = r#"{"type":"RTM_NEWACTION","seq":1,"message":{"raw":"00"}}
 
 {"type":"RTM_NEWACTION","seq":"2","message":{"raw":"00"}}
 {"type":"RTM_NEWACTION","seq":3,"message":{"raw":"0000"}}
@@ -60,10 +69,13 @@ fn a_stream(rt: HostRuntime) -> Result<(), Fail> {
 {"type":"RTM_NEWACTION","seq":4,"message":{"raw":"000000"}}
 {"type":"RTM_NEWACTION","seq":5,"message":{"header":{"family":"Unspec"},"attributes":[]}}
 {"type":"RTM_NEWACTION","seq":6,"message":{"raw":""}}"#;
+
+// Messages of a stream begin at multiples of four, and the last is padded too. Blank lines count, and so does a line that is wrong, of
+// which nothing is written.
+#[test]
+fn a_stream(rt: HostRuntime) {
     let want = "11000000300000000100000000000000000000001200000030000000030000000000000000000000\
          1300000030000000040000000000000000000000140000003000000005000000000000000000000010000000300000000600000000000000";
-    let want = hex::decode(alloc, want)?;
-    let said = b"tcmake: line 3: /seq: found \"2\", wanted a number from 0 to 4294967295\n";
-    assert!(rt; makes(alloc, &STREAM, lines, 1, &want, said));
-    Ok(())
+    let said = "tcmake: line 3: /seq: found \"2\", wanted a number from 0 to 4294967295\n";
+    assert!(rt; makes_bytes(rt.alloc(), &STREAM, STREAM_LINES, 1, want, said));
 }

@@ -1,8 +1,7 @@
 //! Messages made by hand, captured and large ones, with what the codec is known to find of them.
 
-use crate::make::runs::{Outcome, bare, made};
-use serde_json::{Value, to_value};
-use std::alloc::Global;
+use crate::make::runs::{bare, is_line, made};
+use std::alloc::{AllocError, Global};
 use std::test::Fail;
 use tc_forms::Shown;
 use tc_kinds::{ACTION_MESSAGE, TC_MESSAGE, TcTables};
@@ -10,7 +9,7 @@ use tcmake_lib::arguments::Making;
 use tests_messages::{self as messages, Expected, Form, Input, Row, captured, large_messages};
 
 // The JSON of a message.
-fn shown(alloc: Global, input: &Input) -> Result<Value, Fail> {
+fn json_of(alloc: Global, input: &Input) -> Result<String, serde_json::Error> {
     let form = match input.form {
         Form::Tc => TC_MESSAGE,
         Form::Action => ACTION_MESSAGE,
@@ -21,102 +20,104 @@ fn shown(alloc: Global, input: &Input) -> Result<Value, Fail> {
         bytes: &input.bytes,
         alloc,
     };
-    Ok(to_value(alloc, &shown)?)
+    serde_json::to_string(alloc, &shown)
 }
 
-// What is made of a message, and of what the codec finds of it.
-fn run_of(alloc: Global, input: &Input, says: &str, making: Making) -> Result<Outcome, Fail> {
-    let name = match input.form {
+// A line of a message's JSON, and of what the codec finds of the message.
+fn line_of(alloc: Global, row: &Row, json: &str) -> Result<String, AllocError> {
+    let name = match row.input.form {
         Form::Tc => "RTM_NEWQDISC",
         Form::Action => "RTM_NEWACTION",
     };
-    let json = shown(alloc, input)?.to_string(alloc)?;
-    let line = format!(in alloc; "{{\"type\":\"{name}\",{says}\"message\":{json}}}")?;
-    Ok(made(alloc, &bare(making), line.as_bytes()))
-}
-
-// True if a run wrote these bytes, in a line of hex, and failed for no line.
-fn wrote(alloc: Global, run: &Outcome, bytes: &[u8]) -> Result<bool, Fail> {
-    let text = hex::encode(alloc, bytes)?;
-    let line = format!(in alloc; "{text}\n")?;
-    Ok(run.status == 0 && run.written.as_slice() == line.as_bytes())
-}
-
-// True if these bytes are made of a message in this way.
-fn comes_back(
-    alloc: Global,
-    input: &Input,
-    says: &str,
-    making: Making,
-    bytes: &[u8],
-) -> Result<bool, Fail> {
-    wrote(alloc, &run_of(alloc, input, says, making)?, bytes)
-}
-
-// The status of a run over a message.
-fn status_of(alloc: Global, input: &Input, says: &str, making: Making) -> Result<u8, Fail> {
-    Ok(run_of(alloc, input, says, making)?.status)
-}
-
-// What is read comes back with what is known of it, and settled where it fits; what is refused comes back as it is given.
-fn is_made_so(alloc: Global, row: &Row) -> Result<bool, Fail> {
-    let input = &row.input;
     match &row.expected {
-        Expected::Refused(_) => {
-            Ok(
-                comes_back(alloc, input, "", Making::AsGiven, &input.bytes)?
-                    && status_of(alloc, input, "", Making::Checked)? == 1,
-            )
-        }
+        Expected::Refused(_) => { format!(in alloc; "{{\"type\":\"{name}\",\"message\":{json}}}") }
         Expected::Accepted {
             fits,
             settled,
             canonical,
+            ..
+        } => format!(in alloc;
+            "{{\"type\":\"{name}\",\"fits\":{fits},\"settled\":{settled},\"canonical\":{canonical},\"message\":{json}}}"
+        ),
+    }
+}
+
+// True if these bytes, and nothing more, are made of a line in this way.
+fn comes_to(alloc: Global, line: &str, making: Making, bytes: &[u8]) -> bool {
+    let run = made(alloc, &bare(making), line.as_bytes());
+    match hex::encode(alloc, bytes) {
+        Ok(text) => run.status == 0 && is_line(&run.written, "", text.as_str()),
+        Err(_) => false,
+    }
+}
+
+// The status of a run over a line.
+fn status_of(alloc: Global, line: &str, making: Making) -> u8 {
+    made(alloc, &bare(making), line.as_bytes()).status
+}
+
+// What is read comes back with what is known of it, and settled where it fits; what is refused comes back as it is given.
+fn comes_back(alloc: Global, row: &Row, line: &str) -> bool {
+    let bytes = row.input.bytes.as_slice();
+    match &row.expected {
+        Expected::Refused(_) => {
+            comes_to(alloc, line, Making::AsGiven, bytes)
+                && status_of(alloc, line, Making::Checked) == 1
+        }
+        Expected::Accepted {
+            fits: true,
+            settled: true,
             emitted,
+            ..
         } => {
-            let says = format!(in alloc;
-                "\"fits\":{fits},\"settled\":{settled},\"canonical\":{canonical},"
-            )?;
-            if !comes_back(alloc, input, &says, Making::Checked, &input.bytes)? {
-                return Ok(false);
-            }
-            if *fits && *settled {
-                comes_back(alloc, input, &says, Making::Settled, emitted)
-            } else {
-                Ok((status_of(alloc, input, &says, Making::Settled)? == 0) == *fits)
-            }
+            comes_to(alloc, line, Making::Checked, bytes)
+                && comes_to(alloc, line, Making::Settled, emitted)
+        }
+        Expected::Accepted { fits, .. } => {
+            comes_to(alloc, line, Making::Checked, bytes)
+                && (status_of(alloc, line, Making::Settled) == 0) == *fits
         }
     }
 }
 
-// How many of the messages aren't made so.
-fn lost(alloc: Global, rows: &[Row]) -> Result<usize, Fail> {
+fn row_comes_back(alloc: Global, row: &Row) -> bool {
+    let Ok(json) = json_of(alloc, &row.input) else {
+        return false;
+    };
+    match line_of(alloc, row, json.as_str()) {
+        Ok(line) => comes_back(alloc, row, line.as_str()),
+        Err(_) => false,
+    }
+}
+
+// How many of the messages don't come back so.
+fn lost(alloc: Global, rows: &[Row]) -> usize {
     let mut lost: usize = 0;
     for row in rows {
-        if !is_made_so(alloc, row)? {
+        if !row_comes_back(alloc, row) {
             lost = lost.saturating_add(1);
         }
     }
-    Ok(lost)
+    lost
 }
 
 #[test]
 fn messages_made_by_hand(rt: HostRuntime) -> Result<(), Fail> {
     let alloc = rt.alloc();
-    assert_eq!(rt; lost(alloc, &messages::made(alloc)?)?, 0);
+    assert_eq!(rt; lost(alloc, &messages::made(alloc)?), 0);
     Ok(())
 }
 
 #[test]
 fn captured_messages(rt: HostRuntime) -> Result<(), Fail> {
     let alloc = rt.alloc();
-    assert_eq!(rt; lost(alloc, &captured(alloc)?)?, 0);
+    assert_eq!(rt; lost(alloc, &captured(alloc)?), 0);
     Ok(())
 }
 
 #[test]
 fn large_ones(rt: HostRuntime) -> Result<(), Fail> {
     let alloc = rt.alloc();
-    assert_eq!(rt; lost(alloc, &large_messages(alloc)?)?, 0);
+    assert_eq!(rt; lost(alloc, &large_messages(alloc)?), 0);
     Ok(())
 }

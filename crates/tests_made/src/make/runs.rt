@@ -1,4 +1,4 @@
-//! A run in memory.
+//! Runs in memory.
 
 use std::alloc::Global;
 use tc_kinds::{ACTION_MESSAGE, TC_MESSAGE, TcTables};
@@ -85,8 +85,41 @@ pub(crate) fn makes(
     lines: &[u8],
     status: u8,
     written: &[u8],
-    errors: &[u8],
+    errors: &str,
 ) -> bool {
     let run = made(alloc, request, lines);
-    run.status == status && run.written.as_slice() == written && run.errors.as_slice() == errors
+    run.status == status
+        && run.written.as_slice() == written
+        && run.errors.as_slice() == errors.as_bytes()
+}
+
+/// True if these bytes are a line of this text behind this start.
+pub(crate) fn is_line(bytes: &[u8], start: &str, text: &str) -> bool {
+    match bytes.strip_prefix(start.as_bytes()) {
+        Some(rest) => rest.strip_suffix(b"\n") == Some(text.as_bytes()),
+        None => false,
+    }
+}
+
+/// True if a run over one line writes this line of hex, and ends well, or writes nothing where there is no hex; and says this of the line, if
+/// there is anything to say.
+pub(crate) fn makes_line(
+    alloc: Global,
+    request: &Request,
+    line: &str,
+    hex: &str,
+    said: &str,
+) -> bool {
+    let run = made(alloc, request, line.as_bytes());
+    let is_written = if hex.is_empty() {
+        run.status == 1 && run.written.is_empty()
+    } else {
+        run.status == 0 && is_line(&run.written, "", hex)
+    };
+    is_written
+        && if said.is_empty() {
+            run.errors.is_empty()
+        } else {
+            is_line(&run.errors, "tcmake: line 1: ", said)
+        }
 }

@@ -3,7 +3,7 @@
 use crate::make::runs::{FORMS, HEX, Outcome, PCAP, made};
 use std::alloc::Global;
 use std::io::{BufReader, Error, ErrorKind, Read, Result, Write};
-use std::test::Fail;
+use tcmake_lib::arguments::Request;
 use tcmake_lib::program::serve;
 
 // Gives or takes a few bytes a call, for so many calls, each of them after so many interruptions; then it fails.
@@ -75,13 +75,19 @@ static LINES: &str =
 {"packet":2,"type":"RTM_NEWQDISC","seq":6,"message":{"header":{"family":"Unspec","index":2,"handle":"1:","parent":"root","info":0},"attributes":[{"Kind":"fq_codel"}]}}
 "#;
 
-// A run over streams of so many calls.
-fn run(alloc: Global, reader: Stream, writer: Stream) -> Result<Outcome> {
-    let from = slowly(LINES.as_bytes(), reader);
+// A run over lines, by such streams.
+fn run(
+    alloc: Global,
+    request: &Request,
+    lines: &str,
+    reader: Stream,
+    writer: Stream,
+) -> Result<Outcome> {
+    let from = slowly(lines.as_bytes(), reader);
     let mut from = BufReader::with_capacity(alloc, 64, from)?;
     let mut to = slowly(Vec::new(alloc), writer);
     let mut errors = Vec::new(alloc);
-    let status = serve(alloc, FORMS, &PCAP, &mut from, &mut to, &mut errors);
+    let status = serve(alloc, FORMS, request, &mut from, &mut to, &mut errors);
     Ok(Outcome {
         status,
         written: to.inner,
@@ -89,20 +95,36 @@ fn run(alloc: Global, reader: Stream, writer: Stream) -> Result<Outcome> {
     })
 }
 
-// True if a run over such streams writes the front of these bytes, and ends with this status and complaint.
-fn ends(alloc: Global, whole: &[u8], streams: (Stream, Stream), end: (u8, &str)) -> Result<bool> {
-    let run = run(alloc, streams.0, streams.1)?;
-    Ok(
-        run.status == end.0
-            && whole.starts_with(&run.written)
-            && run.errors.as_slice() == end.1.as_bytes(),
-    )
+// True if these bytes are the front of what is written of lines where no stream fails.
+fn is_front(alloc: Global, request: &Request, lines: &str, bytes: &[u8]) -> bool {
+    made(alloc, request, lines.as_bytes())
+        .written
+        .starts_with(bytes)
 }
 
-// True if a run writes all of these bytes whose streams are interrupted as often as they may be.
-fn is_whole(alloc: Global, whole: &[u8], reads: usize) -> Result<bool> {
-    let run = run(alloc, calls(reads, 1023), calls(999, 1023))?;
-    Ok(run.status == 0 && run.written.as_slice() == whole)
+// How many bytes a run over such streams writes. None if they aren't the front of what is written where no stream fails, or if it ends with
+// another status or complaint.
+fn written(
+    alloc: Global,
+    request: &Request,
+    lines: &str,
+    streams: (Stream, Stream),
+    end: (u8, &str),
+) -> Option<usize> {
+    match run(alloc, request, lines, streams.0, streams.1) {
+        Ok(run) => {
+            let is_so = run.status == end.0
+                && run.errors.as_slice() == end.1.as_bytes()
+                && is_front(alloc, request, lines, &run.written);
+            if is_so { Some(run.written.len()) } else { None }
+        }
+        Err(_) => None,
+    }
+}
+
+// How many bytes are so written of a capture of two messages.
+fn captured(alloc: Global, reader: Stream, writer: Stream, end: (u8, &str)) -> Option<usize> {
+    written(alloc, &PCAP, LINES, (reader, writer), end)
 }
 
 // How many reads take all lines and find their end.
@@ -110,68 +132,48 @@ fn reads_of_all() -> usize {
     (LINES.len().saturating_add(6) / 7).saturating_add(1)
 }
 
-// What is written of the lines, which is a capture of two messages.
-fn whole(alloc: Global) -> std::result::Result<Vec<u8>, Fail> {
-    let run = made(alloc, &PCAP, LINES.as_bytes());
-    if run.status == 0 && run.written.len() == 24 + 2 * 84 {
-        Ok(run.written)
-    } else {
-        Err(Fail::new("a capture of two messages"))
-    }
-}
-
 static READ_FAILED: (u8, &str) = (3, "tcmake: read failed\n");
 
 static WRITE_FAILED: (u8, &str) = (3, "tcmake: write failed\n");
 
 #[test]
-fn each_read_fails(rt: HostRuntime) -> std::result::Result<(), Fail> {
-    let alloc = rt.alloc();
-    let whole = whole(alloc)?;
-    for count in 0..reads_of_all() {
-        let streams = (calls(count, 1), calls(999, 1));
-        assert!(rt; ends(alloc, &whole, streams, READ_FAILED)?, "{count} reads");
+fn each_read_fails(rt: HostRuntime) {
+    let (alloc, all) = (rt.alloc(), reads_of_all());
+    for count in 0..all {
+        let written = captured(alloc, calls(count, 1), calls(999, 1), READ_FAILED);
+        assert!(rt; written.is_some(), "{count} reads");
     }
-    assert!(rt; is_whole(alloc, &whole, reads_of_all())?);
+    // interrupted as often as they may be
+    let written = captured(alloc, calls(all, 1023), calls(999, 1023), (0, ""));
+    assert!(rt; written == Some(24 + 2 * 84));
     // interrupted too often
-    let streams = (calls(reads_of_all(), 1024), calls(999, 0));
-    assert!(rt; ends(alloc, &whole, streams, READ_FAILED)?);
-    Ok(())
+    assert!(rt; captured(alloc, calls(all, 1024), calls(999, 0), READ_FAILED).is_some());
 }
 
 #[test]
-fn each_write_fails(rt: HostRuntime) -> std::result::Result<(), Fail> {
-    let alloc = rt.alloc();
-    let whole = whole(alloc)?;
+fn each_write_fails(rt: HostRuntime) {
+    let (alloc, all) = (rt.alloc(), calls(999, 0));
     for count in 0..4usize {
-        let streams = (calls(999, 0), calls(count, 0));
-        assert!(rt;
-            ends(alloc, &whole, streams, WRITE_FAILED)?,
-            "{count} writes"
-        );
+        let written = captured(alloc, all, calls(count, 0), WRITE_FAILED);
+        assert!(rt; written.is_some(), "{count} writes");
         // one that is closed is no failure
-        let closed = (calls(999, 0), (count, 0, ErrorKind::BrokenPipe));
-        assert!(rt; ends(alloc, &whole, closed, (0, ""))?, "{count} writes");
+        let written = captured(alloc, all, (count, 0, ErrorKind::BrokenPipe), (0, ""));
+        assert!(rt; written.is_some(), "{count} writes");
     }
     // interrupted too often
-    let streams = (calls(reads_of_all(), 0), calls(999, 1024));
-    assert!(rt; ends(alloc, &whole, streams, WRITE_FAILED)?);
-    Ok(())
+    let reads = calls(reads_of_all(), 0);
+    assert!(rt; captured(alloc, reads, calls(999, 1024), WRITE_FAILED).is_some());
 }
+
+static WRONG_LINE: &str = r#"{"type":"RTM_NEWACTION","seq":"2","message":{"raw":"00"}}
+{"type":"RTM_GETACTION","message":{"header":{"family":"Unspec"},"attributes":[]}}
+"#;
+
+static WRONG: &str = "tcmake: line 1: /seq: found \"2\", wanted a number from 0 to 4294967295\n";
 
 // A closed output is no failure, and what was wrong before it is said.
 #[test]
-fn a_closed_output(rt: HostRuntime) -> std::result::Result<(), Fail> {
-    let alloc = rt.alloc();
-    let mut from =
-        b"{}\n{\"type\":\"RTM_GETACTION\",\"message\":{\"header\":{\"family\":\"Unspec\"},\"attributes\":[]}}\n".as_slice();
-    let mut to = slowly(Vec::new(alloc), (0, 0, ErrorKind::BrokenPipe));
-    let mut errors = Vec::new(alloc);
-    let status = serve(alloc, FORMS, &HEX, &mut from, &mut to, &mut errors);
-    assert!(rt; status == 1 && to.inner.is_empty());
-    assert!(rt;
-        errors.starts_with(b"tcmake: line 1: ")
-            && errors.iter().filter(|byte| **byte == b'\n').count() == 1
-    );
-    Ok(())
+fn a_closed_output(rt: HostRuntime) {
+    let streams = (calls(999, 0), (0, 0, ErrorKind::BrokenPipe));
+    assert!(rt; written(rt.alloc(), &HEX, WRONG_LINE, streams, (1, WRONG)) == Some(0));
 }

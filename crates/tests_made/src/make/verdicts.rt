@@ -1,36 +1,59 @@
 //! What a line says of its message, what the codec finds, and what is made.
 
-use crate::make::runs::{bare, makes};
-use std::alloc::Global;
+use crate::make::runs::{bare, makes, makes_line};
+use std::alloc::{AllocError, Global};
 use std::test::Fail;
 use tcmake_lib::arguments::Making;
 
 // A canonical message.
-const CANONICAL: (&str, &str) = (
+static CANONICAL_TEXTS: (&str, &str) = (
     r#"{"header":{"family":"Unspec","index":2,"handle":"1:","parent":"root","info":0},"attributes":[{"Kind":"u32"}]}"#,
     "000000000200000000000100ffffffff000000000800010075333200",
 );
 
 // One with a number out of its range, flags of another `nla_type`, and padding that isn't zeros.
-const LOOSE: (&str, &str) = (
+static LOOSE_TEXTS: (&str, &str) = (
     r#"{"header":{"family":"Unspec","index":2,"handle":"1:","parent":"root","info":0},"attributes":[{"Kind":"flower"},{"Options":[{"Flower":{"MplsBos":3,"pad":"000001","word":32836}}]}]}"#,
     "000000000200000000000100ffffffff000000000b000100666c6f77657200000c0002000500448003000001",
 );
 
 // The same as it is settled.
-const SETTLED: &str =
+static SETTLED: &str =
     "000000000200000000000100ffffffff000000000b000100666c6f77657200000c0002000500440001000000";
 
 // One that the codec refuses: a chain of two bytes.
-const REFUSED: (&str, &str) = (
+static REFUSED_TEXTS: (&str, &str) = (
     r#"{"header":{"family":"Unspec","index":2,"handle":"1:","parent":"root","info":0},"attributes":[{"Chain":{"raw":"0700"}}]}"#,
     "000000000200000000000100ffffffff0000000006000b0007000000",
 );
 
+// Which of them is in a line.
+#[derive(Clone, Copy)]
+enum Message {
+    Canonical,
+    Loose,
+    Refused,
+}
+
+const CANONICAL: Message = Message::Canonical;
+
+const LOOSE: Message = Message::Loose;
+
+const REFUSED: Message = Message::Refused;
+
+// Its JSON, and its bytes in hex.
+fn texts_of(message: Message) -> (&'static str, &'static str) {
+    match message {
+        Message::Canonical => CANONICAL_TEXTS,
+        Message::Loose => LOOSE_TEXTS,
+        Message::Refused => REFUSED_TEXTS,
+    }
+}
+
 // What is made of a line with these members beside a message, and what is said: of a line that is made, nothing or a notice.
 struct Cell {
     says: &'static str,
-    message: (&'static str, &'static str),
+    message: Message,
     making: Making,
     makes: Makes,
     said: &'static str,
@@ -100,73 +123,69 @@ static CELLS: [Cell; 27] = [
 ];
 
 // True if what is made of a cell's line, and what is said of it, is what is wanted.
-fn is_so(alloc: Global, cell: &Cell) -> Result<bool, Fail> {
-    let (says, json) = (cell.says, cell.message.0);
+fn is_so(alloc: Global, cell: &Cell) -> Result<bool, AllocError> {
+    let (says, (json, given)) = (cell.says, texts_of(cell.message));
+    let digits = match cell.makes {
+        Makes::Given => given,
+        Makes::Settled => SETTLED,
+        Makes::Nothing => "",
+    };
     let line = format!(in alloc; "{{\"type\":\"RTM_NEWQDISC\",{says}\"message\":{json}}}")?;
-    let said = cell.said;
-    let written = match cell.makes {
-        Makes::Given => format!(in alloc; "{}\n", cell.message.1)?,
-        Makes::Settled => format!(in alloc; "{SETTLED}\n")?,
-        Makes::Nothing => String::new(alloc),
-    };
-    let errors = if said.is_empty() {
-        String::new(alloc)
-    } else {
-        format!(in alloc; "tcmake: line 1: {said}\n")?
-    };
-    let status = u8::from(written.is_empty());
-    let request = bare(cell.making);
-    Ok(makes(
-        alloc,
-        &request,
-        line.as_bytes(),
-        status,
-        written.as_bytes(),
-        errors.as_bytes(),
-    ))
+    Ok(makes_line(alloc, &bare(cell.making), line.as_str(), digits, cell.said))
 }
 
 #[test]
 fn each_cell_of_the_table(rt: HostRuntime) -> Result<(), Fail> {
-    let alloc = rt.alloc();
-    for cell in &CELLS {
+    for (number, cell) in CELLS.iter().enumerate() {
         assert!(rt;
-            is_so(alloc, cell)?,
-            "{} {:?} of {}",
+            is_so(rt.alloc(), cell)?,
+            "cell {number}: {} {:?}",
             cell.says,
-            cell.making,
-            cell.message.1
+            cell.making
         );
     }
     Ok(())
 }
 
-// A message that is raw has to have a type.
-#[test]
-fn raw_messages(rt: HostRuntime) {
-    let lines = br#"{"refused":"BufferTooSmall","len":1,"needed":4,"message":{"raw":"00"}}
+static RAW: &str = r#"{"refused":"BufferTooSmall","len":1,"needed":4,"message":{"raw":"00"}}
 {"raw":"00"}
 {"type":"RTM_NEWACTION","refused":"BufferTooSmall","len":1,"needed":4,"message":{"raw":"00"}}
 "#;
+
+// A message that is raw has to have a type.
+#[test]
+fn raw_messages(rt: HostRuntime) {
     let said =
-        b"tcmake: line 1: /type: found nothing, wanted a message type, since the message is raw
+        "tcmake: line 1: /type: found nothing, wanted a message type, since the message is raw
 tcmake: line 2: /type: found nothing, wanted a message type, since the message is raw
 ";
-    assert!(rt; makes(rt.alloc(), &bare(Making::Checked), lines, 1, b"00\n", said));
+    assert!(rt;
+        makes(
+            rt.alloc(),
+            &bare(Making::Checked),
+            RAW.as_bytes(),
+            1,
+            b"00\n",
+            said
+        )
+    );
 }
+
+static LOOSE_LINES: &str =
+    r#"{"type":"RTM_NEWQDISC","message":{"header":{"family":"Unspec","index":2,"handle":"1:","parent":"root","info":0},"attributes":[{"Kind":"flower"},{"Options":[{"Flower":{"MplsBos":2}}]}]}}
+{"type":"RTM_NEWACTION","message":{"header":{"family":"Unspec"},"attributes":[{"RootExtWarnMsg":"a\u0000"}]}}
+"#;
+
+static SETTLED_LINES: &str =
+    "000000000200000000000100ffffffff000000000b000100666c6f77657200000c0002000500440000000000
+000000000500050061000000
+";
 
 // A number out of its range is masked (2 of one bit is 0), and a warning loses the NULs at its end alone.
 #[test]
 fn settled_messages(rt: HostRuntime) {
-    let lines =
-        br#"{"type":"RTM_NEWQDISC","message":{"header":{"family":"Unspec","index":2,"handle":"1:","parent":"root","info":0},"attributes":[{"Kind":"flower"},{"Options":[{"Flower":{"MplsBos":2}}]}]}}
-{"type":"RTM_NEWACTION","message":{"header":{"family":"Unspec"},"attributes":[{"RootExtWarnMsg":"a\u0000"}]}}
-"#;
-    let want =
-        b"000000000200000000000100ffffffff000000000b000100666c6f77657200000c0002000500440000000000
-000000000500050061000000
-";
-    let said = b"tcmake: line 1: /attributes/1/Options/0/Flower/MplsBos: found 2, settled to 0
+    let (lines, want) = (LOOSE_LINES.as_bytes(), SETTLED_LINES.as_bytes());
+    let said = "tcmake: line 1: /attributes/1/Options/0/Flower/MplsBos: found 2, settled to 0
 tcmake: line 2: /attributes/0/RootExtWarnMsg: found \"a\\u0000\", settled to \"a\"
 ";
     assert!(rt; makes(rt.alloc(), &bare(Making::Settled), lines, 0, want, said));

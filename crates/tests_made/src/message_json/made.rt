@@ -1,109 +1,102 @@
 //! Canonical messages, and the bytes that JSON stands for.
 
-use std::alloc::Global;
+use serde_json::Value;
+use std::alloc::{AllocError, Global};
 use std::test::Fail;
 use tc_forms_text::read_json;
 use tc_message_json::{NoMessage, make, make_as_given};
 use tc_wire::{TcActionMessage, TcMessage};
+
+// What is made of JSON.
+#[derive(Clone, Copy, Debug)]
+enum Way {
+    // The bytes that it stands for, by the form of a traffic control message.
+    AsGiven,
+    // A canonical traffic control message.
+    Tc,
+    // A canonical action message.
+    Action,
+}
 
 // A header, the kind fq_codel, and its options: the limit 10240, with NLA_F_NESTED, and padding behind the kind that isn't zeros.
 const LIMIT: &str =
     r#"{"header":{"family":"Unspec","index":2,"handle":"1:","parent":"root","info":0},"attributes":[
     {"Kind":"fq_codel","pad":"010203"},{"Options":[{"FqCodel":{"Limit":10240,"word":32770}}]}]}"#;
 
-#[rattlefmt::skip]
-static GIVEN: [u8; 48] = [
-    0, 0, 0, 0, 2, 0, 0, 0, 0, 0, 1, 0, 255, 255, 255, 255, 0, 0, 0, 0,
-    13, 0, 1, 0, 102, 113, 95, 99, 111, 100, 101, 108, 0, 1, 2, 3,
-    12, 0, 2, 0, 8, 0, 2, 128, 0, 40, 0, 0,
-];
-
-#[rattlefmt::skip]
-static CANONICAL: [u8; 48] = [
-    0, 0, 0, 0, 2, 0, 0, 0, 0, 0, 1, 0, 255, 255, 255, 255, 0, 0, 0, 0,
-    13, 0, 1, 0, 102, 113, 95, 99, 111, 100, 101, 108, 0, 0, 0, 0,
-    12, 0, 2, 0, 8, 0, 2, 0, 0, 40, 0, 0,
-];
-
-fn made(alloc: Global, text: &str) -> Result<Result<Vec<u8>, NoMessage>, Fail> {
-    Ok(make::<TcMessage>(alloc, &read_json(alloc, text.as_bytes())?))
-}
-
-fn made_of_actions(alloc: Global, text: &str) -> Result<Result<Vec<u8>, NoMessage>, Fail> {
-    let json = read_json(alloc, text.as_bytes())?;
-    Ok(make::<TcActionMessage>(alloc, &json))
-}
-
-fn given(alloc: Global, text: &str) -> Result<Result<Vec<u8>, NoMessage>, Fail> {
-    let json = read_json(alloc, text.as_bytes())?;
-    Ok(make_as_given::<TcMessage>(alloc, &json))
-}
-
-fn is_made(made: &Result<Vec<u8>, NoMessage>, wanted: &[u8]) -> bool {
-    match made {
-        Ok(bytes) => bytes.as_slice() == wanted,
-        Err(_) => false,
-    }
-}
-
-// Why nothing is made.
-fn reason(alloc: Global, made: Result<Vec<u8>, NoMessage>) -> Result<String, Fail> {
-    match made {
-        Ok(bytes) => Ok(format!(in alloc; "made {bytes:?}")?),
-        Err(e) => Ok(format!(in alloc; "{e}")?),
-    }
-}
-
-#[test]
-fn flags_and_padding_go(rt: HostRuntime) -> Result<(), Fail> {
-    let alloc = rt.alloc();
-    assert!(rt; is_made(&given(alloc, LIMIT)?, &GIVEN));
-    assert!(rt; is_made(&made(alloc, LIMIT)?, &CANONICAL));
-    let empty = r#"{"header":{"family":"Unspec"},"attributes":[]}"#;
-    assert!(rt; is_made(&made_of_actions(alloc, empty)?, &[0; 4]));
-    Ok(())
-}
-
-#[test]
-fn bytes_of_no_message_are_given(rt: HostRuntime) -> Result<(), Fail> {
-    let alloc = rt.alloc();
-    let text = r#"{"raw":"00ff"}"#;
-    assert!(rt; is_made(&given(alloc, text)?, &[0, 255]));
-    let why = reason(alloc, made(alloc, text)?)?;
-    assert!(rt; why.as_str().starts_with("/header: "), "{why}");
-    Ok(())
-}
-
-#[test]
-fn nothing_is_lost(rt: HostRuntime) -> Result<(), Fail> {
-    let alloc = rt.alloc();
+// JSON, what is made of it, and the bytes in hex or why there are none.
+static ROWS: [(Way, &str, &str); 8] = [
+    (
+        Way::AsGiven,
+        LIMIT,
+        "000000000200000000000100ffffffff000000000d00010066715f636f64656c000102030c0002000800028000280000",
+    ),
+    // flags and padding go
+    (
+        Way::Tc,
+        LIMIT,
+        "000000000200000000000100ffffffff000000000d00010066715f636f64656c000000000c0002000800020000280000",
+    ),
+    (
+        Way::Action,
+        r#"{"header":{"family":"Unspec"},"attributes":[]}"#,
+        "00000000",
+    ),
+    // bytes of no message are given
+    (Way::AsGiven, r#"{"raw":"00ff"}"#, "00ff"),
+    (
+        Way::Tc,
+        r#"{"raw":"00ff"}"#,
+        "/header: buffer of 2 bytes, 20 needed",
+    ),
     // a misspelt member
-    let text = r#"{"header":{"family":"Unspec","familly":1},"attributes":[]}"#;
-    let why = reason(alloc, made_of_actions(alloc, text)?)?;
-    assert!(rt;
-        why.as_str() == "/header/familly: found 1, wanted nothing",
-        "{why}"
-    );
+    (
+        Way::Action,
+        r#"{"header":{"family":"Unspec","familly":1},"attributes":[]}"#,
+        "/header/familly: found 1, wanted nothing",
+    ),
     // a warning that ends in a NUL, which is written without it
-    let text = r#"{"header":{"family":"Unspec"},"attributes":[{"RootExtWarnMsg":"a\u0000"}]}"#;
-    let why = reason(alloc, made_of_actions(alloc, text)?)?;
-    assert!(rt;
-        why.as_str() == r#"/attributes/0/RootExtWarnMsg: found "a\u0000", wanted "a""#,
-        "{why}"
-    );
-    Ok(())
+    (
+        Way::Action,
+        r#"{"header":{"family":"Unspec"},"attributes":[{"RootExtWarnMsg":"a\u0000"}]}"#,
+        r#"/attributes/0/RootExtWarnMsg: found "a\u0000", wanted "a""#,
+    ),
+    // one that ends in two: of each message that is read of it, until it is settled, one goes
+    (
+        Way::Action,
+        r#"{"header":{"family":"Unspec"},"attributes":[{"RootExtWarnMsg":"a\u0000\u0000"}]}"#,
+        r#"/attributes/0/RootExtWarnMsg: found "a\u0000\u0000", wanted "a""#,
+    ),
+];
+
+fn made(alloc: Global, way: Way, json: &Value) -> Result<Vec<u8>, NoMessage> {
+    match way {
+        Way::AsGiven => make_as_given::<TcMessage>(alloc, json),
+        Way::Tc => make::<TcMessage>(alloc, json),
+        Way::Action => make::<TcActionMessage>(alloc, json),
+    }
 }
 
-// A warning that ends in two NULs: of each message that is read of it, until it is settled, one goes.
+// The bytes in hex, or why there are none.
+fn text_of(alloc: Global, made: Result<Vec<u8>, NoMessage>) -> Result<String, AllocError> {
+    match made {
+        Ok(bytes) => hex::encode(alloc, &bytes),
+        Err(e) => format!(in alloc; "{e}"),
+    }
+}
+
+// The same of what is made of a text.
+fn outcome(alloc: Global, way: Way, text: &str) -> Result<String, AllocError> {
+    match read_json(alloc, text.as_bytes()) {
+        Ok(json) => text_of(alloc, made(alloc, way, &json)),
+        Err(e) => format!(in alloc; "{e}"),
+    }
+}
+
 #[test]
-fn unsettled_messages_are_not_made(rt: HostRuntime) -> Result<(), Fail> {
-    let alloc = rt.alloc();
-    let text =
-        r#"{"header":{"family":"Unspec"},"attributes":[{"RootExtWarnMsg":"a\u0000\u0000"}]}"#;
-    let why = reason(alloc, made_of_actions(alloc, text)?)?;
-    assert!(rt;
-        why.as_str() == r#"/attributes/0/RootExtWarnMsg: found "a\u0000\u0000", wanted "a""#,
-        "{why}"
-    );
+fn messages_are_canonical_or_as_given(rt: HostRuntime) -> Result<(), Fail> {
+    for (way, text, wanted) in &ROWS {
+        let outcome = outcome(rt.alloc(), *way, text)?;
+        assert!(rt; outcome.as_str() == *wanted, "{way:?} of {text}: {outcome}");
+    }
     Ok(())
 }

@@ -6,37 +6,48 @@ use tc_message_json::Shown;
 use tc_wire::{DefaultNla, TcActionMessage, TcAttribute, TcMessage};
 
 // The example of docs/JSON.md without its attributes.
-const HEADER: &str =
+static HEADER: &str =
     r#"{"header":{"family":"Unspec","index":2,"handle":"0:0","parent":"0:0","info":0},"attributes":[]}"#;
+
+static ACTION_HEADER: &str = r#"{"header":{"family":"Unspec"},"attributes":[]}"#;
+
+fn shown(alloc: Global, message: &TcMessage) -> Result<String, serde_json::Error> {
+    serde_json::to_string(alloc, &Shown(message, alloc))
+}
+
+fn header(alloc: Global) -> Result<String, serde_json::Error> {
+    let message = TcMessage::with_index(alloc, 2);
+    shown(alloc, &message)
+}
+
+fn action_header(alloc: Global) -> Result<String, serde_json::Error> {
+    let message = TcActionMessage::default_in(alloc);
+    serde_json::to_string(alloc, &Shown(&message, alloc))
+}
 
 #[test]
 fn messages_are_shown(rt: HostRuntime) -> Result<(), Fail> {
-    let alloc = rt.alloc();
-    let message = TcMessage::with_index(alloc, 2);
-    let text = serde_json::to_string(alloc, &Shown(&message, alloc))?;
-    assert!(rt; text.as_str() == HEADER, "{text}");
-    let message = TcActionMessage::default_in(alloc);
-    let text = serde_json::to_string(alloc, &Shown(&message, alloc))?;
-    let wanted = r#"{"header":{"family":"Unspec"},"attributes":[]}"#;
-    assert!(rt; text.as_str() == wanted, "{text}");
+    assert_eq!(rt; header(rt.alloc())?.as_str(), HEADER);
+    assert_eq!(rt; action_header(rt.alloc())?.as_str(), ACTION_HEADER);
     Ok(())
 }
 
 fn with_value(alloc: Global, len: usize) -> Result<TcMessage, Fail> {
+    let attribute = TcAttribute::Other(DefaultNla::new(99, vec![in alloc; 0; len]?));
     let mut message = TcMessage::default_in(alloc);
-    let value = vec![in alloc; 0; len]?;
-    message
-        .attributes
-        .push(TcAttribute::Other(DefaultNla::new(99, value)))?;
+    message.attributes.push(attribute)?;
     Ok(message)
+}
+
+// True if a message whose attribute has so many bytes is shown.
+fn is_shown(alloc: Global, len: usize) -> Result<bool, Fail> {
+    let message = with_value(alloc, len)?;
+    Ok(shown(alloc, &message).is_ok())
 }
 
 #[test]
 fn what_does_not_fit_is_an_error(rt: HostRuntime) -> Result<(), Fail> {
-    let alloc = rt.alloc();
-    let fitting = with_value(alloc, 65531)?;
-    assert!(rt; serde_json::to_vec(alloc, &Shown(&fitting, alloc)).is_ok());
-    let longer = with_value(alloc, 65532)?;
-    assert!(rt; serde_json::to_vec(alloc, &Shown(&longer, alloc)).is_err());
+    assert!(rt; is_shown(rt.alloc(), 65531)?);
+    assert!(rt; !is_shown(rt.alloc(), 65532)?);
     Ok(())
 }

@@ -1,9 +1,10 @@
 //! Actions that stand by themselves and those that only filters hold; places of actions in their lists.
 
-use nla_frames::{DefaultNla, Emitable, ParseableBytes};
+use crate::requests::in_hex::{self, is_written};
+use nla_frames::DefaultNla;
 use std::alloc::Global;
 use std::test::Fail;
-use tc_action_messages::{TcActionMessage, TcActionMessageAttribute};
+use tc_action_messages::TcActionMessageAttribute;
 use tc_actions::{TcAction, TcActionNatOption};
 use tc_options::{TcFilterFlowerOption, TcFilterMatchAllOption, TcFilterU32Option};
 use tc_records::TcNat;
@@ -14,7 +15,7 @@ use tc_requests::{
 
 // What Linux dumps of mirred: three actions that a filter holds each (1 reference, 1 of a filter), and one that stands alone (1, 0).
 #[rattlefmt::skip]
-static STANDING: &str =
+const STANDING: &str =
 "000000000800030004000000e4020100b80000000b0001006d69727265640000040005005000040004000600140001000000\
 0000000000000000000000000000040006001400070000000000000000000000000000000000040006001800030000000000\
 0000000000000000000000000000000008000a00000000004c00020020000200010000000000000003000000010000000100\
@@ -39,22 +40,29 @@ static STANDING_RESTORED: &str =
 
 // What it dumps of nat, pedit and police: each held by one filter, its counts at another byte.
 #[rattlefmt::skip]
-static HELD: [&str; 3] = [
+const HELD_NAT: &str =
 "000000000800030001000000bc000100b8000000080001006e61740050000400040006001400010000000000000000000000\
 0000000000000400060014000700000000000000000000000000000000000400060018000300000000000000000000000000\
 000000000000000008000a0000000000540002002800010001000000000000000300000001000000010000000a0700010506\
-0708ffffffff0100000004000300240002002f050000000000002f0500000000000000000000000000000000000000000000",
+0708ffffffff0100000004000300240002002f050000000000002f0500000000000000000000000000000000000000000000";
+
+#[rattlefmt::skip]
+const HELD_PEDIT: &str =
 "000000000800030001000000e4000100e00000000a0001007065646974000000040005005000040004000600140001000000\
 0000000000000000000000000000040006001400070000000000000000000000000000000000040006001800030000000000\
 0000000000000000000000000000000008000a00000000007400020018000500140006000600010002000000060002000000\
 00003400040001000000000000000300000001000000010000000100000000ffffff0a000000080000000000000000000000\
-00000000240001000005000000000000000500000000000000000000000000000000000000000000",
+00000000240001000005000000000000000500000000000000000000000000000000000000000000";
+
+#[rattlefmt::skip]
+const HELD_POLICE: &str =
 "000000000800030001000000d4000100d00000000b000100706f6c6963650000040005005000040004000600140001000000\
 0000000000000000000000000000040006001400070000000000000000000000000000000000040006001800030000000000\
 0000000000000000000000000000000008000a0000000000640002003c00010001000000020000000000000000881300f807\
 0000000100000000000048e8010000000000000000000000000001000000010000000000000024000600fe04000000000000\
-fe0400000000000000000000000000000000000000000000",
-];
+fe0400000000000000000000000000000000000000000000";
+
+static HELD: [&str; 3] = [HELD_NAT, HELD_PEDIT, HELD_POLICE];
 
 // Actions that go on in chain 8: one that no filter holds, and one that only its filter holds.
 static GOTO_CHAIN: &str =
@@ -64,86 +72,89 @@ static GOTO_CHAIN_HELD: &str =
     "00000000300001002c0000000900010067616374000000001c000200180002000400000000000000080000200100000001000000";
 
 // A gact and a police that no filter holds.
-static GACT: &str =
+const GACT: &str =
     "00000000300001002c0000000900010067616374000000001c000200180002000600000000000000000000000100000000000000";
 
 #[rattlefmt::skip]
-static POLICE: &str =
+const POLICE: &str =
 "000000005400010050000000\
 0b000100706f6c6963650000400002003c00010007090a0b02000000000000000088130\
 0f8070000000100000000000048e80100000000000000000000000000010000000000000000000000";
 
-// The bytes of a message in hex.
-fn text<M: Emitable>(alloc: Global, message: &M) -> Result<String, RestoreError> {
-    if !message.fits() {
-        return Ok(String::new(alloc));
+// The actions of dumps: their kinds, and the index of each that stands by itself.
+static INDICES: [(&str, &[(&str, Option<u32>)]); 4] = [
+    (
+        STANDING,
+        &[
+            ("mirred", None),
+            ("mirred", None),
+            ("mirred", None),
+            ("mirred", Some(88)),
+        ],
+    ),
+    (GACT, &[("gact", Some(6))]),
+    (POLICE, &[("police", Some(185207047))]),
+    (HELD_PEDIT, &[("pedit", None)]),
+];
+
+// True if this request restores the actions of a dump.
+fn is_restored(alloc: Global, dump: &str, digits: &str) -> Result<bool, Fail> {
+    match request_of_actions(alloc, in_hex::action_message(alloc, dump)?) {
+        Ok(request) => Ok(is_written(alloc, &request.message, digits)),
+        Err(_) => Ok(false),
     }
-    let mut bytes = vec![in alloc; 0; message.buffer_len()]?;
-    message.emit(&mut bytes);
-    Ok(hex::encode(alloc, &bytes)?)
 }
 
-// The request that restores actions, or why there is none.
-fn outcome(alloc: Global, dump: &str) -> Result<String, Fail> {
-    let bytes = hex::decode(alloc, dump)?;
-    match request_of_actions(alloc, TcActionMessage::parse(alloc, &bytes)?) {
-        Ok(request) => Ok(text(alloc, &request.message)?),
-        Err(e) => Ok(format!(in alloc; "{e:?}")?),
-    }
+// Why no request restores the actions of a dump.
+fn refusal(alloc: Global, dump: &str) -> Result<Option<RestoreError>, Fail> {
+    Ok(request_of_actions(alloc, in_hex::action_message(alloc, dump)?).err())
 }
 
 #[test]
 fn actions_that_stand_alone(rt: HostRuntime) -> Result<(), Fail> {
     let alloc = rt.alloc();
-    assert!(rt; outcome(alloc, STANDING)?.as_str() == STANDING_RESTORED);
-    for dump in HELD {
-        assert!(rt; outcome(alloc, dump)?.as_str() == "MadeByKernel");
+    assert!(rt; is_restored(alloc, INDICES[0].0, STANDING_RESTORED)?);
+    for dump in &HELD {
+        assert!(rt; refusal(alloc, dump)? == Some(RestoreError::MadeByKernel));
     }
-    assert!(rt; outcome(alloc, GOTO_CHAIN)?.as_str() == "GotoChain");
-    assert!(rt; outcome(alloc, GOTO_CHAIN_HELD)?.as_str() == "MadeByKernel");
+    assert!(rt; refusal(alloc, GOTO_CHAIN)? == Some(RestoreError::GotoChain));
+    assert!(rt; refusal(alloc, GOTO_CHAIN_HELD)? == Some(RestoreError::MadeByKernel));
     Ok(())
 }
 
-// The kind of an action, and its index where it stands by itself.
-fn index(alloc: Global, action: &TcAction) -> Result<String, Fail> {
-    let kind = kind_of_action(action);
-    match standing_index(action) {
-        Some(index) => Ok(format!(in alloc; "{kind} {index} ")?),
-        None => Ok(format!(in alloc; "{kind} - ")?),
-    }
-}
-
-// The same of the actions of an attribute.
-fn indices_in(alloc: Global, attribute: &TcActionMessageAttribute) -> Result<String, Fail> {
-    let mut text = String::new(alloc);
-    if let TcActionMessageAttribute::Actions(actions) = attribute {
-        for action in actions {
-            let one = index(alloc, action)?;
-            text.push_str(&one)?;
+// True if these are the kinds of actions, each with its index where it stands by itself.
+fn are(actions: &[TcAction], wanted: &[(&str, Option<u32>)]) -> bool {
+    let mut rest = actions;
+    for (kind, index) in wanted {
+        match rest.split_first() {
+            Some((action, others)) => {
+                if kind_of_action(action) != *kind || standing_index(action) != *index {
+                    return false;
+                }
+                rest = others;
+            }
+            None => return false,
         }
     }
-    Ok(text)
+    rest.is_empty()
 }
 
-// The same of a dump.
-fn indices(alloc: Global, dump: &str) -> Result<String, Fail> {
-    let bytes = hex::decode(alloc, dump)?;
-    let message = TcActionMessage::parse(alloc, &bytes)?;
-    let mut text = String::new(alloc);
+// The same of the actions of a dump.
+fn are_in(alloc: Global, dump: &str, wanted: &[(&str, Option<u32>)]) -> Result<bool, Fail> {
+    let message = in_hex::action_message(alloc, dump)?;
     for attribute in &message.attributes {
-        let some = indices_in(alloc, attribute)?;
-        text.push_str(&some)?;
+        if let TcActionMessageAttribute::Actions(actions) = attribute {
+            return Ok(are(actions, wanted));
+        }
     }
-    Ok(text)
+    Ok(false)
 }
 
 #[test]
 fn indices_of_actions(rt: HostRuntime) -> Result<(), Fail> {
-    let alloc = rt.alloc();
-    assert!(rt; indices(alloc, STANDING)?.as_str() == "mirred - mirred - mirred - mirred 88 ");
-    assert!(rt; indices(alloc, GACT)?.as_str() == "gact 6 ");
-    assert!(rt; indices(alloc, POLICE)?.as_str() == "police 185207047 ");
-    assert!(rt; indices(alloc, HELD[1])?.as_str() == "pedit - ");
+    for (dump, actions) in &INDICES {
+        assert!(rt; are_in(rt.alloc(), dump, actions)?, "{dump}");
+    }
     Ok(())
 }
 
@@ -155,15 +166,9 @@ fn nat(alloc: Global, place: u16) -> Result<TcAction, RequestError> {
 
 // Two of them.
 fn two(alloc: Global, first: u16, second: u16) -> Result<Vec<TcAction>, RequestError> {
-    Ok(vec![in alloc; nat(alloc, first)?, nat(alloc, second)?]?)
-}
-
-// What an error says.
-fn said<M: Drop>(alloc: Global, outcome: Result<M, RequestError>) -> Result<String, Fail> {
-    match outcome {
-        Ok(_) => Ok(String::new(alloc)),
-        Err(e) => Ok(format!(in alloc; "{e}")?),
-    }
+    let first = nat(alloc, first)?;
+    let second = nat(alloc, second)?;
+    Ok(vec![in alloc; first, second]?)
 }
 
 // An action without options for a place.
@@ -171,48 +176,74 @@ fn raw(alloc: Global, place: u16, kind: &str) -> Result<TcAction, RequestError> 
     raw_action(alloc, place, kind, Vec::<DefaultNla<Global>>::new(alloc))
 }
 
-#[test]
-fn places_of_actions(rt: HostRuntime) -> Result<(), Fail> {
-    let alloc = rt.alloc();
-    assert!(rt; said(alloc, nat(alloc, 0))?.as_str() == "an action at place 0");
-    assert!(rt; said(alloc, raw(alloc, 0, "gact"))?.as_str() == "an action at place 0");
-    assert!(rt; said(alloc, raw(alloc, 1, "gact"))?.is_empty());
-    assert!(rt;
-        said(alloc, raw(alloc, 1, "nat"))?.as_str()
-            == "raw options under a kind whose options are known"
-    );
-    Ok(())
+// What is said of two actions at these places of a message.
+fn error_of_message(alloc: Global, first: u16, second: u16) -> Result<Option<RequestError>, Fail> {
+    Ok(action_message(alloc, two(alloc, first, second)?).err())
 }
 
-// What is said of a message with two actions at these places.
-fn said_of_message(alloc: Global, first: u16, second: u16) -> Result<String, Fail> {
-    said(alloc, action_message(alloc, two(alloc, first, second)?))
+// What is said of a filter with these options.
+fn error_of_filter<O: FilterOption<Global>>(
+    alloc: Global,
+    options: Vec<O>,
+) -> Option<RequestError> {
+    filter(alloc, &Target::default(), 1, 0x0800, None, options).err()
+}
+
+// True if this is the text of an error; empty, if there is none.
+fn says(alloc: Global, error: Option<RequestError>, text: &str) -> bool {
+    match error {
+        Some(error) => match format!(in alloc; "{error}") {
+            Ok(said) => said.as_str() == text,
+            Err(_) => false,
+        },
+        None => text.is_empty(),
+    }
+}
+
+#[test]
+fn places_of_actions(rt: HostRuntime) {
+    let alloc = rt.alloc();
+    assert!(rt; says(alloc, nat(alloc, 0).err(), "an action at place 0"));
+    assert!(rt; says(alloc, raw(alloc, 0, "gact").err(), "an action at place 0"));
+    assert!(rt; says(alloc, raw(alloc, 1, "gact").err(), ""));
+    let known = "raw options under a kind whose options are known";
+    assert!(rt; says(alloc, raw(alloc, 1, "nat").err(), known));
 }
 
 #[test]
 fn places_in_a_message(rt: HostRuntime) -> Result<(), Fail> {
     let alloc = rt.alloc();
-    assert!(rt; said_of_message(alloc, 1, 2)?.is_empty());
-    assert!(rt; said_of_message(alloc, 2, 2)?.as_str() == "two actions at place 2");
+    assert!(rt; says(alloc, error_of_message(alloc, 1, 2)?, ""));
+    assert!(rt;
+        says(
+            alloc,
+            error_of_message(alloc, 2, 2)?,
+            "two actions at place 2"
+        )
+    );
     Ok(())
-}
-
-// What is said of a filter with these options.
-fn said_of_filter<O: FilterOption<Global>>(alloc: Global, options: Vec<O>) -> Result<String, Fail> {
-    said(
-        alloc,
-        filter(alloc, &Target::default(), 1, 0x0800, None, options),
-    )
 }
 
 #[test]
 fn places_in_a_filter(rt: HostRuntime) -> Result<(), Fail> {
     let alloc = rt.alloc();
     let flower = vec![in alloc; TcFilterFlowerOption::Actions(two(alloc, 3, 3)?)]?;
-    assert!(rt; said_of_filter(alloc, flower)?.as_str() == "two actions at place 3");
+    assert!(rt;
+        says(
+            alloc,
+            error_of_filter(alloc, flower),
+            "two actions at place 3"
+        )
+    );
     let u32_options = vec![in alloc; TcFilterU32Option::Action(two(alloc, 4, 4)?)]?;
-    assert!(rt; said_of_filter(alloc, u32_options)?.as_str() == "two actions at place 4");
-    let apart = vec![in alloc; TcFilterMatchAllOption::Action(two(alloc, 1, 2)?)]?;
-    assert!(rt; said_of_filter(alloc, apart)?.is_empty());
+    assert!(rt;
+        says(
+            alloc,
+            error_of_filter(alloc, u32_options),
+            "two actions at place 4"
+        )
+    );
+    let matchall = vec![in alloc; TcFilterMatchAllOption::Action(two(alloc, 1, 2)?)]?;
+    assert!(rt; says(alloc, error_of_filter(alloc, matchall), ""));
     Ok(())
 }

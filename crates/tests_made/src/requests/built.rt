@@ -1,17 +1,17 @@
 //! Requests that are built, and their bytes.
 
+use crate::requests::in_hex::is_written;
 use failing_alloc::Failing;
 use std::alloc::{Allocator, Global};
 use std::net::Ipv4Addr;
-use std::test::Fail;
 use tc_requests::{
     RequestError, Target, TcText, action, action_message, chain, filter, plain_qdisc, qdisc,
     raw_action,
 };
 use tc_wire::{
-    DefaultNla, Emitable, TcAction, TcActionGeneric, TcActionMessage, TcActionMirrorOption,
-    TcActionNatOption, TcActionType, TcFilterFlowerOption, TcHandle, TcMessage, TcMirror,
-    TcMirrorActionType, TcNat, TcNatFlags, TcQdiscFqCodelOption,
+    DefaultNla, Emitable, TcAction, TcActionMessage, TcActionMirrorOption, TcActionNatOption,
+    TcActionType, TcFilterFlowerOption, TcHandle, TcMessage, TcMirror, TcMirrorActionType, TcNat,
+    TcNatFlags, TcQdiscFqCodelOption,
 };
 
 static QDISC: &str = "00000000020000000000010\
@@ -31,25 +31,6 @@ static FILTER: &str =
 static ACTIONS: &str =
     "0000000038000100340001000b0001006d697272656400002400028020000200000000000000000004000000\
 00000000000000000100000008000000";
-
-// What is written of a value.
-fn written<M: Emitable, A: Allocator + Copy>(
-    alloc: A,
-    value: &M,
-) -> Result<Vec<u8, A>, RequestError> {
-    if !value.fits() {
-        return Ok(Vec::new(alloc));
-    }
-    let mut bytes = vec![in alloc; 0; value.buffer_len()]?;
-    value.emit(&mut bytes);
-    Ok(bytes)
-}
-
-// The same in hex.
-fn text<M: Emitable>(alloc: Global, value: &M) -> Result<String, RequestError> {
-    let bytes = written(alloc, value)?;
-    Ok(hex::encode(alloc, &bytes)?)
-}
 
 fn target(handle: u32, parent: u32) -> Target {
     Target {
@@ -76,23 +57,39 @@ fn nat<A: Allocator + Copy>(alloc: A) -> Result<TcAction<A>, RequestError> {
     action(alloc, 1, one(alloc, TcActionNatOption::Parms(parms))?)
 }
 
+// The options of a gact action, whose verdict is shot.
+static SHOT: [u8; 20] = [0, 0, 0, 0, 0, 0, 0, 0, 2, 0, 0, 0, 0, 0, 0, 0, 0, 0, 0, 0];
+
 fn gact<A: Allocator + Copy>(alloc: A) -> Result<TcAction<A>, RequestError> {
-    let generic = TcActionGeneric {
-        action: TcActionType::Shot,
-        ..TcActionGeneric::default()
-    };
-    let bytes = written(alloc, &generic)?;
-    raw_action(alloc, 2, "gact", one(alloc, DefaultNla::new(2, bytes))?)
+    let options = DefaultNla::new(2, SHOT.to_vec(alloc)?);
+    raw_action(alloc, 2, "gact", one(alloc, options)?)
+}
+
+// Both actions.
+fn both<A: Allocator + Copy>(alloc: A) -> Result<Vec<TcAction<A>, A>, RequestError> {
+    let mut actions = one(alloc, nat(alloc)?)?;
+    actions.push(gact(alloc)?)?;
+    Ok(actions)
+}
+
+// A type of Ethernet, an address and both actions.
+fn three<A: Allocator + Copy>(alloc: A) -> Result<Vec<TcFilterFlowerOption<A>, A>, RequestError> {
+    let mut options = one(alloc, TcFilterFlowerOption::EthType(0x0800))?;
+    options.push(TcFilterFlowerOption::Ipv4Dst(Ipv4Addr::new(10, 0, 0, 1)))?;
+    options.push(TcFilterFlowerOption::Actions(both(alloc)?))?;
+    Ok(options)
 }
 
 // The filter with both actions.
 fn two_actions<A: Allocator + Copy>(alloc: A) -> Result<TcMessage<A>, RequestError> {
-    let mut actions = one(alloc, nat(alloc)?)?;
-    actions.push(gact(alloc)?)?;
-    let mut options = one(alloc, TcFilterFlowerOption::EthType(0x0800))?;
-    options.push(TcFilterFlowerOption::Ipv4Dst(Ipv4Addr::new(10, 0, 0, 1)))?;
-    options.push(TcFilterFlowerOption::Actions(actions))?;
-    filter(alloc, &target(0, 0xFFFF_FFF2), 5, 0x0800, Some(9), options)
+    filter(
+        alloc,
+        &target(0, 0xFFFF_FFF2),
+        5,
+        0x0800,
+        Some(9),
+        three(alloc)?,
+    )
 }
 
 // The message about a mirred action.
@@ -101,21 +98,21 @@ fn redirect(alloc: Global) -> Result<TcActionMessage, RequestError> {
     parms.generic.action = TcActionType::Stolen;
     parms.eaction = TcMirrorActionType::EgressRedir;
     parms.ifindex = 8;
-    let mirred = action(
-        alloc,
-        1,
-        vec![in alloc; TcActionMirrorOption::Parms(parms)]?,
-    )?;
-    action_message(alloc, vec![in alloc; mirred]?)
+    let mirred = action(alloc, 1, one(alloc, TcActionMirrorOption::Parms(parms))?)?;
+    action_message(alloc, one(alloc, mirred)?)
 }
 
+// The request that the documentation of `tc_requests` has.
 fn limit(alloc: Global) -> Result<TcMessage, RequestError> {
-    let mut about = target(0x10000, 0xFFFF_FFFF);
-    about.index = 2;
+    let target = Target {
+        index: 2,
+        handle: TcHandle::from(0x10000),
+        parent: TcHandle::ROOT,
+    };
     qdisc(
         alloc,
-        &about,
-        vec![in alloc; TcQdiscFqCodelOption::Limit(10240)]?,
+        &target,
+        one(alloc, TcQdiscFqCodelOption::Limit(10240))?,
     )
 }
 
@@ -128,32 +125,25 @@ fn ninth_chain(alloc: Global) -> Result<TcMessage, RequestError> {
 }
 
 // True if a request is built, and has these bytes.
-fn has_bytes<M: Emitable + Drop>(
+fn is_built<M: Emitable + Drop>(
     alloc: Global,
     built: Result<M, RequestError>,
-    bytes: &str,
-) -> Result<bool, RequestError> {
-    let built = built?;
-    Ok(text(alloc, &built)?.as_str() == bytes)
+    digits: &str,
+) -> bool {
+    match built {
+        Ok(message) => is_written(alloc, &message, digits),
+        Err(_) => false,
+    }
 }
 
 #[test]
-fn known_bytes(rt: HostRuntime) -> Result<(), Fail> {
+fn known_bytes(rt: HostRuntime) {
     let alloc = rt.alloc();
-    assert!(rt; has_bytes(alloc, limit(alloc), QDISC)?);
-    assert!(rt; has_bytes(alloc, two_actions(alloc), FILTER)?);
-    assert!(rt; has_bytes(alloc, redirect(alloc), ACTIONS)?);
-    assert!(rt; has_bytes(alloc, clsact_qdisc(alloc), CLSACT)?);
-    assert!(rt; has_bytes(alloc, ninth_chain(alloc), CHAIN)?);
-    Ok(())
-}
-
-// The place of the part that an error names.
-fn named<M: Drop>(outcome: Result<M, RequestError>) -> Option<usize> {
-    match outcome {
-        Err(RequestError::NotSettled { place }) => Some(place),
-        _ => None,
-    }
+    assert!(rt; is_built(alloc, limit(alloc), QDISC));
+    assert!(rt; is_built(alloc, two_actions(alloc), FILTER));
+    assert!(rt; is_built(alloc, redirect(alloc), ACTIONS));
+    assert!(rt; is_built(alloc, clsact_qdisc(alloc), CLSACT));
+    assert!(rt; is_built(alloc, ninth_chain(alloc), CHAIN));
 }
 
 // A filter with a number in its range, and one that isn't.
@@ -186,34 +176,45 @@ fn without_kind(alloc: Global) -> Result<TcActionMessage, RequestError> {
     action_message(alloc, actions)
 }
 
+// True if an error names the part at this place.
+fn names(error: Option<RequestError>, place: usize) -> bool {
+    error == Some(RequestError::NotSettled { place })
+}
+
 #[test]
 fn parts_that_are_not_settled(rt: HostRuntime) {
     let alloc = rt.alloc();
-    assert!(rt; named(beyond(alloc)) == Some(1));
-    assert!(rt; named(kept_limit(alloc)) == Some(0));
-    assert!(rt; named(kept_nat(alloc)) == Some(0));
-    assert!(rt; named(without_kind(alloc)) == Some(1));
+    assert!(rt; names(beyond(alloc).err(), 1));
+    assert!(rt; names(kept_limit(alloc).err(), 0));
+    assert!(rt; names(kept_nat(alloc).err(), 0));
+    assert!(rt; names(without_kind(alloc).err(), 1));
+}
+
+// True if the filter is built over memory of which this request is refused; and whether it was.
+fn built_at(alloc: Global, at: u64) -> (bool, bool) {
+    let failing = Failing::new(alloc, at);
+    let is_built = two_actions(&failing).is_ok();
+    (is_built, failing.has_refused())
 }
 
 #[test]
-fn each_request_refused(rt: HostRuntime) -> Result<(), Fail> {
+fn each_request_refused(rt: HostRuntime) {
+    let mut refusals = 0;
     for at in 1..100u64 {
-        let failing = Failing::new(rt.alloc(), at);
-        let outcome = two_actions(&failing);
-        assert!(rt; outcome.is_err() == failing.has_refused());
-        if outcome.is_ok() {
-            assert!(rt; at > 10);
-            return Ok(());
+        let (is_built, is_refused) = built_at(rt.alloc(), at);
+        assert!(rt; is_built != is_refused, "request {at}");
+        if is_built {
+            break;
         }
+        refusals = at;
     }
-    Err(Fail::new("a request never had its memory"))
+    assert!(rt; 10 <= refusals && refusals < 99, "{refusals} requests");
 }
 
 #[test]
-fn handles(rt: HostRuntime) -> Result<(), Fail> {
+fn handles(rt: HostRuntime) {
     assert!(rt; TcHandle::from(0x10010).tc_text().as_str() == "1:10");
     assert!(rt; TcHandle::from_tc_text("ingress") == Some(TcHandle::INGRESS));
     assert!(rt; TcHandle::from_tc_text("clsact") == Some(TcHandle::CLSACT));
     assert!(rt; TcHandle::from_tc_text("1:x").is_none());
-    Ok(())
 }

@@ -1,324 +1,353 @@
 //! Dumps that need one another, by the places in which their requests come. The attributes that need nothing are left out.
 
-use nla_frames::ParseableBytes;
-use std::alloc::Global;
+use crate::requests::in_hex::{action_message, tc_message};
+use std::alloc::{AllocError, Global};
 use std::test::Fail;
-use tc_action_messages::TcActionMessage;
-use tc_messages::TcMessage;
 use tc_plan::{
     Entry, Fate, Item, Key, Order, Reason, Step, circle, entry_of, entry_of_actions, plan,
 };
 use tc_requests::{Object, RestoreError};
 
+// What is dumped.
+#[derive(Clone, Copy)]
+enum Dump {
+    Qdisc,
+    Class,
+    Chain,
+    Filter,
+    Actions,
+    // Actions of which a request can't be made.
+    RefusedActions,
+}
+
 // A tree of classes, a chain, and a table of u32, each before what it needs.
-static TREE: [(Object, &str); 9] = [
+const TREE: &[(Dump, &str)] = &[
     // 1:0, chain 5: flower, 0x1
     (
-        Object::Filter,
+        Dump::Filter,
         "00000000030000000100000000000100080001c008000b0005000000",
     ),
     // 1:20 under 1:2
-    (Object::Class, "0000000003000000200001000200010000000000"),
+    (Dump::Class, "0000000003000000200001000200010000000000"),
     // 1:0, chain 5
     (
-        Object::Chain,
+        Dump::Chain,
         "000000000300000000000000000001000000000008000b0005000000",
     ),
     // 1:0, chain 0: u32, 800::800
-    (Object::Filter, "00000000030000000008008000000100080002c0"),
+    (Dump::Filter, "00000000030000000008008000000100080002c0"),
     // 1:2 under 1:0
-    (Object::Class, "0000000003000000020001000000010000000000"),
+    (Dump::Class, "0000000003000000020001000000010000000000"),
     // 1:0, chain 0: the table 800: of u32
-    (Object::Filter, "00000000030000000000008000000100080002c0"),
+    (Dump::Filter, "00000000030000000000008000000100080002c0"),
     // 2: under 1:20
-    (Object::Qdisc, "0000000003000000000002002000010000000000"),
+    (Dump::Qdisc, "0000000003000000000002002000010000000000"),
     // 1: at the root
-    (Object::Qdisc, "000000000300000000000100ffffffff00000000"),
+    (Dump::Qdisc, "000000000300000000000100ffffffff00000000"),
     // 1: at the root of another interface
-    (Object::Qdisc, "000000000400000000000100ffffffff00000000"),
+    (Dump::Qdisc, "000000000400000000000100ffffffff00000000"),
 ];
 
 // Filters of blocks, and of one side of clsact.
-static BLOCKS: [(Object, &str); 4] = [
+const BLOCKS: &[(Dump, &str)] = &[
     // in block 7
-    (Object::Filter, "00000000ffffffff0100000007000000080001c0"),
+    (Dump::Filter, "00000000ffffffff0100000007000000080001c0"),
     // in block 9
-    (Object::Filter, "00000000ffffffff0100000009000000080001c0"),
+    (Dump::Filter, "00000000ffffffff0100000009000000080001c0"),
     // ffff:fff3
-    (Object::Filter, "000000000300000001000000f3ffffff080001c0"),
+    (Dump::Filter, "000000000300000001000000f3ffffff080001c0"),
     // clsact, whose blocks are 7 and 9
     (
-        Object::Qdisc,
+        Dump::Qdisc,
         "00000000030000000000fffff1ffffff0000000008000d000700000008000e0009000000",
     ),
 ];
 
 // Two classes that are each other's parent, and a qdisc under one of them.
-static CIRCLE: [(Object, &str); 4] = [
+const CIRCLE: &[(Dump, &str)] = &[
     // 1:1 under 1:2
-    (Object::Class, "0000000003000000010001000200010000000000"),
+    (Dump::Class, "0000000003000000010001000200010000000000"),
     // 1: at the root
-    (Object::Qdisc, "000000000300000000000100ffffffff00000000"),
+    (Dump::Qdisc, "000000000300000000000100ffffffff00000000"),
     // 1:2 under 1:1
-    (Object::Class, "0000000003000000020001000100010000000000"),
+    (Dump::Class, "0000000003000000020001000100010000000000"),
     // 2: under 1:2
-    (Object::Qdisc, "0000000003000000000002000200010000000000"),
+    (Dump::Qdisc, "0000000003000000000002000200010000000000"),
 ];
 
 // What can't be made: a class whose parent, a class, isn't there, and a qdisc under it; a second dump; a filter that doesn't say
 // its side of clsact.
-static REFUSED: [(Object, &str); 6] = [
+const REFUSED: &[(Dump, &str)] = &[
     // 1: at the root
-    (Object::Qdisc, "000000000300000000000100ffffffff00000000"),
+    (Dump::Qdisc, "000000000300000000000100ffffffff00000000"),
     // 1:20 under 1:2
-    (Object::Class, "0000000003000000200001000200010000000000"),
+    (Dump::Class, "0000000003000000200001000200010000000000"),
     // 2: under 1:20
-    (Object::Qdisc, "0000000003000000000002002000010000000000"),
+    (Dump::Qdisc, "0000000003000000000002002000010000000000"),
     // 1: at the root
-    (Object::Qdisc, "000000000300000000000100ffffffff00000000"),
+    (Dump::Qdisc, "000000000300000000000100ffffffff00000000"),
     // clsact
     (
-        Object::Qdisc,
+        Dump::Qdisc,
         "00000000040000000000fffff1ffffff000000000b000100636c7361637400",
     ),
     // ffff:0
-    (Object::Filter, "0000000004000000010000000000ffff080001c0"),
+    (Dump::Filter, "0000000004000000010000000000ffff080001c0"),
 ];
 
 // A chain without a template, and the filter in it; a filter of a shared block that two interfaces dump.
-static MADE: [(Object, &str); 4] = [
+const MADE: &[(Dump, &str)] = &[
     (
-        Object::Chain,
+        Dump::Chain,
         "000000000300000000000000000001000000000008000b0005000000",
     ),
     (
-        Object::Filter,
+        Dump::Filter,
         "00000000030000000100000000000100080001c008000b0005000000",
     ),
-    (Object::Filter, "00000000ffffffff0100000007000000080001c0"),
-    (Object::Filter, "00000000ffffffff0100000007000000080001c0"),
+    (Dump::Filter, "00000000ffffffff0100000007000000080001c0"),
+    (Dump::Filter, "00000000ffffffff0100000007000000080001c0"),
 ];
 
 // A class of hfsc, its root class, which has the handle of the qdisc, and the qdisc.
-static ROOT_CLASS: [(Object, &str); 3] = [
+const ROOT_CLASS: &[(Dump, &str)] = &[
     // 1:1 under 1:
-    (Object::Class, "0000000003000000010001000000010000000000"),
+    (Dump::Class, "0000000003000000010001000000010000000000"),
     // 1: at the root, a class
-    (Object::Class, "000000000300000000000100ffffffff00000000"),
+    (Dump::Class, "000000000300000000000100ffffffff00000000"),
     // 1: at the root
-    (Object::Qdisc, "000000000300000000000100ffffffff00000000"),
+    (Dump::Qdisc, "000000000300000000000100ffffffff00000000"),
 ];
 
 // A class and its qdisc: one step is left where the other is made.
-static ONE_LEFT: [(Object, &str); 2] = [
+const ONE_LEFT: &[(Dump, &str)] = &[
     // 1:1 under 1:
-    (Object::Class, "0000000003000000010001000000010000000000"),
+    (Dump::Class, "0000000003000000010001000000010000000000"),
     // 1: at the root
-    (Object::Qdisc, "000000000300000000000100ffffffff00000000"),
+    (Dump::Qdisc, "000000000300000000000100ffffffff00000000"),
 ];
 
-// Dumps of actions, and a filter that may share any of them; a dump without an object is one of actions.
-static ACTIONS: [(Option<Object>, &str); 6] = [
+// Dumps of actions, and a filter that may share any of them; last, actions that can't be made, which the filter has in full.
+const ACTIONS: &[(Dump, &str)] = &[
     // ffff:fff2
-    (
-        Some(Object::Filter),
-        "000000000300000001000000f2ffffff080001c0",
-    ),
+    (Dump::Filter, "000000000300000001000000f2ffffff080001c0"),
     // gact 4
     (
-        None,
+        Dump::Actions,
         "00000000300001002c0000000900010067616374000000001c0002001800020004000000000000000000000001000000\
 00000000",
     ),
     // gact 5, and gact 4 again
     (
-        None,
+        Dump::Actions,
         "000000005c0001002c0000000900010067616374000000001c0002001800020005000000000000000000000001000000\
 000000002c0001000900010067616374000000001c000200180002000400000000000000000000000100000000000000",
     ),
     // nat 4
     (
-        None,
+        Dump::Actions,
         "000000003c00010038000000080001006e6174002c0002002800010004000000000000000000000001000000\
 000000000a07000105060708ffffffff01000000",
     ),
     // gact with a free index, twice
     (
-        None,
+        Dump::Actions,
         "00000000300001002c0000000900010067616374000000001c0002001800020000000000000000000000000001000000\
 00000000",
     ),
     (
-        None,
+        Dump::Actions,
         "00000000300001002c0000000900010067616374000000001c0002001800020000000000000000000000000001000000\
 00000000",
     ),
+    (Dump::RefusedActions, "00000000"),
 ];
-
-// The places of steps.
-fn places(alloc: Global, steps: &[Step<Item, Key, Global>]) -> Result<String, Fail> {
-    let mut text = String::new(alloc);
-    for step in steps {
-        let place = format!(in alloc; "{} ", step.item.place)?;
-        text.push_str(&place)?;
-    }
-    Ok(text)
-}
-
-// What becomes of a step, as a line.
-fn fate(alloc: Global, item: &Item) -> Result<String, Fail> {
-    let place = item.place;
-    match &item.fate {
-        Fate::Request => Ok(format!(in alloc; "{place} request\n")?),
-        Fate::Made => Ok(format!(in alloc; "{place} made\n")?),
-        Fate::Refused(reason) => Ok(format!(in alloc; "{place} {reason}\n")?),
-    }
-}
-
-// What becomes of steps.
-fn fates(alloc: Global, steps: &[Step<Item, Key, Global>]) -> Result<String, Fail> {
-    let mut text = String::new(alloc);
-    for step in steps {
-        let line = fate(alloc, &step.item)?;
-        text.push_str(&line)?;
-    }
-    Ok(text)
-}
-
-// What a plan has to know of a dump; without an object it is one of actions.
-fn entry(
-    alloc: Global,
-    place: usize,
-    object: Option<Object>,
-    text: &str,
-) -> Result<Entry<Global>, Fail> {
-    let bytes = hex::decode(alloc, text)?;
-    match object {
-        Some(object) => entry_of_object(alloc, place, object, &bytes),
-        None => entry_without_object(alloc, place, &bytes),
-    }
-}
 
 fn entry_of_object(
     alloc: Global,
     place: usize,
     object: Object,
-    bytes: &[u8],
+    digits: &str,
 ) -> Result<Entry<Global>, Fail> {
-    let dump = TcMessage::parse(alloc, bytes)?;
+    let dump = tc_message(alloc, digits)?;
     Ok(entry_of(alloc, place, Fate::Request, object, &dump)?)
 }
 
-fn entry_without_object(alloc: Global, place: usize, bytes: &[u8]) -> Result<Entry<Global>, Fail> {
-    let dump = TcActionMessage::parse(alloc, bytes)?;
-    Ok(entry_of_actions(alloc, place, Fate::Request, &dump)?)
-}
-
-fn planned(alloc: Global, rows: &[(Object, &str)]) -> Result<Order<Item, Key, Global>, Fail> {
-    let mut entries = Vec::new(alloc);
-    for (place, (object, text)) in rows.iter().enumerate() {
-        entries.push(entry(alloc, place, Some(*object), text)?)?;
-    }
-    Ok(plan(alloc, entries)?)
-}
-
-#[test]
-fn parents_before_children(rt: HostRuntime) -> Result<(), Fail> {
-    let alloc = rt.alloc();
-    let made = planned(alloc, &TREE)?;
-    assert!(rt; places(alloc, &made.order)?.as_str() == "7 8 2 5 0 4 1 3 6 ");
-    assert!(rt; made.left.is_empty());
-    Ok(())
-}
-
-#[test]
-fn one_that_is_left_comes_last(rt: HostRuntime) -> Result<(), Fail> {
-    let alloc = rt.alloc();
-    let made = planned(alloc, &ONE_LEFT)?;
-    assert!(rt; places(alloc, &made.order)?.as_str() == "1 0 ");
-    assert!(rt; made.left.is_empty());
-    Ok(())
-}
-
-#[test]
-fn root_classes_behind_their_qdisc(rt: HostRuntime) -> Result<(), Fail> {
-    let alloc = rt.alloc();
-    let made = planned(alloc, &ROOT_CLASS)?;
-    assert!(rt; places(alloc, &made.order)?.as_str() == "2 0 1 ");
-    assert!(rt; made.left.is_empty());
-    Ok(())
-}
-
-#[test]
-fn blocks_before_their_filters(rt: HostRuntime) -> Result<(), Fail> {
-    let alloc = rt.alloc();
-    let made = planned(alloc, &BLOCKS)?;
-    assert!(rt; places(alloc, &made.order)?.as_str() == "3 0 1 2 ");
-    assert!(rt; made.left.is_empty());
-    Ok(())
-}
-
-#[test]
-fn circles_are_left(rt: HostRuntime) -> Result<(), Fail> {
-    let alloc = rt.alloc();
-    let made = planned(alloc, &CIRCLE)?;
-    assert!(rt; places(alloc, &made.order)?.as_str() == "1 ");
-    assert!(rt; places(alloc, &made.left)?.as_str() == "2 0 3 ");
-    let around = circle(alloc, &made.left)?;
-    assert!(rt; around.order.is_empty() && around.left.len() == 3);
-    Ok(())
-}
-
-#[test]
-fn what_cannot_be_made_has_a_reason(rt: HostRuntime) -> Result<(), Fail> {
-    let alloc = rt.alloc();
-    let made = planned(alloc, &REFUSED)?;
-    assert!(rt; fates(alloc, &made.order)?.as_str() == "0 request\n4 request\n");
-    assert!(rt;
-        fates(alloc, &made.left)?.as_str()
-            == "1 the parent class is missing\n2 request\n3 a second dump of this\n5 the parent ffff: doesn't say which side of clsact\n"
-    );
-    // 2: needs 1:20, and is in no circle.
-    let around = circle(alloc, &made.left)?;
-    assert!(rt; around.order.len() == 4 && around.left.is_empty());
-    Ok(())
-}
-
-#[test]
-fn what_others_make_is_no_request(rt: HostRuntime) -> Result<(), Fail> {
-    let alloc = rt.alloc();
-    let made = planned(alloc, &MADE)?;
-    assert!(rt; fates(alloc, &made.order)?.as_str() == "0 made\n1 request\n2 request\n3 made\n");
-    assert!(rt; made.left.is_empty());
-    Ok(())
-}
-
-// Actions that can't be made: the filter has its own in full.
-fn refused_actions(alloc: Global, place: usize) -> Result<Entry<Global>, Fail> {
-    let dump = TcActionMessage::default_in(alloc);
-    let fate = Fate::Refused(Reason::Restore(RestoreError::GotoChain));
+fn entry_of_dumped_actions(
+    alloc: Global,
+    place: usize,
+    fate: Fate,
+    digits: &str,
+) -> Result<Entry<Global>, Fail> {
+    let dump = action_message(alloc, digits)?;
     Ok(entry_of_actions(alloc, place, fate, &dump)?)
 }
 
-fn planned_actions(alloc: Global) -> Result<Order<Item, Key, Global>, Fail> {
-    let mut entries = Vec::new(alloc);
-    for (place, (object, text)) in ACTIONS.iter().enumerate() {
-        entries.push(entry(alloc, place, *object, text)?)?;
+// A dump, as a plan has to know it.
+fn entry(alloc: Global, place: usize, dump: Dump, digits: &str) -> Result<Entry<Global>, Fail> {
+    match dump {
+        Dump::Qdisc => entry_of_object(alloc, place, Object::Qdisc, digits),
+        Dump::Class => entry_of_object(alloc, place, Object::Class, digits),
+        Dump::Chain => entry_of_object(alloc, place, Object::Chain, digits),
+        Dump::Filter => entry_of_object(alloc, place, Object::Filter, digits),
+        Dump::Actions => entry_of_dumped_actions(alloc, place, Fate::Request, digits),
+        Dump::RefusedActions => {
+            let fate = Fate::Refused(Reason::Restore(RestoreError::GotoChain));
+            entry_of_dumped_actions(alloc, place, fate, digits)
+        }
     }
-    entries.push(refused_actions(alloc, 6)?)?;
+}
+
+fn planned(alloc: Global, rows: &[(Dump, &str)]) -> Result<Order<Item, Key, Global>, Fail> {
+    let mut entries = Vec::new(alloc);
+    for (place, (dump, digits)) in rows.iter().enumerate() {
+        entries.push(entry(alloc, place, *dump, digits)?)?;
+    }
     Ok(plan(alloc, entries)?)
 }
 
+// True if steps have these places.
+fn are_at(steps: &[Step<Item, Key, Global>], places: &[usize]) -> bool {
+    let mut rest = steps;
+    for place in places {
+        match rest.split_first() {
+            Some((step, others)) if step.item.place == *place => rest = others,
+            _ => return false,
+        }
+    }
+    rest.is_empty()
+}
+
+// True if dumps come into an order at these places, and those at others are left.
+fn come_in(
+    alloc: Global,
+    rows: &[(Dump, &str)],
+    order: &[usize],
+    left: &[usize],
+) -> Result<bool, Fail> {
+    let made = planned(alloc, rows)?;
+    Ok(are_at(&made.order, order) && are_at(&made.left, left))
+}
+
+// Dumps, the places of those that come into an order, and of those that are left.
+static ORDERS: [(&[(Dump, &str)], &[usize], &[usize]); 5] = [
+    (TREE, &[7, 8, 2, 5, 0, 4, 1, 3, 6], &[]),
+    // one that is left comes last
+    (ONE_LEFT, &[1, 0], &[]),
+    // root classes behind their qdisc
+    (ROOT_CLASS, &[2, 0, 1], &[]),
+    // blocks before their filters
+    (BLOCKS, &[3, 0, 1, 2], &[]),
+    // circles are left
+    (CIRCLE, &[1], &[2, 0, 3]),
+];
+
 #[test]
-fn actions_before_filters_and_once(rt: HostRuntime) -> Result<(), Fail> {
-    let alloc = rt.alloc();
-    let made = planned_actions(alloc)?;
-    assert!(rt;
-        fates(alloc, &made.order)?.as_str()
-            == "1 request\n3 request\n4 request\n5 request\n0 request\n"
-    );
-    let reason = RestoreError::GotoChain;
-    let left = format!(in alloc; "2 a second dump of this\n6 can't be restored: {reason}\n")?;
-    assert!(rt; fates(alloc, &made.left)?.as_str() == left.as_str());
+fn each_behind_what_it_needs(rt: HostRuntime) -> Result<(), Fail> {
+    for (dumps, order, left) in &ORDERS {
+        assert!(rt; come_in(rt.alloc(), dumps, order, left)?, "{order:?}");
+    }
+    Ok(())
+}
+
+// Dumps with their fates: of those that come into an order, and of those that are left.
+static FATES: [(&[(Dump, &str)], &[(usize, &str)], &[(usize, &str)]); 3] = [
+    // what can't be made has a reason
+    (
+        REFUSED,
+        &[(0, "request"), (4, "request")],
+        &[
+            (1, "the parent class is missing"),
+            (2, "request"),
+            (3, "a second dump of this"),
+            (5, "the parent ffff: doesn't say which side of clsact"),
+        ],
+    ),
+    // what others make is no request
+    (
+        MADE,
+        &[(0, "made"), (1, "request"), (2, "request"), (3, "made")],
+        &[],
+    ),
+    // actions before filters, and once
+    (
+        ACTIONS,
+        &[
+            (1, "request"),
+            (3, "request"),
+            (4, "request"),
+            (5, "request"),
+            (0, "request"),
+        ],
+        &[
+            (2, "a second dump of this"),
+            (
+                6,
+                "can't be restored: goto chain of an action that no filter has",
+            ),
+        ],
+    ),
+];
+
+// How many of the steps that are left are in an order, and how many in a circle.
+fn around(alloc: Global, left: &[Step<Item, Key, Global>]) -> Result<(usize, usize), AllocError> {
+    let around = circle(alloc, left)?;
+    Ok((around.order.len(), around.left.len()))
+}
+
+fn around_in(alloc: Global, rows: &[(Dump, &str)]) -> Result<(usize, usize), Fail> {
+    Ok(around(alloc, &planned(alloc, rows)?.left)?)
+}
+
+#[test]
+fn circles_of_what_is_left(rt: HostRuntime) -> Result<(), Fail> {
+    assert!(rt; around_in(rt.alloc(), ORDERS[4].0)? == (0, 3));
+    // 2: needs 1:20, and is in no circle
+    assert!(rt; around_in(rt.alloc(), FATES[0].0)? == (4, 0));
+    Ok(())
+}
+
+fn has_fate(alloc: Global, item: &Item, text: &str) -> bool {
+    match &item.fate {
+        Fate::Request => text == "request",
+        Fate::Made => text == "made",
+        Fate::Refused(reason) => match format!(in alloc; "{reason}") {
+            Ok(reason) => reason.as_str() == text,
+            Err(_) => false,
+        },
+    }
+}
+
+// True if steps have these places and fates.
+fn have_fates(alloc: Global, steps: &[Step<Item, Key, Global>], fates: &[(usize, &str)]) -> bool {
+    let mut rest = steps;
+    for (place, fate) in fates {
+        match rest.split_first() {
+            Some((step, others))
+                if step.item.place == *place && has_fate(alloc, &step.item, fate) => {
+                rest = others;
+            }
+            _ => return false,
+        }
+    }
+    rest.is_empty()
+}
+
+// True if dumps come into an order with these fates, and those with others are left.
+fn come_to(
+    alloc: Global,
+    rows: &[(Dump, &str)],
+    order: &[(usize, &str)],
+    left: &[(usize, &str)],
+) -> Result<bool, Fail> {
+    let made = planned(alloc, rows)?;
+    Ok(have_fates(alloc, &made.order, order) && have_fates(alloc, &made.left, left))
+}
+
+#[test]
+fn each_with_its_fate(rt: HostRuntime) -> Result<(), Fail> {
+    for (dumps, order, left) in &FATES {
+        assert!(rt; come_to(rt.alloc(), dumps, order, left)?, "{order:?}");
+    }
     Ok(())
 }

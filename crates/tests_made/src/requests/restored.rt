@@ -1,15 +1,22 @@
 //! Dumps made into requests. The wanted bytes are those of `request_of` in `kernel/messages.py`, but that u32's padding is left
 //! out here; those of the rows with a command were taken by Linux 6.1, and dumped again as they had been.
 
+use crate::requests::in_hex::{action_message, is_written};
 use failing_alloc::Failing;
-use std::alloc::{AllocError, Allocator, Global};
+use std::alloc::Global;
 use std::test::Fail;
-use tc_requests::{NEW_FLAGS, Object, RTM_NEWACTION, RestoreError, request_of, request_of_actions};
-use tc_wire::{Emitable, ParseableBytes, TcActionMessage, TcMessage};
+use tc_requests::{
+    NEW_FLAGS, Object, RTM_NEWACTION, Request, RestoreError, request_of, request_of_actions,
+};
+use tc_wire::{ParseableBytes, TcMessage};
 
 // Dumps, and the requests that restore them.
 #[rattlefmt::skip]
-static RESTORED: [(Object, &str, &str); 12] = [
+static RESTORED: [(Object, &str, &str); 13] = [
+    // a qdisc with a count of references in its header and an offload (12)
+    (Object::Qdisc,
+"000000000200000000000100ffffffff020000000d00010066715f636f64656c000000000c000200080002000028000005000c0000000000",
+"000000000200000000000100ffffffff020000000d00010066715f636f64656c000000000c0002000800020000280000"),
     // host618.answer.newqdisc.ingress.001
     (Object::Qdisc,
 "00000000030000000000fffff1ffffff010000000c000100696e6772657373000400020005000c0000000000300007001400\
@@ -125,7 +132,7 @@ static RESTORED: [(Object, &str, &str); 12] = [
 
 // Dumps that can't be restored, and why.
 #[rattlefmt::skip]
-static REFUSED: [(Object, &str, &str); 15] = [
+static REFUSED: [(Object, &str, RestoreError); 15] = [
     // uml61.dump.newqdisc.fq_codel.001
     (Object::Qdisc,
 "000000000700000000001280ffffffff020000000d00010066715f636f64656c000000004400020008000100871300000800\
@@ -135,26 +142,26 @@ static REFUSED: [(Object, &str, &str); 15] = [
 0400060014000100000000000000000000000000000000000400060018000300000000000000000000000000000000000000\
 00002c0003000000000000000000000000000000000000000000000000000000000000000000000000000000000004000900\
 2c00040000000000000000000000000000000000000000000000000000000000000000000000000000000000",
-"SizeTable"),
+RestoreError::SizeTable),
     // host618.answer.newtfilter.bpf.001
     (Object::Filter,
 "0000000003000000000000000000010000034600080001006270660008000b0000000000",
-"MadeByKernel"),
+RestoreError::MadeByKernel),
     // host618.answer.newtfilter.bpf.005
     (Object::Filter,
 "0000000003000000010000000000010000034900080001006270660008000b0000000000400002001800070070726f672e6f\
 3a5b636c61737369666965725d0008000b00dc0000000c000a00f03f3c893109830e08000800010000000800090008000000",
-"ProgramByNumber"),
+RestoreError::ProgramByNumber),
     // statistics alone
     (Object::Qdisc,
 "00000000000000000000010000000000000000002c0003000000000000000000000000000000000000000000000000000000\
 0000000000000000000000000000",
-"NothingLeft"),
+RestoreError::NothingLeft),
     // actions that are kept raw
     (Object::Filter,
 "0000000000000000010000000000000000000000080001006270660018000200140001001000010009000100676163740000\
 0000",
-"RawActions"),
+RestoreError::RawActions),
     // 33 actions
     (Object::Filter,
 "00000000000000000100000000000000000000000d0001006d61746368616c6c000000001802020014020200100000000900\
@@ -169,7 +176,7 @@ static REFUSED: [(Object, &str, &str); 15] = [
 0100676163740000000010001a0009000100676163740000000010001b0009000100676163740000000010001c0009000100\
 676163740000000010001d0009000100676163740000000010001e0009000100676163740000000010001f00090001006761\
 63740000000010002000090001006761637400000000",
-"TooManyActions"),
+RestoreError::TooManyActions),
     // tdc61.answer.newqdisc.red.0001
     (Object::Qdisc,
 "000000000400000000000100ffffffff0200000008000100726564002c00020014000100000010000090010000b004000618\
@@ -177,7 +184,7 @@ static REFUSED: [(Object, &str, &str); 15] = [
 0000000000000000000000000400060014000100dc080000000000000e000000000000000400060018000300000000000000\
 00000000000000000000000000002c000300dc080000000000000e0000000000000000000000000000000000000000000000\
 0000000000000000040009001400040000000000000000000000000000000000",
-"MarkingTable"),
+RestoreError::MarkingTable),
     // tdc61.answer.newqdisc.choke.0001
     (Object::Qdisc,
 "000000000400000000000100ffffffff020000000a00010063686f6b650000002000020014000100e803000053000000fa00\
@@ -185,7 +192,7 @@ static REFUSED: [(Object, &str, &str); 15] = [
 000000000000000014000100dc080000000000000e0000000000000004000600180003000000000000000000000000000000\
 0000000000002c000300dc080000000000000e00000000000000000000000000000000000000000000000000000000000000\
 04000900180004000000000000000000000000000000000000000000",
-"MarkingTable"),
+RestoreError::MarkingTable),
     // tdc61.answer.newqdisc.gred.0003
     (Object::Qdisc,
 "000000000400000000000100ffffffff0200000009000100677265640000000000040200100003000a000000010000000000\
@@ -212,26 +219,26 @@ static REFUSED: [(Object, &str, &str); 15] = [
 0a000000000005000c000000000004000900380007000400060014000100dc080000000000000e0000000000000004000600\
 1800030000000000000000000000000000000000000000002c000300dc080000000000000e00000000000000000000000000\
 000000000000000000000000000000000000",
-"MarkingTable"),
+RestoreError::MarkingTable),
     // tdc61.answer.newqdisc.noqueue.0001: a default, without a handle
     (Object::Qdisc,
 "000000000100000000000000ffffffff020000000c0001006e6f71756575650005000c000000000004000900380007000400\
 0600140001000000000000000000000000000000000004000600180003000000000000000000000000000000000000000000\
 2c00030000000000000000000000000000000000000000000000000000000000000000000000000000000000",
-"MadeByKernel"),
+RestoreError::MadeByKernel),
     // tdc61.answer.newtclass.prio.0001: a class that its qdisc makes
     (Object::Class,
 "0000000004000000010001000000010000000000090001007072696f00000000040009003800070004000600140001000000\
 0000000000000000000000000000040006001800030000000000000000000000000000000000000000002c00030000000000\
 000000000000000000000000000000000000000000000000000000000000000000000000",
-"MadeByKernel"),
+RestoreError::MadeByKernel),
     // the root class of hfsc
     (Object::Class,
 "000000000a00000000000100ffffffff00000000090001006866736300000000040002005400070004000600140001000000\
 0000000000000000000000000000040006001800030000000000000000000000000000000000000000001c00040000000000\
 0000000000000000000000000000000001000000040009002c00030000000000000000000000000000000000000000000000\
 000000000000000000000000000000000000040009001c000400000000000000000000000000000000000000000001000000",
-"MadeByKernel"),
+RestoreError::MadeByKernel),
     // tc qdisc add dev d10 root handle 1: estimator 1sec 8sec fq_codel
     (Object::Qdisc,
 "000000000a00000000000100ffffffff020000000d00010066715f636f64656c000000004400020008000100871300000800\
@@ -241,7 +248,7 @@ static REFUSED: [(Object, &str, &str); 15] = [
 0000000000000000040006001800030000000000000000000000000000000000000000002c00030000000000000000000000\
 000000000000000000000000000000000000000000000000000000000000040009002c000400000000000000000000000000\
 00000000000000000000000000000000000000000000000000000000",
-"Estimator"),
+RestoreError::Estimator),
     // .. u32 match ip src 1.2.3.4 police rate 1mbit burst 10k drop flowid 1:1
     (Object::Filter,
 "000000000a000000000800800000010008000100080001007533320008000b0000000000c800020024000500010001000000\
@@ -250,7 +257,7 @@ static REFUSED: [(Object, &str, &str); 15] = [
 0000010000000100000000000000040007002400060015000000000000001500000000000000000000000000000000000000\
 0000000004000c001c000900000000000000000000000000000000000000000000000000040009002c000300000000000000\
 00000000000000000000000000000000000000000000000000000000000000000000",
-"PoliceOfFilter"),
+RestoreError::PoliceOfFilter),
     // uml61.answer.newtfilter.u32+bpf.001: an action that is an eBPF program
     (Object::Filter,
 "000000000a00000000080080f3ffffff08000b00080001007533320008000b00000000003001020024000500010001000000\
@@ -260,7 +267,7 @@ static REFUSED: [(Object, &str, &str); 15] = [
 6c0002001800020001000000000000000300000001000000010000001100060070726f672e6f3a5b6163745d000000000800\
 09003c0000000c000800a04f5eef06a7f5550400070024000100140000000000000014000000000000000000000000000000\
 000000000000000004000c001c000900000000000000000000000000000000000000000000000000",
-"ProgramByNumber"),
+RestoreError::ProgramByNumber),
 ];
 
 // A dump of four actions: uml61.dump.getaction.nat+nat+nat+nat.005.
@@ -311,101 +318,96 @@ static MPLS_RESTORED: &str =
 000003000000080005004d00000030000200090001006d706c7300000000200002801c000200060000000000000003000000\
 010000000000000004000000";
 
-// The bytes of a message in hex.
-fn text<M: Emitable>(alloc: Global, message: &M) -> Result<String, RestoreError> {
-    if !message.fits() {
-        return Ok(String::new(alloc));
-    }
-    let mut bytes = vec![in alloc; 0; message.buffer_len()]?;
-    message.emit(&mut bytes);
-    Ok(hex::encode(alloc, &bytes)?)
-}
-
-// The request that restores a dump, or why there is none.
-fn outcome(alloc: Global, object: Object, dump: &str) -> Result<String, Fail> {
-    let bytes = hex::decode(alloc, dump)?;
-    match request_of(alloc, object, TcMessage::parse(alloc, &bytes)?) {
-        Ok(request) if request.flags == NEW_FLAGS => Ok(text(alloc, &request.message)?),
-        Ok(_) => Ok(String::new(alloc)),
-        Err(e) => Ok(format!(in alloc; "{e:?}")?),
+// The request that restores a dump, in this memory, or why there is none.
+fn restored<'a>(
+    memory: &'a Failing<Global>,
+    object: Object,
+    dump: &[u8],
+) -> Result<Request<TcMessage<&'a Failing<Global>>>, RestoreError> {
+    match TcMessage::parse(memory, dump) {
+        Ok(dump) => request_of(memory, object, dump),
+        Err(_) => Err(RestoreError::OutOfMemory),
     }
 }
 
-// True if each dump comes to this.
-fn all_come_to(alloc: Global, rows: &[(Object, &str, &str)]) -> Result<bool, Fail> {
-    for (object, dump, wanted) in rows {
-        if outcome(alloc, *object, dump)?.as_str() != *wanted {
-            return Ok(false);
+// True if this request restores a dump.
+fn is_restored(alloc: Global, object: Object, dump: &str, digits: &str) -> Result<bool, Fail> {
+    let (dump, memory) = (hex::decode(alloc, dump)?, Failing::new(alloc, 0));
+    match restored(&memory, object, &dump) {
+        Ok(request) => {
+            Ok(
+                request.flags == NEW_FLAGS
+                    && request.message_type == object.new_type()
+                    && is_written(alloc, &request.message, digits),
+            )
         }
+        Err(_) => Ok(false),
     }
-    Ok(true)
+}
+
+// True if no request restores a dump, for this reason.
+fn is_refused(alloc: Global, object: Object, dump: &str, why: &RestoreError) -> Result<bool, Fail> {
+    let (dump, memory) = (hex::decode(alloc, dump)?, Failing::new(alloc, 0));
+    Ok(restored(&memory, object, &dump).err().as_ref() == Some(why))
 }
 
 #[test]
 fn dumps(rt: HostRuntime) -> Result<(), Fail> {
-    assert!(rt; all_come_to(rt.alloc(), &RESTORED)?);
-    assert!(rt; all_come_to(rt.alloc(), &REFUSED)?);
+    for (object, dump, digits) in &RESTORED {
+        assert!(rt; is_restored(rt.alloc(), *object, dump, digits)?, "{dump}");
+    }
+    for (object, dump, why) in &REFUSED {
+        assert!(rt; is_refused(rt.alloc(), *object, dump, why)?, "{dump}");
+    }
+    assert_eq!(rt; Object::Qdisc.new_type(), 36);
     Ok(())
 }
 
-// The request that restores a dump of actions; no text where it is of another type.
-fn restored_actions(alloc: Global, dump: &str) -> Result<String, Fail> {
-    let bytes = hex::decode(alloc, dump)?;
-    let request = request_of_actions(alloc, TcActionMessage::parse(alloc, &bytes)?)?;
-    if request.message_type == RTM_NEWACTION {
-        Ok(text(alloc, &request.message)?)
-    } else {
-        Ok(String::new(alloc))
-    }
-}
-
-// What restores a rate, with its two tables.
-fn police_restored(alloc: Global) -> Result<String, AllocError> {
-    let mut wanted = String::new(alloc);
-    for (at, piece) in POLICE_RESTORED.iter().enumerate() {
-        if at > 0 {
-            for _ in 0..1024 {
-                wanted.push_str("00")?;
-            }
+// True if this request restores a dump of actions.
+fn restores_actions(alloc: Global, dump: &str, digits: &str) -> Result<bool, Fail> {
+    match request_of_actions(alloc, action_message(alloc, dump)?) {
+        Ok(request) => {
+            Ok(request.message_type == RTM_NEWACTION && is_written(alloc, &request.message, digits))
         }
-        wanted.push_str(piece)?;
+        Err(_) => Ok(false),
     }
-    Ok(wanted)
 }
 
-// True if a dump of actions comes to this.
-fn comes_to(alloc: Global, dump: &str, wanted: &str) -> Result<bool, Fail> {
-    Ok(restored_actions(alloc, dump)?.as_str() == wanted)
+// True if a rate is restored with its two tables, each of 1024 zeros.
+fn restores_police(alloc: Global) -> Result<bool, Fail> {
+    let [front, between, end] = &POLICE_RESTORED;
+    let digits = format!(in alloc; "{front}{:0>2048}{between}{:0>2048}{end}", "", "")?;
+    restores_actions(alloc, POLICE, digits.as_str())
 }
 
 #[test]
 fn actions(rt: HostRuntime) -> Result<(), Fail> {
     let alloc = rt.alloc();
-    assert!(rt; comes_to(alloc, ACTIONS, ACTIONS_RESTORED)?);
-    assert!(rt; comes_to(alloc, POLICE, &police_restored(alloc)?)?);
-    assert!(rt; comes_to(alloc, MPLS, MPLS_RESTORED)?);
+    assert!(rt; restores_actions(alloc, ACTIONS, ACTIONS_RESTORED)?);
+    assert!(rt; restores_police(alloc)?);
+    assert!(rt; restores_actions(alloc, MPLS, MPLS_RESTORED)?);
     Ok(())
 }
 
-// The same over memory of which one request is refused.
-fn is_restored<A: Allocator + Copy>(alloc: A, bytes: &[u8]) -> bool {
-    match TcMessage::parse(alloc, bytes) {
-        Ok(dump) => request_of(alloc, Object::Filter, dump).is_ok(),
-        Err(_) => false,
-    }
+// True if a filter is restored over memory of which this request is refused; and whether it was.
+fn restored_at(alloc: Global, at: u64, dump: &[u8]) -> (bool, bool) {
+    let memory = Failing::new(alloc, at);
+    let is_restored = restored(&memory, Object::Filter, dump).is_ok();
+    (is_restored, memory.has_refused())
 }
 
 #[test]
 fn each_request_refused(rt: HostRuntime) -> Result<(), Fail> {
-    let bytes = hex::decode(rt.alloc(), RESTORED[1].1)?;
+    let bytes = hex::decode(rt.alloc(), RESTORED[2].1)?;
+    let mut refusals = 0;
     for at in 1..100u64 {
-        let failing = Failing::new(rt.alloc(), at);
-        let done = is_restored(&failing, &bytes);
-        assert!(rt; done != failing.has_refused());
-        if done {
-            assert!(rt; at > 10);
-            return Ok(());
+        let (is_restored, is_refused) = restored_at(rt.alloc(), at, &bytes);
+        assert!(rt; is_restored != is_refused, "request {at}");
+        if is_restored {
+            break;
         }
+        refusals = at;
     }
-    Err(Fail::new("a request never had its memory"))
+    assert!(rt; 10 <= refusals && refusals < 99, "{refusals} requests");
+    Ok(())
 }
