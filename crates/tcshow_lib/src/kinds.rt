@@ -4,7 +4,7 @@ use std::alloc::{AllocError, Allocator};
 use std::fmt;
 use tc_kinds::{ACTION_MESSAGE, TC_MESSAGE, TcTables};
 use tc_schema::{
-    LISTS, NamesAt, Noted, PLACES, all_names, kinds_of, knows_kind, notes_at_places, put_kind,
+    LISTS, Named, Noted, PLACES, all_names, kinds_of, knows_kind, notes_at_places, put_kind,
     put_schema,
 };
 
@@ -48,7 +48,7 @@ fn explain_by<A: Allocator + Copy>(
 // Puts what both lists of kinds have of one.
 fn put_kinds<A: Allocator>(
     notes: &[Noted<'static>],
-    names: &[NamesAt<'static>],
+    names: &[&'static [Named<'static>]],
     kind: &str,
     out: &mut Vec<u8, A>,
 ) -> Result<(), AllocError> {
