@@ -1,11 +1,10 @@
 //! Actions: known answers, worked actions, and what Linux sends.
 
 use crate::captured::{GACT_TOLD, MIRRED_SENT, MIRRED_TOLD, NAT_TOLD, TUNNEL_KEY_SENT};
-use crate::rows::{Row, RowUnder, are_known, are_known_under, are_written};
+use crate::rows::{Row, RowUnder, are_known, are_known_under, is_written};
 use failing_alloc::Failing;
 use nla_frames::{DecodeError, Nla, NlaBuffer, Parseable, Res, Settle};
 use std::alloc::{AllocError, Allocator, Global};
-use std::slice::from_ref;
 use std::test::Fail;
 use tc_actions::{TcAction, TcActionAttribute};
 
@@ -15,14 +14,14 @@ fn action(alloc: Global, frame: &[u8]) -> Res<TcAction> {
 }
 
 /// True if an action is settled as it has to be, and written as this frame.
-fn is_written<A: Allocator>(action: &TcAction<A>, frame: &[u8], is_settled: bool) -> bool {
-    action.is_settled() == is_settled && are_written(from_ref(action), frame)
+fn is_action<A: Allocator>(action: &TcAction<A>, frame: &[u8], is_settled: bool) -> bool {
+    action.is_settled() == is_settled && is_written(action, frame)
 }
 
 /// True if a frame is read as an action that is settled, and written as this frame.
 fn is_rewritten(alloc: Global, frame: &[u8], written: &[u8]) -> bool {
     match &action(alloc, frame) {
-        Ok(read) => is_written(read, written, true),
+        Ok(read) => is_action(read, written, true),
         Err(_) => false,
     }
 }
@@ -71,7 +70,7 @@ fn nat(alloc: Global) -> Result<Vec<TcActionAttribute>, AllocError> {
 /// True if an action of this word is written, and not settled.
 fn is_flagged(tab: u16, attributes: Vec<TcActionAttribute>) -> bool {
     let made = TcAction { tab, attributes };
-    is_written(
+    is_action(
         &made,
         &[12, 0, 1, 0x80, 8, 0, 1, 0, 0x6e, 0x61, 0x74, 0],
         false,
@@ -112,7 +111,7 @@ fn faults_of_an_action_have_their_order(rt: HostRuntime) {
 #[test]
 fn the_default_has_no_kind(rt: HostRuntime) {
     let default: TcAction = TcAction::default_in(rt.alloc());
-    assert!(rt; is_written(&default, &[4, 0, 1, 0], false));
+    assert!(rt; is_action(&default, &[4, 0, 1, 0], false));
 }
 
 // Attributes of the same value and of different types.
@@ -155,7 +154,7 @@ fn is_written_without_memory(
     action: &TcAction<&Failing<Global>>,
 ) -> bool {
     failing.refuse(1);
-    is_written(action, &NAT_TOLD, true) && !failing.has_refused()
+    is_action(action, &NAT_TOLD, true) && !failing.has_refused()
 }
 
 /// True if an action is read with all its memory, and false if a request was refused, for which the read fails; nothing where it does otherwise.

@@ -1,11 +1,8 @@
 //! Rows of bytes and of what they are read as, and the judges of such rows.
 
-use nla_frames::{
-    Nla, NlaBuffer, Parseable, ParseableParametrized, Res, Settle, emit_list, list_fits, list_len,
-};
+use nla_frames::{Nla, NlaBuffer, Parseable, ParseableParametrized, Res, Settle};
 use std::alloc::Global;
 use std::fmt::Debug;
-use std::slice::from_ref;
 use std::test::Fail;
 
 /// A frame, what it is read as, and what is written of that, empty where it is the same.
@@ -14,14 +11,14 @@ pub(crate) type Row = (&'static [u8], &'static str, &'static [u8]);
 /// A kind, a frame, and what it is read as under the kind.
 pub(crate) type RowUnder = (&'static str, &'static [u8], &'static str);
 
-/// True if attributes are written as these frames.
-pub(crate) fn are_written<T: Nla>(list: &[T], frames: &[u8]) -> bool {
+/// True if an attribute is written as this frame.
+pub(crate) fn is_written<T: Nla>(attribute: &T, frame: &[u8]) -> bool {
     let mut buffer = [0x55; 192];
-    if !list_fits(list) || list_len(list) != frames.len() || frames.len() > buffer.len() {
+    if !attribute.fits() || attribute.frame_len() != frame.len() || frame.len() > buffer.len() {
         return false;
     }
-    emit_list(list, &mut buffer);
-    &buffer[..frames.len()] == frames
+    attribute.emit_frame(&mut buffer);
+    &buffer[..frame.len()] == frame
 }
 
 /// True if a value has this `Debug` text.
@@ -34,7 +31,7 @@ pub(crate) fn is_shown<T: Debug>(alloc: Global, value: &T, text: &str) -> bool {
 
 /// True if an attribute has this text, and is written as this frame.
 fn is_attribute<T: Nla + Debug>(alloc: Global, attribute: &T, text: &str, written: &[u8]) -> bool {
-    is_shown(alloc, attribute, text) && are_written(from_ref(attribute), written)
+    is_shown(alloc, attribute, text) && is_written(attribute, written)
 }
 
 /// True if a frame is read as a value of this text, which is settled, and is written as it has to be.
