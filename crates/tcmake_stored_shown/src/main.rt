@@ -1,7 +1,10 @@
-//! What `tcshow --json` shows, made by `tcmake` again, for a stored run: messages in hex come back as they are.
+//! `tcshow` once more, for a stored run with the argument `--json`, on messages of each table, of tc and of kernels. Then what it shows of the
+//! messages of a file, made by `tcmake` again: messages in hex come back as they are.
 #![tactic(auto)]
 
-use std::io;
+use std::alloc::Global;
+use std::fs;
+use std::io::{self, IsTerminal, Print, Read, Write};
 use std::process::ExitCode;
 use tc_chosen::Chosen;
 use tc_kinds::{ACTION_MESSAGE, TC_MESSAGE, TcTables};
@@ -10,11 +13,31 @@ use tcmake_lib::arguments::{Making, Request};
 use tcmake_lib::message::Forms;
 use tcmake_lines::Form;
 use tcshow_lib::asked::Asked;
+use tcshow_lib::program::tcshow;
 
 fn main(rt: HostRuntime) -> ExitCode {
-    let alloc = rt.alloc();
-    let mut errors = rt.stderr();
-    let mut lines = Vec::new(alloc);
+    let status = tcshow(&rt, rt.stdout().is_terminal(), &mut rt.stderr());
+    if status != ExitCode::SUCCESS {
+        return status;
+    }
+    match fs::open(&rt, "messages") {
+        Ok(mut messages) => ExitCode::from(make_again(
+            &rt,
+            rt.alloc(),
+            &mut messages,
+            &mut rt.stderr(),
+        )),
+        Err(_) => ExitCode::FAILURE,
+    }
+}
+
+// Makes messages of what is shown of the messages of an input.
+fn make_again<R: Print, I: Read, E: Write>(
+    rt: &R,
+    alloc: Global,
+    messages: &mut I,
+    errors: &mut E,
+) -> u8 {
     let asked = Asked {
         form: tcshow_lib::asked::Form::Json,
         all: false,
@@ -23,14 +46,8 @@ fn main(rt: HostRuntime) -> ExitCode {
         names: Interfaces { names: &[] },
         has_summary: false,
     };
-    tcshow_lib::program::serve(
-        alloc,
-        alloc,
-        &asked,
-        &mut rt.reader(),
-        &mut lines,
-        &mut errors,
-    );
+    let mut lines = Vec::new(alloc);
+    tcshow_lib::program::serve(alloc, alloc, &asked, messages, &mut lines, errors);
     let forms = Forms {
         table: TcTables,
         tc: TC_MESSAGE,
@@ -44,13 +61,12 @@ fn main(rt: HostRuntime) -> ExitCode {
         verbose: false,
     };
     let mut shown = lines.as_slice();
-    let mut writer = io::writer(&rt);
-    ExitCode::from(tcmake_lib::program::serve(
+    tcmake_lib::program::serve(
         alloc,
         forms,
         &request,
         &mut shown,
-        &mut writer,
-        &mut errors,
-    ))
+        &mut io::writer(rt),
+        errors,
+    )
 }
