@@ -1,10 +1,11 @@
 //! Actions: known answers, worked actions, and what Linux sends.
 
 use crate::captured::{GACT_TOLD, MIRRED_SENT, MIRRED_TOLD, NAT_TOLD, TUNNEL_KEY_SENT};
-use crate::rows::{Row, RowUnder, are_known, are_known_under, is_written};
+use crate::rows::{Row, RowUnder, are_known, are_known_under, are_written};
 use failing_alloc::Failing;
 use nla_frames::{DecodeError, Nla, NlaBuffer, Parseable, Res, Settle};
-use std::alloc::{AllocError, Allocator, Global};
+use std::alloc::Global;
+use std::slice::from_ref;
 use std::test::Fail;
 use tc_actions::{TcAction, TcActionAttribute};
 
@@ -13,17 +14,14 @@ fn action(alloc: Global, frame: &[u8]) -> Res<TcAction> {
     TcAction::parse(alloc, &NlaBuffer::new_checked(frame)?)
 }
 
-/// True if an action is settled as it has to be, and written as this frame.
-fn is_action<A: Allocator>(action: &TcAction<A>, frame: &[u8], is_settled: bool) -> bool {
-    action.is_settled() == is_settled && is_written(action, frame)
-}
-
-/// True if a frame is read as an action that is settled, and written as this frame.
-fn is_rewritten(alloc: Global, frame: &[u8], written: &[u8]) -> bool {
-    match &action(alloc, frame) {
-        Ok(read) => is_action(read, written, true),
-        Err(_) => false,
+/// True if the action of a frame is settled, and is written as the frame, but for the flag at this place.
+fn is_rewritten(alloc: Global, frame: &[u8], flag: usize) -> Result<bool, Fail> {
+    let read = action(alloc, frame)?;
+    let mut written = frame.to_vec(alloc)?;
+    if let Some(byte) = written.get_mut(flag) {
+        *byte = 0x80;
     }
+    Ok(read.is_settled() && are_written(from_ref(&read), &written))
 }
 
 #[rattlefmt::skip]
@@ -59,28 +57,21 @@ fn are_read_and_written(rt: HostRuntime) -> Result<(), Fail> {
     are_known::<TcAction>(rt.alloc(), &ACTIONS)
 }
 
-/// A list of one attribute, the kind.
-fn nat(alloc: Global) -> Result<Vec<TcActionAttribute>, AllocError> {
-    let kind = TcActionAttribute::Kind("nat".to_string(alloc)?);
-    let mut attributes = Vec::new(alloc);
-    attributes.push(kind)?;
-    Ok(attributes)
-}
-
-/// True if an action of this word is written, and not settled.
-fn is_flagged(tab: u16, attributes: Vec<TcActionAttribute>) -> bool {
-    let made = TcAction { tab, attributes };
-    is_action(
-        &made,
-        &[12, 0, 1, 0x80, 8, 0, 1, 0, 0x6e, 0x61, 0x74, 0],
-        false,
-    )
-}
-
 // Made by hand, flags are written and not settled.
 #[test]
 fn flags_of_an_action_are_written(rt: HostRuntime) -> Result<(), Fail> {
-    assert!(rt; is_flagged(0x8001, nat(rt.alloc())?));
+    let alloc = rt.alloc();
+    let kind = TcActionAttribute::Kind("nat".to_string(alloc)?);
+    let mut made: TcAction = TcAction::default_in(alloc);
+    made.tab = 0x8001;
+    made.attributes.push(kind)?;
+    assert!(rt; !made.is_settled());
+    assert!(rt;
+        are_written(
+            from_ref(&made),
+            &[12, 0, 1, 0x80, 8, 0, 1, 0, 0x6e, 0x61, 0x74, 0]
+        )
+    );
     Ok(())
 }
 
@@ -111,7 +102,8 @@ fn faults_of_an_action_have_their_order(rt: HostRuntime) {
 #[test]
 fn the_default_has_no_kind(rt: HostRuntime) {
     let default: TcAction = TcAction::default_in(rt.alloc());
-    assert!(rt; is_action(&default, &[4, 0, 1, 0], false));
+    assert!(rt; !default.is_settled());
+    assert!(rt; are_written(from_ref(&default), &[4, 0, 1, 0]));
 }
 
 // Attributes of the same value and of different types.
@@ -121,63 +113,60 @@ fn an_index_is_no_count(rt: HostRuntime) {
     assert!(rt; index != TcActionAttribute::InHwCount(5));
 }
 
-/// True if a cookie of so many bytes fits.
-fn fits(alloc: Global, len: usize) -> Result<bool, AllocError> {
-    let cookie: TcActionAttribute = TcActionAttribute::Cookie(vec![in alloc; 0; len]?);
-    Ok(cookie.fits())
-}
-
 #[test]
 fn a_cookie_has_at_most_65531_bytes(rt: HostRuntime) -> Result<(), Fail> {
-    assert!(rt; fits(rt.alloc(), 65531)?);
-    assert!(rt; !fits(rt.alloc(), 65532)?);
+    let alloc = rt.alloc();
+    let fits: TcActionAttribute = TcActionAttribute::Cookie(vec![in alloc; 0; 65531]?);
+    assert!(rt; fits.fits());
+    let too_long: TcActionAttribute = TcActionAttribute::Cookie(vec![in alloc; 0; 65532]?);
+    assert!(rt; !too_long.fits());
     Ok(())
 }
 
 // What `tc` sends has the flag in the word of its options, and what Linux reports hasn't.
 #[test]
-fn options_are_written_with_the_nested_flag(rt: HostRuntime) {
-    let alloc = rt.alloc();
+fn options_are_written_with_the_nested_flag(rt: HostRuntime) -> Result<(), Fail> {
     for frame in [MIRRED_SENT.as_slice(), &TUNNEL_KEY_SENT, &NAT_TOLD] {
-        assert!(rt; is_rewritten(alloc, frame, frame), "{frame:?}");
+        assert!(rt; is_rewritten(rt.alloc(), frame, frame.len())?, "{frame:?}");
     }
-    let (mut gact, mut mirred) = (GACT_TOLD, MIRRED_TOLD);
-    gact[111] = 0x80;
-    mirred[107] = 0x80;
-    assert!(rt; is_rewritten(alloc, &GACT_TOLD, &gact));
-    assert!(rt; is_rewritten(alloc, &MIRRED_TOLD, &mirred));
+    for (frame, flag) in [(GACT_TOLD.as_slice(), 111), (&MIRRED_TOLD, 107)] {
+        assert!(rt; is_rewritten(rt.alloc(), frame, flag)?, "{frame:?}");
+    }
+    Ok(())
 }
 
 /// True if an action is settled and written as its frame, which takes no memory.
 fn is_written_without_memory(
     failing: &Failing<Global>,
     action: &TcAction<&Failing<Global>>,
+    frame: &[u8],
 ) -> bool {
     failing.refuse(1);
-    is_action(action, &NAT_TOLD, true) && !failing.has_refused()
+    action.is_settled() && are_written(from_ref(action), frame) && !failing.has_refused()
 }
 
-/// True if an action is read with all its memory, and false if a request was refused, for which the read fails; nothing where it does otherwise.
-fn is_read(failing: &Failing<Global>, frame: &NlaBuffer<'_>) -> Option<bool> {
-    match &TcAction::parse(failing, frame) {
-        Ok(action) if !failing.has_refused() && is_written_without_memory(failing, action) => {
-            Some(true)
+/// True if an action is read although the request of this number was to be refused: none had it. Where one was refused, the read fails for that.
+fn is_read(alloc: Global, frame: &[u8], at: u64) -> Result<bool, Fail> {
+    let failing = Failing::new(alloc, at);
+    let read = TcAction::parse(&failing, &NlaBuffer::new_checked(frame)?);
+    let is_right = match &read {
+        Ok(action) => {
+            !failing.has_refused() && is_written_without_memory(&failing, action, frame)
         }
-        Err(DecodeError::OutOfMemory) if failing.has_refused() => Some(false),
-        _ => None,
+        Err(fault) => failing.has_refused() && *fault == DecodeError::OutOfMemory,
+    };
+    if is_right {
+        Ok(read.is_ok())
+    } else {
+        Err(Fail::new(format_args!("request {at}")))
     }
 }
 
 #[test]
 fn every_refused_allocation_is_reported(rt: HostRuntime) -> Result<(), Fail> {
-    let failing = Failing::new(rt.alloc(), 0);
-    let frame = NlaBuffer::new_checked(&NAT_TOLD)?;
     let mut is_done = false;
     for at in 1..1000u64 {
-        failing.refuse(at);
-        let is_read = is_read(&failing, &frame);
-        assert!(rt; is_read.is_some(), "request {at}");
-        is_done = is_read == Some(true);
+        is_done = is_read(rt.alloc(), &NAT_TOLD, at)?;
         if is_done {
             break;
         }

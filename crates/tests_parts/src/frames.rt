@@ -30,22 +30,24 @@ static FAULTS: [(DecodeError, &str, &str); 11] = [
     (DecodeError::OutOfMemory, "out of memory", "OutOfMemory"),
 ];
 
-/// True if a fault is printed as this text.
-fn is_printed(alloc: Global, fault: &DecodeError, text: &str) -> bool {
-    match format!(in alloc; "{fault}") {
-        Ok(printed) => printed.as_str() == text,
-        Err(_) => false,
-    }
+/// True if a fault is printed as a text, and has a name.
+fn is_printed(
+    alloc: Global,
+    fault: &DecodeError,
+    text: &str,
+    name: &str,
+) -> Result<bool, AllocError> {
+    Ok(format!(in alloc; "{fault}")?.as_str() == text && fault.name() == name)
 }
 
 #[test]
-fn faults_are_printed_and_named(rt: HostRuntime) {
+fn faults_are_printed_and_named(rt: HostRuntime) -> Result<(), Fail> {
     for (fault, text, name) in &FAULTS {
-        assert!(rt;
-            is_printed(rt.alloc(), fault, text) && fault.name() == *name,
-            "{name}"
-        );
+        if !is_printed(rt.alloc(), fault, text, name)? {
+            return Err(Fail::new(*name));
+        }
     }
+    Ok(())
 }
 
 /// The attribute of an unknown type that the frame is.
@@ -53,17 +55,19 @@ fn unknown(alloc: Global) -> Result<DefaultNla, AllocError> {
     Ok(DefaultNla::new(99, [0xde, 0xad].to_vec(alloc)?))
 }
 
+/// True if two attributes that are kept are of this type, and equal.
+fn are_equal(kept: Res<DefaultNla>, other: Result<DefaultNla, AllocError>, kind: u16) -> bool {
+    match (&kept, &other) {
+        (Ok(kept), Ok(other)) => kept.kind() == kind && *kept == *other,
+        _ => false,
+    }
+}
+
 /// The attribute that the frame is read as.
 fn kept(alloc: Global) -> Res<DefaultNla> {
     DefaultNla::parse(alloc, &NlaBuffer::new_checked(&UNKNOWN)?)
 }
 
-/// True if an attribute is equal to its clone.
-fn is_cloned(kept: &DefaultNla) -> Result<bool, AllocError> {
-    Ok(kept.clone()? == *kept)
-}
-
-/// True if an attribute is written as the frame.
 fn is_emitted(kept: &DefaultNla) -> bool {
     let mut buffer = [0x55; 10];
     if !kept.fits() || kept.frame_len() > buffer.len() {
@@ -73,19 +77,12 @@ fn is_emitted(kept: &DefaultNla) -> bool {
     buffer == [0x06, 0, 0x63, 0, 0xde, 0xad, 0, 0, 0x55, 0x55]
 }
 
-/// True if what the frame is read as is this attribute, of its type.
-fn is_kept(kept: Res<DefaultNla>, unknown: &DefaultNla) -> bool {
-    match &kept {
-        Ok(kept) => kept.kind() == 99 && *kept == *unknown && is_emitted(kept),
-        Err(_) => false,
-    }
-}
-
 #[test]
 fn an_unknown_frame_is_kept(rt: HostRuntime) -> Result<(), Fail> {
-    let unknown = unknown(rt.alloc())?;
-    assert!(rt; is_kept(kept(rt.alloc()), &unknown));
-    assert!(rt; matches!(is_cloned(&unknown), Ok(true)));
+    let alloc = rt.alloc();
+    assert!(rt; are_equal(kept(alloc), unknown(alloc), 99));
+    assert!(rt; are_equal(kept(alloc), Ok(unknown(alloc)?.clone()?), 99));
+    assert!(rt; is_emitted(&kept(alloc)?));
     Ok(())
 }
 
@@ -123,14 +120,9 @@ fn is_list(list: &[DefaultNla]) -> bool {
 }
 
 #[test]
-fn lists_are_read(rt: HostRuntime) -> Result<(), Fail> {
+fn lists_and_texts_are_read(rt: HostRuntime) -> Result<(), Fail> {
     let list: Vec<DefaultNla> = parse_list(rt.alloc(), &FRAMES[..12])?;
     assert!(rt; is_list(&list));
-    Ok(())
-}
-
-#[test]
-fn texts_are_read(rt: HostRuntime) -> Result<(), Fail> {
     assert!(rt; parse_string(rt.alloc(), b"sfq\0")?.as_str() == "sfq");
     Ok(())
 }

@@ -58,14 +58,11 @@ fn is_written(alloc: Global, selector: &TcU32Selector) -> bool {
 
 #[test]
 fn offsets_and_masks_have_their_own_order(rt: HostRuntime) -> Result<(), Fail> {
-    assert!(rt; is_written(rt.alloc(), &with_key(rt.alloc(), 1)?));
-    Ok(())
-}
-
-#[test]
-fn more_keys_are_counted_than_there_are(rt: HostRuntime) -> Result<(), Fail> {
-    assert!(rt; !empty(rt.alloc(), 1).fits());
-    assert!(rt; !with_key(rt.alloc(), 2)?.fits());
+    let alloc = rt.alloc();
+    assert!(rt; is_written(alloc, &with_key(alloc, 1)?));
+    // more keys are counted than there are
+    assert!(rt; !empty(alloc, 1).fits());
+    assert!(rt; !with_key(alloc, 2)?.fits());
     Ok(())
 }
 

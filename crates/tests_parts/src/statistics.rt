@@ -29,7 +29,7 @@ fn fault_of_statistics(alloc: Global, bytes: &[u8]) -> Option<DecodeError> {
 }
 
 #[test]
-fn short_statistics(rt: HostRuntime) {
+fn short_statistics(rt: HostRuntime) -> Result<(), Fail> {
     let alloc = rt.alloc();
     let fault = DecodeError::XstatsShort { len: 0 };
     assert!(rt; fault_of_statistics(alloc, &[]) == Some(fault));
@@ -39,14 +39,10 @@ fn short_statistics(rt: HostRuntime) {
     assert!(rt; fault_of_statistics(alloc, &[0; 4]) == Some(fault));
     let fault = DecodeError::BufferTooSmall { len: 1, needed: 24 };
     assert!(rt; fault_of_statistics(alloc, &[1, 0, 0, 0, 7]) == Some(fault));
-}
-
-// Under any other kind they are kept.
-#[test]
-fn statistics_of_other_kinds(rt: HostRuntime) -> Result<(), Fail> {
+    // under any other kind they are kept
     let frame = NlaBuffer::new_checked(&[7, 0, 4, 0, 0xa1, 0xa2, 0xa3, 0])?;
-    let read = TcXstats::parse_with_param(rt.alloc(), &frame, "ingress")?;
-    assert!(rt; is_shown(rt.alloc(), &read, "Other([161, 162, 163])"));
+    let read = TcXstats::parse_with_param(alloc, &frame, "ingress")?;
+    assert!(rt; is_shown(alloc, &read, "Other([161, 162, 163])")?);
     Ok(())
 }
 
