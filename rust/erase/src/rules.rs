@@ -265,10 +265,11 @@ pub(crate) const UNKNOWN: &[&str] =
 
 /// Attributes that Rust has too, and macros: of `core` and `std`, and of the sources' own.
 pub(crate) const ATTRIBUTES: &[&str] = &["allow", "cfg", "default", "doc", "derive", "inline", "must_use", "repr", "rustfmt", "test"];
-pub(crate) const MACROS: &[&str] =
-    &["any_of", "assert", "assert_eq", "done", "flags", "format", "format_args", "macro_rules", "matches", "stringify", "unreachable", "value_parser", "write"];
+pub(crate) const MACROS: &[&str] = &[
+    "any_of", "assert", "assert_eq", "done", "flags", "format", "format_args", "macro_rules", "matches", "sent", "stringify", "unreachable", "value_parser",
+    "write",
+];
 
 /// Lints that erased modules don't meet: contracts used what is now unused, and some code is easier to prove than what clippy prefers.
-pub(crate) const LINTS: &str = "dead_code, missing_docs, unused_doc_comments, unused_imports, unused_labels, unused_variables, \
-    clippy::complexity, clippy::style, clippy::large_enum_variant, clippy::manual_unwrap_or_default, clippy::result_large_err, \
-    rustdoc::broken_intra_doc_links";
+pub(crate) const LINTS: &str = "dead_code, missing_docs, unused_doc_comments, unused_imports, unused_labels, unused_variables, clippy::complexity, \
+    clippy::style, clippy::large_enum_variant, clippy::manual_unwrap_or_default, clippy::result_large_err, rustdoc::broken_intra_doc_links";
