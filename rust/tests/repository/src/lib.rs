@@ -1,6 +1,7 @@
 //! The repository's tests of the codec, erased with it.
 #![cfg(test)]
 #![forbid(unsafe_code)]
+#![allow(unused_parens)] // what is left of a pair whose other half is an allocator
 
 extern crate alloc;
 
