@@ -12,15 +12,15 @@ use Rattle.nla_frames.proofs.Front.{next_frame_long, length-header}
 use Rattle.nla_frames.proofs.NextFrame.{Front-next_frame}
 use Rattle.nla_frames.proofs.Bytes.{IsBytes-take, IsBytes-drop}
 use Rattle.serde_json.specs.Data.{Data}
-use Rattle.tc_forms.specs.declared.form.Form.{Form}
-use Rattle.tc_forms.specs.Attributes.{first_or_tail, frames, tail_shown}
-use Rattle.tc_forms.specs.AttributesMade.{as_word, each_under}
-use Rattle.tc_forms.specs.Frames.{PaddedFrame, after_first, frame_at, frame_bytes}
-use Rattle.tc_forms.specs.Kinds.{kind_in, kind_named, own_kind, own_or, own_kind_named}
-use Rattle.tc_forms.specs.Raw.{or_raw, raw, raw_of}
-use Rattle.tc_forms.specs.Records.{each_made, elements, elements_of, joined}
-use Rattle.tc_forms.specs.Tables.{Table}
-use Rattle.tc_forms.proofs.Leaves.{raw_of-raw}
+use Rattle.tc_form_parts.specs.declared.form.Form.{Form}
+use Rattle.tc_form_parts.specs.Attributes.{first_or_tail, frames, tail_shown}
+use Rattle.tc_form_parts.specs.AttributesMade.{as_word, each_under}
+use Rattle.tc_form_parts.specs.Frames.{PaddedFrame, after_first, frame_at, frame_bytes}
+use Rattle.tc_form_parts.specs.Kinds.{kind_in, kind_named, own_kind, own_or, own_kind_named}
+use Rattle.tc_form_parts.specs.Raw.{or_raw, raw, raw_of}
+use Rattle.tc_form_parts.specs.Records.{each_made, elements, elements_of, joined}
+use Rattle.tc_form_parts.specs.Tables.{Table}
+use Rattle.tc_form_parts.proofs.Leaves.{raw_of-raw}
 
 -- what two parts are made, one after the other
 pub joined_made : (x y : Option (List ℕ)) (a b whole : List ℕ) → x ≡ Some a → y ≡ Some b → a ++ b ≡ whole → joined x y ≡ Some whole

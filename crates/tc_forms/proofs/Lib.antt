@@ -1,10 +1,7 @@
-pub mod Leaves
 pub mod Frames
 pub mod RecordsAgain
 pub mod Found
 pub mod Ordered
 pub mod Law
-pub mod Sending
+pub mod Showing
 pub mod Making
-pub mod Single
-pub mod FirstRows

@@ -1,43 +1,21 @@
 -- Records are made again of what is shown of them.
 use Rattle.std.proofs.Common.{◌≡◌, ℕ, inl, inr, Bool, true, false, List, [], ◌∷◌, ◌++◌, length, Option, Some, None, refl, ap, sym, ◌∙◌, cond, true≢false}
-use Rattle.std.proofs.Common.{Ordering, Less, Equal, Greater}
 use Rattle.std.specs.Prelude.{option_map, unwrap_or, replicate, ◌==◌, bytes_eq, codes, not, ◌&&◌}
-use Rattle.std.specs.Ordering.{match_ordering, nat_cmp, is_eq}
-use Rattle.std.specs.Cmp.Lexicographic.{slice_cmp}
 use Rattle.std.proofs.lemmas.Bool.{cases_Bool, cond_both, and_parts, eqb-true}
 use Rattle.std.proofs.lemmas.Slice.Eq.{bytes_eq-Decides}
 use Rattle.std.proofs.lemmas.List.{append-nil, take-append-drop}
-use Rattle.std.proofs.lemmas.Map.Text.{is_eq-slice_cmp}
 use Rattle.nla_frames.specs.Value.{IsBytes}
 use Rattle.nla_frames.proofs.Bytes.{IsBytes-take, IsBytes-drop, IsBytes-nil}
 use Rattle.serde_json.specs.Data.{Data, Members, no_members, member, string}
 use Rattle.serde_json.specs.Find.{get, get_member}
-use Rattle.tc_forms.specs.declared.form.Form.{Form}
-use Rattle.tc_forms.specs.Raw.{hex, hex_made}
-use Rattle.tc_forms.specs.Records.{after_field, all_zero, are_apart, field_made, field_member, field_of, fields_made, is_blank, is_free, is_pad, members}
-use Rattle.tc_forms.specs.Records.{rest_made, rest_member, zeros}
-use Rattle.tc_forms.specs.Tables.{Field, Table}
-use Rattle.tc_forms.specs.Widths.{field_width}
-use Rattle.tc_forms.proofs.Leaves.{all_zeros, same_bytes, hex_made-hex}
+use Rattle.tc_form_parts.specs.declared.form.Form.{Form}
+use Rattle.tc_form_parts.specs.Raw.{hex, hex_made}
+use Rattle.tc_form_parts.specs.Records.{after_field, all_zero, are_apart, field_made, field_member, field_of, fields_made, is_blank, is_free, is_pad, members}
+use Rattle.tc_form_parts.specs.Records.{rest_made, rest_member, zeros}
+use Rattle.tc_form_parts.specs.Tables.{Field, Table}
+use Rattle.tc_form_parts.specs.Widths.{field_width}
+use Rattle.tc_form_parts.proofs.Leaves.{all_zeros, same_bytes, hex_made-hex}
 use Rattle.tc_forms.proofs.Frames.{joined_made}
-
--- ---- members by their names
-
-found_at : (o : Ordering) (a b : Option Data) → is_eq o ≡ true → match_ordering o a b a ≡ b
-found_at Less a b e = absurd (true≢false (sym e))
-found_at Equal a b e = refl
-found_at Greater a b e = absurd (true≢false (sym e))
-
-passed_at : (o : Ordering) (a b : Option Data) → is_eq o ≡ false → match_ordering o a b a ≡ a
-passed_at Less a b e = refl
-passed_at Equal a b e = absurd (true≢false e)
-passed_at Greater a b e = refl
-
-pub here : (name : List ℕ) (d : Data) (ms : Members) → get_member name (member name d ms) ≡ Some d
-here name d ms = found_at (slice_cmp nat_cmp name name) (get_member name ms) (Some d) (is_eq-slice_cmp name name ∙ same_bytes name)
-
-pub passes : (name other : List ℕ) (d : Data) (ms : Members) → bytes_eq name other ≡ false → get_member name (member other d ms) ≡ get_member name ms
-passes name other d ms e = passed_at (slice_cmp nat_cmp name other) (get_member name ms) (Some d) (is_eq-slice_cmp name other ∙ e)
 
 pub not-false : (b : Bool) → not b ≡ true → b ≡ false
 not-false true e = absurd (true≢false (sym e))

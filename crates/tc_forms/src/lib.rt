@@ -17,28 +17,13 @@
 //! | `"rest":"dead"`, in a record | bytes behind its fields |
 #![tactic(auto)]
 
-mod attributes_made;
-mod attributes_shown;
-mod choices;
-mod error;
-mod events;
-mod form;
 mod laws;
 mod make;
-mod maker;
-mod numbers;
-mod places;
-mod records;
-mod rows;
 mod show;
-mod tables;
-mod values_made;
-mod values_shown;
-mod widths;
 
-pub use error::{MakeError, Wanted};
-pub use form::{Choice, Field, Form, KindRows, Name, Number, Part, Row};
 pub use laws::{shown_is_injective, shown_is_made};
 pub use make::made;
 pub use show::{Shown, send_shown};
-pub use tables::Tables;
+pub use tc_form_parts::{
+    Choice, Field, Form, KindRows, MakeError, Name, Number, Part, Row, Tables, Wanted,
+};

@@ -1,8 +1,8 @@
 -- Texts and numbers of a table, no two of which are the same.
 use Rattle.std.specs.Prelude.{Bool, List, [], bytes_eq, is_some, map, not, true, ℕ, ◌&&◌, ◌==◌, ◌∷◌}
 use Rattle.std.specs.List.{list_all}
-use Rattle.tc_forms.specs.Rows.{counts, is_reserved, shown_row, type_of}
-use Rattle.tc_forms.specs.Tables.{Choice, Kinds, Name, Part, Row}
+use Rattle.tc_form_parts.specs.Rows.{counts, is_reserved, shown_row, type_of}
+use Rattle.tc_form_parts.specs.Tables.{Choice, Kinds, Name, Part, Row}
 
 module _ {T : Type 0} (same : T → T → Bool) where
   -- x is none of these

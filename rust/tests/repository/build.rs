@@ -10,9 +10,7 @@ const TESTS: &[&str] = &[
     "tc_vectors",
     "tests_input",
     "tests_forms",
-    "tests_units",
     "tests_lines",
-    "tests_colours",
 ];
 
 /// Tests of how large Rattle's values are, of refused memory, of random bytes, and of lines of a program. Where a text isn't JSON, `serde_json` says another column than Rattle's.

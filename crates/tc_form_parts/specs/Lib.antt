@@ -1,0 +1,17 @@
+pub mod Appended
+pub mod Attributes
+pub mod AttributesMade
+pub mod Choices
+pub mod Frames
+pub mod Kinds
+pub mod Numbers
+pub mod Places
+pub mod Raw
+pub mod Records
+pub mod RowLists
+pub mod Rows
+pub mod Search
+pub mod Sent
+pub mod Tables
+pub mod Values
+pub mod Widths
