@@ -3,8 +3,8 @@ use Rattle.std.specs.Prelude.{List, [], refl, ℕ, ◌≡◌}
 use Rattle.tc_columns.specs.Tables.{all_columns, all_names}
 use Rattle.tc_columns.specs.declared.root.Root.{Root}
 use Rattle.tc_columns.specs.declared.root.Root.TheVariants as root
-use Rattle.tc_form_parts.specs.Places.{kind_place}
-use Rattle.tc_form_parts.specs.Tables.{Kinds, Part}
+use Rattle.tc_form_values.specs.Places.{kind_place}
+use Rattle.tc_form_values.specs.Tables.{Kinds, Part}
 use Rattle.tc_kinds.specs.Table.{tc_tables}
 use Rattle.tc_lines.specs.Columns.{Given, Table, interface_in}
 use Rattle.tc_lines.specs.Lines.{NONE}

@@ -2,12 +2,12 @@
 
 ghost use Rattle.std.specs.Prelude.{map, option_map, ◌≡◌};
 ghost use Rattle.tc_columns.specs.Kinds.{kind_table, none_there, root_place};
-ghost use Rattle.tc_form_parts.specs.Places.{kind_place};
-ghost use Rattle.tc_form_parts.specs.Tables.{kinds_view};
+ghost use Rattle.tc_form_values.specs.Places.{kind_place};
+ghost use Rattle.tc_form_values.specs.Tables.{kinds_view};
 ghost use Rattle.tc_lines.specs.Columns.{interface_in};
 
 use crate::tables;
-use tc_form_parts::{Form, KindRows, Part, Tables};
+use tc_form_values::{Form, KindRows, Part, Tables};
 use tc_kinds::{ACTION_MESSAGE, TC_MESSAGE, TcTables};
 use tc_lines::{Column, Columns};
 use tc_units::Name;

@@ -1,23 +1,23 @@
 -- What is found in the object that an attribute is shown as, and in what a reader of JSON makes of it.
-use Rattle.std.proofs.Common.{◌≡◌, ℕ, Bool, true, false, List, [], ◌∷◌, ◌++◌, length, Option, Some, None, refl, ap, sym, ◌∙◌, cond, true≢false, ◌-◌}
-use Rattle.std.proofs.Common.{suc, take, arith}
+use Rattle.std.proofs.Common.{◌≡◌, ℕ, Bool, true, false, List, [], ◌∷◌, ◌++◌, length, Option, Some, None, refl, ap, sym, ◌∙◌, cond, true≢false, ◌-◌, suc}
+use Rattle.std.proofs.Common.{take, arith}
 use Rattle.std.specs.Prelude.{option_map, bytes_eq, codes, not, ◌==◌, nat_le}
 use Rattle.std.proofs.lemmas.Bool.{cond_both, eqb-true, or_parts}
 use Rattle.nla_frames.specs.Frame.{padding}
 use Rattle.nla_frames.specs.Value.{strip, ends_in_nul}
 use Rattle.std.specs.Str.{is_utf8}
-use Rattle.tc_form_parts.specs.Kinds.{kind_text, kind_value}
+use Rattle.tc_form_attributes.specs.Kinds.{kind_text, kind_value}
 use Rattle.serde_json.specs.Data.{Data, boolean, number, string, object, unsigned, Members, no_members, member}
 use Rattle.serde_json.specs.Find.{get, get_member, as_str}
-use Rattle.tc_form_parts.specs.Attributes.{bare_member, kind_shown, pad_member, beside}
-use Rattle.tc_form_parts.specs.AttributesMade.{framed, pad_or, word_or}
-use Rattle.tc_form_parts.specs.Frames.{PaddedFrame, frame_bytes}
-use Rattle.tc_form_parts.specs.Raw.{hex}
-use Rattle.tc_form_parts.specs.Records.{is_blank}
-use Rattle.tc_form_parts.specs.Rows.{is_reserved}
-use Rattle.tc_form_parts.proofs.Leaves.{hex_made-hex}
+use Rattle.tc_form_attributes.specs.Attributes.{bare_member, kind_shown, pad_member, beside}
+use Rattle.tc_form_attributes.specs.AttributesMade.{framed, pad_or, word_or}
+use Rattle.tc_form_attributes.specs.Frames.{PaddedFrame, frame_bytes}
+use Rattle.tc_form_values.specs.Raw.{hex}
+use Rattle.tc_form_values.specs.Records.{is_blank}
+use Rattle.tc_form_values.specs.Names.{is_reserved}
+use Rattle.tc_form_values.proofs.Leaves.{hex_made-hex}
 use Rattle.tc_forms.proofs.Frames.{Stands}
-use Rattle.tc_form_parts.proofs.Members.{here, passes}
+use Rattle.tc_form_values.proofs.Members.{here, passes}
 use Rattle.tc_forms.proofs.RecordsAgain.{not-false, blank}
 
 -- ---- an attribute's object

@@ -1,6 +1,6 @@
 -- Frames, and elements one after the other, are made again of what is shown of them.
-use Rattle.std.proofs.Common.{◌≡◌, ℕ, zero, suc, ◌≤◌, ◌+◌, Bool, true, List, [], ◌∷◌, ◌++◌, length, take, drop, Option, Some, None, refl, ap, sym, ◌∙◌, cond}
-use Rattle.std.proofs.Common.{arith, append_assoc}
+use Rattle.std.proofs.Common.{◌≡◌, ℕ, zero, suc, ◌≤◌, ◌+◌, Bool, true, List, [], ◌∷◌, ◌++◌, length, take, drop, Option, Some, None, refl, ap, sym, ◌∙◌}
+use Rattle.std.proofs.Common.{cond, arith, append_assoc}
 use Rattle.std.specs.Prelude.{nat_le, ◌&&◌, unwrap_or, false}
 use Rattle.std.proofs.lemmas.Bool.{cond_both, and_parts, leb-true, le-leb}
 use Rattle.std.proofs.lemmas.List.{append-nil, take-append-drop, drop_at, length-append, length-drop, length-take}
@@ -12,15 +12,15 @@ use Rattle.nla_frames.proofs.Front.{next_frame_long, length-header}
 use Rattle.nla_frames.proofs.NextFrame.{Front-next_frame}
 use Rattle.nla_frames.proofs.Bytes.{IsBytes-take, IsBytes-drop}
 use Rattle.serde_json.specs.Data.{Data}
-use Rattle.tc_form_parts.specs.declared.form.Form.{Form}
-use Rattle.tc_form_parts.specs.Attributes.{first_or_tail, frames, tail_shown}
-use Rattle.tc_form_parts.specs.AttributesMade.{as_word, each_under}
-use Rattle.tc_form_parts.specs.Frames.{PaddedFrame, after_first, frame_at, frame_bytes}
-use Rattle.tc_form_parts.specs.Kinds.{kind_in, kind_named, own_kind, own_or, own_kind_named}
-use Rattle.tc_form_parts.specs.Raw.{or_raw, raw, raw_of}
-use Rattle.tc_form_parts.specs.Records.{each_made, elements, elements_of, joined}
-use Rattle.tc_form_parts.specs.Tables.{Table}
-use Rattle.tc_form_parts.proofs.Leaves.{raw_of-raw}
+use Rattle.tc_form_values.specs.declared.form.Form.{Form}
+use Rattle.tc_form_attributes.specs.Attributes.{first_or_tail, frames, tail_shown}
+use Rattle.tc_form_attributes.specs.AttributesMade.{as_word, each_under}
+use Rattle.tc_form_attributes.specs.Frames.{PaddedFrame, after_first, frame_at, frame_bytes}
+use Rattle.tc_form_attributes.specs.Kinds.{kind_in, kind_named, own_kind, own_or, own_kind_named}
+use Rattle.tc_form_values.specs.Raw.{or_raw, raw, raw_of}
+use Rattle.tc_form_values.specs.Records.{each_made, elements, elements_of, joined}
+use Rattle.tc_form_values.specs.Tables.{Table}
+use Rattle.tc_form_values.proofs.Leaves.{raw_of-raw}
 
 -- what two parts are made, one after the other
 pub joined_made : (x y : Option (List ℕ)) (a b whole : List ℕ) → x ≡ Some a → y ≡ Some b → a ++ b ≡ whole → joined x y ≡ Some whole

@@ -1,7 +1,7 @@
 -- Bytes are made again of what is shown of them, by any table, in any form and under any kind.
-use Rattle.tc_form_parts.specs.declared.form.Form.TheVariants as form
-use Rattle.std.proofs.Common.{◌≡◌, ℕ, zero, suc, inl, inr, Bool, true, false, List, [], ◌∷◌, ◌++◌, length, take, drop, Option, Some, None, refl, ap, sym, ◌∙◌}
-use Rattle.std.proofs.Common.{cond, true≢false, subst, arith}
+use Rattle.tc_form_values.specs.declared.form.Form.TheVariants as form
+use Rattle.std.proofs.Common.{◌≡◌, ℕ, zero, suc, inl, inr, Bool, true, false, List, [], ◌∷◌, ◌++◌, length, take, drop, Option, Some, None, refl, ap, sym}
+use Rattle.std.proofs.Common.{◌∙◌, cond, true≢false, subst, arith}
 use Rattle.std.specs.Prelude.{option_and_then, option_map, unwrap_or, bytes_eq, codes, ◌&&◌, ◌||◌, ◌==◌, ◌-◌, slice_index, not}
 use Rattle.std.specs.Str.{is_utf8}
 use Rattle.std.proofs.lemmas.Bool.{cases_Bool, cond_both, and_parts, eqb-true, eq-eqb}
@@ -11,34 +11,35 @@ use Rattle.nla_frames.specs.Value.{IsBytes, ends_in_nul}
 use Rattle.nla_frames.proofs.Bytes.{IsBytes-drop}
 use Rattle.serde_json.specs.Data.{Data, number, string, array, object, unsigned, no_members, member, boolean, item, Members, Items, no_items}
 use Rattle.serde_json.specs.Find.{get, as_str}
-use Rattle.tc_form_parts.specs.declared.form.Number.{Number}
-use Rattle.tc_form_parts.specs.declared.form.Form.{Form}
-use Rattle.tc_form_parts.specs.Attributes.{attribute, by_kind, by_row, frames, indexed, layered, pad_member, bare_member, first_or_tail, tail_shown, beside}
-use Rattle.tc_form_parts.specs.Attributes.{kind_shown, word_and_hex}
-use Rattle.tc_form_parts.specs.AttributesMade.{attribute_made, by_kind_made, by_row_made, each_under, indexed_made, kinded_made, layered_made, row_made, unlayered}
-use Rattle.tc_form_parts.specs.AttributesMade.{word_made, word_or}
-use Rattle.tc_form_parts.specs.Choices.{by_choice, by_choice_made, choice_made, chosen, follows, is_choice, other_or}
-use Rattle.tc_form_parts.specs.Frames.{PaddedFrame, frame_bytes, after_first, front}
-use Rattle.tc_form_parts.specs.Kinds.{kind_text, kind_value, kind_in, kind_named, own_kind, own_kind_named}
+use Rattle.tc_form_values.specs.declared.form.Number.{Number}
+use Rattle.tc_form_values.specs.declared.form.Form.{Form}
+use Rattle.tc_form_attributes.specs.Attributes.{attribute, by_kind, by_row, frames, indexed, layered, pad_member, bare_member, first_or_tail, tail_shown}
+use Rattle.tc_form_attributes.specs.Attributes.{beside, kind_shown, word_and_hex}
+use Rattle.tc_form_attributes.specs.AttributesMade.{attribute_made, by_kind_made, by_row_made, each_under, indexed_made, kinded_made, layered_made}
+use Rattle.tc_form_attributes.specs.AttributesMade.{row_made, unlayered, word_made, word_or}
+use Rattle.tc_form_values.specs.Choices.{by_choice, by_choice_made, choice_made, chosen, follows, is_choice, other_or}
+use Rattle.tc_form_attributes.specs.Frames.{PaddedFrame, frame_bytes, after_first, front}
+use Rattle.tc_form_attributes.specs.Kinds.{kind_text, kind_value, kind_in, kind_named, own_kind, own_kind_named}
 use Rattle.tc_forms.specs.Made.{in_form, make}
-use Rattle.tc_form_parts.specs.Numbers.{bits_of, bytes_of, is_number, name_of, named_made, named_or, num, number_of}
-use Rattle.tc_form_parts.specs.Places.{choices_of, fields_of, form_of, layer_of, names_of, part_at, rows_under}
-use Rattle.tc_form_parts.specs.Raw.{hex, hex_made, hex_of, of_length, one, or_raw, raw, raw_of}
-use Rattle.tc_form_parts.specs.Records.{are_enough, members, names_apart, after_field, are_apart, each_made, elements, elements_of, field_of, is_blank, is_free}
-use Rattle.tc_form_parts.specs.Records.{is_pad}
-use Rattle.tc_form_parts.specs.Rows.{counts, of_type, shown_row, type_of}
-use Rattle.tc_form_parts.specs.Search.{first, held}
+use Rattle.tc_form_values.specs.Numbers.{bits_of, bytes_of, is_number, name_of, named_made, named_or, num, number_of}
+use Rattle.tc_form_values.specs.Places.{choices_of, fields_of, form_of, layer_of, names_of, part_at, rows_under}
+use Rattle.tc_form_values.specs.Raw.{hex, hex_made, hex_of, of_length, one, or_raw, raw, raw_of}
+use Rattle.tc_form_values.specs.Records.{are_enough, members, names_apart, after_field, are_apart, each_made, elements, elements_of, field_of, is_blank}
+use Rattle.tc_form_values.specs.Records.{is_free, is_pad}
+use Rattle.tc_form_attributes.specs.Rows.{counts, of_type, shown_row, type_of}
+use Rattle.tc_form_values.specs.Search.{first, held}
 use Rattle.tc_forms.specs.Shown.{show, shown}
-use Rattle.tc_form_parts.specs.Tables.{Choice, Row, Table, Field, Name}
-use Rattle.tc_form_parts.specs.Values.{text_in, text_or_raw, truth_made, plain_shown}
-use Rattle.tc_form_parts.specs.Widths.{fixed, number_width, field_width}
-use Rattle.tc_form_parts.proofs.Leaves.{hex_made-hex, raw_of-raw, mac_of-mac_text, ipv4_of-ipv4_text, ipv6_of-ipv6_text, number_again, handle_again}
-use Rattle.tc_form_parts.proofs.Leaves.{bytes_of-bits_of}
+use Rattle.tc_form_values.specs.Tables.{Choice, Row, Table, Field, Name}
+use Rattle.tc_form_values.specs.Values.{text_in, text_or_raw, truth_made, plain_shown}
+use Rattle.tc_form_values.specs.Widths.{fixed, number_width, field_width}
+use Rattle.tc_form_values.proofs.Leaves.{hex_made-hex, raw_of-raw, mac_of-mac_text, ipv4_of-ipv4_text, ipv6_of-ipv6_text, number_again, handle_again}
+use Rattle.tc_form_values.proofs.Leaves.{bytes_of-bits_of}
 use Rattle.tc_forms.proofs.Frames.{Stands, frames_again, own_again, elements_of-again}
 use Rattle.tc_forms.proofs.RecordsAgain.{swapped, absent, not-false, fields_again}
-use Rattle.tc_form_parts.proofs.Members.{here, passes}
-use Rattle.tc_forms.proofs.Found.{bare_seen, kind_finds, kind_again, get_pad_member, not_pad_member, pad_seen, Finds, finds, word_again, framed_again, plain}
-use Rattle.tc_form_parts.proofs.Search.{none_not_some, some_is, Guarded, guarded, held_again}
+use Rattle.tc_form_values.proofs.Members.{here, passes}
+use Rattle.tc_forms.proofs.Found.{bare_seen, kind_finds, kind_again, get_pad_member, not_pad_member, pad_seen, Finds, finds, word_again, framed_again}
+use Rattle.tc_forms.proofs.Found.{plain}
+use Rattle.tc_form_values.proofs.Search.{none_not_some, some_is, Guarded, guarded, held_again}
 use Rattle.nla_frames.specs.Frame.{padding}
 use Rattle.tc_forms.specs.Ordered.{ordered}
 use Rattle.tc_forms.proofs.Ordered.{Apart, Reader, as_it_is, in_order, each_item, pad_apart, named_apart, kind_apart}

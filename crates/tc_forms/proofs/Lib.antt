@@ -1,7 +1,7 @@
-pub mod Frames
+mod Frames
 pub mod RecordsAgain
 pub mod Found
 pub mod Ordered
 pub mod Law
-pub mod Showing
-pub mod Making
+mod Showing
+mod Making

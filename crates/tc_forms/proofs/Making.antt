@@ -1,26 +1,26 @@
 -- What is left to append of items, fields and attributes, and of what is within them.
-use Rattle.std.proofs.Common.{◌≡◌, ℕ, zero, suc, ◌+◌, ◌-◌, ◌<◌, ◌≤◌, List, [], ◌++◌, length, get_or, drop, Option}
-use Rattle.std.proofs.Common.{Some, None, Result, Ok, Err, refl, subst, sym, ap, ◌∙◌, append-nil, append_assoc, arith}
+use Rattle.std.proofs.Common.{◌≡◌, ℕ, zero, suc, ◌+◌, ◌-◌, ◌<◌, ◌≤◌, List, [], ◌++◌, length, get_or, drop, Option, Some, None, Result, Ok, Err, refl}
+use Rattle.std.proofs.Common.{subst, sym, ap, ◌∙◌, append-nil, append_assoc, arith}
 use Rattle.std.specs.Prelude.{option_map, unwrap_or, option_and_then, Bool, codes, false}
 use Rattle.serde_json.specs.Find.{get}
-use Rattle.tc_form_parts.specs.AttributesMade.{each_under, listed_made}
-use Rattle.tc_form_parts.specs.Tables.{Row, Table, field_view, fields_view}
+use Rattle.tc_form_attributes.specs.AttributesMade.{each_under, listed_made}
+use Rattle.tc_form_values.specs.Tables.{Row, Table, field_view, fields_view}
 use Rattle.std.proofs.lemmas.List.{drop_all}
-use Rattle.tc_form_parts.proofs.Search.{none_not_some, some_is}
+use Rattle.tc_form_values.proofs.Search.{none_not_some, some_is}
 use Rattle.tc_forms.proofs.Showing.{drop_here}
-use Rattle.tc_form_parts.specs.Appended.{Appended, Stops}
-use Rattle.tc_form_parts.specs.Kinds.{kind_named, own_kind_named}
+use Rattle.tc_form_values.specs.Appended.{Appended, Stops}
+use Rattle.tc_form_attributes.specs.Kinds.{kind_named, own_kind_named}
 use Rattle.tc_forms.specs.Made.{in_form, make}
-use Rattle.tc_form_parts.specs.Raw.{or_raw, raw_of}
-use Rattle.tc_form_parts.specs.Records.{each_made, field_made, fields_made, joined, rest_made}
-use Rattle.tc_form_parts.specs.Values.{plain_made}
+use Rattle.tc_form_values.specs.Raw.{or_raw, raw_of}
+use Rattle.tc_form_values.specs.Records.{each_made, field_made, fields_made, joined, rest_made}
+use Rattle.tc_form_values.specs.Values.{plain_made}
 use Rattle.serde_json.specs.Data.{Data, Items}
 use Rattle.serde_json.specs.View.{view, items_view}
 use Rattle.serde_json.specs.declared.value.Value.{Value}
-use Rattle.tc_form_parts.specs.declared.maker.Stop.{Stop}
-use Rattle.tc_form_parts.specs.declared.form.Form.{Form}
-use Rattle.tc_form_parts.specs.declared.form.Field.{Field as CodeField}
-use Rattle.tc_form_parts.specs.declared.form.Form.TheVariants as form
+use Rattle.tc_form_values.specs.declared.maker.Stop.{Stop}
+use Rattle.tc_form_values.specs.declared.form.Form.{Form}
+use Rattle.tc_form_values.specs.declared.form.Field.{Field as CodeField}
+use Rattle.tc_form_values.specs.declared.form.Form.TheVariants as form
 
 -- ---- what is left to append
 

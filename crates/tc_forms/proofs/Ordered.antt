@@ -8,14 +8,14 @@ use Rattle.nla_frames.specs.Frame.{padding}
 use Rattle.serde_json.specs.Data.{Data, Num, number, string, boolean, array, object, unsigned, Items, no_items, item, Members, no_members, member, put}
 use Rattle.serde_json.specs.Find.{as_str, get, get_member}
 use Rattle.serde_json.proofs.Views.{get_member-put, get_member-put_other}
-use Rattle.tc_form_parts.specs.Attributes.{bare_member, pad_member, beside}
-use Rattle.tc_form_parts.specs.Frames.{PaddedFrame}
+use Rattle.tc_form_attributes.specs.Attributes.{bare_member, pad_member, beside}
+use Rattle.tc_form_attributes.specs.Frames.{PaddedFrame}
 use Rattle.tc_forms.specs.Ordered.{ordered, ordered_items, ordered_members}
-use Rattle.tc_form_parts.specs.Raw.{hex, one}
-use Rattle.tc_form_parts.specs.Records.{is_blank}
-use Rattle.tc_form_parts.proofs.Members.{here, passes}
+use Rattle.tc_form_values.specs.Raw.{hex, one}
+use Rattle.tc_form_values.specs.Records.{is_blank}
+use Rattle.tc_form_values.proofs.Members.{here, passes}
 use Rattle.tc_forms.proofs.Found.{get_bare_member, no_bare_beside, not_pad_member, get_beside}
-use Rattle.tc_form_parts.proofs.Search.{none_not_some}
+use Rattle.tc_form_values.proofs.Search.{none_not_some}
 
 -- ---- what is shown names each member once
 

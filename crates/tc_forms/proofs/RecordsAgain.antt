@@ -8,13 +8,13 @@ use Rattle.nla_frames.specs.Value.{IsBytes}
 use Rattle.nla_frames.proofs.Bytes.{IsBytes-take, IsBytes-drop, IsBytes-nil}
 use Rattle.serde_json.specs.Data.{Data, Members, no_members, member, string}
 use Rattle.serde_json.specs.Find.{get, get_member}
-use Rattle.tc_form_parts.specs.declared.form.Form.{Form}
-use Rattle.tc_form_parts.specs.Raw.{hex, hex_made}
-use Rattle.tc_form_parts.specs.Records.{after_field, all_zero, are_apart, field_made, field_member, field_of, fields_made, is_blank, is_free, is_pad, members}
-use Rattle.tc_form_parts.specs.Records.{rest_made, rest_member, zeros}
-use Rattle.tc_form_parts.specs.Tables.{Field, Table}
-use Rattle.tc_form_parts.specs.Widths.{field_width}
-use Rattle.tc_form_parts.proofs.Leaves.{all_zeros, same_bytes, hex_made-hex}
+use Rattle.tc_form_values.specs.declared.form.Form.{Form}
+use Rattle.tc_form_values.specs.Raw.{hex, hex_made}
+use Rattle.tc_form_values.specs.Records.{after_field, all_zero, are_apart, field_made, field_member, field_of, fields_made, is_blank, is_free, is_pad}
+use Rattle.tc_form_values.specs.Records.{members, rest_made, rest_member, zeros}
+use Rattle.tc_form_values.specs.Tables.{Field, Table}
+use Rattle.tc_form_values.specs.Widths.{field_width}
+use Rattle.tc_form_values.proofs.Leaves.{all_zeros, same_bytes, hex_made-hex}
 use Rattle.tc_forms.proofs.Frames.{joined_made}
 
 pub not-false : (b : Bool) → not b ≡ true → b ≡ false

@@ -1,24 +1,24 @@
 -- What is sent of frames, elements and fields, one after the other, and of what is within them.
-use Rattle.std.proofs.Common.{◌≡◌, ℕ, zero, suc, ◌+◌, ◌-◌, ◌<◌, ◌≤◌, true, false, List, [], ◌∷◌, length, drop, take, Some, None, refl, subst}
-use Rattle.std.proofs.Common.{◌∙◌, sym, ap, append-nil, arith, get_or, Result}
+use Rattle.std.proofs.Common.{◌≡◌, ℕ, zero, suc, ◌+◌, ◌-◌, ◌<◌, ◌≤◌, true, false, List, [], ◌∷◌, length, drop, take, Some, None, refl, subst, ◌∙◌, sym}
+use Rattle.std.proofs.Common.{ap, append-nil, arith, get_or, Result}
 use Rattle.std.specs.Prelude.{◌==◌, Bool, OnOk, unwrap_or}
 use Rattle.std.proofs.lemmas.Bool.{eq-eqb, eqb-true, true≢false}
 use Rattle.serde.specs.Event.{Log}
-use Rattle.tc_form_parts.specs.declared.form.Form.TheVariants as form
+use Rattle.tc_form_values.specs.declared.form.Form.TheVariants as form
 use Rattle.std.proofs.lemmas.List.{drop_all}
-use Rattle.tc_form_parts.specs.Attributes.{first_or_tail, frames, tail_shown}
-use Rattle.tc_form_parts.specs.Frames.{PaddedFrame, after_first, front}
-use Rattle.tc_form_parts.specs.Kinds.{kind_in}
-use Rattle.tc_form_parts.specs.Raw.{raw}
-use Rattle.tc_form_parts.specs.Records.{after_field, elements, field_member, field_of, members, rest_member}
-use Rattle.tc_form_parts.specs.Sent.{Sent, events, items_events, members_events}
+use Rattle.tc_form_attributes.specs.Attributes.{first_or_tail, frames, tail_shown}
+use Rattle.tc_form_attributes.specs.Frames.{PaddedFrame, after_first, front}
+use Rattle.tc_form_attributes.specs.Kinds.{kind_in}
+use Rattle.tc_form_values.specs.Raw.{raw}
+use Rattle.tc_form_values.specs.Records.{after_field, elements, field_member, field_of, members, rest_member}
+use Rattle.tc_form_values.specs.Sent.{Sent, events, items_events, members_events}
 use Rattle.tc_forms.specs.Shown.{show, shown}
-use Rattle.tc_form_parts.specs.Tables.{Table, field_view, fields_view, no_table}
-use Rattle.tc_form_parts.specs.Values.{plain_shown}
-use Rattle.tc_form_parts.specs.Widths.{field_width}
-use Rattle.tc_form_parts.specs.declared.form.Form.{Form}
-use Rattle.tc_form_parts.specs.declared.form.Number.{Number}
-use Rattle.tc_form_parts.specs.declared.form.Field.{Field as CodeField}
+use Rattle.tc_form_values.specs.Tables.{Table, field_view, fields_view, no_table}
+use Rattle.tc_form_values.specs.Values.{plain_shown}
+use Rattle.tc_form_values.specs.Widths.{field_width}
+use Rattle.tc_form_values.specs.declared.form.Form.{Form}
+use Rattle.tc_form_values.specs.declared.form.Number.{Number}
+use Rattle.tc_form_values.specs.declared.form.Field.{Field as CodeField}
 use Rattle.serde_json.specs.Data.{Data, Members}
 
 pub drop_here : {X : Type 0} (xs : List X) (i : ℕ) (d : X) → i < length xs → drop i xs ≡ get_or xs i d ∷ drop (i + 1) xs

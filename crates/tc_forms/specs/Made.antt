@@ -2,17 +2,17 @@
 use Rattle.std.specs.Prelude.{List, Option, [], false, option_and_then, suc, true, zero, ℕ}
 use Rattle.serde_json.specs.Data.{Data}
 use Rattle.serde_json.specs.Find.{as_array}
-use Rattle.tc_form_parts.specs.AttributesMade.{each_under, indexed_made, kinded_made, layered_made}
-use Rattle.tc_form_parts.specs.Choices.{by_choice_made}
-use Rattle.tc_form_parts.specs.Kinds.{own_kind_named}
-use Rattle.tc_form_parts.specs.Places.{choices_of, fields_of, form_of, part_at}
-use Rattle.tc_form_parts.specs.Raw.{or_raw, raw_of}
-use Rattle.tc_form_parts.specs.Records.{each_made, fields_made}
-use Rattle.tc_form_parts.specs.Tables.{Table}
-use Rattle.tc_form_parts.specs.Values.{plain_made}
-use Rattle.tc_form_parts.specs.Widths.{deepest}
-use Rattle.tc_form_parts.specs.declared.form.Form.{Form}
-use Rattle.tc_form_parts.specs.declared.form.Form.TheVariants as form
+use Rattle.tc_form_attributes.specs.AttributesMade.{each_under, indexed_made, kinded_made, layered_made}
+use Rattle.tc_form_values.specs.Choices.{by_choice_made}
+use Rattle.tc_form_attributes.specs.Kinds.{own_kind_named}
+use Rattle.tc_form_values.specs.Places.{choices_of, fields_of, form_of, part_at}
+use Rattle.tc_form_values.specs.Raw.{or_raw, raw_of}
+use Rattle.tc_form_values.specs.Records.{each_made, fields_made}
+use Rattle.tc_form_values.specs.Tables.{Table}
+use Rattle.tc_form_values.specs.Values.{plain_made}
+use Rattle.tc_form_values.specs.Widths.{deepest}
+use Rattle.tc_form_values.specs.declared.form.Form.{Form}
+use Rattle.tc_form_values.specs.declared.form.Form.TheVariants as form
 
 -- `Inner` makes what is within
 module _ (table : Table) (Inner : List ℕ → Form → Data → Option (List ℕ)) where

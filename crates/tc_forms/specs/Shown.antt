@@ -1,17 +1,17 @@
 -- What is shown of bytes in a form, by a table, under a kind. What doesn't follow its form is shown raw.
 use Rattle.std.specs.Prelude.{List, [], false, if◌then◌else◌, length, suc, true, zero, ℕ, ◌&&◌}
 use Rattle.serde_json.specs.Data.{Data, array, object}
-use Rattle.tc_form_parts.specs.Attributes.{attribute, frames, indexed, layered}
-use Rattle.tc_form_parts.specs.Choices.{by_choice, chosen}
-use Rattle.tc_form_parts.specs.Kinds.{own_kind}
-use Rattle.tc_form_parts.specs.Places.{choices_of, fields_of, form_of, layer_of, part_at, rows_under}
-use Rattle.tc_form_parts.specs.Raw.{raw}
-use Rattle.tc_form_parts.specs.Records.{are_enough, elements_of, members, names_apart}
-use Rattle.tc_form_parts.specs.Tables.{Table}
-use Rattle.tc_form_parts.specs.Values.{plain_shown}
-use Rattle.tc_form_parts.specs.Widths.{deepest, fixed}
-use Rattle.tc_form_parts.specs.declared.form.Form.{Form}
-use Rattle.tc_form_parts.specs.declared.form.Form.TheVariants as form
+use Rattle.tc_form_attributes.specs.Attributes.{attribute, frames, indexed, layered}
+use Rattle.tc_form_values.specs.Choices.{by_choice, chosen}
+use Rattle.tc_form_attributes.specs.Kinds.{own_kind}
+use Rattle.tc_form_values.specs.Places.{choices_of, fields_of, form_of, layer_of, part_at, rows_under}
+use Rattle.tc_form_values.specs.Raw.{raw}
+use Rattle.tc_form_values.specs.Records.{are_enough, elements_of, members, names_apart}
+use Rattle.tc_form_values.specs.Tables.{Table}
+use Rattle.tc_form_values.specs.Values.{plain_shown}
+use Rattle.tc_form_values.specs.Widths.{deepest, fixed}
+use Rattle.tc_form_values.specs.declared.form.Form.{Form}
+use Rattle.tc_form_values.specs.declared.form.Form.TheVariants as form
 
 -- `Inner` shows what is within
 module _ (table : Table) (Inner : List ℕ → Form → List ℕ → Data) where

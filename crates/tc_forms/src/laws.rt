@@ -5,7 +5,7 @@ ghost use Rattle.tc_forms.specs.Made.{made_of};
 ghost use Rattle.tc_forms.specs.Ordered.{ordered};
 ghost use Rattle.tc_forms.specs.Shown.{shown_of};
 
-use tc_form_parts::{Form, Tables};
+use tc_form_values::{Form, Tables};
 
 /// Whatever the table, the form and the bytes are: what is shown of the bytes is made into these bytes, and so is what a
 /// reader of JSON makes of it, which puts members in the order of their names.

@@ -24,6 +24,6 @@ mod show;
 pub use laws::{shown_is_injective, shown_is_made};
 pub use make::made;
 pub use show::{Shown, send_shown};
-pub use tc_form_parts::{
+pub use tc_form_values::{
     Choice, Field, Form, KindRows, MakeError, Name, Number, Part, Row, Tables, Wanted,
 };

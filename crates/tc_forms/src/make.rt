@@ -3,32 +3,32 @@
 ghost use Rattle.serde_json.specs.Find.{as_array, get};
 ghost use Rattle.serde_json.specs.View.{view};
 ghost use Rattle.std.specs.Prelude.{[], codes, false, option_and_then, option_map, true, ◌≡◌};
-ghost use Rattle.tc_form_parts.specs.Appended.{Appended, Found};
-ghost use Rattle.tc_form_parts.specs.AttributesMade.{attribute_made, by_row_made, each_under, framed, framed_with, layered_by, listed_made, word_made, word_or};
-ghost use Rattle.tc_form_parts.specs.Choices.{by_choice_made, choice_made, is_choice};
-ghost use Rattle.tc_form_parts.specs.Kinds.{own_kind_named};
-ghost use Rattle.tc_form_parts.specs.Places.{rows_under};
+ghost use Rattle.tc_form_values.specs.Appended.{Appended, Found};
+ghost use Rattle.tc_form_attributes.specs.AttributesMade.{attribute_made, by_row_made, each_under, framed, framed_with, layered_by, listed_made, word_made, word_or};
+ghost use Rattle.tc_form_values.specs.Choices.{by_choice_made, choice_made, is_choice};
+ghost use Rattle.tc_form_attributes.specs.Kinds.{own_kind_named};
+ghost use Rattle.tc_form_values.specs.Places.{rows_under};
 ghost use Rattle.tc_forms.specs.Made.{in_form, made_of, make};
-ghost use Rattle.tc_form_parts.specs.Raw.{or_raw, raw_of};
-ghost use Rattle.tc_form_parts.specs.Records.{each_made, field_made, fields_made};
-ghost use Rattle.tc_form_parts.specs.RowLists.{rows_in};
-ghost use Rattle.tc_form_parts.specs.Search.{held};
-ghost use Rattle.tc_form_parts.specs.Tables.{choices_view, field_view, fields_view};
+ghost use Rattle.tc_form_values.specs.Raw.{or_raw, raw_of};
+ghost use Rattle.tc_form_values.specs.Records.{each_made, field_made, fields_made};
+ghost use Rattle.tc_form_attributes.specs.RowLists.{rows_in};
+ghost use Rattle.tc_form_values.specs.Search.{held};
+ghost use Rattle.tc_form_values.specs.Tables.{choices_view, field_view, fields_view};
 
 use serde_json::Value;
 use std::alloc::Global;
-use tc_form_parts::attributes_made::{
+use tc_form_attributes::attributes_made::{
     begin, end, kind_named, make_kind, make_other, no_row, own_kind_named, unlayered, word_at,
     word_or,
 };
-use tc_form_parts::choices::choice_held;
-use tc_form_parts::maker::{Maker, Step, Stop};
-use tc_form_parts::places::{At, choices_at, fields_at, form_at, layer_at};
-use tc_form_parts::records::{make_blank, make_rest};
-use tc_form_parts::rows::{RowList, kind_from, row_held_in, rows_from, rows_under};
-use tc_form_parts::values_made::{make_hex_at, make_plain, put_raw};
-use tc_form_parts::widths::DEEPEST;
-use tc_form_parts::{Choice, Field, Form, MakeError, Row, Tables, Wanted};
+use tc_form_attributes::rows::{RowList, kind_from, row_held_in, rows_from, rows_under};
+use tc_form_values::choices::choice_held;
+use tc_form_values::maker::{Maker, Step, Stop};
+use tc_form_values::places::{At, choices_at, fields_at, form_at, layer_at};
+use tc_form_values::records::{make_blank, make_rest};
+use tc_form_values::values_made::{make_hex_at, make_plain, put_raw};
+use tc_form_values::widths::DEEPEST;
+use tc_form_values::{Choice, Field, Form, MakeError, Row, Tables, Wanted};
 
 /// The bytes that JSON stands for in a form, by a table.
 #[tactic(auto, unfolding(crate::specs::Made::made_of))]

@@ -3,33 +3,33 @@
 ghost use Rattle.serde.specs.Event.{Log};
 ghost use Rattle.serde_json.specs.Data.{Members, array};
 ghost use Rattle.std.specs.Prelude.{[], OnOk, false, length, true};
-ghost use Rattle.tc_form_parts.specs.Attributes.{attribute, by_row, frames, indexed, listed};
-ghost use Rattle.tc_form_parts.specs.Choices.{by_choice, chosen};
-ghost use Rattle.tc_form_parts.specs.Frames.{frame_view};
-ghost use Rattle.tc_form_parts.specs.Places.{rows_under};
-ghost use Rattle.tc_form_parts.specs.Records.{elements, elements_of, field_member, members};
-ghost use Rattle.tc_form_parts.specs.RowLists.{rows_in};
-ghost use Rattle.tc_form_parts.specs.Rows.{shown_row};
-ghost use Rattle.tc_form_parts.specs.Sent.{Sent, events, items_events, members_events};
+ghost use Rattle.tc_form_attributes.specs.Attributes.{attribute, by_row, frames, indexed, listed};
+ghost use Rattle.tc_form_values.specs.Choices.{by_choice, chosen};
+ghost use Rattle.tc_form_attributes.specs.Frames.{frame_view};
+ghost use Rattle.tc_form_values.specs.Places.{rows_under};
+ghost use Rattle.tc_form_values.specs.Records.{elements, elements_of, field_member, members};
+ghost use Rattle.tc_form_attributes.specs.RowLists.{rows_in};
+ghost use Rattle.tc_form_attributes.specs.Rows.{shown_row};
+ghost use Rattle.tc_form_values.specs.Sent.{Sent, events, items_events, members_events};
 ghost use Rattle.tc_forms.specs.Shown.{show, shown, shown_of};
-ghost use Rattle.tc_form_parts.specs.Tables.{choices_view, field_view, fields_view};
-ghost use Rattle.tc_form_parts.specs.Widths.{fixed, width};
+ghost use Rattle.tc_form_values.specs.Tables.{choices_view, field_view, fields_view};
+ghost use Rattle.tc_form_values.specs.Widths.{fixed, width};
 
 use serde::{Described, Serialize, Serializer};
 use std::alloc::Global;
-use tc_form_parts::attributes_shown::{
+use tc_form_attributes::attributes_shown::{
     Frame, front, kind_in, own_kind, send_beside, send_kind, send_other, send_pad, send_tail,
     send_word,
 };
-use tc_form_parts::choices::{behind, chosen, send_unknown};
-use tc_form_parts::events::{Aside, Stopped, begin_map, begin_seq, end_map, end_seq, key};
-use tc_form_parts::numbers::send_bytes_number;
-use tc_form_parts::places::{At, choices_at, fields_at, form_at, layer_at};
-use tc_form_parts::records::{are_enough, is_blank, is_pad, send_rest, split};
-use tc_form_parts::rows::{RowList, kind_from, rows_from, rows_under, shown_row};
-use tc_form_parts::values_shown::{send_plain, send_raw};
-use tc_form_parts::widths::{DEEPEST, fixed_width};
-use tc_form_parts::{Choice, Field, Form, Tables};
+use tc_form_attributes::rows::{RowList, kind_from, rows_from, rows_under, shown_row};
+use tc_form_values::choices::{behind, chosen, send_unknown};
+use tc_form_values::events::{Aside, Stopped, begin_map, begin_seq, end_map, end_seq, key};
+use tc_form_values::numbers::send_bytes_number;
+use tc_form_values::places::{At, choices_at, fields_at, form_at, layer_at};
+use tc_form_values::records::{are_enough, is_blank, is_pad, send_rest, split};
+use tc_form_values::values_shown::{send_plain, send_raw};
+use tc_form_values::widths::{DEEPEST, fixed_width};
+use tc_form_values::{Choice, Field, Form, Tables};
 
 /// Bytes in a form, by a table, for a format of serde.
 #[derive(Drop)]

@@ -2,15 +2,15 @@
 use Rattle.std.proofs.Common.{◌≡◌, ℕ, Bool, true, false, List, [], Some, refl, sym, ◌∙◌, subst}
 use Rattle.nla_frames.specs.Value.{IsBytes}
 use Rattle.serde_json.specs.Data.{Data}
-use Rattle.tc_form_parts.specs.declared.error.MakeError.{MakeError}
-use Rattle.tc_form_parts.specs.declared.error.MakeError.TheVariants.{OutOfMemory, Wrong}
-use Rattle.tc_form_parts.specs.declared.form.Form.{Form}
-use Rattle.tc_form_parts.specs.Appended.{Fails}
+use Rattle.tc_form_values.specs.declared.error.MakeError.{MakeError}
+use Rattle.tc_form_values.specs.declared.error.MakeError.TheVariants.{OutOfMemory, Wrong}
+use Rattle.tc_form_values.specs.declared.form.Form.{Form}
+use Rattle.tc_form_values.specs.Appended.{Fails}
 use Rattle.tc_forms.specs.Made.{made_of}
 use Rattle.tc_forms.specs.Shown.{shown_of}
-use Rattle.tc_form_parts.specs.Tables.{Table}
-use Rattle.tc_form_parts.specs.Widths.{deepest}
-use Rattle.tc_form_parts.proofs.Search.{none_not_some, some_is}
+use Rattle.tc_form_values.specs.Tables.{Table}
+use Rattle.tc_form_values.specs.Widths.{deepest}
+use Rattle.tc_form_values.proofs.Search.{none_not_some, some_is}
 use Rattle.tc_forms.proofs.Law.{shown_read}
 use Rattle.tc_forms_strict.specs.Strict.{json_of}
 

@@ -1,7 +1,7 @@
 //! Why no bytes are made strictly.
 
 ghost use Rattle.std.specs.Prelude.{◌≡◌, ◌↔◌, IsTrue};
-ghost use Rattle.tc_form_parts.specs.declared.error.MakeError.TheVariants.{OutOfMemory};
+ghost use Rattle.tc_form_values.specs.declared.error.MakeError.TheVariants.{OutOfMemory};
 ghost use Rattle.tc_forms_strict.specs.declared.error.StrictError.TheVariants.{Make};
 ghost use Rattle.tc_forms_strict.specs.Strict.{IsMemory};
 

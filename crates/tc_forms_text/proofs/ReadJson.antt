@@ -20,8 +20,8 @@ use Rattle.serde_json.specs.Written.{number_text, outline, items_outline, member
 use Rattle.serde_json.proofs.Numbers.{number_of-decimal, number_of-negative}
 use Rattle.tc_forms.specs.Ordered.{ordered, ordered_items, ordered_members}
 use Rattle.tc_forms.proofs.Ordered.{Apart}
-use Rattle.tc_form_parts.proofs.Search.{none_not_some}
-use Rattle.tc_form_parts.proofs.Members.{here, passes}
+use Rattle.tc_form_values.proofs.Search.{none_not_some}
+use Rattle.tc_form_values.proofs.Members.{here, passes}
 use Rattle.tc_forms_text.specs.Read.{HasNamesOnce}
 use Rattle.tc_forms_text.specs.Text.{IsJsonText}
 use Rattle.tc_forms_text.proofs.Readable.{IsKept, Readable, ItemsReadable, MembersReadable}

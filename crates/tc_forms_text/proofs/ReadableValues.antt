@@ -5,17 +5,17 @@ use Rattle.std.specs.Str.{is_utf8}
 use Rattle.std.proofs.lemmas.Bool.{cond_both, ltb-false, eqb-true}
 use Rattle.nla_frames.specs.Value.{IsBytes}
 use Rattle.serde_json.specs.Data.{Data, number, string, unsigned, negative}
-use Rattle.tc_form_parts.specs.declared.form.Number.{Number}
-use Rattle.tc_form_parts.specs.declared.form.Number.TheVariants.{U8, U16, U32, U64, I8, I16, I32, I64, U16Be, U32Be, U64Be}
-use Rattle.tc_form_parts.specs.declared.form.Form.{Form}
-use Rattle.tc_form_parts.specs.declared.form.Form.TheVariants as form
-use Rattle.tc_form_parts.specs.Numbers.{is_signed, half, num_of, num, bits_of, is_number, named_or, name_of, number_of}
-use Rattle.tc_form_parts.specs.Places.{names_of, part_at}
-use Rattle.tc_form_parts.specs.Raw.{one, raw}
-use Rattle.tc_form_parts.specs.Tables.{Table}
-use Rattle.tc_form_parts.specs.Values.{text_in, text_or_raw, plain_shown}
-use Rattle.tc_form_parts.specs.Widths.{number_width}
-use Rattle.tc_form_parts.proofs.Leaves.{bits_below}
+use Rattle.tc_form_values.specs.declared.form.Number.{Number}
+use Rattle.tc_form_values.specs.declared.form.Number.TheVariants.{U8, U16, U32, U64, I8, I16, I32, I64, U16Be, U32Be, U64Be}
+use Rattle.tc_form_values.specs.declared.form.Form.{Form}
+use Rattle.tc_form_values.specs.declared.form.Form.TheVariants as form
+use Rattle.tc_form_values.specs.Numbers.{is_signed, half, num_of, num, bits_of, is_number, named_or, name_of, number_of}
+use Rattle.tc_form_values.specs.Places.{names_of, part_at}
+use Rattle.tc_form_values.specs.Raw.{one, raw}
+use Rattle.tc_form_values.specs.Tables.{Table}
+use Rattle.tc_form_values.specs.Values.{text_in, text_or_raw, plain_shown}
+use Rattle.tc_form_values.specs.Widths.{number_width}
+use Rattle.tc_form_values.proofs.Leaves.{bits_below}
 use Rattle.tc_forms_text.proofs.Readable.{IsKept, Readable}
 
 -- ---- numbers

@@ -8,24 +8,24 @@ use Rattle.nla_frames.specs.Grammar.{length_at}
 use Rattle.nla_frames.specs.Value.{IsBytes, ends_in_nul}
 use Rattle.nla_frames.proofs.Bytes.{IsBytes-take, IsBytes-drop}
 use Rattle.serde_json.specs.Data.{Data, boolean, number, unsigned, array, object, no_members, member}
-use Rattle.tc_form_parts.specs.declared.form.Form.{Form}
-use Rattle.tc_form_parts.specs.declared.form.Form.TheVariants as form
-use Rattle.tc_form_parts.specs.Attributes.{tail_shown, first_or_tail, frames, pad_member, beside, bare_member, indexed, layered, by_row, by_kind, attribute}
-use Rattle.tc_form_parts.specs.Choices.{chosen, by_choice}
-use Rattle.tc_form_parts.specs.Frames.{PaddedFrame, frame_at, after_first}
-use Rattle.tc_form_parts.specs.Kinds.{kind_in, own_kind}
-use Rattle.tc_form_parts.specs.Places.{part_at, fields_of, layer_of, choices_of, form_of, rows_under}
-use Rattle.tc_form_parts.specs.Raw.{hex}
-use Rattle.tc_form_parts.specs.Records.{is_pad, names_apart, are_enough, are_apart, is_free, is_blank, field_of, after_field, members, elements, elements_of}
-use Rattle.tc_form_parts.specs.Rows.{type_of, counts, of_type, shown_row}
-use Rattle.tc_form_parts.specs.Search.{first}
+use Rattle.tc_form_values.specs.declared.form.Form.{Form}
+use Rattle.tc_form_values.specs.declared.form.Form.TheVariants as form
+use Rattle.tc_form_attributes.specs.Attributes.{tail_shown, first_or_tail, frames, pad_member, beside, bare_member, indexed, layered, by_row, by_kind, attribute}
+use Rattle.tc_form_values.specs.Choices.{chosen, by_choice}
+use Rattle.tc_form_attributes.specs.Frames.{PaddedFrame, frame_at, after_first}
+use Rattle.tc_form_attributes.specs.Kinds.{kind_in, own_kind}
+use Rattle.tc_form_values.specs.Places.{part_at, fields_of, layer_of, choices_of, form_of, rows_under}
+use Rattle.tc_form_values.specs.Raw.{hex}
+use Rattle.tc_form_values.specs.Records.{is_pad, names_apart, are_enough, are_apart, is_free, is_blank, field_of, after_field, members, elements, elements_of}
+use Rattle.tc_form_attributes.specs.Rows.{type_of, counts, of_type, shown_row}
+use Rattle.tc_form_values.specs.Search.{first}
 use Rattle.tc_forms.specs.Shown.{shown, show}
-use Rattle.tc_form_parts.specs.Tables.{Field, Row, Choice, Table}
-use Rattle.tc_form_parts.specs.Widths.{field_width, fixed}
-use Rattle.tc_form_parts.proofs.Leaves.{little_small}
+use Rattle.tc_form_values.specs.Tables.{Field, Row, Choice, Table}
+use Rattle.tc_form_values.specs.Widths.{field_width, fixed}
+use Rattle.tc_form_values.proofs.Leaves.{little_small}
 use Rattle.tc_forms.proofs.RecordsAgain.{IsBytes-field_of, IsBytes-after_field, absent, swapped, not-false}
 use Rattle.tc_forms.proofs.Found.{not_pad_member, plain}
-use Rattle.tc_form_parts.proofs.Search.{guarded}
+use Rattle.tc_form_values.proofs.Search.{guarded}
 use Rattle.tc_forms.proofs.Ordered.{Apart, pad_apart, named_apart, kind_apart}
 use Rattle.tc_forms_text.proofs.Readable.{Readable, ItemsReadable, MembersReadable, deeper}
 use Rattle.tc_forms_text.proofs.ReadableValues.{raw_readable, tested, plain_readable}

@@ -5,14 +5,14 @@ use Rattle.json.specs.Json.{Json, document}
 use Rattle.json.specs.Strict.{HasUniqueKeys}
 use Rattle.nla_frames.specs.Value.{IsBytes}
 use Rattle.serde_json.specs.Read.{read}
-use Rattle.tc_form_parts.specs.declared.error.MakeError.TheVariants as make
-use Rattle.tc_form_parts.specs.declared.form.Form.{Form}
+use Rattle.tc_form_values.specs.declared.error.MakeError.TheVariants as make
+use Rattle.tc_form_values.specs.declared.form.Form.{Form}
 use Rattle.tc_forms.specs.Made.{made_of}
 use Rattle.tc_forms.specs.Ordered.{ordered}
-use Rattle.tc_form_parts.specs.Tables.{Table}
+use Rattle.tc_form_values.specs.Tables.{Table}
 use Rattle.tc_forms.specs.Shown.{shown_of}
-use Rattle.tc_form_parts.specs.Widths.{deepest}
-use Rattle.tc_form_parts.proofs.Search.{none_not_some, some_is}
+use Rattle.tc_form_values.specs.Widths.{deepest}
+use Rattle.tc_form_values.proofs.Search.{none_not_some, some_is}
 use Rattle.tc_forms.proofs.Law.{shown_read}
 use Rattle.tc_forms_text.specs.declared.error.ReadError.TheVariants.{OutOfMemory, NotJson, TooDeep, Repeated}
 use Rattle.tc_forms_text.specs.declared.error.TextError.{TextError}

@@ -8,7 +8,7 @@ use Rattle.serde_json.specs.Data.{Items, no_items, item, Members, no_members, me
 use Rattle.serde_json.specs.Sent.{State, start, TakesAll}
 use Rattle.serde_json.specs.Written.{outline, items_outline, members_outline}
 use Rattle.serde_json.proofs.FreeTexts.{tokens_by}
-use Rattle.tc_form_parts.specs.Sent.{events, items_events, members_events}
+use Rattle.tc_form_values.specs.Sent.{events, items_events, members_events}
 use Rattle.tc_forms_text.specs.Text.{IsJsonText}
 use Rattle.tc_forms_text.proofs.Readable.{Readable, ItemsReadable, MembersReadable}
 use Rattle.tc_forms_text.proofs.Written.{Plain, Written, both, a_text, a_number, a_signed, a_boolean, array_ends, object_ends, in_array, in_object, at_field}

@@ -1,11 +1,11 @@
 -- Why no bytes are made of a text.
 use Rattle.std.specs.Prelude.{◌≡◌, ℕ, List, option_and_then}
 use Rattle.serde_json.specs.Read.{read}
-use Rattle.tc_form_parts.specs.declared.error.MakeError.TheVariants as make
-use Rattle.tc_form_parts.specs.declared.form.Form.{Form}
-use Rattle.tc_form_parts.specs.Appended.{Fails}
+use Rattle.tc_form_values.specs.declared.error.MakeError.TheVariants as make
+use Rattle.tc_form_values.specs.declared.form.Form.{Form}
+use Rattle.tc_form_values.specs.Appended.{Fails}
 use Rattle.tc_forms.specs.Made.{made_of}
-use Rattle.tc_form_parts.specs.Tables.{Table}
+use Rattle.tc_form_values.specs.Tables.{Table}
 use Rattle.tc_forms_text.specs.declared.error.ReadError.TheVariants as read_error
 use Rattle.tc_forms_text.specs.declared.error.TextError.{TextError}
 use Rattle.tc_forms_text.specs.declared.error.TextError.TheVariants.{Read, Make}

@@ -3,7 +3,7 @@ use Rattle.std.specs.Prelude.{ℕ, Bool, List, Some}
 use Rattle.json.specs.Lex.{tokens}
 use Rattle.serde_json.specs.Data.{Data}
 use Rattle.serde_json.specs.Sent.{AreTokensOf}
-use Rattle.tc_form_parts.specs.Sent.{events}
+use Rattle.tc_form_values.specs.Sent.{events}
 
 -- this is what `serde_json` writes of JSON that is sent to it: compact, indented, or on the way to a `Value` (`narrow`)
 abbrev pub IsJsonText : Data → List ℕ → Type 0

@@ -1,7 +1,7 @@
 -- The names of each record of the table are apart.
 use Rattle.std.proofs.Common.{◌≡◌, ℕ, true, sym}
-use Rattle.tc_form_parts.specs.Places.{fields_of}
-use Rattle.tc_form_parts.specs.Records.{names_apart}
+use Rattle.tc_form_values.specs.Places.{fields_of}
+use Rattle.tc_form_values.specs.Records.{names_apart}
 use Rattle.tc_kinds.specs.Table.{tc_tables}
 use Rattle.tc_kinds.proofs.EachPart.{every_record}
 

@@ -1,9 +1,9 @@
 -- Parts whose records have names that are apart, and that a table has such parts alone if each branch of it does.
 use Rattle.std.proofs.Common.{◌≡◌, ℕ, Bool, true, false, refl, if◌then◌else◌}
-use Rattle.tc_form_parts.specs.declared.form.Form.TheVariants as form
-use Rattle.tc_form_parts.specs.Places.{fields_of}
-use Rattle.tc_form_parts.specs.Records.{names_apart}
-use Rattle.tc_form_parts.specs.Tables.{One, Part}
+use Rattle.tc_form_values.specs.declared.form.Form.TheVariants as form
+use Rattle.tc_form_values.specs.Places.{fields_of}
+use Rattle.tc_form_values.specs.Records.{names_apart}
+use Rattle.tc_form_values.specs.Tables.{One, Part}
 
 pub record Apart (part : Part) : Type 0 where
   pub names : names_apart (fields_of part) ≡ true

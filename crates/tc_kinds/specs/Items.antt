@@ -1,7 +1,7 @@
 -- The items of parts, with their members in order.
 use Rattle.std.specs.Prelude.{ℕ, List, Option}
-use Rattle.tc_form_parts.specs.declared.form.Form.{Form}
-use Rattle.tc_form_parts.specs.Tables.{Name, Field, Row, Choice, KindRows}
+use Rattle.tc_form_values.specs.declared.form.Form.{Form}
+use Rattle.tc_form_values.specs.Tables.{Name, Field, Row, Choice, KindRows}
 
 abbrev pub name : ℕ → List ℕ → Name
 name n s = record { number = n; name = s }

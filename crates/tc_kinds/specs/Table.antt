@@ -1,8 +1,8 @@
 -- The table: a part at each place. Written by `kinds/generate`.
 use Rattle.std.specs.Prelude.{◌/◌, ◌==◌, if◌then◌else◌}
-use Rattle.tc_form_parts.specs.declared.form.Form.{Form}
-use Rattle.tc_form_parts.specs.declared.form.Form.TheVariants as form
-use Rattle.tc_form_parts.specs.Tables.{Table, One}
+use Rattle.tc_form_values.specs.declared.form.Form.{Form}
+use Rattle.tc_form_values.specs.declared.form.Form.TheVariants as form
+use Rattle.tc_form_values.specs.Tables.{Table, One}
 use Rattle.tc_kinds.specs.Parts.Action.{all_of_action}
 use Rattle.tc_kinds.specs.Parts.Actions.{all_of_actions}
 use Rattle.tc_kinds.specs.Parts.Elements.{all_of_elements}

@@ -1,7 +1,7 @@
 //! The parts of the table, by their places. Written by `kinds/generate`.
 
 ghost use Rattle.std.specs.Prelude.{◌≡◌};
-ghost use Rattle.tc_form_parts.specs.Tables.{part_view};
+ghost use Rattle.tc_form_values.specs.Tables.{part_view};
 ghost use Rattle.tc_kinds.specs.Table.{tc_tables};
 
 mod action;
@@ -14,7 +14,7 @@ mod qdiscs;
 mod shared;
 mod statistics;
 
-use tc_form_parts::{Form, Part};
+use tc_form_values::{Form, Part};
 
 /// RTM_*QDISC, RTM_*TCLASS, RTM_*TFILTER, RTM_*CHAIN
 pub const TC_MESSAGE: Form = Form::Record(3000);

@@ -1,11 +1,11 @@
 -- What the fields of records are, and their names.
 use Rattle.std.specs.Prelude.{ℕ, List, [], ◌∷◌, codes}
 use Rattle.tc_canon.specs.Layouts as layouts
-use Rattle.tc_form_parts.specs.declared.form.Form.{Form}
-use Rattle.tc_form_parts.specs.declared.form.Form.TheVariants as form
-use Rattle.tc_form_parts.specs.declared.form.Number.{Number}
-use Rattle.tc_form_parts.specs.declared.form.Number.TheVariants as number
-use Rattle.tc_form_parts.specs.Tables.{Name}
+use Rattle.tc_form_values.specs.declared.form.Form.{Form}
+use Rattle.tc_form_values.specs.declared.form.Form.TheVariants as form
+use Rattle.tc_form_values.specs.declared.form.Number.{Number}
+use Rattle.tc_form_values.specs.declared.form.Number.TheVariants as number
+use Rattle.tc_form_values.specs.Tables.{Name}
 
 -- what a value is: a form, or a number with these names
 pub data Value : Type 0 where

@@ -1,8 +1,8 @@
 -- What is said by name of a type and of a kind.
 use Rattle.std.specs.Prelude.{ℕ, List, [], slice_index_or}
-use Rattle.tc_form_parts.specs.declared.form.Form.{Form}
-use Rattle.tc_form_parts.specs.declared.form.Form.TheVariants as form
-use Rattle.tc_form_parts.specs.declared.form.Number.TheVariants as number
+use Rattle.tc_form_values.specs.declared.form.Form.{Form}
+use Rattle.tc_form_values.specs.declared.form.Form.TheVariants as form
+use Rattle.tc_form_values.specs.declared.form.Number.TheVariants as number
 
 -- how a value is shown: by a form that holds no other, in any way, or by one that is compared on its own
 pub data Look : Type 0 where

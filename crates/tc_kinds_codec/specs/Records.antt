@@ -1,12 +1,12 @@
 -- The fields of records: their layouts in the codec's language, and their names and forms.
 use Rattle.std.specs.Prelude.{◌≡◌, ℕ, List, [], ◌∷◌, ◌++◌, map}
 use Rattle.tc_canon.specs.Descriptor.{Field as Laid, little, big, named, octets, pad}
-use Rattle.tc_form_parts.specs.declared.form.Form.{Form}
-use Rattle.tc_form_parts.specs.declared.form.Form.TheVariants as form
-use Rattle.tc_form_parts.specs.declared.form.Number.{Number}
-use Rattle.tc_form_parts.specs.declared.form.Number.TheVariants as number
-use Rattle.tc_form_parts.specs.Tables.{Field, Table}
-use Rattle.tc_form_parts.specs.Places.{part_at, names_of}
+use Rattle.tc_form_values.specs.declared.form.Form.{Form}
+use Rattle.tc_form_values.specs.declared.form.Form.TheVariants as form
+use Rattle.tc_form_values.specs.declared.form.Number.{Number}
+use Rattle.tc_form_values.specs.declared.form.Number.TheVariants as number
+use Rattle.tc_form_values.specs.Tables.{Field, Table}
+use Rattle.tc_form_values.specs.Places.{part_at, names_of}
 use Rattle.tc_kinds_codec.specs.Tables.{fields_at}
 use Rattle.tc_kinds_codec.specs.Fields.{Value, plain, numbered, FieldSaid, field, padding, begins, ends}
 

@@ -3,12 +3,12 @@ use Rattle.std.specs.Prelude.{◌≡◌, ℕ, zero, suc, ◌+◌, ◌-◌, List,
 use Rattle.tc_canon.specs.Descriptor.{Class, le, be, masked, array, raw, text, warning, presence, truth, fields, selector, pair}
 use Rattle.tc_canon.specs.Descriptor.{Rows, others, types, unread, options, little}
 use Rattle.tc_canon.specs.Layouts.{selector_head}
-use Rattle.tc_form_parts.specs.declared.form.Form.{Form}
-use Rattle.tc_form_parts.specs.declared.form.Form.TheVariants as form
-use Rattle.tc_form_parts.specs.declared.form.Number.{Number}
-use Rattle.tc_form_parts.specs.declared.form.Number.TheVariants as number
-use Rattle.tc_form_parts.specs.Tables.{Row, Table}
-use Rattle.tc_form_parts.specs.Rows.{shown_row}
+use Rattle.tc_form_values.specs.declared.form.Form.{Form}
+use Rattle.tc_form_values.specs.declared.form.Form.TheVariants as form
+use Rattle.tc_form_values.specs.declared.form.Number.{Number}
+use Rattle.tc_form_values.specs.declared.form.Number.TheVariants as number
+use Rattle.tc_form_values.specs.Tables.{Row, Table}
+use Rattle.tc_form_attributes.specs.Rows.{shown_row}
 use Rattle.tc_kinds_codec.specs.Tables.{fields_at}
 use Rattle.tc_kinds_codec.specs.Named.{Look, alone, anything, compared, Named, named_at, name_of, look_named}
 use Rattle.tc_kinds_codec.specs.Records.{layout_of}

@@ -1,10 +1,10 @@
 -- The forms of attributes, fields and choices of a table of forms.
 use Rattle.std.specs.Prelude.{ℕ, zero, suc, List, [], ◌∷◌, Option, Some, None, bytes_eq, if◌then◌else◌}
-use Rattle.tc_form_parts.specs.declared.form.Form.{Form}
-use Rattle.tc_form_parts.specs.declared.form.Form.TheVariants as form
-use Rattle.tc_form_parts.specs.Tables.{Field, Row, Choice, Table}
-use Rattle.tc_form_parts.specs.Places.{part_at, fields_of, choices_of, form_of, rows_under}
-use Rattle.tc_form_parts.specs.Rows.{shown_row}
+use Rattle.tc_form_values.specs.declared.form.Form.{Form}
+use Rattle.tc_form_values.specs.declared.form.Form.TheVariants as form
+use Rattle.tc_form_values.specs.Tables.{Field, Row, Choice, Table}
+use Rattle.tc_form_values.specs.Places.{part_at, fields_of, choices_of, form_of, rows_under}
+use Rattle.tc_form_attributes.specs.Rows.{shown_row}
 
 -- the place that a form names
 abbrev pub place_in : Form → ℕ

@@ -1,12 +1,12 @@
 -- Where the typed kinds are in the table.
 use Rattle.std.specs.Prelude.{ℕ, List, [], ◌∷◌, codes, map, option_map, unwrap_or}
 use Rattle.tc_kinds_codec.specs.Named.{NamedKind}
-use Rattle.tc_form_parts.specs.declared.form.Form.{Form}
-use Rattle.tc_form_parts.specs.Tables.{Row}
+use Rattle.tc_form_values.specs.declared.form.Form.{Form}
+use Rattle.tc_form_values.specs.Tables.{Row}
 use Rattle.tc_kinds.specs.Table.{tc_tables, tc_message, action_message}
 use Rattle.tc_kinds_codec.specs.Tables.{form_of_field, first_field, choice_form, rows_at, form_at, held_at, place_in}
-use Rattle.tc_form_parts.specs.Places.{part_at, layer_of}
-use Rattle.tc_form_parts.specs.Rows.{shown_row}
+use Rattle.tc_form_values.specs.Places.{part_at, layer_of}
+use Rattle.tc_form_attributes.specs.Rows.{shown_row}
 
 -- the header of a message
 abbrev pub header_of : Form → Form

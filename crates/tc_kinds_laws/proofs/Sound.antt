@@ -3,10 +3,10 @@ use Rattle.std.proofs.Common.{◌≡◌, ℕ, Bool, true, false, List, [], ◌�
 use Rattle.std.proofs.lemmas.Bool.{and_parts}
 use Rattle.std.specs.List.{list_all}
 use Rattle.std.specs.Prelude.{bytes_eq}
-use Rattle.tc_form_parts.specs.declared.form.Form.TheVariants as form
-use Rattle.tc_form_parts.specs.Places.{choices_of, fields_of, kind_place, names_of, rows_of, rows_under_part}
-use Rattle.tc_form_parts.specs.Records.{names_apart}
-use Rattle.tc_form_parts.specs.Tables.{Choices, Fields, KindRows, Kinds, Names, One, Part, Row, Rows, Table}
+use Rattle.tc_form_values.specs.declared.form.Form.TheVariants as form
+use Rattle.tc_form_values.specs.Places.{choices_of, fields_of, kind_place, names_of, rows_of, rows_under_part}
+use Rattle.tc_form_values.specs.Records.{names_apart}
+use Rattle.tc_form_values.specs.Tables.{Choices, Fields, KindRows, Kinds, Names, One, Part, Row, Rows, Table}
 use Rattle.tc_kinds.specs.Table.{tc_tables}
 use Rattle.tc_kinds_laws.specs.Apart.{texts_differ, numbers_differ, types_of_rows, names_of_rows, all_count, all_shown}
 use Rattle.tc_kinds_laws.specs.Apart.{numbers_named, names_of_numbers, names_of_choices, none_reserved, kinds_of}

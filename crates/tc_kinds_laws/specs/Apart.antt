@@ -1,8 +1,9 @@
 -- Texts and numbers of a table, no two of which are the same.
 use Rattle.std.specs.Prelude.{Bool, List, [], bytes_eq, is_some, map, not, true, ℕ, ◌&&◌, ◌==◌, ◌∷◌}
 use Rattle.std.specs.List.{list_all}
-use Rattle.tc_form_parts.specs.Rows.{counts, is_reserved, shown_row, type_of}
-use Rattle.tc_form_parts.specs.Tables.{Choice, Kinds, Name, Part, Row}
+use Rattle.tc_form_attributes.specs.Rows.{counts, shown_row, type_of}
+use Rattle.tc_form_values.specs.Names.{is_reserved}
+use Rattle.tc_form_values.specs.Tables.{Choice, Kinds, Name, Part, Row}
 
 module _ {T : Type 0} (same : T → T → Bool) where
   -- x is none of these

@@ -1,10 +1,10 @@
 -- The part that a form or a part names by its place: names of numbers, fields, rows, choices, or one form.
 use Rattle.std.specs.Prelude.{Bool, List, [], false, map, true, ℕ, ◌&&◌, ◌∷◌}
 use Rattle.std.specs.List.{list_all}
-use Rattle.tc_form_parts.specs.declared.form.Form.{Form}
-use Rattle.tc_form_parts.specs.declared.form.Form.TheVariants as form
-use Rattle.tc_form_parts.specs.Places.{rows_of}
-use Rattle.tc_form_parts.specs.Tables.{Choices, Fields, Kinds, Names, One, Part, Rows, Table}
+use Rattle.tc_form_values.specs.declared.form.Form.{Form}
+use Rattle.tc_form_values.specs.declared.form.Form.TheVariants as form
+use Rattle.tc_form_values.specs.Places.{rows_of}
+use Rattle.tc_form_values.specs.Tables.{Choices, Fields, Kinds, Names, One, Part, Rows, Table}
 use Rattle.tc_kinds_laws.specs.Apart.{none_is_kind}
 
 -- ---- sorts of parts. A place of a table that has no part holds the form of bytes

@@ -3,8 +3,8 @@
 #![tactic(auto)]
 
 ghost use Rattle.std.specs.Prelude.{ℕ, List, IsTrue};
-ghost use Rattle.tc_form_parts.specs.Places.{rows_under, fields_of, choices_of, names_of};
-ghost use Rattle.tc_form_parts.specs.Records.{names_apart};
+ghost use Rattle.tc_form_values.specs.Places.{rows_under, fields_of, choices_of, names_of};
+ghost use Rattle.tc_form_values.specs.Records.{names_apart};
 ghost use Rattle.tc_kinds.specs.Table.{tc_tables, tc_message, action_message};
 ghost use Rattle.tc_kinds_laws.specs.Apart.{texts_differ, numbers_differ, types_of_rows, names_of_rows, all_count, all_shown};
 ghost use Rattle.tc_kinds_laws.specs.Apart.{numbers_named, names_of_numbers, names_of_choices, none_reserved, kinds_of};

@@ -1,11 +1,11 @@
 -- The bytes of two messages are the same if and only if the same is shown of them.
 use Rattle.std.proofs.Common.{◌≡◌, ◌↔◌, ℕ, List, [], ap}
 use Rattle.nla_frames.specs.Value.{IsBytes}
-use Rattle.tc_form_parts.specs.declared.form.Form.{Form}
-use Rattle.tc_form_parts.specs.Sent.{events}
+use Rattle.tc_form_values.specs.declared.form.Form.{Form}
+use Rattle.tc_form_values.specs.Sent.{events}
 use Rattle.tc_forms.specs.Shown.{shown_of}
-use Rattle.tc_form_parts.specs.Tables.{Table}
-use Rattle.tc_form_parts.specs.Widths.{deepest}
+use Rattle.tc_form_values.specs.Tables.{Table}
+use Rattle.tc_form_values.specs.Widths.{deepest}
 use Rattle.tc_forms.proofs.Law.{shown_injective}
 use Rattle.tc_message_json.proofs.Events.{one_json}
 

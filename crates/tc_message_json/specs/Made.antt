@@ -2,7 +2,7 @@
 use Rattle.std.specs.Prelude.{◌≡◌, ℕ, List, Some}
 use Rattle.serde_json.specs.Data.{Data}
 use Rattle.tc_wire.specs.Facade.{Message, Words}
-use Rattle.tc_form_parts.specs.declared.form.Form.{Form}
+use Rattle.tc_form_values.specs.declared.form.Form.{Form}
 use Rattle.tc_forms.specs.Made.{made_of}
 use Rattle.tc_forms_strict.specs.Strict.{json_of}
 use Rattle.tc_kinds.specs.Table.{tc_tables}

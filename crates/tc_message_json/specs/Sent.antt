@@ -4,8 +4,8 @@ use Rattle.serde.specs.Event.{Event, Log}
 use Rattle.nla_frames.specs.Codec.{Codec}
 use Rattle.tc_meaning.specs.Message.{Message}
 use Rattle.tc_meaning.specs.Whole.{tc_bytes, act_bytes}
-use Rattle.tc_form_parts.specs.declared.form.Form.{Form}
-use Rattle.tc_form_parts.specs.Sent.{events, Sent}
+use Rattle.tc_form_values.specs.declared.form.Form.{Form}
+use Rattle.tc_form_values.specs.Sent.{events, Sent}
 use Rattle.tc_forms.specs.Shown.{shown_of}
 use Rattle.tc_kinds.specs.Table.{tc_tables, tc_message, action_message}
 

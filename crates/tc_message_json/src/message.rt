@@ -1,7 +1,7 @@
 //! The types of messages that have a form.
 
 ghost use Rattle.std.specs.Prelude.{◌≡◌};
-ghost use Rattle.tc_form_parts.specs.declared.form.Form.{Form};
+ghost use Rattle.tc_form_values.specs.declared.form.Form.{Form};
 ghost use Rattle.tc_kinds.specs.Table.{tc_message, action_message};
 
 use std::alloc::Allocator;

@@ -1,8 +1,8 @@
 -- One step of what goes down a number.
 use Rattle.std.proofs.Common.{List, None, Some, ap, ◌≡◌, ℕ, suc, ◌++◌, ◌-◌, ◌∙◌, refl, subst, sym}
 use Rattle.std.specs.Borrow.{Bor}
-use Rattle.tc_form_parts.specs.Tables.{Table}
-use Rattle.tc_form_parts.specs.declared.form.Form.{Form}
+use Rattle.tc_form_values.specs.Tables.{Table}
+use Rattle.tc_form_values.specs.declared.form.Form.{Form}
 use Rattle.tc_schema.specs.Explained.{alone, explained, members_text, part_text, place_in, signed_of, text_at}
 use Rattle.tc_schema.specs.Notes.{notes_at}
 use Rattle.tc_schema.specs.declared.notes.Named.{Named}

@@ -3,10 +3,10 @@ use Rattle.std.specs.Borrow.{Bor}
 use Rattle.std.specs.Option.{option_map_or}
 use Rattle.std.specs.Prelude.{List, None, Option, Some, [], bytes_eq, codes, decimal, if◌then◌else◌, nat_le, nat_lt, suc, zero, ℕ}
 use Rattle.std.specs.Prelude.{◌&&◌, ◌++◌, ◌+◌, ◌-◌, ◌/◌, ◌∷◌}
-use Rattle.tc_form_parts.specs.Tables.{KindRows, Kinds, One, Part, Table}
-use Rattle.tc_form_parts.specs.declared.form.Form.{Form}
-use Rattle.tc_form_parts.specs.declared.form.Form.TheVariants as form
-use Rattle.tc_form_parts.specs.declared.form.Number.TheVariants as number
+use Rattle.tc_form_values.specs.Tables.{KindRows, Kinds, One, Part, Table}
+use Rattle.tc_form_values.specs.declared.form.Form.{Form}
+use Rattle.tc_form_values.specs.declared.form.Form.TheVariants as form
+use Rattle.tc_form_values.specs.declared.form.Number.TheVariants as number
 use Rattle.tc_schema.specs.Json.{kind_example}
 use Rattle.tc_schema.specs.Notes.{Note, first_note, names_at, notes_at, other_notes}
 use Rattle.tc_schema.specs.declared.notes.Named.{Named}

@@ -1,9 +1,9 @@
 -- The answer to a line.
 use Rattle.std.specs.Prelude.{◌≡◌, ℕ, List, ◌++◌, Some, codes}
 use Rattle.serde_json.specs.Sent.{IsTextOf}
-use Rattle.tc_form_parts.specs.declared.form.Form.{Form}
-use Rattle.tc_form_parts.specs.Tables.{Table}
-use Rattle.tc_form_parts.specs.Sent.{events}
+use Rattle.tc_form_values.specs.declared.form.Form.{Form}
+use Rattle.tc_form_values.specs.Tables.{Table}
+use Rattle.tc_form_values.specs.Sent.{events}
 use Rattle.tc_forms.specs.Shown.{shown_of}
 use Rattle.tcforms_lib.specs.Line.{word_of, IsLine}
 use Rattle.tcforms_lib.specs.declared.mode.Mode.{Mode}

@@ -8,8 +8,8 @@ use Rattle.nla_frames.specs.declared.error.DecodeError.{DecodeError}
 use Rattle.nla_frames.specs.declared.error.DecodeError.TheVariants as fault
 use Rattle.tc_capture.specs.declared.kind.Holds.{Holds}
 use Rattle.tc_capture.specs.declared.kind.Holds.TheVariants.{Tc, Action}
-use Rattle.tc_form_parts.specs.declared.form.Form.{Form}
-use Rattle.tc_form_parts.specs.Sent.{events}
+use Rattle.tc_form_values.specs.declared.form.Form.{Form}
+use Rattle.tc_form_values.specs.Sent.{events}
 use Rattle.tc_forms.specs.Shown.{shown_of}
 use Rattle.tc_meaning.specs.Message.{Message as Meaning}
 use Rattle.tc_meaning.specs.Whole.{Words}

@@ -1,8 +1,8 @@
 -- The parts of `kinds/elements`. Written by `kinds/generate`.
 use Rattle.std.specs.Prelude.{◌/◌, ◌==◌, if◌then◌else◌}
-use Rattle.tc_form_parts.specs.declared.form.Form.TheVariants as form
-use Rattle.tc_form_parts.specs.declared.form.Number.TheVariants as number
-use Rattle.tc_form_parts.specs.Tables.{Part, Table, One}
+use Rattle.tc_form_values.specs.declared.form.Form.TheVariants as form
+use Rattle.tc_form_values.specs.declared.form.Number.TheVariants as number
+use Rattle.tc_form_values.specs.Tables.{Part, Table, One}
 
 -- what an array holds
 abbrev pub element_number_u32 : Part

@@ -1,8 +1,8 @@
 -- The parts of `kinds/message`. Written by `kinds/generate`.
 use Rattle.std.specs.Prelude.{◌/◌, ◌==◌, [], ◌∷◌, codes, if◌then◌else◌}
-use Rattle.tc_form_parts.specs.declared.form.Form.TheVariants as form
-use Rattle.tc_form_parts.specs.declared.form.Number.TheVariants as number
-use Rattle.tc_form_parts.specs.Tables.{Part, Table, One, Names, Fields, Rows, Choices, Kinds}
+use Rattle.tc_form_values.specs.declared.form.Form.TheVariants as form
+use Rattle.tc_form_values.specs.declared.form.Number.TheVariants as number
+use Rattle.tc_form_values.specs.Tables.{Part, Table, One, Names, Fields, Rows, Choices, Kinds}
 use Rattle.tc_kinds.specs.Items.{name, field, row, kind_rows}
 
 -- `struct tc_message`

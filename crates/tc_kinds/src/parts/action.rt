@@ -1,10 +1,10 @@
 //! The parts of `kinds/action`. Written by `kinds/generate`.
 
 ghost use Rattle.std.specs.Prelude.{◌≡◌, map};
-ghost use Rattle.tc_form_parts.specs.Tables.{part_view};
+ghost use Rattle.tc_form_values.specs.Tables.{part_view};
 ghost use Rattle.tc_kinds.specs.Parts.Action.{parts_of_action, all_of_action};
 
-use tc_form_parts::{Field, Form, KindRows, Name, Number, Part, Row};
+use tc_form_values::{Field, Form, KindRows, Name, Number, Part, Row};
 
 // `list action`
 #[rattlefmt::skip]

@@ -1,7 +1,7 @@
 //! The parts of `kinds/actions`. Written by `kinds/generate`.
 
 ghost use Rattle.std.specs.Prelude.{◌≡◌, map};
-ghost use Rattle.tc_form_parts.specs.Tables.{part_view};
+ghost use Rattle.tc_form_values.specs.Tables.{part_view};
 ghost use Rattle.tc_kinds.specs.Parts.Actions.{parts_of_actions_bpf, parts_of_actions_connmark, parts_of_actions_csum, parts_of_actions_ct};
 ghost use Rattle.tc_kinds.specs.Parts.Actions.{parts_of_actions_ctinfo, parts_of_actions_gact, parts_of_actions_gate, parts_of_actions_ife};
 ghost use Rattle.tc_kinds.specs.Parts.Actions.{parts_of_actions_ipt, parts_of_actions_mirred, parts_of_actions_mpls, parts_of_actions_nat};
@@ -9,7 +9,7 @@ ghost use Rattle.tc_kinds.specs.Parts.Actions.{parts_of_actions_pedit, parts_of_
 ghost use Rattle.tc_kinds.specs.Parts.Actions.{parts_of_actions_skbedit, parts_of_actions_skbmod, parts_of_actions_tunnel_key, parts_of_actions_vlan};
 ghost use Rattle.tc_kinds.specs.Parts.Actions.{all_of_actions};
 
-use tc_form_parts::{Field, Form, Name, Number, Part, Row};
+use tc_form_values::{Field, Form, Name, Number, Part, Row};
 
 // `list act_bpf`
 #[rattlefmt::skip]

@@ -1,10 +1,10 @@
 //! The parts of `kinds/elements`. Written by `kinds/generate`.
 
 ghost use Rattle.std.specs.Prelude.{◌≡◌, map};
-ghost use Rattle.tc_form_parts.specs.Tables.{part_view};
+ghost use Rattle.tc_form_values.specs.Tables.{part_view};
 ghost use Rattle.tc_kinds.specs.Parts.Elements.{parts_of_elements, all_of_elements};
 
-use tc_form_parts::{Form, Number, Part};
+use tc_form_values::{Form, Number, Part};
 
 #[tactic(auto, unfolding(crate::specs::Parts::Elements::parts_of_elements))]
 pub(crate) fn parts_of_elements(place: usize) -> Part<'static>

@@ -1,10 +1,10 @@
 //! The parts of `kinds/ematch`. Written by `kinds/generate`.
 
 ghost use Rattle.std.specs.Prelude.{◌≡◌, map};
-ghost use Rattle.tc_form_parts.specs.Tables.{part_view};
+ghost use Rattle.tc_form_values.specs.Tables.{part_view};
 ghost use Rattle.tc_kinds.specs.Parts.Ematch.{parts_of_ematch, parts_of_ematch_2, all_of_ematch};
 
-use tc_form_parts::{Choice, Field, Form, Name, Number, Part, Row};
+use tc_form_values::{Choice, Field, Form, Name, Number, Part, Row};
 
 // `list ematch_tree`
 #[rattlefmt::skip]

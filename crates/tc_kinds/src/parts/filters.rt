@@ -1,12 +1,12 @@
 //! The parts of `kinds/filters`. Written by `kinds/generate`.
 
 ghost use Rattle.std.specs.Prelude.{◌≡◌, map};
-ghost use Rattle.tc_form_parts.specs.Tables.{part_view};
+ghost use Rattle.tc_form_values.specs.Tables.{part_view};
 ghost use Rattle.tc_kinds.specs.Parts.Filters.{parts_of_filters_basic, parts_of_filters_bpf, parts_of_filters_cgroup, parts_of_filters_flow};
 ghost use Rattle.tc_kinds.specs.Parts.Filters.{parts_of_filters_flower, parts_of_filters_fw, parts_of_filters_matchall, parts_of_filters_route};
 ghost use Rattle.tc_kinds.specs.Parts.Filters.{parts_of_filters_rsvp, parts_of_filters_tcindex, parts_of_filters_u32, all_of_filters};
 
-use tc_form_parts::{Field, Form, Name, Number, Part, Row};
+use tc_form_values::{Field, Form, Name, Number, Part, Row};
 
 // `list basic`
 #[rattlefmt::skip]

@@ -1,10 +1,10 @@
 //! The parts of `kinds/message`. Written by `kinds/generate`.
 
 ghost use Rattle.std.specs.Prelude.{◌≡◌, map};
-ghost use Rattle.tc_form_parts.specs.Tables.{part_view};
+ghost use Rattle.tc_form_values.specs.Tables.{part_view};
 ghost use Rattle.tc_kinds.specs.Parts.Message.{parts_of_message, all_of_message};
 
-use tc_form_parts::{Field, Form, KindRows, Name, Number, Part, Row};
+use tc_form_values::{Field, Form, KindRows, Name, Number, Part, Row};
 
 // `struct tc_message`
 #[rattlefmt::skip]

@@ -1,7 +1,7 @@
 //! The parts of `kinds/qdiscs`. Written by `kinds/generate`.
 
 ghost use Rattle.std.specs.Prelude.{◌≡◌, map};
-ghost use Rattle.tc_form_parts.specs.Tables.{part_view};
+ghost use Rattle.tc_form_values.specs.Tables.{part_view};
 ghost use Rattle.tc_kinds.specs.Parts.Qdiscs.{parts_of_qdiscs_atm, parts_of_qdiscs_cake, parts_of_qdiscs_cbq, parts_of_qdiscs_cbs};
 ghost use Rattle.tc_kinds.specs.Parts.Qdiscs.{parts_of_qdiscs_choke, parts_of_qdiscs_codel, parts_of_qdiscs_drr, parts_of_qdiscs_dsmark};
 ghost use Rattle.tc_kinds.specs.Parts.Qdiscs.{parts_of_qdiscs_etf, parts_of_qdiscs_ets, parts_of_qdiscs_fifo, parts_of_qdiscs_fq};
@@ -11,7 +11,7 @@ ghost use Rattle.tc_kinds.specs.Parts.Qdiscs.{parts_of_qdiscs_multiq, parts_of_q
 ghost use Rattle.tc_kinds.specs.Parts.Qdiscs.{parts_of_qdiscs_plug, parts_of_qdiscs_prio, parts_of_qdiscs_qfq, parts_of_qdiscs_red, parts_of_qdiscs_sfb};
 ghost use Rattle.tc_kinds.specs.Parts.Qdiscs.{parts_of_qdiscs_sfq, parts_of_qdiscs_skbprio, parts_of_qdiscs_taprio, parts_of_qdiscs_tbf, all_of_qdiscs};
 
-use tc_form_parts::{Choice, Field, Form, Name, Number, Part, Row};
+use tc_form_values::{Choice, Field, Form, Name, Number, Part, Row};
 
 // `list atm`
 #[rattlefmt::skip]

@@ -1,10 +1,10 @@
 //! The parts of `kinds/shared`. Written by `kinds/generate`.
 
 ghost use Rattle.std.specs.Prelude.{◌≡◌, map};
-ghost use Rattle.tc_form_parts.specs.Tables.{part_view};
+ghost use Rattle.tc_form_values.specs.Tables.{part_view};
 ghost use Rattle.tc_kinds.specs.Parts.Shared.{parts_of_shared, all_of_shared};
 
-use tc_form_parts::{Field, Form, Name, Number, Part, Row};
+use tc_form_values::{Field, Form, Name, Number, Part, Row};
 
 // `struct tc_ratespec`
 #[rattlefmt::skip]

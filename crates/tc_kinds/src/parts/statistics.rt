@@ -1,10 +1,10 @@
 //! The parts of `kinds/statistics`. Written by `kinds/generate`.
 
 ghost use Rattle.std.specs.Prelude.{◌≡◌, map};
-ghost use Rattle.tc_form_parts.specs.Tables.{part_view};
+ghost use Rattle.tc_form_values.specs.Tables.{part_view};
 ghost use Rattle.tc_kinds.specs.Parts.Statistics.{parts_of_statistics, all_of_statistics};
 
-use tc_form_parts::{Field, Form, KindRows, Number, Part, Row};
+use tc_form_values::{Field, Form, KindRows, Number, Part, Row};
 
 // `struct tc_stats`
 #[rattlefmt::skip]

@@ -1,7 +1,7 @@
 use Rattle.std.specs.Prelude.{[]}
 use Rattle.nla_frames.proofs.Bytes.{IsBytes-slice}
 use Rattle.tc_forms.specs.Shown.{shown_of}
-use Rattle.tc_form_parts.specs.Widths.{deepest}
+use Rattle.tc_form_values.specs.Widths.{deepest}
 use Rattle.tc_forms.proofs.Law.{shown_injective}
 use Rattle.tc_forms.proofs.laws.shown_is_injective.Goals as goal
 

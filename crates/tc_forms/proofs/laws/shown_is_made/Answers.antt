@@ -2,7 +2,7 @@ use Rattle.std.specs.Prelude.{[]}
 use Rattle.nla_frames.proofs.Bytes.{IsBytes-slice}
 use Rattle.tc_forms.specs.Made.{made_of}
 use Rattle.tc_forms.specs.Shown.{shown_of}
-use Rattle.tc_form_parts.specs.Widths.{deepest}
+use Rattle.tc_form_values.specs.Widths.{deepest}
 use Rattle.tc_forms.proofs.Law.{shown_again, shown_read}
 use Rattle.tc_forms.proofs.laws.shown_is_made.Goals as goal
 

@@ -2,13 +2,13 @@ use Rattle.std.proofs.Common.{Some, None, ◌∙◌, ap, refl}
 use Rattle.std.specs.Prelude.{[], option_and_then, false}
 use Rattle.serde_json.specs.Find.{as_array}
 use Rattle.serde_json.specs.View.{items_view, view}
-use Rattle.tc_form_parts.specs.AttributesMade.{each_under, kinded_made, layered_by, listed_made}
-use Rattle.tc_form_parts.specs.Choices.{by_choice_made}
+use Rattle.tc_form_attributes.specs.AttributesMade.{each_under, kinded_made, layered_by, listed_made}
+use Rattle.tc_form_values.specs.Choices.{by_choice_made}
 use Rattle.tc_forms.specs.Made.{make}
-use Rattle.tc_form_parts.specs.Places.{rows_under}
-use Rattle.tc_form_parts.specs.Records.{each_made, fields_made}
-use Rattle.tc_form_parts.specs.RowLists.{rows_in}
-use Rattle.tc_form_parts.specs.declared.form.Form.TheVariants as form
+use Rattle.tc_form_values.specs.Places.{rows_under}
+use Rattle.tc_form_values.specs.Records.{each_made, fields_made}
+use Rattle.tc_form_attributes.specs.RowLists.{rows_in}
+use Rattle.tc_form_values.specs.declared.form.Form.TheVariants as form
 use Rattle.tc_forms.proofs.Making.{fields_end, fields_fail, fields_more, items_end, items_fail, items_more, level_made, listed_end, listed_fails}
 use Rattle.tc_forms.proofs.Making.{listed_made_as, listed_more, plain_in_form, raw_made, shape_made, too_deep, under_own}
 use Rattle.tc_forms.proofs.make.+make.Goals as goal

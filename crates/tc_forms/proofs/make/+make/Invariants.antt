@@ -1,16 +1,16 @@
-use Rattle.tc_form_parts.specs.AttributesMade.{each_under, listed_made}
+use Rattle.tc_form_attributes.specs.AttributesMade.{each_under, listed_made}
 use Rattle.tc_forms.specs.Made.{make}
-use Rattle.tc_form_parts.specs.Records.{each_made, fields_made}
-use Rattle.tc_form_parts.specs.Tables.{fields_view}
-use Rattle.tc_form_parts.specs.declared.form.Field.{Field as CodeField}
+use Rattle.tc_form_values.specs.Records.{each_made, fields_made}
+use Rattle.tc_form_values.specs.Tables.{fields_view}
+use Rattle.tc_form_values.specs.declared.form.Field.{Field as CodeField}
 use Rattle.serde_json.specs.Data.{Data}
 use denote.Text.{Utf8}
 use denote.Shadow.{shadow}
 use Rattle.std.proofs.Common.{List, ℕ, Option, ◌≡◌, ◌+◌, ◌*◌, drop, ◌++◌}
 use Rattle.std.specs.Prelude.{option_map}
 use Rattle.serde_json.specs.View.{view, items_view}
-use Rattle.tc_form_parts.specs.Places.{rows_under}
-use Rattle.tc_form_parts.specs.RowLists.{rows_in}
+use Rattle.tc_form_values.specs.Places.{rows_under}
+use Rattle.tc_form_attributes.specs.RowLists.{rows_in}
 use Rattle.tc_forms.proofs.make.+make.Given as goal
 
 abbrev pub decreases-make_form : goal.decreases-make_form

@@ -1,23 +1,23 @@
 use Rattle.std.proofs.Common.{List, ℕ, drop, length, rules, sym, ap, ◌∙◌, refl, subst}
 use Rattle.serde_json.specs.Data.{Data, array, member, no_members, number, unsigned}
-use Rattle.tc_form_parts.specs.Frames.{PaddedFrame, frame_view}
-use Rattle.tc_form_parts.specs.Tables.{Row}
-use Rattle.tc_form_parts.specs.Attributes.{attribute, beside, by_row, frames, indexed, layered, listed, pad_member}
-use Rattle.tc_form_parts.specs.Choices.{by_choice, chosen}
-use Rattle.tc_form_parts.specs.Places.{rows_under}
-use Rattle.tc_form_parts.specs.RowLists.{rows_in}
-use Rattle.tc_form_parts.specs.Records.{after_field, elements_of, field_of}
-use Rattle.tc_form_parts.specs.Sent.{Sent, events}
+use Rattle.tc_form_attributes.specs.Frames.{PaddedFrame, frame_view}
+use Rattle.tc_form_values.specs.Tables.{Row}
+use Rattle.tc_form_attributes.specs.Attributes.{attribute, beside, by_row, frames, indexed, layered, listed, pad_member}
+use Rattle.tc_form_values.specs.Choices.{by_choice, chosen}
+use Rattle.tc_form_values.specs.Places.{rows_under}
+use Rattle.tc_form_attributes.specs.RowLists.{rows_in}
+use Rattle.tc_form_values.specs.Records.{after_field, elements_of, field_of}
+use Rattle.tc_form_values.specs.Sent.{Sent, events}
 use Rattle.tc_forms.specs.Shown.{show}
-use Rattle.tc_form_parts.specs.Widths.{fixed}
+use Rattle.tc_form_values.specs.Widths.{fixed}
 use Rattle.std.proofs.lemmas.Result.{on_ok_weaker}
-use Rattle.tc_form_parts.specs.declared.form.Form.TheVariants as form
+use Rattle.tc_form_values.specs.declared.form.Form.TheVariants as form
 use Rattle.std.specs.Prelude.{OnOk, true, false, codes, unwrap_or}
 use Rattle.tc_forms.proofs.Showing.{level_sent, number_sent, plain_when, empty_is, full_is, frames_more, frames_end}
-use Rattle.tc_form_parts.proofs.Sending.{map_sent, member_sent, list_sent}
+use Rattle.tc_form_values.proofs.Sending.{map_sent, member_sent, list_sent}
 use Rattle.tc_forms.proofs.Showing.{frames_over, elements_more, elements_end, elements_over, fields_more, fields_end, shape_sent}
-use Rattle.tc_form_parts.proofs.Sending.{object_sent, sent_none}
-use Rattle.tc_form_parts.proofs.Sending.{then_sent}
+use Rattle.tc_form_values.proofs.Sending.{object_sent, sent_none}
+use Rattle.tc_form_values.proofs.Sending.{then_sent}
 use Rattle.tc_forms.proofs.Showing.{too_deep_sent}
 use Rattle.tc_forms.proofs.show.+send.Goals as goal
 

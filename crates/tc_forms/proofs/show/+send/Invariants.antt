@@ -1,17 +1,17 @@
-use Rattle.tc_form_parts.specs.Attributes.{frames, listed}
-use Rattle.tc_form_parts.specs.Records.{elements, members}
-use Rattle.tc_form_parts.specs.Sent.{Sent, items_events, members_events}
+use Rattle.tc_form_attributes.specs.Attributes.{frames, listed}
+use Rattle.tc_form_values.specs.Records.{elements, members}
+use Rattle.tc_form_values.specs.Sent.{Sent, items_events, members_events}
 use Rattle.tc_forms.specs.Shown.{show}
-use Rattle.tc_form_parts.specs.Tables.{fields_view}
+use Rattle.tc_form_values.specs.Tables.{fields_view}
 use denote.Text.{Utf8}
 use denote.Shadow.{shadow}
 use Rattle.std.proofs.Common.{List, ℕ, ◌+◌, ◌*◌, ◌-◌, length, drop, ◌≡◌}
 use Rattle.serde.specs.Event.{Event, Log}
 use Rattle.serde_json.specs.Data.{Data}
-use Rattle.tc_form_parts.specs.Frames.{PaddedFrame}
-use Rattle.tc_form_parts.specs.declared.form.Field.{Field as CodeField}
-use Rattle.tc_form_parts.specs.Places.{rows_under}
-use Rattle.tc_form_parts.specs.RowLists.{rows_in}
+use Rattle.tc_form_attributes.specs.Frames.{PaddedFrame}
+use Rattle.tc_form_values.specs.declared.form.Field.{Field as CodeField}
+use Rattle.tc_form_values.specs.Places.{rows_under}
+use Rattle.tc_form_attributes.specs.RowLists.{rows_in}
 use Rattle.tc_forms.proofs.show.+send.Given as goal
 
 abbrev pub decreases-send_form : goal.decreases-send_form

@@ -1,6 +1,6 @@
 use Rattle.std.proofs.Common.{Err, ap, sym, ◌∙◌}
 use Rattle.serde_json.specs.View.{view}
-use Rattle.tc_form_parts.proofs.Search.{none_not_some}
+use Rattle.tc_form_values.proofs.Search.{none_not_some}
 use Rattle.tc_forms_text.proofs.Unread.{unread}
 use Rattle.tc_forms_text.proofs.read.read_text.Goals as goal
 

@@ -1,8 +1,8 @@
 use Rattle.std.proofs.Common.{List, [], ◌∷◌, ◌++◌, Some, None}
 use Rattle.std.proofs.lemmas.Result.{on_ok_weaker}
 use Rattle.serde.specs.Event.{Event, Log, Logs, map_begins, map_ends}
-use Rattle.tc_form_parts.specs.Sent.{Sent}
-use Rattle.tc_form_parts.proofs.Sending.{sent_then}
+use Rattle.tc_form_values.specs.Sent.{Sent}
+use Rattle.tc_form_values.proofs.Sending.{sent_then}
 use Rattle.tcshow_lib.specs.Line.{object}
 use Rattle.tcshow_lib.proofs.json.AnswerLineSerialize.serialize.Goals as goal
 

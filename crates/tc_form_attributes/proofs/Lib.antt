@@ -1,0 +1,4 @@
+mod FirstRows
+mod Single
+mod OwnKinds
+mod Framing

@@ -1,0 +1,12 @@
+pub mod Appended
+pub mod Choices
+pub mod Names
+pub mod Numbers
+pub mod Places
+pub mod Raw
+pub mod Records
+pub mod Search
+pub mod Sent
+pub mod Tables
+pub mod Values
+pub mod Widths

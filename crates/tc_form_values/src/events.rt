@@ -1,0 +1,103 @@
+//! Events sent to a format of serde, whose error is set aside: what is handed back of it through many calls is one byte.
+
+ghost use Rattle.serde.specs.Event.{Logs, boolean, field_key, map_begins, map_ends, seq_begins, seq_ends, signed, text, unsigned};
+ghost use Rattle.serde.specs.declared.name.Case.TheVariants.{AsIs};
+ghost use Rattle.std.specs.Prelude.{None, OnOk};
+
+use serde::Serializer;
+use std::alloc::Global;
+
+/// The format failed, and its error is set aside.
+#[derive(Clone, Copy)]
+pub enum Stopped {
+    /// The format failed.
+    Failed,
+}
+
+/// What calls that send are given beside the format.
+#[derive(Drop)]
+pub struct Aside<E> {
+    /// Takes the texts of bytes in hex.
+    pub alloc: Global,
+    /// The format's error, once it failed.
+    pub error: Option<E>,
+}
+
+/// What was sent, or that the format failed.
+pub type Done = Result<(), Stopped>;
+
+// What a call of the format gave; its error is set aside.
+macro_rules! done {
+    ($sent:expr, $aside:expr) => {
+        match $sent {
+            Ok(()) => Ok(()),
+            Err(e) => {
+                $aside.error = Some(e);
+                Err(Stopped::Failed)
+            }
+        }
+    };
+}
+
+/// An object begins.
+pub fn begin_map<S: Serializer>(out: &mut S, aside: &mut Aside<S::Error>) -> Done
+    ensures { OnOk result (Logs (S.written out.old) (S.written out.new) (map_begins None)) }
+{
+    done!(out.begin_map(None), aside)
+}
+
+/// An object ends.
+pub fn end_map<S: Serializer>(out: &mut S, aside: &mut Aside<S::Error>) -> Done
+    ensures { OnOk result (Logs (S.written out.old) (S.written out.new) (map_ends)) }
+{
+    done!(out.end_map(), aside)
+}
+
+/// A list begins.
+pub fn begin_seq<S: Serializer>(out: &mut S, aside: &mut Aside<S::Error>) -> Done
+    ensures { OnOk result (Logs (S.written out.old) (S.written out.new) (seq_begins None)) }
+{
+    done!(out.begin_seq(None), aside)
+}
+
+/// A list ends.
+pub fn end_seq<S: Serializer>(out: &mut S, aside: &mut Aside<S::Error>) -> Done
+    ensures { OnOk result (Logs (S.written out.old) (S.written out.new) (seq_ends)) }
+{
+    done!(out.end_seq(), aside)
+}
+
+/// The name of a member.
+pub fn key<S: Serializer>(name: &str, out: &mut S, aside: &mut Aside<S::Error>) -> Done
+    ensures { OnOk result (Logs (S.written out.old) (S.written out.new) (field_key name.now AsIs)) }
+{
+    done!(out.key(name), aside)
+}
+
+/// A text.
+pub fn string<S: Serializer>(value: &str, out: &mut S, aside: &mut Aside<S::Error>) -> Done
+    ensures { OnOk result (Logs (S.written out.old) (S.written out.new) (text value.now)) }
+{
+    done!(out.str(value), aside)
+}
+
+/// `true` or `false`.
+pub fn truth<S: Serializer>(value: bool, out: &mut S, aside: &mut Aside<S::Error>) -> Done
+    ensures { OnOk result (Logs (S.written out.old) (S.written out.new) (boolean value)) }
+{
+    done!(out.bool(value), aside)
+}
+
+/// A number.
+pub fn unsigned<S: Serializer>(value: u64, out: &mut S, aside: &mut Aside<S::Error>) -> Done
+    ensures { OnOk result (Logs (S.written out.old) (S.written out.new) (unsigned value)) }
+{
+    done!(out.u64(value), aside)
+}
+
+/// A number that may be negative.
+pub fn signed<S: Serializer>(value: i64, out: &mut S, aside: &mut Aside<S::Error>) -> Done
+    ensures { OnOk result (Logs (S.written out.old) (S.written out.new) (signed value)) }
+{
+    done!(out.i64(value), aside)
+}
