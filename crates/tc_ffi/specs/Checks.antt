@@ -17,7 +17,7 @@ Numbers verdict holds = verdict ≡ (if holds then 1 else 0)
 abbrev pub IsCounted : Type 0 → List ℕ → ℕ → Type 0
 IsCounted Fits bytes count = (Fits × (count ≡ length bytes)) ⊎ ((Fits → ⊥) × (count ≡ 0))
 
--- what is said of a message, and of the bytes that it was read of
+-- the verdict on a message, and on the bytes that it was read from
 pub record IsJudged (words : Words Message) (bytes : List ℕ) (m : Message) (v : VtcVerdict) : Type 0 where
   pub fits : Says v.fits (words.Fits m)
   pub settled : Says v.settled (words.Settled m)

@@ -1,4 +1,4 @@
-//! What is said of bytes to C.
+//! Verdicts on bytes, for C.
 
 ghost use Rattle.std.specs.Prelude.{◌≡◌, ◌≤◌, length};
 ghost use Rattle.tc_status.specs.Status.{numbers_of};
@@ -10,7 +10,7 @@ use tc_outline::{What, locate};
 use tc_status::numbers_of;
 use tc_wire::{DecodeError, WholeMessage};
 
-/// What is said of the message that bytes read as: `struct vtc_verdict`.
+/// The verdict on the message that bytes read as: `struct vtc_verdict`.
 #[repr(C)]
 #[derive(Clone, Copy)]
 pub struct VtcVerdict {
@@ -35,7 +35,7 @@ pub struct VtcFault {
     pub offset: usize,
 }
 
-/// What is said of a message, and of the bytes that it was read of.
+/// The verdict on a message, and on the bytes that it was read from.
 pub fn judged<M: WholeMessage<Global>>(message: &M, bytes: &[u8]) -> VtcVerdict
     ensures { IsJudged M.words bytes.now (M.message message.now) result }
 {

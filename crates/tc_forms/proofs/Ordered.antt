@@ -1,4 +1,4 @@
--- Readers of JSON: one leaves what is shown as it stands, another puts members in the order of their names. Neither changes what is found by a name.
+-- Readers of JSON: one keeps what is shown unchanged, another puts members in the order of their names. Neither changes what is found by a name.
 use Rattle.std.proofs.Common.{◌≡◌, ℕ, Bool, true, false, List, length, Option, Some, None, refl, ap, sym, ◌∙◌, true≢false, inl, inr}
 use Rattle.std.specs.Prelude.{option_map, bytes_eq, codes, ◌==◌}
 use Rattle.std.proofs.lemmas.Bool.{cases_Bool, cond_both}
@@ -61,7 +61,7 @@ pub record Reader (read : Data → Data) : Type 0 where
   pub found : (ms : Members) (q : List ℕ) → Apart ms → get q (read (object ms)) ≡ option_map read (get_member q ms)
   pub no_text : (ms : Members) → as_str (read (object ms)) ≡ None
 
--- JSON as it stands
+-- JSON unchanged
 each_same : (ds : Items) → ds ≡ each_item (λ d. d) ds
 each_same no_items = refl
 each_same (item d ds) = ap (item d) (each_same ds)

@@ -75,7 +75,7 @@ abbrev pub look_beside : Look → Form → Look
 look_beside anything f = anything
 look_beside look f = look_of f
 
--- ---- what is said of a type
+-- ---- what the table has for a type
 
 pub record Said : Type 0 where
   pub type : ℕ

@@ -43,7 +43,7 @@ pub(crate) struct Walk {
 // The place of no columns.
 const NONE: usize = 65535;
 
-// The column of a name in JSON. It looks at four names at a time, since most have another length.
+// The column of a name in JSON. It looks at four names at a time for speed alone.
 fn find(columns: &'static [Column<'static>], key: &str) -> Option<&'static Column<'static>>
     ensures { option_map (λ c. column_view c.now) result ≡ find (columns_view columns.now) key.now }
 {

@@ -29,7 +29,7 @@ form_of root.Action = action_message
 form_of root.Flush = action_message
 form_of it = tc_message
 
--- what columns are told: where they begin, whether paddings are shown, and what interfaces are called
+-- what columns are given: where they begin, whether paddings are shown, and what interfaces are called
 abbrev pub given_by : KindColumns → Given
 given_by c = record { root = root_place c.root; all = c.all; interfaces = map (λ x. (x.0, x.1.now)) c.interfaces.now }
 

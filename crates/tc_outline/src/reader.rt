@@ -11,7 +11,7 @@ use crate::what::What;
 use nla_frames::{DecodeError, Res};
 use tc_index::{Attribute, Attributes, BrokenFrame};
 
-// Why a message is refused. Its place as a tree takes another walk.
+// The first fault of a message. Its path takes another walk.
 #[derive(Drop)]
 struct Refused<'a> {
     error: DecodeError,
@@ -20,12 +20,12 @@ struct Refused<'a> {
     count: usize,
 }
 
-// What is refused.
+// Where the fault is.
 #[derive(Clone, Copy)]
 enum At<'a> {
-    // An attribute, for what it holds.
+    // In the value of this attribute.
     Attribute(Attribute<'a>),
-    // A broken frame that begins at this offset.
+    // In the frame that begins at this offset, which is broken.
     Frame(usize),
 }
 

@@ -13,7 +13,7 @@ use Rattle.tc_schema.specs.declared.notes.Named.{Named}
 use Rattle.tc_schema.specs.declared.notes.Noted.{Noted}
 use Rattle.tc_schema.specs.Texts.{Member, deepest, form_text, members_of, times, around}
 
--- a line: two blanks for each level, a name, what is said of it, and the kernel's name, where it has one
+-- a line: two blanks for each level, a name, its description, and the kernel's name, where it has one
 abbrev pub text_line : ℕ → List ℕ → List ℕ → List ℕ → List ℕ
 text_line level name said kernel = times level (codes "  ") ++ (name ++ (said ++ (around (codes " (") kernel (codes ")") ++ codes "\n")))
 

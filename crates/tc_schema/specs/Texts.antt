@@ -1,4 +1,4 @@
--- Texts as in JSON, what is said of each form, and the members of parts.
+-- Texts as in JSON, how each form is described, and the members of parts.
 use Rattle.std.specs.Prelude.{Bool, List, None, Option, Some, [], codes, decimal, false, if◌then◌else◌, map, nat_lt, suc, true, zero, ℕ}
 use Rattle.std.specs.Prelude.{◌++◌, ◌==◌, ◌∷◌}
 use Rattle.tc_form_values.specs.Tables.{Choices, Fields, Names, Part, Rows}
@@ -46,7 +46,7 @@ around head (c ∷ cs) tail = head ++ ((c ∷ cs) ++ tail)
 
 -- ---- forms
 
--- what is said of a form: in words; and if it holds no others, an example of what is shown in it, and the schema of that, of a number its range
+-- how a form is described: in words; if it holds no others, also by an example of what is shown in it, and by the schema of that, of a number by its range
 pub record Said : Type 0 where
   pub words : List ℕ
   pub sample : List ℕ

@@ -136,8 +136,8 @@ pub(crate) fn put_example<T: Tables, A: Allocator>(
 
 // ---- the schema
 
-// The schema of a line, up to the definitions of messages: what a line begins with, what is said of a message, of an answer, of a place
-// without a message, and at the end; and what is defined once for all tables.
+// The schema of a line, up to the definitions of messages: the members that begin a line; those for a message, for an answer, for a place
+// without a message, and for the end; and what is defined once for all tables.
 const LINE: &str = r##"{"$schema":"https://json-schema.org/draft/2020-12/schema",
 "title":"A line of tcshow --json",
 "type":"object","properties":{

@@ -1,4 +1,4 @@
-//! Texts that are put at the end of a vector, what is said of each form, and the members of a part.
+//! Texts appended to a vector, how each form is described, and the members of a part.
 
 ghost use Rattle.std.specs.Prelude.{MatchOption, OnOk, [], decimal, ◌++◌, ◌∷◌, ◌≡◌};
 ghost use Rattle.tc_form_values.specs.Places.{layer_of};
@@ -112,8 +112,8 @@ pub fn put_between<A: Allocator>(out: &mut Vec<u8, A>, head: &str, text: &str, t
 
 // ---- forms
 
-/// What is said of a form: in words; and if it holds no others, an example of what is shown in it, and the schema of that, of a number
-/// its range.
+/// How a form is described: in words; if it holds no others, also by an example of what is shown in it, and by the schema of that, of a
+/// number by its range.
 #[derive(Clone, Copy)]
 pub struct Said {
     pub words: &'static str,

@@ -374,7 +374,7 @@ fn say_made<E: Write>(
     }
 }
 
-/// What is said of a dump that another request makes.
+/// The notice on a dump that another request makes.
 pub(crate) const MADE_BY_ANOTHER: &str = "made by another request";
 
 // Says why each of these isn't made.

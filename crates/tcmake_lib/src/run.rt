@@ -169,7 +169,7 @@ fn request_for(alloc: Global, dump: &Made) -> Result<Option<Made>, Complaint> {
     Ok(Some(restored(alloc, dump)?))
 }
 
-// What is said of a dump that another request makes, if that is asked for.
+// The notice on a dump that another request makes, if notices are asked for.
 fn made_by_another(alloc: Global, verbose: bool) -> Result<Option<String>, AllocError> {
     if verbose {
         Ok(Some(String::from_str(alloc, MADE_BY_ANOTHER)?))
@@ -178,7 +178,7 @@ fn made_by_another(alloc: Global, verbose: bool) -> Result<Option<String>, Alloc
     }
 }
 
-// What is said of places that settling changed.
+// Notices on the places that settling changed.
 fn notices_of(alloc: Global, settled: &[Difference]) -> Result<Vec<String>, AllocError> {
     let mut notices = Vec::new(alloc);
     for place in settled {

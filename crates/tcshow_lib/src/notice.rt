@@ -1,4 +1,4 @@
-//! What is said of an input where it holds no message.
+//! Why a part of an input isn't shown as messages.
 
 use serde::Serialize;
 use std::alloc::{AllocError, Global};

@@ -214,7 +214,7 @@ fn is_json(form: Form) -> bool
     }
 }
 
-// What is said of a place, on a page.
+// Puts a notice on a page, with its offset.
 fn show_said<A: Allocator>(page: &mut Page<A>, said: &str, at: u64) -> Result<(), AllocError> {
     page.text(said)?;
     page.text(" at ")?;

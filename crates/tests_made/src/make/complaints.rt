@@ -3,7 +3,7 @@
 use crate::make::runs::{HEX, makes, makes_line};
 use std::test::Fail;
 
-// Lines of which no message is made, and what is said of them.
+// Lines of which no message is made, and the complaints.
 static ROWS: [(&str, &str); 18] = [
     (
         r#"{"type":"RTM_NEWQDISC","seq":-1,"message":{"header":{"family":"Unspec","index":2,"handle":"1:","parent":"root","info":0},"attributes":[{"Kind":"fq_codel"}]}}"#,

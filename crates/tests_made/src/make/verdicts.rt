@@ -122,7 +122,7 @@ static CELLS: [Cell; 27] = [
     Cell { says: "", message: REFUSED, making: AS_GIVEN, makes: Makes::Given, said: "" },
 ];
 
-// True if what is made of a cell's line, and what is said of it, is what is wanted.
+// True if a cell's line makes the wanted bytes, and the wanted complaint.
 fn is_so(alloc: Global, cell: &Cell) -> Result<bool, AllocError> {
     let (says, (json, given)) = (cell.says, texts_of(cell.message));
     let digits = match cell.makes {

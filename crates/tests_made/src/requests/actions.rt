@@ -176,12 +176,12 @@ fn raw(alloc: Global, place: u16, kind: &str) -> Result<TcAction, RequestError> 
     raw_action(alloc, place, kind, Vec::<DefaultNla<Global>>::new(alloc))
 }
 
-// What is said of two actions at these places of a message.
+// The error of a message with two actions at these places.
 fn error_of_message(alloc: Global, first: u16, second: u16) -> Result<Option<RequestError>, Fail> {
     Ok(action_message(alloc, two(alloc, first, second)?).err())
 }
 
-// What is said of a filter with these options.
+// The error of a filter with these options.
 fn error_of_filter<O: FilterOption<Global>>(
     alloc: Global,
     options: Vec<O>,
