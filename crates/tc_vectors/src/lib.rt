@@ -1,4 +1,5 @@
-//! Tests alone, of messages, their attributes and their options: what no contract says, worked bytes, and hostile ones.
+//! Tests alone, of messages, their attributes and their options: what no contract says, worked bytes, and hostile ones;
+//! and of runs of the program `tcrewrite`.
 #![tactic(auto)]
 
 #[cfg(test)]
@@ -23,6 +24,8 @@ mod lengths;
 mod made;
 #[cfg(test)]
 mod messages;
+#[cfg(test)]
+mod program;
 #[cfg(test)]
 mod readme;
 #[cfg(test)]

@@ -17,7 +17,9 @@ const TESTS: &[&str] = &[
 const OMITTED: &[&str] = &[
     "failing_alloc",
     "tcforms_lib",
+    "tcrewrite_lib",
     "tc_vectors::hostile",
+    "tc_vectors::program",
     "tc_vectors::sizes",
     "tc_vectors::upgrade::is_right",
     "tc_vectors::upgrade::is_upgraded_without_memory",

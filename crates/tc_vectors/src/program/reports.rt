@@ -1,6 +1,6 @@
 //! Reports on messages and on texts in hex, with memory enough and where it is refused.
 
-use crate::streams::{LIMIT_OF_FQ_CODEL, REPORT};
+use crate::program::streams::{LIMIT_OF_FQ_CODEL, REPORT};
 use failing_alloc::Failing;
 use std::alloc::{AllocError, Global};
 use std::process::Abort;

@@ -1,6 +1,6 @@
 //! The exit status of the program: that of the report, and 3 only where a stream fails, in both modes.
 
-use crate::streams::{LIMIT_OF_FQ_CODEL, REPORT_ON_LIMIT, serves};
+use crate::program::streams::{LIMIT_OF_FQ_CODEL, REPORT_ON_LIMIT, serves};
 use tcrewrite_lib::arguments::Request;
 use tcrewrite_lib::mode::Mode;
 

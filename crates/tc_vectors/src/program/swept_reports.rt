@@ -1,6 +1,6 @@
 //! Reports on messages that were cut short or changed, and on attributes of all types and lengths.
 
-use crate::reports::mode_of;
+use crate::program::reports::mode_of;
 use std::alloc::{AllocError, Global};
 use std::process::Abort;
 use std::test::Fail;
