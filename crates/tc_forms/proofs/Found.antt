@@ -18,6 +18,7 @@ use Rattle.tc_form_values.specs.Names.{is_reserved}
 use Rattle.tc_form_values.proofs.Leaves.{hex_made-hex}
 use Rattle.tc_forms.proofs.Frames.{Stands}
 use Rattle.tc_form_values.proofs.Members.{here, passes}
+use Rattle.tc_form_values.proofs.Search.{none_not_some, some_is}
 use Rattle.tc_forms.proofs.RecordsAgain.{not-false, blank}
 
 -- ---- an attribute's object

@@ -7,6 +7,7 @@ use Rattle.tc_form_attributes.specs.AttributesMade.{each_under, listed_made}
 use Rattle.tc_form_values.specs.Tables.{Row, Table, field_view, fields_view}
 use Rattle.std.proofs.lemmas.List.{drop_all}
 use Rattle.tc_form_values.proofs.Search.{none_not_some, some_is}
+use Rattle.tc_form_values.proofs.Appending.{appended_as}
 use Rattle.tc_forms.proofs.Showing.{drop_here}
 use Rattle.tc_form_values.specs.Appended.{Appended, Stops}
 use Rattle.tc_form_attributes.specs.Kinds.{kind_named, own_kind_named}

@@ -15,6 +15,7 @@ use Rattle.tc_form_values.specs.Records.{members, rest_made, rest_member, zeros}
 use Rattle.tc_form_values.specs.Tables.{Field, Table}
 use Rattle.tc_form_values.specs.Widths.{field_width}
 use Rattle.tc_form_values.proofs.Leaves.{all_zeros, same_bytes, hex_made-hex}
+use Rattle.tc_form_values.proofs.Members.{here, passes}
 use Rattle.tc_forms.proofs.Frames.{joined_made}
 
 pub not-false : (b : Bool) → not b ≡ true → b ≡ false

@@ -20,6 +20,7 @@ use Rattle.tc_form_values.specs.declared.form.Form.{Form}
 use Rattle.tc_form_values.specs.declared.form.Number.{Number}
 use Rattle.tc_form_values.specs.declared.form.Field.{Field as CodeField}
 use Rattle.serde_json.specs.Data.{Data, Members}
+use Rattle.tc_form_values.proofs.Sending.{sent_none, sent_then}
 
 pub drop_here : {X : Type 0} (xs : List X) (i : ℕ) (d : X) → i < length xs → drop i xs ≡ get_or xs i d ∷ drop (i + 1) xs
 drop_here [] i d lt = absurd (omega arith)
