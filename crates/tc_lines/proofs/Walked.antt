@@ -12,7 +12,7 @@ use Rattle.tc_lines.specs.Columns.{Given, Table, depth_in, has_elements, in_line
 use Rattle.tc_lines.specs.declared.column.How.{How}
 use Rattle.tc_lines.specs.declared.column.How.TheVariants.{Below, Count, Elements, Family, First, Flags, From, Handle, Hidden, InLine, Index, Info}
 use Rattle.tc_lines.specs.declared.column.How.TheVariants.{Interface, Kind, Named, Number, Plain, Slash, Text, Through, To, Verdict, Within}
-use Rattle.tc_lines.specs.Lines.{Written, at, begins, begun, column, element, head, inside, inside_items, inside_members, inside_name, item_lines}
+use Rattle.tc_lines.specs.Lines.{Written, at, begins, begun, column, element, head, inside, inside_items, inside_members, inside_name, is_word, item_lines}
 use Rattle.tc_lines.specs.Lines.{items, lines, members, opening, place_behind, put, value}
 use Rattle.tc_lines.specs.Log.{interface_marks, marked, marks}
 use Rattle.tc_lines.specs.Walk.{Follows, State, between, go_inside, note, step, walked}
@@ -20,12 +20,12 @@ use Rattle.tc_lines.specs.declared.walk.Frame.{Frame}
 use Rattle.tc_lines.specs.declared.walk.Frame.TheVariants.{InItems, InMembers}
 
 -- within a line, so deep and one more
-abbrev within : Written → List Frame → How → ℕ → ℕ → State
-within w fs h n m = record { out = w.text; partner = w.partner; frames = fs; how = h; depth = n; inside = suc m }
+abbrev within : Written → List Frame → How → ℕ → ℕ → Bool → State
+within w fs h n m word = record { out = w.text; partner = w.partner; frames = fs; how = h; depth = n; inside = suc m; word = word }
 
 -- at the value of a column
 abbrev behind : Written → List Frame → How → ℕ → State
-behind w fs h n = record { out = w.text; partner = w.partner; frames = fs; how = h; depth = n; inside = 0 }
+behind w fs h n = record { out = w.text; partner = w.partner; frames = fs; how = h; depth = n; inside = 0; word = false }
 
 -- between values
 abbrev among : Written → List Frame → State
@@ -44,32 +44,33 @@ module _ (t : Table) where
   -- ---- within one line
 
   mutual
-    inside-data : (d : Data) (w : Written) (fs : List Frame) (h : How) (n m : ℕ)
-        → walked t (events d) (Some (within w fs h n m)) ≡ Some (within (inside t n h d w) fs h n m)
-    inside-data null w fs h n m = refl
-    inside-data (boolean b) w fs h n m = refl
-    inside-data (number (unsigned k)) w fs h n m = refl
-    inside-data (number (negative z)) w fs h n m = refl
-    inside-data (number (float x)) w fs h n m = refl
-    inside-data (string s) w fs h n m = refl
-    inside-data (array ds) w fs h n m =
-        both (items_events ds) (seq_ends ∷ []) (Some (within w fs h n (suc m))) _ _ (inside-items ds w fs h n (suc m)) refl
-    inside-data (object ms) w fs h n m =
-        both (members_events ms) (map_ends ∷ []) (Some (within w fs h n (suc m))) _ _ (inside-members ms w fs h n (suc m)) refl
+    inside-data : (d : Data) (word : Bool) (w : Written) (fs : List Frame) (h : How) (n m : ℕ)
+        → walked t (events d) (Some (within w fs h n m word)) ≡ Some (within (inside t n h word d w) fs h n m false)
+    inside-data null word w fs h n m = refl
+    inside-data (boolean b) word w fs h n m = refl
+    inside-data (number (unsigned k)) word w fs h n m = refl
+    inside-data (number (negative z)) word w fs h n m = refl
+    inside-data (number (float x)) word w fs h n m = refl
+    inside-data (string s) word w fs h n m = refl
+    inside-data (array ds) word w fs h n m =
+        both (items_events ds) (seq_ends ∷ []) (Some (within w fs h n (suc m) false)) _ _ (inside-items ds w fs h n (suc m)) refl
+    inside-data (object ms) word w fs h n m =
+        both (members_events ms) (map_ends ∷ []) (Some (within w fs h n (suc m) false)) _ _ (inside-members ms w fs h n (suc m)) refl
 
     inside-items : (ds : Items) (w : Written) (fs : List Frame) (h : How) (n m : ℕ)
-        → walked t (items_events ds) (Some (within w fs h n m)) ≡ Some (within (inside_items t n h ds w) fs h n m)
+        → walked t (items_events ds) (Some (within w fs h n m false)) ≡ Some (within (inside_items t n h ds w) fs h n m false)
     inside-items no_items w fs h n m = refl
     inside-items (item d ds) w fs h n m =
-        both (events d) (items_events ds) (Some (within w fs h n m)) _ _ (inside-data d w fs h n m) (inside-items ds (inside t n h d w) fs h n m)
+        both (events d) (items_events ds) (Some (within w fs h n m false)) _ _ (inside-data d false w fs h n m)
+        (inside-items ds (inside t n h false d w) fs h n m)
 
     inside-members : (ms : Members) (w : Written) (fs : List Frame) (h : How) (n m : ℕ)
-        → walked t (members_events ms) (Some (within w fs h n m)) ≡ Some (within (inside_members t n h ms w) fs h n m)
+        → walked t (members_events ms) (Some (within w fs h n m false)) ≡ Some (within (inside_members t n h ms w) fs h n m false)
     inside-members no_members w fs h n m = refl
     inside-members (member k d ms) w fs h n m =
         let named = put (inside_name k) false w in
-        both (events d) (members_events ms) (Some (within named fs h n m)) _ _ (inside-data d named fs h n m)
-        (inside-members ms (inside t n h d named) fs h n m)
+        both (events d) (members_events ms) (Some (within named fs h n m (is_word k))) _ _ (inside-data d (is_word k) named fs h n m)
+        (inside-members ms (inside t n h (is_word k) d named) fs h n m)
 
   -- ---- in lines
 
@@ -121,7 +122,7 @@ module _ (t : Table) where
       both (items_events ds) (seq_ends ∷ []) (Some (among w (InItems (depth_in h n) (place_in h) (place_in h) (has_elements h) ∷ fs))) _ _
       (all (at (place_in h) w) (depth_in h n) (place_in h) (has_elements h) fs) refl
   an-array false ds all w fs h n =
-      both (items_events ds) (seq_ends ∷ []) (Some (within (put (opening t n h) true w) fs (opened h) n zero)) _ _
+      both (items_events ds) (seq_ends ∷ []) (Some (within (put (opening t n h) true w) fs (opened h) n zero false)) _ _
       (inside-items ds (put (opening t n h) true w) fs (opened h) n zero) refl
 
   an-object : (b : Bool) (ms : Members) → HaveLines ms → (w : Written) (k base place : ℕ) (inline : Bool) (fs : List Frame) (h : How) (n : ℕ)
@@ -137,7 +138,7 @@ module _ (t : Table) where
       (all (at (place_in h) w) (depth_in h n) (place_in h) (in_line h) (InMembers k base place inline ∷ fs)) refl
   an-object false ms all w k base place inline fs h n =
       both (members_events ms) (map_ends ∷ [])
-      (Some (within (put (opening t n h) true w) (InMembers k base place inline ∷ fs) (opened h) n zero)) _ _
+      (Some (within (put (opening t n h) true w) (InMembers k base place inline ∷ fs) (opened h) n zero false)) _ _
       (inside-members ms (put (opening t n h) true w) (InMembers k base place inline ∷ fs) (opened h) n zero) refl
 
   mutual
@@ -182,7 +183,7 @@ module _ (t : Table) where
     an-item (number (float x)) w n base each fs = refl
     an-item (string v) w n base each fs = refl
     an-item (array ds) w n base each fs =
-        both (items_events ds) (seq_ends ∷ []) (Some (within (put [] true w) (InItems n base w.place each ∷ fs) Plain 0 zero)) _ _
+        both (items_events ds) (seq_ends ∷ []) (Some (within (put [] true w) (InItems n base w.place each ∷ fs) Plain 0 zero false)) _ _
         (inside-items ds (put [] true w) (InItems n base w.place each ∷ fs) Plain 0 zero) refl
     an-item (object ms) w n base each fs =
         let named = put (element t n base each) each w in

@@ -7,7 +7,8 @@ use Rattle.serde_json.specs.Events.{number_event}
 use Rattle.tc_lines.specs.Columns.{Column, Table, column_of, depth_in, has_elements, has_name, in_line, is_nested, opened, place_in}
 use Rattle.tc_lines.specs.Leaves.{is_block, leaf, line, name_at}
 use Rattle.tc_lines.specs.declared.column.How.{How}
-use Rattle.tc_lines.specs.declared.column.How.TheVariants.{First, From, Hidden, Index, Kind, Plain, Slash, Through, To}
+use Rattle.tc_lines.specs.declared.column.How.TheVariants.{First, From, Hidden, Index, Kind, Number, Plain, Slash, Through, To}
+use Rattle.tc_units.specs.declared.unit.Unit.TheVariants.{LongHex}
 
 -- what is written so far; the place of the columns that are looked up first, since what they name belongs to what was written last,
 -- as a mask to its address; and the place of the columns under the kind in force
@@ -34,6 +35,14 @@ put text starts w = record { text = w.text ++ text; partner = if starts then NON
 -- a name within a line
 abbrev pub inside_name : List ℕ → List ℕ
 inside_name key = if bytes_eq key (codes "Other") then [] else codes " " ++ key
+
+-- the name of an attribute's `nla_type`, and how that number is shown within a line
+abbrev pub is_word : List ℕ → Bool
+is_word key = bytes_eq key (codes "word")
+
+abbrev pub how_of_word : Bool → Event → How → How
+how_of_word word (event.unsigned n) h = if word then Number LongHex else h
+how_of_word word e h = h
 
 -- a name is a word of a line, or begins one
 abbrev pub name_text : ℕ → Bool → List ℕ → List ℕ
@@ -89,23 +98,23 @@ module _ (t : Table) where
   abbrev pub leaf_inside : ℕ → How → Event → Written → Written
   leaf_inside n h e w = put (leaf t n h e) false w
 
-  -- all within one line, by one column
+  -- all within one line, by one column, but that the number of a word is in hex
   abbrev mutual
-    pub inside : ℕ → How → Data → Written → Written
-    inside n h null w = leaf_inside n h event.nothing w
-    inside n h (boolean b) w = leaf_inside n h (event.boolean b) w
-    inside n h (number x) w = leaf_inside n h (number_event x) w
-    inside n h (string s) w = leaf_inside n h (event.text s) w
-    inside n h (array ds) w = inside_items n h ds w
-    inside n h (object ms) w = inside_members n h ms w
+    pub inside : ℕ → How → Bool → Data → Written → Written
+    inside n h word null w = leaf_inside n h event.nothing w
+    inside n h word (boolean b) w = leaf_inside n h (event.boolean b) w
+    inside n h word (number x) w = leaf_inside n (how_of_word word (number_event x) h) (number_event x) w
+    inside n h word (string s) w = leaf_inside n h (event.text s) w
+    inside n h word (array ds) w = inside_items n h ds w
+    inside n h word (object ms) w = inside_members n h ms w
 
     pub inside_items : ℕ → How → Items → Written → Written
     inside_items n h no_items w = w
-    inside_items n h (item d ds) w = inside_items n h ds (inside n h d w)
+    inside_items n h (item d ds) w = inside_items n h ds (inside n h false d w)
 
     pub inside_members : ℕ → How → Members → Written → Written
     inside_members n h no_members w = w
-    inside_members n h (member key d ms) w = inside_members n h ms (inside n h d (put (inside_name key) false w))
+    inside_members n h (member key d ms) w = inside_members n h ms (inside n h (is_word key) d (put (inside_name key) false w))
 
   -- the column of a member
   abbrev pub column : ℕ → List ℕ → Written → Column

@@ -7,13 +7,13 @@ use Rattle.tc_lines.specs.Columns.{Column, Table, column_of, depth_in, has_eleme
 use Rattle.tc_lines.specs.declared.column.How.{How}
 use Rattle.tc_lines.specs.declared.column.How.TheVariants.{Kind, Plain, Through}
 use Rattle.tc_lines.specs.Leaves.{leaf}
-use Rattle.tc_lines.specs.Lines.{NONE, begins, element, head, inside_name, opening, partner_behind, partner_by}
+use Rattle.tc_lines.specs.Lines.{NONE, begins, element, head, how_of_word, inside_name, is_word, opening, partner_behind, partner_by}
 use Rattle.tc_lines.specs.declared.walk.Frame.{Frame}
 use Rattle.tc_lines.specs.declared.walk.Frame.TheVariants.{InItems, InMembers}
 use Rattle.tc_lines.specs.declared.walk.Walk.{Walk}
 
--- the objects and lists that are open, the innermost first; the column of the value that comes, and the depth of its line; and how
--- many objects and lists are open within one line
+-- the objects and lists that are open, the innermost first; the column of the value that comes, and the depth of its line; how many
+-- objects and lists are open within one line, and whether the name of a word has come there
 pub record State : Type 0 where
   pub out : List ℕ
   pub partner : ℕ
@@ -21,15 +21,16 @@ pub record State : Type 0 where
   pub how : How
   pub depth : ℕ
   pub inside : ℕ
+  pub word : Bool
 
 -- between values
 abbrev pub between : List ℕ → ℕ → List Frame → State
-between out partner frames = record { out = out; partner = partner; frames = frames; how = Plain; depth = 0; inside = 0 }
+between out partner frames = record { out = out; partner = partner; frames = frames; how = Plain; depth = 0; inside = 0; word = false }
 
 -- before a message, by the columns at a place
 abbrev pub start : ℕ → State
 start root =
-    record { out = []; partner = NONE; frames = InMembers 0 root root false ∷ []; how = Through root; depth = 0; inside = 0 }
+    record { out = []; partner = NONE; frames = InMembers 0 root root false ∷ []; how = Through root; depth = 0; inside = 0; word = false }
 
 -- the innermost
 abbrev pub first_of : List Frame → Option Frame
@@ -49,11 +50,11 @@ done (suc m) s = record s { inside = suc m }
 -- a leaf that is no kind is done
 abbrev pub leaf_done : ℕ → Bool → State → State
 leaf_done zero block s = between s.out (partner_by s.how block s.partner) s.frames
-leaf_done (suc m) block s = s
+leaf_done (suc m) block s = record s { word = false }
 
 -- one deeper within a line
 abbrev pub deeper : State → State
-deeper s = record s { inside = suc s.inside }
+deeper s = record s { inside = suc s.inside; word = false }
 
 -- the items behind an object are those of the kind that it says
 abbrev pub settle : ℕ → List Frame → List Frame
@@ -119,7 +120,7 @@ module _ (t : Table) where
 
   abbrev pub take_leaf : ℕ → Event → State → State
   take_leaf zero e s = between (s.out ++ leaf t s.depth s.how e) (partner_behind s.how e s.partner) (note e s.how s.frames)
-  take_leaf (suc m) e s = record s { out = s.out ++ leaf t s.depth s.how e }
+  take_leaf (suc m) e s = record s { out = s.out ++ leaf t s.depth (how_of_word s.word e s.how) e; word = false }
 
   abbrev pub key_in : List ℕ → State → Option Frame → Option State
   key_in k s (Some (InMembers n base place inline)) =
@@ -128,7 +129,7 @@ module _ (t : Table) where
 
   abbrev pub take_key : ℕ → List ℕ → State → Option State
   take_key zero k s = key_in k s (first_of s.frames)
-  take_key (suc m) k s = Some (record s { out = s.out ++ inside_name k })
+  take_key (suc m) k s = Some (record s { out = s.out ++ inside_name k; word = is_word k })
 
   -- what an event does
   abbrev pub step : Event → State → Option State
@@ -158,4 +159,12 @@ module _ (t : Table) where
 
 abbrev pub state_of : Walk → State
 state_of w =
-    record { out = w.out.items; partner = w.partner; frames = reverse w.frames.items; how = w.how; depth = w.depth; inside = w.inside }
+    record {
+      out = w.out.items;
+      partner = w.partner;
+      frames = reverse w.frames.items;
+      how = w.how;
+      depth = w.depth;
+      inside = w.inside;
+      word = w.word;
+    }

@@ -38,6 +38,8 @@ pub(crate) struct Walk {
     pub how: How,
     pub depth: usize,
     pub inside: usize,
+    // True where the name of a word has come within a line.
+    pub word: bool,
 }
 
 // The place of no columns.
@@ -358,6 +360,7 @@ impl Walk {
             how: How::Through(root),
             depth: 0,
             inside: 0,
+            word: false,
         })
     }
 
@@ -368,6 +371,7 @@ impl Walk {
         self.how = How::Plain;
         self.depth = 0;
         self.inside = 0;
+        self.word = false;
     }
 
     // A leaf that is no kind is done.
@@ -375,7 +379,7 @@ impl Walk {
         ensures { state_of self.new ≡ leaf_done self.old.inside block (state_of self.old) }
     {
         match self.inside.checked_sub(1) {
-            Some(_) => {}
+            Some(_) => self.word = false,
             None => {
                 self.partner = partner_by(&self.how, block, self.partner);
                 self.rest();
@@ -396,7 +400,12 @@ impl Walk {
     pub(crate) fn unsigned<C: Columns>(&mut self, columns: &C, n: u64) -> Result<(), LinesError>
         ensures { OnOk result (step (C.says (C.given columns.now)) (unsigned n) (state_of self.old) ≡ Some (state_of self.new)) }
     {
-        put_unsigned(columns, &mut self.out, self.depth, &self.how, n)?;
+        if self.word && self.inside > 0 {
+            let how = How::Number(Unit::LongHex);
+            put_unsigned(columns, &mut self.out, self.depth, &how, n)?;
+        } else {
+            put_unsigned(columns, &mut self.out, self.depth, &self.how, n)?;
+        }
         self.leaf_done(false);
         Ok(())
     }
@@ -425,7 +434,10 @@ impl Walk {
     {
         put_string(columns, &mut self.out, self.depth, &self.how, value)?;
         match self.inside.checked_sub(1) {
-            Some(_) => Ok(()),
+            Some(_) => {
+                self.word = false;
+                Ok(())
+            }
             None => {
                 note(columns, &self.how, value, &mut self.frames)?;
                 self.partner = partner_by(&self.how, false, self.partner);
@@ -459,6 +471,7 @@ impl Walk {
         match self.inside.checked_sub(1) {
             Some(_) => {
                 put_inside_name(&mut self.out, name)?;
+                self.word = is_same(name, "word");
                 Ok(())
             }
             None => {
@@ -544,6 +557,7 @@ impl Walk {
         match self.inside.checked_add(1) {
             Some(inside) => {
                 self.inside = inside;
+                self.word = false;
                 Ok(())
             }
             None => Err(LinesError::NotJson),

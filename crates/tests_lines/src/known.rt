@@ -353,7 +353,7 @@ static KEYS: Known = Known {
         "  tcp_flags syn ack (0x12)",
         "  tcp_flags_mask fin syn rst psh ack urg ece cwr 0xf00 (0xfff)",
         "  ct_state new tracked (0x9)",
-        "  other word 200 value dead",
+        "  other word 0x00c8 value dead",
     ],
 };
 

@@ -397,10 +397,10 @@ kind htb
 options
   raw 01020304
 word 0xc002
-other word 16483 value 11ee
+other word 0x4063 value 11ee
 chain 7
 word 0x800b
-other word 32867 value \"\"
+other word 0x8063 value \"\"
 dump_invisible true
 dump_invisible raw 01",
 };
