@@ -86,7 +86,8 @@ const ABOUT: &str =
     "Shows the traffic control messages of a capture: pcap, pcapng, a file of rtmon, a stream of netlink messages, or hex";
 
 const NOTES: &str =
-    "A message is shown if it has, of each option that chooses, one of the values that are given. An option can be given several times.
+    "A message is shown if it has, of each option that chooses, one of the values that are given: --kind, --type, --dev, --handle, --parent,
+--chain and --pref can be given several times.
 A handle is one such as 1:10, ffff:, root, 800::800 or 0x1. A time is in seconds since 1970, with decimals, or 2026-11-26T14:00:00Z.
 
 Hex is a message a line, with blanks, colons and 0x among the digits and comments after #, or a dump with offsets, as xxd, tcpdump -x
@@ -95,8 +96,8 @@ A packet, block or message of more than 1 MiB is skipped, with a line that says 
 In outlines a tick is one of the packet scheduler, 64 ns as in Linux since 2.6.31; clock_t is a hundredth of a second.
 Captures of big-endian hosts can be opened, but their netlink messages, which are big-endian too, are refused.
 
-Exit status: 0; 1 if a message was refused, or the input is broken or cut; 2 for a wrong usage, no capture,
-or a capture without route netlink; 3 if a stream failed";
+Exit status: 0; 1 if a message that is shown is refused, or the input is broken or cut; 2 for a wrong usage, no capture,
+or a capture without route netlink; 3 if a stream failed or memory ran out";
 
 // What the options are below in the help.
 const INPUT: &str = "What is read";
@@ -234,7 +235,7 @@ static OPTIONS: [(&str, Value, &str, &str); 19] = [
         "explain",
         Value::TextOrNothing("KIND"),
         TABLES,
-        "Print the attributes of a kind: names, forms and units; without KIND all kinds",
+        "Print the attributes of a kind: names, forms and units; without KIND the names of all kinds",
     ),
     (
         "schema",

@@ -138,7 +138,7 @@ fn show<R: AllocGlobal + Files + Input + Print, E: Write>(
         None => show_with(rt, request, "", errors),
         Some(path) => match fs::read_to_string(rt, path) {
             Ok(text) => show_with(rt, request, text.as_str(), errors),
-            Err(_) => complain(errors, "tcshow: the file of names can't be read\n", 2),
+            Err(_) => complain_of_file(rt.alloc(), path, errors),
         },
     }
 }
@@ -198,7 +198,7 @@ fn show_file<R: AllocGlobal + Files + Input, W: Write, E: Write>(
         None => serve(alloc, alloc, asked, &mut rt.reader(), writer, errors),
         Some(path) => match fs::open(rt, path) {
             Ok(mut file) => serve(alloc, alloc, asked, &mut file, writer, errors),
-            Err(_) => complain(errors, "tcshow: the file can't be read\n", 2),
+            Err(_) => complain_of_file(alloc, path, errors),
         },
     }
 }
@@ -248,6 +248,14 @@ fn complain_of_packets<E: Write>(json: Global, errors: &mut E, packets: &Packets
     match format!(in json; "tcshow: {packets}\n") {
         Ok(text) => complain(errors, text.as_str(), status),
         Err(_) => complain(errors, "tcshow: no route netlink\n", status),
+    }
+}
+
+// Writes which file can't be read, if it can, and returns the status of a wrong usage.
+fn complain_of_file<E: Write>(alloc: Global, path: &str, errors: &mut E) -> u8 {
+    match format!(in alloc; "tcshow: {path}: the file can't be read\n") {
+        Ok(text) => complain(errors, text.as_str(), 2),
+        Err(_) => complain(errors, NO_MEMORY, 3),
     }
 }
 
