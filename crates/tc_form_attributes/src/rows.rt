@@ -27,7 +27,9 @@ fn rows_at<T: Tables>(table: T, place: usize) -> &'static [Row<'static>]
 /// The rows of a list under a kind: its own, and then those of every kind.
 #[derive(Clone, Copy)]
 pub struct RowList<'a> {
+    /// The rows of the kind, or those of a list without kinds.
     pub own: &'a [Row<'a>],
+    /// The rows of every kind.
     pub common: &'a [Row<'a>],
 }
 

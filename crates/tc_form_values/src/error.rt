@@ -86,7 +86,7 @@ impl Wanted {
             Wanted::Bool => "true or false",
             Wanted::True => "true",
             Wanted::Text => "a text",
-            Wanted::Handle => "a handle as tc writes it",
+            Wanted::Handle => "a handle such as 1:10, 8001:, :10, root or 0:0",
             Wanted::Mac => "a MAC address",
             Wanted::Ipv4 => "an IPv4 address",
             Wanted::Ipv6 => "an IPv6 address",

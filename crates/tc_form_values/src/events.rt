@@ -95,8 +95,8 @@ pub fn unsigned<S: Serializer>(value: u64, out: &mut S, aside: &mut Aside<S::Err
     done!(out.u64(value), aside)
 }
 
-/// A number that may be negative.
-pub fn signed<S: Serializer>(value: i64, out: &mut S, aside: &mut Aside<S::Error>) -> Done
+// A number that may be negative.
+pub(crate) fn signed<S: Serializer>(value: i64, out: &mut S, aside: &mut Aside<S::Error>) -> Done
     ensures { OnOk result (Logs (S.written out.old) (S.written out.new) (signed value)) }
 {
     done!(out.i64(value), aside)

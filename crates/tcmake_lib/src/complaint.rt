@@ -208,9 +208,9 @@ impl Complaint {
             Complaint::LongLine => LONG_LINE,
             Complaint::OnePart =>
                 "a part of JSON on several lines; wanted all of it on one, as jq -c writes it",
-            Complaint::Refused => "holds no message, but why one was refused",
-            Complaint::Summary => "holds no message, but a summary",
-            Complaint::Note => "holds no message, but a note on a capture",
+            Complaint::Refused => "this line reports a refused message; there is nothing to make",
+            Complaint::Summary => "this line is a summary; there is nothing to make",
+            Complaint::Note => "this line is a note on a capture; there is nothing to make",
             Complaint::DoesNotFit =>
                 "found a message that doesn't fit: a payload would have more than 65531 bytes",
             Complaint::TooLong => "the message is too long to be written",

@@ -62,7 +62,7 @@ static TEXTS: [(&[u8], &str); 10] = [
     (br#"{"header":{"family":{"Other":256},"index":2,"handle":"1:","parent":"root","info":0},"attributes":[]}"#,
         r#"/header/family/Other: found 256, wanted a number from 0 to 255"#),
     (br#"{"header":{"family":"Inet","index":2,"handle":"1:","parent":"rot","info":0},"attributes":[]}"#,
-        r#"/header/parent: found "rot", wanted a handle as tc writes it"#),
+        r#"/header/parent: found "rot", wanted a handle such as 1:10, 8001:, :10, root or 0:0"#),
     // texts that aren't read
     (br#"{"a":{"b~/":[{"c":1,"c":2}]}}"#, "/a/b~0~1/0/c: found twice, wanted once"),
     (br#"{"header":"#, "not JSON at line 1 column 10"),

@@ -55,11 +55,11 @@ static ROWS: [(&str, &str); 18] = [
     ),
     (
         r#"{"summary":{"messages":[],"faults":[]},"all":{}}"#,
-        r#"holds no message, but a summary"#,
+        r#"this line is a summary; there is nothing to make"#,
     ),
     (
         r#"{"note":"cut: 16 bytes needed, 3 left","at":24}"#,
-        r#"holds no message, but a note on a capture"#,
+        r#"this line is a note on a capture; there is nothing to make"#,
     ),
     (
         r#"{"#,

@@ -94,7 +94,7 @@ static CELLS: [Cell; 27] = [
     Cell { says: r#""refused":"NotUtf8","#, message: CANONICAL, making: CHECKED, makes: Makes::Nothing,
         said: "/refused: found NotUtf8, wanted none of a message that the codec reads" },
     Cell { says: r#""refused":"WrongLength","expected":4,"got":2,"#, message: REFUSED, making: SETTLE, makes: Makes::Nothing,
-        said: "holds no message, but why one was refused" },
+        said: "this line reports a refused message; there is nothing to make" },
     Cell { says: r#""refused":"WrongLength","expected":4,"got":2,"#, message: REFUSED, making: AS_GIVEN, makes: Makes::Given, said: "" },
     Cell { says: r#""refused":"NotUtf8","#, message: CANONICAL, making: AS_GIVEN, makes: Makes::Given, said: "" },
     // `fits`, `settled`, `canonical`
