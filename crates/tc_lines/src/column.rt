@@ -28,8 +28,8 @@ pub enum How {
     Verdict(usize),
     /// The number of an interface, with the name that the caller knows.
     Interface,
-    /// The same in a header, behind its own name. Of a block (-1) nothing is shown, and the members after it are looked up in the columns
-    /// at this place first.
+    /// The number of an interface in a header, behind the word `index`. Of a block (-1) nothing is shown, and the members after it are looked
+    /// up in the columns at this place first.
     Index(usize),
     /// A handle, as a number in this unit.
     Handle(Unit),
@@ -39,9 +39,10 @@ pub enum How {
     Family(usize, usize),
     /// The last number of a header behind its own name, or nothing if it is 0.
     Info(InfoOf),
-    /// As it is. The members after it are looked up in the columns at this place first, and stand in the same line.
+    /// As it is. The members after it are looked up in the columns at this place first, and are in the same line.
     First(usize),
-    /// The same, with `-` behind it: the least of a range.
+    /// The least of a range, as it is, with `-` behind it. The members after it are looked up in the columns at this place first, and are in
+    /// the same line.
     From(usize),
     /// A mask behind its address: `/` and the length of its prefix, by the names at the first place. A mask of no prefix has a line of its
     /// own, with the name of 0 at the second place.
@@ -50,11 +51,12 @@ pub enum How {
     To(usize),
     /// What is within has lines of its own below this one, by the columns at this place.
     Within(usize),
-    /// The same, in the place of this line.
+    /// What is within has lines of its own in place of this one, by the columns at this place.
     Through(usize),
-    /// The same, without this line.
+    /// What is within has lines of its own one level deeper, by the columns at this place; this line isn't written.
     Below(usize),
-    /// The same, and each element has a line of its own, with the name of 0 at this place.
+    /// What is within has lines of its own below this one, by the columns at this place; each element begins with a line, the name of 0 at
+    /// this place.
     Elements(usize),
     /// What is within has words in the line before this one, by the columns at this place.
     InLine(usize),

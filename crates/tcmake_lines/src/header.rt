@@ -76,7 +76,7 @@ pub(crate) fn joined(packet: Vec<u8>, given: &Given, bytes: &[u8]) -> Result<Vec
     Ok(made)
 }
 
-/// The same alone.
+/// A packet of this message alone.
 pub(crate) fn whole_of(alloc: Global, given: &Given, bytes: &[u8]) -> Result<Vec<u8>, AllocError>
     requires { HasHeader given.now bytes.now }
     ensures made { IfOk result (λ made. made.items ≡ whole given.now bytes.now) }
