@@ -1,10 +1,6 @@
 //! Why no bytes are made.
 
-ghost use Rattle.std.specs.Prelude.{◌≡◌};
-ghost use Rattle.tc_form_values.specs.declared.error.MakeError.TheVariants.{OutOfMemory};
-
 use crate::form::{Choice, Name};
-use std::alloc::AllocError;
 use std::error::Error;
 use std::fmt;
 
@@ -157,11 +153,3 @@ impl fmt::Debug for MakeError {
 }
 
 impl Error for MakeError {}
-
-impl From<AllocError> for MakeError {
-    ghost from_gives = { λ _ e. e ≡ OutOfMemory };
-
-    fn from(_: AllocError) -> MakeError {
-        MakeError::OutOfMemory
-    }
-}

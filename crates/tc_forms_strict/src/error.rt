@@ -1,9 +1,8 @@
 //! Why no bytes are made strictly.
 
-ghost use Rattle.std.specs.Prelude.{◌≡◌, ◌↔◌, IsTrue};
+ghost use Rattle.std.specs.Prelude.{◌≡◌};
 ghost use Rattle.tc_form_values.specs.declared.error.MakeError.TheVariants.{OutOfMemory};
 ghost use Rattle.tc_forms_strict.specs.declared.error.StrictError.TheVariants.{Make};
-ghost use Rattle.tc_forms_strict.specs.Strict.{IsMemory};
 
 use crate::places::Difference;
 use std::alloc::AllocError;
@@ -18,15 +17,6 @@ pub enum StrictError {
     Make(MakeError),
     /// What is shown of its bytes is other JSON.
     Differs(Difference),
-}
-
-impl StrictError {
-    /// Whether memory ran out.
-    pub fn is_memory(&self) -> bool
-        ensures { IsTrue result ↔ IsMemory self.now }
-    {
-        matches!(self, StrictError::Make(MakeError::OutOfMemory))
-    }
 }
 
 impl fmt::Display for StrictError {
@@ -45,14 +35,6 @@ impl fmt::Debug for StrictError {
 }
 
 impl Error for StrictError {}
-
-impl From<MakeError> for StrictError {
-    ghost from_gives = { λ given e. e ≡ Make given };
-
-    fn from(e: MakeError) -> StrictError {
-        StrictError::Make(e)
-    }
-}
 
 impl From<AllocError> for StrictError {
     ghost from_gives = { λ _ e. e ≡ Make OutOfMemory };

@@ -1,11 +1,8 @@
 //! Why a text isn't read, and why no bytes are made of it.
 
-ghost use Rattle.std.specs.Prelude.{◌≡◌, ◌↔◌, IsTrue};
-ghost use Rattle.tc_forms_text.specs.declared.error.ReadError.TheVariants.{OutOfMemory};
-ghost use Rattle.tc_forms_text.specs.declared.error.TextError.TheVariants.{Read, Make};
+ghost use Rattle.std.specs.Prelude.{◌↔◌, IsTrue};
 ghost use Rattle.tc_forms_text.specs.Make.{IsMemory};
 
-use std::alloc::AllocError;
 use std::error::Error;
 use std::fmt;
 use tc_forms::MakeError;
@@ -65,14 +62,6 @@ impl fmt::Debug for ReadError {
 
 impl Error for ReadError {}
 
-impl From<AllocError> for ReadError {
-    ghost from_gives = { λ _ e. e ≡ OutOfMemory };
-
-    fn from(_: AllocError) -> ReadError {
-        ReadError::OutOfMemory
-    }
-}
-
 /// Why no bytes are made of a text.
 #[derive(Drop)]
 pub enum TextError {
@@ -110,19 +99,3 @@ impl fmt::Debug for TextError {
 }
 
 impl Error for TextError {}
-
-impl From<ReadError> for TextError {
-    ghost from_gives = { λ given e. e ≡ Read given };
-
-    fn from(e: ReadError) -> TextError {
-        TextError::Read(e)
-    }
-}
-
-impl From<MakeError> for TextError {
-    ghost from_gives = { λ given e. e ≡ Make given };
-
-    fn from(e: MakeError) -> TextError {
-        TextError::Make(e)
-    }
-}

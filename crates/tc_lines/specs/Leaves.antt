@@ -111,7 +111,6 @@ module _ (t : Table) where
   info_text info.Leaf n = codes " leaf " ++ handle_text (n % 0x100000000)
   info_text (info.Pref p) n =
       codes " pref " ++ (decimal (n / 0x10000) ++ (codes " protocol " ++ named_text LongHex (t.names p) (n % 0x100 * 0x100 + n / 0x100 % 0x100)))
-  info_text info.Number n = codes " info " ++ decimal n
 
   -- a number by its column, behind a blank
   abbrev pub number_behind : How → ℕ → List ℕ

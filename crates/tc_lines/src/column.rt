@@ -69,10 +69,8 @@ pub enum InfoOf {
     Refcnt,
     /// Of a class: the handle of its qdisc.
     Leaf,
-    /// Of a filter: a priority, and a protocol with the names at this place.
+    /// Of a filter or a chain: a priority, and a protocol with the names at this place.
     Pref(usize),
-    /// A number.
-    Number,
 }
 
 /// A column: the name of a member in JSON, its name for people, and how its value is shown.

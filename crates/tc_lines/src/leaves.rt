@@ -235,10 +235,6 @@ fn put_info<C: Columns, A: Allocator>(
             out.extend_from_slice(b" refcnt ")?;
             put_decimal(out, n)
         }
-        InfoOf::Number => {
-            out.extend_from_slice(b" info ")?;
-            put_decimal(out, n)
-        }
     }
 }
 

@@ -1,3 +1,2 @@
-mod Canonical
 mod Events
 mod Same

@@ -14,25 +14,13 @@ use crate::texts::{
     put_between, put_comma, put_counted, put_quoted, put_times,
 };
 use std::alloc::{AllocError, Allocator};
+use tc_form_values::places::form_at;
 use tc_form_values::{Form, KindRows, Number, Part, Tables};
 
 // ---- an example
 
 // How an example of a kind begins.
 const EXAMPLE: &str = "example: [{\"Kind\":";
-
-// The form at a place.
-fn form_of(place: usize, part: Part<'static>) -> Form
-    ensures { result ≡ form_of place (part_view part.entry) }
-{
-    match part {
-        Part::One(form) => form,
-        Part::Names(_) => Form::Hex,
-        Part::Fields(_) => Form::Record(place),
-        Part::Rows(_, _) | Part::Kinds(_, _, _) => Form::List(place),
-        Part::Choices(_) => Form::Choice(place),
-    }
-}
 
 // An example of what is in a form, at most so deep.
 #[cycle(example)]
@@ -67,7 +55,7 @@ fn put_inner<T: Tables, A: Allocator>(out: &mut Vec<u8, A>, table: T, inner: u8,
         Form::Choice(place) => put_one(out, table, inner, place),
         Form::Array(place) | Form::Times(_, place) => {
             put(out, "[")?;
-            put_deep(out, table, inner, form_of(place, table.part(place)))?;
+            put_deep(out, table, inner, form_at(table, place))?;
             put(out, "]")
         }
         Form::List(place) => {

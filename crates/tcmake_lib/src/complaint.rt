@@ -91,15 +91,6 @@ impl<T: Drop> From<AllocFailed<T>> for Complaint {
     }
 }
 
-impl From<ReadError> for Complaint {
-    fn from(e: ReadError) -> Complaint {
-        match e {
-            ReadError::OutOfMemory => Complaint::NoMemory,
-            e => Complaint::Read(e),
-        }
-    }
-}
-
 impl From<RestoreError> for Complaint {
     fn from(e: RestoreError) -> Complaint {
         match e {

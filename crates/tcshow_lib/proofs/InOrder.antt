@@ -33,10 +33,6 @@ pub on_is : (t u : Bool) (before : Option (List Thing)) (xs : List Thing) (after
     → GivesUpTo t before xs after
 on_is t u before xs after same given = subst (λ (b : Bool). GivesUpTo b before xs after) (sym same) given
 
--- the last of them
-pub gives_last : (xs ys : List Thing) (a b : Option (List Thing)) → Gives a xs b → Gives b ys (Some []) → Gives a (xs ++ ys) (Some [])
-gives_last xs ys a b p q = gives_then xs ys a b (Some []) p q
-
 -- ---- of a capture
 
 pub piece_gives : (n m : ℕ) (w : What) (s t : State) (before : Option (List ℕ)) (now gone : List ℕ) (reader : Option (List ℕ))

@@ -41,9 +41,6 @@ grows_then t u b c s m n g h = record {
 pub grows_counted : (t : List ℕ) (b : Bool) (s m n : State) → Grows t false s m → Grows [] b m n → Grows t b s n
 grows_counted t b s m n g h = subst (λ x. Grows x b s n) (append-nil t) (grows_then t [] false b s m n g h)
 
-pub counted_grows : (t : List ℕ) (b : Bool) (s m n : State) → Grows [] b s m → Grows t false m n → Grows t b s n
-counted_grows t b s m n g h = subst (λ x. Grows t x s n) (or_false b) (grows_then [] t b false s m n g h)
-
 -- ---- what is shown
 
 -- a page more, and the line feed that ends it
@@ -136,9 +133,6 @@ pub puts_no_answer : (h : Header) (capped : Bool) (m : Message) (taken : Bool) (
 puts_no_answer h capped m taken s n is_not k g =
     puts_one (answer h capped m) [] false s n
     (subst (λ x. IfTaken x (ShowsAnswer s.json h capped m [] × (false ≡ false)) [] false) (sym is_not ∙ k) nothing) g
-
-pub puts_hole : (fault : Bool) (t : List ℕ) (s n : State) → ShowsNotice s.json t → Grows t fault s n → Puts (hole fault ∷ []) s n
-puts_hole fault t s n h g = puts_one (hole fault) t fault s n (h, refl) g
 
 pub puts_other : (s n : State) → Grows [] false s n → Puts (other ∷ []) s n
 puts_other s n g = puts_one other [] false s n nothing g

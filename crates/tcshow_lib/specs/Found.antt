@@ -1,6 +1,7 @@
 -- What is found in an input. The code's values have references to bytes and names; these are the same without them.
-use Rattle.std.specs.Prelude.{ℕ, Bool, true, false, List, [], ◌∷◌, length, drop, slice_index, Option, Some, None, Ok, Err, codes, map, option_map}
+use Rattle.std.specs.Prelude.{ℕ, Bool, true, false, List, [], ◌∷◌, ◌++◌, length, drop, slice_index, Option, Some, None, Ok, Err, codes, map, option_map}
 use Rattle.std.specs.Prelude.{◌==◌, ◌&&◌, nat_lt, if◌then◌else◌}
+use Rattle.std.specs.List.{list_all}
 use Rattle.tc_capture.specs.declared.kind.Holds.{Holds}
 use Rattle.tc_capture.specs.Answer.{Answer, answer_in}
 use Rattle.tc_capture.specs.Kind.{Named, rtm_at}
@@ -84,8 +85,21 @@ things_in origin bytes = map (thing_in origin) (messages_in bytes)
 abbrev pub origin_of : Option ℕ → Option ℕ → Captured → Origin
 origin_of number packet_type p = record { time = p.time; packet = number; packet_type = other_than_outgoing packet_type }
 
+-- whether all messages of a packet are whole
+abbrev pub is_read : Outcome Netlink → Bool
+is_read (Ok m) = true
+is_read (Err e) = false
+
+abbrev pub are_read : List ℕ → Bool
+are_read bytes = list_all is_read (messages_in bytes)
+
+-- behind whole messages a fault, where the capture holds only the first bytes of their packet
+abbrev pub cut_behind : Bool → List ℕ → List Thing
+cut_behind true bytes = []
+cut_behind false bytes = if are_read bytes then hole true ∷ [] else []
+
 abbrev pub things_held : Option ℕ → Captured → Outcome Contents → List Thing
-things_held number p (Ok (route packet_type bytes)) = things_in (origin_of number packet_type p) bytes
+things_held number p (Ok (route packet_type bytes)) = things_in (origin_of number packet_type p) bytes ++ cut_behind p.is_whole bytes
 things_held number p (Ok contents) = []
 things_held number p (Err e) = hole true ∷ []
 

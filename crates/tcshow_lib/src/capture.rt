@@ -4,7 +4,7 @@ ghost use Rattle.std.specs.Prelude.{◌≡◌, ℕ, false, List, [], Some, Err, 
 ghost use Rattle.tc_capture.specs.Capture.{next_piece};
 ghost use Rattle.tc_capture.specs.Capture.{state_of as place_of};
 ghost use Rattle.tc_input.specs.Left.{rest_of, left_of, Gives};
-ghost use Rattle.tcshow_lib.specs.Found.{Thing, other_than_outgoing};
+ghost use Rattle.tcshow_lib.specs.Found.{Thing, are_read, other_than_outgoing};
 ghost use Rattle.tcshow_lib.specs.Reading.{capture_left, is_passed, GivesUpTo};
 ghost use Rattle.tcshow_lib.specs.State.{state_of, Progress, Puts};
 ghost use Rattle.tcshow_lib.specs.Writing.{GrowsClean};
@@ -109,6 +109,19 @@ fn is_passed(gap: Gap) -> bool
     }
 }
 
+// True if all messages of a packet are whole.
+fn are_read(bytes: &[u8]) -> bool
+    ensures { result ≡ are_read bytes.now }
+{
+    let mut messages = Messages::new(bytes);
+    'each: while let Some(next) = messages.next() {
+        if next.is_err() {
+            return false;
+        }
+    }
+    true
+}
+
 // A packet type, where it isn't the usual one: `PACKET_OUTGOING`.
 fn other_than_outgoing(packet_type: Option<u16>) -> Option<u16>
     ensures { result ≡ other_than_outgoing packet_type }
@@ -120,7 +133,7 @@ fn other_than_outgoing(packet_type: Option<u16>) -> Option<u16>
 }
 
 impl<'a, A: Allocator + Copy> Shower<'a, A> {
-    ghost use Rattle.std.specs.Prelude.{◌≡◌, ◌∷◌, [], true, OnOk};
+    ghost use Rattle.std.specs.Prelude.{◌≡◌, ◌∷◌, ◌++◌, [], true, OnOk};
     ghost use Rattle.tc_capture.specs.Outcome.{seen};
     ghost use Rattle.tc_capture.specs.Front.{front_of};
     ghost use Rattle.tc_capture.specs.Packet.{captured_of, contents_of};
@@ -129,6 +142,7 @@ impl<'a, A: Allocator + Copy> Shower<'a, A> {
     ghost use Rattle.tc_capture.specs.Message.{message_of};
     ghost use Rattle.tcshow_lib.specs.Reading.{things_in_piece, things_in_gap, packets_after, count_after, number_after};
     ghost use Rattle.tcshow_lib.specs.Found.{hole, is_fault, thing_of, thing_in, things_in, things_held, things_of, answer_with};
+    ghost use Rattle.tcshow_lib.specs.Found.{cut_behind, origin_of};
     ghost use Rattle.tcshow_lib.specs.State.{state_of, Puts};
 
     /// Counts a place without a message, and says what is there.
@@ -208,26 +222,52 @@ impl<'a, A: Allocator + Copy> Shower<'a, A> {
                     packet_type,
                     messages,
                 },
-            ) => {
-                let origin = Origin {
-                    time: packet.time,
-                    packet: number,
-                    packet_type: other_than_outgoing(*packet_type),
-                };
-                let before = packet.bytes.len().saturating_sub(messages.len()) as u64;
-                self.put_messages(
-                    origin,
-                    *messages,
-                    packet.is_whole,
-                    at.saturating_add(before),
-                )
-            }
+            ) => self.put_route(number, packet, *packet_type, *messages, at),
             Ok(contents) => {
                 self.count_foreign(contents);
                 Ok(())
             }
             Err(fault) => self.put_end(*fault, packet.is_whole, at),
         }
+    }
+
+    // Shows the messages of route netlink that a packet holds, and says where it is cut.
+    fn put_route(
+        &mut self,
+        number: Option<u64>,
+        packet: &Packet<'_>,
+        packet_type: Option<u16>,
+        messages: &[u8],
+        at: u64,
+    ) -> Result<(), AllocError>
+        ensures form { self.new.output.is_json ≡ self.old.output.is_json }
+        ensures put { OnOk result (Puts (things_in (origin_of number packet_type (captured_of packet.now)) messages.now
+            ++ cut_behind packet.now.is_whole messages.now) (state_of self.old) (state_of self.new)) }
+    {
+        let origin = Origin {
+            time: packet.time,
+            packet: number,
+            packet_type: other_than_outgoing(packet_type),
+        };
+        let end = at.saturating_add(packet.bytes.len() as u64);
+        let begin = end.saturating_sub(messages.len() as u64);
+        self.put_messages(origin, messages, packet.is_whole, begin)?;
+        self.put_cut(packet.is_whole, messages, end)
+    }
+
+    // Says that the capture holds only the first bytes of a packet, where the messages in them are whole.
+    #[tactic(auto, using(crate::proofs::Puts::puts_none))]
+    fn put_cut(&mut self, is_whole: bool, messages: &[u8], at: u64) -> Result<(), AllocError>
+        ensures form { self.new.output.is_json ≡ self.old.output.is_json }
+        ensures put { OnOk result (Puts (cut_behind is_whole messages.now) (state_of self.old) (state_of self.new)) }
+    {
+        if is_whole {
+            return Ok(());
+        }
+        if !are_read(messages) {
+            return Ok(());
+        }
+        self.put_hole(Notice::Snapped, at)
     }
 
     // Counts a packet that holds no messages of route netlink.

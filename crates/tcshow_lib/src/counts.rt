@@ -38,7 +38,7 @@ impl Counts {
         ensures { is_bad self.new ≡ (is_bad self.old || is_fault notice.now) }
     {
         match notice {
-            Notice::Cut(_) => self.cut = self.cut.saturating_add(1),
+            Notice::Cut(_) | Notice::Snapped => self.cut = self.cut.saturating_add(1),
             Notice::Skipped(_) => self.skipped = self.skipped.saturating_add(1),
             Notice::Broken(_) | Notice::NoHex => self.broken = self.broken.saturating_add(1),
         }

@@ -1,10 +1,13 @@
-//! The names of interfaces that a capture tells.
+//! The names of interfaces that a capture has.
 
 use crate::shower::Shower;
 use std::alloc::{AllocError, Allocator, Global};
 use std::str;
 use tc_capture::NetlinkMessage;
 use tc_words::{NamedLink, RTM_NEWLINK, link_of_message};
+
+// `NLM_F_REQUEST` of `linux/netlink.h`.
+const NLM_F_REQUEST: u16 = 1;
 
 /// The names of interfaces in messages of links: of each the last.
 #[derive(Drop)]
@@ -40,7 +43,7 @@ impl Links {
         Ok(())
     }
 
-    /// The names that were given, and behind them those that were told.
+    /// The names that were given, and behind them those of the capture.
     pub(crate) fn with<'a>(
         &'a self,
         given: &'a [(u32, &'a str)],
@@ -62,12 +65,12 @@ impl<'a, A: Allocator + Copy> Shower<'a, A> {
     ghost use Rattle.std.specs.Prelude.{◌≡◌, OnOk};
     ghost use Rattle.tcshow_lib.specs.State.{state_of};
 
-    /// Keeps the name in a message of a link.
+    /// Keeps the name in a message of a link. A request isn't believed, since the kernel may refuse it.
     pub(crate) fn learn(&mut self, message: &NetlinkMessage<'_>) -> Result<(), AllocError>
         ensures form { self.new.output.is_json ≡ self.old.output.is_json }
         ensures same { OnOk result (state_of self.new ≡ state_of self.old) }
     {
-        if message.kind != RTM_NEWLINK {
+        if message.kind != RTM_NEWLINK || message.flags & NLM_F_REQUEST != 0 {
             return Ok(());
         }
         match link_of_message(message.payload) {

@@ -36,8 +36,12 @@ fn put_names<'a, A: Allocator>(
     Ok(None)
 }
 
+// A comment begins the line, or follows a blank; in a name `#` is a letter like others.
 fn without_comment(line: &str) -> &str {
-    match line.split_once('#') {
+    if line.trim().starts_with('#') {
+        return "";
+    }
+    match line.split_once(" #") {
         Some((front, _)) => front,
         None => line,
     }

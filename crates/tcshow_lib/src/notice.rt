@@ -9,6 +9,8 @@ use tc_capture::CaptureError;
 pub(crate) enum Notice {
     /// The capture holds only the first bytes.
     Cut(CaptureError),
+    /// The capture holds only the first bytes of a packet, and the messages in them are whole.
+    Snapped,
     /// It is whole, but longer than what is read: so many bytes.
     Skipped(u64),
     /// It can't be read on.
@@ -22,6 +24,9 @@ impl Notice {
     pub(crate) fn text(&self, alloc: Global) -> Result<String, AllocError> {
         match self {
             Notice::Cut(fault) => format!(in alloc; "cut: {fault}"),
+            Notice::Snapped => {
+                format!(in alloc; "cut: the capture has only the first bytes of this packet")
+            }
             Notice::Skipped(length) => format!(in alloc; "skipped: {length} bytes"),
             Notice::Broken(fault) => format!(in alloc; "broken: {fault}"),
             Notice::NoHex => format!(in alloc; "broken: no hex"),

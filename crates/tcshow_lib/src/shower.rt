@@ -32,7 +32,7 @@ pub(crate) struct Shower<'a, A: Allocator> {
     /// What is shown and not yet written.
     pub(crate) output: Output<A>,
     pub(crate) counts: Counts,
-    /// The names of interfaces that were told.
+    /// The names of interfaces in messages of links.
     pub(crate) links: Links,
     /// Where the dump that is read began in the input, in bytes.
     pub(crate) dump_at: u64,

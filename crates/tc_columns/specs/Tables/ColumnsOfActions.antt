@@ -744,9 +744,32 @@ struct_tc_tunnel_key =
 -- `list tunnel_key_opts`
 abbrev pub list_tunnel_key_opts : List Column
 list_tunnel_key_opts =
-    column (codes "Geneve") (codes "geneve") (how.Within 2450)
-    ∷ column (codes "Vxlan") (codes "vxlan") (how.Within 2451)
-    ∷ column (codes "Erspan") (codes "erspan") (how.Within 2452)
+    column (codes "Geneve") (codes "geneve") (how.Within 819)
+    ∷ column (codes "Vxlan") (codes "vxlan") (how.Within 820)
+    ∷ column (codes "Erspan") (codes "erspan") (how.Within 821)
+    ∷ []
+
+-- `list tunnel_key_geneve`
+abbrev pub list_tunnel_key_geneve : List Column
+list_tunnel_key_geneve =
+    column (codes "Class") (codes "class") how.Plain
+    ∷ column (codes "Type") (codes "type") how.Plain
+    ∷ column (codes "Data") (codes "data") how.Plain
+    ∷ []
+
+-- `list tunnel_key_vxlan`
+abbrev pub list_tunnel_key_vxlan : List Column
+list_tunnel_key_vxlan =
+    column (codes "Gbp") (codes "gbp") how.Plain
+    ∷ []
+
+-- `list tunnel_key_erspan`
+abbrev pub list_tunnel_key_erspan : List Column
+list_tunnel_key_erspan =
+    column (codes "Ver") (codes "ver") how.Plain
+    ∷ column (codes "Index") (codes "index") how.Plain
+    ∷ column (codes "Dir") (codes "dir") how.Plain
+    ∷ column (codes "Hwid") (codes "hwid") how.Plain
     ∷ []
 
 -- `list action`: the rows of tunnel_key
@@ -760,8 +783,11 @@ columns_of_actions_68 place =
     if place == 816 then list_tunnel_key_in_tunnelkey else (
     if place == 817 then struct_tc_tunnel_key else (
     if place == 818 then list_tunnel_key_opts else (
-    if place == 819 then list_action_action_tunnel_key else (
-    []))))
+    if place == 819 then list_tunnel_key_geneve else (
+    if place == 820 then list_tunnel_key_vxlan else (
+    if place == 821 then list_tunnel_key_erspan else (
+    if place == 822 then list_action_action_tunnel_key else (
+    [])))))))
 
 -- `list vlan`
 abbrev pub list_vlan_in_vlan : List Column

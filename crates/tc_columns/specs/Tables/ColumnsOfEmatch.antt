@@ -22,15 +22,15 @@ struct_tcf_ematch_tree_hdr =
 -- `choice ematch`
 abbrev pub choice_ematch : List Column
 choice_ematch =
-    column (codes "Container") (codes "container") (how.Through 1803)
-    ∷ column (codes "Cmp") (codes "cmp") (how.Through 1804)
-    ∷ column (codes "Nbyte") (codes "nbyte") (how.Through 1806)
-    ∷ column (codes "U32") (codes "u32") (how.Through 1808)
-    ∷ column (codes "Meta") (codes "meta") (how.Through 1809)
-    ∷ column (codes "Text") (codes "text") (how.Through 1814)
-    ∷ column (codes "Canid") (codes "canid") (how.Through 1816)
-    ∷ column (codes "Ipset") (codes "ipset") (how.Through 1818)
-    ∷ column (codes "Ipt") (codes "ipt") (how.Through 1820)
+    column (codes "Container") (codes "container") (how.Within 1803)
+    ∷ column (codes "Cmp") (codes "cmp") (how.Within 1804)
+    ∷ column (codes "Nbyte") (codes "nbyte") (how.Within 1806)
+    ∷ column (codes "U32") (codes "u32") (how.Within 1808)
+    ∷ column (codes "Meta") (codes "meta") (how.Within 1809)
+    ∷ column (codes "Text") (codes "text") (how.Within 1814)
+    ∷ column (codes "Canid") (codes "canid") (how.Within 1816)
+    ∷ column (codes "Ipset") (codes "ipset") (how.Within 1818)
+    ∷ column (codes "Ipt") (codes "ipt") (how.Within 1820)
     ∷ []
 
 -- `struct ematch_container`

@@ -110,7 +110,7 @@ header_chain =
     column (codes "family") (codes "family") (how.Family 3002 15002)
     ∷ column (codes "index") (codes "index") (how.Index 30019)
     ∷ column (codes "handle") (codes "handle") how.Plain
-    ∷ column (codes "info") (codes "info") (how.Info (info.Number))
+    ∷ column (codes "info") (codes "info") (how.Info (info.Pref 24006))
     ∷ []
 
 -- its header

@@ -841,9 +841,32 @@ const STRUCT_TC_TUNNEL_KEY: [Column<'static>; 2] = [
 // `list tunnel_key_opts`
 #[rattlefmt::skip]
 const LIST_TUNNEL_KEY_OPTS: [Column<'static>; 3] = [
-    Column { key: "Geneve", name: "geneve", how: How::Within(2450) },
-    Column { key: "Vxlan", name: "vxlan", how: How::Within(2451) },
-    Column { key: "Erspan", name: "erspan", how: How::Within(2452) },
+    Column { key: "Geneve", name: "geneve", how: How::Within(819) },
+    Column { key: "Vxlan", name: "vxlan", how: How::Within(820) },
+    Column { key: "Erspan", name: "erspan", how: How::Within(821) },
+];
+
+// `list tunnel_key_geneve`
+#[rattlefmt::skip]
+const LIST_TUNNEL_KEY_GENEVE: [Column<'static>; 3] = [
+    Column { key: "Class", name: "class", how: How::Plain },
+    Column { key: "Type", name: "type", how: How::Plain },
+    Column { key: "Data", name: "data", how: How::Plain },
+];
+
+// `list tunnel_key_vxlan`
+#[rattlefmt::skip]
+const LIST_TUNNEL_KEY_VXLAN: [Column<'static>; 1] = [
+    Column { key: "Gbp", name: "gbp", how: How::Plain },
+];
+
+// `list tunnel_key_erspan`
+#[rattlefmt::skip]
+const LIST_TUNNEL_KEY_ERSPAN: [Column<'static>; 4] = [
+    Column { key: "Ver", name: "ver", how: How::Plain },
+    Column { key: "Index", name: "index", how: How::Plain },
+    Column { key: "Dir", name: "dir", how: How::Plain },
+    Column { key: "Hwid", name: "hwid", how: How::Plain },
 ];
 
 // `list action`: the rows of tunnel_key
@@ -860,7 +883,10 @@ pub(crate) fn columns_of_actions_68(place: usize) -> &'static [Column<'static>]
         816 => &LIST_TUNNEL_KEY_IN_TUNNELKEY,
         817 => &STRUCT_TC_TUNNEL_KEY,
         818 => &LIST_TUNNEL_KEY_OPTS,
-        819 => &LIST_ACTION_ACTION_TUNNEL_KEY,
+        819 => &LIST_TUNNEL_KEY_GENEVE,
+        820 => &LIST_TUNNEL_KEY_VXLAN,
+        821 => &LIST_TUNNEL_KEY_ERSPAN,
+        822 => &LIST_ACTION_ACTION_TUNNEL_KEY,
         _ => &[],
     }
 }

@@ -24,15 +24,15 @@ const STRUCT_TCF_EMATCH_TREE_HDR: [Column<'static>; 2] = [
 // `choice ematch`
 #[rattlefmt::skip]
 const CHOICE_EMATCH: [Column<'static>; 9] = [
-    Column { key: "Container", name: "container", how: How::Through(1803) },
-    Column { key: "Cmp", name: "cmp", how: How::Through(1804) },
-    Column { key: "Nbyte", name: "nbyte", how: How::Through(1806) },
-    Column { key: "U32", name: "u32", how: How::Through(1808) },
-    Column { key: "Meta", name: "meta", how: How::Through(1809) },
-    Column { key: "Text", name: "text", how: How::Through(1814) },
-    Column { key: "Canid", name: "canid", how: How::Through(1816) },
-    Column { key: "Ipset", name: "ipset", how: How::Through(1818) },
-    Column { key: "Ipt", name: "ipt", how: How::Through(1820) },
+    Column { key: "Container", name: "container", how: How::Within(1803) },
+    Column { key: "Cmp", name: "cmp", how: How::Within(1804) },
+    Column { key: "Nbyte", name: "nbyte", how: How::Within(1806) },
+    Column { key: "U32", name: "u32", how: How::Within(1808) },
+    Column { key: "Meta", name: "meta", how: How::Within(1809) },
+    Column { key: "Text", name: "text", how: How::Within(1814) },
+    Column { key: "Canid", name: "canid", how: How::Within(1816) },
+    Column { key: "Ipset", name: "ipset", how: How::Within(1818) },
+    Column { key: "Ipt", name: "ipt", how: How::Within(1820) },
 ];
 
 // `struct ematch_container`

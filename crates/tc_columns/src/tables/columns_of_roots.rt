@@ -116,7 +116,7 @@ const HEADER_CHAIN: [Column<'static>; 4] = [
     Column { key: "family", name: "family", how: How::Family(3002, 15002) },
     Column { key: "index", name: "index", how: How::Index(30019) },
     Column { key: "handle", name: "handle", how: How::Plain },
-    Column { key: "info", name: "info", how: How::Info(InfoOf::Number) },
+    Column { key: "info", name: "info", how: How::Info(InfoOf::Pref(24006)) },
 ];
 
 // its header

@@ -55,8 +55,11 @@ use Rattle.tc_kinds.specs.Parts.Actions.{
   list_simple_in_simple,
   list_skbedit_in_skbedit,
   list_skbmod_in_skbmod,
+  list_tunnel_key_erspan,
+  list_tunnel_key_geneve,
   list_tunnel_key_in_tunnelkey,
   list_tunnel_key_opts,
+  list_tunnel_key_vxlan,
   list_vlan_in_vlan,
   parts_of_actions_bpf,
   parts_of_actions_connmark,
@@ -267,8 +270,11 @@ actions_tunnel_key_apart place =
     at (place == 816) (apart list_tunnel_key_in_tunnelkey refl) (
     at (place == 817) (apart struct_tc_tunnel_key refl) (
     at (place == 818) (apart list_tunnel_key_opts refl) (
-    at (place == 819) (apart list_action_action_tunnel_key refl) (
-    none))))
+    at (place == 819) (apart list_tunnel_key_geneve refl) (
+    at (place == 820) (apart list_tunnel_key_vxlan refl) (
+    at (place == 821) (apart list_tunnel_key_erspan refl) (
+    at (place == 822) (apart list_action_action_tunnel_key refl) (
+    none)))))))
 
 pub actions_vlan_apart : (place : ℕ) → Apart (parts_of_actions_vlan place)
 unfolding parts_of_actions_vlan

@@ -28,7 +28,7 @@ list_action =
     ∷ kind_rows (codes "simple") 782
     ∷ kind_rows (codes "skbedit") 794
     ∷ kind_rows (codes "skbmod") 806
-    ∷ kind_rows (codes "tunnel_key") 819
+    ∷ kind_rows (codes "tunnel_key") 822
     ∷ kind_rows (codes "vlan") 831
     ∷ [])
 

@@ -846,9 +846,35 @@ struct_tc_tunnel_key =
 abbrev pub list_tunnel_key_opts : Part
 list_tunnel_key_opts =
     Rows []
-    (row 1 (codes "Geneve") (form.List 2450)
-    ∷ row 32770 (codes "Vxlan") (form.List 2451)
-    ∷ row 32771 (codes "Erspan") (form.List 2452)
+    (row 1 (codes "Geneve") (form.List 819)
+    ∷ row 32770 (codes "Vxlan") (form.List 820)
+    ∷ row 32771 (codes "Erspan") (form.List 821)
+    ∷ [])
+
+-- `list tunnel_key_geneve`
+abbrev pub list_tunnel_key_geneve : Part
+list_tunnel_key_geneve =
+    Rows []
+    (row 1 (codes "Class") (form.Number number.U16Be)
+    ∷ row 2 (codes "Type") (form.Number number.U8)
+    ∷ row 3 (codes "Data") form.Hex
+    ∷ [])
+
+-- `list tunnel_key_vxlan`
+abbrev pub list_tunnel_key_vxlan : Part
+list_tunnel_key_vxlan =
+    Rows []
+    (row 1 (codes "Gbp") (form.Number number.U32)
+    ∷ [])
+
+-- `list tunnel_key_erspan`
+abbrev pub list_tunnel_key_erspan : Part
+list_tunnel_key_erspan =
+    Rows []
+    (row 1 (codes "Ver") (form.Number number.U8)
+    ∷ row 2 (codes "Index") (form.Number number.U32Be)
+    ∷ row 3 (codes "Dir") (form.Number number.U8)
+    ∷ row 4 (codes "Hwid") (form.Number number.U8)
     ∷ [])
 
 -- `list action`: the rows of tunnel_key
@@ -863,8 +889,11 @@ parts_of_actions_tunnel_key place =
     if place == 816 then list_tunnel_key_in_tunnelkey else (
     if place == 817 then struct_tc_tunnel_key else (
     if place == 818 then list_tunnel_key_opts else (
-    if place == 819 then list_action_action_tunnel_key else (
-    One form.Hex))))
+    if place == 819 then list_tunnel_key_geneve else (
+    if place == 820 then list_tunnel_key_vxlan else (
+    if place == 821 then list_tunnel_key_erspan else (
+    if place == 822 then list_action_action_tunnel_key else (
+    One form.Hex)))))))
 
 -- `list vlan`
 abbrev pub list_vlan_in_vlan : Part

@@ -28,7 +28,7 @@ const LIST_ACTION: [KindRows<'static>; 21] = [
     KindRows { kind: "simple", rows: 782 },
     KindRows { kind: "skbedit", rows: 794 },
     KindRows { kind: "skbmod", rows: 806 },
-    KindRows { kind: "tunnel_key", rows: 819 },
+    KindRows { kind: "tunnel_key", rows: 822 },
     KindRows { kind: "vlan", rows: 831 },
 ];
 

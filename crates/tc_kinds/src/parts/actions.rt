@@ -870,9 +870,32 @@ const STRUCT_TC_TUNNEL_KEY: [Field<'static>; 2] = [
 // `list tunnel_key_opts`
 #[rattlefmt::skip]
 const LIST_TUNNEL_KEY_OPTS: [Row<'static>; 3] = [
-    Row { word: 1, name: "Geneve", form: Form::List(2450) },
-    Row { word: 32770, name: "Vxlan", form: Form::List(2451) },
-    Row { word: 32771, name: "Erspan", form: Form::List(2452) },
+    Row { word: 1, name: "Geneve", form: Form::List(819) },
+    Row { word: 32770, name: "Vxlan", form: Form::List(820) },
+    Row { word: 32771, name: "Erspan", form: Form::List(821) },
+];
+
+// `list tunnel_key_geneve`
+#[rattlefmt::skip]
+const LIST_TUNNEL_KEY_GENEVE: [Row<'static>; 3] = [
+    Row { word: 1, name: "Class", form: Form::Number(Number::U16Be) },
+    Row { word: 2, name: "Type", form: Form::Number(Number::U8) },
+    Row { word: 3, name: "Data", form: Form::Hex },
+];
+
+// `list tunnel_key_vxlan`
+#[rattlefmt::skip]
+const LIST_TUNNEL_KEY_VXLAN: [Row<'static>; 1] = [
+    Row { word: 1, name: "Gbp", form: Form::Number(Number::U32) },
+];
+
+// `list tunnel_key_erspan`
+#[rattlefmt::skip]
+const LIST_TUNNEL_KEY_ERSPAN: [Row<'static>; 4] = [
+    Row { word: 1, name: "Ver", form: Form::Number(Number::U8) },
+    Row { word: 2, name: "Index", form: Form::Number(Number::U32Be) },
+    Row { word: 3, name: "Dir", form: Form::Number(Number::U8) },
+    Row { word: 4, name: "Hwid", form: Form::Number(Number::U8) },
 ];
 
 // `list action`: the rows of tunnel_key
@@ -889,7 +912,10 @@ pub(crate) fn parts_of_actions_tunnel_key(place: usize) -> Part<'static>
         816 => Part::Rows("TunnelKey", &LIST_TUNNEL_KEY_IN_TUNNELKEY),
         817 => Part::Fields(&STRUCT_TC_TUNNEL_KEY),
         818 => Part::Rows("", &LIST_TUNNEL_KEY_OPTS),
-        819 => Part::Rows("", &LIST_ACTION_ACTION_TUNNEL_KEY),
+        819 => Part::Rows("", &LIST_TUNNEL_KEY_GENEVE),
+        820 => Part::Rows("", &LIST_TUNNEL_KEY_VXLAN),
+        821 => Part::Rows("", &LIST_TUNNEL_KEY_ERSPAN),
+        822 => Part::Rows("", &LIST_ACTION_ACTION_TUNNEL_KEY),
         _ => Part::One(Form::Hex),
     }
 }

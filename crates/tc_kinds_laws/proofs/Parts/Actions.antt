@@ -57,8 +57,11 @@ use Rattle.tc_kinds.specs.Parts.Actions.{
   list_simple_in_simple,
   list_skbedit_in_skbedit,
   list_skbmod_in_skbmod,
+  list_tunnel_key_erspan,
+  list_tunnel_key_geneve,
   list_tunnel_key_in_tunnelkey,
   list_tunnel_key_opts,
+  list_tunnel_key_vxlan,
   list_vlan_in_vlan,
   parts_of_actions_bpf,
   parts_of_actions_connmark,
@@ -104,7 +107,6 @@ use Rattle.tc_kinds.specs.Parts.Actions.{
   struct_tc_vlan,
 }
 use Rattle.tc_kinds.specs.Parts.Elements.{all_of_elements, parts_of_elements}
-use Rattle.tc_kinds.specs.Parts.Filters.{all_of_filters, parts_of_filters_flower}
 use Rattle.tc_kinds.specs.Parts.Shared.{all_of_shared, parts_of_shared}
 
 pub actions_bpf_sound : (place : ℕ) → Sound (parts_of_actions_bpf place)
@@ -267,13 +269,16 @@ actions_skbmod_sound place =
     none)))
 
 pub actions_tunnel_key_sound : (place : ℕ) → Sound (parts_of_actions_tunnel_key place)
-unfolding parts_of_actions_tunnel_key tc_tables all_of_action all_of_actions all_of_filters parts_of_action parts_of_filters_flower
+unfolding parts_of_actions_tunnel_key tc_tables all_of_action all_of_actions parts_of_action
 actions_tunnel_key_sound place =
     at (place == 816) (sound list_tunnel_key_in_tunnelkey refl) (
     at (place == 817) (sound struct_tc_tunnel_key refl) (
     at (place == 818) (sound list_tunnel_key_opts refl) (
-    at (place == 819) (sound list_action_action_tunnel_key refl) (
-    none))))
+    at (place == 819) (sound list_tunnel_key_geneve refl) (
+    at (place == 820) (sound list_tunnel_key_vxlan refl) (
+    at (place == 821) (sound list_tunnel_key_erspan refl) (
+    at (place == 822) (sound list_action_action_tunnel_key refl) (
+    none)))))))
 
 pub actions_vlan_sound : (place : ℕ) → Sound (parts_of_actions_vlan place)
 unfolding parts_of_actions_vlan tc_tables all_of_action all_of_actions parts_of_action
