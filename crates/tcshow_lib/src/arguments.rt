@@ -88,13 +88,14 @@ const ABOUT: &str =
 const NOTES: &str =
     "A message is shown if it has, of each option that chooses, one of the values that are given: --kind, --type, --dev, --handle, --parent,
 --chain and --pref can be given several times.
-A handle is one such as 1:10, ffff:, root, 800::800 or 0x1. A time is in seconds since 1970, with decimals, or 2026-11-26T14:00:00Z.
+A handle is one such as 1:10, ffff:, root, 800::800 or 0x1. A time is in seconds since 1970, with decimals, or 2026-11-26T14:00:00Z;
+--since and --until leave out messages without a time.
 
 Hex is a message a line, with blanks, colons and 0x among the digits and comments after #, or a dump with offsets, as xxd, tcpdump -x
 and Wireshark print it; offset 0 begins a message. The cooked header of nlmon may stand before it.
 A packet, block or message of more than 1 MiB is skipped, with a line that says so.
 In outlines a tick is one of the packet scheduler, 64 ns as in Linux since 2.6.31; clock_t is a hundredth of a second.
-Captures of big-endian hosts can be opened, but their netlink messages, which are big-endian too, are refused.
+Captures of big-endian hosts can be opened, but their netlink messages, which are big-endian too, are shown as broken.
 
 Exit status: 0; 1 if a message that is shown is refused, or the input is broken or cut; 2 for a wrong usage, no capture,
 or a capture without route netlink; 3 if a stream failed or memory ran out";
@@ -315,7 +316,7 @@ fn file<'a>(alloc: Global) -> Result<Arg<'a>, AllocError> {
 }
 
 fn read<'a>(alloc: Global) -> Arg<'a> {
-    option(alloc, "read", Value::Text("FILE"), INPUT, "The same").short('r')
+    option(alloc, "read", Value::Text("FILE"), INPUT, "Read FILE, as the argument does").short('r')
 }
 
 fn begun<'a>(alloc: Global) -> Result<Command<'a>, AllocError> {

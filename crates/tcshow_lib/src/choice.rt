@@ -87,6 +87,7 @@ impl<'r, 'a> Choice<'r, 'a> {
         put_types(request.types.as_slice(), &mut self.types)?;
         put_interfaces(names, request.interfaces.as_slice(), &mut self.interfaces)?;
         put_handles(request.handles.as_slice(), &mut self.handles)?;
+        put_u32_handles(request.handles.as_slice(), &mut self.handles)?;
         put_handles(request.parents.as_slice(), &mut self.parents)?;
         self.put_times()
     }
@@ -146,6 +147,30 @@ fn put_handles<'a>(words: &[&'a str], all: &mut Vec<u32>) -> Result<(), NoChoice
         }
     }
     Ok(())
+}
+
+// The handles of u32 that have the same text as another: outlines show a table as `800:`, and a bucket as `800:1`.
+fn put_u32_handles<'a>(words: &[&'a str], all: &mut Vec<u32>) -> Result<(), AllocError> {
+    for word in words {
+        if let Some(handle) = u32_handle_of(*word) {
+            put(handle, all)?;
+        }
+    }
+    Ok(())
+}
+
+// The handle of a table of u32, or of a bucket in it.
+fn u32_handle_of(word: &str) -> Option<u32> {
+    let (table, bucket) = word.split_once(':')?;
+    if table.is_empty() || bucket.contains(':') {
+        return None;
+    }
+    let handle = handle_of_word(word)?;
+    let (table, bucket) = (handle / 0x10000, handle % 0x10000);
+    if table > 0xFFF || bucket > 0xFF {
+        return None;
+    }
+    Some(table * 0x10_0000 + bucket * 0x1000)
 }
 
 // What an interface can be given by.

@@ -200,6 +200,16 @@ static PEDIT: Known = Known {
     ],
 };
 
+// A request for a chain, which has the protocol of its template where a filter has it.
+static CHAIN: Known = Known {
+    root: Root::Chain,
+    digits: "000000000400000000000000f3ffffff0800000008000b0009000000",
+    lines: &[
+        " index 4 (eth0) handle 0:0 parent ffff:fff3 pref 0 protocol ip (0x0800)",
+        "chain 9",
+    ],
+};
+
 #[test]
 fn units_and_names_by_kind(rt: HostRuntime) {
     let alloc = rt.alloc();
@@ -214,4 +224,5 @@ fn units_and_names_by_kind(rt: HostRuntime) {
     assert!(rt; is_known(alloc, &BASIC, false));
     assert!(rt; is_known(alloc, &SKBEDIT, false));
     assert!(rt; is_known(alloc, &PEDIT, false));
+    assert!(rt; is_known(alloc, &CHAIN, false));
 }

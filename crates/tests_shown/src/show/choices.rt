@@ -220,7 +220,7 @@ fn unknown_words(rt: HostRuntime) {
 }
 
 static SOME_NAMES: &str =
-    "# names\n\n7 eth7 # of the test\n5: veth0@if6: <BROADCAST,MULTICAST> mtu 1500 qdisc noop state DOWN\n";
+    "# names\n\n7 eth7 # of the test\n5: veth0@if6: <BROADCAST,MULTICAST> mtu 1500 qdisc noop state DOWN\n4: vlan#5: <UP>\n";
 
 // Texts with a line that is no name, and its number.
 static NO_NAMES: [(&str, u64); 3] = [("eth7", 1), ("7 eth7\n\n8\n", 3), ("5: :", 1)];
@@ -242,7 +242,7 @@ fn are_names(alloc: Global, text: &str, want: &[(u32, &str)]) -> bool {
 
 #[test]
 fn names(rt: HostRuntime) {
-    assert!(rt; are_names(rt.alloc(), SOME_NAMES, &[(7, "eth7"), (5, "veth0")]));
+    assert!(rt; are_names(rt.alloc(), SOME_NAMES, &[(7, "eth7"), (5, "veth0"), (4, "vlan#5")]));
     for (text, line) in &NO_NAMES {
         assert!(rt; is_wrong_at(rt.alloc(), text, *line), "{text}");
     }
@@ -269,6 +269,13 @@ static CHOSEN: &str =
 static BARE: &str = "00000000100001000c000100080001006e617400\n";
 
 static BARE_LINE: &str = "action actions {action 1 {kind nat}}\n";
+
+// A filter without a netlink header: its kind says that it is one.
+static BARE_FILTER: &str =
+    "0000000003000000010000000000ffff080001000a0001006261736963000000\n";
+
+static BARE_FILTER_LINE: &str =
+    "tc index 3 handle 0x1 parent ffff: pref 1 protocol ip (0x0800) kind basic\n";
 
 // True if a run by these words, where interfaces have these names, writes this and nothing else.
 fn writes(alloc: Global, words: &[&str], names: &[(u32, &str)], input: &str, want: &str) -> bool {
@@ -308,17 +315,44 @@ static WORDS: [&str; 12] = [
     "1:",
 ];
 
+// Filters of u32 without a netlink header, and the table and the bucket that are chosen as they are shown.
+static U32: &str = "\
+0000000003000000000000800000ffff080001000800010075333200
+0000000003000000001000800000ffff080001000800010075333200
+0000000003000000000800800000ffff080001000800010075333200
+";
+
+static U32_WORDS: [&str; 8] = [
+    "tcshow",
+    "--oneline",
+    "--no-header",
+    "tc",
+    "--handle",
+    "800:",
+    "--handle",
+    "800:1",
+];
+
+static U32_LINES: &str = "tc index 3 handle 800: parent ffff: pref 1 protocol ip (0x0800) kind u32
+tc index 3 handle 800:1 parent ffff: pref 1 protocol ip (0x0800) kind u32
+";
+
 static BARE_WORDS: [&str; 4] = ["tcshow", "--oneline", "--no-header", "action"];
+
+static BARE_FILTER_WORDS: [&str; 4] = ["tcshow", "--oneline", "--no-header", "tc"];
 
 #[test]
 fn words_of_a_command_line(rt: HostRuntime) {
     assert!(rt; writes_with(rt.alloc(), &WORDS, NAMES, QDISCS, CHOSEN));
     assert!(rt; writes_with(rt.alloc(), &BARE_WORDS, "", BARE, BARE_LINE));
+    assert!(rt; writes_with(rt.alloc(), &U32_WORDS, "", U32, U32_LINES));
+    assert!(rt; writes_with(rt.alloc(), &BARE_FILTER_WORDS, "", BARE_FILTER, BARE_FILTER_LINE));
 }
 
-// A message of a link, which names the interface 2, and a qdisc of it.
+// A message of a link, which names the interface 2, a request to name it otherwise, and a qdisc of it.
 static LINK: &str =
     "2c00000010000000010000000000000000000100020000000000000000000000 0900 0300 6574683900 000000
+2c00000010000100010000000000000000000100020000000000000000000000 0900 0300 6c616e3000 000000
 34000000240000060100000000000000000000000200000000000100ffffffff000000000d00010066715f636f64656c00000000
 ";
 

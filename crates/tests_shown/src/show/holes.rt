@@ -18,7 +18,7 @@ static WHOLE: [u8; 36] = [
     0, 0, 0, 0, 0, 0, 0, 0, 0, 0, 0, 0, 0, 0, 0, 0, 0, 0, 0, 0,
 ];
 
-// A packet of which 20 of 56 bytes are kept; a whole one; and one that is 20 bytes of a message.
+// A packet of which 20 of 56 bytes are kept; one of which the first message is kept; a whole one; and one that is 20 bytes of a message.
 fn snapped(alloc: Global) -> Result<Vec<u8>, AllocError> {
     let mut file = beginning(alloc, Format::Microseconds, true)?;
     put_all(&mut file)?;
@@ -27,12 +27,15 @@ fn snapped(alloc: Global) -> Result<Vec<u8>, AllocError> {
 
 fn put_all(file: &mut Vec<u8>) -> Result<(), AllocError> {
     put_packet(file, Format::Microseconds, true, &FRONT, 36)?;
+    put_packet(file, Format::Microseconds, true, &WHOLE, 20)?;
     put_packet(file, Format::Microseconds, true, &WHOLE, 0)?;
     put_packet(file, Format::Microseconds, true, &FRONT, 0)
 }
 
-static SNAPPED: [&str; 3] = [
+static SNAPPED: [&str; 5] = [
     "{\"note\":\"cut: 56 bytes needed, 20 left\",\"at\":56}",
+    "{\"time\"",
+    "{\"note\":\"cut: the capture has only the first bytes of this packet\",\"at\":144}",
     "{\"time\"",
     "{\"note\":\"broken:",
 ];
