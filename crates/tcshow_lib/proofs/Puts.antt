@@ -5,10 +5,10 @@ use Rattle.std.proofs.lemmas.List.Elements.{All-push}
 use Rattle.tc_outline.specs.declared.what.What.{What}
 use Rattle.tc_outline.specs.Located.{items_of_message, message_fault}
 use Rattle.tc_outline.specs.Page.{IsShown, is_shown}
-use Rattle.tcshow_lib.specs.Found.{Header, Message, Thing, message, answer, hole, other}
+use Rattle.tcshow_lib.specs.Found.{Header, Message, Thing, message, answer, other}
 use Rattle.tc_chosen.specs.declared.chosen.Chosen.{Chosen}
 use Rattle.tcshow_lib.specs.Chosen.{is_asked, is_taken}
-use Rattle.tcshow_lib.specs.Shown.{ended, IsPage, IfTaken, Nothing, Shows, ShowsEach, ShowsMessage, ShowsAnswer, ShowsNotice}
+use Rattle.tcshow_lib.specs.Shown.{ended, IsPage, IfTaken, Nothing, Shows, ShowsEach, ShowsMessage, ShowsAnswer}
 use Rattle.tcshow_lib.specs.State.{State, Grows, Puts}
 
 pub or_assoc : (a b c : Bool) → ((a || b) || c) ≡ (a || (b || c))

@@ -1,6 +1,6 @@
 -- What is found in an input. The code's values have references to bytes and names; these are the same without them.
 use Rattle.std.specs.Prelude.{ℕ, Bool, true, false, List, [], ◌∷◌, ◌++◌, length, drop, slice_index, Option, Some, None, Ok, Err, codes, map, option_map}
-use Rattle.std.specs.Prelude.{◌==◌, ◌&&◌, nat_lt, if◌then◌else◌}
+use Rattle.std.specs.Prelude.{◌==◌, ◌&&◌, is_some, nat_lt, not, if◌then◌else◌}
 use Rattle.std.specs.List.{list_all}
 use Rattle.tc_capture.specs.declared.kind.Holds.{Holds}
 use Rattle.tc_capture.specs.Answer.{Answer, answer_in}
@@ -55,13 +55,17 @@ message_with origin m named = record { origin = origin; header = Some (header_wi
 abbrev pub message_in : Origin → Netlink → Option Message
 message_in origin m = option_map (message_with origin m) (rtm_at m.kind)
 
--- an answer to a request of traffic control that reports an error
+-- an answer to a request of traffic control that reports an error, or is a warning
 abbrev pub answer_to : Netlink → Bool → Option Message → Thing
 answer_to m capped (Some request) = answer (header_with (codes "NLMSG_ERROR") m) capped request
 answer_to m capped None = other
 
+-- an acknowledgement without a text
+abbrev pub is_silent : Answer → Bool
+is_silent a = a.error == 0 && not (is_some a.text)
+
 abbrev pub answer_with : Origin → Netlink → Option Answer → Thing
-answer_with origin m (Some a) = if a.error == 0 then other else answer_to m a.is_capped (message_in origin a.request)
+answer_with origin m (Some a) = if is_silent a then other else answer_to m a.is_capped (message_in origin a.request)
 answer_with origin m None = other
 
 abbrev pub netlink_or : Thing → Option Message → Thing

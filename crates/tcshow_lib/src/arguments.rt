@@ -230,7 +230,7 @@ static OPTIONS: [(&str, Value, &str, &str); 19] = [
         "refused",
         Value::Nothing,
         CHOICE,
-        "Show messages that are refused, and refusals of the kernel",
+        "Show messages that are refused, and refusals and warnings of the kernel",
     ),
     (
         "explain",

@@ -1,7 +1,8 @@
 //! Answers of the kernel to requests of traffic control.
 
 ghost use Rattle.std.specs.Prelude.{◌≡◌, IfOk};
-ghost use Rattle.tcshow_lib.specs.Found.{header_view, message_view};
+ghost use Rattle.tc_capture.specs.Answer.{answer_of};
+ghost use Rattle.tcshow_lib.specs.Found.{header_view, is_silent, message_view};
 ghost use Rattle.tcshow_lib.specs.Line.{IsAnswered};
 
 use crate::found::{Found, Header, Origin, header_of};
@@ -17,6 +18,13 @@ use std::alloc::{AllocError, Allocator, Global};
 use std::str;
 use tc_capture::{Answer, NLMSG_HEADER_LEN, NetlinkMessage, answer_in, errno_name};
 use tc_outline::{Layout, Page, path_at};
+
+// True of an acknowledgement without a text; with one it is a warning.
+fn is_silent(answer: &Answer<'_>) -> bool
+    ensures { result ≡ is_silent (answer_of answer.now) }
+{
+    answer.error == 0 && answer.text.is_none()
+}
 
 /// An answer of the kernel to a request of traffic control.
 #[derive(Clone, Copy)]
@@ -34,12 +42,12 @@ impl<'a> Reply<'a> {
     ghost use Rattle.tcshow_lib.specs.Found.{answer_with};
     ghost use Rattle.tcshow_lib.specs.Replies.{reply_thing};
 
-    /// The answer in a netlink message; `None` where that is none, an acknowledgement, or of another request.
+    /// The answer in a netlink message; `None` where that is none, an acknowledgement without a text, or of another request.
     pub(crate) fn in_netlink(origin: Origin, message: &NetlinkMessage<'a>) -> Option<Reply<'a>>
         ensures { reply_thing result ≡ answer_with origin (message_of message.now) (answer_in (message_of message.now)) }
     {
         let answer = answer_in(message)?;
-        if answer.error == 0 {
+        if is_silent(&answer) {
             return None;
         }
         let request = Found::in_netlink(origin, &answer.request)?;
@@ -58,8 +66,11 @@ impl<'a> Reply<'a> {
         }
     }
 
-    /// Shows the name of the error, or its number where it has none.
+    /// Shows the name of the error, or its number where it has none; a warning has no error.
     fn show_errno<A: Allocator>(&self, page: &mut Page<A>) -> Result<(), AllocError> {
+        if self.answer.error == 0 {
+            return page.text("warning");
+        }
         match errno_name(self.answer.error) {
             Some(name) => page.text(name),
             None => page.number(u64::from(self.answer.error)),

@@ -5,7 +5,7 @@ use tc_chosen::Chosen;
 use tcshow_lib::asked::Form;
 
 // pcap, a packet for each: EINVAL of a request, with a text and a place, from the port 77, of packet type 7; the same, capped; an
-// acknowledgement; EEXIST of a request for links; NLMSG_DONE; an error 777 of a request that is cut.
+// acknowledgement; EEXIST of a request for links; NLMSG_DONE; an error 777 of a request that is cut; an acknowledgement with a warning.
 static ANSWERS: &str =
     "d4c3b2a102000400000000000000000000001000fd00000000f1536540e20100980000009800000000070338000000000000\
      00000000000088000000020000029b0000004d000000eaffffff500000002c0000069b000000000000000000000003000000\
@@ -18,7 +18,8 @@ static ANSWERS: &str =
      020000000900000000000000efffffff200000001000000609000000000000000000000000000000000000000000000000f1\
      536540e2010024000000240000000004033800000000000000000000000014000000030002009b0000000000000000000000\
      00f1536540e2010038000000380000000004033800000000000000000000000028000000020000000900000000000000f7fc\
-     ffff1400000024000006090000000000000000000000";
+     ffff140000002400000609000000000000000000000000f1536540e2010048000000480000000004033800000000000000000000000038000000\
+     020000039b0000000000000000000000500000002c0000069b00000000000000130001007175616e74756d206973206269670000";
 
 static LINES: &str =
     r#"1700000000.123456000 NLMSG_ERROR EINVAL ack_tlvs seq 155 port 77 "NLA_F_NESTED is missing" at 44 /attributes/1/Options/1/Flower/Actions
@@ -38,11 +39,15 @@ static LINES: &str =
   raw 00000000
   refused BufferTooSmall len 4 needed 20 offset 0 path /header
 
+1700000000.123456000 NLMSG_ERROR warning capped ack_tlvs seq 155 "quantum is big"
+  RTM_NEWTFILTER create excl seq 155
+
 summary
   2 NLMSG_ERROR EINVAL
   1 NLMSG_ERROR 777
+  1 NLMSG_ERROR warning
   0 messages
-  3 answers
+  4 answers
   0 refused
   0 left out
   3 other netlink messages
@@ -61,6 +66,7 @@ static JSON: &str =
     r#"{"time":"1700000000.123456000","packet":1,"packet_type":7,"type":"NLMSG_ERROR","flags":512,"seq":155,"portid":77,"errno":"EINVAL","text":"NLA_F_NESTED is missing","offset":44,"path":"/attributes/1/Options/1/Flower/Actions","request":{"type":"RTM_NEWTFILTER","flags":1536,"seq":155,"message":{"header":{"family":"Unspec","index":3,"handle":"0:0","parent":"ffff:fff2","info":39387144},"attributes":[{"Kind":"flower"},{"Options":[{"Flower":{"IpProto":6}},{"Flower":{"Actions":[{"tab":1,"attributes":[{"Kind":"gact"}]}]}}]}]}}}
 {"time":"1700000000.123456000","packet":2,"type":"NLMSG_ERROR","flags":768,"seq":155,"errno":"EINVAL","text":"NLA_F_NESTED is missing","offset":44,"request":{"type":"RTM_NEWTFILTER","flags":1536,"seq":155}}
 {"time":"1700000000.123456000","packet":6,"type":"NLMSG_ERROR","flags":0,"seq":9,"errno":"777","request":{"type":"RTM_NEWQDISC","flags":1536,"seq":9,"message":{"raw":"00000000"}}}
+{"time":"1700000000.123456000","packet":7,"type":"NLMSG_ERROR","flags":768,"seq":155,"errno":"warning","text":"quantum is big","request":{"type":"RTM_NEWTFILTER","flags":1536,"seq":155}}
 "#;
 
 // Refused messages of a kind and an interface.
