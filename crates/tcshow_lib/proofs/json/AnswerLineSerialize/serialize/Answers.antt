@@ -1,4 +1,4 @@
-use Rattle.std.proofs.Common.{List, [], ◌∷◌, ◌++◌}
+use Rattle.std.proofs.Common.{List, [], ◌∷◌, ◌++◌, None}
 use Rattle.std.proofs.lemmas.Result.{on_ok_weaker}
 use Rattle.serde.specs.Event.{Event, Log, Logs, map_begins, map_ends}
 use Rattle.tc_form_values.specs.Sent.{Sent}
