@@ -316,7 +316,14 @@ fn file<'a>(alloc: Global) -> Result<Arg<'a>, AllocError> {
 }
 
 fn read<'a>(alloc: Global) -> Arg<'a> {
-    option(alloc, "read", Value::Text("FILE"), INPUT, "Read FILE, as the argument does").short('r')
+    option(
+        alloc,
+        "read",
+        Value::Text("FILE"),
+        INPUT,
+        "Read FILE, as the argument does",
+    )
+    .short('r')
 }
 
 fn begun<'a>(alloc: Global) -> Result<Command<'a>, AllocError> {

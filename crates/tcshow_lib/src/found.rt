@@ -122,8 +122,18 @@ fn what_of(holds: Holds, payload: &[u8]) -> What {
     match holds {
         Holds::Action => What::Action,
         Holds::Tc => match kind_in(holds, payload) {
-            b"basic" | b"bpf" | b"cgroup" | b"flow" | b"flower" | b"fw" | b"matchall" | b"route" | b"rsvp"
-            | b"rsvp6" | b"tcindex" | b"u32" => What::Filter,
+            b"basic"
+            | b"bpf"
+            | b"cgroup"
+            | b"flow"
+            | b"flower"
+            | b"fw"
+            | b"matchall"
+            | b"route"
+            | b"rsvp"
+            | b"rsvp6"
+            | b"tcindex"
+            | b"u32" => What::Filter,
             _ => What::Qdisc,
         },
     }

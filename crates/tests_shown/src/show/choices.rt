@@ -242,7 +242,13 @@ fn are_names(alloc: Global, text: &str, want: &[(u32, &str)]) -> bool {
 
 #[test]
 fn names(rt: HostRuntime) {
-    assert!(rt; are_names(rt.alloc(), SOME_NAMES, &[(7, "eth7"), (5, "veth0"), (4, "vlan#5")]));
+    assert!(rt;
+        are_names(
+            rt.alloc(),
+            SOME_NAMES,
+            &[(7, "eth7"), (5, "veth0"), (4, "vlan#5")]
+        )
+    );
     for (text, line) in &NO_NAMES {
         assert!(rt; is_wrong_at(rt.alloc(), text, *line), "{text}");
     }
@@ -271,8 +277,7 @@ static BARE: &str = "00000000100001000c000100080001006e617400\n";
 static BARE_LINE: &str = "action actions {action 1 {kind nat}}\n";
 
 // A filter without a netlink header: its kind says that it is one.
-static BARE_FILTER: &str =
-    "0000000003000000010000000000ffff080001000a0001006261736963000000\n";
+static BARE_FILTER: &str = "0000000003000000010000000000ffff080001000a0001006261736963000000\n";
 
 static BARE_FILTER_LINE: &str =
     "tc index 3 handle 0x1 parent ffff: pref 1 protocol ip (0x0800) kind basic\n";
@@ -346,7 +351,15 @@ fn words_of_a_command_line(rt: HostRuntime) {
     assert!(rt; writes_with(rt.alloc(), &WORDS, NAMES, QDISCS, CHOSEN));
     assert!(rt; writes_with(rt.alloc(), &BARE_WORDS, "", BARE, BARE_LINE));
     assert!(rt; writes_with(rt.alloc(), &U32_WORDS, "", U32, U32_LINES));
-    assert!(rt; writes_with(rt.alloc(), &BARE_FILTER_WORDS, "", BARE_FILTER, BARE_FILTER_LINE));
+    assert!(rt;
+        writes_with(
+            rt.alloc(),
+            &BARE_FILTER_WORDS,
+            "",
+            BARE_FILTER,
+            BARE_FILTER_LINE
+        )
+    );
 }
 
 // A message of a link, which names the interface 2, a request to name it otherwise, and a qdisc of it.
