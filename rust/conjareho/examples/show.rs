@@ -6,9 +6,9 @@ use std::io::{self, BufRead};
 
 fn main() -> Result<(), Box<dyn std::error::Error>> {
     for line in io::stdin().lock().lines() {
-        let digits: String = line?.split_whitespace().collect();
-        let octets = (0..digits.len() / 2).map(|at| u8::from_str_radix(&digits[2 * at..2 * at + 2], 16));
-        match TcMessage::parse(&octets.collect::<Result<Vec<u8>, _>>()?) {
+        let digits: Vec<u8> = line?.bytes().filter(|byte| !byte.is_ascii_whitespace()).collect();
+        let octets = digits.chunks(2).map(|pair| Ok(u8::from_str_radix(str::from_utf8(pair)?, 16)?));
+        match TcMessage::parse(&octets.collect::<Result<Vec<u8>, Box<dyn std::error::Error>>>()?) {
             Ok(message) => println!("{message:#?}"),
             Err(e) => println!("{}: {e}", e.name()),
         }
