@@ -44,7 +44,7 @@ codec finds so; a line that doesn't has to be canonical. A line may have 32 MiB.
 With --request all lines are read first, and held in memory; then each request stands behind those that it needs. What can't be made
 gets a complaint, and so does what needs it.
 
-Exit status: 0; 1 if no message was made of a line; 2 for a wrong usage; 3 if a stream failed";
+Exit status: 0; 1 if something is wrong with a line; 2 for a wrong usage; 3 if a stream failed";
 
 // The options: the name, what the help calls the number behind it, if there is one, and what the help says.
 static OPTIONS: [(&str, Option<&str>, &str); 9] = [
@@ -73,7 +73,7 @@ static OPTIONS: [(&str, Option<&str>, &str); 9] = [
     (
         "in-order",
         None,
-        "Keep the order of the lines, and read a line at a time",
+        "Keep the order of the lines: read a line at a time, and compare none with others",
     ),
     (
         "index",
@@ -83,8 +83,22 @@ static OPTIONS: [(&str, Option<&str>, &str); 9] = [
     ("verbose", None, "Name the dumps that another request makes"),
 ];
 
-fn option<'a>(alloc: Global, name: &'a str, number: Option<&'a str>, help: &'a str) -> Arg<'a> {
-    with_number(described(alloc, name, help), number)
+fn option<'a>(
+    alloc: Global,
+    name: &'a str,
+    number: Option<&'a str>,
+    help: &'a str,
+) -> Result<Arg<'a>, AllocError> {
+    alone(name, with_number(described(alloc, name, help), number))
+}
+
+// What makes no requests goes with none of their options. That these want `--request` isn't enough: clap drops what is wanted where it
+// conflicts with what is there.
+fn alone<'a>(name: &str, option: Arg<'a>) -> Result<Arg<'a>, AllocError> {
+    match name {
+        "settle" | "as-given" => option.conflicts_with("requests"),
+        _ => Ok(option),
+    }
 }
 
 fn described<'a>(alloc: Global, name: &'a str, help: &'a str) -> Arg<'a> {
@@ -157,7 +171,7 @@ fn with_groups<'a>(alloc: Global) -> Result<Command<'a>, AllocError> {
 fn command<'a>(alloc: Global) -> Result<Command<'a>, AllocError> {
     let mut command = with_groups(alloc)?;
     for (name, number, help) in &OPTIONS {
-        command = command.arg(option(alloc, *name, *number, *help))?;
+        command = command.arg(option(alloc, *name, *number, *help)?)?;
     }
     Ok(command)
 }

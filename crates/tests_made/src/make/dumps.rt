@@ -46,3 +46,19 @@ fn requests_of_dumps(rt: HostRuntime) -> Result<(), Fail> {
     assert!(rt; run.status == 1 && run.written.as_slice() == REQUESTS.as_bytes());
     Ok(())
 }
+
+// Options of requests, where none are made.
+static NO_REQUESTS: [&[&str]; 5] = [
+    &["tcmake", "--verbose"],
+    &["tcmake", "--index", "7", "--settle"],
+    &["tcmake", "--settle", "--in-order"],
+    &["tcmake", "--verbose", "--as-given"],
+    &["tcmake", "--as-given", "--index", "7"],
+];
+
+#[test]
+fn options_of_requests_alone(rt: HostRuntime) {
+    for words in &NO_REQUESTS {
+        assert!(rt; request_of(rt.alloc(), *words).is_err(), "{words:?}");
+    }
+}
