@@ -155,20 +155,6 @@ module _ {X : Type 0} (reads : Reads X) (sets : Sets Frame) where
     fault = λ e. (IsListFault-read_list first bytes e is, read_list-IsListFault first bytes e);
   }
 
-  -- a list has one reading
-  pub one_reading : (first : List ℕ) (bytes : List ℕ) (xs ys : List X) → ListReads reads sets first bytes xs → ListReads reads sets first bytes ys → xs ≡ ys
-  one_reading first bytes xs ys one other =
-      let this = read_list-ListReads first bytes xs one in
-      let that = read_list-ListReads first bytes ys other in
-      cc
-
-  -- a list has one fault
-  pub one_fault : (first : List ℕ) (bytes : List ℕ) (d e : DecodeError) → IsListFault reads sets first bytes d → IsListFault reads sets first bytes e → d ≡ e
-  one_fault first bytes d e one other =
-      let this = read_list-IsListFault first bytes d one in
-      let that = read_list-IsListFault first bytes e other in
-      cc
-
   -- where no frame is refused for want of memory, no list is
   pub read_list_not_memory : (first : List ℕ) (bytes : List ℕ) → ((kind : List ℕ) (f : Frame) → reads kind f ≡ Err OutOfMemory → ⊥)
       → read_list reads sets first bytes ≡ Err OutOfMemory → ⊥

@@ -21,11 +21,6 @@ pub wire-frames : {X : Type 0} (frame : X → Frame) (xs : List X) → AllByRecu
 wire-frames frame [] all = tt
 wire-frames frame (x ∷ xs) all = (all.0.frame, wire-frames frame xs all.1)
 
--- so are frames that stand in bytes
-pub wire-each : (frame : List Frame) → AllByRecursion IsWireFrame frame → AllByRecursion IsFrame frame
-wire-each [] all = tt
-wire-each (f ∷ fs) all = (all.0.frame, wire-each fs all.1)
-
 module _ {X : Type 0} (reads : Reads X) (sets : Sets Frame) where
   -- what is read of a list is read of the frames that are cut, all of them
   pub ReadInTurn-read_list : (kind bytes : List ℕ) (xs : List X) → read_list reads sets kind bytes ≡ Ok xs

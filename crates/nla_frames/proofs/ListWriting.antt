@@ -2,8 +2,7 @@
 use Rattle.std.proofs.Common.{◌≡◌, ℕ, ◌+◌, ◌-◌, ◌<◌, ◌≤◌, List, [], ◌∷◌, ◌++◌, length, map, take, drop, get_or, refl, sym, ◌∙◌, ap, subst, arith, length-append}
 use Rattle.std.proofs.Common.{length-drop, take-add}
 use Rattle.std.specs.List.{AllByRecursion}
-use Rattle.std.proofs.lemmas.List.{get_or-map, length-map, length-take, length-take-le, take_all, take_at, drop_at, drop-drop}
-use Rattle.std.proofs.lemmas.List.Elements.{All-more, All-from_recursion, recursion_from_All}
+use Rattle.std.proofs.lemmas.List.{length-take, length-take-le, take_all, take_at, drop_at, drop-drop}
 use Rattle.nla_frames.specs.Frame.{Frame, frame_bytes, frame_length}
 use Rattle.nla_frames.specs.Emission.{Writes, HasRoom, list_bytes}
 use Rattle.nla_frames.proofs.FrameBytes.{length_frame_bytes}
@@ -14,25 +13,6 @@ use borrow.Rule.Slice.PartMut.{put_mid}
 pub record IsAt {Y : Type 0} (items : List Y) (i : ℕ) (item : Y) : Type 0 where
   pub within : i < length items
   pub is : item ≡ get_or items i item
-
--- what each item before the end is, each is
-pub all_hold : {Y X : Type 0} (see : Y → X) (items : List Y) (P : X → Type 0) (n : ℕ) → length items ≤ n → AllByRecursion P (take n (map see items))
-    → AllByRecursion P (map see items)
-all_hold see items P n past each = subst (AllByRecursion P) (take_all n (map see items) (omega (arith, length-map items see))) each
-
-module _ {Y X : Type 0} (see : Y → X) {items : List Y} {i : ℕ} {item : Y} (here : IsAt items i item) where
-  -- an item as it is seen
-  seen_at : get_or (map see items) i (see item) ≡ see item
-  seen_at = get_or-map see items i item (see item) here.within ∙ ap see (sym here.is)
-
-  seen_within : i < length (map see items)
-  seen_within = omega (arith, length-map items see)
-
-module _ {Y X : Type 0} (see : Y → X) {items : List Y} {i : ℕ} {item : Y} (here : IsAt items i item) (P : X → Type 0) where
-  -- what each item before it and it are, each before the next one is
-  pub one_more : AllByRecursion P (take i (map see items)) → P (see item) → AllByRecursion P (take (i + 1) (map see items))
-  one_more before it = recursion_from_All P _
-      (All-more P (map see items) i (see item) (seen_within see here) (All-from_recursion P _ before) (subst P (sym (seen_at see here)) it))
 
 -- no item has no bytes, and is of any kind
 pub of_no_item : {Y X : Type 0} (see : Y → X) (items : List Y) → length items < 1 → (frame : X → Frame) (P : X → Type 0)

@@ -18,8 +18,8 @@ ghost use Rattle.tc_action_messages.specs.ActionMessage.{action_message, TakesUn
 
 use crate::attribute::TcActionMessageAttribute;
 use nla_frames::{
-    BytesMeaning, Emitable, ParseableBytes, Res, SettleBytes, list_checked_len, list_settled_under,
-    parse_list, put_list,
+    BytesMeaning, Emitable, ParseableBytes, Res, list_checked_len, list_settled_under, parse_list,
+    put_list,
 };
 use std::alloc::{Allocator, Global};
 use tc_laws::{places, rewriting};

@@ -6,9 +6,6 @@ ghost use Rattle.tc_capture.specs.Kind.{named_of, tc_row, action_row, rtm_at};
 /// `NLMSG_ERROR` of `linux/netlink.h`: an error, or the acknowledgement of a request.
 pub const NLMSG_ERROR: u16 = 2;
 
-/// `NLMSG_DONE`: the end of a reply of several messages.
-pub const NLMSG_DONE: u16 = 3;
-
 /// `NLMSG_TSTAMP` of iproute2: the time of what follows, in the files that `rtmon` writes.
 pub const NLMSG_TSTAMP: u16 = 15;
 

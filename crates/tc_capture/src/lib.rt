@@ -19,16 +19,14 @@ pub mod pcapng;
 pub mod piece;
 pub mod stream;
 pub mod time;
-pub mod written;
 
 pub use answer::{Answer, answer_in};
 pub use capture::Capture;
 pub use errno::errno_name;
 pub use error::{CaptureError, Res};
-pub use kind::{Holds, NLMSG_DONE, NLMSG_ERROR, NLMSG_TSTAMP, RtmType, rtm_of};
+pub use kind::{Holds, NLMSG_ERROR, NLMSG_TSTAMP, RtmType, rtm_of};
 pub use message::{NLMSG_HEADER_LEN, NetlinkMessage};
 pub use messages::Messages;
 pub use packet::{Contents, Link, Packet};
 pub use piece::Piece;
 pub use time::Time;
-pub use written::CAPTURE;

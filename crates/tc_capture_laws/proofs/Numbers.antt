@@ -1,9 +1,9 @@
 -- Numbers that are written are read.
-use Rattle.std.proofs.Common.{◌≡◌, ℕ, zero, suc, ◌+◌, ◌*◌, ◌/◌, ◌%◌, ◌^◌, ◌<◌, List, [], ◌∷◌, ◌++◌, length, Bool, true, false, refl, ap, ◌∙◌, arith}
+use Rattle.std.proofs.Common.{◌≡◌, ℕ, zero, suc, ◌+◌, ◌*◌, ◌/◌, ◌%◌, ◌^◌, ◌<◌, List, [], ◌∷◌, ◌++◌, Bool, true, false, refl, ap, ◌∙◌, arith}
 use Rattle.std.specs.Prelude.{◌&&◌, ◌==◌, slice_index}
 use Rattle.std.proofs.lemmas.Bool.{eqb-true}
 use Rattle.byteorder.specs.Endian.{little_from, little_number}
-use Rattle.byteorder.specs.Numbers.{length-bytes_high_first, length-bytes_low_first, big_number-reads_back, little_number-reads_back}
+use Rattle.byteorder.specs.Numbers.{big_number-reads_back, little_number-reads_back}
 use Rattle.tc_capture.specs.declared.order.Order.{Order}
 use Rattle.tc_capture.specs.declared.order.Order.TheVariants.{Little, Big}
 use Rattle.tc_capture.specs.declared.time.Time.{Time}
@@ -15,10 +15,6 @@ use Rattle.tc_capture_laws.specs.Files.{number_bytes}
 pub number-number_bytes : (order : Order) (n x : ℕ) (rest : List ℕ) → x < 256 ^ n → number order n (number_bytes order n x ++ rest) ≡ x
 number-number_bytes Little n x rest fits = little_number-reads_back n x rest fits
 number-number_bytes Big n x rest fits = big_number-reads_back n x rest fits
-
-pub length-number_bytes : (order : Order) (n x : ℕ) → length (number_bytes order n x) ≡ n
-length-number_bytes Little n x = length-bytes_low_first 0 n x
-length-number_bytes Big n x = length-bytes_high_first n x
 
 -- seconds and nanoseconds
 pub time_of-nanoseconds : (time : Time) → time.nanoseconds < 10 ^ 9 → time_of (time.seconds * 1000000000 + time.nanoseconds) 1000000000 ≡ time

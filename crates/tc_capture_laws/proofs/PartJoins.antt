@@ -18,7 +18,7 @@ use Rattle.tc_capture.proofs.Steps.{length-next_message}
 use Rattle.tc_capture_laws.specs.Fronts.{HoldsPacket}
 use Rattle.tc_capture_laws.specs.Pieces as pieces
 use Rattle.tc_capture_laws.specs.Pieces.{What, Piece, pieces_in}
-use Rattle.tc_capture_laws.specs.Parts.{Kind, Part, part, before_last, message_and_more, message_parts_up_to, message_parts, contents_parts, read_parts}
+use Rattle.tc_capture_laws.specs.Parts.{Part, part, before_last, message_and_more, message_parts_up_to, message_parts, contents_parts, read_parts}
 use Rattle.tc_capture_laws.specs.Parts.{what_parts, parts_in, joined, messages_of, zeros, format}
 use Rattle.tc_capture_laws.proofs.FrontPieces.{passes}
 use Rattle.tc_capture_laws.proofs.EachPiece.{each-piece}
@@ -37,10 +37,6 @@ before k xs = elim (cases_lt (length xs) k) [
 
 joined-append : (xs ys : List Part) → joined (xs ++ ys) ≡ joined xs ++ joined ys
 joined-append xs ys = flat_map-append (λ (p : Part). p.bytes) xs ys
-
--- a part before others
-part-joined : (kind : Kind) (bytes : List ℕ) (more : List Part) → joined (part kind bytes ++ more) ≡ bytes ++ joined more
-part-joined kind bytes more = refl
 
 -- what follows a message is an end of the bytes
 next-after : (bytes : List ℕ) (next : Message × List ℕ) → next_message bytes ≡ Ok next

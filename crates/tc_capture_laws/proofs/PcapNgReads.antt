@@ -92,9 +92,6 @@ new order = record { order = order; interfaces = [] }
 abbrev pub described : Order → Section
 described order = record { order = order; interfaces = Some netlink ∷ [] }
 
-ticks_of : Packet → ℕ
-ticks_of p = p.time.seconds * 10 ^ 9 + p.time.nanoseconds
-
 time_after-netlink : (time : Time) → time.seconds < 2 ^ 32 → time.nanoseconds < 10 ^ 9
     → time_after (time.seconds * 1000000000 + time.nanoseconds) netlink ≡ Some time
 time_after-netlink time seconds nanoseconds =

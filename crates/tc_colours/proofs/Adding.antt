@@ -19,9 +19,6 @@ adds_text o n text h = (text, h, as_it_is text)
 pub adds_colour : (o n code : List ℕ) → n ≡ o ++ code → IsColour code → Adds o n []
 adds_colour o n code h is_colour = (code, h, λ plain rest. is_colour rest)
 
-pub adds_nothing : (o : List ℕ) → Adds o o []
-adds_nothing o = ([], sym (append-nil o), λ plain rest. refl)
-
 pub adds_then : (o m n a b : List ℕ) → Adds o m a → Adds m n b → Adds o n (a ++ b)
 adds_then o m n a b h k = (
   h.0 ++ k.0,

@@ -1,7 +1,6 @@
 -- The attributes of a list put into slots, one after the other: what is kept on the way.
 use Rattle.std.proofs.Common.{◌≡◌, ℕ, suc, ◌+◌, ◌<◌, ◌≤◌, List, [], ◌∷◌, ◌++◌, length, drop, set, map, Bool, true, false, Option, Some, Ok, Err, refl, sym, ap, ◌∙◌, arith}
 use Rattle.std.proofs.lemmas.List.{map-set, map-append, length-map, length-append, drop-set-lt, drop-drop}
-use Rattle.tc_index.specs.declared.attribute.BrokenFrame.{BrokenFrame}
 use Rattle.tc_index.specs.Attributes.{Placed, Item, to_fault}
 use Rattle.tc_index.specs.Seen.{SeenNode, node_of}
 use Rattle.tc_index.specs.Nodes.{nodes_of, filled, is_whole, FillsBy, KeepsBehind, Puts}
@@ -44,9 +43,6 @@ module _ {S : Type 0} (seen : S → Option SeenNode) where
     pub put : filled n (map Some (nodes_of left)) (map seen new) ≡ filled start (map Some (nodes_of all)) (map seen old)
     pub behind : drop n new ≡ drop n old
     pub whole : is_whole left ≡ is_whole all
-
-  pub begins : (start : ℕ) (all : List Item) (old : List S) → Putting start all old start all old
-  begins start all old = record { counted = refl; put = refl; behind = refl; whole = refl }
 
   -- the first of them
   puts-one : (start n : ℕ) (all left inner rest : List Item) (old before new : List S) (p : Placed) (s : S) → Putting start all old n left before
@@ -136,17 +132,6 @@ module _ {S : Type 0} (seen : S → Option SeenNode) where
         slots = rw none at so_far.put;
         behind = so_far.behind;
         all = rw none at so_far.whole;
-      }
-
-  -- the next frame is broken
-  pub breaks : (start n : ℕ) (all left : List Item) (old new : List S) (broken : BrokenFrame) → Putting start all old n left new → left ≡ Err broken ∷ []
-      → Puts seen all start old n new false
-  breaks start n all left old new broken so_far first =
-      record {
-        count = omega (arith, rw first at so_far.counted);
-        slots = rw first at so_far.put;
-        behind = so_far.behind;
-        all = rw first at so_far.whole;
       }
 
   -- ---- the attributes of a message

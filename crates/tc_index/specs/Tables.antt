@@ -1,5 +1,5 @@
 -- The tables of attributes in the language of the codec's tables.
-use Rattle.tc_canon.specs.Descriptor.{every, own_list, table, by_kind, Rows, others, Kinds, unknown}
+use Rattle.tc_canon.specs.Descriptor.{every, own_list, table, by_kind, Rows, others}
 use Rattle.tc_canon.specs.Descriptor as canon
 use Rattle.tc_canon.specs.Tables.Messages.{attributes, action_message_attributes}
 use Rattle.tc_canon.specs.Tables.Statistics.{stats2}
@@ -29,12 +29,6 @@ rows_in the.Lse = lse_options
 rows_in the.Actions = others
 rows_in the.ActionOptions = others
 rows_in the.Options = others
-
--- the known kinds of a table
-abbrev pub kinds_in : Table → Kinds
-kinds_in the.ActionOptions = action_option_kinds
-kinds_in the.Options = option_kinds
-kinds_in t = unknown
 
 -- the table itself
 abbrev pub table_of : Table → canon.Table

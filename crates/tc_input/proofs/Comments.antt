@@ -1,10 +1,10 @@
 -- What comes before the number sign that begins a comment.
-use Rattle.std.proofs.Common.{◌≡◌, ◌≢◌, ◌∙◌, ℕ, suc, ◌+◌, ◌<◌, ◌≤◌, List, [], ◌∷◌, ◌++◌, length, take, drop, Bool, cond, not}
+use Rattle.std.proofs.Common.{◌≡◌, ◌≢◌, ◌∙◌, ℕ, suc, ◌<◌, ◌≤◌, List, [], ◌∷◌, ◌++◌, length, take, drop, Bool, cond, not}
 use Rattle.std.proofs.Common.{refl, sym, ap, append-nil, take-append-drop, drop-cons}
 use Rattle.std.specs.Prelude.{All, slice_index}
 use Rattle.std.specs.List.{take_while}
 use Rattle.std.proofs.lemmas.Bool.{ne_eqb}
-use Rattle.std.proofs.lemmas.List.Elements.{All-head, All-tail, All-more, All-same}
+use Rattle.std.proofs.lemmas.List.Elements.{All-head, All-tail, All-same}
 use Rattle.std.proofs.lemmas.List.Sums.{take_while-cons}
 use Rattle.tc_input.specs.Text.{is_before_comment}
 use Rattle.tc_input.proofs.Left.{whole_taken}
@@ -33,6 +33,3 @@ before_is_front line n inside sign none =
     let cut : line ≡ take n line ++ 35 ∷ drop (suc n) line =
     sym (take-append-drop n line) ∙ ap (λ l. take n line ++ l) (drop-cons line n 0 inside ∙ ap (λ b. b ∷ drop (suc n) line) sign) in
     sym (append-nil (take n line)) ∙ sym (before-all (take n line) (35 ∷ drop (suc n) line) none) ∙ ap (take_while is_before_comment) (sym cut)
-
-pub no_sign_more : (line : List ℕ) (n : ℕ) → n < length line → slice_index line n ≢ 35 → HasNoSign (take n line) → HasNoSign (take (n + 1) line)
-no_sign_more line n inside other none = All-more (λ b. b ≢ 35) line n 0 inside none other

@@ -3,7 +3,7 @@ use Rattle.std.proofs.Common.{◌≡◌, ◌≢◌, ◌∙◌, ℕ, suc, ◌+◌
 use Rattle.std.proofs.Common.{refl, sym, ap, subst, append_assoc, append-nil, take-append-drop, drop-cons, add_assoc, add-one, arith}
 use Rattle.std.specs.Prelude.{Option, slice_index, if◌then◌else◌}
 use Rattle.std.proofs.lemmas.Bool.{ne_eqb}
-use Rattle.std.proofs.lemmas.List.{length-append, length-drop, length-take-le, drop-drop}
+use Rattle.std.proofs.lemmas.List.{length-append, length-take-le, drop-drop}
 use Rattle.std.proofs.Math.Seq.{take-append-add}
 use Rattle.std.proofs.lemmas.List.Elements.{All-append, All-head, All-tail, All-same, All-more}
 use Rattle.std.proofs.KnownBytes.{Consumes-trans, Consumes-kept}
@@ -169,9 +169,6 @@ no_feed_both bytes n front after =
 pub ends_line : (bytes : List ℕ) (place : ℕ) (reader : Option (List ℕ)) → EndsLine bytes place
     → Gives (lines_left (prepend_known bytes reader)) (take place bytes ∷ []) (lines_left (prepend_known (drop (place + 1) bytes) reader))
 ends_line bytes place reader ends = gives_line bytes (take place bytes) (drop (place + 1) bytes) reader ends.0 (cut_at bytes place ends.1)
-
-pub ends_inside : (bytes : List ℕ) (place : ℕ) → EndsLine bytes place → place < length bytes
-ends_inside bytes place ends = omega (arith, ap length ends.1, length-drop place bytes)
 
 -- the search begins behind what was searched
 pub first_here : (rest now after : List ℕ) (n place : ℕ) → n ≤ length rest → HasNoFeed (take n rest) → now ≡ rest → after ≡ drop n now → EndsLine after place

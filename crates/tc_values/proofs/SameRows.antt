@@ -1,8 +1,7 @@
 -- The test of two attributes, each given by its word and its value, says whether contracts see them as equal.
-use Rattle.std.proofs.Common.{◌≡◌, ◌&&◌, ℕ, Bool, true, false, List, Option, Some, refl, sym, ap, subst, ◌∙◌, nat_eq}
+use Rattle.std.proofs.Common.{◌≡◌, ◌&&◌, ℕ, Bool, true, false, List, Some, refl, sym, ap, subst, ◌∙◌, nat_eq}
 use Rattle.std.specs.Ordering.{on}
-use Rattle.std.specs.Bool.{Decides}
-use Rattle.std.specs.Cmp.{unsigned_Decides, both_ways}
+use Rattle.std.specs.Cmp.{unsigned_Decides}
 use Rattle.std.specs.Cmp.Lexicographic.{pointwise}
 use Rattle.nla_frames.specs.Frame.{type_of}
 use Rattle.nla_frames.specs.Codec.{Codec}

@@ -3,7 +3,6 @@ use Rattle.std.specs.Prelude.{◌≡◌, ℕ, Bool, true, false, List, nat_eq}
 use Rattle.std.specs.Bool.{beq}
 use Rattle.std.specs.Cmp.Lexicographic.{pointwise}
 use Rattle.tc_canon.specs.Descriptor.{Class, le, be, masked, array, raw, text, warning, presence, truth}
-use Rattle.tc_meaning.specs.Tree.{Content}
 use Rattle.tc_meaning.specs.Equal.{same_content}
 use Rattle.tc_values.specs.Inner.{Inner}
 use Rattle.tc_values.specs.declared.same.Held.{Held}

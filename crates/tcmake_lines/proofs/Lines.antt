@@ -152,18 +152,6 @@ next_by_end a b c result found kept text part all taken p h ends = by_case resul
     by_case TooLong e = (text, reads e.0, subst (λ f. IsFound f text kept) (sym e.1) here)
     by_case NoMemory e = (text, reads e.0, subst (λ f. IsFound f text kept) (sym e.1) here)
 
--- a part of a line more
-pub part_then : (a b c : Option (List ℕ)) (found : Found) (kept text part : List ℕ) (ends : Ends) → with_end ends part ≡ part
-    → All (λ x. x ≢ 10) text → Consumes a b text
-    → TakesPart ends part b c → IsFound found (text ++ part) kept
-    → (line : List ℕ) × All (λ x. x ≢ 10) line × Consumes a c line × IsFound found line kept
-part_then a b c found kept text part ends same all taken p h = (
-  text ++ part,
-  All-append (λ x. x ≢ 10) text part all p.no_line_feed,
-  Consumes-trans a b c text part taken (subst (λ l. Consumes b c l) same p.taken),
-  h,
-)
-
 -- ---- the end
 
 no_end : false ≡ true → ⊥

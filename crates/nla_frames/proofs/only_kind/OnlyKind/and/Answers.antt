@@ -1,4 +1,4 @@
--- Without this the proof is found too; with it a must-fail edit of the function is refused by one search.
+-- Without this the proof is found too; with it a wrong body of the function is refused by one search.
 use Rattle.std.proofs.Common.{arith, rules}
 use Rattle.std.proofs.lemmas.Grind.{common_steps}
 use Rattle.nla_frames.proofs.only_kind.OnlyKind.and.Goals as goal

@@ -1,4 +1,4 @@
--- Without this the proof is found too; with it a must-fail edit of the function is refused by one search.
+-- Without this the proof is found too; with it a wrong body of the function is refused by one search.
 use Rattle.std.proofs.Common.{rules}
 use Rattle.nla_frames.proofs.values.write.checked_value_len.Goals as goal
 

@@ -1,4 +1,4 @@
--- Searched alone: an edit that turns the octets is refused sooner.
+-- Searched alone: octets in another order are refused sooner.
 use Rattle.std.proofs.Common.{rules}
 use Rattle.tc_action_messages.proofs.flags.TcActionMessageFlagsWithSelector.to_bytes.Goals as goal
 
