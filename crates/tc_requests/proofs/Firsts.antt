@@ -1,9 +1,8 @@
 -- The first element of a list that isn't settled.
-use Rattle.std.proofs.Common.{◌≡◌, ℕ, ◌+◌, ◌<◌, List, [], ◌∷◌, map, take, length, get_or, Some, sym, ap, subst, ◌∙◌}
+use Rattle.std.proofs.Common.{◌≡◌, ℕ, ◌<◌, List, [], ◌∷◌, map, take, length, get_or, Some, sym, ap, subst, ◌∙◌}
 use Rattle.std.specs.List.{AllByRecursion}
 use Rattle.std.specs.Option.{option_map}
 use Rattle.std.proofs.lemmas.List.{take-map}
-use Rattle.std.proofs.lemmas.List.Elements.{All-more, All-from_recursion, recursion_from_All}
 use Rattle.std.proofs.lemmas.Option.{slice_get-map, slice_get-get_or}
 use Rattle.tc_requests.specs.Named.{IsFirst}
 
@@ -14,11 +13,6 @@ module _ {Y X : Type 0} (see : Y → X) (P : X → Type 0) where
   all_seen (y ∷ items) all = (all.0, all_seen items all.1)
 
   module _ (items : List Y) (i : ℕ) (item : Y) (within : i < length items) (is : item ≡ get_or items i item) (before : AllByRecursion (λ y. P (see y)) (take i items)) where
-    -- after an element that is settled
-    pub next_settled : P (see item) → AllByRecursion (λ y. P (see y)) (take (i + 1) items)
-    next_settled here =
-        recursion_from_All (λ y. P (see y)) _ (All-more (λ y. P (see y)) items i item within (All-from_recursion (λ y. P (see y)) _ before) (subst (λ y. P (see y)) is here))
-
     -- at one that isn't
     pub first_seen : (P (see item) → ⊥) → IsFirst P (map see items) i
     first_seen not = record {

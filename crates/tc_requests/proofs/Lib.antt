@@ -4,4 +4,3 @@ mod Placing
 mod Naming
 mod Settling
 mod Steps
-mod CodelTimes

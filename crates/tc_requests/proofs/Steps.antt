@@ -28,11 +28,6 @@ front_same : {X : Type 0} (xs : List X) (r : Restored (List X)) → behind xs (r
 front_same xs (Ok ys) = refl
 front_same xs (Err e) = refl
 
--- nothing in front
-pub front_none : {X : Type 0} (r : Restored (List X)) → behind [] r ≡ r
-front_none (Ok ys) = refl
-front_none (Err e) = refl
-
 module _ {T X : Type 0} (edit : ℕ → T → Restored (Option X)) (n : ℕ) (x : T) (rest : List T) (xs : List X) where
   -- one element more
   pub step_kept : (y : X) → edit n x ≡ Ok (Some y) → behind xs (each edit n (x ∷ rest)) ≡ behind (xs ++ y ∷ []) (each edit (n + 1) rest)

@@ -11,7 +11,6 @@ ghost use Rattle.tc_requests.specs.Standing.{index_by, index_in, index_under, fi
 use crate::numbers::number_at;
 use crate::restore::{is_of, restore_all, sole_kind};
 use crate::restore_error::RestoreError;
-use nla_frames::Nla;
 use std::alloc::Allocator;
 use tc_actions::{
     TcAction, TcActionAttribute, TcActionMirrorOption, TcActionNatOption, TcActionOption,

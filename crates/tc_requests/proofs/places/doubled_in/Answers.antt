@@ -1,4 +1,4 @@
-use Rattle.std.proofs.Common.{◌≡◌, true, false, is_some, sym, ap, ◌∙◌}
+use Rattle.std.proofs.Common.{is_some, sym, ap, ◌∙◌}
 use Rattle.tc_requests.proofs.Placing.{passed, found, ended}
 use Rattle.tc_requests.proofs.places.doubled_in.Goals as goal
 
