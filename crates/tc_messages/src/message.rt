@@ -15,8 +15,7 @@ ghost use Rattle.tc_records.specs.Header.{empty_header};
 ghost use Rattle.tc_messages.specs.Message.{tc_message, TakesUnknownTc};
 
 use nla_frames::{
-    BytesMeaning, Emitable, ParseableBytes, Res, SettleBytes, list_checked_len,
-    list_settled_carrying, put_list,
+    BytesMeaning, Emitable, ParseableBytes, Res, list_checked_len, list_settled_carrying, put_list,
 };
 use std::alloc::{Allocator, Global};
 use tc_attributes::{TcAttribute, VecTcAttribute};

@@ -1,8 +1,7 @@
 //! The public constants.
 
 use nla_frames::{
-    DecodeError, NLA_F_NESTED, NLA_F_NET_BYTEORDER, NLA_HEADER_SIZE, NLA_TYPE_MASK,
-    NLA_VALUE_MAX_SIZE,
+    NLA_F_NESTED, NLA_F_NET_BYTEORDER, NLA_HEADER_SIZE, NLA_TYPE_MASK, NLA_VALUE_MAX_SIZE,
 };
 use tc_actions::{TcActionMirror, TcActionNat, TcActionTunnelKey};
 use tc_flower::TcFilterFlower;
