@@ -1,7 +1,7 @@
 -- What a line of JSON says of its message.
 use Rattle.std.specs.Prelude.{◌≡◌, ◌⊎◌, ℕ, Bool, List, length, Option, Some, None, is_some, codes, ◌==◌, if◌then◌else◌, option_and_then, unwrap_or}
 use Rattle.std.specs.List.{before_first, after_first}
-use Rattle.std.specs.Str.Parse.{digits_value, without_leading_plus}
+use Rattle.std.specs.Str.Parse.{IsNumeral, digits_value}
 use Rattle.serde_json.specs.Data.{Data, object, no_members}
 use Rattle.serde_json.specs.Find.{get, as_bool, as_number, as_str, as_u64}
 use Rattle.tc_capture.specs.Kind.{rtm_at}
@@ -45,16 +45,17 @@ IsTyped line message None holds = (get (codes "type") line ≡ None) × (holds �
 IsTyped line message (Some kind) holds =
     (name : List ℕ) × (text_in (codes "type") line ≡ Some name) × (rtm_at kind ≡ Some (record { holds = holds; name = name }))
 
+-- a number in decimal digits, and nothing else
+abbrev pub IsDigits : List ℕ → ℕ → Type 0
+IsDigits text n = IsNumeral 10 text × (n ≡ digits_value 10 text)
+
 -- seconds, a point and nine digits
 abbrev pub point : ℕ → Bool
 point c = c == 46
 
-abbrev pub number_of : List ℕ → ℕ
-number_of text = digits_value 10 (without_leading_plus text)
-
 abbrev pub IsTimeText : List ℕ → Time → Type 0
 IsTimeText text t =
-    (t.seconds ≡ number_of (before_first point text)) × (t.nanoseconds ≡ number_of (after_first point text)) × (length (after_first point text) ≡ 9)
+    IsDigits (before_first point text) t.seconds × IsDigits (after_first point text) t.nanoseconds × (length (after_first point text) ≡ 9)
 
 -- the time that the line says; 0 where it says none
 abbrev pub IsTime : Data → Time → Type 0

@@ -4,6 +4,7 @@ use nla_frames::DecodeError;
 use std::alloc::{AllocError, AllocFailed};
 use std::fmt;
 use tc_capture::rtm_of;
+use tc_form_values::Wanted;
 use tc_forms::MakeError;
 use tc_forms_strict::{Difference, StrictError};
 use tc_forms_text::ReadError;
@@ -231,8 +232,20 @@ fn show_make<W: fmt::Write>(error: &MakeError, f: &mut fmt::Formatter<W>) -> fmt
             wanted,
         } => {
             show_path(path.as_str(), f)?;
-            write!(f, "found {found}, wanted {wanted}")
+            write!(
+                f,
+                "found {found}, wanted {wanted}{}",
+                other_wish(path.as_str(), *wanted)
+            )
         }
+    }
+}
+
+// What else would do in place of what is wanted: options have a table only under a kind that is known.
+fn other_wish(path: &str, wanted: Wanted) -> &'static str {
+    match wanted {
+        Wanted::Attribute if path.ends_with("/Options") => ", or a known Kind before it",
+        _ => "",
     }
 }
 

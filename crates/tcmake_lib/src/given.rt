@@ -4,7 +4,7 @@ ghost use Rattle.std.specs.Prelude.{◌≡◌, Some, IfOk, IfSome, IsTrue, codes
 ghost use Rattle.serde_json.specs.Data.{object, no_members};
 ghost use Rattle.serde_json.specs.View.{view};
 ghost use Rattle.tc_capture.specs.Kind.{rtm_at};
-ghost use Rattle.tcmake_lib.specs.Line.{IsBeside, IsGiven, IsOfKernel, IsTime, IsTimeText, IsTyped, holds_by_header, number_in};
+ghost use Rattle.tcmake_lib.specs.Line.{IsBeside, IsDigits, IsGiven, IsOfKernel, IsTime, IsTimeText, IsTyped, holds_by_header, number_in};
 
 use crate::complaint::Complaint;
 use crate::members::{Numbered, missing, number_of, number_or, wrong};
@@ -258,11 +258,18 @@ fn seconds_in(text: &str) -> Option<Time>
     if rest.len() != 9 {
         return None;
     }
-    match (seconds.parse::<u64>(), rest.parse::<u32>()) {
-        (Ok(seconds), Ok(nanoseconds)) => Some(Time {
-            seconds,
-            nanoseconds,
-        }),
-        _ => None,
+    Some(Time {
+        seconds: digits_in(seconds)?,
+        nanoseconds: u32::try_from(digits_in(rest)?).ok()?,
+    })
+}
+
+// The number that digits say, without the sign that `parse` takes before them.
+fn digits_in(text: &str) -> Option<u64>
+    ensures { IfSome result (IsDigits text.now) }
+{
+    if text.starts_with('+') {
+        return None;
     }
+    text.parse().ok()
 }

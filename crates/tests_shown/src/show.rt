@@ -15,4 +15,5 @@ mod known;
 mod memory;
 mod random;
 mod runs;
+mod stored;
 mod streams;

@@ -4,7 +4,7 @@ use crate::make::runs::{HEX, makes, makes_line};
 use std::test::Fail;
 
 // Lines of which no message is made, and the complaints.
-static ROWS: [(&str, &str); 18] = [
+static ROWS: [(&str, &str); 20] = [
     (
         r#"{"type":"RTM_NEWQDISC","seq":-1,"message":{"header":{"family":"Unspec","index":2,"handle":"1:","parent":"root","info":0},"attributes":[{"Kind":"fq_codel"}]}}"#,
         r#"/seq: found -1, wanted a number from 0 to 4294967295"#,
@@ -24,6 +24,14 @@ static ROWS: [(&str, &str); 18] = [
     (
         r#"{"type":"RTM_NEWQDISC","time":12,"message":{"header":{"family":"Unspec","index":2,"handle":"1:","parent":"root","info":0},"attributes":[{"Kind":"fq_codel"}]}}"#,
         r#"/time: found 12, wanted seconds, a point and nine digits"#,
+    ),
+    (
+        r#"{"type":"RTM_NEWQDISC","time":"1.+00000001","message":{"header":{"family":"Unspec","index":2,"handle":"1:","parent":"root","info":0},"attributes":[{"Kind":"fq_codel"}]}}"#,
+        r#"/time: found "1.+00000001", wanted seconds, a point and nine digits"#,
+    ),
+    (
+        r#"{"type":"RTM_NEWQDISC","message":{"header":{"family":"Unspec","index":2,"handle":"1:","parent":"root","info":0},"attributes":[{"Kind":"fq_codle"},{"Options":[{"FqCodel":{"Limit":5}}]}]}}"#,
+        r#"/attributes/1/Options: found "Options", wanted the name of an attribute of the table, or a known Kind before it"#,
     ),
     (
         r#"{"type":"RTM_NEWQDISC","portid":[],"message":{"header":{"family":"Unspec","index":2,"handle":"1:","parent":"root","info":0},"attributes":[{"Kind":"fq_codel"}]}}"#,
