@@ -15,5 +15,4 @@ mod known;
 mod memory;
 mod random;
 mod runs;
-mod stored;
 mod streams;
