@@ -244,8 +244,21 @@ fn show_make<W: fmt::Write>(error: &MakeError, f: &mut fmt::Formatter<W>) -> fmt
 // What else would do in place of what is wanted: options have a table only under a kind that is known.
 fn other_wish(path: &str, wanted: Wanted) -> &'static str {
     match wanted {
-        Wanted::Attribute if path.ends_with("/Options") => ", or a known Kind before it",
+        Wanted::Attribute if is_of_options(path) => ", or a known Kind before it",
         _ => "",
+    }
+}
+
+// True of the place of options, and of one option by its name.
+fn is_of_options(path: &str) -> bool {
+    path.ends_with("/Options") || parent(parent(path)).ends_with("/Options")
+}
+
+// The place that a place is in.
+fn parent(path: &str) -> &str {
+    match path.rsplit_once('/') {
+        Some((parent, _)) => parent,
+        None => "",
     }
 }
 

@@ -4,7 +4,7 @@ use crate::make::runs::{HEX, makes, makes_line};
 use std::test::Fail;
 
 // Lines of which no message is made, and the complaints.
-static ROWS: [(&str, &str); 20] = [
+static ROWS: [(&str, &str); 21] = [
     (
         r#"{"type":"RTM_NEWQDISC","seq":-1,"message":{"header":{"family":"Unspec","index":2,"handle":"1:","parent":"root","info":0},"attributes":[{"Kind":"fq_codel"}]}}"#,
         r#"/seq: found -1, wanted a number from 0 to 4294967295"#,
@@ -32,6 +32,10 @@ static ROWS: [(&str, &str); 20] = [
     (
         r#"{"type":"RTM_NEWQDISC","message":{"header":{"family":"Unspec","index":2,"handle":"1:","parent":"root","info":0},"attributes":[{"Kind":"fq_codle"},{"Options":[{"FqCodel":{"Limit":5}}]}]}}"#,
         r#"/attributes/1/Options: found "Options", wanted the name of an attribute of the table, or a known Kind before it"#,
+    ),
+    (
+        r#"{"type":"RTM_NEWACTION","message":{"header":{"family":"Unspec"},"attributes":[{"Actions":[{"tab":1,"attributes":[{"Kind":"mirrred"},{"Options":[{"Mirror":{"Tm":{}}}]}]}]}]}}"#,
+        r#"/attributes/0/Actions/0/attributes/1/Options/0/Mirror: found "Mirror", wanted the name of an attribute of the table, or a known Kind before it"#,
     ),
     (
         r#"{"type":"RTM_NEWQDISC","portid":[],"message":{"header":{"family":"Unspec","index":2,"handle":"1:","parent":"root","info":0},"attributes":[{"Kind":"fq_codel"}]}}"#,
