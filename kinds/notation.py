@@ -19,6 +19,13 @@ faults, blocks, kinds, aliases, messages, files, elements = [], {}, [], {}, [], 
 def fault(where, text):
     faults.append('%s:%d: %s' % (where + (text,)))
 
+# what the elements of an array, and the attributes of any type, are called one by one
+EACH = {'tc_gred_qopt': 'queue', 'sock_filter': 'op', 'tc_u32_key': 'key', 'tc_pedit_key': 'key', 'can_filter': 'id', 'fq_stats_6_7': 'since',
+        'action': 'action', 'cake_tin_stats': 'tin', 'ematch': 'match'}
+
+def snake(name):
+    return re.sub(r'(?<=[a-z0-9])(?=[A-Z])', '_', name).lower()
+
 class Form:
     """A form: what it is (a number, a leaf, struct, array ..), the name or number that it is of, the form within it, and a list's layer."""
     def __init__(self, what, of=None, inner=None, layer=''):
@@ -207,7 +214,7 @@ def check_all():
 
 def read_all():
     paths = sorted(os.path.relpath(os.path.join(folder, name), HERE) for folder, _, names in os.walk(HERE) for name in names)
-    for path in [p for p in paths if p not in ('generate', 'notation.py', 'prove', 'columns', 'README.md')]:
+    for path in [p for p in paths if p not in ('generate', 'notation.py', 'prove', 'columns', 'wireshark', 'README.md')]:
         read(path)
     if not faults:
         check_all()

@@ -1,0 +1,164 @@
+-- ---- Values as text: printable ASCII, in the units and with the names of outlines. Numbers are decimal digits, since those of Lua 5.2 have 53 bits.
+
+-- True for valid UTF-8: no overlong form, no surrogate, nothing above U+10FFFF.
+local function is_utf8(s)
+  local at, len = s:find("[\128-\255]"), #s
+  while at do
+    local c, more, least = s:byte(at), 0, 0
+    if c >= 0xc2 and c < 0xe0 then more, least = 1, 0x80
+    elseif c >= 0xe0 and c < 0xf0 then more, least = 2, 0x800
+    elseif c >= 0xf0 and c < 0xf5 then more, least = 3, 0x10000
+    else return false end
+    local point = c % 2 ^ (6 - more)
+    for i = at + 1, at + more do
+      local d = i <= len and s:byte(i) or 0
+      if d < 0x80 or d > 0xbf then return false end
+      point = point * 64 + d - 0x80
+    end
+    if point < least or point > 0x10ffff or point >= 0xd800 and point < 0xe000 then return false end
+    at = s:find("[\128-\255]", at + more + 1)
+  end
+  return true
+end
+
+local function escape(c) return ("\\x%02x"):format(c:byte()) end
+
+-- Bytes as printable ASCII: what is none is escaped, such as \x1b.
+local function clean(s) return (s:gsub("[^ -~]", escape)) end
+
+-- A text as an outline has it: in quotes unless it is a word.
+local function quoted(s)
+  if s:find("^[%w.:_-]+$") then return s end
+  return '"' .. clean((s:gsub('["\\]', "\\%0"))) .. '"'
+end
+
+local function hex(s) return (s:gsub(".", function(c) return ("%02x"):format(c:byte()) end)) end
+
+-- Digits, multiplied by a small number, and another added.
+local function times(digits, by, plus)
+  local out, carry = "", plus or 0
+  while #digits > 0 do
+    local part = tonumber(digits:sub(-9)) * by + carry
+    carry = math.floor(part / 1e9)
+    out, digits = ("%09.0f"):format(part - carry * 1e9) .. out, digits:sub(1, -10)
+  end
+  out = (("%.0f"):format(carry) .. out):gsub("^0+", "")
+  return out == "" and "0" or out
+end
+
+-- Nanoseconds in the longest of s, ms, us and ns that counts them exactly.
+local function time(ns)
+  if ns == "0" then return "0s" end
+  for _, unit in ipairs({{9, "s"}, {6, "ms"}, {3, "us"}}) do
+    if #ns > unit[1] and ns:sub(-unit[1]) == ("0"):rep(unit[1]) then return ns:sub(1, -unit[1] - 1) .. unit[2] end
+  end
+  return ns .. "ns"
+end
+
+-- Bytes a second in bits, as tc writes them.
+local function bits(rate)
+  local n = times(rate, 8)
+  for _, unit in ipairs({"bit", "Kbit", "Mbit", "Gbit"}) do
+    if #n <= 3 or #n <= 6 and n:sub(-3) ~= "000" then return n .. unit end
+    n = n:sub(1, -4)
+  end
+  return n .. "Tbit"
+end
+
+-- Thousandths of a percent of a number in units of 2^-32, rounded.
+local function percent(n)
+  local thousandths = math.floor((tonumber(n) * 100000 + 2 ^ 31) / 2 ^ 32)
+  local whole = math.floor(thousandths / 1000)
+  return ("%.0f.%03.0f"):format(whole, thousandths - whole * 1000):gsub("%.?0+$", "") .. "%"
+end
+
+local function u32_handle(n)
+  if n == 0 then return "none" end
+  local hash, bucket, item = math.floor(n / 2 ^ 20), math.floor(n / 2 ^ 12) % 256, n % 4096
+  return (hash > 0 and ("%x:"):format(hash) or "") .. (bucket > 0 and ("%x"):format(bucket) or "") .. (item > 0 and (":%x"):format(item) or "")
+end
+
+-- A handle as tc writes it.
+local function handle(n)
+  if n == 0xffffffff or n == 0 then return n == 0 and "0:0" or "root" end
+  local major, minor = math.floor(n / 65536), n % 65536
+  return (major > 0 and ("%x"):format(major) or "") .. ":" .. (minor > 0 and ("%x"):format(minor) or "")
+end
+
+local function counted(name) return function(n, sign) return sign .. n .. name end end
+local function span(name, zeros)
+  return function(n, sign)
+    local longer = n ~= "0" and n:sub(-3) == "000" and (" (%s%s)"):format(sign, time(n .. zeros)) or ""
+    return sign .. n .. name .. longer
+  end
+end
+
+-- Units: of digits and a sign. Those below make no sense below zero.
+local SIGNED = {bytes = counted("B"), packets = counted("p"), s = counted("s"), ns = span("ns", ""), us = span("us", "000"), ms = span("ms", "000000"),
+  ticks = function(n, sign) return ("%s%s ticks (%s%s)"):format(sign, n, sign, time(times(n, 64))) end}
+local UNSIGNED = {["packets/s"] = counted(" p/s"), ["kbit/s"] = counted(" kbit/s"), percent = counted("%"),
+  ["bytes/s"] = function(n) return n .. " B/s (" .. bits(n) .. ")" end,
+  clock_t = function(n) return n .. " clock_t (" .. time(n == "0" and n or n .. "0000000") .. ")" end,
+  probability = function(n) return n .. " (" .. percent(n) .. ")" end,
+  log2 = function(n) return tonumber(n) < 64 and ("%s (%.0f)"):format(n, 2 ^ tonumber(n)) or n end,
+  u32_handle = function(n) return u32_handle(tonumber(n)) end}
+
+-- What an action says of a packet.
+local VERDICTS = {[-1] = "continue", [0] = "pass", [1] = "reclassify", [2] = "drop", [3] = "pipe", [4] = "stolen", [5] = "queued", [6] = "repeat",
+  [7] = "redirect", [8] = "trap"}
+local function verdict(v)
+  local low = v % 2 ^ 28
+  if v - low == 2 ^ 28 then return ("jump %.0f"):format(low) end
+  if v - low == 2 ^ 29 then return ("goto chain %.0f"):format(low) end
+  return VERDICTS[v] or ("%.0f"):format(v)
+end
+
+-- The names of the bits that are set, and what has no name in hex; in brackets the number. It comes as its upper and its lower 32 bits.
+local function flags(names, upper, n, hexed)
+  local out, rest = {}, n
+  for _, bit in ipairs(names) do
+    if math.floor(n / bit[1]) % 2 == 1 then out[#out + 1], rest = bit[2], rest - bit[1] end
+  end
+  if #out == 0 then return hexed end
+  if upper > 0 then out[#out + 1] = ("0x%x%08x"):format(upper, rest) elseif rest > 0 then out[#out + 1] = ("0x%x"):format(rest) end
+  return table.concat(out, " ") .. " (" .. hexed .. ")"
+end
+
+-- The length of the prefix that a mask has; nil if it is the mask of none.
+local function prefix(mask)
+  local len, ended = 0, false
+  for i = 1, #mask do
+    local b, ones = mask:byte(i), 0
+    while b >= 128 do b, ones = b * 2 % 256, ones + 1 end
+    if b > 0 or ended and ones > 0 then return nil end
+    len, ended = len + ones, ended or ones < 8
+  end
+  return len
+end
+
+-- A number of up to 32 bits, the most significant byte first.
+local function unsigned(s)
+  local n = 0
+  for i = 1, #s do n = n * 256 + s:byte(i) end
+  return n
+end
+
+-- The digits of a number and its sign, from its bytes, the most significant first.
+local function decimal(s, is_signed)
+  local upper, lower, sign = unsigned(s:sub(1, -5)), unsigned(s:sub(-4)), ""
+  if is_signed and s:byte(1) >= 128 then
+    sign, lower = "-", 256 ^ math.min(#s, 4) - lower
+    if #s == 8 then upper, lower = 2 ^ 32 - (lower < 2 ^ 32 and 1 or 0) - upper, lower % 2 ^ 32 end
+  end
+  return times(times(("%.0f"):format(upper), 65536), 65536, lower), sign
+end
+
+-- A number in a unit: exact, and in brackets what it is to people. `raw` has its bytes as the message has them.
+local function in_unit(unit, s, is_signed, raw)
+  local digits, sign = decimal(s, is_signed)
+  if unit == "net_hex" then s = raw end
+  if SIGNED[unit] then return SIGNED[unit](digits, sign) end
+  if sign == "-" then return "-" .. digits end
+  if unit == "hex" or unit == "net_hex" then return "0x" .. hex(s):gsub("^0+(.)", "%1") end
+  return UNSIGNED[unit] and UNSIGNED[unit](digits) or digits
+end
